@@ -1,0 +1,14 @@
+//! Sorts.
+
+use std::rc::Rc;
+
+/// A sort: of SMT-LIB's theories, of the preamble, or another declared one by its name.
+#[derive(Debug, Drop)]
+pub enum Sort {
+    Int,
+    Bool,
+    Real,
+    Ref,
+    Snap,
+    Other(Rc<String>),
+}

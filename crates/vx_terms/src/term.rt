@@ -1,0 +1,54 @@
+//! Terms, shared by counts.
+
+use crate::Sort;
+use std::rc::Rc;
+use vx_frac::Frac;
+
+/// A symbol: `s`, `f` or `v` with its number, or another declared name.
+#[derive(Debug, Drop)]
+pub enum Symbol {
+    Standard(u32),
+    Function(u32),
+    Variable(u64),
+    Named(Rc<String>),
+}
+
+/// An operator of two operands, of Core, Ints and Reals.
+#[derive(Clone, Copy, Debug, PartialEq, Eq)]
+pub enum Operator {
+    And,
+    Or,
+    Implies,
+    Equal,
+    Less,
+    LessEqual,
+    Add,
+    Subtract,
+    Multiply,
+    Div,
+    Mod,
+}
+
+/// A term, which the constructors of this crate make.
+#[cycle(terms)]
+#[derive(Debug, Drop)]
+pub enum Term {
+    Truth(bool),
+    Number(i128),
+    Part(Frac),
+    /// A symbol without arguments.
+    Constant(Symbol, Sort),
+    /// A symbol with arguments, and the sort of the result.
+    Apply(Symbol, Sort, Rc<Terms>),
+    Not(Rc<Term>),
+    Binary(Operator, Rc<Term>, Rc<Term>),
+    Ite(Rc<Term>, Rc<Term>, Rc<Term>),
+}
+
+/// A list of terms.
+#[cycle(terms)]
+#[derive(Debug, Drop)]
+pub enum Terms {
+    None,
+    More(Rc<Term>, Rc<Terms>),
+}
