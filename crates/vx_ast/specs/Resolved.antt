@@ -1,0 +1,89 @@
+-- The settled syntax of src/resolved, without its pointers.
+use Rattle.std.specs.Prelude.{List, [], ◌∷◌, Option, Some, None, string_bytes, map}
+use Rattle.std.specs.declared.alloc.Global.{Global}
+use Rattle.std.specs.declared.rc.Rc.{Rc}
+use Rattle.vx_ast.specs.declared.resolved.Operator.{Operator as Operator'}
+use Rattle.vx_ast.specs.declared.resolved.Operator.TheVariants as operator'
+use Rattle.vx_ast.specs.declared.resolved.Connective.{Connective as Connective'}
+use Rattle.vx_ast.specs.declared.resolved.Connective.TheVariants as connective'
+use Rattle.vx_ast.specs.declared.resolved.Expr as expr'
+use Rattle.vx_ast.specs.declared.resolved.Assertion as assertion'
+use Rattle.vx_ast.specs.declared.resolved.Declaration as declaration'
+use Rattle.vx_ast.specs.declared.resolved.Stmt as stmt'
+use Rattle.vx_ast.specs.declared.resolved.Block as block'
+use Rattle.vx_ast.specs.declared.resolved.Method as method'
+use Rattle.vx_ast.specs.declared.resolved.Kind.TheVariants as kind'
+use Rattle.vx_ast.specs.declared.resolved.Member as member'
+use Rattle.vx_ast.specs.declared.resolved.Program as program'
+use Rattle.vx_ast.specs.Syntax.{Name, Operator, Equal, Less, LessEqual, Greater, GreaterEqual, Add, Subtract, Multiply, Connective, And, Or, Implies, Expr, Number, Truth, Variable, Not, Operate, Connect, Choose, Assertion, Pure, Both, Declaration, Stmt, Declare, Assign, Inhale, Exhale, Assert, Assume, If, Block, Done, Then, Method, Kind, IsMethod, Member, Program}
+
+abbrev pub operator : Operator' → Operator
+operator operator'.Equal = Equal
+operator operator'.Less = Less
+operator operator'.LessEqual = LessEqual
+operator operator'.Greater = Greater
+operator operator'.GreaterEqual = GreaterEqual
+operator operator'.Add = Add
+operator operator'.Subtract = Subtract
+operator operator'.Multiply = Multiply
+
+abbrev pub connective : Connective' → Connective
+connective connective'.And = And
+connective connective'.Or = Or
+connective connective'.Implies = Implies
+
+abbrev pub expr : expr'.Expr → Expr
+expr (expr'.Number at n) = Number at n
+expr (expr'.Truth at b) = Truth at b
+expr (expr'.Variable at x) = Variable at (string_bytes x.value)
+expr (expr'.Not' at p e) = Not at (expr e)
+expr (expr'.Operate' at op p a q b) = Operate at (operator op) (expr a) (expr b)
+expr (expr'.Connect' at c p a q b) = Connect at (connective c) (expr a) (expr b)
+expr (expr'.Choose' at p c q a r b) = Choose at (expr c) (expr a) (expr b)
+
+abbrev pub assertion : assertion'.Assertion → Assertion
+assertion (assertion'.Pure e) = Pure (expr e.value)
+assertion (assertion'.Both' p a q b) = Both (assertion a) (assertion b)
+
+abbrev pub declaration : declaration'.Declaration → Declaration
+declaration d = record { name = string_bytes d.name.value; of = d.of }
+
+abbrev mutual
+  pub stmt : stmt'.Stmt → Stmt
+  stmt (stmt'.Declare at x t) = Declare at (string_bytes x.value) t
+  stmt (stmt'.Assign at x e) = Assign at (string_bytes x.value) (expr e.value)
+  stmt (stmt'.Inhale at a) = Inhale at (assertion a.value)
+  stmt (stmt'.Exhale at a) = Exhale at (assertion a.value)
+  stmt (stmt'.Assert at a) = Assert at (assertion a.value)
+  stmt (stmt'.Assume at e) = Assume at (expr e.value)
+  stmt (stmt'.If' at e p a q b) = If at (expr e.value) (block a) (block b)
+
+  pub block : block'.Block → Block
+  block block'.Done = Done
+  block (block'.Then' p s q b) = Then (stmt s) (block b)
+
+abbrev pub optional_block : Option (Rc block'.Block Global) → Option Block
+optional_block None = None
+optional_block (Some b) = Some (block b.value)
+
+abbrev pub assertions : List (Rc assertion'.Assertion Global) → List Assertion
+assertions as' = map (λ a. assertion a.value) as'
+
+abbrev pub method : method'.Method → Method
+method m = record {
+  place = m.place;
+  parameters = map declaration m.parameters.items;
+  returns = map declaration m.returns.items;
+  requires = assertions m.preconditions.items;
+  ensures = assertions m.postconditions.items;
+  body = optional_block m.body;
+}
+
+abbrev pub kind : kind'.the_data → Kind
+kind (kind'.Method m) = IsMethod (method m.value)
+
+abbrev pub member : member'.Member → Member
+member m = record { name = string_bytes m.name.value; kind = kind m.kind }
+
+abbrev pub program : program'.Program → Program
+program p = map member p.members.items

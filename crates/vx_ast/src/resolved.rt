@@ -1,0 +1,118 @@
+//! The syntax that is executed, settled once: names stand for what they name, assertions stand apart from expressions,
+//! `&&` at an assertion's top is taken apart, and `var x: T := e` is two statements. It has the forms that are executed
+//! so far.
+
+use crate::{Place, ValueType};
+use std::rc::Rc;
+
+/// An operator both of whose operands are evaluated.
+#[derive(Clone, Copy, Debug, PartialEq, Eq)]
+pub enum Operator {
+    Equal,
+    Less,
+    LessEqual,
+    Greater,
+    GreaterEqual,
+    Add,
+    Subtract,
+    Multiply,
+}
+
+/// `&&`, `||`, `==>`: the right part is looked at only where it is needed.
+#[derive(Clone, Copy, Debug, PartialEq, Eq)]
+pub enum Connective {
+    And,
+    Or,
+    Implies,
+}
+
+/// An expression; each has its place.
+#[derive(Drop)]
+pub enum Expr {
+    Number(Place, u128),
+    Truth(Place, bool),
+    Variable(Place, Rc<String>),
+    Not(Place, Rc<Expr>),
+    Operate(Place, Operator, Rc<Expr>, Rc<Expr>),
+    Connect(Place, Connective, Rc<Expr>, Rc<Expr>),
+    Choose(Place, Rc<Expr>, Rc<Expr>, Rc<Expr>),
+}
+
+/// What is assumed, or shown.
+#[derive(Drop)]
+pub enum Assertion {
+    /// No permission stands in it, and no `&&` at its top.
+    Pure(Rc<Expr>),
+    Both(Rc<Assertion>, Rc<Assertion>),
+}
+
+/// A variable with its type.
+#[derive(Drop)]
+pub struct Declaration {
+    pub name: Rc<String>,
+    pub of: ValueType,
+}
+
+/// A statement with its place.
+#[cycle(resolved)]
+#[derive(Drop)]
+pub enum Stmt {
+    Declare(Place, Rc<String>, ValueType),
+    Assign(Place, Rc<String>, Rc<Expr>),
+    Inhale(Place, Rc<Assertion>),
+    Exhale(Place, Rc<Assertion>),
+    Assert(Place, Rc<Assertion>),
+    Assume(Place, Rc<Expr>),
+    If(Place, Rc<Expr>, Rc<Block>, Rc<Block>),
+}
+
+/// A list of statements, any end of which a suspended execution can share.
+#[cycle(resolved)]
+pub enum Block {
+    Done,
+    Then(Rc<Stmt>, Rc<Block>),
+}
+
+impl Drop for Block {
+    #[cycle(resolved)]
+    fn drop(mut self) {
+        loop {
+            match self {
+                Block::Done => return,
+                Block::Then(_first, rest) => match Rc::into_inner(rest) {
+                    Some(next) => self = next,
+                    None => return,
+                },
+            }
+        }
+    }
+}
+
+/// A method: its place is its first token's.
+#[derive(Drop)]
+pub struct Method {
+    pub place: Place,
+    pub parameters: Vec<Declaration>,
+    pub returns: Vec<Declaration>,
+    pub preconditions: Vec<Rc<Assertion>>,
+    pub postconditions: Vec<Rc<Assertion>>,
+    pub body: Option<Rc<Block>>,
+}
+
+/// What a member is.
+#[derive(Drop)]
+pub enum Kind {
+    Method(Rc<Method>),
+}
+
+#[derive(Drop)]
+pub struct Member {
+    pub name: Rc<String>,
+    pub kind: Kind,
+}
+
+/// The members in file order.
+#[derive(Drop)]
+pub struct Program {
+    pub members: Vec<Member>,
+}
