@@ -1,0 +1,10 @@
+pub mod Ring
+pub mod Fractions
+pub mod Values
+pub mod Clauses
+pub mod Steps
+pub mod Numbers
+pub mod Combination
+pub mod Refutation
+pub mod Finished
+pub mod Worked

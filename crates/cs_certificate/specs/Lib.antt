@@ -1,0 +1,5 @@
+pub mod Terms
+pub mod Linear
+pub mod Certificate
+pub mod Law
+pub mod Worked
