@@ -1,9 +1,11 @@
-use Rattle.std.proofs.Common.{◌≡◌, ℕ, ◌<◌, ◌^◌, ℤ, pos, ◌*ℤ◌, ◌<ℤ◌, unsigned_abs, FitsSigned, to_z, of_z, sym, subst, ap, arith, ◌∙◌, lt_of_le_of_lt}
+use Rattle.std.proofs.Common.{◌≡◌, ℕ, ◌<◌, ◌^◌, ℤ, pos, ◌*ℤ◌, ◌<ℤ◌, unsigned_abs, FitsSigned, to_z, of_z, sym, subst, ap, ap₂, arith, ◌∙◌, lt_of_le_of_lt}
 use Rattle.std.specs.Int.{w128, IsGcd, ◌∣◌}
 use Rattle.std.proofs.lemmas.Int.{to_z_pos, to_z-of_z, ints}
 use Rattle.std.proofs.lemmas.Nat.Gcd.{le_of_dvd}
 use Rattle.vx_frac.specs.Lowest.{IsLowest}
 use Rattle.vx_frac.proofs.Divides.{cross, lowest, positive, divisor_positive, size_positive, size_small}
+use Rattle.vx_frac.proofs.Reduced.{is_lowest}
+use Rattle.vx_frac.specs.Fraction.{ratio}
 use Rattle.vx_frac.proofs.Frac.new.Goals as goal
 
 common : (num den : ℤ) (a b g : ℕ) → FitsSigned w128 num → FitsSigned w128 den → a ≡ unsigned_abs (to_z w128 (of_z w128 num)) → b ≡ unsigned_abs (to_z w128 (of_z w128 den)) → IsGcd a b g → IsGcd (unsigned_abs num) (unsigned_abs den) g
@@ -77,6 +79,7 @@ returns c =
     let f = given c.gcd-common.result c.divide-2.result c.args.den lt c.ranges.den c.divide-2.ensures in
     let p : FitsSigned w128 c.divide.result = record { sfits = c.divide.type_inv } in
     let q : FitsSigned w128 c.divide-2.result = record { sfits = c.divide-2.type_inv } in
-    ap (λ (x : ℤ). x *ℤ c.args.den) (to_z-of_z w128 c.divide.result p)
-    ∙ cross c.divide.result c.divide-2.result (pos c.gcd-common.result) c.args.num c.args.den e f
-    ∙ ap (λ (x : ℤ). c.args.num *ℤ x) (sym (to_z-of_z w128 c.divide-2.result q))
+    ap₂ ratio (to_z-of_z w128 c.divide.result p) (to_z-of_z w128 c.divide-2.result q)
+    ∙ is_lowest c.divide.result c.divide-2.result c.args.num c.args.den (positive _ _ _ f c.requires) c.requires
+    (lowest _ _ _ _ _ (above c.args.den c.gcd-common.result c.requires is.1) is e f)
+    (cross c.divide.result c.divide-2.result (pos c.gcd-common.result) c.args.num c.args.den e f)
