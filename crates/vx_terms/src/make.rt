@@ -125,12 +125,7 @@ pub fn implies(alloc: Global, s: &Rc<Term>, t: &Rc<Term>) -> Result<Rc<Term>, Al
 }
 
 /// `ite`, without a literal condition or equal branches.
-pub fn ite(
-    alloc: Global,
-    c: &Rc<Term>,
-    s: &Rc<Term>,
-    t: &Rc<Term>,
-) -> Result<Rc<Term>, AllocError>
+pub fn ite(alloc: Global, c: &Rc<Term>, s: &Rc<Term>, t: &Rc<Term>) -> Result<Rc<Term>, AllocError>
     ensures { IfOk result (λ r. term r.value ≡ built.ite (term c.now.value) (term s.now.value) (term t.now.value)) }
 {
     match truth_value(c) {
