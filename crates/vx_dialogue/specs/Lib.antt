@@ -1,0 +1,5 @@
+pub mod Faults
+pub mod Items
+pub mod Symbols
+pub mod Preamble
+pub mod Dialogue

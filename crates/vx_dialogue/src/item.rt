@@ -1,0 +1,151 @@
+// The next item that a child gives.
+ghost use Rattle.std.specs.Prelude.{◌≡◌, ◌≤◌, ◌++◌, length, drop, take, OnOk, IfOk, List, ℕ, Err, true};
+ghost use Rattle.vx_ends.specs.Dialogue.{sent, got};
+ghost use Rattle.vx_ends.specs.Causes.{HasCause};
+ghost use Rattle.vx_sexp.specs.First.{IsFirst};
+ghost use Rattle.vx_dialogue.specs.Items.{Keeps, IsNoItem, ReadsItem, IsGarbled, IsRefused, is_word_item, is_headed_by, is_refusal, is_lawful, answer_of};
+
+use crate::Talk;
+use std::alloc::{AllocError, Global};
+use vx_ends::Link;
+use vx_sexp::{Bytes, Kind, Sexp, SexpFault, Token, read};
+use vx_smt_meaning::Reply;
+
+/// The longest item that is read on.
+pub const LONGEST: usize = 16_777_216;
+
+#[tactic(auto, using(std::proofs::lemmas::List::take_all))]
+fn copy_front(alloc: Global, bytes: &[u8], most: usize) -> Result<Bytes, AllocError>
+    ensures { IfOk result (λ k. k ≡ take most bytes.now) }
+{
+    if bytes.len() <= most {
+        Bytes::copy(alloc, bytes)
+    } else {
+        Bytes::copy(alloc, &bytes[..most])
+    }
+}
+
+// the bytes that are kept of what is no lawful reply
+fn kept(alloc: Global, bytes: &[u8]) -> Result<Bytes, AllocError>
+    ensures { IfOk result (λ k. k ≡ take 4096 bytes.now) }
+{
+    copy_front(alloc, bytes, 4096)
+}
+
+/// The first item of what is not read yet, and how many bytes it takes; more is got until it is whole.
+#[tactic(auto, using(vx_ends::proofs::Dialogues::sent_by_got, vx_ends::proofs::Dialogues::got_by_got, std::proofs::Common::append_assoc))]
+pub fn next_item<L: Link>(
+    alloc: Global,
+    link: &mut L,
+    unread: &mut Vec<u8>,
+) -> Result<(Sexp, usize), Talk>
+    ensures item { IfOk result (λ x. (x.1 ≤ length unread.new.items) × IsFirst unread.new.items x.0 (drop x.1 unread.new.items)) }
+    ensures keeps { OnOk result (Keeps (got (L.dialogue link.old)) unread.old.items (got (L.dialogue link.new)) unread.new.items) }
+    ensures refused { (bytes : List ℕ) → result ≡ Err (Talk.Refused bytes) → ⊥ }
+    ensures garbled { (bytes : List ℕ) → result ≡ Err (Talk.Garbled bytes) → IsNoItem unread.new.items
+        × Keeps (got (L.dialogue link.old)) unread.old.items (got (L.dialogue link.new)) unread.new.items }
+    ensures sent { sent (L.dialogue link.new) ≡ sent (L.dialogue link.old) }
+    ensures cause { HasCause Talk.Pipe (L.faults link.old) (L.faults link.new) result }
+    ensures open { result ≡ Err Talk.Closed → ⊥ }
+{
+    'reading: loop {
+        match read(alloc, unread) {
+            Ok(found) => return Ok(found),
+            Err(SexpFault::Unfinished(_)) => {
+                if unread.len() > LONGEST {
+                    return Err(Talk::Garbled(kept(alloc, unread)?));
+                }
+            }
+            Err(SexpFault::BadToken(_)) => return Err(Talk::Garbled(kept(alloc, unread)?)),
+            Err(SexpFault::Deep(_)) => return Err(Talk::Garbled(kept(alloc, unread)?)),
+            Err(SexpFault::Want) => return Err(Talk::Want),
+        }
+        let piece = link.receive(alloc, 4096)?;
+        unread.extend_from_slice(&piece)?;
+    }
+}
+
+/// What reply is wanted.
+#[derive(Clone, Copy)]
+pub enum Wanted {
+    Success,
+    Answer,
+    Proof,
+}
+
+pub fn is_word(tokens: &[Token], text: &[u8]) -> bool
+    ensures { result ≡ is_word_item text.now tokens.now }
+{
+    match tokens {
+        [Token::Atom(Kind::Symbol, bytes)] => bytes.as_slice() == text,
+        _ => false,
+    }
+}
+
+fn is_headed(tokens: &[Token], text: &[u8]) -> bool
+    ensures { result ≡ is_headed_by text.now tokens.now }
+{
+    match tokens {
+        [Token::Open, Token::Atom(Kind::Symbol, bytes), ..] => bytes.as_slice() == text,
+        _ => false,
+    }
+}
+
+#[tactic(auto, unfolding(crate::specs::Items::is_refusal))]
+fn refuses(tokens: &[Token]) -> bool
+    ensures { result ≡ is_refusal tokens.now }
+{
+    is_word(tokens, b"unsupported") || is_headed(tokens, b"error")
+}
+
+/// The answer that an item is.
+pub fn answer(tokens: &[Token]) -> Option<Reply>
+    ensures { result ≡ answer_of tokens.now }
+{
+    match tokens {
+        [Token::Atom(Kind::Symbol, bytes)] => Reply::of(bytes.as_slice()),
+        _ => None,
+    }
+}
+
+#[tactic(auto, unfolding(crate::specs::Items::is_lawful))]
+fn allows(wanted: Wanted, tokens: &[Token]) -> bool
+    ensures { result ≡ is_lawful wanted tokens.now }
+{
+    match wanted {
+        Wanted::Success => is_word(tokens, b"success"),
+        Wanted::Answer => answer(tokens).is_some(),
+        Wanted::Proof => !refuses(tokens),
+    }
+}
+
+/// Reads the next item, a lawful reply.
+pub fn expect<L: Link>(
+    alloc: Global,
+    link: &mut L,
+    unread: &mut Vec<u8>,
+    wanted: Wanted,
+) -> Result<Sexp, Talk>
+    ensures item { IfOk result (λ item. ReadsItem (got (L.dialogue link.old)) unread.old.items (got (L.dialogue link.new)) unread.new.items item × (is_lawful wanted item ≡ true)) }
+    ensures garbled { (bytes : List ℕ) → result ≡ Err (Talk.Garbled bytes) → IsGarbled wanted (got (L.dialogue link.old)) unread.old.items (got (L.dialogue link.new)) }
+    ensures refused { (bytes : List ℕ) → result ≡ Err (Talk.Refused bytes) → IsRefused (got (L.dialogue link.old)) unread.old.items (got (L.dialogue link.new)) }
+    ensures sent { sent (L.dialogue link.new) ≡ sent (L.dialogue link.old) }
+    ensures cause { HasCause Talk.Pipe (L.faults link.old) (L.faults link.new) result }
+    ensures open { result ≡ Err Talk.Closed → ⊥ }
+{
+    let (item, end) = match next_item(alloc, link, unread) {
+        Ok(found) => found,
+        Err(talk) => return Err(talk),
+    };
+    if allows(wanted, item.tokens()) {
+        let rest = unread[end..].to_vec(alloc)?;
+        *unread = rest;
+        return Ok(item);
+    }
+    let bytes = kept(alloc, &unread[..end])?;
+    if refuses(item.tokens()) {
+        Err(Talk::Refused(bytes))
+    } else {
+        Err(Talk::Garbled(bytes))
+    }
+}

@@ -1,0 +1,19 @@
+use Rattle.std.proofs.Common.{◌∙◌, arith}
+use Rattle.vx_ends.proofs.Dialogues.{sent_by_sent, got_by_sent, taken_on}
+use Rattle.std.proofs.lemmas.Grind.{common_steps}
+use Rattle.vx_ends.proofs.whole.send_all.Goals as goal
+
+pub loop-done-preserved : goal.loop-done-preserved
+loop-done-preserved g c =
+    let sends = c.in_ok-done.ensures.record in
+    let so_far = c.loop-done.invariant in
+    record {
+      within = grind (arith, common_steps);
+      sent = taken_on _ _ _ _ _ _ so_far.sent (sent_by_sent _ _ _ sends.2);
+      got = got_by_sent _ _ _ sends.2 ∙ so_far.got;
+      later = grind (arith, common_steps);
+      fixed = c.in_ok-done.ensures.fixed ∙ so_far.fixed;
+      calm = λ steady none.
+          let still = so_far.calm steady none in
+          (c.in_ok-done.ensures.steady (rw so_far.fixed steady) still).same ∙ still;
+    }

@@ -1,0 +1,6 @@
+pub mod Commands
+pub mod Words
+pub mod Spelled
+pub mod Names
+pub mod Replies
+pub mod Views

@@ -1,0 +1,194 @@
+// Child processes behind pipes.
+ghost use Rattle.std.specs.Prelude.{◌≡◌, ℕ, ◌+◌, ◌≤◌, ◌==◌, [], vec_len, vec_capacity, count_by, false, IfOk};
+
+use std::alloc::Global;
+use std::io;
+use std::io::{ErrorKind, Read, Write};
+use std::process::{Child, Command, OpenProcess, Processes, Stdio};
+use vx_ends::{
+    Bytes, Ending, Link, LinkFault, Parts, Piece, Record, Spawner, Start, StartFault, remove_once,
+};
+
+/// The pipes to one child. Its record is what it gave to the child's `write` and got from its `read`.
+pub struct ChildLink<P: OpenProcess> {
+    child: Child<P>,
+    input: P::Stdin,
+    output: P::Stdout,
+    pieces: Vec<Piece>,
+    faults: u64,
+}
+
+impl<P: OpenProcess> Link for ChildLink<P> {
+    ghost dialogue = { λ l. l.pieces.items };
+
+    ghost faults = { λ l. l.faults };
+
+    ghost steady = { λ _. false };
+
+    fn send(&mut self, alloc: Global, piece: &[u8]) -> Result<usize, LinkFault> {
+        if self.faults == 0 {
+            let mut copy = Bytes::copy(alloc, piece)?;
+            self.pieces.reserve(1)?;
+            if let Ok(count) = self.input.write(piece)
+                && count > 0
+            {
+                copy.truncate(count);
+                return match self.pieces.push(Piece::Sent(copy)) {
+                    Ok(()) => Ok(count),
+                    Err(_) => unreachable!(),
+                };
+            }
+        }
+        self.faults = self.faults.saturating_add(1);
+        Err(LinkFault::Failed)
+    }
+
+    fn receive(&mut self, alloc: Global, max: usize) -> Result<Vec<u8>, LinkFault> {
+        if self.faults == 0 {
+            let mut piece = vec![in alloc; 0u8; max.min(65_536)]?;
+            let mut copy = Bytes::copy(alloc, &piece)?;
+            self.pieces.reserve(1)?;
+            if let Ok(count) = self.output.read(&mut piece)
+                && count > 0
+            {
+                piece.truncate(count);
+                copy.copy_from(&piece);
+                return match self.pieces.push(Piece::Got(copy)) {
+                    Ok(()) => Ok(piece),
+                    Err(_) => unreachable!(),
+                };
+            }
+        }
+        self.faults = self.faults.saturating_add(1);
+        Err(LinkFault::Failed)
+    }
+}
+
+/// Starts child processes, with piped standard input and output.
+#[derive(Drop)]
+pub struct ChildSpawner<R> {
+    processes: R,
+    starts: Vec<Start>,
+    // the lane of each link that is out
+    lanes_out: Vec<u32>,
+    ended: Vec<Ending>,
+    faults: u64,
+    ghost room: { vec_len ended + vec_len lanes_out ≤ vec_capacity ended },
+}
+
+impl<R: Processes> ChildSpawner<R> {
+    pub fn new(alloc: Global, processes: R) -> ChildSpawner<R>
+        ensures starts { result.starts.items ≡ [] }
+        ensures out { result.lanes_out.items ≡ [] }
+        ensures ended { result.ended.items ≡ [] }
+        ensures faults { result.faults ≡ 0 }
+    {
+        ChildSpawner {
+            processes,
+            starts: Vec::new(alloc),
+            lanes_out: Vec::new(alloc),
+            ended: Vec::new(alloc),
+            faults: 0,
+        }
+    }
+}
+
+// A child that runs this command, with piped standard input and output.
+fn spawn<R: Processes>(
+    alloc: Global,
+    processes: &R,
+    command: &Parts,
+) -> io::Result<Child<R::Started>> {
+    if command.len() == 0 {
+        return Err(io::Error::from(ErrorKind::InvalidInput));
+    }
+    let mut started = Command::new(alloc, command.part(0))?;
+    for i in 1..command.len() {
+        started.arg(command.part(i))?;
+    }
+    started
+        .stdin(Stdio::piped())
+        .stdout(Stdio::piped())
+        .stderr(Stdio::null())
+        .spawn(processes)
+}
+
+impl<R: Processes> Spawner for ChildSpawner<R> {
+    type Link = ChildLink<R::Started>;
+
+    ghost starts = { λ s. s.starts.items };
+
+    ghost owed = { λ s lane. count_by (λ other. other == lane) s.lanes_out.items };
+
+    ghost ended = { λ s. s.ended.items };
+
+    ghost faults = { λ s. s.faults };
+
+    ghost steady = { λ _. false };
+
+    fn start(
+        &mut self,
+        alloc: Global,
+        lane: u32,
+        command: &Parts,
+    ) -> Result<ChildLink<R::Started>, StartFault> {
+        let kept = command.copy(alloc)?;
+        self.lanes_out.reserve(1)?;
+        let room = self.lanes_out.len() + 1;
+        self.ended.reserve(room)?;
+        self.starts.reserve(1)?;
+        let child = spawn(alloc, &self.processes, command);
+        if let Err(error) = &child
+            && error.kind() == ErrorKind::OutOfMemory
+        {
+            return Err(StartFault::Want);
+        }
+        match self.starts.push(Start {
+            lane,
+            command: kept,
+        }) {
+            Ok(()) => {}
+            Err(_) => unreachable!(),
+        }
+        if let Ok(mut child) = child
+            && let Some(input) = child.stdin.take()
+            && let Some(output) = child.stdout.take()
+        {
+            return match self.lanes_out.push(lane) {
+                Ok(()) => Ok(ChildLink {
+                    child,
+                    input,
+                    output,
+                    pieces: Vec::new(alloc),
+                    faults: 0,
+                }),
+                Err(_) => unreachable!(),
+            };
+        }
+        self.faults = self.faults.saturating_add(1);
+        Err(StartFault::Failed)
+    }
+
+    fn finish(&mut self, lane: u32, link: ChildLink<R::Started>) {
+        remove_once(&mut self.lanes_out, lane);
+        let ChildLink {
+            mut child,
+            input,
+            output: _,
+            pieces,
+            faults,
+        } = link;
+        drop(input);
+        let _ = child.kill();
+        let _ = child.wait();
+        let ending = Ending {
+            lane,
+            dialogue: Record::of(pieces),
+            faults,
+        };
+        match self.ended.push(ending) {
+            Ok(()) => {}
+            Err(_) => unreachable!(),
+        }
+    }
+}

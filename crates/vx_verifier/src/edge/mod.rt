@@ -1,0 +1,12 @@
+//! The real ends: files, standard output and child processes. Each counts its faults.
+
+mod child;
+mod disk;
+mod sink;
+
+pub use child::{ChildLink, ChildSpawner};
+pub use disk::DiskFiles;
+pub use sink::StdSink;
+
+#[cfg(test)]
+mod tests;
