@@ -1,0 +1,10 @@
+//! The report: a line for each member with its verdict, and the total line.
+#![tactic(auto)]
+
+mod report;
+mod run;
+mod status;
+
+pub use report::write_report;
+pub use run::{Cause, MemberRun, Verdict};
+pub use status::{Status, status_of};

@@ -1,0 +1,45 @@
+//! What became of a member.
+
+use vx_ast::{MemberId, Place};
+use vx_ends::Bytes;
+use vx_rules::{Code, Reply};
+
+/// Why a member has no verdict of its own.
+#[derive(Drop)]
+pub enum Cause {
+    /// The pipe to its child failed.
+    Pipe,
+    /// Its child could not be started.
+    Start,
+    /// Its lane's child was lost before, and no further one is started.
+    Spent,
+    /// The last bytes got, of which at most 4,096 are kept, are no lawful reply to the command they answer.
+    Reply(Bytes),
+}
+
+/// A member's verdict.
+#[derive(Drop)]
+pub enum Verdict {
+    Verified,
+    /// The condition at the place was asked and not refuted.
+    Failed {
+        place: Place,
+        code: Code,
+        reply: Reply,
+    },
+    /// 100,000 checks were answered, and a further one was due.
+    Limit,
+    Fault(Cause),
+}
+
+/// A member with its checks: `first` to `first + checks - 1`, counted from 0, of the dialogue of the child numbered
+/// `child`, counted from 0, of its lane.
+#[derive(Drop)]
+pub struct MemberRun {
+    pub member: MemberId,
+    pub lane: u32,
+    pub child: u32,
+    pub first: u64,
+    pub checks: u32,
+    pub verdict: Verdict,
+}

@@ -1,0 +1,220 @@
+//! The stack of sides, and the steps that the rules are made of.
+
+ghost use Rattle.std.specs.Prelude.{◌≡◌, ◌++◌, ◌∷◌, [], IfOk, map};
+ghost use Rattle.vx_ast.specs.Resolved.{expr};
+ghost use Rattle.vx_rules.specs.Rules as rule;
+ghost use Rattle.vx_rules.specs.Stack.{code as code_of, rules, going, giving, frame_tree, side_tree, Stepped};
+ghost use Rattle.vx_rules.specs.SymStates.{state as state_of};
+ghost use Rattle.vx_rules.specs.Trees as tree;
+ghost use Rattle.vx_terms.specs.Views.{term};
+ghost use Rattle.vx_types.specs.Settled.{settled};
+
+use crate::{Code, Frame, Hole, Next, Query, Side, SymState};
+use std::alloc::{AllocError, Global};
+use std::rc::Rc;
+use vx_ast::Place;
+use vx_ast::resolved::Expr;
+use vx_terms::{Term, make};
+use vx_types::Typed;
+
+/// The sides that are still to be walked, the next one last.
+#[derive(Drop)]
+pub struct Conts {
+    pub sides: Vec<Side>,
+}
+
+/// What a step came to. Of a probe that is checked both candidates wait, the one where it is refuted on top.
+#[derive(Drop)]
+pub enum Move {
+    Go,
+    Fork,
+    Check(Query),
+}
+
+/// The question of a condition in a state.
+fn question(
+    alloc: Global,
+    condition: &Rc<Term>,
+    place: Place,
+    code: Code,
+    probe: bool,
+    state: &SymState,
+) -> Result<Query, AllocError>
+    ensures question { IfOk result (λ q. Rattle.vx_rules.specs.Stack.query q ≡ rule.question probe (term condition.now.value) place (code_of code) (state_of state.now)) }
+    ensures probe { IfOk result (λ q. q.probe ≡ probe) }
+{
+    Ok(Query {
+        place,
+        code,
+        path: state.path_terms(alloc)?,
+        condition: condition.clone()?,
+        probe,
+    })
+}
+
+impl Conts {
+    pub fn new(alloc: Global) -> Conts
+        ensures { result.sides.items ≡ [] }
+    {
+        Conts {
+            sides: Vec::new(alloc),
+        }
+    }
+
+    pub fn push(&mut self, frame: Frame, state: SymState) -> Result<(), AllocError>
+        ensures { IfOk result (λ _. self.new.sides.items ≡ self.old.sides.items ++ record { frame = frame; state = state } ∷ []) }
+    {
+        self.sides.push(Side { frame, state })?;
+        Ok(())
+    }
+
+    /// On with this frame.
+    pub fn go(&mut self, typed: &Typed, frame: Frame, state: SymState) -> Result<Move, AllocError>
+        ensures { IfOk result (λ m. Stepped (settled typed.now) (tree.Step (frame_tree (settled typed.now) frame (state_of state))) self.old.sides.items m self.new.sides.items) }
+    {
+        let _typed = typed;
+        self.push(frame, state)?;
+        Ok(Move::Go)
+    }
+
+    /// On with the value of an expression.
+    pub fn eval(
+        &mut self,
+        alloc: Global,
+        typed: &Typed,
+        e: &Rc<Expr>,
+        hole: Hole,
+        state: SymState,
+    ) -> Result<Move, AllocError>
+        ensures { IfOk result (λ m. Stepped (settled typed.now) (tree.Step (rule.eval (settled typed.now) (rules (settled typed.now)) (expr e.now.value) (state_of state) (giving (settled typed.now) hole))) self.old.sides.items m self.new.sides.items) }
+    {
+        let hole = Rc::new(alloc, hole)?;
+        self.go(typed, Frame::Eval(e.clone()?, hole), state)
+    }
+
+    /// On with a value.
+    pub fn give(
+        &mut self,
+        typed: &Typed,
+        value: Rc<Term>,
+        hole: &Rc<Hole>,
+        state: SymState,
+    ) -> Result<Move, AllocError>
+        ensures { IfOk result (λ m. Stepped (settled typed.now) (tree.Step (giving (settled typed.now) hole.now.value (term value.value) (state_of state))) self.old.sides.items m self.new.sides.items) }
+    {
+        self.go(typed, Frame::Give(value, hole.clone()?), state)
+    }
+
+    /// On with what waits for a state.
+    pub fn next(
+        &mut self,
+        alloc: Global,
+        typed: &Typed,
+        next: Next,
+        state: SymState,
+    ) -> Result<Move, AllocError>
+        ensures { IfOk result (λ m. Stepped (settled typed.now) (tree.Step (going (settled typed.now) next (state_of state))) self.old.sides.items m self.new.sides.items) }
+    {
+        let next = Rc::new(alloc, next)?;
+        self.go(typed, Frame::Go(next), state)
+    }
+
+    /// Ask: on with this frame where the condition holds.
+    pub fn ask(
+        &mut self,
+        alloc: Global,
+        typed: &Typed,
+        condition: Rc<Term>,
+        place: Place,
+        code: Code,
+        state: SymState,
+        frame: Frame,
+    ) -> Result<Move, AllocError>
+        ensures { IfOk result (λ m. Stepped (settled typed.now) (rule.ask (term condition.value) place (code_of code) (state_of state) (frame_tree (settled typed.now) frame)) self.old.sides.items m self.new.sides.items) }
+    {
+        if condition.is_same(&Term::Truth(true)) {
+            return self.go(typed, frame, state);
+        }
+        let query = question(alloc, &condition, place, code, false, &state)?;
+        if condition.is_same(&Term::Truth(false)) {
+            let finish = Rc::new(alloc, Next::Finish)?;
+            self.push(Frame::Go(finish), state)?;
+            return Ok(Move::Check(query));
+        }
+        let mut state = state;
+        state.add_fact(condition)?;
+        self.push(frame, state)?;
+        Ok(Move::Check(query))
+    }
+
+    /// Probe: on with one side where the condition is refuted, with the other where it isn't. It is asked in the
+    /// other side's state.
+    pub fn probe(
+        &mut self,
+        alloc: Global,
+        typed: &Typed,
+        condition: &Rc<Term>,
+        place: Place,
+        code: Code,
+        refuted: Side,
+        otherwise: Side,
+    ) -> Result<Move, AllocError>
+        ensures { IfOk result (λ m. Stepped (settled typed.now) (rule.probe (term condition.now.value) place (code_of code) (state_of otherwise.state) (side_tree (settled typed.now) refuted) (side_tree (settled typed.now) otherwise)) self.old.sides.items m self.new.sides.items) }
+    {
+        if condition.is_same(&Term::Truth(true)) {
+            return self.go(typed, refuted.frame, refuted.state);
+        }
+        let query = question(alloc, condition, place, code, true, &otherwise.state)?;
+        self.sides.push(otherwise)?;
+        if condition.is_same(&Term::Truth(false)) {
+            let finish = Rc::new(alloc, Next::Finish)?;
+            self.push(Frame::Go(finish), refuted.state)?;
+            return Ok(Move::Check(query));
+        }
+        self.sides.push(refuted)?;
+        Ok(Move::Check(query))
+    }
+
+    /// Fork: on with one frame where the condition holds, with the other where it doesn't.
+    pub fn fork(
+        &mut self,
+        alloc: Global,
+        typed: &Typed,
+        condition: Rc<Term>,
+        state: SymState,
+        left: Frame,
+        right: Frame,
+    ) -> Result<Move, AllocError>
+        ensures { IfOk result (λ m. Stepped (settled typed.now) (rule.fork (term condition.value) (state_of state) (frame_tree (settled typed.now) left) (frame_tree (settled typed.now) right)) self.old.sides.items m self.new.sides.items) }
+    {
+        if state.is_known(&condition) {
+            return self.go(typed, left, state);
+        }
+        let negated = make::not(alloc, &condition)?;
+        if state.is_known(&negated) {
+            return self.go(typed, right, state);
+        }
+        let mut first = state.copy(alloc)?;
+        let mut second = state;
+        first.add_branch(condition)?;
+        second.add_branch(negated)?;
+        self.both(typed, left, first, right, second)
+    }
+
+    /// Two sides, the first one first.
+    pub fn both(
+        &mut self,
+        typed: &Typed,
+        left: Frame,
+        first: SymState,
+        right: Frame,
+        second: SymState,
+    ) -> Result<Move, AllocError>
+        ensures { IfOk result (λ m. Stepped (settled typed.now) (tree.Fork (frame_tree (settled typed.now) left (state_of first)) (frame_tree (settled typed.now) right (state_of second))) self.old.sides.items m self.new.sides.items) }
+    {
+        let _typed = typed;
+        self.push(right, second)?;
+        self.push(left, first)?;
+        Ok(Move::Fork)
+    }
+}

@@ -1,0 +1,100 @@
+//! What a side does next, and what waits for it.
+
+use crate::{Code, SymState};
+use std::rc::Rc;
+use vx_ast::Place;
+use vx_ast::resolved::{Assertion, Block, Connective, Expr, Method, Operator, Stmt};
+use vx_terms::Term;
+
+/// The codes of a consume: of a pure part, and of a permission.
+#[derive(Clone, Copy, Debug, PartialEq, Eq)]
+pub struct Codes {
+    pub pure: Code,
+    pub permission: Code,
+}
+
+/// What of an expression waits for the value of an operand.
+#[derive(Drop)]
+pub enum Operand {
+    Negate,
+    OperateRight(Operator, Rc<Expr>),
+    OperateWith(Operator, Rc<Term>),
+    ConnectRight(Connective, Rc<Expr>),
+    ConnectWith(Connective, Rc<Term>),
+    /// The right part is looked at on one side alone.
+    ConnectSides(Connective, Rc<Expr>),
+    ChooseThen(Rc<Expr>, Rc<Expr>),
+    ChooseElse(Rc<Term>, Rc<Expr>),
+    ChooseWith(Rc<Term>, Rc<Term>),
+    /// Each branch on a side of its own.
+    ChooseSides(Rc<Expr>, Rc<Expr>),
+}
+
+/// What of a consume waits for a value or a snapshot.
+#[derive(Drop)]
+pub enum Consumed {
+    /// The condition to ask for.
+    Ask(Place, Code),
+    /// The left snapshot, before the right part.
+    Right(Rc<Assertion>, Codes),
+    /// The right snapshot, after the left one.
+    With(Rc<Term>),
+}
+
+/// What of a statement waits for a value.
+#[derive(Drop)]
+pub enum Executed {
+    Assign(Rc<String>),
+    Assume,
+    /// Both blocks, and how many variables stand before them.
+    If(Rc<Block>, Rc<Block>, usize),
+    /// What was asserted stays.
+    Asserted,
+    Exhaled,
+}
+
+/// What waits for a state.
+#[cycle(frames)]
+#[derive(Drop)]
+pub enum Next {
+    /// The side is over.
+    Finish,
+    Exec(Rc<Stmt>, Rc<Next>),
+    Block(Rc<Block>, Rc<Next>),
+    /// A block within another: this many variables are kept at its end.
+    Inner(Rc<Block>, usize, Rc<Next>),
+    Produce(Rc<Assertion>, Rc<Next>),
+    Consume(Rc<Assertion>, Codes, Rc<Hole>),
+    /// A pure part was consumed.
+    Unit(Rc<Hole>),
+    /// The sides of a method whose precondition was produced.
+    Sides(Rc<Method>),
+}
+
+/// What waits for a value.
+#[cycle(frames)]
+#[derive(Drop)]
+pub enum Hole {
+    /// The side is over.
+    Finish,
+    Operand(Operand, Rc<Hole>),
+    Consumed(Consumed, Rc<Hole>),
+    /// A pure part is produced.
+    Produced(Rc<Next>),
+    Executed(Executed, Rc<Next>),
+}
+
+/// What a side does next.
+#[derive(Drop)]
+pub enum Frame {
+    Go(Rc<Next>),
+    Eval(Rc<Expr>, Rc<Hole>),
+    Give(Rc<Term>, Rc<Hole>),
+}
+
+/// A side that is still to be walked.
+#[derive(Drop)]
+pub struct Side {
+    pub frame: Frame,
+    pub state: SymState,
+}
