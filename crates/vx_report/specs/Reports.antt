@@ -1,5 +1,6 @@
 -- The text of the report: a line for each member that has one, in the order of the runs, and the total line.
-use Rattle.std.specs.Prelude.{ℕ, ◌+◌, Bool, true, false, List, [], ◌∷◌, ◌++◌, Option, Some, None, codes, slice_get}
+use Rattle.std.specs.Prelude.{ℕ, ◌+◌, Bool, true, false, List, [], ◌∷◌, ◌++◌, Option, Some, None, codes, slice_get, ◌<◌, length}
+use Rattle.std.specs.List.{All}
 use Rattle.std.specs.Fmt.{decimal}
 use Rattle.vx_ast.specs.declared.Place.{Place}
 use Rattle.vx_ast.specs.Syntax.{Program, Member, Kind, IsField, IsPredicate, IsFunction, IsMethod}
@@ -99,3 +100,7 @@ total_of rs =
 
 abbrev pub report_of : Program → List MemberRun → List ℕ
 report_of p rs = lines_of p rs ++ total_of rs
+
+-- each run's member is one of the program's
+abbrev pub AreNamed : Program → List MemberRun → Type 0
+AreNamed p rs = All (λ r. r.member.0 < length p) rs

@@ -1,13 +1,13 @@
 //! The text of the report.
 
 ghost use Rattle.std.specs.Prelude.{◌≡◌, ◌++◌, ◌<◌, ℕ, OnOk, string_bytes, length, codes, Some, slice_get};
-ghost use Rattle.vx_ast.specs.Resolved.{kind};
+ghost use Rattle.vx_ast.specs.Resolved.{kind as kind_of};
 ghost use Rattle.vx_report.specs.Reports as spec;
-ghost use Rattle.vx_report.specs.Reports.{IsNamed};
+ghost use Rattle.vx_report.specs.Reports.{AreNamed};
 ghost use Rattle.vx_types.specs.Settled.{settled};
 
 use crate::{Cause, MemberRun, Verdict};
-use std::alloc::{AllocError, Global};
+use std::alloc::AllocError;
 use vx_ast::resolved::Kind;
 use vx_ast::Place;
 use vx_rules::{Code, Reply};
@@ -85,4 +85,86 @@ fn write_verdict(out: &mut String, verdict: &Verdict) -> Result<(), AllocError>
             out.push_str(cause_word(cause))
         }
     }
+}
+
+fn kind_word(kind: &Kind) -> &'static str
+    ensures { result.now ≡ spec.kind_word (kind_of kind.now) }
+{
+    match kind {
+        Kind::Method(_) => "method",
+    }
+}
+
+// The line of a member.
+fn write_line(out: &mut String, typed: &Typed, run: &MemberRun) -> Result<(), AllocError>
+    requires { run.now.member.0 < length (settled typed.now) }
+    ensures { OnOk result (string_bytes out.new ≡ string_bytes out.old ++ spec.line_of (settled typed.now) run.now) }
+{
+    let member = typed.member(run.member.0 as usize);
+    out.push_str(kind_word(&member.kind))?;
+    out.push_str(" ")?;
+    out.push_str(&member.name)?;
+    out.push_str(": ")?;
+    write_verdict(out, &run.verdict)?;
+    out.push_str("\n")
+}
+
+// How many runs have a verdict of each sort.
+#[derive(Clone, Copy)]
+struct Totals {
+    verified: u64,
+    failed: u64,
+    limited: u64,
+    faulted: u64,
+}
+
+fn totals_of(runs: &[MemberRun]) -> Totals
+    ensures verified { result.verified ≡ spec.count_of spec.is_verified runs.now }
+    ensures failed { result.failed ≡ spec.count_of spec.is_failed runs.now }
+    ensures limited { result.limited ≡ spec.count_of spec.is_limited runs.now }
+    ensures faulted { result.faulted ≡ spec.count_of spec.is_faulted runs.now }
+{
+    let mut totals = Totals {
+        verified: 0,
+        failed: 0,
+        limited: 0,
+        faulted: 0,
+    };
+    for run in runs {
+        match run.verdict {
+            Verdict::Verified => totals.verified += 1,
+            Verdict::Failed { .. } => totals.failed += 1,
+            Verdict::Limit => totals.limited += 1,
+            Verdict::Fault(_) => totals.faulted += 1,
+        }
+    }
+    totals
+}
+
+fn write_total(out: &mut String, runs: &[MemberRun]) -> Result<(), AllocError>
+    ensures { OnOk result (string_bytes out.new ≡ string_bytes out.old ++ spec.total_of runs.now) }
+{
+    let totals = totals_of(runs);
+    write!(out, "{} verified, {} failed, 0 resting, ", totals.verified, totals.failed)?;
+    write!(out, "{} limited, {} faults\n", totals.limited, totals.faulted)?;
+    Ok(())
+}
+
+fn write_lines(out: &mut String, typed: &Typed, runs: &[MemberRun]) -> Result<(), AllocError>
+    requires { AreNamed (settled typed.now) runs.now }
+    ensures { OnOk result (string_bytes out.new ≡ string_bytes out.old ++ spec.lines_of (settled typed.now) runs.now) }
+{
+    for run in runs {
+        write_line(out, typed, run)?;
+    }
+    Ok(())
+}
+
+/// Writes the report's text: the line of each run's member, and the total line.
+pub fn write_report(out: &mut String, typed: &Typed, runs: &[MemberRun]) -> Result<(), AllocError>
+    requires { AreNamed (settled typed.now) runs.now }
+    ensures { OnOk result (string_bytes out.new ≡ string_bytes out.old ++ spec.report_of (settled typed.now) runs.now) }
+{
+    write_lines(out, typed, runs)?;
+    write_total(out, runs)
 }
