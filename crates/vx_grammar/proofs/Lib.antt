@@ -7,3 +7,4 @@ pub mod Means
 pub mod LocalExpr
 pub mod Whole
 pub mod Rows
+pub mod Turns

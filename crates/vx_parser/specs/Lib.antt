@@ -1,0 +1,5 @@
+pub mod Gives
+pub mod Part
+pub mod Says
+pub mod StmtPart
+pub mod Views
