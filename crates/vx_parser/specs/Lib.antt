@@ -1,3 +1,5 @@
+pub mod Faults
+pub mod Answers
 pub mod Gives
 pub mod Part
 pub mod Says

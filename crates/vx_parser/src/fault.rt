@@ -1,6 +1,7 @@
 //! Why a text is no program.
 
-ghost use Rattle.std.specs.Prelude.{◌≡◌};
+ghost use Rattle.std.specs.Prelude.{◌≡◌, option_copied};
+ghost use Rattle.vx_parser.specs.Faults.{place_of, code_of, name_of, argument_of};
 ghost use Rattle.vx_parser.specs.declared.fault.TextFault.TheVariants.{Want};
 
 use std::alloc::{AllocError, AllocFailed};
@@ -44,7 +45,9 @@ pub enum TextFault {
 
 impl TextFault {
     /// Where the fault stands: 1:1 where it stands nowhere.
-    pub fn place(&self) -> Place {
+    pub fn place(&self) -> Place
+        ensures { result ≡ place_of self.now }
+    {
         match self {
             TextFault::NotUtf8(place)
             | TextFault::BadCharacter(place)
@@ -59,7 +62,9 @@ impl TextFault {
     }
 
     /// The code that is printed: `E01` to `E09`. Want of memory has none.
-    pub fn code(&self) -> &'static str {
+    pub fn code(&self) -> &'static str
+        ensures { result.now ≡ code_of self.now }
+    {
         match self {
             TextFault::NotUtf8(_) => "E01",
             TextFault::BadCharacter(_) => "E02",
@@ -75,7 +80,9 @@ impl TextFault {
     }
 
     /// The name that is printed behind the code.
-    pub fn name(&self) -> &'static str {
+    pub fn name(&self) -> &'static str
+        ensures { result.now ≡ name_of self.now }
+    {
         match self {
             TextFault::NotUtf8(_) => "NotUtf8",
             TextFault::BadCharacter(_) => "BadCharacter",
@@ -91,7 +98,9 @@ impl TextFault {
     }
 
     /// The token's text, which is printed behind the name.
-    pub fn argument(&self) -> Option<&str> {
+    pub fn argument(&self) -> Option<&str>
+        ensures { option_copied result ≡ argument_of self.now }
+    {
         match self {
             TextFault::Unexpected(_, text) | TextFault::Unsupported(_, text) => Some(text.as_str()),
             _ => None,
