@@ -1,0 +1,10 @@
+pub mod Symbols
+pub mod Lists
+pub mod Tells
+pub mod Local
+pub mod Complete
+pub mod Means
+pub mod LocalExpr
+pub mod Whole
+pub mod Rows
+pub mod Turns

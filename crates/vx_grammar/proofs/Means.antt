@@ -1,0 +1,435 @@
+-- What is read is spelled so, and what stops reading is the first token that doesn't fit.
+use Rattle.std.proofs.Common.{◌≡◌, ℕ, zero, suc, ◌+◌, ◌-◌, ◌≤◌, List, [], ◌∷◌, ◌++◌, Option, Some, None, Bool, true, false, Ok, Err, refl, sym, ap, subst, ◌∙◌, append_assoc, arith, eqb, inl, inr, cond}
+use Rattle.std.proofs.lemmas.List.{append-nil}
+use Rattle.std.proofs.lemmas.Bool.{eq-eqb}
+use Rattle.std.proofs.lemmas.Bool.Decides.{eqb_tells}
+use Rattle.vx_grammar.specs.Nesting.{nests}
+use Rattle.vx_ast.specs.declared.Place.{Place}
+use Rattle.vx_tokens.specs.declared.token.Word.TheVariants as words
+use Rattle.vx_tokens.specs.declared.token.Symbol.TheVariants as signs
+use Rattle.vx_ast.specs.declared.UnaryOperator.{UnaryOperator}
+use Rattle.vx_ast.specs.declared.UnaryOperator.TheVariants.{Not, Negate}
+use Rattle.vx_ast.specs.declared.BinaryOperator.{BinaryOperator}
+use Rattle.vx_ast.specs.declared.BinaryOperator.TheVariants.{Implies, Or, And, Equal, NotEqual, Less, LessEqual, Greater, GreaterEqual, Add, Subtract, Multiply}
+use Rattle.vx_tokens.specs.Tokens.{Token, Kind, name, number, word, symbol}
+use Rattle.vx_ast.specs.Written.{Expr, Unary, Binary, Choice}
+use Rattle.vx_grammar.specs.Grammar.{operator_of, IsWritten, Phrase, literal, numeral, named, grouped, prefixed, joined, chosen, Mark, mark, marks, operators, tokens_of, start_of, meant, StandsAt, level_of, sign_of, prefix_sign}
+use Rattle.vx_grammar.specs.Reading.{◌>>=◌, Read, Unexpected, is_symbol, Part, choice, implication, chain, rest_of_chain, expect, grouped_by, unary_by, unary_at, operator_by, rest_by, rest_at, chain_at, implies_by, implied_by, implication_at, second_by, sides_by, chosen_by, choice_at, part_at, below}
+use Rattle.vx_grammar.specs.Laws.{Within}
+use Rattle.vx_grammar.proofs.Lists.{stands_looser, begins, IsChain, chain_or_implies}
+use Rattle.vx_grammar.proofs.Symbols.{is_symbol_true}
+use Rattle.vx_grammar.proofs.Complete.{stands_own, no_operators}
+use Rattle.vx_grammar.proofs.Tells.{Grammar, Starts, Takes, Tells, After, GoesOn, Sign, takes_none, tells_behind, tells_then, tells_as, tells_here, tells_unexpected, tells_token, tells_expect}
+
+-- the marks of a phrase that stands at a level, and means the expression
+pub record PhraseFor (n level : ℕ) (e : Expr) (ms : List Mark) : Type 0 where
+  pub phrase : Phrase
+  pub stands : StandsAt level phrase
+  pub means : meant phrase ≡ e
+  pub spelled : marks n phrase ≡ ms
+
+somewhere : Place
+somewhere = record { line = 0; column = 0 }
+
+any_phrase : Phrase
+any_phrase = literal somewhere true
+
+starts_any : (n level : ℕ) → Starts (PhraseFor n level) []
+unfolding any_phrase
+starts_any n level = record { value = meant any_phrase; more = marks n any_phrase; spelled = record { phrase = any_phrase; stands = tt; means = refl; spelled = refl } }
+
+-- a token, and what it nests
+pub record Behind (m : Mark) (R : Grammar Expr) (e : Expr) (ms : List Mark) : Type 0 where
+  pub inner : List Mark
+  pub is : ms ≡ m ∷ inner
+  pub spelled : R e inner
+
+tells_nested : (R : Grammar Expr) (limit n room : ℕ) (p : Part) (t : Token) (ts : List Token) → n + room ≡ limit → Starts R [] → ((less : ℕ) → room ≡ less + 1 → Tells R limit ts (part_at (below less) p ts)) → Tells (Behind (record { token = t; count = n + 1 }) R) limit (t ∷ ts) (below room p (t ∷ ts) ts)
+unfolding below
+tells_nested R limit n zero p t ts e s h =
+    let m : Mark = record { token = t; count = n + 1 } in
+    record {
+      marks = [];
+      takes = takes_none limit (t ∷ ts);
+      deep = m;
+      after = ts;
+      first = refl;
+      count = omega (arith, e);
+      starts = record { value = s.value; more = s.more; spelled = record { inner = s.more; is = refl; spelled = s.spelled } };
+    }
+tells_nested R limit n (suc less) p t ts e s h =
+    let m : Mark = record { token = t; count = n + 1 } in
+    let le : n + 1 ≤ limit = omega (arith, e) in
+    tells_behind (Behind m R) limit (t ∷ ts) ts (m ∷ []) (record { within = (le, tt); tokens = refl }) (part_at (below less) p ts)
+    (tells_as R (After (Behind m R) (m ∷ [])) limit ts (part_at (below less) p ts) (λ x ms r. record { inner = ms; is = refl; spelled = r }) (h less (omega arith)))
+
+-- ---- what is shown at each room
+
+record Told (limit room : ℕ) : Type 0 where
+  choice_tells : (n : ℕ) → n + room ≡ limit → (ts : List Token) → Tells (PhraseFor n 8) limit ts (choice_at (below room) ts)
+  implication_tells : (n : ℕ) → n + room ≡ limit → (ts : List Token) → Tells (PhraseFor n 7) limit ts (implication_at (below room) ts)
+  chain_tells : (n : ℕ) → n + room ≡ limit → (k : ℕ) → k ≤ 6 → (ts : List Token) → Tells (PhraseFor n k) limit ts (chain_at (below room) k ts)
+  rest_tells : (n k : ℕ) (w : Phrase) → k ≤ 5 → StandsAt (suc k) w → n + operators (suc k) w + room ≡ limit → (ts : List Token)
+      → Tells (After (PhraseFor n (suc k)) (marks n w)) limit ts (rest_at (below room) k (start_of w) (meant w) ts)
+
+ToldBelow : ℕ → ℕ → Type 0
+ToldBelow limit room = (less : ℕ) → room ≡ less + 1 → Told limit less
+
+count_down : (limit n room less : ℕ) → n + room ≡ limit → room ≡ less + 1 → (n + 1) + less ≡ limit
+count_down limit n room less e s = omega arith
+
+-- ---- one operand
+
+token_is : (t : Token) (k : Kind) (n : ℕ) → t.kind ≡ k → let m : Mark = record { token = t; count = n } in mark n t.place k ≡ m
+token_is t k n e = ap (λ (x : Kind). mark n t.place x) (sym e)
+
+marks_is : (t : Token) (k : Kind) (n : ℕ) (ms : List Mark) → t.kind ≡ k → let m : Mark = record { token = t; count = n } in mark n t.place k ∷ ms ≡ m ∷ ms
+marks_is t k n ms e = ap (λ x. x ∷ ms) (token_is t k n e)
+
+grouped_goes_on : (n : ℕ) (t : Token) → t.kind ≡ symbol signs.Open → GoesOn (Behind (record { token = t; count = n + 1 }) (PhraseFor (n + 1) 8)) (PhraseFor n 0)
+grouped_goes_on n t k e ms b =
+    let w = b.spelled.phrase in
+    record {
+      value = meant w;
+      more = mark (n + 1) somewhere (symbol signs.Close) ∷ [];
+      spelled = record {
+        phrase = grouped t.place w somewhere;
+        stands = b.spelled.stands;
+        means = refl;
+        spelled = marks_is t (symbol signs.Open) (n + 1) _ k ∙ ap (λ l. let m : Mark = record { token = t; count = n + 1 } in m ∷ (l ++ mark (n + 1) somewhere (symbol signs.Close) ∷ [])) b.spelled.spelled ∙ ap (λ l. l ++ mark (n + 1) somewhere (symbol signs.Close) ∷ []) (sym b.is);
+      };
+    }
+
+grouped_close : (n : ℕ) (t : Token) (e : Expr) (ms : List Mark) → t.kind ≡ symbol signs.Open → Behind (record { token = t; count = n + 1 }) (PhraseFor (n + 1) 8) e ms → (c : Token) (ns : List Mark) → Sign (n + 1) signs.Close c ns → PhraseFor n 0 e (ms ++ ns)
+grouped_close n t e ms k b c ns s =
+    let w = b.spelled.phrase in
+    record {
+      phrase = grouped t.place w s.0;
+      stands = b.spelled.stands;
+      means = b.spelled.means;
+      spelled = marks_is t (symbol signs.Open) (n + 1) _ k ∙ ap (λ l. let m : Mark = record { token = t; count = n + 1 } in m ∷ (l ++ mark (n + 1) s.0 (symbol signs.Close) ∷ [])) b.spelled.spelled ∙ ap (λ l. l ++ mark (n + 1) s.0 (symbol signs.Close) ∷ []) (sym b.is) ∙ ap (λ l. ms ++ l) (sym s.2);
+    }
+
+grouped_tells : (limit n room : ℕ) (t : Token) (ts : List Token) → n + room ≡ limit → ToldBelow limit room → t.kind ≡ symbol signs.Open → Tells (PhraseFor n 0) limit (t ∷ ts) (grouped_by (below room) t ts)
+unfolding grouped_by ToldBelow
+grouped_tells limit n room t ts e told k =
+    let m : Mark = record { token = t; count = n + 1 } in
+    let R = Behind m (PhraseFor (n + 1) 8) in
+    tells_then R (PhraseFor n 0) limit (t ∷ ts) (below room choice (t ∷ ts) ts) (λ x. expect signs.Close x.1 >>= λ c. Ok (x.0, c.1)) (grouped_goes_on n t k)
+    (tells_nested (PhraseFor (n + 1) 8) limit n room choice t ts e (starts_any (n + 1) 8) (λ less s. (told less s).choice_tells (n + 1) (count_down limit n room less e s) ts))
+    (λ x rest ms b takes.
+    let le : n + 1 ≤ limit = (subst (Within limit) b.is takes.within).0 in
+    tells_then (Sign (n + 1) signs.Close) (After (PhraseFor n 0) ms) limit rest (expect signs.Close rest) (λ c. Ok (x, c.1))
+    (λ c ns s. record { value = x; more = []; spelled = rw append-nil (grouped_close n t x ms k b c ns s) })
+    (tells_expect (n + 1) signs.Close limit rest le)
+    (λ c after ns s takes'. tells_here (After (After (PhraseFor n 0) ms) ns) limit after x (rw append-nil (grouped_close n t x ms k b c ns s))))
+
+prefixed_is : (n : ℕ) (t : Token) (op : UnaryOperator) → t.kind ≡ symbol (prefix_sign op) → (e : Expr) (ms : List Mark) → Behind (record { token = t; count = n + 1 }) (PhraseFor (n + 1) 0) e ms → PhraseFor n 0 (Unary t.place op e) ms
+prefixed_is n t op k e ms b = record {
+  phrase = prefixed t.place op b.spelled.phrase;
+  stands = b.spelled.stands;
+  means = ap (Unary t.place op) b.spelled.means;
+  spelled = marks_is t (symbol (prefix_sign op)) (n + 1) _ k ∙ ap (λ l. let m : Mark = record { token = t; count = n + 1 } in m ∷ l) b.spelled.spelled ∙ sym b.is;
+}
+
+prefixed_tells : (limit n room : ℕ) (t : Token) (ts : List Token) (op : UnaryOperator) → n + room ≡ limit → ToldBelow limit room → t.kind ≡ symbol (prefix_sign op)
+    → Tells (PhraseFor n 0) limit (t ∷ ts) (below room (chain 0) (t ∷ ts) ts >>= λ e. Ok (Unary t.place op e.0, e.1))
+unfolding ToldBelow
+prefixed_tells limit n room t ts op e told k =
+    let m : Mark = record { token = t; count = n + 1 } in
+    tells_then (Behind m (PhraseFor (n + 1) 0)) (PhraseFor n 0) limit (t ∷ ts) (below room (chain 0) (t ∷ ts) ts) (λ x. Ok (Unary t.place op x.0, x.1))
+    (λ x ms b. record { value = Unary t.place op x; more = []; spelled = rw append-nil (prefixed_is n t op k x ms b) })
+    (tells_nested (PhraseFor (n + 1) 0) limit n room (chain 0) t ts e (starts_any (n + 1) 0) (λ less s. (told less s).chain_tells (n + 1) (count_down limit n room less e s) 0 (omega arith) ts))
+    (λ x rest ms b takes. tells_here (After (PhraseFor n 0) ms) limit rest (Unary t.place op x) (rw append-nil (prefixed_is n t op k x ms b)))
+
+leaf_tells : (limit n : ℕ) (t : Token) (ts : List Token) (k : Kind) (w : Phrase) → n ≤ limit → t.kind ≡ k → StandsAt 0 w → marks n w ≡ mark n t.place k ∷ [] → Tells (PhraseFor n 0) limit (t ∷ ts) (Ok (meant w, ts))
+leaf_tells limit n t ts k w le e st ms = tells_token (PhraseFor n 0) limit (record { token = t; count = n }) ts (meant w) le (record { phrase = w; stands = st; means = refl; spelled = ms ∙ marks_is t k n [] e })
+
+unary_by_tells : (limit n room : ℕ) (t : Token) (k : Kind) (ts : List Token) → n + room ≡ limit → ToldBelow limit room → t.kind ≡ k → Tells (PhraseFor n 0) limit (t ∷ ts) (unary_by (below room) t k ts)
+unfolding unary_by
+unary_by_tells limit n room t (name x) ts e told k = leaf_tells limit n t ts (name x) (named t.place x) (omega (arith, e)) k tt refl
+unary_by_tells limit n room t (number x) ts e told k = leaf_tells limit n t ts (number x) (numeral t.place x) (omega (arith, e)) k tt refl
+unary_by_tells limit n room t (word words.True) ts e told k = leaf_tells limit n t ts (word words.True) (literal t.place true) (omega (arith, e)) k tt refl
+unary_by_tells limit n room t (word words.False) ts e told k = leaf_tells limit n t ts (word words.False) (literal t.place false) (omega (arith, e)) k tt refl
+unary_by_tells limit n room t (symbol signs.Open) ts e told k = grouped_tells limit n room t ts e told k
+unary_by_tells limit n room t (symbol signs.Not) ts e told k = prefixed_tells limit n room t ts Not e told k
+unary_by_tells limit n room t (symbol signs.Minus) ts e told k = prefixed_tells limit n room t ts Negate e told k
+unary_by_tells limit n room t k ts e told h = tells_unexpected (PhraseFor n 0) limit (t ∷ ts) (starts_any n 0)
+
+unary_tells : (limit n room : ℕ) (ts : List Token) → n + room ≡ limit → ToldBelow limit room → Tells (PhraseFor n 0) limit ts (unary_at (below room) ts)
+unfolding unary_at
+unary_tells limit n room [] e told = tells_unexpected (PhraseFor n 0) limit [] (starts_any n 0)
+unary_tells limit n room (t ∷ ts) e told = unary_by_tells limit n room t t.kind ts e told refl
+
+-- ---- chains
+
+joined_stands : (k : ℕ) (op : BinaryOperator) (a b : Phrase) (p : Place) → IsChain op k → IsWritten op → StandsAt (suc k) a → StandsAt k b → StandsAt (suc k) (joined a p op b)
+joined_stands k op a b p c i sa sb = (omega (arith, c.level), rw c.left sa, rw c.right sb, i)
+
+operator_kind : (k : Kind) (op : BinaryOperator) → operator_of k ≡ Some op → k ≡ symbol (sign_of op)
+operator_kind (symbol signs.Implies) op e = let o : Implies ≡ op = cc in rw (← o) refl
+operator_kind (symbol signs.Or) op e = let o : Or ≡ op = cc in rw (← o) refl
+operator_kind (symbol signs.And) op e = let o : And ≡ op = cc in rw (← o) refl
+operator_kind (symbol signs.Equal) op e = let o : Equal ≡ op = cc in rw (← o) refl
+operator_kind (symbol signs.NotEqual) op e = let o : NotEqual ≡ op = cc in rw (← o) refl
+operator_kind (symbol signs.Less) op e = let o : Less ≡ op = cc in rw (← o) refl
+operator_kind (symbol signs.LessEqual) op e = let o : LessEqual ≡ op = cc in rw (← o) refl
+operator_kind (symbol signs.Greater) op e = let o : Greater ≡ op = cc in rw (← o) refl
+operator_kind (symbol signs.GreaterEqual) op e = let o : GreaterEqual ≡ op = cc in rw (← o) refl
+operator_kind (symbol signs.Plus) op e = let o : Add ≡ op = cc in rw (← o) refl
+operator_kind (symbol signs.Minus) op e = let o : Subtract ≡ op = cc in rw (← o) refl
+operator_kind (symbol signs.Times) op e = let o : Multiply ≡ op = cc in rw (← o) refl
+operator_kind k op e = absurd cc
+
+-- the operator at hand, in a chain of level k + 1
+chain_of_level : (op : BinaryOperator) (k : ℕ) → level_of op ≡ suc k → k ≤ 5 → IsChain op k
+chain_of_level op k e le =
+    elim (chain_or_implies op) [
+      | inl c ↦ let same : c.0 ≡ k = omega (arith, c.1.level, e) in subst (IsChain op) same c.1
+      | inr i ↦ let six : level_of op ≡ 7 = ap level_of i in absurd (omega (arith, six, e, le))
+    ]
+
+operators_joined : (k : ℕ) (op : BinaryOperator) (a b : Phrase) (p : Place) → level_of op ≡ suc k → operators (suc k) (joined a p op b) ≡ operators (suc k) a + 1
+operators_joined k op a b p e = let b : eqb (level_of op) (suc k) ≡ true = eq-eqb _ _ e in rw b refl
+
+-- the marks of a chain with one more operand
+joined_marks : (n k : ℕ) (op : BinaryOperator) (a b : Phrase) (t : Token) → level_of op ≡ suc k → t.kind ≡ symbol (sign_of op)
+    → let m : Mark = record { token = t; count = n + operators (suc k) a + 1 } in marks n (joined a t.place op b) ≡ marks n a ++ m ∷ marks (n + operators (suc k) a + 1) b
+joined_marks n k op a b t e h =
+    ap (λ l. marks n a ++ mark (n + operators l a + 1) t.place (symbol (sign_of op)) ∷ marks (n + operators l a + 1) b) e
+    ∙ ap (λ l. marks n a ++ l) (marks_is t (symbol (sign_of op)) (n + operators (suc k) a + 1) _ h)
+
+operator_tells : (limit n room k : ℕ) (w : Phrase) (t : Token) (ts : List Token) (op : BinaryOperator) → k ≤ 5 → StandsAt (suc k) w → n + operators (suc k) w + room ≡ limit → ToldBelow limit room → IsWritten op → t.kind ≡ symbol (sign_of op) → level_of op ≡ suc k
+    → Tells (After (PhraseFor n (suc k)) (marks n w)) limit (t ∷ ts) (operator_by (below room) k (start_of w) (meant w) t ts op)
+unfolding operator_by ToldBelow
+operator_tells limit n room k w t ts op low st e told i kind level =
+    let c = n + operators (suc k) w in
+    let m : Mark = record { token = t; count = c + 1 } in
+    let R = Behind m (PhraseFor (c + 1) k) in
+    let T = After (PhraseFor n (suc k)) (marks n w) in
+    let ch = chain_of_level op k level low in
+    let all : (x : Expr) (ms : List Mark) (b : R x ms) → marks n (joined w t.place op b.spelled.phrase) ≡ marks n w ++ ms =
+    λ x ms b. joined_marks n k op w b.spelled.phrase t level kind ∙ ap (λ l. marks n w ++ m ∷ l) b.spelled.spelled ∙ ap (λ l. marks n w ++ l) (sym b.is) in
+    tells_then R T limit (t ∷ ts) (below room (chain k) (t ∷ ts) ts) (λ right. below room (rest_of_chain k (start_of w) (Binary (start_of w) op (meant w) right.0)) right.1 right.1)
+    (λ x ms b. record {
+      value = Binary (start_of w) op (meant w) (meant b.spelled.phrase);
+      more = [];
+      spelled = rw append-nil (record {
+        phrase = joined w t.place op b.spelled.phrase;
+        stands = joined_stands k op w b.spelled.phrase t.place ch i st b.spelled.stands;
+        means = refl;
+        spelled = all x ms b;
+      });
+    })
+    (tells_nested (PhraseFor (c + 1) k) limit c room (chain k) t ts e (starts_any (c + 1) k) (λ less s. (told less s).chain_tells (c + 1) (count_down limit c room less e s) k (omega (arith, low)) ts))
+    (λ x rest ms b takes.
+    let le : c + 1 ≤ limit = (subst (Within limit) b.is takes.within).0 in
+    let less = room - 1 in
+    let s : room ≡ less + 1 = omega (arith, le, e) in
+    let w' = joined w t.place op b.spelled.phrase in
+    let ops = operators_joined k op w b.spelled.phrase t.place level in
+    let again = (told less s).rest_tells n k w' low (joined_stands k op w b.spelled.phrase t.place ch i st b.spelled.stands) (omega (arith, ops, e, s)) rest in
+    let same : below room (rest_of_chain k (start_of w) (Binary (start_of w) op (meant w) x)) rest rest ≡ rest_at (below less) k (start_of w) (Binary (start_of w) op (meant w) (meant b.spelled.phrase)) rest =
+    nests room less (rest_of_chain k (start_of w) (Binary (start_of w) op (meant w) x)) rest rest s ∙ ap (λ y. rest_at (below less) k (start_of w) (Binary (start_of w) op (meant w) y) rest) (sym b.spelled.means) in
+    subst (Tells (After T ms) limit rest) (sym same)
+    (tells_as (After (PhraseFor n (suc k)) (marks n w')) (After T ms) limit rest (rest_at (below less) k (start_of w') (meant w') rest)
+    (λ y more r. subst (PhraseFor n (suc k) y) (ap (λ l. l ++ more) (all x ms b) ∙ append_assoc (marks n w) ms more) r)
+    again))
+
+rest_by_tells : (limit n room k : ℕ) (w : Phrase) (t : Token) (ts : List Token) (o : Option BinaryOperator) → k ≤ 5 → StandsAt (suc k) w → n + operators (suc k) w + room ≡ limit → ToldBelow limit room → operator_of t.kind ≡ o
+    → Tells (After (PhraseFor n (suc k)) (marks n w)) limit (t ∷ ts) (rest_by (below room) k (start_of w) (meant w) t ts o)
+unfolding rest_by
+rest_by_tells limit n room k w t ts None low st e told q = tells_here (After (PhraseFor n (suc k)) (marks n w)) limit (t ∷ ts) (meant w) (rw append-nil (record { phrase = w; stands = st; means = refl; spelled = refl }))
+rest_by_tells limit n room k w t ts (Some op) low st e told q =
+    elim (eqb_tells (level_of op) (suc k)) [
+      | inl h ↦ rw h.0 (operator_tells limit n room k w t ts op low st e told (ap operator_of (sym (operator_kind t.kind op q)) ∙ q) (operator_kind t.kind op q) h.1)
+      | inr h ↦ rw h.0 (tells_here (After (PhraseFor n (suc k)) (marks n w)) limit (t ∷ ts) (meant w) (rw append-nil (record { phrase = w; stands = st; means = refl; spelled = refl })))
+    ]
+
+rest_at_tells : (limit n room k : ℕ) (w : Phrase) (ts : List Token) → k ≤ 5 → StandsAt (suc k) w → n + operators (suc k) w + room ≡ limit → ToldBelow limit room
+    → Tells (After (PhraseFor n (suc k)) (marks n w)) limit ts (rest_at (below room) k (start_of w) (meant w) ts)
+unfolding rest_at
+rest_at_tells limit n room k w [] low st e told = tells_here (After (PhraseFor n (suc k)) (marks n w)) limit [] (meant w) (rw append-nil (record { phrase = w; stands = st; means = refl; spelled = refl }))
+rest_at_tells limit n room k w (t ∷ ts) low st e told = rest_by_tells limit n room k w t ts (operator_of t.kind) low st e told refl
+
+looser : (n j k : ℕ) → j ≤ k → (e : Expr) (ms : List Mark) → PhraseFor n j e ms → PhraseFor n k e ms
+looser n j k le e ms r = record { phrase = r.phrase; stands = stands_looser r.phrase j k le r.stands; means = r.means; spelled = r.spelled }
+
+-- the place of the first token, as the phrase has it
+first_place : (limit n : ℕ) (w : Phrase) (t : Token) (ts rest : List Token) (ms : List Mark) → marks n w ≡ ms → Takes limit (t ∷ ts) ms rest → t.place ≡ start_of w
+first_place limit n w t ts rest ms e takes =
+    let b = begins w n rest in
+    let same : t ∷ ts ≡ b.first ∷ b.rest = takes.tokens ∙ ap (λ l. tokens_of l ++ rest) (sym e) ∙ b.is in
+    let one : t ≡ b.first = cc in
+    ap (λ (u : Token). u.place) one ∙ b.place
+
+chain_tells_at : (limit n room : ℕ) → n + room ≡ limit → ToldBelow limit room → (k : ℕ) → k ≤ 6 → (ts : List Token) → Tells (PhraseFor n k) limit ts (chain_at (below room) k ts)
+unfolding chain_at
+chain_tells_at limit n room e told zero le ts = unary_tells limit n room ts e told
+chain_tells_at limit n room e told (suc k) le [] = tells_unexpected (PhraseFor n (suc k)) limit [] (starts_any n (suc k))
+chain_tells_at limit n room e told (suc k) le (t ∷ ts) =
+    tells_then (PhraseFor n k) (PhraseFor n (suc k)) limit (t ∷ ts) (chain_at (below room) k (t ∷ ts)) (λ left. rest_at (below room) k t.place left.0 left.1)
+    (λ x ms r. record { value = x; more = []; spelled = rw append-nil (looser n k (suc k) (omega arith) x ms r) })
+    (chain_tells_at limit n room e told k (omega (arith, le)) (t ∷ ts))
+    (λ x rest ms r takes.
+    let w = r.phrase in
+    let o = (stands_own w k r.stands).0 in
+    let none : operators (suc k) w ≡ 0 = no_operators w (suc k) (λ q. omega (arith, o, q)) in
+    let whole = rest_at_tells limit n room k w rest (omega (arith, le)) (stands_looser w k (suc k) (omega arith) r.stands) (omega (arith, e, none)) told in
+    let at_place : start_of w ≡ t.place = sym (first_place limit n w t ts rest ms r.spelled takes) in
+    subst (λ l. Tells (After (PhraseFor n (suc k)) l) limit rest (rest_at (below room) k t.place x rest)) r.spelled
+    (subst (λ y. Tells (After (PhraseFor n (suc k)) (marks n w)) limit rest (rest_at (below room) k t.place y rest)) r.means
+    (subst (λ q. Tells (After (PhraseFor n (suc k)) (marks n w)) limit rest (rest_at (below room) k q (meant w) rest)) at_place whole)))
+
+-- ---- implications and choices
+
+implies_is : (n : ℕ) (w : Phrase) (t : Token) → StandsAt 6 w → t.kind ≡ symbol signs.Implies → (e : Expr) (ms : List Mark) → Behind (record { token = t; count = n + 1 }) (PhraseFor (n + 1) 7) e ms
+    → PhraseFor n 7 (Binary (start_of w) Implies (meant w) e) (marks n w ++ ms)
+implies_is n w t st k e ms b =
+    let v = b.spelled.phrase in
+    let o = (stands_own w 6 st).0 in
+    let none : operators 7 w ≡ 0 = no_operators w 7 (λ q. omega (arith, o, q)) in
+    let count : n + operators 7 w + 1 ≡ n + 1 = omega (arith, none) in
+    record {
+      phrase = joined w t.place Implies v;
+      stands = (omega arith, st, b.spelled.stands, refl);
+      means = ap (Binary (start_of w) Implies (meant w)) b.spelled.means;
+      spelled = ap (λ c. marks n w ++ mark c t.place (symbol signs.Implies) ∷ marks c v) count ∙ ap (λ l. marks n w ++ l) (marks_is t (symbol signs.Implies) (n + 1) _ k ∙ ap (λ l. let m : Mark = record { token = t; count = n + 1 } in m ∷ l) b.spelled.spelled ∙ sym b.is);
+    }
+
+implied_tells_by : (limit n room : ℕ) (w : Phrase) (t : Token) (ts : List Token) (b : Bool) → is_symbol signs.Implies t.kind ≡ b → n + room ≡ limit → ToldBelow limit room → StandsAt 6 w
+    → Tells (After (PhraseFor n 7) (marks n w)) limit (t ∷ ts) (cond b (implies_by (below room) (start_of w) (meant w) t ts) (Ok (meant w, t ∷ ts)))
+unfolding implies_by ToldBelow
+implied_tells_by limit n room w t ts true h e told st =
+    let k = is_symbol_true signs.Implies t.kind h in
+    let m : Mark = record { token = t; count = n + 1 } in
+    let T = After (PhraseFor n 7) (marks n w) in
+    tells_then (Behind m (PhraseFor (n + 1) 7)) T limit (t ∷ ts) (below room implication (t ∷ ts) ts) (λ right. Ok (Binary (start_of w) Implies (meant w) right.0, right.1))
+    (λ x ms b. record { value = Binary (start_of w) Implies (meant w) x; more = []; spelled = rw append-nil (implies_is n w t st k x ms b) })
+    (tells_nested (PhraseFor (n + 1) 7) limit n room implication t ts e (starts_any (n + 1) 7) (λ less s. (told less s).implication_tells (n + 1) (count_down limit n room less e s) ts))
+    (λ x rest ms b takes. tells_here (After T ms) limit rest (Binary (start_of w) Implies (meant w) x) (rw append-nil (implies_is n w t st k x ms b)))
+implied_tells_by limit n room w t ts false h e told st =
+    tells_here (After (PhraseFor n 7) (marks n w)) limit (t ∷ ts) (meant w) (rw append-nil (record { phrase = w; stands = stands_looser w 6 7 (omega arith) st; means = refl; spelled = refl }))
+
+implied_tells : (limit n room : ℕ) (w : Phrase) (ts : List Token) → n + room ≡ limit → ToldBelow limit room → StandsAt 6 w → Tells (After (PhraseFor n 7) (marks n w)) limit ts (implied_by (below room) (start_of w) (meant w) ts)
+unfolding implied_by
+implied_tells limit n room w [] e told st = tells_here (After (PhraseFor n 7) (marks n w)) limit [] (meant w) (rw append-nil (record { phrase = w; stands = stands_looser w 6 7 (omega arith) st; means = refl; spelled = refl }))
+implied_tells limit n room w (t ∷ ts) e told st = implied_tells_by limit n room w t ts (is_symbol signs.Implies t.kind) refl e told st
+
+-- behind a phrase that was read from the first token on
+behind_phrase : (R : ℕ → Grammar Expr) (limit n level : ℕ) (f : Place → Expr → List Token → Read Expr) (t : Token) (ts rest : List Token) (x : Expr) (ms : List Mark) (r : PhraseFor n level x ms) → Takes limit (t ∷ ts) ms rest
+    → Tells (After (R n) (marks n r.phrase)) limit rest (f (start_of r.phrase) (meant r.phrase) rest) → Tells (After (R n) ms) limit rest (f t.place x rest)
+behind_phrase R limit n level f t ts rest x ms r takes h =
+    let at_place : start_of r.phrase ≡ t.place = sym (first_place limit n r.phrase t ts rest ms r.spelled takes) in
+    subst (λ l. Tells (After (R n) l) limit rest (f t.place x rest)) r.spelled
+    (subst (λ y. Tells (After (R n) (marks n r.phrase)) limit rest (f t.place y rest)) r.means
+    (subst (λ q. Tells (After (R n) (marks n r.phrase)) limit rest (f q (meant r.phrase) rest)) at_place h))
+
+implication_tells_at : (limit n room : ℕ) → n + room ≡ limit → ToldBelow limit room → (ts : List Token) → Tells (PhraseFor n 7) limit ts (implication_at (below room) ts)
+unfolding implication_at
+implication_tells_at limit n room e told [] = tells_unexpected (PhraseFor n 7) limit [] (starts_any n 7)
+implication_tells_at limit n room e told (t ∷ ts) =
+    tells_then (PhraseFor n 6) (PhraseFor n 7) limit (t ∷ ts) (chain_at (below room) 6 (t ∷ ts)) (λ left. implied_by (below room) t.place left.0 left.1)
+    (λ x ms r. record { value = x; more = []; spelled = rw append-nil (looser n 6 7 (omega arith) x ms r) })
+    (chain_tells_at limit n room e told 6 (omega arith) (t ∷ ts))
+    (λ x rest ms r takes. behind_phrase (λ c. PhraseFor c 7) limit n 6 (implied_by (below room)) t ts rest x ms r takes (implied_tells limit n room r.phrase rest e told r.stands))
+
+-- what stands behind a condition: the question mark and the first side, the colon, the second side
+chosen_is : (n : ℕ) (w a b : Phrase) (t : Token) (ms ks bs : List Mark) (c : Token) → StandsAt 7 w → t.kind ≡ symbol signs.Question → c.kind ≡ symbol signs.Colon → StandsAt 8 a → StandsAt 8 b
+    → (let m : Mark = record { token = t; count = n + 1 } in ms ≡ m ∷ marks (n + 1) a) → (let m : Mark = record { token = c; count = n + 1 } in ks ≡ m ∷ marks (n + 1) b)
+    → PhraseFor n 8 (Choice (start_of w) (meant w) (meant a) (meant b)) (marks n w ++ (ms ++ ks))
+chosen_is n w a b t ms ks bs c sw kt kc sa sb em ek = record {
+  phrase = chosen w t.place a c.place b;
+  stands = (omega arith, sw, sa, sb);
+  means = refl;
+  spelled = ap (λ l. marks n w ++ l) (
+      ap (λ l. mark (n + 1) t.place (symbol signs.Question) ∷ (marks (n + 1) a ++ l)) (marks_is c (symbol signs.Colon) (n + 1) _ kc ∙ sym ek)
+      ∙ ap (λ l. l ++ ks) (marks_is t (symbol signs.Question) (n + 1) _ kt ∙ sym em));
+}
+
+-- a colon, and what it nests
+record ColonThen (n : ℕ) (e : Expr) (ms : List Mark) : Type 0 where
+  colon : Token
+  kind : colon.kind ≡ symbol signs.Colon
+  behind : Behind (record { token = colon; count = n + 1 }) (PhraseFor (n + 1) 8) e ms
+
+starts_colon : (n : ℕ) → Starts (ColonThen n) []
+starts_colon n =
+    let c : Token = record { kind = symbol signs.Colon; place = somewhere } in
+    let s = starts_any (n + 1) 8 in
+    record { value = s.value; more = (let m : Mark = record { token = c; count = n + 1 } in m ∷ s.more); spelled = record { colon = c; kind = refl; behind = record { inner = s.more; is = refl; spelled = s.spelled } } }
+
+second_tells_by : (limit n room : ℕ) (c : Token) (cs : List Token) (b : Bool) → is_symbol signs.Colon c.kind ≡ b → n + room ≡ limit → ToldBelow limit room
+    → (let r : Read Token = cond b (Ok (c, cs)) (Err (Unexpected (c ∷ cs))) in Tells (ColonThen n) limit (c ∷ cs) (r >>= λ colon. below room choice (c ∷ cs) colon.1))
+unfolding ToldBelow
+second_tells_by limit n room c cs true h e told =
+    tells_as (Behind (record { token = c; count = n + 1 }) (PhraseFor (n + 1) 8)) (ColonThen n) limit (c ∷ cs) (below room choice (c ∷ cs) cs)
+    (λ x ms r. record { colon = c; kind = is_symbol_true signs.Colon c.kind h; behind = r })
+    (tells_nested (PhraseFor (n + 1) 8) limit n room choice c cs e (starts_any (n + 1) 8) (λ less s. (told less s).choice_tells (n + 1) (count_down limit n room less e s) cs))
+second_tells_by limit n room c cs false h e told = tells_unexpected (ColonThen n) limit (c ∷ cs) (starts_colon n)
+
+second_tells : (limit n room : ℕ) (us : List Token) → n + room ≡ limit → ToldBelow limit room → Tells (ColonThen n) limit us (second_by (below room) us)
+unfolding second_by expect
+second_tells limit n room [] e told = tells_unexpected (ColonThen n) limit [] (starts_colon n)
+second_tells limit n room (c ∷ cs) e told = second_tells_by limit n room c cs (is_symbol signs.Colon c.kind) refl e told
+
+sides_tells : (limit n room : ℕ) (w : Phrase) (t : Token) (ts : List Token) → n + room ≡ limit → ToldBelow limit room → StandsAt 7 w → t.kind ≡ symbol signs.Question
+    → Tells (After (PhraseFor n 8) (marks n w)) limit (t ∷ ts) (sides_by (below room) (start_of w) (meant w) t ts)
+unfolding sides_by ToldBelow
+sides_tells limit n room w t ts e told st k =
+    let m : Mark = record { token = t; count = n + 1 } in
+    let T = After (PhraseFor n 8) (marks n w) in
+    let R = Behind m (PhraseFor (n + 1) 8) in
+    let both : (x : Expr) (ms : List Mark) → R x ms → (y : Expr) (ks : List Mark) → ColonThen n y ks → T (Choice (start_of w) (meant w) x y) (ms ++ ks) =
+    λ x ms r y ks s.
+    subst (λ u. T (Choice (start_of w) (meant w) u y) (ms ++ ks)) r.spelled.means
+    (subst (λ v. T (Choice (start_of w) (meant w) (meant r.spelled.phrase) v) (ms ++ ks)) s.behind.spelled.means
+    (chosen_is n w r.spelled.phrase s.behind.spelled.phrase t ms ks ks s.colon st k s.kind r.spelled.stands s.behind.spelled.stands
+    (r.is ∙ ap (λ l. m ∷ l) (sym r.spelled.spelled))
+    (s.behind.is ∙ ap (λ l. let c : Mark = record { token = s.colon; count = n + 1 } in c ∷ l) (sym s.behind.spelled.spelled)))) in
+    tells_then R T limit (t ∷ ts) (below room choice (t ∷ ts) ts) (λ first. second_by (below room) first.1 >>= λ second. Ok (Choice (start_of w) (meant w) first.0 second.0, second.1))
+    (λ x ms r. let s = starts_colon n in record { value = Choice (start_of w) (meant w) x s.value; more = s.more; spelled = both x ms r s.value s.more s.spelled })
+    (tells_nested (PhraseFor (n + 1) 8) limit n room choice t ts e (starts_any (n + 1) 8) (λ less s. (told less s).choice_tells (n + 1) (count_down limit n room less e s) ts))
+    (λ x rest ms r takes.
+    (tells_then (ColonThen n) (After T ms) limit rest (second_by (below room) rest) (λ second. Ok (Choice (start_of w) (meant w) x second.0, second.1))
+    (λ y ks s. record { value = Choice (start_of w) (meant w) x y; more = []; spelled = rw append-nil (both x ms r y ks s) })
+    (second_tells limit n room rest e told)
+    (λ y after ks s takes'. tells_here (After (After T ms) ks) limit after (Choice (start_of w) (meant w) x y) (rw append-nil (both x ms r y ks s)))))
+
+chosen_tells_by : (limit n room : ℕ) (w : Phrase) (t : Token) (ts : List Token) (b : Bool) → is_symbol signs.Question t.kind ≡ b → n + room ≡ limit → ToldBelow limit room → StandsAt 7 w
+    → Tells (After (PhraseFor n 8) (marks n w)) limit (t ∷ ts) (cond b (sides_by (below room) (start_of w) (meant w) t ts) (Ok (meant w, t ∷ ts)))
+chosen_tells_by limit n room w t ts true h e told st = sides_tells limit n room w t ts e told st (is_symbol_true signs.Question t.kind h)
+chosen_tells_by limit n room w t ts false h e told st = tells_here (After (PhraseFor n 8) (marks n w)) limit (t ∷ ts) (meant w) (rw append-nil (record { phrase = w; stands = stands_looser w 7 8 (omega arith) st; means = refl; spelled = refl }))
+
+chosen_tells : (limit n room : ℕ) (w : Phrase) (ts : List Token) → n + room ≡ limit → ToldBelow limit room → StandsAt 7 w → Tells (After (PhraseFor n 8) (marks n w)) limit ts (chosen_by (below room) (start_of w) (meant w) ts)
+unfolding chosen_by
+chosen_tells limit n room w [] e told st = tells_here (After (PhraseFor n 8) (marks n w)) limit [] (meant w) (rw append-nil (record { phrase = w; stands = stands_looser w 7 8 (omega arith) st; means = refl; spelled = refl }))
+chosen_tells limit n room w (t ∷ ts) e told st = chosen_tells_by limit n room w t ts (is_symbol signs.Question t.kind) refl e told st
+
+choice_tells_at : (limit n room : ℕ) → n + room ≡ limit → ToldBelow limit room → (ts : List Token) → Tells (PhraseFor n 8) limit ts (choice_at (below room) ts)
+unfolding choice_at
+choice_tells_at limit n room e told [] = tells_unexpected (PhraseFor n 8) limit [] (starts_any n 8)
+choice_tells_at limit n room e told (t ∷ ts) =
+    tells_then (PhraseFor n 7) (PhraseFor n 8) limit (t ∷ ts) (implication_at (below room) (t ∷ ts)) (λ condition. chosen_by (below room) t.place condition.0 condition.1)
+    (λ x ms r. record { value = x; more = []; spelled = rw append-nil (looser n 7 8 (omega arith) x ms r) })
+    (implication_tells_at limit n room e told (t ∷ ts))
+    (λ x rest ms r takes. behind_phrase (λ c. PhraseFor c 8) limit n 7 (chosen_by (below room)) t ts rest x ms r takes (chosen_tells limit n room r.phrase rest e told r.stands))
+
+-- ---- at every room
+
+told_from : (limit room : ℕ) → ToldBelow limit room → Told limit room
+told_from limit room told = record {
+  choice_tells = λ n e ts. choice_tells_at limit n room e told ts;
+  implication_tells = λ n e ts. implication_tells_at limit n room e told ts;
+  chain_tells = λ n e k le ts. chain_tells_at limit n room e told k le ts;
+  rest_tells = λ n k w low st e ts. rest_at_tells limit n room k w ts low st e told;
+}
+
+told_at : (limit room : ℕ) → Told limit room
+unfolding ToldBelow
+told_at limit zero = told_from limit zero (λ less e. absurd (omega (arith, e)))
+told_at limit (suc room) = told_from limit (suc room) (λ less e. let same : room ≡ less = omega (arith, e) in subst (Told limit) same (told_at limit room))
+
+-- what reading an expression tells
+pub reading_tells : (limit n room : ℕ) (ts : List Token) → n + room ≡ limit → Tells (PhraseFor n 8) limit ts (choice_at (below room) ts)
+reading_tells limit n room ts e = (told_at limit room).choice_tells n e ts

@@ -1,0 +1,156 @@
+-- What an answer of reading tells of the tokens, for any part of the grammar.
+use Rattle.std.proofs.Common.{◌≡◌, ℕ, ◌≤◌, ◌<◌, List, [], ◌∷◌, ◌++◌, Bool, true, false, Ok, Err, refl, sym, ap, subst, ◌∙◌, append_assoc, cond}
+use Rattle.std.proofs.lemmas.List.{append-nil}
+use Rattle.vx_ast.specs.declared.Place.{Place}
+use Rattle.vx_tokens.specs.declared.token.Symbol.{Symbol}
+use Rattle.vx_tokens.specs.Tokens.{Token, Kind, symbol}
+use Rattle.vx_grammar.specs.Grammar.{Mark, mark, tokens_of}
+use Rattle.vx_grammar.specs.Reading.{◌>>=◌, Read, Unexpected, TooDeep, expect, is_symbol}
+use Rattle.vx_grammar.specs.Laws.{Within}
+use Rattle.vx_grammar.proofs.Lists.{tokens-append, within-append}
+use Rattle.vx_grammar.proofs.Symbols.{is_symbol_true}
+
+-- which marks spell which values
+abbrev pub Grammar : Type 0 → Type 1
+Grammar A = A → List Mark → Type 0
+
+-- some value is spelled by marks that begin so
+pub record Starts {A : Type 0} (R : Grammar A) (ms : List Mark) : Type 0 where
+  pub value : A
+  pub more : List Mark
+  pub spelled : R value (ms ++ more)
+
+-- the tokens up to the rest, within the limit
+pub record Takes (limit : ℕ) (ts : List Token) (ms : List Mark) (rest : List Token) : Type 0 where
+  pub within : Within limit ms
+  pub tokens : ts ≡ tokens_of ms ++ rest
+
+pub record TellsOk {A : Type 0} (R : Grammar A) (limit : ℕ) (ts : List Token) (x : A) (rest : List Token) : Type 0 where
+  pub marks : List Mark
+  pub takes : Takes limit ts marks rest
+  pub spelled : R x marks
+
+pub record TellsUnexpected {A : Type 0} (R : Grammar A) (limit : ℕ) (ts : List Token) (rest : List Token) : Type 0 where
+  pub marks : List Mark
+  pub takes : Takes limit ts marks rest
+  pub starts : Starts R marks
+
+pub record TellsTooDeep {A : Type 0} (R : Grammar A) (limit : ℕ) (ts : List Token) (rest : List Token) : Type 0 where
+  pub marks : List Mark
+  pub takes : Takes limit ts marks rest
+  pub deep : Mark
+  pub after : List Token
+  pub first : rest ≡ deep.token ∷ after
+  pub count : limit < deep.count
+  pub starts : Starts R (marks ++ deep ∷ [])
+
+abbrev pub Tells : {A : Type 0} → Grammar A → ℕ → List Token → Read A → Type 0
+Tells R limit ts (Ok x) = TellsOk R limit ts x.0 x.1
+Tells R limit ts (Err (Unexpected rest)) = TellsUnexpected R limit ts rest
+Tells R limit ts (Err (TooDeep rest)) = TellsTooDeep R limit ts rest
+
+-- what may stand behind these marks
+abbrev pub After : {B : Type 0} → Grammar B → List Mark → Grammar B
+After T ms y more = T y (ms ++ more)
+
+-- whatever is spelled by the first part can be gone on with
+abbrev pub GoesOn : {A B : Type 0} → Grammar A → Grammar B → Type 0
+GoesOn {A = A} R T = (x : A) (ms : List Mark) → R x ms → Starts T ms
+
+pub takes_then : (limit : ℕ) (ts us vs : List Token) (ms ns : List Mark) → Takes limit ts ms us → Takes limit us ns vs → Takes limit ts (ms ++ ns) vs
+takes_then limit ts us vs ms ns a b = record {
+  within = within-append limit ms ns a.within b.within;
+  tokens = a.tokens ∙ ap (λ l. tokens_of ms ++ l) b.tokens ∙ sym (append_assoc (tokens_of ms) (tokens_of ns) vs) ∙ ap (λ l. l ++ vs) (sym (tokens-append ms ns));
+}
+
+pub takes_none : (limit : ℕ) (ts : List Token) → Takes limit ts [] ts
+takes_none limit ts = record { within = tt; tokens = refl }
+
+starts_along : {A : Type 0} (R : Grammar A) (ms ns : List Mark) → ms ≡ ns → Starts R ms → Starts R ns
+starts_along R ms ns e s = subst (Starts R) e s
+
+-- marks that begin the first part begin the whole
+starts_first : {A B : Type 0} (R : Grammar A) (T : Grammar B) (ms : List Mark) → GoesOn R T → Starts R ms → Starts T ms
+starts_first R T ms g s =
+    let t = g s.value (ms ++ s.more) s.spelled in
+    record { value = t.value; more = s.more ++ t.more; spelled = rw (← append_assoc ms s.more t.more) t.spelled }
+
+-- marks that begin what stands behind others
+starts_behind : {B : Type 0} (T : Grammar B) (ms ns : List Mark) → Starts (After T ms) ns → Starts T (ms ++ ns)
+starts_behind T ms ns s = record { value = s.value; more = s.more; spelled = rw (append_assoc ms ns s.more) s.spelled }
+
+pub tells_behind : {B : Type 0} (T : Grammar B) (limit : ℕ) (ts us : List Token) (ms : List Mark) → Takes limit ts ms us → (r : Read B) → Tells (After T ms) limit us r → Tells T limit ts r
+tells_behind T limit ts us ms a (Ok x) h = record {
+  marks = ms ++ h.marks;
+  takes = takes_then limit ts us x.1 ms h.marks a h.takes;
+  spelled = h.spelled;
+}
+tells_behind T limit ts us ms a (Err (Unexpected rest)) h = record {
+  marks = ms ++ h.marks;
+  takes = takes_then limit ts us rest ms h.marks a h.takes;
+  starts = starts_behind T ms h.marks h.starts;
+}
+tells_behind T limit ts us ms a (Err (TooDeep rest)) h = record {
+  marks = ms ++ h.marks;
+  takes = takes_then limit ts us rest ms h.marks a h.takes;
+  deep = h.deep;
+  after = h.after;
+  first = h.first;
+  count = h.count;
+  starts = starts_along T (ms ++ (h.marks ++ h.deep ∷ [])) ((ms ++ h.marks) ++ h.deep ∷ []) (sym (append_assoc ms h.marks (h.deep ∷ []))) (starts_behind T ms (h.marks ++ h.deep ∷ []) h.starts);
+}
+
+pub tells_then : {A B : Type 0} (R : Grammar A) (T : Grammar B) (limit : ℕ) (ts : List Token) (r : Read A) (f : A × List Token → Read B) → GoesOn R T → Tells R limit ts r
+    → ((x : A) (rest : List Token) (ms : List Mark) → R x ms → Takes limit ts ms rest → Tells (After T ms) limit rest (f (x, rest)))
+    → Tells T limit ts (r >>= f)
+tells_then R T limit ts (Ok x) f g h k = tells_behind T limit ts x.1 h.marks h.takes (f x) (k x.0 x.1 h.marks h.spelled h.takes)
+tells_then R T limit ts (Err (Unexpected rest)) f g h k = record { marks = h.marks; takes = h.takes; starts = starts_first R T h.marks g h.starts }
+tells_then R T limit ts (Err (TooDeep rest)) f g h k = record {
+  marks = h.marks;
+  takes = h.takes;
+  deep = h.deep;
+  after = h.after;
+  first = h.first;
+  count = h.count;
+  starts = starts_first R T (h.marks ++ h.deep ∷ []) g h.starts;
+}
+
+-- one grammar in the place of another
+pub tells_as : {A : Type 0} (R S : Grammar A) (limit : ℕ) (ts : List Token) (r : Read A) → ((x : A) (ms : List Mark) → R x ms → S x ms) → Tells R limit ts r → Tells S limit ts r
+tells_as R S limit ts (Ok x) f h = record { marks = h.marks; takes = h.takes; spelled = f x.0 h.marks h.spelled }
+tells_as R S limit ts (Err (Unexpected rest)) f h = record { marks = h.marks; takes = h.takes; starts = starts_first R S h.marks (λ x ms s. record { value = x; more = []; spelled = rw append-nil (f x ms s) }) h.starts }
+tells_as R S limit ts (Err (TooDeep rest)) f h = record { marks = h.marks; takes = h.takes; deep = h.deep; after = h.after; first = h.first; count = h.count; starts = starts_first R S (h.marks ++ h.deep ∷ []) (λ x ms s. record { value = x; more = []; spelled = rw append-nil (f x ms s) }) h.starts }
+
+-- nothing is taken
+pub tells_here : {A : Type 0} (R : Grammar A) (limit : ℕ) (ts : List Token) (x : A) → R x [] → Tells R limit ts (Ok (x, ts))
+tells_here R limit ts x h = record { marks = []; takes = takes_none limit ts; spelled = h }
+
+pub tells_unexpected : {A : Type 0} (R : Grammar A) (limit : ℕ) (ts : List Token) → Starts R [] → Tells R limit ts (Err (Unexpected ts))
+tells_unexpected R limit ts s = record { marks = []; takes = takes_none limit ts; starts = s }
+
+-- one token is taken
+pub tells_token : {A : Type 0} (R : Grammar A) (limit : ℕ) (m : Mark) (ts : List Token) (x : A) → m.count ≤ limit → R x (m ∷ []) → Tells R limit (m.token ∷ ts) (Ok (x, ts))
+tells_token R limit m ts x le h = record { marks = m ∷ []; takes = record { within = (le, tt); tokens = refl }; spelled = h }
+
+-- a symbol at a nesting count
+abbrev pub Sign : ℕ → Symbol → Grammar Token
+Sign n s t ms = (p : Place) × (t ≡ record { kind = symbol s; place = p }) × (ms ≡ mark n p (symbol s) ∷ [])
+
+somewhere : Place
+somewhere = record { line = 0; column = 0 }
+
+pub starts_sign : (n : ℕ) (s : Symbol) → Starts (Sign n s) []
+starts_sign n s = record { value = record { kind = symbol s; place = somewhere }; more = mark n somewhere (symbol s) ∷ []; spelled = (somewhere, refl, refl) }
+
+tells_expect_by : (n : ℕ) (s : Symbol) (limit : ℕ) (t : Token) (ts : List Token) (b : Bool) → is_symbol s t.kind ≡ b → n ≤ limit → Tells (Sign n s) limit (t ∷ ts) (cond b (Ok (t, ts)) (Err (Unexpected (t ∷ ts))))
+tells_expect_by n s limit t ts true e le =
+    let k : t.kind ≡ symbol s = is_symbol_true s t.kind e in
+    let m : Mark = record { token = t; count = n } in
+    let same : t ≡ record { kind = symbol s; place = t.place } = ap (λ (x : Kind). let u : Token = record { kind = x; place = t.place } in u) k in
+    tells_token (Sign n s) limit m ts t le (t.place, same, ap (λ (u : Token). let v : List Mark = record { token = u; count = n } ∷ [] in v) same)
+tells_expect_by n s limit t ts false e le = tells_unexpected (Sign n s) limit (t ∷ ts) (starts_sign n s)
+
+pub tells_expect : (n : ℕ) (s : Symbol) (limit : ℕ) (ts : List Token) → n ≤ limit → Tells (Sign n s) limit ts (expect s ts)
+unfolding expect
+tells_expect n s limit [] le = tells_unexpected (Sign n s) limit [] (starts_sign n s)
+tells_expect n s limit (t ∷ ts) le = tells_expect_by n s limit t ts (is_symbol s t.kind) refl le

@@ -1,0 +1,190 @@
+-- Which tokens spell which expressions: the grammar of Viper (VMCAI 2016) in this profile.
+use Rattle.std.specs.Prelude.{◌≡◌, ℕ, ◌+◌, ◌≤◌, List, [], ◌∷◌, ◌++◌, map, Bool, true, false, if◌then◌else◌, ◌==◌, Option, Some, None}
+use Rattle.vx_ast.specs.declared.Place.{Place}
+use Rattle.vx_tokens.specs.declared.token.Word.{Word}
+use Rattle.vx_tokens.specs.declared.token.Word.TheVariants as words
+use Rattle.vx_tokens.specs.declared.token.Symbol.{Symbol}
+use Rattle.vx_tokens.specs.declared.token.Symbol.TheVariants as signs
+use Rattle.vx_ast.specs.declared.UnaryOperator.{UnaryOperator}
+use Rattle.vx_ast.specs.declared.UnaryOperator.TheVariants.{Not, Negate}
+use Rattle.vx_ast.specs.declared.BinaryOperator.{BinaryOperator}
+use Rattle.vx_ast.specs.declared.BinaryOperator.TheVariants.{Implies, Or, And, Equal, NotEqual, Less, LessEqual, Greater, GreaterEqual, Add, Subtract, Multiply, Divide, Quotient, Remainder}
+use Rattle.vx_tokens.specs.Tokens.{Kind, name, number, word, symbol, Token}
+use Rattle.vx_ast.specs.Written.{Expr, Truth, Number, Variable, Unary, Binary, Choice}
+
+-- ---- operators
+
+abbrev pub sign_of : BinaryOperator → Symbol
+sign_of Implies = signs.Implies
+sign_of Or = signs.Or
+sign_of And = signs.And
+sign_of Equal = signs.Equal
+sign_of NotEqual = signs.NotEqual
+sign_of Less = signs.Less
+sign_of LessEqual = signs.LessEqual
+sign_of Greater = signs.Greater
+sign_of GreaterEqual = signs.GreaterEqual
+sign_of Add = signs.Plus
+sign_of Subtract = signs.Minus
+sign_of Multiply = signs.Times
+sign_of Divide = signs.Slash
+sign_of Quotient = signs.Backslash
+sign_of Remainder = signs.Percent
+
+-- the operator that a sign between two operands stands for
+abbrev pub operator_of : Kind → Option BinaryOperator
+operator_of (symbol signs.Implies) = Some Implies
+operator_of (symbol signs.Or) = Some Or
+operator_of (symbol signs.And) = Some And
+operator_of (symbol signs.Equal) = Some Equal
+operator_of (symbol signs.NotEqual) = Some NotEqual
+operator_of (symbol signs.Less) = Some Less
+operator_of (symbol signs.LessEqual) = Some LessEqual
+operator_of (symbol signs.Greater) = Some Greater
+operator_of (symbol signs.GreaterEqual) = Some GreaterEqual
+operator_of (symbol signs.Plus) = Some Add
+operator_of (symbol signs.Minus) = Some Subtract
+operator_of (symbol signs.Times) = Some Multiply
+operator_of k = None
+
+-- the operators that can be written
+abbrev pub IsWritten : BinaryOperator → Type 0
+IsWritten op = operator_of (symbol (sign_of op)) ≡ Some op
+
+abbrev pub prefix_sign : UnaryOperator → Symbol
+prefix_sign Not = signs.Not
+prefix_sign Negate = signs.Minus
+
+abbrev pub literal_word : Bool → Word
+literal_word true = words.True
+literal_word false = words.False
+
+-- How loosely an operator binds. A part that stands alone or behind a prefix has level 0, and a choice level 8.
+abbrev pub level_of : BinaryOperator → ℕ
+level_of Remainder = 1
+level_of Quotient = 1
+level_of Divide = 1
+level_of Multiply = 1
+level_of Subtract = 2
+level_of Add = 2
+level_of GreaterEqual = 3
+level_of Greater = 3
+level_of LessEqual = 3
+level_of Less = 3
+level_of NotEqual = 4
+level_of Equal = 4
+level_of And = 5
+level_of Or = 6
+level_of Implies = 7
+
+-- the levels of the two operands: repeated operators of one level group to the left, and implications to the right
+abbrev pub left_level : BinaryOperator → ℕ
+left_level Implies = 6
+left_level Or = 6
+left_level And = 5
+left_level Equal = 4
+left_level NotEqual = 4
+left_level Less = 3
+left_level LessEqual = 3
+left_level Greater = 3
+left_level GreaterEqual = 3
+left_level Add = 2
+left_level Subtract = 2
+left_level Multiply = 1
+left_level Divide = 1
+left_level Quotient = 1
+left_level Remainder = 1
+
+abbrev pub right_level : BinaryOperator → ℕ
+right_level Implies = 7
+right_level Or = 5
+right_level And = 4
+right_level Equal = 3
+right_level NotEqual = 3
+right_level Less = 2
+right_level LessEqual = 2
+right_level Greater = 2
+right_level GreaterEqual = 2
+right_level Add = 1
+right_level Subtract = 1
+right_level Multiply = 0
+right_level Divide = 0
+right_level Quotient = 0
+right_level Remainder = 0
+
+-- ---- an expression as it is written, with its parentheses and the place of each token
+
+pub data Phrase : Type 0 where
+  literal : Place → Bool → Phrase
+  numeral : Place → ℕ → Phrase
+  named : Place → List ℕ → Phrase
+  grouped : Place → Phrase → Place → Phrase
+  prefixed : Place → UnaryOperator → Phrase → Phrase
+  joined : Phrase → Place → BinaryOperator → Phrase → Phrase
+  chosen : Phrase → Place → Phrase → Place → Phrase → Phrase
+
+-- the place of the first token
+abbrev pub start_of : Phrase → Place
+start_of (literal p b) = p
+start_of (numeral p n) = p
+start_of (named p x) = p
+start_of (grouped p e q) = p
+start_of (prefixed p op e) = p
+start_of (joined a p op b) = start_of a
+start_of (chosen c p a q b) = start_of c
+
+-- the expression that is meant
+abbrev pub meant : Phrase → Expr
+meant (literal p b) = Truth p b
+meant (numeral p n) = Number p n
+meant (named p x) = Variable p x
+meant (grouped p e q) = meant e
+meant (prefixed p op e) = Unary p op (meant e)
+meant (joined a p op b) = Binary (start_of a) op (meant a) (meant b)
+meant (chosen c p a q b) = Choice (start_of c) (meant c) (meant a) (meant b)
+
+-- a phrase may stand where the grammar asks for a level
+abbrev pub StandsAt : ℕ → Phrase → Type 0
+StandsAt level (literal p b) = Unit {0}
+StandsAt level (numeral p n) = Unit {0}
+StandsAt level (named p x) = Unit {0}
+StandsAt level (grouped p e q) = StandsAt 8 e
+StandsAt level (prefixed p op e) = StandsAt 0 e
+StandsAt level (joined a p op b) = (level_of op ≤ level) × StandsAt (left_level op) a × StandsAt (right_level op) b × IsWritten op
+StandsAt level (chosen c p a q b) = (8 ≤ level) × StandsAt 7 c × StandsAt 8 a × StandsAt 8 b
+
+-- ---- tokens, each with its nesting count
+
+pub record Mark : Type 0 where
+  pub token : Token
+  pub count : ℕ
+
+abbrev pub mark : ℕ → Place → Kind → Mark
+mark n p k = record { token = record { kind = k; place = p }; count = n }
+
+-- the operators so far of a chain of one level, up to its end
+abbrev pub operators : ℕ → Phrase → ℕ
+operators level (joined a p op b) = if level_of op == level then operators level a + 1 else 0
+operators level (literal p b) = 0
+operators level (numeral p n) = 0
+operators level (named p x) = 0
+operators level (grouped p e q) = 0
+operators level (prefixed p op e) = 0
+operators level (chosen c p a q b) = 0
+
+-- The tokens of a phrase that stands at nesting count n. A parenthesis, a prefix, a right operand of an
+-- implication or a choice nests one deeper, and a right operand in a chain as deep as there are operators so far.
+abbrev pub marks : ℕ → Phrase → List Mark
+marks n (literal p b) = mark n p (word (literal_word b)) ∷ []
+marks n (numeral p m) = mark n p (number m) ∷ []
+marks n (named p x) = mark n p (name x) ∷ []
+marks n (grouped p e q) = mark (n + 1) p (symbol signs.Open) ∷ (marks (n + 1) e ++ mark (n + 1) q (symbol signs.Close) ∷ [])
+marks n (prefixed p op e) = mark (n + 1) p (symbol (prefix_sign op)) ∷ marks (n + 1) e
+marks n (joined a p op b) =
+    let deep = n + operators (level_of op) a + 1 in
+    marks n a ++ mark deep p (symbol (sign_of op)) ∷ marks deep b
+marks n (chosen c p a q b) =
+    marks n c ++ mark (n + 1) p (symbol signs.Question) ∷ (marks (n + 1) a ++ mark (n + 1) q (symbol signs.Colon) ∷ marks (n + 1) b)
+
+abbrev pub tokens_of : List Mark → List Token
+tokens_of ms = map (λ m. m.token) ms

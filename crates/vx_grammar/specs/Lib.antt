@@ -1,0 +1,7 @@
+pub mod Grammar
+pub mod Reading
+pub mod Loops
+pub mod StmtReading
+pub mod MemberReading
+pub mod Nesting
+pub mod Laws

@@ -1,0 +1,153 @@
+-- Reading members from left to right.
+use Rattle.std.specs.Prelude.{ℕ, zero, suc, ◌-◌, List, [], ◌∷◌, ◌++◌, length, nat_le, nat_lt, Result, Ok, Err, Some, None, Bool, true, false, if◌then◌else◌}
+use Rattle.vx_ast.specs.declared.Place.{Place}
+use Rattle.vx_tokens.specs.declared.token.Word.TheVariants as words
+use Rattle.vx_tokens.specs.declared.token.Symbol.TheVariants as signs
+use Rattle.vx_tokens.specs.Tokens.{Kind, word, Token}
+use Rattle.vx_ast.specs.Written.{Expr, Exprs, NoMore, More, Declaration, Block, IsMethod, Member, Program}
+use Rattle.vx_grammar.specs.Loops.{Turn, run}
+use Rattle.vx_grammar.specs.Reading.{Stop, TooDeep, Read, ◌>>=◌, is_symbol, expect, choice_at, below}
+use Rattle.vx_grammar.specs.StmtReading.{name_at, declaration_at, block_at, stmts_below, skip_semicolon}
+
+-- the nesting limit
+abbrev pub limit : ℕ
+limit = 200
+
+-- ---- parameters
+
+-- one declaration more, behind a comma
+unfoldable pub declaration_turn : Turn (List Declaration)
+declaration_turn before [] = Ok (None, [])
+declaration_turn before (t ∷ ts) =
+    if is_symbol signs.Comma t.kind then (do
+      d ← declaration_at ts
+      Ok (Some (before ++ d.0 ∷ []), d.1))
+    else Ok (None, t ∷ ts)
+
+-- one declaration at least
+unfoldable pub declarations_at : List Token → Read (List Declaration)
+declarations_at ts = do
+  d ← declaration_at ts
+  run declaration_turn (length d.1) (d.0 ∷ []) d.1
+
+abbrev pub is_closing : List Token → Bool
+is_closing [] = false
+is_closing (t ∷ ts) = is_symbol signs.Close t.kind
+
+-- between the parentheses
+unfoldable pub inner_parameters_at : List Token → Read (List Declaration)
+inner_parameters_at ts = if is_closing ts then Ok ([], ts) else declarations_at ts
+
+unfoldable pub parameters_at : List Token → Read (List Declaration)
+parameters_at ts = do
+  opened ← expect signs.Open ts
+  ds ← inner_parameters_at opened.1
+  close ← expect signs.Close ds.1
+  Ok (ds.0, close.1)
+
+abbrev pub begins_returns : Kind → Bool
+begins_returns (word words.Returns) = true
+begins_returns k = false
+
+unfoldable pub returns_at : List Token → Read (List Declaration)
+returns_at [] = Ok ([], [])
+returns_at (t ∷ ts) = if begins_returns t.kind then parameters_at ts else Ok ([], t ∷ ts)
+
+-- ---- clauses
+
+pub record Clauses : Type 0 where
+  pub requires : List Expr
+  pub ensures : List Expr
+
+abbrev pub no_clauses : Clauses
+no_clauses = record { requires = []; ensures = [] }
+
+abbrev pub with_requires : Clauses → Expr → Clauses
+with_requires c e = record { requires = c.requires ++ e ∷ []; ensures = c.ensures }
+
+abbrev pub with_ensures : Clauses → Expr → Clauses
+with_ensures c e = record { requires = c.requires; ensures = c.ensures ++ e ∷ [] }
+
+abbrev pub begins_requires : Kind → Bool
+begins_requires (word words.Requires) = true
+begins_requires k = false
+
+abbrev pub begins_ensures : Kind → Bool
+begins_ensures (word words.Ensures) = true
+begins_ensures k = false
+
+-- a clause behind so many of its kind, each of which nests it
+unfoldable pub clause_at : ℕ → List Token → List Token → Read Expr
+clause_at before here ts = if nat_le before limit then choice_at (below (limit - before)) ts else Err (TooDeep here)
+
+-- one clause more
+unfoldable pub clause_turn : Turn Clauses
+clause_turn before [] = Ok (None, [])
+clause_turn before (t ∷ ts) =
+    if begins_requires t.kind then (do
+      e ← clause_at (length before.requires) (t ∷ ts) ts
+      Ok (Some (with_requires before e.0), skip_semicolon e.1))
+    else (if begins_ensures t.kind then (do
+      e ← clause_at (length before.ensures) (t ∷ ts) ts
+      Ok (Some (with_ensures before e.0), skip_semicolon e.1))
+    else Ok (None, t ∷ ts))
+
+unfoldable pub clauses_at : List Token → Read Clauses
+clauses_at ts = run clause_turn (length ts) no_clauses ts
+
+abbrev pub exprs_from : List Expr → Exprs
+exprs_from [] = NoMore
+exprs_from (e ∷ es) = More e (exprs_from es)
+
+-- ---- members
+
+abbrev pub method_of : Place → List ℕ → List Declaration → List Declaration → Clauses → Block → Member
+method_of place x parameters returns clauses body = record {
+  place = place;
+  name = x;
+  kind = IsMethod record { parameters = parameters; returns = returns; requires = exprs_from clauses.requires; ensures = exprs_from clauses.ensures; body = Some body };
+}
+
+-- behind a `method`
+unfoldable pub method_at : Place → List Token → Read Member
+method_at place ts = do
+  x ← name_at ts
+  parameters ← parameters_at x.1
+  returns ← returns_at parameters.1
+  clauses ← clauses_at returns.1
+  body ← block_at (stmts_below limit) clauses.1
+  Ok (method_of place x.0 parameters.0 returns.0 clauses.0 body.0, body.1)
+
+-- ---- programs
+
+-- where reading members stops: inside a member, where a member is due, or at one too many
+pub data Halt : Type 0 where
+  inside : Stop → Halt
+  no_member : List Token → Halt
+  too_many : List Token → Halt
+
+abbrev pub max_members : ℕ
+max_members = 65536
+
+abbrev pub begins_member : Kind → Bool
+begins_member (word words.Method) = true
+begins_member k = false
+
+abbrev pub then_members : Read Member → (Member → List Token → Result Program Halt) → Result Program Halt
+then_members (Ok x) go = go x.0 x.1
+then_members (Err stop) go = Err (inside stop)
+
+-- members behind so many, up to the end of the tokens, with at most so many turns
+unfoldable pub members_by : ℕ → List Member → List Token → Result Program Halt
+members_by most before [] = Ok before
+members_by zero before (t ∷ ts) = Err (no_member (t ∷ ts))
+members_by (suc most) before (t ∷ ts) =
+    if begins_member t.kind then (
+    if nat_lt (length before) max_members
+    then then_members (method_at t.place ts) (λ m after. members_by most (before ++ m ∷ []) (skip_semicolon after))
+    else Err (too_many (t ∷ ts)))
+    else Err (no_member (t ∷ ts))
+
+-- each member takes a token at least
+unfoldable pub members_at : List Token → Result Program Halt
+members_at ts = members_by (length ts) [] ts

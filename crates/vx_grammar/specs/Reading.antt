@@ -1,0 +1,179 @@
+-- Reading from left to right, up to the first token that doesn't fit.
+use Rattle.std.specs.Prelude.{ℕ, zero, suc, List, [], ◌∷◌, Option, Some, None, Result, Ok, Err, Bool, true, false, if◌then◌else◌, ◌==◌}
+use Rattle.vx_ast.specs.declared.Place.{Place}
+use Rattle.vx_tokens.specs.declared.token.Word.TheVariants as words
+use Rattle.vx_tokens.specs.declared.token.Symbol.{Symbol}
+use Rattle.vx_tokens.specs.declared.token.Symbol.TheVariants as signs
+use Rattle.vx_ast.specs.declared.UnaryOperator.TheVariants.{Not, Negate}
+use Rattle.vx_ast.specs.declared.BinaryOperator.{BinaryOperator}
+use Rattle.vx_ast.specs.declared.BinaryOperator.TheVariants.{Implies}
+use Rattle.vx_tokens.specs.Tokens.{Kind, name, number, word, symbol, Token}
+use Rattle.vx_ast.specs.Written.{Expr, Truth, Number, Variable, Unary, Binary, Choice}
+use Rattle.vx_grammar.specs.Grammar.{level_of, operator_of}
+
+-- Where reading stops. The list begins with the token that doesn't fit, or nests too deep, and is empty at the end.
+pub data Stop : Type 0 where
+  Unexpected : List Token → Stop
+  TooDeep : List Token → Stop
+
+-- what was read, and the tokens after it
+abbrev pub Read : Type 0 → Type 0
+Read A = Result (A × List Token) Stop
+
+infixl 10 ◌>>=◌
+abbrev pub ◌>>=◌ : {A B : Type 0} → Result A Stop → (A → Result B Stop) → Result B Stop
+(Ok x) >>= f = f x
+(Err e) >>= f = Err e
+
+-- ---- single tokens
+
+-- a number for each symbol
+abbrev pub code : Symbol → ℕ
+code signs.Implies = 0
+code signs.Wand = 1
+code signs.Equal = 2
+code signs.NotEqual = 3
+code signs.LessEqual = 4
+code signs.GreaterEqual = 5
+code signs.Becomes = 6
+code signs.And = 7
+code signs.Or = 8
+code signs.Open = 9
+code signs.Close = 10
+code signs.OpenBrace = 11
+code signs.CloseBrace = 12
+code signs.OpenBracket = 13
+code signs.Comma = 14
+code signs.Colon = 15
+code signs.Semicolon = 16
+code signs.Question = 17
+code signs.Not = 18
+code signs.Less = 19
+code signs.Greater = 20
+code signs.Plus = 21
+code signs.Minus = 22
+code signs.Times = 23
+code signs.Slash = 24
+code signs.Backslash = 25
+code signs.Percent = 26
+code signs.Dot = 27
+code signs.At = 28
+
+abbrev pub is_symbol : Symbol → Kind → Bool
+is_symbol s (symbol t) = code s == code t
+is_symbol s (word w) = false
+is_symbol s (name x) = false
+is_symbol s (number n) = false
+
+unfoldable pub expect : Symbol → List Token → Read Token
+expect s [] = Err (Unexpected [])
+expect s (t ∷ ts) = if is_symbol s t.kind then Ok (t, ts) else Err (Unexpected (t ∷ ts))
+
+-- ---- expressions
+
+-- what is read: an expression of a level, or what follows in a chain of operators of a level behind its first part
+pub data Part : Type 0 where
+  choice : Part
+  implication : Part
+  chain : ℕ → Part
+  rest_of_chain : ℕ → Place → Expr → Part
+
+-- Reads a part one deeper. The first list begins with the token that nests.
+abbrev pub Deeper : Type 0
+Deeper = Part → List Token → List Token → Read Expr
+
+unfoldable pub grouped_by : Deeper → Token → List Token → Read Expr
+grouped_by deeper t ts = do
+  e ← deeper choice (t ∷ ts) ts
+  close ← expect signs.Close e.1
+  Ok (e.0, close.1)
+
+unfoldable pub unary_by : Deeper → Token → Kind → List Token → Read Expr
+unary_by deeper t (name x) ts = Ok (Variable t.place x, ts)
+unary_by deeper t (number n) ts = Ok (Number t.place n, ts)
+unary_by deeper t (word words.True) ts = Ok (Truth t.place true, ts)
+unary_by deeper t (word words.False) ts = Ok (Truth t.place false, ts)
+unary_by deeper t (symbol signs.Open) ts = grouped_by deeper t ts
+unary_by deeper t (symbol signs.Not) ts = do
+  e ← deeper (chain 0) (t ∷ ts) ts
+  Ok (Unary t.place Not e.0, e.1)
+unary_by deeper t (symbol signs.Minus) ts = do
+  e ← deeper (chain 0) (t ∷ ts) ts
+  Ok (Unary t.place Negate e.0, e.1)
+unary_by deeper t k ts = Err (Unexpected (t ∷ ts))
+
+unfoldable pub unary_at : Deeper → List Token → Read Expr
+unary_at deeper [] = Err (Unexpected [])
+unary_at deeper (t ∷ ts) = unary_by deeper t t.kind ts
+
+unfoldable pub operator_by : Deeper → ℕ → Place → Expr → Token → List Token → BinaryOperator → Read Expr
+operator_by deeper level start left t ts op = do
+  right ← deeper (chain level) (t ∷ ts) ts
+  deeper (rest_of_chain level start (Binary start op left right.0)) right.1 right.1
+
+unfoldable pub rest_by : Deeper → ℕ → Place → Expr → Token → List Token → Option BinaryOperator → Read Expr
+rest_by deeper level start left t ts None = Ok (left, t ∷ ts)
+rest_by deeper level start left t ts (Some op) =
+    if level_of op == suc level then operator_by deeper level start left t ts op else Ok (left, t ∷ ts)
+
+-- the operators of level + 1
+unfoldable pub rest_at : Deeper → ℕ → Place → Expr → List Token → Read Expr
+rest_at deeper level start left [] = Ok (left, [])
+rest_at deeper level start left (t ∷ ts) = rest_by deeper level start left t ts (operator_of t.kind)
+
+unfoldable pub chain_at : Deeper → ℕ → List Token → Read Expr
+chain_at deeper zero ts = unary_at deeper ts
+chain_at deeper (suc level) [] = Err (Unexpected [])
+chain_at deeper (suc level) (t ∷ ts) = do
+  left ← chain_at deeper level (t ∷ ts)
+  rest_at deeper level t.place left.0 left.1
+
+unfoldable pub implies_by : Deeper → Place → Expr → Token → List Token → Read Expr
+implies_by deeper start left t ts = do
+  right ← deeper implication (t ∷ ts) ts
+  Ok (Binary start Implies left right.0, right.1)
+
+unfoldable pub implied_by : Deeper → Place → Expr → List Token → Read Expr
+implied_by deeper start left [] = Ok (left, [])
+implied_by deeper start left (t ∷ ts) =
+    if is_symbol signs.Implies t.kind then implies_by deeper start left t ts else Ok (left, t ∷ ts)
+
+unfoldable pub implication_at : Deeper → List Token → Read Expr
+implication_at deeper [] = Err (Unexpected [])
+implication_at deeper (t ∷ ts) = do
+  left ← chain_at deeper 6 (t ∷ ts)
+  implied_by deeper t.place left.0 left.1
+
+-- a colon, and the side behind it
+unfoldable pub second_by : Deeper → List Token → Read Expr
+second_by deeper ts = do
+  colon ← expect signs.Colon ts
+  deeper choice ts colon.1
+
+unfoldable pub sides_by : Deeper → Place → Expr → Token → List Token → Read Expr
+sides_by deeper start condition t ts = do
+  first ← deeper choice (t ∷ ts) ts
+  second ← second_by deeper first.1
+  Ok (Choice start condition first.0 second.0, second.1)
+
+unfoldable pub chosen_by : Deeper → Place → Expr → List Token → Read Expr
+chosen_by deeper start condition [] = Ok (condition, [])
+chosen_by deeper start condition (t ∷ ts) =
+    if is_symbol signs.Question t.kind then sides_by deeper start condition t ts else Ok (condition, t ∷ ts)
+
+unfoldable pub choice_at : Deeper → List Token → Read Expr
+choice_at deeper [] = Err (Unexpected [])
+choice_at deeper (t ∷ ts) = do
+  condition ← implication_at deeper (t ∷ ts)
+  chosen_by deeper t.place condition.0 condition.1
+
+abbrev pub part_at : Deeper → Part → List Token → Read Expr
+part_at deeper choice ts = choice_at deeper ts
+part_at deeper implication ts = implication_at deeper ts
+part_at deeper (chain level) ts = chain_at deeper level ts
+part_at deeper (rest_of_chain level start left) ts = rest_at deeper level start left ts
+
+-- one deeper, where the nesting count may still grow by room
+unfoldable pub below : ℕ → Deeper
+below zero p here ts = Err (TooDeep here)
+below (suc room) p here ts = part_at (below room) p ts

@@ -1,0 +1,169 @@
+-- Reading statements from left to right.
+use Rattle.std.specs.Prelude.{ℕ, zero, suc, List, [], ◌∷◌, ◌++◌, length, Ok, Err, Some, None, Bool, true, false, if◌then◌else◌}
+use Rattle.vx_ast.specs.declared.Place.{Place}
+use Rattle.vx_ast.specs.declared.ValueType.{ValueType}
+use Rattle.vx_ast.specs.declared.ValueType.TheVariants as types
+use Rattle.vx_tokens.specs.declared.token.Word.TheVariants as words
+use Rattle.vx_tokens.specs.declared.token.Symbol.TheVariants as signs
+use Rattle.vx_tokens.specs.Tokens.{Kind, name, word, Token}
+use Rattle.vx_ast.specs.Written.{Expr, Declaration, Value, Stmt, Block, Declare, Assign, Assert, Assume, If, Done, Then}
+use Rattle.vx_grammar.specs.Loops.{Turn, run}
+use Rattle.vx_grammar.specs.Reading.{Unexpected, TooDeep, Read, ◌>>=◌, is_symbol, expect, choice, choice_at, below}
+
+-- ---- names and types
+
+abbrev pub name_by : Token → Kind → List Token → Read (List ℕ)
+name_by t (name x) ts = Ok (x, ts)
+name_by t k ts = Err (Unexpected (t ∷ ts))
+
+unfoldable pub name_at : List Token → Read (List ℕ)
+name_at [] = Err (Unexpected [])
+name_at (t ∷ ts) = name_by t t.kind ts
+
+abbrev pub type_by : Token → Kind → List Token → Read ValueType
+type_by t (word words.Int) ts = Ok (types.Int, ts)
+type_by t (word words.Bool) ts = Ok (types.Bool, ts)
+type_by t k ts = Err (Unexpected (t ∷ ts))
+
+unfoldable pub type_at : List Token → Read ValueType
+type_at [] = Err (Unexpected [])
+type_at (t ∷ ts) = type_by t t.kind ts
+
+-- a name, a colon and a type
+unfoldable pub declaration_at : List Token → Read Declaration
+declaration_at ts = do
+  x ← name_at ts
+  colon ← expect signs.Colon x.1
+  type ← type_at colon.1
+  Ok (record { name = x.0; of = type.0 }, type.1)
+
+-- ---- statements
+
+-- what nests: the statements between braces, or the part of an `if` from an `elseif` on
+pub data StmtPart : Type 0 where
+  statements : StmtPart
+  elseif_part : Place → StmtPart
+
+abbrev pub StmtDeeper : Type 0
+StmtDeeper = StmtPart → List Token → List Token → Read Block
+
+-- an expression between parentheses
+unfoldable pub condition_at : ℕ → List Token → Read Expr
+condition_at room ts = do
+  opened ← expect signs.Open ts
+  e ← below room choice ts opened.1
+  close ← expect signs.Close e.1
+  Ok (e.0, close.1)
+
+unfoldable pub block_at : StmtDeeper → List Token → Read Block
+block_at deeper ts = do
+  opened ← expect signs.OpenBrace ts
+  b ← deeper statements ts opened.1
+  close ← expect signs.CloseBrace b.1
+  Ok (b.0, close.1)
+
+abbrev pub otherwise_by : StmtDeeper → Token → Kind → List Token → Read Block
+otherwise_by deeper t (word words.Else) ts = block_at deeper ts
+otherwise_by deeper t (word words.Elseif) ts = deeper (elseif_part t.place) (t ∷ ts) ts
+otherwise_by deeper t k ts = Ok (Done, t ∷ ts)
+
+-- the other side of an `if`: none is the empty block
+unfoldable pub otherwise_at : StmtDeeper → List Token → Read Block
+otherwise_at deeper [] = Ok (Done, [])
+otherwise_at deeper (t ∷ ts) = otherwise_by deeper t t.kind ts
+
+-- behind an `if` or an `elseif`
+unfoldable pub branch_at : ℕ → StmtDeeper → Place → List Token → Read Stmt
+branch_at room deeper place ts = do
+  e ← condition_at room ts
+  b ← block_at deeper e.1
+  o ← otherwise_at deeper b.1
+  Ok (If place e.0 b.0 o.0, o.1)
+
+unfoldable pub initial_by : ℕ → Place → Declaration → List Token → Read Stmt
+initial_by room place d ts = do
+  e ← choice_at (below room) ts
+  Ok (Declare place d (Some (Value e.0)), e.1)
+
+unfoldable pub initial_at : ℕ → Place → Declaration → List Token → Read Stmt
+initial_at room place d [] = Ok (Declare place d None, [])
+initial_at room place d (t ∷ ts) = if is_symbol signs.Becomes t.kind then initial_by room place d ts else Ok (Declare place d None, t ∷ ts)
+
+-- behind a `var`
+unfoldable pub declare_at : ℕ → Place → List Token → Read Stmt
+declare_at room place ts = do
+  d ← declaration_at ts
+  initial_at room place d.0 d.1
+
+-- behind the name of a target
+unfoldable pub assign_at : ℕ → Place → List ℕ → List Token → Read Stmt
+assign_at room place x ts = do
+  becomes ← expect signs.Becomes ts
+  e ← choice_at (below room) becomes.1
+  Ok (Assign place x (Value e.0), e.1)
+
+unfoldable pub assert_at : ℕ → Place → List Token → Read Stmt
+assert_at room place ts = do
+  e ← choice_at (below room) ts
+  Ok (Assert place e.0, e.1)
+
+unfoldable pub assume_at : ℕ → Place → List Token → Read Stmt
+assume_at room place ts = do
+  e ← choice_at (below room) ts
+  Ok (Assume place e.0, e.1)
+
+abbrev pub stmt_by : ℕ → StmtDeeper → Token → Kind → List Token → Read Stmt
+stmt_by room deeper t (name x) ts = assign_at room t.place x ts
+stmt_by room deeper t (word words.Var) ts = declare_at room t.place ts
+stmt_by room deeper t (word words.Assert) ts = assert_at room t.place ts
+stmt_by room deeper t (word words.Assume) ts = assume_at room t.place ts
+stmt_by room deeper t (word words.If) ts = branch_at room deeper t.place ts
+stmt_by room deeper t k ts = Err (Unexpected (t ∷ ts))
+
+unfoldable pub stmt_at : ℕ → StmtDeeper → List Token → Read Stmt
+stmt_at room deeper [] = Err (Unexpected [])
+stmt_at room deeper (t ∷ ts) = stmt_by room deeper t t.kind ts
+
+-- whether a statement begins so
+abbrev pub begins_stmt : Kind → Bool
+begins_stmt (name x) = true
+begins_stmt (word words.Var) = true
+begins_stmt (word words.Assert) = true
+begins_stmt (word words.Assume) = true
+begins_stmt (word words.If) = true
+begins_stmt k = false
+
+abbrev pub skip_semicolon : List Token → List Token
+skip_semicolon [] = []
+skip_semicolon (t ∷ ts) = if is_symbol signs.Semicolon t.kind then ts else t ∷ ts
+
+-- the statements of a block
+abbrev pub block_from : List Stmt → Block
+block_from [] = Done
+block_from (s ∷ ss) = Then s (block_from ss)
+
+-- one statement more
+unfoldable pub stmt_turn : ℕ → StmtDeeper → Turn (List Stmt)
+stmt_turn room deeper before [] = Ok (None, [])
+stmt_turn room deeper before (t ∷ ts) =
+    if begins_stmt t.kind then (do
+      s ← stmt_at room deeper (t ∷ ts)
+      Ok (Some (before ++ s.0 ∷ []), skip_semicolon s.1))
+    else Ok (None, t ∷ ts)
+
+-- each statement takes a token at least
+unfoldable pub stmts_at : ℕ → StmtDeeper → List Token → Read (List Stmt)
+stmts_at room deeper ts = run (stmt_turn room deeper) (length ts) [] ts
+
+abbrev pub stmt_part : ℕ → StmtDeeper → StmtPart → List Token → Read Block
+stmt_part room deeper statements ts = do
+  ss ← stmts_at room deeper ts
+  Ok (block_from ss.0, ss.1)
+stmt_part room deeper (elseif_part place) ts = do
+  s ← branch_at room deeper place ts
+  Ok (Then s.0 Done, s.1)
+
+-- one deeper, where the nesting count may still grow by room
+unfoldable pub stmts_below : ℕ → StmtDeeper
+stmts_below zero p here ts = Err (TooDeep here)
+stmts_below (suc room) p here ts = stmt_part room (stmts_below room) p ts

@@ -1,0 +1,6 @@
+pub mod Steps
+pub mod Says
+pub mod Turns
+pub mod Rows
+pub mod Members
+pub mod Answered

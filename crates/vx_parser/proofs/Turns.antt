@@ -1,0 +1,129 @@
+-- The turns of the parser's loops.
+use Rattle.std.proofs.Common.{◌≡◌, ℕ, ◌+◌, ◌-◌, ◌≤◌, ◌<◌, List, [], ◌∷◌, ◌++◌, Some, None, Result, Ok, true, false, length, refl, sym, subst, arith}
+use Rattle.std.proofs.lemmas.List.{length-map}
+use Rattle.vx_ast.specs.Written.{Expr, Stmt, Block, Declaration}
+use Rattle.vx_tokens.specs.declared.token.Token as the_token
+use Rattle.vx_tokens.specs.declared.token.Symbol.TheVariants as signs
+use Rattle.vx_tokens.specs.Tokens.{Token, tokens_in, token_of}
+use Rattle.vx_grammar.specs.Reading.{◌>>=◌, Read, is_symbol}
+use Rattle.vx_grammar.specs.Loops.{Turn, run}
+use Rattle.vx_grammar.specs.StmtReading.{StmtDeeper, StmtPart, stmt_part, stmts_below, begins_stmt, skip_semicolon, stmt_at, stmt_turn, declaration_at}
+use Rattle.vx_grammar.specs.MemberReading.{declaration_turn, Clauses, clause_turn, clause_at, begins_requires, begins_ensures, with_requires, with_ensures}
+use Rattle.vx_grammar.specs.Nesting.{stmt_nests}
+use Rattle.vx_grammar.proofs.Turns.{run_on, run_over, run_stops, run_all}
+use Rattle.vx_parser.specs.declared.stop.Stop as the_stop
+use Rattle.vx_parser.specs.declared.stop.Stop.TheVariants as stops
+use Rattle.vx_parser.specs.Gives.{Gives, Stops}
+
+-- ---- turns over the tokens of the program
+
+pub goes_on : {S : Type 0} (turn : Turn S) (tokens : List the_token.Token) (i : ℕ) (s more : S) (ts after : List Token) (total : Read S) → i < length tokens → turn s ts ≡ Ok (Some more, after)
+    → run turn (length (tokens_in tokens) - i) s ts ≡ total → run turn (length (tokens_in tokens) - (i + 1)) more after ≡ total
+goes_on turn tokens i s more ts after total lt e so_far = let n = length-map tokens token_of in run_on turn (length (tokens_in tokens)) i s more ts after total (omega (arith, n, lt)) e so_far
+
+pub is_over : {S : Type 0} (turn : Turn S) (tokens : List the_token.Token) (i : ℕ) (s : S) (ts after : List Token) (total : Read S) → i < length tokens → turn s ts ≡ Ok (None, after)
+    → run turn (length (tokens_in tokens) - i) s ts ≡ total → total ≡ Ok (s, ts)
+is_over turn tokens i s ts after total lt e so_far = let n = length-map tokens token_of in run_over turn (length (tokens_in tokens)) i s ts after total (omega (arith, n, lt)) e so_far
+
+pub is_done : {S : Type 0} (turn : Turn S) (tokens : List the_token.Token) (i : ℕ) (s : S) (ts : List Token) (total : Read S) → length tokens ≤ i
+    → run turn (length (tokens_in tokens) - i) s ts ≡ total → total ≡ Ok (s, ts)
+is_done turn tokens i s ts total le so_far = let n = length-map tokens token_of in run_all turn (length (tokens_in tokens)) i s ts total (omega (arith, n, le)) so_far
+
+pub halts : {S : Type 0} (e : the_stop.Stop) (turn : Turn S) (tokens : List the_token.Token) (i : ℕ) (s : S) (ts : List Token) (total : Read S) → i < length tokens → Stops e (turn s ts)
+    → run turn (length (tokens_in tokens) - i) s ts ≡ total → Stops e total
+halts stops.Memory turn tokens i s ts total lt h so_far = tt
+halts (stops.Unexpected r) turn tokens i s ts total lt h so_far = let n = length-map tokens token_of in run_stops turn (length (tokens_in tokens)) i s ts _ total (omega (arith, n, lt)) h so_far
+halts (stops.TooDeep r) turn tokens i s ts total lt h so_far = let n = length-map tokens token_of in run_stops turn (length (tokens_in tokens)) i s ts _ total (omega (arith, n, lt)) h so_far
+
+pub stops_after : {A B : Type 0} (e : the_stop.Stop) (read : Read A) (f : A × List Token → Read B) → Stops e read → Stops e (read >>= f)
+stops_after stops.Memory read f h = tt
+stops_after (stops.Unexpected ts) read f h = rw h refl
+stops_after (stops.TooDeep ts) read f h = rw h refl
+
+pub empty_tokens : (ts : List the_token.Token) → length ts ≡ 0 → tokens_in ts ≡ []
+empty_tokens [] e = refl
+empty_tokens (t ∷ ts) e = absurd (omega (arith, e))
+
+-- ---- statements
+
+pub stmt_on : (room : ℕ) (d : StmtDeeper) (before : List Stmt) (ts : List Token) (t : Token) (us : List Token) (s : Stmt) (after : List Token) → ts ≡ t ∷ us → begins_stmt t.kind ≡ true → stmt_at room d ts ≡ Ok (s, after)
+    → stmt_turn room d before ts ≡ Ok (Some (before ++ s ∷ []), skip_semicolon after)
+unfolding stmt_turn
+stmt_on room d before ts t us s after first begins read =
+    let read' : stmt_at room d (t ∷ us) ≡ Ok (s, after) = subst (λ l. stmt_at room d l ≡ Ok (s, after)) first read in
+    rw (first, begins, read') refl
+
+pub stmt_over : (room : ℕ) (d : StmtDeeper) (before : List Stmt) (ts : List Token) (t : Token) (us : List Token) → ts ≡ t ∷ us → begins_stmt t.kind ≡ false → stmt_turn room d before ts ≡ Ok (None, t ∷ us)
+unfolding stmt_turn
+stmt_over room d before ts t us first begins = rw (first, begins) refl
+
+pub stmt_end : (room : ℕ) (d : StmtDeeper) (before : List Stmt) (ts : List Token) → ts ≡ [] → stmt_turn room d before ts ≡ Ok (None, [])
+unfolding stmt_turn
+stmt_end room d before ts none = rw none refl
+
+pub stmt_stops : (e : the_stop.Stop) (room : ℕ) (d : StmtDeeper) (before : List Stmt) (ts : List Token) (t : Token) (us : List Token) → ts ≡ t ∷ us → begins_stmt t.kind ≡ true → Stops e (stmt_at room d ts) → Stops e (stmt_turn room d before ts)
+unfolding stmt_turn
+stmt_stops e room d before ts t us first begins read =
+    let read' : Stops e (stmt_at room d (t ∷ us)) = subst (λ l. Stops e (stmt_at room d l)) first read in
+    rw (first, begins) (stops_after e (stmt_at room d (t ∷ us)) (λ s. Ok (Some (before ++ s.0 ∷ []), skip_semicolon s.1)) read')
+
+pub stmt_nested_is : {X : Type 0} (view : X → Block × List Token) (result : Result X the_stop.Stop) (room less : ℕ) (p : StmtPart) (here ts : List Token)
+    → (1 ≤ room) × (less ≡ room - 1) → Gives view result (stmt_part less (stmts_below less) p ts) → Gives view result (stmts_below room p here ts)
+stmt_nested_is view result room less p here ts h g =
+    let r : room ≡ less + 1 = omega (arith, h.0, h.1) in
+    subst (Gives view result) (sym (stmt_nests room less p here ts r)) g
+
+-- ---- declarations
+
+pub declaration_on : (before : List Declaration) (ts : List Token) (t : Token) (us : List Token) (d : Declaration) (after : List Token) → ts ≡ t ∷ us → is_symbol signs.Comma t.kind ≡ true → declaration_at us ≡ Ok (d, after)
+    → declaration_turn before ts ≡ Ok (Some (before ++ d ∷ []), after)
+unfolding declaration_turn
+declaration_on before ts t us d after first comma read = rw (first, comma, read) refl
+
+pub declaration_over : (before : List Declaration) (ts : List Token) (t : Token) (us : List Token) → ts ≡ t ∷ us → is_symbol signs.Comma t.kind ≡ false → declaration_turn before ts ≡ Ok (None, t ∷ us)
+unfolding declaration_turn
+declaration_over before ts t us first comma = rw (first, comma) refl
+
+pub declaration_end : (before : List Declaration) (ts : List Token) → ts ≡ [] → declaration_turn before ts ≡ Ok (None, [])
+unfolding declaration_turn
+declaration_end before ts none = rw none refl
+
+pub declaration_stops : (e : the_stop.Stop) (before : List Declaration) (ts : List Token) (t : Token) (us : List Token) → ts ≡ t ∷ us → is_symbol signs.Comma t.kind ≡ true → Stops e (declaration_at us) → Stops e (declaration_turn before ts)
+unfolding declaration_turn
+declaration_stops e before ts t us first comma read = rw (first, comma) (stops_after e (declaration_at us) (λ d. Ok (Some (before ++ d.0 ∷ []), d.1)) read)
+
+-- ---- clauses
+
+pub requires_on : (before : Clauses) (ts : List Token) (t : Token) (us : List Token) (e : Expr) (after : List Token) → ts ≡ t ∷ us → begins_requires t.kind ≡ true → clause_at (length before.requires) ts us ≡ Ok (e, after)
+    → clause_turn before ts ≡ Ok (Some (with_requires before e), skip_semicolon after)
+unfolding clause_turn
+requires_on before ts t us e after first begins read =
+    let read' : clause_at (length before.requires) (t ∷ us) us ≡ Ok (e, after) = subst (λ l. clause_at (length before.requires) l us ≡ Ok (e, after)) first read in
+    rw (first, begins, read') refl
+
+pub ensures_on : (before : Clauses) (ts : List Token) (t : Token) (us : List Token) (e : Expr) (after : List Token) → ts ≡ t ∷ us → begins_requires t.kind ≡ false → begins_ensures t.kind ≡ true → clause_at (length before.ensures) ts us ≡ Ok (e, after)
+    → clause_turn before ts ≡ Ok (Some (with_ensures before e), skip_semicolon after)
+unfolding clause_turn
+ensures_on before ts t us e after first not begins read =
+    let read' : clause_at (length before.ensures) (t ∷ us) us ≡ Ok (e, after) = subst (λ l. clause_at (length before.ensures) l us ≡ Ok (e, after)) first read in
+    rw (first, not, begins, read') refl
+
+pub clause_over : (before : Clauses) (ts : List Token) (t : Token) (us : List Token) → ts ≡ t ∷ us → begins_requires t.kind ≡ false → begins_ensures t.kind ≡ false → clause_turn before ts ≡ Ok (None, t ∷ us)
+unfolding clause_turn
+clause_over before ts t us first not neither = rw (first, not, neither) refl
+
+pub clause_end : (before : Clauses) (ts : List Token) → ts ≡ [] → clause_turn before ts ≡ Ok (None, [])
+unfolding clause_turn
+clause_end before ts none = rw none refl
+
+pub requires_stops : (e : the_stop.Stop) (before : Clauses) (ts : List Token) (t : Token) (us : List Token) → ts ≡ t ∷ us → begins_requires t.kind ≡ true → Stops e (clause_at (length before.requires) ts us) → Stops e (clause_turn before ts)
+unfolding clause_turn
+requires_stops e before ts t us first begins read =
+    let read' : Stops e (clause_at (length before.requires) (t ∷ us) us) = subst (λ l. Stops e (clause_at (length before.requires) l us)) first read in
+    rw (first, begins) (stops_after e (clause_at (length before.requires) (t ∷ us) us) (λ x. Ok (Some (with_requires before x.0), skip_semicolon x.1)) read')
+
+pub ensures_stops : (e : the_stop.Stop) (before : Clauses) (ts : List Token) (t : Token) (us : List Token) → ts ≡ t ∷ us → begins_requires t.kind ≡ false → begins_ensures t.kind ≡ true → Stops e (clause_at (length before.ensures) ts us) → Stops e (clause_turn before ts)
+unfolding clause_turn
+ensures_stops e before ts t us first not begins read =
+    let read' : Stops e (clause_at (length before.ensures) (t ∷ us) us) = subst (λ l. Stops e (clause_at (length before.ensures) l us)) first read in
+    rw (first, not, begins) (stops_after e (clause_at (length before.ensures) (t ∷ us) us) (λ x. Ok (Some (with_ensures before x.0), skip_semicolon x.1)) read')

@@ -1,0 +1,23 @@
+use Rattle.std.proofs.Common.{◌≡◌, Ok, Err, ap, ◌∙◌}
+use Rattle.vx_tokens.specs.Tokens.{tokens_in}
+use Rattle.vx_tokens.specs.Views.{ending_of}
+use Rattle.vx_parser.proofs.Answered.{answered_along, program_answered, ending_answered, fault_answered}
+use Rattle.vx_parser.proofs.program.parse.Goals as goal
+
+pub returns-in-None-clause-reads : goal.returns-in-None-clause-reads
+returns-in-None-clause-reads c = λ short text ts e s.
+    let same = c.in_ok-lexed.ensures.only ts e s in
+    let slice : tokens_in c.as_slice.result.now ≡ ts = ap tokens_in c.as_slice.ensures.value ∙ same.0 in
+    answered_along (Ok (record { members = c.in-Ok.members })) _ ts _ e slice same.1 (program_answered c.in-Ok.members (tokens_in c.as_slice.result.now) (ending_of c.in_ok-lexed.lexed.ending) c.in-Ok.ensures c.in-None.ensures)
+
+pub returns-in-Ok-clause-reads : goal.returns-in-Ok-clause-reads
+returns-in-Ok-clause-reads c = λ short text ts e s.
+    let same = c.in_ok-lexed.ensures.only ts e s in
+    let slice : tokens_in c.as_slice.result.now ≡ ts = ap tokens_in c.as_slice.ensures.value ∙ same.0 in
+    answered_along (Err c.in-Some.fault) _ ts _ e slice same.1 (ending_answered c.in-Some.fault _ (tokens_in c.as_slice.result.now) (ending_of c.in_ok-lexed.lexed.ending) c.in-Ok.ensures c.in-Some.ensures.0 c.in-Some.ensures.1)
+
+pub returns-clause-reads : goal.returns-clause-reads
+returns-clause-reads c = λ short text ts e s.
+    let same = c.in_ok-lexed.ensures.only ts e s in
+    let slice : tokens_in c.as_slice.result.now ≡ ts = ap tokens_in c.as_slice.ensures.value ∙ same.0 in
+    answered_along (Err c.fault.result) _ ts _ e slice same.1 (fault_answered c.fault.result c.in-Err-members.halt (tokens_in c.as_slice.result.now) (ending_of c.in_ok-lexed.lexed.ending) c.in-Err-members.ensures c.fault.ensures)

@@ -1,0 +1,7 @@
+pub mod Faults
+pub mod Answers
+pub mod Gives
+pub mod Part
+pub mod Says
+pub mod StmtPart
+pub mod Views

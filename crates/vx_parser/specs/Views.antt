@@ -1,0 +1,26 @@
+-- Statements, clauses and declarations without where they lie in memory.
+use Rattle.std.specs.Prelude.{List, map}
+use Rattle.vx_ast.specs.declared.Stmt as the_stmt
+use Rattle.vx_ast.specs.declared.Block as the_block
+use Rattle.vx_ast.specs.declared.Declaration as the_declaration
+use Rattle.vx_ast.specs.declared.Expr as the_expr
+use Rattle.std.specs.declared.alloc.Global.{Global}
+use Rattle.std.specs.declared.rc.Rc.{Rc}
+use Rattle.vx_ast.specs.Written.{Expr, Declaration, Stmt, Block, written_expr, written_stmt, written_block, written_declaration}
+use Rattle.vx_grammar.specs.MemberReading as reading
+use Rattle.vx_parser.specs.declared.member.Clauses as the_clauses
+
+abbrev pub stmt_of : the_stmt.Stmt → Stmt
+stmt_of s = written_stmt s.place s.kind
+
+abbrev pub block_of : the_block.Block → Block
+block_of b = written_block b
+
+abbrev pub exprs_of : List (Rc the_expr.Expr Global) → List Expr
+exprs_of es = map (λ e. written_expr e.value) es
+
+abbrev pub declarations_of : List the_declaration.Declaration → List Declaration
+declarations_of ds = map written_declaration ds
+
+abbrev pub clauses_of : the_clauses.Clauses → reading.Clauses
+clauses_of c = record { requires = exprs_of c.preconditions.items; ensures = exprs_of c.postconditions.items }

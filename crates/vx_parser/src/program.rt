@@ -1,0 +1,232 @@
+//! From the bytes of a text to its program.
+
+ghost use Rattle.std.specs.Prelude.{◌≡◌, ◌≤◌, ◌<◌, ◌↔◌, ℕ, List, length, take, Err, IsErrOf, MatchOption};
+ghost use Rattle.std.specs.Str.{IsUtf8};
+ghost use Rattle.std.specs.Str.Lossy.{utf8_valid_len};
+ghost use Rattle.vx_tokens.specs.Text.{Scans, first_place, unmarked, after, Ending as End};
+ghost use Rattle.vx_tokens.specs.Views.{ending_of};
+ghost use Rattle.vx_tokens.specs.Tokens.{tokens_in, token_of, kind_of, Token as Tok};
+ghost use Rattle.vx_grammar.specs.MemberReading as reading;
+ghost use Rattle.vx_parser.specs.Answers as answers;
+ghost use Rattle.vx_parser.specs.declared.fault.TextFault.TheVariants as faults;
+ghost use Rattle.vx_parser.specs.declared.program.Halt.TheVariants.{Inside};
+ghost use Rattle.vx_parser.specs.declared.stop.Stop.TheVariants.{Memory};
+
+use crate::fault::TextFault;
+use crate::member::method;
+use crate::stmt::skip_semicolon;
+use crate::stop::Stop;
+use std::alloc::{AllocError, AllocFailed, Global};
+use std::str;
+use vx_ast::{Member, Place, Program};
+use vx_tokens::{Ending, Kind, MAX_TEXT, Symbol, Token, Word, end_of, lex};
+
+/// The most members of a program.
+const MAX_MEMBERS: usize = 65536;
+
+/// Why reading members stops. The tokens begin with the one that does not fit, nests too deep, or begins one member
+/// too many.
+#[derive(Drop)]
+enum Halt<'t> {
+    Inside(Stop<'t>),
+    /// Where a member is due.
+    NoMember(&'t [Token<'t>]),
+    TooMany(&'t [Token<'t>]),
+}
+
+impl<'t> From<Stop<'t>> for Halt<'t> {
+    ghost from_gives = { λ stop halt. halt ≡ Inside stop };
+
+    fn from(stop: Stop<'t>) -> Halt<'t> {
+        Halt::Inside(stop)
+    }
+}
+
+impl<'t, T: Drop> From<AllocFailed<T>> for Halt<'t> {
+    ghost from_gives = { λ _ halt. halt ≡ Inside Memory };
+
+    fn from(_e: AllocFailed<T>) -> Halt<'t> {
+        Halt::Inside(Stop::Memory)
+    }
+}
+
+/// The program that a text spells.
+pub fn parse(alloc: Global, text: &[u8]) -> Result<Program, TextFault>
+    // A text is too long exactly above 4,194,304 bytes, which is decided first.
+    ensures too_long { IsErrOf result faults.TooLong ↔ (4194304 < length text.now) }
+    // Bytes that are no text are refused behind the last character before them, which is decided second.
+    ensures not_utf8 { length text.now ≤ 4194304 → (IsUtf8 text.now → ⊥) → result ≡ Err (faults.NotUtf8 (after first_place (unmarked (take (utf8_valid_len text.now) text.now)))) }
+    // Else the tokens of the text, and how it goes on behind them, give the answer, unless memory runs out.
+    ensures reads { length text.now ≤ 4194304 → IsUtf8 text.now → (ts : List Tok) (e : End) → Scans first_place (unmarked text.now) ts e → answers.IsAnswer result (answers.answer ts e) }
+{
+    if text.len() > MAX_TEXT {
+        return Err(TextFault::TooLong);
+    }
+    if let Err(error) = str::from_utf8(text) {
+        let place = end_of(&text[..error.valid_up_to()]);
+        return Err(TextFault::NotUtf8(place));
+    }
+    let lexed = lex(alloc, text)?;
+    match members(alloc, lexed.tokens.as_slice()) {
+        Ok(members) => match ended(lexed.ending) {
+            None => Ok(Program { members }),
+            Some(fault) => Err(fault),
+        },
+        Err(halt) => Err(fault(alloc, halt, lexed.ending)),
+    }
+}
+
+fn begins_member(kind: Kind) -> bool
+    ensures { result ≡ reading.begins_member (kind_of kind.entry) }
+{
+    matches!(kind, Kind::Word(Word::Method))
+}
+
+#[tactic(auto, unfolding(vx_grammar::specs::MemberReading::members_at))]
+fn members<'t>(alloc: Global, tokens: &'t [Token<'t>]) -> Result<Vec<Member>, Halt<'t>>
+    ensures { answers.GivesMembers result (reading.members_at (tokens_in tokens.now)) }
+{
+    let mut members = Vec::new(alloc);
+    let mut rest = tokens;
+    for _ in 0..tokens.len() {
+        let Some((first, inner)) = rest.split_first() else {
+            return Ok(members);
+        };
+        if !begins_member(first.kind) {
+            return Err(Halt::NoMember(rest));
+        }
+        if members.len() >= MAX_MEMBERS {
+            return Err(Halt::TooMany(rest));
+        }
+        let (next, after) = method(alloc, first.place, inner)?;
+        members.push(next)?;
+        rest = skip_semicolon(after);
+    }
+    if rest.is_empty() {
+        Ok(members)
+    } else {
+        Err(Halt::NoMember(rest))
+    }
+}
+
+// Why a text that ends so is no program, although its tokens spell one.
+fn ended(ending: Ending) -> Option<TextFault>
+    ensures { MatchOption result (answers.IsEnd (ending_of ending)) (λ f. (answers.IsEnd (ending_of ending) → ⊥) × answers.Shows f (answers.early (ending_of ending))) }
+{
+    match ending {
+        Ending::AtEnd(_) => None,
+        _ => Some(early(ending)),
+    }
+}
+
+// What stands where no token is left, but one is due.
+fn early(ending: Ending) -> TextFault
+    ensures { answers.Shows result (answers.early (ending_of ending)) }
+{
+    match ending {
+        Ending::AtEnd(place) | Ending::OpenComment(place) => TextFault::EndOfText(place),
+        Ending::WideLiteral(place) => TextFault::WideLiteral(place),
+        Ending::BadCharacter(place) => TextFault::BadCharacter(place),
+    }
+}
+
+fn fault(alloc: Global, halt: Halt, ending: Ending) -> TextFault
+    ensures { answers.FaultsAs result halt.entry (ending_of ending) }
+{
+    match halt {
+        Halt::Inside(Stop::Memory) => TextFault::Want,
+        Halt::Inside(Stop::Unexpected(rest)) => match rest.first() {
+            Some(token) => unfit(alloc, token, is_foreign(token.kind)),
+            None => early(ending),
+        },
+        Halt::NoMember(rest) => match rest.first() {
+            Some(token) => unfit(alloc, token, is_foreign_member(token.kind)),
+            None => early(ending),
+        },
+        Halt::Inside(Stop::TooDeep(rest)) => match rest.first() {
+            Some(token) => TextFault::TooDeep(token.place),
+            None => early(ending),
+        },
+        Halt::TooMany(rest) => match rest.first() {
+            Some(token) => TextFault::TooManyMembers(token.place),
+            None => early(ending),
+        },
+    }
+}
+
+// A token where no program goes on with it.
+fn unfit(alloc: Global, token: &Token, foreign: bool) -> TextFault
+    ensures { answers.Shows result (answers.unfit_token foreign (token_of token.now)) }
+{
+    match String::from_utf8_lossy(alloc, token.text) {
+        Err(_) => TextFault::Want,
+        Ok(text) if foreign => TextFault::Unsupported(token.place, text),
+        Ok(text) => TextFault::Unexpected(token.place, text),
+    }
+}
+
+// A word or sign of Viper that this language leaves out.
+fn is_foreign(kind: Kind) -> bool
+    ensures { result ≡ answers.is_foreign (kind_of kind.entry) }
+{
+    match kind {
+        Kind::Word(word) => is_foreign_word(word),
+        Kind::Symbol(symbol) => is_foreign_symbol(symbol),
+        _ => false,
+    }
+}
+
+// The same where a member is due, and the word `adt`.
+fn is_foreign_member(kind: Kind) -> bool
+    ensures { result ≡ answers.is_foreign_member (kind_of kind.entry) }
+{
+    match kind {
+        Kind::Name(name) => name == "adt",
+        _ => is_foreign(kind),
+    }
+}
+
+fn is_foreign_symbol(symbol: Symbol) -> bool
+    ensures { result ≡ answers.is_foreign_symbol symbol }
+{
+    matches!(
+        symbol,
+        Symbol::Slash
+            | Symbol::Backslash
+            | Symbol::Percent
+            | Symbol::Dot
+            | Symbol::OpenBracket
+            | Symbol::At
+            | Symbol::Wand
+    )
+}
+
+fn is_foreign_word(word: Word) -> bool
+    ensures { result ≡ answers.is_foreign_word word }
+{
+    matches!(
+        word,
+        Word::Field
+            | Word::Predicate
+            | Word::Function
+            | Word::Decreases
+            | Word::Invariant
+            | Word::While
+            | Word::Inhale
+            | Word::Exhale
+            | Word::Fold
+            | Word::Unfold
+            | Word::Unfolding
+            | Word::In
+            | Word::Acc
+            | Word::New
+            | Word::Old
+            | Word::Outcome
+            | Word::Write
+            | Word::Nothing
+            | Word::Null
+            | Word::Ref
+            | Word::Perm
+            | Word::Foreign
+    )
+}

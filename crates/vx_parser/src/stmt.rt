@@ -1,0 +1,358 @@
+//! Reading statements.
+
+ghost use Rattle.std.specs.Prelude.{◌≡◌, ◌<◌, IfOk, Some, None, map};
+ghost use Rattle.vx_ast.specs.Written.{name_of, written_expr, written_declaration, Declare, Assign, Assert, Assume, If, Then, Done, Value};
+ghost use Rattle.vx_tokens.specs.Tokens.{kind_of, token_of, tokens_in};
+ghost use Rattle.vx_grammar.specs.Reading.{below};
+ghost use Rattle.vx_grammar.specs.StmtReading as reading;
+ghost use Rattle.vx_parser.specs.Gives.{Gives};
+ghost use Rattle.vx_parser.specs.StmtPart.{stmt_part_of};
+ghost use Rattle.vx_grammar.specs.StmtReading.{block_from};
+ghost use Rattle.vx_parser.specs.Views.{stmt_of, block_of};
+
+use crate::expr::{Part, Read, choice, expect, is_symbol, nested};
+use crate::stop::Stop;
+use std::alloc::{AllocError, Global};
+use std::rc::Rc;
+use vx_ast::{Block, Declaration, Expr, Name, Place, Right, Stmt, StmtKind, ValueType};
+use vx_tokens::{Kind, Symbol, Token, Word};
+
+/// What nests: the statements between braces, or the part of an `if` from an `elseif` on.
+#[derive(Clone, Copy)]
+enum StmtPart {
+    Statements,
+    Elseif(Place),
+}
+
+/// A name, and where it stands.
+#[tactic(auto, unfolding(vx_grammar::specs::StmtReading::name_at))]
+pub fn name<'t>(alloc: Global, tokens: &'t [Token<'t>]) -> Read<'t, Name>
+    ensures { Gives (λ x. (name_of x.0, tokens_in x.1.now)) result (reading.name_at (tokens_in tokens.now)) }
+{
+    let Some((first, rest)) = tokens.split_first() else {
+        return Err(Stop::Unexpected(tokens));
+    };
+    match first.kind {
+        Kind::Name(text) => {
+            let name = Name {
+                text: String::from_str(alloc, text)?,
+                place: first.place,
+            };
+            Ok((name, rest))
+        }
+        _ => Err(Stop::Unexpected(tokens)),
+    }
+}
+
+#[tactic(auto, unfolding(vx_grammar::specs::StmtReading::type_at))]
+fn value_type<'t>(tokens: &'t [Token<'t>]) -> Read<'t, ValueType>
+    ensures { Gives (λ x. (x.0, tokens_in x.1.now)) result (reading.type_at (tokens_in tokens.now)) }
+{
+    let Some((first, rest)) = tokens.split_first() else {
+        return Err(Stop::Unexpected(tokens));
+    };
+    match first.kind {
+        Kind::Word(Word::Int) => Ok((ValueType::Int, rest)),
+        Kind::Word(Word::Bool) => Ok((ValueType::Bool, rest)),
+        _ => Err(Stop::Unexpected(tokens)),
+    }
+}
+
+/// A name with its type.
+#[tactic(auto, unfolding(vx_grammar::specs::StmtReading::declaration_at))]
+pub fn declaration<'t>(alloc: Global, tokens: &'t [Token<'t>]) -> Read<'t, Declaration>
+    ensures { Gives (λ x. (written_declaration x.0, tokens_in x.1.now)) result (reading.declaration_at (tokens_in tokens.now)) }
+{
+    let (name, rest) = name(alloc, tokens)?;
+    let (_, rest) = expect(Symbol::Colon, rest)?;
+    let (value_type, rest) = value_type(rest)?;
+    Ok((Declaration { name, value_type }, rest))
+}
+
+// An expression between parentheses.
+#[tactic(auto, unfolding(vx_grammar::specs::StmtReading::condition_at))]
+fn condition<'t>(alloc: Global, room: u32, tokens: &'t [Token<'t>]) -> Read<'t, Expr>
+    requires { room < 1000 }
+    ensures { Gives (λ x. (written_expr x.0, tokens_in x.1.now)) result (reading.condition_at room (tokens_in tokens.now)) }
+{
+    let (_, inner) = expect(Symbol::Open, tokens)?;
+    let (e, rest) = nested(alloc, room, Part::Choice, tokens, inner)?;
+    let (_, rest) = expect(Symbol::Close, rest)?;
+    Ok((e, rest))
+}
+
+/// A block between braces.
+#[cycle(stmt)]
+#[tactic(auto, unfolding(vx_grammar::specs::StmtReading::block_at))]
+pub fn block<'t>(alloc: Global, room: u32, tokens: &'t [Token<'t>]) -> Read<'t, Block>
+    requires { room < 1000 }
+    ensures { Gives (λ x. (block_of x.0, tokens_in x.1.now)) result (reading.block_at (reading.stmts_below room) (tokens_in tokens.now)) }
+{
+    let (_, inner) = expect(Symbol::OpenBrace, tokens)?;
+    let (statements, rest) = nested_statements(alloc, room, StmtPart::Statements, tokens, inner)?;
+    let (_, rest) = expect(Symbol::CloseBrace, rest)?;
+    Ok((statements, rest))
+}
+
+// The other side of an `if`: none is the empty block.
+#[cycle(stmt)]
+#[tactic(auto, unfolding(vx_grammar::specs::StmtReading::otherwise_at))]
+fn otherwise<'t>(alloc: Global, room: u32, tokens: &'t [Token<'t>]) -> Read<'t, Block>
+    requires { room < 1000 }
+    ensures { Gives (λ x. (block_of x.0, tokens_in x.1.now)) result (reading.otherwise_at (reading.stmts_below room) (tokens_in tokens.now)) }
+{
+    let Some((first, inner)) = tokens.split_first() else {
+        return Ok((empty(alloc), tokens));
+    };
+    match first.kind {
+        Kind::Word(Word::Else) => block(alloc, room, inner),
+        Kind::Word(Word::Elseif) => {
+            nested_statements(alloc, room, StmtPart::Elseif(first.place), tokens, inner)
+        }
+        _ => Ok((empty(alloc), tokens)),
+    }
+}
+
+fn empty(alloc: Global) -> Block
+    ensures { block_of result ≡ Done }
+{
+    Block {
+        statements: Vec::new(alloc),
+    }
+}
+
+fn blocked(statements: Vec<Stmt>) -> Block
+    ensures { block_of result ≡ block_from (map stmt_of statements.items) }
+{
+    Block { statements }
+}
+
+fn single(alloc: Global, statement: Stmt) -> Result<Block, AllocError>
+    ensures { IfOk result (λ block. block_of block ≡ Then (stmt_of statement) Done) }
+{
+    let mut statements = Vec::new(alloc);
+    statements.push(statement)?;
+    Ok(blocked(statements))
+}
+
+// What stands behind an `if` or an `elseif`.
+#[cycle(stmt)]
+#[tactic(auto, unfolding(vx_grammar::specs::StmtReading::branch_at))]
+fn branch<'t>(alloc: Global, room: u32, place: Place, tokens: &'t [Token<'t>]) -> Read<'t, Stmt>
+    requires { room < 1000 }
+    ensures { Gives (λ x. (stmt_of x.0, tokens_in x.1.now)) result (reading.branch_at room (reading.stmts_below room) place (tokens_in tokens.now)) }
+{
+    let (e, rest) = condition(alloc, room, tokens)?;
+    let (then, rest) = block(alloc, room, rest)?;
+    let (otherwise, rest) = otherwise(alloc, room, rest)?;
+    Ok((branched(alloc, place, e, then, otherwise)?, rest))
+}
+
+fn branched(
+    alloc: Global,
+    place: Place,
+    condition: Expr,
+    then: Block,
+    otherwise: Block,
+) -> Result<Stmt, AllocError>
+    ensures { IfOk result (λ stmt. stmt_of stmt ≡ If place (written_expr condition) (block_of then) (block_of otherwise)) }
+{
+    let condition = Rc::new(alloc, condition)?;
+    let then = Rc::new(alloc, then)?;
+    let kind = StmtKind::If(condition, then, Rc::new(alloc, otherwise)?);
+    Ok(Stmt { place, kind })
+}
+
+// What stands behind `var`.
+#[tactic(auto, unfolding(vx_grammar::specs::StmtReading::declare_at, vx_grammar::specs::StmtReading::initial_at, vx_grammar::specs::StmtReading::initial_by))]
+fn declare<'t>(alloc: Global, room: u32, place: Place, tokens: &'t [Token<'t>]) -> Read<'t, Stmt>
+    requires { room < 1000 }
+    ensures { Gives (λ x. (stmt_of x.0, tokens_in x.1.now)) result (reading.declare_at room place (tokens_in tokens.now)) }
+{
+    let (declaration, rest) = declaration(alloc, tokens)?;
+    match rest.split_first() {
+        Some((becomes, inner)) if is_symbol(Symbol::Becomes, becomes.kind) => {
+            let (e, rest) = choice(alloc, room, inner)?;
+            Ok((declared_as(alloc, place, declaration, e)?, rest))
+        }
+        _ => Ok((declared(place, declaration), rest)),
+    }
+}
+
+fn declared(place: Place, declaration: Declaration) -> Stmt
+    ensures { stmt_of result ≡ Declare place (written_declaration declaration) None }
+{
+    Stmt {
+        place,
+        kind: StmtKind::Declare(declaration, None),
+    }
+}
+
+fn declared_as(
+    alloc: Global,
+    place: Place,
+    declaration: Declaration,
+    e: Expr,
+) -> Result<Stmt, AllocError>
+    ensures { IfOk result (λ stmt. stmt_of stmt ≡ Declare place (written_declaration declaration) (Some (Value (written_expr e)))) }
+{
+    let right = Right::Value(Rc::new(alloc, e)?);
+    let kind = StmtKind::Declare(declaration, Some(right));
+    Ok(Stmt { place, kind })
+}
+
+fn assigned(alloc: Global, place: Place, target: Name, e: Expr) -> Result<Stmt, AllocError>
+    ensures { IfOk result (λ stmt. stmt_of stmt ≡ Assign place (name_of target) (Value (written_expr e))) }
+{
+    let kind = StmtKind::Assign(target, Right::Value(Rc::new(alloc, e)?));
+    Ok(Stmt { place, kind })
+}
+
+fn named(alloc: Global, place: Place, text: &str) -> Result<Name, AllocError>
+    ensures { IfOk result (λ name. name_of name ≡ text.now) }
+{
+    let text = String::from_str(alloc, text)?;
+    Ok(Name { text, place })
+}
+
+// What stands behind the name of a target.
+#[tactic(auto, unfolding(vx_grammar::specs::StmtReading::assign_at))]
+fn assign<'t>(
+    alloc: Global,
+    room: u32,
+    place: Place,
+    text: &str,
+    tokens: &'t [Token<'t>],
+) -> Read<'t, Stmt>
+    requires { room < 1000 }
+    ensures { Gives (λ x. (stmt_of x.0, tokens_in x.1.now)) result (reading.assign_at room place text.now (tokens_in tokens.now)) }
+{
+    let (_, rest) = expect(Symbol::Becomes, tokens)?;
+    let (e, rest) = choice(alloc, room, rest)?;
+    let target = named(alloc, place, text)?;
+    Ok((assigned(alloc, place, target, e)?, rest))
+}
+
+#[tactic(auto, unfolding(vx_grammar::specs::StmtReading::assert_at))]
+fn assertion<'t>(alloc: Global, room: u32, place: Place, tokens: &'t [Token<'t>]) -> Read<'t, Stmt>
+    requires { room < 1000 }
+    ensures { Gives (λ x. (stmt_of x.0, tokens_in x.1.now)) result (reading.assert_at room place (tokens_in tokens.now)) }
+{
+    let (e, rest) = choice(alloc, room, tokens)?;
+    let kind = StmtKind::Assert(Rc::new(alloc, e)?);
+    Ok((Stmt { place, kind }, rest))
+}
+
+#[tactic(auto, unfolding(vx_grammar::specs::StmtReading::assume_at))]
+fn assumption<'t>(alloc: Global, room: u32, place: Place, tokens: &'t [Token<'t>]) -> Read<'t, Stmt>
+    requires { room < 1000 }
+    ensures { Gives (λ x. (stmt_of x.0, tokens_in x.1.now)) result (reading.assume_at room place (tokens_in tokens.now)) }
+{
+    let (e, rest) = choice(alloc, room, tokens)?;
+    let kind = StmtKind::Assume(Rc::new(alloc, e)?);
+    Ok((Stmt { place, kind }, rest))
+}
+
+#[cycle(stmt)]
+#[tactic(auto, unfolding(vx_grammar::specs::StmtReading::stmt_at))]
+fn statement<'t>(alloc: Global, room: u32, tokens: &'t [Token<'t>]) -> Read<'t, Stmt>
+    requires { room < 1000 }
+    ensures { Gives (λ x. (stmt_of x.0, tokens_in x.1.now)) result (reading.stmt_at room (reading.stmts_below room) (tokens_in tokens.now)) }
+{
+    let Some((first, inner)) = tokens.split_first() else {
+        return Err(Stop::Unexpected(tokens));
+    };
+    let place = first.place;
+    match first.kind {
+        Kind::Name(text) => assign(alloc, room, place, text, inner),
+        Kind::Word(Word::Var) => declare(alloc, room, place, inner),
+        Kind::Word(Word::Assert) => assertion(alloc, room, place, inner),
+        Kind::Word(Word::Assume) => assumption(alloc, room, place, inner),
+        Kind::Word(Word::If) => branch(alloc, room, place, inner),
+        _ => Err(Stop::Unexpected(tokens)),
+    }
+}
+
+fn begins_statement(kind: Kind) -> bool
+    ensures { result ≡ reading.begins_stmt (kind_of kind.entry) }
+{
+    matches!(
+        kind,
+        Kind::Name(_)
+            | Kind::Word(Word::Var)
+            | Kind::Word(Word::Assert)
+            | Kind::Word(Word::Assume)
+            | Kind::Word(Word::If)
+    )
+}
+
+/// The tokens, without a semicolon in front.
+pub fn skip_semicolon<'t>(tokens: &'t [Token<'t>]) -> &'t [Token<'t>]
+    ensures { tokens_in result.now ≡ reading.skip_semicolon (tokens_in tokens.now) }
+{
+    let Some((first, rest)) = tokens.split_first() else {
+        return tokens;
+    };
+    if is_symbol(Symbol::Semicolon, first.kind) {
+        return rest;
+    }
+    tokens
+}
+
+#[cycle(stmt)]
+#[tactic(auto, unfolding(vx_grammar::specs::StmtReading::stmts_at))]
+fn statements<'t>(alloc: Global, room: u32, tokens: &'t [Token<'t>]) -> Read<'t, Vec<Stmt>>
+    requires { room < 1000 }
+    ensures { Gives (λ x. (map stmt_of x.0.items, tokens_in x.1.now)) result (reading.stmts_at room (reading.stmts_below room) (tokens_in tokens.now)) }
+{
+    let mut statements = Vec::new(alloc);
+    let mut rest = tokens;
+    for _ in 0..tokens.len() {
+        let Some((first, _)) = rest.split_first() else {
+            return Ok((statements, rest));
+        };
+        if !begins_statement(first.kind) {
+            return Ok((statements, rest));
+        }
+        let (next, after) = statement(alloc, room, rest)?;
+        statements.push(next)?;
+        rest = skip_semicolon(after);
+    }
+    Ok((statements, rest))
+}
+
+// What nests, where it may nest room deeper itself.
+#[cycle(stmt)]
+fn part<'t>(alloc: Global, room: u32, part: StmtPart, tokens: &'t [Token<'t>]) -> Read<'t, Block>
+    requires { room < 1000 }
+    ensures { Gives (λ x. (block_of x.0, tokens_in x.1.now)) result (reading.stmt_part room (reading.stmts_below room) (stmt_part_of part) (tokens_in tokens.now)) }
+{
+    match part {
+        StmtPart::Statements => {
+            let (statements, rest) = statements(alloc, room, tokens)?;
+            Ok((blocked(statements), rest))
+        }
+        StmtPart::Elseif(place) => {
+            let (whole, rest) = branch(alloc, room, place, tokens)?;
+            Ok((single(alloc, whole)?, rest))
+        }
+    }
+}
+
+// A part that the token before it nests one deeper.
+#[cycle(stmt)]
+fn nested_statements<'t>(
+    alloc: Global,
+    room: u32,
+    nested: StmtPart,
+    here: &'t [Token<'t>],
+    tokens: &'t [Token<'t>],
+) -> Read<'t, Block>
+    requires { room < 1000 }
+    ensures { Gives (λ x. (block_of x.0, tokens_in x.1.now)) result (reading.stmts_below room (stmt_part_of nested) (tokens_in here.now) (tokens_in tokens.now)) }
+{
+    match room.checked_sub(1) {
+        Some(less) => part(alloc, less, nested, tokens),
+        None => Err(Stop::TooDeep(here)),
+    }
+}

@@ -1,0 +1,31 @@
+//! Where reading stops.
+
+ghost use Rattle.std.specs.Prelude.{◌≡◌};
+ghost use Rattle.vx_parser.specs.declared.stop.Stop.TheVariants.{Memory};
+
+use std::alloc::{AllocError, AllocFailed};
+use vx_tokens::Token;
+
+/// Why reading stops. The tokens begin with the one that does not fit, or nests too deep; none are left at the end.
+#[derive(Debug, Drop)]
+pub enum Stop<'t> {
+    Memory,
+    Unexpected(&'t [Token<'t>]),
+    TooDeep(&'t [Token<'t>]),
+}
+
+impl<'t> From<AllocError> for Stop<'t> {
+    ghost from_gives = { λ _ e. e ≡ Memory };
+
+    fn from(_e: AllocError) -> Stop<'t> {
+        Stop::Memory
+    }
+}
+
+impl<'t, T: Drop> From<AllocFailed<T>> for Stop<'t> {
+    ghost from_gives = { λ _ e. e ≡ Memory };
+
+    fn from(_e: AllocFailed<T>) -> Stop<'t> {
+        Stop::Memory
+    }
+}

@@ -1,0 +1,158 @@
+use super::*;
+use std::alloc::{AllocError, Global};
+use std::test::*;
+
+// What the text is read as: `ok`, or its fault as it is printed.
+fn answer(alloc: Global, text: &[u8]) -> Result<String, AllocError> {
+    match parse(alloc, text) {
+        Ok(_) => String::from_str(alloc, "ok"),
+        Err(fault) => {
+            let place = fault.place();
+            let code = fault.code();
+            let name = fault.name();
+            match fault.argument() {
+                Some(argument) => format!(in alloc;
+                    "{}:{} {code} {name} {argument}",
+                    place.line, place.column
+                ),
+                None => format!(in alloc; "{}:{} {code} {name}", place.line, place.column),
+            }
+        }
+    }
+}
+
+const ROWS: [(&str, &str); 33] = [
+    ("", "ok"),
+    (
+        "method id(b: Bool) returns (c: Bool) requires b ensures c { c := b }",
+        "ok",
+    ),
+    ("method m() requires false { assert false }", "ok"),
+    (
+        "method m(x: Int, y: Bool) { var z: Int := x * x + 1; z := -z if (y && z != 0) { assume z < 2 } elseif (z >= 1) {} else { } assert y ? z > 1 : z <= 3 }",
+        "ok",
+    ),
+    ("method m() { } ; method n() { }", "ok"),
+    (
+        "method m() { assert forall i: Int :: i >= 0 }",
+        "1:21 E09 Unsupported forall",
+    ),
+    (
+        "method m() { assert 170141183460469231731687303715884105728 > 0 }",
+        "1:21 E05 WideLiteral",
+    ),
+    (
+        "method m() { assert 170141183460469231731687303715884105727 > 0 }",
+        "ok",
+    ),
+    ("method m() {", "1:13 E04 EndOfText"),
+    (
+        "method m() { /* a */ assert true } /* b\n",
+        "2:1 E04 EndOfText",
+    ),
+    (
+        "method m() { // é\n assert (true }",
+        "2:15 E03 Unexpected }",
+    ),
+    ("method m() { x = 1 }", "1:16 E02 BadCharacter"),
+    ("method m() { assert a & b }", "1:23 E02 BadCharacter"),
+    ("method m() { assert é }", "1:21 E02 BadCharacter"),
+    ("method m(x: Ref) { }", "1:13 E09 Unsupported Ref"),
+    (
+        "method m() { while (true) { } }",
+        "1:14 E09 Unsupported while",
+    ),
+    ("method m() { assert a / b }", "1:23 E09 Unsupported /"),
+    ("method m() { assert a.f }", "1:22 E09 Unsupported ."),
+    ("method m() { assert a --* b }", "1:23 E09 Unsupported --*"),
+    ("method m() { assert [a, b] }", "1:21 E09 Unsupported ["),
+    ("method m() { assert a ] }", "1:23 E02 BadCharacter"),
+    (
+        "method m() decreases 1 { }",
+        "1:12 E09 Unsupported decreases",
+    ),
+    ("adt T { }", "1:1 E09 Unsupported adt"),
+    ("method adt() { }", "ok"),
+    ("method adt adt", "1:12 E03 Unexpected adt"),
+    ("field f: Int", "1:1 E09 Unsupported field"),
+    ("function f(): Int", "1:1 E09 Unsupported function"),
+    ("method m() { assert true } 007", "1:28 E03 Unexpected 007"),
+    ("method method() { }", "1:8 E03 Unexpected method"),
+    ("method m() { assert a == b c := d", "1:34 E04 EndOfText"),
+    ("\u{feff}method m() { ! }", "1:14 E03 Unexpected !"),
+    ("\u{feff}\u{feff}", "1:1 E02 BadCharacter"),
+    ("method m()\r\n\t{ assert ; }", "2:11 E03 Unexpected ;"),
+];
+
+#[test]
+fn rows(rt: HostRuntime) -> Result<(), Fail> {
+    for (text, want) in ROWS {
+        let got = answer(rt.alloc(), text.as_bytes())?;
+        assert_eq!(rt; got.as_str(), want, "{text}");
+    }
+    Ok(())
+}
+
+#[test]
+fn bytes_of_no_character(rt: HostRuntime) -> Result<(), Fail> {
+    let alloc = rt.alloc();
+    assert_eq!(rt; answer(alloc, &[0xff])?.as_str(), "1:1 E01 NotUtf8");
+    assert_eq!(rt;
+        answer(alloc, b"method\n \xc3\xa9 \xc3(")?.as_str(),
+        "2:4 E01 NotUtf8"
+    );
+    assert_eq!(rt; answer(alloc, b"@ \xff")?.as_str(), "1:3 E01 NotUtf8");
+    Ok(())
+}
+
+#[test]
+fn long_texts(rt: HostRuntime) -> Result<(), Fail> {
+    let alloc = rt.alloc();
+    let mut text = vec![in alloc; b' '; 4194304]?;
+    assert_eq!(rt; answer(alloc, text.as_slice())?.as_str(), "ok");
+    text.push(0xff)?;
+    assert_eq!(rt; answer(alloc, text.as_slice())?.as_str(), "1:1 E07 TooLong");
+    Ok(())
+}
+
+fn nested(
+    alloc: Global,
+    front: &[u8],
+    open: u8,
+    count: usize,
+    close: &[u8],
+) -> Result<String, AllocError> {
+    let mut text = Vec::from_slice(alloc, front)?;
+    for _ in 0..count {
+        text.push(open)?;
+    }
+    text.extend_from_slice(b"true")?;
+    if !close.is_empty() {
+        for _ in 0..count {
+            text.extend_from_slice(close)?;
+        }
+    }
+    text.extend_from_slice(b" }")?;
+    answer(alloc, text.as_slice())
+}
+
+#[test]
+fn nesting(rt: HostRuntime) -> Result<(), Fail> {
+    let alloc = rt.alloc();
+    let front = b"method m() { assert ";
+    assert_eq!(rt; nested(alloc, front, b'(', 199, b")")?.as_str(), "ok");
+    assert_eq!(rt;
+        nested(alloc, front, b'(', 200, b")")?.as_str(),
+        "1:220 E06 TooDeep"
+    );
+    assert_eq!(rt; nested(alloc, front, b'!', 199, b"")?.as_str(), "ok");
+    assert_eq!(rt;
+        nested(alloc, front, b'!', 200, b"")?.as_str(),
+        "1:220 E06 TooDeep"
+    );
+    assert_eq!(rt;
+        nested(alloc, front, b'(', 200, b"")?.as_str(),
+        "1:220 E06 TooDeep"
+    );
+    Ok(())
+}

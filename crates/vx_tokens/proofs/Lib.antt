@@ -1,0 +1,6 @@
+pub mod Digits
+pub mod Letters
+pub mod Scan
+pub mod Pieces
+pub mod Right
+pub mod Answer
