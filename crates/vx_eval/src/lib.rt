@@ -1,0 +1,9 @@
+//! The rules of expressions, step by step.
+#![tactic(auto)]
+
+mod expression;
+mod operand;
+mod operators;
+
+pub use expression::step;
+pub use operand::step_operand;
