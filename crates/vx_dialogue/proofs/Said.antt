@@ -3,11 +3,15 @@ use Rattle.std.proofs.Common.{◌≡◌, ◌++◌, ◌+◌, ℕ, zero, suc, Bool
 use Rattle.vx_terms.specs.Terms.{Term}
 use Rattle.vx_smt_meaning.specs.Commands.{Command, Declared, DeclareFun, Assert, Push, Pop, CheckSat, Level, empty_level, opened, stack_after, stack_from, assertions_of, declared_in, checks_from}
 use Rattle.vx_smt_text.specs.Text.{command_text, commands_text}
-use Rattle.vx_dialogue.specs.Dialogue.{declarations, assertions, question, opening, pushed, under}
+use Rattle.vx_dialogue.specs.Preamble.{front}
+use Rattle.vx_dialogue.specs.Dialogue.{preamble, declarations, assertions, question, opening, pushed, under}
 
 text_append : (xs ys : List Command) → commands_text (xs ++ ys) ≡ commands_text xs ++ commands_text ys
 text_append [] ys = refl
 text_append (c ∷ xs) ys = ap (λ x. command_text c ++ x) (text_append xs ys) ∙ sym (append_assoc (command_text c) (commands_text xs) (commands_text ys))
+
+pub preamble_text : (before : List ℕ) (c : Bool) (fs : List Declared) → before ++ commands_text (preamble c fs) ≡ (before ++ commands_text (front c)) ++ commands_text (declarations fs)
+preamble_text before c fs = rw text_append (simp append_assoc)
 
 none_more : {A : Type 0} (xs : List A) → xs ++ [] ≡ xs
 none_more [] = refl

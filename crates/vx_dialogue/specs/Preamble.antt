@@ -7,10 +7,16 @@ use Rattle.vx_smt_meaning.specs.Commands.{Command, SetOption, SetLogic, DeclareS
 abbrev pub standard : ℕ → List Sort → Sort → Command
 standard n takes gives = DeclareFun (record { symbol = Standard n; takes = takes; gives = gives })
 
--- the options and the sorts; proofs are asked for only under certify
+unfoldable pub print_success : List ℕ
+print_success = codes ":print-success"
+
+unfoldable pub produce_proofs : List ℕ
+produce_proofs = codes ":produce-proofs"
+
+-- proofs are asked for only under certify
 abbrev pub options : Bool → List Command
-options true = SetOption (codes ":print-success") true ∷ SetOption (codes ":produce-proofs") true ∷ []
-options false = SetOption (codes ":print-success") true ∷ []
+options true = SetOption print_success true ∷ SetOption produce_proofs true ∷ []
+options false = SetOption print_success true ∷ []
 
 abbrev pub logic : List Command
 logic = SetLogic (codes "ALL") ∷ DeclareSort (codes "Ref") ∷ DeclareSort (codes "Snap") ∷ []

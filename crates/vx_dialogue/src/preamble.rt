@@ -4,7 +4,7 @@ ghost use Rattle.vx_terms.specs.Sorts.{SnapSort};
 ghost use Rattle.vx_terms.specs.Views.{sort};
 ghost use Rattle.vx_smt_meaning.specs.Commands as Spec;
 ghost use Rattle.vx_smt_meaning.specs.Views.{command};
-ghost use Rattle.vx_dialogue.specs.Preamble.{standard, options, logic, pairs, wraps, unwraps, front};
+ghost use Rattle.vx_dialogue.specs.Preamble.{standard, print_success, produce_proofs, options, logic, pairs, wraps, unwraps, front};
 
 use std::alloc::{AllocError, Global};
 use vx_smt_meaning::{Command, Declared};
@@ -18,12 +18,26 @@ fn put_option(alloc: Global, commands: &mut Vec<Command>, name: &str) -> Result<
     Ok(())
 }
 
+#[tactic(auto, unfolding(crate::specs::Preamble::print_success))]
+fn put_print_success(alloc: Global, commands: &mut Vec<Command>) -> Result<(), AllocError>
+    ensures { OnOk result (map command commands.new.items ≡ map command commands.old.items ++ Spec.SetOption print_success true ∷ []) }
+{
+    put_option(alloc, commands, ":print-success")
+}
+
+#[tactic(auto, unfolding(crate::specs::Preamble::produce_proofs))]
+fn put_produce_proofs(alloc: Global, commands: &mut Vec<Command>) -> Result<(), AllocError>
+    ensures { OnOk result (map command commands.new.items ≡ map command commands.old.items ++ Spec.SetOption produce_proofs true ∷ []) }
+{
+    put_option(alloc, commands, ":produce-proofs")
+}
+
 fn put_options(alloc: Global, commands: &mut Vec<Command>, certify: bool) -> Result<(), AllocError>
     ensures { OnOk result (map command commands.new.items ≡ map command commands.old.items ++ options certify) }
 {
-    put_option(alloc, commands, ":print-success")?;
+    put_print_success(alloc, commands)?;
     if certify {
-        put_option(alloc, commands, ":produce-proofs")?;
+        put_produce_proofs(alloc, commands)?;
     }
     Ok(())
 }

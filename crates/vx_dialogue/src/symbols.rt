@@ -3,7 +3,7 @@ ghost use Rattle.std.specs.Prelude.{◌≡◌, [], OnOk, OnErr, IfOk, map};
 ghost use Rattle.vx_terms.specs.Views.{sort, symbol, term, terms};
 ghost use Rattle.vx_smt_meaning.specs.Views.{declared_symbol};
 ghost use Rattle.vx_dialogue.specs.Dialogue.{shared};
-ghost use Rattle.vx_dialogue.specs.Symbols.{with_variable, with_symbol, with_variables, with_all_variables, with_listed};
+ghost use Rattle.vx_dialogue.specs.Symbols.{variable, with_variable, with_symbol, with_variables, with_all_variables, with_listed};
 
 use std::alloc::{AllocError, Global};
 use std::collections::BTreeSet;
@@ -20,7 +20,8 @@ pub struct Variables {
 }
 
 impl Model for Variables {
-    ghost use Rattle.std.specs.Prelude.{◌≡◌, ℕ, List, map, nat_cmp};
+    ghost use Rattle.std.specs.Ordering.{nat_cmp};
+    ghost use Rattle.std.specs.Prelude.{◌≡◌, ℕ, List, map};
     ghost use Rattle.std.specs.BTreeSet.{contains};
     ghost use Rattle.vx_smt_meaning.specs.Commands.{Declared};
     ghost use Rattle.vx_smt_meaning.specs.Views.{declared_symbol};
@@ -46,6 +47,16 @@ fn copy_sort(a: &Sort) -> Result<Sort, AllocError>
     }
 }
 
+fn variable_of(alloc: Global, number: u64, gives: Sort) -> Declared
+    ensures { declared_symbol result ≡ variable number (sort gives) }
+{
+    Declared {
+        symbol: Symbol::Variable(number),
+        takes: Vec::new(alloc),
+        gives,
+    }
+}
+
 impl Variables {
     pub fn new(alloc: Global) -> Variables
         ensures { result ≡ [] }
@@ -68,12 +79,7 @@ impl Variables {
         let gives = copy_sort(a)?;
         self.symbols.reserve(1)?;
         if self.numbers.insert(number)? {
-            let variable = Declared {
-                symbol: Symbol::Variable(number),
-                takes: Vec::new(alloc),
-                gives,
-            };
-            return match self.symbols.push(variable) {
+            return match self.symbols.push(variable_of(alloc, number, gives)) {
                 Ok(()) => Ok(()),
                 Err(_) => unreachable!(),
             };
