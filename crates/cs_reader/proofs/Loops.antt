@@ -1,0 +1,69 @@
+-- One more round of the readers that go on while there are tokens.
+use Rattle.std.proofs.Common.{◌≡◌, ℕ, suc, ◌+◌, ◌-◌, ◌<◌, Bool, true, false, List, [], ◌∷◌, ◌++◌, Option, Some, None, Ok, Err, refl, sym, ◌∙◌, ap, append_assoc, append-nil, arith}
+use Rattle.std.specs.Prelude.{if◌then◌else◌}
+use Rattle.std.specs.declared.result.Result.{Result}
+use Rattle.vx_frac.specs.Fractions.{Fraction}
+use Rattle.vx_sexp.specs.declared.token.Token.{Token}
+use Rattle.cs_reader.specs.declared.reader.Stop.{Stop}
+use Rattle.cs_reader.specs.declared.reader.Stop.TheVariants as stops
+use Rattle.cs_reader.specs.Steps.{Step}
+use Rattle.cs_reader.specs.Reading.{◌>>=◌, Fails, with_front, more_at, with_more, multipliers_for, is_end, step_at, with_steps, after_step, steps_for}
+
+one_less : (len n : ℕ) → n < len → len - n ≡ suc (len - (n + 1))
+one_less len n h = omega arith
+
+-- multipliers
+unrolled : (len n : ℕ) (ts : List Token) → n < len → multipliers_for (len - n) ts ≡ (more_at ts >>= λ m. with_more m.0 (multipliers_for (len - (n + 1)) m.1) m.1)
+unrolled len n ts h = ap (λ k. multipliers_for k ts) (one_less len n h)
+
+pub stops_here : (xs : List Fraction) (len n : ℕ) (ts : List Token) (stop : Stop) (r : Option (List Fraction × List Token)) → n < len →
+    with_front xs (multipliers_for (len - n) ts) ≡ r → Fails stop (more_at ts) → Fails stop r
+stops_here xs len n ts stops.Want r h e f = tt
+stops_here xs len n ts stops.Form r h e f =
+    sym e ∙ ap (with_front xs) (unrolled len n ts h ∙ ap (λ o. o >>= λ m. with_more m.0 (multipliers_for (len - (n + 1)) m.1) m.1) f)
+
+pub ends_here : (xs : List Fraction) (len n : ℕ) (ts behind : List Token) (r : Option (List Fraction × List Token)) → n < len →
+    with_front xs (multipliers_for (len - n) ts) ≡ r → more_at ts ≡ Some (None, behind) → r ≡ Some (xs, behind)
+ends_here xs len n ts behind r h e f =
+    sym e ∙ ap (with_front xs) (unrolled len n ts h ∙ ap (λ o. o >>= λ m. with_more m.0 (multipliers_for (len - (n + 1)) m.1) m.1) f)
+    ∙ ap (λ ys. Some (ys, behind)) (append-nil xs)
+
+front_front : {A : Type 0} (xs : List A) (x : A) (o : Option (List A × List Token)) → with_front xs (with_front (x ∷ []) o) ≡ with_front (xs ++ x ∷ []) o
+front_front xs x None = refl
+front_front xs x (Some r) = ap (λ ys. Some (ys, r.1)) (sym (append_assoc xs (x ∷ []) r.0))
+
+pub goes_on : (xs : List Fraction) (x : Fraction) (len n : ℕ) (ts behind : List Token) (r : Option (List Fraction × List Token)) → n < len →
+    with_front xs (multipliers_for (len - n) ts) ≡ r → more_at ts ≡ Some (Some x, behind) → with_front (xs ++ x ∷ []) (multipliers_for (len - (n + 1)) behind) ≡ r
+goes_on xs x len n ts behind r h e f =
+    sym (front_front xs x (multipliers_for (len - (n + 1)) behind))
+    ∙ ap (with_front xs) (sym (unrolled len n ts h ∙ ap (λ o. o >>= λ m. with_more m.0 (multipliers_for (len - (n + 1)) m.1) m.1) f))
+    ∙ e
+
+-- steps
+unrolled_steps : (len n : ℕ) (ts : List Token) → n < len → is_end ts ≡ false → steps_for (len - n) n ts ≡ after_step (step_at ts) n (steps_for (len - (n + 1)) (n + 1))
+unrolled_steps len n ts h e =
+    ap (λ k. steps_for k n ts) (one_less len n h)
+    ∙ ap (λ b. cond_steps b) e
+  where
+    cond_steps : Bool → Result (List Step) ℕ
+    cond_steps b = if b then Ok [] else after_step (step_at ts) n (steps_for (len - (n + 1)) (n + 1))
+
+pub last_step : (ss : List Step) (len n : ℕ) (ts : List Token) (r : Result (List Step) ℕ) → n < len → with_steps ss (steps_for (len - n) n ts) ≡ r → is_end ts ≡ true → r ≡ Ok ss
+last_step ss len n ts r h e f =
+    sym e ∙ ap (with_steps ss) (ap (λ k. steps_for k n ts) (one_less len n h) ∙ ap (λ b. if b then Ok [] else after_step (step_at ts) n (steps_for (len - (n + 1)) (n + 1))) f)
+    ∙ ap Ok (append-nil ss)
+
+pub bad_step : (ss : List Step) (len n : ℕ) (ts : List Token) (r : Result (List Step) ℕ) → n < len → with_steps ss (steps_for (len - n) n ts) ≡ r → is_end ts ≡ false → step_at ts ≡ None → r ≡ Err n
+bad_step ss len n ts r h e f g =
+    sym e ∙ ap (with_steps ss) (unrolled_steps len n ts h f ∙ ap (λ o. after_step o n (steps_for (len - (n + 1)) (n + 1))) g)
+
+steps_steps : (ss : List Step) (s : Step) (r : Result (List Step) ℕ) → with_steps ss (with_steps (s ∷ []) r) ≡ with_steps (ss ++ s ∷ []) r
+steps_steps ss s (Ok more) = ap Ok (sym (append_assoc ss (s ∷ []) more))
+steps_steps ss s (Err n) = refl
+
+pub good_step : (ss : List Step) (s : Step) (len n : ℕ) (ts behind : List Token) (r : Result (List Step) ℕ) → n < len → with_steps ss (steps_for (len - n) n ts) ≡ r → is_end ts ≡ false →
+    step_at ts ≡ Some (s, behind) → with_steps (ss ++ s ∷ []) (steps_for (len - (n + 1)) (n + 1) behind) ≡ r
+good_step ss s len n ts behind r h e f g =
+    sym (steps_steps ss s (steps_for (len - (n + 1)) (n + 1) behind))
+    ∙ ap (with_steps ss) (sym (unrolled_steps len n ts h f ∙ ap (λ o. after_step o n (steps_for (len - (n + 1)) (n + 1))) g))
+    ∙ e
