@@ -93,10 +93,14 @@ abbrev pub is_faulted : Verdict → Bool
 is_faulted (verdict.Fault c) = true
 is_faulted _ = false
 
+abbrev pub decided_text : ℕ → ℕ → List ℕ
+decided_text verified failed = (decimal verified ++ codes " verified, ") ++ (decimal failed ++ codes " failed, 0 resting, ")
+
+abbrev pub others_text : ℕ → ℕ → List ℕ
+others_text limited faulted = (decimal limited ++ codes " limited, ") ++ (decimal faulted ++ codes " faults\n")
+
 abbrev pub total_of : List MemberRun → List ℕ
-total_of rs =
-    decimal (count_of is_verified rs) ++ codes " verified, " ++ decimal (count_of is_failed rs) ++ codes " failed, 0 resting, "
-    ++ decimal (count_of is_limited rs) ++ codes " limited, " ++ decimal (count_of is_faulted rs) ++ codes " faults" ++ 10 ∷ []
+total_of rs = decided_text (count_of is_verified rs) (count_of is_failed rs) ++ others_text (count_of is_limited rs) (count_of is_faulted rs)
 
 abbrev pub report_of : Program → List MemberRun → List ℕ
 report_of p rs = lines_of p rs ++ total_of rs

@@ -1,6 +1,7 @@
 //! The text of the report.
 
 ghost use Rattle.std.specs.Prelude.{◌≡◌, ◌++◌, ◌<◌, ℕ, OnOk, string_bytes, length, codes, Some, slice_get};
+ghost use Rattle.std.specs.Fmt.{decimal};
 ghost use Rattle.vx_ast.specs.Resolved.{kind as kind_of};
 ghost use Rattle.vx_report.specs.Reports as spec;
 ghost use Rattle.vx_report.specs.Reports.{AreNamed};
@@ -141,13 +142,33 @@ fn totals_of(runs: &[MemberRun]) -> Totals
     totals
 }
 
+fn write_count(out: &mut String, count: u64, word: &str) -> Result<(), AllocError>
+    ensures { OnOk result (string_bytes out.new ≡ string_bytes out.old ++ (decimal count ++ word.now)) }
+{
+    write!(out, "{}{}", count, word)?;
+    Ok(())
+}
+
+fn write_decided(out: &mut String, verified: u64, failed: u64) -> Result<(), AllocError>
+    ensures { OnOk result (string_bytes out.new ≡ string_bytes out.old ++ spec.decided_text verified failed) }
+{
+    write_count(out, verified, " verified, ")?;
+    write_count(out, failed, " failed, 0 resting, ")
+}
+
+fn write_others(out: &mut String, limited: u64, faulted: u64) -> Result<(), AllocError>
+    ensures { OnOk result (string_bytes out.new ≡ string_bytes out.old ++ spec.others_text limited faulted) }
+{
+    write_count(out, limited, " limited, ")?;
+    write_count(out, faulted, " faults\n")
+}
+
 fn write_total(out: &mut String, runs: &[MemberRun]) -> Result<(), AllocError>
     ensures { OnOk result (string_bytes out.new ≡ string_bytes out.old ++ spec.total_of runs.now) }
 {
     let totals = totals_of(runs);
-    write!(out, "{} verified, {} failed, 0 resting, ", totals.verified, totals.failed)?;
-    write!(out, "{} limited, {} faults\n", totals.limited, totals.faulted)?;
-    Ok(())
+    write_decided(out, totals.verified, totals.failed)?;
+    write_others(out, totals.limited, totals.faulted)
 }
 
 fn write_lines(out: &mut String, typed: &Typed, runs: &[MemberRun]) -> Result<(), AllocError>

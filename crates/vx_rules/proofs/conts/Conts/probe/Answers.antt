@@ -18,8 +18,8 @@ returns-then-is_same-2 c =
     let c' : Term = term c.args.condition.now.value in
     let s' : State = state c.args.otherwise.state in
     let q = c.in_ok-query.query in
-    let e1 : same c' true_term ≡ false = cc in
-    let e2 : same c' false_term ≡ true = cc in
+    let e1 : same c' true_term ≡ false = ap (λ t. same (term t) true_term) (sym c.deref.ensures) ∙ sym c.is_same.ensures ∙ c.if-is_same.false in
+    let e2 : same c' false_term ≡ true = ap (λ t. same (term t) false_term) (sym c.deref-2.ensures) ∙ sym c.is_same-2.ensures ∙ c.if-is_same-2.true in
     let a : Side = record { frame = frame'.Go c.in_ok-finish.finish; state = c.args.refuted.state } in
     let n : c.push-then-is_same-2.new.self.sides.items ≡ c.args.self.now.sides.items ++ c.args.otherwise ∷ a ∷ [] = rw (c.in_ok-push-2.ensures, c.in_ok-push.ensures.items, append_assoc) refl in
     checked_probe p q _ _ _ a c.args.otherwise c.in_ok-query.ensures.probe n
@@ -32,8 +32,8 @@ returns c =
     let c' : Term = term c.args.condition.now.value in
     let s' : State = state c.args.otherwise.state in
     let q = c.in_ok-query.query in
-    let e1 : same c' true_term ≡ false = cc in
-    let e2 : same c' false_term ≡ false = cc in
+    let e1 : same c' true_term ≡ false = ap (λ t. same (term t) true_term) (sym c.deref.ensures) ∙ sym c.is_same.ensures ∙ c.if-is_same.false in
+    let e2 : same c' false_term ≡ false = ap (λ t. same (term t) false_term) (sym c.deref-2.ensures) ∙ sym c.is_same-2.ensures ∙ c.if-is_same-2.false in
     let n : c.push-2.new.self.items ≡ c.args.self.now.sides.items ++ c.args.otherwise ∷ c.args.refuted ∷ [] = rw (c.in_ok-push-3.ensures.items, c.in_ok-push.ensures.items, append_assoc) refl in
     checked_probe p q _ _ _ c.args.refuted c.args.otherwise c.in_ok-query.ensures.probe n
     (probe_other c' c.args.place (code c.args.code) s' (side_tree p c.args.refuted) (side_tree p c.args.otherwise) (query q) refl e1 e2 c.in_ok-query.ensures.question)

@@ -1,0 +1,32 @@
+-- What the words of the command line mean.
+use Rattle.std.specs.Prelude.{◌≡◌, ◌==◌, List, [], ◌∷◌, length, Option, Some, None, Result, Ok, Err, codes, option_and_then, nat_le, if◌then◌else◌}
+use Rattle.std.specs.Str.{bytes_eq}
+use Rattle.clap.specs.Words.{Text, fault_of, subcommand_of}
+use Rattle.vx_words.specs.Table.{vsil_app}
+use Rattle.vx_words.specs.declared.order.Order.{Order}
+use Rattle.vx_words.specs.declared.order.Order.TheVariants.{Verify}
+use Rattle.vx_words.specs.declared.order.WordsFault.{WordsFault}
+use Rattle.vx_words.specs.declared.order.WordsFault.TheVariants.{Usage, Want}
+
+-- no words after the name mean `verify`
+abbrev pub default_words : List Text → List Text
+default_words words = if nat_le (length words) 1 then (codes "vsil" ∷ codes "verify" ∷ []) else words
+
+-- the order of a subcommand, by its name
+abbrev pub order_from : Text → Option Order
+order_from name = if bytes_eq name (codes "verify") then Some Verify else None
+
+-- what the words mean, if the table takes them
+abbrev pub order_of_words : List Text → Option Order
+order_of_words words =
+    if length (fault_of vsil_app words) == 0 then option_and_then (λ p. order_from p.0) (subcommand_of vsil_app words) else None
+
+-- the first word is the program's name
+abbrev pub order_of : List Text → Option Order
+order_of words = order_of_words (default_words words)
+
+-- `Usage` comes exactly where the words mean nothing.
+abbrev pub ReadsAs : Option Order → Result Order WordsFault → Type 0
+ReadsAs meaning (Ok order) = meaning ≡ Some order
+ReadsAs meaning (Err Usage) = meaning ≡ None
+ReadsAs meaning (Err Want) = Unit {0}

@@ -1,0 +1,41 @@
+// The table of commands, as it is given to the parser.
+ghost use Rattle.std.specs.Prelude.{◌≡◌, IfOk, false};
+ghost use Rattle.clap.specs.Words.{app_of, shape_of, with_subcommand};
+ghost use Rattle.clap.specs.declared.builder.command.Command.TheViews.{out-Command as fields_of};
+ghost use Rattle.vx_words.specs.Table.{verify_shape, top_app, vsil_app};
+
+use clap::Command;
+use std::alloc::{AllocError, Global};
+
+fn verify<'a>(alloc: Global) -> Command<'a>
+    ensures shape { shape_of result ≡ verify_shape }
+    ensures local { (fields_of result).has_globals ≡ false }
+{
+    Command::new(alloc, "verify")
+}
+
+// The program without its commands.
+fn top<'a>(alloc: Global) -> Command<'a>
+    ensures { app_of result ≡ top_app }
+{
+    Command::new(alloc, "vsil")
+        .disable_help_flag(true)
+        .disable_help_subcommand(true)
+        .disable_version_flag(true)
+        .subcommand_required(true)
+}
+
+// One command more.
+fn with<'a>(whole: Command<'a>, part: Command<'a>) -> Result<Command<'a>, AllocError>
+    requires { (fields_of part).has_globals ≡ false }
+    ensures { IfOk result (λ c. app_of c ≡ with_subcommand (app_of whole.entry) (shape_of part.entry)) }
+{
+    whole.subcommand(part)
+}
+
+/// The table of commands.
+pub fn table<'a>(alloc: Global) -> Result<Command<'a>, AllocError>
+    ensures { IfOk result (λ c. app_of c ≡ vsil_app) }
+{
+    with(top(alloc), verify(alloc))
+}

@@ -1,0 +1,76 @@
+// The order that the words give.
+ghost use Rattle.std.specs.Prelude.{◌≡◌, ◌⊎◌, IfOk, map, string_bytes};
+ghost use Rattle.vx_words.specs.Orders.{default_words, order_from, order_of_words, order_of, ReadsAs};
+ghost use Rattle.vx_words.specs.Parses.{Parses};
+ghost use Rattle.clap.specs.Words.{kind_of};
+
+use crate::command_table::table;
+use crate::{Order, WordsFault};
+use clap::error::ErrorKind;
+use clap::{ArgMatches, Error};
+use std::alloc::{AllocError, Global};
+use vx_ends::Parts;
+
+// No words after the name mean `verify`.
+fn with_default(alloc: Global, words: &Parts) -> Result<Parts, AllocError>
+    ensures { IfOk result (λ filled. filled ≡ default_words words.now) }
+{
+    if words.len() > 1 {
+        return words.copy(alloc);
+    }
+    let mut filled = Parts::new(alloc);
+    filled.push(alloc, "vsil")?;
+    filled.push(alloc, "verify")?;
+    Ok(filled)
+}
+
+// Of what kind a refusal is.
+fn fault_of(error: Error) -> WordsFault
+    ensures usage { result ≡ WordsFault.Usage → kind_of error ≡ ErrorKind.OutOfMemory → ⊥ }
+    ensures either { (result ≡ WordsFault.Usage) ⊎ (result ≡ WordsFault.Want) }
+{
+    match error.kind() {
+        ErrorKind::OutOfMemory => WordsFault::Want,
+        _ => WordsFault::Usage,
+    }
+}
+
+// What the table of commands makes of the words.
+fn parse<'a>(alloc: Global, words: &'a [String]) -> Result<ArgMatches<'a>, WordsFault>
+    ensures { Parses (map string_bytes words.entry.now) result }
+{
+    match table(alloc)?.try_get_matches_from(words) {
+        Ok(matches) => Ok(matches),
+        Err(error) => Err(fault_of(error)),
+    }
+}
+
+// The order of a command's name.
+fn order_named(name: &str) -> Result<Order, WordsFault>
+    ensures { ReadsAs (order_from name.now) result }
+{
+    if name == "verify" {
+        Ok(Order::Verify)
+    } else {
+        Err(WordsFault::Usage)
+    }
+}
+
+// The order of words that name a command.
+fn read_texts(alloc: Global, words: &[String]) -> Result<Order, WordsFault>
+    ensures { ReadsAs (order_of_words (map string_bytes words.now)) result }
+{
+    let matches = parse(alloc, words)?;
+    match matches.subcommand() {
+        Some((name, _)) => order_named(name),
+        None => Err(WordsFault::Usage),
+    }
+}
+
+/// What the words of the command line mean; the first is the program's name.
+pub fn read_words(alloc: Global, words: &Parts) -> Result<Order, WordsFault>
+    ensures { ReadsAs (order_of words.now) result }
+{
+    let filled = with_default(alloc, words)?;
+    read_texts(alloc, filled.texts())
+}
