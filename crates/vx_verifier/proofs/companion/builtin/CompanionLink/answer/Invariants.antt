@@ -1,0 +1,5 @@
+use Rattle.std.proofs.Common.{◌≡◌, ℕ, length}
+use Rattle.vx_verifier.proofs.companion.builtin.CompanionLink.answer.Given as goal
+
+abbrev pub decreases-loop-taken : goal.decreases-loop-taken
+decreases-loop-taken l = length l.rest

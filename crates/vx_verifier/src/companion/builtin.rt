@@ -1,0 +1,185 @@
+// The companion's link and its spawner.
+ghost use Rattle.std.specs.Prelude.{◌≡◌, ℕ, ◌+◌, ◌≤◌, ◌==◌, [], vec_len, vec_capacity, count_by, false};
+
+use crate::companion::Session;
+use std::alloc::{AllocError, Global};
+use vx_ends::{
+    Bytes, Ending, Link, LinkFault, Parts, Piece, Record, Spawner, Start, StartFault, remove_once,
+};
+use vx_sexp::cut;
+
+/// The link to a companion: it answers each finished command of what is sent.
+#[derive(Drop)]
+pub struct CompanionLink {
+    session: Session,
+    // what was sent and isn't finished yet
+    unread: Vec<u8>,
+    // replies that were not got yet
+    replies: Vec<u8>,
+    pieces: Vec<Piece>,
+    faults: u64,
+    // memory ran out in the midst of a command
+    is_spent: bool,
+}
+
+impl CompanionLink {
+    fn new(alloc: Global) -> CompanionLink
+        ensures dialogue { result.pieces.items ≡ [] }
+        ensures faults { result.faults ≡ 0 }
+    {
+        CompanionLink {
+            session: Session::new(alloc),
+            unread: Vec::new(alloc),
+            replies: Vec::new(alloc),
+            pieces: Vec::new(alloc),
+            faults: 0,
+            is_spent: false,
+        }
+    }
+
+    // Answers each finished command.
+    fn answer(&mut self, alloc: Global, piece: &[u8]) -> Result<(), AllocError>
+        ensures dialogue { self.new.pieces ≡ self.old.pieces }
+        ensures faults { self.new.faults ≡ self.old.faults }
+    {
+        self.unread.extend_from_slice(piece)?;
+        let mut rest: &[u8] = &self.unread;
+        while let Ok(taken) = cut(rest) {
+            if taken == 0 {
+                break;
+            }
+            let (command, more) = rest.split_at(taken);
+            let reply = self.session.command(alloc, command)?;
+            self.replies.extend_from_slice(reply.as_bytes())?;
+            rest = more;
+        }
+        self.unread = rest.to_vec(alloc)?;
+        Ok(())
+    }
+}
+
+impl Link for CompanionLink {
+    ghost dialogue = { λ l. l.pieces.items };
+
+    ghost faults = { λ l. l.faults };
+
+    ghost steady = { λ _. false };
+
+    fn send(&mut self, alloc: Global, piece: &[u8]) -> Result<usize, LinkFault> {
+        if self.faults > 0 {
+            self.faults = self.faults.saturating_add(1);
+            return Err(LinkFault::Failed);
+        }
+        if self.is_spent {
+            return Err(LinkFault::Want);
+        }
+        let copy = Bytes::copy(alloc, piece)?;
+        self.pieces.reserve(1)?;
+        self.is_spent = true;
+        self.answer(alloc, piece)?;
+        self.is_spent = false;
+        match self.pieces.push(Piece::Sent(copy)) {
+            Ok(()) => Ok(piece.len()),
+            Err(_) => unreachable!(),
+        }
+    }
+
+    fn receive(&mut self, alloc: Global, max: usize) -> Result<Vec<u8>, LinkFault> {
+        if self.faults > 0 || self.replies.is_empty() {
+            self.faults = self.faults.saturating_add(1);
+            return Err(LinkFault::Failed);
+        }
+        let count = self.replies.len().min(max);
+        let (front, back) = self.replies.split_at(count);
+        let piece = front.to_vec(alloc)?;
+        let copy = Bytes::copy(alloc, front)?;
+        let rest = back.to_vec(alloc)?;
+        self.pieces.reserve(1)?;
+        match self.pieces.push(Piece::Got(copy)) {
+            Ok(()) => {
+                self.replies = rest;
+                Ok(piece)
+            }
+            Err(_) => unreachable!(),
+        }
+    }
+}
+
+/// Starts companions. Its command is the one word `builtin`.
+#[derive(Drop)]
+pub struct Builtin {
+    starts: Vec<Start>,
+    // the lane of each link that is out
+    lanes_out: Vec<u32>,
+    ended: Vec<Ending>,
+    ghost room: { vec_len ended + vec_len lanes_out ≤ vec_capacity ended },
+}
+
+impl Builtin {
+    pub fn new(alloc: Global) -> Builtin
+        ensures starts { result.starts.items ≡ [] }
+        ensures out { result.lanes_out.items ≡ [] }
+        ensures ended { result.ended.items ≡ [] }
+    {
+        Builtin {
+            starts: Vec::new(alloc),
+            lanes_out: Vec::new(alloc),
+            ended: Vec::new(alloc),
+        }
+    }
+}
+
+impl Spawner for Builtin {
+    type Link = CompanionLink;
+
+    ghost starts = { λ s. s.starts.items };
+
+    ghost owed = { λ s lane. count_by (λ other. other == lane) s.lanes_out.items };
+
+    ghost ended = { λ s. s.ended.items };
+
+    ghost faults = { λ _. 0 };
+
+    ghost steady = { λ _. false };
+
+    fn start(
+        &mut self,
+        alloc: Global,
+        lane: u32,
+        command: &Parts,
+    ) -> Result<CompanionLink, StartFault> {
+        let kept = command.copy(alloc)?;
+        self.lanes_out.reserve(1)?;
+        let room = self.lanes_out.len() + 1;
+        self.ended.reserve(room)?;
+        self.starts.push(Start {
+            lane,
+            command: kept,
+        })?;
+        match self.lanes_out.push(lane) {
+            Ok(()) => Ok(CompanionLink::new(alloc)),
+            Err(_) => unreachable!(),
+        }
+    }
+
+    fn finish(&mut self, lane: u32, link: CompanionLink) {
+        remove_once(&mut self.lanes_out, lane);
+        let CompanionLink {
+            session: _,
+            unread: _,
+            replies: _,
+            pieces,
+            faults,
+            is_spent: _,
+        } = link;
+        let ending = Ending {
+            lane,
+            dialogue: Record::of(pieces),
+            faults,
+        };
+        match self.ended.push(ending) {
+            Ok(()) => {}
+            Err(_) => unreachable!(),
+        }
+    }
+}
