@@ -1,0 +1,9 @@
+use Rattle.std.proofs.Common.{refl}
+use Rattle.vx_types.specs.Settled.{settled}
+use Rattle.vx_rules.proofs.Steps.{stepped_as}
+use Rattle.vx_exec.proofs.statement.step_executed.Goals as goal
+
+pub returns-in_ok-right-in-If : goal.returns-in_ok-right-in-If
+returns-in_ok-right-in-If c =
+    stepped_as (settled c.args.typed.now) _ _ _ _ _
+    (rw (c.in-If.is, c.in_ok-left-in-If.ensures, c.in_ok-right-in-If.ensures) refl) c.fork.ensures

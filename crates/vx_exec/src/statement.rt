@@ -1,0 +1,191 @@
+//! A step of a statement or of a block.
+
+ghost use Rattle.std.specs.Prelude.{◌≡◌, IfOk};
+ghost use Rattle.vx_ast.specs.Resolved.{assertion, block as block_of, stmt};
+ghost use Rattle.vx_rules.specs.Members as rule;
+ghost use Rattle.vx_rules.specs.Rules.{consume};
+ghost use Rattle.vx_rules.specs.Stack.{executed as executed_of, rules, frame_tree, giving, going, Stepped};
+ghost use Rattle.vx_rules.specs.States.{leave};
+ghost use Rattle.vx_rules.specs.SymStates.{state as state_of};
+ghost use Rattle.vx_rules.specs.Trees.{AssertCode, PermissionCode};
+ghost use Rattle.vx_terms.specs.Build.{whole_amount};
+ghost use Rattle.vx_terms.specs.Views.{term};
+ghost use Rattle.vx_types.specs.Settled.{settled};
+
+use std::alloc::{AllocError, Global};
+use std::rc::Rc;
+use vx_ast::resolved::{Assertion, Block, Stmt};
+use vx_rules::{Code, Codes, Conts, Executed, Frame, Hole, Move, Next, SymState, sort_of_value};
+use vx_terms::Term;
+use vx_types::Typed;
+
+/// Consuming what is asserted or exhaled.
+fn consuming(
+    alloc: Global,
+    typed: &Typed,
+    a: &Rc<Assertion>,
+    after: Executed,
+    next: &Rc<Next>,
+) -> Result<Next, AllocError>
+    ensures { IfOk result (λ n. going (settled typed.now) n ≡ (λ s. consume (settled typed.now) (rules (settled typed.now)) (assertion a.now.value) (rule.codes AssertCode PermissionCode) whole_amount s.heap s (executed_of (settled typed.now) after (going (settled typed.now) next.now.value)))) }
+{
+    let _typed = typed;
+    let hole = Rc::new(alloc, Hole::Executed(after, next.clone()?))?;
+    let codes = Codes {
+        pure: Code::Assert,
+        permission: Code::Permission,
+    };
+    Ok(Next::Consume(a.clone()?, codes, hole))
+}
+
+/// A step of a statement.
+pub fn step(
+    alloc: Global,
+    typed: &Typed,
+    c: &Stmt,
+    next: &Rc<Next>,
+    state: SymState,
+    conts: &mut Conts,
+) -> Result<Move, AllocError>
+    ensures { IfOk result (λ m. Stepped (settled typed.now) (rule.exec (settled typed.now) (rules (settled typed.now)) (stmt c.now) (state_of state) (going (settled typed.now) next.now.value)) conts.old.sides.items m conts.new.sides.items) }
+{
+    match c {
+        Stmt::Declare(_, x, of) => {
+            let mut state = state;
+            state.declare_fresh(alloc, x, sort_of_value(*of))?;
+            conts.go(typed, Frame::Go(next.clone()?), state)
+        }
+        Stmt::Assign(_, x, e) => {
+            let assign = Executed::Assign(x.clone()?);
+            conts.eval(
+                alloc,
+                typed,
+                e,
+                Hole::Executed(assign, next.clone()?),
+                state,
+            )
+        }
+        Stmt::Inhale(_, a) => {
+            conts.next(
+                alloc,
+                typed,
+                Next::Produce(a.clone()?, next.clone()?),
+                state,
+            )
+        }
+        Stmt::Exhale(_, a) => {
+            let consume = consuming(alloc, typed, a, Executed::Exhaled, next)?;
+            conts.next(alloc, typed, consume, state)
+        }
+        Stmt::Assert(_, a) => {
+            let consume = consuming(alloc, typed, a, Executed::Asserted, next)?;
+            conts.next(alloc, typed, consume, state)
+        }
+        Stmt::Assume(_, e) => {
+            conts.eval(
+                alloc,
+                typed,
+                e,
+                Hole::Executed(Executed::Assume, next.clone()?),
+                state,
+            )
+        }
+        Stmt::If(_, e, a, b) => {
+            let sides = Executed::If(a.clone()?, b.clone()?, state.store.len());
+            conts.eval(alloc, typed, e, Hole::Executed(sides, next.clone()?), state)
+        }
+    }
+}
+
+/// A step of a block.
+pub fn step_block(
+    alloc: Global,
+    typed: &Typed,
+    block: &Block,
+    next: &Rc<Next>,
+    state: SymState,
+    conts: &mut Conts,
+) -> Result<Move, AllocError>
+    ensures { IfOk result (λ m. Stepped (settled typed.now) (rule.exec_all (settled typed.now) (rules (settled typed.now)) (block_of block.now) (state_of state) (going (settled typed.now) next.now.value)) conts.old.sides.items m conts.new.sides.items) }
+{
+    match block {
+        Block::Done => conts.go(typed, Frame::Go(next.clone()?), state),
+        Block::Then(first, rest) => {
+            let rest = Rc::new(alloc, Next::Block(rest.clone()?, next.clone()?))?;
+            conts.next(alloc, typed, Next::Exec(first.clone()?, rest), state)
+        }
+    }
+}
+
+/// A step of a block within another, whose own variables are forgotten at its end.
+pub fn step_inner(
+    alloc: Global,
+    typed: &Typed,
+    block: &Block,
+    kept: usize,
+    next: &Rc<Next>,
+    state: SymState,
+    conts: &mut Conts,
+) -> Result<Move, AllocError>
+    ensures { IfOk result (λ m. Stepped (settled typed.now) (rule.exec_all (settled typed.now) (rules (settled typed.now)) (block_of block.now) (state_of state) (λ s. going (settled typed.now) next.now.value (leave kept s))) conts.old.sides.items m conts.new.sides.items) }
+{
+    match block {
+        Block::Done => {
+            let mut state = state;
+            state.leave(kept);
+            conts.go(typed, Frame::Go(next.clone()?), state)
+        }
+        Block::Then(first, rest) => {
+            let rest = Rc::new(alloc, Next::Inner(rest.clone()?, kept, next.clone()?))?;
+            conts.next(alloc, typed, Next::Exec(first.clone()?, rest), state)
+        }
+    }
+}
+
+/// On with a block within another.
+fn inner_frame(
+    alloc: Global,
+    typed: &Typed,
+    block: &Rc<Block>,
+    kept: usize,
+    next: &Rc<Next>,
+) -> Result<Frame, AllocError>
+    ensures { IfOk result (λ f. frame_tree (settled typed.now) f ≡ (λ s. rule.exec_all (settled typed.now) (rules (settled typed.now)) (block_of block.now.value) s (λ s1. going (settled typed.now) next.now.value (leave kept s1)))) }
+{
+    let _typed = typed;
+    let inner = Rc::new(alloc, Next::Inner(block.clone()?, kept, next.clone()?))?;
+    Ok(Frame::Go(inner))
+}
+
+/// A value goes on to the statement that it is of.
+pub fn step_executed(
+    alloc: Global,
+    typed: &Typed,
+    value: Rc<Term>,
+    executed: &Executed,
+    next: &Rc<Next>,
+    state: SymState,
+    conts: &mut Conts,
+) -> Result<Move, AllocError>
+    ensures { IfOk result (λ m. Stepped (settled typed.now) (executed_of (settled typed.now) executed.now (going (settled typed.now) next.now.value) (term value.value) (state_of state)) conts.old.sides.items m conts.new.sides.items) }
+{
+    let mut state = state;
+    match executed {
+        Executed::Assign(x) => {
+            let name = state.name(alloc, value)?;
+            state.assign(x, name);
+            conts.go(typed, Frame::Go(next.clone()?), state)
+        }
+        Executed::Assume => {
+            state.add_fact(value)?;
+            conts.go(typed, Frame::Go(next.clone()?), state)
+        }
+        Executed::If(a, b, kept) => {
+            let left = inner_frame(alloc, typed, a, *kept, next)?;
+            let right = inner_frame(alloc, typed, b, *kept, next)?;
+            conts.fork(alloc, typed, value, state, left, right)
+        }
+        Executed::Asserted => conts.go(typed, Frame::Go(next.clone()?), state),
+        Executed::Exhaled => conts.go(typed, Frame::Go(next.clone()?), state),
+    }
+}

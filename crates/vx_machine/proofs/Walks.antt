@@ -1,0 +1,90 @@
+-- Walks through stacks.
+use Rattle.std.proofs.Common.{◌≡◌, ◌+◌, ◌<◌, Bool, true, false, List, [], ◌∷◌, ◌++◌, Some, None, refl, sym, ap, ◌∙◌, arith}
+use Rattle.vx_ast.specs.Syntax.{Program}
+use Rattle.vx_rules.specs.declared.frame.Side.{Side}
+use Rattle.vx_rules.specs.declared.question.Query.{Query}
+use Rattle.vx_rules.specs.declared.conts.Move.TheVariants as move'
+use Rattle.vx_rules.specs.Trees.{Question, Tree, End, Ask, Probe, Reply, Walked, walk_then, passed, size}
+use Rattle.vx_rules.specs.Stack.{side_tree, query, Checked, Stepped}
+use Rattle.vx_machine.specs.Runs.{without_other, without_last, asking, probing, below, remaining, stack_size, waiting_by, waiting, Turned}
+
+pub without_last-push : (sides : List Side) (a : Side) → without_last (sides ++ a ∷ []) ≡ sides
+without_last-push [] a = refl
+without_last-push (b ∷ []) a = refl
+without_last-push (c ∷ b ∷ sides) a = ap (λ l. c ∷ l) (without_last-push (b ∷ sides) a)
+
+pub without_last-two : (sides : List Side) (b a : Side) → without_last (sides ++ b ∷ a ∷ []) ≡ sides ++ b ∷ []
+without_last-two [] b a = refl
+without_last-two (c ∷ []) b a = refl
+without_last-two (d ∷ c ∷ sides) b a = ap (λ l. d ∷ l) (without_last-two (c ∷ sides) b a)
+
+pub without_other-two : (sides : List Side) (b a : Side) → without_other (sides ++ b ∷ a ∷ []) ≡ sides ++ a ∷ []
+without_other-two [] b a = refl
+without_other-two (c ∷ []) b a = refl
+without_other-two (d ∷ c ∷ []) b a = refl
+without_other-two (e ∷ d ∷ c ∷ sides) b a = ap (λ l. e ∷ l) (without_other-two (d ∷ c ∷ sides) b a)
+
+module _ (p : Program) where
+  -- the side on top is walked first
+  pub below-push : (sides : List Side) (a : Side) (next : List Reply → Walked) → below p (sides ++ a ∷ []) next ≡ walk_then (side_tree p a) (below p sides next)
+  below-push [] a next = refl
+  below-push (b ∷ sides) a next = below-push sides a (walk_then (side_tree p b) next)
+
+  pub stack_size-push : (sides : List Side) (a : Side) → stack_size p (sides ++ a ∷ []) ≡ stack_size p sides + size (side_tree p a)
+  stack_size-push [] a = omega arith
+  stack_size-push (b ∷ sides) a = omega (arith, stack_size-push sides a)
+
+  below-two : (sides : List Side) (b a : Side) (next : List Reply → Walked) → below p (sides ++ b ∷ a ∷ []) next ≡ walk_then (side_tree p a) (walk_then (side_tree p b) (below p sides next))
+  below-two [] b a next = refl
+  below-two (c ∷ sides) b a next = below-two sides b a (walk_then (side_tree p c) next)
+
+  stack_size-two : (sides : List Side) (b a : Side) → stack_size p (sides ++ b ∷ a ∷ []) ≡ stack_size p sides + size (side_tree p a) + size (side_tree p b)
+  stack_size-two [] b a = omega arith
+  stack_size-two (c ∷ sides) b a = omega (arith, stack_size-two sides b a)
+
+  pub turned_over : (t : Tree) (old : List Side) → t ≡ End → Turned p t old None old
+  turned_over t old e =
+      let s : size t ≡ 1 = ap size e in
+      ((λ rs. ap (λ x. walk_then x (remaining p old) rs) e), omega arith)
+
+  pub turned_go : (t : Tree) (old new : List Side) → Stepped p t old move'.Go new → Turned p t old None new
+  turned_go t old new h =
+      let s : size t ≡ size (side_tree p h.0) + 1 = ap size h.2 in
+      let l : stack_size p new ≡ stack_size p old + size (side_tree p h.0) = ap (stack_size p) h.1 ∙ stack_size-push old h.0 in
+      ((λ rs. ap (λ x. walk_then x (remaining p old) rs) h.2 ∙ ap (λ f. f rs) (sym (ap (remaining p) h.1 ∙ below-push old h.0 passed))), omega arith)
+
+  pub turned_fork : (t : Tree) (old new : List Side) → Stepped p t old move'.Fork new → Turned p t old None new
+  turned_fork t old new h =
+      let s : size t ≡ size (side_tree p h.0) + size (side_tree p h.1) + 1 = ap size h.3 in
+      let l : stack_size p new ≡ stack_size p old + size (side_tree p h.0) + size (side_tree p h.1) = ap (stack_size p) h.2 ∙ stack_size-two old h.1 h.0 in
+      ((λ rs. ap (λ x. walk_then x (remaining p old) rs) h.3 ∙ ap (λ f. f rs) (sym (ap (remaining p) h.2 ∙ below-two old h.1 h.0 passed))), omega arith)
+
+  asked_as : (q : Question) (t : Tree) (next : List Reply → Walked) (rs : List Reply) → walk_then (Ask q t) next rs ≡ asking q (walk_then t next) rs
+  asked_as q t next [] = refl
+  asked_as q t next (r ∷ rs) = refl
+
+  probed_as : (q : Question) (a b : Tree) (next : List Reply → Walked) (rs : List Reply) → walk_then (Probe q a b) next rs ≡ probing q (walk_then a next) (walk_then b next) rs
+  probed_as q a b next [] = refl
+  probed_as q a b next (r ∷ rs) = refl
+
+  turned_check : (c : Bool) (t : Tree) (old new : List Side) (q : Question) → Checked p c t old q new → (rs : List Reply) → walk_then t (remaining p old) rs ≡ waiting_by p c q new rs
+  turned_check false t old new q h rs =
+      ap (λ x. walk_then x (remaining p old) rs) h.2 ∙ asked_as q (side_tree p h.0) (remaining p old) rs
+      ∙ ap (λ f. asking q f rs) (sym (ap (remaining p) h.1 ∙ below-push old h.0 passed))
+  turned_check true t old new q h rs =
+      let refuted : remaining p (without_other new) ≡ walk_then (side_tree p h.0) (remaining p old) =
+      ap (λ l. remaining p (without_other l)) h.2 ∙ ap (remaining p) (without_other-two old h.1 h.0) ∙ below-push old h.0 passed in
+      let otherwise : remaining p (without_last new) ≡ walk_then (side_tree p h.1) (remaining p old) =
+      ap (λ l. remaining p (without_last l)) h.2 ∙ ap (remaining p) (without_last-two old h.1 h.0) ∙ below-push old h.1 passed in
+      ap (λ x. walk_then x (remaining p old) rs) h.3 ∙ probed_as q (side_tree p h.0) (side_tree p h.1) (remaining p old) rs
+      ∙ ap (λ f. probing q f (walk_then (side_tree p h.1) (remaining p old)) rs) (sym refuted)
+      ∙ ap (λ f. probing q (remaining p (without_other new)) f rs) (sym otherwise)
+
+  pub turned_ask : (t : Tree) (old new : List Side) (q : Query) → Stepped p t old (move'.Check q) new → Turned p t old (Some q) new
+  turned_ask t old new q h rs = turned_check q.probe t old new (query q) h rs
+
+  pub popped : (before rest : List Side) (a : Side) → before ≡ rest ++ a ∷ [] → (rs : List Reply) → remaining p before rs ≡ walk_then (side_tree p a) (remaining p rest) rs
+  popped before rest a e rs = ap (λ l. remaining p l rs) e ∙ ap (λ f. f rs) (below-push rest a passed)
+
+  pub popped_size : (before rest : List Side) (a : Side) → before ≡ rest ++ a ∷ [] → stack_size p before ≡ stack_size p rest + size (side_tree p a)
+  popped_size before rest a e = ap (stack_size p) e ∙ stack_size-push rest a

@@ -1,0 +1,7 @@
+//! The resumable machine: it executes a member by the written rules and gives control back at every question.
+#![tactic(auto)]
+
+mod machine;
+mod run;
+
+pub use machine::{Ask, Machine, Outcome};
