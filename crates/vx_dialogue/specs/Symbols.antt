@@ -1,7 +1,7 @@
 -- The symbols v of terms, in the order of their first occurrence.
 use Rattle.std.specs.Prelude.{ℕ, Bool, true, false, List, [], ◌∷◌, ◌++◌, if◌then◌else◌}
 use Rattle.vx_terms.specs.Sorts.{Sort, Symbol, Standard, Function, Variable, Named, same_symbol}
-use Rattle.vx_terms.specs.Terms.{Term, Truth, Number, Part, Constant, Apply, Not, Binary, Ite, Terms, NoTerms, MoreTerms}
+use Rattle.vx_terms.specs.Terms.{Term, Truth, Number, Part, Constant, Apply, Not, Binary, Ite, AllOf, SomeOf, Terms, NoTerms, MoreTerms}
 use Rattle.vx_smt_meaning.specs.Commands.{Declared}
 
 abbrev pub variable : ℕ → Sort → Declared
@@ -32,6 +32,8 @@ abbrev mutual
   with_variables ds (Not t) = with_variables ds t
   with_variables ds (Binary o t u) = with_variables (with_variables ds t) u
   with_variables ds (Ite c t u) = with_variables (with_variables (with_variables ds c) t) u
+  with_variables ds (AllOf ts) = with_all_variables ds ts
+  with_variables ds (SomeOf ts) = with_all_variables ds ts
 
   pub with_all_variables : List Declared → Terms → List Declared
   with_all_variables ds NoTerms = ds

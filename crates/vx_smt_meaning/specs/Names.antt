@@ -3,10 +3,9 @@ use Rattle.std.specs.Prelude.{◌≡◌, ◌⊎◌, ℕ, codes, true, List, [], 
 use Rattle.vx_sexp.specs.declared.token.Kind.TheVariants as kind
 use Rattle.vx_sexp.specs.Tokens.{is_of, is_symbol}
 use Rattle.vx_terms.specs.Sorts.{Operator, Sort, OtherSort, Symbol, Named}
-use Rattle.vx_terms.specs.Terms.{Term, Truth, Number, Part, Constant, Apply, Not, Binary, Ite, Terms, NoTerms, MoreTerms}
-use Rattle.vx_smt_meaning.specs.Commands.{Command, SetOption, SetLogic, DeclareSort, DeclareFun, Assert, Push, Pop, CheckSat, GetProof, Exit, Declared}
+use Rattle.vx_terms.specs.Terms.{Term, Truth, Number, Part, Constant, Apply, Not, Binary, Ite, AllOf, SomeOf, Terms, NoTerms, MoreTerms}
+use Rattle.vx_smt_meaning.specs.Commands.{Command, SetOption, SetLogic, DeclareSort, DeclareFun, Assert}
 use Rattle.vx_smt_meaning.specs.Words.{numeral, operator_word}
-use Rattle.vx_smt_meaning.specs.Spelled.{Spells}
 
 -- no numbered symbol and no word of terms is spelled so
 pub record IsFree (x : List ℕ) : Type 0 where
@@ -40,6 +39,8 @@ abbrev mutual
   AreNames (Not t) = AreNames t
   AreNames (Binary o t u) = AreNames t × AreNames u
   AreNames (Ite c t u) = AreNames c × AreNames t × AreNames u
+  AreNames (AllOf ts) = AllAreNames ts
+  AreNames (SomeOf ts) = AllAreNames ts
 
   pub AllAreNames : Terms → Type 0
   AllAreNames NoTerms = Unit {0}

@@ -1,13 +1,12 @@
 -- The tokens of a command.
-use Rattle.std.specs.Prelude.{ℕ, zero, suc, ◌+◌, ◌-◌, ◌==◌, ℤ, pos, negsuc, Bool, true, false, List, [], ◌∷◌, ◌++◌, codes, map, if◌then◌else◌}
+use Rattle.std.specs.Prelude.{ℕ, zero, suc, ◌+◌, ◌==◌, ℤ, pos, negsuc, Bool, true, false, List, [], ◌∷◌, ◌++◌, codes, map, if◌then◌else◌}
 use Rattle.std.specs.Int.Digits.{digits_of}
-use Rattle.vx_sexp.specs.declared.token.Kind.{Kind}
 use Rattle.vx_sexp.specs.declared.token.Kind.TheVariants as kind
 use Rattle.vx_sexp.specs.declared.token.Token.{Token}
 use Rattle.vx_sexp.specs.declared.token.Token.TheVariants.{Open, Close, Atom}
 use Rattle.vx_terms.specs.Sorts.{Sort, IntSort, BoolSort, RealSort, RefSort, SnapSort, OtherSort, Symbol, Standard, Function, Variable, Named, Operator, And, Or, Implies, Equal, Less, LessEqual, Add, Subtract, Multiply, Div, Mod}
-use Rattle.vx_terms.specs.Terms.{Term, Truth, Number, Part, Constant, Apply, Not, Binary, Ite, Terms, NoTerms, MoreTerms}
-use Rattle.vx_smt_meaning.specs.Commands.{Command, SetOption, SetLogic, DeclareSort, DeclareFun, Assert, Push, Pop, CheckSat, GetProof, Exit, Declared}
+use Rattle.vx_terms.specs.Terms.{Term, Truth, Number, Part, Constant, Apply, Not, Binary, Ite, AllOf, SomeOf, Terms, NoTerms, MoreTerms}
+use Rattle.vx_smt_meaning.specs.Commands.{Command, SetOption, SetLogic, DeclareSort, DeclareFun, Assert, Push, Pop, CheckSat, GetProof, Exit}
 
 -- a number's decimal digits
 unfoldable pub digits : ℕ → List ℕ
@@ -74,6 +73,8 @@ abbrev mutual
   term_tokens (Not t) = listed (word (codes "not") ∷ term_tokens t)
   term_tokens (Binary o t u) = listed (word (operator_word o) ∷ term_tokens t ++ term_tokens u)
   term_tokens (Ite c t u) = listed (word (codes "ite") ∷ term_tokens c ++ term_tokens t ++ term_tokens u)
+  term_tokens (AllOf ts) = listed (word (codes "and") ∷ terms_tokens ts)
+  term_tokens (SomeOf ts) = listed (word (codes "or") ∷ terms_tokens ts)
 
   pub terms_tokens : Terms → List Token
   terms_tokens NoTerms = []

@@ -1,8 +1,8 @@
 -- The text of a command.
-use Rattle.std.specs.Prelude.{ℕ, zero, suc, ◌+◌, ℤ, pos, negsuc, Bool, true, false, List, [], ◌∷◌, ◌++◌, codes}
+use Rattle.std.specs.Prelude.{ℕ, zero, suc, ◌+◌, ℤ, pos, negsuc, true, false, List, [], ◌∷◌, ◌++◌, codes}
 use Rattle.vx_terms.specs.Sorts.{Sort}
-use Rattle.vx_terms.specs.Terms.{Term, Truth, Number, Part, Constant, Apply, Not, Binary, Ite, Terms, NoTerms, MoreTerms}
-use Rattle.vx_smt_meaning.specs.Commands.{Command, SetOption, SetLogic, DeclareSort, DeclareFun, Assert, Push, Pop, CheckSat, GetProof, Exit, Declared}
+use Rattle.vx_terms.specs.Terms.{Term, Truth, Number, Part, Constant, Apply, Not, Binary, Ite, AllOf, SomeOf, Terms, NoTerms, MoreTerms}
+use Rattle.vx_smt_meaning.specs.Commands.{Command, SetOption, SetLogic, DeclareSort, DeclareFun, Assert, Push, Pop, CheckSat, GetProof, Exit}
 use Rattle.vx_smt_meaning.specs.Words.{numeral, decimal, sort_word, symbol_word, operator_word, truth_word}
 
 abbrev pub signed_text : ℤ → (ℕ → List ℕ) → List ℕ
@@ -24,6 +24,8 @@ abbrev mutual
   term_text (Not t) = codes "(not " ++ term_text t ++ codes ")"
   term_text (Binary o t u) = codes "(" ++ operator_word o ++ codes " " ++ term_text t ++ codes " " ++ term_text u ++ codes ")"
   term_text (Ite c t u) = codes "(ite " ++ term_text c ++ codes " " ++ term_text t ++ codes " " ++ term_text u ++ codes ")"
+  term_text (AllOf ts) = codes "(and" ++ terms_text ts ++ codes ")"
+  term_text (SomeOf ts) = codes "(or" ++ terms_text ts ++ codes ")"
 
   pub terms_text : Terms → List ℕ
   terms_text NoTerms = []
