@@ -1,24 +1,23 @@
--- What a dialogue says, and what it reads.
-use Rattle.std.specs.Prelude.{◌≡◌, ℕ, ◌+◌, Bool, true, false, List, [], ◌∷◌, ◌++◌, length, map, if◌then◌else◌, Option, Some, None, Result, Err}
+-- What a dialogue says, hears and has checked.
+use Rattle.std.specs.Prelude.{◌≡◌, ℕ, ◌≤◌, Bool, true, false, List, [], ◌∷◌, ◌++◌, length, if◌then◌else◌, Some, None, Result, Err, IsSome}
+use Rattle.std.specs.declared.rc.Rc.{Rc}
+use Rattle.std.specs.declared.alloc.Global.{Global}
 use Rattle.vx_ends.specs.declared.piece.Piece.{Piece}
 use Rattle.vx_ends.specs.Dialogue.{sent, got}
 use Rattle.vx_sexp.specs.declared.token.Token.{Token}
 use Rattle.vx_terms.specs.Terms.{Term}
-use Rattle.vx_smt_meaning.specs.Commands.{Command, Declared, DeclareFun, Assert, Push, Pop, CheckSat, Level, empty_level, stack_from, assertions_of, checks_from}
-use Rattle.vx_smt_meaning.specs.Replies.{Items}
-use Rattle.vx_smt_meaning.specs.declared.reply.Reply.{Reply}
-use Rattle.vx_dialogue.specs.declared.item.Wanted.{Wanted}
-use Rattle.vx_dialogue.specs.declared.item.Wanted.TheVariants as wanted
-use Rattle.std.specs.declared.rc.Rc.{Rc}
-use Rattle.std.specs.declared.alloc.Global.{Global}
+use Rattle.vx_terms.specs.Build.{negate}
 use Rattle.vx_terms.specs.declared.term.Term.{Term as Term'}
 use Rattle.vx_terms.specs.Views.{term}
-use Rattle.vx_dialogue.specs.declared.talk.Talk.{Talk}
-use Rattle.vx_dialogue.specs.declared.dialogue.Dialogue.{Dialogue}
-use Rattle.vx_dialogue.specs.Items.{is_lawful, answer_of}
+use Rattle.vx_smt_meaning.specs.Commands.{Command, Declared, DeclareFun, Assert, Push, Pop, CheckSat, Level, empty_level, stack_of, assertions_of, declared_in}
+use Rattle.vx_smt_meaning.specs.Replies.{Items}
+use Rattle.vx_smt_meaning.specs.Dialogues.{ArePlain, Answers, Check, checks_told}
+use Rattle.vx_smt_meaning.specs.declared.reply.Reply.{Reply}
+use Rattle.vx_smt_text.specs.Text.{commands_text}
 use Rattle.vx_dialogue.specs.Preamble.{front}
 use Rattle.vx_dialogue.specs.Symbols.{with_variables, with_listed}
-use Rattle.vx_terms.specs.Build.{negate}
+use Rattle.vx_dialogue.specs.declared.talk.Talk.{Talk}
+use Rattle.vx_dialogue.specs.declared.dialogue.Dialogue.{Dialogue}
 
 abbrev pub declarations : List Declared → List Command
 declarations [] = []
@@ -28,7 +27,11 @@ abbrev pub assertions : List Term → List Command
 assertions [] = []
 assertions (t ∷ ts) = Assert t ∷ assertions ts
 
--- One question: under a level of its own, the new symbols, the path and the negated condition. The member's own level is opened before its first question.
+-- what a dialogue begins with
+abbrev pub preamble : Bool → List Declared → List Command
+preamble certify functions = front certify ++ declarations functions
+
+-- A question stands under a level of its own. The member's own level is opened before its first question.
 abbrev pub opening : Bool → List Command
 opening true = Push 1 ∷ []
 opening false = Push 1 ∷ Push 1 ∷ []
@@ -38,57 +41,102 @@ abbrev pub closing : Bool → List Command
 closing true = Pop 1 ∷ []
 closing false = []
 
-unfoldable pub question : Bool → List Declared → List Term → Term → List Command
-question in_member symbols path negated = opening in_member ++ declarations symbols ++ assertions path ++ Assert negated ∷ CheckSat ∷ []
+-- the symbols that a question declares, in the order of their first occurrence
+abbrev pub symbols_of : List Term → Term → List Declared
+symbols_of path negated = with_variables (with_listed [] path) negated
 
-abbrev pub all_lawful : Wanted → List (List Token) → Type 0
-all_lawful w [] = Unit {0}
-all_lawful w (item ∷ items) = (is_lawful w item ≡ true) × all_lawful w items
+-- whether the condition follows from the path: can the path and the negated condition be true together?
+abbrev pub question : Bool → List Term → Term → List Command
+question in_member path condition = ((opening in_member ++ declarations (symbols_of path (negate condition))) ++ assertions path) ++ Assert (negate condition) ∷ []
 
--- So many items are read, each a success.
-abbrev pub ReadsSuccesses : ℕ → List ℕ → List ℕ → List ℕ → List ℕ → Type 0
-ReadsSuccesses n got_old unread_old got_new unread_new = (more : List ℕ) × (got_new ≡ got_old ++ more) × (items : List (List Token))
-    × Items (unread_old ++ more) items unread_new × (length items ≡ n) × all_lawful wanted.Success items
-
--- While n commands are said, successes are read, as many as commands are sent: what is gathered before and the n are read or still gathered.
-abbrev pub Hears : ℕ → List ℕ → List ℕ → ℕ → List ℕ → List ℕ → ℕ → Type 0
-Hears n got_old unread_old count_old got_new unread_new count_new = (k : ℕ) × ReadsSuccesses k got_old unread_old got_new unread_new × (k + count_new ≡ count_old + n)
-
--- So many successes are read, and then this answer.
-abbrev pub ReadsAnswer : ℕ → List ℕ → List ℕ → List ℕ → List ℕ → Reply → Type 0
-ReadsAnswer n got_old unread_old got_new unread_new reply = (more : List ℕ) × (got_new ≡ got_old ++ more) × (items : List (List Token)) × (answer : List Token)
-    × Items (unread_old ++ more) (items ++ answer ∷ []) unread_new × (length items ≡ n) × all_lawful wanted.Success items × (answer_of answer ≡ Some reply)
-
--- all that is said: what is sent, and what is gathered
-abbrev pub said : {L : Type 0} → (L → List Piece) → Dialogue L → List ℕ
-said dialogue d = sent (dialogue d.link) ++ d.batch.items
+-- a list put on another, the last of it at the top
+abbrev pub pushed : {A : Type 0} → List A → List A → List A
+pushed [] ys = ys
+pushed (x ∷ xs) ys = pushed xs (x ∷ ys)
 
 -- the term behind a shared pointer
 abbrev pub shared : Rc Term' Global → Term
 shared r = term r.value
 
--- the newest first
-abbrev pub pushed : List Term → List Term → List Term
-pushed [] ts = ts
-pushed (t ∷ path) ts = pushed path (t ∷ ts)
+abbrev pub link_of : {L : Type 0} → Dialogue L → L
+link_of d = d.link
+
+-- an earlier call failed
+abbrev pub has_failed : {L : Type 0} → Dialogue L → Bool
+has_failed d = d.failed
+
+abbrev pub is_in_member : {L : Type 0} → Dialogue L → Bool
+is_in_member d = d.in_member
+
+-- no question is open, unless an earlier call failed
+abbrev pub IsFree : {L : Type 0} → Dialogue L → Type 0
+IsFree d = d.failed ≡ false → (d.owed ≡ None) × (d.count ≤ (if d.in_member then 1 else 2))
+
+-- a question is open, unless an earlier call failed
+abbrev pub IsAsked : {L : Type 0} → Dialogue L → Type 0
+IsAsked d = d.failed ≡ false → IsSome d.owed × (d.count ≡ 0) × (d.in_member ≡ true)
+
+-- The commands said so far, of which those that were sent are answered; the others are gathered. These are the checks among them.
+pub record Gathers {L : Type 0} (dialogue : L → List Piece) (d : Dialogue L) (commands : List Command) (checks : List Check) : Type 0 where
+  pub answered : List Command
+  pub gathered : List Command
+  pub items : List (List Token)
+  pub all : commands ≡ answered ++ gathered
+  pub sent_is : sent (dialogue d.link) ≡ commands_text answered
+  pub batch_is : d.batch.items ≡ commands_text gathered
+  pub count_is : d.count ≡ length gathered
+  pub plain : ArePlain gathered
+  pub got_is : Items (got (dialogue d.link)) items d.unread.items
+  pub lawful : Answers answered items
+  pub checks_are : checks ≡ checks_told (empty_level ∷ []) answered items
+
+-- The commands said so far, of which a check-sat was sent last; those behind the answered ones wait for so many successes and then an answer.
+pub record Waits {L : Type 0} (dialogue : L → List Piece) (d : Dialogue L) (commands : List Command) (checks : List Check) : Type 0 where
+  pub answered : List Command
+  pub waiting : List Command
+  pub items : List (List Token)
+  pub all : commands ≡ (answered ++ waiting) ++ CheckSat ∷ []
+  pub sent_is : sent (dialogue d.link) ≡ commands_text commands
+  pub batch_is : d.batch.items ≡ []
+  pub owed_is : d.owed ≡ Some (length waiting)
+  pub plain : ArePlain waiting
+  pub got_is : Items (got (dialogue d.link)) items d.unread.items
+  pub lawful : Answers answered items
+  pub checks_are : checks ≡ checks_told (empty_level ∷ []) answered items
+
+-- the levels between questions: those of the preamble, and the member's own
+abbrev pub resting : Bool → List Level → List Level
+resting true levels = empty_level ∷ levels
+resting false levels = levels
+
+-- the level of a question
+abbrev pub asked_level : List Term → Term → Level
+asked_level path condition = record { sorts = []; symbols = pushed (symbols_of path (negate condition)) []; assertions = negate condition ∷ pushed path [] }
+
+-- the check of a question: its path and its negated condition are asserted, and no more; its symbols are declared, and those of the preamble
+abbrev pub check_of : List Level → List Term → Term → Reply → Check
+check_of base path condition reply = record {
+  symbols = pushed (symbols_of path (negate condition)) [] ++ declared_in base;
+  assertions = negate condition ∷ pushed path [];
+  reply = Some reply;
+}
+
+-- the check whose reply is this
+abbrev pub told_check : List Level → Reply → Check
+told_check levels reply = record { symbols = declared_in levels; assertions = assertions_of levels; reply = Some reply }
+
+-- No question is open: the commands said so far, over the levels of the preamble, and the checks so far.
+pub record Stands {L : Type 0} (dialogue : L → List Piece) (base : List Level) (d : Dialogue L) (commands : List Command) (checks : List Check) : Type 0 where
+  pub told : Gathers dialogue d commands checks
+  pub levels : stack_of commands ≡ resting d.in_member base
+  pub bare : assertions_of base ≡ []
+
+-- The question of this path and condition is open.
+pub record Asks {L : Type 0} (dialogue : L → List Piece) (base : List Level) (path : List Term) (condition : Term) (d : Dialogue L) (commands : List Command) (checks : List Check) : Type 0 where
+  pub told : Waits dialogue d commands checks
+  pub levels : stack_of commands ≡ asked_level path condition ∷ empty_level ∷ base
+  pub bare : assertions_of base ≡ []
 
 -- an answer with this error
 abbrev pub gives : Talk → Result ℕ Talk
 gives talk = Err talk
-
--- the levels under a question
-abbrev pub under : Bool → List Level → List Level
-under true levels = levels
-under false levels = empty_level ∷ levels
-
--- what a dialogue begins with
-abbrev pub preamble : Bool → List Declared → List Command
-preamble certify functions = front certify ++ declarations functions
-
--- the symbols that a question declares
-abbrev pub symbols_of : List Term → Term → List Declared
-symbols_of path negated = with_variables (with_listed [] path) negated
-
--- whether the condition follows from the path
-abbrev pub asks : Bool → List Term → Term → List Command
-asks in_member path condition = let negated = negate condition in question in_member (symbols_of path negated) path negated

@@ -1,17 +1,11 @@
 -- The items that are got, one after another.
-use Rattle.std.specs.Prelude.{◌≡◌, ◌≢◌, ℕ, ◌≤◌, ◌<◌, ◌⊎◌, List, [], ◌∷◌, ◌++◌, length, drop, Result, Ok, Err, codes, Bool, true, false, not, ◌||◌, Option, Some, None}
-use Rattle.vx_smt_meaning.specs.declared.reply.Reply.{Reply}
-use Rattle.vx_smt_meaning.specs.Replies.{reply_of}
-use Rattle.std.specs.Str.{bytes_eq}
+use Rattle.std.specs.Prelude.{◌≡◌, ℕ, ◌<◌, ◌⊎◌, List, ◌++◌, length, codes, Bool, true, false, not}
+use Rattle.vx_smt_meaning.specs.Replies.{is_word_item, is_refusal, answer_of, is_given}
 use Rattle.vx_dialogue.specs.declared.item.Wanted.{Wanted}
 use Rattle.vx_dialogue.specs.declared.item.Wanted.TheVariants as wanted
-use Rattle.vx_sexp.specs.declared.token.Kind.TheVariants as kind
 use Rattle.vx_sexp.specs.declared.token.Token.{Token}
-use Rattle.vx_sexp.specs.declared.token.Token.TheVariants.{Open, Close, Atom}
 use Rattle.vx_sexp.specs.declared.reader.SexpFault.TheVariants as sexp
 use Rattle.vx_sexp.specs.First.{IsFirst, Faults}
-use Rattle.vx_dialogue.specs.declared.talk.Talk.{Talk}
-use Rattle.vx_dialogue.specs.declared.talk.Talk.TheVariants as talk
 
 -- the longest item that is read on
 abbrev pub longest : ℕ
@@ -28,29 +22,6 @@ ReadsItem got_old unread_old got_new unread_new item = (more : List ℕ) × (got
 -- No item begins the bytes: a bad token, a list too deep, or too long without an end.
 abbrev pub IsNoItem : List ℕ → Type 0
 IsNoItem bytes = ((at : ℕ) × Faults (sexp.BadToken at) bytes) ⊎ ((at : ℕ) × Faults (sexp.Deep at) bytes) ⊎ ((longest < length bytes) × (at : ℕ) × Faults (sexp.Unfinished at) bytes)
-
--- the item is this word
-abbrev pub is_word_item : List ℕ → List Token → Bool
-is_word_item text (Atom kind.Symbol bytes ∷ []) = bytes_eq bytes text
-is_word_item text item = false
-
--- the item is a list that begins with this word
-abbrev pub is_headed_by : List ℕ → List Token → Bool
-is_headed_by text (Open ∷ Atom kind.Symbol bytes ∷ item) = bytes_eq bytes text
-is_headed_by text item = false
-
--- the command was refused
-unfoldable pub is_refusal : List Token → Bool
-is_refusal item = is_word_item (codes "unsupported") item || is_headed_by (codes "error") item
-
--- the answer to a check
-abbrev pub answer_of : List Token → Option Reply
-answer_of (Atom kind.Symbol bytes ∷ []) = reply_of bytes
-answer_of item = None
-
-abbrev pub is_given : Option Reply → Bool
-is_given (Some reply) = true
-is_given None = false
 
 -- the lawful replies
 unfoldable pub is_lawful : Wanted → List Token → Bool

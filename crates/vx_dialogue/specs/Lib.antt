@@ -1,5 +1,6 @@
 pub mod Faults
 pub mod Items
+pub mod Hears
 pub mod Symbols
 pub mod Preamble
 pub mod Dialogue

@@ -1,42 +1,41 @@
 // The dialogue that drives one link.
-ghost use Rattle.std.specs.Prelude.{◌≡◌, ◌++◌, ◌<◌, ◌≤◌, [], OnOk, OnErr, IfOk, IsErrOf, true, false, map, length, List, ◌↔◌, Err, Some, IsErr, ◌⊎◌, MatchResult};
+ghost use Rattle.std.specs.Prelude.{◌≡◌, ◌++◌, ◌∷◌, ◌<◌, ◌≤◌, [], OnOk, IfOk, None, Some, true, false, map, List, ◌↔◌, Err, ◌⊎◌, MatchResult, IsErr, is_err};
 ghost use Rattle.vx_ends.specs.Dialogue.{sent, got};
 ghost use Rattle.vx_ends.specs.Causes.{HasCause};
-ghost use Rattle.vx_smt_meaning.specs.Views.{command, declared_symbol};
-ghost use Rattle.vx_terms.specs.Views.{term};
+ghost use Rattle.vx_terms.specs.Terms as Written;
+ghost use Rattle.vx_smt_meaning.specs.Commands.{Level, stack_of};
 ghost use Rattle.vx_smt_meaning.specs.Commands as Spec;
-ghost use Rattle.vx_smt_text.specs.Text.{command_text, commands_text};
-ghost use Rattle.vx_dialogue.specs.Dialogue.{said, declarations, assertions, question, opening, closing, shared, ReadsAnswer, Hears, gives, preamble, asks};
+ghost use Rattle.vx_smt_meaning.specs.Dialogues.{Check, is_plain, ArePlain};
+ghost use Rattle.vx_smt_meaning.specs.Views.{command, declared_symbol};
+ghost use Rattle.vx_dialogue.specs.Dialogue.{preamble, question, closing, shared, link_of, has_failed, is_in_member, IsFree, IsAsked, Gathers, Waits, Stands, Asks, check_of, told_check, gives};
 
 use crate::Talk;
 use crate::batch::expect_successes;
 use crate::item::{Wanted, answer, expect};
-use crate::negated::negated;
 use crate::preamble::front_commands;
-use crate::symbols::Variables;
+use crate::question::{put_declarations, question_commands};
 use std::alloc::Global;
 use std::rc::Rc;
 use vx_ends::{Link, send_all};
 use vx_smt_meaning::{Command, Declared, Reply};
-use vx_smt_text::{write, write_assert, write_declare};
+use vx_smt_text::write;
 use vx_terms::Term;
 
 /// The dialogue with one child.
 #[derive(Drop)]
 pub struct Dialogue<L> {
-    pub link: L,
+    link: L,
     // the text of the commands that are gathered, and their number
-    pub batch: Vec<u8>,
-    pub count: usize,
+    batch: Vec<u8>,
+    count: usize,
     // what is got and not read yet
-    pub unread: Vec<u8>,
+    unread: Vec<u8>,
     // the member's own level is open
-    pub in_member: bool,
+    in_member: bool,
     // a question is open: so many successes are owed before its answer
-    pub asked: bool,
-    pub owed: usize,
+    owed: Option<usize>,
     // an earlier call failed
-    pub failed: bool,
+    failed: bool,
 }
 
 /// The most commands that are sent before their replies are read.
@@ -45,10 +44,9 @@ const MOST: usize = 256;
 impl<L: Link> Dialogue<L> {
     /// Sends what is gathered, and reads the replies.
     fn flush(&mut self, alloc: Global) -> Result<(), Talk>
-        ensures said { OnOk result (said L.dialogue self.new ≡ said L.dialogue self.old) }
+        ensures told { OnOk result ((commands : List Spec.Command) (checks : List Check) → Gathers L.dialogue self.old commands checks → Gathers L.dialogue self.new commands checks) }
         ensures count { OnOk result (self.new.count ≡ 0) }
-        ensures heard { OnOk result (Hears 0 (got (L.dialogue self.old.link)) self.old.unread.items self.old.count (got (L.dialogue self.new.link)) self.new.unread.items self.new.count) }
-        ensures member { self.new.in_member ≡ self.old.in_member }
+        ensures same { (self.new.in_member ≡ self.old.in_member) × (self.new.owed ≡ self.old.owed) × (self.new.failed ≡ self.old.failed) }
         ensures cause { HasCause Talk.Pipe (L.faults self.old.link) (L.faults self.new.link) result }
         ensures open { result ≡ Err Talk.Closed → ⊥ }
     {
@@ -61,10 +59,9 @@ impl<L: Link> Dialogue<L> {
     }
 
     fn make_room(&mut self, alloc: Global) -> Result<(), Talk>
-        ensures said { OnOk result (said L.dialogue self.new ≡ said L.dialogue self.old) }
+        ensures told { OnOk result ((commands : List Spec.Command) (checks : List Check) → Gathers L.dialogue self.old commands checks → Gathers L.dialogue self.new commands checks) }
         ensures count { OnOk result (self.new.count < 256) }
-        ensures heard { OnOk result (Hears 0 (got (L.dialogue self.old.link)) self.old.unread.items self.old.count (got (L.dialogue self.new.link)) self.new.unread.items self.new.count) }
-        ensures member { self.new.in_member ≡ self.old.in_member }
+        ensures same { (self.new.in_member ≡ self.old.in_member) × (self.new.owed ≡ self.old.owed) × (self.new.failed ≡ self.old.failed) }
         ensures cause { HasCause Talk.Pipe (L.faults self.old.link) (L.faults self.new.link) result }
         ensures open { result ≡ Err Talk.Closed → ⊥ }
     {
@@ -75,11 +72,11 @@ impl<L: Link> Dialogue<L> {
         }
     }
 
+    /// Gathers a command that is answered by `success`.
     fn say(&mut self, alloc: Global, c: &Command) -> Result<(), Talk>
-        ensures said { OnOk result (said L.dialogue self.new ≡ said L.dialogue self.old ++ command_text (command c.now)) }
-        ensures count { OnOk result (self.new.count ≤ 256) }
-        ensures heard { OnOk result (Hears 1 (got (L.dialogue self.old.link)) self.old.unread.items self.old.count (got (L.dialogue self.new.link)) self.new.unread.items self.new.count) }
-        ensures member { self.new.in_member ≡ self.old.in_member }
+        ensures told { OnOk result (is_plain (command c.now) ≡ true → (commands : List Spec.Command) (checks : List Check)
+            → Gathers L.dialogue self.old commands checks → Gathers L.dialogue self.new (commands ++ command c.now ∷ []) checks) }
+        ensures same { (self.new.in_member ≡ self.old.in_member) × (self.new.owed ≡ self.old.owed) × (self.new.failed ≡ self.old.failed) }
         ensures cause { HasCause Talk.Pipe (L.faults self.old.link) (L.faults self.new.link) result }
         ensures open { result ≡ Err Talk.Closed → ⊥ }
     {
@@ -89,140 +86,30 @@ impl<L: Link> Dialogue<L> {
         Ok(())
     }
 
-    fn say_assert(&mut self, alloc: Global, t: &Term) -> Result<(), Talk>
-        ensures said { OnOk result (said L.dialogue self.new ≡ said L.dialogue self.old ++ command_text (Spec.Assert (term t.now))) }
-        ensures count { OnOk result (self.new.count ≤ 256) }
-        ensures heard { OnOk result (Hears 1 (got (L.dialogue self.old.link)) self.old.unread.items self.old.count (got (L.dialogue self.new.link)) self.new.unread.items self.new.count) }
-        ensures member { self.new.in_member ≡ self.old.in_member }
+    fn say_all(&mut self, alloc: Global, all: &[Command]) -> Result<(), Talk>
+        ensures told { OnOk result (ArePlain (map command all.now) → (commands : List Spec.Command) (checks : List Check)
+            → Gathers L.dialogue self.old commands checks → Gathers L.dialogue self.new (commands ++ map command all.now) checks) }
+        ensures same { (self.new.in_member ≡ self.old.in_member) × (self.new.owed ≡ self.old.owed) × (self.new.failed ≡ self.old.failed) }
         ensures cause { HasCause Talk.Pipe (L.faults self.old.link) (L.faults self.new.link) result }
         ensures open { result ≡ Err Talk.Closed → ⊥ }
     {
-        self.make_room(alloc)?;
-        write_assert(alloc, t, &mut self.batch)?;
-        self.count += 1;
-        Ok(())
-    }
-
-    fn say_declare(&mut self, alloc: Global, d: &Declared) -> Result<(), Talk>
-        ensures said { OnOk result (said L.dialogue self.new ≡ said L.dialogue self.old ++ command_text (Spec.DeclareFun (declared_symbol d.now))) }
-        ensures count { OnOk result (self.new.count ≤ 256) }
-        ensures heard { OnOk result (Hears 1 (got (L.dialogue self.old.link)) self.old.unread.items self.old.count (got (L.dialogue self.new.link)) self.new.unread.items self.new.count) }
-        ensures member { self.new.in_member ≡ self.old.in_member }
-        ensures cause { HasCause Talk.Pipe (L.faults self.old.link) (L.faults self.new.link) result }
-        ensures open { result ≡ Err Talk.Closed → ⊥ }
-    {
-        self.make_room(alloc)?;
-        write_declare(alloc, d, &mut self.batch)?;
-        self.count += 1;
-        Ok(())
-    }
-
-    fn say_declarations(&mut self, alloc: Global, symbols: &[Declared]) -> Result<(), Talk>
-        ensures said { OnOk result (said L.dialogue self.new ≡ said L.dialogue self.old ++ commands_text (declarations (map declared_symbol symbols.now))) }
-        ensures member { self.new.in_member ≡ self.old.in_member }
-        ensures cause { HasCause Talk.Pipe (L.faults self.old.link) (L.faults self.new.link) result }
-        ensures open { result ≡ Err Talk.Closed → ⊥ }
-    {
-        for d in symbols {
-            self.say_declare(alloc, d)?;
-        }
-        Ok(())
-    }
-
-    fn say_assertions(&mut self, alloc: Global, path: &[Rc<Term>]) -> Result<(), Talk>
-        ensures said { OnOk result (said L.dialogue self.new ≡ said L.dialogue self.old ++ commands_text (assertions (map shared path.now))) }
-        ensures member { self.new.in_member ≡ self.old.in_member }
-        ensures cause { HasCause Talk.Pipe (L.faults self.old.link) (L.faults self.new.link) result }
-        ensures open { result ≡ Err Talk.Closed → ⊥ }
-    {
-        for t in path {
-            self.say_assert(alloc, t)?;
-        }
-        Ok(())
-    }
-
-    fn say_opening(&mut self, alloc: Global) -> Result<(), Talk>
-        ensures said { OnOk result (said L.dialogue self.new ≡ said L.dialogue self.old ++ commands_text (opening self.old.in_member)) }
-        ensures member { OnOk result (self.new.in_member ≡ true) }
-        ensures cause { HasCause Talk.Pipe (L.faults self.old.link) (L.faults self.new.link) result }
-        ensures open { result ≡ Err Talk.Closed → ⊥ }
-    {
-        if !self.in_member {
-            self.say(alloc, &Command::Push(1))?;
-            self.in_member = true;
-        }
-        self.say(alloc, &Command::Push(1))
-    }
-
-    fn say_question(
-        &mut self,
-        alloc: Global,
-        symbols: &[Declared],
-        path: &[Rc<Term>],
-        negated: &Term,
-    ) -> Result<(), Talk>
-        ensures said { OnOk result (said L.dialogue self.new ≡ said L.dialogue self.old
-            ++ commands_text (question self.old.in_member (map declared_symbol symbols.now) (map shared path.now) (term negated.now))) }
-        ensures member { OnOk result (self.new.in_member ≡ true) }
-        ensures count { OnOk result (self.new.count ≤ 256) }
-        ensures cause { HasCause Talk.Pipe (L.faults self.old.link) (L.faults self.new.link) result }
-        ensures open { result ≡ Err Talk.Closed → ⊥ }
-    {
-        self.say_opening(alloc)?;
-        self.say_declarations(alloc, symbols)?;
-        self.say_assertions(alloc, path)?;
-        self.say_assert(alloc, negated)?;
-        self.say(alloc, &Command::CheckSat)
-    }
-
-    fn post_all(
-        &mut self,
-        alloc: Global,
-        path: &[Rc<Term>],
-        condition: &Rc<Term>,
-    ) -> Result<(), Talk>
-        ensures sent { OnOk result (sent (L.dialogue self.new.link) ≡ said L.dialogue self.old
-            ++ commands_text (asks self.old.in_member (map shared path.now) (shared condition.now))) }
-        ensures said { OnOk result (said L.dialogue self.new ≡ sent (L.dialogue self.new.link)) }
-        ensures asked { OnOk result ((self.new.asked ≡ true) × (self.new.in_member ≡ true) × (self.new.count ≡ 0)) }
-        ensures cause { HasCause Talk.Pipe (L.faults self.old.link) (L.faults self.new.link) result }
-        ensures open { result ≡ Err Talk.Closed → ⊥ }
-    {
-        let negated = negated(alloc, condition)?;
-        let mut variables = Variables::new(alloc);
-        variables.add_terms(alloc, path)?;
-        variables.add_term(alloc, &negated)?;
-        self.say_question(alloc, variables.symbols(), path, &negated)?;
-        send_all(alloc, &mut self.link, &self.batch)?;
-        self.batch.clear();
-        self.owed = self.count.saturating_sub(1);
-        self.count = 0;
-        self.asked = true;
-        Ok(())
-    }
-
-    fn say_all(&mut self, alloc: Global, commands: &[Command]) -> Result<(), Talk>
-        ensures said { OnOk result (said L.dialogue self.new ≡ said L.dialogue self.old ++ commands_text (map command commands.now)) }
-        ensures member { self.new.in_member ≡ self.old.in_member }
-        ensures cause { HasCause Talk.Pipe (L.faults self.old.link) (L.faults self.new.link) result }
-        ensures open { result ≡ Err Talk.Closed → ⊥ }
-    {
-        for c in commands {
+        for c in all {
             self.say(alloc, c)?;
         }
         Ok(())
     }
 
     fn start(&mut self, alloc: Global, functions: &[Declared], certify: bool) -> Result<(), Talk>
-        ensures said { OnOk result (said L.dialogue self.new ≡ said L.dialogue self.old ++ commands_text (preamble certify (map declared_symbol functions.now))) }
-        ensures member { self.new.in_member ≡ self.old.in_member }
+        ensures told { OnOk result ((commands : List Spec.Command) (checks : List Check)
+            → Gathers L.dialogue self.old commands checks → Gathers L.dialogue self.new (commands ++ preamble certify (map declared_symbol functions.now)) checks) }
         ensures count { OnOk result (self.new.count ≡ 0) }
+        ensures same { (self.new.in_member ≡ self.old.in_member) × (self.new.owed ≡ self.old.owed) × (self.new.failed ≡ self.old.failed) }
         ensures cause { HasCause Talk.Pipe (L.faults self.old.link) (L.faults self.new.link) result }
         ensures open { result ≡ Err Talk.Closed → ⊥ }
     {
-        let front = front_commands(alloc, certify)?;
-        self.say_all(alloc, &front)?;
-        self.say_declarations(alloc, functions)?;
+        let mut commands = front_commands(alloc, certify)?;
+        put_declarations(alloc, &mut commands, functions)?;
+        self.say_all(alloc, &commands)?;
         self.flush(alloc)
     }
 
@@ -234,8 +121,9 @@ impl<L: Link> Dialogue<L> {
         certify: bool,
     ) -> Result<Dialogue<L>, (L, Talk)>
         requires { L.dialogue link ≡ [] }
-        ensures said { IfOk result (λ d. (said L.dialogue d ≡ commands_text (preamble certify (map declared_symbol functions.now))) × (d.count ≡ 0) × (d.in_member ≡ false)) }
-        ensures cause { MatchResult result (λ d. L.faults link ≤ L.faults d.link) (λ e. HasCause Talk.Pipe (L.faults link) (L.faults e.0) (gives e.1)) }
+        ensures stands { IfOk result (λ d. let commands = preamble certify (map declared_symbol functions.now) in Stands L.dialogue (stack_of commands) d commands []) }
+        ensures free { IfOk result (λ d. IsFree d × (has_failed d ≡ false) × (is_in_member d ≡ false)) }
+        ensures cause { MatchResult result (λ d. L.faults link ≤ L.faults (link_of d)) (λ e. HasCause Talk.Pipe (L.faults link) (L.faults e.0) (gives e.1)) }
         ensures open { MatchResult result (λ _. Unit {0}) (λ e. e.1 ≡ Talk.Closed → ⊥) }
     {
         let mut dialogue = Dialogue {
@@ -244,8 +132,7 @@ impl<L: Link> Dialogue<L> {
             count: 0,
             unread: Vec::new(alloc),
             in_member: false,
-            asked: false,
-            owed: 0,
+            owed: None,
             failed: false,
         };
         match dialogue.start(alloc, functions, certify) {
@@ -254,21 +141,60 @@ impl<L: Link> Dialogue<L> {
         }
     }
 
-    /// Asks whether the path and the negated condition can be true together.
+    // Sends the check-sat with what is gathered before it.
+    fn send_check(&mut self, alloc: Global) -> Result<(), Talk>
+        ensures told { OnOk result ((commands : List Spec.Command) (checks : List Check)
+            → Gathers L.dialogue self.old commands checks → Waits L.dialogue self.new (commands ++ Spec.CheckSat ∷ []) checks) }
+        ensures asked { OnOk result (IsAsked self.new) }
+        ensures member { OnOk result (self.new.in_member ≡ true) }
+        ensures failed { self.new.failed ≡ self.old.failed }
+        ensures cause { HasCause Talk.Pipe (L.faults self.old.link) (L.faults self.new.link) result }
+        ensures open { result ≡ Err Talk.Closed → ⊥ }
+    {
+        self.make_room(alloc)?;
+        write(alloc, &Command::CheckSat, &mut self.batch)?;
+        send_all(alloc, &mut self.link, &self.batch)?;
+        self.batch.clear();
+        self.owed = Some(self.count);
+        self.count = 0;
+        self.in_member = true;
+        Ok(())
+    }
+
+    fn post_all(
+        &mut self,
+        alloc: Global,
+        path: &[Rc<Term>],
+        condition: &Rc<Term>,
+    ) -> Result<(), Talk>
+        ensures told { OnOk result ((commands : List Spec.Command) (checks : List Check) → Gathers L.dialogue self.old commands checks
+            → Waits L.dialogue self.new ((commands ++ question self.old.in_member (map shared path.now) (shared condition.now)) ++ Spec.CheckSat ∷ []) checks) }
+        ensures asked { OnOk result (IsAsked self.new) }
+        ensures member { OnOk result (self.new.in_member ≡ true) }
+        ensures failed { self.new.failed ≡ self.old.failed }
+        ensures cause { HasCause Talk.Pipe (L.faults self.old.link) (L.faults self.new.link) result }
+        ensures open { result ≡ Err Talk.Closed → ⊥ }
+    {
+        let commands = question_commands(alloc, self.in_member, path, condition)?;
+        self.say_all(alloc, &commands)?;
+        self.send_check(alloc)
+    }
+
+    /// Asks whether the condition follows from the path: the path and the negated condition are asserted and checked.
     pub fn post(
         &mut self,
         alloc: Global,
         path: &[Rc<Term>],
         condition: &Rc<Term>,
     ) -> Result<(), Talk>
-        requires { self.old.asked ≡ false }
-        ensures sent { OnOk result (sent (L.dialogue self.new.link) ≡ said L.dialogue self.old
-            ++ commands_text (asks self.old.in_member (map shared path.now) (shared condition.now))) }
-        ensures said { OnOk result (said L.dialogue self.new ≡ sent (L.dialogue self.new.link)) }
-        ensures asked { OnOk result ((self.new.asked ≡ true) × (self.new.in_member ≡ true) × (self.new.count ≡ 0)) }
-        ensures cause { HasCause Talk.Pipe (L.faults self.old.link) (L.faults self.new.link) result }
-        ensures closed { (result ≡ Err Talk.Closed) ↔ (self.old.failed ≡ true) }
-        ensures failed { OnErr result (self.new.failed ≡ true) }
+        requires { IsFree self.old }
+        ensures asks { OnOk result ((base : List Level) (commands : List Spec.Command) (checks : List Check) → Stands L.dialogue base self.old commands checks
+            → Asks L.dialogue base (map shared path.now) (shared condition.now) self.new
+            ((commands ++ question (is_in_member self.old) (map shared path.now) (shared condition.now)) ++ Spec.CheckSat ∷ []) checks) }
+        ensures asked { IsAsked self.new }
+        ensures cause { HasCause Talk.Pipe (L.faults (link_of self.old)) (L.faults (link_of self.new)) result }
+        ensures closed { (result ≡ Err Talk.Closed) ↔ (has_failed self.old ≡ true) }
+        ensures failed { has_failed self.new ≡ is_err result }
     {
         if self.failed {
             return Err(Talk::Closed);
@@ -283,21 +209,19 @@ impl<L: Link> Dialogue<L> {
     }
 
     #[tactic(auto, unfolding(crate::specs::Items::is_lawful))]
-    fn take_all(&mut self, alloc: Global) -> Result<Reply, Talk>
-        requires { self.old.count ≡ 0 }
-        ensures reply { IfOk result (λ reply. ReadsAnswer self.old.owed (got (L.dialogue self.old.link)) self.old.unread.items (got (L.dialogue self.new.link)) self.new.unread.items reply) }
-        ensures said { OnOk result (said L.dialogue self.new ≡ said L.dialogue self.old ++ command_text (Spec.Pop 1)) }
-        ensures sent { sent (L.dialogue self.new.link) ≡ sent (L.dialogue self.old.link) }
-        ensures asked { OnOk result ((self.new.asked ≡ false) × (self.new.in_member ≡ self.old.in_member) × (self.new.count ≤ 1)) }
+    fn take_all(&mut self, alloc: Global, owed: usize) -> Result<Reply, Talk>
+        ensures told { IfOk result (λ reply. self.old.owed ≡ Some owed → (commands : List Spec.Command) (checks : List Check) → Waits L.dialogue self.old commands checks
+            → Gathers L.dialogue self.new (commands ++ Spec.Pop 1 ∷ []) (checks ++ told_check (stack_of commands) reply ∷ [])) }
+        ensures free { OnOk result ((self.new.owed ≡ None) × (self.new.count ≡ 1)) }
+        ensures same { (self.new.in_member ≡ self.old.in_member) × (self.new.failed ≡ self.old.failed) }
         ensures cause { HasCause Talk.Pipe (L.faults self.old.link) (L.faults self.new.link) result }
         ensures open { result ≡ Err Talk.Closed → ⊥ }
     {
-        let owed = self.owed;
         expect_successes(alloc, &mut self.link, &mut self.unread, owed)?;
         let item = expect(alloc, &mut self.link, &mut self.unread, Wanted::Answer)?;
         write(alloc, &Command::Pop(1), &mut self.batch)?;
         self.count = 1;
-        self.asked = false;
+        self.owed = None;
         match answer(item.tokens()) {
             Some(reply) => Ok(reply),
             None => unreachable!(),
@@ -306,20 +230,20 @@ impl<L: Link> Dialogue<L> {
 
     /// Reads the reply to the open question.
     pub fn take(&mut self, alloc: Global) -> Result<Reply, Talk>
-        requires count { self.old.count ≡ 0 }
-        requires asked { self.old.asked ≡ true }
-        ensures reply { IfOk result (λ reply. ReadsAnswer self.old.owed (got (L.dialogue self.old.link)) self.old.unread.items (got (L.dialogue self.new.link)) self.new.unread.items reply) }
-        ensures said { OnOk result (said L.dialogue self.new ≡ said L.dialogue self.old ++ command_text (Spec.Pop 1)) }
-        ensures sent { sent (L.dialogue self.new.link) ≡ sent (L.dialogue self.old.link) }
-        ensures asked { OnOk result ((self.new.asked ≡ false) × (self.new.in_member ≡ self.old.in_member) × (self.new.count ≤ 1)) }
-        ensures cause { HasCause Talk.Pipe (L.faults self.old.link) (L.faults self.new.link) result }
-        ensures closed { (result ≡ Err Talk.Closed) ↔ (self.old.failed ≡ true) }
-        ensures failed { OnErr result (self.new.failed ≡ true) }
+        requires { IsAsked self.old }
+        ensures reply { IfOk result (λ reply. (base : List Level) (path : List Written.Term) (condition : Written.Term) (commands : List Spec.Command) (checks : List Check)
+            → Asks L.dialogue base path condition self.old commands checks
+            → Stands L.dialogue base self.new (commands ++ Spec.Pop 1 ∷ []) (checks ++ check_of base path condition reply ∷ [])) }
+        ensures free { IsFree self.new }
+        ensures cause { HasCause Talk.Pipe (L.faults (link_of self.old)) (L.faults (link_of self.new)) result }
+        ensures closed { (result ≡ Err Talk.Closed) ↔ (has_failed self.old ≡ true) }
+        ensures failed { has_failed self.new ≡ is_err result }
     {
-        if self.failed {
-            return Err(Talk::Closed);
-        }
-        match self.take_all(alloc) {
+        let owed = match self.owed {
+            Some(owed) if !self.failed => owed,
+            _ => return Err(Talk::Closed),
+        };
+        match self.take_all(alloc, owed) {
             Ok(reply) => Ok(reply),
             Err(talk) => {
                 self.failed = true;
@@ -328,36 +252,61 @@ impl<L: Link> Dialogue<L> {
         }
     }
 
+    /// Posts a question and reads its reply.
+    pub fn ask(
+        &mut self,
+        alloc: Global,
+        path: &[Rc<Term>],
+        condition: &Rc<Term>,
+    ) -> Result<Reply, Talk>
+        requires { IsFree self.old }
+        ensures reply { IfOk result (λ reply. (base : List Level) (commands : List Spec.Command) (checks : List Check) → Stands L.dialogue base self.old commands checks
+            → Stands L.dialogue base self.new
+            (((commands ++ question (is_in_member self.old) (map shared path.now) (shared condition.now)) ++ Spec.CheckSat ∷ []) ++ Spec.Pop 1 ∷ [])
+            (checks ++ check_of base (map shared path.now) (shared condition.now) reply ∷ [])) }
+        ensures free { IsFree self.new }
+        ensures cause { HasCause Talk.Pipe (L.faults (link_of self.old)) (L.faults (link_of self.new)) result }
+        ensures closed { (result ≡ Err Talk.Closed) ↔ (has_failed self.old ≡ true) }
+        ensures failed { has_failed self.new ≡ is_err result }
+    {
+        self.post(alloc, path, condition)?;
+        self.take(alloc)
+    }
+
     /// Ends the member. Nothing is sent before the next question.
     pub fn leave(&mut self, alloc: Global) -> Result<(), Talk>
-        requires asked { self.old.asked ≡ false }
-        requires count { self.old.count < 256 }
-        ensures said { OnOk result (said L.dialogue self.new ≡ said L.dialogue self.old ++ commands_text (closing self.old.in_member)) }
-        ensures link { self.new.link ≡ self.old.link }
-        ensures member { OnOk result ((self.new.in_member ≡ false) × (self.new.asked ≡ false)) }
-        ensures closed { (result ≡ Err Talk.Closed) ↔ (self.old.failed ≡ true) }
-        ensures others { OnErr result (self.new.failed ≡ true) × (IsErr result → (result ≡ Err Talk.Closed) ⊎ (result ≡ Err Talk.Want)) }
+        requires { IsFree self.old }
+        ensures stands { OnOk result ((base : List Level) (commands : List Spec.Command) (checks : List Check) → Stands L.dialogue base self.old commands checks
+            → Stands L.dialogue base self.new (commands ++ closing (is_in_member self.old)) checks) }
+        ensures left { OnOk result (is_in_member self.new ≡ false) }
+        ensures free { IsFree self.new }
+        ensures link { link_of self.new ≡ link_of self.old }
+        ensures closed { (result ≡ Err Talk.Closed) ↔ (has_failed self.old ≡ true) }
+        ensures others { IsErr result → (result ≡ Err Talk.Closed) ⊎ (result ≡ Err Talk.Want) }
+        ensures failed { has_failed self.new ≡ is_err result }
     {
         if self.failed {
             return Err(Talk::Closed);
         }
-        if self.in_member {
-            match write(alloc, &Command::Pop(1), &mut self.batch) {
-                Ok(()) => {}
-                Err(_) => {
-                    self.failed = true;
-                    return Err(Talk::Want);
-                }
-            }
-            self.count += 1;
-            self.in_member = false;
+        if !self.in_member {
+            return Ok(());
         }
-        Ok(())
+        match write(alloc, &Command::Pop(1), &mut self.batch) {
+            Ok(()) => {
+                self.count += 1;
+                self.in_member = false;
+                Ok(())
+            }
+            Err(_) => {
+                self.failed = true;
+                Err(Talk::Want)
+            }
+        }
     }
 
     /// Gives the link back. No memory.
     pub fn close(self) -> L
-        ensures { result ≡ self.link }
+        ensures { result ≡ link_of self }
     {
         let Dialogue { link, .. } = self;
         link

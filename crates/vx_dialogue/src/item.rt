@@ -3,7 +3,8 @@ ghost use Rattle.std.specs.Prelude.{◌≡◌, ◌≤◌, ◌++◌, length, drop
 ghost use Rattle.vx_ends.specs.Dialogue.{sent, got};
 ghost use Rattle.vx_ends.specs.Causes.{HasCause};
 ghost use Rattle.vx_sexp.specs.First.{IsFirst};
-ghost use Rattle.vx_dialogue.specs.Items.{Keeps, IsNoItem, ReadsItem, IsGarbled, IsRefused, is_word_item, is_headed_by, is_refusal, is_lawful, answer_of};
+ghost use Rattle.vx_dialogue.specs.Items.{Keeps, IsNoItem, ReadsItem, IsGarbled, IsRefused, is_lawful};
+ghost use Rattle.vx_smt_meaning.specs.Replies.{is_word_item, is_headed_by, is_refusal, answer_of};
 
 use crate::Talk;
 use std::alloc::{AllocError, Global};
@@ -91,7 +92,7 @@ fn is_headed(tokens: &[Token], text: &[u8]) -> bool
     }
 }
 
-#[tactic(auto, unfolding(crate::specs::Items::is_refusal))]
+#[tactic(auto, unfolding(vx_smt_meaning::specs::Replies::is_refusal))]
 fn refuses(tokens: &[Token]) -> bool
     ensures { result ≡ is_refusal tokens.now }
 {

@@ -4,14 +4,12 @@
 mod batch;
 mod dialogue;
 mod item;
-mod laws;
-mod negated;
 mod preamble;
+mod question;
 mod symbols;
 mod talk;
 
 pub use dialogue::Dialogue;
-pub use laws::{check_set, stack_back};
 pub use talk::Talk;
 
 #[cfg(test)]

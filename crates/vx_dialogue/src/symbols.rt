@@ -1,5 +1,5 @@
 // The symbols v that terms use.
-ghost use Rattle.std.specs.Prelude.{◌≡◌, [], OnOk, OnErr, IfOk, map};
+ghost use Rattle.std.specs.Prelude.{◌≡◌, [], OnOk, map};
 ghost use Rattle.vx_terms.specs.Views.{sort, symbol, term, terms};
 ghost use Rattle.vx_smt_meaning.specs.Views.{declared_symbol};
 ghost use Rattle.vx_dialogue.specs.Dialogue.{shared};
@@ -34,19 +34,6 @@ impl Model for Variables {
     ghost invariant = { λ v. (n : ℕ) → contains nat_cmp v.numbers n ≡ declares (map declared_symbol v.symbols.items) n };
 }
 
-fn copy_sort(a: &Sort) -> Result<Sort, AllocError>
-    ensures { IfOk result (λ b. sort b ≡ sort a.now) }
-{
-    match a {
-        Sort::Int => Ok(Sort::Int),
-        Sort::Bool => Ok(Sort::Bool),
-        Sort::Real => Ok(Sort::Real),
-        Sort::Ref => Ok(Sort::Ref),
-        Sort::Snap => Ok(Sort::Snap),
-        Sort::Other(name) => Ok(Sort::Other(name.clone()?)),
-    }
-}
-
 fn variable_of(alloc: Global, number: u64, gives: Sort) -> Declared
     ensures { declared_symbol result ≡ variable number (sort gives) }
 {
@@ -76,7 +63,7 @@ impl Variables {
     fn add(&mut self, alloc: Global, number: u64, a: &Sort) -> Result<(), AllocError>
         ensures ok { OnOk result (self.new ≡ with_variable self.old number (sort a.now)) }
     {
-        let gives = copy_sort(a)?;
+        let gives = a.copy()?;
         self.symbols.reserve(1)?;
         if self.numbers.insert(number)? {
             return match self.symbols.push(variable_of(alloc, number, gives)) {
@@ -93,9 +80,7 @@ impl Variables {
         ensures { OnOk result (self.new ≡ with_variables self.old (term t.now)) }
     {
         match t {
-            Term::Truth(_) => Ok(()),
-            Term::Number(_) => Ok(()),
-            Term::Part(_) => Ok(()),
+            Term::Truth(_) | Term::Number(_) | Term::Part(_) => Ok(()),
             Term::Constant(Symbol::Variable(number), a) => self.add(alloc, *number, a),
             Term::Constant(Symbol::Standard(_), _) => Ok(()),
             Term::Constant(Symbol::Function(_), _) => Ok(()),

@@ -1,4 +1,4 @@
-ghost use Rattle.std.specs.Prelude.{◌≡◌, false};
+ghost use Rattle.vx_dialogue.specs.Dialogue.{IsFree};
 
 use crate::*;
 use std::alloc::{AllocError, Global};
@@ -123,7 +123,7 @@ fn ask_three(
     not_b: &Rc<Term>,
     never: &Rc<Term>,
 ) -> Result<[Reply; 3], Talk>
-    requires { dialogue.old.asked ≡ false }
+    requires { IsFree dialogue.old }
 {
     dialogue.post(alloc, path, b)?;
     let first = dialogue.take(alloc)?;

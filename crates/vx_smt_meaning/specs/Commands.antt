@@ -1,5 +1,5 @@
 -- Commands and their assertion stacks.
-use Rattle.std.specs.Prelude.{ℕ, zero, suc, ◌+◌, ◌-◌, List, [], ◌∷◌, ◌++◌, Bool, drop, map, flat_map}
+use Rattle.std.specs.Prelude.{ℕ, zero, suc, List, [], ◌∷◌, ◌++◌, Bool, drop}
 use Rattle.vx_terms.specs.Sorts.{Sort, Symbol}
 use Rattle.vx_terms.specs.Terms.{Term}
 

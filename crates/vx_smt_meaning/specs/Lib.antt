@@ -4,3 +4,4 @@ pub mod Spelled
 pub mod Names
 pub mod Replies
 pub mod Views
+pub mod Dialogues

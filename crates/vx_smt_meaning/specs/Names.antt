@@ -4,9 +4,8 @@ use Rattle.vx_sexp.specs.declared.token.Kind.TheVariants as kind
 use Rattle.vx_sexp.specs.Tokens.{is_of, is_symbol}
 use Rattle.vx_terms.specs.Sorts.{Operator, Sort, OtherSort, Symbol, Named}
 use Rattle.vx_terms.specs.Terms.{Term, Truth, Number, Part, Constant, Apply, Not, Binary, Ite, AllOf, SomeOf, Terms, NoTerms, MoreTerms}
-use Rattle.vx_smt_meaning.specs.Commands.{Command, SetOption, SetLogic, DeclareSort, DeclareFun, Assert, Push, Pop, CheckSat, GetProof, Exit, Declared}
+use Rattle.vx_smt_meaning.specs.Commands.{Command, SetOption, SetLogic, DeclareSort, DeclareFun, Assert}
 use Rattle.vx_smt_meaning.specs.Words.{numeral, operator_word}
-use Rattle.vx_smt_meaning.specs.Spelled.{Spells}
 
 -- no numbered symbol and no word of terms is spelled so
 pub record IsFree (x : List ℕ) : Type 0 where

@@ -5,8 +5,6 @@ use Rattle.vx_sexp.specs.Scanning.{next, Unfinished}
 use Rattle.vx_sexp.specs.First.{Begins}
 use Rattle.vx_smt_meaning.specs.Commands.{Command}
 use Rattle.vx_smt_meaning.specs.Words.{command_tokens}
-use Rattle.vx_terms.specs.Sorts.{Sort, OtherSort, Symbol, Named}
-use Rattle.vx_terms.specs.Terms.{Term, Truth, Number, Part, Constant, Apply, Not, Binary, Ite, Terms, NoTerms, MoreTerms}
 use Rattle.vx_sexp.specs.declared.token.Token.{Token}
 
 -- The bytes are these commands, one after another, and then only space.

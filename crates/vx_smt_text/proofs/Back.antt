@@ -1,19 +1,18 @@
 -- What is written is read again.
-use Rattle.std.proofs.Common.{◌≡◌, ℕ, zero, suc, ◌+◌, ◌++◌, ◌==◌, ◌&&◌, not, length, Bool, true, false, List, [], ◌∷◌, ℤ, pos, negsuc, codes, refl, arith, if◌then◌else◌, ap, ◌∙◌, sym, subst, append_assoc}
-use Rattle.std.proofs.lemmas.Grind.{common_steps}
+use Rattle.std.proofs.Common.{◌≡◌, ℕ, zero, suc, ◌+◌, ◌++◌, not, Bool, true, false, List, [], ◌∷◌, ℤ, pos, negsuc, codes, refl, ap, sym, subst, append_assoc}
 use Rattle.vx_sexp.specs.declared.token.Kind.{Kind}
 use Rattle.vx_sexp.specs.declared.token.Kind.TheVariants as kind
 use Rattle.vx_sexp.specs.declared.token.Token.{Token}
 use Rattle.vx_sexp.specs.declared.token.Token.TheVariants.{Open, Close, Atom}
 use Rattle.vx_sexp.specs.Characters.{is_digit, is_symbol_byte, is_word_byte, is_blank}
-use Rattle.vx_sexp.specs.Tokens.{Starts, Lexes, begins, is_of, is_ended, is_space_from}
-use Rattle.vx_terms.specs.Sorts.{Sort, Symbol, Operator, And, Or}
+use Rattle.vx_sexp.specs.Tokens.{Starts, Lexes, begins, is_of, is_ended}
+use Rattle.vx_terms.specs.Sorts.{Sort, And, Or}
 use Rattle.vx_terms.specs.Terms.{Term, Truth, Number, Part, Constant, Apply, Not, Binary, Ite, AllOf, SomeOf, Terms, NoTerms, MoreTerms}
 use Rattle.vx_smt_meaning.specs.Words.{numeral, decimal, sort_word, symbol_word, operator_word, word, listed, sorts_tokens, truth_word, command_tokens, signed_tokens, quotient_tokens, term_tokens, terms_tokens}
 use Rattle.vx_smt_text.specs.Text.{sorts_text, more_sorts, front_text, command_text, commands_text, set_option_head, set_logic_head, declare_sort_head, declare_fun_head, signed_text, quotient_text, term_text, terms_text}
-use Rattle.vx_smt_meaning.specs.Commands.{Command, SetOption, SetLogic, DeclareSort, DeclareFun, Assert, Push, Pop, CheckSat, GetProof, Exit, Declared}
+use Rattle.vx_smt_meaning.specs.Commands.{Command, SetOption, SetLogic, DeclareSort, DeclareFun, Assert, Push, Pop, CheckSat, GetProof, Exit}
 use Rattle.vx_smt_meaning.specs.Spelled.{Spells}
-use Rattle.vx_smt_meaning.specs.Names.{IsName, IsSortName, AreNames, AllAreNames, AreSortNames, IsCommand, AreCommands}
+use Rattle.vx_smt_meaning.specs.Names.{AreNames, AllAreNames, AreSortNames, IsCommand, AreCommands}
 use Rattle.vx_smt_text.proofs.Words.{numeral_is, decimal_is, symbol_is, sort_is, operator_is}
 
 abbrev ends_word : List ℕ → Bool

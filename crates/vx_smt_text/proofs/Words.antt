@@ -1,9 +1,9 @@
 -- The words of a command's text are tokens.
-use Rattle.std.proofs.Common.{◌≡◌, ℕ, zero, suc, ◌≤◌, ◌<◌, ◌+◌, ◌-◌, ◌/◌, ◌%◌, ◌++◌, ◌==◌, ◌&&◌, not, length, Bool, true, false, List, [], ◌∷◌, map, refl, arith, if◌then◌else◌, ap, ◌∙◌, sym, subst}
+use Rattle.std.proofs.Common.{◌≡◌, ℕ, zero, suc, ◌≤◌, ◌<◌, ◌+◌, ◌/◌, ◌%◌, ◌++◌, ◌==◌, ◌&&◌, not, Bool, true, false, List, [], ◌∷◌, refl, arith, ap, sym}
 use Rattle.std.proofs.lemmas.Grind.{common_steps}
 use Rattle.std.specs.List.{list_all}
-use Rattle.vx_sexp.specs.Characters.{is_digit, is_symbol_byte, is_word_byte}
-use Rattle.vx_sexp.specs.Tokens.{is_numeral, is_decimal, is_symbol, some_all, before_point, behind_point, is_empty}
+use Rattle.vx_sexp.specs.Characters.{is_digit, is_symbol_byte}
+use Rattle.vx_sexp.specs.Tokens.{is_numeral, is_decimal, is_symbol, before_point, behind_point}
 use Rattle.vx_smt_meaning.specs.Words.{digits, numeral, decimal, sort_word, symbol_word, operator_word}
 use Rattle.vx_terms.specs.Sorts.{Sort, IntSort, BoolSort, RealSort, RefSort, SnapSort, OtherSort, Symbol, Standard, Function, Variable, Named, Operator, And, Or, Implies, Equal, Less, LessEqual, Add, Subtract, Multiply, Div, Mod}
 use Rattle.vx_smt_meaning.specs.Names.{IsName, IsSortName}

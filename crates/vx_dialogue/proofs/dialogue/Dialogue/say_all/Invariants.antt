@@ -1,7 +1,8 @@
-use Rattle.std.proofs.Common.{◌≡◌, ◌≤◌, ◌++◌, drop, map}
+use Rattle.std.proofs.Common.{◌≡◌, ◌≤◌, ◌++◌, List, map, take}
+use Rattle.vx_smt_meaning.specs.Commands.{Command}
+use Rattle.vx_smt_meaning.specs.Dialogues.{ArePlain, Check}
 use Rattle.vx_smt_meaning.specs.Views.{command}
-use Rattle.vx_smt_text.specs.Text.{commands_text}
-use Rattle.vx_dialogue.specs.Dialogue.{said}
+use Rattle.vx_dialogue.specs.Dialogue.{Gathers}
 use Rattle.vx_dialogue.proofs.dialogue.Dialogue.say_all.Given as goal
 
 abbrev pub invariant-loop-c : goal.invariant-loop-c
@@ -9,7 +10,10 @@ invariant-loop-c g l =
     let dialogue = g.L.Link.dialogue in
     let faults = g.L.Link.faults in
     record {
-      so_far : said dialogue l.self ++ commands_text (map command (drop l.c-index l.commands)) ≡ said dialogue l.fn.self ++ commands_text (map command l.commands);
+      told : ArePlain (map command l.all) → (commands : List Command) (checks : List Check)
+          → Gathers dialogue l.fn.self commands checks → Gathers dialogue l.self (commands ++ map command (take l.c-index l.all)) checks;
       member : l.self.in_member ≡ l.fn.self.in_member;
+      owed : l.self.owed ≡ l.fn.self.owed;
+      failed : l.self.failed ≡ l.fn.self.failed;
       later : faults l.fn.self.link ≤ faults l.self.link;
     }

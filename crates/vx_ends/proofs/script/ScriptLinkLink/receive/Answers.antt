@@ -1,4 +1,4 @@
-use Rattle.std.proofs.Common.{rules, ◌≡◌, ◌∙◌, ap, ◌+◌, [], ◌∷◌, ◌++◌, length, length-append}
+use Rattle.std.proofs.Common.{rules, ◌≡◌, ◌∙◌, [], ◌∷◌, ◌++◌, length-append}
 use Rattle.vx_ends.specs.declared.piece.Piece.TheVariants.{Got}
 use Rattle.vx_ends.proofs.Dialogues.{sent_by_got, got_by_got}
 use Rattle.vx_ends.proofs.script.ScriptLinkLink.receive.Goals as goal

@@ -1,0 +1,19 @@
+use Rattle.std.proofs.Common.{rules, ◌≡◌, ◌++◌, ◌∷◌, [], map, subst}
+use Rattle.vx_smt_meaning.specs.Commands.{CheckSat}
+use Rattle.vx_smt_meaning.specs.Dialogues.{ArePlain}
+use Rattle.vx_smt_meaning.specs.Views.{command}
+use Rattle.vx_dialogue.specs.Dialogue.{Waits, question, shared}
+use Rattle.vx_dialogue.proofs.Lists.{on_ok_map}
+use Rattle.vx_dialogue.proofs.Levels.{plain_question}
+use Rattle.vx_dialogue.proofs.dialogue.Dialogue.post_all.Goals as goal
+
+pub returns-clause-told : goal.returns-clause-told
+returns-clause-told g c =
+    let path = map shared c.args.path.now in
+    let condition = shared c.args.condition.now in
+    let member = c.args.self.now.in_member in
+    let all : map command c.deref.result.now ≡ question member path condition = search rules in
+    let plain : ArePlain (map command c.deref.result.now) = rw all (plain_question member path condition) in
+    on_ok_map c.send_check.result _ _ (λ sent. λ commands checks told.
+    subst (λ x. Waits g.L.Link.dialogue c.send_check.new.self ((commands ++ x) ++ CheckSat ∷ []) checks) all (sent _ checks (c.in_ok-say_all.ensures.told plain commands checks told)))
+    c.send_check.ensures.told

@@ -1,0 +1,12 @@
+use Rattle.std.proofs.Common.{◌≡◌, ◌++◌, refl}
+use Rattle.vx_smt_meaning.specs.Views.{command}
+use Rattle.vx_smt_text.specs.Text.{command_text}
+use Rattle.vx_dialogue.proofs.Told.{gathers_said}
+use Rattle.vx_dialogue.proofs.dialogue.Dialogue.say.Goals as goal
+
+pub returns-clause-told : goal.returns-clause-told
+returns-clause-told g c = λ plain commands checks told.
+    let room = c.make_room.new.self in
+    let before = c.in_ok-make_room.ensures.told commands checks told in
+    let written : c.write.new.out.items ≡ room.batch.items ++ command_text (command c.args.c.now) = c.in_ok-write.ensures.ok in
+    gathers_said g.L.Link.dialogue room _ (command c.args.c.now) plain refl written refl refl commands checks before

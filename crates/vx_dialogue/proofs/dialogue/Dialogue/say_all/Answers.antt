@@ -1,0 +1,27 @@
+use Rattle.std.proofs.Common.{◌≡◌, ◌++◌, ◌+◌, ◌∷◌, [], true, map, take, ap, ◌∙◌, sym, subst, arith, append_assoc}
+use Rattle.std.proofs.lemmas.Grind.{common_steps}
+use Rattle.vx_smt_meaning.specs.Views.{command}
+use Rattle.vx_smt_meaning.specs.Dialogues.{is_plain}
+use Rattle.vx_dialogue.specs.Dialogue.{Gathers}
+use Rattle.vx_dialogue.proofs.Lists.{map_take_more, plain_at}
+use Rattle.vx_dialogue.proofs.dialogue.Dialogue.say_all.Goals as goal
+
+pub loop-c-preserved : goal.loop-c-preserved
+loop-c-preserved g c =
+    let before = c.loop-c.invariant in
+    let all = c.args.all.now in
+    let i = c.loop-c.c-index in
+    let item = c.c-item.result in
+    record {
+      told = λ plain commands checks told.
+          let this : is_plain (command item) ≡ true = rw c.c-item.is (plain_at command all i item c.loop-c-test.true plain) in
+          let next = c.in_ok-say.ensures.told this (commands ++ map command (take i all)) checks (before.told plain commands checks told) in
+          let more : map command (take (i + 1) all) ≡ map command (take i all) ++ command item ∷ [] =
+          map_take_more command all i item c.loop-c-test.true ∙ ap (λ x. map command (take i all) ++ command x ∷ []) (sym c.c-item.is) in
+          subst (λ x. Gathers g.L.Link.dialogue c.say.new.self x checks)
+          (append_assoc commands (map command (take i all)) (command item ∷ []) ∙ ap (λ x. commands ++ x) (sym more)) next;
+      member = c.say.ensures.same.0 ∙ before.member;
+      owed = c.say.ensures.same.1 ∙ before.owed;
+      failed = c.say.ensures.same.2 ∙ before.failed;
+      later = grind (arith, common_steps);
+    }
