@@ -72,7 +72,7 @@ with_one (One m) l k e = by (same_literal m l) refl e
     by false s e = cc
 with_one Many l k e = cc
 
-one_left : (found : Left) (assumed ls : List Literal) (k : Literal) → left found assumed ls ≡ One k →
+pub one_left : (found : Left) (assumed ls : List Literal) (k : Literal) → left found assumed ls ≡ One k →
     Each (λ m. (denied assumed m ≡ true) ⊎ (m ≡ k)) ls × (((found ≡ Nothing) × Contains ls k × (denied assumed k ≡ false)) ⊎ (found ≡ One k))
 one_left found assumed [] k e = (tt, inr e)
 one_left found assumed (l ∷ ls) k e = by (denied assumed l) refl (one_left (cond (denied assumed l) found (with found l)) assumed ls k e)

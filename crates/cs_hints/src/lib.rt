@@ -22,6 +22,11 @@ pub struct Clause {
     pub literals: Vec<Literal>,
 }
 
+mod marks;
 mod propagate;
 
+pub use marks::Marks;
 pub use propagate::{by_terms, refutes_by};
+
+#[cfg(test)]
+mod tests;

@@ -1,65 +1,70 @@
 //! The hints of a step lead from what is assumed to a clause that leaves nothing.
-ghost use Rattle.std.specs.Prelude.{◌≡◌, IfOk};
-ghost use Rattle.cs_hints.specs.Hints.{denied, left, refutes};
+ghost use Rattle.std.specs.Prelude.{◌≡◌, ◌+◌, ◌<◌, ◌^◌, All};
+ghost use Rattle.cs_hints.specs.Hints.{with, refutes};
+ghost use Rattle.cs_hints.specs.Marks.{is_marked, terms_in, rounds_in, flip, left_by, IsBelow};
 ghost use Rattle.cs_hints.specs.Bridge.{Law, Converse};
 
-use crate::{Clause, Left, Literal};
-use std::alloc::{AllocError, Global};
+use crate::{Clause, Left, Literal, Marks};
 
-/// Is the negation of the literal assumed?
-fn is_denied(assumed: &[Literal], literal: Literal) -> bool
-    ensures { result ≡ denied assumed.now literal }
+fn negation(literal: Literal) -> Literal
+    ensures { result ≡ flip literal }
 {
-    for other in assumed {
-        if other.number == literal.number && other.positive != literal.positive {
-            return true;
-        }
+    Literal {
+        positive: !literal.positive,
+        number: literal.number,
     }
-    false
 }
 
-/// What the clause leaves, literals denied left out.
-fn left_of(assumed: &[Literal], clause: &[Literal]) -> Left
-    ensures { result ≡ left Left.Nothing assumed.now clause.now }
+fn with_literal(found: Left, literal: Literal) -> Left
+    ensures { result ≡ with found literal }
+{
+    match found {
+        Left::Nothing => Left::One(literal),
+        Left::One(other) if other == literal => Left::One(other),
+        Left::One(_) => Left::Many,
+        Left::Many => Left::Many,
+    }
+}
+
+/// What the clause leaves, literals whose negations are marked left out.
+fn left_of(marks: &Marks, clause: &[Literal]) -> Left
+    ensures { result ≡ left_by (λ l. is_marked marks.now (flip l)) Left.Nothing clause.now }
 {
     let mut found = Left::Nothing;
     for literal in clause {
-        if !is_denied(assumed, *literal) {
-            found = match found {
-                Left::Nothing => Left::One(*literal),
-                Left::One(other) => { if other == *literal { found } else { Left::Many } }
-                Left::Many => Left::Many,
-            };
+        if !marks.is_marked(negation(*literal)) {
+            found = with_literal(found, *literal);
         }
     }
     found
 }
 
-/// Do the hints end in a clause that leaves nothing?
-pub fn refutes_by(
-    alloc: Global,
-    clauses: &[Clause],
-    assumed: &[Literal],
-    hints: &[u32],
-) -> Result<bool, AllocError>
-    ensures { IfOk result (λ b. b ≡ refutes clauses.now assumed.now hints.now) }
+/// Do the hints lead from what is assumed to a clause that leaves nothing? The time is that of the
+/// literals read, and no memory is taken.
+pub fn refutes_by(marks: &mut Marks, clauses: &[Clause], assumed: &[Literal], hints: &[u32]) -> bool
+    requires rounds { rounds_in marks.old + 1 < 2 ^ 64 }
+    requires assumed { All (IsBelow (terms_in marks.old)) assumed.now }
+    requires clauses { All (λ c. All (IsBelow (terms_in marks.old)) c.literals.items) clauses.now }
+    ensures value { result ≡ refutes clauses.now assumed.now hints.now }
+    ensures terms { terms_in marks.new ≡ terms_in marks.old }
+    ensures rounds { rounds_in marks.new ≡ rounds_in marks.old + 1 }
 {
-    let mut known = Vec::new(alloc);
+    marks.begin();
     for literal in assumed {
-        known.push(*literal)?;
+        marks.mark(*literal);
     }
     for hint in hints {
         let at = *hint as usize;
         if at >= clauses.len() {
-            return Ok(false);
+            return false;
         }
-        match left_of(&known, &clauses[at].literals) {
-            Left::Nothing => return Ok(true),
-            Left::One(literal) => known.push(literal)?,
-            Left::Many => return Ok(false),
+        match left_of(marks, &clauses[at].literals) {
+            Left::Nothing => return true,
+            Left::One(literal) => marks.mark(literal),
+            Left::Many => return false,
         }
     }
-    Ok(false)
+    false
 }
 
 /// Hints refute by number exactly what they refute by term.
