@@ -1,0 +1,4 @@
+pub mod Heads
+pub mod Find
+pub mod Equalities
+pub mod Look
