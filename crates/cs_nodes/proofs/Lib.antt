@@ -2,3 +2,4 @@ pub mod Heads
 pub mod Find
 pub mod Equalities
 pub mod Look
+pub mod Chains
