@@ -7,7 +7,7 @@ use Rattle.vx_terms.specs.Terms.{Term, Truth, Number, Part, Constant, Apply, Not
 use Rattle.vx_terms.specs.Interpretations.{Tree, Empty, IntLeaf, BoolLeaf, RefLeaf, PermLeaf, Pair, Element, IntElement, BoolElement, RealElement, TreeElement, as_bool, as_int, as_fraction, as_sort, same_tree, same_element, Interpretation, on_numbers, operate, all_true, some_true, value, values}
 use Rattle.vx_terms.proofs.Same.{and_parts, int_is, bool_is, fraction_is}
 use Rattle.vx_terms.proofs.Values.{bool_value, int_value, real_element, value_of_sort, element_same}
-use Rattle.cs_certificate.specs.Terms.{Head, TruthHead, NumberHead, PartHead, SymbolHead, BinaryHead, NotHead, IteHead, AllHead, SomeHead, head, items, parts, HasSort}
+use Rattle.cs_certificate.specs.Terms.{Head, TruthHead, NumberHead, PartHead, ConstantHead, ApplyHead, BinaryHead, NotHead, IteHead, AllHead, SomeHead, head, items, parts, HasSort}
 
 -- equal elements are one and the same
 tree_is : (s t : Tree) → same_tree s t ≡ true → s ≡ t
@@ -42,7 +42,8 @@ pub by_head : Interpretation → Head → List Element → Element
 by_head i (TruthHead b) es = BoolElement b
 by_head i (NumberHead z) es = IntElement z
 by_head i (PartHead a) es = RealElement a
-by_head i (SymbolHead f a) es = as_sort a (i.functions f a es)
+by_head i (ConstantHead f a) es = as_sort a (i.functions f a es)
+by_head i (ApplyHead f a) es = as_sort a (i.functions f a es)
 by_head i (BinaryHead o) es = operate i o (first es) (first (later es))
 by_head i NotHead es = BoolElement (not (as_bool (first es)))
 by_head i IteHead es = cond (as_bool (first es)) (first (later es)) (first (later (later es)))

@@ -10,7 +10,7 @@ pub data Head : Type 0 where
   TruthHead : Bool → Head
   NumberHead : ℤ → Head
   PartHead : Fraction → Head
-  SymbolHead : Symbol → Sort → Head
+  ConstantHead ApplyHead : Symbol → Sort → Head
   BinaryHead : Operator → Head
   NotHead IteHead AllHead SomeHead : Head
 
@@ -18,8 +18,8 @@ abbrev pub head : Term → Head
 head (Truth b) = TruthHead b
 head (Number z) = NumberHead z
 head (Part a) = PartHead a
-head (Constant f a) = SymbolHead f a
-head (Apply f a ts) = SymbolHead f a
+head (Constant f a) = ConstantHead f a
+head (Apply f a ts) = ApplyHead f a
 head (Not t) = NotHead
 head (Binary o t u) = BinaryHead o
 head (Ite c t u) = IteHead

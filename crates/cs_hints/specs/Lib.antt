@@ -1,0 +1,3 @@
+pub mod Hints
+pub mod Bridge
+pub mod Marks

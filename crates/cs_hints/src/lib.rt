@@ -1,0 +1,32 @@
+//! Unit propagation along hints.
+#![tactic(auto)]
+
+/// A numbered term or its negation.
+#[derive(Clone, Copy, PartialEq, Eq, Debug)]
+pub struct Literal {
+    pub positive: bool,
+    pub number: u32,
+}
+
+/// What a clause leaves of its literals.
+#[derive(Clone, Copy, PartialEq, Eq, Debug)]
+pub enum Left {
+    Nothing,
+    One(Literal),
+    Many,
+}
+
+/// A list of literals.
+#[derive(Drop)]
+pub struct Clause {
+    pub literals: Vec<Literal>,
+}
+
+mod marks;
+mod propagate;
+
+pub use marks::Marks;
+pub use propagate::{by_terms, refutes_by};
+
+#[cfg(test)]
+mod tests;

@@ -1,0 +1,5 @@
+pub mod Heads
+pub mod Find
+pub mod Equalities
+pub mod Look
+pub mod Chains

@@ -1,0 +1,97 @@
+-- The clauses of steps, by numbers.
+use Rattle.std.specs.Prelude.{◌≡◌, ℕ, ℤ, pos, ◌+ℤ◌, Bool, true, false, ◌&&◌, ◌||◌, nat_eq, slice_get, if◌then◌else◌, List, [], ◌∷◌, ◌++◌, Option, Some, None}
+use Rattle.vx_terms.specs.Sorts.{IntSort, RealSort, Less, LessEqual, same_sort}
+use Rattle.vx_terms.specs.Terms.{Term}
+use Rattle.cs_certificate.specs.Terms.{NumberHead, BinaryHead}
+use Rattle.cs_certificate.specs.Certificate.{At, Clause, Yes, No, NumberedLiteral, Plain, Negated, Step, Chain, Congruence, Split, Trichotomy, Stack, State, Derives}
+use Rattle.cs_nodes.specs.Nodes.{Node, Represents, same_head, number_of, equality}
+
+infixl 10 ◌>>=◌
+abbrev pub ◌>>=◌ : {A B : Type 0} → Option A → (A → Option B) → Option B
+(Some x) >>= f = f x
+None >>= f = None
+
+abbrev pub plain : ℕ → NumberedLiteral
+plain n = record { sign = Plain; number = n }
+
+abbrev pub denial : ℕ → NumberedLiteral
+denial n = record { sign = Negated; number = n }
+
+-- the numbered literals are those of the clause
+pub data Names (terms : List Term) : List NumberedLiteral → Clause → Type 0 where
+  names-none : Names terms [] []
+  names-yes : {n : ℕ} {t : Term} {ns : List NumberedLiteral} {c : Clause} → At terms n t → Names terms ns c → Names terms (plain n ∷ ns) (Yes t ∷ c)
+  names-no : {n : ℕ} {t : Term} {ns : List NumberedLiteral} {c : Clause} → At terms n t → Names terms ns c → Names terms (denial n ∷ ns) (No t ∷ c)
+
+-- the denials of the equalities along a chain, and its last term
+abbrev pub links : List Node → ℕ → List ℕ → Option (List NumberedLiteral × ℕ)
+links nodes a [] = Some ([], a)
+links nodes a (b ∷ bs) = do
+  n ← slice_get nodes b
+  e ← equality nodes a b
+  rest ← links nodes b bs
+  Some (denial e ∷ rest.0, rest.1)
+
+abbrev pub chain_clause : List Node → List ℕ → Option (List NumberedLiteral)
+chain_clause nodes [] = None
+chain_clause nodes (a ∷ bs) = do
+  n ← slice_get nodes a
+  rest ← links nodes a bs
+  e ← equality nodes a rest.1
+  Some (rest.0 ++ plain e ∷ [])
+
+-- a pair of parts gives the denial of its equality; an identical pair is left out
+abbrev pub with_pair : List Node → ℕ → ℕ → List NumberedLiteral → Option (List NumberedLiteral)
+with_pair nodes a b rest = if nat_eq a b then Some rest else (equality nodes a b >>= λ e. Some (denial e ∷ rest))
+
+abbrev pub pairs : List Node → List ℕ → List ℕ → Option (List NumberedLiteral)
+pairs nodes [] [] = Some []
+pairs nodes (a ∷ xs) (b ∷ ys) = pairs nodes xs ys >>= with_pair nodes a b
+pairs nodes _ _ = None
+
+-- the pairs of the parts of two nodes with one head
+abbrev pub all_pairs : List Node → Node → Node → Option (List NumberedLiteral)
+all_pairs nodes x y = if same_head x.head y.head then pairs nodes x.parts y.parts else None
+
+abbrev pub congruence_clause : List Node → ℕ → ℕ → Option (List NumberedLiteral)
+congruence_clause nodes m n = do
+  x ← slice_get nodes m
+  y ← slice_get nodes n
+  rest ← all_pairs nodes x y
+  e ← equality nodes m n
+  Some (rest ++ plain e ∷ [])
+
+-- `t <= z` or `z + 1 <= t`, for an Int t
+abbrev pub split_clause : List Node → ℕ → ℤ → Option (List NumberedLiteral)
+split_clause nodes t z = do
+  x ← slice_get nodes t
+  low ← number_of nodes (NumberHead z) []
+  high ← number_of nodes (NumberHead (z +ℤ pos 1)) []
+  p ← number_of nodes (BinaryHead LessEqual) (t ∷ low ∷ [])
+  q ← number_of nodes (BinaryHead LessEqual) (high ∷ t ∷ [])
+  if same_sort x.sort IntSort then Some (plain p ∷ plain q ∷ []) else None
+
+abbrev pub is_number_sort : Node → Bool
+is_number_sort x = same_sort x.sort IntSort || same_sort x.sort RealSort
+
+-- `a < b` or `a = b` or `b < a`, for two numbers of one sort
+abbrev pub trichotomy_clause : List Node → ℕ → ℕ → Option (List NumberedLiteral)
+trichotomy_clause nodes a b = do
+  x ← slice_get nodes a
+  y ← slice_get nodes b
+  p ← number_of nodes (BinaryHead Less) (a ∷ b ∷ [])
+  e ← equality nodes a b
+  q ← number_of nodes (BinaryHead Less) (b ∷ a ∷ [])
+  if is_number_sort x && same_sort x.sort y.sort then Some (plain p ∷ plain e ∷ plain q ∷ []) else None
+
+-- a clause is computed exactly where one is derived, and it is that one
+pub record Computes (nodes : List Node) (s : State) (stack : Stack) (step : Step) (computed : Option (List NumberedLiteral)) : Type 0 where
+  pub sound : (ns : List NumberedLiteral) → computed ≡ Some ns → (c : Clause) × Names s.terms ns c × Derives stack s step c
+  pub complete : (c : Clause) → Derives stack s step c → (ns : List NumberedLiteral) × Names s.terms ns c × (computed ≡ Some ns)
+
+pub record ComputesSteps (nodes : List Node) (s : State) (stack : Stack) : Type 0 where
+  pub chain : (ns : List ℕ) → Computes nodes s stack (Chain ns) (chain_clause nodes ns)
+  pub congruence : (m n : ℕ) → Computes nodes s stack (Congruence m n) (congruence_clause nodes m n)
+
+abbrev pub ByNumbers : Type 0
+ByNumbers = (nodes : List Node) (s : State) (stack : Stack) → Represents nodes s.terms → ComputesSteps nodes s stack
