@@ -7,4 +7,5 @@ pub mod Means
 pub mod LocalExpr
 pub mod Whole
 pub mod Rows
+pub mod Sequence
 pub mod Turns
