@@ -7,4 +7,9 @@ pub mod Means
 pub mod LocalExpr
 pub mod Whole
 pub mod Rows
+pub mod Sequence
+pub mod Bracketed
+pub mod StmtTells
+pub mod StmtFor
+pub mod StmtTold
 pub mod Turns

@@ -28,13 +28,13 @@ pub record PhraseFor (n level : ℕ) (e : Expr) (ms : List Mark) : Type 0 where
   pub means : meant phrase ≡ e
   pub spelled : marks n phrase ≡ ms
 
-somewhere : Place
+pub somewhere : Place
 somewhere = record { line = 0; column = 0 }
 
-any_phrase : Phrase
+pub any_phrase : Phrase
 any_phrase = literal somewhere true
 
-starts_any : (n level : ℕ) → Starts (PhraseFor n level) []
+pub starts_any : (n level : ℕ) → Starts (PhraseFor n level) []
 unfolding any_phrase
 starts_any n level = record { value = meant any_phrase; more = marks n any_phrase; spelled = record { phrase = any_phrase; stands = tt; means = refl; spelled = refl } }
 
@@ -44,7 +44,7 @@ pub record Behind (m : Mark) (R : Grammar Expr) (e : Expr) (ms : List Mark) : Ty
   pub is : ms ≡ m ∷ inner
   pub spelled : R e inner
 
-tells_nested : (R : Grammar Expr) (limit n room : ℕ) (p : Part) (t : Token) (ts : List Token) → n + room ≡ limit → Starts R [] → ((less : ℕ) → room ≡ less + 1 → Tells R limit ts (part_at (below less) p ts)) → Tells (Behind (record { token = t; count = n + 1 }) R) limit (t ∷ ts) (below room p (t ∷ ts) ts)
+pub tells_nested : (R : Grammar Expr) (limit n room : ℕ) (p : Part) (t : Token) (ts : List Token) → n + room ≡ limit → Starts R [] → ((less : ℕ) → room ≡ less + 1 → Tells R limit ts (part_at (below less) p ts)) → Tells (Behind (record { token = t; count = n + 1 }) R) limit (t ∷ ts) (below room p (t ∷ ts) ts)
 unfolding below
 tells_nested R limit n zero p t ts e s h =
     let m : Mark = record { token = t; count = n + 1 } in
@@ -75,7 +75,7 @@ record Told (limit room : ℕ) : Type 0 where
 ToldBelow : ℕ → ℕ → Type 0
 ToldBelow limit room = (less : ℕ) → room ≡ less + 1 → Told limit less
 
-count_down : (limit n room less : ℕ) → n + room ≡ limit → room ≡ less + 1 → (n + 1) + less ≡ limit
+pub count_down : (limit n room less : ℕ) → n + room ≡ limit → room ≡ less + 1 → (n + 1) + less ≡ limit
 count_down limit n room less e s = omega arith
 
 -- ---- one operand
@@ -83,7 +83,7 @@ count_down limit n room less e s = omega arith
 token_is : (t : Token) (k : Kind) (n : ℕ) → t.kind ≡ k → let m : Mark = record { token = t; count = n } in mark n t.place k ≡ m
 token_is t k n e = ap (λ (x : Kind). mark n t.place x) (sym e)
 
-marks_is : (t : Token) (k : Kind) (n : ℕ) (ms : List Mark) → t.kind ≡ k → let m : Mark = record { token = t; count = n } in mark n t.place k ∷ ms ≡ m ∷ ms
+pub marks_is : (t : Token) (k : Kind) (n : ℕ) (ms : List Mark) → t.kind ≡ k → let m : Mark = record { token = t; count = n } in mark n t.place k ∷ ms ≡ m ∷ ms
 marks_is t k n ms e = ap (λ x. x ∷ ms) (token_is t k n e)
 
 grouped_goes_on : (n : ℕ) (t : Token) → t.kind ≡ symbol signs.Open → GoesOn (Behind (record { token = t; count = n + 1 }) (PhraseFor (n + 1) 8)) (PhraseFor n 0)

@@ -136,7 +136,7 @@ tells_token R limit m ts x le h = record { marks = m ∷ []; takes = record { wi
 abbrev pub Sign : ℕ → Symbol → Grammar Token
 Sign n s t ms = (p : Place) × (t ≡ record { kind = symbol s; place = p }) × (ms ≡ mark n p (symbol s) ∷ [])
 
-somewhere : Place
+pub somewhere : Place
 somewhere = record { line = 0; column = 0 }
 
 pub starts_sign : (n : ℕ) (s : Symbol) → Starts (Sign n s) []

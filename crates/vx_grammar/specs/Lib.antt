@@ -1,4 +1,5 @@
 pub mod Grammar
+pub mod Statements
 pub mod Reading
 pub mod Loops
 pub mod StmtReading

@@ -54,4 +54,3 @@ argument_of faults.TooLong = None
 argument_of (faults.TooManyMembers p) = None
 argument_of (faults.Unsupported p s) = Some (string_bytes s)
 argument_of faults.Want = None
-

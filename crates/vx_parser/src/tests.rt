@@ -156,3 +156,44 @@ fn nesting(rt: HostRuntime) -> Result<(), Fail> {
     );
     Ok(())
 }
+
+fn lines(alloc: Global, line: &[u8], count: usize) -> Result<String, AllocError> {
+    let mut text = Vec::new(alloc);
+    for _ in 0..count {
+        text.extend_from_slice(line)?;
+    }
+    answer(alloc, text.as_slice())
+}
+
+#[test]
+fn many_members(rt: HostRuntime) -> Result<(), Fail> {
+    let alloc = rt.alloc();
+    assert_eq!(rt; lines(alloc, b"method a() {}\n", 65536)?.as_str(), "ok");
+    assert_eq!(rt;
+        lines(alloc, b"method a() {}\n", 65537)?.as_str(),
+        "65537:1 E08 TooManyMembers"
+    );
+    // 40,000 methods in 4 MB
+    let line =
+        b"method m(x: Int, y: Int) returns (z: Int) requires x < y ensures z < y { z := x assert z < y }\n\n\n\n\n\n\n\n";
+    assert_eq!(rt; lines(alloc, line, 40000)?.as_str(), "ok");
+    Ok(())
+}
+
+#[test]
+fn many_clauses(rt: HostRuntime) -> Result<(), Fail> {
+    let alloc = rt.alloc();
+    let mut text = Vec::from_slice(alloc, b"method m()\n")?;
+    for _ in 0..201 {
+        text.extend_from_slice(b"requires true\n")?;
+    }
+    let mut more = Vec::from_slice(alloc, text.as_slice())?;
+    text.extend_from_slice(b"{}")?;
+    assert_eq!(rt; answer(alloc, text.as_slice())?.as_str(), "ok");
+    more.extend_from_slice(b"requires true\n{}")?;
+    assert_eq!(rt;
+        answer(alloc, more.as_slice())?.as_str(),
+        "203:1 E06 TooDeep"
+    );
+    Ok(())
+}

@@ -1,0 +1,90 @@
+-- What reading statements tells.
+use Rattle.std.proofs.Common.{◌≡◌, ℕ, zero, suc, ◌+◌, ◌-◌, ◌≤◌, ◌<◌, List, [], ◌∷◌, ◌++◌, Option, Some, None, Bool, true, false, Ok, Err, refl, sym, ap, subst, ◌∙◌, append_assoc, arith, cond}
+use Rattle.std.proofs.lemmas.List.{append-nil}
+use Rattle.vx_ast.specs.declared.Place.{Place}
+use Rattle.vx_ast.specs.declared.ValueType.{ValueType}
+use Rattle.vx_ast.specs.declared.ValueType.TheVariants as types
+use Rattle.vx_ast.specs.Written.{Expr, Declaration, Value, Stmt, Block, Declare, Assign, Assert, Assume, If, Done, Then}
+use Rattle.vx_tokens.specs.declared.token.Symbol.{Symbol}
+use Rattle.vx_tokens.specs.declared.token.Word.TheVariants as words
+use Rattle.vx_tokens.specs.declared.token.Symbol.TheVariants as signs
+use Rattle.vx_tokens.specs.Tokens.{Token, Kind, name, number, word, symbol}
+use Rattle.vx_grammar.specs.Grammar.{Phrase, Mark, mark, marks, meant, StandsAt, tokens_of}
+use Rattle.vx_grammar.specs.Statements.{DeclarationPhrase, IsWrittenType, type_word, declaration_meant, declaration_marks}
+use Rattle.vx_grammar.specs.Reading.{◌>>=◌, Read, Unexpected, expect, is_symbol, choice, choice_at, below}
+use Rattle.vx_grammar.specs.StmtReading.{name_by, name_at, type_by, type_at, declaration_at, condition_at}
+use Rattle.vx_grammar.specs.Laws.{Within}
+use Rattle.vx_grammar.proofs.Symbols.{is_symbol_true}
+use Rattle.vx_grammar.proofs.Tells.{Grammar, Starts, Takes, Tells, After, Sign, starts_sign, takes_none, tells_behind, tells_then, tells_as, tells_here, tells_unexpected, tells_token, tells_expect}
+use Rattle.vx_grammar.proofs.Sequence.{Sequence, Nothing, tells_sequence, starts_sequence, starts_nothing, tells_nothing}
+use Rattle.vx_grammar.proofs.Means.{PhraseFor, Behind, starts_any, tells_nested, count_down, reading_tells, marks_is}
+
+nowhere : Place
+nowhere = record { line = 0; column = 0 }
+
+-- ---- names and types
+
+abbrev pub NameFor : ℕ → Grammar (List ℕ)
+NameFor n x ms = (p : Place) × (ms ≡ mark n p (name x) ∷ [])
+
+starts_name : (n : ℕ) → Starts (NameFor n) []
+starts_name n = record { value = []; more = mark n nowhere (name []) ∷ []; spelled = (nowhere, refl) }
+
+name_by_tells : (limit n : ℕ) (t : Token) (k : Kind) (ts : List Token) → n ≤ limit → t.kind ≡ k → Tells (NameFor n) limit (t ∷ ts) (name_by t k ts)
+name_by_tells limit n t (name x) ts le e = tells_token (NameFor n) limit (record { token = t; count = n }) ts x le (t.place, sym (marks_is t (name x) n [] e))
+name_by_tells limit n t (number m) ts le e = tells_unexpected (NameFor n) limit (t ∷ ts) (starts_name n)
+name_by_tells limit n t (word w) ts le e = tells_unexpected (NameFor n) limit (t ∷ ts) (starts_name n)
+name_by_tells limit n t (symbol s) ts le e = tells_unexpected (NameFor n) limit (t ∷ ts) (starts_name n)
+
+pub name_tells : (limit n : ℕ) (ts : List Token) → n ≤ limit → Tells (NameFor n) limit ts (name_at ts)
+unfolding name_at
+name_tells limit n [] le = tells_unexpected (NameFor n) limit [] (starts_name n)
+name_tells limit n (t ∷ ts) le = name_by_tells limit n t t.kind ts le refl
+
+abbrev pub TypeFor : ℕ → Grammar ValueType
+TypeFor n t ms = (p : Place) × IsWrittenType t × (ms ≡ mark n p (word (type_word t)) ∷ [])
+
+starts_type : (n : ℕ) → Starts (TypeFor n) []
+starts_type n = record { value = types.Int; more = mark n nowhere (word words.Int) ∷ []; spelled = (nowhere, tt, refl) }
+
+type_by_tells : (limit n : ℕ) (t : Token) (k : Kind) (ts : List Token) → n ≤ limit → t.kind ≡ k → Tells (TypeFor n) limit (t ∷ ts) (type_by t k ts)
+type_by_tells limit n t (word words.Int) ts le e = tells_token (TypeFor n) limit (record { token = t; count = n }) ts types.Int le (t.place, tt, sym (marks_is t (word words.Int) n [] e))
+type_by_tells limit n t (word words.Bool) ts le e = tells_token (TypeFor n) limit (record { token = t; count = n }) ts types.Bool le (t.place, tt, sym (marks_is t (word words.Bool) n [] e))
+type_by_tells limit n t k ts le e = tells_unexpected (TypeFor n) limit (t ∷ ts) (starts_type n)
+
+type_tells : (limit n : ℕ) (ts : List Token) → n ≤ limit → Tells (TypeFor n) limit ts (type_at ts)
+unfolding type_at
+type_tells limit n [] le = tells_unexpected (TypeFor n) limit [] (starts_type n)
+type_tells limit n (t ∷ ts) le = type_by_tells limit n t t.kind ts le refl
+
+-- the marks of a declaration
+pub record DeclarationFor (n : ℕ) (d : Declaration) (ms : List Mark) : Type 0 where
+  pub phrase : DeclarationPhrase
+  pub stands : IsWrittenType phrase.of
+  pub means : declaration_meant phrase ≡ d
+  pub spelled : declaration_marks n phrase ≡ ms
+
+abbrev DeclarationParts : ℕ → Grammar Declaration
+DeclarationParts n = Sequence (NameFor n) (λ x. Sequence (Sign n signs.Colon) (λ c. Sequence (TypeFor n) (λ t. Nothing (record { name = x; of = t }))))
+
+declaration_of_parts : (n : ℕ) (d : Declaration) (ms : List Mark) → DeclarationParts n d ms → DeclarationFor n d ms
+declaration_of_parts n d ms (x, a, b, e, (p, ea), (c, a', b', e', (q, eq, eb), (t, a'', b'', e'', (r, w, et), (ed, en)))) = record {
+  phrase = record { name_at = p; text = x; colon_at = q; type_at = r; of = t };
+  stands = w;
+  means = sym ed;
+  spelled = sym (e ∙ rw (ea, e', eb, e'', et, en) refl);
+}
+
+pub starts_declaration : (n : ℕ) → Starts (DeclarationFor n) []
+starts_declaration n =
+    let w : DeclarationPhrase = record { name_at = nowhere; text = []; colon_at = nowhere; type_at = nowhere; of = types.Int } in
+    record { value = declaration_meant w; more = declaration_marks n w; spelled = record { phrase = w; stands = tt; means = refl; spelled = refl } }
+
+pub declaration_tells : (limit n : ℕ) (ts : List Token) → n ≤ limit → Tells (DeclarationFor n) limit ts (declaration_at ts)
+unfolding declaration_at
+declaration_tells limit n ts le =
+    tells_as (DeclarationParts n) (DeclarationFor n) limit ts _ (declaration_of_parts n)
+    (tells_sequence (NameFor n) _ limit ts (name_at ts) _ (λ x. starts_sequence (Sign n signs.Colon) _ (starts_sign n signs.Colon) (λ c. starts_sequence (TypeFor n) _ (starts_type n) (λ t. starts_nothing _))) (name_tells limit n ts le)
+    (λ x us. tells_sequence (Sign n signs.Colon) _ limit us (expect signs.Colon us) _ (λ c. starts_sequence (TypeFor n) _ (starts_type n) (λ t. starts_nothing _)) (tells_expect n signs.Colon limit us le)
+    (λ c vs. tells_sequence (TypeFor n) _ limit vs (type_at vs) _ (λ t. starts_nothing _) (type_tells limit n vs le)
+    (λ t ws. tells_nothing limit ws _))))

@@ -1,0 +1,306 @@
+-- What reading statements is told by: the statements that the tokens spell, at each room.
+use Rattle.std.proofs.Common.{◌≡◌, ℕ, zero, suc, ◌+◌, ◌≤◌, List, [], ◌∷◌, ◌++◌, Some, None, Bool, true, false, Ok, Err, length, refl, sym, ap, subst, ◌∙◌, append_assoc, arith, cond, inl, inr, ◌⊎◌}
+use Rattle.std.proofs.lemmas.List.{append-nil}
+use Rattle.vx_ast.specs.declared.Place.{Place}
+use Rattle.vx_ast.specs.Written.{Expr, Declaration, Value, Stmt, Block, Declare, Assign, Assert, Assume, If, Done, Then}
+use Rattle.vx_tokens.specs.declared.token.Word.TheVariants as words
+use Rattle.vx_tokens.specs.declared.token.Symbol.TheVariants as signs
+use Rattle.vx_tokens.specs.Tokens.{Token, Kind, name, number, word, symbol}
+use Rattle.vx_grammar.specs.Grammar.{Phrase, Mark, mark, marks, meant, StandsAt}
+use Rattle.vx_grammar.specs.Statements.{StmtPhrase, assigned, declared, initialized, asserted, assumed, branched, branch, no_other, other, another, block, declaration_marks}
+use Rattle.vx_grammar.specs.Reading.{◌>>=◌, Read, Unexpected, expect, is_symbol, choice, choice_at, below}
+use Rattle.vx_grammar.specs.StmtReading.{StmtPart, statements, elseif_part, stmt_part, stmts_below, declaration_at, condition_at, block_at, otherwise_by, otherwise_at, branch_at, initial_by, initial_at, declare_at, assign_at, assert_at, assume_at, stmt_by, stmt_at, begins_stmt, stmts_at, block_from}
+use Rattle.vx_grammar.proofs.Symbols.{is_symbol_true}
+use Rattle.vx_grammar.proofs.Tells.{Grammar, Starts, Takes, Tells, After, Sign, starts_sign, takes_none, tells_behind, tells_as, tells_here, tells_unexpected, tells_expect}
+use Rattle.vx_grammar.proofs.Rows.{RowFor, tells_rows}
+use Rattle.vx_grammar.proofs.Sequence.{Sequence, Nothing, tells_sequence, starts_sequence, starts_nothing, tells_nothing}
+use Rattle.vx_grammar.proofs.Bracketed.{Nested, Bracketed, bracket_tells, bracketed_by}
+use Rattle.vx_grammar.proofs.Means.{PhraseFor, Behind, starts_any, tells_nested, count_down, reading_tells, marks_is, somewhere}
+use Rattle.vx_grammar.proofs.StmtTells.{DeclarationFor, declaration_tells, starts_declaration}
+use Rattle.vx_grammar.proofs.StmtFor.{StmtFor, BranchFor, OtherFor, BlockFor, InsideFor, starts_stmt, starts_inside, starts_block, starts_other, starts_branch, row_inside, stmts_are_rows}
+
+fits : (limit n room : ℕ) → n + room ≡ limit → n ≤ limit
+fits limit n room e = omega (arith, e)
+
+-- ---- a token, and then a part
+
+led_tells : {A : Type 0} (R : Grammar A) (limit n : ℕ) (t : Token) (ts : List Token) (r : Read A) → n ≤ limit → Tells R limit ts r → Tells (Nested (record { token = t; count = n }) R) limit (t ∷ ts) r
+led_tells R limit n t ts r le h =
+    let m : Mark = record { token = t; count = n } in
+    tells_behind (Nested m R) limit (t ∷ ts) ts (m ∷ []) (record { within = (le, tt); tokens = refl }) r
+    (tells_as R (After (Nested m R) (m ∷ [])) limit ts r (λ y ms g. record { inner = ms; is = refl; spelled = g }) h)
+
+nested_stmts : (R : Grammar Block) (limit n room : ℕ) (p : StmtPart) (t : Token) (ts : List Token) → n + room ≡ limit → Starts R [] → ((less : ℕ) → room ≡ less + 1 → Tells R limit ts (stmt_part less (stmts_below less) p ts)) → Tells (Nested (record { token = t; count = n + 1 }) R) limit (t ∷ ts) (stmts_below room p (t ∷ ts) ts)
+unfolding stmts_below
+nested_stmts R limit n zero p t ts e s h =
+    let m : Mark = record { token = t; count = n + 1 } in
+    record {
+      marks = [];
+      takes = takes_none limit (t ∷ ts);
+      deep = m;
+      after = ts;
+      first = refl;
+      count = omega (arith, e);
+      starts = record { value = s.value; more = s.more; spelled = record { inner = s.more; is = refl; spelled = s.spelled } };
+    }
+nested_stmts R limit n (suc less) p t ts e s h = led_tells R limit (n + 1) t ts (stmt_part less (stmts_below less) p ts) (omega (arith, e)) (h less (omega arith))
+
+-- ---- what is shown at each room
+
+record StmtTold (limit room : ℕ) : Type 0 where
+  row_tells : (n : ℕ) → n + room ≡ limit → (ts : List Token) → Tells (RowFor n (StmtFor n)) limit ts (stmts_at room (stmts_below room) ts)
+  branch_tells : (n : ℕ) → n + room ≡ limit → (place : Place) (ts : List Token) → Tells (BranchFor n place) limit ts (branch_at room (stmts_below room) place ts)
+
+StmtToldBelow : ℕ → ℕ → Type 0
+StmtToldBelow limit room = (less : ℕ) → room ≡ less + 1 → StmtTold limit less
+
+-- ---- conditions and blocks
+
+condition_tells : (limit n room : ℕ) (ts : List Token) → n + room ≡ limit → Tells (Bracketed n signs.Open signs.Close (PhraseFor (n + 1) 8)) limit ts (condition_at room ts)
+unfolding condition_at
+condition_tells limit n room ts e =
+    bracket_tells signs.Open signs.Close (PhraseFor (n + 1) 8) (λ here us. below room choice here us) limit n (starts_any (n + 1) 8)
+    (λ t us. tells_as (Behind (record { token = t; count = n + 1 }) (PhraseFor (n + 1) 8)) (Nested (record { token = t; count = n + 1 }) (PhraseFor (n + 1) 8)) limit (t ∷ us) (below room choice (t ∷ us) us)
+    (λ y ms b. record { inner = b.inner; is = b.is; spelled = b.spelled })
+    (tells_nested (PhraseFor (n + 1) 8) limit n room choice t us e (starts_any (n + 1) 8) (λ less s. reading_tells limit (n + 1) less us (count_down limit n room less e s)))) ts
+
+inside_tells : (limit n room : ℕ) (ts : List Token) → n + room ≡ limit → StmtTold limit room → Tells (InsideFor n) limit ts (stmt_part room (stmts_below room) statements ts)
+inside_tells limit n room ts e told =
+    tells_as (Sequence (RowFor n (StmtFor n)) (λ ss. Nothing (block_from ss))) (InsideFor n) limit ts _
+    (λ b ms (ss, front, back, q, r, (v, k)). subst (λ x. InsideFor n x ms) (sym v) (subst (InsideFor n (block_from ss)) (sym (q ∙ rw k (append-nil front))) (row_inside n ss front r)))
+    (tells_sequence (RowFor n (StmtFor n)) _ limit ts (stmts_at room (stmts_below room) ts) _ (λ ss. starts_nothing _) (told.row_tells n e ts) (λ ss us. tells_nothing limit us _))
+
+block_of_bracketed : (n : ℕ) (b : Block) (ms : List Mark) → Bracketed n signs.OpenBrace signs.CloseBrace (InsideFor (n + 1)) b ms → BlockFor n b ms
+block_of_bracketed n b ms h = record {
+  phrase = block h.from h.spelled.phrase h.to;
+  stands = h.spelled.stands;
+  means = h.spelled.means;
+  spelled = sym (h.is ∙ rw (← h.spelled.spelled) refl);
+}
+
+block_tells : (limit n room : ℕ) (ts : List Token) → n + room ≡ limit → StmtToldBelow limit room → Tells (BlockFor n) limit ts (block_at (stmts_below room) ts)
+unfolding block_at StmtToldBelow
+block_tells limit n room ts e told =
+    tells_as (Bracketed n signs.OpenBrace signs.CloseBrace (InsideFor (n + 1))) (BlockFor n) limit ts _ (block_of_bracketed n)
+    (bracket_tells signs.OpenBrace signs.CloseBrace (InsideFor (n + 1)) (stmts_below room statements) limit n (starts_inside (n + 1))
+    (λ t us. nested_stmts (InsideFor (n + 1)) limit n room statements t us e (starts_inside (n + 1)) (λ less s. inside_tells limit (n + 1) less us (count_down limit n room less e s) (told less s))) ts)
+
+-- ---- the other side
+
+else_is : (n : ℕ) (t : Token) → t.kind ≡ word words.Else → (b : Block) (ms : List Mark) → Nested (record { token = t; count = n }) (BlockFor n) b ms → OtherFor n b ms
+else_is n t k b ms h = record {
+  phrase = other t.place h.spelled.phrase;
+  stands = h.spelled.stands;
+  means = h.spelled.means;
+  spelled = marks_is t (word words.Else) n _ k ∙ ap (λ l. let m : Mark = record { token = t; count = n } in m ∷ l) h.spelled.spelled ∙ sym h.is;
+}
+
+another_is : (n : ℕ) (t : Token) → t.kind ≡ word words.Elseif → (b : Block) (ms : List Mark) → Nested (record { token = t; count = n + 1 }) (Sequence (BranchFor (n + 1) t.place) (λ s. Nothing (Then s Done))) b ms → OtherFor n b ms
+another_is n t k b ms h = by_parts h.inner h.is h.spelled
+  where
+    by_parts : (inner : List Mark) → (let m : Mark = record { token = t; count = n + 1 } in ms ≡ m ∷ inner) → Sequence (BranchFor (n + 1) t.place) (λ s. Nothing (Then s Done)) b inner → OtherFor n b ms
+    by_parts inner is (s, front, back, q, r, (v, z)) = record {
+      phrase = another t.place r.phrase;
+      stands = r.stands;
+      means = ap (λ x. Then x Done) r.means ∙ sym v;
+      spelled = marks_is t (word words.Elseif) (n + 1) _ k ∙ ap (λ l. let m : Mark = record { token = t; count = n + 1 } in m ∷ l) (r.spelled ∙ sym (q ∙ rw z (append-nil front))) ∙ sym is;
+    }
+
+other_by_tells : (limit n room : ℕ) (t : Token) (k : Kind) (ts : List Token) → n + room ≡ limit → StmtToldBelow limit room → t.kind ≡ k → Tells (OtherFor n) limit (t ∷ ts) (otherwise_by (stmts_below room) t k ts)
+unfolding StmtToldBelow
+other_by_tells limit n room t (word words.Else) ts e told k =
+    tells_as (Nested (record { token = t; count = n }) (BlockFor n)) (OtherFor n) limit (t ∷ ts) _ (else_is n t k) (led_tells (BlockFor n) limit n t ts _ (fits limit n room e) (block_tells limit n room ts e told))
+other_by_tells limit n room t (word words.Elseif) ts e told k =
+    tells_as (Nested (record { token = t; count = n + 1 }) (Sequence (BranchFor (n + 1) t.place) (λ s. Nothing (Then s Done)))) (OtherFor n) limit (t ∷ ts) _ (another_is n t k)
+    (nested_stmts (Sequence (BranchFor (n + 1) t.place) (λ s. Nothing (Then s Done))) limit n room (elseif_part t.place) t ts e (starts_sequence (BranchFor (n + 1) t.place) _ (starts_branch (n + 1) t.place) (λ s. starts_nothing _))
+    (λ less q. tells_sequence (BranchFor (n + 1) t.place) _ limit ts (branch_at less (stmts_below less) t.place ts) _ (λ s. starts_nothing _) ((told less q).branch_tells (n + 1) (count_down limit n room less e q) t.place ts) (λ s us. tells_nothing limit us _)))
+other_by_tells limit n room t k ts e told h = tells_here (OtherFor n) limit (t ∷ ts) Done (record { phrase = no_other; stands = tt; means = refl; spelled = refl })
+
+other_tells : (limit n room : ℕ) (ts : List Token) → n + room ≡ limit → StmtToldBelow limit room → Tells (OtherFor n) limit ts (otherwise_at (stmts_below room) ts)
+unfolding otherwise_at
+other_tells limit n room [] e told = tells_here (OtherFor n) limit [] Done (record { phrase = no_other; stands = tt; means = refl; spelled = refl })
+other_tells limit n room (t ∷ ts) e told = other_by_tells limit n room t t.kind ts e told refl
+
+-- ---- branches
+
+abbrev BranchParts : ℕ → Place → Grammar Stmt
+BranchParts n place = Sequence (Bracketed n signs.Open signs.Close (PhraseFor (n + 1) 8)) (λ e. Sequence (BlockFor n) (λ b. Sequence (OtherFor n) (λ o. Nothing (If place e b o))))
+
+regroup : (x : List Mark) (m : Mark) (u w : List Mark) → (x ++ m ∷ []) ++ (u ++ (w ++ [])) ≡ x ++ m ∷ (u ++ w)
+regroup x m u w = append_assoc x (m ∷ []) (u ++ (w ++ [])) ∙ ap (λ l. x ++ m ∷ (u ++ l)) (append-nil w)
+
+branch_of_parts : (n : ℕ) (place : Place) (s : Stmt) (ms : List Mark) → BranchParts n place s ms → BranchFor n place s ms
+branch_of_parts n place s ms (e, a, a', q, c, (b, f, f', q', d, (o, g, g', q'', h, (v, z)))) = record {
+  phrase = branch c.from c.spelled.phrase c.to d.phrase h.phrase;
+  stands = (c.spelled.stands, d.stands, h.stands);
+  means = rw (c.spelled.means, d.means, h.means) (sym v);
+  spelled = sym (q ∙ rw (c.is, q', q'', z, ← c.spelled.spelled, ← d.spelled, ← h.spelled) (ap (λ l. mark (n + 1) c.from (symbol signs.Open) ∷ l) (regroup (marks (n + 1) c.spelled.phrase) _ _ _)));
+}
+
+branch_tells_at : (limit n room : ℕ) (place : Place) (ts : List Token) → n + room ≡ limit → StmtToldBelow limit room → Tells (BranchFor n place) limit ts (branch_at room (stmts_below room) place ts)
+unfolding branch_at
+branch_tells_at limit n room place ts e told =
+    tells_as (BranchParts n place) (BranchFor n place) limit ts _ (branch_of_parts n place)
+    (tells_sequence (Bracketed n signs.Open signs.Close (PhraseFor (n + 1) 8)) _ limit ts (condition_at room ts) _ (λ c. starts_sequence (BlockFor n) _ (starts_block n) (λ b. starts_sequence (OtherFor n) _ (starts_other n) (λ o. starts_nothing _))) (condition_tells limit n room ts e)
+    (λ c us. tells_sequence (BlockFor n) _ limit us (block_at (stmts_below room) us) _ (λ b. starts_sequence (OtherFor n) _ (starts_other n) (λ o. starts_nothing _)) (block_tells limit n room us e told)
+    (λ b vs. tells_sequence (OtherFor n) _ limit vs (otherwise_at (stmts_below room) vs) _ (λ o. starts_nothing _) (other_tells limit n room vs e told)
+    (λ o ws. tells_nothing limit ws _))))
+
+-- ---- statements
+
+abbrev LedFor : {A : Type 0} → ℕ → Token → Grammar A → Grammar A
+LedFor n t R = Nested (record { token = t; count = n }) R
+
+abbrev AssignParts : ℕ → Token → List ℕ → Grammar Stmt
+AssignParts n t x = Sequence (Sign n signs.Becomes) (λ c. Sequence (PhraseFor n 8) (λ e. Nothing (Assign t.place x (Value e))))
+
+assign_of : (n : ℕ) (t : Token) (x : List ℕ) → t.kind ≡ name x → (s : Stmt) (ms : List Mark) → LedFor n t (AssignParts n t x) s ms → StmtFor n s ms
+assign_of n t x k s ms h = by_parts h.inner h.is h.spelled
+  where
+    by_parts : (inner : List Mark) → (let m : Mark = record { token = t; count = n } in ms ≡ m ∷ inner) → AssignParts n t x s inner → StmtFor n s ms
+    by_parts inner is (c, a, a', q, (p, pe, pm), (e, b, b', q', r, (v, z))) = record {
+      phrase = assigned t.place x p r.phrase;
+      stands = r.stands;
+      means = ap (λ y. Assign t.place x (Value y)) r.means ∙ sym v;
+      spelled = marks_is t (name x) n _ k ∙ ap (λ l. let m : Mark = record { token = t; count = n } in m ∷ l) (sym (q ∙ rw (pm, q', z, ← r.spelled) (ap (λ l. mark n p (symbol signs.Becomes) ∷ l) (append-nil (marks n r.phrase))))) ∙ sym is;
+    }
+
+assign_tells : (limit n room : ℕ) (t : Token) (x : List ℕ) (ts : List Token) → n + room ≡ limit → t.kind ≡ name x → Tells (StmtFor n) limit (t ∷ ts) (assign_at room t.place x ts)
+unfolding assign_at
+assign_tells limit n room t x ts e k =
+    tells_as (LedFor n t (AssignParts n t x)) (StmtFor n) limit (t ∷ ts) _ (assign_of n t x k)
+    (led_tells (AssignParts n t x) limit n t ts _ (fits limit n room e)
+    (tells_sequence (Sign n signs.Becomes) _ limit ts (expect signs.Becomes ts) _ (λ c. starts_sequence (PhraseFor n 8) _ (starts_any n 8) (λ y. starts_nothing _)) (tells_expect n signs.Becomes limit ts (fits limit n room e))
+    (λ c us. tells_sequence (PhraseFor n 8) _ limit us (choice_at (below room) us) _ (λ y. starts_nothing _) (reading_tells limit n room us e)
+    (λ y vs. tells_nothing limit vs _))))
+
+-- a word, and then an expression
+abbrev ExprParts : ℕ → (Expr → Stmt) → Grammar Stmt
+ExprParts n make = Sequence (PhraseFor n 8) (λ e. Nothing (make e))
+
+expr_of : (n : ℕ) (t : Token) (k : Kind) (make : Expr → Stmt) (w : Phrase → StmtPhrase) → t.kind ≡ k → ((e : Phrase) → StandsAt 8 e → StmtFor n (make (meant e)) (mark n t.place k ∷ marks n e)) → (s : Stmt) (ms : List Mark) → LedFor n t (ExprParts n make) s ms → StmtFor n s ms
+expr_of n t k make w q f s ms h = by_parts h.inner h.is h.spelled
+  where
+    by_parts : (inner : List Mark) → (let m : Mark = record { token = t; count = n } in ms ≡ m ∷ inner) → ExprParts n make s inner → StmtFor n s ms
+    by_parts inner is (e, b, b', q', r, (v, z)) =
+        subst (λ y. StmtFor n y ms) (ap make r.means ∙ sym v)
+        (subst (StmtFor n (make (meant r.phrase))) (marks_is t k n _ q ∙ ap (λ l. let m : Mark = record { token = t; count = n } in m ∷ l) (r.spelled ∙ sym (q' ∙ rw z (append-nil b))) ∙ sym is) (f r.phrase r.stands))
+
+expr_tells : (limit n room : ℕ) (t : Token) (k : Kind) (make : Expr → Stmt) (w : Phrase → StmtPhrase) (ts : List Token) → n + room ≡ limit → t.kind ≡ k → ((e : Phrase) → StandsAt 8 e → StmtFor n (make (meant e)) (mark n t.place k ∷ marks n e))
+    → Tells (StmtFor n) limit (t ∷ ts) (choice_at (below room) ts >>= λ e. Ok (make e.0, e.1))
+expr_tells limit n room t k make w ts e q f =
+    tells_as (LedFor n t (ExprParts n make)) (StmtFor n) limit (t ∷ ts) _ (expr_of n t k make w q f)
+    (led_tells (ExprParts n make) limit n t ts _ (fits limit n room e)
+    (tells_sequence (PhraseFor n 8) _ limit ts (choice_at (below room) ts) _ (λ y. starts_nothing _) (reading_tells limit n room ts e)
+    (λ y us. tells_nothing limit us _)))
+
+-- ---- variables
+
+-- what follows a declaration: its first value, or nothing
+record InitialFor (n : ℕ) (place : Place) (d : Declaration) (s : Stmt) (ms : List Mark) : Type 0 where
+  right : (ms ≡ []) × (s ≡ Declare place d None) ⊎ (p : Place) × (e : Phrase) × StandsAt 8 e × (s ≡ Declare place d (Some (Value (meant e)))) × (ms ≡ mark n p (symbol signs.Becomes) ∷ marks n e)
+
+starts_initial : (n : ℕ) (place : Place) (d : Declaration) → Starts (InitialFor n place d) []
+starts_initial n place d = record { value = Declare place d None; more = []; spelled = record { right = inl (refl, refl) } }
+
+initial_of : (n : ℕ) (place : Place) (d : Declaration) (t : Token) → t.kind ≡ symbol signs.Becomes → (s : Stmt) (ms : List Mark) → LedFor n t (ExprParts n (λ e. Declare place d (Some (Value e)))) s ms → InitialFor n place d s ms
+initial_of n place d t k s ms h = by_parts h.inner h.is h.spelled
+  where
+    by_parts : (inner : List Mark) → (let m : Mark = record { token = t; count = n } in ms ≡ m ∷ inner) → ExprParts n (λ e. Declare place d (Some (Value e))) s inner → InitialFor n place d s ms
+    by_parts inner is (e, b, b', q', r, (v, z)) = record {
+      right = inr (t.place, r.phrase, r.stands, v ∙ ap (λ y. Declare place d (Some (Value y))) (sym r.means), is ∙ ap (λ l. let m : Mark = record { token = t; count = n } in m ∷ l) (q' ∙ rw z (append-nil b) ∙ sym r.spelled) ∙ sym (marks_is t (symbol signs.Becomes) n _ k));
+    }
+
+initial_by_tells : (limit n room : ℕ) (place : Place) (d : Declaration) (t : Token) (ts : List Token) (b : Bool) → is_symbol signs.Becomes t.kind ≡ b → n + room ≡ limit → Tells (InitialFor n place d) limit (t ∷ ts) (cond b (initial_by room place d ts) (Ok (Declare place d None, t ∷ ts)))
+unfolding initial_by
+initial_by_tells limit n room place d t ts true h e =
+    let k = is_symbol_true signs.Becomes t.kind h in
+    tells_as (LedFor n t (ExprParts n (λ x. Declare place d (Some (Value x))))) (InitialFor n place d) limit (t ∷ ts) _ (initial_of n place d t k)
+    (led_tells (ExprParts n (λ x. Declare place d (Some (Value x)))) limit n t ts _ (fits limit n room e)
+    (tells_sequence (PhraseFor n 8) _ limit ts (choice_at (below room) ts) _ (λ y. starts_nothing _) (reading_tells limit n room ts e)
+    (λ y us. tells_nothing limit us _)))
+initial_by_tells limit n room place d t ts false h e = tells_here (InitialFor n place d) limit (t ∷ ts) (Declare place d None) (record { right = inl (refl, refl) })
+
+initial_tells : (limit n room : ℕ) (place : Place) (d : Declaration) (ts : List Token) → n + room ≡ limit → Tells (InitialFor n place d) limit ts (initial_at room place d ts)
+unfolding initial_at
+initial_tells limit n room place d [] e = tells_here (InitialFor n place d) limit [] (Declare place d None) (record { right = inl (refl, refl) })
+initial_tells limit n room place d (t ∷ ts) e = initial_by_tells limit n room place d t ts (is_symbol signs.Becomes t.kind) refl e
+
+abbrev DeclareParts : ℕ → Place → Grammar Stmt
+DeclareParts n place = Sequence (DeclarationFor n) (λ d. InitialFor n place d)
+
+declare_of : (n : ℕ) (t : Token) → t.kind ≡ word words.Var → (s : Stmt) (ms : List Mark) → LedFor n t (DeclareParts n t.place) s ms → StmtFor n s ms
+declare_of n t k s ms h = by_parts h.inner h.is h.spelled
+  where
+    led : (inner : List Mark) → (let m : Mark = record { token = t; count = n } in ms ≡ m ∷ inner) → mark n t.place (word words.Var) ∷ inner ≡ ms
+    led inner is = marks_is t (word words.Var) n inner k ∙ sym is
+
+    by_parts : (inner : List Mark) → (let m : Mark = record { token = t; count = n } in ms ≡ m ∷ inner) → DeclareParts n t.place s inner → StmtFor n s ms
+    by_parts inner is (d, a, a', q, r, i) = elim i.right [
+      | inl (z, v) ↦ record {
+          phrase = declared t.place r.phrase;
+          stands = r.stands;
+          means = ap (λ y. Declare t.place y None) r.means ∙ sym v;
+          spelled = ap (λ l. mark n t.place (word words.Var) ∷ l) (r.spelled ∙ sym (q ∙ rw z (append-nil a))) ∙ led inner is;
+        }
+      | inr (p, e, st, v, z) ↦ record {
+          phrase = initialized t.place r.phrase p e;
+          stands = (r.stands, st);
+          means = ap (λ y. Declare t.place y (Some (Value (meant e)))) r.means ∙ sym v;
+          spelled = ap (λ l. mark n t.place (word words.Var) ∷ l) (sym (q ∙ rw (z, ← r.spelled) refl)) ∙ led inner is;
+        }
+    ]
+
+declare_tells : (limit n room : ℕ) (t : Token) (ts : List Token) → n + room ≡ limit → t.kind ≡ word words.Var → Tells (StmtFor n) limit (t ∷ ts) (declare_at room t.place ts)
+unfolding declare_at
+declare_tells limit n room t ts e k =
+    tells_as (LedFor n t (DeclareParts n t.place)) (StmtFor n) limit (t ∷ ts) _ (declare_of n t k)
+    (led_tells (DeclareParts n t.place) limit n t ts _ (fits limit n room e)
+    (tells_sequence (DeclarationFor n) _ limit ts (declaration_at ts) _ (λ d. starts_initial n t.place d) (declaration_tells limit n ts (fits limit n room e))
+    (λ d us. initial_tells limit n room t.place d us e)))
+
+-- ---- all of them
+
+if_of : (n : ℕ) (t : Token) → t.kind ≡ word words.If → (s : Stmt) (ms : List Mark) → LedFor n t (BranchFor n t.place) s ms → StmtFor n s ms
+if_of n t k s ms h = record {
+  phrase = branched t.place h.spelled.phrase;
+  stands = h.spelled.stands;
+  means = h.spelled.means;
+  spelled = marks_is t (word words.If) n _ k ∙ ap (λ l. let m : Mark = record { token = t; count = n } in m ∷ l) h.spelled.spelled ∙ sym h.is;
+}
+
+stmt_by_tells : (limit n room : ℕ) (t : Token) (k : Kind) (ts : List Token) → n + room ≡ limit → StmtToldBelow limit room → t.kind ≡ k → Tells (StmtFor n) limit (t ∷ ts) (stmt_by room (stmts_below room) t k ts)
+unfolding assert_at assume_at
+stmt_by_tells limit n room t (name x) ts e told k = assign_tells limit n room t x ts e k
+stmt_by_tells limit n room t (word words.Var) ts e told k = declare_tells limit n room t ts e k
+stmt_by_tells limit n room t (word words.Assert) ts e told k = expr_tells limit n room t (word words.Assert) (Assert t.place) (asserted t.place) ts e k (λ w st. record { phrase = asserted t.place w; stands = st; means = refl; spelled = refl })
+stmt_by_tells limit n room t (word words.Assume) ts e told k = expr_tells limit n room t (word words.Assume) (Assume t.place) (assumed t.place) ts e k (λ w st. record { phrase = assumed t.place w; stands = st; means = refl; spelled = refl })
+stmt_by_tells limit n room t (word words.If) ts e told k =
+    tells_as (LedFor n t (BranchFor n t.place)) (StmtFor n) limit (t ∷ ts) _ (if_of n t k) (led_tells (BranchFor n t.place) limit n t ts _ (fits limit n room e) (branch_tells_at limit n room t.place ts e told))
+stmt_by_tells limit n room t k ts e told h = tells_unexpected (StmtFor n) limit (t ∷ ts) (starts_stmt n)
+
+stmt_tells : (limit n room : ℕ) (ts : List Token) → n + room ≡ limit → StmtToldBelow limit room → Tells (StmtFor n) limit ts (stmt_at room (stmts_below room) ts)
+unfolding stmt_at
+stmt_tells limit n room [] e told = tells_unexpected (StmtFor n) limit [] (starts_stmt n)
+stmt_tells limit n room (t ∷ ts) e told = stmt_by_tells limit n room t t.kind ts e told refl
+
+row_tells_at : (limit n room : ℕ) (ts : List Token) → n + room ≡ limit → StmtToldBelow limit room → Tells (RowFor n (StmtFor n)) limit ts (stmts_at room (stmts_below room) ts)
+row_tells_at limit n room ts e told =
+    subst (Tells (RowFor n (StmtFor n)) limit ts) (sym (stmts_are_rows room (stmts_below room) ts))
+    (tells_rows n limit (StmtFor n) begins_stmt (stmt_at room (stmts_below room)) (fits limit n room e) (λ us. stmt_tells limit n room us e told) (length ts) ts)
+
+stmt_told_from : (limit room : ℕ) → StmtToldBelow limit room → StmtTold limit room
+stmt_told_from limit room told = record {
+  row_tells = λ n e ts. row_tells_at limit n room ts e told;
+  branch_tells = λ n e place ts. branch_tells_at limit n room place ts e told;
+}
+
+stmt_told_at : (limit room : ℕ) → StmtTold limit room
+unfolding StmtToldBelow
+stmt_told_at limit zero = stmt_told_from limit zero (λ less e. absurd (omega (arith, e)))
+stmt_told_at limit (suc room) = stmt_told_from limit (suc room) (λ less e. let same : room ≡ less = omega (arith, e) in subst (StmtTold limit) same (stmt_told_at limit room))
+
+-- what reading a block tells
+pub block_reading_tells : (limit n room : ℕ) (ts : List Token) → n + room ≡ limit → Tells (BlockFor n) limit ts (block_at (stmts_below room) ts)
+unfolding StmtToldBelow
+block_reading_tells limit n room ts e = block_tells limit n room ts e (λ less s. stmt_told_at limit less)

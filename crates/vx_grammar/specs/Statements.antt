@@ -1,0 +1,158 @@
+-- Which tokens spell which statements: the grammar of Viper (VMCAI 2016) in this profile.
+use Rattle.std.specs.Prelude.{◌≡◌, ℕ, ◌+◌, List, [], ◌∷◌, ◌++◌, Option, Some, None, ⊤}
+use Rattle.vx_ast.specs.declared.Place.{Place}
+use Rattle.vx_ast.specs.declared.ValueType.{ValueType}
+use Rattle.vx_ast.specs.declared.ValueType.TheVariants as types
+use Rattle.vx_ast.specs.Written.{Declaration, Value, Stmt, Block, Declare, Assign, Assert, Assume, If, Done, Then}
+use Rattle.vx_tokens.specs.declared.token.Word.{Word}
+use Rattle.vx_tokens.specs.declared.token.Word.TheVariants as words
+use Rattle.vx_tokens.specs.declared.token.Symbol.TheVariants as signs
+use Rattle.vx_tokens.specs.Tokens.{name, word, symbol}
+use Rattle.vx_grammar.specs.Grammar.{Phrase, Mark, mark, marks, meant, StandsAt}
+
+-- ---- declarations
+
+-- a name, a colon and a type, each with its place
+pub record DeclarationPhrase : Type 0 where
+  pub name_at : Place
+  pub text : List ℕ
+  pub colon_at : Place
+  pub type_at : Place
+  pub of : ValueType
+
+abbrev pub type_word : ValueType → Word
+type_word types.Int = words.Int
+type_word types.Bool = words.Bool
+type_word types.Ref = words.Ref
+type_word types.Perm = words.Perm
+
+-- the types that can be written
+abbrev pub IsWrittenType : ValueType → Type 0
+IsWrittenType types.Int = ⊤
+IsWrittenType types.Bool = ⊤
+IsWrittenType types.Ref = ⊥
+IsWrittenType types.Perm = ⊥
+
+abbrev pub declaration_meant : DeclarationPhrase → Declaration
+declaration_meant d = record { name = d.text; of = d.of }
+
+abbrev pub declaration_marks : ℕ → DeclarationPhrase → List Mark
+declaration_marks n d = mark n d.name_at (name d.text) ∷ mark n d.colon_at (symbol signs.Colon) ∷ mark n d.type_at (word (type_word d.of)) ∷ []
+
+-- ---- statements as they are written, with the place of each token
+
+mutual
+  pub data StmtPhrase : Type 0 where
+    -- x := e
+    assigned : Place → List ℕ → Place → Phrase → StmtPhrase
+    -- var d, and var d := e
+    declared : Place → DeclarationPhrase → StmtPhrase
+    initialized : Place → DeclarationPhrase → Place → Phrase → StmtPhrase
+    asserted : Place → Phrase → StmtPhrase
+    assumed : Place → Phrase → StmtPhrase
+    -- if, and what stands behind it
+    branched : Place → BranchPhrase → StmtPhrase
+
+  -- a condition between parentheses, a block and the other side
+  pub data BranchPhrase : Type 0 where
+    branch : Place → Phrase → Place → BlockPhrase → OtherPhrase → BranchPhrase
+
+  pub data OtherPhrase : Type 0 where
+    no_other : OtherPhrase
+    other : Place → BlockPhrase → OtherPhrase
+    -- elseif, and what stands behind it
+    another : Place → BranchPhrase → OtherPhrase
+
+  -- statements between braces
+  pub data BlockPhrase : Type 0 where
+    block : Place → RowPhrase → Place → BlockPhrase
+
+  -- statements one after the other, each with a semicolon or none
+  pub data RowPhrase : Type 0 where
+    no_more : RowPhrase
+    more : StmtPhrase → Option Place → RowPhrase → RowPhrase
+
+-- ---- what is meant
+
+abbrev mutual
+  pub stmt_meant : StmtPhrase → Stmt
+  stmt_meant (assigned p x q e) = Assign p x (Value (meant e))
+  stmt_meant (declared p d) = Declare p (declaration_meant d) None
+  stmt_meant (initialized p d q e) = Declare p (declaration_meant d) (Some (Value (meant e)))
+  stmt_meant (asserted p e) = Assert p (meant e)
+  stmt_meant (assumed p e) = Assume p (meant e)
+  stmt_meant (branched p b) = branch_meant p b
+
+  -- an `if` whose first token stands there
+  pub branch_meant : Place → BranchPhrase → Stmt
+  branch_meant p (branch o e c b x) = If p (meant e) (block_meant b) (other_meant x)
+
+  -- no other side is the empty block, and an `elseif` a block with one `if`
+  pub other_meant : OtherPhrase → Block
+  other_meant no_other = Done
+  other_meant (other p b) = block_meant b
+  other_meant (another p b) = Then (branch_meant p b) Done
+
+  pub block_meant : BlockPhrase → Block
+  block_meant (block o r c) = row_meant r
+
+  pub row_meant : RowPhrase → Block
+  row_meant no_more = Done
+  row_meant (more s semi r) = Then (stmt_meant s) (row_meant r)
+
+-- ---- what may stand there
+
+abbrev mutual
+  pub StandsStmt : StmtPhrase → Type 0
+  StandsStmt (assigned p x q e) = StandsAt 8 e
+  StandsStmt (declared p d) = IsWrittenType d.of
+  StandsStmt (initialized p d q e) = IsWrittenType d.of × StandsAt 8 e
+  StandsStmt (asserted p e) = StandsAt 8 e
+  StandsStmt (assumed p e) = StandsAt 8 e
+  StandsStmt (branched p b) = StandsBranch b
+
+  pub StandsBranch : BranchPhrase → Type 0
+  StandsBranch (branch o e c b x) = StandsAt 8 e × StandsBlock b × StandsOther x
+
+  pub StandsOther : OtherPhrase → Type 0
+  StandsOther no_other = ⊤
+  StandsOther (other p b) = StandsBlock b
+  StandsOther (another p b) = StandsBranch b
+
+  pub StandsBlock : BlockPhrase → Type 0
+  StandsBlock (block o r c) = StandsRow r
+
+  pub StandsRow : RowPhrase → Type 0
+  StandsRow no_more = ⊤
+  StandsRow (more s semi r) = StandsStmt s × StandsRow r
+
+-- ---- tokens, each with its nesting count
+
+abbrev pub semi_marks : ℕ → Option Place → List Mark
+semi_marks n None = []
+semi_marks n (Some p) = mark n p (symbol signs.Semicolon) ∷ []
+
+-- A parenthesis, a brace and an `elseif` nest one deeper; an `elseif` part lasts to the end of the whole `if`.
+abbrev mutual
+  pub stmt_marks : ℕ → StmtPhrase → List Mark
+  stmt_marks n (assigned p x q e) = mark n p (name x) ∷ mark n q (symbol signs.Becomes) ∷ marks n e
+  stmt_marks n (declared p d) = mark n p (word words.Var) ∷ declaration_marks n d
+  stmt_marks n (initialized p d q e) = mark n p (word words.Var) ∷ (declaration_marks n d ++ mark n q (symbol signs.Becomes) ∷ marks n e)
+  stmt_marks n (asserted p e) = mark n p (word words.Assert) ∷ marks n e
+  stmt_marks n (assumed p e) = mark n p (word words.Assume) ∷ marks n e
+  stmt_marks n (branched p b) = mark n p (word words.If) ∷ branch_marks n b
+
+  pub branch_marks : ℕ → BranchPhrase → List Mark
+  branch_marks n (branch o e c b x) = mark (n + 1) o (symbol signs.Open) ∷ (marks (n + 1) e ++ mark (n + 1) c (symbol signs.Close) ∷ (block_marks n b ++ other_marks n x))
+
+  pub other_marks : ℕ → OtherPhrase → List Mark
+  other_marks n no_other = []
+  other_marks n (other p b) = mark n p (word words.Else) ∷ block_marks n b
+  other_marks n (another p b) = mark (n + 1) p (word words.Elseif) ∷ branch_marks (n + 1) b
+
+  pub block_marks : ℕ → BlockPhrase → List Mark
+  block_marks n (block o r c) = mark (n + 1) o (symbol signs.OpenBrace) ∷ (row_marks (n + 1) r ++ mark (n + 1) c (symbol signs.CloseBrace) ∷ [])
+
+  pub row_marks : ℕ → RowPhrase → List Mark
+  row_marks n no_more = []
+  row_marks n (more s semi r) = stmt_marks n s ++ (semi_marks n semi ++ row_marks n r)
