@@ -150,13 +150,12 @@ module _ (nodes : List Node) (s : State) (r : Represents nodes s.terms) where
       (rest.0, rest.1, bind_to (pairs nodes xs ys) (with_pair nodes a b) rest.0 rest.0 rest.2 (ap (λ d. if d then Some rest.0 else (equality nodes a b >>= λ e. Some (denial e ∷ rest.0))) (ap (nat_eq a) (sym (r.distinct a b t p q)) ∙ eq-eqb a a refl)))
   pairs_complete _ _ (one-term {n = a} {t = t} {ns = xs} p ps) (one-term {n = b} {t = u} {ns = ys} q qs) (differ {e = e} n g k) =
       let rest = pairs_complete xs ys ps qs k in
-      let f = tells nodes s r a b t u p q g.number e g.here g in
-      (
+      let f = tells nodes s r a b t u p q g.number e g.here g in (
         denial g.number ∷ rest.0,
         names-no g.here rest.1,
         bind_to (pairs nodes xs ys) (with_pair nodes a b) rest.0 (denial g.number ∷ rest.0) rest.2
-        (ap (λ d. if d then Some rest.0 else (equality nodes a b >>= λ e. Some (denial e ∷ rest.0))) (apart a b t u p q n (nat_eq a b) refl)
-        ∙ bind_to (equality nodes a b) (λ e. Some (denial e ∷ rest.0)) g.number (denial g.number ∷ rest.0) f refl),
+            (ap (λ d. if d then Some rest.0 else (equality nodes a b >>= λ e. Some (denial e ∷ rest.0))) (apart a b t u p q n (nat_eq a b) refl)
+            ∙ bind_to (equality nodes a b) (λ e. Some (denial e ∷ rest.0)) g.number (denial g.number ∷ rest.0) f refl),
       )
 
   chosen : (d : Bool) (o : Option (List NumberedLiteral)) (ls : List NumberedLiteral) → (if d then o else None) ≡ Some ls → (d ≡ true) × (o ≡ Some ls)
@@ -194,8 +193,7 @@ module _ (nodes : List Node) (s : State) (r : Represents nodes s.terms) where
           let l = pairs_complete (x.0).parts (y.0).parts xs ys k in
           let test : same_head (x.0).head (y.0).head ≡ true = ap (same_head (x.0).head) (sym heads) ∙ head_same (x.0).head in
           let both : all_pairs nodes x.0 y.0 ≡ Some l.0 = ap (λ d. if d then pairs nodes (x.0).parts (y.0).parts else None) test ∙ l.2 in
-          let f = tells nodes s r m n t u p q w.number e w.here w in
-          (
+          let f = tells nodes s r m n t u p q w.number e w.here w in (
             l.0 ++ plain w.number ∷ [],
             names_append s.terms l.1 (names-yes w.here names-none),
             bind_to (slice_get nodes m) _ x.0 _ x.1 (bind_to (slice_get nodes n) _ y.0 _ y.1 (bind_to (all_pairs nodes x.0 y.0) _ l.0 _ both (bind_to (equality nodes m n) _ w.number _ f refl))),

@@ -89,13 +89,16 @@ module _ (nodes : List Node) (s : State) (r : Represents nodes s.terms) where
   pub told : (a b : ℕ) (t u : Term) → At s.terms a t → At s.terms b u → (k : ℕ) → equality nodes a b ≡ Some k → (e : Term) × At s.terms k e × Equates s t u e
   told a b t u p q k h =
       let f = first_is _ _ k h in
-      let n = either_named a b t u p q k f.one in
-      (n.0, n.1, record {
-        number = k;
-        here = n.1;
-        equality = n.2;
-        first = λ m g lt at is. let l = f.least m (either_numbers a b t u p q m g at is) in omega arith;
-      })
+      let n = either_named a b t u p q k f.one in (
+        n.0,
+        n.1,
+        record {
+          number = k;
+          here = n.1;
+          equality = n.2;
+          first = λ m g lt at is. let l = f.least m (either_numbers a b t u p q m g at is) in omega arith;
+        },
+      )
 
   pub tells : (a b : ℕ) (t u : Term) → At s.terms a t → At s.terms b u → (k : ℕ) (e : Term) → At s.terms k e → Equates s t u e → equality nodes a b ≡ Some k
   tells a b t u p q k e at h =

@@ -238,17 +238,17 @@ declare_of n t k s ms h = by_parts h.inner h.is h.spelled
     by_parts : (inner : List Mark) → (let m : Mark = record { token = t; count = n } in ms ≡ m ∷ inner) → DeclareParts n t.place s inner → StmtFor n s ms
     by_parts inner is (d, a, a', q, r, i) = elim i.right [
       | inl (z, v) ↦ record {
-          phrase = declared t.place r.phrase;
-          stands = r.stands;
-          means = ap (λ y. Declare t.place y None) r.means ∙ sym v;
-          spelled = ap (λ l. mark n t.place (word words.Var) ∷ l) (r.spelled ∙ sym (q ∙ rw z (append-nil a))) ∙ led inner is;
-        }
+        phrase = declared t.place r.phrase;
+        stands = r.stands;
+        means = ap (λ y. Declare t.place y None) r.means ∙ sym v;
+        spelled = ap (λ l. mark n t.place (word words.Var) ∷ l) (r.spelled ∙ sym (q ∙ rw z (append-nil a))) ∙ led inner is;
+      }
       | inr (p, e, st, v, z) ↦ record {
-          phrase = initialized t.place r.phrase p e;
-          stands = (r.stands, st);
-          means = ap (λ y. Declare t.place y (Some (Value (meant e)))) r.means ∙ sym v;
-          spelled = ap (λ l. mark n t.place (word words.Var) ∷ l) (sym (q ∙ rw (z, ← r.spelled) refl)) ∙ led inner is;
-        }
+        phrase = initialized t.place r.phrase p e;
+        stands = (r.stands, st);
+        means = ap (λ y. Declare t.place y (Some (Value (meant e)))) r.means ∙ sym v;
+        spelled = ap (λ l. mark n t.place (word words.Var) ∷ l) (sym (q ∙ rw (z, ← r.spelled) refl)) ∙ led inner is;
+      }
     ]
 
 declare_tells : (limit n room : ℕ) (t : Token) (ts : List Token) → n + room ≡ limit → t.kind ≡ word words.Var → Tells (StmtFor n) limit (t ∷ ts) (declare_at room t.place ts)

@@ -9,8 +9,8 @@ ghost use Rattle.vx_types.specs.Settled.{settled};
 
 use crate::{Cause, MemberRun, Verdict};
 use std::alloc::AllocError;
-use vx_ast::resolved::Kind;
 use vx_ast::Place;
+use vx_ast::resolved::Kind;
 use vx_rules::{Code, Reply};
 use vx_types::Typed;
 

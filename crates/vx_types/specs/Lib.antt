@@ -6,3 +6,4 @@ pub mod Parts
 pub mod Statements
 pub mod Members
 pub mod Programs
+pub mod Faults

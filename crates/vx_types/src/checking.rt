@@ -13,8 +13,7 @@ use crate::members::member;
 use crate::{TypeFault, Typed};
 use indexmap::IndexSet;
 use std::alloc::Global;
-use vx_ast::Program;
-use vx_ast::resolved;
+use vx_ast::{Program, resolved};
 
 // No two members have one name.
 fn names_differ(alloc: Global, p: &Program) -> Result<(), TypeFault> {

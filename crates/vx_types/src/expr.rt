@@ -143,7 +143,11 @@ fn connect(
     Ok(Rc::new(alloc, resolved::Expr::Connect(place, op, a.expr, b.expr))?)
 }
 
-fn negate(alloc: Global, place: Place, e: Rc<resolved::Expr>) -> Result<Rc<resolved::Expr>, AllocError>
+fn negate(
+    alloc: Global,
+    place: Place,
+    e: Rc<resolved::Expr>,
+) -> Result<Rc<resolved::Expr>, AllocError>
     ensures { IfOk result (λ r. expr r.value ≡ Syntax.Not place (expr e.value)) }
 {
     Ok(Rc::new(alloc, resolved::Expr::Not(place, e))?)
@@ -186,7 +190,10 @@ fn minus(alloc: Global, place: Place, a: Part) -> Result<Rc<resolved::Expr>, All
     ensures { IfOk result (λ e. expr e.value ≡ unary_of place UnaryOperator.Negate (expr a.expr.value)) }
 {
     let zero = Rc::new(alloc, resolved::Expr::Number(place, 0))?;
-    Ok(Rc::new(alloc, resolved::Expr::Operate(place, Operator::Subtract, zero, a.expr))?)
+    Ok(Rc::new(
+        alloc,
+        resolved::Expr::Operate(place, Operator::Subtract, zero, a.expr),
+    )?)
 }
 
 fn unary_expr(

@@ -1,8 +1,9 @@
 //! Why a program isn't typed.
 
-ghost use Rattle.std.specs.Prelude.{◌≡◌, ◌++◌, ◌∷◌, [], IfOk, codes, string_bytes};
+ghost use Rattle.std.specs.Prelude.{◌≡◌};
+ghost use Rattle.vx_types.specs.Faults.{code_of, title_of};
 
-use std::alloc::{AllocError, AllocFailed, Global};
+use std::alloc::{AllocError, AllocFailed};
 use std::fmt;
 use thiserror::Error;
 use vx_ast::{Place, ValueType};
@@ -85,6 +86,36 @@ impl TypeFault {
             | TypeFault::NotAssignable(place)
             | TypeFault::Unsupported(place, _) => Some(*place),
             TypeFault::Want => None,
+        }
+    }
+}
+
+impl TypeFault {
+    /// The code that is printed; want of memory has none.
+    pub fn code(&self) -> &'static str
+        ensures { result.now ≡ code_of self.now }
+    {
+        match self {
+            TypeFault::Unknown(_, _) => "E20",
+            TypeFault::Twice(_, _) => "E21",
+            TypeFault::Mismatch(_, _, _) => "E22",
+            TypeFault::NotAssignable(_) => "E29",
+            TypeFault::Unsupported(_, _) => "E09",
+            TypeFault::Want => "",
+        }
+    }
+
+    /// The code's name.
+    pub fn name(&self) -> &'static str
+        ensures { result.now ≡ title_of self.now }
+    {
+        match self {
+            TypeFault::Unknown(_, _) => "Unknown",
+            TypeFault::Twice(_, _) => "Twice",
+            TypeFault::Mismatch(_, _, _) => "Mismatch",
+            TypeFault::NotAssignable(_) => "NotAssignable",
+            TypeFault::Unsupported(_, _) => "Unsupported",
+            TypeFault::Want => "",
         }
     }
 }

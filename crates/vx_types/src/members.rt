@@ -46,7 +46,10 @@ fn declaration(alloc: Global, d: &Declaration) -> Result<resolved::Declaration, 
     })
 }
 
-fn declarations(alloc: Global, all: &[Declaration]) -> Result<Vec<resolved::Declaration>, AllocError>
+fn declarations(
+    alloc: Global,
+    all: &[Declaration],
+) -> Result<Vec<resolved::Declaration>, AllocError>
     ensures { IfOk result (λ v. map settled.declaration v.items ≡ declared all.now) }
 {
     let mut settled = Vec::new(alloc);
@@ -65,7 +68,10 @@ fn first_of(a: TypeFault, b: TypeFault) -> TypeFault {
 }
 
 // Both, or the fault that stands first.
-fn both<A: Drop, B: Drop>(a: Result<A, TypeFault>, b: Result<B, TypeFault>) -> Result<(A, B), TypeFault>
+fn both<A: Drop, B: Drop>(
+    a: Result<A, TypeFault>,
+    b: Result<B, TypeFault>,
+) -> Result<(A, B), TypeFault>
     ensures first { IfOk result (λ r. a ≡ Ok r.0) }
     ensures second { IfOk result (λ r. b ≡ Ok r.1) }
 {

@@ -46,7 +46,11 @@ impl<'a> Scope<'a> {
     }
 
     /// One more, whose name is not known yet.
-    pub fn declare(&mut self, name: &'a str, variable: Variable) -> Result<(), AllocFailed<(&'a str, Variable)>>
+    pub fn declare(
+        &mut self,
+        name: &'a str,
+        variable: Variable,
+    ) -> Result<(), AllocFailed<(&'a str, Variable)>>
         requires { type_in name.now (known self.old) ≡ None }
         ensures { OnOk result (known self.new ≡ known self.old ++ record { name = name.now; of = variable.of } ∷ []) }
     {

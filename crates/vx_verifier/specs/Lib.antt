@@ -1,1 +1,2 @@
 pub mod Companion
+pub mod Lanes

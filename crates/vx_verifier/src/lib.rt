@@ -1,6 +1,16 @@
-//! The verifier's top: the trusted edge, through which it reaches files, standard output and child processes, and the
-//! companion in process.
+//! The verifier's top: the trusted edge, through which it reaches files, standard output and child processes, the
+//! companion in process, and the call `run` that joins reading, typing, execution and report.
 #![tactic(auto)]
 
+mod answers;
 pub mod companion;
 pub mod edge;
+mod execute;
+mod lane;
+mod top;
+
+pub use execute::verify;
+pub use top::{Ended, run};
+
+#[cfg(test)]
+mod tests;

@@ -15,8 +15,14 @@ fn words(alloc: Global, all: &[&str]) -> Result<Parts, Fail> {
 fn no_words_verify(rt: HostRuntime) -> Result<(), Fail> {
     let alloc = rt.alloc();
     assert_eq!(&rt; read_words(alloc, &words(alloc, &[])?), Ok(Order::Verify));
-    assert_eq!(&rt; read_words(alloc, &words(alloc, &["vsil"])?), Ok(Order::Verify));
-    assert_eq!(&rt; read_words(alloc, &words(alloc, &["vsil", "verify"])?), Ok(Order::Verify));
+    assert_eq!(&rt;
+        read_words(alloc, &words(alloc, &["vsil"])?),
+        Ok(Order::Verify)
+    );
+    assert_eq!(&rt;
+        read_words(alloc, &words(alloc, &["vsil", "verify"])?),
+        Ok(Order::Verify)
+    );
     Ok(())
 }
 
@@ -24,9 +30,21 @@ fn no_words_verify(rt: HostRuntime) -> Result<(), Fail> {
 fn other_words_are_refused(rt: HostRuntime) -> Result<(), Fail> {
     let alloc = rt.alloc();
     let usage = Err(WordsFault::Usage);
-    assert_eq!(&rt; read_words(alloc, &words(alloc, &["vsil", "verify", "a", "b"])?), usage);
-    assert_eq!(&rt; read_words(alloc, &words(alloc, &["vsil", "verify", "--jobs", "17"])?), usage);
-    assert_eq!(&rt; read_words(alloc, &words(alloc, &["vsil", "nosuch"])?), usage);
-    assert_eq!(&rt; read_words(alloc, &words(alloc, &["vsil", "--help"])?), usage);
+    assert_eq!(&rt;
+        read_words(alloc, &words(alloc, &["vsil", "verify", "a", "b"])?),
+        usage
+    );
+    assert_eq!(&rt;
+        read_words(alloc, &words(alloc, &["vsil", "verify", "--jobs", "17"])?),
+        usage
+    );
+    assert_eq!(&rt;
+        read_words(alloc, &words(alloc, &["vsil", "nosuch"])?),
+        usage
+    );
+    assert_eq!(&rt;
+        read_words(alloc, &words(alloc, &["vsil", "--help"])?),
+        usage
+    );
     Ok(())
 }

@@ -15,8 +15,8 @@ loop-clause-preserved c =
     let k = c.loop-clause.clause-index in
     record {
       kept = λ names. ap (λ xs. resolved.assertions xs ++ assertions names (written_all (drop (k + 1) clauses))) items
-      ∙ one_more names done c.in_ok-assertion.field-0 clauses k c.clause-item.result (assertions names (written_all clauses)) c.loop-clause-test.true c.clause-item.is
-      (c.in_ok-assertion.ensures.settled names ∙ ap (λ e. assertion names (written_expr e)) c.deref.ensures) (c.loop-clause.invariant.kept names);
+          ∙ one_more names done c.in_ok-assertion.field-0 clauses k c.clause-item.result (assertions names (written_all clauses)) c.loop-clause-test.true c.clause-item.is
+          (c.in_ok-assertion.ensures.settled names ∙ ap (λ e. assertion names (written_expr e)) c.deref.ensures) (c.loop-clause.invariant.kept names);
       typed = ap (λ xs. are_typed (known c.args.scope.now) (resolved.assertions xs)) items
-      ∙ one_more_typed (known c.args.scope.now) done c.in_ok-assertion.field-0 c.loop-clause.invariant.typed c.in_ok-assertion.ensures.typed;
+          ∙ one_more_typed (known c.args.scope.now) done c.in_ok-assertion.field-0 c.loop-clause.invariant.typed c.in_ok-assertion.ensures.typed;
     }

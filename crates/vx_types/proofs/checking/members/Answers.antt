@@ -12,7 +12,7 @@ loop-m-preserved c =
     let m = c.in_ok-member.field-0 in
     record {
       kept = λ names. ap (map view.member) items
-      ∙ members_more names done m c.args.all.now c.loop-m.m-index c.m-item.result c.loop-m-test.true c.m-item.is (c.in_ok-member.ensures.settled names) (c.loop-m.invariant.kept names);
+          ∙ members_more names done m c.args.all.now c.loop-m.m-index c.m-item.result c.loop-m-test.true c.m-item.is (c.in_ok-member.ensures.settled names) (c.loop-m.invariant.kept names);
       typed = ap (λ xs. are_typed_members (map view.member xs)) items ∙ ap are_typed_members (map-append view.member done (m ∷ []))
-      ∙ typed_more (map view.member done) (view.member m) c.loop-m.invariant.typed c.in_ok-member.ensures.typed;
+          ∙ typed_more (map view.member done) (view.member m) c.loop-m.invariant.typed c.in_ok-member.ensures.typed;
     }

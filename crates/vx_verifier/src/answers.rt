@@ -1,0 +1,54 @@
+//! The texts that the program puts, but for the report.
+
+ghost use Rattle.std.specs.Prelude.{◌≡◌, OnOk, string_bytes};
+
+use std::alloc::{AllocError, Global};
+use vx_ast::Place;
+use vx_parser::TextFault;
+use vx_report::write_place;
+use vx_types::TypeFault;
+
+/// What is put where the words are no command.
+pub const USAGE: &str =
+    "usage: vsil [verify [FILE] [--solver TEXT] [--jobs N] [--certify] | check [FILE] | print [FILE] | gen N | work N [--jobs J]]\n";
+
+/// What is put where the text can't be read.
+pub const UNREAD: &str = "error: cannot read\n";
+
+/// What is put where the text is too long.
+pub const TOO_LONG: &str = "error: longer than 4194304 bytes\n";
+
+// `error at L:C: CODE NAME`
+fn refusal(alloc: Global, place: Place, code: &str, name: &str) -> Result<String, AllocError> {
+    let mut line = String::from_str(alloc, "error at ")?;
+    write_place(&mut line, place)?;
+    write!(&mut line, ": {} {}", code, name)?;
+    Ok(line)
+}
+
+/// The line of a text that isn't spelled.
+pub fn text_refusal(alloc: Global, fault: &TextFault) -> Result<String, AllocError> {
+    let mut line = refusal(alloc, fault.place(), fault.code(), fault.name())?;
+    if let Some(argument) = fault.argument() {
+        line.push_str(" ")?;
+        line.push_str(argument)?;
+    }
+    line.push_str("\n")?;
+    Ok(line)
+}
+
+/// The line of a program that isn't typed.
+pub fn type_refusal(alloc: Global, fault: &TypeFault) -> Result<String, AllocError> {
+    let place = fault.place().unwrap_or(Place { line: 1, column: 1 });
+    let mut line = refusal(alloc, place, fault.code(), fault.name())?;
+    match fault {
+        TypeFault::Unknown(_, name) | TypeFault::Twice(_, name) => write!(&mut line, " {}", name)?,
+        TypeFault::Mismatch(_, expected, found) => {
+            write!(&mut line, " {} {}", expected, vx_types::word_of(*found))?
+        }
+        TypeFault::Unsupported(_, word) => write!(&mut line, " {}", word)?,
+        TypeFault::NotAssignable(_) | TypeFault::Want => {}
+    }
+    line.push_str("\n")?;
+    Ok(line)
+}

@@ -1,0 +1,208 @@
+use crate::companion::Builtin;
+use crate::run;
+use std::alloc::Global;
+use std::test::Fail;
+use vx_ends::{Bytes, MemFiles, MemSink, NamedText, Parts, ScriptSpawner};
+use vx_report::Status;
+
+const ID: &str = "method id(b: Bool) returns (c: Bool) requires b ensures c { c := b }";
+
+fn words_of(alloc: Global, all: &[&str]) -> Result<Parts, Fail> {
+    let mut words = Parts::new(alloc);
+    for word in all {
+        words.push(alloc, word)?;
+    }
+    Ok(words)
+}
+
+fn input(alloc: Global, text: &[u8]) -> Result<MemFiles, Fail> {
+    let mut texts = Vec::new(alloc);
+    texts.push(NamedText {
+        name: None,
+        text: Bytes::copy(alloc, text)?,
+    })?;
+    Ok(MemFiles::new(alloc, texts))
+}
+
+// What is put for these words and this standard input, into a sink with this room.
+fn put_into(
+    alloc: Global,
+    words: &[&str],
+    text: &[u8],
+    room: usize,
+) -> Result<(u8, MemSink), Fail> {
+    let words = words_of(alloc, words)?;
+    let mut files = input(alloc, text)?;
+    let mut out = MemSink::new(alloc, room)?;
+    let mut spawner = ScriptSpawner::new(alloc, Vec::new(alloc), Vec::new(alloc));
+    let mut builtin = Builtin::new(alloc);
+    let ended = run(
+        alloc,
+        &words,
+        &mut files,
+        &mut out,
+        &mut spawner,
+        &mut builtin,
+    );
+    Ok((ended.status.number(), out))
+}
+
+fn put(alloc: Global, text: &str) -> Result<(u8, MemSink), Fail> {
+    put_into(alloc, &["vsil", "verify"], text.as_bytes(), 4096)
+}
+
+#[test]
+fn the_first_row_verifies(rt: HostRuntime) -> Result<(), Fail> {
+    let (status, out) = put(rt.alloc(), ID)?;
+    assert_eq!(rt;
+        out.taken(),
+        b"method id: verified\n1 verified, 0 failed, 0 resting, 0 limited, 0 faults\n".as_slice()
+    );
+    assert_eq!(rt; status, 0);
+    Ok(())
+}
+
+#[test]
+fn no_text_has_no_member(rt: HostRuntime) -> Result<(), Fail> {
+    let (status, out) = put(rt.alloc(), "")?;
+    assert_eq!(rt;
+        out.taken(),
+        b"0 verified, 0 failed, 0 resting, 0 limited, 0 faults\n".as_slice()
+    );
+    assert_eq!(rt; status, 0);
+    Ok(())
+}
+
+#[test]
+fn a_false_precondition_verifies(rt: HostRuntime) -> Result<(), Fail> {
+    let (status, out) = put(rt.alloc(), "method m() requires false { assert false }")?;
+    assert_eq!(rt;
+        out.taken(),
+        b"method m: verified\n1 verified, 0 failed, 0 resting, 0 limited, 0 faults\n".as_slice()
+    );
+    assert_eq!(rt; status, 0);
+    Ok(())
+}
+
+#[test]
+fn an_open_condition_fails_at_its_place(rt: HostRuntime) -> Result<(), Fail> {
+    let (status, out) = put(rt.alloc(), "method m(a: Bool) { assert a }")?;
+    assert_eq!(rt;
+        out.taken(),
+        b"method m: failed at 1:28 F01 (unknown)\n0 verified, 1 failed, 0 resting, 0 limited, 0 faults\n".as_slice()
+    );
+    assert_eq!(rt; status, 1);
+    Ok(())
+}
+
+#[test]
+fn both_sides_of_a_fork_are_walked(rt: HostRuntime) -> Result<(), Fail> {
+    let text =
+        "method m(a: Bool, b: Bool)\n{\nif (a) { assert true } else { assert true }\nif (b) { assert a ==> a } else { assert a }\n}";
+    let (status, out) = put(rt.alloc(), text)?;
+    assert_eq!(rt;
+        out.taken(),
+        b"method m: failed at 4:17 F01 (unknown)\n0 verified, 1 failed, 0 resting, 0 limited, 0 faults\n".as_slice()
+    );
+    assert_eq!(rt; status, 1);
+    Ok(())
+}
+
+#[test]
+fn a_full_sink_keeps_a_prefix(rt: HostRuntime) -> Result<(), Fail> {
+    let (status, out) = put_into(rt.alloc(), &["vsil"], ID.as_bytes(), 10)?;
+    assert_eq!(rt; out.taken(), b"method id:".as_slice());
+    assert_eq!(rt; status, 6);
+    Ok(())
+}
+
+#[test]
+fn other_words_get_the_usage_line(rt: HostRuntime) -> Result<(), Fail> {
+    let (status, out) = put_into(
+        rt.alloc(),
+        &["vsil", "verify", "a", "b"],
+        ID.as_bytes(),
+        4096,
+    )?;
+    assert_eq!(rt;
+        out.taken(),
+        b"usage: vsil [verify [FILE] [--solver TEXT] [--jobs N] [--certify] | check [FILE] | print [FILE] | gen N | work N [--jobs J]]\n".as_slice()
+    );
+    assert_eq!(rt; status, 2);
+    Ok(())
+}
+
+#[test]
+fn an_unread_file_is_told(rt: HostRuntime) -> Result<(), Fail> {
+    let alloc = rt.alloc();
+    let words = words_of(alloc, &["vsil"])?;
+    let mut files = MemFiles::new(alloc, Vec::new(alloc));
+    let mut out = MemSink::new(alloc, 4096)?;
+    let mut spawner = ScriptSpawner::new(alloc, Vec::new(alloc), Vec::new(alloc));
+    let mut builtin = Builtin::new(alloc);
+    let ended = run(
+        alloc,
+        &words,
+        &mut files,
+        &mut out,
+        &mut spawner,
+        &mut builtin,
+    );
+    assert_eq!(rt; ended.status, Status::Unread);
+    assert_eq!(rt; out.taken(), b"error: cannot read\n".as_slice());
+    Ok(())
+}
+
+#[test]
+fn the_longest_text_is_read(rt: HostRuntime) -> Result<(), Fail> {
+    let alloc = rt.alloc();
+    let blanks = vec![in alloc; 32u8; 4_194_305]?;
+    let (status, out) = put_into(alloc, &["vsil"], &blanks, 4096)?;
+    assert_eq!(rt;
+        out.taken(),
+        b"error: longer than 4194304 bytes\n".as_slice()
+    );
+    assert_eq!(rt; status, 3);
+    let (status, out) = put_into(alloc, &["vsil"], &blanks[1..], 4096)?;
+    assert_eq!(rt;
+        out.taken(),
+        b"0 verified, 0 failed, 0 resting, 0 limited, 0 faults\n".as_slice()
+    );
+    assert_eq!(rt; status, 0);
+    Ok(())
+}
+
+#[test]
+fn refused_texts_have_one_line(rt: HostRuntime) -> Result<(), Fail> {
+    let rows = [
+        ("method m() { x := 1 }", "error at 1:14: E20 Unknown x\n"),
+        (
+            "method m(x: Int) { x := 1 }",
+            "error at 1:20: E29 NotAssignable\n",
+        ),
+        (
+            "method m() { assert 1 + true == 2 }",
+            "error at 1:25: E22 Mismatch Int Bool\n",
+        ),
+        (
+            "method m() { } method m() { }",
+            "error at 1:23: E21 Twice m\n",
+        ),
+        (
+            "method m() { assert forall i: Int :: i >= 0 }",
+            "error at 1:21: E09 Unsupported forall\n",
+        ),
+        (
+            "method m() { assert 170141183460469231731687303715884105728 > 0 }",
+            "error at 1:21: E05 WideLiteral\n",
+        ),
+        ("method m() {", "error at 1:13: E04 EndOfText\n"),
+        ("field f: Int", "error at 1:1: E09 Unsupported field\n"),
+    ];
+    for (text, line) in rows {
+        let (status, out) = put(rt.alloc(), text)?;
+        assert_eq!(rt; out.taken(), line.as_bytes(), "{text}");
+        assert_eq!(rt; status, 4);
+    }
+    Ok(())
+}
