@@ -96,8 +96,11 @@ fn execute<W: Spawner>(
     ensures held { IsHeld result.0.child (W.owed spawner.new LANE) }
     ensures member { IfOk result.1 (λ run. run.member ≡ member) }
 {
-    let first = lane.checks;
-    let (child, judged) = judge(alloc, typed, command, spawner, lane.child, member);
+    let Lane {
+        child,
+        checks: first,
+    } = lane;
+    let (child, judged) = judge(alloc, typed, command, spawner, child, member);
     let (child, left) = leave(alloc, spawner, child);
     let judged = match judged {
         Ok(judged) => judged,
@@ -181,6 +184,7 @@ pub fn verify<W: Spawner>(
         checks: 0,
     };
     let (lane, runs) = execute_all(alloc, typed, command, spawner, lane);
-    end(spawner, lane.child);
+    let Lane { child, checks: _ } = lane;
+    end(spawner, child);
     runs
 }

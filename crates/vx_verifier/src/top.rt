@@ -42,7 +42,7 @@ fn put<K: Sink>(out: &mut K, text: &str, status: Status, runs: Vec<MemberRun>) -
     }
 }
 
-fn told(alloc: Global, text: &[u8]) -> Result<Told, AllocError> {
+fn read_program(alloc: Global, text: &[u8]) -> Result<Told, AllocError> {
     let program = match parse(alloc, text) {
         Ok(program) => program,
         Err(TextFault::Want) => return Err(AllocError),
@@ -91,7 +91,7 @@ fn verify_input<F: Files, K: Sink>(
         Err(LoadFault::TooLong) => return Ok(put(out, TOO_LONG, Status::Unread, none)),
         Err(LoadFault::Want) => return Err(AllocError),
     };
-    match told(alloc, &text)? {
+    match read_program(alloc, &text)? {
         Told::Program(typed) => report(alloc, &typed, out, builtin),
         Told::Refused(line) => Ok(put(out, &line, Status::Refused, none)),
     }
