@@ -1,9 +1,10 @@
 //! The members of a program, each executed by the machine and its questions asked of the lane's child.
 
-ghost use Rattle.std.specs.Prelude.{◌≡◌, ◌<◌, ◌≤◌, IfOk, length};
+ghost use Rattle.std.specs.Prelude.{◌≡◌, ◌+◌, ◌<◌, IfOk, length, true};
 ghost use Rattle.vx_types.specs.Settled.{settled};
 ghost use Rattle.vx_report.specs.Reports.{AreNamed};
-ghost use Rattle.vx_verifier.specs.Lanes.{IsHeld};
+ghost use Rattle.vx_machine.specs.Runs.{Follows, awaits};
+ghost use Rattle.vx_verifier.specs.Lanes.{IsHeld, IsRunning};
 
 use crate::lane::{Child, LANE, Trouble, ask, end, leave};
 use std::alloc::{AllocError, Global};
@@ -11,6 +12,7 @@ use vx_ast::MemberId;
 use vx_ends::{Parts, Spawner};
 use vx_machine::{Ask, Machine, Outcome};
 use vx_report::{MemberRun, Verdict};
+use vx_rules::Reply;
 use vx_types::Typed;
 
 /// The most checks of a member.
@@ -37,6 +39,42 @@ fn verdict_of(outcome: Outcome) -> Verdict {
     }
 }
 
+// A machine, and what it answered last.
+#[derive(Drop)]
+struct Running {
+    machine: Machine,
+    ask: Ask,
+}
+
+// A member's machine at its first question, or at its end.
+fn begin(alloc: Global, typed: &Typed, member: MemberId) -> Result<Running, AllocError>
+    requires { member.0 < length (settled typed.now) }
+    ensures running { IfOk result (λ r. IsRunning (settled typed.now) r.machine r.ask) }
+    ensures none { IfOk result (λ r. length r.machine.replies.items ≡ 0) }
+{
+    let mut machine = Machine::start(alloc, typed, member, LIMIT)?;
+    let ask = machine.next(alloc, typed, None)?;
+    Ok(Running { machine, ask })
+}
+
+// The machine at its next question, or at its end.
+fn go_on(
+    alloc: Global,
+    typed: &Typed,
+    machine: Machine,
+    reply: Reply,
+) -> Result<Running, AllocError>
+    requires follows { Follows (settled typed.now) machine }
+    requires awaits { awaits machine.phase ≡ true }
+    requires limit { machine.limit ≡ LIMIT }
+    ensures running { IfOk result (λ r. IsRunning (settled typed.now) r.machine r.ask) }
+    ensures one_more { IfOk result (λ r. length r.machine.replies.items ≡ length machine.replies.items + 1) }
+{
+    let mut machine = machine;
+    let ask = machine.next(alloc, typed, Some(reply))?;
+    Ok(Running { machine, ask })
+}
+
 // Executes a member to its end, or to a fault.
 fn judge<W: Spawner>(
     alloc: Global,
@@ -51,34 +89,38 @@ fn judge<W: Spawner>(
     ensures { IsHeld result.0 (W.owed spawner.new LANE) }
 {
     let mut child = child;
-    let mut machine = match Machine::start(alloc, typed, member, LIMIT) {
-        Ok(machine) => machine,
+    let mut running = match begin(alloc, typed, member) {
+        Ok(running) => running,
         Err(error) => return (child, Err(error)),
     };
-    let mut asked = machine.next(alloc, typed, None);
     let mut checks = 0;
     'questions: loop {
+        let Running {
+            machine,
+            ask: asked,
+        } = running;
         let query = match asked {
-            Ok(Ask::Check(query)) => query,
-            Ok(Ask::Done(outcome)) => {
+            Ask::Check(query) => query,
+            Ask::Done(outcome) => {
                 let verdict = verdict_of(outcome);
                 return (child, Ok(Judged { verdict, checks }));
             }
-            Err(error) => return (child, Err(error)),
         };
         let (kept, reply) = ask(alloc, spawner, command, child, &query);
         child = kept;
-        match reply {
-            Ok(reply) => {
-                checks += 1;
-                asked = machine.next(alloc, typed, Some(reply));
-            }
+        let reply = match reply {
+            Ok(reply) => reply,
             Err(Trouble::Fault(cause)) => {
                 let verdict = Verdict::Fault(cause);
                 return (child, Ok(Judged { verdict, checks }));
             }
             Err(Trouble::Want) => return (child, Err(AllocError)),
+        };
+        match go_on(alloc, typed, machine, reply) {
+            Ok(next) => running = next,
+            Err(error) => return (child, Err(error)),
         }
+        checks += 1;
     }
 }
 

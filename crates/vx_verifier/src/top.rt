@@ -1,14 +1,13 @@
 //! The top call: from the words of the command line to what is put, and the exit status.
 
-ghost use Rattle.std.specs.Prelude.{◌≡◌, ◌<◌, IfOk};
-ghost use Rattle.vx_report.specs.Reports.{AreNamed};
-ghost use Rattle.vx_types.specs.Settled.{settled};
+ghost use Rattle.std.specs.Prelude.{◌≡◌, ◌⊎◌};
+ghost use Rattle.vx_ends.specs.Causes.{Rose};
 
 use crate::answers::{TOO_LONG, UNREAD, USAGE, text_refusal, type_refusal};
 use crate::companion::Builtin;
 use crate::execute::verify;
 use std::alloc::{AllocError, Global};
-use vx_ends::{Files, LoadFault, Parts, Sink, Spawner, put_all};
+use vx_ends::{Files, LoadFault, Parts, PutFault, Sink, Spawner, put_all};
 use vx_parser::{TextFault, parse};
 use vx_report::{MemberRun, Status, status_of, write_report};
 use vx_types::{TypeFault, Typed, check};
@@ -31,11 +30,12 @@ enum Told {
 
 // Puts the text; where the sink fails, that is the status.
 fn put<K: Sink>(out: &mut K, text: &str, status: Status, runs: Vec<MemberRun>) -> Ended
-    ensures { result.status ≡ Status.Unwritten → (status ≡ Status.Unwritten → K.faults out.old < K.faults out.new) }
+    ensures runs { result.runs ≡ runs }
+    ensures status { (result.status ≡ status) ⊎ Rose (K.faults out.old) (K.faults out.new) }
 {
     match put_all(out, text.as_bytes()) {
         Ok(()) => Ended { status, runs },
-        Err(_) => Ended {
+        Err(PutFault::Failed) => Ended {
             status: Status::Unwritten,
             runs,
         },
