@@ -1,6 +1,11 @@
 //! What a side does next, and what waits for it.
 
+ghost use Rattle.std.specs.Prelude.{◌≡◌, IfOk};
+ghost use Rattle.vx_ast.specs.Syntax.{Program};
+ghost use Rattle.vx_rules.specs.Stack.{frame_tree, side_tree};
+
 use crate::{Code, SymState};
+use std::alloc::{AllocError, Global};
 use std::rc::Rc;
 use vx_ast::Place;
 use vx_ast::resolved::{Assertion, Block, Connective, Expr, Method, Operator, Stmt};
@@ -97,4 +102,29 @@ pub enum Frame {
 pub struct Side {
     pub frame: Frame,
     pub state: SymState,
+}
+
+impl Frame {
+    /// The same frame once more.
+    pub fn copy(&self) -> Result<Frame, AllocError>
+        ensures { IfOk result (λ copy. (p : Program) → frame_tree p copy ≡ frame_tree p self.now) }
+    {
+        match self {
+            Frame::Go(next) => Ok(Frame::Go(next.clone()?)),
+            Frame::Eval(e, hole) => Ok(Frame::Eval(e.clone()?, hole.clone()?)),
+            Frame::Give(value, hole) => Ok(Frame::Give(value.clone()?, hole.clone()?)),
+        }
+    }
+}
+
+impl Side {
+    /// The same side once more.
+    pub fn copy(&self, alloc: Global) -> Result<Side, AllocError>
+        ensures { IfOk result (λ copy. (p : Program) → side_tree p copy ≡ side_tree p self.now) }
+    {
+        Ok(Side {
+            frame: self.frame.copy()?,
+            state: self.state.copy(alloc)?,
+        })
+    }
 }
