@@ -60,7 +60,6 @@ pub enum Executed {
 
 /// What waits for a state.
 #[cycle(frames)]
-#[derive(Drop)]
 pub enum Next {
     /// The side is over.
     Finish,
@@ -78,7 +77,6 @@ pub enum Next {
 
 /// What waits for a value.
 #[cycle(frames)]
-#[derive(Drop)]
 pub enum Hole {
     /// The side is over.
     Finish,
@@ -87,6 +85,48 @@ pub enum Hole {
     /// A pure part is produced.
     Produced(Rc<Next>),
     Executed(Executed, Rc<Next>),
+}
+
+/// A chain is let go link by link: a member of many clauses has a long one.
+impl Drop for Next {
+    #[cycle(frames)]
+    fn drop(mut self) {
+        loop {
+            let rest = match self {
+                Next::Finish => return,
+                Next::Exec(_c, rest) => rest,
+                Next::Block(_b, rest) => rest,
+                Next::Inner(_b, _kept, rest) => rest,
+                Next::Produce(_a, rest) => rest,
+                Next::Consume(_a, _codes, _hole) => return,
+                Next::Unit(_hole) => return,
+                Next::Sides(_m) => return,
+            };
+            match Rc::into_inner(rest) {
+                Some(next) => self = next,
+                None => return,
+            }
+        }
+    }
+}
+
+impl Drop for Hole {
+    #[cycle(frames)]
+    fn drop(mut self) {
+        loop {
+            let rest = match self {
+                Hole::Finish => return,
+                Hole::Operand(_operand, rest) => rest,
+                Hole::Consumed(_consumed, rest) => rest,
+                Hole::Produced(_next) => return,
+                Hole::Executed(_executed, _next) => return,
+            };
+            match Rc::into_inner(rest) {
+                Some(hole) => self = hole,
+                None => return,
+            }
+        }
+    }
 }
 
 /// What a side does next.
