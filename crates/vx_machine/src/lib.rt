@@ -3,5 +3,7 @@
 
 mod machine;
 mod run;
+#[cfg(test)]
+mod tests;
 
 pub use machine::{Ask, Machine, Outcome};

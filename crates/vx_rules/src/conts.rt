@@ -2,6 +2,7 @@
 
 ghost use Rattle.std.specs.Prelude.{◌≡◌, ◌++◌, ◌∷◌, [], IfOk, map};
 ghost use Rattle.vx_ast.specs.Resolved.{expr};
+ghost use Rattle.vx_ast.specs.Syntax.{Program};
 ghost use Rattle.vx_rules.specs.Rules as rule;
 ghost use Rattle.vx_rules.specs.Stack.{code as code_of, rules, going, giving, frame_tree, side_tree, Stepped};
 ghost use Rattle.vx_rules.specs.SymStates.{state as state_of};
@@ -59,6 +60,17 @@ impl Conts {
         Conts {
             sides: Vec::new(alloc),
         }
+    }
+
+    /// The same stack once more.
+    pub fn copy(&self, alloc: Global) -> Result<Conts, AllocError>
+        ensures { IfOk result (λ copy. (p : Program) → map (side_tree p) copy.sides.items ≡ map (side_tree p) self.now.sides.items) }
+    {
+        let mut sides = Vec::new(alloc);
+        for side in &self.sides {
+            sides.push(side.copy(alloc)?)?;
+        }
+        Ok(Conts { sides })
     }
 
     pub fn push(&mut self, frame: Frame, state: SymState) -> Result<(), AllocError>

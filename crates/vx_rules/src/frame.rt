@@ -1,6 +1,11 @@
 //! What a side does next, and what waits for it.
 
+ghost use Rattle.std.specs.Prelude.{◌≡◌, IfOk};
+ghost use Rattle.vx_ast.specs.Syntax.{Program};
+ghost use Rattle.vx_rules.specs.Stack.{frame_tree, side_tree};
+
 use crate::{Code, SymState};
+use std::alloc::{AllocError, Global};
 use std::rc::Rc;
 use vx_ast::Place;
 use vx_ast::resolved::{Assertion, Block, Connective, Expr, Method, Operator, Stmt};
@@ -55,7 +60,6 @@ pub enum Executed {
 
 /// What waits for a state.
 #[cycle(frames)]
-#[derive(Drop)]
 pub enum Next {
     /// The side is over.
     Finish,
@@ -73,7 +77,6 @@ pub enum Next {
 
 /// What waits for a value.
 #[cycle(frames)]
-#[derive(Drop)]
 pub enum Hole {
     /// The side is over.
     Finish,
@@ -82,6 +85,48 @@ pub enum Hole {
     /// A pure part is produced.
     Produced(Rc<Next>),
     Executed(Executed, Rc<Next>),
+}
+
+/// A chain is let go link by link: a member of many clauses has a long one.
+impl Drop for Next {
+    #[cycle(frames)]
+    fn drop(mut self) {
+        loop {
+            let rest = match self {
+                Next::Finish => return,
+                Next::Exec(_c, rest) => rest,
+                Next::Block(_b, rest) => rest,
+                Next::Inner(_b, _kept, rest) => rest,
+                Next::Produce(_a, rest) => rest,
+                Next::Consume(_a, _codes, _hole) => return,
+                Next::Unit(_hole) => return,
+                Next::Sides(_m) => return,
+            };
+            match Rc::into_inner(rest) {
+                Some(next) => self = next,
+                None => return,
+            }
+        }
+    }
+}
+
+impl Drop for Hole {
+    #[cycle(frames)]
+    fn drop(mut self) {
+        loop {
+            let rest = match self {
+                Hole::Finish => return,
+                Hole::Operand(_operand, rest) => rest,
+                Hole::Consumed(_consumed, rest) => rest,
+                Hole::Produced(_next) => return,
+                Hole::Executed(_executed, _next) => return,
+            };
+            match Rc::into_inner(rest) {
+                Some(hole) => self = hole,
+                None => return,
+            }
+        }
+    }
 }
 
 /// What a side does next.
@@ -97,4 +142,29 @@ pub enum Frame {
 pub struct Side {
     pub frame: Frame,
     pub state: SymState,
+}
+
+impl Frame {
+    /// The same frame once more.
+    pub fn copy(&self) -> Result<Frame, AllocError>
+        ensures { IfOk result (λ copy. (p : Program) → frame_tree p copy ≡ frame_tree p self.now) }
+    {
+        match self {
+            Frame::Go(next) => Ok(Frame::Go(next.clone()?)),
+            Frame::Eval(e, hole) => Ok(Frame::Eval(e.clone()?, hole.clone()?)),
+            Frame::Give(value, hole) => Ok(Frame::Give(value.clone()?, hole.clone()?)),
+        }
+    }
+}
+
+impl Side {
+    /// The same side once more.
+    pub fn copy(&self, alloc: Global) -> Result<Side, AllocError>
+        ensures { IfOk result (λ copy. (p : Program) → side_tree p copy ≡ side_tree p self.now) }
+    {
+        Ok(Side {
+            frame: self.frame.copy()?,
+            state: self.state.copy(alloc)?,
+        })
+    }
 }

@@ -83,6 +83,22 @@ fn is_same_fraction(a: Frac, b: Frac) -> bool
 }
 
 impl Term {
+    /// The same term once more, over shared parts.
+    pub fn copy(&self) -> Result<Term, AllocError>
+        ensures { IfOk result (λ copy. term copy ≡ term self.now) }
+    {
+        match self {
+            Term::Truth(b) => Ok(Term::Truth(*b)),
+            Term::Number(n) => Ok(Term::Number(*n)),
+            Term::Part(a) => Ok(Term::Part(*a)),
+            Term::Constant(f, a) => Ok(Term::Constant(f.copy()?, a.copy()?)),
+            Term::Apply(f, a, ts) => Ok(Term::Apply(f.copy()?, a.copy()?, ts.clone()?)),
+            Term::Not(t) => Ok(Term::Not(t.clone()?)),
+            Term::Binary(op, t, u) => Ok(Term::Binary(*op, t.clone()?, u.clone()?)),
+            Term::Ite(c, t, u) => Ok(Term::Ite(c.clone()?, t.clone()?, u.clone()?)),
+        }
+    }
+
     /// Whether two terms are one and the same.
     #[cycle(same)]
     pub fn is_same(&self, other: &Term) -> bool

@@ -31,7 +31,7 @@ pub enum Operator {
 
 /// A term, which the constructors of this crate make.
 #[cycle(terms)]
-#[derive(Debug, Drop)]
+#[derive(Debug)]
 pub enum Term {
     Truth(bool),
     Number(i128),
@@ -43,6 +43,30 @@ pub enum Term {
     Not(Rc<Term>),
     Binary(Operator, Rc<Term>, Rc<Term>),
     Ite(Rc<Term>, Rc<Term>, Rc<Term>),
+}
+
+/// The first parts are let go one after the other: a snapshot of many clauses is deep there.
+impl Drop for Term {
+    #[cycle(terms)]
+    fn drop(mut self) {
+        loop {
+            let first = match self {
+                Term::Truth(_) | Term::Number(_) | Term::Part(_) => return,
+                Term::Constant(_f, _a) => return,
+                Term::Apply(_f, _a, arguments) => match Rc::into_inner(arguments) {
+                    Some(Terms::More(first, _rest)) => first,
+                    Some(Terms::None) | None => return,
+                },
+                Term::Not(first) => first,
+                Term::Binary(_, first, _second) => first,
+                Term::Ite(first, _second, _third) => first,
+            };
+            match Rc::into_inner(first) {
+                Some(next) => self = next,
+                None => return,
+            }
+        }
+    }
 }
 
 /// A list of terms.

@@ -16,8 +16,8 @@ returns-then-is_same-2 c =
     let c' : Term = term c.args.condition.value in
     let s' : State = state c.args.state in
     let q = c.in_ok-query.query in
-    let e1 : same c' true_term ≡ false = cc in
-    let e2 : same c' false_term ≡ true = cc in
+    let e1 : same c' true_term ≡ false = ap (λ t. same (term t) true_term) (sym c.deref.ensures) ∙ sym c.is_same.ensures ∙ c.if-is_same.false in
+    let e2 : same c' false_term ≡ true = ap (λ t. same (term t) false_term) (sym c.deref-2.ensures) ∙ sym c.is_same-2.ensures ∙ c.if-is_same-2.true in
     checked_ask p q _ _ _ _ c.in_ok-query.ensures.probe c.in_ok-push.ensures
     (ask_false c' c.args.place (code c.args.code) s' (frame_tree p c.args.frame) (query q) refl e1 e2 c.in_ok-query.ensures.question
     ∙ ap (λ n. Ask (query q) (going p n s')) (sym c.in_ok-finish.ensures.ok))
@@ -28,7 +28,7 @@ returns c =
     let c' : Term = term c.args.condition.value in
     let s' : State = state c.args.state in
     let q = c.in_ok-query.query in
-    let e1 : same c' true_term ≡ false = cc in
-    let e2 : same c' false_term ≡ false = cc in
+    let e1 : same c' true_term ≡ false = ap (λ t. same (term t) true_term) (sym c.deref.ensures) ∙ sym c.is_same.ensures ∙ c.if-is_same.false in
+    let e2 : same c' false_term ≡ false = ap (λ t. same (term t) false_term) (sym c.deref-2.ensures) ∙ sym c.is_same-2.ensures ∙ c.if-is_same-2.false in
     checked_ask p q _ _ _ _ c.in_ok-query.ensures.probe c.in_ok-push-2.ensures
     (ask_fact c' c.args.place (code c.args.code) s' _ (frame_tree p c.args.frame) (query q) refl e1 e2 c.in_ok-add_fact.ensures c.in_ok-query.ensures.question)
