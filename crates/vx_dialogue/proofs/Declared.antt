@@ -42,6 +42,7 @@ there sorts (d ∷ ds) n e f =
     here g =
         let number : e.0.0 ≡ n = same_number e.0.0 n (sym (ap (λ x. same_symbol x.symbol (Variable n)) e.0.1) ∙ g) in
         e.0.1 ∙ ap (λ m. variable m (sorts m)) number
+
     by_case : (b : Bool) → same_symbol d.symbol (Variable n) ≡ b → (same_symbol d.symbol (Variable n) ≡ false → Declares ds (variable n (sorts n))) → Declares (d ∷ ds) (variable n (sorts n))
     by_case true g later = inl (here g)
     by_case false g later = inr (later g)
@@ -130,10 +131,11 @@ mutual
   uses base sorts (Ite c t u) ds fs v e i j =
       let one = grows base sorts c ds v e.0 in
       let two = grows base sorts t (with_variables ds c) one.variables e.1 in
-      let three = grows base sorts u (with_variables (with_variables ds c) t) two.variables e.2 in
-      (uses base sorts c ds fs v e.0 (λ d h. i d (three.keeps d (two.keeps d h))) j,
-       uses base sorts t (with_variables ds c) fs one.variables e.1 (λ d h. i d (three.keeps d h)) j,
-       uses base sorts u (with_variables (with_variables ds c) t) fs two.variables e.2 i j)
+      let three = grows base sorts u (with_variables (with_variables ds c) t) two.variables e.2 in (
+        uses base sorts c ds fs v e.0 (λ d h. i d (three.keeps d (two.keeps d h))) j,
+        uses base sorts t (with_variables ds c) fs one.variables e.1 (λ d h. i d (three.keeps d h)) j,
+        uses base sorts u (with_variables (with_variables ds c) t) fs two.variables e.2 i j,
+      )
   uses base sorts (AllOf ts) ds fs v e i j = all_use base sorts ts ds fs v e i j
   uses base sorts (SomeOf ts) ds fs v e i j = all_use base sorts ts ds fs v e i j
 
@@ -197,6 +199,7 @@ check_whole base sorts path condition reply over_path over_condition =
     let listed = path_grows below sorts path [] tt over_path in
     let last = grows below sorts negated (with_listed [] path) listed.variables over_negated in
     let declared : Includes symbols all = λ d h. in_left (pushed symbols []) below d (in_pushed symbols [] d h) in
-    let under : Includes below all = in_right (pushed symbols []) below in
-    (uses below sorts negated (with_listed [] path) all listed.variables over_negated declared under,
-     each_pushed (UsesDeclared all) path [] (path_uses below sorts path [] all tt over_path (λ d h. declared d (last.keeps d h)) under) tt)
+    let under : Includes below all = in_right (pushed symbols []) below in (
+      uses below sorts negated (with_listed [] path) all listed.variables over_negated declared under,
+      each_pushed (UsesDeclared all) path [] (path_uses below sorts path [] all tt over_path (λ d h. declared d (last.keeps d h)) under) tt,
+    )
