@@ -1,10 +1,13 @@
 -- The items that are got, one after another.
-use Rattle.std.specs.Prelude.{◌≡◌, ℕ, ◌<◌, ◌⊎◌, List, ◌++◌, length, codes, Bool, true, false, not}
+use Rattle.std.specs.Prelude.{◌≡◌, ℕ, ◌<◌, ◌⊎◌, List, [], ◌∷◌, ◌++◌, length, take, if◌then◌else◌, codes, Bool, true, false, not}
 use Rattle.vx_smt_meaning.specs.Replies.{is_word_item, is_refusal, answer_of, is_given}
 use Rattle.vx_dialogue.specs.declared.item.Wanted.{Wanted}
 use Rattle.vx_dialogue.specs.declared.item.Wanted.TheVariants as wanted
 use Rattle.vx_sexp.specs.declared.token.Token.{Token}
 use Rattle.vx_sexp.specs.declared.reader.SexpFault.TheVariants as sexp
+use Rattle.vx_dialogue.specs.declared.talk.Talk.{Talk}
+use Rattle.vx_dialogue.specs.declared.talk.Talk.TheVariants as talk
+use Rattle.vx_sexp.specs.Characters.{is_blank}
 use Rattle.vx_sexp.specs.First.{IsFirst, Faults}
 
 -- the longest item that is read on
@@ -29,15 +32,44 @@ is_lawful wanted.Success item = is_word_item (codes "success") item
 is_lawful wanted.Answer item = is_given (answer_of item)
 is_lawful wanted.Proof item = not (is_refusal item)
 
--- the next item, whole, with this property
-abbrev pub NextItem : List ℕ → List ℕ → List ℕ → (List Token → Type 0) → Type 0
-NextItem got_old unread_old got_new P = (more : List ℕ) × (got_new ≡ got_old ++ more) × (item : List Token) × (rest : List ℕ) × IsFirst (unread_old ++ more) item rest × P item
+-- the bytes from the first that is no blank on
+abbrev pub without_blanks : List ℕ → List ℕ
+without_blanks [] = []
+without_blanks (b ∷ bs) = if is_blank b then without_blanks bs else (b ∷ bs)
 
--- What comes next is no lawful reply: no item, or another one that is no refusal.
-abbrev pub IsGarbled : Wanted → List ℕ → List ℕ → List ℕ → Type 0
-IsGarbled w got_old unread_old got_new = ((more : List ℕ) × (got_new ≡ got_old ++ more) × IsNoItem (unread_old ++ more))
-    ⊎ NextItem got_old unread_old got_new (λ item. (is_lawful w item ≡ false) × (is_refusal item ≡ false))
+-- what is kept of bytes that are no lawful reply: at most the first 4096, without the blanks before them
+abbrev pub kept_of : List ℕ → List ℕ
+kept_of bytes = take 4096 (without_blanks bytes)
 
--- What comes next says that the command was refused.
-abbrev pub IsRefused : List ℕ → List ℕ → List ℕ → Type 0
-IsRefused got_old unread_old got_new = NextItem got_old unread_old got_new (λ item. is_refusal item ≡ true)
+-- The bytes begin with this text, which is an item with this property.
+abbrev pub BeginsWith : List ℕ → List ℕ → (List Token → Type 0) → Type 0
+BeginsWith bytes text P = (item : List Token) × (rest : List ℕ) × IsFirst bytes item rest × (bytes ≡ text ++ rest) × P item
+
+-- What begins the bytes is no lawful reply: no item, or another one that is no refusal. So much is kept of it.
+abbrev pub IsGarbled : Wanted → List ℕ → List ℕ → Type 0
+IsGarbled w bytes kept = (IsNoItem bytes × (kept ≡ kept_of bytes))
+    ⊎ ((text : List ℕ) × BeginsWith bytes text (λ item. (is_lawful w item ≡ false) × (is_refusal item ≡ false)) × (kept ≡ kept_of text))
+
+-- What begins the bytes says that the command was refused. So much is kept of it.
+abbrev pub IsRefused : List ℕ → List ℕ → Type 0
+IsRefused bytes kept = (text : List ℕ) × BeginsWith bytes text (λ item. is_refusal item ≡ true) × (kept ≡ kept_of text)
+
+-- What is got meanwhile stands behind what was not read, and what begins these bytes has this property.
+abbrev pub Meets : List ℕ → List ℕ → List ℕ → (List ℕ → Type 0) → Type 0
+Meets got_old unread_old got_new P = (more : List ℕ) × (got_new ≡ got_old ++ more) × P (unread_old ++ more)
+
+-- why no item is given: what comes next is none
+abbrev pub GivesNoItem : Talk → List ℕ → List ℕ → List ℕ → Type 0
+GivesNoItem (talk.Garbled kept) got_old unread_old got_new = Meets got_old unread_old got_new (λ bytes. IsNoItem bytes × (kept ≡ kept_of bytes))
+GivesNoItem (talk.Refused kept) got_old unread_old got_new = ⊥
+GivesNoItem talk.Pipe got_old unread_old got_new = Unit {0}
+GivesNoItem talk.Want got_old unread_old got_new = Unit {0}
+GivesNoItem talk.Closed got_old unread_old got_new = ⊥
+
+-- why no lawful reply is given: what comes next is none
+abbrev pub GivesNoReply : Talk → Wanted → List ℕ → List ℕ → List ℕ → Type 0
+GivesNoReply (talk.Garbled kept) w got_old unread_old got_new = Meets got_old unread_old got_new (λ bytes. IsGarbled w bytes kept)
+GivesNoReply (talk.Refused kept) w got_old unread_old got_new = Meets got_old unread_old got_new (λ bytes. IsRefused bytes kept)
+GivesNoReply talk.Pipe w got_old unread_old got_new = Unit {0}
+GivesNoReply talk.Want w got_old unread_old got_new = Unit {0}
+GivesNoReply talk.Closed w got_old unread_old got_new = ⊥

@@ -4,3 +4,4 @@ pub mod Hears
 pub mod Symbols
 pub mod Preamble
 pub mod Dialogue
+pub mod Over

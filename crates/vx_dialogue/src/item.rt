@@ -1,15 +1,15 @@
 // The next item that a child gives.
-ghost use Rattle.std.specs.Prelude.{◌≡◌, ◌≤◌, ◌++◌, length, drop, take, OnOk, IfOk, List, ℕ, Err, true};
+ghost use Rattle.std.specs.Prelude.{◌≡◌, ◌≤◌, ◌++◌, length, drop, take, OnOk, IfOk, IfErr, Err, true};
 ghost use Rattle.vx_ends.specs.Dialogue.{sent, got};
 ghost use Rattle.vx_ends.specs.Causes.{HasCause};
 ghost use Rattle.vx_sexp.specs.First.{IsFirst};
-ghost use Rattle.vx_dialogue.specs.Items.{Keeps, IsNoItem, ReadsItem, IsGarbled, IsRefused, is_lawful};
+ghost use Rattle.vx_dialogue.specs.Items.{Keeps, ReadsItem, GivesNoItem, GivesNoReply, without_blanks, kept_of, is_lawful};
 ghost use Rattle.vx_smt_meaning.specs.Replies.{is_word_item, is_headed_by, is_refusal, answer_of};
 
 use crate::Talk;
 use std::alloc::{AllocError, Global};
 use vx_ends::Link;
-use vx_sexp::{Bytes, Kind, Sexp, SexpFault, Token, read};
+use vx_sexp::{Bytes, Kind, Sexp, SexpFault, Token, blank, read};
 use vx_smt_meaning::Reply;
 
 /// The longest item that is read on.
@@ -26,11 +26,22 @@ fn copy_front(alloc: Global, bytes: &[u8], most: usize) -> Result<Bytes, AllocEr
     }
 }
 
+fn trimmed(bytes: &[u8]) -> &[u8]
+    ensures { result.now ≡ without_blanks bytes.now }
+{
+    for i in 0..bytes.len() {
+        if !blank(bytes[i]) {
+            return &bytes[i..];
+        }
+    }
+    &bytes[bytes.len()..]
+}
+
 // the bytes that are kept of what is no lawful reply
 fn kept(alloc: Global, bytes: &[u8]) -> Result<Bytes, AllocError>
-    ensures { IfOk result (λ k. k ≡ take 4096 bytes.now) }
+    ensures { IfOk result (λ k. k ≡ kept_of bytes.now) }
 {
-    copy_front(alloc, bytes, 4096)
+    copy_front(alloc, trimmed(bytes), 4096)
 }
 
 /// The first item of what is not read yet, and how many bytes it takes; more is got until it is whole.
@@ -42,12 +53,9 @@ pub fn next_item<L: Link>(
 ) -> Result<(Sexp, usize), Talk>
     ensures item { IfOk result (λ x. (x.1 ≤ length unread.new.items) × IsFirst unread.new.items x.0 (drop x.1 unread.new.items)) }
     ensures keeps { OnOk result (Keeps (got (L.dialogue link.old)) unread.old.items (got (L.dialogue link.new)) unread.new.items) }
-    ensures refused { (bytes : List ℕ) → result ≡ Err (Talk.Refused bytes) → ⊥ }
-    ensures garbled { (bytes : List ℕ) → result ≡ Err (Talk.Garbled bytes) → IsNoItem unread.new.items
-        × Keeps (got (L.dialogue link.old)) unread.old.items (got (L.dialogue link.new)) unread.new.items }
+    ensures fault { IfErr result (λ talk. GivesNoItem talk (got (L.dialogue link.old)) unread.old.items (got (L.dialogue link.new))) }
     ensures sent { sent (L.dialogue link.new) ≡ sent (L.dialogue link.old) }
     ensures cause { HasCause Talk.Pipe (L.faults link.old) (L.faults link.new) result }
-    ensures open { result ≡ Err Talk.Closed → ⊥ }
 {
     'reading: loop {
         match read(alloc, unread) {
@@ -128,8 +136,7 @@ pub fn expect<L: Link>(
     wanted: Wanted,
 ) -> Result<Sexp, Talk>
     ensures item { IfOk result (λ item. ReadsItem (got (L.dialogue link.old)) unread.old.items (got (L.dialogue link.new)) unread.new.items item × (is_lawful wanted item ≡ true)) }
-    ensures garbled { (bytes : List ℕ) → result ≡ Err (Talk.Garbled bytes) → IsGarbled wanted (got (L.dialogue link.old)) unread.old.items (got (L.dialogue link.new)) }
-    ensures refused { (bytes : List ℕ) → result ≡ Err (Talk.Refused bytes) → IsRefused (got (L.dialogue link.old)) unread.old.items (got (L.dialogue link.new)) }
+    ensures fault { IfErr result (λ talk. GivesNoReply talk wanted (got (L.dialogue link.old)) unread.old.items (got (L.dialogue link.new))) }
     ensures sent { sent (L.dialogue link.new) ≡ sent (L.dialogue link.old) }
     ensures cause { HasCause Talk.Pipe (L.faults link.old) (L.faults link.new) result }
     ensures open { result ≡ Err Talk.Closed → ⊥ }

@@ -134,3 +134,73 @@ fn ask_three(
     let third = dialogue.take(alloc)?;
     Ok([first, second, third])
 }
+
+// The bytes that are kept of the first reply, where it is no success.
+fn kept_of_opening(
+    alloc: Global,
+    reply: &str,
+) -> Result<Option<(&'static str, Bytes)>, AllocError> {
+    let link = ScriptLink::new(alloc, script(alloc, 1, &[reply])?);
+    match Dialogue::open(alloc, link, &functions(alloc)?, false) {
+        Ok(_) => Ok(None),
+        Err((_, Talk::Garbled(kept))) => Ok(Some(("garbled", kept))),
+        Err((_, Talk::Refused(kept))) => Ok(Some(("refused", kept))),
+        Err(_) => Ok(None),
+    }
+}
+
+#[test]
+fn what_is_no_lawful_reply_is_kept(rt: HostRuntime) -> Result<(), Fail> {
+    let echo = "(set-option :print-success true)";
+    for (reply, cause, kept) in [
+        (echo, "garbled", echo),
+        (" \n unsat ", "garbled", "unsat"),
+        ("unsupported ", "refused", "unsupported"),
+        ("\n(error \"no\")", "refused", "(error \"no\")"),
+        ("success) ", "garbled", ") "),
+    ] {
+        match kept_of_opening(rt.alloc(), reply)? {
+            Some((told, bytes)) => {
+                assert_eq!(rt; told, cause, "{reply}");
+                assert_eq!(rt; bytes.as_slice(), kept.as_bytes(), "{reply}");
+            }
+            None => panic!(&rt; "{reply}"),
+        }
+    }
+    Ok(())
+}
+
+fn ask_twice(
+    alloc: Global,
+    dialogue: &mut Dialogue<ScriptLink>,
+    condition: &Rc<Term>,
+) -> (&'static str, &'static str)
+    requires { IsFree dialogue.old }
+{
+    let no_path = Vec::new(alloc);
+    let first = match dialogue.ask(alloc, &no_path, condition) {
+        Ok(_) => "reply",
+        Err(talk) => told(talk),
+    };
+    let second = match dialogue.ask(alloc, &no_path, condition) {
+        Ok(_) => "reply",
+        Err(talk) => told(talk),
+    };
+    (first, second)
+}
+
+#[test]
+fn a_dialogue_that_failed_is_closed(rt: HostRuntime) -> Result<(), Fail> {
+    let alloc = rt.alloc();
+    let mut script = script(alloc, 18, &[])?;
+    script.fails.push(3)?;
+    let link = ScriptLink::new(alloc, script);
+    let mut dialogue = match Dialogue::open(alloc, link, &functions(alloc)?, false) {
+        Ok(dialogue) => dialogue,
+        Err((_, talk)) => panic!(&rt; "{}", told(talk)),
+    };
+    let never = Rc::new(alloc, Term::Truth(false))?;
+    let asked = ask_twice(alloc, &mut dialogue, &never);
+    assert_eq!(rt; asked, ("pipe", "closed"));
+    Ok(())
+}

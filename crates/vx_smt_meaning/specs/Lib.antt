@@ -5,3 +5,4 @@ pub mod Names
 pub mod Replies
 pub mod Views
 pub mod Dialogues
+pub mod Symbols
