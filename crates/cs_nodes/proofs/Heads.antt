@@ -78,7 +78,7 @@ symbol_same (Function n) = eq-eqb n n refl
 symbol_same (Variable n) = eq-eqb n n refl
 symbol_same (Named x) = text_same x
 
-sort_same : (a : Sort) → same_sort a a ≡ true
+pub sort_same : (a : Sort) → same_sort a a ≡ true
 sort_same a = and_true _ _ (eq-eqb (sort_number a) (sort_number a) refl) (text_same (sort_text a))
 
 pub head_same : (h : Head) → same_head h h ≡ true

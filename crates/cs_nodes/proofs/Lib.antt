@@ -3,3 +3,4 @@ pub mod Find
 pub mod Equalities
 pub mod Look
 pub mod Chains
+pub mod Comparisons

@@ -1,6 +1,6 @@
 -- The clauses of steps, by numbers.
 use Rattle.std.specs.Prelude.{◌≡◌, ℕ, ℤ, pos, ◌+ℤ◌, Bool, true, false, ◌&&◌, ◌||◌, nat_eq, slice_get, if◌then◌else◌, List, [], ◌∷◌, ◌++◌, Option, Some, None}
-use Rattle.vx_terms.specs.Sorts.{IntSort, RealSort, Less, LessEqual, same_sort}
+use Rattle.vx_terms.specs.Sorts.{Sort, IntSort, RealSort, Operator, Less, LessEqual, same_sort}
 use Rattle.vx_terms.specs.Terms.{Term}
 use Rattle.cs_certificate.specs.Terms.{NumberHead, BinaryHead}
 use Rattle.cs_certificate.specs.Certificate.{At, Clause, Yes, No, NumberedLiteral, Plain, Negated, Step, Chain, Congruence, Split, Trichotomy, Stack, State, Derives}
@@ -61,28 +61,38 @@ congruence_clause nodes m n = do
   e ← equality nodes m n
   Some (rest ++ plain e ∷ [])
 
+abbrev pub number_at : List Node → ℤ → Option ℕ
+number_at nodes z = number_of nodes (NumberHead z) []
+
+abbrev pub binary_at : List Node → Operator → ℕ → ℕ → Option ℕ
+binary_at nodes o a b = number_of nodes (BinaryHead o) (a ∷ b ∷ [])
+
+-- where a node has this sort
+abbrev pub if_sort : Sort → Node → Option (List NumberedLiteral) → Option (List NumberedLiteral)
+if_sort a x o = if same_sort x.sort a then o else None
+
 -- `t <= z` or `z + 1 <= t`, for an Int t
 abbrev pub split_clause : List Node → ℕ → ℤ → Option (List NumberedLiteral)
 split_clause nodes t z = do
   x ← slice_get nodes t
-  low ← number_of nodes (NumberHead z) []
-  high ← number_of nodes (NumberHead (z +ℤ pos 1)) []
-  p ← number_of nodes (BinaryHead LessEqual) (t ∷ low ∷ [])
-  q ← number_of nodes (BinaryHead LessEqual) (high ∷ t ∷ [])
-  if same_sort x.sort IntSort then Some (plain p ∷ plain q ∷ []) else None
+  low ← number_at nodes z
+  high ← number_at nodes (z +ℤ pos 1)
+  p ← binary_at nodes LessEqual t low
+  q ← binary_at nodes LessEqual high t
+  if_sort IntSort x (Some (plain p ∷ plain q ∷ []))
 
-abbrev pub is_number_sort : Node → Bool
-is_number_sort x = same_sort x.sort IntSort || same_sort x.sort RealSort
+abbrev pub is_number_sort : Sort → Bool
+is_number_sort a = same_sort a IntSort || same_sort a RealSort
 
 -- `a < b` or `a = b` or `b < a`, for two numbers of one sort
 abbrev pub trichotomy_clause : List Node → ℕ → ℕ → Option (List NumberedLiteral)
 trichotomy_clause nodes a b = do
   x ← slice_get nodes a
   y ← slice_get nodes b
-  p ← number_of nodes (BinaryHead Less) (a ∷ b ∷ [])
+  p ← binary_at nodes Less a b
   e ← equality nodes a b
-  q ← number_of nodes (BinaryHead Less) (b ∷ a ∷ [])
-  if is_number_sort x && same_sort x.sort y.sort then Some (plain p ∷ plain e ∷ plain q ∷ []) else None
+  q ← binary_at nodes Less b a
+  if is_number_sort x.sort then if_sort x.sort y (Some (plain p ∷ plain e ∷ plain q ∷ [])) else None
 
 -- a clause is computed exactly where one is derived, and it is that one
 pub record Computes (nodes : List Node) (s : State) (stack : Stack) (step : Step) (computed : Option (List NumberedLiteral)) : Type 0 where
@@ -92,6 +102,8 @@ pub record Computes (nodes : List Node) (s : State) (stack : Stack) (step : Step
 pub record ComputesSteps (nodes : List Node) (s : State) (stack : Stack) : Type 0 where
   pub chain : (ns : List ℕ) → Computes nodes s stack (Chain ns) (chain_clause nodes ns)
   pub congruence : (m n : ℕ) → Computes nodes s stack (Congruence m n) (congruence_clause nodes m n)
+  pub split : (t : ℕ) (z : ℤ) → Computes nodes s stack (Split t z) (split_clause nodes t z)
+  pub trichotomy : (a b : ℕ) → Computes nodes s stack (Trichotomy a b) (trichotomy_clause nodes a b)
 
 abbrev pub ByNumbers : Type 0
 ByNumbers = (nodes : List Node) (s : State) (stack : Stack) → Represents nodes s.terms → ComputesSteps nodes s stack
