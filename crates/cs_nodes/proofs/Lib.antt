@@ -4,3 +4,5 @@ pub mod Equalities
 pub mod Look
 pub mod Chains
 pub mod Comparisons
+pub mod Picks
+pub mod Divisions

@@ -1,9 +1,9 @@
 -- The clauses of steps, by numbers.
-use Rattle.std.specs.Prelude.{◌≡◌, ℕ, ℤ, pos, ◌+ℤ◌, Bool, true, false, ◌&&◌, ◌||◌, nat_eq, slice_get, if◌then◌else◌, List, [], ◌∷◌, ◌++◌, Option, Some, None}
-use Rattle.vx_terms.specs.Sorts.{Sort, IntSort, RealSort, Operator, Less, LessEqual, same_sort}
+use Rattle.std.specs.Prelude.{◌≡◌, ℕ, zero, suc, ℤ, pos, negsuc, ◌+ℤ◌, unsigned_abs, Bool, true, false, ◌&&◌, ◌||◌, nat_eq, slice_get, if◌then◌else◌, List, [], ◌∷◌, ◌++◌, Option, Some, None}
+use Rattle.vx_terms.specs.Sorts.{Sort, IntSort, BoolSort, RealSort, Operator, Less, LessEqual, Add, Multiply, Div, Mod, same_sort}
 use Rattle.vx_terms.specs.Terms.{Term}
-use Rattle.cs_certificate.specs.Terms.{NumberHead, BinaryHead}
-use Rattle.cs_certificate.specs.Certificate.{At, Clause, Yes, No, NumberedLiteral, Plain, Negated, Step, Chain, Congruence, Split, Trichotomy, Stack, State, Derives}
+use Rattle.cs_certificate.specs.Terms.{Head, NumberHead, BinaryHead, IteHead}
+use Rattle.cs_certificate.specs.Certificate.{At, Clause, Yes, No, NumberedLiteral, Plain, Negated, Step, Chain, Congruence, Pick, Split, Trichotomy, Divide, Stack, State, Derives}
 use Rattle.cs_nodes.specs.Nodes.{Node, Represents, same_head, number_of, equality}
 
 infixl 10 ◌>>=◌
@@ -94,6 +94,57 @@ trichotomy_clause nodes a b = do
   q ← binary_at nodes Less b a
   if is_number_sort x.sort then if_sort x.sort y (Some (plain p ∷ plain e ∷ plain q ∷ [])) else None
 
+-- rows of a choice t that isn't Bool, of c, a and b
+abbrev pub pick_row : List Node → ℕ → ℕ → ℕ → ℕ → ℕ → Option (List NumberedLiteral)
+pick_row nodes t c a b zero = equality nodes t a >>= λ e. Some (denial c ∷ plain e ∷ [])
+pick_row nodes t c a b (suc zero) = equality nodes t b >>= λ e. Some (plain c ∷ plain e ∷ [])
+pick_row nodes t c a b _ = None
+
+abbrev pub pick_parts : List Node → ℕ → ℕ → List ℕ → Option (List NumberedLiteral)
+pick_parts nodes t k (c ∷ a ∷ b ∷ []) = do
+  x ← slice_get nodes a
+  if same_sort x.sort BoolSort then None else pick_row nodes t c a b k
+pick_parts nodes t k _ = None
+
+abbrev pub pick_clause : List Node → ℕ → ℕ → Option (List NumberedLiteral)
+pick_clause nodes t k = do
+  x ← slice_get nodes t
+  if same_head x.head IteHead then pick_parts nodes t k x.parts else None
+
+-- an integer other than 0
+abbrev pub divisor : Head → Option ℤ
+divisor (NumberHead (pos zero)) = None
+divisor (NumberHead d) = Some d
+divisor _ = None
+
+-- rows of the division of a by n, which is the literal d
+abbrev pub divide_row : List Node → ℕ → ℕ → ℤ → ℕ → Option (List NumberedLiteral)
+divide_row nodes a n d zero = do
+  q ← binary_at nodes Div a n
+  p ← binary_at nodes Multiply n q
+  r ← binary_at nodes Mod a n
+  u ← binary_at nodes Add p r
+  e ← equality nodes a u
+  Some (plain e ∷ [])
+divide_row nodes a n d (suc zero) = do
+  r ← binary_at nodes Mod a n
+  z ← number_at nodes (pos 0)
+  p ← binary_at nodes LessEqual z r
+  Some (plain p ∷ [])
+divide_row nodes a n d (suc (suc zero)) = do
+  r ← binary_at nodes Mod a n
+  z ← number_at nodes (pos (unsigned_abs d))
+  p ← binary_at nodes Less r z
+  Some (plain p ∷ [])
+divide_row nodes a n d _ = None
+
+abbrev pub divide_clause : List Node → ℕ → ℕ → ℕ → Option (List NumberedLiteral)
+divide_clause nodes a n k = do
+  x ← slice_get nodes a
+  y ← slice_get nodes n
+  d ← divisor y.head
+  if_sort IntSort x (divide_row nodes a n d k)
+
 -- a clause is computed exactly where one is derived, and it is that one
 pub record Computes (nodes : List Node) (s : State) (stack : Stack) (step : Step) (computed : Option (List NumberedLiteral)) : Type 0 where
   pub sound : (ns : List NumberedLiteral) → computed ≡ Some ns → (c : Clause) × Names s.terms ns c × Derives stack s step c
@@ -104,6 +155,8 @@ pub record ComputesSteps (nodes : List Node) (s : State) (stack : Stack) : Type 
   pub congruence : (m n : ℕ) → Computes nodes s stack (Congruence m n) (congruence_clause nodes m n)
   pub split : (t : ℕ) (z : ℤ) → Computes nodes s stack (Split t z) (split_clause nodes t z)
   pub trichotomy : (a b : ℕ) → Computes nodes s stack (Trichotomy a b) (trichotomy_clause nodes a b)
+  pub pick : (t k : ℕ) → Computes nodes s stack (Pick t k) (pick_clause nodes t k)
+  pub divide : (a n k : ℕ) → Computes nodes s stack (Divide a n k) (divide_clause nodes a n k)
 
 abbrev pub ByNumbers : Type 0
 ByNumbers = (nodes : List Node) (s : State) (stack : Stack) → Represents nodes s.terms → ComputesSteps nodes s stack

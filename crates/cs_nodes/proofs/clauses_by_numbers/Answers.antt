@@ -1,5 +1,7 @@
 use Rattle.cs_nodes.proofs.Chains.{chain_computes, congruence_computes}
 use Rattle.cs_nodes.proofs.Comparisons.{split_computes, trichotomy_computes}
+use Rattle.cs_nodes.proofs.Picks.{pick_computes}
+use Rattle.cs_nodes.proofs.Divisions.{divide_computes}
 use Rattle.cs_nodes.proofs.clauses_by_numbers.Goals as goal
 
 pub returns : goal.returns
@@ -8,4 +10,6 @@ returns c nodes s stack r = record {
   congruence = congruence_computes nodes s r stack;
   split = split_computes nodes s r stack;
   trichotomy = trichotomy_computes nodes s r stack;
+  pick = pick_computes nodes s r stack;
+  divide = divide_computes nodes s r stack;
 }
