@@ -6,3 +6,4 @@ pub mod Chains
 pub mod Comparisons
 pub mod Picks
 pub mod Divisions
+pub mod Definitions

@@ -1,9 +1,9 @@
 -- The clauses of steps, by numbers.
-use Rattle.std.specs.Prelude.{◌≡◌, ℕ, zero, suc, ℤ, pos, negsuc, ◌+ℤ◌, unsigned_abs, Bool, true, false, ◌&&◌, ◌||◌, nat_eq, slice_get, if◌then◌else◌, List, [], ◌∷◌, ◌++◌, Option, Some, None}
-use Rattle.vx_terms.specs.Sorts.{Sort, IntSort, BoolSort, RealSort, Operator, Less, LessEqual, Add, Multiply, Div, Mod, same_sort}
+use Rattle.std.specs.Prelude.{◌≡◌, ℕ, zero, suc, ℤ, pos, negsuc, ◌+ℤ◌, unsigned_abs, Bool, true, false, ◌&&◌, ◌||◌, nat_eq, map, length, slice_get, if◌then◌else◌, List, [], ◌∷◌, ◌++◌, Option, Some, None}
+use Rattle.vx_terms.specs.Sorts.{Sort, IntSort, BoolSort, RealSort, Operator, And, Or, Implies, Equal, Less, LessEqual, Add, Multiply, Div, Mod, same_sort}
 use Rattle.vx_terms.specs.Terms.{Term}
-use Rattle.cs_certificate.specs.Terms.{Head, NumberHead, BinaryHead, IteHead}
-use Rattle.cs_certificate.specs.Certificate.{At, Clause, Yes, No, NumberedLiteral, Plain, Negated, Step, Chain, Congruence, Pick, Split, Trichotomy, Divide, Stack, State, Derives}
+use Rattle.cs_certificate.specs.Terms.{Head, TruthHead, NumberHead, BinaryHead, NotHead, IteHead, AllHead, SomeHead}
+use Rattle.cs_certificate.specs.Certificate.{At, Clause, Yes, No, NumberedLiteral, Plain, Negated, Step, Define, Chain, Congruence, Pick, Split, Trichotomy, Divide, Stack, State, Derives}
 use Rattle.cs_nodes.specs.Nodes.{Node, Represents, same_head, number_of, equality}
 
 infixl 10 ◌>>=◌
@@ -145,12 +145,77 @@ divide_clause nodes a n k = do
   d ← divisor y.head
   if_sort IntSort x (divide_row nodes a n d k)
 
+-- where a numbered term is Bool
+abbrev pub if_bool : List Node → ℕ → Option (List NumberedLiteral) → Option (List NumberedLiteral)
+if_bool nodes x o = slice_get nodes x >>= λ n. if_sort BoolSort n o
+
+-- The rows that define a Bool term t, by its parts.
+
+abbrev pub truth_row : ℕ → Bool → ℕ → Option (List NumberedLiteral)
+truth_row t true zero = Some (plain t ∷ [])
+truth_row t false zero = Some (denial t ∷ [])
+truth_row t b (suc k) = None
+
+abbrev pub not_row : ℕ → ℕ → ℕ → Option (List NumberedLiteral)
+not_row t x zero = Some (denial t ∷ denial x ∷ [])
+not_row t x (suc zero) = Some (plain t ∷ plain x ∷ [])
+not_row t x (suc (suc k)) = None
+
+abbrev pub last_row : ℕ → List ℕ → ℕ → List NumberedLiteral → Option (List NumberedLiteral)
+last_row t ps k ls = if nat_eq k (length ps) then Some ls else None
+
+abbrev pub and_row : Option ℕ → ℕ → List ℕ → ℕ → Option (List NumberedLiteral)
+and_row (Some x) t ps k = Some (denial t ∷ plain x ∷ [])
+and_row None t ps k = last_row t ps k (plain t ∷ map denial ps)
+
+abbrev pub or_row : Option ℕ → ℕ → List ℕ → ℕ → Option (List NumberedLiteral)
+or_row (Some x) t ps k = Some (plain t ∷ denial x ∷ [])
+or_row None t ps k = last_row t ps k (denial t ∷ map plain ps)
+
+abbrev pub implies_row : ℕ → ℕ → ℕ → ℕ → Option (List NumberedLiteral)
+implies_row t x y zero = Some (denial t ∷ denial x ∷ plain y ∷ [])
+implies_row t x y (suc zero) = Some (plain t ∷ plain x ∷ [])
+implies_row t x y (suc (suc zero)) = Some (plain t ∷ denial y ∷ [])
+implies_row t x y (suc (suc (suc k))) = None
+
+abbrev pub ite_row : ℕ → ℕ → ℕ → ℕ → ℕ → Option (List NumberedLiteral)
+ite_row t c x y zero = Some (denial t ∷ denial c ∷ plain x ∷ [])
+ite_row t c x y (suc zero) = Some (plain t ∷ denial c ∷ denial x ∷ [])
+ite_row t c x y (suc (suc zero)) = Some (denial t ∷ plain c ∷ plain y ∷ [])
+ite_row t c x y (suc (suc (suc zero))) = Some (plain t ∷ plain c ∷ denial y ∷ [])
+ite_row t c x y (suc (suc (suc (suc k)))) = None
+
+abbrev pub equal_row : ℕ → ℕ → ℕ → ℕ → Option (List NumberedLiteral)
+equal_row t x y zero = Some (denial t ∷ denial x ∷ plain y ∷ [])
+equal_row t x y (suc zero) = Some (denial t ∷ plain x ∷ denial y ∷ [])
+equal_row t x y (suc (suc zero)) = Some (plain t ∷ plain x ∷ plain y ∷ [])
+equal_row t x y (suc (suc (suc zero))) = Some (plain t ∷ denial x ∷ denial y ∷ [])
+equal_row t x y (suc (suc (suc (suc k)))) = None
+
+abbrev pub define_by : List Node → ℕ → Head → List ℕ → ℕ → Option (List NumberedLiteral)
+define_by nodes t (TruthHead b) ps k = truth_row t b k
+define_by nodes t NotHead (x ∷ []) k = not_row t x k
+define_by nodes t (BinaryHead And) ps k = and_row (slice_get ps k) t ps k
+define_by nodes t AllHead ps k = and_row (slice_get ps k) t ps k
+define_by nodes t (BinaryHead Or) ps k = or_row (slice_get ps k) t ps k
+define_by nodes t SomeHead ps k = or_row (slice_get ps k) t ps k
+define_by nodes t (BinaryHead Implies) (x ∷ y ∷ []) k = implies_row t x y k
+define_by nodes t (BinaryHead Equal) (x ∷ y ∷ []) k = if_bool nodes x (if_bool nodes y (equal_row t x y k))
+define_by nodes t IteHead (c ∷ x ∷ y ∷ []) k = if_bool nodes x (ite_row t c x y k)
+define_by nodes t h ps k = None
+
+abbrev pub define_clause : List Node → ℕ → ℕ → Option (List NumberedLiteral)
+define_clause nodes t k = do
+  x ← slice_get nodes t
+  define_by nodes t x.head x.parts k
+
 -- a clause is computed exactly where one is derived, and it is that one
 pub record Computes (nodes : List Node) (s : State) (stack : Stack) (step : Step) (computed : Option (List NumberedLiteral)) : Type 0 where
   pub sound : (ns : List NumberedLiteral) → computed ≡ Some ns → (c : Clause) × Names s.terms ns c × Derives stack s step c
   pub complete : (c : Clause) → Derives stack s step c → (ns : List NumberedLiteral) × Names s.terms ns c × (computed ≡ Some ns)
 
 pub record ComputesSteps (nodes : List Node) (s : State) (stack : Stack) : Type 0 where
+  pub define : (t k : ℕ) → Computes nodes s stack (Define t k) (define_clause nodes t k)
   pub chain : (ns : List ℕ) → Computes nodes s stack (Chain ns) (chain_clause nodes ns)
   pub congruence : (m n : ℕ) → Computes nodes s stack (Congruence m n) (congruence_clause nodes m n)
   pub split : (t : ℕ) (z : ℤ) → Computes nodes s stack (Split t z) (split_clause nodes t z)
