@@ -1,16 +1,16 @@
 -- Splits and trichotomies by numbers.
-use Rattle.std.proofs.Common.{◌≡◌, ℕ, ℤ, pos, ◌+ℤ◌, Bool, true, false, ◌||◌, List, [], ◌∷◌, Option, Some, None, slice_get, refl, sym, ◌∙◌, ap, ap₂, subst, inl, inr, ◌⊎◌}
+use Rattle.std.proofs.Common.{◌≡◌, ℕ, ℤ, pos, ◌+ℤ◌, Bool, true, false, ◌||◌, List, [], ◌∷◌, Option, Some, None, slice_get, refl, sym, ◌∙◌, ap, subst, inl, inr}
 use Rattle.std.specs.Prelude.{if◌then◌else◌}
 use Rattle.vx_terms.specs.Sorts.{Sort, IntSort, RealSort, Operator, Less, LessEqual, same_sort}
-use Rattle.vx_terms.specs.Terms.{Term, Number, Binary, sort_of}
+use Rattle.vx_terms.specs.Terms.{Term, Number, Binary}
 use Rattle.vx_terms.proofs.Same.{sort_is}
 use Rattle.vx_terms.proofs.Values.{sort_of_formed}
-use Rattle.cs_certificate.specs.Terms.{NumberHead, BinaryHead, head, parts, HasSort}
-use Rattle.cs_certificate.specs.Certificate.{At, AllAt, no-terms, one-term, Clause, Yes, NumberedLiteral, Stack, State, Equates, Split, Trichotomy, Derives, split, trichotomy, IsNumberSort}
-use Rattle.cs_nodes.specs.Nodes.{Node, StandsFor, Represents, number_of, equality}
-use Rattle.cs_nodes.specs.Steps.{◌>>=◌, plain, Names, names-none, names-yes, number_at, binary_at, if_sort, is_number_sort, split_clause, trichotomy_clause, Computes}
+use Rattle.cs_certificate.specs.Terms.{NumberHead, BinaryHead, parts, HasSort}
+use Rattle.cs_certificate.specs.Certificate.{At, AllAt, no-terms, one-term, Clause, Yes, NumberedLiteral, Stack, State, Split, Trichotomy, Derives, split, trichotomy, IsNumberSort}
+use Rattle.cs_nodes.specs.Nodes.{Node, Represents, equality}
+use Rattle.cs_nodes.specs.Steps.{plain, Names, names-none, names-yes, number_at, binary_at, if_sort, is_number_sort, split_clause, trichotomy_clause, Computes}
 use Rattle.cs_nodes.proofs.Heads.{one_term, sort_same}
-use Rattle.cs_nodes.proofs.Find.{IsOver, one_at, one_all, found, finds}
+use Rattle.cs_nodes.proofs.Find.{one_at, one_all, found, finds}
 use Rattle.cs_nodes.proofs.Equalities.{told, tells}
 use Rattle.cs_nodes.proofs.Chains.{bind_some, bind_to}
 
@@ -78,23 +78,24 @@ module _ (nodes : List Node) (s : State) (r : Represents nodes s.terms) where
           let d = chosen (same_sort (x.0).sort IntSort) (Some (plain p.0 ∷ plain q.0 ∷ [])) ns q.2 in
           let first = binary_named LessEqual n low.0 t.0 (Number z) t.1 (number_named z low.0 low.1) p.0 p.1 in
           let second = binary_named LessEqual high.0 n (Number (z +ℤ pos 1)) t.0 (number_named (z +ℤ pos 1) high.0 high.1) t.1 q.0 q.1 in
-          let sorted : HasSort t.0 IntSort = subst (HasSort t.0) (sort_is (x.0).sort IntSort d.0) (t.2).sorted in
-          (_, subst (λ ls. Names s.terms ls (Yes (Binary LessEqual t.0 (Number z)) ∷ Yes (Binary LessEqual (Number (z +ℤ pos 1)) t.0) ∷ [])) (some_is d.1) (names-yes first (names-yes second names-none)),
-           split t.1 sorted (p.0, first) (q.0, second))
+          let sorted : HasSort t.0 IntSort = subst (HasSort t.0) (sort_is (x.0).sort IntSort d.0) (t.2).sorted in (
+            _,
+            subst (λ ls. Names s.terms ls (Yes (Binary LessEqual t.0 (Number z)) ∷ Yes (Binary LessEqual (Number (z +ℤ pos 1)) t.0) ∷ [])) (some_is d.1) (names-yes first (names-yes second names-none)),
+            split t.1 sorted (p.0, first) (q.0, second),
+          )
 
       complete : (c : Clause) → Derives stack s (Split n z) c → (ns : List NumberedLiteral) × Names s.terms ns c × (split_clause nodes n z ≡ Some ns)
       complete c (split {t = t} at h (p, first) (q, second)) =
           let x = r.every n t at in
           let low = sides LessEqual t (Number z) p first in
-          let high = sides LessEqual (Number (z +ℤ pos 1)) t q second in
-          (
+          let high = sides LessEqual (Number (z +ℤ pos 1)) t q second in (
             plain p ∷ plain q ∷ [],
             names-yes first (names-yes second names-none),
             bind_to (slice_get nodes n) _ x.0 _ x.1 (bind_to (number_at nodes z) _ low.1 _ (number_numbered z low.1 low.3)
-            (bind_to (number_at nodes (z +ℤ pos 1)) _ high.0 _ (number_numbered (z +ℤ pos 1) high.0 high.2)
-            (bind_to (binary_at nodes LessEqual n low.1) _ p _ (binary_numbered LessEqual n low.1 t (Number z) at low.3 p first)
-            (bind_to (binary_at nodes LessEqual high.0 n) _ q _ (binary_numbered LessEqual high.0 n (Number (z +ℤ pos 1)) t high.2 at q second)
-            (if_sort_to n x.0 t IntSort (Some (plain p ∷ plain q ∷ [])) x.1 at h))))),
+                (bind_to (number_at nodes (z +ℤ pos 1)) _ high.0 _ (number_numbered (z +ℤ pos 1) high.0 high.2)
+                (bind_to (binary_at nodes LessEqual n low.1) _ p _ (binary_numbered LessEqual n low.1 t (Number z) at low.3 p first)
+                (bind_to (binary_at nodes LessEqual high.0 n) _ q _ (binary_numbered LessEqual high.0 n (Number (z +ℤ pos 1)) t high.2 at q second)
+                (if_sort_to n x.0 t IntSort (Some (plain p ∷ plain q ∷ [])) x.1 at h))))),
           )
 
   number_sort : (a : Sort) → is_number_sort a ≡ true → IsNumberSort a
@@ -124,23 +125,24 @@ module _ (nodes : List Node) (s : State) (r : Represents nodes s.terms) where
           let first = binary_named Less m n t.0 u.0 t.1 u.1 p.0 p.1 in
           let g = told nodes s r m n t.0 u.0 t.1 u.1 k.0 k.1 in
           let third = binary_named Less n m u.0 t.0 u.1 t.1 q.0 q.1 in
-          let sorted : HasSort u.0 (x.0).sort = subst (HasSort u.0) (sort_is (y.0).sort (x.0).sort f.0) (u.2).sorted in
-          (_, subst (λ ls. Names s.terms ls (Yes (Binary Less t.0 u.0) ∷ Yes g.0 ∷ Yes (Binary Less u.0 t.0) ∷ [])) (some_is f.1) (names-yes first (names-yes g.1 (names-yes third names-none))),
-           trichotomy t.1 u.1 (number_sort (x.0).sort d.0) (t.2).sorted sorted (p.0, first) g.2 (q.0, third))
+          let sorted : HasSort u.0 (x.0).sort = subst (HasSort u.0) (sort_is (y.0).sort (x.0).sort f.0) (u.2).sorted in (
+            _,
+            subst (λ ls. Names s.terms ls (Yes (Binary Less t.0 u.0) ∷ Yes g.0 ∷ Yes (Binary Less u.0 t.0) ∷ [])) (some_is f.1) (names-yes first (names-yes g.1 (names-yes third names-none))),
+            trichotomy t.1 u.1 (number_sort (x.0).sort d.0) (t.2).sorted sorted (p.0, first) g.2 (q.0, third),
+          )
 
       complete : (c : Clause) → Derives stack s (Trichotomy m n) c → (ns : List NumberedLiteral) × Names s.terms ns c × (trichotomy_clause nodes m n ≡ Some ns)
       complete c (trichotomy {a = t} {b = u} {e = e} {sort = a} at bt i f g (p, first) w (q, third)) =
           let x = r.every m t at in
           let y = r.every n u bt in
           let l = plain p ∷ plain w.number ∷ plain q ∷ [] in
-          let is : (x.0).sort ≡ a = sort_at m x.0 t a x.1 at f in
-          (
+          let is : (x.0).sort ≡ a = sort_at m x.0 t a x.1 at f in (
             l,
             names-yes first (names-yes w.here (names-yes third names-none)),
             bind_to (slice_get nodes m) _ x.0 _ x.1 (bind_to (slice_get nodes n) _ y.0 _ y.1
-            (bind_to (binary_at nodes Less m n) _ p _ (binary_numbered Less m n t u at bt p first)
-            (bind_to (equality nodes m n) _ w.number _ (tells nodes s r m n t u at bt w.number e w.here w)
-            (bind_to (binary_at nodes Less n m) _ q _ (binary_numbered Less n m u t bt at q third)
-            (ap (λ d. if d then if_sort (x.0).sort y.0 (Some l) else None) (ap is_number_sort is ∙ sort_number a i)
-            ∙ ap (λ b. if_sort b y.0 (Some l)) is ∙ if_sort_to n y.0 u a (Some l) y.1 bt g))))),
+                (bind_to (binary_at nodes Less m n) _ p _ (binary_numbered Less m n t u at bt p first)
+                (bind_to (equality nodes m n) _ w.number _ (tells nodes s r m n t u at bt w.number e w.here w)
+                (bind_to (binary_at nodes Less n m) _ q _ (binary_numbered Less n m u t bt at q third)
+                (ap (λ d. if d then if_sort (x.0).sort y.0 (Some l) else None) (ap is_number_sort is ∙ sort_number a i)
+                ∙ ap (λ b. if_sort b y.0 (Some l)) is ∙ if_sort_to n y.0 u a (Some l) y.1 bt g))))),
           )

@@ -1,13 +1,13 @@
 -- The table of definitions by numbers.
-use Rattle.std.proofs.Common.{◌≡◌, ℕ, zero, suc, Bool, true, false, List, [], ◌∷◌, map, length, Option, Some, None, slice_get, refl, sym, ◌∙◌, ap, subst, eqb-true, eq-eqb}
+use Rattle.std.proofs.Common.{◌≡◌, ℕ, zero, suc, true, false, List, [], ◌∷◌, map, length, Option, Some, None, slice_get, refl, sym, ◌∙◌, ap, subst, eqb-true, eq-eqb}
 use Rattle.std.specs.Prelude.{nat_eq, if◌then◌else◌}
 use Rattle.vx_terms.specs.Sorts.{BoolSort, Operator, And, Or, Implies, Equal, Less, LessEqual, Add, Subtract, Multiply, Div, Mod, same_sort}
 use Rattle.vx_terms.specs.Terms.{Term, Truth, Number, Part, Constant, Apply, Not, Binary, Ite, AllOf, SomeOf}
 use Rattle.vx_terms.proofs.Same.{sort_is}
 use Rattle.cs_certificate.specs.Terms.{head, items, parts, HasSort}
 use Rattle.cs_certificate.specs.Certificate.{At, AllAt, no-terms, one-term, Clause, Yes, No, NumberedLiteral, Stack, State, IsAnd, and-of-two, and-of-more, IsOr, or-of-two, or-of-more, Defines, true-is, false-is, not-0, not-1, and-part, and-all, or-part, or-all, implies-0, implies-1, implies-2, ite-0, ite-1, ite-2, ite-3, equal-0, equal-1, equal-2, equal-3, Define, Derives, define}
-use Rattle.cs_nodes.specs.Nodes.{Node, StandsFor, Represents}
-use Rattle.cs_nodes.specs.Steps.{◌>>=◌, plain, denial, Names, names-none, names-yes, names-no, if_sort, if_bool, truth_row, not_row, last_row, and_row, or_row, implies_row, ite_row, equal_row, define_by, define_clause, Computes}
+use Rattle.cs_nodes.specs.Nodes.{Node, Represents}
+use Rattle.cs_nodes.specs.Steps.{plain, denial, Names, names-none, names-yes, names-no, if_bool, and_row, or_row, ite_row, equal_row, define_by, define_clause, Computes}
 use Rattle.cs_nodes.proofs.Find.{one_at}
 use Rattle.cs_nodes.proofs.Chains.{bind_some, bind_to}
 use Rattle.cs_nodes.proofs.Comparisons.{chosen, if_sort_to}
@@ -162,19 +162,23 @@ module _ (nodes : List Node) (s : State) (r : Represents nodes s.terms) where
       (_, names-no at (names-yes p.2 names-none), and_found t n xs ps i all k ∙ ap (λ o. and_row o n ps k) p.1)
   by_complete {t = t} n ps at all (and-all {xs = xs} i) =
       let every = subst (AllAt s.terms ps) (and_parts i) all in
-      let l : length ps ≡ length xs = same_length s.terms every in
-      (plain n ∷ map denial ps, names-yes at (all_denied s.terms every),
-       and_found t n xs ps i all (length xs) ∙ ap (λ o. and_row o n ps (length xs)) (ap (slice_get ps) (sym l) ∙ past_end ps)
-       ∙ ap (λ d. if d then Some (plain n ∷ map denial ps) else None) (eq-eqb (length xs) (length ps) (sym l)))
+      let l : length ps ≡ length xs = same_length s.terms every in (
+        plain n ∷ map denial ps,
+        names-yes at (all_denied s.terms every),
+        and_found t n xs ps i all (length xs) ∙ ap (λ o. and_row o n ps (length xs)) (ap (slice_get ps) (sym l) ∙ past_end ps)
+            ∙ ap (λ d. if d then Some (plain n ∷ map denial ps) else None) (eq-eqb (length xs) (length ps) (sym l)),
+      )
   by_complete {t = t} n ps at all (or-part {xs = xs} {k = k} i h) =
       let p = number_at_part s.terms k _ (subst (AllAt s.terms ps) (or_parts i) all) h in
       (_, names-yes at (names-no p.2 names-none), or_found t n xs ps i all k ∙ ap (λ o. or_row o n ps k) p.1)
   by_complete {t = t} n ps at all (or-all {xs = xs} i) =
       let every = subst (AllAt s.terms ps) (or_parts i) all in
-      let l : length ps ≡ length xs = same_length s.terms every in
-      (denial n ∷ map plain ps, names-no at (all_plain s.terms every),
-       or_found t n xs ps i all (length xs) ∙ ap (λ o. or_row o n ps (length xs)) (ap (slice_get ps) (sym l) ∙ past_end ps)
-       ∙ ap (λ d. if d then Some (denial n ∷ map plain ps) else None) (eq-eqb (length xs) (length ps) (sym l)))
+      let l : length ps ≡ length xs = same_length s.terms every in (
+        denial n ∷ map plain ps,
+        names-no at (all_plain s.terms every),
+        or_found t n xs ps i all (length xs) ∙ ap (λ o. or_row o n ps (length xs)) (ap (slice_get ps) (sym l) ∙ past_end ps)
+            ∙ ap (λ d. if d then Some (denial n ∷ map plain ps) else None) (eq-eqb (length xs) (length ps) (sym l)),
+      )
   by_complete n _ at (one-term p (one-term q no-terms)) (implies-0 x y) = (_, names-no at (names-no p (names-yes q names-none)), refl)
   by_complete n _ at (one-term p (one-term q no-terms)) (implies-1 x y) = (_, names-yes at (names-yes p names-none), refl)
   by_complete n _ at (one-term p (one-term q no-terms)) (implies-2 x y) = (_, names-yes at (names-no q names-none), refl)

@@ -1,12 +1,12 @@
 -- Divisions by numbers.
-use Rattle.std.proofs.Common.{◌≡◌, ℕ, zero, suc, ℤ, pos, unsigned_abs, List, [], ◌∷◌, Option, Some, None, slice_get, refl, sym, ◌∙◌, ap, subst, inl, inr}
+use Rattle.std.proofs.Common.{◌≡◌, ℕ, zero, suc, ℤ, pos, unsigned_abs, List, [], ◌∷◌, Some, slice_get, refl, sym, ◌∙◌, ap, subst, inl, inr}
 use Rattle.vx_terms.specs.Sorts.{IntSort, Equal, Less, LessEqual, Add, Multiply, Div, Mod, same_sort}
 use Rattle.vx_terms.specs.Terms.{Term, Number, Binary}
 use Rattle.vx_terms.proofs.Same.{sort_is}
 use Rattle.cs_certificate.specs.Terms.{NumberHead, head, HasSort}
 use Rattle.cs_certificate.specs.Certificate.{At, Clause, Yes, NumberedLiteral, Stack, State, Equates, Divide, Derives, divide-0, divide-1, divide-2, divided}
-use Rattle.cs_nodes.specs.Nodes.{Node, StandsFor, Represents, equality}
-use Rattle.cs_nodes.specs.Steps.{◌>>=◌, plain, Names, names-none, names-yes, number_at, binary_at, if_sort, divisor, divide_row, divide_clause, Computes}
+use Rattle.cs_nodes.specs.Nodes.{Node, Represents, equality}
+use Rattle.cs_nodes.specs.Steps.{plain, Names, names-none, names-yes, number_at, binary_at, divisor, divide_row, divide_clause, Computes}
 use Rattle.cs_nodes.proofs.Find.{one_at}
 use Rattle.cs_nodes.proofs.Equalities.{told, tells}
 use Rattle.cs_nodes.proofs.Chains.{bind_some, bind_to}

@@ -1,18 +1,18 @@
 -- Picks and divisions by numbers.
-use Rattle.std.proofs.Common.{◌≡◌, ℕ, zero, suc, ℤ, pos, negsuc, unsigned_abs, Bool, true, false, List, [], ◌∷◌, Option, Some, None, slice_get, refl, sym, ◌∙◌, ap, subst, inl, inr}
+use Rattle.std.proofs.Common.{◌≡◌, ℕ, zero, suc, ℤ, pos, negsuc, Bool, true, false, List, [], ◌∷◌, Option, Some, None, slice_get, refl, sym, ◌∙◌, ap, subst}
 use Rattle.std.specs.Prelude.{if◌then◌else◌}
-use Rattle.vx_terms.specs.Sorts.{Sort, IntSort, BoolSort, Less, LessEqual, Add, Multiply, Div, Mod, same_sort}
+use Rattle.vx_terms.specs.Sorts.{BoolSort, same_sort}
 use Rattle.vx_terms.specs.Terms.{Term, Truth, Number, Part, Constant, Apply, Not, Binary, Ite, AllOf, SomeOf}
 use Rattle.vx_terms.proofs.Same.{sort_is}
-use Rattle.cs_certificate.specs.Terms.{Head, TruthHead, NumberHead, PartHead, ConstantHead, ApplyHead, BinaryHead, NotHead, IteHead, AllHead, SomeHead, head, parts, equal, HasSort}
-use Rattle.cs_certificate.specs.Certificate.{At, AllAt, no-terms, one-term, Clause, Yes, No, NumberedLiteral, Stack, State, Equates, Pick, Divide, Derives, pick-then, pick-else, divide-0, divide-1, divide-2, divided}
-use Rattle.cs_nodes.specs.Nodes.{Node, StandsFor, Represents, same_head, equality}
-use Rattle.cs_nodes.specs.Steps.{◌>>=◌, plain, denial, Names, names-none, names-yes, names-no, number_at, binary_at, if_sort, pick_row, pick_parts, pick_clause, divisor, divide_row, divide_clause, Computes}
+use Rattle.cs_certificate.specs.Terms.{Head, TruthHead, NumberHead, PartHead, ConstantHead, ApplyHead, BinaryHead, NotHead, IteHead, AllHead, SomeHead, head, parts, HasSort}
+use Rattle.cs_certificate.specs.Certificate.{At, AllAt, no-terms, one-term, Clause, Yes, No, NumberedLiteral, Stack, State, Pick, Derives, pick-then, pick-else}
+use Rattle.cs_nodes.specs.Nodes.{Node, Represents, same_head, equality}
+use Rattle.cs_nodes.specs.Steps.{plain, denial, Names, names-none, names-yes, names-no, pick_row, pick_parts, pick_clause, divisor, Computes}
 use Rattle.cs_nodes.proofs.Heads.{head_is, sort_same}
 use Rattle.cs_nodes.proofs.Find.{one_at}
 use Rattle.cs_nodes.proofs.Equalities.{told, tells}
 use Rattle.cs_nodes.proofs.Chains.{bind_some, bind_to}
-use Rattle.cs_nodes.proofs.Comparisons.{one_sort, chosen, number_named, number_numbered, binary_named, binary_numbered, sides, sort_at, if_sort_to}
+use Rattle.cs_nodes.proofs.Comparisons.{chosen, sort_at}
 
 -- what a head says of its term
 record IsChoice (t : Term) : Type 0 where

@@ -1,5 +1,5 @@
 -- The clauses of steps, by numbers.
-use Rattle.std.specs.Prelude.{◌≡◌, ℕ, zero, suc, ℤ, pos, negsuc, ◌+ℤ◌, unsigned_abs, Bool, true, false, ◌&&◌, ◌||◌, nat_eq, map, length, slice_get, if◌then◌else◌, List, [], ◌∷◌, ◌++◌, Option, Some, None}
+use Rattle.std.specs.Prelude.{◌≡◌, ℕ, zero, suc, ℤ, pos, ◌+ℤ◌, unsigned_abs, Bool, true, false, ◌||◌, nat_eq, map, length, slice_get, if◌then◌else◌, List, [], ◌∷◌, ◌++◌, Option, Some, None}
 use Rattle.vx_terms.specs.Sorts.{Sort, IntSort, BoolSort, RealSort, Operator, And, Or, Implies, Equal, Less, LessEqual, Add, Multiply, Div, Mod, same_sort}
 use Rattle.vx_terms.specs.Terms.{Term}
 use Rattle.cs_certificate.specs.Terms.{Head, TruthHead, NumberHead, BinaryHead, NotHead, IteHead, AllHead, SomeHead}
