@@ -3,6 +3,8 @@
 
 mod look;
 mod node;
+mod steps;
 
 pub use look::{equality, number_of};
 pub use node::{Head, Node};
+pub use steps::{Literal, Stop, chain, trichotomy};
