@@ -1,5 +1,5 @@
 //! The clauses of steps.
-ghost use Rattle.std.specs.Prelude.{◌≡◌, ℕ, ◌<◌, ◌^◌, length, slice_get, List, [], ◌∷◌};
+ghost use Rattle.std.specs.Prelude.{◌≡◌, ℕ, ◌<◌, ◌^◌, length, slice_get, List, [], ◌∷◌, map};
 ghost use Rattle.vx_terms.specs.Sorts.{IntSort};
 ghost use Rattle.vx_terms.specs.Views.{operator, sort};
 ghost use Rattle.cs_nodes.specs.Steps as clean;
@@ -165,4 +165,192 @@ fn three(alloc: Global, a: Literal, b: Literal, c: Literal) -> Result<Vec<Litera
     clause.push(b)?;
     clause.push(c)?;
     Ok(clause)
+}
+
+fn one(alloc: Global, a: Literal) -> Result<Vec<Literal>, Stop>
+    ensures { Gives (λ v. clause v.items) result (Some (numbered a ∷ [])) }
+{
+    let mut clause = Vec::new(alloc);
+    clause.push(a)?;
+    Ok(clause)
+}
+
+fn two(alloc: Global, a: Literal, b: Literal) -> Result<Vec<Literal>, Stop>
+    ensures { Gives (λ v. clause v.items) result (Some (numbered a ∷ numbered b ∷ [])) }
+{
+    let mut clause = Vec::new(alloc);
+    clause.push(a)?;
+    clause.push(b)?;
+    Ok(clause)
+}
+
+/// Rows of a choice t that isn't Bool.
+fn pick_row(
+    alloc: Global,
+    all: &[Node],
+    t: u32,
+    parts: (u32, u32, u32),
+    row: u32,
+) -> Result<Vec<Literal>, Stop>
+    requires { length all.now < 2 ^ 32 }
+    ensures { Gives (λ v. clause v.items) result (clean.pick_row (nodes all.now) t parts.0 parts.1 parts.2 row) }
+{
+    let (test, left, right) = parts;
+    match row {
+        0 => {
+            let equal = equality_at(all, t, left)?;
+            two(alloc, denial(test), plain(equal))
+        }
+        1 => {
+            let equal = equality_at(all, t, right)?;
+            two(alloc, plain(test), plain(equal))
+        }
+        _ => Err(Stop::Miss),
+    }
+}
+
+/// `def` of true and false.
+fn truth_row(alloc: Global, t: u32, holds: bool, row: u32) -> Result<Vec<Literal>, Stop>
+    ensures { Gives (λ v. clause v.items) result (clean.truth_row t holds row) }
+{
+    match (holds, row) {
+        (true, 0) => one(alloc, plain(t)),
+        (false, 0) => one(alloc, denial(t)),
+        (_, _) => Err(Stop::Miss),
+    }
+}
+
+/// `def` of a negation.
+fn not_row(alloc: Global, t: u32, x: u32, row: u32) -> Result<Vec<Literal>, Stop>
+    ensures { Gives (λ v. clause v.items) result (clean.not_row t x row) }
+{
+    match row {
+        0 => two(alloc, denial(t), denial(x)),
+        1 => two(alloc, plain(t), plain(x)),
+        _ => Err(Stop::Miss),
+    }
+}
+
+/// `def` of an implication.
+fn implies_row(alloc: Global, t: u32, x: u32, y: u32, row: u32) -> Result<Vec<Literal>, Stop>
+    ensures { Gives (λ v. clause v.items) result (clean.implies_row t x y row) }
+{
+    match row {
+        0 => three(alloc, denial(t), denial(x), plain(y)),
+        1 => two(alloc, plain(t), plain(x)),
+        2 => two(alloc, plain(t), denial(y)),
+        _ => Err(Stop::Miss),
+    }
+}
+
+/// `def` of a choice of Bool terms.
+fn ite_row(alloc: Global, t: u32, parts: (u32, u32, u32), row: u32) -> Result<Vec<Literal>, Stop>
+    ensures { Gives (λ v. clause v.items) result (clean.ite_row t parts.0 parts.1 parts.2 row) }
+{
+    let (c, x, y) = parts;
+    match row {
+        0 => three(alloc, denial(t), denial(c), plain(x)),
+        1 => three(alloc, plain(t), denial(c), denial(x)),
+        2 => three(alloc, denial(t), plain(c), plain(y)),
+        3 => three(alloc, plain(t), plain(c), denial(y)),
+        _ => Err(Stop::Miss),
+    }
+}
+
+/// `def` of an equality of Bool terms.
+fn equal_row(alloc: Global, t: u32, x: u32, y: u32, row: u32) -> Result<Vec<Literal>, Stop>
+    ensures { Gives (λ v. clause v.items) result (clean.equal_row t x y row) }
+{
+    match row {
+        0 => three(alloc, denial(t), denial(x), plain(y)),
+        1 => three(alloc, denial(t), plain(x), denial(y)),
+        2 => three(alloc, plain(t), plain(x), plain(y)),
+        3 => three(alloc, plain(t), denial(x), denial(y)),
+        _ => Err(Stop::Miss),
+    }
+}
+
+/// The first literal, and the denials of all parts.
+fn with_denials(alloc: Global, first: Literal, parts: &[u32]) -> Result<Vec<Literal>, Stop>
+    ensures { Gives (λ v. clause v.items) result (Some (numbered first ∷ map clean.denial parts.now)) }
+{
+    let mut clause = Vec::new(alloc);
+    clause.push(first)?;
+    for part in parts {
+        clause.push(denial(*part))?;
+    }
+    Ok(clause)
+}
+
+/// The first literal, and all parts.
+fn with_parts(alloc: Global, first: Literal, parts: &[u32]) -> Result<Vec<Literal>, Stop>
+    ensures { Gives (λ v. clause v.items) result (Some (numbered first ∷ map clean.plain parts.now)) }
+{
+    let mut clause = Vec::new(alloc);
+    clause.push(first)?;
+    for part in parts {
+        clause.push(plain(*part))?;
+    }
+    Ok(clause)
+}
+
+/// `def` of an `and`.
+fn and_row(alloc: Global, t: u32, parts: &[u32], row: u32) -> Result<Vec<Literal>, Stop>
+    ensures { Gives (λ v. clause v.items) result (clean.and_row (slice_get parts.now row) t parts.now row) }
+{
+    if let Some(part) = parts.get(row as usize) {
+        return two(alloc, denial(t), plain(*part));
+    }
+    if row as usize != parts.len() {
+        return Err(Stop::Miss);
+    }
+    with_denials(alloc, plain(t), parts)
+}
+
+/// `def` of an `or`.
+fn or_row(alloc: Global, t: u32, parts: &[u32], row: u32) -> Result<Vec<Literal>, Stop>
+    ensures { Gives (λ v. clause v.items) result (clean.or_row (slice_get parts.now row) t parts.now row) }
+{
+    if let Some(part) = parts.get(row as usize) {
+        return two(alloc, plain(t), denial(*part));
+    }
+    if row as usize != parts.len() {
+        return Err(Stop::Miss);
+    }
+    with_parts(alloc, denial(t), parts)
+}
+
+/// `pick` of the parts of a choice.
+fn pick_parts(
+    alloc: Global,
+    all: &[Node],
+    t: u32,
+    row: u32,
+    parts: &[u32],
+) -> Result<Vec<Literal>, Stop>
+    requires { length all.now < 2 ^ 32 }
+    ensures { Gives (λ v. clause v.items) result (clean.pick_parts (nodes all.now) t row parts.now) }
+{
+    match parts {
+        [test, left, right] => {
+            let node = node_at(all, *left)?;
+            if node.sort.is_same(&Sort::Bool) {
+                return Err(Stop::Miss);
+            }
+            pick_row(alloc, all, t, (*test, *left, *right), row)
+        }
+        _ => Err(Stop::Miss),
+    }
+}
+
+/// `pick`: a choice that isn't Bool is its left or its right part.
+pub fn pick(alloc: Global, all: &[Node], t: u32, row: u32) -> Result<Vec<Literal>, Stop>
+    requires { length all.now < 2 ^ 32 }
+    ensures { Gives (λ v. clause v.items) result (clean.pick_clause (nodes all.now) t row) }
+{
+    let node = node_at(all, t)?;
+    if !node.head.is_same(&Head::Ite) {
+        return Err(Stop::Miss);
+    }
+    pick_parts(alloc, all, t, row, &node.parts)
 }
