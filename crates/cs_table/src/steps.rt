@@ -4,7 +4,8 @@ ghost use Rattle.vx_terms.specs.Sorts.{IntSort};
 ghost use Rattle.vx_terms.specs.Views.{operator, sort};
 ghost use Rattle.cs_nodes.specs.Steps as clean;
 ghost use Rattle.cs_nodes.specs.Nodes as named;
-ghost use Rattle.cs_table.specs.Views.{node, nodes};
+ghost use Rattle.cs_certificate.specs.Terms.{BinaryHead};
+ghost use Rattle.cs_table.specs.Views.{head, node, nodes};
 ghost use Rattle.cs_table.specs.Gives.{Gives, clause, numbered};
 
 use crate::{Head, Node, equality, number_of};
@@ -353,4 +354,105 @@ pub fn pick(alloc: Global, all: &[Node], t: u32, row: u32) -> Result<Vec<Literal
         return Err(Stop::Miss);
     }
     pick_parts(alloc, all, t, row, &node.parts)
+}
+
+/// `def` of an equality, where its sides are Bool.
+fn bool_equal_row(
+    alloc: Global,
+    all: &[Node],
+    t: u32,
+    sides: (u32, u32),
+    row: u32,
+) -> Result<Vec<Literal>, Stop>
+    ensures { Gives (λ v. clause v.items) result (clean.if_bool (nodes all.now) sides.0 (clean.if_bool (nodes all.now) sides.1 (clean.equal_row t sides.0 sides.1 row))) }
+{
+    let (x, y) = sides;
+    let left = node_at(all, x)?;
+    if !left.sort.is_same(&Sort::Bool) {
+        return Err(Stop::Miss);
+    }
+    let right = node_at(all, y)?;
+    if !right.sort.is_same(&Sort::Bool) {
+        return Err(Stop::Miss);
+    }
+    equal_row(alloc, t, x, y, row)
+}
+
+/// `def` of a choice, where its parts are Bool.
+fn bool_ite_row(
+    alloc: Global,
+    all: &[Node],
+    t: u32,
+    parts: (u32, u32, u32),
+    row: u32,
+) -> Result<Vec<Literal>, Stop>
+    ensures { Gives (λ v. clause v.items) result (clean.if_bool (nodes all.now) parts.1 (clean.ite_row t parts.0 parts.1 parts.2 row)) }
+{
+    let node = node_at(all, parts.1)?;
+    if !node.sort.is_same(&Sort::Bool) {
+        return Err(Stop::Miss);
+    }
+    ite_row(alloc, t, parts, row)
+}
+
+/// `def` of an operator's term.
+fn operator_row(
+    alloc: Global,
+    all: &[Node],
+    t: u32,
+    of: Operator,
+    parts: &[u32],
+    row: u32,
+) -> Result<Vec<Literal>, Stop>
+    ensures { Gives (λ v. clause v.items) result (clean.define_by (nodes all.now) t (BinaryHead (operator of)) parts.now row) }
+{
+    match of {
+        Operator::And => and_row(alloc, t, parts, row),
+        Operator::Or => or_row(alloc, t, parts, row),
+        Operator::Implies => match parts {
+            [x, y] => implies_row(alloc, t, *x, *y, row),
+            _ => Err(Stop::Miss),
+        },
+        Operator::Equal => match parts {
+            [x, y] => bool_equal_row(alloc, all, t, (*x, *y), row),
+            _ => Err(Stop::Miss),
+        },
+        _ => Err(Stop::Miss),
+    }
+}
+
+/// The row of the term's table.
+fn define_by(
+    alloc: Global,
+    all: &[Node],
+    t: u32,
+    of: &Head,
+    parts: &[u32],
+    row: u32,
+) -> Result<Vec<Literal>, Stop>
+    ensures { Gives (λ v. clause v.items) result (clean.define_by (nodes all.now) t (head of.now) parts.now row) }
+{
+    match of {
+        Head::Truth(holds) => truth_row(alloc, t, *holds, row),
+        Head::Not => match parts {
+            [x] => not_row(alloc, t, *x, row),
+            _ => Err(Stop::Miss),
+        },
+        Head::Binary(of) => operator_row(alloc, all, t, *of, parts, row),
+        Head::All => and_row(alloc, t, parts, row),
+        Head::Some => or_row(alloc, t, parts, row),
+        Head::Ite => match parts {
+            [c, x, y] => bool_ite_row(alloc, all, t, (*c, *x, *y), row),
+            _ => Err(Stop::Miss),
+        },
+        _ => Err(Stop::Miss),
+    }
+}
+
+/// `def`: a row of the table of the Bool term t.
+pub fn define(alloc: Global, all: &[Node], t: u32, row: u32) -> Result<Vec<Literal>, Stop>
+    ensures { Gives (λ v. clause v.items) result (clean.define_clause (nodes all.now) t row) }
+{
+    let node = node_at(all, t)?;
+    define_by(alloc, all, t, &node.head, &node.parts, row)
 }
