@@ -1,14 +1,16 @@
 -- A finished certificate refutes.
-use Rattle.std.proofs.Common.{◌≡◌, List, [], true, false}
+use Rattle.std.proofs.Common.{◌≡◌, List, [], ◌∷◌, true, false}
 use Rattle.vx_terms.specs.Interpretations.{Interpretation, Each, AllTrue, IsTrueIn}
-use Rattle.cs_certificate.specs.Certificate.{Clause, Step, Stack, State, Derives, input, define, pick-then, pick-else, chain, congruence, farkas, split, trichotomy, divide-0, divide-1, divide-2, propagate, Leads, stays, names, derives}
-use Rattle.cs_certificate.specs.Law.{Law}
+use Rattle.cs_certificate.specs.Certificate.{live, Clause, Step, Stack, State, Derives, input, define, pick-then, pick-else, chain, congruence, farkas, split, trichotomy, divide-0, divide-1, divide-2, propagate, Leads, stays, names, derives}
+use Rattle.vx_smt_meaning.specs.Commands.{assertions_of}
+use Rattle.cs_certificate.specs.Law.{Law, LiveLaw}
 use Rattle.cs_certificate.proofs.Clauses.{is_true, Holds, each_at, each_append, or_left}
 use Rattle.cs_certificate.proofs.Values.{congruent}
 use Rattle.cs_certificate.proofs.Steps.{define_holds, equates_true, links_hold, pairs_hold, last_holds, propagate_holds, pick_holds, unpicked_holds}
 use Rattle.cs_certificate.proofs.Numbers.{split_holds, trichotomy_holds, divide_0, divide_1, divide_2}
 use Rattle.cs_certificate.proofs.Refutation.{farkas_holds}
 use Rattle.std.proofs.Common.{inl, inr}
+use mathlib.Core.List.{reverse_aux}
 
 -- what a step derives holds
 derived_holds : (i : Interpretation) (stack : Stack) (s : State) {step : Step} {c : Clause} → AllTrue i stack.assertions → Each (Holds i) s.clauses → Derives stack s step c → Holds i c
@@ -39,3 +41,11 @@ sound stack steps (s, leads, empty) i model =
   where
     impossible : false ≡ true → ⊥
     impossible e = cc
+
+-- the order of assertions doesn't matter
+each_turned : {A : Type 0} (P : A → Type 0) (xs ys : List A) → Each P xs → Each P ys → Each P (reverse_aux xs ys)
+each_turned P [] ys h k = k
+each_turned P (x ∷ xs) ys h k = each_turned P xs (x ∷ ys) h.1 (h.0, k)
+
+pub live_sound : LiveLaw
+live_sound levels steps finished i model = sound (live levels) steps finished i (each_turned (IsTrueIn i) (assertions_of levels) [] model tt)

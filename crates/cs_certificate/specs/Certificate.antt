@@ -1,10 +1,11 @@
 -- Certificates: their steps, the rule of each, and when one is finished.
-use Rattle.std.specs.Prelude.{◌≡◌, ℕ, ◌<◌, ℤ, pos, ◌+ℤ◌, ◌⊎◌, true, false, unsigned_abs, slice_get, int_lt, int_le, List, [], ◌∷◌, ◌++◌, map, length, Some}
+use Rattle.std.specs.Prelude.{◌≡◌, ℕ, ◌<◌, ℤ, pos, ◌+ℤ◌, ◌⊎◌, true, false, unsigned_abs, slice_get, int_lt, int_le, List, [], ◌∷◌, ◌++◌, map, reverse, length, Some}
 use Rattle.vx_frac.specs.Fractions.{Fraction}
 use Rattle.vx_terms.specs.Sorts.{Sort, IntSort, BoolSort, RealSort, Symbol, And, Or, Implies, Less, LessEqual, Add, Multiply, Div, Mod}
 use Rattle.vx_terms.specs.Terms.{Term, Truth, Number, Constant, Apply, Not, Binary, Ite, AllOf, SomeOf, Terms, NoTerms, MoreTerms, sort_of}
 use Rattle.vx_terms.specs.Interpretations.{Each}
-use Rattle.cs_certificate.specs.Terms.{head, items, parts, equal, distinct, subterms, numbered, HasSort, Declaration}
+use Rattle.vx_smt_meaning.specs.Commands.{Declared, Level, assertions_of, declared_in}
+use Rattle.cs_certificate.specs.Terms.{head, items, parts, equal, distinct, subterms, numbered, HasSort}
 use Rattle.cs_certificate.specs.Linear.{Constraint, Relation, AtMostZero, BelowZero, IsZero, Row, combination}
 
 -- a term or its negation
@@ -43,7 +44,11 @@ pub data Step : Type 0 where
 -- the live assertions and symbols
 pub record Stack : Type 0 where
   pub assertions : List Term
-  pub symbols : List Declaration
+  pub symbols : List Declared
+
+-- what is live on some levels; the first assertion stands first
+abbrev pub live : List Level → Stack
+live levels = record { assertions = reverse (assertions_of levels); symbols = declared_in levels }
 
 -- the terms by their numbers, and the clauses by theirs
 pub record State : Type 0 where
@@ -200,7 +205,7 @@ pub data Derives (stack : Stack) (s : State) : Step → Clause → Type 0 where
 
 -- a symbol is declared on a live level, with these sorts of arguments
 abbrev pub IsLive : Stack → Symbol → List Sort → Sort → Type 0
-IsLive stack f ss a = Contains stack.symbols record { symbol = f; arguments = ss; result = a }
+IsLive stack f ss a = Contains stack.symbols record { symbol = f; takes = ss; gives = a }
 
 abbrev mutual
   pub AreLive : Stack → Term → Type 0

@@ -77,9 +77,3 @@ numbered ts = distinct (parts_of ts)
 -- well-sorted, over some numbered symbols
 abbrev pub HasSort : Term → Sort → Type 0
 HasSort t a = (n : ℕ) × Formed n t a
-
--- a symbol, with the sorts of its arguments and of its value
-pub record Declaration : Type 0 where
-  pub symbol : Symbol
-  pub arguments : List Sort
-  pub result : Sort

@@ -12,7 +12,7 @@ variable n = Constant (Variable n) IntSort
 abbrev pub stack : Stack
 stack = record {
   assertions = equal (variable 2) (Binary Add (variable 0) (Number (pos 1))) ∷ Not (Binary Less (variable 0) (variable 2)) ∷ [];
-  symbols = record { symbol = Variable 0; arguments = []; result = IntSort } ∷ record { symbol = Variable 2; arguments = []; result = IntSort } ∷ [];
+  symbols = record { symbol = Variable 0; takes = []; gives = IntSort } ∷ record { symbol = Variable 2; takes = []; gives = IntSort } ∷ [];
 }
 
 abbrev pub plain : ℕ → NumberedLiteral

@@ -1,10 +1,10 @@
 -- Chains and congruences by numbers.
-use Rattle.std.proofs.Common.{◌≡◌, ℕ, Bool, true, false, List, [], ◌∷◌, ◌++◌, Option, Some, None, slice_get, refl, sym, ◌∙◌, ap, ap₂, subst, inl, inr, ◌⊎◌, eqb-true, eq-eqb}
+use Rattle.std.proofs.Common.{◌≡◌, ℕ, Bool, true, false, List, [], ◌∷◌, ◌++◌, Option, Some, None, slice_get, refl, sym, ◌∙◌, ap, subst, eqb-true, eq-eqb}
 use Rattle.std.specs.Prelude.{nat_eq, if◌then◌else◌}
 use Rattle.vx_terms.specs.Terms.{Term}
-use Rattle.cs_certificate.specs.Terms.{head, parts, equal}
-use Rattle.cs_certificate.specs.Certificate.{At, AllAt, no-terms, one-term, Clause, Yes, No, NumberedLiteral, Stack, State, Equates, Links, end, link, Pairs, no-pairs, same, differ, Chain, Congruence, Derives, chain, congruence}
-use Rattle.cs_nodes.specs.Nodes.{Node, StandsFor, Represents, same_head, equality}
+use Rattle.cs_certificate.specs.Terms.{head, parts}
+use Rattle.cs_certificate.specs.Certificate.{At, AllAt, no-terms, one-term, Clause, Yes, No, NumberedLiteral, Stack, State, Links, end, link, Pairs, no-pairs, same, differ, Chain, Congruence, Derives, chain, congruence}
+use Rattle.cs_nodes.specs.Nodes.{Node, Represents, same_head, equality}
 use Rattle.cs_nodes.specs.Steps.{◌>>=◌, plain, denial, Names, names-none, names-yes, names-no, links, chain_clause, with_pair, pairs, all_pairs, congruence_clause, Computes}
 use Rattle.cs_nodes.proofs.Heads.{head_is, head_same}
 use Rattle.cs_nodes.proofs.Find.{one_at}

@@ -1,14 +1,14 @@
 -- The equality of two numbered terms.
-use Rattle.std.proofs.Common.{◌≡◌, ℕ, ◌<◌, ◌≤◌, Bool, true, false, List, [], ◌∷◌, Option, Some, None, refl, sym, ◌∙◌, ap, subst, inl, inr, ◌⊎◌, arith}
+use Rattle.std.proofs.Common.{◌≡◌, ℕ, ◌<◌, ◌≤◌, Bool, true, false, List, [], ◌∷◌, Option, Some, None, refl, ◌∙◌, ap, subst, inl, inr, ◌⊎◌, arith}
 use Rattle.std.specs.Prelude.{nat_lt, if◌then◌else◌}
 use Rattle.std.proofs.lemmas.Bool.{ltb-true, ltb-false}
 use Rattle.vx_terms.specs.Sorts.{Equal}
 use Rattle.vx_terms.specs.Terms.{Term}
-use Rattle.cs_certificate.specs.Terms.{BinaryHead, head, parts, equal}
-use Rattle.cs_certificate.specs.Certificate.{At, AllAt, no-terms, one-term, State, IsEquality, Equates}
+use Rattle.cs_certificate.specs.Terms.{BinaryHead, parts, equal}
+use Rattle.cs_certificate.specs.Certificate.{At, no-terms, one-term, State, IsEquality, Equates}
 use Rattle.cs_nodes.specs.Nodes.{Node, Represents, number_of, first_of, equality}
 use Rattle.cs_nodes.proofs.Heads.{one_term}
-use Rattle.cs_nodes.proofs.Find.{IsOver, one_all, found, finds}
+use Rattle.cs_nodes.proofs.Find.{one_all, found, finds}
 
 -- k is one of the two, and at most each
 pub record IsFirst (x y : Option ℕ) (k : ℕ) : Type 0 where

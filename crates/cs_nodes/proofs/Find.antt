@@ -1,14 +1,12 @@
 -- The look-up of a term by its head and the numbers of its parts.
-use Rattle.std.proofs.Common.{◌≡◌, ℕ, zero, suc, ◌+◌, ◌<◌, ◌≤◌, Bool, true, false, ◌&&◌, List, [], ◌∷◌, Option, Some, None, refl, sym, ◌∙◌, ap, ap₂, subst, inl, inr, ◌⊎◌, arith}
-use Rattle.std.specs.Prelude.{nat_lt, if◌then◌else◌}
+use Rattle.std.proofs.Common.{◌≡◌, ℕ, zero, suc, Bool, true, false, ◌&&◌, List, [], ◌∷◌, Option, Some, None, refl, sym, ◌∙◌, ap, ap₂, subst}
+use Rattle.std.specs.Prelude.{if◌then◌else◌}
 use Rattle.std.specs.Option.{option_map}
-use Rattle.std.proofs.lemmas.Bool.{ltb-true, ltb-false}
-use Rattle.vx_terms.specs.Sorts.{Equal}
 use Rattle.vx_terms.specs.Terms.{Term}
 use Rattle.vx_terms.proofs.Same.{and_parts}
-use Rattle.cs_certificate.specs.Terms.{Head, BinaryHead, head, parts, equal}
-use Rattle.cs_certificate.specs.Certificate.{At, AllAt, no-terms, one-term, State, IsEquality, Equates}
-use Rattle.cs_nodes.specs.Nodes.{Node, StandsFor, Represents, same_head, same_numbers, is_node, number_of, first_of, equality}
+use Rattle.cs_certificate.specs.Terms.{Head, head, parts}
+use Rattle.cs_certificate.specs.Certificate.{At, AllAt, no-terms, one-term}
+use Rattle.cs_nodes.specs.Nodes.{Node, Represents, same_head, same_numbers, is_node, number_of}
 use Rattle.cs_nodes.proofs.Heads.{one_term, head_is, head_same, numbers_are, numbers_same}
 
 pub one_at : {A : Type 0} (xs : List A) (n : ℕ) (x y : A) → At xs n x → At xs n y → x ≡ y

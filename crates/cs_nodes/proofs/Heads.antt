@@ -1,11 +1,10 @@
 -- A term is its head over its parts.
-use Rattle.std.proofs.Common.{◌≡◌, ℕ, zero, suc, Bool, true, false, ◌&&◌, List, [], ◌∷◌, Some, refl, sym, ◌∙◌, ap, ap₂, eqb-true, eq-eqb}
-use Rattle.vx_terms.specs.Sorts.{Sort, Symbol, Operator, same_text, same_symbol, same_sort, same_operator, sort_number, sort_text, operator_number, Standard, Function, Variable, Named}
+use Rattle.std.proofs.Common.{◌≡◌, ℕ, zero, suc, Bool, true, false, ◌&&◌, List, [], ◌∷◌, refl, sym, ◌∙◌, ap, ap₂, eqb-true, eq-eqb}
+use Rattle.vx_terms.specs.Sorts.{Sort, Symbol, same_text, same_symbol, same_sort, sort_number, sort_text, operator_number, Standard, Function, Variable, Named}
 use Rattle.vx_terms.specs.Terms.{Term, Truth, Number, Part, Constant, Apply, Not, Binary, Ite, AllOf, SomeOf, Terms, NoTerms, MoreTerms}
 use Rattle.vx_terms.proofs.Same.{and_parts, int_is, int_same, bool_is, fraction_is, sort_is, symbol_is, operator_is}
 use Rattle.vx_terms.proofs.Values.{bool_same, fraction_same}
 use Rattle.cs_certificate.specs.Terms.{Head, TruthHead, NumberHead, PartHead, ConstantHead, ApplyHead, BinaryHead, NotHead, IteHead, AllHead, SomeHead, head, items, parts}
-use Rattle.cs_certificate.specs.Certificate.{At}
 use Rattle.cs_nodes.specs.Nodes.{same_head, same_numbers}
 
 abbrev from_items : List Term → Terms
@@ -78,7 +77,7 @@ symbol_same (Function n) = eq-eqb n n refl
 symbol_same (Variable n) = eq-eqb n n refl
 symbol_same (Named x) = text_same x
 
-sort_same : (a : Sort) → same_sort a a ≡ true
+pub sort_same : (a : Sort) → same_sort a a ≡ true
 sort_same a = and_true _ _ (eq-eqb (sort_number a) (sort_number a) refl) (text_same (sort_text a))
 
 pub head_same : (h : Head) → same_head h h ≡ true

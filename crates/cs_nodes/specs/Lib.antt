@@ -1,3 +1,4 @@
 pub mod Nodes
 pub mod Laws
 pub mod Steps
+pub mod Examples

@@ -1,6 +1,7 @@
 //! Terms by their numbers.
 #![tactic(auto)]
 
+ghost use Rattle.cs_nodes.specs.Examples.{Examples};
 ghost use Rattle.cs_nodes.specs.Laws.{LooksUp, TellsEqualities};
 ghost use Rattle.cs_nodes.specs.Steps.{ByNumbers};
 
@@ -13,4 +14,9 @@ pub fn numbers_name_terms()
 /// The clause of a step by numbers is that of its terms.
 pub fn clauses_by_numbers()
     ensures { ByNumbers }
+{}
+
+/// Each kind of step with a clause and without one.
+pub fn examples()
+    ensures { Examples }
 {}

@@ -1,5 +1,17 @@
 use Rattle.cs_nodes.proofs.Chains.{chain_computes, congruence_computes}
+use Rattle.cs_nodes.proofs.Comparisons.{split_computes, trichotomy_computes}
+use Rattle.cs_nodes.proofs.Picks.{pick_computes}
+use Rattle.cs_nodes.proofs.Divisions.{divide_computes}
+use Rattle.cs_nodes.proofs.Definitions.{define_computes}
 use Rattle.cs_nodes.proofs.clauses_by_numbers.Goals as goal
 
 pub returns : goal.returns
-returns c nodes s stack r = record { chain = chain_computes nodes s r stack; congruence = congruence_computes nodes s r stack }
+returns c nodes s stack r = record {
+  define = define_computes nodes s r stack;
+  chain = chain_computes nodes s r stack;
+  congruence = congruence_computes nodes s r stack;
+  split = split_computes nodes s r stack;
+  trichotomy = trichotomy_computes nodes s r stack;
+  pick = pick_computes nodes s r stack;
+  divide = divide_computes nodes s r stack;
+}

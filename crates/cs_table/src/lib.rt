@@ -1,0 +1,10 @@
+//! Numbered terms in code: each a head over the numbers of its parts.
+#![tactic(auto)]
+
+mod look;
+mod node;
+mod steps;
+
+pub use look::{equality, number_of};
+pub use node::{Head, Node};
+pub use steps::{Literal, Stop, chain, define, pick, trichotomy};
