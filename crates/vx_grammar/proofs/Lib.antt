@@ -17,4 +17,5 @@ pub mod MemberTold
 pub mod MethodTold
 pub mod ProgramTold
 pub mod StmtReads
+pub mod MemberReads
 pub mod Turns

@@ -122,22 +122,22 @@ clause_turn_tells before [] = tells_here (TurnFor ClauseStep before) limit [] No
 clause_turn_tells before (t ∷ ts) = clause_turn_by before t ts (begins_requires t.kind) (begins_ensures t.kind) refl refl
 
 -- the clauses of a phrase as lists
-abbrev requires_in : ClausesPhrase → List Expr
+abbrev pub requires_in : ClausesPhrase → List Expr
 requires_in no_clauses = []
 requires_in (requires p e semi rest) = meant e ∷ requires_in rest
 requires_in (ensures p e semi rest) = requires_in rest
 
-abbrev ensures_in : ClausesPhrase → List Expr
+abbrev pub ensures_in : ClausesPhrase → List Expr
 ensures_in no_clauses = []
 ensures_in (requires p e semi rest) = ensures_in rest
 ensures_in (ensures p e semi rest) = meant e ∷ ensures_in rest
 
-requires_same : (w : ClausesPhrase) → exprs_from (requires_in w) ≡ requires_meant w
+pub requires_same : (w : ClausesPhrase) → exprs_from (requires_in w) ≡ requires_meant w
 requires_same no_clauses = refl
 requires_same (requires p e semi rest) = ap (More (meant e)) (requires_same rest)
 requires_same (ensures p e semi rest) = requires_same rest
 
-ensures_same : (w : ClausesPhrase) → exprs_from (ensures_in w) ≡ ensures_meant w
+pub ensures_same : (w : ClausesPhrase) → exprs_from (ensures_in w) ≡ ensures_meant w
 ensures_same no_clauses = refl
 ensures_same (requires p e semi rest) = ensures_same rest
 ensures_same (ensures p e semi rest) = ap (More (meant e)) (ensures_same rest)
@@ -150,7 +150,7 @@ record ClausesStep (before after : Clauses) (ms : List Mark) : Type 0 where
   ensures_are : before.ensures ++ ensures_in phrase ≡ after.ensures
   spelled : clauses_marks (length before.requires) (length before.ensures) phrase ≡ ms
 
-one_more : {A : Type 0} (xs : List A) (x : A) → length (xs ++ x ∷ []) ≡ length xs + 1
+pub one_more : {A : Type 0} (xs : List A) (x : A) → length (xs ++ x ∷ []) ≡ length xs + 1
 one_more xs x = length-append xs (x ∷ [])
 
 requires_step : (before m after : Clauses) (ms a b : List Mark) → ms ≡ a ++ b → OneClause (length before.requires) words.Requires (with_requires before) m a → ClausesStep m after b → ClausesStep before after ms

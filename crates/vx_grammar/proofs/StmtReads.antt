@@ -53,7 +53,7 @@ not_semi k h = absurd cc
 
 -- ---- declarations
 
-abbrev Toks : List Mark → List Token → List Token
+abbrev pub Toks : List Mark → List Token → List Token
 Toks ms us = tokens_of ms ++ us
 
 type_reads : (t : ValueType) (at : Token) (us : List Token) → IsWrittenType t → type_by at (word (type_word t)) us ≡ Ok (t, us)

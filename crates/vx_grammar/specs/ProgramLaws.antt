@@ -71,3 +71,7 @@ ProgramSays ts (Err (too_many rest)) = StopsTooMany ts rest
 -- A program that is read is spelled so; and where reading stops, all tokens in front fit.
 abbrev pub ProgramsAreSpelled : Type 0
 ProgramsAreSpelled = (ts : List Token) → ProgramSays ts (members_at ts)
+
+-- A program that is spelled within the limits is read.
+abbrev pub SpelledProgramsAreRead : Type 0
+SpelledProgramsAreRead = (ts : List Token) (p : Program) → ProgramWithin ts p → members_at ts ≡ Ok p
