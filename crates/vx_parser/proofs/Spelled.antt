@@ -1,0 +1,57 @@
+-- A program is answered exactly where the text spells it.
+use Rattle.std.proofs.Common.{◌≡◌, ℕ, ◌≤◌, List, Result, Ok, Err, map, length, refl, sym, ap, subst, ◌∙◌}
+use Rattle.std.specs.Str.{IsUtf8}
+use Rattle.vx_ast.specs.declared.Place.{Place}
+use Rattle.vx_ast.specs.declared.Program as the_program
+use Rattle.vx_ast.specs.Written.{Program}
+use Rattle.vx_tokens.specs.Tokens.{Token}
+use Rattle.vx_tokens.specs.Text.{Scans, first_place, unmarked, Ending, AtEnd, OpenComment, WideLiteral, BadCharacter}
+use Rattle.vx_grammar.specs.MemberReading.{members_at}
+use Rattle.vx_grammar.specs.ProgramLaws.{ProgramWithin, ProgramSays, ProgramsAreSpelled, SpelledProgramsAreRead}
+use Rattle.vx_parser.specs.declared.fault.TextFault as the_fault
+use Rattle.vx_parser.specs.declared.fault.TextFault.TheVariants as faults
+use Rattle.vx_parser.specs.Answers.{Fault, answer, IsEnd, IsAnswer}
+use Rattle.vx_parser.specs.Spelling.{Spells, IsProgram}
+
+pub spells_of : (text : List ℕ) (ts : List Token) (e : Ending) (p : Program) → ProgramsAreSpelled → length text ≤ 4194304 → IsUtf8 text → Scans first_place (unmarked text) ts e → IsEnd e → members_at ts ≡ Ok p → Spells text p
+spells_of text ts (AtEnd at) p law short utf8 scans end read = record {
+  short = short;
+  utf8 = utf8;
+  tokens = ts;
+  at = at;
+  scans = scans;
+  within = subst (ProgramSays ts) read (law ts);
+}
+spells_of text ts (OpenComment at) p law short utf8 scans end read = absurd end
+spells_of text ts (WideLiteral at) p law short utf8 scans end read = absurd end
+spells_of text ts (BadCharacter at) p law short utf8 scans end read = absurd end
+
+answered : (ts : List Token) (at : Place) (p : Program) → members_at ts ≡ Ok p → answer ts (AtEnd at) ≡ Ok p
+unfolding answer
+answered ts at p e = rw e refl
+
+program_of : (r : Result the_program.Program the_fault.TextFault) (p : Program) (a : Result Program Fault) → a ≡ Ok p → IsAnswer r a → IsProgram r p
+program_of (Ok q) p (Ok x) e h = let same : x ≡ p = cc in h ∙ same
+program_of (Ok q) p (Err f) e h = absurd h
+program_of (Err faults.Want) p a e h = refl
+program_of (Err (faults.NotUtf8 q)) p (Ok x) e h = absurd h
+program_of (Err (faults.BadCharacter q)) p (Ok x) e h = absurd h
+program_of (Err (faults.Unexpected q s)) p (Ok x) e h = absurd h
+program_of (Err (faults.EndOfText q)) p (Ok x) e h = absurd h
+program_of (Err (faults.WideLiteral q)) p (Ok x) e h = absurd h
+program_of (Err (faults.TooDeep q)) p (Ok x) e h = absurd h
+program_of (Err faults.TooLong) p (Ok x) e h = absurd h
+program_of (Err (faults.TooManyMembers q)) p (Ok x) e h = absurd h
+program_of (Err (faults.Unsupported q s)) p (Ok x) e h = absurd h
+program_of (Err x) p (Err f) e h = absurd cc
+
+-- what is spelled is answered, by what is answered of all tokens and endings
+pub spelled_is_answered : (text : List ℕ) (r : Result the_program.Program the_fault.TextFault) → SpelledProgramsAreRead → (length text ≤ 4194304 → IsUtf8 text → (ts : List Token) (e : Ending) → Scans first_place (unmarked text) ts e → IsAnswer r (answer ts e)) → (p : Program) → Spells text p → IsProgram r p
+spelled_is_answered text r law reads p s = program_of r p (answer s.tokens (AtEnd s.at)) (answered s.tokens s.at p (law s.tokens p s.within)) (reads s.short s.utf8 s.tokens (AtEnd s.at) s.scans)
+
+-- a long text, or bytes that are no text, spell nothing
+pub long_spells_none : (text : List ℕ) (r : Result the_program.Program the_fault.TextFault) → (length text ≤ 4194304 → ⊥) → (p : Program) → Spells text p → IsProgram r p
+long_spells_none text r h p s = absurd (h s.short)
+
+pub bytes_spell_none : (text : List ℕ) (r : Result the_program.Program the_fault.TextFault) → (IsUtf8 text → ⊥) → (p : Program) → Spells text p → IsProgram r p
+bytes_spell_none text r h p s = absurd (h s.utf8)
