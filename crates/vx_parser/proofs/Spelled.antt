@@ -13,19 +13,6 @@ use Rattle.vx_parser.specs.declared.fault.TextFault.TheVariants as faults
 use Rattle.vx_parser.specs.Answers.{Fault, answer, IsEnd, IsAnswer}
 use Rattle.vx_parser.specs.Spelling.{Spells, IsProgram}
 
-pub spells_of : (text : List ℕ) (ts : List Token) (e : Ending) (p : Program) → ProgramsAreSpelled → length text ≤ 4194304 → IsUtf8 text → Scans first_place (unmarked text) ts e → IsEnd e → members_at ts ≡ Ok p → Spells text p
-spells_of text ts (AtEnd at) p law short utf8 scans end read = record {
-  short = short;
-  utf8 = utf8;
-  tokens = ts;
-  at = at;
-  scans = scans;
-  within = subst (ProgramSays ts) read (law ts);
-}
-spells_of text ts (OpenComment at) p law short utf8 scans end read = absurd end
-spells_of text ts (WideLiteral at) p law short utf8 scans end read = absurd end
-spells_of text ts (BadCharacter at) p law short utf8 scans end read = absurd end
-
 answered : (ts : List Token) (at : Place) (p : Program) → members_at ts ≡ Ok p → answer ts (AtEnd at) ≡ Ok p
 unfolding answer
 answered ts at p e = rw e refl
@@ -48,10 +35,3 @@ program_of (Err x) p (Err f) e h = absurd cc
 -- what is spelled is answered, by what is answered of all tokens and endings
 pub spelled_is_answered : (text : List ℕ) (r : Result the_program.Program the_fault.TextFault) → SpelledProgramsAreRead → (length text ≤ 4194304 → IsUtf8 text → (ts : List Token) (e : Ending) → Scans first_place (unmarked text) ts e → IsAnswer r (answer ts e)) → (p : Program) → Spells text p → IsProgram r p
 spelled_is_answered text r law reads p s = program_of r p (answer s.tokens (AtEnd s.at)) (answered s.tokens s.at p (law s.tokens p s.within)) (reads s.short s.utf8 s.tokens (AtEnd s.at) s.scans)
-
--- a long text, or bytes that are no text, spell nothing
-pub long_spells_none : (text : List ℕ) (r : Result the_program.Program the_fault.TextFault) → (length text ≤ 4194304 → ⊥) → (p : Program) → Spells text p → IsProgram r p
-long_spells_none text r h p s = absurd (h s.short)
-
-pub bytes_spell_none : (text : List ℕ) (r : Result the_program.Program the_fault.TextFault) → (IsUtf8 text → ⊥) → (p : Program) → Spells text p → IsProgram r p
-bytes_spell_none text r h p s = absurd (h s.utf8)
