@@ -12,4 +12,10 @@ pub mod Bracketed
 pub mod StmtTells
 pub mod StmtFor
 pub mod StmtTold
+pub mod Steps
+pub mod MemberTold
+pub mod MethodTold
+pub mod ProgramTold
+pub mod StmtReads
+pub mod MemberReads
 pub mod Turns

@@ -27,7 +27,7 @@ nowhere = record { line = 0; column = 0 }
 abbrev pub NameFor : ℕ → Grammar (List ℕ)
 NameFor n x ms = (p : Place) × (ms ≡ mark n p (name x) ∷ [])
 
-starts_name : (n : ℕ) → Starts (NameFor n) []
+pub starts_name : (n : ℕ) → Starts (NameFor n) []
 starts_name n = record { value = []; more = mark n nowhere (name []) ∷ []; spelled = (nowhere, refl) }
 
 name_by_tells : (limit n : ℕ) (t : Token) (k : Kind) (ts : List Token) → n ≤ limit → t.kind ≡ k → Tells (NameFor n) limit (t ∷ ts) (name_by t k ts)

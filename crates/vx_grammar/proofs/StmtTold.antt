@@ -19,12 +19,12 @@ use Rattle.vx_grammar.proofs.Means.{PhraseFor, Behind, starts_any, tells_nested,
 use Rattle.vx_grammar.proofs.StmtTells.{DeclarationFor, declaration_tells, starts_declaration}
 use Rattle.vx_grammar.proofs.StmtFor.{StmtFor, BranchFor, OtherFor, BlockFor, InsideFor, starts_stmt, starts_inside, starts_block, starts_other, starts_branch, row_inside, stmts_are_rows}
 
-fits : (limit n room : ℕ) → n + room ≡ limit → n ≤ limit
+pub fits : (limit n room : ℕ) → n + room ≡ limit → n ≤ limit
 fits limit n room e = omega (arith, e)
 
 -- ---- a token, and then a part
 
-led_tells : {A : Type 0} (R : Grammar A) (limit n : ℕ) (t : Token) (ts : List Token) (r : Read A) → n ≤ limit → Tells R limit ts r → Tells (Nested (record { token = t; count = n }) R) limit (t ∷ ts) r
+pub led_tells : {A : Type 0} (R : Grammar A) (limit n : ℕ) (t : Token) (ts : List Token) (r : Read A) → n ≤ limit → Tells R limit ts r → Tells (Nested (record { token = t; count = n }) R) limit (t ∷ ts) r
 led_tells R limit n t ts r le h =
     let m : Mark = record { token = t; count = n } in
     tells_behind (Nested m R) limit (t ∷ ts) ts (m ∷ []) (record { within = (le, tt); tokens = refl }) r

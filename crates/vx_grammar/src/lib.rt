@@ -2,6 +2,7 @@
 #![tactic(auto)]
 
 ghost use Rattle.vx_grammar.specs.Laws.{AnswersAreRight, SpelledIsRead, SpelledOnce};
+ghost use Rattle.vx_grammar.specs.ProgramLaws.{ProgramsAreSpelled, SpelledProgramsAreRead};
 
 /// What is read is spelled so within the limit, and else reading stops at the first token that does not fit.
 pub fn answers_are_right()
@@ -16,4 +17,14 @@ pub fn spelled_is_read()
 /// Tokens spell one expression at most.
 pub fn spelled_once()
     ensures { SpelledOnce }
+{}
+
+/// A program that is read is spelled so within the limits, and else the tokens fit up to where reading stops.
+pub fn programs_are_spelled()
+    ensures { ProgramsAreSpelled }
+{}
+
+/// A program that is spelled within the limits is read.
+pub fn spelled_programs_are_read()
+    ensures { SpelledProgramsAreRead }
 {}

@@ -3,5 +3,6 @@ pub mod Answers
 pub mod Gives
 pub mod Part
 pub mod Says
+pub mod Spelling
 pub mod StmtPart
 pub mod Views

@@ -1,13 +1,15 @@
 //! From the bytes of a text to its program.
 
-ghost use Rattle.std.specs.Prelude.{◌≡◌, ◌≤◌, ◌<◌, ◌↔◌, ℕ, List, length, take, Err, IsErrOf, MatchOption};
+ghost use Rattle.std.specs.Prelude.{◌≡◌, ◌≤◌, ◌<◌, ◌↔◌, ℕ, List, length, take, Err, IfOk, IsErrOf, MatchOption};
 ghost use Rattle.std.specs.Str.{IsUtf8};
 ghost use Rattle.std.specs.Str.Lossy.{utf8_valid_len};
 ghost use Rattle.vx_tokens.specs.Text.{Scans, first_place, unmarked, after, Ending as End};
 ghost use Rattle.vx_tokens.specs.Views.{ending_of};
 ghost use Rattle.vx_tokens.specs.Tokens.{tokens_in, token_of, kind_of, Token as Tok};
 ghost use Rattle.vx_grammar.specs.MemberReading as reading;
+ghost use Rattle.vx_ast.specs.Written.{Program as Tree, written_program};
 ghost use Rattle.vx_parser.specs.Answers as answers;
+ghost use Rattle.vx_parser.specs.Spelling.{Spells, IsProgram};
 ghost use Rattle.vx_parser.specs.declared.fault.TextFault.TheVariants as faults;
 ghost use Rattle.vx_parser.specs.declared.program.Halt.TheVariants.{Inside};
 ghost use Rattle.vx_parser.specs.declared.stop.Stop.TheVariants.{Memory};
@@ -19,6 +21,7 @@ use crate::stop::Stop;
 use std::alloc::{AllocError, AllocFailed, Global};
 use std::str;
 use vx_ast::{Member, Place, Program};
+use vx_grammar::{programs_are_spelled, spelled_programs_are_read};
 use vx_tokens::{Ending, Kind, MAX_TEXT, Symbol, Token, Word, end_of, lex};
 
 /// The most members of a program.
@@ -52,6 +55,10 @@ impl<'t, T: Drop> From<AllocFailed<T>> for Halt<'t> {
 
 /// The program that a text spells.
 pub fn parse(alloc: Global, text: &[u8]) -> Result<Program, TextFault>
+    // A program that is answered is spelled by the text.
+    ensures spelled { IfOk result (λ p. Spells text.now (written_program p)) }
+    // A program that the text spells is answered, unless memory runs out. So a text spells one program at most.
+    ensures only { (p : Tree) → Spells text.now p → IsProgram result p }
     // A text is too long exactly above 4,194,304 bytes, which is decided first.
     ensures too_long { IsErrOf result faults.TooLong ↔ (4194304 < length text.now) }
     // Bytes that are no text are refused behind the last character before them, which is decided second.
@@ -59,6 +66,8 @@ pub fn parse(alloc: Global, text: &[u8]) -> Result<Program, TextFault>
     // Else the tokens of the text, and how it goes on behind them, give the answer, unless memory runs out.
     ensures reads { length text.now ≤ 4194304 → IsUtf8 text.now → (ts : List Tok) (e : End) → Scans first_place (unmarked text.now) ts e → answers.IsAnswer result (answers.answer ts e) }
 {
+    programs_are_spelled();
+    spelled_programs_are_read();
     if text.len() > MAX_TEXT {
         return Err(TextFault::TooLong);
     }

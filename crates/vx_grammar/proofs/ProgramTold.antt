@@ -1,0 +1,168 @@
+-- What reading programs tells.
+use Rattle.std.proofs.Common.{◌≡◌, ℕ, zero, suc, ◌+◌, ◌≤◌, ◌<◌, List, [], ◌∷◌, ◌++◌, Some, None, Bool, true, false, Result, Ok, Err, length, refl, sym, ap, subst, ◌∙◌, append_assoc, arith, cond, ltb, length-append}
+use Rattle.std.proofs.lemmas.List.{append-nil}
+use Rattle.std.proofs.lemmas.Bool.{ltb-true, ltb-false}
+use Rattle.vx_ast.specs.Written.{Member, Program}
+use Rattle.vx_tokens.specs.declared.token.Word.TheVariants as words
+use Rattle.vx_tokens.specs.Tokens.{Token, Kind, word}
+use Rattle.vx_grammar.specs.Grammar.{Mark, tokens_of}
+use Rattle.vx_grammar.specs.Statements.{semi_marks}
+use Rattle.vx_grammar.specs.Programs.{MethodPhrase, method_meant, StandsMethod, method_marks, ProgramPhrase, no_members, member, program_meant, StandsProgram, program_marks}
+use Rattle.vx_grammar.specs.Reading.{Read, Unexpected, TooDeep}
+use Rattle.vx_grammar.specs.StmtReading.{skip_semicolon}
+use Rattle.vx_grammar.specs.MemberReading.{Halt, inside, no_member, too_many, begins_member, then_members, members_by, members_at, method_at, limit, max_members}
+use Rattle.vx_grammar.specs.Laws.{Within}
+use Rattle.vx_grammar.specs.ProgramLaws.{ProgramSpelled, ProgramWithin, ProgramGoesOn, ProgramFits, FitsInFront, StopsTooDeep, StopsTooMany, ProgramSays, ProgramsAreSpelled}
+use Rattle.vx_grammar.proofs.Lists.{tokens-append}
+use Rattle.vx_grammar.proofs.Tells.{Starts, Takes, Tells, TellsOk, takes_then, takes_none}
+use Rattle.vx_grammar.proofs.MethodTold.{SemiThen, semi_tells, MethodFor, method_tells}
+
+-- members, and then a part of what follows
+pub record Front (before : List Member) (after : List Member) (ms : List Mark) : Type 0 where
+  pub phrase : ProgramPhrase
+  pub stands : StandsProgram phrase
+  pub means : before ++ program_meant phrase ≡ after
+  pub spelled : program_marks phrase ≡ ms
+
+no_front : (before : List Member) → Front before before []
+no_front before = record { phrase = no_members; stands = tt; means = append-nil before; spelled = refl }
+
+one_front : (before : List Member) (m : Member) (ms ns : List Mark) → MethodFor m ms → SemiThen m m ns → Front before (before ++ m ∷ []) (ms ++ ns)
+one_front before m ms ns g (semi, v, z) = record {
+  phrase = member g.phrase semi no_members;
+  stands = (g.stands, tt);
+  means = ap (λ x. before ++ x ∷ []) g.means;
+  spelled = ap (λ l. method_marks g.phrase ++ l) (append-nil (semi_marks 0 semi) ∙ sym z) ∙ ap (λ l. l ++ ns) g.spelled;
+}
+
+-- one program behind another
+both : ProgramPhrase → ProgramPhrase → ProgramPhrase
+both no_members w = w
+both (member m semi rest) w = member m semi (both rest w)
+
+both_meant : (a b : ProgramPhrase) → program_meant (both a b) ≡ program_meant a ++ program_meant b
+unfolding both
+both_meant no_members b = refl
+both_meant (member m semi rest) b = ap (λ l. method_meant m ∷ l) (both_meant rest b)
+
+both_marks : (a b : ProgramPhrase) → program_marks (both a b) ≡ program_marks a ++ program_marks b
+unfolding both
+both_marks no_members b = refl
+both_marks (member m semi rest) b =
+    ap (λ l. method_marks m ++ (semi_marks 0 semi ++ l)) (both_marks rest b)
+    ∙ ap (λ l. method_marks m ++ l) (sym (append_assoc (semi_marks 0 semi) (program_marks rest) (program_marks b)))
+    ∙ sym (append_assoc (method_marks m) (semi_marks 0 semi ++ program_marks rest) (program_marks b))
+
+both_stand : (a b : ProgramPhrase) → StandsProgram a → StandsProgram b → StandsProgram (both a b)
+unfolding both
+both_stand no_members b h k = k
+both_stand (member m semi rest) b h k = (h.0, both_stand rest b h.1 k)
+
+fronts : (a b c : List Member) (ms ns : List Mark) → Front a b ms → Front b c ns → Front a c (ms ++ ns)
+fronts a b c ms ns f g = record {
+  phrase = both f.phrase g.phrase;
+  stands = both_stand f.phrase g.phrase f.stands g.stands;
+  means = ap (λ l. a ++ l) (both_meant f.phrase g.phrase) ∙ sym (append_assoc a (program_meant f.phrase) (program_meant g.phrase)) ∙ ap (λ l. l ++ program_meant g.phrase) f.means ∙ g.means;
+  spelled = both_marks f.phrase g.phrase ∙ ap (λ l. l ++ program_marks g.phrase) f.spelled ∙ ap (λ l. ms ++ l) g.spelled;
+}
+
+-- members, and the beginning of one more
+front_goes_on : (before after : List Member) (ms ns : List Mark) → Front before after ms → Starts MethodFor ns → ProgramGoesOn (ms ++ ns)
+front_goes_on before after ms ns f s = record {
+  phrase = both f.phrase (member s.spelled.phrase None no_members);
+  stands = both_stand f.phrase (member s.spelled.phrase None no_members) f.stands (s.spelled.stands, tt);
+  more = s.more;
+  marks = both_marks f.phrase (member s.spelled.phrase None no_members) ∙ ap (λ l. l ++ (method_marks s.spelled.phrase ++ [])) f.spelled ∙ ap (λ l. ms ++ l) (append-nil (method_marks s.spelled.phrase) ∙ s.spelled.spelled) ∙ sym (append_assoc ms ns s.more);
+}
+
+front_alone : (before after : List Member) (ms : List Mark) → Front before after ms → ProgramGoesOn ms
+front_alone before after ms f = record { phrase = f.phrase; stands = f.stands; more = []; marks = f.spelled ∙ sym (append-nil ms) }
+
+-- ---- what an answer says, behind members that were read before
+
+-- what an answer says of all tokens, where those before were these members
+abbrev SaysBehind : List Token → List Member → List Mark → List Token → Result Program Halt → Type 0
+SaysBehind all before ms ts r = Front [] before ms → Takes limit all ms ts → length before ≤ max_members → ProgramSays all r
+
+method_word : (k : Kind) → begins_member k ≡ true → k ≡ word words.Method
+method_word (word words.Method) h = refl
+method_word k h = absurd cc
+
+says_none : (all : List Token) (before : List Member) (ms : List Mark) (rest : List Token) → SaysBehind all before ms rest (Err (no_member rest))
+says_none all before ms rest f takes few = (ms, record { tokens = takes.tokens; within = takes.within; goes_on = front_alone [] before ms f })
+
+says_end : (all : List Token) (before : List Member) (ms : List Mark) → SaysBehind all before ms [] (Ok before)
+says_end all before ms f takes few = record {
+  spelled = record { phrase = f.phrase; stands = f.stands; means = f.means; tokens = ap tokens_of f.spelled ∙ sym (append-nil (tokens_of ms)) ∙ sym takes.tokens };
+  within = subst (Within limit) (sym f.spelled) takes.within;
+  few = few;
+}
+
+says_many : (all : List Token) (before : List Member) (ms : List Mark) (t : Token) (ts : List Token) → begins_member t.kind ≡ true → max_members ≤ length before → SaysBehind all before ms (t ∷ ts) (Err (too_many (t ∷ ts)))
+says_many all before ms t ts h many f takes few = record {
+  front = tokens_of ms;
+  members = before;
+  first = t;
+  after = ts;
+  is = takes.tokens;
+  rest_is = refl;
+  spelled = record { phrase = f.phrase; stands = f.stands; means = f.means; tokens = ap tokens_of f.spelled };
+  many = many;
+  begins_member = h;
+}
+
+says_stop : (all : List Token) (before : List Member) (ms : List Mark) (ts : List Token) (r : Read Member) (go : Member → List Token → Result Program Halt) → Tells MethodFor limit ts r
+    → ((m : Member) (rest : List Token) (ns : List Mark) → MethodFor m ns → Takes limit ts ns rest → SaysBehind all before ms ts (go m rest))
+    → SaysBehind all before ms ts (then_members r go)
+says_stop all before ms ts (Ok (m, rest)) go h k f takes few = k m rest h.marks h.spelled h.takes f takes few
+says_stop all before ms ts (Err (Unexpected rest)) go h k f takes few =
+    let both_taken = takes_then limit all ts rest ms h.marks takes h.takes in
+    (ms ++ h.marks, record { tokens = both_taken.tokens; within = both_taken.within; goes_on = front_goes_on [] before ms h.marks f h.starts })
+says_stop all before ms ts (Err (TooDeep rest)) go h k f takes few =
+    let both_taken = takes_then limit all ts rest ms h.marks takes h.takes in
+    let deeper : ProgramGoesOn ((ms ++ h.marks) ++ h.deep ∷ []) = subst ProgramGoesOn (sym (append_assoc ms h.marks (h.deep ∷ []))) (front_goes_on [] before ms (h.marks ++ h.deep ∷ []) f h.starts) in
+    record {
+      front = ms ++ h.marks;
+      deep = h.deep;
+      after = h.after;
+      first = h.first;
+      fits = record { tokens = both_taken.tokens; within = both_taken.within; goes_on = record { phrase = deeper.phrase; stands = deeper.stands; more = h.deep ∷ deeper.more; marks = deeper.marks ∙ append_assoc (ms ++ h.marks) (h.deep ∷ []) deeper.more } };
+      count = h.count;
+      goes_on = deeper;
+    }
+
+-- behind one member more and its semicolon
+says_on : (all : List Token) (before : List Member) (ms : List Mark) (ts : List Token) (r : Member → List Token → Result Program Halt) → length before < max_members → ((m : Member) (us : List Token) (ns : List Mark) → SaysBehind all (before ++ m ∷ []) ns us (r m us))
+    → (m : Member) (rest : List Token) (ns : List Mark) → MethodFor m ns → Takes limit ts ns rest → SaysBehind all before ms ts (r m (skip_semicolon rest))
+says_on all before ms ts r lt h m rest ns g taken f takes few = by_semi (semi_tells limit m rest)
+  where
+    by_semi : TellsOk (SemiThen m) limit rest m (skip_semicolon rest) → ProgramSays all (r m (skip_semicolon rest))
+    by_semi s =
+        let first = takes_then limit all ts rest ms ns takes taken in
+        let second = takes_then limit all rest (skip_semicolon rest) (ms ++ ns) s.marks first s.takes in
+        let front = fronts [] before (before ++ m ∷ []) ms (ns ++ s.marks) f (one_front before m ns s.marks g s.spelled) in
+        let n = length-append before (m ∷ []) in
+        h m (skip_semicolon rest) ((ms ++ ns) ++ s.marks) (subst (Front [] (before ++ m ∷ [])) (sym (append_assoc ms ns s.marks)) front) second (omega (arith, n, lt))
+
+says_member : (all : List Token) (before : List Member) (ms : List Mark) (t : Token) (ts : List Token) (go : Member → List Token → Result Program Halt) (b : Bool) → ltb (length before) max_members ≡ b → begins_member t.kind ≡ true → ((m : Member) (us : List Token) (ns : List Mark) → SaysBehind all (before ++ m ∷ []) ns us (go m us))
+    → SaysBehind all before ms (t ∷ ts) (cond b (then_members (method_at t.place ts) (λ m after. go m (skip_semicolon after))) (Err (too_many (t ∷ ts))))
+says_member all before ms t ts go true lt h k =
+    says_stop all before ms (t ∷ ts) (method_at t.place ts) (λ m after. go m (skip_semicolon after)) (method_tells t ts (method_word t.kind h))
+    (says_on all before ms (t ∷ ts) go (ltb-true _ _ lt) k)
+says_member all before ms t ts go false ge h k = says_many all before ms t ts h (ltb-false _ _ ge)
+
+says_turn : (all : List Token) (before : List Member) (ms : List Mark) (t : Token) (ts : List Token) (go : Member → List Token → Result Program Halt) (b : Bool) → begins_member t.kind ≡ b → ((m : Member) (us : List Token) (ns : List Mark) → SaysBehind all (before ++ m ∷ []) ns us (go m us))
+    → SaysBehind all before ms (t ∷ ts) (cond b (cond (ltb (length before) max_members) (then_members (method_at t.place ts) (λ m after. go m (skip_semicolon after))) (Err (too_many (t ∷ ts)))) (Err (no_member (t ∷ ts))))
+says_turn all before ms t ts go true h k = says_member all before ms t ts go (ltb (length before) max_members) refl h k
+says_turn all before ms t ts go false h k = says_none all before ms (t ∷ ts)
+
+members_say : (most : ℕ) (all : List Token) (before : List Member) (ms : List Mark) (ts : List Token) → SaysBehind all before ms ts (members_by most before ts)
+unfolding members_by
+members_say zero all before ms [] = says_end all before ms
+members_say (suc most) all before ms [] = says_end all before ms
+members_say zero all before ms (t ∷ ts) = says_none all before ms (t ∷ ts)
+members_say (suc most) all before ms (t ∷ ts) = says_turn all before ms t ts (λ m us. members_by most (before ++ m ∷ []) us) (begins_member t.kind) refl (λ m us ns. members_say most all (before ++ m ∷ []) ns us)
+
+pub programs_are_spelled : ProgramsAreSpelled
+unfolding members_at
+programs_are_spelled ts = members_say (length ts) ts [] [] ts (no_front []) (takes_none limit ts) (omega arith)

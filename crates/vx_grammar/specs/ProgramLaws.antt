@@ -1,0 +1,77 @@
+-- What the tokens of a program spell, and where they stop spelling.
+use Rattle.std.specs.Prelude.{◌≡◌, ℕ, ◌+◌, ◌≤◌, ◌<◌, List, [], ◌∷◌, ◌++◌, length, true, Result, Ok, Err}
+use Rattle.vx_ast.specs.Written.{Program}
+use Rattle.vx_tokens.specs.Tokens.{Token}
+use Rattle.vx_grammar.specs.Grammar.{Mark, tokens_of}
+use Rattle.vx_grammar.specs.Programs.{ProgramPhrase, StandsProgram, program_meant, program_marks}
+use Rattle.vx_grammar.specs.Reading.{Unexpected, TooDeep}
+use Rattle.vx_grammar.specs.MemberReading.{Halt, inside, no_member, too_many, begins_member, members_at, limit, max_members}
+use Rattle.vx_grammar.specs.Laws.{Within}
+
+-- the tokens, all of them, spell the program
+pub record ProgramSpelled (ts : List Token) (p : Program) : Type 0 where
+  pub phrase : ProgramPhrase
+  pub stands : StandsProgram phrase
+  pub means : program_meant phrase ≡ p
+  pub tokens : tokens_of (program_marks phrase) ≡ ts
+
+-- no nesting count passes the limit, and there are no more members than may be
+pub record ProgramWithin (ts : List Token) (p : Program) : Type 0 where
+  pub spelled : ProgramSpelled ts p
+  pub within : Within limit (program_marks spelled.phrase)
+  pub few : length p ≤ max_members
+
+-- some program begins with these marks
+pub record ProgramGoesOn (ms : List Mark) : Type 0 where
+  pub phrase : ProgramPhrase
+  pub stands : StandsProgram phrase
+  pub more : List Mark
+  pub marks : program_marks phrase ≡ ms ++ more
+
+-- the tokens in front of the rest fit, and stay within the limit
+pub record ProgramFits (ts rest : List Token) (ms : List Mark) : Type 0 where
+  pub tokens : ts ≡ tokens_of ms ++ rest
+  pub within : Within limit ms
+  pub goes_on : ProgramGoesOn ms
+
+-- The tokens in front of the rest fit.
+abbrev pub FitsInFront : List Token → List Token → Type 0
+FitsInFront ts rest = (front : List Mark) × ProgramFits ts rest front
+
+-- the rest begins with the first token that nests deeper than the limit, and it fits
+pub record StopsTooDeep (ts rest : List Token) : Type 0 where
+  pub front : List Mark
+  pub deep : Mark
+  pub after : List Token
+  pub first : rest ≡ deep.token ∷ after
+  pub fits : ProgramFits ts rest front
+  pub count : limit < deep.count
+  pub goes_on : ProgramGoesOn (front ++ deep ∷ [])
+
+-- the tokens in front of the rest spell as many members as may be, and the rest begins one more
+pub record StopsTooMany (ts rest : List Token) : Type 0 where
+  pub front : List Token
+  pub members : Program
+  pub first : Token
+  pub after : List Token
+  pub is : ts ≡ front ++ rest
+  pub rest_is : rest ≡ first ∷ after
+  pub spelled : ProgramSpelled front members
+  pub many : max_members ≤ length members
+  pub begins_member : begins_member first.kind ≡ true
+
+-- what an answer of reading says of the tokens
+abbrev pub ProgramSays : List Token → Result Program Halt → Type 0
+ProgramSays ts (Ok p) = ProgramWithin ts p
+ProgramSays ts (Err (inside (Unexpected rest))) = FitsInFront ts rest
+ProgramSays ts (Err (inside (TooDeep rest))) = StopsTooDeep ts rest
+ProgramSays ts (Err (no_member rest)) = FitsInFront ts rest
+ProgramSays ts (Err (too_many rest)) = StopsTooMany ts rest
+
+-- A program that is read is spelled so; and where reading stops, all tokens in front fit.
+abbrev pub ProgramsAreSpelled : Type 0
+ProgramsAreSpelled = (ts : List Token) → ProgramSays ts (members_at ts)
+
+-- A program that is spelled within the limits is read.
+abbrev pub SpelledProgramsAreRead : Type 0
+SpelledProgramsAreRead = (ts : List Token) (p : Program) → ProgramWithin ts p → members_at ts ≡ Ok p

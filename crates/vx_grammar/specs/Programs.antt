@@ -1,0 +1,145 @@
+-- Which tokens spell which programs: the grammar of Viper (VMCAI 2016) in this profile.
+use Rattle.std.specs.Prelude.{◌≡◌, ℕ, ◌+◌, ◌≤◌, List, [], ◌∷◌, ◌++◌, length, Option, Some, None, ⊤}
+use Rattle.vx_ast.specs.declared.Place.{Place}
+use Rattle.vx_ast.specs.Written.{Expr, Exprs, NoMore, More, Declaration, Block, Method, IsMethod, Member, Program}
+use Rattle.vx_tokens.specs.declared.token.Word.TheVariants as words
+use Rattle.vx_tokens.specs.declared.token.Symbol.TheVariants as signs
+use Rattle.vx_tokens.specs.Tokens.{name, word, symbol}
+use Rattle.vx_grammar.specs.Grammar.{Phrase, Mark, mark, marks, meant, StandsAt}
+use Rattle.vx_grammar.specs.Statements.{DeclarationPhrase, declaration_meant, declaration_marks, IsWrittenType, BlockPhrase, block_meant, block_marks, StandsBlock, semi_marks}
+
+-- ---- parameters
+
+-- declarations behind a first one, each behind a comma
+pub data MoreDeclarations : Type 0 where
+  no_more : MoreDeclarations
+  listed : Place → DeclarationPhrase → MoreDeclarations → MoreDeclarations
+
+pub data DeclarationsPhrase : Type 0 where
+  none : DeclarationsPhrase
+  some : DeclarationPhrase → MoreDeclarations → DeclarationsPhrase
+
+-- declarations between parentheses
+pub record ParametersPhrase : Type 0 where
+  pub from : Place
+  pub inner : DeclarationsPhrase
+  pub to : Place
+
+-- no returns, or `returns` and what stands behind it
+pub data ReturnsPhrase : Type 0 where
+  no_returns : ReturnsPhrase
+  returns : Place → ParametersPhrase → ReturnsPhrase
+
+abbrev pub more_meant : MoreDeclarations → List Declaration
+more_meant no_more = []
+more_meant (listed p d rest) = declaration_meant d ∷ more_meant rest
+
+abbrev pub declarations_meant : DeclarationsPhrase → List Declaration
+declarations_meant none = []
+declarations_meant (some d rest) = declaration_meant d ∷ more_meant rest
+
+abbrev pub returns_meant : ReturnsPhrase → List Declaration
+returns_meant no_returns = []
+returns_meant (returns p w) = declarations_meant w.inner
+
+abbrev pub StandsMore : MoreDeclarations → Type 0
+StandsMore no_more = ⊤
+StandsMore (listed p d rest) = IsWrittenType d.of × StandsMore rest
+
+abbrev pub StandsDeclarations : DeclarationsPhrase → Type 0
+StandsDeclarations none = ⊤
+StandsDeclarations (some d rest) = IsWrittenType d.of × StandsMore rest
+
+abbrev pub StandsReturns : ReturnsPhrase → Type 0
+StandsReturns no_returns = ⊤
+StandsReturns (returns p w) = StandsDeclarations w.inner
+
+abbrev pub more_marks : ℕ → MoreDeclarations → List Mark
+more_marks n no_more = []
+more_marks n (listed p d rest) = mark n p (symbol signs.Comma) ∷ (declaration_marks n d ++ more_marks n rest)
+
+abbrev pub declarations_marks : ℕ → DeclarationsPhrase → List Mark
+declarations_marks n none = []
+declarations_marks n (some d rest) = declaration_marks n d ++ more_marks n rest
+
+abbrev pub parameters_marks : ℕ → ParametersPhrase → List Mark
+parameters_marks n w = mark (n + 1) w.from (symbol signs.Open) ∷ (declarations_marks (n + 1) w.inner ++ mark (n + 1) w.to (symbol signs.Close) ∷ [])
+
+abbrev pub returns_marks : ℕ → ReturnsPhrase → List Mark
+returns_marks n no_returns = []
+returns_marks n (returns p w) = mark n p (word words.Returns) ∷ parameters_marks n w
+
+-- ---- clauses
+
+-- clauses one after the other, each with a semicolon or none
+pub data ClausesPhrase : Type 0 where
+  no_clauses : ClausesPhrase
+  requires : Place → Phrase → Option Place → ClausesPhrase → ClausesPhrase
+  ensures : Place → Phrase → Option Place → ClausesPhrase → ClausesPhrase
+
+abbrev pub requires_meant : ClausesPhrase → Exprs
+requires_meant no_clauses = NoMore
+requires_meant (requires p e semi rest) = More (meant e) (requires_meant rest)
+requires_meant (ensures p e semi rest) = requires_meant rest
+
+abbrev pub ensures_meant : ClausesPhrase → Exprs
+ensures_meant no_clauses = NoMore
+ensures_meant (requires p e semi rest) = ensures_meant rest
+ensures_meant (ensures p e semi rest) = More (meant e) (ensures_meant rest)
+
+abbrev pub StandsClauses : ClausesPhrase → Type 0
+StandsClauses no_clauses = ⊤
+StandsClauses (requires p e semi rest) = StandsAt 8 e × StandsClauses rest
+StandsClauses (ensures p e semi rest) = StandsAt 8 e × StandsClauses rest
+
+-- Behind so many clauses of each kind. A clause nests as deep as there are earlier clauses of its kind.
+abbrev pub clauses_marks : ℕ → ℕ → ClausesPhrase → List Mark
+clauses_marks r k no_clauses = []
+clauses_marks r k (requires p e semi rest) = mark r p (word words.Requires) ∷ (marks r e ++ (semi_marks 0 semi ++ clauses_marks (r + 1) k rest))
+clauses_marks r k (ensures p e semi rest) = mark k p (word words.Ensures) ∷ (marks k e ++ (semi_marks 0 semi ++ clauses_marks r (k + 1) rest))
+
+-- ---- members
+
+pub record MethodPhrase : Type 0 where
+  pub at : Place
+  pub name_at : Place
+  pub text : List ℕ
+  pub parameters : ParametersPhrase
+  pub returns : ReturnsPhrase
+  pub clauses : ClausesPhrase
+  pub body : BlockPhrase
+
+abbrev pub method_meant : MethodPhrase → Member
+method_meant m = record {
+  place = m.at;
+  name = m.text;
+  kind = IsMethod record { parameters = declarations_meant m.parameters.inner; returns = returns_meant m.returns; requires = requires_meant m.clauses; ensures = ensures_meant m.clauses; body = Some (block_meant m.body) };
+}
+
+pub record StandsMethod (m : MethodPhrase) : Type 0 where
+  pub parameters : StandsDeclarations m.parameters.inner
+  pub returns : StandsReturns m.returns
+  pub clauses : StandsClauses m.clauses
+  pub body : StandsBlock m.body
+
+abbrev pub method_marks : MethodPhrase → List Mark
+method_marks m =
+    mark 0 m.at (word words.Method) ∷ mark 0 m.name_at (name m.text)
+    ∷ (parameters_marks 0 m.parameters ++ (returns_marks 0 m.returns ++ (clauses_marks 0 0 m.clauses ++ block_marks 0 m.body)))
+
+-- members one after the other, each with a semicolon or none
+pub data ProgramPhrase : Type 0 where
+  no_members : ProgramPhrase
+  member : MethodPhrase → Option Place → ProgramPhrase → ProgramPhrase
+
+abbrev pub program_meant : ProgramPhrase → Program
+program_meant no_members = []
+program_meant (member m semi rest) = method_meant m ∷ program_meant rest
+
+abbrev pub StandsProgram : ProgramPhrase → Type 0
+StandsProgram no_members = ⊤
+StandsProgram (member m semi rest) = StandsMethod m × StandsProgram rest
+
+abbrev pub program_marks : ProgramPhrase → List Mark
+program_marks no_members = []
+program_marks (member m semi rest) = method_marks m ++ (semi_marks 0 semi ++ program_marks rest)

@@ -1,0 +1,37 @@
+-- A program is answered exactly where the text spells it.
+use Rattle.std.proofs.Common.{◌≡◌, ℕ, ◌≤◌, List, Result, Ok, Err, map, length, refl, sym, ap, subst, ◌∙◌}
+use Rattle.std.specs.Str.{IsUtf8}
+use Rattle.vx_ast.specs.declared.Place.{Place}
+use Rattle.vx_ast.specs.declared.Program as the_program
+use Rattle.vx_ast.specs.Written.{Program}
+use Rattle.vx_tokens.specs.Tokens.{Token}
+use Rattle.vx_tokens.specs.Text.{Scans, first_place, unmarked, Ending, AtEnd, OpenComment, WideLiteral, BadCharacter}
+use Rattle.vx_grammar.specs.MemberReading.{members_at}
+use Rattle.vx_grammar.specs.ProgramLaws.{ProgramWithin, ProgramSays, ProgramsAreSpelled, SpelledProgramsAreRead}
+use Rattle.vx_parser.specs.declared.fault.TextFault as the_fault
+use Rattle.vx_parser.specs.declared.fault.TextFault.TheVariants as faults
+use Rattle.vx_parser.specs.Answers.{Fault, answer, IsEnd, IsAnswer}
+use Rattle.vx_parser.specs.Spelling.{Spells, IsProgram}
+
+answered : (ts : List Token) (at : Place) (p : Program) → members_at ts ≡ Ok p → answer ts (AtEnd at) ≡ Ok p
+unfolding answer
+answered ts at p e = rw e refl
+
+program_of : (r : Result the_program.Program the_fault.TextFault) (p : Program) (a : Result Program Fault) → a ≡ Ok p → IsAnswer r a → IsProgram r p
+program_of (Ok q) p (Ok x) e h = let same : x ≡ p = cc in h ∙ same
+program_of (Ok q) p (Err f) e h = absurd h
+program_of (Err faults.Want) p a e h = refl
+program_of (Err (faults.NotUtf8 q)) p (Ok x) e h = absurd h
+program_of (Err (faults.BadCharacter q)) p (Ok x) e h = absurd h
+program_of (Err (faults.Unexpected q s)) p (Ok x) e h = absurd h
+program_of (Err (faults.EndOfText q)) p (Ok x) e h = absurd h
+program_of (Err (faults.WideLiteral q)) p (Ok x) e h = absurd h
+program_of (Err (faults.TooDeep q)) p (Ok x) e h = absurd h
+program_of (Err faults.TooLong) p (Ok x) e h = absurd h
+program_of (Err (faults.TooManyMembers q)) p (Ok x) e h = absurd h
+program_of (Err (faults.Unsupported q s)) p (Ok x) e h = absurd h
+program_of (Err x) p (Err f) e h = absurd cc
+
+-- what is spelled is answered, by what is answered of all tokens and endings
+pub spelled_is_answered : (text : List ℕ) (r : Result the_program.Program the_fault.TextFault) → SpelledProgramsAreRead → (length text ≤ 4194304 → IsUtf8 text → (ts : List Token) (e : Ending) → Scans first_place (unmarked text) ts e → IsAnswer r (answer ts e)) → (p : Program) → Spells text p → IsProgram r p
+spelled_is_answered text r law reads p s = program_of r p (answer s.tokens (AtEnd s.at)) (answered s.tokens s.at p (law s.tokens p s.within)) (reads s.short s.utf8 s.tokens (AtEnd s.at) s.scans)
