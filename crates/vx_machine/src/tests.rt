@@ -85,7 +85,10 @@ fn two_choices(alloc: Global) -> Result<Typed, AllocError> {
     let first = Stmt::If(at(3, 1), variable(alloc, at(3, 5), "a")?, left, right);
     let a = variable(alloc, at(4, 17), "a")?;
     let implied = Expr::Connect(at(4, 17), Connective::Implies, a.clone()?, a);
-    let left = single(alloc, asserting(alloc, at(4, 10), &Rc::new(alloc, implied)?)?)?;
+    let left = single(
+        alloc,
+        asserting(alloc, at(4, 10), &Rc::new(alloc, implied)?)?,
+    )?;
     let last = variable(alloc, at(4, 41), "a")?;
     let right = single(alloc, asserting(alloc, at(4, 34), &last)?)?;
     let second = Stmt::If(at(4, 1), variable(alloc, at(4, 5), "b")?, left, right);
@@ -114,7 +117,10 @@ fn two_asserts(alloc: Global) -> Result<Typed, AllocError> {
 fn increment(alloc: Global, has_body: bool) -> Result<Typed, AllocError> {
     let x = variable(alloc, at(1, 49), "x")?;
     let y = variable(alloc, at(1, 45), "y")?;
-    let greater = Rc::new(alloc, Expr::Operate(at(1, 45), Operator::Greater, y, x.clone()?))?;
+    let greater = Rc::new(
+        alloc,
+        Expr::Operate(at(1, 45), Operator::Greater, y, x.clone()?),
+    )?;
     let one = Rc::new(alloc, Expr::Number(at(1, 62), 1))?;
     let more = Rc::new(alloc, Expr::Operate(at(1, 58), Operator::Add, x, one))?;
     let assign = Stmt::Assign(at(1, 53), name(alloc, "y")?, more);
@@ -139,12 +145,7 @@ fn start(alloc: Global, typed: &Typed, limit: u32) -> Result<Machine, Fail>
 }
 
 /// On, with this reply where one is awaited.
-fn on(
-    alloc: Global,
-    machine: &mut Machine,
-    typed: &Typed,
-    reply: Reply,
-) -> Result<Ask, AllocError>
+fn on(alloc: Global, machine: &mut Machine, typed: &Typed, reply: Reply) -> Result<Ask, AllocError>
     requires { Follows (settled typed.now) machine.old }
     ensures { Follows (settled typed.now) machine.new }
 {
