@@ -1,4 +1,4 @@
--- Every question of a typed method of the store language is well-sorted over live symbols.
+-- Every expression of the store language asks well-sorted questions, over symbols below the next number of the state.
 use Rattle.std.proofs.Common.{◌≡◌, ℕ, ◌≤◌, Bool, true, false, cond, ◌||◌, ◌&&◌, inl, pos, List, [], ◌∷◌, ◌++◌, Some, sym, ◌∙◌, ap, subst, le_refl, le_trans, le_of_lt, lt-suc_self}
 use Rattle.vx_ast.specs.declared.Place.{Place}
 use Rattle.vx_ast.specs.declared.ValueType.{ValueType}

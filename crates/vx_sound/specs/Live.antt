@@ -1,4 +1,4 @@
--- Questions that are well-sorted over the symbols that a state has.
+-- Questions that are well-sorted over the symbols below a number.
 use Rattle.std.specs.Prelude.{ℕ}
 use Rattle.vx_ast.specs.Syntax.{Program, Method}
 use Rattle.vx_terms.specs.Sorts.{BoolSort}
