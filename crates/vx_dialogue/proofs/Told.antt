@@ -80,7 +80,7 @@ waits_sent dialogue d e sent_on batch owed got_on unread commands checks g = rec
   checks_are = g.checks_are;
 }
 
-some_same : {A : Type 0} (x y : A) → Some x ≡ Some y → x ≡ y
+pub some_same : {A : Type 0} (x y : A) → Some x ≡ Some y → x ≡ y
 some_same x y e = cc
 
 -- the replies are read, and the answer to the check; a pop is gathered
@@ -116,3 +116,19 @@ gathers_answered dialogue d e owed got1 unread1 item reply owed_is sent_on batch
       checks_are = sym (ap (λ x. checks_told base x ((w.items ++ successes) ++ item ∷ [])) w.all
           ∙ checks_join base before (CheckSat ∷ []) (w.items ++ successes) (item ∷ []) lawful_before ∙ rw (old_checks, new_check) refl);
     }
+
+-- nothing is said yet
+pub gathers_none : {L : Type 0} (dialogue : L → List Piece) (d : Dialogue L) → dialogue d.link ≡ [] → d.batch.items ≡ [] → d.count ≡ 0 → d.unread.items ≡ [] → Gathers dialogue d [] []
+gathers_none dialogue d link batch count unread = record {
+  answered = [];
+  gathered = [];
+  items = [];
+  all = refl;
+  sent_is = ap sent link;
+  batch_is = batch;
+  count_is = count;
+  plain = tt;
+  got_is = unread ∙ sym (ap got link);
+  lawful = tt;
+  checks_are = refl;
+}

@@ -1,5 +1,5 @@
 // The dialogue that drives one link.
-ghost use Rattle.std.specs.Prelude.{◌≡◌, ◌++◌, ◌∷◌, ◌<◌, ◌≤◌, [], OnOk, IfOk, None, Some, true, false, map, List, ◌↔◌, Err, ◌⊎◌, MatchResult, IsErr, is_err};
+ghost use Rattle.std.specs.Prelude.{◌≡◌, ◌++◌, ◌∷◌, ◌<◌, ◌≤◌, [], OnOk, IfOk, IfErr, None, Some, true, false, map, List, ◌↔◌, Err, ◌⊎◌, MatchResult, IsErr, is_err};
 ghost use Rattle.vx_ends.specs.Dialogue.{sent, got};
 ghost use Rattle.vx_ends.specs.Causes.{HasCause};
 ghost use Rattle.vx_terms.specs.Terms as Written;
@@ -7,6 +7,7 @@ ghost use Rattle.vx_smt_meaning.specs.Commands.{Level, stack_of};
 ghost use Rattle.vx_smt_meaning.specs.Commands as Spec;
 ghost use Rattle.vx_smt_meaning.specs.Dialogues.{Check, is_plain, ArePlain};
 ghost use Rattle.vx_smt_meaning.specs.Views.{command, declared_symbol};
+ghost use Rattle.vx_dialogue.specs.Stops.{Explains};
 ghost use Rattle.vx_dialogue.specs.Dialogue.{preamble, question, closing, shared, link_of, has_failed, is_in_member, IsFree, IsAsked, Gathers, Waits, Stands, Asks, check_of, told_check, gives};
 
 use crate::Talk;
@@ -47,6 +48,7 @@ impl<L: Link> Dialogue<L> {
         ensures told { OnOk result ((commands : List Spec.Command) (checks : List Check) → Gathers L.dialogue self.old commands checks → Gathers L.dialogue self.new commands checks) }
         ensures count { OnOk result (self.new.count ≡ 0) }
         ensures same { (self.new.in_member ≡ self.old.in_member) × (self.new.owed ≡ self.old.owed) × (self.new.failed ≡ self.old.failed) }
+        ensures fault { IfErr result (λ talk. (commands : List Spec.Command) (checks : List Check) → Gathers L.dialogue self.old commands checks → Explains talk (got (L.dialogue self.new.link)) commands) }
         ensures cause { HasCause Talk.Pipe (L.faults self.old.link) (L.faults self.new.link) result }
         ensures open { result ≡ Err Talk.Closed → ⊥ }
     {
@@ -54,14 +56,14 @@ impl<L: Link> Dialogue<L> {
         self.batch.clear();
         let count = self.count;
         self.count = 0;
-        expect_successes(alloc, &mut self.link, &mut self.unread, count)?;
-        Ok(())
+        expect_successes(alloc, &mut self.link, &mut self.unread, count)
     }
 
     fn make_room(&mut self, alloc: Global) -> Result<(), Talk>
         ensures told { OnOk result ((commands : List Spec.Command) (checks : List Check) → Gathers L.dialogue self.old commands checks → Gathers L.dialogue self.new commands checks) }
         ensures count { OnOk result (self.new.count < 256) }
         ensures same { (self.new.in_member ≡ self.old.in_member) × (self.new.owed ≡ self.old.owed) × (self.new.failed ≡ self.old.failed) }
+        ensures fault { IfErr result (λ talk. (commands : List Spec.Command) (checks : List Check) → Gathers L.dialogue self.old commands checks → Explains talk (got (L.dialogue self.new.link)) commands) }
         ensures cause { HasCause Talk.Pipe (L.faults self.old.link) (L.faults self.new.link) result }
         ensures open { result ≡ Err Talk.Closed → ⊥ }
     {
@@ -77,6 +79,7 @@ impl<L: Link> Dialogue<L> {
         ensures told { OnOk result (is_plain (command c.now) ≡ true → (commands : List Spec.Command) (checks : List Check)
             → Gathers L.dialogue self.old commands checks → Gathers L.dialogue self.new (commands ++ command c.now ∷ []) checks) }
         ensures same { (self.new.in_member ≡ self.old.in_member) × (self.new.owed ≡ self.old.owed) × (self.new.failed ≡ self.old.failed) }
+        ensures fault { IfErr result (λ talk. (commands : List Spec.Command) (checks : List Check) → Gathers L.dialogue self.old commands checks → Explains talk (got (L.dialogue self.new.link)) commands) }
         ensures cause { HasCause Talk.Pipe (L.faults self.old.link) (L.faults self.new.link) result }
         ensures open { result ≡ Err Talk.Closed → ⊥ }
     {
@@ -90,6 +93,7 @@ impl<L: Link> Dialogue<L> {
         ensures told { OnOk result (ArePlain (map command all.now) → (commands : List Spec.Command) (checks : List Check)
             → Gathers L.dialogue self.old commands checks → Gathers L.dialogue self.new (commands ++ map command all.now) checks) }
         ensures same { (self.new.in_member ≡ self.old.in_member) × (self.new.owed ≡ self.old.owed) × (self.new.failed ≡ self.old.failed) }
+        ensures fault { IfErr result (λ talk. ArePlain (map command all.now) → (commands : List Spec.Command) (checks : List Check) → Gathers L.dialogue self.old commands checks → Explains talk (got (L.dialogue self.new.link)) (commands ++ map command all.now)) }
         ensures cause { HasCause Talk.Pipe (L.faults self.old.link) (L.faults self.new.link) result }
         ensures open { result ≡ Err Talk.Closed → ⊥ }
     {
@@ -104,6 +108,7 @@ impl<L: Link> Dialogue<L> {
             → Gathers L.dialogue self.old commands checks → Gathers L.dialogue self.new (commands ++ preamble certify (map declared_symbol functions.now)) checks) }
         ensures count { OnOk result (self.new.count ≡ 0) }
         ensures same { (self.new.in_member ≡ self.old.in_member) × (self.new.owed ≡ self.old.owed) × (self.new.failed ≡ self.old.failed) }
+        ensures fault { IfErr result (λ talk. (commands : List Spec.Command) (checks : List Check) → Gathers L.dialogue self.old commands checks → Explains talk (got (L.dialogue self.new.link)) (commands ++ preamble certify (map declared_symbol functions.now))) }
         ensures cause { HasCause Talk.Pipe (L.faults self.old.link) (L.faults self.new.link) result }
         ensures open { result ≡ Err Talk.Closed → ⊥ }
     {
@@ -123,6 +128,7 @@ impl<L: Link> Dialogue<L> {
         requires { L.dialogue link ≡ [] }
         ensures stands { IfOk result (λ d. let commands = preamble certify (map declared_symbol functions.now) in Stands L.dialogue (stack_of commands) d commands []) }
         ensures free { IfOk result (λ d. IsFree d × (has_failed d ≡ false) × (is_in_member d ≡ false)) }
+        ensures fault { IfErr result (λ e. Explains e.1 (got (L.dialogue e.0)) (preamble certify (map declared_symbol functions.now))) }
         ensures cause { MatchResult result (λ d. L.faults link ≤ L.faults (link_of d)) (λ e. HasCause Talk.Pipe (L.faults link) (L.faults e.0) (gives e.1)) }
         ensures open { MatchResult result (λ _. Unit {0}) (λ e. e.1 ≡ Talk.Closed → ⊥) }
     {
@@ -148,6 +154,7 @@ impl<L: Link> Dialogue<L> {
         ensures asked { OnOk result (IsAsked self.new) }
         ensures member { OnOk result (self.new.in_member ≡ true) }
         ensures failed { self.new.failed ≡ self.old.failed }
+        ensures fault { IfErr result (λ talk. (commands : List Spec.Command) (checks : List Check) → Gathers L.dialogue self.old commands checks → Explains talk (got (L.dialogue self.new.link)) (commands ++ Spec.CheckSat ∷ [])) }
         ensures cause { HasCause Talk.Pipe (L.faults self.old.link) (L.faults self.new.link) result }
         ensures open { result ≡ Err Talk.Closed → ⊥ }
     {
@@ -172,6 +179,7 @@ impl<L: Link> Dialogue<L> {
         ensures asked { OnOk result (IsAsked self.new) }
         ensures member { OnOk result (self.new.in_member ≡ true) }
         ensures failed { self.new.failed ≡ self.old.failed }
+        ensures fault { IfErr result (λ talk. (commands : List Spec.Command) (checks : List Check) → Gathers L.dialogue self.old commands checks → Explains talk (got (L.dialogue self.new.link)) ((commands ++ question self.old.in_member (map shared path.now) (shared condition.now)) ++ Spec.CheckSat ∷ [])) }
         ensures cause { HasCause Talk.Pipe (L.faults self.old.link) (L.faults self.new.link) result }
         ensures open { result ≡ Err Talk.Closed → ⊥ }
     {
@@ -192,6 +200,8 @@ impl<L: Link> Dialogue<L> {
             → Asks L.dialogue base (map shared path.now) (shared condition.now) self.new
             ((commands ++ question (is_in_member self.old) (map shared path.now) (shared condition.now)) ++ Spec.CheckSat ∷ []) checks) }
         ensures asked { IsAsked self.new }
+        ensures fault { IfErr result (λ talk. (base : List Level) (commands : List Spec.Command) (checks : List Check) → Stands L.dialogue base self.old commands checks
+            → Explains talk (got (L.dialogue (link_of self.new))) ((commands ++ question (is_in_member self.old) (map shared path.now) (shared condition.now)) ++ Spec.CheckSat ∷ [])) }
         ensures cause { HasCause Talk.Pipe (L.faults (link_of self.old)) (L.faults (link_of self.new)) result }
         ensures closed { (result ≡ Err Talk.Closed) ↔ (has_failed self.old ≡ true) }
         ensures failed { has_failed self.new ≡ is_err result }
@@ -214,6 +224,7 @@ impl<L: Link> Dialogue<L> {
             → Gathers L.dialogue self.new (commands ++ Spec.Pop 1 ∷ []) (checks ++ told_check (stack_of commands) reply ∷ [])) }
         ensures free { OnOk result ((self.new.owed ≡ None) × (self.new.count ≡ 1)) }
         ensures same { (self.new.in_member ≡ self.old.in_member) × (self.new.failed ≡ self.old.failed) }
+        ensures fault { IfErr result (λ talk. self.old.owed ≡ Some owed → (commands : List Spec.Command) (checks : List Check) → Waits L.dialogue self.old commands checks → Explains talk (got (L.dialogue self.new.link)) commands) }
         ensures cause { HasCause Talk.Pipe (L.faults self.old.link) (L.faults self.new.link) result }
         ensures open { result ≡ Err Talk.Closed → ⊥ }
     {
@@ -235,6 +246,8 @@ impl<L: Link> Dialogue<L> {
             → Asks L.dialogue base path condition self.old commands checks
             → Stands L.dialogue base self.new (commands ++ Spec.Pop 1 ∷ []) (checks ++ check_of base path condition reply ∷ [])) }
         ensures free { IsFree self.new }
+        ensures fault { IfErr result (λ talk. (base : List Level) (path : List Written.Term) (condition : Written.Term) (commands : List Spec.Command) (checks : List Check)
+            → Asks L.dialogue base path condition self.old commands checks → Explains talk (got (L.dialogue (link_of self.new))) commands) }
         ensures cause { HasCause Talk.Pipe (L.faults (link_of self.old)) (L.faults (link_of self.new)) result }
         ensures closed { (result ≡ Err Talk.Closed) ↔ (has_failed self.old ≡ true) }
         ensures failed { has_failed self.new ≡ is_err result }
@@ -265,6 +278,8 @@ impl<L: Link> Dialogue<L> {
             (((commands ++ question (is_in_member self.old) (map shared path.now) (shared condition.now)) ++ Spec.CheckSat ∷ []) ++ Spec.Pop 1 ∷ [])
             (checks ++ check_of base (map shared path.now) (shared condition.now) reply ∷ [])) }
         ensures free { IsFree self.new }
+        ensures fault { IfErr result (λ talk. (base : List Level) (commands : List Spec.Command) (checks : List Check) → Stands L.dialogue base self.old commands checks
+            → Explains talk (got (L.dialogue (link_of self.new))) ((commands ++ question (is_in_member self.old) (map shared path.now) (shared condition.now)) ++ Spec.CheckSat ∷ [])) }
         ensures cause { HasCause Talk.Pipe (L.faults (link_of self.old)) (L.faults (link_of self.new)) result }
         ensures closed { (result ≡ Err Talk.Closed) ↔ (has_failed self.old ≡ true) }
         ensures failed { has_failed self.new ≡ is_err result }

@@ -141,11 +141,14 @@ fn kept_of_opening(
     reply: &str,
 ) -> Result<Option<(&'static str, Bytes)>, AllocError> {
     let link = ScriptLink::new(alloc, script(alloc, 1, &[reply])?);
-    match Dialogue::open(alloc, link, &functions(alloc)?, false) {
-        Ok(_) => Ok(None),
-        Err((_, Talk::Garbled(kept))) => Ok(Some(("garbled", kept))),
-        Err((_, Talk::Refused(kept))) => Ok(Some(("refused", kept))),
-        Err(_) => Ok(None),
+    let talk = match Dialogue::open(alloc, link, &functions(alloc)?, false) {
+        Ok(_) => return Ok(None),
+        Err((_, talk)) => talk,
+    };
+    match talk {
+        Talk::Garbled(kept) => Ok(Some(("garbled", kept))),
+        Talk::Refused(kept) => Ok(Some(("refused", kept))),
+        Talk::Pipe | Talk::Want | Talk::Closed => Ok(None),
     }
 }
 

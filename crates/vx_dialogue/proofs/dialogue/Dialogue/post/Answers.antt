@@ -9,3 +9,6 @@ returns-in-Ok-clause-asks g c = λ base commands checks stands. record {
   levels = asked_levels c.args.self.now.in_member base (map shared c.args.path.now) (shared c.args.condition.now) commands stands.levels;
   bare = stands.bare;
 }
+
+pub returns-in-Err-clause-fault : goal.returns-in-Err-clause-fault
+returns-in-Err-clause-fault g c = λ base commands checks stands. c.in-Err.ensures.fault commands checks stands.told

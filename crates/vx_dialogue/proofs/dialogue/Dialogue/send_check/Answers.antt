@@ -1,8 +1,10 @@
-use Rattle.std.proofs.Common.{rules, ◌≡◌, ◌++◌, [], refl}
+use Rattle.std.proofs.Common.{rules, ◌≡◌, ◌++◌, [], ◌∷◌, refl}
 use Rattle.vx_ends.specs.Dialogue.{sent}
 use Rattle.vx_smt_meaning.specs.Commands.{CheckSat}
 use Rattle.vx_smt_text.specs.Text.{command_text}
 use Rattle.vx_dialogue.proofs.Told.{waits_sent}
+use Rattle.vx_dialogue.proofs.Explained.{longer}
+use Rattle.std.proofs.lemmas.Result.{err_from_is_err_and}
 use Rattle.vx_dialogue.proofs.dialogue.Dialogue.send_check.Goals as goal
 
 pub returns-clause-told : goal.returns-clause-told
@@ -13,3 +15,7 @@ returns-clause-told g c = λ commands checks told.
     let sent_on : sent (dialogue c.send_all.new.link) ≡ sent (dialogue room.link) ++ (room.batch.items ++ command_text CheckSat) = search rules in
     let cleared : c.clear.new.self.items ≡ [] = search rules in
     waits_sent dialogue room _ sent_on cleared refl c.send_all.ensures.got refl commands checks before
+
+pub returns-in_err-make_room-clause-fault : goal.returns-in_err-make_room-clause-fault
+returns-in_err-make_room-clause-fault g c = let p = err_from_is_err_and c.from_residual.result c.from_residual.ensures.1 in rw (p.1, p.2) (λ commands checks told.
+    longer _ _ commands (CheckSat ∷ []) (c.in_err-make_room.ensures.fault commands checks told))

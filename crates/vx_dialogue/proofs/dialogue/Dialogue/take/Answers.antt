@@ -14,3 +14,6 @@ returns-in-Ok-clause-reply g c = λ base path condition commands checks asks.
       levels = rw member (popped_levels base _ commands asks.levels);
       bare = asks.bare;
     }
+
+pub returns-in-Err-clause-fault : goal.returns-in-Err-clause-fault
+returns-in-Err-clause-fault g c = λ base path condition commands checks asks. c.in-Err.ensures.fault c.in-Some.is commands checks asks.told
