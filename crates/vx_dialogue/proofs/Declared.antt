@@ -1,12 +1,12 @@
 -- The symbols of a question are declared.
-use Rattle.std.proofs.Common.{◌≡◌, ◌++◌, ℕ, Bool, true, false, List, [], ◌∷◌, refl, ap, ◌∙◌, sym, subst, inl, inr, ◌⊎◌, nat_eq, arith, if◌then◌else◌}
+use Rattle.std.proofs.Common.{◌≡◌, ◌++◌, ℕ, Bool, true, false, List, [], ◌∷◌, refl, ap, ◌∙◌, sym, subst, inl, inr, nat_eq, arith, if◌then◌else◌}
 use Rattle.std.proofs.lemmas.Grind.{common_steps}
 use Rattle.vx_terms.specs.Sorts.{Sort, Symbol, Standard, Function, Variable, Named, same_symbol}
 use Rattle.vx_terms.specs.Terms.{Term, Truth, Number, Part, Constant, Apply, Not, Binary, Ite, AllOf, SomeOf, Terms, NoTerms, MoreTerms}
 use Rattle.vx_terms.specs.Interpretations.{Each}
 use Rattle.vx_terms.specs.Build.{negate}
 use Rattle.vx_smt_meaning.specs.Commands.{Declared, Level, declared_in}
-use Rattle.vx_smt_meaning.specs.Symbols.{declaration, Declares, sorts_of, UsesDeclared, AllUseDeclared}
+use Rattle.vx_smt_meaning.specs.Symbols.{declaration, Declares, UsesDeclared, AllUseDeclared}
 use Rattle.vx_smt_meaning.specs.declared.reply.Reply.{Reply}
 use Rattle.vx_dialogue.specs.Symbols.{variable, declares, with_variable, with_symbol, with_variables, with_all_variables, with_listed}
 use Rattle.vx_dialogue.specs.Over.{IsConstantOver, IsOver, AreOver, IsWhole}

@@ -1,9 +1,9 @@
 -- Why a call gives no reply.
-use Rattle.std.proofs.Common.{◌≡◌, ◌++◌, ◌+◌, ◌<◌, ℕ, zero, suc, true, List, [], ◌∷◌, length, refl, ap, ◌∙◌, sym, subst, arith, append_assoc, Option, Some, Result, Ok, Err, IfErr}
+use Rattle.std.proofs.Common.{◌≡◌, ◌++◌, ◌<◌, ℕ, zero, suc, true, List, [], ◌∷◌, length, refl, ap, ◌∙◌, sym, subst, arith, append_assoc, Some, Result, Ok, Err, IfErr}
 use Rattle.vx_ends.specs.declared.piece.Piece.{Piece}
 use Rattle.vx_ends.specs.declared.fault.LinkFault.{LinkFault}
 use Rattle.vx_ends.specs.declared.fault.LinkFault.TheVariants as link
-use Rattle.vx_ends.specs.Dialogue.{sent, got}
+use Rattle.vx_ends.specs.Dialogue.{got}
 use Rattle.vx_sexp.specs.declared.token.Token.{Token}
 use Rattle.vx_smt_meaning.specs.Commands.{Command, SetOption, SetLogic, DeclareSort, DeclareFun, Assert, Push, Pop, CheckSat, GetProof, Exit}
 use Rattle.vx_smt_meaning.specs.Replies.{Items}

@@ -1,5 +1,5 @@
 -- Why no lawful reply is given.
-use Rattle.std.proofs.Common.{◌≡◌, ◌++◌, ℕ, List, [], ◌∷◌, take, drop, true, false, inl, inr, ◌∙◌, sym, subst}
+use Rattle.std.proofs.Common.{◌≡◌, ◌++◌, ℕ, List, take, drop, true, false, inl, inr, ◌∙◌, sym, subst}
 use Rattle.std.proofs.lemmas.List.{take-append-drop}
 use Rattle.vx_sexp.specs.declared.token.Token.{Token}
 use Rattle.vx_sexp.specs.First.{IsFirst}
