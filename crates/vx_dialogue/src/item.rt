@@ -15,6 +15,9 @@ use vx_smt_meaning::Reply;
 /// The longest item that is read on.
 pub const LONGEST: usize = 16_777_216;
 
+/// The most bytes that are got at once at first; then as many as are there already.
+const PIECE: usize = 4096;
+
 #[tactic(auto, using(std::proofs::lemmas::List::take_all))]
 fn copy_front(alloc: Global, bytes: &[u8], most: usize) -> Result<Bytes, AllocError>
     ensures { IfOk result (λ k. k ≡ take most bytes.now) }
@@ -69,7 +72,7 @@ pub fn next_item<L: Link>(
             Err(SexpFault::Deep(_)) => return Err(Talk::Garbled(kept(alloc, unread)?)),
             Err(SexpFault::Want) => return Err(Talk::Want),
         }
-        let piece = link.receive(alloc, 4096)?;
+        let piece = link.receive(alloc, unread.len().max(PIECE))?;
         unread.extend_from_slice(&piece)?;
     }
 }
