@@ -7,4 +7,4 @@ mod steps;
 
 pub use look::{equality, number_of};
 pub use node::{Head, Node};
-pub use steps::{Literal, Stop, chain, define, pick, trichotomy};
+pub use steps::{Literal, Stop, chain, congruence, define, pick, trichotomy};
