@@ -1,5 +1,5 @@
 -- What a step's function returns, beside the clause that is computed.
-use Rattle.std.specs.Prelude.{◌≡◌, ℕ, Bool, true, false, List, map, Option, Some, None, Ok, Err}
+use Rattle.std.specs.Prelude.{◌≡◌, Bool, true, false, List, map, Option, Some, None, Ok, Err}
 use Rattle.std.specs.declared.result.Result.{Result}
 use Rattle.cs_certificate.specs.Certificate.{NumberedLiteral, Plain, Negated, Sign}
 use Rattle.cs_table.specs.declared.steps.Literal.{Literal}

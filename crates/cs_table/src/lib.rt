@@ -7,4 +7,7 @@ mod steps;
 
 pub use look::{equality, number_of};
 pub use node::{Head, Node};
-pub use steps::{Literal, Stop, chain, define, pick, trichotomy};
+pub use steps::{Literal, Stop, chain, congruence, define, pick, trichotomy};
+
+#[cfg(test)]
+mod tests;

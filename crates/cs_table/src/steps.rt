@@ -456,3 +456,41 @@ pub fn define(alloc: Global, all: &[Node], t: u32, row: u32) -> Result<Vec<Liter
     let node = node_at(all, t)?;
     define_by(alloc, all, t, &node.head, &node.parts, row)
 }
+
+/// The denials of the equalities of two lists of parts, identical pairs left out.
+fn pairs(alloc: Global, all: &[Node], xs: &[u32], ys: &[u32]) -> Result<Vec<Literal>, Stop>
+    requires { length all.now < 2 ^ 32 }
+    ensures { Gives (λ v. clause v.items) result (clean.pairs (nodes all.now) xs.now ys.now) }
+{
+    if xs.len() != ys.len() {
+        return Err(Stop::Miss);
+    }
+    let mut denials = Vec::new(alloc);
+    for at in 0..xs.len() {
+        let x = xs[at];
+        let y = ys[at];
+        if x != y {
+            match equality_at(all, x, y) {
+                Ok(equal) => denials.push(denial(equal))?,
+                Err(stop) => return Err(stop),
+            }
+        }
+    }
+    Ok(denials)
+}
+
+/// `cong`: terms of one head whose parts are equal are equal.
+pub fn congruence(alloc: Global, all: &[Node], s: u32, t: u32) -> Result<Vec<Literal>, Stop>
+    requires { length all.now < 2 ^ 32 }
+    ensures { Gives (λ v. clause v.items) result (clean.congruence_clause (nodes all.now) s t) }
+{
+    let left = node_at(all, s)?;
+    let right = node_at(all, t)?;
+    if !left.head.is_same(&right.head) {
+        return Err(Stop::Miss);
+    }
+    let mut clause = pairs(alloc, all, &left.parts, &right.parts)?;
+    let equal = equality_at(all, s, t)?;
+    clause.push(plain(equal))?;
+    Ok(clause)
+}
