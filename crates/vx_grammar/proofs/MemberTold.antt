@@ -26,7 +26,7 @@ use Rattle.vx_grammar.proofs.Steps.{Step, TurnFor, StepsBy, StepsFor, no_steps, 
 
 -- ---- declarations
 
-abbrev DeclarationStep : ℕ → Step (List Declaration)
+abbrev pub DeclarationStep : ℕ → Step (List Declaration)
 DeclarationStep n before after ms = (p : Place) × (d : DeclarationPhrase) × IsWrittenType d.of × (after ≡ before ++ declaration_meant d ∷ []) × (ms ≡ mark n p (symbol signs.Comma) ∷ declaration_marks n d)
 
 some_declaration : DeclarationPhrase
@@ -54,7 +54,7 @@ turn_by_tells limit n before t ts true h le =
     (tells_sequence (DeclarationFor n) _ limit ts (declaration_at ts) _ (λ d. starts_nothing _) (declaration_tells limit n ts le) (λ d us. tells_nothing limit us _)))
 turn_by_tells limit n before t ts false h le = tells_here (TurnFor (DeclarationStep n) before) limit (t ∷ ts) None refl
 
-turn_tells : (limit n : ℕ) → n ≤ limit → (before : List Declaration) (ts : List Token) → Tells (TurnFor (DeclarationStep n) before) limit ts (declaration_turn before ts)
+pub turn_tells : (limit n : ℕ) → n ≤ limit → (before : List Declaration) (ts : List Token) → Tells (TurnFor (DeclarationStep n) before) limit ts (declaration_turn before ts)
 unfolding declaration_turn
 turn_tells limit n le before [] = tells_here (TurnFor (DeclarationStep n) before) limit [] None refl
 turn_tells limit n le before (t ∷ ts) = turn_by_tells limit n before t ts (is_symbol signs.Comma t.kind) refl le

@@ -170,7 +170,7 @@ stmt_reads limit n room (branched p b) ts s below' h st ends = branch_reads_at l
 abbrev StmtWithin : ℕ → ℕ → Stmt → List Mark → Type 0
 StmtWithin limit n s ms = StmtFor n s ms × Within limit ms
 
-stmt_first : (n : ℕ) (w : StmtPhrase) → (m : Mark) × (rest : List Mark) × (stmt_marks n w ≡ m ∷ rest) × (begins_stmt m.token.kind ≡ true)
+pub stmt_first : (n : ℕ) (w : StmtPhrase) → (m : Mark) × (rest : List Mark) × (stmt_marks n w ≡ m ∷ rest) × (begins_stmt m.token.kind ≡ true)
 stmt_first n (assigned p x q e) = (_, _, refl, refl)
 stmt_first n (declared p d) = (_, _, refl, refl)
 stmt_first n (initialized p d q e) = (_, _, refl, refl)

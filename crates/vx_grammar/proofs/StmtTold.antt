@@ -304,3 +304,7 @@ stmt_told_at limit (suc room) = stmt_told_from limit (suc room) (λ less e. let 
 pub block_reading_tells : (limit n room : ℕ) (ts : List Token) → n + room ≡ limit → Tells (BlockFor n) limit ts (block_at (stmts_below room) ts)
 unfolding StmtToldBelow
 block_reading_tells limit n room ts e = block_tells limit n room ts e (λ less s. stmt_told_at limit less)
+
+pub stmt_reading_tells : (limit n room : ℕ) (ts : List Token) → n + room ≡ limit → Tells (StmtFor n) limit ts (stmt_at room (stmts_below room) ts)
+unfolding StmtToldBelow
+stmt_reading_tells limit n room ts e = stmt_tells limit n room ts e (λ less s. stmt_told_at limit less)
