@@ -1,21 +1,21 @@
 -- Reading members looks no further than the token at which it stops.
-use Rattle.std.proofs.Common.{◌≡◌, ℕ, zero, suc, ◌+◌, ◌-◌, ◌≤◌, ◌<◌, List, [], ◌∷◌, ◌++◌, Option, Some, None, Ok, Err, length, refl, sym, ap, subst, ◌∙◌, append_assoc, arith, Bool, true, false, cond, leb, length-append, inl, inr, ◌⊎◌}
+use Rattle.std.proofs.Common.{◌≡◌, ℕ, zero, suc, ◌+◌, ◌-◌, ◌≤◌, ◌<◌, List, [], ◌∷◌, ◌++◌, Option, Some, None, Ok, Err, length, refl, sym, ap, subst, ◌∙◌, append_assoc, arith, Bool, true, false, cond, leb, length-append, inl, inr}
 use Rattle.std.proofs.lemmas.List.{length-map, append_cancel_right}
 use Rattle.std.proofs.lemmas.Bool.{leb-true, le-leb}
 use Rattle.vx_ast.specs.declared.Place.{Place}
-use Rattle.vx_ast.specs.Written.{Expr, Declaration, Block, Member}
+use Rattle.vx_ast.specs.Written.{Expr, Declaration}
 use Rattle.vx_tokens.specs.declared.token.Symbol.TheVariants as signs
-use Rattle.vx_tokens.specs.Tokens.{Token, Kind}
+use Rattle.vx_tokens.specs.Tokens.{Token}
 use Rattle.vx_grammar.specs.Grammar.{Mark, tokens_of}
-use Rattle.vx_grammar.specs.Reading.{◌>>=◌, Read, Unexpected, TooDeep, expect, is_symbol, choice_at, below}
+use Rattle.vx_grammar.specs.Reading.{◌>>=◌, Read, Unexpected, TooDeep, is_symbol, choice_at, below}
 use Rattle.vx_grammar.specs.Loops.{Turn, run, turned}
 use Rattle.vx_grammar.specs.StmtReading.{name_at, declaration_at, block_at, stmts_below, skip_semicolon}
-use Rattle.vx_grammar.specs.MemberReading.{limit, Clauses, no_clauses, with_requires, with_ensures, begins_requires, begins_ensures, clause_at, clause_turn, clauses_at, method_of, method_at, declaration_turn, declarations_at, is_closing, inner_parameters_at, parameters_at, begins_returns, returns_at}
+use Rattle.vx_grammar.specs.MemberReading.{limit, Clauses, no_clauses, with_requires, with_ensures, begins_requires, begins_ensures, clause_at, clause_turn, clauses_at, method_at, declaration_turn, declarations_at, inner_parameters_at, parameters_at, begins_returns, returns_at}
 use Rattle.vx_grammar.proofs.Tells.{Grammar, Tells, TellsOk}
 use Rattle.vx_grammar.proofs.Steps.{TurnFor}
 use Rattle.vx_grammar.proofs.MemberTold.{DeclarationStep, turn_tells}
 use Rattle.vx_grammar.proofs.MethodTold.{ClauseStep, clause_turn_tells}
-use Rattle.vx_grammar.proofs.Local.{Local, Front, SameHead, same_behind, local_ok, local_unexpected, local_end, local_end_unexpected, local_return, local_token, local_then, local_same}
+use Rattle.vx_grammar.proofs.Local.{Local, Front, SameHead, same_behind, local_ok, local_end, local_end_unexpected, local_return, local_token, local_then, local_same}
 use Rattle.vx_grammar.proofs.LocalExpr.{reading_local}
 use Rattle.vx_grammar.proofs.StmtLocal.{name_local, declaration_local, bracket_local, block_reading_local}
 

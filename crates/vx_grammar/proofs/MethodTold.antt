@@ -1,9 +1,9 @@
 -- What reading clauses and methods tells.
-use Rattle.std.proofs.Common.{◌≡◌, ℕ, zero, suc, ◌+◌, ◌-◌, ◌≤◌, ◌<◌, List, [], ◌∷◌, ◌++◌, Option, Some, None, Bool, true, false, Ok, Err, length, refl, sym, ap, subst, ◌∙◌, append_assoc, arith, cond, leb, length-append, inl, inr, ◌⊎◌}
+use Rattle.std.proofs.Common.{◌≡◌, ℕ, ◌+◌, ◌-◌, ◌≤◌, List, [], ◌∷◌, ◌++◌, Option, Some, None, Bool, true, false, Ok, Err, length, refl, sym, ap, subst, ◌∙◌, append_assoc, arith, cond, leb, length-append, inl, inr, ◌⊎◌}
 use Rattle.std.proofs.lemmas.List.{append-nil}
 use Rattle.std.proofs.lemmas.Bool.{leb-true, leb-false}
 use Rattle.vx_ast.specs.declared.Place.{Place}
-use Rattle.vx_ast.specs.Written.{Expr, Exprs, NoMore, More, Declaration, Block, Method, IsMethod, Member}
+use Rattle.vx_ast.specs.Written.{Expr, More, Declaration, Member}
 use Rattle.vx_tokens.specs.declared.token.Word.{Word}
 use Rattle.vx_tokens.specs.declared.token.Word.TheVariants as words
 use Rattle.vx_tokens.specs.declared.token.Symbol.TheVariants as signs
@@ -11,7 +11,7 @@ use Rattle.vx_tokens.specs.Tokens.{Token, Kind, name, word, symbol}
 use Rattle.vx_grammar.specs.Grammar.{Phrase, Mark, mark, marks, meant, StandsAt}
 use Rattle.vx_grammar.specs.Statements.{semi_marks, block_marks}
 use Rattle.vx_grammar.specs.Programs.{ClausesPhrase, no_clauses, requires, ensures, requires_meant, ensures_meant, StandsClauses, clauses_marks, MethodPhrase, method_meant, StandsMethod, method_marks, parameters_marks, returns_marks}
-use Rattle.vx_grammar.specs.Reading.{◌>>=◌, Read, TooDeep, is_symbol, choice_at, below}
+use Rattle.vx_grammar.specs.Reading.{◌>>=◌, TooDeep, is_symbol, choice_at, below}
 use Rattle.vx_grammar.specs.StmtReading.{skip_semicolon, name_at, block_at, stmts_below}
 use Rattle.vx_grammar.specs.MemberReading as reading
 use Rattle.vx_grammar.specs.MemberReading.{Clauses, with_requires, with_ensures, begins_requires, begins_ensures, clause_at, clause_turn, clauses_at, exprs_from, limit, method_of, method_at, parameters_at, returns_at}
@@ -20,10 +20,10 @@ use Rattle.vx_grammar.proofs.Tells.{Grammar, Starts, Tells, takes_none, tells_as
 use Rattle.vx_grammar.proofs.Sequence.{Sequence, Nothing, tells_sequence, starts_sequence, starts_nothing, tells_nothing}
 use Rattle.vx_grammar.proofs.Bracketed.{Nested}
 use Rattle.vx_grammar.proofs.Means.{PhraseFor, starts_any, reading_tells, marks_is}
-use Rattle.vx_grammar.proofs.StmtTells.{NameFor, name_tells, starts_name}
+use Rattle.vx_grammar.proofs.StmtTells.{NameFor, name_tells}
 use Rattle.vx_grammar.proofs.StmtFor.{BlockFor, starts_block}
 use Rattle.vx_grammar.proofs.StmtTold.{led_tells, block_reading_tells}
-use Rattle.vx_grammar.proofs.Steps.{Step, TurnFor, StepsBy, StepsFor, no_steps, run_tells}
+use Rattle.vx_grammar.proofs.Steps.{Step, TurnFor, StepsBy, StepsFor, run_tells}
 use Rattle.vx_grammar.proofs.MemberTold.{ParametersFor, parameters_tells, starts_parameters, ReturnsFor, returns_tells, starts_returns}
 
 -- ---- a value, and then a semicolon or none

@@ -8,12 +8,12 @@ use Rattle.vx_grammar.specs.Grammar.{Mark, tokens_of}
 use Rattle.vx_grammar.specs.Programs.{ProgramPhrase, program_meant, program_marks, StandsProgram}
 use Rattle.vx_grammar.specs.Reading.{Read, Unexpected, TooDeep}
 use Rattle.vx_grammar.specs.StmtReading.{skip_semicolon}
-use Rattle.vx_grammar.specs.MemberReading.{Halt, inside, no_member, too_many, begins_member, then_members, members_by, members_within, members_at, method_at, limit, max_members}
+use Rattle.vx_grammar.specs.MemberReading.{Halt, inside, no_member, too_many, begins_member, then_members, members_by, members_within, method_at, limit, max_members}
 use Rattle.vx_grammar.specs.Laws.{Within}
-use Rattle.vx_grammar.specs.ProgramLaws.{ProgramSpelled, ProgramFits, ProgramSays, ProgramsSpelledOnce, NoProgramFits, FirstUnfit, StopsAtFirst, ReadingStopsAtFirst}
+use Rattle.vx_grammar.specs.ProgramLaws.{ProgramSays, ProgramsSpelledOnce, NoProgramFits, StopsAtFirst, ReadingStopsAtFirst}
 use Rattle.vx_grammar.proofs.Local.{Local, Front, SameHead, same_behind}
 use Rattle.vx_grammar.proofs.MemberLocal.{method_local, skip_local}
-use Rattle.vx_grammar.proofs.MemberReads.{program_read, program_long, long_enough}
+use Rattle.vx_grammar.proofs.MemberReads.{program_read, program_long}
 use Rattle.vx_grammar.proofs.ProgramTold.{programs_are_spelled}
 
 -- ---- limits that are high enough

@@ -1,5 +1,5 @@
 -- What reading programs tells.
-use Rattle.std.proofs.Common.{◌≡◌, ℕ, zero, suc, ◌+◌, ◌≤◌, ◌<◌, List, [], ◌∷◌, ◌++◌, Some, None, Bool, true, false, Result, Ok, Err, length, refl, sym, ap, subst, ◌∙◌, append_assoc, arith, cond, ltb, length-append}
+use Rattle.std.proofs.Common.{◌≡◌, ℕ, zero, suc, ◌≤◌, ◌<◌, List, [], ◌∷◌, ◌++◌, None, Bool, true, false, Result, Ok, Err, length, refl, sym, ap, subst, ◌∙◌, append_assoc, arith, cond, ltb, length-append}
 use Rattle.std.proofs.lemmas.List.{append-nil}
 use Rattle.std.proofs.lemmas.Bool.{ltb-true, ltb-false}
 use Rattle.vx_ast.specs.Written.{Member, Program}
@@ -7,13 +7,12 @@ use Rattle.vx_tokens.specs.declared.token.Word.TheVariants as words
 use Rattle.vx_tokens.specs.Tokens.{Token, Kind, word}
 use Rattle.vx_grammar.specs.Grammar.{Mark, tokens_of}
 use Rattle.vx_grammar.specs.Statements.{semi_marks}
-use Rattle.vx_grammar.specs.Programs.{MethodPhrase, method_meant, StandsMethod, method_marks, ProgramPhrase, no_members, member, program_meant, StandsProgram, program_marks}
+use Rattle.vx_grammar.specs.Programs.{method_meant, method_marks, ProgramPhrase, no_members, member, program_meant, StandsProgram, program_marks}
 use Rattle.vx_grammar.specs.Reading.{Read, Unexpected, TooDeep}
 use Rattle.vx_grammar.specs.StmtReading.{skip_semicolon}
-use Rattle.vx_grammar.specs.MemberReading.{Halt, inside, no_member, too_many, begins_member, then_members, members_by, members_within, members_at, method_at, limit, max_members}
+use Rattle.vx_grammar.specs.MemberReading.{Halt, no_member, too_many, begins_member, then_members, members_by, members_within, method_at, limit, max_members}
 use Rattle.vx_grammar.specs.Laws.{Within}
-use Rattle.vx_grammar.specs.ProgramLaws.{ProgramSpelled, ProgramWithin, ProgramGoesOn, ProgramFits, FitsInFront, StopsTooDeep, StopsTooMany, ProgramSays, ProgramsAreSpelled}
-use Rattle.vx_grammar.proofs.Lists.{tokens-append}
+use Rattle.vx_grammar.specs.ProgramLaws.{ProgramGoesOn, ProgramSays, ProgramsAreSpelled}
 use Rattle.vx_grammar.proofs.Tells.{Starts, Takes, Tells, TellsOk, takes_then, takes_none}
 use Rattle.vx_grammar.proofs.MethodTold.{SemiThen, semi_tells, MethodFor, method_tells}
 

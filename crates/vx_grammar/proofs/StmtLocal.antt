@@ -1,20 +1,20 @@
 -- Reading statements looks no further than the token at which it stops.
-use Rattle.std.proofs.Common.{◌≡◌, ℕ, zero, suc, ◌+◌, ◌≤◌, ◌<◌, List, [], ◌∷◌, ◌++◌, Some, None, Ok, Err, length, refl, sym, ap, subst, ◌∙◌, arith, Bool, true, false, cond, length-append}
+use Rattle.std.proofs.Common.{◌≡◌, ℕ, zero, suc, ◌+◌, ◌<◌, List, [], ◌∷◌, ◌++◌, Some, None, Ok, Err, length, refl, sym, ap, subst, ◌∙◌, arith, Bool, true, false, cond, length-append}
 use Rattle.std.proofs.lemmas.List.{length-map}
 use Rattle.vx_ast.specs.declared.Place.{Place}
 use Rattle.vx_ast.specs.declared.ValueType.TheVariants as types
-use Rattle.vx_ast.specs.Written.{Expr, Declaration, Value, Stmt, Block, Declare, Assign, Assert, Assume, If, Done, Then}
+use Rattle.vx_ast.specs.Written.{Expr, Declaration, Value, Stmt, Declare, Assign, Assert, Assume, Done, Then}
 use Rattle.vx_tokens.specs.declared.token.Symbol.{Symbol}
 use Rattle.vx_tokens.specs.declared.token.Word.TheVariants as words
 use Rattle.vx_tokens.specs.declared.token.Symbol.TheVariants as signs
 use Rattle.vx_tokens.specs.Tokens.{Token, Kind, name, number, word, symbol}
-use Rattle.vx_grammar.specs.Grammar.{Mark, tokens_of}
+use Rattle.vx_grammar.specs.Grammar.{tokens_of}
 use Rattle.vx_grammar.specs.Reading.{◌>>=◌, Read, Unexpected, TooDeep, expect, is_symbol, choice, choice_at, below}
 use Rattle.vx_grammar.specs.StmtReading.{StmtPart, statements, elseif_part, StmtDeeper, stmt_part, stmts_below, name_by, name_at, type_by, type_at, declaration_at, condition_at, block_at, otherwise_by, otherwise_at, branch_at, initial_by, initial_at, declare_at, assign_at, assert_at, assume_at, stmt_by, stmt_at, begins_stmt, stmts_at, block_from}
 use Rattle.vx_grammar.proofs.Tells.{Tells, TellsOk}
 use Rattle.vx_grammar.proofs.Rows.{rows, rows_local, LocalRows}
 use Rattle.vx_grammar.proofs.Bracketed.{bracketed_by}
-use Rattle.vx_grammar.proofs.Local.{Local, Front, SameHead, local_ok, local_unexpected, local_end, local_end_unexpected, local_return, local_token, local_then, local_expect}
+use Rattle.vx_grammar.proofs.Local.{Local, local_ok, local_unexpected, local_end, local_end_unexpected, local_return, local_token, local_then, local_expect}
 use Rattle.vx_grammar.proofs.LocalExpr.{reading_local, nested_local}
 use Rattle.vx_grammar.proofs.StmtFor.{StmtFor, stmts_are_rows}
 use Rattle.vx_grammar.proofs.StmtTold.{stmt_reading_tells}

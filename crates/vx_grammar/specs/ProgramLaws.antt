@@ -1,5 +1,5 @@
 -- What the tokens of a program spell, and where they stop spelling.
-use Rattle.std.specs.Prelude.{◌≡◌, ℕ, ◌+◌, ◌≤◌, ◌<◌, List, [], ◌∷◌, ◌++◌, length, true, Result, Ok, Err}
+use Rattle.std.specs.Prelude.{◌≡◌, ◌≤◌, ◌<◌, List, [], ◌∷◌, ◌++◌, length, true, Result, Ok, Err}
 use Rattle.vx_ast.specs.Written.{Program}
 use Rattle.vx_tokens.specs.Tokens.{Token}
 use Rattle.vx_grammar.specs.Grammar.{Mark, tokens_of}

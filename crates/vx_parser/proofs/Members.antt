@@ -1,13 +1,12 @@
 -- The turns of reading members.
-use Rattle.std.proofs.Common.{◌≡◌, ℕ, zero, suc, ◌+◌, ◌-◌, ◌≤◌, ◌<◌, List, [], ◌∷◌, ◌++◌, Result, Ok, Err, Bool, true, false, ltb, length, refl, sym, ap, subst, ◌∙◌, arith}
+use Rattle.std.proofs.Common.{◌≡◌, ℕ, zero, suc, ◌+◌, ◌-◌, ◌≤◌, ◌<◌, List, [], ◌∷◌, ◌++◌, Result, Ok, Err, true, false, ltb, length, refl, sym, ap, ◌∙◌, arith}
 use Rattle.std.proofs.lemmas.List.{length-map}
 use Rattle.std.proofs.lemmas.Bool.{lt-ltb, le-ltb}
 use Rattle.vx_ast.specs.Written.{Member, Program}
 use Rattle.vx_tokens.specs.declared.token.Token as the_token
 use Rattle.vx_tokens.specs.Tokens.{Token, tokens_in, token_of}
-use Rattle.vx_grammar.specs.Reading as reading
 use Rattle.vx_grammar.specs.StmtReading.{skip_semicolon}
-use Rattle.vx_grammar.specs.MemberReading.{limit, Halt, inside, no_member, too_many, begins_member, method_at, members_by, max_members}
+use Rattle.vx_grammar.specs.MemberReading.{limit, Halt, no_member, too_many, begins_member, method_at, members_by, max_members}
 use Rattle.vx_parser.specs.declared.stop.Stop as the_stop
 use Rattle.vx_parser.specs.declared.stop.Stop.TheVariants as stops
 use Rattle.vx_parser.specs.declared.program.Halt.TheVariants as halts

@@ -1,15 +1,14 @@
 -- What each fault says of the tokens.
-use Rattle.std.proofs.Common.{◌≡◌, List, [], ◌∷◌, ◌++◌, Result, Ok, Err, Bool, true, false, refl, sym, ap, subst, ◌∙◌, inl, inr, ◌⊎◌}
+use Rattle.std.proofs.Common.{◌≡◌, List, [], ◌∷◌, Result, Ok, Err, Bool, true, false, refl, sym, subst, ◌∙◌, inl, inr, ◌⊎◌}
 use Rattle.std.proofs.lemmas.List.{append-nil}
-use Rattle.vx_ast.specs.declared.Program as the_program
 use Rattle.vx_ast.specs.Written.{Program}
-use Rattle.vx_tokens.specs.Tokens.{Kind, Token}
+use Rattle.vx_tokens.specs.Tokens.{Token}
 use Rattle.vx_tokens.specs.Text.{Ending, AtEnd, OpenComment, WideLiteral, BadCharacter}
 use Rattle.vx_grammar.specs.Grammar.{tokens_of}
 use Rattle.vx_grammar.specs.Programs.{program_marks}
 use Rattle.vx_grammar.specs.Reading as reading
 use Rattle.vx_grammar.specs.MemberReading as members
-use Rattle.vx_grammar.specs.ProgramLaws.{ProgramSpelled, ProgramWithin, ProgramSays, StopsAtFirst, FirstUnfit, FitsInFront, NoProgramFits, ProgramsAreSpelled, ReadingStopsAtFirst}
+use Rattle.vx_grammar.specs.ProgramLaws.{ProgramSpelled, ProgramWithin, ProgramSays, StopsAtFirst, FirstUnfit, ProgramsAreSpelled, ReadingStopsAtFirst}
 use Rattle.vx_parser.specs.declared.fault.TextFault as the_fault
 use Rattle.vx_parser.specs.declared.fault.TextFault.TheVariants as faults
 use Rattle.vx_parser.specs.Answers.{Fault, answer, answer_by, early, unfit_token, is_foreign, is_foreign_member, IsEnd, IsAnswer, Shows}
