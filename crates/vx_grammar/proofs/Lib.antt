@@ -18,4 +18,7 @@ pub mod MethodTold
 pub mod ProgramTold
 pub mod StmtReads
 pub mod MemberReads
+pub mod StmtLocal
+pub mod MemberLocal
+pub mod ProgramLocal
 pub mod Turns

@@ -139,3 +139,8 @@ below_local (suc room) more p here ts heres =
 
 pub reading_local : (room more : ℕ) (ts : List Token) → Local ts (choice_at (below room) ts) (choice_at (below (room + more)))
 reading_local room more ts = choice_local (below room) (below (room + more)) ts (below_local room more)
+
+-- a part that nests, with as much room, or more
+pub nested_local : (room more : ℕ) (p : Part) (here ts : List Token) (heres : List Token → List Token) → Local ts (below room p here ts) (λ l. below (room + more) p (heres l) l)
+unfolding LocalDeeper
+nested_local room more p here ts heres = below_local room more p here ts heres

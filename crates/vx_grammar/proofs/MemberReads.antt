@@ -1,23 +1,23 @@
 -- Programs that are spelled are read.
-use Rattle.std.proofs.Common.{◌≡◌, ℕ, zero, suc, ◌+◌, ◌-◌, ◌≤◌, ◌<◌, List, [], ◌∷◌, ◌++◌, Option, Some, None, Bool, true, false, Result, Ok, Err, length, refl, sym, ap, subst, ◌∙◌, append_assoc, arith, leb, ltb, length-append}
+use Rattle.std.proofs.Common.{◌≡◌, ℕ, zero, suc, ◌+◌, ◌-◌, ◌≤◌, List, [], ◌∷◌, ◌++◌, Option, Some, None, true, false, Ok, length, refl, sym, ap, subst, ◌∙◌, append_assoc, arith, leb, ltb, length-append}
 use Rattle.std.proofs.lemmas.List.{append-nil, length-map}
 use Rattle.std.proofs.lemmas.Bool.{lt-ltb, le-leb}
 use Rattle.vx_ast.specs.declared.Place.{Place}
-use Rattle.vx_ast.specs.Written.{Expr, Declaration, Block, Member, Program}
+use Rattle.vx_ast.specs.Written.{Expr, Declaration, Member}
 use Rattle.vx_tokens.specs.declared.token.Word.TheVariants as words
 use Rattle.vx_tokens.specs.declared.token.Symbol.TheVariants as signs
-use Rattle.vx_tokens.specs.Tokens.{Token, Kind, name, word, symbol}
+use Rattle.vx_tokens.specs.Tokens.{Token, name, word, symbol}
 use Rattle.vx_grammar.specs.Grammar.{Phrase, Mark, mark, marks, meant, StandsAt, tokens_of}
-use Rattle.vx_grammar.specs.Statements.{DeclarationPhrase, declaration_meant, declaration_marks, IsWrittenType, BlockPhrase, block, block_meant, block_marks, row_marks, StandsBlock, semi_marks}
-use Rattle.vx_grammar.specs.Programs.{MoreDeclarations, no_more, listed, DeclarationsPhrase, none, some, ParametersPhrase, ReturnsPhrase, no_returns, returns, more_meant, declarations_meant, returns_meant, StandsMore, StandsDeclarations, StandsReturns, more_marks, declarations_marks, parameters_marks, returns_marks, ClausesPhrase, no_clauses, requires, ensures, requires_meant, ensures_meant, StandsClauses, clauses_marks, MethodPhrase, method_meant, StandsMethod, method_marks, ProgramPhrase, no_members, member, program_meant, StandsProgram, program_marks}
-use Rattle.vx_grammar.specs.Reading.{◌>>=◌, Read, expect, is_symbol, choice_at, below}
+use Rattle.vx_grammar.specs.Statements.{declaration_meant, declaration_marks, BlockPhrase, block, block_marks, row_marks, semi_marks}
+use Rattle.vx_grammar.specs.Programs.{MoreDeclarations, no_more, listed, DeclarationsPhrase, none, some, ParametersPhrase, ReturnsPhrase, no_returns, returns, more_meant, declarations_meant, returns_meant, StandsMore, StandsDeclarations, StandsReturns, more_marks, declarations_marks, parameters_marks, returns_marks, ClausesPhrase, no_clauses, requires, ensures, StandsClauses, clauses_marks, MethodPhrase, method_meant, StandsMethod, method_marks, ProgramPhrase, no_members, member, program_meant, StandsProgram, program_marks}
+use Rattle.vx_grammar.specs.Reading.{Read, expect, is_symbol}
 use Rattle.vx_grammar.specs.Loops.{run}
-use Rattle.vx_grammar.specs.StmtReading.{name_at, declaration_at, block_at, stmts_below, skip_semicolon}
+use Rattle.vx_grammar.specs.StmtReading.{name_at, skip_semicolon}
 use Rattle.vx_grammar.specs.MemberReading as reading
-use Rattle.vx_grammar.specs.MemberReading.{Clauses, with_requires, with_ensures, begins_requires, begins_ensures, clause_at, clause_turn, clauses_at, exprs_from, limit, max_members, method_of, method_at, declaration_turn, declarations_at, is_closing, inner_parameters_at, parameters_at, begins_returns, returns_at, members_by, members_at}
+use Rattle.vx_grammar.specs.MemberReading.{Clauses, with_requires, with_ensures, begins_requires, begins_ensures, clause_at, clause_turn, clauses_at, exprs_from, limit, max_members, method_of, method_at, declaration_turn, declarations_at, is_closing, inner_parameters_at, parameters_at, begins_returns, returns_at, members_by, members_within, members_at}
 use Rattle.vx_grammar.specs.Laws.{Within}
 use Rattle.vx_grammar.specs.ProgramLaws.{SpelledProgramsAreRead}
-use Rattle.vx_grammar.proofs.Lists.{tokens-append, tokens-append_more, within_front, within_back, Ends}
+use Rattle.vx_grammar.proofs.Lists.{tokens-append_more, within_front, within_back, Ends}
 use Rattle.vx_grammar.proofs.Complete.{is_read}
 use Rattle.vx_grammar.proofs.StmtReads.{Toks, declaration_reads, block_is_read}
 use Rattle.vx_grammar.proofs.MethodTold.{requires_in, ensures_in, requires_same, ensures_same, one_more}
@@ -90,11 +90,11 @@ clauses_over r k no_clauses o ts = (omega arith, refl)
 clauses_over r k (requires p e semi rest) o ts = (omega arith, refl)
 clauses_over r k (ensures p e semi rest) o ts = (omega arith, refl)
 
-clause_reads : (before : ℕ) (e : Phrase) (semi : Option Place) (here ts : List Token) → before ≤ limit → Within limit (marks before e) → StandsAt 8 e → ClauseOver ts → clause_at before here (Toks (marks before e) (Toks (semi_marks 0 semi) ts)) ≡ Ok (meant e, Toks (semi_marks 0 semi) ts)
+clause_reads : (deep before : ℕ) (e : Phrase) (semi : Option Place) (here ts : List Token) → before ≤ deep → Within deep (marks before e) → StandsAt 8 e → ClauseOver ts → clause_at deep before here (Toks (marks before e) (Toks (semi_marks 0 semi) ts)) ≡ Ok (meant e, Toks (semi_marks 0 semi) ts)
 unfolding clause_at
-clause_reads before e semi here ts le h st over =
-    let b : leb before limit ≡ true = le-leb _ _ le in
-    rw b (is_read limit before (limit - before) e (Toks (semi_marks 0 semi) ts) (omega (arith, le)) h st (semi_ends semi ts over))
+clause_reads deep before e semi here ts le h st over =
+    let b : leb before deep ≡ true = le-leb _ _ le in
+    rw b (is_read deep before (deep - before) e (Toks (semi_marks 0 semi) ts) (omega (arith, le)) h st (semi_ends semi ts over))
 
 size : ClausesPhrase → ℕ
 size no_clauses = 0
@@ -117,38 +117,38 @@ these_ensures c p e semi w = ap (λ (l : List Expr). let x : Clauses = record { 
 read_of : Clauses → List Token → Read Clauses
 read_of c ts = Ok (c, ts)
 
-clauses_read : (w : ClausesPhrase) (before : Clauses) (r k : ℕ) (o : Place) (ts : List Token) → length before.requires ≡ r → length before.ensures ≡ k → Within limit (clauses_marks r k w) → StandsClauses w → (most : ℕ) → size w ≤ most
-    → (let opened = mark 1 o (symbol signs.OpenBrace) in run clause_turn most before (Toks (clauses_marks r k w) (opened.token ∷ ts)) ≡ read_of (and_these before w) (opened.token ∷ ts))
+clauses_read : (deep : ℕ) (w : ClausesPhrase) (before : Clauses) (r k : ℕ) (o : Place) (ts : List Token) → length before.requires ≡ r → length before.ensures ≡ k → Within deep (clauses_marks r k w) → StandsClauses w → (most : ℕ) → size w ≤ most
+    → (let opened = mark 1 o (symbol signs.OpenBrace) in run (clause_turn deep) most before (Toks (clauses_marks r k w) (opened.token ∷ ts)) ≡ read_of (and_these before w) (opened.token ∷ ts))
 unfolding run clause_turn size read_of
-clauses_read no_clauses before r k o ts er ek h st zero le = ap (λ (c : Clauses). read_of c ((mark 1 o (symbol signs.OpenBrace)).token ∷ ts)) (these_none before)
-clauses_read no_clauses before r k o ts er ek h st (suc most) le = ap (λ (c : Clauses). read_of c ((mark 1 o (symbol signs.OpenBrace)).token ∷ ts)) (these_none before)
-clauses_read (requires p e semi rest) before r k o ts er ek h st zero le = absurd (omega (arith, le))
-clauses_read (ensures p e semi rest) before r k o ts er ek h st zero le = absurd (omega (arith, le))
-clauses_read (requires p e semi rest) before r k o ts er ek h st (suc most) le =
+clauses_read deep no_clauses before r k o ts er ek h st zero le = ap (λ (c : Clauses). read_of c ((mark 1 o (symbol signs.OpenBrace)).token ∷ ts)) (these_none before)
+clauses_read deep no_clauses before r k o ts er ek h st (suc most) le = ap (λ (c : Clauses). read_of c ((mark 1 o (symbol signs.OpenBrace)).token ∷ ts)) (these_none before)
+clauses_read deep (requires p e semi rest) before r k o ts er ek h st zero le = absurd (omega (arith, le))
+clauses_read deep (ensures p e semi rest) before r k o ts er ek h st zero le = absurd (omega (arith, le))
+clauses_read deep (requires p e semi rest) before r k o ts er ek h st (suc most) le =
     let opened = mark 1 o (symbol signs.OpenBrace) in
     let others = clauses_marks (r + 1) k rest in
     let tail = Toks others (opened.token ∷ ts) in
     let over : ClauseOver tail = clauses_over (r + 1) k rest o ts in
-    let he = within_front limit (marks r e) (semi_marks 0 semi ++ others) h.1 in
-    let ho = within_back limit (semi_marks 0 semi) others (within_back limit (marks r e) (semi_marks 0 semi ++ others) h.1) in
+    let he = within_front deep (marks r e) (semi_marks 0 semi ++ others) h.1 in
+    let ho = within_back deep (semi_marks 0 semi) others (within_back deep (marks r e) (semi_marks 0 semi ++ others) h.1) in
     let list : tokens_of (marks r e ++ (semi_marks 0 semi ++ others)) ++ opened.token ∷ ts ≡ Toks (marks r e) (Toks (semi_marks 0 semi) tail) =
     tokens-append_more (marks r e) (semi_marks 0 semi ++ others) (opened.token ∷ ts) ∙ ap (λ l. Toks (marks r e) l) (tokens-append_more (semi_marks 0 semi) others (opened.token ∷ ts)) in
-    let clause = clause_reads r e semi ((mark r p (word words.Requires)).token ∷ Toks (marks r e) (Toks (semi_marks 0 semi) tail)) tail h.0 he st.0 over in
+    let clause = clause_reads deep r e semi ((mark r p (word words.Requires)).token ∷ Toks (marks r e) (Toks (semi_marks 0 semi) tail)) tail h.0 he st.0 over in
     let n = one_more before.requires (meant e) in
-    let go = clauses_read rest (with_requires before (meant e)) (r + 1) k o ts (n ∙ ap (λ x. x + 1) er) ek ho st.1 most (omega (arith, le)) in
+    let go = clauses_read deep rest (with_requires before (meant e)) (r + 1) k o ts (n ∙ ap (λ x. x + 1) er) ek ho st.1 most (omega (arith, le)) in
     rw (list, er, clause, semi_skips semi tail over) (go ∙ ap (λ (c : Clauses). read_of c (opened.token ∷ ts)) (these_requires before p e semi rest))
-clauses_read (ensures p e semi rest) before r k o ts er ek h st (suc most) le =
+clauses_read deep (ensures p e semi rest) before r k o ts er ek h st (suc most) le =
     let opened = mark 1 o (symbol signs.OpenBrace) in
     let others = clauses_marks r (k + 1) rest in
     let tail = Toks others (opened.token ∷ ts) in
     let over : ClauseOver tail = clauses_over r (k + 1) rest o ts in
-    let he = within_front limit (marks k e) (semi_marks 0 semi ++ others) h.1 in
-    let ho = within_back limit (semi_marks 0 semi) others (within_back limit (marks k e) (semi_marks 0 semi ++ others) h.1) in
+    let he = within_front deep (marks k e) (semi_marks 0 semi ++ others) h.1 in
+    let ho = within_back deep (semi_marks 0 semi) others (within_back deep (marks k e) (semi_marks 0 semi ++ others) h.1) in
     let list : tokens_of (marks k e ++ (semi_marks 0 semi ++ others)) ++ opened.token ∷ ts ≡ Toks (marks k e) (Toks (semi_marks 0 semi) tail) =
     tokens-append_more (marks k e) (semi_marks 0 semi ++ others) (opened.token ∷ ts) ∙ ap (λ l. Toks (marks k e) l) (tokens-append_more (semi_marks 0 semi) others (opened.token ∷ ts)) in
-    let clause = clause_reads k e semi ((mark k p (word words.Ensures)).token ∷ Toks (marks k e) (Toks (semi_marks 0 semi) tail)) tail h.0 he st.0 over in
+    let clause = clause_reads deep k e semi ((mark k p (word words.Ensures)).token ∷ Toks (marks k e) (Toks (semi_marks 0 semi) tail)) tail h.0 he st.0 over in
     let n = one_more before.ensures (meant e) in
-    let go = clauses_read rest (with_ensures before (meant e)) r (k + 1) o ts er (n ∙ ap (λ x. x + 1) ek) ho st.1 most (omega (arith, le)) in
+    let go = clauses_read deep rest (with_ensures before (meant e)) r (k + 1) o ts er (n ∙ ap (λ x. x + 1) ek) ho st.1 most (omega (arith, le)) in
     rw (list, ek, clause, semi_skips semi tail over) (go ∙ ap (λ (c : Clauses). read_of c (opened.token ∷ ts)) (these_ensures before p e semi rest))
 
 size_long : (r k : ℕ) (w : ClausesPhrase) → size w ≤ length (clauses_marks r k w)
@@ -165,7 +165,7 @@ size_long r k (ensures p e semi rest) =
     let c = size_long r (k + 1) rest in
     omega (arith, a, b, c)
 
-long_enough : (ms : List Mark) (ts : List Token) (n : ℕ) → n ≤ length ms → n ≤ length (Toks ms ts)
+pub long_enough : (ms : List Mark) (ts : List Token) (n : ℕ) → n ≤ length ms → n ≤ length (Toks ms ts)
 long_enough ms ts n le =
     let a = length-append (tokens_of ms) ts in
     let b = length-map ms (λ m. m.token) in
@@ -181,12 +181,12 @@ opening (block o r c) = o
 block_opens : (b : BlockPhrase) → block_marks 0 b ≡ mark 1 (opening b) (symbol signs.OpenBrace) ∷ inside_block b
 block_opens (block o r c) = refl
 
-clauses_are_read : (w : ClausesPhrase) (b : BlockPhrase) (ts : List Token) → Within limit (clauses_marks 0 0 w) → StandsClauses w → clauses_at (Toks (clauses_marks 0 0 w) (Toks (block_marks 0 b) ts)) ≡ Ok (and_these reading.no_clauses w, Toks (block_marks 0 b) ts)
+clauses_are_read : (deep : ℕ) (w : ClausesPhrase) (b : BlockPhrase) (ts : List Token) → Within deep (clauses_marks 0 0 w) → StandsClauses w → clauses_at deep (Toks (clauses_marks 0 0 w) (Toks (block_marks 0 b) ts)) ≡ Ok (and_these reading.no_clauses w, Toks (block_marks 0 b) ts)
 unfolding clauses_at read_of
-clauses_are_read w b ts h st =
+clauses_are_read deep w b ts h st =
     let list : Toks (block_marks 0 b) ts ≡ (mark 1 (opening b) (symbol signs.OpenBrace)).token ∷ Toks (inside_block b) ts = ap (λ l. Toks l ts) (block_opens b) in
     let all = Toks (clauses_marks 0 0 w) ((mark 1 (opening b) (symbol signs.OpenBrace)).token ∷ Toks (inside_block b) ts) in
-    rw list (clauses_read w reading.no_clauses 0 0 (opening b) (Toks (inside_block b) ts) refl refl h st (length all) (long_enough (clauses_marks 0 0 w) _ (size w) (size_long 0 0 w)))
+    rw list (clauses_read deep w reading.no_clauses 0 0 (opening b) (Toks (inside_block b) ts) refl refl h st (length all) (long_enough (clauses_marks 0 0 w) _ (size w) (size_long 0 0 w)))
 
 -- ---- methods
 
@@ -206,15 +206,15 @@ returns_read no_returns [] st h = refl
 returns_read no_returns (t ∷ ts) st h = rw h refl
 returns_read (returns p w) ts st h = parameters_read 0 w ts st
 
-method_read : (m : MethodPhrase) (ts : List Token) → Within limit (method_marks m) → StandsMethod m → (let inner = parameters_marks 0 m.parameters ++ (returns_marks 0 m.returns ++ (clauses_marks 0 0 m.clauses ++ block_marks 0 m.body)) in method_at m.at ((mark 0 m.name_at (name m.text)).token ∷ Toks inner ts) ≡ Ok (method_meant m, ts))
+method_read : (deep : ℕ) (m : MethodPhrase) (ts : List Token) → Within deep (method_marks m) → StandsMethod m → (let inner = parameters_marks 0 m.parameters ++ (returns_marks 0 m.returns ++ (clauses_marks 0 0 m.clauses ++ block_marks 0 m.body)) in method_at deep m.at ((mark 0 m.name_at (name m.text)).token ∷ Toks inner ts) ≡ Ok (method_meant m, ts))
 unfolding method_at name_at
-method_read m ts h st =
+method_read deep m ts h st =
     let body = block_marks 0 m.body in
     let clauses = clauses_marks 0 0 m.clauses in
     let rest = returns_marks 0 m.returns ++ (clauses ++ body) in
-    let h3 = within_back limit (returns_marks 0 m.returns) (clauses ++ body) (within_back limit (parameters_marks 0 m.parameters) rest h.1.1) in
-    let hc = within_front limit clauses body h3 in
-    let hb = within_back limit clauses body h3 in
+    let h3 = within_back deep (returns_marks 0 m.returns) (clauses ++ body) (within_back deep (parameters_marks 0 m.parameters) rest h.1.1) in
+    let hc = within_front deep clauses body h3 in
+    let hb = within_back deep clauses body h3 in
     let l3 = Toks body ts in
     let l2 = Toks clauses l3 in
     let l1 = Toks (returns_marks 0 m.returns) l2 in
@@ -222,8 +222,8 @@ method_read m ts h st =
     tokens-append_more (parameters_marks 0 m.parameters) rest ts ∙ ap (λ l. Toks (parameters_marks 0 m.parameters) l) (tokens-append_more (returns_marks 0 m.returns) (clauses ++ body) ts ∙ ap (λ l. Toks (returns_marks 0 m.returns) l) (tokens-append_more clauses body ts)) in
     let parameters = parameters_read 0 m.parameters l1 st.parameters in
     let returns' = returns_read m.returns l2 st.returns (not_returns m.clauses m.body ts) in
-    let contract = clauses_are_read m.clauses m.body ts hc st.clauses in
-    let inside = block_is_read limit 0 limit m.body ts (omega arith) hb st.body in
+    let contract = clauses_are_read deep m.clauses m.body ts hc st.clauses in
+    let inside = block_is_read deep 0 deep m.body ts (omega arith) hb st.body in
     rw (list, parameters, returns', contract, inside)
     (ap (λ (x : Member). let a : Read Member = Ok (x, ts) in a) (rw (← requires_same m.clauses, ← ensures_same m.clauses) refl))
 
@@ -243,26 +243,26 @@ skips None [] h = refl
 skips None (t ∷ ts) h = rw h refl
 skips (Some p) ts h = refl
 
-program_read : (w : ProgramPhrase) (before : List Member) (most : ℕ) → Within limit (program_marks w) → StandsProgram w → length before + length (program_meant w) ≤ max_members → length (program_meant w) ≤ most → members_by most before (Toks (program_marks w) []) ≡ Ok (before ++ program_meant w)
+pub program_read : (deep many : ℕ) (w : ProgramPhrase) (before : List Member) (most : ℕ) → Within deep (program_marks w) → StandsProgram w → length before + length (program_meant w) ≤ many → length (program_meant w) ≤ most → members_by deep many most before (Toks (program_marks w) []) ≡ Ok (before ++ program_meant w)
 unfolding members_by
-program_read no_members before zero h st few le = ap Ok (sym (append-nil before))
-program_read no_members before (suc most) h st few le = ap Ok (sym (append-nil before))
-program_read (member m semi rest) before zero h st few le = absurd (omega (arith, le))
-program_read (member m semi rest) before (suc most) h st few le =
+program_read deep many no_members before zero h st few le = ap Ok (sym (append-nil before))
+program_read deep many no_members before (suc most) h st few le = ap Ok (sym (append-nil before))
+program_read deep many (member m semi rest) before zero h st few le = absurd (omega (arith, le))
+program_read deep many (member m semi rest) before (suc most) h st few le =
     let tail = semi_marks 0 semi ++ program_marks rest in
-    let hm = within_front limit (method_marks m) tail h in
-    let hr = within_back limit (semi_marks 0 semi) (program_marks rest) (within_back limit (method_marks m) tail h) in
+    let hm = within_front deep (method_marks m) tail h in
+    let hr = within_back deep (semi_marks 0 semi) (program_marks rest) (within_back deep (method_marks m) tail h) in
     let after = Toks (semi_marks 0 semi) (Toks (program_marks rest) []) in
     let list : tokens_of tail ++ [] ≡ after = tokens-append_more (semi_marks 0 semi) (program_marks rest) [] in
     let inner = parameters_marks 0 m.parameters ++ (returns_marks 0 m.returns ++ (clauses_marks 0 0 m.clauses ++ block_marks 0 m.body)) in
     let all : tokens_of (inner ++ tail) ++ [] ≡ Toks inner after = tokens-append_more inner tail [] ∙ ap (λ l. Toks inner l) list in
-    let read = method_read m after hm st.0 in
-    let lt : ltb (length before) max_members ≡ true = lt-ltb _ _ (omega (arith, few)) in
+    let read = method_read deep m after hm st.0 in
+    let lt : ltb (length before) many ≡ true = lt-ltb _ _ (omega (arith, few)) in
     let n = length-append before (method_meant m ∷ []) in
-    let go = program_read rest (before ++ method_meant m ∷ []) most hr st.1 (omega (arith, n, few)) (omega (arith, le)) in
-    rw (all, lt, read) (ap (λ l. members_by most (before ++ method_meant m ∷ []) l) (skips semi (Toks (program_marks rest) []) (members_front rest)) ∙ go ∙ ap Ok (append_assoc before (method_meant m ∷ []) (program_meant rest)))
+    let go = program_read deep many rest (before ++ method_meant m ∷ []) most hr st.1 (omega (arith, n, few)) (omega (arith, le)) in
+    rw (all, lt, read) (ap (λ l. members_by deep many most (before ++ method_meant m ∷ []) l) (skips semi (Toks (program_marks rest) []) (members_front rest)) ∙ go ∙ ap Ok (append_assoc before (method_meant m ∷ []) (program_meant rest)))
 
-program_long : (w : ProgramPhrase) → length (program_meant w) ≤ length (program_marks w)
+pub program_long : (w : ProgramPhrase) → length (program_meant w) ≤ length (program_marks w)
 program_long no_members = omega arith
 program_long (member m semi rest) =
     let a = length-append (method_marks m) (semi_marks 0 semi ++ program_marks rest) in
@@ -271,10 +271,10 @@ program_long (member m semi rest) =
     omega (arith, a, b, c)
 
 pub spelled_programs_are_read : SpelledProgramsAreRead
-unfolding members_at
+unfolding members_within
 spelled_programs_are_read ts p s =
     let w = s.spelled.phrase in
     let list : Toks (program_marks w) [] ≡ ts = append-nil (tokens_of (program_marks w)) ∙ s.spelled.tokens in
     let few : length (program_meant w) ≤ max_members = rw s.spelled.means s.few in
-    let read = program_read w [] (length (Toks (program_marks w) [])) s.within s.spelled.stands (omega (arith, few)) (long_enough (program_marks w) [] _ (program_long w)) in
-    subst (λ l. members_by (length l) [] l ≡ Ok p) list (read ∙ ap Ok s.spelled.means)
+    let read = program_read limit max_members w [] (length (Toks (program_marks w) [])) s.within s.spelled.stands (omega (arith, few)) (long_enough (program_marks w) [] _ (program_long w)) in
+    subst (λ l. members_by limit max_members (length l) [] l ≡ Ok p) list (read ∙ ap Ok s.spelled.means)

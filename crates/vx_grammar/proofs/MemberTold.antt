@@ -1,32 +1,30 @@
 -- What reading members tells.
-use Rattle.std.proofs.Common.{◌≡◌, ℕ, zero, suc, ◌+◌, ◌-◌, ◌≤◌, ◌<◌, List, [], ◌∷◌, ◌++◌, Option, Some, None, Bool, true, false, Ok, Err, length, refl, sym, ap, subst, ◌∙◌, append_assoc, arith, cond, leb, length-append, inl, inr, ◌⊎◌}
+use Rattle.std.proofs.Common.{◌≡◌, ℕ, ◌+◌, ◌≤◌, List, [], ◌∷◌, ◌++◌, Option, Some, None, Bool, true, false, Ok, length, refl, sym, ap, subst, ◌∙◌, append_assoc, arith, cond}
 use Rattle.std.proofs.lemmas.List.{append-nil}
-use Rattle.std.proofs.lemmas.Bool.{leb-true, leb-false}
 use Rattle.vx_ast.specs.declared.Place.{Place}
 use Rattle.vx_ast.specs.declared.ValueType.TheVariants as types
-use Rattle.vx_ast.specs.Written.{Expr, Exprs, NoMore, More, Declaration, Block, Method, IsMethod, Member}
+use Rattle.vx_ast.specs.Written.{Declaration}
 use Rattle.vx_tokens.specs.declared.token.Word.TheVariants as words
 use Rattle.vx_tokens.specs.declared.token.Symbol.TheVariants as signs
-use Rattle.vx_tokens.specs.Tokens.{Token, Kind, name, number, word, symbol}
-use Rattle.vx_grammar.specs.Grammar.{Phrase, Mark, mark, marks, meant, StandsAt, tokens_of}
-use Rattle.vx_grammar.specs.Statements.{DeclarationPhrase, declaration_meant, declaration_marks, IsWrittenType, semi_marks}
+use Rattle.vx_tokens.specs.Tokens.{Token, Kind, word, symbol}
+use Rattle.vx_grammar.specs.Grammar.{Mark, mark}
+use Rattle.vx_grammar.specs.Statements.{DeclarationPhrase, declaration_meant, declaration_marks, IsWrittenType}
 use Rattle.vx_grammar.specs.Programs.{MoreDeclarations, no_more, listed, DeclarationsPhrase, none, some, ParametersPhrase, ReturnsPhrase, no_returns, returns, more_meant, declarations_meant, returns_meant, StandsMore, StandsDeclarations, StandsReturns, more_marks, declarations_marks, parameters_marks, returns_marks}
-use Rattle.vx_grammar.specs.Reading.{◌>>=◌, Read, Unexpected, expect, is_symbol, choice_at, below}
-use Rattle.vx_grammar.specs.Loops.{run}
+use Rattle.vx_grammar.specs.Reading.{◌>>=◌, is_symbol}
 use Rattle.vx_grammar.specs.StmtReading.{declaration_at}
 use Rattle.vx_grammar.specs.MemberReading.{declaration_turn, declarations_at, is_closing, inner_parameters_at, parameters_at, begins_returns, returns_at}
 use Rattle.vx_grammar.proofs.Symbols.{is_symbol_true}
-use Rattle.vx_grammar.proofs.Tells.{Grammar, Starts, Tells, After, tells_as, tells_here, tells_unexpected}
-use Rattle.vx_grammar.proofs.Sequence.{Sequence, Nothing, tells_sequence, starts_sequence, starts_nothing, tells_nothing}
-use Rattle.vx_grammar.proofs.Bracketed.{Nested, Bracketed, bracket_tells, bracketed_by, starts_bracketed}
+use Rattle.vx_grammar.proofs.Tells.{Grammar, Starts, Tells, tells_as, tells_here}
+use Rattle.vx_grammar.proofs.Sequence.{Sequence, Nothing, tells_sequence, starts_nothing, tells_nothing}
+use Rattle.vx_grammar.proofs.Bracketed.{Nested, Bracketed, bracket_tells}
 use Rattle.vx_grammar.proofs.Means.{marks_is, somewhere}
-use Rattle.vx_grammar.proofs.StmtTells.{DeclarationFor, declaration_tells, starts_declaration}
+use Rattle.vx_grammar.proofs.StmtTells.{DeclarationFor, declaration_tells}
 use Rattle.vx_grammar.proofs.StmtTold.{led_tells}
 use Rattle.vx_grammar.proofs.Steps.{Step, TurnFor, StepsBy, StepsFor, no_steps, run_tells}
 
 -- ---- declarations
 
-abbrev DeclarationStep : ℕ → Step (List Declaration)
+abbrev pub DeclarationStep : ℕ → Step (List Declaration)
 DeclarationStep n before after ms = (p : Place) × (d : DeclarationPhrase) × IsWrittenType d.of × (after ≡ before ++ declaration_meant d ∷ []) × (ms ≡ mark n p (symbol signs.Comma) ∷ declaration_marks n d)
 
 some_declaration : DeclarationPhrase
@@ -54,7 +52,7 @@ turn_by_tells limit n before t ts true h le =
     (tells_sequence (DeclarationFor n) _ limit ts (declaration_at ts) _ (λ d. starts_nothing _) (declaration_tells limit n ts le) (λ d us. tells_nothing limit us _)))
 turn_by_tells limit n before t ts false h le = tells_here (TurnFor (DeclarationStep n) before) limit (t ∷ ts) None refl
 
-turn_tells : (limit n : ℕ) → n ≤ limit → (before : List Declaration) (ts : List Token) → Tells (TurnFor (DeclarationStep n) before) limit ts (declaration_turn before ts)
+pub turn_tells : (limit n : ℕ) → n ≤ limit → (before : List Declaration) (ts : List Token) → Tells (TurnFor (DeclarationStep n) before) limit ts (declaration_turn before ts)
 unfolding declaration_turn
 turn_tells limit n le before [] = tells_here (TurnFor (DeclarationStep n) before) limit [] None refl
 turn_tells limit n le before (t ∷ ts) = turn_by_tells limit n before t ts (is_symbol signs.Comma t.kind) refl le

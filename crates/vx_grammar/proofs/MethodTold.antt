@@ -1,9 +1,9 @@
 -- What reading clauses and methods tells.
-use Rattle.std.proofs.Common.{◌≡◌, ℕ, zero, suc, ◌+◌, ◌-◌, ◌≤◌, ◌<◌, List, [], ◌∷◌, ◌++◌, Option, Some, None, Bool, true, false, Ok, Err, length, refl, sym, ap, subst, ◌∙◌, append_assoc, arith, cond, leb, length-append, inl, inr, ◌⊎◌}
+use Rattle.std.proofs.Common.{◌≡◌, ℕ, ◌+◌, ◌-◌, ◌≤◌, List, [], ◌∷◌, ◌++◌, Option, Some, None, Bool, true, false, Ok, Err, length, refl, sym, ap, subst, ◌∙◌, append_assoc, arith, cond, leb, length-append, inl, inr, ◌⊎◌}
 use Rattle.std.proofs.lemmas.List.{append-nil}
 use Rattle.std.proofs.lemmas.Bool.{leb-true, leb-false}
 use Rattle.vx_ast.specs.declared.Place.{Place}
-use Rattle.vx_ast.specs.Written.{Expr, Exprs, NoMore, More, Declaration, Block, Method, IsMethod, Member}
+use Rattle.vx_ast.specs.Written.{Expr, More, Declaration, Member}
 use Rattle.vx_tokens.specs.declared.token.Word.{Word}
 use Rattle.vx_tokens.specs.declared.token.Word.TheVariants as words
 use Rattle.vx_tokens.specs.declared.token.Symbol.TheVariants as signs
@@ -11,7 +11,7 @@ use Rattle.vx_tokens.specs.Tokens.{Token, Kind, name, word, symbol}
 use Rattle.vx_grammar.specs.Grammar.{Phrase, Mark, mark, marks, meant, StandsAt}
 use Rattle.vx_grammar.specs.Statements.{semi_marks, block_marks}
 use Rattle.vx_grammar.specs.Programs.{ClausesPhrase, no_clauses, requires, ensures, requires_meant, ensures_meant, StandsClauses, clauses_marks, MethodPhrase, method_meant, StandsMethod, method_marks, parameters_marks, returns_marks}
-use Rattle.vx_grammar.specs.Reading.{◌>>=◌, Read, TooDeep, is_symbol, choice_at, below}
+use Rattle.vx_grammar.specs.Reading.{◌>>=◌, TooDeep, is_symbol, choice_at, below}
 use Rattle.vx_grammar.specs.StmtReading.{skip_semicolon, name_at, block_at, stmts_below}
 use Rattle.vx_grammar.specs.MemberReading as reading
 use Rattle.vx_grammar.specs.MemberReading.{Clauses, with_requires, with_ensures, begins_requires, begins_ensures, clause_at, clause_turn, clauses_at, exprs_from, limit, method_of, method_at, parameters_at, returns_at}
@@ -20,10 +20,10 @@ use Rattle.vx_grammar.proofs.Tells.{Grammar, Starts, Tells, takes_none, tells_as
 use Rattle.vx_grammar.proofs.Sequence.{Sequence, Nothing, tells_sequence, starts_sequence, starts_nothing, tells_nothing}
 use Rattle.vx_grammar.proofs.Bracketed.{Nested}
 use Rattle.vx_grammar.proofs.Means.{PhraseFor, starts_any, reading_tells, marks_is}
-use Rattle.vx_grammar.proofs.StmtTells.{NameFor, name_tells, starts_name}
+use Rattle.vx_grammar.proofs.StmtTells.{NameFor, name_tells}
 use Rattle.vx_grammar.proofs.StmtFor.{BlockFor, starts_block}
 use Rattle.vx_grammar.proofs.StmtTold.{led_tells, block_reading_tells}
-use Rattle.vx_grammar.proofs.Steps.{Step, TurnFor, StepsBy, StepsFor, no_steps, run_tells}
+use Rattle.vx_grammar.proofs.Steps.{Step, TurnFor, StepsBy, StepsFor, run_tells}
 use Rattle.vx_grammar.proofs.MemberTold.{ParametersFor, parameters_tells, starts_parameters, ReturnsFor, returns_tells, starts_returns}
 
 -- ---- a value, and then a semicolon or none
@@ -63,20 +63,20 @@ clause_by_tells before t ts false h =
       starts = record { value = s.value; more = s.more; spelled = record { inner = s.more; is = refl; spelled = s.spelled } };
     }
 
-clause_tells : (before : ℕ) (t : Token) (ts : List Token) → Tells (Nested (record { token = t; count = before }) (PhraseFor before 8)) limit (t ∷ ts) (clause_at before (t ∷ ts) ts)
+clause_tells : (before : ℕ) (t : Token) (ts : List Token) → Tells (Nested (record { token = t; count = before }) (PhraseFor before 8)) limit (t ∷ ts) (clause_at limit before (t ∷ ts) ts)
 unfolding clause_at
 clause_tells before t ts = clause_by_tells before t ts (leb before limit) refl
 
 -- one clause more, of the one kind or the other
-record OneClause (before : ℕ) (w : Word) (make : Expr → Clauses) (after : Clauses) (ms : List Mark) : Type 0 where
-  at : Place
-  clause : Phrase
-  semi : Option Place
-  stands : StandsAt 8 clause
-  means : after ≡ make (meant clause)
-  spelled : ms ≡ mark before at (word w) ∷ (marks before clause ++ semi_marks 0 semi)
+pub record OneClause (before : ℕ) (w : Word) (make : Expr → Clauses) (after : Clauses) (ms : List Mark) : Type 0 where
+  pub at : Place
+  pub clause : Phrase
+  pub semi : Option Place
+  pub stands : StandsAt 8 clause
+  pub means : after ≡ make (meant clause)
+  pub spelled : ms ≡ mark before at (word w) ∷ (marks before clause ++ semi_marks 0 semi)
 
-abbrev ClauseStep : Step Clauses
+abbrev pub ClauseStep : Step Clauses
 ClauseStep before after ms = OneClause (length before.requires) words.Requires (with_requires before) after ms ⊎ OneClause (length before.ensures) words.Ensures (with_ensures before) after ms
 
 abbrev OneParts : Token → ℕ → (Expr → Clauses) → Grammar (Option Clauses)
@@ -106,17 +106,17 @@ ensures_word : (k : Kind) → begins_ensures k ≡ true → k ≡ word words.Ens
 ensures_word (word words.Ensures) h = refl
 ensures_word k h = absurd cc
 
-one_tells : (before : ℕ) (make : Expr → Clauses) (t : Token) (ts : List Token) → Tells (OneParts t before make) limit (t ∷ ts) (clause_at before (t ∷ ts) ts >>= λ e. Ok (Some (make e.0), skip_semicolon e.1))
+one_tells : (before : ℕ) (make : Expr → Clauses) (t : Token) (ts : List Token) → Tells (OneParts t before make) limit (t ∷ ts) (clause_at limit before (t ∷ ts) ts >>= λ e. Ok (Some (make e.0), skip_semicolon e.1))
 one_tells before make t ts =
-    tells_sequence (Nested (record { token = t; count = before }) (PhraseFor before 8)) _ limit (t ∷ ts) (clause_at before (t ∷ ts) ts) _ (λ e. starts_semi _) (clause_tells before t ts) (λ e us. semi_tells limit _ us)
+    tells_sequence (Nested (record { token = t; count = before }) (PhraseFor before 8)) _ limit (t ∷ ts) (clause_at limit before (t ∷ ts) ts) _ (λ e. starts_semi _) (clause_tells before t ts) (λ e us. semi_tells limit _ us)
 
 clause_turn_by : (before : Clauses) (t : Token) (ts : List Token) (r k : Bool) → begins_requires t.kind ≡ r → begins_ensures t.kind ≡ k
-    → Tells (TurnFor ClauseStep before) limit (t ∷ ts) (cond r (clause_at (length before.requires) (t ∷ ts) ts >>= λ e. Ok (Some (with_requires before e.0), skip_semicolon e.1)) (cond k (clause_at (length before.ensures) (t ∷ ts) ts >>= λ e. Ok (Some (with_ensures before e.0), skip_semicolon e.1)) (Ok (None, t ∷ ts))))
+    → Tells (TurnFor ClauseStep before) limit (t ∷ ts) (cond r (clause_at limit (length before.requires) (t ∷ ts) ts >>= λ e. Ok (Some (with_requires before e.0), skip_semicolon e.1)) (cond k (clause_at limit (length before.ensures) (t ∷ ts) ts >>= λ e. Ok (Some (with_ensures before e.0), skip_semicolon e.1)) (Ok (None, t ∷ ts))))
 clause_turn_by before t ts true k h g = tells_as (OneParts t (length before.requires) (with_requires before)) (TurnFor ClauseStep before) limit (t ∷ ts) _ (requires_of before t (requires_word t.kind h)) (one_tells (length before.requires) (with_requires before) t ts)
 clause_turn_by before t ts false true h g = tells_as (OneParts t (length before.ensures) (with_ensures before)) (TurnFor ClauseStep before) limit (t ∷ ts) _ (ensures_of before t (ensures_word t.kind g)) (one_tells (length before.ensures) (with_ensures before) t ts)
 clause_turn_by before t ts false false h g = tells_here (TurnFor ClauseStep before) limit (t ∷ ts) None refl
 
-clause_turn_tells : (before : Clauses) (ts : List Token) → Tells (TurnFor ClauseStep before) limit ts (clause_turn before ts)
+pub clause_turn_tells : (before : Clauses) (ts : List Token) → Tells (TurnFor ClauseStep before) limit ts (clause_turn limit before ts)
 unfolding clause_turn
 clause_turn_tells before [] = tells_here (TurnFor ClauseStep before) limit [] None refl
 clause_turn_tells before (t ∷ ts) = clause_turn_by before t ts (begins_requires t.kind) (begins_ensures t.kind) refl refl
@@ -215,9 +215,9 @@ clauses_of c ms (path, h) =
 starts_clauses : Starts ClausesFor []
 starts_clauses = record { value = reading.no_clauses; more = []; spelled = record { phrase = no_clauses; stands = tt; requires_are = refl; ensures_are = refl; spelled = refl } }
 
-clauses_tells : (ts : List Token) → Tells ClausesFor limit ts (clauses_at ts)
+clauses_tells : (ts : List Token) → Tells ClausesFor limit ts (clauses_at limit ts)
 unfolding clauses_at
-clauses_tells ts = tells_as (StepsFor ClauseStep reading.no_clauses) ClausesFor limit ts _ clauses_of (run_tells ClauseStep limit clause_turn clause_turn_tells (length ts) reading.no_clauses ts)
+clauses_tells ts = tells_as (StepsFor ClauseStep reading.no_clauses) ClausesFor limit ts _ clauses_of (run_tells ClauseStep limit (clause_turn limit) clause_turn_tells (length ts) reading.no_clauses ts)
 
 -- ---- methods
 
@@ -264,18 +264,18 @@ starts_rest place x ps = starts_sequence (ReturnsFor 0) _ (starts_returns 0) (λ
 starts_header : (place : Place) (x : List ℕ) → Starts (Sequence (ParametersFor 0) (λ ps. Sequence (ReturnsFor 0) (λ rs. Sequence ClausesFor (λ c. Sequence (BlockFor 0) (λ b. Nothing (method_of place x ps rs c b)))))) []
 starts_header place x = starts_sequence (ParametersFor 0) _ (starts_parameters 0) (λ ps. starts_rest place x ps)
 
-parts_tells : (place : Place) (ts : List Token) → Tells (MethodParts place) limit ts (method_at place ts)
+parts_tells : (place : Place) (ts : List Token) → Tells (MethodParts place) limit ts (method_at limit place ts)
 unfolding method_at
 parts_tells place ts =
     tells_sequence (NameFor 0) _ limit ts (name_at ts) _ (λ x. starts_header place x) (name_tells limit 0 ts (omega arith))
     (λ x us. tells_sequence (ParametersFor 0) _ limit us (parameters_at us) _ (λ ps. starts_rest place x ps) (parameters_tells limit 0 us (omega arith))
     (λ ps vs. tells_sequence (ReturnsFor 0) _ limit vs (returns_at vs) _ (λ rs. starts_contract place x ps rs) (returns_tells limit 0 vs (omega arith))
-    (λ rs ws. tells_sequence ClausesFor _ limit ws (clauses_at ws) _ (λ c. starts_body place x ps rs c) (clauses_tells ws)
+    (λ rs ws. tells_sequence ClausesFor _ limit ws (clauses_at limit ws) _ (λ c. starts_body place x ps rs c) (clauses_tells ws)
     (λ c xs. tells_sequence (BlockFor 0) _ limit xs (block_at (stmts_below limit) xs) _ (λ b. starts_nothing _) (block_reading_tells limit 0 limit xs (omega arith))
     (λ b ys. tells_nothing limit ys _)))))
 
 -- a method that begins with this token
-pub method_tells : (t : Token) (ts : List Token) → t.kind ≡ word words.Method → Tells MethodFor limit (t ∷ ts) (method_at t.place ts)
+pub method_tells : (t : Token) (ts : List Token) → t.kind ≡ word words.Method → Tells MethodFor limit (t ∷ ts) (method_at limit t.place ts)
 method_tells t ts k =
     tells_as (Nested (record { token = t; count = 0 }) (MethodParts t.place)) MethodFor limit (t ∷ ts) _ (method_of_led t k)
     (led_tells (MethodParts t.place) limit 0 t ts _ (omega arith) (parts_tells t.place ts))

@@ -1,5 +1,5 @@
 -- What reading programs tells.
-use Rattle.std.proofs.Common.{◌≡◌, ℕ, zero, suc, ◌+◌, ◌≤◌, ◌<◌, List, [], ◌∷◌, ◌++◌, Some, None, Bool, true, false, Result, Ok, Err, length, refl, sym, ap, subst, ◌∙◌, append_assoc, arith, cond, ltb, length-append}
+use Rattle.std.proofs.Common.{◌≡◌, ℕ, zero, suc, ◌≤◌, ◌<◌, List, [], ◌∷◌, ◌++◌, None, Bool, true, false, Result, Ok, Err, length, refl, sym, ap, subst, ◌∙◌, append_assoc, arith, cond, ltb, length-append}
 use Rattle.std.proofs.lemmas.List.{append-nil}
 use Rattle.std.proofs.lemmas.Bool.{ltb-true, ltb-false}
 use Rattle.vx_ast.specs.Written.{Member, Program}
@@ -7,13 +7,12 @@ use Rattle.vx_tokens.specs.declared.token.Word.TheVariants as words
 use Rattle.vx_tokens.specs.Tokens.{Token, Kind, word}
 use Rattle.vx_grammar.specs.Grammar.{Mark, tokens_of}
 use Rattle.vx_grammar.specs.Statements.{semi_marks}
-use Rattle.vx_grammar.specs.Programs.{MethodPhrase, method_meant, StandsMethod, method_marks, ProgramPhrase, no_members, member, program_meant, StandsProgram, program_marks}
+use Rattle.vx_grammar.specs.Programs.{method_meant, method_marks, ProgramPhrase, no_members, member, program_meant, StandsProgram, program_marks}
 use Rattle.vx_grammar.specs.Reading.{Read, Unexpected, TooDeep}
 use Rattle.vx_grammar.specs.StmtReading.{skip_semicolon}
-use Rattle.vx_grammar.specs.MemberReading.{Halt, inside, no_member, too_many, begins_member, then_members, members_by, members_at, method_at, limit, max_members}
+use Rattle.vx_grammar.specs.MemberReading.{Halt, no_member, too_many, begins_member, then_members, members_by, members_within, method_at, limit, max_members}
 use Rattle.vx_grammar.specs.Laws.{Within}
-use Rattle.vx_grammar.specs.ProgramLaws.{ProgramSpelled, ProgramWithin, ProgramGoesOn, ProgramFits, FitsInFront, StopsTooDeep, StopsTooMany, ProgramSays, ProgramsAreSpelled}
-use Rattle.vx_grammar.proofs.Lists.{tokens-append}
+use Rattle.vx_grammar.specs.ProgramLaws.{ProgramGoesOn, ProgramSays, ProgramsAreSpelled}
 use Rattle.vx_grammar.proofs.Tells.{Starts, Takes, Tells, TellsOk, takes_then, takes_none}
 use Rattle.vx_grammar.proofs.MethodTold.{SemiThen, semi_tells, MethodFor, method_tells}
 
@@ -145,24 +144,24 @@ says_on all before ms ts r lt h m rest ns g taken f takes few = by_semi (semi_te
         h m (skip_semicolon rest) ((ms ++ ns) ++ s.marks) (subst (Front [] (before ++ m ∷ [])) (sym (append_assoc ms ns s.marks)) front) second (omega (arith, n, lt))
 
 says_member : (all : List Token) (before : List Member) (ms : List Mark) (t : Token) (ts : List Token) (go : Member → List Token → Result Program Halt) (b : Bool) → ltb (length before) max_members ≡ b → begins_member t.kind ≡ true → ((m : Member) (us : List Token) (ns : List Mark) → SaysBehind all (before ++ m ∷ []) ns us (go m us))
-    → SaysBehind all before ms (t ∷ ts) (cond b (then_members (method_at t.place ts) (λ m after. go m (skip_semicolon after))) (Err (too_many (t ∷ ts))))
+    → SaysBehind all before ms (t ∷ ts) (cond b (then_members (method_at limit t.place ts) (λ m after. go m (skip_semicolon after))) (Err (too_many (t ∷ ts))))
 says_member all before ms t ts go true lt h k =
-    says_stop all before ms (t ∷ ts) (method_at t.place ts) (λ m after. go m (skip_semicolon after)) (method_tells t ts (method_word t.kind h))
+    says_stop all before ms (t ∷ ts) (method_at limit t.place ts) (λ m after. go m (skip_semicolon after)) (method_tells t ts (method_word t.kind h))
     (says_on all before ms (t ∷ ts) go (ltb-true _ _ lt) k)
 says_member all before ms t ts go false ge h k = says_many all before ms t ts h (ltb-false _ _ ge)
 
 says_turn : (all : List Token) (before : List Member) (ms : List Mark) (t : Token) (ts : List Token) (go : Member → List Token → Result Program Halt) (b : Bool) → begins_member t.kind ≡ b → ((m : Member) (us : List Token) (ns : List Mark) → SaysBehind all (before ++ m ∷ []) ns us (go m us))
-    → SaysBehind all before ms (t ∷ ts) (cond b (cond (ltb (length before) max_members) (then_members (method_at t.place ts) (λ m after. go m (skip_semicolon after))) (Err (too_many (t ∷ ts)))) (Err (no_member (t ∷ ts))))
+    → SaysBehind all before ms (t ∷ ts) (cond b (cond (ltb (length before) max_members) (then_members (method_at limit t.place ts) (λ m after. go m (skip_semicolon after))) (Err (too_many (t ∷ ts)))) (Err (no_member (t ∷ ts))))
 says_turn all before ms t ts go true h k = says_member all before ms t ts go (ltb (length before) max_members) refl h k
 says_turn all before ms t ts go false h k = says_none all before ms (t ∷ ts)
 
-members_say : (most : ℕ) (all : List Token) (before : List Member) (ms : List Mark) (ts : List Token) → SaysBehind all before ms ts (members_by most before ts)
+members_say : (most : ℕ) (all : List Token) (before : List Member) (ms : List Mark) (ts : List Token) → SaysBehind all before ms ts (members_by limit max_members most before ts)
 unfolding members_by
 members_say zero all before ms [] = says_end all before ms
 members_say (suc most) all before ms [] = says_end all before ms
 members_say zero all before ms (t ∷ ts) = says_none all before ms (t ∷ ts)
-members_say (suc most) all before ms (t ∷ ts) = says_turn all before ms t ts (λ m us. members_by most (before ++ m ∷ []) us) (begins_member t.kind) refl (λ m us ns. members_say most all (before ++ m ∷ []) ns us)
+members_say (suc most) all before ms (t ∷ ts) = says_turn all before ms t ts (λ m us. members_by limit max_members most (before ++ m ∷ []) us) (begins_member t.kind) refl (λ m us ns. members_say most all (before ++ m ∷ []) ns us)
 
 pub programs_are_spelled : ProgramsAreSpelled
-unfolding members_at
+unfolding members_within
 programs_are_spelled ts = members_say (length ts) ts [] [] ts (no_front []) (takes_none limit ts) (omega arith)

@@ -1,10 +1,9 @@
 -- One part of the grammar behind the other.
-use Rattle.std.proofs.Common.{◌≡◌, ℕ, ◌≤◌, List, [], ◌∷◌, ◌++◌, Ok, refl, sym, ap, subst, ◌∙◌, append_assoc}
-use Rattle.std.proofs.lemmas.List.{append-nil}
+use Rattle.std.proofs.Common.{◌≡◌, ℕ, List, [], ◌++◌, Ok, refl}
 use Rattle.vx_tokens.specs.Tokens.{Token}
 use Rattle.vx_grammar.specs.Grammar.{Mark}
 use Rattle.vx_grammar.specs.Reading.{◌>>=◌, Read}
-use Rattle.vx_grammar.proofs.Tells.{Grammar, Starts, Takes, Tells, After, GoesOn, tells_then, tells_as, tells_here}
+use Rattle.vx_grammar.proofs.Tells.{Grammar, Starts, Tells, After, tells_then, tells_as, tells_here}
 
 -- a value of the first part, and what stands behind it
 abbrev pub Sequence : {A B : Type 0} → Grammar A → (A → Grammar B) → Grammar B

@@ -1,11 +1,10 @@
 -- What the turns of a loop tell.
-use Rattle.std.proofs.Common.{◌≡◌, ℕ, zero, suc, ◌≤◌, List, [], ◌∷◌, ◌++◌, Option, Some, None, Ok, Err, refl, sym, ap, subst, ◌∙◌}
-use Rattle.std.proofs.lemmas.List.{append-nil}
+use Rattle.std.proofs.Common.{◌≡◌, ℕ, zero, suc, List, [], ◌∷◌, ◌++◌, Option, Some, None, Ok, refl, sym, ap, subst, ◌∙◌}
 use Rattle.vx_tokens.specs.Tokens.{Token}
 use Rattle.vx_grammar.specs.Grammar.{Mark, tokens_of}
-use Rattle.vx_grammar.specs.Reading.{◌>>=◌, Read}
+use Rattle.vx_grammar.specs.Reading.{Read}
 use Rattle.vx_grammar.specs.Loops.{Turn, run, turned}
-use Rattle.vx_grammar.proofs.Tells.{Grammar, Starts, Takes, Tells, After, GoesOn, tells_then, tells_as, tells_here}
+use Rattle.vx_grammar.proofs.Tells.{Grammar, Takes, Tells, After, GoesOn, tells_then, tells_as, tells_here}
 
 -- which marks lead from what was read before to what is read with one item more
 abbrev pub Step : Type 0 → Type 1

@@ -1,22 +1,17 @@
 -- The marks of statements that mean so.
-use Rattle.std.proofs.Common.{◌≡◌, ℕ, zero, suc, ◌+◌, List, [], ◌∷◌, ◌++◌, Some, None, Bool, true, false, Ok, Err, length, refl, sym, ap, subst, ◌∙◌, append_assoc, cond, inl, inr, ◌⊎◌}
+use Rattle.std.proofs.Common.{◌≡◌, ℕ, zero, suc, List, [], ◌∷◌, ◌++◌, Some, None, Bool, true, false, Ok, Err, length, refl, sym, ap, ◌∙◌, append_assoc, inl, inr}
 use Rattle.std.proofs.lemmas.List.{append-nil}
 use Rattle.vx_ast.specs.declared.Place.{Place}
-use Rattle.vx_ast.specs.Written.{Expr, Declaration, Value, Stmt, Block, Declare, Assign, Assert, Assume, If, Done, Then}
-use Rattle.vx_tokens.specs.declared.token.Word.TheVariants as words
-use Rattle.vx_tokens.specs.declared.token.Symbol.TheVariants as signs
-use Rattle.vx_tokens.specs.Tokens.{Token, Kind, name, word, symbol}
-use Rattle.vx_grammar.specs.Grammar.{Phrase, literal, Mark, mark, marks, meant}
-use Rattle.vx_grammar.specs.Statements.{StmtPhrase, assigned, declared, initialized, asserted, assumed, branched, BranchPhrase, branch, OtherPhrase, no_other, other, another, BlockPhrase, block, RowPhrase, no_more, more, stmt_meant, branch_meant, other_meant, block_meant, row_meant, StandsStmt, StandsBranch, StandsOther, StandsBlock, StandsRow, stmt_marks, branch_marks, other_marks, block_marks, row_marks, semi_marks}
-use Rattle.vx_grammar.specs.Reading.{◌>>=◌, Read, Stop}
+use Rattle.vx_ast.specs.Written.{Stmt, Block, Done, Then}
+use Rattle.vx_tokens.specs.Tokens.{Token}
+use Rattle.vx_grammar.specs.Grammar.{Phrase, literal, Mark}
+use Rattle.vx_grammar.specs.Statements.{StmtPhrase, asserted, BranchPhrase, branch, OtherPhrase, no_other, BlockPhrase, block, RowPhrase, no_more, more, stmt_meant, branch_meant, other_meant, block_meant, row_meant, StandsStmt, StandsBranch, StandsOther, StandsBlock, StandsRow, stmt_marks, branch_marks, other_marks, block_marks, row_marks}
+use Rattle.vx_grammar.specs.Reading.{◌>>=◌, Read}
 use Rattle.vx_grammar.specs.Loops.{run}
 use Rattle.vx_grammar.specs.StmtReading.{StmtDeeper, begins_stmt, skip_semicolon, stmt_at, stmt_turn, stmts_at, block_from}
-use Rattle.vx_grammar.proofs.Tells.{Grammar, Starts, Sign}
+use Rattle.vx_grammar.proofs.Tells.{Starts}
 use Rattle.vx_grammar.proofs.Rows.{rows, RowFor, Semi}
-use Rattle.vx_grammar.proofs.Sequence.{Sequence, Nothing}
-use Rattle.vx_grammar.proofs.Bracketed.{Nested, Bracketed}
-use Rattle.vx_grammar.proofs.Means.{PhraseFor, marks_is, somewhere}
-use Rattle.vx_grammar.proofs.StmtTells.{DeclarationFor}
+use Rattle.vx_grammar.proofs.Means.{somewhere}
 
 pub record StmtFor (n : ℕ) (s : Stmt) (ms : List Mark) : Type 0 where
   pub phrase : StmtPhrase

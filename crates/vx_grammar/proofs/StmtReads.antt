@@ -1,22 +1,22 @@
 -- Statements that are spelled are read.
-use Rattle.std.proofs.Common.{◌≡◌, ℕ, zero, suc, ◌+◌, ◌-◌, ◌≤◌, ◌<◌, List, [], ◌∷◌, ◌++◌, Option, Some, None, Bool, true, false, Ok, Err, length, refl, sym, ap, subst, ◌∙◌, append_assoc, arith, inl, inr, length-append}
-use Rattle.std.proofs.lemmas.List.{append-nil, length-map}
+use Rattle.std.proofs.Common.{◌≡◌, ℕ, zero, suc, ◌+◌, ◌-◌, ◌≤◌, ◌<◌, List, [], ◌∷◌, ◌++◌, Option, Some, None, Bool, true, false, Ok, length, refl, sym, ap, subst, ◌∙◌, arith, inl, inr, length-append}
+use Rattle.std.proofs.lemmas.List.{length-map}
 use Rattle.vx_ast.specs.declared.Place.{Place}
 use Rattle.vx_ast.specs.declared.ValueType.{ValueType}
 use Rattle.vx_ast.specs.declared.ValueType.TheVariants as types
-use Rattle.vx_ast.specs.Written.{Expr, Declaration, Value, Stmt, Block, Declare, Assign, Assert, Assume, If, Done, Then}
+use Rattle.vx_ast.specs.Written.{Stmt, Block, Done, Then}
 use Rattle.vx_tokens.specs.declared.token.Word.TheVariants as words
 use Rattle.vx_tokens.specs.declared.token.Symbol.TheVariants as signs
-use Rattle.vx_tokens.specs.Tokens.{Token, Kind, name, number, word, symbol}
+use Rattle.vx_tokens.specs.Tokens.{Token, Kind, name, word, symbol}
 use Rattle.vx_grammar.specs.Grammar.{Phrase, Mark, mark, marks, meant, StandsAt, tokens_of}
 use Rattle.vx_grammar.specs.Statements.{DeclarationPhrase, IsWrittenType, type_word, declaration_meant, declaration_marks, StmtPhrase, assigned, declared, initialized, asserted, assumed, branched, BranchPhrase, branch, OtherPhrase, no_other, other, another, BlockPhrase, block, RowPhrase, no_more, more, stmt_meant, branch_meant, other_meant, block_meant, row_meant, StandsStmt, StandsBranch, StandsOther, StandsBlock, StandsRow, stmt_marks, branch_marks, other_marks, block_marks, row_marks, semi_marks}
-use Rattle.vx_grammar.specs.Reading.{◌>>=◌, Read, expect, is_symbol, choice, choice_at, below}
-use Rattle.vx_grammar.specs.StmtReading.{StmtDeeper, StmtPart, statements, elseif_part, stmt_part, stmts_below, name_at, type_by, type_at, declaration_at, condition_at, block_at, otherwise_by, otherwise_at, branch_at, initial_by, initial_at, declare_at, assign_at, assert_at, assume_at, stmt_by, stmt_at, begins_stmt, stmts_at, block_from}
+use Rattle.vx_grammar.specs.Reading.{Read, expect, is_symbol, choice, choice_at, below}
+use Rattle.vx_grammar.specs.StmtReading.{StmtDeeper, statements, elseif_part, stmts_below, name_at, type_by, type_at, declaration_at, condition_at, block_at, otherwise_by, otherwise_at, branch_at, initial_by, initial_at, declare_at, assign_at, assert_at, assume_at, stmt_at, begins_stmt, stmts_at, block_from}
 use Rattle.vx_grammar.specs.Nesting.{nests, stmt_nests}
 use Rattle.vx_grammar.specs.Laws.{Within}
-use Rattle.vx_grammar.proofs.Lists.{tokens-append, tokens-append_more, within_front, within_back, reach, Ends}
+use Rattle.vx_grammar.proofs.Lists.{tokens-append_more, within_front, within_back, reach, Ends}
 use Rattle.vx_grammar.proofs.Complete.{is_read}
-use Rattle.vx_grammar.proofs.Rows.{rows, rows_read, RowFor, RowOver, ReadsItem, Semi}
+use Rattle.vx_grammar.proofs.Rows.{rows_read, RowFor, RowOver, ReadsItem, Semi}
 use Rattle.vx_grammar.proofs.StmtFor.{StmtFor, stmts_are_rows}
 
 -- ---- what may follow a statement
@@ -170,7 +170,7 @@ stmt_reads limit n room (branched p b) ts s below' h st ends = branch_reads_at l
 abbrev StmtWithin : ℕ → ℕ → Stmt → List Mark → Type 0
 StmtWithin limit n s ms = StmtFor n s ms × Within limit ms
 
-stmt_first : (n : ℕ) (w : StmtPhrase) → (m : Mark) × (rest : List Mark) × (stmt_marks n w ≡ m ∷ rest) × (begins_stmt m.token.kind ≡ true)
+pub stmt_first : (n : ℕ) (w : StmtPhrase) → (m : Mark) × (rest : List Mark) × (stmt_marks n w ≡ m ∷ rest) × (begins_stmt m.token.kind ≡ true)
 stmt_first n (assigned p x q e) = (_, _, refl, refl)
 stmt_first n (declared p d) = (_, _, refl, refl)
 stmt_first n (initialized p d q e) = (_, _, refl, refl)

@@ -1,23 +1,19 @@
 -- What reading statements tells.
-use Rattle.std.proofs.Common.{◌≡◌, ℕ, zero, suc, ◌+◌, ◌-◌, ◌≤◌, ◌<◌, List, [], ◌∷◌, ◌++◌, Option, Some, None, Bool, true, false, Ok, Err, refl, sym, ap, subst, ◌∙◌, append_assoc, arith, cond}
-use Rattle.std.proofs.lemmas.List.{append-nil}
+use Rattle.std.proofs.Common.{◌≡◌, ℕ, ◌≤◌, List, [], ◌∷◌, refl, sym, ◌∙◌}
 use Rattle.vx_ast.specs.declared.Place.{Place}
 use Rattle.vx_ast.specs.declared.ValueType.{ValueType}
 use Rattle.vx_ast.specs.declared.ValueType.TheVariants as types
-use Rattle.vx_ast.specs.Written.{Expr, Declaration, Value, Stmt, Block, Declare, Assign, Assert, Assume, If, Done, Then}
-use Rattle.vx_tokens.specs.declared.token.Symbol.{Symbol}
+use Rattle.vx_ast.specs.Written.{Declaration}
 use Rattle.vx_tokens.specs.declared.token.Word.TheVariants as words
 use Rattle.vx_tokens.specs.declared.token.Symbol.TheVariants as signs
 use Rattle.vx_tokens.specs.Tokens.{Token, Kind, name, number, word, symbol}
-use Rattle.vx_grammar.specs.Grammar.{Phrase, Mark, mark, marks, meant, StandsAt, tokens_of}
+use Rattle.vx_grammar.specs.Grammar.{Mark, mark}
 use Rattle.vx_grammar.specs.Statements.{DeclarationPhrase, IsWrittenType, type_word, declaration_meant, declaration_marks}
-use Rattle.vx_grammar.specs.Reading.{◌>>=◌, Read, Unexpected, expect, is_symbol, choice, choice_at, below}
-use Rattle.vx_grammar.specs.StmtReading.{name_by, name_at, type_by, type_at, declaration_at, condition_at}
-use Rattle.vx_grammar.specs.Laws.{Within}
-use Rattle.vx_grammar.proofs.Symbols.{is_symbol_true}
-use Rattle.vx_grammar.proofs.Tells.{Grammar, Starts, Takes, Tells, After, Sign, starts_sign, takes_none, tells_behind, tells_then, tells_as, tells_here, tells_unexpected, tells_token, tells_expect}
+use Rattle.vx_grammar.specs.Reading.{expect}
+use Rattle.vx_grammar.specs.StmtReading.{name_by, name_at, type_by, type_at, declaration_at}
+use Rattle.vx_grammar.proofs.Tells.{Grammar, Starts, Tells, Sign, starts_sign, tells_as, tells_unexpected, tells_token, tells_expect}
 use Rattle.vx_grammar.proofs.Sequence.{Sequence, Nothing, tells_sequence, starts_sequence, starts_nothing, tells_nothing}
-use Rattle.vx_grammar.proofs.Means.{PhraseFor, Behind, starts_any, tells_nested, count_down, reading_tells, marks_is}
+use Rattle.vx_grammar.proofs.Means.{marks_is}
 
 nowhere : Place
 nowhere = record { line = 0; column = 0 }

@@ -1,22 +1,22 @@
 -- What reading statements is told by: the statements that the tokens spell, at each room.
-use Rattle.std.proofs.Common.{◌≡◌, ℕ, zero, suc, ◌+◌, ◌≤◌, List, [], ◌∷◌, ◌++◌, Some, None, Bool, true, false, Ok, Err, length, refl, sym, ap, subst, ◌∙◌, append_assoc, arith, cond, inl, inr, ◌⊎◌}
+use Rattle.std.proofs.Common.{◌≡◌, ℕ, zero, suc, ◌+◌, ◌≤◌, List, [], ◌∷◌, ◌++◌, Some, None, Bool, true, false, Ok, length, refl, sym, ap, subst, ◌∙◌, append_assoc, arith, cond, inl, inr, ◌⊎◌}
 use Rattle.std.proofs.lemmas.List.{append-nil}
 use Rattle.vx_ast.specs.declared.Place.{Place}
 use Rattle.vx_ast.specs.Written.{Expr, Declaration, Value, Stmt, Block, Declare, Assign, Assert, Assume, If, Done, Then}
 use Rattle.vx_tokens.specs.declared.token.Word.TheVariants as words
 use Rattle.vx_tokens.specs.declared.token.Symbol.TheVariants as signs
-use Rattle.vx_tokens.specs.Tokens.{Token, Kind, name, number, word, symbol}
+use Rattle.vx_tokens.specs.Tokens.{Token, Kind, name, word, symbol}
 use Rattle.vx_grammar.specs.Grammar.{Phrase, Mark, mark, marks, meant, StandsAt}
-use Rattle.vx_grammar.specs.Statements.{StmtPhrase, assigned, declared, initialized, asserted, assumed, branched, branch, no_other, other, another, block, declaration_marks}
-use Rattle.vx_grammar.specs.Reading.{◌>>=◌, Read, Unexpected, expect, is_symbol, choice, choice_at, below}
+use Rattle.vx_grammar.specs.Statements.{StmtPhrase, assigned, declared, initialized, asserted, assumed, branched, branch, no_other, other, another, block}
+use Rattle.vx_grammar.specs.Reading.{◌>>=◌, Read, expect, is_symbol, choice, choice_at, below}
 use Rattle.vx_grammar.specs.StmtReading.{StmtPart, statements, elseif_part, stmt_part, stmts_below, declaration_at, condition_at, block_at, otherwise_by, otherwise_at, branch_at, initial_by, initial_at, declare_at, assign_at, assert_at, assume_at, stmt_by, stmt_at, begins_stmt, stmts_at, block_from}
 use Rattle.vx_grammar.proofs.Symbols.{is_symbol_true}
-use Rattle.vx_grammar.proofs.Tells.{Grammar, Starts, Takes, Tells, After, Sign, starts_sign, takes_none, tells_behind, tells_as, tells_here, tells_unexpected, tells_expect}
+use Rattle.vx_grammar.proofs.Tells.{Grammar, Starts, Tells, After, Sign, takes_none, tells_behind, tells_as, tells_here, tells_unexpected, tells_expect}
 use Rattle.vx_grammar.proofs.Rows.{RowFor, tells_rows}
 use Rattle.vx_grammar.proofs.Sequence.{Sequence, Nothing, tells_sequence, starts_sequence, starts_nothing, tells_nothing}
-use Rattle.vx_grammar.proofs.Bracketed.{Nested, Bracketed, bracket_tells, bracketed_by}
-use Rattle.vx_grammar.proofs.Means.{PhraseFor, Behind, starts_any, tells_nested, count_down, reading_tells, marks_is, somewhere}
-use Rattle.vx_grammar.proofs.StmtTells.{DeclarationFor, declaration_tells, starts_declaration}
+use Rattle.vx_grammar.proofs.Bracketed.{Nested, Bracketed, bracket_tells}
+use Rattle.vx_grammar.proofs.Means.{PhraseFor, Behind, starts_any, tells_nested, count_down, reading_tells, marks_is}
+use Rattle.vx_grammar.proofs.StmtTells.{DeclarationFor, declaration_tells}
 use Rattle.vx_grammar.proofs.StmtFor.{StmtFor, BranchFor, OtherFor, BlockFor, InsideFor, starts_stmt, starts_inside, starts_block, starts_other, starts_branch, row_inside, stmts_are_rows}
 
 pub fits : (limit n room : ℕ) → n + room ≡ limit → n ≤ limit
@@ -304,3 +304,7 @@ stmt_told_at limit (suc room) = stmt_told_from limit (suc room) (λ less e. let 
 pub block_reading_tells : (limit n room : ℕ) (ts : List Token) → n + room ≡ limit → Tells (BlockFor n) limit ts (block_at (stmts_below room) ts)
 unfolding StmtToldBelow
 block_reading_tells limit n room ts e = block_tells limit n room ts e (λ less s. stmt_told_at limit less)
+
+pub stmt_reading_tells : (limit n room : ℕ) (ts : List Token) → n + room ≡ limit → Tells (StmtFor n) limit ts (stmt_at room (stmts_below room) ts)
+unfolding StmtToldBelow
+stmt_reading_tells limit n room ts e = stmt_tells limit n room ts e (λ less s. stmt_told_at limit less)

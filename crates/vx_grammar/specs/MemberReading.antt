@@ -76,24 +76,24 @@ abbrev pub begins_ensures : Kind → Bool
 begins_ensures (word words.Ensures) = true
 begins_ensures k = false
 
--- a clause behind so many of its kind, each of which nests it
-unfoldable pub clause_at : ℕ → List Token → List Token → Read Expr
-clause_at before here ts = if nat_le before limit then choice_at (below (limit - before)) ts else Err (TooDeep here)
+-- a clause behind so many of its kind, each of which nests it, where the nesting count may grow to deep
+unfoldable pub clause_at : (deep before : ℕ) → List Token → List Token → Read Expr
+clause_at deep before here ts = if nat_le before deep then choice_at (below (deep - before)) ts else Err (TooDeep here)
 
 -- one clause more
-unfoldable pub clause_turn : Turn Clauses
-clause_turn before [] = Ok (None, [])
-clause_turn before (t ∷ ts) =
+unfoldable pub clause_turn : ℕ → Turn Clauses
+clause_turn deep before [] = Ok (None, [])
+clause_turn deep before (t ∷ ts) =
     if begins_requires t.kind then (do
-      e ← clause_at (length before.requires) (t ∷ ts) ts
+      e ← clause_at deep (length before.requires) (t ∷ ts) ts
       Ok (Some (with_requires before e.0), skip_semicolon e.1))
     else (if begins_ensures t.kind then (do
-      e ← clause_at (length before.ensures) (t ∷ ts) ts
+      e ← clause_at deep (length before.ensures) (t ∷ ts) ts
       Ok (Some (with_ensures before e.0), skip_semicolon e.1))
     else Ok (None, t ∷ ts))
 
-unfoldable pub clauses_at : List Token → Read Clauses
-clauses_at ts = run clause_turn (length ts) no_clauses ts
+unfoldable pub clauses_at : ℕ → List Token → Read Clauses
+clauses_at deep ts = run (clause_turn deep) (length ts) no_clauses ts
 
 abbrev pub exprs_from : List Expr → Exprs
 exprs_from [] = NoMore
@@ -109,13 +109,13 @@ method_of place x parameters returns clauses body = record {
 }
 
 -- behind a `method`
-unfoldable pub method_at : Place → List Token → Read Member
-method_at place ts = do
+unfoldable pub method_at : ℕ → Place → List Token → Read Member
+method_at deep place ts = do
   x ← name_at ts
   parameters ← parameters_at x.1
   returns ← returns_at parameters.1
-  clauses ← clauses_at returns.1
-  body ← block_at (stmts_below limit) clauses.1
+  clauses ← clauses_at deep returns.1
+  body ← block_at (stmts_below deep) clauses.1
   Ok (method_of place x.0 parameters.0 returns.0 clauses.0 body.0, body.1)
 
 -- ---- programs
@@ -138,16 +138,19 @@ then_members (Ok x) go = go x.0 x.1
 then_members (Err stop) go = Err (inside stop)
 
 -- members behind so many, up to the end of the tokens, with at most so many turns
-unfoldable pub members_by : ℕ → List Member → List Token → Result Program Halt
-members_by most before [] = Ok before
-members_by zero before (t ∷ ts) = Err (no_member (t ∷ ts))
-members_by (suc most) before (t ∷ ts) =
+unfoldable pub members_by : (deep many most : ℕ) → List Member → List Token → Result Program Halt
+members_by deep many most before [] = Ok before
+members_by deep many zero before (t ∷ ts) = Err (no_member (t ∷ ts))
+members_by deep many (suc most) before (t ∷ ts) =
     if begins_member t.kind then (
-    if nat_lt (length before) max_members
-    then then_members (method_at t.place ts) (λ m after. members_by most (before ++ m ∷ []) (skip_semicolon after))
+    if nat_lt (length before) many
+    then then_members (method_at deep t.place ts) (λ m after. members_by deep many most (before ++ m ∷ []) (skip_semicolon after))
     else Err (too_many (t ∷ ts)))
     else Err (no_member (t ∷ ts))
 
 -- each member takes a token at least
-unfoldable pub members_at : List Token → Result Program Halt
-members_at ts = members_by (length ts) [] ts
+unfoldable pub members_within : (deep many : ℕ) → List Token → Result Program Halt
+members_within deep many ts = members_by deep many (length ts) [] ts
+
+abbrev pub members_at : List Token → Result Program Halt
+members_at ts = members_within limit max_members ts

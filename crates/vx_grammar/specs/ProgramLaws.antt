@@ -1,5 +1,5 @@
 -- What the tokens of a program spell, and where they stop spelling.
-use Rattle.std.specs.Prelude.{◌≡◌, ℕ, ◌+◌, ◌≤◌, ◌<◌, List, [], ◌∷◌, ◌++◌, length, true, Result, Ok, Err}
+use Rattle.std.specs.Prelude.{◌≡◌, ◌≤◌, ◌<◌, List, [], ◌∷◌, ◌++◌, length, true, Result, Ok, Err}
 use Rattle.vx_ast.specs.Written.{Program}
 use Rattle.vx_tokens.specs.Tokens.{Token}
 use Rattle.vx_grammar.specs.Grammar.{Mark, tokens_of}
@@ -75,3 +75,30 @@ ProgramsAreSpelled = (ts : List Token) → ProgramSays ts (members_at ts)
 -- A program that is spelled within the limits is read.
 abbrev pub SpelledProgramsAreRead : Type 0
 SpelledProgramsAreRead = (ts : List Token) (p : Program) → ProgramWithin ts p → members_at ts ≡ Ok p
+
+-- tokens spell one program at most
+abbrev pub ProgramsSpelledOnce : Type 0
+ProgramsSpelledOnce = (ts : List Token) (p q : Program) → ProgramSpelled ts p → ProgramSpelled ts q → p ≡ q
+
+-- No program, of any nesting and size, goes on with the first token of the rest. Where none is left, the tokens are no
+-- program yet.
+abbrev pub NoProgramFits : List Token → List Token → Type 0
+NoProgramFits front [] = (p : Program) → ProgramSpelled front p → ⊥
+NoProgramFits front (t ∷ rest) = (p : Program) (more : List Token) → ProgramSpelled (front ++ t ∷ more) p → ⊥
+
+-- the tokens in front of the rest fit, and stay within the limit, and no program goes on with the rest's first
+pub record FirstUnfit (ts rest : List Token) : Type 0 where
+  pub front : List Mark
+  pub fits : ProgramFits ts rest front
+  pub none : NoProgramFits (tokens_of front) rest
+
+abbrev pub StopsAtFirst : List Token → Result Program Halt → Type 0
+StopsAtFirst ts (Err (inside (Unexpected rest))) = FirstUnfit ts rest
+StopsAtFirst ts (Err (no_member rest)) = FirstUnfit ts rest
+StopsAtFirst ts (Err (inside (TooDeep rest))) = Unit {0}
+StopsAtFirst ts (Err (too_many rest)) = Unit {0}
+StopsAtFirst ts (Ok p) = Unit {0}
+
+-- Where reading stops at a token that does not fit, that is the first one.
+abbrev pub ReadingStopsAtFirst : Type 0
+ReadingStopsAtFirst = (ts : List Token) → StopsAtFirst ts (members_at ts)

@@ -1,7 +1,7 @@
 -- Which tokens spell which programs: the grammar of Viper (VMCAI 2016) in this profile.
-use Rattle.std.specs.Prelude.{◌≡◌, ℕ, ◌+◌, ◌≤◌, List, [], ◌∷◌, ◌++◌, length, Option, Some, None, ⊤}
+use Rattle.std.specs.Prelude.{ℕ, ◌+◌, List, [], ◌∷◌, ◌++◌, Option, Some, ⊤}
 use Rattle.vx_ast.specs.declared.Place.{Place}
-use Rattle.vx_ast.specs.Written.{Expr, Exprs, NoMore, More, Declaration, Block, Method, IsMethod, Member, Program}
+use Rattle.vx_ast.specs.Written.{Exprs, NoMore, More, Declaration, IsMethod, Member, Program}
 use Rattle.vx_tokens.specs.declared.token.Word.TheVariants as words
 use Rattle.vx_tokens.specs.declared.token.Symbol.TheVariants as signs
 use Rattle.vx_tokens.specs.Tokens.{name, word, symbol}

@@ -2,7 +2,7 @@
 #![tactic(auto)]
 
 ghost use Rattle.vx_grammar.specs.Laws.{AnswersAreRight, SpelledIsRead, SpelledOnce};
-ghost use Rattle.vx_grammar.specs.ProgramLaws.{ProgramsAreSpelled, SpelledProgramsAreRead};
+ghost use Rattle.vx_grammar.specs.ProgramLaws.{ProgramsAreSpelled, ProgramsSpelledOnce, ReadingStopsAtFirst, SpelledProgramsAreRead};
 
 /// What is read is spelled so within the limit, and else reading stops at the first token that does not fit.
 pub fn answers_are_right()
@@ -27,4 +27,14 @@ pub fn programs_are_spelled()
 /// A program that is spelled within the limits is read.
 pub fn spelled_programs_are_read()
     ensures { SpelledProgramsAreRead }
+{}
+
+/// Tokens spell one program at most.
+pub fn programs_spelled_once()
+    ensures { ProgramsSpelledOnce }
+{}
+
+/// Where reading stops at a token that does not fit, no program goes on with it.
+pub fn reading_stops_at_first()
+    ensures { ReadingStopsAtFirst }
 {}

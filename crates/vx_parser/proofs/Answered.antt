@@ -6,7 +6,6 @@ use Rattle.vx_ast.specs.declared.Program as the_program
 use Rattle.vx_ast.specs.Written.{Program, written_member}
 use Rattle.vx_tokens.specs.Tokens.{Token}
 use Rattle.vx_tokens.specs.Text.{Ending, AtEnd, OpenComment, WideLiteral, BadCharacter}
-use Rattle.vx_grammar.specs.Reading as reading
 use Rattle.vx_grammar.specs.MemberReading as members
 use Rattle.vx_parser.specs.declared.stop.Stop.TheVariants as stops
 use Rattle.vx_parser.specs.declared.program.Halt as the_halt

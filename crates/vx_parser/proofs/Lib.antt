@@ -5,3 +5,4 @@ pub mod Rows
 pub mod Members
 pub mod Answered
 pub mod Spelled
+pub mod Refused

@@ -1,16 +1,16 @@
 -- A program is answered exactly where the text spells it.
-use Rattle.std.proofs.Common.{◌≡◌, ℕ, ◌≤◌, List, Result, Ok, Err, map, length, refl, sym, ap, subst, ◌∙◌}
+use Rattle.std.proofs.Common.{◌≡◌, ℕ, ◌≤◌, List, Result, Ok, Err, length, refl, ◌∙◌}
 use Rattle.std.specs.Str.{IsUtf8}
 use Rattle.vx_ast.specs.declared.Place.{Place}
 use Rattle.vx_ast.specs.declared.Program as the_program
 use Rattle.vx_ast.specs.Written.{Program}
 use Rattle.vx_tokens.specs.Tokens.{Token}
-use Rattle.vx_tokens.specs.Text.{Scans, first_place, unmarked, Ending, AtEnd, OpenComment, WideLiteral, BadCharacter}
+use Rattle.vx_tokens.specs.Text.{Scans, first_place, unmarked, Ending, AtEnd}
 use Rattle.vx_grammar.specs.MemberReading.{members_at}
-use Rattle.vx_grammar.specs.ProgramLaws.{ProgramWithin, ProgramSays, ProgramsAreSpelled, SpelledProgramsAreRead}
+use Rattle.vx_grammar.specs.ProgramLaws.{SpelledProgramsAreRead}
 use Rattle.vx_parser.specs.declared.fault.TextFault as the_fault
 use Rattle.vx_parser.specs.declared.fault.TextFault.TheVariants as faults
-use Rattle.vx_parser.specs.Answers.{Fault, answer, IsEnd, IsAnswer}
+use Rattle.vx_parser.specs.Answers.{Fault, answer, IsAnswer}
 use Rattle.vx_parser.specs.Spelling.{Spells, IsProgram}
 
 answered : (ts : List Token) (at : Place) (p : Program) → members_at ts ≡ Ok p → answer ts (AtEnd at) ≡ Ok p

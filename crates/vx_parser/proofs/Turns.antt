@@ -8,7 +8,7 @@ use Rattle.vx_tokens.specs.Tokens.{Token, tokens_in, token_of}
 use Rattle.vx_grammar.specs.Reading.{◌>>=◌, Read, is_symbol}
 use Rattle.vx_grammar.specs.Loops.{Turn, run}
 use Rattle.vx_grammar.specs.StmtReading.{StmtDeeper, StmtPart, stmt_part, stmts_below, begins_stmt, skip_semicolon, stmt_at, stmt_turn, declaration_at}
-use Rattle.vx_grammar.specs.MemberReading.{declaration_turn, Clauses, clause_turn, clause_at, begins_requires, begins_ensures, with_requires, with_ensures}
+use Rattle.vx_grammar.specs.MemberReading.{limit, declaration_turn, Clauses, clause_turn, clause_at, begins_requires, begins_ensures, with_requires, with_ensures}
 use Rattle.vx_grammar.specs.Nesting.{stmt_nests}
 use Rattle.vx_grammar.proofs.Turns.{run_on, run_over, run_stops, run_all}
 use Rattle.vx_parser.specs.declared.stop.Stop as the_stop
@@ -94,36 +94,36 @@ declaration_stops e before ts t us first comma read = rw (first, comma) (stops_a
 
 -- ---- clauses
 
-pub requires_on : (before : Clauses) (ts : List Token) (t : Token) (us : List Token) (e : Expr) (after : List Token) → ts ≡ t ∷ us → begins_requires t.kind ≡ true → clause_at (length before.requires) ts us ≡ Ok (e, after)
-    → clause_turn before ts ≡ Ok (Some (with_requires before e), skip_semicolon after)
+pub requires_on : (before : Clauses) (ts : List Token) (t : Token) (us : List Token) (e : Expr) (after : List Token) → ts ≡ t ∷ us → begins_requires t.kind ≡ true → clause_at limit (length before.requires) ts us ≡ Ok (e, after)
+    → clause_turn limit before ts ≡ Ok (Some (with_requires before e), skip_semicolon after)
 unfolding clause_turn
 requires_on before ts t us e after first begins read =
-    let read' : clause_at (length before.requires) (t ∷ us) us ≡ Ok (e, after) = subst (λ l. clause_at (length before.requires) l us ≡ Ok (e, after)) first read in
+    let read' : clause_at limit (length before.requires) (t ∷ us) us ≡ Ok (e, after) = subst (λ l. clause_at limit (length before.requires) l us ≡ Ok (e, after)) first read in
     rw (first, begins, read') refl
 
-pub ensures_on : (before : Clauses) (ts : List Token) (t : Token) (us : List Token) (e : Expr) (after : List Token) → ts ≡ t ∷ us → begins_requires t.kind ≡ false → begins_ensures t.kind ≡ true → clause_at (length before.ensures) ts us ≡ Ok (e, after)
-    → clause_turn before ts ≡ Ok (Some (with_ensures before e), skip_semicolon after)
+pub ensures_on : (before : Clauses) (ts : List Token) (t : Token) (us : List Token) (e : Expr) (after : List Token) → ts ≡ t ∷ us → begins_requires t.kind ≡ false → begins_ensures t.kind ≡ true → clause_at limit (length before.ensures) ts us ≡ Ok (e, after)
+    → clause_turn limit before ts ≡ Ok (Some (with_ensures before e), skip_semicolon after)
 unfolding clause_turn
 ensures_on before ts t us e after first not begins read =
-    let read' : clause_at (length before.ensures) (t ∷ us) us ≡ Ok (e, after) = subst (λ l. clause_at (length before.ensures) l us ≡ Ok (e, after)) first read in
+    let read' : clause_at limit (length before.ensures) (t ∷ us) us ≡ Ok (e, after) = subst (λ l. clause_at limit (length before.ensures) l us ≡ Ok (e, after)) first read in
     rw (first, not, begins, read') refl
 
-pub clause_over : (before : Clauses) (ts : List Token) (t : Token) (us : List Token) → ts ≡ t ∷ us → begins_requires t.kind ≡ false → begins_ensures t.kind ≡ false → clause_turn before ts ≡ Ok (None, t ∷ us)
+pub clause_over : (before : Clauses) (ts : List Token) (t : Token) (us : List Token) → ts ≡ t ∷ us → begins_requires t.kind ≡ false → begins_ensures t.kind ≡ false → clause_turn limit before ts ≡ Ok (None, t ∷ us)
 unfolding clause_turn
 clause_over before ts t us first not neither = rw (first, not, neither) refl
 
-pub clause_end : (before : Clauses) (ts : List Token) → ts ≡ [] → clause_turn before ts ≡ Ok (None, [])
+pub clause_end : (before : Clauses) (ts : List Token) → ts ≡ [] → clause_turn limit before ts ≡ Ok (None, [])
 unfolding clause_turn
 clause_end before ts none = rw none refl
 
-pub requires_stops : (e : the_stop.Stop) (before : Clauses) (ts : List Token) (t : Token) (us : List Token) → ts ≡ t ∷ us → begins_requires t.kind ≡ true → Stops e (clause_at (length before.requires) ts us) → Stops e (clause_turn before ts)
+pub requires_stops : (e : the_stop.Stop) (before : Clauses) (ts : List Token) (t : Token) (us : List Token) → ts ≡ t ∷ us → begins_requires t.kind ≡ true → Stops e (clause_at limit (length before.requires) ts us) → Stops e (clause_turn limit before ts)
 unfolding clause_turn
 requires_stops e before ts t us first begins read =
-    let read' : Stops e (clause_at (length before.requires) (t ∷ us) us) = subst (λ l. Stops e (clause_at (length before.requires) l us)) first read in
-    rw (first, begins) (stops_after e (clause_at (length before.requires) (t ∷ us) us) (λ x. Ok (Some (with_requires before x.0), skip_semicolon x.1)) read')
+    let read' : Stops e (clause_at limit (length before.requires) (t ∷ us) us) = subst (λ l. Stops e (clause_at limit (length before.requires) l us)) first read in
+    rw (first, begins) (stops_after e (clause_at limit (length before.requires) (t ∷ us) us) (λ x. Ok (Some (with_requires before x.0), skip_semicolon x.1)) read')
 
-pub ensures_stops : (e : the_stop.Stop) (before : Clauses) (ts : List Token) (t : Token) (us : List Token) → ts ≡ t ∷ us → begins_requires t.kind ≡ false → begins_ensures t.kind ≡ true → Stops e (clause_at (length before.ensures) ts us) → Stops e (clause_turn before ts)
+pub ensures_stops : (e : the_stop.Stop) (before : Clauses) (ts : List Token) (t : Token) (us : List Token) → ts ≡ t ∷ us → begins_requires t.kind ≡ false → begins_ensures t.kind ≡ true → Stops e (clause_at limit (length before.ensures) ts us) → Stops e (clause_turn limit before ts)
 unfolding clause_turn
 ensures_stops e before ts t us first not begins read =
-    let read' : Stops e (clause_at (length before.ensures) (t ∷ us) us) = subst (λ l. Stops e (clause_at (length before.ensures) l us)) first read in
-    rw (first, not, begins) (stops_after e (clause_at (length before.ensures) (t ∷ us) us) (λ x. Ok (Some (with_ensures before x.0), skip_semicolon x.1)) read')
+    let read' : Stops e (clause_at limit (length before.ensures) (t ∷ us) us) = subst (λ l. Stops e (clause_at limit (length before.ensures) l us)) first read in
+    rw (first, not, begins) (stops_after e (clause_at limit (length before.ensures) (t ∷ us) us) (λ x. Ok (Some (with_ensures before x.0), skip_semicolon x.1)) read')

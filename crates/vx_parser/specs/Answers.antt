@@ -1,5 +1,5 @@
 -- What is answered for a text: its program, or the first fault with its place.
-use Rattle.std.specs.Prelude.{◌≡◌, ℕ, List, [], ◌∷◌, map, Result, Ok, Err, Bool, true, false, if◌then◌else◌, codes, ◌==◌}
+use Rattle.std.specs.Prelude.{◌≡◌, List, [], ◌∷◌, map, Result, Ok, Err, Bool, true, false, if◌then◌else◌, codes, ◌==◌}
 use Rattle.std.specs.Cmp.Lexicographic.{pointwise}
 use Rattle.std.specs.Global.{Vec}
 use Rattle.vx_ast.specs.declared.Place.{Place}
@@ -19,7 +19,6 @@ use Rattle.vx_parser.specs.declared.program.Halt as the_halt
 use Rattle.vx_parser.specs.declared.program.Halt.TheVariants as halts
 use Rattle.vx_parser.specs.declared.fault.TextFault as the_fault
 use Rattle.vx_parser.specs.declared.fault.TextFault.TheVariants as faults
-use Rattle.vx_parser.specs.Gives.{Stops}
 
 -- ---- words and signs that this language leaves out
 

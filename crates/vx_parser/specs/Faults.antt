@@ -1,5 +1,5 @@
 -- What is printed of a fault.
-use Rattle.std.specs.Prelude.{◌≡◌, ℕ, List, [], codes, Option, Some, None, string_bytes}
+use Rattle.std.specs.Prelude.{ℕ, List, [], codes, Option, Some, None, string_bytes}
 use Rattle.vx_ast.specs.declared.Place.{Place}
 use Rattle.vx_tokens.specs.Text.{first_place}
 use Rattle.vx_parser.specs.declared.fault.TextFault as the_fault

@@ -126,7 +126,7 @@ fn clause<'t>(
     here: &'t [Token<'t>],
     tokens: &'t [Token<'t>],
 ) -> Read<'t, Rc<Expr>>
-    ensures { Gives (λ x. (written_expr x.0.value, tokens_in x.1.now)) result (reading.clause_at before (tokens_in here.now) (tokens_in tokens.now)) }
+    ensures { Gives (λ x. (written_expr x.0.value, tokens_in x.1.now)) result (reading.clause_at reading.limit before (tokens_in here.now) (tokens_in tokens.now)) }
 {
     if before > LIMIT as usize {
         return Err(Stop::TooDeep(here));
@@ -149,7 +149,7 @@ fn begins_ensures(kind: Kind) -> bool
 
 #[tactic(auto, unfolding(vx_grammar::specs::MemberReading::clauses_at))]
 fn contract<'t>(alloc: Global, tokens: &'t [Token<'t>]) -> Read<'t, Clauses>
-    ensures { Gives (λ x. (clauses_of x.0, tokens_in x.1.now)) result (reading.clauses_at (tokens_in tokens.now)) }
+    ensures { Gives (λ x. (clauses_of x.0, tokens_in x.1.now)) result (reading.clauses_at reading.limit (tokens_in tokens.now)) }
 {
     let mut preconditions = Vec::new(alloc);
     let mut postconditions = Vec::new(alloc);
@@ -194,7 +194,7 @@ fn contract<'t>(alloc: Global, tokens: &'t [Token<'t>]) -> Read<'t, Clauses>
 /// What stands behind `method`.
 #[tactic(auto, unfolding(vx_grammar::specs::MemberReading::method_at))]
 pub fn method<'t>(alloc: Global, place: Place, tokens: &'t [Token<'t>]) -> Read<'t, Member>
-    ensures { Gives (λ x. (written_member x.0, tokens_in x.1.now)) result (reading.method_at place (tokens_in tokens.now)) }
+    ensures { Gives (λ x. (written_member x.0, tokens_in x.1.now)) result (reading.method_at reading.limit place (tokens_in tokens.now)) }
 {
     let (name, rest) = name(alloc, tokens)?;
     let (parameters, rest) = parameters(alloc, rest)?;

@@ -1,6 +1,6 @@
 //! From the bytes of a text to its program.
 
-ghost use Rattle.std.specs.Prelude.{◌≡◌, ◌≤◌, ◌<◌, ◌↔◌, ℕ, List, length, take, Err, IfOk, IsErrOf, MatchOption};
+ghost use Rattle.std.specs.Prelude.{◌≡◌, ◌≤◌, ◌<◌, ◌↔◌, ℕ, List, length, take, Err, IfErr, IfOk, IsErrOf, MatchOption};
 ghost use Rattle.std.specs.Str.{IsUtf8};
 ghost use Rattle.std.specs.Str.Lossy.{utf8_valid_len};
 ghost use Rattle.vx_tokens.specs.Text.{Scans, first_place, unmarked, after, Ending as End};
@@ -9,6 +9,7 @@ ghost use Rattle.vx_tokens.specs.Tokens.{tokens_in, token_of, kind_of, Token as 
 ghost use Rattle.vx_grammar.specs.MemberReading as reading;
 ghost use Rattle.vx_ast.specs.Written.{Program as Tree, written_program};
 ghost use Rattle.vx_parser.specs.Answers as answers;
+ghost use Rattle.vx_parser.specs.Refusing.{IsRefusal};
 ghost use Rattle.vx_parser.specs.Spelling.{Spells, IsProgram};
 ghost use Rattle.vx_parser.specs.declared.fault.TextFault.TheVariants as faults;
 ghost use Rattle.vx_parser.specs.declared.program.Halt.TheVariants.{Inside};
@@ -21,7 +22,7 @@ use crate::stop::Stop;
 use std::alloc::{AllocError, AllocFailed, Global};
 use std::str;
 use vx_ast::{Member, Place, Program};
-use vx_grammar::{programs_are_spelled, spelled_programs_are_read};
+use vx_grammar::{programs_are_spelled, reading_stops_at_first, spelled_programs_are_read};
 use vx_tokens::{Ending, Kind, MAX_TEXT, Symbol, Token, Word, end_of, lex};
 
 /// The most members of a program.
@@ -63,10 +64,14 @@ pub fn parse(alloc: Global, text: &[u8]) -> Result<Program, TextFault>
     ensures too_long { IsErrOf result faults.TooLong ↔ (4194304 < length text.now) }
     // Bytes that are no text are refused behind the last character before them, which is decided second.
     ensures not_utf8 { length text.now ≤ 4194304 → (IsUtf8 text.now → ⊥) → result ≡ Err (faults.NotUtf8 (after first_place (unmarked (take (utf8_valid_len text.now) text.now)))) }
+    // Another fault stands at the first token with which no program goes on, at the first that nests too deep, or at one
+    // member too many; or all tokens fit, and the text goes on with none.
+    ensures refused { IfErr result (λ f. length text.now ≤ 4194304 → IsUtf8 text.now → (ts : List Tok) (e : End) → Scans first_place (unmarked text.now) ts e → IsRefusal ts e f) }
     // Else the tokens of the text, and how it goes on behind them, give the answer, unless memory runs out.
     ensures reads { length text.now ≤ 4194304 → IsUtf8 text.now → (ts : List Tok) (e : End) → Scans first_place (unmarked text.now) ts e → answers.IsAnswer result (answers.answer ts e) }
 {
     programs_are_spelled();
+    reading_stops_at_first();
     spelled_programs_are_read();
     if text.len() > MAX_TEXT {
         return Err(TextFault::TooLong);
@@ -91,7 +96,7 @@ fn begins_member(kind: Kind) -> bool
     matches!(kind, Kind::Word(Word::Method))
 }
 
-#[tactic(auto, unfolding(vx_grammar::specs::MemberReading::members_at))]
+#[tactic(auto, unfolding(vx_grammar::specs::MemberReading::members_within))]
 fn members<'t>(alloc: Global, tokens: &'t [Token<'t>]) -> Result<Vec<Member>, Halt<'t>>
     ensures { answers.GivesMembers result (reading.members_at (tokens_in tokens.now)) }
 {

@@ -1,7 +1,7 @@
 use Rattle.std.proofs.Common.{◌≡◌, ◌-◌, length}
 use Rattle.vx_tokens.specs.Tokens.{tokens_in}
 use Rattle.vx_grammar.specs.Loops.{run}
-use Rattle.vx_grammar.specs.MemberReading.{Clauses, clause_turn, clauses_at}
+use Rattle.vx_grammar.specs.MemberReading.{limit, Clauses, clause_turn, clauses_at}
 use Rattle.vx_parser.specs.Views.{exprs_of}
 use Rattle.vx_parser.proofs.member.contract.Given as goal
 
@@ -9,4 +9,4 @@ use Rattle.vx_parser.proofs.member.contract.Given as goal
 abbrev pub invariant-loop : goal.invariant-loop
 invariant-loop l =
     let so_far : Clauses = record { requires = exprs_of l.preconditions.items; ensures = exprs_of l.postconditions.items } in
-    run clause_turn (length (tokens_in l.tokens) - l.counter) so_far (tokens_in l.rest) ≡ clauses_at (tokens_in l.tokens)
+    run (clause_turn limit) (length (tokens_in l.tokens) - l.counter) so_far (tokens_in l.rest) ≡ clauses_at limit (tokens_in l.tokens)

@@ -2,6 +2,7 @@ use Rattle.std.proofs.Common.{◌≡◌, Ok, Err, ap, ◌∙◌}
 use Rattle.vx_tokens.specs.Tokens.{tokens_in}
 use Rattle.vx_tokens.specs.Views.{ending_of}
 use Rattle.vx_parser.proofs.Answered.{answered_along, program_answered, ending_answered, fault_answered}
+use Rattle.vx_parser.proofs.Refused.{answers_say, refusal_of}
 use Rattle.vx_parser.proofs.Spelled.{spelled_is_answered}
 use Rattle.vx_parser.proofs.program.parse.Goals as goal
 
@@ -28,3 +29,9 @@ returns-in-None-clause-only c = spelled_is_answered c.args.text.now (Ok (record 
 
 pub returns-clause-only : goal.returns-clause-only
 returns-clause-only c = spelled_is_answered c.args.text.now (Err c.fault.result) c.spelled_programs_are_read.ensures (returns-clause-reads c)
+
+pub returns-in-Ok-clause-refused : goal.returns-in-Ok-clause-refused
+returns-in-Ok-clause-refused c = λ short text ts e s. refusal_of c.in-Some.fault ts e (answers_say c.programs_are_spelled.ensures c.reading_stops_at_first.ensures) (returns-in-Ok-clause-reads c short text ts e s)
+
+pub returns-clause-refused : goal.returns-clause-refused
+returns-clause-refused c = λ short text ts e s. refusal_of c.fault.result ts e (answers_say c.programs_are_spelled.ensures c.reading_stops_at_first.ensures) (returns-clause-reads c short text ts e s)

@@ -1,0 +1,266 @@
+-- Reading members looks no further than the token at which it stops.
+use Rattle.std.proofs.Common.{◌≡◌, ℕ, zero, suc, ◌+◌, ◌-◌, ◌≤◌, ◌<◌, List, [], ◌∷◌, ◌++◌, Option, Some, None, Ok, Err, length, refl, sym, ap, subst, ◌∙◌, append_assoc, arith, Bool, true, false, cond, leb, length-append, inl, inr}
+use Rattle.std.proofs.lemmas.List.{length-map, append_cancel_right}
+use Rattle.std.proofs.lemmas.Bool.{leb-true, le-leb}
+use Rattle.vx_ast.specs.declared.Place.{Place}
+use Rattle.vx_ast.specs.Written.{Expr, Declaration}
+use Rattle.vx_tokens.specs.declared.token.Symbol.TheVariants as signs
+use Rattle.vx_tokens.specs.Tokens.{Token}
+use Rattle.vx_grammar.specs.Grammar.{Mark, tokens_of}
+use Rattle.vx_grammar.specs.Reading.{◌>>=◌, Read, Unexpected, TooDeep, is_symbol, choice_at, below}
+use Rattle.vx_grammar.specs.Loops.{Turn, run, turned}
+use Rattle.vx_grammar.specs.StmtReading.{name_at, declaration_at, block_at, stmts_below, skip_semicolon}
+use Rattle.vx_grammar.specs.MemberReading.{limit, Clauses, no_clauses, with_requires, with_ensures, begins_requires, begins_ensures, clause_at, clause_turn, clauses_at, method_at, declaration_turn, declarations_at, inner_parameters_at, parameters_at, begins_returns, returns_at}
+use Rattle.vx_grammar.proofs.Tells.{Grammar, Tells, TellsOk}
+use Rattle.vx_grammar.proofs.Steps.{TurnFor}
+use Rattle.vx_grammar.proofs.MemberTold.{DeclarationStep, turn_tells}
+use Rattle.vx_grammar.proofs.MethodTold.{ClauseStep, clause_turn_tells}
+use Rattle.vx_grammar.proofs.Local.{Local, Front, SameHead, same_behind, local_ok, local_end, local_end_unexpected, local_return, local_token, local_then, local_same}
+use Rattle.vx_grammar.proofs.LocalExpr.{reading_local}
+use Rattle.vx_grammar.proofs.StmtLocal.{name_local, declaration_local, bracket_local, block_reading_local}
+
+-- ---- turns
+
+-- as Front of one reader, for as many turns as there may be
+pub record RunFront {S : Type 0} (turn : Turn S) (s : S) (ts rest : List Token) (answer : List Token → Read S) : Type 0 where
+  pub front : List Token
+  pub is : ts ≡ front ++ rest
+  pub repeats : (next : List Token) → SameHead rest next → (most : ℕ) → length (front ++ next) ≤ most → run turn most s (front ++ next) ≡ answer next
+
+abbrev pub LocalRun : {S : Type 0} → Turn S → S → List Token → Read S → Type 0
+LocalRun turn s ts (Ok x) = RunFront turn s ts x.1 (λ l. Ok (x.0, l))
+LocalRun turn s ts (Err (Unexpected rest)) = RunFront turn s ts rest (λ l. Err (Unexpected l))
+LocalRun turn s ts (Err (TooDeep rest)) = Unit {0}
+
+-- a turn that is repeated by another, takes a token at least where it goes on, and none where it does not
+pub record Turns {S : Type 0} (turn other : Turn S) : Type 0 where
+  pub local : (s : S) (ts : List Token) → Local ts (turn s ts) (other s)
+  pub short : (s t : S) (ts mid : List Token) → turn s ts ≡ Ok (Some t, mid) → length mid < length ts
+  pub same : (s : S) (ts mid : List Token) → turn s ts ≡ Ok (None, mid) → ts ≡ mid
+  pub empty : (s : S) → other s [] ≡ Ok (None, [])
+
+empty_run : {S : Type 0} (turn other : Turn S) → Turns turn other → (s : S) (most : ℕ) → run other most s [] ≡ Ok (s, [])
+unfolding run
+empty_run turn other h s zero = refl
+empty_run turn other h s (suc most) = rw (h.empty s) refl
+
+only_empty : {S : Type 0} (turn other : Turn S) → Turns turn other → (s : S) (next : List Token) → SameHead [] next → (most : ℕ) → run other most s next ≡ Ok (s, next)
+only_empty turn other h s [] same most = empty_run turn other h s most
+only_empty turn other h s (t ∷ next) same most = absurd same
+
+nothing_front : (front rest : List Token) → rest ≡ front ++ rest → front ≡ []
+nothing_front front rest e = append_cancel_right front [] rest (sym e)
+
+over_run : {S : Type 0} (turn other : Turn S) (s : S) (ts : List Token) → Front ts ts (λ l. Ok (None, l)) (other s) → LocalRun other s ts (Ok (s, ts))
+unfolding run
+over_run turn other s ts f = record { front = []; is = refl; repeats = again }
+  where
+    again : (next : List Token) → SameHead ts next → (most : ℕ) → length next ≤ most → run other most s next ≡ Ok (s, next)
+    again next same zero le = refl
+    again next same (suc most) le =
+        let none : f.front ≡ [] = nothing_front f.front ts f.is in
+        let read : other s next ≡ Ok (None, next) = subst (λ l. other s (l ++ next) ≡ Ok (None, next)) none (f.repeats next same) in
+        rw read refl
+
+stop_run : {S : Type 0} (turn other : Turn S) → Turns turn other → (s : S) (ts rest : List Token) → Front ts rest (λ l. Err (Unexpected l)) (other s) → LocalRun other s ts (Err (Unexpected rest))
+unfolding run
+stop_run turn other h s ts rest f = record { front = f.front; is = f.is; repeats = again }
+  where
+    no_tokens : (l : List Token) → length l ≤ 0 → l ≡ []
+    no_tokens [] le = refl
+    no_tokens (t ∷ l) le = absurd (omega (arith, le))
+
+    again : (next : List Token) → SameHead rest next → (most : ℕ) → length (f.front ++ next) ≤ most → run other most s (f.front ++ next) ≡ Err (Unexpected next)
+    again next same zero le =
+        let e : other s [] ≡ Err (Unexpected next) = subst (λ l. other s l ≡ Err (Unexpected next)) (no_tokens (f.front ++ next) le) (f.repeats next same) in
+        let o = h.empty s in
+        absurd cc
+    again next same (suc most) le = rw (f.repeats next same) refl
+
+on_run : {S : Type 0} (turn other : Turn S) (s t : S) (ts mid rest : List Token) (answer : List Token → Read S) → length mid < length ts → Front ts mid (λ l. Ok (Some t, l)) (other s) → RunFront other t mid rest answer → RunFront other s ts rest answer
+unfolding run
+on_run turn other s t ts mid rest answer lt f g = record {
+  front = f.front ++ g.front;
+  is = f.is ∙ ap (λ l. f.front ++ l) g.is ∙ sym (append_assoc f.front g.front rest);
+  repeats = again;
+}
+  where
+    again : (next : List Token) → SameHead rest next → (most : ℕ) → length ((f.front ++ g.front) ++ next) ≤ most → run other most s ((f.front ++ g.front) ++ next) ≡ answer next
+    again next same most le =
+        let l3 = g.front ++ next in
+        let list : (f.front ++ g.front) ++ next ≡ f.front ++ l3 = append_assoc f.front g.front next in
+        let heads : SameHead mid l3 = subst (λ l. SameHead l l3) (sym g.is) (same_behind g.front rest next same) in
+        let n1 = length-append f.front mid in
+        let n2 = ap length f.is in
+        let n3 = length-append f.front l3 in
+        let n4 = ap length list in
+        ap (run other most s) list ∙ by_most most (omega (arith, n4, le)) (f.repeats l3 heads) (omega (arith, lt, n1, n2, n3, n4, le)) (omega (arith, lt, n1, n2))
+      where
+        by_most : (most : ℕ) → length (f.front ++ (g.front ++ next)) ≤ most → other s (f.front ++ (g.front ++ next)) ≡ Ok (Some t, g.front ++ next) → length (g.front ++ next) + 1 ≤ most → 1 ≤ length f.front → run other most s (f.front ++ (g.front ++ next)) ≡ answer next
+        by_most zero le read short one = absurd (omega (arith, short))
+        by_most (suc most) le read short one = rw read (g.repeats next same most (omega (arith, short)))
+
+by_turn : {S : Type 0} (turn other : Turn S) → Turns turn other → (s : S) (ts : List Token) (r : Read (Option S)) → turn s ts ≡ r → (go : S → List Token → Read S) → ((t : S) (us : List Token) → length us < length ts → LocalRun other t us (go t us)) → LocalRun other s ts (r >>= λ x. turned go s ts x.0 x.1)
+by_turn {S = S} turn other h s ts (Ok (None, mid)) e go k = over_run turn other s ts (subst (λ m. Front ts m (λ l. Ok (None, l)) (other s)) (sym (h.same s ts mid e)) (subst (λ r. Local ts r (other s)) e (h.local s ts)))
+by_turn {S = S} turn other h s ts (Ok (Some t, mid)) e go k =
+    let lt = h.short s t ts mid e in
+    more_run (go t mid) (k t mid lt)
+  where
+    more_run : (r : Read S) → LocalRun other t mid r → LocalRun other s ts r
+    more_run (Ok x) g = on_run turn other s t ts mid x.1 (λ l. Ok (x.0, l)) (h.short s t ts mid e) (subst (λ r. Local ts r (other s)) e (h.local s ts)) g
+    more_run (Err (Unexpected rest)) g = on_run turn other s t ts mid rest (λ l. Err (Unexpected l)) (h.short s t ts mid e) (subst (λ r. Local ts r (other s)) e (h.local s ts)) g
+    more_run (Err (TooDeep rest)) g = tt
+by_turn {S = S} turn other h s ts (Err (Unexpected rest)) e go k = stop_run turn other h s ts rest (subst (λ r. Local ts r (other s)) e (h.local s ts))
+by_turn {S = S} turn other h s ts (Err (TooDeep rest)) e go k = tt
+
+run_local_by : {S : Type 0} (turn other : Turn S) → Turns turn other → (most : ℕ) (s : S) (ts : List Token) → length ts ≤ most → LocalRun other s ts (run turn most s ts)
+unfolding run
+run_local_by turn other h zero s [] le = record { front = []; is = refl; repeats = λ next same most l. only_empty turn other h s next same most }
+run_local_by turn other h zero s (t ∷ ts) le = absurd (omega (arith, le))
+run_local_by turn other h (suc most) s ts le = by_turn turn other h s ts (turn s ts) refl (run turn most) (λ t us lt. run_local_by turn other h most t us (omega (arith, lt, le)))
+
+-- a loop that is given as many turns as there are tokens
+pub run_local : {S : Type 0} (turn other : Turn S) → Turns turn other → (s : S) (ts : List Token) → Local ts (run turn (length ts) s ts) (λ l. run other (length l) s l)
+run_local {S = S} turn other h s ts = by_read (run turn (length ts) s ts) (run_local_by turn other h (length ts) s ts (omega arith))
+  where
+    by_read : (r : Read S) → LocalRun other s ts r → Local ts r (λ l. run other (length l) s l)
+    by_read (Ok x) g = record { front = g.front; is = g.is; repeats = λ next same. g.repeats next same (length (g.front ++ next)) (omega arith) }
+    by_read (Err (Unexpected rest)) g = record { front = g.front; is = g.is; repeats = λ next same. g.repeats next same (length (g.front ++ next)) (omega arith) }
+    by_read (Err (TooDeep rest)) g = tt
+
+-- ---- declarations
+
+by_comma : (before : List Declaration) (t : Token) (ts : List Token) (b : Bool) → is_symbol signs.Comma t.kind ≡ b → Local (t ∷ ts) (cond b (declaration_at ts >>= λ d. Ok (Some (before ++ d.0 ∷ []), d.1)) (Ok (None, t ∷ ts))) (declaration_turn before)
+unfolding declaration_turn
+by_comma before t ts true e = local_token t ts (declaration_at ts >>= λ d. Ok (Some (before ++ d.0 ∷ []), d.1)) (λ l. declaration_at l >>= λ d. Ok (Some (before ++ d.0 ∷ []), d.1)) (declaration_turn before) (λ l. rw e refl) (local_then ts (declaration_at ts) declaration_at _ _ (declaration_local ts) (λ d us. local_return us _))
+by_comma before t ts false e = local_ok t ts None (declaration_turn before) (λ more. rw e refl)
+
+declaration_turn_local : (before : List Declaration) (ts : List Token) → Local ts (declaration_turn before ts) (declaration_turn before)
+unfolding declaration_turn
+declaration_turn_local before [] = local_end None (declaration_turn before) refl
+declaration_turn_local before (t ∷ ts) = by_comma before t ts (is_symbol signs.Comma t.kind) refl
+
+-- what was taken by some marks is shorter, and by none is the same
+taken_short : {A : Type 0} (R : Grammar A) (deep : ℕ) (ts : List Token) (x : A) (mid : List Token) → ((ms : List Mark) → R x ms → 1 ≤ length ms) → TellsOk R deep ts x mid → length mid < length ts
+taken_short R deep ts x mid f h =
+    let one = f h.marks h.spelled in
+    let all = ap length h.takes.tokens in
+    let a = length-append (tokens_of h.marks) mid in
+    let b = length-map h.marks (λ m. m.token) in
+    omega (arith, one, all, a, b)
+
+taken_none : {A : Type 0} (R : Grammar A) (deep : ℕ) (ts : List Token) (x : A) (mid : List Token) → ((ms : List Mark) → R x ms → ms ≡ []) → TellsOk R deep ts x mid → ts ≡ mid
+taken_none R deep ts x mid f h = h.takes.tokens ∙ ap (λ l. tokens_of l ++ mid) (f h.marks h.spelled)
+
+declaration_turns : Turns declaration_turn declaration_turn
+unfolding declaration_turn
+declaration_turns = record {
+  local = declaration_turn_local;
+  short = λ s t ts mid e. taken_short (TurnFor (DeclarationStep 0) s) 0 ts (Some t) mid (λ ms (p, d, st, v, z). rw z (omega arith)) (subst (Tells (TurnFor (DeclarationStep 0) s) 0 ts) e (turn_tells 0 0 (omega arith) s ts));
+  same = λ s ts mid e. taken_none (TurnFor (DeclarationStep 0) s) 0 ts None mid (λ ms z. z) (subst (Tells (TurnFor (DeclarationStep 0) s) 0 ts) e (turn_tells 0 0 (omega arith) s ts));
+  empty = λ s. refl;
+}
+
+declarations_local : (ts : List Token) → Local ts (declarations_at ts) declarations_at
+unfolding declarations_at
+declarations_local ts = local_then ts (declaration_at ts) declaration_at _ _ (declaration_local ts) (λ d us. run_local declaration_turn declaration_turn declaration_turns (d ∷ []) us)
+
+by_closing : (t : Token) (ts : List Token) (b : Bool) → is_symbol signs.Close t.kind ≡ b → Local (t ∷ ts) (cond b (Ok ([], t ∷ ts)) (declarations_at (t ∷ ts))) inner_parameters_at
+unfolding inner_parameters_at
+by_closing t ts true e = local_ok t ts [] inner_parameters_at (λ more. rw e refl)
+by_closing t ts false e = local_same t ts (declarations_at (t ∷ ts)) declarations_at inner_parameters_at (λ l. rw e refl) (declarations_local (t ∷ ts))
+
+end_of_declarations : declarations_at [] ≡ Err (Unexpected [])
+unfolding declarations_at declaration_at name_at
+end_of_declarations = refl
+
+inner_local : (ts : List Token) → Local ts (inner_parameters_at ts) inner_parameters_at
+unfolding inner_parameters_at
+inner_local [] = subst (λ r. Local [] r inner_parameters_at) (sym end_of_declarations) (local_end_unexpected inner_parameters_at end_of_declarations)
+inner_local (t ∷ ts) = by_closing t ts (is_symbol signs.Close t.kind) refl
+
+parameters_local : (ts : List Token) → Local ts (parameters_at ts) parameters_at
+unfolding parameters_at
+parameters_local ts = bracket_local signs.Open signs.Close (λ here us. inner_parameters_at us) (λ here us. inner_parameters_at us) (λ here us heres. inner_local us) ts
+
+by_returns : (t : Token) (ts : List Token) (b : Bool) → begins_returns t.kind ≡ b → Local (t ∷ ts) (cond b (parameters_at ts) (Ok ([], t ∷ ts))) returns_at
+unfolding returns_at
+by_returns t ts true e = local_token t ts (parameters_at ts) parameters_at returns_at (λ l. rw e refl) (parameters_local ts)
+by_returns t ts false e = local_ok t ts [] returns_at (λ more. rw e refl)
+
+returns_local : (ts : List Token) → Local ts (returns_at ts) returns_at
+unfolding returns_at
+returns_local [] = local_end [] returns_at refl
+returns_local (t ∷ ts) = by_returns t ts (begins_returns t.kind) refl
+
+-- ---- clauses
+
+local_eq : {A : Type 0} (ts : List Token) (r : Read A) (reader other : List Token → Read A) → ((l : List Token) → other l ≡ reader l) → Local ts r reader → Local ts r other
+local_eq ts (Ok x) reader other h f = record { front = f.front; is = f.is; repeats = λ next same. h (f.front ++ next) ∙ f.repeats next same }
+local_eq ts (Err (Unexpected rest)) reader other h f = record { front = f.front; is = f.is; repeats = λ next same. h (f.front ++ next) ∙ f.repeats next same }
+local_eq ts (Err (TooDeep rest)) reader other h f = tt
+
+clause_by_local : (more before : ℕ) (here ts : List Token) (heres : List Token → List Token) (b : Bool) → leb before limit ≡ b → Local ts (cond b (choice_at (below (limit - before)) ts) (Err (TooDeep here))) (λ l. clause_at (limit + more) before (heres l) l)
+unfolding clause_at
+clause_by_local more before here ts heres true h =
+    let le : before ≤ limit = leb-true _ _ h in
+    let b : leb before (limit + more) ≡ true = le-leb _ _ (omega (arith, le)) in
+    let room : (limit + more) - before ≡ (limit - before) + more = omega (arith, le) in
+    local_eq ts (choice_at (below (limit - before)) ts) (choice_at (below ((limit - before) + more))) (λ l. clause_at (limit + more) before (heres l) l) (λ l. rw (b, room) refl) (reading_local (limit - before) more ts)
+clause_by_local more before here ts heres false h = tt
+
+clause_local : (more before : ℕ) (here ts : List Token) (heres : List Token → List Token) → Local ts (clause_at limit before here ts) (λ l. clause_at (limit + more) before (heres l) l)
+unfolding clause_at
+clause_local more before here ts heres = clause_by_local more before here ts heres (leb before limit) refl
+
+by_semicolon : {A : Type 0} (v : A) (t : Token) (ts : List Token) (b : Bool) → is_symbol signs.Semicolon t.kind ≡ b → Local (t ∷ ts) (Ok (v, cond b ts (t ∷ ts))) (λ l. Ok (v, skip_semicolon l))
+by_semicolon v t ts true e = local_token t ts (Ok (v, ts)) (λ l. Ok (v, l)) (λ l. Ok (v, skip_semicolon l)) (λ l. rw e refl) (local_return ts v)
+by_semicolon v t ts false e = local_ok t ts v (λ l. Ok (v, skip_semicolon l)) (λ more. rw e refl)
+
+pub skip_local : {A : Type 0} (v : A) (ts : List Token) → Local ts (Ok (v, skip_semicolon ts)) (λ l. Ok (v, skip_semicolon l))
+skip_local v [] = local_end v (λ l. Ok (v, skip_semicolon l)) refl
+skip_local v (t ∷ ts) = by_semicolon v t ts (is_symbol signs.Semicolon t.kind) refl
+
+-- one clause, and its semicolon
+one_local : (more before : ℕ) (make : Expr → Clauses) (here ts : List Token) (heres : List Token → List Token) → Local ts (clause_at limit before here ts >>= λ e. Ok (Some (make e.0), skip_semicolon e.1)) (λ l. clause_at (limit + more) before (heres l) l >>= λ e. Ok (Some (make e.0), skip_semicolon e.1))
+one_local more before make here ts heres = local_then ts (clause_at limit before here ts) (λ l. clause_at (limit + more) before (heres l) l) _ _ (clause_local more before here ts heres) (λ e us. skip_local (Some (make e)) us)
+
+by_clause : (more : ℕ) (before : Clauses) (t : Token) (ts : List Token) (r k : Bool) → begins_requires t.kind ≡ r → begins_ensures t.kind ≡ k
+    → Local (t ∷ ts) (cond r (clause_at limit (length before.requires) (t ∷ ts) ts >>= λ e. Ok (Some (with_requires before e.0), skip_semicolon e.1)) (cond k (clause_at limit (length before.ensures) (t ∷ ts) ts >>= λ e. Ok (Some (with_ensures before e.0), skip_semicolon e.1)) (Ok (None, t ∷ ts)))) (clause_turn (limit + more) before)
+unfolding clause_turn
+by_clause more before t ts true k h g = local_token t ts _ (λ l. clause_at (limit + more) (length before.requires) (t ∷ l) l >>= λ e. Ok (Some (with_requires before e.0), skip_semicolon e.1)) (clause_turn (limit + more) before) (λ l. rw h refl) (one_local more (length before.requires) (with_requires before) (t ∷ ts) ts (λ l. t ∷ l))
+by_clause more before t ts false true h g = local_token t ts _ (λ l. clause_at (limit + more) (length before.ensures) (t ∷ l) l >>= λ e. Ok (Some (with_ensures before e.0), skip_semicolon e.1)) (clause_turn (limit + more) before) (λ l. rw (h, g) refl) (one_local more (length before.ensures) (with_ensures before) (t ∷ ts) ts (λ l. t ∷ l))
+by_clause more before t ts false false h g = local_ok t ts None (clause_turn (limit + more) before) (λ l. rw (h, g) refl)
+
+clause_turn_local : (more : ℕ) (before : Clauses) (ts : List Token) → Local ts (clause_turn limit before ts) (clause_turn (limit + more) before)
+unfolding clause_turn
+clause_turn_local more before [] = local_end None (clause_turn (limit + more) before) refl
+clause_turn_local more before (t ∷ ts) = by_clause more before t ts (begins_requires t.kind) (begins_ensures t.kind) refl refl
+
+clause_long : (s t : Clauses) (ms : List Mark) → ClauseStep s t ms → 1 ≤ length ms
+clause_long s t ms (inl c) = rw c.spelled (omega arith)
+clause_long s t ms (inr c) = rw c.spelled (omega arith)
+
+clause_turns : (more : ℕ) → Turns (clause_turn limit) (clause_turn (limit + more))
+unfolding clause_turn
+clause_turns more = record {
+  local = clause_turn_local more;
+  short = λ s t ts mid e. taken_short (TurnFor ClauseStep s) limit ts (Some t) mid (clause_long s t) (subst (Tells (TurnFor ClauseStep s) limit ts) e (clause_turn_tells s ts));
+  same = λ s ts mid e. taken_none (TurnFor ClauseStep s) limit ts None mid (λ ms z. z) (subst (Tells (TurnFor ClauseStep s) limit ts) e (clause_turn_tells s ts));
+  empty = λ s. refl;
+}
+
+clauses_local : (more : ℕ) (ts : List Token) → Local ts (clauses_at limit ts) (clauses_at (limit + more))
+unfolding clauses_at
+clauses_local more ts = run_local (clause_turn limit) (clause_turn (limit + more)) (clause_turns more) no_clauses ts
+
+-- ---- methods
+
+pub method_local : (more : ℕ) (place : Place) (ts : List Token) → Local ts (method_at limit place ts) (method_at (limit + more) place)
+unfolding method_at
+method_local more place ts =
+    local_then ts (name_at ts) name_at _ _ (name_local ts) (λ x us.
+    local_then us (parameters_at us) parameters_at _ _ (parameters_local us) (λ ps vs.
+    local_then vs (returns_at vs) returns_at _ _ (returns_local vs) (λ rs ws.
+    local_then ws (clauses_at limit ws) (clauses_at (limit + more)) _ _ (clauses_local more ws) (λ c xs.
+    local_then xs (block_at (stmts_below limit) xs) (block_at (stmts_below (limit + more))) _ _ (block_reading_local limit more xs) (λ b ys. local_return ys _)))))

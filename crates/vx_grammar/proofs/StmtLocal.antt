@@ -1,0 +1,175 @@
+-- Reading statements looks no further than the token at which it stops.
+use Rattle.std.proofs.Common.{◌≡◌, ℕ, zero, suc, ◌+◌, ◌<◌, List, [], ◌∷◌, ◌++◌, Some, None, Ok, Err, length, refl, sym, ap, subst, ◌∙◌, arith, Bool, true, false, cond, length-append}
+use Rattle.std.proofs.lemmas.List.{length-map}
+use Rattle.vx_ast.specs.declared.Place.{Place}
+use Rattle.vx_ast.specs.declared.ValueType.TheVariants as types
+use Rattle.vx_ast.specs.Written.{Expr, Declaration, Value, Stmt, Declare, Assign, Assert, Assume, Done, Then}
+use Rattle.vx_tokens.specs.declared.token.Symbol.{Symbol}
+use Rattle.vx_tokens.specs.declared.token.Word.TheVariants as words
+use Rattle.vx_tokens.specs.declared.token.Symbol.TheVariants as signs
+use Rattle.vx_tokens.specs.Tokens.{Token, Kind, name, number, word, symbol}
+use Rattle.vx_grammar.specs.Grammar.{tokens_of}
+use Rattle.vx_grammar.specs.Reading.{◌>>=◌, Read, Unexpected, TooDeep, expect, is_symbol, choice, choice_at, below}
+use Rattle.vx_grammar.specs.StmtReading.{StmtPart, statements, elseif_part, StmtDeeper, stmt_part, stmts_below, name_by, name_at, type_by, type_at, declaration_at, condition_at, block_at, otherwise_by, otherwise_at, branch_at, initial_by, initial_at, declare_at, assign_at, assert_at, assume_at, stmt_by, stmt_at, begins_stmt, stmts_at, block_from}
+use Rattle.vx_grammar.proofs.Tells.{Tells, TellsOk}
+use Rattle.vx_grammar.proofs.Rows.{rows, rows_local, LocalRows}
+use Rattle.vx_grammar.proofs.Bracketed.{bracketed_by}
+use Rattle.vx_grammar.proofs.Local.{Local, local_ok, local_unexpected, local_end, local_end_unexpected, local_return, local_token, local_then, local_expect}
+use Rattle.vx_grammar.proofs.LocalExpr.{reading_local, nested_local}
+use Rattle.vx_grammar.proofs.StmtFor.{StmtFor, stmts_are_rows}
+use Rattle.vx_grammar.proofs.StmtTold.{stmt_reading_tells}
+use Rattle.vx_grammar.proofs.StmtReads.{stmt_first}
+
+-- ---- names and types
+
+name_by_local : (t : Token) (k : Kind) (ts : List Token) → t.kind ≡ k → Local (t ∷ ts) (name_by t k ts) name_at
+unfolding name_at
+name_by_local t (name x) ts e = local_token t ts (Ok (x, ts)) (λ l. Ok (x, l)) name_at (λ l. rw e refl) (local_return ts x)
+name_by_local t (number x) ts e = local_unexpected t ts name_at (λ more. rw e refl)
+name_by_local t (word x) ts e = local_unexpected t ts name_at (λ more. rw e refl)
+name_by_local t (symbol x) ts e = local_unexpected t ts name_at (λ more. rw e refl)
+
+pub name_local : (ts : List Token) → Local ts (name_at ts) name_at
+unfolding name_at
+name_local [] = local_end_unexpected name_at refl
+name_local (t ∷ ts) = name_by_local t t.kind ts refl
+
+type_by_local : (t : Token) (k : Kind) (ts : List Token) → t.kind ≡ k → Local (t ∷ ts) (type_by t k ts) type_at
+unfolding type_at
+type_by_local t (word words.Int) ts e = local_token t ts (Ok (types.Int, ts)) (λ l. Ok (types.Int, l)) type_at (λ l. rw e refl) (local_return ts types.Int)
+type_by_local t (word words.Bool) ts e = local_token t ts (Ok (types.Bool, ts)) (λ l. Ok (types.Bool, l)) type_at (λ l. rw e refl) (local_return ts types.Bool)
+type_by_local t k ts e = local_unexpected t ts type_at (λ more. rw e refl)
+
+type_local : (ts : List Token) → Local ts (type_at ts) type_at
+unfolding type_at
+type_local [] = local_end_unexpected type_at refl
+type_local (t ∷ ts) = type_by_local t t.kind ts refl
+
+pub declaration_local : (ts : List Token) → Local ts (declaration_at ts) declaration_at
+unfolding declaration_at
+declaration_local ts =
+    local_then ts (name_at ts) name_at _ _ (name_local ts) (λ x us.
+    local_then us (expect signs.Colon us) (expect signs.Colon) _ _ (local_expect signs.Colon us) (λ c vs.
+    local_then vs (type_at vs) type_at _ _ (type_local vs) (λ t ws. local_return ws _)))
+
+-- ---- what nests between two signs
+
+bracket_by_local : {A : Type 0} (s e : Symbol) (go other : List Token → List Token → Read A) → ((here ts : List Token) (heres : List Token → List Token) → Local ts (go here ts) (λ l. other (heres l) l)) → (t : Token) (us : List Token) (b : Bool) → is_symbol s t.kind ≡ b
+    → (let r : Read Token = cond b (Ok (t, us)) (Err (Unexpected (t ∷ us))) in Local (t ∷ us) (r >>= λ opened. go (t ∷ us) opened.1 >>= λ y. expect e y.1 >>= λ close. Ok (y.0, close.1)) (bracketed_by s e other))
+unfolding expect
+bracket_by_local s e go other h t us true q =
+    local_token t us (go (t ∷ us) us >>= λ y. expect e y.1 >>= λ close. Ok (y.0, close.1)) (λ l. other (t ∷ l) l >>= λ y. expect e y.1 >>= λ close. Ok (y.0, close.1)) (bracketed_by s e other) (λ l. rw q refl)
+    (local_then us (go (t ∷ us) us) (λ l. other (t ∷ l) l) _ _ (h (t ∷ us) us (λ l. t ∷ l)) (λ y vs. local_then vs (expect e vs) (expect e) _ _ (local_expect e vs) (λ c ws. local_return ws y)))
+bracket_by_local s e go other h t us false q = local_unexpected t us (bracketed_by s e other) (λ more. rw q refl)
+
+pub bracket_local : {A : Type 0} (s e : Symbol) (go other : List Token → List Token → Read A) → ((here ts : List Token) (heres : List Token → List Token) → Local ts (go here ts) (λ l. other (heres l) l)) → (ts : List Token) → Local ts (bracketed_by s e go ts) (bracketed_by s e other)
+unfolding expect
+bracket_local s e go other h [] = local_end_unexpected (bracketed_by s e other) refl
+bracket_local s e go other h (t ∷ us) = bracket_by_local s e go other h t us (is_symbol s t.kind) refl
+
+-- ---- statements, with as much room, or more
+
+-- the deeper reader's answers are those of the other
+StmtLocal : StmtDeeper → StmtDeeper → Type 0
+StmtLocal d d' = (p : StmtPart) (here ts : List Token) (heres : List Token → List Token) → Local ts (d p here ts) (λ l. d' p (heres l) l)
+
+condition_local : (room more : ℕ) (ts : List Token) → Local ts (condition_at room ts) (condition_at (room + more))
+unfolding condition_at
+condition_local room more ts = bracket_local signs.Open signs.Close (λ here us. below room choice here us) (λ here us. below (room + more) choice here us) (λ here us heres. nested_local room more choice here us heres) ts
+
+block_local : (d d' : StmtDeeper) (ts : List Token) → StmtLocal d d' → Local ts (block_at d ts) (block_at d')
+unfolding block_at StmtLocal
+block_local d d' ts h = bracket_local signs.OpenBrace signs.CloseBrace (d statements) (d' statements) (h statements) ts
+
+other_by_local : (d d' : StmtDeeper) (t : Token) (k : Kind) (ts : List Token) → t.kind ≡ k → StmtLocal d d' → Local (t ∷ ts) (otherwise_by d t k ts) (otherwise_at d')
+unfolding otherwise_at StmtLocal
+other_by_local d d' t (word words.Else) ts e h = local_token t ts (block_at d ts) (block_at d') (otherwise_at d') (λ l. rw e refl) (block_local d d' ts h)
+other_by_local d d' t (word words.Elseif) ts e h = local_token t ts (d (elseif_part t.place) (t ∷ ts) ts) (λ l. d' (elseif_part t.place) (t ∷ l) l) (otherwise_at d') (λ l. rw e refl) (h (elseif_part t.place) (t ∷ ts) ts (λ l. t ∷ l))
+other_by_local d d' t k ts e h = local_ok t ts Done (otherwise_at d') (λ more. rw e refl)
+
+other_local : (d d' : StmtDeeper) (ts : List Token) → StmtLocal d d' → Local ts (otherwise_at d ts) (otherwise_at d')
+unfolding otherwise_at
+other_local d d' [] h = local_end Done (otherwise_at d') refl
+other_local d d' (t ∷ ts) h = other_by_local d d' t t.kind ts refl h
+
+branch_local : (room more : ℕ) (d d' : StmtDeeper) (place : Place) (ts : List Token) → StmtLocal d d' → Local ts (branch_at room d place ts) (branch_at (room + more) d' place)
+unfolding branch_at
+branch_local room more d d' place ts h =
+    local_then ts (condition_at room ts) (condition_at (room + more)) _ _ (condition_local room more ts) (λ e us.
+    local_then us (block_at d us) (block_at d') _ _ (block_local d d' us h) (λ b vs.
+    local_then vs (otherwise_at d vs) (otherwise_at d') _ _ (other_local d d' vs h) (λ o ws. local_return ws _)))
+
+-- an expression, and what is made of it
+made_local : {A : Type 0} (room more : ℕ) (f : Expr → A) (ts : List Token) → Local ts (choice_at (below room) ts >>= λ e. Ok (f e.0, e.1)) (λ l. choice_at (below (room + more)) l >>= λ e. Ok (f e.0, e.1))
+made_local room more f ts = local_then ts (choice_at (below room) ts) (choice_at (below (room + more))) _ _ (reading_local room more ts) (λ e us. local_return us (f e))
+
+initial_by_local : (room more : ℕ) (place : Place) (d : Declaration) (t : Token) (ts : List Token) (b : Bool) → is_symbol signs.Becomes t.kind ≡ b → Local (t ∷ ts) (cond b (initial_by room place d ts) (Ok (Declare place d None, t ∷ ts))) (initial_at (room + more) place d)
+unfolding initial_at initial_by
+initial_by_local room more place d t ts true e = local_token t ts (initial_by room place d ts) (initial_by (room + more) place d) (initial_at (room + more) place d) (λ l. rw e refl) (made_local room more (λ x. Declare place d (Some (Value x))) ts)
+initial_by_local room more place d t ts false e = local_ok t ts (Declare place d None) (initial_at (room + more) place d) (λ more. rw e refl)
+
+initial_local : (room more : ℕ) (place : Place) (d : Declaration) (ts : List Token) → Local ts (initial_at room place d ts) (initial_at (room + more) place d)
+unfolding initial_at
+initial_local room more place d [] = local_end (Declare place d None) (initial_at (room + more) place d) refl
+initial_local room more place d (t ∷ ts) = initial_by_local room more place d t ts (is_symbol signs.Becomes t.kind) refl
+
+declare_local : (room more : ℕ) (place : Place) (ts : List Token) → Local ts (declare_at room place ts) (declare_at (room + more) place)
+unfolding declare_at
+declare_local room more place ts = local_then ts (declaration_at ts) declaration_at _ _ (declaration_local ts) (λ d us. initial_local room more place d us)
+
+assign_local : (room more : ℕ) (place : Place) (x : List ℕ) (ts : List Token) → Local ts (assign_at room place x ts) (assign_at (room + more) place x)
+unfolding assign_at
+assign_local room more place x ts = local_then ts (expect signs.Becomes ts) (expect signs.Becomes) _ _ (local_expect signs.Becomes ts) (λ c us. made_local room more (λ e. Assign place x (Value e)) us)
+
+stmt_by_local : (room more : ℕ) (d d' : StmtDeeper) (t : Token) (k : Kind) (ts : List Token) → t.kind ≡ k → StmtLocal d d' → Local (t ∷ ts) (stmt_by room d t k ts) (stmt_at (room + more) d')
+unfolding stmt_at assert_at assume_at
+stmt_by_local room more d d' t (name x) ts e h = local_token t ts (assign_at room t.place x ts) (assign_at (room + more) t.place x) (stmt_at (room + more) d') (λ l. rw e refl) (assign_local room more t.place x ts)
+stmt_by_local room more d d' t (word words.Var) ts e h = local_token t ts (declare_at room t.place ts) (declare_at (room + more) t.place) (stmt_at (room + more) d') (λ l. rw e refl) (declare_local room more t.place ts)
+stmt_by_local room more d d' t (word words.Assert) ts e h = local_token t ts (assert_at room t.place ts) (assert_at (room + more) t.place) (stmt_at (room + more) d') (λ l. rw e refl) (made_local room more (Assert t.place) ts)
+stmt_by_local room more d d' t (word words.Assume) ts e h = local_token t ts (assume_at room t.place ts) (assume_at (room + more) t.place) (stmt_at (room + more) d') (λ l. rw e refl) (made_local room more (Assume t.place) ts)
+stmt_by_local room more d d' t (word words.If) ts e h = local_token t ts (branch_at room d t.place ts) (branch_at (room + more) d' t.place) (stmt_at (room + more) d') (λ l. rw e refl) (branch_local room more d d' t.place ts h)
+stmt_by_local room more d d' t k ts e h = local_unexpected t ts (stmt_at (room + more) d') (λ l. rw e refl)
+
+stmt_local : (room more : ℕ) (d d' : StmtDeeper) (ts : List Token) → StmtLocal d d' → Local ts (stmt_at room d ts) (stmt_at (room + more) d')
+unfolding stmt_at
+stmt_local room more d d' [] h = local_end_unexpected (stmt_at (room + more) d') refl
+stmt_local room more d d' (t ∷ ts) h = stmt_by_local room more d d' t t.kind ts refl h
+
+-- a statement takes a token at least
+stmt_short : (room : ℕ) (ts : List Token) (s : Stmt) (mid : List Token) → stmt_at room (stmts_below room) ts ≡ Ok (s, mid) → length mid < length ts
+stmt_short room ts s mid e = by_marks (subst (Tells (StmtFor 0) room ts) e (stmt_reading_tells room 0 room ts (omega arith)))
+  where
+    by_marks : TellsOk (StmtFor 0) room ts s mid → length mid < length ts
+    by_marks h =
+        let f = stmt_first 0 h.spelled.phrase in
+        let one = ap length (sym h.spelled.spelled ∙ f.2) in
+        let all = ap length h.takes.tokens in
+        let a = length-append (tokens_of h.marks) mid in
+        let b = length-map h.marks (λ m. m.token) in
+        omega (arith, one, all, a, b)
+
+row_of_local : (room more : ℕ) (ts : List Token) (r : Read (List Stmt)) → LocalRows begins_stmt (stmt_at (room + more) (stmts_below (room + more))) ts r → Local ts r (stmts_at (room + more) (stmts_below (room + more)))
+row_of_local room more ts (Ok x) h = record { front = h.front; is = h.is; repeats = λ next same. stmts_are_rows (room + more) (stmts_below (room + more)) (h.front ++ next) ∙ h.repeats next same (length (h.front ++ next)) (omega arith) }
+row_of_local room more ts (Err (Unexpected rest)) h = record { front = h.front; is = h.is; repeats = λ next same. stmts_are_rows (room + more) (stmts_below (room + more)) (h.front ++ next) ∙ h.repeats next same (length (h.front ++ next)) (omega arith) }
+row_of_local room more ts (Err (TooDeep rest)) h = tt
+
+stmts_local : (room more : ℕ) (ts : List Token) → StmtLocal (stmts_below room) (stmts_below (room + more)) → Local ts (stmts_at room (stmts_below room) ts) (stmts_at (room + more) (stmts_below (room + more)))
+stmts_local room more ts h =
+    subst (λ r. Local ts r (stmts_at (room + more) (stmts_below (room + more)))) (sym (stmts_are_rows room (stmts_below room) ts))
+    (row_of_local room more ts (rows begins_stmt (stmt_at room (stmts_below room)) (length ts) ts)
+    (rows_local begins_stmt (stmt_at room (stmts_below room)) (stmt_at (room + more) (stmts_below (room + more))) (λ us. stmt_local room more (stmts_below room) (stmts_below (room + more)) us h) (stmt_short room) (length ts) ts (omega arith)))
+
+part_local : (room more : ℕ) (p : StmtPart) (ts : List Token) → StmtLocal (stmts_below room) (stmts_below (room + more)) → Local ts (stmt_part room (stmts_below room) p ts) (stmt_part (room + more) (stmts_below (room + more)) p)
+part_local room more statements ts h = local_then ts (stmts_at room (stmts_below room) ts) (stmts_at (room + more) (stmts_below (room + more))) _ _ (stmts_local room more ts h) (λ ss us. local_return us (block_from ss))
+part_local room more (elseif_part place) ts h = local_then ts (branch_at room (stmts_below room) place ts) (branch_at (room + more) (stmts_below (room + more)) place) _ _ (branch_local room more (stmts_below room) (stmts_below (room + more)) place ts h) (λ s us. local_return us (Then s Done))
+
+stmts_below_local : (room more : ℕ) → StmtLocal (stmts_below room) (stmts_below (room + more))
+unfolding stmts_below StmtLocal
+stmts_below_local zero more p here ts heres = tt
+stmts_below_local (suc room) more p here ts heres =
+    let s : suc room + more ≡ suc (room + more) = omega arith in
+    rw s (part_local room more p ts (stmts_below_local room more))
+
+-- a block, with as much room, or more
+pub block_reading_local : (room more : ℕ) (ts : List Token) → Local ts (block_at (stmts_below room) ts) (block_at (stmts_below (room + more)))
+block_reading_local room more ts = block_local (stmts_below room) (stmts_below (room + more)) ts (stmts_below_local room more)

@@ -1,0 +1,61 @@
+-- What each fault says of the tokens, by the programs that could go on with them.
+use Rattle.std.specs.Prelude.{◌≡◌, List, [], ◌∷◌, Result, Ok, Err, ◌⊎◌}
+use Rattle.vx_ast.specs.declared.Place.{Place}
+use Rattle.vx_ast.specs.Written.{Program}
+use Rattle.vx_tokens.specs.Tokens.{Kind, Token}
+use Rattle.vx_tokens.specs.Text.{Ending}
+use Rattle.vx_grammar.specs.ProgramLaws.{ProgramSpelled, ProgramWithin, FitsInFront, FirstUnfit, StopsTooDeep, StopsTooMany}
+use Rattle.vx_parser.specs.declared.fault.TextFault as the_fault
+use Rattle.vx_parser.specs.declared.fault.TextFault.TheVariants as faults
+use Rattle.vx_parser.specs.Answers.{Fault, BadCharacter, Unexpected, EndOfText, WideLiteral, TooDeep, TooManyMembers, Unsupported, early, IsEnd, answer, Shows}
+
+-- a token of this kind stands there, the tokens in front of it fit, and no program goes on with it
+pub record UnfitAt (at : Place) (kind : Kind) (ts : List Token) : Type 0 where
+  pub token : Token
+  pub after : List Token
+  pub place : token.place ≡ at
+  pub is : token.kind ≡ kind
+  pub first : FirstUnfit ts (token ∷ after)
+
+-- a token stands there that fits, and is the first that nests too deep
+pub record DeepAt (at : Place) (ts : List Token) : Type 0 where
+  pub token : Token
+  pub after : List Token
+  pub place : token.place ≡ at
+  pub deep : StopsTooDeep ts (token ∷ after)
+
+-- a member begins there, behind as many as may be
+pub record ManyAt (at : Place) (ts : List Token) : Type 0 where
+  pub token : Token
+  pub after : List Token
+  pub place : token.place ≡ at
+  pub many : StopsTooMany ts (token ∷ after)
+
+-- all tokens fit: some program begins with them
+abbrev pub AllFit : List Token → Type 0
+AllFit ts = FitsInFront ts []
+
+abbrev pub NoProgram : List Token → Type 0
+NoProgram ts = (p : Program) → ProgramSpelled ts p → ⊥
+
+-- what a fault says of the tokens of a text and its ending
+abbrev pub FaultSays : List Token → Ending → Fault → Type 0
+FaultSays ts e (Unexpected p k) = UnfitAt p k ts
+FaultSays ts e (Unsupported p k) = UnfitAt p k ts
+FaultSays ts e (EndOfText p) = (early e ≡ EndOfText p) × AllFit ts × (IsEnd e → NoProgram ts)
+FaultSays ts e (WideLiteral p) = (early e ≡ WideLiteral p) × AllFit ts
+FaultSays ts e (BadCharacter p) = (early e ≡ BadCharacter p) × AllFit ts
+FaultSays ts e (TooDeep p) = DeepAt p ts
+FaultSays ts e (TooManyMembers p) = ManyAt p ts
+
+abbrev pub AnswerSays : List Token → Ending → Result Program Fault → Type 0
+AnswerSays ts e (Ok p) = ProgramWithin ts p × IsEnd e
+AnswerSays ts e (Err f) = FaultSays ts e f
+
+-- every answer says so of the tokens and the ending
+abbrev pub AnswersSay : Type 0
+AnswersSay = (ts : List Token) (e : Ending) → AnswerSays ts e (answer ts e)
+
+-- memory ran out, or the fault is one that says so
+abbrev pub IsRefusal : List Token → Ending → the_fault.TextFault → Type 0
+IsRefusal ts e f = (f ≡ faults.Want) ⊎ ((g : Fault) × Shows f g × FaultSays ts e g)
