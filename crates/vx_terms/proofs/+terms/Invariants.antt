@@ -1,4 +1,4 @@
-use Rattle.std.proofs.Common.{ℕ, ◌≤◌}
+use Rattle.std.proofs.Common.{◌≤◌}
 use Rattle.vx_terms.specs.declared.term.Term.{size-Term}
 use Rattle.vx_terms.proofs.+terms.Given as goal
 
