@@ -1,7 +1,6 @@
 -- Which bytes can go on to a first s-expression.
-use Rattle.std.proofs.Common.{◌≡◌, ◌⊎◌, inl, inr, ℕ, zero, suc, ◌≤◌, ◌<◌, ◌+◌, ◌-◌, ◌++◌, ◌==◌, ◌&&◌, not, nat_eq, nat_le, length, drop, Bool, true, false, List, [], ◌∷◌, Option, Some, None, Result, Ok, Err, IfOk, IfErr, MatchResult, ◌↔◌, refl, arith, if◌then◌else◌, ap, ◌∙◌, sym, subst, append_assoc}
+use Rattle.std.proofs.Common.{◌≡◌, ◌⊎◌, inl, inr, ℕ, zero, suc, ◌≤◌, ◌+◌, ◌-◌, ◌++◌, ◌==◌, nat_le, length, drop, Bool, true, false, List, [], ◌∷◌, Option, Some, None, Result, Ok, Err, IfOk, IfErr, MatchResult, ◌↔◌, refl, arith, ap, ◌∙◌, sym, subst, append_assoc}
 use Rattle.std.proofs.lemmas.Grind.{common_steps}
-use Rattle.std.specs.List.{list_all}
 use Rattle.vx_sexp.specs.declared.token.Kind.{Kind}
 use Rattle.vx_sexp.specs.declared.token.Kind.TheVariants as kind
 use Rattle.vx_sexp.specs.declared.token.Token.{Token}
@@ -12,12 +11,12 @@ use Rattle.vx_sexp.specs.declared.scan.Mode.{Mode}
 use Rattle.vx_sexp.specs.declared.scan.Mode.TheVariants as mode
 use Rattle.vx_sexp.specs.declared.scan.Move.{Move}
 use Rattle.vx_sexp.specs.declared.scan.Move.TheVariants as move
-use Rattle.vx_sexp.specs.Characters.{is_blank, is_line_end, is_digit, is_hex_digit, is_bit, is_symbol_byte, is_word_byte, is_text_byte, is_quoted_byte}
-use Rattle.vx_sexp.specs.Tokens.{Starts, Lexes, is_ended, is_of, is_space, is_space_from, is_text_from, is_quoted_from, begins, is_numeral, is_decimal, is_empty, before_point, behind_point, has_point, some_all, is_led, is_marked}
-use Rattle.vx_sexp.specs.First.{after, fits, depth, deepest, opens, closes, IsFirst, Begins, IsBad, NextIs, Faults, CutFaults}
-use Rattle.vx_sexp.specs.Scanning.{scan, move_of, Scan, Stops, Runs, Fails, Next, Found, Unfinished, Bad, next, token_at, front, is_begun, is_mark, kind_of, word_of, word_next, word_so_far, closed_next, behind_space}
-use Rattle.vx_sexp.specs.Beginnings.{HasFirst, GoesOn, IsBeginning, IsDeep, Means}
-use Rattle.vx_sexp.proofs.Scans.{taken, body, starts_space, ended, scan_whole, scan_body, scan_ended}
+use Rattle.vx_sexp.specs.Characters.{is_line_end, is_digit, is_hex_digit, is_bit, is_symbol_byte, is_word_byte}
+use Rattle.vx_sexp.specs.Tokens.{Starts, Lexes, is_ended, is_of, is_numeral, is_empty, before_point, behind_point, has_point}
+use Rattle.vx_sexp.specs.First.{after, fits, depth, deepest, opens, closes, IsFirst, Begins, IsBad, Faults, CutFaults}
+use Rattle.vx_sexp.specs.Scanning.{scan, move_of, Scan, Stops, Runs, Fails, Unfinished, Bad, next, token_at, front, is_begun, is_mark, kind_of, word_of, word_next, word_so_far, closed_next, behind_space}
+use Rattle.vx_sexp.specs.Beginnings.{GoesOn, IsBeginning, IsDeep, Means}
+use Rattle.vx_sexp.proofs.Scans.{taken, body, scan_whole, scan_body, scan_ended}
 use Rattle.vx_sexp.proofs.Firsts.{choose, kind_of_is}
 use Rattle.vx_sexp.proofs.Counts.{starts_more, next_more}
 use Rattle.vx_sexp.proofs.Exact.{GoesOn as Fits, begin_goes_on, fault_excludes}
@@ -225,7 +224,7 @@ closes_behind k text bytes (suc d) s =
       rw more (closes_all n),
     )
 
-space_never_fails : (bytes : List ℕ) → ((scan mode.Space bytes ≡ Fails → ⊥) × (scan mode.Comment bytes ≡ Fails → ⊥))
+pub space_never_fails : (bytes : List ℕ) → ((scan mode.Space bytes ≡ Fails → ⊥) × (scan mode.Comment bytes ≡ Fails → ⊥))
 unfolding scan move_of
 space_never_fails [] = (λ e. cc, λ e. cc)
 space_never_fails (b ∷ bs) = let h = space_never_fails bs in (λ e. grind (arith, common_steps, h.0, h.1), λ e. grind (arith, common_steps, h.0, h.1))

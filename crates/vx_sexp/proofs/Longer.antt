@@ -1,23 +1,21 @@
 -- What more bytes change of a token, and what they don't.
-use Rattle.std.proofs.Common.{◌≡◌, ◌⊎◌, inl, inr, ℕ, zero, suc, ◌≤◌, ◌<◌, ◌+◌, ◌-◌, ◌++◌, ◌==◌, ◌&&◌, ◌||◌, not, nat_eq, length, Bool, true, false, List, [], ◌∷◌, Option, Some, None, refl, arith, if◌then◌else◌, ap, ◌∙◌, sym, subst, append_assoc}
+use Rattle.std.proofs.Common.{◌≡◌, ◌⊎◌, inl, inr, ℕ, ◌++◌, ◌==◌, ◌&&◌, ◌||◌, Bool, true, false, List, [], ◌∷◌, Option, Some, None, refl, arith, if◌then◌else◌, ap, ◌∙◌, sym, subst, append_assoc}
 use Rattle.std.proofs.lemmas.Grind.{common_steps}
 use Rattle.std.specs.List.{list_all}
 use Rattle.vx_sexp.specs.declared.token.Kind.{Kind}
 use Rattle.vx_sexp.specs.declared.token.Kind.TheVariants as kind
-use Rattle.vx_sexp.specs.declared.token.Token.{Token}
-use Rattle.vx_sexp.specs.declared.token.Token.TheVariants.{Open, Close, Atom}
 use Rattle.vx_sexp.specs.declared.scan.Mode.{Mode}
 use Rattle.vx_sexp.specs.declared.scan.Mode.TheVariants as mode
-use Rattle.vx_sexp.specs.Characters.{is_blank, is_line_end, is_digit, is_hex_digit, is_bit, is_symbol_byte, is_word_byte, is_text_byte, is_quoted_byte}
+use Rattle.vx_sexp.specs.Characters.{is_digit, is_hex_digit, is_bit, is_symbol_byte, is_word_byte}
 use Rattle.vx_sexp.specs.Tokens.{is_numeral, is_decimal, is_symbol, is_keyword, is_led, is_marked, some_all, before_point, behind_point, has_point, is_empty, is_of}
-use Rattle.vx_sexp.specs.Scanning.{scan, Scan, Stops, Runs, Fails, Next, Found, Unfinished, Bad, next, token_at, front, is_begun, is_mark, kind_of, word_of, word_next, word_so_far, closed_next, behind_space, move_of}
-use Rattle.vx_sexp.proofs.Scans.{taken, taken_by, scan_whole}
+use Rattle.vx_sexp.specs.Scanning.{scan, Scan, Stops, Runs, Fails, Unfinished, Bad, next, token_at, front, is_begun, is_mark, kind_of, word_of, word_next, word_so_far, closed_next, behind_space, move_of}
+use Rattle.vx_sexp.proofs.Scans.{taken, scan_whole}
 use Rattle.vx_sexp.proofs.Firsts.{front_is, choose, kind_of_is}
 use Rattle.vx_sexp.proofs.Backs.{kind_back, is_word_kind}
 
 -- ---- runs
 
-scan_stops_more : (m : Mode) (xs r ys : List ℕ) → scan m xs ≡ Stops r → scan m (xs ++ ys) ≡ Stops (r ++ ys)
+pub scan_stops_more : (m : Mode) (xs r ys : List ℕ) → scan m xs ≡ Stops r → scan m (xs ++ ys) ≡ Stops (r ++ ys)
 unfolding scan move_of
 scan_stops_more m [] r ys e = absurd (cc)
 scan_stops_more mode.Space (b ∷ bs) r ys e = grind (arith, common_steps, scan_stops_more mode.Space bs r ys, scan_stops_more mode.Comment bs r ys)
@@ -27,7 +25,7 @@ scan_stops_more mode.Text (b ∷ bs) r ys e = grind (arith, common_steps, scan_s
 scan_stops_more mode.Quote (b ∷ bs) r ys e = grind (arith, common_steps, scan_stops_more mode.Text bs r ys)
 scan_stops_more mode.Bars (b ∷ bs) r ys e = grind (arith, common_steps, scan_stops_more mode.Bars bs r ys)
 
-scan_fails_more : (m : Mode) (xs ys : List ℕ) → scan m xs ≡ Fails → scan m (xs ++ ys) ≡ Fails
+pub scan_fails_more : (m : Mode) (xs ys : List ℕ) → scan m xs ≡ Fails → scan m (xs ++ ys) ≡ Fails
 unfolding scan move_of
 scan_fails_more m [] ys e = absurd (cc)
 scan_fails_more mode.Space (b ∷ bs) ys e = grind (arith, common_steps, scan_fails_more mode.Space bs ys, scan_fails_more mode.Comment bs ys)
@@ -62,7 +60,7 @@ numeral_front b bs ys e = grind (arith, common_steps, all_front is_digit bs ys, 
 symbol_front : (b : ℕ) (bs ys : List ℕ) → is_symbol (b ∷ bs ++ ys) ≡ true → is_symbol (b ∷ bs) ≡ true
 symbol_front b bs ys e = grind (arith, common_steps, all_front is_symbol_byte bs ys)
 
-point_front : (xs ys : List ℕ) → has_point xs ≡ true → (before_point (xs ++ ys) ≡ before_point xs) × (behind_point (xs ++ ys) ≡ behind_point xs ++ ys)
+pub point_front : (xs ys : List ℕ) → has_point xs ≡ true → (before_point (xs ++ ys) ≡ before_point xs) × (behind_point (xs ++ ys) ≡ behind_point xs ++ ys)
 point_front [] ys e = absurd (cc)
 point_front (x ∷ xs) ys e = by_case (x == 46) refl (λ g. point_front xs ys g)
   where
@@ -154,7 +152,7 @@ word_kind : (b : Bool) (a k : Kind) (o : Option Kind) → is_word_kind a ≡ tru
 word_kind true a k o w later e = let same : a ≡ k = cc in rw same at w
 word_kind false a k o w later e = later e
 
-kind_of_word : (t : List ℕ) (k : Kind) → kind_of t ≡ Some k → is_word_kind k ≡ true
+pub kind_of_word : (t : List ℕ) (k : Kind) → kind_of t ≡ Some k → is_word_kind k ≡ true
 unfolding kind_of
 kind_of_word t k e =
     word_kind (is_numeral t) kind.Numeral k _ refl (λ e1.

@@ -1,9 +1,7 @@
-use Rattle.std.proofs.Common.{rules, ◌≡◌, ◌≤◌, ◌<◌, ◌+◌, ◌==◌, ℕ, List, [], length, drop, take, true, false, ◌-◌, arith, length-drop, inl, inr, ap, ◌∙◌, sym, subst, refl}
+use Rattle.std.proofs.Common.{rules, ◌≡◌, ℕ, [], drop, arith, length-drop, refl}
 use Rattle.std.proofs.lemmas.Grind.{common_steps}
-use Rattle.vx_sexp.specs.First.{fits, after}
-use Rattle.vx_sexp.specs.Views.{token_of, between}
-use Rattle.vx_sexp.specs.Scanning.{next, Found, Unfinished}
-use Rattle.vx_sexp.proofs.Firsts.{Begun, begun_on, begun_ends, next_none, begun_bad, next_shorter}
+use Rattle.vx_sexp.specs.Views.{between}
+use Rattle.vx_sexp.proofs.Firsts.{begun_on, begun_ends, next_none, begun_bad, next_shorter}
 use Rattle.vx_sexp.proofs.reader.first_end.Goals as goal
 
 pub returns-in-Some-eq0-clause-first : goal.returns-in-Some-eq0-clause-first

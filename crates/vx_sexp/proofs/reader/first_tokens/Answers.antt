@@ -1,9 +1,7 @@
-use Rattle.std.proofs.Common.{rules, ◌≡◌, ◌≤◌, ◌<◌, ◌+◌, ◌==◌, ◌++◌, ◌∷◌, nat_lt, ℕ, List, [], length, drop, take, true, false, ◌-◌, arith, length-drop, ap, ◌∙◌, sym, subst, refl}
+use Rattle.std.proofs.Common.{rules, ◌≡◌, ◌≤◌, ◌++◌, ◌∷◌, ℕ, [], drop, arith, length-drop, ap, ◌∙◌, sym, refl}
 use Rattle.std.proofs.lemmas.Grind.{common_steps}
-use Rattle.vx_sexp.specs.declared.token.Token.{Token}
-use Rattle.vx_sexp.specs.First.{fits, after, depth, deepest}
+use Rattle.vx_sexp.specs.First.{after}
 use Rattle.vx_sexp.specs.Views.{token_of, between}
-use Rattle.vx_sexp.specs.Scanning.{next, Found, Unfinished}
 use Rattle.vx_sexp.proofs.Firsts.{begins_on, begins_ends, next_none, next_shorter, deepest_more, small_after, depth_more}
 use Rattle.vx_sexp.proofs.reader.first_tokens.Goals as goal
 
