@@ -15,7 +15,7 @@ use crate::{Kind, SexpFault};
 /// The most lists that are open at once.
 const MOST_OPEN: usize = 4096;
 
-/// How far the first s-expression of some bytes is read, which come piece by piece: no byte is looked at again.
+/// How far the first s-expression of some bytes is read, which come piece by piece: it goes on where it stopped.
 #[derive(Clone, Copy)]
 pub struct Reading {
     // so many bytes are looked at
