@@ -5,4 +5,5 @@ pub mod Stops
 pub mod Symbols
 pub mod Preamble
 pub mod Dialogue
+pub mod Pace
 pub mod Over
