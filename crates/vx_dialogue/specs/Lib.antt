@@ -6,3 +6,4 @@ pub mod Symbols
 pub mod Preamble
 pub mod Dialogue
 pub mod Over
+pub mod History

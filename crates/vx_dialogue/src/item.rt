@@ -1,6 +1,6 @@
 // The next item that a child gives.
 ghost use Rattle.std.specs.Prelude.{◌≡◌, ◌≤◌, ◌++◌, length, drop, take, OnOk, IfOk, IfErr, Err, true};
-ghost use Rattle.vx_ends.specs.Dialogue.{sent, got};
+ghost use Rattle.vx_ends.specs.Dialogue.{sent, got, Grows};
 ghost use Rattle.vx_ends.specs.Causes.{HasCause};
 ghost use Rattle.vx_sexp.specs.First.{IsFirst};
 ghost use Rattle.vx_dialogue.specs.Items.{Keeps, ReadsItem, GivesNoItem, GivesNoReply, without_blanks, kept_of, is_lawful};
@@ -58,6 +58,7 @@ pub fn next_item<L: Link>(
     ensures keeps { OnOk result (Keeps (got (L.dialogue link.old)) unread.old.items (got (L.dialogue link.new)) unread.new.items) }
     ensures fault { IfErr result (λ talk. GivesNoItem talk (got (L.dialogue link.old)) unread.old.items (got (L.dialogue link.new))) }
     ensures sent { sent (L.dialogue link.new) ≡ sent (L.dialogue link.old) }
+    ensures grows { Grows (L.dialogue link.old) (L.dialogue link.new) }
     ensures cause { HasCause Talk.Pipe (L.faults link.old) (L.faults link.new) result }
 {
     'reading: loop {
@@ -141,6 +142,7 @@ pub fn expect<L: Link>(
     ensures item { IfOk result (λ item. ReadsItem (got (L.dialogue link.old)) unread.old.items (got (L.dialogue link.new)) unread.new.items item × (is_lawful wanted item ≡ true)) }
     ensures fault { IfErr result (λ talk. GivesNoReply talk wanted (got (L.dialogue link.old)) unread.old.items (got (L.dialogue link.new))) }
     ensures sent { sent (L.dialogue link.new) ≡ sent (L.dialogue link.old) }
+    ensures grows { Grows (L.dialogue link.old) (L.dialogue link.new) }
     ensures cause { HasCause Talk.Pipe (L.faults link.old) (L.faults link.new) result }
     ensures open { result ≡ Err Talk.Closed → ⊥ }
 {
