@@ -7,3 +7,4 @@ pub mod Preamble
 pub mod Dialogue
 pub mod Pace
 pub mod Over
+pub mod History

@@ -1,6 +1,6 @@
 // The next item that a child gives.
-ghost use Rattle.std.specs.Prelude.{◌≡◌, ◌≤◌, ◌++◌, ℕ, length, drop, take, OnOk, IfOk, IfErr, Err, true};
-ghost use Rattle.vx_ends.specs.Dialogue.{sent, got, GetsOn};
+ghost use Rattle.std.specs.Prelude.{◌≡◌, ◌≤◌, ◌++◌, length, drop, take, OnOk, IfOk, IfErr, Err, true, ℕ};
+ghost use Rattle.vx_ends.specs.Dialogue.{sent, got, Grows, GetsOn};
 ghost use Rattle.vx_ends.specs.Causes.{HasCause};
 ghost use Rattle.vx_sexp.specs.First.{IsFirst};
 ghost use Rattle.vx_sexp.specs.Pieces.{EndsAt};
@@ -74,6 +74,7 @@ pub fn next_item<L: Link>(
     ensures keeps { OnOk result (Keeps (got (L.dialogue link.old)) unread.old.items (got (L.dialogue link.new)) unread.new.items) }
     ensures fault { IfErr result (λ talk. GivesNoItem talk (got (L.dialogue link.old)) unread.old.items (got (L.dialogue link.new))) }
     ensures sent { sent (L.dialogue link.new) ≡ sent (L.dialogue link.old) }
+    ensures grows { Grows (L.dialogue link.old) (L.dialogue link.new) }
     ensures pieces { GetsOn (L.dialogue link.old) (L.dialogue link.new) }
     ensures cause { HasCause Talk.Pipe (L.faults link.old) (L.faults link.new) result }
 {
@@ -159,6 +160,7 @@ pub fn expect<L: Link>(
     ensures item { IfOk result (λ item. ReadsItem (got (L.dialogue link.old)) unread.old.items (got (L.dialogue link.new)) unread.new.items item × (is_lawful wanted item ≡ true)) }
     ensures fault { IfErr result (λ talk. GivesNoReply talk wanted (got (L.dialogue link.old)) unread.old.items (got (L.dialogue link.new))) }
     ensures sent { sent (L.dialogue link.new) ≡ sent (L.dialogue link.old) }
+    ensures grows { Grows (L.dialogue link.old) (L.dialogue link.new) }
     ensures pieces { GetsOn (L.dialogue link.old) (L.dialogue link.new) }
     ensures cause { HasCause Talk.Pipe (L.faults link.old) (L.faults link.new) result }
     ensures open { result ≡ Err Talk.Closed → ⊥ }
