@@ -1,0 +1,5 @@
+pub mod Counted
+pub mod Whole
+pub mod Parts
+pub mod Along
+pub mod Cleared
