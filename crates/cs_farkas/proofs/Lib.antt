@@ -3,3 +3,9 @@ pub mod Whole
 pub mod Parts
 pub mod Along
 pub mod Cleared
+pub mod Amounts
+pub mod Linears
+pub mod Contradictions
+pub mod Bounds
+pub mod Matches
+pub mod Decided
