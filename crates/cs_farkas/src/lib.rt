@@ -21,3 +21,6 @@ pub use sums::Sums;
 pub fn farkas_by_number()
     ensures { FarkasByNumber }
 {}
+
+#[cfg(test)]
+mod tests;
