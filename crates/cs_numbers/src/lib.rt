@@ -20,3 +20,6 @@ pub fn nodes_represent()
     ensures table { Tabulates }
     ensures input { InputByNumber }
 {}
+
+#[cfg(test)]
+mod tests;

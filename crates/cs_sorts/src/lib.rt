@@ -14,3 +14,6 @@ pub fn sorts_are_told()
     ensures sorts { TellsSorts }
     ensures live { TellsLive }
 {}
+
+#[cfg(test)]
+mod tests;
