@@ -1,0 +1,12 @@
+//! Computed examples: what the definitions of the rules and of the meaning make of small programs.
+//!
+//! Each function's clauses are examples: a program stands in specs/, with its text above it, and the clause says which
+//! questions its tree asks, in order, or how its walk ends over some replies.
+#![tactic(auto)]
+
+pub mod calls;
+pub mod fields;
+pub mod functions;
+pub mod loops;
+pub mod predicates;
+pub mod store;
