@@ -6,3 +6,6 @@ pub mod Calls
 pub mod Predicates
 pub mod Functions
 pub mod Told
+pub mod Cells
+pub mod Blocks
+pub mod Scenes

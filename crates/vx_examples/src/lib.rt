@@ -9,4 +9,5 @@ pub mod fields;
 pub mod functions;
 pub mod loops;
 pub mod predicates;
+pub mod runs;
 pub mod store;

@@ -1,0 +1,43 @@
+-- States from which the examples run: x is the reference 1, y is 0, and x.f is 5.
+use Rattle.std.specs.Prelude.{ℤ, pos, List, [], ◌∷◌}
+use Rattle.vx_frac.specs.Fractions.{Fraction, full}
+use Rattle.vx_meaning.specs.Values.{Value, IntValue, RefValue}
+use Rattle.vx_meaning.specs.States.{Store, Heap, Holdings, State, Location, Instance, At, Folded}
+use Rattle.vx_examples.specs.Cells.{f, x, y, cell}
+
+abbrev pub half : Fraction
+half = record { numerator = pos 1; below = 1 }
+
+abbrev pub x_f : Location
+x_f = record { receiver = 1; field = f }
+
+abbrev pub a_cell : Instance
+a_cell = record { predicate = cell; arguments = RefValue 1 ∷ [] }
+
+abbrev pub with_y : ℤ → Store
+with_y n = (x, RefValue 1) ∷ (y, IntValue n) ∷ []
+
+abbrev pub with_x_f : ℤ → Heap
+with_x_f n = (x_f, IntValue n) ∷ []
+
+abbrev pub state : Store → Heap → Holdings → State
+state variables heap held = record { store = variables; heap = heap; holdings = held; old_heap = with_x_f (pos 5); old_holdings = [] }
+
+abbrev pub holding : Holdings → State
+holding held = state (with_y (pos 0)) (with_x_f (pos 5)) held
+
+-- nothing is held
+abbrev pub poor : State
+poor = holding []
+
+-- all of x.f
+abbrev pub owner : State
+owner = holding ((At x_f, full) ∷ [])
+
+-- half of x.f
+abbrev pub sharer : State
+sharer = holding ((At x_f, half) ∷ [])
+
+-- all of cell(x)
+abbrev pub folder : State
+folder = holding ((Folded a_cell, full) ∷ [])
