@@ -5,6 +5,7 @@
 #![tactic(auto)]
 
 pub mod calls;
+pub mod compound;
 pub mod fields;
 pub mod functions;
 pub mod loops;
