@@ -9,3 +9,5 @@ pub mod Told
 pub mod Cells
 pub mod Blocks
 pub mod Scenes
+pub mod Expressions
+pub mod Allowed

@@ -3,7 +3,7 @@ use Rattle.std.specs.Prelude.{ℤ, pos, List, [], ◌∷◌}
 use Rattle.vx_frac.specs.Fractions.{Fraction, full}
 use Rattle.vx_meaning.specs.Values.{Value, IntValue, RefValue}
 use Rattle.vx_meaning.specs.States.{Store, Heap, Holdings, State, Location, Instance, At, Folded}
-use Rattle.vx_examples.specs.Cells.{f, x, y, cell}
+use Rattle.vx_examples.specs.Cells.{f, x, y, cell, hidden}
 
 abbrev pub half : Fraction
 half = record { numerator = pos 1; below = 1 }
@@ -41,3 +41,11 @@ sharer = holding ((At x_f, half) ∷ [])
 -- all of cell(x)
 abbrev pub folder : State
 folder = holding ((Folded a_cell, full) ∷ [])
+
+-- nothing is held, and x.f was 4
+abbrev pub later : State
+later = record poor { old_heap = with_x_f (pos 4) }
+
+-- all of hidden(x), which has no body
+abbrev pub hider : State
+hider = holding ((Folded record { predicate = hidden; arguments = RefValue 1 ∷ [] }, full) ∷ [])

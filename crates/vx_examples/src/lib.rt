@@ -6,6 +6,7 @@
 
 pub mod calls;
 pub mod compound;
+pub mod expressions;
 pub mod fields;
 pub mod functions;
 pub mod loops;
