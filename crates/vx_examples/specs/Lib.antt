@@ -11,3 +11,5 @@ pub mod Blocks
 pub mod Scenes
 pub mod Expressions
 pub mod Allowed
+pub mod Taken
+pub mod Inside
