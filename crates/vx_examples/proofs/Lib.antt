@@ -1,3 +1,5 @@
 pub mod Checks
 pub mod Endings
 pub mod Compounds
+pub mod Members
+pub mod Nested

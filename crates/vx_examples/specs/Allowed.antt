@@ -123,6 +123,8 @@ allowed_to_folder =
     ∷ (Unfolding (at 1 1) cell (More (Null (at 1 16)) NoMore) (Part (at 1 1) 1 1) (Variable (at 1 25) y), Err (at 1 1))
     -- unfolding acc(cell(7 \ 0), 1/2) in y
     ∷ (Unfolding (at 1 1) cell (More (Divide (at 1 20) Quotient (Number (at 1 20) 7) (Number (at 1 24) 0)) NoMore) (Part (at 1 28) 1 2) (Variable (at 1 36) y), Err (at 1 20))
+    -- unfolding acc(cell(7 \ 0), none) in y
+    ∷ (Unfolding (at 1 1) cell (More (Divide (at 1 20) Quotient (Number (at 1 20) 7) (Number (at 1 24) 0)) NoMore) (Part (at 1 28) 0 1) (Variable (at 1 37) y), Err (at 1 1))
     ∷ []
 
 -- where all of hidden(x) is held, which has no body

@@ -13,3 +13,4 @@ pub mod Expressions
 pub mod Allowed
 pub mod Taken
 pub mod Inside
+pub mod Failing

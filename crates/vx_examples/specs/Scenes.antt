@@ -1,8 +1,10 @@
 -- States from which the examples run: x is the reference 1, y is 0, and x.f is 5.
-use Rattle.std.specs.Prelude.{ℤ, pos, List, [], ◌∷◌}
+use Rattle.std.specs.Prelude.{ℕ, ℤ, pos, List, [], ◌∷◌}
 use Rattle.vx_frac.specs.Fractions.{Fraction, full}
 use Rattle.vx_meaning.specs.Values.{Value, IntValue, RefValue}
 use Rattle.vx_meaning.specs.States.{Store, Heap, Holdings, State, Location, Instance, At, Folded}
+use Rattle.vx_examples.specs.Functions as functions
+use Rattle.vx_examples.specs.Functions.{next, list}
 use Rattle.vx_examples.specs.Cells.{f, x, y, cell, hidden}
 
 abbrev pub half : Fraction
@@ -49,3 +51,22 @@ later = record poor { old_heap = with_x_f (pos 4) }
 -- all of hidden(x), which has no body
 abbrev pub hider : State
 hider = holding ((Folded record { predicate = hidden; arguments = RefValue 1 ∷ [] }, full) ∷ [])
+
+-- Lists: nodes by their references
+
+abbrev pub next_of : ℕ → Location
+next_of r = record { receiver = r; field = next }
+
+abbrev pub list_at : ℕ → Instance
+list_at r = record { predicate = list; arguments = RefValue r ∷ [] }
+
+-- 1 leads to 2, which is the last
+abbrev pub two_nodes : Heap
+two_nodes = (next_of 1, RefValue 2) ∷ []
+
+-- 1 leads to itself
+abbrev pub round : Heap
+round = (next_of 1, RefValue 1) ∷ []
+
+abbrev pub at_first : Holdings → State
+at_first held = record { store = (functions.x, RefValue 1) ∷ []; heap = two_nodes; holdings = held; old_heap = two_nodes; old_holdings = held }

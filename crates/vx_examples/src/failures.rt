@@ -1,0 +1,33 @@
+//! Members that fail.
+
+ghost use Rattle.vx_ast.specs.declared.ValueType.TheVariants.{Int};
+ghost use Rattle.vx_ast.specs.Syntax.{IsField};
+ghost use Rattle.vx_meaning.specs.Fails.{MethodFails, FunctionFails, PredicateFails, Fails};
+ghost use Rattle.vx_examples.specs.Words.{at};
+ghost use Rattle.vx_examples.specs.Failing.{f, failing, failing_cell, failing_unframed, narrow, failing_narrow, divide, failing_divide, promise, failing_promise, rise, failing_rise, unheld, failing_unheld, unmeasured, failing_unmeasured, wild, failing_wild, failing_demand, failing_vow, failing_claim, failing_give};
+
+/// A method fails by its precondition, by a postcondition that doesn't frame itself, by its body, and by its postcondition.
+pub fn methods()
+    ensures precondition { MethodFails failing failing_demand (at 15 32) }
+    ensures postcondition_unframed { MethodFails failing failing_vow (at 16 28) }
+    ensures body { MethodFails failing failing_claim (at 17 32) }
+    ensures postcondition { MethodFails failing failing_give (at 18 48) }
+{}
+
+/// A function fails by its precondition, its body, its postcondition, its measure, and an application that doesn't lower it.
+pub fn functions()
+    ensures precondition { FunctionFails failing narrow failing_narrow }
+    ensures body { FunctionFails failing divide failing_divide }
+    ensures postcondition { FunctionFails failing promise failing_promise }
+    ensures unheld_measure { FunctionFails failing unheld failing_unheld }
+    ensures measure_without_value { FunctionFails failing unmeasured failing_unmeasured }
+    ensures application { FunctionFails failing rise failing_rise }
+    ensures unmeasured_application { FunctionFails failing wild failing_wild }
+{}
+
+/// A predicate fails where its body reads what it doesn't hold, and not where it holds it; a field never fails.
+pub fn predicates()
+    ensures unframed { PredicateFails failing failing_unframed }
+    ensures framed { PredicateFails failing failing_cell → ⊥ }
+    ensures field { Fails failing f (IsField Int) → ⊥ }
+{}
