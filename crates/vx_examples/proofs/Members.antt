@@ -1,23 +1,23 @@
 -- Members that fail, each by the state and the part that shows it.
 use Rattle.std.proofs.Common.{◌≡◌, ℕ, zero, suc, ◌≤◌, pos, negsuc, true, false, Bool, IsTrue, if◌then◌else◌, List, [], ◌∷◌, refl, sym, subst, inl, inr, ◌⊎◌, arith, Some, None, Option, ap, ◌∙◌}
-use Rattle.std.specs.Prelude.{Ok, Err}
+use Rattle.std.specs.Prelude.{Ok, Err, Contains, ◌++◌}
 use Rattle.vx_ast.specs.declared.Place.{Place}
 use Rattle.vx_ast.specs.declared.ValueType.TheVariants.{Int}
 use Rattle.vx_ast.specs.declared.ValueType.TheVariants as type
 use Rattle.vx_ast.specs.Syntax as syntax
-use Rattle.vx_ast.specs.Syntax.{Program, Function, Name, Assertion, function_named, Assert, Then, Done, Block, Pure, Variable}
-use Rattle.vx_frac.specs.Fractions.{full, none, product}
+use Rattle.vx_ast.specs.Syntax.{Program, Function, Name, result_name, Assertion, as_assertion, conjoined, function_named, Assert, Then, Done, Block, Pure, Variable}
+use Rattle.vx_frac.specs.Fractions.{full, is_positive}
 use Rattle.vx_meaning.specs.Values.{Value, IntValue, BoolValue, RefValue, PermValue, type_of}
-use Rattle.vx_meaning.specs.States.{State, Store, Heap, At, Folded, bind, same_location, same_resource, with_store}
+use Rattle.vx_meaning.specs.States.{State, Store, Heap, Holdings, Instance, At, Folded, amount, bind, same_location, same_resource, with_store}
 use Rattle.vx_meaning.specs.Consistent.{IsSupported, IsConsistent}
-use Rattle.vx_meaning.specs.Flatten.{bare, IsInside}
-use Rattle.vx_meaning.specs.Fits.{Eventually}
+use Rattle.vx_meaning.specs.Flatten.{bare, flat, IsInside}
+use Rattle.vx_meaning.specs.Fits.{Checked, take_by}
 use Rattle.vx_meaning.specs.Give.{give}
 use Rattle.vx_meaning.specs.Outcomes.{Outcome, Ends, FailsAt, Stops, passes, refused, goes_on, is_over}
-use Rattle.vx_meaning.specs.Fails.{MethodFails, precondition, postcondition_unframed, body, postcondition, Measure, Number, Inside, Lowers, LowersMeasure, HasMeasure, measure_by, DoesNotLower, FunctionFails, application_in_body, application_in_postcondition, measure, PredicateFails, Fails, StartFails}
+use Rattle.vx_meaning.specs.Fails.{MethodFails, precondition, postcondition_unframed, body, postcondition, Measure, Number, Inside, Lowers, LowersMeasure, HasMeasure, measure_by, DoesNotLower, FunctionFails, application_in_body, application_in_postcondition, measure, PredicateFails, Fails, FunctionStarts, with_result}
 use Rattle.vx_meaning.specs.Fails as fails
 use Rattle.vx_examples.specs.Words.{at}
-use Rattle.vx_examples.specs.Failing.{f, n, b, c, x, cell, failing, unframed, failing_unframed, narrow, failing_narrow, divide, failing_divide, promise, failing_promise, rise, failing_rise, unheld, failing_unheld, unmeasured, failing_unmeasured, again, failing_again, wild, failing_wild, demand, failing_demand, vow, failing_vow, claim, failing_claim, give_name, failing_give, failing_cell}
+use Rattle.vx_examples.specs.Failing.{f, n, b, c, x, cell, failing, unframed, failing_unframed, narrow, failing_narrow, divide, failing_divide, promise, failing_promise, rise, failing_rise, unheld, failing_unheld, unmeasured, failing_unmeasured, again, failing_again, wild, failing_wild, stay, failing_stay, fine, failing_fine, demand, failing_demand, vow, failing_vow, claim, failing_claim, give_name, failing_give, failing_cell}
 use Rattle.vx_examples.proofs.Checks.{from_one, only_ok, only_err}
 
 -- Methods
@@ -163,5 +163,71 @@ predicates_framed (fails.PredicateFails.body (PermValue z ∷ []) h e place type
 predicates_framed (fails.PredicateFails.body (RefValue r ∷ []) h e place types same g) = framed_from r h e place (sym same) g
 predicates_framed (fails.PredicateFails.body (v ∷ w ∷ vs) h e place types same g) = types.1
 
+no_measure_here : (e : syntax.Measure) → (let o : Option syntax.Measure = None in o) ≡ Some e → ⊥
+no_measure_here e h = cc
+
+none_is_not : (h : Holdings) → (let o : Option Holdings = None in o) ≡ Some h → ⊥
+none_is_not h e = cc
+
 pub predicates_field : Fails failing f (syntax.IsField Int) → ⊥
 predicates_field h = h
+
+-- An instance as a measure
+
+pub functions_instance_application : FunctionFails failing stay failing_stay
+functions_instance_application =
+    application_in_body (from (store_of x (RefValue 1))) (stay, RefValue 1 ∷ [])
+    (RefValue 1 ∷ [], (refl, tt), ([], from (store_of x (RefValue 1)), passes (BoolValue true) (0, λ m le. refl) refl, refl))
+    (0, (0, omega arith, refl))
+    (((1, inl (failing_stay, refl, (0, omega arith, refl))), (1, inl (failing_stay, refl, (0, omega arith, refl)))),
+    λ e h l. unlowered failing _ (from (store_of x (RefValue 1))) stay (RefValue 1 ∷ []) failing_stay _ (Inside one_cell) (Inside one_cell) refl refl (λ k. refl) (λ k. refl) not_in_itself (subst (λ y. LowersMeasure failing y (from (store_of x (RefValue 1))) stay (RefValue 1 ∷ [])) (sym (some_is _ e h)) l)) where
+  one_cell : Instance
+  one_cell = record { predicate = cell; arguments = RefValue 1 ∷ [] }
+
+  by_flat : (k : ℕ) (inner : Holdings) → flat failing k [] one_cell ≡ Some inner → IsTrue (is_positive (amount inner (Folded one_cell))) → ⊥
+  by_flat zero inner e = absurd (none_is_not inner e)
+  by_flat (suc k) inner e = λ h. not_true (subst (λ z. IsTrue (is_positive (amount z (Folded one_cell)))) (sym (some_is _ inner e)) h)
+
+  not_in_itself : IsInside failing [] one_cell one_cell → ⊥
+  not_in_itself i = by_flat i.0 i.1 i.2 i.3
+
+pub functions_promise_application : FunctionFails failing again failing_again
+functions_promise_application =
+    application_in_postcondition (n_is (IntValue (pos 0))) (IntValue (pos 0)) (again, IntValue (pos 0) ∷ [])
+    (IntValue (pos 0) ∷ [], (refl, tt), ([], n_is (IntValue (pos 0)), passes (BoolValue true) (0, λ m le. refl) refl, refl))
+    (0, λ m le. refl) (0, (0, omega arith, refl))
+    (((1, inl (failing_again, refl, (0, omega arith, refl))), (1, inl (failing_again, refl, (0, omega arith, refl)))),
+    λ e h l. unlowered failing _ (n_is (IntValue (pos 0))) again (IntValue (pos 0) ∷ []) failing_again _ (Number (pos 0)) (Number (pos 0)) refl refl (λ k. refl) (λ k. refl) (λ r. absurd (omega arith)) (subst (λ y. LowersMeasure failing y (n_is (IntValue (pos 0))) again (IntValue (pos 0) ∷ [])) (sym (some_is _ e h)) l))
+
+-- A function that never fails
+
+not_both : {A : Type 0} {R : Type 0} (a : A) (place : Place) → (let y : Checked A = Ok a in y) ≡ Err place → R
+not_both a place e = cc
+
+ok_is : {A : Type 0} (a v : A) → (let y : Checked A = Ok a in y) ≡ Ok v → a ≡ v
+ok_is a v e = cc
+
+none_held : {A : Type 0} (a : A) → Contains [] a → ⊥
+none_held a (k, less, e) = absurd (omega arith)
+
+zero_taken : (v w : Value) (s : State) (place : Place) (k : ℕ) → IntValue (pos 0) ≡ w → s.store ≡ (n, v) ∷ [] →
+    take_by failing k (with_result w s) full (as_assertion (conjoined failing_fine.place failing_fine.ensures)) s.holdings ≡ Err place → ⊥
+zero_taken v w s place k ew es e =
+    not_both s.holdings place
+    (subst (λ z. take_by failing k (with_store (z ++ (result_name, IntValue (pos 0)) ∷ []) s) full (as_assertion (conjoined failing_fine.place failing_fine.ensures)) s.holdings ≡ Err place) es
+    (subst (λ z. take_by failing k (with_result z s) full (as_assertion (conjoined failing_fine.place failing_fine.ensures)) s.holdings ≡ Err place) (sym ew) e))
+
+fine_start : (s : State) → FunctionStarts failing failing_fine s → (v : Value) × (s.store ≡ (n, v) ∷ [])
+fine_start s ([], types, start) = absurd types
+fine_start s (v ∷ w ∷ vs, types, start) = absurd types.1
+fine_start s (v ∷ [], types, (h, t, g, e)) =
+    let et : t ≡ bare ((n, v) ∷ []) h = only_ok _ (BoolValue true) _ _ (λ k. refl) g in (v, ap (λ u. u.store) e ∙ ap (λ u. u.store) et)
+
+pub functions_fine : FunctionFails failing fine failing_fine → ⊥
+functions_fine (fails.FunctionFails.precondition vs place types (h, g)) = only_ok _ (BoolValue true) _ _ (λ k. refl) g
+functions_fine (fails.FunctionFails.body s place start (k, e)) = not_both (IntValue (pos 0)) place (e k (omega arith))
+functions_fine (fails.FunctionFails.postcondition s v place start (j, d) (k, e)) =
+    let shape = fine_start s start in zero_taken shape.0 v s place k (ok_is _ v (d j (omega arith))) shape.1 (e k (omega arith))
+functions_fine (measure s m start e worse) = no_measure_here m e
+functions_fine (application_in_body s a start (k, e) worse) = none_held a e
+functions_fine (application_in_postcondition s v a start fits (k, e) worse) = none_held a e

@@ -4,10 +4,11 @@ use Rattle.vx_frac.specs.Fractions.{Fraction, full, none, sum, product, is_posit
 use Rattle.vx_meaning.specs.Values.{Value, IntValue, RefValue}
 use Rattle.vx_meaning.specs.States.{State, Holdings, Location, Instance, At, Folded, amount, same_location, same_resource}
 use Rattle.vx_meaning.specs.Flatten.{flat, IsGrounded, IsInside}
+use Rattle.vx_meaning.specs.Fails.{Inside, LowersMeasure}
 use Rattle.vx_meaning.specs.Consistent.{total, IsHeld, IsSupported, IsConsistent, Changes}
-use Rattle.vx_examples.specs.Functions.{lengths}
+use Rattle.vx_examples.specs.Functions.{length, lengths, lengths_length}
 use Rattle.vx_examples.specs.Cells.{f, x, y, cells}
-use Rattle.vx_examples.specs.Scenes.{half, x_f, a_cell, with_x_f, holding, poor, owner, folder, next_of, list_at, two_nodes, round, at_first}
+use Rattle.vx_examples.specs.Scenes.{half, x_f, a_cell, with_x_f, holding, poor, owner, folder, next_of, list_at, two_nodes, round, at_first, list_of_x}
 
 pub grounding_last : IsGrounded lengths two_nodes (list_at 2)
 grounding_last = (1, (At (next_of 2), full) ∷ [], refl)
@@ -94,3 +95,16 @@ pub consistency_no_change_folded : Changes cells folder (with_x_f (pos 9)) → �
 consistency_no_change_folded c = nine_is_five (c x_f (1, refl)) where
   nine_is_five : IntValue (pos 9) ≡ IntValue (pos 5) → ⊥
   nine_is_five e = cc
+
+pub measures_lowered : LowersMeasure lengths list_of_x (at_first []) length (RefValue 2 ∷ [])
+measures_lowered = record {
+  callee = lengths_length;
+  is_callee = refl;
+  of_callee = list_of_x;
+  has_measure = refl;
+  before = Inside (list_at 1);
+  after = Inside (list_at 2);
+  before_is = (0, refl);
+  after_is = (0, refl);
+  lowers = grounding_inside;
+}

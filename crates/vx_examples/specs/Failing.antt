@@ -2,7 +2,7 @@
 use Rattle.std.specs.Prelude.{true, false, List, [], ◌∷◌, Some, None, codes}
 use Rattle.vx_ast.specs.declared.ValueType.TheVariants.{Int, Perm}
 use Rattle.vx_ast.specs.declared.ValueType.TheVariants as type
-use Rattle.vx_ast.specs.Syntax.{Name, Add, Apply, Assert, Assign, ByInstance, ByNumber, Choose, Divide, Done, Equal, Function, Greater, Instance, IsField, IsFunction, IsMethod, IsPredicate, LessEqual, Method, More, NoMore, Number, Operate, Part, Points, Predicate, Program, Pure, Quotient, Read, Subtract, Then, Variable, result_name}
+use Rattle.vx_ast.specs.Syntax.{Name, Add, Apply, Assert, Assign, ByInstance, ByNumber, Choose, Divide, Done, Equal, Function, Greater, IsField, IsFunction, IsMethod, IsPredicate, LessEqual, Method, More, NoMore, Number, Operate, Part, Points, Predicate, Program, Pure, Quotient, Read, Subtract, Then, Variable, result_name}
 use Rattle.vx_examples.specs.Words.{at}
 
 abbrev pub again : Name
@@ -81,7 +81,7 @@ x = codes "x"
 -- function unheld(x: Ref): Int decreases cell(x) { 0 }
 -- function unmeasured(n: Int): Int decreases 7 \ n { n }
 -- function again(n: Int): Int ensures again(n) == 0 decreases n { 0 }
--- function stay(x: Ref): Int requires cell(x) decreases cell(x) { stay(x) }
+-- function stay(x: Ref): Int decreases cell(x) { stay(x) }
 -- function wild(n: Int): Int { wild(n) }
 -- function fall(n: Int): Int decreases n { n <= 0 ? 0 : fall(n - 1) }
 -- function fine(n: Int): Int ensures result == 0 { 0 }
@@ -185,10 +185,10 @@ failing_stay = record {
   place = at 11 1;
   parameters = record { name = x; of = type.Ref } ∷ [];
   of = Int;
-  requires = Instance (at 11 37) cell (More (Variable (at 11 42) x) NoMore) (Part (at 11 37) 1 1) ∷ [];
+  requires = [];
   ensures = [];
-  decreases = Some (ByInstance (at 11 55) cell (More (Variable (at 11 60) x) NoMore));
-  body = Apply (at 11 65) stay (More (Variable (at 11 70) x) NoMore);
+  decreases = Some (ByInstance (at 11 38) cell (More (Variable (at 11 43) x) NoMore));
+  body = Apply (at 11 48) stay (More (Variable (at 11 53) x) NoMore);
 }
 
 abbrev pub failing_wild : Function

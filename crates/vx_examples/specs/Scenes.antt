@@ -3,6 +3,8 @@ use Rattle.std.specs.Prelude.{ℕ, ℤ, pos, List, [], ◌∷◌}
 use Rattle.vx_frac.specs.Fractions.{Fraction, full}
 use Rattle.vx_meaning.specs.Values.{Value, IntValue, RefValue}
 use Rattle.vx_meaning.specs.States.{Store, Heap, Holdings, State, Location, Instance, At, Folded}
+use Rattle.vx_ast.specs.Syntax.{Measure, ByInstance, More, NoMore, Variable}
+use Rattle.vx_examples.specs.Words.{at}
 use Rattle.vx_examples.specs.Functions as functions
 use Rattle.vx_examples.specs.Functions.{next, list}
 use Rattle.vx_examples.specs.Cells.{f, x, y, cell, hidden}
@@ -70,3 +72,10 @@ round = (next_of 1, RefValue 1) ∷ []
 
 abbrev pub at_first : Holdings → State
 at_first held = record { store = (functions.x, RefValue 1) ∷ []; heap = two_nodes; holdings = held; old_heap = two_nodes; old_holdings = held }
+
+abbrev pub at_last : State
+at_last = record { store = (functions.x, RefValue 2) ∷ []; heap = two_nodes; holdings = []; old_heap = two_nodes; old_holdings = [] }
+
+-- the measure list(x)
+abbrev pub list_of_x : Measure
+list_of_x = ByInstance (at 3 76) list (More (Variable (at 3 81) functions.x) NoMore)

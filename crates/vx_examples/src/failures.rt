@@ -2,9 +2,13 @@
 
 ghost use Rattle.vx_ast.specs.declared.ValueType.TheVariants.{Int};
 ghost use Rattle.vx_ast.specs.Syntax.{IsField};
-ghost use Rattle.vx_meaning.specs.Fails.{MethodFails, FunctionFails, PredicateFails, Fails};
+ghost use Rattle.vx_meaning.specs.Values.{RefValue};
+ghost use Rattle.vx_meaning.specs.Fails.{LowersMeasure, evaluated, MethodFails, FunctionFails, PredicateFails, Fails};
+ghost use Rattle.std.specs.Prelude.{◌≡◌, [], ◌∷◌};
 ghost use Rattle.vx_examples.specs.Words.{at};
-ghost use Rattle.vx_examples.specs.Failing.{f, failing, failing_cell, failing_unframed, narrow, failing_narrow, divide, failing_divide, promise, failing_promise, rise, failing_rise, unheld, failing_unheld, unmeasured, failing_unmeasured, wild, failing_wild, failing_demand, failing_vow, failing_claim, failing_give};
+ghost use Rattle.vx_examples.specs.Functions.{length, lengths, lengths_length};
+ghost use Rattle.vx_examples.specs.Scenes.{list_of_x, at_first, at_last};
+ghost use Rattle.vx_examples.specs.Failing.{f, failing, failing_cell, failing_unframed, narrow, failing_narrow, divide, failing_divide, promise, failing_promise, rise, failing_rise, unheld, failing_unheld, unmeasured, failing_unmeasured, wild, failing_wild, stay, failing_stay, again, failing_again, fine, failing_fine, failing_demand, failing_vow, failing_claim, failing_give};
 
 /// A method fails by its precondition, by a postcondition that doesn't frame itself, by its body, and by its postcondition.
 pub fn methods()
@@ -23,6 +27,9 @@ pub fn functions()
     ensures measure_without_value { FunctionFails failing unmeasured failing_unmeasured }
     ensures application { FunctionFails failing rise failing_rise }
     ensures unmeasured_application { FunctionFails failing wild failing_wild }
+    ensures instance_application { FunctionFails failing stay failing_stay }
+    ensures promise_application { FunctionFails failing again failing_again }
+    ensures fine { FunctionFails failing fine failing_fine → ⊥ }
 {}
 
 /// A predicate fails where its body reads what it doesn't hold, and not where it holds it; a field never fails.
@@ -30,4 +37,11 @@ pub fn predicates()
     ensures unframed { PredicateFails failing failing_unframed }
     ensures framed { PredicateFails failing failing_cell → ⊥ }
     ensures field { Fails failing f (IsField Int) → ⊥ }
+{}
+
+/// The list function's measure falls from a node to the next, and its evaluated applications are those of the side that is picked.
+pub fn measures()
+    ensures lowered { LowersMeasure lengths list_of_x (at_first []) length (RefValue 2 ∷ []) }
+    ensures first { evaluated lengths 0 (at_first []) lengths_length.body ≡ (length, RefValue 2 ∷ []) ∷ [] }
+    ensures last { evaluated lengths 0 at_last lengths_length.body ≡ [] }
 {}

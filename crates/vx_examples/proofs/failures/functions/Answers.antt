@@ -1,4 +1,4 @@
-use Rattle.vx_examples.proofs.Members.{functions_precondition, functions_body, functions_postcondition, functions_unheld_measure, functions_measure_without_value, functions_application, functions_unmeasured_application}
+use Rattle.vx_examples.proofs.Members.{functions_precondition, functions_body, functions_postcondition, functions_unheld_measure, functions_measure_without_value, functions_application, functions_unmeasured_application, functions_instance_application, functions_promise_application, functions_fine}
 use Rattle.vx_examples.proofs.failures.functions.Goals as goal
 
 pub returns-clause-precondition : goal.returns-clause-precondition
@@ -21,3 +21,12 @@ returns-clause-application c = functions_application
 
 pub returns-clause-unmeasured_application : goal.returns-clause-unmeasured_application
 returns-clause-unmeasured_application c = functions_unmeasured_application
+
+pub returns-clause-instance_application : goal.returns-clause-instance_application
+returns-clause-instance_application c = functions_instance_application
+
+pub returns-clause-promise_application : goal.returns-clause-promise_application
+returns-clause-promise_application c = functions_promise_application
+
+pub returns-clause-fine : goal.returns-clause-fine
+returns-clause-fine c = functions_fine
