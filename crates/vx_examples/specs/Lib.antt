@@ -14,3 +14,4 @@ pub mod Allowed
 pub mod Taken
 pub mod Inside
 pub mod Failing
+pub mod Branches

@@ -154,3 +154,21 @@ answers_in (row ∷ rows) = row.1 ∷ answers_in rows
 abbrev pub Computes : {A B : Type 0} → (A → B) → List (A × B) → Type 0
 Computes f [] = Unit {0}
 Computes f (row ∷ rows) = (f row.0 ≡ row.1) × Computes f rows
+
+abbrev pub none : Term
+none = part (pos 0) 0
+
+abbrev pub all : Term
+all = part (pos 1) 0
+
+abbrev pub either : Term → Term → Term
+either s t = term.Binary sort.Or s t
+
+abbrev pub chosen_term : Term → Term → Term → Term
+chosen_term c s t = term.Ite c s t
+
+abbrev pub quotient : Term → Term → Term
+quotient s t = term.Binary sort.Div s t
+
+abbrev pub remainder : Term → Term → Term
+remainder s t = term.Binary sort.Mod s t

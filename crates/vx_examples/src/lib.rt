@@ -5,8 +5,10 @@
 #![tactic(auto)]
 
 pub mod assertions;
+pub mod assertions_by_rules;
 pub mod calls;
 pub mod compound;
+pub mod evaluation;
 pub mod expressions;
 pub mod failures;
 pub mod fields;
@@ -15,4 +17,5 @@ pub mod instances;
 pub mod loops;
 pub mod predicates;
 pub mod runs;
+pub mod statements;
 pub mod store;
