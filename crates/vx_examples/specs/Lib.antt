@@ -15,3 +15,4 @@ pub mod Taken
 pub mod Inside
 pub mod Failing
 pub mod Branches
+pub mod Simplified

@@ -19,3 +19,4 @@ pub mod predicates;
 pub mod runs;
 pub mod statements;
 pub mod store;
+pub mod terms;
