@@ -3,3 +3,4 @@ pub mod Endings
 pub mod Compounds
 pub mod Members
 pub mod Nested
+pub mod Truth

@@ -16,3 +16,5 @@ pub mod Inside
 pub mod Failing
 pub mod Branches
 pub mod Simplified
+pub mod Interpreted
+pub mod Walks

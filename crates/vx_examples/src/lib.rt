@@ -20,3 +20,4 @@ pub mod runs;
 pub mod statements;
 pub mod store;
 pub mod terms;
+pub mod walks;
