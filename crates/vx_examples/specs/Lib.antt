@@ -18,3 +18,4 @@ pub mod Branches
 pub mod Simplified
 pub mod Interpreted
 pub mod Walks
+pub mod Applications
