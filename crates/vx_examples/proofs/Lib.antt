@@ -4,3 +4,4 @@ pub mod Compounds
 pub mod Members
 pub mod Nested
 pub mod Truth
+pub mod Rows

@@ -94,10 +94,10 @@ functions_measure_without_value =
 
 -- an application doesn't lower the measure where the two measures don't fall
 
-some_is : {A : Type 0} (a b : A) → (let o : Option A = Some a in o) ≡ Some b → a ≡ b
+pub some_is : {A : Type 0} (a b : A) → (let o : Option A = Some a in o) ≡ Some b → a ≡ b
 some_is a b e = cc
 
-unlowered : (p : Program) (e : syntax.Measure) (s : State) (g : Name) (vs : List Value) (callee : Function) (m : syntax.Measure) (before after : Measure) →
+pub unlowered : (p : Program) (e : syntax.Measure) (s : State) (g : Name) (vs : List Value) (callee : Function) (m : syntax.Measure) (before after : Measure) →
     function_named p g ≡ Some callee → callee.decreases ≡ Some m →
     ((k : ℕ) → measure_by p k s e ≡ Some before) → ((k : ℕ) → measure_by p k (with_store (bind callee.parameters vs) s) m ≡ Some after) →
     (Lowers p s.heap before after → ⊥) → LowersMeasure p e s g vs → ⊥
