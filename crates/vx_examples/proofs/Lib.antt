@@ -5,3 +5,4 @@ pub mod Members
 pub mod Nested
 pub mod Truth
 pub mod Rows
+pub mod Stated

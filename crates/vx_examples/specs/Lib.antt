@@ -19,3 +19,4 @@ pub mod Simplified
 pub mod Interpreted
 pub mod Walks
 pub mod Applications
+pub mod Added

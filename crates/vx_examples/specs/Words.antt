@@ -1,7 +1,10 @@
 -- Words that the examples share.
-use Rattle.std.specs.Prelude.{◌≡◌, ℕ, true, false, ℤ, pos, List, [], ◌∷◌, ◌++◌, Some, None}
+use Rattle.std.specs.Prelude.{◌≡◌, Ok, Err, ℕ, true, false, ℤ, pos, List, [], ◌∷◌, ◌++◌, Some, None}
 use Rattle.vx_ast.specs.declared.Place.{Place}
 use Rattle.vx_ast.specs.Syntax.{Name, Program, member_named}
+use Rattle.vx_meaning.specs.States as meant
+use Rattle.vx_meaning.specs.States.{Holdings}
+use Rattle.vx_meaning.specs.Fits.{Checked}
 use Rattle.vx_smt_meaning.specs.declared.reply.Reply.{Reply}
 use Rattle.vx_smt_meaning.specs.declared.reply.Reply.TheVariants.{Unsat, Sat}
 use Rattle.vx_terms.specs.Sorts as sort
@@ -172,3 +175,8 @@ quotient s t = term.Binary sort.Div s t
 
 abbrev pub remainder : Term → Term → Term
 remainder s t = term.Binary sort.Mod s t
+
+-- what is held in a state that a check gives
+abbrev pub held_in : Checked meant.State → Checked Holdings
+held_in (Ok s) = Ok s.holdings
+held_in (Err place) = Err place

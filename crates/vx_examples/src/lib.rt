@@ -21,4 +21,5 @@ pub mod runs;
 pub mod statements;
 pub mod store;
 pub mod terms;
+pub mod values;
 pub mod walks;
