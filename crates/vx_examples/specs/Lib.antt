@@ -20,3 +20,4 @@ pub mod Interpreted
 pub mod Walks
 pub mod Applications
 pub mod Added
+pub mod Totals

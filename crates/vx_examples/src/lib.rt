@@ -16,6 +16,7 @@ pub mod fields;
 pub mod functions;
 pub mod instances;
 pub mod loops;
+pub mod operators;
 pub mod predicates;
 pub mod runs;
 pub mod statements;
