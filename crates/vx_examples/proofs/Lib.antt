@@ -6,3 +6,4 @@ pub mod Nested
 pub mod Truth
 pub mod Rows
 pub mod Stated
+pub mod Given

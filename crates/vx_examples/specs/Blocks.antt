@@ -2,7 +2,7 @@
 use Rattle.std.specs.Prelude.{true, false, List, [], ◌∷◌, Some, None, codes}
 use Rattle.vx_ast.specs.declared.ValueType.TheVariants.{Int, Perm}
 use Rattle.vx_ast.specs.declared.ValueType.TheVariants as type
-use Rattle.vx_ast.specs.Syntax.{Name, Add, Assert, Assign, Assume, Block, Both, Call, Declare, Done, Equal, Exhale, Fold, If, Inhale, Less, LessEqual, More, New, NoMore, Null, Number, Operate, Part, Points, Pure, Read, Then, Truth, Unfold, Variable, While, Write}
+use Rattle.vx_ast.specs.Syntax.{Name, Add, Assert, Assign, Assume, Block, Both, Call, Chosen, Declare, Done, Equal, Exhale, Fold, If, Implied, Inhale, Instance, Less, LessEqual, More, New, NoMore, Null, Number, Operate, Part, Points, Pure, Read, Subtract, Then, Truth, Unfold, Variable, While, Write}
 use Rattle.vx_examples.specs.Words.{at}
 use Rattle.vx_examples.specs.Cells.{cell, f, hidden, never, read_name, unframed, x, y}
 
@@ -64,6 +64,42 @@ inhales_false = Then (Inhale (at 1 3) (Pure (Truth (at 1 10) false))) Done
 -- { inhale x.f == 5 }
 abbrev pub inhales_unread : Block
 inhales_unread = Then (Inhale (at 1 3) (Pure (Operate (at 1 10) Equal (Read (at 1 10) (Variable (at 1 10) x) f) (Number (at 1 17) 5)))) Done
+
+-- { inhale acc(x.f, 1/2) && x.f == 5 }
+abbrev pub inhales_framed : Block
+inhales_framed = Then (Inhale (at 1 3) (Both (Points (at 1 10) (Variable (at 1 14) x) f (Part (at 1 19) 1 2)) (Pure (Operate (at 1 27) Equal (Read (at 1 27) (Variable (at 1 27) x) f) (Number (at 1 34) 5))))) Done
+
+-- { inhale x.f == 5 && acc(x.f, 1/2) }
+abbrev pub inhales_too_early : Block
+inhales_too_early = Then (Inhale (at 1 3) (Both (Pure (Operate (at 1 10) Equal (Read (at 1 10) (Variable (at 1 10) x) f) (Number (at 1 17) 5))) (Points (at 1 22) (Variable (at 1 26) x) f (Part (at 1 31) 1 2)))) Done
+
+-- { inhale y == 0 ==> acc(x.f, 1/2) }
+abbrev pub inhales_where : Block
+inhales_where = Then (Inhale (at 1 3) (Implied (Operate (at 1 10) Equal (Variable (at 1 10) y) (Number (at 1 15) 0)) (Points (at 1 21) (Variable (at 1 25) x) f (Part (at 1 30) 1 2)))) Done
+
+-- { inhale y == 1 ==> acc(x.f, 1/2) }
+abbrev pub inhales_nowhere : Block
+inhales_nowhere = Then (Inhale (at 1 3) (Implied (Operate (at 1 10) Equal (Variable (at 1 10) y) (Number (at 1 15) 1)) (Points (at 1 21) (Variable (at 1 25) x) f (Part (at 1 30) 1 2)))) Done
+
+-- { inhale y == 0 ? acc(x.f, 1/2) : false && acc(x.f) }
+abbrev pub inhales_by_choice : Block
+inhales_by_choice = Then (Inhale (at 1 3) (Chosen (Operate (at 1 10) Equal (Variable (at 1 10) y) (Number (at 1 15) 0)) (Points (at 1 19) (Variable (at 1 23) x) f (Part (at 1 28) 1 2)) (Both (Pure (Truth (at 1 35) false)) (Points (at 1 44) (Variable (at 1 48) x) f (Part (at 1 44) 1 1))))) Done
+
+-- { inhale y == 1 ? acc(x.f, 1/2) : false && acc(x.f) }
+abbrev pub inhales_other_choice : Block
+inhales_other_choice = Then (Inhale (at 1 3) (Chosen (Operate (at 1 10) Equal (Variable (at 1 10) y) (Number (at 1 15) 1)) (Points (at 1 19) (Variable (at 1 23) x) f (Part (at 1 28) 1 2)) (Both (Pure (Truth (at 1 35) false)) (Points (at 1 44) (Variable (at 1 48) x) f (Part (at 1 44) 1 1))))) Done
+
+-- { inhale x.f == 0 ==> acc(x.f, 1/2) }
+abbrev pub inhales_unread_condition : Block
+inhales_unread_condition = Then (Inhale (at 1 3) (Implied (Operate (at 1 10) Equal (Read (at 1 10) (Variable (at 1 10) x) f) (Number (at 1 17) 0)) (Points (at 1 23) (Variable (at 1 27) x) f (Part (at 1 32) 1 2)))) Done
+
+-- { inhale cell(x) }
+abbrev pub inhales_instance : Block
+inhales_instance = Then (Inhale (at 1 3) (Instance (at 1 10) cell (More (Variable (at 1 15) x) NoMore) (Part (at 1 10) 1 1))) Done
+
+-- { inhale acc(x.f, none - write) }
+abbrev pub inhales_negative : Block
+inhales_negative = Then (Inhale (at 1 3) (Points (at 1 10) (Variable (at 1 14) x) f (Operate (at 1 19) Subtract (Part (at 1 19) 0 1) (Part (at 1 26) 1 1)))) Done
 
 -- { assume y == 0 }
 abbrev pub assumes : Block

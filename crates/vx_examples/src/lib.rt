@@ -14,6 +14,7 @@ pub mod expressions;
 pub mod failures;
 pub mod fields;
 pub mod functions;
+pub mod giving;
 pub mod instances;
 pub mod loops;
 pub mod operators;
