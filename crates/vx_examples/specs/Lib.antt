@@ -21,3 +21,4 @@ pub mod Walks
 pub mod Applications
 pub mod Added
 pub mod Totals
+pub mod Amounts

@@ -4,6 +4,7 @@
 //! questions its tree asks, in order, or how its walk ends over some replies.
 #![tactic(auto)]
 
+pub mod amounts;
 pub mod applications;
 pub mod assertions;
 pub mod assertions_by_rules;
