@@ -1,18 +1,16 @@
 -- Runs of folds and unfolds, conditions, sequences, loops and calls.
-use Rattle.std.proofs.Common.{◌≡◌, ℕ, zero, suc, pos, true, false, Bool, IsTrue, if◌then◌else◌, List, [], ◌∷◌, refl, sym, subst, inl, inr, ◌⊎◌, arith, Some, None, Option, ap, ◌∙◌}
-use Rattle.std.specs.Prelude.{Ok, Err}
+use Rattle.std.proofs.Common.{ℕ, zero, suc, pos, true, false, Bool, IsTrue, if◌then◌else◌, List, [], ◌∷◌, refl, inl, inr}
 use Rattle.vx_ast.specs.declared.Place.{Place}
 use Rattle.vx_frac.specs.Fractions.{Fraction, full, none, sum, minus, product, is_positive, at_most}
-use Rattle.vx_meaning.specs.Values.{Value, IntValue, BoolValue, RefValue}
-use Rattle.vx_meaning.specs.States.{State, Holdings, Location, Instance, At, Folded, amount, gained, lost, same_location, same_resource, with_holdings}
+use Rattle.vx_meaning.specs.Values.{IntValue, BoolValue, RefValue}
+use Rattle.vx_meaning.specs.States.{State, Holdings, Location, At, Folded, gained, lost, same_location, same_resource, with_holdings}
 use Rattle.vx_meaning.specs.Consistent.{IsConsistent, total}
-use Rattle.vx_meaning.specs.Flatten.{IsGrounded}
 use Rattle.vx_meaning.specs.Outcomes.{Outcome, Ends, FailsAt, Stops, passes, refused, goes_on, is_over}
 use Rattle.vx_meaning.specs.Run.{run_all}
 use Rattle.vx_examples.specs.Words.{at}
-use Rattle.vx_examples.specs.Cells.{f, x, y, hidden, cells}
+use Rattle.vx_examples.specs.Cells.{x, y, hidden, cells}
 use Rattle.vx_examples.specs.Blocks.{z, calls, calls_never, calls_unframed, folds, folds_none, folds_hidden, unfolds, unfolds_none, chooses, chooses_other, chooses_unread, declares_within, loops, loops_unkept, loops_wrong, loops_unread, fails_then_more, goes_on as goes_further, stops_then_more}
-use Rattle.vx_examples.specs.Scenes.{half, x_f, a_cell, with_y, with_x_f, state, holding, poor, owner, sharer, folder}
+use Rattle.vx_examples.specs.Scenes.{x_f, a_cell, with_y, with_x_f, state, poor, owner, sharer, folder}
 use Rattle.vx_examples.proofs.Checks.{only_ok, only_err, single, alone}
 
 -- Fold
@@ -79,8 +77,8 @@ pub unfolding_exchanged : run_all cells unfolds folder (Ends (with_holdings (gai
 unfolding_exchanged =
     alone _ (passes (a_cell, full) (0, λ m le. refl) (passes tt (0, λ m le. refl)
     (goes_on (record opened { store = (x, RefValue 1) ∷ [] }) (passes (At x_f, full) (0, λ m le. refl) (inl (bound_can_be, refl))) refl))) where
-  bound_can_be : IsConsistent cells (record opened { store = (x, RefValue 1) ∷ [] })
-  bound_can_be = record { supported = record { grounded = opened_can_be.supported.grounded; null = opened_null }; bounded = opened_bounded }
+      bound_can_be : IsConsistent cells (record opened { store = (x, RefValue 1) ∷ [] })
+      bound_can_be = record { supported = record { grounded = opened_can_be.supported.grounded; null = opened_null }; bounded = opened_bounded }
 
 pub unfolding_unheld_fails : run_all cells unfolds owner (FailsAt (at 1 3))
 unfolding_unheld_fails = alone _ (passes (a_cell, full) (0, λ m le. refl) (refused (at 1 3) (0, λ m le. refl) refl))
@@ -141,23 +139,50 @@ y_is n = state (with_y (pos n)) [] []
 
 pub iterations_end : run_all cells loops poor (Ends (state (with_y (pos 3)) (with_x_f (pos 5)) []))
 iterations_end =
-    alone _ (passes [] (0, λ m le. refl) (inr (with_x_f (pos 5), ((λ l h. refl), (with_y (pos 3), ((refl, refl, inr refl, (refl, refl, inl refl, tt)),
-    goes_on (state (with_y (pos 3)) (with_x_f (pos 5)) []) (passes (BoolValue true) (0, λ m le. refl) refl)
-    (passes (BoolValue false) (0, λ m le. refl) refl)))))))
+    alone _ (passes [] (0, λ m le. refl) (inr (
+      with_x_f (pos 5),
+      (
+        (λ l h. refl),
+        (
+          with_y (pos 3),
+          (
+            (refl, refl, inr refl, (refl, refl, inl refl, tt)),
+            goes_on (state (with_y (pos 3)) (with_x_f (pos 5)) []) (passes (BoolValue true) (0, λ m le. refl) refl)
+                (passes (BoolValue false) (0, λ m le. refl) refl),
+          ),
+        ),
+      ),
+    )))
 
 pub iterations_stop : run_all cells loops poor Stops
 iterations_stop =
-    alone _ (passes [] (0, λ m le. refl) (inl ([], (with_y (pos 2), ((refl, refl, inr refl, (refl, refl, inl refl, tt)),
-    goes_on (y_is 2) (passes (BoolValue true) (0, λ m le. refl) refl)
-    (passes (BoolValue true) (0, λ m le. refl)
-    (goes_on (y_is 3) (goes_on (y_is 3) (alone _ (passes (IntValue (pos 3)) (0, λ m le. refl) refl)) refl) (passes [] (0, λ m le. refl) tt))))))))
+    alone _ (passes [] (0, λ m le. refl) (inl (
+      [],
+      (
+        with_y (pos 2),
+        (
+          (refl, refl, inr refl, (refl, refl, inl refl, tt)),
+          goes_on (y_is 2) (passes (BoolValue true) (0, λ m le. refl) refl)
+              (passes (BoolValue true) (0, λ m le. refl)
+              (goes_on (y_is 3) (goes_on (y_is 3) (alone _ (passes (IntValue (pos 3)) (0, λ m le. refl) refl)) refl) (passes [] (0, λ m le. refl) tt))),
+        ),
+      ),
+    )))
 
 pub iterations_unkept_fails : run_all cells loops_unkept poor (FailsAt (at 1 27))
 iterations_unkept_fails =
-    alone _ (passes [] (0, λ m le. refl) (inl ([], (with_y (pos 2), ((refl, refl, inr refl, (refl, refl, inl refl, tt)),
-    goes_on (y_is 2) (passes (BoolValue true) (0, λ m le. refl) refl)
-    (passes (BoolValue true) (0, λ m le. refl)
-    (goes_on (y_is 3) (goes_on (y_is 3) (alone _ (passes (IntValue (pos 3)) (0, λ m le. refl) refl)) refl) (refused (at 1 27) (0, λ m le. refl) refl))))))))
+    alone _ (passes [] (0, λ m le. refl) (inl (
+      [],
+      (
+        with_y (pos 2),
+        (
+          (refl, refl, inr refl, (refl, refl, inl refl, tt)),
+          goes_on (y_is 2) (passes (BoolValue true) (0, λ m le. refl) refl)
+              (passes (BoolValue true) (0, λ m le. refl)
+              (goes_on (y_is 3) (goes_on (y_is 3) (alone _ (passes (IntValue (pos 3)) (0, λ m le. refl) refl)) refl) (refused (at 1 27) (0, λ m le. refl) refl))),
+        ),
+      ),
+    )))
 
 pub iterations_wrong_fails : run_all cells loops_wrong poor (FailsAt (at 1 27))
 iterations_wrong_fails = alone _ (refused (at 1 27) (0, λ m le. refl) refl)
@@ -167,9 +192,17 @@ iterations_wrong_never_ends t r = only_err _ (at 1 27) _ _ (λ n. refl) (single 
 
 pub iterations_unread_fails : run_all cells loops_unread owner (FailsAt (at 1 10))
 iterations_unread_fails =
-    alone _ (passes owner.holdings (0, λ m le. refl) (inl ([], (with_y (pos 0), ((refl, refl, inr refl, (refl, refl, inr refl, tt)),
-    goes_on (y_is 0) (passes (BoolValue true) (0, λ m le. refl) refl)
-    (refused (at 1 10) (0, λ m le. refl) refl))))))
+    alone _ (passes owner.holdings (0, λ m le. refl) (inl (
+      [],
+      (
+        with_y (pos 0),
+        (
+          (refl, refl, inr refl, (refl, refl, inr refl, tt)),
+          goes_on (y_is 0) (passes (BoolValue true) (0, λ m le. refl) refl)
+              (refused (at 1 10) (0, λ m le. refl) refl),
+        ),
+      ),
+    )))
 
 -- Calls
 
@@ -195,11 +228,21 @@ back_can_be = record { supported = record { grounded = λ i h. absurd (not_true 
 
 pub calling_returns : run_all cells calls owner (Ends (state (with_y (pos 5)) (with_x_f (pos 5)) (gained (At x_f) (product full full) (lost (At x_f) (product full full) owner.holdings))))
 calling_returns =
-    alone _ (passes (RefValue 1 ∷ []) (0, λ m le. refl) (passes without_x_f (0, λ m le. refl)
-    (with_x_f (pos 5), ((λ l h. refl), (IntValue (pos 5) ∷ [], ((refl, tt),
-    goes_on at_return
-    (goes_on at_return (passes (At x_f, full) (0, λ m le. refl) (inl (back_can_be, refl))) (passes (BoolValue true) (0, λ m le. refl) refl))
-    refl))))))
+    alone _ (passes (RefValue 1 ∷ []) (0, λ m le. refl) (passes without_x_f (0, λ m le. refl) (
+      with_x_f (pos 5),
+      (
+        (λ l h. refl),
+        (
+          IntValue (pos 5) ∷ [],
+          (
+            (refl, tt),
+            goes_on at_return
+                (goes_on at_return (passes (At x_f, full) (0, λ m le. refl) (inl (back_can_be, refl))) (passes (BoolValue true) (0, λ m le. refl) refl))
+                refl,
+          ),
+        ),
+      ),
+    )))
 
 pub calling_unheld_fails : run_all cells calls sharer (FailsAt (at 1 3))
 calling_unheld_fails = alone _ (passes (RefValue 1 ∷ []) (0, λ m le. refl) (refused (at 1 3) (0, λ m le. refl) refl))

@@ -1,19 +1,18 @@
 -- Runs of blocks of statements.
-use Rattle.std.proofs.Common.{◌≡◌, ℕ, zero, suc, pos, true, false, Bool, IsTrue, if◌then◌else◌, List, [], ◌∷◌, refl, sym, subst, inl, inr, ◌⊎◌, arith, Some, None, Option, ap, ◌∙◌}
-use Rattle.std.specs.Prelude.{Ok, Err}
+use Rattle.std.proofs.Common.{◌≡◌, ℕ, pos, true, false, Bool, IsTrue, if◌then◌else◌, List, [], ◌∷◌, refl, sym, inl, inr, ◌⊎◌, Some, None, Option, ap, ◌∙◌}
 use Rattle.vx_ast.specs.declared.Place.{Place}
 use Rattle.vx_ast.specs.declared.ValueType.TheVariants.{Int}
 use Rattle.vx_ast.specs.declared.ValueType.TheVariants as type
 use Rattle.vx_frac.specs.Fractions.{Fraction, full, none, sum, minus, product, is_positive, at_most}
 use Rattle.vx_meaning.specs.Values.{Value, IntValue, BoolValue, RefValue, type_of}
-use Rattle.vx_meaning.specs.States.{State, Holdings, Location, At, Folded, gained, lost, declare, lookup, same_location, value_at, with_heap, with_holdings}
-use Rattle.vx_meaning.specs.Consistent.{IsHeld, IsConsistent, Changes}
-use Rattle.vx_meaning.specs.Outcomes.{Outcome, Ends, FailsAt, Stops, passes, refused, goes_on, is_over}
+use Rattle.vx_meaning.specs.States.{State, Holdings, At, gained, lost, declare, lookup, same_location, value_at, with_heap, with_holdings}
+use Rattle.vx_meaning.specs.Consistent.{IsConsistent, Changes}
+use Rattle.vx_meaning.specs.Outcomes.{Ends, FailsAt, Stops, passes, refused}
 use Rattle.vx_meaning.specs.Run.{run_all, IsFresh}
 use Rattle.vx_examples.specs.Words.{at}
 use Rattle.vx_examples.specs.Cells.{f, x, y, cells}
 use Rattle.vx_examples.specs.Blocks.{z, nothing, declares, assigns, reads, writes, writes_null, creates, creates_bare, inhales, inhales_false, inhales_unread, assumes, assumes_false, assumes_unread, exhales, exhales_wrong, asserts, asserts_wrong, asserts_thrice, exhales_half}
-use Rattle.vx_examples.specs.Scenes.{half, x_f, a_cell, with_y, with_x_f, state, holding, poor, owner, sharer, folder}
+use Rattle.vx_examples.specs.Scenes.{half, x_f, with_y, with_x_f, state, poor, owner, sharer}
 use Rattle.vx_examples.proofs.Checks.{only_ok, only_err, single, alone}
 
 -- Variables

@@ -1,20 +1,19 @@
 -- What inhales give, branch by branch.
-use Rattle.std.proofs.Common.{◌≡◌, ℕ, zero, suc, pos, true, false, Bool, IsTrue, if◌then◌else◌, ◌&&◌, List, [], ◌∷◌, refl, sym, subst, inl, inr, ◌⊎◌, arith, Some}
-use Rattle.vx_ast.specs.declared.Place.{Place}
+use Rattle.std.proofs.Common.{◌≡◌, ℕ, zero, suc, pos, true, false, Bool, IsTrue, if◌then◌else◌, ◌&&◌, List, [], ◌∷◌, refl, sym, subst, inl}
 use Rattle.vx_ast.specs.Syntax.{Name, same_name}
 use Rattle.vx_frac.specs.Fractions.{Fraction, full, none, sum, product, is_positive, at_most}
 use Rattle.vx_meaning.specs.Values.{Value, IntValue, BoolValue, RefValue, PermValue, same_values}
-use Rattle.vx_meaning.specs.States.{State, Holdings, Location, Instance, At, Folded, amount, gained, same_location, with_holdings}
+use Rattle.vx_meaning.specs.States.{State, Location, Instance, At, Folded, amount, gained, same_location, with_holdings}
 use Rattle.vx_meaning.specs.Consistent.{total, IsConsistent}
 use Rattle.vx_meaning.specs.Flatten.{IsGrounded}
 use Rattle.vx_meaning.specs.Outcomes.{Ends, FailsAt, Stops, passes, refused, goes_on, is_over}
 use Rattle.vx_meaning.specs.Run.{run_all}
 use Rattle.vx_rules.proofs.Stores.{same_name_is}
 use Rattle.vx_examples.specs.Words.{at}
-use Rattle.vx_examples.specs.Cells.{f, x, y, cell, cells}
+use Rattle.vx_examples.specs.Cells.{f, cell, cells}
 use Rattle.vx_examples.specs.Blocks.{inhales_framed, inhales_too_early, inhales_where, inhales_nowhere, inhales_by_choice, inhales_other_choice, inhales_unread_condition, inhales_instance, inhales_negative}
-use Rattle.vx_examples.specs.Scenes.{half, x_f, a_cell, with_x_f, holding, poor, folder}
-use Rattle.vx_examples.proofs.Checks.{only_ok, only_err, single, alone}
+use Rattle.vx_examples.specs.Scenes.{half, x_f, a_cell, with_x_f, poor}
+use Rattle.vx_examples.proofs.Checks.{alone}
 
 abbrev by : Bool → List Fraction → Fraction
 by b [] = none

@@ -1,5 +1,5 @@
 -- Members that fail, each by the state and the part that shows it.
-use Rattle.std.proofs.Common.{◌≡◌, ℕ, zero, suc, ◌≤◌, pos, negsuc, true, false, Bool, IsTrue, if◌then◌else◌, List, [], ◌∷◌, refl, sym, subst, inl, inr, ◌⊎◌, arith, Some, None, Option, ap, ◌∙◌}
+use Rattle.std.proofs.Common.{◌≡◌, ℕ, zero, suc, pos, true, false, IsTrue, List, [], ◌∷◌, refl, sym, subst, inl, inr, ◌⊎◌, arith, Some, None, Option, ap, ◌∙◌}
 use Rattle.std.specs.Prelude.{Ok, Err, Contains, ◌++◌}
 use Rattle.vx_ast.specs.declared.Place.{Place}
 use Rattle.vx_ast.specs.declared.ValueType.TheVariants.{Int}
@@ -8,17 +8,17 @@ use Rattle.vx_ast.specs.Syntax as syntax
 use Rattle.vx_ast.specs.Syntax.{Program, Function, Name, result_name, Assertion, as_assertion, conjoined, function_named, Assert, Then, Done, Block, Pure, Variable}
 use Rattle.vx_frac.specs.Fractions.{full, is_positive}
 use Rattle.vx_meaning.specs.Values.{Value, IntValue, BoolValue, RefValue, PermValue, type_of}
-use Rattle.vx_meaning.specs.States.{State, Store, Heap, Holdings, Instance, At, Folded, amount, bind, same_location, same_resource, with_store}
-use Rattle.vx_meaning.specs.Consistent.{IsSupported, IsConsistent}
+use Rattle.vx_meaning.specs.States.{State, Store, Heap, Holdings, Instance, At, Folded, amount, bind, with_store}
+use Rattle.vx_meaning.specs.Consistent.{IsSupported}
 use Rattle.vx_meaning.specs.Flatten.{bare, flat, IsInside}
 use Rattle.vx_meaning.specs.Fits.{Checked, take_by}
 use Rattle.vx_meaning.specs.Give.{give}
-use Rattle.vx_meaning.specs.Outcomes.{Outcome, Ends, FailsAt, Stops, passes, refused, goes_on, is_over}
+use Rattle.vx_meaning.specs.Outcomes.{FailsAt, passes, refused, goes_on, is_over}
 use Rattle.vx_meaning.specs.Fails.{MethodFails, precondition, postcondition_unframed, body, postcondition, Measure, Number, Inside, Lowers, LowersMeasure, HasMeasure, measure_by, DoesNotLower, FunctionFails, application_in_body, application_in_postcondition, measure, PredicateFails, Fails, FunctionStarts, with_result}
 use Rattle.vx_meaning.specs.Fails as fails
 use Rattle.vx_examples.specs.Words.{at}
-use Rattle.vx_examples.specs.Failing.{f, n, b, c, x, cell, failing, unframed, failing_unframed, narrow, failing_narrow, divide, failing_divide, promise, failing_promise, rise, failing_rise, unheld, failing_unheld, unmeasured, failing_unmeasured, again, failing_again, wild, failing_wild, stay, failing_stay, fine, failing_fine, demand, failing_demand, vow, failing_vow, claim, failing_claim, give_name, failing_give, failing_cell}
-use Rattle.vx_examples.proofs.Checks.{from_one, only_ok, only_err}
+use Rattle.vx_examples.specs.Failing.{f, n, b, c, x, cell, failing, failing_unframed, narrow, failing_narrow, divide, failing_divide, promise, failing_promise, rise, failing_rise, unheld, failing_unheld, unmeasured, failing_unmeasured, again, failing_again, wild, failing_wild, stay, failing_stay, fine, failing_fine, failing_demand, failing_vow, failing_claim, failing_give, failing_cell}
+use Rattle.vx_examples.proofs.Checks.{only_ok}
 
 -- Methods
 
@@ -109,8 +109,8 @@ unlowered p e s g vs callee m before after named measured is_before is_after not
   by_callee d same has h =
       let em : l.of_callee ≡ m = some_is l.of_callee m (sym has ∙ ap (λ y. y.decreases) same ∙ measured) in
       let ea : measure_by p h.0 (with_store (bind callee.parameters vs) s) m ≡ Some l.after =
-          subst (λ y. measure_by p h.0 (with_store (bind callee.parameters vs) s) y ≡ Some l.after) em
-          (subst (λ y. measure_by p h.0 (with_store (bind y.parameters vs) s) l.of_callee ≡ Some l.after) same h.1) in
+      subst (λ y. measure_by p h.0 (with_store (bind callee.parameters vs) s) y ≡ Some l.after) em
+      (subst (λ y. measure_by p h.0 (with_store (bind y.parameters vs) s) l.of_callee ≡ Some l.after) same h.1) in
       by_measures l.before l.after (some_is l.before before (sym l.before_is.1 ∙ is_before l.before_is.0))
       (some_is l.after after (sym ea ∙ is_after h.0)) l.lowers
 
@@ -118,9 +118,10 @@ pub functions_application : FunctionFails failing rise failing_rise
 functions_application =
     application_in_body (n_is (IntValue (pos 0))) (rise, IntValue (pos 1) ∷ [])
     (IntValue (pos 0) ∷ [], (refl, tt), ([], n_is (IntValue (pos 0)), passes (BoolValue true) (0, λ m le. refl) refl, refl))
-    (0, (0, omega arith, refl))
-    (((1, inl (failing_rise, refl, (0, omega arith, refl))), (1, inl (failing_rise, refl, (0, omega arith, refl)))),
-    λ e h l. unlowered failing _ (n_is (IntValue (pos 0))) rise (IntValue (pos 1) ∷ []) failing_rise _ (Number (pos 0)) (Number (pos 1)) refl refl (λ k. refl) (λ k. refl) (λ r. absurd (omega arith)) (subst (λ y. LowersMeasure failing y (n_is (IntValue (pos 0))) rise (IntValue (pos 1) ∷ [])) (sym (some_is _ e h)) l))
+    (0, (0, omega arith, refl)) (
+      ((1, inl (failing_rise, refl, (0, omega arith, refl))), (1, inl (failing_rise, refl, (0, omega arith, refl)))),
+      λ e h l. unlowered failing _ (n_is (IntValue (pos 0))) rise (IntValue (pos 1) ∷ []) failing_rise _ (Number (pos 0)) (Number (pos 1)) refl refl (λ k. refl) (λ k. refl) (λ r. absurd (omega arith)) (subst (λ y. LowersMeasure failing y (n_is (IntValue (pos 0))) rise (IntValue (pos 1) ∷ [])) (sym (some_is _ e h)) l),
+    )
 
 pub functions_unmeasured_application : FunctionFails failing wild failing_wild
 functions_unmeasured_application =
@@ -128,8 +129,8 @@ functions_unmeasured_application =
     (IntValue (pos 0) ∷ [], (refl, tt), ([], n_is (IntValue (pos 0)), passes (BoolValue true) (0, λ m le. refl) refl, refl))
     (0, (0, omega arith, refl))
     (((1, inl (failing_wild, refl, (0, omega arith, refl))), (1, inl (failing_wild, refl, (0, omega arith, refl)))), λ e h l. no_measure e h) where
-  no_measure : (e : syntax.Measure) → (let o : Option syntax.Measure = None in o) ≡ Some e → ⊥
-  no_measure e h = cc
+      no_measure : (e : syntax.Measure) → (let o : Option syntax.Measure = None in o) ≡ Some e → ⊥
+      no_measure e h = cc
 
 -- Predicates
 
@@ -178,26 +179,28 @@ pub functions_instance_application : FunctionFails failing stay failing_stay
 functions_instance_application =
     application_in_body (from (store_of x (RefValue 1))) (stay, RefValue 1 ∷ [])
     (RefValue 1 ∷ [], (refl, tt), ([], from (store_of x (RefValue 1)), passes (BoolValue true) (0, λ m le. refl) refl, refl))
-    (0, (0, omega arith, refl))
-    (((1, inl (failing_stay, refl, (0, omega arith, refl))), (1, inl (failing_stay, refl, (0, omega arith, refl)))),
-    λ e h l. unlowered failing _ (from (store_of x (RefValue 1))) stay (RefValue 1 ∷ []) failing_stay _ (Inside one_cell) (Inside one_cell) refl refl (λ k. refl) (λ k. refl) not_in_itself (subst (λ y. LowersMeasure failing y (from (store_of x (RefValue 1))) stay (RefValue 1 ∷ [])) (sym (some_is _ e h)) l)) where
-  one_cell : Instance
-  one_cell = record { predicate = cell; arguments = RefValue 1 ∷ [] }
+    (0, (0, omega arith, refl)) (
+      ((1, inl (failing_stay, refl, (0, omega arith, refl))), (1, inl (failing_stay, refl, (0, omega arith, refl)))),
+      λ e h l. unlowered failing _ (from (store_of x (RefValue 1))) stay (RefValue 1 ∷ []) failing_stay _ (Inside one_cell) (Inside one_cell) refl refl (λ k. refl) (λ k. refl) not_in_itself (subst (λ y. LowersMeasure failing y (from (store_of x (RefValue 1))) stay (RefValue 1 ∷ [])) (sym (some_is _ e h)) l),
+    ) where
+      one_cell : Instance
+      one_cell = record { predicate = cell; arguments = RefValue 1 ∷ [] }
 
-  by_flat : (k : ℕ) (inner : Holdings) → flat failing k [] one_cell ≡ Some inner → IsTrue (is_positive (amount inner (Folded one_cell))) → ⊥
-  by_flat zero inner e = absurd (none_is_not inner e)
-  by_flat (suc k) inner e = λ h. not_true (subst (λ z. IsTrue (is_positive (amount z (Folded one_cell)))) (sym (some_is _ inner e)) h)
+      by_flat : (k : ℕ) (inner : Holdings) → flat failing k [] one_cell ≡ Some inner → IsTrue (is_positive (amount inner (Folded one_cell))) → ⊥
+      by_flat zero inner e = absurd (none_is_not inner e)
+      by_flat (suc k) inner e = λ h. not_true (subst (λ z. IsTrue (is_positive (amount z (Folded one_cell)))) (sym (some_is _ inner e)) h)
 
-  not_in_itself : IsInside failing [] one_cell one_cell → ⊥
-  not_in_itself i = by_flat i.0 i.1 i.2 i.3
+      not_in_itself : IsInside failing [] one_cell one_cell → ⊥
+      not_in_itself i = by_flat i.0 i.1 i.2 i.3
 
 pub functions_promise_application : FunctionFails failing again failing_again
 functions_promise_application =
     application_in_postcondition (n_is (IntValue (pos 0))) (IntValue (pos 0)) (again, IntValue (pos 0) ∷ [])
     (IntValue (pos 0) ∷ [], (refl, tt), ([], n_is (IntValue (pos 0)), passes (BoolValue true) (0, λ m le. refl) refl, refl))
-    (0, λ m le. refl) (0, (0, omega arith, refl))
-    (((1, inl (failing_again, refl, (0, omega arith, refl))), (1, inl (failing_again, refl, (0, omega arith, refl)))),
-    λ e h l. unlowered failing _ (n_is (IntValue (pos 0))) again (IntValue (pos 0) ∷ []) failing_again _ (Number (pos 0)) (Number (pos 0)) refl refl (λ k. refl) (λ k. refl) (λ r. absurd (omega arith)) (subst (λ y. LowersMeasure failing y (n_is (IntValue (pos 0))) again (IntValue (pos 0) ∷ [])) (sym (some_is _ e h)) l))
+    (0, λ m le. refl) (0, (0, omega arith, refl)) (
+      ((1, inl (failing_again, refl, (0, omega arith, refl))), (1, inl (failing_again, refl, (0, omega arith, refl)))),
+      λ e h l. unlowered failing _ (n_is (IntValue (pos 0))) again (IntValue (pos 0) ∷ []) failing_again _ (Number (pos 0)) (Number (pos 0)) refl refl (λ k. refl) (λ k. refl) (λ r. absurd (omega arith)) (subst (λ y. LowersMeasure failing y (n_is (IntValue (pos 0))) again (IntValue (pos 0) ∷ [])) (sym (some_is _ e h)) l),
+    )
 
 -- A function that never fails
 

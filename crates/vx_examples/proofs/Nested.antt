@@ -1,13 +1,13 @@
 -- Instances and what lies inside them.
-use Rattle.std.proofs.Common.{◌≡◌, ℕ, zero, suc, pos, true, false, Bool, IsTrue, if◌then◌else◌, List, [], ◌∷◌, refl, sym, subst, inl, inr, ◌⊎◌, arith, Some, None, Option, ap, ◌∙◌}
+use Rattle.std.proofs.Common.{◌≡◌, ℕ, zero, suc, pos, true, false, Bool, IsTrue, if◌then◌else◌, List, [], ◌∷◌, refl, sym, subst, Some, None, Option, ◌∙◌}
 use Rattle.vx_frac.specs.Fractions.{Fraction, full, none, sum, product, is_positive, at_most}
-use Rattle.vx_meaning.specs.Values.{Value, IntValue, RefValue}
-use Rattle.vx_meaning.specs.States.{State, Holdings, Location, Instance, At, Folded, amount, same_location, same_resource}
+use Rattle.vx_meaning.specs.Values.{IntValue, RefValue}
+use Rattle.vx_meaning.specs.States.{Holdings, Instance, At, Folded, amount, same_location}
 use Rattle.vx_meaning.specs.Flatten.{flat, IsGrounded, IsInside}
 use Rattle.vx_meaning.specs.Fails.{Inside, LowersMeasure}
-use Rattle.vx_meaning.specs.Consistent.{total, IsHeld, IsSupported, IsConsistent, Changes}
+use Rattle.vx_meaning.specs.Consistent.{IsHeld, IsConsistent, Changes}
 use Rattle.vx_examples.specs.Functions.{length, lengths, lengths_length}
-use Rattle.vx_examples.specs.Cells.{f, x, y, cells}
+use Rattle.vx_examples.specs.Cells.{f, cells}
 use Rattle.vx_examples.specs.Scenes.{half, x_f, a_cell, with_x_f, holding, poor, owner, folder, next_of, list_at, two_nodes, round, at_first, list_of_x}
 
 pub grounding_last : IsGrounded lengths two_nodes (list_at 2)

@@ -1,11 +1,10 @@
 -- The failing runs of programs whose walks fail, at the same places.
-use Rattle.std.proofs.Common.{◌≡◌, ℕ, zero, suc, pos, negsuc, true, false, Bool, IsTrue, if◌then◌else◌, List, [], ◌∷◌, refl, sym, subst, inl, inr, arith, Some}
+use Rattle.std.proofs.Common.{pos, negsuc, true, false, Bool, IsTrue, if◌then◌else◌, List, [], ◌∷◌, refl, sym, subst, inl, arith}
 use Rattle.vx_ast.specs.Syntax.{Program}
 use Rattle.vx_frac.specs.Fractions.{Fraction, full, none, sum, minus, product, is_positive, at_most}
-use Rattle.vx_meaning.specs.Values.{Value, IntValue, BoolValue, RefValue}
+use Rattle.vx_meaning.specs.Values.{IntValue, BoolValue, RefValue}
 use Rattle.vx_meaning.specs.States.{State, Store, Heap, Holdings, Location, At, Folded, gained, lost, same_location}
-use Rattle.vx_meaning.specs.Consistent.{IsSupported, IsConsistent, Changes}
-use Rattle.vx_meaning.specs.Flatten.{bare}
+use Rattle.vx_meaning.specs.Consistent.{IsConsistent, Changes}
 use Rattle.vx_meaning.specs.Outcomes.{passes, refused, goes_on, is_over}
 use Rattle.vx_meaning.specs.Fails.{MethodFails, body, FunctionFails, application_in_body, PredicateFails, Number}
 use Rattle.vx_meaning.specs.Fails as fails
@@ -13,7 +12,6 @@ use Rattle.vx_examples.specs.Words.{at}
 use Rattle.vx_examples.specs.Fields.{f, x, y, exhaled_twice, exhaled_twice_m, maybe_same, maybe_same_m, forgotten, forgotten_m, half_write, half_write_m}
 use Rattle.vx_examples.specs.Loops as loops
 use Rattle.vx_examples.specs.Loops.{counting_from_any, counting_from_any_count}
-use Rattle.vx_examples.specs.Calls as calls
 use Rattle.vx_examples.specs.Calls.{called_bare, called_bare_m}
 use Rattle.vx_examples.specs.Predicates as predicates
 use Rattle.vx_examples.specs.Predicates.{folded_write, folded_write_m, unframed, unframed_Q}
@@ -92,9 +90,18 @@ halves_can_be = record { supported = record { grounded = λ i e. absurd (not_tru
 
 pub failing_rows_maybe_same : MethodFails maybe_same maybe_same_m (at 5 8)
 failing_rows_maybe_same =
-    body (record two_halves { old_holdings = two_halves.holdings }) _
-    (RefValue 1 ∷ RefValue 1 ∷ [], [], (refl, (refl, tt)), tt, ([], two_halves,
-    goes_on one_half (passes (At one_f, half) (0, λ m le. refl) (inl (half_can_be, refl))) (passes (At one_f, half) (0, λ m le. refl) (inl (halves_can_be, refl))), refl))
+    body (record two_halves { old_holdings = two_halves.holdings }) _ (
+      RefValue 1 ∷ RefValue 1 ∷ [],
+      [],
+      (refl, (refl, tt)),
+      tt,
+      (
+        [],
+        two_halves,
+        goes_on one_half (passes (At one_f, half) (0, λ m le. refl) (inl (half_can_be, refl))) (passes (At one_f, half) (0, λ m le. refl) (inl (halves_can_be, refl))),
+        refl,
+      ),
+    )
     refl (is_over tt (refused (at 5 8) (0, λ m le. refl) refl))
 
 -- A value is forgotten
@@ -193,7 +200,8 @@ pub failing_rows_rising : FunctionFails rising functions.f rising_f
 failing_rows_rising =
     application_in_body n_is_zero (functions.f, IntValue (pos 1) ∷ [])
     (IntValue (pos 0) ∷ [], (refl, tt), ([], n_is_zero, passes (BoolValue true) (0, λ m le. refl) refl, refl))
-    (0, (0, omega arith, refl))
-    (((1, inl (rising_f, refl, (0, omega arith, refl))), (1, inl (rising_f, refl, (0, omega arith, refl)))),
-    λ e h l. unlowered rising _ n_is_zero functions.f (IntValue (pos 1) ∷ []) rising_f _ (Number (pos 0)) (Number (pos 1)) refl refl (λ k. refl) (λ k. refl) (λ r. absurd (omega arith))
-    (subst (λ z. fails.LowersMeasure rising z n_is_zero functions.f (IntValue (pos 1) ∷ [])) (sym (some_is _ e h)) l))
+    (0, (0, omega arith, refl)) (
+      ((1, inl (rising_f, refl, (0, omega arith, refl))), (1, inl (rising_f, refl, (0, omega arith, refl)))),
+      λ e h l. unlowered rising _ n_is_zero functions.f (IntValue (pos 1) ∷ []) rising_f _ (Number (pos 0)) (Number (pos 1)) refl refl (λ k. refl) (λ k. refl) (λ r. absurd (omega arith))
+          (subst (λ z. fails.LowersMeasure rising z n_is_zero functions.f (IntValue (pos 1) ∷ [])) (sym (some_is _ e h)) l),
+    )

@@ -1,15 +1,15 @@
 -- Stores that differ, references that are not new, and groups of functions.
-use Rattle.std.proofs.Common.{◌≡◌, ℕ, zero, suc, pos, true, false, Bool, IsTrue, List, [], ◌∷◌, ◌++◌, refl, sym, subst, inl, inr, ◌⊎◌, arith, Some, Option, ap, ◌∙◌}
+use Rattle.std.proofs.Common.{◌≡◌, ℕ, zero, suc, pos, true, false, IsTrue, List, [], ◌∷◌, ◌++◌, refl, sym, subst, inl, inr, ◌⊎◌, arith, Some, Option}
 use Rattle.std.specs.Prelude.{Contains, flat_map}
 use Rattle.vx_ast.specs.declared.ValueType.TheVariants.{Int}
 use Rattle.vx_ast.specs.declared.ValueType.TheVariants as type
-use Rattle.vx_ast.specs.Syntax.{Name, Function, function_named}
+use Rattle.vx_ast.specs.Syntax.{Name, Function}
 use Rattle.vx_ast.specs.Mentions.{mentioned, mentioned_by}
-use Rattle.vx_meaning.specs.Values.{Value, IntValue, BoolValue, RefValue}
+use Rattle.vx_meaning.specs.Values.{IntValue, BoolValue, RefValue}
 use Rattle.vx_meaning.specs.States.{HaveTypes}
 use Rattle.vx_meaning.specs.Run.{IsFresh, DiffersAt}
 use Rattle.vx_meaning.specs.Group.{Mentions, ReachesBy, Reaches, InGroup}
-use Rattle.vx_examples.specs.Cells.{f, x, y, cells, cells_read}
+use Rattle.vx_examples.specs.Cells.{x, y, cells, cells_read}
 use Rattle.vx_examples.specs.Scenes.{with_y, owner}
 use Rattle.vx_examples.specs.Applications.{applications, even, odd, double, get, applications_even, applications_odd, applications_double, applications_get}
 

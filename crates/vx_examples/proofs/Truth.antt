@@ -1,8 +1,7 @@
 -- What is true, and what can be, under interpretations.
-use Rattle.std.proofs.Common.{◌≡◌, Bool, true, false, [], ◌∷◌, refl, sym, ◌∙◌}
+use Rattle.std.proofs.Common.{◌≡◌, Bool, true, false, [], ◌∷◌, refl}
 use Rattle.std.specs.Prelude.{not}
-use Rattle.vx_terms.specs.Interpretations.{Interpretation, IsTrueIn, AllTrue, IsSatisfiable, IsUnsatisfiable, IsOf, IntElement, BoolElement, RealElement, TreeElement, Empty, value, as_bool}
-use Rattle.vx_terms.specs.Sorts.{IntSort, RealSort, RefSort}
+use Rattle.vx_terms.specs.Interpretations.{IsTrueIn, IsSatisfiable, IsUnsatisfiable}
 use Rattle.vx_examples.specs.Words.{int, bool, number, falsity, denied, less}
 use Rattle.vx_examples.specs.Interpreted.{some}
 

@@ -1,13 +1,12 @@
 -- Assertions, and what is held once they are added, or the place of the first part that is not allowed; whether they are true is not asked.
-use Rattle.vx_ast.specs.Syntax.{Name, Assertion, Expr, Both, Chosen, Divide, Equal, Implied, Instance, More, NoMore, Null, Number, Operate, Part, Points, Pure, Quotient, Read, Subtract, Truth, Variable}
+use Rattle.vx_ast.specs.Syntax.{Assertion, Both, Chosen, Divide, Equal, Implied, Instance, More, NoMore, Null, Number, Operate, Part, Points, Pure, Quotient, Read, Subtract, Truth, Variable}
 use Rattle.vx_examples.specs.Words.{at}
 use Rattle.vx_examples.specs.Cells.{cell, f, x, y}
-use Rattle.std.specs.Prelude.{true, false, pos, List, [], ◌∷◌, Ok, Err, codes}
-use Rattle.vx_frac.specs.Fractions.{full, none, product}
+use Rattle.std.specs.Prelude.{true, false, List, [], ◌∷◌, Ok, Err}
+use Rattle.vx_frac.specs.Fractions.{full, product}
 use Rattle.vx_meaning.specs.States.{Location, Holdings, At, Folded, gained}
 use Rattle.vx_meaning.specs.Fits.{Checked}
 use Rattle.vx_examples.specs.Scenes.{half, x_f, a_cell, owner}
-
 
 abbrev pub null_f : Location
 null_f = record { receiver = 0; field = f }

@@ -2,7 +2,7 @@
 use Rattle.vx_ast.specs.Syntax.{Name, Expr, Add, And, Apply, Choose, Connect, Divide, Equal, Implies, More, Multiply, NoMore, Not, Null, Number, Old, Operate, Or, Part, Quotient, Read, Truth, Unfolding, Variable}
 use Rattle.vx_examples.specs.Words.{at}
 use Rattle.vx_examples.specs.Cells.{cell, f, get, hidden, x, y}
-use Rattle.std.specs.Prelude.{true, false, pos, negsuc, List, [], ◌∷◌, Ok, Err, codes}
+use Rattle.std.specs.Prelude.{true, false, pos, List, [], ◌∷◌, Ok, Err, codes}
 use Rattle.vx_meaning.specs.Values.{Value, IntValue, BoolValue, RefValue, PermValue}
 use Rattle.vx_meaning.specs.Fits.{Checked}
 

@@ -1,5 +1,5 @@
 -- A second program with a member for each branch of the rules.
-use Rattle.std.specs.Prelude.{true, false, List, [], ◌∷◌, Some, None, codes}
+use Rattle.std.specs.Prelude.{true, false, [], ◌∷◌, Some, None, codes}
 use Rattle.vx_ast.specs.declared.ValueType.TheVariants.{Int, Perm}
 use Rattle.vx_ast.specs.declared.ValueType.TheVariants as type
 use Rattle.vx_ast.specs.Syntax.{Name, Add, Apply, Assert, Assign, Both, ByNumber, Choose, Connect, Declare, Done, Equal, Exhale, Fold, Function, Greater, Implied, Implies, Inhale, Instance, IsField, IsFunction, IsMethod, IsPredicate, Less, LessEqual, Method, More, NoMore, Not, Null, Number, Operate, Part, Points, Predicate, Program, Pure, Read, Subtract, Then, Truth, Unfold, Variable, While, result_name}

@@ -1,7 +1,6 @@
 -- Blocks of statements, one a line.
-use Rattle.std.specs.Prelude.{true, false, List, [], ◌∷◌, Some, None, codes}
-use Rattle.vx_ast.specs.declared.ValueType.TheVariants.{Int, Perm}
-use Rattle.vx_ast.specs.declared.ValueType.TheVariants as type
+use Rattle.std.specs.Prelude.{false, [], ◌∷◌, codes}
+use Rattle.vx_ast.specs.declared.ValueType.TheVariants.{Int}
 use Rattle.vx_ast.specs.Syntax.{Name, Add, Assert, Assign, Assume, Block, Both, Call, Chosen, Declare, Done, Equal, Exhale, Fold, If, Implied, Inhale, Instance, Less, LessEqual, More, New, NoMore, Null, Number, Operate, Part, Points, Pure, Read, Subtract, Then, Truth, Unfold, Variable, While, Write}
 use Rattle.vx_examples.specs.Words.{at}
 use Rattle.vx_examples.specs.Cells.{cell, f, hidden, never, read_name, unframed, x, y}

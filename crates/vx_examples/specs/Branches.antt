@@ -1,5 +1,5 @@
 -- A program with a member for each branch of the rules.
-use Rattle.std.specs.Prelude.{true, false, List, [], ◌∷◌, Some, None, codes}
+use Rattle.std.specs.Prelude.{true, [], ◌∷◌, Some, None, codes}
 use Rattle.vx_ast.specs.declared.ValueType.TheVariants.{Int, Perm}
 use Rattle.vx_ast.specs.declared.ValueType.TheVariants as type
 use Rattle.vx_ast.specs.Syntax.{Name, Add, And, Apply, Assert, Assume, Both, ByInstance, Call, Choose, Chosen, Connect, Declare, Divide, Done, Equal, Exhale, Fold, Function, Greater, If, Implied, Implies, Inhale, Instance, IsField, IsFunction, IsMethod, IsPredicate, Less, Method, More, New, NoMore, Not, Number, Old, Operate, Or, Part, Points, Predicate, Program, Pure, Quotient, Read, Remainder, Then, Truth, Unfold, Unfolding, Variable, While, Write}

@@ -1,12 +1,11 @@
 -- Assertions and their entries; nothing where a part is not true or has no value.
-use Rattle.vx_ast.specs.Syntax.{Name, Assertion, Expr, Apply, Both, Chosen, Divide, Equal, Implied, Instance, More, NoMore, Number, Operate, Part, Points, Pure, Quotient, Read, Truth, Variable}
+use Rattle.vx_ast.specs.Syntax.{Assertion, Apply, Both, Chosen, Divide, Equal, Implied, Instance, More, NoMore, Number, Operate, Part, Points, Pure, Quotient, Read, Truth, Variable}
 use Rattle.vx_examples.specs.Words.{at}
 use Rattle.vx_examples.specs.Cells.{cell, f, get, x, y}
-use Rattle.std.specs.Prelude.{true, false, pos, List, [], ◌∷◌, Option, Some, None, codes}
+use Rattle.std.specs.Prelude.{true, false, List, [], ◌∷◌, Option, Some, None}
 use Rattle.vx_frac.specs.Fractions.{full}
 use Rattle.vx_meaning.specs.States.{Holdings, At, Folded}
 use Rattle.vx_examples.specs.Scenes.{half, x_f, a_cell}
-
 
 -- the entries of an assertion, where x is the reference 1, y is 0 and x.f is 5
 abbrev pub inside : List (Assertion × Option Holdings)

@@ -1,8 +1,7 @@
 -- Terms and their elements under one interpretation.
-use Rattle.std.specs.Prelude.{zero, suc, Bool, true, false, ℤ, pos, negsuc, List, [], ◌∷◌}
+use Rattle.std.specs.Prelude.{zero, suc, Bool, true, false, pos, negsuc, List, [], ◌∷◌}
 use Rattle.vx_frac.specs.Fractions.{Fraction}
-use Rattle.vx_terms.specs.Sorts as sort
-use Rattle.vx_terms.specs.Sorts.{Sort, IntSort, BoolSort, RealSort, RefSort, SnapSort, OtherSort, Symbol, Standard, Variable, Function}
+use Rattle.vx_terms.specs.Sorts.{IntSort, OtherSort, Symbol, Standard, Variable, Function}
 use Rattle.vx_terms.specs.Terms as term
 use Rattle.vx_terms.specs.Terms.{Term, Terms, NoTerms, MoreTerms}
 use Rattle.vx_terms.specs.Interpretations.{Tree, Empty, IntLeaf, BoolLeaf, RefLeaf, PermLeaf, Pair, Element, IntElement, BoolElement, RealElement, TreeElement, as_tree, Interpretation}

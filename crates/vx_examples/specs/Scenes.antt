@@ -1,7 +1,7 @@
 -- States from which the examples run: x is the reference 1, y is 0, and x.f is 5.
-use Rattle.std.specs.Prelude.{ℕ, ℤ, pos, List, [], ◌∷◌}
+use Rattle.std.specs.Prelude.{ℕ, ℤ, pos, [], ◌∷◌}
 use Rattle.vx_frac.specs.Fractions.{Fraction, full}
-use Rattle.vx_meaning.specs.Values.{Value, IntValue, RefValue}
+use Rattle.vx_meaning.specs.Values.{IntValue, RefValue}
 use Rattle.vx_meaning.specs.States.{Store, Heap, Holdings, State, Location, Instance, At, Folded}
 use Rattle.vx_ast.specs.Syntax.{Measure, ByInstance, More, NoMore, Variable}
 use Rattle.vx_examples.specs.Words.{at}

@@ -1,5 +1,5 @@
 -- What the constructors of terms make, beside the term that it is: each simplification, and a case next to it that stays as it is.
-use Rattle.std.specs.Prelude.{ℕ, ◌-◌, ◌^◌, true, false, ℤ, pos, negsuc, List, [], ◌∷◌}
+use Rattle.std.specs.Prelude.{ℕ, ◌-◌, ◌^◌, true, pos, negsuc, List, [], ◌∷◌}
 use Rattle.vx_terms.specs.Sorts.{IntSort, BoolSort, RealSort, RefSort, SnapSort}
 use Rattle.vx_terms.specs.Terms.{Term, NoTerms, MoreTerms}
 use Rattle.vx_terms.specs.Terms as term

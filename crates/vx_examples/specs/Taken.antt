@@ -1,13 +1,12 @@
 -- Assertions, and what is left once they are taken, or the place of the first part that is not held or not true.
-use Rattle.vx_ast.specs.Syntax.{Name, Assertion, Expr, Both, Chosen, Divide, Equal, Implied, Instance, More, Multiply, NoMore, Null, Number, Operate, Part, Points, Pure, Quotient, Read, Subtract, Truth, Unfolding, Variable}
+use Rattle.vx_ast.specs.Syntax.{Assertion, Both, Chosen, Divide, Equal, Implied, Instance, More, Multiply, NoMore, Null, Number, Operate, Part, Points, Pure, Quotient, Read, Subtract, Truth, Unfolding, Variable}
 use Rattle.vx_examples.specs.Words.{at}
 use Rattle.vx_examples.specs.Cells.{cell, f, x, y}
-use Rattle.std.specs.Prelude.{true, false, pos, List, [], ◌∷◌, Ok, Err, codes}
+use Rattle.std.specs.Prelude.{true, false, List, [], ◌∷◌, Ok, Err}
 use Rattle.vx_frac.specs.Fractions.{full, none, product}
 use Rattle.vx_meaning.specs.States.{Holdings, At, Folded, lost}
 use Rattle.vx_meaning.specs.Fits.{Checked}
 use Rattle.vx_examples.specs.Scenes.{half, x_f, a_cell, owner, folder}
-
 
 -- what is taken where all of x.f is held
 abbrev pub taken_from_owner : List (Assertion × Checked Holdings)

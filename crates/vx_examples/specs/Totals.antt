@@ -1,9 +1,8 @@
 -- Expressions without a field read, application, `\`, `%` or `unfolding`, and others.
-use Rattle.vx_ast.specs.Syntax.{Name, Expr, Add, And, Apply, Choose, Connect, Divide, Equal, More, NoMore, Not, Null, Number, Old, Operate, Part, Quotient, Read, Remainder, Truth, Unfolding, Variable}
+use Rattle.vx_ast.specs.Syntax.{Expr, Add, And, Apply, Choose, Connect, Divide, Equal, More, NoMore, Not, Null, Number, Old, Operate, Part, Quotient, Read, Remainder, Truth, Unfolding, Variable}
 use Rattle.vx_examples.specs.Words.{at}
 use Rattle.vx_examples.specs.Cells.{cell, f, get, x, y}
-use Rattle.std.specs.Prelude.{Bool, true, false, List, [], ◌∷◌, codes}
-
+use Rattle.std.specs.Prelude.{Bool, true, false, List, [], ◌∷◌}
 
 -- expressions, and whether they are total
 abbrev pub totals : List (Expr × Bool)

@@ -1,11 +1,11 @@
 -- Small trees, and the parts of symbolic states.
-use Rattle.std.specs.Prelude.{ℕ, true, false, pos, List, [], ◌∷◌, None, codes}
+use Rattle.std.specs.Prelude.{true, false, pos, [], ◌∷◌, codes}
 use Rattle.vx_ast.specs.Syntax.{Name}
 use Rattle.vx_terms.specs.Terms.{Term}
 use Rattle.vx_rules.specs.States.{Entry, Chunk, Heap, State}
 use Rattle.vx_rules.specs.Trees.{Question, Tree, End, On, Step, Ask, Probe, Fork, AssertCode, PermissionCode}
 use Rattle.vx_rules.specs.Members.{blank}
-use Rattle.vx_examples.specs.Words.{at, int, bool, ref, snap, none, all, asks, probes, part, denied, number}
+use Rattle.vx_examples.specs.Words.{at, int, bool, ref, snap, all, asks, probes, part, denied, number}
 
 abbrev pub first_ask : Question
 first_ask = asks (at 1 1) AssertCode [] (bool 1)

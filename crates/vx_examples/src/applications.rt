@@ -15,11 +15,9 @@ pub fn other_groups()
 /// A function reads what its precondition holds.
 #[tactic(auto, unfolding(vx_frac::specs::Fractions::lowest))]
 pub fn function_bodies()
-    ensures where_same {
-        questions_of applications where_same ≡
+    ensures where_same { questions_of applications where_same ≡
         probes (at 6 71) PermissionCode (equal (int 3) (as_int (snap 2)) ∷ equal (snap 2) (wrapped_int (int 3)) ∷ differ (ref 0) null ∷ equal (ref 1) (ref 0) ∷ []) (equal (ref 0) (ref 1))
-        ∷ asks (at 6 71) PermissionCode (equal (int 3) (as_int (snap 2)) ∷ equal (snap 2) (wrapped_int (int 3)) ∷ differ (ref 0) null ∷ equal (ref 1) (ref 0) ∷ []) falsity ∷ []
-    }
+        ∷ asks (at 6 71) PermissionCode (equal (int 3) (as_int (snap 2)) ∷ equal (snap 2) (wrapped_int (int 3)) ∷ differ (ref 0) null ∷ equal (ref 1) (ref 0) ∷ []) falsity ∷ [] }
     ensures unheld_part { questions_of applications unheld_part ≡ asks (at 21 37) PermissionCode (equal (snap 1) unit ∷ []) falsity ∷ [] }
 {}
 
@@ -32,11 +30,9 @@ pub fn dropped_sides()
 /// Each of two functions that apply one another has a lesser measure there.
 #[tactic(auto, unfolding(vx_frac::specs::Fractions::lowest))]
 pub fn mutual_measures()
-    ensures even {
-        questions_of applications even ≡
+    ensures even { questions_of applications even ≡
         asks (at 7 75) FunctionCode (at_most (number 0) (int 0) ∷ equal (snap 1) unit ∷ differ (int 0) (number 0) ∷ []) (at_most (number 0) (minus (int 0) (number 1)))
-        ∷ asks (at 7 75) MeasureCode (at_most (number 0) (int 0) ∷ equal (snap 1) unit ∷ differ (int 0) (number 0) ∷ at_most (number 0) (minus (int 0) (number 1)) ∷ []) (both (at_most (number 0) (int 0)) (less (minus (int 0) (number 1)) (int 0))) ∷ []
-    }
+        ∷ asks (at 7 75) MeasureCode (at_most (number 0) (int 0) ∷ equal (snap 1) unit ∷ differ (int 0) (number 0) ∷ at_most (number 0) (minus (int 0) (number 1)) ∷ []) (both (at_most (number 0) (int 0)) (less (minus (int 0) (number 1)) (int 0))) ∷ [] }
 {}
 
 /// A postcondition is asked of the value.
@@ -49,11 +45,9 @@ pub fn function_promises()
 /// An application asks for the precondition, and tells the body and the postcondition.
 #[tactic(auto, unfolding(vx_frac::specs::Fractions::lowest))]
 pub fn told_facts()
-    ensures uses_promise {
-        questions_of applications uses_promise ≡
+    ensures uses_promise { questions_of applications uses_promise ≡
         asks (at 20 53) FunctionCode (less (number 5) (int 0) ∷ []) (less (number 0) (int 0))
-        ∷ asks (at 20 53) AssertCode (less (number 5) (int 0) ∷ less (number 0) (int 0) ∷ equal (low_at unit (int 0)) (plus (int 0) (number 1)) ∷ less (number 1) (low_at unit (int 0)) ∷ []) (less (number 1) (low_at unit (int 0))) ∷ []
-    }
+        ∷ asks (at 20 53) AssertCode (less (number 5) (int 0) ∷ less (number 0) (int 0) ∷ equal (low_at unit (int 0)) (plus (int 0) (number 1)) ∷ less (number 1) (low_at unit (int 0)) ∷ []) (less (number 1) (low_at unit (int 0))) ∷ [] }
 {}
 
 /// A fold says what is built, inner parts first.

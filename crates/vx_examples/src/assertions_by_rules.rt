@@ -9,21 +9,17 @@ ghost use Rattle.vx_examples.specs.Branches.{branches, conditional, chosen, amou
 #[tactic(auto, unfolding(vx_frac::specs::Fractions::lowest))]
 pub fn conditions()
     ensures conditional { questions_of branches conditional ≡ [] }
-    ensures chosen {
-        questions_of branches chosen ≡
+    ensures chosen { questions_of branches chosen ≡
         probes (at 16 77) PermissionCode (denied (bool 1) ∷ differ (ref 0) null ∷ []) falsity
-        ∷ asks (at 16 77) PermissionCode (denied (bool 1) ∷ differ (ref 0) null ∷ []) falsity ∷ []
-    }
+        ∷ asks (at 16 77) PermissionCode (denied (bool 1) ∷ differ (ref 0) null ∷ []) falsity ∷ [] }
 {}
 
 /// An amount that is not literal is asked not to be below none, and bounded where it is put.
 #[tactic(auto, unfolding(vx_frac::specs::Fractions::lowest))]
 pub fn amounts_asked()
-    ensures amounts {
-        questions_of branches amounts ≡
+    ensures amounts { questions_of branches amounts ≡
         asks (at 17 42) AmountCode [] (at_most none (real 1))
-        ∷ asks (at 17 61) AmountCode (at_most none (real 1) ∷ implied (less none (real 1)) (differ (ref 0) null) ∷ at_most (real 1) all ∷ []) (at_most none (real 1)) ∷ []
-    }
+        ∷ asks (at 17 61) AmountCode (at_most none (real 1) ∷ implied (less none (real 1)) (differ (ref 0) null) ∷ at_most (real 1) all ∷ []) (at_most none (real 1)) ∷ [] }
 {}
 
 /// In a predicate the amounts are not bounded.
@@ -47,14 +43,10 @@ pub fn merged_instances()
 /// An instance with other arguments is probed, and last is asked that none is wanted.
 #[tactic(auto, unfolding(vx_frac::specs::Fractions::lowest))]
 pub fn other_arguments()
-    ensures takes_other {
-        questions_of branches takes_other ≡
+    ensures takes_other { questions_of branches takes_other ≡
         probes (at 34 62) PermissionCode [] (equal (ref 0) (ref 1))
-        ∷ asks (at 34 62) PermissionCode [] falsity ∷ []
-    }
-    ensures takes_two {
-        questions_of branches takes_two ≡
+        ∷ asks (at 34 62) PermissionCode [] falsity ∷ [] }
+    ensures takes_two { questions_of branches takes_two ≡
         probes (at 35 70) PermissionCode [] (both (equal (ref 0) (ref 2)) (equal (ref 1) (ref 0)))
-        ∷ asks (at 35 70) PermissionCode [] falsity ∷ []
-    }
+        ∷ asks (at 35 70) PermissionCode [] falsity ∷ [] }
 {}

@@ -8,62 +8,48 @@ ghost use Rattle.vx_examples.specs.Branches.{branches, quotients, total, right_o
 /// A divisor is asked not to be 0, each time.
 #[tactic(auto, unfolding(vx_frac::specs::Fractions::lowest))]
 pub fn divisors()
-    ensures quotients {
-        questions_of branches quotients ≡
+    ensures quotients { questions_of branches quotients ≡
         asks (at 5 43) DivisorCode [] (differ (int 1) (number 0))
         ∷ asks (at 5 52) DivisorCode (differ (int 1) (number 0) ∷ []) (differ (int 1) (number 0))
-        ∷ asks (at 5 43) AssertCode (differ (int 1) (number 0) ∷ []) (equal (quotient (int 0) (int 1)) (remainder (int 0) (int 1))) ∷ []
-    }
+        ∷ asks (at 5 43) AssertCode (differ (int 1) (number 0) ∷ []) (equal (quotient (int 0) (int 1)) (remainder (int 0) (int 1))) ∷ [] }
 {}
 
 /// Total parts are one term.
 #[tactic(auto, unfolding(vx_frac::specs::Fractions::lowest))]
 pub fn total_parts()
-    ensures total {
-        questions_of branches total ≡
+    ensures total { questions_of branches total ≡
         asks (at 6 41) AssertCode [] (either (bool 0) (bool 1))
         ∷ asks (at 6 55) AssertCode (either (bool 0) (bool 1) ∷ []) (denied (both (bool 0) (bool 1)))
-        ∷ asks (at 6 72) AssertCode (either (bool 0) (bool 1) ∷ denied (both (bool 0) (bool 1)) ∷ []) (chosen_term (bool 0) (bool 1) (bool 0)) ∷ []
-    }
+        ∷ asks (at 6 72) AssertCode (either (bool 0) (bool 1) ∷ denied (both (bool 0) (bool 1)) ∷ []) (chosen_term (bool 0) (bool 1) (bool 0)) ∷ [] }
 {}
 
 /// Only the side that needs the right part evaluates it.
 #[tactic(auto, unfolding(vx_frac::specs::Fractions::lowest))]
 pub fn right_parts()
-    ensures right_of_and {
-        questions_of branches right_of_and ≡
+    ensures right_of_and { questions_of branches right_of_and ≡
         asks (at 7 54) DivisorCode (bool 0 ∷ []) (differ (int 1) (number 0))
-        ∷ asks (at 7 47) AssertCode (bool 0 ∷ differ (int 1) (number 0) ∷ []) (differ (quotient (number 1) (int 1)) (number 1)) ∷ []
-    }
-    ensures right_of_or {
-        questions_of branches right_of_or ≡
+        ∷ asks (at 7 47) AssertCode (bool 0 ∷ differ (int 1) (number 0) ∷ []) (differ (quotient (number 1) (int 1)) (number 1)) ∷ [] }
+    ensures right_of_or { questions_of branches right_of_or ≡
         asks (at 8 51) DivisorCode (denied (bool 0) ∷ []) (differ (int 1) (number 0))
-        ∷ asks (at 8 46) AssertCode (denied (bool 0) ∷ differ (int 1) (number 0) ∷ []) (equal (quotient (number 1) (int 1)) (number 1)) ∷ []
-    }
-    ensures right_of_implies {
-        questions_of branches right_of_implies ≡
+        ∷ asks (at 8 46) AssertCode (denied (bool 0) ∷ differ (int 1) (number 0) ∷ []) (equal (quotient (number 1) (int 1)) (number 1)) ∷ [] }
+    ensures right_of_implies { questions_of branches right_of_implies ≡
         asks (at 9 57) DivisorCode (bool 0 ∷ []) (differ (int 1) (number 0))
-        ∷ asks (at 9 51) AssertCode (bool 0 ∷ differ (int 1) (number 0) ∷ []) (equal (quotient (number 1) (int 1)) (number 1)) ∷ []
-    }
-    ensures sides_of_choice {
-        questions_of branches sides_of_choice ≡
+        ∷ asks (at 9 51) AssertCode (bool 0 ∷ differ (int 1) (number 0) ∷ []) (equal (quotient (number 1) (int 1)) (number 1)) ∷ [] }
+    ensures sides_of_choice { questions_of branches sides_of_choice ≡
         asks (at 10 55) DivisorCode (bool 0 ∷ []) (differ (int 1) (number 0))
         ∷ asks (at 10 50) AssertCode (bool 0 ∷ differ (int 1) (number 0) ∷ []) (equal (quotient (number 1) (int 1)) (number 1))
-        ∷ asks (at 10 50) AssertCode (denied (bool 0) ∷ []) (equal (int 1) (number 1)) ∷ []
-    }
+        ∷ asks (at 10 50) AssertCode (denied (bool 0) ∷ []) (equal (int 1) (number 1)) ∷ [] }
 {}
 
 /// A read probes the chunks in their order, and last asks for none.
 #[tactic(auto, unfolding(vx_frac::specs::Fractions::lowest))]
 pub fn reads()
-    ensures candidates_in_order {
-        questions_of branches candidates_in_order ≡
+    ensures candidates_in_order { questions_of branches candidates_in_order ≡
         probes (at 11 101) PermissionCode (differ (ref 0) null ∷ differ (ref 1) null ∷ []) (equal (ref 0) (ref 2))
         ∷ asks (at 11 101) AssertCode (differ (ref 0) null ∷ differ (ref 1) null ∷ []) (equal (int 3) (number 0))
         ∷ probes (at 11 101) PermissionCode (differ (ref 0) null ∷ differ (ref 1) null ∷ []) (equal (ref 1) (ref 2))
         ∷ asks (at 11 101) AssertCode (differ (ref 0) null ∷ differ (ref 1) null ∷ []) (equal (int 4) (number 0))
-        ∷ asks (at 11 101) PermissionCode (differ (ref 0) null ∷ differ (ref 1) null ∷ []) falsity ∷ []
-    }
+        ∷ asks (at 11 101) PermissionCode (differ (ref 0) null ∷ differ (ref 1) null ∷ []) falsity ∷ [] }
 {}
 
 /// An unfolding reads what is in the body by the snapshot, and leaves the instance.

@@ -53,11 +53,9 @@ pub fn snapshots()
     ensures not_split { rules.with_split None scene ≡ scene }
     ensures with_unit { (rules.with_unit (Some (snap 1)) members.blank).path ≡ fact (equal (snap 1) unit) ∷ [] }
     ensures without_unit { rules.with_unit None scene ≡ scene }
-    ensures gathered {
-        rules.gathered members.blank (λ w. equal (int 9) w)
+    ensures gathered { rules.gathered members.blank (λ w. equal (int 9) w)
         (record { value = int 1; state = record members.blank { path = branch (bool 0) ∷ fact (bool 1) ∷ branch (bool 2) ∷ [] } } ∷ record { value = int 2; state = members.blank } ∷ []) ≡
-        implied (both (bool 0) (bool 2)) (both (bool 1) (equal (int 9) (int 1))) ∷ equal (int 9) (int 2) ∷ []
-    }
+        implied (both (bool 0) (bool 2)) (both (bool 1) (equal (int 9) (int 1))) ∷ equal (int 9) (int 2) ∷ [] }
     ensures inside_root { rules.leads_inside (record (cell_chunk (ref 0) all (snap 1)) { root = true }) ≡ true }
     ensures inside_inner { rules.leads_inside (record (cell_chunk (ref 0) all (snap 1)) { inner = true }) ≡ true }
     ensures not_inside { rules.leads_inside (cell_chunk (ref 0) all (snap 1)) ≡ false }
@@ -71,10 +69,8 @@ pub fn fresh_values()
     ensures forgotten_next { (members.forget [] (y ∷ f ∷ y ∷ x ∷ []) scene).next ≡ 9 }
     ensures nothing_forgotten { members.forget [] [] scene ≡ scene }
     ensures names { members.names_of (plus (int 0) (number 1) ∷ number 2 ∷ plus (int 1) (number 1) ∷ []) scene ≡ int 7 ∷ number 2 ∷ int 8 ∷ [] }
-    ensures distinct_held {
-        members.distinct (ref 9) (record members.blank { store = (x, ref 0) ∷ (y, int 1) ∷ []; heap = field_chunk f (ref 1) (real 2) (ref 3) ∷ []; old = field_chunk g (ref 4) all (int 5) ∷ cell_chunk (ref 6) all (snap 7) ∷ [] }) ≡
-        differ (ref 9) null ∷ differ (ref 9) (ref 0) ∷ implied (less none (real 2)) (differ (ref 9) (ref 1)) ∷ implied (less none (real 2)) (differ (ref 9) (ref 3)) ∷ differ (ref 9) (ref 4) ∷ []
-    }
+    ensures distinct_held { members.distinct (ref 9) (record members.blank { store = (x, ref 0) ∷ (y, int 1) ∷ []; heap = field_chunk f (ref 1) (real 2) (ref 3) ∷ []; old = field_chunk g (ref 4) all (int 5) ∷ cell_chunk (ref 6) all (snap 7) ∷ [] }) ≡
+        differ (ref 9) null ∷ differ (ref 9) (ref 0) ∷ implied (less none (real 2)) (differ (ref 9) (ref 1)) ∷ implied (less none (real 2)) (differ (ref 9) (ref 3)) ∷ differ (ref 9) (ref 4) ∷ [] }
     ensures sorts_of_int { states.sort_of_type Int ≡ IntSort }
     ensures sorts_of_bool { states.sort_of_type type.Bool ≡ BoolSort }
     ensures sorts_of_ref { states.sort_of_type type.Ref ≡ RefSort }

@@ -28,11 +28,9 @@ pub fn named_writes()
 /// A write probes the chunk of another reference.
 #[tactic(auto, unfolding(vx_frac::specs::Fractions::lowest))]
 pub fn other_writes()
-    ensures writes_other {
-        questions_of branches writes_other ≡
+    ensures writes_other { questions_of branches writes_other ≡
         probes (at 38 57) PermissionCode (differ (ref 0) null ∷ []) (equal (ref 0) (ref 1))
-        ∷ asks (at 38 57) PermissionCode (differ (ref 0) null ∷ []) falsity ∷ []
-    }
+        ∷ asks (at 38 57) PermissionCode (differ (ref 0) null ∷ []) falsity ∷ [] }
 {}
 
 /// A new reference differs from null, from those of the store and from those of what is held.
@@ -50,22 +48,18 @@ pub fn facts()
 /// A call names its arguments, asks for the precondition and gives the postcondition of fresh returns.
 #[tactic(auto, unfolding(vx_frac::specs::Fractions::lowest))]
 pub fn called_methods()
-    ensures calls {
-        questions_of branches calls ≡
+    ensures calls { questions_of branches calls ≡
         asks (at 26 35) CallCode (equal (int 2) (plus (int 0) (number 1)) ∷ []) (less (number 0) (int 2))
-        ∷ asks (at 26 64) AssertCode (equal (int 2) (plus (int 0) (number 1)) ∷ less (number 0) (int 2) ∷ less (int 2) (int 3) ∷ []) (less (int 0) (int 3)) ∷ []
-    }
+        ∷ asks (at 26 64) AssertCode (equal (int 2) (plus (int 0) (number 1)) ∷ less (number 0) (int 2) ∷ less (int 2) (int 3) ∷ []) (less (int 0) (int 3)) ∷ [] }
 {}
 
 /// A loop that changes what its invariant holds asks nothing.
 #[tactic(auto, unfolding(vx_frac::specs::Fractions::lowest))]
 pub fn loops_and_blocks()
     ensures loops_over_heap { questions_of branches loops_over_heap ≡ [] }
-    ensures forgets_variables {
-        questions_of branches forgets_variables ≡
+    ensures forgets_variables { questions_of branches forgets_variables ≡
         asks (at 37 75) AssertCode (bool 0 ∷ []) (bool 0)
-        ∷ asks (at 37 75) AssertCode (denied (bool 0) ∷ []) (bool 0) ∷ []
-    }
+        ∷ asks (at 37 75) AssertCode (denied (bool 0) ∷ []) (bool 0) ∷ [] }
 {}
 
 /// A method without a body has its postcondition alone.

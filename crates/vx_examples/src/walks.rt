@@ -94,46 +94,28 @@ pub fn asking()
 /// Chunks: candidates in their order, what is put and what is left.
 #[tactic(auto, unfolding(vx_frac::specs::Fractions::lowest))]
 pub fn heaps()
-    ensures candidates {
-        chunks.candidates (chunks.field_key f (ref 1)) heap ≡
-        record { number = 1; chunk = field_chunk f (ref 1) all (int 11) } ∷ record { number = 0; chunk = field_chunk f (ref 0) half (int 10) } ∷ []
-    }
+    ensures candidates { chunks.candidates (chunks.field_key f (ref 1)) heap ≡
+        record { number = 1; chunk = field_chunk f (ref 1) all (int 11) } ∷ record { number = 0; chunk = field_chunk f (ref 0) half (int 10) } ∷ [] }
     ensures no_candidates { chunks.candidates (chunks.instance_key f (ref 0 ∷ [])) heap ≡ [] }
     ensures inner_none { chunks.only_inner (chunks.candidates (chunks.field_key f (ref 1)) heap) ≡ [] }
-    ensures whole_taken {
-        chunks.reduced (record { number = 1; chunk = field_chunk f (ref 1) all (int 11) }) all heap ≡
-        field_chunk f (ref 0) half (int 10) ∷ field_chunk g (ref 0) all (int 12) ∷ cell_chunk (ref 0) half (snap 13) ∷ []
-    }
-    ensures half_taken {
-        chunks.reduced (record { number = 1; chunk = field_chunk f (ref 1) all (int 11) }) half heap ≡
-        field_chunk f (ref 0) half (int 10) ∷ field_chunk f (ref 1) half (int 11) ∷ field_chunk g (ref 0) all (int 12) ∷ cell_chunk (ref 0) half (snap 13) ∷ []
-    }
+    ensures whole_taken { chunks.reduced (record { number = 1; chunk = field_chunk f (ref 1) all (int 11) }) all heap ≡
+        field_chunk f (ref 0) half (int 10) ∷ field_chunk g (ref 0) all (int 12) ∷ cell_chunk (ref 0) half (snap 13) ∷ [] }
+    ensures half_taken { chunks.reduced (record { number = 1; chunk = field_chunk f (ref 1) all (int 11) }) half heap ≡
+        field_chunk f (ref 0) half (int 10) ∷ field_chunk f (ref 1) half (int 11) ∷ field_chunk g (ref 0) all (int 12) ∷ cell_chunk (ref 0) half (snap 13) ∷ [] }
     ensures none_put { chunks.put (field_chunk f (ref 0) none (int 14)) with_chunks ≡ with_chunks }
-    ensures merged_heap {
-        (chunks.put (field_chunk f (ref 0) half (int 14)) with_chunks).heap ≡
-        field_chunk f (ref 0) all (int 10) ∷ field_chunk f (ref 1) all (int 11) ∷ field_chunk g (ref 0) all (int 12) ∷ cell_chunk (ref 0) half (snap 13) ∷ []
-    }
-    ensures merged_facts {
-        (chunks.put (field_chunk f (ref 0) half (int 14)) with_chunks).path ≡
-        fact (differ (ref 0) null) ∷ fact (equal (int 10) (int 14)) ∷ fact (differ (ref 1) (ref 0)) ∷ []
-    }
-    ensures merged_unbounded {
-        (chunks.put (field_chunk f (ref 0) half (int 14)) (record with_chunks { bounded = false })).path ≡ fact (differ (ref 0) null) ∷ fact (equal (int 10) (int 14)) ∷ []
-    }
-    ensures added_heap {
-        (chunks.put (field_chunk f (ref 2) half (int 14)) with_chunks).heap ≡
+    ensures merged_heap { (chunks.put (field_chunk f (ref 0) half (int 14)) with_chunks).heap ≡
+        field_chunk f (ref 0) all (int 10) ∷ field_chunk f (ref 1) all (int 11) ∷ field_chunk g (ref 0) all (int 12) ∷ cell_chunk (ref 0) half (snap 13) ∷ [] }
+    ensures merged_facts { (chunks.put (field_chunk f (ref 0) half (int 14)) with_chunks).path ≡
+        fact (differ (ref 0) null) ∷ fact (equal (int 10) (int 14)) ∷ fact (differ (ref 1) (ref 0)) ∷ [] }
+    ensures merged_unbounded { (chunks.put (field_chunk f (ref 0) half (int 14)) (record with_chunks { bounded = false })).path ≡ fact (differ (ref 0) null) ∷ fact (equal (int 10) (int 14)) ∷ [] }
+    ensures added_heap { (chunks.put (field_chunk f (ref 2) half (int 14)) with_chunks).heap ≡
         field_chunk f (ref 0) half (int 10) ∷ field_chunk f (ref 1) all (int 11) ∷ field_chunk g (ref 0) all (int 12) ∷ cell_chunk (ref 0) half (snap 13)
-        ∷ field_chunk f (ref 2) half (int 14) ∷ []
-    }
-    ensures added_facts {
-        (chunks.put (field_chunk f (ref 2) half (int 14)) with_chunks).path ≡ fact (differ (ref 2) null) ∷ fact (differ (ref 1) (ref 2)) ∷ []
-    }
-    ensures symbolic_facts {
-        (chunks.put (field_chunk f (ref 0) (real 3) (int 14)) with_chunks).path ≡
+        ∷ field_chunk f (ref 2) half (int 14) ∷ [] }
+    ensures added_facts { (chunks.put (field_chunk f (ref 2) half (int 14)) with_chunks).path ≡ fact (differ (ref 2) null) ∷ fact (differ (ref 1) (ref 2)) ∷ [] }
+    ensures symbolic_facts { (chunks.put (field_chunk f (ref 0) (real 3) (int 14)) with_chunks).path ≡
         fact (implied (less none (real 3)) (differ (ref 0) null)) ∷ fact (at_most (real 3) all)
         ∷ fact (implied (less none (real 3)) (equal (int 10) (int 14))) ∷ fact (at_most (plus half (real 3)) all)
-        ∷ fact (implied (equal (ref 1) (ref 0)) (at_most (plus (plus half (real 3)) all) all)) ∷ []
-    }
+        ∷ fact (implied (equal (ref 1) (ref 0)) (at_most (plus (plus half (real 3)) all) all)) ∷ [] }
     ensures instance_merged { (chunks.put (cell_chunk (ref 0) half (snap 14)) with_chunks).path ≡ fact (equal (snap 13) (snap 14)) ∷ [] }
     ensures instance_added { (chunks.put (cell_chunk (ref 1) all (snap 14)) with_chunks).path ≡ [] }
     ensures two_arguments { chunks.equal_arguments (ref 0 ∷ ref 1 ∷ []) (ref 2 ∷ ref 3 ∷ []) ≡ both (equal (ref 0) (ref 2)) (equal (ref 1) (ref 3)) }
