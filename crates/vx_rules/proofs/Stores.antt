@@ -6,7 +6,8 @@ use Rattle.vx_ast.specs.Syntax.{Name, same_name}
 use Rattle.vx_terms.specs.Terms.{Term, same}
 use Rattle.vx_terms.specs.Views.{term}
 use Rattle.vx_rules.specs.States.{Store, Entry, assign, in_path, path_terms}
-use Rattle.vx_rules.specs.SymStates.{extended, place_in}
+use Rattle.vx_rules.specs.Paths.{extended}
+use Rattle.vx_rules.specs.SymStates.{place_in}
 
 or_false : (a : Bool) → (a || false) ≡ (false || a)
 or_false true = refl

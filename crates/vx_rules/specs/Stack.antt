@@ -25,7 +25,8 @@ use Rattle.vx_terms.specs.Terms.{Term}
 use Rattle.vx_terms.specs.Views.{term}
 use Rattle.vx_terms.specs.Build.{negate, ite, unit, pair, whole_amount}
 use Rattle.vx_rules.specs.States.{State, with_store, with_heap, assign, leave, with_fact, with_branch, name_of, after_name, path_terms}
-use Rattle.vx_rules.specs.SymStates.{state, entries}
+use Rattle.vx_rules.specs.Paths.{entries}
+use Rattle.vx_rules.specs.SymStates.{state}
 use Rattle.vx_rules.specs.Trees.{Code, AssertCode, PermissionCode, AmountCode, DivisorCode, CallCode, FunctionCode, PostCode, EntryCode, KeptCode, FoldCode, UnfoldCode, MeasureCode, Question, Tree, End, Step, Ask, Probe, Fork}
 use Rattle.vx_rules.specs.Rules.{Giving, Going, Context, Outer, outer, ask, fork, short, operated, connected, placed, with_built_pair, eval, produce, consume}
 use Rattle.vx_rules.specs.Members.{codes, exec, exec_all, depth, sides}

@@ -46,7 +46,7 @@ fn question(
     Ok(Query {
         place,
         code,
-        path: state.path.copy()?,
+        path: state.path.path.copy()?,
         condition: condition.clone()?,
         probe,
     })

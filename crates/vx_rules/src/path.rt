@@ -1,12 +1,11 @@
 //! The path of a symbolic state, which its copies and its questions share.
 
-ghost use Rattle.std.specs.Prelude.{◌≡◌, IfOk, map, true, false};
-ghost use Rattle.vx_rules.specs.States.{in_path, path_terms};
-ghost use Rattle.vx_rules.specs.SymStates.{entries, extended};
+ghost use Rattle.std.specs.Prelude.{◌≡◌, IfOk, map};
+ghost use Rattle.vx_rules.specs.States.{path_terms};
+ghost use Rattle.vx_rules.specs.Paths.{entries};
 ghost use Rattle.vx_terms.specs.Views.{term};
 
 use std::alloc::{AllocError, Global};
-use std::mem;
 use std::rc::Rc;
 use vx_terms::Term;
 
@@ -44,43 +43,6 @@ impl Path {
             Path::Branch(before, term) => Path::Branch(before.clone()?, term.clone()?),
             Path::Fact(before, term) => Path::Fact(before.clone()?, term.clone()?),
         })
-    }
-
-    /// Whether a term is an entry.
-    #[tactic(auto, using(crate::proofs::Stores::in_path_extended))]
-    pub fn holds(&self, t: &Term) -> bool
-        ensures { result ≡ in_path (term t.now) (entries self.now) }
-    {
-        let mut rest = self;
-        loop {
-            match rest {
-                Path::Empty => return false,
-                Path::Branch(before, entry) | Path::Fact(before, entry) => {
-                    if t.is_same(entry) {
-                        return true;
-                    }
-                    rest = before;
-                }
-            }
-        }
-    }
-
-    /// A fact after the others.
-    pub fn add_fact(&mut self, alloc: Global, t: Rc<Term>) -> Result<(), AllocError>
-        ensures { IfOk result (λ _. entries self.new ≡ extended (entries self.old) (term t.value) false) }
-    {
-        let before = Rc::new(alloc, mem::replace(self, Path::Empty))?;
-        *self = Path::Fact(before, t);
-        Ok(())
-    }
-
-    /// A branch's condition after the others.
-    pub fn add_branch(&mut self, alloc: Global, t: Rc<Term>) -> Result<(), AllocError>
-        ensures { IfOk result (λ _. entries self.new ≡ extended (entries self.old) (term t.value) true) }
-    {
-        let before = Rc::new(alloc, mem::replace(self, Path::Empty))?;
-        *self = Path::Branch(before, t);
-        Ok(())
     }
 
     /// The terms in order, the oldest first.

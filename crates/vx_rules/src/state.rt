@@ -9,8 +9,9 @@ ghost use Rattle.vx_rules.specs.States.{sort_of_type};
 ghost use Rattle.vx_rules.specs.SymStates.{binding, state, place_in};
 ghost use Rattle.vx_terms.specs.Views.{sort, term};
 
-use crate::Path;
+use crate::IndexedPath;
 use std::alloc::{AllocError, Global};
+use std::mem;
 use std::rc::Rc;
 use vx_ast::ValueType;
 use vx_ast::resolved::Declaration;
@@ -28,7 +29,7 @@ pub struct Binding {
 #[derive(Drop)]
 pub struct SymState {
     pub store: Vec<Binding>,
-    pub path: Path,
+    pub path: IndexedPath,
     pub next: u64,
 }
 
@@ -71,7 +72,7 @@ impl SymState {
     {
         SymState {
             store: Vec::new(alloc),
-            path: Path::Empty,
+            path: IndexedPath::new(),
             next: 0,
         }
     }
@@ -151,7 +152,8 @@ impl SymState {
         ensures { IfOk result (λ _. state self.new ≡ states.with_fact (term t.value) (state self.old)) }
     {
         if !self.is_known(&t) {
-            self.path.add_fact(alloc, t)?;
+            let path = mem::replace(&mut self.path, IndexedPath::new());
+            self.path = path.add_fact(alloc, t)?;
         }
         Ok(())
     }
@@ -160,7 +162,9 @@ impl SymState {
     pub fn add_branch(&mut self, alloc: Global, t: Rc<Term>) -> Result<(), AllocError>
         ensures { IfOk result (λ _. state self.new ≡ states.with_branch (term t.value) (state self.old)) }
     {
-        self.path.add_branch(alloc, t)
+        let path = mem::replace(&mut self.path, IndexedPath::new());
+        self.path = path.add_branch(alloc, t)?;
+        Ok(())
     }
 
     /// A symbol that stands nowhere yet.

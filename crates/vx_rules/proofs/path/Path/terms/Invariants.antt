@@ -1,6 +1,6 @@
 use Rattle.std.proofs.Common.{◌≡◌, ◌++◌, map, reverse}
 use Rattle.vx_rules.specs.States.{path_terms}
-use Rattle.vx_rules.specs.SymStates.{entries}
+use Rattle.vx_rules.specs.Paths.{entries}
 use Rattle.vx_terms.specs.Views.{term}
 use Rattle.vx_rules.proofs.path.Path.terms.Given as goal
 
