@@ -21,11 +21,13 @@ pub struct Ended {
     pub runs: Vec<MemberRun>,
 }
 
-// What reading a program gives: it, or the line of its refusal.
+// What reading a program gives: it, or the line of its refusal, or why it can't be read.
 #[derive(Drop)]
 enum Told {
     Program(Typed),
     Refused(String),
+    Unread,
+    TooLong,
 }
 
 // Puts the text; where the sink fails, that is the status.
@@ -55,61 +57,78 @@ fn read_program(alloc: Global, text: &[u8]) -> Result<Told, AllocError> {
     }
 }
 
-// The companion's command.
-fn companion(alloc: Global) -> Result<Parts, AllocError> {
-    let mut command = Parts::new(alloc);
-    command.push(alloc, "builtin")?;
-    Ok(command)
+// Loads a text, and reads its program.
+fn load_program<F: Files>(
+    alloc: Global,
+    files: &mut F,
+    name: Option<&str>,
+) -> Result<Told, AllocError> {
+    match files.load(alloc, name) {
+        Ok(text) => read_program(alloc, &text),
+        Err(LoadFault::Failed) => Ok(Told::Unread),
+        Err(LoadFault::TooLong) => Ok(Told::TooLong),
+        Err(LoadFault::Want) => Err(AllocError),
+    }
 }
 
 // Verifies a program, and puts the report.
-fn report<K: Sink>(
+fn report<K: Sink, W: Spawner>(
     alloc: Global,
     typed: &Typed,
     out: &mut K,
-    builtin: &mut Builtin,
+    solver: &Parts,
+    spawner: &mut W,
 ) -> Result<Ended, AllocError> {
-    let command = companion(alloc)?;
-    let runs = verify(alloc, typed, &command, builtin)?;
+    let runs = verify(alloc, typed, solver, spawner)?;
     let mut text = String::new(alloc);
     write_report(&mut text, typed, &runs)?;
     let status = status_of(&runs);
     Ok(put(out, &text, status, runs))
 }
 
-// Verifies standard input.
-fn verify_input<F: Files, K: Sink>(
+// The companion is asked, and no child process.
+fn is_companion(solver: &Parts) -> bool {
+    solver.len() == 1 && solver.part(0) == "builtin"
+}
+
+// Verifies a file, or standard input.
+fn verify_file<F: Files, K: Sink, W: Spawner>(
     alloc: Global,
+    order: &Order,
     files: &mut F,
     out: &mut K,
+    spawner: &mut W,
     builtin: &mut Builtin,
 ) -> Result<Ended, AllocError> {
+    let Order::Verify { file, solver } = order;
     let none = Vec::new(alloc);
-    let text = match files.load(alloc, None) {
-        Ok(text) => text,
-        Err(LoadFault::Failed) => return Ok(put(out, UNREAD, Status::Unread, none)),
-        Err(LoadFault::TooLong) => return Ok(put(out, TOO_LONG, Status::Unread, none)),
-        Err(LoadFault::Want) => return Err(AllocError),
-    };
-    match read_program(alloc, &text)? {
-        Told::Program(typed) => report(alloc, &typed, out, builtin),
+    match load_program(alloc, files, file.as_ref().map(|name| name.as_str()))? {
+        Told::Program(typed) => {
+            if is_companion(solver) {
+                report(alloc, &typed, out, solver, builtin)
+            } else {
+                report(alloc, &typed, out, solver, spawner)
+            }
+        }
         Told::Refused(line) => Ok(put(out, &line, Status::Refused, none)),
+        Told::Unread => Ok(put(out, UNREAD, Status::Unread, none)),
+        Told::TooLong => Ok(put(out, TOO_LONG, Status::Unread, none)),
     }
 }
 
 /// Does what the words say; the first is the program's name. All text goes to `out`, built whole before its first byte
-/// is put. No words name another solver than the companion yet, so no child process is started.
+/// is put. Children are started by `spawner`, or, where the solver is `builtin` or none is named, by `builtin`.
 pub fn run<F: Files, K: Sink, W: Spawner>(
     alloc: Global,
     words: &Parts,
     files: &mut F,
     out: &mut K,
-    _spawner: &mut W,
+    spawner: &mut W,
     builtin: &mut Builtin,
 ) -> Ended {
     let none = Vec::new(alloc);
     let ended = match read_words(alloc, words) {
-        Ok(Order::Verify) => verify_input(alloc, files, out, builtin),
+        Ok(order) => verify_file(alloc, &order, files, out, spawner, builtin),
         Err(WordsFault::Usage) => return put(out, USAGE, Status::Usage, none),
         Err(WordsFault::Want) => Err(AllocError),
     };
