@@ -1,7 +1,8 @@
 -- What the symbolic states of src/ stand for. They have no heap yet.
-use Rattle.std.specs.Prelude.{ℕ, suc, true, false, List, [], ◌∷◌, Option, Some, None, option_map, if◌then◌else◌, map, string_bytes}
+use Rattle.std.specs.Prelude.{ℕ, suc, Bool, true, false, List, [], ◌∷◌, ◌++◌, Option, Some, None, option_map, if◌then◌else◌, map, string_bytes}
 use Rattle.vx_rules.specs.declared.state.Binding.{Binding}
-use Rattle.vx_rules.specs.declared.state.Entry.{Entry as Entry'}
+use Rattle.vx_rules.specs.declared.path.Path.{Path}
+use Rattle.vx_rules.specs.declared.path.Path.TheVariants as path'
 use Rattle.vx_rules.specs.declared.state.SymState.{SymState}
 use Rattle.vx_ast.specs.Syntax.{Name, same_name}
 use Rattle.vx_terms.specs.Terms.{Term}
@@ -11,15 +12,22 @@ use Rattle.vx_rules.specs.States.{Store, Entry, State}
 abbrev pub binding : Binding → Name × Term
 binding b = (string_bytes b.name.value, term b.value.value)
 
-abbrev pub entry : Entry' → Entry
-entry e = record { term = term e.term.value; branch = e.branch }
+-- a path and one more entry
+abbrev pub extended : List Entry → Term → Bool → List Entry
+extended es t branch = es ++ record { term = t; branch = branch } ∷ []
+
+-- the entries of a path, the oldest first
+abbrev pub entries : Path → List Entry
+entries path'.Empty = []
+entries (path'.Branch' q before t) = extended (entries before) (term t.value) true
+entries (path'.Fact' q before t) = extended (entries before) (term t.value) false
 
 abbrev pub state : SymState → State
 state s = record {
   store = map binding s.store.items;
   heap = [];
   old = [];
-  path = map entry s.path.items;
+  path = entries s.path;
   next = s.next;
   level = 0;
   bounded = true;

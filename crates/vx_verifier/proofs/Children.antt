@@ -7,7 +7,7 @@ use Rattle.vx_ends.specs.Causes.{Rose}
 use Rattle.vx_ends.specs.Dialogue.{got, Begins, Grows}
 use Rattle.vx_smt_meaning.specs.Commands.{Command, Level}
 use Rattle.vx_smt_meaning.specs.Dialogues.{Check}
-use Rattle.vx_smt_meaning.specs.declared.reply.Reply.{Reply as Reply'}
+use Rattle.vx_smt_meaning.specs.declared.reply.Reply.{Reply}
 use Rattle.vx_dialogue.specs.declared.dialogue.Dialogue.{Dialogue}
 use Rattle.vx_dialogue.specs.declared.talk.Talk.{Talk}
 use Rattle.vx_dialogue.specs.declared.talk.Talk.TheVariants as talk
@@ -24,7 +24,7 @@ use Rattle.vx_verifier.specs.declared.lane.Trouble.TheVariants as trouble
 use Rattle.vx_verifier.specs.declared.lane.Child.{Child}
 use Rattle.vx_verifier.specs.declared.lane.Child.TheVariants.{NotStarted, Talking, Lost}
 use Rattle.vx_terms.specs.Terms.{Term}
-use Rattle.vx_verifier.specs.Sequences.{answer, IsCheckOf}
+use Rattle.vx_verifier.specs.Sequences.{IsCheckOf}
 use Rattle.vx_verifier.specs.Headline.{HasCauseOf, IsRecorded}
 use Rattle.vx_verifier.specs.Lanes.{Hears, HearsOf, IsCausedBy, trouble_of, Handed, Later, is_lost}
 use Rattle.vx_verifier.proofs.Sequences.{check_is}
@@ -64,14 +64,14 @@ module _ {L : Type 0} (dialogue : L → List Piece) (before : List Ending) where
       inr (e, is ∙ ap (λ x. x ++ e ∷ []) heard.0, lane, subst (λ x. Tells e.dialogue x) (sym heard.1) (tells_none e.dialogue))
 
   -- a question is answered
-  pub answered : (old new : List Ending) (d d' : Dialogue L) (q : Question) (path : List Term) (r : Reply') (after : List Command → List Command) → path ≡ q.path
+  pub answered : (old new : List Ending) (d d' : Dialogue L) (q : Question) (path : List Term) (r : Reply) (after : List Command → List Command) → path ≡ q.path
       → ((base : List Level) (commands : List Command) (checks : List Check) → Stands dialogue base d commands checks
-          → Stands dialogue base d' (after commands) (checks ++ check_of base path q.condition r ∷ []))
-      → new ≡ old → (checks : List Check) → Hears dialogue before old (Talking d) checks → HearsOf dialogue before new (Talking d') checks q (answer r)
+      → Stands dialogue base d' (after commands) (checks ++ check_of base path q.condition r ∷ []))
+      → new ≡ old → (checks : List Check) → Hears dialogue before old (Talking d) checks → HearsOf dialogue before new (Talking d') checks q r
   answered old new d d' q path r after is step same checks heard = (
     check_of heard.1 path q.condition r,
     (same ∙ heard.0, heard.1, after heard.2, step heard.1 heard.2 checks heard.3),
-    subst (λ x. IsCheckOf (record { question = q; reply = answer r }) (check_of heard.1 x q.condition r)) (sym is) (check_is heard.1 q r),
+    subst (λ x. IsCheckOf (record { question = q; reply = r }) (check_of heard.1 x q.condition r)) (sym is) (check_is heard.1 q r),
   )
 
   -- the member is left
@@ -86,8 +86,12 @@ module _ {L : Type 0} (dialogue : L → List Piece) (before : List Ending) where
   pub recorded : (old new : List Ending) (d : Dialogue L) (e : Ending) (checks : List Check) → new ≡ old ++ e ∷ [] → e.lane ≡ 0
       → Grows (dialogue (link_of d)) e.dialogue → Hears dialogue before old (Talking d) checks → IsRecorded before new checks
   recorded old new d e checks is lane grows heard =
-      inr (e, is ∙ ap (λ x. x ++ e ∷ []) heard.0, lane,
-      tells_on (dialogue (link_of d)) e.dialogue checks (grows (dialogue (link_of d)) (begins_itself (dialogue (link_of d)))) (standing_tells dialogue heard.1 d heard.2 checks heard.3))
+      inr (
+        e,
+        is ∙ ap (λ x. x ++ e ∷ []) heard.0,
+        lane,
+        tells_on (dialogue (link_of d)) e.dialogue checks (grows (dialogue (link_of d)) (begins_itself (dialogue (link_of d)))) (standing_tells dialogue heard.1 d heard.2 checks heard.3),
+      )
 
   -- why no reply came
   talk_causes : (new : List Ending) (f g : ℕ) (t : Talk) (e : Ending) (commands : List Command) → new ≡ before ++ e ∷ []
@@ -107,8 +111,7 @@ module _ {L : Type 0} (dialogue : L → List Piece) (before : List Ending) where
       let e : Ending = record { lane = 0; dialogue = dialogue link; faults = faults link } in
       let grows_on : Grows (dialogue (link_of d)) (dialogue link) = subst (λ x. Grows (dialogue (link_of d)) (dialogue x)) (sym same) grows in
       let explained_on : Explains t (got (dialogue link)) commands = subst (λ x. Explains t (got (dialogue x)) commands) (sym same) explained in
-      let rose_on : t ≡ talk.Pipe → 0 < faults link = λ h. subst (λ x. 0 < faults x) (sym same) (above_none before_faults _ (rose h)) in
-      (
+      let rose_on : t ≡ talk.Pipe → 0 < faults link = λ h. subst (λ x. 0 < faults x) (sym same) (above_none before_faults _ (rose h)) in (
         recorded old new d e checks is refl grows_on heard,
         talk_causes new f g t e commands (is ∙ ap (λ x. x ++ e ∷ []) heard.0) explained_on rose_on shut,
       )
@@ -120,8 +123,7 @@ module _ {L : Type 0} (dialogue : L → List Piece) (before : List Ending) where
       → Hears dialogue before old NotStarted checks → IsRecorded before new checks × IsCausedBy (HasCauseOf before new f g false) (trouble_of t)
   not_opened_by faults old new f g link t commands checks before_faults is explained rose shut heard =
       let e : Ending = record { lane = 0; dialogue = dialogue link; faults = faults link } in
-      let rose_on : t ≡ talk.Pipe → 0 < faults link = λ h. above_none before_faults (faults link) (rose h) in
-      (
+      let rose_on : t ≡ talk.Pipe → 0 < faults link = λ h. above_none before_faults (faults link) (rose h) in (
         not_opened old new e checks is refl heard,
         talk_causes new f g t e commands (is ∙ ap (λ x. x ++ e ∷ []) heard.0) explained rose_on shut,
       )

@@ -27,7 +27,7 @@ module _ {L : Type 0} (dialogue : L → List Piece) (p : Program) (before : List
   pub executes_more : (mid new : List Ending) (f g h : ℕ) (child child' : Child L) (asked asked' : ℕ) (runs : List MemberRun) (r : MemberRun) (n : ℕ)
       → Executes dialogue p before mid f g child asked runs
       → ((first : List Ending) (checks : List Check) → Hears dialogue first mid child checks
-          → Judges dialogue p n first new (HasCauseOf first new g h (is_lost child)) child' checks r.checks r.verdict)
+      → Judges dialogue p n first new (HasCauseOf first new g h (is_lost child)) child' checks r.checks r.verdict)
       → Later mid new → f ≤ g → g ≤ h
       → r.member.0 ≡ n → n ≡ length runs → r.lane ≡ 0 → r.child ≡ 0 → r.first ≡ asked → asked' ≡ asked + r.checks
       → is_lost child' ≡ (is_lost child || is_faulted r.verdict)
@@ -36,11 +36,11 @@ module _ {L : Type 0} (dialogue : L → List Piece) (p : Program) (before : List
       let judged = judge before so_far.checks so_far.heard in
       let handed = later mid (handed_itself mid) in
       let told = subst (λ x. AreTold p before x f h false 0 0 runs so_far.checks) (sym handed.is)
-          (runs_later p before mid handed.more f g h after false 0 0 runs so_far.checks so_far.told) in
+      (runs_later p before mid handed.more f g h after false 0 0 runs so_far.checks so_far.told) in
       let at : IsTold p (0 + length runs) (HasCauseOf before new g h (is_lost child)) judged.own r.verdict =
-          subst (λ k. IsTold p k (HasCauseOf before new g h (is_lost child)) judged.own r.verdict) (place ∙ omega arith) judged.told in
+      subst (λ k. IsTold p k (HasCauseOf before new g h (is_lost child)) judged.own r.verdict) (place ∙ omega arith) judged.told in
       let this = told_later p (0 + length runs) (HasCauseOf before new g h (is_lost child)) (HasCauseOf before new f h (lost_after false runs))
-          (cause_earlier before new f g h earlier (is_lost child) (lost_after false runs) so_far.lost) judged.own r.verdict at in
+      (cause_earlier before new f g h earlier (is_lost child) (lost_after false runs) so_far.lost) judged.own r.verdict at in
       let length_is = length_append so_far.checks judged.own in
       let known = so_far.count in
       let own_count = judged.count in

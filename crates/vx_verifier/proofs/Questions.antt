@@ -6,9 +6,9 @@ use Rattle.vx_report.specs.declared.run.Cause.{Cause}
 use Rattle.vx_report.specs.declared.run.Verdict.{Verdict}
 use Rattle.vx_report.specs.declared.run.Verdict.TheVariants as verdict
 use Rattle.vx_rules.specs.declared.question.Query.{Query}
-use Rattle.vx_rules.specs.declared.question.Reply.{Reply as Reply'}
+use Rattle.vx_smt_meaning.specs.declared.reply.Reply.{Reply}
 use Rattle.vx_rules.specs.Trees.{Question, Answered, Passed, Open, Ending, Walked, walk}
-use Rattle.vx_rules.specs.Stack.{query, reply}
+use Rattle.vx_rules.specs.Stack.{query}
 use Rattle.vx_machine.specs.declared.machine.Machine.{Machine}
 use Rattle.vx_machine.specs.declared.machine.Ask.TheVariants.{Check as Due, Done}
 use Rattle.vx_machine.specs.declared.machine.Outcome.{Outcome}
@@ -26,36 +26,32 @@ use Rattle.vx_verifier.specs.Lanes.{AreAsked, verdict_of, Hears, HearsOf, IsRunn
 use Rattle.vx_verifier.proofs.Walks.{walk_extends}
 use Rattle.vx_verifier.proofs.Sequences.{checks_more, replies_more, never_fails}
 
-map_more : {A B : Type 0} (f : A → B) (xs : List A) (x : A) → map f (xs ++ x ∷ []) ≡ map f xs ++ f x ∷ []
-map_more f [] x = refl
-map_more f (y ∷ xs) x = ap (λ l. f y ∷ l) (map_more f xs x)
-
 map_length : {A B : Type 0} (f : A → B) (xs : List A) → length (map f xs) ≡ length xs
 map_length f [] = refl
 map_length f (x ∷ xs) = let h = map_length f xs in omega arith
 
 pub none_asked : (p : Program) (m : Machine) → m.replies.items ≡ [] → AreAsked p m []
 none_asked p m none =
-    let given_none : given m ≡ [] = ap (map reply) none in
+    let given_none : given m ≡ [] = none in
     record {
       replies = sym given_none;
       checks = subst (λ rs. AreChecksOf (walk (member_tree p m.member.0) rs).answered []) (sym given_none)
           (subst (λ as'. AreChecksOf as' []) (sym (walk_extends (member_tree p m.member.0)).none) tt);
     }
 
-pub one_asked : (p : Program) (m m' : Machine) (q : Query) (r : Reply') (own : List Check) (c : Check)
+pub one_asked : (p : Program) (m m' : Machine) (q : Query) (r : Reply) (own : List Check) (c : Check)
     → m'.member.0 ≡ m.member.0 → m'.replies.items ≡ m.replies.items ++ r ∷ []
     → (walk (member_tree p m.member.0) (given m)).ending ≡ Open (query q)
-    → AreAsked p m own → IsCheckOf (record { question = query q; reply = reply r }) c → AreAsked p m' (own ++ c ∷ [])
+    → AreAsked p m own → IsCheckOf (record { question = query q; reply = r }) c → AreAsked p m' (own ++ c ∷ [])
 one_asked p m m' q r own c member replies due so_far this =
     let t = member_tree p m.member.0 in
-    let given_is : given m' ≡ given m ++ reply r ∷ [] = ap (map reply) replies ∙ map_more reply m.replies.items r in
-    let answered = (walk_extends t).one_more (query q) (given m) (reply r) due in
-    let at_old : AreChecksOf (walk t (given m ++ reply r ∷ [])).answered (own ++ c ∷ []) =
-        subst (λ as'. AreChecksOf as' (own ++ c ∷ [])) (sym answered) (checks_more (walk t (given m)).answered own _ c so_far.checks this) in
+    let given_is : given m' ≡ given m ++ r ∷ [] = replies in
+    let answered = (walk_extends t).one_more (query q) (given m) r due in
+    let at_old : AreChecksOf (walk t (given m ++ r ∷ [])).answered (own ++ c ∷ []) =
+    subst (λ as'. AreChecksOf as' (own ++ c ∷ [])) (sym answered) (checks_more (walk t (given m)).answered own _ c so_far.checks this) in
     let at_new : AreChecksOf (walk t (given m')).answered (own ++ c ∷ []) = subst (λ rs. AreChecksOf (walk t rs).answered (own ++ c ∷ [])) (sym given_is) at_old in
     record {
-      replies = replies_more own c (reply r) this.reply ∙ (ap (λ x. x ++ reply r ∷ []) so_far.replies ∙ sym given_is);
+      replies = replies_more own c r this.reply ∙ (ap (λ x. x ++ r ∷ []) so_far.replies ∙ sym given_is);
       checks = subst (λ n. AreChecksOf (walk (member_tree p n) (given m')).answered (own ++ c ∷ [])) (sym member) at_new;
     }
 
@@ -69,7 +65,7 @@ pub asked_count : (p : Program) (m : Machine) (own : List Check) → AreAsked p 
     → length own ≡ length m.replies.items
 asked_count p m own so_far each =
     let w = walk (member_tree p m.member.0) (given m) in
-    same_length w.answered own so_far.checks ∙ (sym (map_length (λ (a : Answered). a.reply) w.answered) ∙ (ap length each ∙ map_length reply m.replies.items))
+    same_length w.answered own so_far.checks ∙ (sym (map_length (λ (a : Answered). a.reply) w.answered) ∙ ap length each)
 
 pub at_end : (HasCause : Cause → Type 0) (o : Outcome) (w : Walked) (checks asked : ℕ) → Told (Done o) w 100000 checks → asked ≡ checks → IsVerdictOf HasCause w.ending asked (verdict_of o)
 at_end HasCause outcome.Passed w checks asked told is = told
@@ -129,14 +125,13 @@ module _ {L : Type 0} (dialogue : L → List Piece) (p : Program) (n : ℕ) (bef
             (fault_verdict HasCause t v (walk (member_tree p n) (given m)).ending (length own) (query q) due.0 fault caused);
       }
 
-  pub goes_on : (now : List Ended) (child : Child L) (checks own : List Check) (m m' : Machine) (ask ask' : Ask) (q : Query) (r : Reply')
+  pub goes_on : (now : List Ended) (child : Child L) (checks own : List Check) (m m' : Machine) (ask ask' : Ask) (q : Query) (r : Reply)
       → IsRunning p n m ask → ask ≡ Due q → IsRunning p m.member.0 m' ask' → m'.replies.items ≡ m.replies.items ++ r ∷ [] → AreAsked p m own
-      → HearsOf dialogue before now child (checks ++ own) (query q) (reply r)
+      → HearsOf dialogue before now child (checks ++ own) (query q) r
       → (own' : List Check) × Hears dialogue before now child (checks ++ own') × AreAsked p m' own'
   goes_on now child checks own m m' ask ask' q r running is next replies so_far more =
       let due = subst (λ a. Told a (walk (member_tree p n) (given m)) 100000 (length m.replies.items)) is running.told in
-      let ending = subst (λ k. (walk (member_tree p k) (given m)).ending ≡ Open (query q)) (sym running.member) due.0 in
-      (
+      let ending = subst (λ k. (walk (member_tree p k) (given m)).ending ≡ Open (query q)) (sym running.member) due.0 in (
         own ++ more.0 ∷ [],
         subst (λ x. Hears dialogue before now child x) (append_assoc checks own (more.0 ∷ [])) more.1,
         one_asked p m m' q r own more.0 next.member replies ending so_far more.2,

@@ -47,7 +47,14 @@ pub runs_later : (p : Program) (before now more : List Ending) (f g h : ℕ) →
     → AreTold p before now f g lost n first runs checks → AreTold p before (now ++ more) f h lost n first runs checks
 runs_later p before now more f g h later lost n first [] checks told = told
 runs_later p before now more f g h later lost n first (r ∷ runs) checks told = (
-  told.0, told.1, told.2, told.3, told.4, told.5, told.6, told.7,
+  told.0,
+  told.1,
+  told.2,
+  told.3,
+  told.4,
+  told.5,
+  told.6,
+  told.7,
   told_later p n _ _ (cause_later before now more f g h later lost) told.4 r.verdict told.8,
   runs_later p before now more f g h later (lost || is_faulted r.verdict) (n + 1) (first + length told.4) runs told.5 told.9,
 )
@@ -60,15 +67,28 @@ module _ (p : Program) (before now : List Ending) (f g : ℕ) where
       → IsTold p (n + length runs) (HasCauseOf before now f g (lost_after lost runs)) own r.verdict
       → AreTold p before now f g lost n first (runs ++ r ∷ []) (checks ++ own)
   runs_more lost n first [] checks r own told member lane child is count this =
-      let none : checks ≡ [] = told in
-      (
-        member ∙ omega arith, lane, child, is ∙ rw none (omega arith), own, [], rw none (sym (append-nil own)), count,
+      let none : checks ≡ [] = told in (
+        member ∙ omega arith,
+        lane,
+        child,
+        is ∙ rw none (omega arith),
+        own,
+        [],
+        rw none (sym (append-nil own)),
+        count,
         subst (λ k. IsTold p k (HasCauseOf before now f g lost) own r.verdict) (omega arith) this,
         refl,
       )
   runs_more lost n first (r' ∷ runs) checks r own told member lane child is count this = (
-    told.0, told.1, told.2, told.3, told.4, told.5 ++ own,
-    ap (λ x. x ++ own) told.6 ∙ append_assoc told.4 told.5 own, told.7, told.8,
+    told.0,
+    told.1,
+    told.2,
+    told.3,
+    told.4,
+    told.5 ++ own,
+    ap (λ x. x ++ own) told.6 ∙ append_assoc told.4 told.5 own,
+    told.7,
+    told.8,
     runs_more (lost || is_faulted r'.verdict) (n + 1) (first + length told.4) runs told.5 r own told.9
         (member ∙ omega arith) lane child (is ∙ rw told.6 (omega (arith, length-append told.4 told.5))) count
         (subst (λ k. IsTold p k (HasCauseOf before now f g (lost_after (lost || is_faulted r'.verdict) runs)) own r.verdict) (omega arith) this),

@@ -1,5 +1,5 @@
 -- A member's checks grow one by one, along the walk; and what follows where their replies are right.
-use Rattle.std.proofs.Common.{◌≡◌, ◌⊎◌, ℕ, ◌+◌, ◌++◌, ◌∷◌, [], List, Option, Some, None, length, append_assoc, option_map, slice_get, refl, ap, ◌∙◌, sym, subst, inl, inr, arith}
+use Rattle.std.proofs.Common.{◌≡◌, ◌⊎◌, ℕ, ◌+◌, ◌++◌, ◌∷◌, [], List, Option, Some, None, length, append_assoc, slice_get, refl, ap, ◌∙◌, sym, subst, inl, inr, arith}
 use Rattle.vx_ast.specs.Syntax.{Program, Member, Method, IsMethod}
 use Rattle.vx_terms.specs.Terms.{Term}
 use Rattle.vx_terms.specs.Build.{negate}
@@ -7,10 +7,10 @@ use Rattle.vx_terms.specs.Interpretations.{Interpretation, Each, AllTrue, IsTrue
 use Rattle.vx_types.specs.Typing.{IsTypedMethod}
 use Rattle.vx_smt_meaning.specs.Commands.{Level}
 use Rattle.vx_smt_meaning.specs.Dialogues.{Check}
-use Rattle.vx_smt_meaning.specs.declared.reply.Reply.{Reply as Reply'}
-use Rattle.vx_smt_meaning.specs.declared.reply.Reply.TheVariants as reply'
+use Rattle.vx_smt_meaning.specs.declared.reply.Reply.{Reply}
+use Rattle.vx_smt_meaning.specs.declared.reply.Reply.TheVariants.{Unsat, Sat, Unknown}
 use Rattle.vx_dialogue.specs.Dialogue.{pushed, check_of}
-use Rattle.vx_rules.specs.Trees.{Question, Reply, Unsat, Sat, Unknown, Answered, Passed, Open, walk}
+use Rattle.vx_rules.specs.Trees.{Question, Answered, Passed, walk}
 use Rattle.vx_rules.specs.Members.{tree, method_tree}
 use Rattle.vx_machine.specs.Runs.{tree_of, member_tree}
 use Rattle.vx_sound.specs.StoreLanguage.{IsStoreMethod}
@@ -18,7 +18,7 @@ use Rattle.vx_sound.specs.Law.{StoreLaw, AllRight}
 use Rattle.vx_sound.specs.Law.{IsRight as IsRightAnswer}
 use Rattle.vx_sound.proofs.Passes.{cleared}
 use Rattle.vx_sound.proofs.Methods.{sound}
-use Rattle.vx_verifier.specs.Sequences.{answer, IsIn, SameSet, IsCheckOf, AreChecksOf, answer_list, replies_to, IsRight}
+use Rattle.vx_verifier.specs.Sequences.{IsIn, SameSet, IsCheckOf, AreChecksOf, reply_list, replies_to, IsRight}
 use Rattle.vx_verifier.specs.Headline.{NeverFails, walk_of}
 
 -- a path that was put on a list
@@ -47,7 +47,7 @@ same_set n path = λ t. (
   λ h. elim h [ inl e ↦ inl e | inr e ↦ inr (mutual_pushed t path [] (inl e)) ],
 )
 
-pub check_is : (base : List Level) (q : Question) (r : Reply') → IsCheckOf (record { question = q; reply = answer r }) (check_of base q.path q.condition r)
+pub check_is : (base : List Level) (q : Question) (r : Reply) → IsCheckOf (record { question = q; reply = r }) (check_of base q.path q.condition r)
 check_is base q r = record { set = same_set (negate q.condition) q.path; reply = refl }
 
 pub checks_more : (as' : List Answered) (cs : List Check) (a : Answered) (c : Check) → AreChecksOf as' cs → IsCheckOf a c → AreChecksOf (as' ++ a ∷ []) (cs ++ c ∷ [])
@@ -56,14 +56,10 @@ checks_more [] (c' ∷ cs) a c all one = absurd all
 checks_more (a' ∷ as') [] a c all one = absurd all
 checks_more (a' ∷ as') (c' ∷ cs) a c all one = (all.0, checks_more as' cs a c all.1 one)
 
-one_answer : (x : Option Reply') (r : Reply) → option_map answer x ≡ Some r → answer_list x ≡ r ∷ []
-one_answer None r is = cc
-one_answer (Some y) r is = cc
-
-pub replies_more : (cs : List Check) (c : Check) (r : Reply) → option_map answer c.reply ≡ Some r → replies_to (cs ++ c ∷ []) ≡ replies_to cs ++ r ∷ []
-replies_more [] c r is = rw (one_answer c.reply r is) refl
+pub replies_more : (cs : List Check) (c : Check) (r : Reply) → c.reply ≡ Some r → replies_to (cs ++ c ∷ []) ≡ replies_to cs ++ r ∷ []
+replies_more [] c r is = rw is refl
 replies_more (c' ∷ cs) c r is =
-    ap (λ l. answer_list c'.reply ++ l) (replies_more cs c r is) ∙ sym (append_assoc (answer_list c'.reply) (replies_to cs) (r ∷ []))
+    ap (λ l. reply_list c'.reply ++ l) (replies_more cs c r is) ∙ sym (append_assoc (reply_list c'.reply) (replies_to cs) (r ∷ []))
 
 -- what holds of each, holds of all that are in the list
 each_in : {A : Type 0} (P : A → Type 0) (xs : List A) (x : A) → Each P xs → IsIn x xs → P x
@@ -78,14 +74,8 @@ in_each P (x ∷ xs) all = (all x (inl refl), in_each P xs (λ y h. all y (inr h
 unsatisfiable : (xs ys : List Term) → SameSet xs ys → IsUnsatisfiable xs → IsUnsatisfiable ys
 unsatisfiable xs ys same no_model = λ i all. no_model i (in_each (IsTrueIn i) xs (λ t h. each_in (IsTrueIn i) ys t all ((same t).0 h)))
 
-unsat_of : (x : Option Reply') → option_map answer x ≡ Some Unsat → x ≡ Some reply'.Unsat
-unsat_of None is = cc
-unsat_of (Some reply'.Unsat) is = refl
-unsat_of (Some reply'.Sat) is = cc
-unsat_of (Some reply'.Unknown) is = cc
-
-right_answer : (q : Question) (r : Reply) (c : Check) → SameSet c.assertions (negate q.condition ∷ q.path) → option_map answer c.reply ≡ Some r → IsRight c → IsRightAnswer q r
-right_answer q Unsat c set is right = unsatisfiable c.assertions (negate q.condition ∷ q.path) set (right (unsat_of c.reply is))
+right_answer : (q : Question) (r : Reply) (c : Check) → SameSet c.assertions (negate q.condition ∷ q.path) → c.reply ≡ Some r → IsRight c → IsRightAnswer q r
+right_answer q Unsat c set is right = unsatisfiable c.assertions (negate q.condition ∷ q.path) set (right is)
 right_answer q Sat c set is right = tt
 right_answer q Unknown c set is right = tt
 

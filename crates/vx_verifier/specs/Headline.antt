@@ -17,7 +17,7 @@ use Rattle.vx_dialogue.specs.Items.{IsGarbled, IsRefused}
 use Rattle.vx_dialogue.specs.Stops.{Stops}
 use Rattle.vx_dialogue.specs.History.{Tells}
 use Rattle.vx_rules.specs.Trees.{Question, Ending as Ends, Passed, Failed, Open, Walked, walk}
-use Rattle.vx_rules.specs.Stack.{code, reply}
+use Rattle.vx_rules.specs.Stack.{code}
 use Rattle.vx_machine.specs.Runs.{member_tree}
 use Rattle.vx_report.specs.declared.run.Cause.{Cause}
 use Rattle.vx_report.specs.declared.run.Cause.TheVariants as cause
@@ -58,7 +58,7 @@ NeverFails p n = IsSupported p → (m : Method) → IsMethodAt p n m → (at : P
 -- the verdict is that of the walk, which asked so many questions
 abbrev pub IsVerdictOf : (Cause → Type 0) → Ends → (asked : ℕ) → Verdict → Type 0
 IsVerdictOf HasCause ending asked verdict'.Verified = ending ≡ Passed
-IsVerdictOf HasCause ending asked (verdict'.Failed place c r) = ending ≡ Failed place (code c) (reply r)
+IsVerdictOf HasCause ending asked (verdict'.Failed place c r) = ending ≡ Failed place (code c) r
 IsVerdictOf HasCause ending asked verdict'.Limit = (asked ≡ 100000) × (q : Question) × (ending ≡ Open q)
 IsVerdictOf HasCause ending asked (verdict'.Fault cause) = HasCause cause × (q : Question) × (ending ≡ Open q)
 

@@ -6,7 +6,8 @@ use Rattle.vx_smt_meaning.specs.Dialogues.{Check}
 use Rattle.vx_ends.specs.declared.piece.Piece.{Piece}
 use Rattle.vx_ends.specs.declared.piece.Start.{Start}
 use Rattle.vx_ends.specs.declared.piece.Ending.{Ending}
-use Rattle.vx_rules.specs.Trees.{Question, Reply, walk}
+use Rattle.vx_smt_meaning.specs.declared.reply.Reply.{Reply}
+use Rattle.vx_rules.specs.Trees.{Question, walk}
 use Rattle.vx_machine.specs.Runs.{Follows, Told, EachAnswered, awaits, is_check, given, member_tree}
 use Rattle.vx_machine.specs.declared.machine.Machine.{Machine}
 use Rattle.vx_machine.specs.declared.machine.Ask.{Ask}

@@ -3,3 +3,4 @@ pub mod Sequences
 pub mod Headline
 pub mod Covered
 pub mod Lanes
+pub mod Reported

@@ -1,17 +1,12 @@
 -- A member's checks, as the dialogue of its child tells them, beside the questions of the walk through its tree.
-use Rattle.std.specs.Prelude.{◌≡◌, ◌⊎◌, ⊤, List, [], ◌∷◌, ◌++◌, Option, Some, None, option_map}
+use Rattle.std.specs.Prelude.{◌≡◌, ◌⊎◌, ⊤, List, [], ◌∷◌, ◌++◌, Option, Some, None}
 use Rattle.vx_terms.specs.Terms.{Term}
 use Rattle.vx_terms.specs.Build.{negate}
 use Rattle.vx_terms.specs.Interpretations.{IsUnsatisfiable}
 use Rattle.vx_smt_meaning.specs.Dialogues.{Check}
-use Rattle.vx_smt_meaning.specs.declared.reply.Reply.{Reply as Reply'}
-use Rattle.vx_smt_meaning.specs.declared.reply.Reply.TheVariants as reply'
-use Rattle.vx_rules.specs.Trees.{Reply, Unsat, Sat, Unknown, Answered}
-
-abbrev pub answer : Reply' → Reply
-answer reply'.Unsat = Unsat
-answer reply'.Sat = Sat
-answer reply'.Unknown = Unknown
+use Rattle.vx_smt_meaning.specs.declared.reply.Reply.{Reply}
+use Rattle.vx_smt_meaning.specs.declared.reply.Reply.TheVariants.{Unsat}
+use Rattle.vx_rules.specs.Trees.{Answered}
 
 abbrev pub IsIn : {A : Type 0} → A → List A → Type 0
 IsIn x [] = ⊥
@@ -24,7 +19,7 @@ SameSet xs ys = (t : Term) → (IsIn t xs → IsIn t ys) × (IsIn t ys → IsIn 
 -- What the check had asserted is the set of this question, its path and its negated condition; and it had this reply.
 pub record IsCheckOf (a : Answered) (c : Check) : Type 0 where
   pub set : SameSet c.assertions (negate a.question.condition ∷ a.question.path)
-  pub reply : option_map answer c.reply ≡ Some a.reply
+  pub reply : c.reply ≡ Some a.reply
 
 -- one check for each question, in order
 abbrev pub AreChecksOf : List Answered → List Check → Type 0
@@ -33,15 +28,15 @@ AreChecksOf [] (c ∷ cs) = ⊥
 AreChecksOf (a ∷ as') [] = ⊥
 AreChecksOf (a ∷ as') (c ∷ cs) = IsCheckOf a c × AreChecksOf as' cs
 
-abbrev pub answer_list : Option Reply' → List Reply
-answer_list None = []
-answer_list (Some r) = answer r ∷ []
+abbrev pub reply_list : Option Reply → List Reply
+reply_list None = []
+reply_list (Some r) = r ∷ []
 
 -- the replies to checks, in order
 abbrev pub replies_to : List Check → List Reply
 replies_to [] = []
-replies_to (c ∷ cs) = answer_list c.reply ++ replies_to cs
+replies_to (c ∷ cs) = reply_list c.reply ++ replies_to cs
 
 -- an unsat is right where no interpretation makes all true that was asserted
 abbrev pub IsRight : Check → Type 0
-IsRight c = c.reply ≡ Some reply'.Unsat → IsUnsatisfiable c.assertions
+IsRight c = c.reply ≡ Some Unsat → IsUnsatisfiable c.assertions

@@ -6,7 +6,6 @@ ghost use Rattle.vx_ends.specs.declared.piece.Ending.{Ending};
 ghost use Rattle.vx_smt_meaning.specs.Dialogues.{Check};
 ghost use Rattle.vx_rules.specs.Stack as rules;
 ghost use Rattle.vx_verifier.specs.Headline.{IsRecorded};
-ghost use Rattle.vx_verifier.specs.Sequences.{answer};
 ghost use Rattle.vx_verifier.specs.Lanes as spec;
 ghost use Rattle.vx_verifier.specs.Lanes.{IsHeld, links, is_lost, Hears, HearsOf, Loses, Starts, Later};
 
@@ -42,16 +41,6 @@ fn trouble_of(talk: Talk) -> Trouble
         Talk::Garbled(kept) | Talk::Refused(kept) => Trouble::Fault(Cause::Reply(kept)),
         Talk::Want => Trouble::Want,
         Talk::Closed => Trouble::Fault(Cause::Spent),
-    }
-}
-
-fn reply_of(reply: vx_smt_meaning::Reply) -> Reply
-    ensures { rules.reply result ≡ answer reply }
-{
-    match reply {
-        vx_smt_meaning::Reply::Unsat => Reply::Unsat,
-        vx_smt_meaning::Reply::Sat => Reply::Sat,
-        vx_smt_meaning::Reply::Unknown => Reply::Unknown,
     }
 }
 
@@ -96,7 +85,7 @@ fn talk<W: Spawner>(
     ensures held { IsHeld result.0 (W.owed spawner.new LANE) }
     ensures owed { W.owed spawner.new LANE + 1 ≡ W.owed spawner.old LANE + links result.0 }
     ensures told { IfOk result.1 (λ reply. (before : List Ending) (checks : List Check) → Hears W.Link.dialogue before (W.ended spawner.old) (Child.Talking dialogue) checks
-        → HearsOf W.Link.dialogue before (W.ended spawner.new) result.0 checks (rules.query query.now) (rules.reply reply)) }
+        → HearsOf W.Link.dialogue before (W.ended spawner.new) result.0 checks (rules.query query.now) reply) }
     ensures lost { IfErr result.1 (λ trouble. (before : List Ending) (checks : List Check) → Hears W.Link.dialogue before (W.ended spawner.old) (Child.Talking dialogue) checks
         → Loses W.Link.dialogue before (W.ended spawner.new) (W.faults spawner.old) (W.faults spawner.new) false checks trouble) }
     ensures child { is_lost result.0 ≡ is_err result.1 }
@@ -105,8 +94,15 @@ fn talk<W: Spawner>(
     ensures later { Later (W.ended spawner.old) (W.ended spawner.new) }
 {
     let mut dialogue = dialogue;
-    match dialogue.ask(alloc, &query.path, &query.condition) {
-        Ok(reply) => (Child::Talking(dialogue), Ok(reply_of(reply))),
+    let path = match query.path.terms(alloc) {
+        Ok(path) => path,
+        Err(_) => {
+            spawner.finish(LANE, dialogue.close());
+            return (Child::Lost, Err(Trouble::Want));
+        }
+    };
+    match dialogue.ask(alloc, &path, &query.condition) {
+        Ok(reply) => (Child::Talking(dialogue), Ok(reply)),
         Err(talk) => {
             spawner.finish(LANE, dialogue.close());
             (Child::Lost, Err(trouble_of(talk)))
@@ -126,7 +122,7 @@ pub fn ask<W: Spawner>(
     ensures held { IsHeld result.0 (W.owed spawner.new LANE) }
     ensures owed { W.owed spawner.new LANE + links child ≡ W.owed spawner.old LANE + links result.0 }
     ensures told { IfOk result.1 (λ reply. (before : List Ending) (checks : List Check) → Hears W.Link.dialogue before (W.ended spawner.old) child checks
-        → HearsOf W.Link.dialogue before (W.ended spawner.new) result.0 checks (rules.query query.now) (rules.reply reply)) }
+        → HearsOf W.Link.dialogue before (W.ended spawner.new) result.0 checks (rules.query query.now) reply) }
     ensures lost { IfErr result.1 (λ trouble. (before : List Ending) (checks : List Check) → Hears W.Link.dialogue before (W.ended spawner.old) child checks
         → Loses W.Link.dialogue before (W.ended spawner.new) (W.faults spawner.old) (W.faults spawner.new) (is_lost child) checks trouble) }
     ensures child { is_lost result.0 ≡ is_err result.1 }

@@ -10,10 +10,7 @@ use vx_ends::Parts;
 #[derive(Drop)]
 pub enum Order {
     /// Verify a file, or standard input where there is no name, by a solver: `builtin` alone is the companion.
-    Verify {
-        file: Option<Text>,
-        solver: Parts,
-    },
+    Verify { file: Option<Text>, solver: Parts },
 }
 
 /// Why the words give no order.

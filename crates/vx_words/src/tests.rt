@@ -21,10 +21,7 @@ fn mean(
     parts: usize,
     last: &str,
 ) -> Result<(), Fail> {
-    let Order::Verify {
-        file: name,
-        solver,
-    } = order(alloc, all)??;
+    let Order::Verify { file: name, solver } = order(alloc, all)??;
     assert_eq!(rt; name.as_ref().map(|n| n.as_str()), file);
     assert!(rt; parts > 0);
     assert_eq!(rt; solver.len(), parts);
@@ -43,9 +40,30 @@ fn no_words_verify(rt: HostRuntime) -> Result<(), Fail> {
 #[test]
 fn a_file_and_a_solver_are_read(rt: HostRuntime) -> Result<(), Fail> {
     let alloc = rt.alloc();
-    mean(&rt, alloc, &["vsil", "verify", "f"], Some("f"), 1, "builtin")?;
-    mean(&rt, alloc, &["vsil", "verify", "--solver", "z3  -in ", "f"], Some("f"), 2, "-in")?;
-    mean(&rt, alloc, &["vsil", "verify", "--solver=cat"], None, 1, "cat")
+    mean(
+        &rt,
+        alloc,
+        &["vsil", "verify", "f"],
+        Some("f"),
+        1,
+        "builtin",
+    )?;
+    mean(
+        &rt,
+        alloc,
+        &["vsil", "verify", "--solver", "z3  -in ", "f"],
+        Some("f"),
+        2,
+        "-in",
+    )?;
+    mean(
+        &rt,
+        alloc,
+        &["vsil", "verify", "--solver=cat"],
+        None,
+        1,
+        "cat",
+    )
 }
 
 #[test]

@@ -31,7 +31,7 @@ returns-in-Done-clause-told g c = λ before checks heard.
     let so_far = c.questions.invariant in
     let told = so_far.told before checks heard in
     at_done g.W.Link.Link.dialogue (settled c.args.typed.now) c.args.member.0 before _ _ c.questions.child checks told.0 c.questions.running.machine c.questions.running.ask
-        c.in-Done.outcome c.verdict_of-verdict.result c.questions.checks so_far.running c.in-Done.is c.verdict_of-verdict.ensures so_far.checks told.1 told.2
+    c.in-Done.outcome c.verdict_of-verdict.result c.questions.checks so_far.running c.in-Done.is c.verdict_of-verdict.ensures so_far.checks told.1 told.2
 
 pub returns-in-Err-reply-clause-told : goal.returns-in-Err-reply-clause-told
 returns-in-Err-reply-clause-told g c = IfOk-weaker c.faulted.result _ _ (λ judged fault. λ before checks heard.
@@ -41,10 +41,10 @@ returns-in-Err-reply-clause-told g c = IfOk-weaker c.faulted.result _ _ (λ judg
     let lost = if_err_at c.ask-kept.result.1 _ c.in-Err-reply.trouble c.ask-kept.ensures.lost c.in-Err-reply.is before (checks ++ told.0) told.1 in
     let gone : is_lost c.ask-kept.result.0 ≡ true = c.ask-kept.ensures.child ∙ ap is_err c.in-Err-reply.is in
     let caused = caused_earlier before (g.W.Spawner.ended c.ask-kept.new.spawner) (g.W.Spawner.faults c.args.spawner.now) (g.W.Spawner.faults c.questions.spawner)
-        (g.W.Spawner.faults c.ask-kept.new.spawner) so_far.faults (is_lost c.questions.child) (is_lost c.args.child) so_far.lost c.in-Err-reply.trouble lost.1 in
+    (g.W.Spawner.faults c.ask-kept.new.spawner) so_far.faults (is_lost c.questions.child) (is_lost c.args.child) so_far.lost c.in-Err-reply.trouble lost.1 in
     at_fault dialogue (settled c.args.typed.now) c.args.member.0 before (g.W.Spawner.ended c.ask-kept.new.spawner) _ c.ask-kept.result.0 checks told.0
-        c.questions.running.machine c.questions.running.ask c.in-Check.query c.in-Err-reply.trouble judged.verdict judged.checks so_far.running c.in-Check.is fault.1 caused
-        (fault.0 ∙ so_far.checks) (lost_hears dialogue before _ c.ask-kept.result.0 (checks ++ told.0) gone lost.0) told.2) c.faulted.ensures
+    c.questions.running.machine c.questions.running.ask c.in-Check.query c.in-Err-reply.trouble judged.verdict judged.checks so_far.running c.in-Check.is fault.1 caused
+    (fault.0 ∙ so_far.checks) (lost_hears dialogue before _ c.ask-kept.result.0 (checks ++ told.0) gone lost.0) told.2) c.faulted.ensures
 
 pub returns-in-Err-reply-clause-starts : goal.returns-in-Err-reply-clause-starts
 returns-in-Err-reply-clause-starts g c = λ before starts. c.ask-kept.ensures.starts before (c.questions.invariant.starts before starts)
@@ -76,7 +76,7 @@ questions-preserved g c =
           let told = so_far.told before checks heard in
           let hears = if_ok_at c.ask-kept.result.1 _ c.in-Ok-reply.reply c.ask-kept.ensures.told c.in-Ok-reply.is before (checks ++ told.0) told.1 in
           goes_on g.W.Link.Link.dialogue (settled c.args.typed.now) c.args.member.0 before _ c.ask-kept.result.0 checks told.0 machine next
-              c.questions.running.ask c.in-Ok-go_on.next.ask c.in-Check.query c.in-Ok-reply.reply so_far.running c.in-Check.is more.running more.one_more told.2 hears;
+          c.questions.running.ask c.in-Ok-go_on.next.ask c.in-Check.query c.in-Ok-reply.reply so_far.running c.in-Check.is more.running more.one_more told.2 hears;
       lost =
           let before = if_ok_at c.ask-kept.result.1 _ c.in-Ok-reply.reply c.ask-kept.ensures.before c.in-Ok-reply.is in
           c.ask-kept.ensures.child ∙ (ap is_err c.in-Ok-reply.is ∙ (sym before ∙ so_far.lost));
