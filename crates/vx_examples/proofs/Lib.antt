@@ -7,3 +7,4 @@ pub mod Truth
 pub mod Rows
 pub mod Stated
 pub mod Given
+pub mod Kept
