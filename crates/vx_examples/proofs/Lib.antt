@@ -8,3 +8,4 @@ pub mod Rows
 pub mod Stated
 pub mod Given
 pub mod Kept
+pub mod Halves

@@ -7,7 +7,7 @@ ghost use Rattle.vx_meaning.specs.Values.{RefValue};
 ghost use Rattle.vx_meaning.specs.Fails.{LowersMeasure, evaluated, MethodFails, FunctionFails, PredicateFails, Fails};
 ghost use Rattle.std.specs.Prelude.{◌≡◌, [], ◌∷◌};
 ghost use Rattle.vx_examples.specs.Words.{at};
-ghost use Rattle.vx_examples.specs.Fields.{exhaled_twice, exhaled_twice_m, maybe_same, maybe_same_m, forgotten, forgotten_m, half_write, half_write_m};
+ghost use Rattle.vx_examples.specs.Fields.{two_halves, two_halves_m, exhaled_twice, exhaled_twice_m, maybe_same, maybe_same_m, forgotten, forgotten_m, half_write, half_write_m};
 ghost use Rattle.vx_examples.specs.Loops.{counting_from_any, counting_from_any_count};
 ghost use Rattle.vx_examples.specs.Calls.{called_bare, called_bare_m};
 ghost use Rattle.vx_examples.specs.Predicates.{folded_write, folded_write_m};
@@ -54,9 +54,10 @@ pub fn measures()
     ensures last { evaluated lengths 0 at_last lengths_length.body ≡ [] }
 {}
 
-/// The programs whose walks fail have runs that fail at the same places.
+/// The programs whose walks fail have runs that fail at the same places, and two halves never fail.
 pub fn failing_rows()
     ensures exhaled_twice { MethodFails exhaled_twice exhaled_twice_m (at 4 20) }
+    ensures two_halves { (place : Place) → MethodFails two_halves two_halves_m place → ⊥ }
     ensures maybe_same { MethodFails maybe_same maybe_same_m (at 5 8) }
     ensures forgotten { MethodFails forgotten forgotten_m (at 6 8) }
     ensures half_write { MethodFails half_write half_write_m (at 4 1) }
