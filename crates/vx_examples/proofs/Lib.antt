@@ -9,3 +9,4 @@ pub mod Stated
 pub mod Given
 pub mod Kept
 pub mod Halves
+pub mod Unending
