@@ -8,6 +8,11 @@ use Rattle.vx_types.specs.Settled.{settled}
 use Rattle.vx_parser.specs.Spelling.{Spells}
 use Rattle.vx_words.specs.declared.order.Order.{Order}
 use Rattle.vx_words.specs.declared.order.Order.TheVariants.{Verify}
+use Rattle.vx_ends.specs.declared.piece.Start.{Start}
+use Rattle.vx_report.specs.declared.run.MemberRun.{MemberRun}
+use Rattle.vx_report.specs.declared.status.Status.{Status}
+use Rattle.vx_report.specs.declared.status.Status.TheVariants.{Done, NotVerified, Usage, Unread, Refused, Faulted, Unwritten, Want}
+use Rattle.vx_report.specs.Statuses.{status_among}
 use Rattle.vx_verifier.specs.declared.top.Told.{Told}
 use Rattle.vx_verifier.specs.declared.top.Told.TheVariants as told
 use Rattle.vx_verifier.specs.Headline.{IsSupported}
@@ -48,3 +53,18 @@ AsksOnly name old new = (new ≡ old) ⊎ (new ≡ old ++ name ∷ [])
 
 abbrev pub AsksFileOf : Order → (old new : List (Option (List ℕ))) → Type 0
 AsksFileOf (Verify file solver) old new = AsksOnly file old new
+
+-- A status with a report is that of its runs; sink is where the sink failed, and usage where the words mean nothing. The others have no runs.
+abbrev pub IsStatusOf : (sink usage : Type 0) → List MemberRun → Status → Type 0
+IsStatusOf sink usage runs Done = status_among runs ≡ Done
+IsStatusOf sink usage runs NotVerified = status_among runs ≡ NotVerified
+IsStatusOf sink usage runs Faulted = status_among runs ≡ Faulted
+IsStatusOf sink usage runs Unwritten = sink
+IsStatusOf sink usage runs Usage = usage × (runs ≡ [])
+IsStatusOf sink usage runs Unread = runs ≡ []
+IsStatusOf sink usage runs Refused = runs ≡ []
+IsStatusOf sink usage runs Want = runs ≡ []
+
+-- the starts of the spawner: at most one, by the words' command
+abbrev pub StartsOnly : Order → (old new : List Start) → Type 0
+StartsOnly (Verify file solver) old new = (new ≡ old) ⊎ (new ≡ old ++ record { lane = 0; command = solver } ∷ [])

@@ -1,15 +1,14 @@
 //! The top call: from the words of the command line to what is put, and the exit status.
 
-ghost use Rattle.std.specs.Prelude.{◌≡◌, ◌⊎◌, ◌++◌, ◌∷◌, [], IfOk, Some, option_copied};
+ghost use Rattle.std.specs.Prelude.{◌≡◌, ◌⊎◌, ◌++◌, ◌∷◌, [], IfOk, Some, None, option_copied};
 ghost use Rattle.vx_ends.specs.Causes.{Rose};
 ghost use Rattle.vx_ends.specs.declared.piece.Start.{Start};
 ghost use Rattle.vx_types.specs.Settled.{settled};
-ghost use Rattle.vx_report.specs.Statuses.{status_among};
 ghost use Rattle.vx_words.specs.Orders.{order_of};
 ghost use Rattle.vx_words.specs.declared.order.Order as meant;
 ghost use Rattle.vx_verifier.specs.Headline.{Headline};
 ghost use Rattle.vx_verifier.specs.Reported as spec;
-ghost use Rattle.vx_verifier.specs.Reported.{IsReadFrom, IsReportOf, AsksOnly, AsksFileOf};
+ghost use Rattle.vx_verifier.specs.Reported.{IsReadFrom, IsReportOf, AsksOnly, AsksFileOf, IsStatusOf, StartsOnly};
 
 use crate::answers::{TOO_LONG, UNREAD, USAGE, refusal_of_types, text_refusal, type_refusal};
 use crate::companion::Builtin;
@@ -42,7 +41,7 @@ enum Told {
 // Puts the text; where the sink fails, that is the status.
 fn put<K: Sink>(out: &mut K, text: &str, status: Status, runs: Vec<MemberRun>) -> Ended
     ensures runs { result.runs ≡ runs }
-    ensures status { (result.status ≡ status) ⊎ Rose (K.faults out.old) (K.faults out.new) }
+    ensures status { (result.status ≡ status) ⊎ ((result.status ≡ Status.Unwritten) × Rose (K.faults out.old) (K.faults out.new)) }
 {
     match put_all(out, text.as_bytes()) {
         Ok(()) => Ended { status, runs },
@@ -95,7 +94,7 @@ fn report<K: Sink, W: Spawner>(
     spawner: &mut W,
 ) -> Result<Ended, AllocError>
     ensures headline { IfOk result (λ ended. Headline (settled typed.now) (W.ended spawner.old) (W.ended spawner.new) (W.faults spawner.old) (W.faults spawner.new) ended.runs.items) }
-    ensures status { IfOk result (λ ended. (ended.status ≡ status_among ended.runs.items) ⊎ Rose (K.faults out.old) (K.faults out.new)) }
+    ensures status { IfOk result (λ ended. IsStatusOf (Rose (K.faults out.old) (K.faults out.new)) ⊥ ended.runs.items ended.status) }
     ensures starts { let start : Start = record { lane = 0; command = solver.now } in (W.starts spawner.new ≡ W.starts spawner.old) ⊎ (W.starts spawner.new ≡ W.starts spawner.old ++ start ∷ []) }
 {
     let runs = verify(alloc, typed, solver, spawner)?;
@@ -125,6 +124,8 @@ fn verify_file<F: Files, K: Sink, W: Spawner>(
         (λ p. Headline p builtin.old.ended.items builtin.new.ended.items 0 0 ended.runs.items)
         (λ p. Headline p (W.ended spawner.old) (W.ended spawner.new) (W.faults spawner.old) (W.faults spawner.new) ended.runs.items)) }
     ensures asked { AsksFileOf order.now (F.asked files.old) (F.asked files.new) }
+    ensures status { IfOk result (λ ended. IsStatusOf (Rose (K.faults out.old) (K.faults out.new)) ⊥ ended.runs.items ended.status) }
+    ensures starts { StartsOnly order.now (W.starts spawner.old) (W.starts spawner.new) }
 {
     let Order::Verify { file, solver } = order;
     let none = Vec::new(alloc);
@@ -155,6 +156,9 @@ pub fn run<F: Files, K: Sink, W: Spawner>(
     ensures headline { (result.runs.items ≡ []) ⊎ ((order : meant.Order) × (order_of words.now ≡ Some order) × IsReportOf order (F.holds files.old)
         (λ p. Headline p builtin.old.ended.items builtin.new.ended.items 0 0 result.runs.items)
         (λ p. Headline p (W.ended spawner.old) (W.ended spawner.new) (W.faults spawner.old) (W.faults spawner.new) result.runs.items)) }
+    ensures status { IsStatusOf (Rose (K.faults out.old) (K.faults out.new)) (order_of words.now ≡ None) result.runs.items result.status }
+    ensures asked { (F.asked files.new ≡ F.asked files.old) ⊎ ((order : meant.Order) × (order_of words.now ≡ Some order) × AsksFileOf order (F.asked files.old) (F.asked files.new)) }
+    ensures starts { (W.starts spawner.new ≡ W.starts spawner.old) ⊎ ((order : meant.Order) × (order_of words.now ≡ Some order) × StartsOnly order (W.starts spawner.old) (W.starts spawner.new)) }
 {
     let none = Vec::new(alloc);
     let ended = match read_words(alloc, words) {
