@@ -3,3 +3,4 @@ pub mod Rows
 pub mod Columns
 pub mod Views
 pub mod Bridge
+pub mod Examples

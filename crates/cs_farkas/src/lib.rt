@@ -2,6 +2,7 @@
 #![tactic(auto)]
 
 ghost use Rattle.cs_farkas.specs.Bridge.{FarkasByNumber};
+ghost use Rattle.cs_farkas.specs.Examples.{Examples};
 
 mod calls;
 mod combine;
@@ -20,6 +21,11 @@ pub use sums::Sums;
 /// The outcome of a `farkas` step by numbers is decided by its rule, and by the fractions that it meets.
 pub fn farkas_by_number()
     ensures { FarkasByNumber }
+{}
+
+/// Sums that are a contradiction, that aren't, and that leave 128 bits.
+pub fn examples()
+    ensures { Examples }
 {}
 
 #[cfg(test)]

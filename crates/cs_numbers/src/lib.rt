@@ -2,6 +2,7 @@
 #![tactic(auto)]
 
 ghost use Rattle.cs_numbers.specs.Laws.{Numbers, NumbersMore, Tabulates, InputByNumber};
+ghost use Rattle.cs_numbers.specs.Examples.{Examples};
 
 mod adding;
 mod table;
@@ -19,6 +20,11 @@ pub fn numbers_are_given()
 pub fn nodes_represent()
     ensures table { Tabulates }
     ensures input { InputByNumber }
+{}
+
+/// Terms with their numbers, and without one.
+pub fn examples()
+    ensures { Examples }
 {}
 
 #[cfg(test)]

@@ -1,2 +1,3 @@
 pub mod Sorting
 pub mod Laws
+pub mod Examples

@@ -2,6 +2,7 @@
 #![tactic(auto)]
 
 ghost use Rattle.cs_sorts.specs.Laws.{TellsSorts, TellsLive};
+ghost use Rattle.cs_sorts.specs.Examples.{Examples};
 
 mod live;
 mod sorting;
@@ -13,6 +14,11 @@ pub use sorting::sort_in;
 pub fn sorts_are_told()
     ensures sorts { TellsSorts }
     ensures live { TellsLive }
+{}
+
+/// Terms that are well-sorted or live, and that aren't.
+pub fn examples()
+    ensures { Examples }
 {}
 
 #[cfg(test)]

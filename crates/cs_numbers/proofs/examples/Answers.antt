@@ -1,0 +1,21 @@
+use Rattle.std.proofs.Common.{refl}
+use Rattle.cs_numbers.proofs.examples.Goals as goal
+
+pub returns : goal.returns
+returns c = record {
+  numbers = refl;
+  known = refl;
+  unknown = refl;
+  next = refl;
+  again = refl;
+  second = refl;
+  nowhere = refl;
+  both = refl;
+  one_missing = refl;
+  behind = refl;
+  node = refl;
+  no_node = refl;
+  no_nodes = refl;
+  input = refl;
+  no_input = refl;
+}
