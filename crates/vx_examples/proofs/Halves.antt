@@ -1,5 +1,5 @@
 -- Two halves make a whole: the method never fails, from whatever heap and for whatever reference.
-use Rattle.std.proofs.Common.{◌≡◌, ℕ, suc, pos, true, false, Bool, IsTrue, List, [], ◌∷◌, refl, sym, subst, inl, inr, ◌⊎◌, arith, Some, Option, ap, ◌∙◌}
+use Rattle.std.proofs.Common.{◌≡◌, ℕ, suc, true, [], ◌∷◌, refl, sym, subst, inl, inr, ◌⊎◌, arith, Some, Option, ap, ◌∙◌}
 use Rattle.std.specs.Prelude.{Ok, Err, nat_eq}
 use Rattle.std.specs.Cmp.{nat_eq_equiv}
 use Rattle.vx_ast.specs.declared.Place.{Place}
@@ -7,14 +7,11 @@ use Rattle.vx_ast.specs.declared.ValueType.TheVariants.{Int}
 use Rattle.vx_ast.specs.declared.ValueType.TheVariants as type
 use Rattle.vx_ast.specs.Syntax.{Block, Then, Done, Inhale, Exhale, Assertion, Points, Variable, Part}
 use Rattle.vx_frac.specs.Fractions.{full, product}
-use Rattle.vx_meaning.specs.Values.{Value, IntValue, BoolValue, RefValue, PermValue, type_of}
-use Rattle.vx_meaning.specs.States.{State, Store, Heap, Holdings, Location, At, gained, lost, with_heap, with_holdings, from_now}
-use Rattle.vx_meaning.specs.Consistent.{IsConsistent}
-use Rattle.vx_meaning.specs.Flatten.{bare}
+use Rattle.vx_meaning.specs.Values.{IntValue, BoolValue, RefValue, PermValue}
+use Rattle.vx_meaning.specs.States.{State, Heap, Holdings, Location, At, gained, lost, from_now}
 use Rattle.vx_meaning.specs.Fits.{Checked, take_by}
-use Rattle.vx_meaning.specs.Give.{give}
-use Rattle.vx_meaning.specs.Outcomes.{Outcome, Outcomes, Ends, FailsAt, ends, and_then, goes_on, is_over, checked}
-use Rattle.vx_meaning.specs.Run.{run, run_all, after_change}
+use Rattle.vx_meaning.specs.Outcomes.{FailsAt, goes_on, is_over}
+use Rattle.vx_meaning.specs.Run.{run_all}
 use Rattle.vx_meaning.specs.Fails.{MethodFails, MethodStarts, precondition, postcondition_unframed, body, postcondition}
 use Rattle.vx_examples.specs.Words.{at}
 use Rattle.vx_examples.specs.Fields.{f, x, two_halves, two_halves_m}
