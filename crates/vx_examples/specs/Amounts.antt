@@ -1,5 +1,5 @@
 -- A third program with a member for each branch of the rules.
-use Rattle.std.specs.Prelude.{true, false, List, [], ◌∷◌, Some, None, codes}
+use Rattle.std.specs.Prelude.{false, [], ◌∷◌, Some, codes}
 use Rattle.vx_ast.specs.declared.ValueType.TheVariants.{Int, Perm}
 use Rattle.vx_ast.specs.declared.ValueType.TheVariants as type
 use Rattle.vx_ast.specs.Syntax.{Name, Assert, Both, Chosen, Declare, Done, Equal, Exhale, Fold, Greater, Implied, Inhale, Instance, IsField, IsMethod, IsPredicate, Less, LessEqual, Method, More, Multiply, New, NoMore, Not, Null, Number, Old, Operate, Part, Points, Predicate, Program, Pure, Read, Then, Truth, Unfold, Unfolding, Variable, While}

@@ -1,11 +1,10 @@
 -- Expressions and the applications that are evaluated with them, where x is the reference 1 and y is 0.
-use Rattle.vx_ast.specs.Syntax.{Name, Expr, Add, And, Apply, Choose, Connect, Divide, Equal, Implies, More, NoMore, Not, Null, Number, Old, Operate, Or, Part, Quotient, Read, Truth, Unfolding, Variable}
+use Rattle.vx_ast.specs.Syntax.{Expr, Add, And, Apply, Choose, Connect, Divide, Equal, Implies, More, NoMore, Not, Null, Number, Old, Operate, Or, Part, Quotient, Read, Truth, Unfolding, Variable}
 use Rattle.vx_examples.specs.Words.{at}
 use Rattle.vx_examples.specs.Cells.{cell, f, get, x, y}
-use Rattle.std.specs.Prelude.{true, false, List, [], ◌∷◌, codes}
+use Rattle.std.specs.Prelude.{true, false, List, [], ◌∷◌}
 use Rattle.vx_meaning.specs.Values.{RefValue}
 use Rattle.vx_meaning.specs.Fails.{Application}
-
 
 -- expressions, and the applications that are evaluated with them
 abbrev pub of_expressions : List (Expr × List Application)

@@ -4,7 +4,7 @@ use Rattle.vx_terms.specs.Sorts as sort
 use Rattle.vx_terms.specs.Sorts.{Sort, IntSort, BoolSort, RealSort, RefSort, SnapSort, OtherSort, Named}
 use Rattle.vx_terms.specs.Terms as term
 use Rattle.vx_terms.specs.Terms.{Term, NoTerms, MoreTerms}
-use Rattle.vx_examples.specs.Words.{int, bool, real, ref, snap, null, unit, number, part, falsity, denied, equal, less, plus, minus, both, chosen_term, quotient, pair, first, second, as_int, wrapped_int}
+use Rattle.vx_examples.specs.Words.{int, bool, ref, snap, null, unit, number, part, falsity, denied, equal, less, plus, minus, both, chosen_term, quotient, pair, first, second, as_int, wrapped_int}
 use Rattle.vx_examples.specs.Simplified.{truth, half}
 
 abbrev pub of_pairs : List ((Term × Term) × Bool)
