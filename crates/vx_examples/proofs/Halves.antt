@@ -94,12 +94,12 @@ some_is a b e = cc
 never_refused : (h : Holdings) (place : Place) → (let c : Checked Holdings = Ok h in c) ≡ Err place → ⊥
 never_refused h place e = cc
 
-pub failing_rows_two_halves : (place : Place) → MethodFails two_halves two_halves_m place → ⊥
-failing_rows_two_halves place (precondition vs ws t u (h, g)) = only_ok _ (BoolValue true) _ _ (λ k. refl) g
-failing_rows_two_halves place (postcondition_unframed s vs ws us h t u v start g) = only_ok _ (BoolValue true) _ _ (λ k. refl) g
-failing_rows_two_halves place (body s b start e r) =
+pub failing_programs_two_halves : (place : Place) → MethodFails two_halves two_halves_m place → ⊥
+failing_programs_two_halves place (precondition vs ws t u (h, g)) = only_ok _ (BoolValue true) _ _ (λ k. refl) g
+failing_programs_two_halves place (postcondition_unframed s vs ws us h t u v start g) = only_ok _ (BoolValue true) _ _ (λ k. refl) g
+failing_programs_two_halves place (body s b start e r) =
     let shape = started s start in
     all_never_fails shape.0 shape.1 place
     (subst (λ z. run_all two_halves (Then (Inhale (at 4 1) (half_on 4)) inhales) z (FailsAt place)) shape.2
     (subst (λ c. run_all two_halves c s (FailsAt place)) (sym (some_is (Then (Inhale (at 4 1) (half_on 4)) inhales) b e)) r))
-failing_rows_two_halves place (postcondition s t b start e r (k, d)) = never_refused t.holdings place (d k (omega arith))
+failing_programs_two_halves place (postcondition s t b start e r (k, d)) = never_refused t.holdings place (d k (omega arith))

@@ -62,7 +62,7 @@ pub fn measures()
 {}
 
 /// The programs whose walks fail have runs that fail at the same places, and two halves never fail.
-pub fn failing_rows()
+pub fn failing_programs()
     ensures exhaled_twice { MethodFails exhaled_twice exhaled_twice_m (at 4 20) }
     ensures two_halves { (place : Place) → MethodFails two_halves two_halves_m place → ⊥ }
     ensures maybe_same { MethodFails maybe_same maybe_same_m (at 5 8) }
