@@ -1,5 +1,5 @@
 -- Two halves make a whole: the method never fails, from whatever heap and for whatever reference.
-use Rattle.std.proofs.Common.{◌≡◌, ℕ, suc, pos, true, false, Bool, IsTrue, List, [], ◌∷◌, refl, sym, subst, inl, inr, ◌⊎◌, arith, Some, Option, ap, ◌∙◌}
+use Rattle.std.proofs.Common.{◌≡◌, ℕ, suc, true, [], ◌∷◌, refl, sym, subst, inl, inr, ◌⊎◌, arith, Some, Option, ap, ◌∙◌}
 use Rattle.std.specs.Prelude.{Ok, Err, nat_eq}
 use Rattle.std.specs.Cmp.{nat_eq_equiv}
 use Rattle.vx_ast.specs.declared.Place.{Place}
@@ -7,14 +7,11 @@ use Rattle.vx_ast.specs.declared.ValueType.TheVariants.{Int}
 use Rattle.vx_ast.specs.declared.ValueType.TheVariants as type
 use Rattle.vx_ast.specs.Syntax.{Block, Then, Done, Inhale, Exhale, Assertion, Points, Variable, Part}
 use Rattle.vx_frac.specs.Fractions.{full, product}
-use Rattle.vx_meaning.specs.Values.{Value, IntValue, BoolValue, RefValue, PermValue, type_of}
-use Rattle.vx_meaning.specs.States.{State, Store, Heap, Holdings, Location, At, gained, lost, with_heap, with_holdings, from_now}
-use Rattle.vx_meaning.specs.Consistent.{IsConsistent}
-use Rattle.vx_meaning.specs.Flatten.{bare}
+use Rattle.vx_meaning.specs.Values.{IntValue, BoolValue, RefValue, PermValue}
+use Rattle.vx_meaning.specs.States.{State, Heap, Holdings, Location, At, gained, lost, from_now}
 use Rattle.vx_meaning.specs.Fits.{Checked, take_by}
-use Rattle.vx_meaning.specs.Give.{give}
-use Rattle.vx_meaning.specs.Outcomes.{Outcome, Outcomes, Ends, FailsAt, ends, and_then, goes_on, is_over, checked}
-use Rattle.vx_meaning.specs.Run.{run, run_all, after_change}
+use Rattle.vx_meaning.specs.Outcomes.{FailsAt, goes_on, is_over}
+use Rattle.vx_meaning.specs.Run.{run_all}
 use Rattle.vx_meaning.specs.Fails.{MethodFails, MethodStarts, precondition, postcondition_unframed, body, postcondition}
 use Rattle.vx_examples.specs.Words.{at}
 use Rattle.vx_examples.specs.Fields.{f, x, two_halves, two_halves_m}
@@ -97,12 +94,12 @@ some_is a b e = cc
 never_refused : (h : Holdings) (place : Place) → (let c : Checked Holdings = Ok h in c) ≡ Err place → ⊥
 never_refused h place e = cc
 
-pub failing_rows_two_halves : (place : Place) → MethodFails two_halves two_halves_m place → ⊥
-failing_rows_two_halves place (precondition vs ws t u (h, g)) = only_ok _ (BoolValue true) _ _ (λ k. refl) g
-failing_rows_two_halves place (postcondition_unframed s vs ws us h t u v start g) = only_ok _ (BoolValue true) _ _ (λ k. refl) g
-failing_rows_two_halves place (body s b start e r) =
+pub failing_programs_two_halves : (place : Place) → MethodFails two_halves two_halves_m place → ⊥
+failing_programs_two_halves place (precondition vs ws t u (h, g)) = only_ok _ (BoolValue true) _ _ (λ k. refl) g
+failing_programs_two_halves place (postcondition_unframed s vs ws us h t u v start g) = only_ok _ (BoolValue true) _ _ (λ k. refl) g
+failing_programs_two_halves place (body s b start e r) =
     let shape = started s start in
     all_never_fails shape.0 shape.1 place
     (subst (λ z. run_all two_halves (Then (Inhale (at 4 1) (half_on 4)) inhales) z (FailsAt place)) shape.2
     (subst (λ c. run_all two_halves c s (FailsAt place)) (sym (some_is (Then (Inhale (at 4 1) (half_on 4)) inhales) b e)) r))
-failing_rows_two_halves place (postcondition s t b start e r (k, d)) = never_refused t.holdings place (d k (omega arith))
+failing_programs_two_halves place (postcondition s t b start e r (k, d)) = never_refused t.holdings place (d k (omega arith))

@@ -1,19 +1,19 @@
 -- A loop whose invariant is kept never fails, and neither does a method that does nothing.
-use Rattle.std.proofs.Common.{◌≡◌, ℕ, pos, ℤ, true, false, Bool, IsTrue, List, [], ◌∷◌, refl, sym, subst, inl, inr, ◌⊎◌, arith, Some, Option, ap, ◌∙◌}
+use Rattle.std.proofs.Common.{◌≡◌, pos, ℤ, true, false, Bool, IsTrue, [], ◌∷◌, refl, sym, subst, inl, inr, ◌⊎◌, arith, Some, Option, ap, ◌∙◌}
 use Rattle.std.specs.Prelude.{Ok, Err, int_lt, int_le, ◌+ℤ◌}
 use Rattle.std.proofs.lemmas.Int.{ints}
 use Rattle.vx_ast.specs.declared.Place.{Place}
 use Rattle.vx_ast.specs.declared.ValueType.TheVariants.{Int}
 use Rattle.vx_ast.specs.declared.ValueType.TheVariants as type
 use Rattle.vx_ast.specs.Syntax.{Name, Expr, Assertion, Block, Done, Then, Assign, Operate, Less, LessEqual, Add, Variable, Number, Pure}
-use Rattle.vx_meaning.specs.Values.{Value, IntValue, BoolValue, RefValue, PermValue, type_of}
+use Rattle.vx_meaning.specs.Values.{Value, IntValue, BoolValue, RefValue, PermValue}
 use Rattle.vx_meaning.specs.States.{State, Store, Heap, Holdings, leave}
 use Rattle.vx_meaning.specs.Fits.{Checked, fit_by, take_by}
 use Rattle.vx_meaning.specs.Give.{give, side}
 use Rattle.vx_meaning.specs.Consistent.{IsConsistent}
 use Rattle.vx_frac.specs.Fractions.{full}
 use Rattle.vx_examples.specs.Words.{at}
-use Rattle.vx_meaning.specs.Outcomes.{Outcome, Outcomes, Ends, FailsAt, Stops, ends, stops, and_then, goes_on, is_over, checked}
+use Rattle.vx_meaning.specs.Outcomes.{Outcomes, Ends, FailsAt, ends, stops, and_then, goes_on, is_over, checked}
 use Rattle.vx_meaning.specs.Run.{run_all, DiffersAt, scoped, iteration, behind}
 use Rattle.vx_meaning.specs.Fails.{MethodFails, precondition, postcondition_unframed, body, postcondition}
 use Rattle.vx_examples.specs.Cells.{x, y, cells}

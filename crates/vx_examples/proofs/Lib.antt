@@ -4,7 +4,7 @@ pub mod Compounds
 pub mod Members
 pub mod Nested
 pub mod Truth
-pub mod Rows
+pub mod Programs
 pub mod Stated
 pub mod Given
 pub mod Kept

@@ -1,10 +1,10 @@
 -- Instances and what lies inside them.
-use Rattle.std.proofs.Common.{◌≡◌, ℕ, zero, suc, pos, true, false, Bool, IsTrue, if◌then◌else◌, List, [], ◌∷◌, refl, sym, subst, Some, None, Option, ◌∙◌}
+use Rattle.std.proofs.Common.{negsuc, arith, ◌≡◌, ℕ, zero, suc, pos, true, false, Bool, IsTrue, if◌then◌else◌, List, [], ◌∷◌, refl, sym, subst, Some, None, Option, ◌∙◌}
 use Rattle.vx_frac.specs.Fractions.{Fraction, full, none, sum, product, is_positive, at_most}
 use Rattle.vx_meaning.specs.Values.{IntValue, RefValue}
 use Rattle.vx_meaning.specs.States.{Holdings, Instance, At, Folded, amount, same_location}
 use Rattle.vx_meaning.specs.Flatten.{flat, IsGrounded, IsInside}
-use Rattle.vx_meaning.specs.Fails.{Inside, LowersMeasure}
+use Rattle.vx_meaning.specs.Fails.{Number, Inside, Lowers, LowersMeasure}
 use Rattle.vx_meaning.specs.Consistent.{IsHeld, IsConsistent, Changes}
 use Rattle.vx_examples.specs.Functions.{length, lengths, lengths_length}
 use Rattle.vx_examples.specs.Cells.{f, cells}
@@ -108,3 +108,12 @@ measures_lowered = record {
   after_is = (0, refl);
   lowers = grounding_inside;
 }
+
+pub measures_numbers_fall : Lowers [] [] (Number (pos 2)) (Number (pos 1))
+measures_numbers_fall = (omega arith, omega arith)
+
+pub measures_numbers_stay : Lowers [] [] (Number (pos 2)) (Number (pos 2)) → ⊥
+measures_numbers_stay l = absurd (omega arith)
+
+pub measures_numbers_below : Lowers [] [] (Number (negsuc 0)) (Number (negsuc 1)) → ⊥
+measures_numbers_below l = absurd (omega arith)

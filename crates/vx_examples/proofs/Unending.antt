@@ -1,11 +1,11 @@
 -- Recursive functions: one that has a value where its list is held, and one that has none.
-use Rattle.std.proofs.Common.{◌≡◌, ℕ, zero, suc, ℤ, pos, List, [], ◌∷◌, refl, sym, ◌∙◌, Some, None, Option}
-use Rattle.std.specs.Prelude.{Ok, Err, ◌+ℤ◌}
+use Rattle.std.proofs.Common.{◌≡◌, ℕ, zero, suc, ℤ, pos, [], ◌∷◌, refl, sym, ◌∙◌, Some, None, Option}
+use Rattle.std.specs.Prelude.{◌+ℤ◌}
 use Rattle.vx_frac.specs.Fractions.{full}
 use Rattle.vx_meaning.specs.Values.{Value, IntValue}
 use Rattle.vx_meaning.specs.States.{State, Folded}
-use Rattle.vx_meaning.specs.Evaluate.{value_by, HasValue, applications}
-use Rattle.vx_meaning.specs.Fits.{Fits, FailsToFit, deeper, fit_by}
+use Rattle.vx_meaning.specs.Evaluate.{HasValue, applications}
+use Rattle.vx_meaning.specs.Fits.{Fits, FailsToFit}
 use Rattle.vx_examples.specs.Words.{at}
 use Rattle.vx_examples.specs.Functions as functions
 use Rattle.vx_examples.specs.Functions.{lengths, lengths_length, rising}

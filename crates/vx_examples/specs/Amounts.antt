@@ -2,7 +2,7 @@
 use Rattle.std.specs.Prelude.{false, [], ◌∷◌, Some, codes}
 use Rattle.vx_ast.specs.declared.ValueType.TheVariants.{Int, Perm}
 use Rattle.vx_ast.specs.declared.ValueType.TheVariants as type
-use Rattle.vx_ast.specs.Syntax.{Name, Assert, Both, Declare, Done, Equal, Exhale, Fold, Greater, Implied, Inhale, Instance, IsField, IsMethod, IsPredicate, Less, LessEqual, Method, More, Multiply, New, NoMore, Not, Null, Number, Old, Operate, Part, Points, Predicate, Program, Pure, Read, Then, Truth, Unfold, Unfolding, Variable, While}
+use Rattle.vx_ast.specs.Syntax.{Name, Assert, Both, Chosen, Declare, Done, Equal, Exhale, Fold, Greater, Implied, Inhale, Instance, IsField, IsMethod, IsPredicate, Less, LessEqual, Method, More, Multiply, New, NoMore, Not, Null, Number, Old, Operate, Part, Points, Predicate, Program, Pure, Read, Then, Truth, Unfold, Unfolding, Variable, While}
 use Rattle.vx_examples.specs.Words.{at}
 
 abbrev pub a : Name
@@ -22,6 +22,9 @@ folds_maybe = codes "folds_maybe"
 
 abbrev pub folds_part : Name
 folds_part = codes "folds_part"
+
+abbrev pub folds_picked : Name
+folds_picked = codes "folds_picked"
 
 abbrev pub loop_reads : Name
 loop_reads = codes "loop_reads"
@@ -47,6 +50,9 @@ old_after = codes "old_after"
 abbrev pub p : Name
 p = codes "p"
 
+abbrev pub picked : Name
+picked = codes "picked"
+
 abbrev pub q : Name
 q = codes "q"
 
@@ -71,6 +77,9 @@ unfolds_maybe = codes "unfolds_maybe"
 abbrev pub unfolds_part : Name
 unfolds_part = codes "unfolds_part"
 
+abbrev pub unfolds_picked : Name
+unfolds_picked = codes "unfolds_picked"
+
 abbrev pub x : Name
 x = codes "x"
 
@@ -92,6 +101,9 @@ x = codes "x"
 -- method folds_maybe(x: Ref, b: Bool) requires b ==> acc(x.f) { fold maybe(x, b) assert false }
 -- method unfolds_maybe(x: Ref, b: Bool) requires maybe(x, b) { unfold maybe(x, b) assert false }
 -- method multiples(x: Ref, p: Perm) { inhale acc(x.f, 2 * p) assert none <= p }
+-- predicate picked(x: Ref, b: Bool) { b ? acc(x.f) : acc(x.r) }
+-- method folds_picked(x: Ref, b: Bool) requires b ? acc(x.f) : acc(x.r) { fold picked(x, b) assert false }
+-- method unfolds_picked(x: Ref, b: Bool) requires picked(x, b) { unfold picked(x, b) assert false }
 abbrev pub amounts_cell : Predicate
 amounts_cell = record {
   place = at 3 1;
@@ -240,5 +252,32 @@ amounts_multiples = record {
   body = Some (Then (Inhale (at 18 37) (Points (at 18 44) (Variable (at 18 48) x) f (Operate (at 18 53) Multiply (Number (at 18 53) 2) (Variable (at 18 57) p)))) (Then (Assert (at 18 60) (Pure (Operate (at 18 67) LessEqual (Part (at 18 67) 0 1) (Variable (at 18 75) p)))) Done));
 }
 
+abbrev pub amounts_picked : Predicate
+amounts_picked = record {
+  place = at 19 1;
+  parameters = record { name = x; of = type.Ref } ∷ record { name = b; of = type.Bool } ∷ [];
+  body = Some (Chosen (Variable (at 19 37) b) (Points (at 19 41) (Variable (at 19 45) x) f (Part (at 19 41) 1 1)) (Points (at 19 52) (Variable (at 19 56) x) r (Part (at 19 52) 1 1)));
+}
+
+abbrev pub amounts_folds_picked : Method
+amounts_folds_picked = record {
+  place = at 20 1;
+  parameters = record { name = x; of = type.Ref } ∷ record { name = b; of = type.Bool } ∷ [];
+  returns = [];
+  requires = Chosen (Variable (at 20 47) b) (Points (at 20 51) (Variable (at 20 55) x) f (Part (at 20 51) 1 1)) (Points (at 20 62) (Variable (at 20 66) x) r (Part (at 20 62) 1 1)) ∷ [];
+  ensures = [];
+  body = Some (Then (Fold (at 20 73) picked (More (Variable (at 20 85) x) (More (Variable (at 20 88) b) NoMore)) (Part (at 20 73) 1 1)) (Then (Assert (at 20 91) (Pure (Truth (at 20 98) false))) Done));
+}
+
+abbrev pub amounts_unfolds_picked : Method
+amounts_unfolds_picked = record {
+  place = at 21 1;
+  parameters = record { name = x; of = type.Ref } ∷ record { name = b; of = type.Bool } ∷ [];
+  returns = [];
+  requires = Instance (at 21 49) picked (More (Variable (at 21 56) x) (More (Variable (at 21 59) b) NoMore)) (Part (at 21 49) 1 1) ∷ [];
+  ensures = [];
+  body = Some (Then (Unfold (at 21 64) picked (More (Variable (at 21 78) x) (More (Variable (at 21 81) b) NoMore)) (Part (at 21 64) 1 1)) (Then (Assert (at 21 84) (Pure (Truth (at 21 91) false))) Done));
+}
+
 abbrev pub amounts : Program
-amounts = record { name = f; kind = IsField Int } ∷ record { name = r; kind = IsField type.Ref } ∷ record { name = cell; kind = IsPredicate amounts_cell } ∷ record { name = maybe; kind = IsPredicate amounts_maybe } ∷ record { name = nested; kind = IsPredicate amounts_nested } ∷ record { name = too_much; kind = IsPredicate amounts_too_much } ∷ record { name = takes_none; kind = IsMethod amounts_takes_none } ∷ record { name = takes_some; kind = IsMethod amounts_takes_some } ∷ record { name = takes_from; kind = IsMethod amounts_takes_from } ∷ record { name = folds_part; kind = IsMethod amounts_folds_part } ∷ record { name = unfolds_part; kind = IsMethod amounts_unfolds_part } ∷ record { name = news_all; kind = IsMethod amounts_news_all } ∷ record { name = news_none; kind = IsMethod amounts_news_none } ∷ record { name = loop_reads; kind = IsMethod amounts_loop_reads } ∷ record { name = old_after; kind = IsMethod amounts_old_after } ∷ record { name = folds_maybe; kind = IsMethod amounts_folds_maybe } ∷ record { name = unfolds_maybe; kind = IsMethod amounts_unfolds_maybe } ∷ record { name = multiples; kind = IsMethod amounts_multiples } ∷ []
+amounts = record { name = f; kind = IsField Int } ∷ record { name = r; kind = IsField type.Ref } ∷ record { name = cell; kind = IsPredicate amounts_cell } ∷ record { name = maybe; kind = IsPredicate amounts_maybe } ∷ record { name = nested; kind = IsPredicate amounts_nested } ∷ record { name = too_much; kind = IsPredicate amounts_too_much } ∷ record { name = takes_none; kind = IsMethod amounts_takes_none } ∷ record { name = takes_some; kind = IsMethod amounts_takes_some } ∷ record { name = takes_from; kind = IsMethod amounts_takes_from } ∷ record { name = folds_part; kind = IsMethod amounts_folds_part } ∷ record { name = unfolds_part; kind = IsMethod amounts_unfolds_part } ∷ record { name = news_all; kind = IsMethod amounts_news_all } ∷ record { name = news_none; kind = IsMethod amounts_news_none } ∷ record { name = loop_reads; kind = IsMethod amounts_loop_reads } ∷ record { name = old_after; kind = IsMethod amounts_old_after } ∷ record { name = folds_maybe; kind = IsMethod amounts_folds_maybe } ∷ record { name = unfolds_maybe; kind = IsMethod amounts_unfolds_maybe } ∷ record { name = multiples; kind = IsMethod amounts_multiples } ∷ record { name = picked; kind = IsPredicate amounts_picked } ∷ record { name = folds_picked; kind = IsMethod amounts_folds_picked } ∷ record { name = unfolds_picked; kind = IsMethod amounts_unfolds_picked } ∷ []

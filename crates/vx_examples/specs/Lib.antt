@@ -22,3 +22,5 @@ pub mod Applications
 pub mod Added
 pub mod Totals
 pub mod Amounts
+pub mod Evaluated
+pub mod Identical

@@ -30,8 +30,8 @@ abbrev pub y : Name
 y = codes "y"
 
 -- method id(b: Bool) returns (c: Bool) requires b ensures c { c := b }
-abbrev pub id_row_id : Method
-id_row_id = record {
+abbrev pub copying_id : Method
+copying_id = record {
   place = at 1 1;
   parameters = record { name = b; of = type.Bool } ∷ [];
   returns = record { name = c; of = type.Bool } ∷ [];
@@ -40,12 +40,12 @@ id_row_id = record {
   body = Some (Then (Assign (at 1 61) c (Variable (at 1 66) b)) Done);
 }
 
-abbrev pub id_row : Program
-id_row = record { name = id; kind = IsMethod id_row_id } ∷ []
+abbrev pub copying : Program
+copying = record { name = id; kind = IsMethod copying_id } ∷ []
 
 -- method m() requires false { assert false }
-abbrev pub absurd_row_m : Method
-absurd_row_m = record {
+abbrev pub from_false_m : Method
+from_false_m = record {
   place = at 1 1;
   parameters = [];
   returns = [];
@@ -54,12 +54,12 @@ absurd_row_m = record {
   body = Some (Then (Assert (at 1 29) (Pure (Truth (at 1 36) false))) Done);
 }
 
-abbrev pub absurd_row : Program
-absurd_row = record { name = m; kind = IsMethod absurd_row_m } ∷ []
+abbrev pub from_false : Program
+from_false = record { name = m; kind = IsMethod from_false_m } ∷ []
 
 -- method inc(x: Int) returns (y: Int) ensures y > x { y := x + 1 }
-abbrev pub inc_row_inc : Method
-inc_row_inc = record {
+abbrev pub incrementing_inc : Method
+incrementing_inc = record {
   place = at 1 1;
   parameters = record { name = x; of = Int } ∷ [];
   returns = record { name = y; of = Int } ∷ [];
@@ -68,12 +68,12 @@ inc_row_inc = record {
   body = Some (Then (Assign (at 1 53) y (Operate (at 1 58) Add (Variable (at 1 58) x) (Number (at 1 62) 1))) Done);
 }
 
-abbrev pub inc_row : Program
-inc_row = record { name = inc; kind = IsMethod inc_row_inc } ∷ []
+abbrev pub incrementing : Program
+incrementing = record { name = inc; kind = IsMethod incrementing_inc } ∷ []
 
 -- method m() { assert 170141183460469231731687303715884105727 > 0 }
-abbrev pub big_row_m : Method
-big_row_m = record {
+abbrev pub big_literal_m : Method
+big_literal_m = record {
   place = at 1 1;
   parameters = [];
   returns = [];
@@ -82,16 +82,16 @@ big_row_m = record {
   body = Some (Then (Assert (at 1 14) (Pure (Operate (at 1 21) Greater (Number (at 1 21) 170141183460469231731687303715884105727) (Number (at 1 63) 0)))) Done);
 }
 
-abbrev pub big_row : Program
-big_row = record { name = m; kind = IsMethod big_row_m } ∷ []
+abbrev pub big_literal : Program
+big_literal = record { name = m; kind = IsMethod big_literal_m } ∷ []
 
 -- method m(a: Bool, b: Bool)
 -- {
 -- if (a) { assert true } else { assert true }
 -- if (b) { assert a ==> a } else { assert a }
 -- }
-abbrev pub sides_row_m : Method
-sides_row_m = record {
+abbrev pub four_ways_m : Method
+four_ways_m = record {
   place = at 1 1;
   parameters = record { name = a; of = type.Bool } ∷ record { name = b; of = type.Bool } ∷ [];
   returns = [];
@@ -100,5 +100,5 @@ sides_row_m = record {
   body = Some (Then (If (at 3 1) (Variable (at 3 5) a) (Then (Assert (at 3 10) (Pure (Truth (at 3 17) true))) Done) (Then (Assert (at 3 31) (Pure (Truth (at 3 38) true))) Done)) (Then (If (at 4 1) (Variable (at 4 5) b) (Then (Assert (at 4 10) (Pure (Connect (at 4 17) Implies (Variable (at 4 17) a) (Variable (at 4 23) a)))) Done) (Then (Assert (at 4 34) (Pure (Variable (at 4 41) a))) Done)) Done));
 }
 
-abbrev pub sides_row : Program
-sides_row = record { name = m; kind = IsMethod sides_row_m } ∷ []
+abbrev pub four_ways : Program
+four_ways = record { name = m; kind = IsMethod four_ways_m } ∷ []

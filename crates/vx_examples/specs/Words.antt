@@ -144,15 +144,6 @@ refuted q = record { question = q; reply = Unsat }
 abbrev pub satisfied : Question → Answered
 satisfied q = record { question = q; reply = Sat }
 
--- the first parts of a table, and the second parts
-abbrev pub questions_in : {A B : Type 0} → List (A × B) → List A
-questions_in [] = []
-questions_in (row ∷ rows) = row.0 ∷ questions_in rows
-
-abbrev pub answers_in : {A B : Type 0} → List (A × B) → List B
-answers_in [] = []
-answers_in (row ∷ rows) = row.1 ∷ answers_in rows
-
 -- a function gives each first part its second
 abbrev pub Computes : {A B : Type 0} → (A → B) → List (A × B) → Type 0
 Computes f [] = Unit {0}

@@ -2,8 +2,8 @@
 
 ghost use Rattle.std.specs.Prelude.{◌≡◌, pos, [], ◌∷◌};
 ghost use Rattle.vx_rules.specs.Trees.{AmountCode, AssertCode, FoldCode, PermissionCode, UnfoldCode};
-ghost use Rattle.vx_examples.specs.Words.{at, part, int, bool, real, ref, snap, null, unit, none, all, falsity, denied, equal, differ, less, at_most, times, implied, as_int, wrapped_int, asks, probes, questions_of};
-ghost use Rattle.vx_examples.specs.Amounts.{amounts, takes_none, takes_some, takes_from, folds_part, unfolds_part, multiples, news_all, news_none, loop_reads, old_after, nested, too_much, folds_maybe, unfolds_maybe};
+ghost use Rattle.vx_examples.specs.Words.{at, part, int, bool, real, ref, snap, null, unit, none, all, falsity, denied, equal, differ, less, at_most, times, implied, as_int, as_ref, wrapped_int, wrapped_ref, asks, probes, questions_of};
+ghost use Rattle.vx_examples.specs.Amounts.{amounts, takes_none, takes_some, takes_from, folds_part, unfolds_part, multiples, news_all, news_none, loop_reads, old_after, nested, too_much, folds_maybe, unfolds_maybe, folds_picked, unfolds_picked, picked};
 
 /// An amount that nothing holds is asked to be none.
 #[tactic(auto, unfolding(vx_frac::specs::Fractions::lowest))]
@@ -87,4 +87,16 @@ pub fn snapshots_of_sides()
     ensures unfolds_maybe { questions_of amounts unfolds_maybe ≡
         asks (at 17 88) AssertCode (bool 1 ∷ equal (int 3) (as_int (snap 2)) ∷ equal (snap 2) (wrapped_int (int 3)) ∷ differ (ref 0) null ∷ []) falsity
         ∷ asks (at 17 88) AssertCode (denied (bool 1) ∷ equal (snap 2) unit ∷ []) falsity ∷ [] }
+{}
+
+/// Either side of a choice has a snapshot of its own.
+#[tactic(auto, unfolding(vx_frac::specs::Fractions::lowest))]
+pub fn snapshots_of_choices()
+    ensures folds_picked { questions_of amounts folds_picked ≡
+        asks (at 20 98) AssertCode (bool 1 ∷ differ (ref 0) null ∷ equal (as_int (wrapped_int (int 2))) (int 2) ∷ equal (snap 3) (wrapped_int (int 2)) ∷ []) falsity
+        ∷ asks (at 20 98) AssertCode (denied (bool 1) ∷ differ (ref 0) null ∷ equal (as_ref (wrapped_ref (ref 2))) (ref 2) ∷ equal (snap 3) (wrapped_ref (ref 2)) ∷ []) falsity ∷ [] }
+    ensures unfolds_picked { questions_of amounts unfolds_picked ≡
+        asks (at 21 91) AssertCode (bool 1 ∷ equal (int 3) (as_int (snap 2)) ∷ equal (snap 2) (wrapped_int (int 3)) ∷ differ (ref 0) null ∷ []) falsity
+        ∷ asks (at 21 91) AssertCode (denied (bool 1) ∷ equal (ref 3) (as_ref (snap 2)) ∷ equal (snap 2) (wrapped_ref (ref 3)) ∷ differ (ref 0) null ∷ []) falsity ∷ [] }
+    ensures picked { questions_of amounts picked ≡ [] }
 {}

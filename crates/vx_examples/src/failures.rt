@@ -4,9 +4,11 @@ ghost use Rattle.vx_ast.specs.declared.Place.{Place};
 ghost use Rattle.vx_ast.specs.declared.ValueType.TheVariants.{Int};
 ghost use Rattle.vx_ast.specs.Syntax.{IsField};
 ghost use Rattle.vx_meaning.specs.Values.{RefValue};
-ghost use Rattle.vx_meaning.specs.Fails.{LowersMeasure, evaluated, MethodFails, FunctionFails, PredicateFails, Fails};
-ghost use Rattle.std.specs.Prelude.{◌≡◌, [], ◌∷◌};
-ghost use Rattle.vx_examples.specs.Words.{at};
+ghost use Rattle.vx_meaning.specs.Fails.{LowersMeasure, Lowers, Number, Inside, evaluated, MethodFails, FunctionFails, PredicateFails, Fails};
+ghost use Rattle.std.specs.Prelude.{◌≡◌, pos, negsuc, [], ◌∷◌};
+ghost use Rattle.vx_examples.specs.Words.{at, Computes};
+ghost use Rattle.vx_examples.specs.Cells.{cells};
+ghost use Rattle.vx_examples.specs.Evaluated.{of_expressions};
 ghost use Rattle.vx_examples.specs.Fields.{two_halves, two_halves_m, exhaled_twice, exhaled_twice_m, maybe_same, maybe_same_m, forgotten, forgotten_m, half_write, half_write_m};
 ghost use Rattle.vx_examples.specs.Loops.{counting_from_any, counting_from_any_count};
 ghost use Rattle.vx_examples.specs.Calls.{called_bare, called_bare_m};
@@ -14,7 +16,7 @@ ghost use Rattle.vx_examples.specs.Predicates.{folded_write, folded_write_m};
 ghost use Rattle.vx_examples.specs.Predicates as predicates;
 ghost use Rattle.vx_examples.specs.Functions as functions;
 ghost use Rattle.vx_examples.specs.Functions.{length, lengths, lengths_length, rising, rising_f};
-ghost use Rattle.vx_examples.specs.Scenes.{list_of_x, at_first, at_last};
+ghost use Rattle.vx_examples.specs.Scenes.{list_of_x, at_first, at_last, poor, list_at};
 ghost use Rattle.vx_examples.specs.Failing.{f, failing, failing_cell, failing_unframed, narrow, failing_narrow, divide, failing_divide, promise, failing_promise, rise, failing_rise, unheld, failing_unheld, unmeasured, failing_unmeasured, wild, failing_wild, stay, failing_stay, again, failing_again, fine, failing_fine, failing_demand, failing_vow, failing_claim, failing_give, failing_idle};
 
 /// A method fails by its precondition, by a postcondition that doesn't frame itself, by its body, and by its postcondition; one that does nothing never fails.
@@ -52,10 +54,15 @@ pub fn measures()
     ensures lowered { LowersMeasure lengths list_of_x (at_first []) length (RefValue 2 ∷ []) }
     ensures first { evaluated lengths 0 (at_first []) lengths_length.body ≡ (length, RefValue 2 ∷ []) ∷ [] }
     ensures last { evaluated lengths 0 at_last lengths_length.body ≡ [] }
+    ensures of_expressions { Computes (evaluated cells 1 poor) of_expressions }
+    ensures numbers_fall { Lowers [] [] (Number (pos 2)) (Number (pos 1)) }
+    ensures numbers_stay { Lowers [] [] (Number (pos 2)) (Number (pos 2)) → ⊥ }
+    ensures numbers_below { Lowers [] [] (Number (negsuc 0)) (Number (negsuc 1)) → ⊥ }
+    ensures two_kinds { Lowers [] [] (Number (pos 2)) (Inside (list_at 1)) → ⊥ }
 {}
 
 /// The programs whose walks fail have runs that fail at the same places, and two halves never fail.
-pub fn failing_rows()
+pub fn failing_programs()
     ensures exhaled_twice { MethodFails exhaled_twice exhaled_twice_m (at 4 20) }
     ensures two_halves { (place : Place) → MethodFails two_halves two_halves_m place → ⊥ }
     ensures maybe_same { MethodFails maybe_same maybe_same_m (at 5 8) }

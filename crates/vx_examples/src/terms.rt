@@ -5,6 +5,8 @@ ghost use Rattle.vx_terms.specs.Sorts.{IntSort, RealSort, RefSort};
 ghost use Rattle.vx_terms.specs.Interpretations.{value, same_tree, IsOf, IntElement, BoolElement, RealElement, TreeElement, Empty, IsTrueIn, IsSatisfiable, IsUnsatisfiable};
 ghost use Rattle.vx_examples.specs.Words.{Computes, int, bool, number, falsity, denied, less};
 ghost use Rattle.vx_examples.specs.Interpreted.{some, one_sixth, of_symbols, of_core, of_arithmetic, of_trees};
+ghost use Rattle.vx_terms.specs.Terms.{same, sort_of, is_name};
+ghost use Rattle.vx_examples.specs.Identical.{of_pairs, of_sorts, of_names};
 ghost use Rattle.vx_examples.specs.Simplified.{of_not, of_and, of_or, of_implies, of_ite, of_equals, of_less, of_at_most, of_add, of_subtract, of_multiply, of_div, of_modulo, of_snapshots};
 
 /// The operators of Core.
@@ -58,4 +60,11 @@ pub fn satisfying()
     ensures not_unsatisfiable { IsUnsatisfiable (bool 1 ∷ []) → ⊥ }
     ensures true_in { IsTrueIn some (less (number 4) (int 0)) }
     ensures not_true { IsTrueIn some (less (int 0) (number 4)) → ⊥ }
+{}
+
+/// Which terms are one and the same; the sorts of terms; which are symbols or literals.
+pub fn compared_terms()
+    ensures pairs { Computes (λ p. same p.0 p.1) of_pairs }
+    ensures sorts { Computes sort_of of_sorts }
+    ensures names { Computes is_name of_names }
 {}

@@ -65,8 +65,8 @@ whole_held = holding x_is_one [] ((At one_f, product full full) ∷ [])
 abbrev whole_start : State
 whole_start = record whole_held { old_holdings = whole_held.holdings }
 
-pub failing_rows_exhaled_twice : MethodFails exhaled_twice exhaled_twice_m (at 4 20)
-failing_rows_exhaled_twice =
+pub failing_programs_exhaled_twice : MethodFails exhaled_twice exhaled_twice_m (at 4 20)
+failing_programs_exhaled_twice =
     body whole_start _
     (RefValue 1 ∷ [], [], (refl, tt), tt, ([], whole_held, passes (At one_f, full) (0, λ m le. refl) (inl (whole_can_be exhaled_twice x_is_one [], refl)), refl))
     refl (is_over tt (refused (at 4 20) (0, λ m le. refl) refl))
@@ -88,8 +88,8 @@ half_can_be = record { supported = record { grounded = λ i e. absurd (not_true 
 halves_can_be : IsConsistent maybe_same two_halves
 halves_can_be = record { supported = record { grounded = λ i e. absurd (not_true e); null = λ n g. refl }; bounded = λ n l. halves_at_most (same_location l one_f) }
 
-pub failing_rows_maybe_same : MethodFails maybe_same maybe_same_m (at 5 8)
-failing_rows_maybe_same =
+pub failing_programs_maybe_same : MethodFails maybe_same maybe_same_m (at 5 8)
+failing_programs_maybe_same =
     body (record two_halves { old_holdings = two_halves.holdings }) _ (
       RefValue 1 ∷ RefValue 1 ∷ [],
       [],
@@ -122,8 +122,8 @@ may_change l h = absurd (nothing_of (same_location l one_f) h.1)
 regained_can_be : IsConsistent forgotten regained
 regained_can_be = record { supported = record { grounded = λ i e. absurd (not_true e); null = λ n g. refl }; bounded = λ n l. again_at_most (same_location l one_f) }
 
-pub failing_rows_forgotten : MethodFails forgotten forgotten_m (at 6 8)
-failing_rows_forgotten =
+pub failing_programs_forgotten : MethodFails forgotten forgotten_m (at 6 8)
+failing_programs_forgotten =
     body whole_start _
     (RefValue 1 ∷ [], [], (refl, tt), tt, ([], whole_held, passes (At one_f, full) (0, λ m le. refl) (inl (whole_can_be forgotten x_is_one [], refl)), refl))
     refl (goes_on changed (passes changed.holdings (0, λ m le. refl) (changed.heap, (may_change, refl)))
@@ -137,8 +137,8 @@ half_held = holding x_is_one [] ((At one_f, product full half) ∷ [])
 half_write_can_be : IsConsistent half_write half_held
 half_write_can_be = record { supported = record { grounded = λ i e. absurd (not_true e); null = λ n g. refl }; bounded = λ n l. half_at_most (same_location l one_f) }
 
-pub failing_rows_half_write : MethodFails half_write half_write_m (at 4 1)
-failing_rows_half_write =
+pub failing_programs_half_write : MethodFails half_write half_write_m (at 4 1)
+failing_programs_half_write =
     body (record half_held { old_holdings = half_held.holdings }) _
     (RefValue 1 ∷ [], [], (refl, tt), tt, ([], half_held, passes (At one_f, half) (0, λ m le. refl) (inl (half_write_can_be, refl)), refl))
     refl (is_over tt (refused (at 4 1) (0, λ m le. refl) refl))
@@ -151,8 +151,8 @@ below = holding ((loops.n, IntValue (negsuc 0)) ∷ []) [] []
 abbrev with_i : State
 with_i = holding ((loops.n, IntValue (negsuc 0)) ∷ (loops.i, IntValue (pos 0)) ∷ []) [] []
 
-pub failing_rows_counting : MethodFails counting_from_any counting_from_any_count (at 5 11)
-failing_rows_counting =
+pub failing_programs_counting : MethodFails counting_from_any counting_from_any_count (at 5 11)
+failing_programs_counting =
     body below _
     (IntValue (negsuc 0) ∷ [], [], (refl, tt), tt, ([], below, passes (BoolValue true) (0, λ m le. refl) refl, refl))
     refl (goes_on with_i (IntValue (pos 0), (refl, refl)) (goes_on with_i (passes (IntValue (pos 0)) (0, λ m le. refl) refl)
@@ -163,14 +163,14 @@ failing_rows_counting =
 abbrev bare_start : State
 bare_start = holding x_is_one [] []
 
-pub failing_rows_called : MethodFails called_bare called_bare_m (at 3 20)
-failing_rows_called =
+pub failing_programs_called : MethodFails called_bare called_bare_m (at 3 20)
+failing_programs_called =
     body bare_start _
     (RefValue 1 ∷ [], [], (refl, tt), tt, ([], bare_start, passes (BoolValue true) (0, λ m le. refl) refl, refl))
     refl (is_over tt (passes (RefValue 1 ∷ []) (0, λ m le. refl) (refused (at 3 20) (0, λ m le. refl) refl)))
 
-pub failing_rows_applied : MethodFails unheld unheld_m (at 3 27)
-failing_rows_applied =
+pub failing_programs_applied : MethodFails unheld unheld_m (at 3 27)
+failing_programs_applied =
     body bare_start _
     (RefValue 1 ∷ [], [], (refl, tt), tt, ([], bare_start, passes (BoolValue true) (0, λ m le. refl) refl, refl))
     refl (is_over tt (refused (at 3 27) (from_one (λ k. refl)) refl))
@@ -180,24 +180,24 @@ failing_rows_applied =
 abbrev all_folded : Holdings
 all_folded = gained (Folded record { predicate = predicates.P_name; arguments = RefValue 1 ∷ [] }) full (lost (At one_f) (product full full) whole_start.holdings)
 
-pub failing_rows_folded : MethodFails folded_write folded_write_m (at 6 1)
-failing_rows_folded =
+pub failing_programs_folded : MethodFails folded_write folded_write_m (at 6 1)
+failing_programs_folded =
     body whole_start _
     (RefValue 1 ∷ [], [], (refl, tt), tt, ([], whole_held, passes (At one_f, full) (0, λ m le. refl) (inl (whole_can_be folded_write x_is_one [], refl)), refl))
     refl (goes_on (record whole_start { holdings = all_folded })
     (passes (record { predicate = predicates.P_name; arguments = RefValue 1 ∷ [] }, full) (0, λ m le. refl) (passes (lost (At one_f) (product full full) whole_start.holdings) (0, λ m le. refl) refl))
     (is_over tt (refused (at 6 1) (0, λ m le. refl) refl)))
 
-pub failing_rows_unframed : PredicateFails unframed unframed_Q
-failing_rows_unframed = fails.PredicateFails.body (RefValue 1 ∷ []) [] _ (at 2 23) (refl, tt) refl (refused (at 2 23) (0, λ m le. refl) refl)
+pub failing_programs_unframed : PredicateFails unframed unframed_Q
+failing_programs_unframed = fails.PredicateFails.body (RefValue 1 ∷ []) [] _ (at 2 23) (refl, tt) refl (refused (at 2 23) (0, λ m le. refl) refl)
 
 -- A measure that doesn't fall
 
 abbrev n_is_zero : State
 n_is_zero = holding ((functions.n, IntValue (pos 0)) ∷ []) [] []
 
-pub failing_rows_rising : FunctionFails rising functions.f rising_f
-failing_rows_rising =
+pub failing_programs_rising : FunctionFails rising functions.f rising_f
+failing_programs_rising =
     application_in_body n_is_zero (functions.f, IntValue (pos 1) ∷ [])
     (IntValue (pos 0) ∷ [], (refl, tt), ([], n_is_zero, passes (BoolValue true) (0, λ m le. refl) refl, refl))
     (0, (0, omega arith, refl)) (
