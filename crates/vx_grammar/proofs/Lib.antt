@@ -3,7 +3,11 @@ pub mod Lists
 pub mod Tells
 pub mod Local
 pub mod Complete
+pub mod PhraseFor
+pub mod PrimaryTells
 pub mod Means
+pub mod LocalParts
+pub mod RunLocal
 pub mod LocalExpr
 pub mod Whole
 pub mod Rows

@@ -10,11 +10,10 @@ use Rattle.vx_tokens.specs.Tokens.{Token, name, word, symbol}
 use Rattle.vx_grammar.specs.Grammar.{Phrase, Mark, mark, marks, meant, StandsAt, tokens_of}
 use Rattle.vx_grammar.specs.Statements.{declaration_meant, declaration_marks, BlockPhrase, block, block_marks, row_marks, semi_marks}
 use Rattle.vx_grammar.specs.Programs.{MoreDeclarations, no_more, listed, DeclarationsPhrase, none, some, ParametersPhrase, ReturnsPhrase, no_returns, returns, more_meant, declarations_meant, returns_meant, StandsMore, StandsDeclarations, StandsReturns, more_marks, declarations_marks, parameters_marks, returns_marks, ClausesPhrase, no_clauses, requires, ensures, StandsClauses, clauses_marks, MethodPhrase, method_meant, StandsMethod, method_marks, ProgramPhrase, no_members, member, program_meant, StandsProgram, program_marks}
-use Rattle.vx_grammar.specs.Reading.{Read, expect, is_symbol}
-use Rattle.vx_grammar.specs.Loops.{run}
-use Rattle.vx_grammar.specs.StmtReading.{name_at, skip_semicolon}
+use Rattle.vx_grammar.specs.Reading.{Read, expect, is_symbol, run, name_at}
+use Rattle.vx_grammar.specs.StmtReading.{skip_semicolon}
 use Rattle.vx_grammar.specs.MemberReading as reading
-use Rattle.vx_grammar.specs.MemberReading.{Clauses, with_requires, with_ensures, begins_requires, begins_ensures, clause_at, clause_turn, clauses_at, exprs_from, limit, max_members, method_of, method_at, declaration_turn, declarations_at, is_closing, inner_parameters_at, parameters_at, begins_returns, returns_at, members_by, members_within, members_at}
+use Rattle.vx_grammar.specs.MemberReading.{Clauses, with_requires, with_ensures, begins_requires, begins_ensures, clause_at, clause_turn, clauses_at, limit, max_members, method_of, method_at, declaration_turn, declarations_at, is_closing, inner_parameters_at, parameters_at, begins_returns, returns_at, members_by, members_within, members_at}
 use Rattle.vx_grammar.specs.Laws.{Within}
 use Rattle.vx_grammar.specs.ProgramLaws.{SpelledProgramsAreRead}
 use Rattle.vx_grammar.proofs.Lists.{tokens-append_more, within_front, within_back, Ends}

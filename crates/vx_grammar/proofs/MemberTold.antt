@@ -14,12 +14,10 @@ use Rattle.vx_grammar.specs.Reading.{◌>>=◌, is_symbol}
 use Rattle.vx_grammar.specs.StmtReading.{declaration_at}
 use Rattle.vx_grammar.specs.MemberReading.{declaration_turn, declarations_at, is_closing, inner_parameters_at, parameters_at, begins_returns, returns_at}
 use Rattle.vx_grammar.proofs.Symbols.{is_symbol_true}
-use Rattle.vx_grammar.proofs.Tells.{Grammar, Starts, Tells, tells_as, tells_here}
+use Rattle.vx_grammar.proofs.Tells.{Grammar, Starts, Tells, tells_as, tells_here, marks_is, somewhere}
 use Rattle.vx_grammar.proofs.Sequence.{Sequence, Nothing, tells_sequence, starts_nothing, tells_nothing}
-use Rattle.vx_grammar.proofs.Bracketed.{Nested, Bracketed, bracket_tells}
-use Rattle.vx_grammar.proofs.Means.{marks_is, somewhere}
+use Rattle.vx_grammar.proofs.Bracketed.{Nested, Bracketed, bracket_tells, led_tells}
 use Rattle.vx_grammar.proofs.StmtTells.{DeclarationFor, declaration_tells}
-use Rattle.vx_grammar.proofs.StmtTold.{led_tells}
 use Rattle.vx_grammar.proofs.Steps.{Step, TurnFor, StepsBy, StepsFor, no_steps, run_tells}
 
 -- ---- declarations

@@ -6,12 +6,10 @@ use Rattle.vx_ast.specs.Written.{Stmt, Block, Done, Then}
 use Rattle.vx_tokens.specs.Tokens.{Token}
 use Rattle.vx_grammar.specs.Grammar.{Phrase, literal, Mark}
 use Rattle.vx_grammar.specs.Statements.{StmtPhrase, asserted, BranchPhrase, branch, OtherPhrase, no_other, BlockPhrase, block, RowPhrase, no_more, more, stmt_meant, branch_meant, other_meant, block_meant, row_meant, StandsStmt, StandsBranch, StandsOther, StandsBlock, StandsRow, stmt_marks, branch_marks, other_marks, block_marks, row_marks}
-use Rattle.vx_grammar.specs.Reading.{◌>>=◌, Read}
-use Rattle.vx_grammar.specs.Loops.{run}
+use Rattle.vx_grammar.specs.Reading.{◌>>=◌, Read, run}
 use Rattle.vx_grammar.specs.StmtReading.{StmtDeeper, begins_stmt, skip_semicolon, stmt_at, stmt_turn, stmts_at, block_from}
-use Rattle.vx_grammar.proofs.Tells.{Starts}
+use Rattle.vx_grammar.proofs.Tells.{Starts, somewhere}
 use Rattle.vx_grammar.proofs.Rows.{rows, RowFor, Semi}
-use Rattle.vx_grammar.proofs.Means.{somewhere}
 
 pub record StmtFor (n : ℕ) (s : Stmt) (ms : List Mark) : Type 0 where
   pub phrase : StmtPhrase

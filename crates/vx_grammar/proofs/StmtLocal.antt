@@ -4,35 +4,22 @@ use Rattle.std.proofs.lemmas.List.{length-map}
 use Rattle.vx_ast.specs.declared.Place.{Place}
 use Rattle.vx_ast.specs.declared.ValueType.TheVariants as types
 use Rattle.vx_ast.specs.Written.{Expr, Declaration, Value, Stmt, Declare, Assign, Assert, Assume, Done, Then}
-use Rattle.vx_tokens.specs.declared.token.Symbol.{Symbol}
 use Rattle.vx_tokens.specs.declared.token.Word.TheVariants as words
 use Rattle.vx_tokens.specs.declared.token.Symbol.TheVariants as signs
-use Rattle.vx_tokens.specs.Tokens.{Token, Kind, name, number, word, symbol}
+use Rattle.vx_tokens.specs.Tokens.{Token, Kind, name, word}
 use Rattle.vx_grammar.specs.Grammar.{tokens_of}
-use Rattle.vx_grammar.specs.Reading.{◌>>=◌, Read, Unexpected, TooDeep, expect, is_symbol, choice, choice_at, below}
-use Rattle.vx_grammar.specs.StmtReading.{StmtPart, statements, elseif_part, StmtDeeper, stmt_part, stmts_below, name_by, name_at, type_by, type_at, declaration_at, condition_at, block_at, otherwise_by, otherwise_at, branch_at, initial_by, initial_at, declare_at, assign_at, assert_at, assume_at, stmt_by, stmt_at, begins_stmt, stmts_at, block_from}
+use Rattle.vx_grammar.specs.Reading.{enclosed, ◌>>=◌, Read, Unexpected, TooDeep, expect, is_symbol, choice, choice_at, below, name_at}
+use Rattle.vx_grammar.specs.StmtReading.{StmtPart, statements, elseif_part, StmtDeeper, stmt_part, stmts_below, type_by, type_at, declaration_at, block_at, otherwise_by, otherwise_at, branch_at, initial_by, initial_at, declare_at, assign_at, assert_at, assume_at, stmt_by, stmt_at, begins_stmt, stmts_at, block_from}
 use Rattle.vx_grammar.proofs.Tells.{Tells, TellsOk}
 use Rattle.vx_grammar.proofs.Rows.{rows, rows_local, LocalRows}
-use Rattle.vx_grammar.proofs.Bracketed.{bracketed_by}
 use Rattle.vx_grammar.proofs.Local.{Local, local_ok, local_unexpected, local_end, local_end_unexpected, local_return, local_token, local_then, local_expect}
+use Rattle.vx_grammar.proofs.LocalParts.{name_local, bracket_local}
 use Rattle.vx_grammar.proofs.LocalExpr.{reading_local, nested_local}
 use Rattle.vx_grammar.proofs.StmtFor.{StmtFor, stmts_are_rows}
 use Rattle.vx_grammar.proofs.StmtTold.{stmt_reading_tells}
 use Rattle.vx_grammar.proofs.StmtReads.{stmt_first}
 
--- ---- names and types
-
-name_by_local : (t : Token) (k : Kind) (ts : List Token) → t.kind ≡ k → Local (t ∷ ts) (name_by t k ts) name_at
-unfolding name_at
-name_by_local t (name x) ts e = local_token t ts (Ok (x, ts)) (λ l. Ok (x, l)) name_at (λ l. rw e refl) (local_return ts x)
-name_by_local t (number x) ts e = local_unexpected t ts name_at (λ more. rw e refl)
-name_by_local t (word x) ts e = local_unexpected t ts name_at (λ more. rw e refl)
-name_by_local t (symbol x) ts e = local_unexpected t ts name_at (λ more. rw e refl)
-
-pub name_local : (ts : List Token) → Local ts (name_at ts) name_at
-unfolding name_at
-name_local [] = local_end_unexpected name_at refl
-name_local (t ∷ ts) = name_by_local t t.kind ts refl
+-- ---- types
 
 type_by_local : (t : Token) (k : Kind) (ts : List Token) → t.kind ≡ k → Local (t ∷ ts) (type_by t k ts) type_at
 unfolding type_at
@@ -52,29 +39,14 @@ declaration_local ts =
     local_then us (expect signs.Colon us) (expect signs.Colon) _ _ (local_expect signs.Colon us) (λ c vs.
     local_then vs (type_at vs) type_at _ _ (type_local vs) (λ t ws. local_return ws _)))
 
--- ---- what nests between two signs
-
-bracket_by_local : {A : Type 0} (s e : Symbol) (go other : List Token → List Token → Read A) → ((here ts : List Token) (heres : List Token → List Token) → Local ts (go here ts) (λ l. other (heres l) l)) → (t : Token) (us : List Token) (b : Bool) → is_symbol s t.kind ≡ b
-    → (let r : Read Token = cond b (Ok (t, us)) (Err (Unexpected (t ∷ us))) in Local (t ∷ us) (r >>= λ opened. go (t ∷ us) opened.1 >>= λ y. expect e y.1 >>= λ close. Ok (y.0, close.1)) (bracketed_by s e other))
-unfolding expect
-bracket_by_local s e go other h t us true q =
-    local_token t us (go (t ∷ us) us >>= λ y. expect e y.1 >>= λ close. Ok (y.0, close.1)) (λ l. other (t ∷ l) l >>= λ y. expect e y.1 >>= λ close. Ok (y.0, close.1)) (bracketed_by s e other) (λ l. rw q refl)
-    (local_then us (go (t ∷ us) us) (λ l. other (t ∷ l) l) _ _ (h (t ∷ us) us (λ l. t ∷ l)) (λ y vs. local_then vs (expect e vs) (expect e) _ _ (local_expect e vs) (λ c ws. local_return ws y)))
-bracket_by_local s e go other h t us false q = local_unexpected t us (bracketed_by s e other) (λ more. rw q refl)
-
-pub bracket_local : {A : Type 0} (s e : Symbol) (go other : List Token → List Token → Read A) → ((here ts : List Token) (heres : List Token → List Token) → Local ts (go here ts) (λ l. other (heres l) l)) → (ts : List Token) → Local ts (bracketed_by s e go ts) (bracketed_by s e other)
-unfolding expect
-bracket_local s e go other h [] = local_end_unexpected (bracketed_by s e other) refl
-bracket_local s e go other h (t ∷ us) = bracket_by_local s e go other h t us (is_symbol s t.kind) refl
-
 -- ---- statements, with as much room, or more
 
 -- the deeper reader's answers are those of the other
 StmtLocal : StmtDeeper → StmtDeeper → Type 0
 StmtLocal d d' = (p : StmtPart) (here ts : List Token) (heres : List Token → List Token) → Local ts (d p here ts) (λ l. d' p (heres l) l)
 
-condition_local : (room more : ℕ) (ts : List Token) → Local ts (condition_at room ts) (condition_at (room + more))
-unfolding condition_at
+condition_local : (room more : ℕ) (ts : List Token) → Local ts (enclosed (below room) choice ts) (enclosed (below (room + more)) choice)
+unfolding enclosed
 condition_local room more ts = bracket_local signs.Open signs.Close (λ here us. below room choice here us) (λ here us. below (room + more) choice here us) (λ here us heres. nested_local room more choice here us heres) ts
 
 block_local : (d d' : StmtDeeper) (ts : List Token) → StmtLocal d d' → Local ts (block_at d ts) (block_at d')
@@ -95,7 +67,7 @@ other_local d d' (t ∷ ts) h = other_by_local d d' t t.kind ts refl h
 branch_local : (room more : ℕ) (d d' : StmtDeeper) (place : Place) (ts : List Token) → StmtLocal d d' → Local ts (branch_at room d place ts) (branch_at (room + more) d' place)
 unfolding branch_at
 branch_local room more d d' place ts h =
-    local_then ts (condition_at room ts) (condition_at (room + more)) _ _ (condition_local room more ts) (λ e us.
+    local_then ts (enclosed (below room) choice ts) (enclosed (below (room + more)) choice) _ _ (condition_local room more ts) (λ e us.
     local_then us (block_at d us) (block_at d') _ _ (block_local d d' us h) (λ b vs.
     local_then vs (otherwise_at d vs) (otherwise_at d') _ _ (other_local d d' vs h) (λ o ws. local_return ws _)))
 

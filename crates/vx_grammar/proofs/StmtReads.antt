@@ -10,8 +10,8 @@ use Rattle.vx_tokens.specs.declared.token.Symbol.TheVariants as signs
 use Rattle.vx_tokens.specs.Tokens.{Token, Kind, name, word, symbol}
 use Rattle.vx_grammar.specs.Grammar.{Phrase, Mark, mark, marks, meant, StandsAt, tokens_of}
 use Rattle.vx_grammar.specs.Statements.{DeclarationPhrase, IsWrittenType, type_word, declaration_meant, declaration_marks, StmtPhrase, assigned, declared, initialized, asserted, assumed, branched, BranchPhrase, branch, OtherPhrase, no_other, other, another, BlockPhrase, block, RowPhrase, no_more, more, stmt_meant, branch_meant, other_meant, block_meant, row_meant, StandsStmt, StandsBranch, StandsOther, StandsBlock, StandsRow, stmt_marks, branch_marks, other_marks, block_marks, row_marks, semi_marks}
-use Rattle.vx_grammar.specs.Reading.{Read, expect, is_symbol, choice, choice_at, below}
-use Rattle.vx_grammar.specs.StmtReading.{StmtDeeper, statements, elseif_part, stmts_below, name_at, type_by, type_at, declaration_at, condition_at, block_at, otherwise_by, otherwise_at, branch_at, initial_by, initial_at, declare_at, assign_at, assert_at, assume_at, stmt_at, begins_stmt, stmts_at, block_from}
+use Rattle.vx_grammar.specs.Reading.{enclosed, Read, expect, is_symbol, choice, choice_at, below, name_at}
+use Rattle.vx_grammar.specs.StmtReading.{StmtDeeper, statements, elseif_part, stmts_below, type_by, type_at, declaration_at, block_at, otherwise_by, otherwise_at, branch_at, initial_by, initial_at, declare_at, assign_at, assert_at, assume_at, stmt_at, begins_stmt, stmts_at, block_from}
 use Rattle.vx_grammar.specs.Nesting.{nests, stmt_nests}
 use Rattle.vx_grammar.specs.Laws.{Within}
 use Rattle.vx_grammar.proofs.Lists.{tokens-append_more, within_front, within_back, reach, Ends}
@@ -74,8 +74,8 @@ expr_reads limit n room w us e h st ends = is_read limit n room w us e h st ends
 room_for : (limit n room : ℕ) → n + room ≡ limit → n + 1 ≤ limit → room ≡ (room - 1) + 1
 room_for limit n room e le = omega (arith, e, le)
 
-condition_reads : (limit n room : ℕ) (o c : Place) (w : Phrase) (us : List Token) → n + room ≡ limit → n + 1 ≤ limit → Within limit (marks (n + 1) w) → StandsAt 8 w → (let open' = mark (n + 1) o (symbol signs.Open) in let close = mark (n + 1) c (symbol signs.Close) in condition_at room (open'.token ∷ Toks (marks (n + 1) w) (close.token ∷ us)) ≡ Ok (meant w, us))
-unfolding condition_at expect
+condition_reads : (limit n room : ℕ) (o c : Place) (w : Phrase) (us : List Token) → n + room ≡ limit → n + 1 ≤ limit → Within limit (marks (n + 1) w) → StandsAt 8 w → (let open' = mark (n + 1) o (symbol signs.Open) in let close = mark (n + 1) c (symbol signs.Close) in enclosed (below room) choice (open'.token ∷ Toks (marks (n + 1) w) (close.token ∷ us)) ≡ Ok (meant w, us))
+unfolding enclosed expect
 condition_reads limit n room o c w us e le h st =
     let less = room - 1 in
     let s = room_for limit n room e le in

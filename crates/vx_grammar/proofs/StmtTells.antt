@@ -6,36 +6,18 @@ use Rattle.vx_ast.specs.declared.ValueType.TheVariants as types
 use Rattle.vx_ast.specs.Written.{Declaration}
 use Rattle.vx_tokens.specs.declared.token.Word.TheVariants as words
 use Rattle.vx_tokens.specs.declared.token.Symbol.TheVariants as signs
-use Rattle.vx_tokens.specs.Tokens.{Token, Kind, name, number, word, symbol}
+use Rattle.vx_tokens.specs.Tokens.{Token, Kind, word}
 use Rattle.vx_grammar.specs.Grammar.{Mark, mark}
 use Rattle.vx_grammar.specs.Statements.{DeclarationPhrase, IsWrittenType, type_word, declaration_meant, declaration_marks}
-use Rattle.vx_grammar.specs.Reading.{expect}
-use Rattle.vx_grammar.specs.StmtReading.{name_by, name_at, type_by, type_at, declaration_at}
-use Rattle.vx_grammar.proofs.Tells.{Grammar, Starts, Tells, Sign, starts_sign, tells_as, tells_unexpected, tells_token, tells_expect}
+use Rattle.vx_grammar.specs.Reading.{expect, name_at}
+use Rattle.vx_grammar.specs.StmtReading.{type_by, type_at, declaration_at}
+use Rattle.vx_grammar.proofs.Tells.{NameFor, name_tells, Grammar, Starts, Tells, Sign, starts_sign, tells_as, tells_unexpected, tells_token, tells_expect, marks_is}
 use Rattle.vx_grammar.proofs.Sequence.{Sequence, Nothing, tells_sequence, starts_sequence, starts_nothing, tells_nothing}
-use Rattle.vx_grammar.proofs.Means.{marks_is}
 
 nowhere : Place
 nowhere = record { line = 0; column = 0 }
 
--- ---- names and types
-
-abbrev pub NameFor : ℕ → Grammar (List ℕ)
-NameFor n x ms = (p : Place) × (ms ≡ mark n p (name x) ∷ [])
-
-pub starts_name : (n : ℕ) → Starts (NameFor n) []
-starts_name n = record { value = []; more = mark n nowhere (name []) ∷ []; spelled = (nowhere, refl) }
-
-name_by_tells : (limit n : ℕ) (t : Token) (k : Kind) (ts : List Token) → n ≤ limit → t.kind ≡ k → Tells (NameFor n) limit (t ∷ ts) (name_by t k ts)
-name_by_tells limit n t (name x) ts le e = tells_token (NameFor n) limit (record { token = t; count = n }) ts x le (t.place, sym (marks_is t (name x) n [] e))
-name_by_tells limit n t (number m) ts le e = tells_unexpected (NameFor n) limit (t ∷ ts) (starts_name n)
-name_by_tells limit n t (word w) ts le e = tells_unexpected (NameFor n) limit (t ∷ ts) (starts_name n)
-name_by_tells limit n t (symbol s) ts le e = tells_unexpected (NameFor n) limit (t ∷ ts) (starts_name n)
-
-pub name_tells : (limit n : ℕ) (ts : List Token) → n ≤ limit → Tells (NameFor n) limit ts (name_at ts)
-unfolding name_at
-name_tells limit n [] le = tells_unexpected (NameFor n) limit [] (starts_name n)
-name_tells limit n (t ∷ ts) le = name_by_tells limit n t t.kind ts le refl
+-- ---- types
 
 abbrev pub TypeFor : ℕ → Grammar ValueType
 TypeFor n t ms = (p : Place) × IsWrittenType t × (ms ≡ mark n p (word (type_word t)) ∷ [])

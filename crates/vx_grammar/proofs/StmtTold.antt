@@ -8,27 +8,22 @@ use Rattle.vx_tokens.specs.declared.token.Symbol.TheVariants as signs
 use Rattle.vx_tokens.specs.Tokens.{Token, Kind, name, word, symbol}
 use Rattle.vx_grammar.specs.Grammar.{Phrase, Mark, mark, marks, meant, StandsAt}
 use Rattle.vx_grammar.specs.Statements.{StmtPhrase, assigned, declared, initialized, asserted, assumed, branched, branch, no_other, other, another, block}
-use Rattle.vx_grammar.specs.Reading.{◌>>=◌, Read, expect, is_symbol, choice, choice_at, below}
-use Rattle.vx_grammar.specs.StmtReading.{StmtPart, statements, elseif_part, stmt_part, stmts_below, declaration_at, condition_at, block_at, otherwise_by, otherwise_at, branch_at, initial_by, initial_at, declare_at, assign_at, assert_at, assume_at, stmt_by, stmt_at, begins_stmt, stmts_at, block_from}
+use Rattle.vx_grammar.specs.Reading.{enclosed, ◌>>=◌, expect, is_symbol, choice, choice_at, below}
+use Rattle.vx_grammar.specs.StmtReading.{StmtPart, statements, elseif_part, stmt_part, stmts_below, declaration_at, block_at, otherwise_by, otherwise_at, branch_at, initial_by, initial_at, declare_at, assign_at, assert_at, assume_at, stmt_by, stmt_at, begins_stmt, stmts_at, block_from}
 use Rattle.vx_grammar.proofs.Symbols.{is_symbol_true}
-use Rattle.vx_grammar.proofs.Tells.{Grammar, Starts, Tells, After, Sign, takes_none, tells_behind, tells_as, tells_here, tells_unexpected, tells_expect}
+use Rattle.vx_grammar.proofs.Tells.{Grammar, Starts, Tells, Sign, takes_none, tells_as, tells_here, tells_unexpected, tells_expect, marks_is}
 use Rattle.vx_grammar.proofs.Rows.{RowFor, tells_rows}
 use Rattle.vx_grammar.proofs.Sequence.{Sequence, Nothing, tells_sequence, starts_sequence, starts_nothing, tells_nothing}
-use Rattle.vx_grammar.proofs.Bracketed.{Nested, Bracketed, bracket_tells}
-use Rattle.vx_grammar.proofs.Means.{PhraseFor, Behind, starts_any, tells_nested, count_down, reading_tells, marks_is}
+use Rattle.vx_grammar.proofs.Bracketed.{led_tells, Nested, Bracketed, bracket_tells}
+use Rattle.vx_grammar.proofs.Means.{reading_tells}
 use Rattle.vx_grammar.proofs.StmtTells.{DeclarationFor, declaration_tells}
 use Rattle.vx_grammar.proofs.StmtFor.{StmtFor, BranchFor, OtherFor, BlockFor, InsideFor, starts_stmt, starts_inside, starts_block, starts_other, starts_branch, row_inside, stmts_are_rows}
+use Rattle.vx_grammar.proofs.PhraseFor.{PhraseFor, starts_any, tells_nested, count_down}
 
 pub fits : (limit n room : ℕ) → n + room ≡ limit → n ≤ limit
 fits limit n room e = omega (arith, e)
 
--- ---- a token, and then a part
-
-pub led_tells : {A : Type 0} (R : Grammar A) (limit n : ℕ) (t : Token) (ts : List Token) (r : Read A) → n ≤ limit → Tells R limit ts r → Tells (Nested (record { token = t; count = n }) R) limit (t ∷ ts) r
-led_tells R limit n t ts r le h =
-    let m : Mark = record { token = t; count = n } in
-    tells_behind (Nested m R) limit (t ∷ ts) ts (m ∷ []) (record { within = (le, tt); tokens = refl }) r
-    (tells_as R (After (Nested m R) (m ∷ [])) limit ts r (λ y ms g. record { inner = ms; is = refl; spelled = g }) h)
+-- ---- what nests
 
 nested_stmts : (R : Grammar Block) (limit n room : ℕ) (p : StmtPart) (t : Token) (ts : List Token) → n + room ≡ limit → Starts R [] → ((less : ℕ) → room ≡ less + 1 → Tells R limit ts (stmt_part less (stmts_below less) p ts)) → Tells (Nested (record { token = t; count = n + 1 }) R) limit (t ∷ ts) (stmts_below room p (t ∷ ts) ts)
 unfolding stmts_below
@@ -56,13 +51,11 @@ StmtToldBelow limit room = (less : ℕ) → room ≡ less + 1 → StmtTold limit
 
 -- ---- conditions and blocks
 
-condition_tells : (limit n room : ℕ) (ts : List Token) → n + room ≡ limit → Tells (Bracketed n signs.Open signs.Close (PhraseFor (n + 1) 8)) limit ts (condition_at room ts)
-unfolding condition_at
+condition_tells : (limit n room : ℕ) (ts : List Token) → n + room ≡ limit → Tells (Bracketed n signs.Open signs.Close (PhraseFor (n + 1) 8)) limit ts (enclosed (below room) choice ts)
+unfolding enclosed
 condition_tells limit n room ts e =
     bracket_tells signs.Open signs.Close (PhraseFor (n + 1) 8) (λ here us. below room choice here us) limit n (starts_any (n + 1) 8)
-    (λ t us. tells_as (Behind (record { token = t; count = n + 1 }) (PhraseFor (n + 1) 8)) (Nested (record { token = t; count = n + 1 }) (PhraseFor (n + 1) 8)) limit (t ∷ us) (below room choice (t ∷ us) us)
-    (λ y ms b. record { inner = b.inner; is = b.is; spelled = b.spelled })
-    (tells_nested (PhraseFor (n + 1) 8) limit n room choice t us e (starts_any (n + 1) 8) (λ less s. reading_tells limit (n + 1) less us (count_down limit n room less e s)))) ts
+    (λ t us. tells_nested choice (PhraseFor (n + 1) 8) limit n room t us e (starts_any (n + 1) 8) (λ less s. reading_tells limit (n + 1) less us (count_down limit n room less e s))) ts
 
 inside_tells : (limit n room : ℕ) (ts : List Token) → n + room ≡ limit → StmtTold limit room → Tells (InsideFor n) limit ts (stmt_part room (stmts_below room) statements ts)
 inside_tells limit n room ts e told =
@@ -141,7 +134,7 @@ branch_tells_at : (limit n room : ℕ) (place : Place) (ts : List Token) → n +
 unfolding branch_at
 branch_tells_at limit n room place ts e told =
     tells_as (BranchParts n place) (BranchFor n place) limit ts _ (branch_of_parts n place)
-    (tells_sequence (Bracketed n signs.Open signs.Close (PhraseFor (n + 1) 8)) _ limit ts (condition_at room ts) _ (λ c. starts_sequence (BlockFor n) _ (starts_block n) (λ b. starts_sequence (OtherFor n) _ (starts_other n) (λ o. starts_nothing _))) (condition_tells limit n room ts e)
+    (tells_sequence (Bracketed n signs.Open signs.Close (PhraseFor (n + 1) 8)) _ limit ts (enclosed (below room) choice ts) _ (λ c. starts_sequence (BlockFor n) _ (starts_block n) (λ b. starts_sequence (OtherFor n) _ (starts_other n) (λ o. starts_nothing _))) (condition_tells limit n room ts e)
     (λ c us. tells_sequence (BlockFor n) _ limit us (block_at (stmts_below room) us) _ (λ b. starts_sequence (OtherFor n) _ (starts_other n) (λ o. starts_nothing _)) (block_tells limit n room us e told)
     (λ b vs. tells_sequence (OtherFor n) _ limit vs (otherwise_at (stmts_below room) vs) _ (λ o. starts_nothing _) (other_tells limit n room vs e told)
     (λ o ws. tells_nothing limit ws _))))

@@ -4,10 +4,9 @@ use Rattle.vx_ast.specs.declared.Place.{Place}
 use Rattle.vx_tokens.specs.declared.token.Word.TheVariants as words
 use Rattle.vx_tokens.specs.declared.token.Symbol.TheVariants as signs
 use Rattle.vx_tokens.specs.Tokens.{Kind, word, Token}
-use Rattle.vx_ast.specs.Written.{Expr, Exprs, NoMore, More, Declaration, Block, IsMethod, Member, Program}
-use Rattle.vx_grammar.specs.Loops.{Turn, run}
-use Rattle.vx_grammar.specs.Reading.{Stop, TooDeep, Read, ◌>>=◌, is_symbol, expect, choice_at, below}
-use Rattle.vx_grammar.specs.StmtReading.{name_at, declaration_at, block_at, stmts_below, skip_semicolon}
+use Rattle.vx_ast.specs.Written.{Expr, Declaration, Block, IsMethod, Member, Program}
+use Rattle.vx_grammar.specs.Reading.{Stop, TooDeep, Read, ◌>>=◌, Turn, run, is_symbol, expect, name_at, choice_at, below, exprs_from}
+use Rattle.vx_grammar.specs.StmtReading.{declaration_at, block_at, stmts_below, skip_semicolon}
 
 -- the nesting limit
 abbrev pub limit : ℕ
@@ -94,10 +93,6 @@ clause_turn deep before (t ∷ ts) =
 
 unfoldable pub clauses_at : ℕ → List Token → Read Clauses
 clauses_at deep ts = run (clause_turn deep) (length ts) no_clauses ts
-
-abbrev pub exprs_from : List Expr → Exprs
-exprs_from [] = NoMore
-exprs_from (e ∷ es) = More e (exprs_from es)
 
 -- ---- members
 

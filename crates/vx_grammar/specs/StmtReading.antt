@@ -6,19 +6,10 @@ use Rattle.vx_ast.specs.declared.ValueType.TheVariants as types
 use Rattle.vx_tokens.specs.declared.token.Word.TheVariants as words
 use Rattle.vx_tokens.specs.declared.token.Symbol.TheVariants as signs
 use Rattle.vx_tokens.specs.Tokens.{Kind, name, word, Token}
-use Rattle.vx_ast.specs.Written.{Expr, Declaration, Value, Stmt, Block, Declare, Assign, Assert, Assume, If, Done, Then}
-use Rattle.vx_grammar.specs.Loops.{Turn, run}
-use Rattle.vx_grammar.specs.Reading.{Unexpected, TooDeep, Read, ◌>>=◌, is_symbol, expect, choice, choice_at, below}
+use Rattle.vx_ast.specs.Written.{Declaration, Value, Stmt, Block, Declare, Assign, Assert, Assume, If, Done, Then}
+use Rattle.vx_grammar.specs.Reading.{Unexpected, TooDeep, Read, ◌>>=◌, Turn, run, is_symbol, expect, name_at, enclosed, choice, choice_at, below}
 
--- ---- names and types
-
-abbrev pub name_by : Token → Kind → List Token → Read (List ℕ)
-name_by t (name x) ts = Ok (x, ts)
-name_by t k ts = Err (Unexpected (t ∷ ts))
-
-unfoldable pub name_at : List Token → Read (List ℕ)
-name_at [] = Err (Unexpected [])
-name_at (t ∷ ts) = name_by t t.kind ts
+-- ---- types
 
 abbrev pub type_by : Token → Kind → List Token → Read ValueType
 type_by t (word words.Int) ts = Ok (types.Int, ts)
@@ -47,14 +38,6 @@ pub data StmtPart : Type 0 where
 abbrev pub StmtDeeper : Type 0
 StmtDeeper = StmtPart → List Token → List Token → Read Block
 
--- an expression between parentheses
-unfoldable pub condition_at : ℕ → List Token → Read Expr
-condition_at room ts = do
-  opened ← expect signs.Open ts
-  e ← below room choice ts opened.1
-  close ← expect signs.Close e.1
-  Ok (e.0, close.1)
-
 unfoldable pub block_at : StmtDeeper → List Token → Read Block
 block_at deeper ts = do
   opened ← expect signs.OpenBrace ts
@@ -75,7 +58,7 @@ otherwise_at deeper (t ∷ ts) = otherwise_by deeper t t.kind ts
 -- behind an `if` or an `elseif`
 unfoldable pub branch_at : ℕ → StmtDeeper → Place → List Token → Read Stmt
 branch_at room deeper place ts = do
-  e ← condition_at room ts
+  e ← enclosed (below room) choice ts
   b ← block_at deeper e.1
   o ← otherwise_at deeper b.1
   Ok (If place e.0 b.0 o.0, o.1)

@@ -1,7 +1,6 @@
 pub mod Faults
 pub mod Answers
 pub mod Gives
-pub mod Part
 pub mod Refusing
 pub mod Says
 pub mod Spelling

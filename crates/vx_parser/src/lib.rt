@@ -3,7 +3,9 @@
 
 mod expr;
 mod fault;
+mod made;
 mod member;
+mod name;
 mod program;
 mod stmt;
 mod stop;

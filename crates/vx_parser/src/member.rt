@@ -3,13 +3,14 @@
 ghost use Rattle.std.specs.Prelude.{◌≡◌, IfOk, length, ◌∷◌, []};
 ghost use Rattle.vx_ast.specs.Written.{name_of, written_expr, written_declaration, written_member};
 ghost use Rattle.vx_tokens.specs.Tokens.{kind_of, tokens_in};
-ghost use Rattle.vx_grammar.specs.Loops.{run};
+ghost use Rattle.vx_grammar.specs.Reading.{run};
 ghost use Rattle.vx_grammar.specs.MemberReading as reading;
 ghost use Rattle.vx_parser.specs.Gives.{Gives};
 ghost use Rattle.vx_parser.specs.Views.{block_of, clauses_of, declarations_of};
 
-use crate::expr::{Read, choice, expect, is_symbol};
-use crate::stmt::{block, declaration, name, skip_semicolon};
+use crate::expr::{Read, choice, expect, is_symbol, same};
+use crate::name::name;
+use crate::stmt::{block, declaration, skip_semicolon};
 use crate::stop::Stop;
 use std::alloc::{AllocError, Global};
 use std::rc::Rc;
@@ -24,13 +25,6 @@ const LIMIT: u32 = 200;
 struct Clauses {
     preconditions: Vec<Rc<Expr>>,
     postconditions: Vec<Rc<Expr>>,
-}
-
-// The same tokens, as what a call gives: a loop's variable can take that.
-fn same<'t>(tokens: &'t [Token<'t>]) -> &'t [Token<'t>]
-    ensures { result.now ≡ tokens.now }
-{
-    tokens
 }
 
 // What follows a declaration, each behind a comma.

@@ -203,16 +203,7 @@ fn is_foreign_member(kind: Kind) -> bool
 fn is_foreign_symbol(symbol: Symbol) -> bool
     ensures { result ≡ answers.is_foreign_symbol symbol }
 {
-    matches!(
-        symbol,
-        Symbol::Slash
-            | Symbol::Backslash
-            | Symbol::Percent
-            | Symbol::Dot
-            | Symbol::OpenBracket
-            | Symbol::At
-            | Symbol::Wand
-    )
+    matches!(symbol, Symbol::OpenBracket | Symbol::At | Symbol::Wand)
 }
 
 fn is_foreign_word(word: Word) -> bool
@@ -232,13 +223,7 @@ fn is_foreign_word(word: Word) -> bool
             | Word::Unfold
             | Word::Unfolding
             | Word::In
-            | Word::Acc
             | Word::New
-            | Word::Old
-            | Word::Outcome
-            | Word::Write
-            | Word::Nothing
-            | Word::Null
             | Word::Ref
             | Word::Perm
             | Word::Foreign

@@ -10,7 +10,8 @@ ghost use Rattle.vx_parser.specs.StmtPart.{stmt_part_of};
 ghost use Rattle.vx_grammar.specs.StmtReading.{block_from};
 ghost use Rattle.vx_parser.specs.Views.{stmt_of, block_of};
 
-use crate::expr::{Part, Read, choice, expect, is_symbol, nested};
+use crate::expr::{Read, choice, expect, grouped, is_symbol};
+use crate::name::name;
 use crate::stop::Stop;
 use std::alloc::{AllocError, Global};
 use std::rc::Rc;
@@ -22,26 +23,6 @@ use vx_tokens::{Kind, Symbol, Token, Word};
 enum StmtPart {
     Statements,
     Elseif(Place),
-}
-
-/// A name, and where it stands.
-#[tactic(auto, unfolding(vx_grammar::specs::StmtReading::name_at))]
-pub fn name<'t>(alloc: Global, tokens: &'t [Token<'t>]) -> Read<'t, Name>
-    ensures { Gives (λ x. (name_of x.0, tokens_in x.1.now)) result (reading.name_at (tokens_in tokens.now)) }
-{
-    let Some((first, rest)) = tokens.split_first() else {
-        return Err(Stop::Unexpected(tokens));
-    };
-    match first.kind {
-        Kind::Name(text) => {
-            let name = Name {
-                text: String::from_str(alloc, text)?,
-                place: first.place,
-            };
-            Ok((name, rest))
-        }
-        _ => Err(Stop::Unexpected(tokens)),
-    }
 }
 
 #[tactic(auto, unfolding(vx_grammar::specs::StmtReading::type_at))]
@@ -67,18 +48,6 @@ pub fn declaration<'t>(alloc: Global, tokens: &'t [Token<'t>]) -> Read<'t, Decla
     let (_, rest) = expect(Symbol::Colon, rest)?;
     let (value_type, rest) = value_type(rest)?;
     Ok((Declaration { name, value_type }, rest))
-}
-
-// An expression between parentheses.
-#[tactic(auto, unfolding(vx_grammar::specs::StmtReading::condition_at))]
-fn condition<'t>(alloc: Global, room: u32, tokens: &'t [Token<'t>]) -> Read<'t, Expr>
-    requires { room < 1000 }
-    ensures { Gives (λ x. (written_expr x.0, tokens_in x.1.now)) result (reading.condition_at room (tokens_in tokens.now)) }
-{
-    let (_, inner) = expect(Symbol::Open, tokens)?;
-    let (e, rest) = nested(alloc, room, Part::Choice, tokens, inner)?;
-    let (_, rest) = expect(Symbol::Close, rest)?;
-    Ok((e, rest))
 }
 
 /// A block between braces.
@@ -142,7 +111,7 @@ fn branch<'t>(alloc: Global, room: u32, place: Place, tokens: &'t [Token<'t>]) -
     requires { room < 1000 }
     ensures { Gives (λ x. (stmt_of x.0, tokens_in x.1.now)) result (reading.branch_at room (reading.stmts_below room) place (tokens_in tokens.now)) }
 {
-    let (e, rest) = condition(alloc, room, tokens)?;
+    let (e, rest) = grouped(alloc, room, tokens)?;
     let (then, rest) = block(alloc, room, rest)?;
     let (otherwise, rest) = otherwise(alloc, room, rest)?;
     Ok((branched(alloc, place, e, then, otherwise)?, rest))

@@ -21,7 +21,7 @@ fn answer(alloc: Global, text: &[u8]) -> Result<String, AllocError> {
     }
 }
 
-const ROWS: [(&str, &str); 33] = [
+const ROWS: [(&str, &str); 47] = [
     ("", "ok"),
     (
         "method id(b: Bool) returns (c: Bool) requires b ensures c { c := b }",
@@ -62,8 +62,31 @@ const ROWS: [(&str, &str); 33] = [
         "method m() { while (true) { } }",
         "1:14 E09 Unsupported while",
     ),
-    ("method m() { assert a / b }", "1:23 E09 Unsupported /"),
-    ("method m() { assert a.f }", "1:22 E09 Unsupported ."),
+    ("method m() { assert a / b \\ c % d * e }", "ok"),
+    ("method m() { assert a.f.g == null }", "ok"),
+    (
+        "method m() { assert acc(x.f, 1/2) && acc(P(x)) && f(x, y + 1).g == old(x.f) }",
+        "ok",
+    ),
+    (
+        "method m() { assert f() == result || none < write && (x).f }",
+        "ok",
+    ),
+    ("method m() { assert acc x }", "1:25 E03 Unexpected x"),
+    (
+        "method m() { assert acc(x, y, z) }",
+        "1:29 E03 Unexpected ,",
+    ),
+    ("method m() { assert acc() }", "1:25 E03 Unexpected )"),
+    ("method m() { assert f(x,) }", "1:25 E03 Unexpected )"),
+    ("method m() { assert f(,x) }", "1:23 E03 Unexpected ,"),
+    ("method m() { assert f(x y) }", "1:25 E03 Unexpected y"),
+    ("method m() { assert old }", "1:25 E03 Unexpected }"),
+    ("method m() { assert a.1 }", "1:23 E03 Unexpected 1"),
+    ("method m() { assert a. }", "1:24 E03 Unexpected }"),
+    ("method m() { assert -x.f }", "ok"),
+    ("method m() { assert f(x)(y) }", "1:25 E03 Unexpected ("),
+    ("method m() { assert a . f", "1:26 E04 EndOfText"),
     ("method m() { assert a --* b }", "1:23 E09 Unsupported --*"),
     ("method m() { assert [a, b] }", "1:21 E09 Unsupported ["),
     ("method m() { assert a ] }", "1:23 E02 BadCharacter"),
@@ -154,6 +177,24 @@ fn nesting(rt: HostRuntime) -> Result<(), Fail> {
         nested(alloc, front, b'(', 200, b"")?.as_str(),
         "1:220 E06 TooDeep"
     );
+    Ok(())
+}
+
+// A receiver, and so many fields of it.
+fn fields(alloc: Global, count: usize) -> Result<String, AllocError> {
+    let mut text = Vec::from_slice(alloc, b"method m() { assert x")?;
+    for _ in 0..count {
+        text.extend_from_slice(b".f")?;
+    }
+    text.extend_from_slice(b" }")?;
+    answer(alloc, text.as_slice())
+}
+
+#[test]
+fn many_dots(rt: HostRuntime) -> Result<(), Fail> {
+    let alloc = rt.alloc();
+    assert_eq!(rt; fields(alloc, 199)?.as_str(), "ok");
+    assert_eq!(rt; fields(alloc, 200)?.as_str(), "1:420 E06 TooDeep");
     Ok(())
 }
 
