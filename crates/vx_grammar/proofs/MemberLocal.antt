@@ -5,11 +5,12 @@ use Rattle.std.proofs.lemmas.Bool.{leb-true, le-leb}
 use Rattle.vx_ast.specs.declared.Place.{Place}
 use Rattle.vx_ast.specs.Written.{Expr, Declaration}
 use Rattle.vx_tokens.specs.declared.token.Symbol.TheVariants as signs
-use Rattle.vx_tokens.specs.Tokens.{Token}
+use Rattle.vx_tokens.specs.declared.token.Word.TheVariants as words
+use Rattle.vx_tokens.specs.Tokens.{Token, Kind, word}
 use Rattle.vx_grammar.specs.Grammar.{Mark, tokens_of}
 use Rattle.vx_grammar.specs.Reading.{◌>>=◌, Read, Unexpected, TooDeep, is_symbol, choice_at, below, name_at}
 use Rattle.vx_grammar.specs.StmtReading.{declaration_at, block_at, stmts_below, skip_semicolon}
-use Rattle.vx_grammar.specs.MemberReading.{limit, Clauses, no_clauses, with_requires, with_ensures, begins_requires, begins_ensures, clause_at, clause_turn, clauses_at, method_at, declaration_turn, declarations_at, inner_parameters_at, parameters_at, begins_returns, returns_at}
+use Rattle.vx_grammar.specs.MemberReading.{limit, Clauses, no_clauses, with_requires, with_ensures, begins_requires, begins_ensures, clause_at, clause_turn, clauses_at, method_at, field_at, member_by, member_at, declaration_turn, declarations_at, inner_parameters_at, parameters_at, begins_returns, returns_at}
 use Rattle.vx_grammar.proofs.Tells.{Grammar, Tells, TellsOk}
 use Rattle.vx_grammar.proofs.Steps.{TurnFor}
 use Rattle.vx_grammar.proofs.MemberTold.{DeclarationStep, turn_tells}
@@ -48,7 +49,7 @@ declaration_turns : Turns declaration_turn declaration_turn
 unfolding declaration_turn
 declaration_turns = record {
   local = declaration_turn_local;
-  short = λ s t ts mid e. taken_short (TurnFor (DeclarationStep 0) s) 0 ts (Some t) mid (λ ms (p, d, st, v, z). rw z (omega arith)) (subst (Tells (TurnFor (DeclarationStep 0) s) 0 ts) e (turn_tells 0 0 (omega arith) s ts));
+  short = λ s t ts mid e. taken_short (TurnFor (DeclarationStep 0) s) 0 ts (Some t) mid (λ ms (p, d, v, z). rw z (omega arith)) (subst (Tells (TurnFor (DeclarationStep 0) s) 0 ts) e (turn_tells 0 0 (omega arith) s ts));
   same = λ s ts mid e. taken_none (TurnFor (DeclarationStep 0) s) 0 ts None mid (λ ms z. z) (subst (Tells (TurnFor (DeclarationStep 0) s) 0 ts) e (turn_tells 0 0 (omega arith) s ts));
   empty = λ s. refl;
 }
@@ -148,7 +149,7 @@ clauses_local more ts = run_local (clause_turn limit) (clause_turn (limit + more
 
 -- ---- methods
 
-pub method_local : (more : ℕ) (place : Place) (ts : List Token) → Local ts (method_at limit place ts) (method_at (limit + more) place)
+method_local : (more : ℕ) (place : Place) (ts : List Token) → Local ts (method_at limit place ts) (method_at (limit + more) place)
 unfolding method_at
 method_local more place ts =
     local_then ts (name_at ts) name_at _ _ (name_local ts) (λ x us.
@@ -156,3 +157,21 @@ method_local more place ts =
     local_then vs (returns_at vs) returns_at _ _ (returns_local vs) (λ rs ws.
     local_then ws (clauses_at limit ws) (clauses_at (limit + more)) _ _ (clauses_local more ws) (λ c xs.
     local_then xs (block_at (stmts_below limit) xs) (block_at (stmts_below (limit + more))) _ _ (block_reading_local limit more xs) (λ b ys. local_return ys _)))))
+
+-- ---- members
+
+field_local : (place : Place) (ts : List Token) → Local ts (field_at place ts) (field_at place)
+unfolding field_at
+field_local place ts = local_then ts (declaration_at ts) declaration_at _ _ (declaration_local ts) (λ d us. local_return us _)
+
+nothing_local : {A : Type 0} (ts : List Token) → (let r : Read A = Err (Unexpected ts) in Local ts r (λ l. Err (Unexpected l)))
+nothing_local ts = record { front = []; is = refl; repeats = λ next same. refl }
+
+member_by_local : (more : ℕ) (place : Place) (k : Kind) (ts : List Token) → Local ts (member_by limit place k ts) (member_by (limit + more) place k)
+member_by_local more place (word words.Field) ts = field_local place ts
+member_by_local more place (word words.Method) ts = method_local more place ts
+member_by_local more place k ts = nothing_local ts
+
+pub member_local : (more : ℕ) (t : Token) (ts : List Token) → Local ts (member_at limit t ts) (member_at (limit + more) t)
+unfolding member_at
+member_local more t ts = member_by_local more t.place t.kind ts

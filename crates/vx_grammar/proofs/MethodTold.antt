@@ -233,7 +233,7 @@ MethodParts place = Sequence (NameFor 0) (λ x. Sequence (ParametersFor 0) (λ p
 method_parts_of : (t : Token) → t.kind ≡ word words.Method → (m : Member) (ms inner : List Mark) → (let k : Mark = record { token = t; count = 0 } in ms ≡ k ∷ inner) → MethodParts t.place m inner → MethodFor m ms
 method_parts_of t k m ms inner is (x, a, a', q, (p, z), (ps, b, b', q', g, (rs, c, c', q'', h, (cl, d, d', q3, i, (bl, e, e', q4, j, (v, y)))))) = record {
   phrase = record { at = t.place; name_at = p; text = x; parameters = g.phrase; returns = h.phrase; clauses = i.phrase; body = j.phrase };
-  stands = record { parameters = g.stands; returns = h.stands; clauses = i.stands; body = j.stands };
+  stands = record { clauses = i.stands; body = j.stands };
   means = means ∙ sym v;
   spelled = marks_is t (word words.Method) 0 _ k ∙ ap (λ l. let s : Mark = record { token = t; count = 0 } in s ∷ l) (sym all) ∙ sym is;
 }

@@ -3,13 +3,14 @@ use Rattle.std.proofs.Common.{◌≡◌, ℕ, zero, suc, ◌+◌, ◌<◌, List,
 use Rattle.std.proofs.lemmas.List.{length-map}
 use Rattle.vx_ast.specs.declared.Place.{Place}
 use Rattle.vx_ast.specs.declared.ValueType.TheVariants as types
-use Rattle.vx_ast.specs.Written.{Expr, Declaration, Value, Stmt, Declare, Assign, Assert, Assume, Done, Then}
+use Rattle.vx_ast.specs.Written.{Expr, Declaration, Value, Stmt, Declare, Assign, Done, Then}
+use Rattle.vx_grammar.specs.Statements.{inhales, exhales, asserts, assumes, claim_meant}
 use Rattle.vx_tokens.specs.declared.token.Word.TheVariants as words
 use Rattle.vx_tokens.specs.declared.token.Symbol.TheVariants as signs
 use Rattle.vx_tokens.specs.Tokens.{Token, Kind, name, word}
 use Rattle.vx_grammar.specs.Grammar.{tokens_of}
 use Rattle.vx_grammar.specs.Reading.{enclosed, ◌>>=◌, Read, Unexpected, TooDeep, expect, is_symbol, choice, choice_at, below, name_at}
-use Rattle.vx_grammar.specs.StmtReading.{StmtPart, statements, elseif_part, StmtDeeper, stmt_part, stmts_below, type_by, type_at, declaration_at, block_at, otherwise_by, otherwise_at, branch_at, initial_by, initial_at, declare_at, assign_at, assert_at, assume_at, stmt_by, stmt_at, begins_stmt, stmts_at, block_from}
+use Rattle.vx_grammar.specs.StmtReading.{StmtPart, statements, elseif_part, StmtDeeper, stmt_part, stmts_below, type_by, type_at, declaration_at, block_at, otherwise_by, otherwise_at, branch_at, initial_by, initial_at, declare_at, assign_at, claim_at, stmt_by, stmt_at, begins_stmt, stmts_at, block_from}
 use Rattle.vx_grammar.proofs.Tells.{Tells, TellsOk}
 use Rattle.vx_grammar.proofs.Rows.{rows, rows_local, LocalRows}
 use Rattle.vx_grammar.proofs.Local.{Local, local_ok, local_unexpected, local_end, local_end_unexpected, local_return, local_token, local_then, local_expect}
@@ -25,6 +26,8 @@ type_by_local : (t : Token) (k : Kind) (ts : List Token) → t.kind ≡ k → Lo
 unfolding type_at
 type_by_local t (word words.Int) ts e = local_token t ts (Ok (types.Int, ts)) (λ l. Ok (types.Int, l)) type_at (λ l. rw e refl) (local_return ts types.Int)
 type_by_local t (word words.Bool) ts e = local_token t ts (Ok (types.Bool, ts)) (λ l. Ok (types.Bool, l)) type_at (λ l. rw e refl) (local_return ts types.Bool)
+type_by_local t (word words.Ref) ts e = local_token t ts (Ok (types.Ref, ts)) (λ l. Ok (types.Ref, l)) type_at (λ l. rw e refl) (local_return ts types.Ref)
+type_by_local t (word words.Perm) ts e = local_token t ts (Ok (types.Perm, ts)) (λ l. Ok (types.Perm, l)) type_at (λ l. rw e refl) (local_return ts types.Perm)
 type_by_local t k ts e = local_unexpected t ts type_at (λ more. rw e refl)
 
 type_local : (ts : List Token) → Local ts (type_at ts) type_at
@@ -94,11 +97,13 @@ unfolding assign_at
 assign_local room more place x ts = local_then ts (expect signs.Becomes ts) (expect signs.Becomes) _ _ (local_expect signs.Becomes ts) (λ c us. made_local room more (λ e. Assign place x (Value e)) us)
 
 stmt_by_local : (room more : ℕ) (d d' : StmtDeeper) (t : Token) (k : Kind) (ts : List Token) → t.kind ≡ k → StmtLocal d d' → Local (t ∷ ts) (stmt_by room d t k ts) (stmt_at (room + more) d')
-unfolding stmt_at assert_at assume_at
+unfolding stmt_at claim_at
 stmt_by_local room more d d' t (name x) ts e h = local_token t ts (assign_at room t.place x ts) (assign_at (room + more) t.place x) (stmt_at (room + more) d') (λ l. rw e refl) (assign_local room more t.place x ts)
 stmt_by_local room more d d' t (word words.Var) ts e h = local_token t ts (declare_at room t.place ts) (declare_at (room + more) t.place) (stmt_at (room + more) d') (λ l. rw e refl) (declare_local room more t.place ts)
-stmt_by_local room more d d' t (word words.Assert) ts e h = local_token t ts (assert_at room t.place ts) (assert_at (room + more) t.place) (stmt_at (room + more) d') (λ l. rw e refl) (made_local room more (Assert t.place) ts)
-stmt_by_local room more d d' t (word words.Assume) ts e h = local_token t ts (assume_at room t.place ts) (assume_at (room + more) t.place) (stmt_at (room + more) d') (λ l. rw e refl) (made_local room more (Assume t.place) ts)
+stmt_by_local room more d d' t (word words.Inhale) ts e h = local_token t ts (claim_at room inhales t.place ts) (claim_at (room + more) inhales t.place) (stmt_at (room + more) d') (λ l. rw e refl) (made_local room more (claim_meant inhales t.place) ts)
+stmt_by_local room more d d' t (word words.Exhale) ts e h = local_token t ts (claim_at room exhales t.place ts) (claim_at (room + more) exhales t.place) (stmt_at (room + more) d') (λ l. rw e refl) (made_local room more (claim_meant exhales t.place) ts)
+stmt_by_local room more d d' t (word words.Assert) ts e h = local_token t ts (claim_at room asserts t.place ts) (claim_at (room + more) asserts t.place) (stmt_at (room + more) d') (λ l. rw e refl) (made_local room more (claim_meant asserts t.place) ts)
+stmt_by_local room more d d' t (word words.Assume) ts e h = local_token t ts (claim_at room assumes t.place ts) (claim_at (room + more) assumes t.place) (stmt_at (room + more) d') (λ l. rw e refl) (made_local room more (claim_meant assumes t.place) ts)
 stmt_by_local room more d d' t (word words.If) ts e h = local_token t ts (branch_at room d t.place ts) (branch_at (room + more) d' t.place) (stmt_at (room + more) d') (λ l. rw e refl) (branch_local room more d d' t.place ts h)
 stmt_by_local room more d d' t k ts e h = local_unexpected t ts (stmt_at (room + more) d') (λ l. rw e refl)
 

@@ -4,14 +4,14 @@ use Rattle.std.proofs.lemmas.List.{length-map}
 use Rattle.vx_ast.specs.declared.Place.{Place}
 use Rattle.vx_ast.specs.declared.ValueType.{ValueType}
 use Rattle.vx_ast.specs.declared.ValueType.TheVariants as types
-use Rattle.vx_ast.specs.Written.{Stmt, Block, Done, Then}
+use Rattle.vx_ast.specs.Written.{Expr, Stmt, Block, Done, Then}
 use Rattle.vx_tokens.specs.declared.token.Word.TheVariants as words
 use Rattle.vx_tokens.specs.declared.token.Symbol.TheVariants as signs
 use Rattle.vx_tokens.specs.Tokens.{Token, Kind, name, word, symbol}
 use Rattle.vx_grammar.specs.Grammar.{Phrase, Mark, mark, marks, meant, StandsAt, tokens_of}
-use Rattle.vx_grammar.specs.Statements.{DeclarationPhrase, IsWrittenType, type_word, declaration_meant, declaration_marks, StmtPhrase, assigned, declared, initialized, asserted, assumed, branched, BranchPhrase, branch, OtherPhrase, no_other, other, another, BlockPhrase, block, RowPhrase, no_more, more, stmt_meant, branch_meant, other_meant, block_meant, row_meant, StandsStmt, StandsBranch, StandsOther, StandsBlock, StandsRow, stmt_marks, branch_marks, other_marks, block_marks, row_marks, semi_marks}
+use Rattle.vx_grammar.specs.Statements.{DeclarationPhrase, Claim, inhales, exhales, asserts, assumes, claim_word, claim_meant, type_word, declaration_meant, declaration_marks, StmtPhrase, assigned, declared, initialized, claimed, branched, BranchPhrase, branch, OtherPhrase, no_other, other, another, BlockPhrase, block, RowPhrase, no_more, more, stmt_meant, branch_meant, other_meant, block_meant, row_meant, StandsStmt, StandsBranch, StandsOther, StandsBlock, StandsRow, stmt_marks, branch_marks, other_marks, block_marks, row_marks, semi_marks}
 use Rattle.vx_grammar.specs.Reading.{enclosed, Read, expect, is_symbol, choice, choice_at, below, name_at}
-use Rattle.vx_grammar.specs.StmtReading.{StmtDeeper, statements, elseif_part, stmts_below, type_by, type_at, declaration_at, block_at, otherwise_by, otherwise_at, branch_at, initial_by, initial_at, declare_at, assign_at, assert_at, assume_at, stmt_at, begins_stmt, stmts_at, block_from}
+use Rattle.vx_grammar.specs.StmtReading.{StmtDeeper, statements, elseif_part, stmts_below, type_by, type_at, declaration_at, block_at, otherwise_by, otherwise_at, branch_at, initial_by, initial_at, declare_at, assign_at, claim_at, stmt_by, stmt_at, begins_stmt, stmts_at, block_from}
 use Rattle.vx_grammar.specs.Nesting.{nests, stmt_nests}
 use Rattle.vx_grammar.specs.Laws.{Within}
 use Rattle.vx_grammar.proofs.Lists.{tokens-append_more, within_front, within_back, reach, Ends}
@@ -38,6 +38,8 @@ over_ends (t ∷ ts) h = h.0
 over_kind : (k : Kind) → begins_stmt k ≡ true → (8 < reach k) × (is_symbol signs.Becomes k ≡ false) × (begins_other k ≡ false)
 over_kind (name x) h = (omega arith, refl, refl)
 over_kind (word words.Var) h = (omega arith, refl, refl)
+over_kind (word words.Inhale) h = (omega arith, refl, refl)
+over_kind (word words.Exhale) h = (omega arith, refl, refl)
 over_kind (word words.Assert) h = (omega arith, refl, refl)
 over_kind (word words.Assume) h = (omega arith, refl, refl)
 over_kind (word words.If) h = (omega arith, refl, refl)
@@ -46,6 +48,8 @@ over_kind k h = absurd cc
 not_semi : (k : Kind) → begins_stmt k ≡ true → is_symbol signs.Semicolon k ≡ false
 not_semi (name x) h = refl
 not_semi (word words.Var) h = refl
+not_semi (word words.Inhale) h = refl
+not_semi (word words.Exhale) h = refl
 not_semi (word words.Assert) h = refl
 not_semi (word words.Assume) h = refl
 not_semi (word words.If) h = refl
@@ -56,15 +60,15 @@ not_semi k h = absurd cc
 abbrev pub Toks : List Mark → List Token → List Token
 Toks ms us = tokens_of ms ++ us
 
-type_reads : (t : ValueType) (at : Token) (us : List Token) → IsWrittenType t → type_by at (word (type_word t)) us ≡ Ok (t, us)
-type_reads types.Int at us h = refl
-type_reads types.Bool at us h = refl
-type_reads types.Ref at us h = absurd h
-type_reads types.Perm at us h = absurd h
+type_reads : (t : ValueType) (at : Token) (us : List Token) → type_by at (word (type_word t)) us ≡ Ok (t, us)
+type_reads types.Int at us = refl
+type_reads types.Bool at us = refl
+type_reads types.Ref at us = refl
+type_reads types.Perm at us = refl
 
-pub declaration_reads : (n : ℕ) (d : DeclarationPhrase) (us : List Token) → IsWrittenType d.of → declaration_at (Toks (declaration_marks n d) us) ≡ Ok (declaration_meant d, us)
+pub declaration_reads : (n : ℕ) (d : DeclarationPhrase) (us : List Token) → declaration_at (Toks (declaration_marks n d) us) ≡ Ok (declaration_meant d, us)
 unfolding declaration_at name_at type_at expect
-declaration_reads n d us h = rw (type_reads d.of (mark n d.type_at (word (type_word d.of))).token us h) refl
+declaration_reads n d us = rw (type_reads d.of (mark n d.type_at (word (type_word d.of))).token us) refl
 
 -- ---- expressions
 
@@ -152,18 +156,30 @@ branch_reads_at limit n room place (branch o w c b x) ts e below' h st ends =
 
 -- ---- statements
 
+claim_is : (c : Claim) (p : Place) (n room : ℕ) (e : Expr) (us ts : List Token) → choice_at (below room) us ≡ Ok (e, ts) → stmt_at room (stmts_below room) ((mark n p (word (claim_word c))).token ∷ us) ≡ Ok (claim_meant c p e, ts)
+unfolding stmt_at claim_at
+claim_is inhales p n room e us ts h = rw h refl
+claim_is exhales p n room e us ts h = rw h refl
+claim_is asserts p n room e us ts h = rw h refl
+claim_is assumes p n room e us ts h = rw h refl
+
+claim_begins : (c : Claim) → begins_stmt (word (claim_word c)) ≡ true
+claim_begins inhales = refl
+claim_begins exhales = refl
+claim_begins asserts = refl
+claim_begins assumes = refl
+
 stmt_reads : (limit n room : ℕ) (w : StmtPhrase) (ts : List Token) → n + room ≡ limit → StmtReadsBelow limit room → Within limit (stmt_marks n w) → StandsStmt w → StmtOver ts → stmt_at room (stmts_below room) (Toks (stmt_marks n w) ts) ≡ Ok (stmt_meant w, ts)
-unfolding stmt_at assign_at assert_at assume_at declare_at initial_at initial_by expect
+unfolding stmt_at assign_at claim_at declare_at initial_at initial_by expect
 stmt_reads limit n room (assigned p x q e) ts s below' h st ends = rw (expr_reads limit n room e ts s h.1.1 st (over_ends ts ends)) refl
-stmt_reads limit n room (declared p d) [] s below' h st ends = rw (declaration_reads n d [] st) refl
-stmt_reads limit n room (declared p d) (t ∷ ts) s below' h st ends = rw (declaration_reads n d (t ∷ ts) st, ends.1) refl
+stmt_reads limit n room (declared p d) [] s below' h st ends = rw (declaration_reads n d []) refl
+stmt_reads limit n room (declared p d) (t ∷ ts) s below' h st ends = rw (declaration_reads n d (t ∷ ts), ends.1) refl
 stmt_reads limit n room (initialized p d q e) ts s below' h st ends =
     let m = mark n q (symbol signs.Becomes) in
     let list : tokens_of (declaration_marks n d ++ m ∷ marks n e) ++ ts ≡ Toks (declaration_marks n d) (m.token ∷ Toks (marks n e) ts) = tokens-append_more (declaration_marks n d) (m ∷ marks n e) ts in
-    let value = expr_reads limit n room e ts s (within_back limit (declaration_marks n d) (m ∷ marks n e) h.1).1 st.1 (over_ends ts ends) in
-    rw (list, declaration_reads n d (m.token ∷ Toks (marks n e) ts) st.0, value) refl
-stmt_reads limit n room (asserted p e) ts s below' h st ends = rw (expr_reads limit n room e ts s h.1 st (over_ends ts ends)) refl
-stmt_reads limit n room (assumed p e) ts s below' h st ends = rw (expr_reads limit n room e ts s h.1 st (over_ends ts ends)) refl
+    let value = expr_reads limit n room e ts s (within_back limit (declaration_marks n d) (m ∷ marks n e) h.1).1 st (over_ends ts ends) in
+    rw (list, declaration_reads n d (m.token ∷ Toks (marks n e) ts), value) refl
+stmt_reads limit n room (claimed c p e) ts s below' h st ends = claim_is c p n room (meant e) (Toks (marks n e) ts) ts (expr_reads limit n room e ts s h.1 st (over_ends ts ends))
 stmt_reads limit n room (branched p b) ts s below' h st ends = branch_reads_at limit n room p b ts s below' h.1 st ends
 
 -- statements within the limit
@@ -174,8 +190,7 @@ pub stmt_first : (n : ℕ) (w : StmtPhrase) → (m : Mark) × (rest : List Mark)
 stmt_first n (assigned p x q e) = (_, _, refl, refl)
 stmt_first n (declared p d) = (_, _, refl, refl)
 stmt_first n (initialized p d q e) = (_, _, refl, refl)
-stmt_first n (asserted p e) = (_, _, refl, refl)
-stmt_first n (assumed p e) = (_, _, refl, refl)
+stmt_first n (claimed c p e) = (_, _, refl, claim_begins c)
 stmt_first n (branched p b) = (_, _, refl, refl)
 
 item_first : (limit n : ℕ) (s : Stmt) (ms : List Mark) → StmtWithin limit n s ms → (m : Mark) × (rest : List Mark) × (ms ≡ m ∷ rest) × (begins_stmt m.token.kind ≡ true)

@@ -2,14 +2,14 @@
 use Rattle.std.proofs.Common.{◌≡◌, ℕ, zero, suc, ◌+◌, ◌≤◌, List, [], ◌∷◌, ◌++◌, Some, None, Bool, true, false, Ok, length, refl, sym, ap, subst, ◌∙◌, append_assoc, arith, cond, inl, inr, ◌⊎◌}
 use Rattle.std.proofs.lemmas.List.{append-nil}
 use Rattle.vx_ast.specs.declared.Place.{Place}
-use Rattle.vx_ast.specs.Written.{Expr, Declaration, Value, Stmt, Block, Declare, Assign, Assert, Assume, If, Done, Then}
+use Rattle.vx_ast.specs.Written.{Expr, Declaration, Value, Stmt, Block, Declare, Assign, If, Done, Then}
 use Rattle.vx_tokens.specs.declared.token.Word.TheVariants as words
 use Rattle.vx_tokens.specs.declared.token.Symbol.TheVariants as signs
 use Rattle.vx_tokens.specs.Tokens.{Token, Kind, name, word, symbol}
 use Rattle.vx_grammar.specs.Grammar.{Phrase, Mark, mark, marks, meant, StandsAt}
-use Rattle.vx_grammar.specs.Statements.{StmtPhrase, assigned, declared, initialized, asserted, assumed, branched, branch, no_other, other, another, block}
+use Rattle.vx_grammar.specs.Statements.{StmtPhrase, assigned, declared, initialized, Claim, inhales, exhales, asserts, assumes, claim_word, claim_meant, claimed, branched, branch, no_other, other, another, block}
 use Rattle.vx_grammar.specs.Reading.{enclosed, ◌>>=◌, expect, is_symbol, choice, choice_at, below}
-use Rattle.vx_grammar.specs.StmtReading.{StmtPart, statements, elseif_part, stmt_part, stmts_below, declaration_at, block_at, otherwise_by, otherwise_at, branch_at, initial_by, initial_at, declare_at, assign_at, assert_at, assume_at, stmt_by, stmt_at, begins_stmt, stmts_at, block_from}
+use Rattle.vx_grammar.specs.StmtReading.{StmtPart, statements, elseif_part, stmt_part, stmts_below, declaration_at, block_at, otherwise_by, otherwise_at, branch_at, initial_by, initial_at, declare_at, assign_at, claim_at, stmt_by, stmt_at, begins_stmt, stmts_at, block_from}
 use Rattle.vx_grammar.proofs.Symbols.{is_symbol_true}
 use Rattle.vx_grammar.proofs.Tells.{Grammar, Starts, Tells, Sign, takes_none, tells_as, tells_here, tells_unexpected, tells_expect, marks_is}
 use Rattle.vx_grammar.proofs.Rows.{RowFor, tells_rows}
@@ -232,13 +232,13 @@ declare_of n t k s ms h = by_parts h.inner h.is h.spelled
     by_parts inner is (d, a, a', q, r, i) = elim i.right [
       | inl (z, v) ↦ record {
         phrase = declared t.place r.phrase;
-        stands = r.stands;
+        stands = tt;
         means = ap (λ y. Declare t.place y None) r.means ∙ sym v;
         spelled = ap (λ l. mark n t.place (word words.Var) ∷ l) (r.spelled ∙ sym (q ∙ rw z (append-nil a))) ∙ led inner is;
       }
       | inr (p, e, st, v, z) ↦ record {
         phrase = initialized t.place r.phrase p e;
-        stands = (r.stands, st);
+        stands = st;
         means = ap (λ y. Declare t.place y (Some (Value (meant e)))) r.means ∙ sym v;
         spelled = ap (λ l. mark n t.place (word words.Var) ∷ l) (sym (q ∙ rw (z, ← r.spelled) refl)) ∙ led inner is;
       }
@@ -262,12 +262,17 @@ if_of n t k s ms h = record {
   spelled = marks_is t (word words.If) n _ k ∙ ap (λ l. let m : Mark = record { token = t; count = n } in m ∷ l) h.spelled.spelled ∙ sym h.is;
 }
 
+claim_tells : (limit n room : ℕ) (c : Claim) (t : Token) (ts : List Token) → n + room ≡ limit → t.kind ≡ word (claim_word c) → Tells (StmtFor n) limit (t ∷ ts) (claim_at room c t.place ts)
+unfolding claim_at
+claim_tells limit n room c t ts e k = expr_tells limit n room t (word (claim_word c)) (claim_meant c t.place) (claimed c t.place) ts e k (λ w st. record { phrase = claimed c t.place w; stands = st; means = refl; spelled = refl })
+
 stmt_by_tells : (limit n room : ℕ) (t : Token) (k : Kind) (ts : List Token) → n + room ≡ limit → StmtToldBelow limit room → t.kind ≡ k → Tells (StmtFor n) limit (t ∷ ts) (stmt_by room (stmts_below room) t k ts)
-unfolding assert_at assume_at
 stmt_by_tells limit n room t (name x) ts e told k = assign_tells limit n room t x ts e k
 stmt_by_tells limit n room t (word words.Var) ts e told k = declare_tells limit n room t ts e k
-stmt_by_tells limit n room t (word words.Assert) ts e told k = expr_tells limit n room t (word words.Assert) (Assert t.place) (asserted t.place) ts e k (λ w st. record { phrase = asserted t.place w; stands = st; means = refl; spelled = refl })
-stmt_by_tells limit n room t (word words.Assume) ts e told k = expr_tells limit n room t (word words.Assume) (Assume t.place) (assumed t.place) ts e k (λ w st. record { phrase = assumed t.place w; stands = st; means = refl; spelled = refl })
+stmt_by_tells limit n room t (word words.Inhale) ts e told k = claim_tells limit n room inhales t ts e k
+stmt_by_tells limit n room t (word words.Exhale) ts e told k = claim_tells limit n room exhales t ts e k
+stmt_by_tells limit n room t (word words.Assert) ts e told k = claim_tells limit n room asserts t ts e k
+stmt_by_tells limit n room t (word words.Assume) ts e told k = claim_tells limit n room assumes t ts e k
 stmt_by_tells limit n room t (word words.If) ts e told k =
     tells_as (LedFor n t (BranchFor n t.place)) (StmtFor n) limit (t ∷ ts) _ (if_of n t k) (led_tells (BranchFor n t.place) limit n t ts _ (fits limit n room e) (branch_tells_at limit n room t.place ts e told))
 stmt_by_tells limit n room t k ts e told h = tells_unexpected (StmtFor n) limit (t ∷ ts) (starts_stmt n)

@@ -3,7 +3,7 @@ use Rattle.std.specs.Prelude.{ℕ, ◌+◌, List, [], ◌∷◌, ◌++◌, Optio
 use Rattle.vx_ast.specs.declared.Place.{Place}
 use Rattle.vx_ast.specs.declared.ValueType.{ValueType}
 use Rattle.vx_ast.specs.declared.ValueType.TheVariants as types
-use Rattle.vx_ast.specs.Written.{Declaration, Value, Stmt, Block, Declare, Assign, Assert, Assume, If, Done, Then}
+use Rattle.vx_ast.specs.Written.{Expr, Declaration, Value, Stmt, Block, Declare, Assign, Inhale, Exhale, Assert, Assume, If, Done, Then}
 use Rattle.vx_tokens.specs.declared.token.Word.{Word}
 use Rattle.vx_tokens.specs.declared.token.Word.TheVariants as words
 use Rattle.vx_tokens.specs.declared.token.Symbol.TheVariants as signs
@@ -26,13 +26,6 @@ type_word types.Bool = words.Bool
 type_word types.Ref = words.Ref
 type_word types.Perm = words.Perm
 
--- the types that can be written
-abbrev pub IsWrittenType : ValueType → Type 0
-IsWrittenType types.Int = ⊤
-IsWrittenType types.Bool = ⊤
-IsWrittenType types.Ref = ⊥
-IsWrittenType types.Perm = ⊥
-
 abbrev pub declaration_meant : DeclarationPhrase → Declaration
 declaration_meant d = record { name = d.text; of = d.of }
 
@@ -41,6 +34,25 @@ declaration_marks n d = mark n d.name_at (name d.text) ∷ mark n d.colon_at (sy
 
 -- ---- statements as they are written, with the place of each token
 
+-- what is done with an assertion
+pub data Claim : Type 0 where
+  inhales : Claim
+  exhales : Claim
+  asserts : Claim
+  assumes : Claim
+
+abbrev pub claim_word : Claim → Word
+claim_word inhales = words.Inhale
+claim_word exhales = words.Exhale
+claim_word asserts = words.Assert
+claim_word assumes = words.Assume
+
+abbrev pub claim_meant : Claim → Place → Expr → Stmt
+claim_meant inhales p e = Inhale p e
+claim_meant exhales p e = Exhale p e
+claim_meant asserts p e = Assert p e
+claim_meant assumes p e = Assume p e
+
 mutual
   pub data StmtPhrase : Type 0 where
     -- x := e
@@ -48,8 +60,8 @@ mutual
     -- var d, and var d := e
     declared : Place → DeclarationPhrase → StmtPhrase
     initialized : Place → DeclarationPhrase → Place → Phrase → StmtPhrase
-    asserted : Place → Phrase → StmtPhrase
-    assumed : Place → Phrase → StmtPhrase
+    -- inhale e, exhale e, assert e, assume e
+    claimed : Claim → Place → Phrase → StmtPhrase
     -- if, and what stands behind it
     branched : Place → BranchPhrase → StmtPhrase
 
@@ -79,8 +91,7 @@ abbrev mutual
   stmt_meant (assigned p x q e) = Assign p x (Value (meant e))
   stmt_meant (declared p d) = Declare p (declaration_meant d) None
   stmt_meant (initialized p d q e) = Declare p (declaration_meant d) (Some (Value (meant e)))
-  stmt_meant (asserted p e) = Assert p (meant e)
-  stmt_meant (assumed p e) = Assume p (meant e)
+  stmt_meant (claimed c p e) = claim_meant c p (meant e)
   stmt_meant (branched p b) = branch_meant p b
 
   -- an `if` whose first token stands there
@@ -105,10 +116,9 @@ abbrev mutual
 abbrev mutual
   pub StandsStmt : StmtPhrase → Type 0
   StandsStmt (assigned p x q e) = StandsAt 8 e
-  StandsStmt (declared p d) = IsWrittenType d.of
-  StandsStmt (initialized p d q e) = IsWrittenType d.of × StandsAt 8 e
-  StandsStmt (asserted p e) = StandsAt 8 e
-  StandsStmt (assumed p e) = StandsAt 8 e
+  StandsStmt (declared p d) = ⊤
+  StandsStmt (initialized p d q e) = StandsAt 8 e
+  StandsStmt (claimed c p e) = StandsAt 8 e
   StandsStmt (branched p b) = StandsBranch b
 
   pub StandsBranch : BranchPhrase → Type 0
@@ -138,8 +148,7 @@ abbrev mutual
   stmt_marks n (assigned p x q e) = mark n p (name x) ∷ mark n q (symbol signs.Becomes) ∷ marks n e
   stmt_marks n (declared p d) = mark n p (word words.Var) ∷ declaration_marks n d
   stmt_marks n (initialized p d q e) = mark n p (word words.Var) ∷ (declaration_marks n d ++ mark n q (symbol signs.Becomes) ∷ marks n e)
-  stmt_marks n (asserted p e) = mark n p (word words.Assert) ∷ marks n e
-  stmt_marks n (assumed p e) = mark n p (word words.Assume) ∷ marks n e
+  stmt_marks n (claimed c p e) = mark n p (word (claim_word c)) ∷ marks n e
   stmt_marks n (branched p b) = mark n p (word words.If) ∷ branch_marks n b
 
   pub branch_marks : ℕ → BranchPhrase → List Mark

@@ -6,7 +6,8 @@ use Rattle.vx_ast.specs.declared.ValueType.TheVariants as types
 use Rattle.vx_tokens.specs.declared.token.Word.TheVariants as words
 use Rattle.vx_tokens.specs.declared.token.Symbol.TheVariants as signs
 use Rattle.vx_tokens.specs.Tokens.{Kind, name, word, Token}
-use Rattle.vx_ast.specs.Written.{Declaration, Value, Stmt, Block, Declare, Assign, Assert, Assume, If, Done, Then}
+use Rattle.vx_ast.specs.Written.{Declaration, Value, Stmt, Block, Declare, Assign, If, Done, Then}
+use Rattle.vx_grammar.specs.Statements.{Claim, inhales, exhales, asserts, assumes, claim_meant}
 use Rattle.vx_grammar.specs.Reading.{Unexpected, TooDeep, Read, ◌>>=◌, Turn, run, is_symbol, expect, name_at, enclosed, choice, choice_at, below}
 
 -- ---- types
@@ -14,6 +15,8 @@ use Rattle.vx_grammar.specs.Reading.{Unexpected, TooDeep, Read, ◌>>=◌, Turn,
 abbrev pub type_by : Token → Kind → List Token → Read ValueType
 type_by t (word words.Int) ts = Ok (types.Int, ts)
 type_by t (word words.Bool) ts = Ok (types.Bool, ts)
+type_by t (word words.Ref) ts = Ok (types.Ref, ts)
+type_by t (word words.Perm) ts = Ok (types.Perm, ts)
 type_by t k ts = Err (Unexpected (t ∷ ts))
 
 unfoldable pub type_at : List Token → Read ValueType
@@ -85,21 +88,18 @@ assign_at room place x ts = do
   e ← choice_at (below room) becomes.1
   Ok (Assign place x (Value e.0), e.1)
 
-unfoldable pub assert_at : ℕ → Place → List Token → Read Stmt
-assert_at room place ts = do
+unfoldable pub claim_at : ℕ → Claim → Place → List Token → Read Stmt
+claim_at room claim place ts = do
   e ← choice_at (below room) ts
-  Ok (Assert place e.0, e.1)
-
-unfoldable pub assume_at : ℕ → Place → List Token → Read Stmt
-assume_at room place ts = do
-  e ← choice_at (below room) ts
-  Ok (Assume place e.0, e.1)
+  Ok (claim_meant claim place e.0, e.1)
 
 abbrev pub stmt_by : ℕ → StmtDeeper → Token → Kind → List Token → Read Stmt
 stmt_by room deeper t (name x) ts = assign_at room t.place x ts
 stmt_by room deeper t (word words.Var) ts = declare_at room t.place ts
-stmt_by room deeper t (word words.Assert) ts = assert_at room t.place ts
-stmt_by room deeper t (word words.Assume) ts = assume_at room t.place ts
+stmt_by room deeper t (word words.Inhale) ts = claim_at room inhales t.place ts
+stmt_by room deeper t (word words.Exhale) ts = claim_at room exhales t.place ts
+stmt_by room deeper t (word words.Assert) ts = claim_at room asserts t.place ts
+stmt_by room deeper t (word words.Assume) ts = claim_at room assumes t.place ts
 stmt_by room deeper t (word words.If) ts = branch_at room deeper t.place ts
 stmt_by room deeper t k ts = Err (Unexpected (t ∷ ts))
 
@@ -111,6 +111,8 @@ stmt_at room deeper (t ∷ ts) = stmt_by room deeper t t.kind ts
 abbrev pub begins_stmt : Kind → Bool
 begins_stmt (name x) = true
 begins_stmt (word words.Var) = true
+begins_stmt (word words.Inhale) = true
+begins_stmt (word words.Exhale) = true
 begins_stmt (word words.Assert) = true
 begins_stmt (word words.Assume) = true
 begins_stmt (word words.If) = true

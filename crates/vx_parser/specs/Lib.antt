@@ -4,5 +4,6 @@ pub mod Gives
 pub mod Refusing
 pub mod Says
 pub mod Spelling
+pub mod Store
 pub mod StmtPart
 pub mod Views

@@ -9,11 +9,13 @@ mod name;
 mod program;
 mod stmt;
 mod stop;
+mod store;
 
 pub use expr::expression;
 pub use fault::TextFault;
 pub use program::parse;
 pub use stop::Stop;
+pub use store::beyond_store;
 
 #[cfg(test)]
 mod tests;

@@ -2,7 +2,7 @@
 
 ghost use Rattle.std.specs.Prelude.{◌≡◌, IfOk, length, ◌∷◌, []};
 ghost use Rattle.vx_ast.specs.Written.{name_of, written_expr, written_declaration, written_member};
-ghost use Rattle.vx_tokens.specs.Tokens.{kind_of, tokens_in};
+ghost use Rattle.vx_tokens.specs.Tokens.{kind_of, token_of, tokens_in};
 ghost use Rattle.vx_grammar.specs.Reading.{run};
 ghost use Rattle.vx_grammar.specs.MemberReading as reading;
 ghost use Rattle.vx_parser.specs.Gives.{Gives};
@@ -185,9 +185,31 @@ fn contract<'t>(alloc: Global, tokens: &'t [Token<'t>]) -> Read<'t, Clauses>
     ))
 }
 
-/// What stands behind `method`.
+/// What stands behind a token that begins a member.
+#[tactic(auto, unfolding(vx_grammar::specs::MemberReading::member_at))]
+pub fn member<'t>(alloc: Global, first: &'t Token<'t>, tokens: &'t [Token<'t>]) -> Read<'t, Member>
+    ensures { Gives (λ x. (written_member x.0, tokens_in x.1.now)) result (reading.member_at reading.limit (token_of first.now) (tokens_in tokens.now)) }
+{
+    match first.kind {
+        Kind::Word(Word::Field) => field(alloc, first.place, tokens),
+        Kind::Word(Word::Method) => method(alloc, first.place, tokens),
+        _ => Err(Stop::Unexpected(tokens)),
+    }
+}
+
+// What stands behind `field`.
+#[tactic(auto, unfolding(vx_grammar::specs::MemberReading::field_at))]
+fn field<'t>(alloc: Global, place: Place, tokens: &'t [Token<'t>]) -> Read<'t, Member>
+    ensures { Gives (λ x. (written_member x.0, tokens_in x.1.now)) result (reading.field_at place (tokens_in tokens.now)) }
+{
+    let (Declaration { name, value_type }, rest) = declaration(alloc, tokens)?;
+    let kind = MemberKind::Field(value_type);
+    Ok((Member { place, name, kind }, rest))
+}
+
+// What stands behind `method`.
 #[tactic(auto, unfolding(vx_grammar::specs::MemberReading::method_at))]
-pub fn method<'t>(alloc: Global, place: Place, tokens: &'t [Token<'t>]) -> Read<'t, Member>
+fn method<'t>(alloc: Global, place: Place, tokens: &'t [Token<'t>]) -> Read<'t, Member>
     ensures { Gives (λ x. (written_member x.0, tokens_in x.1.now)) result (reading.method_at reading.limit place (tokens_in tokens.now)) }
 {
     let (name, rest) = name(alloc, tokens)?;

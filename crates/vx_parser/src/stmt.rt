@@ -1,12 +1,13 @@
 //! Reading statements.
 
 ghost use Rattle.std.specs.Prelude.{◌≡◌, ◌<◌, IfOk, Some, None, map};
-ghost use Rattle.vx_ast.specs.Written.{name_of, written_expr, written_declaration, Declare, Assign, Assert, Assume, If, Then, Done, Value};
+ghost use Rattle.vx_ast.specs.Written.{name_of, written_expr, written_declaration, Declare, Assign, If, Then, Done, Value};
 ghost use Rattle.vx_tokens.specs.Tokens.{kind_of, token_of, tokens_in};
 ghost use Rattle.vx_grammar.specs.Reading.{below};
 ghost use Rattle.vx_grammar.specs.StmtReading as reading;
 ghost use Rattle.vx_parser.specs.Gives.{Gives};
-ghost use Rattle.vx_parser.specs.StmtPart.{stmt_part_of};
+ghost use Rattle.vx_grammar.specs.Statements.{claim_meant};
+ghost use Rattle.vx_parser.specs.StmtPart.{stmt_part_of, claim_of};
 ghost use Rattle.vx_grammar.specs.StmtReading.{block_from};
 ghost use Rattle.vx_parser.specs.Views.{stmt_of, block_of};
 
@@ -25,6 +26,15 @@ enum StmtPart {
     Elseif(Place),
 }
 
+/// What is done with an assertion.
+#[derive(Clone, Copy)]
+enum Claim {
+    Inhale,
+    Exhale,
+    Assert,
+    Assume,
+}
+
 #[tactic(auto, unfolding(vx_grammar::specs::StmtReading::type_at))]
 fn value_type<'t>(tokens: &'t [Token<'t>]) -> Read<'t, ValueType>
     ensures { Gives (λ x. (x.0, tokens_in x.1.now)) result (reading.type_at (tokens_in tokens.now)) }
@@ -35,6 +45,8 @@ fn value_type<'t>(tokens: &'t [Token<'t>]) -> Read<'t, ValueType>
     match first.kind {
         Kind::Word(Word::Int) => Ok((ValueType::Int, rest)),
         Kind::Word(Word::Bool) => Ok((ValueType::Bool, rest)),
+        Kind::Word(Word::Ref) => Ok((ValueType::Ref, rest)),
+        Kind::Word(Word::Perm) => Ok((ValueType::Perm, rest)),
         _ => Err(Stop::Unexpected(tokens)),
     }
 }
@@ -202,24 +214,33 @@ fn assign<'t>(
     Ok((assigned(alloc, place, target, e)?, rest))
 }
 
-#[tactic(auto, unfolding(vx_grammar::specs::StmtReading::assert_at))]
-fn assertion<'t>(alloc: Global, room: u32, place: Place, tokens: &'t [Token<'t>]) -> Read<'t, Stmt>
+// What stands behind the word of a claim.
+#[tactic(auto, unfolding(vx_grammar::specs::StmtReading::claim_at))]
+fn claiming<'t>(
+    alloc: Global,
+    room: u32,
+    claim: Claim,
+    place: Place,
+    tokens: &'t [Token<'t>],
+) -> Read<'t, Stmt>
     requires { room < 1000 }
-    ensures { Gives (λ x. (stmt_of x.0, tokens_in x.1.now)) result (reading.assert_at room place (tokens_in tokens.now)) }
+    ensures { Gives (λ x. (stmt_of x.0, tokens_in x.1.now)) result (reading.claim_at room (claim_of claim) place (tokens_in tokens.now)) }
 {
     let (e, rest) = choice(alloc, room, tokens)?;
-    let kind = StmtKind::Assert(Rc::new(alloc, e)?);
-    Ok((Stmt { place, kind }, rest))
+    Ok((claimed(alloc, claim, place, e)?, rest))
 }
 
-#[tactic(auto, unfolding(vx_grammar::specs::StmtReading::assume_at))]
-fn assumption<'t>(alloc: Global, room: u32, place: Place, tokens: &'t [Token<'t>]) -> Read<'t, Stmt>
-    requires { room < 1000 }
-    ensures { Gives (λ x. (stmt_of x.0, tokens_in x.1.now)) result (reading.assume_at room place (tokens_in tokens.now)) }
+fn claimed(alloc: Global, claim: Claim, place: Place, e: Expr) -> Result<Stmt, AllocError>
+    ensures { IfOk result (λ stmt. stmt_of stmt ≡ claim_meant (claim_of claim) place (written_expr e)) }
 {
-    let (e, rest) = choice(alloc, room, tokens)?;
-    let kind = StmtKind::Assume(Rc::new(alloc, e)?);
-    Ok((Stmt { place, kind }, rest))
+    let e = Rc::new(alloc, e)?;
+    let kind = match claim {
+        Claim::Inhale => StmtKind::Inhale(e),
+        Claim::Exhale => StmtKind::Exhale(e),
+        Claim::Assert => StmtKind::Assert(e),
+        Claim::Assume => StmtKind::Assume(e),
+    };
+    Ok(Stmt { place, kind })
 }
 
 #[cycle(stmt)]
@@ -235,8 +256,10 @@ fn statement<'t>(alloc: Global, room: u32, tokens: &'t [Token<'t>]) -> Read<'t, 
     match first.kind {
         Kind::Name(text) => assign(alloc, room, place, text, inner),
         Kind::Word(Word::Var) => declare(alloc, room, place, inner),
-        Kind::Word(Word::Assert) => assertion(alloc, room, place, inner),
-        Kind::Word(Word::Assume) => assumption(alloc, room, place, inner),
+        Kind::Word(Word::Inhale) => claiming(alloc, room, Claim::Inhale, place, inner),
+        Kind::Word(Word::Exhale) => claiming(alloc, room, Claim::Exhale, place, inner),
+        Kind::Word(Word::Assert) => claiming(alloc, room, Claim::Assert, place, inner),
+        Kind::Word(Word::Assume) => claiming(alloc, room, Claim::Assume, place, inner),
         Kind::Word(Word::If) => branch(alloc, room, place, inner),
         _ => Err(Stop::Unexpected(tokens)),
     }
@@ -249,6 +272,8 @@ fn begins_statement(kind: Kind) -> bool
         kind,
         Kind::Name(_)
             | Kind::Word(Word::Var)
+            | Kind::Word(Word::Inhale)
+            | Kind::Word(Word::Exhale)
             | Kind::Word(Word::Assert)
             | Kind::Word(Word::Assume)
             | Kind::Word(Word::If)

@@ -21,7 +21,7 @@ fn answer(alloc: Global, text: &[u8]) -> Result<String, AllocError> {
     }
 }
 
-const ROWS: [(&str, &str); 47] = [
+const ROWS: [(&str, &str); 51] = [
     ("", "ok"),
     (
         "method id(b: Bool) returns (c: Bool) requires b ensures c { c := b }",
@@ -57,7 +57,12 @@ const ROWS: [(&str, &str); 47] = [
     ("method m() { x = 1 }", "1:16 E02 BadCharacter"),
     ("method m() { assert a & b }", "1:23 E02 BadCharacter"),
     ("method m() { assert é }", "1:21 E02 BadCharacter"),
-    ("method m(x: Ref) { }", "1:13 E09 Unsupported Ref"),
+    (
+        "method m(x: Ref, p: Perm) { inhale x == null exhale p == none; }",
+        "ok",
+    ),
+    ("method m(x: Seq) { }", "1:13 E09 Unsupported Seq"),
+    ("method m() { inhale }", "1:21 E03 Unexpected }"),
     (
         "method m() { while (true) { } }",
         "1:14 E09 Unsupported while",
@@ -97,7 +102,9 @@ const ROWS: [(&str, &str); 47] = [
     ("adt T { }", "1:1 E09 Unsupported adt"),
     ("method adt() { }", "ok"),
     ("method adt adt", "1:12 E03 Unexpected adt"),
-    ("field f: Int", "1:1 E09 Unsupported field"),
+    ("field f: Int; field g: Ref method m() { }", "ok"),
+    ("field f Int", "1:9 E03 Unexpected Int"),
+    ("field f:", "1:9 E04 EndOfText"),
     ("function f(): Int", "1:1 E09 Unsupported function"),
     ("method m() { assert true } 007", "1:28 E03 Unexpected 007"),
     ("method method() { }", "1:8 E03 Unexpected method"),
@@ -111,6 +118,35 @@ const ROWS: [(&str, &str); 47] = [
 fn rows(rt: HostRuntime) -> Result<(), Fail> {
     for (text, want) in ROWS {
         let got = answer(rt.alloc(), text.as_bytes())?;
+        assert_eq!(rt; got.as_str(), want, "{text}");
+    }
+    Ok(())
+}
+
+const BEYOND: [(&str, &str); 5] = [
+    ("method m() { assert true }", "none"),
+    (
+        "method m() { assert x.f } field f: Int",
+        "1:22 Unsupported .",
+    ),
+    ("method m(x: Ref) { }", "1:13 Unsupported Ref"),
+    ("method m() { assert 1 / 2 == none }", "1:23 Unsupported /"),
+    ("field f: Int", "1:1 Unsupported field"),
+];
+
+#[test]
+fn beyond_the_store_language(rt: HostRuntime) -> Result<(), Fail> {
+    let alloc = rt.alloc();
+    for (text, want) in BEYOND {
+        let got = match beyond_store(alloc, text.as_bytes()) {
+            None => String::from_str(alloc, "none")?,
+            Some(fault) => {
+                let place = fault.place();
+                let name = fault.name();
+                let argument = fault.argument().unwrap_or("");
+                format!(in alloc; "{}:{} {name} {argument}", place.line, place.column)?
+            }
+        };
         assert_eq!(rt; got.as_str(), want, "{text}");
     }
     Ok(())
@@ -209,9 +245,9 @@ fn lines(alloc: Global, line: &[u8], count: usize) -> Result<String, AllocError>
 #[test]
 fn many_members(rt: HostRuntime) -> Result<(), Fail> {
     let alloc = rt.alloc();
-    assert_eq!(rt; lines(alloc, b"method a() {}\n", 65536)?.as_str(), "ok");
+    assert_eq!(rt; lines(alloc, b"field aI: Int\n", 65536)?.as_str(), "ok");
     assert_eq!(rt;
-        lines(alloc, b"method a() {}\n", 65537)?.as_str(),
+        lines(alloc, b"field aI: Int\n", 65537)?.as_str(),
         "65537:1 E08 TooManyMembers"
     );
     // 40,000 methods in 4 MB
