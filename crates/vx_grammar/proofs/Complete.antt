@@ -265,7 +265,7 @@ room_for : (limit n room c : ℕ) → n + room ≡ limit → c ≤ limit → c �
 room_for limit n room c e le s = omega arith
 
 -- what stands between parentheses
-enclosed_reads : (limit n room : ℕ) (p : Part) (o c : Place) (inner : List Mark) (x : Given p) (more : List Token) → n + room ≡ limit → n + 1 ≤ limit
+pub enclosed_reads : (limit n room : ℕ) (p : Part) (o c : Place) (inner : List Mark) (x : Given p) (more : List Token) → n + room ≡ limit → n + 1 ≤ limit
     → (let close = mark (n + 1) c (symbol signs.Close) in (less : ℕ) → room ≡ less + 1 → part_at (below less) p (tokens_of inner ++ close.token ∷ more) ≡ Ok (x, close.token ∷ more))
     → (let opened = mark (n + 1) o (symbol signs.Open) in let close = mark (n + 1) c (symbol signs.Close) in enclosed (below room) p (opened.token ∷ (tokens_of (inner ++ close ∷ []) ++ more)) ≡ Ok (x, more))
 unfolding enclosed expect
@@ -609,3 +609,14 @@ mutual
 -- what is spelled at a nesting count, within the limit, is read, whatever follows that does not go on with it
 pub is_read : (limit n room : ℕ) (w : Phrase) (more : List Token) → n + room ≡ limit → Within limit (marks n w) → StandsAt 8 w → Ends 8 more → choice_at (below room) (Toks n w more) ≡ Ok (meant w, more)
 is_read limit n room w more e h st ends = whole limit w (reads limit w) n room e h 8 (omega arith) st more ends
+
+-- what a dot may stand behind, where none follows
+pub primary_is_read : (limit n room : ℕ) (w : Phrase) (more : List Token) → n + room ≡ limit → Within limit (marks n w) → StandsAt 0 w → IsPrimary w → Ends 0 more → unary_at (below room) (Toks n w more) ≡ Ok (meant w, more)
+primary_is_read limit n room w more e h st is ends = (reads limit w).primary is n room e h st more (ends_no_call more ends) ∙ dots_end (below (room - dots w)) (start_of w) (meant w) more ends
+
+-- arguments between parentheses
+pub arguments_are_read : (limit n room : ℕ) (o : Place) (es : ArgumentsPhrase) (c : Place) (more : List Token) → n + room ≡ limit → n + 1 ≤ limit → (let close = mark (n + 1) c (symbol signs.Close) in Within limit (arguments_marks (n + 1) es ++ close ∷ [])) → ArgumentsStand es
+    → (let opened = mark (n + 1) o (symbol signs.Open) in let close = mark (n + 1) c (symbol signs.Close) in enclosed (below room) arguments (opened.token ∷ (tokens_of (arguments_marks (n + 1) es ++ close ∷ []) ++ more)) ≡ Ok (arguments_meant es, more))
+arguments_are_read limit n room o es c more e le h st =
+    let close = mark (n + 1) c (symbol signs.Close) in
+    enclosed_reads limit n room arguments o c (arguments_marks (n + 1) es) (arguments_meant es) more e le (λ less s. (reads_arguments limit es).read (n + 1) less (omega (arith, e, s)) (within_front limit (arguments_marks (n + 1) es) (close ∷ []) h) st c more)

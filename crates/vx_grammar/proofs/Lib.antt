@@ -6,6 +6,7 @@ pub mod Complete
 pub mod PhraseFor
 pub mod PrimaryTells
 pub mod Means
+pub mod NamesTold
 pub mod LocalParts
 pub mod RunLocal
 pub mod LocalExpr
@@ -15,6 +16,8 @@ pub mod Sequence
 pub mod Bracketed
 pub mod StmtTells
 pub mod StmtFor
+pub mod TargetTold
+pub mod TargetReads
 pub mod StmtTold
 pub mod Steps
 pub mod MemberTold

@@ -5,11 +5,12 @@ use Rattle.std.proofs.lemmas.Bool.Decides.{eqb_tells}
 use Rattle.vx_ast.specs.declared.Place.{Place}
 use Rattle.vx_ast.specs.declared.UnaryOperator.{UnaryOperator}
 use Rattle.vx_ast.specs.declared.UnaryOperator.TheVariants.{Not, Negate}
+use Rattle.vx_tokens.specs.declared.token.Word.TheVariants as words
 use Rattle.vx_tokens.specs.declared.token.Symbol.TheVariants as signs
 use Rattle.vx_ast.specs.declared.BinaryOperator.{BinaryOperator}
 use Rattle.vx_ast.specs.declared.BinaryOperator.TheVariants.{Implies, Or, And, Equal, NotEqual, Less, LessEqual, Greater, GreaterEqual, Add, Subtract, Multiply, Divide, Quotient, Remainder}
-use Rattle.vx_tokens.specs.Tokens.{Token, Kind, name, symbol}
-use Rattle.vx_grammar.specs.Grammar.{operator_of, Phrase, literal, constant, numeral, named, called, dotted, grouped, past, accessed, prefixed, joined, chosen, Mark, mark, marks, operators, dots, tokens_of, start_of, StandsAt, level_of, left_level, right_level, sign_of, prefix_sign}
+use Rattle.vx_tokens.specs.Tokens.{Token, Kind, name, word, symbol}
+use Rattle.vx_grammar.specs.Grammar.{operator_of, literal_word, Constant, null_word, write_word, none_word, result_word, constant_word, Phrase, literal, constant, numeral, named, called, dotted, grouped, past, accessed, prefixed, joined, chosen, Mark, mark, marks, operators, dots, tokens_of, start_of, StandsAt, level_of, left_level, right_level, sign_of, prefix_sign}
 use Rattle.vx_grammar.specs.Reading.{is_symbol}
 use Rattle.vx_grammar.specs.Laws.{Within}
 
@@ -130,24 +131,35 @@ pub record Begins (ts : List Token) (p : Place) : Type 0 where
   pub is : ts ≡ first ∷ rest
   pub place : first.place ≡ p
   pub not_close : is_symbol signs.Close first.kind ≡ false
+  pub not_new : first.kind ≡ word words.New → ⊥
 
 prefix_not_close : (op : UnaryOperator) → is_symbol signs.Close (symbol (prefix_sign op)) ≡ false
 prefix_not_close Not = refl
 prefix_not_close Negate = refl
 
+literal_not_new : (b : Bool) → word (literal_word b) ≡ word words.New → ⊥
+literal_not_new true h = absurd cc
+literal_not_new false h = absurd cc
+
+constant_not_new : (c : Constant) → word (constant_word c) ≡ word words.New → ⊥
+constant_not_new null_word h = absurd cc
+constant_not_new write_word h = absurd cc
+constant_not_new none_word h = absurd cc
+constant_not_new result_word h = absurd cc
+
 begins-append : (ts us : List Token) (p : Place) → Begins ts p → Begins (ts ++ us) p
-begins-append ts us p b = record { first = b.first; rest = b.rest ++ us; is = ap (λ l. l ++ us) b.is; place = b.place; not_close = b.not_close }
+begins-append ts us p b = record { first = b.first; rest = b.rest ++ us; is = ap (λ l. l ++ us) b.is; place = b.place; not_close = b.not_close; not_new = b.not_new }
 
 pub phrase_begins : (w : Phrase) (n : ℕ) → Begins (tokens_of (marks n w)) (start_of w)
-phrase_begins (literal p b) n = record { first = _; rest = _; is = refl; place = refl; not_close = refl }
-phrase_begins (constant p c) n = record { first = _; rest = _; is = refl; place = refl; not_close = refl }
-phrase_begins (numeral p b) n = record { first = _; rest = _; is = refl; place = refl; not_close = refl }
-phrase_begins (named p b) n = record { first = _; rest = _; is = refl; place = refl; not_close = refl }
-phrase_begins (called p x o es c) n = record { first = _; rest = _; is = refl; place = refl; not_close = refl }
-phrase_begins (grouped p e q) n = record { first = _; rest = _; is = refl; place = refl; not_close = refl }
-phrase_begins (past p o e c) n = record { first = _; rest = _; is = refl; place = refl; not_close = refl }
-phrase_begins (accessed p o e a c) n = record { first = _; rest = _; is = refl; place = refl; not_close = refl }
-phrase_begins (prefixed p op e) n = record { first = _; rest = _; is = refl; place = refl; not_close = prefix_not_close op }
+phrase_begins (literal p b) n = record { first = _; rest = _; is = refl; place = refl; not_close = refl; not_new = λ h. literal_not_new b h }
+phrase_begins (constant p c) n = record { first = _; rest = _; is = refl; place = refl; not_close = refl; not_new = λ h. constant_not_new c h }
+phrase_begins (numeral p b) n = record { first = _; rest = _; is = refl; place = refl; not_close = refl; not_new = λ h. absurd cc }
+phrase_begins (named p b) n = record { first = _; rest = _; is = refl; place = refl; not_close = refl; not_new = λ h. absurd cc }
+phrase_begins (called p x o es c) n = record { first = _; rest = _; is = refl; place = refl; not_close = refl; not_new = λ h. absurd cc }
+phrase_begins (grouped p e q) n = record { first = _; rest = _; is = refl; place = refl; not_close = refl; not_new = λ h. absurd cc }
+phrase_begins (past p o e c) n = record { first = _; rest = _; is = refl; place = refl; not_close = refl; not_new = λ h. absurd cc }
+phrase_begins (accessed p o e a c) n = record { first = _; rest = _; is = refl; place = refl; not_close = refl; not_new = λ h. absurd cc }
+phrase_begins (prefixed p op e) n = record { first = _; rest = _; is = refl; place = refl; not_close = prefix_not_close op; not_new = λ h. absurd cc }
 phrase_begins (dotted e p q f) n =
     let deep = n + dots e + 1 in
     rw tokens-append (begins-append _ (tokens_of (mark deep p (symbol signs.Dot) ∷ mark deep q (name f) ∷ [])) _ (phrase_begins e n))

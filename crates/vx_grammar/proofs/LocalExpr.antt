@@ -7,13 +7,16 @@ use Rattle.vx_ast.specs.declared.UnaryOperator.TheVariants.{Not, Negate}
 use Rattle.vx_ast.specs.declared.BinaryOperator.{BinaryOperator}
 use Rattle.vx_ast.specs.declared.BinaryOperator.TheVariants.{Implies}
 use Rattle.vx_tokens.specs.Tokens.{Token, Kind, name, number, word, symbol}
-use Rattle.vx_ast.specs.Written.{Expr, Exprs, NoMore, Amount, All, Truth, Number, Null, Whole, Nothing, Variable, Call, Unary, Binary, Choice, Old, Access}
+use Rattle.vx_ast.specs.Written.{Expr, Exprs, NoMore, Amount, All, Truth, Number, Null, Whole, Nothing, Variable, Call, Unary, Binary, Choice, Old, Access, Right, NewAll, New}
 use Rattle.vx_ast.specs.Written as written
 use Rattle.vx_grammar.specs.Grammar.{level_of, operator_of}
-use Rattle.vx_grammar.specs.Reading.{◌>>=◌, Read, Unexpected, Deeper, is_symbol, Part, Given, choice, implication, chain, rest_of_chain, behind_dot, arguments, access, name_at, expect, enclosed, call_by, named_by, old_by, access_by, primary_by, dots_at, dotted_at, postfix_by, unary_by, unary_at, run, argument_turn, some_arguments, arguments_at, amount_by, amount_at, access_at, operator_by, rest_by, rest_at, chain_at, implies_by, implied_by, implication_at, second_by, sides_by, chosen_by, choice_at, part_at, below}
+use Rattle.vx_grammar.specs.Reading.{◌>>=◌, Read, Unexpected, Deeper, is_symbol, Part, Given, choice, implication, chain, rest_of_chain, behind_dot, arguments, access, allocation, name_at, expect, enclosed, call_by, named_by, old_by, access_by, primary_by, dots_at, dotted_at, postfix_by, unary_by, unary_at, run, argument_turn, some_arguments, arguments_at, amount_by, amount_at, access_at, name_turn, fields_at, allocation_by, allocation_at, operator_by, rest_by, rest_at, chain_at, implies_by, implied_by, implication_at, second_by, sides_by, chosen_by, choice_at, part_at, below}
 use Rattle.vx_grammar.proofs.Local.{Local, local_ok, local_unexpected, local_end, local_end_unexpected, local_return, local_token, local_then, local_same, Front}
 use Rattle.vx_grammar.proofs.LocalParts.{name_local, bracket_local}
-use Rattle.vx_grammar.proofs.RunLocal.{Turns, run_local}
+use Rattle.vx_grammar.proofs.Tells.{Tells}
+use Rattle.vx_grammar.proofs.Steps.{TurnFor}
+use Rattle.vx_grammar.proofs.NamesTold.{NameStep, name_turn_tells}
+use Rattle.vx_grammar.proofs.RunLocal.{Turns, run_local, taken_short, taken_none}
 
 -- the deeper reader's answers are those of the other
 LocalDeeper : Deeper → Deeper → Type 0
@@ -93,7 +96,7 @@ unfolding dotted_at
 dotted_local d d' start left ts h = local_then ts (name_at ts) name_at _ _ (name_local ts) (λ f mid. dots_local d d' start (written.Read start left f) mid h)
 
 -- behind what was read from the first token on
-local_from_first : (t : Token) (ts : List Token) (r : Read Expr) (reader whole : List Token → Read Expr) (f next : Expr × List Token → Read Expr) → ((l : List Token) → whole (t ∷ l) ≡ (reader (t ∷ l) >>= next)) → Local (t ∷ ts) r reader → ((x : Expr) (mid : List Token) → Local mid (f (x, mid)) (λ l. next (x, l))) → Local (t ∷ ts) (r >>= f) whole
+pub local_from_first : {A B : Type 0} (t : Token) (ts : List Token) (r : Read A) (reader : List Token → Read A) (whole : List Token → Read B) (f next : A × List Token → Read B) → ((l : List Token) → whole (t ∷ l) ≡ (reader (t ∷ l) >>= next)) → Local (t ∷ ts) r reader → ((x : A) (mid : List Token) → Local mid (f (x, mid)) (λ l. next (x, l))) → Local (t ∷ ts) (r >>= f) whole
 local_from_first t ts r reader whole f next e h k = local_same t ts (r >>= f) (λ l. reader l >>= next) whole (λ l. sym (e l)) (local_then (t ∷ ts) r reader f next h k)
 
 postfix_local : (d d' : Deeper) (t : Token) (k : Kind) (ts : List Token) → t.kind ≡ k → ((l : List Token) → unary_at d' (t ∷ l) ≡ postfix_by d' t t.kind l) → LocalDeeper d d' → Local (t ∷ ts) (postfix_by d t k ts) (unary_at d')
@@ -289,6 +292,42 @@ access_local d d' ts h =
     local_then ts (choice_at d ts) (choice_at d') _ _ (choice_local d d' ts h) (λ x us.
     local_then us (amount_at d us) (amount_at d') _ _ (amount_local d d' us h) (λ a vs. local_return vs _))
 
+-- ---- names, and the fields of `new`
+
+name_by_comma : (before : List (List ℕ)) (t : Token) (ts : List Token) (b : Bool) → is_symbol signs.Comma t.kind ≡ b → Local (t ∷ ts) (cond b (name_at ts >>= λ x. Ok (Some (before ++ x.0 ∷ []), x.1)) (Ok (None, t ∷ ts))) (name_turn before)
+unfolding name_turn
+name_by_comma before t ts true e = local_token t ts (name_at ts >>= λ x. Ok (Some (before ++ x.0 ∷ []), x.1)) (λ l. name_at l >>= λ x. Ok (Some (before ++ x.0 ∷ []), x.1)) (name_turn before) (λ l. rw e refl) (local_then ts (name_at ts) name_at _ _ (name_local ts) (λ x us. local_return us _))
+name_by_comma before t ts false e = local_ok t ts None (name_turn before) (λ more. rw e refl)
+
+name_turn_local : (before : List (List ℕ)) (ts : List Token) → Local ts (name_turn before ts) (name_turn before)
+unfolding name_turn
+name_turn_local before [] = local_end None (name_turn before) refl
+name_turn_local before (t ∷ ts) = name_by_comma before t ts (is_symbol signs.Comma t.kind) refl
+
+pub name_turns : Turns name_turn name_turn
+unfolding name_turn
+name_turns = record {
+  local = name_turn_local;
+  short = λ s t ts mid e. taken_short (TurnFor (NameStep 0) s) 0 ts (Some t) mid (λ ms (p, q, x, v, z). rw z (omega arith)) (subst (Tells (TurnFor (NameStep 0) s) 0 ts) e (name_turn_tells 0 0 (omega arith) s ts));
+  same = λ s ts mid e. taken_none (TurnFor (NameStep 0) s) 0 ts None mid (λ ms z. z) (subst (Tells (TurnFor (NameStep 0) s) 0 ts) e (name_turn_tells 0 0 (omega arith) s ts));
+  empty = λ s. refl;
+}
+
+fields_local : (ts : List Token) → Local ts (fields_at ts) fields_at
+unfolding fields_at
+fields_local ts = local_then ts (name_at ts) name_at _ _ (name_local ts) (λ x us. local_then us (run name_turn (length us) (x ∷ []) us) (λ l. run name_turn (length l) (x ∷ []) l) _ _ (run_local name_turn name_turn name_turns (x ∷ []) us) (λ xs vs. local_return vs _))
+
+allocation_by_local : (t : Token) (k : Kind) (ts : List Token) → t.kind ≡ k → Local (t ∷ ts) (allocation_by t k ts) allocation_at
+unfolding allocation_at
+allocation_by_local t (symbol signs.Times) ts e = local_token t ts (Ok (NewAll, ts)) (λ l. Ok (NewAll, l)) allocation_at (λ l. rw e refl) (local_return ts NewAll)
+allocation_by_local t (symbol signs.Close) ts e = local_ok t ts (New []) allocation_at (λ more. rw e refl)
+allocation_by_local t k ts e = local_same t ts (fields_at (t ∷ ts)) fields_at allocation_at (λ l. rw e refl) (fields_local (t ∷ ts))
+
+allocation_local : (ts : List Token) → Local ts (allocation_at ts) allocation_at
+unfolding allocation_at
+allocation_local [] = local_end_unexpected allocation_at refl
+allocation_local (t ∷ ts) = allocation_by_local t t.kind ts refl
+
 part_local : (d d' : Deeper) (p : Part) (ts : List Token) → LocalDeeper d d' → Local ts (part_at d p ts) (part_at d' p)
 part_local d d' choice ts h = choice_local d d' ts h
 part_local d d' implication ts h = implication_local d d' ts h
@@ -297,6 +336,7 @@ part_local d d' (rest_of_chain k start left) ts h = rest_local d d' k start left
 part_local d d' (behind_dot start left) ts h = dotted_local d d' start left ts h
 part_local d d' arguments ts h = arguments_local d d' ts h
 part_local d d' access ts h = access_local d d' ts h
+part_local d d' allocation ts h = allocation_local ts
 
 -- with as much room, or more
 below_local : (room more : ℕ) → LocalDeeper (below room) (below (room + more))
@@ -313,3 +353,8 @@ reading_local room more ts = choice_local (below room) (below (room + more)) ts 
 pub nested_local : (room more : ℕ) (p : Part) (here ts : List Token) (heres : List Token → List Token) → Local ts (below room p here ts) (λ l. below (room + more) p (heres l) l)
 unfolding LocalDeeper
 nested_local room more p here ts heres = below_local room more p here ts heres
+
+-- from a name on, with as much room, or more
+pub operand_local : (room more : ℕ) (t : Token) (x : List ℕ) (ts : List Token) → t.kind ≡ name x → Local (t ∷ ts) (postfix_by (below room) t (name x) ts) (unary_at (below (room + more)))
+unfolding unary_at unary_by
+operand_local room more t x ts e = postfix_local (below room) (below (room + more)) t (name x) ts e (λ l. rw e refl) (below_local room more)

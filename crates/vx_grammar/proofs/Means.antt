@@ -386,3 +386,8 @@ told_at limit (suc room) = told_from limit (suc room) (λ less e. let same : roo
 -- what reading an expression tells
 pub reading_tells : (limit n room : ℕ) (ts : List Token) → n + room ≡ limit → Tells (PhraseFor n 8) limit ts (choice_at (below room) ts)
 reading_tells limit n room ts e = (told_at limit room).choice_tells n e ts
+
+-- what reading from a token on, which is no prefix, tells
+pub operand_tells : (limit n room : ℕ) (t : Token) (k : Kind) (ts : List Token) → n + room ≡ limit → t.kind ≡ k → Tells (PhraseFor n 0) limit (t ∷ ts) (postfix_by (below room) t k ts)
+unfolding ToldBelow
+operand_tells limit n room t k ts e h = postfix_tells limit n room t k ts e (λ less s. told_at limit less) h

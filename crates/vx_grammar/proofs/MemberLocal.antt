@@ -16,7 +16,7 @@ use Rattle.vx_grammar.proofs.Steps.{TurnFor}
 use Rattle.vx_grammar.proofs.MemberTold.{DeclarationStep, turn_tells}
 use Rattle.vx_grammar.proofs.MethodTold.{ClauseStep, clause_turn_tells}
 use Rattle.vx_grammar.proofs.Local.{Local, local_ok, local_end, local_end_unexpected, local_return, local_token, local_then, local_same}
-use Rattle.vx_grammar.proofs.RunLocal.{Turns, run_local}
+use Rattle.vx_grammar.proofs.RunLocal.{Turns, run_local, taken_short, taken_none}
 use Rattle.vx_grammar.proofs.LocalExpr.{reading_local}
 use Rattle.vx_grammar.proofs.StmtLocal.{declaration_local, block_reading_local}
 use Rattle.vx_grammar.proofs.LocalParts.{name_local, bracket_local}
@@ -32,18 +32,6 @@ declaration_turn_local : (before : List Declaration) (ts : List Token) → Local
 unfolding declaration_turn
 declaration_turn_local before [] = local_end None (declaration_turn before) refl
 declaration_turn_local before (t ∷ ts) = by_comma before t ts (is_symbol signs.Comma t.kind) refl
-
--- what was taken by some marks is shorter, and by none is the same
-taken_short : {A : Type 0} (R : Grammar A) (deep : ℕ) (ts : List Token) (x : A) (mid : List Token) → ((ms : List Mark) → R x ms → 1 ≤ length ms) → TellsOk R deep ts x mid → length mid < length ts
-taken_short R deep ts x mid f h =
-    let one = f h.marks h.spelled in
-    let all = ap length h.takes.tokens in
-    let a = length-append (tokens_of h.marks) mid in
-    let b = length-map h.marks (λ m. m.token) in
-    omega (arith, one, all, a, b)
-
-taken_none : {A : Type 0} (R : Grammar A) (deep : ℕ) (ts : List Token) (x : A) (mid : List Token) → ((ms : List Mark) → R x ms → ms ≡ []) → TellsOk R deep ts x mid → ts ≡ mid
-taken_none R deep ts x mid f h = h.takes.tokens ∙ ap (λ l. tokens_of l ++ mid) (f h.marks h.spelled)
 
 declaration_turns : Turns declaration_turn declaration_turn
 unfolding declaration_turn

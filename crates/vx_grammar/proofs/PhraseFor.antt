@@ -53,7 +53,7 @@ first_place limit n w t ts rest ms e takes =
     ap (λ (u : Token). u.place) one ∙ b.place
 
 -- behind a phrase that was read from the first token on
-pub behind_phrase : (R : ℕ → Grammar Expr) (limit n level : ℕ) (f : Place → Expr → List Token → Read Expr) (t : Token) (ts rest : List Token) (x : Expr) (ms : List Mark) (r : PhraseFor n level x ms) → Takes limit (t ∷ ts) ms rest
+pub behind_phrase : {A : Type 0} (R : ℕ → Grammar A) (limit n level : ℕ) (f : Place → Expr → List Token → Read A) (t : Token) (ts rest : List Token) (x : Expr) (ms : List Mark) (r : PhraseFor n level x ms) → Takes limit (t ∷ ts) ms rest
     → Tells (After (R n) (marks n r.phrase)) limit rest (f (start_of r.phrase) (meant r.phrase) rest) → Tells (After (R n) ms) limit rest (f t.place x rest)
 behind_phrase R limit n level f t ts rest x ms r takes h =
     let at_place : start_of r.phrase ≡ t.place = sym (first_place limit n r.phrase t ts rest ms r.spelled takes) in

@@ -139,7 +139,7 @@ pub record ArgumentsFor (n : ℕ) (es : Exprs) (ms : List Mark) : Type 0 where
 no_arguments_for : (n : ℕ) → ArgumentsFor n NoMore []
 no_arguments_for n = record { phrase = no_arguments; stands = tt; means = refl; spelled = refl }
 
-starts_arguments : (n : ℕ) → Starts (ArgumentsFor n) []
+pub starts_arguments : (n : ℕ) → Starts (ArgumentsFor n) []
 starts_arguments n = record { value = NoMore; more = []; spelled = no_arguments_for n }
 
 abbrev SomeParts : ℕ → Grammar Exprs
@@ -168,7 +168,7 @@ arguments_by_tells : (limit n room : ℕ) (t : Token) (ts : List Token) (b : Boo
 arguments_by_tells limit n room t ts true e told = tells_here (ArgumentsFor n) limit (t ∷ ts) NoMore (no_arguments_for n)
 arguments_by_tells limit n room t ts false e told = some_tells limit n room (t ∷ ts) e told
 
-arguments_tells : (limit n room : ℕ) (ts : List Token) → n + room ≡ limit → ChoiceTells limit room → Tells (ArgumentsFor n) limit ts (arguments_at (below room) ts)
+pub arguments_tells : (limit n room : ℕ) (ts : List Token) → n + room ≡ limit → ChoiceTells limit room → Tells (ArgumentsFor n) limit ts (arguments_at (below room) ts)
 unfolding arguments_at
 arguments_tells limit n room [] e told = tells_unexpected (ArgumentsFor n) limit [] (starts_arguments n)
 arguments_tells limit n room (t ∷ ts) e told = arguments_by_tells limit n room t ts (is_symbol signs.Close t.kind) e told

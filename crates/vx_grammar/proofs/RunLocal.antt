@@ -1,8 +1,10 @@
 -- A loop looks no further than the token at which it stops.
 use Rattle.std.proofs.Common.{◌≡◌, ℕ, zero, suc, ◌+◌, ◌≤◌, ◌<◌, List, [], ◌∷◌, ◌++◌, Option, Some, None, Ok, Err, length, refl, sym, ap, subst, ◌∙◌, append_assoc, arith, length-append}
-use Rattle.std.proofs.lemmas.List.{append_cancel_right}
+use Rattle.std.proofs.lemmas.List.{append_cancel_right, length-map}
 use Rattle.vx_tokens.specs.Tokens.{Token}
 use Rattle.vx_grammar.specs.Reading.{◌>>=◌, Read, Unexpected, TooDeep, Turn, run, turned}
+use Rattle.vx_grammar.specs.Grammar.{Mark, tokens_of}
+use Rattle.vx_grammar.proofs.Tells.{Grammar, TellsOk}
 use Rattle.vx_grammar.proofs.Local.{Local, Front, SameHead, same_behind}
 
 -- as Front of one reader, for as many turns as there may be
@@ -111,3 +113,15 @@ run_local {S = S} turn other h s ts = by_read (run turn (length ts) s ts) (run_l
     by_read (Ok x) g = record { front = g.front; is = g.is; repeats = λ next same. g.repeats next same (length (g.front ++ next)) (omega arith) }
     by_read (Err (Unexpected rest)) g = record { front = g.front; is = g.is; repeats = λ next same. g.repeats next same (length (g.front ++ next)) (omega arith) }
     by_read (Err (TooDeep rest)) g = tt
+
+-- what was taken by some marks is shorter, and by none is the same
+pub taken_short : {A : Type 0} (R : Grammar A) (deep : ℕ) (ts : List Token) (x : A) (mid : List Token) → ((ms : List Mark) → R x ms → 1 ≤ length ms) → TellsOk R deep ts x mid → length mid < length ts
+taken_short R deep ts x mid f h =
+    let one = f h.marks h.spelled in
+    let all = ap length h.takes.tokens in
+    let a = length-append (tokens_of h.marks) mid in
+    let b = length-map h.marks (λ m. m.token) in
+    omega (arith, one, all, a, b)
+
+pub taken_none : {A : Type 0} (R : Grammar A) (deep : ℕ) (ts : List Token) (x : A) (mid : List Token) → ((ms : List Mark) → R x ms → ms ≡ []) → TellsOk R deep ts x mid → ts ≡ mid
+taken_none R deep ts x mid f h = h.takes.tokens ∙ ap (λ l. tokens_of l ++ mid) (f h.marks h.spelled)

@@ -3,19 +3,21 @@ use Rattle.std.proofs.Common.{◌≡◌, ℕ, zero, suc, ◌+◌, ◌<◌, List,
 use Rattle.std.proofs.lemmas.List.{length-map}
 use Rattle.vx_ast.specs.declared.Place.{Place}
 use Rattle.vx_ast.specs.declared.ValueType.TheVariants as types
-use Rattle.vx_ast.specs.Written.{Expr, Declaration, Value, Stmt, Declare, Assign, Done, Then}
+use Rattle.vx_ast.specs.Written.{Expr, Variable, Call, Declaration, Value, Stmt, Declare, Assign, Write, Done, Then}
+use Rattle.vx_ast.specs.Written as written
 use Rattle.vx_grammar.specs.Statements.{inhales, exhales, asserts, assumes, claim_meant}
 use Rattle.vx_tokens.specs.declared.token.Word.TheVariants as words
 use Rattle.vx_tokens.specs.declared.token.Symbol.TheVariants as signs
 use Rattle.vx_tokens.specs.Tokens.{Token, Kind, name, word}
 use Rattle.vx_grammar.specs.Grammar.{tokens_of}
-use Rattle.vx_grammar.specs.Reading.{enclosed, ◌>>=◌, Read, Unexpected, TooDeep, expect, is_symbol, choice, choice_at, below, name_at}
-use Rattle.vx_grammar.specs.StmtReading.{StmtPart, statements, elseif_part, StmtDeeper, stmt_part, stmts_below, type_by, type_at, declaration_at, block_at, otherwise_by, otherwise_at, branch_at, initial_by, initial_at, declare_at, assign_at, claim_at, stmt_by, stmt_at, begins_stmt, stmts_at, block_from}
+use Rattle.vx_grammar.specs.Reading.{Part, allocation, arguments, run, name_turn, postfix_by, unary_by, unary_at, enclosed, ◌>>=◌, Read, Unexpected, TooDeep, expect, is_symbol, choice, choice_at, below, name_at}
+use Rattle.vx_grammar.specs.StmtReading.{StmtPart, statements, elseif_part, StmtDeeper, stmt_part, stmts_below, type_by, type_at, declaration_at, block_at, otherwise_by, otherwise_at, branch_at, initial_by, initial_at, declare_at, begins_new, value_at, right_at, assign_one, invoke_at, assigned_by, assign_at, store_at, by_target, target_at, claim_at, stmt_by, stmt_at, begins_stmt, stmts_at, block_from}
 use Rattle.vx_grammar.proofs.Tells.{Tells, TellsOk}
 use Rattle.vx_grammar.proofs.Rows.{rows, rows_local, LocalRows}
-use Rattle.vx_grammar.proofs.Local.{Local, local_ok, local_unexpected, local_end, local_end_unexpected, local_return, local_token, local_then, local_expect}
+use Rattle.vx_grammar.proofs.Local.{Local, local_ok, local_unexpected, local_end, local_end_unexpected, local_return, local_token, local_then, local_expect, local_same}
 use Rattle.vx_grammar.proofs.LocalParts.{name_local, bracket_local}
-use Rattle.vx_grammar.proofs.LocalExpr.{reading_local, nested_local}
+use Rattle.vx_grammar.proofs.RunLocal.{run_local}
+use Rattle.vx_grammar.proofs.LocalExpr.{reading_local, nested_local, local_from_first, operand_local, name_turns}
 use Rattle.vx_grammar.proofs.StmtFor.{StmtFor, stmts_are_rows}
 use Rattle.vx_grammar.proofs.StmtTold.{stmt_reading_tells}
 use Rattle.vx_grammar.proofs.StmtReads.{stmt_first}
@@ -48,6 +50,10 @@ declaration_local ts =
 StmtLocal : StmtDeeper → StmtDeeper → Type 0
 StmtLocal d d' = (p : StmtPart) (here ts : List Token) (heres : List Token → List Token) → Local ts (d p here ts) (λ l. d' p (heres l) l)
 
+inside_local : (room more : ℕ) (p : Part) (ts : List Token) → Local ts (enclosed (below room) p ts) (enclosed (below (room + more)) p)
+unfolding enclosed
+inside_local room more p ts = bracket_local signs.Open signs.Close (λ here us. below room p here us) (λ here us. below (room + more) p here us) (λ here us heres. nested_local room more p here us heres) ts
+
 condition_local : (room more : ℕ) (ts : List Token) → Local ts (enclosed (below room) choice ts) (enclosed (below (room + more)) choice)
 unfolding enclosed
 condition_local room more ts = bracket_local signs.Open signs.Close (λ here us. below room choice here us) (λ here us. below (room + more) choice here us) (λ here us heres. nested_local room more choice here us heres) ts
@@ -78,9 +84,19 @@ branch_local room more d d' place ts h =
 made_local : {A : Type 0} (room more : ℕ) (f : Expr → A) (ts : List Token) → Local ts (choice_at (below room) ts >>= λ e. Ok (f e.0, e.1)) (λ l. choice_at (below (room + more)) l >>= λ e. Ok (f e.0, e.1))
 made_local room more f ts = local_then ts (choice_at (below room) ts) (choice_at (below (room + more))) _ _ (reading_local room more ts) (λ e us. local_return us (f e))
 
+right_by_local : (room more : ℕ) (t : Token) (ts : List Token) (b : Bool) → begins_new t.kind ≡ b → Local (t ∷ ts) (cond b (enclosed (below room) allocation ts) (value_at room (t ∷ ts))) (right_at (room + more))
+unfolding right_at value_at
+right_by_local room more t ts true e = local_token t ts (enclosed (below room) allocation ts) (enclosed (below (room + more)) allocation) (right_at (room + more)) (λ l. rw e refl) (inside_local room more allocation ts)
+right_by_local room more t ts false e = local_same t ts (value_at room (t ∷ ts)) (value_at (room + more)) (right_at (room + more)) (λ l. rw e refl) (made_local room more Value (t ∷ ts))
+
+right_local : (room more : ℕ) (ts : List Token) → Local ts (right_at room ts) (right_at (room + more))
+unfolding right_at
+right_local room more [] = local_end_unexpected (right_at (room + more)) refl
+right_local room more (t ∷ ts) = right_by_local room more t ts (begins_new t.kind) refl
+
 initial_by_local : (room more : ℕ) (place : Place) (d : Declaration) (t : Token) (ts : List Token) (b : Bool) → is_symbol signs.Becomes t.kind ≡ b → Local (t ∷ ts) (cond b (initial_by room place d ts) (Ok (Declare place d None, t ∷ ts))) (initial_at (room + more) place d)
 unfolding initial_at initial_by
-initial_by_local room more place d t ts true e = local_token t ts (initial_by room place d ts) (initial_by (room + more) place d) (initial_at (room + more) place d) (λ l. rw e refl) (made_local room more (λ x. Declare place d (Some (Value x))) ts)
+initial_by_local room more place d t ts true e = local_token t ts (initial_by room place d ts) (initial_by (room + more) place d) (initial_at (room + more) place d) (λ l. rw e refl) (local_then ts (right_at room ts) (right_at (room + more)) _ _ (right_local room more ts) (λ r us. local_return us _))
 initial_by_local room more place d t ts false e = local_ok t ts (Declare place d None) (initial_at (room + more) place d) (λ more. rw e refl)
 
 initial_local : (room more : ℕ) (place : Place) (d : Declaration) (ts : List Token) → Local ts (initial_at room place d ts) (initial_at (room + more) place d)
@@ -92,13 +108,42 @@ declare_local : (room more : ℕ) (place : Place) (ts : List Token) → Local ts
 unfolding declare_at
 declare_local room more place ts = local_then ts (declaration_at ts) declaration_at _ _ (declaration_local ts) (λ d us. initial_local room more place d us)
 
+-- ---- statements that begin with a name
+
+nothing_local : {A : Type 0} (ts : List Token) → (let r : Read A = Err (Unexpected ts) in Local ts r (λ l. Err (Unexpected l)))
+nothing_local ts = record { front = []; is = refl; repeats = λ next same. refl }
+
+assigned_local : (room more : ℕ) (place : Place) (xs : List (List ℕ)) (ts : List Token) → Local ts (assigned_by room place xs ts) (assigned_by (room + more) place xs)
+unfolding assign_one invoke_at
+assigned_local room more place [] ts = nothing_local ts
+assigned_local room more place (x ∷ []) ts = local_then ts (right_at room ts) (right_at (room + more)) _ _ (right_local room more ts) (λ r us. local_return us _)
+assigned_local room more place (x ∷ y ∷ ys) ts =
+    local_then ts (name_at ts) name_at _ _ (name_local ts) (λ m us.
+    local_then us (enclosed (below room) arguments us) (enclosed (below (room + more)) arguments) _ _ (inside_local room more arguments us) (λ es vs. local_return vs _))
+
 assign_local : (room more : ℕ) (place : Place) (x : List ℕ) (ts : List Token) → Local ts (assign_at room place x ts) (assign_at (room + more) place x)
 unfolding assign_at
-assign_local room more place x ts = local_then ts (expect signs.Becomes ts) (expect signs.Becomes) _ _ (local_expect signs.Becomes ts) (λ c us. made_local room more (λ e. Assign place x (Value e)) us)
+assign_local room more place x ts =
+    local_then ts (run name_turn (length ts) (x ∷ []) ts) (λ l. run name_turn (length l) (x ∷ []) l) _ _ (run_local name_turn name_turn name_turns (x ∷ []) ts) (λ xs us.
+    local_then us (expect signs.Becomes us) (expect signs.Becomes) _ _ (local_expect signs.Becomes us) (λ c vs. assigned_local room more place xs vs))
+
+store_local : (room more : ℕ) (place : Place) (e : Expr) (f : List ℕ) (ts : List Token) → Local ts (store_at room place e f ts) (store_at (room + more) place e f)
+unfolding store_at
+store_local room more place e f ts = local_then ts (expect signs.Becomes ts) (expect signs.Becomes) _ _ (local_expect signs.Becomes ts) (λ c us. made_local room more (Write place e f) us)
+
+by_target_local : (room more : ℕ) (place : Place) (e : Expr) (ts : List Token) → Local ts (by_target room place e ts) (by_target (room + more) place e)
+by_target_local room more place (Variable at x) ts = assign_local room more place x ts
+by_target_local room more place (Call at m es) ts = local_return ts _
+by_target_local room more place (written.Read at e f) ts = store_local room more place e f ts
+by_target_local room more place e ts = nothing_local ts
+
+target_local : (room more : ℕ) (d' : StmtDeeper) (t : Token) (x : List ℕ) (ts : List Token) → t.kind ≡ name x → Local (t ∷ ts) (target_at room t x ts) (stmt_at (room + more) d')
+unfolding stmt_at target_at unary_at unary_by
+target_local room more d' t x ts e = local_from_first t ts (postfix_by (below room) t (name x) ts) (unary_at (below (room + more))) (stmt_at (room + more) d') (λ y. by_target room t.place y.0 y.1) (λ y. by_target (room + more) t.place y.0 y.1) (λ l. rw e refl) (operand_local room more t x ts e) (λ y mid. by_target_local room more t.place y mid)
 
 stmt_by_local : (room more : ℕ) (d d' : StmtDeeper) (t : Token) (k : Kind) (ts : List Token) → t.kind ≡ k → StmtLocal d d' → Local (t ∷ ts) (stmt_by room d t k ts) (stmt_at (room + more) d')
 unfolding stmt_at claim_at
-stmt_by_local room more d d' t (name x) ts e h = local_token t ts (assign_at room t.place x ts) (assign_at (room + more) t.place x) (stmt_at (room + more) d') (λ l. rw e refl) (assign_local room more t.place x ts)
+stmt_by_local room more d d' t (name x) ts e h = target_local room more d' t x ts e
 stmt_by_local room more d d' t (word words.Var) ts e h = local_token t ts (declare_at room t.place ts) (declare_at (room + more) t.place) (stmt_at (room + more) d') (λ l. rw e refl) (declare_local room more t.place ts)
 stmt_by_local room more d d' t (word words.Inhale) ts e h = local_token t ts (claim_at room inhales t.place ts) (claim_at (room + more) inhales t.place) (stmt_at (room + more) d') (λ l. rw e refl) (made_local room more (claim_meant inhales t.place) ts)
 stmt_by_local room more d d' t (word words.Exhale) ts e h = local_token t ts (claim_at room exhales t.place ts) (claim_at (room + more) exhales t.place) (stmt_at (room + more) d') (λ l. rw e refl) (made_local room more (claim_meant exhales t.place) ts)
@@ -118,7 +163,7 @@ stmt_short room ts s mid e = by_marks (subst (Tells (StmtFor 0) room ts) e (stmt
   where
     by_marks : TellsOk (StmtFor 0) room ts s mid → length mid < length ts
     by_marks h =
-        let f = stmt_first 0 h.spelled.phrase in
+        let f = stmt_first 0 h.spelled.phrase h.spelled.stands in
         let one = ap length (sym h.spelled.spelled ∙ f.2) in
         let all = ap length h.takes.tokens in
         let a = length-append (tokens_of h.marks) mid in

@@ -7,9 +7,9 @@ use Rattle.vx_tokens.specs.declared.token.Word.TheVariants as words
 use Rattle.vx_tokens.specs.declared.token.Symbol.TheVariants as signs
 use Rattle.vx_tokens.specs.Tokens.{Token, Kind, name, word, symbol}
 use Rattle.vx_grammar.specs.Grammar.{Phrase, Mark, mark, marks, meant, StandsAt}
-use Rattle.vx_grammar.specs.Statements.{StmtPhrase, assigned, declared, initialized, Claim, inhales, exhales, asserts, assumes, claim_word, claim_meant, claimed, branched, branch, no_other, other, another, block}
+use Rattle.vx_grammar.specs.Statements.{StmtPhrase, RightPhrase, right_meant, RightStands, right_marks, declared, initialized, Claim, inhales, exhales, asserts, assumes, claim_word, claim_meant, claimed, branched, branch, no_other, other, another, block}
 use Rattle.vx_grammar.specs.Reading.{enclosed, ◌>>=◌, expect, is_symbol, choice, choice_at, below}
-use Rattle.vx_grammar.specs.StmtReading.{StmtPart, statements, elseif_part, stmt_part, stmts_below, declaration_at, block_at, otherwise_by, otherwise_at, branch_at, initial_by, initial_at, declare_at, assign_at, claim_at, stmt_by, stmt_at, begins_stmt, stmts_at, block_from}
+use Rattle.vx_grammar.specs.StmtReading.{StmtPart, statements, elseif_part, stmt_part, stmts_below, declaration_at, block_at, otherwise_by, otherwise_at, branch_at, initial_by, initial_at, declare_at, right_at, claim_at, stmt_by, stmt_at, begins_stmt, stmts_at, block_from}
 use Rattle.vx_grammar.proofs.Symbols.{is_symbol_true}
 use Rattle.vx_grammar.proofs.Tells.{Grammar, Starts, Tells, Sign, takes_none, tells_as, tells_here, tells_unexpected, tells_expect, marks_is}
 use Rattle.vx_grammar.proofs.Rows.{RowFor, tells_rows}
@@ -19,6 +19,7 @@ use Rattle.vx_grammar.proofs.Means.{reading_tells}
 use Rattle.vx_grammar.proofs.StmtTells.{DeclarationFor, declaration_tells}
 use Rattle.vx_grammar.proofs.StmtFor.{StmtFor, BranchFor, OtherFor, BlockFor, InsideFor, starts_stmt, starts_inside, starts_block, starts_other, starts_branch, row_inside, stmts_are_rows}
 use Rattle.vx_grammar.proofs.PhraseFor.{PhraseFor, starts_any, tells_nested, count_down}
+use Rattle.vx_grammar.proofs.TargetTold.{RightFor, right_tells, target_tells}
 
 pub fits : (limit n room : ℕ) → n + room ≡ limit → n ≤ limit
 fits limit n room e = omega (arith, e)
@@ -144,29 +145,6 @@ branch_tells_at limit n room place ts e told =
 abbrev LedFor : {A : Type 0} → ℕ → Token → Grammar A → Grammar A
 LedFor n t R = Nested (record { token = t; count = n }) R
 
-abbrev AssignParts : ℕ → Token → List ℕ → Grammar Stmt
-AssignParts n t x = Sequence (Sign n signs.Becomes) (λ c. Sequence (PhraseFor n 8) (λ e. Nothing (Assign t.place x (Value e))))
-
-assign_of : (n : ℕ) (t : Token) (x : List ℕ) → t.kind ≡ name x → (s : Stmt) (ms : List Mark) → LedFor n t (AssignParts n t x) s ms → StmtFor n s ms
-assign_of n t x k s ms h = by_parts h.inner h.is h.spelled
-  where
-    by_parts : (inner : List Mark) → (let m : Mark = record { token = t; count = n } in ms ≡ m ∷ inner) → AssignParts n t x s inner → StmtFor n s ms
-    by_parts inner is (c, a, a', q, (p, pe, pm), (e, b, b', q', r, (v, z))) = record {
-      phrase = assigned t.place x p r.phrase;
-      stands = r.stands;
-      means = ap (λ y. Assign t.place x (Value y)) r.means ∙ sym v;
-      spelled = marks_is t (name x) n _ k ∙ ap (λ l. let m : Mark = record { token = t; count = n } in m ∷ l) (sym (q ∙ rw (pm, q', z, ← r.spelled) (ap (λ l. mark n p (symbol signs.Becomes) ∷ l) (append-nil (marks n r.phrase))))) ∙ sym is;
-    }
-
-assign_tells : (limit n room : ℕ) (t : Token) (x : List ℕ) (ts : List Token) → n + room ≡ limit → t.kind ≡ name x → Tells (StmtFor n) limit (t ∷ ts) (assign_at room t.place x ts)
-unfolding assign_at
-assign_tells limit n room t x ts e k =
-    tells_as (LedFor n t (AssignParts n t x)) (StmtFor n) limit (t ∷ ts) _ (assign_of n t x k)
-    (led_tells (AssignParts n t x) limit n t ts _ (fits limit n room e)
-    (tells_sequence (Sign n signs.Becomes) _ limit ts (expect signs.Becomes ts) _ (λ c. starts_sequence (PhraseFor n 8) _ (starts_any n 8) (λ y. starts_nothing _)) (tells_expect n signs.Becomes limit ts (fits limit n room e))
-    (λ c us. tells_sequence (PhraseFor n 8) _ limit us (choice_at (below room) us) _ (λ y. starts_nothing _) (reading_tells limit n room us e)
-    (λ y vs. tells_nothing limit vs _))))
-
 -- a word, and then an expression
 abbrev ExprParts : ℕ → (Expr → Stmt) → Grammar Stmt
 ExprParts n make = Sequence (PhraseFor n 8) (λ e. Nothing (make e))
@@ -191,26 +169,29 @@ expr_tells limit n room t k make w ts e q f =
 
 -- what follows a declaration: its first value, or nothing
 record InitialFor (n : ℕ) (place : Place) (d : Declaration) (s : Stmt) (ms : List Mark) : Type 0 where
-  right : (ms ≡ []) × (s ≡ Declare place d None) ⊎ (p : Place) × (e : Phrase) × StandsAt 8 e × (s ≡ Declare place d (Some (Value (meant e)))) × (ms ≡ mark n p (symbol signs.Becomes) ∷ marks n e)
+  right : (ms ≡ []) × (s ≡ Declare place d None) ⊎ (p : Place) × (r : RightPhrase) × RightStands r × (s ≡ Declare place d (Some (right_meant r))) × (ms ≡ mark n p (symbol signs.Becomes) ∷ right_marks n r)
 
 starts_initial : (n : ℕ) (place : Place) (d : Declaration) → Starts (InitialFor n place d) []
 starts_initial n place d = record { value = Declare place d None; more = []; spelled = record { right = inl (refl, refl) } }
 
-initial_of : (n : ℕ) (place : Place) (d : Declaration) (t : Token) → t.kind ≡ symbol signs.Becomes → (s : Stmt) (ms : List Mark) → LedFor n t (ExprParts n (λ e. Declare place d (Some (Value e)))) s ms → InitialFor n place d s ms
+abbrev InitialParts : ℕ → Place → Declaration → Grammar Stmt
+InitialParts n place d = Sequence (RightFor n) (λ r. Nothing (Declare place d (Some r)))
+
+initial_of : (n : ℕ) (place : Place) (d : Declaration) (t : Token) → t.kind ≡ symbol signs.Becomes → (s : Stmt) (ms : List Mark) → LedFor n t (InitialParts n place d) s ms → InitialFor n place d s ms
 initial_of n place d t k s ms h = by_parts h.inner h.is h.spelled
   where
-    by_parts : (inner : List Mark) → (let m : Mark = record { token = t; count = n } in ms ≡ m ∷ inner) → ExprParts n (λ e. Declare place d (Some (Value e))) s inner → InitialFor n place d s ms
+    by_parts : (inner : List Mark) → (let m : Mark = record { token = t; count = n } in ms ≡ m ∷ inner) → InitialParts n place d s inner → InitialFor n place d s ms
     by_parts inner is (e, b, b', q', r, (v, z)) = record {
-      right = inr (t.place, r.phrase, r.stands, v ∙ ap (λ y. Declare place d (Some (Value y))) (sym r.means), is ∙ ap (λ l. let m : Mark = record { token = t; count = n } in m ∷ l) (q' ∙ rw z (append-nil b) ∙ sym r.spelled) ∙ sym (marks_is t (symbol signs.Becomes) n _ k));
+      right = inr (t.place, r.phrase, r.stands, v ∙ ap (λ y. Declare place d (Some y)) (sym r.means), is ∙ ap (λ l. let m : Mark = record { token = t; count = n } in m ∷ l) (q' ∙ rw z (append-nil b) ∙ sym r.spelled) ∙ sym (marks_is t (symbol signs.Becomes) n _ k));
     }
 
 initial_by_tells : (limit n room : ℕ) (place : Place) (d : Declaration) (t : Token) (ts : List Token) (b : Bool) → is_symbol signs.Becomes t.kind ≡ b → n + room ≡ limit → Tells (InitialFor n place d) limit (t ∷ ts) (cond b (initial_by room place d ts) (Ok (Declare place d None, t ∷ ts)))
 unfolding initial_by
 initial_by_tells limit n room place d t ts true h e =
     let k = is_symbol_true signs.Becomes t.kind h in
-    tells_as (LedFor n t (ExprParts n (λ x. Declare place d (Some (Value x))))) (InitialFor n place d) limit (t ∷ ts) _ (initial_of n place d t k)
-    (led_tells (ExprParts n (λ x. Declare place d (Some (Value x)))) limit n t ts _ (fits limit n room e)
-    (tells_sequence (PhraseFor n 8) _ limit ts (choice_at (below room) ts) _ (λ y. starts_nothing _) (reading_tells limit n room ts e)
+    tells_as (LedFor n t (InitialParts n place d)) (InitialFor n place d) limit (t ∷ ts) _ (initial_of n place d t k)
+    (led_tells (InitialParts n place d) limit n t ts _ (fits limit n room e)
+    (tells_sequence (RightFor n) _ limit ts (right_at room ts) _ (λ y. starts_nothing _) (right_tells limit n room ts e)
     (λ y us. tells_nothing limit us _)))
 initial_by_tells limit n room place d t ts false h e = tells_here (InitialFor n place d) limit (t ∷ ts) (Declare place d None) (record { right = inl (refl, refl) })
 
@@ -239,7 +220,7 @@ declare_of n t k s ms h = by_parts h.inner h.is h.spelled
       | inr (p, e, st, v, z) ↦ record {
         phrase = initialized t.place r.phrase p e;
         stands = st;
-        means = ap (λ y. Declare t.place y (Some (Value (meant e)))) r.means ∙ sym v;
+        means = ap (λ y. Declare t.place y (Some (right_meant e))) r.means ∙ sym v;
         spelled = ap (λ l. mark n t.place (word words.Var) ∷ l) (sym (q ∙ rw (z, ← r.spelled) refl)) ∙ led inner is;
       }
     ]
@@ -267,7 +248,7 @@ unfolding claim_at
 claim_tells limit n room c t ts e k = expr_tells limit n room t (word (claim_word c)) (claim_meant c t.place) (claimed c t.place) ts e k (λ w st. record { phrase = claimed c t.place w; stands = st; means = refl; spelled = refl })
 
 stmt_by_tells : (limit n room : ℕ) (t : Token) (k : Kind) (ts : List Token) → n + room ≡ limit → StmtToldBelow limit room → t.kind ≡ k → Tells (StmtFor n) limit (t ∷ ts) (stmt_by room (stmts_below room) t k ts)
-stmt_by_tells limit n room t (name x) ts e told k = assign_tells limit n room t x ts e k
+stmt_by_tells limit n room t (name x) ts e told k = target_tells limit n room t x ts e k
 stmt_by_tells limit n room t (word words.Var) ts e told k = declare_tells limit n room t ts e k
 stmt_by_tells limit n room t (word words.Inhale) ts e told k = claim_tells limit n room inhales t ts e k
 stmt_by_tells limit n room t (word words.Exhale) ts e told k = claim_tells limit n room exhales t ts e k

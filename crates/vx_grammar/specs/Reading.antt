@@ -8,7 +8,7 @@ use Rattle.vx_ast.specs.declared.UnaryOperator.TheVariants.{Not, Negate}
 use Rattle.vx_ast.specs.declared.BinaryOperator.{BinaryOperator}
 use Rattle.vx_ast.specs.declared.BinaryOperator.TheVariants.{Implies}
 use Rattle.vx_tokens.specs.Tokens.{Kind, name, number, word, symbol, Token}
-use Rattle.vx_ast.specs.Written.{Expr, Exprs, NoMore, More, Amount, All, Truth, Number, Null, Whole, Nothing, Variable, Call, Unary, Binary, Choice, Old, Access}
+use Rattle.vx_ast.specs.Written.{Expr, Exprs, NoMore, More, Amount, All, Truth, Number, Null, Whole, Nothing, Variable, Call, Unary, Binary, Choice, Old, Access, Right, NewAll, New}
 use Rattle.vx_ast.specs.Written as written
 use Rattle.vx_grammar.specs.Grammar.{level_of, operator_of}
 
@@ -96,7 +96,7 @@ name_at (t ∷ ts) = name_by t t.kind ts
 -- ---- expressions
 
 -- What is read: an expression of a level, or what follows in a chain of operators of a level behind its first part, or
--- behind a dot; arguments, or what `acc` holds.
+-- behind a dot; arguments, what `acc` holds, or the fields of `new`.
 pub data Part : Type 0 where
   choice : Part
   implication : Part
@@ -105,6 +105,7 @@ pub data Part : Type 0 where
   behind_dot : Place → Expr → Part
   arguments : Part
   access : Part
+  allocation : Part
 
 -- what reading a part gives
 abbrev pub Given : Part → Type 0
@@ -115,6 +116,7 @@ Given (rest_of_chain level start left) = Expr
 Given (behind_dot start left) = Expr
 Given arguments = Exprs
 Given access = Expr × Amount
+Given allocation = Right
 
 -- Reads a part one deeper. The first list begins with the token that nests.
 abbrev pub Deeper : Type 0
@@ -294,6 +296,33 @@ access_at deeper ts = do
   a ← amount_at deeper e.1
   Ok ((e.0, a.0), a.1)
 
+-- ---- names
+
+-- one name more, behind a comma
+unfoldable pub name_turn : Turn (List (List ℕ))
+name_turn before [] = Ok (None, [])
+name_turn before (t ∷ ts) =
+    if is_symbol signs.Comma t.kind then (do
+      x ← name_at ts
+      Ok (Some (before ++ x.0 ∷ []), x.1))
+    else Ok (None, t ∷ ts)
+
+-- one field at least
+unfoldable pub fields_at : List Token → Read Right
+fields_at ts = do
+  x ← name_at ts
+  xs ← run name_turn (length x.1) (x.0 ∷ []) x.1
+  Ok (New xs.0, xs.1)
+
+abbrev pub allocation_by : Token → Kind → List Token → Read Right
+allocation_by t (symbol signs.Times) ts = Ok (NewAll, ts)
+allocation_by t (symbol signs.Close) ts = Ok (New [], t ∷ ts)
+allocation_by t k ts = fields_at (t ∷ ts)
+
+unfoldable pub allocation_at : List Token → Read Right
+allocation_at [] = Err (Unexpected [])
+allocation_at (t ∷ ts) = allocation_by t t.kind ts
+
 abbrev pub part_at : Deeper → (p : Part) → List Token → Read (Given p)
 part_at deeper choice ts = choice_at deeper ts
 part_at deeper implication ts = implication_at deeper ts
@@ -302,6 +331,7 @@ part_at deeper (rest_of_chain level start left) ts = rest_at deeper level start 
 part_at deeper (behind_dot start left) ts = dotted_at deeper start left ts
 part_at deeper arguments ts = arguments_at deeper ts
 part_at deeper access ts = access_at deeper ts
+part_at deeper allocation ts = allocation_at ts
 
 -- one deeper, where the nesting count may still grow by room
 unfoldable pub below : ℕ → Deeper

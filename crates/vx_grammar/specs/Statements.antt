@@ -3,12 +3,12 @@ use Rattle.std.specs.Prelude.{ℕ, ◌+◌, List, [], ◌∷◌, ◌++◌, Optio
 use Rattle.vx_ast.specs.declared.Place.{Place}
 use Rattle.vx_ast.specs.declared.ValueType.{ValueType}
 use Rattle.vx_ast.specs.declared.ValueType.TheVariants as types
-use Rattle.vx_ast.specs.Written.{Expr, Declaration, Value, Stmt, Block, Declare, Assign, Inhale, Exhale, Assert, Assume, If, Done, Then}
+use Rattle.vx_ast.specs.Written.{Expr, Right, Value, NewAll, New, Declaration, Stmt, Block, Declare, Assign, Write, Invoke, Inhale, Exhale, Assert, Assume, If, Done, Then}
 use Rattle.vx_tokens.specs.declared.token.Word.{Word}
 use Rattle.vx_tokens.specs.declared.token.Word.TheVariants as words
 use Rattle.vx_tokens.specs.declared.token.Symbol.TheVariants as signs
 use Rattle.vx_tokens.specs.Tokens.{name, word, symbol}
-use Rattle.vx_grammar.specs.Grammar.{Phrase, Mark, mark, marks, meant, StandsAt}
+use Rattle.vx_grammar.specs.Grammar.{Phrase, literal, constant, numeral, named, called, dotted, grouped, past, accessed, prefixed, joined, chosen, ArgumentsPhrase, arguments_meant, ArgumentsStand, Mark, mark, marks, start_of, meant, StandsAt}
 
 -- ---- declarations
 
@@ -53,13 +53,81 @@ claim_meant exhales p e = Exhale p e
 claim_meant asserts p e = Assert p e
 claim_meant assumes p e = Assume p e
 
+-- names behind a first one, each behind a comma
+pub data NamesPhrase : Type 0 where
+  no_names : NamesPhrase
+  next_name : Place → Place → List ℕ → NamesPhrase → NamesPhrase
+
+-- the fields that `new` gives: all, none, or these
+pub data FieldsPhrase : Type 0 where
+  every_field : Place → FieldsPhrase
+  no_fields : FieldsPhrase
+  these_fields : Place → List ℕ → NamesPhrase → FieldsPhrase
+
+-- what stands right of `:=`
+pub data RightPhrase : Type 0 where
+  given : Phrase → RightPhrase
+  -- new ( fields )
+  allocated : Place → Place → FieldsPhrase → Place → RightPhrase
+
+abbrev pub names_meant : NamesPhrase → List (List ℕ)
+names_meant no_names = []
+names_meant (next_name p q x rest) = x ∷ names_meant rest
+
+abbrev pub fields_meant : FieldsPhrase → Right
+fields_meant (every_field p) = NewAll
+fields_meant no_fields = New []
+fields_meant (these_fields p x rest) = New (x ∷ names_meant rest)
+
+abbrev pub right_meant : RightPhrase → Right
+right_meant (given e) = Value (meant e)
+right_meant (allocated p o fs c) = fields_meant fs
+
+abbrev pub RightStands : RightPhrase → Type 0
+RightStands (given e) = StandsAt 8 e
+RightStands (allocated p o fs c) = ⊤
+
+abbrev pub names_marks : ℕ → NamesPhrase → List Mark
+names_marks n no_names = []
+names_marks n (next_name p q x rest) = mark n p (symbol signs.Comma) ∷ mark n q (name x) ∷ names_marks n rest
+
+abbrev pub fields_marks : ℕ → FieldsPhrase → List Mark
+fields_marks n (every_field p) = mark n p (symbol signs.Times) ∷ []
+fields_marks n no_fields = []
+fields_marks n (these_fields p x rest) = mark n p (name x) ∷ names_marks n rest
+
+abbrev pub right_marks : ℕ → RightPhrase → List Mark
+right_marks n (given e) = marks n e
+right_marks n (allocated p o fs c) = mark n p (word words.New) ∷ mark (n + 1) o (symbol signs.Open) ∷ (fields_marks (n + 1) fs ++ mark (n + 1) c (symbol signs.Close) ∷ [])
+
+-- the location of a field: a variable or an application, and fields of it
+abbrev pub IsPath : Phrase → Type 0
+IsPath (named p x) = ⊤
+IsPath (called p x o es c) = ⊤
+IsPath (dotted e p q f) = IsPath e
+IsPath (literal p b) = ⊥
+IsPath (constant p c) = ⊥
+IsPath (numeral p n) = ⊥
+IsPath (grouped p e q) = ⊥
+IsPath (past p o e c) = ⊥
+IsPath (accessed p o e a c) = ⊥
+IsPath (prefixed p op e) = ⊥
+IsPath (joined a p op b) = ⊥
+IsPath (chosen c p a q b) = ⊥
+
 mutual
   pub data StmtPhrase : Type 0 where
     -- x := e
-    assigned : Place → List ℕ → Place → Phrase → StmtPhrase
+    assigned : Place → List ℕ → Place → RightPhrase → StmtPhrase
+    -- e . f := e'
+    stored : Phrase → Place → Place → List ℕ → Place → Phrase → StmtPhrase
+    -- m ( arguments )
+    invoked : Place → List ℕ → Place → ArgumentsPhrase → Place → StmtPhrase
+    -- x , y , .. := m ( arguments )
+    targeted : Place → List ℕ → Place → Place → List ℕ → NamesPhrase → Place → Place → List ℕ → Place → ArgumentsPhrase → Place → StmtPhrase
     -- var d, and var d := e
     declared : Place → DeclarationPhrase → StmtPhrase
-    initialized : Place → DeclarationPhrase → Place → Phrase → StmtPhrase
+    initialized : Place → DeclarationPhrase → Place → RightPhrase → StmtPhrase
     -- inhale e, exhale e, assert e, assume e
     claimed : Claim → Place → Phrase → StmtPhrase
     -- if, and what stands behind it
@@ -88,9 +156,12 @@ mutual
 
 abbrev mutual
   pub stmt_meant : StmtPhrase → Stmt
-  stmt_meant (assigned p x q e) = Assign p x (Value (meant e))
+  stmt_meant (assigned p x q r) = Assign p x (right_meant r)
+  stmt_meant (stored e p q f r v) = Write (start_of e) (meant e) f (meant v)
+  stmt_meant (invoked p m o es c) = Invoke p [] m (arguments_meant es)
+  stmt_meant (targeted p x k q y ys r s m o es c) = Invoke p (x ∷ y ∷ names_meant ys) m (arguments_meant es)
   stmt_meant (declared p d) = Declare p (declaration_meant d) None
-  stmt_meant (initialized p d q e) = Declare p (declaration_meant d) (Some (Value (meant e)))
+  stmt_meant (initialized p d q r) = Declare p (declaration_meant d) (Some (right_meant r))
   stmt_meant (claimed c p e) = claim_meant c p (meant e)
   stmt_meant (branched p b) = branch_meant p b
 
@@ -115,9 +186,12 @@ abbrev mutual
 
 abbrev mutual
   pub StandsStmt : StmtPhrase → Type 0
-  StandsStmt (assigned p x q e) = StandsAt 8 e
+  StandsStmt (assigned p x q r) = RightStands r
+  StandsStmt (stored e p q f r v) = IsPath e × StandsAt 0 e × StandsAt 8 v
+  StandsStmt (invoked p m o es c) = ArgumentsStand es
+  StandsStmt (targeted p x k q y ys r s m o es c) = ArgumentsStand es
   StandsStmt (declared p d) = ⊤
-  StandsStmt (initialized p d q e) = StandsAt 8 e
+  StandsStmt (initialized p d q r) = RightStands r
   StandsStmt (claimed c p e) = StandsAt 8 e
   StandsStmt (branched p b) = StandsBranch b
 
@@ -145,9 +219,12 @@ semi_marks n (Some p) = mark n p (symbol signs.Semicolon) ∷ []
 -- A parenthesis, a brace and an `elseif` nest one deeper; an `elseif` part lasts to the end of the whole `if`.
 abbrev mutual
   pub stmt_marks : ℕ → StmtPhrase → List Mark
-  stmt_marks n (assigned p x q e) = mark n p (name x) ∷ mark n q (symbol signs.Becomes) ∷ marks n e
+  stmt_marks n (assigned p x q r) = mark n p (name x) ∷ mark n q (symbol signs.Becomes) ∷ right_marks n r
+  stmt_marks n (stored e p q f r v) = marks n (dotted e p q f) ++ mark n r (symbol signs.Becomes) ∷ marks n v
+  stmt_marks n (invoked p m o es c) = marks n (called p m o es c)
+  stmt_marks n (targeted p x k q y ys r s m o es c) = mark n p (name x) ∷ mark n k (symbol signs.Comma) ∷ mark n q (name y) ∷ (names_marks n ys ++ mark n r (symbol signs.Becomes) ∷ marks n (called s m o es c))
   stmt_marks n (declared p d) = mark n p (word words.Var) ∷ declaration_marks n d
-  stmt_marks n (initialized p d q e) = mark n p (word words.Var) ∷ (declaration_marks n d ++ mark n q (symbol signs.Becomes) ∷ marks n e)
+  stmt_marks n (initialized p d q r) = mark n p (word words.Var) ∷ (declaration_marks n d ++ mark n q (symbol signs.Becomes) ∷ right_marks n r)
   stmt_marks n (claimed c p e) = mark n p (word (claim_word c)) ∷ marks n e
   stmt_marks n (branched p b) = mark n p (word words.If) ∷ branch_marks n b
 

@@ -6,9 +6,10 @@ use Rattle.vx_ast.specs.declared.ValueType.TheVariants as types
 use Rattle.vx_tokens.specs.declared.token.Word.TheVariants as words
 use Rattle.vx_tokens.specs.declared.token.Symbol.TheVariants as signs
 use Rattle.vx_tokens.specs.Tokens.{Kind, name, word, Token}
-use Rattle.vx_ast.specs.Written.{Declaration, Value, Stmt, Block, Declare, Assign, If, Done, Then}
+use Rattle.vx_ast.specs.Written.{Expr, Variable, Call, Right, Value, Declaration, Stmt, Block, Declare, Assign, Write, Invoke, If, Done, Then}
+use Rattle.vx_ast.specs.Written as written
 use Rattle.vx_grammar.specs.Statements.{Claim, inhales, exhales, asserts, assumes, claim_meant}
-use Rattle.vx_grammar.specs.Reading.{Unexpected, TooDeep, Read, ◌>>=◌, Turn, run, is_symbol, expect, name_at, enclosed, choice, choice_at, below}
+use Rattle.vx_grammar.specs.Reading.{Unexpected, TooDeep, Read, ◌>>=◌, Turn, run, is_symbol, expect, name_at, enclosed, choice, arguments, allocation, name_turn, postfix_by, choice_at, below}
 
 -- ---- types
 
@@ -66,10 +67,24 @@ branch_at room deeper place ts = do
   o ← otherwise_at deeper b.1
   Ok (If place e.0 b.0 o.0, o.1)
 
+abbrev pub begins_new : Kind → Bool
+begins_new (word words.New) = true
+begins_new k = false
+
+unfoldable pub value_at : ℕ → List Token → Read Right
+value_at room ts = do
+  e ← choice_at (below room) ts
+  Ok (Value e.0, e.1)
+
+-- what stands right of `:=`
+unfoldable pub right_at : ℕ → List Token → Read Right
+right_at room [] = Err (Unexpected [])
+right_at room (t ∷ ts) = if begins_new t.kind then enclosed (below room) allocation ts else value_at room (t ∷ ts)
+
 unfoldable pub initial_by : ℕ → Place → Declaration → List Token → Read Stmt
 initial_by room place d ts = do
-  e ← choice_at (below room) ts
-  Ok (Declare place d (Some (Value e.0)), e.1)
+  r ← right_at room ts
+  Ok (Declare place d (Some r.0), r.1)
 
 unfoldable pub initial_at : ℕ → Place → Declaration → List Token → Read Stmt
 initial_at room place d [] = Ok (Declare place d None, [])
@@ -81,12 +96,51 @@ declare_at room place ts = do
   d ← declaration_at ts
   initial_at room place d.0 d.1
 
--- behind the name of a target
+-- ---- statements that begin with a name
+
+unfoldable pub assign_one : ℕ → Place → List ℕ → List Token → Read Stmt
+assign_one room place x ts = do
+  r ← right_at room ts
+  Ok (Assign place x r.0, r.1)
+
+-- behind the targets of a call and `:=`
+unfoldable pub invoke_at : ℕ → Place → List (List ℕ) → List Token → Read Stmt
+invoke_at room place xs ts = do
+  m ← name_at ts
+  es ← enclosed (below room) arguments m.1
+  Ok (Invoke place xs m.0 es.0, es.1)
+
+abbrev pub assigned_by : ℕ → Place → List (List ℕ) → List Token → Read Stmt
+assigned_by room place [] ts = Err (Unexpected ts)
+assigned_by room place (x ∷ []) ts = assign_one room place x ts
+assigned_by room place (x ∷ y ∷ ys) ts = invoke_at room place (x ∷ y ∷ ys) ts
+
+-- behind the name of a first target
 unfoldable pub assign_at : ℕ → Place → List ℕ → List Token → Read Stmt
 assign_at room place x ts = do
+  xs ← run name_turn (length ts) (x ∷ []) ts
+  becomes ← expect signs.Becomes xs.1
+  assigned_by room place xs.0 becomes.1
+
+-- behind a field's location
+unfoldable pub store_at : ℕ → Place → Expr → List ℕ → List Token → Read Stmt
+store_at room place e f ts = do
   becomes ← expect signs.Becomes ts
-  e ← choice_at (below room) becomes.1
-  Ok (Assign place x (Value e.0), e.1)
+  v ← choice_at (below room) becomes.1
+  Ok (Write place e f v.0, v.1)
+
+-- behind a variable, an application or a field's location
+abbrev pub by_target : ℕ → Place → Expr → List Token → Read Stmt
+by_target room place (Variable at x) ts = assign_at room place x ts
+by_target room place (Call at m es) ts = Ok (Invoke place [] m es, ts)
+by_target room place (written.Read at e f) ts = store_at room place e f ts
+by_target room place e ts = Err (Unexpected ts)
+
+-- behind a name
+unfoldable pub target_at : ℕ → Token → List ℕ → List Token → Read Stmt
+target_at room t x ts = do
+  e ← postfix_by (below room) t (name x) ts
+  by_target room t.place e.0 e.1
 
 unfoldable pub claim_at : ℕ → Claim → Place → List Token → Read Stmt
 claim_at room claim place ts = do
@@ -94,7 +148,7 @@ claim_at room claim place ts = do
   Ok (claim_meant claim place e.0, e.1)
 
 abbrev pub stmt_by : ℕ → StmtDeeper → Token → Kind → List Token → Read Stmt
-stmt_by room deeper t (name x) ts = assign_at room t.place x ts
+stmt_by room deeper t (name x) ts = target_at room t x ts
 stmt_by room deeper t (word words.Var) ts = declare_at room t.place ts
 stmt_by room deeper t (word words.Inhale) ts = claim_at room inhales t.place ts
 stmt_by room deeper t (word words.Exhale) ts = claim_at room exhales t.place ts

@@ -5,7 +5,7 @@ use Rattle.vx_ast.specs.Written.{Expr, Exprs, Stmt, Block, Declaration}
 use Rattle.vx_tokens.specs.declared.token.Token as the_token
 use Rattle.vx_tokens.specs.declared.token.Symbol.TheVariants as signs
 use Rattle.vx_tokens.specs.Tokens.{Token, tokens_in, token_of}
-use Rattle.vx_grammar.specs.Reading.{◌>>=◌, Read, choice_at, below, exprs_from, argument_turn, some_arguments, is_symbol, Turn, run}
+use Rattle.vx_grammar.specs.Reading.{name_at, name_turn, ◌>>=◌, Read, choice_at, below, exprs_from, argument_turn, some_arguments, is_symbol, Turn, run}
 use Rattle.vx_grammar.specs.StmtReading.{StmtDeeper, StmtPart, stmt_part, stmts_below, begins_stmt, skip_semicolon, stmt_at, stmt_turn, declaration_at}
 use Rattle.vx_grammar.specs.MemberReading.{limit, declaration_turn, Clauses, clause_turn, clause_at, begins_requires, begins_ensures, with_requires, with_ensures}
 use Rattle.vx_grammar.specs.Nesting.{stmt_nests}
@@ -90,6 +90,25 @@ declaration_end before ts none = rw none refl
 pub declaration_stops : (e : the_stop.Stop) (before : List Declaration) (ts : List Token) (t : Token) (us : List Token) → ts ≡ t ∷ us → is_symbol signs.Comma t.kind ≡ true → Stops e (declaration_at us) → Stops e (declaration_turn before ts)
 unfolding declaration_turn
 declaration_stops e before ts t us first comma read = rw (first, comma) (stops_after e (declaration_at us) (λ d. Ok (Some (before ++ d.0 ∷ []), d.1)) read)
+
+-- ---- names
+
+pub name_on : (before : List (List ℕ)) (ts : List Token) (t : Token) (us : List Token) (d : List ℕ) (after : List Token) → ts ≡ t ∷ us → is_symbol signs.Comma t.kind ≡ true → name_at us ≡ Ok (d, after)
+    → name_turn before ts ≡ Ok (Some (before ++ d ∷ []), after)
+unfolding name_turn
+name_on before ts t us d after first comma read = rw (first, comma, read) refl
+
+pub name_over : (before : List (List ℕ)) (ts : List Token) (t : Token) (us : List Token) → ts ≡ t ∷ us → is_symbol signs.Comma t.kind ≡ false → name_turn before ts ≡ Ok (None, t ∷ us)
+unfolding name_turn
+name_over before ts t us first comma = rw (first, comma) refl
+
+pub name_end : (before : List (List ℕ)) (ts : List Token) → ts ≡ [] → name_turn before ts ≡ Ok (None, [])
+unfolding name_turn
+name_end before ts none = rw none refl
+
+pub name_stops : (e : the_stop.Stop) (before : List (List ℕ)) (ts : List Token) (t : Token) (us : List Token) → ts ≡ t ∷ us → is_symbol signs.Comma t.kind ≡ true → Stops e (name_at us) → Stops e (name_turn before ts)
+unfolding name_turn
+name_stops e before ts t us first comma read = rw (first, comma) (stops_after e (name_at us) (λ d. Ok (Some (before ++ d.0 ∷ []), d.1)) read)
 
 -- ---- clauses
 

@@ -32,7 +32,6 @@ is_foreign_word words.Fold = true
 is_foreign_word words.Unfold = true
 is_foreign_word words.Unfolding = true
 is_foreign_word words.In = true
-is_foreign_word words.New = true
 is_foreign_word words.Foreign = true
 is_foreign_word w = false
 

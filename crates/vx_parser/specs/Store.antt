@@ -20,6 +20,7 @@ is_beyond_word words.Nothing = true
 is_beyond_word words.Outcome = true
 is_beyond_word words.Old = true
 is_beyond_word words.Acc = true
+is_beyond_word words.New = true
 is_beyond_word w = false
 
 abbrev pub is_beyond_symbol : Symbol → Bool

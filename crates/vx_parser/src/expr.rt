@@ -219,7 +219,7 @@ fn rest_of_chain<'t>(
 }
 
 #[cycle(expr)]
-#[tactic(auto, unfolding(vx_grammar::specs::Reading::unary_at, vx_grammar::specs::Reading::unary_by, vx_grammar::specs::Reading::postfix_by))]
+#[tactic(auto, unfolding(vx_grammar::specs::Reading::unary_at, vx_grammar::specs::Reading::unary_by))]
 fn unary<'t>(alloc: Global, room: u32, tokens: &'t [Token<'t>]) -> Read<'t, Expr>
     requires { room < 1000 }
     ensures { Gives (λ x. (written_expr x.0, tokens_in x.1.now)) result (reading.unary_at (reading.below room) (tokens_in tokens.now)) }
@@ -237,11 +237,26 @@ fn unary<'t>(alloc: Global, room: u32, tokens: &'t [Token<'t>]) -> Read<'t, Expr
             let (e, rest) = nested_operand(alloc, room, tokens, inner)?;
             Ok((prefixed(alloc, place, UnaryOperator::Negate, e)?, rest))
         }
-        _ => {
-            let (e, rest) = primary(alloc, room, first, tokens, inner)?;
-            dots(alloc, room, place, e, rest)
-        }
+        _ => postfix(alloc, room, first, tokens, inner),
     }
+}
+
+/// What a dot may stand behind, and dots.
+#[cycle(expr)]
+#[tactic(auto, unfolding(vx_grammar::specs::Reading::postfix_by))]
+pub fn postfix<'t>(
+    alloc: Global,
+    room: u32,
+    first: &'t Token<'t>,
+    tokens: &'t [Token<'t>],
+    inner: &'t [Token<'t>],
+) -> Read<'t, Expr>
+    requires room { room < 1000 }
+    requires first { tokens_in tokens.now ≡ token_of first.now ∷ tokens_in inner.now }
+    ensures { Gives (λ x. (written_expr x.0, tokens_in x.1.now)) result (reading.postfix_by (reading.below room) (token_of first.now) (kind_of first.now.kind) (tokens_in inner.now)) }
+{
+    let (e, rest) = primary(alloc, room, first, tokens, inner)?;
+    dots(alloc, room, first.place, e, rest)
 }
 
 // What a dot may stand behind.

@@ -7,6 +7,7 @@ mod made;
 mod member;
 mod name;
 mod program;
+mod right;
 mod stmt;
 mod stop;
 mod store;

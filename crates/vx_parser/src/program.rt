@@ -220,7 +220,6 @@ fn is_foreign_word(word: Word) -> bool
             | Word::Unfold
             | Word::Unfolding
             | Word::In
-            | Word::New
             | Word::Foreign
     )
 }

@@ -1,7 +1,7 @@
 //! Reading statements.
 
-ghost use Rattle.std.specs.Prelude.{◌≡◌, ◌<◌, IfOk, Some, None, map};
-ghost use Rattle.vx_ast.specs.Written.{name_of, written_expr, written_declaration, Declare, Assign, If, Then, Done, Value};
+ghost use Rattle.std.specs.Prelude.{◌≡◌, ◌<◌, IfOk, Some, None, map, string_bytes};
+ghost use Rattle.vx_ast.specs.Written.{name_of, written_all, written_expr, written_declaration, written_right, Declare, Invoke, If, Then, Done};
 ghost use Rattle.vx_tokens.specs.Tokens.{kind_of, token_of, tokens_in};
 ghost use Rattle.vx_grammar.specs.Reading.{below};
 ghost use Rattle.vx_grammar.specs.StmtReading as reading;
@@ -11,12 +11,13 @@ ghost use Rattle.vx_parser.specs.StmtPart.{stmt_part_of, claim_of};
 ghost use Rattle.vx_grammar.specs.StmtReading.{block_from};
 ghost use Rattle.vx_parser.specs.Views.{stmt_of, block_of};
 
-use crate::expr::{Read, choice, expect, grouped, is_symbol};
-use crate::name::name;
+use crate::expr::{Read, choice, enclosed_arguments, expect, grouped, is_symbol, postfix};
+use crate::name::{more_names, name};
+use crate::right::{one, right};
 use crate::stop::Stop;
 use std::alloc::{AllocError, Global};
 use std::rc::Rc;
-use vx_ast::{Block, Declaration, Expr, Name, Place, Right, Stmt, StmtKind, ValueType};
+use vx_ast::{Block, Declaration, Expr, ExprKind, Name, Place, Right, Stmt, StmtKind, ValueType};
 use vx_tokens::{Kind, Symbol, Token, Word};
 
 /// What nests: the statements between braces, or the part of an `if` from an `elseif` on.
@@ -153,8 +154,8 @@ fn declare<'t>(alloc: Global, room: u32, place: Place, tokens: &'t [Token<'t>]) 
     let (declaration, rest) = declaration(alloc, tokens)?;
     match rest.split_first() {
         Some((becomes, inner)) if is_symbol(Symbol::Becomes, becomes.kind) => {
-            let (e, rest) = choice(alloc, room, inner)?;
-            Ok((declared_as(alloc, place, declaration, e)?, rest))
+            let (right, rest) = right(alloc, room, inner)?;
+            Ok((declared_as(place, declaration, right), rest))
         }
         _ => Ok((declared(place, declaration), rest)),
     }
@@ -169,49 +170,131 @@ fn declared(place: Place, declaration: Declaration) -> Stmt
     }
 }
 
-fn declared_as(
-    alloc: Global,
-    place: Place,
-    declaration: Declaration,
-    e: Expr,
-) -> Result<Stmt, AllocError>
-    ensures { IfOk result (λ stmt. stmt_of stmt ≡ Declare place (written_declaration declaration) (Some (Value (written_expr e)))) }
+fn declared_as(place: Place, declaration: Declaration, right: Right) -> Stmt
+    ensures { stmt_of result ≡ Declare place (written_declaration declaration) (Some (written_right right)) }
 {
-    let right = Right::Value(Rc::new(alloc, e)?);
     let kind = StmtKind::Declare(declaration, Some(right));
-    Ok(Stmt { place, kind })
+    Stmt { place, kind }
 }
 
-fn assigned(alloc: Global, place: Place, target: Name, e: Expr) -> Result<Stmt, AllocError>
-    ensures { IfOk result (λ stmt. stmt_of stmt ≡ Assign place (name_of target) (Value (written_expr e))) }
+// What stands behind a variable, an application or a field's location.
+fn by_target<'t>(
+    alloc: Global,
+    room: u32,
+    place: Place,
+    target: Expr,
+    tokens: &'t [Token<'t>],
+) -> Read<'t, Stmt>
+    requires { room < 1000 }
+    ensures { Gives (λ x. (stmt_of x.0, tokens_in x.1.now)) result (reading.by_target room place (written_expr target) (tokens_in tokens.now)) }
 {
-    let kind = StmtKind::Assign(target, Right::Value(Rc::new(alloc, e)?));
-    Ok(Stmt { place, kind })
+    let Expr { place: _, kind } = target;
+    match kind {
+        ExprKind::Variable(text) => assign(alloc, room, place, text, tokens),
+        ExprKind::Call(text, arguments) => {
+            let method = Name { text, place };
+            Ok((invoked(place, Vec::new(alloc), method, arguments), tokens))
+        }
+        ExprKind::Read(e, field) => store(alloc, room, place, e, field, tokens),
+        _ => Err(Stop::Unexpected(tokens)),
+    }
 }
 
-fn named(alloc: Global, place: Place, text: &str) -> Result<Name, AllocError>
-    ensures { IfOk result (λ name. name_of name ≡ text.now) }
+fn invoked(place: Place, targets: Vec<Name>, method: Name, arguments: Vec<Rc<Expr>>) -> Stmt
+    ensures { stmt_of result ≡ Invoke place (map name_of targets.items) (name_of method) (written_all arguments.items) }
 {
-    let text = String::from_str(alloc, text)?;
-    Ok(Name { text, place })
+    let kind = StmtKind::Call(targets, method, arguments);
+    Stmt { place, kind }
 }
 
-// What stands behind the name of a target.
+// What stands behind a field's location.
+#[tactic(auto, unfolding(vx_grammar::specs::StmtReading::store_at))]
+fn store<'t>(
+    alloc: Global,
+    room: u32,
+    place: Place,
+    receiver: Rc<Expr>,
+    field: Name,
+    tokens: &'t [Token<'t>],
+) -> Read<'t, Stmt>
+    requires { room < 1000 }
+    ensures { Gives (λ x. (stmt_of x.0, tokens_in x.1.now)) result (reading.store_at room place (written_expr receiver.value) (name_of field) (tokens_in tokens.now)) }
+{
+    let (_, rest) = expect(Symbol::Becomes, tokens)?;
+    let (e, rest) = choice(alloc, room, rest)?;
+    let kind = StmtKind::Write(receiver, field, Rc::new(alloc, e)?);
+    Ok((Stmt { place, kind }, rest))
+}
+
+// What stands behind the name of a first target.
 #[tactic(auto, unfolding(vx_grammar::specs::StmtReading::assign_at))]
 fn assign<'t>(
     alloc: Global,
     room: u32,
     place: Place,
-    text: &str,
+    text: String,
     tokens: &'t [Token<'t>],
 ) -> Read<'t, Stmt>
     requires { room < 1000 }
-    ensures { Gives (λ x. (stmt_of x.0, tokens_in x.1.now)) result (reading.assign_at room place text.now (tokens_in tokens.now)) }
+    ensures { Gives (λ x. (stmt_of x.0, tokens_in x.1.now)) result (reading.assign_at room place (string_bytes text) (tokens_in tokens.now)) }
 {
-    let (_, rest) = expect(Symbol::Becomes, tokens)?;
-    let (e, rest) = choice(alloc, room, rest)?;
-    let target = named(alloc, place, text)?;
-    Ok((assigned(alloc, place, target, e)?, rest))
+    let targets = one(alloc, Name { text, place })?;
+    let (targets, rest) = more_names(alloc, targets, tokens)?;
+    let (_, rest) = expect(Symbol::Becomes, rest)?;
+    assigned_by(alloc, room, place, targets, rest)
+}
+
+// What stands behind targets and `:=`.
+fn assigned_by<'t>(
+    alloc: Global,
+    room: u32,
+    place: Place,
+    mut targets: Vec<Name>,
+    tokens: &'t [Token<'t>],
+) -> Read<'t, Stmt>
+    requires { room < 1000 }
+    ensures { Gives (λ x. (stmt_of x.0, tokens_in x.1.now)) result (reading.assigned_by room place (map name_of targets.items) (tokens_in tokens.now)) }
+{
+    if targets.len() > 1 {
+        return invoke(alloc, room, place, targets, tokens);
+    }
+    match targets.pop() {
+        Some(target) => assign_one(alloc, room, place, target, tokens),
+        None => Err(Stop::Unexpected(tokens)),
+    }
+}
+
+#[tactic(auto, unfolding(vx_grammar::specs::StmtReading::assign_one))]
+fn assign_one<'t>(
+    alloc: Global,
+    room: u32,
+    place: Place,
+    target: Name,
+    tokens: &'t [Token<'t>],
+) -> Read<'t, Stmt>
+    requires { room < 1000 }
+    ensures { Gives (λ x. (stmt_of x.0, tokens_in x.1.now)) result (reading.assign_one room place (name_of target) (tokens_in tokens.now)) }
+{
+    let (right, rest) = right(alloc, room, tokens)?;
+    let kind = StmtKind::Assign(target, right);
+    Ok((Stmt { place, kind }, rest))
+}
+
+// A method's name and its arguments.
+#[tactic(auto, unfolding(vx_grammar::specs::StmtReading::invoke_at))]
+fn invoke<'t>(
+    alloc: Global,
+    room: u32,
+    place: Place,
+    targets: Vec<Name>,
+    tokens: &'t [Token<'t>],
+) -> Read<'t, Stmt>
+    requires { room < 1000 }
+    ensures { Gives (λ x. (stmt_of x.0, tokens_in x.1.now)) result (reading.invoke_at room place (map name_of targets.items) (tokens_in tokens.now)) }
+{
+    let (method, rest) = name(alloc, tokens)?;
+    let (arguments, rest) = enclosed_arguments(alloc, room, rest)?;
+    Ok((invoked(place, targets, method, arguments), rest))
 }
 
 // What stands behind the word of a claim.
@@ -244,7 +327,7 @@ fn claimed(alloc: Global, claim: Claim, place: Place, e: Expr) -> Result<Stmt, A
 }
 
 #[cycle(stmt)]
-#[tactic(auto, unfolding(vx_grammar::specs::StmtReading::stmt_at))]
+#[tactic(auto, unfolding(vx_grammar::specs::StmtReading::stmt_at, vx_grammar::specs::StmtReading::target_at))]
 fn statement<'t>(alloc: Global, room: u32, tokens: &'t [Token<'t>]) -> Read<'t, Stmt>
     requires { room < 1000 }
     ensures { Gives (λ x. (stmt_of x.0, tokens_in x.1.now)) result (reading.stmt_at room (reading.stmts_below room) (tokens_in tokens.now)) }
@@ -254,7 +337,10 @@ fn statement<'t>(alloc: Global, room: u32, tokens: &'t [Token<'t>]) -> Read<'t, 
     };
     let place = first.place;
     match first.kind {
-        Kind::Name(text) => assign(alloc, room, place, text, inner),
+        Kind::Name(_) => {
+            let (target, rest) = postfix(alloc, room, first, tokens, inner)?;
+            by_target(alloc, room, place, target, rest)
+        }
         Kind::Word(Word::Var) => declare(alloc, room, place, inner),
         Kind::Word(Word::Inhale) => claiming(alloc, room, Claim::Inhale, place, inner),
         Kind::Word(Word::Exhale) => claiming(alloc, room, Claim::Exhale, place, inner),

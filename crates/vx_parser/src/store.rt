@@ -83,5 +83,6 @@ fn is_beyond_word(word: Word) -> bool
             | Word::Outcome
             | Word::Old
             | Word::Acc
+            | Word::New
     )
 }

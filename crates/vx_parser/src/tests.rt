@@ -21,7 +21,7 @@ fn answer(alloc: Global, text: &[u8]) -> Result<String, AllocError> {
     }
 }
 
-const ROWS: [(&str, &str); 51] = [
+const ROWS: [(&str, &str); 64] = [
     ("", "ok"),
     (
         "method id(b: Bool) returns (c: Bool) requires b ensures c { c := b }",
@@ -63,6 +63,25 @@ const ROWS: [(&str, &str); 51] = [
     ),
     ("method m(x: Seq) { }", "1:13 E09 Unsupported Seq"),
     ("method m() { inhale }", "1:21 E03 Unexpected }"),
+    (
+        "method m() { x.f := y; f(x).g.h := 1 m(x, 1) x := m() x, y := m(y) }",
+        "ok",
+    ),
+    (
+        "method m() { var x: Ref := new(*) x := new() x := new(f, g) }",
+        "ok",
+    ),
+    ("method m() { x.f }", "1:18 E03 Unexpected }"),
+    ("method m() { x }", "1:16 E03 Unexpected }"),
+    ("method m() { m(x) := 1 }", "1:19 E03 Unexpected :="),
+    ("method m() { x, y := z }", "1:24 E03 Unexpected }"),
+    ("method m() { x, y }", "1:19 E03 Unexpected }"),
+    ("method m() { x, y.f := m() }", "1:18 E03 Unexpected ."),
+    ("method m() { x.f := new() }", "1:21 E03 Unexpected new"),
+    ("method m() { x := new(f,) }", "1:25 E03 Unexpected )"),
+    ("method m() { x := new(*, f) }", "1:24 E03 Unexpected ,"),
+    ("method m() { (x).f := 1 }", "1:14 E03 Unexpected ("),
+    ("method m() { x, y :=", "1:21 E04 EndOfText"),
     (
         "method m() { while (true) { } }",
         "1:14 E09 Unsupported while",

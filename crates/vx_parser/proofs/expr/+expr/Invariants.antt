@@ -5,7 +5,7 @@ use Rattle.vx_parser.specs.Views.{exprs_of}
 use Rattle.vx_parser.proofs.expr.+expr.Given as goal
 
 abbrev pub decreases-chain : goal.decreases-chain
-decreases-chain l = 32 * l.room + l.level + 5
+decreases-chain l = 32 * l.room + l.level + 6
 
 abbrev pub decreases-nested_choice : goal.decreases-nested_choice
 decreases-nested_choice l = 32 * l.room
@@ -38,31 +38,34 @@ abbrev pub decreases-primary : goal.decreases-primary
 decreases-primary l = 32 * l.room + 3
 
 abbrev pub decreases-unary : goal.decreases-unary
-decreases-unary l = 32 * l.room + 4
+decreases-unary l = 32 * l.room + 5
+
+abbrev pub decreases-postfix : goal.decreases-postfix
+decreases-postfix l = 32 * l.room + 4
 
 abbrev pub decreases-rest_of_chain : goal.decreases-rest_of_chain
 decreases-rest_of_chain l = 32 * l.room + 1
 
 abbrev pub decreases-choice : goal.decreases-choice
-decreases-choice l = 32 * l.room + 16
+decreases-choice l = 32 * l.room + 18
 
 abbrev pub decreases-implication : goal.decreases-implication
-decreases-implication l = 32 * l.room + 15
+decreases-implication l = 32 * l.room + 17
 
 abbrev pub decreases-amount : goal.decreases-amount
-decreases-amount l = 32 * l.room + 17
+decreases-amount l = 32 * l.room + 19
 
 abbrev pub decreases-more_arguments : goal.decreases-more_arguments
-decreases-more_arguments l = 32 * l.room + 17
+decreases-more_arguments l = 32 * l.room + 19
 
 abbrev pub decreases-arguments : goal.decreases-arguments
-decreases-arguments l = 32 * l.room + 19
+decreases-arguments l = 32 * l.room + 21
 
 abbrev pub decreases-some_arguments : goal.decreases-some_arguments
-decreases-some_arguments l = 32 * l.room + 18
+decreases-some_arguments l = 32 * l.room + 20
 
 abbrev pub decreases-access_inside : goal.decreases-access_inside
-decreases-access_inside l = 32 * l.room + 18
+decreases-access_inside l = 32 * l.room + 20
 
 -- the arguments so far, and those of what is left
 abbrev pub invariant-more_arguments-loop : goal.invariant-more_arguments-loop
