@@ -46,7 +46,7 @@ impl<T: Drop> From<AllocFailed<T>> for Stop {
     }
 }
 
-fn plain(number: u32) -> Literal
+pub(crate) fn plain(number: u32) -> Literal
     ensures { numbered result ≡ clean.plain number }
 {
     Literal {
@@ -73,28 +73,28 @@ fn found(number: Option<u32>) -> Result<u32, Stop>
     }
 }
 
-fn number_at(all: &[Node], number: i128) -> Result<u32, Stop>
+pub(crate) fn number_at(all: &[Node], number: i128) -> Result<u32, Stop>
     requires { length all.now < 2 ^ 32 }
     ensures { Gives (λ n. n) result (clean.number_at (nodes all.now) number) }
 {
     found(number_of(all, &Head::Number(number), &[]))
 }
 
-fn binary_at(all: &[Node], of: Operator, a: u32, b: u32) -> Result<u32, Stop>
+pub(crate) fn binary_at(all: &[Node], of: Operator, a: u32, b: u32) -> Result<u32, Stop>
     requires { length all.now < 2 ^ 32 }
     ensures { Gives (λ n. n) result (clean.binary_at (nodes all.now) (operator of) a b) }
 {
     found(number_of(all, &Head::Binary(of), &[a, b]))
 }
 
-fn equality_at(all: &[Node], a: u32, b: u32) -> Result<u32, Stop>
+pub(crate) fn equality_at(all: &[Node], a: u32, b: u32) -> Result<u32, Stop>
     requires { length all.now < 2 ^ 32 }
     ensures { Gives (λ n. n) result (named.equality (nodes all.now) a b) }
 {
     found(equality(all, a, b))
 }
 
-fn node_at(all: &[Node], number: u32) -> Result<&Node, Stop>
+pub(crate) fn node_at(all: &[Node], number: u32) -> Result<&Node, Stop>
     ensures { Gives (λ n. node n.now) result (slice_get (nodes all.now) number) }
 {
     match all.get(number as usize) {
@@ -168,7 +168,7 @@ fn three(alloc: Global, a: Literal, b: Literal, c: Literal) -> Result<Vec<Litera
     Ok(clause)
 }
 
-fn one(alloc: Global, a: Literal) -> Result<Vec<Literal>, Stop>
+pub(crate) fn one(alloc: Global, a: Literal) -> Result<Vec<Literal>, Stop>
     ensures { Gives (λ v. clause v.items) result (Some (numbered a ∷ [])) }
 {
     let mut clause = Vec::new(alloc);
@@ -176,7 +176,7 @@ fn one(alloc: Global, a: Literal) -> Result<Vec<Literal>, Stop>
     Ok(clause)
 }
 
-fn two(alloc: Global, a: Literal, b: Literal) -> Result<Vec<Literal>, Stop>
+pub(crate) fn two(alloc: Global, a: Literal, b: Literal) -> Result<Vec<Literal>, Stop>
     ensures { Gives (λ v. clause v.items) result (Some (numbered a ∷ numbered b ∷ [])) }
 {
     let mut clause = Vec::new(alloc);

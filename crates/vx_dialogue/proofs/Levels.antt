@@ -1,5 +1,5 @@
 -- The levels of a dialogue: of the preamble, of a member, of a question.
-use Rattle.std.proofs.Common.{◌≡◌, ◌++◌, ◌+◌, Bool, true, false, List, [], ◌∷◌, refl, ap, ◌∙◌, sym, subst, Some}
+use Rattle.std.proofs.Common.{◌≡◌, ◌++◌, ◌+◌, ◌<◌, ◌≤◌, if◌then◌else◌, arith, Bool, true, false, List, [], ◌∷◌, refl, ap, ◌∙◌, sym, subst, Some}
 use Rattle.vx_ends.specs.declared.piece.Piece.{Piece}
 use Rattle.vx_terms.specs.Terms.{Term}
 use Rattle.vx_terms.specs.Build.{negate}
@@ -9,7 +9,7 @@ use Rattle.vx_smt_meaning.specs.declared.reply.Reply.{Reply}
 use Rattle.vx_smt_text.specs.Text.{command_text}
 use Rattle.vx_dialogue.specs.declared.dialogue.Dialogue.{Dialogue}
 use Rattle.vx_dialogue.specs.Preamble.{front, options, logic, pairs, wraps, unwraps}
-use Rattle.vx_dialogue.specs.Dialogue.{preamble, declarations, assertions, question, opening, closing, symbols_of, pushed, resting, asked_level, check_of, told_check, Gathers, Stands}
+use Rattle.vx_dialogue.specs.Dialogue.{preamble, declarations, assertions, question, opening, closing, symbols_of, pushed, resting, asked_level, check_of, told_check, Gathers, Stands, IsFree}
 use Rattle.vx_dialogue.proofs.Lists.{none_more, stack_append, plain_join}
 use Rattle.vx_dialogue.proofs.Told.{gathers_said}
 
@@ -112,13 +112,21 @@ bare_preamble c fs =
 
 -- ---- leaving a member
 
+-- between questions there is room for a command
+pub free_room : {L : Type 0} (d : Dialogue L) → IsFree d → d.failed ≡ false → d.count < 256
+free_room d free e = by_member d.in_member (free e).1
+  where
+    by_member : (m : Bool) → d.count ≤ (if m then 1 else 2) → d.count < 256
+    by_member true h = omega arith
+    by_member false h = omega arith
+
 pub stands_left : {L : Type 0} (dialogue : L → List Piece) (base : List Level) (d e : Dialogue L) → d.in_member ≡ true → e.in_member ≡ false
-    → e.link ≡ d.link → e.batch.items ≡ d.batch.items ++ command_text (Pop 1) → e.count ≡ d.count + 1 → e.unread.items ≡ d.unread.items
+    → e.link ≡ d.link → e.batch.items ≡ d.batch.items ++ command_text (Pop 1) → e.count ≡ d.count + 1 → e.unread.items ≡ d.unread.items → d.count < 256
     → (commands : List Command) (checks : List Check) → Stands dialogue base d commands checks → Stands dialogue base e (commands ++ closing d.in_member) checks
-stands_left dialogue base d e inside outside link batch count unread commands checks s =
+stands_left dialogue base d e inside outside link batch count unread room commands checks s =
     let closes : closing d.in_member ≡ Pop 1 ∷ [] = ap closing inside in
     record {
-      told = subst (λ x. Gathers dialogue e (commands ++ x) checks) (sym closes) (gathers_said dialogue d e (Pop 1) refl link batch count unread commands checks s.told);
+      told = subst (λ x. Gathers dialogue e (commands ++ x) checks) (sym closes) (gathers_said dialogue d e (Pop 1) refl link batch count unread room commands checks s.told);
       levels = rw outside (left_levels d.in_member base commands s.levels);
       bare = s.bare;
     }

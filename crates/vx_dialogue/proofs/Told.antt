@@ -1,7 +1,7 @@
 -- What is told of a dialogue as it goes on.
-use Rattle.std.proofs.Common.{◌≡◌, ◌++◌, ◌+◌, ℕ, true, List, [], ◌∷◌, length, refl, ap, ◌∙◌, sym, subst, append_assoc, Some}
+use Rattle.std.proofs.Common.{◌≡◌, ◌++◌, ◌+◌, ◌<◌, arith, ℕ, true, List, [], ◌∷◌, length, refl, ap, ◌∙◌, sym, subst, append_assoc, Some}
 use Rattle.vx_ends.specs.declared.piece.Piece.{Piece}
-use Rattle.vx_ends.specs.Dialogue.{sent, got}
+use Rattle.vx_ends.specs.Dialogue.{sent, got, SendsOn, GetsOn}
 use Rattle.vx_sexp.specs.declared.token.Token.{Token}
 use Rattle.vx_smt_meaning.specs.Commands.{Command, CheckSat, Pop, empty_level, stack_from, stack_of}
 use Rattle.vx_smt_meaning.specs.Replies.{Items, answer_of}
@@ -12,6 +12,8 @@ use Rattle.vx_dialogue.specs.declared.dialogue.Dialogue.{Dialogue}
 use Rattle.vx_dialogue.specs.Items.{ReadsItem}
 use Rattle.vx_dialogue.specs.Hears.{ReadsSuccesses}
 use Rattle.vx_dialogue.specs.Dialogue.{Gathers, Waits, told_check}
+use Rattle.vx_dialogue.specs.Pace.{KeepsPace}
+use Rattle.vx_dialogue.proofs.Pace.{pace_none, pace_sent, pace_got}
 use Rattle.vx_dialogue.proofs.Lists.{none_more, length_more, text_append, text_more, stack_append, plain_join, no_checks, successes_to, answers_join, checks_join}
 use Rattle.vx_dialogue.proofs.Joined.{items_longer, items_join}
 
@@ -22,9 +24,9 @@ items_go_on got0 unread0 got1 unread1 more xs ys is e f =
 
 -- one command more is gathered
 pub gathers_said : {L : Type 0} (dialogue : L → List Piece) (d e : Dialogue L) (c : Command) → is_plain c ≡ true
-    → e.link ≡ d.link → e.batch.items ≡ d.batch.items ++ command_text c → e.count ≡ d.count + 1 → e.unread.items ≡ d.unread.items
+    → e.link ≡ d.link → e.batch.items ≡ d.batch.items ++ command_text c → e.count ≡ d.count + 1 → e.unread.items ≡ d.unread.items → d.count < 256
     → (commands : List Command) (checks : List Check) → Gathers dialogue d commands checks → Gathers dialogue e (commands ++ c ∷ []) checks
-gathers_said dialogue d e c plain link batch count unread commands checks g = record {
+gathers_said dialogue d e c plain link batch count unread room commands checks g = record {
   answered = g.answered;
   gathered = g.gathered ++ c ∷ [];
   items = g.items;
@@ -32,6 +34,8 @@ gathers_said dialogue d e c plain link batch count unread commands checks g = re
   sent_is = rw link g.sent_is;
   batch_is = batch ∙ rw g.batch_is (sym (text_more g.gathered c));
   count_is = count ∙ rw g.count_is (sym (length_more g.gathered c));
+  few = omega (arith, length_more g.gathered c, g.count_is);
+  pace = rw link g.pace;
   plain = plain_join g.gathered (c ∷ []) g.plain (plain, tt);
   got_is = rw (link, unread) g.got_is;
   lawful = g.lawful;
@@ -39,10 +43,11 @@ gathers_said dialogue d e c plain link batch count unread commands checks g = re
 }
 
 -- what is gathered is sent, and its replies are read
-pub gathers_sent : {L : Type 0} (dialogue : L → List Piece) (d e : Dialogue L) → sent (dialogue e.link) ≡ sent (dialogue d.link) ++ d.batch.items
+pub gathers_sent : {L : Type 0} (dialogue : L → List Piece) (d e : Dialogue L) (between : List Piece) → SendsOn (dialogue d.link) between → GetsOn between (dialogue e.link)
+    → sent between ≡ sent (dialogue d.link) ++ d.batch.items → sent (dialogue e.link) ≡ sent (dialogue d.link) ++ d.batch.items
     → e.batch.items ≡ [] → e.count ≡ 0 → ReadsSuccesses d.count (got (dialogue d.link)) d.unread.items (got (dialogue e.link)) e.unread.items
     → (commands : List Command) (checks : List Check) → Gathers dialogue d commands checks → Gathers dialogue e commands checks
-gathers_sent dialogue d e sent_on batch count reads commands checks g =
+gathers_sent dialogue d e between sends gets sent_between sent_on batch count reads commands checks g =
     let successes = reads.2 in
     let replies : Answers g.gathered successes = successes_to g.gathered successes g.plain (reads.4 ∙ g.count_is) reads.5 in
     let no_new : checks_told (stack_from (empty_level ∷ []) g.answered) g.gathered successes ≡ [] = no_checks (stack_from (empty_level ∷ []) g.answered) g.gathered successes g.plain in
@@ -56,6 +61,9 @@ gathers_sent dialogue d e sent_on batch count reads commands checks g =
       sent_is = sent_on ∙ rw (g.sent_is, g.batch_is) (sym (text_append g.answered g.gathered));
       batch_is = batch;
       count_is = count;
+      few = omega arith;
+      pace = pace_got between (dialogue e.link) gets (pace_sent (dialogue d.link) between d.batch.items g.answered g.gathered g.items d.unread.items
+          sends sent_between g.sent_is g.batch_is g.few g.got_is g.lawful g.pace);
       plain = tt;
       got_is = items_go_on _ _ _ _ reads.0 g.items successes reads.1 g.got_is reads.3;
       lawful = answers_join g.answered g.gathered g.items successes g.lawful replies;
@@ -63,10 +71,10 @@ gathers_sent dialogue d e sent_on batch count reads commands checks g =
     }
 
 -- what is gathered is sent, and a check-sat behind it
-pub waits_sent : {L : Type 0} (dialogue : L → List Piece) (d e : Dialogue L) → sent (dialogue e.link) ≡ sent (dialogue d.link) ++ (d.batch.items ++ command_text CheckSat)
+pub waits_sent : {L : Type 0} (dialogue : L → List Piece) (d e : Dialogue L) → SendsOn (dialogue d.link) (dialogue e.link) → d.count < 256 → sent (dialogue e.link) ≡ sent (dialogue d.link) ++ (d.batch.items ++ command_text CheckSat)
     → e.batch.items ≡ [] → e.owed ≡ Some d.count → got (dialogue e.link) ≡ got (dialogue d.link) → e.unread.items ≡ d.unread.items
     → (commands : List Command) (checks : List Check) → Gathers dialogue d commands checks → Waits dialogue e (commands ++ CheckSat ∷ []) checks
-waits_sent dialogue d e sent_on batch owed got_on unread commands checks g = record {
+waits_sent dialogue d e sends room sent_on batch owed got_on unread commands checks g = record {
   answered = g.answered;
   waiting = g.gathered;
   items = g.items;
@@ -74,6 +82,9 @@ waits_sent dialogue d e sent_on batch owed got_on unread commands checks g = rec
   sent_is = sent_on ∙ rw (g.sent_is, g.batch_is, text_more commands CheckSat, g.all, text_append g.answered g.gathered) (sym (append_assoc (commands_text g.answered) (commands_text g.gathered) (command_text CheckSat)));
   batch_is = batch;
   owed_is = owed ∙ ap Some g.count_is;
+  pace = pace_sent (dialogue d.link) (dialogue e.link) (d.batch.items ++ command_text CheckSat) g.answered (g.gathered ++ CheckSat ∷ []) g.items d.unread.items
+      sends sent_on g.sent_is (ap (λ x. x ++ command_text CheckSat) g.batch_is ∙ sym (text_more g.gathered CheckSat))
+      (omega (arith, length_more g.gathered CheckSat, g.count_is)) g.got_is g.lawful g.pace;
   plain = g.plain;
   got_is = rw (got_on, unread) g.got_is;
   lawful = g.lawful;
@@ -85,11 +96,11 @@ some_same x y e = cc
 
 -- the replies are read, and the answer to the check; a pop is gathered
 pub gathers_answered : {L : Type 0} (dialogue : L → List Piece) (d e : Dialogue L) (owed : ℕ) (got1 unread1 : List ℕ) (item : List Token) (reply : Reply)
-    → d.owed ≡ Some owed → sent (dialogue e.link) ≡ sent (dialogue d.link) → e.batch.items ≡ d.batch.items ++ command_text (Pop 1) → e.count ≡ 1
+    → GetsOn (dialogue d.link) (dialogue e.link) → d.owed ≡ Some owed → sent (dialogue e.link) ≡ sent (dialogue d.link) → e.batch.items ≡ d.batch.items ++ command_text (Pop 1) → e.count ≡ 1
     → ReadsSuccesses owed (got (dialogue d.link)) d.unread.items got1 unread1 → ReadsItem got1 unread1 (got (dialogue e.link)) e.unread.items item → answer_of item ≡ Some reply
     → (commands : List Command) (checks : List Check) → Waits dialogue d commands checks
     → Gathers dialogue e (commands ++ Pop 1 ∷ []) (checks ++ told_check (stack_of commands) reply ∷ [])
-gathers_answered dialogue d e owed got1 unread1 item reply owed_is sent_on batch count reads answers is commands checks w =
+gathers_answered dialogue d e owed got1 unread1 item reply gets owed_is sent_on batch count reads answers is commands checks w =
     let base = empty_level ∷ [] in
     let before = w.answered ++ w.waiting in
     let successes = reads.2 in
@@ -110,6 +121,8 @@ gathers_answered dialogue d e owed got1 unread1 item reply owed_is sent_on batch
       sent_is = sent_on ∙ w.sent_is;
       batch_is = batch ∙ rw w.batch_is (sym (none_more (command_text (Pop 1))));
       count_is = count;
+      few = omega arith;
+      pace = pace_got (dialogue d.link) (dialogue e.link) gets w.pace;
       plain = (refl, tt);
       got_is = items_go_on _ _ _ _ answers.0 (w.items ++ successes) (item ∷ []) answers.1 got_before (_, answers.2, refl);
       lawful = subst (λ x. Answers x ((w.items ++ successes) ++ item ∷ [])) (sym w.all) (answers_join before (CheckSat ∷ []) (w.items ++ successes) (item ∷ []) lawful_before last);
@@ -127,6 +140,8 @@ gathers_none dialogue d link batch count unread = record {
   sent_is = ap sent link;
   batch_is = batch;
   count_is = count;
+  few = omega arith;
+  pace = subst KeepsPace (sym link) pace_none;
   plain = tt;
   got_is = unread ∙ sym (ap got link);
   lawful = tt;

@@ -14,6 +14,7 @@ use Rattle.vx_smt_meaning.specs.Replies.{Items}
 use Rattle.vx_smt_meaning.specs.Dialogues.{ArePlain, Answers, Check, checks_told}
 use Rattle.vx_smt_meaning.specs.declared.reply.Reply.{Reply}
 use Rattle.vx_smt_text.specs.Text.{commands_text}
+use Rattle.vx_dialogue.specs.Pace.{KeepsPace}
 use Rattle.vx_dialogue.specs.Preamble.{front}
 use Rattle.vx_dialogue.specs.Symbols.{with_variables, with_listed}
 use Rattle.vx_dialogue.specs.declared.talk.Talk.{Talk}
@@ -76,7 +77,7 @@ IsFree d = d.failed ≡ false → (d.owed ≡ None) × (d.count ≤ (if d.in_mem
 abbrev pub IsAsked : {L : Type 0} → Dialogue L → Type 0
 IsAsked d = d.failed ≡ false → IsSome d.owed × (d.count ≡ 0) × (d.in_member ≡ true)
 
--- The commands said so far, of which those that were sent are answered; the others are gathered. These are the checks among them.
+-- The commands said so far, of which those that were sent are answered; the others are gathered, at most 256, and no more ever waited for their replies. These are the checks among them.
 pub record Gathers {L : Type 0} (dialogue : L → List Piece) (d : Dialogue L) (commands : List Command) (checks : List Check) : Type 0 where
   pub answered : List Command
   pub gathered : List Command
@@ -85,6 +86,8 @@ pub record Gathers {L : Type 0} (dialogue : L → List Piece) (d : Dialogue L) (
   pub sent_is : sent (dialogue d.link) ≡ commands_text answered
   pub batch_is : d.batch.items ≡ commands_text gathered
   pub count_is : d.count ≡ length gathered
+  pub few : length gathered ≤ 256
+  pub pace : KeepsPace (dialogue d.link)
   pub plain : ArePlain gathered
   pub got_is : Items (got (dialogue d.link)) items d.unread.items
   pub lawful : Answers answered items
@@ -99,6 +102,7 @@ pub record Waits {L : Type 0} (dialogue : L → List Piece) (d : Dialogue L) (co
   pub sent_is : sent (dialogue d.link) ≡ commands_text commands
   pub batch_is : d.batch.items ≡ []
   pub owed_is : d.owed ≡ Some (length waiting)
+  pub pace : KeepsPace (dialogue d.link)
   pub plain : ArePlain waiting
   pub got_is : Items (got (dialogue d.link)) items d.unread.items
   pub lawful : Answers answered items

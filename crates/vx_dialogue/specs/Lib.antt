@@ -5,4 +5,6 @@ pub mod Stops
 pub mod Symbols
 pub mod Preamble
 pub mod Dialogue
+pub mod Pace
 pub mod Over
+pub mod History

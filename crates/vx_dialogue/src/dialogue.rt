@@ -1,6 +1,6 @@
 // The dialogue that drives one link.
 ghost use Rattle.std.specs.Prelude.{◌≡◌, ◌++◌, ◌∷◌, ◌<◌, ◌≤◌, [], OnOk, IfOk, IfErr, None, Some, true, false, map, List, ◌↔◌, Err, ◌⊎◌, MatchResult, IsErr, is_err};
-ghost use Rattle.vx_ends.specs.Dialogue.{sent, got};
+ghost use Rattle.vx_ends.specs.Dialogue.{sent, got, Grows};
 ghost use Rattle.vx_ends.specs.Causes.{HasCause};
 ghost use Rattle.vx_terms.specs.Terms as Written;
 ghost use Rattle.vx_smt_meaning.specs.Commands.{Level, stack_of};
@@ -49,6 +49,7 @@ impl<L: Link> Dialogue<L> {
         ensures count { OnOk result (self.new.count ≡ 0) }
         ensures same { (self.new.in_member ≡ self.old.in_member) × (self.new.owed ≡ self.old.owed) × (self.new.failed ≡ self.old.failed) }
         ensures fault { IfErr result (λ talk. (commands : List Spec.Command) (checks : List Check) → Gathers L.dialogue self.old commands checks → Explains talk (got (L.dialogue self.new.link)) commands) }
+        ensures grows { Grows (L.dialogue self.old.link) (L.dialogue self.new.link) }
         ensures cause { HasCause Talk.Pipe (L.faults self.old.link) (L.faults self.new.link) result }
         ensures open { result ≡ Err Talk.Closed → ⊥ }
     {
@@ -64,6 +65,7 @@ impl<L: Link> Dialogue<L> {
         ensures count { OnOk result (self.new.count < 256) }
         ensures same { (self.new.in_member ≡ self.old.in_member) × (self.new.owed ≡ self.old.owed) × (self.new.failed ≡ self.old.failed) }
         ensures fault { IfErr result (λ talk. (commands : List Spec.Command) (checks : List Check) → Gathers L.dialogue self.old commands checks → Explains talk (got (L.dialogue self.new.link)) commands) }
+        ensures grows { Grows (L.dialogue self.old.link) (L.dialogue self.new.link) }
         ensures cause { HasCause Talk.Pipe (L.faults self.old.link) (L.faults self.new.link) result }
         ensures open { result ≡ Err Talk.Closed → ⊥ }
     {
@@ -80,6 +82,7 @@ impl<L: Link> Dialogue<L> {
             → Gathers L.dialogue self.old commands checks → Gathers L.dialogue self.new (commands ++ command c.now ∷ []) checks) }
         ensures same { (self.new.in_member ≡ self.old.in_member) × (self.new.owed ≡ self.old.owed) × (self.new.failed ≡ self.old.failed) }
         ensures fault { IfErr result (λ talk. (commands : List Spec.Command) (checks : List Check) → Gathers L.dialogue self.old commands checks → Explains talk (got (L.dialogue self.new.link)) commands) }
+        ensures grows { Grows (L.dialogue self.old.link) (L.dialogue self.new.link) }
         ensures cause { HasCause Talk.Pipe (L.faults self.old.link) (L.faults self.new.link) result }
         ensures open { result ≡ Err Talk.Closed → ⊥ }
     {
@@ -94,6 +97,7 @@ impl<L: Link> Dialogue<L> {
             → Gathers L.dialogue self.old commands checks → Gathers L.dialogue self.new (commands ++ map command all.now) checks) }
         ensures same { (self.new.in_member ≡ self.old.in_member) × (self.new.owed ≡ self.old.owed) × (self.new.failed ≡ self.old.failed) }
         ensures fault { IfErr result (λ talk. ArePlain (map command all.now) → (commands : List Spec.Command) (checks : List Check) → Gathers L.dialogue self.old commands checks → Explains talk (got (L.dialogue self.new.link)) (commands ++ map command all.now)) }
+        ensures grows { Grows (L.dialogue self.old.link) (L.dialogue self.new.link) }
         ensures cause { HasCause Talk.Pipe (L.faults self.old.link) (L.faults self.new.link) result }
         ensures open { result ≡ Err Talk.Closed → ⊥ }
     {
@@ -109,6 +113,7 @@ impl<L: Link> Dialogue<L> {
         ensures count { OnOk result (self.new.count ≡ 0) }
         ensures same { (self.new.in_member ≡ self.old.in_member) × (self.new.owed ≡ self.old.owed) × (self.new.failed ≡ self.old.failed) }
         ensures fault { IfErr result (λ talk. (commands : List Spec.Command) (checks : List Check) → Gathers L.dialogue self.old commands checks → Explains talk (got (L.dialogue self.new.link)) (commands ++ preamble certify (map declared_symbol functions.now))) }
+        ensures grows { Grows (L.dialogue self.old.link) (L.dialogue self.new.link) }
         ensures cause { HasCause Talk.Pipe (L.faults self.old.link) (L.faults self.new.link) result }
         ensures open { result ≡ Err Talk.Closed → ⊥ }
     {
@@ -155,6 +160,7 @@ impl<L: Link> Dialogue<L> {
         ensures member { OnOk result (self.new.in_member ≡ true) }
         ensures failed { self.new.failed ≡ self.old.failed }
         ensures fault { IfErr result (λ talk. (commands : List Spec.Command) (checks : List Check) → Gathers L.dialogue self.old commands checks → Explains talk (got (L.dialogue self.new.link)) (commands ++ Spec.CheckSat ∷ [])) }
+        ensures grows { Grows (L.dialogue self.old.link) (L.dialogue self.new.link) }
         ensures cause { HasCause Talk.Pipe (L.faults self.old.link) (L.faults self.new.link) result }
         ensures open { result ≡ Err Talk.Closed → ⊥ }
     {
@@ -180,6 +186,7 @@ impl<L: Link> Dialogue<L> {
         ensures member { OnOk result (self.new.in_member ≡ true) }
         ensures failed { self.new.failed ≡ self.old.failed }
         ensures fault { IfErr result (λ talk. (commands : List Spec.Command) (checks : List Check) → Gathers L.dialogue self.old commands checks → Explains talk (got (L.dialogue self.new.link)) ((commands ++ question self.old.in_member (map shared path.now) (shared condition.now)) ++ Spec.CheckSat ∷ [])) }
+        ensures grows { Grows (L.dialogue self.old.link) (L.dialogue self.new.link) }
         ensures cause { HasCause Talk.Pipe (L.faults self.old.link) (L.faults self.new.link) result }
         ensures open { result ≡ Err Talk.Closed → ⊥ }
     {
@@ -202,6 +209,7 @@ impl<L: Link> Dialogue<L> {
         ensures asked { IsAsked self.new }
         ensures fault { IfErr result (λ talk. (base : List Level) (commands : List Spec.Command) (checks : List Check) → Stands L.dialogue base self.old commands checks
             → Explains talk (got (L.dialogue (link_of self.new))) ((commands ++ question (is_in_member self.old) (map shared path.now) (shared condition.now)) ++ Spec.CheckSat ∷ [])) }
+        ensures grows { Grows (L.dialogue (link_of self.old)) (L.dialogue (link_of self.new)) }
         ensures cause { HasCause Talk.Pipe (L.faults (link_of self.old)) (L.faults (link_of self.new)) result }
         ensures closed { (result ≡ Err Talk.Closed) ↔ (has_failed self.old ≡ true) }
         ensures failed { has_failed self.new ≡ is_err result }
@@ -225,6 +233,7 @@ impl<L: Link> Dialogue<L> {
         ensures free { OnOk result ((self.new.owed ≡ None) × (self.new.count ≡ 1)) }
         ensures same { (self.new.in_member ≡ self.old.in_member) × (self.new.failed ≡ self.old.failed) }
         ensures fault { IfErr result (λ talk. self.old.owed ≡ Some owed → (commands : List Spec.Command) (checks : List Check) → Waits L.dialogue self.old commands checks → Explains talk (got (L.dialogue self.new.link)) commands) }
+        ensures grows { Grows (L.dialogue self.old.link) (L.dialogue self.new.link) }
         ensures cause { HasCause Talk.Pipe (L.faults self.old.link) (L.faults self.new.link) result }
         ensures open { result ≡ Err Talk.Closed → ⊥ }
     {
@@ -248,6 +257,7 @@ impl<L: Link> Dialogue<L> {
         ensures free { IsFree self.new }
         ensures fault { IfErr result (λ talk. (base : List Level) (path : List Written.Term) (condition : Written.Term) (commands : List Spec.Command) (checks : List Check)
             → Asks L.dialogue base path condition self.old commands checks → Explains talk (got (L.dialogue (link_of self.new))) commands) }
+        ensures grows { Grows (L.dialogue (link_of self.old)) (L.dialogue (link_of self.new)) }
         ensures cause { HasCause Talk.Pipe (L.faults (link_of self.old)) (L.faults (link_of self.new)) result }
         ensures closed { (result ≡ Err Talk.Closed) ↔ (has_failed self.old ≡ true) }
         ensures failed { has_failed self.new ≡ is_err result }
@@ -280,6 +290,7 @@ impl<L: Link> Dialogue<L> {
         ensures free { IsFree self.new }
         ensures fault { IfErr result (λ talk. (base : List Level) (commands : List Spec.Command) (checks : List Check) → Stands L.dialogue base self.old commands checks
             → Explains talk (got (L.dialogue (link_of self.new))) ((commands ++ question (is_in_member self.old) (map shared path.now) (shared condition.now)) ++ Spec.CheckSat ∷ [])) }
+        ensures grows { Grows (L.dialogue (link_of self.old)) (L.dialogue (link_of self.new)) }
         ensures cause { HasCause Talk.Pipe (L.faults (link_of self.old)) (L.faults (link_of self.new)) result }
         ensures closed { (result ≡ Err Talk.Closed) ↔ (has_failed self.old ≡ true) }
         ensures failed { has_failed self.new ≡ is_err result }

@@ -1,15 +1,16 @@
 // The next item that a child gives.
-ghost use Rattle.std.specs.Prelude.{◌≡◌, ◌≤◌, ◌++◌, length, drop, take, OnOk, IfOk, IfErr, Err, true};
-ghost use Rattle.vx_ends.specs.Dialogue.{sent, got};
+ghost use Rattle.std.specs.Prelude.{◌≡◌, ◌≤◌, ◌++◌, length, drop, take, OnOk, IfOk, IfErr, Err, true, ℕ};
+ghost use Rattle.vx_ends.specs.Dialogue.{sent, got, Grows, GetsOn};
 ghost use Rattle.vx_ends.specs.Causes.{HasCause};
 ghost use Rattle.vx_sexp.specs.First.{IsFirst};
+ghost use Rattle.vx_sexp.specs.Pieces.{EndsAt};
 ghost use Rattle.vx_dialogue.specs.Items.{Keeps, ReadsItem, GivesNoItem, GivesNoReply, without_blanks, kept_of, is_lawful};
 ghost use Rattle.vx_smt_meaning.specs.Replies.{is_word_item, is_headed_by, is_refusal, answer_of};
 
 use crate::Talk;
 use std::alloc::{AllocError, Global};
 use vx_ends::Link;
-use vx_sexp::{Bytes, Kind, Sexp, SexpFault, Token, blank, read};
+use vx_sexp::{Bytes, Kind, Reading, Sexp, SexpFault, Token, blank, read};
 use vx_smt_meaning::Reply;
 
 /// The longest item that is read on.
@@ -47,6 +48,21 @@ fn kept(alloc: Global, bytes: &[u8]) -> Result<Bytes, AllocError>
     copy_front(alloc, trimmed(bytes), 4096)
 }
 
+// the item that the bytes begin with
+fn whole_item(alloc: Global, bytes: &[u8]) -> Result<(Sexp, usize), Talk>
+    requires { (end : ℕ) × EndsAt end bytes.now }
+    ensures item { IfOk result (λ x. (x.1 ≤ length bytes.now) × IsFirst bytes.now x.0 (drop x.1 bytes.now)) }
+    ensures want { IfErr result (λ talk. talk ≡ Talk.Want) }
+{
+    match read(alloc, bytes) {
+        Ok(found) => Ok(found),
+        Err(SexpFault::Want) => Err(Talk::Want),
+        Err(SexpFault::Unfinished(_)) => unreachable!(),
+        Err(SexpFault::BadToken(_)) => unreachable!(),
+        Err(SexpFault::Deep(_)) => unreachable!(),
+    }
+}
+
 /// The first item of what is not read yet, and how many bytes it takes; more is got until it is whole.
 #[tactic(auto, using(vx_ends::proofs::Dialogues::sent_by_got, vx_ends::proofs::Dialogues::got_by_got, std::proofs::Common::append_assoc))]
 pub fn next_item<L: Link>(
@@ -58,11 +74,14 @@ pub fn next_item<L: Link>(
     ensures keeps { OnOk result (Keeps (got (L.dialogue link.old)) unread.old.items (got (L.dialogue link.new)) unread.new.items) }
     ensures fault { IfErr result (λ talk. GivesNoItem talk (got (L.dialogue link.old)) unread.old.items (got (L.dialogue link.new))) }
     ensures sent { sent (L.dialogue link.new) ≡ sent (L.dialogue link.old) }
+    ensures grows { Grows (L.dialogue link.old) (L.dialogue link.new) }
+    ensures pieces { GetsOn (L.dialogue link.old) (L.dialogue link.new) }
     ensures cause { HasCause Talk.Pipe (L.faults link.old) (L.faults link.new) result }
 {
+    let mut reading = Reading::new();
     'reading: loop {
-        match read(alloc, unread) {
-            Ok(found) => return Ok(found),
+        match reading.go_on(unread) {
+            Ok(_) => return whole_item(alloc, unread),
             Err(SexpFault::Unfinished(_)) => {
                 if unread.len() > LONGEST {
                     return Err(Talk::Garbled(kept(alloc, unread)?));
@@ -141,6 +160,8 @@ pub fn expect<L: Link>(
     ensures item { IfOk result (λ item. ReadsItem (got (L.dialogue link.old)) unread.old.items (got (L.dialogue link.new)) unread.new.items item × (is_lawful wanted item ≡ true)) }
     ensures fault { IfErr result (λ talk. GivesNoReply talk wanted (got (L.dialogue link.old)) unread.old.items (got (L.dialogue link.new))) }
     ensures sent { sent (L.dialogue link.new) ≡ sent (L.dialogue link.old) }
+    ensures grows { Grows (L.dialogue link.old) (L.dialogue link.new) }
+    ensures pieces { GetsOn (L.dialogue link.old) (L.dialogue link.new) }
     ensures cause { HasCause Talk.Pipe (L.faults link.old) (L.faults link.new) result }
     ensures open { result ≡ Err Talk.Closed → ⊥ }
 {

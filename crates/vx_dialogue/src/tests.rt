@@ -135,12 +135,13 @@ fn ask_three(
     Ok([first, second, third])
 }
 
-// The bytes that are kept of the first reply, where it is no success.
+// The bytes that are kept of the first reply that is no success.
 fn kept_of_opening(
     alloc: Global,
+    successes: usize,
     reply: &str,
 ) -> Result<Option<(&'static str, Bytes)>, AllocError> {
-    let link = ScriptLink::new(alloc, script(alloc, 1, &[reply])?);
+    let link = ScriptLink::new(alloc, script(alloc, successes, &[reply])?);
     let talk = match Dialogue::open(alloc, link, &functions(alloc)?, false) {
         Ok(_) => return Ok(None),
         Err((_, talk)) => talk,
@@ -162,13 +163,26 @@ fn what_is_no_lawful_reply_is_kept(rt: HostRuntime) -> Result<(), Fail> {
         ("\n(error \"no\")", "refused", "(error \"no\")"),
         ("success) ", "garbled", ") "),
     ] {
-        match kept_of_opening(rt.alloc(), reply)? {
+        match kept_of_opening(rt.alloc(), 1, reply)? {
             Some((told, bytes)) => {
                 assert_eq!(rt; told, cause, "{reply}");
                 assert_eq!(rt; bytes.as_slice(), kept.as_bytes(), "{reply}");
             }
             None => panic!(&rt; "{reply}"),
         }
+    }
+    Ok(())
+}
+
+#[test]
+fn an_echo_is_garbled(rt: HostRuntime) -> Result<(), Fail> {
+    match kept_of_opening(rt.alloc(), 0, PREAMBLE)? {
+        Some((told, bytes)) => {
+            assert_eq!(rt; told, "garbled");
+            assert_eq!(rt; bytes.as_slice(), b"(set-option :print-success true)".as_slice());
+            assert_eq!(rt; bytes.as_slice().len(), 32);
+        }
+        None => panic!(&rt; "no talk"),
     }
     Ok(())
 }

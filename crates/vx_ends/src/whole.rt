@@ -1,7 +1,7 @@
 // Loops over one call of an end.
 ghost use Rattle.std.specs.Prelude.{◌≡◌, ◌++◌, OnOk, IsTrue, length};
 ghost use Rattle.vx_ends.specs.Causes.{HasCause, IsCalm};
-ghost use Rattle.vx_ends.specs.Dialogue.{sent, got};
+ghost use Rattle.vx_ends.specs.Dialogue.{sent, got, Grows, SendsOn};
 ghost use Rattle.vx_ends.specs.Calls.{PutsSome};
 
 use crate::{Link, LinkFault, PutFault, Sink};
@@ -11,6 +11,8 @@ use std::alloc::Global;
 pub fn send_all<L: Link>(alloc: Global, link: &mut L, text: &[u8]) -> Result<(), LinkFault>
     ensures sent { OnOk result (sent (L.dialogue link.new) ≡ sent (L.dialogue link.old) ++ text.now) }
     ensures got { got (L.dialogue link.new) ≡ got (L.dialogue link.old) }
+    ensures grows { Grows (L.dialogue link.old) (L.dialogue link.new) }
+    ensures pieces { SendsOn (L.dialogue link.old) (L.dialogue link.new) }
     ensures cause { HasCause LinkFault.Failed (L.faults link.old) (L.faults link.new) result }
     ensures fixed { L.steady link.new ≡ L.steady link.old }
     ensures steady { IsTrue (L.steady link.old) → L.faults link.old ≡ 0 → IsCalm LinkFault.Failed (L.faults link.old) (L.faults link.new) result }

@@ -177,7 +177,7 @@ pub fn step_executed(
             conts.go(typed, Frame::Go(next.clone()?), state)
         }
         Executed::Assume => {
-            state.add_fact(value)?;
+            state.add_fact(alloc, value)?;
             conts.go(typed, Frame::Go(next.clone()?), state)
         }
         Executed::If(a, b, kept) => {

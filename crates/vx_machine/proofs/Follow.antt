@@ -4,13 +4,13 @@ use Rattle.std.proofs.lemmas.List.{map-append}
 use Rattle.vx_ast.specs.Syntax.{Program}
 use Rattle.vx_rules.specs.declared.frame.Side.{Side}
 use Rattle.vx_rules.specs.declared.question.Query.{Query}
-use Rattle.vx_rules.specs.declared.question.Reply.{Reply as Reply'}
-use Rattle.vx_rules.specs.declared.question.Reply.TheVariants as reply'
 use Rattle.vx_machine.specs.declared.machine.Phase.{Phase}
 use Rattle.vx_machine.specs.declared.machine.Phase.TheVariants as phase'
 use Rattle.vx_machine.specs.declared.machine.Machine.{Machine}
-use Rattle.vx_rules.specs.Trees.{Question, Tree, Reply, Unsat, Sat, Unknown, Answered, Walked, Failed, Open, after_answer, walk, ends}
-use Rattle.vx_rules.specs.Stack.{query, code, reply, side_tree}
+use Rattle.vx_smt_meaning.specs.declared.reply.Reply.{Reply}
+use Rattle.vx_smt_meaning.specs.declared.reply.Reply.TheVariants.{Unsat, Sat, Unknown}
+use Rattle.vx_rules.specs.Trees.{Question, Tree, Answered, Walked, Failed, Open, after_answer, walk, ends}
+use Rattle.vx_rules.specs.Stack.{query, code, side_tree}
 use Rattle.vx_machine.specs.Runs.{without_other, without_last, remaining, waiting_by, waiting, RunsTo, after_answers, coming, IsAt, Within, Follows, given, is_spent, is_unsat, member_tree, EachAnswered}
 
 after_answers-more : (as' : List Answered) (a : Answered) (w : Walked) → after_answers (as' ++ a ∷ []) w ≡ after_answers as' (after_answer a.question a.reply w)
@@ -72,37 +72,37 @@ at_more p t given before after sides new a e h = record {
 }
 
 module _ (p : Program) (t : Tree) (given : List Reply) (sides : List Side) (q : Query) where
-  refuted_by : (b : Bool) (r : Reply') (rs : List Reply) → b ≡ false → is_unsat r ≡ true → waiting_by p b (query q) sides (reply r ∷ rs) ≡ after_answer (query q) (reply r) (remaining p sides rs)
-  refuted_by false reply'.Unsat rs e f = refl
-  refuted_by false reply'.Sat rs e f = cc
-  refuted_by false reply'.Unknown rs e f = cc
+  refuted_by : (b : Bool) (r : Reply) (rs : List Reply) → b ≡ false → is_unsat r ≡ true → waiting_by p b (query q) sides (r ∷ rs) ≡ after_answer (query q) r (remaining p sides rs)
+  refuted_by false Unsat rs e f = refl
+  refuted_by false Sat rs e f = cc
+  refuted_by false Unknown rs e f = cc
   refuted_by true r rs e f = cc
 
   -- the open question was refuted
-  pub at_refuted : (r : Reply') → q.probe ≡ false → is_unsat r ≡ true → IsAt p t (phase'.Asked q) sides given → IsAt p t phase'.Ready sides (given ++ reply r ∷ [])
-  at_refuted r e f h = at_more p t given (phase'.Asked q) phase'.Ready sides sides record { question = query q; reply = reply r } (λ rs. refuted_by q.probe r rs e f) h
+  pub at_refuted : (r : Reply) → q.probe ≡ false → is_unsat r ≡ true → IsAt p t (phase'.Asked q) sides given → IsAt p t phase'.Ready sides (given ++ r ∷ [])
+  at_refuted r e f h = at_more p t given (phase'.Asked q) phase'.Ready sides sides record { question = query q; reply = r } (λ rs. refuted_by q.probe r rs e f) h
 
-  failed_by : (b : Bool) (r : Reply') (rs : List Reply) → b ≡ false → is_unsat r ≡ false → waiting_by p b (query q) sides (reply r ∷ rs) ≡ after_answer (query q) (reply r) (ends (Failed q.place (code q.code) (reply r)))
-  failed_by false reply'.Unsat rs e f = cc
-  failed_by false reply'.Sat rs e f = refl
-  failed_by false reply'.Unknown rs e f = refl
+  failed_by : (b : Bool) (r : Reply) (rs : List Reply) → b ≡ false → is_unsat r ≡ false → waiting_by p b (query q) sides (r ∷ rs) ≡ after_answer (query q) r (ends (Failed q.place (code q.code) r))
+  failed_by false Unsat rs e f = cc
+  failed_by false Sat rs e f = refl
+  failed_by false Unknown rs e f = refl
   failed_by true r rs e f = cc
 
   -- the open question was not refuted
-  pub at_failed : (r : Reply') → q.probe ≡ false → is_unsat r ≡ false → IsAt p t (phase'.Asked q) sides given → IsAt p t (phase'.Failed q.place q.code r) sides (given ++ reply r ∷ [])
-  at_failed r e f h = at_more p t given (phase'.Asked q) (phase'.Failed q.place q.code r) sides sides record { question = query q; reply = reply r } (λ rs. failed_by q.probe r rs e f) h
+  pub at_failed : (r : Reply) → q.probe ≡ false → is_unsat r ≡ false → IsAt p t (phase'.Asked q) sides given → IsAt p t (phase'.Failed q.place q.code r) sides (given ++ r ∷ [])
+  at_failed r e f h = at_more p t given (phase'.Asked q) (phase'.Failed q.place q.code r) sides sides record { question = query q; reply = r } (λ rs. failed_by q.probe r rs e f) h
 
-  chosen_by : (b : Bool) (r : Reply') (rs : List Reply) → b ≡ true → waiting_by p b (query q) sides (reply r ∷ rs) ≡ after_answer (query q) (reply r) (remaining p (cond (is_unsat r) (without_other sides) (without_last sides)) rs)
+  chosen_by : (b : Bool) (r : Reply) (rs : List Reply) → b ≡ true → waiting_by p b (query q) sides (r ∷ rs) ≡ after_answer (query q) r (remaining p (cond (is_unsat r) (without_other sides) (without_last sides)) rs)
   chosen_by false r rs e = cc
-  chosen_by true reply'.Unsat rs e = refl
-  chosen_by true reply'.Sat rs e = refl
-  chosen_by true reply'.Unknown rs e = refl
+  chosen_by true Unsat rs e = refl
+  chosen_by true Sat rs e = refl
+  chosen_by true Unknown rs e = refl
 
   -- the open probe was answered
-  pub at_chosen : (r : Reply') (new : List Side) → q.probe ≡ true → new ≡ cond (is_unsat r) (without_other sides) (without_last sides) → IsAt p t (phase'.Asked q) sides given → IsAt p t phase'.Ready new (given ++ reply r ∷ [])
+  pub at_chosen : (r : Reply) (new : List Side) → q.probe ≡ true → new ≡ cond (is_unsat r) (without_other sides) (without_last sides) → IsAt p t (phase'.Asked q) sides given → IsAt p t phase'.Ready new (given ++ r ∷ [])
   at_chosen r new e n h =
-      subst (λ l. IsAt p t phase'.Ready l (given ++ reply r ∷ [])) (sym n)
-      (at_more p t given (phase'.Asked q) phase'.Ready sides (cond (is_unsat r) (without_other sides) (without_last sides)) record { question = query q; reply = reply r } (λ rs. chosen_by q.probe r rs e) h)
+      subst (λ l. IsAt p t phase'.Ready l (given ++ r ∷ [])) (sym n)
+      (at_more p t given (phase'.Asked q) phase'.Ready sides (cond (is_unsat r) (without_other sides) (without_last sides)) record { question = query q; reply = r } (λ rs. chosen_by q.probe r rs e) h)
 
 module _ (p : Program) where
   pub follows_at : (m : Machine) (phase : Phase) → m.phase ≡ phase → is_spent phase ≡ false → Follows p m → IsAt p (member_tree p m.member.0) phase m.conts.sides.items (given m)
@@ -112,8 +112,8 @@ module _ (p : Program) where
   within_at m phase e s h = subst (λ x. Within x m.limit (Rattle.std.specs.Prelude.length m.replies.items)) e (h (ap is_spent e ∙ s)).1
 
   -- a longer list of replies
-  pub given_more : (t : Tree) (phase : Phase) (sides : List Side) (old new : List Reply') (r : Reply') → new ≡ old ++ r ∷ [] → IsAt p t phase sides (map reply old ++ reply r ∷ []) → IsAt p t phase sides (map reply new)
-  given_more t phase sides old new r e h = subst (λ l. IsAt p t phase sides l) (sym (ap (map reply) e ∙ map-append reply old (r ∷ []))) h
+  pub given_more : (t : Tree) (phase : Phase) (sides : List Side) (old new : List Reply) (r : Reply) → new ≡ old ++ r ∷ [] → IsAt p t phase sides (old ++ r ∷ []) → IsAt p t phase sides new
+  given_more t phase sides old new r e h = subst (λ l. IsAt p t phase sides l) (sym e) h
 
   pub at_start : (t : Tree) (sides : List Side) (a : Side) (given : List Reply) → given ≡ [] → sides ≡ a ∷ [] → side_tree p a ≡ t → IsAt p t phase'.Ready sides given
   at_start t sides a given g e f = record {

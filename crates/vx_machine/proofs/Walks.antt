@@ -4,7 +4,8 @@ use Rattle.vx_ast.specs.Syntax.{Program}
 use Rattle.vx_rules.specs.declared.frame.Side.{Side}
 use Rattle.vx_rules.specs.declared.question.Query.{Query}
 use Rattle.vx_rules.specs.declared.conts.Move.TheVariants as move'
-use Rattle.vx_rules.specs.Trees.{Question, Tree, End, Ask, Probe, Reply, Walked, walk_then, passed, size}
+use Rattle.vx_smt_meaning.specs.declared.reply.Reply.{Reply}
+use Rattle.vx_rules.specs.Trees.{Question, Tree, End, Ask, Probe, Walked, walk_then, passed, size}
 use Rattle.vx_rules.specs.Stack.{side_tree, query, Checked, Stepped}
 use Rattle.vx_machine.specs.Runs.{without_other, without_last, asking, probing, below, remaining, stack_size, waiting_by, waiting, Turned}
 

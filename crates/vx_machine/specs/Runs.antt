@@ -9,8 +9,6 @@ use Rattle.vx_rules.specs.declared.frame.Frame.{Frame}
 use Rattle.vx_rules.specs.declared.frame.Frame.TheVariants as frame'
 use Rattle.vx_rules.specs.declared.frame.Side.{Side}
 use Rattle.vx_rules.specs.declared.question.Query.{Query}
-use Rattle.vx_rules.specs.declared.question.Reply.{Reply as Reply'}
-use Rattle.vx_rules.specs.declared.question.Reply.TheVariants as reply'
 use Rattle.vx_machine.specs.declared.machine.Phase.{Phase}
 use Rattle.vx_machine.specs.declared.machine.Phase.TheVariants as phase'
 use Rattle.vx_machine.specs.declared.machine.Outcome.{Outcome}
@@ -18,9 +16,11 @@ use Rattle.vx_machine.specs.declared.machine.Outcome.TheVariants as outcome'
 use Rattle.vx_machine.specs.declared.machine.Ask.{Ask}
 use Rattle.vx_machine.specs.declared.machine.Ask.TheVariants as ask'
 use Rattle.vx_machine.specs.declared.machine.Machine.{Machine}
-use Rattle.vx_rules.specs.Trees.{Question, Tree, End, Reply, Unsat, Sat, Unknown, Answered, Walked, Passed, Failed, Open, ends, after_answer, asked, probed, walk, walk_then, passed, size}
+use Rattle.vx_smt_meaning.specs.declared.reply.Reply.{Reply}
+use Rattle.vx_smt_meaning.specs.declared.reply.Reply.TheVariants.{Unsat, Sat, Unknown}
+use Rattle.vx_rules.specs.Trees.{Question, Tree, End, Answered, Walked, Passed, Failed, Open, ends, after_answer, asked, probed, walk, walk_then, passed, size}
 use Rattle.vx_rules.specs.Members.{tree}
-use Rattle.vx_rules.specs.Stack.{side_tree, query, code, reply}
+use Rattle.vx_rules.specs.Stack.{side_tree, query, code}
 
 -- the tree of a member by its number in the file
 abbrev pub tree_of : Program → Option Member → Tree
@@ -75,7 +75,7 @@ is_spent phase'.Spent = true
 is_spent phase = false
 
 abbrev pub given : Machine → List Reply
-given m = map reply m.replies.items
+given m = m.replies.items
 
 -- a question is open below the limit alone, and due at it
 abbrev pub Within : Phase → (limit checks : ℕ) → Type 0
@@ -122,7 +122,7 @@ module _ (p : Program) where
   coming (phase'.Asked q) sides = waiting q sides
   coming (phase'.Limited q) sides = waiting q sides
   coming phase'.Passed sides = passed
-  coming (phase'.Failed place c r) sides = λ rs. ends (Failed place (code c) (reply r))
+  coming (phase'.Failed place c r) sides = λ rs. ends (Failed place (code c) r)
   coming phase'.Spent sides = passed
 
   -- after these replies, one to each question that was asked, the machine is where the walk through this tree is
@@ -164,7 +164,7 @@ Shows phase limit ask = (awaits phase ≡ is_check ask) × (outcome_of phase lim
 abbrev pub Told : Ask → Walked → (limit checks : ℕ) → Type 0
 Told (ask'.Check q) w limit checks = (w.ending ≡ Open (query q)) × (checks < limit)
 Told (ask'.Done outcome'.Passed) w limit checks = w.ending ≡ Passed
-Told (ask'.Done (outcome'.Failed place c r)) w limit checks = w.ending ≡ Failed place (code c) (reply r)
+Told (ask'.Done (outcome'.Failed place c r)) w limit checks = w.ending ≡ Failed place (code c) r
 Told (ask'.Done (outcome'.Limit n)) w limit checks = (n ≡ checks) × (limit ≡ checks) × ((q : Question) × (w.ending ≡ Open q))
 
 -- the walk asked as many questions as replies were given, and each was answered by its own
@@ -175,6 +175,6 @@ abbrev pub option_list : {A : Type 0} → Option A → List A
 option_list None = []
 option_list (Some x) = x ∷ []
 
-abbrev pub is_unsat : Reply' → Bool
-is_unsat reply'.Unsat = true
+abbrev pub is_unsat : Reply → Bool
+is_unsat Unsat = true
 is_unsat r = false

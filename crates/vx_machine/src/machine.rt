@@ -161,7 +161,7 @@ impl Machine {
                     self.phase = Phase::Limited(query);
                     return Ok(Ask::Done(Outcome::Limit { checks: self.limit }));
                 }
-                let kept = query.copy(alloc)?;
+                let kept = query.copy()?;
                 self.phase = Phase::Asked(kept);
                 Ok(Ask::Check(query))
             }

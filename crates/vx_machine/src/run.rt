@@ -93,7 +93,7 @@ fn step_hole(
         Hole::Consumed(consumed, hole) => {
             vx_consume::step_consumed(alloc, typed, value, consumed, hole, state, conts)
         }
-        Hole::Produced(next) => vx_produce::step_produced(typed, value, next, state, conts),
+        Hole::Produced(next) => vx_produce::step_produced(alloc, typed, value, next, state, conts),
         Hole::Executed(executed, next) => {
             vx_exec::step_executed(alloc, typed, value, executed, next, state, conts)
         }

@@ -237,7 +237,7 @@ fn is_of_increment(alloc: Global, query: &Query) -> Result<bool, AllocError> {
     let sum = arithmetic::add(alloc, &v0, &one)?;
     let equal = numbers::eq(alloc, &v2, &sum)?;
     let less = numbers::lt(alloc, &v0, &v2)?;
-    Ok(match query.path.as_slice() {
+    Ok(match query.path.terms(alloc)?.as_slice() {
         [only] => only.is_same(&equal) && query.condition.is_same(&less),
         _ => false,
     })

@@ -41,6 +41,7 @@ pub fn step(
 
 /// A pure part is a fact.
 pub fn step_produced(
+    alloc: Global,
     typed: &Typed,
     value: Rc<Term>,
     next: &Rc<Next>,
@@ -50,6 +51,6 @@ pub fn step_produced(
     ensures { IfOk result (λ m. Stepped (settled typed.now) (tree.Step (going (settled typed.now) next.now.value (with_fact (term value.value) (state_of state)))) conts.old.sides.items m conts.new.sides.items) }
 {
     let mut state = state;
-    state.add_fact(value)?;
+    state.add_fact(alloc, value)?;
     conts.go(typed, Frame::Go(next.clone()?), state)
 }

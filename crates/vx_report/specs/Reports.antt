@@ -6,8 +6,8 @@ use Rattle.vx_ast.specs.declared.Place.{Place}
 use Rattle.vx_ast.specs.Syntax.{Program, Member, Kind, IsField, IsPredicate, IsFunction, IsMethod}
 use Rattle.vx_rules.specs.declared.question.Code.{Code}
 use Rattle.vx_rules.specs.declared.question.Code.TheVariants as code
-use Rattle.vx_rules.specs.declared.question.Reply.{Reply}
-use Rattle.vx_rules.specs.declared.question.Reply.TheVariants as reply
+use Rattle.vx_smt_meaning.specs.declared.reply.Reply.{Reply}
+use Rattle.vx_smt_meaning.specs.declared.reply.Reply.TheVariants as reply
 use Rattle.vx_report.specs.declared.run.Cause.{Cause}
 use Rattle.vx_report.specs.declared.run.Cause.TheVariants as cause
 use Rattle.vx_report.specs.declared.run.Verdict.{Verdict}

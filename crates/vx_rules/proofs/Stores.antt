@@ -1,16 +1,38 @@
 -- Paths and stores of src/ against those of the rules.
-use Rattle.std.proofs.Common.{◌≡◌, ℕ, zero, suc, ◌<◌, Bool, true, false, cond, ◌&&◌, List, [], ◌∷◌, map, length, get_or, Option, Some, None, option_map, refl, sym, ap, ap₂, ◌∙◌, arith, true≢false, eqb-true}
+use Rattle.std.proofs.Common.{◌≡◌, ℕ, zero, suc, ◌<◌, Bool, true, false, cond, ◌&&◌, ◌||◌, ◌++◌, List, [], ◌∷◌, map, length, get_or, Option, Some, None, option_map, refl, sym, ap, ap₂, ◌∙◌, arith, true≢false, eqb-true, reverse, append_assoc}
+use Rattle.std.proofs.lemmas.List.{reverse-append}
 use Rattle.std.specs.Prelude.{slice_set, nat_eq}
 use Rattle.vx_ast.specs.Syntax.{Name, same_name}
-use Rattle.vx_terms.specs.Terms.{Term}
+use Rattle.vx_terms.specs.Terms.{Term, same}
 use Rattle.vx_terms.specs.Views.{term}
-use Rattle.vx_rules.specs.declared.state.Entry.{Entry as Entry'}
-use Rattle.vx_rules.specs.States.{Store, assign, path_terms}
-use Rattle.vx_rules.specs.SymStates.{entry, place_in}
+use Rattle.vx_rules.specs.States.{Store, Entry, assign, in_path, path_terms}
+use Rattle.vx_rules.specs.Paths.{extended}
+use Rattle.vx_rules.specs.SymStates.{place_in}
 
-pub path_terms-map : (es : List Entry') → path_terms (map entry es) ≡ map (λ e. term e.term.value) es
-path_terms-map [] = refl
-path_terms-map (e ∷ es) = ap (λ l. term e.term.value ∷ l) (path_terms-map es)
+or_false : (a : Bool) → (a || false) ≡ (false || a)
+or_false true = refl
+or_false false = refl
+
+or_later : (a b c : Bool) → (a || (b || c)) ≡ ((a || b) || c)
+or_later true b c = refl
+or_later false b c = refl
+
+pub in_path_extended : (t : Term) (es : List Entry) (u : Term) (branch : Bool) → in_path t (extended es u branch) ≡ (in_path t es || same t u)
+in_path_extended t [] u branch = or_false (same t u)
+in_path_extended t (e ∷ es) u branch = ap (λ b. same t e.term || b) (in_path_extended t es u branch) ∙ or_later (same t e.term) (in_path t es) (same t u)
+
+pub path_terms_extended : (es : List Entry) (u : Term) (branch : Bool) → path_terms (extended es u branch) ≡ path_terms es ++ u ∷ []
+path_terms_extended [] u branch = refl
+path_terms_extended (e ∷ es) u branch = ap (λ l. e.term ∷ l) (path_terms_extended es u branch)
+
+-- one more entry is taken over
+pub taken_over : {A : Type 0} (f : A → Term) (es : List Entry) (u : Term) (branch : Bool) (taken : List A) (a : A) → f a ≡ u →
+    path_terms (extended es u branch) ++ map f (reverse taken) ≡ path_terms es ++ map f (reverse (taken ++ a ∷ []))
+taken_over f es u branch taken a e =
+    ap (λ l. l ++ map f (reverse taken)) (path_terms_extended es u branch)
+    ∙ append_assoc (path_terms es) (u ∷ []) (map f (reverse taken))
+    ∙ ap (λ v. path_terms es ++ v ∷ map f (reverse taken)) (sym e)
+    ∙ ap (λ l. path_terms es ++ map f l) (sym (reverse-append taken (a ∷ [])))
 
 and_parts : (a b : Bool) → (a && b) ≡ true → (a ≡ true) × (b ≡ true)
 and_parts true b e = (refl, e)

@@ -2,8 +2,6 @@
 use Rattle.std.specs.Prelude.{◌≡◌, ℕ, Bool, true, false, List, [], ◌∷◌, ◌++◌, None, map, string_bytes}
 use Rattle.vx_rules.specs.declared.question.Code.{Code as Code'}
 use Rattle.vx_rules.specs.declared.question.Code.TheVariants as code'
-use Rattle.vx_rules.specs.declared.question.Reply.{Reply as Reply'}
-use Rattle.vx_rules.specs.declared.question.Reply.TheVariants as reply'
 use Rattle.vx_rules.specs.declared.question.Query.{Query}
 use Rattle.vx_rules.specs.declared.frame.Codes.{Codes}
 use Rattle.vx_rules.specs.declared.frame.Operand.{Operand}
@@ -26,9 +24,10 @@ use Rattle.vx_ast.specs.Resolved.{operator, connective, expr, assertion, stmt, b
 use Rattle.vx_terms.specs.Terms.{Term}
 use Rattle.vx_terms.specs.Views.{term}
 use Rattle.vx_terms.specs.Build.{negate, ite, unit, pair, whole_amount}
-use Rattle.vx_rules.specs.States.{State, with_store, with_heap, assign, leave, with_fact, with_branch, name_of, after_name}
+use Rattle.vx_rules.specs.States.{State, with_store, with_heap, assign, leave, with_fact, with_branch, name_of, after_name, path_terms}
+use Rattle.vx_rules.specs.Paths.{entries}
 use Rattle.vx_rules.specs.SymStates.{state}
-use Rattle.vx_rules.specs.Trees.{Code, AssertCode, PermissionCode, AmountCode, DivisorCode, CallCode, FunctionCode, PostCode, EntryCode, KeptCode, FoldCode, UnfoldCode, MeasureCode, Question, Reply, Unsat, Sat, Unknown, Tree, End, Step, Ask, Probe, Fork}
+use Rattle.vx_rules.specs.Trees.{Code, AssertCode, PermissionCode, AmountCode, DivisorCode, CallCode, FunctionCode, PostCode, EntryCode, KeptCode, FoldCode, UnfoldCode, MeasureCode, Question, Tree, End, Step, Ask, Probe, Fork}
 use Rattle.vx_rules.specs.Rules.{Giving, Going, Context, Outer, outer, ask, fork, short, operated, connected, placed, with_built_pair, eval, produce, consume}
 use Rattle.vx_rules.specs.Members.{codes, exec, exec_all, depth, sides}
 
@@ -61,13 +60,8 @@ code_number FoldCode = 10
 code_number UnfoldCode = 11
 code_number MeasureCode = 12
 
-abbrev pub reply : Reply' → Reply
-reply reply'.Unsat = Unsat
-reply reply'.Sat = Sat
-reply reply'.Unknown = Unknown
-
 abbrev pub query : Query → Question
-query q = record { place = q.place; code = code q.code; path = map (λ t. term t.value) q.path.items; condition = term q.condition.value; probe = q.probe }
+query q = record { place = q.place; code = code q.code; path = path_terms (entries q.path); condition = term q.condition.value; probe = q.probe }
 
 abbrev pub context : Codes → Context
 context x = codes (code x.pure) (code x.permission)

@@ -1,25 +1,22 @@
 -- What the symbolic states of src/ stand for. They have no heap yet.
 use Rattle.std.specs.Prelude.{ℕ, suc, true, false, List, [], ◌∷◌, Option, Some, None, option_map, if◌then◌else◌, map, string_bytes}
 use Rattle.vx_rules.specs.declared.state.Binding.{Binding}
-use Rattle.vx_rules.specs.declared.state.Entry.{Entry as Entry'}
 use Rattle.vx_rules.specs.declared.state.SymState.{SymState}
 use Rattle.vx_ast.specs.Syntax.{Name, same_name}
 use Rattle.vx_terms.specs.Terms.{Term}
 use Rattle.vx_terms.specs.Views.{term}
-use Rattle.vx_rules.specs.States.{Store, Entry, State}
+use Rattle.vx_rules.specs.States.{Store, State}
+use Rattle.vx_rules.specs.Paths.{entries}
 
 abbrev pub binding : Binding → Name × Term
 binding b = (string_bytes b.name.value, term b.value.value)
-
-abbrev pub entry : Entry' → Entry
-entry e = record { term = term e.term.value; branch = e.branch }
 
 abbrev pub state : SymState → State
 state s = record {
   store = map binding s.store.items;
   heap = [];
   old = [];
-  path = map entry s.path.items;
+  path = entries s.path.path;
   next = s.next;
   level = 0;
   bounded = true;

@@ -34,7 +34,6 @@ pub enum Move {
 
 /// The question of a condition in a state.
 fn question(
-    alloc: Global,
     condition: &Rc<Term>,
     place: Place,
     code: Code,
@@ -47,7 +46,7 @@ fn question(
     Ok(Query {
         place,
         code,
-        path: state.path_terms(alloc)?,
+        path: state.path.path.copy()?,
         condition: condition.clone()?,
         probe,
     })
@@ -147,14 +146,14 @@ impl Conts {
         if condition.is_same(&Term::Truth(true)) {
             return self.go(typed, frame, state);
         }
-        let query = question(alloc, &condition, place, code, false, &state)?;
+        let query = question(&condition, place, code, false, &state)?;
         if condition.is_same(&Term::Truth(false)) {
             let finish = Rc::new(alloc, Next::Finish)?;
             self.push(Frame::Go(finish), state)?;
             return Ok(Move::Check(query));
         }
         let mut state = state;
-        state.add_fact(condition)?;
+        state.add_fact(alloc, condition)?;
         self.push(frame, state)?;
         Ok(Move::Check(query))
     }
@@ -176,7 +175,7 @@ impl Conts {
         if condition.is_same(&Term::Truth(true)) {
             return self.go(typed, refuted.frame, refuted.state);
         }
-        let query = question(alloc, condition, place, code, true, &otherwise.state)?;
+        let query = question(condition, place, code, true, &otherwise.state)?;
         self.sides.push(otherwise)?;
         if condition.is_same(&Term::Truth(false)) {
             let finish = Rc::new(alloc, Next::Finish)?;
@@ -208,8 +207,8 @@ impl Conts {
         }
         let mut first = state.copy(alloc)?;
         let mut second = state;
-        first.add_branch(condition)?;
-        second.add_branch(negated)?;
+        first.add_branch(alloc, condition)?;
+        second.add_branch(alloc, negated)?;
         self.both(typed, left, first, right, second)
     }
 

@@ -1,10 +1,10 @@
 //! Questions and replies.
 
-ghost use Rattle.std.specs.Prelude.{◌≡◌, IfOk, map};
+ghost use Rattle.std.specs.Prelude.{◌≡◌, IfOk};
 ghost use Rattle.vx_rules.specs.Stack.{code, code_number, query};
-ghost use Rattle.vx_terms.specs.Views.{term};
 
-use std::alloc::{AllocError, Global};
+use crate::Path;
+use std::alloc::AllocError;
 use std::rc::Rc;
 use vx_ast::Place;
 use vx_terms::Term;
@@ -48,43 +48,25 @@ impl Code {
     }
 }
 
-/// A solver's answer.
-#[derive(Clone, Copy, Debug, PartialEq, Eq)]
-pub enum Reply {
-    Unsat,
-    Sat,
-    Unknown,
-}
-
 /// A question: whether its path and its negated condition can be true together. A probe only chooses what follows.
 #[derive(Drop)]
 pub struct Query {
     pub place: Place,
     pub code: Code,
-    pub path: Vec<Rc<Term>>,
+    pub path: Path,
     pub condition: Rc<Term>,
     pub probe: bool,
 }
 
-fn copy_terms(alloc: Global, terms: &[Rc<Term>]) -> Result<Vec<Rc<Term>>, AllocError>
-    ensures { IfOk result (λ v. map (λ t. term t.value) v.items ≡ map (λ t. term t.value) terms.now) }
-{
-    let mut copies = Vec::new(alloc);
-    for t in terms {
-        copies.push(t.clone()?)?;
-    }
-    Ok(copies)
-}
-
 impl Query {
     /// The same question once more.
-    pub fn copy(&self, alloc: Global) -> Result<Query, AllocError>
+    pub fn copy(&self) -> Result<Query, AllocError>
         ensures { IfOk result (λ copy. query copy ≡ query self.now) }
     {
         Ok(Query {
             place: self.place,
             code: self.code,
-            path: copy_terms(alloc, &self.path)?,
+            path: self.path.copy()?,
             condition: self.condition.clone()?,
             probe: self.probe,
         })

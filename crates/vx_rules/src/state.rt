@@ -5,11 +5,13 @@ ghost use Rattle.vx_ast.specs.Resolved.{declaration};
 ghost use Rattle.vx_ast.specs.Syntax.{same_name};
 ghost use Rattle.vx_rules.specs.Members.{blank};
 ghost use Rattle.vx_rules.specs.States as states;
-ghost use Rattle.vx_rules.specs.States.{sort_of_type, path_terms};
-ghost use Rattle.vx_rules.specs.SymStates.{binding, entry, state, place_in};
+ghost use Rattle.vx_rules.specs.States.{sort_of_type};
+ghost use Rattle.vx_rules.specs.SymStates.{binding, state, place_in};
 ghost use Rattle.vx_terms.specs.Views.{sort, term};
 
+use crate::IndexedPath;
 use std::alloc::{AllocError, Global};
+use std::mem;
 use std::rc::Rc;
 use vx_ast::ValueType;
 use vx_ast::resolved::Declaration;
@@ -22,19 +24,12 @@ pub struct Binding {
     pub value: Rc<Term>,
 }
 
-/// An assertion of the path: a branch's condition, or a fact.
-#[derive(Drop)]
-pub struct Entry {
-    pub term: Rc<Term>,
-    pub branch: bool,
-}
-
 /// A symbolic state: the variables in the order of their declarations, the path from its oldest entry on, and the
 /// number of the next symbol.
 #[derive(Drop)]
 pub struct SymState {
     pub store: Vec<Binding>,
-    pub path: Vec<Entry>,
+    pub path: IndexedPath,
     pub next: u64,
 }
 
@@ -70,19 +65,6 @@ fn copy_store(alloc: Global, store: &[Binding]) -> Result<Vec<Binding>, AllocErr
     Ok(copies)
 }
 
-fn copy_path(alloc: Global, path: &[Entry]) -> Result<Vec<Entry>, AllocError>
-    ensures { IfOk result (λ v. map entry v.items ≡ map entry path.now) }
-{
-    let mut copies = Vec::new(alloc);
-    for e in path {
-        copies.push(Entry {
-            term: e.term.clone()?,
-            branch: e.branch,
-        })?;
-    }
-    Ok(copies)
-}
-
 impl SymState {
     /// The state before anything is declared.
     pub fn new(alloc: Global) -> SymState
@@ -90,7 +72,7 @@ impl SymState {
     {
         SymState {
             store: Vec::new(alloc),
-            path: Vec::new(alloc),
+            path: IndexedPath::new(),
             next: 0,
         }
     }
@@ -101,7 +83,7 @@ impl SymState {
     {
         Ok(SymState {
             store: copy_store(alloc, &self.store)?,
-            path: copy_path(alloc, &self.path)?,
+            path: self.path.copy()?,
             next: self.next,
         })
     }
@@ -158,57 +140,31 @@ impl SymState {
         self.store.truncate(kept);
     }
 
-    fn is_in_path(&self, t: &Term) -> bool
-        ensures { result ≡ states.in_path (term t.now) (state self.now).path }
-    {
-        for e in &self.path {
-            if t.is_same(&e.term) {
-                return true;
-            }
-        }
-        false
-    }
-
     /// Whether a term is literally true or an entry of the path.
     pub fn is_known(&self, t: &Term) -> bool
         ensures { result ≡ states.is_known (term t.now) (state self.now) }
     {
-        t.is_same(&Term::Truth(true)) || self.is_in_path(t)
+        t.is_same(&Term::Truth(true)) || self.path.holds(t)
     }
 
     /// A fact that isn't known is added.
-    pub fn add_fact(&mut self, t: Rc<Term>) -> Result<(), AllocError>
+    pub fn add_fact(&mut self, alloc: Global, t: Rc<Term>) -> Result<(), AllocError>
         ensures { IfOk result (λ _. state self.new ≡ states.with_fact (term t.value) (state self.old)) }
     {
         if !self.is_known(&t) {
-            self.path.push(Entry {
-                term: t,
-                branch: false,
-            })?;
+            let path = mem::replace(&mut self.path, IndexedPath::new());
+            self.path = path.add_fact(alloc, t)?;
         }
         Ok(())
     }
 
     /// A branch's condition is added.
-    pub fn add_branch(&mut self, t: Rc<Term>) -> Result<(), AllocError>
+    pub fn add_branch(&mut self, alloc: Global, t: Rc<Term>) -> Result<(), AllocError>
         ensures { IfOk result (λ _. state self.new ≡ states.with_branch (term t.value) (state self.old)) }
     {
-        self.path.push(Entry {
-            term: t,
-            branch: true,
-        })?;
+        let path = mem::replace(&mut self.path, IndexedPath::new());
+        self.path = path.add_branch(alloc, t)?;
         Ok(())
-    }
-
-    /// The terms of the path.
-    pub fn path_terms(&self, alloc: Global) -> Result<Vec<Rc<Term>>, AllocError>
-        ensures { IfOk result (λ v. map (λ t. term t.value) v.items ≡ path_terms (state self.now).path) }
-    {
-        let mut terms = Vec::new(alloc);
-        for e in &self.path {
-            terms.push(e.term.clone()?)?;
-        }
-        Ok(terms)
     }
 
     /// A symbol that stands nowhere yet.
@@ -232,7 +188,7 @@ impl SymState {
         }
         let symbol = self.new_symbol(alloc, t.sort()?)?;
         let equation = numbers::eq(alloc, &symbol, &t)?;
-        self.add_fact(equation)?;
+        self.add_fact(alloc, equation)?;
         Ok(symbol)
     }
 

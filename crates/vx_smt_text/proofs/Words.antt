@@ -59,7 +59,7 @@ numeral_is (suc n) =
 
 -- ---- decimals
 
-point_before : (xs ys : List ℕ) → list_all is_digit xs ≡ true → is_digit 46 ≡ false → (before_point (xs ++ 46 ∷ ys) ≡ xs) × (behind_point (xs ++ 46 ∷ ys) ≡ ys)
+pub point_before : (xs ys : List ℕ) → list_all is_digit xs ≡ true → is_digit 46 ≡ false → (before_point (xs ++ 46 ∷ ys) ≡ xs) × (behind_point (xs ++ 46 ∷ ys) ≡ ys)
 point_before [] ys e f = (refl, refl)
 point_before (x ∷ xs) ys e f =
     let d : is_digit x ≡ true = grind (arith, common_steps) in
@@ -68,7 +68,7 @@ point_before (x ∷ xs) ys e f =
     let more = point_before xs ys all f in
     (rw no (ap (λ l. x ∷ l) more.0), rw no more.1)
 
-no_digit : is_digit 46 ≡ false
+pub no_digit : is_digit 46 ≡ false
 unfolding is_digit
 no_digit = refl
 

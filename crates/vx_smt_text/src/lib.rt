@@ -4,5 +4,5 @@
 mod laws;
 mod text;
 
-pub use laws::written_spells;
-pub use text::{write, write_assert, write_declare};
+pub use laws::{spells_once, written_spells};
+pub use text::write;

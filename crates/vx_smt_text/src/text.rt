@@ -1,10 +1,12 @@
 // The text of a command.
-ghost use Rattle.std.specs.Prelude.{◌≡◌, ◌∷◌, ◌++◌, ◌<◌, ◌+◌, ◌^◌, OnOk, OnErr, ℤ, nat_abs, map};
+ghost use Rattle.std.specs.Prelude.{◌≡◌, ◌∷◌, ◌++◌, ◌<◌, ◌+◌, ◌^◌, ℕ, List, [], OnOk, OnErr, ℤ, nat_abs, map};
 ghost use Rattle.vx_frac.specs.Fraction.{fraction};
 ghost use Rattle.vx_terms.specs.Views.{sort, symbol, operator, term, terms};
 ghost use Rattle.vx_smt_meaning.specs.Commands as Spec;
 ghost use Rattle.vx_smt_meaning.specs.Views.{command, declared_symbol};
 ghost use Rattle.vx_smt_meaning.specs.Words.{digits, numeral, decimal, sort_word, symbol_word, operator_word, truth_word};
+ghost use Rattle.vx_terms.specs.Sorts as Written;
+ghost use Rattle.vx_smt_text.specs.Unique.{IsReadable, SpellsOnly};
 ghost use Rattle.vx_smt_text.specs.Text.{quotient_text, signed_text, term_text, terms_text, sorts_text, more_sorts, front_text, command_text, set_option_head, set_logic_head, declare_sort_head, declare_fun_head};
 
 use std::alloc::{AllocError, Global};
@@ -320,35 +322,15 @@ fn put_front(text: &mut Vec<u8>, c: &Command) -> Result<(), AllocError>
 }
 
 /// Writes a command at the end, and a line feed. After want of memory nothing is written.
+#[tactic(auto, using(crate::proofs::Once::put_only))]
 pub fn write(alloc: Global, c: &Command, out: &mut Vec<u8>) -> Result<(), AllocError>
     ensures ok { OnOk result (out.new.items ≡ out.old.items ++ command_text (command c.now)) }
+    ensures only { OnOk result ((sorts : Written.Symbol → Written.Sort) → IsReadable sorts (command c.now)
+        → (text : List ℕ) × (out.new.items ≡ out.old.items ++ text) × SpellsOnly sorts text (command c.now ∷ [])) }
     ensures err { OnErr result (out.new.items ≡ out.old.items) }
 {
     let mut text = Vec::new(alloc);
     put_front(&mut text, c)?;
-    text.extend_from_slice(b")\n")?;
-    out.extend_from_slice(&text)
-}
-
-/// Writes an assertion.
-pub fn write_assert(alloc: Global, t: &Term, out: &mut Vec<u8>) -> Result<(), AllocError>
-    ensures ok { OnOk result (out.new.items ≡ out.old.items ++ command_text (Spec.Assert (term t.now))) }
-    ensures err { OnErr result (out.new.items ≡ out.old.items) }
-{
-    let mut text = Vec::new(alloc);
-    text.extend_from_slice(b"(assert ")?;
-    put_term(&mut text, t)?;
-    text.extend_from_slice(b")\n")?;
-    out.extend_from_slice(&text)
-}
-
-/// Writes a declaration.
-pub fn write_declare(alloc: Global, d: &Declared, out: &mut Vec<u8>) -> Result<(), AllocError>
-    ensures ok { OnOk result (out.new.items ≡ out.old.items ++ command_text (Spec.DeclareFun (declared_symbol d.now))) }
-    ensures err { OnErr result (out.new.items ≡ out.old.items) }
-{
-    let mut text = Vec::new(alloc);
-    put_declare_fun(&mut text, d)?;
     text.extend_from_slice(b")\n")?;
     out.extend_from_slice(&text)
 }

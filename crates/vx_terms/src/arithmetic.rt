@@ -1,10 +1,9 @@
 //! Sums, differences and products: each simplifies as it says, and no more.
 
-ghost use Rattle.std.specs.Prelude.{◌≡◌, IfOk, IsOk};
-ghost use Rattle.vx_frac.specs.Fraction.{fraction};
+ghost use Rattle.std.specs.Prelude.{◌≡◌, IfOk};
 ghost use Rattle.vx_terms.specs.Build as built;
 ghost use Rattle.vx_terms.specs.Terms as written;
-ghost use Rattle.vx_terms.specs.Literals.{number_or};
+ghost use Rattle.vx_terms.specs.Literals.{number_or, part_or};
 ghost use Rattle.vx_terms.specs.Views.{term, operator};
 
 use crate::literals::{Literals, is_one_literal, is_zero_literal, literals_in};
@@ -35,8 +34,8 @@ fn number_or_binary(
     }
 }
 
-/// A fraction in range as a literal, else the operation as it is written. One whose numbers leave 128 bits before they
-/// are reduced is refused as for want of memory.
+/// A fraction in range as a literal; else, also where a number leaves 128 bits before it is reduced, the operation as it
+/// is written.
 fn part_or_binary(
     alloc: Global,
     part: Result<Frac, Over>,
@@ -44,8 +43,7 @@ fn part_or_binary(
     s: &Rc<Term>,
     t: &Rc<Term>,
 ) -> Result<Rc<Term>, AllocError>
-    ensures value { IfOk result (λ r. IfOk part (λ a. term r.value ≡ built.folded_part (fraction a) (written.Binary (operator op) (term s.now.value) (term t.now.value)))) }
-    ensures ok { IfOk result (λ _. IsOk part) }
+    ensures { IfOk result (λ r. term r.value ≡ part_or part (written.Binary (operator op) (term s.now.value) (term t.now.value))) }
 {
     match part {
         Ok(a) => {
@@ -54,7 +52,7 @@ fn part_or_binary(
             }
             real(alloc, a)
         }
-        Err(_) => Err(AllocError),
+        Err(_) => binary(alloc, op, s, t),
     }
 }
 

@@ -3,7 +3,7 @@
 ghost use Rattle.std.specs.Prelude.{◌≡◌, ◌<◌};
 ghost use Rattle.vx_verifier.specs.Lanes.{IsHeld};
 
-use std::alloc::Global;
+use std::alloc::{AllocError, Global};
 use vx_dialogue::{Dialogue, Talk};
 use vx_ends::{Parts, Spawner, StartFault};
 use vx_report::Cause;
@@ -33,14 +33,6 @@ fn trouble_of(talk: Talk) -> Trouble {
         Talk::Garbled(kept) | Talk::Refused(kept) => Trouble::Fault(Cause::Reply(kept)),
         Talk::Want => Trouble::Want,
         Talk::Closed => Trouble::Fault(Cause::Spent),
-    }
-}
-
-fn reply_of(reply: vx_smt_meaning::Reply) -> Reply {
-    match reply {
-        vx_smt_meaning::Reply::Unsat => Reply::Unsat,
-        vx_smt_meaning::Reply::Sat => Reply::Sat,
-        vx_smt_meaning::Reply::Unknown => Reply::Unknown,
     }
 }
 
@@ -77,8 +69,12 @@ fn talk<W: Spawner>(
     ensures { IsHeld result.0 (W.owed spawner.new LANE) }
 {
     let mut dialogue = dialogue;
-    match dialogue.ask(alloc, &query.path, &query.condition) {
-        Ok(reply) => (Child::Talking(dialogue), Ok(reply_of(reply))),
+    let path = match query.path.terms(alloc) {
+        Ok(path) => path,
+        Err(AllocError) => return (Child::Talking(dialogue), Err(Trouble::Want)),
+    };
+    match dialogue.ask(alloc, &path, &query.condition) {
+        Ok(reply) => (Child::Talking(dialogue), Ok(reply)),
         Err(talk) => {
             spawner.finish(LANE, dialogue.close());
             (Child::Lost, Err(trouble_of(talk)))

@@ -1,5 +1,5 @@
 use Rattle.std.proofs.Common.{◌∙◌, arith}
-use Rattle.vx_ends.proofs.Dialogues.{sent_by_sent, got_by_sent, taken_on}
+use Rattle.vx_ends.proofs.Dialogues.{sent_by_sent, got_by_sent, taken_on, grows_by_piece, sends_more}
 use Rattle.std.proofs.lemmas.Grind.{common_steps}
 use Rattle.vx_ends.proofs.whole.send_all.Goals as goal
 
@@ -11,6 +11,8 @@ loop-done-preserved g c =
       within = grind (arith, common_steps);
       sent = taken_on _ _ _ _ _ _ so_far.sent (sent_by_sent _ _ _ sends.2);
       got = got_by_sent _ _ _ sends.2 ∙ so_far.got;
+      grows = λ front begins. grows_by_piece _ _ _ sends.2 front (so_far.grows front begins);
+      pieces = sends_more _ _ _ _ so_far.pieces sends.2;
       later = grind (arith, common_steps);
       fixed = c.in_ok-done.ensures.fixed ∙ so_far.fixed;
       calm = λ steady none.

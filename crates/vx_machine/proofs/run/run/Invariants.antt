@@ -1,6 +1,6 @@
 use Rattle.std.proofs.Common.{◌≡◌, List}
 use Rattle.vx_types.specs.Settled.{settled}
-use Rattle.vx_rules.specs.Trees.{Reply}
+use Rattle.vx_smt_meaning.specs.declared.reply.Reply.{Reply}
 use Rattle.vx_machine.specs.Runs.{remaining, stack_size}
 use Rattle.vx_machine.proofs.run.run.Given as goal
 

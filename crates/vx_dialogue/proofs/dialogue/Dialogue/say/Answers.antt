@@ -9,4 +9,4 @@ returns-clause-told g c = λ plain commands checks told.
     let room = c.make_room.new.self in
     let before = c.in_ok-make_room.ensures.told commands checks told in
     let written : c.write.new.out.items ≡ room.batch.items ++ command_text (command c.args.c.now) = c.in_ok-write.ensures.ok in
-    gathers_said g.L.Link.dialogue room _ (command c.args.c.now) plain refl written refl refl commands checks before
+    gathers_said g.L.Link.dialogue room _ (command c.args.c.now) plain refl written refl refl c.in_ok-make_room.ensures.count commands checks before

@@ -26,6 +26,7 @@ loop-c-preserved g c =
       member = c.say.ensures.same.0 ∙ before.member;
       owed = c.say.ensures.same.1 ∙ before.owed;
       failed = c.say.ensures.same.2 ∙ before.failed;
+      grows = λ front begins. c.say.ensures.grows front (before.grows front begins);
       later = grind (arith, common_steps);
     }
 

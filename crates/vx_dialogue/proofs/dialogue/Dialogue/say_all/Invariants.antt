@@ -3,6 +3,7 @@ use Rattle.vx_smt_meaning.specs.Commands.{Command}
 use Rattle.vx_smt_meaning.specs.Dialogues.{ArePlain, Check}
 use Rattle.vx_smt_meaning.specs.Views.{command}
 use Rattle.vx_dialogue.specs.Dialogue.{Gathers}
+use Rattle.vx_ends.specs.Dialogue.{Grows}
 use Rattle.vx_dialogue.proofs.dialogue.Dialogue.say_all.Given as goal
 
 abbrev pub invariant-loop-c : goal.invariant-loop-c
@@ -15,5 +16,6 @@ invariant-loop-c g l =
       member : l.self.in_member ≡ l.fn.self.in_member;
       owed : l.self.owed ≡ l.fn.self.owed;
       failed : l.self.failed ≡ l.fn.self.failed;
+      grows : Grows (dialogue l.fn.self.link) (dialogue l.self.link);
       later : faults l.fn.self.link ≤ faults l.self.link;
     }

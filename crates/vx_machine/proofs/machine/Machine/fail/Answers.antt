@@ -2,7 +2,6 @@ use Rattle.std.proofs.Common.{List, map, refl}
 use Rattle.vx_types.specs.Settled.{settled}
 use Rattle.vx_rules.specs.declared.frame.Side.{Side}
 use Rattle.vx_rules.specs.Trees.{Tree}
-use Rattle.vx_rules.specs.Stack.{reply}
 use Rattle.vx_machine.specs.declared.machine.Phase.{Phase}
 use Rattle.vx_machine.specs.declared.machine.Phase.TheVariants as phase'
 use Rattle.vx_machine.specs.Runs.{given, member_tree}
@@ -26,7 +25,7 @@ returns-clause-told c =
     let t : Tree = member_tree p c.args.self.now.member.0 in
     let sides : List Side = c.args.self.now.conts.sides.items in
     let phase : Phase = phase'.Failed c.args.query.place c.args.query.code c.args.reply in
-    ending_now p t (map reply c.push.new.self.items) phase sides
+    ending_now p t c.push.new.self.items phase sides
     (given_more p t phase sides c.args.self.now.replies.items c.push.new.self.items c.args.reply c.in_ok-push.ensures.items
     (at_failed p t (given c.args.self.now) sides c.args.query c.args.reply c.requires.probe c.requires.kind c.requires.at))
 
@@ -36,6 +35,6 @@ returns-clause-answered c =
     let t : Tree = member_tree p c.args.self.now.member.0 in
     let sides : List Side = c.args.self.now.conts.sides.items in
     let phase : Phase = phase'.Failed c.args.query.place c.args.query.code c.args.reply in
-    answered_now p t (map reply c.push.new.self.items) phase sides
+    answered_now p t c.push.new.self.items phase sides
     (given_more p t phase sides c.args.self.now.replies.items c.push.new.self.items c.args.reply c.in_ok-push.ensures.items
     (at_failed p t (given c.args.self.now) sides c.args.query c.args.reply c.requires.probe c.requires.kind c.requires.at)) refl

@@ -1,0 +1,47 @@
+#!/usr/bin/env bash
+# Writes files of one method, and prints the program's seconds on each and the ratio to the one before: a method of
+# 100, 400, 1600 and 6400 assignments with one check at its end, one of as many asserts, and one with 2^4, 2^8 and
+# 2^12 paths of one check each.
+set -eu
+here=$(cd "$(dirname "${BASH_SOURCE[0]}")/.." && pwd)
+folder=$(mktemp -d)
+trap 'rm -rf "$folder"' EXIT
+"$here/vsil" < /dev/null > /dev/null
+
+assignments() {
+    echo "method m(x: Int) returns (y: Int) ensures true && y == y + 0 { y := x"
+    for ((i = 0; i < $1; i++)); do echo "y := y + x"; done
+    echo "}"
+}
+
+asserts() {
+    echo "method m(a: Bool, x: Int) requires a {"
+    for ((i = 0; i < $1; i++)); do echo "assert a || x < $i"; done
+    echo "}"
+}
+
+paths() {
+    echo "method m(a: Bool) returns (b: Bool) requires a ensures a {"
+    for ((i = 0; i < $1; i++)); do echo "var c$i: Bool if (c$i) { b := c$i } else { }"; done
+    echo "}"
+}
+
+measure() {
+    local what=$1 before=
+    shift
+    for count in "$@"; do
+        "$what" "$count" > "$folder/file.vpr"
+        local start end seconds ratio=-
+        start=$(date +%s.%N)
+        "$here/vsil" < "$folder/file.vpr" > "$folder/out" || true
+        end=$(date +%s.%N)
+        seconds=$(echo "$end - $start" | bc)
+        if [ -n "$before" ]; then ratio=$(echo "scale=2; $seconds / $before" | bc); fi
+        echo "$count $what: $seconds s, ratio $ratio, $(tail -n 1 "$folder/out")"
+        before=$seconds
+    done
+}
+
+measure assignments 100 400 1600 6400
+measure asserts 100 400 1600
+measure paths 4 8 12

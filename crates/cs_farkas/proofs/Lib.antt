@@ -1,0 +1,11 @@
+pub mod Counted
+pub mod Whole
+pub mod Parts
+pub mod Along
+pub mod Cleared
+pub mod Amounts
+pub mod Linears
+pub mod Contradictions
+pub mod Bounds
+pub mod Matches
+pub mod Decided

@@ -1,0 +1,5 @@
+pub mod Sums
+pub mod Rows
+pub mod Columns
+pub mod Views
+pub mod Bridge

@@ -1,0 +1,65 @@
+//! The units of a check.
+#![tactic(auto)]
+
+ghost use Rattle.std.specs.Prelude.{◌≡◌, ◌+◌, ◌<◌, ◌≤◌, ◌↔◌, IsOk, OnOk, OnErr};
+ghost use Rattle.cs_meter.specs.Units.{limit};
+
+/// How many units a check may spend.
+pub const LIMIT: u32 = 100_000;
+
+/// The units that a check has spent.
+#[derive(Debug, Drop)]
+pub struct Meter {
+    spent: u32,
+    ghost within: { spent ≤ limit },
+}
+
+/// All units are spent.
+#[derive(Clone, Copy, PartialEq, Eq, Debug)]
+pub struct Budget;
+
+impl Meter {
+    /// Nothing is spent yet.
+    pub fn new() -> Meter
+        ensures { result.spent ≡ 0 }
+    {
+        Meter { spent: 0 }
+    }
+
+    /// The units spent so far.
+    pub fn spent(&self) -> u32
+        ensures value { result ≡ self.now.spent }
+        ensures within { result ≤ limit }
+    {
+        self.spent
+    }
+
+    /// Spends one unit.
+    ///
+    /// # Errors
+    /// `Budget` exactly where all are spent; none is spent then.
+    pub fn spend(&mut self) -> Result<(), Budget>
+        ensures spent { OnOk result (self.new.spent ≡ self.old.spent + 1) }
+        ensures kept { OnErr result (self.new.spent ≡ self.old.spent) }
+        ensures left { IsOk result ↔ self.old.spent < limit }
+    {
+        if self.spent >= LIMIT {
+            return Err(Budget);
+        }
+        self.spent += 1;
+        Ok(())
+    }
+}
+
+#[cfg(test)]
+mod tests {
+    use super::*;
+
+    #[test]
+    fn counts_units(rt: HostRuntime) {
+        let mut meter = Meter::new();
+        assert_eq!(rt; meter.spend(), Ok(()));
+        assert_eq!(rt; meter.spend(), Ok(()));
+        assert_eq!(rt; meter.spent(), 2);
+    }
+}

@@ -1,0 +1,5 @@
+pub mod Itself
+pub mod Added
+pub mod Walks
+pub mod Numbered
+pub mod Tables

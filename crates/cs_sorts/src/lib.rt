@@ -1,0 +1,19 @@
+//! Sorts of terms, and live symbols.
+#![tactic(auto)]
+
+ghost use Rattle.cs_sorts.specs.Laws.{TellsSorts, TellsLive};
+
+mod live;
+mod sorting;
+
+pub use live::is_live;
+pub use sorting::sort_in;
+
+/// The computed sort is the sort of a well-sorted term, and live terms are told.
+pub fn sorts_are_told()
+    ensures sorts { TellsSorts }
+    ensures live { TellsLive }
+{}
+
+#[cfg(test)]
+mod tests;

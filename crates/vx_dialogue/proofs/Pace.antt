@@ -1,0 +1,105 @@
+-- A dialogue that keeps its pace as pieces are added.
+use Rattle.std.proofs.Common.{◌≡◌, ◌⊎◌, inl, inr, ◌++◌, ℕ, ◌≤◌, List, [], ◌∷◌, length, refl, ap, ◌∙◌, sym, subst, arith}
+use Rattle.vx_ends.specs.declared.piece.Piece.{Piece}
+use Rattle.vx_ends.specs.declared.piece.Piece.TheVariants.{Sent, Got}
+use Rattle.vx_ends.specs.Dialogue.{sent, got, AreSent, AreGot, SendsOn, GetsOn}
+use Rattle.vx_ends.proofs.Dialogues.{sent-append, got-append}
+use Rattle.vx_sexp.specs.declared.token.Token.{Token}
+use Rattle.vx_smt_meaning.specs.Commands.{Command}
+use Rattle.vx_smt_meaning.specs.Replies.{Items}
+use Rattle.vx_smt_meaning.specs.Dialogues.{Answers}
+use Rattle.vx_smt_text.specs.Text.{commands_text}
+use Rattle.vx_dialogue.specs.Pace.{FewWait, KeepsPace}
+use Rattle.vx_dialogue.proofs.Joined.{append_none, items_longer}
+use Rattle.vx_dialogue.proofs.Lists.{text_append}
+
+-- a front of two lists ends in the first or in the second
+fronts : {A : Type 0} (xs ys before after : List A) → xs ++ ys ≡ before ++ after
+    → ((m : List A) × (xs ≡ before ++ m)) ⊎ ((m : List A) × (before ≡ xs ++ m) × (ys ≡ m ++ after))
+fronts [] ys before after e = inr (before, refl, e)
+fronts (x ∷ xs) ys [] after e = inl (x ∷ xs, refl)
+fronts {A = A} (x ∷ xs) ys (b ∷ before) after e =
+    let head : x ≡ b = cc in
+    let tail : xs ++ ys ≡ before ++ after = cc in
+    by_rest head (fronts xs ys before after tail)
+  where
+    by_rest : x ≡ b → ((m : List A) × (xs ≡ before ++ m)) ⊎ ((m : List A) × (before ≡ xs ++ m) × (ys ≡ m ++ after))
+        → ((m : List A) × (x ∷ xs ≡ b ∷ before ++ m)) ⊎ ((m : List A) × (b ∷ before ≡ x ∷ xs ++ m) × (ys ≡ m ++ after))
+    by_rest head (inl f) = inl (f.0, ap (λ z. z ∷ xs) head ∙ ap (λ z. b ∷ z) f.1)
+    by_rest head (inr f) = inr (f.0, ap (λ z. z ∷ before) (sym head) ∙ ap (λ z. x ∷ z) f.1, f.2)
+
+none_got : (xs : List Piece) → AreSent xs → got xs ≡ []
+none_got [] e = refl
+none_got (Sent b ∷ xs) e = none_got xs e
+none_got (Got b ∷ xs) e = absurd e
+
+none_sent : (xs : List Piece) → AreGot xs → sent xs ≡ []
+none_sent [] e = refl
+none_sent (Sent b ∷ xs) e = absurd e
+none_sent (Got b ∷ xs) e = none_sent xs e
+
+sent_front : (xs ys : List Piece) → AreSent (xs ++ ys) → AreSent xs
+sent_front [] ys e = tt
+sent_front (Sent b ∷ xs) ys e = sent_front xs ys e
+sent_front (Got b ∷ xs) ys e = absurd e
+
+got_front : (xs ys : List Piece) → AreGot (xs ++ ys) → AreGot xs
+got_front [] ys e = tt
+got_front (Sent b ∷ xs) ys e = absurd e
+got_front (Got b ∷ xs) ys e = got_front xs ys e
+
+pub pace_none : KeepsPace []
+pace_none before after e = at_none before e
+  where
+    at_none : (before : List Piece) → [] ≡ before ++ after → FewWait before
+    at_none [] f = record { answered = []; waiting = []; unsent = []; items = []; rest = []; sent_is = refl; few = omega arith; got_is = refl; lawful = tt }
+    at_none (p ∷ before) f = absurd (cc)
+
+-- Where all that was sent has its replies, a batch of 256 commands at most is sent.
+pub pace_sent : (old new : List Piece) (batch : List ℕ) (answered waiting : List Command) (items : List (List Token)) (rest : List ℕ)
+    → SendsOn old new → sent new ≡ sent old ++ batch → sent old ≡ commands_text answered → batch ≡ commands_text waiting → length waiting ≤ 256
+    → Items (got old) items rest → Answers answered items → KeepsPace old → KeepsPace new
+pace_sent old new batch answered waiting items rest more sent_on sent_is batch_is few heard lawful pace before after e =
+    by_front (fronts old more.0 before after (sym more.1 ∙ e))
+  where
+    text : sent new ≡ commands_text (answered ++ waiting)
+    text = sent_on ∙ ap (λ x. x ++ batch) sent_is ∙ ap (λ x. commands_text answered ++ x) batch_is ∙ sym (text_append answered waiting)
+
+    by_front : ((m : List Piece) × (old ≡ before ++ m)) ⊎ ((m : List Piece) × (before ≡ old ++ m) × (more.0 ≡ m ++ after)) → FewWait before
+    by_front (inl f) = pace before f.0 f.1
+    by_front (inr f) =
+        let silent : got f.0 ≡ [] = none_got f.0 (sent_front f.0 after (subst AreSent f.2 more.2)) in
+        let same : got before ≡ got old = ap got f.1 ∙ got-append old f.0 ∙ ap (λ x. got old ++ x) silent ∙ append_none (got old) in
+        record {
+          answered = answered;
+          waiting = waiting;
+          unsent = sent after;
+          items = items;
+          rest = rest;
+          sent_is = sym (sent-append before after) ∙ ap sent (sym e) ∙ text;
+          few = few;
+          got_is = subst (λ x. Items x items rest) (sym same) heard;
+          lawful = lawful;
+        }
+
+-- Getting pieces changes nothing of it.
+pub pace_got : (old new : List Piece) → GetsOn old new → KeepsPace old → KeepsPace new
+pace_got old new more pace before after e = by_front (fronts old more.0 before after (sym more.1 ∙ e))
+  where
+    by_front : ((m : List Piece) × (old ≡ before ++ m)) ⊎ ((m : List Piece) × (before ≡ old ++ m) × (more.0 ≡ m ++ after)) → FewWait before
+    by_front (inl f) = pace before f.0 f.1
+    by_front (inr f) =
+        let few = pace old [] (sym (append_none old)) in
+        let still : sent f.0 ≡ [] = none_sent f.0 (got_front f.0 after (subst AreGot f.2 more.2)) in
+        let same : sent before ≡ sent old = ap sent f.1 ∙ sent-append old f.0 ∙ ap (λ x. sent old ++ x) still ∙ append_none (sent old) in
+        record {
+          answered = few.answered;
+          waiting = few.waiting;
+          unsent = few.unsent;
+          items = few.items;
+          rest = few.rest ++ got f.0;
+          sent_is = ap (λ x. x ++ few.unsent) same ∙ few.sent_is;
+          few = few.few;
+          got_is = subst (λ x. Items x few.items (few.rest ++ got f.0)) (sym (ap got f.1 ∙ got-append old f.0)) (items_longer (got old) (got f.0) few.items few.rest few.got_is);
+          lawful = few.lawful;
+        }

@@ -1,0 +1,52 @@
+//! Programs over fields and fractions.
+
+ghost use Rattle.std.specs.Prelude.{◌≡◌, [], ◌∷◌};
+ghost use Rattle.vx_smt_meaning.specs.declared.reply.Reply.TheVariants.{Unsat, Sat};
+ghost use Rattle.vx_rules.specs.Trees.{AssertCode, PermissionCode, Passed, Failed};
+ghost use Rattle.vx_examples.specs.Words.{at, int, ref, null, falsity, equal, differ, questions_of, ending_of, checks_of, asks, probes, satisfied};
+ghost use Rattle.vx_examples.specs.Fields.{m, two_halves, exhaled_twice, maybe_same, never_same, forgotten, half_write};
+
+/// Two halves are one chunk of amount 1: no check is asked.
+#[tactic(auto, unfolding(vx_frac::specs::Fractions::lowest))]
+pub fn two_halves_make_a_whole()
+    ensures asked { questions_of two_halves m ≡ [] }
+    ensures passed { ending_of two_halves m [] ≡ Passed }
+{}
+
+/// The second part of the assertion finds no chunk.
+#[tactic(auto, unfolding(vx_frac::specs::Fractions::lowest))]
+pub fn an_exhale_twice()
+    ensures asked { questions_of exhaled_twice m ≡ asks (at 4 20) PermissionCode (differ (ref 0) null ∷ []) falsity ∷ [] }
+    ensures failed { ending_of exhaled_twice m (Sat ∷ []) ≡ Failed (at 4 20) PermissionCode Sat }
+    ensures passed { ending_of exhaled_twice m (Unsat ∷ []) ≡ Passed }
+{}
+
+/// Two halves may be of one reference, and two wholes not.
+#[tactic(auto, unfolding(vx_frac::specs::Fractions::lowest))]
+pub fn receivers_may_be_the_same()
+    ensures halves { questions_of maybe_same m ≡ asks (at 5 8) AssertCode (differ (ref 0) null ∷ differ (ref 1) null ∷ []) (differ (ref 0) (ref 1)) ∷ [] }
+    ensures halves_failed { ending_of maybe_same m (Sat ∷ []) ≡ Failed (at 5 8) AssertCode Sat }
+    ensures wholes { questions_of never_same m ≡
+        asks (at 5 8) AssertCode (differ (ref 0) null ∷ differ (ref 1) null ∷ differ (ref 0) (ref 1) ∷ []) (differ (ref 0) (ref 1)) ∷ [] }
+    ensures wholes_passed { ending_of never_same m (Unsat ∷ []) ≡ Passed }
+{}
+
+/// What is exhaled wholly has a new value when it is inhaled again.
+#[tactic(auto, unfolding(vx_frac::specs::Fractions::lowest))]
+pub fn a_value_is_forgotten()
+    ensures asked { questions_of forgotten m ≡ asks (at 6 8) AssertCode (differ (ref 0) null ∷ []) (equal (int 2) (int 1)) ∷ [] }
+    ensures failed { ending_of forgotten m (Sat ∷ []) ≡ Failed (at 6 8) AssertCode Sat }
+{}
+
+/// A write with half an amount: the probe of the only chunk, and then the check that none suffices.
+#[tactic(auto, unfolding(vx_frac::specs::Fractions::lowest))]
+pub fn a_write_with_half()
+    ensures asked { questions_of half_write m ≡
+        probes (at 4 1) PermissionCode (differ (ref 0) null ∷ []) falsity
+        ∷ asks (at 4 1) PermissionCode (differ (ref 0) null ∷ []) falsity ∷ [] }
+    ensures failed { ending_of half_write m (Sat ∷ Sat ∷ []) ≡ Failed (at 4 1) PermissionCode Sat }
+    ensures checked { checks_of half_write m (Sat ∷ Sat ∷ []) ≡
+        satisfied (probes (at 4 1) PermissionCode (differ (ref 0) null ∷ []) falsity)
+        ∷ satisfied (asks (at 4 1) PermissionCode (differ (ref 0) null ∷ []) falsity) ∷ [] }
+    ensures impossible { ending_of half_write m (Unsat ∷ []) ≡ Passed }
+{}

@@ -1,0 +1,28 @@
+//! Computed examples: what the definitions of the rules and of the meaning make of small programs.
+//!
+//! Each function's clauses are examples: a program stands in specs/, with its text above it, and the clause says which
+//! questions its tree asks, in order, or how its walk ends over some replies.
+#![tactic(auto)]
+
+pub mod amounts;
+pub mod applications;
+pub mod assertions;
+pub mod assertions_by_rules;
+pub mod calls;
+pub mod compound;
+pub mod evaluation;
+pub mod expressions;
+pub mod failures;
+pub mod fields;
+pub mod functions;
+pub mod giving;
+pub mod instances;
+pub mod loops;
+pub mod operators;
+pub mod predicates;
+pub mod runs;
+pub mod statements;
+pub mod store;
+pub mod terms;
+pub mod values;
+pub mod walks;
