@@ -1,17 +1,16 @@
 -- Reading members looks no further than the token at which it stops.
-use Rattle.std.proofs.Common.{◌≡◌, ℕ, ◌+◌, ◌-◌, ◌≤◌, ◌<◌, List, [], ◌∷◌, ◌++◌, Some, None, Ok, Err, length, refl, sym, ap, subst, ◌∙◌, arith, Bool, true, false, cond, leb, length-append, inl, inr}
-use Rattle.std.proofs.lemmas.List.{length-map}
+use Rattle.std.proofs.Common.{◌≡◌, ℕ, ◌+◌, ◌-◌, ◌≤◌, List, [], ◌∷◌, ◌++◌, Some, None, Ok, Err, length, refl, sym, subst, ◌∙◌, arith, Bool, true, false, cond, leb, inl, inr}
 use Rattle.std.proofs.lemmas.Bool.{leb-true, le-leb}
 use Rattle.vx_ast.specs.declared.Place.{Place}
 use Rattle.vx_ast.specs.Written.{Expr, Declaration}
 use Rattle.vx_tokens.specs.declared.token.Symbol.TheVariants as signs
 use Rattle.vx_tokens.specs.declared.token.Word.TheVariants as words
 use Rattle.vx_tokens.specs.Tokens.{Token, Kind, word}
-use Rattle.vx_grammar.specs.Grammar.{Mark, tokens_of}
+use Rattle.vx_grammar.specs.Grammar.{Mark}
 use Rattle.vx_grammar.specs.Reading.{◌>>=◌, Read, Unexpected, TooDeep, is_symbol, choice_at, below, name_at}
 use Rattle.vx_grammar.specs.StmtReading.{declaration_at, block_at, stmts_below, skip_semicolon}
 use Rattle.vx_grammar.specs.MemberReading.{limit, Clauses, no_clauses, with_requires, with_ensures, begins_requires, begins_ensures, clause_at, clause_turn, clauses_at, method_at, field_at, member_by, member_at, declaration_turn, declarations_at, inner_parameters_at, parameters_at, begins_returns, returns_at}
-use Rattle.vx_grammar.proofs.Tells.{Grammar, Tells, TellsOk}
+use Rattle.vx_grammar.proofs.Tells.{Tells}
 use Rattle.vx_grammar.proofs.Steps.{TurnFor}
 use Rattle.vx_grammar.proofs.MemberTold.{DeclarationStep, turn_tells}
 use Rattle.vx_grammar.proofs.MethodTold.{ClauseStep, clause_turn_tells}

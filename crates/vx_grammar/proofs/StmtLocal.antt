@@ -1,5 +1,5 @@
 -- Reading statements looks no further than the token at which it stops.
-use Rattle.std.proofs.Common.{◌≡◌, ℕ, zero, suc, ◌+◌, ◌<◌, List, [], ◌∷◌, ◌++◌, Some, None, Ok, Err, length, refl, sym, ap, subst, ◌∙◌, arith, Bool, true, false, cond, length-append}
+use Rattle.std.proofs.Common.{◌≡◌, ℕ, zero, suc, ◌+◌, ◌<◌, List, [], ◌∷◌, ◌++◌, None, Ok, Err, length, refl, sym, ap, subst, ◌∙◌, arith, Bool, true, false, cond, length-append}
 use Rattle.std.proofs.lemmas.List.{length-map}
 use Rattle.vx_ast.specs.declared.Place.{Place}
 use Rattle.vx_ast.specs.declared.ValueType.TheVariants as types

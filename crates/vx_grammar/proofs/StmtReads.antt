@@ -11,7 +11,7 @@ use Rattle.vx_tokens.specs.Tokens.{Token, Kind, name, word, symbol}
 use Rattle.vx_grammar.specs.Grammar.{Phrase, dotted, start_of, Mark, mark, marks, meant, StandsAt, tokens_of}
 use Rattle.vx_grammar.specs.Statements.{DeclarationPhrase, Claim, inhales, exhales, asserts, assumes, claim_word, claim_meant, type_word, declaration_meant, declaration_marks, StmtPhrase, assigned, stored, invoked, targeted, right_marks, IsPath, declared, initialized, claimed, branched, BranchPhrase, branch, OtherPhrase, no_other, other, another, BlockPhrase, block, RowPhrase, no_more, more, stmt_meant, branch_meant, other_meant, block_meant, row_meant, StandsStmt, StandsBranch, StandsOther, StandsBlock, StandsRow, stmt_marks, branch_marks, other_marks, block_marks, row_marks, semi_marks}
 use Rattle.vx_grammar.specs.Reading.{enclosed, Read, expect, is_symbol, choice, choice_at, below, name_at}
-use Rattle.vx_grammar.specs.StmtReading.{StmtDeeper, statements, elseif_part, stmts_below, type_by, type_at, declaration_at, block_at, otherwise_by, otherwise_at, branch_at, initial_by, initial_at, declare_at, claim_at, stmt_by, stmt_at, begins_stmt, stmts_at, block_from}
+use Rattle.vx_grammar.specs.StmtReading.{StmtDeeper, statements, elseif_part, stmts_below, type_by, type_at, declaration_at, block_at, otherwise_by, otherwise_at, branch_at, initial_by, initial_at, declare_at, claim_at, stmt_at, begins_stmt, stmts_at, block_from}
 use Rattle.vx_grammar.specs.Nesting.{nests, stmt_nests}
 use Rattle.vx_grammar.specs.Laws.{Within}
 use Rattle.vx_grammar.proofs.Lists.{tokens-append_more, within_front, within_back, reach, Ends}

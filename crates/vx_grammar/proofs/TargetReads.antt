@@ -1,17 +1,16 @@
 -- Statements that begin with a name, and right sides, that are spelled are read.
-use Rattle.std.proofs.Common.{◌≡◌, ℕ, zero, suc, ◌+◌, ◌-◌, ◌≤◌, List, [], ◌∷◌, ◌++◌, Some, None, Bool, true, false, Ok, length, refl, sym, ap, subst, ◌∙◌, append_assoc, arith}
+use Rattle.std.proofs.Common.{◌≡◌, ℕ, zero, suc, ◌+◌, ◌≤◌, List, [], ◌∷◌, ◌++◌, false, Ok, length, refl, sym, ap, ◌∙◌, append_assoc, arith}
 use Rattle.std.proofs.lemmas.List.{append-nil}
 use Rattle.vx_ast.specs.declared.Place.{Place}
-use Rattle.vx_ast.specs.Written.{Expr, Right, Stmt}
 use Rattle.vx_tokens.specs.declared.token.Word.TheVariants as words
 use Rattle.vx_tokens.specs.declared.token.Symbol.TheVariants as signs
 use Rattle.vx_tokens.specs.Tokens.{Token, Kind, name, word, symbol}
-use Rattle.vx_grammar.specs.Grammar.{Phrase, literal, constant, numeral, named, called, dotted, grouped, past, accessed, prefixed, joined, chosen, ArgumentsPhrase, ArgumentsStand, arguments_marks, arguments_meant, dots, Mark, mark, marks, start_of, meant, IsPrimary, StandsAt, tokens_of}
-use Rattle.vx_grammar.specs.Statements.{NamesPhrase, no_names, next_name, FieldsPhrase, every_field, no_fields, these_fields, RightPhrase, given, allocated, names_meant, fields_meant, right_meant, RightStands, names_marks, fields_marks, right_marks, IsPath, StmtPhrase, assigned, stored, invoked, targeted, stmt_meant, stmt_marks, StandsStmt}
-use Rattle.vx_grammar.specs.Reading.{Read, is_symbol, expect, run, name_at, name_turn, fields_at, allocation_by, allocation_at, allocation, enclosed, postfix_by, unary_by, unary_at, choice_at, below}
-use Rattle.vx_grammar.specs.StmtReading.{StmtDeeper, begins_new, value_at, right_at, assign_one, invoke_at, assigned_by, assign_at, store_at, by_target, target_at, stmt_at}
+use Rattle.vx_grammar.specs.Grammar.{Phrase, literal, constant, numeral, named, called, dotted, grouped, past, accessed, prefixed, joined, chosen, ArgumentsPhrase, ArgumentsStand, dots, Mark, mark, marks, start_of, meant, IsPrimary, StandsAt, tokens_of}
+use Rattle.vx_grammar.specs.Statements.{NamesPhrase, no_names, next_name, FieldsPhrase, every_field, no_fields, these_fields, RightPhrase, given, allocated, names_meant, fields_meant, right_meant, RightStands, names_marks, fields_marks, right_marks, IsPath, assigned, stored, invoked, targeted, stmt_meant, stmt_marks, StandsStmt}
+use Rattle.vx_grammar.specs.Reading.{Read, is_symbol, expect, run, name_at, name_turn, fields_at, allocation_at, allocation, postfix_by, unary_by, unary_at, choice_at, below}
+use Rattle.vx_grammar.specs.StmtReading.{StmtDeeper, begins_new, value_at, right_at, assign_one, invoke_at, assign_at, store_at, by_target, target_at, stmt_at}
 use Rattle.vx_grammar.specs.Laws.{Within}
-use Rattle.vx_grammar.proofs.Lists.{tokens-append_more, within_front, within_back, Ends, ends_below, Begins, begins}
+use Rattle.vx_grammar.proofs.Lists.{tokens-append_more, within_front, within_back, Ends, ends_below, begins}
 use Rattle.vx_grammar.proofs.Complete.{is_read, enclosed_reads, primary_is_read, arguments_are_read}
 
 abbrev Toks : List Mark → List Token → List Token

@@ -1,21 +1,19 @@
 -- What reading right sides, and statements that begin with a name, tells.
-use Rattle.std.proofs.Common.{◌≡◌, ℕ, ◌+◌, ◌≤◌, List, [], ◌∷◌, ◌++◌, Bool, true, false, Ok, Err, length, refl, sym, ap, subst, ◌∙◌, append_assoc, arith, cond, inl, inr}
+use Rattle.std.proofs.Common.{◌≡◌, ℕ, ◌+◌, List, [], ◌∷◌, ◌++◌, Bool, true, false, Ok, Err, length, refl, sym, ap, subst, ◌∙◌, arith, cond, inl, inr}
 use Rattle.std.proofs.lemmas.List.{append-nil}
 use Rattle.vx_ast.specs.declared.Place.{Place}
-use Rattle.vx_ast.specs.declared.UnaryOperator.{UnaryOperator}
-use Rattle.vx_ast.specs.declared.UnaryOperator.TheVariants.{Not, Negate}
-use Rattle.vx_ast.specs.Written.{Expr, NoMore, Right, Value, NewAll, New, Stmt, Assign, Write, Invoke}
+use Rattle.vx_ast.specs.Written.{Expr, NoMore, Right, Value, Stmt, Assign, Write, Invoke}
 use Rattle.vx_tokens.specs.declared.token.Word.TheVariants as words
 use Rattle.vx_tokens.specs.declared.token.Symbol.TheVariants as signs
 use Rattle.vx_tokens.specs.Tokens.{Token, Kind, name, word, symbol}
-use Rattle.vx_grammar.specs.Grammar.{Phrase, literal, constant, numeral, named, called, dotted, grouped, past, accessed, prefixed, joined, chosen, prefix_sign, literal_word, constant_word, dots, operators, level_of, sign_of, Mark, mark, marks, tokens_of, start_of, meant, StandsAt, arguments_meant, arguments_marks, ArgumentsStand}
-use Rattle.vx_grammar.specs.Statements.{NamesPhrase, no_names, next_name, FieldsPhrase, RightPhrase, given, allocated, names_meant, fields_meant, right_meant, RightStands, names_marks, fields_marks, right_marks, IsPath, StmtPhrase, assigned, stored, invoked, targeted, stmt_meant, stmt_marks, StandsStmt}
-use Rattle.vx_grammar.specs.Reading.{◌>>=◌, Read, Unexpected, TooDeep, is_symbol, expect, run, name_at, name_turn, arguments, allocation, enclosed, postfix_by, choice_at, below}
+use Rattle.vx_grammar.specs.Grammar.{Phrase, literal, constant, numeral, named, called, dotted, grouped, past, accessed, prefixed, joined, chosen, literal_word, dots, level_of, Mark, mark, marks, tokens_of, start_of, meant, StandsAt, arguments_meant}
+use Rattle.vx_grammar.specs.Statements.{NamesPhrase, no_names, next_name, RightPhrase, given, allocated, names_meant, right_meant, RightStands, names_marks, right_marks, IsPath, assigned, stored, invoked, targeted}
+use Rattle.vx_grammar.specs.Reading.{Read, Unexpected, TooDeep, expect, run, name_at, name_turn, arguments, allocation, enclosed, postfix_by, choice_at, below}
 use Rattle.vx_grammar.specs.StmtReading.{begins_new, value_at, right_at, assign_one, invoke_at, assigned_by, assign_at, store_at, by_target, target_at}
 use Rattle.vx_grammar.proofs.Lists.{tokens-append_more, chain_or_implies}
-use Rattle.vx_grammar.proofs.Tells.{Grammar, Starts, Takes, Tells, TellsOk, After, GoesOn, Sign, starts_sign, somewhere, marks_is, NameFor, starts_name, name_tells, tells_then, tells_as, tells_here, tells_unexpected, tells_expect}
+use Rattle.vx_grammar.proofs.Tells.{Grammar, Starts, Tells, After, GoesOn, Sign, starts_sign, somewhere, marks_is, NameFor, starts_name, name_tells, tells_then, tells_as, tells_here, tells_unexpected, tells_expect}
 use Rattle.vx_grammar.proofs.Sequence.{Sequence, Nothing, tells_sequence, starts_sequence, starts_nothing, tells_nothing}
-use Rattle.vx_grammar.proofs.Steps.{StepsFor, no_steps, run_tells}
+use Rattle.vx_grammar.proofs.Steps.{StepsFor, run_tells}
 use Rattle.vx_grammar.proofs.Bracketed.{Nested, Bracketed, starts_bracketed, led_tells}
 use Rattle.vx_grammar.proofs.PhraseFor.{PhraseFor, starts_any, count_down, behind_phrase}
 use Rattle.vx_grammar.proofs.PrimaryTells.{ArgumentsFor, starts_arguments, arguments_tells, enclosed_tells}
