@@ -16,6 +16,8 @@ pub mod Sequence
 pub mod Bracketed
 pub mod StmtTells
 pub mod StmtFor
+pub mod InvariantsTold
+pub mod InvariantsRead
 pub mod TargetTold
 pub mod TargetReads
 pub mod StmtTold

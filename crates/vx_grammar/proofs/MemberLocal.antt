@@ -8,8 +8,8 @@ use Rattle.vx_tokens.specs.declared.token.Word.TheVariants as words
 use Rattle.vx_tokens.specs.Tokens.{Token, Kind, word}
 use Rattle.vx_grammar.specs.Grammar.{Mark}
 use Rattle.vx_grammar.specs.Reading.{◌>>=◌, Read, Unexpected, TooDeep, is_symbol, choice_at, below, name_at}
-use Rattle.vx_grammar.specs.StmtReading.{declaration_at, block_at, stmts_below, skip_semicolon}
-use Rattle.vx_grammar.specs.MemberReading.{limit, Clauses, no_clauses, with_requires, with_ensures, begins_requires, begins_ensures, clause_at, clause_turn, clauses_at, method_at, field_at, member_by, member_at, declaration_turn, declarations_at, inner_parameters_at, parameters_at, begins_returns, returns_at}
+use Rattle.vx_grammar.specs.StmtReading.{clause_at, declaration_at, block_at, stmts_below, skip_semicolon}
+use Rattle.vx_grammar.specs.MemberReading.{limit, Clauses, no_clauses, with_requires, with_ensures, begins_requires, begins_ensures, clause_turn, clauses_at, method_at, field_at, member_by, member_at, declaration_turn, declarations_at, inner_parameters_at, parameters_at, begins_returns, returns_at}
 use Rattle.vx_grammar.proofs.Tells.{Tells}
 use Rattle.vx_grammar.proofs.Steps.{TurnFor}
 use Rattle.vx_grammar.proofs.MemberTold.{DeclarationStep, turn_tells}

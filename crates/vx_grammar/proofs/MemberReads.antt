@@ -11,9 +11,9 @@ use Rattle.vx_grammar.specs.Grammar.{Phrase, Mark, mark, marks, meant, StandsAt,
 use Rattle.vx_grammar.specs.Statements.{declaration_meant, declaration_marks, BlockPhrase, block, block_marks, row_marks, semi_marks}
 use Rattle.vx_grammar.specs.Programs.{MoreDeclarations, no_more, listed, DeclarationsPhrase, none, some, ParametersPhrase, ReturnsPhrase, no_returns, returns, more_meant, declarations_meant, returns_meant, more_marks, declarations_marks, parameters_marks, returns_marks, ClausesPhrase, no_clauses, requires, ensures, StandsClauses, clauses_marks, MethodPhrase, method_meant, StandsMethod, method_marks, MemberPhrase, a_field, a_method, member_meant, member_marks, StandsMember, ProgramPhrase, no_members, member, program_meant, StandsProgram, program_marks}
 use Rattle.vx_grammar.specs.Reading.{Read, expect, is_symbol, run, name_at}
-use Rattle.vx_grammar.specs.StmtReading.{skip_semicolon}
+use Rattle.vx_grammar.specs.StmtReading.{clause_at, skip_semicolon}
 use Rattle.vx_grammar.specs.MemberReading as reading
-use Rattle.vx_grammar.specs.MemberReading.{Clauses, with_requires, with_ensures, begins_requires, begins_ensures, clause_at, clause_turn, clauses_at, limit, max_members, method_of, method_at, field_at, member_at, begins_member, declaration_turn, declarations_at, is_closing, inner_parameters_at, parameters_at, begins_returns, returns_at, members_by, members_within, members_at}
+use Rattle.vx_grammar.specs.MemberReading.{Clauses, with_requires, with_ensures, begins_requires, begins_ensures, clause_turn, clauses_at, limit, max_members, method_of, method_at, field_at, member_at, begins_member, declaration_turn, declarations_at, is_closing, inner_parameters_at, parameters_at, begins_returns, returns_at, members_by, members_within, members_at}
 use Rattle.vx_grammar.specs.Laws.{Within}
 use Rattle.vx_grammar.specs.ProgramLaws.{SpelledProgramsAreRead}
 use Rattle.vx_grammar.proofs.Lists.{tokens-append_more, within_front, within_back, Ends}

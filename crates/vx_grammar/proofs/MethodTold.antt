@@ -12,9 +12,9 @@ use Rattle.vx_grammar.specs.Grammar.{Phrase, Mark, mark, marks, meant, StandsAt}
 use Rattle.vx_grammar.specs.Statements.{semi_marks, block_marks}
 use Rattle.vx_grammar.specs.Programs.{ClausesPhrase, no_clauses, requires, ensures, requires_meant, ensures_meant, StandsClauses, clauses_marks, MethodPhrase, method_meant, StandsMethod, method_marks, parameters_marks, returns_marks}
 use Rattle.vx_grammar.specs.Reading.{◌>>=◌, TooDeep, is_symbol, choice_at, below, name_at, exprs_from}
-use Rattle.vx_grammar.specs.StmtReading.{skip_semicolon, block_at, stmts_below}
+use Rattle.vx_grammar.specs.StmtReading.{clause_at, skip_semicolon, block_at, stmts_below}
 use Rattle.vx_grammar.specs.MemberReading as reading
-use Rattle.vx_grammar.specs.MemberReading.{Clauses, with_requires, with_ensures, begins_requires, begins_ensures, clause_at, clause_turn, clauses_at, limit, method_of, method_at, parameters_at, returns_at}
+use Rattle.vx_grammar.specs.MemberReading.{Clauses, with_requires, with_ensures, begins_requires, begins_ensures, clause_turn, clauses_at, limit, method_of, method_at, parameters_at, returns_at}
 use Rattle.vx_grammar.proofs.Symbols.{is_symbol_true}
 use Rattle.vx_grammar.proofs.Tells.{Grammar, Starts, Tells, takes_none, tells_as, tells_here, tells_token, marks_is, NameFor, name_tells}
 use Rattle.vx_grammar.proofs.Sequence.{Sequence, Nothing, tells_sequence, starts_sequence, starts_nothing, tells_nothing}

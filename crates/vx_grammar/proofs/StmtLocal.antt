@@ -11,12 +11,17 @@ use Rattle.vx_tokens.specs.declared.token.Symbol.TheVariants as signs
 use Rattle.vx_tokens.specs.Tokens.{Token, Kind, name, word}
 use Rattle.vx_grammar.specs.Grammar.{tokens_of}
 use Rattle.vx_grammar.specs.Reading.{Part, allocation, arguments, run, name_turn, postfix_by, unary_by, unary_at, enclosed, ◌>>=◌, Read, Unexpected, TooDeep, expect, is_symbol, choice, choice_at, below, name_at}
-use Rattle.vx_grammar.specs.StmtReading.{StmtPart, statements, elseif_part, StmtDeeper, stmt_part, stmts_below, type_by, type_at, declaration_at, block_at, otherwise_by, otherwise_at, branch_at, initial_by, initial_at, declare_at, begins_new, value_at, right_at, assign_one, invoke_at, assigned_by, assign_at, store_at, by_target, target_at, claim_at, stmt_by, stmt_at, begins_stmt, stmts_at, block_from}
+use Rattle.vx_grammar.specs.StmtReading.{skip_semicolon, clause_at, begins_invariant, invariant_turn, invariants_at, while_at, StmtPart, statements, elseif_part, StmtDeeper, stmt_part, stmts_below, type_by, type_at, declaration_at, block_at, otherwise_by, otherwise_at, branch_at, initial_by, initial_at, declare_at, begins_new, value_at, right_at, assign_one, invoke_at, assigned_by, assign_at, store_at, by_target, target_at, claim_at, stmt_by, stmt_at, begins_stmt, stmts_at, block_from}
 use Rattle.vx_grammar.proofs.Tells.{Tells, TellsOk}
 use Rattle.vx_grammar.proofs.Rows.{rows, rows_local, LocalRows}
 use Rattle.vx_grammar.proofs.Local.{Local, local_ok, local_unexpected, local_end, local_end_unexpected, local_return, local_token, local_then, local_expect, local_same}
 use Rattle.vx_grammar.proofs.LocalParts.{name_local, bracket_local}
-use Rattle.vx_grammar.proofs.RunLocal.{run_local}
+use Rattle.vx_grammar.proofs.RunLocal.{Turns, run_local, taken_short, taken_none}
+use Rattle.vx_grammar.proofs.Steps.{TurnFor}
+use Rattle.vx_grammar.proofs.InvariantsTold.{InvariantStep, invariant_turn_tells}
+use Rattle.std.proofs.Common.{◌-◌, ◌≤◌, leb, Some}
+use Rattle.vx_grammar.specs.Grammar.{Mark}
+use Rattle.std.proofs.lemmas.Bool.{leb-true, le-leb}
 use Rattle.vx_grammar.proofs.LocalExpr.{reading_local, nested_local, local_from_first, operand_local, name_turns}
 use Rattle.vx_grammar.proofs.StmtFor.{StmtFor, stmts_are_rows}
 use Rattle.vx_grammar.proofs.StmtTold.{stmt_reading_tells}
@@ -108,6 +113,67 @@ declare_local : (room more : ℕ) (place : Place) (ts : List Token) → Local ts
 unfolding declare_at
 declare_local room more place ts = local_then ts (declaration_at ts) declaration_at _ _ (declaration_local ts) (λ d us. initial_local room more place d us)
 
+-- ---- loops
+
+local_eq : {A : Type 0} (ts : List Token) (r : Read A) (reader other : List Token → Read A) → ((l : List Token) → other l ≡ reader l) → Local ts r reader → Local ts r other
+local_eq ts (Ok x) reader other h f = record { front = f.front; is = f.is; repeats = λ next same. h (f.front ++ next) ∙ f.repeats next same }
+local_eq ts (Err (Unexpected rest)) reader other h f = record { front = f.front; is = f.is; repeats = λ next same. h (f.front ++ next) ∙ f.repeats next same }
+local_eq ts (Err (TooDeep rest)) reader other h f = tt
+
+clause_by_local : (room more before : ℕ) (here ts : List Token) (heres : List Token → List Token) (b : Bool) → leb before room ≡ b → Local ts (cond b (choice_at (below (room - before)) ts) (Err (TooDeep here))) (λ l. clause_at (room + more) before (heres l) l)
+unfolding clause_at
+clause_by_local room more before here ts heres true h =
+    let le : before ≤ room = leb-true _ _ h in
+    let b : leb before (room + more) ≡ true = le-leb _ _ (omega (arith, le)) in
+    let r : (room + more) - before ≡ (room - before) + more = omega (arith, le) in
+    local_eq ts (choice_at (below (room - before)) ts) (choice_at (below ((room - before) + more))) (λ l. clause_at (room + more) before (heres l) l) (λ l. rw (b, r) refl) (reading_local (room - before) more ts)
+clause_by_local room more before here ts heres false h = tt
+
+clause_room_local : (room more before : ℕ) (here ts : List Token) (heres : List Token → List Token) → Local ts (clause_at room before here ts) (λ l. clause_at (room + more) before (heres l) l)
+unfolding clause_at
+clause_room_local room more before here ts heres = clause_by_local room more before here ts heres (leb before room) refl
+
+by_semi : {A : Type 0} (v : A) (t : Token) (ts : List Token) (b : Bool) → is_symbol signs.Semicolon t.kind ≡ b → Local (t ∷ ts) (Ok (v, cond b ts (t ∷ ts))) (λ l. Ok (v, skip_semicolon l))
+by_semi v t ts true e = local_token t ts (Ok (v, ts)) (λ l. Ok (v, l)) (λ l. Ok (v, skip_semicolon l)) (λ l. rw e refl) (local_return ts v)
+by_semi v t ts false e = local_ok t ts v (λ l. Ok (v, skip_semicolon l)) (λ more. rw e refl)
+
+semi_local : {A : Type 0} (v : A) (ts : List Token) → Local ts (Ok (v, skip_semicolon ts)) (λ l. Ok (v, skip_semicolon l))
+semi_local v [] = local_end v (λ l. Ok (v, skip_semicolon l)) refl
+semi_local v (t ∷ ts) = by_semi v t ts (is_symbol signs.Semicolon t.kind) refl
+
+invariant_by_local : (room more : ℕ) (before : List Expr) (t : Token) (ts : List Token) (b : Bool) → begins_invariant t.kind ≡ b → Local (t ∷ ts) (cond b (clause_at room (length before) (t ∷ ts) ts >>= λ e. Ok (Some (before ++ e.0 ∷ []), skip_semicolon e.1)) (Ok (None, t ∷ ts))) (invariant_turn (room + more) before)
+unfolding invariant_turn
+invariant_by_local room more before t ts true e = local_token t ts _ (λ l. clause_at (room + more) (length before) (t ∷ l) l >>= λ x. Ok (Some (before ++ x.0 ∷ []), skip_semicolon x.1)) (invariant_turn (room + more) before) (λ l. rw e refl) (local_then ts (clause_at room (length before) (t ∷ ts) ts) (λ l. clause_at (room + more) (length before) (t ∷ l) l) _ _ (clause_room_local room more (length before) (t ∷ ts) ts (λ l. t ∷ l)) (λ x us. semi_local _ us))
+invariant_by_local room more before t ts false e = local_ok t ts None (invariant_turn (room + more) before) (λ l. rw e refl)
+
+invariant_turn_local : (room more : ℕ) (before : List Expr) (ts : List Token) → Local ts (invariant_turn room before ts) (invariant_turn (room + more) before)
+unfolding invariant_turn
+invariant_turn_local room more before [] = local_end None (invariant_turn (room + more) before) refl
+invariant_turn_local room more before (t ∷ ts) = invariant_by_local room more before t ts (begins_invariant t.kind) refl
+
+invariant_long : (n : ℕ) (s t : List Expr) (ms : List Mark) → InvariantStep n s t ms → 1 ≤ length ms
+invariant_long n s t ms c = rw c.spelled (omega arith)
+
+invariant_turns : (room more : ℕ) → Turns (invariant_turn room) (invariant_turn (room + more))
+unfolding invariant_turn
+invariant_turns room more = record {
+  local = invariant_turn_local room more;
+  short = λ s t ts mid e. taken_short (TurnFor (InvariantStep 0) s) room ts (Some t) mid (invariant_long 0 s t) (subst (Tells (TurnFor (InvariantStep 0) s) room ts) e (invariant_turn_tells room 0 room (omega arith) s ts));
+  same = λ s ts mid e. taken_none (TurnFor (InvariantStep 0) s) room ts None mid (λ ms z. z) (subst (Tells (TurnFor (InvariantStep 0) s) room ts) e (invariant_turn_tells room 0 room (omega arith) s ts));
+  empty = λ s. refl;
+}
+
+invariants_local : (room more : ℕ) (ts : List Token) → Local ts (invariants_at room ts) (invariants_at (room + more))
+unfolding invariants_at
+invariants_local room more ts = local_then ts (run (invariant_turn room) (length ts) [] ts) (λ l. run (invariant_turn (room + more)) (length l) [] l) _ _ (run_local (invariant_turn room) (invariant_turn (room + more)) (invariant_turns room more) [] ts) (λ es us. local_return us _)
+
+while_local : (room more : ℕ) (d d' : StmtDeeper) (place : Place) (ts : List Token) → StmtLocal d d' → Local ts (while_at room d place ts) (while_at (room + more) d' place)
+unfolding while_at
+while_local room more d d' place ts h =
+    local_then ts (enclosed (below room) choice ts) (enclosed (below (room + more)) choice) _ _ (condition_local room more ts) (λ e us.
+    local_then us (invariants_at room us) (invariants_at (room + more)) _ _ (invariants_local room more us) (λ is vs.
+    local_then vs (block_at d vs) (block_at d') _ _ (block_local d d' vs h) (λ b ws. local_return ws _)))
+
 -- ---- statements that begin with a name
 
 nothing_local : {A : Type 0} (ts : List Token) → (let r : Read A = Err (Unexpected ts) in Local ts r (λ l. Err (Unexpected l)))
@@ -150,6 +216,7 @@ stmt_by_local room more d d' t (word words.Exhale) ts e h = local_token t ts (cl
 stmt_by_local room more d d' t (word words.Assert) ts e h = local_token t ts (claim_at room asserts t.place ts) (claim_at (room + more) asserts t.place) (stmt_at (room + more) d') (λ l. rw e refl) (made_local room more (claim_meant asserts t.place) ts)
 stmt_by_local room more d d' t (word words.Assume) ts e h = local_token t ts (claim_at room assumes t.place ts) (claim_at (room + more) assumes t.place) (stmt_at (room + more) d') (λ l. rw e refl) (made_local room more (claim_meant assumes t.place) ts)
 stmt_by_local room more d d' t (word words.If) ts e h = local_token t ts (branch_at room d t.place ts) (branch_at (room + more) d' t.place) (stmt_at (room + more) d') (λ l. rw e refl) (branch_local room more d d' t.place ts h)
+stmt_by_local room more d d' t (word words.While) ts e h = local_token t ts (while_at room d t.place ts) (while_at (room + more) d' t.place) (stmt_at (room + more) d') (λ l. rw e refl) (while_local room more d d' t.place ts h)
 stmt_by_local room more d d' t k ts e h = local_unexpected t ts (stmt_at (room + more) d') (λ l. rw e refl)
 
 stmt_local : (room more : ℕ) (d d' : StmtDeeper) (ts : List Token) → StmtLocal d d' → Local ts (stmt_at room d ts) (stmt_at (room + more) d')

@@ -9,9 +9,9 @@ use Rattle.vx_tokens.specs.declared.token.Word.TheVariants as words
 use Rattle.vx_tokens.specs.declared.token.Symbol.TheVariants as signs
 use Rattle.vx_tokens.specs.Tokens.{Token, Kind, name, word, symbol}
 use Rattle.vx_grammar.specs.Grammar.{Phrase, dotted, start_of, Mark, mark, marks, meant, StandsAt, tokens_of}
-use Rattle.vx_grammar.specs.Statements.{DeclarationPhrase, Claim, inhales, exhales, asserts, assumes, claim_word, claim_meant, type_word, declaration_meant, declaration_marks, StmtPhrase, assigned, stored, invoked, targeted, right_marks, IsPath, declared, initialized, claimed, branched, BranchPhrase, branch, OtherPhrase, no_other, other, another, BlockPhrase, block, RowPhrase, no_more, more, stmt_meant, branch_meant, other_meant, block_meant, row_meant, StandsStmt, StandsBranch, StandsOther, StandsBlock, StandsRow, stmt_marks, branch_marks, other_marks, block_marks, row_marks, semi_marks}
+use Rattle.vx_grammar.specs.Statements.{InvariantsPhrase, repeated, invariants_marks, DeclarationPhrase, Claim, inhales, exhales, asserts, assumes, claim_word, claim_meant, type_word, declaration_meant, declaration_marks, StmtPhrase, assigned, stored, invoked, targeted, right_marks, IsPath, declared, initialized, claimed, branched, BranchPhrase, branch, OtherPhrase, no_other, other, another, BlockPhrase, block, RowPhrase, no_more, more, stmt_meant, branch_meant, other_meant, block_meant, row_meant, StandsStmt, StandsBranch, StandsOther, StandsBlock, StandsRow, stmt_marks, branch_marks, other_marks, block_marks, row_marks, semi_marks}
 use Rattle.vx_grammar.specs.Reading.{enclosed, Read, expect, is_symbol, choice, choice_at, below, name_at}
-use Rattle.vx_grammar.specs.StmtReading.{StmtDeeper, statements, elseif_part, stmts_below, type_by, type_at, declaration_at, block_at, otherwise_by, otherwise_at, branch_at, initial_by, initial_at, declare_at, claim_at, stmt_at, begins_stmt, stmts_at, block_from}
+use Rattle.vx_grammar.specs.StmtReading.{while_at, StmtDeeper, statements, elseif_part, stmts_below, type_by, type_at, declaration_at, block_at, otherwise_by, otherwise_at, branch_at, initial_by, initial_at, declare_at, claim_at, stmt_at, begins_stmt, stmts_at, block_from}
 use Rattle.vx_grammar.specs.Nesting.{nests, stmt_nests}
 use Rattle.vx_grammar.specs.Laws.{Within}
 use Rattle.vx_grammar.proofs.Lists.{tokens-append_more, within_front, within_back, reach, Ends}
@@ -19,6 +19,7 @@ use Rattle.vx_grammar.proofs.Complete.{is_read}
 use Rattle.vx_grammar.proofs.Rows.{rows_read, RowFor, RowOver, ReadsItem, Semi}
 use Rattle.vx_grammar.proofs.StmtFor.{StmtFor, stmts_are_rows}
 use Rattle.vx_grammar.proofs.TargetReads.{right_reads, path_first, assigned_reads, stored_reads, invoked_reads, targeted_reads}
+use Rattle.vx_grammar.proofs.InvariantsRead.{invariants_are_read}
 
 -- ---- what may follow a statement
 
@@ -44,6 +45,7 @@ over_kind (word words.Exhale) h = (omega arith, refl, refl)
 over_kind (word words.Assert) h = (omega arith, refl, refl)
 over_kind (word words.Assume) h = (omega arith, refl, refl)
 over_kind (word words.If) h = (omega arith, refl, refl)
+over_kind (word words.While) h = (omega arith, refl, refl)
 over_kind k h = absurd cc
 
 not_semi : (k : Kind) → begins_stmt k ≡ true → is_symbol signs.Semicolon k ≡ false
@@ -54,6 +56,7 @@ not_semi (word words.Exhale) h = refl
 not_semi (word words.Assert) h = refl
 not_semi (word words.Assume) h = refl
 not_semi (word words.If) h = refl
+not_semi (word words.While) h = refl
 not_semi k h = absurd cc
 
 -- ---- declarations
@@ -170,6 +173,23 @@ claim_begins exhales = refl
 claim_begins asserts = refl
 claim_begins assumes = refl
 
+while_reads : (limit n room : ℕ) (p o : Place) (w : Phrase) (c : Place) (is : InvariantsPhrase) (b : BlockPhrase) (ts : List Token) → n + room ≡ limit → StmtReadsBelow limit room → Within limit (stmt_marks n (repeated p o w c is b)) → StandsStmt (repeated p o w c is b)
+    → stmt_at room (stmts_below room) (Toks (stmt_marks n (repeated p o w c is b)) ts) ≡ Ok (stmt_meant (repeated p o w c is b), ts)
+unfolding stmt_at while_at
+while_reads limit n room p o w c is b ts e below' h st =
+    let close = mark (n + 1) c (symbol signs.Close) in
+    let tail = invariants_marks n 0 is ++ block_marks n b in
+    let hw = within_front limit (marks (n + 1) w) (close ∷ tail) h.1.1 in
+    let ht = (within_back limit (marks (n + 1) w) (close ∷ tail) h.1.1).1 in
+    let hi = within_front limit (invariants_marks n 0 is) (block_marks n b) ht in
+    let hb = within_back limit (invariants_marks n 0 is) (block_marks n b) ht in
+    let first : tokens_of (marks (n + 1) w ++ close ∷ tail) ++ ts ≡ Toks (marks (n + 1) w) (close.token ∷ (tokens_of tail ++ ts)) = tokens-append_more (marks (n + 1) w) (close ∷ tail) ts in
+    let second : tokens_of tail ++ ts ≡ Toks (invariants_marks n 0 is) (Toks (block_marks n b) ts) = tokens-append_more (invariants_marks n 0 is) (block_marks n b) ts in
+    let condition = condition_reads limit n room o c w (tokens_of tail ++ ts) e h.1.0 hw st.0 in
+    let kept = invariants_are_read limit n room is b ts e hi st.1 in
+    let inside = block_reads limit n room b ts e below' hb st.2 in
+    rw (first, condition, second, kept, inside) refl
+
 stmt_reads : (limit n room : ℕ) (w : StmtPhrase) (ts : List Token) → n + room ≡ limit → StmtReadsBelow limit room → Within limit (stmt_marks n w) → StandsStmt w → StmtOver ts → stmt_at room (stmts_below room) (Toks (stmt_marks n w) ts) ≡ Ok (stmt_meant w, ts)
 unfolding stmt_at claim_at declare_at initial_at initial_by expect
 stmt_reads limit n room (assigned p x q r) ts s below' h st ends = assigned_reads limit n room (stmts_below room) p x q r ts s h st (over_ends ts ends)
@@ -185,6 +205,7 @@ stmt_reads limit n room (initialized p d q r) ts s below' h st ends =
     rw (list, declaration_reads n d (m.token ∷ Toks (right_marks n r) ts), value) refl
 stmt_reads limit n room (claimed c p e) ts s below' h st ends = claim_is c p n room (meant e) (Toks (marks n e) ts) ts (expr_reads limit n room e ts s h.1 st (over_ends ts ends))
 stmt_reads limit n room (branched p b) ts s below' h st ends = branch_reads_at limit n room p b ts s below' h.1 st ends
+stmt_reads limit n room (repeated p o e c is b) ts s below' h st ends = while_reads limit n room p o e c is b ts s below' h st
 
 -- statements within the limit
 abbrev StmtWithin : ℕ → ℕ → Stmt → List Mark → Type 0
@@ -204,6 +225,7 @@ stmt_first n (declared p d) st = (_, _, refl, refl)
 stmt_first n (initialized p d q e) st = (_, _, refl, refl)
 stmt_first n (claimed c p e) st = (_, _, refl, claim_begins c)
 stmt_first n (branched p b) st = (_, _, refl, refl)
+stmt_first n (repeated p o e c is b) st = (_, _, refl, refl)
 
 item_first : (limit n : ℕ) (s : Stmt) (ms : List Mark) → StmtWithin limit n s ms → (m : Mark) × (rest : List Mark) × (ms ≡ m ∷ rest) × (begins_stmt m.token.kind ≡ true)
 item_first limit n s ms g = let f = stmt_first n g.0.phrase g.0.stands in (f.0, f.1, sym g.0.spelled ∙ f.2, f.3)

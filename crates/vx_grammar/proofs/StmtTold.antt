@@ -2,14 +2,14 @@
 use Rattle.std.proofs.Common.{◌≡◌, ℕ, zero, suc, ◌+◌, ◌≤◌, List, [], ◌∷◌, ◌++◌, Some, None, Bool, true, false, Ok, length, refl, sym, ap, subst, ◌∙◌, append_assoc, arith, cond, inl, inr, ◌⊎◌}
 use Rattle.std.proofs.lemmas.List.{append-nil}
 use Rattle.vx_ast.specs.declared.Place.{Place}
-use Rattle.vx_ast.specs.Written.{Expr, Declaration, Stmt, Block, Declare, If, Done, Then}
+use Rattle.vx_ast.specs.Written.{Expr, Declaration, Stmt, Block, Declare, If, While, Done, Then}
 use Rattle.vx_tokens.specs.declared.token.Word.TheVariants as words
 use Rattle.vx_tokens.specs.declared.token.Symbol.TheVariants as signs
 use Rattle.vx_tokens.specs.Tokens.{Token, Kind, name, word, symbol}
 use Rattle.vx_grammar.specs.Grammar.{Phrase, Mark, mark, marks, meant, StandsAt}
-use Rattle.vx_grammar.specs.Statements.{StmtPhrase, RightPhrase, right_meant, RightStands, right_marks, declared, initialized, Claim, inhales, exhales, asserts, assumes, claim_word, claim_meant, claimed, branched, branch, no_other, other, another, block}
+use Rattle.vx_grammar.specs.Statements.{repeated, invariants_marks, block_marks, StmtPhrase, RightPhrase, right_meant, RightStands, right_marks, declared, initialized, Claim, inhales, exhales, asserts, assumes, claim_word, claim_meant, claimed, branched, branch, no_other, other, another, block}
 use Rattle.vx_grammar.specs.Reading.{enclosed, ◌>>=◌, is_symbol, choice, choice_at, below}
-use Rattle.vx_grammar.specs.StmtReading.{StmtPart, statements, elseif_part, stmt_part, stmts_below, declaration_at, block_at, otherwise_by, otherwise_at, branch_at, initial_by, initial_at, declare_at, right_at, claim_at, stmt_by, stmt_at, begins_stmt, stmts_at, block_from}
+use Rattle.vx_grammar.specs.StmtReading.{invariants_at, while_at, StmtPart, statements, elseif_part, stmt_part, stmts_below, declaration_at, block_at, otherwise_by, otherwise_at, branch_at, initial_by, initial_at, declare_at, right_at, claim_at, stmt_by, stmt_at, begins_stmt, stmts_at, block_from}
 use Rattle.vx_grammar.proofs.Symbols.{is_symbol_true}
 use Rattle.vx_grammar.proofs.Tells.{Grammar, Starts, Tells, takes_none, tells_as, tells_here, tells_unexpected, marks_is}
 use Rattle.vx_grammar.proofs.Rows.{RowFor, tells_rows}
@@ -20,6 +20,7 @@ use Rattle.vx_grammar.proofs.StmtTells.{DeclarationFor, declaration_tells}
 use Rattle.vx_grammar.proofs.StmtFor.{StmtFor, BranchFor, OtherFor, BlockFor, InsideFor, starts_stmt, starts_inside, starts_block, starts_other, starts_branch, row_inside, stmts_are_rows}
 use Rattle.vx_grammar.proofs.PhraseFor.{PhraseFor, starts_any, tells_nested, count_down}
 use Rattle.vx_grammar.proofs.TargetTold.{RightFor, right_tells, target_tells}
+use Rattle.vx_grammar.proofs.InvariantsTold.{InvariantsFor, starts_invariants, invariants_tells}
 
 pub fits : (limit n room : ℕ) → n + room ≡ limit → n ≤ limit
 fits limit n room e = omega (arith, e)
@@ -247,6 +248,36 @@ claim_tells : (limit n room : ℕ) (c : Claim) (t : Token) (ts : List Token) →
 unfolding claim_at
 claim_tells limit n room c t ts e k = expr_tells limit n room t (word (claim_word c)) (claim_meant c t.place) (claimed c t.place) ts e k (λ w st. record { phrase = claimed c t.place w; stands = st; means = refl; spelled = refl })
 
+abbrev WhileParts : ℕ → Place → Grammar Stmt
+WhileParts n place = Sequence (Bracketed n signs.Open signs.Close (PhraseFor (n + 1) 8)) (λ e. Sequence (InvariantsFor n) (λ is. Sequence (BlockFor n) (λ b. Nothing (While place e is b))))
+
+while_of : (n : ℕ) (t : Token) → t.kind ≡ word words.While → (s : Stmt) (ms : List Mark) → LedFor n t (WhileParts n t.place) s ms → StmtFor n s ms
+while_of n t k s ms h = by_parts h.inner h.is h.spelled
+  where
+    by_parts : (inner : List Mark) → (let m : Mark = record { token = t; count = n } in ms ≡ m ∷ inner) → WhileParts n t.place s inner → StmtFor n s ms
+    by_parts inner is (e, a, a', q, c, (es, f, f', q', i, (b, g, g', q'', d, (v, z)))) =
+        let close = mark (n + 1) c.to (symbol signs.Close) in
+        let tail : f' ≡ block_marks n d.phrase = q'' ∙ rw z (append-nil g) ∙ sym d.spelled in
+        let rest : a' ≡ invariants_marks n 0 i.phrase ++ block_marks n d.phrase = q' ∙ ap (λ l. l ++ f') (sym i.spelled) ∙ ap (λ l. invariants_marks n 0 i.phrase ++ l) tail in
+        let all : inner ≡ mark (n + 1) c.from (symbol signs.Open) ∷ (marks (n + 1) c.spelled.phrase ++ close ∷ (invariants_marks n 0 i.phrase ++ block_marks n d.phrase)) =
+        q ∙ ap (λ l. l ++ a') (c.is ∙ ap (λ l. mark (n + 1) c.from (symbol signs.Open) ∷ (l ++ close ∷ [])) (sym c.spelled.spelled)) ∙ ap (λ l. mark (n + 1) c.from (symbol signs.Open) ∷ l) (append_assoc (marks (n + 1) c.spelled.phrase) (close ∷ []) a' ∙ ap (λ l. marks (n + 1) c.spelled.phrase ++ close ∷ l) rest) in
+        record {
+          phrase = repeated t.place c.from c.spelled.phrase c.to i.phrase d.phrase;
+          stands = (c.spelled.stands, i.stands, d.stands);
+          means = rw (c.spelled.means, i.means, d.means) (sym v);
+          spelled = marks_is t (word words.While) n _ k ∙ ap (λ l. let m : Mark = record { token = t; count = n } in m ∷ l) (sym all) ∙ sym is;
+        }
+
+while_tells : (limit n room : ℕ) (t : Token) (ts : List Token) → n + room ≡ limit → StmtToldBelow limit room → t.kind ≡ word words.While → Tells (StmtFor n) limit (t ∷ ts) (while_at room (stmts_below room) t.place ts)
+unfolding while_at
+while_tells limit n room t ts e told k =
+    tells_as (LedFor n t (WhileParts n t.place)) (StmtFor n) limit (t ∷ ts) _ (while_of n t k)
+    (led_tells (WhileParts n t.place) limit n t ts _ (fits limit n room e)
+    (tells_sequence (Bracketed n signs.Open signs.Close (PhraseFor (n + 1) 8)) _ limit ts (enclosed (below room) choice ts) _ (λ c. starts_sequence (InvariantsFor n) _ (starts_invariants n) (λ is. starts_sequence (BlockFor n) _ (starts_block n) (λ b. starts_nothing _))) (condition_tells limit n room ts e)
+    (λ c us. tells_sequence (InvariantsFor n) _ limit us (invariants_at room us) _ (λ is. starts_sequence (BlockFor n) _ (starts_block n) (λ b. starts_nothing _)) (invariants_tells limit n room us e)
+    (λ is vs. tells_sequence (BlockFor n) _ limit vs (block_at (stmts_below room) vs) _ (λ b. starts_nothing _) (block_tells limit n room vs e told)
+    (λ b ws. tells_nothing limit ws _)))))
+
 stmt_by_tells : (limit n room : ℕ) (t : Token) (k : Kind) (ts : List Token) → n + room ≡ limit → StmtToldBelow limit room → t.kind ≡ k → Tells (StmtFor n) limit (t ∷ ts) (stmt_by room (stmts_below room) t k ts)
 stmt_by_tells limit n room t (name x) ts e told k = target_tells limit n room t x ts e k
 stmt_by_tells limit n room t (word words.Var) ts e told k = declare_tells limit n room t ts e k
@@ -256,6 +287,7 @@ stmt_by_tells limit n room t (word words.Assert) ts e told k = claim_tells limit
 stmt_by_tells limit n room t (word words.Assume) ts e told k = claim_tells limit n room assumes t ts e k
 stmt_by_tells limit n room t (word words.If) ts e told k =
     tells_as (LedFor n t (BranchFor n t.place)) (StmtFor n) limit (t ∷ ts) _ (if_of n t k) (led_tells (BranchFor n t.place) limit n t ts _ (fits limit n room e) (branch_tells_at limit n room t.place ts e told))
+stmt_by_tells limit n room t (word words.While) ts e told k = while_tells limit n room t ts e told k
 stmt_by_tells limit n room t k ts e told h = tells_unexpected (StmtFor n) limit (t ∷ ts) (starts_stmt n)
 
 stmt_tells : (limit n room : ℕ) (ts : List Token) → n + room ≡ limit → StmtToldBelow limit room → Tells (StmtFor n) limit ts (stmt_at room (stmts_below room) ts)

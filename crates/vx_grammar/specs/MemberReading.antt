@@ -6,7 +6,7 @@ use Rattle.vx_tokens.specs.declared.token.Symbol.TheVariants as signs
 use Rattle.vx_tokens.specs.Tokens.{Kind, word, Token}
 use Rattle.vx_ast.specs.Written.{Expr, Declaration, Block, IsField, IsMethod, Member, Program}
 use Rattle.vx_grammar.specs.Reading.{Stop, Unexpected, TooDeep, Read, ◌>>=◌, Turn, run, is_symbol, expect, name_at, choice_at, below, exprs_from}
-use Rattle.vx_grammar.specs.StmtReading.{declaration_at, block_at, stmts_below, skip_semicolon}
+use Rattle.vx_grammar.specs.StmtReading.{clause_at, declaration_at, block_at, stmts_below, skip_semicolon}
 
 -- the nesting limit
 abbrev pub limit : ℕ
@@ -74,10 +74,6 @@ begins_requires k = false
 abbrev pub begins_ensures : Kind → Bool
 begins_ensures (word words.Ensures) = true
 begins_ensures k = false
-
--- a clause behind so many of its kind, each of which nests it, where the nesting count may grow to deep
-unfoldable pub clause_at : (deep before : ℕ) → List Token → List Token → Read Expr
-clause_at deep before here ts = if nat_le before deep then choice_at (below (deep - before)) ts else Err (TooDeep here)
 
 -- one clause more
 unfoldable pub clause_turn : ℕ → Turn Clauses

@@ -3,7 +3,7 @@ use Rattle.std.specs.Prelude.{ℕ, ◌+◌, List, [], ◌∷◌, ◌++◌, Optio
 use Rattle.vx_ast.specs.declared.Place.{Place}
 use Rattle.vx_ast.specs.declared.ValueType.{ValueType}
 use Rattle.vx_ast.specs.declared.ValueType.TheVariants as types
-use Rattle.vx_ast.specs.Written.{Expr, Right, Value, NewAll, New, Declaration, Stmt, Block, Declare, Assign, Write, Invoke, Inhale, Exhale, Assert, Assume, If, Done, Then}
+use Rattle.vx_ast.specs.Written.{Expr, Right, Value, NewAll, New, Declaration, Stmt, Block, Declare, Assign, Write, Invoke, Inhale, Exhale, Assert, Assume, If, While, Exprs, NoMore, More, Done, Then}
 use Rattle.vx_tokens.specs.declared.token.Word.{Word}
 use Rattle.vx_tokens.specs.declared.token.Word.TheVariants as words
 use Rattle.vx_tokens.specs.declared.token.Symbol.TheVariants as signs
@@ -100,6 +100,28 @@ abbrev pub right_marks : ℕ → RightPhrase → List Mark
 right_marks n (given e) = marks n e
 right_marks n (allocated p o fs c) = mark n p (word words.New) ∷ mark (n + 1) o (symbol signs.Open) ∷ (fields_marks (n + 1) fs ++ mark (n + 1) c (symbol signs.Close) ∷ [])
 
+abbrev pub semi_marks : ℕ → Option Place → List Mark
+semi_marks n None = []
+semi_marks n (Some p) = mark n p (symbol signs.Semicolon) ∷ []
+
+-- the invariants of a loop, one after the other, each with a semicolon or none
+pub data InvariantsPhrase : Type 0 where
+  no_invariants : InvariantsPhrase
+  invariant : Place → Phrase → Option Place → InvariantsPhrase → InvariantsPhrase
+
+abbrev pub invariants_meant : InvariantsPhrase → Exprs
+invariants_meant no_invariants = NoMore
+invariants_meant (invariant p e semi rest) = More (meant e) (invariants_meant rest)
+
+abbrev pub InvariantsStand : InvariantsPhrase → Type 0
+InvariantsStand no_invariants = ⊤
+InvariantsStand (invariant p e semi rest) = StandsAt 8 e × InvariantsStand rest
+
+-- Behind so many at a loop that stands at nesting count n. An invariant nests as deep as there are earlier ones.
+abbrev pub invariants_marks : ℕ → ℕ → InvariantsPhrase → List Mark
+invariants_marks n k no_invariants = []
+invariants_marks n k (invariant p e semi rest) = mark (n + k) p (word words.Invariant) ∷ (marks (n + k) e ++ (semi_marks n semi ++ invariants_marks n (k + 1) rest))
+
 -- the location of a field: a variable or an application, and fields of it
 abbrev pub IsPath : Phrase → Type 0
 IsPath (named p x) = ⊤
@@ -132,6 +154,8 @@ mutual
     claimed : Claim → Place → Phrase → StmtPhrase
     -- if, and what stands behind it
     branched : Place → BranchPhrase → StmtPhrase
+    -- while ( e ), invariants and a block
+    repeated : Place → Place → Phrase → Place → InvariantsPhrase → BlockPhrase → StmtPhrase
 
   -- a condition between parentheses, a block and the other side
   pub data BranchPhrase : Type 0 where
@@ -164,6 +188,7 @@ abbrev mutual
   stmt_meant (initialized p d q r) = Declare p (declaration_meant d) (Some (right_meant r))
   stmt_meant (claimed c p e) = claim_meant c p (meant e)
   stmt_meant (branched p b) = branch_meant p b
+  stmt_meant (repeated p o e c is b) = While p (meant e) (invariants_meant is) (block_meant b)
 
   -- an `if` whose first token stands there
   pub branch_meant : Place → BranchPhrase → Stmt
@@ -194,6 +219,7 @@ abbrev mutual
   StandsStmt (initialized p d q r) = RightStands r
   StandsStmt (claimed c p e) = StandsAt 8 e
   StandsStmt (branched p b) = StandsBranch b
+  StandsStmt (repeated p o e c is b) = StandsAt 8 e × InvariantsStand is × StandsBlock b
 
   pub StandsBranch : BranchPhrase → Type 0
   StandsBranch (branch o e c b x) = StandsAt 8 e × StandsBlock b × StandsOther x
@@ -212,10 +238,6 @@ abbrev mutual
 
 -- ---- tokens, each with its nesting count
 
-abbrev pub semi_marks : ℕ → Option Place → List Mark
-semi_marks n None = []
-semi_marks n (Some p) = mark n p (symbol signs.Semicolon) ∷ []
-
 -- A parenthesis, a brace and an `elseif` nest one deeper; an `elseif` part lasts to the end of the whole `if`.
 abbrev mutual
   pub stmt_marks : ℕ → StmtPhrase → List Mark
@@ -227,6 +249,7 @@ abbrev mutual
   stmt_marks n (initialized p d q r) = mark n p (word words.Var) ∷ (declaration_marks n d ++ mark n q (symbol signs.Becomes) ∷ right_marks n r)
   stmt_marks n (claimed c p e) = mark n p (word (claim_word c)) ∷ marks n e
   stmt_marks n (branched p b) = mark n p (word words.If) ∷ branch_marks n b
+  stmt_marks n (repeated p o e c is b) = mark n p (word words.While) ∷ mark (n + 1) o (symbol signs.Open) ∷ (marks (n + 1) e ++ mark (n + 1) c (symbol signs.Close) ∷ (invariants_marks n 0 is ++ block_marks n b))
 
   pub branch_marks : ℕ → BranchPhrase → List Mark
   branch_marks n (branch o e c b x) = mark (n + 1) o (symbol signs.Open) ∷ (marks (n + 1) e ++ mark (n + 1) c (symbol signs.Close) ∷ (block_marks n b ++ other_marks n x))

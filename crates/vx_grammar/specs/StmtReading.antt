@@ -1,15 +1,15 @@
 -- Reading statements from left to right.
-use Rattle.std.specs.Prelude.{ℕ, zero, suc, List, [], ◌∷◌, ◌++◌, length, Ok, Err, Some, None, Bool, true, false, if◌then◌else◌}
+use Rattle.std.specs.Prelude.{ℕ, ◌-◌, nat_le, zero, suc, List, [], ◌∷◌, ◌++◌, length, Ok, Err, Some, None, Bool, true, false, if◌then◌else◌}
 use Rattle.vx_ast.specs.declared.Place.{Place}
 use Rattle.vx_ast.specs.declared.ValueType.{ValueType}
 use Rattle.vx_ast.specs.declared.ValueType.TheVariants as types
 use Rattle.vx_tokens.specs.declared.token.Word.TheVariants as words
 use Rattle.vx_tokens.specs.declared.token.Symbol.TheVariants as signs
 use Rattle.vx_tokens.specs.Tokens.{Kind, name, word, Token}
-use Rattle.vx_ast.specs.Written.{Expr, Variable, Call, Right, Value, Declaration, Stmt, Block, Declare, Assign, Write, Invoke, If, Done, Then}
+use Rattle.vx_ast.specs.Written.{Expr, Variable, Call, Right, Value, Declaration, Stmt, Block, Declare, Assign, Write, Invoke, If, While, Exprs, Done, Then}
 use Rattle.vx_ast.specs.Written as written
 use Rattle.vx_grammar.specs.Statements.{Claim, inhales, exhales, asserts, assumes, claim_meant}
-use Rattle.vx_grammar.specs.Reading.{Unexpected, TooDeep, Read, ◌>>=◌, Turn, run, is_symbol, expect, name_at, enclosed, choice, arguments, allocation, name_turn, postfix_by, choice_at, below}
+use Rattle.vx_grammar.specs.Reading.{exprs_from, Unexpected, TooDeep, Read, ◌>>=◌, Turn, run, is_symbol, expect, name_at, enclosed, choice, arguments, allocation, name_turn, postfix_by, choice_at, below}
 
 -- ---- types
 
@@ -142,6 +142,40 @@ target_at room t x ts = do
   e ← postfix_by (below room) t (name x) ts
   by_target room t.place e.0 e.1
 
+abbrev pub skip_semicolon : List Token → List Token
+skip_semicolon [] = []
+skip_semicolon (t ∷ ts) = if is_symbol signs.Semicolon t.kind then ts else t ∷ ts
+
+-- a clause behind so many of its kind, each of which nests it, where the nesting count may grow by room
+unfoldable pub clause_at : (room before : ℕ) → List Token → List Token → Read Expr
+clause_at room before here ts = if nat_le before room then choice_at (below (room - before)) ts else Err (TooDeep here)
+
+abbrev pub begins_invariant : Kind → Bool
+begins_invariant (word words.Invariant) = true
+begins_invariant k = false
+
+-- one invariant more
+unfoldable pub invariant_turn : ℕ → Turn (List Expr)
+invariant_turn room before [] = Ok (None, [])
+invariant_turn room before (t ∷ ts) =
+    if begins_invariant t.kind then (do
+      e ← clause_at room (length before) (t ∷ ts) ts
+      Ok (Some (before ++ e.0 ∷ []), skip_semicolon e.1))
+    else Ok (None, t ∷ ts)
+
+unfoldable pub invariants_at : ℕ → List Token → Read Exprs
+invariants_at room ts = do
+  es ← run (invariant_turn room) (length ts) [] ts
+  Ok (exprs_from es.0, es.1)
+
+-- behind a `while`
+unfoldable pub while_at : ℕ → StmtDeeper → Place → List Token → Read Stmt
+while_at room deeper place ts = do
+  e ← enclosed (below room) choice ts
+  is ← invariants_at room e.1
+  b ← block_at deeper is.1
+  Ok (While place e.0 is.0 b.0, b.1)
+
 unfoldable pub claim_at : ℕ → Claim → Place → List Token → Read Stmt
 claim_at room claim place ts = do
   e ← choice_at (below room) ts
@@ -155,6 +189,7 @@ stmt_by room deeper t (word words.Exhale) ts = claim_at room exhales t.place ts
 stmt_by room deeper t (word words.Assert) ts = claim_at room asserts t.place ts
 stmt_by room deeper t (word words.Assume) ts = claim_at room assumes t.place ts
 stmt_by room deeper t (word words.If) ts = branch_at room deeper t.place ts
+stmt_by room deeper t (word words.While) ts = while_at room deeper t.place ts
 stmt_by room deeper t k ts = Err (Unexpected (t ∷ ts))
 
 unfoldable pub stmt_at : ℕ → StmtDeeper → List Token → Read Stmt
@@ -170,11 +205,8 @@ begins_stmt (word words.Exhale) = true
 begins_stmt (word words.Assert) = true
 begins_stmt (word words.Assume) = true
 begins_stmt (word words.If) = true
+begins_stmt (word words.While) = true
 begins_stmt k = false
-
-abbrev pub skip_semicolon : List Token → List Token
-skip_semicolon [] = []
-skip_semicolon (t ∷ ts) = if is_symbol signs.Semicolon t.kind then ts else t ∷ ts
 
 -- the statements of a block
 abbrev pub block_from : List Stmt → Block

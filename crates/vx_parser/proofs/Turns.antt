@@ -6,8 +6,8 @@ use Rattle.vx_tokens.specs.declared.token.Token as the_token
 use Rattle.vx_tokens.specs.declared.token.Symbol.TheVariants as signs
 use Rattle.vx_tokens.specs.Tokens.{Token, tokens_in, token_of}
 use Rattle.vx_grammar.specs.Reading.{name_at, name_turn, ◌>>=◌, Read, choice_at, below, exprs_from, argument_turn, some_arguments, is_symbol, Turn, run}
-use Rattle.vx_grammar.specs.StmtReading.{StmtDeeper, StmtPart, stmt_part, stmts_below, begins_stmt, skip_semicolon, stmt_at, stmt_turn, declaration_at}
-use Rattle.vx_grammar.specs.MemberReading.{limit, declaration_turn, Clauses, clause_turn, clause_at, begins_requires, begins_ensures, with_requires, with_ensures}
+use Rattle.vx_grammar.specs.StmtReading.{clause_at, begins_invariant, invariant_turn, invariants_at, StmtDeeper, StmtPart, stmt_part, stmts_below, begins_stmt, skip_semicolon, stmt_at, stmt_turn, declaration_at}
+use Rattle.vx_grammar.specs.MemberReading.{limit, declaration_turn, Clauses, clause_turn, begins_requires, begins_ensures, with_requires, with_ensures}
 use Rattle.vx_grammar.specs.Nesting.{stmt_nests}
 use Rattle.vx_grammar.proofs.Turns.{run_on, run_over, run_stops, run_all}
 use Rattle.vx_parser.specs.declared.stop.Stop as the_stop
@@ -171,3 +171,32 @@ pub some_is : {X : Type 0} (view : X → List Expr × List Token) (by : X → Ex
 unfolding some_arguments
 some_is view by (Ok x) room ts rest e es same one first g = rw (first, ← one, g) (ap (λ (y : Exprs × List Token). let r : Read Exprs = Ok y in r) (sym (same x)))
 some_is view by (Err stop) room ts rest e es same one first g = rw (first, ← one) (stops_after stop (run (argument_turn (below room)) (length rest) es rest) (λ es. Ok (exprs_from es.0, es.1)) g)
+
+-- ---- invariants
+
+pub invariant_on : (room : ℕ) (before : List Expr) (ts : List Token) (t : Token) (us : List Token) (e : Expr) (after : List Token) → ts ≡ t ∷ us → begins_invariant t.kind ≡ true → clause_at room (length before) ts us ≡ Ok (e, after)
+    → invariant_turn room before ts ≡ Ok (Some (before ++ e ∷ []), skip_semicolon after)
+unfolding invariant_turn
+invariant_on room before ts t us e after first begins read =
+    let read' : clause_at room (length before) (t ∷ us) us ≡ Ok (e, after) = subst (λ l. clause_at room (length before) l us ≡ Ok (e, after)) first read in
+    rw (first, begins, read') refl
+
+pub invariant_over : (room : ℕ) (before : List Expr) (ts : List Token) (t : Token) (us : List Token) → ts ≡ t ∷ us → begins_invariant t.kind ≡ false → invariant_turn room before ts ≡ Ok (None, t ∷ us)
+unfolding invariant_turn
+invariant_over room before ts t us first not = rw (first, not) refl
+
+pub invariant_end : (room : ℕ) (before : List Expr) (ts : List Token) → ts ≡ [] → invariant_turn room before ts ≡ Ok (None, [])
+unfolding invariant_turn
+invariant_end room before ts none = rw none refl
+
+pub invariant_stops : (e : the_stop.Stop) (room : ℕ) (before : List Expr) (ts : List Token) (t : Token) (us : List Token) → ts ≡ t ∷ us → begins_invariant t.kind ≡ true → Stops e (clause_at room (length before) ts us) → Stops e (invariant_turn room before ts)
+unfolding invariant_turn
+invariant_stops e room before ts t us first begins read =
+    let read' : Stops e (clause_at room (length before) (t ∷ us) us) = subst (λ l. Stops e (clause_at room (length before) l us)) first read in
+    rw (first, begins) (stops_after e (clause_at room (length before) (t ∷ us) us) (λ x. Ok (Some (before ++ x.0 ∷ []), skip_semicolon x.1)) read')
+
+pub invariants_is : {X : Type 0} (view : X → List Expr × List Token) (by : X → Exprs × List Token) (result : Result X the_stop.Stop) (room : ℕ) (ts : List Token)
+    → ((x : X) → by x ≡ (exprs_from (view x).0, (view x).1)) → Gives view result (run (invariant_turn room) (length ts) [] ts) → Gives by result (invariants_at room ts)
+unfolding invariants_at
+invariants_is view by (Ok x) room ts same g = rw g (ap (λ (y : Exprs × List Token). let r : Read Exprs = Ok y in r) (sym (same x)))
+invariants_is view by (Err stop) room ts same g = stops_after stop (run (invariant_turn room) (length ts) [] ts) (λ es. Ok (exprs_from es.0, es.1)) g

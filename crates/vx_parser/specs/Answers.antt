@@ -26,8 +26,6 @@ abbrev pub is_foreign_word : Word → Bool
 is_foreign_word words.Predicate = true
 is_foreign_word words.Function = true
 is_foreign_word words.Decreases = true
-is_foreign_word words.Invariant = true
-is_foreign_word words.While = true
 is_foreign_word words.Fold = true
 is_foreign_word words.Unfold = true
 is_foreign_word words.Unfolding = true

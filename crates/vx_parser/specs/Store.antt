@@ -1,5 +1,5 @@
 -- The words and signs of Viper (VMCAI 2016), as they are parsed, that the store language lacks: its programs have no heap,
--- so no fields, no references and no permissions.
+-- so no fields, no references and no permissions, and no loops.
 use Rattle.std.specs.Prelude.{◌≡◌, Bool, true, false, Option, Some, None}
 use Rattle.vx_tokens.specs.declared.token.Word.{Word}
 use Rattle.vx_tokens.specs.declared.token.Word.TheVariants as words
@@ -21,6 +21,8 @@ is_beyond_word words.Outcome = true
 is_beyond_word words.Old = true
 is_beyond_word words.Acc = true
 is_beyond_word words.New = true
+is_beyond_word words.While = true
+is_beyond_word words.Invariant = true
 is_beyond_word w = false
 
 abbrev pub is_beyond_symbol : Symbol → Bool

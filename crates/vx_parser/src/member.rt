@@ -8,9 +8,9 @@ ghost use Rattle.vx_grammar.specs.MemberReading as reading;
 ghost use Rattle.vx_parser.specs.Gives.{Gives};
 ghost use Rattle.vx_parser.specs.Views.{block_of, clauses_of, declarations_of};
 
-use crate::expr::{Read, choice, expect, is_symbol, same};
+use crate::expr::{Read, expect, is_symbol, same};
 use crate::name::name;
-use crate::stmt::{block, declaration, skip_semicolon};
+use crate::stmt::{block, clause, declaration, skip_semicolon};
 use crate::stop::Stop;
 use std::alloc::{AllocError, Global};
 use std::rc::Rc;
@@ -112,23 +112,6 @@ fn returns<'t>(alloc: Global, tokens: &'t [Token<'t>]) -> Read<'t, Vec<Declarati
     }
 }
 
-// A clause behind so many of its kind, each of which nests it.
-#[tactic(auto, unfolding(vx_grammar::specs::MemberReading::clause_at))]
-fn clause<'t>(
-    alloc: Global,
-    before: usize,
-    here: &'t [Token<'t>],
-    tokens: &'t [Token<'t>],
-) -> Read<'t, Rc<Expr>>
-    ensures { Gives (λ x. (written_expr x.0.value, tokens_in x.1.now)) result (reading.clause_at reading.limit before (tokens_in here.now) (tokens_in tokens.now)) }
-{
-    if before > LIMIT as usize {
-        return Err(Stop::TooDeep(here));
-    }
-    let (e, rest) = choice(alloc, LIMIT - before as u32, tokens)?;
-    Ok((Rc::new(alloc, e)?, rest))
-}
-
 fn begins_requires(kind: Kind) -> bool
     ensures { result ≡ reading.begins_requires (kind_of kind.entry) }
 {
@@ -159,11 +142,11 @@ fn contract<'t>(alloc: Global, tokens: &'t [Token<'t>]) -> Read<'t, Clauses>
             ));
         };
         if begins_requires(first.kind) {
-            let (e, after) = clause(alloc, preconditions.len(), rest, inner)?;
+            let (e, after) = clause(alloc, LIMIT, preconditions.len(), rest, inner)?;
             preconditions.push(e)?;
             rest = skip_semicolon(after);
         } else if begins_ensures(first.kind) {
-            let (e, after) = clause(alloc, postconditions.len(), rest, inner)?;
+            let (e, after) = clause(alloc, LIMIT, postconditions.len(), rest, inner)?;
             postconditions.push(e)?;
             rest = skip_semicolon(after);
         } else {

@@ -214,8 +214,6 @@ fn is_foreign_word(word: Word) -> bool
         Word::Predicate
             | Word::Function
             | Word::Decreases
-            | Word::Invariant
-            | Word::While
             | Word::Fold
             | Word::Unfold
             | Word::Unfolding

@@ -1,7 +1,7 @@
 //! Reading statements.
 
-ghost use Rattle.std.specs.Prelude.{◌≡◌, ◌<◌, IfOk, Some, None, map, string_bytes};
-ghost use Rattle.vx_ast.specs.Written.{name_of, written_all, written_expr, written_declaration, written_right, Declare, Invoke, If, Then, Done};
+ghost use Rattle.std.specs.Prelude.{◌≡◌, ◌<◌, IfOk, Some, None, map, string_bytes, length, []};
+ghost use Rattle.vx_ast.specs.Written.{name_of, written_all, written_expr, written_declaration, written_right, Declare, Invoke, If, Then, Done, While};
 ghost use Rattle.vx_tokens.specs.Tokens.{kind_of, token_of, tokens_in};
 ghost use Rattle.vx_grammar.specs.Reading.{below};
 ghost use Rattle.vx_grammar.specs.StmtReading as reading;
@@ -9,7 +9,8 @@ ghost use Rattle.vx_parser.specs.Gives.{Gives};
 ghost use Rattle.vx_grammar.specs.Statements.{claim_meant};
 ghost use Rattle.vx_parser.specs.StmtPart.{stmt_part_of, claim_of};
 ghost use Rattle.vx_grammar.specs.StmtReading.{block_from};
-ghost use Rattle.vx_parser.specs.Views.{stmt_of, block_of};
+ghost use Rattle.vx_grammar.specs.Reading.{run};
+ghost use Rattle.vx_parser.specs.Views.{stmt_of, block_of, exprs_of};
 
 use crate::expr::{Read, choice, enclosed_arguments, expect, grouped, is_symbol, postfix};
 use crate::name::{more_names, name};
@@ -297,6 +298,86 @@ fn invoke<'t>(
     Ok((invoked(place, targets, method, arguments), rest))
 }
 
+/// A clause behind so many of its kind, each of which nests it.
+#[tactic(auto, unfolding(vx_grammar::specs::StmtReading::clause_at))]
+pub fn clause<'t>(
+    alloc: Global,
+    room: u32,
+    before: usize,
+    here: &'t [Token<'t>],
+    tokens: &'t [Token<'t>],
+) -> Read<'t, Rc<Expr>>
+    requires { room < 1000 }
+    ensures { Gives (λ x. (written_expr x.0.value, tokens_in x.1.now)) result (reading.clause_at room before (tokens_in here.now) (tokens_in tokens.now)) }
+{
+    if before > room as usize {
+        return Err(Stop::TooDeep(here));
+    }
+    let (e, rest) = choice(alloc, room - before as u32, tokens)?;
+    Ok((Rc::new(alloc, e)?, rest))
+}
+
+fn begins_invariant(kind: Kind) -> bool
+    ensures { result ≡ reading.begins_invariant (kind_of kind.entry) }
+{
+    matches!(kind, Kind::Word(Word::Invariant))
+}
+
+// The invariants of a loop.
+fn invariants<'t>(alloc: Global, room: u32, tokens: &'t [Token<'t>]) -> Read<'t, Vec<Rc<Expr>>>
+    requires { room < 1000 }
+    ensures { Gives (λ x. (written_all x.0.items, tokens_in x.1.now)) result (reading.invariants_at room (tokens_in tokens.now)) }
+{
+    kept(alloc, room, tokens)
+}
+
+fn kept<'t>(alloc: Global, room: u32, tokens: &'t [Token<'t>]) -> Read<'t, Vec<Rc<Expr>>>
+    requires { room < 1000 }
+    ensures { Gives (λ x. (exprs_of x.0.items, tokens_in x.1.now)) result (run (reading.invariant_turn room) (length (tokens_in tokens.now)) [] (tokens_in tokens.now)) }
+{
+    let mut invariants = Vec::new(alloc);
+    let mut rest = tokens;
+    for _ in 0..tokens.len() {
+        let Some((first, inner)) = rest.split_first() else {
+            return Ok((invariants, rest));
+        };
+        if !begins_invariant(first.kind) {
+            return Ok((invariants, rest));
+        }
+        let (e, after) = clause(alloc, room, invariants.len(), rest, inner)?;
+        invariants.push(e)?;
+        rest = skip_semicolon(after);
+    }
+    Ok((invariants, rest))
+}
+
+// What stands behind `while`.
+#[cycle(stmt)]
+#[tactic(auto, unfolding(vx_grammar::specs::StmtReading::while_at))]
+fn repetition<'t>(alloc: Global, room: u32, place: Place, tokens: &'t [Token<'t>]) -> Read<'t, Stmt>
+    requires { room < 1000 }
+    ensures { Gives (λ x. (stmt_of x.0, tokens_in x.1.now)) result (reading.while_at room (reading.stmts_below room) place (tokens_in tokens.now)) }
+{
+    let (e, rest) = grouped(alloc, room, tokens)?;
+    let (invariants, rest) = invariants(alloc, room, rest)?;
+    let (body, rest) = block(alloc, room, rest)?;
+    Ok((repeated(alloc, place, e, invariants, body)?, rest))
+}
+
+fn repeated(
+    alloc: Global,
+    place: Place,
+    condition: Expr,
+    invariants: Vec<Rc<Expr>>,
+    body: Block,
+) -> Result<Stmt, AllocError>
+    ensures { IfOk result (λ stmt. stmt_of stmt ≡ While place (written_expr condition) (written_all invariants.items) (block_of body)) }
+{
+    let condition = Rc::new(alloc, condition)?;
+    let kind = StmtKind::While(condition, invariants, Rc::new(alloc, body)?);
+    Ok(Stmt { place, kind })
+}
+
 // What stands behind the word of a claim.
 #[tactic(auto, unfolding(vx_grammar::specs::StmtReading::claim_at))]
 fn claiming<'t>(
@@ -347,6 +428,7 @@ fn statement<'t>(alloc: Global, room: u32, tokens: &'t [Token<'t>]) -> Read<'t, 
         Kind::Word(Word::Assert) => claiming(alloc, room, Claim::Assert, place, inner),
         Kind::Word(Word::Assume) => claiming(alloc, room, Claim::Assume, place, inner),
         Kind::Word(Word::If) => branch(alloc, room, place, inner),
+        Kind::Word(Word::While) => repetition(alloc, room, place, inner),
         _ => Err(Stop::Unexpected(tokens)),
     }
 }
@@ -363,6 +445,7 @@ fn begins_statement(kind: Kind) -> bool
             | Kind::Word(Word::Assert)
             | Kind::Word(Word::Assume)
             | Kind::Word(Word::If)
+            | Kind::Word(Word::While)
     )
 }
 

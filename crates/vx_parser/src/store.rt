@@ -84,5 +84,7 @@ fn is_beyond_word(word: Word) -> bool
             | Word::Old
             | Word::Acc
             | Word::New
+            | Word::While
+            | Word::Invariant
     )
 }

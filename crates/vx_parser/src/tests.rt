@@ -21,7 +21,7 @@ fn answer(alloc: Global, text: &[u8]) -> Result<String, AllocError> {
     }
 }
 
-const ROWS: [(&str, &str); 64] = [
+const ROWS: [(&str, &str); 67] = [
     ("", "ok"),
     (
         "method id(b: Bool) returns (c: Bool) requires b ensures c { c := b }",
@@ -83,9 +83,15 @@ const ROWS: [(&str, &str); 64] = [
     ("method m() { (x).f := 1 }", "1:14 E03 Unexpected ("),
     ("method m() { x, y :=", "1:21 E04 EndOfText"),
     (
-        "method m() { while (true) { } }",
-        "1:14 E09 Unsupported while",
+        "method m() { while (true) invariant true; invariant x > 0 { } while (b) { x := 1 } }",
+        "ok",
     ),
+    ("method m() { while true { } }", "1:20 E03 Unexpected true"),
+    (
+        "method m() { while (true) requires b { } }",
+        "1:27 E03 Unexpected requires",
+    ),
+    ("method m() { while (true) ; { } }", "1:27 E03 Unexpected ;"),
     ("method m() { assert a / b \\ c % d * e }", "ok"),
     ("method m() { assert a.f.g == null }", "ok"),
     (

@@ -20,6 +20,9 @@ decreases-otherwise l = 8 * l.room + 2
 abbrev pub decreases-branch : goal.decreases-branch
 decreases-branch l = 8 * l.room + 3
 
+abbrev pub decreases-repetition : goal.decreases-repetition
+decreases-repetition l = 8 * l.room + 3
+
 abbrev pub decreases-statement : goal.decreases-statement
 decreases-statement l = 8 * l.room + 4
 
