@@ -3,7 +3,12 @@ pub mod Lists
 pub mod Tells
 pub mod Local
 pub mod Complete
+pub mod PhraseFor
+pub mod PrimaryTells
 pub mod Means
+pub mod NamesTold
+pub mod LocalParts
+pub mod RunLocal
 pub mod LocalExpr
 pub mod Whole
 pub mod Rows
@@ -11,6 +16,10 @@ pub mod Sequence
 pub mod Bracketed
 pub mod StmtTells
 pub mod StmtFor
+pub mod InvariantsTold
+pub mod InvariantsRead
+pub mod TargetTold
+pub mod TargetReads
 pub mod StmtTold
 pub mod Steps
 pub mod MemberTold

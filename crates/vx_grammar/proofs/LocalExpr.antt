@@ -1,5 +1,5 @@
 -- Reading an expression looks no further than the token at which it stops.
-use Rattle.std.proofs.Common.{◌≡◌, ℕ, zero, suc, ◌+◌, List, [], ◌∷◌, Option, Some, None, Ok, Err, refl, sym, arith, Bool, true, false, cond, eqb}
+use Rattle.std.proofs.Common.{◌≡◌, ℕ, zero, suc, ◌+◌, List, [], ◌∷◌, ◌++◌, ◌≤◌, ◌<◌, Option, Some, None, Ok, Err, length, refl, sym, ap, subst, arith, Bool, true, false, cond, eqb, length-append}
 use Rattle.vx_ast.specs.declared.Place.{Place}
 use Rattle.vx_tokens.specs.declared.token.Word.TheVariants as words
 use Rattle.vx_tokens.specs.declared.token.Symbol.TheVariants as signs
@@ -7,41 +7,114 @@ use Rattle.vx_ast.specs.declared.UnaryOperator.TheVariants.{Not, Negate}
 use Rattle.vx_ast.specs.declared.BinaryOperator.{BinaryOperator}
 use Rattle.vx_ast.specs.declared.BinaryOperator.TheVariants.{Implies}
 use Rattle.vx_tokens.specs.Tokens.{Token, Kind, name, number, word, symbol}
-use Rattle.vx_ast.specs.Written.{Expr, Truth, Number, Variable, Unary, Binary, Choice}
+use Rattle.vx_ast.specs.Written.{Expr, Exprs, NoMore, Amount, All, Truth, Number, Null, Whole, Nothing, Variable, Call, Unary, Binary, Choice, Old, Access, Right, NewAll, New}
+use Rattle.vx_ast.specs.Written as written
 use Rattle.vx_grammar.specs.Grammar.{level_of, operator_of}
-use Rattle.vx_grammar.specs.Reading.{◌>>=◌, Read, Unexpected, Deeper, is_symbol, Part, choice, implication, chain, rest_of_chain, expect, grouped_by, unary_by, unary_at, operator_by, rest_by, rest_at, chain_at, implies_by, implied_by, implication_at, second_by, sides_by, chosen_by, choice_at, part_at, below}
-use Rattle.vx_grammar.proofs.Local.{Local, local_ok, local_unexpected, local_end, local_end_unexpected, local_return, local_token, local_then, local_expect, local_same}
+use Rattle.vx_grammar.specs.Reading.{◌>>=◌, Read, Unexpected, Deeper, is_symbol, Part, Given, choice, implication, chain, rest_of_chain, behind_dot, arguments, access, allocation, name_at, expect, enclosed, call_by, named_by, old_by, access_by, primary_by, dots_at, dotted_at, postfix_by, unary_by, unary_at, run, argument_turn, some_arguments, arguments_at, amount_by, amount_at, access_at, name_turn, fields_at, allocation_by, allocation_at, operator_by, rest_by, rest_at, chain_at, implies_by, implied_by, implication_at, second_by, sides_by, chosen_by, choice_at, part_at, below}
+use Rattle.vx_grammar.proofs.Local.{Local, local_ok, local_unexpected, local_end, local_end_unexpected, local_return, local_token, local_then, local_same, Front}
+use Rattle.vx_grammar.proofs.LocalParts.{name_local, bracket_local}
+use Rattle.vx_grammar.proofs.Tells.{Tells}
+use Rattle.vx_grammar.proofs.Steps.{TurnFor}
+use Rattle.vx_grammar.proofs.NamesTold.{NameStep, name_turn_tells}
+use Rattle.vx_grammar.proofs.RunLocal.{Turns, run_local, taken_short, taken_none}
 
 -- the deeper reader's answers are those of the other
 LocalDeeper : Deeper → Deeper → Type 0
 LocalDeeper d d' = (p : Part) (here ts : List Token) (heres : List Token → List Token) → Local ts (d p here ts) (λ l. d' p (heres l) l)
 
-grouped_local : (d d' : Deeper) (t : Token) (ts : List Token) → LocalDeeper d d' → Local ts (grouped_by d t ts) (grouped_by d' t)
-unfolding grouped_by LocalDeeper
-grouped_local d d' t ts h =
-    local_then ts (d choice (t ∷ ts) ts) (λ l. d' choice (t ∷ l) l) (λ e. expect signs.Close e.1 >>= λ c. Ok (e.0, c.1)) (λ e. expect signs.Close e.1 >>= λ c. Ok (e.0, c.1)) (h choice (t ∷ ts) ts (λ l. t ∷ l))
-    (λ x mid. local_then mid (expect signs.Close mid) (expect signs.Close) (λ c. Ok (x, c.1)) (λ c. Ok (x, c.1)) (local_expect signs.Close mid) (λ c after. local_return after x))
-
 -- one more reader, and what is made of its value
-made_local : (d d' : Deeper) (p : Part) (t : Token) (ts : List Token) (f : Expr → Expr) → LocalDeeper d d' → Local ts (d p (t ∷ ts) ts >>= λ e. Ok (f e.0, e.1)) (λ l. d' p (t ∷ l) l >>= λ e. Ok (f e.0, e.1))
+made_local : (d d' : Deeper) (p : Part) (t : Token) (ts : List Token) (f : Given p → Expr) → LocalDeeper d d' → Local ts (d p (t ∷ ts) ts >>= λ e. Ok (f e.0, e.1)) (λ l. d' p (t ∷ l) l >>= λ e. Ok (f e.0, e.1))
 unfolding LocalDeeper
 made_local d d' p t ts f h = local_then ts (d p (t ∷ ts) ts) (λ l. d' p (t ∷ l) l) (λ e. Ok (f e.0, e.1)) (λ e. Ok (f e.0, e.1)) (h p (t ∷ ts) ts (λ l. t ∷ l)) (λ x mid. local_return mid (f x))
 
+enclosed_local : (d d' : Deeper) (p : Part) (ts : List Token) → LocalDeeper d d' → Local ts (enclosed d p ts) (enclosed d' p)
+unfolding enclosed LocalDeeper
+enclosed_local d d' p ts h = bracket_local signs.Open signs.Close (d p) (d' p) (h p) ts
+
+enclosed_made : (d d' : Deeper) (p : Part) (ts : List Token) (f : Given p → Expr) → LocalDeeper d d' → Local ts (enclosed d p ts >>= λ y. Ok (f y.0, y.1)) (λ l. enclosed d' p l >>= λ y. Ok (f y.0, y.1))
+enclosed_made d d' p ts f h = local_then ts (enclosed d p ts) (enclosed d' p) (λ y. Ok (f y.0, y.1)) (λ y. Ok (f y.0, y.1)) (enclosed_local d d' p ts h) (λ x mid. local_return mid (f x))
+
+-- ---- operands
+
+call_local : (d d' : Deeper) (t : Token) (x : List ℕ) (ts : List Token) → LocalDeeper d d' → Local ts (call_by d t x ts) (call_by d' t x)
+unfolding call_by
+call_local d d' t x ts h = enclosed_made d d' arguments ts (Call t.place x) h
+
+named_by_local : (d d' : Deeper) (t : Token) (x : List ℕ) (u : Token) (us : List Token) (b : Bool) → is_symbol signs.Open u.kind ≡ b → LocalDeeper d d' → Local (u ∷ us) (cond b (call_by d t x (u ∷ us)) (Ok (Variable t.place x, u ∷ us))) (named_by d' t x)
+unfolding named_by
+named_by_local d d' t x u us true e h = local_same u us (call_by d t x (u ∷ us)) (call_by d' t x) (named_by d' t x) (λ l. rw e refl) (call_local d d' t x (u ∷ us) h)
+named_by_local d d' t x u us false e h = local_ok u us (Variable t.place x) (named_by d' t x) (λ more. rw e refl)
+
+named_local : (d d' : Deeper) (t : Token) (x : List ℕ) (ts : List Token) → LocalDeeper d d' → Local ts (named_by d t x ts) (named_by d' t x)
+unfolding named_by
+named_local d d' t x [] h = local_end (Variable t.place x) (named_by d' t x) refl
+named_local d d' t x (u ∷ us) h = named_by_local d d' t x u us (is_symbol signs.Open u.kind) refl h
+
+old_local : (d d' : Deeper) (t : Token) (ts : List Token) → LocalDeeper d d' → Local ts (old_by d t ts) (old_by d' t)
+unfolding old_by
+old_local d d' t ts h = enclosed_made d d' choice ts (Old t.place) h
+
+access_by_local : (d d' : Deeper) (t : Token) (ts : List Token) → LocalDeeper d d' → Local ts (access_by d t ts) (access_by d' t)
+unfolding access_by
+access_by_local d d' t ts h = enclosed_made d d' access ts (λ y. Access t.place y.0 y.1) h
+
+-- reading what a dot may stand behind, from its first token on
+primary_at : Deeper → List Token → Read Expr
+primary_at d [] = Err (Unexpected [])
+primary_at d (t ∷ ts) = primary_by d t t.kind ts
+
+constant_local : (d : Deeper) (t : Token) (ts : List Token) (e : Expr) → ((l : List Token) → primary_at d (t ∷ l) ≡ Ok (e, l)) → Local (t ∷ ts) (Ok (e, ts)) (primary_at d)
+constant_local d t ts e h = local_token t ts (Ok (e, ts)) (λ l. Ok (e, l)) (primary_at d) h (local_return ts e)
+
+primary_local : (d d' : Deeper) (t : Token) (k : Kind) (ts : List Token) → t.kind ≡ k → LocalDeeper d d' → Local (t ∷ ts) (primary_by d t k ts) (primary_at d')
+unfolding primary_by primary_at
+primary_local d d' t (name x) ts e h = local_token t ts (named_by d t x ts) (named_by d' t x) (primary_at d') (λ l. rw e refl) (named_local d d' t x ts h)
+primary_local d d' t (number x) ts e h = constant_local d' t ts (Number t.place x) (λ l. rw e refl)
+primary_local d d' t (word words.True) ts e h = constant_local d' t ts (Truth t.place true) (λ l. rw e refl)
+primary_local d d' t (word words.False) ts e h = constant_local d' t ts (Truth t.place false) (λ l. rw e refl)
+primary_local d d' t (word words.Null) ts e h = constant_local d' t ts (Null t.place) (λ l. rw e refl)
+primary_local d d' t (word words.Write) ts e h = constant_local d' t ts (Whole t.place) (λ l. rw e refl)
+primary_local d d' t (word words.Nothing) ts e h = constant_local d' t ts (Nothing t.place) (λ l. rw e refl)
+primary_local d d' t (word words.Outcome) ts e h = constant_local d' t ts (written.Result t.place) (λ l. rw e refl)
+primary_local d d' t (word words.Old) ts e h = local_token t ts (old_by d t ts) (old_by d' t) (primary_at d') (λ l. rw e refl) (old_local d d' t ts h)
+primary_local d d' t (word words.Acc) ts e h = local_token t ts (access_by d t ts) (access_by d' t) (primary_at d') (λ l. rw e refl) (access_by_local d d' t ts h)
+primary_local d d' t (symbol signs.Open) ts e h = local_same t ts (enclosed d choice (t ∷ ts)) (enclosed d' choice) (primary_at d') (λ l. rw e refl) (enclosed_local d d' choice (t ∷ ts) h)
+primary_local d d' t k ts e h = local_unexpected t ts (primary_at d') (λ more. rw e refl)
+
+dots_by_local : (d d' : Deeper) (start : Place) (left : Expr) (t : Token) (ts : List Token) (b : Bool) → is_symbol signs.Dot t.kind ≡ b → LocalDeeper d d' → Local (t ∷ ts) (cond b (d (behind_dot start left) (t ∷ ts) ts) (Ok (left, t ∷ ts))) (dots_at d' start left)
+unfolding dots_at LocalDeeper
+dots_by_local d d' start left t ts true e h = local_token t ts (d (behind_dot start left) (t ∷ ts) ts) (λ l. d' (behind_dot start left) (t ∷ l) l) (dots_at d' start left) (λ l. rw e refl) (h (behind_dot start left) (t ∷ ts) ts (λ l. t ∷ l))
+dots_by_local d d' start left t ts false e h = local_ok t ts left (dots_at d' start left) (λ more. rw e refl)
+
+dots_local : (d d' : Deeper) (start : Place) (left : Expr) (ts : List Token) → LocalDeeper d d' → Local ts (dots_at d start left ts) (dots_at d' start left)
+unfolding dots_at
+dots_local d d' start left [] h = local_end left (dots_at d' start left) refl
+dots_local d d' start left (t ∷ ts) h = dots_by_local d d' start left t ts (is_symbol signs.Dot t.kind) refl h
+
+dotted_local : (d d' : Deeper) (start : Place) (left : Expr) (ts : List Token) → LocalDeeper d d' → Local ts (dotted_at d start left ts) (dotted_at d' start left)
+unfolding dotted_at
+dotted_local d d' start left ts h = local_then ts (name_at ts) name_at _ _ (name_local ts) (λ f mid. dots_local d d' start (written.Read start left f) mid h)
+
+-- behind what was read from the first token on
+pub local_from_first : {A B : Type 0} (t : Token) (ts : List Token) (r : Read A) (reader : List Token → Read A) (whole : List Token → Read B) (f next : A × List Token → Read B) → ((l : List Token) → whole (t ∷ l) ≡ (reader (t ∷ l) >>= next)) → Local (t ∷ ts) r reader → ((x : A) (mid : List Token) → Local mid (f (x, mid)) (λ l. next (x, l))) → Local (t ∷ ts) (r >>= f) whole
+local_from_first t ts r reader whole f next e h k = local_same t ts (r >>= f) (λ l. reader l >>= next) whole (λ l. sym (e l)) (local_then (t ∷ ts) r reader f next h k)
+
+postfix_local : (d d' : Deeper) (t : Token) (k : Kind) (ts : List Token) → t.kind ≡ k → ((l : List Token) → unary_at d' (t ∷ l) ≡ postfix_by d' t t.kind l) → LocalDeeper d d' → Local (t ∷ ts) (postfix_by d t k ts) (unary_at d')
+unfolding postfix_by primary_at
+postfix_local d d' t k ts e same h = local_from_first t ts (primary_by d t k ts) (primary_at d') (unary_at d') (λ x. dots_at d t.place x.0 x.1) (λ x. dots_at d' t.place x.0 x.1) same (primary_local d d' t k ts e h) (λ x mid. dots_local d d' t.place x mid h)
+
 unary_by_local : (d d' : Deeper) (t : Token) (k : Kind) (ts : List Token) → t.kind ≡ k → LocalDeeper d d' → Local (t ∷ ts) (unary_by d t k ts) (unary_at d')
 unfolding unary_by unary_at
-unary_by_local d d' t (name x) ts e h = local_token t ts (Ok (Variable t.place x, ts)) (λ l. Ok (Variable t.place x, l)) (unary_at d') (λ l. rw e refl) (local_return ts (Variable t.place x))
-unary_by_local d d' t (number x) ts e h = local_token t ts (Ok (Number t.place x, ts)) (λ l. Ok (Number t.place x, l)) (unary_at d') (λ l. rw e refl) (local_return ts (Number t.place x))
-unary_by_local d d' t (word words.True) ts e h = local_token t ts (Ok (Truth t.place true, ts)) (λ l. Ok (Truth t.place true, l)) (unary_at d') (λ l. rw e refl) (local_return ts (Truth t.place true))
-unary_by_local d d' t (word words.False) ts e h = local_token t ts (Ok (Truth t.place false, ts)) (λ l. Ok (Truth t.place false, l)) (unary_at d') (λ l. rw e refl) (local_return ts (Truth t.place false))
-unary_by_local d d' t (symbol signs.Open) ts e h = local_token t ts (grouped_by d t ts) (grouped_by d' t) (unary_at d') (λ l. rw e refl) (grouped_local d d' t ts h)
 unary_by_local d d' t (symbol signs.Not) ts e h = local_token t ts (d (chain 0) (t ∷ ts) ts >>= λ x. Ok (Unary t.place Not x.0, x.1)) (λ l. d' (chain 0) (t ∷ l) l >>= λ x. Ok (Unary t.place Not x.0, x.1)) (unary_at d') (λ l. rw e refl) (made_local d d' (chain 0) t ts (Unary t.place Not) h)
 unary_by_local d d' t (symbol signs.Minus) ts e h = local_token t ts (d (chain 0) (t ∷ ts) ts >>= λ x. Ok (Unary t.place Negate x.0, x.1)) (λ l. d' (chain 0) (t ∷ l) l >>= λ x. Ok (Unary t.place Negate x.0, x.1)) (unary_at d') (λ l. rw e refl) (made_local d d' (chain 0) t ts (Unary t.place Negate) h)
-unary_by_local d d' t k ts e h = local_unexpected t ts (unary_at d') (λ more. rw e refl)
+unary_by_local d d' t k ts e h = postfix_local d d' t k ts e (λ l. rw e refl) h
 
 unary_local : (d d' : Deeper) (ts : List Token) → LocalDeeper d d' → Local ts (unary_at d ts) (unary_at d')
 unfolding unary_at
 unary_local d d' [] h = local_end_unexpected (unary_at d') refl
 unary_local d d' (t ∷ ts) h = unary_by_local d d' t t.kind ts refl h
+
+-- ---- chains
 
 operator_local : (d d' : Deeper) (k : ℕ) (start : Place) (left : Expr) (t : Token) (ts : List Token) (op : BinaryOperator) → LocalDeeper d d' → Local ts (operator_by d k start left t ts op) (λ l. operator_by d' k start left t l op)
 unfolding operator_by LocalDeeper
@@ -62,10 +135,6 @@ rest_local : (d d' : Deeper) (k : ℕ) (start : Place) (left : Expr) (ts : List 
 unfolding rest_at
 rest_local d d' k start left [] h = local_end left (rest_at d' k start left) refl
 rest_local d d' k start left (t ∷ ts) h = rest_by_local d d' k start left t ts (operator_of t.kind) refl h
-
--- behind what was read from the first token on
-local_from_first : (t : Token) (ts : List Token) (r : Read Expr) (reader whole : List Token → Read Expr) (f next : Expr × List Token → Read Expr) → ((l : List Token) → whole (t ∷ l) ≡ (reader (t ∷ l) >>= next)) → Local (t ∷ ts) r reader → ((x : Expr) (mid : List Token) → Local mid (f (x, mid)) (λ l. next (x, l))) → Local (t ∷ ts) (r >>= f) whole
-local_from_first t ts r reader whole f next e h k = local_same t ts (r >>= f) (λ l. reader l >>= next) whole (λ l. sym (e l)) (local_then (t ∷ ts) r reader f next h k)
 
 chain_local : (d d' : Deeper) (k : ℕ) (ts : List Token) → LocalDeeper d d' → Local ts (chain_at d k ts) (chain_at d' k)
 unfolding chain_at
@@ -123,11 +192,151 @@ choice_local d d' [] h = local_end_unexpected (choice_at d') refl
 choice_local d d' (t ∷ ts) h =
     local_from_first t ts (implication_at d (t ∷ ts)) (implication_at d') (choice_at d') (λ condition. chosen_by d t.place condition.0 condition.1) (λ condition. chosen_by d' t.place condition.0 condition.1) (λ l. refl) (implication_local d d' (t ∷ ts) h) (λ x mid. chosen_local d d' t.place x mid h)
 
+-- ---- arguments
+
+argument_by_local : (d d' : Deeper) (before : List Expr) (t : Token) (ts : List Token) (b : Bool) → is_symbol signs.Comma t.kind ≡ b → LocalDeeper d d' → Local (t ∷ ts) (cond b (choice_at d ts >>= λ e. Ok (Some (before ++ e.0 ∷ []), e.1)) (Ok (None, t ∷ ts))) (argument_turn d' before)
+unfolding argument_turn
+argument_by_local d d' before t ts true e h = local_token t ts (choice_at d ts >>= λ e. Ok (Some (before ++ e.0 ∷ []), e.1)) (λ l. choice_at d' l >>= λ e. Ok (Some (before ++ e.0 ∷ []), e.1)) (argument_turn d' before) (λ l. rw e refl) (local_then ts (choice_at d ts) (choice_at d') _ _ (choice_local d d' ts h) (λ x us. local_return us _))
+argument_by_local d d' before t ts false e h = local_ok t ts None (argument_turn d' before) (λ more. rw e refl)
+
+argument_turn_local : (d d' : Deeper) (before : List Expr) (ts : List Token) → LocalDeeper d d' → Local ts (argument_turn d before ts) (argument_turn d' before)
+unfolding argument_turn
+argument_turn_local d d' before [] h = local_end None (argument_turn d' before) refl
+argument_turn_local d d' before (t ∷ ts) h = argument_by_local d d' before t ts (is_symbol signs.Comma t.kind) refl h
+
+-- what is read is no longer than what was there
+front_short : {A : Type 0} (ts : List Token) (r : Read A) (reader : List Token → Read A) (x : A) (mid : List Token) → r ≡ Ok (x, mid) → Local ts r reader → length mid ≤ length ts
+front_short ts r reader x mid e h =
+    let f : Front ts mid (λ l. Ok (x, l)) reader = subst (λ q. Local ts q reader) e h in
+    let a = ap length f.is in
+    let b = length-append f.front mid in
+    omega (arith, a, b)
+
+abbrev one_more : List Expr → Expr × List Token → Read (Option (List Expr))
+one_more before x = Ok (Some (before ++ x.0 ∷ []), x.1)
+
+ok_is : {A : Type 0} (x y : A × List Token) → (let r : Read A = Ok x in r ≡ Ok y) → x ≡ y
+ok_is x y e = cc
+
+not_some : (x : Option (List Expr) × List Token) (after : List Expr) (ts mid : List Token) → x ≡ (Some after, mid) → x.0 ≡ None → ⊥
+not_some x after ts mid e n = let one = ap (λ (y : Option (List Expr) × List Token). y.0) e in absurd cc
+
+argument_short : (d d' : Deeper) → LocalDeeper d d' → (before after : List Expr) (ts mid : List Token) → argument_turn d before ts ≡ Ok (Some after, mid) → length mid < length ts
+unfolding argument_turn
+argument_short d d' h before after [] mid e = absurd (not_some (None, []) after [] mid (ok_is _ _ e) refl)
+argument_short d d' h before after (t ∷ ts) mid e = by_test (is_symbol signs.Comma t.kind) e
+  where
+    by_read : (r : Read Expr) → choice_at d ts ≡ r → (r >>= one_more before) ≡ Ok (Some after, mid) → length mid < length (t ∷ ts)
+    by_read (Ok x) q e =
+        let same : x.1 ≡ mid = ap (λ (y : Option (List Expr) × List Token). y.1) (ok_is (Some (before ++ x.0 ∷ []), x.1) (Some after, mid) e) in
+        let short = front_short ts (choice_at d ts) (choice_at d') x.0 x.1 q (choice_local d d' ts h) in
+        let n = ap length same in
+        omega (arith, short, n)
+    by_read (Err stop) q e = absurd cc
+
+    by_test : (b : Bool) → cond b (choice_at d ts >>= one_more before) (Ok (None, t ∷ ts)) ≡ Ok (Some after, mid) → length mid < length (t ∷ ts)
+    by_test true e = by_read (choice_at d ts) refl e
+    by_test false e = absurd (not_some (None, t ∷ ts) after ts mid (ok_is _ _ e) refl)
+
+argument_same : (d : Deeper) (before : List Expr) (ts mid : List Token) → argument_turn d before ts ≡ Ok (None, mid) → ts ≡ mid
+unfolding argument_turn
+argument_same d before [] mid e = ap (λ (y : Option (List Expr) × List Token). y.1) (ok_is (None, []) (None, mid) e)
+argument_same d before (t ∷ ts) mid e = by_test (is_symbol signs.Comma t.kind) e
+  where
+    by_read : (r : Read Expr) → (r >>= one_more before) ≡ Ok (None, mid) → t ∷ ts ≡ mid
+    by_read (Ok x) e = let one = ap (λ (y : Option (List Expr) × List Token). y.0) (ok_is (Some (before ++ x.0 ∷ []), x.1) (None, mid) e) in absurd cc
+    by_read (Err stop) e = absurd cc
+
+    by_test : (b : Bool) → cond b (choice_at d ts >>= one_more before) (Ok (None, t ∷ ts)) ≡ Ok (None, mid) → t ∷ ts ≡ mid
+    by_test true e = by_read (choice_at d ts) e
+    by_test false e = ap (λ (y : Option (List Expr) × List Token). y.1) (ok_is (None, t ∷ ts) (None, mid) e)
+
+argument_turns : (d d' : Deeper) → LocalDeeper d d' → Turns (argument_turn d) (argument_turn d')
+unfolding argument_turn
+argument_turns d d' h = record {
+  local = λ s ts. argument_turn_local d d' s ts h;
+  short = λ s t ts mid e. argument_short d d' h s t ts mid e;
+  same = λ s ts mid e. argument_same d s ts mid e;
+  empty = λ s. refl;
+}
+
+some_local : (d d' : Deeper) (ts : List Token) → LocalDeeper d d' → Local ts (some_arguments d ts) (some_arguments d')
+unfolding some_arguments
+some_local d d' ts h =
+    local_then ts (choice_at d ts) (choice_at d') _ _ (choice_local d d' ts h) (λ x us.
+    local_then us (run (argument_turn d) (length us) (x ∷ []) us) (λ l. run (argument_turn d') (length l) (x ∷ []) l) _ _ (run_local (argument_turn d) (argument_turn d') (argument_turns d d' h) (x ∷ []) us) (λ es vs. local_return vs _))
+
+arguments_by_local : (d d' : Deeper) (t : Token) (ts : List Token) (b : Bool) → is_symbol signs.Close t.kind ≡ b → LocalDeeper d d' → Local (t ∷ ts) (cond b (Ok (NoMore, t ∷ ts)) (some_arguments d (t ∷ ts))) (arguments_at d')
+unfolding arguments_at
+arguments_by_local d d' t ts true e h = local_ok t ts NoMore (arguments_at d') (λ more. rw e refl)
+arguments_by_local d d' t ts false e h = local_same t ts (some_arguments d (t ∷ ts)) (some_arguments d') (arguments_at d') (λ l. rw e refl) (some_local d d' (t ∷ ts) h)
+
+arguments_local : (d d' : Deeper) (ts : List Token) → LocalDeeper d d' → Local ts (arguments_at d ts) (arguments_at d')
+unfolding arguments_at
+arguments_local d d' [] h = local_end_unexpected (arguments_at d') refl
+arguments_local d d' (t ∷ ts) h = arguments_by_local d d' t ts (is_symbol signs.Close t.kind) refl h
+
+amount_by_local : (d d' : Deeper) (t : Token) (ts : List Token) (b : Bool) → is_symbol signs.Comma t.kind ≡ b → LocalDeeper d d' → Local (t ∷ ts) (cond b (amount_by d ts) (Ok (All, t ∷ ts))) (amount_at d')
+unfolding amount_at amount_by
+amount_by_local d d' t ts true e h = local_token t ts (amount_by d ts) (amount_by d') (amount_at d') (λ l. rw e refl) (local_then ts (choice_at d ts) (choice_at d') _ _ (choice_local d d' ts h) (λ x us. local_return us _))
+amount_by_local d d' t ts false e h = local_ok t ts All (amount_at d') (λ more. rw e refl)
+
+amount_local : (d d' : Deeper) (ts : List Token) → LocalDeeper d d' → Local ts (amount_at d ts) (amount_at d')
+unfolding amount_at
+amount_local d d' [] h = local_end All (amount_at d') refl
+amount_local d d' (t ∷ ts) h = amount_by_local d d' t ts (is_symbol signs.Comma t.kind) refl h
+
+access_local : (d d' : Deeper) (ts : List Token) → LocalDeeper d d' → Local ts (access_at d ts) (access_at d')
+unfolding access_at
+access_local d d' ts h =
+    local_then ts (choice_at d ts) (choice_at d') _ _ (choice_local d d' ts h) (λ x us.
+    local_then us (amount_at d us) (amount_at d') _ _ (amount_local d d' us h) (λ a vs. local_return vs _))
+
+-- ---- names, and the fields of `new`
+
+name_by_comma : (before : List (List ℕ)) (t : Token) (ts : List Token) (b : Bool) → is_symbol signs.Comma t.kind ≡ b → Local (t ∷ ts) (cond b (name_at ts >>= λ x. Ok (Some (before ++ x.0 ∷ []), x.1)) (Ok (None, t ∷ ts))) (name_turn before)
+unfolding name_turn
+name_by_comma before t ts true e = local_token t ts (name_at ts >>= λ x. Ok (Some (before ++ x.0 ∷ []), x.1)) (λ l. name_at l >>= λ x. Ok (Some (before ++ x.0 ∷ []), x.1)) (name_turn before) (λ l. rw e refl) (local_then ts (name_at ts) name_at _ _ (name_local ts) (λ x us. local_return us _))
+name_by_comma before t ts false e = local_ok t ts None (name_turn before) (λ more. rw e refl)
+
+name_turn_local : (before : List (List ℕ)) (ts : List Token) → Local ts (name_turn before ts) (name_turn before)
+unfolding name_turn
+name_turn_local before [] = local_end None (name_turn before) refl
+name_turn_local before (t ∷ ts) = name_by_comma before t ts (is_symbol signs.Comma t.kind) refl
+
+pub name_turns : Turns name_turn name_turn
+unfolding name_turn
+name_turns = record {
+  local = name_turn_local;
+  short = λ s t ts mid e. taken_short (TurnFor (NameStep 0) s) 0 ts (Some t) mid (λ ms (p, q, x, v, z). rw z (omega arith)) (subst (Tells (TurnFor (NameStep 0) s) 0 ts) e (name_turn_tells 0 0 (omega arith) s ts));
+  same = λ s ts mid e. taken_none (TurnFor (NameStep 0) s) 0 ts None mid (λ ms z. z) (subst (Tells (TurnFor (NameStep 0) s) 0 ts) e (name_turn_tells 0 0 (omega arith) s ts));
+  empty = λ s. refl;
+}
+
+fields_local : (ts : List Token) → Local ts (fields_at ts) fields_at
+unfolding fields_at
+fields_local ts = local_then ts (name_at ts) name_at _ _ (name_local ts) (λ x us. local_then us (run name_turn (length us) (x ∷ []) us) (λ l. run name_turn (length l) (x ∷ []) l) _ _ (run_local name_turn name_turn name_turns (x ∷ []) us) (λ xs vs. local_return vs _))
+
+allocation_by_local : (t : Token) (k : Kind) (ts : List Token) → t.kind ≡ k → Local (t ∷ ts) (allocation_by t k ts) allocation_at
+unfolding allocation_at
+allocation_by_local t (symbol signs.Times) ts e = local_token t ts (Ok (NewAll, ts)) (λ l. Ok (NewAll, l)) allocation_at (λ l. rw e refl) (local_return ts NewAll)
+allocation_by_local t (symbol signs.Close) ts e = local_ok t ts (New []) allocation_at (λ more. rw e refl)
+allocation_by_local t k ts e = local_same t ts (fields_at (t ∷ ts)) fields_at allocation_at (λ l. rw e refl) (fields_local (t ∷ ts))
+
+allocation_local : (ts : List Token) → Local ts (allocation_at ts) allocation_at
+unfolding allocation_at
+allocation_local [] = local_end_unexpected allocation_at refl
+allocation_local (t ∷ ts) = allocation_by_local t t.kind ts refl
+
 part_local : (d d' : Deeper) (p : Part) (ts : List Token) → LocalDeeper d d' → Local ts (part_at d p ts) (part_at d' p)
 part_local d d' choice ts h = choice_local d d' ts h
 part_local d d' implication ts h = implication_local d d' ts h
 part_local d d' (chain k) ts h = chain_local d d' k ts h
 part_local d d' (rest_of_chain k start left) ts h = rest_local d d' k start left ts h
+part_local d d' (behind_dot start left) ts h = dotted_local d d' start left ts h
+part_local d d' arguments ts h = arguments_local d d' ts h
+part_local d d' access ts h = access_local d d' ts h
+part_local d d' allocation ts h = allocation_local ts
 
 -- with as much room, or more
 below_local : (room more : ℕ) → LocalDeeper (below room) (below (room + more))
@@ -144,3 +353,8 @@ reading_local room more ts = choice_local (below room) (below (room + more)) ts 
 pub nested_local : (room more : ℕ) (p : Part) (here ts : List Token) (heres : List Token → List Token) → Local ts (below room p here ts) (λ l. below (room + more) p (heres l) l)
 unfolding LocalDeeper
 nested_local room more p here ts heres = below_local room more p here ts heres
+
+-- from a name on, with as much room, or more
+pub operand_local : (room more : ℕ) (t : Token) (x : List ℕ) (ts : List Token) → t.kind ≡ name x → Local (t ∷ ts) (postfix_by (below room) t (name x) ts) (unary_at (below (room + more)))
+unfolding unary_at unary_by
+operand_local room more t x ts e = postfix_local (below room) (below (room + more)) t (name x) ts e (λ l. rw e refl) (below_local room more)

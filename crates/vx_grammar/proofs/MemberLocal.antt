@@ -1,132 +1,24 @@
 -- Reading members looks no further than the token at which it stops.
-use Rattle.std.proofs.Common.{◌≡◌, ℕ, zero, suc, ◌+◌, ◌-◌, ◌≤◌, ◌<◌, List, [], ◌∷◌, ◌++◌, Option, Some, None, Ok, Err, length, refl, sym, ap, subst, ◌∙◌, append_assoc, arith, Bool, true, false, cond, leb, length-append, inl, inr}
-use Rattle.std.proofs.lemmas.List.{length-map, append_cancel_right}
+use Rattle.std.proofs.Common.{◌≡◌, ℕ, ◌+◌, ◌-◌, ◌≤◌, List, [], ◌∷◌, ◌++◌, Some, None, Ok, Err, length, refl, sym, subst, ◌∙◌, arith, Bool, true, false, cond, leb, inl, inr}
 use Rattle.std.proofs.lemmas.Bool.{leb-true, le-leb}
 use Rattle.vx_ast.specs.declared.Place.{Place}
 use Rattle.vx_ast.specs.Written.{Expr, Declaration}
 use Rattle.vx_tokens.specs.declared.token.Symbol.TheVariants as signs
-use Rattle.vx_tokens.specs.Tokens.{Token}
-use Rattle.vx_grammar.specs.Grammar.{Mark, tokens_of}
-use Rattle.vx_grammar.specs.Reading.{◌>>=◌, Read, Unexpected, TooDeep, is_symbol, choice_at, below}
-use Rattle.vx_grammar.specs.Loops.{Turn, run, turned}
-use Rattle.vx_grammar.specs.StmtReading.{name_at, declaration_at, block_at, stmts_below, skip_semicolon}
-use Rattle.vx_grammar.specs.MemberReading.{limit, Clauses, no_clauses, with_requires, with_ensures, begins_requires, begins_ensures, clause_at, clause_turn, clauses_at, method_at, declaration_turn, declarations_at, inner_parameters_at, parameters_at, begins_returns, returns_at}
-use Rattle.vx_grammar.proofs.Tells.{Grammar, Tells, TellsOk}
+use Rattle.vx_tokens.specs.declared.token.Word.TheVariants as words
+use Rattle.vx_tokens.specs.Tokens.{Token, Kind, word}
+use Rattle.vx_grammar.specs.Grammar.{Mark}
+use Rattle.vx_grammar.specs.Reading.{◌>>=◌, Read, Unexpected, TooDeep, is_symbol, choice_at, below, name_at}
+use Rattle.vx_grammar.specs.StmtReading.{clause_at, declaration_at, block_at, stmts_below, skip_semicolon}
+use Rattle.vx_grammar.specs.MemberReading.{limit, Clauses, no_clauses, with_requires, with_ensures, begins_requires, begins_ensures, clause_turn, clauses_at, method_at, field_at, member_by, member_at, declaration_turn, declarations_at, inner_parameters_at, parameters_at, begins_returns, returns_at}
+use Rattle.vx_grammar.proofs.Tells.{Tells}
 use Rattle.vx_grammar.proofs.Steps.{TurnFor}
 use Rattle.vx_grammar.proofs.MemberTold.{DeclarationStep, turn_tells}
 use Rattle.vx_grammar.proofs.MethodTold.{ClauseStep, clause_turn_tells}
-use Rattle.vx_grammar.proofs.Local.{Local, Front, SameHead, same_behind, local_ok, local_end, local_end_unexpected, local_return, local_token, local_then, local_same}
+use Rattle.vx_grammar.proofs.Local.{Local, local_ok, local_end, local_end_unexpected, local_return, local_token, local_then, local_same}
+use Rattle.vx_grammar.proofs.RunLocal.{Turns, run_local, taken_short, taken_none}
 use Rattle.vx_grammar.proofs.LocalExpr.{reading_local}
-use Rattle.vx_grammar.proofs.StmtLocal.{name_local, declaration_local, bracket_local, block_reading_local}
-
--- ---- turns
-
--- as Front of one reader, for as many turns as there may be
-pub record RunFront {S : Type 0} (turn : Turn S) (s : S) (ts rest : List Token) (answer : List Token → Read S) : Type 0 where
-  pub front : List Token
-  pub is : ts ≡ front ++ rest
-  pub repeats : (next : List Token) → SameHead rest next → (most : ℕ) → length (front ++ next) ≤ most → run turn most s (front ++ next) ≡ answer next
-
-abbrev pub LocalRun : {S : Type 0} → Turn S → S → List Token → Read S → Type 0
-LocalRun turn s ts (Ok x) = RunFront turn s ts x.1 (λ l. Ok (x.0, l))
-LocalRun turn s ts (Err (Unexpected rest)) = RunFront turn s ts rest (λ l. Err (Unexpected l))
-LocalRun turn s ts (Err (TooDeep rest)) = Unit {0}
-
--- a turn that is repeated by another, takes a token at least where it goes on, and none where it does not
-pub record Turns {S : Type 0} (turn other : Turn S) : Type 0 where
-  pub local : (s : S) (ts : List Token) → Local ts (turn s ts) (other s)
-  pub short : (s t : S) (ts mid : List Token) → turn s ts ≡ Ok (Some t, mid) → length mid < length ts
-  pub same : (s : S) (ts mid : List Token) → turn s ts ≡ Ok (None, mid) → ts ≡ mid
-  pub empty : (s : S) → other s [] ≡ Ok (None, [])
-
-empty_run : {S : Type 0} (turn other : Turn S) → Turns turn other → (s : S) (most : ℕ) → run other most s [] ≡ Ok (s, [])
-unfolding run
-empty_run turn other h s zero = refl
-empty_run turn other h s (suc most) = rw (h.empty s) refl
-
-only_empty : {S : Type 0} (turn other : Turn S) → Turns turn other → (s : S) (next : List Token) → SameHead [] next → (most : ℕ) → run other most s next ≡ Ok (s, next)
-only_empty turn other h s [] same most = empty_run turn other h s most
-only_empty turn other h s (t ∷ next) same most = absurd same
-
-nothing_front : (front rest : List Token) → rest ≡ front ++ rest → front ≡ []
-nothing_front front rest e = append_cancel_right front [] rest (sym e)
-
-over_run : {S : Type 0} (turn other : Turn S) (s : S) (ts : List Token) → Front ts ts (λ l. Ok (None, l)) (other s) → LocalRun other s ts (Ok (s, ts))
-unfolding run
-over_run turn other s ts f = record { front = []; is = refl; repeats = again }
-  where
-    again : (next : List Token) → SameHead ts next → (most : ℕ) → length next ≤ most → run other most s next ≡ Ok (s, next)
-    again next same zero le = refl
-    again next same (suc most) le =
-        let none : f.front ≡ [] = nothing_front f.front ts f.is in
-        let read : other s next ≡ Ok (None, next) = subst (λ l. other s (l ++ next) ≡ Ok (None, next)) none (f.repeats next same) in
-        rw read refl
-
-stop_run : {S : Type 0} (turn other : Turn S) → Turns turn other → (s : S) (ts rest : List Token) → Front ts rest (λ l. Err (Unexpected l)) (other s) → LocalRun other s ts (Err (Unexpected rest))
-unfolding run
-stop_run turn other h s ts rest f = record { front = f.front; is = f.is; repeats = again }
-  where
-    no_tokens : (l : List Token) → length l ≤ 0 → l ≡ []
-    no_tokens [] le = refl
-    no_tokens (t ∷ l) le = absurd (omega (arith, le))
-
-    again : (next : List Token) → SameHead rest next → (most : ℕ) → length (f.front ++ next) ≤ most → run other most s (f.front ++ next) ≡ Err (Unexpected next)
-    again next same zero le =
-        let e : other s [] ≡ Err (Unexpected next) = subst (λ l. other s l ≡ Err (Unexpected next)) (no_tokens (f.front ++ next) le) (f.repeats next same) in
-        let o = h.empty s in
-        absurd cc
-    again next same (suc most) le = rw (f.repeats next same) refl
-
-on_run : {S : Type 0} (turn other : Turn S) (s t : S) (ts mid rest : List Token) (answer : List Token → Read S) → length mid < length ts → Front ts mid (λ l. Ok (Some t, l)) (other s) → RunFront other t mid rest answer → RunFront other s ts rest answer
-unfolding run
-on_run turn other s t ts mid rest answer lt f g = record {
-  front = f.front ++ g.front;
-  is = f.is ∙ ap (λ l. f.front ++ l) g.is ∙ sym (append_assoc f.front g.front rest);
-  repeats = again;
-}
-  where
-    again : (next : List Token) → SameHead rest next → (most : ℕ) → length ((f.front ++ g.front) ++ next) ≤ most → run other most s ((f.front ++ g.front) ++ next) ≡ answer next
-    again next same most le =
-        let l3 = g.front ++ next in
-        let list : (f.front ++ g.front) ++ next ≡ f.front ++ l3 = append_assoc f.front g.front next in
-        let heads : SameHead mid l3 = subst (λ l. SameHead l l3) (sym g.is) (same_behind g.front rest next same) in
-        let n1 = length-append f.front mid in
-        let n2 = ap length f.is in
-        let n3 = length-append f.front l3 in
-        let n4 = ap length list in
-        ap (run other most s) list ∙ by_most most (omega (arith, n4, le)) (f.repeats l3 heads) (omega (arith, lt, n1, n2, n3, n4, le)) (omega (arith, lt, n1, n2))
-      where
-        by_most : (most : ℕ) → length (f.front ++ (g.front ++ next)) ≤ most → other s (f.front ++ (g.front ++ next)) ≡ Ok (Some t, g.front ++ next) → length (g.front ++ next) + 1 ≤ most → 1 ≤ length f.front → run other most s (f.front ++ (g.front ++ next)) ≡ answer next
-        by_most zero le read short one = absurd (omega (arith, short))
-        by_most (suc most) le read short one = rw read (g.repeats next same most (omega (arith, short)))
-
-by_turn : {S : Type 0} (turn other : Turn S) → Turns turn other → (s : S) (ts : List Token) (r : Read (Option S)) → turn s ts ≡ r → (go : S → List Token → Read S) → ((t : S) (us : List Token) → length us < length ts → LocalRun other t us (go t us)) → LocalRun other s ts (r >>= λ x. turned go s ts x.0 x.1)
-by_turn {S = S} turn other h s ts (Ok (None, mid)) e go k = over_run turn other s ts (subst (λ m. Front ts m (λ l. Ok (None, l)) (other s)) (sym (h.same s ts mid e)) (subst (λ r. Local ts r (other s)) e (h.local s ts)))
-by_turn {S = S} turn other h s ts (Ok (Some t, mid)) e go k =
-    let lt = h.short s t ts mid e in
-    more_run (go t mid) (k t mid lt)
-  where
-    more_run : (r : Read S) → LocalRun other t mid r → LocalRun other s ts r
-    more_run (Ok x) g = on_run turn other s t ts mid x.1 (λ l. Ok (x.0, l)) (h.short s t ts mid e) (subst (λ r. Local ts r (other s)) e (h.local s ts)) g
-    more_run (Err (Unexpected rest)) g = on_run turn other s t ts mid rest (λ l. Err (Unexpected l)) (h.short s t ts mid e) (subst (λ r. Local ts r (other s)) e (h.local s ts)) g
-    more_run (Err (TooDeep rest)) g = tt
-by_turn {S = S} turn other h s ts (Err (Unexpected rest)) e go k = stop_run turn other h s ts rest (subst (λ r. Local ts r (other s)) e (h.local s ts))
-by_turn {S = S} turn other h s ts (Err (TooDeep rest)) e go k = tt
-
-run_local_by : {S : Type 0} (turn other : Turn S) → Turns turn other → (most : ℕ) (s : S) (ts : List Token) → length ts ≤ most → LocalRun other s ts (run turn most s ts)
-unfolding run
-run_local_by turn other h zero s [] le = record { front = []; is = refl; repeats = λ next same most l. only_empty turn other h s next same most }
-run_local_by turn other h zero s (t ∷ ts) le = absurd (omega (arith, le))
-run_local_by turn other h (suc most) s ts le = by_turn turn other h s ts (turn s ts) refl (run turn most) (λ t us lt. run_local_by turn other h most t us (omega (arith, lt, le)))
-
--- a loop that is given as many turns as there are tokens
-pub run_local : {S : Type 0} (turn other : Turn S) → Turns turn other → (s : S) (ts : List Token) → Local ts (run turn (length ts) s ts) (λ l. run other (length l) s l)
-run_local {S = S} turn other h s ts = by_read (run turn (length ts) s ts) (run_local_by turn other h (length ts) s ts (omega arith))
-  where
-    by_read : (r : Read S) → LocalRun other s ts r → Local ts r (λ l. run other (length l) s l)
-    by_read (Ok x) g = record { front = g.front; is = g.is; repeats = λ next same. g.repeats next same (length (g.front ++ next)) (omega arith) }
-    by_read (Err (Unexpected rest)) g = record { front = g.front; is = g.is; repeats = λ next same. g.repeats next same (length (g.front ++ next)) (omega arith) }
-    by_read (Err (TooDeep rest)) g = tt
+use Rattle.vx_grammar.proofs.StmtLocal.{declaration_local, block_reading_local}
+use Rattle.vx_grammar.proofs.LocalParts.{name_local, bracket_local}
 
 -- ---- declarations
 
@@ -140,23 +32,11 @@ unfolding declaration_turn
 declaration_turn_local before [] = local_end None (declaration_turn before) refl
 declaration_turn_local before (t ∷ ts) = by_comma before t ts (is_symbol signs.Comma t.kind) refl
 
--- what was taken by some marks is shorter, and by none is the same
-taken_short : {A : Type 0} (R : Grammar A) (deep : ℕ) (ts : List Token) (x : A) (mid : List Token) → ((ms : List Mark) → R x ms → 1 ≤ length ms) → TellsOk R deep ts x mid → length mid < length ts
-taken_short R deep ts x mid f h =
-    let one = f h.marks h.spelled in
-    let all = ap length h.takes.tokens in
-    let a = length-append (tokens_of h.marks) mid in
-    let b = length-map h.marks (λ m. m.token) in
-    omega (arith, one, all, a, b)
-
-taken_none : {A : Type 0} (R : Grammar A) (deep : ℕ) (ts : List Token) (x : A) (mid : List Token) → ((ms : List Mark) → R x ms → ms ≡ []) → TellsOk R deep ts x mid → ts ≡ mid
-taken_none R deep ts x mid f h = h.takes.tokens ∙ ap (λ l. tokens_of l ++ mid) (f h.marks h.spelled)
-
 declaration_turns : Turns declaration_turn declaration_turn
 unfolding declaration_turn
 declaration_turns = record {
   local = declaration_turn_local;
-  short = λ s t ts mid e. taken_short (TurnFor (DeclarationStep 0) s) 0 ts (Some t) mid (λ ms (p, d, st, v, z). rw z (omega arith)) (subst (Tells (TurnFor (DeclarationStep 0) s) 0 ts) e (turn_tells 0 0 (omega arith) s ts));
+  short = λ s t ts mid e. taken_short (TurnFor (DeclarationStep 0) s) 0 ts (Some t) mid (λ ms (p, d, v, z). rw z (omega arith)) (subst (Tells (TurnFor (DeclarationStep 0) s) 0 ts) e (turn_tells 0 0 (omega arith) s ts));
   same = λ s ts mid e. taken_none (TurnFor (DeclarationStep 0) s) 0 ts None mid (λ ms z. z) (subst (Tells (TurnFor (DeclarationStep 0) s) 0 ts) e (turn_tells 0 0 (omega arith) s ts));
   empty = λ s. refl;
 }
@@ -256,7 +136,7 @@ clauses_local more ts = run_local (clause_turn limit) (clause_turn (limit + more
 
 -- ---- methods
 
-pub method_local : (more : ℕ) (place : Place) (ts : List Token) → Local ts (method_at limit place ts) (method_at (limit + more) place)
+method_local : (more : ℕ) (place : Place) (ts : List Token) → Local ts (method_at limit place ts) (method_at (limit + more) place)
 unfolding method_at
 method_local more place ts =
     local_then ts (name_at ts) name_at _ _ (name_local ts) (λ x us.
@@ -264,3 +144,21 @@ method_local more place ts =
     local_then vs (returns_at vs) returns_at _ _ (returns_local vs) (λ rs ws.
     local_then ws (clauses_at limit ws) (clauses_at (limit + more)) _ _ (clauses_local more ws) (λ c xs.
     local_then xs (block_at (stmts_below limit) xs) (block_at (stmts_below (limit + more))) _ _ (block_reading_local limit more xs) (λ b ys. local_return ys _)))))
+
+-- ---- members
+
+field_local : (place : Place) (ts : List Token) → Local ts (field_at place ts) (field_at place)
+unfolding field_at
+field_local place ts = local_then ts (declaration_at ts) declaration_at _ _ (declaration_local ts) (λ d us. local_return us _)
+
+nothing_local : {A : Type 0} (ts : List Token) → (let r : Read A = Err (Unexpected ts) in Local ts r (λ l. Err (Unexpected l)))
+nothing_local ts = record { front = []; is = refl; repeats = λ next same. refl }
+
+member_by_local : (more : ℕ) (place : Place) (k : Kind) (ts : List Token) → Local ts (member_by limit place k ts) (member_by (limit + more) place k)
+member_by_local more place (word words.Field) ts = field_local place ts
+member_by_local more place (word words.Method) ts = method_local more place ts
+member_by_local more place k ts = nothing_local ts
+
+pub member_local : (more : ℕ) (t : Token) (ts : List Token) → Local ts (member_at limit t ts) (member_at (limit + more) t)
+unfolding member_at
+member_local more t ts = member_by_local more t.place t.kind ts

@@ -9,12 +9,11 @@ use Rattle.vx_tokens.specs.declared.token.Symbol.TheVariants as signs
 use Rattle.vx_tokens.specs.Tokens.{Token, name, word, symbol}
 use Rattle.vx_grammar.specs.Grammar.{Phrase, Mark, mark, marks, meant, StandsAt, tokens_of}
 use Rattle.vx_grammar.specs.Statements.{declaration_meant, declaration_marks, BlockPhrase, block, block_marks, row_marks, semi_marks}
-use Rattle.vx_grammar.specs.Programs.{MoreDeclarations, no_more, listed, DeclarationsPhrase, none, some, ParametersPhrase, ReturnsPhrase, no_returns, returns, more_meant, declarations_meant, returns_meant, StandsMore, StandsDeclarations, StandsReturns, more_marks, declarations_marks, parameters_marks, returns_marks, ClausesPhrase, no_clauses, requires, ensures, StandsClauses, clauses_marks, MethodPhrase, method_meant, StandsMethod, method_marks, ProgramPhrase, no_members, member, program_meant, StandsProgram, program_marks}
-use Rattle.vx_grammar.specs.Reading.{Read, expect, is_symbol}
-use Rattle.vx_grammar.specs.Loops.{run}
-use Rattle.vx_grammar.specs.StmtReading.{name_at, skip_semicolon}
+use Rattle.vx_grammar.specs.Programs.{MoreDeclarations, no_more, listed, DeclarationsPhrase, none, some, ParametersPhrase, ReturnsPhrase, no_returns, returns, more_meant, declarations_meant, returns_meant, more_marks, declarations_marks, parameters_marks, returns_marks, ClausesPhrase, no_clauses, requires, ensures, StandsClauses, clauses_marks, MethodPhrase, method_meant, StandsMethod, method_marks, MemberPhrase, a_field, a_method, member_meant, member_marks, StandsMember, ProgramPhrase, no_members, member, program_meant, StandsProgram, program_marks}
+use Rattle.vx_grammar.specs.Reading.{Read, expect, is_symbol, run, name_at}
+use Rattle.vx_grammar.specs.StmtReading.{clause_at, skip_semicolon}
 use Rattle.vx_grammar.specs.MemberReading as reading
-use Rattle.vx_grammar.specs.MemberReading.{Clauses, with_requires, with_ensures, begins_requires, begins_ensures, clause_at, clause_turn, clauses_at, exprs_from, limit, max_members, method_of, method_at, declaration_turn, declarations_at, is_closing, inner_parameters_at, parameters_at, begins_returns, returns_at, members_by, members_within, members_at}
+use Rattle.vx_grammar.specs.MemberReading.{Clauses, with_requires, with_ensures, begins_requires, begins_ensures, clause_turn, clauses_at, limit, max_members, method_of, method_at, field_at, member_at, begins_member, declaration_turn, declarations_at, is_closing, inner_parameters_at, parameters_at, begins_returns, returns_at, members_by, members_within, members_at}
 use Rattle.vx_grammar.specs.Laws.{Within}
 use Rattle.vx_grammar.specs.ProgramLaws.{SpelledProgramsAreRead}
 use Rattle.vx_grammar.proofs.Lists.{tokens-append_more, within_front, within_back, Ends}
@@ -28,16 +27,16 @@ count : MoreDeclarations → ℕ
 count no_more = 0
 count (listed p d rest) = 1 + count rest
 
-more_reads : (n : ℕ) (w : MoreDeclarations) (before : List Declaration) (t : Token) (ts : List Token) → StandsMore w → is_symbol signs.Comma t.kind ≡ false → (most : ℕ) → count w ≤ most → run declaration_turn most before (Toks (more_marks n w) (t ∷ ts)) ≡ Ok (before ++ more_meant w, t ∷ ts)
+more_reads : (n : ℕ) (w : MoreDeclarations) (before : List Declaration) (t : Token) (ts : List Token) → is_symbol signs.Comma t.kind ≡ false → (most : ℕ) → count w ≤ most → run declaration_turn most before (Toks (more_marks n w) (t ∷ ts)) ≡ Ok (before ++ more_meant w, t ∷ ts)
 unfolding run declaration_turn count
-more_reads n no_more before t ts st h zero le = ap (λ (l : List Declaration). let a : Read (List Declaration) = Ok (l, t ∷ ts) in a) (sym (append-nil before))
-more_reads n no_more before t ts st h (suc most) le = rw h (ap (λ (l : List Declaration). let a : Read (List Declaration) = Ok (l, t ∷ ts) in a) (sym (append-nil before)))
-more_reads n (listed p d rest) before t ts st h zero le = absurd (omega (arith, le))
-more_reads n (listed p d rest) before t ts st h (suc most) le =
+more_reads n no_more before t ts h zero le = ap (λ (l : List Declaration). let a : Read (List Declaration) = Ok (l, t ∷ ts) in a) (sym (append-nil before))
+more_reads n no_more before t ts h (suc most) le = rw h (ap (λ (l : List Declaration). let a : Read (List Declaration) = Ok (l, t ∷ ts) in a) (sym (append-nil before)))
+more_reads n (listed p d rest) before t ts h zero le = absurd (omega (arith, le))
+more_reads n (listed p d rest) before t ts h (suc most) le =
     let tail = Toks (more_marks n rest) (t ∷ ts) in
     let list : tokens_of (declaration_marks n d ++ more_marks n rest) ++ t ∷ ts ≡ Toks (declaration_marks n d) tail = tokens-append_more (declaration_marks n d) (more_marks n rest) (t ∷ ts) in
-    rw (list, declaration_reads n d tail st.0)
-    (more_reads n rest (before ++ declaration_meant d ∷ []) t ts st.1 h most (omega (arith, le)) ∙ ap (λ (l : List Declaration). let a : Read (List Declaration) = Ok (l, t ∷ ts) in a) (append_assoc before (declaration_meant d ∷ []) (more_meant rest)))
+    rw (list, declaration_reads n d tail)
+    (more_reads n rest (before ++ declaration_meant d ∷ []) t ts h most (omega (arith, le)) ∙ ap (λ (l : List Declaration). let a : Read (List Declaration) = Ok (l, t ∷ ts) in a) (append_assoc before (declaration_meant d ∷ []) (more_meant rest)))
 
 more_long : (n : ℕ) (w : MoreDeclarations) (ts : List Token) → count w ≤ length (Toks (more_marks n w) ts)
 unfolding count
@@ -48,21 +47,21 @@ more_long n (listed p d rest) ts =
     let h = more_long n rest ts in
     omega (arith, list, a, h)
 
-inner_reads : (n : ℕ) (w : DeclarationsPhrase) (q : Place) (ts : List Token) → StandsDeclarations w → (let close = mark n q (symbol signs.Close) in inner_parameters_at (Toks (declarations_marks n w) (close.token ∷ ts)) ≡ Ok (declarations_meant w, close.token ∷ ts))
+inner_reads : (n : ℕ) (w : DeclarationsPhrase) (q : Place) (ts : List Token) → (let close = mark n q (symbol signs.Close) in inner_parameters_at (Toks (declarations_marks n w) (close.token ∷ ts)) ≡ Ok (declarations_meant w, close.token ∷ ts))
 unfolding inner_parameters_at declarations_at
-inner_reads n none q ts st = refl
-inner_reads n (some d rest) q ts st =
+inner_reads n none q ts = refl
+inner_reads n (some d rest) q ts =
     let close = mark n q (symbol signs.Close) in
     let tail = Toks (more_marks n rest) (close.token ∷ ts) in
     let list : tokens_of (declaration_marks n d ++ more_marks n rest) ++ close.token ∷ ts ≡ Toks (declaration_marks n d) tail = tokens-append_more (declaration_marks n d) (more_marks n rest) (close.token ∷ ts) in
-    ap inner_parameters_at list ∙ rw (declaration_reads n d tail st.0) (more_reads n rest (declaration_meant d ∷ []) close.token ts st.1 refl (length tail) (more_long n rest (close.token ∷ ts)))
+    ap inner_parameters_at list ∙ rw (declaration_reads n d tail) (more_reads n rest (declaration_meant d ∷ []) close.token ts refl (length tail) (more_long n rest (close.token ∷ ts)))
 
-parameters_read : (n : ℕ) (w : ParametersPhrase) (ts : List Token) → StandsDeclarations w.inner → parameters_at (Toks (parameters_marks n w) ts) ≡ Ok (declarations_meant w.inner, ts)
+parameters_read : (n : ℕ) (w : ParametersPhrase) (ts : List Token) → parameters_at (Toks (parameters_marks n w) ts) ≡ Ok (declarations_meant w.inner, ts)
 unfolding parameters_at expect
-parameters_read n w ts st =
+parameters_read n w ts =
     let close = mark (n + 1) w.to (symbol signs.Close) in
     let list : tokens_of (declarations_marks (n + 1) w.inner ++ close ∷ []) ++ ts ≡ Toks (declarations_marks (n + 1) w.inner) (close.token ∷ ts) = tokens-append_more (declarations_marks (n + 1) w.inner) (close ∷ []) ts in
-    rw (list, inner_reads (n + 1) w.inner w.to ts st) refl
+    rw (list, inner_reads (n + 1) w.inner w.to ts) refl
 
 -- ---- clauses
 
@@ -200,11 +199,11 @@ not_returns no_clauses (block o r c) ts = refl
 not_returns (requires p e semi rest) b ts = refl
 not_returns (ensures p e semi rest) b ts = refl
 
-returns_read : (w : ReturnsPhrase) (ts : List Token) → StandsReturns w → NotReturns ts → returns_at (Toks (returns_marks 0 w) ts) ≡ Ok (returns_meant w, ts)
+returns_read : (w : ReturnsPhrase) (ts : List Token) → NotReturns ts → returns_at (Toks (returns_marks 0 w) ts) ≡ Ok (returns_meant w, ts)
 unfolding returns_at
-returns_read no_returns [] st h = refl
-returns_read no_returns (t ∷ ts) st h = rw h refl
-returns_read (returns p w) ts st h = parameters_read 0 w ts st
+returns_read no_returns [] h = refl
+returns_read no_returns (t ∷ ts) h = rw h refl
+returns_read (returns p w) ts h = parameters_read 0 w ts
 
 method_read : (deep : ℕ) (m : MethodPhrase) (ts : List Token) → Within deep (method_marks m) → StandsMethod m → (let inner = parameters_marks 0 m.parameters ++ (returns_marks 0 m.returns ++ (clauses_marks 0 0 m.clauses ++ block_marks 0 m.body)) in method_at deep m.at ((mark 0 m.name_at (name m.text)).token ∷ Toks inner ts) ≡ Ok (method_meant m, ts))
 unfolding method_at name_at
@@ -220,12 +219,36 @@ method_read deep m ts h st =
     let l1 = Toks (returns_marks 0 m.returns) l2 in
     let list : Toks (parameters_marks 0 m.parameters ++ rest) ts ≡ Toks (parameters_marks 0 m.parameters) l1 =
     tokens-append_more (parameters_marks 0 m.parameters) rest ts ∙ ap (λ l. Toks (parameters_marks 0 m.parameters) l) (tokens-append_more (returns_marks 0 m.returns) (clauses ++ body) ts ∙ ap (λ l. Toks (returns_marks 0 m.returns) l) (tokens-append_more clauses body ts)) in
-    let parameters = parameters_read 0 m.parameters l1 st.parameters in
-    let returns' = returns_read m.returns l2 st.returns (not_returns m.clauses m.body ts) in
+    let parameters = parameters_read 0 m.parameters l1 in
+    let returns' = returns_read m.returns l2 (not_returns m.clauses m.body ts) in
     let contract = clauses_are_read deep m.clauses m.body ts hc st.clauses in
     let inside = block_is_read deep 0 deep m.body ts (omega arith) hb st.body in
     rw (list, parameters, returns', contract, inside)
     (ap (λ (x : Member). let a : Read Member = Ok (x, ts) in a) (rw (← requires_same m.clauses, ← ensures_same m.clauses) refl))
+
+-- ---- members
+
+-- the first token of a member, and what stands behind it
+abbrev member_first : MemberPhrase → Mark
+member_first (a_field p d) = mark 0 p (word words.Field)
+member_first (a_method m) = mark 0 m.at (word words.Method)
+
+abbrev member_inner : MemberPhrase → List Mark
+member_inner (a_field p d) = declaration_marks 0 d
+member_inner (a_method m) = mark 0 m.name_at (name m.text) ∷ (parameters_marks 0 m.parameters ++ (returns_marks 0 m.returns ++ (clauses_marks 0 0 m.clauses ++ block_marks 0 m.body)))
+
+member_opens : (m : MemberPhrase) → member_marks m ≡ member_first m ∷ member_inner m
+member_opens (a_field p d) = refl
+member_opens (a_method m) = refl
+
+member_begins : (m : MemberPhrase) → begins_member (member_first m).token.kind ≡ true
+member_begins (a_field p d) = refl
+member_begins (a_method m) = refl
+
+member_read : (deep : ℕ) (m : MemberPhrase) (ts : List Token) → Within deep (member_marks m) → StandsMember m → member_at deep (member_first m).token (Toks (member_inner m) ts) ≡ Ok (member_meant m, ts)
+unfolding member_at field_at
+member_read deep (a_field p d) ts h st = rw (declaration_reads 0 d ts) refl
+member_read deep (a_method m) ts h st = method_read deep m ts h st
 
 -- ---- programs
 
@@ -236,7 +259,8 @@ NotSemi (t ∷ ts) = is_symbol signs.Semicolon t.kind ≡ false
 
 members_front : (w : ProgramPhrase) → NotSemi (Toks (program_marks w) [])
 members_front no_members = tt
-members_front (member m semi rest) = refl
+members_front (member (a_field p d) semi rest) = refl
+members_front (member (a_method m) semi rest) = refl
 
 skips : (semi : Option Place) (ts : List Token) → NotSemi ts → skip_semicolon (Toks (semi_marks 0 semi) ts) ≡ ts
 skips None [] h = refl
@@ -250,25 +274,25 @@ program_read deep many no_members before (suc most) h st few le = ap Ok (sym (ap
 program_read deep many (member m semi rest) before zero h st few le = absurd (omega (arith, le))
 program_read deep many (member m semi rest) before (suc most) h st few le =
     let tail = semi_marks 0 semi ++ program_marks rest in
-    let hm = within_front deep (method_marks m) tail h in
-    let hr = within_back deep (semi_marks 0 semi) (program_marks rest) (within_back deep (method_marks m) tail h) in
+    let hm = within_front deep (member_marks m) tail h in
+    let hr = within_back deep (semi_marks 0 semi) (program_marks rest) (within_back deep (member_marks m) tail h) in
     let after = Toks (semi_marks 0 semi) (Toks (program_marks rest) []) in
     let list : tokens_of tail ++ [] ≡ after = tokens-append_more (semi_marks 0 semi) (program_marks rest) [] in
-    let inner = parameters_marks 0 m.parameters ++ (returns_marks 0 m.returns ++ (clauses_marks 0 0 m.clauses ++ block_marks 0 m.body)) in
-    let all : tokens_of (inner ++ tail) ++ [] ≡ Toks inner after = tokens-append_more inner tail [] ∙ ap (λ l. Toks inner l) list in
-    let read = method_read deep m after hm st.0 in
+    let all : tokens_of (member_marks m ++ tail) ++ [] ≡ (member_first m).token ∷ Toks (member_inner m) after = ap (λ l. tokens_of (l ++ tail) ++ []) (member_opens m) ∙ ap (λ l. (member_first m).token ∷ l) (tokens-append_more (member_inner m) tail [] ∙ ap (λ l. Toks (member_inner m) l) list) in
+    let read = member_read deep m after hm st.0 in
     let lt : ltb (length before) many ≡ true = lt-ltb _ _ (omega (arith, few)) in
-    let n = length-append before (method_meant m ∷ []) in
-    let go = program_read deep many rest (before ++ method_meant m ∷ []) most hr st.1 (omega (arith, n, few)) (omega (arith, le)) in
-    rw (all, lt, read) (ap (λ l. members_by deep many most (before ++ method_meant m ∷ []) l) (skips semi (Toks (program_marks rest) []) (members_front rest)) ∙ go ∙ ap Ok (append_assoc before (method_meant m ∷ []) (program_meant rest)))
+    let n = length-append before (member_meant m ∷ []) in
+    let go = program_read deep many rest (before ++ member_meant m ∷ []) most hr st.1 (omega (arith, n, few)) (omega (arith, le)) in
+    rw (all, member_begins m, lt, read) (ap (λ l. members_by deep many most (before ++ member_meant m ∷ []) l) (skips semi (Toks (program_marks rest) []) (members_front rest)) ∙ go ∙ ap Ok (append_assoc before (member_meant m ∷ []) (program_meant rest)))
 
 pub program_long : (w : ProgramPhrase) → length (program_meant w) ≤ length (program_marks w)
 program_long no_members = omega arith
 program_long (member m semi rest) =
-    let a = length-append (method_marks m) (semi_marks 0 semi ++ program_marks rest) in
+    let o = ap length (member_opens m) in
+    let a = length-append (member_marks m) (semi_marks 0 semi ++ program_marks rest) in
     let b = length-append (semi_marks 0 semi) (program_marks rest) in
     let c = program_long rest in
-    omega (arith, a, b, c)
+    omega (arith, o, a, b, c)
 
 pub spelled_programs_are_read : SpelledProgramsAreRead
 unfolding members_within

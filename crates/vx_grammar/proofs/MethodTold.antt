@@ -11,20 +11,20 @@ use Rattle.vx_tokens.specs.Tokens.{Token, Kind, name, word, symbol}
 use Rattle.vx_grammar.specs.Grammar.{Phrase, Mark, mark, marks, meant, StandsAt}
 use Rattle.vx_grammar.specs.Statements.{semi_marks, block_marks}
 use Rattle.vx_grammar.specs.Programs.{ClausesPhrase, no_clauses, requires, ensures, requires_meant, ensures_meant, StandsClauses, clauses_marks, MethodPhrase, method_meant, StandsMethod, method_marks, parameters_marks, returns_marks}
-use Rattle.vx_grammar.specs.Reading.{◌>>=◌, TooDeep, is_symbol, choice_at, below}
-use Rattle.vx_grammar.specs.StmtReading.{skip_semicolon, name_at, block_at, stmts_below}
+use Rattle.vx_grammar.specs.Reading.{◌>>=◌, TooDeep, is_symbol, choice_at, below, name_at, exprs_from}
+use Rattle.vx_grammar.specs.StmtReading.{clause_at, skip_semicolon, block_at, stmts_below}
 use Rattle.vx_grammar.specs.MemberReading as reading
-use Rattle.vx_grammar.specs.MemberReading.{Clauses, with_requires, with_ensures, begins_requires, begins_ensures, clause_at, clause_turn, clauses_at, exprs_from, limit, method_of, method_at, parameters_at, returns_at}
+use Rattle.vx_grammar.specs.MemberReading.{Clauses, with_requires, with_ensures, begins_requires, begins_ensures, clause_turn, clauses_at, limit, method_of, method_at, parameters_at, returns_at}
 use Rattle.vx_grammar.proofs.Symbols.{is_symbol_true}
-use Rattle.vx_grammar.proofs.Tells.{Grammar, Starts, Tells, takes_none, tells_as, tells_here, tells_token}
+use Rattle.vx_grammar.proofs.Tells.{Grammar, Starts, Tells, takes_none, tells_as, tells_here, tells_token, marks_is, NameFor, name_tells}
 use Rattle.vx_grammar.proofs.Sequence.{Sequence, Nothing, tells_sequence, starts_sequence, starts_nothing, tells_nothing}
-use Rattle.vx_grammar.proofs.Bracketed.{Nested}
-use Rattle.vx_grammar.proofs.Means.{PhraseFor, starts_any, reading_tells, marks_is}
-use Rattle.vx_grammar.proofs.StmtTells.{NameFor, name_tells}
+use Rattle.vx_grammar.proofs.Bracketed.{Nested, led_tells}
+use Rattle.vx_grammar.proofs.Means.{reading_tells}
 use Rattle.vx_grammar.proofs.StmtFor.{BlockFor, starts_block}
-use Rattle.vx_grammar.proofs.StmtTold.{led_tells, block_reading_tells}
+use Rattle.vx_grammar.proofs.StmtTold.{block_reading_tells}
 use Rattle.vx_grammar.proofs.Steps.{Step, TurnFor, StepsBy, StepsFor, run_tells}
 use Rattle.vx_grammar.proofs.MemberTold.{ParametersFor, parameters_tells, starts_parameters, ReturnsFor, returns_tells, starts_returns}
+use Rattle.vx_grammar.proofs.PhraseFor.{PhraseFor, starts_any}
 
 -- ---- a value, and then a semicolon or none
 
@@ -233,7 +233,7 @@ MethodParts place = Sequence (NameFor 0) (λ x. Sequence (ParametersFor 0) (λ p
 method_parts_of : (t : Token) → t.kind ≡ word words.Method → (m : Member) (ms inner : List Mark) → (let k : Mark = record { token = t; count = 0 } in ms ≡ k ∷ inner) → MethodParts t.place m inner → MethodFor m ms
 method_parts_of t k m ms inner is (x, a, a', q, (p, z), (ps, b, b', q', g, (rs, c, c', q'', h, (cl, d, d', q3, i, (bl, e, e', q4, j, (v, y)))))) = record {
   phrase = record { at = t.place; name_at = p; text = x; parameters = g.phrase; returns = h.phrase; clauses = i.phrase; body = j.phrase };
-  stands = record { parameters = g.stands; returns = h.stands; clauses = i.stands; body = j.stands };
+  stands = record { clauses = i.stands; body = j.stands };
   means = means ∙ sym v;
   spelled = marks_is t (word words.Method) 0 _ k ∙ ap (λ l. let s : Mark = record { token = t; count = 0 } in s ∷ l) (sym all) ∙ sym is;
 }

@@ -8,11 +8,11 @@ use Rattle.vx_grammar.specs.Grammar.{Mark, tokens_of}
 use Rattle.vx_grammar.specs.Programs.{ProgramPhrase, program_meant, program_marks, StandsProgram}
 use Rattle.vx_grammar.specs.Reading.{Read, Unexpected, TooDeep}
 use Rattle.vx_grammar.specs.StmtReading.{skip_semicolon}
-use Rattle.vx_grammar.specs.MemberReading.{Halt, inside, no_member, too_many, begins_member, then_members, members_by, members_within, method_at, limit, max_members}
+use Rattle.vx_grammar.specs.MemberReading.{Halt, inside, no_member, too_many, begins_member, then_members, members_by, members_within, member_at, limit, max_members}
 use Rattle.vx_grammar.specs.Laws.{Within}
 use Rattle.vx_grammar.specs.ProgramLaws.{ProgramSays, ProgramsSpelledOnce, NoProgramFits, StopsAtFirst, ReadingStopsAtFirst}
 use Rattle.vx_grammar.proofs.Local.{Local, Front, SameHead, same_behind}
-use Rattle.vx_grammar.proofs.MemberLocal.{method_local, skip_local}
+use Rattle.vx_grammar.proofs.MemberLocal.{member_local, skip_local}
 use Rattle.vx_grammar.proofs.MemberReads.{program_read, program_long}
 use Rattle.vx_grammar.proofs.ProgramTold.{programs_are_spelled}
 
@@ -84,8 +84,8 @@ no_member_local x y before t ts e = record { front = []; is = refl; repeats = ag
     again (s ∷ next) same zero le = refl
     again (s ∷ next) same (suc most) le = rw (← same, e) refl
 
--- inside a method
-inside_local : (x y : ℕ) (before : List Member) (t : Token) (ts rest : List Token) → begins_member t.kind ≡ true → length before < max_members → Front ts rest (λ l. Err (Unexpected l)) (method_at (limit + x) t.place) → HaltLocal x y before (t ∷ ts) (Err (inside (Unexpected rest)))
+-- inside a member
+inside_local : (x y : ℕ) (before : List Member) (t : Token) (ts rest : List Token) → begins_member t.kind ≡ true → length before < max_members → Front ts rest (λ l. Err (Unexpected l)) (member_at (limit + x) t) → HaltLocal x y before (t ∷ ts) (Err (inside (Unexpected rest)))
 unfolding members_by
 inside_local x y before t ts rest e few f = record { front = t ∷ f.front; is = ap (λ l. t ∷ l) f.is; repeats = again }
   where
@@ -98,9 +98,9 @@ inside_local x y before t ts rest e few f = record { front = t ∷ f.front; is =
 skipped : (m : Member) (a b : List Token) → (let u : Read Member = Ok (m, a) in u) ≡ Ok (m, b) → a ≡ b
 skipped m a b h = let pair : (let u : Member × List Token = (m, a) in u) ≡ (m, b) = cc in ap (λ (u : Member × List Token). u.1) pair
 
--- behind a method that was read, and its semicolon
+-- behind a member that was read, and its semicolon
 behind_local : (x y : ℕ) (before : List Member) (t : Token) (ts : List Token) (m : Member) (mid rest : List Token) (answer : List Token → Result Program Halt) → begins_member t.kind ≡ true → length before < max_members
-    → Front ts mid (λ l. Ok (m, l)) (method_at (limit + x) t.place) → Front mid (skip_semicolon mid) (λ l. Ok (m, l)) (λ l. Ok (m, skip_semicolon l)) → HaltFront x y (before ++ m ∷ []) (skip_semicolon mid) rest answer → HaltFront x y before (t ∷ ts) rest answer
+    → Front ts mid (λ l. Ok (m, l)) (member_at (limit + x) t) → Front mid (skip_semicolon mid) (λ l. Ok (m, l)) (λ l. Ok (m, skip_semicolon l)) → HaltFront x y (before ++ m ∷ []) (skip_semicolon mid) rest answer → HaltFront x y before (t ∷ ts) rest answer
 unfolding members_by
 behind_local x y before t ts m mid rest answer e few f s g = record {
   front = t ∷ (f.front ++ (s.front ++ g.front));
@@ -124,19 +124,19 @@ behind_local x y before t ts m mid rest answer e few f s g = record {
         let n2 = length-append s.front l3 in
         let n3 = ap length list in
         let short : length l3 ≤ most = omega (arith, n1, n2, n3, le) in
-        let read : method_at (limit + x) t.place (f.front ++ l2) ≡ Ok (m, l2) = f.repeats l2 heads2 in
+        let read : member_at (limit + x) t (f.front ++ l2) ≡ Ok (m, l2) = f.repeats l2 heads2 in
         let after : skip_semicolon l2 ≡ l3 = skipped m (skip_semicolon l2) l3 (s.repeats l3 heads) in
         rw (list, e, lt, read) (ap (λ l. members_by (limit + x) (max_members + y) most (before ++ m ∷ []) l) after ∙ g.repeats next same most short)
 
 on_local : (x y : ℕ) (before : List Member) (t : Token) (ts : List Token) (m : Member) (mid : List Token) (r : Result Program Halt) → begins_member t.kind ≡ true → length before < max_members
-    → Front ts mid (λ l. Ok (m, l)) (method_at (limit + x) t.place) → HaltLocal x y (before ++ m ∷ []) (skip_semicolon mid) r → HaltLocal x y before (t ∷ ts) r
+    → Front ts mid (λ l. Ok (m, l)) (member_at (limit + x) t) → HaltLocal x y (before ++ m ∷ []) (skip_semicolon mid) r → HaltLocal x y before (t ∷ ts) r
 on_local x y before t ts m mid (Err (inside (Unexpected rest))) e few f g = behind_local x y before t ts m mid rest _ e few f (skip_local m mid) g
 on_local x y before t ts m mid (Err (no_member rest)) e few f g = behind_local x y before t ts m mid rest _ e few f (skip_local m mid) g
 on_local x y before t ts m mid (Err (inside (TooDeep rest))) e few f g = tt
 on_local x y before t ts m mid (Err (too_many rest)) e few f g = tt
 on_local x y before t ts m mid (Ok p) e few f g = tt
 
-method_by_local : (x y : ℕ) (before : List Member) (t : Token) (ts : List Token) (r : Read Member) (go : Member → List Token → Result Program Halt) → begins_member t.kind ≡ true → length before < max_members → Local ts r (method_at (limit + x) t.place)
+method_by_local : (x y : ℕ) (before : List Member) (t : Token) (ts : List Token) (r : Read Member) (go : Member → List Token → Result Program Halt) → begins_member t.kind ≡ true → length before < max_members → Local ts r (member_at (limit + x) t)
     → ((m : Member) (mid : List Token) → length mid ≤ length ts → HaltLocal x y (before ++ m ∷ []) (skip_semicolon mid) (go m mid)) → HaltLocal x y before (t ∷ ts) (then_members r go)
 method_by_local x y before t ts (Ok (m, mid)) go e few f h =
     let n = length-append f.front mid in
@@ -149,14 +149,14 @@ skip_short : (ts : List Token) → length (skip_semicolon ts) ≤ length ts
 skip_short ts = let s : Front ts (skip_semicolon ts) (λ l. Ok (ts, l)) (λ l. Ok (ts, skip_semicolon l)) = skip_local ts ts in let n = length-append s.front (skip_semicolon ts) in let k = ap length s.is in omega (arith, n, k)
 
 few_local : (x y : ℕ) (before : List Member) (t : Token) (ts : List Token) (b : Bool) (go : Member → List Token → Result Program Halt) → ltb (length before) max_members ≡ b → begins_member t.kind ≡ true
-    → ((m : Member) (us : List Token) → length us ≤ length ts → HaltLocal x y (before ++ m ∷ []) us (go m us)) → HaltLocal x y before (t ∷ ts) (cond b (then_members (method_at limit t.place ts) (λ m after. go m (skip_semicolon after))) (Err (too_many (t ∷ ts))))
+    → ((m : Member) (us : List Token) → length us ≤ length ts → HaltLocal x y (before ++ m ∷ []) us (go m us)) → HaltLocal x y before (t ∷ ts) (cond b (then_members (member_at limit t ts) (λ m after. go m (skip_semicolon after))) (Err (too_many (t ∷ ts))))
 few_local x y before t ts true go lt e h =
-    method_by_local x y before t ts (method_at limit t.place ts) (λ m after. go m (skip_semicolon after)) e (ltb-true _ _ lt) (method_local x t.place ts)
+    method_by_local x y before t ts (member_at limit t ts) (λ m after. go m (skip_semicolon after)) e (ltb-true _ _ lt) (member_local x t ts)
     (λ m mid le. let s = skip_short mid in h m (skip_semicolon mid) (omega (arith, s, le)))
 few_local x y before t ts false go lt e h = tt
 
 turn_local : (x y : ℕ) (before : List Member) (t : Token) (ts : List Token) (b : Bool) (go : Member → List Token → Result Program Halt) → begins_member t.kind ≡ b
-    → ((m : Member) (us : List Token) → length us ≤ length ts → HaltLocal x y (before ++ m ∷ []) us (go m us)) → HaltLocal x y before (t ∷ ts) (cond b (cond (ltb (length before) max_members) (then_members (method_at limit t.place ts) (λ m after. go m (skip_semicolon after))) (Err (too_many (t ∷ ts)))) (Err (no_member (t ∷ ts))))
+    → ((m : Member) (us : List Token) → length us ≤ length ts → HaltLocal x y (before ++ m ∷ []) us (go m us)) → HaltLocal x y before (t ∷ ts) (cond b (cond (ltb (length before) max_members) (then_members (member_at limit t ts) (λ m after. go m (skip_semicolon after))) (Err (too_many (t ∷ ts)))) (Err (no_member (t ∷ ts))))
 turn_local x y before t ts true go e h = few_local x y before t ts (ltb (length before) max_members) go refl e h
 turn_local x y before t ts false go e h = no_member_local x y before t ts e
 

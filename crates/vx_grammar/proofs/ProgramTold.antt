@@ -2,19 +2,65 @@
 use Rattle.std.proofs.Common.{◌≡◌, ℕ, zero, suc, ◌≤◌, ◌<◌, List, [], ◌∷◌, ◌++◌, None, Bool, true, false, Result, Ok, Err, length, refl, sym, ap, subst, ◌∙◌, append_assoc, arith, cond, ltb, length-append}
 use Rattle.std.proofs.lemmas.List.{append-nil}
 use Rattle.std.proofs.lemmas.Bool.{ltb-true, ltb-false}
-use Rattle.vx_ast.specs.Written.{Member, Program}
+use Rattle.vx_ast.specs.declared.Place.{Place}
+use Rattle.vx_ast.specs.Written.{Declaration, IsField, Member, Program}
 use Rattle.vx_tokens.specs.declared.token.Word.TheVariants as words
 use Rattle.vx_tokens.specs.Tokens.{Token, Kind, word}
 use Rattle.vx_grammar.specs.Grammar.{Mark, tokens_of}
 use Rattle.vx_grammar.specs.Statements.{semi_marks}
-use Rattle.vx_grammar.specs.Programs.{method_meant, method_marks, ProgramPhrase, no_members, member, program_meant, StandsProgram, program_marks}
+use Rattle.vx_grammar.specs.Programs.{MemberPhrase, a_field, a_method, member_meant, StandsMember, member_marks, ProgramPhrase, no_members, member, program_meant, StandsProgram, program_marks}
 use Rattle.vx_grammar.specs.Reading.{Read, Unexpected, TooDeep}
-use Rattle.vx_grammar.specs.StmtReading.{skip_semicolon}
-use Rattle.vx_grammar.specs.MemberReading.{Halt, no_member, too_many, begins_member, then_members, members_by, members_within, method_at, limit, max_members}
+use Rattle.vx_grammar.specs.StmtReading.{skip_semicolon, declaration_at}
+use Rattle.vx_grammar.specs.MemberReading.{Halt, no_member, too_many, begins_member, then_members, members_by, members_within, field_at, member_by, member_at, limit, max_members}
 use Rattle.vx_grammar.specs.Laws.{Within}
 use Rattle.vx_grammar.specs.ProgramLaws.{ProgramGoesOn, ProgramSays, ProgramsAreSpelled}
-use Rattle.vx_grammar.proofs.Tells.{Starts, Takes, Tells, TellsOk, takes_then, takes_none}
+use Rattle.vx_grammar.proofs.Tells.{Grammar, Starts, Takes, Tells, TellsOk, marks_is, takes_then, takes_none, tells_as}
 use Rattle.vx_grammar.proofs.MethodTold.{SemiThen, semi_tells, MethodFor, method_tells}
+use Rattle.vx_grammar.proofs.Bracketed.{Nested, led_tells}
+use Rattle.vx_grammar.proofs.Sequence.{Sequence, Nothing, tells_sequence, starts_nothing, tells_nothing}
+use Rattle.vx_grammar.proofs.StmtTells.{DeclarationFor, declaration_tells}
+
+-- ---- members
+
+pub record MemberFor (m : Member) (ms : List Mark) : Type 0 where
+  pub phrase : MemberPhrase
+  pub stands : StandsMember phrase
+  pub means : member_meant phrase ≡ m
+  pub spelled : member_marks phrase ≡ ms
+
+field_of : Place → Declaration → Member
+field_of place d = record { place = place; name = d.name; kind = IsField d.of }
+
+abbrev FieldParts : Place → Grammar Member
+FieldParts place = Sequence (DeclarationFor 0) (λ d. Nothing (field_of place d))
+
+field_is : (t : Token) → t.kind ≡ word words.Field → (m : Member) (ms : List Mark) → Nested (record { token = t; count = 0 }) (FieldParts t.place) m ms → MemberFor m ms
+unfolding field_of
+field_is t k m ms h = by_parts h.inner h.is h.spelled
+  where
+    by_parts : (inner : List Mark) → (let s : Mark = record { token = t; count = 0 } in ms ≡ s ∷ inner) → FieldParts t.place m inner → MemberFor m ms
+    by_parts inner is (d, a, b, q, r, (v, z)) = record {
+      phrase = a_field t.place r.phrase;
+      stands = tt;
+      means = ap (λ (x : Declaration). let y : Member = record { place = t.place; name = x.name; kind = IsField x.of } in y) r.means ∙ sym v;
+      spelled = marks_is t (word words.Field) 0 _ k ∙ ap (λ l. let s : Mark = record { token = t; count = 0 } in s ∷ l) (r.spelled ∙ sym (q ∙ rw z (append-nil a))) ∙ sym is;
+    }
+
+field_tells : (t : Token) (ts : List Token) → t.kind ≡ word words.Field → Tells MemberFor limit (t ∷ ts) (field_at t.place ts)
+unfolding field_at field_of
+field_tells t ts k =
+    tells_as (Nested (record { token = t; count = 0 }) (FieldParts t.place)) MemberFor limit (t ∷ ts) _ (field_is t k)
+    (led_tells (FieldParts t.place) limit 0 t ts _ (omega arith)
+    (tells_sequence (DeclarationFor 0) _ limit ts (declaration_at ts) _ (λ d. starts_nothing _) (declaration_tells limit 0 ts (omega arith)) (λ d us. tells_nothing limit us _)))
+
+member_by_tells : (t : Token) (k : Kind) (ts : List Token) → t.kind ≡ k → begins_member k ≡ true → Tells MemberFor limit (t ∷ ts) (member_by limit t.place k ts)
+member_by_tells t (word words.Field) ts k h = field_tells t ts k
+member_by_tells t (word words.Method) ts k h = tells_as MethodFor MemberFor limit (t ∷ ts) _ (λ m ms r. record { phrase = a_method r.phrase; stands = r.stands; means = r.means; spelled = r.spelled }) (method_tells t ts k)
+member_by_tells t k ts e h = absurd cc
+
+member_tells : (t : Token) (ts : List Token) → begins_member t.kind ≡ true → Tells MemberFor limit (t ∷ ts) (member_at limit t ts)
+unfolding member_at
+member_tells t ts h = member_by_tells t t.kind ts refl h
 
 -- members, and then a part of what follows
 pub record Front (before : List Member) (after : List Member) (ms : List Mark) : Type 0 where
@@ -26,12 +72,12 @@ pub record Front (before : List Member) (after : List Member) (ms : List Mark) :
 no_front : (before : List Member) → Front before before []
 no_front before = record { phrase = no_members; stands = tt; means = append-nil before; spelled = refl }
 
-one_front : (before : List Member) (m : Member) (ms ns : List Mark) → MethodFor m ms → SemiThen m m ns → Front before (before ++ m ∷ []) (ms ++ ns)
+one_front : (before : List Member) (m : Member) (ms ns : List Mark) → MemberFor m ms → SemiThen m m ns → Front before (before ++ m ∷ []) (ms ++ ns)
 one_front before m ms ns g (semi, v, z) = record {
   phrase = member g.phrase semi no_members;
   stands = (g.stands, tt);
   means = ap (λ x. before ++ x ∷ []) g.means;
-  spelled = ap (λ l. method_marks g.phrase ++ l) (append-nil (semi_marks 0 semi) ∙ sym z) ∙ ap (λ l. l ++ ns) g.spelled;
+  spelled = ap (λ l. member_marks g.phrase ++ l) (append-nil (semi_marks 0 semi) ∙ sym z) ∙ ap (λ l. l ++ ns) g.spelled;
 }
 
 -- one program behind another
@@ -42,15 +88,15 @@ both (member m semi rest) w = member m semi (both rest w)
 both_meant : (a b : ProgramPhrase) → program_meant (both a b) ≡ program_meant a ++ program_meant b
 unfolding both
 both_meant no_members b = refl
-both_meant (member m semi rest) b = ap (λ l. method_meant m ∷ l) (both_meant rest b)
+both_meant (member m semi rest) b = ap (λ l. member_meant m ∷ l) (both_meant rest b)
 
 both_marks : (a b : ProgramPhrase) → program_marks (both a b) ≡ program_marks a ++ program_marks b
 unfolding both
 both_marks no_members b = refl
 both_marks (member m semi rest) b =
-    ap (λ l. method_marks m ++ (semi_marks 0 semi ++ l)) (both_marks rest b)
-    ∙ ap (λ l. method_marks m ++ l) (sym (append_assoc (semi_marks 0 semi) (program_marks rest) (program_marks b)))
-    ∙ sym (append_assoc (method_marks m) (semi_marks 0 semi ++ program_marks rest) (program_marks b))
+    ap (λ l. member_marks m ++ (semi_marks 0 semi ++ l)) (both_marks rest b)
+    ∙ ap (λ l. member_marks m ++ l) (sym (append_assoc (semi_marks 0 semi) (program_marks rest) (program_marks b)))
+    ∙ sym (append_assoc (member_marks m) (semi_marks 0 semi ++ program_marks rest) (program_marks b))
 
 both_stand : (a b : ProgramPhrase) → StandsProgram a → StandsProgram b → StandsProgram (both a b)
 unfolding both
@@ -66,12 +112,12 @@ fronts a b c ms ns f g = record {
 }
 
 -- members, and the beginning of one more
-front_goes_on : (before after : List Member) (ms ns : List Mark) → Front before after ms → Starts MethodFor ns → ProgramGoesOn (ms ++ ns)
+front_goes_on : (before after : List Member) (ms ns : List Mark) → Front before after ms → Starts MemberFor ns → ProgramGoesOn (ms ++ ns)
 front_goes_on before after ms ns f s = record {
   phrase = both f.phrase (member s.spelled.phrase None no_members);
   stands = both_stand f.phrase (member s.spelled.phrase None no_members) f.stands (s.spelled.stands, tt);
   more = s.more;
-  marks = both_marks f.phrase (member s.spelled.phrase None no_members) ∙ ap (λ l. l ++ (method_marks s.spelled.phrase ++ [])) f.spelled ∙ ap (λ l. ms ++ l) (append-nil (method_marks s.spelled.phrase) ∙ s.spelled.spelled) ∙ sym (append_assoc ms ns s.more);
+  marks = both_marks f.phrase (member s.spelled.phrase None no_members) ∙ ap (λ l. l ++ (member_marks s.spelled.phrase ++ [])) f.spelled ∙ ap (λ l. ms ++ l) (append-nil (member_marks s.spelled.phrase) ∙ s.spelled.spelled) ∙ sym (append_assoc ms ns s.more);
 }
 
 front_alone : (before after : List Member) (ms : List Mark) → Front before after ms → ProgramGoesOn ms
@@ -82,10 +128,6 @@ front_alone before after ms f = record { phrase = f.phrase; stands = f.stands; m
 -- what an answer says of all tokens, where those before were these members
 abbrev SaysBehind : List Token → List Member → List Mark → List Token → Result Program Halt → Type 0
 SaysBehind all before ms ts r = Front [] before ms → Takes limit all ms ts → length before ≤ max_members → ProgramSays all r
-
-method_word : (k : Kind) → begins_member k ≡ true → k ≡ word words.Method
-method_word (word words.Method) h = refl
-method_word k h = absurd cc
 
 says_none : (all : List Token) (before : List Member) (ms : List Mark) (rest : List Token) → SaysBehind all before ms rest (Err (no_member rest))
 says_none all before ms rest f takes few = (ms, record { tokens = takes.tokens; within = takes.within; goes_on = front_alone [] before ms f })
@@ -110,8 +152,8 @@ says_many all before ms t ts h many f takes few = record {
   begins_member = h;
 }
 
-says_stop : (all : List Token) (before : List Member) (ms : List Mark) (ts : List Token) (r : Read Member) (go : Member → List Token → Result Program Halt) → Tells MethodFor limit ts r
-    → ((m : Member) (rest : List Token) (ns : List Mark) → MethodFor m ns → Takes limit ts ns rest → SaysBehind all before ms ts (go m rest))
+says_stop : (all : List Token) (before : List Member) (ms : List Mark) (ts : List Token) (r : Read Member) (go : Member → List Token → Result Program Halt) → Tells MemberFor limit ts r
+    → ((m : Member) (rest : List Token) (ns : List Mark) → MemberFor m ns → Takes limit ts ns rest → SaysBehind all before ms ts (go m rest))
     → SaysBehind all before ms ts (then_members r go)
 says_stop all before ms ts (Ok (m, rest)) go h k f takes few = k m rest h.marks h.spelled h.takes f takes few
 says_stop all before ms ts (Err (Unexpected rest)) go h k f takes few =
@@ -132,7 +174,7 @@ says_stop all before ms ts (Err (TooDeep rest)) go h k f takes few =
 
 -- behind one member more and its semicolon
 says_on : (all : List Token) (before : List Member) (ms : List Mark) (ts : List Token) (r : Member → List Token → Result Program Halt) → length before < max_members → ((m : Member) (us : List Token) (ns : List Mark) → SaysBehind all (before ++ m ∷ []) ns us (r m us))
-    → (m : Member) (rest : List Token) (ns : List Mark) → MethodFor m ns → Takes limit ts ns rest → SaysBehind all before ms ts (r m (skip_semicolon rest))
+    → (m : Member) (rest : List Token) (ns : List Mark) → MemberFor m ns → Takes limit ts ns rest → SaysBehind all before ms ts (r m (skip_semicolon rest))
 says_on all before ms ts r lt h m rest ns g taken f takes few = by_semi (semi_tells limit m rest)
   where
     by_semi : TellsOk (SemiThen m) limit rest m (skip_semicolon rest) → ProgramSays all (r m (skip_semicolon rest))
@@ -144,14 +186,14 @@ says_on all before ms ts r lt h m rest ns g taken f takes few = by_semi (semi_te
         h m (skip_semicolon rest) ((ms ++ ns) ++ s.marks) (subst (Front [] (before ++ m ∷ [])) (sym (append_assoc ms ns s.marks)) front) second (omega (arith, n, lt))
 
 says_member : (all : List Token) (before : List Member) (ms : List Mark) (t : Token) (ts : List Token) (go : Member → List Token → Result Program Halt) (b : Bool) → ltb (length before) max_members ≡ b → begins_member t.kind ≡ true → ((m : Member) (us : List Token) (ns : List Mark) → SaysBehind all (before ++ m ∷ []) ns us (go m us))
-    → SaysBehind all before ms (t ∷ ts) (cond b (then_members (method_at limit t.place ts) (λ m after. go m (skip_semicolon after))) (Err (too_many (t ∷ ts))))
+    → SaysBehind all before ms (t ∷ ts) (cond b (then_members (member_at limit t ts) (λ m after. go m (skip_semicolon after))) (Err (too_many (t ∷ ts))))
 says_member all before ms t ts go true lt h k =
-    says_stop all before ms (t ∷ ts) (method_at limit t.place ts) (λ m after. go m (skip_semicolon after)) (method_tells t ts (method_word t.kind h))
+    says_stop all before ms (t ∷ ts) (member_at limit t ts) (λ m after. go m (skip_semicolon after)) (member_tells t ts h)
     (says_on all before ms (t ∷ ts) go (ltb-true _ _ lt) k)
 says_member all before ms t ts go false ge h k = says_many all before ms t ts h (ltb-false _ _ ge)
 
 says_turn : (all : List Token) (before : List Member) (ms : List Mark) (t : Token) (ts : List Token) (go : Member → List Token → Result Program Halt) (b : Bool) → begins_member t.kind ≡ b → ((m : Member) (us : List Token) (ns : List Mark) → SaysBehind all (before ++ m ∷ []) ns us (go m us))
-    → SaysBehind all before ms (t ∷ ts) (cond b (cond (ltb (length before) max_members) (then_members (method_at limit t.place ts) (λ m after. go m (skip_semicolon after))) (Err (too_many (t ∷ ts)))) (Err (no_member (t ∷ ts))))
+    → SaysBehind all before ms (t ∷ ts) (cond b (cond (ltb (length before) max_members) (then_members (member_at limit t ts) (λ m after. go m (skip_semicolon after))) (Err (too_many (t ∷ ts)))) (Err (no_member (t ∷ ts))))
 says_turn all before ms t ts go true h k = says_member all before ms t ts go (ltb (length before) max_members) refl h k
 says_turn all before ms t ts go false h k = says_none all before ms (t ∷ ts)
 

@@ -2,8 +2,7 @@
 use Rattle.std.proofs.Common.{◌≡◌, ℕ, zero, suc, List, [], ◌∷◌, ◌++◌, Option, Some, None, Ok, refl, sym, ap, subst, ◌∙◌}
 use Rattle.vx_tokens.specs.Tokens.{Token}
 use Rattle.vx_grammar.specs.Grammar.{Mark, tokens_of}
-use Rattle.vx_grammar.specs.Reading.{Read}
-use Rattle.vx_grammar.specs.Loops.{Turn, run, turned}
+use Rattle.vx_grammar.specs.Reading.{Read, Turn, run, turned}
 use Rattle.vx_grammar.proofs.Tells.{Grammar, Takes, Tells, After, GoesOn, tells_then, tells_as, tells_here}
 
 -- which marks lead from what was read before to what is read with one item more

@@ -5,13 +5,11 @@ use Rattle.vx_ast.specs.declared.Place.{Place}
 use Rattle.vx_ast.specs.Written.{Stmt, Block, Done, Then}
 use Rattle.vx_tokens.specs.Tokens.{Token}
 use Rattle.vx_grammar.specs.Grammar.{Phrase, literal, Mark}
-use Rattle.vx_grammar.specs.Statements.{StmtPhrase, asserted, BranchPhrase, branch, OtherPhrase, no_other, BlockPhrase, block, RowPhrase, no_more, more, stmt_meant, branch_meant, other_meant, block_meant, row_meant, StandsStmt, StandsBranch, StandsOther, StandsBlock, StandsRow, stmt_marks, branch_marks, other_marks, block_marks, row_marks}
-use Rattle.vx_grammar.specs.Reading.{◌>>=◌, Read}
-use Rattle.vx_grammar.specs.Loops.{run}
+use Rattle.vx_grammar.specs.Statements.{StmtPhrase, claimed, asserts, BranchPhrase, branch, OtherPhrase, no_other, BlockPhrase, block, RowPhrase, no_more, more, stmt_meant, branch_meant, other_meant, block_meant, row_meant, StandsStmt, StandsBranch, StandsOther, StandsBlock, StandsRow, stmt_marks, branch_marks, other_marks, block_marks, row_marks}
+use Rattle.vx_grammar.specs.Reading.{◌>>=◌, Read, run}
 use Rattle.vx_grammar.specs.StmtReading.{StmtDeeper, begins_stmt, skip_semicolon, stmt_at, stmt_turn, stmts_at, block_from}
-use Rattle.vx_grammar.proofs.Tells.{Starts}
+use Rattle.vx_grammar.proofs.Tells.{Starts, somewhere}
 use Rattle.vx_grammar.proofs.Rows.{rows, RowFor, Semi}
-use Rattle.vx_grammar.proofs.Means.{somewhere}
 
 pub record StmtFor (n : ℕ) (s : Stmt) (ms : List Mark) : Type 0 where
   pub phrase : StmtPhrase
@@ -50,7 +48,7 @@ a_phrase = literal somewhere true
 
 pub starts_stmt : (n : ℕ) → Starts (StmtFor n) []
 unfolding a_phrase
-starts_stmt n = record { value = stmt_meant (asserted somewhere a_phrase); more = stmt_marks n (asserted somewhere a_phrase); spelled = record { phrase = asserted somewhere a_phrase; stands = tt; means = refl; spelled = refl } }
+starts_stmt n = record { value = stmt_meant (claimed asserts somewhere a_phrase); more = stmt_marks n (claimed asserts somewhere a_phrase); spelled = record { phrase = claimed asserts somewhere a_phrase; stands = tt; means = refl; spelled = refl } }
 
 pub starts_inside : (n : ℕ) → Starts (InsideFor n) []
 starts_inside n = record { value = Done; more = []; spelled = record { phrase = no_more; stands = tt; means = refl; spelled = refl } }

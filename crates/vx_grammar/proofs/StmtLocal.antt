@@ -1,43 +1,40 @@
 -- Reading statements looks no further than the token at which it stops.
-use Rattle.std.proofs.Common.{◌≡◌, ℕ, zero, suc, ◌+◌, ◌<◌, List, [], ◌∷◌, ◌++◌, Some, None, Ok, Err, length, refl, sym, ap, subst, ◌∙◌, arith, Bool, true, false, cond, length-append}
+use Rattle.std.proofs.Common.{◌≡◌, ℕ, zero, suc, ◌+◌, ◌<◌, List, [], ◌∷◌, ◌++◌, None, Ok, Err, length, refl, sym, ap, subst, ◌∙◌, arith, Bool, true, false, cond, length-append}
 use Rattle.std.proofs.lemmas.List.{length-map}
 use Rattle.vx_ast.specs.declared.Place.{Place}
 use Rattle.vx_ast.specs.declared.ValueType.TheVariants as types
-use Rattle.vx_ast.specs.Written.{Expr, Declaration, Value, Stmt, Declare, Assign, Assert, Assume, Done, Then}
-use Rattle.vx_tokens.specs.declared.token.Symbol.{Symbol}
+use Rattle.vx_ast.specs.Written.{Expr, Variable, Call, Declaration, Value, Stmt, Declare, Assign, Write, Done, Then}
+use Rattle.vx_ast.specs.Written as written
+use Rattle.vx_grammar.specs.Statements.{inhales, exhales, asserts, assumes, claim_meant}
 use Rattle.vx_tokens.specs.declared.token.Word.TheVariants as words
 use Rattle.vx_tokens.specs.declared.token.Symbol.TheVariants as signs
-use Rattle.vx_tokens.specs.Tokens.{Token, Kind, name, number, word, symbol}
+use Rattle.vx_tokens.specs.Tokens.{Token, Kind, name, word}
 use Rattle.vx_grammar.specs.Grammar.{tokens_of}
-use Rattle.vx_grammar.specs.Reading.{◌>>=◌, Read, Unexpected, TooDeep, expect, is_symbol, choice, choice_at, below}
-use Rattle.vx_grammar.specs.StmtReading.{StmtPart, statements, elseif_part, StmtDeeper, stmt_part, stmts_below, name_by, name_at, type_by, type_at, declaration_at, condition_at, block_at, otherwise_by, otherwise_at, branch_at, initial_by, initial_at, declare_at, assign_at, assert_at, assume_at, stmt_by, stmt_at, begins_stmt, stmts_at, block_from}
+use Rattle.vx_grammar.specs.Reading.{Part, allocation, arguments, run, name_turn, postfix_by, unary_by, unary_at, enclosed, ◌>>=◌, Read, Unexpected, TooDeep, expect, is_symbol, choice, choice_at, below, name_at}
+use Rattle.vx_grammar.specs.StmtReading.{skip_semicolon, clause_at, begins_invariant, invariant_turn, invariants_at, while_at, StmtPart, statements, elseif_part, StmtDeeper, stmt_part, stmts_below, type_by, type_at, declaration_at, block_at, otherwise_by, otherwise_at, branch_at, initial_by, initial_at, declare_at, begins_new, value_at, right_at, assign_one, invoke_at, assigned_by, assign_at, store_at, by_target, target_at, claim_at, stmt_by, stmt_at, begins_stmt, stmts_at, block_from}
 use Rattle.vx_grammar.proofs.Tells.{Tells, TellsOk}
 use Rattle.vx_grammar.proofs.Rows.{rows, rows_local, LocalRows}
-use Rattle.vx_grammar.proofs.Bracketed.{bracketed_by}
-use Rattle.vx_grammar.proofs.Local.{Local, local_ok, local_unexpected, local_end, local_end_unexpected, local_return, local_token, local_then, local_expect}
-use Rattle.vx_grammar.proofs.LocalExpr.{reading_local, nested_local}
+use Rattle.vx_grammar.proofs.Local.{Local, local_ok, local_unexpected, local_end, local_end_unexpected, local_return, local_token, local_then, local_expect, local_same}
+use Rattle.vx_grammar.proofs.LocalParts.{name_local, bracket_local}
+use Rattle.vx_grammar.proofs.RunLocal.{Turns, run_local, taken_short, taken_none}
+use Rattle.vx_grammar.proofs.Steps.{TurnFor}
+use Rattle.vx_grammar.proofs.InvariantsTold.{InvariantStep, invariant_turn_tells}
+use Rattle.std.proofs.Common.{◌-◌, ◌≤◌, leb, Some}
+use Rattle.vx_grammar.specs.Grammar.{Mark}
+use Rattle.std.proofs.lemmas.Bool.{leb-true, le-leb}
+use Rattle.vx_grammar.proofs.LocalExpr.{reading_local, nested_local, local_from_first, operand_local, name_turns}
 use Rattle.vx_grammar.proofs.StmtFor.{StmtFor, stmts_are_rows}
 use Rattle.vx_grammar.proofs.StmtTold.{stmt_reading_tells}
 use Rattle.vx_grammar.proofs.StmtReads.{stmt_first}
 
--- ---- names and types
-
-name_by_local : (t : Token) (k : Kind) (ts : List Token) → t.kind ≡ k → Local (t ∷ ts) (name_by t k ts) name_at
-unfolding name_at
-name_by_local t (name x) ts e = local_token t ts (Ok (x, ts)) (λ l. Ok (x, l)) name_at (λ l. rw e refl) (local_return ts x)
-name_by_local t (number x) ts e = local_unexpected t ts name_at (λ more. rw e refl)
-name_by_local t (word x) ts e = local_unexpected t ts name_at (λ more. rw e refl)
-name_by_local t (symbol x) ts e = local_unexpected t ts name_at (λ more. rw e refl)
-
-pub name_local : (ts : List Token) → Local ts (name_at ts) name_at
-unfolding name_at
-name_local [] = local_end_unexpected name_at refl
-name_local (t ∷ ts) = name_by_local t t.kind ts refl
+-- ---- types
 
 type_by_local : (t : Token) (k : Kind) (ts : List Token) → t.kind ≡ k → Local (t ∷ ts) (type_by t k ts) type_at
 unfolding type_at
 type_by_local t (word words.Int) ts e = local_token t ts (Ok (types.Int, ts)) (λ l. Ok (types.Int, l)) type_at (λ l. rw e refl) (local_return ts types.Int)
 type_by_local t (word words.Bool) ts e = local_token t ts (Ok (types.Bool, ts)) (λ l. Ok (types.Bool, l)) type_at (λ l. rw e refl) (local_return ts types.Bool)
+type_by_local t (word words.Ref) ts e = local_token t ts (Ok (types.Ref, ts)) (λ l. Ok (types.Ref, l)) type_at (λ l. rw e refl) (local_return ts types.Ref)
+type_by_local t (word words.Perm) ts e = local_token t ts (Ok (types.Perm, ts)) (λ l. Ok (types.Perm, l)) type_at (λ l. rw e refl) (local_return ts types.Perm)
 type_by_local t k ts e = local_unexpected t ts type_at (λ more. rw e refl)
 
 type_local : (ts : List Token) → Local ts (type_at ts) type_at
@@ -52,29 +49,18 @@ declaration_local ts =
     local_then us (expect signs.Colon us) (expect signs.Colon) _ _ (local_expect signs.Colon us) (λ c vs.
     local_then vs (type_at vs) type_at _ _ (type_local vs) (λ t ws. local_return ws _)))
 
--- ---- what nests between two signs
-
-bracket_by_local : {A : Type 0} (s e : Symbol) (go other : List Token → List Token → Read A) → ((here ts : List Token) (heres : List Token → List Token) → Local ts (go here ts) (λ l. other (heres l) l)) → (t : Token) (us : List Token) (b : Bool) → is_symbol s t.kind ≡ b
-    → (let r : Read Token = cond b (Ok (t, us)) (Err (Unexpected (t ∷ us))) in Local (t ∷ us) (r >>= λ opened. go (t ∷ us) opened.1 >>= λ y. expect e y.1 >>= λ close. Ok (y.0, close.1)) (bracketed_by s e other))
-unfolding expect
-bracket_by_local s e go other h t us true q =
-    local_token t us (go (t ∷ us) us >>= λ y. expect e y.1 >>= λ close. Ok (y.0, close.1)) (λ l. other (t ∷ l) l >>= λ y. expect e y.1 >>= λ close. Ok (y.0, close.1)) (bracketed_by s e other) (λ l. rw q refl)
-    (local_then us (go (t ∷ us) us) (λ l. other (t ∷ l) l) _ _ (h (t ∷ us) us (λ l. t ∷ l)) (λ y vs. local_then vs (expect e vs) (expect e) _ _ (local_expect e vs) (λ c ws. local_return ws y)))
-bracket_by_local s e go other h t us false q = local_unexpected t us (bracketed_by s e other) (λ more. rw q refl)
-
-pub bracket_local : {A : Type 0} (s e : Symbol) (go other : List Token → List Token → Read A) → ((here ts : List Token) (heres : List Token → List Token) → Local ts (go here ts) (λ l. other (heres l) l)) → (ts : List Token) → Local ts (bracketed_by s e go ts) (bracketed_by s e other)
-unfolding expect
-bracket_local s e go other h [] = local_end_unexpected (bracketed_by s e other) refl
-bracket_local s e go other h (t ∷ us) = bracket_by_local s e go other h t us (is_symbol s t.kind) refl
-
 -- ---- statements, with as much room, or more
 
 -- the deeper reader's answers are those of the other
 StmtLocal : StmtDeeper → StmtDeeper → Type 0
 StmtLocal d d' = (p : StmtPart) (here ts : List Token) (heres : List Token → List Token) → Local ts (d p here ts) (λ l. d' p (heres l) l)
 
-condition_local : (room more : ℕ) (ts : List Token) → Local ts (condition_at room ts) (condition_at (room + more))
-unfolding condition_at
+inside_local : (room more : ℕ) (p : Part) (ts : List Token) → Local ts (enclosed (below room) p ts) (enclosed (below (room + more)) p)
+unfolding enclosed
+inside_local room more p ts = bracket_local signs.Open signs.Close (λ here us. below room p here us) (λ here us. below (room + more) p here us) (λ here us heres. nested_local room more p here us heres) ts
+
+condition_local : (room more : ℕ) (ts : List Token) → Local ts (enclosed (below room) choice ts) (enclosed (below (room + more)) choice)
+unfolding enclosed
 condition_local room more ts = bracket_local signs.Open signs.Close (λ here us. below room choice here us) (λ here us. below (room + more) choice here us) (λ here us heres. nested_local room more choice here us heres) ts
 
 block_local : (d d' : StmtDeeper) (ts : List Token) → StmtLocal d d' → Local ts (block_at d ts) (block_at d')
@@ -95,7 +81,7 @@ other_local d d' (t ∷ ts) h = other_by_local d d' t t.kind ts refl h
 branch_local : (room more : ℕ) (d d' : StmtDeeper) (place : Place) (ts : List Token) → StmtLocal d d' → Local ts (branch_at room d place ts) (branch_at (room + more) d' place)
 unfolding branch_at
 branch_local room more d d' place ts h =
-    local_then ts (condition_at room ts) (condition_at (room + more)) _ _ (condition_local room more ts) (λ e us.
+    local_then ts (enclosed (below room) choice ts) (enclosed (below (room + more)) choice) _ _ (condition_local room more ts) (λ e us.
     local_then us (block_at d us) (block_at d') _ _ (block_local d d' us h) (λ b vs.
     local_then vs (otherwise_at d vs) (otherwise_at d') _ _ (other_local d d' vs h) (λ o ws. local_return ws _)))
 
@@ -103,9 +89,19 @@ branch_local room more d d' place ts h =
 made_local : {A : Type 0} (room more : ℕ) (f : Expr → A) (ts : List Token) → Local ts (choice_at (below room) ts >>= λ e. Ok (f e.0, e.1)) (λ l. choice_at (below (room + more)) l >>= λ e. Ok (f e.0, e.1))
 made_local room more f ts = local_then ts (choice_at (below room) ts) (choice_at (below (room + more))) _ _ (reading_local room more ts) (λ e us. local_return us (f e))
 
+right_by_local : (room more : ℕ) (t : Token) (ts : List Token) (b : Bool) → begins_new t.kind ≡ b → Local (t ∷ ts) (cond b (enclosed (below room) allocation ts) (value_at room (t ∷ ts))) (right_at (room + more))
+unfolding right_at value_at
+right_by_local room more t ts true e = local_token t ts (enclosed (below room) allocation ts) (enclosed (below (room + more)) allocation) (right_at (room + more)) (λ l. rw e refl) (inside_local room more allocation ts)
+right_by_local room more t ts false e = local_same t ts (value_at room (t ∷ ts)) (value_at (room + more)) (right_at (room + more)) (λ l. rw e refl) (made_local room more Value (t ∷ ts))
+
+right_local : (room more : ℕ) (ts : List Token) → Local ts (right_at room ts) (right_at (room + more))
+unfolding right_at
+right_local room more [] = local_end_unexpected (right_at (room + more)) refl
+right_local room more (t ∷ ts) = right_by_local room more t ts (begins_new t.kind) refl
+
 initial_by_local : (room more : ℕ) (place : Place) (d : Declaration) (t : Token) (ts : List Token) (b : Bool) → is_symbol signs.Becomes t.kind ≡ b → Local (t ∷ ts) (cond b (initial_by room place d ts) (Ok (Declare place d None, t ∷ ts))) (initial_at (room + more) place d)
 unfolding initial_at initial_by
-initial_by_local room more place d t ts true e = local_token t ts (initial_by room place d ts) (initial_by (room + more) place d) (initial_at (room + more) place d) (λ l. rw e refl) (made_local room more (λ x. Declare place d (Some (Value x))) ts)
+initial_by_local room more place d t ts true e = local_token t ts (initial_by room place d ts) (initial_by (room + more) place d) (initial_at (room + more) place d) (λ l. rw e refl) (local_then ts (right_at room ts) (right_at (room + more)) _ _ (right_local room more ts) (λ r us. local_return us _))
 initial_by_local room more place d t ts false e = local_ok t ts (Declare place d None) (initial_at (room + more) place d) (λ more. rw e refl)
 
 initial_local : (room more : ℕ) (place : Place) (d : Declaration) (ts : List Token) → Local ts (initial_at room place d ts) (initial_at (room + more) place d)
@@ -117,17 +113,110 @@ declare_local : (room more : ℕ) (place : Place) (ts : List Token) → Local ts
 unfolding declare_at
 declare_local room more place ts = local_then ts (declaration_at ts) declaration_at _ _ (declaration_local ts) (λ d us. initial_local room more place d us)
 
+-- ---- loops
+
+local_eq : {A : Type 0} (ts : List Token) (r : Read A) (reader other : List Token → Read A) → ((l : List Token) → other l ≡ reader l) → Local ts r reader → Local ts r other
+local_eq ts (Ok x) reader other h f = record { front = f.front; is = f.is; repeats = λ next same. h (f.front ++ next) ∙ f.repeats next same }
+local_eq ts (Err (Unexpected rest)) reader other h f = record { front = f.front; is = f.is; repeats = λ next same. h (f.front ++ next) ∙ f.repeats next same }
+local_eq ts (Err (TooDeep rest)) reader other h f = tt
+
+clause_by_local : (room more before : ℕ) (here ts : List Token) (heres : List Token → List Token) (b : Bool) → leb before room ≡ b → Local ts (cond b (choice_at (below (room - before)) ts) (Err (TooDeep here))) (λ l. clause_at (room + more) before (heres l) l)
+unfolding clause_at
+clause_by_local room more before here ts heres true h =
+    let le : before ≤ room = leb-true _ _ h in
+    let b : leb before (room + more) ≡ true = le-leb _ _ (omega (arith, le)) in
+    let r : (room + more) - before ≡ (room - before) + more = omega (arith, le) in
+    local_eq ts (choice_at (below (room - before)) ts) (choice_at (below ((room - before) + more))) (λ l. clause_at (room + more) before (heres l) l) (λ l. rw (b, r) refl) (reading_local (room - before) more ts)
+clause_by_local room more before here ts heres false h = tt
+
+clause_room_local : (room more before : ℕ) (here ts : List Token) (heres : List Token → List Token) → Local ts (clause_at room before here ts) (λ l. clause_at (room + more) before (heres l) l)
+unfolding clause_at
+clause_room_local room more before here ts heres = clause_by_local room more before here ts heres (leb before room) refl
+
+by_semi : {A : Type 0} (v : A) (t : Token) (ts : List Token) (b : Bool) → is_symbol signs.Semicolon t.kind ≡ b → Local (t ∷ ts) (Ok (v, cond b ts (t ∷ ts))) (λ l. Ok (v, skip_semicolon l))
+by_semi v t ts true e = local_token t ts (Ok (v, ts)) (λ l. Ok (v, l)) (λ l. Ok (v, skip_semicolon l)) (λ l. rw e refl) (local_return ts v)
+by_semi v t ts false e = local_ok t ts v (λ l. Ok (v, skip_semicolon l)) (λ more. rw e refl)
+
+semi_local : {A : Type 0} (v : A) (ts : List Token) → Local ts (Ok (v, skip_semicolon ts)) (λ l. Ok (v, skip_semicolon l))
+semi_local v [] = local_end v (λ l. Ok (v, skip_semicolon l)) refl
+semi_local v (t ∷ ts) = by_semi v t ts (is_symbol signs.Semicolon t.kind) refl
+
+invariant_by_local : (room more : ℕ) (before : List Expr) (t : Token) (ts : List Token) (b : Bool) → begins_invariant t.kind ≡ b → Local (t ∷ ts) (cond b (clause_at room (length before) (t ∷ ts) ts >>= λ e. Ok (Some (before ++ e.0 ∷ []), skip_semicolon e.1)) (Ok (None, t ∷ ts))) (invariant_turn (room + more) before)
+unfolding invariant_turn
+invariant_by_local room more before t ts true e = local_token t ts _ (λ l. clause_at (room + more) (length before) (t ∷ l) l >>= λ x. Ok (Some (before ++ x.0 ∷ []), skip_semicolon x.1)) (invariant_turn (room + more) before) (λ l. rw e refl) (local_then ts (clause_at room (length before) (t ∷ ts) ts) (λ l. clause_at (room + more) (length before) (t ∷ l) l) _ _ (clause_room_local room more (length before) (t ∷ ts) ts (λ l. t ∷ l)) (λ x us. semi_local _ us))
+invariant_by_local room more before t ts false e = local_ok t ts None (invariant_turn (room + more) before) (λ l. rw e refl)
+
+invariant_turn_local : (room more : ℕ) (before : List Expr) (ts : List Token) → Local ts (invariant_turn room before ts) (invariant_turn (room + more) before)
+unfolding invariant_turn
+invariant_turn_local room more before [] = local_end None (invariant_turn (room + more) before) refl
+invariant_turn_local room more before (t ∷ ts) = invariant_by_local room more before t ts (begins_invariant t.kind) refl
+
+invariant_long : (n : ℕ) (s t : List Expr) (ms : List Mark) → InvariantStep n s t ms → 1 ≤ length ms
+invariant_long n s t ms c = rw c.spelled (omega arith)
+
+invariant_turns : (room more : ℕ) → Turns (invariant_turn room) (invariant_turn (room + more))
+unfolding invariant_turn
+invariant_turns room more = record {
+  local = invariant_turn_local room more;
+  short = λ s t ts mid e. taken_short (TurnFor (InvariantStep 0) s) room ts (Some t) mid (invariant_long 0 s t) (subst (Tells (TurnFor (InvariantStep 0) s) room ts) e (invariant_turn_tells room 0 room (omega arith) s ts));
+  same = λ s ts mid e. taken_none (TurnFor (InvariantStep 0) s) room ts None mid (λ ms z. z) (subst (Tells (TurnFor (InvariantStep 0) s) room ts) e (invariant_turn_tells room 0 room (omega arith) s ts));
+  empty = λ s. refl;
+}
+
+invariants_local : (room more : ℕ) (ts : List Token) → Local ts (invariants_at room ts) (invariants_at (room + more))
+unfolding invariants_at
+invariants_local room more ts = local_then ts (run (invariant_turn room) (length ts) [] ts) (λ l. run (invariant_turn (room + more)) (length l) [] l) _ _ (run_local (invariant_turn room) (invariant_turn (room + more)) (invariant_turns room more) [] ts) (λ es us. local_return us _)
+
+while_local : (room more : ℕ) (d d' : StmtDeeper) (place : Place) (ts : List Token) → StmtLocal d d' → Local ts (while_at room d place ts) (while_at (room + more) d' place)
+unfolding while_at
+while_local room more d d' place ts h =
+    local_then ts (enclosed (below room) choice ts) (enclosed (below (room + more)) choice) _ _ (condition_local room more ts) (λ e us.
+    local_then us (invariants_at room us) (invariants_at (room + more)) _ _ (invariants_local room more us) (λ is vs.
+    local_then vs (block_at d vs) (block_at d') _ _ (block_local d d' vs h) (λ b ws. local_return ws _)))
+
+-- ---- statements that begin with a name
+
+nothing_local : {A : Type 0} (ts : List Token) → (let r : Read A = Err (Unexpected ts) in Local ts r (λ l. Err (Unexpected l)))
+nothing_local ts = record { front = []; is = refl; repeats = λ next same. refl }
+
+assigned_local : (room more : ℕ) (place : Place) (xs : List (List ℕ)) (ts : List Token) → Local ts (assigned_by room place xs ts) (assigned_by (room + more) place xs)
+unfolding assign_one invoke_at
+assigned_local room more place [] ts = nothing_local ts
+assigned_local room more place (x ∷ []) ts = local_then ts (right_at room ts) (right_at (room + more)) _ _ (right_local room more ts) (λ r us. local_return us _)
+assigned_local room more place (x ∷ y ∷ ys) ts =
+    local_then ts (name_at ts) name_at _ _ (name_local ts) (λ m us.
+    local_then us (enclosed (below room) arguments us) (enclosed (below (room + more)) arguments) _ _ (inside_local room more arguments us) (λ es vs. local_return vs _))
+
 assign_local : (room more : ℕ) (place : Place) (x : List ℕ) (ts : List Token) → Local ts (assign_at room place x ts) (assign_at (room + more) place x)
 unfolding assign_at
-assign_local room more place x ts = local_then ts (expect signs.Becomes ts) (expect signs.Becomes) _ _ (local_expect signs.Becomes ts) (λ c us. made_local room more (λ e. Assign place x (Value e)) us)
+assign_local room more place x ts =
+    local_then ts (run name_turn (length ts) (x ∷ []) ts) (λ l. run name_turn (length l) (x ∷ []) l) _ _ (run_local name_turn name_turn name_turns (x ∷ []) ts) (λ xs us.
+    local_then us (expect signs.Becomes us) (expect signs.Becomes) _ _ (local_expect signs.Becomes us) (λ c vs. assigned_local room more place xs vs))
+
+store_local : (room more : ℕ) (place : Place) (e : Expr) (f : List ℕ) (ts : List Token) → Local ts (store_at room place e f ts) (store_at (room + more) place e f)
+unfolding store_at
+store_local room more place e f ts = local_then ts (expect signs.Becomes ts) (expect signs.Becomes) _ _ (local_expect signs.Becomes ts) (λ c us. made_local room more (Write place e f) us)
+
+by_target_local : (room more : ℕ) (place : Place) (e : Expr) (ts : List Token) → Local ts (by_target room place e ts) (by_target (room + more) place e)
+by_target_local room more place (Variable at x) ts = assign_local room more place x ts
+by_target_local room more place (Call at m es) ts = local_return ts _
+by_target_local room more place (written.Read at e f) ts = store_local room more place e f ts
+by_target_local room more place e ts = nothing_local ts
+
+target_local : (room more : ℕ) (d' : StmtDeeper) (t : Token) (x : List ℕ) (ts : List Token) → t.kind ≡ name x → Local (t ∷ ts) (target_at room t x ts) (stmt_at (room + more) d')
+unfolding stmt_at target_at unary_at unary_by
+target_local room more d' t x ts e = local_from_first t ts (postfix_by (below room) t (name x) ts) (unary_at (below (room + more))) (stmt_at (room + more) d') (λ y. by_target room t.place y.0 y.1) (λ y. by_target (room + more) t.place y.0 y.1) (λ l. rw e refl) (operand_local room more t x ts e) (λ y mid. by_target_local room more t.place y mid)
 
 stmt_by_local : (room more : ℕ) (d d' : StmtDeeper) (t : Token) (k : Kind) (ts : List Token) → t.kind ≡ k → StmtLocal d d' → Local (t ∷ ts) (stmt_by room d t k ts) (stmt_at (room + more) d')
-unfolding stmt_at assert_at assume_at
-stmt_by_local room more d d' t (name x) ts e h = local_token t ts (assign_at room t.place x ts) (assign_at (room + more) t.place x) (stmt_at (room + more) d') (λ l. rw e refl) (assign_local room more t.place x ts)
+unfolding stmt_at claim_at
+stmt_by_local room more d d' t (name x) ts e h = target_local room more d' t x ts e
 stmt_by_local room more d d' t (word words.Var) ts e h = local_token t ts (declare_at room t.place ts) (declare_at (room + more) t.place) (stmt_at (room + more) d') (λ l. rw e refl) (declare_local room more t.place ts)
-stmt_by_local room more d d' t (word words.Assert) ts e h = local_token t ts (assert_at room t.place ts) (assert_at (room + more) t.place) (stmt_at (room + more) d') (λ l. rw e refl) (made_local room more (Assert t.place) ts)
-stmt_by_local room more d d' t (word words.Assume) ts e h = local_token t ts (assume_at room t.place ts) (assume_at (room + more) t.place) (stmt_at (room + more) d') (λ l. rw e refl) (made_local room more (Assume t.place) ts)
+stmt_by_local room more d d' t (word words.Inhale) ts e h = local_token t ts (claim_at room inhales t.place ts) (claim_at (room + more) inhales t.place) (stmt_at (room + more) d') (λ l. rw e refl) (made_local room more (claim_meant inhales t.place) ts)
+stmt_by_local room more d d' t (word words.Exhale) ts e h = local_token t ts (claim_at room exhales t.place ts) (claim_at (room + more) exhales t.place) (stmt_at (room + more) d') (λ l. rw e refl) (made_local room more (claim_meant exhales t.place) ts)
+stmt_by_local room more d d' t (word words.Assert) ts e h = local_token t ts (claim_at room asserts t.place ts) (claim_at (room + more) asserts t.place) (stmt_at (room + more) d') (λ l. rw e refl) (made_local room more (claim_meant asserts t.place) ts)
+stmt_by_local room more d d' t (word words.Assume) ts e h = local_token t ts (claim_at room assumes t.place ts) (claim_at (room + more) assumes t.place) (stmt_at (room + more) d') (λ l. rw e refl) (made_local room more (claim_meant assumes t.place) ts)
 stmt_by_local room more d d' t (word words.If) ts e h = local_token t ts (branch_at room d t.place ts) (branch_at (room + more) d' t.place) (stmt_at (room + more) d') (λ l. rw e refl) (branch_local room more d d' t.place ts h)
+stmt_by_local room more d d' t (word words.While) ts e h = local_token t ts (while_at room d t.place ts) (while_at (room + more) d' t.place) (stmt_at (room + more) d') (λ l. rw e refl) (while_local room more d d' t.place ts h)
 stmt_by_local room more d d' t k ts e h = local_unexpected t ts (stmt_at (room + more) d') (λ l. rw e refl)
 
 stmt_local : (room more : ℕ) (d d' : StmtDeeper) (ts : List Token) → StmtLocal d d' → Local ts (stmt_at room d ts) (stmt_at (room + more) d')
@@ -141,7 +230,7 @@ stmt_short room ts s mid e = by_marks (subst (Tells (StmtFor 0) room ts) e (stmt
   where
     by_marks : TellsOk (StmtFor 0) room ts s mid → length mid < length ts
     by_marks h =
-        let f = stmt_first 0 h.spelled.phrase in
+        let f = stmt_first 0 h.spelled.phrase h.spelled.stands in
         let one = ap length (sym h.spelled.spelled ∙ f.2) in
         let all = ap length h.takes.tokens in
         let a = length-append (tokens_of h.marks) mid in

@@ -4,20 +4,22 @@ use Rattle.std.proofs.lemmas.List.{length-map}
 use Rattle.vx_ast.specs.declared.Place.{Place}
 use Rattle.vx_ast.specs.declared.ValueType.{ValueType}
 use Rattle.vx_ast.specs.declared.ValueType.TheVariants as types
-use Rattle.vx_ast.specs.Written.{Stmt, Block, Done, Then}
+use Rattle.vx_ast.specs.Written.{Expr, Stmt, Block, Done, Then}
 use Rattle.vx_tokens.specs.declared.token.Word.TheVariants as words
 use Rattle.vx_tokens.specs.declared.token.Symbol.TheVariants as signs
 use Rattle.vx_tokens.specs.Tokens.{Token, Kind, name, word, symbol}
-use Rattle.vx_grammar.specs.Grammar.{Phrase, Mark, mark, marks, meant, StandsAt, tokens_of}
-use Rattle.vx_grammar.specs.Statements.{DeclarationPhrase, IsWrittenType, type_word, declaration_meant, declaration_marks, StmtPhrase, assigned, declared, initialized, asserted, assumed, branched, BranchPhrase, branch, OtherPhrase, no_other, other, another, BlockPhrase, block, RowPhrase, no_more, more, stmt_meant, branch_meant, other_meant, block_meant, row_meant, StandsStmt, StandsBranch, StandsOther, StandsBlock, StandsRow, stmt_marks, branch_marks, other_marks, block_marks, row_marks, semi_marks}
-use Rattle.vx_grammar.specs.Reading.{Read, expect, is_symbol, choice, choice_at, below}
-use Rattle.vx_grammar.specs.StmtReading.{StmtDeeper, statements, elseif_part, stmts_below, name_at, type_by, type_at, declaration_at, condition_at, block_at, otherwise_by, otherwise_at, branch_at, initial_by, initial_at, declare_at, assign_at, assert_at, assume_at, stmt_at, begins_stmt, stmts_at, block_from}
+use Rattle.vx_grammar.specs.Grammar.{Phrase, dotted, start_of, Mark, mark, marks, meant, StandsAt, tokens_of}
+use Rattle.vx_grammar.specs.Statements.{InvariantsPhrase, repeated, invariants_marks, DeclarationPhrase, Claim, inhales, exhales, asserts, assumes, claim_word, claim_meant, type_word, declaration_meant, declaration_marks, StmtPhrase, assigned, stored, invoked, targeted, right_marks, IsPath, declared, initialized, claimed, branched, BranchPhrase, branch, OtherPhrase, no_other, other, another, BlockPhrase, block, RowPhrase, no_more, more, stmt_meant, branch_meant, other_meant, block_meant, row_meant, StandsStmt, StandsBranch, StandsOther, StandsBlock, StandsRow, stmt_marks, branch_marks, other_marks, block_marks, row_marks, semi_marks}
+use Rattle.vx_grammar.specs.Reading.{enclosed, Read, expect, is_symbol, choice, choice_at, below, name_at}
+use Rattle.vx_grammar.specs.StmtReading.{while_at, StmtDeeper, statements, elseif_part, stmts_below, type_by, type_at, declaration_at, block_at, otherwise_by, otherwise_at, branch_at, initial_by, initial_at, declare_at, claim_at, stmt_at, begins_stmt, stmts_at, block_from}
 use Rattle.vx_grammar.specs.Nesting.{nests, stmt_nests}
 use Rattle.vx_grammar.specs.Laws.{Within}
 use Rattle.vx_grammar.proofs.Lists.{tokens-append_more, within_front, within_back, reach, Ends}
 use Rattle.vx_grammar.proofs.Complete.{is_read}
 use Rattle.vx_grammar.proofs.Rows.{rows_read, RowFor, RowOver, ReadsItem, Semi}
 use Rattle.vx_grammar.proofs.StmtFor.{StmtFor, stmts_are_rows}
+use Rattle.vx_grammar.proofs.TargetReads.{right_reads, path_first, assigned_reads, stored_reads, invoked_reads, targeted_reads}
+use Rattle.vx_grammar.proofs.InvariantsRead.{invariants_are_read}
 
 -- ---- what may follow a statement
 
@@ -38,17 +40,23 @@ over_ends (t ∷ ts) h = h.0
 over_kind : (k : Kind) → begins_stmt k ≡ true → (8 < reach k) × (is_symbol signs.Becomes k ≡ false) × (begins_other k ≡ false)
 over_kind (name x) h = (omega arith, refl, refl)
 over_kind (word words.Var) h = (omega arith, refl, refl)
+over_kind (word words.Inhale) h = (omega arith, refl, refl)
+over_kind (word words.Exhale) h = (omega arith, refl, refl)
 over_kind (word words.Assert) h = (omega arith, refl, refl)
 over_kind (word words.Assume) h = (omega arith, refl, refl)
 over_kind (word words.If) h = (omega arith, refl, refl)
+over_kind (word words.While) h = (omega arith, refl, refl)
 over_kind k h = absurd cc
 
 not_semi : (k : Kind) → begins_stmt k ≡ true → is_symbol signs.Semicolon k ≡ false
 not_semi (name x) h = refl
 not_semi (word words.Var) h = refl
+not_semi (word words.Inhale) h = refl
+not_semi (word words.Exhale) h = refl
 not_semi (word words.Assert) h = refl
 not_semi (word words.Assume) h = refl
 not_semi (word words.If) h = refl
+not_semi (word words.While) h = refl
 not_semi k h = absurd cc
 
 -- ---- declarations
@@ -56,15 +64,15 @@ not_semi k h = absurd cc
 abbrev pub Toks : List Mark → List Token → List Token
 Toks ms us = tokens_of ms ++ us
 
-type_reads : (t : ValueType) (at : Token) (us : List Token) → IsWrittenType t → type_by at (word (type_word t)) us ≡ Ok (t, us)
-type_reads types.Int at us h = refl
-type_reads types.Bool at us h = refl
-type_reads types.Ref at us h = absurd h
-type_reads types.Perm at us h = absurd h
+type_reads : (t : ValueType) (at : Token) (us : List Token) → type_by at (word (type_word t)) us ≡ Ok (t, us)
+type_reads types.Int at us = refl
+type_reads types.Bool at us = refl
+type_reads types.Ref at us = refl
+type_reads types.Perm at us = refl
 
-pub declaration_reads : (n : ℕ) (d : DeclarationPhrase) (us : List Token) → IsWrittenType d.of → declaration_at (Toks (declaration_marks n d) us) ≡ Ok (declaration_meant d, us)
+pub declaration_reads : (n : ℕ) (d : DeclarationPhrase) (us : List Token) → declaration_at (Toks (declaration_marks n d) us) ≡ Ok (declaration_meant d, us)
 unfolding declaration_at name_at type_at expect
-declaration_reads n d us h = rw (type_reads d.of (mark n d.type_at (word (type_word d.of))).token us h) refl
+declaration_reads n d us = rw (type_reads d.of (mark n d.type_at (word (type_word d.of))).token us) refl
 
 -- ---- expressions
 
@@ -74,8 +82,8 @@ expr_reads limit n room w us e h st ends = is_read limit n room w us e h st ends
 room_for : (limit n room : ℕ) → n + room ≡ limit → n + 1 ≤ limit → room ≡ (room - 1) + 1
 room_for limit n room e le = omega (arith, e, le)
 
-condition_reads : (limit n room : ℕ) (o c : Place) (w : Phrase) (us : List Token) → n + room ≡ limit → n + 1 ≤ limit → Within limit (marks (n + 1) w) → StandsAt 8 w → (let open' = mark (n + 1) o (symbol signs.Open) in let close = mark (n + 1) c (symbol signs.Close) in condition_at room (open'.token ∷ Toks (marks (n + 1) w) (close.token ∷ us)) ≡ Ok (meant w, us))
-unfolding condition_at expect
+condition_reads : (limit n room : ℕ) (o c : Place) (w : Phrase) (us : List Token) → n + room ≡ limit → n + 1 ≤ limit → Within limit (marks (n + 1) w) → StandsAt 8 w → (let open' = mark (n + 1) o (symbol signs.Open) in let close = mark (n + 1) c (symbol signs.Close) in enclosed (below room) choice (open'.token ∷ Toks (marks (n + 1) w) (close.token ∷ us)) ≡ Ok (meant w, us))
+unfolding enclosed expect
 condition_reads limit n room o c w us e le h st =
     let less = room - 1 in
     let s = room_for limit n room e le in
@@ -152,34 +160,75 @@ branch_reads_at limit n room place (branch o w c b x) ts e below' h st ends =
 
 -- ---- statements
 
+claim_is : (c : Claim) (p : Place) (n room : ℕ) (e : Expr) (us ts : List Token) → choice_at (below room) us ≡ Ok (e, ts) → stmt_at room (stmts_below room) ((mark n p (word (claim_word c))).token ∷ us) ≡ Ok (claim_meant c p e, ts)
+unfolding stmt_at claim_at
+claim_is inhales p n room e us ts h = rw h refl
+claim_is exhales p n room e us ts h = rw h refl
+claim_is asserts p n room e us ts h = rw h refl
+claim_is assumes p n room e us ts h = rw h refl
+
+claim_begins : (c : Claim) → begins_stmt (word (claim_word c)) ≡ true
+claim_begins inhales = refl
+claim_begins exhales = refl
+claim_begins asserts = refl
+claim_begins assumes = refl
+
+while_reads : (limit n room : ℕ) (p o : Place) (w : Phrase) (c : Place) (is : InvariantsPhrase) (b : BlockPhrase) (ts : List Token) → n + room ≡ limit → StmtReadsBelow limit room → Within limit (stmt_marks n (repeated p o w c is b)) → StandsStmt (repeated p o w c is b)
+    → stmt_at room (stmts_below room) (Toks (stmt_marks n (repeated p o w c is b)) ts) ≡ Ok (stmt_meant (repeated p o w c is b), ts)
+unfolding stmt_at while_at
+while_reads limit n room p o w c is b ts e below' h st =
+    let close = mark (n + 1) c (symbol signs.Close) in
+    let tail = invariants_marks n 0 is ++ block_marks n b in
+    let hw = within_front limit (marks (n + 1) w) (close ∷ tail) h.1.1 in
+    let ht = (within_back limit (marks (n + 1) w) (close ∷ tail) h.1.1).1 in
+    let hi = within_front limit (invariants_marks n 0 is) (block_marks n b) ht in
+    let hb = within_back limit (invariants_marks n 0 is) (block_marks n b) ht in
+    let first : tokens_of (marks (n + 1) w ++ close ∷ tail) ++ ts ≡ Toks (marks (n + 1) w) (close.token ∷ (tokens_of tail ++ ts)) = tokens-append_more (marks (n + 1) w) (close ∷ tail) ts in
+    let second : tokens_of tail ++ ts ≡ Toks (invariants_marks n 0 is) (Toks (block_marks n b) ts) = tokens-append_more (invariants_marks n 0 is) (block_marks n b) ts in
+    let condition = condition_reads limit n room o c w (tokens_of tail ++ ts) e h.1.0 hw st.0 in
+    let kept = invariants_are_read limit n room is b ts e hi st.1 in
+    let inside = block_reads limit n room b ts e below' hb st.2 in
+    rw (first, condition, second, kept, inside) refl
+
 stmt_reads : (limit n room : ℕ) (w : StmtPhrase) (ts : List Token) → n + room ≡ limit → StmtReadsBelow limit room → Within limit (stmt_marks n w) → StandsStmt w → StmtOver ts → stmt_at room (stmts_below room) (Toks (stmt_marks n w) ts) ≡ Ok (stmt_meant w, ts)
-unfolding stmt_at assign_at assert_at assume_at declare_at initial_at initial_by expect
-stmt_reads limit n room (assigned p x q e) ts s below' h st ends = rw (expr_reads limit n room e ts s h.1.1 st (over_ends ts ends)) refl
-stmt_reads limit n room (declared p d) [] s below' h st ends = rw (declaration_reads n d [] st) refl
-stmt_reads limit n room (declared p d) (t ∷ ts) s below' h st ends = rw (declaration_reads n d (t ∷ ts) st, ends.1) refl
-stmt_reads limit n room (initialized p d q e) ts s below' h st ends =
+unfolding stmt_at claim_at declare_at initial_at initial_by expect
+stmt_reads limit n room (assigned p x q r) ts s below' h st ends = assigned_reads limit n room (stmts_below room) p x q r ts s h st (over_ends ts ends)
+stmt_reads limit n room (stored e p q f r v) ts s below' h st ends = stored_reads limit n room (stmts_below room) e p q f r v ts s h st (over_ends ts ends)
+stmt_reads limit n room (invoked p m o es c) ts s below' h st ends = invoked_reads limit n room (stmts_below room) p m o es c ts s h st (over_ends ts ends)
+stmt_reads limit n room (targeted p x k q y ys r s m o es c) ts e below' h st ends = targeted_reads limit n room (stmts_below room) p x k q y ys r s m o es c ts e h st
+stmt_reads limit n room (declared p d) [] s below' h st ends = rw (declaration_reads n d []) refl
+stmt_reads limit n room (declared p d) (t ∷ ts) s below' h st ends = rw (declaration_reads n d (t ∷ ts), ends.1) refl
+stmt_reads limit n room (initialized p d q r) ts s below' h st ends =
     let m = mark n q (symbol signs.Becomes) in
-    let list : tokens_of (declaration_marks n d ++ m ∷ marks n e) ++ ts ≡ Toks (declaration_marks n d) (m.token ∷ Toks (marks n e) ts) = tokens-append_more (declaration_marks n d) (m ∷ marks n e) ts in
-    let value = expr_reads limit n room e ts s (within_back limit (declaration_marks n d) (m ∷ marks n e) h.1).1 st.1 (over_ends ts ends) in
-    rw (list, declaration_reads n d (m.token ∷ Toks (marks n e) ts) st.0, value) refl
-stmt_reads limit n room (asserted p e) ts s below' h st ends = rw (expr_reads limit n room e ts s h.1 st (over_ends ts ends)) refl
-stmt_reads limit n room (assumed p e) ts s below' h st ends = rw (expr_reads limit n room e ts s h.1 st (over_ends ts ends)) refl
+    let list : tokens_of (declaration_marks n d ++ m ∷ right_marks n r) ++ ts ≡ Toks (declaration_marks n d) (m.token ∷ Toks (right_marks n r) ts) = tokens-append_more (declaration_marks n d) (m ∷ right_marks n r) ts in
+    let value = right_reads limit n room r ts s (within_back limit (declaration_marks n d) (m ∷ right_marks n r) h.1).1 st (over_ends ts ends) in
+    rw (list, declaration_reads n d (m.token ∷ Toks (right_marks n r) ts), value) refl
+stmt_reads limit n room (claimed c p e) ts s below' h st ends = claim_is c p n room (meant e) (Toks (marks n e) ts) ts (expr_reads limit n room e ts s h.1 st (over_ends ts ends))
 stmt_reads limit n room (branched p b) ts s below' h st ends = branch_reads_at limit n room p b ts s below' h.1 st ends
+stmt_reads limit n room (repeated p o e c is b) ts s below' h st ends = while_reads limit n room p o e c is b ts s below' h st
 
 -- statements within the limit
 abbrev StmtWithin : ℕ → ℕ → Stmt → List Mark → Type 0
 StmtWithin limit n s ms = StmtFor n s ms × Within limit ms
 
-pub stmt_first : (n : ℕ) (w : StmtPhrase) → (m : Mark) × (rest : List Mark) × (stmt_marks n w ≡ m ∷ rest) × (begins_stmt m.token.kind ≡ true)
-stmt_first n (assigned p x q e) = (_, _, refl, refl)
-stmt_first n (declared p d) = (_, _, refl, refl)
-stmt_first n (initialized p d q e) = (_, _, refl, refl)
-stmt_first n (asserted p e) = (_, _, refl, refl)
-stmt_first n (assumed p e) = (_, _, refl, refl)
-stmt_first n (branched p b) = (_, _, refl, refl)
+first_of_path : (n : ℕ) (e : Phrase) (p q : Place) (f : List ℕ) (r : Place) (v : Phrase) → IsPath e → (m : Mark) × (rest : List Mark) × (stmt_marks n (stored e p q f r v) ≡ m ∷ rest) × (begins_stmt m.token.kind ≡ true)
+first_of_path n e p q f r v is =
+    let i = path_first (dotted e p q f) n is in
+    (mark n (start_of e) (name i.0), i.1 ++ mark n r (symbol signs.Becomes) ∷ marks n v, ap (λ l. l ++ mark n r (symbol signs.Becomes) ∷ marks n v) i.2, refl)
+
+pub stmt_first : (n : ℕ) (w : StmtPhrase) → StandsStmt w → (m : Mark) × (rest : List Mark) × (stmt_marks n w ≡ m ∷ rest) × (begins_stmt m.token.kind ≡ true)
+stmt_first n (assigned p x q r) st = (_, _, refl, refl)
+stmt_first n (stored e p q f r v) st = first_of_path n e p q f r v st.0
+stmt_first n (invoked p m o es c) st = (_, _, refl, refl)
+stmt_first n (targeted p x k q y ys r s m o es c) st = (_, _, refl, refl)
+stmt_first n (declared p d) st = (_, _, refl, refl)
+stmt_first n (initialized p d q e) st = (_, _, refl, refl)
+stmt_first n (claimed c p e) st = (_, _, refl, claim_begins c)
+stmt_first n (branched p b) st = (_, _, refl, refl)
+stmt_first n (repeated p o e c is b) st = (_, _, refl, refl)
 
 item_first : (limit n : ℕ) (s : Stmt) (ms : List Mark) → StmtWithin limit n s ms → (m : Mark) × (rest : List Mark) × (ms ≡ m ∷ rest) × (begins_stmt m.token.kind ≡ true)
-item_first limit n s ms g = let f = stmt_first n g.0.phrase in (f.0, f.1, sym g.0.spelled ∙ f.2, f.3)
+item_first limit n s ms g = let f = stmt_first n g.0.phrase g.0.stands in (f.0, f.1, sym g.0.spelled ∙ f.2, f.3)
 
 item_reads : (limit n room : ℕ) → n + room ≡ limit → StmtReadsBelow limit room → ReadsItem (StmtWithin limit n) begins_stmt (stmt_at room (stmts_below room)) StmtOver
 item_reads limit n room e below' = record {
@@ -205,21 +254,21 @@ row_for limit n (more s semi r) h st =
     let hr = within_back limit (semi_marks n semi) (row_marks n r) (within_back limit (stmt_marks n s) tail h) in
     (stmt_marks n s, semi_marks n semi, row_marks n r, refl, (record { phrase = s; stands = st.0; means = refl; spelled = refl }, hs), semi_is n semi, row_for limit n r hr st.1)
 
-row_long : (n : ℕ) (r : RowPhrase) → length (stmts_in r) ≤ length (row_marks n r)
-row_long n no_more = omega arith
-row_long n (more s semi r) =
-    let f = stmt_first n s in
+row_long : (n : ℕ) (r : RowPhrase) → StandsRow r → length (stmts_in r) ≤ length (row_marks n r)
+row_long n no_more st = omega arith
+row_long n (more s semi r) st =
+    let f = stmt_first n s st.0 in
     let one : 1 ≤ length (stmt_marks n s) = rw f.2 (omega arith) in
     let a = length-append (stmt_marks n s) (semi_marks n semi ++ row_marks n r) in
     let b = length-append (semi_marks n semi) (row_marks n r) in
-    let c = row_long n r in
+    let c = row_long n r st.1 in
     omega (arith, one, a, b, c)
 
 row_reads_at : (limit n room : ℕ) (r : RowPhrase) (p : Place) (ts : List Token) → n + room ≡ limit → StmtReadsBelow limit room → Within limit (row_marks n r) → StandsRow r → (let close = mark n p (symbol signs.CloseBrace) in stmts_at room (stmts_below room) (Toks (row_marks n r) (close.token ∷ ts)) ≡ Ok (stmts_in r, close.token ∷ ts))
 row_reads_at limit n room r p ts e below' h st =
     let close = mark n p (symbol signs.CloseBrace) in
     let all = Toks (row_marks n r) (close.token ∷ ts) in
-    let long = row_long n r in
+    let long = row_long n r st in
     let a = length-append (tokens_of (row_marks n r)) (close.token ∷ ts) in
     let b = length-map (row_marks n r) (λ m. m.token) in
     stmts_are_rows room (stmts_below room) all

@@ -6,46 +6,27 @@ use Rattle.vx_ast.specs.declared.ValueType.TheVariants as types
 use Rattle.vx_ast.specs.Written.{Declaration}
 use Rattle.vx_tokens.specs.declared.token.Word.TheVariants as words
 use Rattle.vx_tokens.specs.declared.token.Symbol.TheVariants as signs
-use Rattle.vx_tokens.specs.Tokens.{Token, Kind, name, number, word, symbol}
+use Rattle.vx_tokens.specs.Tokens.{Token, Kind, word}
 use Rattle.vx_grammar.specs.Grammar.{Mark, mark}
-use Rattle.vx_grammar.specs.Statements.{DeclarationPhrase, IsWrittenType, type_word, declaration_meant, declaration_marks}
-use Rattle.vx_grammar.specs.Reading.{expect}
-use Rattle.vx_grammar.specs.StmtReading.{name_by, name_at, type_by, type_at, declaration_at}
-use Rattle.vx_grammar.proofs.Tells.{Grammar, Starts, Tells, Sign, starts_sign, tells_as, tells_unexpected, tells_token, tells_expect}
+use Rattle.vx_grammar.specs.Statements.{DeclarationPhrase, type_word, declaration_meant, declaration_marks}
+use Rattle.vx_grammar.specs.Reading.{expect, name_at}
+use Rattle.vx_grammar.specs.StmtReading.{type_by, type_at, declaration_at}
+use Rattle.vx_grammar.proofs.Tells.{somewhere, NameFor, name_tells, Grammar, Starts, Tells, Sign, starts_sign, tells_as, tells_unexpected, tells_token, tells_expect, marks_is}
 use Rattle.vx_grammar.proofs.Sequence.{Sequence, Nothing, tells_sequence, starts_sequence, starts_nothing, tells_nothing}
-use Rattle.vx_grammar.proofs.Means.{marks_is}
 
-nowhere : Place
-nowhere = record { line = 0; column = 0 }
-
--- ---- names and types
-
-abbrev pub NameFor : ℕ → Grammar (List ℕ)
-NameFor n x ms = (p : Place) × (ms ≡ mark n p (name x) ∷ [])
-
-pub starts_name : (n : ℕ) → Starts (NameFor n) []
-starts_name n = record { value = []; more = mark n nowhere (name []) ∷ []; spelled = (nowhere, refl) }
-
-name_by_tells : (limit n : ℕ) (t : Token) (k : Kind) (ts : List Token) → n ≤ limit → t.kind ≡ k → Tells (NameFor n) limit (t ∷ ts) (name_by t k ts)
-name_by_tells limit n t (name x) ts le e = tells_token (NameFor n) limit (record { token = t; count = n }) ts x le (t.place, sym (marks_is t (name x) n [] e))
-name_by_tells limit n t (number m) ts le e = tells_unexpected (NameFor n) limit (t ∷ ts) (starts_name n)
-name_by_tells limit n t (word w) ts le e = tells_unexpected (NameFor n) limit (t ∷ ts) (starts_name n)
-name_by_tells limit n t (symbol s) ts le e = tells_unexpected (NameFor n) limit (t ∷ ts) (starts_name n)
-
-pub name_tells : (limit n : ℕ) (ts : List Token) → n ≤ limit → Tells (NameFor n) limit ts (name_at ts)
-unfolding name_at
-name_tells limit n [] le = tells_unexpected (NameFor n) limit [] (starts_name n)
-name_tells limit n (t ∷ ts) le = name_by_tells limit n t t.kind ts le refl
+-- ---- types
 
 abbrev pub TypeFor : ℕ → Grammar ValueType
-TypeFor n t ms = (p : Place) × IsWrittenType t × (ms ≡ mark n p (word (type_word t)) ∷ [])
+TypeFor n t ms = (p : Place) × (ms ≡ mark n p (word (type_word t)) ∷ [])
 
 starts_type : (n : ℕ) → Starts (TypeFor n) []
-starts_type n = record { value = types.Int; more = mark n nowhere (word words.Int) ∷ []; spelled = (nowhere, tt, refl) }
+starts_type n = record { value = types.Int; more = mark n somewhere (word words.Int) ∷ []; spelled = (somewhere, refl) }
 
 type_by_tells : (limit n : ℕ) (t : Token) (k : Kind) (ts : List Token) → n ≤ limit → t.kind ≡ k → Tells (TypeFor n) limit (t ∷ ts) (type_by t k ts)
-type_by_tells limit n t (word words.Int) ts le e = tells_token (TypeFor n) limit (record { token = t; count = n }) ts types.Int le (t.place, tt, sym (marks_is t (word words.Int) n [] e))
-type_by_tells limit n t (word words.Bool) ts le e = tells_token (TypeFor n) limit (record { token = t; count = n }) ts types.Bool le (t.place, tt, sym (marks_is t (word words.Bool) n [] e))
+type_by_tells limit n t (word words.Int) ts le e = tells_token (TypeFor n) limit (record { token = t; count = n }) ts types.Int le (t.place, sym (marks_is t (word words.Int) n [] e))
+type_by_tells limit n t (word words.Bool) ts le e = tells_token (TypeFor n) limit (record { token = t; count = n }) ts types.Bool le (t.place, sym (marks_is t (word words.Bool) n [] e))
+type_by_tells limit n t (word words.Ref) ts le e = tells_token (TypeFor n) limit (record { token = t; count = n }) ts types.Ref le (t.place, sym (marks_is t (word words.Ref) n [] e))
+type_by_tells limit n t (word words.Perm) ts le e = tells_token (TypeFor n) limit (record { token = t; count = n }) ts types.Perm le (t.place, sym (marks_is t (word words.Perm) n [] e))
 type_by_tells limit n t k ts le e = tells_unexpected (TypeFor n) limit (t ∷ ts) (starts_type n)
 
 type_tells : (limit n : ℕ) (ts : List Token) → n ≤ limit → Tells (TypeFor n) limit ts (type_at ts)
@@ -56,7 +37,6 @@ type_tells limit n (t ∷ ts) le = type_by_tells limit n t t.kind ts le refl
 -- the marks of a declaration
 pub record DeclarationFor (n : ℕ) (d : Declaration) (ms : List Mark) : Type 0 where
   pub phrase : DeclarationPhrase
-  pub stands : IsWrittenType phrase.of
   pub means : declaration_meant phrase ≡ d
   pub spelled : declaration_marks n phrase ≡ ms
 
@@ -64,17 +44,16 @@ abbrev DeclarationParts : ℕ → Grammar Declaration
 DeclarationParts n = Sequence (NameFor n) (λ x. Sequence (Sign n signs.Colon) (λ c. Sequence (TypeFor n) (λ t. Nothing (record { name = x; of = t }))))
 
 declaration_of_parts : (n : ℕ) (d : Declaration) (ms : List Mark) → DeclarationParts n d ms → DeclarationFor n d ms
-declaration_of_parts n d ms (x, a, b, e, (p, ea), (c, a', b', e', (q, eq, eb), (t, a'', b'', e'', (r, w, et), (ed, en)))) = record {
+declaration_of_parts n d ms (x, a, b, e, (p, ea), (c, a', b', e', (q, eq, eb), (t, a'', b'', e'', (r, et), (ed, en)))) = record {
   phrase = record { name_at = p; text = x; colon_at = q; type_at = r; of = t };
-  stands = w;
   means = sym ed;
   spelled = sym (e ∙ rw (ea, e', eb, e'', et, en) refl);
 }
 
 pub starts_declaration : (n : ℕ) → Starts (DeclarationFor n) []
 starts_declaration n =
-    let w : DeclarationPhrase = record { name_at = nowhere; text = []; colon_at = nowhere; type_at = nowhere; of = types.Int } in
-    record { value = declaration_meant w; more = declaration_marks n w; spelled = record { phrase = w; stands = tt; means = refl; spelled = refl } }
+    let w : DeclarationPhrase = record { name_at = somewhere; text = []; colon_at = somewhere; type_at = somewhere; of = types.Int } in
+    record { value = declaration_meant w; more = declaration_marks n w; spelled = record { phrase = w; means = refl; spelled = refl } }
 
 pub declaration_tells : (limit n : ℕ) (ts : List Token) → n ≤ limit → Tells (DeclarationFor n) limit ts (declaration_at ts)
 unfolding declaration_at

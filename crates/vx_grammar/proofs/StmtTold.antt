@@ -2,33 +2,30 @@
 use Rattle.std.proofs.Common.{◌≡◌, ℕ, zero, suc, ◌+◌, ◌≤◌, List, [], ◌∷◌, ◌++◌, Some, None, Bool, true, false, Ok, length, refl, sym, ap, subst, ◌∙◌, append_assoc, arith, cond, inl, inr, ◌⊎◌}
 use Rattle.std.proofs.lemmas.List.{append-nil}
 use Rattle.vx_ast.specs.declared.Place.{Place}
-use Rattle.vx_ast.specs.Written.{Expr, Declaration, Value, Stmt, Block, Declare, Assign, Assert, Assume, If, Done, Then}
+use Rattle.vx_ast.specs.Written.{Expr, Declaration, Stmt, Block, Declare, If, While, Done, Then}
 use Rattle.vx_tokens.specs.declared.token.Word.TheVariants as words
 use Rattle.vx_tokens.specs.declared.token.Symbol.TheVariants as signs
 use Rattle.vx_tokens.specs.Tokens.{Token, Kind, name, word, symbol}
 use Rattle.vx_grammar.specs.Grammar.{Phrase, Mark, mark, marks, meant, StandsAt}
-use Rattle.vx_grammar.specs.Statements.{StmtPhrase, assigned, declared, initialized, asserted, assumed, branched, branch, no_other, other, another, block}
-use Rattle.vx_grammar.specs.Reading.{◌>>=◌, Read, expect, is_symbol, choice, choice_at, below}
-use Rattle.vx_grammar.specs.StmtReading.{StmtPart, statements, elseif_part, stmt_part, stmts_below, declaration_at, condition_at, block_at, otherwise_by, otherwise_at, branch_at, initial_by, initial_at, declare_at, assign_at, assert_at, assume_at, stmt_by, stmt_at, begins_stmt, stmts_at, block_from}
+use Rattle.vx_grammar.specs.Statements.{repeated, invariants_marks, block_marks, StmtPhrase, RightPhrase, right_meant, RightStands, right_marks, declared, initialized, Claim, inhales, exhales, asserts, assumes, claim_word, claim_meant, claimed, branched, branch, no_other, other, another, block}
+use Rattle.vx_grammar.specs.Reading.{enclosed, ◌>>=◌, is_symbol, choice, choice_at, below}
+use Rattle.vx_grammar.specs.StmtReading.{invariants_at, while_at, StmtPart, statements, elseif_part, stmt_part, stmts_below, declaration_at, block_at, otherwise_by, otherwise_at, branch_at, initial_by, initial_at, declare_at, right_at, claim_at, stmt_by, stmt_at, begins_stmt, stmts_at, block_from}
 use Rattle.vx_grammar.proofs.Symbols.{is_symbol_true}
-use Rattle.vx_grammar.proofs.Tells.{Grammar, Starts, Tells, After, Sign, takes_none, tells_behind, tells_as, tells_here, tells_unexpected, tells_expect}
+use Rattle.vx_grammar.proofs.Tells.{Grammar, Starts, Tells, takes_none, tells_as, tells_here, tells_unexpected, marks_is}
 use Rattle.vx_grammar.proofs.Rows.{RowFor, tells_rows}
 use Rattle.vx_grammar.proofs.Sequence.{Sequence, Nothing, tells_sequence, starts_sequence, starts_nothing, tells_nothing}
-use Rattle.vx_grammar.proofs.Bracketed.{Nested, Bracketed, bracket_tells}
-use Rattle.vx_grammar.proofs.Means.{PhraseFor, Behind, starts_any, tells_nested, count_down, reading_tells, marks_is}
+use Rattle.vx_grammar.proofs.Bracketed.{led_tells, Nested, Bracketed, bracket_tells}
+use Rattle.vx_grammar.proofs.Means.{reading_tells}
 use Rattle.vx_grammar.proofs.StmtTells.{DeclarationFor, declaration_tells}
 use Rattle.vx_grammar.proofs.StmtFor.{StmtFor, BranchFor, OtherFor, BlockFor, InsideFor, starts_stmt, starts_inside, starts_block, starts_other, starts_branch, row_inside, stmts_are_rows}
+use Rattle.vx_grammar.proofs.PhraseFor.{PhraseFor, starts_any, tells_nested, count_down}
+use Rattle.vx_grammar.proofs.TargetTold.{RightFor, right_tells, target_tells}
+use Rattle.vx_grammar.proofs.InvariantsTold.{InvariantsFor, starts_invariants, invariants_tells}
 
 pub fits : (limit n room : ℕ) → n + room ≡ limit → n ≤ limit
 fits limit n room e = omega (arith, e)
 
--- ---- a token, and then a part
-
-pub led_tells : {A : Type 0} (R : Grammar A) (limit n : ℕ) (t : Token) (ts : List Token) (r : Read A) → n ≤ limit → Tells R limit ts r → Tells (Nested (record { token = t; count = n }) R) limit (t ∷ ts) r
-led_tells R limit n t ts r le h =
-    let m : Mark = record { token = t; count = n } in
-    tells_behind (Nested m R) limit (t ∷ ts) ts (m ∷ []) (record { within = (le, tt); tokens = refl }) r
-    (tells_as R (After (Nested m R) (m ∷ [])) limit ts r (λ y ms g. record { inner = ms; is = refl; spelled = g }) h)
+-- ---- what nests
 
 nested_stmts : (R : Grammar Block) (limit n room : ℕ) (p : StmtPart) (t : Token) (ts : List Token) → n + room ≡ limit → Starts R [] → ((less : ℕ) → room ≡ less + 1 → Tells R limit ts (stmt_part less (stmts_below less) p ts)) → Tells (Nested (record { token = t; count = n + 1 }) R) limit (t ∷ ts) (stmts_below room p (t ∷ ts) ts)
 unfolding stmts_below
@@ -56,13 +53,11 @@ StmtToldBelow limit room = (less : ℕ) → room ≡ less + 1 → StmtTold limit
 
 -- ---- conditions and blocks
 
-condition_tells : (limit n room : ℕ) (ts : List Token) → n + room ≡ limit → Tells (Bracketed n signs.Open signs.Close (PhraseFor (n + 1) 8)) limit ts (condition_at room ts)
-unfolding condition_at
+condition_tells : (limit n room : ℕ) (ts : List Token) → n + room ≡ limit → Tells (Bracketed n signs.Open signs.Close (PhraseFor (n + 1) 8)) limit ts (enclosed (below room) choice ts)
+unfolding enclosed
 condition_tells limit n room ts e =
     bracket_tells signs.Open signs.Close (PhraseFor (n + 1) 8) (λ here us. below room choice here us) limit n (starts_any (n + 1) 8)
-    (λ t us. tells_as (Behind (record { token = t; count = n + 1 }) (PhraseFor (n + 1) 8)) (Nested (record { token = t; count = n + 1 }) (PhraseFor (n + 1) 8)) limit (t ∷ us) (below room choice (t ∷ us) us)
-    (λ y ms b. record { inner = b.inner; is = b.is; spelled = b.spelled })
-    (tells_nested (PhraseFor (n + 1) 8) limit n room choice t us e (starts_any (n + 1) 8) (λ less s. reading_tells limit (n + 1) less us (count_down limit n room less e s)))) ts
+    (λ t us. tells_nested choice (PhraseFor (n + 1) 8) limit n room t us e (starts_any (n + 1) 8) (λ less s. reading_tells limit (n + 1) less us (count_down limit n room less e s))) ts
 
 inside_tells : (limit n room : ℕ) (ts : List Token) → n + room ≡ limit → StmtTold limit room → Tells (InsideFor n) limit ts (stmt_part room (stmts_below room) statements ts)
 inside_tells limit n room ts e told =
@@ -141,7 +136,7 @@ branch_tells_at : (limit n room : ℕ) (place : Place) (ts : List Token) → n +
 unfolding branch_at
 branch_tells_at limit n room place ts e told =
     tells_as (BranchParts n place) (BranchFor n place) limit ts _ (branch_of_parts n place)
-    (tells_sequence (Bracketed n signs.Open signs.Close (PhraseFor (n + 1) 8)) _ limit ts (condition_at room ts) _ (λ c. starts_sequence (BlockFor n) _ (starts_block n) (λ b. starts_sequence (OtherFor n) _ (starts_other n) (λ o. starts_nothing _))) (condition_tells limit n room ts e)
+    (tells_sequence (Bracketed n signs.Open signs.Close (PhraseFor (n + 1) 8)) _ limit ts (enclosed (below room) choice ts) _ (λ c. starts_sequence (BlockFor n) _ (starts_block n) (λ b. starts_sequence (OtherFor n) _ (starts_other n) (λ o. starts_nothing _))) (condition_tells limit n room ts e)
     (λ c us. tells_sequence (BlockFor n) _ limit us (block_at (stmts_below room) us) _ (λ b. starts_sequence (OtherFor n) _ (starts_other n) (λ o. starts_nothing _)) (block_tells limit n room us e told)
     (λ b vs. tells_sequence (OtherFor n) _ limit vs (otherwise_at (stmts_below room) vs) _ (λ o. starts_nothing _) (other_tells limit n room vs e told)
     (λ o ws. tells_nothing limit ws _))))
@@ -150,29 +145,6 @@ branch_tells_at limit n room place ts e told =
 
 abbrev LedFor : {A : Type 0} → ℕ → Token → Grammar A → Grammar A
 LedFor n t R = Nested (record { token = t; count = n }) R
-
-abbrev AssignParts : ℕ → Token → List ℕ → Grammar Stmt
-AssignParts n t x = Sequence (Sign n signs.Becomes) (λ c. Sequence (PhraseFor n 8) (λ e. Nothing (Assign t.place x (Value e))))
-
-assign_of : (n : ℕ) (t : Token) (x : List ℕ) → t.kind ≡ name x → (s : Stmt) (ms : List Mark) → LedFor n t (AssignParts n t x) s ms → StmtFor n s ms
-assign_of n t x k s ms h = by_parts h.inner h.is h.spelled
-  where
-    by_parts : (inner : List Mark) → (let m : Mark = record { token = t; count = n } in ms ≡ m ∷ inner) → AssignParts n t x s inner → StmtFor n s ms
-    by_parts inner is (c, a, a', q, (p, pe, pm), (e, b, b', q', r, (v, z))) = record {
-      phrase = assigned t.place x p r.phrase;
-      stands = r.stands;
-      means = ap (λ y. Assign t.place x (Value y)) r.means ∙ sym v;
-      spelled = marks_is t (name x) n _ k ∙ ap (λ l. let m : Mark = record { token = t; count = n } in m ∷ l) (sym (q ∙ rw (pm, q', z, ← r.spelled) (ap (λ l. mark n p (symbol signs.Becomes) ∷ l) (append-nil (marks n r.phrase))))) ∙ sym is;
-    }
-
-assign_tells : (limit n room : ℕ) (t : Token) (x : List ℕ) (ts : List Token) → n + room ≡ limit → t.kind ≡ name x → Tells (StmtFor n) limit (t ∷ ts) (assign_at room t.place x ts)
-unfolding assign_at
-assign_tells limit n room t x ts e k =
-    tells_as (LedFor n t (AssignParts n t x)) (StmtFor n) limit (t ∷ ts) _ (assign_of n t x k)
-    (led_tells (AssignParts n t x) limit n t ts _ (fits limit n room e)
-    (tells_sequence (Sign n signs.Becomes) _ limit ts (expect signs.Becomes ts) _ (λ c. starts_sequence (PhraseFor n 8) _ (starts_any n 8) (λ y. starts_nothing _)) (tells_expect n signs.Becomes limit ts (fits limit n room e))
-    (λ c us. tells_sequence (PhraseFor n 8) _ limit us (choice_at (below room) us) _ (λ y. starts_nothing _) (reading_tells limit n room us e)
-    (λ y vs. tells_nothing limit vs _))))
 
 -- a word, and then an expression
 abbrev ExprParts : ℕ → (Expr → Stmt) → Grammar Stmt
@@ -198,26 +170,29 @@ expr_tells limit n room t k make w ts e q f =
 
 -- what follows a declaration: its first value, or nothing
 record InitialFor (n : ℕ) (place : Place) (d : Declaration) (s : Stmt) (ms : List Mark) : Type 0 where
-  right : (ms ≡ []) × (s ≡ Declare place d None) ⊎ (p : Place) × (e : Phrase) × StandsAt 8 e × (s ≡ Declare place d (Some (Value (meant e)))) × (ms ≡ mark n p (symbol signs.Becomes) ∷ marks n e)
+  right : (ms ≡ []) × (s ≡ Declare place d None) ⊎ (p : Place) × (r : RightPhrase) × RightStands r × (s ≡ Declare place d (Some (right_meant r))) × (ms ≡ mark n p (symbol signs.Becomes) ∷ right_marks n r)
 
 starts_initial : (n : ℕ) (place : Place) (d : Declaration) → Starts (InitialFor n place d) []
 starts_initial n place d = record { value = Declare place d None; more = []; spelled = record { right = inl (refl, refl) } }
 
-initial_of : (n : ℕ) (place : Place) (d : Declaration) (t : Token) → t.kind ≡ symbol signs.Becomes → (s : Stmt) (ms : List Mark) → LedFor n t (ExprParts n (λ e. Declare place d (Some (Value e)))) s ms → InitialFor n place d s ms
+abbrev InitialParts : ℕ → Place → Declaration → Grammar Stmt
+InitialParts n place d = Sequence (RightFor n) (λ r. Nothing (Declare place d (Some r)))
+
+initial_of : (n : ℕ) (place : Place) (d : Declaration) (t : Token) → t.kind ≡ symbol signs.Becomes → (s : Stmt) (ms : List Mark) → LedFor n t (InitialParts n place d) s ms → InitialFor n place d s ms
 initial_of n place d t k s ms h = by_parts h.inner h.is h.spelled
   where
-    by_parts : (inner : List Mark) → (let m : Mark = record { token = t; count = n } in ms ≡ m ∷ inner) → ExprParts n (λ e. Declare place d (Some (Value e))) s inner → InitialFor n place d s ms
+    by_parts : (inner : List Mark) → (let m : Mark = record { token = t; count = n } in ms ≡ m ∷ inner) → InitialParts n place d s inner → InitialFor n place d s ms
     by_parts inner is (e, b, b', q', r, (v, z)) = record {
-      right = inr (t.place, r.phrase, r.stands, v ∙ ap (λ y. Declare place d (Some (Value y))) (sym r.means), is ∙ ap (λ l. let m : Mark = record { token = t; count = n } in m ∷ l) (q' ∙ rw z (append-nil b) ∙ sym r.spelled) ∙ sym (marks_is t (symbol signs.Becomes) n _ k));
+      right = inr (t.place, r.phrase, r.stands, v ∙ ap (λ y. Declare place d (Some y)) (sym r.means), is ∙ ap (λ l. let m : Mark = record { token = t; count = n } in m ∷ l) (q' ∙ rw z (append-nil b) ∙ sym r.spelled) ∙ sym (marks_is t (symbol signs.Becomes) n _ k));
     }
 
 initial_by_tells : (limit n room : ℕ) (place : Place) (d : Declaration) (t : Token) (ts : List Token) (b : Bool) → is_symbol signs.Becomes t.kind ≡ b → n + room ≡ limit → Tells (InitialFor n place d) limit (t ∷ ts) (cond b (initial_by room place d ts) (Ok (Declare place d None, t ∷ ts)))
 unfolding initial_by
 initial_by_tells limit n room place d t ts true h e =
     let k = is_symbol_true signs.Becomes t.kind h in
-    tells_as (LedFor n t (ExprParts n (λ x. Declare place d (Some (Value x))))) (InitialFor n place d) limit (t ∷ ts) _ (initial_of n place d t k)
-    (led_tells (ExprParts n (λ x. Declare place d (Some (Value x)))) limit n t ts _ (fits limit n room e)
-    (tells_sequence (PhraseFor n 8) _ limit ts (choice_at (below room) ts) _ (λ y. starts_nothing _) (reading_tells limit n room ts e)
+    tells_as (LedFor n t (InitialParts n place d)) (InitialFor n place d) limit (t ∷ ts) _ (initial_of n place d t k)
+    (led_tells (InitialParts n place d) limit n t ts _ (fits limit n room e)
+    (tells_sequence (RightFor n) _ limit ts (right_at room ts) _ (λ y. starts_nothing _) (right_tells limit n room ts e)
     (λ y us. tells_nothing limit us _)))
 initial_by_tells limit n room place d t ts false h e = tells_here (InitialFor n place d) limit (t ∷ ts) (Declare place d None) (record { right = inl (refl, refl) })
 
@@ -239,14 +214,14 @@ declare_of n t k s ms h = by_parts h.inner h.is h.spelled
     by_parts inner is (d, a, a', q, r, i) = elim i.right [
       | inl (z, v) ↦ record {
         phrase = declared t.place r.phrase;
-        stands = r.stands;
+        stands = tt;
         means = ap (λ y. Declare t.place y None) r.means ∙ sym v;
         spelled = ap (λ l. mark n t.place (word words.Var) ∷ l) (r.spelled ∙ sym (q ∙ rw z (append-nil a))) ∙ led inner is;
       }
       | inr (p, e, st, v, z) ↦ record {
         phrase = initialized t.place r.phrase p e;
-        stands = (r.stands, st);
-        means = ap (λ y. Declare t.place y (Some (Value (meant e)))) r.means ∙ sym v;
+        stands = st;
+        means = ap (λ y. Declare t.place y (Some (right_meant e))) r.means ∙ sym v;
         spelled = ap (λ l. mark n t.place (word words.Var) ∷ l) (sym (q ∙ rw (z, ← r.spelled) refl)) ∙ led inner is;
       }
     ]
@@ -269,14 +244,50 @@ if_of n t k s ms h = record {
   spelled = marks_is t (word words.If) n _ k ∙ ap (λ l. let m : Mark = record { token = t; count = n } in m ∷ l) h.spelled.spelled ∙ sym h.is;
 }
 
+claim_tells : (limit n room : ℕ) (c : Claim) (t : Token) (ts : List Token) → n + room ≡ limit → t.kind ≡ word (claim_word c) → Tells (StmtFor n) limit (t ∷ ts) (claim_at room c t.place ts)
+unfolding claim_at
+claim_tells limit n room c t ts e k = expr_tells limit n room t (word (claim_word c)) (claim_meant c t.place) (claimed c t.place) ts e k (λ w st. record { phrase = claimed c t.place w; stands = st; means = refl; spelled = refl })
+
+abbrev WhileParts : ℕ → Place → Grammar Stmt
+WhileParts n place = Sequence (Bracketed n signs.Open signs.Close (PhraseFor (n + 1) 8)) (λ e. Sequence (InvariantsFor n) (λ is. Sequence (BlockFor n) (λ b. Nothing (While place e is b))))
+
+while_of : (n : ℕ) (t : Token) → t.kind ≡ word words.While → (s : Stmt) (ms : List Mark) → LedFor n t (WhileParts n t.place) s ms → StmtFor n s ms
+while_of n t k s ms h = by_parts h.inner h.is h.spelled
+  where
+    by_parts : (inner : List Mark) → (let m : Mark = record { token = t; count = n } in ms ≡ m ∷ inner) → WhileParts n t.place s inner → StmtFor n s ms
+    by_parts inner is (e, a, a', q, c, (es, f, f', q', i, (b, g, g', q'', d, (v, z)))) =
+        let close = mark (n + 1) c.to (symbol signs.Close) in
+        let tail : f' ≡ block_marks n d.phrase = q'' ∙ rw z (append-nil g) ∙ sym d.spelled in
+        let rest : a' ≡ invariants_marks n 0 i.phrase ++ block_marks n d.phrase = q' ∙ ap (λ l. l ++ f') (sym i.spelled) ∙ ap (λ l. invariants_marks n 0 i.phrase ++ l) tail in
+        let all : inner ≡ mark (n + 1) c.from (symbol signs.Open) ∷ (marks (n + 1) c.spelled.phrase ++ close ∷ (invariants_marks n 0 i.phrase ++ block_marks n d.phrase)) =
+        q ∙ ap (λ l. l ++ a') (c.is ∙ ap (λ l. mark (n + 1) c.from (symbol signs.Open) ∷ (l ++ close ∷ [])) (sym c.spelled.spelled)) ∙ ap (λ l. mark (n + 1) c.from (symbol signs.Open) ∷ l) (append_assoc (marks (n + 1) c.spelled.phrase) (close ∷ []) a' ∙ ap (λ l. marks (n + 1) c.spelled.phrase ++ close ∷ l) rest) in
+        record {
+          phrase = repeated t.place c.from c.spelled.phrase c.to i.phrase d.phrase;
+          stands = (c.spelled.stands, i.stands, d.stands);
+          means = rw (c.spelled.means, i.means, d.means) (sym v);
+          spelled = marks_is t (word words.While) n _ k ∙ ap (λ l. let m : Mark = record { token = t; count = n } in m ∷ l) (sym all) ∙ sym is;
+        }
+
+while_tells : (limit n room : ℕ) (t : Token) (ts : List Token) → n + room ≡ limit → StmtToldBelow limit room → t.kind ≡ word words.While → Tells (StmtFor n) limit (t ∷ ts) (while_at room (stmts_below room) t.place ts)
+unfolding while_at
+while_tells limit n room t ts e told k =
+    tells_as (LedFor n t (WhileParts n t.place)) (StmtFor n) limit (t ∷ ts) _ (while_of n t k)
+    (led_tells (WhileParts n t.place) limit n t ts _ (fits limit n room e)
+    (tells_sequence (Bracketed n signs.Open signs.Close (PhraseFor (n + 1) 8)) _ limit ts (enclosed (below room) choice ts) _ (λ c. starts_sequence (InvariantsFor n) _ (starts_invariants n) (λ is. starts_sequence (BlockFor n) _ (starts_block n) (λ b. starts_nothing _))) (condition_tells limit n room ts e)
+    (λ c us. tells_sequence (InvariantsFor n) _ limit us (invariants_at room us) _ (λ is. starts_sequence (BlockFor n) _ (starts_block n) (λ b. starts_nothing _)) (invariants_tells limit n room us e)
+    (λ is vs. tells_sequence (BlockFor n) _ limit vs (block_at (stmts_below room) vs) _ (λ b. starts_nothing _) (block_tells limit n room vs e told)
+    (λ b ws. tells_nothing limit ws _)))))
+
 stmt_by_tells : (limit n room : ℕ) (t : Token) (k : Kind) (ts : List Token) → n + room ≡ limit → StmtToldBelow limit room → t.kind ≡ k → Tells (StmtFor n) limit (t ∷ ts) (stmt_by room (stmts_below room) t k ts)
-unfolding assert_at assume_at
-stmt_by_tells limit n room t (name x) ts e told k = assign_tells limit n room t x ts e k
+stmt_by_tells limit n room t (name x) ts e told k = target_tells limit n room t x ts e k
 stmt_by_tells limit n room t (word words.Var) ts e told k = declare_tells limit n room t ts e k
-stmt_by_tells limit n room t (word words.Assert) ts e told k = expr_tells limit n room t (word words.Assert) (Assert t.place) (asserted t.place) ts e k (λ w st. record { phrase = asserted t.place w; stands = st; means = refl; spelled = refl })
-stmt_by_tells limit n room t (word words.Assume) ts e told k = expr_tells limit n room t (word words.Assume) (Assume t.place) (assumed t.place) ts e k (λ w st. record { phrase = assumed t.place w; stands = st; means = refl; spelled = refl })
+stmt_by_tells limit n room t (word words.Inhale) ts e told k = claim_tells limit n room inhales t ts e k
+stmt_by_tells limit n room t (word words.Exhale) ts e told k = claim_tells limit n room exhales t ts e k
+stmt_by_tells limit n room t (word words.Assert) ts e told k = claim_tells limit n room asserts t ts e k
+stmt_by_tells limit n room t (word words.Assume) ts e told k = claim_tells limit n room assumes t ts e k
 stmt_by_tells limit n room t (word words.If) ts e told k =
     tells_as (LedFor n t (BranchFor n t.place)) (StmtFor n) limit (t ∷ ts) _ (if_of n t k) (led_tells (BranchFor n t.place) limit n t ts _ (fits limit n room e) (branch_tells_at limit n room t.place ts e told))
+stmt_by_tells limit n room t (word words.While) ts e told k = while_tells limit n room t ts e told k
 stmt_by_tells limit n room t k ts e told h = tells_unexpected (StmtFor n) limit (t ∷ ts) (starts_stmt n)
 
 stmt_tells : (limit n room : ℕ) (ts : List Token) → n + room ≡ limit → StmtToldBelow limit room → Tells (StmtFor n) limit ts (stmt_at room (stmts_below room) ts)

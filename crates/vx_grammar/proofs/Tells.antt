@@ -3,9 +3,9 @@ use Rattle.std.proofs.Common.{◌≡◌, ℕ, ◌≤◌, ◌<◌, List, [], ◌�
 use Rattle.std.proofs.lemmas.List.{append-nil}
 use Rattle.vx_ast.specs.declared.Place.{Place}
 use Rattle.vx_tokens.specs.declared.token.Symbol.{Symbol}
-use Rattle.vx_tokens.specs.Tokens.{Token, Kind, symbol}
+use Rattle.vx_tokens.specs.Tokens.{Token, Kind, name, number, word, symbol}
 use Rattle.vx_grammar.specs.Grammar.{Mark, mark, tokens_of}
-use Rattle.vx_grammar.specs.Reading.{◌>>=◌, Read, Unexpected, TooDeep, expect, is_symbol}
+use Rattle.vx_grammar.specs.Reading.{◌>>=◌, Read, Unexpected, TooDeep, expect, is_symbol, name_by, name_at}
 use Rattle.vx_grammar.specs.Laws.{Within}
 use Rattle.vx_grammar.proofs.Lists.{tokens-append, within-append}
 use Rattle.vx_grammar.proofs.Symbols.{is_symbol_true}
@@ -154,3 +154,28 @@ pub tells_expect : (n : ℕ) (s : Symbol) (limit : ℕ) (ts : List Token) → n 
 unfolding expect
 tells_expect n s limit [] le = tells_unexpected (Sign n s) limit [] (starts_sign n s)
 tells_expect n s limit (t ∷ ts) le = tells_expect_by n s limit t ts (is_symbol s t.kind) refl le
+
+pub token_is : (t : Token) (k : Kind) (n : ℕ) → t.kind ≡ k → let m : Mark = record { token = t; count = n } in mark n t.place k ≡ m
+token_is t k n e = ap (λ (x : Kind). mark n t.place x) (sym e)
+
+pub marks_is : (t : Token) (k : Kind) (n : ℕ) (ms : List Mark) → t.kind ≡ k → let m : Mark = record { token = t; count = n } in mark n t.place k ∷ ms ≡ m ∷ ms
+marks_is t k n ms e = ap (λ x. x ∷ ms) (token_is t k n e)
+
+-- ---- names
+
+abbrev pub NameFor : ℕ → Grammar (List ℕ)
+NameFor n x ms = (p : Place) × (ms ≡ mark n p (name x) ∷ [])
+
+pub starts_name : (n : ℕ) → Starts (NameFor n) []
+starts_name n = record { value = []; more = mark n somewhere (name []) ∷ []; spelled = (somewhere, refl) }
+
+name_by_tells : (limit n : ℕ) (t : Token) (k : Kind) (ts : List Token) → n ≤ limit → t.kind ≡ k → Tells (NameFor n) limit (t ∷ ts) (name_by t k ts)
+name_by_tells limit n t (name x) ts le e = tells_token (NameFor n) limit (record { token = t; count = n }) ts x le (t.place, sym (marks_is t (name x) n [] e))
+name_by_tells limit n t (number m) ts le e = tells_unexpected (NameFor n) limit (t ∷ ts) (starts_name n)
+name_by_tells limit n t (word w) ts le e = tells_unexpected (NameFor n) limit (t ∷ ts) (starts_name n)
+name_by_tells limit n t (symbol s) ts le e = tells_unexpected (NameFor n) limit (t ∷ ts) (starts_name n)
+
+pub name_tells : (limit n : ℕ) (ts : List Token) → n ≤ limit → Tells (NameFor n) limit ts (name_at ts)
+unfolding name_at
+name_tells limit n [] le = tells_unexpected (NameFor n) limit [] (starts_name n)
+name_tells limit n (t ∷ ts) le = name_by_tells limit n t t.kind ts le refl

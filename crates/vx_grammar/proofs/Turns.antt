@@ -1,8 +1,7 @@
 -- The turns of a loop.
 use Rattle.std.proofs.Common.{◌≡◌, ℕ, suc, ◌+◌, ◌-◌, ◌≤◌, ◌<◌, List, Some, None, Ok, Err, refl, sym, ◌∙◌, arith}
 use Rattle.vx_tokens.specs.Tokens.{Token}
-use Rattle.vx_grammar.specs.Reading.{Read, Stop}
-use Rattle.vx_grammar.specs.Loops.{Turn, run}
+use Rattle.vx_grammar.specs.Reading.{Read, Stop, Turn, run}
 
 -- an item follows
 pub run_on : {S : Type 0} (turn : Turn S) (count i : ℕ) (s more : S) (ts after : List Token) (total : Read S) → i < count → turn s ts ≡ Ok (Some more, after) → run turn (count - i) s ts ≡ total → run turn (count - (i + 1)) more after ≡ total

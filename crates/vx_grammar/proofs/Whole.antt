@@ -8,9 +8,10 @@ use Rattle.vx_grammar.specs.Reading.{◌>>=◌, Read, Unexpected, TooDeep, choic
 use Rattle.vx_grammar.specs.Laws.{Within, CanGoOn, NoneFits, no_rest, whole, Says, AnswersAreRight, SpelledIsRead, SpelledOnce}
 use Rattle.vx_grammar.proofs.Complete.{is_read}
 use Rattle.vx_grammar.proofs.Tells.{Tells, Starts}
-use Rattle.vx_grammar.proofs.Means.{PhraseFor, reading_tells}
+use Rattle.vx_grammar.proofs.Means.{reading_tells}
 use Rattle.vx_grammar.proofs.Local.{Local, Front, SameHead}
 use Rattle.vx_grammar.proofs.LocalExpr.{reading_local}
+use Rattle.vx_grammar.proofs.PhraseFor.{PhraseFor}
 
 -- ---- a limit that is high enough
 

@@ -1,5 +1,5 @@
 -- Which tokens spell which expressions: the grammar of Viper (VMCAI 2016) in this profile.
-use Rattle.std.specs.Prelude.{◌≡◌, ℕ, ◌+◌, ◌≤◌, List, [], ◌∷◌, ◌++◌, map, Bool, true, false, if◌then◌else◌, ◌==◌, Option, Some, None}
+use Rattle.std.specs.Prelude.{ℕ, ◌+◌, ◌≤◌, List, [], ◌∷◌, ◌++◌, map, Bool, true, false, if◌then◌else◌, ◌==◌, Option, Some, None, ⊤}
 use Rattle.vx_ast.specs.declared.Place.{Place}
 use Rattle.vx_tokens.specs.declared.token.Word.{Word}
 use Rattle.vx_tokens.specs.declared.token.Word.TheVariants as words
@@ -10,7 +10,7 @@ use Rattle.vx_ast.specs.declared.UnaryOperator.TheVariants.{Not, Negate}
 use Rattle.vx_ast.specs.declared.BinaryOperator.{BinaryOperator}
 use Rattle.vx_ast.specs.declared.BinaryOperator.TheVariants.{Implies, Or, And, Equal, NotEqual, Less, LessEqual, Greater, GreaterEqual, Add, Subtract, Multiply, Divide, Quotient, Remainder}
 use Rattle.vx_tokens.specs.Tokens.{Kind, name, number, word, symbol, Token}
-use Rattle.vx_ast.specs.Written.{Expr, Truth, Number, Variable, Unary, Binary, Choice}
+use Rattle.vx_ast.specs.Written.{Expr, Exprs, NoMore, More, Amount, All, Part, Truth, Number, Null, Whole, Nothing, Result, Variable, Call, Read, Unary, Binary, Choice, Old, Access}
 
 -- ---- operators
 
@@ -45,11 +45,10 @@ operator_of (symbol signs.GreaterEqual) = Some GreaterEqual
 operator_of (symbol signs.Plus) = Some Add
 operator_of (symbol signs.Minus) = Some Subtract
 operator_of (symbol signs.Times) = Some Multiply
+operator_of (symbol signs.Slash) = Some Divide
+operator_of (symbol signs.Backslash) = Some Quotient
+operator_of (symbol signs.Percent) = Some Remainder
 operator_of k = None
-
--- the operators that can be written
-abbrev pub IsWritten : BinaryOperator → Type 0
-IsWritten op = operator_of (symbol (sign_of op)) ≡ Some op
 
 abbrev pub prefix_sign : UnaryOperator → Symbol
 prefix_sign Not = signs.Not
@@ -114,44 +113,143 @@ right_level Remainder = 0
 
 -- ---- an expression as it is written, with its parentheses and the place of each token
 
-pub data Phrase : Type 0 where
-  literal : Place → Bool → Phrase
-  numeral : Place → ℕ → Phrase
-  named : Place → List ℕ → Phrase
-  grouped : Place → Phrase → Place → Phrase
-  prefixed : Place → UnaryOperator → Phrase → Phrase
-  joined : Phrase → Place → BinaryOperator → Phrase → Phrase
-  chosen : Phrase → Place → Phrase → Place → Phrase → Phrase
+-- the words that stand for a value
+pub data Constant : Type 0 where
+  null_word : Constant
+  write_word : Constant
+  none_word : Constant
+  result_word : Constant
+
+abbrev pub constant_word : Constant → Word
+constant_word null_word = words.Null
+constant_word write_word = words.Write
+constant_word none_word = words.Nothing
+constant_word result_word = words.Outcome
+
+abbrev pub constant_meant : Place → Constant → Expr
+constant_meant p null_word = Null p
+constant_meant p write_word = Whole p
+constant_meant p none_word = Nothing p
+constant_meant p result_word = Result p
+
+mutual
+  pub data Phrase : Type 0 where
+    literal : Place → Bool → Phrase
+    constant : Place → Constant → Phrase
+    numeral : Place → ℕ → Phrase
+    named : Place → List ℕ → Phrase
+    -- f ( arguments )
+    called : Place → List ℕ → Place → ArgumentsPhrase → Place → Phrase
+    -- e . f
+    dotted : Phrase → Place → Place → List ℕ → Phrase
+    grouped : Place → Phrase → Place → Phrase
+    -- old ( e )
+    past : Place → Place → Phrase → Place → Phrase
+    -- acc ( e , amount )
+    accessed : Place → Place → Phrase → AmountPhrase → Place → Phrase
+    prefixed : Place → UnaryOperator → Phrase → Phrase
+    joined : Phrase → Place → BinaryOperator → Phrase → Phrase
+    chosen : Phrase → Place → Phrase → Place → Phrase → Phrase
+
+  pub data ArgumentsPhrase : Type 0 where
+    no_arguments : ArgumentsPhrase
+    arguments_from : Phrase → FurtherPhrase → ArgumentsPhrase
+
+  -- expressions behind a first one, each behind a comma
+  pub data FurtherPhrase : Type 0 where
+    nothing_further : FurtherPhrase
+    further : Place → Phrase → FurtherPhrase → FurtherPhrase
+
+  -- no amount, or one behind a comma
+  pub data AmountPhrase : Type 0 where
+    no_amount : AmountPhrase
+    amount : Place → Phrase → AmountPhrase
 
 -- the place of the first token
 abbrev pub start_of : Phrase → Place
 start_of (literal p b) = p
+start_of (constant p c) = p
 start_of (numeral p n) = p
 start_of (named p x) = p
+start_of (called p x o es c) = p
+start_of (dotted e p q f) = start_of e
 start_of (grouped p e q) = p
+start_of (past p o e c) = p
+start_of (accessed p o e a c) = p
 start_of (prefixed p op e) = p
 start_of (joined a p op b) = start_of a
 start_of (chosen c p a q b) = start_of c
 
 -- the expression that is meant
-abbrev pub meant : Phrase → Expr
-meant (literal p b) = Truth p b
-meant (numeral p n) = Number p n
-meant (named p x) = Variable p x
-meant (grouped p e q) = meant e
-meant (prefixed p op e) = Unary p op (meant e)
-meant (joined a p op b) = Binary (start_of a) op (meant a) (meant b)
-meant (chosen c p a q b) = Choice (start_of c) (meant c) (meant a) (meant b)
+abbrev mutual
+  pub meant : Phrase → Expr
+  meant (literal p b) = Truth p b
+  meant (constant p c) = constant_meant p c
+  meant (numeral p n) = Number p n
+  meant (named p x) = Variable p x
+  meant (called p x o es c) = Call p x (arguments_meant es)
+  meant (dotted e p q f) = Read (start_of e) (meant e) f
+  meant (grouped p e q) = meant e
+  meant (past p o e c) = Old p (meant e)
+  meant (accessed p o e a c) = Access p (meant e) (amount_meant a)
+  meant (prefixed p op e) = Unary p op (meant e)
+  meant (joined a p op b) = Binary (start_of a) op (meant a) (meant b)
+  meant (chosen c p a q b) = Choice (start_of c) (meant c) (meant a) (meant b)
+
+  pub arguments_meant : ArgumentsPhrase → Exprs
+  arguments_meant no_arguments = NoMore
+  arguments_meant (arguments_from e es) = More (meant e) (further_meant es)
+
+  pub further_meant : FurtherPhrase → Exprs
+  further_meant nothing_further = NoMore
+  further_meant (further p e es) = More (meant e) (further_meant es)
+
+  pub amount_meant : AmountPhrase → Amount
+  amount_meant no_amount = All
+  amount_meant (amount p e) = Part (meant e)
+
+-- what a dot may stand behind
+abbrev pub IsPrimary : Phrase → Type 0
+IsPrimary (literal p b) = ⊤
+IsPrimary (constant p c) = ⊤
+IsPrimary (numeral p n) = ⊤
+IsPrimary (named p x) = ⊤
+IsPrimary (called p x o es c) = ⊤
+IsPrimary (dotted e p q f) = ⊤
+IsPrimary (grouped p e q) = ⊤
+IsPrimary (past p o e c) = ⊤
+IsPrimary (accessed p o e a c) = ⊤
+IsPrimary (prefixed p op e) = ⊥
+IsPrimary (joined a p op b) = ⊥
+IsPrimary (chosen c p a q b) = ⊥
 
 -- a phrase may stand where the grammar asks for a level
-abbrev pub StandsAt : ℕ → Phrase → Type 0
-StandsAt level (literal p b) = Unit {0}
-StandsAt level (numeral p n) = Unit {0}
-StandsAt level (named p x) = Unit {0}
-StandsAt level (grouped p e q) = StandsAt 8 e
-StandsAt level (prefixed p op e) = StandsAt 0 e
-StandsAt level (joined a p op b) = (level_of op ≤ level) × StandsAt (left_level op) a × StandsAt (right_level op) b × IsWritten op
-StandsAt level (chosen c p a q b) = (8 ≤ level) × StandsAt 7 c × StandsAt 8 a × StandsAt 8 b
+abbrev mutual
+  pub StandsAt : ℕ → Phrase → Type 0
+  StandsAt level (literal p b) = ⊤
+  StandsAt level (constant p c) = ⊤
+  StandsAt level (numeral p n) = ⊤
+  StandsAt level (named p x) = ⊤
+  StandsAt level (called p x o es c) = ArgumentsStand es
+  StandsAt level (dotted e p q f) = IsPrimary e × StandsAt 0 e
+  StandsAt level (grouped p e q) = StandsAt 8 e
+  StandsAt level (past p o e c) = StandsAt 8 e
+  StandsAt level (accessed p o e a c) = StandsAt 8 e × AmountStands a
+  StandsAt level (prefixed p op e) = StandsAt 0 e
+  StandsAt level (joined a p op b) = (level_of op ≤ level) × StandsAt (left_level op) a × StandsAt (right_level op) b
+  StandsAt level (chosen c p a q b) = (8 ≤ level) × StandsAt 7 c × StandsAt 8 a × StandsAt 8 b
+
+  pub ArgumentsStand : ArgumentsPhrase → Type 0
+  ArgumentsStand no_arguments = ⊤
+  ArgumentsStand (arguments_from e es) = StandsAt 8 e × FurtherStand es
+
+  pub FurtherStand : FurtherPhrase → Type 0
+  FurtherStand nothing_further = ⊤
+  FurtherStand (further p e es) = StandsAt 8 e × FurtherStand es
+
+  pub AmountStands : AmountPhrase → Type 0
+  AmountStands no_amount = ⊤
+  AmountStands (amount p e) = StandsAt 8 e
 
 -- ---- tokens, each with its nesting count
 
@@ -166,25 +264,66 @@ mark n p k = record { token = record { kind = k; place = p }; count = n }
 abbrev pub operators : ℕ → Phrase → ℕ
 operators level (joined a p op b) = if level_of op == level then operators level a + 1 else 0
 operators level (literal p b) = 0
+operators level (constant p c) = 0
 operators level (numeral p n) = 0
 operators level (named p x) = 0
+operators level (called p x o es c) = 0
+operators level (dotted e p q f) = 0
 operators level (grouped p e q) = 0
+operators level (past p o e c) = 0
+operators level (accessed p o e a c) = 0
 operators level (prefixed p op e) = 0
 operators level (chosen c p a q b) = 0
 
+-- the dots so far of a chain of them
+abbrev pub dots : Phrase → ℕ
+dots (dotted e p q f) = dots e + 1
+dots (literal p b) = 0
+dots (constant p c) = 0
+dots (numeral p n) = 0
+dots (named p x) = 0
+dots (called p x o es c) = 0
+dots (grouped p e q) = 0
+dots (past p o e c) = 0
+dots (accessed p o e a c) = 0
+dots (prefixed p op e) = 0
+dots (joined a p op b) = 0
+dots (chosen c p a q b) = 0
+
 -- The tokens of a phrase that stands at nesting count n. A parenthesis, a prefix, a right operand of an
--- implication or a choice nests one deeper, and a right operand in a chain as deep as there are operators so far.
-abbrev pub marks : ℕ → Phrase → List Mark
-marks n (literal p b) = mark n p (word (literal_word b)) ∷ []
-marks n (numeral p m) = mark n p (number m) ∷ []
-marks n (named p x) = mark n p (name x) ∷ []
-marks n (grouped p e q) = mark (n + 1) p (symbol signs.Open) ∷ (marks (n + 1) e ++ mark (n + 1) q (symbol signs.Close) ∷ [])
-marks n (prefixed p op e) = mark (n + 1) p (symbol (prefix_sign op)) ∷ marks (n + 1) e
-marks n (joined a p op b) =
-    let deep = n + operators (level_of op) a + 1 in
-    marks n a ++ mark deep p (symbol (sign_of op)) ∷ marks deep b
-marks n (chosen c p a q b) =
-    marks n c ++ mark (n + 1) p (symbol signs.Question) ∷ (marks (n + 1) a ++ mark (n + 1) q (symbol signs.Colon) ∷ marks (n + 1) b)
+-- implication or a choice nests one deeper, and a right operand in a chain as deep as there are operators so far. A dot
+-- is such an operator, with the field's name as its right operand.
+abbrev mutual
+  pub marks : ℕ → Phrase → List Mark
+  marks n (literal p b) = mark n p (word (literal_word b)) ∷ []
+  marks n (constant p c) = mark n p (word (constant_word c)) ∷ []
+  marks n (numeral p m) = mark n p (number m) ∷ []
+  marks n (named p x) = mark n p (name x) ∷ []
+  marks n (called p x o es c) = mark n p (name x) ∷ mark (n + 1) o (symbol signs.Open) ∷ (arguments_marks (n + 1) es ++ mark (n + 1) c (symbol signs.Close) ∷ [])
+  marks n (dotted e p q f) =
+      let deep = n + dots e + 1 in
+      marks n e ++ mark deep p (symbol signs.Dot) ∷ mark deep q (name f) ∷ []
+  marks n (grouped p e q) = mark (n + 1) p (symbol signs.Open) ∷ (marks (n + 1) e ++ mark (n + 1) q (symbol signs.Close) ∷ [])
+  marks n (past p o e c) = mark n p (word words.Old) ∷ mark (n + 1) o (symbol signs.Open) ∷ (marks (n + 1) e ++ mark (n + 1) c (symbol signs.Close) ∷ [])
+  marks n (accessed p o e a c) = mark n p (word words.Acc) ∷ mark (n + 1) o (symbol signs.Open) ∷ ((marks (n + 1) e ++ amount_marks (n + 1) a) ++ mark (n + 1) c (symbol signs.Close) ∷ [])
+  marks n (prefixed p op e) = mark (n + 1) p (symbol (prefix_sign op)) ∷ marks (n + 1) e
+  marks n (joined a p op b) =
+      let deep = n + operators (level_of op) a + 1 in
+      marks n a ++ mark deep p (symbol (sign_of op)) ∷ marks deep b
+  marks n (chosen c p a q b) =
+      marks n c ++ mark (n + 1) p (symbol signs.Question) ∷ (marks (n + 1) a ++ mark (n + 1) q (symbol signs.Colon) ∷ marks (n + 1) b)
+
+  pub arguments_marks : ℕ → ArgumentsPhrase → List Mark
+  arguments_marks n no_arguments = []
+  arguments_marks n (arguments_from e es) = marks n e ++ further_marks n es
+
+  pub further_marks : ℕ → FurtherPhrase → List Mark
+  further_marks n nothing_further = []
+  further_marks n (further p e es) = mark n p (symbol signs.Comma) ∷ (marks n e ++ further_marks n es)
+
+  pub amount_marks : ℕ → AmountPhrase → List Mark
+  amount_marks n no_amount = []
+  amount_marks n (amount p e) = mark n p (symbol signs.Comma) ∷ marks n e
 
 abbrev pub tokens_of : List Mark → List Token
 tokens_of ms = map (λ m. m.token) ms

@@ -2,7 +2,6 @@ pub mod Grammar
 pub mod Statements
 pub mod Programs
 pub mod Reading
-pub mod Loops
 pub mod StmtReading
 pub mod MemberReading
 pub mod Nesting

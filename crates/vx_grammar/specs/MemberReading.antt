@@ -4,10 +4,9 @@ use Rattle.vx_ast.specs.declared.Place.{Place}
 use Rattle.vx_tokens.specs.declared.token.Word.TheVariants as words
 use Rattle.vx_tokens.specs.declared.token.Symbol.TheVariants as signs
 use Rattle.vx_tokens.specs.Tokens.{Kind, word, Token}
-use Rattle.vx_ast.specs.Written.{Expr, Exprs, NoMore, More, Declaration, Block, IsMethod, Member, Program}
-use Rattle.vx_grammar.specs.Loops.{Turn, run}
-use Rattle.vx_grammar.specs.Reading.{Stop, TooDeep, Read, ◌>>=◌, is_symbol, expect, choice_at, below}
-use Rattle.vx_grammar.specs.StmtReading.{name_at, declaration_at, block_at, stmts_below, skip_semicolon}
+use Rattle.vx_ast.specs.Written.{Expr, Declaration, Block, IsField, IsMethod, Member, Program}
+use Rattle.vx_grammar.specs.Reading.{Stop, Unexpected, TooDeep, Read, ◌>>=◌, Turn, run, is_symbol, expect, name_at, choice_at, below, exprs_from}
+use Rattle.vx_grammar.specs.StmtReading.{clause_at, declaration_at, block_at, stmts_below, skip_semicolon}
 
 -- the nesting limit
 abbrev pub limit : ℕ
@@ -76,10 +75,6 @@ abbrev pub begins_ensures : Kind → Bool
 begins_ensures (word words.Ensures) = true
 begins_ensures k = false
 
--- a clause behind so many of its kind, each of which nests it, where the nesting count may grow to deep
-unfoldable pub clause_at : (deep before : ℕ) → List Token → List Token → Read Expr
-clause_at deep before here ts = if nat_le before deep then choice_at (below (deep - before)) ts else Err (TooDeep here)
-
 -- one clause more
 unfoldable pub clause_turn : ℕ → Turn Clauses
 clause_turn deep before [] = Ok (None, [])
@@ -94,10 +89,6 @@ clause_turn deep before (t ∷ ts) =
 
 unfoldable pub clauses_at : ℕ → List Token → Read Clauses
 clauses_at deep ts = run (clause_turn deep) (length ts) no_clauses ts
-
-abbrev pub exprs_from : List Expr → Exprs
-exprs_from [] = NoMore
-exprs_from (e ∷ es) = More e (exprs_from es)
 
 -- ---- members
 
@@ -118,6 +109,21 @@ method_at deep place ts = do
   body ← block_at (stmts_below deep) clauses.1
   Ok (method_of place x.0 parameters.0 returns.0 clauses.0 body.0, body.1)
 
+-- behind a `field`
+unfoldable pub field_at : Place → List Token → Read Member
+field_at place ts = do
+  d ← declaration_at ts
+  Ok (record { place = place; name = d.0.name; kind = IsField d.0.of }, d.1)
+
+-- behind a word that begins a member
+abbrev pub member_by : ℕ → Place → Kind → List Token → Read Member
+member_by deep place (word words.Field) ts = field_at place ts
+member_by deep place (word words.Method) ts = method_at deep place ts
+member_by deep place k ts = Err (Unexpected ts)
+
+unfoldable pub member_at : ℕ → Token → List Token → Read Member
+member_at deep t ts = member_by deep t.place t.kind ts
+
 -- ---- programs
 
 -- where reading members stops: inside a member, where a member is due, or at one too many
@@ -130,6 +136,7 @@ abbrev pub max_members : ℕ
 max_members = 65536
 
 abbrev pub begins_member : Kind → Bool
+begins_member (word words.Field) = true
 begins_member (word words.Method) = true
 begins_member k = false
 
@@ -144,7 +151,7 @@ members_by deep many zero before (t ∷ ts) = Err (no_member (t ∷ ts))
 members_by deep many (suc most) before (t ∷ ts) =
     if begins_member t.kind then (
     if nat_lt (length before) many
-    then then_members (method_at deep t.place ts) (λ m after. members_by deep many most (before ++ m ∷ []) (skip_semicolon after))
+    then then_members (member_at deep t ts) (λ m after. members_by deep many most (before ++ m ∷ []) (skip_semicolon after))
     else Err (too_many (t ∷ ts)))
     else Err (no_member (t ∷ ts))
 

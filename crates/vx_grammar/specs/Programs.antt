@@ -1,12 +1,12 @@
 -- Which tokens spell which programs: the grammar of Viper (VMCAI 2016) in this profile.
 use Rattle.std.specs.Prelude.{ℕ, ◌+◌, List, [], ◌∷◌, ◌++◌, Option, Some, ⊤}
 use Rattle.vx_ast.specs.declared.Place.{Place}
-use Rattle.vx_ast.specs.Written.{Exprs, NoMore, More, Declaration, IsMethod, Member, Program}
+use Rattle.vx_ast.specs.Written.{Exprs, NoMore, More, Declaration, IsField, IsMethod, Member, Program}
 use Rattle.vx_tokens.specs.declared.token.Word.TheVariants as words
 use Rattle.vx_tokens.specs.declared.token.Symbol.TheVariants as signs
 use Rattle.vx_tokens.specs.Tokens.{name, word, symbol}
 use Rattle.vx_grammar.specs.Grammar.{Phrase, Mark, mark, marks, meant, StandsAt}
-use Rattle.vx_grammar.specs.Statements.{DeclarationPhrase, declaration_meant, declaration_marks, IsWrittenType, BlockPhrase, block_meant, block_marks, StandsBlock, semi_marks}
+use Rattle.vx_grammar.specs.Statements.{DeclarationPhrase, declaration_meant, declaration_marks, BlockPhrase, block_meant, block_marks, StandsBlock, semi_marks}
 
 -- ---- parameters
 
@@ -41,18 +41,6 @@ declarations_meant (some d rest) = declaration_meant d ∷ more_meant rest
 abbrev pub returns_meant : ReturnsPhrase → List Declaration
 returns_meant no_returns = []
 returns_meant (returns p w) = declarations_meant w.inner
-
-abbrev pub StandsMore : MoreDeclarations → Type 0
-StandsMore no_more = ⊤
-StandsMore (listed p d rest) = IsWrittenType d.of × StandsMore rest
-
-abbrev pub StandsDeclarations : DeclarationsPhrase → Type 0
-StandsDeclarations none = ⊤
-StandsDeclarations (some d rest) = IsWrittenType d.of × StandsMore rest
-
-abbrev pub StandsReturns : ReturnsPhrase → Type 0
-StandsReturns no_returns = ⊤
-StandsReturns (returns p w) = StandsDeclarations w.inner
 
 abbrev pub more_marks : ℕ → MoreDeclarations → List Mark
 more_marks n no_more = []
@@ -117,8 +105,6 @@ method_meant m = record {
 }
 
 pub record StandsMethod (m : MethodPhrase) : Type 0 where
-  pub parameters : StandsDeclarations m.parameters.inner
-  pub returns : StandsReturns m.returns
   pub clauses : StandsClauses m.clauses
   pub body : StandsBlock m.body
 
@@ -127,19 +113,36 @@ method_marks m =
     mark 0 m.at (word words.Method) ∷ mark 0 m.name_at (name m.text)
     ∷ (parameters_marks 0 m.parameters ++ (returns_marks 0 m.returns ++ (clauses_marks 0 0 m.clauses ++ block_marks 0 m.body)))
 
+pub data MemberPhrase : Type 0 where
+  -- field f : T
+  a_field : Place → DeclarationPhrase → MemberPhrase
+  a_method : MethodPhrase → MemberPhrase
+
+abbrev pub member_meant : MemberPhrase → Member
+member_meant (a_field p d) = record { place = p; name = d.text; kind = IsField d.of }
+member_meant (a_method m) = method_meant m
+
+abbrev pub StandsMember : MemberPhrase → Type 0
+StandsMember (a_field p d) = ⊤
+StandsMember (a_method m) = StandsMethod m
+
+abbrev pub member_marks : MemberPhrase → List Mark
+member_marks (a_field p d) = mark 0 p (word words.Field) ∷ declaration_marks 0 d
+member_marks (a_method m) = method_marks m
+
 -- members one after the other, each with a semicolon or none
 pub data ProgramPhrase : Type 0 where
   no_members : ProgramPhrase
-  member : MethodPhrase → Option Place → ProgramPhrase → ProgramPhrase
+  member : MemberPhrase → Option Place → ProgramPhrase → ProgramPhrase
 
 abbrev pub program_meant : ProgramPhrase → Program
 program_meant no_members = []
-program_meant (member m semi rest) = method_meant m ∷ program_meant rest
+program_meant (member m semi rest) = member_meant m ∷ program_meant rest
 
 abbrev pub StandsProgram : ProgramPhrase → Type 0
 StandsProgram no_members = ⊤
-StandsProgram (member m semi rest) = StandsMethod m × StandsProgram rest
+StandsProgram (member m semi rest) = StandsMember m × StandsProgram rest
 
 abbrev pub program_marks : ProgramPhrase → List Mark
 program_marks no_members = []
-program_marks (member m semi rest) = method_marks m ++ (semi_marks 0 semi ++ program_marks rest)
+program_marks (member m semi rest) = member_marks m ++ (semi_marks 0 semi ++ program_marks rest)

@@ -3,12 +3,12 @@ use Rattle.std.specs.Prelude.{ℕ, ◌+◌, List, [], ◌∷◌, ◌++◌, Optio
 use Rattle.vx_ast.specs.declared.Place.{Place}
 use Rattle.vx_ast.specs.declared.ValueType.{ValueType}
 use Rattle.vx_ast.specs.declared.ValueType.TheVariants as types
-use Rattle.vx_ast.specs.Written.{Declaration, Value, Stmt, Block, Declare, Assign, Assert, Assume, If, Done, Then}
+use Rattle.vx_ast.specs.Written.{Expr, Right, Value, NewAll, New, Declaration, Stmt, Block, Declare, Assign, Write, Invoke, Inhale, Exhale, Assert, Assume, If, While, Exprs, NoMore, More, Done, Then}
 use Rattle.vx_tokens.specs.declared.token.Word.{Word}
 use Rattle.vx_tokens.specs.declared.token.Word.TheVariants as words
 use Rattle.vx_tokens.specs.declared.token.Symbol.TheVariants as signs
 use Rattle.vx_tokens.specs.Tokens.{name, word, symbol}
-use Rattle.vx_grammar.specs.Grammar.{Phrase, Mark, mark, marks, meant, StandsAt}
+use Rattle.vx_grammar.specs.Grammar.{Phrase, literal, constant, numeral, named, called, dotted, grouped, past, accessed, prefixed, joined, chosen, ArgumentsPhrase, arguments_meant, ArgumentsStand, Mark, mark, marks, start_of, meant, StandsAt}
 
 -- ---- declarations
 
@@ -26,13 +26,6 @@ type_word types.Bool = words.Bool
 type_word types.Ref = words.Ref
 type_word types.Perm = words.Perm
 
--- the types that can be written
-abbrev pub IsWrittenType : ValueType → Type 0
-IsWrittenType types.Int = ⊤
-IsWrittenType types.Bool = ⊤
-IsWrittenType types.Ref = ⊥
-IsWrittenType types.Perm = ⊥
-
 abbrev pub declaration_meant : DeclarationPhrase → Declaration
 declaration_meant d = record { name = d.text; of = d.of }
 
@@ -41,17 +34,128 @@ declaration_marks n d = mark n d.name_at (name d.text) ∷ mark n d.colon_at (sy
 
 -- ---- statements as they are written, with the place of each token
 
+-- what is done with an assertion
+pub data Claim : Type 0 where
+  inhales : Claim
+  exhales : Claim
+  asserts : Claim
+  assumes : Claim
+
+abbrev pub claim_word : Claim → Word
+claim_word inhales = words.Inhale
+claim_word exhales = words.Exhale
+claim_word asserts = words.Assert
+claim_word assumes = words.Assume
+
+abbrev pub claim_meant : Claim → Place → Expr → Stmt
+claim_meant inhales p e = Inhale p e
+claim_meant exhales p e = Exhale p e
+claim_meant asserts p e = Assert p e
+claim_meant assumes p e = Assume p e
+
+-- names behind a first one, each behind a comma
+pub data NamesPhrase : Type 0 where
+  no_names : NamesPhrase
+  next_name : Place → Place → List ℕ → NamesPhrase → NamesPhrase
+
+-- the fields that `new` gives: all, none, or these
+pub data FieldsPhrase : Type 0 where
+  every_field : Place → FieldsPhrase
+  no_fields : FieldsPhrase
+  these_fields : Place → List ℕ → NamesPhrase → FieldsPhrase
+
+-- what stands right of `:=`
+pub data RightPhrase : Type 0 where
+  given : Phrase → RightPhrase
+  -- new ( fields )
+  allocated : Place → Place → FieldsPhrase → Place → RightPhrase
+
+abbrev pub names_meant : NamesPhrase → List (List ℕ)
+names_meant no_names = []
+names_meant (next_name p q x rest) = x ∷ names_meant rest
+
+abbrev pub fields_meant : FieldsPhrase → Right
+fields_meant (every_field p) = NewAll
+fields_meant no_fields = New []
+fields_meant (these_fields p x rest) = New (x ∷ names_meant rest)
+
+abbrev pub right_meant : RightPhrase → Right
+right_meant (given e) = Value (meant e)
+right_meant (allocated p o fs c) = fields_meant fs
+
+abbrev pub RightStands : RightPhrase → Type 0
+RightStands (given e) = StandsAt 8 e
+RightStands (allocated p o fs c) = ⊤
+
+abbrev pub names_marks : ℕ → NamesPhrase → List Mark
+names_marks n no_names = []
+names_marks n (next_name p q x rest) = mark n p (symbol signs.Comma) ∷ mark n q (name x) ∷ names_marks n rest
+
+abbrev pub fields_marks : ℕ → FieldsPhrase → List Mark
+fields_marks n (every_field p) = mark n p (symbol signs.Times) ∷ []
+fields_marks n no_fields = []
+fields_marks n (these_fields p x rest) = mark n p (name x) ∷ names_marks n rest
+
+abbrev pub right_marks : ℕ → RightPhrase → List Mark
+right_marks n (given e) = marks n e
+right_marks n (allocated p o fs c) = mark n p (word words.New) ∷ mark (n + 1) o (symbol signs.Open) ∷ (fields_marks (n + 1) fs ++ mark (n + 1) c (symbol signs.Close) ∷ [])
+
+abbrev pub semi_marks : ℕ → Option Place → List Mark
+semi_marks n None = []
+semi_marks n (Some p) = mark n p (symbol signs.Semicolon) ∷ []
+
+-- the invariants of a loop, one after the other, each with a semicolon or none
+pub data InvariantsPhrase : Type 0 where
+  no_invariants : InvariantsPhrase
+  invariant : Place → Phrase → Option Place → InvariantsPhrase → InvariantsPhrase
+
+abbrev pub invariants_meant : InvariantsPhrase → Exprs
+invariants_meant no_invariants = NoMore
+invariants_meant (invariant p e semi rest) = More (meant e) (invariants_meant rest)
+
+abbrev pub InvariantsStand : InvariantsPhrase → Type 0
+InvariantsStand no_invariants = ⊤
+InvariantsStand (invariant p e semi rest) = StandsAt 8 e × InvariantsStand rest
+
+-- Behind so many at a loop that stands at nesting count n. An invariant nests as deep as there are earlier ones.
+abbrev pub invariants_marks : ℕ → ℕ → InvariantsPhrase → List Mark
+invariants_marks n k no_invariants = []
+invariants_marks n k (invariant p e semi rest) = mark (n + k) p (word words.Invariant) ∷ (marks (n + k) e ++ (semi_marks n semi ++ invariants_marks n (k + 1) rest))
+
+-- the location of a field: a variable or an application, and fields of it
+abbrev pub IsPath : Phrase → Type 0
+IsPath (named p x) = ⊤
+IsPath (called p x o es c) = ⊤
+IsPath (dotted e p q f) = IsPath e
+IsPath (literal p b) = ⊥
+IsPath (constant p c) = ⊥
+IsPath (numeral p n) = ⊥
+IsPath (grouped p e q) = ⊥
+IsPath (past p o e c) = ⊥
+IsPath (accessed p o e a c) = ⊥
+IsPath (prefixed p op e) = ⊥
+IsPath (joined a p op b) = ⊥
+IsPath (chosen c p a q b) = ⊥
+
 mutual
   pub data StmtPhrase : Type 0 where
     -- x := e
-    assigned : Place → List ℕ → Place → Phrase → StmtPhrase
+    assigned : Place → List ℕ → Place → RightPhrase → StmtPhrase
+    -- e . f := e'
+    stored : Phrase → Place → Place → List ℕ → Place → Phrase → StmtPhrase
+    -- m ( arguments )
+    invoked : Place → List ℕ → Place → ArgumentsPhrase → Place → StmtPhrase
+    -- x , y , .. := m ( arguments )
+    targeted : Place → List ℕ → Place → Place → List ℕ → NamesPhrase → Place → Place → List ℕ → Place → ArgumentsPhrase → Place → StmtPhrase
     -- var d, and var d := e
     declared : Place → DeclarationPhrase → StmtPhrase
-    initialized : Place → DeclarationPhrase → Place → Phrase → StmtPhrase
-    asserted : Place → Phrase → StmtPhrase
-    assumed : Place → Phrase → StmtPhrase
+    initialized : Place → DeclarationPhrase → Place → RightPhrase → StmtPhrase
+    -- inhale e, exhale e, assert e, assume e
+    claimed : Claim → Place → Phrase → StmtPhrase
     -- if, and what stands behind it
     branched : Place → BranchPhrase → StmtPhrase
+    -- while ( e ), invariants and a block
+    repeated : Place → Place → Phrase → Place → InvariantsPhrase → BlockPhrase → StmtPhrase
 
   -- a condition between parentheses, a block and the other side
   pub data BranchPhrase : Type 0 where
@@ -76,12 +180,15 @@ mutual
 
 abbrev mutual
   pub stmt_meant : StmtPhrase → Stmt
-  stmt_meant (assigned p x q e) = Assign p x (Value (meant e))
+  stmt_meant (assigned p x q r) = Assign p x (right_meant r)
+  stmt_meant (stored e p q f r v) = Write (start_of e) (meant e) f (meant v)
+  stmt_meant (invoked p m o es c) = Invoke p [] m (arguments_meant es)
+  stmt_meant (targeted p x k q y ys r s m o es c) = Invoke p (x ∷ y ∷ names_meant ys) m (arguments_meant es)
   stmt_meant (declared p d) = Declare p (declaration_meant d) None
-  stmt_meant (initialized p d q e) = Declare p (declaration_meant d) (Some (Value (meant e)))
-  stmt_meant (asserted p e) = Assert p (meant e)
-  stmt_meant (assumed p e) = Assume p (meant e)
+  stmt_meant (initialized p d q r) = Declare p (declaration_meant d) (Some (right_meant r))
+  stmt_meant (claimed c p e) = claim_meant c p (meant e)
   stmt_meant (branched p b) = branch_meant p b
+  stmt_meant (repeated p o e c is b) = While p (meant e) (invariants_meant is) (block_meant b)
 
   -- an `if` whose first token stands there
   pub branch_meant : Place → BranchPhrase → Stmt
@@ -104,12 +211,15 @@ abbrev mutual
 
 abbrev mutual
   pub StandsStmt : StmtPhrase → Type 0
-  StandsStmt (assigned p x q e) = StandsAt 8 e
-  StandsStmt (declared p d) = IsWrittenType d.of
-  StandsStmt (initialized p d q e) = IsWrittenType d.of × StandsAt 8 e
-  StandsStmt (asserted p e) = StandsAt 8 e
-  StandsStmt (assumed p e) = StandsAt 8 e
+  StandsStmt (assigned p x q r) = RightStands r
+  StandsStmt (stored e p q f r v) = IsPath e × StandsAt 0 e × StandsAt 8 v
+  StandsStmt (invoked p m o es c) = ArgumentsStand es
+  StandsStmt (targeted p x k q y ys r s m o es c) = ArgumentsStand es
+  StandsStmt (declared p d) = ⊤
+  StandsStmt (initialized p d q r) = RightStands r
+  StandsStmt (claimed c p e) = StandsAt 8 e
   StandsStmt (branched p b) = StandsBranch b
+  StandsStmt (repeated p o e c is b) = StandsAt 8 e × InvariantsStand is × StandsBlock b
 
   pub StandsBranch : BranchPhrase → Type 0
   StandsBranch (branch o e c b x) = StandsAt 8 e × StandsBlock b × StandsOther x
@@ -128,19 +238,18 @@ abbrev mutual
 
 -- ---- tokens, each with its nesting count
 
-abbrev pub semi_marks : ℕ → Option Place → List Mark
-semi_marks n None = []
-semi_marks n (Some p) = mark n p (symbol signs.Semicolon) ∷ []
-
 -- A parenthesis, a brace and an `elseif` nest one deeper; an `elseif` part lasts to the end of the whole `if`.
 abbrev mutual
   pub stmt_marks : ℕ → StmtPhrase → List Mark
-  stmt_marks n (assigned p x q e) = mark n p (name x) ∷ mark n q (symbol signs.Becomes) ∷ marks n e
+  stmt_marks n (assigned p x q r) = mark n p (name x) ∷ mark n q (symbol signs.Becomes) ∷ right_marks n r
+  stmt_marks n (stored e p q f r v) = marks n (dotted e p q f) ++ mark n r (symbol signs.Becomes) ∷ marks n v
+  stmt_marks n (invoked p m o es c) = marks n (called p m o es c)
+  stmt_marks n (targeted p x k q y ys r s m o es c) = mark n p (name x) ∷ mark n k (symbol signs.Comma) ∷ mark n q (name y) ∷ (names_marks n ys ++ mark n r (symbol signs.Becomes) ∷ marks n (called s m o es c))
   stmt_marks n (declared p d) = mark n p (word words.Var) ∷ declaration_marks n d
-  stmt_marks n (initialized p d q e) = mark n p (word words.Var) ∷ (declaration_marks n d ++ mark n q (symbol signs.Becomes) ∷ marks n e)
-  stmt_marks n (asserted p e) = mark n p (word words.Assert) ∷ marks n e
-  stmt_marks n (assumed p e) = mark n p (word words.Assume) ∷ marks n e
+  stmt_marks n (initialized p d q r) = mark n p (word words.Var) ∷ (declaration_marks n d ++ mark n q (symbol signs.Becomes) ∷ right_marks n r)
+  stmt_marks n (claimed c p e) = mark n p (word (claim_word c)) ∷ marks n e
   stmt_marks n (branched p b) = mark n p (word words.If) ∷ branch_marks n b
+  stmt_marks n (repeated p o e c is b) = mark n p (word words.While) ∷ mark (n + 1) o (symbol signs.Open) ∷ (marks (n + 1) e ++ mark (n + 1) c (symbol signs.Close) ∷ (invariants_marks n 0 is ++ block_marks n b))
 
   pub branch_marks : ℕ → BranchPhrase → List Mark
   branch_marks n (branch o e c b x) = mark (n + 1) o (symbol signs.Open) ∷ (marks (n + 1) e ++ mark (n + 1) c (symbol signs.Close) ∷ (block_marks n b ++ other_marks n x))

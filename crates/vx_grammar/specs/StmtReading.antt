@@ -1,28 +1,23 @@
 -- Reading statements from left to right.
-use Rattle.std.specs.Prelude.{ℕ, zero, suc, List, [], ◌∷◌, ◌++◌, length, Ok, Err, Some, None, Bool, true, false, if◌then◌else◌}
+use Rattle.std.specs.Prelude.{ℕ, ◌-◌, nat_le, zero, suc, List, [], ◌∷◌, ◌++◌, length, Ok, Err, Some, None, Bool, true, false, if◌then◌else◌}
 use Rattle.vx_ast.specs.declared.Place.{Place}
 use Rattle.vx_ast.specs.declared.ValueType.{ValueType}
 use Rattle.vx_ast.specs.declared.ValueType.TheVariants as types
 use Rattle.vx_tokens.specs.declared.token.Word.TheVariants as words
 use Rattle.vx_tokens.specs.declared.token.Symbol.TheVariants as signs
 use Rattle.vx_tokens.specs.Tokens.{Kind, name, word, Token}
-use Rattle.vx_ast.specs.Written.{Expr, Declaration, Value, Stmt, Block, Declare, Assign, Assert, Assume, If, Done, Then}
-use Rattle.vx_grammar.specs.Loops.{Turn, run}
-use Rattle.vx_grammar.specs.Reading.{Unexpected, TooDeep, Read, ◌>>=◌, is_symbol, expect, choice, choice_at, below}
+use Rattle.vx_ast.specs.Written.{Expr, Variable, Call, Right, Value, Declaration, Stmt, Block, Declare, Assign, Write, Invoke, If, While, Exprs, Done, Then}
+use Rattle.vx_ast.specs.Written as written
+use Rattle.vx_grammar.specs.Statements.{Claim, inhales, exhales, asserts, assumes, claim_meant}
+use Rattle.vx_grammar.specs.Reading.{exprs_from, Unexpected, TooDeep, Read, ◌>>=◌, Turn, run, is_symbol, expect, name_at, enclosed, choice, arguments, allocation, name_turn, postfix_by, choice_at, below}
 
--- ---- names and types
-
-abbrev pub name_by : Token → Kind → List Token → Read (List ℕ)
-name_by t (name x) ts = Ok (x, ts)
-name_by t k ts = Err (Unexpected (t ∷ ts))
-
-unfoldable pub name_at : List Token → Read (List ℕ)
-name_at [] = Err (Unexpected [])
-name_at (t ∷ ts) = name_by t t.kind ts
+-- ---- types
 
 abbrev pub type_by : Token → Kind → List Token → Read ValueType
 type_by t (word words.Int) ts = Ok (types.Int, ts)
 type_by t (word words.Bool) ts = Ok (types.Bool, ts)
+type_by t (word words.Ref) ts = Ok (types.Ref, ts)
+type_by t (word words.Perm) ts = Ok (types.Perm, ts)
 type_by t k ts = Err (Unexpected (t ∷ ts))
 
 unfoldable pub type_at : List Token → Read ValueType
@@ -47,14 +42,6 @@ pub data StmtPart : Type 0 where
 abbrev pub StmtDeeper : Type 0
 StmtDeeper = StmtPart → List Token → List Token → Read Block
 
--- an expression between parentheses
-unfoldable pub condition_at : ℕ → List Token → Read Expr
-condition_at room ts = do
-  opened ← expect signs.Open ts
-  e ← below room choice ts opened.1
-  close ← expect signs.Close e.1
-  Ok (e.0, close.1)
-
 unfoldable pub block_at : StmtDeeper → List Token → Read Block
 block_at deeper ts = do
   opened ← expect signs.OpenBrace ts
@@ -75,15 +62,29 @@ otherwise_at deeper (t ∷ ts) = otherwise_by deeper t t.kind ts
 -- behind an `if` or an `elseif`
 unfoldable pub branch_at : ℕ → StmtDeeper → Place → List Token → Read Stmt
 branch_at room deeper place ts = do
-  e ← condition_at room ts
+  e ← enclosed (below room) choice ts
   b ← block_at deeper e.1
   o ← otherwise_at deeper b.1
   Ok (If place e.0 b.0 o.0, o.1)
 
+abbrev pub begins_new : Kind → Bool
+begins_new (word words.New) = true
+begins_new k = false
+
+unfoldable pub value_at : ℕ → List Token → Read Right
+value_at room ts = do
+  e ← choice_at (below room) ts
+  Ok (Value e.0, e.1)
+
+-- what stands right of `:=`
+unfoldable pub right_at : ℕ → List Token → Read Right
+right_at room [] = Err (Unexpected [])
+right_at room (t ∷ ts) = if begins_new t.kind then enclosed (below room) allocation ts else value_at room (t ∷ ts)
+
 unfoldable pub initial_by : ℕ → Place → Declaration → List Token → Read Stmt
 initial_by room place d ts = do
-  e ← choice_at (below room) ts
-  Ok (Declare place d (Some (Value e.0)), e.1)
+  r ← right_at room ts
+  Ok (Declare place d (Some r.0), r.1)
 
 unfoldable pub initial_at : ℕ → Place → Declaration → List Token → Read Stmt
 initial_at room place d [] = Ok (Declare place d None, [])
@@ -95,29 +96,100 @@ declare_at room place ts = do
   d ← declaration_at ts
   initial_at room place d.0 d.1
 
--- behind the name of a target
+-- ---- statements that begin with a name
+
+unfoldable pub assign_one : ℕ → Place → List ℕ → List Token → Read Stmt
+assign_one room place x ts = do
+  r ← right_at room ts
+  Ok (Assign place x r.0, r.1)
+
+-- behind the targets of a call and `:=`
+unfoldable pub invoke_at : ℕ → Place → List (List ℕ) → List Token → Read Stmt
+invoke_at room place xs ts = do
+  m ← name_at ts
+  es ← enclosed (below room) arguments m.1
+  Ok (Invoke place xs m.0 es.0, es.1)
+
+abbrev pub assigned_by : ℕ → Place → List (List ℕ) → List Token → Read Stmt
+assigned_by room place [] ts = Err (Unexpected ts)
+assigned_by room place (x ∷ []) ts = assign_one room place x ts
+assigned_by room place (x ∷ y ∷ ys) ts = invoke_at room place (x ∷ y ∷ ys) ts
+
+-- behind the name of a first target
 unfoldable pub assign_at : ℕ → Place → List ℕ → List Token → Read Stmt
 assign_at room place x ts = do
+  xs ← run name_turn (length ts) (x ∷ []) ts
+  becomes ← expect signs.Becomes xs.1
+  assigned_by room place xs.0 becomes.1
+
+-- behind a field's location
+unfoldable pub store_at : ℕ → Place → Expr → List ℕ → List Token → Read Stmt
+store_at room place e f ts = do
   becomes ← expect signs.Becomes ts
-  e ← choice_at (below room) becomes.1
-  Ok (Assign place x (Value e.0), e.1)
+  v ← choice_at (below room) becomes.1
+  Ok (Write place e f v.0, v.1)
 
-unfoldable pub assert_at : ℕ → Place → List Token → Read Stmt
-assert_at room place ts = do
-  e ← choice_at (below room) ts
-  Ok (Assert place e.0, e.1)
+-- behind a variable, an application or a field's location
+abbrev pub by_target : ℕ → Place → Expr → List Token → Read Stmt
+by_target room place (Variable at x) ts = assign_at room place x ts
+by_target room place (Call at m es) ts = Ok (Invoke place [] m es, ts)
+by_target room place (written.Read at e f) ts = store_at room place e f ts
+by_target room place e ts = Err (Unexpected ts)
 
-unfoldable pub assume_at : ℕ → Place → List Token → Read Stmt
-assume_at room place ts = do
+-- behind a name
+unfoldable pub target_at : ℕ → Token → List ℕ → List Token → Read Stmt
+target_at room t x ts = do
+  e ← postfix_by (below room) t (name x) ts
+  by_target room t.place e.0 e.1
+
+abbrev pub skip_semicolon : List Token → List Token
+skip_semicolon [] = []
+skip_semicolon (t ∷ ts) = if is_symbol signs.Semicolon t.kind then ts else t ∷ ts
+
+-- a clause behind so many of its kind, each of which nests it, where the nesting count may grow by room
+unfoldable pub clause_at : (room before : ℕ) → List Token → List Token → Read Expr
+clause_at room before here ts = if nat_le before room then choice_at (below (room - before)) ts else Err (TooDeep here)
+
+abbrev pub begins_invariant : Kind → Bool
+begins_invariant (word words.Invariant) = true
+begins_invariant k = false
+
+-- one invariant more
+unfoldable pub invariant_turn : ℕ → Turn (List Expr)
+invariant_turn room before [] = Ok (None, [])
+invariant_turn room before (t ∷ ts) =
+    if begins_invariant t.kind then (do
+      e ← clause_at room (length before) (t ∷ ts) ts
+      Ok (Some (before ++ e.0 ∷ []), skip_semicolon e.1))
+    else Ok (None, t ∷ ts)
+
+unfoldable pub invariants_at : ℕ → List Token → Read Exprs
+invariants_at room ts = do
+  es ← run (invariant_turn room) (length ts) [] ts
+  Ok (exprs_from es.0, es.1)
+
+-- behind a `while`
+unfoldable pub while_at : ℕ → StmtDeeper → Place → List Token → Read Stmt
+while_at room deeper place ts = do
+  e ← enclosed (below room) choice ts
+  is ← invariants_at room e.1
+  b ← block_at deeper is.1
+  Ok (While place e.0 is.0 b.0, b.1)
+
+unfoldable pub claim_at : ℕ → Claim → Place → List Token → Read Stmt
+claim_at room claim place ts = do
   e ← choice_at (below room) ts
-  Ok (Assume place e.0, e.1)
+  Ok (claim_meant claim place e.0, e.1)
 
 abbrev pub stmt_by : ℕ → StmtDeeper → Token → Kind → List Token → Read Stmt
-stmt_by room deeper t (name x) ts = assign_at room t.place x ts
+stmt_by room deeper t (name x) ts = target_at room t x ts
 stmt_by room deeper t (word words.Var) ts = declare_at room t.place ts
-stmt_by room deeper t (word words.Assert) ts = assert_at room t.place ts
-stmt_by room deeper t (word words.Assume) ts = assume_at room t.place ts
+stmt_by room deeper t (word words.Inhale) ts = claim_at room inhales t.place ts
+stmt_by room deeper t (word words.Exhale) ts = claim_at room exhales t.place ts
+stmt_by room deeper t (word words.Assert) ts = claim_at room asserts t.place ts
+stmt_by room deeper t (word words.Assume) ts = claim_at room assumes t.place ts
 stmt_by room deeper t (word words.If) ts = branch_at room deeper t.place ts
+stmt_by room deeper t (word words.While) ts = while_at room deeper t.place ts
 stmt_by room deeper t k ts = Err (Unexpected (t ∷ ts))
 
 unfoldable pub stmt_at : ℕ → StmtDeeper → List Token → Read Stmt
@@ -128,14 +200,13 @@ stmt_at room deeper (t ∷ ts) = stmt_by room deeper t t.kind ts
 abbrev pub begins_stmt : Kind → Bool
 begins_stmt (name x) = true
 begins_stmt (word words.Var) = true
+begins_stmt (word words.Inhale) = true
+begins_stmt (word words.Exhale) = true
 begins_stmt (word words.Assert) = true
 begins_stmt (word words.Assume) = true
 begins_stmt (word words.If) = true
+begins_stmt (word words.While) = true
 begins_stmt k = false
-
-abbrev pub skip_semicolon : List Token → List Token
-skip_semicolon [] = []
-skip_semicolon (t ∷ ts) = if is_symbol signs.Semicolon t.kind then ts else t ∷ ts
 
 -- the statements of a block
 abbrev pub block_from : List Stmt → Block

@@ -6,7 +6,7 @@ use Rattle.vx_ast.specs.Written.{Member, Program}
 use Rattle.vx_tokens.specs.declared.token.Token as the_token
 use Rattle.vx_tokens.specs.Tokens.{Token, tokens_in, token_of}
 use Rattle.vx_grammar.specs.StmtReading.{skip_semicolon}
-use Rattle.vx_grammar.specs.MemberReading.{limit, Halt, no_member, too_many, begins_member, method_at, members_by, max_members}
+use Rattle.vx_grammar.specs.MemberReading.{limit, Halt, no_member, too_many, begins_member, member_at, members_by, max_members}
 use Rattle.vx_parser.specs.declared.stop.Stop as the_stop
 use Rattle.vx_parser.specs.declared.stop.Stop.TheVariants as stops
 use Rattle.vx_parser.specs.declared.program.Halt.TheVariants as halts
@@ -19,7 +19,7 @@ Total = Result Program Halt
 left : (tokens : List the_token.Token) (i : ℕ) → i < length tokens → length (tokens_in tokens) - i ≡ suc (length (tokens_in tokens) - (i + 1))
 left tokens i lt = let n = length-map tokens token_of in omega (arith, n, lt)
 
-pub member_on : (tokens : List the_token.Token) (i : ℕ) (before : List Member) (ts : List Token) (t : Token) (us : List Token) (m : Member) (after : List Token) (total : Total) → i < length tokens → ts ≡ t ∷ us → begins_member t.kind ≡ true → length before < max_members → method_at limit t.place us ≡ Ok (m, after)
+pub member_on : (tokens : List the_token.Token) (i : ℕ) (before : List Member) (ts : List Token) (t : Token) (us : List Token) (m : Member) (after : List Token) (total : Total) → i < length tokens → ts ≡ t ∷ us → begins_member t.kind ≡ true → length before < max_members → member_at limit t us ≡ Ok (m, after)
     → members_by limit max_members (length (tokens_in tokens) - i) before ts ≡ total → members_by limit max_members (length (tokens_in tokens) - (i + 1)) (before ++ m ∷ []) (skip_semicolon after) ≡ total
 unfolding members_by
 member_on tokens i before ts t us m after total lt first begins few read so_far =
@@ -45,7 +45,7 @@ member_many tokens i before ts t us total lt first begins many so_far =
     let b : ltb (length before) max_members ≡ false = le-ltb _ _ many in
     sym so_far ∙ rw (left tokens i lt, first, begins, b) refl ∙ ap (λ (l : List Token). Err (too_many l)) (sym first)
 
-pub member_stops : (e : the_stop.Stop) (tokens : List the_token.Token) (i : ℕ) (before : List Member) (ts : List Token) (t : Token) (us : List Token) (total : Total) → i < length tokens → ts ≡ t ∷ us → begins_member t.kind ≡ true → length before < max_members → Stops e (method_at limit t.place us)
+pub member_stops : (e : the_stop.Stop) (tokens : List the_token.Token) (i : ℕ) (before : List Member) (ts : List Token) (t : Token) (us : List Token) (total : Total) → i < length tokens → ts ≡ t ∷ us → begins_member t.kind ≡ true → length before < max_members → Stops e (member_at limit t us)
     → members_by limit max_members (length (tokens_in tokens) - i) before ts ≡ total → Halts (halts.Inside e) total
 unfolding members_by
 member_stops stops.Memory tokens i before ts t us total lt first begins few read so_far = tt

@@ -6,15 +6,15 @@ use Rattle.vx_ast.specs.declared.BinaryOperator.{BinaryOperator}
 use Rattle.vx_tokens.specs.Tokens.{Token}
 use Rattle.vx_ast.specs.Written.{Expr, Binary}
 use Rattle.vx_grammar.specs.Grammar.{level_of, operator_of}
-use Rattle.vx_grammar.specs.Reading.{◌>>=◌, TooDeep, Read, Part, chain, rest_of_chain, below, part_at, chain_at, rest_at, rest_by, operator_by}
+use Rattle.vx_grammar.specs.Reading.{◌>>=◌, TooDeep, Read, Deeper, Part, Given, chain, rest_of_chain, below, part_at, chain_at, rest_at, rest_by, operator_by}
 use Rattle.vx_grammar.specs.Nesting.{nests, is_full}
 use Rattle.vx_parser.specs.declared.stop.Stop as the_stop
 use Rattle.vx_parser.specs.declared.stop.Stop.TheVariants as stops
 use Rattle.vx_parser.specs.Gives.{Gives, Stops}
 
-pub nested_is : {X : Type 0} (view : X → Expr × List Token) (result : Result X the_stop.Stop) (room less : ℕ) (p : Part) (here ts : List Token)
+pub nested_is : {X : Type 0} (p : Part) (view : X → Given p × List Token) (result : Result X the_stop.Stop) (room less : ℕ) (here ts : List Token)
     → (1 ≤ room) × (less ≡ room - 1) → Gives view result (part_at (below less) p ts) → Gives view result (below room p here ts)
-nested_is view result room less p here ts h g =
+nested_is p view result room less here ts h g =
     let r : room ≡ less + 1 = omega (arith, h.0, h.1) in
     subst (Gives view result) (sym (nests room less p here ts r)) g
 
@@ -25,7 +25,7 @@ pub record HasOperator (ts : List Token) (t : Token) (inner : List Token) (op : 
   pub of_level : level_of op ≡ level
   pub low : 1 ≤ level
 
-has_operator : (deeper : Part → List Token → List Token → Read Expr) (level : ℕ) (start : Place) (left : Expr) (ts : List Token) (t : Token) (inner : List Token) (op : BinaryOperator) → HasOperator ts t inner op level
+has_operator : (deeper : Deeper) (level : ℕ) (start : Place) (left : Expr) (ts : List Token) (t : Token) (inner : List Token) (op : BinaryOperator) → HasOperator ts t inner op level
     → rest_at deeper (level - 1) start left ts ≡ operator_by deeper (level - 1) start left t inner op
 unfolding rest_at rest_by
 has_operator deeper level start left ts t inner op h =

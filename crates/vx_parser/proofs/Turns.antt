@@ -1,14 +1,13 @@
 -- The turns of the parser's loops.
-use Rattle.std.proofs.Common.{◌≡◌, ℕ, ◌+◌, ◌-◌, ◌≤◌, ◌<◌, List, [], ◌∷◌, ◌++◌, Some, None, Result, Ok, true, false, length, refl, sym, subst, arith}
+use Rattle.std.proofs.Common.{◌≡◌, ℕ, ◌+◌, ◌-◌, ◌≤◌, ◌<◌, List, [], ◌∷◌, ◌++◌, Some, None, Result, Ok, Err, true, false, length, refl, sym, subst, arith, ap}
 use Rattle.std.proofs.lemmas.List.{length-map}
-use Rattle.vx_ast.specs.Written.{Expr, Stmt, Block, Declaration}
+use Rattle.vx_ast.specs.Written.{Expr, Exprs, Stmt, Block, Declaration}
 use Rattle.vx_tokens.specs.declared.token.Token as the_token
 use Rattle.vx_tokens.specs.declared.token.Symbol.TheVariants as signs
 use Rattle.vx_tokens.specs.Tokens.{Token, tokens_in, token_of}
-use Rattle.vx_grammar.specs.Reading.{◌>>=◌, Read, is_symbol}
-use Rattle.vx_grammar.specs.Loops.{Turn, run}
-use Rattle.vx_grammar.specs.StmtReading.{StmtDeeper, StmtPart, stmt_part, stmts_below, begins_stmt, skip_semicolon, stmt_at, stmt_turn, declaration_at}
-use Rattle.vx_grammar.specs.MemberReading.{limit, declaration_turn, Clauses, clause_turn, clause_at, begins_requires, begins_ensures, with_requires, with_ensures}
+use Rattle.vx_grammar.specs.Reading.{name_at, name_turn, ◌>>=◌, Read, choice_at, below, exprs_from, argument_turn, some_arguments, is_symbol, Turn, run}
+use Rattle.vx_grammar.specs.StmtReading.{clause_at, begins_invariant, invariant_turn, invariants_at, StmtDeeper, StmtPart, stmt_part, stmts_below, begins_stmt, skip_semicolon, stmt_at, stmt_turn, declaration_at}
+use Rattle.vx_grammar.specs.MemberReading.{limit, declaration_turn, Clauses, clause_turn, begins_requires, begins_ensures, with_requires, with_ensures}
 use Rattle.vx_grammar.specs.Nesting.{stmt_nests}
 use Rattle.vx_grammar.proofs.Turns.{run_on, run_over, run_stops, run_all}
 use Rattle.vx_parser.specs.declared.stop.Stop as the_stop
@@ -92,6 +91,25 @@ pub declaration_stops : (e : the_stop.Stop) (before : List Declaration) (ts : Li
 unfolding declaration_turn
 declaration_stops e before ts t us first comma read = rw (first, comma) (stops_after e (declaration_at us) (λ d. Ok (Some (before ++ d.0 ∷ []), d.1)) read)
 
+-- ---- names
+
+pub name_on : (before : List (List ℕ)) (ts : List Token) (t : Token) (us : List Token) (d : List ℕ) (after : List Token) → ts ≡ t ∷ us → is_symbol signs.Comma t.kind ≡ true → name_at us ≡ Ok (d, after)
+    → name_turn before ts ≡ Ok (Some (before ++ d ∷ []), after)
+unfolding name_turn
+name_on before ts t us d after first comma read = rw (first, comma, read) refl
+
+pub name_over : (before : List (List ℕ)) (ts : List Token) (t : Token) (us : List Token) → ts ≡ t ∷ us → is_symbol signs.Comma t.kind ≡ false → name_turn before ts ≡ Ok (None, t ∷ us)
+unfolding name_turn
+name_over before ts t us first comma = rw (first, comma) refl
+
+pub name_end : (before : List (List ℕ)) (ts : List Token) → ts ≡ [] → name_turn before ts ≡ Ok (None, [])
+unfolding name_turn
+name_end before ts none = rw none refl
+
+pub name_stops : (e : the_stop.Stop) (before : List (List ℕ)) (ts : List Token) (t : Token) (us : List Token) → ts ≡ t ∷ us → is_symbol signs.Comma t.kind ≡ true → Stops e (name_at us) → Stops e (name_turn before ts)
+unfolding name_turn
+name_stops e before ts t us first comma read = rw (first, comma) (stops_after e (name_at us) (λ d. Ok (Some (before ++ d.0 ∷ []), d.1)) read)
+
 -- ---- clauses
 
 pub requires_on : (before : Clauses) (ts : List Token) (t : Token) (us : List Token) (e : Expr) (after : List Token) → ts ≡ t ∷ us → begins_requires t.kind ≡ true → clause_at limit (length before.requires) ts us ≡ Ok (e, after)
@@ -127,3 +145,58 @@ unfolding clause_turn
 ensures_stops e before ts t us first not begins read =
     let read' : Stops e (clause_at limit (length before.ensures) (t ∷ us) us) = subst (λ l. Stops e (clause_at limit (length before.ensures) l us)) first read in
     rw (first, not, begins) (stops_after e (clause_at limit (length before.ensures) (t ∷ us) us) (λ x. Ok (Some (with_ensures before x.0), skip_semicolon x.1)) read')
+
+-- ---- arguments
+
+pub argument_on : (room : ℕ) (before : List Expr) (ts : List Token) (t : Token) (us : List Token) (e : Expr) (after : List Token) → ts ≡ t ∷ us → is_symbol signs.Comma t.kind ≡ true → choice_at (below room) us ≡ Ok (e, after)
+    → argument_turn (below room) before ts ≡ Ok (Some (before ++ e ∷ []), after)
+unfolding argument_turn
+argument_on room before ts t us e after first comma read = rw (first, comma, read) refl
+
+pub argument_over : (room : ℕ) (before : List Expr) (ts : List Token) (t : Token) (us : List Token) → ts ≡ t ∷ us → is_symbol signs.Comma t.kind ≡ false → argument_turn (below room) before ts ≡ Ok (None, t ∷ us)
+unfolding argument_turn
+argument_over room before ts t us first comma = rw (first, comma) refl
+
+pub argument_end : (room : ℕ) (before : List Expr) (ts : List Token) → ts ≡ [] → argument_turn (below room) before ts ≡ Ok (None, [])
+unfolding argument_turn
+argument_end room before ts none = rw none refl
+
+pub argument_stops : (e : the_stop.Stop) (room : ℕ) (before : List Expr) (ts : List Token) (t : Token) (us : List Token) → ts ≡ t ∷ us → is_symbol signs.Comma t.kind ≡ true → Stops e (choice_at (below room) us) → Stops e (argument_turn (below room) before ts)
+unfolding argument_turn
+argument_stops e room before ts t us first comma read = rw (first, comma) (stops_after e (choice_at (below room) us) (λ d. Ok (Some (before ++ d.0 ∷ []), d.1)) read)
+
+-- a first argument, and those behind it
+pub some_is : {X : Type 0} (view : X → List Expr × List Token) (by : X → Exprs × List Token) (result : Result X the_stop.Stop) (room : ℕ) (ts rest : List Token) (e : Expr) (es : List Expr)
+    → ((x : X) → by x ≡ (exprs_from (view x).0, (view x).1)) → es ≡ e ∷ [] → choice_at (below room) ts ≡ Ok (e, rest) → Gives view result (run (argument_turn (below room)) (length rest) es rest) → Gives by result (some_arguments (below room) ts)
+unfolding some_arguments
+some_is view by (Ok x) room ts rest e es same one first g = rw (first, ← one, g) (ap (λ (y : Exprs × List Token). let r : Read Exprs = Ok y in r) (sym (same x)))
+some_is view by (Err stop) room ts rest e es same one first g = rw (first, ← one) (stops_after stop (run (argument_turn (below room)) (length rest) es rest) (λ es. Ok (exprs_from es.0, es.1)) g)
+
+-- ---- invariants
+
+pub invariant_on : (room : ℕ) (before : List Expr) (ts : List Token) (t : Token) (us : List Token) (e : Expr) (after : List Token) → ts ≡ t ∷ us → begins_invariant t.kind ≡ true → clause_at room (length before) ts us ≡ Ok (e, after)
+    → invariant_turn room before ts ≡ Ok (Some (before ++ e ∷ []), skip_semicolon after)
+unfolding invariant_turn
+invariant_on room before ts t us e after first begins read =
+    let read' : clause_at room (length before) (t ∷ us) us ≡ Ok (e, after) = subst (λ l. clause_at room (length before) l us ≡ Ok (e, after)) first read in
+    rw (first, begins, read') refl
+
+pub invariant_over : (room : ℕ) (before : List Expr) (ts : List Token) (t : Token) (us : List Token) → ts ≡ t ∷ us → begins_invariant t.kind ≡ false → invariant_turn room before ts ≡ Ok (None, t ∷ us)
+unfolding invariant_turn
+invariant_over room before ts t us first not = rw (first, not) refl
+
+pub invariant_end : (room : ℕ) (before : List Expr) (ts : List Token) → ts ≡ [] → invariant_turn room before ts ≡ Ok (None, [])
+unfolding invariant_turn
+invariant_end room before ts none = rw none refl
+
+pub invariant_stops : (e : the_stop.Stop) (room : ℕ) (before : List Expr) (ts : List Token) (t : Token) (us : List Token) → ts ≡ t ∷ us → begins_invariant t.kind ≡ true → Stops e (clause_at room (length before) ts us) → Stops e (invariant_turn room before ts)
+unfolding invariant_turn
+invariant_stops e room before ts t us first begins read =
+    let read' : Stops e (clause_at room (length before) (t ∷ us) us) = subst (λ l. Stops e (clause_at room (length before) l us)) first read in
+    rw (first, begins) (stops_after e (clause_at room (length before) (t ∷ us) us) (λ x. Ok (Some (before ++ x.0 ∷ []), skip_semicolon x.1)) read')
+
+pub invariants_is : {X : Type 0} (view : X → List Expr × List Token) (by : X → Exprs × List Token) (result : Result X the_stop.Stop) (room : ℕ) (ts : List Token)
+    → ((x : X) → by x ≡ (exprs_from (view x).0, (view x).1)) → Gives view result (run (invariant_turn room) (length ts) [] ts) → Gives by result (invariants_at room ts)
+unfolding invariants_at
+invariants_is view by (Ok x) room ts same g = rw g (ap (λ (y : Exprs × List Token). let r : Read Exprs = Ok y in r) (sym (same x)))
+invariants_is view by (Err stop) room ts same g = stops_after stop (run (invariant_turn room) (length ts) [] ts) (λ es. Ok (exprs_from es.0, es.1)) g

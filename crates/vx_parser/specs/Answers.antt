@@ -23,35 +23,17 @@ use Rattle.vx_parser.specs.declared.fault.TextFault.TheVariants as faults
 -- ---- words and signs that this language leaves out
 
 abbrev pub is_foreign_word : Word → Bool
-is_foreign_word words.Field = true
 is_foreign_word words.Predicate = true
 is_foreign_word words.Function = true
 is_foreign_word words.Decreases = true
-is_foreign_word words.Invariant = true
-is_foreign_word words.While = true
-is_foreign_word words.Inhale = true
-is_foreign_word words.Exhale = true
 is_foreign_word words.Fold = true
 is_foreign_word words.Unfold = true
 is_foreign_word words.Unfolding = true
 is_foreign_word words.In = true
-is_foreign_word words.Acc = true
-is_foreign_word words.New = true
-is_foreign_word words.Old = true
-is_foreign_word words.Outcome = true
-is_foreign_word words.Write = true
-is_foreign_word words.Nothing = true
-is_foreign_word words.Null = true
-is_foreign_word words.Ref = true
-is_foreign_word words.Perm = true
 is_foreign_word words.Foreign = true
 is_foreign_word w = false
 
 abbrev pub is_foreign_symbol : Symbol → Bool
-is_foreign_symbol signs.Slash = true
-is_foreign_symbol signs.Backslash = true
-is_foreign_symbol signs.Percent = true
-is_foreign_symbol signs.Dot = true
 is_foreign_symbol signs.OpenBracket = true
 is_foreign_symbol signs.At = true
 is_foreign_symbol signs.Wand = true

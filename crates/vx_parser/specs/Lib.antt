@@ -1,9 +1,9 @@
 pub mod Faults
 pub mod Answers
 pub mod Gives
-pub mod Part
 pub mod Refusing
 pub mod Says
 pub mod Spelling
+pub mod Store
 pub mod StmtPart
 pub mod Views

@@ -6,8 +6,9 @@ use Rattle.vx_ast.specs.declared.Declaration as the_declaration
 use Rattle.vx_ast.specs.declared.Expr as the_expr
 use Rattle.std.specs.declared.alloc.Global.{Global}
 use Rattle.std.specs.declared.rc.Rc.{Rc}
-use Rattle.vx_ast.specs.Written.{Expr, Declaration, Stmt, Block, written_expr, written_stmt, written_block, written_declaration}
+use Rattle.vx_ast.specs.Written.{Expr, Amount, Declaration, Stmt, Block, written_expr, written_optional, written_stmt, written_block, written_declaration}
 use Rattle.vx_grammar.specs.MemberReading as reading
+use Rattle.vx_parser.specs.declared.expr.Access as the_access
 use Rattle.vx_parser.specs.declared.member.Clauses as the_clauses
 
 abbrev pub stmt_of : the_stmt.Stmt → Stmt
@@ -24,3 +25,6 @@ declarations_of ds = map written_declaration ds
 
 abbrev pub clauses_of : the_clauses.Clauses → reading.Clauses
 clauses_of c = record { requires = exprs_of c.preconditions.items; ensures = exprs_of c.postconditions.items }
+
+abbrev pub access_of : the_access.Access → Expr × Amount
+access_of a = (written_expr a.held, written_optional a.amount)

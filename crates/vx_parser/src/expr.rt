@@ -1,16 +1,18 @@
 //! Reading expressions.
 
-ghost use Rattle.std.specs.Prelude.{◌≡◌, ◌≤◌, ◌<◌, ◌+◌, ◌-◌, IfOk, Ok};
+ghost use Rattle.std.specs.Prelude.{◌≡◌, ◌≤◌, ◌<◌, ◌+◌, ◌-◌, IfOk, Ok, ◌∷◌, [], length};
 ghost use Rattle.vx_tokens.specs.Tokens.{kind_of, token_of, tokens_in};
 ghost use Rattle.vx_grammar.specs.Grammar.{level_of, operator_of};
-ghost use Rattle.vx_ast.specs.Written.{Unary, Binary, Choice, written_expr};
+ghost use Rattle.vx_ast.specs.Written.{written_all, written_expr, written_optional};
 ghost use Rattle.vx_grammar.specs.Reading as reading;
 ghost use Rattle.vx_parser.specs.Gives.{Gives};
 ghost use Rattle.vx_grammar.specs.Laws.{whole, SpelledWithin};
 ghost use Rattle.vx_parser.specs.Says.{SaysOf};
 ghost use Rattle.vx_ast.specs.Written.{Expr as Tree};
-ghost use Rattle.vx_parser.specs.Part.{part_of, IsPart};
+ghost use Rattle.vx_parser.specs.Views.{exprs_of, access_of};
 
+use crate::made::{accessed, applied, chosen, joined, old, prefixed, read};
+use crate::name::name;
 use crate::stop::Stop;
 use std::alloc::{AllocError, Global};
 use std::rc::Rc;
@@ -21,12 +23,11 @@ use vx_tokens::{Kind, Symbol, Token, Word};
 /// What was read, and the tokens after it.
 pub type Read<'t, T> = Result<(T, &'t [Token<'t>]), Stop<'t>>;
 
-/// An expression of a level.
-#[derive(Clone, Copy)]
-pub enum Part {
-    Choice,
-    Implication,
-    Chain(u32),
+/// What `acc` holds, and how much of it.
+#[derive(Drop)]
+struct Access {
+    held: Expr,
+    amount: Option<Rc<Expr>>,
 }
 
 /// A number for each symbol.
@@ -71,6 +72,9 @@ fn operator_of(kind: Kind) -> Option<BinaryOperator>
         Kind::Symbol(Symbol::Plus) => Some(BinaryOperator::Add),
         Kind::Symbol(Symbol::Minus) => Some(BinaryOperator::Subtract),
         Kind::Symbol(Symbol::Times) => Some(BinaryOperator::Multiply),
+        Kind::Symbol(Symbol::Slash) => Some(BinaryOperator::Divide),
+        Kind::Symbol(Symbol::Backslash) => Some(BinaryOperator::Quotient),
+        Kind::Symbol(Symbol::Percent) => Some(BinaryOperator::Remainder),
         _ => None,
     }
 }
@@ -93,40 +97,6 @@ fn level_of(op: BinaryOperator) -> u32
         BinaryOperator::Or => 6,
         BinaryOperator::Implies => 7,
     }
-}
-
-fn prefixed(alloc: Global, place: Place, op: UnaryOperator, e: Expr) -> Result<Expr, AllocError>
-    ensures { IfOk result (λ whole. written_expr whole ≡ Unary place op (written_expr e)) }
-{
-    let kind = ExprKind::Unary(op, Rc::new(alloc, e)?);
-    Ok(Expr { place, kind })
-}
-
-fn joined(
-    alloc: Global,
-    place: Place,
-    op: BinaryOperator,
-    left: Expr,
-    right: Expr,
-) -> Result<Expr, AllocError>
-    ensures { IfOk result (λ whole. written_expr whole ≡ Binary place op (written_expr left) (written_expr right)) }
-{
-    let kind = ExprKind::Binary(op, Rc::new(alloc, left)?, Rc::new(alloc, right)?);
-    Ok(Expr { place, kind })
-}
-
-fn chosen(
-    alloc: Global,
-    place: Place,
-    condition: Expr,
-    left: Expr,
-    right: Expr,
-) -> Result<Expr, AllocError>
-    ensures { IfOk result (λ whole. written_expr whole ≡ Choice place (written_expr condition) (written_expr left) (written_expr right)) }
-{
-    let condition = Rc::new(alloc, condition)?;
-    let kind = ExprKind::Conditional(condition, Rc::new(alloc, left)?, Rc::new(alloc, right)?);
-    Ok(Expr { place, kind })
 }
 
 // The expression that all of the tokens spell.
@@ -168,9 +138,9 @@ pub fn choice<'t>(alloc: Global, room: u32, tokens: &'t [Token<'t>]) -> Read<'t,
     let (condition, rest) = implication(alloc, room, tokens)?;
     match rest.split_first() {
         Some((question, inner)) if is_symbol(Symbol::Question, question.kind) => {
-            let (left, rest) = nested(alloc, room, Part::Choice, rest, inner)?;
+            let (left, rest) = nested_choice(alloc, room, rest, inner)?;
             let (_, inner) = expect(Symbol::Colon, rest)?;
-            let (right, rest) = nested(alloc, room, Part::Choice, rest, inner)?;
+            let (right, rest) = nested_choice(alloc, room, rest, inner)?;
             Ok((chosen(alloc, first.place, condition, left, right)?, rest))
         }
         _ => Ok((condition, rest)),
@@ -189,7 +159,7 @@ fn implication<'t>(alloc: Global, room: u32, tokens: &'t [Token<'t>]) -> Read<'t
     let (left, rest) = chain(alloc, room, 6, tokens)?;
     match rest.split_first() {
         Some((arrow, inner)) if is_symbol(Symbol::Implies, arrow.kind) => {
-            let (right, rest) = nested(alloc, room, Part::Implication, rest, inner)?;
+            let (right, rest) = nested_implication(alloc, room, rest, inner)?;
             Ok((
                 joined(alloc, first.place, BinaryOperator::Implies, left, right)?,
                 rest,
@@ -249,7 +219,7 @@ fn rest_of_chain<'t>(
 }
 
 #[cycle(expr)]
-#[tactic(auto, unfolding(vx_grammar::specs::Reading::unary_at, vx_grammar::specs::Reading::unary_by, vx_grammar::specs::Reading::grouped_by))]
+#[tactic(auto, unfolding(vx_grammar::specs::Reading::unary_at, vx_grammar::specs::Reading::unary_by))]
 fn unary<'t>(alloc: Global, room: u32, tokens: &'t [Token<'t>]) -> Read<'t, Expr>
     requires { room < 1000 }
     ensures { Gives (λ x. (written_expr x.0, tokens_in x.1.now)) result (reading.unary_at (reading.below room) (tokens_in tokens.now)) }
@@ -259,68 +229,376 @@ fn unary<'t>(alloc: Global, room: u32, tokens: &'t [Token<'t>]) -> Read<'t, Expr
     };
     let place = first.place;
     match first.kind {
-        Kind::Name(name) => {
-            let kind = ExprKind::Variable(String::from_str(alloc, name)?);
-            Ok((Expr { place, kind }, inner))
-        }
-        Kind::Number(value) => Ok((
-            Expr {
-                place,
-                kind: ExprKind::Number(value),
-            },
-            inner,
-        )),
-        Kind::Word(Word::True) => Ok((
-            Expr {
-                place,
-                kind: ExprKind::Boolean(true),
-            },
-            inner,
-        )),
-        Kind::Word(Word::False) => Ok((
-            Expr {
-                place,
-                kind: ExprKind::Boolean(false),
-            },
-            inner,
-        )),
-        Kind::Symbol(Symbol::Open) => {
-            let (e, rest) = nested(alloc, room, Part::Choice, tokens, inner)?;
-            let (_, rest) = expect(Symbol::Close, rest)?;
-            Ok((e, rest))
-        }
         Kind::Symbol(Symbol::Not) => {
-            let (e, rest) = nested(alloc, room, Part::Chain(0), tokens, inner)?;
+            let (e, rest) = nested_operand(alloc, room, tokens, inner)?;
             Ok((prefixed(alloc, place, UnaryOperator::Not, e)?, rest))
         }
         Kind::Symbol(Symbol::Minus) => {
-            let (e, rest) = nested(alloc, room, Part::Chain(0), tokens, inner)?;
+            let (e, rest) = nested_operand(alloc, room, tokens, inner)?;
             Ok((prefixed(alloc, place, UnaryOperator::Negate, e)?, rest))
         }
+        _ => postfix(alloc, room, first, tokens, inner),
+    }
+}
+
+/// What a dot may stand behind, and dots.
+#[cycle(expr)]
+#[tactic(auto, unfolding(vx_grammar::specs::Reading::postfix_by))]
+pub fn postfix<'t>(
+    alloc: Global,
+    room: u32,
+    first: &'t Token<'t>,
+    tokens: &'t [Token<'t>],
+    inner: &'t [Token<'t>],
+) -> Read<'t, Expr>
+    requires room { room < 1000 }
+    requires first { tokens_in tokens.now ≡ token_of first.now ∷ tokens_in inner.now }
+    ensures { Gives (λ x. (written_expr x.0, tokens_in x.1.now)) result (reading.postfix_by (reading.below room) (token_of first.now) (kind_of first.now.kind) (tokens_in inner.now)) }
+{
+    let (e, rest) = primary(alloc, room, first, tokens, inner)?;
+    dots(alloc, room, first.place, e, rest)
+}
+
+// What a dot may stand behind.
+#[cycle(expr)]
+#[tactic(auto, unfolding(vx_grammar::specs::Reading::primary_by, vx_grammar::specs::Reading::old_by, vx_grammar::specs::Reading::access_by))]
+fn primary<'t>(
+    alloc: Global,
+    room: u32,
+    first: &'t Token<'t>,
+    tokens: &'t [Token<'t>],
+    inner: &'t [Token<'t>],
+) -> Read<'t, Expr>
+    requires room { room < 1000 }
+    requires first { tokens_in tokens.now ≡ token_of first.now ∷ tokens_in inner.now }
+    ensures { Gives (λ x. (written_expr x.0, tokens_in x.1.now)) result (reading.primary_by (reading.below room) (token_of first.now) (kind_of first.now.kind) (tokens_in inner.now)) }
+{
+    let place = first.place;
+    match first.kind {
+        Kind::Name(name) => named(alloc, room, first, name, inner),
+        Kind::Number(value) => Ok((leaf(place, ExprKind::Number(value)), inner)),
+        Kind::Word(Word::True) => Ok((leaf(place, ExprKind::Boolean(true)), inner)),
+        Kind::Word(Word::False) => Ok((leaf(place, ExprKind::Boolean(false)), inner)),
+        Kind::Word(Word::Null) => Ok((leaf(place, ExprKind::Null), inner)),
+        Kind::Word(Word::Write) => Ok((leaf(place, ExprKind::Write), inner)),
+        Kind::Word(Word::Nothing) => Ok((leaf(place, ExprKind::Nothing), inner)),
+        Kind::Word(Word::Outcome) => Ok((leaf(place, ExprKind::Outcome), inner)),
+        Kind::Word(Word::Old) => {
+            let (e, rest) = grouped(alloc, room, inner)?;
+            Ok((old(alloc, place, e)?, rest))
+        }
+        Kind::Word(Word::Acc) => {
+            let (access, rest) = enclosed_access(alloc, room, inner)?;
+            Ok((accessed(alloc, place, access.held, access.amount)?, rest))
+        }
+        Kind::Symbol(Symbol::Open) => grouped(alloc, room, tokens),
         _ => Err(Stop::Unexpected(tokens)),
     }
 }
 
-// A part that the token before it nests one deeper.
+fn leaf(place: Place, kind: ExprKind) -> Expr
+    ensures { result.place ≡ place × (result.kind ≡ kind) }
+{
+    Expr { place, kind }
+}
+
+// A variable, or an application.
 #[cycle(expr)]
-#[tactic(auto, using(vx_grammar::specs::Nesting::nests, vx_grammar::specs::Nesting::is_full))]
-pub fn nested<'t>(
+#[tactic(auto, unfolding(vx_grammar::specs::Reading::named_by, vx_grammar::specs::Reading::call_by))]
+fn named<'t>(
     alloc: Global,
     room: u32,
-    part: Part,
+    first: &'t Token<'t>,
+    name: &str,
+    tokens: &'t [Token<'t>],
+) -> Read<'t, Expr>
+    requires { room < 1000 }
+    ensures { Gives (λ x. (written_expr x.0, tokens_in x.1.now)) result (reading.named_by (reading.below room) (token_of first.now) name.now (tokens_in tokens.now)) }
+{
+    let place = first.place;
+    match tokens.first() {
+        Some(open) if is_symbol(Symbol::Open, open.kind) => {
+            let (arguments, rest) = enclosed_arguments(alloc, room, tokens)?;
+            let name = String::from_str(alloc, name)?;
+            Ok((applied(place, name, arguments), rest))
+        }
+        _ => {
+            let kind = ExprKind::Variable(String::from_str(alloc, name)?);
+            Ok((Expr { place, kind }, tokens))
+        }
+    }
+}
+
+// Dots, each with a field's name.
+#[cycle(dots)]
+#[tactic(auto, unfolding(vx_grammar::specs::Reading::dots_at))]
+fn dots<'t>(
+    alloc: Global,
+    room: u32,
+    place: Place,
+    left: Expr,
+    tokens: &'t [Token<'t>],
+) -> Read<'t, Expr>
+    requires { room < 1000 }
+    ensures { Gives (λ x. (written_expr x.0, tokens_in x.1.now)) result (reading.dots_at (reading.below room) place (written_expr left) (tokens_in tokens.now)) }
+{
+    match tokens.split_first() {
+        Some((dot, inner)) if is_symbol(Symbol::Dot, dot.kind) => {
+            nested_dot(alloc, room, place, left, tokens, inner)
+        }
+        _ => Ok((left, tokens)),
+    }
+}
+
+// A field's name behind a dot, which nests it, and further dots.
+#[cycle(dots)]
+fn nested_dot<'t>(
+    alloc: Global,
+    room: u32,
+    place: Place,
+    left: Expr,
     here: &'t [Token<'t>],
     tokens: &'t [Token<'t>],
 ) -> Read<'t, Expr>
-    requires room { room < 1000 }
-    requires part { IsPart part }
-    ensures { Gives (λ x. (written_expr x.0, tokens_in x.1.now)) result (reading.below room (part_of part) (tokens_in here.now) (tokens_in tokens.now)) }
+    requires { room < 1000 }
+    ensures { Gives (λ x. (written_expr x.0, tokens_in x.1.now)) result (reading.below room (reading.behind_dot place (written_expr left)) (tokens_in here.now) (tokens_in tokens.now)) }
 {
-    let Some(less) = room.checked_sub(1) else {
-        return Err(Stop::TooDeep(here));
-    };
-    match part {
-        Part::Choice => choice(alloc, less, tokens),
-        Part::Implication => implication(alloc, less, tokens),
-        Part::Chain(level) => chain(alloc, less, level, tokens),
+    match room.checked_sub(1) {
+        Some(less) => dotted(alloc, less, place, left, tokens),
+        None => Err(Stop::TooDeep(here)),
+    }
+}
+
+#[cycle(dots)]
+#[tactic(auto, unfolding(vx_grammar::specs::Reading::dotted_at))]
+fn dotted<'t>(
+    alloc: Global,
+    room: u32,
+    place: Place,
+    left: Expr,
+    tokens: &'t [Token<'t>],
+) -> Read<'t, Expr>
+    requires { room < 1000 }
+    ensures { Gives (λ x. (written_expr x.0, tokens_in x.1.now)) result (reading.dotted_at (reading.below room) place (written_expr left) (tokens_in tokens.now)) }
+{
+    let (field, rest) = name(alloc, tokens)?;
+    let left = read(alloc, place, left, field)?;
+    dots(alloc, room, place, left, rest)
+}
+
+/// An expression between parentheses.
+#[cycle(expr)]
+#[tactic(auto, unfolding(vx_grammar::specs::Reading::enclosed))]
+pub fn grouped<'t>(alloc: Global, room: u32, tokens: &'t [Token<'t>]) -> Read<'t, Expr>
+    requires { room < 1000 }
+    ensures { Gives (λ x. (written_expr x.0, tokens_in x.1.now)) result (reading.enclosed (reading.below room) reading.choice (tokens_in tokens.now)) }
+{
+    let (_, inner) = expect(Symbol::Open, tokens)?;
+    let (e, rest) = nested_choice(alloc, room, tokens, inner)?;
+    let (_, rest) = expect(Symbol::Close, rest)?;
+    Ok((e, rest))
+}
+
+/// Arguments between parentheses.
+#[cycle(expr)]
+#[tactic(auto, unfolding(vx_grammar::specs::Reading::enclosed))]
+pub fn enclosed_arguments<'t>(
+    alloc: Global,
+    room: u32,
+    tokens: &'t [Token<'t>],
+) -> Read<'t, Vec<Rc<Expr>>>
+    requires { room < 1000 }
+    ensures { Gives (λ x. (written_all x.0.items, tokens_in x.1.now)) result (reading.enclosed (reading.below room) reading.arguments (tokens_in tokens.now)) }
+{
+    let (_, inner) = expect(Symbol::Open, tokens)?;
+    let (arguments, rest) = nested_arguments(alloc, room, tokens, inner)?;
+    let (_, rest) = expect(Symbol::Close, rest)?;
+    Ok((arguments, rest))
+}
+
+// What `acc` holds, between parentheses.
+#[cycle(expr)]
+#[tactic(auto, unfolding(vx_grammar::specs::Reading::enclosed))]
+fn enclosed_access<'t>(alloc: Global, room: u32, tokens: &'t [Token<'t>]) -> Read<'t, Access>
+    requires { room < 1000 }
+    ensures { Gives (λ x. (access_of x.0, tokens_in x.1.now)) result (reading.enclosed (reading.below room) reading.access (tokens_in tokens.now)) }
+{
+    let (_, inner) = expect(Symbol::Open, tokens)?;
+    let (access, rest) = nested_access(alloc, room, tokens, inner)?;
+    let (_, rest) = expect(Symbol::Close, rest)?;
+    Ok((access, rest))
+}
+
+#[cycle(expr)]
+#[tactic(auto, unfolding(vx_grammar::specs::Reading::arguments_at))]
+fn arguments<'t>(alloc: Global, room: u32, tokens: &'t [Token<'t>]) -> Read<'t, Vec<Rc<Expr>>>
+    requires { room < 1000 }
+    ensures { Gives (λ x. (written_all x.0.items, tokens_in x.1.now)) result (reading.arguments_at (reading.below room) (tokens_in tokens.now)) }
+{
+    match tokens.first() {
+        None => Err(Stop::Unexpected(tokens)),
+        Some(first) if is_symbol(Symbol::Close, first.kind) => Ok((Vec::new(alloc), tokens)),
+        Some(_) => some_arguments(alloc, room, tokens),
+    }
+}
+
+// One argument at least.
+#[cycle(expr)]
+#[tactic(auto, unfolding(vx_grammar::specs::Reading::some_arguments))]
+fn some_arguments<'t>(alloc: Global, room: u32, tokens: &'t [Token<'t>]) -> Read<'t, Vec<Rc<Expr>>>
+    requires { room < 1000 }
+    ensures { Gives (λ x. (written_all x.0.items, tokens_in x.1.now)) result (reading.some_arguments (reading.below room) (tokens_in tokens.now)) }
+{
+    let (e, rest) = choice(alloc, room, tokens)?;
+    more_arguments(alloc, room, one(alloc, e)?, rest)
+}
+
+fn one(alloc: Global, e: Expr) -> Result<Vec<Rc<Expr>>, AllocError>
+    ensures { IfOk result (λ es. exprs_of es.items ≡ written_expr e ∷ []) }
+{
+    let mut es = Vec::new(alloc);
+    es.push(Rc::new(alloc, e)?)?;
+    Ok(es)
+}
+
+// What follows an argument, each behind a comma.
+#[cycle(expr)]
+fn more_arguments<'t>(
+    alloc: Global,
+    room: u32,
+    mut arguments: Vec<Rc<Expr>>,
+    tokens: &'t [Token<'t>],
+) -> Read<'t, Vec<Rc<Expr>>>
+    requires { room < 1000 }
+    ensures { Gives (λ x. (exprs_of x.0.items, tokens_in x.1.now)) result (reading.run (reading.argument_turn (reading.below room)) (length (tokens_in tokens.now)) (exprs_of arguments.items) (tokens_in tokens.now)) }
+{
+    let mut rest = tokens;
+    for _ in 0..tokens.len() {
+        let Some((first, inner)) = rest.split_first() else {
+            return Ok((arguments, rest));
+        };
+        if !is_symbol(Symbol::Comma, first.kind) {
+            return Ok((arguments, rest));
+        }
+        let (next, after) = choice(alloc, room, inner)?;
+        arguments.push(Rc::new(alloc, next)?)?;
+        rest = same(after);
+    }
+    Ok((arguments, rest))
+}
+
+/// The same tokens, as what a call gives: a loop's variable can take that.
+pub fn same<'t>(tokens: &'t [Token<'t>]) -> &'t [Token<'t>]
+    ensures { result.now ≡ tokens.now }
+{
+    tokens
+}
+
+#[cycle(expr)]
+#[tactic(auto, unfolding(vx_grammar::specs::Reading::access_at))]
+fn access_inside<'t>(alloc: Global, room: u32, tokens: &'t [Token<'t>]) -> Read<'t, Access>
+    requires { room < 1000 }
+    ensures { Gives (λ x. (access_of x.0, tokens_in x.1.now)) result (reading.access_at (reading.below room) (tokens_in tokens.now)) }
+{
+    let (held, rest) = choice(alloc, room, tokens)?;
+    let (amount, rest) = amount(alloc, room, rest)?;
+    Ok((Access { held, amount }, rest))
+}
+
+// An amount behind a comma, or none.
+#[cycle(expr)]
+#[tactic(auto, unfolding(vx_grammar::specs::Reading::amount_at, vx_grammar::specs::Reading::amount_by))]
+fn amount<'t>(alloc: Global, room: u32, tokens: &'t [Token<'t>]) -> Read<'t, Option<Rc<Expr>>>
+    requires { room < 1000 }
+    ensures { Gives (λ x. (written_optional x.0, tokens_in x.1.now)) result (reading.amount_at (reading.below room) (tokens_in tokens.now)) }
+{
+    match tokens.split_first() {
+        Some((comma, inner)) if is_symbol(Symbol::Comma, comma.kind) => {
+            let (e, rest) = choice(alloc, room, inner)?;
+            Ok((Some(Rc::new(alloc, e)?), rest))
+        }
+        _ => Ok((None, tokens)),
+    }
+}
+
+// ---- parts that the token before them nests one deeper
+
+#[cycle(expr)]
+pub fn nested_choice<'t>(
+    alloc: Global,
+    room: u32,
+    here: &'t [Token<'t>],
+    tokens: &'t [Token<'t>],
+) -> Read<'t, Expr>
+    requires { room < 1000 }
+    ensures { Gives (λ x. (written_expr x.0, tokens_in x.1.now)) result (reading.below room reading.choice (tokens_in here.now) (tokens_in tokens.now)) }
+{
+    match room.checked_sub(1) {
+        Some(less) => choice(alloc, less, tokens),
+        None => Err(Stop::TooDeep(here)),
+    }
+}
+
+#[cycle(expr)]
+fn nested_implication<'t>(
+    alloc: Global,
+    room: u32,
+    here: &'t [Token<'t>],
+    tokens: &'t [Token<'t>],
+) -> Read<'t, Expr>
+    requires { room < 1000 }
+    ensures { Gives (λ x. (written_expr x.0, tokens_in x.1.now)) result (reading.below room reading.implication (tokens_in here.now) (tokens_in tokens.now)) }
+{
+    match room.checked_sub(1) {
+        Some(less) => implication(alloc, less, tokens),
+        None => Err(Stop::TooDeep(here)),
+    }
+}
+
+#[cycle(expr)]
+fn nested_operand<'t>(
+    alloc: Global,
+    room: u32,
+    here: &'t [Token<'t>],
+    tokens: &'t [Token<'t>],
+) -> Read<'t, Expr>
+    requires { room < 1000 }
+    ensures { Gives (λ x. (written_expr x.0, tokens_in x.1.now)) result (reading.below room (reading.chain 0) (tokens_in here.now) (tokens_in tokens.now)) }
+{
+    match room.checked_sub(1) {
+        Some(less) => chain(alloc, less, 0, tokens),
+        None => Err(Stop::TooDeep(here)),
+    }
+}
+
+#[cycle(expr)]
+fn nested_arguments<'t>(
+    alloc: Global,
+    room: u32,
+    here: &'t [Token<'t>],
+    tokens: &'t [Token<'t>],
+) -> Read<'t, Vec<Rc<Expr>>>
+    requires { room < 1000 }
+    ensures { Gives (λ x. (written_all x.0.items, tokens_in x.1.now)) result (reading.below room reading.arguments (tokens_in here.now) (tokens_in tokens.now)) }
+{
+    match room.checked_sub(1) {
+        Some(less) => arguments(alloc, less, tokens),
+        None => Err(Stop::TooDeep(here)),
+    }
+}
+
+#[cycle(expr)]
+fn nested_access<'t>(
+    alloc: Global,
+    room: u32,
+    here: &'t [Token<'t>],
+    tokens: &'t [Token<'t>],
+) -> Read<'t, Access>
+    requires { room < 1000 }
+    ensures { Gives (λ x. (access_of x.0, tokens_in x.1.now)) result (reading.below room reading.access (tokens_in here.now) (tokens_in tokens.now)) }
+{
+    match room.checked_sub(1) {
+        Some(less) => access_inside(alloc, less, tokens),
+        None => Err(Stop::TooDeep(here)),
     }
 }

@@ -2,14 +2,15 @@
 
 ghost use Rattle.std.specs.Prelude.{◌≡◌, IfOk, length, ◌∷◌, []};
 ghost use Rattle.vx_ast.specs.Written.{name_of, written_expr, written_declaration, written_member};
-ghost use Rattle.vx_tokens.specs.Tokens.{kind_of, tokens_in};
-ghost use Rattle.vx_grammar.specs.Loops.{run};
+ghost use Rattle.vx_tokens.specs.Tokens.{kind_of, token_of, tokens_in};
+ghost use Rattle.vx_grammar.specs.Reading.{run};
 ghost use Rattle.vx_grammar.specs.MemberReading as reading;
 ghost use Rattle.vx_parser.specs.Gives.{Gives};
 ghost use Rattle.vx_parser.specs.Views.{block_of, clauses_of, declarations_of};
 
-use crate::expr::{Read, choice, expect, is_symbol};
-use crate::stmt::{block, declaration, name, skip_semicolon};
+use crate::expr::{Read, expect, is_symbol, same};
+use crate::name::name;
+use crate::stmt::{block, clause, declaration, skip_semicolon};
 use crate::stop::Stop;
 use std::alloc::{AllocError, Global};
 use std::rc::Rc;
@@ -24,13 +25,6 @@ const LIMIT: u32 = 200;
 struct Clauses {
     preconditions: Vec<Rc<Expr>>,
     postconditions: Vec<Rc<Expr>>,
-}
-
-// The same tokens, as what a call gives: a loop's variable can take that.
-fn same<'t>(tokens: &'t [Token<'t>]) -> &'t [Token<'t>]
-    ensures { result.now ≡ tokens.now }
-{
-    tokens
 }
 
 // What follows a declaration, each behind a comma.
@@ -118,23 +112,6 @@ fn returns<'t>(alloc: Global, tokens: &'t [Token<'t>]) -> Read<'t, Vec<Declarati
     }
 }
 
-// A clause behind so many of its kind, each of which nests it.
-#[tactic(auto, unfolding(vx_grammar::specs::MemberReading::clause_at))]
-fn clause<'t>(
-    alloc: Global,
-    before: usize,
-    here: &'t [Token<'t>],
-    tokens: &'t [Token<'t>],
-) -> Read<'t, Rc<Expr>>
-    ensures { Gives (λ x. (written_expr x.0.value, tokens_in x.1.now)) result (reading.clause_at reading.limit before (tokens_in here.now) (tokens_in tokens.now)) }
-{
-    if before > LIMIT as usize {
-        return Err(Stop::TooDeep(here));
-    }
-    let (e, rest) = choice(alloc, LIMIT - before as u32, tokens)?;
-    Ok((Rc::new(alloc, e)?, rest))
-}
-
 fn begins_requires(kind: Kind) -> bool
     ensures { result ≡ reading.begins_requires (kind_of kind.entry) }
 {
@@ -165,11 +142,11 @@ fn contract<'t>(alloc: Global, tokens: &'t [Token<'t>]) -> Read<'t, Clauses>
             ));
         };
         if begins_requires(first.kind) {
-            let (e, after) = clause(alloc, preconditions.len(), rest, inner)?;
+            let (e, after) = clause(alloc, LIMIT, preconditions.len(), rest, inner)?;
             preconditions.push(e)?;
             rest = skip_semicolon(after);
         } else if begins_ensures(first.kind) {
-            let (e, after) = clause(alloc, postconditions.len(), rest, inner)?;
+            let (e, after) = clause(alloc, LIMIT, postconditions.len(), rest, inner)?;
             postconditions.push(e)?;
             rest = skip_semicolon(after);
         } else {
@@ -191,9 +168,31 @@ fn contract<'t>(alloc: Global, tokens: &'t [Token<'t>]) -> Read<'t, Clauses>
     ))
 }
 
-/// What stands behind `method`.
+/// What stands behind a token that begins a member.
+#[tactic(auto, unfolding(vx_grammar::specs::MemberReading::member_at))]
+pub fn member<'t>(alloc: Global, first: &'t Token<'t>, tokens: &'t [Token<'t>]) -> Read<'t, Member>
+    ensures { Gives (λ x. (written_member x.0, tokens_in x.1.now)) result (reading.member_at reading.limit (token_of first.now) (tokens_in tokens.now)) }
+{
+    match first.kind {
+        Kind::Word(Word::Field) => field(alloc, first.place, tokens),
+        Kind::Word(Word::Method) => method(alloc, first.place, tokens),
+        _ => Err(Stop::Unexpected(tokens)),
+    }
+}
+
+// What stands behind `field`.
+#[tactic(auto, unfolding(vx_grammar::specs::MemberReading::field_at))]
+fn field<'t>(alloc: Global, place: Place, tokens: &'t [Token<'t>]) -> Read<'t, Member>
+    ensures { Gives (λ x. (written_member x.0, tokens_in x.1.now)) result (reading.field_at place (tokens_in tokens.now)) }
+{
+    let (Declaration { name, value_type }, rest) = declaration(alloc, tokens)?;
+    let kind = MemberKind::Field(value_type);
+    Ok((Member { place, name, kind }, rest))
+}
+
+// What stands behind `method`.
 #[tactic(auto, unfolding(vx_grammar::specs::MemberReading::method_at))]
-pub fn method<'t>(alloc: Global, place: Place, tokens: &'t [Token<'t>]) -> Read<'t, Member>
+fn method<'t>(alloc: Global, place: Place, tokens: &'t [Token<'t>]) -> Read<'t, Member>
     ensures { Gives (λ x. (written_member x.0, tokens_in x.1.now)) result (reading.method_at reading.limit place (tokens_in tokens.now)) }
 {
     let (name, rest) = name(alloc, tokens)?;

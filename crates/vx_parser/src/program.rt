@@ -16,7 +16,7 @@ ghost use Rattle.vx_parser.specs.declared.program.Halt.TheVariants.{Inside};
 ghost use Rattle.vx_parser.specs.declared.stop.Stop.TheVariants.{Memory};
 
 use crate::fault::TextFault;
-use crate::member::method;
+use crate::member::member;
 use crate::stmt::skip_semicolon;
 use crate::stop::Stop;
 use std::alloc::{AllocError, AllocFailed, Global};
@@ -93,7 +93,7 @@ pub fn parse(alloc: Global, text: &[u8]) -> Result<Program, TextFault>
 fn begins_member(kind: Kind) -> bool
     ensures { result ≡ reading.begins_member (kind_of kind.entry) }
 {
-    matches!(kind, Kind::Word(Word::Method))
+    matches!(kind, Kind::Word(Word::Field) | Kind::Word(Word::Method))
 }
 
 #[tactic(auto, unfolding(vx_grammar::specs::MemberReading::members_within))]
@@ -112,7 +112,7 @@ fn members<'t>(alloc: Global, tokens: &'t [Token<'t>]) -> Result<Vec<Member>, Ha
         if members.len() >= MAX_MEMBERS {
             return Err(Halt::TooMany(rest));
         }
-        let (next, after) = method(alloc, first.place, inner)?;
+        let (next, after) = member(alloc, first, inner)?;
         members.push(next)?;
         rest = skip_semicolon(after);
     }
@@ -168,8 +168,8 @@ fn fault(alloc: Global, halt: Halt, ending: Ending) -> TextFault
     }
 }
 
-// A token where no program goes on with it.
-fn unfit(alloc: Global, token: &Token, foreign: bool) -> TextFault
+/// A token where no program goes on with it.
+pub fn unfit(alloc: Global, token: &Token, foreign: bool) -> TextFault
     ensures { answers.Shows result (answers.unfit_token foreign (token_of token.now)) }
 {
     match String::from_utf8_lossy(alloc, token.text) {
@@ -203,16 +203,7 @@ fn is_foreign_member(kind: Kind) -> bool
 fn is_foreign_symbol(symbol: Symbol) -> bool
     ensures { result ≡ answers.is_foreign_symbol symbol }
 {
-    matches!(
-        symbol,
-        Symbol::Slash
-            | Symbol::Backslash
-            | Symbol::Percent
-            | Symbol::Dot
-            | Symbol::OpenBracket
-            | Symbol::At
-            | Symbol::Wand
-    )
+    matches!(symbol, Symbol::OpenBracket | Symbol::At | Symbol::Wand)
 }
 
 fn is_foreign_word(word: Word) -> bool
@@ -220,27 +211,13 @@ fn is_foreign_word(word: Word) -> bool
 {
     matches!(
         word,
-        Word::Field
-            | Word::Predicate
+        Word::Predicate
             | Word::Function
             | Word::Decreases
-            | Word::Invariant
-            | Word::While
-            | Word::Inhale
-            | Word::Exhale
             | Word::Fold
             | Word::Unfold
             | Word::Unfolding
             | Word::In
-            | Word::Acc
-            | Word::New
-            | Word::Old
-            | Word::Outcome
-            | Word::Write
-            | Word::Nothing
-            | Word::Null
-            | Word::Ref
-            | Word::Perm
             | Word::Foreign
     )
 }

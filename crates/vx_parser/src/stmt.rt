@@ -1,20 +1,24 @@
 //! Reading statements.
 
-ghost use Rattle.std.specs.Prelude.{◌≡◌, ◌<◌, IfOk, Some, None, map};
-ghost use Rattle.vx_ast.specs.Written.{name_of, written_expr, written_declaration, Declare, Assign, Assert, Assume, If, Then, Done, Value};
+ghost use Rattle.std.specs.Prelude.{◌≡◌, ◌<◌, IfOk, Some, None, map, string_bytes, length, []};
+ghost use Rattle.vx_ast.specs.Written.{name_of, written_all, written_expr, written_declaration, written_right, Declare, Invoke, If, Then, Done, While};
 ghost use Rattle.vx_tokens.specs.Tokens.{kind_of, token_of, tokens_in};
 ghost use Rattle.vx_grammar.specs.Reading.{below};
 ghost use Rattle.vx_grammar.specs.StmtReading as reading;
 ghost use Rattle.vx_parser.specs.Gives.{Gives};
-ghost use Rattle.vx_parser.specs.StmtPart.{stmt_part_of};
+ghost use Rattle.vx_grammar.specs.Statements.{claim_meant};
+ghost use Rattle.vx_parser.specs.StmtPart.{stmt_part_of, claim_of};
 ghost use Rattle.vx_grammar.specs.StmtReading.{block_from};
-ghost use Rattle.vx_parser.specs.Views.{stmt_of, block_of};
+ghost use Rattle.vx_grammar.specs.Reading.{run};
+ghost use Rattle.vx_parser.specs.Views.{stmt_of, block_of, exprs_of};
 
-use crate::expr::{Part, Read, choice, expect, is_symbol, nested};
+use crate::expr::{Read, choice, enclosed_arguments, expect, grouped, is_symbol, postfix};
+use crate::name::{more_names, name};
+use crate::right::{one, right};
 use crate::stop::Stop;
 use std::alloc::{AllocError, Global};
 use std::rc::Rc;
-use vx_ast::{Block, Declaration, Expr, Name, Place, Right, Stmt, StmtKind, ValueType};
+use vx_ast::{Block, Declaration, Expr, ExprKind, Name, Place, Right, Stmt, StmtKind, ValueType};
 use vx_tokens::{Kind, Symbol, Token, Word};
 
 /// What nests: the statements between braces, or the part of an `if` from an `elseif` on.
@@ -24,24 +28,13 @@ enum StmtPart {
     Elseif(Place),
 }
 
-/// A name, and where it stands.
-#[tactic(auto, unfolding(vx_grammar::specs::StmtReading::name_at))]
-pub fn name<'t>(alloc: Global, tokens: &'t [Token<'t>]) -> Read<'t, Name>
-    ensures { Gives (λ x. (name_of x.0, tokens_in x.1.now)) result (reading.name_at (tokens_in tokens.now)) }
-{
-    let Some((first, rest)) = tokens.split_first() else {
-        return Err(Stop::Unexpected(tokens));
-    };
-    match first.kind {
-        Kind::Name(text) => {
-            let name = Name {
-                text: String::from_str(alloc, text)?,
-                place: first.place,
-            };
-            Ok((name, rest))
-        }
-        _ => Err(Stop::Unexpected(tokens)),
-    }
+/// What is done with an assertion.
+#[derive(Clone, Copy)]
+enum Claim {
+    Inhale,
+    Exhale,
+    Assert,
+    Assume,
 }
 
 #[tactic(auto, unfolding(vx_grammar::specs::StmtReading::type_at))]
@@ -54,6 +47,8 @@ fn value_type<'t>(tokens: &'t [Token<'t>]) -> Read<'t, ValueType>
     match first.kind {
         Kind::Word(Word::Int) => Ok((ValueType::Int, rest)),
         Kind::Word(Word::Bool) => Ok((ValueType::Bool, rest)),
+        Kind::Word(Word::Ref) => Ok((ValueType::Ref, rest)),
+        Kind::Word(Word::Perm) => Ok((ValueType::Perm, rest)),
         _ => Err(Stop::Unexpected(tokens)),
     }
 }
@@ -67,18 +62,6 @@ pub fn declaration<'t>(alloc: Global, tokens: &'t [Token<'t>]) -> Read<'t, Decla
     let (_, rest) = expect(Symbol::Colon, rest)?;
     let (value_type, rest) = value_type(rest)?;
     Ok((Declaration { name, value_type }, rest))
-}
-
-// An expression between parentheses.
-#[tactic(auto, unfolding(vx_grammar::specs::StmtReading::condition_at))]
-fn condition<'t>(alloc: Global, room: u32, tokens: &'t [Token<'t>]) -> Read<'t, Expr>
-    requires { room < 1000 }
-    ensures { Gives (λ x. (written_expr x.0, tokens_in x.1.now)) result (reading.condition_at room (tokens_in tokens.now)) }
-{
-    let (_, inner) = expect(Symbol::Open, tokens)?;
-    let (e, rest) = nested(alloc, room, Part::Choice, tokens, inner)?;
-    let (_, rest) = expect(Symbol::Close, rest)?;
-    Ok((e, rest))
 }
 
 /// A block between braces.
@@ -142,7 +125,7 @@ fn branch<'t>(alloc: Global, room: u32, place: Place, tokens: &'t [Token<'t>]) -
     requires { room < 1000 }
     ensures { Gives (λ x. (stmt_of x.0, tokens_in x.1.now)) result (reading.branch_at room (reading.stmts_below room) place (tokens_in tokens.now)) }
 {
-    let (e, rest) = condition(alloc, room, tokens)?;
+    let (e, rest) = grouped(alloc, room, tokens)?;
     let (then, rest) = block(alloc, room, rest)?;
     let (otherwise, rest) = otherwise(alloc, room, rest)?;
     Ok((branched(alloc, place, e, then, otherwise)?, rest))
@@ -172,8 +155,8 @@ fn declare<'t>(alloc: Global, room: u32, place: Place, tokens: &'t [Token<'t>]) 
     let (declaration, rest) = declaration(alloc, tokens)?;
     match rest.split_first() {
         Some((becomes, inner)) if is_symbol(Symbol::Becomes, becomes.kind) => {
-            let (e, rest) = choice(alloc, room, inner)?;
-            Ok((declared_as(alloc, place, declaration, e)?, rest))
+            let (right, rest) = right(alloc, room, inner)?;
+            Ok((declared_as(place, declaration, right), rest))
         }
         _ => Ok((declared(place, declaration), rest)),
     }
@@ -188,73 +171,244 @@ fn declared(place: Place, declaration: Declaration) -> Stmt
     }
 }
 
-fn declared_as(
-    alloc: Global,
-    place: Place,
-    declaration: Declaration,
-    e: Expr,
-) -> Result<Stmt, AllocError>
-    ensures { IfOk result (λ stmt. stmt_of stmt ≡ Declare place (written_declaration declaration) (Some (Value (written_expr e)))) }
+fn declared_as(place: Place, declaration: Declaration, right: Right) -> Stmt
+    ensures { stmt_of result ≡ Declare place (written_declaration declaration) (Some (written_right right)) }
 {
-    let right = Right::Value(Rc::new(alloc, e)?);
     let kind = StmtKind::Declare(declaration, Some(right));
-    Ok(Stmt { place, kind })
+    Stmt { place, kind }
 }
 
-fn assigned(alloc: Global, place: Place, target: Name, e: Expr) -> Result<Stmt, AllocError>
-    ensures { IfOk result (λ stmt. stmt_of stmt ≡ Assign place (name_of target) (Value (written_expr e))) }
+// What stands behind a variable, an application or a field's location.
+fn by_target<'t>(
+    alloc: Global,
+    room: u32,
+    place: Place,
+    target: Expr,
+    tokens: &'t [Token<'t>],
+) -> Read<'t, Stmt>
+    requires { room < 1000 }
+    ensures { Gives (λ x. (stmt_of x.0, tokens_in x.1.now)) result (reading.by_target room place (written_expr target) (tokens_in tokens.now)) }
 {
-    let kind = StmtKind::Assign(target, Right::Value(Rc::new(alloc, e)?));
-    Ok(Stmt { place, kind })
+    let Expr { place: _, kind } = target;
+    match kind {
+        ExprKind::Variable(text) => assign(alloc, room, place, text, tokens),
+        ExprKind::Call(text, arguments) => {
+            let method = Name { text, place };
+            Ok((invoked(place, Vec::new(alloc), method, arguments), tokens))
+        }
+        ExprKind::Read(e, field) => store(alloc, room, place, e, field, tokens),
+        _ => Err(Stop::Unexpected(tokens)),
+    }
 }
 
-fn named(alloc: Global, place: Place, text: &str) -> Result<Name, AllocError>
-    ensures { IfOk result (λ name. name_of name ≡ text.now) }
+fn invoked(place: Place, targets: Vec<Name>, method: Name, arguments: Vec<Rc<Expr>>) -> Stmt
+    ensures { stmt_of result ≡ Invoke place (map name_of targets.items) (name_of method) (written_all arguments.items) }
 {
-    let text = String::from_str(alloc, text)?;
-    Ok(Name { text, place })
+    let kind = StmtKind::Call(targets, method, arguments);
+    Stmt { place, kind }
 }
 
-// What stands behind the name of a target.
+// What stands behind a field's location.
+#[tactic(auto, unfolding(vx_grammar::specs::StmtReading::store_at))]
+fn store<'t>(
+    alloc: Global,
+    room: u32,
+    place: Place,
+    receiver: Rc<Expr>,
+    field: Name,
+    tokens: &'t [Token<'t>],
+) -> Read<'t, Stmt>
+    requires { room < 1000 }
+    ensures { Gives (λ x. (stmt_of x.0, tokens_in x.1.now)) result (reading.store_at room place (written_expr receiver.value) (name_of field) (tokens_in tokens.now)) }
+{
+    let (_, rest) = expect(Symbol::Becomes, tokens)?;
+    let (e, rest) = choice(alloc, room, rest)?;
+    let kind = StmtKind::Write(receiver, field, Rc::new(alloc, e)?);
+    Ok((Stmt { place, kind }, rest))
+}
+
+// What stands behind the name of a first target.
 #[tactic(auto, unfolding(vx_grammar::specs::StmtReading::assign_at))]
 fn assign<'t>(
     alloc: Global,
     room: u32,
     place: Place,
-    text: &str,
+    text: String,
     tokens: &'t [Token<'t>],
 ) -> Read<'t, Stmt>
     requires { room < 1000 }
-    ensures { Gives (λ x. (stmt_of x.0, tokens_in x.1.now)) result (reading.assign_at room place text.now (tokens_in tokens.now)) }
+    ensures { Gives (λ x. (stmt_of x.0, tokens_in x.1.now)) result (reading.assign_at room place (string_bytes text) (tokens_in tokens.now)) }
 {
-    let (_, rest) = expect(Symbol::Becomes, tokens)?;
-    let (e, rest) = choice(alloc, room, rest)?;
-    let target = named(alloc, place, text)?;
-    Ok((assigned(alloc, place, target, e)?, rest))
+    let targets = one(alloc, Name { text, place })?;
+    let (targets, rest) = more_names(alloc, targets, tokens)?;
+    let (_, rest) = expect(Symbol::Becomes, rest)?;
+    assigned_by(alloc, room, place, targets, rest)
 }
 
-#[tactic(auto, unfolding(vx_grammar::specs::StmtReading::assert_at))]
-fn assertion<'t>(alloc: Global, room: u32, place: Place, tokens: &'t [Token<'t>]) -> Read<'t, Stmt>
+// What stands behind targets and `:=`.
+fn assigned_by<'t>(
+    alloc: Global,
+    room: u32,
+    place: Place,
+    mut targets: Vec<Name>,
+    tokens: &'t [Token<'t>],
+) -> Read<'t, Stmt>
     requires { room < 1000 }
-    ensures { Gives (λ x. (stmt_of x.0, tokens_in x.1.now)) result (reading.assert_at room place (tokens_in tokens.now)) }
+    ensures { Gives (λ x. (stmt_of x.0, tokens_in x.1.now)) result (reading.assigned_by room place (map name_of targets.items) (tokens_in tokens.now)) }
 {
-    let (e, rest) = choice(alloc, room, tokens)?;
-    let kind = StmtKind::Assert(Rc::new(alloc, e)?);
+    if targets.len() > 1 {
+        return invoke(alloc, room, place, targets, tokens);
+    }
+    match targets.pop() {
+        Some(target) => assign_one(alloc, room, place, target, tokens),
+        None => Err(Stop::Unexpected(tokens)),
+    }
+}
+
+#[tactic(auto, unfolding(vx_grammar::specs::StmtReading::assign_one))]
+fn assign_one<'t>(
+    alloc: Global,
+    room: u32,
+    place: Place,
+    target: Name,
+    tokens: &'t [Token<'t>],
+) -> Read<'t, Stmt>
+    requires { room < 1000 }
+    ensures { Gives (λ x. (stmt_of x.0, tokens_in x.1.now)) result (reading.assign_one room place (name_of target) (tokens_in tokens.now)) }
+{
+    let (right, rest) = right(alloc, room, tokens)?;
+    let kind = StmtKind::Assign(target, right);
     Ok((Stmt { place, kind }, rest))
 }
 
-#[tactic(auto, unfolding(vx_grammar::specs::StmtReading::assume_at))]
-fn assumption<'t>(alloc: Global, room: u32, place: Place, tokens: &'t [Token<'t>]) -> Read<'t, Stmt>
+// A method's name and its arguments.
+#[tactic(auto, unfolding(vx_grammar::specs::StmtReading::invoke_at))]
+fn invoke<'t>(
+    alloc: Global,
+    room: u32,
+    place: Place,
+    targets: Vec<Name>,
+    tokens: &'t [Token<'t>],
+) -> Read<'t, Stmt>
     requires { room < 1000 }
-    ensures { Gives (λ x. (stmt_of x.0, tokens_in x.1.now)) result (reading.assume_at room place (tokens_in tokens.now)) }
+    ensures { Gives (λ x. (stmt_of x.0, tokens_in x.1.now)) result (reading.invoke_at room place (map name_of targets.items) (tokens_in tokens.now)) }
+{
+    let (method, rest) = name(alloc, tokens)?;
+    let (arguments, rest) = enclosed_arguments(alloc, room, rest)?;
+    Ok((invoked(place, targets, method, arguments), rest))
+}
+
+/// A clause behind so many of its kind, each of which nests it.
+#[tactic(auto, unfolding(vx_grammar::specs::StmtReading::clause_at))]
+pub fn clause<'t>(
+    alloc: Global,
+    room: u32,
+    before: usize,
+    here: &'t [Token<'t>],
+    tokens: &'t [Token<'t>],
+) -> Read<'t, Rc<Expr>>
+    requires { room < 1000 }
+    ensures { Gives (λ x. (written_expr x.0.value, tokens_in x.1.now)) result (reading.clause_at room before (tokens_in here.now) (tokens_in tokens.now)) }
+{
+    if before > room as usize {
+        return Err(Stop::TooDeep(here));
+    }
+    let (e, rest) = choice(alloc, room - before as u32, tokens)?;
+    Ok((Rc::new(alloc, e)?, rest))
+}
+
+fn begins_invariant(kind: Kind) -> bool
+    ensures { result ≡ reading.begins_invariant (kind_of kind.entry) }
+{
+    matches!(kind, Kind::Word(Word::Invariant))
+}
+
+// The invariants of a loop.
+fn invariants<'t>(alloc: Global, room: u32, tokens: &'t [Token<'t>]) -> Read<'t, Vec<Rc<Expr>>>
+    requires { room < 1000 }
+    ensures { Gives (λ x. (written_all x.0.items, tokens_in x.1.now)) result (reading.invariants_at room (tokens_in tokens.now)) }
+{
+    kept(alloc, room, tokens)
+}
+
+fn kept<'t>(alloc: Global, room: u32, tokens: &'t [Token<'t>]) -> Read<'t, Vec<Rc<Expr>>>
+    requires { room < 1000 }
+    ensures { Gives (λ x. (exprs_of x.0.items, tokens_in x.1.now)) result (run (reading.invariant_turn room) (length (tokens_in tokens.now)) [] (tokens_in tokens.now)) }
+{
+    let mut invariants = Vec::new(alloc);
+    let mut rest = tokens;
+    for _ in 0..tokens.len() {
+        let Some((first, inner)) = rest.split_first() else {
+            return Ok((invariants, rest));
+        };
+        if !begins_invariant(first.kind) {
+            return Ok((invariants, rest));
+        }
+        let (e, after) = clause(alloc, room, invariants.len(), rest, inner)?;
+        invariants.push(e)?;
+        rest = skip_semicolon(after);
+    }
+    Ok((invariants, rest))
+}
+
+// What stands behind `while`.
+#[cycle(stmt)]
+#[tactic(auto, unfolding(vx_grammar::specs::StmtReading::while_at))]
+fn repetition<'t>(alloc: Global, room: u32, place: Place, tokens: &'t [Token<'t>]) -> Read<'t, Stmt>
+    requires { room < 1000 }
+    ensures { Gives (λ x. (stmt_of x.0, tokens_in x.1.now)) result (reading.while_at room (reading.stmts_below room) place (tokens_in tokens.now)) }
+{
+    let (e, rest) = grouped(alloc, room, tokens)?;
+    let (invariants, rest) = invariants(alloc, room, rest)?;
+    let (body, rest) = block(alloc, room, rest)?;
+    Ok((repeated(alloc, place, e, invariants, body)?, rest))
+}
+
+fn repeated(
+    alloc: Global,
+    place: Place,
+    condition: Expr,
+    invariants: Vec<Rc<Expr>>,
+    body: Block,
+) -> Result<Stmt, AllocError>
+    ensures { IfOk result (λ stmt. stmt_of stmt ≡ While place (written_expr condition) (written_all invariants.items) (block_of body)) }
+{
+    let condition = Rc::new(alloc, condition)?;
+    let kind = StmtKind::While(condition, invariants, Rc::new(alloc, body)?);
+    Ok(Stmt { place, kind })
+}
+
+// What stands behind the word of a claim.
+#[tactic(auto, unfolding(vx_grammar::specs::StmtReading::claim_at))]
+fn claiming<'t>(
+    alloc: Global,
+    room: u32,
+    claim: Claim,
+    place: Place,
+    tokens: &'t [Token<'t>],
+) -> Read<'t, Stmt>
+    requires { room < 1000 }
+    ensures { Gives (λ x. (stmt_of x.0, tokens_in x.1.now)) result (reading.claim_at room (claim_of claim) place (tokens_in tokens.now)) }
 {
     let (e, rest) = choice(alloc, room, tokens)?;
-    let kind = StmtKind::Assume(Rc::new(alloc, e)?);
-    Ok((Stmt { place, kind }, rest))
+    Ok((claimed(alloc, claim, place, e)?, rest))
+}
+
+fn claimed(alloc: Global, claim: Claim, place: Place, e: Expr) -> Result<Stmt, AllocError>
+    ensures { IfOk result (λ stmt. stmt_of stmt ≡ claim_meant (claim_of claim) place (written_expr e)) }
+{
+    let e = Rc::new(alloc, e)?;
+    let kind = match claim {
+        Claim::Inhale => StmtKind::Inhale(e),
+        Claim::Exhale => StmtKind::Exhale(e),
+        Claim::Assert => StmtKind::Assert(e),
+        Claim::Assume => StmtKind::Assume(e),
+    };
+    Ok(Stmt { place, kind })
 }
 
 #[cycle(stmt)]
-#[tactic(auto, unfolding(vx_grammar::specs::StmtReading::stmt_at))]
+#[tactic(auto, unfolding(vx_grammar::specs::StmtReading::stmt_at, vx_grammar::specs::StmtReading::target_at))]
 fn statement<'t>(alloc: Global, room: u32, tokens: &'t [Token<'t>]) -> Read<'t, Stmt>
     requires { room < 1000 }
     ensures { Gives (λ x. (stmt_of x.0, tokens_in x.1.now)) result (reading.stmt_at room (reading.stmts_below room) (tokens_in tokens.now)) }
@@ -264,11 +418,17 @@ fn statement<'t>(alloc: Global, room: u32, tokens: &'t [Token<'t>]) -> Read<'t, 
     };
     let place = first.place;
     match first.kind {
-        Kind::Name(text) => assign(alloc, room, place, text, inner),
+        Kind::Name(_) => {
+            let (target, rest) = postfix(alloc, room, first, tokens, inner)?;
+            by_target(alloc, room, place, target, rest)
+        }
         Kind::Word(Word::Var) => declare(alloc, room, place, inner),
-        Kind::Word(Word::Assert) => assertion(alloc, room, place, inner),
-        Kind::Word(Word::Assume) => assumption(alloc, room, place, inner),
+        Kind::Word(Word::Inhale) => claiming(alloc, room, Claim::Inhale, place, inner),
+        Kind::Word(Word::Exhale) => claiming(alloc, room, Claim::Exhale, place, inner),
+        Kind::Word(Word::Assert) => claiming(alloc, room, Claim::Assert, place, inner),
+        Kind::Word(Word::Assume) => claiming(alloc, room, Claim::Assume, place, inner),
         Kind::Word(Word::If) => branch(alloc, room, place, inner),
+        Kind::Word(Word::While) => repetition(alloc, room, place, inner),
         _ => Err(Stop::Unexpected(tokens)),
     }
 }
@@ -280,9 +440,12 @@ fn begins_statement(kind: Kind) -> bool
         kind,
         Kind::Name(_)
             | Kind::Word(Word::Var)
+            | Kind::Word(Word::Inhale)
+            | Kind::Word(Word::Exhale)
             | Kind::Word(Word::Assert)
             | Kind::Word(Word::Assume)
             | Kind::Word(Word::If)
+            | Kind::Word(Word::While)
     )
 }
 

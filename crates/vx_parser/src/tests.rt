@@ -21,7 +21,7 @@ fn answer(alloc: Global, text: &[u8]) -> Result<String, AllocError> {
     }
 }
 
-const ROWS: [(&str, &str); 33] = [
+const ROWS: [(&str, &str); 67] = [
     ("", "ok"),
     (
         "method id(b: Bool) returns (c: Bool) requires b ensures c { c := b }",
@@ -57,13 +57,66 @@ const ROWS: [(&str, &str); 33] = [
     ("method m() { x = 1 }", "1:16 E02 BadCharacter"),
     ("method m() { assert a & b }", "1:23 E02 BadCharacter"),
     ("method m() { assert é }", "1:21 E02 BadCharacter"),
-    ("method m(x: Ref) { }", "1:13 E09 Unsupported Ref"),
     (
-        "method m() { while (true) { } }",
-        "1:14 E09 Unsupported while",
+        "method m(x: Ref, p: Perm) { inhale x == null exhale p == none; }",
+        "ok",
     ),
-    ("method m() { assert a / b }", "1:23 E09 Unsupported /"),
-    ("method m() { assert a.f }", "1:22 E09 Unsupported ."),
+    ("method m(x: Seq) { }", "1:13 E09 Unsupported Seq"),
+    ("method m() { inhale }", "1:21 E03 Unexpected }"),
+    (
+        "method m() { x.f := y; f(x).g.h := 1 m(x, 1) x := m() x, y := m(y) }",
+        "ok",
+    ),
+    (
+        "method m() { var x: Ref := new(*) x := new() x := new(f, g) }",
+        "ok",
+    ),
+    ("method m() { x.f }", "1:18 E03 Unexpected }"),
+    ("method m() { x }", "1:16 E03 Unexpected }"),
+    ("method m() { m(x) := 1 }", "1:19 E03 Unexpected :="),
+    ("method m() { x, y := z }", "1:24 E03 Unexpected }"),
+    ("method m() { x, y }", "1:19 E03 Unexpected }"),
+    ("method m() { x, y.f := m() }", "1:18 E03 Unexpected ."),
+    ("method m() { x.f := new() }", "1:21 E03 Unexpected new"),
+    ("method m() { x := new(f,) }", "1:25 E03 Unexpected )"),
+    ("method m() { x := new(*, f) }", "1:24 E03 Unexpected ,"),
+    ("method m() { (x).f := 1 }", "1:14 E03 Unexpected ("),
+    ("method m() { x, y :=", "1:21 E04 EndOfText"),
+    (
+        "method m() { while (true) invariant true; invariant x > 0 { } while (b) { x := 1 } }",
+        "ok",
+    ),
+    ("method m() { while true { } }", "1:20 E03 Unexpected true"),
+    (
+        "method m() { while (true) requires b { } }",
+        "1:27 E03 Unexpected requires",
+    ),
+    ("method m() { while (true) ; { } }", "1:27 E03 Unexpected ;"),
+    ("method m() { assert a / b \\ c % d * e }", "ok"),
+    ("method m() { assert a.f.g == null }", "ok"),
+    (
+        "method m() { assert acc(x.f, 1/2) && acc(P(x)) && f(x, y + 1).g == old(x.f) }",
+        "ok",
+    ),
+    (
+        "method m() { assert f() == result || none < write && (x).f }",
+        "ok",
+    ),
+    ("method m() { assert acc x }", "1:25 E03 Unexpected x"),
+    (
+        "method m() { assert acc(x, y, z) }",
+        "1:29 E03 Unexpected ,",
+    ),
+    ("method m() { assert acc() }", "1:25 E03 Unexpected )"),
+    ("method m() { assert f(x,) }", "1:25 E03 Unexpected )"),
+    ("method m() { assert f(,x) }", "1:23 E03 Unexpected ,"),
+    ("method m() { assert f(x y) }", "1:25 E03 Unexpected y"),
+    ("method m() { assert old }", "1:25 E03 Unexpected }"),
+    ("method m() { assert a.1 }", "1:23 E03 Unexpected 1"),
+    ("method m() { assert a. }", "1:24 E03 Unexpected }"),
+    ("method m() { assert -x.f }", "ok"),
+    ("method m() { assert f(x)(y) }", "1:25 E03 Unexpected ("),
+    ("method m() { assert a . f", "1:26 E04 EndOfText"),
     ("method m() { assert a --* b }", "1:23 E09 Unsupported --*"),
     ("method m() { assert [a, b] }", "1:21 E09 Unsupported ["),
     ("method m() { assert a ] }", "1:23 E02 BadCharacter"),
@@ -74,7 +127,9 @@ const ROWS: [(&str, &str); 33] = [
     ("adt T { }", "1:1 E09 Unsupported adt"),
     ("method adt() { }", "ok"),
     ("method adt adt", "1:12 E03 Unexpected adt"),
-    ("field f: Int", "1:1 E09 Unsupported field"),
+    ("field f: Int; field g: Ref method m() { }", "ok"),
+    ("field f Int", "1:9 E03 Unexpected Int"),
+    ("field f:", "1:9 E04 EndOfText"),
     ("function f(): Int", "1:1 E09 Unsupported function"),
     ("method m() { assert true } 007", "1:28 E03 Unexpected 007"),
     ("method method() { }", "1:8 E03 Unexpected method"),
@@ -88,6 +143,35 @@ const ROWS: [(&str, &str); 33] = [
 fn rows(rt: HostRuntime) -> Result<(), Fail> {
     for (text, want) in ROWS {
         let got = answer(rt.alloc(), text.as_bytes())?;
+        assert_eq!(rt; got.as_str(), want, "{text}");
+    }
+    Ok(())
+}
+
+const BEYOND: [(&str, &str); 5] = [
+    ("method m() { assert true }", "none"),
+    (
+        "method m() { assert x.f } field f: Int",
+        "1:22 Unsupported .",
+    ),
+    ("method m(x: Ref) { }", "1:13 Unsupported Ref"),
+    ("method m() { assert 1 / 2 == none }", "1:23 Unsupported /"),
+    ("field f: Int", "1:1 Unsupported field"),
+];
+
+#[test]
+fn beyond_the_store_language(rt: HostRuntime) -> Result<(), Fail> {
+    let alloc = rt.alloc();
+    for (text, want) in BEYOND {
+        let got = match beyond_store(alloc, text.as_bytes()) {
+            None => String::from_str(alloc, "none")?,
+            Some(fault) => {
+                let place = fault.place();
+                let name = fault.name();
+                let argument = fault.argument().unwrap_or("");
+                format!(in alloc; "{}:{} {name} {argument}", place.line, place.column)?
+            }
+        };
         assert_eq!(rt; got.as_str(), want, "{text}");
     }
     Ok(())
@@ -157,6 +241,24 @@ fn nesting(rt: HostRuntime) -> Result<(), Fail> {
     Ok(())
 }
 
+// A receiver, and so many fields of it.
+fn fields(alloc: Global, count: usize) -> Result<String, AllocError> {
+    let mut text = Vec::from_slice(alloc, b"method m() { assert x")?;
+    for _ in 0..count {
+        text.extend_from_slice(b".f")?;
+    }
+    text.extend_from_slice(b" }")?;
+    answer(alloc, text.as_slice())
+}
+
+#[test]
+fn many_dots(rt: HostRuntime) -> Result<(), Fail> {
+    let alloc = rt.alloc();
+    assert_eq!(rt; fields(alloc, 199)?.as_str(), "ok");
+    assert_eq!(rt; fields(alloc, 200)?.as_str(), "1:420 E06 TooDeep");
+    Ok(())
+}
+
 fn lines(alloc: Global, line: &[u8], count: usize) -> Result<String, AllocError> {
     let mut text = Vec::new(alloc);
     for _ in 0..count {
@@ -168,9 +270,9 @@ fn lines(alloc: Global, line: &[u8], count: usize) -> Result<String, AllocError>
 #[test]
 fn many_members(rt: HostRuntime) -> Result<(), Fail> {
     let alloc = rt.alloc();
-    assert_eq!(rt; lines(alloc, b"method a() {}\n", 65536)?.as_str(), "ok");
+    assert_eq!(rt; lines(alloc, b"field aI: Int\n", 65536)?.as_str(), "ok");
     assert_eq!(rt;
-        lines(alloc, b"method a() {}\n", 65537)?.as_str(),
+        lines(alloc, b"field aI: Int\n", 65537)?.as_str(),
         "65537:1 E08 TooManyMembers"
     );
     // 40,000 methods in 4 MB

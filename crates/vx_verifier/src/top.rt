@@ -16,7 +16,7 @@ use crate::execute::verify;
 use crate::supported::is_supported;
 use std::alloc::{AllocError, Global};
 use vx_ends::{Files, LoadFault, Parts, PutFault, Sink, Spawner, put_all};
-use vx_parser::{TextFault, parse};
+use vx_parser::{TextFault, beyond_store, parse};
 use vx_report::{MemberRun, Status, status_of, write_report};
 use vx_types::{TypeFault, Typed, check};
 use vx_words::{Order, WordsFault, read_words};
@@ -60,6 +60,11 @@ fn read_program(alloc: Global, text: &[u8]) -> Result<Told, AllocError>
         Err(TextFault::Want) => return Err(AllocError),
         Err(fault) => return Ok(Told::Refused(text_refusal(alloc, &fault)?)),
     };
+    match beyond_store(alloc, text) {
+        None => {}
+        Some(TextFault::Want) => return Err(AllocError),
+        Some(fault) => return Ok(Told::Refused(text_refusal(alloc, &fault)?)),
+    }
     match check(alloc, &program) {
         Ok(typed) if is_supported(&typed) => Ok(Told::Program(typed)),
         Ok(_other) => Ok(Told::Refused(refusal_of_types(alloc)?)),

@@ -7,7 +7,8 @@ use Rattle.std.proofs.lemmas.Result.{err_from_is_err_and}
 use Rattle.std.proofs.lemmas.List.{map-append, length-map}
 use Rattle.vx_tokens.specs.Tokens.{token_of, tokens_in}
 use Rattle.vx_ast.specs.Written.{written_expr}
-use Rattle.vx_grammar.specs.MemberReading.{limit, clause_turn, clause_at}
+use Rattle.vx_grammar.specs.MemberReading.{limit, clause_turn}
+use Rattle.vx_grammar.specs.StmtReading.{clause_at}
 use Rattle.vx_parser.specs.Gives.{Stops}
 use Rattle.vx_parser.specs.Views.{exprs_of}
 use Rattle.vx_parser.proofs.Turns.{goes_on, is_over, is_done, halts, requires_on, ensures_on, clause_over, clause_end, requires_stops, ensures_stops, empty_tokens}

@@ -1,6 +1,6 @@
 use Rattle.std.proofs.Common.{◌≡◌, ◌-◌, length}
 use Rattle.vx_tokens.specs.Tokens.{tokens_in}
-use Rattle.vx_grammar.specs.Loops.{run}
+use Rattle.vx_grammar.specs.Reading.{run}
 use Rattle.vx_grammar.specs.MemberReading.{limit, Clauses, clause_turn, clauses_at}
 use Rattle.vx_parser.specs.Views.{exprs_of}
 use Rattle.vx_parser.proofs.member.contract.Given as goal

@@ -1,6 +1,6 @@
 use Rattle.std.proofs.Common.{◌≡◌, ◌+◌, ◌-◌, ◌*◌, length, map}
 use Rattle.vx_tokens.specs.Tokens.{tokens_in}
-use Rattle.vx_grammar.specs.Loops.{run}
+use Rattle.vx_grammar.specs.Reading.{run}
 use Rattle.vx_grammar.specs.StmtReading.{stmt_turn, stmts_at, stmts_below}
 use Rattle.vx_parser.specs.Views.{stmt_of}
 use Rattle.vx_parser.proofs.stmt.+stmt.Given as goal
@@ -19,6 +19,9 @@ decreases-otherwise l = 8 * l.room + 2
 
 abbrev pub decreases-branch : goal.decreases-branch
 decreases-branch l = 8 * l.room + 3
+
+abbrev pub decreases-repetition : goal.decreases-repetition
+decreases-repetition l = 8 * l.room + 3
 
 abbrev pub decreases-statement : goal.decreases-statement
 decreases-statement l = 8 * l.room + 4

@@ -1,0 +1,49 @@
+-- The words and signs of Viper (VMCAI 2016), as they are parsed, that the store language lacks: its programs have no heap,
+-- so no fields, no references and no permissions, and no loops.
+use Rattle.std.specs.Prelude.{◌≡◌, Bool, true, false, Option, Some, None}
+use Rattle.vx_tokens.specs.declared.token.Word.{Word}
+use Rattle.vx_tokens.specs.declared.token.Word.TheVariants as words
+use Rattle.vx_tokens.specs.declared.token.Symbol.{Symbol}
+use Rattle.vx_tokens.specs.declared.token.Symbol.TheVariants as signs
+use Rattle.vx_tokens.specs.Tokens.{Kind, name, number, word, symbol, Token}
+use Rattle.vx_parser.specs.Answers.{Unsupported, Shows}
+use Rattle.vx_parser.specs.declared.fault.TextFault as the_fault
+use Rattle.vx_parser.specs.declared.fault.TextFault.TheVariants as faults
+
+abbrev pub is_beyond_word : Word → Bool
+is_beyond_word words.Field = true
+is_beyond_word words.Ref = true
+is_beyond_word words.Perm = true
+is_beyond_word words.Null = true
+is_beyond_word words.Write = true
+is_beyond_word words.Nothing = true
+is_beyond_word words.Outcome = true
+is_beyond_word words.Old = true
+is_beyond_word words.Acc = true
+is_beyond_word words.New = true
+is_beyond_word words.While = true
+is_beyond_word words.Invariant = true
+is_beyond_word w = false
+
+abbrev pub is_beyond_symbol : Symbol → Bool
+is_beyond_symbol signs.Slash = true
+is_beyond_symbol signs.Backslash = true
+is_beyond_symbol signs.Percent = true
+is_beyond_symbol signs.Dot = true
+is_beyond_symbol s = false
+
+abbrev pub is_beyond_kind : Kind → Bool
+is_beyond_kind (word w) = is_beyond_word w
+is_beyond_kind (symbol s) = is_beyond_symbol s
+is_beyond_kind (name x) = false
+is_beyond_kind (number n) = false
+
+abbrev pub is_beyond : Token → Bool
+is_beyond t = is_beyond_kind t.kind
+
+-- what is answered stands at this token, and nothing is answered where there is none, unless memory ran out
+abbrev pub IsFirst : Option the_fault.TextFault → Option Token → Type 0
+IsFirst None None = Unit {0}
+IsFirst None (Some t) = ⊥
+IsFirst (Some f) None = f ≡ faults.Want
+IsFirst (Some f) (Some t) = Shows f (Unsupported t.place t.kind)

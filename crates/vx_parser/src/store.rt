@@ -1,0 +1,90 @@
+//! Texts within the store language.
+
+ghost use Rattle.std.specs.Prelude.{◌≡◌, ◌≤◌, ◌<◌, ◌↔◌, List, length, Some, option_map};
+ghost use Rattle.std.specs.List.{find};
+ghost use Rattle.vx_tokens.specs.Text.{Scans, first_place, unmarked, Ending as End};
+ghost use Rattle.vx_tokens.specs.Tokens.{kind_of, token_of, tokens_in, Token as Tok};
+ghost use Rattle.vx_parser.specs.Store as store;
+ghost use Rattle.vx_parser.specs.declared.fault.TextFault.TheVariants as faults;
+
+use crate::expr::same;
+use crate::fault::TextFault;
+use crate::program::unfit;
+use std::alloc::Global;
+use vx_tokens::{Kind, MAX_TEXT, Symbol, Token, Word, lex};
+
+/// Why a text leaves the store language: at its first token that the store language lacks, which is answered as
+/// unsupported. Memory may also run out.
+pub fn beyond_store(alloc: Global, text: &[u8]) -> Option<TextFault>
+    // A text is too long exactly above 4,194,304 bytes.
+    ensures too_long { result ≡ Some faults.TooLong ↔ (4194304 < length text.now) }
+    // The first token that the store language lacks is answered, and none where it lacks none.
+    ensures first { length text.now ≤ 4194304 → (ts : List Tok) (e : End) → Scans first_place (unmarked text.now) ts e → store.IsFirst result (find store.is_beyond ts) }
+{
+    if text.len() > MAX_TEXT {
+        return Some(TextFault::TooLong);
+    }
+    match lex(alloc, text) {
+        Err(_) => Some(TextFault::Want),
+        Ok(lexed) => match first_beyond(lexed.tokens.as_slice()) {
+            Some(token) => Some(unfit(alloc, token, true)),
+            None => None,
+        },
+    }
+}
+
+fn first_beyond<'t>(tokens: &'t [Token<'t>]) -> Option<&'t Token<'t>>
+    ensures { option_map (λ t. token_of t.now) result ≡ find store.is_beyond (tokens_in tokens.now) }
+{
+    let mut rest = tokens;
+    for _ in 0..tokens.len() {
+        let Some((first, inner)) = rest.split_first() else {
+            return None;
+        };
+        if is_beyond(first.kind) {
+            return Some(first);
+        }
+        rest = same(inner);
+    }
+    None
+}
+
+// A word or sign that the store language lacks.
+fn is_beyond(kind: Kind) -> bool
+    ensures { result ≡ store.is_beyond_kind (kind_of kind.entry) }
+{
+    match kind {
+        Kind::Word(word) => is_beyond_word(word),
+        Kind::Symbol(symbol) => is_beyond_symbol(symbol),
+        _ => false,
+    }
+}
+
+fn is_beyond_symbol(symbol: Symbol) -> bool
+    ensures { result ≡ store.is_beyond_symbol symbol }
+{
+    matches!(
+        symbol,
+        Symbol::Slash | Symbol::Backslash | Symbol::Percent | Symbol::Dot
+    )
+}
+
+fn is_beyond_word(word: Word) -> bool
+    ensures { result ≡ store.is_beyond_word word }
+{
+    matches!(
+        word,
+        Word::Field
+            | Word::Ref
+            | Word::Perm
+            | Word::Null
+            | Word::Write
+            | Word::Nothing
+            | Word::Outcome
+            | Word::Old
+            | Word::Acc
+            | Word::New
+            | Word::While
+            | Word::Invariant
+    )
+}
