@@ -7,3 +7,6 @@ pub mod Truth
 pub mod Rows
 pub mod Stated
 pub mod Given
+pub mod Kept
+pub mod Halves
+pub mod Unending

@@ -1,5 +1,5 @@
--- A program whose members fail, each in its own way, but for `cell`, `fall` and `fine`.
-use Rattle.std.specs.Prelude.{[], ◌∷◌, Some, None, codes}
+-- A program whose members fail, each in its own way, but for `cell`, `fall`, `fine` and `idle`.
+use Rattle.std.specs.Prelude.{true, false, List, [], ◌∷◌, Some, None, codes}
 use Rattle.vx_ast.specs.declared.ValueType.TheVariants.{Int, Perm}
 use Rattle.vx_ast.specs.declared.ValueType.TheVariants as type
 use Rattle.vx_ast.specs.Syntax.{Name, Add, Apply, Assert, Assign, ByInstance, ByNumber, Choose, Divide, Done, Equal, Function, Greater, IsField, IsFunction, IsMethod, IsPredicate, LessEqual, Method, More, NoMore, Number, Operate, Part, Points, Predicate, Program, Pure, Quotient, Read, Subtract, Then, Variable, result_name}
@@ -37,6 +37,9 @@ fine = codes "fine"
 
 abbrev pub give_name : Name
 give_name = codes "give"
+
+abbrev pub idle : Name
+idle = codes "idle"
 
 abbrev pub n : Name
 n = codes "n"
@@ -89,6 +92,7 @@ x = codes "x"
 -- method vow(x: Ref) ensures x.f == 0
 -- method claim(b: Bool) { assert b }
 -- method give(b: Bool) returns (c: Bool) ensures c { c := b }
+-- method idle(n: Int) { }
 abbrev pub failing_cell : Predicate
 failing_cell = record {
   place = at 2 1;
@@ -264,5 +268,15 @@ failing_give = record {
   body = Some (Then (Assign (at 18 52) c (Variable (at 18 57) b)) Done);
 }
 
+abbrev pub failing_idle : Method
+failing_idle = record {
+  place = at 19 1;
+  parameters = record { name = n; of = Int } ∷ [];
+  returns = [];
+  requires = [];
+  ensures = [];
+  body = Some Done;
+}
+
 abbrev pub failing : Program
-failing = record { name = f; kind = IsField Int } ∷ record { name = cell; kind = IsPredicate failing_cell } ∷ record { name = unframed; kind = IsPredicate failing_unframed } ∷ record { name = narrow; kind = IsFunction failing_narrow } ∷ record { name = divide; kind = IsFunction failing_divide } ∷ record { name = promise; kind = IsFunction failing_promise } ∷ record { name = rise; kind = IsFunction failing_rise } ∷ record { name = unheld; kind = IsFunction failing_unheld } ∷ record { name = unmeasured; kind = IsFunction failing_unmeasured } ∷ record { name = again; kind = IsFunction failing_again } ∷ record { name = stay; kind = IsFunction failing_stay } ∷ record { name = wild; kind = IsFunction failing_wild } ∷ record { name = fall; kind = IsFunction failing_fall } ∷ record { name = fine; kind = IsFunction failing_fine } ∷ record { name = demand; kind = IsMethod failing_demand } ∷ record { name = vow; kind = IsMethod failing_vow } ∷ record { name = claim; kind = IsMethod failing_claim } ∷ record { name = give_name; kind = IsMethod failing_give } ∷ []
+failing = record { name = f; kind = IsField Int } ∷ record { name = cell; kind = IsPredicate failing_cell } ∷ record { name = unframed; kind = IsPredicate failing_unframed } ∷ record { name = narrow; kind = IsFunction failing_narrow } ∷ record { name = divide; kind = IsFunction failing_divide } ∷ record { name = promise; kind = IsFunction failing_promise } ∷ record { name = rise; kind = IsFunction failing_rise } ∷ record { name = unheld; kind = IsFunction failing_unheld } ∷ record { name = unmeasured; kind = IsFunction failing_unmeasured } ∷ record { name = again; kind = IsFunction failing_again } ∷ record { name = stay; kind = IsFunction failing_stay } ∷ record { name = wild; kind = IsFunction failing_wild } ∷ record { name = fall; kind = IsFunction failing_fall } ∷ record { name = fine; kind = IsFunction failing_fine } ∷ record { name = demand; kind = IsMethod failing_demand } ∷ record { name = vow; kind = IsMethod failing_vow } ∷ record { name = claim; kind = IsMethod failing_claim } ∷ record { name = give_name; kind = IsMethod failing_give } ∷ record { name = idle; kind = IsMethod failing_idle } ∷ []

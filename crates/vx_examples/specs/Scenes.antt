@@ -3,10 +3,10 @@ use Rattle.std.specs.Prelude.{ℕ, ℤ, pos, [], ◌∷◌}
 use Rattle.vx_frac.specs.Fractions.{Fraction, full}
 use Rattle.vx_meaning.specs.Values.{IntValue, RefValue}
 use Rattle.vx_meaning.specs.States.{Store, Heap, Holdings, State, Location, Instance, At, Folded}
-use Rattle.vx_ast.specs.Syntax.{Measure, ByInstance, More, NoMore, Variable}
+use Rattle.vx_ast.specs.Syntax.{Expr, Apply, Number, Measure, ByInstance, More, NoMore, Variable}
 use Rattle.vx_examples.specs.Words.{at}
 use Rattle.vx_examples.specs.Functions as functions
-use Rattle.vx_examples.specs.Functions.{next, list}
+use Rattle.vx_examples.specs.Functions.{next, list, length}
 use Rattle.vx_examples.specs.Cells.{f, x, y, cell, hidden}
 
 abbrev pub half : Fraction
@@ -79,3 +79,11 @@ at_last = record { store = (functions.x, RefValue 2) ∷ []; heap = two_nodes; h
 -- the measure list(x)
 abbrev pub list_of_x : Measure
 list_of_x = ByInstance (at 3 76) list (More (Variable (at 3 81) functions.x) NoMore)
+
+-- length(x), as in `var a: Int := length(x)`
+abbrev pub length_of_x : Expr
+length_of_x = Apply (at 7 15) length (More (Variable (at 7 22) functions.x) NoMore)
+
+-- f(0), for the function whose measure rises
+abbrev pub rising_at_zero : Expr
+rising_at_zero = Apply (at 3 21) functions.f (More (Number (at 3 23) 0) NoMore)

@@ -49,6 +49,7 @@ pub fn sequences()
 pub fn iterations()
     ensures end { run_all cells loops poor (Ends (state (with_y (pos 3)) (with_x_f (pos 5)) [])) }
     ensures stop { run_all cells loops poor Stops }
+    ensures never_fail { (place : Place) → run_all cells loops poor (FailsAt place) → ⊥ }
     ensures unkept_fails { run_all cells loops_unkept poor (FailsAt (at 1 27)) }
     ensures wrong_fails { run_all cells loops_wrong poor (FailsAt (at 1 27)) }
     ensures wrong_never_ends { (t : State) → run_all cells loops_wrong poor (Ends t) → ⊥ }

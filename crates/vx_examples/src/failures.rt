@@ -1,12 +1,13 @@
 //! Members that fail.
 
+ghost use Rattle.vx_ast.specs.declared.Place.{Place};
 ghost use Rattle.vx_ast.specs.declared.ValueType.TheVariants.{Int};
 ghost use Rattle.vx_ast.specs.Syntax.{IsField};
 ghost use Rattle.vx_meaning.specs.Values.{RefValue};
 ghost use Rattle.vx_meaning.specs.Fails.{LowersMeasure, evaluated, MethodFails, FunctionFails, PredicateFails, Fails};
 ghost use Rattle.std.specs.Prelude.{◌≡◌, [], ◌∷◌};
 ghost use Rattle.vx_examples.specs.Words.{at};
-ghost use Rattle.vx_examples.specs.Fields.{exhaled_twice, exhaled_twice_m, maybe_same, maybe_same_m, forgotten, forgotten_m, half_write, half_write_m};
+ghost use Rattle.vx_examples.specs.Fields.{two_halves, two_halves_m, exhaled_twice, exhaled_twice_m, maybe_same, maybe_same_m, forgotten, forgotten_m, half_write, half_write_m};
 ghost use Rattle.vx_examples.specs.Loops.{counting_from_any, counting_from_any_count};
 ghost use Rattle.vx_examples.specs.Calls.{called_bare, called_bare_m};
 ghost use Rattle.vx_examples.specs.Predicates.{folded_write, folded_write_m};
@@ -14,14 +15,15 @@ ghost use Rattle.vx_examples.specs.Predicates as predicates;
 ghost use Rattle.vx_examples.specs.Functions as functions;
 ghost use Rattle.vx_examples.specs.Functions.{length, lengths, lengths_length, rising, rising_f};
 ghost use Rattle.vx_examples.specs.Scenes.{list_of_x, at_first, at_last};
-ghost use Rattle.vx_examples.specs.Failing.{f, failing, failing_cell, failing_unframed, narrow, failing_narrow, divide, failing_divide, promise, failing_promise, rise, failing_rise, unheld, failing_unheld, unmeasured, failing_unmeasured, wild, failing_wild, stay, failing_stay, again, failing_again, fine, failing_fine, failing_demand, failing_vow, failing_claim, failing_give};
+ghost use Rattle.vx_examples.specs.Failing.{f, failing, failing_cell, failing_unframed, narrow, failing_narrow, divide, failing_divide, promise, failing_promise, rise, failing_rise, unheld, failing_unheld, unmeasured, failing_unmeasured, wild, failing_wild, stay, failing_stay, again, failing_again, fine, failing_fine, failing_demand, failing_vow, failing_claim, failing_give, failing_idle};
 
-/// A method fails by its precondition, by a postcondition that doesn't frame itself, by its body, and by its postcondition.
+/// A method fails by its precondition, by a postcondition that doesn't frame itself, by its body, and by its postcondition; one that does nothing never fails.
 pub fn methods()
     ensures precondition { MethodFails failing failing_demand (at 15 32) }
     ensures postcondition_unframed { MethodFails failing failing_vow (at 16 28) }
     ensures body { MethodFails failing failing_claim (at 17 32) }
     ensures postcondition { MethodFails failing failing_give (at 18 48) }
+    ensures idle { (place : Place) → MethodFails failing failing_idle place → ⊥ }
 {}
 
 /// A function fails by its precondition, its body, its postcondition, its measure, and an application that doesn't lower it.
@@ -52,9 +54,10 @@ pub fn measures()
     ensures last { evaluated lengths 0 at_last lengths_length.body ≡ [] }
 {}
 
-/// The programs whose walks fail have runs that fail at the same places.
+/// The programs whose walks fail have runs that fail at the same places, and two halves never fail.
 pub fn failing_rows()
     ensures exhaled_twice { MethodFails exhaled_twice exhaled_twice_m (at 4 20) }
+    ensures two_halves { (place : Place) → MethodFails two_halves two_halves_m place → ⊥ }
     ensures maybe_same { MethodFails maybe_same maybe_same_m (at 5 8) }
     ensures forgotten { MethodFails forgotten forgotten_m (at 6 8) }
     ensures half_write { MethodFails half_write half_write_m (at 4 1) }

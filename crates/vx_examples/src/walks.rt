@@ -6,8 +6,11 @@ ghost use Rattle.vx_terms.specs.Sorts.{IntSort, BoolSort, RefSort};
 ghost use Rattle.vx_rules.specs.States as states;
 ghost use Rattle.vx_rules.specs.Chunks as chunks;
 ghost use Rattle.vx_rules.specs.Rules as rules;
-ghost use Rattle.vx_rules.specs.Trees.{End, Step, Ask, Probe, Fork, AssertCode, Passed, Failed, Open, leaves, size, walk};
-ghost use Rattle.vx_rules.specs.Members.{blank, ended};
+ghost use Rattle.vx_rules.specs.Trees.{AmountCode, Ask, AssertCode, CallCode, DivisorCode, End, EntryCode, Failed, FoldCode, Fork, FunctionCode, KeptCode, MeasureCode, Open, Passed, PermissionCode, PostCode, Probe, Step, UnfoldCode, leaves, size, walk};
+ghost use Rattle.vx_rules.specs.Stack.{code_number};
+ghost use Rattle.vx_ast.specs.declared.ValueType.TheVariants.{Int};
+ghost use Rattle.vx_ast.specs.Syntax.{IsField, NoMore};
+ghost use Rattle.vx_rules.specs.Members.{blank, ended, tree, predicate_tree, depth};
 ghost use Rattle.vx_examples.specs.Words.{at, int, bool, real, ref, snap, null, unit, number, part, none, all, falsity, denied, equal, differ, less, at_most, plus, minus, both, implied, chosen_term, asks, probes, refuted, satisfied};
 ghost use Rattle.vx_examples.specs.Simplified.{truth};
 ghost use Rattle.vx_examples.specs.Walks.{first_ask, second_ask, a_probe, two_asks, two_sides, probing, leaving, x, y, f, g, cell, fact, branch, scene, quiet_scene, field_chunk, cell_chunk, half, heap, with_chunks};
@@ -123,4 +126,29 @@ pub fn heaps()
     ensures identical { chunks.same_arguments (ref 0 ∷ ref 1 ∷ []) (ref 0 ∷ ref 1 ∷ []) ≡ true }
     ensures not_identical { chunks.same_arguments (ref 0 ∷ ref 1 ∷ []) (ref 0 ∷ ref 2 ∷ []) ≡ false }
     ensures not_as_many { chunks.same_arguments (ref 0 ∷ []) (ref 0 ∷ ref 2 ∷ []) ≡ false }
+{}
+
+/// The numbers of the codes, F01 to F12.
+pub fn code_numbers()
+    ensures assert { code_number AssertCode ≡ 1 }
+    ensures permission { code_number PermissionCode ≡ 2 }
+    ensures amount { code_number AmountCode ≡ 3 }
+    ensures divisor { code_number DivisorCode ≡ 4 }
+    ensures call { code_number CallCode ≡ 5 }
+    ensures function { code_number FunctionCode ≡ 6 }
+    ensures postcondition { code_number PostCode ≡ 7 }
+    ensures entry { code_number EntryCode ≡ 8 }
+    ensures kept { code_number KeptCode ≡ 9 }
+    ensures fold { code_number FoldCode ≡ 10 }
+    ensures unfold { code_number UnfoldCode ≡ 11 }
+    ensures measure { code_number MeasureCode ≡ 12 }
+{}
+
+/// A field, and a predicate or method without what it would ask about, have no question; the rules need a depth.
+pub fn trees_of_members()
+    ensures field { tree [] f (IsField Int) ≡ End }
+    ensures no_body { predicate_tree [] (record { place = at 1 1; parameters = []; body = None }) ≡ End }
+    ensures depth { depth (record { name = f; kind = IsField Int } ∷ record { name = g; kind = IsField Int } ∷ []) ≡ 12 }
+    ensures no_depth { (rules.outer [] 0).evals NoMore scene (λ ts s. End) ≡ Ask (asks (at 0 0) AssertCode (bool 0 ∷ denied (bool 1) ∷ []) falsity) End }
+    ensures some_depth { (rules.outer [] 1).evals NoMore scene (λ ts s. End) ≡ Step End }
 {}

@@ -1,28 +1,142 @@
 -- What holds of a lane between two questions.
-use Rattle.std.specs.Prelude.{◌≡◌, ℕ, ◌<◌, ⊤, length}
+use Rattle.std.specs.Prelude.{◌≡◌, ◌⊎◌, ℕ, ◌<◌, ◌||◌, ⊤, Bool, true, false, List, [], ◌∷◌, ◌++◌, length}
 use Rattle.vx_ast.specs.Syntax.{Program}
-use Rattle.vx_machine.specs.Runs.{Follows, awaits, is_check}
+use Rattle.vx_smt_meaning.specs.Commands.{Command, Level}
+use Rattle.vx_smt_meaning.specs.Dialogues.{Check}
+use Rattle.vx_ends.specs.declared.piece.Piece.{Piece}
+use Rattle.vx_ends.specs.declared.piece.Start.{Start}
+use Rattle.vx_ends.specs.declared.piece.Ending.{Ending}
+use Rattle.vx_smt_meaning.specs.declared.reply.Reply.{Reply}
+use Rattle.vx_rules.specs.Trees.{Question, walk}
+use Rattle.vx_machine.specs.Runs.{Follows, Told, EachAnswered, awaits, is_check, given, member_tree}
 use Rattle.vx_machine.specs.declared.machine.Machine.{Machine}
-use Rattle.vx_dialogue.specs.Dialogue.{IsFree}
 use Rattle.vx_machine.specs.declared.machine.Ask.{Ask}
-use Rattle.vx_machine.specs.declared.machine.Ask.TheVariants.{Check, Done}
+use Rattle.vx_machine.specs.declared.machine.Ask.TheVariants.{Check as Due, Done}
+use Rattle.vx_machine.specs.declared.machine.Outcome.{Outcome}
+use Rattle.vx_machine.specs.declared.machine.Outcome.TheVariants as outcome
+use Rattle.vx_dialogue.specs.Dialogue.{IsFree, has_failed, Stands}
+use Rattle.vx_dialogue.specs.declared.talk.Talk.{Talk}
+use Rattle.vx_dialogue.specs.declared.talk.Talk.TheVariants as talk
+use Rattle.vx_report.specs.declared.run.Cause.{Cause}
+use Rattle.vx_report.specs.declared.run.Cause.TheVariants as cause
+use Rattle.vx_report.specs.declared.run.Verdict.{Verdict}
+use Rattle.vx_report.specs.declared.run.Verdict.TheVariants as verdict
+use Rattle.vx_report.specs.declared.run.MemberRun.{MemberRun}
+use Rattle.vx_report.specs.Reports.{is_faulted}
 use Rattle.vx_verifier.specs.declared.lane.Child.{Child}
 use Rattle.vx_verifier.specs.declared.lane.Child.TheVariants.{NotStarted, Talking, Lost}
+use Rattle.vx_verifier.specs.declared.lane.Trouble.{Trouble}
+use Rattle.vx_verifier.specs.declared.lane.Trouble.TheVariants as trouble
+use Rattle.vx_verifier.specs.Sequences.{IsCheckOf, AreChecksOf, replies_to}
+use Rattle.vx_verifier.specs.Headline.{HasCauseOf, IsRecorded, IsTold, AreTold}
 
--- a child that talks has no open question, and its link is owed
+-- a child that talks has no open question and no earlier fault, and its link is owed
 abbrev pub IsHeld : {L : Type 0} → Child L → ℕ → Type 0
-IsHeld (Talking d) owed = IsFree d × (0 < owed)
+IsHeld (Talking d) owed = IsFree d × (has_failed d ≡ false) × (0 < owed)
 IsHeld NotStarted owed = ⊤
 IsHeld Lost owed = ⊤
 
+-- how many links are out for a child
+abbrev pub links : {L : Type 0} → Child L → ℕ
+links (Talking d) = 1
+links NotStarted = 0
+links Lost = 0
+
+abbrev pub is_lost : {L : Type 0} → Child L → Bool
+is_lost Lost = true
+is_lost (Talking d) = false
+is_lost NotStarted = false
+
+-- a child is lost at the first fault
+abbrev pub lost_after : Bool → List MemberRun → Bool
+lost_after lost [] = lost
+lost_after lost (r ∷ runs) = lost_after (lost || is_faulted r.verdict) runs
+
+-- These are the checks of the lane's child so far, with the links that were handed back before and by now.
+abbrev pub Hears : {L : Type 0} → (L → List Piece) → (before now : List Ending) → Child L → List Check → Type 0
+Hears dialogue before now NotStarted checks = (now ≡ before) × (checks ≡ [])
+Hears dialogue before now (Talking d) checks = (now ≡ before) × (base : List Level) × (commands : List Command) × Stands dialogue base d commands checks
+Hears dialogue before now Lost checks = IsRecorded before now checks
+
+-- one check more, of this question with this reply
+abbrev pub HearsOf : {L : Type 0} → (L → List Piece) → (before now : List Ending) → Child L → List Check → Question → Reply → Type 0
+HearsOf dialogue before now child checks q r =
+    (check : Check) × Hears dialogue before now child (checks ++ check ∷ []) × IsCheckOf (record { question = q; reply = r }) check
+
+-- the command is started at most once
+abbrev pub Starts : {L : Type 0} → (before now : List Start) → Start → Child L → Type 0
+Starts before now start NotStarted = now ≡ before
+Starts before now start (Talking d) = now ≡ before ++ start ∷ []
+Starts before now start Lost = (now ≡ before) ⊎ (now ≡ before ++ start ∷ [])
+
+abbrev pub trouble_of : Talk → Trouble
+trouble_of talk.Pipe = trouble.Fault cause.Pipe
+trouble_of (talk.Garbled kept) = trouble.Fault (cause.Reply kept)
+trouble_of (talk.Refused kept) = trouble.Fault (cause.Reply kept)
+trouble_of talk.Want = trouble.Want
+trouble_of talk.Closed = trouble.Fault cause.Spent
+
+-- want of memory needs no cause
+abbrev pub IsCausedBy : (Cause → Type 0) → Trouble → Type 0
+IsCausedBy HasCause (trouble.Fault x) = HasCause x
+IsCausedBy HasCause trouble.Want = ⊤
+
+-- No reply came: the child is lost, with the checks that it has told; and there is a cause.
+abbrev pub Loses : {L : Type 0} → (L → List Piece) → (before now : List Ending) → (faults_then faults_now : ℕ) → (lost : Bool) → List Check → Trouble → Type 0
+Loses dialogue before now faults_then faults_now lost checks t =
+    Hears dialogue before now Lost checks × IsCausedBy (HasCauseOf before now faults_then faults_now lost) t
+
+-- a fault is the member's verdict, with its cause
+abbrev pub IsFaultOf : Trouble → Verdict → Type 0
+IsFaultOf (trouble.Fault x) v = v ≡ verdict.Fault x
+IsFaultOf trouble.Want v = ⊥
+
+abbrev pub verdict_of : Outcome → Verdict
+verdict_of outcome.Passed = verdict.Verified
+verdict_of (outcome.Failed place c r) = verdict.Failed place c r
+verdict_of (outcome.Limit n) = verdict.Limit
+
 -- a question comes below the limit alone
 abbrev pub IsDue : Ask → (limit checks : ℕ) → Type 0
-IsDue (Check q) limit checks = checks < limit
+IsDue (Due q) limit checks = checks < limit
 IsDue (Done o) limit checks = ⊤
 
--- a machine with this answer, within the limit of checks
-pub record IsRunning (p : Program) (machine : Machine) (ask : Ask) : Type 0 where
+-- a machine of this member with this answer, within the limit of checks, along the walk
+pub record IsRunning (p : Program) (n : ℕ) (machine : Machine) (ask : Ask) : Type 0 where
   pub follows : Follows p machine
   pub awaits : awaits machine.phase ≡ is_check ask
   pub due : IsDue ask machine.limit (length machine.replies.items)
   pub limit : machine.limit ≡ 100000
+  pub member : machine.member.0 ≡ n
+  pub told : Told ask (walk (member_tree p n) (given machine)) 100000 (length machine.replies.items)
+  pub answered : EachAnswered (walk (member_tree p n) (given machine)) (given machine)
+
+-- the checks of a member so far are the questions that the walk has answered, and their replies are the machine's
+pub record AreAsked (p : Program) (machine : Machine) (own : List Check) : Type 0 where
+  pub replies : replies_to own ≡ given machine
+  pub checks : AreChecksOf (walk (member_tree p machine.member.0) (given machine)).answered own
+
+-- A member's execution came to this verdict after so many checks of its own.
+pub record Judges {L : Type 0} (dialogue : L → List Piece) (p : Program) (n : ℕ) (before now : List Ending) (HasCause : Cause → Type 0) (child : Child L)
+    (checks : List Check) (asked : ℕ) (v : Verdict) : Type 0 where
+  pub own : List Check
+  pub heard : Hears dialogue before now child (checks ++ own)
+  pub count : length own ≡ asked
+  pub told : IsTold p n HasCause own v
+
+-- the links that were handed back stay so
+pub record Handed (before now : List Ending) : Type 0 where
+  pub more : List Ending
+  pub is : now ≡ before ++ more
+
+abbrev pub Later : List Ending → List Ending → Type 0
+Later old new = (front : List Ending) → Handed front old → Handed front new
+
+-- The members so far: their checks are those of the lane's child, so many, and each is told by its own.
+pub record Executes {L : Type 0} (dialogue : L → List Piece) (p : Program) (before now : List Ending) (faults_then faults_now : ℕ) (child : Child L) (asked : ℕ)
+    (runs : List MemberRun) : Type 0 where
+  pub checks : List Check
+  pub heard : Hears dialogue before now child checks
+  pub count : length checks ≡ asked
+  pub told : AreTold p before now faults_then faults_now false 0 0 runs checks
+  pub lost : is_lost child ≡ lost_after false runs

@@ -37,6 +37,13 @@ pub fn text_refusal(alloc: Global, fault: &TextFault) -> Result<String, AllocErr
     Ok(line)
 }
 
+/// The line of a program with other types than those that are executed.
+pub fn refusal_of_types(alloc: Global) -> Result<String, AllocError> {
+    let mut line = refusal(alloc, Place { line: 1, column: 1 }, "E09", "Unsupported")?;
+    line.push_str(" type\n")?;
+    Ok(line)
+}
+
 /// The line of a program that isn't typed.
 pub fn type_refusal(alloc: Global, fault: &TypeFault) -> Result<String, AllocError> {
     let place = fault.place().unwrap_or(Place { line: 1, column: 1 });

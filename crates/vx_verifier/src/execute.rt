@@ -1,10 +1,15 @@
 //! The members of a program, each executed by the machine and its questions asked of the lane's child.
 
-ghost use Rattle.std.specs.Prelude.{◌≡◌, ◌+◌, ◌<◌, IfOk, length, true};
+ghost use Rattle.std.specs.Prelude.{◌≡◌, ◌+◌, ◌*◌, ◌<◌, ◌≤◌, ◌^◌, ◌||◌, ◌++◌, ◌∷◌, ◌⊎◌, [], List, IfOk, length, true};
+ghost use Rattle.vx_ends.specs.declared.piece.Start.{Start};
+ghost use Rattle.vx_ends.specs.declared.piece.Ending.{Ending};
+ghost use Rattle.vx_smt_meaning.specs.Dialogues.{Check};
 ghost use Rattle.vx_types.specs.Settled.{settled};
-ghost use Rattle.vx_report.specs.Reports.{AreNamed};
+ghost use Rattle.vx_report.specs.Reports.{AreNamed, is_faulted};
 ghost use Rattle.vx_machine.specs.Runs.{Follows, awaits};
-ghost use Rattle.vx_verifier.specs.Lanes.{IsHeld, IsRunning};
+ghost use Rattle.vx_verifier.specs.Headline.{HasCauseOf, Headline};
+ghost use Rattle.vx_verifier.specs.Lanes as spec;
+ghost use Rattle.vx_verifier.specs.Lanes.{IsHeld, IsRunning, links, is_lost, Hears, Starts, Later, Judges, Executes, IsFaultOf};
 
 use crate::lane::{Child, LANE, Trouble, ask, end, leave};
 use std::alloc::{AllocError, Global};
@@ -31,7 +36,9 @@ struct Judged {
     checks: u32,
 }
 
-fn verdict_of(outcome: Outcome) -> Verdict {
+fn verdict_of(outcome: Outcome) -> Verdict
+    ensures { result ≡ spec.verdict_of outcome }
+{
     match outcome {
         Outcome::Passed => Verdict::Verified,
         Outcome::Failed { place, code, reply } => Verdict::Failed { place, code, reply },
@@ -49,8 +56,8 @@ struct Running {
 // A member's machine at its first question, or at its end.
 fn begin(alloc: Global, typed: &Typed, member: MemberId) -> Result<Running, AllocError>
     requires { member.0 < length (settled typed.now) }
-    ensures running { IfOk result (λ r. IsRunning (settled typed.now) r.machine r.ask) }
-    ensures none { IfOk result (λ r. length r.machine.replies.items ≡ 0) }
+    ensures running { IfOk result (λ r. IsRunning (settled typed.now) member.0 r.machine r.ask) }
+    ensures none { IfOk result (λ r. r.machine.replies.items ≡ []) }
 {
     let mut machine = Machine::start(alloc, typed, member, LIMIT)?;
     let ask = machine.next(alloc, typed, None)?;
@@ -67,12 +74,25 @@ fn go_on(
     requires follows { Follows (settled typed.now) machine }
     requires awaits { awaits machine.phase ≡ true }
     requires limit { machine.limit ≡ LIMIT }
-    ensures running { IfOk result (λ r. IsRunning (settled typed.now) r.machine r.ask) }
-    ensures one_more { IfOk result (λ r. length r.machine.replies.items ≡ length machine.replies.items + 1) }
+    ensures running { IfOk result (λ r. IsRunning (settled typed.now) machine.member.0 r.machine r.ask) }
+    ensures one_more { IfOk result (λ r. r.machine.replies.items ≡ machine.replies.items ++ reply ∷ []) }
 {
     let mut machine = machine;
     let ask = machine.next(alloc, typed, Some(reply))?;
     Ok(Running { machine, ask })
+}
+
+// A question has no reply.
+fn faulted(trouble: Trouble, checks: u32) -> Result<Judged, AllocError>
+    ensures { IfOk result (λ judged. (judged.checks ≡ checks) × IsFaultOf trouble judged.verdict) }
+{
+    match trouble {
+        Trouble::Fault(cause) => Ok(Judged {
+            verdict: Verdict::Fault(cause),
+            checks,
+        }),
+        Trouble::Want => Err(AllocError),
+    }
 }
 
 // Executes a member to its end, or to a fault.
@@ -86,7 +106,16 @@ fn judge<W: Spawner>(
 ) -> (Child<W::Link>, Result<Judged, AllocError>)
     requires member { member.0 < length (settled typed.now) }
     requires held { IsHeld child (W.owed spawner.old LANE) }
-    ensures { IsHeld result.0 (W.owed spawner.new LANE) }
+    ensures held { IsHeld result.0 (W.owed spawner.new LANE) }
+    ensures owed { W.owed spawner.new LANE + links child ≡ W.owed spawner.old LANE + links result.0 }
+    ensures told { IfOk result.1 (λ judged. (before : List Ending) (checks : List Check) → Hears W.Link.dialogue before (W.ended spawner.old) child checks
+        → Judges W.Link.dialogue (settled typed.now) member.0 before (W.ended spawner.new) (HasCauseOf before (W.ended spawner.new) (W.faults spawner.old) (W.faults spawner.new) (is_lost child))
+        result.0 checks judged.checks judged.verdict) }
+    ensures lost { IfOk result.1 (λ judged. is_lost result.0 ≡ (is_lost child || is_faulted judged.verdict)) }
+    ensures few { IfOk result.1 (λ judged. judged.checks ≤ LIMIT) }
+    ensures starts { (before : List Start) → let start : Start = record { lane = LANE; command = command.now } in Starts before (W.starts spawner.old) start child → Starts before (W.starts spawner.new) start result.0 }
+    ensures faults { W.faults spawner.old ≤ W.faults spawner.new }
+    ensures later { Later (W.ended spawner.old) (W.ended spawner.new) }
 {
     let mut child = child;
     let mut running = match begin(alloc, typed, member) {
@@ -110,11 +139,7 @@ fn judge<W: Spawner>(
         child = kept;
         let reply = match reply {
             Ok(reply) => reply,
-            Err(Trouble::Fault(cause)) => {
-                let verdict = Verdict::Fault(cause);
-                return (child, Ok(Judged { verdict, checks }));
-            }
-            Err(Trouble::Want) => return (child, Err(AllocError)),
+            Err(trouble) => return (child, faulted(trouble, checks)),
         };
         match go_on(alloc, typed, machine, reply) {
             Ok(next) => running = next,
@@ -135,8 +160,18 @@ fn execute<W: Spawner>(
 ) -> (Lane<W::Link>, Result<MemberRun, AllocError>)
     requires member { member.0 < length (settled typed.now) }
     requires held { IsHeld lane.child (W.owed spawner.old LANE) }
+    requires room { lane.checks + LIMIT < 2 ^ 64 }
     ensures held { IsHeld result.0.child (W.owed spawner.new LANE) }
-    ensures member { IfOk result.1 (λ run. run.member ≡ member) }
+    ensures owed { W.owed spawner.new LANE + links lane.child ≡ W.owed spawner.old LANE + links result.0.child }
+    ensures numbers { IfOk result.1 (λ run. (run.member ≡ member) × (run.lane ≡ LANE) × (run.child ≡ 0) × (run.first ≡ lane.checks)) }
+    ensures told { IfOk result.1 (λ run. (before : List Ending) (checks : List Check) → Hears W.Link.dialogue before (W.ended spawner.old) lane.child checks
+        → Judges W.Link.dialogue (settled typed.now) member.0 before (W.ended spawner.new) (HasCauseOf before (W.ended spawner.new) (W.faults spawner.old) (W.faults spawner.new) (is_lost lane.child))
+        result.0.child checks run.checks run.verdict) }
+    ensures lost { IfOk result.1 (λ run. is_lost result.0.child ≡ (is_lost lane.child || is_faulted run.verdict)) }
+    ensures count { IfOk result.1 (λ run. (result.0.checks ≡ lane.checks + run.checks) × (run.checks ≤ LIMIT)) }
+    ensures starts { (before : List Start) → let start : Start = record { lane = LANE; command = command.now } in Starts before (W.starts spawner.old) start lane.child → Starts before (W.starts spawner.new) start result.0.child }
+    ensures faults { W.faults spawner.old ≤ W.faults spawner.new }
+    ensures later { Later (W.ended spawner.old) (W.ended spawner.new) }
 {
     let Lane {
         child,
@@ -154,7 +189,7 @@ fn execute<W: Spawner>(
             Err(error),
         ),
     };
-    if let Err(Trouble::Want) = left {
+    if left.is_err() {
         return (
             Lane {
                 child,
@@ -165,7 +200,7 @@ fn execute<W: Spawner>(
     }
     let lane = Lane {
         child,
-        checks: first.saturating_add(u64::from(judged.checks)),
+        checks: first + u64::from(judged.checks),
     };
     let run = MemberRun {
         member,
@@ -184,13 +219,20 @@ fn execute_all<W: Spawner>(
     typed: &Typed,
     command: &Parts,
     spawner: &mut W,
-    lane: Lane<W::Link>,
 ) -> (Lane<W::Link>, Result<Vec<MemberRun>, AllocError>)
-    requires { IsHeld lane.child (W.owed spawner.old LANE) }
     ensures held { IsHeld result.0.child (W.owed spawner.new LANE) }
+    ensures owed { W.owed spawner.new LANE ≡ W.owed spawner.old LANE + links result.0.child }
     ensures named { IfOk result.1 (λ runs. AreNamed (settled typed.now) runs.items) }
+    ensures told { IfOk result.1 (λ runs. (length runs.items ≡ length (settled typed.now)) × Executes W.Link.dialogue (settled typed.now) (W.ended spawner.old) (W.ended spawner.new) (W.faults spawner.old) (W.faults spawner.new)
+        result.0.child result.0.checks runs.items) }
+    ensures starts { let start : Start = record { lane = LANE; command = command.now } in Starts (W.starts spawner.old) (W.starts spawner.new) start result.0.child }
+    ensures faults { W.faults spawner.old ≤ W.faults spawner.new }
+    ensures later { Later (W.ended spawner.old) (W.ended spawner.new) }
 {
-    let mut lane = lane;
+    let mut lane = Lane {
+        child: Child::NotStarted,
+        checks: 0,
+    };
     let mut runs = Vec::new(alloc);
     for number in 0..typed.len() {
         // A file has at most 65,536 members.
@@ -200,32 +242,33 @@ fn execute_all<W: Spawner>(
         let member = MemberId(number);
         let (kept, run) = execute(alloc, typed, command, spawner, lane, member);
         lane = kept;
-        let added = match run {
-            Ok(run) => runs.push(run).map_err(AllocError::from),
-            Err(error) => Err(error),
+        let run = match run {
+            Ok(run) => run,
+            Err(error) => return (lane, Err(error)),
         };
-        if let Err(error) = added {
-            return (lane, Err(error));
+        if runs.push(run).is_err() {
+            return (lane, Err(AllocError));
         }
     }
     (lane, Ok(runs))
 }
 
 /// Verifies the members in file order, by one child, which is started at the first question and handed back at the
-/// end, also where memory runs out.
+/// end, also where memory runs out. The clause `headline` is the promise.
 pub fn verify<W: Spawner>(
     alloc: Global,
     typed: &Typed,
     command: &Parts,
     spawner: &mut W,
 ) -> Result<Vec<MemberRun>, AllocError>
-    ensures { IfOk result (λ runs. AreNamed (settled typed.now) runs.items) }
+    ensures named { IfOk result (λ runs. AreNamed (settled typed.now) runs.items) }
+    ensures headline { IfOk result (λ runs. Headline (settled typed.now) (W.ended spawner.old) (W.ended spawner.new) (W.faults spawner.old) (W.faults spawner.new) runs.items) }
+    ensures starts { let start : Start = record { lane = LANE; command = command.now } in (W.starts spawner.new ≡ W.starts spawner.old) ⊎ (W.starts spawner.new ≡ W.starts spawner.old ++ start ∷ []) }
+    ensures handed_back { W.owed spawner.new LANE ≡ W.owed spawner.old LANE }
+    ensures faults { W.faults spawner.old ≤ W.faults spawner.new }
+    ensures later { Later (W.ended spawner.old) (W.ended spawner.new) }
 {
-    let lane = Lane {
-        child: Child::NotStarted,
-        checks: 0,
-    };
-    let (lane, runs) = execute_all(alloc, typed, command, spawner, lane);
+    let (lane, runs) = execute_all(alloc, typed, command, spawner);
     let Lane { child, checks: _ } = lane;
     end(spawner, child);
     runs

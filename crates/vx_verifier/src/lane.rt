@@ -1,9 +1,15 @@
 //! A lane: its child, which is started at the lane's first question.
 
-ghost use Rattle.std.specs.Prelude.{◌≡◌, ◌<◌};
-ghost use Rattle.vx_verifier.specs.Lanes.{IsHeld};
+ghost use Rattle.std.specs.Prelude.{◌≡◌, ◌<◌, ◌≤◌, ◌+◌, List, IfOk, OnOk, IfErr, MatchResult, if◌then◌else◌, is_ok, is_err, false};
+ghost use Rattle.vx_ends.specs.declared.piece.Start.{Start};
+ghost use Rattle.vx_ends.specs.declared.piece.Ending.{Ending};
+ghost use Rattle.vx_smt_meaning.specs.Dialogues.{Check};
+ghost use Rattle.vx_rules.specs.Stack as rules;
+ghost use Rattle.vx_verifier.specs.Headline.{IsRecorded};
+ghost use Rattle.vx_verifier.specs.Lanes as spec;
+ghost use Rattle.vx_verifier.specs.Lanes.{IsHeld, links, is_lost, Hears, HearsOf, Loses, Starts, Later};
 
-use std::alloc::{AllocError, Global};
+use std::alloc::Global;
 use vx_dialogue::{Dialogue, Talk};
 use vx_ends::{Parts, Spawner, StartFault};
 use vx_report::Cause;
@@ -27,7 +33,9 @@ pub enum Trouble {
 /// The lane that all members go to.
 pub const LANE: u32 = 0;
 
-fn trouble_of(talk: Talk) -> Trouble {
+fn trouble_of(talk: Talk) -> Trouble
+    ensures { result ≡ spec.trouble_of talk }
+{
     match talk {
         Talk::Pipe => Trouble::Fault(Cause::Pipe),
         Talk::Garbled(kept) | Talk::Refused(kept) => Trouble::Fault(Cause::Reply(kept)),
@@ -42,7 +50,15 @@ fn start<W: Spawner>(
     spawner: &mut W,
     command: &Parts,
 ) -> Result<Dialogue<W::Link>, Trouble>
-    ensures { Rattle.std.specs.Prelude.IfOk result (λ d. IsHeld (Child.Talking d) (W.owed spawner.new LANE)) }
+    ensures held { IfOk result (λ d. IsHeld (Child.Talking d) (W.owed spawner.new LANE)) }
+    ensures owed { W.owed spawner.new LANE ≡ W.owed spawner.old LANE + (if is_ok result then 1 else 0) }
+    ensures told { (before : List Ending) (checks : List Check) → Hears W.Link.dialogue before (W.ended spawner.old) Child.NotStarted checks
+        → MatchResult result (λ d. Hears W.Link.dialogue before (W.ended spawner.new) (Child.Talking d) checks)
+        (λ trouble. Loses W.Link.dialogue before (W.ended spawner.new) (W.faults spawner.old) (W.faults spawner.new) false checks trouble) }
+    ensures starts { (before : List Start) → let start : Start = record { lane = LANE; command = command.now } in Starts {L = W.Link} before (W.starts spawner.old) start Child.NotStarted
+        → MatchResult result (λ d. Starts before (W.starts spawner.new) start (Child.Talking d)) (λ _. Starts {L = W.Link} before (W.starts spawner.new) start Child.Lost) }
+    ensures faults { W.faults spawner.old ≤ W.faults spawner.new }
+    ensures later { Later (W.ended spawner.old) (W.ended spawner.new) }
 {
     let link = match spawner.start(alloc, LANE, command) {
         Ok(link) => link,
@@ -66,12 +82,24 @@ fn talk<W: Spawner>(
     query: &Query,
 ) -> (Child<W::Link>, Result<Reply, Trouble>)
     requires { IsHeld (Child.Talking dialogue) (W.owed spawner.old LANE) }
-    ensures { IsHeld result.0 (W.owed spawner.new LANE) }
+    ensures held { IsHeld result.0 (W.owed spawner.new LANE) }
+    ensures owed { W.owed spawner.new LANE + 1 ≡ W.owed spawner.old LANE + links result.0 }
+    ensures told { IfOk result.1 (λ reply. (before : List Ending) (checks : List Check) → Hears W.Link.dialogue before (W.ended spawner.old) (Child.Talking dialogue) checks
+        → HearsOf W.Link.dialogue before (W.ended spawner.new) result.0 checks (rules.query query.now) reply) }
+    ensures lost { IfErr result.1 (λ trouble. (before : List Ending) (checks : List Check) → Hears W.Link.dialogue before (W.ended spawner.old) (Child.Talking dialogue) checks
+        → Loses W.Link.dialogue before (W.ended spawner.new) (W.faults spawner.old) (W.faults spawner.new) false checks trouble) }
+    ensures child { is_lost result.0 ≡ is_err result.1 }
+    ensures starts { (before : List Start) (start : Start) → Starts before (W.starts spawner.old) start (Child.Talking dialogue) → Starts before (W.starts spawner.new) start result.0 }
+    ensures faults { W.faults spawner.new ≡ W.faults spawner.old }
+    ensures later { Later (W.ended spawner.old) (W.ended spawner.new) }
 {
     let mut dialogue = dialogue;
     let path = match query.path.terms(alloc) {
         Ok(path) => path,
-        Err(AllocError) => return (Child::Talking(dialogue), Err(Trouble::Want)),
+        Err(_) => {
+            spawner.finish(LANE, dialogue.close());
+            return (Child::Lost, Err(Trouble::Want));
+        }
     };
     match dialogue.ask(alloc, &path, &query.condition) {
         Ok(reply) => (Child::Talking(dialogue), Ok(reply)),
@@ -91,7 +119,17 @@ pub fn ask<W: Spawner>(
     query: &Query,
 ) -> (Child<W::Link>, Result<Reply, Trouble>)
     requires { IsHeld child (W.owed spawner.old LANE) }
-    ensures { IsHeld result.0 (W.owed spawner.new LANE) }
+    ensures held { IsHeld result.0 (W.owed spawner.new LANE) }
+    ensures owed { W.owed spawner.new LANE + links child ≡ W.owed spawner.old LANE + links result.0 }
+    ensures told { IfOk result.1 (λ reply. (before : List Ending) (checks : List Check) → Hears W.Link.dialogue before (W.ended spawner.old) child checks
+        → HearsOf W.Link.dialogue before (W.ended spawner.new) result.0 checks (rules.query query.now) reply) }
+    ensures lost { IfErr result.1 (λ trouble. (before : List Ending) (checks : List Check) → Hears W.Link.dialogue before (W.ended spawner.old) child checks
+        → Loses W.Link.dialogue before (W.ended spawner.new) (W.faults spawner.old) (W.faults spawner.new) (is_lost child) checks trouble) }
+    ensures child { is_lost result.0 ≡ is_err result.1 }
+    ensures before { IfOk result.1 (λ _. is_lost child ≡ false) }
+    ensures starts { (before : List Start) → let start : Start = record { lane = LANE; command = command.now } in Starts before (W.starts spawner.old) start child → Starts before (W.starts spawner.new) start result.0 }
+    ensures faults { W.faults spawner.old ≤ W.faults spawner.new }
+    ensures later { Later (W.ended spawner.old) (W.ended spawner.new) }
 {
     match child {
         Child::NotStarted => match start(alloc, spawner, command) {
@@ -110,7 +148,15 @@ pub fn leave<W: Spawner>(
     child: Child<W::Link>,
 ) -> (Child<W::Link>, Result<(), Trouble>)
     requires { IsHeld child (W.owed spawner.old LANE) }
-    ensures { IsHeld result.0 (W.owed spawner.new LANE) }
+    ensures held { IsHeld result.0 (W.owed spawner.new LANE) }
+    ensures owed { W.owed spawner.new LANE + links child ≡ W.owed spawner.old LANE + links result.0 }
+    ensures told { (before : List Ending) (checks : List Check) → Hears W.Link.dialogue before (W.ended spawner.old) child checks → Hears W.Link.dialogue before (W.ended spawner.new) result.0 checks }
+    ensures lost { OnOk result.1 (is_lost result.0 ≡ is_lost child) }
+    ensures same { OnOk result.1 (W.ended spawner.new ≡ W.ended spawner.old) }
+    ensures others { IfErr result.1 (λ trouble. trouble ≡ Trouble.Want) }
+    ensures starts { (before : List Start) (start : Start) → Starts before (W.starts spawner.old) start child → Starts before (W.starts spawner.new) start result.0 }
+    ensures faults { W.faults spawner.new ≡ W.faults spawner.old }
+    ensures later { Later (W.ended spawner.old) (W.ended spawner.new) }
 {
     match child {
         Child::Talking(dialogue) => {
@@ -130,6 +176,11 @@ pub fn leave<W: Spawner>(
 /// Hands the child back.
 pub fn end<W: Spawner>(spawner: &mut W, child: Child<W::Link>)
     requires { IsHeld child (W.owed spawner.old LANE) }
+    ensures owed { W.owed spawner.new LANE + links child ≡ W.owed spawner.old LANE }
+    ensures told { (before : List Ending) (checks : List Check) → Hears W.Link.dialogue before (W.ended spawner.old) child checks → IsRecorded before (W.ended spawner.new) checks }
+    ensures starts { W.starts spawner.new ≡ W.starts spawner.old }
+    ensures faults { W.faults spawner.new ≡ W.faults spawner.old }
+    ensures later { Later (W.ended spawner.old) (W.ended spawner.new) }
 {
     match child {
         Child::Talking(dialogue) => spawner.finish(LANE, dialogue.close()),

@@ -7,6 +7,7 @@ pub mod companion;
 pub mod edge;
 mod execute;
 mod lane;
+mod supported;
 mod top;
 
 pub use execute::verify;

@@ -1,9 +1,10 @@
 use crate::companion::Builtin;
-use crate::run;
+use crate::edge::ChildSpawner;
+use crate::{Ended, run};
 use std::alloc::Global;
 use std::test::Fail;
-use vx_ends::{Bytes, MemFiles, MemSink, NamedText, Parts, ScriptSpawner};
-use vx_report::Status;
+use vx_ends::{Bytes, MemFiles, MemSink, NamedText, Parts, Script, ScriptSpawner, Spawner};
+use vx_report::{Cause, MemberRun, Status, Verdict};
 
 const ID: &str = "method id(b: Bool) returns (c: Bool) requires b ensures c { c := b }";
 
@@ -52,7 +53,7 @@ fn put(alloc: Global, text: &str) -> Result<(u8, MemSink), Fail> {
 }
 
 #[test]
-fn the_first_row_verifies(rt: HostRuntime) -> Result<(), Fail> {
+fn first_row_verifies(rt: HostRuntime) -> Result<(), Fail> {
     let (status, out) = put(rt.alloc(), ID)?;
     assert_eq!(rt;
         out.taken(),
@@ -204,5 +205,127 @@ fn refused_texts_have_one_line(rt: HostRuntime) -> Result<(), Fail> {
         assert_eq!(rt; out.taken(), line.as_bytes(), "{text}");
         assert_eq!(rt; status, 4);
     }
+    Ok(())
+}
+
+// A spawner whose one child answers `success` so many times, and then this.
+fn scripted(alloc: Global, successes: usize, last: &str) -> Result<ScriptSpawner, Fail> {
+    let mut replies = Vec::new(alloc);
+    for _ in 0..successes {
+        replies.push(Bytes::copy(alloc, b"success\n")?)?;
+    }
+    replies.push(Bytes::copy(alloc, last.as_bytes())?)?;
+    let mut scripts = Vec::new(alloc);
+    scripts.push(Script {
+        replies,
+        fails: Vec::new(alloc),
+    })?;
+    Ok(ScriptSpawner::new(alloc, scripts, Vec::new(alloc)))
+}
+
+// How the run of a program ends whose solver is named `other`, and what is put.
+fn ended_by<W: Spawner>(
+    alloc: Global,
+    solver: &str,
+    text: &str,
+    spawner: &mut W,
+) -> Result<(Ended, MemSink), Fail> {
+    let words = words_of(alloc, &["vsil", "verify", "--solver", solver])?;
+    let mut files = input(alloc, text.as_bytes())?;
+    let mut out = MemSink::new(alloc, 4096)?;
+    let mut builtin = Builtin::new(alloc);
+    let ended = run(alloc, &words, &mut files, &mut out, spawner, &mut builtin);
+    Ok((ended, out))
+}
+
+// The commands before the answer to the question of ID: the preamble, two levels, a symbol and two assertions.
+const BEFORE_ANSWER: usize = 17 + 2 + 1 + 2;
+
+#[test]
+fn an_unknown_fails_the_member(rt: HostRuntime) -> Result<(), Fail> {
+    let alloc = rt.alloc();
+    let mut spawner = scripted(alloc, BEFORE_ANSWER, "unknown\n")?;
+    let (ended, out) = ended_by(alloc, "script", ID, &mut spawner)?;
+    assert_eq!(rt;
+        out.taken(),
+        b"method id: failed at 1:57 F07 (unknown)\n0 verified, 1 failed, 0 resting, 0 limited, 0 faults\n".as_slice()
+    );
+    assert_eq!(rt; ended.status, Status::NotVerified);
+    Ok(())
+}
+
+#[test]
+fn an_unsat_verifies_the_member(rt: HostRuntime) -> Result<(), Fail> {
+    let alloc = rt.alloc();
+    let mut spawner = scripted(alloc, BEFORE_ANSWER, "unsat\n")?;
+    let (ended, _out) = ended_by(alloc, "script", ID, &mut spawner)?;
+    assert_eq!(rt; ended.status, Status::Done);
+    Ok(())
+}
+
+// The one run is a fault with a reply of so many bytes.
+fn is_reply_fault(runs: &[MemberRun], bytes: usize) -> bool {
+    match runs {
+        [run] => match &run.verdict {
+            Verdict::Fault(Cause::Reply(kept)) => kept.as_slice().len() == bytes,
+            _ => false,
+        },
+        _ => false,
+    }
+}
+
+#[test]
+fn an_echo_is_no_lawful_reply(rt: HostRuntime) -> Result<(), Fail> {
+    let alloc = rt.alloc();
+    let mut spawner = scripted(alloc, 0, "(set-option :print-success true)")?;
+    let (ended, out) = ended_by(alloc, "cat", ID, &mut spawner)?;
+    assert_eq!(rt;
+        out.taken(),
+        b"method id: fault reply\n0 verified, 0 failed, 0 resting, 0 limited, 1 faults\n".as_slice()
+    );
+    assert_eq!(rt; ended.status, Status::Faulted);
+    assert!(rt; is_reply_fault(&ended.runs, 32));
+    Ok(())
+}
+
+#[test]
+fn cat_itself_is_no_solver(rt: HostRuntime) -> Result<(), Fail> {
+    let alloc = rt.alloc();
+    let mut spawner = ChildSpawner::new(alloc, &rt);
+    let (ended, out) = ended_by(alloc, "cat", ID, &mut spawner)?;
+    assert_eq!(rt;
+        out.taken(),
+        b"method id: fault reply\n0 verified, 0 failed, 0 resting, 0 limited, 1 faults\n".as_slice()
+    );
+    assert_eq!(rt; ended.status, Status::Faulted);
+    assert!(rt; is_reply_fault(&ended.runs, 32));
+    Ok(())
+}
+
+#[test]
+fn a_fault_is_spent_by_later_members(rt: HostRuntime) -> Result<(), Fail> {
+    let alloc = rt.alloc();
+    let mut spawner = scripted(alloc, 0, "unsupported\n")?;
+    let text =
+        "method a(b: Bool) { assert b } method c(b: Bool) { assert b } method d() { assert true }";
+    let (ended, out) = ended_by(alloc, "script", text, &mut spawner)?;
+    assert_eq!(rt;
+        out.taken(),
+        b"method a: fault reply\nmethod c: fault spent\nmethod d: verified\n1 verified, 0 failed, 0 resting, 0 limited, 2 faults\n".as_slice()
+    );
+    assert_eq!(rt; ended.status, Status::Faulted);
+    Ok(())
+}
+
+#[test]
+fn a_file_is_named(rt: HostRuntime) -> Result<(), Fail> {
+    let (status, out) = put_into(
+        rt.alloc(),
+        &["vsil", "verify", "no-such-file"],
+        ID.as_bytes(),
+        4096,
+    )?;
+    assert_eq!(rt; out.taken(), b"error: cannot read\n".as_slice());
+    assert_eq!(rt; status, 3);
     Ok(())
 }

@@ -1,11 +1,20 @@
 //! The top call: from the words of the command line to what is put, and the exit status.
 
-ghost use Rattle.std.specs.Prelude.{◌≡◌, ◌⊎◌};
+ghost use Rattle.std.specs.Prelude.{◌≡◌, ◌⊎◌, ◌++◌, ◌∷◌, [], IfOk, Some, option_copied};
 ghost use Rattle.vx_ends.specs.Causes.{Rose};
+ghost use Rattle.vx_ends.specs.declared.piece.Start.{Start};
+ghost use Rattle.vx_types.specs.Settled.{settled};
+ghost use Rattle.vx_report.specs.Statuses.{status_among};
+ghost use Rattle.vx_words.specs.Orders.{order_of};
+ghost use Rattle.vx_words.specs.declared.order.Order as meant;
+ghost use Rattle.vx_verifier.specs.Headline.{Headline};
+ghost use Rattle.vx_verifier.specs.Reported as spec;
+ghost use Rattle.vx_verifier.specs.Reported.{IsReadFrom, IsReportOf, AsksOnly, AsksFileOf};
 
-use crate::answers::{TOO_LONG, UNREAD, USAGE, text_refusal, type_refusal};
+use crate::answers::{TOO_LONG, UNREAD, USAGE, refusal_of_types, text_refusal, type_refusal};
 use crate::companion::Builtin;
 use crate::execute::verify;
+use crate::supported::is_supported;
 use std::alloc::{AllocError, Global};
 use vx_ends::{Files, LoadFault, Parts, PutFault, Sink, Spawner, put_all};
 use vx_parser::{TextFault, parse};
@@ -21,11 +30,13 @@ pub struct Ended {
     pub runs: Vec<MemberRun>,
 }
 
-// What reading a program gives: it, or the line of its refusal.
+// What reading a program gives: it, or the line of its refusal, or why it can't be read.
 #[derive(Drop)]
 enum Told {
     Program(Typed),
     Refused(String),
+    Unread,
+    TooLong,
 }
 
 // Puts the text; where the sink fails, that is the status.
@@ -42,74 +53,112 @@ fn put<K: Sink>(out: &mut K, text: &str, status: Status, runs: Vec<MemberRun>) -
     }
 }
 
-fn read_program(alloc: Global, text: &[u8]) -> Result<Told, AllocError> {
+fn read_program(alloc: Global, text: &[u8]) -> Result<Told, AllocError>
+    ensures { IfOk result (IsReadFrom (Some text.now)) }
+{
     let program = match parse(alloc, text) {
         Ok(program) => program,
         Err(TextFault::Want) => return Err(AllocError),
         Err(fault) => return Ok(Told::Refused(text_refusal(alloc, &fault)?)),
     };
     match check(alloc, &program) {
-        Ok(typed) => Ok(Told::Program(typed)),
+        Ok(typed) if is_supported(&typed) => Ok(Told::Program(typed)),
+        Ok(_other) => Ok(Told::Refused(refusal_of_types(alloc)?)),
         Err(TypeFault::Want) => Err(AllocError),
         Err(fault) => Ok(Told::Refused(type_refusal(alloc, &fault)?)),
     }
 }
 
-// The companion's command.
-fn companion(alloc: Global) -> Result<Parts, AllocError> {
-    let mut command = Parts::new(alloc);
-    command.push(alloc, "builtin")?;
-    Ok(command)
+// Loads a text, and reads its program.
+fn load_program<F: Files>(
+    alloc: Global,
+    files: &mut F,
+    name: Option<&str>,
+) -> Result<Told, AllocError>
+    ensures told { IfOk result (IsReadFrom (F.holds files.old (option_copied name.entry))) }
+    ensures asked { AsksOnly (option_copied name.entry) (F.asked files.old) (F.asked files.new) }
+{
+    match files.load(alloc, name) {
+        Ok(text) => read_program(alloc, &text),
+        Err(LoadFault::Failed) => Ok(Told::Unread),
+        Err(LoadFault::TooLong) => Ok(Told::TooLong),
+        Err(LoadFault::Want) => Err(AllocError),
+    }
 }
 
 // Verifies a program, and puts the report.
-fn report<K: Sink>(
+fn report<K: Sink, W: Spawner>(
     alloc: Global,
     typed: &Typed,
     out: &mut K,
-    builtin: &mut Builtin,
-) -> Result<Ended, AllocError> {
-    let command = companion(alloc)?;
-    let runs = verify(alloc, typed, &command, builtin)?;
+    solver: &Parts,
+    spawner: &mut W,
+) -> Result<Ended, AllocError>
+    ensures headline { IfOk result (λ ended. Headline (settled typed.now) (W.ended spawner.old) (W.ended spawner.new) (W.faults spawner.old) (W.faults spawner.new) ended.runs.items) }
+    ensures status { IfOk result (λ ended. (ended.status ≡ status_among ended.runs.items) ⊎ Rose (K.faults out.old) (K.faults out.new)) }
+    ensures starts { let start : Start = record { lane = 0; command = solver.now } in (W.starts spawner.new ≡ W.starts spawner.old) ⊎ (W.starts spawner.new ≡ W.starts spawner.old ++ start ∷ []) }
+{
+    let runs = verify(alloc, typed, solver, spawner)?;
     let mut text = String::new(alloc);
     write_report(&mut text, typed, &runs)?;
     let status = status_of(&runs);
     Ok(put(out, &text, status, runs))
 }
 
-// Verifies standard input.
-fn verify_input<F: Files, K: Sink>(
+// The companion is asked, and no child process.
+fn is_companion(solver: &Parts) -> bool
+    ensures { result ≡ spec.is_companion solver.now }
+{
+    solver.len() == 1 && solver.part(0) == "builtin"
+}
+
+// Verifies a file, or standard input.
+fn verify_file<F: Files, K: Sink, W: Spawner>(
     alloc: Global,
+    order: &Order,
     files: &mut F,
     out: &mut K,
+    spawner: &mut W,
     builtin: &mut Builtin,
-) -> Result<Ended, AllocError> {
+) -> Result<Ended, AllocError>
+    ensures headline { IfOk result (λ ended. (ended.runs.items ≡ []) ⊎ IsReportOf order.now (F.holds files.old)
+        (λ p. Headline p builtin.old.ended.items builtin.new.ended.items 0 0 ended.runs.items)
+        (λ p. Headline p (W.ended spawner.old) (W.ended spawner.new) (W.faults spawner.old) (W.faults spawner.new) ended.runs.items)) }
+    ensures asked { AsksFileOf order.now (F.asked files.old) (F.asked files.new) }
+{
+    let Order::Verify { file, solver } = order;
     let none = Vec::new(alloc);
-    let text = match files.load(alloc, None) {
-        Ok(text) => text,
-        Err(LoadFault::Failed) => return Ok(put(out, UNREAD, Status::Unread, none)),
-        Err(LoadFault::TooLong) => return Ok(put(out, TOO_LONG, Status::Unread, none)),
-        Err(LoadFault::Want) => return Err(AllocError),
-    };
-    match read_program(alloc, &text)? {
-        Told::Program(typed) => report(alloc, &typed, out, builtin),
+    match load_program(alloc, files, file.as_ref().map(|name| name.as_str()))? {
+        Told::Program(typed) => {
+            if is_companion(solver) {
+                report(alloc, &typed, out, solver, builtin)
+            } else {
+                report(alloc, &typed, out, solver, spawner)
+            }
+        }
         Told::Refused(line) => Ok(put(out, &line, Status::Refused, none)),
+        Told::Unread => Ok(put(out, UNREAD, Status::Unread, none)),
+        Told::TooLong => Ok(put(out, TOO_LONG, Status::Unread, none)),
     }
 }
 
 /// Does what the words say; the first is the program's name. All text goes to `out`, built whole before its first byte
-/// is put. No words name another solver than the companion yet, so no child process is started.
+/// is put. Children are started by `spawner`, or, where the solver is `builtin` or none is named, by `builtin`.
 pub fn run<F: Files, K: Sink, W: Spawner>(
     alloc: Global,
     words: &Parts,
     files: &mut F,
     out: &mut K,
-    _spawner: &mut W,
+    spawner: &mut W,
     builtin: &mut Builtin,
-) -> Ended {
+) -> Ended
+    ensures headline { (result.runs.items ≡ []) ⊎ ((order : meant.Order) × (order_of words.now ≡ Some order) × IsReportOf order (F.holds files.old)
+        (λ p. Headline p builtin.old.ended.items builtin.new.ended.items 0 0 result.runs.items)
+        (λ p. Headline p (W.ended spawner.old) (W.ended spawner.new) (W.faults spawner.old) (W.faults spawner.new) result.runs.items)) }
+{
     let none = Vec::new(alloc);
     let ended = match read_words(alloc, words) {
-        Ok(Order::Verify) => verify_input(alloc, files, out, builtin),
+        Ok(order) => verify_file(alloc, &order, files, out, spawner, builtin),
         Err(WordsFault::Usage) => return put(out, USAGE, Status::Usage, none),
         Err(WordsFault::Want) => Err(AllocError),
     };

@@ -1,3 +1,4 @@
 pub mod Table
+pub mod Solvers
 pub mod Orders
 pub mod Parses

@@ -1,8 +1,9 @@
 -- What the words of the command line mean.
-use Rattle.std.specs.Prelude.{◌≡◌, ◌==◌, List, [], ◌∷◌, length, Option, Some, None, Result, Ok, Err, codes, option_and_then, nat_le, if◌then◌else◌}
+use Rattle.std.specs.Prelude.{◌≡◌, ◌==◌, List, [], ◌∷◌, length, Option, Some, None, Result, Ok, Err, codes, option_and_then, unwrap_or, nat_le, if◌then◌else◌}
 use Rattle.std.specs.Str.{bytes_eq}
-use Rattle.clap.specs.Words.{Text, fault_of, subcommand_of}
+use Rattle.clap.specs.Words.{Row, Text, first_of, fault_of, subcommand_of}
 use Rattle.vx_words.specs.Table.{vsil_app}
+use Rattle.vx_words.specs.Solvers.{parts_in}
 use Rattle.vx_words.specs.declared.order.Order.{Order}
 use Rattle.vx_words.specs.declared.order.Order.TheVariants.{Verify}
 use Rattle.vx_words.specs.declared.order.WordsFault.{WordsFault}
@@ -12,14 +13,20 @@ use Rattle.vx_words.specs.declared.order.WordsFault.TheVariants.{Usage, Want}
 abbrev pub default_words : List Text → List Text
 default_words words = if nat_le (length words) 1 then (codes "vsil" ∷ codes "verify" ∷ []) else words
 
--- the order of a subcommand, by its name
-abbrev pub order_from : Text → Option Order
-order_from name = if bytes_eq name (codes "verify") then Some Verify else None
+-- FILE, and the parts of the solver's TEXT, of which there must be one
+abbrev pub verify_in : List Row → Option Order
+verify_in rows =
+    let solver = parts_in (unwrap_or (first_of (codes "solver") rows) (codes "builtin")) in
+    if length solver == 0 then None else Some (Verify (first_of (codes "file") rows) solver)
+
+-- the order of a subcommand, by its name and its matches
+abbrev pub order_from : Text → List Row → Option Order
+order_from name rows = if bytes_eq name (codes "verify") then verify_in rows else None
 
 -- what the words mean, if the table takes them
 abbrev pub order_of_words : List Text → Option Order
 order_of_words words =
-    if length (fault_of vsil_app words) == 0 then option_and_then (λ p. order_from p.0) (subcommand_of vsil_app words) else None
+    if length (fault_of vsil_app words) == 0 then option_and_then (λ p. order_from p.0 p.1) (subcommand_of vsil_app words) else None
 
 -- the first word is the program's name
 abbrev pub order_of : List Text → Option Order

@@ -1,9 +1,26 @@
 -- The table of commands, as what a parse reads of it.
-use Rattle.std.specs.Prelude.{true, codes}
-use Rattle.clap.specs.Words.{App, Shape, new_app, with_subcommand}
+use Rattle.std.specs.Prelude.{List, [], ◌∷◌, Some, true, codes}
+use Rattle.clap.specs.Words.{App, Rule, Shape, Text, new_app, new_rule, with_rule, with_subcommand}
+use Rattle.clap.specs.declared.builder.action.ArgAction.TheVariants.{Set}
+
+-- FILE
+abbrev pub plain_rule : Text → Rule
+plain_rule id = record (new_rule id) { action = Some Set }
+
+-- `--name VALUE`
+abbrev pub option_rule : Text → Rule
+option_rule id = record (new_rule id) { long = Some id; action = Some Set }
+
+-- a subcommand with these arguments
+abbrev pub with_rules : App → List Rule → App
+with_rules app [] = app
+with_rules app (rule ∷ rules) = with_rules (with_rule app rule) rules
+
+abbrev pub command : Text → List Rule → Shape
+command name rules = (with_rules (new_app name) rules).top
 
 abbrev pub verify_shape : Shape
-verify_shape = (new_app (codes "verify")).top
+verify_shape = command (codes "verify") (plain_rule (codes "file") ∷ option_rule (codes "solver") ∷ [])
 
 -- the program: a command is wanted, and there is no help and no version
 abbrev pub top_app : App

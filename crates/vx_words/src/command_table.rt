@@ -1,17 +1,32 @@
 // The table of commands, as it is given to the parser.
-ghost use Rattle.std.specs.Prelude.{◌≡◌, IfOk, false};
-ghost use Rattle.clap.specs.Words.{app_of, shape_of, with_subcommand};
+ghost use Rattle.std.specs.Prelude.{◌≡◌, IfOk, false, codes};
+ghost use Rattle.clap.specs.Words.{rule_of, app_of, shape_of, with_subcommand};
 ghost use Rattle.clap.specs.declared.builder.command.Command.TheViews.{out-Command as fields_of};
-ghost use Rattle.vx_words.specs.Table.{verify_shape, top_app, vsil_app};
+ghost use Rattle.vx_words.specs.Table.{plain_rule, option_rule, verify_shape, top_app, vsil_app};
 
-use clap::Command;
+use clap::{Arg, ArgAction, Command};
 use std::alloc::{AllocError, Global};
 
-fn verify<'a>(alloc: Global) -> Command<'a>
-    ensures shape { shape_of result ≡ verify_shape }
-    ensures local { (fields_of result).has_globals ≡ false }
+fn plain<'a>(alloc: Global, id: &'a str) -> Arg<'a>
+    ensures rule { rule_of result ≡ plain_rule id.entry.now }
+    ensures local { result.global ≡ false }
+{
+    Arg::new(alloc, id).action(ArgAction::Set)
+}
+
+fn option<'a>(alloc: Global, id: &'a str) -> Arg<'a>
+    ensures rule { rule_of result ≡ option_rule id.entry.now }
+    ensures local { result.global ≡ false }
+{
+    Arg::new(alloc, id).long(id).action(ArgAction::Set)
+}
+
+fn verify<'a>(alloc: Global) -> Result<Command<'a>, AllocError>
+    ensures { IfOk result (λ c. (shape_of c ≡ verify_shape) × ((fields_of c).has_globals ≡ false)) }
 {
     Command::new(alloc, "verify")
+        .arg(plain(alloc, "file"))?
+        .arg(option(alloc, "solver"))
 }
 
 // The program without its commands.
@@ -37,5 +52,5 @@ fn with<'a>(whole: Command<'a>, part: Command<'a>) -> Result<Command<'a>, AllocE
 pub fn table<'a>(alloc: Global) -> Result<Command<'a>, AllocError>
     ensures { IfOk result (λ c. app_of c ≡ vsil_app) }
 {
-    with(top(alloc), verify(alloc))
+    with(top(alloc), verify(alloc)?)
 }

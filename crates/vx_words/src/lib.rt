@@ -3,9 +3,13 @@
 
 mod command_table;
 mod order;
+mod reading;
+mod solver;
+mod text;
 mod words;
 
 pub use order::{Order, WordsFault};
+pub use text::Text;
 pub use words::read_words;
 
 #[cfg(test)]

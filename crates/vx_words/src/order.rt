@@ -1,14 +1,16 @@
 // What the program is asked to do.
 ghost use Rattle.std.specs.Prelude.{◌≡◌};
 
+use crate::Text;
 use std::alloc::AllocError;
 use thiserror::Error;
+use vx_ends::Parts;
 
 /// What the program is asked to do.
-#[derive(Clone, Copy, Debug, PartialEq, Eq)]
+#[derive(Drop)]
 pub enum Order {
-    /// Verify standard input by the companion.
-    Verify,
+    /// Verify a file, or standard input where there is no name, by a solver: `builtin` alone is the companion.
+    Verify { file: Option<Text>, solver: Parts },
 }
 
 /// Why the words give no order.

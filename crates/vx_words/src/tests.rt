@@ -1,50 +1,90 @@
 use crate::{Order, WordsFault, read_words};
 use std::alloc::Global;
+use std::process::Abort;
 use std::test::Fail;
 use vx_ends::Parts;
 
-fn words(alloc: Global, all: &[&str]) -> Result<Parts, Fail> {
-    let mut parts = Parts::new(alloc);
+fn order(alloc: Global, all: &[&str]) -> Result<Result<Order, WordsFault>, Fail> {
+    let mut words = Parts::new(alloc);
     for word in all {
-        parts.push(alloc, word)?;
+        words.push(alloc, word)?;
     }
-    Ok(parts)
+    Ok(read_words(alloc, &words))
+}
+
+// The words mean this file, and a solver of so many parts, the last of which is this.
+fn mean(
+    rt: &impl Abort,
+    alloc: Global,
+    all: &[&str],
+    file: Option<&str>,
+    parts: usize,
+    last: &str,
+) -> Result<(), Fail> {
+    let Order::Verify { file: name, solver } = order(alloc, all)??;
+    assert_eq!(rt; name.as_ref().map(|n| n.as_str()), file);
+    assert!(rt; parts > 0);
+    assert_eq!(rt; solver.len(), parts);
+    assert_eq!(rt; solver.part(parts - 1), last);
+    Ok(())
 }
 
 #[test]
 fn no_words_verify(rt: HostRuntime) -> Result<(), Fail> {
     let alloc = rt.alloc();
-    assert_eq!(&rt; read_words(alloc, &words(alloc, &[])?), Ok(Order::Verify));
-    assert_eq!(&rt;
-        read_words(alloc, &words(alloc, &["vsil"])?),
-        Ok(Order::Verify)
-    );
-    assert_eq!(&rt;
-        read_words(alloc, &words(alloc, &["vsil", "verify"])?),
-        Ok(Order::Verify)
-    );
-    Ok(())
+    mean(&rt, alloc, &[], None, 1, "builtin")?;
+    mean(&rt, alloc, &["vsil"], None, 1, "builtin")?;
+    mean(&rt, alloc, &["vsil", "verify"], None, 1, "builtin")
+}
+
+#[test]
+fn a_file_and_a_solver_are_read(rt: HostRuntime) -> Result<(), Fail> {
+    let alloc = rt.alloc();
+    mean(
+        &rt,
+        alloc,
+        &["vsil", "verify", "f"],
+        Some("f"),
+        1,
+        "builtin",
+    )?;
+    mean(
+        &rt,
+        alloc,
+        &["vsil", "verify", "--solver", "z3  -in ", "f"],
+        Some("f"),
+        2,
+        "-in",
+    )?;
+    mean(
+        &rt,
+        alloc,
+        &["vsil", "verify", "--solver=cat"],
+        None,
+        1,
+        "cat",
+    )
 }
 
 #[test]
 fn other_words_are_refused(rt: HostRuntime) -> Result<(), Fail> {
-    let alloc = rt.alloc();
-    let usage = Err(WordsFault::Usage);
-    assert_eq!(&rt;
-        read_words(alloc, &words(alloc, &["vsil", "verify", "a", "b"])?),
-        usage
-    );
-    assert_eq!(&rt;
-        read_words(alloc, &words(alloc, &["vsil", "verify", "--jobs", "17"])?),
-        usage
-    );
-    assert_eq!(&rt;
-        read_words(alloc, &words(alloc, &["vsil", "nosuch"])?),
-        usage
-    );
-    assert_eq!(&rt;
-        read_words(alloc, &words(alloc, &["vsil", "--help"])?),
-        usage
-    );
+    let rows = [
+        ["vsil", "nosuch", "", ""].as_slice(),
+        &["vsil", "--help"],
+        &["vsil", "verify", "a", "b"],
+        &["vsil", "verify", "--jobs", "17"],
+        &["vsil", "verify", "--certify"],
+        &["vsil", "verify", "--solver"],
+        &["vsil", "verify", "--solver", " "],
+        &["vsil", "verify", "--solver", "a", "--solver", "b"],
+        &["vsil", "check"],
+        &["vsil", "print", "f"],
+    ];
+    for row in rows {
+        match order(rt.alloc(), row)? {
+            Ok(_) => assert!(rt; false),
+            Err(fault) => assert_eq!(rt; fault, WordsFault::Usage),
+        }
+    }
     Ok(())
 }

@@ -1,10 +1,11 @@
 // The order that the words give.
 ghost use Rattle.std.specs.Prelude.{◌≡◌, ◌⊎◌, IfOk, map, string_bytes};
-ghost use Rattle.vx_words.specs.Orders.{default_words, order_from, order_of_words, order_of, ReadsAs};
+ghost use Rattle.vx_words.specs.Orders.{default_words, order_of_words, order_of as meaning_of, ReadsAs};
 ghost use Rattle.vx_words.specs.Parses.{Parses};
 ghost use Rattle.clap.specs.Words.{kind_of};
 
 use crate::command_table::table;
+use crate::reading::order_of;
 use crate::{Order, WordsFault};
 use clap::error::ErrorKind;
 use clap::{ArgMatches, Error};
@@ -45,31 +46,20 @@ fn parse<'a>(alloc: Global, words: &'a [String]) -> Result<ArgMatches<'a>, Words
     }
 }
 
-// The order of a command's name.
-fn order_named(name: &str) -> Result<Order, WordsFault>
-    ensures { ReadsAs (order_from name.now) result }
-{
-    if name == "verify" {
-        Ok(Order::Verify)
-    } else {
-        Err(WordsFault::Usage)
-    }
-}
-
 // The order of words that name a command.
 fn read_texts(alloc: Global, words: &[String]) -> Result<Order, WordsFault>
     ensures { ReadsAs (order_of_words (map string_bytes words.now)) result }
 {
     let matches = parse(alloc, words)?;
     match matches.subcommand() {
-        Some((name, _)) => order_named(name),
+        Some((name, inner)) => order_of(alloc, name, inner),
         None => Err(WordsFault::Usage),
     }
 }
 
 /// What the words of the command line mean; the first is the program's name.
 pub fn read_words(alloc: Global, words: &Parts) -> Result<Order, WordsFault>
-    ensures { ReadsAs (order_of words.now) result }
+    ensures { ReadsAs (meaning_of words.now) result }
 {
     let filled = with_default(alloc, words)?;
     read_texts(alloc, filled.texts())

@@ -1,4 +1,5 @@
 use Rattle.vx_examples.proofs.Compounds.{iterations_end, iterations_stop, iterations_unkept_fails, iterations_wrong_fails, iterations_wrong_never_ends, iterations_unread_fails}
+use Rattle.vx_examples.proofs.Kept.{iterations_never_fail}
 use Rattle.vx_examples.proofs.compound.iterations.Goals as goal
 
 pub returns-clause-end : goal.returns-clause-end
@@ -6,6 +7,9 @@ returns-clause-end c = iterations_end
 
 pub returns-clause-stop : goal.returns-clause-stop
 returns-clause-stop c = iterations_stop
+
+pub returns-clause-never_fail : goal.returns-clause-never_fail
+returns-clause-never_fail c = iterations_never_fail
 
 pub returns-clause-unkept_fails : goal.returns-clause-unkept_fails
 returns-clause-unkept_fails c = iterations_unkept_fails

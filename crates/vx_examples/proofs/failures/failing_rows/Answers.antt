@@ -1,8 +1,12 @@
 use Rattle.vx_examples.proofs.Rows.{failing_rows_exhaled_twice, failing_rows_maybe_same, failing_rows_forgotten, failing_rows_half_write, failing_rows_counting, failing_rows_called, failing_rows_applied, failing_rows_folded, failing_rows_unframed, failing_rows_rising}
+use Rattle.vx_examples.proofs.Halves.{failing_rows_two_halves}
 use Rattle.vx_examples.proofs.failures.failing_rows.Goals as goal
 
 pub returns-clause-exhaled_twice : goal.returns-clause-exhaled_twice
 returns-clause-exhaled_twice c = failing_rows_exhaled_twice
+
+pub returns-clause-two_halves : goal.returns-clause-two_halves
+returns-clause-two_halves c = failing_rows_two_halves
 
 pub returns-clause-maybe_same : goal.returns-clause-maybe_same
 returns-clause-maybe_same c = failing_rows_maybe_same

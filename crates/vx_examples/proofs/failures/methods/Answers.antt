@@ -1,4 +1,5 @@
 use Rattle.vx_examples.proofs.Members.{methods_precondition, methods_postcondition_unframed, methods_body, methods_postcondition}
+use Rattle.vx_examples.proofs.Kept.{methods_idle}
 use Rattle.vx_examples.proofs.failures.methods.Goals as goal
 
 pub returns-clause-precondition : goal.returns-clause-precondition
@@ -12,3 +13,6 @@ returns-clause-body c = methods_body
 
 pub returns-clause-postcondition : goal.returns-clause-postcondition
 returns-clause-postcondition c = methods_postcondition
+
+pub returns-clause-idle : goal.returns-clause-idle
+returns-clause-idle c = methods_idle

@@ -1,10 +1,23 @@
+use Rattle.std.proofs.Common.{◌≡◌, ◌+◌, ◌*◌, ◌≤◌, length}
 use Rattle.vx_types.specs.Settled.{settled}
+use Rattle.vx_ends.specs.declared.piece.Start.{Start}
 use Rattle.vx_report.specs.Reports.{AreNamed}
-use Rattle.vx_verifier.specs.Lanes.{IsHeld}
+use Rattle.vx_verifier.specs.Lanes.{IsHeld, links, Starts, Later, Executes}
 use Rattle.vx_verifier.proofs.execute.execute_all.Given as goal
 
 abbrev pub invariant-loop-number : goal.invariant-loop-number
-invariant-loop-number g l = record {
-  held : IsHeld l.lane.child (g.W.Spawner.owed l.spawner 0);
-  named : AreNamed (settled l.typed) l.runs.items;
-}
+invariant-loop-number g l =
+    let w = g.W.Spawner in
+    let start : Start = record { lane = 0; command = l.command } in
+    record {
+      held : IsHeld l.lane.child (w.owed l.spawner 0);
+      owed : w.owed l.spawner 0 ≡ w.owed l.fn.spawner 0 + links l.lane.child;
+      named : AreNamed (settled l.typed) l.runs.items;
+      each : length l.runs.items ≡ l.number;
+      few : l.lane.checks ≤ 100000 * l.number;
+      told : Executes g.W.Link.Link.dialogue (settled l.typed) (w.ended l.fn.spawner) (w.ended l.spawner) (w.faults l.fn.spawner) (w.faults l.spawner)
+          l.lane.child l.lane.checks l.runs.items;
+      starts : Starts (w.starts l.fn.spawner) (w.starts l.spawner) start l.lane.child;
+      faults : w.faults l.fn.spawner ≤ w.faults l.spawner;
+      later : Later (w.ended l.fn.spawner) (w.ended l.spawner);
+    }

@@ -1,14 +1,29 @@
-use Rattle.std.proofs.Common.{◌≡◌, ◌-◌, length}
+use Rattle.std.proofs.Common.{◌≡◌, ◌+◌, ◌-◌, ◌≤◌, ◌++◌, List, length}
 use Rattle.vx_types.specs.Settled.{settled}
-use Rattle.vx_verifier.specs.Lanes.{IsHeld, IsRunning}
+use Rattle.vx_ends.specs.declared.piece.Start.{Start}
+use Rattle.vx_ends.specs.declared.piece.Ending.{Ending}
+use Rattle.vx_smt_meaning.specs.Dialogues.{Check}
+use Rattle.vx_verifier.specs.Lanes.{IsHeld, IsRunning, links, is_lost, Hears, Starts, Later, AreAsked}
 use Rattle.vx_verifier.proofs.execute.judge.Given as goal
 
 abbrev pub invariant-questions : goal.invariant-questions
-invariant-questions g l = record {
-  held : IsHeld l.child (g.W.Spawner.owed l.spawner 0);
-  running : IsRunning (settled l.typed) l.running.machine l.running.ask;
-  checks : l.checks ≡ length l.running.machine.replies.items;
-}
+invariant-questions g l =
+    let w = g.W.Spawner in
+    let dialogue = g.W.Link.Link.dialogue in
+    let start : Start = record { lane = 0; command = l.command } in
+    record {
+      held : IsHeld l.child (w.owed l.spawner 0);
+      owed : w.owed l.spawner 0 + links l.fn.child ≡ w.owed l.fn.spawner 0 + links l.child;
+      running : IsRunning (settled l.typed) l.fn.member.0 l.running.machine l.running.ask;
+      checks : l.checks ≡ length l.running.machine.replies.items;
+      few : l.checks ≤ 100000;
+      told : (before : List Ending) (checks : List Check) → Hears dialogue before (w.ended l.fn.spawner) l.fn.child checks
+          → (own : List Check) × Hears dialogue before (w.ended l.spawner) l.child (checks ++ own) × AreAsked (settled l.typed) l.running.machine own;
+      lost : is_lost l.child ≡ is_lost l.fn.child;
+      starts : (before : List Start) → Starts before (w.starts l.fn.spawner) start l.fn.child → Starts before (w.starts l.spawner) start l.child;
+      faults : w.faults l.fn.spawner ≤ w.faults l.spawner;
+      later : Later (w.ended l.fn.spawner) (w.ended l.spawner);
+    }
 
 abbrev pub decreases-questions : goal.decreases-questions
 decreases-questions g l = 100001 - length l.running.machine.replies.items

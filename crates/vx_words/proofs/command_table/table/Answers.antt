@@ -6,4 +6,4 @@ use Rattle.vx_words.proofs.command_table.table.Goals as goal
 
 pub returns : goal.returns
 unfolding vsil_app
-returns c = IfOk-weaker c.with.result _ _ (λ m h. h ∙ ap₂ with_subcommand c.top.ensures c.verify.ensures.shape) c.with.ensures
+returns c = IfOk-weaker c.with.result _ _ (λ m h. h ∙ ap₂ with_subcommand c.top.ensures c.in_ok-verify.ensures.0) c.with.ensures

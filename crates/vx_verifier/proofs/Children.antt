@@ -1,0 +1,165 @@
+-- How the checks of a lane's child are heard, from one call to the next.
+use Rattle.std.proofs.Common.{Bool, true, Result, Ok, Err, IfOk, IfErr, ◌≡◌, ◌⊎◌, ℕ, ◌+◌, ◌<◌, ◌≤◌, false, ◌++◌, ◌∷◌, [], List, refl, ap, ◌∙◌, sym, subst, inl, inr, append_assoc, arith}
+use Rattle.vx_ends.specs.declared.piece.Piece.{Piece}
+use Rattle.vx_ends.specs.declared.piece.Ending.{Ending}
+use Rattle.vx_ends.specs.declared.piece.Start.{Start}
+use Rattle.vx_ends.specs.Causes.{Rose}
+use Rattle.vx_ends.specs.Dialogue.{got, Begins, Grows}
+use Rattle.vx_smt_meaning.specs.Commands.{Command, Level}
+use Rattle.vx_smt_meaning.specs.Dialogues.{Check}
+use Rattle.vx_smt_meaning.specs.declared.reply.Reply.{Reply}
+use Rattle.vx_dialogue.specs.declared.dialogue.Dialogue.{Dialogue}
+use Rattle.vx_dialogue.specs.declared.talk.Talk.{Talk}
+use Rattle.vx_dialogue.specs.declared.talk.Talk.TheVariants as talk
+use Rattle.vx_dialogue.specs.Dialogue.{Stands, link_of, check_of}
+use Rattle.vx_dialogue.specs.Stops.{Explains}
+use Rattle.vx_dialogue.specs.History.{Tells}
+use Rattle.vx_dialogue.proofs.Joined.{append_none}
+use Rattle.vx_dialogue.proofs.History.{tells_none, standing_tells, tells_on}
+use Rattle.vx_rules.specs.Trees.{Question}
+use Rattle.vx_report.specs.declared.run.Cause.{Cause}
+use Rattle.vx_report.specs.declared.run.Cause.TheVariants as cause
+use Rattle.vx_verifier.specs.declared.lane.Trouble.{Trouble}
+use Rattle.vx_verifier.specs.declared.lane.Trouble.TheVariants as trouble
+use Rattle.vx_verifier.specs.declared.lane.Child.{Child}
+use Rattle.vx_verifier.specs.declared.lane.Child.TheVariants.{NotStarted, Talking, Lost}
+use Rattle.vx_terms.specs.Terms.{Term}
+use Rattle.vx_verifier.specs.Sequences.{IsCheckOf}
+use Rattle.vx_verifier.specs.Headline.{HasCauseOf, IsRecorded}
+use Rattle.vx_verifier.specs.Lanes.{Hears, HearsOf, IsCausedBy, trouble_of, Handed, Later, is_lost}
+use Rattle.vx_verifier.proofs.Sequences.{check_is}
+
+pub begins_itself : (xs : List Piece) → Begins xs xs
+begins_itself xs = record { rest = []; is = sym (append_none xs) }
+
+pub handed_itself : (xs : List Ending) → Handed xs xs
+handed_itself xs = record { more = []; is = sym (append_none xs) }
+
+pub later_same : (old new : List Ending) → new ≡ old → Later old new
+later_same old new same = λ front handed. record { more = handed.more; is = same ∙ handed.is }
+
+pub later_by_one : (old new : List Ending) (e : Ending) → new ≡ old ++ e ∷ [] → Later old new
+later_by_one old new e is = λ front handed. record {
+  more = handed.more ++ e ∷ [];
+  is = is ∙ (ap (λ x. x ++ e ∷ []) handed.is ∙ append_assoc front handed.more (e ∷ []));
+}
+
+pub above_none : (f g : ℕ) → Rose f g → 0 < g
+above_none f g rose = omega arith
+
+module _ {L : Type 0} (dialogue : L → List Piece) (before : List Ending) where
+  -- the child is started, and its preamble is said
+  pub talks : (old new : List Ending) (d : Dialogue L) (checks : List Check) (base : List Level) (commands : List Command) → Stands dialogue base d commands []
+      → new ≡ old → Hears dialogue before old NotStarted checks → Hears dialogue before new (Talking d) checks
+  talks old new d checks base commands stands same heard =
+      (same ∙ heard.0, base, commands, subst (λ x. Stands dialogue base d commands x) (sym heard.1) stands)
+
+  -- no child is started
+  pub not_started : (old new : List Ending) (checks : List Check) → new ≡ old → Hears dialogue before old NotStarted checks → IsRecorded before new checks
+  not_started old new checks same heard = inl (same ∙ heard.0, heard.1)
+
+  -- its preamble fails
+  pub not_opened : (old new : List Ending) (e : Ending) (checks : List Check) → new ≡ old ++ e ∷ [] → e.lane ≡ 0 → Hears dialogue before old NotStarted checks → IsRecorded before new checks
+  not_opened old new e checks is lane heard =
+      inr (e, is ∙ ap (λ x. x ++ e ∷ []) heard.0, lane, subst (λ x. Tells e.dialogue x) (sym heard.1) (tells_none e.dialogue))
+
+  -- a question is answered
+  pub answered : (old new : List Ending) (d d' : Dialogue L) (q : Question) (path : List Term) (r : Reply) (after : List Command → List Command) → path ≡ q.path
+      → ((base : List Level) (commands : List Command) (checks : List Check) → Stands dialogue base d commands checks
+      → Stands dialogue base d' (after commands) (checks ++ check_of base path q.condition r ∷ []))
+      → new ≡ old → (checks : List Check) → Hears dialogue before old (Talking d) checks → HearsOf dialogue before new (Talking d') checks q r
+  answered old new d d' q path r after is step same checks heard = (
+    check_of heard.1 path q.condition r,
+    (same ∙ heard.0, heard.1, after heard.2, step heard.1 heard.2 checks heard.3),
+    subst (λ x. IsCheckOf (record { question = q; reply = r }) (check_of heard.1 x q.condition r)) (sym is) (check_is heard.1 q r),
+  )
+
+  -- the member is left
+  pub left : (old new : List Ending) (child : Child L) (d d' : Dialogue L) (after : List Command → List Command) → child ≡ Talking d
+      → ((base : List Level) (commands : List Command) (checks : List Check) → Stands dialogue base d commands checks → Stands dialogue base d' (after commands) checks)
+      → new ≡ old → (checks : List Check) → Hears dialogue before old child checks → Hears dialogue before new (Talking d') checks
+  left old new child d d' after is step same checks heard =
+      let h = subst (λ (x : Child L). Hears dialogue before old x checks) is heard in
+      (same ∙ h.0, h.1, after h.2, step h.1 h.2 checks h.3)
+
+  -- a link is handed back
+  pub recorded : (old new : List Ending) (d : Dialogue L) (e : Ending) (checks : List Check) → new ≡ old ++ e ∷ [] → e.lane ≡ 0
+      → Grows (dialogue (link_of d)) e.dialogue → Hears dialogue before old (Talking d) checks → IsRecorded before new checks
+  recorded old new d e checks is lane grows heard =
+      inr (
+        e,
+        is ∙ ap (λ x. x ++ e ∷ []) heard.0,
+        lane,
+        tells_on (dialogue (link_of d)) e.dialogue checks (grows (dialogue (link_of d)) (begins_itself (dialogue (link_of d)))) (standing_tells dialogue heard.1 d heard.2 checks heard.3),
+      )
+
+  -- why no reply came
+  talk_causes : (new : List Ending) (f g : ℕ) (t : Talk) (e : Ending) (commands : List Command) → new ≡ before ++ e ∷ []
+      → Explains t (got e.dialogue) commands → (t ≡ talk.Pipe → 0 < e.faults) → (t ≡ talk.Closed → ⊥) → IsCausedBy (HasCauseOf before new f g false) (trouble_of t)
+  talk_causes new f g talk.Pipe e commands is explained rose shut = (refl, (e, [], is, rose refl))
+  talk_causes new f g (talk.Garbled kept) e commands is explained rose shut = (refl, (e, [], is, (commands, inl explained)))
+  talk_causes new f g (talk.Refused kept) e commands is explained rose shut = (refl, (e, [], is, (commands, inr explained)))
+  talk_causes new f g talk.Want e commands is explained rose shut = tt
+  talk_causes new f g talk.Closed e commands is explained rose shut = absurd (shut refl)
+
+  -- a question has no reply, and the link is handed back
+  pub lost_by : (faults : L → ℕ) (old new : List Ending) (f g : ℕ) (d d' : Dialogue L) (link : L) (t : Talk) (commands : List Command) (checks : List Check) (before_faults : ℕ)
+      → new ≡ old ++ record { lane = 0; dialogue = dialogue link; faults = faults link } ∷ [] → link ≡ link_of d' → Grows (dialogue (link_of d)) (dialogue (link_of d'))
+      → Explains t (got (dialogue (link_of d'))) commands → (t ≡ talk.Pipe → Rose before_faults (faults (link_of d'))) → (t ≡ talk.Closed → ⊥)
+      → Hears dialogue before old (Talking d) checks → IsRecorded before new checks × IsCausedBy (HasCauseOf before new f g false) (trouble_of t)
+  lost_by faults old new f g d d' link t commands checks before_faults is same grows explained rose shut heard =
+      let e : Ending = record { lane = 0; dialogue = dialogue link; faults = faults link } in
+      let grows_on : Grows (dialogue (link_of d)) (dialogue link) = subst (λ x. Grows (dialogue (link_of d)) (dialogue x)) (sym same) grows in
+      let explained_on : Explains t (got (dialogue link)) commands = subst (λ x. Explains t (got (dialogue x)) commands) (sym same) explained in
+      let rose_on : t ≡ talk.Pipe → 0 < faults link = λ h. subst (λ x. 0 < faults x) (sym same) (above_none before_faults _ (rose h)) in (
+        recorded old new d e checks is refl grows_on heard,
+        talk_causes new f g t e commands (is ∙ ap (λ x. x ++ e ∷ []) heard.0) explained_on rose_on shut,
+      )
+
+  -- the preamble fails, and the link is handed back
+  pub not_opened_by : (faults : L → ℕ) (old new : List Ending) (f g : ℕ) (link : L) (t : Talk) (commands : List Command) (checks : List Check) (before_faults : ℕ)
+      → new ≡ old ++ record { lane = 0; dialogue = dialogue link; faults = faults link } ∷ []
+      → Explains t (got (dialogue link)) commands → (t ≡ talk.Pipe → Rose before_faults (faults link)) → (t ≡ talk.Closed → ⊥)
+      → Hears dialogue before old NotStarted checks → IsRecorded before new checks × IsCausedBy (HasCauseOf before new f g false) (trouble_of t)
+  not_opened_by faults old new f g link t commands checks before_faults is explained rose shut heard =
+      let e : Ending = record { lane = 0; dialogue = dialogue link; faults = faults link } in
+      let rose_on : t ≡ talk.Pipe → 0 < faults link = λ h. above_none before_faults (faults link) (rose h) in (
+        not_opened old new e checks is refl heard,
+        talk_causes new f g t e commands (is ∙ ap (λ x. x ++ e ∷ []) heard.0) explained rose_on shut,
+      )
+
+  pub at_child : (old : List Ending) (a b : Child L) → a ≡ b → (checks : List Check) → Hears dialogue before old a checks → Hears dialogue before old b checks
+  at_child old a b same checks heard = subst (λ (x : Child L). Hears dialogue before old x checks) same heard
+
+pub lost_hears : {L : Type 0} (dialogue : L → List Piece) (before now : List Ending) (child : Child L) (checks : List Check) → is_lost child ≡ true
+    → IsRecorded before now checks → Hears dialogue before now child checks
+lost_hears dialogue before now Lost checks lost heard = heard
+lost_hears dialogue before now NotStarted checks lost heard = cc
+lost_hears dialogue before now (Talking d) checks lost heard = cc
+
+pub if_ok_at : {T E : Type 0} (r : Result T E) (P : T → Type 0) (x : T) → IfOk r P → r ≡ Ok x → P x
+if_ok_at r P x h is = subst (λ y. IfOk y P) is h
+
+pub if_err_at : {T E : Type 0} (r : Result T E) (P : E → Type 0) (x : E) → IfErr r P → r ≡ Err x → P x
+if_err_at r P x h is = subst (λ y. IfErr y P) is h
+
+pub if_err_map : {T E : Type 0} (r : Result T E) (P Q : E → Type 0) → ((e : E) → P e → Q e) → IfErr r P → IfErr r Q
+if_err_map (Ok x) P Q f h = h
+if_err_map (Err e) P Q f h = f e h
+
+-- Causes in a longer time.
+
+rose_earlier : (a b c : ℕ) → Rose b c → a ≤ b → Rose a c
+rose_earlier a b c rose earlier = omega arith
+
+pub cause_earlier : (before now : List Ending) (f g h : ℕ) → f ≤ g → (lost other : Bool) → lost ≡ other → (x : Cause)
+    → HasCauseOf before now g h lost x → HasCauseOf before now f h other x
+cause_earlier before now f g h earlier lost other same cause.Pipe has = (sym same ∙ has.0, has.1)
+cause_earlier before now f g h earlier lost other same cause.Start has = (sym same ∙ has.0, rose_earlier f g h has.1 earlier)
+cause_earlier before now f g h earlier lost other same cause.Spent has = sym same ∙ has
+cause_earlier before now f g h earlier lost other same (cause.Reply kept) has = (sym same ∙ has.0, has.1)
+
+pub caused_earlier : (before now : List Ending) (f g h : ℕ) → f ≤ g → (lost other : Bool) → lost ≡ other → (t : Trouble)
+    → IsCausedBy (HasCauseOf before now g h lost) t → IsCausedBy (HasCauseOf before now f h other) t
+caused_earlier before now f g h earlier lost other same (trouble.Fault x) has = cause_earlier before now f g h earlier lost other same x has
+caused_earlier before now f g h earlier lost other same trouble.Want has = has

@@ -1,0 +1,7 @@
+mod Walks
+mod Sequences
+mod Runs
+mod Children
+mod Members
+mod Questions
+mod Covered

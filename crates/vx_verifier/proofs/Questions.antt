@@ -1,0 +1,145 @@
+-- A member's questions, one by one, and its verdict at the end.
+use Rattle.std.proofs.Common.{◌≡◌, ℕ, ◌+◌, ◌++◌, ◌∷◌, [], List, length, map, refl, ap, ◌∙◌, sym, subst, append_assoc, arith}
+use Rattle.vx_ast.specs.Syntax.{Program}
+use Rattle.vx_smt_meaning.specs.Dialogues.{Check}
+use Rattle.vx_report.specs.declared.run.Cause.{Cause}
+use Rattle.vx_report.specs.declared.run.Verdict.{Verdict}
+use Rattle.vx_report.specs.declared.run.Verdict.TheVariants as verdict
+use Rattle.vx_rules.specs.declared.question.Query.{Query}
+use Rattle.vx_smt_meaning.specs.declared.reply.Reply.{Reply}
+use Rattle.vx_rules.specs.Trees.{Question, Answered, Passed, Open, Ending, Walked, walk}
+use Rattle.vx_rules.specs.Stack.{query}
+use Rattle.vx_machine.specs.declared.machine.Machine.{Machine}
+use Rattle.vx_machine.specs.declared.machine.Ask.TheVariants.{Check as Due, Done}
+use Rattle.vx_machine.specs.declared.machine.Outcome.{Outcome}
+use Rattle.vx_machine.specs.declared.machine.Outcome.TheVariants as outcome
+use Rattle.vx_machine.specs.Runs.{Told, EachAnswered, given, member_tree}
+use Rattle.vx_verifier.specs.Sequences.{IsCheckOf, AreChecksOf, replies_to}
+use Rattle.vx_verifier.specs.Headline.{IsVerdictOf, IsTold}
+use Rattle.vx_ends.specs.declared.piece.Piece.{Piece}
+use Rattle.vx_ends.specs.declared.piece.Ending.{Ending as Ended}
+use Rattle.vx_machine.specs.declared.machine.Ask.{Ask}
+use Rattle.vx_verifier.specs.declared.lane.Child.{Child}
+use Rattle.vx_verifier.specs.declared.lane.Trouble.{Trouble}
+use Rattle.vx_verifier.specs.declared.lane.Trouble.TheVariants as trouble
+use Rattle.vx_verifier.specs.Lanes.{AreAsked, verdict_of, Hears, HearsOf, IsRunning, IsFaultOf, IsCausedBy, Judges}
+use Rattle.vx_verifier.proofs.Walks.{walk_extends}
+use Rattle.vx_verifier.proofs.Sequences.{checks_more, replies_more, never_fails}
+
+map_length : {A B : Type 0} (f : A → B) (xs : List A) → length (map f xs) ≡ length xs
+map_length f [] = refl
+map_length f (x ∷ xs) = let h = map_length f xs in omega arith
+
+pub none_asked : (p : Program) (m : Machine) → m.replies.items ≡ [] → AreAsked p m []
+none_asked p m none =
+    let given_none : given m ≡ [] = none in
+    record {
+      replies = sym given_none;
+      checks = subst (λ rs. AreChecksOf (walk (member_tree p m.member.0) rs).answered []) (sym given_none)
+          (subst (λ as'. AreChecksOf as' []) (sym (walk_extends (member_tree p m.member.0)).none) tt);
+    }
+
+pub one_asked : (p : Program) (m m' : Machine) (q : Query) (r : Reply) (own : List Check) (c : Check)
+    → m'.member.0 ≡ m.member.0 → m'.replies.items ≡ m.replies.items ++ r ∷ []
+    → (walk (member_tree p m.member.0) (given m)).ending ≡ Open (query q)
+    → AreAsked p m own → IsCheckOf (record { question = query q; reply = r }) c → AreAsked p m' (own ++ c ∷ [])
+one_asked p m m' q r own c member replies due so_far this =
+    let t = member_tree p m.member.0 in
+    let given_is : given m' ≡ given m ++ r ∷ [] = replies in
+    let answered = (walk_extends t).one_more (query q) (given m) r due in
+    let at_old : AreChecksOf (walk t (given m ++ r ∷ [])).answered (own ++ c ∷ []) =
+    subst (λ as'. AreChecksOf as' (own ++ c ∷ [])) (sym answered) (checks_more (walk t (given m)).answered own _ c so_far.checks this) in
+    let at_new : AreChecksOf (walk t (given m')).answered (own ++ c ∷ []) = subst (λ rs. AreChecksOf (walk t rs).answered (own ++ c ∷ [])) (sym given_is) at_old in
+    record {
+      replies = replies_more own c r this.reply ∙ (ap (λ x. x ++ r ∷ []) so_far.replies ∙ sym given_is);
+      checks = subst (λ n. AreChecksOf (walk (member_tree p n) (given m')).answered (own ++ c ∷ [])) (sym member) at_new;
+    }
+
+same_length : (as' : List Answered) (cs : List Check) → AreChecksOf as' cs → length cs ≡ length as'
+same_length [] [] all = refl
+same_length [] (c ∷ cs) all = absurd all
+same_length (a ∷ as') [] all = absurd all
+same_length (a ∷ as') (c ∷ cs) all = let h = same_length as' cs all.1 in omega arith
+
+pub asked_count : (p : Program) (m : Machine) (own : List Check) → AreAsked p m own → EachAnswered (walk (member_tree p m.member.0) (given m)) (given m)
+    → length own ≡ length m.replies.items
+asked_count p m own so_far each =
+    let w = walk (member_tree p m.member.0) (given m) in
+    same_length w.answered own so_far.checks ∙ (sym (map_length (λ (a : Answered). a.reply) w.answered) ∙ ap length each)
+
+pub at_end : (HasCause : Cause → Type 0) (o : Outcome) (w : Walked) (checks asked : ℕ) → Told (Done o) w 100000 checks → asked ≡ checks → IsVerdictOf HasCause w.ending asked (verdict_of o)
+at_end HasCause outcome.Passed w checks asked told is = told
+at_end HasCause (outcome.Failed place c r) w checks asked told is = told
+at_end HasCause (outcome.Limit n) w checks asked told is = (is ∙ sym told.1, told.2.0, told.2.1)
+
+passed_of : (HasCause : Cause → Type 0) (e : Ending) (asked : ℕ) (v : Verdict) → IsVerdictOf HasCause e asked v → v ≡ verdict.Verified → e ≡ Passed
+passed_of HasCause e asked v has is = subst (λ x. IsVerdictOf HasCause e asked x) is has
+
+pub judged : (p : Program) (n : ℕ) (m : Machine) (own : List Check) (HasCause : Cause → Type 0) (v : Verdict) → m.member.0 ≡ n → AreAsked p m own
+    → IsVerdictOf HasCause (walk (member_tree p n) (given m)).ending (length own) v → IsTold p n HasCause own v
+judged p n m own HasCause v member so_far has =
+    let here = subst (λ k. AreChecksOf (walk (member_tree p k) (given m)).answered own) member so_far.checks in
+    let checks = subst (λ rs. AreChecksOf (walk (member_tree p n) rs).answered own) (sym so_far.replies) here in
+    let verdict_is = subst (λ rs. IsVerdictOf HasCause (walk (member_tree p n) rs).ending (length own) v) (sym so_far.replies) has in
+    record {
+      checks = checks;
+      verdict = verdict_is;
+      sound = λ is right. never_fails p n own checks (passed_of HasCause _ (length own) v verdict_is is) right;
+    }
+
+-- A member's execution, between two questions.
+module _ {L : Type 0} (dialogue : L → List Piece) (p : Program) (n : ℕ) (before : List Ended) where
+  told_count : (m : Machine) (ask : Ask) (own : List Check) → IsRunning p n m ask → AreAsked p m own → length own ≡ length m.replies.items
+  told_count m ask own running so_far =
+      asked_count p m own so_far (subst (λ k. EachAnswered (walk (member_tree p k) (given m)) (given m)) (sym running.member) running.answered)
+
+  pub at_done : (now : List Ended) (HasCause : Cause → Type 0) (child : Child L) (checks own : List Check) (m : Machine) (ask : Ask) (o : Outcome) (v : Verdict) (asked : ℕ)
+      → IsRunning p n m ask → ask ≡ Done o → v ≡ verdict_of o → asked ≡ length m.replies.items
+      → Hears dialogue before now child (checks ++ own) → AreAsked p m own → Judges dialogue p n before now HasCause child checks asked v
+  at_done now HasCause child checks own m ask o v asked running is verdict_is asked_is heard so_far =
+      let done = subst (λ a. Told a (walk (member_tree p n) (given m)) 100000 (length m.replies.items)) is running.told in
+      let count = told_count m ask own running so_far in
+      let has = at_end HasCause o (walk (member_tree p n) (given m)) (length m.replies.items) (length own) done count in
+      record {
+        own = own;
+        heard = heard;
+        count = count ∙ sym asked_is;
+        told = judged p n m own HasCause v running.member so_far
+            (subst (λ x. IsVerdictOf HasCause (walk (member_tree p n) (given m)).ending (length own) x) (sym verdict_is) has);
+      }
+
+  fault_verdict : (HasCause : Cause → Type 0) (t : Trouble) (v : Verdict) (e : Ending) (asked : ℕ) (q : Question) → e ≡ Open q → IsFaultOf t v → IsCausedBy HasCause t → IsVerdictOf HasCause e asked v
+  fault_verdict HasCause (trouble.Fault x) v e asked q is fault caused = subst (λ y. IsVerdictOf HasCause e asked y) (sym fault) (caused, q, is)
+  fault_verdict HasCause trouble.Want v e asked q is fault caused = absurd fault
+
+  pub at_fault : (now : List Ended) (HasCause : Cause → Type 0) (child : Child L) (checks own : List Check) (m : Machine) (ask : Ask) (q : Query) (t : Trouble) (v : Verdict) (asked : ℕ)
+      → IsRunning p n m ask → ask ≡ Due q → IsFaultOf t v → IsCausedBy HasCause t → asked ≡ length m.replies.items
+      → Hears dialogue before now child (checks ++ own) → AreAsked p m own → Judges dialogue p n before now HasCause child checks asked v
+  at_fault now HasCause child checks own m ask q t v asked running is fault caused asked_is heard so_far =
+      let due = subst (λ a. Told a (walk (member_tree p n) (given m)) 100000 (length m.replies.items)) is running.told in
+      record {
+        own = own;
+        heard = heard;
+        count = told_count m ask own running so_far ∙ sym asked_is;
+        told = judged p n m own HasCause v running.member so_far
+            (fault_verdict HasCause t v (walk (member_tree p n) (given m)).ending (length own) (query q) due.0 fault caused);
+      }
+
+  pub goes_on : (now : List Ended) (child : Child L) (checks own : List Check) (m m' : Machine) (ask ask' : Ask) (q : Query) (r : Reply)
+      → IsRunning p n m ask → ask ≡ Due q → IsRunning p m.member.0 m' ask' → m'.replies.items ≡ m.replies.items ++ r ∷ [] → AreAsked p m own
+      → HearsOf dialogue before now child (checks ++ own) (query q) r
+      → (own' : List Check) × Hears dialogue before now child (checks ++ own') × AreAsked p m' own'
+  goes_on now child checks own m m' ask ask' q r running is next replies so_far more =
+      let due = subst (λ a. Told a (walk (member_tree p n) (given m)) 100000 (length m.replies.items)) is running.told in
+      let ending = subst (λ k. (walk (member_tree p k) (given m)).ending ≡ Open (query q)) (sym running.member) due.0 in (
+        own ++ more.0 ∷ [],
+        subst (λ x. Hears dialogue before now child x) (append_assoc checks own (more.0 ∷ [])) more.1,
+        one_asked p m m' q r own more.0 next.member replies ending so_far more.2,
+      )
+
+  pub still_running : (m m' : Machine) (ask ask' : Ask) → IsRunning p n m ask → IsRunning p m.member.0 m' ask' → IsRunning p n m' ask'
+  still_running m m' ask ask' running next = subst (λ k. IsRunning p k m' ask') running.member next
+
+pub one_longer : {A : Type 0} (xs : List A) (x : A) → length (xs ++ x ∷ []) ≡ length xs + 1
+one_longer [] x = refl
+one_longer (y ∷ xs) x = let h = one_longer xs x in omega arith

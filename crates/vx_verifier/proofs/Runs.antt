@@ -1,0 +1,95 @@
+-- The runs of a program's members, as one more is told.
+use Rattle.std.proofs.Common.{◌≡◌, ◌⊎◌, ℕ, ◌+◌, ◌≤◌, ◌||◌, Bool, true, false, ◌++◌, ◌∷◌, [], List, Option, Some, None, length, refl, ap, ◌∙◌, sym, subst, inl, inr, append_assoc, append-nil, length-append, arith}
+use Rattle.vx_ast.specs.Syntax.{Program}
+use Rattle.vx_smt_meaning.specs.Dialogues.{Check}
+use Rattle.vx_ends.specs.declared.piece.Ending.{Ending}
+use Rattle.vx_ends.specs.Causes.{Rose}
+use Rattle.vx_report.specs.declared.run.Cause.{Cause}
+use Rattle.vx_report.specs.declared.run.Cause.TheVariants as cause
+use Rattle.vx_report.specs.declared.run.Verdict.{Verdict}
+use Rattle.vx_report.specs.declared.run.Verdict.TheVariants as verdict
+use Rattle.vx_report.specs.declared.run.MemberRun.{MemberRun}
+use Rattle.vx_report.specs.Reports.{is_faulted}
+use Rattle.vx_rules.specs.Trees.{Ending as Ends}
+use Rattle.vx_verifier.specs.Headline.{SomeEnding, HasCauseOf, IsVerdictOf, IsTold, AreTold, walk_of}
+use Rattle.vx_verifier.specs.Lanes.{lost_after}
+
+-- Causes stay causes as links are handed back and counts rise.
+
+some_later : (before now more : List Ending) (P : Ending → Type 0) → SomeEnding before now P → SomeEnding before (now ++ more) P
+some_later before now more P some =
+    (some.0, some.1 ++ more, ap (λ x. x ++ more) some.2 ∙ append_assoc before (some.0 ∷ some.1) more, some.3)
+
+rose_later : (a b c : ℕ) → Rose a b → b ≤ c → Rose a c
+rose_later a b c rose later = omega arith
+
+pub cause_later : (before now more : List Ending) (faults_then faults_now faults_later : ℕ) → faults_now ≤ faults_later → (lost : Bool) (x : Cause)
+    → HasCauseOf before now faults_then faults_now lost x → HasCauseOf before (now ++ more) faults_then faults_later lost x
+cause_later before now more f g h later lost cause.Pipe has = (has.0, some_later before now more _ has.1)
+cause_later before now more f g h later lost cause.Start has = (has.0, rose_later f g h has.1 later)
+cause_later before now more f g h later lost cause.Spent has = has
+cause_later before now more f g h later lost (cause.Reply kept) has = (has.0, some_later before now more _ has.1)
+
+verdict_later : (P Q : Cause → Type 0) → ((x : Cause) → P x → Q x) → (e : Ends) (asked : ℕ) (v : Verdict) → IsVerdictOf P e asked v → IsVerdictOf Q e asked v
+verdict_later P Q on e asked verdict.Verified has = has
+verdict_later P Q on e asked (verdict.Failed place c r) has = has
+verdict_later P Q on e asked verdict.Limit has = has
+verdict_later P Q on e asked (verdict.Fault x) has = (on x has.0, has.1, has.2)
+
+pub told_later : (p : Program) (n : ℕ) (P Q : Cause → Type 0) → ((x : Cause) → P x → Q x) → (own : List Check) (v : Verdict) → IsTold p n P own v → IsTold p n Q own v
+told_later p n P Q on own v told = record {
+  checks = told.checks;
+  verdict = verdict_later P Q on (walk_of p n own).ending (length own) v told.verdict;
+  sound = told.sound;
+}
+
+pub runs_later : (p : Program) (before now more : List Ending) (f g h : ℕ) → g ≤ h → (lost : Bool) (n first : ℕ) (runs : List MemberRun) (checks : List Check)
+    → AreTold p before now f g lost n first runs checks → AreTold p before (now ++ more) f h lost n first runs checks
+runs_later p before now more f g h later lost n first [] checks told = told
+runs_later p before now more f g h later lost n first (r ∷ runs) checks told = (
+  told.0,
+  told.1,
+  told.2,
+  told.3,
+  told.4,
+  told.5,
+  told.6,
+  told.7,
+  told_later p n _ _ (cause_later before now more f g h later lost) told.4 r.verdict told.8,
+  runs_later p before now more f g h later (lost || is_faulted r.verdict) (n + 1) (first + length told.4) runs told.5 told.9,
+)
+
+-- One member more is told.
+module _ (p : Program) (before now : List Ending) (f g : ℕ) where
+  pub runs_more : (lost : Bool) (n first : ℕ) (runs : List MemberRun) (checks : List Check) (r : MemberRun) (own : List Check)
+      → AreTold p before now f g lost n first runs checks
+      → r.member.0 ≡ n + length runs → r.lane ≡ 0 → r.child ≡ 0 → r.first ≡ first + length checks → length own ≡ r.checks
+      → IsTold p (n + length runs) (HasCauseOf before now f g (lost_after lost runs)) own r.verdict
+      → AreTold p before now f g lost n first (runs ++ r ∷ []) (checks ++ own)
+  runs_more lost n first [] checks r own told member lane child is count this =
+      let none : checks ≡ [] = told in (
+        member ∙ omega arith,
+        lane,
+        child,
+        is ∙ rw none (omega arith),
+        own,
+        [],
+        rw none (sym (append-nil own)),
+        count,
+        subst (λ k. IsTold p k (HasCauseOf before now f g lost) own r.verdict) (omega arith) this,
+        refl,
+      )
+  runs_more lost n first (r' ∷ runs) checks r own told member lane child is count this = (
+    told.0,
+    told.1,
+    told.2,
+    told.3,
+    told.4,
+    told.5 ++ own,
+    ap (λ x. x ++ own) told.6 ∙ append_assoc told.4 told.5 own,
+    told.7,
+    told.8,
+    runs_more (lost || is_faulted r'.verdict) (n + 1) (first + length told.4) runs told.5 r own told.9
+        (member ∙ omega arith) lane child (is ∙ rw told.6 (omega (arith, length-append told.4 told.5))) count
+        (subst (λ k. IsTold p k (HasCauseOf before now f g (lost_after (lost || is_faulted r'.verdict) runs)) own r.verdict) (omega arith) this),
+  )

@@ -1,0 +1,10 @@
+use Rattle.vx_verifier.proofs.execute.execute.Goals as goal
+
+pub returns-in-Err-clause-starts : goal.returns-in-Err-clause-starts
+returns-in-Err-clause-starts g c = λ before starts. c.leave-child.ensures.starts before _ (c.judge-child.ensures.starts before starts)
+
+pub returns-then-is_err-clause-starts : goal.returns-then-is_err-clause-starts
+returns-then-is_err-clause-starts g c = λ before starts. c.leave-child.ensures.starts before _ (c.judge-child.ensures.starts before starts)
+
+pub returns-clause-starts : goal.returns-clause-starts
+returns-clause-starts g c = λ before starts. c.leave-child.ensures.starts before _ (c.judge-child.ensures.starts before starts)

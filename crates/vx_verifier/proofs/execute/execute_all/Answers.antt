@@ -1,0 +1,49 @@
+use Rattle.std.proofs.Common.{◌≡◌, ◌+◌, ◌++◌, ◌∷◌, [], length, ap, ◌∙◌, sym, subst, rules, arith}
+use Rattle.vx_types.specs.Settled.{settled}
+use Rattle.vx_verifier.specs.Lanes.{Executes}
+use Rattle.vx_verifier.proofs.Children.{if_ok_at}
+use Rattle.vx_verifier.proofs.Questions.{one_longer}
+use Rattle.vx_verifier.proofs.Members.{executes_more}
+use Rattle.vx_verifier.proofs.execute.execute_all.Goals as goal
+
+pub returns-in-Err-clause-starts : goal.returns-in-Err-clause-starts
+returns-in-Err-clause-starts g c = c.execute-kept.ensures.starts _ c.loop-number.invariant.starts
+
+pub returns-then-is_err-clause-starts : goal.returns-then-is_err-clause-starts
+returns-then-is_err-clause-starts g c = c.execute-kept.ensures.starts _ c.loop-number.invariant.starts
+
+pub loop-number-preserved : goal.loop-number-preserved
+loop-number-preserved g c =
+    let so_far = c.loop-number.invariant in
+    let run = c.in-Ok-run.run' in
+    let runs = c.loop-number.runs.items in
+    let pushed : c.push.new.self.items ≡ runs ++ run ∷ [] = search rules in
+    let numbers = if_ok_at c.execute-kept.result.1 _ run c.execute-kept.ensures.numbers c.in-Ok-run.is in
+    let count = if_ok_at c.execute-kept.result.1 _ run c.execute-kept.ensures.count c.in-Ok-run.is in
+    let lost = if_ok_at c.execute-kept.result.1 _ run c.execute-kept.ensures.lost c.in-Ok-run.is in
+    let told = if_ok_at c.execute-kept.result.1 _ run c.execute-kept.ensures.told c.in-Ok-run.is in
+    let place : c.in-Ok.number ≡ c.loop-number.number = search rules in
+    let count_is = count.0 in
+    let few_more = count.1 in
+    let few_so_far = so_far.few in
+    let owed = so_far.owed in
+    let owed_on = c.execute-kept.ensures.owed in
+    let faults = so_far.faults in
+    let faults_on = c.execute-kept.ensures.faults in
+    record {
+      held = c.execute-kept.ensures.held;
+      owed = omega arith;
+      named = search rules;
+      each = ap length pushed ∙ (one_longer runs run ∙ ap (λ x. x + 1) so_far.each);
+      few = omega arith;
+      told = subst (λ x. Executes g.W.Link.Link.dialogue (settled c.args.typed.now) (g.W.Spawner.ended c.args.spawner.now) (g.W.Spawner.ended c.execute-kept.new.spawner)
+          (g.W.Spawner.faults c.args.spawner.now) (g.W.Spawner.faults c.execute-kept.new.spawner) c.execute-kept.result.0.child c.execute-kept.result.0.checks x) (sym pushed)
+          (executes_more g.W.Link.Link.dialogue (settled c.args.typed.now) (g.W.Spawner.ended c.args.spawner.now) (g.W.Spawner.ended c.loop-number.spawner) (g.W.Spawner.ended c.execute-kept.new.spawner)
+          (g.W.Spawner.faults c.args.spawner.now) (g.W.Spawner.faults c.loop-number.spawner) (g.W.Spawner.faults c.execute-kept.new.spawner)
+          c.loop-number.lane.child c.execute-kept.result.0.child c.loop-number.lane.checks c.execute-kept.result.0.checks runs run c.in-Ok.number
+          so_far.told told c.execute-kept.ensures.later so_far.faults c.execute-kept.ensures.faults
+          (ap (λ m. m.0) numbers.0) (place ∙ sym so_far.each) numbers.1 numbers.2 numbers.3 count.0 lost);
+      starts = c.execute-kept.ensures.starts _ so_far.starts;
+      faults = omega arith;
+      later = λ front handed. c.execute-kept.ensures.later front (so_far.later front handed);
+    }

@@ -1,0 +1,86 @@
+use Rattle.std.proofs.Common.{◌≡◌, ◌<◌, ◌++◌, [], length, refl, ap, ◌∙◌, sym, subst, append-nil, arith, true, is_err}
+use Rattle.std.proofs.lemmas.Result.{IfOk-weaker}
+use Rattle.vx_types.specs.Settled.{settled}
+use Rattle.vx_verifier.specs.Lanes.{Hears, IsDue, is_lost}
+use Rattle.vx_verifier.proofs.Children.{caused_earlier, lost_hears, if_ok_at, if_err_at}
+use Rattle.vx_verifier.proofs.Questions.{none_asked, at_done, at_fault, goes_on, still_running, one_longer}
+use Rattle.vx_verifier.proofs.execute.judge.Goals as goal
+
+pub questions-init : goal.questions-init
+questions-init g c =
+    let begins = c.in-Ok.ensures in
+    record {
+      held = c.requires.held;
+      owed = refl;
+      running = begins.running;
+      checks = sym (ap length begins.none);
+      few = omega arith;
+      told = λ before checks heard. (
+        [],
+        subst (λ x. Hears g.W.Link.Link.dialogue before (g.W.Spawner.ended c.args.spawner.now) c.args.child x) (sym (append-nil checks)) heard,
+        none_asked (settled c.args.typed.now) c.in-Ok.running.machine begins.none,
+      );
+      lost = refl;
+      starts = λ before starts. starts;
+      faults = omega arith;
+      later = λ front handed. handed;
+    }
+
+pub returns-in-Done-clause-told : goal.returns-in-Done-clause-told
+returns-in-Done-clause-told g c = λ before checks heard.
+    let so_far = c.questions.invariant in
+    let told = so_far.told before checks heard in
+    at_done g.W.Link.Link.dialogue (settled c.args.typed.now) c.args.member.0 before _ _ c.questions.child checks told.0 c.questions.running.machine c.questions.running.ask
+    c.in-Done.outcome c.verdict_of-verdict.result c.questions.checks so_far.running c.in-Done.is c.verdict_of-verdict.ensures so_far.checks told.1 told.2
+
+pub returns-in-Err-reply-clause-told : goal.returns-in-Err-reply-clause-told
+returns-in-Err-reply-clause-told g c = IfOk-weaker c.faulted.result _ _ (λ judged fault. λ before checks heard.
+    let dialogue = g.W.Link.Link.dialogue in
+    let so_far = c.questions.invariant in
+    let told = so_far.told before checks heard in
+    let lost = if_err_at c.ask-kept.result.1 _ c.in-Err-reply.trouble c.ask-kept.ensures.lost c.in-Err-reply.is before (checks ++ told.0) told.1 in
+    let gone : is_lost c.ask-kept.result.0 ≡ true = c.ask-kept.ensures.child ∙ ap is_err c.in-Err-reply.is in
+    let caused = caused_earlier before (g.W.Spawner.ended c.ask-kept.new.spawner) (g.W.Spawner.faults c.args.spawner.now) (g.W.Spawner.faults c.questions.spawner)
+    (g.W.Spawner.faults c.ask-kept.new.spawner) so_far.faults (is_lost c.questions.child) (is_lost c.args.child) so_far.lost c.in-Err-reply.trouble lost.1 in
+    at_fault dialogue (settled c.args.typed.now) c.args.member.0 before (g.W.Spawner.ended c.ask-kept.new.spawner) _ c.ask-kept.result.0 checks told.0
+    c.questions.running.machine c.questions.running.ask c.in-Check.query c.in-Err-reply.trouble judged.verdict judged.checks so_far.running c.in-Check.is fault.1 caused
+    (fault.0 ∙ so_far.checks) (lost_hears dialogue before _ c.ask-kept.result.0 (checks ++ told.0) gone lost.0) told.2) c.faulted.ensures
+
+pub returns-in-Err-reply-clause-starts : goal.returns-in-Err-reply-clause-starts
+returns-in-Err-reply-clause-starts g c = λ before starts. c.ask-kept.ensures.starts before (c.questions.invariant.starts before starts)
+
+pub returns-in-Err-go_on-clause-starts : goal.returns-in-Err-go_on-clause-starts
+returns-in-Err-go_on-clause-starts g c = λ before starts. c.ask-kept.ensures.starts before (c.questions.invariant.starts before starts)
+
+pub questions-preserved : goal.questions-preserved
+questions-preserved g c =
+    let so_far = c.questions.invariant in
+    let machine = c.questions.running.machine in
+    let next = c.in-Ok-go_on.next.machine in
+    let more = c.in-Ok-go_on.ensures in
+    let longer = ap length more.one_more ∙ one_longer machine.replies.items c.in-Ok-reply.reply in
+    let due : length machine.replies.items < machine.limit = subst (λ a. IsDue a machine.limit (length machine.replies.items)) c.in-Check.is so_far.running.due in
+    let limit = so_far.running.limit in
+    let counted = so_far.checks in
+    let owed = so_far.owed in
+    let owed_on = c.ask-kept.ensures.owed in
+    let faults = so_far.faults in
+    let faults_on = c.ask-kept.ensures.faults in
+    record {
+      held = c.ask-kept.ensures.held;
+      owed = omega arith;
+      running = still_running g.W.Link.Link.dialogue (settled c.args.typed.now) c.args.member.0 [] machine next c.questions.running.ask c.in-Ok-go_on.next.ask so_far.running more.running;
+      checks = omega arith;
+      few = omega arith;
+      told = λ before checks heard.
+          let told = so_far.told before checks heard in
+          let hears = if_ok_at c.ask-kept.result.1 _ c.in-Ok-reply.reply c.ask-kept.ensures.told c.in-Ok-reply.is before (checks ++ told.0) told.1 in
+          goes_on g.W.Link.Link.dialogue (settled c.args.typed.now) c.args.member.0 before _ c.ask-kept.result.0 checks told.0 machine next
+          c.questions.running.ask c.in-Ok-go_on.next.ask c.in-Check.query c.in-Ok-reply.reply so_far.running c.in-Check.is more.running more.one_more told.2 hears;
+      lost =
+          let before = if_ok_at c.ask-kept.result.1 _ c.in-Ok-reply.reply c.ask-kept.ensures.before c.in-Ok-reply.is in
+          c.ask-kept.ensures.child ∙ (ap is_err c.in-Ok-reply.is ∙ (sym before ∙ so_far.lost));
+      starts = λ before starts. c.ask-kept.ensures.starts before (so_far.starts before starts);
+      faults = omega arith;
+      later = λ front handed. c.ask-kept.ensures.later front (so_far.later front handed);
+    }

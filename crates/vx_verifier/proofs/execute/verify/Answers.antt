@@ -1,0 +1,16 @@
+use Rattle.std.proofs.Common.{◌≤◌, arith}
+use Rattle.std.proofs.lemmas.Result.{IfOk-weaker}
+use Rattle.vx_types.specs.Settled.{settled}
+use Rattle.vx_verifier.proofs.Members.{headline}
+use Rattle.vx_verifier.proofs.execute.verify.Goals as goal
+
+pub returns-clause-headline : goal.returns-clause-headline
+returns-clause-headline g c =
+    let before = g.W.Spawner.ended c.args.spawner.now in
+    let same = c.end.ensures.faults in
+    let after : g.W.Spawner.faults c.execute_all-lane.new.spawner ≤ g.W.Spawner.faults c.end.new.spawner = omega arith in
+    IfOk-weaker c.execute_all-lane.result.1 _ _ (λ runs told.
+    headline g.W.Link.Link.dialogue (settled c.args.typed.now) before (g.W.Spawner.ended c.execute_all-lane.new.spawner) (g.W.Spawner.ended c.end.new.spawner)
+    (g.W.Spawner.faults c.args.spawner.now) (g.W.Spawner.faults c.execute_all-lane.new.spawner) (g.W.Spawner.faults c.end.new.spawner)
+    c.execute_all-lane.result.0.child c.execute_all-lane.result.0.checks runs.items told.0 told.1 (λ checks. c.end.ensures.told before checks) c.end.ensures.later after)
+    c.execute_all-lane.ensures.told

@@ -1,0 +1,50 @@
+-- What `run` promises: what the runs of a report are those of.
+use Rattle.std.specs.Prelude.{◌≡◌, ◌⊎◌, ℕ, ⊤, Bool, true, false, List, [], ◌∷◌, ◌++◌, Option, IfSome, codes}
+use Rattle.std.specs.Str.{bytes_eq}
+use Rattle.vx_ast.specs.Syntax.{Program}
+use Rattle.vx_ast.specs.Written as written
+use Rattle.vx_ast.specs.Resolve as resolve
+use Rattle.vx_types.specs.Settled.{settled}
+use Rattle.vx_parser.specs.Spelling.{Spells}
+use Rattle.vx_words.specs.declared.order.Order.{Order}
+use Rattle.vx_words.specs.declared.order.Order.TheVariants.{Verify}
+use Rattle.vx_verifier.specs.declared.top.Told.{Told}
+use Rattle.vx_verifier.specs.declared.top.Told.TheVariants as told
+use Rattle.vx_verifier.specs.Headline.{IsSupported}
+
+-- the program that a text spells, with its names settled; it is supported
+pub record IsProgramOf (text : List ℕ) (p : Program) : Type 0 where
+  pub written : written.Program
+  pub spelled : Spells text written
+  pub settled : p ≡ resolve.program written
+  pub supported : IsSupported p
+
+-- a program comes from the file's text, where that is told
+abbrev pub IsReadFrom : Option (List ℕ) → Told → Type 0
+IsReadFrom holds (told.Program t) = (text : List ℕ) × IfSome holds (λ known. text ≡ known) × IsProgramOf text (settled t)
+IsReadFrom holds (told.Refused line) = ⊤
+IsReadFrom holds told.Unread = ⊤
+IsReadFrom holds told.TooLong = ⊤
+
+-- the name of the companion stands alone
+abbrev pub is_companion : List (List ℕ) → Bool
+is_companion [] = false
+is_companion (part ∷ []) = bytes_eq part (codes "builtin")
+is_companion (part ∷ other ∷ parts) = false
+
+-- what holds of the companion's spawner, or of the one handed in
+abbrev pub ByWhom : Bool → Type 0 → Type 0 → Type 0
+ByWhom true Companion Handed = Companion
+ByWhom false Companion Handed = Handed
+
+-- a program of this file's text has this property, by the spawner that the solver names
+abbrev pub IsReportOf : Order → (holds : Option (List ℕ) → Option (List ℕ)) → (Companion Handed : Program → Type 0) → Type 0
+IsReportOf (Verify file solver) holds Companion Handed =
+    (text : List ℕ) × (p : Program) × IfSome (holds file) (λ known. text ≡ known) × IsProgramOf text p × ByWhom (is_companion solver) (Companion p) (Handed p)
+
+-- the names that were asked: at most this one more
+abbrev pub AsksOnly : Option (List ℕ) → (old new : List (Option (List ℕ))) → Type 0
+AsksOnly name old new = (new ≡ old) ⊎ (new ≡ old ++ name ∷ [])
+
+abbrev pub AsksFileOf : Order → (old new : List (Option (List ℕ))) → Type 0
+AsksFileOf (Verify file solver) old new = AsksOnly file old new

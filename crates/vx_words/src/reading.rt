@@ -1,0 +1,47 @@
+// The order that the matches of a subcommand give.
+ghost use Rattle.std.specs.Prelude.{◌≡◌, option_map, IfOk, codes};
+ghost use Rattle.clap.specs.Words.{rows_of, found_of, first_of};
+ghost use Rattle.vx_words.specs.Orders.{verify_in, order_from, ReadsAs};
+
+use crate::solver::parts_of;
+use crate::{Order, Text, WordsFault};
+use clap::ArgMatches;
+use std::alloc::{AllocError, Global};
+
+// The first value of an argument.
+fn text_of<'a>(matches: &ArgMatches<'a>, id: &str) -> Option<&'a str>
+    ensures { option_map (λ s. s.now) result ≡ first_of id.now (rows_of (found_of matches.now)) }
+{
+    matches.get_str(id)
+}
+
+fn file_of(alloc: Global, matches: &ArgMatches) -> Result<Option<Text>, AllocError>
+    ensures { IfOk result (λ file. file ≡ first_of (codes "file") (rows_of (found_of matches.now))) }
+{
+    match text_of(matches, "file") {
+        Some(text) => Ok(Some(Text::copy(alloc, text)?)),
+        None => Ok(None),
+    }
+}
+
+fn verify_of(alloc: Global, matches: &ArgMatches) -> Result<Order, WordsFault>
+    ensures { ReadsAs (verify_in (rows_of (found_of matches.now))) result }
+{
+    let solver = parts_of(alloc, text_of(matches, "solver").unwrap_or("builtin"))?;
+    if solver.len() == 0 {
+        return Err(WordsFault::Usage);
+    }
+    let file = file_of(alloc, matches)?;
+    Ok(Order::Verify { file, solver })
+}
+
+/// The order of a subcommand, by its name and its matches.
+pub fn order_of(alloc: Global, name: &str, matches: &ArgMatches) -> Result<Order, WordsFault>
+    ensures { ReadsAs (order_from name.now (rows_of (found_of matches.now))) result }
+{
+    if name == "verify" {
+        verify_of(alloc, matches)
+    } else {
+        Err(WordsFault::Usage)
+    }
+}
