@@ -179,7 +179,10 @@ fn an_echo_is_garbled(rt: HostRuntime) -> Result<(), Fail> {
     match kept_of_opening(rt.alloc(), 0, PREAMBLE)? {
         Some((told, bytes)) => {
             assert_eq!(rt; told, "garbled");
-            assert_eq!(rt; bytes.as_slice(), b"(set-option :print-success true)".as_slice());
+            assert_eq!(rt;
+                bytes.as_slice(),
+                b"(set-option :print-success true)".as_slice()
+            );
             assert_eq!(rt; bytes.as_slice().len(), 32);
         }
         None => panic!(&rt; "no talk"),
