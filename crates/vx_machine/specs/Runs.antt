@@ -17,7 +17,7 @@ use Rattle.vx_machine.specs.declared.machine.Ask.{Ask}
 use Rattle.vx_machine.specs.declared.machine.Ask.TheVariants as ask'
 use Rattle.vx_machine.specs.declared.machine.Machine.{Machine}
 use Rattle.vx_smt_meaning.specs.declared.reply.Reply.{Reply}
-use Rattle.vx_smt_meaning.specs.declared.reply.Reply.TheVariants.{Unsat, Sat, Unknown}
+use Rattle.vx_smt_meaning.specs.declared.reply.Reply.TheVariants.{Unsat}
 use Rattle.vx_rules.specs.Trees.{Question, Tree, End, Answered, Walked, Passed, Failed, Open, ends, after_answer, asked, probed, walk, walk_then, passed, size}
 use Rattle.vx_rules.specs.Members.{tree}
 use Rattle.vx_rules.specs.Stack.{side_tree, query, code}

@@ -1,5 +1,5 @@
 -- The exit status.
-use Rattle.std.specs.Prelude.{ℕ, Bool, true, false, List, if◌then◌else◌, not}
+use Rattle.std.specs.Prelude.{ℕ, List, if◌then◌else◌, not}
 use Rattle.std.specs.List.{list_any}
 use Rattle.vx_report.specs.declared.status.Status.{Status}
 use Rattle.vx_report.specs.declared.status.Status.TheVariants.{Done, NotVerified, Usage, Unread, Refused, Faulted, Unwritten, Want}

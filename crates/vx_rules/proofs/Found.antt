@@ -1,5 +1,5 @@
 -- Terms are found again by their keys.
-use Rattle.std.proofs.Common.{◌≡◌, ℕ, zero, suc, ◌+◌, ◌*◌, ◌%◌, ◌/◌, ◌-◌, Bool, true, false, List, ◌&&◌, ◌||◌, refl, sym, ap, ◌∙◌, nat_eq, arith, eqb-true}
+use Rattle.std.proofs.Common.{◌≡◌, ℕ, zero, suc, ◌%◌, ◌/◌, Bool, true, false, List, ◌&&◌, ◌||◌, refl, sym, ap, ◌∙◌, nat_eq, eqb-true}
 use Rattle.vx_terms.specs.Terms.{Term, Truth, Number, Part, Constant, Apply, Not, Binary, Ite, AllOf, SomeOf, same, same_bool}
 use Rattle.vx_rules.specs.Keys.{key_of}
 use Rattle.std.specs.Prelude.{if◌then◌else◌}

@@ -10,8 +10,8 @@ use Rattle.vx_rules.specs.declared.conts.Move.TheVariants as move'
 use Rattle.vx_terms.specs.Terms.{Term, same}
 use Rattle.vx_terms.specs.Build.{true_term, false_term, negate}
 use Rattle.vx_rules.specs.States.{State, is_quiet, is_known, with_fact, with_branch}
-use Rattle.vx_rules.specs.Trees.{Code, Question, Tree, End, Step, Ask, Probe, Fork}
-use Rattle.vx_rules.specs.Rules.{Going, question, unless_false, ask, probe, fork}
+use Rattle.vx_rules.specs.Trees.{Code, Question, Tree, End, Ask, Probe, Fork}
+use Rattle.vx_rules.specs.Rules.{Going, question, ask, probe, fork}
 use Rattle.vx_rules.specs.Stack.{side_tree, query, Checked, Stepped}
 
 pub fork_both : (c d : Term) (s s1 s2 : State) (left right : Going) → is_known c s ≡ false → d ≡ negate c → is_known d s ≡ false → s1 ≡ with_branch c s → s2 ≡ with_branch d s → fork c s left right ≡ Fork (left s1) (right s2)

@@ -1,10 +1,9 @@
 -- Paths and stores of src/ against those of the rules.
-use Rattle.std.proofs.Common.{◌≡◌, ℕ, zero, suc, ◌<◌, Bool, true, false, cond, ◌&&◌, ◌||◌, ◌++◌, List, [], ◌∷◌, map, length, get_or, Option, Some, None, option_map, refl, sym, ap, ap₂, ◌∙◌, arith, true≢false, eqb-true, reverse, append_assoc}
+use Rattle.std.proofs.Common.{◌≡◌, ℕ, suc, ◌<◌, Bool, true, false, cond, ◌&&◌, ◌||◌, ◌++◌, List, [], ◌∷◌, map, length, get_or, Option, Some, None, option_map, refl, sym, ap, ap₂, ◌∙◌, arith, true≢false, eqb-true, reverse, append_assoc}
 use Rattle.std.proofs.lemmas.List.{reverse-append}
-use Rattle.std.specs.Prelude.{slice_set, nat_eq}
+use Rattle.std.specs.Prelude.{slice_set}
 use Rattle.vx_ast.specs.Syntax.{Name, same_name}
 use Rattle.vx_terms.specs.Terms.{Term, same}
-use Rattle.vx_terms.specs.Views.{term}
 use Rattle.vx_rules.specs.States.{Store, Entry, assign, in_path, path_terms}
 use Rattle.vx_rules.specs.Paths.{extended}
 use Rattle.vx_rules.specs.SymStates.{place_in}

@@ -1,7 +1,7 @@
 -- Keys of terms, by which a path's terms are found again: any numbers would do that depend on the term alone.
 use Rattle.std.specs.Prelude.{ℕ, ◌+◌, ◌*◌, ◌-◌, ◌%◌, if◌then◌else◌, nat_eq, nat_abs}
 use Rattle.vx_terms.specs.Sorts.{Symbol, Standard, Function, Variable, Named, Operator, And, Or, Implies, Equal, Less, LessEqual, Add, Subtract, Multiply, Div, Mod}
-use Rattle.vx_terms.specs.Terms.{Term, Truth, Number, Part, Constant, Apply, Not, Binary, Ite, AllOf, SomeOf}
+use Rattle.vx_terms.specs.Terms.{Term, Number, Constant, Apply, Not, Binary, Ite}
 
 abbrev pub mixed : ℕ → ℕ → ℕ
 mixed a b = (a * 31 + b) % 65536

@@ -1,5 +1,5 @@
 -- What the frames, the stack and the questions of src/ stand for: the tree that is still to be walked.
-use Rattle.std.specs.Prelude.{◌≡◌, ℕ, Bool, true, false, List, [], ◌∷◌, ◌++◌, None, map, string_bytes}
+use Rattle.std.specs.Prelude.{◌≡◌, ℕ, Bool, true, false, List, [], ◌∷◌, ◌++◌, None, string_bytes}
 use Rattle.vx_rules.specs.declared.question.Code.{Code as Code'}
 use Rattle.vx_rules.specs.declared.question.Code.TheVariants as code'
 use Rattle.vx_rules.specs.declared.question.Query.{Query}
@@ -21,10 +21,9 @@ use Rattle.vx_rules.specs.declared.conts.Move.{Move}
 use Rattle.vx_rules.specs.declared.conts.Move.TheVariants as move'
 use Rattle.vx_ast.specs.Syntax.{Program}
 use Rattle.vx_ast.specs.Resolved.{operator, connective, expr, assertion, stmt, block, method}
-use Rattle.vx_terms.specs.Terms.{Term}
 use Rattle.vx_terms.specs.Views.{term}
 use Rattle.vx_terms.specs.Build.{negate, ite, unit, pair, whole_amount}
-use Rattle.vx_rules.specs.States.{State, with_store, with_heap, assign, leave, with_fact, with_branch, name_of, after_name, path_terms}
+use Rattle.vx_rules.specs.States.{State, with_store, with_heap, assign, leave, with_fact, name_of, after_name, path_terms}
 use Rattle.vx_rules.specs.Paths.{entries}
 use Rattle.vx_rules.specs.SymStates.{state}
 use Rattle.vx_rules.specs.Trees.{Code, AssertCode, PermissionCode, AmountCode, DivisorCode, CallCode, FunctionCode, PostCode, EntryCode, KeptCode, FoldCode, UnfoldCode, MeasureCode, Question, Tree, End, Step, Ask, Probe, Fork}

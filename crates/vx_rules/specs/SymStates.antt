@@ -1,5 +1,5 @@
 -- What the symbolic states of src/ stand for. They have no heap yet.
-use Rattle.std.specs.Prelude.{ℕ, suc, true, false, List, [], ◌∷◌, Option, Some, None, option_map, if◌then◌else◌, map, string_bytes}
+use Rattle.std.specs.Prelude.{ℕ, suc, true, false, [], ◌∷◌, Option, Some, None, option_map, if◌then◌else◌, map, string_bytes}
 use Rattle.vx_rules.specs.declared.state.Binding.{Binding}
 use Rattle.vx_rules.specs.declared.state.SymState.{SymState}
 use Rattle.vx_ast.specs.Syntax.{Name, same_name}

@@ -1,4 +1,4 @@
-use Rattle.std.proofs.Common.{ℕ, ◌≤◌}
+use Rattle.std.proofs.Common.{◌≤◌}
 use Rattle.vx_rules.specs.declared.frame.Next.{size-Next}
 use Rattle.vx_rules.specs.declared.frame.Hole.{size-Hole}
 use Rattle.vx_rules.proofs.frame.+frames.Given as goal

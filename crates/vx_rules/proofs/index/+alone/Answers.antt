@@ -1,4 +1,4 @@
-use Rattle.std.proofs.Common.{arith, ◌-◌, sym}
+use Rattle.std.proofs.Common.{arith, ◌-◌}
 use Rattle.vx_terms.specs.Views.{term}
 use Rattle.vx_rules.proofs.Found.{even_is, odd_is, alone_even, alone_odd}
 use Rattle.vx_rules.proofs.index.+alone.Goals as goal

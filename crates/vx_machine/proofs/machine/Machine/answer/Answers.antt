@@ -1,4 +1,4 @@
-use Rattle.std.proofs.Common.{◌≡◌, List, true, false, cond, ap, sym, ◌∙◌}
+use Rattle.std.proofs.Common.{◌≡◌, List, true, cond, ap, sym, ◌∙◌}
 use Rattle.vx_types.specs.Settled.{settled}
 use Rattle.vx_rules.specs.declared.frame.Side.{Side}
 use Rattle.vx_rules.specs.Trees.{Tree}

@@ -1,4 +1,4 @@
-use Rattle.std.proofs.Common.{List, map, refl}
+use Rattle.std.proofs.Common.{List, refl}
 use Rattle.vx_types.specs.Settled.{settled}
 use Rattle.vx_rules.specs.declared.frame.Side.{Side}
 use Rattle.vx_rules.specs.Trees.{Tree}

@@ -1,7 +1,6 @@
 use Rattle.std.proofs.Common.{◌≡◌, length, List, refl, sym, ap, ◌∙◌}
 use Rattle.vx_types.specs.Settled.{settled}
 use Rattle.vx_rules.specs.declared.frame.Side.{Side}
-use Rattle.vx_smt_meaning.specs.declared.reply.Reply.{Reply}
 use Rattle.vx_rules.specs.Trees.{Tree}
 use Rattle.vx_rules.specs.Stack.{query}
 use Rattle.vx_machine.specs.declared.machine.Phase.{Phase}

@@ -2,7 +2,7 @@ use Rattle.std.proofs.Common.{false, ap, subst, ◌∙◌}
 use Rattle.vx_terms.specs.Views.{term}
 use Rattle.vx_rules.specs.Paths.{entries}
 use Rattle.vx_rules.specs.Keys.{key_of}
-use Rattle.vx_rules.specs.Index.{IsIndexed, IsExtended}
+use Rattle.vx_rules.specs.Index.{IsExtended}
 use Rattle.vx_rules.proofs.Found.{indexed_more}
 use Rattle.vx_rules.proofs.indexed.IndexedPath.add_fact.Goals as goal
 

@@ -1,4 +1,4 @@
-use Rattle.std.proofs.Common.{◌≡◌, ◌<◌, length, map, subst, sym, ap, ◌∙◌, arith, Some, None, refl}
+use Rattle.std.proofs.Common.{◌≡◌, map, subst, sym, ap, ◌∙◌, arith, Some, None, refl}
 use Rattle.std.specs.Prelude.{string_bytes, slice_set, slice_index_or}
 use Rattle.std.proofs.Math.ListN.{get_or-map}
 use Rattle.vx_ast.specs.Syntax.{Name}
