@@ -1,5 +1,5 @@
 -- What `run` promises: what the runs of a report are those of.
-use Rattle.std.specs.Prelude.{◌≡◌, ◌⊎◌, ℕ, ⊤, Bool, true, false, List, [], ◌∷◌, ◌++◌, Option, IfSome, codes}
+use Rattle.std.specs.Prelude.{◌≡◌, ◌⊎◌, ℕ, ⊤, Bool, true, false, List, [], ◌∷◌, ◌++◌, Option, Some, IfSome, codes, take}
 use Rattle.std.specs.Str.{bytes_eq}
 use Rattle.vx_ast.specs.Syntax.{Program}
 use Rattle.vx_ast.specs.Written as written
@@ -68,3 +68,7 @@ IsStatusOf sink usage runs Want = runs ≡ []
 -- the starts of the spawner: at most one, by the words' command
 abbrev pub StartsOnly : Order → (old new : List Start) → Type 0
 StartsOnly (Verify file solver) old new = (new ≡ old) ⊎ (new ≡ old ++ record { lane = 0; command = solver } ∷ [])
+
+-- What is put is this text, or a beginning of it where the sink failed.
+abbrev pub IsPut : Option (List ℕ) → Option (List ℕ) → Status → List ℕ → Type 0
+IsPut old new s text = IfSome old (λ bytes. (new ≡ Some (bytes ++ text)) ⊎ ((s ≡ Unwritten) × (n : ℕ) × (new ≡ Some (bytes ++ take n text))))

@@ -4,11 +4,12 @@ ghost use Rattle.std.specs.Prelude.{◌≡◌, ◌⊎◌, ◌++◌, ◌∷◌, [
 ghost use Rattle.vx_ends.specs.Causes.{Rose};
 ghost use Rattle.vx_ends.specs.declared.piece.Start.{Start};
 ghost use Rattle.vx_types.specs.Settled.{settled};
+ghost use Rattle.vx_report.specs.Reports.{report_of};
 ghost use Rattle.vx_words.specs.Orders.{order_of};
 ghost use Rattle.vx_words.specs.declared.order.Order as meant;
 ghost use Rattle.vx_verifier.specs.Headline.{Headline};
 ghost use Rattle.vx_verifier.specs.Reported as spec;
-ghost use Rattle.vx_verifier.specs.Reported.{IsReadFrom, IsReportOf, AsksOnly, AsksFileOf, IsStatusOf, StartsOnly};
+ghost use Rattle.vx_verifier.specs.Reported.{IsReadFrom, IsReportOf, AsksOnly, AsksFileOf, IsStatusOf, StartsOnly, IsPut};
 
 use crate::answers::{TOO_LONG, UNREAD, USAGE, refusal_of_types, text_refusal, type_refusal};
 use crate::companion::Builtin;
@@ -41,6 +42,7 @@ enum Told {
 // Puts the text; where the sink fails, that is the status.
 fn put<K: Sink>(out: &mut K, text: &str, status: Status, runs: Vec<MemberRun>) -> Ended
     ensures runs { result.runs ≡ runs }
+    ensures taken { IsPut (K.taken out.old) (K.taken out.new) result.status text.now }
     ensures status { (result.status ≡ status) ⊎ ((result.status ≡ Status.Unwritten) × Rose (K.faults out.old) (K.faults out.new)) }
 {
     match put_all(out, text.as_bytes()) {
@@ -99,6 +101,7 @@ fn report<K: Sink, W: Spawner>(
     spawner: &mut W,
 ) -> Result<Ended, AllocError>
     ensures headline { IfOk result (λ ended. Headline (settled typed.now) (W.ended spawner.old) (W.ended spawner.new) (W.faults spawner.old) (W.faults spawner.new) ended.runs.items) }
+    ensures taken { IfOk result (λ ended. IsPut (K.taken out.old) (K.taken out.new) ended.status (report_of (settled typed.now) ended.runs.items)) }
     ensures status { IfOk result (λ ended. IsStatusOf (Rose (K.faults out.old) (K.faults out.new)) ⊥ ended.runs.items ended.status) }
     ensures starts { let start : Start = record { lane = 0; command = solver.now } in (W.starts spawner.new ≡ W.starts spawner.old) ⊎ (W.starts spawner.new ≡ W.starts spawner.old ++ start ∷ []) }
 {
@@ -126,8 +129,8 @@ fn verify_file<F: Files, K: Sink, W: Spawner>(
     builtin: &mut Builtin,
 ) -> Result<Ended, AllocError>
     ensures headline { IfOk result (λ ended. (ended.runs.items ≡ []) ⊎ IsReportOf order.now (F.holds files.old)
-        (λ p. Headline p builtin.old.ended.items builtin.new.ended.items 0 0 ended.runs.items)
-        (λ p. Headline p (W.ended spawner.old) (W.ended spawner.new) (W.faults spawner.old) (W.faults spawner.new) ended.runs.items)) }
+        (λ p. Headline p builtin.old.ended.items builtin.new.ended.items 0 0 ended.runs.items × IsPut (K.taken out.old) (K.taken out.new) ended.status (report_of p ended.runs.items))
+        (λ p. Headline p (W.ended spawner.old) (W.ended spawner.new) (W.faults spawner.old) (W.faults spawner.new) ended.runs.items × IsPut (K.taken out.old) (K.taken out.new) ended.status (report_of p ended.runs.items))) }
     ensures asked { AsksFileOf order.now (F.asked files.old) (F.asked files.new) }
     ensures status { IfOk result (λ ended. IsStatusOf (Rose (K.faults out.old) (K.faults out.new)) ⊥ ended.runs.items ended.status) }
     ensures starts { StartsOnly order.now (W.starts spawner.old) (W.starts spawner.new) }
@@ -159,8 +162,8 @@ pub fn run<F: Files, K: Sink, W: Spawner>(
     builtin: &mut Builtin,
 ) -> Ended
     ensures headline { (result.runs.items ≡ []) ⊎ ((order : meant.Order) × (order_of words.now ≡ Some order) × IsReportOf order (F.holds files.old)
-        (λ p. Headline p builtin.old.ended.items builtin.new.ended.items 0 0 result.runs.items)
-        (λ p. Headline p (W.ended spawner.old) (W.ended spawner.new) (W.faults spawner.old) (W.faults spawner.new) result.runs.items)) }
+        (λ p. Headline p builtin.old.ended.items builtin.new.ended.items 0 0 result.runs.items × IsPut (K.taken out.old) (K.taken out.new) result.status (report_of p result.runs.items))
+        (λ p. Headline p (W.ended spawner.old) (W.ended spawner.new) (W.faults spawner.old) (W.faults spawner.new) result.runs.items × IsPut (K.taken out.old) (K.taken out.new) result.status (report_of p result.runs.items))) }
     ensures status { IsStatusOf (Rose (K.faults out.old) (K.faults out.new)) (order_of words.now ≡ None) result.runs.items result.status }
     ensures asked { (F.asked files.new ≡ F.asked files.old) ⊎ ((order : meant.Order) × (order_of words.now ≡ Some order) × AsksFileOf order (F.asked files.old) (F.asked files.new)) }
     ensures starts { (W.starts spawner.new ≡ W.starts spawner.old) ⊎ ((order : meant.Order) × (order_of words.now ≡ Some order) × StartsOnly order (W.starts spawner.old) (W.starts spawner.new)) }
