@@ -1,8 +1,7 @@
 -- How the checks of a lane's child are heard, from one call to the next.
-use Rattle.std.proofs.Common.{Bool, true, Result, Ok, Err, IfOk, IfErr, ◌≡◌, ◌⊎◌, ℕ, ◌+◌, ◌<◌, ◌≤◌, false, ◌++◌, ◌∷◌, [], List, refl, ap, ◌∙◌, sym, subst, inl, inr, append_assoc, arith}
+use Rattle.std.proofs.Common.{Bool, true, Result, Ok, Err, IfOk, IfErr, ◌≡◌, ℕ, ◌<◌, ◌≤◌, false, ◌++◌, ◌∷◌, [], List, refl, ap, ◌∙◌, sym, subst, inl, inr, append_assoc, arith}
 use Rattle.vx_ends.specs.declared.piece.Piece.{Piece}
 use Rattle.vx_ends.specs.declared.piece.Ending.{Ending}
-use Rattle.vx_ends.specs.declared.piece.Start.{Start}
 use Rattle.vx_ends.specs.Causes.{Rose}
 use Rattle.vx_ends.specs.Dialogue.{got, Begins, Grows}
 use Rattle.vx_smt_meaning.specs.Commands.{Command, Level}

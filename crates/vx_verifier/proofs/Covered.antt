@@ -1,5 +1,8 @@
 -- What is executed is of the store language where its types are small.
-use Rattle.std.proofs.Common.{◌≡◌, ℕ, zero, suc, Bool, true, false, ◌&&◌, List, [], ◌∷◌, Option, Some, None, map, slice_get, refl, ap, ◌∙◌, sym, subst}
+use Rattle.vx_verifier.specs.declared.top.Told.{Told}
+use Rattle.vx_verifier.specs.declared.top.Told.TheVariants as told
+use Rattle.vx_verifier.specs.Reported.{IsRead, IsUnreadAs}
+use Rattle.std.proofs.Common.{◌≡◌, ℕ, zero, suc, Bool, true, false, ◌&&◌, List, [], ◌∷◌, Option, Some, None, map, slice_get, refl, ap, ◌∙◌, subst}
 use Rattle.std.specs.declared.alloc.Global.{Global}
 use Rattle.std.specs.declared.rc.Rc.{Rc}
 use Rattle.vx_ast.specs.declared.ValueType.{ValueType}
@@ -14,12 +17,11 @@ use Rattle.vx_ast.specs.declared.resolved.Member as member'
 use Rattle.vx_ast.specs.Syntax.{Program, Member, Method, Kind, IsMethod, Declaration}
 use Rattle.vx_ast.specs.Resolved.{expr, assertion, assertions, stmt, block, optional_block, method, kind, member}
 use Rattle.vx_types.specs.Typing.{IsTypedMethod}
-use Rattle.vx_types.specs.Members.{is_typed_method}
 use Rattle.vx_types.specs.Programs.{is_typed_member, are_typed_members}
 use Rattle.vx_sound.specs.StoreLanguage.{IsSmall, AreSmall, InStore, IsPlain, ArePlain, IsStoreStmt, IsStoreBlock, IsStoreBody, IsStoreMethod}
 use Rattle.vx_sound.proofs.Accepted.{accepted}
 use Rattle.vx_verifier.specs.Covered.{is_small, are_small, is_small_stmt, is_small_block, is_small_body, is_small_method, is_small_member, are_small_members}
-use Rattle.vx_verifier.specs.Headline.{IsMethodAt, IsSupported}
+use Rattle.vx_verifier.specs.Headline.{IsSupported}
 
 both : (a b : Bool) → (a && b) ≡ true → (a ≡ true) × (b ≡ true)
 both true b h = (refl, h)
@@ -118,3 +120,10 @@ typed p (y ∷ ms) h (suc n) x m at is =
 
 pub supported : (ms : List member'.Member) → are_typed_members (map member ms) ≡ true → are_small_members (map member ms) ≡ true → IsSupported (map member ms)
 supported ms h k = λ n m at. (typed (map member ms) (map member ms) h n at.0 m at.1 at.2, stored ms k n at.0 m at.1 at.2)
+
+-- what is read isn't unread
+pub read_is : (failed : Type 0) (holds : Option (List ℕ)) (t : Told) → IsRead t → IsUnreadAs failed holds t
+read_is failed holds (told.Program t) r = tt
+read_is failed holds (told.Refused line) r = tt
+read_is failed holds told.Unread r = absurd r
+read_is failed holds told.TooLong r = absurd r

@@ -14,7 +14,7 @@ use Rattle.vx_machine.specs.declared.machine.Ask.TheVariants.{Check as Due, Done
 use Rattle.vx_machine.specs.declared.machine.Outcome.{Outcome}
 use Rattle.vx_machine.specs.declared.machine.Outcome.TheVariants as outcome
 use Rattle.vx_machine.specs.Runs.{Told, EachAnswered, given, member_tree}
-use Rattle.vx_verifier.specs.Sequences.{IsCheckOf, AreChecksOf, replies_to}
+use Rattle.vx_verifier.specs.Sequences.{IsCheckOf, AreChecksOf}
 use Rattle.vx_verifier.specs.Headline.{IsVerdictOf, IsTold}
 use Rattle.vx_ends.specs.declared.piece.Piece.{Piece}
 use Rattle.vx_ends.specs.declared.piece.Ending.{Ending as Ended}

@@ -1,5 +1,5 @@
 -- The runs of a program's members, as one more is told.
-use Rattle.std.proofs.Common.{◌≡◌, ◌⊎◌, ℕ, ◌+◌, ◌≤◌, ◌||◌, Bool, true, false, ◌++◌, ◌∷◌, [], List, Option, Some, None, length, refl, ap, ◌∙◌, sym, subst, inl, inr, append_assoc, append-nil, length-append, arith}
+use Rattle.std.proofs.Common.{◌≡◌, ℕ, ◌+◌, ◌≤◌, ◌||◌, Bool, ◌++◌, ◌∷◌, [], List, length, refl, ap, ◌∙◌, sym, subst, append_assoc, append-nil, length-append, arith}
 use Rattle.vx_ast.specs.Syntax.{Program}
 use Rattle.vx_smt_meaning.specs.Dialogues.{Check}
 use Rattle.vx_ends.specs.declared.piece.Ending.{Ending}

@@ -1,10 +1,9 @@
 -- A member's checks grow one by one, along the walk; and what follows where their replies are right.
-use Rattle.std.proofs.Common.{◌≡◌, ◌⊎◌, ℕ, ◌+◌, ◌++◌, ◌∷◌, [], List, Option, Some, None, length, append_assoc, slice_get, refl, ap, ◌∙◌, sym, subst, inl, inr, arith}
-use Rattle.vx_ast.specs.Syntax.{Program, Member, Method, IsMethod}
+use Rattle.std.proofs.Common.{◌≡◌, ◌⊎◌, ℕ, ◌++◌, ◌∷◌, [], List, Some, append_assoc, refl, ap, ◌∙◌, sym, subst, inl, inr}
+use Rattle.vx_ast.specs.Syntax.{Program}
 use Rattle.vx_terms.specs.Terms.{Term}
 use Rattle.vx_terms.specs.Build.{negate}
-use Rattle.vx_terms.specs.Interpretations.{Interpretation, Each, AllTrue, IsTrueIn, IsUnsatisfiable}
-use Rattle.vx_types.specs.Typing.{IsTypedMethod}
+use Rattle.vx_terms.specs.Interpretations.{Each, IsTrueIn, IsUnsatisfiable}
 use Rattle.vx_smt_meaning.specs.Commands.{Level}
 use Rattle.vx_smt_meaning.specs.Dialogues.{Check}
 use Rattle.vx_smt_meaning.specs.declared.reply.Reply.{Reply}
@@ -13,7 +12,6 @@ use Rattle.vx_dialogue.specs.Dialogue.{pushed, check_of}
 use Rattle.vx_rules.specs.Trees.{Question, Answered, Passed, walk}
 use Rattle.vx_rules.specs.Members.{tree, method_tree}
 use Rattle.vx_machine.specs.Runs.{tree_of, member_tree}
-use Rattle.vx_sound.specs.StoreLanguage.{IsStoreMethod}
 use Rattle.vx_sound.specs.Law.{StoreLaw, AllRight}
 use Rattle.vx_sound.specs.Law.{IsRight as IsRightAnswer}
 use Rattle.vx_sound.proofs.Passes.{cleared}

@@ -1,6 +1,6 @@
 -- What the runs of a program's members promise: each verdict is that of the walk over the replies that the record of
 -- the child's link tells, and a member that is verified by right replies fails at no place.
-use Rattle.std.specs.Prelude.{◌≡◌, ◌⊎◌, ℕ, ◌+◌, ◌<◌, ⊤, ◌||◌, Bool, true, false, List, [], ◌∷◌, ◌++◌, Some, length, slice_get}
+use Rattle.std.specs.Prelude.{◌≡◌, ◌⊎◌, ℕ, ◌+◌, ◌<◌, ◌||◌, Bool, true, false, List, [], ◌∷◌, ◌++◌, Some, length, slice_get}
 use Rattle.vx_ast.specs.declared.Place.{Place}
 use Rattle.vx_ast.specs.Syntax.{Program, Member, Method, IsMethod}
 use Rattle.vx_terms.specs.Interpretations.{Each}

@@ -1,5 +1,5 @@
 -- What `run` promises: what the runs of a report are those of.
-use Rattle.std.specs.Prelude.{◌≡◌, ◌⊎◌, ℕ, ⊤, Bool, true, false, List, [], ◌∷◌, ◌++◌, Option, Some, IfSome, codes, take}
+use Rattle.std.specs.Prelude.{◌≡◌, ◌⊎◌, ℕ, ◌<◌, ⊤, Bool, true, false, List, [], ◌∷◌, ◌++◌, Option, Some, IfSome, codes, length, take}
 use Rattle.std.specs.Str.{bytes_eq}
 use Rattle.vx_ast.specs.Syntax.{Program}
 use Rattle.vx_ast.specs.Written as written
@@ -54,16 +54,37 @@ AsksOnly name old new = (new ≡ old) ⊎ (new ≡ old ++ name ∷ [])
 abbrev pub AsksFileOf : Order → (old new : List (Option (List ℕ))) → Type 0
 AsksFileOf (Verify file solver) old new = AsksOnly file old new
 
--- A status with a report is that of its runs; sink is where the sink failed, and usage where the words mean nothing. The others have no runs.
-abbrev pub IsStatusOf : (sink usage : Type 0) → List MemberRun → Status → Type 0
-IsStatusOf sink usage runs Done = status_among runs ≡ Done
-IsStatusOf sink usage runs NotVerified = status_among runs ≡ NotVerified
-IsStatusOf sink usage runs Faulted = status_among runs ≡ Faulted
-IsStatusOf sink usage runs Unwritten = sink
-IsStatusOf sink usage runs Usage = usage × (runs ≡ [])
-IsStatusOf sink usage runs Unread = runs ≡ []
-IsStatusOf sink usage runs Refused = runs ≡ []
-IsStatusOf sink usage runs Want = runs ≡ []
+-- a file isn't read only where reading failed, or where its text is too long
+abbrev pub IsUnread : (failed : Type 0) → Option (List ℕ) → Type 0
+IsUnread failed holds = failed ⊎ IfSome holds (λ text. 4194304 < length text)
+
+-- a program or a refusal
+abbrev pub IsRead : Told → Type 0
+IsRead (told.Program t) = ⊤
+IsRead (told.Refused line) = ⊤
+IsRead told.Unread = ⊥
+IsRead told.TooLong = ⊥
+
+abbrev pub IsUnreadAs : (failed : Type 0) → Option (List ℕ) → Told → Type 0
+IsUnreadAs failed holds (told.Program t) = ⊤
+IsUnreadAs failed holds (told.Refused line) = ⊤
+IsUnreadAs failed holds told.Unread = failed
+IsUnreadAs failed holds told.TooLong = IfSome holds (λ text. 4194304 < length text)
+
+-- the same of the file that the words name
+abbrev pub IsUnreadFile : Order → (failed : Type 0) → (holds : Option (List ℕ) → Option (List ℕ)) → Type 0
+IsUnreadFile (Verify file solver) failed holds = IsUnread failed (holds file)
+
+-- A status with a report is that of its runs; sink is where the sink failed, usage where the words mean nothing, and unread where the file isn't read. The others have no runs.
+abbrev pub IsStatusOf : (sink usage unread : Type 0) → List MemberRun → Status → Type 0
+IsStatusOf sink usage unread runs Done = status_among runs ≡ Done
+IsStatusOf sink usage unread runs NotVerified = status_among runs ≡ NotVerified
+IsStatusOf sink usage unread runs Faulted = status_among runs ≡ Faulted
+IsStatusOf sink usage unread runs Unwritten = sink
+IsStatusOf sink usage unread runs Usage = usage × (runs ≡ [])
+IsStatusOf sink usage unread runs Unread = unread × (runs ≡ [])
+IsStatusOf sink usage unread runs Refused = runs ≡ []
+IsStatusOf sink usage unread runs Want = runs ≡ []
 
 -- the starts of the spawner: at most one, by the words' command
 abbrev pub StartsOnly : Order → (old new : List Start) → Type 0

@@ -9,7 +9,7 @@ ghost use Rattle.vx_words.specs.Orders.{order_of};
 ghost use Rattle.vx_words.specs.declared.order.Order as meant;
 ghost use Rattle.vx_verifier.specs.Headline.{Headline};
 ghost use Rattle.vx_verifier.specs.Reported as spec;
-ghost use Rattle.vx_verifier.specs.Reported.{IsReadFrom, IsReportOf, AsksOnly, AsksFileOf, IsStatusOf, StartsOnly, IsPut};
+ghost use Rattle.vx_verifier.specs.Reported.{IsReadFrom, IsReportOf, AsksOnly, AsksFileOf, IsStatusOf, StartsOnly, IsPut, IsRead, IsUnreadAs, IsUnreadFile};
 
 use crate::answers::{TOO_LONG, UNREAD, USAGE, refusal_of_types, text_refusal, type_refusal};
 use crate::companion::Builtin;
@@ -55,7 +55,8 @@ fn put<K: Sink>(out: &mut K, text: &str, status: Status, runs: Vec<MemberRun>) -
 }
 
 fn read_program(alloc: Global, text: &[u8]) -> Result<Told, AllocError>
-    ensures { IfOk result (IsReadFrom (Some text.now)) }
+    ensures told { IfOk result (IsReadFrom (Some text.now)) }
+    ensures read { IfOk result IsRead }
 {
     let program = match parse(alloc, text) {
         Ok(program) => program,
@@ -76,12 +77,14 @@ fn read_program(alloc: Global, text: &[u8]) -> Result<Told, AllocError>
 }
 
 // Loads a text, and reads its program.
+#[tactic(auto, using(crate::proofs::Covered::read_is))]
 fn load_program<F: Files>(
     alloc: Global,
     files: &mut F,
     name: Option<&str>,
 ) -> Result<Told, AllocError>
     ensures told { IfOk result (IsReadFrom (F.holds files.old (option_copied name.entry))) }
+    ensures unread { IfOk result (IsUnreadAs (Rose (F.faults files.old) (F.faults files.new)) (F.holds files.old (option_copied name.entry))) }
     ensures asked { AsksOnly (option_copied name.entry) (F.asked files.old) (F.asked files.new) }
 {
     match files.load(alloc, name) {
@@ -102,7 +105,7 @@ fn report<K: Sink, W: Spawner>(
 ) -> Result<Ended, AllocError>
     ensures headline { IfOk result (λ ended. Headline (settled typed.now) (W.ended spawner.old) (W.ended spawner.new) (W.faults spawner.old) (W.faults spawner.new) ended.runs.items) }
     ensures taken { IfOk result (λ ended. IsPut (K.taken out.old) (K.taken out.new) ended.status (report_of (settled typed.now) ended.runs.items)) }
-    ensures status { IfOk result (λ ended. IsStatusOf (Rose (K.faults out.old) (K.faults out.new)) ⊥ ended.runs.items ended.status) }
+    ensures status { IfOk result (λ ended. IsStatusOf (Rose (K.faults out.old) (K.faults out.new)) ⊥ ⊥ ended.runs.items ended.status) }
     ensures starts { let start : Start = record { lane = 0; command = solver.now } in (W.starts spawner.new ≡ W.starts spawner.old) ⊎ (W.starts spawner.new ≡ W.starts spawner.old ++ start ∷ []) }
 {
     let runs = verify(alloc, typed, solver, spawner)?;
@@ -132,7 +135,7 @@ fn verify_file<F: Files, K: Sink, W: Spawner>(
         (λ p. Headline p builtin.old.ended.items builtin.new.ended.items 0 0 ended.runs.items × IsPut (K.taken out.old) (K.taken out.new) ended.status (report_of p ended.runs.items))
         (λ p. Headline p (W.ended spawner.old) (W.ended spawner.new) (W.faults spawner.old) (W.faults spawner.new) ended.runs.items × IsPut (K.taken out.old) (K.taken out.new) ended.status (report_of p ended.runs.items))) }
     ensures asked { AsksFileOf order.now (F.asked files.old) (F.asked files.new) }
-    ensures status { IfOk result (λ ended. IsStatusOf (Rose (K.faults out.old) (K.faults out.new)) ⊥ ended.runs.items ended.status) }
+    ensures status { IfOk result (λ ended. IsStatusOf (Rose (K.faults out.old) (K.faults out.new)) ⊥ (IsUnreadFile order.now (Rose (F.faults files.old) (F.faults files.new)) (F.holds files.old)) ended.runs.items ended.status) }
     ensures starts { StartsOnly order.now (W.starts spawner.old) (W.starts spawner.new) }
 {
     let Order::Verify { file, solver } = order;
@@ -151,6 +154,17 @@ fn verify_file<F: Files, K: Sink, W: Spawner>(
     }
 }
 
+// The end where memory runs out.
+fn without_memory(alloc: Global) -> Ended
+    ensures status { result.status ≡ Status.Want }
+    ensures runs { result.runs.items ≡ [] }
+{
+    Ended {
+        status: Status::Want,
+        runs: Vec::new(alloc),
+    }
+}
+
 /// Does what the words say; the first is the program's name. All text goes to `out`, built whole before its first byte
 /// is put. Children are started by `spawner`, or, where the solver is `builtin` or none is named, by `builtin`.
 pub fn run<F: Files, K: Sink, W: Spawner>(
@@ -164,21 +178,18 @@ pub fn run<F: Files, K: Sink, W: Spawner>(
     ensures headline { (result.runs.items ≡ []) ⊎ ((order : meant.Order) × (order_of words.now ≡ Some order) × IsReportOf order (F.holds files.old)
         (λ p. Headline p builtin.old.ended.items builtin.new.ended.items 0 0 result.runs.items × IsPut (K.taken out.old) (K.taken out.new) result.status (report_of p result.runs.items))
         (λ p. Headline p (W.ended spawner.old) (W.ended spawner.new) (W.faults spawner.old) (W.faults spawner.new) result.runs.items × IsPut (K.taken out.old) (K.taken out.new) result.status (report_of p result.runs.items))) }
-    ensures status { IsStatusOf (Rose (K.faults out.old) (K.faults out.new)) (order_of words.now ≡ None) result.runs.items result.status }
+    ensures status { IsStatusOf (Rose (K.faults out.old) (K.faults out.new)) (order_of words.now ≡ None)
+        ((order : meant.Order) × (order_of words.now ≡ Some order) × IsUnreadFile order (Rose (F.faults files.old) (F.faults files.new)) (F.holds files.old)) result.runs.items result.status }
+    ensures usage { order_of words.now ≡ None → (result.status ≡ Status.Usage) ⊎ (result.status ≡ Status.Unwritten) ⊎ (result.status ≡ Status.Want) }
     ensures asked { (F.asked files.new ≡ F.asked files.old) ⊎ ((order : meant.Order) × (order_of words.now ≡ Some order) × AsksFileOf order (F.asked files.old) (F.asked files.new)) }
     ensures starts { (W.starts spawner.new ≡ W.starts spawner.old) ⊎ ((order : meant.Order) × (order_of words.now ≡ Some order) × StartsOnly order (W.starts spawner.old) (W.starts spawner.new)) }
 {
-    let none = Vec::new(alloc);
-    let ended = match read_words(alloc, words) {
-        Ok(order) => verify_file(alloc, &order, files, out, spawner, builtin),
-        Err(WordsFault::Usage) => return put(out, USAGE, Status::Usage, none),
-        Err(WordsFault::Want) => Err(AllocError),
-    };
-    match ended {
-        Ok(ended) => ended,
-        Err(_) => Ended {
-            status: Status::Want,
-            runs: none,
+    match read_words(alloc, words) {
+        Ok(order) => match verify_file(alloc, &order, files, out, spawner, builtin) {
+            Ok(ended) => ended,
+            Err(AllocError) => without_memory(alloc),
         },
+        Err(WordsFault::Usage) => put(out, USAGE, Status::Usage, Vec::new(alloc)),
+        Err(WordsFault::Want) => without_memory(alloc),
     }
 }

@@ -1,4 +1,4 @@
-use Rattle.std.proofs.Common.{◌≡◌, false, ◌++◌, ◌∷◌, [], ap, ◌∙◌, sym, subst, Err}
+use Rattle.std.proofs.Common.{false, ◌++◌, ◌∷◌, [], ap, ◌∙◌, sym, subst, Err}
 use Rattle.vx_ends.specs.declared.piece.Ending.{Ending}
 use Rattle.vx_verifier.specs.Headline.{HasCauseOf}
 use Rattle.vx_verifier.specs.Lanes.{IsCausedBy}

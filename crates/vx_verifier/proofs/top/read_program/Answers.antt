@@ -3,8 +3,8 @@ use Rattle.vx_ast.specs.Written.{written_program}
 use Rattle.vx_verifier.proofs.Covered.{supported}
 use Rattle.vx_verifier.proofs.top.read_program.Goals as goal
 
-pub returns-in-Ok-check : goal.returns-in-Ok-check
-returns-in-Ok-check c = (
+pub returns-in-Ok-check-clause-told : goal.returns-in-Ok-check-clause-told
+returns-in-Ok-check-clause-told c = (
   c.args.text.now,
   refl,
   record {

@@ -1,4 +1,4 @@
-use Rattle.std.proofs.Common.{◌≡◌, ℕ, length}
+use Rattle.std.proofs.Common.{length}
 use Rattle.vx_verifier.proofs.companion.builtin.CompanionLink.answer.Given as goal
 
 abbrev pub decreases-loop-taken : goal.decreases-loop-taken
