@@ -15,8 +15,8 @@ assignments() {
 }
 
 asserts() {
-    echo "method m(a: Bool, x: Int) requires a {"
-    for ((i = 0; i < $1; i++)); do echo "assert a || x < $i"; done
+    echo "method m(a: Bool) requires a {"
+    for ((i = 0; i < $1; i++)); do echo "assert a"; done
     echo "}"
 }
 
