@@ -1,0 +1,7 @@
+mod Levels
+mod Same
+mod Descends
+mod Chains
+mod Statements
+mod Trees
+mod Worked
