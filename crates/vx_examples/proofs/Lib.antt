@@ -10,3 +10,4 @@ pub mod Given
 pub mod Kept
 pub mod Halves
 pub mod Unending
+pub mod Unfolded
