@@ -11,3 +11,4 @@ pub mod Kept
 pub mod Halves
 pub mod Unending
 pub mod Unfolded
+pub mod Reached

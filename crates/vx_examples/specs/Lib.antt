@@ -28,3 +28,4 @@ pub mod Evaluated
 pub mod Identical
 pub mod Unreached
 pub mod Sorting
+pub mod Untyped
