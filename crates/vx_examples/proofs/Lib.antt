@@ -12,3 +12,4 @@ pub mod Halves
 pub mod Unending
 pub mod Unfolded
 pub mod Reached
+pub mod WellSorted

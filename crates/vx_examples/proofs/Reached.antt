@@ -1,20 +1,20 @@
 -- Outcomes in sets of outcomes, and runs of statements that no typed program has.
-use Rattle.std.proofs.Common.{◌≡◌, ℕ, zero, suc, pos, IsTrue, true, [], ◌∷◌, List, refl, sym, ap, subst, ◌∙◌, inl, inr, ◌⊎◌, arith, Some, Option}
+use Rattle.std.proofs.Common.{◌≡◌, pos, IsTrue, [], ◌∷◌, List, refl, sym, ap, subst, inl, inr, arith, Some, Option}
 use Rattle.std.specs.Prelude.{Ok, Err}
 use Rattle.vx_ast.specs.declared.Place.{Place}
 use Rattle.vx_ast.specs.Syntax.{Number, More, NoMore, Read, Points, ByNumber, ByInstance}
 use Rattle.vx_frac.specs.Fractions.{full, product, is_positive}
-use Rattle.vx_meaning.specs.Values.{Value, IntValue, BoolValue, RefValue}
-use Rattle.vx_meaning.specs.States.{State, Holdings, At, Folded, amount, lost}
+use Rattle.vx_meaning.specs.Values.{Value, IntValue, RefValue}
+use Rattle.vx_meaning.specs.States.{At, Folded, amount, lost}
 use Rattle.vx_meaning.specs.Fits.{Checked, Takes, FailsToTake}
-use Rattle.vx_meaning.specs.Outcomes.{Outcome, Ends, FailsAt, Stops, ends, fails, stops, either, for_any, failing_at, passes, refused, is_over}
+use Rattle.vx_meaning.specs.Outcomes.{Outcome, Ends, FailsAt, ends, fails, stops, either, failing_at, passes, refused, is_over}
 use Rattle.vx_meaning.specs.Run.{run_all}
 use Rattle.vx_meaning.specs.Fails.{MeasureFails}
 use Rattle.vx_examples.specs.Words.{at}
 use Rattle.vx_examples.specs.Cells.{f, get, cell, cells}
 use Rattle.vx_examples.specs.Scenes.{x_f, poor, owner, folder}
 use Rattle.vx_examples.specs.Untyped.{x_var, whole, one_x, folds_get, unfolds_get, calls_get, folds_by_int, unfolds_by_int, writes_of_int, asks_int}
-use Rattle.vx_examples.proofs.Checks.{only_ok, single, alone, from_one}
+use Rattle.vx_examples.proofs.Checks.{only_ok, single, alone}
 
 pub end_elsewhere : ends poor (Ends owner) → ⊥
 end_elsewhere e = some_held (ap (λ s. s.holdings) e)

@@ -1,9 +1,9 @@
 -- The failing runs of programs that start with a folded instance.
-use Rattle.std.proofs.Common.{◌≡◌, ℕ, zero, suc, pos, true, false, Bool, IsTrue, if◌then◌else◌, ◌&&◌, List, [], ◌∷◌, refl, sym, subst, inl}
+use Rattle.std.proofs.Common.{◌≡◌, ℕ, zero, suc, true, false, Bool, IsTrue, if◌then◌else◌, ◌&&◌, List, [], ◌∷◌, refl, sym, subst, inl}
 use Rattle.vx_ast.specs.Syntax.{Name, Program, same_name}
 use Rattle.vx_frac.specs.Fractions.{Fraction, full, none, sum, minus, product, is_positive, at_most}
 use Rattle.vx_meaning.specs.Values.{Value, IntValue, BoolValue, RefValue, PermValue, same_values}
-use Rattle.vx_meaning.specs.States.{State, Heap, Holdings, Location, Instance, At, Folded, amount, gained, lost, same_location}
+use Rattle.vx_meaning.specs.States.{State, Holdings, Location, Instance, At, Folded, amount, gained, lost, same_location}
 use Rattle.vx_meaning.specs.Consistent.{total, IsConsistent}
 use Rattle.vx_meaning.specs.Flatten.{IsGrounded}
 use Rattle.vx_meaning.specs.Outcomes.{passes, refused, goes_on, is_over}

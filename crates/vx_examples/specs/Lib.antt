@@ -29,3 +29,4 @@ pub mod Identical
 pub mod Unreached
 pub mod Sorting
 pub mod Untyped
+pub mod Viewed

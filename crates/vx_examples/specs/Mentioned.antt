@@ -1,10 +1,10 @@
 -- What expressions and assertions mention, and the parts of the settled syntax.
-use Rattle.std.specs.Prelude.{Bool, true, false, List, [], ◌∷◌, Option, Some, None, codes}
+use Rattle.std.specs.Prelude.{true, List, [], ◌∷◌, codes}
 use Rattle.vx_ast.specs.declared.Place.{Place}
 use Rattle.vx_ast.specs.declared.ValueType.TheVariants.{Int}
 use Rattle.vx_ast.specs.Syntax.{Name, Expr, Number, Truth, Null, Part, Variable, Not, Operate, Equal, Divide, Quotient, Connect, And, Or, Implies, Choose, Read, Old, Apply, Unfolding, Exprs, NoMore, More, Assertion, Pure, Points, Instance, Both, Implied, Chosen, Stmt, Declare, Assign, Write, New, Call, Inhale, Exhale, Assert, Assume, Fold, Unfold, If, While, Block, Done, Then}
 use Rattle.vx_examples.specs.Words.{at}
-use Rattle.vx_examples.specs.Cells.{cell, f, get, hidden, x, y}
+use Rattle.vx_examples.specs.Cells.{cell, f, get, x, y}
 
 abbrev pub g : Name
 g = codes "g"

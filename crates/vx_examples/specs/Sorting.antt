@@ -1,13 +1,13 @@
 -- Sorts, symbols and operators, and terms that are not well-sorted.
 use Rattle.std.specs.Prelude.{ℕ, ◌-◌, ◌^◌, Bool, true, false, pos, negsuc, List, [], ◌∷◌}
-use Rattle.vx_frac.specs.Fractions.{Fraction, none}
+use Rattle.vx_frac.specs.Fractions.{none}
 use Rattle.vx_terms.specs.Sorts as sort
 use Rattle.vx_terms.specs.Sorts.{Sort, IntSort, BoolSort, RealSort, RefSort, SnapSort, OtherSort, Symbol, Standard, Function, Variable, Named, Operator}
 use Rattle.vx_terms.specs.Terms as term
 use Rattle.vx_terms.specs.Terms.{Term, NoTerms, MoreTerms}
 use Rattle.vx_terms.specs.Build as make
-use Rattle.vx_terms.specs.Interpretations.{Tree, Empty, RefLeaf, Element, IntElement, BoolElement, RealElement, TreeElement}
-use Rattle.vx_examples.specs.Words.{int, bool, real, ref, snap, unit, number, part, falsity, equal, less, at_most, plus, minus, times, both, either, implied, chosen_term, quotient, remainder, applied, first, second, as_int}
+use Rattle.vx_terms.specs.Interpretations.{Empty, RefLeaf, Element, IntElement, BoolElement, RealElement, TreeElement}
+use Rattle.vx_examples.specs.Words.{int, real, snap, unit, number, part, falsity, equal, less, at_most, plus, minus, times, both, either, implied, chosen_term, quotient, remainder, applied, first, second, as_int}
 use Rattle.vx_examples.specs.Simplified.{truth, half, third}
 
 abbrev pub of_texts : List ((List ℕ × List ℕ) × Bool)

@@ -1,8 +1,7 @@
 -- States, parts and continuations that the branches of the rules are applied to.
-use Rattle.std.specs.Prelude.{true, false, [], ◌∷◌, List, Option, Some, None}
+use Rattle.std.specs.Prelude.{false, [], ◌∷◌, List, Option, None}
 use Rattle.vx_ast.specs.declared.ValueType.TheVariants as type
 use Rattle.vx_ast.specs.Syntax.{Expr, Variable, Declaration, Method, Block}
-use Rattle.vx_terms.specs.Terms.{Term}
 use Rattle.vx_rules.specs.States.{Chunk, Own, State}
 use Rattle.vx_rules.specs.Trees.{Code, Tree, End, On, Ask}
 use Rattle.vx_rules.specs.Rules.{Giving, Going}

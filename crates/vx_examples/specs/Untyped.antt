@@ -1,6 +1,6 @@
 -- Values, parts and statements that no typed program has, or that name no member: x is the reference 1, y is 0, and x.f is 5.
-use Rattle.std.specs.Prelude.{Bool, true, false, pos, negsuc, List, [], ◌∷◌, ◌++◌, Option, Some, None, Ok, Err, codes}
-use Rattle.vx_frac.specs.Fractions.{Fraction, full, none, product}
+use Rattle.std.specs.Prelude.{Bool, true, false, pos, negsuc, List, [], ◌∷◌, Option, Some, None, Ok, Err, codes}
+use Rattle.vx_frac.specs.Fractions.{full, none}
 use Rattle.vx_ast.specs.declared.ValueType.{ValueType}
 use Rattle.vx_ast.specs.declared.ValueType.TheVariants.{Int, Perm}
 use Rattle.vx_ast.specs.declared.ValueType.TheVariants as type

@@ -30,4 +30,5 @@ pub mod store;
 pub mod terms;
 pub mod untyped;
 pub mod values;
+pub mod views;
 pub mod walks;

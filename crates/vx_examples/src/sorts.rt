@@ -62,3 +62,31 @@ pub fn unsorted_terms()
     ensures not_of_snap { IsOf SnapSort (RealElement none) → ⊥ }
     ensures not_of_other { IsOf (OtherSort []) (BoolElement true) → ⊥ }
 {}
+
+/// Well-sorted terms over the symbols below v8, one by each form, and terms that are not.
+#[tactic(auto, unfolding(vx_frac::specs::Fractions::lowest))]
+pub fn formed_terms()
+    ensures truth { Formed 8 truth BoolSort }
+    ensures of_other_sort { Formed 8 truth IntSort → ⊥ }
+    ensures number { Formed 8 (number 1) IntSort }
+    ensures fraction { Formed 8 half RealSort }
+    ensures not_lowest { Formed 8 (part (pos 2) 3) RealSort → ⊥ }
+    ensures constant { Formed 8 (int 7) IntSort }
+    ensures unknown { Formed 8 (int 8) IntSort → ⊥ }
+    ensures applied { Formed 8 (first (snap 7)) SnapSort }
+    ensures applied_to_unknown { Formed 8 (first (snap 8)) SnapSort → ⊥ }
+    ensures denied { Formed 8 (denied (bool 0)) BoolSort }
+    ensures denied_int { Formed 8 (denied (int 0)) BoolSort → ⊥ }
+    ensures sum { Formed 8 (plus (int 0) (number 1)) IntSort }
+    ensures mixed_sum { Formed 8 (plus (int 0) half) IntSort → ⊥ }
+    ensures sum_of_bools { Formed 8 (plus truth truth) BoolSort → ⊥ }
+    ensures choice { Formed 8 (chosen_term (bool 0) (int 1) (number 1)) IntSort }
+    ensures choice_by_int { Formed 8 (chosen_term (int 0) (int 1) (number 1)) IntSort → ⊥ }
+    ensures mixed_choice { Formed 8 (chosen_term (bool 0) (int 1) half) IntSort → ⊥ }
+    ensures all_of { Formed 8 (term.AllOf (term.MoreTerms truth (term.MoreTerms (bool 0) term.NoTerms))) BoolSort }
+    ensures all_of_ints { Formed 8 (term.AllOf (term.MoreTerms (int 0) term.NoTerms)) BoolSort → ⊥ }
+    ensures some_of { Formed 8 (term.SomeOf term.NoTerms) BoolSort }
+    ensures some_of_ints { Formed 8 (term.SomeOf (term.MoreTerms truth (term.MoreTerms (int 0) term.NoTerms))) BoolSort → ⊥ }
+    ensures known { IsKnown 8 (sort.Variable 7) × IsKnown 0 (sort.Function 7) }
+    ensures not_known { IsKnown 8 (sort.Variable 8) → ⊥ }
+{}
