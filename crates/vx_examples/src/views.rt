@@ -1,6 +1,6 @@
 //! What the paths, indices, states and frames of the code stand for: each variant, whatever its parts.
 
-ghost use Rattle.std.specs.Prelude.{◌≡◌, ◌^◌, ℕ, Bool, true, false, pos, map, Ok, Err, [], ◌∷◌, ◌++◌, Some, None, List, Option, String, string_bytes};
+ghost use Rattle.std.specs.Prelude.{◌≡◌, ◌^◌, ◌||◌, ℕ, Bool, true, false, pos, map, Ok, Err, [], ◌∷◌, ◌++◌, Some, None, List, Option, String, string_bytes};
 ghost use Rattle.std.specs.declared.alloc.Global.{Global};
 ghost use Rattle.std.specs.declared.rc.Rc.{Rc};
 ghost use Rattle.vx_ast.specs.Syntax.{Program};
@@ -45,7 +45,7 @@ ghost use Rattle.vx_rules.specs.States as states;
 ghost use Rattle.vx_rules.specs.Rules as rules;
 ghost use Rattle.vx_rules.specs.Rules.{Giving, Going};
 ghost use Rattle.vx_rules.specs.Members as members;
-ghost use Rattle.vx_rules.specs.Trees.{AssertCode, CallCode, PermissionCode, PostCode, End, Step, Ask, Probe, Fork};
+ghost use Rattle.vx_rules.specs.Trees.{AssertCode, CallCode, EntryCode, PermissionCode, PostCode, Tree, End, Step, Ask, Probe, Fork};
 ghost use Rattle.vx_rules.specs.declared.question.Code.TheVariants as code';
 ghost use Rattle.vx_rules.specs.declared.frame.Operand.TheVariants as operand';
 ghost use Rattle.vx_rules.specs.declared.frame.Consumed.TheVariants as consumed';
@@ -87,6 +87,9 @@ pub fn paths_and_indices()
     ensures branch { (q : _) (before : Path) (t : Rc Term' Global) → entries (path'.Branch' q before t) ≡ entries before ++ branch (term t.value) ∷ [] }
     ensures extended { extended (branch (bool 0) ∷ []) (bool 1) false ≡ branch (bool 0) ∷ fact (bool 1) ∷ [] }
     ensures none { (k : ℕ) (t : Term) → finds index'.Nothing k t ≡ false }
+    ensures held { (q : _) (u : Rc Term' Global) (more : Index) → finds (index'.Holds' u q more) 5 (bool 1) ≡ (terms.same (bool 1) (term u.value) || finds more 5 (bool 1)) }
+    ensures even_side { (p q : _) (even odd : Index) → finds (index'.Branch' p even q odd) 6 (bool 1) ≡ finds even 3 (bool 1) }
+    ensures odd_side { (p q : _) (even odd : Index) → finds (index'.Branch' p even q odd) 7 (bool 1) ≡ finds odd 3 (bool 1) }
     ensures alike { IsAlike index'.Nothing index'.Nothing }
     ensures indexed { IsIndexed [] index'.Nothing }
     ensures not_indexed { IsIndexed (fact (bool 1) ∷ []) index'.Nothing → ⊥ }
@@ -133,10 +136,13 @@ pub fn frames_that_wait()
     ensures inner { (q : _) (b : Rc Block' Global) (n : Next) → going [] (next'.Inner' b 1 q n) scene ≡ members.exec_all [] (rules.outer [] 4) (block b.value) scene (λ s. going [] n (states.leave 1 s)) }
     ensures produce { (q : _) (a : Rc Assertion' Global) (n : Next) → going [] (next'.Produce' a q n) scene ≡ rules.produce [] (rules.outer [] 4) (assertion a.value) all None scene (going [] n) }
     ensures unit { (q : _) (h : Hole) → going [] (next'.Unit' q h) with_chunks ≡ Step (giving [] h unit (record with_chunks { heap = [] })) }
+    ensures consume { (q : _) (a : Rc Assertion' Global) (h : Hole) → going [] (next'.Consume' a (record { pure = code'.Entry; permission = code'.Entry }) q h) with_chunks ≡
+        rules.consume [] (rules.outer [] 4) (assertion a.value) (members.codes EntryCode EntryCode) all with_chunks.heap with_chunks (giving [] h) }
     ensures sides { (m : Rc Method' Global) → going [] (next'.Sides m) scene ≡ members.sides [] (method m.value) scene }
     ensures given { giving [] hole'.Finish (int 0) scene ≡ End }
     ensures produced { (q : _) (n : Next) → giving [] (hole'.Produced' q n) (bool 0) scene ≡ Step (going [] n scene) }
     ensures operand { (q : _) (h : Hole) → giving [] (hole'.Operand' operand'.Negate q h) (bool 0) scene ≡ Step (giving [] h (denied (bool 0)) scene) }
+    ensures consumed { (q : _) (t : Rc Term' Global) (h : Hole) → giving [] (hole'.Consumed' (consumed'.With t) q h) unit scene ≡ Step (giving [] h (pair (term t.value) unit) scene) }
     ensures executed { (q : _) (n : Next) → giving [] (hole'.Executed' executed'.Exhaled q n) unit scene ≡ Step (going [] n scene) }
     ensures go { (n : Rc Next Global) → frame_tree [] (frame'.Go n) scene ≡ going [] n.value scene }
     ensures eval { (e : Rc Expr' Global) (h : Rc Hole Global) → frame_tree [] (frame'.Eval e h) scene ≡ rules.eval [] (rules.outer [] 4) (expr e.value) scene (giving [] h.value) }
@@ -150,6 +156,7 @@ pub fn steps_of_stacks()
     ensures go_no_fork { (a b : Side) → Stepped [] (Fork (side_tree [] a) (side_tree [] b)) [] move'.Go (b ∷ a ∷ []) → ⊥ }
     ensures ask { (a : Side) → Checked [] false (Ask first_ask (side_tree [] a)) [] first_ask (a ∷ []) }
     ensures probe { (a b : Side) → Checked [] true (Probe a_probe (side_tree [] a) (side_tree [] b)) [] a_probe (b ∷ a ∷ []) }
+    ensures check { (q : Query) (t : Tree) (old new : List Side) → Checked [] q.probe t old (query q) new → Stepped [] t old (move'.Check q) new }
     ensures ask_no_probe { (a : Side) → Checked [] true (Ask first_ask (side_tree [] a)) [] first_ask (a ∷ []) → ⊥ }
 {}
 
@@ -157,6 +164,8 @@ pub fn steps_of_stacks()
 pub fn views_of_parts()
     ensures sorts { Computes view.sort of_sorts }
     ensures symbols { Computes view.symbol of_term_symbols }
+    ensures other_sort { (x : Rc (String Global) Global) → view.sort (sort'.Other x) ≡ sort.OtherSort (string_bytes x.value) }
+    ensures other_symbol { (x : Rc (String Global) Global) → view.symbol (symbol'.Named x) ≡ sort.Named (string_bytes x.value) }
     ensures operators { Computes view.operator of_term_operators }
     ensures numbers { literals (literals'.Numbers (pos 1) (pos 2)) ≡ make.Numbers (pos 1) (pos 2) }
     ensures truths { literals (literals'.Truths true false) ≡ make.Truths true false }

@@ -12,3 +12,6 @@ returns-clause-ask c a = (a, refl, refl)
 
 pub returns-clause-probe : goal.returns-clause-probe
 returns-clause-probe c a b = (a, b, refl, refl)
+
+pub returns-clause-check : goal.returns-clause-check
+returns-clause-check c q t old new h = h
