@@ -50,6 +50,6 @@ LeadsBy p zero x y = ⊥
 LeadsBy p (suc n) x y = Stands y (entered_from p x) ⊎ ((z : Name) × Stands z (entered_from p x) × LeadsBy p n z y)
 
 -- no function's precondition or measure applies the function again, nor does a predicate's body unfold the predicate,
--- also by way of others; Viper's typing asks it of precondition and body, and a measure here applies no function
+-- also by way of others; Viper asks the same of preconditions, and here typing has to refuse the others too
 abbrev pub NoneWithinItself : Program → Type 0
 NoneWithinItself p = (n : ℕ) (x : Name) → LeadsBy p n x x → ⊥

@@ -1,4 +1,4 @@
--- Programs in which a member is entered within itself, which Viper's typing refuses; and programs in which none is.
+-- Programs in which a member is entered within itself, which typing has to refuse; and programs in which none is.
 use Rattle.std.specs.Prelude.{[], ◌∷◌, Some, None, codes, true}
 use Rattle.vx_ast.specs.declared.Place.{Place}
 use Rattle.vx_ast.specs.declared.ValueType.TheVariants.{Int}

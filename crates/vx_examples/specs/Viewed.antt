@@ -1,5 +1,10 @@
 -- The code's codes, and keys of terms, computed by hand: a key mixes two as `(31 a + b) % 65536`.
 use Rattle.std.specs.Prelude.{ℕ, negsuc, List, [], ◌∷◌}
+use Rattle.vx_ast.specs.Syntax as syntax
+use Rattle.vx_ast.specs.declared.resolved.Operator.{Operator as SettledOperator}
+use Rattle.vx_ast.specs.declared.resolved.Operator.TheVariants as settled'
+use Rattle.vx_ast.specs.declared.resolved.Connective.{Connective as Connective'}
+use Rattle.vx_ast.specs.declared.resolved.Connective.TheVariants as connective'
 use Rattle.vx_terms.specs.Sorts as sort
 use Rattle.vx_terms.specs.declared.sort.Sort.{Sort as Sort'}
 use Rattle.vx_terms.specs.declared.sort.Sort.TheVariants as sort'
@@ -51,3 +56,11 @@ abbrev pub of_term_operators : List (Operator' × Operator)
 of_term_operators =
     (operator'.And, sort.And) ∷ (operator'.Or, sort.Or) ∷ (operator'.Implies, sort.Implies) ∷ (operator'.Equal, sort.Equal) ∷ (operator'.Less, sort.Less) ∷ (operator'.LessEqual, sort.LessEqual)
     ∷ (operator'.Add, sort.Add) ∷ (operator'.Subtract, sort.Subtract) ∷ (operator'.Multiply, sort.Multiply) ∷ (operator'.Div, sort.Div) ∷ (operator'.Mod, sort.Mod) ∷ []
+
+abbrev pub of_settled_operators : List (SettledOperator × syntax.Operator)
+of_settled_operators =
+    (settled'.Equal, syntax.Equal) ∷ (settled'.Less, syntax.Less) ∷ (settled'.LessEqual, syntax.LessEqual) ∷ (settled'.Greater, syntax.Greater) ∷ (settled'.GreaterEqual, syntax.GreaterEqual)
+    ∷ (settled'.Add, syntax.Add) ∷ (settled'.Subtract, syntax.Subtract) ∷ (settled'.Multiply, syntax.Multiply) ∷ []
+
+abbrev pub of_settled_connectives : List (Connective' × syntax.Connective)
+of_settled_connectives = (connective'.And, syntax.And) ∷ (connective'.Or, syntax.Or) ∷ (connective'.Implies, syntax.Implies) ∷ []

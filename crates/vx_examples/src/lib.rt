@@ -9,6 +9,7 @@ pub mod applications;
 pub mod assertions;
 pub mod assertions_by_rules;
 pub mod calls;
+pub mod code_trees;
 pub mod compound;
 pub mod evaluation;
 pub mod expressions;
