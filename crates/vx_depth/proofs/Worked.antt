@@ -1,5 +1,5 @@
 -- Programs that enter a member within itself, and programs that don't.
-use Rattle.std.proofs.Common.{◌≡◌, ℕ, zero, suc, Bool, true, false, [], ◌++◌, Option, Some, None, inl, inr, refl, ap, subst, arith}
+use Rattle.std.proofs.Common.{◌≡◌, ℕ, zero, suc, Bool, true, false, [], ◌++◌, Option, Some, None, inl, inr, refl, ap, subst, arith, sym, true≢false, is_some}
 use Rattle.vx_ast.specs.Syntax.{Name, same_name, Kind, IsFunction, Predicate, function_in, predicate_in}
 use Rattle.vx_frac.specs.Fractions.{lowest}
 use Rattle.vx_rules.specs.Trees.{Question, Open, size, walk}
@@ -7,6 +7,7 @@ use Rattle.vx_rules.specs.Rules.{nowhere, outer}
 use Rattle.vx_rules.specs.Members.{depth, tree}
 use Rattle.vx_ast.specs.Syntax.{IsPredicate}
 use Rattle.vx_depth.specs.Entering.{entered_by_function, entered_by_predicate, entered_from, IsWithin, Stands, LeadsBy, NoneWithinItself}
+use Rattle.vx_depth.specs.Apart.{KeepsApart}
 use Rattle.vx_depth.specs.Trees.{tree_over}
 use Rattle.vx_depth.specs.Worked.{f, n, P, applies_itself, applies_itself_f, unfolds_itself, unfolds_itself_P, nested, nested_P, plain, plain_f}
 
@@ -50,3 +51,20 @@ unfolds_itself_asks = (_, refl, refl)
 
 pub applies_itself_goes_on : tree_over applies_itself (outer applies_itself (suc (depth applies_itself))) f (IsFunction applies_itself_f) ≡ tree applies_itself f (IsFunction applies_itself_f) → ⊥
 applies_itself_goes_on e = let m = ap size e in absurd (omega (arith, m))
+
+nothing_named : {A : Type 0} {B : Type 0} (a : A) → (let o : Option A = None in o) ≡ Some a → B
+nothing_named a e = absurd (true≢false (sym (ap is_some e)))
+
+pub none_refused : KeepsApart []
+none_refused = record {
+  measure = λ f g x e. nothing_named g e;
+  body = λ i d x e. nothing_named d e;
+  precondition = λ f g x e. nothing_named g e;
+  unfolding_body = λ i d x e. nothing_named d e;
+}
+
+pub applies_itself_is_not_apart : KeepsApart applies_itself → ⊥
+applies_itself_is_not_apart apart = apart.precondition f applies_itself_f f refl (inl refl) (1, inl (inl refl))
+
+pub unfolds_itself_is_not_apart : KeepsApart unfolds_itself → ⊥
+unfolds_itself_is_not_apart apart = apart.unfolding_body P _ P refl (inl refl) (1, inl (inl refl))

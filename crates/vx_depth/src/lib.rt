@@ -6,6 +6,7 @@ ghost use Rattle.vx_ast.specs.Syntax.{Name, Program, Kind, IsFunction, IsPredica
 ghost use Rattle.vx_rules.specs.Trees.{Question, Open, walk};
 ghost use Rattle.vx_rules.specs.Rules.{nowhere, outer};
 ghost use Rattle.vx_rules.specs.Members.{depth, tree};
+ghost use Rattle.vx_depth.specs.Apart.{KeepsApart};
 ghost use Rattle.vx_depth.specs.Entering.{IsWithin, NoneWithinItself};
 ghost use Rattle.vx_depth.specs.Depths.{SameRules};
 ghost use Rattle.vx_depth.specs.Trees.{tree_over};
@@ -43,4 +44,13 @@ pub fn members_within_themselves()
     ensures function_goes_on { tree_over applies_itself (outer applies_itself (suc (depth applies_itself))) f (IsFunction applies_itself_f) ≡ tree applies_itself f (IsFunction applies_itself_f) → ⊥ }
     ensures predicate { NoneWithinItself unfolds_itself → ⊥ }
     ensures predicate_asks { (q : Question) × ((walk (tree unfolds_itself P (IsPredicate unfolds_itself_P)) []).ending ≡ Open q) × (q.place ≡ nowhere) }
+{}
+
+/// Where typing refuses what E28 says, no member is entered within itself, and so the depth suffices.
+pub fn groups_kept_apart()
+    ensures apart { (p : Program) → KeepsApart p → NoneWithinItself p }
+    ensures trees { (p : Program) (d : ℕ) → KeepsApart p → depth p ≤ d → (x : Name) (k : Kind) → tree_over p (outer p d) x k ≡ tree p x k }
+    ensures none { KeepsApart [] }
+    ensures function { KeepsApart applies_itself → ⊥ }
+    ensures predicate { KeepsApart unfolds_itself → ⊥ }
 {}
