@@ -10,3 +10,6 @@ pub mod Given
 pub mod Kept
 pub mod Halves
 pub mod Unending
+pub mod Unfolded
+pub mod Reached
+pub mod WellSorted

@@ -8,7 +8,9 @@ pub mod Functions
 pub mod Told
 pub mod Cells
 pub mod Blocks
+pub mod Mentioned
 pub mod Scenes
+pub mod Settling
 pub mod Expressions
 pub mod Allowed
 pub mod Taken
@@ -24,3 +26,7 @@ pub mod Totals
 pub mod Amounts
 pub mod Evaluated
 pub mod Identical
+pub mod Unreached
+pub mod Sorting
+pub mod Untyped
+pub mod Viewed

@@ -72,6 +72,8 @@ pub fn failing_programs()
     ensures called { MethodFails called_bare called_bare_m (at 3 20) }
     ensures applied { MethodFails functions.unheld functions.unheld_m (at 3 27) }
     ensures folded { MethodFails folded_write folded_write_m (at 6 1) }
+    ensures half_unfolded { MethodFails predicates.half_unfolded predicates.half_unfolded_m (at 6 1) }
+    ensures below_none { MethodFails predicates.below_none predicates.below_none_m (at 4 8) }
     ensures unframed { PredicateFails predicates.unframed predicates.unframed_Q }
     ensures rising { FunctionFails rising functions.f rising_f }
 {}

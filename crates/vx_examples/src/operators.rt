@@ -49,6 +49,7 @@ pub fn snapshots()
     ensures left_part { rules.left_part (Some (pair (snap 1) (snap 2))) ≡ Some (snap 1) }
     ensures right_part { rules.right_part (Some (snap 1)) ≡ Some (second (snap 1)) }
     ensures no_part { rules.left_part None ≡ None }
+    ensures no_right_part { rules.right_part None ≡ None }
     ensures split { (rules.with_split (Some (snap 1)) members.blank).path ≡ fact (equal (snap 1) (pair (first (snap 1)) (second (snap 1)))) ∷ [] }
     ensures not_split { rules.with_split None scene ≡ scene }
     ensures with_unit { (rules.with_unit (Some (snap 1)) members.blank).path ≡ fact (equal (snap 1) unit) ∷ [] }

@@ -1,4 +1,5 @@
 use Rattle.vx_examples.proofs.Programs.{failing_programs_exhaled_twice, failing_programs_maybe_same, failing_programs_forgotten, failing_programs_half_write, failing_programs_counting, failing_programs_called, failing_programs_applied, failing_programs_folded, failing_programs_unframed, failing_programs_rising}
+use Rattle.vx_examples.proofs.Unfolded.{failing_programs_half_unfolded, failing_programs_below_none}
 use Rattle.vx_examples.proofs.Halves.{failing_programs_two_halves}
 use Rattle.vx_examples.proofs.failures.failing_programs.Goals as goal
 
@@ -34,3 +35,9 @@ returns-clause-unframed c = failing_programs_unframed
 
 pub returns-clause-rising : goal.returns-clause-rising
 returns-clause-rising c = failing_programs_rising
+
+pub returns-clause-half_unfolded : goal.returns-clause-half_unfolded
+returns-clause-half_unfolded c = failing_programs_half_unfolded
+
+pub returns-clause-below_none : goal.returns-clause-below_none
+returns-clause-below_none c = failing_programs_below_none

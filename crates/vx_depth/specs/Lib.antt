@@ -1,0 +1,5 @@
+pub mod Entering
+pub mod Depths
+pub mod Trees
+pub mod Worked
+pub mod Apart

@@ -1,0 +1,205 @@
+//! What the paths, indices, states and frames of the code stand for: each variant, whatever its parts.
+
+ghost use Rattle.std.specs.Prelude.{◌≡◌, ◌^◌, ◌||◌, ℕ, Bool, true, false, pos, map, Ok, Err, [], ◌∷◌, ◌++◌, Some, None, List, Option, String, string_bytes};
+ghost use Rattle.std.specs.declared.alloc.Global.{Global};
+ghost use Rattle.std.specs.declared.rc.Rc.{Rc};
+ghost use Rattle.vx_ast.specs.Syntax.{Program};
+ghost use Rattle.vx_terms.specs.declared.term.Term.{Term as Term'};
+ghost use Rattle.vx_terms.specs.Sorts as sort;
+ghost use Rattle.vx_terms.specs.Terms as terms;
+ghost use Rattle.vx_terms.specs.Terms.{Term};
+ghost use Rattle.vx_frac.specs.declared.Over.{Over};
+ghost use Rattle.vx_frac.specs.declared.Frac.{Frac};
+ghost use Rattle.vx_frac.specs.Fraction.{fraction};
+ghost use Rattle.vx_terms.specs.Views.{term};
+ghost use Rattle.vx_terms.specs.Views as view;
+ghost use Rattle.vx_terms.specs.Literals.{literals, number_or, part_or};
+ghost use Rattle.vx_terms.specs.declared.literals.Literals.TheVariants as literals';
+ghost use Rattle.vx_terms.specs.declared.sort.Sort.TheVariants as sort';
+ghost use Rattle.vx_terms.specs.declared.term.Symbol.TheVariants as symbol';
+ghost use Rattle.vx_terms.specs.declared.term.Operator.TheVariants as operator'';
+ghost use Rattle.vx_terms.specs.declared.term.Term.TheVariants as term';
+ghost use Rattle.vx_terms.specs.declared.term.Terms.TheVariants as terms';
+ghost use Rattle.vx_rules.specs.declared.state.Binding.{Binding};
+ghost use Rattle.vx_rules.specs.declared.state.SymState.{SymState};
+ghost use Rattle.vx_rules.specs.declared.question.Query.{Query};
+ghost use Rattle.vx_rules.specs.declared.path.Path.{Path};
+ghost use Rattle.vx_rules.specs.declared.path.Path.TheVariants as path';
+ghost use Rattle.vx_rules.specs.declared.index.Index.{Index};
+ghost use Rattle.vx_rules.specs.declared.index.Index.TheVariants as index';
+ghost use Rattle.vx_rules.specs.Keys.{mixed, symbol_key, operator_key, key_of};
+ghost use Rattle.vx_rules.specs.Index.{is_even, finds, meets, IsAlike, IsExtended, IsIndexed};
+ghost use Rattle.vx_rules.specs.Paths.{extended, entries};
+ghost use Rattle.vx_rules.specs.SymStates.{binding, state, place_in};
+ghost use Rattle.vx_ast.specs.Syntax as syntax;
+ghost use Rattle.vx_ast.specs.Resolved.{expr, assertion, stmt, block, method};
+ghost use Rattle.vx_ast.specs.declared.resolved.Operator.TheVariants as operator';
+ghost use Rattle.vx_ast.specs.declared.resolved.Connective.TheVariants as connective';
+ghost use Rattle.vx_ast.specs.declared.resolved.Expr.{Expr as Expr'};
+ghost use Rattle.vx_ast.specs.declared.resolved.Assertion.{Assertion as Assertion'};
+ghost use Rattle.vx_ast.specs.declared.resolved.Stmt.{Stmt as Stmt'};
+ghost use Rattle.vx_ast.specs.declared.resolved.Block.{Block as Block'};
+ghost use Rattle.vx_ast.specs.declared.resolved.Method.{Method as Method'};
+ghost use Rattle.vx_terms.specs.Build as make;
+ghost use Rattle.vx_rules.specs.States as states;
+ghost use Rattle.vx_rules.specs.Rules as rules;
+ghost use Rattle.vx_rules.specs.Rules.{Giving, Going};
+ghost use Rattle.vx_rules.specs.Members as members;
+ghost use Rattle.vx_rules.specs.Trees.{AssertCode, CallCode, EntryCode, PermissionCode, PostCode, Tree, End, Step, Ask, Probe, Fork};
+ghost use Rattle.vx_rules.specs.declared.question.Code.TheVariants as code';
+ghost use Rattle.vx_rules.specs.declared.frame.Operand.TheVariants as operand';
+ghost use Rattle.vx_rules.specs.declared.frame.Consumed.TheVariants as consumed';
+ghost use Rattle.vx_rules.specs.declared.frame.Executed.TheVariants as executed';
+ghost use Rattle.vx_rules.specs.declared.frame.Next.{Next};
+ghost use Rattle.vx_rules.specs.declared.frame.Next.TheVariants as next';
+ghost use Rattle.vx_rules.specs.declared.frame.Hole.{Hole};
+ghost use Rattle.vx_rules.specs.declared.frame.Hole.TheVariants as hole';
+ghost use Rattle.vx_rules.specs.declared.frame.Frame.TheVariants as frame';
+ghost use Rattle.vx_rules.specs.declared.frame.Side.{Side};
+ghost use Rattle.vx_rules.specs.declared.conts.Move.TheVariants as move';
+ghost use Rattle.vx_rules.specs.Stack.{code, query, context, operand, consumed, executed, going, giving, frame_tree, side_tree, Stepped, Checked};
+ghost use Rattle.vx_examples.specs.Words.{Computes, at, int, bool, real, number, snap, null, unit, pair, first, plus, chosen_term, all, falsity, denied};
+ghost use Rattle.vx_examples.specs.Simplified.{truth};
+ghost use Rattle.vx_examples.specs.Walks.{y, f, fact, branch, scene, with_chunks, first_ask, a_probe};
+ghost use Rattle.vx_examples.specs.Viewed.{of_codes, of_symbols, of_operators, of_keys, of_sorts, of_term_symbols, of_term_operators};
+
+/// Codes, and the keys by which a path's terms are found again.
+pub fn codes_and_keys()
+    ensures codes { Computes code of_codes }
+    ensures symbols { Computes symbol_key of_symbols }
+    ensures operators { Computes operator_key of_operators }
+    ensures keys { Computes (λ t. key_of t 3) of_keys }
+    ensures no_depth { key_of (number 5) 0 ≡ 0 }
+    ensures mixed { mixed 2114 7 ≡ 5 }
+    ensures even { is_even 6 ≡ true }
+    ensures odd { is_even 7 ≡ false }
+    ensures meets { meets 3 13 5 ≡ true }
+    ensures meets_no_more { meets 4 13 5 ≡ false }
+    ensures meets_nothing { meets 0 1 2 ≡ true }
+    ensures place { place_in y scene.store ≡ Some 1 }
+    ensures no_place { place_in f scene.store ≡ None }
+{}
+
+/// A path's entries, the oldest first, and the terms that stand in an index.
+pub fn paths_and_indices()
+    ensures empty { entries path'.Empty ≡ [] }
+    ensures fact { (q : _) (before : Path) (t : Rc Term' Global) → entries (path'.Fact' q before t) ≡ entries before ++ fact (term t.value) ∷ [] }
+    ensures branch { (q : _) (before : Path) (t : Rc Term' Global) → entries (path'.Branch' q before t) ≡ entries before ++ branch (term t.value) ∷ [] }
+    ensures extended { extended (branch (bool 0) ∷ []) (bool 1) false ≡ branch (bool 0) ∷ fact (bool 1) ∷ [] }
+    ensures none { (k : ℕ) (t : Term) → finds index'.Nothing k t ≡ false }
+    ensures held { (q : _) (u : Rc Term' Global) (more : Index) → finds (index'.Holds' u q more) 5 (bool 1) ≡ (terms.same (bool 1) (term u.value) || finds more 5 (bool 1)) }
+    ensures even_side { (p q : _) (even odd : Index) → finds (index'.Branch' p even q odd) 6 (bool 1) ≡ finds even 3 (bool 1) }
+    ensures odd_side { (p q : _) (even odd : Index) → finds (index'.Branch' p even q odd) 7 (bool 1) ≡ finds odd 3 (bool 1) }
+    ensures alike { IsAlike index'.Nothing index'.Nothing }
+    ensures indexed { IsIndexed [] index'.Nothing }
+    ensures not_indexed { IsIndexed (fact (bool 1) ∷ []) index'.Nothing → ⊥ }
+    ensures not_extended { IsExtended index'.Nothing index'.Nothing 0 5 (bool 1) → ⊥ }
+{}
+
+/// What an operand's value leads to, before what waits for the whole.
+#[tactic(auto, unfolding(vx_rules::specs::Stack::rules))]
+pub fn operands_that_wait()
+    ensures negate { (on : Giving) → operand [] operand'.Negate on (bool 0) scene ≡ Step (on (denied (bool 0)) scene) }
+    ensures operate_right { (b : Rc Expr' Global) (on : Giving) → operand [] (operand'.OperateRight operator'.Greater b) on (int 0) scene ≡ Step (rules.eval [] (rules.outer [] 4) (expr b.value) scene (λ u s. Step (on (rules.operated syntax.Greater (int 0) u) s))) }
+    ensures operate_with { (t : Rc Term' Global) (on : Giving) → operand [] (operand'.OperateWith operator'.Subtract t) on (number 0) scene ≡ Step (on (term t.value) scene) }
+    ensures connect_right { (b : Rc Expr' Global) (on : Giving) → operand [] (operand'.ConnectRight connective'.Or b) on (bool 0) scene ≡ Step (rules.eval [] (rules.outer [] 4) (expr b.value) scene (λ u s. Step (on (rules.connected syntax.Or (bool 0) u) s))) }
+    ensures connect_with { (t : Rc Term' Global) (on : Giving) → operand [] (operand'.ConnectWith connective'.Implies t) on truth scene ≡ Step (on (rules.connected syntax.Implies (term t.value) truth) scene) }
+    ensures connect_sides { (b : Rc Expr' Global) (on : Giving) → operand [] (operand'.ConnectSides connective'.And b) on falsity scene ≡ Step (on falsity scene) }
+    ensures connect_needed { (b : Rc Expr' Global) (on : Giving) → operand [] (operand'.ConnectSides connective'.And b) on (bool 0) scene ≡ Step (rules.eval [] (rules.outer [] 4) (expr b.value) scene on) }
+    ensures choose_then { (a b : Rc Expr' Global) (on : Giving) → operand [] (operand'.ChooseThen a b) on (bool 0) scene ≡ Step (rules.eval [] (rules.outer [] 4) (expr a.value) scene (λ u s. Step (rules.eval [] (rules.outer [] 4) (expr b.value) s (λ v s1. Step (on (make.ite (bool 0) u v) s1))))) }
+    ensures choose_else { (t : Rc Term' Global) (b : Rc Expr' Global) (on : Giving) → operand [] (operand'.ChooseElse t b) on (int 2) scene ≡ Step (rules.eval [] (rules.outer [] 4) (expr b.value) scene (λ v s. Step (on (make.ite (term t.value) (int 2) v) s))) }
+    ensures choose_with { (t u : Rc Term' Global) (on : Giving) → operand [] (operand'.ChooseWith t u) on (int 2) scene ≡ Step (on (make.ite (term t.value) (term u.value) (int 2)) scene) }
+    ensures choose_sides { (a b : Rc Expr' Global) (on : Giving) → operand [] (operand'.ChooseSides a b) on falsity scene ≡ Step (rules.eval [] (rules.outer [] 4) (expr b.value) scene on) }
+{}
+
+/// What a value leads to within a consume, and within a statement.
+#[tactic(auto, unfolding(vx_rules::specs::Stack::rules))]
+pub fn parts_that_wait()
+    ensures context { context (record { pure = code'.Postcondition; permission = code'.Call }) ≡ members.codes PostCode CallCode }
+    ensures asked { (on : Giving) → consumed [] (consumed'.Ask (at 1 1) code'.Assert) on truth with_chunks ≡ Step (Step (on unit (record with_chunks { heap = [] }))) }
+    ensures right { (b : Rc Assertion' Global) (on : Giving) → consumed [] (consumed'.Right b (record { pure = code'.Assert; permission = code'.Permission })) on (snap 1) scene ≡
+        rules.consume [] (rules.outer [] 4) (assertion b.value) (members.codes AssertCode PermissionCode) all [] scene (λ u s. Step (on (pair (snap 1) u) s)) }
+    ensures with_left { (t : Rc Term' Global) (on : Giving) → consumed [] (consumed'.With t) on unit scene ≡ Step (on (pair (term t.value) unit) scene) }
+    ensures assume { (on : Going) → executed [] executed'.Assume on (bool 0) scene ≡ Step (on scene) }
+    ensures asserted { (on : Going) → executed [] executed'.Asserted on unit with_chunks ≡ Step (on (record with_chunks { heap = [] })) }
+    ensures exhaled { (on : Going) → executed [] executed'.Exhaled on unit with_chunks ≡ Step (on with_chunks) }
+    ensures chosen { (a b : Rc Block' Global) (on : Going) → executed [] (executed'.If a b 1) on (bool 0) scene ≡ Step (members.exec_all [] (rules.outer [] 4) (block a.value) scene (λ s. on (states.leave 1 s))) }
+    ensures assigned { (x : Rc (String Global) Global) (on : Going) → executed [] (executed'.Assign x) on (number 3) scene ≡ Step (on (states.with_store (states.assign (string_bytes x.value) (number 3) scene.store) scene)) }
+{}
+
+/// What a state, or a value and a state, leads to, and the tree of a frame.
+#[tactic(auto, unfolding(vx_rules::specs::Stack::rules))]
+pub fn frames_that_wait()
+    ensures finish { going [] next'.Finish scene ≡ End }
+    ensures exec { (q : _) (c : Rc Stmt' Global) (n : Next) → going [] (next'.Exec' c q n) scene ≡ members.exec [] (rules.outer [] 4) (stmt c.value) scene (going [] n) }
+    ensures block { (q : _) (b : Rc Block' Global) (n : Next) → going [] (next'.Block' b q n) scene ≡ members.exec_all [] (rules.outer [] 4) (block b.value) scene (going [] n) }
+    ensures inner { (q : _) (b : Rc Block' Global) (n : Next) → going [] (next'.Inner' b 1 q n) scene ≡ members.exec_all [] (rules.outer [] 4) (block b.value) scene (λ s. going [] n (states.leave 1 s)) }
+    ensures produce { (q : _) (a : Rc Assertion' Global) (n : Next) → going [] (next'.Produce' a q n) scene ≡ rules.produce [] (rules.outer [] 4) (assertion a.value) all None scene (going [] n) }
+    ensures unit { (q : _) (h : Hole) → going [] (next'.Unit' q h) with_chunks ≡ Step (giving [] h unit (record with_chunks { heap = [] })) }
+    ensures consume { (q : _) (a : Rc Assertion' Global) (h : Hole) → going [] (next'.Consume' a (record { pure = code'.Entry; permission = code'.Entry }) q h) with_chunks ≡
+        rules.consume [] (rules.outer [] 4) (assertion a.value) (members.codes EntryCode EntryCode) all with_chunks.heap with_chunks (giving [] h) }
+    ensures sides { (m : Rc Method' Global) → going [] (next'.Sides m) scene ≡ members.sides [] (method m.value) scene }
+    ensures given { giving [] hole'.Finish (int 0) scene ≡ End }
+    ensures produced { (q : _) (n : Next) → giving [] (hole'.Produced' q n) (bool 0) scene ≡ Step (going [] n scene) }
+    ensures operand { (q : _) (h : Hole) → giving [] (hole'.Operand' operand'.Negate q h) (bool 0) scene ≡ Step (giving [] h (denied (bool 0)) scene) }
+    ensures consumed { (q : _) (t : Rc Term' Global) (h : Hole) → giving [] (hole'.Consumed' (consumed'.With t) q h) unit scene ≡ Step (giving [] h (pair (term t.value) unit) scene) }
+    ensures executed { (q : _) (n : Next) → giving [] (hole'.Executed' executed'.Exhaled q n) unit scene ≡ Step (going [] n scene) }
+    ensures go { (n : Rc Next Global) → frame_tree [] (frame'.Go n) scene ≡ going [] n.value scene }
+    ensures eval { (e : Rc Expr' Global) (h : Rc Hole Global) → frame_tree [] (frame'.Eval e h) scene ≡ rules.eval [] (rules.outer [] 4) (expr e.value) scene (giving [] h.value) }
+    ensures give { (t : Rc Term' Global) (h : Rc Hole Global) → frame_tree [] (frame'.Give t h) scene ≡ giving [] h.value (term t.value) scene }
+{}
+
+/// A step from a side leaves one side on the stack, or two for a fork, the first on top; and a question is that of the tree.
+pub fn steps_of_stacks()
+    ensures go { (a b : Side) → Stepped [] (Step (side_tree [] a)) (b ∷ []) move'.Go (b ∷ a ∷ []) }
+    ensures fork { (a b : Side) → Stepped [] (Fork (side_tree [] a) (side_tree [] b)) [] move'.Fork (b ∷ a ∷ []) }
+    ensures go_no_fork { (a b : Side) → Stepped [] (Fork (side_tree [] a) (side_tree [] b)) [] move'.Go (b ∷ a ∷ []) → ⊥ }
+    ensures ask { (a : Side) → Checked [] false (Ask first_ask (side_tree [] a)) [] first_ask (a ∷ []) }
+    ensures probe { (a b : Side) → Checked [] true (Probe a_probe (side_tree [] a) (side_tree [] b)) [] a_probe (b ∷ a ∷ []) }
+    ensures check { (q : Query) (t : Tree) (old new : List Side) → Checked [] q.probe t old (query q) new → Stepped [] t old (move'.Check q) new }
+    ensures ask_no_probe { (a : Side) → Checked [] true (Ask first_ask (side_tree [] a)) [] first_ask (a ∷ []) → ⊥ }
+{}
+
+/// What the sorts, symbols, operators and literals of the code stand for.
+pub fn views_of_parts()
+    ensures sorts { Computes view.sort of_sorts }
+    ensures symbols { Computes view.symbol of_term_symbols }
+    ensures other_sort { (x : Rc (String Global) Global) → view.sort (sort'.Other x) ≡ sort.OtherSort (string_bytes x.value) }
+    ensures other_symbol { (x : Rc (String Global) Global) → view.symbol (symbol'.Named x) ≡ sort.Named (string_bytes x.value) }
+    ensures operators { Computes view.operator of_term_operators }
+    ensures numbers { literals (literals'.Numbers (pos 1) (pos 2)) ≡ make.Numbers (pos 1) (pos 2) }
+    ensures truths { literals (literals'.Truths true false) ≡ make.Truths true false }
+    ensures neither { literals literals'.Neither ≡ make.Neither }
+    ensures parts { (a b : Frac) → literals (literals'.Parts a b) ≡ make.Parts (fraction a) (fraction b) }
+    ensures number { number_or (Some (pos 5)) (int 0) ≡ number 5 }
+    ensures number_past { number_or (Some (pos (2 ^ 127))) (int 0) ≡ int 0 }
+    ensures no_number { number_or None (int 0) ≡ int 0 }
+    ensures no_part { (over : Over) → part_or (Err over) (real 0) ≡ real 0 }
+    ensures part { (a : Frac) → part_or (Ok a) (real 0) ≡ make.folded_part true (fraction a) (real 0) }
+{}
+
+/// What the terms of the code stand for: the same forms, without pointers.
+pub fn views_of_terms()
+    ensures truth { term (term'.Truth true) ≡ truth }
+    ensures number { term (term'.Number (pos 3)) ≡ number 3 }
+    ensures fraction { (a : Frac) → term (term'.Part a) ≡ terms.Part (fraction a) }
+    ensures constant { term (term'.Constant (symbol'.Variable 3) sort'.Int) ≡ int 3 }
+    ensures null { term (term'.Constant (symbol'.Standard 0) sort'.Ref) ≡ null }
+    ensures applied { (p : _) (t : Term') (q : _) → term (term'.Apply' (symbol'.Standard 3) sort'.Snap p (terms'.More' q t p terms'.None)) ≡ first (term t) }
+    ensures denied { (p : _) (t : Term') → term (term'.Not' p t) ≡ denied (term t) }
+    ensures sum { (p q : _) (t u : Term') → term (term'.Binary' operator''.Add p t q u) ≡ plus (term t) (term u) }
+    ensures choice { (p q r : _) (c t u : Term') → term (term'.Ite' p c q t r u) ≡ chosen_term (term c) (term t) (term u) }
+    ensures no_terms { view.terms terms'.None ≡ terms.NoTerms }
+{}
+
+/// What a state, a binding and a question of the code stand for.
+pub fn views_of_states()
+    ensures binding { (b : Binding) → binding b ≡ (string_bytes b.name.value, term b.value.value) }
+    ensures store { (s : SymState) → (state s).store ≡ map binding s.store.items }
+    ensures path { (s : SymState) → (state s).path ≡ entries s.path.path }
+    ensures next { (s : SymState) → (state s).next ≡ s.next }
+    ensures no_heap { (s : SymState) → (state s).heap ≡ [] }
+    ensures no_level { (s : SymState) → states.is_quiet (state s) ≡ false }
+    ensures question { (q : Query) → (query q).path ≡ states.path_terms (entries q.path) }
+    ensures condition { (q : Query) → (query q).condition ≡ term q.condition.value }
+{}
