@@ -91,8 +91,10 @@ pub fn paths_and_indices()
     ensures even_side { (p q : _) (even odd : Index) → finds (index'.Branch' p even q odd) 6 (bool 1) ≡ finds even 3 (bool 1) }
     ensures odd_side { (p q : _) (even odd : Index) → finds (index'.Branch' p even q odd) 7 (bool 1) ≡ finds odd 3 (bool 1) }
     ensures alike { IsAlike index'.Nothing index'.Nothing }
+    ensures not_alike { (q : _) (u : Rc Term' Global) → term u.value ≡ bool 1 → IsAlike (index'.Holds' u q index'.Nothing) index'.Nothing → ⊥ }
     ensures indexed { IsIndexed [] index'.Nothing }
     ensures not_indexed { IsIndexed (fact (bool 1) ∷ []) index'.Nothing → ⊥ }
+    ensures extended_index { (q : _) (u : Rc Term' Global) → IsExtended index'.Nothing (index'.Holds' u q index'.Nothing) 0 5 (term u.value) }
     ensures not_extended { IsExtended index'.Nothing index'.Nothing 0 5 (bool 1) → ⊥ }
 {}
 
