@@ -1,18 +1,18 @@
 -- What reading an expression between braces, the body of a predicate and the body of a method tells.
-use Rattle.std.proofs.Common.{◌≡◌, ℕ, ◌+◌, List, [], ◌∷◌, ◌++◌, Option, Some, None, Bool, true, false, Ok, refl, sym, ap, ◌∙◌, arith, cond}
+use Rattle.std.proofs.Common.{◌≡◌, ℕ, List, [], ◌∷◌, ◌++◌, Option, Some, None, Bool, true, false, Ok, refl, sym, ap, ◌∙◌, arith, cond}
 use Rattle.std.proofs.lemmas.List.{append-nil}
 use Rattle.vx_ast.specs.declared.Place.{Place}
 use Rattle.vx_ast.specs.Written.{Expr, Block, Declaration, Member}
 use Rattle.vx_tokens.specs.declared.token.Word.TheVariants as words
 use Rattle.vx_tokens.specs.declared.token.Symbol.TheVariants as signs
-use Rattle.vx_tokens.specs.Tokens.{Token, name, word, symbol}
-use Rattle.vx_grammar.specs.Grammar.{Mark, mark, marks, meant, StandsAt}
-use Rattle.vx_grammar.specs.Statements.{BlockPhrase, block_marks}
+use Rattle.vx_tokens.specs.Tokens.{Token, name, word}
+use Rattle.vx_grammar.specs.Grammar.{Mark, mark, meant, StandsAt}
+use Rattle.vx_grammar.specs.Statements.{BlockPhrase}
 use Rattle.vx_grammar.specs.Programs.{BracedPhrase, braced_marks, given_meant, GivenStands, given_marks, PredicatePhrase, predicate_meant, predicate_marks, body_meant, BodyStands, body_marks, parameters_marks}
-use Rattle.vx_grammar.specs.Reading.{◌>>=◌, choice, below, name_at}
+use Rattle.vx_grammar.specs.Reading.{choice, below, name_at}
 use Rattle.vx_grammar.specs.StmtReading.{block_at, stmts_below}
 use Rattle.vx_grammar.specs.MemberReading.{limit, begins_braces, braced_at, some_braced, given_at, predicate_of, predicate_at, parameters_at, some_block, body_at}
-use Rattle.vx_grammar.proofs.Tells.{Grammar, Starts, Tells, NameFor, name_tells, marks_is, tells_as, tells_here}
+use Rattle.vx_grammar.proofs.Tells.{Grammar, Starts, Tells, somewhere, NameFor, name_tells, marks_is, tells_as, tells_here}
 use Rattle.vx_grammar.proofs.Sequence.{Sequence, Nothing, tells_sequence, starts_sequence, starts_nothing, tells_nothing}
 use Rattle.vx_grammar.proofs.Bracketed.{Nested, Bracketed, bracket_tells, led_tells}
 use Rattle.vx_grammar.proofs.PhraseFor.{PhraseFor, starts_any, tells_nested, count_down}
@@ -36,6 +36,12 @@ braced_of e ms h = record {
   means = h.spelled.means;
   spelled = sym (h.is ∙ rw (← h.spelled.spelled) refl);
 }
+
+pub starts_braced : Starts BracedFor []
+starts_braced =
+    let s = starts_any 1 8 in
+    let w : BracedPhrase = record { from = somewhere; inner = s.spelled.phrase; to = somewhere } in
+    record { value = s.value; more = braced_marks w; spelled = record { phrase = w; stands = s.spelled.stands; means = s.spelled.means; spelled = refl } }
 
 pub braced_tells : (ts : List Token) → Tells BracedFor limit ts (braced_at limit ts)
 unfolding braced_at

@@ -8,7 +8,7 @@ use Rattle.vx_grammar.specs.Grammar.{Mark, mark}
 use Rattle.vx_grammar.specs.Reading.{◌>>=◌, Read, Unexpected, expect, is_symbol}
 use Rattle.vx_grammar.specs.Laws.{Within}
 use Rattle.vx_grammar.proofs.Symbols.{is_symbol_true}
-use Rattle.vx_grammar.proofs.Tells.{Grammar, Starts, TellsBy, Tells, After, GoesOn, Sign, somewhere, marks_is, tells_by_behind, tells_by_as, tells_as, tells_then, tells_here, tells_unexpected, tells_expect}
+use Rattle.vx_grammar.proofs.Tells.{Grammar, Starts, TellsBy, Tells, After, GoesOn, Sign, somewhere, marks_is, tells_by_behind, tells_by_as, tells_then, tells_here, tells_unexpected, tells_expect}
 
 -- a token, and what it nests
 pub record Nested {A : Type 0} (m : Mark) (R : Grammar A) (y : A) (ms : List Mark) : Type 0 where

@@ -1,5 +1,5 @@
 -- What reading a predicate's instance tells.
-use Rattle.std.proofs.Common.{◌≡◌, ℕ, ◌+◌, List, [], ◌∷◌, ◌++◌, Ok, refl, sym, ap, ◌∙◌, arith}
+use Rattle.std.proofs.Common.{◌≡◌, ℕ, ◌+◌, List, [], ◌∷◌, ◌++◌, refl, sym, ap, ◌∙◌, arith}
 use Rattle.std.proofs.lemmas.List.{append-nil}
 use Rattle.vx_ast.specs.declared.Place.{Place}
 use Rattle.vx_ast.specs.Written.{Exprs, Amount, All}
@@ -7,8 +7,8 @@ use Rattle.vx_tokens.specs.declared.token.Word.TheVariants as words
 use Rattle.vx_tokens.specs.declared.token.Symbol.TheVariants as signs
 use Rattle.vx_tokens.specs.Tokens.{Token, Kind, name, word, symbol}
 use Rattle.vx_grammar.specs.Grammar.{ArgumentsPhrase, no_arguments, AmountPhrase, no_amount, InstancePhrase, alone, held, Instance, instance_meant, InstanceStands, instance_marks, ArgumentsStand, AmountStands, arguments_meant, amount_meant, Mark, mark, arguments_marks, amount_marks}
-use Rattle.vx_grammar.specs.Reading.{◌>>=◌, arguments, holding, name_at, enclosed, amount_at, bare_by, instance_by, instance_at, holding_at, below}
-use Rattle.vx_grammar.proofs.Tells.{Grammar, Starts, Tells, somewhere, marks_is, NameFor, name_tells, starts_name, tells_as, tells_unexpected}
+use Rattle.vx_grammar.specs.Reading.{arguments, holding, name_at, enclosed, amount_at, bare_by, instance_by, instance_at, holding_at, below}
+use Rattle.vx_grammar.proofs.Tells.{Grammar, Starts, Tells, somewhere, marks_is, NameFor, name_tells, tells_as, tells_unexpected}
 use Rattle.vx_grammar.proofs.Sequence.{Sequence, Nothing, tells_sequence, starts_sequence, starts_nothing, tells_nothing}
 use Rattle.vx_grammar.proofs.Bracketed.{Nested, Bracketed, starts_bracketed, led_tells}
 use Rattle.vx_grammar.proofs.PhraseFor.{count_down}

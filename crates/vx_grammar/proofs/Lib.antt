@@ -26,6 +26,7 @@ pub mod Steps
 pub mod MemberTold
 pub mod BodiesTold
 pub mod MethodTold
+pub mod FunctionTold
 pub mod ProgramTold
 pub mod StmtReads
 pub mod MemberReads

@@ -5,7 +5,7 @@ use Rattle.vx_ast.specs.declared.Place.{Place}
 use Rattle.vx_ast.specs.declared.ValueType.TheVariants as types
 use Rattle.vx_ast.specs.Written.{Expr, Variable, Call, Declaration, Value, Stmt, Declare, Assign, Write, Done, Then}
 use Rattle.vx_ast.specs.Written as written
-use Rattle.vx_grammar.specs.Statements.{inhales, exhales, asserts, assumes, claim_meant, Folding, folds, unfolds, folding_meant}
+use Rattle.vx_grammar.specs.Statements.{inhales, exhales, asserts, assumes, claim_meant, Folding, folds, unfolds}
 use Rattle.vx_tokens.specs.declared.token.Word.TheVariants as words
 use Rattle.vx_tokens.specs.declared.token.Symbol.TheVariants as signs
 use Rattle.vx_tokens.specs.Tokens.{Token, Kind, name, word}
@@ -37,7 +37,7 @@ type_by_local t (word words.Ref) ts e = local_token t ts (Ok (types.Ref, ts)) (�
 type_by_local t (word words.Perm) ts e = local_token t ts (Ok (types.Perm, ts)) (λ l. Ok (types.Perm, l)) type_at (λ l. rw e refl) (local_return ts types.Perm)
 type_by_local t k ts e = local_unexpected t ts type_at (λ more. rw e refl)
 
-type_local : (ts : List Token) → Local ts (type_at ts) type_at
+pub type_local : (ts : List Token) → Local ts (type_at ts) type_at
 unfolding type_at
 type_local [] = local_end_unexpected type_at refl
 type_local (t ∷ ts) = type_by_local t t.kind ts refl

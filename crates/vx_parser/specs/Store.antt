@@ -1,5 +1,5 @@
 -- The words and signs of Viper (VMCAI 2016), as they are parsed, that the store language lacks: its programs have no heap,
--- so no fields, no references, no permissions and no predicates, and no loops.
+-- so no fields, no references, no permissions and no predicates, no functions, and no loops.
 use Rattle.std.specs.Prelude.{◌≡◌, Bool, true, false, Option, Some, None}
 use Rattle.vx_tokens.specs.declared.token.Word.{Word}
 use Rattle.vx_tokens.specs.declared.token.Word.TheVariants as words
@@ -13,6 +13,8 @@ use Rattle.vx_parser.specs.declared.fault.TextFault.TheVariants as faults
 abbrev pub is_beyond_word : Word → Bool
 is_beyond_word words.Field = true
 is_beyond_word words.Predicate = true
+is_beyond_word words.Function = true
+is_beyond_word words.Decreases = true
 is_beyond_word words.Ref = true
 is_beyond_word words.Perm = true
 is_beyond_word words.Null = true

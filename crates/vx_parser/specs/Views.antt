@@ -7,11 +7,12 @@ use Rattle.vx_ast.specs.declared.Expr as the_expr
 use Rattle.std.specs.declared.alloc.Global.{Global}
 use Rattle.std.specs.declared.rc.Rc.{Rc}
 use Rattle.vx_ast.specs.declared.Instance as the_instance
-use Rattle.vx_ast.specs.Written.{Expr, Amount, Declaration, Stmt, Block, name_of, written_all, written_expr, written_optional, written_stmt, written_block, written_declaration}
+use Rattle.vx_ast.specs.Written.{Expr, Amount, Declaration, Stmt, Block, name_of, written_all, written_expr, written_optional, written_stmt, written_block, written_declaration, optional_expr}
 use Rattle.vx_grammar.specs.Grammar.{Instance}
 use Rattle.vx_grammar.specs.MemberReading as reading
 use Rattle.vx_parser.specs.declared.expr.Access as the_access
 use Rattle.vx_parser.specs.declared.member.Clauses as the_clauses
+use Rattle.vx_parser.specs.declared.member.Head as the_head
 
 abbrev pub stmt_of : the_stmt.Stmt → Stmt
 stmt_of s = written_stmt s.place s.kind
@@ -26,7 +27,10 @@ abbrev pub declarations_of : List the_declaration.Declaration → List Declarati
 declarations_of ds = map written_declaration ds
 
 abbrev pub clauses_of : the_clauses.Clauses → reading.Clauses
-clauses_of c = record { requires = exprs_of c.preconditions.items; ensures = exprs_of c.postconditions.items }
+clauses_of c = record { requires = exprs_of c.preconditions.items; ensures = exprs_of c.postconditions.items; measure = optional_expr c.measure }
+
+abbrev pub head_of : the_head.Head → reading.Head
+head_of h = record { name = name_of h.name; parameters = declarations_of h.parameters.items; of = h.value_type; clauses = clauses_of h.clauses }
 
 abbrev pub access_of : the_access.Access → Expr × Amount
 access_of a = (written_expr a.held, written_optional a.amount)

@@ -48,8 +48,9 @@ enum Folding {
     Unfold,
 }
 
+/// A type.
 #[tactic(auto, unfolding(vx_grammar::specs::StmtReading::type_at))]
-fn value_type<'t>(tokens: &'t [Token<'t>]) -> Read<'t, ValueType>
+pub fn value_type<'t>(tokens: &'t [Token<'t>]) -> Read<'t, ValueType>
     ensures { Gives (λ x. (x.0, tokens_in x.1.now)) result (reading.type_at (tokens_in tokens.now)) }
 {
     let Some((first, rest)) = tokens.split_first() else {

@@ -76,6 +76,8 @@ fn is_beyond_word(word: Word) -> bool
         word,
         Word::Field
             | Word::Predicate
+            | Word::Function
+            | Word::Decreases
             | Word::Ref
             | Word::Perm
             | Word::Null

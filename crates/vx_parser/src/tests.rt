@@ -21,7 +21,7 @@ fn answer(alloc: Global, text: &[u8]) -> Result<String, AllocError> {
     }
 }
 
-const ROWS: [(&str, &str); 80] = [
+const ROWS: [(&str, &str); 86] = [
     ("", "ok"),
     (
         "method id(b: Bool) returns (c: Bool) requires b ensures c { c := b }",
@@ -161,7 +161,22 @@ const ROWS: [(&str, &str); 80] = [
     ("field f: Int; field g: Ref method m() { }", "ok"),
     ("field f Int", "1:9 E03 Unexpected Int"),
     ("field f:", "1:9 E04 EndOfText"),
-    ("function f(): Int", "1:1 E09 Unsupported function"),
+    (
+        "function f(x: Ref): Int requires acc(x.f); decreases x ensures result > 0 { x.f }",
+        "ok",
+    ),
+    ("function f(): Int", "1:18 E04 EndOfText"),
+    (
+        "function f(): Int requires true method m()",
+        "1:33 E09 Unsupported abstract",
+    ),
+    ("function f(): Int )", "1:19 E09 Unsupported abstract"),
+    (
+        "function f(): Int decreases 1 decreases 2 { 3 }",
+        "1:31 E03 Unexpected decreases",
+    ),
+    ("function f() { 1 }", "1:14 E03 Unexpected {"),
+    ("function f(): Int { }", "1:21 E03 Unexpected }"),
     ("method m() { assert true } 007", "1:28 E03 Unexpected 007"),
     ("method method() { }", "1:8 E03 Unexpected method"),
     ("method m() { assert a == b c := d", "1:34 E04 EndOfText"),
@@ -179,7 +194,8 @@ fn rows(rt: HostRuntime) -> Result<(), Fail> {
     Ok(())
 }
 
-const BEYOND: [(&str, &str); 9] = [
+const BEYOND: [(&str, &str); 10] = [
+    ("function f(): Int { 1 }", "1:1 Unsupported function"),
     ("predicate P()", "1:1 Unsupported predicate"),
     ("method m() { fold P(x) }", "1:14 Unsupported fold"),
     (
