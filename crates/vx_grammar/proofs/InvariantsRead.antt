@@ -1,16 +1,15 @@
 -- The invariants of a loop that are spelled are read.
-use Rattle.std.proofs.Common.{◌≡◌, ℕ, zero, suc, ◌+◌, ◌-◌, ◌≤◌, List, [], ◌∷◌, ◌++◌, Option, Some, None, true, false, Ok, length, refl, sym, ap, subst, ◌∙◌, append_assoc, arith, leb, length-append}
+use Rattle.std.proofs.Common.{◌≡◌, ℕ, zero, suc, ◌+◌, ◌-◌, ◌≤◌, List, [], ◌∷◌, ◌++◌, Option, Some, None, true, false, Ok, length, refl, sym, ap, ◌∙◌, append_assoc, arith, leb, length-append}
 use Rattle.std.proofs.lemmas.List.{append-nil}
 use Rattle.std.proofs.lemmas.Bool.{le-leb}
 use Rattle.vx_ast.specs.declared.Place.{Place}
 use Rattle.vx_ast.specs.Written.{Expr, Exprs}
-use Rattle.vx_tokens.specs.declared.token.Word.TheVariants as words
 use Rattle.vx_tokens.specs.declared.token.Symbol.TheVariants as signs
-use Rattle.vx_tokens.specs.Tokens.{Token, word, symbol}
-use Rattle.vx_grammar.specs.Grammar.{Phrase, Mark, mark, marks, meant, StandsAt, tokens_of}
+use Rattle.vx_tokens.specs.Tokens.{Token, symbol}
+use Rattle.vx_grammar.specs.Grammar.{Mark, mark, marks, meant, tokens_of}
 use Rattle.vx_grammar.specs.Statements.{semi_marks, InvariantsPhrase, no_invariants, invariant, invariants_meant, InvariantsStand, invariants_marks, BlockPhrase, block, block_marks, row_marks}
-use Rattle.vx_grammar.specs.Reading.{Read, is_symbol, run, exprs_from, choice_at, below}
-use Rattle.vx_grammar.specs.StmtReading.{skip_semicolon, clause_at, begins_invariant, invariant_turn, invariants_at}
+use Rattle.vx_grammar.specs.Reading.{Read, is_symbol, run, choice_at, below}
+use Rattle.vx_grammar.specs.StmtReading.{skip_semicolon, clause_at, invariant_turn, invariants_at}
 use Rattle.vx_grammar.specs.Laws.{Within}
 use Rattle.vx_grammar.proofs.Lists.{tokens-append_more, within_front, within_back, Ends}
 use Rattle.vx_grammar.proofs.Complete.{is_read}

@@ -11,7 +11,7 @@ SameHead (t ∷ ts) (u ∷ us) = t ≡ u
 SameHead [] (u ∷ us) = ⊥
 SameHead (t ∷ ts) [] = ⊥
 
-pub record Front {A : Type 0} (ts rest : List Token) (answer : List Token → Read A) (reader : List Token → Read A) : Type 0 where
+pub record Front {X : Type 0} (ts rest : List Token) (answer reader : List Token → X) : Type 0 where
   pub front : List Token
   pub is : ts ≡ front ++ rest
   pub repeats : (next : List Token) → SameHead rest next → reader (front ++ next) ≡ answer next
@@ -22,11 +22,11 @@ Local ts (Ok x) reader = Front ts x.1 (λ l. Ok (x.0, l)) reader
 Local ts (Err (Unexpected rest)) reader = Front ts rest (λ l. Err (Unexpected l)) reader
 Local ts (Err (TooDeep rest)) reader = Unit {0}
 
-at_first : {A : Type 0} (t : Token) (ts : List Token) (f g : List Token → Read A) → ((more : List Token) → f (t ∷ more) ≡ g (t ∷ more)) → (next : List Token) → SameHead (t ∷ ts) next → f next ≡ g next
+pub at_first : {X : Type 0} (t : Token) (ts : List Token) (f g : List Token → X) → ((more : List Token) → f (t ∷ more) ≡ g (t ∷ more)) → (next : List Token) → SameHead (t ∷ ts) next → f next ≡ g next
 at_first t ts f g h [] same = absurd same
 at_first t ts f g h (s ∷ more) same = subst (λ v. f (v ∷ more) ≡ g (v ∷ more)) same (h more)
 
-at_end : {A : Type 0} (f g : List Token → Read A) → f [] ≡ g [] → (next : List Token) → SameHead [] next → f next ≡ g next
+pub at_end : {X : Type 0} (f g : List Token → X) → f [] ≡ g [] → (next : List Token) → SameHead [] next → f next ≡ g next
 at_end f g h [] same = h
 at_end f g h (s ∷ more) same = absurd same
 
@@ -45,7 +45,7 @@ local_end_unexpected reader h = record { front = []; is = refl; repeats = at_end
 pub local_return : {A : Type 0} (ts : List Token) (x : A) → Local ts (Ok (x, ts)) (λ l. Ok (x, l))
 local_return ts x = record { front = []; is = refl; repeats = λ next same. refl }
 
-front_token : {A : Type 0} (t : Token) (ts rest : List Token) (answer inner reader : List Token → Read A) → ((l : List Token) → reader (t ∷ l) ≡ inner l) → Front ts rest answer inner → Front (t ∷ ts) rest answer reader
+front_token : {X : Type 0} (t : Token) (ts rest : List Token) (answer inner reader : List Token → X) → ((l : List Token) → reader (t ∷ l) ≡ inner l) → Front ts rest answer inner → Front (t ∷ ts) rest answer reader
 front_token t ts rest answer inner reader h f = record { front = t ∷ f.front; is = ap (λ l. t ∷ l) f.is; repeats = λ next same. h (f.front ++ next) ∙ f.repeats next same }
 
 -- a token, and then another reader
@@ -79,7 +79,7 @@ local_then ts (Ok x) reader f next h k = local_mid ts x.0 x.1 (f x) reader next 
 local_then ts (Err (Unexpected rest)) reader f next h k = record { front = h.front; is = h.is; repeats = λ l same. ap (λ r. r >>= next) (h.repeats l same) }
 local_then ts (Err (TooDeep rest)) reader f next h k = tt
 
-front_same : {A : Type 0} (t : Token) (ts rest : List Token) (answer reader other : List Token → Read A) → ((l : List Token) → reader (t ∷ l) ≡ other (t ∷ l)) → Front (t ∷ ts) rest answer reader → Front (t ∷ ts) rest answer other
+pub front_same : {X : Type 0} (t : Token) (ts rest : List Token) (answer reader other : List Token → X) → ((l : List Token) → reader (t ∷ l) ≡ other (t ∷ l)) → Front (t ∷ ts) rest answer reader → Front (t ∷ ts) rest answer other
 front_same t ts rest answer reader other h f = record {
   front = f.front;
   is = f.is;

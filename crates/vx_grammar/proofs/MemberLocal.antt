@@ -1,23 +1,23 @@
 -- Reading members looks no further than the token at which it stops.
-use Rattle.std.proofs.Common.{◌≡◌, ℕ, ◌+◌, ◌-◌, ◌≤◌, List, [], ◌∷◌, ◌++◌, Some, None, Ok, Err, length, refl, sym, subst, ◌∙◌, arith, Bool, true, false, cond, leb, inl, inr}
+use Rattle.std.proofs.Common.{◌≡◌, ℕ, ◌+◌, ◌-◌, ◌≤◌, List, [], ◌∷◌, ◌++◌, Some, None, Ok, Err, length, refl, sym, ap, subst, ◌∙◌, append_assoc, arith, Bool, true, false, cond, leb, inl, inr}
 use Rattle.std.proofs.lemmas.Bool.{leb-true, le-leb}
 use Rattle.vx_ast.specs.declared.Place.{Place}
-use Rattle.vx_ast.specs.Written.{Expr, Declaration}
+use Rattle.vx_ast.specs.Written.{Expr, Declaration, Member}
 use Rattle.vx_tokens.specs.declared.token.Symbol.TheVariants as signs
 use Rattle.vx_tokens.specs.declared.token.Word.TheVariants as words
 use Rattle.vx_tokens.specs.Tokens.{Token, Kind, word}
 use Rattle.vx_grammar.specs.Grammar.{Mark}
-use Rattle.vx_grammar.specs.Reading.{◌>>=◌, Read, Unexpected, TooDeep, is_symbol, choice_at, below, name_at}
-use Rattle.vx_grammar.specs.StmtReading.{clause_at, declaration_at, block_at, stmts_below, skip_semicolon}
-use Rattle.vx_grammar.specs.MemberReading.{limit, Clauses, no_clauses, with_requires, with_ensures, begins_requires, begins_ensures, clause_turn, clauses_at, method_at, field_at, member_by, member_at, declaration_turn, declarations_at, inner_parameters_at, parameters_at, begins_returns, returns_at}
+use Rattle.vx_grammar.specs.Reading.{◌>>=◌, Read, Unexpected, TooDeep, is_symbol, expect, choice, choice_at, below, name_at}
+use Rattle.vx_grammar.specs.StmtReading.{clause_at, type_at, declaration_at, block_at, stmts_below, skip_semicolon}
+use Rattle.vx_grammar.specs.MemberReading.{limit, stopped, bodiless, measured_twice, Halting, halting, Head, head_at, function_by, no_body_at, behind_head, function_at, Clauses, no_clauses, with_requires, with_ensures, with_measure, begins_requires, begins_ensures, is_due, begins_measure, clause_turn, clauses_at, begins_braces, braced_at, some_braced, given_at, predicate_at, some_block, body_at, method_at, field_at, member_by, member_at, declaration_turn, declarations_at, inner_parameters_at, parameters_at, begins_returns, returns_at}
 use Rattle.vx_grammar.proofs.Tells.{Tells}
 use Rattle.vx_grammar.proofs.Steps.{TurnFor}
 use Rattle.vx_grammar.proofs.MemberTold.{DeclarationStep, turn_tells}
 use Rattle.vx_grammar.proofs.MethodTold.{ClauseStep, clause_turn_tells}
-use Rattle.vx_grammar.proofs.Local.{Local, local_ok, local_end, local_end_unexpected, local_return, local_token, local_then, local_same}
+use Rattle.vx_grammar.proofs.Local.{Local, Front, SameHead, same_behind, at_first, at_end, front_same, local_expect, local_ok, local_end, local_end_unexpected, local_return, local_token, local_then, local_same}
 use Rattle.vx_grammar.proofs.RunLocal.{Turns, run_local, taken_short, taken_none}
-use Rattle.vx_grammar.proofs.LocalExpr.{reading_local}
-use Rattle.vx_grammar.proofs.StmtLocal.{declaration_local, block_reading_local}
+use Rattle.vx_grammar.proofs.LocalExpr.{reading_local, nested_local}
+use Rattle.vx_grammar.proofs.StmtLocal.{type_local, declaration_local, block_reading_local}
 use Rattle.vx_grammar.proofs.LocalParts.{name_local, bracket_local}
 
 -- ---- declarations
@@ -105,36 +105,79 @@ skip_local v (t ∷ ts) = by_semicolon v t ts (is_symbol signs.Semicolon t.kind)
 one_local : (more before : ℕ) (make : Expr → Clauses) (here ts : List Token) (heres : List Token → List Token) → Local ts (clause_at limit before here ts >>= λ e. Ok (Some (make e.0), skip_semicolon e.1)) (λ l. clause_at (limit + more) before (heres l) l >>= λ e. Ok (Some (make e.0), skip_semicolon e.1))
 one_local more before make here ts heres = local_then ts (clause_at limit before here ts) (λ l. clause_at (limit + more) before (heres l) l) _ _ (clause_local more before here ts heres) (λ e us. skip_local (Some (make e)) us)
 
-by_clause : (more : ℕ) (before : Clauses) (t : Token) (ts : List Token) (r k : Bool) → begins_requires t.kind ≡ r → begins_ensures t.kind ≡ k
-    → Local (t ∷ ts) (cond r (clause_at limit (length before.requires) (t ∷ ts) ts >>= λ e. Ok (Some (with_requires before e.0), skip_semicolon e.1)) (cond k (clause_at limit (length before.ensures) (t ∷ ts) ts >>= λ e. Ok (Some (with_ensures before e.0), skip_semicolon e.1)) (Ok (None, t ∷ ts)))) (clause_turn (limit + more) before)
+by_clause : (more : ℕ) (may : Bool) (before : Clauses) (t : Token) (ts : List Token) (r k d : Bool) → begins_requires t.kind ≡ r → begins_ensures t.kind ≡ k → begins_measure (is_due may before.measure) t.kind ≡ d
+    → Local (t ∷ ts) (cond r (clause_at limit (length before.requires) (t ∷ ts) ts >>= λ e. Ok (Some (with_requires before e.0), skip_semicolon e.1)) (cond k (clause_at limit (length before.ensures) (t ∷ ts) ts >>= λ e. Ok (Some (with_ensures before e.0), skip_semicolon e.1)) (cond d (clause_at limit 0 (t ∷ ts) ts >>= λ e. Ok (Some (with_measure before e.0), skip_semicolon e.1)) (Ok (None, t ∷ ts))))) (clause_turn (limit + more) may before)
 unfolding clause_turn
-by_clause more before t ts true k h g = local_token t ts _ (λ l. clause_at (limit + more) (length before.requires) (t ∷ l) l >>= λ e. Ok (Some (with_requires before e.0), skip_semicolon e.1)) (clause_turn (limit + more) before) (λ l. rw h refl) (one_local more (length before.requires) (with_requires before) (t ∷ ts) ts (λ l. t ∷ l))
-by_clause more before t ts false true h g = local_token t ts _ (λ l. clause_at (limit + more) (length before.ensures) (t ∷ l) l >>= λ e. Ok (Some (with_ensures before e.0), skip_semicolon e.1)) (clause_turn (limit + more) before) (λ l. rw (h, g) refl) (one_local more (length before.ensures) (with_ensures before) (t ∷ ts) ts (λ l. t ∷ l))
-by_clause more before t ts false false h g = local_ok t ts None (clause_turn (limit + more) before) (λ l. rw (h, g) refl)
+by_clause more may before t ts true k d h g f = local_token t ts _ (λ l. clause_at (limit + more) (length before.requires) (t ∷ l) l >>= λ e. Ok (Some (with_requires before e.0), skip_semicolon e.1)) (clause_turn (limit + more) may before) (λ l. rw h refl) (one_local more (length before.requires) (with_requires before) (t ∷ ts) ts (λ l. t ∷ l))
+by_clause more may before t ts false true d h g f = local_token t ts _ (λ l. clause_at (limit + more) (length before.ensures) (t ∷ l) l >>= λ e. Ok (Some (with_ensures before e.0), skip_semicolon e.1)) (clause_turn (limit + more) may before) (λ l. rw (h, g) refl) (one_local more (length before.ensures) (with_ensures before) (t ∷ ts) ts (λ l. t ∷ l))
+by_clause more may before t ts false false true h g f = local_token t ts _ (λ l. clause_at (limit + more) 0 (t ∷ l) l >>= λ e. Ok (Some (with_measure before e.0), skip_semicolon e.1)) (clause_turn (limit + more) may before) (λ l. rw (h, g, f) refl) (one_local more 0 (with_measure before) (t ∷ ts) ts (λ l. t ∷ l))
+by_clause more may before t ts false false false h g f = local_ok t ts None (clause_turn (limit + more) may before) (λ l. rw (h, g, f) refl)
 
-clause_turn_local : (more : ℕ) (before : Clauses) (ts : List Token) → Local ts (clause_turn limit before ts) (clause_turn (limit + more) before)
+clause_turn_local : (more : ℕ) (may : Bool) (before : Clauses) (ts : List Token) → Local ts (clause_turn limit may before ts) (clause_turn (limit + more) may before)
 unfolding clause_turn
-clause_turn_local more before [] = local_end None (clause_turn (limit + more) before) refl
-clause_turn_local more before (t ∷ ts) = by_clause more before t ts (begins_requires t.kind) (begins_ensures t.kind) refl refl
+clause_turn_local more may before [] = local_end None (clause_turn (limit + more) may before) refl
+clause_turn_local more may before (t ∷ ts) = by_clause more may before t ts (begins_requires t.kind) (begins_ensures t.kind) (begins_measure (is_due may before.measure) t.kind) refl refl refl
 
-clause_long : (s t : Clauses) (ms : List Mark) → ClauseStep s t ms → 1 ≤ length ms
-clause_long s t ms (inl c) = rw c.spelled (omega arith)
-clause_long s t ms (inr c) = rw c.spelled (omega arith)
+clause_long : (may : Bool) (s t : Clauses) (ms : List Mark) → ClauseStep may s t ms → 1 ≤ length ms
+clause_long may s t ms (inl c) = rw c.spelled (omega arith)
+clause_long may s t ms (inr (inl c)) = rw c.spelled (omega arith)
+clause_long may s t ms (inr (inr c)) = rw c.one.spelled (omega arith)
 
-clause_turns : (more : ℕ) → Turns (clause_turn limit) (clause_turn (limit + more))
+clause_turns : (more : ℕ) (may : Bool) → Turns (clause_turn limit may) (clause_turn (limit + more) may)
 unfolding clause_turn
-clause_turns more = record {
-  local = clause_turn_local more;
-  short = λ s t ts mid e. taken_short (TurnFor ClauseStep s) limit ts (Some t) mid (clause_long s t) (subst (Tells (TurnFor ClauseStep s) limit ts) e (clause_turn_tells s ts));
-  same = λ s ts mid e. taken_none (TurnFor ClauseStep s) limit ts None mid (λ ms z. z) (subst (Tells (TurnFor ClauseStep s) limit ts) e (clause_turn_tells s ts));
+clause_turns more may = record {
+  local = clause_turn_local more may;
+  short = λ s t ts mid e. taken_short (TurnFor (ClauseStep may) s) limit ts (Some t) mid (clause_long may s t) (subst (Tells (TurnFor (ClauseStep may) s) limit ts) e (clause_turn_tells may s ts));
+  same = λ s ts mid e. taken_none (TurnFor (ClauseStep may) s) limit ts None mid (λ ms z. z) (subst (Tells (TurnFor (ClauseStep may) s) limit ts) e (clause_turn_tells may s ts));
   empty = λ s. refl;
 }
 
-clauses_local : (more : ℕ) (ts : List Token) → Local ts (clauses_at limit ts) (clauses_at (limit + more))
+clauses_local : (more : ℕ) (may : Bool) (ts : List Token) → Local ts (clauses_at limit may ts) (clauses_at (limit + more) may)
 unfolding clauses_at
-clauses_local more ts = run_local (clause_turn limit) (clause_turn (limit + more)) (clause_turns more) no_clauses ts
+clauses_local more may ts = run_local (clause_turn limit may) (clause_turn (limit + more) may) (clause_turns more may) no_clauses ts
 
--- ---- methods
+-- ---- bodies
+
+braced_local : (more : ℕ) (ts : List Token) → Local ts (braced_at limit ts) (braced_at (limit + more))
+unfolding braced_at
+braced_local more ts = bracket_local signs.OpenBrace signs.CloseBrace (λ here us. below limit choice here us) (λ here us. below (limit + more) choice here us) (λ here us heres. nested_local limit more choice here us heres) ts
+
+some_braced_local : (more : ℕ) (ts : List Token) → Local ts (some_braced limit ts) (some_braced (limit + more))
+unfolding some_braced
+some_braced_local more ts = local_then ts (braced_at limit ts) (braced_at (limit + more)) _ _ (braced_local more ts) (λ e us. local_return us _)
+
+some_block_local : (more : ℕ) (ts : List Token) → Local ts (some_block limit ts) (some_block (limit + more))
+unfolding some_block
+some_block_local more ts = local_then ts (block_at (stmts_below limit) ts) (block_at (stmts_below (limit + more))) _ _ (block_reading_local limit more ts) (λ b us. local_return us _)
+
+given_by_local : (more : ℕ) (t : Token) (ts : List Token) (b : Bool) → is_symbol signs.OpenBrace t.kind ≡ b → Local (t ∷ ts) (cond b (some_braced limit (t ∷ ts)) (Ok (None, t ∷ ts))) (given_at (limit + more))
+unfolding given_at
+given_by_local more t ts true e = local_same t ts (some_braced limit (t ∷ ts)) (some_braced (limit + more)) (given_at (limit + more)) (λ l. rw e refl) (some_braced_local more (t ∷ ts))
+given_by_local more t ts false e = local_ok t ts None (given_at (limit + more)) (λ l. rw e refl)
+
+given_local : (more : ℕ) (ts : List Token) → Local ts (given_at limit ts) (given_at (limit + more))
+unfolding given_at
+given_local more [] = local_end None (given_at (limit + more)) refl
+given_local more (t ∷ ts) = given_by_local more t ts (is_symbol signs.OpenBrace t.kind) refl
+
+body_by_local : (more : ℕ) (t : Token) (ts : List Token) (b : Bool) → is_symbol signs.OpenBrace t.kind ≡ b → Local (t ∷ ts) (cond b (some_block limit (t ∷ ts)) (Ok (None, t ∷ ts))) (body_at (limit + more))
+unfolding body_at
+body_by_local more t ts true e = local_same t ts (some_block limit (t ∷ ts)) (some_block (limit + more)) (body_at (limit + more)) (λ l. rw e refl) (some_block_local more (t ∷ ts))
+body_by_local more t ts false e = local_ok t ts None (body_at (limit + more)) (λ l. rw e refl)
+
+body_local : (more : ℕ) (ts : List Token) → Local ts (body_at limit ts) (body_at (limit + more))
+unfolding body_at
+body_local more [] = local_end None (body_at (limit + more)) refl
+body_local more (t ∷ ts) = body_by_local more t ts (is_symbol signs.OpenBrace t.kind) refl
+
+-- ---- predicates and methods
+
+predicate_local : (more : ℕ) (place : Place) (ts : List Token) → Local ts (predicate_at limit place ts) (predicate_at (limit + more) place)
+unfolding predicate_at
+predicate_local more place ts =
+    local_then ts (name_at ts) name_at _ _ (name_local ts) (λ x us.
+    local_then us (parameters_at us) parameters_at _ _ (parameters_local us) (λ ps vs.
+    local_then vs (given_at limit vs) (given_at (limit + more)) _ _ (given_local more vs) (λ b ws. local_return ws _)))
 
 method_local : (more : ℕ) (place : Place) (ts : List Token) → Local ts (method_at limit place ts) (method_at (limit + more) place)
 unfolding method_at
@@ -142,8 +185,92 @@ method_local more place ts =
     local_then ts (name_at ts) name_at _ _ (name_local ts) (λ x us.
     local_then us (parameters_at us) parameters_at _ _ (parameters_local us) (λ ps vs.
     local_then vs (returns_at vs) returns_at _ _ (returns_local vs) (λ rs ws.
-    local_then ws (clauses_at limit ws) (clauses_at (limit + more)) _ _ (clauses_local more ws) (λ c xs.
-    local_then xs (block_at (stmts_below limit) xs) (block_at (stmts_below (limit + more))) _ _ (block_reading_local limit more xs) (λ b ys. local_return ys _)))))
+    local_then ws (clauses_at limit false ws) (clauses_at (limit + more) false) _ _ (clauses_local more false ws) (λ c xs.
+    local_then xs (body_at limit xs) (body_at (limit + more)) _ _ (body_local more xs) (λ b ys. local_return ys _)))))
+
+-- ---- members, with the stop of each
+
+-- as Local, for what may stop for want of a body
+abbrev pub HaltingLocal : {A : Type 0} → List Token → Halting A → (List Token → Halting A) → Type 0
+HaltingLocal ts (Ok x) reader = Front ts x.1 (λ l. Ok (x.0, l)) reader
+HaltingLocal ts (Err (stopped (Unexpected rest))) reader = Front ts rest (λ l. Err (stopped (Unexpected l))) reader
+HaltingLocal ts (Err (stopped (TooDeep rest))) reader = Unit {0}
+HaltingLocal ts (Err (bodiless rest)) reader = Front ts rest (λ l. Err (bodiless l)) reader
+HaltingLocal ts (Err (measured_twice rest)) reader = Front ts rest (λ l. Err (measured_twice l)) reader
+
+halting_local : {A : Type 0} (ts : List Token) (r : Read A) (reader : List Token → Read A) → Local ts r reader → HaltingLocal ts (halting r) (λ l. halting (reader l))
+halting_local ts (Ok x) reader f = record { front = f.front; is = f.is; repeats = λ next same. ap halting (f.repeats next same) }
+halting_local ts (Err (Unexpected rest)) reader f = record { front = f.front; is = f.is; repeats = λ next same. ap halting (f.repeats next same) }
+halting_local ts (Err (TooDeep rest)) reader f = tt
+
+halting_same : {A : Type 0} (t : Token) (ts : List Token) (r : Halting A) (reader other : List Token → Halting A) → ((l : List Token) → reader (t ∷ l) ≡ other (t ∷ l)) → HaltingLocal (t ∷ ts) r reader → HaltingLocal (t ∷ ts) r other
+halting_same t ts (Ok x) reader other h f = front_same t ts x.1 (λ l. Ok (x.0, l)) reader other h f
+halting_same t ts (Err (stopped (Unexpected rest))) reader other h f = front_same t ts rest (λ l. Err (stopped (Unexpected l))) reader other h f
+halting_same t ts (Err (stopped (TooDeep rest))) reader other h f = tt
+halting_same t ts (Err (bodiless rest)) reader other h f = front_same t ts rest (λ l. Err (bodiless l)) reader other h f
+halting_same t ts (Err (measured_twice rest)) reader other h f = front_same t ts rest (λ l. Err (measured_twice l)) reader other h f
+
+-- ---- functions
+
+head_local : (more : ℕ) (ts : List Token) → Local ts (head_at limit ts) (head_at (limit + more))
+unfolding head_at
+head_local more ts =
+    local_then ts (name_at ts) name_at _ _ (name_local ts) (λ x us.
+    local_then us (parameters_at us) parameters_at _ _ (parameters_local us) (λ ps vs.
+    local_then vs (expect signs.Colon vs) (expect signs.Colon) _ _ (local_expect signs.Colon vs) (λ c ws.
+    local_then ws (type_at ws) type_at _ _ (type_local ws) (λ t xs.
+    local_then xs (clauses_at limit true xs) (clauses_at (limit + more) true) _ _ (clauses_local more true xs) (λ cl ys. local_return ys _)))))
+
+function_by_local : (more : ℕ) (place : Place) (h : Head) (ts : List Token) → Local ts (function_by limit place h ts) (function_by (limit + more) place h)
+unfolding function_by
+function_by_local more place h ts = local_then ts (braced_at limit ts) (braced_at (limit + more)) _ _ (braced_local more ts) (λ e us. local_return us _)
+
+-- what is read behind a head
+body_of : ℕ → Place → Head → List Token → Halting Member
+body_of deep place h ts = cond (begins_braces ts) (halting (function_by deep place h ts)) (Err (no_body_at ts))
+
+no_body_local : (t : Token) (ts : List Token) (reader : List Token → Halting Member) (b : Bool) → begins_measure true t.kind ≡ b → ((l : List Token) → reader (t ∷ l) ≡ Err (no_body_at (t ∷ l))) → HaltingLocal (t ∷ ts) (Err (cond b (measured_twice (t ∷ ts)) (bodiless (t ∷ ts)))) reader
+no_body_local t ts reader true e h = record { front = []; is = refl; repeats = at_first t ts reader (λ l. Err (measured_twice l)) (λ l. h l ∙ rw e refl) }
+no_body_local t ts reader false e h = record { front = []; is = refl; repeats = at_first t ts reader (λ l. Err (bodiless l)) (λ l. h l ∙ rw e refl) }
+
+body_by_local' : (more : ℕ) (place : Place) (h : Head) (t : Token) (ts : List Token) (b : Bool) → is_symbol signs.OpenBrace t.kind ≡ b → HaltingLocal (t ∷ ts) (cond b (halting (function_by limit place h (t ∷ ts))) (Err (no_body_at (t ∷ ts)))) (body_of (limit + more) place h)
+unfolding body_of
+body_by_local' more place h t ts true e = halting_same t ts (halting (function_by limit place h (t ∷ ts))) (λ l. halting (function_by (limit + more) place h l)) (body_of (limit + more) place h) (λ l. rw e refl) (halting_local (t ∷ ts) (function_by limit place h (t ∷ ts)) (function_by (limit + more) place h) (function_by_local more place h (t ∷ ts)))
+body_by_local' more place h t ts false e = no_body_local t ts (body_of (limit + more) place h) (begins_measure true t.kind) refl (λ l. rw e refl)
+
+body_of_local : (more : ℕ) (place : Place) (h : Head) (ts : List Token) → HaltingLocal ts (body_of limit place h ts) (body_of (limit + more) place h)
+unfolding body_of
+body_of_local more place h [] = record { front = []; is = refl; repeats = at_end (body_of (limit + more) place h) (λ l. Err (bodiless l)) refl }
+body_of_local more place h (t ∷ ts) = body_by_local' more place h t ts (is_symbol signs.OpenBrace t.kind) refl
+
+-- behind a head that was read
+behind_front : (place : Place) (more : ℕ) (ts : List Token) (h : Head) (mid rest : List Token) (answer : List Token → Halting Member) → Front ts mid (λ l. Ok (h, l)) (head_at (limit + more)) → Front mid rest answer (body_of (limit + more) place h) → Front ts rest answer (function_at (limit + more) place)
+unfolding function_at body_of
+behind_front place more ts h mid rest answer f g = record {
+  front = f.front ++ g.front;
+  is = f.is ∙ ap (λ l. f.front ++ l) g.is ∙ sym (append_assoc f.front g.front rest);
+  repeats = λ next same.
+      ap (λ l. behind_head (limit + more) place (head_at (limit + more) l)) (append_assoc f.front g.front next)
+      ∙ ap (behind_head (limit + more) place) (f.repeats (g.front ++ next) (subst (λ l. SameHead l (g.front ++ next)) (sym g.is) (same_behind g.front rest next same)))
+      ∙ g.repeats next same;
+}
+
+behind_by : (place : Place) (more : ℕ) (ts : List Token) (h : Head) (mid : List Token) (r : Halting Member) → Front ts mid (λ l. Ok (h, l)) (head_at (limit + more)) → HaltingLocal mid r (body_of (limit + more) place h) → HaltingLocal ts r (function_at (limit + more) place)
+behind_by place more ts h mid (Ok x) f g = behind_front place more ts h mid x.1 (λ l. Ok (x.0, l)) f g
+behind_by place more ts h mid (Err (stopped (Unexpected rest))) f g = behind_front place more ts h mid rest (λ l. Err (stopped (Unexpected l))) f g
+behind_by place more ts h mid (Err (stopped (TooDeep rest))) f g = tt
+behind_by place more ts h mid (Err (bodiless rest)) f g = behind_front place more ts h mid rest (λ l. Err (bodiless l)) f g
+behind_by place more ts h mid (Err (measured_twice rest)) f g = behind_front place more ts h mid rest (λ l. Err (measured_twice l)) f g
+
+function_by_head : (place : Place) (more : ℕ) (ts : List Token) (r : Read Head) → Local ts r (head_at (limit + more)) → HaltingLocal ts (behind_head limit place r) (function_at (limit + more) place)
+unfolding function_at body_of
+function_by_head place more ts (Ok h) f = behind_by place more ts h.0 h.1 (body_of limit place h.0 h.1) f (body_of_local more place h.0 h.1)
+function_by_head place more ts (Err (Unexpected rest)) f = record { front = f.front; is = f.is; repeats = λ next same. ap (behind_head (limit + more) place) (f.repeats next same) }
+function_by_head place more ts (Err (TooDeep rest)) f = tt
+
+function_local : (more : ℕ) (place : Place) (ts : List Token) → HaltingLocal ts (function_at limit place ts) (function_at (limit + more) place)
+unfolding function_at
+function_local more place ts = function_by_head place more ts (head_at limit ts) (head_local more ts)
 
 -- ---- members
 
@@ -151,14 +278,13 @@ field_local : (place : Place) (ts : List Token) → Local ts (field_at place ts)
 unfolding field_at
 field_local place ts = local_then ts (declaration_at ts) declaration_at _ _ (declaration_local ts) (λ d us. local_return us _)
 
-nothing_local : {A : Type 0} (ts : List Token) → (let r : Read A = Err (Unexpected ts) in Local ts r (λ l. Err (Unexpected l)))
-nothing_local ts = record { front = []; is = refl; repeats = λ next same. refl }
+member_by_local : (more : ℕ) (place : Place) (k : Kind) (ts : List Token) → HaltingLocal ts (member_by limit place k ts) (member_by (limit + more) place k)
+member_by_local more place (word words.Field) ts = halting_local ts (field_at place ts) (field_at place) (field_local place ts)
+member_by_local more place (word words.Predicate) ts = halting_local ts (predicate_at limit place ts) (predicate_at (limit + more) place) (predicate_local more place ts)
+member_by_local more place (word words.Function) ts = function_local more place ts
+member_by_local more place (word words.Method) ts = halting_local ts (method_at limit place ts) (method_at (limit + more) place) (method_local more place ts)
+member_by_local more place k ts = record { front = []; is = refl; repeats = λ next same. refl }
 
-member_by_local : (more : ℕ) (place : Place) (k : Kind) (ts : List Token) → Local ts (member_by limit place k ts) (member_by (limit + more) place k)
-member_by_local more place (word words.Field) ts = field_local place ts
-member_by_local more place (word words.Method) ts = method_local more place ts
-member_by_local more place k ts = nothing_local ts
-
-pub member_local : (more : ℕ) (t : Token) (ts : List Token) → Local ts (member_at limit t ts) (member_at (limit + more) t)
+pub member_local : (more : ℕ) (t : Token) (ts : List Token) → HaltingLocal ts (member_at limit t ts) (member_at (limit + more) t)
 unfolding member_at
 member_local more t ts = member_by_local more t.place t.kind ts

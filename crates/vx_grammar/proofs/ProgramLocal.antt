@@ -8,11 +8,11 @@ use Rattle.vx_grammar.specs.Grammar.{Mark, tokens_of}
 use Rattle.vx_grammar.specs.Programs.{ProgramPhrase, program_meant, program_marks, StandsProgram}
 use Rattle.vx_grammar.specs.Reading.{Read, Unexpected, TooDeep}
 use Rattle.vx_grammar.specs.StmtReading.{skip_semicolon}
-use Rattle.vx_grammar.specs.MemberReading.{Halt, inside, no_member, too_many, begins_member, then_members, members_by, members_within, member_at, limit, max_members}
+use Rattle.vx_grammar.specs.MemberReading.{MemberStop, stopped, bodiless, measured_twice, Halting, Halt, inside, no_body, second_measure, no_member, too_many, halt_of, begins_member, then_members, members_by, members_within, member_at, limit, max_members}
 use Rattle.vx_grammar.specs.Laws.{Within}
 use Rattle.vx_grammar.specs.ProgramLaws.{ProgramSays, ProgramsSpelledOnce, NoProgramFits, StopsAtFirst, ReadingStopsAtFirst}
-use Rattle.vx_grammar.proofs.Local.{Local, Front, SameHead, same_behind}
-use Rattle.vx_grammar.proofs.MemberLocal.{member_local, skip_local}
+use Rattle.vx_grammar.proofs.Local.{Front, SameHead, same_behind}
+use Rattle.vx_grammar.proofs.MemberLocal.{HaltingLocal, member_local, skip_local}
 use Rattle.vx_grammar.proofs.MemberReads.{program_read, program_long}
 use Rattle.vx_grammar.proofs.ProgramTold.{programs_are_spelled}
 
@@ -70,6 +70,8 @@ pub record HaltFront (x y : ℕ) (before : List Member) (ts rest : List Token) (
 
 abbrev pub HaltLocal : (x y : ℕ) → List Member → List Token → Result Program Halt → Type 0
 HaltLocal x y before ts (Err (inside (Unexpected rest))) = HaltFront x y before ts rest (λ l. Err (inside (Unexpected l)))
+HaltLocal x y before ts (Err (no_body rest)) = HaltFront x y before ts rest (λ l. Err (no_body l))
+HaltLocal x y before ts (Err (second_measure rest)) = HaltFront x y before ts rest (λ l. Err (second_measure l))
 HaltLocal x y before ts (Err (no_member rest)) = HaltFront x y before ts rest (λ l. Err (no_member l))
 HaltLocal x y before ts (Err (inside (TooDeep rest))) = Unit {0}
 HaltLocal x y before ts (Err (too_many rest)) = Unit {0}
@@ -85,11 +87,11 @@ no_member_local x y before t ts e = record { front = []; is = refl; repeats = ag
     again (s ∷ next) same (suc most) le = rw (← same, e) refl
 
 -- inside a member
-inside_local : (x y : ℕ) (before : List Member) (t : Token) (ts rest : List Token) → begins_member t.kind ≡ true → length before < max_members → Front ts rest (λ l. Err (Unexpected l)) (member_at (limit + x) t) → HaltLocal x y before (t ∷ ts) (Err (inside (Unexpected rest)))
+inside_local : (x y : ℕ) (before : List Member) (t : Token) (ts rest : List Token) (stop : List Token → MemberStop) → begins_member t.kind ≡ true → length before < max_members → Front ts rest (λ l. Err (stop l)) (member_at (limit + x) t) → HaltFront x y before (t ∷ ts) rest (λ l. Err (halt_of (stop l)))
 unfolding members_by
-inside_local x y before t ts rest e few f = record { front = t ∷ f.front; is = ap (λ l. t ∷ l) f.is; repeats = again }
+inside_local x y before t ts rest stop e few f = record { front = t ∷ f.front; is = ap (λ l. t ∷ l) f.is; repeats = again }
   where
-    again : (next : List Token) → SameHead rest next → (most : ℕ) → length (t ∷ (f.front ++ next)) ≤ most → members_by (limit + x) (max_members + y) most before (t ∷ (f.front ++ next)) ≡ Err (inside (Unexpected next))
+    again : (next : List Token) → SameHead rest next → (most : ℕ) → length (t ∷ (f.front ++ next)) ≤ most → members_by (limit + x) (max_members + y) most before (t ∷ (f.front ++ next)) ≡ Err (halt_of (stop next))
     again next same zero le = absurd (omega (arith, le))
     again next same (suc most) le =
         let lt : ltb (length before) (max_members + y) ≡ true = lt-ltb _ _ (omega (arith, few)) in
@@ -100,7 +102,7 @@ skipped m a b h = let pair : (let u : Member × List Token = (m, a) in u) ≡ (m
 
 -- behind a member that was read, and its semicolon
 behind_local : (x y : ℕ) (before : List Member) (t : Token) (ts : List Token) (m : Member) (mid rest : List Token) (answer : List Token → Result Program Halt) → begins_member t.kind ≡ true → length before < max_members
-    → Front ts mid (λ l. Ok (m, l)) (member_at (limit + x) t) → Front mid (skip_semicolon mid) (λ l. Ok (m, l)) (λ l. Ok (m, skip_semicolon l)) → HaltFront x y (before ++ m ∷ []) (skip_semicolon mid) rest answer → HaltFront x y before (t ∷ ts) rest answer
+    → Front ts mid (λ l. Ok (m, l)) (member_at (limit + x) t) → Front {X = Read Member} mid (skip_semicolon mid) (λ l. Ok (m, l)) (λ l. Ok (m, skip_semicolon l)) → HaltFront x y (before ++ m ∷ []) (skip_semicolon mid) rest answer → HaltFront x y before (t ∷ ts) rest answer
 unfolding members_by
 behind_local x y before t ts m mid rest answer e few f s g = record {
   front = t ∷ (f.front ++ (s.front ++ g.front));
@@ -131,19 +133,23 @@ behind_local x y before t ts m mid rest answer e few f s g = record {
 on_local : (x y : ℕ) (before : List Member) (t : Token) (ts : List Token) (m : Member) (mid : List Token) (r : Result Program Halt) → begins_member t.kind ≡ true → length before < max_members
     → Front ts mid (λ l. Ok (m, l)) (member_at (limit + x) t) → HaltLocal x y (before ++ m ∷ []) (skip_semicolon mid) r → HaltLocal x y before (t ∷ ts) r
 on_local x y before t ts m mid (Err (inside (Unexpected rest))) e few f g = behind_local x y before t ts m mid rest _ e few f (skip_local m mid) g
+on_local x y before t ts m mid (Err (no_body rest)) e few f g = behind_local x y before t ts m mid rest _ e few f (skip_local m mid) g
+on_local x y before t ts m mid (Err (second_measure rest)) e few f g = behind_local x y before t ts m mid rest _ e few f (skip_local m mid) g
 on_local x y before t ts m mid (Err (no_member rest)) e few f g = behind_local x y before t ts m mid rest _ e few f (skip_local m mid) g
 on_local x y before t ts m mid (Err (inside (TooDeep rest))) e few f g = tt
 on_local x y before t ts m mid (Err (too_many rest)) e few f g = tt
 on_local x y before t ts m mid (Ok p) e few f g = tt
 
-method_by_local : (x y : ℕ) (before : List Member) (t : Token) (ts : List Token) (r : Read Member) (go : Member → List Token → Result Program Halt) → begins_member t.kind ≡ true → length before < max_members → Local ts r (member_at (limit + x) t)
+method_by_local : (x y : ℕ) (before : List Member) (t : Token) (ts : List Token) (r : Halting Member) (go : Member → List Token → Result Program Halt) → begins_member t.kind ≡ true → length before < max_members → HaltingLocal ts r (member_at (limit + x) t)
     → ((m : Member) (mid : List Token) → length mid ≤ length ts → HaltLocal x y (before ++ m ∷ []) (skip_semicolon mid) (go m mid)) → HaltLocal x y before (t ∷ ts) (then_members r go)
 method_by_local x y before t ts (Ok (m, mid)) go e few f h =
     let n = length-append f.front mid in
     let k = ap length f.is in
     on_local x y before t ts m mid (go m mid) e few f (h m mid (omega (arith, n, k)))
-method_by_local x y before t ts (Err (Unexpected rest)) go e few f h = inside_local x y before t ts rest e few f
-method_by_local x y before t ts (Err (TooDeep rest)) go e few f h = tt
+method_by_local x y before t ts (Err (stopped (Unexpected rest))) go e few f h = inside_local x y before t ts rest (λ l. stopped (Unexpected l)) e few f
+method_by_local x y before t ts (Err (bodiless rest)) go e few f h = inside_local x y before t ts rest (λ l. bodiless l) e few f
+method_by_local x y before t ts (Err (measured_twice rest)) go e few f h = inside_local x y before t ts rest (λ l. measured_twice l) e few f
+method_by_local x y before t ts (Err (stopped (TooDeep rest))) go e few f h = tt
 
 skip_short : (ts : List Token) → length (skip_semicolon ts) ≤ length ts
 skip_short ts = let s : Front ts (skip_semicolon ts) (λ l. Ok (ts, l)) (λ l. Ok (ts, skip_semicolon l)) = skip_local ts ts in let n = length-append s.front (skip_semicolon ts) in let k = ap length s.is in omega (arith, n, k)
@@ -194,6 +200,8 @@ none_fits front (t ∷ rest) ts stop f is = λ p more s.
 
 stops : (ts : List Token) (r : Result Program Halt) → ((x y : ℕ) → HaltLocal x y [] ts r) → ProgramSays ts r → StopsAtFirst ts r
 stops ts (Err (inside (Unexpected rest))) f (front, fits) = record { front = front; fits = fits; none = none_fits (tokens_of front) rest ts (λ l. inside (Unexpected l)) f fits.tokens }
+stops ts (Err (no_body rest)) f ((front, fits), due) = record { front = front; fits = fits; none = none_fits (tokens_of front) rest ts (λ l. no_body l) f fits.tokens }
+stops ts (Err (second_measure rest)) f ((front, fits), due) = record { front = front; fits = fits; none = none_fits (tokens_of front) rest ts (λ l. second_measure l) f fits.tokens }
 stops ts (Err (no_member rest)) f (front, fits) = record { front = front; fits = fits; none = none_fits (tokens_of front) rest ts (λ l. no_member l) f fits.tokens }
 stops ts (Err (inside (TooDeep rest))) f h = tt
 stops ts (Err (too_many rest)) f h = tt

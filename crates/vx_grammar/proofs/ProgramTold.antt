@@ -1,20 +1,22 @@
 -- What reading programs tells.
-use Rattle.std.proofs.Common.{◌≡◌, ℕ, zero, suc, ◌≤◌, ◌<◌, List, [], ◌∷◌, ◌++◌, None, Bool, true, false, Result, Ok, Err, length, refl, sym, ap, subst, ◌∙◌, append_assoc, arith, cond, ltb, length-append}
+use Rattle.std.proofs.Common.{◌≡◌, ℕ, zero, suc, ◌≤◌, ◌<◌, List, [], ◌∷◌, ◌++◌, None, Bool, true, false, Result, Ok, Err, length, refl, sym, ap, subst, ◌∙◌, append_assoc, arith, cond, ltb, length-append, inl, inr}
 use Rattle.std.proofs.lemmas.List.{append-nil}
 use Rattle.std.proofs.lemmas.Bool.{ltb-true, ltb-false}
 use Rattle.vx_ast.specs.declared.Place.{Place}
 use Rattle.vx_ast.specs.Written.{Declaration, IsField, Member, Program}
 use Rattle.vx_tokens.specs.declared.token.Word.TheVariants as words
 use Rattle.vx_tokens.specs.Tokens.{Token, Kind, word}
-use Rattle.vx_grammar.specs.Grammar.{Mark, tokens_of}
+use Rattle.vx_grammar.specs.Grammar.{Mark, mark, tokens_of}
 use Rattle.vx_grammar.specs.Statements.{semi_marks}
-use Rattle.vx_grammar.specs.Programs.{MemberPhrase, a_field, a_method, member_meant, StandsMember, member_marks, ProgramPhrase, no_members, member, program_meant, StandsProgram, program_marks}
+use Rattle.vx_grammar.specs.Programs.{head_marks, MemberPhrase, a_field, a_predicate, a_function, a_method, member_meant, StandsMember, member_marks, ProgramPhrase, no_members, member, program_meant, StandsProgram, program_marks}
 use Rattle.vx_grammar.specs.Reading.{Read, Unexpected, TooDeep}
 use Rattle.vx_grammar.specs.StmtReading.{skip_semicolon, declaration_at}
-use Rattle.vx_grammar.specs.MemberReading.{Halt, no_member, too_many, begins_member, then_members, members_by, members_within, field_at, member_by, member_at, limit, max_members}
+use Rattle.vx_grammar.specs.MemberReading.{stopped, bodiless, measured_twice, Halting, halting, predicate_at, method_at, Halt, no_member, too_many, begins_member, then_members, members_by, members_within, field_at, member_by, member_at, limit, max_members}
 use Rattle.vx_grammar.specs.Laws.{Within}
-use Rattle.vx_grammar.specs.ProgramLaws.{ProgramGoesOn, ProgramSays, ProgramsAreSpelled}
-use Rattle.vx_grammar.proofs.Tells.{Grammar, Starts, Takes, Tells, TellsOk, marks_is, takes_then, takes_none, tells_as}
+use Rattle.vx_grammar.specs.ProgramLaws.{FitsInFront, StopsAtBody, ProgramGoesOn, ProgramSays, ProgramsAreSpelled}
+use Rattle.vx_grammar.proofs.Tells.{Grammar, Starts, Takes, Tells, TellsOk, TellsUnexpected, marks_is, takes_then, takes_none, tells_as}
+use Rattle.vx_grammar.proofs.BodiesTold.{PredicateFor, predicate_tells}
+use Rattle.vx_grammar.proofs.FunctionTold.{plain, plain_halting, FunctionFor, function_tells, HeadTaken, WantsBody, never_wants, function_wants}
 use Rattle.vx_grammar.proofs.MethodTold.{SemiThen, semi_tells, MethodFor, method_tells}
 use Rattle.vx_grammar.proofs.Bracketed.{Nested, led_tells}
 use Rattle.vx_grammar.proofs.Sequence.{Sequence, Nothing, tells_sequence, starts_nothing, tells_nothing}
@@ -53,14 +55,30 @@ field_tells t ts k =
     (led_tells (FieldParts t.place) limit 0 t ts _ (omega arith)
     (tells_sequence (DeclarationFor 0) _ limit ts (declaration_at ts) _ (λ d. starts_nothing _) (declaration_tells limit 0 ts (omega arith)) (λ d us. tells_nothing limit us _)))
 
-member_by_tells : (t : Token) (k : Kind) (ts : List Token) → t.kind ≡ k → begins_member k ≡ true → Tells MemberFor limit (t ∷ ts) (member_by limit t.place k ts)
-member_by_tells t (word words.Field) ts k h = field_tells t ts k
-member_by_tells t (word words.Method) ts k h = tells_as MethodFor MemberFor limit (t ∷ ts) _ (λ m ms r. record { phrase = a_method r.phrase; stands = r.stands; means = r.means; spelled = r.spelled }) (method_tells t ts k)
+plainly_tells : (t : Token) (ts : List Token) (r : Read Member) → Tells MemberFor limit (t ∷ ts) r → Tells MemberFor limit (t ∷ ts) (plain (halting r))
+plainly_tells t ts r h = subst (Tells MemberFor limit (t ∷ ts)) (sym (plain_halting r)) h
+
+member_by_tells : (t : Token) (k : Kind) (ts : List Token) → t.kind ≡ k → begins_member k ≡ true → Tells MemberFor limit (t ∷ ts) (plain (member_by limit t.place k ts))
+member_by_tells t (word words.Field) ts k h = plainly_tells t ts (field_at t.place ts) (field_tells t ts k)
+member_by_tells t (word words.Predicate) ts k h = plainly_tells t ts (predicate_at limit t.place ts) (tells_as PredicateFor MemberFor limit (t ∷ ts) _ (λ m ms r. record { phrase = a_predicate r.phrase; stands = r.stands; means = r.means; spelled = r.spelled }) (predicate_tells t ts k))
+member_by_tells t (word words.Function) ts k h = tells_as FunctionFor MemberFor limit (t ∷ ts) _ (λ m ms r. record { phrase = a_function r.phrase; stands = r.stands; means = r.means; spelled = r.spelled }) (function_tells t ts k)
+member_by_tells t (word words.Method) ts k h = plainly_tells t ts (method_at limit t.place ts) (tells_as MethodFor MemberFor limit (t ∷ ts) _ (λ m ms r. record { phrase = a_method r.phrase; stands = r.stands; means = r.means; spelled = r.spelled }) (method_tells t ts k))
 member_by_tells t k ts e h = absurd cc
 
-member_tells : (t : Token) (ts : List Token) → begins_member t.kind ≡ true → Tells MemberFor limit (t ∷ ts) (member_at limit t ts)
+member_tells : (t : Token) (ts : List Token) → begins_member t.kind ≡ true → Tells MemberFor limit (t ∷ ts) (plain (member_at limit t ts))
 unfolding member_at
 member_tells t ts h = member_by_tells t t.kind ts refl h
+
+member_by_wants : (t : Token) (k : Kind) (ts rest : List Token) → t.kind ≡ k → WantsBody (member_by limit t.place k ts) rest → HeadTaken (t ∷ ts) rest
+member_by_wants t (word words.Field) ts rest k w = absurd (never_wants (field_at t.place ts) rest w)
+member_by_wants t (word words.Predicate) ts rest k w = absurd (never_wants (predicate_at limit t.place ts) rest w)
+member_by_wants t (word words.Function) ts rest k w = function_wants t ts rest k w
+member_by_wants t (word words.Method) ts rest k w = absurd (never_wants (method_at limit t.place ts) rest w)
+member_by_wants t k ts rest e w = absurd (never_wants (let a : Read Member = Err (Unexpected ts) in a) rest w)
+
+member_wants : (t : Token) (ts rest : List Token) → WantsBody (member_at limit t ts) rest → HeadTaken (t ∷ ts) rest
+unfolding member_at
+member_wants t ts rest w = member_by_wants t t.kind ts rest refl w
 
 -- members, and then a part of what follows
 pub record Front (before : List Member) (after : List Member) (ms : List Mark) : Type 0 where
@@ -152,14 +170,33 @@ says_many all before ms t ts h many f takes few = record {
   begins_member = h;
 }
 
-says_stop : (all : List Token) (before : List Member) (ms : List Mark) (ts : List Token) (r : Read Member) (go : Member → List Token → Result Program Halt) → Tells MemberFor limit ts r
-    → ((m : Member) (rest : List Token) (ns : List Mark) → MemberFor m ns → Takes limit ts ns rest → SaysBehind all before ms ts (go m rest))
-    → SaysBehind all before ms ts (then_members r go)
-says_stop all before ms ts (Ok (m, rest)) go h k f takes few = k m rest h.marks h.spelled h.takes f takes few
-says_stop all before ms ts (Err (Unexpected rest)) go h k f takes few =
+-- behind members, up to where the next one does not go on
+unfit_behind : (all : List Token) (before : List Member) (ms : List Mark) (ts rest : List Token) → TellsUnexpected MemberFor limit ts rest → Front [] before ms → Takes limit all ms ts → FitsInFront all rest
+unfit_behind all before ms ts rest h f takes =
     let both_taken = takes_then limit all ts rest ms h.marks takes h.takes in
     (ms ++ h.marks, record { tokens = both_taken.tokens; within = both_taken.within; goes_on = front_goes_on [] before ms h.marks f h.starts })
-says_stop all before ms ts (Err (TooDeep rest)) go h k f takes few =
+
+-- and where a body is due
+body_behind_members : (all : List Token) (before : List Member) (ms : List Mark) (ts rest : List Token) → HeadTaken ts rest → Front [] before ms → Takes limit all ms ts → StopsAtBody all rest
+body_behind_members all before ms ts rest h f takes =
+    let head = mark 0 h.function.at (word words.Function) ∷ head_marks h.function in
+    let both_taken = takes_then limit all ts rest ms head takes h.takes in
+    record {
+      members = f.phrase;
+      function = h.function;
+      members_stand = f.stands;
+      clauses_stand = h.stands;
+      tokens = both_taken.tokens ∙ ap (λ l. tokens_of (l ++ head) ++ rest) (sym f.spelled);
+    }
+
+says_stop : (all : List Token) (before : List Member) (ms : List Mark) (ts : List Token) (r : Halting Member) (go : Member → List Token → Result Program Halt) → Tells MemberFor limit ts (plain r) → ((rest : List Token) → WantsBody r rest → HeadTaken ts rest)
+    → ((m : Member) (rest : List Token) (ns : List Mark) → MemberFor m ns → Takes limit ts ns rest → SaysBehind all before ms ts (go m rest))
+    → SaysBehind all before ms ts (then_members r go)
+says_stop all before ms ts (Ok (m, rest)) go h wants k f takes few = k m rest h.marks h.spelled h.takes f takes few
+says_stop all before ms ts (Err (stopped (Unexpected rest))) go h wants k f takes few = unfit_behind all before ms ts rest h f takes
+says_stop all before ms ts (Err (bodiless rest)) go h wants k f takes few = (unfit_behind all before ms ts rest h f takes, body_behind_members all before ms ts rest (wants rest (inl refl)) f takes)
+says_stop all before ms ts (Err (measured_twice rest)) go h wants k f takes few = (unfit_behind all before ms ts rest h f takes, body_behind_members all before ms ts rest (wants rest (inr refl)) f takes)
+says_stop all before ms ts (Err (stopped (TooDeep rest))) go h wants k f takes few =
     let both_taken = takes_then limit all ts rest ms h.marks takes h.takes in
     let deeper : ProgramGoesOn ((ms ++ h.marks) ++ h.deep ∷ []) = subst ProgramGoesOn (sym (append_assoc ms h.marks (h.deep ∷ []))) (front_goes_on [] before ms (h.marks ++ h.deep ∷ []) f h.starts) in
     record {
@@ -188,7 +225,7 @@ says_on all before ms ts r lt h m rest ns g taken f takes few = by_semi (semi_te
 says_member : (all : List Token) (before : List Member) (ms : List Mark) (t : Token) (ts : List Token) (go : Member → List Token → Result Program Halt) (b : Bool) → ltb (length before) max_members ≡ b → begins_member t.kind ≡ true → ((m : Member) (us : List Token) (ns : List Mark) → SaysBehind all (before ++ m ∷ []) ns us (go m us))
     → SaysBehind all before ms (t ∷ ts) (cond b (then_members (member_at limit t ts) (λ m after. go m (skip_semicolon after))) (Err (too_many (t ∷ ts))))
 says_member all before ms t ts go true lt h k =
-    says_stop all before ms (t ∷ ts) (member_at limit t ts) (λ m after. go m (skip_semicolon after)) (member_tells t ts h)
+    says_stop all before ms (t ∷ ts) (member_at limit t ts) (λ m after. go m (skip_semicolon after)) (member_tells t ts h) (member_wants t ts)
     (says_on all before ms (t ∷ ts) go (ltb-true _ _ lt) k)
 says_member all before ms t ts go false ge h k = says_many all before ms t ts h (ltb-false _ _ ge)
 

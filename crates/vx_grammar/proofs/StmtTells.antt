@@ -19,7 +19,7 @@ use Rattle.vx_grammar.proofs.Sequence.{Sequence, Nothing, tells_sequence, starts
 abbrev pub TypeFor : ℕ → Grammar ValueType
 TypeFor n t ms = (p : Place) × (ms ≡ mark n p (word (type_word t)) ∷ [])
 
-starts_type : (n : ℕ) → Starts (TypeFor n) []
+pub starts_type : (n : ℕ) → Starts (TypeFor n) []
 starts_type n = record { value = types.Int; more = mark n somewhere (word words.Int) ∷ []; spelled = (somewhere, refl) }
 
 type_by_tells : (limit n : ℕ) (t : Token) (k : Kind) (ts : List Token) → n ≤ limit → t.kind ≡ k → Tells (TypeFor n) limit (t ∷ ts) (type_by t k ts)
@@ -29,7 +29,7 @@ type_by_tells limit n t (word words.Ref) ts le e = tells_token (TypeFor n) limit
 type_by_tells limit n t (word words.Perm) ts le e = tells_token (TypeFor n) limit (record { token = t; count = n }) ts types.Perm le (t.place, sym (marks_is t (word words.Perm) n [] e))
 type_by_tells limit n t k ts le e = tells_unexpected (TypeFor n) limit (t ∷ ts) (starts_type n)
 
-type_tells : (limit n : ℕ) (ts : List Token) → n ≤ limit → Tells (TypeFor n) limit ts (type_at ts)
+pub type_tells : (limit n : ℕ) (ts : List Token) → n ≤ limit → Tells (TypeFor n) limit ts (type_at ts)
 unfolding type_at
 type_tells limit n [] le = tells_unexpected (TypeFor n) limit [] (starts_type n)
 type_tells limit n (t ∷ ts) le = type_by_tells limit n t t.kind ts le refl

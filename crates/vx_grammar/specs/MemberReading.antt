@@ -1,12 +1,13 @@
 -- Reading members from left to right.
-use Rattle.std.specs.Prelude.{ℕ, zero, suc, ◌-◌, List, [], ◌∷◌, ◌++◌, length, nat_le, nat_lt, Result, Ok, Err, Some, None, Bool, true, false, if◌then◌else◌}
+use Rattle.std.specs.Prelude.{ℕ, zero, suc, List, [], ◌∷◌, ◌++◌, length, nat_lt, Result, Ok, Err, Option, Some, None, Bool, true, false, if◌then◌else◌}
 use Rattle.vx_ast.specs.declared.Place.{Place}
 use Rattle.vx_tokens.specs.declared.token.Word.TheVariants as words
 use Rattle.vx_tokens.specs.declared.token.Symbol.TheVariants as signs
 use Rattle.vx_tokens.specs.Tokens.{Kind, word, Token}
-use Rattle.vx_ast.specs.Written.{Expr, Declaration, Block, IsField, IsMethod, Member, Program}
-use Rattle.vx_grammar.specs.Reading.{Stop, Unexpected, TooDeep, Read, ◌>>=◌, Turn, run, is_symbol, expect, name_at, choice_at, below, exprs_from}
-use Rattle.vx_grammar.specs.StmtReading.{clause_at, declaration_at, block_at, stmts_below, skip_semicolon}
+use Rattle.vx_ast.specs.declared.ValueType.{ValueType}
+use Rattle.vx_ast.specs.Written.{Expr, Declaration, Block, IsField, IsPredicate, IsFunction, IsMethod, Member, Program}
+use Rattle.vx_grammar.specs.Reading.{Stop, Unexpected, Read, ◌>>=◌, Turn, run, is_symbol, expect, name_at, choice, below, exprs_from}
+use Rattle.vx_grammar.specs.StmtReading.{clause_at, type_at, declaration_at, block_at, stmts_below, skip_semicolon}
 
 -- the nesting limit
 abbrev pub limit : ℕ
@@ -57,15 +58,19 @@ returns_at (t ∷ ts) = if begins_returns t.kind then parameters_at ts else Ok (
 pub record Clauses : Type 0 where
   pub requires : List Expr
   pub ensures : List Expr
+  pub measure : Option Expr
 
 abbrev pub no_clauses : Clauses
-no_clauses = record { requires = []; ensures = [] }
+no_clauses = record { requires = []; ensures = []; measure = None }
 
 abbrev pub with_requires : Clauses → Expr → Clauses
-with_requires c e = record { requires = c.requires ++ e ∷ []; ensures = c.ensures }
+with_requires c e = record { requires = c.requires ++ e ∷ []; ensures = c.ensures; measure = c.measure }
 
 abbrev pub with_ensures : Clauses → Expr → Clauses
-with_ensures c e = record { requires = c.requires; ensures = c.ensures ++ e ∷ [] }
+with_ensures c e = record { requires = c.requires; ensures = c.ensures ++ e ∷ []; measure = c.measure }
+
+abbrev pub with_measure : Clauses → Expr → Clauses
+with_measure c e = record { requires = c.requires; ensures = c.ensures; measure = Some e }
 
 abbrev pub begins_requires : Kind → Bool
 begins_requires (word words.Requires) = true
@@ -75,29 +80,138 @@ abbrev pub begins_ensures : Kind → Bool
 begins_ensures (word words.Ensures) = true
 begins_ensures k = false
 
--- one clause more
-unfoldable pub clause_turn : ℕ → Turn Clauses
-clause_turn deep before [] = Ok (None, [])
-clause_turn deep before (t ∷ ts) =
+-- a measure may come, and none came before
+abbrev pub is_due : Bool → Option Expr → Bool
+is_due may None = may
+is_due may (Some e) = false
+
+abbrev pub begins_measure : Bool → Kind → Bool
+begins_measure due (word words.Decreases) = due
+begins_measure due k = false
+
+-- one clause more, where a measure may come, or none may
+unfoldable pub clause_turn : ℕ → Bool → Turn Clauses
+clause_turn deep may before [] = Ok (None, [])
+clause_turn deep may before (t ∷ ts) =
     if begins_requires t.kind then (do
       e ← clause_at deep (length before.requires) (t ∷ ts) ts
       Ok (Some (with_requires before e.0), skip_semicolon e.1))
     else (if begins_ensures t.kind then (do
       e ← clause_at deep (length before.ensures) (t ∷ ts) ts
       Ok (Some (with_ensures before e.0), skip_semicolon e.1))
-    else Ok (None, t ∷ ts))
+    else (if begins_measure (is_due may before.measure) t.kind then (do
+      e ← clause_at deep 0 (t ∷ ts) ts
+      Ok (Some (with_measure before e.0), skip_semicolon e.1))
+    else Ok (None, t ∷ ts)))
 
-unfoldable pub clauses_at : ℕ → List Token → Read Clauses
-clauses_at deep ts = run (clause_turn deep) (length ts) no_clauses ts
+unfoldable pub clauses_at : ℕ → Bool → List Token → Read Clauses
+clauses_at deep may ts = run (clause_turn deep may) (length ts) no_clauses ts
 
 -- ---- members
 
-abbrev pub method_of : Place → List ℕ → List Declaration → List Declaration → Clauses → Block → Member
+-- where reading a member stops: where reading stops inside it, where a function's body is due, or at a second measure
+pub data MemberStop : Type 0 where
+  stopped : Stop → MemberStop
+  bodiless : List Token → MemberStop
+  measured_twice : List Token → MemberStop
+
+-- what was read and the tokens after it, or the stop
+abbrev pub Halting : Type 0 → Type 0
+Halting A = Result (A × List Token) MemberStop
+
+abbrev pub halting : {A : Type 0} → Read A → Halting A
+halting (Ok x) = Ok x
+halting (Err stop) = Err (stopped stop)
+
+abbrev pub begins_braces : List Token → Bool
+begins_braces [] = false
+begins_braces (t ∷ ts) = is_symbol signs.OpenBrace t.kind
+
+-- an expression between braces
+unfoldable pub braced_at : ℕ → List Token → Read Expr
+braced_at deep ts = do
+  opened ← expect signs.OpenBrace ts
+  e ← below deep choice ts opened.1
+  close ← expect signs.CloseBrace e.1
+  Ok (e.0, close.1)
+
+unfoldable pub some_braced : ℕ → List Token → Read (Option Expr)
+some_braced deep ts = do
+  e ← braced_at deep ts
+  Ok (Some e.0, e.1)
+
+-- behind the parameters of a predicate
+unfoldable pub given_at : ℕ → List Token → Read (Option Expr)
+given_at deep ts = if begins_braces ts then some_braced deep ts else Ok (None, ts)
+
+abbrev pub predicate_of : Place → List ℕ → List Declaration → Option Expr → Member
+predicate_of place x parameters body = record { place = place; name = x; kind = IsPredicate record { parameters = parameters; body = body } }
+
+-- behind a `predicate`
+unfoldable pub predicate_at : ℕ → Place → List Token → Read Member
+predicate_at deep place ts = do
+  x ← name_at ts
+  parameters ← parameters_at x.1
+  body ← given_at deep parameters.1
+  Ok (predicate_of place x.0 parameters.0 body.0, body.1)
+
+abbrev pub method_of : Place → List ℕ → List Declaration → List Declaration → Clauses → Option Block → Member
 method_of place x parameters returns clauses body = record {
   place = place;
   name = x;
-  kind = IsMethod record { parameters = parameters; returns = returns; requires = exprs_from clauses.requires; ensures = exprs_from clauses.ensures; body = Some body };
+  kind = IsMethod record { parameters = parameters; returns = returns; requires = exprs_from clauses.requires; ensures = exprs_from clauses.ensures; body = body };
 }
+
+-- what stands in front of a function's body
+pub record Head : Type 0 where
+  pub name : List ℕ
+  pub parameters : List Declaration
+  pub of : ValueType
+  pub clauses : Clauses
+
+abbrev pub function_of : Place → Head → Expr → Member
+function_of place h body = record {
+  place = place;
+  name = h.name;
+  kind = IsFunction record { parameters = h.parameters; of = h.of; requires = exprs_from h.clauses.requires; ensures = exprs_from h.clauses.ensures; decreases = h.clauses.measure; body = body };
+}
+
+-- behind a `function`, up to its body
+unfoldable pub head_at : ℕ → List Token → Read Head
+head_at deep ts = do
+  x ← name_at ts
+  parameters ← parameters_at x.1
+  colon ← expect signs.Colon parameters.1
+  type ← type_at colon.1
+  clauses ← clauses_at deep true type.1
+  Ok (record { name = x.0; parameters = parameters.0; of = type.0; clauses = clauses.0 }, clauses.1)
+
+unfoldable pub function_by : ℕ → Place → Head → List Token → Read Member
+function_by deep place h ts = do
+  body ← braced_at deep ts
+  Ok (function_of place h body.0, body.1)
+
+-- where a body is due, and none begins
+abbrev pub no_body_at : List Token → MemberStop
+no_body_at [] = bodiless []
+no_body_at (t ∷ ts) = if begins_measure true t.kind then measured_twice (t ∷ ts) else bodiless (t ∷ ts)
+
+abbrev pub behind_head : ℕ → Place → Read Head → Halting Member
+behind_head deep place (Ok h) = if begins_braces h.1 then halting (function_by deep place h.0 h.1) else Err (no_body_at h.1)
+behind_head deep place (Err stop) = Err (stopped stop)
+
+-- behind a `function`
+unfoldable pub function_at : ℕ → Place → List Token → Halting Member
+function_at deep place ts = behind_head deep place (head_at deep ts)
+
+unfoldable pub some_block : ℕ → List Token → Read (Option Block)
+some_block deep ts = do
+  b ← block_at (stmts_below deep) ts
+  Ok (Some b.0, b.1)
+
+-- behind the clauses of a method
+unfoldable pub body_at : ℕ → List Token → Read (Option Block)
+body_at deep ts = if begins_braces ts then some_block deep ts else Ok (None, ts)
 
 -- behind a `method`
 unfoldable pub method_at : ℕ → Place → List Token → Read Member
@@ -105,8 +219,8 @@ method_at deep place ts = do
   x ← name_at ts
   parameters ← parameters_at x.1
   returns ← returns_at parameters.1
-  clauses ← clauses_at deep returns.1
-  body ← block_at (stmts_below deep) clauses.1
+  clauses ← clauses_at deep false returns.1
+  body ← body_at deep clauses.1
   Ok (method_of place x.0 parameters.0 returns.0 clauses.0 body.0, body.1)
 
 -- behind a `field`
@@ -116,33 +230,45 @@ field_at place ts = do
   Ok (record { place = place; name = d.0.name; kind = IsField d.0.of }, d.1)
 
 -- behind a word that begins a member
-abbrev pub member_by : ℕ → Place → Kind → List Token → Read Member
-member_by deep place (word words.Field) ts = field_at place ts
-member_by deep place (word words.Method) ts = method_at deep place ts
-member_by deep place k ts = Err (Unexpected ts)
+abbrev pub member_by : ℕ → Place → Kind → List Token → Halting Member
+member_by deep place (word words.Field) ts = halting (field_at place ts)
+member_by deep place (word words.Predicate) ts = halting (predicate_at deep place ts)
+member_by deep place (word words.Function) ts = function_at deep place ts
+member_by deep place (word words.Method) ts = halting (method_at deep place ts)
+member_by deep place k ts = Err (stopped (Unexpected ts))
 
-unfoldable pub member_at : ℕ → Token → List Token → Read Member
+unfoldable pub member_at : ℕ → Token → List Token → Halting Member
 member_at deep t ts = member_by deep t.place t.kind ts
 
 -- ---- programs
 
--- where reading members stops: inside a member, where a member is due, or at one too many
+-- Where reading members stops: inside a member; where a function's body is due; at a second measure; where a member is
+-- due; or at one too many.
 pub data Halt : Type 0 where
   inside : Stop → Halt
+  no_body : List Token → Halt
+  second_measure : List Token → Halt
   no_member : List Token → Halt
   too_many : List Token → Halt
+
+abbrev pub halt_of : MemberStop → Halt
+halt_of (stopped stop) = inside stop
+halt_of (bodiless rest) = no_body rest
+halt_of (measured_twice rest) = second_measure rest
 
 abbrev pub max_members : ℕ
 max_members = 65536
 
 abbrev pub begins_member : Kind → Bool
 begins_member (word words.Field) = true
+begins_member (word words.Predicate) = true
+begins_member (word words.Function) = true
 begins_member (word words.Method) = true
 begins_member k = false
 
-abbrev pub then_members : Read Member → (Member → List Token → Result Program Halt) → Result Program Halt
+abbrev pub then_members : Halting Member → (Member → List Token → Result Program Halt) → Result Program Halt
 then_members (Ok x) go = go x.0 x.1
-then_members (Err stop) go = Err (inside stop)
+then_members (Err stop) go = Err (halt_of stop)
 
 -- members behind so many, up to the end of the tokens, with at most so many turns
 unfoldable pub members_by : (deep many most : ℕ) → List Member → List Token → Result Program Halt

@@ -2,10 +2,12 @@
 use Rattle.std.specs.Prelude.{◌≡◌, ◌≤◌, ◌<◌, List, [], ◌∷◌, ◌++◌, length, true, Result, Ok, Err}
 use Rattle.vx_ast.specs.Written.{Program}
 use Rattle.vx_tokens.specs.Tokens.{Token}
-use Rattle.vx_grammar.specs.Grammar.{Mark, tokens_of}
-use Rattle.vx_grammar.specs.Programs.{ProgramPhrase, StandsProgram, program_meant, program_marks}
+use Rattle.vx_tokens.specs.declared.token.Word.TheVariants as words
+use Rattle.vx_tokens.specs.Tokens.{word}
+use Rattle.vx_grammar.specs.Grammar.{Mark, mark, tokens_of}
+use Rattle.vx_grammar.specs.Programs.{FunctionPhrase, StandsClauses, head_marks, ProgramPhrase, StandsProgram, program_meant, program_marks}
 use Rattle.vx_grammar.specs.Reading.{Unexpected, TooDeep}
-use Rattle.vx_grammar.specs.MemberReading.{Halt, inside, no_member, too_many, begins_member, members_at, limit, max_members}
+use Rattle.vx_grammar.specs.MemberReading.{Halt, inside, no_body, second_measure, no_member, too_many, begins_member, members_at, limit, max_members}
 use Rattle.vx_grammar.specs.Laws.{Within}
 
 -- the tokens, all of them, spell the program
@@ -60,11 +62,21 @@ pub record StopsTooMany (ts rest : List Token) : Type 0 where
   pub many : max_members ≤ length members
   pub begins_member : begins_member first.kind ≡ true
 
+-- The tokens in front of the rest are members and a function up to its body, which is due.
+pub record StopsAtBody (ts rest : List Token) : Type 0 where
+  pub members : ProgramPhrase
+  pub function : FunctionPhrase
+  pub members_stand : StandsProgram members
+  pub clauses_stand : StandsClauses true function.clauses
+  pub tokens : ts ≡ tokens_of (program_marks members ++ mark 0 function.at (word words.Function) ∷ head_marks function) ++ rest
+
 -- what an answer of reading says of the tokens
 abbrev pub ProgramSays : List Token → Result Program Halt → Type 0
 ProgramSays ts (Ok p) = ProgramWithin ts p
 ProgramSays ts (Err (inside (Unexpected rest))) = FitsInFront ts rest
 ProgramSays ts (Err (inside (TooDeep rest))) = StopsTooDeep ts rest
+ProgramSays ts (Err (no_body rest)) = FitsInFront ts rest × StopsAtBody ts rest
+ProgramSays ts (Err (second_measure rest)) = FitsInFront ts rest × StopsAtBody ts rest
 ProgramSays ts (Err (no_member rest)) = FitsInFront ts rest
 ProgramSays ts (Err (too_many rest)) = StopsTooMany ts rest
 
@@ -94,6 +106,8 @@ pub record FirstUnfit (ts rest : List Token) : Type 0 where
 
 abbrev pub StopsAtFirst : List Token → Result Program Halt → Type 0
 StopsAtFirst ts (Err (inside (Unexpected rest))) = FirstUnfit ts rest
+StopsAtFirst ts (Err (no_body rest)) = FirstUnfit ts rest
+StopsAtFirst ts (Err (second_measure rest)) = FirstUnfit ts rest
 StopsAtFirst ts (Err (no_member rest)) = FirstUnfit ts rest
 StopsAtFirst ts (Err (inside (TooDeep rest))) = Unit {0}
 StopsAtFirst ts (Err (too_many rest)) = Unit {0}

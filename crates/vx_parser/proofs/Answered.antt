@@ -8,6 +8,7 @@ use Rattle.vx_tokens.specs.Tokens.{Token}
 use Rattle.vx_tokens.specs.Text.{Ending, AtEnd, OpenComment, WideLiteral, BadCharacter}
 use Rattle.vx_grammar.specs.MemberReading as members
 use Rattle.vx_parser.specs.declared.stop.Stop.TheVariants as stops
+use Rattle.vx_parser.specs.declared.stop.MemberStop.TheVariants as inner
 use Rattle.vx_parser.specs.declared.program.Halt as the_halt
 use Rattle.vx_parser.specs.declared.program.Halt.TheVariants as halts
 use Rattle.vx_parser.specs.declared.fault.TextFault as the_fault
@@ -50,8 +51,10 @@ want_answered f (Err g) e = rw e tt
 
 pub fault_answered : (f : the_fault.TextFault) (halt : the_halt.Halt) (ts : List Token) (e : Ending) → Halts halt (members.members_at ts) → FaultsAs f halt e → IsAnswer (Err f) (answer ts e)
 unfolding answer
-fault_answered f (halts.Inside stops.Memory) ts e h s = want_answered f (answer_by (members.members_at ts) e) s
-fault_answered f (halts.Inside (stops.Unexpected us)) ts e h s = rw h (shown f _ s)
-fault_answered f (halts.Inside (stops.TooDeep us)) ts e h s = rw h (shown f _ s)
+fault_answered f (halts.Inside (inner.Stopped stops.Memory)) ts e h s = want_answered f (answer_by (members.members_at ts) e) s
+fault_answered f (halts.Inside (inner.Stopped (stops.Unexpected us))) ts e h s = rw h (shown f _ s)
+fault_answered f (halts.Inside (inner.Stopped (stops.TooDeep us))) ts e h s = rw h (shown f _ s)
+fault_answered f (halts.Inside (inner.Bodiless us)) ts e h s = rw h (shown f _ s)
+fault_answered f (halts.Inside (inner.MeasuredTwice us)) ts e h s = rw h (shown f _ s)
 fault_answered f (halts.NoMember us) ts e h s = rw h (shown f _ s)
 fault_answered f (halts.TooMany us) ts e h s = rw h (shown f _ s)

@@ -7,10 +7,11 @@ use Rattle.vx_tokens.specs.declared.token.Token as the_token
 use Rattle.vx_tokens.specs.Tokens.{Token, tokens_in, token_of}
 use Rattle.vx_grammar.specs.StmtReading.{skip_semicolon}
 use Rattle.vx_grammar.specs.MemberReading.{limit, Halt, no_member, too_many, begins_member, member_at, members_by, max_members}
-use Rattle.vx_parser.specs.declared.stop.Stop as the_stop
+use Rattle.vx_parser.specs.declared.stop.MemberStop as the_stop
+use Rattle.vx_parser.specs.declared.stop.MemberStop.TheVariants as inner
 use Rattle.vx_parser.specs.declared.stop.Stop.TheVariants as stops
 use Rattle.vx_parser.specs.declared.program.Halt.TheVariants as halts
-use Rattle.vx_parser.specs.Gives.{Stops}
+use Rattle.vx_parser.specs.Halting.{MemberStops}
 use Rattle.vx_parser.specs.Answers.{Halts}
 
 abbrev pub Total : Type 0
@@ -45,14 +46,20 @@ member_many tokens i before ts t us total lt first begins many so_far =
     let b : ltb (length before) max_members ≡ false = le-ltb _ _ many in
     sym so_far ∙ rw (left tokens i lt, first, begins, b) refl ∙ ap (λ (l : List Token). Err (too_many l)) (sym first)
 
-pub member_stops : (e : the_stop.Stop) (tokens : List the_token.Token) (i : ℕ) (before : List Member) (ts : List Token) (t : Token) (us : List Token) (total : Total) → i < length tokens → ts ≡ t ∷ us → begins_member t.kind ≡ true → length before < max_members → Stops e (member_at limit t us)
+pub member_stops : (e : the_stop.MemberStop) (tokens : List the_token.Token) (i : ℕ) (before : List Member) (ts : List Token) (t : Token) (us : List Token) (total : Total) → i < length tokens → ts ≡ t ∷ us → begins_member t.kind ≡ true → length before < max_members → MemberStops e (member_at limit t us)
     → members_by limit max_members (length (tokens_in tokens) - i) before ts ≡ total → Halts (halts.Inside e) total
 unfolding members_by
-member_stops stops.Memory tokens i before ts t us total lt first begins few read so_far = tt
-member_stops (stops.Unexpected r) tokens i before ts t us total lt first begins few read so_far =
+member_stops (inner.Stopped stops.Memory) tokens i before ts t us total lt first begins few read so_far = tt
+member_stops (inner.Stopped (stops.Unexpected r)) tokens i before ts t us total lt first begins few read so_far =
     let b : ltb (length before) max_members ≡ true = lt-ltb _ _ few in
     sym so_far ∙ rw (left tokens i lt, first, begins, b, read) refl
-member_stops (stops.TooDeep r) tokens i before ts t us total lt first begins few read so_far =
+member_stops (inner.Stopped (stops.TooDeep r)) tokens i before ts t us total lt first begins few read so_far =
+    let b : ltb (length before) max_members ≡ true = lt-ltb _ _ few in
+    sym so_far ∙ rw (left tokens i lt, first, begins, b, read) refl
+member_stops (inner.Bodiless r) tokens i before ts t us total lt first begins few read so_far =
+    let b : ltb (length before) max_members ≡ true = lt-ltb _ _ few in
+    sym so_far ∙ rw (left tokens i lt, first, begins, b, read) refl
+member_stops (inner.MeasuredTwice r) tokens i before ts t us total lt first begins few read so_far =
     let b : ltb (length before) max_members ≡ true = lt-ltb _ _ few in
     sym so_far ∙ rw (left tokens i lt, first, begins, b, read) refl
 

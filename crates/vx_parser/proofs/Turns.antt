@@ -1,5 +1,5 @@
 -- The turns of the parser's loops.
-use Rattle.std.proofs.Common.{◌≡◌, ℕ, ◌+◌, ◌-◌, ◌≤◌, ◌<◌, List, [], ◌∷◌, ◌++◌, Some, None, Result, Ok, Err, true, false, length, refl, sym, subst, arith, ap}
+use Rattle.std.proofs.Common.{◌≡◌, ℕ, ◌+◌, ◌-◌, ◌≤◌, ◌<◌, List, [], ◌∷◌, ◌++◌, Some, None, Result, Ok, Err, Bool, true, false, length, refl, sym, subst, arith, ap}
 use Rattle.std.proofs.lemmas.List.{length-map}
 use Rattle.vx_ast.specs.Written.{Expr, Exprs, Stmt, Block, Declaration}
 use Rattle.vx_tokens.specs.declared.token.Token as the_token
@@ -7,7 +7,7 @@ use Rattle.vx_tokens.specs.declared.token.Symbol.TheVariants as signs
 use Rattle.vx_tokens.specs.Tokens.{Token, tokens_in, token_of}
 use Rattle.vx_grammar.specs.Reading.{name_at, name_turn, ◌>>=◌, Read, choice_at, below, exprs_from, argument_turn, some_arguments, is_symbol, Turn, run}
 use Rattle.vx_grammar.specs.StmtReading.{clause_at, begins_invariant, invariant_turn, invariants_at, StmtDeeper, StmtPart, stmt_part, stmts_below, begins_stmt, skip_semicolon, stmt_at, stmt_turn, declaration_at}
-use Rattle.vx_grammar.specs.MemberReading.{limit, declaration_turn, Clauses, clause_turn, begins_requires, begins_ensures, with_requires, with_ensures}
+use Rattle.vx_grammar.specs.MemberReading.{limit, declaration_turn, Clauses, clause_turn, begins_requires, begins_ensures, is_due, begins_measure, with_requires, with_ensures, with_measure}
 use Rattle.vx_grammar.specs.Nesting.{stmt_nests}
 use Rattle.vx_grammar.proofs.Turns.{run_on, run_over, run_stops, run_all}
 use Rattle.vx_parser.specs.declared.stop.Stop as the_stop
@@ -112,39 +112,52 @@ name_stops e before ts t us first comma read = rw (first, comma) (stops_after e 
 
 -- ---- clauses
 
-pub requires_on : (before : Clauses) (ts : List Token) (t : Token) (us : List Token) (e : Expr) (after : List Token) → ts ≡ t ∷ us → begins_requires t.kind ≡ true → clause_at limit (length before.requires) ts us ≡ Ok (e, after)
-    → clause_turn limit before ts ≡ Ok (Some (with_requires before e), skip_semicolon after)
+pub requires_on : (may : Bool) (before : Clauses) (ts : List Token) (t : Token) (us : List Token) (e : Expr) (after : List Token) → ts ≡ t ∷ us → begins_requires t.kind ≡ true → clause_at limit (length before.requires) ts us ≡ Ok (e, after)
+    → clause_turn limit may before ts ≡ Ok (Some (with_requires before e), skip_semicolon after)
 unfolding clause_turn
-requires_on before ts t us e after first begins read =
+requires_on may before ts t us e after first begins read =
     let read' : clause_at limit (length before.requires) (t ∷ us) us ≡ Ok (e, after) = subst (λ l. clause_at limit (length before.requires) l us ≡ Ok (e, after)) first read in
     rw (first, begins, read') refl
 
-pub ensures_on : (before : Clauses) (ts : List Token) (t : Token) (us : List Token) (e : Expr) (after : List Token) → ts ≡ t ∷ us → begins_requires t.kind ≡ false → begins_ensures t.kind ≡ true → clause_at limit (length before.ensures) ts us ≡ Ok (e, after)
-    → clause_turn limit before ts ≡ Ok (Some (with_ensures before e), skip_semicolon after)
+pub ensures_on : (may : Bool) (before : Clauses) (ts : List Token) (t : Token) (us : List Token) (e : Expr) (after : List Token) → ts ≡ t ∷ us → begins_requires t.kind ≡ false → begins_ensures t.kind ≡ true → clause_at limit (length before.ensures) ts us ≡ Ok (e, after)
+    → clause_turn limit may before ts ≡ Ok (Some (with_ensures before e), skip_semicolon after)
 unfolding clause_turn
-ensures_on before ts t us e after first not begins read =
+ensures_on may before ts t us e after first not begins read =
     let read' : clause_at limit (length before.ensures) (t ∷ us) us ≡ Ok (e, after) = subst (λ l. clause_at limit (length before.ensures) l us ≡ Ok (e, after)) first read in
     rw (first, not, begins, read') refl
 
-pub clause_over : (before : Clauses) (ts : List Token) (t : Token) (us : List Token) → ts ≡ t ∷ us → begins_requires t.kind ≡ false → begins_ensures t.kind ≡ false → clause_turn limit before ts ≡ Ok (None, t ∷ us)
+pub measure_on : (may : Bool) (before : Clauses) (ts : List Token) (t : Token) (us : List Token) (e : Expr) (after : List Token) → ts ≡ t ∷ us → begins_requires t.kind ≡ false → begins_ensures t.kind ≡ false → begins_measure (is_due may before.measure) t.kind ≡ true → clause_at limit 0 ts us ≡ Ok (e, after)
+    → clause_turn limit may before ts ≡ Ok (Some (with_measure before e), skip_semicolon after)
 unfolding clause_turn
-clause_over before ts t us first not neither = rw (first, not, neither) refl
+measure_on may before ts t us e after first not neither begins read =
+    let read' : clause_at limit 0 (t ∷ us) us ≡ Ok (e, after) = subst (λ l. clause_at limit 0 l us ≡ Ok (e, after)) first read in
+    rw (first, not, neither, begins, read') refl
 
-pub clause_end : (before : Clauses) (ts : List Token) → ts ≡ [] → clause_turn limit before ts ≡ Ok (None, [])
+pub clause_over : (may : Bool) (before : Clauses) (ts : List Token) (t : Token) (us : List Token) → ts ≡ t ∷ us → begins_requires t.kind ≡ false → begins_ensures t.kind ≡ false → begins_measure (is_due may before.measure) t.kind ≡ false → clause_turn limit may before ts ≡ Ok (None, t ∷ us)
 unfolding clause_turn
-clause_end before ts none = rw none refl
+clause_over may before ts t us first not neither none = rw (first, not, neither, none) refl
 
-pub requires_stops : (e : the_stop.Stop) (before : Clauses) (ts : List Token) (t : Token) (us : List Token) → ts ≡ t ∷ us → begins_requires t.kind ≡ true → Stops e (clause_at limit (length before.requires) ts us) → Stops e (clause_turn limit before ts)
+pub clause_end : (may : Bool) (before : Clauses) (ts : List Token) → ts ≡ [] → clause_turn limit may before ts ≡ Ok (None, [])
 unfolding clause_turn
-requires_stops e before ts t us first begins read =
+clause_end may before ts none = rw none refl
+
+pub requires_stops : (e : the_stop.Stop) (may : Bool) (before : Clauses) (ts : List Token) (t : Token) (us : List Token) → ts ≡ t ∷ us → begins_requires t.kind ≡ true → Stops e (clause_at limit (length before.requires) ts us) → Stops e (clause_turn limit may before ts)
+unfolding clause_turn
+requires_stops e may before ts t us first begins read =
     let read' : Stops e (clause_at limit (length before.requires) (t ∷ us) us) = subst (λ l. Stops e (clause_at limit (length before.requires) l us)) first read in
     rw (first, begins) (stops_after e (clause_at limit (length before.requires) (t ∷ us) us) (λ x. Ok (Some (with_requires before x.0), skip_semicolon x.1)) read')
 
-pub ensures_stops : (e : the_stop.Stop) (before : Clauses) (ts : List Token) (t : Token) (us : List Token) → ts ≡ t ∷ us → begins_requires t.kind ≡ false → begins_ensures t.kind ≡ true → Stops e (clause_at limit (length before.ensures) ts us) → Stops e (clause_turn limit before ts)
+pub ensures_stops : (e : the_stop.Stop) (may : Bool) (before : Clauses) (ts : List Token) (t : Token) (us : List Token) → ts ≡ t ∷ us → begins_requires t.kind ≡ false → begins_ensures t.kind ≡ true → Stops e (clause_at limit (length before.ensures) ts us) → Stops e (clause_turn limit may before ts)
 unfolding clause_turn
-ensures_stops e before ts t us first not begins read =
+ensures_stops e may before ts t us first not begins read =
     let read' : Stops e (clause_at limit (length before.ensures) (t ∷ us) us) = subst (λ l. Stops e (clause_at limit (length before.ensures) l us)) first read in
     rw (first, not, begins) (stops_after e (clause_at limit (length before.ensures) (t ∷ us) us) (λ x. Ok (Some (with_ensures before x.0), skip_semicolon x.1)) read')
+
+pub measure_stops : (e : the_stop.Stop) (may : Bool) (before : Clauses) (ts : List Token) (t : Token) (us : List Token) → ts ≡ t ∷ us → begins_requires t.kind ≡ false → begins_ensures t.kind ≡ false → begins_measure (is_due may before.measure) t.kind ≡ true → Stops e (clause_at limit 0 ts us) → Stops e (clause_turn limit may before ts)
+unfolding clause_turn
+measure_stops e may before ts t us first not neither begins read =
+    let read' : Stops e (clause_at limit 0 (t ∷ us) us) = subst (λ l. Stops e (clause_at limit 0 l us)) first read in
+    rw (first, not, neither, begins) (stops_after e (clause_at limit 0 (t ∷ us) us) (λ x. Ok (Some (with_measure before x.0), skip_semicolon x.1)) read')
 
 -- ---- arguments
 

@@ -1,5 +1,5 @@
 -- What is answered for a text: its program, or the first fault with its place.
-use Rattle.std.specs.Prelude.{◌≡◌, List, [], ◌∷◌, map, Result, Ok, Err, Bool, true, false, if◌then◌else◌, codes, ◌==◌}
+use Rattle.std.specs.Prelude.{◌≡◌, ℕ, string_bytes, List, [], ◌∷◌, map, Result, Ok, Err, Bool, true, false, if◌then◌else◌, codes, ◌==◌}
 use Rattle.std.specs.Cmp.Lexicographic.{pointwise}
 use Rattle.std.specs.Global.{Vec}
 use Rattle.vx_ast.specs.declared.Place.{Place}
@@ -15,6 +15,8 @@ use Rattle.vx_tokens.specs.Text as text
 use Rattle.vx_grammar.specs.Reading as reading
 use Rattle.vx_grammar.specs.MemberReading as members
 use Rattle.vx_parser.specs.declared.stop.Stop.TheVariants as stops
+use Rattle.vx_parser.specs.declared.stop.MemberStop as the_inner
+use Rattle.vx_parser.specs.declared.stop.MemberStop.TheVariants as inner
 use Rattle.vx_parser.specs.declared.program.Halt as the_halt
 use Rattle.vx_parser.specs.declared.program.Halt.TheVariants as halts
 use Rattle.vx_parser.specs.declared.fault.TextFault as the_fault
@@ -23,13 +25,7 @@ use Rattle.vx_parser.specs.declared.fault.TextFault.TheVariants as faults
 -- ---- words and signs that this language leaves out
 
 abbrev pub is_foreign_word : Word → Bool
-is_foreign_word words.Predicate = true
-is_foreign_word words.Function = true
 is_foreign_word words.Decreases = true
-is_foreign_word words.Fold = true
-is_foreign_word words.Unfold = true
-is_foreign_word words.Unfolding = true
-is_foreign_word words.In = true
 is_foreign_word words.Foreign = true
 is_foreign_word w = false
 
@@ -62,6 +58,8 @@ pub data Fault : Type 0 where
   TooDeep : Place → Fault
   TooManyMembers : Place → Fault
   Unsupported : Place → Kind → Fault
+  -- a function without a body
+  Abstract : Place → Fault
 
 -- where no token is left, but one is due
 abbrev pub early : text.Ending → Fault
@@ -77,6 +75,14 @@ abbrev pub unfit : (Kind → Bool) → List Token → text.Ending → Fault
 unfit foreign [] ending = early ending
 unfit foreign (t ∷ ts) ending = unfit_token (foreign t.kind) t
 
+abbrev pub abstract_at : List Token → text.Ending → Fault
+abstract_at [] ending = early ending
+abstract_at (t ∷ ts) ending = Abstract t.place
+
+-- a second measure is no word that is left out
+abbrev pub never_foreign : Kind → Bool
+never_foreign k = false
+
 abbrev pub too_deep : List Token → text.Ending → Fault
 too_deep [] ending = early ending
 too_deep (t ∷ ts) ending = TooDeep t.place
@@ -88,6 +94,8 @@ too_many (t ∷ ts) ending = TooManyMembers t.place
 abbrev pub fault_of : members.Halt → text.Ending → Fault
 fault_of (members.inside (reading.Unexpected rest)) ending = unfit is_foreign rest ending
 fault_of (members.inside (reading.TooDeep rest)) ending = too_deep rest ending
+fault_of (members.no_body rest) ending = abstract_at rest ending
+fault_of (members.second_measure rest) ending = unfit never_foreign rest ending
 fault_of (members.no_member rest) ending = unfit is_foreign_member rest ending
 fault_of (members.too_many rest) ending = too_many rest ending
 
@@ -110,15 +118,28 @@ answer ts ending = answer_by (members.members_at ts) ending
 
 -- an Err tells where reading stops, unless memory ran out
 abbrev pub Halts : the_halt.Halt → Result Program members.Halt → Type 0
-Halts (halts.Inside stops.Memory) read = Unit {0}
-Halts (halts.Inside (stops.Unexpected ts)) read = read ≡ Err (members.inside (reading.Unexpected (tokens_in ts.now)))
-Halts (halts.Inside (stops.TooDeep ts)) read = read ≡ Err (members.inside (reading.TooDeep (tokens_in ts.now)))
+Halts (halts.Inside (inner.Stopped stops.Memory)) read = Unit {0}
+Halts (halts.Inside (inner.Stopped (stops.Unexpected ts))) read = read ≡ Err (members.inside (reading.Unexpected (tokens_in ts.now)))
+Halts (halts.Inside (inner.Stopped (stops.TooDeep ts))) read = read ≡ Err (members.inside (reading.TooDeep (tokens_in ts.now)))
+Halts (halts.Inside (inner.Bodiless ts)) read = read ≡ Err (members.no_body (tokens_in ts.now))
+Halts (halts.Inside (inner.MeasuredTwice ts)) read = read ≡ Err (members.second_measure (tokens_in ts.now))
 Halts (halts.NoMember ts) read = read ≡ Err (members.no_member (tokens_in ts.now))
 Halts (halts.TooMany ts) read = read ≡ Err (members.too_many (tokens_in ts.now))
 
 abbrev pub GivesMembers : Result (Vec the_member.Member) the_halt.Halt → Result Program members.Halt → Type 0
 GivesMembers (Ok ms) read = read ≡ Ok (map written_member ms.items)
 GivesMembers (Err e) read = Halts e read
+
+-- an unsupported token, or the word that tells a function without a body
+abbrev pub IsUnsupported : Place → List ℕ → Fault → Type 0
+IsUnsupported p text (Unsupported q k) = q ≡ p
+IsUnsupported p text (Abstract q) = (q ≡ p) × (text ≡ codes "abstract")
+IsUnsupported p text (BadCharacter q) = ⊥
+IsUnsupported p text (Unexpected q k) = ⊥
+IsUnsupported p text (EndOfText q) = ⊥
+IsUnsupported p text (WideLiteral q) = ⊥
+IsUnsupported p text (TooDeep q) = ⊥
+IsUnsupported p text (TooManyMembers q) = ⊥
 
 -- a fault that is answered is this one, unless memory ran out
 abbrev pub Shows : the_fault.TextFault → Fault → Type 0
@@ -129,15 +150,21 @@ Shows (faults.EndOfText p) f = f ≡ EndOfText p
 Shows (faults.WideLiteral p) f = f ≡ WideLiteral p
 Shows (faults.TooDeep p) f = f ≡ TooDeep p
 Shows (faults.TooManyMembers p) f = f ≡ TooManyMembers p
-Shows (faults.Unsupported p s) f = (k : Kind) × (f ≡ Unsupported p k)
+Shows (faults.Unsupported p s) f = IsUnsupported p (string_bytes s) f
 Shows (faults.NotUtf8 p) f = ⊥
 Shows faults.TooLong f = ⊥
 
+-- the fault of a member where reading stops so
+abbrev pub FaultsInside : the_fault.TextFault → the_inner.MemberStop → text.Ending → Type 0
+FaultsInside f (inner.Stopped stops.Memory) ending = f ≡ faults.Want
+FaultsInside f (inner.Stopped (stops.Unexpected ts)) ending = Shows f (unfit is_foreign (tokens_in ts.now) ending)
+FaultsInside f (inner.Stopped (stops.TooDeep ts)) ending = Shows f (too_deep (tokens_in ts.now) ending)
+FaultsInside f (inner.Bodiless ts) ending = Shows f (abstract_at (tokens_in ts.now) ending)
+FaultsInside f (inner.MeasuredTwice ts) ending = Shows f (unfit never_foreign (tokens_in ts.now) ending)
+
 -- the fault of a reading that halts so
 abbrev pub FaultsAs : the_fault.TextFault → the_halt.Halt → text.Ending → Type 0
-FaultsAs f (halts.Inside stops.Memory) ending = f ≡ faults.Want
-FaultsAs f (halts.Inside (stops.Unexpected ts)) ending = Shows f (unfit is_foreign (tokens_in ts.now) ending)
-FaultsAs f (halts.Inside (stops.TooDeep ts)) ending = Shows f (too_deep (tokens_in ts.now) ending)
+FaultsAs f (halts.Inside stop) ending = FaultsInside f stop ending
 FaultsAs f (halts.NoMember ts) ending = Shows f (unfit is_foreign_member (tokens_in ts.now) ending)
 FaultsAs f (halts.TooMany ts) ending = Shows f (too_many (tokens_in ts.now) ending)
 

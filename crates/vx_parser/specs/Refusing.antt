@@ -4,10 +4,10 @@ use Rattle.vx_ast.specs.declared.Place.{Place}
 use Rattle.vx_ast.specs.Written.{Program}
 use Rattle.vx_tokens.specs.Tokens.{Kind, Token}
 use Rattle.vx_tokens.specs.Text.{Ending}
-use Rattle.vx_grammar.specs.ProgramLaws.{ProgramSpelled, ProgramWithin, FitsInFront, FirstUnfit, StopsTooDeep, StopsTooMany}
+use Rattle.vx_grammar.specs.ProgramLaws.{ProgramSpelled, ProgramWithin, FitsInFront, FirstUnfit, StopsAtBody, StopsTooDeep, StopsTooMany}
 use Rattle.vx_parser.specs.declared.fault.TextFault as the_fault
 use Rattle.vx_parser.specs.declared.fault.TextFault.TheVariants as faults
-use Rattle.vx_parser.specs.Answers.{Fault, BadCharacter, Unexpected, EndOfText, WideLiteral, TooDeep, TooManyMembers, Unsupported, early, IsEnd, answer, Shows}
+use Rattle.vx_parser.specs.Answers.{Fault, BadCharacter, Unexpected, EndOfText, WideLiteral, TooDeep, TooManyMembers, Unsupported, Abstract, early, IsEnd, answer, Shows}
 
 -- a token of this kind stands there, the tokens in front of it fit, and no program goes on with it
 pub record UnfitAt (at : Place) (kind : Kind) (ts : List Token) : Type 0 where
@@ -16,6 +16,14 @@ pub record UnfitAt (at : Place) (kind : Kind) (ts : List Token) : Type 0 where
   pub place : token.place ≡ at
   pub is : token.kind ≡ kind
   pub first : FirstUnfit ts (token ∷ after)
+
+-- a token stands there with which no program goes on, and which stands in place of a function's body
+pub record AbstractAt (at : Place) (ts : List Token) : Type 0 where
+  pub token : Token
+  pub after : List Token
+  pub place : token.place ≡ at
+  pub first : FirstUnfit ts (token ∷ after)
+  pub due : StopsAtBody ts (token ∷ after)
 
 -- a token stands there that fits, and is the first that nests too deep
 pub record DeepAt (at : Place) (ts : List Token) : Type 0 where
@@ -42,6 +50,7 @@ NoProgram ts = (p : Program) → ProgramSpelled ts p → ⊥
 abbrev pub FaultSays : List Token → Ending → Fault → Type 0
 FaultSays ts e (Unexpected p k) = UnfitAt p k ts
 FaultSays ts e (Unsupported p k) = UnfitAt p k ts
+FaultSays ts e (Abstract p) = AbstractAt p ts
 FaultSays ts e (EndOfText p) = (early e ≡ EndOfText p) × AllFit ts × (IsEnd e → NoProgram ts)
 FaultSays ts e (WideLiteral p) = (early e ≡ WideLiteral p) × AllFit ts
 FaultSays ts e (BadCharacter p) = (early e ≡ BadCharacter p) × AllFit ts

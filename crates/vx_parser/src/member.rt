@@ -1,30 +1,45 @@
 //! Reading members.
 
 ghost use Rattle.std.specs.Prelude.{◌≡◌, IfOk, length, ◌∷◌, []};
-ghost use Rattle.vx_ast.specs.Written.{name_of, written_expr, written_declaration, written_member};
+ghost use Rattle.vx_ast.specs.Written.{name_of, optional_block, optional_expr, written_expr, written_declaration, written_member};
 ghost use Rattle.vx_tokens.specs.Tokens.{kind_of, token_of, tokens_in};
 ghost use Rattle.vx_grammar.specs.Reading.{run};
 ghost use Rattle.vx_grammar.specs.MemberReading as reading;
+ghost use Rattle.std.specs.Prelude.{Err};
 ghost use Rattle.vx_parser.specs.Gives.{Gives};
-ghost use Rattle.vx_parser.specs.Views.{block_of, clauses_of, declarations_of};
+ghost use Rattle.vx_parser.specs.Halting.{GivesMember, MemberStops, Answer, HaltedAnswer};
+ghost use Rattle.vx_parser.specs.Views.{clauses_of, declarations_of, head_of};
 
-use crate::expr::{Read, expect, is_symbol, same};
+use crate::expr::{Read, expect, is_symbol, nested_choice, same};
 use crate::name::name;
-use crate::stmt::{block, clause, declaration, skip_semicolon};
-use crate::stop::Stop;
+use crate::stmt::{block, clause, declaration, skip_semicolon, value_type};
+use crate::stop::{MemberStop, Stop};
 use std::alloc::{AllocError, Global};
 use std::rc::Rc;
-use vx_ast::{Block, Declaration, Expr, Member, MemberKind, Method, Name, Place};
+use vx_ast::{
+    Block, Declaration, Expr, Function, Member, MemberKind, Method, Name, Place, Predicate,
+    ValueType,
+};
 use vx_tokens::{Kind, Symbol, Token, Word};
 
 /// The nesting limit.
 const LIMIT: u32 = 200;
 
-/// A method's clauses, each kind in order.
+/// The clauses of a method or a function, each kind in order.
 #[derive(Drop)]
 struct Clauses {
     preconditions: Vec<Rc<Expr>>,
     postconditions: Vec<Rc<Expr>>,
+    measure: Option<Rc<Expr>>,
+}
+
+/// What stands in front of a function's body.
+#[derive(Drop)]
+struct Head {
+    name: Name,
+    parameters: Vec<Declaration>,
+    value_type: ValueType,
+    clauses: Clauses,
 }
 
 // What follows a declaration, each behind a comma.
@@ -124,12 +139,29 @@ fn begins_ensures(kind: Kind) -> bool
     matches!(kind, Kind::Word(Word::Ensures))
 }
 
+fn begins_measure(due: bool, kind: Kind) -> bool
+    ensures { result ≡ reading.begins_measure due (kind_of kind.entry) }
+{
+    due && matches!(kind, Kind::Word(Word::Decreases))
+}
+
+// A measure may come, and none came before.
+fn is_due(may: bool, measure: &Option<Rc<Expr>>) -> bool
+    ensures { result ≡ reading.is_due may (optional_expr measure.now) }
+{
+    match measure {
+        None => may,
+        Some(_) => false,
+    }
+}
+
 #[tactic(auto, unfolding(vx_grammar::specs::MemberReading::clauses_at))]
-fn contract<'t>(alloc: Global, tokens: &'t [Token<'t>]) -> Read<'t, Clauses>
-    ensures { Gives (λ x. (clauses_of x.0, tokens_in x.1.now)) result (reading.clauses_at reading.limit (tokens_in tokens.now)) }
+fn contract<'t>(alloc: Global, may: bool, tokens: &'t [Token<'t>]) -> Read<'t, Clauses>
+    ensures { Gives (λ x. (clauses_of x.0, tokens_in x.1.now)) result (reading.clauses_at reading.limit may (tokens_in tokens.now)) }
 {
     let mut preconditions = Vec::new(alloc);
     let mut postconditions = Vec::new(alloc);
+    let mut measure = None;
     let mut rest = tokens;
     for _ in 0..tokens.len() {
         let Some((first, inner)) = rest.split_first() else {
@@ -137,6 +169,7 @@ fn contract<'t>(alloc: Global, tokens: &'t [Token<'t>]) -> Read<'t, Clauses>
                 Clauses {
                     preconditions,
                     postconditions,
+                    measure,
                 },
                 rest,
             ));
@@ -149,11 +182,16 @@ fn contract<'t>(alloc: Global, tokens: &'t [Token<'t>]) -> Read<'t, Clauses>
             let (e, after) = clause(alloc, LIMIT, postconditions.len(), rest, inner)?;
             postconditions.push(e)?;
             rest = skip_semicolon(after);
+        } else if begins_measure(is_due(may, &measure), first.kind) {
+            let (e, after) = clause(alloc, LIMIT, 0, rest, inner)?;
+            measure = Some(e);
+            rest = skip_semicolon(after);
         } else {
             return Ok((
                 Clauses {
                     preconditions,
                     postconditions,
+                    measure,
                 },
                 rest,
             ));
@@ -163,6 +201,7 @@ fn contract<'t>(alloc: Global, tokens: &'t [Token<'t>]) -> Read<'t, Clauses>
         Clauses {
             preconditions,
             postconditions,
+            measure,
         },
         rest,
     ))
@@ -170,13 +209,29 @@ fn contract<'t>(alloc: Global, tokens: &'t [Token<'t>]) -> Read<'t, Clauses>
 
 /// What stands behind a token that begins a member.
 #[tactic(auto, unfolding(vx_grammar::specs::MemberReading::member_at))]
-pub fn member<'t>(alloc: Global, first: &'t Token<'t>, tokens: &'t [Token<'t>]) -> Read<'t, Member>
-    ensures { Gives (λ x. (written_member x.0, tokens_in x.1.now)) result (reading.member_at reading.limit (token_of first.now) (tokens_in tokens.now)) }
+pub fn member<'t>(
+    alloc: Global,
+    first: &'t Token<'t>,
+    tokens: &'t [Token<'t>],
+) -> Result<(Member, &'t [Token<'t>]), MemberStop<'t>>
+    ensures { GivesMember (λ x. (written_member x.0, tokens_in x.1.now)) result (reading.member_at reading.limit (token_of first.now) (tokens_in tokens.now)) }
 {
     match first.kind {
-        Kind::Word(Word::Field) => field(alloc, first.place, tokens),
-        Kind::Word(Word::Method) => method(alloc, first.place, tokens),
-        _ => Err(Stop::Unexpected(tokens)),
+        Kind::Word(Word::Field) => halting(field(alloc, first.place, tokens)),
+        Kind::Word(Word::Predicate) => halting(predicate(alloc, first.place, tokens)),
+        Kind::Word(Word::Function) => function(alloc, first.place, tokens),
+        Kind::Word(Word::Method) => halting(method(alloc, first.place, tokens)),
+        _ => Err(MemberStop::Stopped(Stop::Unexpected(tokens))),
+    }
+}
+
+// What a member without a stop of its own gives.
+fn halting<'t>(read: Read<'t, Member>) -> Result<(Member, &'t [Token<'t>]), MemberStop<'t>>
+    ensures { (total : Answer) → Gives (λ x. (written_member x.0, tokens_in x.1.now)) read.entry total → GivesMember (λ x. (written_member x.0, tokens_in x.1.now)) result (reading.halting total) }
+{
+    match read {
+        Ok(whole) => Ok(whole),
+        Err(stop) => Err(MemberStop::Stopped(stop)),
     }
 }
 
@@ -190,6 +245,137 @@ fn field<'t>(alloc: Global, place: Place, tokens: &'t [Token<'t>]) -> Read<'t, M
     Ok((Member { place, name, kind }, rest))
 }
 
+fn begins_braces(tokens: &[Token]) -> bool
+    ensures { result ≡ reading.begins_braces (tokens_in tokens.now) }
+{
+    match tokens.split_first() {
+        Some((first, _)) => is_symbol(Symbol::OpenBrace, first.kind),
+        None => false,
+    }
+}
+
+// An expression between braces.
+#[tactic(auto, unfolding(vx_grammar::specs::MemberReading::braced_at))]
+fn braced<'t>(alloc: Global, tokens: &'t [Token<'t>]) -> Read<'t, Expr>
+    ensures { Gives (λ x. (written_expr x.0, tokens_in x.1.now)) result (reading.braced_at reading.limit (tokens_in tokens.now)) }
+{
+    let (_, inner) = expect(Symbol::OpenBrace, tokens)?;
+    let (e, rest) = nested_choice(alloc, LIMIT, tokens, inner)?;
+    let (_, rest) = expect(Symbol::CloseBrace, rest)?;
+    Ok((e, rest))
+}
+
+// The body of a predicate, or none.
+#[tactic(auto, unfolding(vx_grammar::specs::MemberReading::given_at, vx_grammar::specs::MemberReading::some_braced))]
+fn given<'t>(alloc: Global, tokens: &'t [Token<'t>]) -> Read<'t, Option<Rc<Expr>>>
+    ensures { Gives (λ x. (optional_expr x.0, tokens_in x.1.now)) result (reading.given_at reading.limit (tokens_in tokens.now)) }
+{
+    if begins_braces(tokens) {
+        let (e, rest) = braced(alloc, tokens)?;
+        return Ok((Some(Rc::new(alloc, e)?), rest));
+    }
+    Ok((None, tokens))
+}
+
+// What stands behind `predicate`.
+#[tactic(auto, unfolding(vx_grammar::specs::MemberReading::predicate_at))]
+fn predicate<'t>(alloc: Global, place: Place, tokens: &'t [Token<'t>]) -> Read<'t, Member>
+    ensures { Gives (λ x. (written_member x.0, tokens_in x.1.now)) result (reading.predicate_at reading.limit place (tokens_in tokens.now)) }
+{
+    let (name, rest) = name(alloc, tokens)?;
+    let (parameters, rest) = parameters(alloc, rest)?;
+    let (body, rest) = given(alloc, rest)?;
+    let kind = MemberKind::Predicate(Predicate { parameters, body });
+    Ok((Member { place, name, kind }, rest))
+}
+
+// What stands in front of a function's body.
+#[tactic(auto, unfolding(vx_grammar::specs::MemberReading::head_at))]
+fn heading<'t>(alloc: Global, tokens: &'t [Token<'t>]) -> Read<'t, Head>
+    ensures { Gives (λ x. (head_of x.0, tokens_in x.1.now)) result (reading.head_at reading.limit (tokens_in tokens.now)) }
+{
+    let (name, rest) = name(alloc, tokens)?;
+    let (parameters, rest) = parameters(alloc, rest)?;
+    let (_, rest) = expect(Symbol::Colon, rest)?;
+    let (value_type, rest) = value_type(rest)?;
+    let (clauses, rest) = contract(alloc, true, rest)?;
+    let head = Head {
+        name,
+        parameters,
+        value_type,
+        clauses,
+    };
+    Ok((head, rest))
+}
+
+// What stands behind `function`.
+#[tactic(auto, unfolding(vx_grammar::specs::MemberReading::function_at))]
+fn function<'t>(
+    alloc: Global,
+    place: Place,
+    tokens: &'t [Token<'t>],
+) -> Result<(Member, &'t [Token<'t>]), MemberStop<'t>>
+    ensures { GivesMember (λ x. (written_member x.0, tokens_in x.1.now)) result (reading.function_at reading.limit place (tokens_in tokens.now)) }
+{
+    match heading(alloc, tokens) {
+        Ok((head, rest)) if begins_braces(rest) => halting(defined(alloc, place, head, rest)),
+        Ok((_head, rest)) => Err(no_body(rest)),
+        Err(stop) => Err(MemberStop::Stopped(stop)),
+    }
+}
+
+// Where a function's body is due, and none begins.
+fn no_body<'t>(tokens: &'t [Token<'t>]) -> MemberStop<'t>
+    ensures { (total : HaltedAnswer) → total ≡ Err (reading.no_body_at (tokens_in tokens.now)) → MemberStops result total }
+{
+    match tokens.split_first() {
+        Some((first, _)) if begins_measure(true, first.kind) => MemberStop::MeasuredTwice(tokens),
+        _ => MemberStop::Bodiless(tokens),
+    }
+}
+
+// A function's body, and all of it.
+#[tactic(auto, unfolding(vx_grammar::specs::MemberReading::function_by))]
+fn defined<'t>(alloc: Global, place: Place, head: Head, tokens: &'t [Token<'t>]) -> Read<'t, Member>
+    ensures { Gives (λ x. (written_member x.0, tokens_in x.1.now)) result (reading.function_by reading.limit place (head_of head) (tokens_in tokens.now)) }
+{
+    let (body, rest) = braced(alloc, tokens)?;
+    Ok((function_made(place, head, Rc::new(alloc, body)?), rest))
+}
+
+fn function_made(place: Place, head: Head, body: Rc<Expr>) -> Member
+    ensures { written_member result ≡ reading.function_of place (head_of head) (written_expr body.value) }
+{
+    let Head {
+        name,
+        parameters,
+        value_type,
+        clauses,
+    } = head;
+    let function = Function {
+        parameters,
+        value_type,
+        preconditions: clauses.preconditions,
+        postconditions: clauses.postconditions,
+        measure: clauses.measure,
+        body,
+    };
+    let kind = MemberKind::Function(function);
+    Member { place, name, kind }
+}
+
+// The body of a method, or none.
+#[tactic(auto, unfolding(vx_grammar::specs::MemberReading::body_at, vx_grammar::specs::MemberReading::some_block))]
+fn body<'t>(alloc: Global, tokens: &'t [Token<'t>]) -> Read<'t, Option<Rc<Block>>>
+    ensures { Gives (λ x. (optional_block x.0, tokens_in x.1.now)) result (reading.body_at reading.limit (tokens_in tokens.now)) }
+{
+    if begins_braces(tokens) {
+        let (body, rest) = block(alloc, LIMIT, tokens)?;
+        return Ok((Some(Rc::new(alloc, body)?), rest));
+    }
+    Ok((None, tokens))
+}
+
 // What stands behind `method`.
 #[tactic(auto, unfolding(vx_grammar::specs::MemberReading::method_at))]
 fn method<'t>(alloc: Global, place: Place, tokens: &'t [Token<'t>]) -> Read<'t, Member>
@@ -198,9 +384,8 @@ fn method<'t>(alloc: Global, place: Place, tokens: &'t [Token<'t>]) -> Read<'t, 
     let (name, rest) = name(alloc, tokens)?;
     let (parameters, rest) = parameters(alloc, rest)?;
     let (returns, rest) = returns(alloc, rest)?;
-    let (clauses, rest) = contract(alloc, rest)?;
-    let (body, rest) = block(alloc, LIMIT, rest)?;
-    let body = Rc::new(alloc, body)?;
+    let (clauses, rest) = contract(alloc, false, rest)?;
+    let (body, rest) = body(alloc, rest)?;
     Ok((made(place, name, parameters, returns, clauses, body), rest))
 }
 
@@ -210,16 +395,21 @@ fn made(
     parameters: Vec<Declaration>,
     returns: Vec<Declaration>,
     clauses: Clauses,
-    body: Rc<Block>,
+    body: Option<Rc<Block>>,
 ) -> Member
-    ensures { written_member result ≡ reading.method_of place (name_of name) (declarations_of parameters.items) (declarations_of returns.items) (clauses_of clauses) (block_of body.value) }
+    ensures { written_member result ≡ reading.method_of place (name_of name) (declarations_of parameters.items) (declarations_of returns.items) (clauses_of clauses) (optional_block body) }
 {
+    let Clauses {
+        preconditions,
+        postconditions,
+        measure: _,
+    } = clauses;
     let method = Method {
         parameters,
         returns,
-        preconditions: clauses.preconditions,
-        postconditions: clauses.postconditions,
-        body: Some(body),
+        preconditions,
+        postconditions,
+        body,
     };
     let kind = MemberKind::Method(method);
     Member { place, name, kind }

@@ -14,11 +14,12 @@ ghost use Rattle.vx_parser.specs.Spelling.{Spells, IsProgram};
 ghost use Rattle.vx_parser.specs.declared.fault.TextFault.TheVariants as faults;
 ghost use Rattle.vx_parser.specs.declared.program.Halt.TheVariants.{Inside};
 ghost use Rattle.vx_parser.specs.declared.stop.Stop.TheVariants.{Memory};
+ghost use Rattle.vx_parser.specs.declared.stop.MemberStop.TheVariants.{Stopped};
 
 use crate::fault::TextFault;
 use crate::member::member;
 use crate::stmt::skip_semicolon;
-use crate::stop::Stop;
+use crate::stop::{MemberStop, Stop};
 use std::alloc::{AllocError, AllocFailed, Global};
 use std::str;
 use vx_ast::{Member, Place, Program};
@@ -32,25 +33,25 @@ const MAX_MEMBERS: usize = 65536;
 /// too many.
 #[derive(Drop)]
 enum Halt<'t> {
-    Inside(Stop<'t>),
+    Inside(MemberStop<'t>),
     /// Where a member is due.
     NoMember(&'t [Token<'t>]),
     TooMany(&'t [Token<'t>]),
 }
 
-impl<'t> From<Stop<'t>> for Halt<'t> {
+impl<'t> From<MemberStop<'t>> for Halt<'t> {
     ghost from_gives = { λ stop halt. halt ≡ Inside stop };
 
-    fn from(stop: Stop<'t>) -> Halt<'t> {
+    fn from(stop: MemberStop<'t>) -> Halt<'t> {
         Halt::Inside(stop)
     }
 }
 
 impl<'t, T: Drop> From<AllocFailed<T>> for Halt<'t> {
-    ghost from_gives = { λ _ halt. halt ≡ Inside Memory };
+    ghost from_gives = { λ _ halt. halt ≡ Inside (Stopped Memory) };
 
     fn from(_e: AllocFailed<T>) -> Halt<'t> {
-        Halt::Inside(Stop::Memory)
+        Halt::Inside(MemberStop::Stopped(Stop::Memory))
     }
 }
 
@@ -93,7 +94,13 @@ pub fn parse(alloc: Global, text: &[u8]) -> Result<Program, TextFault>
 fn begins_member(kind: Kind) -> bool
     ensures { result ≡ reading.begins_member (kind_of kind.entry) }
 {
-    matches!(kind, Kind::Word(Word::Field) | Kind::Word(Word::Method))
+    matches!(
+        kind,
+        Kind::Word(Word::Field)
+            | Kind::Word(Word::Predicate)
+            | Kind::Word(Word::Function)
+            | Kind::Word(Word::Method)
+    )
 }
 
 #[tactic(auto, unfolding(vx_grammar::specs::MemberReading::members_within))]
@@ -144,21 +151,47 @@ fn early(ending: Ending) -> TextFault
     }
 }
 
+fn member_fault(alloc: Global, stop: MemberStop, ending: Ending) -> TextFault
+    ensures { answers.FaultsInside result stop.entry (ending_of ending) }
+{
+    match stop {
+        MemberStop::Stopped(Stop::Memory) => TextFault::Want,
+        MemberStop::Stopped(Stop::Unexpected(rest)) => match rest.first() {
+            Some(token) => unfit(alloc, token, is_foreign(token.kind)),
+            None => early(ending),
+        },
+        MemberStop::Stopped(Stop::TooDeep(rest)) => match rest.first() {
+            Some(token) => TextFault::TooDeep(token.place),
+            None => early(ending),
+        },
+        MemberStop::Bodiless(rest) => match rest.first() {
+            Some(token) => bodiless(alloc, token.place),
+            None => early(ending),
+        },
+        MemberStop::MeasuredTwice(rest) => match rest.first() {
+            Some(token) => unfit(alloc, token, false),
+            None => early(ending),
+        },
+    }
+}
+
+// A function without a body.
+fn bodiless(alloc: Global, place: Place) -> TextFault
+    ensures { answers.Shows result (answers.Abstract place) }
+{
+    match String::from_str(alloc, "abstract") {
+        Err(_) => TextFault::Want,
+        Ok(text) => TextFault::Unsupported(place, text),
+    }
+}
+
 fn fault(alloc: Global, halt: Halt, ending: Ending) -> TextFault
     ensures { answers.FaultsAs result halt.entry (ending_of ending) }
 {
     match halt {
-        Halt::Inside(Stop::Memory) => TextFault::Want,
-        Halt::Inside(Stop::Unexpected(rest)) => match rest.first() {
-            Some(token) => unfit(alloc, token, is_foreign(token.kind)),
-            None => early(ending),
-        },
+        Halt::Inside(stop) => member_fault(alloc, stop, ending),
         Halt::NoMember(rest) => match rest.first() {
             Some(token) => unfit(alloc, token, is_foreign_member(token.kind)),
-            None => early(ending),
-        },
-        Halt::Inside(Stop::TooDeep(rest)) => match rest.first() {
-            Some(token) => TextFault::TooDeep(token.place),
             None => early(ending),
         },
         Halt::TooMany(rest) => match rest.first() {
@@ -209,15 +242,5 @@ fn is_foreign_symbol(symbol: Symbol) -> bool
 fn is_foreign_word(word: Word) -> bool
     ensures { result ≡ answers.is_foreign_word word }
 {
-    matches!(
-        word,
-        Word::Predicate
-            | Word::Function
-            | Word::Decreases
-            | Word::Fold
-            | Word::Unfold
-            | Word::Unfolding
-            | Word::In
-            | Word::Foreign
-    )
+    matches!(word, Word::Decreases | Word::Foreign)
 }

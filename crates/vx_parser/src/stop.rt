@@ -2,6 +2,7 @@
 
 ghost use Rattle.std.specs.Prelude.{◌≡◌};
 ghost use Rattle.vx_parser.specs.declared.stop.Stop.TheVariants.{Memory};
+ghost use Rattle.vx_parser.specs.declared.stop.MemberStop.TheVariants.{Stopped};
 
 use std::alloc::{AllocError, AllocFailed};
 use vx_tokens::Token;
@@ -27,5 +28,22 @@ impl<'t, T: Drop> From<AllocFailed<T>> for Stop<'t> {
 
     fn from(_e: AllocFailed<T>) -> Stop<'t> {
         Stop::Memory
+    }
+}
+
+/// Why reading a member stops: reading stops inside it, a function's body is due and does not begin, or a second measure
+/// stands there.
+#[derive(Drop)]
+pub enum MemberStop<'t> {
+    Stopped(Stop<'t>),
+    Bodiless(&'t [Token<'t>]),
+    MeasuredTwice(&'t [Token<'t>]),
+}
+
+impl<'t> From<Stop<'t>> for MemberStop<'t> {
+    ghost from_gives = { λ stop e. e ≡ Stopped stop };
+
+    fn from(stop: Stop<'t>) -> MemberStop<'t> {
+        MemberStop::Stopped(stop)
     }
 }
