@@ -5,3 +5,4 @@ pub mod Views
 pub mod Fits
 pub mod CheckerView
 pub mod Answers
+pub mod Meant

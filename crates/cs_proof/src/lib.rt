@@ -11,4 +11,7 @@ mod step;
 pub use checker::{Checker, Want};
 pub use prepare::{Duty, prepared};
 pub use stack::Stack;
-pub use step::Step;
+pub use step::{Step, step_of};
+
+#[cfg(test)]
+mod tests;
