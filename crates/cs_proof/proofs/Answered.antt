@@ -11,6 +11,7 @@ use Rattle.vx_terms.specs.Interpretations.{Each}
 use Rattle.vx_smt_meaning.specs.Commands.{Declared}
 use Rattle.cs_certificate.specs.Terms.{HasSort}
 use Rattle.cs_certificate.specs.Certificate.{Stack, State, start, Clause, At, Contains, NumberedLiteral, Step, Input, NewTerm, Define, Pick, Chain, Congruence, Farkas, Split, Trichotomy, Divide, Propagate, Leads, stays, names, derives, AreLive}
+use Rattle.cs_certificate.specs.Certificate as certificate
 use Rattle.cs_nodes.specs.Nodes.{Node, Represents}
 use Rattle.cs_nodes.specs.Steps.{◌>>=◌, ComputesSteps, ByNumbers}
 use Rattle.cs_nodes.proofs.Chains.{bind_some}
@@ -30,7 +31,7 @@ use Rattle.cs_proof.specs.Answers.{Meets, IsOver, Holds, none, more, Reaches, An
 use Rattle.cs_proof.proofs.Grown.{Begins, Grows, IsNamed, named_is, planned_grows, all_grows, take_front, drop_front, get_front, one_longer, as_many}
 use Rattle.cs_proof.proofs.OfKinds.{IsBare, by_input, by_define, by_pick, by_chain, by_congruence, by_split, by_trichotomy, by_divide}
 use Rattle.cs_proof.proofs.State.{state_of, Stands, represents, as_long, named_stands, named_state}
-use Rattle.cs_proof.proofs.Moves.{Fate, moves, misses, leaves, none_fate, clause_fate}
+use Rattle.cs_proof.proofs.Moves.{Fate, moves, misses, leaves, last_state, none_fate, clause_fate}
 use Rattle.cs_proof.proofs.Sums.{sum_fate}
 use Rattle.cs_proof.proofs.Hinted.{hints_fate}
 use Rattle.cs_proof.proofs.Verdicts.{verdict_stepped, at_end, refused_is}
@@ -70,12 +71,20 @@ module _ (stack : Stack) (roots : List ℕ) (nodes : List Node) (clauses : List 
       other : (ls : List NumberedLiteral) (ms : List Fraction) → Some (NewTerm t) ≡ Some (Farkas ls ms) → ⊥
       other ls ms e = cc
 
+  led_named : (u : State) → Leads stack (state_of p) (NewTerm t ∷ []) u → u ≡ certificate.with_term (state_of p) t
+  led_named u (names g l rest) = last_state stack (certificate.with_term (state_of p) t) u rest
+  led_named u (derives d rest) = absurd (elim d [ ])
+
+  named_only : (q : Plans) → IsNamed p t q → IsSorted t → (u : State) → Meets stack (state_of p) (Some (NewTerm t)) u → u ≡ state_of q
+  named_only q n sorted u (step, e, l) = led_named u (subst (λ x. Leads stack (state_of p) (x ∷ []) u) (sym (some_is e)) l) ∙ named_state stack roots p t q h n sorted
+
   term_fate : (q : Plans) (b : Bool) → is_fine stack.symbols t ≡ b → named_if p b t ≡ Some q → Fate stack roots nodes clauses p (Some (NewTerm t)) q
   term_fate q true f e =
       let n = named_is p t q e in
       let parts = fine_parts stack t f in
       moves Rattle.cs_proof.specs.Prepared.Named (ap (λ x. x.duties) n.whole) (ap (λ x. Done (length x.clauses)) (sym n.whole))
       (NewTerm t, refl, subst (Leads stack (state_of p) (NewTerm t ∷ [])) (named_state stack roots p t q h n parts.0) (names (parts.0).1 parts.1 stays))
+      (named_only q n parts.0)
       over (named_stands stack roots p t q h n parts.0)
   term_fate q false f e =
       subst (Fate stack roots nodes clauses p (Some (NewTerm t))) (some_is e) (misses Missed refl refl not_met over)

@@ -1,6 +1,6 @@
 -- A checker that begins with plans gives their answer.
 use Rattle.std.proofs.Common.{◌≡◌, ℕ, ◌<◌, ◌^◌, List, [], Option, Some, None, map, length, refl, sym, ◌∙◌, ap, subst}
-use Rattle.std.specs.Prelude.{slice_get}
+use Rattle.std.specs.Prelude.{slice_get, ◌↔◌}
 use Rattle.std.specs.Option.{option_map}
 use Rattle.std.proofs.lemmas.List.{length-map}
 use Rattle.std.proofs.lemmas.Option.{slice_get-map}
@@ -19,7 +19,7 @@ use Rattle.cs_proof.specs.declared.stack.Stack.{Stack as Stack'}
 use Rattle.cs_proof.specs.Views.{duty}
 use Rattle.cs_proof.specs.Fits.{stand, seen, Fits}
 use Rattle.cs_proof.specs.Plans.{plans_of}
-use Rattle.cs_proof.specs.Checking.{Checker, verdict}
+use Rattle.cs_proof.specs.Checking.{Checker, Verdict, verdict}
 use Rattle.cs_proof.specs.Answers.{Answers}
 use Rattle.cs_proof.proofs.OfKinds.{IsBare}
 use Rattle.cs_proof.proofs.Whole.{Whole, whole_answer}
@@ -44,9 +44,9 @@ bare_at view xs t (n, e) = go (slice_get xs n) (sym (slice_get-map (λ x. term (
     go None f = cc
     go (Some x) f = subst IsBare (some_is f) (bare (view x))
 
-pub begun_answers : (stack : Stack') (ws : List (Option Step)) (p : Plans') → plans_of (seen stack) ws ≡ Some (stand p) → Fits p → length stack.assertions.items < 2 ^ 32 → length p.clauses.items < 2 ^ 32 → Each IsSorted (seen stack).assertions →
-    Answers (seen stack) (length (nodes p.nodes.items)) ws (verdict record { nodes = nodes p.nodes.items; clauses = p.clauses.items; duties = map duty p.duties.items; done = 0; derived = 0; refusal = None })
-begun_answers stack ws p e fits few few_clauses sorted =
+pub begun_answers : (stack : Stack') (ws : List (Option Step)) (p : Plans') → plans_of (seen stack) ws ≡ Some (stand p) → Fits p → length stack.assertions.items < 2 ^ 32 → length p.clauses.items < 2 ^ 32 → Each IsSorted (seen stack).assertions → (v : Verdict) →
+    Answers (seen stack) (length (nodes p.nodes.items)) ws v ↔ (v ≡ verdict record { nodes = nodes p.nodes.items; clauses = p.clauses.items; duties = map duty p.duties.items; done = 0; derived = 0; refusal = None })
+begun_answers stack ws p e fits few few_clauses sorted v =
     whole_answer (seen stack) ws (stand p) record { nodes = nodes p.nodes.items; clauses = p.clauses.items; duties = map duty p.duties.items; done = 0; derived = 0; refusal = None } sorted e
     (λ roots. record {
       nodes = refl;
@@ -57,4 +57,4 @@ begun_answers stack ws p e fits few few_clauses sorted =
       few_clauses = few_clauses;
       bare = bare_at (λ x. x.value) p.terms.items;
     })
-    refl refl refl
+    refl refl refl v

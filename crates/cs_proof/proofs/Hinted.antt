@@ -81,9 +81,12 @@ module _ (stack : Stack) (roots : List ℕ) (nodes : List Node) (clauses : List 
         subst (λ a. Refutes (state p.terms (take (length p.clauses) clauses)) a hs) (ap (map negated) one ∙ sym (turned_views p.terms ls)) (subst (λ x. Refutes x (map negated c) hs) (sym here) refutes) in
         let f : true ≡ false = sym (saturated (take (length p.clauses) clauses) few hs (map named (map turned ls)) ∙ converse p.terms (take (length p.clauses) clauses) (map named (map turned ls)) hs distinct assumed_named within_terms r) ∙ e in cc
 
+    read_names : (b : Clause) → Derives stack (state_of p) (Propagate ls hs) b → Names p.terms ls b
+    read_names b (propagate reads r) = reads_names (state_of p) reads
+
     hinted : (b : Bool) → hints.refutes (take (length p.clauses) clauses) (map named (map turned ls)) (map saturate hs) ≡ b →
         Fate stack roots nodes clauses p (Some (Propagate ls hs)) (with_clause p (Hints (map named (map turned ls)) (map saturate hs), map named ls))
-    hinted true e = moved stack roots nodes clauses p h (Propagate ls hs) tt (Hints (map named (map turned ls)) (map saturate hs)) (ap (λ b. if b then Done (suc (length p.clauses)) else Misses) e) names (refuted e) over
+    hinted true e = moved stack roots nodes clauses p h (Propagate ls hs) tt (Hints (map named (map turned ls)) (map saturate hs)) (ap (λ b. if b then Done (suc (length p.clauses)) else Misses) e) names (refuted e) (λ b d. one_clause p.terms (read_names b d) names) over
     hinted false e = missing (Hints (map named (map turned ls)) (map saturate hs)) (with_clause p (Hints (map named (map turned ls)) (map saturate hs), map named ls)) refl (ap (λ b. if b then Done (suc (length p.clauses)) else Misses) e) (not_refuted e)
 
     fits : (within (length p.nodes) (map turned ls) >>= λ assumed. with_literals (Hints assumed (map saturate hs)) (within (length p.nodes) ls)) ≡ Some (Hints (map named (map turned ls)) (map saturate hs), map named ls)

@@ -11,5 +11,6 @@ pub mod Lits
 pub mod Sums
 pub mod Hinted
 pub mod Answered
+pub mod Only
 pub mod Whole
 pub mod Begun

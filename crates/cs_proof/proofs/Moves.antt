@@ -38,7 +38,7 @@ some_is e = cc
 -- the step meets its rule and is done, or not
 pub data Fate (stack : Stack) (roots : List ℕ) (nodes : List Node) (clauses : List Clause') (p : Plans) (w : Option Step) (q : Plans) : Type 0 where
   moves : (d : Duty) → q.duties ≡ p.duties ++ d ∷ [] → met nodes clauses (length p.clauses) d ≡ Done (length q.clauses) →
-      Meets stack (state_of p) w (state_of q) → ((o : sums.Over) → IsOver (length nodes) (state_of p) w o → ⊥) → Stands stack roots q → Fate stack roots nodes clauses p w q
+      Meets stack (state_of p) w (state_of q) → ((u : State) → Meets stack (state_of p) w u → u ≡ state_of q) → ((o : sums.Over) → IsOver (length nodes) (state_of p) w o → ⊥) → Stands stack roots q → Fate stack roots nodes clauses p w q
   misses : (d : Duty) → q.duties ≡ p.duties ++ d ∷ [] → met nodes clauses (length p.clauses) d ≡ Misses →
       ((u : State) → Meets stack (state_of p) w u → ⊥) → ((o : sums.Over) → IsOver (length nodes) (state_of p) w o → ⊥) → Fate stack roots nodes clauses p w q
   leaves : (d : Duty) → q.duties ≡ p.duties ++ d ∷ [] → (o : sums.Over) → met nodes clauses (length p.clauses) d ≡ Leaves o → IsOver (length nodes) (state_of p) w o → Fate stack roots nodes clauses p w q
@@ -51,6 +51,13 @@ IsDeriving step = Unit {0}
 pub led : (stack : Stack) (s u : State) (step : Step) → IsDeriving step → Leads stack s (step ∷ []) u → (c : Clause) × Derives stack s step c
 led stack s u (NewTerm t) h l = absurd h
 led stack s u step h (derives {c = c} d more) = (c, d)
+
+pub last_state : (stack : Stack) (s u : State) → Leads stack s [] u → u ≡ s
+last_state stack s u stays = refl
+
+pub led_to : (stack : Stack) (s u : State) (step : Step) → IsDeriving step → Leads stack s (step ∷ []) u → (c : Clause) × Derives stack s step c × (u ≡ certificate.with_clause s c)
+led_to stack s u (NewTerm t) h l = absurd h
+led_to stack s u step h (derives {c = c} d more) = (c, d, last_state stack (certificate.with_clause s c) u more)
 
 one_longer : {A : Type 0} (xs : List A) (x : A) → length (xs ++ x ∷ []) ≡ suc (length xs)
 one_longer [] x = refl
@@ -82,9 +89,14 @@ module _ (stack : Stack) (roots : List ℕ) (nodes : List Node) (clauses : List 
     met_by : (d : Duty) {ns : List NumberedLiteral} {c : Clause} → Names p.terms ns c → Derives stack (state_of p) step c → Meets stack (state_of p) (Some step) (state_of (with_clause p (d, map named ns)))
     met_by d {c = c} n by = (step, refl, subst (Leads stack (state_of p) (step ∷ [])) (clause_state p d n) (derives by stays))
 
-    pub moved : (d : Duty) {ns : List NumberedLiteral} {c : Clause} → met nodes clauses (length p.clauses) d ≡ Done (suc (length p.clauses)) → Names p.terms ns c → Derives stack (state_of p) step c →
+    met_only : (d : Duty) {ns : List NumberedLiteral} {c : Clause} → Names p.terms ns c → ((b : Clause) → Derives stack (state_of p) step b → b ≡ c) → (u : State) → Meets stack (state_of p) (Some step) u → u ≡ state_of (with_clause p (d, map named ns))
+    met_only d {c = c} n one u (other, e, l) =
+        let x = led_to stack (state_of p) u step has_clause (subst (λ x. Leads stack (state_of p) (x ∷ []) u) (sym (some_is e)) l) in
+        x.2 ∙ ap (certificate.with_clause (state_of p)) (one x.0 x.1) ∙ clause_state p d n
+
+    pub moved : (d : Duty) {ns : List NumberedLiteral} {c : Clause} → met nodes clauses (length p.clauses) d ≡ Done (suc (length p.clauses)) → Names p.terms ns c → Derives stack (state_of p) step c → ((b : Clause) → Derives stack (state_of p) step b → b ≡ c) →
         ((o : sums.Over) → IsOver (length nodes) (state_of p) (Some step) o → ⊥) → Fate stack roots nodes clauses p (Some step) (with_clause p (d, map named ns))
-    moved d {ns = ns} e n by over = moves d refl (e ∙ ap Done (sym (one_longer p.clauses (map named ns)))) (met_by d n by) over (clause_stands stack roots p d h n)
+    moved d {ns = ns} e n by one over = moves d refl (e ∙ ap Done (sym (one_longer p.clauses (map named ns)))) (met_by d n by) (met_only d n one) over (clause_stands stack roots p d h n)
 
     -- by a clause that is computed
     pub clause_fate : ((ls : List NumberedLiteral) (ms : List Fraction) → step ≡ Farkas ls ms → ⊥) → (computed : Option (List NumberedLiteral)) → Computes p.nodes (state_of p) stack step computed →
@@ -99,4 +111,4 @@ module _ (stack : Stack) (roots : List ℕ) (nodes : List Node) (clauses : List 
         go (Some ns) e =
             let x = by.sound ns e in
             let fits : within (length p.nodes) ns ≡ Some (map named ns) = all_within p.terms (length p.nodes) (let f = as_long stack roots p h in omega arith) x.1 in
-            subst (λ o. Fate stack roots nodes clauses p (Some step) (kept p (o >>= λ ls. Some (Derived, ls)))) (sym fits) (moved Derived refl x.1 x.2 over)
+            subst (λ o. Fate stack roots nodes clauses p (Some step) (kept p (o >>= λ ls. Some (Derived, ls)))) (sym fits) (moved Derived refl x.1 x.2 (λ b d. (let y = by.complete b d in one_clause p.terms (subst (λ l. Names p.terms l b) (some_is (sym y.2 ∙ e)) y.1) x.1)) over)

@@ -3,7 +3,7 @@ use Rattle.std.proofs.Common.{◌≡◌, ℕ, suc, ◌<◌, ◌≤◌, ◌^◌, 
 use Rattle.vx_frac.specs.Fractions.{Fraction}
 use Rattle.cs_certificate.specs.Certificate.{Stack, State, Clause, NumberedLiteral, Step, Farkas, Derives, farkas}
 use Rattle.cs_nodes.specs.Nodes.{Node}
-use Rattle.cs_nodes.specs.Steps.{◌>>=◌}
+use Rattle.cs_nodes.specs.Steps.{◌>>=◌, Names}
 use Rattle.cs_numbers.specs.Numbering.{nodes_of}
 use Rattle.cs_hints.specs.declared.Clause.{Clause as Clause'}
 use Rattle.cs_farkas.specs.Sums.{Outcome, Done, Leaves, Misses}
@@ -15,7 +15,7 @@ use Rattle.cs_proof.specs.Prepared.{Duty, Missed, Sum, narrow_literals, within, 
 use Rattle.cs_proof.specs.Plans.{Plans, kept, with_clause}
 use Rattle.cs_proof.specs.Checking.{met}
 use Rattle.cs_proof.specs.Answers.{Meets, IsOver}
-use Rattle.cs_proof.proofs.Literals.{named}
+use Rattle.cs_proof.proofs.Literals.{named, one_clause}
 use Rattle.cs_proof.proofs.Narrowed.{literals_are, literals_named}
 use Rattle.cs_proof.proofs.Lits.{InRange, parts_in_range, reads_names}
 use Rattle.cs_proof.proofs.State.{state_of, Stands, represents, as_long}
@@ -87,14 +87,14 @@ module _ (stack : Stack) (roots : List ℕ) (nodes : List Node) (clauses : List 
       Fate stack roots nodes clauses p (Some (Farkas ls ms)) (with_clause p (Sum (length p.nodes) c, map named ls))
   summed c e o f = by o f (ap (if_combined p.nodes (length nodes) ls) e ∙ ap (λ x. sums.◌>>=◌ x (λ s. Done ls)) f) (ap (λ ns. sums.◌>>=◌ (refutes ns (length nodes) c) (λ s. Done (suc (length p.clauses)))) front ∙ ap (λ x. sums.◌>>=◌ x (λ s. Done (suc (length p.clauses)))) f)
     where
-      duty : Duty
-      duty = Sum (length p.nodes) c
+      read_names : (b : Clause) → Derives stack (state_of p) (Farkas ls ms) b → Names p.terms ls b
+      read_names b (farkas reads i rs con) = reads_names (state_of p) reads
 
       by : (o : Outcome sums.Sums) → refutes p.nodes (length nodes) c ≡ o → farkas_clause p.nodes (length nodes) ls ms ≡ sums.◌>>=◌ o (λ s. Done ls) →
           met nodes clauses (length p.clauses) (Sum (length p.nodes) c) ≡ sums.◌>>=◌ o (λ s. Done (suc (length p.clauses))) → Fate stack roots nodes clauses p (Some (Farkas ls ms)) (with_clause p (Sum (length p.nodes) c, map named ls))
       by (Done s) f g m =
           let x = decides.sound ls g in
-          moved stack roots nodes clauses p h (Farkas ls ms) tt (Sum (length p.nodes) c) m x.1 x.2 (λ o w. (let k : Done ls ≡ Leaves o = sym g ∙ over_here o w in cc))
+          moved stack roots nodes clauses p h (Farkas ls ms) tt (Sum (length p.nodes) c) m x.1 x.2 (λ b d. one_clause p.terms (read_names b d) x.1) (λ o w. (let k : Done ls ≡ Leaves o = sym g ∙ over_here o w in cc))
       by (Leaves over) f g m = leaves (Sum (length p.nodes) c) refl over m (ls, ms, refl, p.nodes, h.nodes, g)
       by Misses f g m = missing (Sum (length p.nodes) c) (with_clause p (Sum (length p.nodes) c, map named ls)) refl m g
 

@@ -1,6 +1,6 @@
 -- The verdict is the answer: one step after another.
 use Rattle.std.proofs.Common.{◌≡◌, ℕ, zero, suc, ◌+◌, ◌<◌, ◌≤◌, ◌^◌, Bool, true, false, ◌||◌, List, [], ◌∷◌, ◌++◌, Option, Some, None, map, length, take, refl, sym, ◌∙◌, ap, ap₂, subst, arith, append_assoc, append-nil}
-use Rattle.std.specs.Prelude.{slice_get, if◌then◌else◌}
+use Rattle.std.specs.Prelude.{slice_get, if◌then◌else◌, ◌↔◌}
 use Rattle.std.specs.List.{list_any}
 use Rattle.std.specs.Option.{option_map}
 use Rattle.std.proofs.lemmas.List.{length-append, length-map}
@@ -34,6 +34,8 @@ use Rattle.cs_proof.proofs.OfKinds.{IsBare}
 use Rattle.cs_proof.proofs.State.{state_of, Stands, represents, as_long}
 use Rattle.cs_proof.proofs.Moves.{Fate, moves, misses, leaves}
 use Rattle.cs_proof.proofs.Answered.{Scene, fate_of}
+use Rattle.cs_proof.proofs.Only.{From, Ahead, passes, stops, exceeds, AtEnd, finished, not_empty, one_over, answers_from}
+use Rattle.cs_proof.proofs.Only as only
 use Rattle.cs_proof.proofs.Verdicts.{verdict_stepped, at_end, refused_is, stepped_to}
 
 some_is : {A : Type 0} {x y : A} → Some x ≡ Some y → x ≡ y
@@ -155,7 +157,7 @@ module _ (stack : Stack) (roots : List ℕ) (q : Plans) (c : Checker) (g : Whole
 
     answered : ((d : Duty) → p'.duties ≡ p.duties ++ d ∷ [] → Meets stack (state_of p) w (state_of p') → ((o : sums.Over) → IsOver (length c.nodes) (state_of p) w o → ⊥) → Stands stack roots p' → Answers stack (length c.nodes) (before ++ w ∷ ws) (verdict (at_state p'))) →
         Fate stack roots c.nodes c.clauses p w p' → Answers stack (length c.nodes) (before ++ w ∷ ws) (verdict (at_state p))
-    answered later (moves d e m meets over stands) =
+    answered later (moves d e m meets only over stands) =
         let to : verdict (at_state p) ≡ verdict (at_state p') =
         goes_to p p' d (Done (length p'.clauses)) e r m
         ∙ ap (λ n. verdict record { nodes = c.nodes; clauses = c.clauses; duties = c.duties; done = n; derived = length p'.clauses; refusal = None }) (sym (ap length e ∙ one_longer p.duties d)) in
@@ -191,6 +193,44 @@ module _ (stack : Stack) (roots : List ℕ) (q : Plans) (c : Checker) (g : Whole
       (ap length f ∙ one_longer p.duties d ∙ ap suc count ∙ sym (one_longer before w)) b.2))
       (fate_of stack roots c.nodes c.clauses p (scene p h (all_grows stack.symbols roots p (w ∷ ws) q e)) w b.0 b.1)
 
+  -- and there is no other
+  module _ (p p' : Plans) (w : Option Step) (ws : List (Option Step)) (r : Grows p' q) (v : Verdict) where
+    one_more_done : (d : Duty) → p'.duties ≡ p.duties ++ d ∷ [] → suc (length p.duties) ≡ length p'.duties
+    one_more_done d e = sym (ap length e ∙ one_longer p.duties d)
+
+    no_other : (From stack (length c.nodes) (length p'.duties) (state_of p') ws v → Stands stack roots p' → v ≡ verdict (at_state p')) →
+        Fate stack roots c.nodes c.clauses p w p' → Ahead stack (length c.nodes) (length p.duties) (state_of p) w ws v → v ≡ verdict (at_state p)
+    no_other ih (moves d e m meets only over stands) (passes x k l f) =
+        let to : verdict (at_state p) ≡ verdict (at_state p') =
+        goes_to p p' d (Done (length p'.clauses)) e r m
+        ∙ ap (λ n. verdict record { nodes = c.nodes; clauses = c.clauses; duties = c.duties; done = n; derived = length p'.clauses; refusal = None }) (one_more_done d e) in
+        ih (subst (λ n. From stack (length c.nodes) n (state_of p') ws v) (one_more_done d e) (subst (λ y. From stack (length c.nodes) (suc (length p.duties)) y ws v) (only x k) f)) stands ∙ sym to
+    no_other ih (moves d e m meets only over stands) (stops f a b) = absurd (a (state_of p') meets)
+    no_other ih (moves d e m meets only over stands) (exceeds o f i) = absurd (over o i)
+    no_other ih (misses d e m not_met no_over) (passes x k l f) = absurd (not_met x k)
+    no_other ih (misses d e m not_met no_over) (stops f a b) = f ∙ sym (goes_to p p' d Misses e r m ∙ refused_is (after (at_state p) Misses) (BadStep (length p.duties)) refl)
+    no_other ih (misses d e m not_met no_over) (exceeds o f i) = absurd (no_over o i)
+    no_other ih (leaves d e o m i) (passes x k l f) = absurd (l o i)
+    no_other ih (leaves d e o m i) (stops f a b) = absurd (b o i)
+    no_other ih (leaves d e o m i) (exceeds y f j) =
+        f ∙ ap (Over (length p.duties)) (one_over (length c.nodes) (state_of p) w y o j i) ∙ sym (goes_to p p' d (Leaves o) e r m ∙ refused_is (after (at_state p) (Leaves o)) (Over (length p.duties) o) refl)
+
+  only_end : (p : Plans) → p ≡ q → (v : Verdict) → AtEnd stack (length c.nodes) (length p.duties) (state_of p) v → (b : Bool) → list_any is_empty c.clauses ≡ b → v ≡ (if b then Finished else NotEmpty)
+  only_end p e v (finished f k) true g' = f
+  only_end p e v (finished f k) false g' = absurd (empty_nowhere p.terms c.clauses g' (subst (λ ls. Contains (map (views p.terms) ls) []) (sym (g.clauses ∙ ap (λ x. x.clauses) (sym e))) k))
+  only_end p e v (not_empty f k) true g' = absurd (k (subst (λ ls. Contains (map (views p.terms) ls) []) (g.clauses ∙ ap (λ x. x.clauses) (sym e)) (empty_here p.terms c.clauses g')))
+  only_end p e v (not_empty f k) false g' = f
+
+  pub only_from : (ws : List (Option Step)) (p : Plans) → Stands stack roots p → planned_all stack.symbols roots p ws ≡ Some q → (v : Verdict) → From stack (length c.nodes) (length p.duties) (state_of p) ws v → v ≡ verdict (at_state p)
+  only_from [] p h e v f =
+      let is : p ≡ q = some_is e in
+      let past : length c.duties ≤ length p.duties = (let f : length c.duties ≡ length p.duties = ap length (g.duties ∙ ap (λ x. x.duties) (sym is)) in omega arith) in
+      only_end p is v (only.at_end stack (length c.nodes) (length p.duties) (state_of p) v f) (list_any is_empty c.clauses) refl ∙ sym (at_end (at_state p) past)
+  only_from (w ∷ ws) p h e v f =
+      let b = bind_some (planned stack.symbols roots p w) (λ r. planned_all stack.symbols roots r ws) q e in
+      no_other p b.0 w ws (all_grows stack.symbols roots b.0 ws q b.2) v (λ f stands. only_from ws b.0 stands b.2 v f)
+      (fate_of stack roots c.nodes c.clauses p (scene p h (all_grows stack.symbols roots p (w ∷ ws) q e)) w b.0 b.1) (only.ahead stack (length c.nodes) (length p.duties) (state_of p) w ws v f)
+
 -- ---- from the beginning
 place_at : (terms : List Term) (t : Term) (k : ℕ) → place terms t ≡ Some k → At terms k t
 place_at [] t k e = cc
@@ -212,8 +252,8 @@ places_at terms (t ∷ ts) ns e =
     subst (λ l. AllAt terms l (t ∷ ts)) (some_is d.2) (one-term (place_at terms t b.0 b.1) (places_at terms ts d.0 d.1))
 
 pub whole_answer : (stack : Stack) (ws : List (Option Step)) (q : Plans) (c : Checker) → Each IsSorted stack.assertions → plans_of stack ws ≡ Some q →
-    ((roots : List ℕ) → Whole stack roots q c) → c.done ≡ 0 → c.derived ≡ 0 → c.refusal ≡ None → Answers stack (length c.nodes) ws (verdict c)
-whole_answer stack ws q c sorted e g d1 d2 d3 =
+    ((roots : List ℕ) → Whole stack roots q c) → c.done ≡ 0 → c.derived ≡ 0 → c.refusal ≡ None → (v : Verdict) → Answers stack (length c.nodes) ws v ↔ (v ≡ verdict c)
+whole_answer stack ws q c sorted e g d1 d2 d3 v =
     let ts = added [] (parts_of stack.assertions) in
     let b = bind_some (begun stack.assertions) (λ b. planned_all stack.symbols b.0 b.1 ws) q e in
     let x = bind_some (nodes_after [] ts ts) (λ nodes. places ts stack.assertions >>= λ roots. Some (roots, record { terms = ts; nodes = nodes; duties = []; clauses = [] })) b.0 b.1 in
@@ -230,8 +270,12 @@ whole_answer stack ws q c sorted e g d1 d2 d3 =
     } in
     let first : start stack ≡ state_of p = ap (λ l. record { terms = l; clauses = [] }) (sym (added_distinct (parts_of stack.assertions))) in
     let at : record { nodes = c.nodes; clauses = c.clauses; duties = c.duties; done = 0; derived = 0; refusal = None } ≡ c = rebuilt c d1 d2 d3 in
-    subst (λ x. Answers stack (length c.nodes) ws (verdict x)) at
-    (answer_from stack y.0 q c (g y.0) ws p [] stands (subst (λ s. Holds stack (length c.nodes) (start stack) [] s) first none) refl planned')
+    subst (λ x. Answers stack (length c.nodes) ws v ↔ (v ≡ verdict x)) at (
+      (λ a. only_from stack y.0 q c (g y.0) ws p stands planned' v (subst (λ s. From stack (length c.nodes) 0 s ws v) first (answers_from stack (length c.nodes) ws v a))),
+      (λ e.
+          subst (Answers stack (length c.nodes) ws) (sym e)
+          (answer_from stack y.0 q c (g y.0) ws p [] stands (subst (λ s. Holds stack (length c.nodes) (start stack) [] s) first none) refl planned')),
+    )
   where
     rebuilt : (c : Checker) → c.done ≡ 0 → c.derived ≡ 0 → c.refusal ≡ None → record { nodes = c.nodes; clauses = c.clauses; duties = c.duties; done = 0; derived = 0; refusal = None } ≡ c
     rebuilt c d1 d2 d3 =

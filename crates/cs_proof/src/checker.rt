@@ -1,5 +1,5 @@
 //! The checker of a certificate.
-ghost use Rattle.std.specs.Prelude.{◌≡◌, ◌+◌, ◌<◌, ◌≤◌, ◌^◌, length, slice_get, take, map, IfOk, OnOk, All, None, Some};
+ghost use Rattle.std.specs.Prelude.{◌≡◌, ◌↔◌, ◌+◌, ◌<◌, ◌≤◌, ◌^◌, length, slice_get, take, map, IfOk, OnOk, All, None, Some};
 ghost use Rattle.std.specs.List.{list_any};
 ghost use Rattle.vx_terms.specs.Interpretations.{Each};
 ghost use Rattle.cs_numbers.specs.Laws.{IsSorted};
@@ -180,7 +180,7 @@ impl Checker {
     /// `Want` where memory runs out.
     pub fn new(alloc: Global, stack: &Stack, steps: &[Step]) -> Result<Checker, Want>
         ensures value { IfOk result (λ c. Begins (plans.plans_of (seen stack.now) (map written steps.now)) (checker c)) }
-        ensures answers { Each IsSorted (seen stack.now).assertions → IfOk result (λ c. Answers (seen stack.now) (length (checker c).nodes) (map written steps.now) (clean.verdict (checker c))) }
+        ensures answers { Each IsSorted (seen stack.now).assertions → (v : clean.Verdict) → IfOk result (λ c. Answers (seen stack.now) (length (checker c).nodes) (map written steps.now) v ↔ (v ≡ clean.verdict (checker c))) }
     {
         let plans = plans_of(alloc, stack, steps)?;
         if plans.duties.len() >= 1 << 32 {
