@@ -14,3 +14,4 @@ pub mod Answered
 pub mod Only
 pub mod Whole
 pub mod Begun
+pub mod Refuted

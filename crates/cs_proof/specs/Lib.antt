@@ -6,3 +6,4 @@ pub mod Fits
 pub mod CheckerView
 pub mod Answers
 pub mod Meant
+pub mod Law
