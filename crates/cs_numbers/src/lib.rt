@@ -8,7 +8,7 @@ mod adding;
 mod table;
 
 pub use adding::{add, number};
-pub use table::nodes_of;
+pub use table::{node_of, nodes_of, place_of};
 
 /// Numbers are given as certificates number terms.
 pub fn numbers_are_given()

@@ -24,7 +24,7 @@ fn place(all: &[Rc<Term>], t: &Term) -> Option<u32>
     None
 }
 
-fn place_of(all: &[Rc<Term>], t: &Term) -> Result<u32, Stop>
+pub fn place_of(all: &[Rc<Term>], t: &Term) -> Result<u32, Stop>
     requires { length all.now < 2 ^ 32 }
     ensures { Gives (λ n. n) result (clean.place (map (λ x. term x.value) all.now) (term t.now)) }
 {
@@ -122,7 +122,7 @@ fn head_of(t: &Term) -> Result<Head, AllocError>
 }
 
 /// The node of a term.
-fn node_of(alloc: Global, all: &[Rc<Term>], t: &Term) -> Result<Node, Stop>
+pub fn node_of(alloc: Global, all: &[Rc<Term>], t: &Term) -> Result<Node, Stop>
     requires { length all.now < 2 ^ 32 }
     ensures { Gives views.node result (clean.node_of (map (λ x. term x.value) all.now) (term t.now)) }
 {

@@ -1,0 +1,17 @@
+pub mod Walks
+pub mod Fits
+pub mod Verdicts
+pub mod Literals
+pub mod Narrowed
+pub mod Grown
+pub mod OfKinds
+pub mod State
+pub mod Moves
+pub mod Lits
+pub mod Sums
+pub mod Hinted
+pub mod Answered
+pub mod Only
+pub mod Whole
+pub mod Begun
+pub mod Refuted
