@@ -1,0 +1,3 @@
+pub mod Behind
+pub mod Built
+pub mod Scanned

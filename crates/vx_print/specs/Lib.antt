@@ -1,0 +1,4 @@
+pub mod Words
+pub mod Canonical
+pub mod Views
+pub mod Same
