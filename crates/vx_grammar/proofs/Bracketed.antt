@@ -8,7 +8,7 @@ use Rattle.vx_grammar.specs.Grammar.{Mark, mark}
 use Rattle.vx_grammar.specs.Reading.{◌>>=◌, Read, Unexpected, expect, is_symbol}
 use Rattle.vx_grammar.specs.Laws.{Within}
 use Rattle.vx_grammar.proofs.Symbols.{is_symbol_true}
-use Rattle.vx_grammar.proofs.Tells.{Grammar, Starts, Tells, After, GoesOn, Sign, somewhere, marks_is, tells_behind, tells_as, tells_then, tells_here, tells_unexpected, tells_expect}
+use Rattle.vx_grammar.proofs.Tells.{Grammar, Starts, TellsBy, Tells, After, GoesOn, Sign, somewhere, marks_is, tells_by_behind, tells_by_as, tells_as, tells_then, tells_here, tells_unexpected, tells_expect}
 
 -- a token, and what it nests
 pub record Nested {A : Type 0} (m : Mark) (R : Grammar A) (y : A) (ms : List Mark) : Type 0 where
@@ -17,11 +17,14 @@ pub record Nested {A : Type 0} (m : Mark) (R : Grammar A) (y : A) (ms : List Mar
   pub spelled : R y inner
 
 -- a token, and then a part
-pub led_tells : {A : Type 0} (R : Grammar A) (limit n : ℕ) (t : Token) (ts : List Token) (r : Read A) → n ≤ limit → Tells R limit ts r → Tells (Nested (record { token = t; count = n }) R) limit (t ∷ ts) r
-led_tells R limit n t ts r le h =
+pub led_by_tells : {A : Type 0} (R : List Token → Grammar A) (S : Grammar A) (limit n : ℕ) (t : Token) (ts : List Token) (r : Read A) → n ≤ limit → TellsBy R S limit ts r → TellsBy (λ l. Nested (record { token = t; count = n }) (R l)) (Nested (record { token = t; count = n }) S) limit (t ∷ ts) r
+led_by_tells R S limit n t ts r le h =
     let m : Mark = record { token = t; count = n } in
-    tells_behind (Nested m R) limit (t ∷ ts) ts (m ∷ []) (record { within = (le, tt); tokens = refl }) r
-    (tells_as R (After (Nested m R) (m ∷ [])) limit ts r (λ y ms g. record { inner = ms; is = refl; spelled = g }) h)
+    tells_by_behind (λ l. Nested m (R l)) (Nested m S) limit (t ∷ ts) ts (m ∷ []) (record { within = (le, tt); tokens = refl }) r
+    (tells_by_as R S (λ l. After (Nested m (R l)) (m ∷ [])) (After (Nested m S) (m ∷ [])) limit ts r (λ rest y ms g. record { inner = ms; is = refl; spelled = g }) (λ y ms g. record { inner = ms; is = refl; spelled = g }) h)
+
+pub led_tells : {A : Type 0} (R : Grammar A) (limit n : ℕ) (t : Token) (ts : List Token) (r : Read A) → n ≤ limit → Tells R limit ts r → Tells (Nested (record { token = t; count = n }) R) limit (t ∷ ts) r
+led_tells R limit n t ts r le h = led_by_tells (λ l. R) R limit n t ts r le h
 
 -- a sign, what it nests, and the sign that closes it
 pub record Bracketed {A : Type 0} (n : ℕ) (s e : Symbol) (R : Grammar A) (y : A) (ms : List Mark) : Type 0 where

@@ -10,11 +10,12 @@ use Rattle.vx_ast.specs.declared.UnaryOperator.{UnaryOperator}
 use Rattle.vx_ast.specs.declared.UnaryOperator.TheVariants.{Not, Negate}
 use Rattle.vx_ast.specs.declared.BinaryOperator.{BinaryOperator}
 use Rattle.vx_ast.specs.declared.BinaryOperator.TheVariants.{Implies}
-use Rattle.vx_tokens.specs.Tokens.{Token, Kind, name, symbol}
+use Rattle.vx_tokens.specs.declared.token.Word.TheVariants as words
+use Rattle.vx_tokens.specs.Tokens.{Token, Kind, name, word, symbol}
 use Rattle.vx_ast.specs.Written.{Expr, Exprs, More, Amount, Call, Binary, Choice}
 use Rattle.vx_ast.specs.Written as written
-use Rattle.vx_grammar.specs.Grammar.{operator_of, Constant, null_word, write_word, none_word, result_word, Phrase, literal, constant, numeral, named, called, dotted, grouped, past, accessed, prefixed, joined, chosen, ArgumentsPhrase, no_arguments, arguments_from, FurtherPhrase, nothing_further, further, AmountPhrase, no_amount, amount, Mark, mark, marks, arguments_marks, further_marks, amount_marks, operators, dots, tokens_of, start_of, meant, arguments_meant, further_meant, amount_meant, IsPrimary, StandsAt, ArgumentsStand, FurtherStand, AmountStands, level_of, sign_of}
-use Rattle.vx_grammar.specs.Reading.{Read, Deeper, is_symbol, Part, Given, choice, implication, chain, rest_of_chain, behind_dot, arguments, access, expect, name_at, enclosed, call_by, named_by, old_by, access_by, primary_by, dots_at, dotted_at, postfix_by, unary_by, unary_at, run, exprs_from, argument_turn, some_arguments, arguments_at, amount_by, amount_at, access_at, operator_by, rest_by, rest_at, chain_at, implies_by, implied_by, implication_at, second_by, sides_by, chosen_by, choice_at, part_at, below}
+use Rattle.vx_grammar.specs.Grammar.{operator_of, Constant, null_word, write_word, none_word, result_word, Phrase, literal, constant, numeral, named, called, dotted, grouped, past, accessed, prefixed, joined, chosen, unfolded, ends_open, unfolding_of, ArgumentsPhrase, no_arguments, arguments_from, FurtherPhrase, nothing_further, further, AmountPhrase, no_amount, amount, InstancePhrase, alone, held, instance_meant, InstanceStands, instance_marks, Mark, mark, marks, arguments_marks, further_marks, amount_marks, operators, dots, tokens_of, start_of, meant, arguments_meant, further_meant, amount_meant, IsPrimary, StandsAt, ArgumentsStand, FurtherStand, AmountStands, level_of, sign_of}
+use Rattle.vx_grammar.specs.Reading.{Read, Deeper, is_symbol, Part, Given, choice, implication, chain, rest_of_chain, behind_dot, arguments, access, holding, expect, name_at, enclosed, call_by, named_by, old_by, access_by, primary_by, dots_at, dotted_at, postfix_by, unary_by, unary_at, run, exprs_from, argument_turn, some_arguments, arguments_at, amount_by, amount_at, access_at, bare_by, instance_at, behind_in, unfolding_by, holding_at, operator_by, rest_by, rest_at, chain_at, implies_by, implied_by, implication_at, second_by, sides_by, chosen_by, choice_at, part_at, below}
 use Rattle.vx_grammar.specs.Nesting.{nests}
 use Rattle.vx_grammar.specs.Laws.{Within}
 use Rattle.vx_grammar.proofs.Lists.{tokens-append_more, within_front, within_back, reach, reach_by, not_open, not_dot, not_operator, Ends, ends_below, IsChain, chain_or_implies, is_written, reach_sign, Begins, begins}
@@ -131,6 +132,7 @@ own_level (grouped p e q) = 0
 own_level (prefixed p op e) = 0
 own_level (joined a p op b) = level_of op
 own_level (chosen c p a q b) = 8
+own_level (unfolded p i q e) = 0
 
 pub stands_own : (w : Phrase) (k : ℕ) → StandsAt k w → (own_level w ≤ k) × StandsAt (own_level w) w
 stands_own (literal p b) k h = (omega arith, tt)
@@ -143,8 +145,9 @@ stands_own (numeral p b) k h = (omega arith, tt)
 stands_own (named p b) k h = (omega arith, tt)
 stands_own (grouped p e q) k h = (omega arith, h)
 stands_own (prefixed p op e) k h = (omega arith, h)
-stands_own (joined a p op b) k h = (h.0, (omega arith, h.1, h.2))
-stands_own (chosen c p a q b) k h = (h.0, (omega arith, h.1, h.2, h.3))
+stands_own (joined a p op b) k h = (h.0, (omega arith, h.1, h.2, h.3))
+stands_own (chosen c p a q b) k h = (h.0, (omega arith, h.1, h.2, h.3, h.4))
+stands_own (unfolded p i q e) k h = (omega arith, h)
 
 stands_tight : (w : Phrase) (k j : ℕ) → StandsAt k w → own_level w ≤ j → StandsAt j w
 stands_tight (literal p b) k j h le = tt
@@ -157,8 +160,9 @@ stands_tight (numeral p b) k j h le = tt
 stands_tight (named p b) k j h le = tt
 stands_tight (grouped p e q) k j h le = h
 stands_tight (prefixed p op e) k j h le = h
-stands_tight (joined a p op b) k j h le = (le, h.1, h.2)
-stands_tight (chosen c p a q b) k j h le = (le, h.1, h.2, h.3)
+stands_tight (joined a p op b) k j h le = (le, h.1, h.2, h.3)
+stands_tight (chosen c p a q b) k j h le = (le, h.1, h.2, h.3, h.4)
+stands_tight (unfolded p i q e) k j h le = h
 
 pub no_operators : (w : Phrase) (level : ℕ) → (own_level w ≡ level → ⊥) → operators level w ≡ 0
 no_operators (literal p b) k h = refl
@@ -173,6 +177,7 @@ no_operators (grouped p e q) k h = refl
 no_operators (prefixed p op e) k h = refl
 no_operators (joined a p op b) k h = let e : eqb (level_of op) k ≡ false = ne_eqb _ _ h in rw e refl
 no_operators (chosen c p a q b) k h = refl
+no_operators (unfolded p i q e) k h = refl
 
 -- what is shown of each phrase
 abbrev Toks : ℕ → Phrase → List Token → List Token
@@ -192,26 +197,60 @@ unfolding dots_at
 dots_end deeper start e [] h = refl
 dots_end deeper start e (t ∷ ts) h = rw (not_dot t.kind 0 h) refl
 
+-- A phrase that ends open takes in all operators.
+abbrev pub edge : ℕ → Phrase → ℕ
+edge level w = cond (ends_open w) 8 level
+
+edge_in : (k : ℕ) (w : Phrase) (ts : List Token) → k ≤ 8 → Ends (edge k w) ts → Ends k ts
+edge_in k w ts le h = by_end (ends_open w) h
+  where
+    by_end : (b : Bool) → Ends (cond b 8 k) ts → Ends k ts
+    by_end true h = ends_below k 8 ts le h
+    by_end false h = h
+
+edge_top : (k : ℕ) (w : Phrase) (ts : List Token) → k ≤ 8 → Ends 8 ts → Ends (edge k w) ts
+edge_top k w ts le h = by_end (ends_open w)
+  where
+    by_end : (b : Bool) → Ends (cond b 8 k) ts
+    by_end true = h
+    by_end false = ends_below k 8 ts le h
+
+edge_below : (j k : ℕ) (w : Phrase) (ts : List Token) → j ≤ k → Ends (edge k w) ts → Ends (edge j w) ts
+edge_below j k w ts le h = by_end (ends_open w) h
+  where
+    by_end : (b : Bool) → Ends (cond b 8 k) ts → Ends (cond b 8 j) ts
+    by_end true h = h
+    by_end false h = ends_below j k ts le h
+
+-- behind a closed phrase
+edge_closed : (k : ℕ) (w : Phrase) (ts : List Token) → ends_open w ≡ false → Ends k ts → Ends (edge k w) ts
+edge_closed k w ts e h = subst (λ b. Ends (cond b 8 k) ts) (sym e) h
+
 record Reads (limit : ℕ) (w : Phrase) : Type 0 where
-  own : (n room : ℕ) → n + room ≡ limit → Within limit (marks n w) → StandsAt (own_level w) w → (more : List Token) → Ends (own_level w) more
+  own : (n room : ℕ) → n + room ≡ limit → Within limit (marks n w) → StandsAt (own_level w) w → (more : List Token) → Ends (edge (own_level w) w) more
       → level_at (below room) (own_level w) (Toks n w more) ≡ Ok (meant w, more)
-  spine : (n room : ℕ) → n + room ≡ limit → Within limit (marks n w) → (k : ℕ) → k ≤ 5 → own_level w ≡ suc k → StandsAt (suc k) w → (more : List Token) → Ends k more
+  spine : (n room : ℕ) → n + room ≡ limit → Within limit (marks n w) → (k : ℕ) → k ≤ 5 → own_level w ≡ suc k → StandsAt (suc k) w → (more : List Token) → Ends (edge k w) more
       → chain_at (below room) (suc k) (Toks n w more) ≡ rest_at (below (room - operators (suc k) w)) k (start_of w) (meant w) more
   -- behind what a dot may stand behind, dots are read
   primary : IsPrimary w → (n room : ℕ) → n + room ≡ limit → Within limit (marks n w) → StandsAt 0 w → (more : List Token) → NoCall more
       → unary_at (below room) (Toks n w more) ≡ dots_at (below (room - dots w)) (start_of w) (meant w) more
 
-whole : (limit : ℕ) (w : Phrase) → Reads limit w → (n room : ℕ) → n + room ≡ limit → Within limit (marks n w) → (k : ℕ) → k ≤ 8 → StandsAt k w → (more : List Token) → Ends k more
+whole_edge : (limit : ℕ) (w : Phrase) → Reads limit w → (n room : ℕ) → n + room ≡ limit → Within limit (marks n w) → (k : ℕ) → k ≤ 8 → StandsAt k w → (more : List Token) → Ends (edge k w) more
     → level_at (below room) k (Toks n w more) ≡ Ok (meant w, more)
-whole limit w r n room e h k top st more ends =
+whole_edge limit w r n room e h k top st more ends =
     let o = stands_own w k st in
-    level_lift (below room) (own_level w) k (start_of w) (meant w) (Toks n w more) more (begins w n more) o.0 top ends (r.own n room e h o.1 more (ends_below (own_level w) k more o.0 ends))
+    level_lift (below room) (own_level w) k (start_of w) (meant w) (Toks n w more) more (begins w n more) o.0 top (edge_in k w more top ends) (r.own n room e h o.1 more (edge_below (own_level w) k w more o.0 ends))
 
-whole_chain : (limit : ℕ) (w : Phrase) → Reads limit w → (n room : ℕ) → n + room ≡ limit → Within limit (marks n w) → (k : ℕ) → k ≤ 6 → StandsAt k w → (more : List Token) → Ends k more
+-- where no operator at all follows
+whole : (limit : ℕ) (w : Phrase) → Reads limit w → (n room : ℕ) → n + room ≡ limit → Within limit (marks n w) → (k : ℕ) → k ≤ 8 → StandsAt k w → (more : List Token) → Ends 8 more
+    → level_at (below room) k (Toks n w more) ≡ Ok (meant w, more)
+whole limit w r n room e h k top st more ends = whole_edge limit w r n room e h k top st more (edge_top k w more top ends)
+
+whole_chain : (limit : ℕ) (w : Phrase) → Reads limit w → (n room : ℕ) → n + room ≡ limit → Within limit (marks n w) → (k : ℕ) → k ≤ 6 → StandsAt k w → (more : List Token) → Ends (edge k w) more
     → chain_at (below room) k (Toks n w more) ≡ Ok (meant w, more)
-whole_chain limit w r n room e h k top st more ends = sym (level_is_chain (below room) k (Toks n w more) top) ∙ whole limit w r n room e h k (omega arith) st more ends
+whole_chain limit w r n room e h k top st more ends = sym (level_is_chain (below room) k (Toks n w more) top) ∙ whole_edge limit w r n room e h k (omega arith) st more ends
 
-whole_spine : (limit : ℕ) (w : Phrase) → Reads limit w → (n room : ℕ) → n + room ≡ limit → Within limit (marks n w) → (k : ℕ) → k ≤ 5 → StandsAt (suc k) w → (more : List Token) → Ends k more
+whole_spine : (limit : ℕ) (w : Phrase) → Reads limit w → (n room : ℕ) → n + room ≡ limit → Within limit (marks n w) → (k : ℕ) → k ≤ 5 → StandsAt (suc k) w → (more : List Token) → Ends (edge k w) more
     → chain_at (below room) (suc k) (Toks n w more) ≡ rest_at (below (room - operators (suc k) w)) k (start_of w) (meant w) more
 whole_spine limit w r n room e h k low st more ends =
     elim (cases_lt (own_level w) (suc k)) [
@@ -231,7 +270,7 @@ nested_reads room less p here ts x e h = nests room less p here ts e ∙ h
 
 -- a phrase that reads as one operand
 tight : (limit : ℕ) (w : Phrase) → own_level w ≡ 0 → (IsPrimary w → ⊥)
-    → ((n room : ℕ) → n + room ≡ limit → Within limit (marks n w) → StandsAt 0 w → (more : List Token) → Ends 0 more → unary_at (below room) (Toks n w more) ≡ Ok (meant w, more))
+    → ((n room : ℕ) → n + room ≡ limit → Within limit (marks n w) → StandsAt 0 w → (more : List Token) → Ends (edge 0 w) more → unary_at (below room) (Toks n w more) ≡ Ok (meant w, more))
     → Reads limit w
 unfolding chain_at
 tight limit w z not f = record {
@@ -247,7 +286,7 @@ behind : (limit : ℕ) (w : Phrase) → own_level w ≡ 0 → IsPrimary w
 unfolding chain_at
 behind limit w z is f = record {
   own = λ n room e h st more ends.
-      let ends' : Ends 0 more = rw z at ends in
+      let ends' : Ends 0 more = edge_in 0 w more (omega arith) (rw z at ends) in
       rw z (f n room e h (rw z at st) more (ends_no_call more ends') ∙ dots_end (below (room - dots w)) (start_of w) (meant w) more ends');
   spine = λ n room e h k low q st more ends. absurd (omega (arith, z, q));
   primary = λ is. f;
@@ -429,7 +468,7 @@ reads_prefixed : (limit : ℕ) (p : Place) (op : UnaryOperator) (w : Phrase) →
 unfolding unary_at unary_by
 reads_prefixed limit p op w r = tight limit (prefixed p op w) refl (λ is. is) (go op)
   where
-    go : (op' : UnaryOperator) (n room : ℕ) → n + room ≡ limit → Within limit (marks n (prefixed p op' w)) → StandsAt 0 w → (more : List Token) → Ends 0 more → unary_at (below room) (Toks n (prefixed p op' w) more) ≡ Ok (meant (prefixed p op' w), more)
+    go : (op' : UnaryOperator) (n room : ℕ) → n + room ≡ limit → Within limit (marks n (prefixed p op' w)) → StandsAt 0 w → (more : List Token) → Ends (edge 0 w) more → unary_at (below room) (Toks n (prefixed p op' w) more) ≡ Ok (meant (prefixed p op' w), more)
     go Not n room e h st more ends =
         let less = room - 1 in
         let s : room ≡ less + 1 = room_for limit n room (n + 1) e h.0 refl in
@@ -442,7 +481,7 @@ reads_prefixed limit p op w r = tight limit (prefixed p op w) refl (λ is. is) (
         rw (nested_reads room less (chain 0) ((mark (n + 1) p (symbol signs.Minus)).token ∷ Toks (n + 1) w more) (Toks (n + 1) w more) _ s inner) refl
 
 -- an operand, an operator of a chain, and an operand
-chain_step : (limit : ℕ) (a : Phrase) (p : Place) (op : BinaryOperator) (b : Phrase) (k : ℕ) → IsChain op k → Reads limit a → Reads limit b → (n room : ℕ) → n + room ≡ limit → Within limit (marks n (joined a p op b)) → StandsAt (suc k) (joined a p op b) → (more : List Token) → Ends k more
+chain_step : (limit : ℕ) (a : Phrase) (p : Place) (op : BinaryOperator) (b : Phrase) (k : ℕ) → IsChain op k → Reads limit a → Reads limit b → (n room : ℕ) → n + room ≡ limit → Within limit (marks n (joined a p op b)) → StandsAt (suc k) (joined a p op b) → (more : List Token) → Ends (edge k b) more
     → chain_at (below room) (suc k) (Toks n (joined a p op b) more) ≡ rest_at (below (room - operators (suc k) (joined a p op b))) k (start_of a) (Binary (start_of a) op (meant a) (meant b)) more
 unfolding rest_at rest_by operator_by
 chain_step limit a p op b k ch ra rb n room e h st more ends =
@@ -452,7 +491,8 @@ chain_step limit a p op b k ch ra rb n room e h st more ends =
     let hb = within_back limit (marks n a) (m ∷ marks deep b) h in
     let fits : deep ≤ limit = hb.0 in
     let ts : Toks n (joined a p op b) more ≡ Toks n a (m.token ∷ Toks deep b more) = tokens-append_more (marks n a) (m ∷ marks deep b) more in
-    let reached : Ends k (m.token ∷ Toks deep b more) = rw (reach_sign op, ch.level) (omega arith) in
+    let at_sign : Ends k (m.token ∷ Toks deep b more) = rw (reach_sign op, ch.level) (omega arith) in
+    let reached : Ends (edge k a) (m.token ∷ Toks deep b more) = edge_closed k a (m.token ∷ Toks deep b more) st.3 at_sign in
     let sta : StandsAt (suc k) a = rw ch.left at st.1 in
     let stb : StandsAt k b = rw ch.right at st.2 in
     let same : operators (suc k) a ≡ ops = ap (λ l. operators l a) (sym ch.level) in
@@ -473,20 +513,21 @@ reads_chain : (limit : ℕ) (a : Phrase) (p : Place) (op : BinaryOperator) (b : 
 reads_chain limit a p op b k ch ra rb = record {
   own = λ n room e h st more ends.
       let w = joined a p op b in
-      let st' : StandsAt (suc k) w = (omega (arith, ch.level), st.1, st.2) in
-      let ends' : Ends (suc k) more = subst (λ l. Ends l more) ch.level ends in
+      let st' : StandsAt (suc k) w = (omega (arith, ch.level), st.1, st.2, st.3) in
+      let at_level : Ends (edge (suc k) b) more = subst (λ l. Ends (edge l b) more) ch.level ends in
+      let ends' : Ends (suc k) more = edge_in (suc k) b more (omega (arith, ch.low)) at_level in
       let read : chain_at (below room) (suc k) (Toks n w more) ≡ Ok (meant w, more) =
-      chain_step limit a p op b k ch ra rb n room e h st' more (ends_below k (suc k) more (omega arith) ends') ∙ rest_ends _ k (start_of a) _ more ends' in
+      chain_step limit a p op b k ch ra rb n room e h st' more (edge_below k (suc k) b more (omega arith) at_level) ∙ rest_ends _ k (start_of a) _ more ends' in
       subst (λ l. level_at (below room) l (Toks n w more) ≡ Ok (meant w, more)) (sym ch.level) (level_is_chain (below room) (suc k) (Toks n w more) (omega (arith, ch.low)) ∙ read);
   spine = λ n room e h j low q st more ends.
       let w = joined a p op b in
       let same : j ≡ k = omega (arith, q, ch.level) in
       subst (λ i. chain_at (below room) (suc i) (Toks n w more) ≡ rest_at (below (room - operators (suc i) w)) i (start_of w) (meant w) more) (sym same)
-      (chain_step limit a p op b k ch ra rb n room e h (subst (λ i. StandsAt (suc i) w) same st) more (subst (λ i. Ends i more) same ends));
+      (chain_step limit a p op b k ch ra rb n room e h (subst (λ i. StandsAt (suc i) w) same st) more (subst (λ i. Ends (edge i b) more) same ends));
   primary = λ is. absurd is;
 }
 
-implies_step : (limit : ℕ) (a : Phrase) (p : Place) (b : Phrase) → Reads limit a → Reads limit b → (n room : ℕ) → n + room ≡ limit → Within limit (marks n (joined a p Implies b)) → StandsAt 7 (joined a p Implies b) → (more : List Token) → Ends 7 more
+implies_step : (limit : ℕ) (a : Phrase) (p : Place) (b : Phrase) → Reads limit a → Reads limit b → (n room : ℕ) → n + room ≡ limit → Within limit (marks n (joined a p Implies b)) → StandsAt 7 (joined a p Implies b) → (more : List Token) → Ends (edge 7 b) more
     → implication_at (below room) (Toks n (joined a p Implies b) more) ≡ Ok (Binary (start_of a) Implies (meant a) (meant b), more)
 unfolding implication_at implied_by implies_by
 implies_step limit a p b ra rb n room e h st more ends =
@@ -498,10 +539,10 @@ implies_step limit a p b ra rb n room e h st more ends =
     let fits : deep ≤ limit = hb.0 in
     let ts : Toks n (joined a p Implies b) more ≡ Toks n a (m.token ∷ Toks deep b more) = tokens-append_more (marks n a) (m ∷ marks deep b) more in
     let here = m.token ∷ Toks deep b more in
-    let left = whole_chain limit a ra n room e (within_front limit (marks n a) (m ∷ marks deep b) h) 6 (omega arith) st.1 here (omega arith) in
+    let left = whole_chain limit a ra n room e (within_front limit (marks n a) (m ∷ marks deep b) h) 6 (omega arith) st.1 here (edge_closed 6 a here st.3 (omega arith)) in
     let less = room - 1 in
     let s : room ≡ less + 1 = omega (arith, fits, e) in
-    let right : implication_at (below less) (Toks deep b more) ≡ Ok (meant b, more) = whole limit b rb deep less (omega (arith, fits, e, none)) hb.1 7 (omega arith) st.2 more ends in
+    let right : implication_at (below less) (Toks deep b more) ≡ Ok (meant b, more) = whole_edge limit b rb deep less (omega (arith, fits, e, none)) hb.1 7 (omega arith) st.2 more ends in
     let taken : below room implication here (Toks deep b more) ≡ Ok (meant b, more) = nested_reads room less implication here (Toks deep b more) _ s right in
     let bg = begins a n here in
     ap (implication_at (below room)) (ts ∙ bg.is)
@@ -509,7 +550,7 @@ implies_step limit a p b ra rb n room e h st more ends =
 
 reads_implies : (limit : ℕ) (a : Phrase) (p : Place) (b : Phrase) → Reads limit a → Reads limit b → Reads limit (joined a p Implies b)
 reads_implies limit a p b ra rb = record {
-  own = λ n room e h st more ends. implies_step limit a p b ra rb n room e h (omega arith, st.1, st.2) more ends;
+  own = λ n room e h st more ends. implies_step limit a p b ra rb n room e h (omega arith, st.1, st.2, st.3) more ends;
   spine = λ n room e h k low q st more ends. absurd (omega (arith, low, q));
   primary = λ is. absurd is;
 }
@@ -521,7 +562,7 @@ reads_joined limit a p op b ra rb =
       | inr e ↦ subst (λ o. Reads limit (joined a p o b)) (sym e) (reads_implies limit a p b ra rb)
     ]
 
-chosen_step : (limit : ℕ) (c : Phrase) (p : Place) (a : Phrase) (q : Place) (b : Phrase) → Reads limit c → Reads limit a → Reads limit b → (n room : ℕ) → n + room ≡ limit → Within limit (marks n (chosen c p a q b)) → StandsAt 8 (chosen c p a q b) → (more : List Token) → Ends 8 more
+chosen_step : (limit : ℕ) (c : Phrase) (p : Place) (a : Phrase) (q : Place) (b : Phrase) → Reads limit c → Reads limit a → Reads limit b → (n room : ℕ) → n + room ≡ limit → Within limit (marks n (chosen c p a q b)) → StandsAt 8 (chosen c p a q b) → (more : List Token) → Ends (edge 8 b) more
     → choice_at (below room) (Toks n (chosen c p a q b) more) ≡ Ok (Choice (start_of c) (meant c) (meant a) (meant b), more)
 unfolding choice_at chosen_by sides_by second_by expect
 chosen_step limit c p a q b rc ra rb n room e h st more ends =
@@ -534,11 +575,11 @@ chosen_step limit c p a q b rc ra rb n room e h st more ends =
     let second = k.token ∷ Toks (n + 1) b more in
     let here = m.token ∷ Toks (n + 1) a second in
     let ts : Toks n (chosen c p a q b) more ≡ Toks n c here = tokens-append_more (marks n c) (m ∷ (marks (n + 1) a ++ k ∷ marks (n + 1) b)) more ∙ ap (λ l. Toks n c (m.token ∷ l)) after in
-    let condition : implication_at (below room) (Toks n c here) ≡ Ok (meant c, here) = whole limit c rc n room e (within_front limit (marks n c) (m ∷ (marks (n + 1) a ++ k ∷ marks (n + 1) b)) h) 7 (omega arith) st.1 here (omega arith) in
+    let condition : implication_at (below room) (Toks n c here) ≡ Ok (meant c, here) = whole_edge limit c rc n room e (within_front limit (marks n c) (m ∷ (marks (n + 1) a ++ k ∷ marks (n + 1) b)) h) 7 (omega arith) st.1 here (edge_closed 7 c here st.4 (omega arith)) in
     let less = room - 1 in
     let s : room ≡ less + 1 = room_for limit n room (n + 1) e h1.0 refl in
     let left : choice_at (below less) (Toks (n + 1) a second) ≡ Ok (meant a, second) = whole limit a ra (n + 1) less (omega arith) ha 8 (omega arith) st.2 second (omega arith) in
-    let right : choice_at (below less) (Toks (n + 1) b more) ≡ Ok (meant b, more) = whole limit b rb (n + 1) less (omega arith) hb.1 8 (omega arith) st.3 more ends in
+    let right : choice_at (below less) (Toks (n + 1) b more) ≡ Ok (meant b, more) = whole_edge limit b rb (n + 1) less (omega arith) hb.1 8 (omega arith) st.3 more ends in
     let taken1 : below room choice here (Toks (n + 1) a second) ≡ Ok (meant a, second) = nested_reads room less choice here (Toks (n + 1) a second) _ s left in
     let taken2 : below room choice second (Toks (n + 1) b more) ≡ Ok (meant b, more) = nested_reads room less choice second (Toks (n + 1) b more) _ s right in
     let bg = begins c n here in
@@ -579,6 +620,53 @@ reads_named limit p x = undotted limit (named p x) refl tt refl go
     go n room e h st [] bare = refl
     go n room e h st (t ∷ ts) bare = rw bare refl
 
+-- ---- instances
+
+record ReadsInstance (limit : ℕ) (i : InstancePhrase) : Type 0 where
+  read : (n room : ℕ) → n + room ≡ limit → Within limit (instance_marks n i) → InstanceStands i → (more : List Token) → instance_at (below room) (tokens_of (instance_marks n i) ++ more) ≡ Ok (instance_meant i, more)
+
+reads_bare : (limit : ℕ) (p : Place) (x : List ℕ) (o : Place) (es : ArgumentsPhrase) (c : Place) → ReadsArguments limit es → ReadsInstance limit (alone p x o es c)
+unfolding instance_at bare_by
+reads_bare limit p x o es c r = record {
+  read = λ n room e h st more.
+      let close = mark (n + 1) c (symbol signs.Close) in
+      rw (enclosed_reads limit n room arguments o c (arguments_marks (n + 1) es) (arguments_meant es) more e h.1.0
+      (λ less s. r.read (n + 1) less (omega (arith, e, s)) (within_front limit (arguments_marks (n + 1) es) (close ∷ []) h.1.1) st c more)) refl;
+}
+
+reads_held : (limit : ℕ) (p o q : Place) (x : List ℕ) (o' : Place) (es : ArgumentsPhrase) (c' : Place) (a : AmountPhrase) (c : Place) → ReadsArguments limit es → ReadsAmount limit a → ReadsInstance limit (held p o q x o' es c' a c)
+unfolding instance_at holding_at name_at
+reads_held limit p o q x o' es c' a c r ra = record {
+  read = λ n room e h st more.
+      let close = mark (n + 1) c (symbol signs.Close) in
+      let close' = mark (n + 1 + 1) c' (symbol signs.Close) in
+      let inside = arguments_marks (n + 1 + 1) es ++ close' ∷ [] in
+      let all = mark (n + 1) q (name x) ∷ mark (n + 1 + 1) o' (symbol signs.Open) ∷ (inside ++ amount_marks (n + 1) a) in
+      let ha = within_front limit all (close ∷ []) h.1.1 in
+      let rest = tokens_of (amount_marks (n + 1) a) ++ close.token ∷ more in
+      let list : tokens_of (inside ++ amount_marks (n + 1) a) ++ close.token ∷ more ≡ tokens_of inside ++ rest = tokens-append_more inside (amount_marks (n + 1) a) (close.token ∷ more) in
+      rw (enclosed_reads limit n room holding o c all (instance_meant (held p o q x o' es c' a c)) more e h.1.0
+      (λ less s.
+      let first = enclosed_reads limit (n + 1) less arguments o' c' (arguments_marks (n + 1 + 1) es) (arguments_meant es) rest (omega (arith, e, s)) ha.1.0
+      (λ fewer s'. r.read (n + 1 + 1) fewer (omega (arith, e, s, s')) (within_front limit (arguments_marks (n + 1 + 1) es) (close' ∷ []) (within_front limit inside (amount_marks (n + 1) a) ha.1.1)) st.0 c' rest) in
+      let second = ra.read (n + 1) less (omega (arith, e, s)) (within_back limit inside (amount_marks (n + 1) a) ha.1.1) st.1 close.token more refl (omega arith) in
+      rw (list, first, second) refl)) refl;
+}
+
+reads_unfolded : (limit : ℕ) (p : Place) (i : InstancePhrase) (q : Place) (w : Phrase) → ReadsInstance limit i → Reads limit w → Reads limit (unfolded p i q w)
+unfolding unary_at unary_by unfolding_by behind_in
+reads_unfolded limit p i q w ri r = tight limit (unfolded p i q w) refl (λ is. is) (λ n room e h st more ends.
+    let m = mark (n + 1) q (word words.In) in
+    let hi = within_front limit (instance_marks n i) (m ∷ marks (n + 1) w) h.1 in
+    let hw = within_back limit (instance_marks n i) (m ∷ marks (n + 1) w) h.1 in
+    let less = room - 1 in
+    let s : room ≡ less + 1 = room_for limit n room (n + 1) e hw.0 refl in
+    let here = m.token ∷ Toks (n + 1) w more in
+    let list : tokens_of (instance_marks n i ++ m ∷ marks (n + 1) w) ++ more ≡ tokens_of (instance_marks n i) ++ here = tokens-append_more (instance_marks n i) (m ∷ marks (n + 1) w) more in
+    let first = ri.read n room e hi st.0 here in
+    let body : choice_at (below less) (Toks (n + 1) w more) ≡ Ok (meant w, more) = whole limit w r (n + 1) less (omega arith) hw.1 8 (omega arith) st.1 more ends in
+    rw (list, first, nested_reads room less choice here (Toks (n + 1) w more) _ s body) refl)
+
 mutual
   reads : (limit : ℕ) (w : Phrase) → Reads limit w
   reads limit (literal p b) = reads_literal limit p b
@@ -593,6 +681,7 @@ mutual
   reads limit (prefixed p op e) = reads_prefixed limit p op e (reads limit e)
   reads limit (joined a p op b) = reads_joined limit a p op b (reads limit a) (reads limit b)
   reads limit (chosen c p a q b) = reads_chosen limit c p a q b (reads limit c) (reads limit a) (reads limit b)
+  reads limit (unfolded p i q e) = reads_unfolded limit p i q e (reads_instance limit i) (reads limit e)
 
   reads_arguments : (limit : ℕ) (es : ArgumentsPhrase) → ReadsArguments limit es
   reads_arguments limit no_arguments = reads_no_arguments limit
@@ -605,6 +694,10 @@ mutual
   reads_amount : (limit : ℕ) (a : AmountPhrase) → ReadsAmount limit a
   reads_amount limit no_amount = reads_no_amount limit
   reads_amount limit (amount p e) = reads_some_amount limit p e (reads limit e)
+
+  reads_instance : (limit : ℕ) (i : InstancePhrase) → ReadsInstance limit i
+  reads_instance limit (alone p x o es c) = reads_bare limit p x o es c (reads_arguments limit es)
+  reads_instance limit (held p o q x o' es c' a c) = reads_held limit p o q x o' es c' a c (reads_arguments limit es) (reads_amount limit a)
 
 -- what is spelled at a nesting count, within the limit, is read, whatever follows that does not go on with it
 pub is_read : (limit n room : ℕ) (w : Phrase) (more : List Token) → n + room ≡ limit → Within limit (marks n w) → StandsAt 8 w → Ends 8 more → choice_at (below room) (Toks n w more) ≡ Ok (meant w, more)
@@ -620,3 +713,7 @@ pub arguments_are_read : (limit n room : ℕ) (o : Place) (es : ArgumentsPhrase)
 arguments_are_read limit n room o es c more e le h st =
     let close = mark (n + 1) c (symbol signs.Close) in
     enclosed_reads limit n room arguments o c (arguments_marks (n + 1) es) (arguments_meant es) more e le (λ less s. (reads_arguments limit es).read (n + 1) less (omega (arith, e, s)) (within_front limit (arguments_marks (n + 1) es) (close ∷ []) h) st c more)
+
+-- an instance that is spelled within the limit is read, whatever follows
+pub instance_is_read : (limit n room : ℕ) (i : InstancePhrase) (more : List Token) → n + room ≡ limit → Within limit (instance_marks n i) → InstanceStands i → instance_at (below room) (tokens_of (instance_marks n i) ++ more) ≡ Ok (instance_meant i, more)
+instance_is_read limit n room i more e h st = (reads_instance limit i).read n room e h st more

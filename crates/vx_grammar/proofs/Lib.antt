@@ -5,6 +5,7 @@ pub mod Local
 pub mod Complete
 pub mod PhraseFor
 pub mod PrimaryTells
+pub mod InstancesTold
 pub mod Means
 pub mod NamesTold
 pub mod LocalParts
@@ -23,6 +24,7 @@ pub mod TargetReads
 pub mod StmtTold
 pub mod Steps
 pub mod MemberTold
+pub mod BodiesTold
 pub mod MethodTold
 pub mod ProgramTold
 pub mod StmtReads

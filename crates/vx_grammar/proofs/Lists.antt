@@ -10,7 +10,7 @@ use Rattle.vx_tokens.specs.declared.token.Symbol.TheVariants as signs
 use Rattle.vx_ast.specs.declared.BinaryOperator.{BinaryOperator}
 use Rattle.vx_ast.specs.declared.BinaryOperator.TheVariants.{Implies, Or, And, Equal, NotEqual, Less, LessEqual, Greater, GreaterEqual, Add, Subtract, Multiply, Divide, Quotient, Remainder}
 use Rattle.vx_tokens.specs.Tokens.{Token, Kind, name, word, symbol}
-use Rattle.vx_grammar.specs.Grammar.{operator_of, literal_word, Constant, null_word, write_word, none_word, result_word, constant_word, Phrase, literal, constant, numeral, named, called, dotted, grouped, past, accessed, prefixed, joined, chosen, Mark, mark, marks, operators, dots, tokens_of, start_of, StandsAt, level_of, left_level, right_level, sign_of, prefix_sign}
+use Rattle.vx_grammar.specs.Grammar.{operator_of, literal_word, Constant, null_word, write_word, none_word, result_word, constant_word, Phrase, literal, constant, numeral, named, called, dotted, grouped, past, accessed, prefixed, joined, chosen, unfolded, Mark, mark, marks, operators, dots, tokens_of, start_of, StandsAt, level_of, left_level, right_level, sign_of, prefix_sign}
 use Rattle.vx_grammar.specs.Reading.{is_symbol}
 use Rattle.vx_grammar.specs.Laws.{Within}
 
@@ -160,6 +160,7 @@ phrase_begins (grouped p e q) n = record { first = _; rest = _; is = refl; place
 phrase_begins (past p o e c) n = record { first = _; rest = _; is = refl; place = refl; not_close = refl; not_new = λ h. absurd cc }
 phrase_begins (accessed p o e a c) n = record { first = _; rest = _; is = refl; place = refl; not_close = refl; not_new = λ h. absurd cc }
 phrase_begins (prefixed p op e) n = record { first = _; rest = _; is = refl; place = refl; not_close = prefix_not_close op; not_new = λ h. absurd cc }
+phrase_begins (unfolded p i q e) n = record { first = _; rest = _; is = refl; place = refl; not_close = refl; not_new = λ h. absurd cc }
 phrase_begins (dotted e p q f) n =
     let deep = n + dots e + 1 in
     rw tokens-append (begins-append _ (tokens_of (mark deep p (symbol signs.Dot) ∷ mark deep q (name f) ∷ [])) _ (phrase_begins e n))
@@ -185,6 +186,7 @@ operators_fit limit level (named p b) n le h = omega arith
 operators_fit limit level (grouped p e q) n le h = omega arith
 operators_fit limit level (prefixed p op e) n le h = omega arith
 operators_fit limit level (chosen c p a q b) n le h = omega arith
+operators_fit limit level (unfolded p i q e) n le h = omega arith
 operators_fit limit level (joined a p op b) n le h =
     let deep = n + operators (level_of op) a + 1 in
     let k : n + operators (level_of op) a + 1 ≤ limit = (within_back limit (marks n a) (mark deep p (symbol (sign_of op)) ∷ marks deep b) h).0 in
@@ -206,5 +208,6 @@ stands_looser (numeral p b) j k le h = tt
 stands_looser (named p b) j k le h = tt
 stands_looser (grouped p e q) j k le h = h
 stands_looser (prefixed p op e) j k le h = h
-stands_looser (joined a p op b) j k le h = (omega (arith, h.0, le), h.1, h.2)
-stands_looser (chosen c p a q b) j k le h = (omega (arith, h.0, le), h.1, h.2, h.3)
+stands_looser (joined a p op b) j k le h = (omega (arith, h.0, le), h.1, h.2, h.3)
+stands_looser (chosen c p a q b) j k le h = (omega (arith, h.0, le), h.1, h.2, h.3, h.4)
+stands_looser (unfolded p i q e) j k le h = h

@@ -9,8 +9,8 @@ use Rattle.vx_ast.specs.declared.BinaryOperator.TheVariants.{Implies}
 use Rattle.vx_tokens.specs.Tokens.{Token, Kind, name, number, word, symbol}
 use Rattle.vx_ast.specs.Written.{Expr, Exprs, NoMore, Amount, All, Truth, Number, Null, Whole, Nothing, Variable, Call, Unary, Binary, Choice, Old, Access, Right, NewAll, New}
 use Rattle.vx_ast.specs.Written as written
-use Rattle.vx_grammar.specs.Grammar.{level_of, operator_of}
-use Rattle.vx_grammar.specs.Reading.{◌>>=◌, Read, Unexpected, Deeper, is_symbol, Part, Given, choice, implication, chain, rest_of_chain, behind_dot, arguments, access, allocation, name_at, expect, enclosed, call_by, named_by, old_by, access_by, primary_by, dots_at, dotted_at, postfix_by, unary_by, unary_at, run, argument_turn, some_arguments, arguments_at, amount_by, amount_at, access_at, name_turn, fields_at, allocation_by, allocation_at, operator_by, rest_by, rest_at, chain_at, implies_by, implied_by, implication_at, second_by, sides_by, chosen_by, choice_at, part_at, below}
+use Rattle.vx_grammar.specs.Grammar.{level_of, operator_of, Instance}
+use Rattle.vx_grammar.specs.Reading.{◌>>=◌, Read, Unexpected, Deeper, is_symbol, Part, Given, choice, implication, chain, rest_of_chain, behind_dot, arguments, access, holding, allocation, name_at, expect, enclosed, call_by, named_by, old_by, access_by, primary_by, dots_at, dotted_at, postfix_by, unary_by, unary_at, run, argument_turn, some_arguments, arguments_at, amount_by, amount_at, access_at, bare_by, instance_by, instance_at, begins_body, behind_in, unfolding_by, holding_at, name_turn, fields_at, allocation_by, allocation_at, operator_by, rest_by, rest_at, chain_at, implies_by, implied_by, implication_at, second_by, sides_by, chosen_by, choice_at, part_at, below}
 use Rattle.vx_grammar.proofs.Local.{Local, local_ok, local_unexpected, local_end, local_end_unexpected, local_return, local_token, local_then, local_same, Front}
 use Rattle.vx_grammar.proofs.LocalParts.{name_local, bracket_local}
 use Rattle.vx_grammar.proofs.Tells.{Tells}
@@ -103,10 +103,42 @@ postfix_local : (d d' : Deeper) (t : Token) (k : Kind) (ts : List Token) → t.k
 unfolding postfix_by primary_at
 postfix_local d d' t k ts e same h = local_from_first t ts (primary_by d t k ts) (primary_at d') (unary_at d') (λ x. dots_at d t.place x.0 x.1) (λ x. dots_at d' t.place x.0 x.1) same (primary_local d d' t k ts e h) (λ x mid. dots_local d d' t.place x mid h)
 
+bare_local : (d d' : Deeper) (x : List ℕ) (ts : List Token) → LocalDeeper d d' → Local ts (bare_by d x ts) (bare_by d' x)
+unfolding bare_by
+bare_local d d' x ts h = local_then ts (enclosed d arguments ts) (enclosed d' arguments) _ _ (enclosed_local d d' arguments ts h) (λ es us. local_return us _)
+
+instance_by_local : (d d' : Deeper) (t : Token) (k : Kind) (ts : List Token) → t.kind ≡ k → LocalDeeper d d' → Local (t ∷ ts) (instance_by d t k ts) (instance_at d')
+unfolding instance_at
+instance_by_local d d' t (name x) ts e h = local_token t ts (bare_by d x ts) (bare_by d' x) (instance_at d') (λ l. rw e refl) (bare_local d d' x ts h)
+instance_by_local d d' t (word words.Acc) ts e h = local_token t ts (enclosed d holding ts) (enclosed d' holding) (instance_at d') (λ l. rw e refl) (enclosed_local d d' holding ts h)
+instance_by_local d d' t k ts e h = local_unexpected t ts (instance_at d') (λ more. rw e refl)
+
+instance_local : (d d' : Deeper) (ts : List Token) → LocalDeeper d d' → Local ts (instance_at d ts) (instance_at d')
+unfolding instance_at
+instance_local d d' [] h = local_end_unexpected (instance_at d') refl
+instance_local d d' (t ∷ ts) h = instance_by_local d d' t t.kind ts refl h
+
+behind_in_by_local : (d d' : Deeper) (t : Token) (ts : List Token) (b : Bool) → begins_body t.kind ≡ b → LocalDeeper d d' → Local (t ∷ ts) (cond b (d choice (t ∷ ts) ts) (Err (Unexpected (t ∷ ts)))) (behind_in d')
+unfolding behind_in LocalDeeper
+behind_in_by_local d d' t ts true e h = local_token t ts (d choice (t ∷ ts) ts) (λ l. d' choice (t ∷ l) l) (behind_in d') (λ l. rw e refl) (h choice (t ∷ ts) ts (λ l. t ∷ l))
+behind_in_by_local d d' t ts false e h = local_unexpected t ts (behind_in d') (λ more. rw e refl)
+
+behind_in_local : (d d' : Deeper) (ts : List Token) → LocalDeeper d d' → Local ts (behind_in d ts) (behind_in d')
+unfolding behind_in
+behind_in_local d d' [] h = local_end_unexpected (behind_in d') refl
+behind_in_local d d' (t ∷ ts) h = behind_in_by_local d d' t ts (begins_body t.kind) refl h
+
+unfolding_local : (d d' : Deeper) (t : Token) (ts : List Token) → LocalDeeper d d' → Local ts (unfolding_by d t ts) (unfolding_by d' t)
+unfolding unfolding_by
+unfolding_local d d' t ts h =
+    local_then ts (instance_at d ts) (instance_at d') _ _ (instance_local d d' ts h) (λ i us.
+    local_then us (behind_in d us) (behind_in d') _ _ (behind_in_local d d' us h) (λ e vs. local_return vs _))
+
 unary_by_local : (d d' : Deeper) (t : Token) (k : Kind) (ts : List Token) → t.kind ≡ k → LocalDeeper d d' → Local (t ∷ ts) (unary_by d t k ts) (unary_at d')
 unfolding unary_by unary_at
 unary_by_local d d' t (symbol signs.Not) ts e h = local_token t ts (d (chain 0) (t ∷ ts) ts >>= λ x. Ok (Unary t.place Not x.0, x.1)) (λ l. d' (chain 0) (t ∷ l) l >>= λ x. Ok (Unary t.place Not x.0, x.1)) (unary_at d') (λ l. rw e refl) (made_local d d' (chain 0) t ts (Unary t.place Not) h)
 unary_by_local d d' t (symbol signs.Minus) ts e h = local_token t ts (d (chain 0) (t ∷ ts) ts >>= λ x. Ok (Unary t.place Negate x.0, x.1)) (λ l. d' (chain 0) (t ∷ l) l >>= λ x. Ok (Unary t.place Negate x.0, x.1)) (unary_at d') (λ l. rw e refl) (made_local d d' (chain 0) t ts (Unary t.place Negate) h)
+unary_by_local d d' t (word words.Unfolding) ts e h = local_token t ts (unfolding_by d t ts) (unfolding_by d' t) (unary_at d') (λ l. rw e refl) (unfolding_local d d' t ts h)
 unary_by_local d d' t k ts e h = postfix_local d d' t k ts e (λ l. rw e refl) h
 
 unary_local : (d d' : Deeper) (ts : List Token) → LocalDeeper d d' → Local ts (unary_at d ts) (unary_at d')
@@ -292,6 +324,15 @@ access_local d d' ts h =
     local_then ts (choice_at d ts) (choice_at d') _ _ (choice_local d d' ts h) (λ x us.
     local_then us (amount_at d us) (amount_at d') _ _ (amount_local d d' us h) (λ a vs. local_return vs _))
 
+-- ---- instances
+
+holding_local : (d d' : Deeper) (ts : List Token) → LocalDeeper d d' → Local ts (holding_at d ts) (holding_at d')
+unfolding holding_at
+holding_local d d' ts h =
+    local_then ts (name_at ts) name_at _ _ (name_local ts) (λ x us.
+    local_then us (enclosed d arguments us) (enclosed d' arguments) _ _ (enclosed_local d d' arguments us h) (λ es vs.
+    local_then vs (amount_at d vs) (amount_at d') _ _ (amount_local d d' vs h) (λ a ws. local_return ws _)))
+
 -- ---- names, and the fields of `new`
 
 name_by_comma : (before : List (List ℕ)) (t : Token) (ts : List Token) (b : Bool) → is_symbol signs.Comma t.kind ≡ b → Local (t ∷ ts) (cond b (name_at ts >>= λ x. Ok (Some (before ++ x.0 ∷ []), x.1)) (Ok (None, t ∷ ts))) (name_turn before)
@@ -336,6 +377,7 @@ part_local d d' (rest_of_chain k start left) ts h = rest_local d d' k start left
 part_local d d' (behind_dot start left) ts h = dotted_local d d' start left ts h
 part_local d d' arguments ts h = arguments_local d d' ts h
 part_local d d' access ts h = access_local d d' ts h
+part_local d d' holding ts h = holding_local d d' ts h
 part_local d d' allocation ts h = allocation_local ts
 
 -- with as much room, or more
@@ -358,3 +400,7 @@ nested_local room more p here ts heres = below_local room more p here ts heres
 pub operand_local : (room more : ℕ) (t : Token) (x : List ℕ) (ts : List Token) → t.kind ≡ name x → Local (t ∷ ts) (postfix_by (below room) t (name x) ts) (unary_at (below (room + more)))
 unfolding unary_at unary_by
 operand_local room more t x ts e = postfix_local (below room) (below (room + more)) t (name x) ts e (λ l. rw e refl) (below_local room more)
+
+-- an instance, with as much room, or more
+pub instance_reading_local : (room more : ℕ) (ts : List Token) → Local ts (instance_at (below room) ts) (instance_at (below (room + more)))
+instance_reading_local room more ts = instance_local (below room) (below (room + more)) ts (below_local room more)

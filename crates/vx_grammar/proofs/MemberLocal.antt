@@ -7,16 +7,16 @@ use Rattle.vx_tokens.specs.declared.token.Symbol.TheVariants as signs
 use Rattle.vx_tokens.specs.declared.token.Word.TheVariants as words
 use Rattle.vx_tokens.specs.Tokens.{Token, Kind, word}
 use Rattle.vx_grammar.specs.Grammar.{Mark}
-use Rattle.vx_grammar.specs.Reading.{◌>>=◌, Read, Unexpected, TooDeep, is_symbol, choice_at, below, name_at}
+use Rattle.vx_grammar.specs.Reading.{◌>>=◌, Read, Unexpected, TooDeep, is_symbol, choice, choice_at, below, name_at}
 use Rattle.vx_grammar.specs.StmtReading.{clause_at, declaration_at, block_at, stmts_below, skip_semicolon}
-use Rattle.vx_grammar.specs.MemberReading.{limit, Clauses, no_clauses, with_requires, with_ensures, begins_requires, begins_ensures, clause_turn, clauses_at, method_at, field_at, member_by, member_at, declaration_turn, declarations_at, inner_parameters_at, parameters_at, begins_returns, returns_at}
+use Rattle.vx_grammar.specs.MemberReading.{limit, Clauses, no_clauses, with_requires, with_ensures, begins_requires, begins_ensures, clause_turn, clauses_at, begins_braces, braced_at, some_braced, given_at, predicate_at, some_block, body_at, method_at, field_at, member_by, member_at, declaration_turn, declarations_at, inner_parameters_at, parameters_at, begins_returns, returns_at}
 use Rattle.vx_grammar.proofs.Tells.{Tells}
 use Rattle.vx_grammar.proofs.Steps.{TurnFor}
 use Rattle.vx_grammar.proofs.MemberTold.{DeclarationStep, turn_tells}
 use Rattle.vx_grammar.proofs.MethodTold.{ClauseStep, clause_turn_tells}
 use Rattle.vx_grammar.proofs.Local.{Local, local_ok, local_end, local_end_unexpected, local_return, local_token, local_then, local_same}
 use Rattle.vx_grammar.proofs.RunLocal.{Turns, run_local, taken_short, taken_none}
-use Rattle.vx_grammar.proofs.LocalExpr.{reading_local}
+use Rattle.vx_grammar.proofs.LocalExpr.{reading_local, nested_local}
 use Rattle.vx_grammar.proofs.StmtLocal.{declaration_local, block_reading_local}
 use Rattle.vx_grammar.proofs.LocalParts.{name_local, bracket_local}
 
@@ -134,7 +134,48 @@ clauses_local : (more : ℕ) (ts : List Token) → Local ts (clauses_at limit ts
 unfolding clauses_at
 clauses_local more ts = run_local (clause_turn limit) (clause_turn (limit + more)) (clause_turns more) no_clauses ts
 
--- ---- methods
+-- ---- bodies
+
+braced_local : (more : ℕ) (ts : List Token) → Local ts (braced_at limit ts) (braced_at (limit + more))
+unfolding braced_at
+braced_local more ts = bracket_local signs.OpenBrace signs.CloseBrace (λ here us. below limit choice here us) (λ here us. below (limit + more) choice here us) (λ here us heres. nested_local limit more choice here us heres) ts
+
+some_braced_local : (more : ℕ) (ts : List Token) → Local ts (some_braced limit ts) (some_braced (limit + more))
+unfolding some_braced
+some_braced_local more ts = local_then ts (braced_at limit ts) (braced_at (limit + more)) _ _ (braced_local more ts) (λ e us. local_return us _)
+
+some_block_local : (more : ℕ) (ts : List Token) → Local ts (some_block limit ts) (some_block (limit + more))
+unfolding some_block
+some_block_local more ts = local_then ts (block_at (stmts_below limit) ts) (block_at (stmts_below (limit + more))) _ _ (block_reading_local limit more ts) (λ b us. local_return us _)
+
+given_by_local : (more : ℕ) (t : Token) (ts : List Token) (b : Bool) → is_symbol signs.OpenBrace t.kind ≡ b → Local (t ∷ ts) (cond b (some_braced limit (t ∷ ts)) (Ok (None, t ∷ ts))) (given_at (limit + more))
+unfolding given_at
+given_by_local more t ts true e = local_same t ts (some_braced limit (t ∷ ts)) (some_braced (limit + more)) (given_at (limit + more)) (λ l. rw e refl) (some_braced_local more (t ∷ ts))
+given_by_local more t ts false e = local_ok t ts None (given_at (limit + more)) (λ l. rw e refl)
+
+given_local : (more : ℕ) (ts : List Token) → Local ts (given_at limit ts) (given_at (limit + more))
+unfolding given_at
+given_local more [] = local_end None (given_at (limit + more)) refl
+given_local more (t ∷ ts) = given_by_local more t ts (is_symbol signs.OpenBrace t.kind) refl
+
+body_by_local : (more : ℕ) (t : Token) (ts : List Token) (b : Bool) → is_symbol signs.OpenBrace t.kind ≡ b → Local (t ∷ ts) (cond b (some_block limit (t ∷ ts)) (Ok (None, t ∷ ts))) (body_at (limit + more))
+unfolding body_at
+body_by_local more t ts true e = local_same t ts (some_block limit (t ∷ ts)) (some_block (limit + more)) (body_at (limit + more)) (λ l. rw e refl) (some_block_local more (t ∷ ts))
+body_by_local more t ts false e = local_ok t ts None (body_at (limit + more)) (λ l. rw e refl)
+
+body_local : (more : ℕ) (ts : List Token) → Local ts (body_at limit ts) (body_at (limit + more))
+unfolding body_at
+body_local more [] = local_end None (body_at (limit + more)) refl
+body_local more (t ∷ ts) = body_by_local more t ts (is_symbol signs.OpenBrace t.kind) refl
+
+-- ---- predicates and methods
+
+predicate_local : (more : ℕ) (place : Place) (ts : List Token) → Local ts (predicate_at limit place ts) (predicate_at (limit + more) place)
+unfolding predicate_at
+predicate_local more place ts =
+    local_then ts (name_at ts) name_at _ _ (name_local ts) (λ x us.
+    local_then us (parameters_at us) parameters_at _ _ (parameters_local us) (λ ps vs.
+    local_then vs (given_at limit vs) (given_at (limit + more)) _ _ (given_local more vs) (λ b ws. local_return ws _)))
 
 method_local : (more : ℕ) (place : Place) (ts : List Token) → Local ts (method_at limit place ts) (method_at (limit + more) place)
 unfolding method_at
@@ -143,7 +184,7 @@ method_local more place ts =
     local_then us (parameters_at us) parameters_at _ _ (parameters_local us) (λ ps vs.
     local_then vs (returns_at vs) returns_at _ _ (returns_local vs) (λ rs ws.
     local_then ws (clauses_at limit ws) (clauses_at (limit + more)) _ _ (clauses_local more ws) (λ c xs.
-    local_then xs (block_at (stmts_below limit) xs) (block_at (stmts_below (limit + more))) _ _ (block_reading_local limit more xs) (λ b ys. local_return ys _)))))
+    local_then xs (body_at limit xs) (body_at (limit + more)) _ _ (body_local more xs) (λ b ys. local_return ys _)))))
 
 -- ---- members
 
@@ -156,6 +197,7 @@ nothing_local ts = record { front = []; is = refl; repeats = λ next same. refl 
 
 member_by_local : (more : ℕ) (place : Place) (k : Kind) (ts : List Token) → Local ts (member_by limit place k ts) (member_by (limit + more) place k)
 member_by_local more place (word words.Field) ts = field_local place ts
+member_by_local more place (word words.Predicate) ts = predicate_local more place ts
 member_by_local more place (word words.Method) ts = method_local more place ts
 member_by_local more place k ts = nothing_local ts
 

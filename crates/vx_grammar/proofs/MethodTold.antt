@@ -9,19 +9,18 @@ use Rattle.vx_tokens.specs.declared.token.Word.TheVariants as words
 use Rattle.vx_tokens.specs.declared.token.Symbol.TheVariants as signs
 use Rattle.vx_tokens.specs.Tokens.{Token, Kind, name, word, symbol}
 use Rattle.vx_grammar.specs.Grammar.{Phrase, Mark, mark, marks, meant, StandsAt}
-use Rattle.vx_grammar.specs.Statements.{semi_marks, block_marks}
-use Rattle.vx_grammar.specs.Programs.{ClausesPhrase, no_clauses, requires, ensures, requires_meant, ensures_meant, StandsClauses, clauses_marks, MethodPhrase, method_meant, StandsMethod, method_marks, parameters_marks, returns_marks}
+use Rattle.vx_grammar.specs.Statements.{semi_marks}
+use Rattle.vx_grammar.specs.Programs.{body_marks, ClausesPhrase, no_clauses, requires, ensures, requires_meant, ensures_meant, StandsClauses, clauses_marks, MethodPhrase, method_meant, StandsMethod, method_marks, parameters_marks, returns_marks}
 use Rattle.vx_grammar.specs.Reading.{◌>>=◌, TooDeep, is_symbol, choice_at, below, name_at, exprs_from}
-use Rattle.vx_grammar.specs.StmtReading.{clause_at, skip_semicolon, block_at, stmts_below}
+use Rattle.vx_grammar.specs.StmtReading.{clause_at, skip_semicolon}
 use Rattle.vx_grammar.specs.MemberReading as reading
-use Rattle.vx_grammar.specs.MemberReading.{Clauses, with_requires, with_ensures, begins_requires, begins_ensures, clause_turn, clauses_at, limit, method_of, method_at, parameters_at, returns_at}
+use Rattle.vx_grammar.specs.MemberReading.{Clauses, with_requires, with_ensures, begins_requires, begins_ensures, clause_turn, clauses_at, limit, method_of, method_at, parameters_at, returns_at, body_at}
 use Rattle.vx_grammar.proofs.Symbols.{is_symbol_true}
 use Rattle.vx_grammar.proofs.Tells.{Grammar, Starts, Tells, takes_none, tells_as, tells_here, tells_token, marks_is, NameFor, name_tells}
 use Rattle.vx_grammar.proofs.Sequence.{Sequence, Nothing, tells_sequence, starts_sequence, starts_nothing, tells_nothing}
 use Rattle.vx_grammar.proofs.Bracketed.{Nested, led_tells}
 use Rattle.vx_grammar.proofs.Means.{reading_tells}
-use Rattle.vx_grammar.proofs.StmtFor.{BlockFor, starts_block}
-use Rattle.vx_grammar.proofs.StmtTold.{block_reading_tells}
+use Rattle.vx_grammar.proofs.BodiesTold.{BodyFor, body_tells, starts_body}
 use Rattle.vx_grammar.proofs.Steps.{Step, TurnFor, StepsBy, StepsFor, run_tells}
 use Rattle.vx_grammar.proofs.MemberTold.{ParametersFor, parameters_tells, starts_parameters, ReturnsFor, returns_tells, starts_returns}
 use Rattle.vx_grammar.proofs.PhraseFor.{PhraseFor, starts_any}
@@ -228,7 +227,7 @@ pub record MethodFor (m : Member) (ms : List Mark) : Type 0 where
   pub spelled : method_marks phrase ≡ ms
 
 abbrev MethodParts : Place → Grammar Member
-MethodParts place = Sequence (NameFor 0) (λ x. Sequence (ParametersFor 0) (λ ps. Sequence (ReturnsFor 0) (λ rs. Sequence ClausesFor (λ c. Sequence (BlockFor 0) (λ b. Nothing (method_of place x ps rs c b))))))
+MethodParts place = Sequence (NameFor 0) (λ x. Sequence (ParametersFor 0) (λ ps. Sequence (ReturnsFor 0) (λ rs. Sequence ClausesFor (λ c. Sequence BodyFor (λ b. Nothing (method_of place x ps rs c b))))))
 
 method_parts_of : (t : Token) → t.kind ≡ word words.Method → (m : Member) (ms inner : List Mark) → (let k : Mark = record { token = t; count = 0 } in ms ≡ k ∷ inner) → MethodParts t.place m inner → MethodFor m ms
 method_parts_of t k m ms inner is (x, a, a', q, (p, z), (ps, b, b', q', g, (rs, c, c', q'', h, (cl, d, d', q3, i, (bl, e, e', q4, j, (v, y)))))) = record {
@@ -241,7 +240,7 @@ method_parts_of t k m ms inner is (x, a, a', q, (p, z), (ps, b, b', q', g, (rs, 
     means : method_meant (record { at = t.place; name_at = p; text = x; parameters = g.phrase; returns = h.phrase; clauses = i.phrase; body = j.phrase }) ≡ method_of t.place x ps rs cl bl
     means = rw (g.means, h.means, i.requires_are, i.ensures_are, j.means) refl
 
-    all : inner ≡ mark 0 p (name x) ∷ (parameters_marks 0 g.phrase ++ (returns_marks 0 h.phrase ++ (clauses_marks 0 0 i.phrase ++ block_marks 0 j.phrase)))
+    all : inner ≡ mark 0 p (name x) ∷ (parameters_marks 0 g.phrase ++ (returns_marks 0 h.phrase ++ (clauses_marks 0 0 i.phrase ++ body_marks j.phrase)))
     all =
         q ∙ ap (λ l. l ++ a') z
         ∙ ap (λ l. mark 0 p (name x) ∷ l) (q' ∙ ap (λ l. l ++ b') (sym g.spelled)
@@ -252,16 +251,16 @@ method_parts_of t k m ms inner is (x, a, a', q, (p, z), (ps, b, b', q', g, (rs, 
 method_of_led : (t : Token) → t.kind ≡ word words.Method → (m : Member) (ms : List Mark) → Nested (record { token = t; count = 0 }) (MethodParts t.place) m ms → MethodFor m ms
 method_of_led t k m ms h = method_parts_of t k m ms h.inner h.is h.spelled
 
-starts_body : (place : Place) (x : List ℕ) (ps rs : List Declaration) (c : Clauses) → Starts (Sequence (BlockFor 0) (λ b. Nothing (method_of place x ps rs c b))) []
-starts_body place x ps rs c = starts_sequence (BlockFor 0) _ (starts_block 0) (λ b. starts_nothing _)
+starts_with_body : (place : Place) (x : List ℕ) (ps rs : List Declaration) (c : Clauses) → Starts (Sequence BodyFor (λ b. Nothing (method_of place x ps rs c b))) []
+starts_with_body place x ps rs c = starts_sequence BodyFor _ starts_body (λ b. starts_nothing _)
 
-starts_contract : (place : Place) (x : List ℕ) (ps rs : List Declaration) → Starts (Sequence ClausesFor (λ c. Sequence (BlockFor 0) (λ b. Nothing (method_of place x ps rs c b)))) []
-starts_contract place x ps rs = starts_sequence ClausesFor _ starts_clauses (λ c. starts_body place x ps rs c)
+starts_contract : (place : Place) (x : List ℕ) (ps rs : List Declaration) → Starts (Sequence ClausesFor (λ c. Sequence BodyFor (λ b. Nothing (method_of place x ps rs c b)))) []
+starts_contract place x ps rs = starts_sequence ClausesFor _ starts_clauses (λ c. starts_with_body place x ps rs c)
 
-starts_rest : (place : Place) (x : List ℕ) (ps : List Declaration) → Starts (Sequence (ReturnsFor 0) (λ rs. Sequence ClausesFor (λ c. Sequence (BlockFor 0) (λ b. Nothing (method_of place x ps rs c b))))) []
+starts_rest : (place : Place) (x : List ℕ) (ps : List Declaration) → Starts (Sequence (ReturnsFor 0) (λ rs. Sequence ClausesFor (λ c. Sequence BodyFor (λ b. Nothing (method_of place x ps rs c b))))) []
 starts_rest place x ps = starts_sequence (ReturnsFor 0) _ (starts_returns 0) (λ rs. starts_contract place x ps rs)
 
-starts_header : (place : Place) (x : List ℕ) → Starts (Sequence (ParametersFor 0) (λ ps. Sequence (ReturnsFor 0) (λ rs. Sequence ClausesFor (λ c. Sequence (BlockFor 0) (λ b. Nothing (method_of place x ps rs c b)))))) []
+starts_header : (place : Place) (x : List ℕ) → Starts (Sequence (ParametersFor 0) (λ ps. Sequence (ReturnsFor 0) (λ rs. Sequence ClausesFor (λ c. Sequence BodyFor (λ b. Nothing (method_of place x ps rs c b)))))) []
 starts_header place x = starts_sequence (ParametersFor 0) _ (starts_parameters 0) (λ ps. starts_rest place x ps)
 
 parts_tells : (place : Place) (ts : List Token) → Tells (MethodParts place) limit ts (method_at limit place ts)
@@ -270,8 +269,8 @@ parts_tells place ts =
     tells_sequence (NameFor 0) _ limit ts (name_at ts) _ (λ x. starts_header place x) (name_tells limit 0 ts (omega arith))
     (λ x us. tells_sequence (ParametersFor 0) _ limit us (parameters_at us) _ (λ ps. starts_rest place x ps) (parameters_tells limit 0 us (omega arith))
     (λ ps vs. tells_sequence (ReturnsFor 0) _ limit vs (returns_at vs) _ (λ rs. starts_contract place x ps rs) (returns_tells limit 0 vs (omega arith))
-    (λ rs ws. tells_sequence ClausesFor _ limit ws (clauses_at limit ws) _ (λ c. starts_body place x ps rs c) (clauses_tells ws)
-    (λ c xs. tells_sequence (BlockFor 0) _ limit xs (block_at (stmts_below limit) xs) _ (λ b. starts_nothing _) (block_reading_tells limit 0 limit xs (omega arith))
+    (λ rs ws. tells_sequence ClausesFor _ limit ws (clauses_at limit ws) _ (λ c. starts_with_body place x ps rs c) (clauses_tells ws)
+    (λ c xs. tells_sequence BodyFor _ limit xs (body_at limit xs) _ (λ b. starts_nothing _) (body_tells xs)
     (λ b ys. tells_nothing limit ys _)))))
 
 -- a method that begins with this token

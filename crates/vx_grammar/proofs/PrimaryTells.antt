@@ -31,7 +31,7 @@ pub record AmountFor (n : ℕ) (a : Amount) (ms : List Mark) : Type 0 where
 no_amount_for : (n : ℕ) → AmountFor n All []
 no_amount_for n = record { phrase = no_amount; stands = tt; means = refl; spelled = refl }
 
-starts_amount : (n : ℕ) → Starts (AmountFor n) []
+pub starts_amount : (n : ℕ) → Starts (AmountFor n) []
 starts_amount n = record { value = All; more = []; spelled = no_amount_for n }
 
 abbrev AmountParts : ℕ → Grammar Amount
@@ -55,7 +55,7 @@ amount_by_tells limit n room t ts true h e told =
     (led_tells (AmountParts n) limit n t ts _ (omega (arith, e)) (tells_sequence (PhraseFor n 8) _ limit ts (choice_at (below room) ts) _ (λ x. starts_nothing _) (told n e ts) (λ x us. tells_nothing limit us _)))
 amount_by_tells limit n room t ts false h e told = tells_here (AmountFor n) limit (t ∷ ts) All (no_amount_for n)
 
-amount_tells : (limit n room : ℕ) (ts : List Token) → n + room ≡ limit → ChoiceTells limit room → Tells (AmountFor n) limit ts (amount_at (below room) ts)
+pub amount_tells : (limit n room : ℕ) (ts : List Token) → n + room ≡ limit → ChoiceTells limit room → Tells (AmountFor n) limit ts (amount_at (below room) ts)
 unfolding amount_at
 amount_tells limit n room [] e told = tells_here (AmountFor n) limit [] All (no_amount_for n)
 amount_tells limit n room (t ∷ ts) e told = amount_by_tells limit n room t ts (is_symbol signs.Comma t.kind) refl e told
@@ -198,30 +198,30 @@ leaf_tells : (limit n : ℕ) (t : Token) (ts : List Token) (k : Kind) (w : Phras
 leaf_tells limit n t ts k w le e is zero_dots st ms = tells_token (PrimaryFor n) limit (record { token = t; count = n }) ts (meant w) le (record { phrase = w; is = is; undotted = zero_dots; stands = st; means = refl; spelled = ms ∙ marks_is t k n [] e })
 
 -- a token, a part between parentheses, and what is made of it
-made_of : (p : Part) (n : ℕ) (R : Grammar (Given p)) (t : Token) (f : Given p → Expr) → ((y : Given p) (inner : List Mark) → Bracketed n signs.Open signs.Close R y inner → (let m : Mark = record { token = t; count = n } in PrimaryFor n (f y) (m ∷ inner)))
-    → (e : Expr) (ms : List Mark) → Nested (record { token = t; count = n }) (Sequence (Bracketed n signs.Open signs.Close R) (λ y. Nothing (f y))) e ms → PrimaryFor n e ms
-made_of p n R t f build e ms h = by_parts h.inner h.is h.spelled
+made_of : {A : Type 0} (S : Grammar A) (p : Part) (n : ℕ) (R : Grammar (Given p)) (t : Token) (f : Given p → A) → ((y : Given p) (inner : List Mark) → Bracketed n signs.Open signs.Close R y inner → (let m : Mark = record { token = t; count = n } in S (f y) (m ∷ inner)))
+    → (e : A) (ms : List Mark) → Nested (record { token = t; count = n }) (Sequence (Bracketed n signs.Open signs.Close R) (λ y. Nothing (f y))) e ms → S e ms
+made_of S p n R t f build e ms h = by_parts h.inner h.is h.spelled
   where
-    by_parts : (inner : List Mark) → (let m : Mark = record { token = t; count = n } in ms ≡ m ∷ inner) → Sequence (Bracketed n signs.Open signs.Close R) (λ y. Nothing (f y)) e inner → PrimaryFor n e ms
+    by_parts : (inner : List Mark) → (let m : Mark = record { token = t; count = n } in ms ≡ m ∷ inner) → Sequence (Bracketed n signs.Open signs.Close R) (λ y. Nothing (f y)) e inner → S e ms
     by_parts inner is (y, a, b, q, r, (v, z)) =
         let same : inner ≡ a = q ∙ rw z (append-nil a) in
-        subst (λ l. PrimaryFor n e l) (sym (is ∙ ap (λ l. let m : Mark = record { token = t; count = n } in m ∷ l) same)) (subst (λ x. let m : Mark = record { token = t; count = n } in PrimaryFor n x (m ∷ a)) (sym v) (build y a r))
+        subst (λ l. S e l) (sym (is ∙ ap (λ l. let m : Mark = record { token = t; count = n } in m ∷ l) same)) (subst (λ x. let m : Mark = record { token = t; count = n } in S x (m ∷ a)) (sym v) (build y a r))
 
-made_tells : (p : Part) (R : Grammar (Given p)) (limit n room : ℕ) (t : Token) (ts : List Token) (f : Given p → Expr) → n + room ≡ limit → Starts R [] → ((less : ℕ) → room ≡ less + 1 → (us : List Token) → Tells R limit us (part_at (below less) p us))
-    → ((y : Given p) (inner : List Mark) → Bracketed n signs.Open signs.Close R y inner → (let m : Mark = record { token = t; count = n } in PrimaryFor n (f y) (m ∷ inner)))
-    → Tells (PrimaryFor n) limit (t ∷ ts) (enclosed (below room) p ts >>= λ y. Ok (f y.0, y.1))
-made_tells p R limit n room t ts f e s h build =
-    tells_as (Nested (record { token = t; count = n }) (Sequence (Bracketed n signs.Open signs.Close R) (λ y. Nothing (f y)))) (PrimaryFor n) limit (t ∷ ts) _ (made_of p n R t f build)
+pub made_tells : {A : Type 0} (S : Grammar A) (p : Part) (R : Grammar (Given p)) (limit n room : ℕ) (t : Token) (ts : List Token) (f : Given p → A) → n + room ≡ limit → Starts R [] → ((less : ℕ) → room ≡ less + 1 → (us : List Token) → Tells R limit us (part_at (below less) p us))
+    → ((y : Given p) (inner : List Mark) → Bracketed n signs.Open signs.Close R y inner → (let m : Mark = record { token = t; count = n } in S (f y) (m ∷ inner)))
+    → Tells S limit (t ∷ ts) (enclosed (below room) p ts >>= λ y. Ok (f y.0, y.1))
+made_tells S p R limit n room t ts f e s h build =
+    tells_as (Nested (record { token = t; count = n }) (Sequence (Bracketed n signs.Open signs.Close R) (λ y. Nothing (f y)))) S limit (t ∷ ts) _ (made_of S p n R t f build)
     (led_tells (Sequence (Bracketed n signs.Open signs.Close R) (λ y. Nothing (f y))) limit n t ts _ (omega (arith, e))
     (tells_sequence (Bracketed n signs.Open signs.Close R) _ limit ts (enclosed (below room) p ts) _ (λ y. starts_nothing _) (enclosed_tells p R limit n room ts e s h) (λ y us. tells_nothing limit us _)))
 
-abbrev ToldInside : (limit room : ℕ) → Type 0
+abbrev pub ToldInside : (limit room : ℕ) → Type 0
 ToldInside limit room = (less : ℕ) → room ≡ less + 1 → ChoiceTells limit less
 
 call_tells : (limit n room : ℕ) (t : Token) (x : List ℕ) (ts : List Token) → n + room ≡ limit → ToldInside limit room → t.kind ≡ name x → Tells (PrimaryFor n) limit (t ∷ ts) (call_by (below room) t x ts)
 unfolding call_by
 call_tells limit n room t x ts e told k =
-    made_tells arguments (ArgumentsFor (n + 1)) limit n room t ts (Call t.place x) e (starts_arguments (n + 1)) (λ less s us. arguments_tells limit (n + 1) less us (count_down limit n room less e s) (told less s))
+    made_tells (PrimaryFor n) arguments (ArgumentsFor (n + 1)) limit n room t ts (Call t.place x) e (starts_arguments (n + 1)) (λ less s us. arguments_tells limit (n + 1) less us (count_down limit n room less e s) (told less s))
     (λ y inner b. record {
       phrase = called t.place x b.from b.spelled.phrase b.to;
       is = tt;
@@ -243,7 +243,7 @@ named_tells limit n room t x (u ∷ us) e told k = named_by_tells limit n room t
 old_tells : (limit n room : ℕ) (t : Token) (ts : List Token) → n + room ≡ limit → ToldInside limit room → t.kind ≡ word words.Old → Tells (PrimaryFor n) limit (t ∷ ts) (old_by (below room) t ts)
 unfolding old_by
 old_tells limit n room t ts e told k =
-    made_tells choice (PhraseFor (n + 1) 8) limit n room t ts (Old t.place) e (starts_any (n + 1) 8) (λ less s us. told less s (n + 1) (count_down limit n room less e s) us)
+    made_tells (PrimaryFor n) choice (PhraseFor (n + 1) 8) limit n room t ts (Old t.place) e (starts_any (n + 1) 8) (λ less s us. told less s (n + 1) (count_down limit n room less e s) us)
     (λ y inner b. record {
       phrase = past t.place b.from b.spelled.phrase b.to;
       is = tt;
@@ -271,7 +271,7 @@ accessed_for n t k y inner b = by_parts b.from b.to b.inner b.is b.spelled
 access_by_tells : (limit n room : ℕ) (t : Token) (ts : List Token) → n + room ≡ limit → ToldInside limit room → t.kind ≡ word words.Acc → Tells (PrimaryFor n) limit (t ∷ ts) (access_by (below room) t ts)
 unfolding access_by
 access_by_tells limit n room t ts e told k =
-    made_tells access (AccessFor (n + 1)) limit n room t ts (λ y. Access t.place y.0 y.1) e (starts_access (n + 1)) (λ less s us. access_tells limit (n + 1) less us (count_down limit n room less e s) (told less s)) (accessed_for n t k)
+    made_tells (PrimaryFor n) access (AccessFor (n + 1)) limit n room t ts (λ y. Access t.place y.0 y.1) e (starts_access (n + 1)) (λ less s us. access_tells limit (n + 1) less us (count_down limit n room less e s) (told less s)) (accessed_for n t k)
 
 grouped_tells : (limit n room : ℕ) (ts : List Token) → n + room ≡ limit → ToldInside limit room → Tells (PrimaryFor n) limit ts (enclosed (below room) choice ts)
 grouped_tells limit n room ts e told =

@@ -8,13 +8,14 @@ use Rattle.vx_tokens.specs.declared.token.Word.TheVariants as words
 use Rattle.vx_tokens.specs.Tokens.{Token, Kind, word}
 use Rattle.vx_grammar.specs.Grammar.{Mark, tokens_of}
 use Rattle.vx_grammar.specs.Statements.{semi_marks}
-use Rattle.vx_grammar.specs.Programs.{MemberPhrase, a_field, a_method, member_meant, StandsMember, member_marks, ProgramPhrase, no_members, member, program_meant, StandsProgram, program_marks}
+use Rattle.vx_grammar.specs.Programs.{MemberPhrase, a_field, a_predicate, a_method, member_meant, StandsMember, member_marks, ProgramPhrase, no_members, member, program_meant, StandsProgram, program_marks}
 use Rattle.vx_grammar.specs.Reading.{Read, Unexpected, TooDeep}
 use Rattle.vx_grammar.specs.StmtReading.{skip_semicolon, declaration_at}
 use Rattle.vx_grammar.specs.MemberReading.{Halt, no_member, too_many, begins_member, then_members, members_by, members_within, field_at, member_by, member_at, limit, max_members}
 use Rattle.vx_grammar.specs.Laws.{Within}
 use Rattle.vx_grammar.specs.ProgramLaws.{ProgramGoesOn, ProgramSays, ProgramsAreSpelled}
 use Rattle.vx_grammar.proofs.Tells.{Grammar, Starts, Takes, Tells, TellsOk, marks_is, takes_then, takes_none, tells_as}
+use Rattle.vx_grammar.proofs.BodiesTold.{PredicateFor, predicate_tells}
 use Rattle.vx_grammar.proofs.MethodTold.{SemiThen, semi_tells, MethodFor, method_tells}
 use Rattle.vx_grammar.proofs.Bracketed.{Nested, led_tells}
 use Rattle.vx_grammar.proofs.Sequence.{Sequence, Nothing, tells_sequence, starts_nothing, tells_nothing}
@@ -55,6 +56,7 @@ field_tells t ts k =
 
 member_by_tells : (t : Token) (k : Kind) (ts : List Token) → t.kind ≡ k → begins_member k ≡ true → Tells MemberFor limit (t ∷ ts) (member_by limit t.place k ts)
 member_by_tells t (word words.Field) ts k h = field_tells t ts k
+member_by_tells t (word words.Predicate) ts k h = tells_as PredicateFor MemberFor limit (t ∷ ts) _ (λ m ms r. record { phrase = a_predicate r.phrase; stands = r.stands; means = r.means; spelled = r.spelled }) (predicate_tells t ts k)
 member_by_tells t (word words.Method) ts k h = tells_as MethodFor MemberFor limit (t ∷ ts) _ (λ m ms r. record { phrase = a_method r.phrase; stands = r.stands; means = r.means; spelled = r.spelled }) (method_tells t ts k)
 member_by_tells t k ts e h = absurd cc
 

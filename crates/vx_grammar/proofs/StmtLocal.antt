@@ -5,13 +5,13 @@ use Rattle.vx_ast.specs.declared.Place.{Place}
 use Rattle.vx_ast.specs.declared.ValueType.TheVariants as types
 use Rattle.vx_ast.specs.Written.{Expr, Variable, Call, Declaration, Value, Stmt, Declare, Assign, Write, Done, Then}
 use Rattle.vx_ast.specs.Written as written
-use Rattle.vx_grammar.specs.Statements.{inhales, exhales, asserts, assumes, claim_meant}
+use Rattle.vx_grammar.specs.Statements.{inhales, exhales, asserts, assumes, claim_meant, Folding, folds, unfolds, folding_meant}
 use Rattle.vx_tokens.specs.declared.token.Word.TheVariants as words
 use Rattle.vx_tokens.specs.declared.token.Symbol.TheVariants as signs
 use Rattle.vx_tokens.specs.Tokens.{Token, Kind, name, word}
 use Rattle.vx_grammar.specs.Grammar.{tokens_of}
-use Rattle.vx_grammar.specs.Reading.{Part, allocation, arguments, run, name_turn, postfix_by, unary_by, unary_at, enclosed, ◌>>=◌, Read, Unexpected, TooDeep, expect, is_symbol, choice, choice_at, below, name_at}
-use Rattle.vx_grammar.specs.StmtReading.{skip_semicolon, clause_at, begins_invariant, invariant_turn, invariants_at, while_at, StmtPart, statements, elseif_part, StmtDeeper, stmt_part, stmts_below, type_by, type_at, declaration_at, block_at, otherwise_by, otherwise_at, branch_at, initial_by, initial_at, declare_at, begins_new, value_at, right_at, assign_one, invoke_at, assigned_by, assign_at, store_at, by_target, target_at, claim_at, stmt_by, stmt_at, begins_stmt, stmts_at, block_from}
+use Rattle.vx_grammar.specs.Reading.{Part, allocation, arguments, run, name_turn, postfix_by, unary_by, unary_at, enclosed, ◌>>=◌, Read, Unexpected, TooDeep, expect, is_symbol, choice, choice_at, instance_at, below, name_at}
+use Rattle.vx_grammar.specs.StmtReading.{skip_semicolon, clause_at, begins_invariant, invariant_turn, invariants_at, while_at, StmtPart, statements, elseif_part, StmtDeeper, stmt_part, stmts_below, type_by, type_at, declaration_at, block_at, otherwise_by, otherwise_at, branch_at, initial_by, initial_at, declare_at, begins_new, value_at, right_at, assign_one, invoke_at, assigned_by, assign_at, store_at, by_target, target_at, claim_at, fold_at, stmt_by, stmt_at, begins_stmt, stmts_at, block_from}
 use Rattle.vx_grammar.proofs.Tells.{Tells, TellsOk}
 use Rattle.vx_grammar.proofs.Rows.{rows, rows_local, LocalRows}
 use Rattle.vx_grammar.proofs.Local.{Local, local_ok, local_unexpected, local_end, local_end_unexpected, local_return, local_token, local_then, local_expect, local_same}
@@ -22,7 +22,7 @@ use Rattle.vx_grammar.proofs.InvariantsTold.{InvariantStep, invariant_turn_tells
 use Rattle.std.proofs.Common.{◌-◌, ◌≤◌, leb, Some}
 use Rattle.vx_grammar.specs.Grammar.{Mark}
 use Rattle.std.proofs.lemmas.Bool.{leb-true, le-leb}
-use Rattle.vx_grammar.proofs.LocalExpr.{reading_local, nested_local, local_from_first, operand_local, name_turns}
+use Rattle.vx_grammar.proofs.LocalExpr.{reading_local, instance_reading_local, nested_local, local_from_first, operand_local, name_turns}
 use Rattle.vx_grammar.proofs.StmtFor.{StmtFor, stmts_are_rows}
 use Rattle.vx_grammar.proofs.StmtTold.{stmt_reading_tells}
 use Rattle.vx_grammar.proofs.StmtReads.{stmt_first}
@@ -207,6 +207,10 @@ target_local : (room more : ℕ) (d' : StmtDeeper) (t : Token) (x : List ℕ) (t
 unfolding stmt_at target_at unary_at unary_by
 target_local room more d' t x ts e = local_from_first t ts (postfix_by (below room) t (name x) ts) (unary_at (below (room + more))) (stmt_at (room + more) d') (λ y. by_target room t.place y.0 y.1) (λ y. by_target (room + more) t.place y.0 y.1) (λ l. rw e refl) (operand_local room more t x ts e) (λ y mid. by_target_local room more t.place y mid)
 
+fold_local : (room more : ℕ) (f : Folding) (place : Place) (ts : List Token) → Local ts (fold_at room f place ts) (fold_at (room + more) f place)
+unfolding fold_at
+fold_local room more f place ts = local_then ts (instance_at (below room) ts) (instance_at (below (room + more))) _ _ (instance_reading_local room more ts) (λ i us. local_return us _)
+
 stmt_by_local : (room more : ℕ) (d d' : StmtDeeper) (t : Token) (k : Kind) (ts : List Token) → t.kind ≡ k → StmtLocal d d' → Local (t ∷ ts) (stmt_by room d t k ts) (stmt_at (room + more) d')
 unfolding stmt_at claim_at
 stmt_by_local room more d d' t (name x) ts e h = target_local room more d' t x ts e
@@ -215,6 +219,8 @@ stmt_by_local room more d d' t (word words.Inhale) ts e h = local_token t ts (cl
 stmt_by_local room more d d' t (word words.Exhale) ts e h = local_token t ts (claim_at room exhales t.place ts) (claim_at (room + more) exhales t.place) (stmt_at (room + more) d') (λ l. rw e refl) (made_local room more (claim_meant exhales t.place) ts)
 stmt_by_local room more d d' t (word words.Assert) ts e h = local_token t ts (claim_at room asserts t.place ts) (claim_at (room + more) asserts t.place) (stmt_at (room + more) d') (λ l. rw e refl) (made_local room more (claim_meant asserts t.place) ts)
 stmt_by_local room more d d' t (word words.Assume) ts e h = local_token t ts (claim_at room assumes t.place ts) (claim_at (room + more) assumes t.place) (stmt_at (room + more) d') (λ l. rw e refl) (made_local room more (claim_meant assumes t.place) ts)
+stmt_by_local room more d d' t (word words.Fold) ts e h = local_token t ts (fold_at room folds t.place ts) (fold_at (room + more) folds t.place) (stmt_at (room + more) d') (λ l. rw e refl) (fold_local room more folds t.place ts)
+stmt_by_local room more d d' t (word words.Unfold) ts e h = local_token t ts (fold_at room unfolds t.place ts) (fold_at (room + more) unfolds t.place) (stmt_at (room + more) d') (λ l. rw e refl) (fold_local room more unfolds t.place ts)
 stmt_by_local room more d d' t (word words.If) ts e h = local_token t ts (branch_at room d t.place ts) (branch_at (room + more) d' t.place) (stmt_at (room + more) d') (λ l. rw e refl) (branch_local room more d d' t.place ts h)
 stmt_by_local room more d d' t (word words.While) ts e h = local_token t ts (while_at room d t.place ts) (while_at (room + more) d' t.place) (stmt_at (room + more) d') (λ l. rw e refl) (while_local room more d d' t.place ts h)
 stmt_by_local room more d d' t k ts e h = local_unexpected t ts (stmt_at (room + more) d') (λ l. rw e refl)

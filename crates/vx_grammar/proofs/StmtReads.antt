@@ -8,14 +8,14 @@ use Rattle.vx_ast.specs.Written.{Expr, Stmt, Block, Done, Then}
 use Rattle.vx_tokens.specs.declared.token.Word.TheVariants as words
 use Rattle.vx_tokens.specs.declared.token.Symbol.TheVariants as signs
 use Rattle.vx_tokens.specs.Tokens.{Token, Kind, name, word, symbol}
-use Rattle.vx_grammar.specs.Grammar.{Phrase, dotted, start_of, Mark, mark, marks, meant, StandsAt, tokens_of}
-use Rattle.vx_grammar.specs.Statements.{InvariantsPhrase, repeated, invariants_marks, DeclarationPhrase, Claim, inhales, exhales, asserts, assumes, claim_word, claim_meant, type_word, declaration_meant, declaration_marks, StmtPhrase, assigned, stored, invoked, targeted, right_marks, IsPath, declared, initialized, claimed, branched, BranchPhrase, branch, OtherPhrase, no_other, other, another, BlockPhrase, block, RowPhrase, no_more, more, stmt_meant, branch_meant, other_meant, block_meant, row_meant, StandsStmt, StandsBranch, StandsOther, StandsBlock, StandsRow, stmt_marks, branch_marks, other_marks, block_marks, row_marks, semi_marks}
-use Rattle.vx_grammar.specs.Reading.{enclosed, Read, expect, is_symbol, choice, choice_at, below, name_at}
-use Rattle.vx_grammar.specs.StmtReading.{while_at, StmtDeeper, statements, elseif_part, stmts_below, type_by, type_at, declaration_at, block_at, otherwise_by, otherwise_at, branch_at, initial_by, initial_at, declare_at, claim_at, stmt_at, begins_stmt, stmts_at, block_from}
+use Rattle.vx_grammar.specs.Grammar.{Phrase, dotted, start_of, Instance, Mark, mark, marks, meant, StandsAt, tokens_of}
+use Rattle.vx_grammar.specs.Statements.{InvariantsPhrase, repeated, invariants_marks, DeclarationPhrase, Claim, inhales, exhales, asserts, assumes, claim_word, claim_meant, Folding, folds, unfolds, folding_word, folding_meant, folded, type_word, declaration_meant, declaration_marks, StmtPhrase, assigned, stored, invoked, targeted, right_marks, IsPath, declared, initialized, claimed, branched, BranchPhrase, branch, OtherPhrase, no_other, other, another, BlockPhrase, block, RowPhrase, no_more, more, stmt_meant, branch_meant, other_meant, block_meant, row_meant, StandsStmt, StandsBranch, StandsOther, StandsBlock, StandsRow, stmt_marks, branch_marks, other_marks, block_marks, row_marks, semi_marks}
+use Rattle.vx_grammar.specs.Reading.{instance_at, enclosed, Read, expect, is_symbol, choice, choice_at, below, name_at}
+use Rattle.vx_grammar.specs.StmtReading.{while_at, StmtDeeper, statements, elseif_part, stmts_below, type_by, type_at, declaration_at, block_at, otherwise_by, otherwise_at, branch_at, initial_by, initial_at, declare_at, claim_at, fold_at, stmt_at, begins_stmt, stmts_at, block_from}
 use Rattle.vx_grammar.specs.Nesting.{nests, stmt_nests}
 use Rattle.vx_grammar.specs.Laws.{Within}
 use Rattle.vx_grammar.proofs.Lists.{tokens-append_more, within_front, within_back, reach, Ends}
-use Rattle.vx_grammar.proofs.Complete.{is_read}
+use Rattle.vx_grammar.proofs.Complete.{is_read, instance_is_read}
 use Rattle.vx_grammar.proofs.Rows.{rows_read, RowFor, RowOver, ReadsItem, Semi}
 use Rattle.vx_grammar.proofs.StmtFor.{StmtFor, stmts_are_rows}
 use Rattle.vx_grammar.proofs.TargetReads.{right_reads, path_first, assigned_reads, stored_reads, invoked_reads, targeted_reads}
@@ -44,6 +44,8 @@ over_kind (word words.Inhale) h = (omega arith, refl, refl)
 over_kind (word words.Exhale) h = (omega arith, refl, refl)
 over_kind (word words.Assert) h = (omega arith, refl, refl)
 over_kind (word words.Assume) h = (omega arith, refl, refl)
+over_kind (word words.Fold) h = (omega arith, refl, refl)
+over_kind (word words.Unfold) h = (omega arith, refl, refl)
 over_kind (word words.If) h = (omega arith, refl, refl)
 over_kind (word words.While) h = (omega arith, refl, refl)
 over_kind k h = absurd cc
@@ -55,6 +57,8 @@ not_semi (word words.Inhale) h = refl
 not_semi (word words.Exhale) h = refl
 not_semi (word words.Assert) h = refl
 not_semi (word words.Assume) h = refl
+not_semi (word words.Fold) h = refl
+not_semi (word words.Unfold) h = refl
 not_semi (word words.If) h = refl
 not_semi (word words.While) h = refl
 not_semi k h = absurd cc
@@ -173,6 +177,15 @@ claim_begins exhales = refl
 claim_begins asserts = refl
 claim_begins assumes = refl
 
+folding_is : (f : Folding) (p : Place) (n room : ℕ) (i : Instance) (us ts : List Token) → instance_at (below room) us ≡ Ok (i, ts) → stmt_at room (stmts_below room) ((mark n p (word (folding_word f))).token ∷ us) ≡ Ok (folding_meant f p i, ts)
+unfolding stmt_at fold_at
+folding_is folds p n room i us ts h = rw h refl
+folding_is unfolds p n room i us ts h = rw h refl
+
+folding_begins : (f : Folding) → begins_stmt (word (folding_word f)) ≡ true
+folding_begins folds = refl
+folding_begins unfolds = refl
+
 while_reads : (limit n room : ℕ) (p o : Place) (w : Phrase) (c : Place) (is : InvariantsPhrase) (b : BlockPhrase) (ts : List Token) → n + room ≡ limit → StmtReadsBelow limit room → Within limit (stmt_marks n (repeated p o w c is b)) → StandsStmt (repeated p o w c is b)
     → stmt_at room (stmts_below room) (Toks (stmt_marks n (repeated p o w c is b)) ts) ≡ Ok (stmt_meant (repeated p o w c is b), ts)
 unfolding stmt_at while_at
@@ -204,6 +217,7 @@ stmt_reads limit n room (initialized p d q r) ts s below' h st ends =
     let value = right_reads limit n room r ts s (within_back limit (declaration_marks n d) (m ∷ right_marks n r) h.1).1 st (over_ends ts ends) in
     rw (list, declaration_reads n d (m.token ∷ Toks (right_marks n r) ts), value) refl
 stmt_reads limit n room (claimed c p e) ts s below' h st ends = claim_is c p n room (meant e) (Toks (marks n e) ts) ts (expr_reads limit n room e ts s h.1 st (over_ends ts ends))
+stmt_reads limit n room (folded f p i) ts s below' h st ends = folding_is f p n room _ _ ts (instance_is_read limit n room i ts s h.1 st)
 stmt_reads limit n room (branched p b) ts s below' h st ends = branch_reads_at limit n room p b ts s below' h.1 st ends
 stmt_reads limit n room (repeated p o e c is b) ts s below' h st ends = while_reads limit n room p o e c is b ts s below' h st
 
@@ -224,6 +238,7 @@ stmt_first n (targeted p x k q y ys r s m o es c) st = (_, _, refl, refl)
 stmt_first n (declared p d) st = (_, _, refl, refl)
 stmt_first n (initialized p d q e) st = (_, _, refl, refl)
 stmt_first n (claimed c p e) st = (_, _, refl, claim_begins c)
+stmt_first n (folded f p i) st = (_, _, refl, folding_begins f)
 stmt_first n (branched p b) st = (_, _, refl, refl)
 stmt_first n (repeated p o e c is b) st = (_, _, refl, refl)
 

@@ -7,15 +7,16 @@ use Rattle.vx_tokens.specs.declared.token.Word.TheVariants as words
 use Rattle.vx_tokens.specs.declared.token.Symbol.TheVariants as signs
 use Rattle.vx_tokens.specs.Tokens.{Token, Kind, name, word, symbol}
 use Rattle.vx_grammar.specs.Grammar.{Phrase, Mark, mark, marks, meant, StandsAt}
-use Rattle.vx_grammar.specs.Statements.{repeated, invariants_marks, block_marks, StmtPhrase, RightPhrase, right_meant, RightStands, right_marks, declared, initialized, Claim, inhales, exhales, asserts, assumes, claim_word, claim_meant, claimed, branched, branch, no_other, other, another, block}
-use Rattle.vx_grammar.specs.Reading.{enclosed, ◌>>=◌, is_symbol, choice, choice_at, below}
-use Rattle.vx_grammar.specs.StmtReading.{invariants_at, while_at, StmtPart, statements, elseif_part, stmt_part, stmts_below, declaration_at, block_at, otherwise_by, otherwise_at, branch_at, initial_by, initial_at, declare_at, right_at, claim_at, stmt_by, stmt_at, begins_stmt, stmts_at, block_from}
+use Rattle.vx_grammar.specs.Statements.{repeated, invariants_marks, block_marks, StmtPhrase, RightPhrase, right_meant, RightStands, right_marks, declared, initialized, Claim, inhales, exhales, asserts, assumes, claim_word, claim_meant, claimed, Folding, folds, unfolds, folding_word, folding_meant, folded, branched, branch, no_other, other, another, block}
+use Rattle.vx_grammar.specs.Reading.{enclosed, ◌>>=◌, is_symbol, choice, choice_at, instance_at, below}
+use Rattle.vx_grammar.specs.StmtReading.{invariants_at, while_at, StmtPart, statements, elseif_part, stmt_part, stmts_below, declaration_at, block_at, otherwise_by, otherwise_at, branch_at, initial_by, initial_at, declare_at, right_at, claim_at, fold_at, stmt_by, stmt_at, begins_stmt, stmts_at, block_from}
 use Rattle.vx_grammar.proofs.Symbols.{is_symbol_true}
 use Rattle.vx_grammar.proofs.Tells.{Grammar, Starts, Tells, takes_none, tells_as, tells_here, tells_unexpected, marks_is}
 use Rattle.vx_grammar.proofs.Rows.{RowFor, tells_rows}
 use Rattle.vx_grammar.proofs.Sequence.{Sequence, Nothing, tells_sequence, starts_sequence, starts_nothing, tells_nothing}
 use Rattle.vx_grammar.proofs.Bracketed.{led_tells, Nested, Bracketed, bracket_tells}
-use Rattle.vx_grammar.proofs.Means.{reading_tells}
+use Rattle.vx_grammar.proofs.Means.{reading_tells, instance_reading_tells}
+use Rattle.vx_grammar.proofs.InstancesTold.{InstanceFor}
 use Rattle.vx_grammar.proofs.StmtTells.{DeclarationFor, declaration_tells}
 use Rattle.vx_grammar.proofs.StmtFor.{StmtFor, BranchFor, OtherFor, BlockFor, InsideFor, starts_stmt, starts_inside, starts_block, starts_other, starts_branch, row_inside, stmts_are_rows}
 use Rattle.vx_grammar.proofs.PhraseFor.{PhraseFor, starts_any, tells_nested, count_down}
@@ -248,6 +249,27 @@ claim_tells : (limit n room : ℕ) (c : Claim) (t : Token) (ts : List Token) →
 unfolding claim_at
 claim_tells limit n room c t ts e k = expr_tells limit n room t (word (claim_word c)) (claim_meant c t.place) (claimed c t.place) ts e k (λ w st. record { phrase = claimed c t.place w; stands = st; means = refl; spelled = refl })
 
+abbrev FoldParts : ℕ → Folding → Place → Grammar Stmt
+FoldParts n f place = Sequence (InstanceFor n) (λ i. Nothing (folding_meant f place i))
+
+folded_of : (n : ℕ) (f : Folding) (t : Token) → t.kind ≡ word (folding_word f) → (s : Stmt) (ms : List Mark) → LedFor n t (FoldParts n f t.place) s ms → StmtFor n s ms
+folded_of n f t k s ms h = by_parts h.inner h.is h.spelled
+  where
+    by_parts : (inner : List Mark) → (let m : Mark = record { token = t; count = n } in ms ≡ m ∷ inner) → FoldParts n f t.place s inner → StmtFor n s ms
+    by_parts inner is (i, a, b, q, r, (v, z)) = record {
+      phrase = folded f t.place r.phrase;
+      stands = r.stands;
+      means = ap (folding_meant f t.place) r.means ∙ sym v;
+      spelled = marks_is t (word (folding_word f)) n _ k ∙ ap (λ l. let m : Mark = record { token = t; count = n } in m ∷ l) (r.spelled ∙ sym (q ∙ rw z (append-nil a))) ∙ sym is;
+    }
+
+fold_tells : (limit n room : ℕ) (f : Folding) (t : Token) (ts : List Token) → n + room ≡ limit → t.kind ≡ word (folding_word f) → Tells (StmtFor n) limit (t ∷ ts) (fold_at room f t.place ts)
+unfolding fold_at
+fold_tells limit n room f t ts e k =
+    tells_as (LedFor n t (FoldParts n f t.place)) (StmtFor n) limit (t ∷ ts) _ (folded_of n f t k)
+    (led_tells (FoldParts n f t.place) limit n t ts _ (fits limit n room e)
+    (tells_sequence (InstanceFor n) _ limit ts (instance_at (below room) ts) _ (λ i. starts_nothing _) (instance_reading_tells limit n room ts e) (λ i us. tells_nothing limit us _)))
+
 abbrev WhileParts : ℕ → Place → Grammar Stmt
 WhileParts n place = Sequence (Bracketed n signs.Open signs.Close (PhraseFor (n + 1) 8)) (λ e. Sequence (InvariantsFor n) (λ is. Sequence (BlockFor n) (λ b. Nothing (While place e is b))))
 
@@ -285,6 +307,8 @@ stmt_by_tells limit n room t (word words.Inhale) ts e told k = claim_tells limit
 stmt_by_tells limit n room t (word words.Exhale) ts e told k = claim_tells limit n room exhales t ts e k
 stmt_by_tells limit n room t (word words.Assert) ts e told k = claim_tells limit n room asserts t ts e k
 stmt_by_tells limit n room t (word words.Assume) ts e told k = claim_tells limit n room assumes t ts e k
+stmt_by_tells limit n room t (word words.Fold) ts e told k = fold_tells limit n room folds t ts e k
+stmt_by_tells limit n room t (word words.Unfold) ts e told k = fold_tells limit n room unfolds t ts e k
 stmt_by_tells limit n room t (word words.If) ts e told k =
     tells_as (LedFor n t (BranchFor n t.place)) (StmtFor n) limit (t ∷ ts) _ (if_of n t k) (led_tells (BranchFor n t.place) limit n t ts _ (fits limit n room e) (branch_tells_at limit n room t.place ts e told))
 stmt_by_tells limit n room t (word words.While) ts e told k = while_tells limit n room t ts e told k

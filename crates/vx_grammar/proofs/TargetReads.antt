@@ -5,7 +5,7 @@ use Rattle.vx_ast.specs.declared.Place.{Place}
 use Rattle.vx_tokens.specs.declared.token.Word.TheVariants as words
 use Rattle.vx_tokens.specs.declared.token.Symbol.TheVariants as signs
 use Rattle.vx_tokens.specs.Tokens.{Token, Kind, name, word, symbol}
-use Rattle.vx_grammar.specs.Grammar.{Phrase, literal, constant, numeral, named, called, dotted, grouped, past, accessed, prefixed, joined, chosen, ArgumentsPhrase, ArgumentsStand, dots, Mark, mark, marks, start_of, meant, IsPrimary, StandsAt, tokens_of}
+use Rattle.vx_grammar.specs.Grammar.{Phrase, literal, constant, numeral, named, called, dotted, grouped, past, accessed, prefixed, joined, chosen, unfolded, ArgumentsPhrase, ArgumentsStand, dots, Mark, mark, marks, start_of, meant, IsPrimary, StandsAt, tokens_of}
 use Rattle.vx_grammar.specs.Statements.{NamesPhrase, no_names, next_name, FieldsPhrase, every_field, no_fields, these_fields, RightPhrase, given, allocated, names_meant, fields_meant, right_meant, RightStands, names_marks, fields_marks, right_marks, IsPath, assigned, stored, invoked, targeted, stmt_meant, stmt_marks, StandsStmt}
 use Rattle.vx_grammar.specs.Reading.{Read, is_symbol, expect, run, name_at, name_turn, fields_at, allocation_at, allocation, postfix_by, unary_by, unary_at, choice_at, below}
 use Rattle.vx_grammar.specs.StmtReading.{StmtDeeper, begins_new, value_at, right_at, assign_one, invoke_at, assign_at, store_at, by_target, target_at, stmt_at}
@@ -77,6 +77,7 @@ path_primary (accessed p o e a c) h = absurd h
 path_primary (prefixed p op e) h = absurd h
 path_primary (joined a p op b) h = absurd h
 path_primary (chosen c p a q b) h = absurd h
+path_primary (unfolded p i q w) h = absurd h
 
 -- a path begins with a name
 pub path_first : (w : Phrase) (n : ℕ) → IsPath w → (x : List ℕ) × (rest : List Mark) × (marks n w ≡ mark n (start_of w) (name x) ∷ rest)
@@ -96,6 +97,7 @@ path_first (accessed p o e a c) n h = absurd h
 path_first (prefixed p op e) n h = absurd h
 path_first (joined a p op b) n h = absurd h
 path_first (chosen c p a q b) n h = absurd h
+path_first (unfolded p i q w) n h = absurd h
 
 path_reads : (limit n room : ℕ) (d : StmtDeeper) (w : Phrase) (more : List Token) → n + room ≡ limit → Within limit (marks n w) → StandsAt 0 w → IsPath w → Ends 0 more → stmt_at room d (Toks (marks n w) more) ≡ by_target room (start_of w) (meant w) more
 unfolding stmt_at target_at unary_at unary_by

@@ -6,7 +6,7 @@ use Rattle.vx_ast.specs.Written.{Expr, NoMore, Right, Value, Stmt, Assign, Write
 use Rattle.vx_tokens.specs.declared.token.Word.TheVariants as words
 use Rattle.vx_tokens.specs.declared.token.Symbol.TheVariants as signs
 use Rattle.vx_tokens.specs.Tokens.{Token, Kind, name, word, symbol}
-use Rattle.vx_grammar.specs.Grammar.{Phrase, literal, constant, numeral, named, called, dotted, grouped, past, accessed, prefixed, joined, chosen, literal_word, dots, level_of, Mark, mark, marks, tokens_of, start_of, meant, StandsAt, arguments_meant}
+use Rattle.vx_grammar.specs.Grammar.{Phrase, literal, constant, numeral, named, called, dotted, grouped, past, accessed, prefixed, joined, chosen, unfolded, literal_word, dots, level_of, Mark, mark, marks, tokens_of, start_of, meant, StandsAt, arguments_meant}
 use Rattle.vx_grammar.specs.Statements.{NamesPhrase, no_names, next_name, RightPhrase, given, allocated, names_meant, right_meant, RightStands, names_marks, right_marks, IsPath, assigned, stored, invoked, targeted}
 use Rattle.vx_grammar.specs.Reading.{Read, Unexpected, TooDeep, expect, run, name_at, name_turn, arguments, allocation, enclosed, postfix_by, choice_at, below}
 use Rattle.vx_grammar.specs.StmtReading.{begins_new, value_at, right_at, assign_one, invoke_at, assigned_by, assign_at, store_at, by_target, target_at}
@@ -101,6 +101,7 @@ is_path (grouped p w q) n more first rest x e k st = let h = not_name first rest
 is_path (past p o w c) n more first rest x e k st = let h = not_name first rest _ _ x e k in absurd cc
 is_path (accessed p o w a c) n more first rest x e k st = let h = not_name first rest _ _ x e k in absurd cc
 is_path (prefixed p op w) n more first rest x e k st = let h = not_name first rest _ _ x e k in absurd cc
+is_path (unfolded p i q w) n more first rest x e k st = let h = not_name first rest _ _ x e k in absurd cc
 is_path (joined a p op b) n more first rest x e k st = elim (chain_or_implies op) [
   | inl c ↦ absurd (omega (arith, c.1.level, st.0))
   | inr i ↦ let l : level_of op ≡ 7 = ap level_of i in absurd (omega (arith, l, st.0))
@@ -240,6 +241,7 @@ behind_path limit n room (accessed p o w a c) ts e is st = absurd is
 behind_path limit n room (prefixed p op w) ts e is st = absurd is
 behind_path limit n room (joined a p op b) ts e is st = absurd is
 behind_path limit n room (chosen c p a q b) ts e is st = absurd is
+behind_path limit n room (unfolded p i q w) ts e is st = absurd is
 
 -- a path can be gone on with
 path_goes_by : (n : ℕ) (w : Phrase) → IsPath w → StandsAt 0 w → Starts (StmtFor n) (marks n w)
@@ -255,6 +257,7 @@ path_goes_by n (accessed p o w a c) is st = absurd is
 path_goes_by n (prefixed p op w) is st = absurd is
 path_goes_by n (joined a p op b) is st = absurd is
 path_goes_by n (chosen c p a q b) is st = absurd is
+path_goes_by n (unfolded p i q w) is st = absurd is
 
 path_goes_on : (n : ℕ) → GoesOn (PathFor n) (StmtFor n)
 path_goes_on n e ms r = subst (Starts (StmtFor n)) r.spelled (path_goes_by n r.phrase r.is r.stands)

@@ -44,10 +44,14 @@ pub record TellsTooDeep {A : Type 0} (R : Grammar A) (limit : ℕ) (ts : List To
   pub count : limit < deep.count
   pub starts : Starts R (marks ++ deep ∷ [])
 
+-- what an answer tells, where what was read may depend on what is left
+abbrev pub TellsBy : {A : Type 0} → (List Token → Grammar A) → Grammar A → ℕ → List Token → Read A → Type 0
+TellsBy R S limit ts (Ok x) = TellsOk (R x.1) limit ts x.0 x.1
+TellsBy R S limit ts (Err (Unexpected rest)) = TellsUnexpected S limit ts rest
+TellsBy R S limit ts (Err (TooDeep rest)) = TellsTooDeep S limit ts rest
+
 abbrev pub Tells : {A : Type 0} → Grammar A → ℕ → List Token → Read A → Type 0
-Tells R limit ts (Ok x) = TellsOk R limit ts x.0 x.1
-Tells R limit ts (Err (Unexpected rest)) = TellsUnexpected R limit ts rest
-Tells R limit ts (Err (TooDeep rest)) = TellsTooDeep R limit ts rest
+Tells R limit ts r = TellsBy (λ rest. R) R limit ts r
 
 -- what may stand behind these marks
 abbrev pub After : {B : Type 0} → Grammar B → List Mark → Grammar B
@@ -79,49 +83,63 @@ starts_first R T ms g s =
 starts_behind : {B : Type 0} (T : Grammar B) (ms ns : List Mark) → Starts (After T ms) ns → Starts T (ms ++ ns)
 starts_behind T ms ns s = record { value = s.value; more = s.more; spelled = rw (append_assoc ms ns s.more) s.spelled }
 
-pub tells_behind : {B : Type 0} (T : Grammar B) (limit : ℕ) (ts us : List Token) (ms : List Mark) → Takes limit ts ms us → (r : Read B) → Tells (After T ms) limit us r → Tells T limit ts r
-tells_behind T limit ts us ms a (Ok x) h = record {
+pub tells_by_behind : {B : Type 0} (T : List Token → Grammar B) (U : Grammar B) (limit : ℕ) (ts us : List Token) (ms : List Mark) → Takes limit ts ms us → (r : Read B) → TellsBy (λ l. After (T l) ms) (After U ms) limit us r → TellsBy T U limit ts r
+tells_by_behind T U limit ts us ms a (Ok x) h = record {
   marks = ms ++ h.marks;
   takes = takes_then limit ts us x.1 ms h.marks a h.takes;
   spelled = h.spelled;
 }
-tells_behind T limit ts us ms a (Err (Unexpected rest)) h = record {
+tells_by_behind T U limit ts us ms a (Err (Unexpected rest)) h = record {
   marks = ms ++ h.marks;
   takes = takes_then limit ts us rest ms h.marks a h.takes;
-  starts = starts_behind T ms h.marks h.starts;
+  starts = starts_behind U ms h.marks h.starts;
 }
-tells_behind T limit ts us ms a (Err (TooDeep rest)) h = record {
+tells_by_behind T U limit ts us ms a (Err (TooDeep rest)) h = record {
   marks = ms ++ h.marks;
   takes = takes_then limit ts us rest ms h.marks a h.takes;
   deep = h.deep;
   after = h.after;
   first = h.first;
   count = h.count;
-  starts = starts_along T (ms ++ (h.marks ++ h.deep ∷ [])) ((ms ++ h.marks) ++ h.deep ∷ []) (sym (append_assoc ms h.marks (h.deep ∷ []))) (starts_behind T ms (h.marks ++ h.deep ∷ []) h.starts);
+  starts = starts_along U (ms ++ (h.marks ++ h.deep ∷ [])) ((ms ++ h.marks) ++ h.deep ∷ []) (sym (append_assoc ms h.marks (h.deep ∷ []))) (starts_behind U ms (h.marks ++ h.deep ∷ []) h.starts);
 }
 
-pub tells_then : {A B : Type 0} (R : Grammar A) (T : Grammar B) (limit : ℕ) (ts : List Token) (r : Read A) (f : A × List Token → Read B) → GoesOn R T → Tells R limit ts r
-    → ((x : A) (rest : List Token) (ms : List Mark) → R x ms → Takes limit ts ms rest → Tells (After T ms) limit rest (f (x, rest)))
-    → Tells T limit ts (r >>= f)
-tells_then R T limit ts (Ok x) f g h k = tells_behind T limit ts x.1 h.marks h.takes (f x) (k x.0 x.1 h.marks h.spelled h.takes)
-tells_then R T limit ts (Err (Unexpected rest)) f g h k = record { marks = h.marks; takes = h.takes; starts = starts_first R T h.marks g h.starts }
-tells_then R T limit ts (Err (TooDeep rest)) f g h k = record {
+pub tells_behind : {B : Type 0} (T : Grammar B) (limit : ℕ) (ts us : List Token) (ms : List Mark) → Takes limit ts ms us → (r : Read B) → Tells (After T ms) limit us r → Tells T limit ts r
+tells_behind T limit ts us ms a r h = tells_by_behind (λ l. T) T limit ts us ms a r h
+
+pub tells_by_then : {A B : Type 0} (R : List Token → Grammar A) (S : Grammar A) (T : List Token → Grammar B) (U : Grammar B) (limit : ℕ) (ts : List Token) (r : Read A) (f : A × List Token → Read B) → GoesOn S U → TellsBy R S limit ts r
+    → ((x : A) (rest : List Token) (ms : List Mark) → R rest x ms → Takes limit ts ms rest → TellsBy (λ l. After (T l) ms) (After U ms) limit rest (f (x, rest)))
+    → TellsBy T U limit ts (r >>= f)
+tells_by_then R S T U limit ts (Ok x) f g h k = tells_by_behind T U limit ts x.1 h.marks h.takes (f x) (k x.0 x.1 h.marks h.spelled h.takes)
+tells_by_then R S T U limit ts (Err (Unexpected rest)) f g h k = record { marks = h.marks; takes = h.takes; starts = starts_first S U h.marks g h.starts }
+tells_by_then R S T U limit ts (Err (TooDeep rest)) f g h k = record {
   marks = h.marks;
   takes = h.takes;
   deep = h.deep;
   after = h.after;
   first = h.first;
   count = h.count;
-  starts = starts_first R T (h.marks ++ h.deep ∷ []) g h.starts;
+  starts = starts_first S U (h.marks ++ h.deep ∷ []) g h.starts;
 }
 
+pub tells_then : {A B : Type 0} (R : Grammar A) (T : Grammar B) (limit : ℕ) (ts : List Token) (r : Read A) (f : A × List Token → Read B) → GoesOn R T → Tells R limit ts r
+    → ((x : A) (rest : List Token) (ms : List Mark) → R x ms → Takes limit ts ms rest → Tells (After T ms) limit rest (f (x, rest)))
+    → Tells T limit ts (r >>= f)
+tells_then R T limit ts r f g h k = tells_by_then (λ l. R) R (λ l. T) T limit ts r f g h k
+
 -- one grammar in the place of another
+pub tells_by_as : {A : Type 0} (R : List Token → Grammar A) (S : Grammar A) (R' : List Token → Grammar A) (S' : Grammar A) (limit : ℕ) (ts : List Token) (r : Read A) → ((rest : List Token) (x : A) (ms : List Mark) → R rest x ms → R' rest x ms) → ((x : A) (ms : List Mark) → S x ms → S' x ms) → TellsBy R S limit ts r → TellsBy R' S' limit ts r
+tells_by_as R S R' S' limit ts (Ok x) f g h = record { marks = h.marks; takes = h.takes; spelled = f x.1 x.0 h.marks h.spelled }
+tells_by_as R S R' S' limit ts (Err (Unexpected rest)) f g h = record { marks = h.marks; takes = h.takes; starts = starts_first S S' h.marks (λ x ms s. record { value = x; more = []; spelled = rw append-nil (g x ms s) }) h.starts }
+tells_by_as R S R' S' limit ts (Err (TooDeep rest)) f g h = record { marks = h.marks; takes = h.takes; deep = h.deep; after = h.after; first = h.first; count = h.count; starts = starts_first S S' (h.marks ++ h.deep ∷ []) (λ x ms s. record { value = x; more = []; spelled = rw append-nil (g x ms s) }) h.starts }
+
 pub tells_as : {A : Type 0} (R S : Grammar A) (limit : ℕ) (ts : List Token) (r : Read A) → ((x : A) (ms : List Mark) → R x ms → S x ms) → Tells R limit ts r → Tells S limit ts r
-tells_as R S limit ts (Ok x) f h = record { marks = h.marks; takes = h.takes; spelled = f x.0 h.marks h.spelled }
-tells_as R S limit ts (Err (Unexpected rest)) f h = record { marks = h.marks; takes = h.takes; starts = starts_first R S h.marks (λ x ms s. record { value = x; more = []; spelled = rw append-nil (f x ms s) }) h.starts }
-tells_as R S limit ts (Err (TooDeep rest)) f h = record { marks = h.marks; takes = h.takes; deep = h.deep; after = h.after; first = h.first; count = h.count; starts = starts_first R S (h.marks ++ h.deep ∷ []) (λ x ms s. record { value = x; more = []; spelled = rw append-nil (f x ms s) }) h.starts }
+tells_as R S limit ts r f h = tells_by_as (λ l. R) R (λ l. S) S limit ts r (λ rest. f) f h
 
 -- nothing is taken
+pub tells_by_here : {A : Type 0} (R : List Token → Grammar A) (S : Grammar A) (limit : ℕ) (ts : List Token) (x : A) → R ts x [] → TellsBy R S limit ts (Ok (x, ts))
+tells_by_here R S limit ts x h = record { marks = []; takes = takes_none limit ts; spelled = h }
+
 pub tells_here : {A : Type 0} (R : Grammar A) (limit : ℕ) (ts : List Token) (x : A) → R x [] → Tells R limit ts (Ok (x, ts))
 tells_here R limit ts x h = record { marks = []; takes = takes_none limit ts; spelled = h }
 

@@ -1,5 +1,5 @@
 -- Which tokens spell which expressions: the grammar of Viper (VMCAI 2016) in this profile.
-use Rattle.std.specs.Prelude.{ℕ, ◌+◌, ◌≤◌, List, [], ◌∷◌, ◌++◌, map, Bool, true, false, if◌then◌else◌, ◌==◌, Option, Some, None, ⊤}
+use Rattle.std.specs.Prelude.{◌≡◌, ℕ, ◌+◌, ◌≤◌, List, [], ◌∷◌, ◌++◌, map, Bool, true, false, if◌then◌else◌, ◌==◌, Option, Some, None, ⊤}
 use Rattle.vx_ast.specs.declared.Place.{Place}
 use Rattle.vx_tokens.specs.declared.token.Word.{Word}
 use Rattle.vx_tokens.specs.declared.token.Word.TheVariants as words
@@ -10,7 +10,7 @@ use Rattle.vx_ast.specs.declared.UnaryOperator.TheVariants.{Not, Negate}
 use Rattle.vx_ast.specs.declared.BinaryOperator.{BinaryOperator}
 use Rattle.vx_ast.specs.declared.BinaryOperator.TheVariants.{Implies, Or, And, Equal, NotEqual, Less, LessEqual, Greater, GreaterEqual, Add, Subtract, Multiply, Divide, Quotient, Remainder}
 use Rattle.vx_tokens.specs.Tokens.{Kind, name, number, word, symbol, Token}
-use Rattle.vx_ast.specs.Written.{Expr, Exprs, NoMore, More, Amount, All, Part, Truth, Number, Null, Whole, Nothing, Result, Variable, Call, Read, Unary, Binary, Choice, Old, Access}
+use Rattle.vx_ast.specs.Written.{Expr, Exprs, NoMore, More, Amount, All, Part, Truth, Number, Null, Whole, Nothing, Result, Variable, Call, Read, Unary, Binary, Choice, Old, Access, Unfolding}
 
 -- ---- operators
 
@@ -150,6 +150,8 @@ mutual
     prefixed : Place → UnaryOperator → Phrase → Phrase
     joined : Phrase → Place → BinaryOperator → Phrase → Phrase
     chosen : Phrase → Place → Phrase → Place → Phrase → Phrase
+    -- unfolding instance in e
+    unfolded : Place → InstancePhrase → Place → Phrase → Phrase
 
   pub data ArgumentsPhrase : Type 0 where
     no_arguments : ArgumentsPhrase
@@ -165,6 +167,13 @@ mutual
     no_amount : AmountPhrase
     amount : Place → Phrase → AmountPhrase
 
+  -- a predicate's instance
+  pub data InstancePhrase : Type 0 where
+    -- P ( arguments )
+    alone : Place → List ℕ → Place → ArgumentsPhrase → Place → InstancePhrase
+    -- acc ( P ( arguments ) , amount )
+    held : Place → Place → Place → List ℕ → Place → ArgumentsPhrase → Place → AmountPhrase → Place → InstancePhrase
+
 -- the place of the first token
 abbrev pub start_of : Phrase → Place
 start_of (literal p b) = p
@@ -179,6 +188,16 @@ start_of (accessed p o e a c) = p
 start_of (prefixed p op e) = p
 start_of (joined a p op b) = start_of a
 start_of (chosen c p a q b) = start_of c
+start_of (unfolded p i q e) = p
+
+-- a predicate's instance with its amount
+pub record Instance : Type 0 where
+  pub predicate : List ℕ
+  pub arguments : Exprs
+  pub amount : Amount
+
+abbrev pub unfolding_of : Place → Instance → Expr → Expr
+unfolding_of p i e = Unfolding p i.predicate i.arguments i.amount e
 
 -- the expression that is meant
 abbrev mutual
@@ -195,6 +214,7 @@ abbrev mutual
   meant (prefixed p op e) = Unary p op (meant e)
   meant (joined a p op b) = Binary (start_of a) op (meant a) (meant b)
   meant (chosen c p a q b) = Choice (start_of c) (meant c) (meant a) (meant b)
+  meant (unfolded p i q e) = unfolding_of p (instance_meant i) (meant e)
 
   pub arguments_meant : ArgumentsPhrase → Exprs
   arguments_meant no_arguments = NoMore
@@ -207,6 +227,10 @@ abbrev mutual
   pub amount_meant : AmountPhrase → Amount
   amount_meant no_amount = All
   amount_meant (amount p e) = Part (meant e)
+
+  pub instance_meant : InstancePhrase → Instance
+  instance_meant (alone p x o es c) = record { predicate = x; arguments = arguments_meant es; amount = All }
+  instance_meant (held p o q x o' es c' a c) = record { predicate = x; arguments = arguments_meant es; amount = amount_meant a }
 
 -- what a dot may stand behind
 abbrev pub IsPrimary : Phrase → Type 0
@@ -222,8 +246,26 @@ IsPrimary (accessed p o e a c) = ⊤
 IsPrimary (prefixed p op e) = ⊥
 IsPrimary (joined a p op b) = ⊥
 IsPrimary (chosen c p a q b) = ⊥
+IsPrimary (unfolded p i q e) = ⊥
 
--- a phrase may stand where the grammar asks for a level
+-- the phrase ends in the body of an `unfolding`, which takes in all that could go on with it
+abbrev pub ends_open : Phrase → Bool
+ends_open (unfolded p i q e) = true
+ends_open (prefixed p op e) = ends_open e
+ends_open (joined a p op b) = ends_open b
+ends_open (chosen c p a q b) = ends_open b
+ends_open (literal p b) = false
+ends_open (constant p c) = false
+ends_open (numeral p n) = false
+ends_open (named p x) = false
+ends_open (called p x o es c) = false
+ends_open (dotted e p q f) = false
+ends_open (grouped p e q) = false
+ends_open (past p o e c) = false
+ends_open (accessed p o e a c) = false
+
+-- A phrase may stand where the grammar asks for a level. None that ends in the body of an `unfolding` stands in front of
+-- an operator: parentheses stand round it there.
 abbrev mutual
   pub StandsAt : ℕ → Phrase → Type 0
   StandsAt level (literal p b) = ⊤
@@ -236,8 +278,9 @@ abbrev mutual
   StandsAt level (past p o e c) = StandsAt 8 e
   StandsAt level (accessed p o e a c) = StandsAt 8 e × AmountStands a
   StandsAt level (prefixed p op e) = StandsAt 0 e
-  StandsAt level (joined a p op b) = (level_of op ≤ level) × StandsAt (left_level op) a × StandsAt (right_level op) b
-  StandsAt level (chosen c p a q b) = (8 ≤ level) × StandsAt 7 c × StandsAt 8 a × StandsAt 8 b
+  StandsAt level (joined a p op b) = (level_of op ≤ level) × StandsAt (left_level op) a × StandsAt (right_level op) b × (ends_open a ≡ false)
+  StandsAt level (chosen c p a q b) = (8 ≤ level) × StandsAt 7 c × StandsAt 8 a × StandsAt 8 b × (ends_open c ≡ false)
+  StandsAt level (unfolded p i q e) = InstanceStands i × StandsAt 8 e
 
   pub ArgumentsStand : ArgumentsPhrase → Type 0
   ArgumentsStand no_arguments = ⊤
@@ -250,6 +293,10 @@ abbrev mutual
   pub AmountStands : AmountPhrase → Type 0
   AmountStands no_amount = ⊤
   AmountStands (amount p e) = StandsAt 8 e
+
+  pub InstanceStands : InstancePhrase → Type 0
+  InstanceStands (alone p x o es c) = ArgumentsStand es
+  InstanceStands (held p o q x o' es c' a c) = ArgumentsStand es × AmountStands a
 
 -- ---- tokens, each with its nesting count
 
@@ -274,6 +321,7 @@ operators level (past p o e c) = 0
 operators level (accessed p o e a c) = 0
 operators level (prefixed p op e) = 0
 operators level (chosen c p a q b) = 0
+operators level (unfolded p i q e) = 0
 
 -- the dots so far of a chain of them
 abbrev pub dots : Phrase → ℕ
@@ -289,9 +337,10 @@ dots (accessed p o e a c) = 0
 dots (prefixed p op e) = 0
 dots (joined a p op b) = 0
 dots (chosen c p a q b) = 0
+dots (unfolded p i q e) = 0
 
--- The tokens of a phrase that stands at nesting count n. A parenthesis, a prefix, a right operand of an
--- implication or a choice nests one deeper, and a right operand in a chain as deep as there are operators so far. A dot
+-- The tokens of a phrase that stands at nesting count n. A parenthesis, a prefix, the body of an `unfolding`, a right
+-- operand of an implication or a choice nests one deeper, and a right operand in a chain as deep as there are operators so far. A dot
 -- is such an operator, with the field's name as its right operand.
 abbrev mutual
   pub marks : ℕ → Phrase → List Mark
@@ -312,6 +361,7 @@ abbrev mutual
       marks n a ++ mark deep p (symbol (sign_of op)) ∷ marks deep b
   marks n (chosen c p a q b) =
       marks n c ++ mark (n + 1) p (symbol signs.Question) ∷ (marks (n + 1) a ++ mark (n + 1) q (symbol signs.Colon) ∷ marks (n + 1) b)
+  marks n (unfolded p i q e) = mark n p (word words.Unfolding) ∷ (instance_marks n i ++ mark (n + 1) q (word words.In) ∷ marks (n + 1) e)
 
   pub arguments_marks : ℕ → ArgumentsPhrase → List Mark
   arguments_marks n no_arguments = []
@@ -324,6 +374,12 @@ abbrev mutual
   pub amount_marks : ℕ → AmountPhrase → List Mark
   amount_marks n no_amount = []
   amount_marks n (amount p e) = mark n p (symbol signs.Comma) ∷ marks n e
+
+  pub instance_marks : ℕ → InstancePhrase → List Mark
+  instance_marks n (alone p x o es c) = mark n p (name x) ∷ mark (n + 1) o (symbol signs.Open) ∷ (arguments_marks (n + 1) es ++ mark (n + 1) c (symbol signs.Close) ∷ [])
+  instance_marks n (held p o q x o' es c' a c) =
+      mark n p (word words.Acc) ∷ mark (n + 1) o (symbol signs.Open)
+      ∷ ((mark (n + 1) q (name x) ∷ mark (n + 1 + 1) o' (symbol signs.Open) ∷ ((arguments_marks (n + 1 + 1) es ++ mark (n + 1 + 1) c' (symbol signs.Close) ∷ []) ++ amount_marks (n + 1) a)) ++ mark (n + 1) c (symbol signs.Close) ∷ [])
 
 abbrev pub tokens_of : List Mark → List Token
 tokens_of ms = map (λ m. m.token) ms

@@ -1,11 +1,11 @@
 -- Reading members from left to right.
-use Rattle.std.specs.Prelude.{ℕ, zero, suc, ◌-◌, List, [], ◌∷◌, ◌++◌, length, nat_le, nat_lt, Result, Ok, Err, Some, None, Bool, true, false, if◌then◌else◌}
+use Rattle.std.specs.Prelude.{ℕ, zero, suc, ◌-◌, List, [], ◌∷◌, ◌++◌, length, nat_le, nat_lt, Result, Ok, Err, Option, Some, None, Bool, true, false, if◌then◌else◌}
 use Rattle.vx_ast.specs.declared.Place.{Place}
 use Rattle.vx_tokens.specs.declared.token.Word.TheVariants as words
 use Rattle.vx_tokens.specs.declared.token.Symbol.TheVariants as signs
 use Rattle.vx_tokens.specs.Tokens.{Kind, word, Token}
-use Rattle.vx_ast.specs.Written.{Expr, Declaration, Block, IsField, IsMethod, Member, Program}
-use Rattle.vx_grammar.specs.Reading.{Stop, Unexpected, TooDeep, Read, ◌>>=◌, Turn, run, is_symbol, expect, name_at, choice_at, below, exprs_from}
+use Rattle.vx_ast.specs.Written.{Expr, Declaration, Block, IsField, IsPredicate, IsMethod, Member, Program}
+use Rattle.vx_grammar.specs.Reading.{Stop, Unexpected, TooDeep, Read, ◌>>=◌, Turn, run, is_symbol, expect, name_at, choice, choice_at, below, exprs_from}
 use Rattle.vx_grammar.specs.StmtReading.{clause_at, declaration_at, block_at, stmts_below, skip_semicolon}
 
 -- the nesting limit
@@ -92,12 +92,53 @@ clauses_at deep ts = run (clause_turn deep) (length ts) no_clauses ts
 
 -- ---- members
 
-abbrev pub method_of : Place → List ℕ → List Declaration → List Declaration → Clauses → Block → Member
+abbrev pub begins_braces : List Token → Bool
+begins_braces [] = false
+begins_braces (t ∷ ts) = is_symbol signs.OpenBrace t.kind
+
+-- an expression between braces
+unfoldable pub braced_at : ℕ → List Token → Read Expr
+braced_at deep ts = do
+  opened ← expect signs.OpenBrace ts
+  e ← below deep choice ts opened.1
+  close ← expect signs.CloseBrace e.1
+  Ok (e.0, close.1)
+
+unfoldable pub some_braced : ℕ → List Token → Read (Option Expr)
+some_braced deep ts = do
+  e ← braced_at deep ts
+  Ok (Some e.0, e.1)
+
+-- behind the parameters of a predicate
+unfoldable pub given_at : ℕ → List Token → Read (Option Expr)
+given_at deep ts = if begins_braces ts then some_braced deep ts else Ok (None, ts)
+
+abbrev pub predicate_of : Place → List ℕ → List Declaration → Option Expr → Member
+predicate_of place x parameters body = record { place = place; name = x; kind = IsPredicate record { parameters = parameters; body = body } }
+
+-- behind a `predicate`
+unfoldable pub predicate_at : ℕ → Place → List Token → Read Member
+predicate_at deep place ts = do
+  x ← name_at ts
+  parameters ← parameters_at x.1
+  body ← given_at deep parameters.1
+  Ok (predicate_of place x.0 parameters.0 body.0, body.1)
+
+abbrev pub method_of : Place → List ℕ → List Declaration → List Declaration → Clauses → Option Block → Member
 method_of place x parameters returns clauses body = record {
   place = place;
   name = x;
-  kind = IsMethod record { parameters = parameters; returns = returns; requires = exprs_from clauses.requires; ensures = exprs_from clauses.ensures; body = Some body };
+  kind = IsMethod record { parameters = parameters; returns = returns; requires = exprs_from clauses.requires; ensures = exprs_from clauses.ensures; body = body };
 }
+
+unfoldable pub some_block : ℕ → List Token → Read (Option Block)
+some_block deep ts = do
+  b ← block_at (stmts_below deep) ts
+  Ok (Some b.0, b.1)
+
+-- behind the clauses of a method
+unfoldable pub body_at : ℕ → List Token → Read (Option Block)
+body_at deep ts = if begins_braces ts then some_block deep ts else Ok (None, ts)
 
 -- behind a `method`
 unfoldable pub method_at : ℕ → Place → List Token → Read Member
@@ -106,7 +147,7 @@ method_at deep place ts = do
   parameters ← parameters_at x.1
   returns ← returns_at parameters.1
   clauses ← clauses_at deep returns.1
-  body ← block_at (stmts_below deep) clauses.1
+  body ← body_at deep clauses.1
   Ok (method_of place x.0 parameters.0 returns.0 clauses.0 body.0, body.1)
 
 -- behind a `field`
@@ -118,6 +159,7 @@ field_at place ts = do
 -- behind a word that begins a member
 abbrev pub member_by : ℕ → Place → Kind → List Token → Read Member
 member_by deep place (word words.Field) ts = field_at place ts
+member_by deep place (word words.Predicate) ts = predicate_at deep place ts
 member_by deep place (word words.Method) ts = method_at deep place ts
 member_by deep place k ts = Err (Unexpected ts)
 
@@ -137,6 +179,7 @@ max_members = 65536
 
 abbrev pub begins_member : Kind → Bool
 begins_member (word words.Field) = true
+begins_member (word words.Predicate) = true
 begins_member (word words.Method) = true
 begins_member k = false
 

@@ -1,7 +1,7 @@
 -- Which tokens spell which programs: the grammar of Viper (VMCAI 2016) in this profile.
-use Rattle.std.specs.Prelude.{ℕ, ◌+◌, List, [], ◌∷◌, ◌++◌, Option, Some, ⊤}
+use Rattle.std.specs.Prelude.{ℕ, ◌+◌, List, [], ◌∷◌, ◌++◌, Option, Some, None, ⊤}
 use Rattle.vx_ast.specs.declared.Place.{Place}
-use Rattle.vx_ast.specs.Written.{Exprs, NoMore, More, Declaration, IsField, IsMethod, Member, Program}
+use Rattle.vx_ast.specs.Written.{Expr, Exprs, NoMore, More, Declaration, Block, IsField, IsPredicate, IsMethod, Member, Program}
 use Rattle.vx_tokens.specs.declared.token.Word.TheVariants as words
 use Rattle.vx_tokens.specs.declared.token.Symbol.TheVariants as signs
 use Rattle.vx_tokens.specs.Tokens.{name, word, symbol}
@@ -88,6 +88,58 @@ clauses_marks r k (ensures p e semi rest) = mark k p (word words.Ensures) ∷ (m
 
 -- ---- members
 
+-- an expression between braces
+pub record BracedPhrase : Type 0 where
+  pub from : Place
+  pub inner : Phrase
+  pub to : Place
+
+abbrev pub braced_marks : BracedPhrase → List Mark
+braced_marks w = mark 1 w.from (symbol signs.OpenBrace) ∷ (marks 1 w.inner ++ mark 1 w.to (symbol signs.CloseBrace) ∷ [])
+
+-- predicate P ( parameters ), and a body or none
+pub record PredicatePhrase : Type 0 where
+  pub at : Place
+  pub name_at : Place
+  pub text : List ℕ
+  pub parameters : ParametersPhrase
+  pub body : Option BracedPhrase
+
+abbrev pub given_meant : Option BracedPhrase → Option Expr
+given_meant None = None
+given_meant (Some w) = Some (meant w.inner)
+
+abbrev pub GivenStands : Option BracedPhrase → Type 0
+GivenStands None = ⊤
+GivenStands (Some w) = StandsAt 8 w.inner
+
+abbrev pub given_marks : Option BracedPhrase → List Mark
+given_marks None = []
+given_marks (Some w) = braced_marks w
+
+abbrev pub predicate_meant : PredicatePhrase → Member
+predicate_meant w = record {
+  place = w.at;
+  name = w.text;
+  kind = IsPredicate record { parameters = declarations_meant w.parameters.inner; body = given_meant w.body };
+}
+
+abbrev pub predicate_marks : PredicatePhrase → List Mark
+predicate_marks w = mark 0 w.at (word words.Predicate) ∷ mark 0 w.name_at (name w.text) ∷ (parameters_marks 0 w.parameters ++ given_marks w.body)
+
+-- a method's body, or none
+abbrev pub body_meant : Option BlockPhrase → Option Block
+body_meant None = None
+body_meant (Some b) = Some (block_meant b)
+
+abbrev pub BodyStands : Option BlockPhrase → Type 0
+BodyStands None = ⊤
+BodyStands (Some b) = StandsBlock b
+
+abbrev pub body_marks : Option BlockPhrase → List Mark
+body_marks None = []
+body_marks (Some b) = block_marks 0 b
+
 pub record MethodPhrase : Type 0 where
   pub at : Place
   pub name_at : Place
@@ -95,39 +147,43 @@ pub record MethodPhrase : Type 0 where
   pub parameters : ParametersPhrase
   pub returns : ReturnsPhrase
   pub clauses : ClausesPhrase
-  pub body : BlockPhrase
+  pub body : Option BlockPhrase
 
 abbrev pub method_meant : MethodPhrase → Member
 method_meant m = record {
   place = m.at;
   name = m.text;
-  kind = IsMethod record { parameters = declarations_meant m.parameters.inner; returns = returns_meant m.returns; requires = requires_meant m.clauses; ensures = ensures_meant m.clauses; body = Some (block_meant m.body) };
+  kind = IsMethod record { parameters = declarations_meant m.parameters.inner; returns = returns_meant m.returns; requires = requires_meant m.clauses; ensures = ensures_meant m.clauses; body = body_meant m.body };
 }
 
 pub record StandsMethod (m : MethodPhrase) : Type 0 where
   pub clauses : StandsClauses m.clauses
-  pub body : StandsBlock m.body
+  pub body : BodyStands m.body
 
 abbrev pub method_marks : MethodPhrase → List Mark
 method_marks m =
     mark 0 m.at (word words.Method) ∷ mark 0 m.name_at (name m.text)
-    ∷ (parameters_marks 0 m.parameters ++ (returns_marks 0 m.returns ++ (clauses_marks 0 0 m.clauses ++ block_marks 0 m.body)))
+    ∷ (parameters_marks 0 m.parameters ++ (returns_marks 0 m.returns ++ (clauses_marks 0 0 m.clauses ++ body_marks m.body)))
 
 pub data MemberPhrase : Type 0 where
   -- field f : T
   a_field : Place → DeclarationPhrase → MemberPhrase
+  a_predicate : PredicatePhrase → MemberPhrase
   a_method : MethodPhrase → MemberPhrase
 
 abbrev pub member_meant : MemberPhrase → Member
 member_meant (a_field p d) = record { place = p; name = d.text; kind = IsField d.of }
+member_meant (a_predicate w) = predicate_meant w
 member_meant (a_method m) = method_meant m
 
 abbrev pub StandsMember : MemberPhrase → Type 0
 StandsMember (a_field p d) = ⊤
+StandsMember (a_predicate w) = GivenStands w.body
 StandsMember (a_method m) = StandsMethod m
 
 abbrev pub member_marks : MemberPhrase → List Mark
 member_marks (a_field p d) = mark 0 p (word words.Field) ∷ declaration_marks 0 d
+member_marks (a_predicate w) = predicate_marks w
 member_marks (a_method m) = method_marks m
 
 -- members one after the other, each with a semicolon or none

@@ -10,7 +10,7 @@ use Rattle.vx_ast.specs.declared.BinaryOperator.TheVariants.{Implies}
 use Rattle.vx_tokens.specs.Tokens.{Kind, name, number, word, symbol, Token}
 use Rattle.vx_ast.specs.Written.{Expr, Exprs, NoMore, More, Amount, All, Truth, Number, Null, Whole, Nothing, Variable, Call, Unary, Binary, Choice, Old, Access, Right, NewAll, New}
 use Rattle.vx_ast.specs.Written as written
-use Rattle.vx_grammar.specs.Grammar.{level_of, operator_of}
+use Rattle.vx_grammar.specs.Grammar.{level_of, operator_of, Instance, unfolding_of}
 
 -- Where reading stops. The list begins with the token that doesn't fit, or nests too deep, and is empty at the end.
 pub data Stop : Type 0 where
@@ -96,7 +96,7 @@ name_at (t ∷ ts) = name_by t t.kind ts
 -- ---- expressions
 
 -- What is read: an expression of a level, or what follows in a chain of operators of a level behind its first part, or
--- behind a dot; arguments, what `acc` holds, or the fields of `new`.
+-- behind a dot; arguments, what `acc` holds, in an expression or in an instance, or the fields of `new`.
 pub data Part : Type 0 where
   choice : Part
   implication : Part
@@ -105,6 +105,7 @@ pub data Part : Type 0 where
   behind_dot : Place → Expr → Part
   arguments : Part
   access : Part
+  holding : Part
   allocation : Part
 
 -- what reading a part gives
@@ -116,6 +117,7 @@ Given (rest_of_chain level start left) = Expr
 Given (behind_dot start left) = Expr
 Given arguments = Exprs
 Given access = Expr × Amount
+Given holding = Instance
 Given allocation = Right
 
 -- Reads a part one deeper. The first list begins with the token that nests.
@@ -180,6 +182,36 @@ postfix_by deeper t k ts = do
   e ← primary_by deeper t k ts
   dots_at deeper t.place e.0 e.1
 
+-- P ( arguments )
+unfoldable pub bare_by : Deeper → List ℕ → List Token → Read Instance
+bare_by deeper x ts = do
+  es ← enclosed deeper arguments ts
+  Ok (record { predicate = x; arguments = es.0; amount = All }, es.1)
+
+abbrev pub instance_by : Deeper → Token → Kind → List Token → Read Instance
+instance_by deeper t (name x) ts = bare_by deeper x ts
+instance_by deeper t (word words.Acc) ts = enclosed deeper holding ts
+instance_by deeper t k ts = Err (Unexpected (t ∷ ts))
+
+unfoldable pub instance_at : Deeper → List Token → Read Instance
+instance_at deeper [] = Err (Unexpected [])
+instance_at deeper (t ∷ ts) = instance_by deeper t t.kind ts
+
+abbrev pub begins_body : Kind → Bool
+begins_body (word words.In) = true
+begins_body k = false
+
+-- `in`, and the body behind it
+unfoldable pub behind_in : Deeper → List Token → Read Expr
+behind_in deeper [] = Err (Unexpected [])
+behind_in deeper (t ∷ ts) = if begins_body t.kind then deeper choice (t ∷ ts) ts else Err (Unexpected (t ∷ ts))
+
+unfoldable pub unfolding_by : Deeper → Token → List Token → Read Expr
+unfolding_by deeper t ts = do
+  i ← instance_at deeper ts
+  e ← behind_in deeper i.1
+  Ok (unfolding_of t.place i.0 e.0, e.1)
+
 unfoldable pub unary_by : Deeper → Token → Kind → List Token → Read Expr
 unary_by deeper t (symbol signs.Not) ts = do
   e ← deeper (chain 0) (t ∷ ts) ts
@@ -187,6 +219,7 @@ unary_by deeper t (symbol signs.Not) ts = do
 unary_by deeper t (symbol signs.Minus) ts = do
   e ← deeper (chain 0) (t ∷ ts) ts
   Ok (Unary t.place Negate e.0, e.1)
+unary_by deeper t (word words.Unfolding) ts = unfolding_by deeper t ts
 unary_by deeper t k ts = postfix_by deeper t k ts
 
 unfoldable pub unary_at : Deeper → List Token → Read Expr
@@ -296,6 +329,14 @@ access_at deeper ts = do
   a ← amount_at deeper e.1
   Ok ((e.0, a.0), a.1)
 
+-- what `acc` holds in an instance
+unfoldable pub holding_at : Deeper → List Token → Read Instance
+holding_at deeper ts = do
+  x ← name_at ts
+  es ← enclosed deeper arguments x.1
+  a ← amount_at deeper es.1
+  Ok (record { predicate = x.0; arguments = es.0; amount = a.0 }, a.1)
+
 -- ---- names
 
 -- one name more, behind a comma
@@ -331,6 +372,7 @@ part_at deeper (rest_of_chain level start left) ts = rest_at deeper level start 
 part_at deeper (behind_dot start left) ts = dotted_at deeper start left ts
 part_at deeper arguments ts = arguments_at deeper ts
 part_at deeper access ts = access_at deeper ts
+part_at deeper holding ts = holding_at deeper ts
 part_at deeper allocation ts = allocation_at ts
 
 -- one deeper, where the nesting count may still grow by room

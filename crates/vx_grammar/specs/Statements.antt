@@ -3,12 +3,12 @@ use Rattle.std.specs.Prelude.{ℕ, ◌+◌, List, [], ◌∷◌, ◌++◌, Optio
 use Rattle.vx_ast.specs.declared.Place.{Place}
 use Rattle.vx_ast.specs.declared.ValueType.{ValueType}
 use Rattle.vx_ast.specs.declared.ValueType.TheVariants as types
-use Rattle.vx_ast.specs.Written.{Expr, Right, Value, NewAll, New, Declaration, Stmt, Block, Declare, Assign, Write, Invoke, Inhale, Exhale, Assert, Assume, If, While, Exprs, NoMore, More, Done, Then}
+use Rattle.vx_ast.specs.Written.{Expr, Right, Value, NewAll, New, Declaration, Stmt, Block, Declare, Assign, Write, Invoke, Inhale, Exhale, Assert, Assume, Fold, Unfold, If, While, Exprs, NoMore, More, Done, Then}
 use Rattle.vx_tokens.specs.declared.token.Word.{Word}
 use Rattle.vx_tokens.specs.declared.token.Word.TheVariants as words
 use Rattle.vx_tokens.specs.declared.token.Symbol.TheVariants as signs
 use Rattle.vx_tokens.specs.Tokens.{name, word, symbol}
-use Rattle.vx_grammar.specs.Grammar.{Phrase, literal, constant, numeral, named, called, dotted, grouped, past, accessed, prefixed, joined, chosen, ArgumentsPhrase, arguments_meant, ArgumentsStand, Mark, mark, marks, start_of, meant, StandsAt}
+use Rattle.vx_grammar.specs.Grammar.{Phrase, literal, constant, numeral, named, called, dotted, grouped, past, accessed, prefixed, joined, chosen, unfolded, ArgumentsPhrase, arguments_meant, ArgumentsStand, Instance, InstancePhrase, instance_meant, InstanceStands, instance_marks, Mark, mark, marks, start_of, meant, StandsAt}
 
 -- ---- declarations
 
@@ -52,6 +52,19 @@ claim_meant inhales p e = Inhale p e
 claim_meant exhales p e = Exhale p e
 claim_meant asserts p e = Assert p e
 claim_meant assumes p e = Assume p e
+
+-- what is done with an instance
+pub data Folding : Type 0 where
+  folds : Folding
+  unfolds : Folding
+
+abbrev pub folding_word : Folding → Word
+folding_word folds = words.Fold
+folding_word unfolds = words.Unfold
+
+abbrev pub folding_meant : Folding → Place → Instance → Stmt
+folding_meant folds p i = Fold p i.predicate i.arguments i.amount
+folding_meant unfolds p i = Unfold p i.predicate i.arguments i.amount
 
 -- names behind a first one, each behind a comma
 pub data NamesPhrase : Type 0 where
@@ -136,6 +149,7 @@ IsPath (accessed p o e a c) = ⊥
 IsPath (prefixed p op e) = ⊥
 IsPath (joined a p op b) = ⊥
 IsPath (chosen c p a q b) = ⊥
+IsPath (unfolded p i q e) = ⊥
 
 mutual
   pub data StmtPhrase : Type 0 where
@@ -152,6 +166,8 @@ mutual
     initialized : Place → DeclarationPhrase → Place → RightPhrase → StmtPhrase
     -- inhale e, exhale e, assert e, assume e
     claimed : Claim → Place → Phrase → StmtPhrase
+    -- fold instance, or unfold instance
+    folded : Folding → Place → InstancePhrase → StmtPhrase
     -- if, and what stands behind it
     branched : Place → BranchPhrase → StmtPhrase
     -- while ( e ), invariants and a block
@@ -187,6 +203,7 @@ abbrev mutual
   stmt_meant (declared p d) = Declare p (declaration_meant d) None
   stmt_meant (initialized p d q r) = Declare p (declaration_meant d) (Some (right_meant r))
   stmt_meant (claimed c p e) = claim_meant c p (meant e)
+  stmt_meant (folded f p i) = folding_meant f p (instance_meant i)
   stmt_meant (branched p b) = branch_meant p b
   stmt_meant (repeated p o e c is b) = While p (meant e) (invariants_meant is) (block_meant b)
 
@@ -218,6 +235,7 @@ abbrev mutual
   StandsStmt (declared p d) = ⊤
   StandsStmt (initialized p d q r) = RightStands r
   StandsStmt (claimed c p e) = StandsAt 8 e
+  StandsStmt (folded f p i) = InstanceStands i
   StandsStmt (branched p b) = StandsBranch b
   StandsStmt (repeated p o e c is b) = StandsAt 8 e × InvariantsStand is × StandsBlock b
 
@@ -248,6 +266,7 @@ abbrev mutual
   stmt_marks n (declared p d) = mark n p (word words.Var) ∷ declaration_marks n d
   stmt_marks n (initialized p d q r) = mark n p (word words.Var) ∷ (declaration_marks n d ++ mark n q (symbol signs.Becomes) ∷ right_marks n r)
   stmt_marks n (claimed c p e) = mark n p (word (claim_word c)) ∷ marks n e
+  stmt_marks n (folded f p i) = mark n p (word (folding_word f)) ∷ instance_marks n i
   stmt_marks n (branched p b) = mark n p (word words.If) ∷ branch_marks n b
   stmt_marks n (repeated p o e c is b) = mark n p (word words.While) ∷ mark (n + 1) o (symbol signs.Open) ∷ (marks (n + 1) e ++ mark (n + 1) c (symbol signs.Close) ∷ (invariants_marks n 0 is ++ block_marks n b))
 

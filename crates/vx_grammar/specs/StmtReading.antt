@@ -8,8 +8,8 @@ use Rattle.vx_tokens.specs.declared.token.Symbol.TheVariants as signs
 use Rattle.vx_tokens.specs.Tokens.{Kind, name, word, Token}
 use Rattle.vx_ast.specs.Written.{Expr, Variable, Call, Right, Value, Declaration, Stmt, Block, Declare, Assign, Write, Invoke, If, While, Exprs, Done, Then}
 use Rattle.vx_ast.specs.Written as written
-use Rattle.vx_grammar.specs.Statements.{Claim, inhales, exhales, asserts, assumes, claim_meant}
-use Rattle.vx_grammar.specs.Reading.{exprs_from, Unexpected, TooDeep, Read, ◌>>=◌, Turn, run, is_symbol, expect, name_at, enclosed, choice, arguments, allocation, name_turn, postfix_by, choice_at, below}
+use Rattle.vx_grammar.specs.Statements.{Claim, inhales, exhales, asserts, assumes, claim_meant, Folding, folds, unfolds, folding_meant}
+use Rattle.vx_grammar.specs.Reading.{exprs_from, Unexpected, TooDeep, Read, ◌>>=◌, Turn, run, is_symbol, expect, name_at, enclosed, choice, arguments, allocation, instance_at, name_turn, postfix_by, choice_at, below}
 
 -- ---- types
 
@@ -181,6 +181,11 @@ claim_at room claim place ts = do
   e ← choice_at (below room) ts
   Ok (claim_meant claim place e.0, e.1)
 
+unfoldable pub fold_at : ℕ → Folding → Place → List Token → Read Stmt
+fold_at room folding place ts = do
+  i ← instance_at (below room) ts
+  Ok (folding_meant folding place i.0, i.1)
+
 abbrev pub stmt_by : ℕ → StmtDeeper → Token → Kind → List Token → Read Stmt
 stmt_by room deeper t (name x) ts = target_at room t x ts
 stmt_by room deeper t (word words.Var) ts = declare_at room t.place ts
@@ -188,6 +193,8 @@ stmt_by room deeper t (word words.Inhale) ts = claim_at room inhales t.place ts
 stmt_by room deeper t (word words.Exhale) ts = claim_at room exhales t.place ts
 stmt_by room deeper t (word words.Assert) ts = claim_at room asserts t.place ts
 stmt_by room deeper t (word words.Assume) ts = claim_at room assumes t.place ts
+stmt_by room deeper t (word words.Fold) ts = fold_at room folds t.place ts
+stmt_by room deeper t (word words.Unfold) ts = fold_at room unfolds t.place ts
 stmt_by room deeper t (word words.If) ts = branch_at room deeper t.place ts
 stmt_by room deeper t (word words.While) ts = while_at room deeper t.place ts
 stmt_by room deeper t k ts = Err (Unexpected (t ∷ ts))
@@ -204,6 +211,8 @@ begins_stmt (word words.Inhale) = true
 begins_stmt (word words.Exhale) = true
 begins_stmt (word words.Assert) = true
 begins_stmt (word words.Assume) = true
+begins_stmt (word words.Fold) = true
+begins_stmt (word words.Unfold) = true
 begins_stmt (word words.If) = true
 begins_stmt (word words.While) = true
 begins_stmt k = false

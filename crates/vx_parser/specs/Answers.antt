@@ -23,13 +23,8 @@ use Rattle.vx_parser.specs.declared.fault.TextFault.TheVariants as faults
 -- ---- words and signs that this language leaves out
 
 abbrev pub is_foreign_word : Word → Bool
-is_foreign_word words.Predicate = true
 is_foreign_word words.Function = true
 is_foreign_word words.Decreases = true
-is_foreign_word words.Fold = true
-is_foreign_word words.Unfold = true
-is_foreign_word words.Unfolding = true
-is_foreign_word words.In = true
 is_foreign_word words.Foreign = true
 is_foreign_word w = false
 

@@ -1,5 +1,5 @@
 -- The words and signs of Viper (VMCAI 2016), as they are parsed, that the store language lacks: its programs have no heap,
--- so no fields, no references and no permissions, and no loops.
+-- so no fields, no references, no permissions and no predicates, and no loops.
 use Rattle.std.specs.Prelude.{◌≡◌, Bool, true, false, Option, Some, None}
 use Rattle.vx_tokens.specs.declared.token.Word.{Word}
 use Rattle.vx_tokens.specs.declared.token.Word.TheVariants as words
@@ -12,6 +12,7 @@ use Rattle.vx_parser.specs.declared.fault.TextFault.TheVariants as faults
 
 abbrev pub is_beyond_word : Word → Bool
 is_beyond_word words.Field = true
+is_beyond_word words.Predicate = true
 is_beyond_word words.Ref = true
 is_beyond_word words.Perm = true
 is_beyond_word words.Null = true
@@ -21,6 +22,10 @@ is_beyond_word words.Outcome = true
 is_beyond_word words.Old = true
 is_beyond_word words.Acc = true
 is_beyond_word words.New = true
+is_beyond_word words.Fold = true
+is_beyond_word words.Unfold = true
+is_beyond_word words.Unfolding = true
+is_beyond_word words.In = true
 is_beyond_word words.While = true
 is_beyond_word words.Invariant = true
 is_beyond_word w = false

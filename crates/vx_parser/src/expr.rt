@@ -9,14 +9,14 @@ ghost use Rattle.vx_parser.specs.Gives.{Gives};
 ghost use Rattle.vx_grammar.specs.Laws.{whole, SpelledWithin};
 ghost use Rattle.vx_parser.specs.Says.{SaysOf};
 ghost use Rattle.vx_ast.specs.Written.{Expr as Tree};
-ghost use Rattle.vx_parser.specs.Views.{exprs_of, access_of};
+ghost use Rattle.vx_parser.specs.Views.{exprs_of, access_of, instance_of};
 
-use crate::made::{accessed, applied, chosen, joined, old, prefixed, read};
+use crate::made::{accessed, applied, chosen, joined, old, prefixed, read, unfolded};
 use crate::name::name;
 use crate::stop::Stop;
 use std::alloc::{AllocError, Global};
 use std::rc::Rc;
-use vx_ast::{BinaryOperator, Expr, ExprKind, Place, UnaryOperator};
+use vx_ast::{BinaryOperator, Expr, ExprKind, Instance, Name, Place, UnaryOperator};
 use vx_grammar::{answers_are_right, spelled_is_read};
 use vx_tokens::{Kind, Symbol, Token, Word};
 
@@ -237,6 +237,7 @@ fn unary<'t>(alloc: Global, room: u32, tokens: &'t [Token<'t>]) -> Read<'t, Expr
             let (e, rest) = nested_operand(alloc, room, tokens, inner)?;
             Ok((prefixed(alloc, place, UnaryOperator::Negate, e)?, rest))
         }
+        Kind::Word(Word::Unfolding) => unfolding(alloc, room, first, inner),
         _ => postfix(alloc, room, first, tokens, inner),
     }
 }
@@ -518,6 +519,133 @@ fn amount<'t>(alloc: Global, room: u32, tokens: &'t [Token<'t>]) -> Read<'t, Opt
             Ok((Some(Rc::new(alloc, e)?), rest))
         }
         _ => Ok((None, tokens)),
+    }
+}
+
+// ---- instances and unfoldings
+
+/// An instance, with an amount where it stands in `acc`.
+#[cycle(expr)]
+#[tactic(auto, unfolding(vx_grammar::specs::Reading::instance_at))]
+pub fn instance<'t>(alloc: Global, room: u32, tokens: &'t [Token<'t>]) -> Read<'t, Instance>
+    requires { room < 1000 }
+    ensures { Gives (λ x. (instance_of x.0, tokens_in x.1.now)) result (reading.instance_at (reading.below room) (tokens_in tokens.now)) }
+{
+    let Some((first, inner)) = tokens.split_first() else {
+        return Err(Stop::Unexpected(tokens));
+    };
+    match first.kind {
+        Kind::Name(text) => alone(alloc, room, first.place, text, inner),
+        Kind::Word(Word::Acc) => enclosed_holding(alloc, room, inner),
+        _ => Err(Stop::Unexpected(tokens)),
+    }
+}
+
+// What stands behind the name of an instance without an amount.
+#[cycle(expr)]
+#[tactic(auto, unfolding(vx_grammar::specs::Reading::bare_by))]
+fn alone<'t>(
+    alloc: Global,
+    room: u32,
+    place: Place,
+    text: &str,
+    tokens: &'t [Token<'t>],
+) -> Read<'t, Instance>
+    requires { room < 1000 }
+    ensures { Gives (λ x. (instance_of x.0, tokens_in x.1.now)) result (reading.bare_by (reading.below room) text.now (tokens_in tokens.now)) }
+{
+    let (arguments, rest) = enclosed_arguments(alloc, room, tokens)?;
+    let text = String::from_str(alloc, text)?;
+    let instance = Instance {
+        predicate: Name { text, place },
+        arguments,
+        amount: None,
+    };
+    Ok((instance, rest))
+}
+
+// What `acc` holds, between parentheses.
+#[cycle(expr)]
+#[tactic(auto, unfolding(vx_grammar::specs::Reading::enclosed))]
+fn enclosed_holding<'t>(alloc: Global, room: u32, tokens: &'t [Token<'t>]) -> Read<'t, Instance>
+    requires { room < 1000 }
+    ensures { Gives (λ x. (instance_of x.0, tokens_in x.1.now)) result (reading.enclosed (reading.below room) reading.holding (tokens_in tokens.now)) }
+{
+    let (_, inner) = expect(Symbol::Open, tokens)?;
+    let (instance, rest) = nested_holding(alloc, room, tokens, inner)?;
+    let (_, rest) = expect(Symbol::Close, rest)?;
+    Ok((instance, rest))
+}
+
+#[cycle(expr)]
+fn nested_holding<'t>(
+    alloc: Global,
+    room: u32,
+    here: &'t [Token<'t>],
+    tokens: &'t [Token<'t>],
+) -> Read<'t, Instance>
+    requires { room < 1000 }
+    ensures { Gives (λ x. (instance_of x.0, tokens_in x.1.now)) result (reading.below room reading.holding (tokens_in here.now) (tokens_in tokens.now)) }
+{
+    match room.checked_sub(1) {
+        Some(less) => holding(alloc, less, tokens),
+        None => Err(Stop::TooDeep(here)),
+    }
+}
+
+#[cycle(expr)]
+#[tactic(auto, unfolding(vx_grammar::specs::Reading::holding_at))]
+fn holding<'t>(alloc: Global, room: u32, tokens: &'t [Token<'t>]) -> Read<'t, Instance>
+    requires { room < 1000 }
+    ensures { Gives (λ x. (instance_of x.0, tokens_in x.1.now)) result (reading.holding_at (reading.below room) (tokens_in tokens.now)) }
+{
+    let (predicate, rest) = name(alloc, tokens)?;
+    let (arguments, rest) = enclosed_arguments(alloc, room, rest)?;
+    let (amount, rest) = amount(alloc, room, rest)?;
+    let instance = Instance {
+        predicate,
+        arguments,
+        amount,
+    };
+    Ok((instance, rest))
+}
+
+fn begins_body(kind: Kind) -> bool
+    ensures { result ≡ reading.begins_body (kind_of kind.entry) }
+{
+    matches!(kind, Kind::Word(Word::In))
+}
+
+// What stands behind `unfolding`.
+#[cycle(expr)]
+#[tactic(auto, unfolding(vx_grammar::specs::Reading::unfolding_by))]
+fn unfolding<'t>(
+    alloc: Global,
+    room: u32,
+    first: &'t Token<'t>,
+    tokens: &'t [Token<'t>],
+) -> Read<'t, Expr>
+    requires { room < 1000 }
+    ensures { Gives (λ x. (written_expr x.0, tokens_in x.1.now)) result (reading.unfolding_by (reading.below room) (token_of first.now) (tokens_in tokens.now)) }
+{
+    let place = first.place;
+    let (instance, rest) = instance(alloc, room, tokens)?;
+    let (body, rest) = behind_in(alloc, room, rest)?;
+    Ok((unfolded(place, instance, Rc::new(alloc, body)?), rest))
+}
+
+// `in`, and the body behind it.
+#[cycle(expr)]
+#[tactic(auto, unfolding(vx_grammar::specs::Reading::behind_in))]
+fn behind_in<'t>(alloc: Global, room: u32, tokens: &'t [Token<'t>]) -> Read<'t, Expr>
+    requires { room < 1000 }
+    ensures { Gives (λ x. (written_expr x.0, tokens_in x.1.now)) result (reading.behind_in (reading.below room) (tokens_in tokens.now)) }
+{
+    match tokens.split_first() {
+        Some((first, inner)) if begins_body(first.kind) => {
+            nested_choice(alloc, room, tokens, inner)
+        }
+        _ => Err(Stop::Unexpected(tokens)),
     }
 }
 

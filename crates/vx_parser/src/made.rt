@@ -1,11 +1,13 @@
 //! The nodes of expressions.
 
 ghost use Rattle.std.specs.Prelude.{◌≡◌, IfOk, string_bytes};
+ghost use Rattle.vx_grammar.specs.Grammar.{unfolding_of};
+ghost use Rattle.vx_parser.specs.Views.{instance_of};
 ghost use Rattle.vx_ast.specs.Written.{Unary, Binary, Choice, Call, Read, Old, Access, name_of, written_all, written_expr, written_optional};
 
 use std::alloc::{AllocError, Global};
 use std::rc::Rc;
-use vx_ast::{BinaryOperator, Expr, ExprKind, Name, Place, UnaryOperator};
+use vx_ast::{BinaryOperator, Expr, ExprKind, Instance, Name, Place, UnaryOperator};
 
 /// An operand behind a prefix.
 pub fn prefixed(alloc: Global, place: Place, op: UnaryOperator, e: Expr) -> Result<Expr, AllocError>
@@ -79,4 +81,17 @@ pub fn accessed(
 {
     let kind = ExprKind::Access(Rc::new(alloc, held)?, amount);
     Ok(Expr { place, kind })
+}
+
+/// An expression under an unfolded instance.
+pub fn unfolded(place: Place, instance: Instance, body: Rc<Expr>) -> Expr
+    ensures { written_expr result ≡ unfolding_of place (instance_of instance) (written_expr body.value) }
+{
+    let Instance {
+        predicate,
+        arguments,
+        amount,
+    } = instance;
+    let kind = ExprKind::Unfolding(predicate, arguments, amount, body);
+    Expr { place, kind }
 }

@@ -1,20 +1,20 @@
 //! Reading members.
 
 ghost use Rattle.std.specs.Prelude.{◌≡◌, IfOk, length, ◌∷◌, []};
-ghost use Rattle.vx_ast.specs.Written.{name_of, written_expr, written_declaration, written_member};
+ghost use Rattle.vx_ast.specs.Written.{name_of, optional_block, optional_expr, written_expr, written_declaration, written_member};
 ghost use Rattle.vx_tokens.specs.Tokens.{kind_of, token_of, tokens_in};
 ghost use Rattle.vx_grammar.specs.Reading.{run};
 ghost use Rattle.vx_grammar.specs.MemberReading as reading;
 ghost use Rattle.vx_parser.specs.Gives.{Gives};
-ghost use Rattle.vx_parser.specs.Views.{block_of, clauses_of, declarations_of};
+ghost use Rattle.vx_parser.specs.Views.{clauses_of, declarations_of};
 
-use crate::expr::{Read, expect, is_symbol, same};
+use crate::expr::{Read, expect, is_symbol, nested_choice, same};
 use crate::name::name;
 use crate::stmt::{block, clause, declaration, skip_semicolon};
 use crate::stop::Stop;
 use std::alloc::{AllocError, Global};
 use std::rc::Rc;
-use vx_ast::{Block, Declaration, Expr, Member, MemberKind, Method, Name, Place};
+use vx_ast::{Block, Declaration, Expr, Member, MemberKind, Method, Name, Place, Predicate};
 use vx_tokens::{Kind, Symbol, Token, Word};
 
 /// The nesting limit.
@@ -175,6 +175,7 @@ pub fn member<'t>(alloc: Global, first: &'t Token<'t>, tokens: &'t [Token<'t>]) 
 {
     match first.kind {
         Kind::Word(Word::Field) => field(alloc, first.place, tokens),
+        Kind::Word(Word::Predicate) => predicate(alloc, first.place, tokens),
         Kind::Word(Word::Method) => method(alloc, first.place, tokens),
         _ => Err(Stop::Unexpected(tokens)),
     }
@@ -190,6 +191,62 @@ fn field<'t>(alloc: Global, place: Place, tokens: &'t [Token<'t>]) -> Read<'t, M
     Ok((Member { place, name, kind }, rest))
 }
 
+fn begins_braces(tokens: &[Token]) -> bool
+    ensures { result ≡ reading.begins_braces (tokens_in tokens.now) }
+{
+    match tokens.split_first() {
+        Some((first, _)) => is_symbol(Symbol::OpenBrace, first.kind),
+        None => false,
+    }
+}
+
+// An expression between braces.
+#[tactic(auto, unfolding(vx_grammar::specs::MemberReading::braced_at))]
+fn braced<'t>(alloc: Global, tokens: &'t [Token<'t>]) -> Read<'t, Expr>
+    ensures { Gives (λ x. (written_expr x.0, tokens_in x.1.now)) result (reading.braced_at reading.limit (tokens_in tokens.now)) }
+{
+    let (_, inner) = expect(Symbol::OpenBrace, tokens)?;
+    let (e, rest) = nested_choice(alloc, LIMIT, tokens, inner)?;
+    let (_, rest) = expect(Symbol::CloseBrace, rest)?;
+    Ok((e, rest))
+}
+
+// The body of a predicate, or none.
+#[tactic(auto, unfolding(vx_grammar::specs::MemberReading::given_at, vx_grammar::specs::MemberReading::some_braced))]
+fn given<'t>(alloc: Global, tokens: &'t [Token<'t>]) -> Read<'t, Option<Rc<Expr>>>
+    ensures { Gives (λ x. (optional_expr x.0, tokens_in x.1.now)) result (reading.given_at reading.limit (tokens_in tokens.now)) }
+{
+    if begins_braces(tokens) {
+        let (e, rest) = braced(alloc, tokens)?;
+        return Ok((Some(Rc::new(alloc, e)?), rest));
+    }
+    Ok((None, tokens))
+}
+
+// What stands behind `predicate`.
+#[tactic(auto, unfolding(vx_grammar::specs::MemberReading::predicate_at))]
+fn predicate<'t>(alloc: Global, place: Place, tokens: &'t [Token<'t>]) -> Read<'t, Member>
+    ensures { Gives (λ x. (written_member x.0, tokens_in x.1.now)) result (reading.predicate_at reading.limit place (tokens_in tokens.now)) }
+{
+    let (name, rest) = name(alloc, tokens)?;
+    let (parameters, rest) = parameters(alloc, rest)?;
+    let (body, rest) = given(alloc, rest)?;
+    let kind = MemberKind::Predicate(Predicate { parameters, body });
+    Ok((Member { place, name, kind }, rest))
+}
+
+// The body of a method, or none.
+#[tactic(auto, unfolding(vx_grammar::specs::MemberReading::body_at, vx_grammar::specs::MemberReading::some_block))]
+fn body<'t>(alloc: Global, tokens: &'t [Token<'t>]) -> Read<'t, Option<Rc<Block>>>
+    ensures { Gives (λ x. (optional_block x.0, tokens_in x.1.now)) result (reading.body_at reading.limit (tokens_in tokens.now)) }
+{
+    if begins_braces(tokens) {
+        let (body, rest) = block(alloc, LIMIT, tokens)?;
+        return Ok((Some(Rc::new(alloc, body)?), rest));
+    }
+    Ok((None, tokens))
+}
+
 // What stands behind `method`.
 #[tactic(auto, unfolding(vx_grammar::specs::MemberReading::method_at))]
 fn method<'t>(alloc: Global, place: Place, tokens: &'t [Token<'t>]) -> Read<'t, Member>
@@ -199,8 +256,7 @@ fn method<'t>(alloc: Global, place: Place, tokens: &'t [Token<'t>]) -> Read<'t, 
     let (parameters, rest) = parameters(alloc, rest)?;
     let (returns, rest) = returns(alloc, rest)?;
     let (clauses, rest) = contract(alloc, rest)?;
-    let (body, rest) = block(alloc, LIMIT, rest)?;
-    let body = Rc::new(alloc, body)?;
+    let (body, rest) = body(alloc, rest)?;
     Ok((made(place, name, parameters, returns, clauses, body), rest))
 }
 
@@ -210,16 +266,16 @@ fn made(
     parameters: Vec<Declaration>,
     returns: Vec<Declaration>,
     clauses: Clauses,
-    body: Rc<Block>,
+    body: Option<Rc<Block>>,
 ) -> Member
-    ensures { written_member result ≡ reading.method_of place (name_of name) (declarations_of parameters.items) (declarations_of returns.items) (clauses_of clauses) (block_of body.value) }
+    ensures { written_member result ≡ reading.method_of place (name_of name) (declarations_of parameters.items) (declarations_of returns.items) (clauses_of clauses) (optional_block body) }
 {
     let method = Method {
         parameters,
         returns,
         preconditions: clauses.preconditions,
         postconditions: clauses.postconditions,
-        body: Some(body),
+        body,
     };
     let kind = MemberKind::Method(method);
     Member { place, name, kind }

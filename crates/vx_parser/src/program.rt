@@ -93,7 +93,10 @@ pub fn parse(alloc: Global, text: &[u8]) -> Result<Program, TextFault>
 fn begins_member(kind: Kind) -> bool
     ensures { result ≡ reading.begins_member (kind_of kind.entry) }
 {
-    matches!(kind, Kind::Word(Word::Field) | Kind::Word(Word::Method))
+    matches!(
+        kind,
+        Kind::Word(Word::Field) | Kind::Word(Word::Predicate) | Kind::Word(Word::Method)
+    )
 }
 
 #[tactic(auto, unfolding(vx_grammar::specs::MemberReading::members_within))]
@@ -209,15 +212,5 @@ fn is_foreign_symbol(symbol: Symbol) -> bool
 fn is_foreign_word(word: Word) -> bool
     ensures { result ≡ answers.is_foreign_word word }
 {
-    matches!(
-        word,
-        Word::Predicate
-            | Word::Function
-            | Word::Decreases
-            | Word::Fold
-            | Word::Unfold
-            | Word::Unfolding
-            | Word::In
-            | Word::Foreign
-    )
+    matches!(word, Word::Function | Word::Decreases | Word::Foreign)
 }

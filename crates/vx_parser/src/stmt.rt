@@ -6,19 +6,23 @@ ghost use Rattle.vx_tokens.specs.Tokens.{kind_of, token_of, tokens_in};
 ghost use Rattle.vx_grammar.specs.Reading.{below};
 ghost use Rattle.vx_grammar.specs.StmtReading as reading;
 ghost use Rattle.vx_parser.specs.Gives.{Gives};
-ghost use Rattle.vx_grammar.specs.Statements.{claim_meant};
-ghost use Rattle.vx_parser.specs.StmtPart.{stmt_part_of, claim_of};
+ghost use Rattle.vx_grammar.specs.Statements.{claim_meant, folding_meant};
+ghost use Rattle.vx_parser.specs.StmtPart.{stmt_part_of, claim_of, folding_of};
 ghost use Rattle.vx_grammar.specs.StmtReading.{block_from};
 ghost use Rattle.vx_grammar.specs.Reading.{run};
-ghost use Rattle.vx_parser.specs.Views.{stmt_of, block_of, exprs_of};
+ghost use Rattle.vx_parser.specs.Views.{stmt_of, block_of, exprs_of, instance_of};
 
-use crate::expr::{Read, choice, enclosed_arguments, expect, grouped, is_symbol, postfix};
+use crate::expr::{
+    Read, choice, enclosed_arguments, expect, grouped, instance, is_symbol, postfix,
+};
 use crate::name::{more_names, name};
 use crate::right::{one, right};
 use crate::stop::Stop;
 use std::alloc::{AllocError, Global};
 use std::rc::Rc;
-use vx_ast::{Block, Declaration, Expr, ExprKind, Name, Place, Right, Stmt, StmtKind, ValueType};
+use vx_ast::{
+    Block, Declaration, Expr, ExprKind, Instance, Name, Place, Right, Stmt, StmtKind, ValueType,
+};
 use vx_tokens::{Kind, Symbol, Token, Word};
 
 /// What nests: the statements between braces, or the part of an `if` from an `elseif` on.
@@ -35,6 +39,13 @@ enum Claim {
     Exhale,
     Assert,
     Assume,
+}
+
+/// What is done with an instance.
+#[derive(Clone, Copy)]
+enum Folding {
+    Fold,
+    Unfold,
 }
 
 #[tactic(auto, unfolding(vx_grammar::specs::StmtReading::type_at))]
@@ -407,6 +418,32 @@ fn claimed(alloc: Global, claim: Claim, place: Place, e: Expr) -> Result<Stmt, A
     Ok(Stmt { place, kind })
 }
 
+// What stands behind `fold` or `unfold`.
+#[tactic(auto, unfolding(vx_grammar::specs::StmtReading::fold_at))]
+fn instance_statement<'t>(
+    alloc: Global,
+    room: u32,
+    folding: Folding,
+    place: Place,
+    tokens: &'t [Token<'t>],
+) -> Read<'t, Stmt>
+    requires { room < 1000 }
+    ensures { Gives (λ x. (stmt_of x.0, tokens_in x.1.now)) result (reading.fold_at room (folding_of folding) place (tokens_in tokens.now)) }
+{
+    let (instance, rest) = instance(alloc, room, tokens)?;
+    Ok((folded(folding, place, instance), rest))
+}
+
+fn folded(folding: Folding, place: Place, instance: Instance) -> Stmt
+    ensures { stmt_of result ≡ folding_meant (folding_of folding) place (instance_of instance) }
+{
+    let kind = match folding {
+        Folding::Fold => StmtKind::Fold(instance),
+        Folding::Unfold => StmtKind::Unfold(instance),
+    };
+    Stmt { place, kind }
+}
+
 #[cycle(stmt)]
 #[tactic(auto, unfolding(vx_grammar::specs::StmtReading::stmt_at, vx_grammar::specs::StmtReading::target_at))]
 fn statement<'t>(alloc: Global, room: u32, tokens: &'t [Token<'t>]) -> Read<'t, Stmt>
@@ -427,6 +464,8 @@ fn statement<'t>(alloc: Global, room: u32, tokens: &'t [Token<'t>]) -> Read<'t, 
         Kind::Word(Word::Exhale) => claiming(alloc, room, Claim::Exhale, place, inner),
         Kind::Word(Word::Assert) => claiming(alloc, room, Claim::Assert, place, inner),
         Kind::Word(Word::Assume) => claiming(alloc, room, Claim::Assume, place, inner),
+        Kind::Word(Word::Fold) => instance_statement(alloc, room, Folding::Fold, place, inner),
+        Kind::Word(Word::Unfold) => instance_statement(alloc, room, Folding::Unfold, place, inner),
         Kind::Word(Word::If) => branch(alloc, room, place, inner),
         Kind::Word(Word::While) => repetition(alloc, room, place, inner),
         _ => Err(Stop::Unexpected(tokens)),
@@ -444,6 +483,8 @@ fn begins_statement(kind: Kind) -> bool
             | Kind::Word(Word::Exhale)
             | Kind::Word(Word::Assert)
             | Kind::Word(Word::Assume)
+            | Kind::Word(Word::Fold)
+            | Kind::Word(Word::Unfold)
             | Kind::Word(Word::If)
             | Kind::Word(Word::While)
     )

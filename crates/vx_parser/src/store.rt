@@ -75,6 +75,7 @@ fn is_beyond_word(word: Word) -> bool
     matches!(
         word,
         Word::Field
+            | Word::Predicate
             | Word::Ref
             | Word::Perm
             | Word::Null
@@ -84,6 +85,10 @@ fn is_beyond_word(word: Word) -> bool
             | Word::Old
             | Word::Acc
             | Word::New
+            | Word::Fold
+            | Word::Unfold
+            | Word::Unfolding
+            | Word::In
             | Word::While
             | Word::Invariant
     )

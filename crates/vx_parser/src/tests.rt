@@ -21,7 +21,7 @@ fn answer(alloc: Global, text: &[u8]) -> Result<String, AllocError> {
     }
 }
 
-const ROWS: [(&str, &str); 67] = [
+const ROWS: [(&str, &str); 80] = [
     ("", "ok"),
     (
         "method id(b: Bool) returns (c: Bool) requires b ensures c { c := b }",
@@ -124,6 +124,37 @@ const ROWS: [(&str, &str); 67] = [
         "method m() decreases 1 { }",
         "1:12 E09 Unsupported decreases",
     ),
+    (
+        "method m() { fold P(x) unfold acc(P(x, y), 1/2); fold acc(P()) }",
+        "ok",
+    ),
+    ("method m() { fold P }", "1:21 E03 Unexpected }"),
+    ("method m() { fold acc(x.f) }", "1:24 E03 Unexpected ."),
+    ("method m() { unfold x.f }", "1:22 E03 Unexpected ."),
+    (
+        "predicate P(x: Ref) { acc(x.f) } predicate Q(); field f: Int",
+        "ok",
+    ),
+    ("predicate P() { }", "1:17 E03 Unexpected }"),
+    ("method m() requires a; ; method n() ensures b", "ok"),
+    ("method m() ;;", "1:13 E03 Unexpected ;"),
+    ("method m() decreases 1", "1:12 E09 Unsupported decreases"),
+    (
+        "method m() { assert unfolding P(x) in x.f + 1 == 2 && b ? c : d }",
+        "ok",
+    ),
+    (
+        "method m() { assert a + unfolding acc(P(x), 1/2) in b - !unfolding Q() in c }",
+        "ok",
+    ),
+    (
+        "method m() { assert unfolding x in y }",
+        "1:33 E03 Unexpected in",
+    ),
+    (
+        "method m() { assert unfolding P(x) x }",
+        "1:36 E03 Unexpected x",
+    ),
     ("adt T { }", "1:1 E09 Unsupported adt"),
     ("method adt() { }", "ok"),
     ("method adt adt", "1:12 E03 Unexpected adt"),
@@ -148,7 +179,14 @@ fn rows(rt: HostRuntime) -> Result<(), Fail> {
     Ok(())
 }
 
-const BEYOND: [(&str, &str); 5] = [
+const BEYOND: [(&str, &str); 9] = [
+    ("predicate P()", "1:1 Unsupported predicate"),
+    ("method m() { fold P(x) }", "1:14 Unsupported fold"),
+    (
+        "method m() { assert unfolding P(x) in true }",
+        "1:21 Unsupported unfolding",
+    ),
+    ("method m() requires true", "none"),
     ("method m() { assert true }", "none"),
     (
         "method m() { assert x.f } field f: Int",
@@ -158,6 +196,36 @@ const BEYOND: [(&str, &str); 5] = [
     ("method m() { assert 1 / 2 == none }", "1:23 Unsupported /"),
     ("field f: Int", "1:1 Unsupported field"),
 ];
+
+// The first so many bytes of a method are a program exactly where no part of it is left out in the middle.
+#[test]
+fn prefixes(rt: HostRuntime) -> Result<(), Fail> {
+    let text = "method id(b: Bool) returns (c: Bool) requires b ensures c { c := b }";
+    let whole = [0, 18, 19, 36, 37, 47, 48, 57, 58, 68];
+    for length in 0..=text.len() {
+        let got = answer(rt.alloc(), &text.as_bytes()[..length])?;
+        assert_eq!(rt; got.as_str() == "ok", whole.contains(&length), "{length}");
+    }
+    Ok(())
+}
+
+// So many instances, each unfolded in the body of the one before.
+fn unfoldings(alloc: Global, count: usize) -> Result<String, AllocError> {
+    let mut text = Vec::from_slice(alloc, b"method m() { assert ")?;
+    for _ in 0..count {
+        text.extend_from_slice(b"unfolding P() in ")?;
+    }
+    text.extend_from_slice(b"true }")?;
+    answer(alloc, text.as_slice())
+}
+
+#[test]
+fn many_unfoldings(rt: HostRuntime) -> Result<(), Fail> {
+    let alloc = rt.alloc();
+    assert_eq!(rt; unfoldings(alloc, 199)?.as_str(), "ok");
+    assert_eq!(rt; unfoldings(alloc, 200)?.as_str(), "1:3415 E06 TooDeep");
+    Ok(())
+}
 
 #[test]
 fn beyond_the_store_language(rt: HostRuntime) -> Result<(), Fail> {

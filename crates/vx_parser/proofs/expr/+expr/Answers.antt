@@ -3,7 +3,7 @@ use Rattle.std.proofs.lemmas.List.{map-append}
 use Rattle.std.proofs.lemmas.Result.{err_from_is_err_and}
 use Rattle.vx_tokens.specs.Tokens.{Token, token_of, tokens_in}
 use Rattle.vx_ast.specs.Written.{Exprs, written_expr, written_all}
-use Rattle.vx_grammar.specs.Reading.{choice, implication, chain, arguments, access, argument_turn, below}
+use Rattle.vx_grammar.specs.Reading.{choice, implication, chain, arguments, access, holding, argument_turn, below}
 use Rattle.vx_grammar.specs.Nesting.{is_full}
 use Rattle.vx_parser.specs.Views.{exprs_of}
 use Rattle.vx_parser.proofs.Rows.{all_items}
@@ -40,6 +40,12 @@ nested_access-returns-in-Some t c = nested_is access _ c.access_inside.result c.
 
 pub nested_access-returns-in-None : goal.nested_access-returns-in-None
 nested_access-returns-in-None t c = is_full c.args.room access (tokens_in c.args.here.now) (tokens_in c.args.tokens.now) (omega (arith, c.in-None.ensures))
+
+pub nested_holding-returns-in-Some : goal.nested_holding-returns-in-Some
+nested_holding-returns-in-Some t c = nested_is holding _ c.holding.result c.args.room c.in-Some.less (tokens_in c.args.here.now) (tokens_in c.args.tokens.now) c.in-Some.ensures c.holding.ensures
+
+pub nested_holding-returns-in-None : goal.nested_holding-returns-in-None
+nested_holding-returns-in-None t c = is_full c.args.room holding (tokens_in c.args.here.now) (tokens_in c.args.tokens.now) (omega (arith, c.in-None.ensures))
 
 pub some_arguments-returns : goal.some_arguments-returns
 some_arguments-returns t c =

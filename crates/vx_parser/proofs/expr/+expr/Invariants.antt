@@ -22,6 +22,27 @@ decreases-nested_arguments l = 32 * l.room
 abbrev pub decreases-nested_access : goal.decreases-nested_access
 decreases-nested_access l = 32 * l.room
 
+abbrev pub decreases-nested_holding : goal.decreases-nested_holding
+decreases-nested_holding l = 32 * l.room
+
+abbrev pub decreases-enclosed_holding : goal.decreases-enclosed_holding
+decreases-enclosed_holding l = 32 * l.room + 1
+
+abbrev pub decreases-behind_in : goal.decreases-behind_in
+decreases-behind_in l = 32 * l.room + 1
+
+abbrev pub decreases-alone : goal.decreases-alone
+decreases-alone l = 32 * l.room + 2
+
+abbrev pub decreases-instance : goal.decreases-instance
+decreases-instance l = 32 * l.room + 3
+
+abbrev pub decreases-unfolding : goal.decreases-unfolding
+decreases-unfolding l = 32 * l.room + 4
+
+abbrev pub decreases-holding : goal.decreases-holding
+decreases-holding l = 32 * l.room + 20
+
 abbrev pub decreases-grouped : goal.decreases-grouped
 decreases-grouped l = 32 * l.room + 1
 
