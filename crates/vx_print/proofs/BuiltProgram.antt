@@ -1,17 +1,18 @@
 -- What is printed of a program is a phrase of it, wherever its tokens stand.
-use Rattle.std.proofs.Common.{◌≡◌, ◌∙◌, ℕ, ◌+◌, List, [], ◌∷◌, ◌++◌, length, Some, None, true, map, refl, sym, ap, ap₂, append_assoc, arith}
+use Rattle.std.proofs.Common.{◌≡◌, ◌∙◌, ℕ, ◌+◌, List, [], ◌∷◌, ◌++◌, length, Option, Some, None, true, refl, sym, ap, ap₂, append_assoc, arith}
+use Rattle.std.specs.Prelude.{option_map}
 use Rattle.vx_ast.specs.declared.Place.{Place}
-use Rattle.vx_ast.specs.Written.{Name, Exprs, NoMore, More, Declaration, Block, IsField, IsMethod, Member, Program}
+use Rattle.vx_ast.specs.Written.{Name, Expr, Exprs, NoMore, More, Declaration, Block, IsPredicate, IsMethod, Member, Program}
 use Rattle.vx_tokens.specs.declared.token.Word.TheVariants as words
 use Rattle.vx_tokens.specs.declared.token.Symbol.TheVariants as signs
 use Rattle.vx_tokens.specs.Tokens.{Kind, name, word, symbol}
 use Rattle.vx_grammar.specs.Grammar.{mark, marks, tokens_of, meant}
-use Rattle.vx_grammar.specs.Statements.{declaration_meant, declaration_marks, BlockPhrase, block_meant, block_marks, StandsBlock}
-use Rattle.vx_grammar.specs.Programs.{MoreDeclarations, no_more, listed, DeclarationsPhrase, none, some, ParametersPhrase, ReturnsPhrase, no_returns, returns, more_meant, declarations_meant, returns_meant, more_marks, declarations_marks, parameters_marks, returns_marks, ClausesPhrase, no_clauses, requires, ensures, requires_meant, ensures_meant, StandsClauses, clauses_marks, MethodPhrase, method_meant, StandsMethod, method_marks, MemberPhrase, a_field, a_method, member_meant, StandsMember, member_marks, ProgramPhrase, no_members, member, program_meant, StandsProgram, program_marks}
-use Rattle.vx_print.specs.Canonical.{parenthesized, braced, whole_tokens, further_declarations, declarations_tokens, returns_tokens, clauses_tokens, block_tokens, member_tokens}
+use Rattle.vx_grammar.specs.Statements.{declaration_meant, declaration_marks, BlockPhrase}
+use Rattle.vx_grammar.specs.Programs.{MoreDeclarations, no_more, listed, DeclarationsPhrase, none, some, ParametersPhrase, ReturnsPhrase, no_returns, returns, more_meant, declarations_meant, returns_meant, more_marks, declarations_marks, parameters_marks, returns_marks, ClausesPhrase, no_clauses, requires, ensures, requires_meant, ensures_meant, StandsClauses, clauses_marks, BracedPhrase, PredicatePhrase, given_meant, GivenStands, given_marks, body_meant, BodyStands, body_marks, MethodPhrase, StandsMethod, MemberPhrase, a_field, a_predicate, a_method, member_meant, StandsMember, member_marks, ProgramPhrase, no_members, member, program_meant, StandsProgram, program_marks}
+use Rattle.vx_print.specs.Canonical.{parenthesized, whole_tokens, further_declarations, declarations_tokens, returns_tokens, clauses_tokens, optional_expr_tokens, optional_block_tokens, member_tokens}
 use Rattle.vx_print.specs.Same.{nowhere, bare, bare_exprs, bare_block, bare_member, bare_program}
-use Rattle.vx_print.proofs.Built.{placed, Built, built}
-use Rattle.vx_print.proofs.BuiltStmt.{two, first, enclosed, place_declaration, BuiltBlock, built_block}
+use Rattle.vx_print.proofs.Built.{placed, two, first, built}
+use Rattle.vx_print.proofs.BuiltStmt.{place_declaration, built_block}
 
 -- ---- parameters
 
@@ -120,11 +121,57 @@ record BuiltMember (f : ℕ → Place) (i : ℕ) (ks : List Kind) (m : Member) :
   means : bare_member (member_meant phrase) ≡ m
   tokens : tokens_of (member_marks phrase) ≡ placed f i ks
 
-abbrev bare_method : Name → List Declaration → List Declaration → Exprs → Exprs → Block → Member
-bare_method x ps rs qs es b = record { place = nowhere; name = x; kind = IsMethod record { parameters = ps; returns = rs; requires = qs; ensures = es; body = Some b } }
+-- a body or none
+record BuiltBody (f : ℕ → Place) (i : ℕ) (ks : List Kind) (b : Option Block) : Type 0 where
+  phrase : Option BlockPhrase
+  stands : BodyStands phrase
+  means : option_map bare_block (body_meant phrase) ≡ b
+  tokens : tokens_of (body_marks phrase) ≡ placed f i ks
 
-built_method : (f : ℕ → Place) (i : ℕ) (x : Name) (ps rs : List Declaration) (kc kb : List Kind) (qs es : Exprs) (b : Block) → ((j : ℕ) → BuiltClauses f j kc qs es) → ((j : ℕ) → BuiltBlock f j kb b)
-    → BuiltMember f i (word words.Method ∷ name x ∷ (parenthesized (declarations_tokens ps) ++ (returns_tokens rs ++ (kc ++ braced kb)))) (bare_method x ps rs qs es b)
+built_body : (f : ℕ → Place) (i : ℕ) (w : Option BlockPhrase) → BodyStands w → BuiltBody f i (optional_block_tokens (body_meant w)) (option_map bare_block (body_meant w))
+built_body f i None h = record { phrase = None; stands = tt; means = refl; tokens = refl }
+built_body f i (Some b) h = let d = built_block f i b h in record { phrase = Some d.phrase; stands = d.stands; means = ap Some d.means; tokens = d.tokens 0 }
+
+record BuiltGiven (f : ℕ → Place) (i : ℕ) (ks : List Kind) (e : Option Expr) : Type 0 where
+  phrase : Option BracedPhrase
+  stands : GivenStands phrase
+  means : option_map bare (given_meant phrase) ≡ e
+  tokens : tokens_of (given_marks phrase) ≡ placed f i ks
+
+built_given : (f : ℕ → Place) (i : ℕ) (w : Option BracedPhrase) → BuiltGiven f i (optional_expr_tokens (given_meant w)) (option_map bare (given_meant w))
+built_given f i None = record { phrase = None; stands = tt; means = refl; tokens = refl }
+built_given f i (Some w) =
+    let ke = whole_tokens (meant w.inner) in
+    let b = built f (i + 1) 8 true w.inner in
+    let c = f (i + 1 + length ke) in
+    record {
+      phrase = Some record { from = f i; inner = b.phrase; to = c };
+      stands = b.stands;
+      means = ap Some b.means;
+      tokens = first f i (symbol signs.OpenBrace) _ (ke ++ symbol signs.CloseBrace ∷ []) (two f (i + 1) (marks 1 b.phrase) (mark 1 c (symbol signs.CloseBrace) ∷ []) ke (symbol signs.CloseBrace ∷ []) (b.tokens 1) refl);
+    }
+
+abbrev bare_predicate : Name → List Declaration → Option Expr → Member
+bare_predicate x ps e = record { place = nowhere; name = x; kind = IsPredicate record { parameters = ps; body = e } }
+
+built_predicate : (f : ℕ → Place) (i : ℕ) (x : Name) (ps : List Declaration) (kb : List Kind) (e : Option Expr) → ((j : ℕ) → BuiltGiven f j kb e) → BuiltMember f i (word words.Predicate ∷ name x ∷ (parenthesized (declarations_tokens ps) ++ kb)) (bare_predicate x ps e)
+built_predicate f i x ps kb e given =
+    let kp = parenthesized (declarations_tokens ps) in
+    let p = i + 1 + 1 in
+    let b = given (p + length kp) in
+    let w : PredicatePhrase = record { at = f i; name_at = f (i + 1); text = x; parameters = place_parameters f p ps; body = b.phrase } in
+    record {
+      phrase = a_predicate w;
+      stands = b.stands;
+      means = ap₂ (bare_predicate x) (all_same f (p + 1) ps) b.means;
+      tokens = first f i (word words.Predicate) _ (name x ∷ (kp ++ kb)) (first f (i + 1) (name x) _ (kp ++ kb) (two f p (parameters_marks 0 (place_parameters f p ps)) (given_marks b.phrase) kp kb (parameters_placed f p 0 ps) b.tokens));
+    }
+
+abbrev bare_method : Name → List Declaration → List Declaration → Exprs → Exprs → Option Block → Member
+bare_method x ps rs qs es b = record { place = nowhere; name = x; kind = IsMethod record { parameters = ps; returns = rs; requires = qs; ensures = es; body = b } }
+
+built_method : (f : ℕ → Place) (i : ℕ) (x : Name) (ps rs : List Declaration) (kc kb : List Kind) (qs es : Exprs) (b : Option Block) → ((j : ℕ) → BuiltClauses f j kc qs es) → ((j : ℕ) → BuiltBody f j kb b)
+    → BuiltMember f i (word words.Method ∷ name x ∷ (parenthesized (declarations_tokens ps) ++ (returns_tokens rs ++ (kc ++ kb)))) (bare_method x ps rs qs es b)
 built_method f i x ps rs kc kb qs es b clauses block =
     let kp = parenthesized (declarations_tokens ps) in
     let kr = returns_tokens rs in
@@ -138,24 +185,25 @@ built_method f i x ps rs kc kb qs es b clauses block =
       phrase = a_method w;
       stands = s;
       means =
-          ap₂ (λ l k. bare_method x l k (bare_exprs (requires_meant c.phrase)) (bare_exprs (ensures_meant c.phrase)) (bare_block (block_meant d.phrase))) (all_same f (p + 1) ps) (returns_same f r rs)
-          ∙ ap₂ (λ l k. bare_method x ps rs l k (bare_block (block_meant d.phrase))) c.requires_mean c.ensures_mean
+          ap₂ (λ l k. bare_method x l k (bare_exprs (requires_meant c.phrase)) (bare_exprs (ensures_meant c.phrase)) (option_map bare_block (body_meant d.phrase))) (all_same f (p + 1) ps) (returns_same f r rs)
+          ∙ ap₂ (λ l k. bare_method x ps rs l k (option_map bare_block (body_meant d.phrase))) c.requires_mean c.ensures_mean
           ∙ ap (bare_method x ps rs qs es) d.means;
       tokens =
-          first f i (word words.Method) _ (name x ∷ (kp ++ (kr ++ (kc ++ braced kb)))) (first f (i + 1) (name x) _ (kp ++ (kr ++ (kc ++ braced kb)))
-          (two f p (parameters_marks 0 (place_parameters f p ps)) (returns_marks 0 (place_returns f r rs) ++ (clauses_marks 0 0 c.phrase ++ block_marks 0 d.phrase)) kp (kr ++ (kc ++ braced kb)) (parameters_placed f p 0 ps)
-          (two f r (returns_marks 0 (place_returns f r rs)) (clauses_marks 0 0 c.phrase ++ block_marks 0 d.phrase) kr (kc ++ braced kb) (returns_placed f r 0 rs)
-          (two f (r + length kr) (clauses_marks 0 0 c.phrase) (block_marks 0 d.phrase) kc (braced kb) (c.tokens 0 0) (d.tokens 0)))));
+          first f i (word words.Method) _ (name x ∷ (kp ++ (kr ++ (kc ++ kb)))) (first f (i + 1) (name x) _ (kp ++ (kr ++ (kc ++ kb)))
+          (two f p (parameters_marks 0 (place_parameters f p ps)) (returns_marks 0 (place_returns f r rs) ++ (clauses_marks 0 0 c.phrase ++ body_marks d.phrase)) kp (kr ++ (kc ++ kb)) (parameters_placed f p 0 ps)
+          (two f r (returns_marks 0 (place_returns f r rs)) (clauses_marks 0 0 c.phrase ++ body_marks d.phrase) kr (kc ++ kb) (returns_placed f r 0 rs)
+          (two f (r + length kr) (clauses_marks 0 0 c.phrase) (body_marks d.phrase) kc kb (c.tokens 0 0) d.tokens))));
     }
 
 built_member : (f : ℕ → Place) (i : ℕ) (m : MemberPhrase) → StandsMember m → BuiltMember f i (member_tokens (member_meant m)) (bare_member (member_meant m))
 built_member f i (a_field p d) h = record { phrase = a_field (f i) (place_declaration f (i + 1) (declaration_meant d)); stands = tt; means = refl; tokens = refl }
+built_member f i (a_predicate w) h = built_predicate f i w.text (declarations_meant w.parameters.inner) (optional_expr_tokens (given_meant w.body)) (option_map bare (given_meant w.body)) (λ j. built_given f j w.body)
 built_member f i (a_method m) h =
     let ps = declarations_meant m.parameters.inner in
     let qs = requires_meant m.clauses in
     let es = ensures_meant m.clauses in
-    built_method f i m.text ps (returns_meant m.returns) (clauses_tokens words.Requires qs ++ clauses_tokens words.Ensures es) (block_tokens (block_meant m.body)) (bare_exprs qs) (bare_exprs es) (bare_block (block_meant m.body))
-    (λ j. built_clauses f j m.clauses m.clauses) (λ j. built_block f j m.body h.body)
+    built_method f i m.text ps (returns_meant m.returns) (clauses_tokens words.Requires qs ++ clauses_tokens words.Ensures es) (optional_block_tokens (body_meant m.body)) (bare_exprs qs) (bare_exprs es) (option_map bare_block (body_meant m.body))
+    (λ j. built_clauses f j m.clauses m.clauses) (λ j. built_body f j m.body h.body)
 
 -- ---- programs
 

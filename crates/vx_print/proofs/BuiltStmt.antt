@@ -1,25 +1,16 @@
 -- What is printed of a statement is a phrase of it, wherever its tokens stand.
-use Rattle.std.proofs.Common.{◌≡◌, ◌∙◌, ℕ, ◌+◌, List, [], ◌∷◌, ◌++◌, length, Bool, true, false, Option, Some, None, refl, sym, ap, ap₂, append-nil, append_assoc, arith}
+use Rattle.std.proofs.Common.{◌≡◌, ◌∙◌, ℕ, ◌+◌, List, [], ◌∷◌, ◌++◌, length, true, Some, None, refl, sym, ap, ap₂, append-nil, append_assoc}
 use Rattle.vx_ast.specs.declared.Place.{Place}
-use Rattle.vx_ast.specs.Written.{Name, Expr, Exprs, NoMore, More, Right, Value, NewAll, New, Declaration, Stmt, Block, Declare, Assign, Write, Invoke, Inhale, Exhale, Assert, Assume, If, While, Done, Then, Call, Read}
+use Rattle.vx_ast.specs.Written.{Name, Expr, Exprs, More, Right, Value, New, Declaration, Stmt, Block, Declare, Assign, Write, Invoke, Inhale, Exhale, Assert, Assume, If, While, Done, Then, Call, Read}
 use Rattle.vx_tokens.specs.declared.token.Word.TheVariants as words
 use Rattle.vx_tokens.specs.declared.token.Symbol.TheVariants as signs
-use Rattle.vx_tokens.specs.Tokens.{Kind, name, number, word, symbol, Token}
+use Rattle.vx_tokens.specs.Tokens.{Kind, name, word, symbol}
 use Rattle.vx_tokens.specs.Text.{one_token}
-use Rattle.vx_grammar.specs.Grammar.{Phrase, literal, constant, numeral, named, called, dotted, grouped, past, accessed, prefixed, joined, chosen, Mark, mark, marks, arguments_meant, arguments_marks, tokens_of, meant, StandsAt, IsPrimary, dots}
-use Rattle.vx_grammar.specs.Statements.{DeclarationPhrase, type_word, declaration_meant, declaration_marks, Claim, inhales, exhales, asserts, assumes, NamesPhrase, no_names, next_name, FieldsPhrase, every_field, no_fields, these_fields, RightPhrase, given, allocated, names_meant, fields_meant, right_meant, RightStands, names_marks, right_marks, InvariantsPhrase, no_invariants, invariant, invariants_meant, InvariantsStand, invariants_marks, IsPath, StmtPhrase, assigned, stored, invoked, targeted, declared, initialized, claimed, branched, repeated, BranchPhrase, branch, OtherPhrase, no_other, other, another, BlockPhrase, block, RowPhrase, no_more, more, stmt_meant, branch_meant, other_meant, block_meant, row_meant, StandsStmt, StandsBranch, StandsOther, StandsBlock, StandsRow, stmt_marks, branch_marks, other_marks, block_marks, row_marks}
-use Rattle.vx_grammar.proofs.Lists.{tokens-append}
-use Rattle.vx_print.specs.Canonical.{parenthesized, parenthesized_if, braced, is_prefixed, applied, expr_tokens, exprs_tokens, whole_tokens, read_tokens, further_names, names_tokens, declaration_tokens, right_tokens, initial_tokens, targets_tokens, clauses_tokens, stmt_tokens, block_tokens, else_tokens}
+use Rattle.vx_grammar.specs.Grammar.{Phrase, literal, constant, numeral, named, called, dotted, grouped, past, accessed, prefixed, joined, chosen, unfolded, InstancePhrase, Mark, mark, marks, arguments_meant, tokens_of, meant, StandsAt, IsPrimary, dots}
+use Rattle.vx_grammar.specs.Statements.{DeclarationPhrase, type_word, declaration_meant, Claim, inhales, exhales, asserts, assumes, NamesPhrase, no_names, next_name, every_field, no_fields, these_fields, RightPhrase, given, allocated, names_meant, right_meant, RightStands, names_marks, right_marks, InvariantsPhrase, no_invariants, invariant, invariants_meant, InvariantsStand, invariants_marks, IsPath, StmtPhrase, assigned, stored, invoked, targeted, declared, initialized, claimed, branched, repeated, folded, Folding, folds, unfolds, BranchPhrase, branch, OtherPhrase, no_other, other, another, BlockPhrase, block, RowPhrase, no_more, more, stmt_meant, branch_meant, other_meant, block_meant, row_meant, StandsStmt, StandsBranch, StandsOther, StandsBlock, StandsRow, stmt_marks, branch_marks, other_marks, block_marks, row_marks}
+use Rattle.vx_print.specs.Canonical.{parenthesized, parenthesized_if, braced, is_prefixed, applied, expr_tokens, exprs_tokens, whole_tokens, read_tokens, further_names, right_tokens, targets_tokens, clauses_tokens, stmt_tokens, block_tokens, else_tokens}
 use Rattle.vx_print.specs.Same.{nowhere, bare, bare_exprs, bare_right, bare_stmt, bare_block}
-use Rattle.vx_print.proofs.Built.{placed, placed_append, between, Built, built, BuiltArguments, built_arguments}
-
--- tokens in two parts
-pub two : (f : ℕ → Place) (i : ℕ) (ms ns : List Mark) (ks ls : List Kind) → tokens_of ms ≡ placed f i ks → tokens_of ns ≡ placed f (i + length ks) ls → tokens_of (ms ++ ns) ≡ placed f i (ks ++ ls)
-two f i ms ns ks ls e d = tokens-append ms ns ∙ ap₂ (λ x y. x ++ y) e d ∙ sym (placed_append f i ks ls)
-
--- one token in front
-pub first : (f : ℕ → Place) (i : ℕ) (k : Kind) (ts : List Token) (ks : List Kind) → ts ≡ placed f (i + 1) ks → one_token k (f i) ∷ ts ≡ placed f i (k ∷ ks)
-first f i k ts ks e = ap (λ l. one_token k (f i) ∷ l) e
+use Rattle.vx_print.proofs.Built.{placed, two, first, Built, built, built_arguments, BuiltCall, built_call, built_instance}
 
 -- tokens between two others, and what follows
 pub enclosed : (f : ℕ → Place) (i n : ℕ) (a b : Kind) (ms ns : List Mark) (ks ls : List Kind) → tokens_of ms ≡ placed f (i + 1) ks → tokens_of ns ≡ placed f (i + 1 + length ks + 1) ls
@@ -93,22 +84,6 @@ built_invariants f i (invariant p e semi rest) =
 
 -- ---- calls and paths
 
--- a name and its arguments
-record BuiltCall (f : ℕ → Place) (i : ℕ) (x : Name) (ks : List Kind) (es : Exprs) : Type 0 where
-  arguments : BuiltArguments f (i + 1 + 1) ks es
-  close : Place
-  tokens : (n : ℕ) → tokens_of (marks n (called (f i) x (f (i + 1)) arguments.phrase close)) ≡ placed f i (applied x ks)
-
-built_call : (f : ℕ → Place) (i : ℕ) (x : Name) (ks : List Kind) (es : Exprs) → BuiltArguments f (i + 1 + 1) ks es → BuiltCall f i x ks es
-built_call f i x ks es b =
-    let c = f (i + 1 + 1 + length ks) in
-    record {
-      arguments = b;
-      close = c;
-      tokens = λ n. first f i (name x) _ (parenthesized ks) (first f (i + 1) (symbol signs.Open) _ (ks ++ symbol signs.Close ∷ [])
-          (two f (i + 1 + 1) (arguments_marks (n + 1) b.phrase) (mark (n + 1) c (symbol signs.Close) ∷ []) ks (symbol signs.Close ∷ []) (b.tokens (n + 1)) refl));
-    }
-
 -- what stands in front of a dot
 abbrev receiver : Expr → List Kind
 receiver e = parenthesized_if (is_prefixed e) (expr_tokens 0 (is_prefixed e) e)
@@ -133,6 +108,7 @@ path_primary (accessed p o e a c) h = absurd h
 path_primary (prefixed p op e) h = absurd h
 path_primary (joined a p op b) h = absurd h
 path_primary (chosen c p a q b) h = absurd h
+path_primary (unfolded p i q e) h = absurd h
 
 dot_placed : (f : ℕ → Place) (i n : ℕ) (e : Expr) (x : Name) (b : BuiltPath f i e) → tokens_of (marks n (dotted b.phrase (f (i + length (receiver e))) (f (i + length (receiver e) + 1)) x)) ≡ placed f i (read_tokens e x)
 dot_placed f i n e x b =
@@ -159,6 +135,7 @@ built_path f i (accessed p o e a c) h = absurd h
 built_path f i (prefixed p op e) h = absurd h
 built_path f i (joined a p op b) h = absurd h
 built_path f i (chosen c p a q b) h = absurd h
+built_path f i (unfolded p w q e) h = absurd h
 
 -- ---- statements
 
@@ -208,6 +185,10 @@ built_claimed f i exhales p e = let b = built f (i + 1) 8 true e in record { phr
 built_claimed f i asserts p e = let b = built f (i + 1) 8 true e in record { phrase = claimed asserts (f i) b.phrase; stands = b.stands; means = ap (Assert nowhere) b.means; tokens = λ n. first f i (word words.Assert) _ (whole_tokens (meant e)) (b.tokens n) }
 built_claimed f i assumes p e = let b = built f (i + 1) 8 true e in record { phrase = claimed assumes (f i) b.phrase; stands = b.stands; means = ap (Assume nowhere) b.means; tokens = λ n. first f i (word words.Assume) _ (whole_tokens (meant e)) (b.tokens n) }
 
+built_folded : (f : ℕ → Place) (i : ℕ) (k : Folding) (p : Place) (w : InstancePhrase) → BuiltStmt f i (stmt_tokens (stmt_meant (folded k p w))) (bare_stmt (stmt_meant (folded k p w)))
+built_folded f i folds p w = let b = built_instance f (i + 1) w in record { phrase = folded folds (f i) b.phrase; stands = b.stands; means = rw (b.name_is, b.arguments_are, b.amount_is) refl; tokens = λ n. first f i (word words.Fold) _ _ (b.tokens n) }
+built_folded f i unfolds p w = let b = built_instance f (i + 1) w in record { phrase = folded unfolds (f i) b.phrase; stands = b.stands; means = rw (b.name_is, b.arguments_are, b.amount_is) refl; tokens = λ n. first f i (word words.Unfold) _ _ (b.tokens n) }
+
 built_targeted : (f : ℕ → Place) (i : ℕ) (x y : Name) (zs : List Name) (m : Name) (ks : List Kind) (es : Exprs) → ((j : ℕ) → BuiltCall f j m ks es) → BuiltStmt f i (targets_tokens (x ∷ y ∷ zs) ++ applied m ks) (Invoke nowhere (x ∷ y ∷ zs) m es)
 built_targeted f i x y zs m ks es call =
     let j = i + 1 + 1 + 1 in
@@ -226,7 +207,7 @@ built_targeted f i x y zs m ks es call =
           ∙ ap (λ l. placed f i (name x ∷ symbol signs.Comma ∷ name y ∷ l)) (sym (append_assoc (further_names zs) (symbol signs.Becomes ∷ []) (applied m ks)));
     }
 
-built_branched : (f : ℕ → Place) (i : ℕ) (ke ka kb : List Kind) (e : Expr) (a b : Block) → Built f (i + 1) 8 ke e → BuiltBlock f (i + 1 + length ke + 1) ka a → BuiltOther f (i + 1 + length ke + 1 + length (braced ka)) kb b → BuiltBranch f i (parenthesized ke ++ (braced ka ++ kb)) (If nowhere e a b)
+built_branched : (f : ℕ → Place) (i : ℕ) (ke ka kb : List Kind) (e : Expr) (a b : Block) → Built f (i + 1) 8 true ke e → BuiltBlock f (i + 1 + length ke + 1) ka a → BuiltOther f (i + 1 + length ke + 1 + length (braced ka)) kb b → BuiltBranch f i (parenthesized ke ++ (braced ka ++ kb)) (If nowhere e a b)
 built_branched f i ke ka kb e a b c d o =
     let j = i + 1 + length ke in
     record {
@@ -243,7 +224,7 @@ built_else f i ks b r = record { phrase = other (f i) r.phrase; stands = r.stand
 built_elseif : (f : ℕ → Place) (i : ℕ) (ks : List Kind) (s : Stmt) → BuiltBranch f (i + 1) ks s → BuiltOther f i (word words.Elseif ∷ ks) (Then s Done)
 built_elseif f i ks s b = record { phrase = another (f i) b.phrase; stands = b.stands; means = ap (λ x. Then x Done) (b.means (f i)); tokens = λ n. first f i (word words.Elseif) _ ks (b.tokens (n + 1)) }
 
-built_while : (f : ℕ → Place) (i : ℕ) (ke ki kb : List Kind) (e : Expr) (es : Exprs) (b : Block) → Built f (i + 1 + 1) 8 ke e → BuiltInvariants f (i + 1 + 1 + length ke + 1) ki es → BuiltBlock f (i + 1 + 1 + length ke + 1 + length ki) kb b → BuiltStmt f i (word words.While ∷ (parenthesized ke ++ (ki ++ braced kb))) (While nowhere e es b)
+built_while : (f : ℕ → Place) (i : ℕ) (ke ki kb : List Kind) (e : Expr) (es : Exprs) (b : Block) → Built f (i + 1 + 1) 8 true ke e → BuiltInvariants f (i + 1 + 1 + length ke + 1) ki es → BuiltBlock f (i + 1 + 1 + length ke + 1 + length ki) kb b → BuiltStmt f i (word words.While ∷ (parenthesized ke ++ (ki ++ braced kb))) (While nowhere e es b)
 built_while f i ke ki kb e es b c is d =
     let j = i + 1 + 1 + length ke in
     record {
@@ -275,6 +256,7 @@ Inner f i (declared p d) = Unit {0}
 Inner f i (initialized p d q r) = Unit {0}
 Inner f i (claimed c p e) = Unit {0}
 Inner f i (repeated p o e c is b) = Unit {0}
+Inner f i (folded k p w) = Unit {0}
 
 abbrev alone : StmtPhrase → Block
 alone s = Then (stmt_meant s) Done
@@ -293,6 +275,8 @@ built_alone f i (claimed exhales p e) inner d = d
 built_alone f i (claimed asserts p e) inner d = d
 built_alone f i (claimed assumes p e) inner d = d
 built_alone f i (repeated p o e c is b) inner d = d
+built_alone f i (folded folds p w) inner d = d
+built_alone f i (folded unfolds p w) inner d = d
 
 built_none : (f : ℕ → Place) (i : ℕ) → BuiltRow f i [] Done
 built_none f i = record { phrase = no_more; stands = tt; means = refl; tokens = λ n. refl }
@@ -338,6 +322,7 @@ mutual
         tokens = λ n. ap (λ l. one_token (word words.Var) (f i) ∷ one_token (name d.text) (f (i + 1)) ∷ one_token (symbol signs.Colon) (f (i + 1 + 1)) ∷ one_token (word (type_word d.of)) (f (i + 1 + 1 + 1)) ∷ one_token (symbol signs.Becomes) (f j) ∷ l) (b.tokens n);
       }
   built_stmt f i (claimed c p e) h = built_claimed f i c p e
+  built_stmt f i (folded k p w) h = built_folded f i k p w
   built_stmt f i (branched p (branch o e c b x)) h =
       let d = built_branch f (i + 1) (branch o e c b x) h in
       record { phrase = branched (f i) d.phrase; stands = d.stands; means = d.means (f i); tokens = λ n. first f i (word words.If) _ (branch_tokens (branch o e c b x)) (d.tokens n) }
@@ -380,6 +365,7 @@ mutual
   built_inner f i (initialized p d q r) h = tt
   built_inner f i (claimed c p e) h = tt
   built_inner f i (repeated p o e c is b) h = tt
+  built_inner f i (folded k p w) h = tt
 
   pub built_block : (f : ℕ → Place) (i : ℕ) (b : BlockPhrase) → StandsBlock b → BuiltBlock f i (block_tokens (block_meant b)) (bare_block (block_meant b))
   built_block f i (block o r c) h = built_braced f i (block_tokens (row_meant r)) (bare_block (row_meant r)) (built_row f (i + 1) r h)

@@ -1,24 +1,22 @@
 -- What is printed reads back.
-use Rattle.std.proofs.Common.{◌≡◌, ◌∙◌, ℕ, zero, suc, ◌+◌, List, [], ◌∷◌, ◌++◌, map, true, false, refl, sym, ap, ap₂, subst, arith, add-one, append_assoc}
+use Rattle.std.proofs.Common.{◌≡◌, ◌∙◌, ℕ, zero, suc, ◌+◌, List, [], ◌∷◌, ◌++◌, map, false, refl, sym, ap, ap₂, subst, add-one, append_assoc}
 use Rattle.std.specs.Prelude.{codes, ◌==◌}
-use Rattle.std.specs.List.{AllByRecursion}
 use Rattle.vx_ast.specs.declared.Place.{Place}
-use Rattle.vx_ast.specs.Written.{Program, Member, Name, Kind as MemberKind, IsField, IsPredicate, IsFunction, IsMethod}
-use Rattle.vx_tokens.specs.declared.token.Word.TheVariants as words
+use Rattle.vx_ast.specs.Written.{Program, Kind as MemberKind, IsField, IsPredicate, IsFunction, IsMethod}
 use Rattle.vx_tokens.specs.Tokens.{Kind, word, Token}
 use Rattle.vx_tokens.specs.Text.{Scans, Ending, AtEnd, first_place, unmarked, one_token}
-use Rattle.vx_tokens.specs.Scanning.{scan, Scanned}
+use Rattle.vx_tokens.specs.Scanning.{scan}
 use Rattle.vx_tokens.proofs.Right.{scanning_is_right, scanning_is_all}
 use Rattle.vx_grammar.specs.Programs.{program_meant, program_marks}
 use Rattle.vx_grammar.specs.Grammar.{tokens_of}
 use Rattle.vx_grammar.specs.ProgramLaws.{ProgramSpelled, ProgramsSpelledOnce}
-use Rattle.vx_print.specs.Words.{word_text, token_text, behind, line}
-use Rattle.vx_print.specs.Canonical.{member_word, member_rest, member_tokens, member_line, canonical_text}
-use Rattle.vx_print.specs.Same.{nowhere, bare_program}
+use Rattle.vx_print.specs.Words.{word_text, token_text, behind}
+use Rattle.vx_print.specs.Canonical.{member_word, member_rest, canonical_text}
+use Rattle.vx_print.specs.Same.{nowhere}
 use Rattle.vx_print.specs.Laws.{TextSpells, ReadsBack, PrintedReadsBack}
 use Rattle.vx_print.proofs.Behind.{behind_front}
 use Rattle.vx_print.proofs.Built.{placed}
-use Rattle.vx_print.proofs.BuiltProgram.{program_tokens, BuiltProgram, built_program}
+use Rattle.vx_print.proofs.BuiltProgram.{program_tokens, built_program}
 use Rattle.vx_print.proofs.Scanned.{Reads, reads_none, reads_line}
 use Rattle.vx_print.proofs.Writable.{Fine, FineTokens, fine_marks, scanned_fine}
 use Rattle.vx_print.proofs.WritableProgram.{fine_program}

@@ -1,5 +1,5 @@
 -- A blank behind each token parts them: the text scans as these tokens.
-use Rattle.std.proofs.Common.{◌≡◌, ◌∙◌, ℕ, zero, suc, ◌+◌, ◌-◌, ◌*◌, ◌^◌, ◌≤◌, ◌<◌, List, [], ◌∷◌, ◌++◌, take, drop, length, Bool, true, false, cond, ltb, refl, sym, ap, ap₂, subst, append_assoc, append-nil, arith, ◌⊎◌, inl, inr, map}
+use Rattle.std.proofs.Common.{◌≡◌, ◌∙◌, ℕ, zero, suc, ◌+◌, ◌-◌, ◌*◌, ◌^◌, ◌≤◌, ◌<◌, List, [], ◌∷◌, ◌++◌, take, drop, length, Bool, true, false, ltb, refl, sym, ap, ap₂, subst, append_assoc, arith, map}
 use Rattle.std.specs.List.{AllByRecursion, prefix_len}
 use Rattle.std.specs.Fmt.{decimal}
 use Rattle.std.specs.Char.{digit_value}
@@ -10,9 +10,9 @@ use Rattle.vx_tokens.specs.declared.token.Word.{Word}
 use Rattle.vx_tokens.specs.declared.token.Word.TheVariants as words
 use Rattle.vx_tokens.specs.declared.token.Symbol.{Symbol}
 use Rattle.vx_tokens.specs.declared.token.Symbol.TheVariants as signs
-use Rattle.vx_tokens.specs.Tokens.{Kind, name, number, word, symbol, Token}
-use Rattle.vx_tokens.specs.Text.{step, after, one_token, Ending, AtEnd, is_blank, is_letter, is_digit, is_word, sign_text, value_of, value_from, max_numeral, word_kind, IsWord, IsNumeral, AreAll}
-use Rattle.vx_tokens.specs.Scanning.{next, found, pass, word_next, numeral_next, number_next, Scanned, with_token, scan}
+use Rattle.vx_tokens.specs.Tokens.{Kind, name, number, word, symbol}
+use Rattle.vx_tokens.specs.Text.{step, after, one_token, AtEnd, is_blank, is_digit, is_word, sign_text, value_of, value_from, max_numeral, word_kind, IsWord, IsNumeral, AreAll}
+use Rattle.vx_tokens.specs.Scanning.{next, found, word_next, numeral_next, with_token, scan}
 use Rattle.vx_tokens.proofs.Pieces.{word_reached, numeral_reached, word_all, numeral_all, blank_reached}
 use Rattle.vx_tokens.proofs.Scan.{scan_found, scan_pass, taken}
 use Rattle.vx_print.specs.Words.{word_text, token_text, behind}

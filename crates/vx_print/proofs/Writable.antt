@@ -1,15 +1,14 @@
 -- The tokens that are printed can be written, since those of the text that was read could.
-use Rattle.std.proofs.Common.{◌≡◌, ◌∙◌, ℕ, ◌+◌, ◌≤◌, ◌<◌, List, [], ◌∷◌, ◌++◌, Bool, true, false, ltb, ◌||◌, not, Option, Some, None, refl, sym, ap, subst, arith, ◌⊎◌, inl, inr}
+use Rattle.std.proofs.Common.{◌≡◌, ◌∙◌, ℕ, ◌+◌, ◌≤◌, List, [], ◌∷◌, ◌++◌, Bool, true, false, ltb, ◌||◌, not, Option, Some, None, refl, sym, ap, subst, arith}
 use Rattle.std.specs.List.{AllByRecursion}
 use Rattle.vx_ast.specs.declared.Place.{Place}
-use Rattle.vx_ast.specs.Written.{Name, Expr}
 use Rattle.vx_tokens.specs.declared.token.Word.{Word}
 use Rattle.vx_tokens.specs.declared.token.Word.TheVariants as words
 use Rattle.vx_tokens.specs.declared.token.Symbol.TheVariants as signs
 use Rattle.vx_tokens.specs.Tokens.{Kind, name, number, word, symbol, Token}
-use Rattle.vx_tokens.specs.Text.{Ending, Scans, scans_end, scans_blank, scans_line, scans_block, scans_token, scans_wide, scans_open, scans_bad, IsLongest, IsWide, Spells, token, IsWord, word_or_name, reserved, word_kind, max_numeral}
-use Rattle.vx_grammar.specs.Grammar.{Constant, null_word, write_word, none_word, result_word, Phrase, literal, constant, numeral, named, called, dotted, grouped, past, accessed, prefixed, joined, chosen, ArgumentsPhrase, no_arguments, arguments_from, FurtherPhrase, nothing_further, further, AmountPhrase, no_amount, amount, Mark, mark, marks, arguments_marks, further_marks, amount_marks, tokens_of, meant, arguments_meant, further_meant, amount_meant, level_of, left_level, right_level, sign_of, operators, dots}
-use Rattle.vx_print.specs.Canonical.{parenthesized, parenthesized_if, opening, closing, is_prefixed, applied, expr_tokens, exprs_tokens, further_tokens, amount_tokens, written_amount}
+use Rattle.vx_tokens.specs.Text.{Ending, Scans, scans_end, scans_blank, scans_line, scans_block, scans_token, scans_wide, scans_open, scans_bad, IsWide, Spells, token, IsWord, word_or_name, reserved, word_kind, max_numeral}
+use Rattle.vx_grammar.specs.Grammar.{null_word, write_word, none_word, result_word, Phrase, literal, constant, numeral, named, called, dotted, grouped, past, accessed, prefixed, joined, chosen, unfolded, InstancePhrase, alone, held, instance_meant, instance_marks, ArgumentsPhrase, no_arguments, arguments_from, FurtherPhrase, nothing_further, further, AmountPhrase, no_amount, amount, Mark, mark, marks, arguments_marks, further_marks, amount_marks, tokens_of, meant, arguments_meant, further_meant, amount_meant, level_of, left_level, right_level, sign_of, operators, dots}
+use Rattle.vx_print.specs.Canonical.{parenthesized, parenthesized_if, is_prefixed, applied, expr_tokens, exprs_tokens, further_tokens, amount_tokens, written_amount, instance_tokens}
 use Rattle.vx_print.proofs.Scanned.{IsWritable}
 
 -- ---- lists
@@ -118,6 +117,33 @@ mutual
       let behind_a = fine_back (marks (n + 1) a) colon behind_c.1 in
       fine_if inside (kc ++ symbol signs.Question ∷ (ka ++ symbol signs.Colon ∷ kb)) (fine_append kc (symbol signs.Question ∷ (ka ++ symbol signs.Colon ∷ kb)) (fine n 7 false c (fine_front (marks n c) question h))
       (tt, fine_append ka (symbol signs.Colon ∷ kb) (fine (n + 1) 8 true a (fine_front (marks (n + 1) a) colon behind_c.1)) (tt, fine (n + 1) 8 (inside || last) b behind_a.1)))
+  fine n level last (unfolded p w q e) h =
+      let more = mark (n + 1) q (word words.In) ∷ marks (n + 1) e in
+      let ki = instance_tokens (instance_meant w).predicate (instance_meant w).arguments (instance_meant w).amount in
+      let ke = expr_tokens 8 true (meant e) in
+      let end = fine_back (instance_marks n w) more h.1 in
+      fine_if (not last) (word words.Unfolding ∷ (ki ++ word words.In ∷ ke)) (tt, fine_append ki (word words.In ∷ ke) (fine_instance n w (fine_front (instance_marks n w) more h.1)) (tt, fine (n + 1) 8 true e end.1))
+
+  pub fine_instance : (n : ℕ) (w : InstancePhrase) → FineMarks (instance_marks n w) → Fine (instance_tokens (instance_meant w).predicate (instance_meant w).arguments (instance_meant w).amount)
+  fine_instance n (alone p x o es c) h =
+      let ks = exprs_tokens (arguments_meant es) in
+      fine_append (applied x ks) [] (h.0, fine_around ks (fine_arguments (n + 1) es (fine_front (arguments_marks (n + 1) es) (mark (n + 1) c (symbol signs.Close) ∷ []) h.1.1))) tt
+  fine_instance n (held p o q x o' es c' no_amount c) h =
+      let ks = exprs_tokens (arguments_meant es) in
+      let close = mark (n + 1 + 1) c' (symbol signs.Close) ∷ [] in
+      let call = mark (n + 1) q (name x) ∷ mark (n + 1 + 1) o' (symbol signs.Open) ∷ (arguments_marks (n + 1 + 1) es ++ close) in
+      let k = fine_front call [] (fine_front (call ++ []) (mark (n + 1) c (symbol signs.Close) ∷ []) h.1.1) in
+      fine_append (applied x ks) [] (k.0, fine_around ks (fine_arguments (n + 1 + 1) es (fine_front (arguments_marks (n + 1 + 1) es) close k.1.1))) tt
+  fine_instance n (held p o q x o' es c' (amount r a) c) h =
+      let ks = exprs_tokens (arguments_meant es) in
+      let ka = expr_tokens 8 true (meant a) in
+      let close = mark (n + 1 + 1) c' (symbol signs.Close) ∷ [] in
+      let part = mark (n + 1) r (symbol signs.Comma) ∷ marks (n + 1) a in
+      let call = mark (n + 1) q (name x) ∷ mark (n + 1 + 1) o' (symbol signs.Open) ∷ (arguments_marks (n + 1 + 1) es ++ close) in
+      let both = fine_front (call ++ part) (mark (n + 1) c (symbol signs.Close) ∷ []) h.1.1 in
+      let k = fine_front call part both in
+      let d = fine_back call part both in
+      (tt, (tt, fine_append (applied x ks) (symbol signs.Comma ∷ (ka ++ symbol signs.Close ∷ [])) (k.0, fine_around ks (fine_arguments (n + 1 + 1) es (fine_front (arguments_marks (n + 1 + 1) es) close k.1.1))) (tt, fine_append ka (symbol signs.Close ∷ []) (fine (n + 1) 8 true a d.1) (tt, tt))))
 
   pub fine_amount : (n : ℕ) (a : AmountPhrase) → FineMarks (amount_marks n a) → Fine (written_amount (amount_tokens (amount_meant a)))
   fine_amount n no_amount h = (tt, tt)

@@ -1,16 +1,15 @@
 -- The tokens that are printed of a program can be written, since those that were read could.
-use Rattle.std.proofs.Common.{◌≡◌, ◌∙◌, ℕ, ◌+◌, List, [], ◌∷◌, ◌++◌, length, true, Option, Some, None, refl, sym, ap, subst, append_assoc}
+use Rattle.std.proofs.Common.{ℕ, ◌+◌, List, [], ◌∷◌, ◌++◌, true, Option, Some, None}
 use Rattle.vx_ast.specs.declared.Place.{Place}
-use Rattle.vx_ast.specs.Written.{Name, Expr, Declaration, Then, Done}
-use Rattle.vx_tokens.specs.declared.token.Word.{Word}
+use Rattle.vx_ast.specs.Written.{Name, Declaration, Then, Done}
 use Rattle.vx_tokens.specs.declared.token.Word.TheVariants as words
 use Rattle.vx_tokens.specs.declared.token.Symbol.TheVariants as signs
-use Rattle.vx_tokens.specs.Tokens.{Kind, name, number, word, symbol, Token}
-use Rattle.vx_grammar.specs.Grammar.{Phrase, literal, constant, numeral, named, called, dotted, grouped, past, accessed, prefixed, joined, chosen, Mark, mark, marks, tokens_of, meant, arguments_meant, arguments_marks}
-use Rattle.vx_grammar.specs.Statements.{DeclarationPhrase, declaration_meant, declaration_marks, Claim, inhales, exhales, asserts, assumes, NamesPhrase, no_names, next_name, FieldsPhrase, every_field, no_fields, these_fields, RightPhrase, given, allocated, names_meant, right_meant, names_marks, fields_marks, right_marks, semi_marks, InvariantsPhrase, no_invariants, invariant, invariants_meant, invariants_marks, StmtPhrase, assigned, stored, invoked, targeted, declared, initialized, claimed, branched, repeated, BranchPhrase, branch, OtherPhrase, no_other, other, another, BlockPhrase, block, RowPhrase, no_more, more, stmt_meant, branch_meant, other_meant, block_meant, row_meant, stmt_marks, branch_marks, other_marks, block_marks, row_marks}
-use Rattle.vx_grammar.specs.Programs.{MoreDeclarations, no_more as no_declarations, listed, DeclarationsPhrase, none, some, ParametersPhrase, ReturnsPhrase, no_returns, returns, more_meant, declarations_meant, returns_meant, more_marks, declarations_marks, parameters_marks, returns_marks, ClausesPhrase, no_clauses, requires, ensures, requires_meant, ensures_meant, clauses_marks, MethodPhrase, MemberPhrase, a_field, a_method, member_meant, member_marks, ProgramPhrase, no_members, member, program_meant, program_marks}
-use Rattle.vx_print.specs.Canonical.{parenthesized, braced, applied, whole_tokens, read_tokens, exprs_tokens, further_names, right_tokens, clauses_tokens, targets_tokens, stmt_tokens, block_tokens, else_tokens, else_block, further_declarations, declarations_tokens, returns_tokens, member_tokens}
-use Rattle.vx_print.proofs.Writable.{Fine, FineMarks, fine_append, fine_front, fine_back, fine_around, fine}
+use Rattle.vx_tokens.specs.Tokens.{Kind, name, symbol}
+use Rattle.vx_grammar.specs.Grammar.{Phrase, called, dotted, Mark, mark, marks, meant, arguments_meant}
+use Rattle.vx_grammar.specs.Statements.{inhales, exhales, asserts, assumes, NamesPhrase, no_names, next_name, every_field, no_fields, these_fields, RightPhrase, given, allocated, names_meant, right_meant, names_marks, fields_marks, right_marks, semi_marks, InvariantsPhrase, no_invariants, invariant, invariants_meant, invariants_marks, StmtPhrase, assigned, stored, invoked, targeted, declared, initialized, claimed, branched, repeated, folded, folds, unfolds, BranchPhrase, branch, OtherPhrase, no_other, other, another, BlockPhrase, block, RowPhrase, no_more, more, stmt_meant, other_meant, block_meant, row_meant, stmt_marks, branch_marks, other_marks, block_marks, row_marks}
+use Rattle.vx_grammar.specs.Programs.{MoreDeclarations, no_more as no_declarations, listed, DeclarationsPhrase, none, some, ParametersPhrase, ReturnsPhrase, no_returns, returns, more_meant, declarations_meant, returns_meant, more_marks, declarations_marks, parameters_marks, returns_marks, ClausesPhrase, no_clauses, requires, ensures, requires_meant, ensures_meant, clauses_marks, BracedPhrase, given_meant, given_marks, body_meant, body_marks, MemberPhrase, a_field, a_predicate, a_method, member_meant, member_marks, ProgramPhrase, no_members, member, program_meant, program_marks}
+use Rattle.vx_print.specs.Canonical.{parenthesized, braced, applied, whole_tokens, read_tokens, exprs_tokens, further_names, right_tokens, clauses_tokens, targets_tokens, stmt_tokens, block_tokens, else_tokens, else_block, further_declarations, declarations_tokens, returns_tokens, optional_expr_tokens, optional_block_tokens, member_tokens}
+use Rattle.vx_print.proofs.Writable.{Fine, FineMarks, fine_append, fine_front, fine_back, fine_around, fine, fine_instance}
 use Rattle.vx_print.proofs.BuiltStmt.{branch_tokens}
 use Rattle.vx_print.proofs.BuiltProgram.{program_tokens}
 
@@ -65,6 +64,8 @@ fine_alone (claimed exhales p e) h = fine_only (claimed exhales p e) h
 fine_alone (claimed asserts p e) h = fine_only (claimed asserts p e) h
 fine_alone (claimed assumes p e) h = fine_only (claimed assumes p e) h
 fine_alone (repeated p o e c is b) h = fine_only (repeated p o e c is b) h
+fine_alone (folded folds p w) h = fine_only (folded folds p w) h
+fine_alone (folded unfolds p w) h = fine_only (folded unfolds p w) h
 
 mutual
   fine_stmt : (n : ℕ) (s : StmtPhrase) → FineMarks (stmt_marks n s) → Fine (stmt_tokens (stmt_meant s))
@@ -85,6 +86,8 @@ mutual
   fine_stmt n (claimed exhales p e) h = (tt, fine n 8 true e h.1)
   fine_stmt n (claimed asserts p e) h = (tt, fine n 8 true e h.1)
   fine_stmt n (claimed assumes p e) h = (tt, fine n 8 true e h.1)
+  fine_stmt n (folded folds p w) h = (tt, fine_instance n w h.1)
+  fine_stmt n (folded unfolds p w) h = (tt, fine_instance n w h.1)
   fine_stmt n (branched p (branch o e c b x)) h = (tt, fine_branch n (branch o e c b x) h.1)
   fine_stmt n (repeated p o e c is b) h = (
     tt,
@@ -158,10 +161,21 @@ fine_ensures r k (ensures p e semi rest) h =
     (tt, fine_append (whole_tokens (meant e)) (clauses_tokens words.Ensures (ensures_meant rest)) (fine k 8 true e (fine_front (marks k e) tail h.1)) (fine_ensures r (k + 1) rest (fine_back (semi_marks 0 semi) (clauses_marks r (k + 1) rest) (fine_back (marks k e) tail h.1))))
 fine_ensures r k (requires p e semi rest) h = fine_ensures (r + 1) k rest (fine_back (semi_marks 0 semi) (clauses_marks (r + 1) k rest) (fine_back (marks r e) (semi_marks 0 semi ++ clauses_marks (r + 1) k rest) h.1))
 
+fine_body : (w : Option BlockPhrase) → FineMarks (body_marks w) → Fine (optional_block_tokens (body_meant w))
+fine_body None h = tt
+fine_body (Some b) h = fine_block 0 b h
+
+fine_given : (w : Option BracedPhrase) → FineMarks (given_marks w) → Fine (optional_expr_tokens (given_meant w))
+fine_given None h = tt
+fine_given (Some w) h = fine_braced (whole_tokens (meant w.inner)) (fine 1 8 true w.inner (fine_front (marks 1 w.inner) (mark 1 w.to (symbol signs.CloseBrace) ∷ []) h.1))
+
 fine_member : (m : MemberPhrase) → FineMarks (member_marks m) → Fine (member_tokens (member_meant m))
 fine_member (a_field p d) h = (tt, (h.1.0, (tt, (tt, tt))))
+fine_member (a_predicate w) h =
+    let kp = parenthesized (declarations_tokens (declarations_meant w.parameters.inner)) in
+    (tt, (h.1.0, fine_append kp (optional_expr_tokens (given_meant w.body)) (fine_parameters 0 w.parameters (fine_front (parameters_marks 0 w.parameters) (given_marks w.body) h.1.1)) (fine_given w.body (fine_back (parameters_marks 0 w.parameters) (given_marks w.body) h.1.1))))
 fine_member (a_method m) h =
-    let body = block_marks 0 m.body in
+    let body = body_marks m.body in
     let clauses = clauses_marks 0 0 m.clauses in
     let back = returns_marks 0 m.returns ++ (clauses ++ body) in
     let behind_parameters = fine_back (parameters_marks 0 m.parameters) back h.1.1 in
@@ -171,13 +185,13 @@ fine_member (a_method m) h =
     let kr = returns_tokens (returns_meant m.returns) in
     let kq = clauses_tokens words.Requires (requires_meant m.clauses) in
     let ke = clauses_tokens words.Ensures (ensures_meant m.clauses) in
-    let kb = braced (block_tokens (block_meant m.body)) in (
+    let kb = optional_block_tokens (body_meant m.body) in (
       tt,
       (
         h.1.0,
         fine_append kp (kr ++ ((kq ++ ke) ++ kb)) (fine_parameters 0 m.parameters (fine_front (parameters_marks 0 m.parameters) back h.1.1))
             (fine_append kr ((kq ++ ke) ++ kb) (fine_returns 0 m.returns (fine_front (returns_marks 0 m.returns) (clauses ++ body) behind_parameters))
-            (fine_append (kq ++ ke) kb (fine_append kq ke (fine_requires 0 0 m.clauses these) (fine_ensures 0 0 m.clauses these)) (fine_block 0 m.body (fine_back clauses body behind_returns)))),
+            (fine_append (kq ++ ke) kb (fine_append kq ke (fine_requires 0 0 m.clauses these) (fine_ensures 0 0 m.clauses these)) (fine_body m.body (fine_back clauses body behind_returns)))),
       ),
     )
 

@@ -1,4 +1,4 @@
-use Rattle.std.proofs.Common.{◌≡◌, ◌++◌, drop, map, string_bytes, vec_items}
+use Rattle.std.proofs.Common.{◌≡◌, drop, map, string_bytes}
 use Rattle.vx_ast.specs.Written.{written_declaration}
 use Rattle.vx_print.specs.Canonical.{declarations_tokens, further_declarations}
 use Rattle.vx_print.specs.Words.{behind}

@@ -1,4 +1,4 @@
-use Rattle.std.proofs.Common.{◌≡◌, ◌∙◌, ◌++◌, ap, sym, string_bytes}
+use Rattle.std.proofs.Common.{◌≡◌, ◌∙◌, ◌++◌, ap, string_bytes}
 use Rattle.vx_ast.specs.Written.{name_of, written_kind}
 use Rattle.vx_print.specs.Canonical.{member_word, member_rest}
 use Rattle.vx_print.specs.Words.{behind, word_text}

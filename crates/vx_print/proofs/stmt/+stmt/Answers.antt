@@ -1,4 +1,4 @@
-use Rattle.std.proofs.Common.{◌∙◌, ap, ap₂, sym, string_bytes, rules, arith, [], ◌∷◌, ◌++◌}
+use Rattle.std.proofs.Common.{◌∙◌, ap, ap₂, sym, string_bytes, [], ◌∷◌}
 use Rattle.vx_ast.specs.Written.{written_stmt, written_block, Then, Done}
 use Rattle.vx_tokens.specs.declared.token.Symbol.TheVariants as signs
 use Rattle.vx_tokens.specs.Tokens.{symbol}

@@ -1,4 +1,4 @@
-use Rattle.std.proofs.Common.{◌≡◌, ◌++◌, drop, map, string_bytes, vec_items}
+use Rattle.std.proofs.Common.{◌≡◌, drop, string_bytes}
 use Rattle.vx_print.specs.Canonical.{block_tokens}
 use Rattle.vx_print.specs.Views.{statements}
 use Rattle.vx_print.specs.Words.{behind}

@@ -1,4 +1,4 @@
-use Rattle.std.proofs.Common.{◌≡◌, ◌++◌, drop, map, string_bytes, vec_items}
+use Rattle.std.proofs.Common.{◌≡◌, drop, string_bytes}
 use Rattle.vx_ast.specs.Written.{written_all}
 use Rattle.vx_print.specs.Canonical.{clauses_tokens}
 use Rattle.vx_print.specs.Words.{behind}

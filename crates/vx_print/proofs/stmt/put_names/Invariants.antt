@@ -1,4 +1,4 @@
-use Rattle.std.proofs.Common.{◌≡◌, ◌++◌, drop, map, string_bytes, vec_items}
+use Rattle.std.proofs.Common.{◌≡◌, drop, map, string_bytes}
 use Rattle.vx_ast.specs.Written.{name_of}
 use Rattle.vx_print.specs.Canonical.{names_tokens, further_names}
 use Rattle.vx_print.specs.Words.{behind}

@@ -1,4 +1,4 @@
-use Rattle.std.proofs.Common.{◌∙◌, ap, sym, string_bytes, map, [], ◌∷◌, length, false}
+use Rattle.std.proofs.Common.{◌∙◌, ap, sym, string_bytes, map, [], ◌∷◌}
 use Rattle.vx_ast.specs.Written.{name_of}
 use Rattle.vx_tokens.specs.declared.token.Symbol.TheVariants as signs
 use Rattle.vx_tokens.specs.Tokens.{symbol}
