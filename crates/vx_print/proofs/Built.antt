@@ -155,7 +155,7 @@ is_primary (joined a p op b) s e z = let up = low op in absurd (omega (arith, up
 is_primary (chosen c p a q b) s e z = absurd (omega (arith, s.0))
 is_primary (unfolded p i q w) s e z = absurd cc
 
-prefixed_bare : (e : Expr) → is_prefixed (bare e) ≡ is_prefixed e
+pub prefixed_bare : (e : Expr) → is_prefixed (bare e) ≡ is_prefixed e
 prefixed_bare (Number p n) = refl
 prefixed_bare (Truth p b) = refl
 prefixed_bare (Null p) = refl

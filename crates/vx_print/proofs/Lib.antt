@@ -6,3 +6,4 @@ pub mod BuiltProgram
 pub mod Writable
 pub mod WritableProgram
 pub mod Printed
+pub mod Alike

@@ -25,3 +25,7 @@ pub record ReadsBack (text : List ℕ) (p : Program) : Type 0 where
 -- The canonical text of a program that some text spells reads back.
 abbrev pub PrintedReadsBack : Type 0
 PrintedReadsBack = (text : List ℕ) (p : Program) → TextSpells text p → ReadsBack (canonical_text p) p
+
+-- Programs that are the same but for places have one canonical text.
+abbrev pub PlacesAreNotPrinted : Type 0
+PlacesAreNotPrinted = (p q : Program) → bare_program p ≡ bare_program q → canonical_text p ≡ canonical_text q

@@ -1,7 +1,7 @@
 //! The canonical text of a program.
 #![tactic(auto)]
 
-ghost use Rattle.vx_print.specs.Laws.{PrintedReadsBack};
+ghost use Rattle.vx_print.specs.Laws.{PlacesAreNotPrinted, PrintedReadsBack};
 
 mod expr;
 mod member;
@@ -17,3 +17,11 @@ pub fn printed_reads_back()
 {
     programs_spelled_once();
 }
+
+/// Programs that are the same but for places have one canonical text.
+pub fn places_are_not_printed()
+    ensures { PlacesAreNotPrinted }
+{}
+
+#[cfg(test)]
+mod tests;
