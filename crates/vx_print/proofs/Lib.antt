@@ -1,0 +1,9 @@
+pub mod Behind
+pub mod Built
+pub mod Scanned
+pub mod BuiltStmt
+pub mod BuiltProgram
+pub mod Writable
+pub mod WritableProgram
+pub mod Printed
+pub mod Alike

@@ -1,0 +1,162 @@
+use super::*;
+use std::alloc::{AllocError, Global};
+use std::rc::Rc;
+use std::test::*;
+use vx_ast::{
+    BinaryOperator, Block, Declaration, Expr, ExprKind, Member, MemberKind, Method, Name, Place,
+    Program, Stmt, StmtKind, ValueType,
+};
+
+const HERE: Place = Place { line: 1, column: 1 };
+
+fn name(alloc: Global, text: &str) -> Result<Name, AllocError> {
+    Ok(Name {
+        text: String::from_str(alloc, text)?,
+        place: HERE,
+    })
+}
+
+fn node(alloc: Global, kind: ExprKind) -> Result<Rc<Expr>, AllocError> {
+    Ok(Rc::new(alloc, Expr { place: HERE, kind })?)
+}
+
+fn variable(alloc: Global, text: &str) -> Result<Rc<Expr>, AllocError> {
+    node(alloc, ExprKind::Variable(String::from_str(alloc, text)?))
+}
+
+fn joined(
+    alloc: Global,
+    op: BinaryOperator,
+    a: Rc<Expr>,
+    b: Rc<Expr>,
+) -> Result<Rc<Expr>, AllocError> {
+    node(alloc, ExprKind::Binary(op, a, b))
+}
+
+fn block(alloc: Global, kind: StmtKind) -> Result<Rc<Block>, AllocError> {
+    let mut statements = Vec::new(alloc);
+    statements.push(Stmt { place: HERE, kind })?;
+    Ok(Rc::new(alloc, Block { statements })?)
+}
+
+fn nothing(alloc: Global) -> Result<Rc<Block>, AllocError> {
+    let statements = Vec::new(alloc);
+    Ok(Rc::new(alloc, Block { statements })?)
+}
+
+// The text of a method `m` with this body.
+fn method(
+    alloc: Global,
+    parameters: Vec<Declaration>,
+    body: Rc<Block>,
+) -> Result<Vec<u8>, AllocError> {
+    let method = Method {
+        parameters,
+        returns: Vec::new(alloc),
+        preconditions: Vec::new(alloc),
+        postconditions: Vec::new(alloc),
+        body: Some(body),
+    };
+    let mut members = Vec::new(alloc);
+    members.push(Member {
+        place: HERE,
+        name: name(alloc, "m")?,
+        kind: MemberKind::Method(method),
+    })?;
+    print(alloc, &Program { members })
+}
+
+// The text of a method that asserts this.
+fn asserted(alloc: Global, e: Rc<Expr>) -> Result<Vec<u8>, AllocError> {
+    let body = block(alloc, StmtKind::Assert(e))?;
+    method(alloc, Vec::new(alloc), body)
+}
+
+#[test]
+fn a_method_stands_on_its_line(rt: HostRuntime) -> Result<(), Fail> {
+    let alloc = rt.alloc();
+    let mut parameters = Vec::new(alloc);
+    parameters.push(Declaration {
+        name: name(alloc, "x")?,
+        value_type: ValueType::Int,
+    })?;
+    let same = joined(
+        alloc,
+        BinaryOperator::Equal,
+        variable(alloc, "x")?,
+        variable(alloc, "x")?,
+    )?;
+    let text = method(alloc, parameters, block(alloc, StmtKind::Assert(same))?)?;
+    assert_eq!(rt;
+        text.as_slice(),
+        b"method m ( x : Int ) { assert x == x }\n".as_slice()
+    );
+    Ok(())
+}
+
+#[test]
+fn parentheses_where_the_grouping_needs_them(rt: HostRuntime) -> Result<(), Fail> {
+    let alloc = rt.alloc();
+    let minus = BinaryOperator::Subtract;
+    let front = joined(alloc, minus, variable(alloc, "a")?, variable(alloc, "b")?)?;
+    let back = joined(alloc, minus, variable(alloc, "c")?, variable(alloc, "d")?)?;
+    let text = asserted(alloc, joined(alloc, minus, front, back)?)?;
+    assert_eq!(rt;
+        text.as_slice(),
+        b"method m ( ) { assert a - b - ( c - d ) }\n".as_slice()
+    );
+    let arrow = BinaryOperator::Implies;
+    let front = joined(alloc, arrow, variable(alloc, "a")?, variable(alloc, "b")?)?;
+    let back = joined(alloc, arrow, variable(alloc, "c")?, variable(alloc, "d")?)?;
+    let text = asserted(alloc, joined(alloc, arrow, front, back)?)?;
+    assert_eq!(rt;
+        text.as_slice(),
+        b"method m ( ) { assert ( a ==> b ) ==> c ==> d }\n".as_slice()
+    );
+    Ok(())
+}
+
+#[test]
+fn parentheses_round_an_unfolding(rt: HostRuntime) -> Result<(), Fail> {
+    let alloc = rt.alloc();
+    let mut arguments = Vec::new(alloc);
+    arguments.push(variable(alloc, "x")?)?;
+    let kind = ExprKind::Unfolding(name(alloc, "P")?, arguments, None, variable(alloc, "b")?);
+    let sum = joined(
+        alloc,
+        BinaryOperator::Add,
+        variable(alloc, "a")?,
+        node(alloc, kind)?,
+    )?;
+    let text = asserted(
+        alloc,
+        joined(alloc, BinaryOperator::Equal, sum, variable(alloc, "c")?)?,
+    )?;
+    assert_eq!(rt;
+        text.as_slice(),
+        b"method m ( ) { assert a + ( unfolding P ( x ) in b ) == c }\n".as_slice()
+    );
+    Ok(())
+}
+
+#[test]
+fn an_elseif_and_an_amount(rt: HostRuntime) -> Result<(), Fail> {
+    let alloc = rt.alloc();
+    let field = node(
+        alloc,
+        ExprKind::Read(variable(alloc, "x")?, name(alloc, "f")?),
+    )?;
+    let held = node(alloc, ExprKind::Access(field, None))?;
+    let inner = StmtKind::If(
+        variable(alloc, "b")?,
+        block(alloc, StmtKind::Inhale(held))?,
+        nothing(alloc)?,
+    );
+    let outer = StmtKind::If(variable(alloc, "a")?, nothing(alloc)?, block(alloc, inner)?);
+    let text = method(alloc, Vec::new(alloc), block(alloc, outer)?)?;
+    assert_eq!(rt;
+        text.as_slice(),
+        b"method m ( ) { if ( a ) { } elseif ( b ) { inhale acc ( x . f , write ) } }\n".as_slice()
+    );
+    Ok(())
+}
