@@ -1,16 +1,15 @@
 -- What is printed does not depend on places.
 use Rattle.std.proofs.Common.{◌≡◌, ◌∙◌, ℕ, List, [], ◌∷◌, ◌++◌, Bool, true, false, ltb, ◌||◌, not, Option, Some, None, refl, sym, ap, ap₂}
 use Rattle.std.specs.Prelude.{option_map}
-use Rattle.vx_ast.specs.Written.{Name, Expr, Exprs, NoMore, More, Amount, All, Part, Truth, Number, Null, Whole, Nothing, Result, Variable, Call, Read, Unary, Binary, Choice, Old, Access, Unfolding, Right, Value, NewAll, New, Stmt, Block, Declare, Assign, Write, Invoke, Inhale, Exhale, Assert, Assume, Fold, Unfold, If, While, Done, Then, Kind as MemberKind, IsField, IsPredicate, IsFunction, IsMethod, Member, Program}
+use Rattle.vx_ast.specs.Written.{Name, Expr, Exprs, NoMore, More, Amount, All, Part, Truth, Number, Null, Whole, Nothing, Result, Variable, Call, Read, Unary, Binary, Choice, Old, Access, Unfolding, Right, Value, NewAll, New, Stmt, Block, Declare, Assign, Write, Invoke, Inhale, Exhale, Assert, Assume, Fold, Unfold, If, While, Done, Then, Kind as MemberKind, IsField, IsPredicate, IsFunction, IsMethod, Program}
 use Rattle.vx_tokens.specs.declared.token.Word.{Word}
 use Rattle.vx_tokens.specs.declared.token.Word.TheVariants as words
 use Rattle.vx_tokens.specs.declared.token.Symbol.TheVariants as signs
 use Rattle.vx_tokens.specs.Tokens.{Kind, name, word, symbol}
 use Rattle.vx_grammar.specs.Grammar.{sign_of, prefix_sign, level_of, left_level, right_level}
-use Rattle.vx_grammar.specs.Statements.{type_word}
-use Rattle.vx_print.specs.Canonical.{parenthesized, parenthesized_if, braced, is_prefixed, applied, instance, instance_tokens, expr_tokens, exprs_tokens, further_tokens, amount_tokens, written_amount, whole_tokens, read_tokens, right_tokens, initial_tokens, targets_tokens, declaration_tokens, clause_tokens, clauses_tokens, stmt_tokens, block_tokens, else_tokens, declarations_tokens, returns_tokens, optional_expr_tokens, optional_block_tokens, measure_tokens, kind_tokens, member_word, member_tokens, member_line, canonical_text}
+use Rattle.vx_print.specs.Canonical.{parenthesized, parenthesized_if, braced, is_prefixed, applied, instance, instance_tokens, expr_tokens, exprs_tokens, further_tokens, amount_tokens, written_amount, whole_tokens, right_tokens, initial_tokens, targets_tokens, declaration_tokens, clause_tokens, clauses_tokens, stmt_tokens, block_tokens, else_tokens, declarations_tokens, optional_expr_tokens, optional_block_tokens, measure_tokens, kind_tokens, member_word, canonical_text}
 use Rattle.vx_print.specs.Words.{line}
-use Rattle.vx_print.specs.Same.{nowhere, bare, bare_exprs, bare_amount, bare_written, bare_right, bare_stmt, bare_block, bare_kind, bare_member, bare_program}
+use Rattle.vx_print.specs.Same.{bare, bare_exprs, bare_amount, bare_written, bare_right, bare_stmt, bare_block, bare_kind, bare_program}
 use Rattle.vx_print.specs.Laws.{PlacesAreNotPrinted}
 use Rattle.vx_print.proofs.Built.{prefixed_bare}
 

@@ -4,11 +4,11 @@ use Rattle.vx_ast.specs.declared.Place.{Place}
 use Rattle.vx_ast.specs.Written.{Name, Declaration, Then, Done}
 use Rattle.vx_tokens.specs.declared.token.Word.TheVariants as words
 use Rattle.vx_tokens.specs.declared.token.Symbol.TheVariants as signs
-use Rattle.vx_tokens.specs.Tokens.{Kind, name, symbol}
+use Rattle.vx_tokens.specs.Tokens.{Kind, name, word, symbol}
 use Rattle.vx_grammar.specs.Grammar.{Phrase, called, dotted, Mark, mark, marks, meant, arguments_meant}
-use Rattle.vx_grammar.specs.Statements.{inhales, exhales, asserts, assumes, NamesPhrase, no_names, next_name, every_field, no_fields, these_fields, RightPhrase, given, allocated, names_meant, right_meant, names_marks, fields_marks, right_marks, semi_marks, InvariantsPhrase, no_invariants, invariant, invariants_meant, invariants_marks, StmtPhrase, assigned, stored, invoked, targeted, declared, initialized, claimed, branched, repeated, folded, folds, unfolds, BranchPhrase, branch, OtherPhrase, no_other, other, another, BlockPhrase, block, RowPhrase, no_more, more, stmt_meant, other_meant, block_meant, row_meant, stmt_marks, branch_marks, other_marks, block_marks, row_marks}
-use Rattle.vx_grammar.specs.Programs.{MoreDeclarations, no_more as no_declarations, listed, DeclarationsPhrase, none, some, ParametersPhrase, ReturnsPhrase, no_returns, returns, more_meant, declarations_meant, returns_meant, more_marks, declarations_marks, parameters_marks, returns_marks, ClausesPhrase, no_clauses, requires, ensures, requires_meant, ensures_meant, clauses_marks, BracedPhrase, given_meant, given_marks, body_meant, body_marks, MemberPhrase, a_field, a_predicate, a_method, member_meant, member_marks, ProgramPhrase, no_members, member, program_meant, program_marks}
-use Rattle.vx_print.specs.Canonical.{parenthesized, braced, applied, whole_tokens, read_tokens, exprs_tokens, further_names, right_tokens, clauses_tokens, targets_tokens, stmt_tokens, block_tokens, else_tokens, else_block, further_declarations, declarations_tokens, returns_tokens, optional_expr_tokens, optional_block_tokens, member_tokens}
+use Rattle.vx_grammar.specs.Statements.{type_word, inhales, exhales, asserts, assumes, NamesPhrase, no_names, next_name, every_field, no_fields, these_fields, RightPhrase, given, allocated, names_meant, right_meant, names_marks, fields_marks, right_marks, semi_marks, InvariantsPhrase, no_invariants, invariant, invariants_meant, invariants_marks, StmtPhrase, assigned, stored, invoked, targeted, declared, initialized, claimed, branched, repeated, folded, folds, unfolds, BranchPhrase, branch, OtherPhrase, no_other, other, another, BlockPhrase, block, RowPhrase, no_more, more, stmt_meant, other_meant, block_meant, row_meant, stmt_marks, branch_marks, other_marks, block_marks, row_marks}
+use Rattle.vx_grammar.specs.Programs.{MoreDeclarations, no_more as no_declarations, listed, DeclarationsPhrase, none, some, ParametersPhrase, ReturnsPhrase, no_returns, returns, more_meant, declarations_meant, returns_meant, more_marks, declarations_marks, parameters_marks, returns_marks, ClausesPhrase, no_clauses, requires, ensures, decreases, requires_meant, ensures_meant, measure_meant, clauses_marks, BracedPhrase, braced_marks, given_meant, given_marks, body_meant, body_marks, MemberPhrase, a_field, a_predicate, a_function, a_method, member_meant, member_marks, ProgramPhrase, no_members, member, program_meant, program_marks}
+use Rattle.vx_print.specs.Canonical.{parenthesized, braced, applied, whole_tokens, read_tokens, exprs_tokens, further_names, right_tokens, clauses_tokens, targets_tokens, stmt_tokens, block_tokens, else_tokens, else_block, further_declarations, declarations_tokens, returns_tokens, measure_tokens, optional_expr_tokens, optional_block_tokens, member_tokens}
 use Rattle.vx_print.proofs.Writable.{Fine, FineMarks, fine_append, fine_front, fine_back, fine_around, fine, fine_instance}
 use Rattle.vx_print.proofs.BuiltStmt.{branch_tokens}
 use Rattle.vx_print.proofs.BuiltProgram.{program_tokens}
@@ -153,6 +153,7 @@ fine_requires r k (requires p e semi rest) h =
     let tail = semi_marks 0 semi ++ clauses_marks (r + 1) k rest in
     (tt, fine_append (whole_tokens (meant e)) (clauses_tokens words.Requires (requires_meant rest)) (fine r 8 true e (fine_front (marks r e) tail h.1)) (fine_requires (r + 1) k rest (fine_back (semi_marks 0 semi) (clauses_marks (r + 1) k rest) (fine_back (marks r e) tail h.1))))
 fine_requires r k (ensures p e semi rest) h = fine_requires r (k + 1) rest (fine_back (semi_marks 0 semi) (clauses_marks r (k + 1) rest) (fine_back (marks k e) (semi_marks 0 semi ++ clauses_marks r (k + 1) rest) h.1))
+fine_requires r k (decreases p e semi rest) h = fine_requires r k rest (fine_back (semi_marks 0 semi) (clauses_marks r k rest) (fine_back (marks 0 e) (semi_marks 0 semi ++ clauses_marks r k rest) h.1))
 
 fine_ensures : (r k : ℕ) (w : ClausesPhrase) → FineMarks (clauses_marks r k w) → Fine (clauses_tokens words.Ensures (ensures_meant w))
 fine_ensures r k no_clauses h = tt
@@ -160,20 +161,49 @@ fine_ensures r k (ensures p e semi rest) h =
     let tail = semi_marks 0 semi ++ clauses_marks r (k + 1) rest in
     (tt, fine_append (whole_tokens (meant e)) (clauses_tokens words.Ensures (ensures_meant rest)) (fine k 8 true e (fine_front (marks k e) tail h.1)) (fine_ensures r (k + 1) rest (fine_back (semi_marks 0 semi) (clauses_marks r (k + 1) rest) (fine_back (marks k e) tail h.1))))
 fine_ensures r k (requires p e semi rest) h = fine_ensures (r + 1) k rest (fine_back (semi_marks 0 semi) (clauses_marks (r + 1) k rest) (fine_back (marks r e) (semi_marks 0 semi ++ clauses_marks (r + 1) k rest) h.1))
+fine_ensures r k (decreases p e semi rest) h = fine_ensures r k rest (fine_back (semi_marks 0 semi) (clauses_marks r k rest) (fine_back (marks 0 e) (semi_marks 0 semi ++ clauses_marks r k rest) h.1))
+
+fine_measure : (r k : ℕ) (w : ClausesPhrase) → FineMarks (clauses_marks r k w) → Fine (measure_tokens (measure_meant w))
+fine_measure r k no_clauses h = tt
+fine_measure r k (requires p e semi rest) h = fine_measure (r + 1) k rest (fine_back (semi_marks 0 semi) (clauses_marks (r + 1) k rest) (fine_back (marks r e) (semi_marks 0 semi ++ clauses_marks (r + 1) k rest) h.1))
+fine_measure r k (ensures p e semi rest) h = fine_measure r (k + 1) rest (fine_back (semi_marks 0 semi) (clauses_marks r (k + 1) rest) (fine_back (marks k e) (semi_marks 0 semi ++ clauses_marks r (k + 1) rest) h.1))
+fine_measure r k (decreases p e semi rest) h = (tt, fine 0 8 true e (fine_front (marks 0 e) (semi_marks 0 semi ++ clauses_marks r k rest) h.1))
 
 fine_body : (w : Option BlockPhrase) → FineMarks (body_marks w) → Fine (optional_block_tokens (body_meant w))
 fine_body None h = tt
 fine_body (Some b) h = fine_block 0 b h
 
+fine_whole : (w : BracedPhrase) → FineMarks (braced_marks w) → Fine (braced (whole_tokens (meant w.inner)))
+fine_whole w h = fine_braced (whole_tokens (meant w.inner)) (fine 1 8 true w.inner (fine_front (marks 1 w.inner) (mark 1 w.to (symbol signs.CloseBrace) ∷ []) h.1))
+
 fine_given : (w : Option BracedPhrase) → FineMarks (given_marks w) → Fine (optional_expr_tokens (given_meant w))
 fine_given None h = tt
-fine_given (Some w) h = fine_braced (whole_tokens (meant w.inner)) (fine 1 8 true w.inner (fine_front (marks 1 w.inner) (mark 1 w.to (symbol signs.CloseBrace) ∷ []) h.1))
+fine_given (Some w) h = fine_whole w h
 
 fine_member : (m : MemberPhrase) → FineMarks (member_marks m) → Fine (member_tokens (member_meant m))
 fine_member (a_field p d) h = (tt, (h.1.0, (tt, (tt, tt))))
 fine_member (a_predicate w) h =
     let kp = parenthesized (declarations_tokens (declarations_meant w.parameters.inner)) in
     (tt, (h.1.0, fine_append kp (optional_expr_tokens (given_meant w.body)) (fine_parameters 0 w.parameters (fine_front (parameters_marks 0 w.parameters) (given_marks w.body) h.1.1)) (fine_given w.body (fine_back (parameters_marks 0 w.parameters) (given_marks w.body) h.1.1))))
+fine_member (a_function f) h =
+    let pm = parameters_marks 0 f.parameters in
+    let cm : List Mark = mark 0 f.colon_at (symbol signs.Colon) ∷ mark 0 f.type_at (word (type_word f.of)) ∷ clauses_marks 0 0 f.clauses in
+    let bm = braced_marks f.body in
+    let head = fine_front (pm ++ cm) bm h.1.1 in
+    let these = (fine_back pm cm head).1.1 in
+    let kp = parenthesized (declarations_tokens (declarations_meant f.parameters.inner)) in
+    let kq = clauses_tokens words.Requires (requires_meant f.clauses) in
+    let ke = clauses_tokens words.Ensures (ensures_meant f.clauses) in
+    let km = measure_tokens (measure_meant f.clauses) in
+    let kb = braced (whole_tokens (meant f.body.inner)) in
+    let clauses = fine_append kq (ke ++ km) (fine_requires 0 0 f.clauses these) (fine_append ke km (fine_ensures 0 0 f.clauses these) (fine_measure 0 0 f.clauses these)) in (
+      tt,
+      (
+        h.1.0,
+        fine_append kp (symbol signs.Colon ∷ word (type_word f.of) ∷ ((kq ++ (ke ++ km)) ++ kb)) (fine_parameters 0 f.parameters (fine_front pm cm head))
+            (tt, (tt, fine_append (kq ++ (ke ++ km)) kb clauses (fine_whole f.body (fine_back (pm ++ cm) bm h.1.1)))),
+      ),
+    )
 fine_member (a_method m) h =
     let body = body_marks m.body in
     let clauses = clauses_marks 0 0 m.clauses in

@@ -3,8 +3,8 @@ use std::alloc::{AllocError, Global};
 use std::rc::Rc;
 use std::test::*;
 use vx_ast::{
-    BinaryOperator, Block, Declaration, Expr, ExprKind, Member, MemberKind, Method, Name, Place,
-    Program, Stmt, StmtKind, ValueType,
+    BinaryOperator, Block, Declaration, Expr, ExprKind, Function, Member, MemberKind, Method, Name,
+    Place, Program, Stmt, StmtKind, ValueType,
 };
 
 const HERE: Place = Place { line: 1, column: 1 };
@@ -44,6 +44,24 @@ fn nothing(alloc: Global) -> Result<Rc<Block>, AllocError> {
     Ok(Rc::new(alloc, Block { statements })?)
 }
 
+// The text of a program of one member.
+fn printed(alloc: Global, text: &str, kind: MemberKind) -> Result<Vec<u8>, AllocError> {
+    let mut members = Vec::new(alloc);
+    members.push(Member {
+        place: HERE,
+        name: name(alloc, text)?,
+        kind,
+    })?;
+    print(alloc, &Program { members })
+}
+
+// A row of one.
+fn only(alloc: Global, e: Rc<Expr>) -> Result<Vec<Rc<Expr>>, AllocError> {
+    let mut row = Vec::new(alloc);
+    row.push(e)?;
+    Ok(row)
+}
+
 // The text of a method `m` with this body.
 fn method(
     alloc: Global,
@@ -57,13 +75,7 @@ fn method(
         postconditions: Vec::new(alloc),
         body: Some(body),
     };
-    let mut members = Vec::new(alloc);
-    members.push(Member {
-        place: HERE,
-        name: name(alloc, "m")?,
-        kind: MemberKind::Method(method),
-    })?;
-    print(alloc, &Program { members })
+    printed(alloc, "m", MemberKind::Method(method))
 }
 
 // The text of a method that asserts this.
@@ -157,6 +169,35 @@ fn an_elseif_and_an_amount(rt: HostRuntime) -> Result<(), Fail> {
     assert_eq!(rt;
         text.as_slice(),
         b"method m ( ) { if ( a ) { } elseif ( b ) { inhale acc ( x . f , write ) } }\n".as_slice()
+    );
+    Ok(())
+}
+
+#[test]
+fn a_function_with_each_clause(rt: HostRuntime) -> Result<(), Fail> {
+    let alloc = rt.alloc();
+    let mut parameters = Vec::new(alloc);
+    parameters.push(Declaration {
+        name: name(alloc, "x")?,
+        value_type: ValueType::Int,
+    })?;
+    let zero = node(alloc, ExprKind::Number(0))?;
+    let below = BinaryOperator::LessEqual;
+    let given = joined(alloc, below, zero, variable(alloc, "x")?)?;
+    let outcome = node(alloc, ExprKind::Outcome)?;
+    let told = joined(alloc, below, variable(alloc, "x")?, outcome)?;
+    let f = Function {
+        parameters,
+        value_type: ValueType::Int,
+        preconditions: only(alloc, given)?,
+        postconditions: only(alloc, told)?,
+        measure: Some(variable(alloc, "x")?),
+        body: variable(alloc, "x")?,
+    };
+    let text = printed(alloc, "f", MemberKind::Function(f))?;
+    assert_eq!(rt;
+        text.as_slice(),
+        b"function f ( x : Int ) : Int requires 0 <= x ensures x <= result decreases x { x }\n".as_slice()
     );
     Ok(())
 }
