@@ -1,0 +1,13 @@
+//! Which expressions and assertions are typed, and the first fault of one that isn't.
+#![tactic(auto, using(crate::proofs::Fails::passed_on))]
+
+mod amounts;
+mod assertions;
+mod expect;
+mod expr;
+mod fault;
+mod operators;
+mod setting;
+
+pub use fault::{Expected, TypeFault};
+pub use setting::{Members, Setting, Signature, Variable, Variables};
