@@ -1,2 +1,3 @@
 pub mod Fails
 pub mod Places
+pub mod Rows

@@ -1,5 +1,6 @@
 -- Arguments as a list, and what is left of them to check.
-use Rattle.std.proofs.Common.{◌≡◌, ◌∙◌, refl, ap, sym, rules, List, [], ◌∷◌, ◌++◌, Ok, Err, Result, ℕ, zero, suc, ◌+◌, ◌<◌, length, drop, arith, get_or, append_assoc, subst}
+use Rattle.std.proofs.Common.{◌≡◌, ◌∙◌, refl, ap, sym, rules, List, [], ◌∷◌, ◌++◌, Ok, Err, Result, ℕ, zero, suc, ◌+◌, ◌<◌, length, drop, arith, get_or, append_assoc, subst, add-one}
+use Rattle.std.proofs.Math.Seq.{drop-cons}
 use Rattle.std.specs.declared.alloc.Global.{Global}
 use Rattle.std.specs.declared.rc.Rc.{Rc}
 use Rattle.vx_ast.specs.declared.Expr as expr
@@ -21,3 +22,14 @@ onto_none (Err e) = refl
 after : (ts : List ValueType) (t : ValueType) (x : Checked (List ValueType)) → onto ts (x >>= λ us. Ok (t ∷ us)) ≡ onto (ts ++ t ∷ []) x
 after ts t (Ok us) = ap Ok (sym (append_assoc ts (t ∷ []) us))
 after ts t (Err e) = refl
+
+all_more : (s : Setting) (es : List (Rc expr.Expr Global)) (i : ℕ) (e : Rc expr.Expr Global) → i < length es → e ≡ get_or es i e →
+    check_all s (written_all (drop i es)) ≡ (check s (written_expr e.value) >>= λ t. check_all s (written_all (drop (suc i) es)) >>= λ us. Ok (t ∷ us))
+all_more s es i e within is = ap (λ xs. check_all s (written_all xs)) (drop-cons es i e within ∙ ap (λ x. x ∷ drop (suc i) es) (sym is))
+
+-- one more argument has its type
+pub one_more : (s : Setting) (es : List (Rc expr.Expr Global)) (i : ℕ) (e : Rc expr.Expr Global) (ts : List ValueType) (t : ValueType) (whole : Checked (List ValueType)) → i < length es → e ≡ get_or es i e →
+    check s (written_expr e.value) ≡ Ok t → whole ≡ onto ts (check_all s (written_all (drop i es))) → whole ≡ onto (ts ++ t ∷ []) (check_all s (written_all (drop (i + 1) es)))
+one_more s es i e ts t whole within is typed before =
+    before ∙ ap (onto ts) (all_more s es i e within is ∙ ap (λ x. x >>= λ t. check_all s (written_all (drop (suc i) es)) >>= λ us. Ok (t ∷ us)) typed)
+    ∙ after ts t (check_all s (written_all (drop (suc i) es))) ∙ ap (λ k. onto (ts ++ t ∷ []) (check_all s (written_all (drop k es)))) (sym (add-one i))

@@ -135,6 +135,12 @@ field_type f _ = Err (Unknown f.place f.name)
 abbrev pub read_type : Setting → Expr → Placed → ValueType → Checked ValueType
 read_type s e f t = expect (place_of e) type.Ref t >>= λ _. field_type f (s.member f.name)
 
+abbrev pub old_type : Place → Bool → ValueType → Checked ValueType
+old_type at has_old t = if has_old then Ok t else Err (OldHere at)
+
+abbrev pub unfolded_type : Place → Bool → ValueType → Checked ValueType
+unfolded_type at has_body t = if has_body then Ok t else Err (UnfoldAbstract at)
+
 abbrev pub outcome_type : Place → Option ValueType → Checked ValueType
 outcome_type at (Some t) = Ok t
 outcome_type at None = Err (ResultHere at)
@@ -228,13 +234,13 @@ abbrev mutual
   check s (expr.Unary at op e) = check s e >>= λ t. unary_type op e t
   check s (expr.Binary at op a b) = check s a >>= λ t. check s b >>= λ u. binary_type op a b t u
   check s (expr.Choice at c a b) = check s c >>= λ k. check s a >>= λ t. check s b >>= λ u. choice_type c b k t u
-  check s (expr.Old at e) = check s e >>= λ t. unless s.has_old (OldHere at) >>= λ _. Ok t
+  check s (expr.Old at e) = check s e >>= λ t. old_type at s.has_old t
   check s (expr.Access at (expr.Read p e f) share) = check s e >>= λ t. read_type s e f t >>= λ _. check_share s share >>= λ _. Err (Impure at)
   check s (expr.Access at (expr.Call p i es) share) = check_all s es >>= λ found. instance_of p i es found (s.member i) >>= λ _. check_share s share >>= λ _. Err (Impure at)
   check s (expr.Access at e share) = check s e >>= λ _. Err (Impure (place_of e))
   check s (expr.Unfolding at i es share e) =
       check_all s es >>= λ found. instance_of i.place i.name es found (s.member i.name) >>= λ has_body.
-      check_share s share >>= λ _. check s e >>= λ t. unless has_body (UnfoldAbstract i.place) >>= λ _. Ok t
+      check_share s share >>= λ _. check s e >>= λ t. unfolded_type i.place has_body t
 
   pub check_all : Setting → Exprs → Checked (List ValueType)
   check_all s NoMore = Ok []
@@ -244,10 +250,19 @@ abbrev mutual
   check_share s All = Ok tt
   check_share s (Part e) = check s e >>= λ t. amount s.constant e t
 
+abbrev pub applied : Setting → Place → Name → Exprs → Checked ValueType
+applied s at f es = check_all s es >>= λ found. application s at f es found (s.member f)
+
+abbrev pub instance : Setting → Place → Name → Exprs → Checked Bool
+instance s at i es = check_all s es >>= λ found. instance_of at i es found (s.member i)
+
+abbrev pub read : Setting → Expr → Placed → Checked ValueType
+read s e f = check s e >>= λ t. read_type s e f t
+
 -- what stands first in an `acc`
 abbrev pub check_held : Setting → Expr → Checked ⊤
-check_held s (expr.Read at e f) = check s e >>= λ t. read_type s e f t >>= λ _. Ok tt
-check_held s (expr.Call at i es) = check_all s es >>= λ found. instance_of at i es found (s.member i) >>= λ _. Ok tt
+check_held s (expr.Read at e f) = read s e f >>= λ _. Ok tt
+check_held s (expr.Call at i es) = instance s at i es >>= λ _. Ok tt
 check_held s e = check s e >>= λ _. Err (Impure (place_of e))
 
 -- what an expression is where an assertion may stand: a value, or a permission
