@@ -6,7 +6,7 @@ use Rattle.std.specs.declared.rc.Rc.{Rc}
 use Rattle.vx_ast.specs.declared.Expr as expr
 use Rattle.vx_ast.specs.declared.ExprKind as tree
 use Rattle.vx_ast.specs.declared.ValueType.{ValueType}
-use Rattle.vx_typing.specs.Placed.{Exprs, More, written_expr, written_row, written_all}
+use Rattle.vx_typing.specs.Placed.{Exprs, More, written, written_expr, written_row, written_all}
 use Rattle.vx_typing.specs.Settings.{Setting}
 use Rattle.vx_typing.specs.Faults.{Checked, Fault, ◌>>=◌, check, check_all}
 
@@ -33,3 +33,7 @@ pub one_more : (s : Setting) (es : List (Rc expr.Expr Global)) (i : ℕ) (e : Rc
 one_more s es i e ts t whole within is typed before =
     before ∙ ap (onto ts) (all_more s es i e within is ∙ ap (λ x. x >>= λ t. check_all s (written_all (drop (suc i) es)) >>= λ us. Ok (t ∷ us)) typed)
     ∙ after ts t (check_all s (written_all (drop (suc i) es))) ∙ ap (λ k. onto (ts ++ t ∷ []) (check_all s (written_all (drop k es)))) (sym (add-one i))
+
+pub call_row : (n : _) (k : tree.Row_of-ExprKind-Call-1-1 n) → written_row k ≡ written_all (tree.items-the_row-ExprKind-Call-1-1 n k)
+call_row n tree.end_of-ExprKind-Call-1-1 = refl
+call_row n (tree.more_of-ExprKind-Call-1-1 p place e rest) = ap (More (written place e)) (call_row _ rest)
