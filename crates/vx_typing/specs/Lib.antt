@@ -6,3 +6,4 @@ pub mod Typing
 pub mod Faults
 pub mod Views
 pub mod Gives
+pub mod Laws
