@@ -7,3 +7,4 @@ pub mod Faults
 pub mod Views
 pub mod Gives
 pub mod Laws
+pub mod Examples

@@ -11,5 +11,7 @@ mod operators;
 mod setting;
 
 pub use fault::{Expected, TypeFault};
-pub use laws::{assertions_are_told, types_are_single, types_are_told};
+pub use laws::{
+    assertions_are_told, example_assertions, example_expressions, types_are_single, types_are_told,
+};
 pub use setting::{Members, Setting, Signature, Variable, Variables};
