@@ -6,3 +6,4 @@ pub mod AgreesAmounts
 pub mod AgreesTypes
 pub mod AgreesClaims
 pub mod Agree
+pub mod Alike

@@ -1,10 +1,12 @@
 -- Two ways to say what is typed agree: the relation by structure, and the first fault on a walk.
-use Rattle.std.specs.Prelude.{◌≡◌, ◌↔◌, Ok, Err, List}
+use Rattle.std.specs.Prelude.{◌≡◌, ◌↔◌, Bool, true, false, ◌||◌, Option, Some, Ok, Err, List}
 use Rattle.vx_ast.specs.declared.ValueType.{ValueType}
+use Rattle.vx_ast.specs.declared.BinaryOperator.TheVariants as binary
+use Rattle.vx_typing.specs.Placed as expr
 use Rattle.vx_typing.specs.Placed.{Expr, Exprs, Amount}
-use Rattle.vx_typing.specs.Settings.{Setting}
+use Rattle.vx_typing.specs.Settings.{Setting, Signature, IsPredicate}
 use Rattle.vx_typing.specs.Typing.{HasType, HaveTypes, IsShare, IsPermission, IsAssertion}
-use Rattle.vx_typing.specs.Faults.{Fault, Checked, Value, Permission, check, check_all, check_share, claim, assertion}
+use Rattle.vx_typing.specs.Faults.{Fault, Checked, ◌>>=◌, Value, Permission, check, check_all, check_share, claim, assertion}
 
 -- there is a first fault
 abbrev pub HasFault : {X : Type 0} → Checked X → Type 0
@@ -35,6 +37,23 @@ UntypedAreFaulty = (s : Setting) (e : Expr) → HasFault (check s e) ↔ ((t : V
 
 abbrev pub OthersAreFaulty : Type 0
 OthersAreFaulty = (s : Setting) (e : Expr) → HasFault (assertion s e) ↔ (IsAssertion s e → ⊥)
+
+-- whether a permission stands where an assertion's parts may stand
+abbrev pub is_predicate : Option Signature → Bool
+is_predicate (Some (IsPredicate ts has_body)) = true
+is_predicate _ = false
+
+abbrev pub has_permission : Setting → Expr → Bool
+has_permission s (expr.Access at e share) = true
+has_permission s (expr.Call at f es) = is_predicate (s.member f)
+has_permission s (expr.Binary at binary.And a b) = has_permission s a || has_permission s b
+has_permission s (expr.Binary at binary.Implies c a) = has_permission s a
+has_permission s (expr.Choice at c a b) = has_permission s a || has_permission s b
+has_permission s e = false
+
+-- where none stands, an assertion is walked as any expression is: the same type, or the same first fault
+abbrev pub PureAreWalkedAlike : Type 0
+PureAreWalkedAlike = (s : Setting) (e : Expr) → has_permission s e ≡ false → claim s e ≡ (check s e >>= λ t. Ok (Value t))
 
 -- an expression has one type at most
 abbrev pub HasOneType : Type 0

@@ -1,6 +1,6 @@
 //! The laws of typing: the relation and the first fault tell the same.
 
-ghost use Rattle.vx_typing.specs.Laws.{TypesAgree, ListsAgree, SharesAgree, ValuesAgree, PermissionsAgree, AssertionsAgree, UntypedAreFaulty, OthersAreFaulty, HasOneType, PermissionsAreNoValues};
+ghost use Rattle.vx_typing.specs.Laws.{TypesAgree, ListsAgree, SharesAgree, ValuesAgree, PermissionsAgree, AssertionsAgree, UntypedAreFaulty, OthersAreFaulty, HasOneType, PermissionsAreNoValues, PureAreWalkedAlike};
 ghost use Rattle.vx_typing.specs.Faults.{assertion, check};
 ghost use Rattle.vx_typing.specs.Examples.{Computes, after, asserted, bodies, faulty, here, later, typed, unapplied, within};
 
@@ -18,6 +18,11 @@ pub fn assertions_are_told()
     ensures values { ValuesAgree }
     ensures permissions { PermissionsAgree }
     ensures others { OthersAreFaulty }
+{}
+
+/// Where no permission stands, an assertion is walked as any expression is.
+pub fn pure_assertions_are_expressions()
+    ensures { PureAreWalkedAlike }
 {}
 
 /// An expression has one type at most, and none where it holds a permission.
