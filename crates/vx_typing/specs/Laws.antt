@@ -38,11 +38,11 @@ UntypedAreFaulty = (s : Setting) (e : Expr) → HasFault (check s e) ↔ ((t : V
 abbrev pub OthersAreFaulty : Type 0
 OthersAreFaulty = (s : Setting) (e : Expr) → HasFault (assertion s e) ↔ (IsAssertion s e → ⊥)
 
--- whether a permission stands where an assertion's parts may stand
 abbrev pub is_predicate : Option Signature → Bool
 is_predicate (Some (IsPredicate ts has_body)) = true
 is_predicate _ = false
 
+-- whether a permission stands where an assertion's parts may stand
 abbrev pub has_permission : Setting → Expr → Bool
 has_permission s (expr.Access at e share) = true
 has_permission s (expr.Call at f es) = is_predicate (s.member f)
