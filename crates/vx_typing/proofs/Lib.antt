@@ -4,3 +4,9 @@ pub mod Rows
 pub mod Accesses
 pub mod Arguments
 pub mod Unfoldings
+pub mod Passed
+pub mod AgreesAmounts
+pub mod AgreesTypes
+pub mod AgreesClaims
+pub mod Agree
+pub mod Alike

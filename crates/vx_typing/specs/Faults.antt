@@ -256,6 +256,10 @@ applied s at f es = check_all s es >>= λ found. application s at f es found (s.
 abbrev pub instance : Setting → Place → Name → Exprs → Checked Bool
 instance s at i es = check_all s es >>= λ found. instance_of at i es found (s.member i)
 
+-- `unfolding` in an expression
+abbrev pub unfolding_type : Setting → Placed → Exprs → Amount → Expr → Checked ValueType
+unfolding_type s i es share e = instance s i.place i.name es >>= λ has_body. check_share s share >>= λ _. check s e >>= λ t. unfolded_type i.place has_body t
+
 abbrev pub read : Setting → Expr → Placed → Checked ValueType
 read s e f = check s e >>= λ t. read_type s e f t
 
@@ -282,9 +286,15 @@ joined _ _ = Permission
 abbrev pub conjunction : Expr → Expr → Claim → Claim → Checked Claim
 conjunction a b x y = held a x >>= λ _. held b y >>= λ _. Ok (joined x y)
 
+abbrev pub implication : Expr → Expr → ValueType → Claim → Checked Claim
+implication c a t y = expect (place_of c) type.Bool t >>= λ _. held a y >>= λ _. Ok (joined (Value type.Bool) y)
+
 abbrev pub choice : Expr → Expr → Claim → Claim → Checked Claim
 choice a b (Value t) (Value u) = expect (place_of b) t u >>= λ _. Ok (Value t)
 choice a b x y = held a x >>= λ _. held b y >>= λ _. Ok Permission
+
+abbrev pub chosen : Expr → Expr → Expr → ValueType → Claim → Claim → Checked Claim
+chosen c a b t x y = expect (place_of c) type.Bool t >>= λ _. choice a b x y
 
 abbrev pub called : Setting → Place → Name → Exprs → List ValueType → Option Signature → Checked Claim
 called s at f es found (Some (IsPredicate ts has_body)) = arguments at es found ts >>= λ _. Ok Permission
@@ -294,8 +304,8 @@ abbrev pub claim : Setting → Expr → Checked Claim
 claim s (expr.Access at e share) = check_held s e >>= λ _. check_share s share >>= λ _. Ok Permission
 claim s (expr.Call at f es) = check_all s es >>= λ found. called s at f es found (s.member f)
 claim s (expr.Binary at binary.And a b) = claim s a >>= λ x. claim s b >>= λ y. conjunction a b x y
-claim s (expr.Binary at binary.Implies c a) = check s c >>= λ t. claim s a >>= λ y. expect (place_of c) type.Bool t >>= λ _. held a y >>= λ _. Ok (joined (Value type.Bool) y)
-claim s (expr.Choice at c a b) = check s c >>= λ t. claim s a >>= λ x. claim s b >>= λ y. expect (place_of c) type.Bool t >>= λ _. choice a b x y
+claim s (expr.Binary at binary.Implies c a) = check s c >>= λ t. claim s a >>= λ y. implication c a t y
+claim s (expr.Choice at c a b) = check s c >>= λ t. claim s a >>= λ x. claim s b >>= λ y. chosen c a b t x y
 claim s e = check s e >>= λ t. Ok (Value t)
 
 abbrev pub assertion : Setting → Expr → Checked ⊤

@@ -6,3 +6,5 @@ pub mod Typing
 pub mod Faults
 pub mod Views
 pub mod Gives
+pub mod Laws
+pub mod Examples

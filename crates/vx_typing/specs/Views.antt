@@ -8,7 +8,8 @@ use Rattle.vx_typing.specs.declared.fault.Expected.TheVariants as expected'
 use Rattle.vx_typing.specs.declared.setting.Signature.TheVariants as signature'
 use Rattle.vx_typing.specs.declared.setting.Setting as setting'
 use Rattle.vx_typing.specs.Settings.{Setting, Signature, IsField, IsPredicate, IsFunction, IsMethod}
-use Rattle.vx_typing.specs.Faults.{Expected, OfType, Numeral}
+use Rattle.vx_typing.specs.declared.assertions.Claim.TheVariants as claim'
+use Rattle.vx_typing.specs.Faults.{Expected, OfType, Numeral, Claim, Value, Permission}
 
 abbrev pub types_of : List Declaration → List ValueType
 types_of ds = map (λ d. d.value_type) ds
@@ -32,3 +33,7 @@ setting s = record {
 abbrev pub expected : expected'.the_data → Expected
 expected (expected'.Type t) = OfType t
 expected expected'.Numeral = Numeral
+
+abbrev pub claim_of : claim'.the_data → Claim
+claim_of (claim'.Value t) = Value t
+claim_of claim'.Permission = Permission

@@ -36,7 +36,8 @@ fn arguments_fit(
         if (i >= found.len()) | (i >= expected.len()) {
             return Ok(());
         }
-        expect(place(&es[i]), expected[i].value_type, found[i])?;
+        let t = found[i];
+        expect(place(&es[i]), expected[i].value_type, t)?;
     }
     Ok(())
 }
@@ -235,6 +236,23 @@ fn read(alloc: Global, s: Setting, e: &Expr, field: &Name) -> Result<ValueType, 
     read_type(alloc, s, e, field, t)
 }
 
+#[cycle(typing)]
+fn unfolding(
+    alloc: Global,
+    s: Setting,
+    name: &Name,
+    es: &[Rc<Expr>],
+    amount: &Option<Rc<Expr>>,
+    e: &Expr,
+) -> Result<ValueType, TypeFault>
+    ensures { Gives (λ t. t) result (faults.unfolding_type (setting s.entry) (placed name.now) (written_all es.now) (written_share amount.now) (written_expr e.now)) }
+{
+    let has_body = instance(alloc, s, name.place, &name.text, es)?;
+    share(alloc, s, amount)?;
+    let t = check(alloc, s, e)?;
+    unfolded_type(name.place, has_body, t)
+}
+
 /// What stands first in an `acc`.
 #[cycle(typing)]
 pub fn held(alloc: Global, s: Setting, e: &Expr) -> Result<(), TypeFault>
@@ -301,10 +319,7 @@ pub fn check(alloc: Global, s: Setting, e: &Expr) -> Result<ValueType, TypeFault
             Err(TypeFault::Impure(at))
         }
         ExprKind::Unfolding(name, es, amount, a) => {
-            let has_body = instance(alloc, s, name.place, &name.text, es)?;
-            share(alloc, s, amount)?;
-            let t = check(alloc, s, a)?;
-            unfolded_type(name.place, has_body, t)
+            unfolding(alloc, s, name, es, amount, a)
         }
     }
 }

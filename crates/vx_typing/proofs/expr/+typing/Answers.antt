@@ -7,7 +7,7 @@ use Rattle.vx_typing.specs.Faults.{check, check_all}
 use Rattle.vx_typing.specs.Views.{setting}
 use Rattle.vx_typing.proofs.Accesses.{access_is}
 use Rattle.vx_ast.specs.declared.Expr as expr
-use Rattle.vx_typing.proofs.Unfoldings.{share_fails, body_fails}
+use Rattle.vx_typing.proofs.Unfoldings.{unfolding_is}
 use Rattle.vx_typing.proofs.Fails.{passed_on}
 use Rattle.vx_typing.proofs.expr.+typing.Goals as goal
 
@@ -17,8 +17,8 @@ check-returns-in-Call t c = search (rules, tree.the_lemmas, call_row)
 pub held-returns-in_ok-instance-in-Call : goal.held-returns-in_ok-instance-in-Call
 held-returns-in_ok-instance-in-Call t c = search (rules, tree.the_lemmas, call_row)
 
-pub check-returns-in_ok-t-in-Unfolding : goal.check-returns-in_ok-t-in-Unfolding
-check-returns-in_ok-t-in-Unfolding t c = search (rules, tree.the_lemmas, call_row)
+pub check-returns-in-Unfolding : goal.check-returns-in-Unfolding
+check-returns-in-Unfolding t c = search (rules, tree.the_lemmas, call_row, unfolding_is)
 
 pub check-returns-in_ok-share-in-Access : goal.check-returns-in_ok-share-in-Access
 check-returns-in_ok-share-in-Access t c = search (rules, tree.the_lemmas, access_is)
@@ -28,15 +28,6 @@ check-returns-in_err-held-in-Access t c = search (rules, tree.the_lemmas, access
 
 pub check-returns-in_err-share-in-Access : goal.check-returns-in_err-share-in-Access
 check-returns-in_err-share-in-Access t c = search (rules, tree.the_lemmas, access_is, passed_on)
-
-pub check-returns-in_err-has_body-in-Unfolding : goal.check-returns-in_err-has_body-in-Unfolding
-check-returns-in_err-has_body-in-Unfolding t c = search (rules, tree.the_lemmas, call_row, passed_on)
-
-pub check-returns-in_err-share-in-Unfolding : goal.check-returns-in_err-share-in-Unfolding
-check-returns-in_err-share-in-Unfolding t c = search (rules, tree.the_lemmas, call_row, share_fails)
-
-pub check-returns-in_err-t-in-Unfolding : goal.check-returns-in_err-t-in-Unfolding
-check-returns-in_err-t-in-Unfolding t c = search (rules, tree.the_lemmas, call_row, body_fails)
 
 pub held-returns-in_err-instance-in-Call : goal.held-returns-in_err-instance-in-Call
 held-returns-in_err-instance-in-Call t c = search (rules, tree.the_lemmas, call_row, passed_on)
