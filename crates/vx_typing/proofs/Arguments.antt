@@ -60,8 +60,8 @@ next es found ds i e u d in_es in_found in_ds is_e is_u is_d =
     ap (λ xs. arguments_fit (written_all xs) (drop i found) (drop i (types_of ds))) (drop-cons es i e in_es ∙ ap (λ x. x ∷ drop (suc i) es) (sym is_e))
     ∙ ap (λ us. arguments_fit (More (written_expr e.value) (written_all (drop (suc i) es))) us (drop i (types_of ds))) (drop-cons found i u in_found ∙ ap (λ x. x ∷ drop (suc i) found) (sym is_u))
     ∙ ap (λ ts. arguments_fit (More (written_expr e.value) (written_all (drop (suc i) es))) (u ∷ drop (suc i) found) ts)
-        (drop-cons (types_of ds) i d.value_type (subst (λ n. i < n) (sym (length-map ds (λ d. d.value_type))) in_ds)
-          ∙ ap (λ x. x ∷ drop (suc i) (types_of ds)) (get_or-map (λ (d : Declaration). d.value_type) ds i d d.value_type in_ds ∙ ap (λ (d : Declaration). d.value_type) (sym is_d)))
+    (drop-cons (types_of ds) i d.value_type (subst (λ n. i < n) (sym (length-map ds (λ d. d.value_type))) in_ds)
+    ∙ ap (λ x. x ∷ drop (suc i) (types_of ds)) (get_or-map (λ (d : Declaration). d.value_type) ds i d d.value_type in_ds ∙ ap (λ (d : Declaration). d.value_type) (sym is_d)))
     ∙ ap (λ k. expect (place_of (written_expr e.value)) d.value_type u >>= λ _. arguments_fit (written_all (drop k es)) (drop k found) (drop k (types_of ds))) (sym (add-one i))
 
 neither : (a b : Bool) → (a || b) ≡ false → (a ≡ false) × (b ≡ false)
@@ -86,4 +86,4 @@ pub fits_not : (es : List (Rc expr.Expr Global)) (found : List ValueType) (ds : 
 fits_not es found ds i e u d at whole in_es on is_e is_u is_d is_at f fails before =
     let within = go_on (length found) (length ds) i on in
     subst (Fails f) (sym (before ∙ next es found ds i e u d in_es within.0 within.1 is_e is_u is_d))
-      (fails_on f (expect (place_of (written_expr e.value)) d.value_type u) _ (subst (λ p. Fails f (expect p d.value_type u)) is_at fails))
+    (fails_on f (expect (place_of (written_expr e.value)) d.value_type u) _ (subst (λ p. Fails f (expect p d.value_type u)) is_at fails))

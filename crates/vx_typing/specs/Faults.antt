@@ -256,10 +256,6 @@ applied s at f es = check_all s es >>= λ found. application s at f es found (s.
 abbrev pub instance : Setting → Place → Name → Exprs → Checked Bool
 instance s at i es = check_all s es >>= λ found. instance_of at i es found (s.member i)
 
--- `unfolding` in an expression
-abbrev pub unfolding_type : Setting → Placed → Exprs → Amount → Expr → Checked ValueType
-unfolding_type s i es share e = instance s i.place i.name es >>= λ has_body. check_share s share >>= λ _. check s e >>= λ t. unfolded_type i.place has_body t
-
 abbrev pub read : Setting → Expr → Placed → Checked ValueType
 read s e f = check s e >>= λ t. read_type s e f t
 
@@ -296,17 +292,29 @@ choice a b x y = held a x >>= λ _. held b y >>= λ _. Ok Permission
 abbrev pub chosen : Expr → Expr → Expr → ValueType → Claim → Claim → Checked Claim
 chosen c a b t x y = expect (place_of c) type.Bool t >>= λ _. choice a b x y
 
+abbrev pub value_of_call : Setting → Place → Name → Exprs → List ValueType → Option Signature → Checked Claim
+value_of_call s at f es found sig = application s at f es found sig >>= λ t. Ok (Value t)
+
 abbrev pub called : Setting → Place → Name → Exprs → List ValueType → Option Signature → Checked Claim
 called s at f es found (Some (IsPredicate ts has_body)) = arguments at es found ts >>= λ _. Ok Permission
-called s at f es found sig = application s at f es found sig >>= λ t. Ok (Value t)
+called s at f es found sig = value_of_call s at f es found sig
+
+abbrev pub call : Setting → Place → Name → Exprs → Checked Claim
+call s at f es = check_all s es >>= λ found. called s at f es found (s.member f)
+
+abbrev pub access : Setting → Expr → Amount → Checked Claim
+access s e share = check_held s e >>= λ _. check_share s share >>= λ _. Ok Permission
+
+abbrev pub pure : Setting → Expr → Checked Claim
+pure s e = check s e >>= λ t. Ok (Value t)
 
 abbrev pub claim : Setting → Expr → Checked Claim
-claim s (expr.Access at e share) = check_held s e >>= λ _. check_share s share >>= λ _. Ok Permission
-claim s (expr.Call at f es) = check_all s es >>= λ found. called s at f es found (s.member f)
+claim s (expr.Access at e share) = access s e share
+claim s (expr.Call at f es) = call s at f es
 claim s (expr.Binary at binary.And a b) = claim s a >>= λ x. claim s b >>= λ y. conjunction a b x y
 claim s (expr.Binary at binary.Implies c a) = check s c >>= λ t. claim s a >>= λ y. implication c a t y
 claim s (expr.Choice at c a b) = check s c >>= λ t. claim s a >>= λ x. claim s b >>= λ y. chosen c a b t x y
-claim s e = check s e >>= λ t. Ok (Value t)
+claim s e = pure s e
 
 abbrev pub assertion : Setting → Expr → Checked ⊤
 assertion s e = claim s e >>= λ x. held e x

@@ -1,7 +1,7 @@
 //! Assertions.
 
 ghost use Rattle.std.specs.Prelude.{◌≡◌, option_map};
-ghost use Rattle.vx_typing.specs.Placed.{written_expr, written_all};
+ghost use Rattle.vx_typing.specs.Placed.{written_expr, written_all, written_share};
 ghost use Rattle.vx_typing.specs.Faults as faults;
 ghost use Rattle.vx_typing.specs.Gives.{Gives};
 ghost use Rattle.vx_typing.specs.Views.{setting, signature, claim_of};
@@ -82,6 +82,35 @@ fn sides(a: &Expr, b: &Expr, x: Claim, y: Claim) -> Result<Claim, TypeFault>
     }
 }
 
+fn chosen(
+    c: &Expr,
+    a: &Expr,
+    b: &Expr,
+    t: ValueType,
+    x: Claim,
+    y: Claim,
+) -> Result<Claim, TypeFault>
+    ensures { Gives claim_of result (faults.chosen (written_expr c.now) (written_expr a.now) (written_expr b.now) t (claim_of x) (claim_of y)) }
+{
+    expect(place(c), ValueType::Bool, t)?;
+    sides(a, b, x, y)
+}
+
+fn value(
+    alloc: Global,
+    s: Setting,
+    at: Place,
+    name: &str,
+    es: &[Rc<Expr>],
+    found: &[ValueType],
+    member: Option<Signature>,
+) -> Result<Claim, TypeFault>
+    ensures { Gives claim_of result (faults.value_of_call (setting s.entry) at name.now (written_all es.now) found.now (option_map signature member.entry)) }
+{
+    let t = application(alloc, s, at, name, es, found, member)?;
+    Ok(Claim::Value(t))
+}
+
 fn called(
     alloc: Global,
     s: Setting,
@@ -98,9 +127,104 @@ fn called(
             arguments(at, es, found, expected)?;
             Ok(Claim::Permission)
         }
-        Some(Signature::Field(_)) => value(application(alloc, s, at, name, es, found, member)),
-        Some(Signature::Function(_, _)) => value(application(alloc, s, at, name, es, found, member)),
-        Some(Signature::Method(_, _)) => value(application(alloc, s, at, name, es, found, member)),
-        None => value(application(alloc, s, at, name, es, found, member)),
+        Some(Signature::Field(_)) => value(alloc, s, at, name, es, found, member),
+        Some(Signature::Function(_, _)) => value(alloc, s, at, name, es, found, member),
+        Some(Signature::Method(_, _)) => value(alloc, s, at, name, es, found, member),
+        None => value(alloc, s, at, name, es, found, member),
     }
+}
+
+fn call(
+    alloc: Global,
+    s: Setting,
+    at: Place,
+    name: &str,
+    es: &[Rc<Expr>],
+) -> Result<Claim, TypeFault>
+    ensures { Gives claim_of result (faults.call (setting s.entry) at name.now (written_all es.now)) }
+{
+    let found = check_all(alloc, s, es)?;
+    called(alloc, s, at, name, es, &found, s.member(name))
+}
+
+fn access(
+    alloc: Global,
+    s: Setting,
+    e: &Expr,
+    amount: &Option<Rc<Expr>>,
+) -> Result<Claim, TypeFault>
+    ensures { Gives claim_of result (faults.access (setting s.entry) (written_expr e.now) (written_share amount.now)) }
+{
+    held(alloc, s, e)?;
+    share(alloc, s, amount)?;
+    Ok(Claim::Permission)
+}
+
+fn pure(alloc: Global, s: Setting, e: &Expr) -> Result<Claim, TypeFault>
+    ensures { Gives claim_of result (faults.pure (setting s.entry) (written_expr e.now)) }
+{
+    let t = check(alloc, s, e)?;
+    Ok(Claim::Value(t))
+}
+
+// What an expression is where an assertion may stand, or its first fault.
+fn claimed(alloc: Global, s: Setting, e: &Expr) -> Result<Claim, TypeFault>
+    ensures { Gives claim_of result (faults.claim (setting s.entry) (written_expr e.now)) }
+{
+    match &e.kind {
+        ExprKind::Access(a, amount) => access(alloc, s, a, amount),
+        ExprKind::Call(name, es) => call(alloc, s, e.place, name, es),
+        ExprKind::Binary(BinaryOperator::And, a, b) => {
+            let x = claimed(alloc, s, a)?;
+            let y = claimed(alloc, s, b)?;
+            conjunction(a, b, x, y)
+        }
+        ExprKind::Binary(BinaryOperator::Implies, c, a) => {
+            let t = check(alloc, s, c)?;
+            let y = claimed(alloc, s, a)?;
+            implication(c, a, t, y)
+        }
+        ExprKind::Conditional(c, a, b) => {
+            let t = check(alloc, s, c)?;
+            let x = claimed(alloc, s, a)?;
+            let y = claimed(alloc, s, b)?;
+            chosen(c, a, b, t, x, y)
+        }
+        ExprKind::Binary(
+            BinaryOperator::Or
+            | BinaryOperator::Equal
+            | BinaryOperator::NotEqual
+            | BinaryOperator::Less
+            | BinaryOperator::LessEqual
+            | BinaryOperator::Greater
+            | BinaryOperator::GreaterEqual
+            | BinaryOperator::Add
+            | BinaryOperator::Subtract
+            | BinaryOperator::Multiply
+            | BinaryOperator::Divide
+            | BinaryOperator::Quotient
+            | BinaryOperator::Remainder,
+            _,
+            _,
+        ) => pure(alloc, s, e),
+        ExprKind::Number(_)
+        | ExprKind::Boolean(_)
+        | ExprKind::Null
+        | ExprKind::Write
+        | ExprKind::Nothing
+        | ExprKind::Outcome
+        | ExprKind::Variable(_)
+        | ExprKind::Read(_, _)
+        | ExprKind::Unary(_, _)
+        | ExprKind::Old(_)
+        | ExprKind::Unfolding(_, _, _, _) => pure(alloc, s, e),
+    }
+}
+
+/// An assertion is typed: a truth, or what holds a permission. Otherwise its first fault.
+pub fn assertion(alloc: Global, s: Setting, e: &Expr) -> Result<(), TypeFault>
+    ensures { Gives (λ u. tt) result (faults.assertion (setting s.entry) (written_expr e.now)) }
+{
+    let x = claimed(alloc, s, e)?;
+    stands(e, x)
 }

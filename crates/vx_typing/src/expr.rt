@@ -1,6 +1,6 @@
 //! Types of expressions.
 
-ghost use Rattle.std.specs.Prelude.{◌≡◌, IfSome, option_map, List, [], ◌∷◌, length, map};
+ghost use Rattle.std.specs.Prelude.{◌≡◌, ◌<◌, Some, slice_get, IfSome, option_map, List, [], ◌∷◌, length, map};
 ghost use Rattle.vx_ast.specs.declared.ValueType.{ValueType};
 ghost use Rattle.vx_typing.specs.Placed.{written_expr, written_all, written_share, placed};
 ghost use Rattle.vx_typing.specs.Faults as faults;
@@ -24,6 +24,13 @@ fn unknown(alloc: Global, place: Place, name: &str) -> TypeFault
     }
 }
 
+fn type_at(found: &[ValueType], i: usize) -> ValueType
+    requires { i < length found.now }
+    ensures { slice_get found.now i ≡ Some result }
+{
+    found[i]
+}
+
 // The types of arguments are those of the parameters, as far as there are such.
 fn arguments_fit(
     es: &[Rc<Expr>],
@@ -36,13 +43,13 @@ fn arguments_fit(
         if (i >= found.len()) | (i >= expected.len()) {
             return Ok(());
         }
-        let t = found[i];
+        let t = type_at(found, i);
         expect(place(&es[i]), expected[i].value_type, t)?;
     }
     Ok(())
 }
 
-fn arguments(
+pub(crate) fn arguments(
     at: Place,
     es: &[Rc<Expr>],
     found: &[ValueType],
@@ -79,7 +86,7 @@ fn instance_of(
     }
 }
 
-fn application(
+pub(crate) fn application(
     alloc: Global,
     s: Setting,
     at: Place,
@@ -175,7 +182,11 @@ fn unfolded_type(at: Place, has_body: bool, t: ValueType) -> Result<ValueType, T
 
 // The types of arguments, each checked before any is compared.
 #[cycle(typing)]
-fn check_all(alloc: Global, s: Setting, es: &[Rc<Expr>]) -> Result<Vec<ValueType>, TypeFault>
+pub(crate) fn check_all(
+    alloc: Global,
+    s: Setting,
+    es: &[Rc<Expr>],
+) -> Result<Vec<ValueType>, TypeFault>
     ensures { Gives (λ ts. ts.items) result (faults.check_all (setting s.entry) (written_all es.now)) }
 {
     let mut types = Vec::new(alloc);
@@ -234,23 +245,6 @@ fn read(alloc: Global, s: Setting, e: &Expr, field: &Name) -> Result<ValueType, 
 {
     let t = check(alloc, s, e)?;
     read_type(alloc, s, e, field, t)
-}
-
-#[cycle(typing)]
-fn unfolding(
-    alloc: Global,
-    s: Setting,
-    name: &Name,
-    es: &[Rc<Expr>],
-    amount: &Option<Rc<Expr>>,
-    e: &Expr,
-) -> Result<ValueType, TypeFault>
-    ensures { Gives (λ t. t) result (faults.unfolding_type (setting s.entry) (placed name.now) (written_all es.now) (written_share amount.now) (written_expr e.now)) }
-{
-    let has_body = instance(alloc, s, name.place, &name.text, es)?;
-    share(alloc, s, amount)?;
-    let t = check(alloc, s, e)?;
-    unfolded_type(name.place, has_body, t)
 }
 
 /// What stands first in an `acc`.
@@ -319,7 +313,10 @@ pub fn check(alloc: Global, s: Setting, e: &Expr) -> Result<ValueType, TypeFault
             Err(TypeFault::Impure(at))
         }
         ExprKind::Unfolding(name, es, amount, a) => {
-            unfolding(alloc, s, name, es, amount, a)
+            let has_body = instance(alloc, s, name.place, &name.text, es)?;
+            share(alloc, s, amount)?;
+            let t = check(alloc, s, a)?;
+            unfolded_type(name.place, has_body, t)
         }
     }
 }

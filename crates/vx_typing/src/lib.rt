@@ -10,9 +10,14 @@ mod laws;
 mod operators;
 mod setting;
 
+pub use assertions::assertion;
+pub use expr::check;
 pub use fault::{Expected, TypeFault};
 pub use laws::{
     assertions_are_told, example_assertions, example_expressions, pure_assertions_are_expressions,
     types_are_single, types_are_told,
 };
 pub use setting::{Members, Setting, Signature, Variable, Variables};
+
+#[cfg(test)]
+mod tests;
