@@ -79,8 +79,10 @@ fn checked(alloc: Global) -> Result<(), TypeFault> {
         applies: true,
         constant: false,
     };
-    assertion(alloc, s, &held(alloc)?)?;
-    check(alloc, s, &mixed(alloc)?)?;
+    let claim = held(alloc)?;
+    assertion(alloc, s, &*claim)?;
+    let sum = mixed(alloc)?;
+    check(alloc, s, &*sum)?;
     Ok(())
 }
 
