@@ -1,0 +1,10 @@
+pub mod Placed
+pub mod Settings
+pub mod Amounts
+pub mod AmountValues
+pub mod Typing
+pub mod Faults
+pub mod Views
+pub mod Gives
+pub mod Laws
+pub mod Examples
