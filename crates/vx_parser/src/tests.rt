@@ -1,5 +1,6 @@
 use super::*;
 use std::alloc::{AllocError, Global};
+use std::process::Abort;
 use std::test::*;
 
 // What the text is read as: `ok`, or its fault as it is printed.
@@ -21,7 +22,7 @@ fn answer(alloc: Global, text: &[u8]) -> Result<String, AllocError> {
     }
 }
 
-const ROWS: [(&str, &str); 86] = [
+const ROWS: [(&str, &str); 29] = [
     ("", "ok"),
     (
         "method id(b: Bool) returns (c: Bool) requires b ensures c { c := b }",
@@ -81,6 +82,9 @@ const ROWS: [(&str, &str); 86] = [
     ("method m() { x := new(f,) }", "1:25 E03 Unexpected )"),
     ("method m() { x := new(*, f) }", "1:24 E03 Unexpected ,"),
     ("method m() { (x).f := 1 }", "1:14 E03 Unexpected ("),
+];
+
+const FURTHER_ROWS: [(&str, &str); 29] = [
     ("method m() { x, y :=", "1:21 E04 EndOfText"),
     (
         "method m() { while (true) invariant true; invariant x > 0 { } while (b) { x := 1 } }",
@@ -131,6 +135,9 @@ const ROWS: [(&str, &str); 86] = [
     ("method m() { fold P }", "1:21 E03 Unexpected }"),
     ("method m() { fold acc(x.f) }", "1:24 E03 Unexpected ."),
     ("method m() { unfold x.f }", "1:22 E03 Unexpected ."),
+];
+
+const LAST_ROWS: [(&str, &str); 28] = [
     (
         "predicate P(x: Ref) { acc(x.f) } predicate Q(); field f: Int",
         "ok",
@@ -185,13 +192,27 @@ const ROWS: [(&str, &str); 86] = [
     ("method m()\r\n\t{ assert ; }", "2:11 E03 Unexpected ;"),
 ];
 
-#[test]
-fn rows(rt: HostRuntime) -> Result<(), Fail> {
-    for (text, want) in ROWS {
-        let got = answer(rt.alloc(), text.as_bytes())?;
-        assert_eq!(rt; got.as_str(), want, "{text}");
+fn all_hold(rt: &impl Abort, alloc: Global, rows: &[(&str, &str)]) -> Result<(), Fail> {
+    for (text, want) in rows {
+        let got = answer(alloc, text.as_bytes())?;
+        assert_eq!(rt; got.as_str(), *want, "{text}");
     }
     Ok(())
+}
+
+#[test]
+fn rows(rt: HostRuntime) -> Result<(), Fail> {
+    all_hold(&rt, rt.alloc(), &ROWS)
+}
+
+#[test]
+fn further_rows(rt: HostRuntime) -> Result<(), Fail> {
+    all_hold(&rt, rt.alloc(), &FURTHER_ROWS)
+}
+
+#[test]
+fn last_rows(rt: HostRuntime) -> Result<(), Fail> {
+    all_hold(&rt, rt.alloc(), &LAST_ROWS)
 }
 
 const BEYOND: [(&str, &str); 10] = [

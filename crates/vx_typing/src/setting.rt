@@ -33,9 +33,9 @@ pub type Variables<'a> = IndexMap<&'a str, Variable>;
 
 /// What is known where an expression stands.
 #[derive(Clone, Copy)]
-pub struct Setting<'a> {
-    pub members: &'a Members<'a>,
-    pub variables: &'a Variables<'a>,
+pub struct Setting<'s, 'a> {
+    pub members: &'s Members<'a>,
+    pub variables: &'s Variables<'a>,
     /// The type of `result`, in a function's postcondition.
     pub outcome: Option<ValueType>,
     /// Whether `old` may stand here.
@@ -46,7 +46,7 @@ pub struct Setting<'a> {
     pub constant: bool,
 }
 
-impl<'a> Setting<'a> {
+impl<'a> Setting<'_, 'a> {
     /// What a member's name stands for.
     pub fn member(&self, name: &str) -> Option<Signature<'a>>
         ensures { option_map signature result ≡ (setting self.now).member name.now }

@@ -36,20 +36,20 @@ fn mixed(alloc: Global) -> Result<Rc<Expr>, AllocError> {
     leaf(alloc, 1, ExprKind::Binary(BinaryOperator::Add, one, truth))
 }
 
-fn read(alloc: Global, column: u32) -> Result<Rc<Expr>, AllocError> {
+fn read(alloc: Global, column: u32, behind: u32) -> Result<Rc<Expr>, AllocError> {
     let x = variable(alloc, column, "x")?;
     let field = Name {
         text: String::from_str(alloc, "f")?,
-        place: at(column + 2),
+        place: at(behind),
     };
     leaf(alloc, column, ExprKind::Read(x, field))
 }
 
 fn held(alloc: Global) -> Result<Rc<Expr>, AllocError> {
-    let location = read(alloc, 5)?;
+    let location = read(alloc, 5, 7)?;
     let access = leaf(alloc, 1, ExprKind::Access(location, None))?;
     let one = leaf(alloc, 20, ExprKind::Number(1))?;
-    let value = read(alloc, 13)?;
+    let value = read(alloc, 13, 15)?;
     let equal = leaf(
         alloc,
         13,
@@ -62,28 +62,46 @@ fn held(alloc: Global) -> Result<Rc<Expr>, AllocError> {
     )
 }
 
-fn checked(alloc: Global) -> Result<(), TypeFault> {
+fn members(alloc: Global) -> Result<Members<'static>, AllocError> {
     let mut members: Members = IndexMap::new(alloc);
     members.insert("f", Signature::Field(ValueType::Int))?;
+    Ok(members)
+}
+
+fn variables(alloc: Global) -> Result<Variables<'static>, AllocError> {
     let mut variables: Variables = IndexMap::new(alloc);
     let x = Variable {
         of: ValueType::Ref,
         assignable: false,
     };
     variables.insert("x", x)?;
-    let s = Setting {
-        members: &members,
-        variables: &variables,
-        outcome: None,
-        has_old: false,
-        applies: true,
-        constant: false,
-    };
+    Ok(variables)
+}
+
+// The assertion is checked, and then the sum.
+fn judged(alloc: Global, s: Setting) -> Result<(), TypeFault> {
     let claim = held(alloc)?;
     assertion(alloc, s, &*claim)?;
     let sum = mixed(alloc)?;
     check(alloc, s, &*sum)?;
     Ok(())
+}
+
+fn setting<'s, 'a>(members: &'s Members<'a>, variables: &'s Variables<'a>) -> Setting<'s, 'a> {
+    Setting {
+        members,
+        variables,
+        outcome: None,
+        has_old: false,
+        applies: true,
+        constant: false,
+    }
+}
+
+fn checked(alloc: Global) -> Result<(), TypeFault> {
+    let members = members(alloc)?;
+    let variables = variables(alloc)?;
+    judged(alloc, setting(&members, &variables))
 }
 
 #[test]
