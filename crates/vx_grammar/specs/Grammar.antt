@@ -10,7 +10,7 @@ use Rattle.vx_ast.specs.declared.UnaryOperator.TheVariants.{Not, Negate}
 use Rattle.vx_ast.specs.declared.BinaryOperator.{BinaryOperator}
 use Rattle.vx_ast.specs.declared.BinaryOperator.TheVariants.{Implies, Or, And, Equal, NotEqual, Less, LessEqual, Greater, GreaterEqual, Add, Subtract, Multiply, Divide, Quotient, Remainder}
 use Rattle.vx_tokens.specs.Tokens.{Kind, name, number, word, symbol, Token}
-use Rattle.vx_ast.specs.Written.{Expr, Exprs, NoMore, More, Amount, All, Part, Truth, Number, Null, Whole, Nothing, Result, Variable, Call, Read, Unary, Binary, Choice, Old, Access, Unfolding}
+use Rattle.vx_ast.specs.Written.{Placed, placed, Expr, Exprs, NoMore, More, Amount, All, Part, Truth, Number, Null, Whole, Nothing, Result, Variable, Call, Read, Unary, Binary, Choice, Old, Access, Unfolding}
 
 -- ---- operators
 
@@ -192,7 +192,7 @@ start_of (unfolded p i q e) = p
 
 -- a predicate's instance with its amount
 pub record Instance : Type 0 where
-  pub predicate : List ℕ
+  pub predicate : Placed
   pub arguments : Exprs
   pub amount : Amount
 
@@ -207,7 +207,7 @@ abbrev mutual
   meant (numeral p n) = Number p n
   meant (named p x) = Variable p x
   meant (called p x o es c) = Call p x (arguments_meant es)
-  meant (dotted e p q f) = Read (start_of e) (meant e) f
+  meant (dotted e p q f) = Read (start_of e) (meant e) (placed q f)
   meant (grouped p e q) = meant e
   meant (past p o e c) = Old p (meant e)
   meant (accessed p o e a c) = Access p (meant e) (amount_meant a)
@@ -229,8 +229,8 @@ abbrev mutual
   amount_meant (amount p e) = Part (meant e)
 
   pub instance_meant : InstancePhrase → Instance
-  instance_meant (alone p x o es c) = record { predicate = x; arguments = arguments_meant es; amount = All }
-  instance_meant (held p o q x o' es c' a c) = record { predicate = x; arguments = arguments_meant es; amount = amount_meant a }
+  instance_meant (alone p x o es c) = record { predicate = placed p x; arguments = arguments_meant es; amount = All }
+  instance_meant (held p o q x o' es c' a c) = record { predicate = placed q x; arguments = arguments_meant es; amount = amount_meant a }
 
 -- what a dot may stand behind
 abbrev pub IsPrimary : Phrase → Type 0

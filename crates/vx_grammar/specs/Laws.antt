@@ -4,7 +4,7 @@ use Rattle.std.specs.List.{AllByRecursion}
 use Rattle.vx_tokens.specs.Tokens.{Token}
 use Rattle.vx_ast.specs.Written.{Expr}
 use Rattle.vx_grammar.specs.Grammar.{Phrase, Mark, marks, tokens_of, meant, StandsAt}
-use Rattle.vx_grammar.specs.Reading.{◌>>=◌, Stop, Unexpected, TooDeep, choice_at, below}
+use Rattle.vx_grammar.specs.Reading.{◌>>=◌, Stop, Unexpected, Measured, TooDeep, choice_at, below}
 
 -- no token's nesting count passes the limit
 abbrev pub Within : ℕ → List Mark → Type 0
@@ -68,6 +68,7 @@ whole limit ts = choice_at (below limit) ts >>= λ x. no_rest x.0 x.1
 abbrev pub Says : ℕ → List Token → Result Expr Stop → Type 0
 Says limit ts (Ok e) = SpelledWithin limit ts e
 Says limit ts (Err (Unexpected rest)) = StopsUnfit limit ts rest
+Says limit ts (Err (Measured rest)) = StopsUnfit limit ts rest
 Says limit ts (Err (TooDeep rest)) = StopsDeep limit ts rest
 
 abbrev pub AnswersAreRight : Type 0

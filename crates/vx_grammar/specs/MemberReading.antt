@@ -1,13 +1,13 @@
 -- Reading members from left to right.
-use Rattle.std.specs.Prelude.{ℕ, zero, suc, List, [], ◌∷◌, ◌++◌, length, nat_lt, Result, Ok, Err, Option, Some, None, Bool, true, false, if◌then◌else◌}
+use Rattle.std.specs.Prelude.{ℕ, ◌+◌, not, ◌&&◌, zero, suc, List, [], ◌∷◌, ◌++◌, length, nat_lt, Result, Ok, Err, Option, Some, None, Bool, true, false, if◌then◌else◌}
 use Rattle.vx_ast.specs.declared.Place.{Place}
 use Rattle.vx_tokens.specs.declared.token.Word.TheVariants as words
 use Rattle.vx_tokens.specs.declared.token.Symbol.TheVariants as signs
 use Rattle.vx_tokens.specs.Tokens.{Kind, word, Token}
 use Rattle.vx_ast.specs.declared.ValueType.{ValueType}
-use Rattle.vx_ast.specs.Written.{Expr, Declaration, Block, IsField, IsPredicate, IsFunction, IsMethod, Member, Program}
-use Rattle.vx_grammar.specs.Reading.{Stop, Unexpected, Read, ◌>>=◌, Turn, run, is_symbol, expect, name_at, choice, below, exprs_from}
-use Rattle.vx_grammar.specs.StmtReading.{clause_at, type_at, declaration_at, block_at, stmts_below, skip_semicolon}
+use Rattle.vx_ast.specs.Written.{Placed, Expr, Clause, Requires, Ensures, Decreases, Declaration, Block, IsField, IsPredicate, IsFunction, IsMethod, Member, Program}
+use Rattle.vx_grammar.specs.Reading.{Stop, Unexpected, Measured, Read, ◌>>=◌, Turn, run, is_symbol, expect, name_at, choice, below}
+use Rattle.vx_grammar.specs.StmtReading.{is_measure, begins_decreases, clause_at, type_at, declaration_at, block_at, stmts_below, skip_semicolon}
 
 -- the nesting limit
 abbrev pub limit : ℕ
@@ -55,22 +55,24 @@ returns_at (t ∷ ts) = if begins_returns t.kind then parameters_at ts else Ok (
 
 -- ---- clauses
 
+-- the clauses so far, how many of them are of each kind, and whether a measure is among them
 pub record Clauses : Type 0 where
-  pub requires : List Expr
-  pub ensures : List Expr
-  pub measure : Option Expr
+  pub clauses : List Clause
+  pub requires : ℕ
+  pub ensures : ℕ
+  pub measured : Bool
 
 abbrev pub no_clauses : Clauses
-no_clauses = record { requires = []; ensures = []; measure = None }
+no_clauses = record { clauses = []; requires = 0; ensures = 0; measured = false }
 
 abbrev pub with_requires : Clauses → Expr → Clauses
-with_requires c e = record { requires = c.requires ++ e ∷ []; ensures = c.ensures; measure = c.measure }
+with_requires c e = record { clauses = c.clauses ++ Requires e ∷ []; requires = c.requires + 1; ensures = c.ensures; measured = c.measured }
 
 abbrev pub with_ensures : Clauses → Expr → Clauses
-with_ensures c e = record { requires = c.requires; ensures = c.ensures ++ e ∷ []; measure = c.measure }
+with_ensures c e = record { clauses = c.clauses ++ Ensures e ∷ []; requires = c.requires; ensures = c.ensures + 1; measured = c.measured }
 
 abbrev pub with_measure : Clauses → Expr → Clauses
-with_measure c e = record { requires = c.requires; ensures = c.ensures; measure = Some e }
+with_measure c e = record { clauses = c.clauses ++ Decreases e ∷ []; requires = c.requires; ensures = c.ensures; measured = true }
 
 abbrev pub begins_requires : Kind → Bool
 begins_requires (word words.Requires) = true
@@ -80,26 +82,17 @@ abbrev pub begins_ensures : Kind → Bool
 begins_ensures (word words.Ensures) = true
 begins_ensures k = false
 
--- a measure may come, and none came before
-abbrev pub is_due : Bool → Option Expr → Bool
-is_due may None = may
-is_due may (Some e) = false
-
-abbrev pub begins_measure : Bool → Kind → Bool
-begins_measure due (word words.Decreases) = due
-begins_measure due k = false
-
 -- one clause more, where a measure may come, or none may
 unfoldable pub clause_turn : ℕ → Bool → Turn Clauses
 clause_turn deep may before [] = Ok (None, [])
 clause_turn deep may before (t ∷ ts) =
     if begins_requires t.kind then (do
-      e ← clause_at deep (length before.requires) (t ∷ ts) ts
+      e ← clause_at deep before.requires (t ∷ ts) ts
       Ok (Some (with_requires before e.0), skip_semicolon e.1))
     else (if begins_ensures t.kind then (do
-      e ← clause_at deep (length before.ensures) (t ∷ ts) ts
+      e ← clause_at deep before.ensures (t ∷ ts) ts
       Ok (Some (with_ensures before e.0), skip_semicolon e.1))
-    else (if begins_measure (is_due may before.measure) t.kind then (do
+    else (if may && not before.measured && is_measure t.kind then (do
       e ← clause_at deep 0 (t ∷ ts) ts
       Ok (Some (with_measure before e.0), skip_semicolon e.1))
     else Ok (None, t ∷ ts)))
@@ -144,7 +137,7 @@ some_braced deep ts = do
 unfoldable pub given_at : ℕ → List Token → Read (Option Expr)
 given_at deep ts = if begins_braces ts then some_braced deep ts else Ok (None, ts)
 
-abbrev pub predicate_of : Place → List ℕ → List Declaration → Option Expr → Member
+abbrev pub predicate_of : Place → Placed → List Declaration → Option Expr → Member
 predicate_of place x parameters body = record { place = place; name = x; kind = IsPredicate record { parameters = parameters; body = body } }
 
 -- behind a `predicate`
@@ -155,16 +148,16 @@ predicate_at deep place ts = do
   body ← given_at deep parameters.1
   Ok (predicate_of place x.0 parameters.0 body.0, body.1)
 
-abbrev pub method_of : Place → List ℕ → List Declaration → List Declaration → Clauses → Option Block → Member
+abbrev pub method_of : Place → Placed → List Declaration → List Declaration → Clauses → Option Block → Member
 method_of place x parameters returns clauses body = record {
   place = place;
   name = x;
-  kind = IsMethod record { parameters = parameters; returns = returns; requires = exprs_from clauses.requires; ensures = exprs_from clauses.ensures; body = body };
+  kind = IsMethod record { parameters = parameters; returns = returns; clauses = clauses.clauses; body = body };
 }
 
 -- what stands in front of a function's body
 pub record Head : Type 0 where
-  pub name : List ℕ
+  pub name : Placed
   pub parameters : List Declaration
   pub of : ValueType
   pub clauses : Clauses
@@ -173,7 +166,7 @@ abbrev pub function_of : Place → Head → Expr → Member
 function_of place h body = record {
   place = place;
   name = h.name;
-  kind = IsFunction record { parameters = h.parameters; of = h.of; requires = exprs_from h.clauses.requires; ensures = exprs_from h.clauses.ensures; decreases = h.clauses.measure; body = body };
+  kind = IsFunction record { parameters = h.parameters; of = h.of; clauses = h.clauses.clauses; body = body };
 }
 
 -- behind a `function`, up to its body
@@ -194,7 +187,7 @@ function_by deep place h ts = do
 -- where a body is due, and none begins
 abbrev pub no_body_at : List Token → MemberStop
 no_body_at [] = bodiless []
-no_body_at (t ∷ ts) = if begins_measure true t.kind then measured_twice (t ∷ ts) else bodiless (t ∷ ts)
+no_body_at (t ∷ ts) = if is_measure t.kind then measured_twice (t ∷ ts) else bodiless (t ∷ ts)
 
 abbrev pub behind_head : ℕ → Place → Read Head → Halting Member
 behind_head deep place (Ok h) = if begins_braces h.1 then halting (function_by deep place h.0 h.1) else Err (no_body_at h.1)
@@ -211,7 +204,7 @@ some_block deep ts = do
 
 -- behind the clauses of a method
 unfoldable pub body_at : ℕ → List Token → Read (Option Block)
-body_at deep ts = if begins_braces ts then some_block deep ts else Ok (None, ts)
+body_at deep ts = if begins_braces ts then some_block deep ts else (if begins_decreases ts then Err (Measured ts) else Ok (None, ts))
 
 -- behind a `method`
 unfoldable pub method_at : ℕ → Place → List Token → Read Member

@@ -6,7 +6,7 @@ use Rattle.vx_tokens.specs.declared.token.Word.TheVariants as words
 use Rattle.vx_tokens.specs.Tokens.{word}
 use Rattle.vx_grammar.specs.Grammar.{Mark, mark, tokens_of}
 use Rattle.vx_grammar.specs.Programs.{FunctionPhrase, StandsClauses, head_marks, ProgramPhrase, StandsProgram, program_meant, program_marks}
-use Rattle.vx_grammar.specs.Reading.{Unexpected, TooDeep}
+use Rattle.vx_grammar.specs.Reading.{Unexpected, Measured, TooDeep}
 use Rattle.vx_grammar.specs.MemberReading.{Halt, inside, no_body, second_measure, no_member, too_many, begins_member, members_at, limit, max_members}
 use Rattle.vx_grammar.specs.Laws.{Within}
 
@@ -74,6 +74,7 @@ pub record StopsAtBody (ts rest : List Token) : Type 0 where
 abbrev pub ProgramSays : List Token → Result Program Halt → Type 0
 ProgramSays ts (Ok p) = ProgramWithin ts p
 ProgramSays ts (Err (inside (Unexpected rest))) = FitsInFront ts rest
+ProgramSays ts (Err (inside (Measured rest))) = FitsInFront ts rest
 ProgramSays ts (Err (inside (TooDeep rest))) = StopsTooDeep ts rest
 ProgramSays ts (Err (no_body rest)) = FitsInFront ts rest × StopsAtBody ts rest
 ProgramSays ts (Err (second_measure rest)) = FitsInFront ts rest × StopsAtBody ts rest
@@ -106,6 +107,7 @@ pub record FirstUnfit (ts rest : List Token) : Type 0 where
 
 abbrev pub StopsAtFirst : List Token → Result Program Halt → Type 0
 StopsAtFirst ts (Err (inside (Unexpected rest))) = FirstUnfit ts rest
+StopsAtFirst ts (Err (inside (Measured rest))) = FirstUnfit ts rest
 StopsAtFirst ts (Err (no_body rest)) = FirstUnfit ts rest
 StopsAtFirst ts (Err (second_measure rest)) = FirstUnfit ts rest
 StopsAtFirst ts (Err (no_member rest)) = FirstUnfit ts rest

@@ -2,7 +2,7 @@
 use Rattle.std.specs.Prelude.{◌≡◌, ℕ, ◌+◌, List, [], ◌∷◌, ◌++◌, Option, Some, None, Bool, true, false, ⊤}
 use Rattle.vx_ast.specs.declared.Place.{Place}
 use Rattle.vx_ast.specs.declared.ValueType.{ValueType}
-use Rattle.vx_ast.specs.Written.{Expr, Exprs, NoMore, More, Declaration, Block, IsField, IsPredicate, IsFunction, IsMethod, Member, Program}
+use Rattle.vx_ast.specs.Written.{placed, Expr, Clause, Requires, Ensures, Decreases, Declaration, Block, IsField, IsPredicate, IsFunction, IsMethod, Member, Program}
 use Rattle.vx_tokens.specs.declared.token.Word.TheVariants as words
 use Rattle.vx_tokens.specs.declared.token.Symbol.TheVariants as signs
 use Rattle.vx_tokens.specs.Tokens.{name, word, symbol}
@@ -67,23 +67,11 @@ pub data ClausesPhrase : Type 0 where
   ensures : Place → Phrase → Option Place → ClausesPhrase → ClausesPhrase
   decreases : Place → Phrase → Option Place → ClausesPhrase → ClausesPhrase
 
-abbrev pub requires_meant : ClausesPhrase → Exprs
-requires_meant no_clauses = NoMore
-requires_meant (requires p e semi rest) = More (meant e) (requires_meant rest)
-requires_meant (ensures p e semi rest) = requires_meant rest
-requires_meant (decreases p e semi rest) = requires_meant rest
-
-abbrev pub ensures_meant : ClausesPhrase → Exprs
-ensures_meant no_clauses = NoMore
-ensures_meant (requires p e semi rest) = ensures_meant rest
-ensures_meant (ensures p e semi rest) = More (meant e) (ensures_meant rest)
-ensures_meant (decreases p e semi rest) = ensures_meant rest
-
-abbrev pub measure_meant : ClausesPhrase → Option Expr
-measure_meant no_clauses = None
-measure_meant (requires p e semi rest) = measure_meant rest
-measure_meant (ensures p e semi rest) = measure_meant rest
-measure_meant (decreases p e semi rest) = Some (meant e)
+abbrev pub clauses_meant : ClausesPhrase → List Clause
+clauses_meant no_clauses = []
+clauses_meant (requires p e semi rest) = Requires (meant e) ∷ clauses_meant rest
+clauses_meant (ensures p e semi rest) = Ensures (meant e) ∷ clauses_meant rest
+clauses_meant (decreases p e semi rest) = Decreases (meant e) ∷ clauses_meant rest
 
 -- Clauses where a measure may come, or none may. Behind a measure comes no other.
 abbrev pub StandsClauses : Bool → ClausesPhrase → Type 0
@@ -133,7 +121,7 @@ given_marks (Some w) = braced_marks w
 abbrev pub predicate_meant : PredicatePhrase → Member
 predicate_meant w = record {
   place = w.at;
-  name = w.text;
+  name = placed w.name_at w.text;
   kind = IsPredicate record { parameters = declarations_meant w.parameters.inner; body = given_meant w.body };
 }
 
@@ -155,8 +143,8 @@ pub record FunctionPhrase : Type 0 where
 abbrev pub function_meant : FunctionPhrase → Member
 function_meant f = record {
   place = f.at;
-  name = f.text;
-  kind = IsFunction record { parameters = declarations_meant f.parameters.inner; of = f.of; requires = requires_meant f.clauses; ensures = ensures_meant f.clauses; decreases = measure_meant f.clauses; body = meant f.body.inner };
+  name = placed f.name_at f.text;
+  kind = IsFunction record { parameters = declarations_meant f.parameters.inner; of = f.of; clauses = clauses_meant f.clauses; body = meant f.body.inner };
 }
 
 pub record StandsFunction (f : FunctionPhrase) : Type 0 where
@@ -197,8 +185,8 @@ pub record MethodPhrase : Type 0 where
 abbrev pub method_meant : MethodPhrase → Member
 method_meant m = record {
   place = m.at;
-  name = m.text;
-  kind = IsMethod record { parameters = declarations_meant m.parameters.inner; returns = returns_meant m.returns; requires = requires_meant m.clauses; ensures = ensures_meant m.clauses; body = body_meant m.body };
+  name = placed m.name_at m.text;
+  kind = IsMethod record { parameters = declarations_meant m.parameters.inner; returns = returns_meant m.returns; clauses = clauses_meant m.clauses; body = body_meant m.body };
 }
 
 pub record StandsMethod (m : MethodPhrase) : Type 0 where
@@ -218,7 +206,7 @@ pub data MemberPhrase : Type 0 where
   a_method : MethodPhrase → MemberPhrase
 
 abbrev pub member_meant : MemberPhrase → Member
-member_meant (a_field p d) = record { place = p; name = d.text; kind = IsField d.of }
+member_meant (a_field p d) = record { place = p; name = placed d.name_at d.text; kind = IsField d.of }
 member_meant (a_predicate w) = predicate_meant w
 member_meant (a_function f) = function_meant f
 member_meant (a_method m) = method_meant m

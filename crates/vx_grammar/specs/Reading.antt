@@ -8,13 +8,15 @@ use Rattle.vx_ast.specs.declared.UnaryOperator.TheVariants.{Not, Negate}
 use Rattle.vx_ast.specs.declared.BinaryOperator.{BinaryOperator}
 use Rattle.vx_ast.specs.declared.BinaryOperator.TheVariants.{Implies}
 use Rattle.vx_tokens.specs.Tokens.{Kind, name, number, word, symbol, Token}
-use Rattle.vx_ast.specs.Written.{Expr, Exprs, NoMore, More, Amount, All, Truth, Number, Null, Whole, Nothing, Variable, Call, Unary, Binary, Choice, Old, Access, Right, NewAll, New}
+use Rattle.vx_ast.specs.Written.{Placed, placed, Expr, Exprs, NoMore, More, Amount, All, Truth, Number, Null, Whole, Nothing, Variable, Call, Unary, Binary, Choice, Old, Access, Right, NewAll, New}
 use Rattle.vx_ast.specs.Written as written
 use Rattle.vx_grammar.specs.Grammar.{level_of, operator_of, Instance, unfolding_of}
 
 -- Where reading stops. The list begins with the token that doesn't fit, or nests too deep, and is empty at the end.
 pub data Stop : Type 0 where
   Unexpected : List Token → Stop
+  -- a measure, which does not fit where a clause or the block of a method or a loop is due
+  Measured : List Token → Stop
   TooDeep : List Token → Stop
 
 -- what was read, and the tokens after it
@@ -85,11 +87,11 @@ unfoldable pub expect : Symbol → List Token → Read Token
 expect s [] = Err (Unexpected [])
 expect s (t ∷ ts) = if is_symbol s t.kind then Ok (t, ts) else Err (Unexpected (t ∷ ts))
 
-abbrev pub name_by : Token → Kind → List Token → Read (List ℕ)
-name_by t (name x) ts = Ok (x, ts)
+abbrev pub name_by : Token → Kind → List Token → Read Placed
+name_by t (name x) ts = Ok (placed t.place x, ts)
 name_by t k ts = Err (Unexpected (t ∷ ts))
 
-unfoldable pub name_at : List Token → Read (List ℕ)
+unfoldable pub name_at : List Token → Read Placed
 name_at [] = Err (Unexpected [])
 name_at (t ∷ ts) = name_by t t.kind ts
 
@@ -106,7 +108,8 @@ pub data Part : Type 0 where
   arguments : Part
   access : Part
   holding : Part
-  allocation : Part
+  -- of a `new` that stands there
+  allocation : Place → Part
 
 -- what reading a part gives
 abbrev pub Given : Part → Type 0
@@ -118,7 +121,7 @@ Given (behind_dot start left) = Expr
 Given arguments = Exprs
 Given access = Expr × Amount
 Given holding = Instance
-Given allocation = Right
+Given (allocation at) = Right
 
 -- Reads a part one deeper. The first list begins with the token that nests.
 abbrev pub Deeper : Type 0
@@ -183,13 +186,13 @@ postfix_by deeper t k ts = do
   dots_at deeper t.place e.0 e.1
 
 -- P ( arguments )
-unfoldable pub bare_by : Deeper → List ℕ → List Token → Read Instance
+unfoldable pub bare_by : Deeper → Placed → List Token → Read Instance
 bare_by deeper x ts = do
   es ← enclosed deeper arguments ts
   Ok (record { predicate = x; arguments = es.0; amount = All }, es.1)
 
 abbrev pub instance_by : Deeper → Token → Kind → List Token → Read Instance
-instance_by deeper t (name x) ts = bare_by deeper x ts
+instance_by deeper t (name x) ts = bare_by deeper (placed t.place x) ts
 instance_by deeper t (word words.Acc) ts = enclosed deeper holding ts
 instance_by deeper t k ts = Err (Unexpected (t ∷ ts))
 
@@ -340,7 +343,7 @@ holding_at deeper ts = do
 -- ---- names
 
 -- one name more, behind a comma
-unfoldable pub name_turn : Turn (List (List ℕ))
+unfoldable pub name_turn : Turn (List Placed)
 name_turn before [] = Ok (None, [])
 name_turn before (t ∷ ts) =
     if is_symbol signs.Comma t.kind then (do
@@ -349,20 +352,20 @@ name_turn before (t ∷ ts) =
     else Ok (None, t ∷ ts)
 
 -- one field at least
-unfoldable pub fields_at : List Token → Read Right
-fields_at ts = do
+unfoldable pub fields_at : Place → List Token → Read Right
+fields_at at ts = do
   x ← name_at ts
   xs ← run name_turn (length x.1) (x.0 ∷ []) x.1
-  Ok (New xs.0, xs.1)
+  Ok (New at xs.0, xs.1)
 
-abbrev pub allocation_by : Token → Kind → List Token → Read Right
-allocation_by t (symbol signs.Times) ts = Ok (NewAll, ts)
-allocation_by t (symbol signs.Close) ts = Ok (New [], t ∷ ts)
-allocation_by t k ts = fields_at (t ∷ ts)
+abbrev pub allocation_by : Place → Token → Kind → List Token → Read Right
+allocation_by at t (symbol signs.Times) ts = Ok (NewAll at, ts)
+allocation_by at t (symbol signs.Close) ts = Ok (New at [], t ∷ ts)
+allocation_by at t k ts = fields_at at (t ∷ ts)
 
-unfoldable pub allocation_at : List Token → Read Right
-allocation_at [] = Err (Unexpected [])
-allocation_at (t ∷ ts) = allocation_by t t.kind ts
+unfoldable pub allocation_at : Place → List Token → Read Right
+allocation_at at [] = Err (Unexpected [])
+allocation_at at (t ∷ ts) = allocation_by at t t.kind ts
 
 abbrev pub part_at : Deeper → (p : Part) → List Token → Read (Given p)
 part_at deeper choice ts = choice_at deeper ts
@@ -373,7 +376,7 @@ part_at deeper (behind_dot start left) ts = dotted_at deeper start left ts
 part_at deeper arguments ts = arguments_at deeper ts
 part_at deeper access ts = access_at deeper ts
 part_at deeper holding ts = holding_at deeper ts
-part_at deeper allocation ts = allocation_at ts
+part_at deeper (allocation at) ts = allocation_at at ts
 
 -- one deeper, where the nesting count may still grow by room
 unfoldable pub below : ℕ → Deeper

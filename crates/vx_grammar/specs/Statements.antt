@@ -3,7 +3,7 @@ use Rattle.std.specs.Prelude.{ℕ, ◌+◌, List, [], ◌∷◌, ◌++◌, Optio
 use Rattle.vx_ast.specs.declared.Place.{Place}
 use Rattle.vx_ast.specs.declared.ValueType.{ValueType}
 use Rattle.vx_ast.specs.declared.ValueType.TheVariants as types
-use Rattle.vx_ast.specs.Written.{Expr, Right, Value, NewAll, New, Declaration, Stmt, Block, Declare, Assign, Write, Invoke, Inhale, Exhale, Assert, Assume, Fold, Unfold, If, While, Exprs, NoMore, More, Done, Then}
+use Rattle.vx_ast.specs.Written.{Placed, placed, Expr, Right, Value, NewAll, New, Declaration, Stmt, Other, NoElse, Else, Block, Declare, Assign, Write, Invoke, Inhale, Exhale, Assert, Assume, Fold, Unfold, If, While, Exprs, NoMore, More, Done, Then}
 use Rattle.vx_tokens.specs.declared.token.Word.{Word}
 use Rattle.vx_tokens.specs.declared.token.Word.TheVariants as words
 use Rattle.vx_tokens.specs.declared.token.Symbol.TheVariants as signs
@@ -27,7 +27,7 @@ type_word types.Ref = words.Ref
 type_word types.Perm = words.Perm
 
 abbrev pub declaration_meant : DeclarationPhrase → Declaration
-declaration_meant d = record { name = d.text; of = d.of }
+declaration_meant d = record { name = placed d.name_at d.text; of = d.of }
 
 abbrev pub declaration_marks : ℕ → DeclarationPhrase → List Mark
 declaration_marks n d = mark n d.name_at (name d.text) ∷ mark n d.colon_at (symbol signs.Colon) ∷ mark n d.type_at (word (type_word d.of)) ∷ []
@@ -83,18 +83,19 @@ pub data RightPhrase : Type 0 where
   -- new ( fields )
   allocated : Place → Place → FieldsPhrase → Place → RightPhrase
 
-abbrev pub names_meant : NamesPhrase → List (List ℕ)
+abbrev pub names_meant : NamesPhrase → List Placed
 names_meant no_names = []
-names_meant (next_name p q x rest) = x ∷ names_meant rest
+names_meant (next_name p q x rest) = placed q x ∷ names_meant rest
 
-abbrev pub fields_meant : FieldsPhrase → Right
-fields_meant (every_field p) = NewAll
-fields_meant no_fields = New []
-fields_meant (these_fields p x rest) = New (x ∷ names_meant rest)
+-- a `new` that stands there
+abbrev pub fields_meant : Place → FieldsPhrase → Right
+fields_meant at (every_field p) = NewAll at
+fields_meant at no_fields = New at []
+fields_meant at (these_fields p x rest) = New at (placed p x ∷ names_meant rest)
 
 abbrev pub right_meant : RightPhrase → Right
 right_meant (given e) = Value (meant e)
-right_meant (allocated p o fs c) = fields_meant fs
+right_meant (allocated p o fs c) = fields_meant p fs
 
 abbrev pub RightStands : RightPhrase → Type 0
 RightStands (given e) = StandsAt 8 e
@@ -196,10 +197,10 @@ mutual
 
 abbrev mutual
   pub stmt_meant : StmtPhrase → Stmt
-  stmt_meant (assigned p x q r) = Assign p x (right_meant r)
-  stmt_meant (stored e p q f r v) = Write (start_of e) (meant e) f (meant v)
-  stmt_meant (invoked p m o es c) = Invoke p [] m (arguments_meant es)
-  stmt_meant (targeted p x k q y ys r s m o es c) = Invoke p (x ∷ y ∷ names_meant ys) m (arguments_meant es)
+  stmt_meant (assigned p x q r) = Assign p (placed p x) (right_meant r)
+  stmt_meant (stored e p q f r v) = Write (start_of e) (meant e) (placed q f) (meant v)
+  stmt_meant (invoked p m o es c) = Invoke p [] (placed p m) (arguments_meant es)
+  stmt_meant (targeted p x k q y ys r s m o es c) = Invoke p (placed p x ∷ placed q y ∷ names_meant ys) (placed s m) (arguments_meant es)
   stmt_meant (declared p d) = Declare p (declaration_meant d) None
   stmt_meant (initialized p d q r) = Declare p (declaration_meant d) (Some (right_meant r))
   stmt_meant (claimed c p e) = claim_meant c p (meant e)
@@ -211,11 +212,11 @@ abbrev mutual
   pub branch_meant : Place → BranchPhrase → Stmt
   branch_meant p (branch o e c b x) = If p (meant e) (block_meant b) (other_meant x)
 
-  -- no other side is the empty block, and an `elseif` a block with one `if`
-  pub other_meant : OtherPhrase → Block
-  other_meant no_other = Done
-  other_meant (other p b) = block_meant b
-  other_meant (another p b) = Then (branch_meant p b) Done
+  -- an `elseif` is a block with one `if`
+  pub other_meant : OtherPhrase → Other
+  other_meant no_other = NoElse
+  other_meant (other p b) = Else (block_meant b)
+  other_meant (another p b) = Else (Then (branch_meant p b) Done)
 
   pub block_meant : BlockPhrase → Block
   block_meant (block o r c) = row_meant r

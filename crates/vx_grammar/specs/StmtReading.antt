@@ -6,10 +6,10 @@ use Rattle.vx_ast.specs.declared.ValueType.TheVariants as types
 use Rattle.vx_tokens.specs.declared.token.Word.TheVariants as words
 use Rattle.vx_tokens.specs.declared.token.Symbol.TheVariants as signs
 use Rattle.vx_tokens.specs.Tokens.{Kind, name, word, Token}
-use Rattle.vx_ast.specs.Written.{Expr, Variable, Call, Right, Value, Declaration, Stmt, Block, Declare, Assign, Write, Invoke, If, While, Exprs, Done, Then}
+use Rattle.vx_ast.specs.Written.{Placed, placed, Other, NoElse, Else, Expr, Variable, Call, Right, Value, Declaration, Stmt, Block, Declare, Assign, Write, Invoke, If, While, Exprs, Done, Then}
 use Rattle.vx_ast.specs.Written as written
 use Rattle.vx_grammar.specs.Statements.{Claim, inhales, exhales, asserts, assumes, claim_meant, Folding, folds, unfolds, folding_meant}
-use Rattle.vx_grammar.specs.Reading.{exprs_from, Unexpected, TooDeep, Read, ◌>>=◌, Turn, run, is_symbol, expect, name_at, enclosed, choice, arguments, allocation, instance_at, name_turn, postfix_by, choice_at, below}
+use Rattle.vx_grammar.specs.Reading.{exprs_from, Unexpected, Measured, TooDeep, Read, ◌>>=◌, Turn, run, is_symbol, expect, name_at, enclosed, choice, arguments, allocation, instance_at, name_turn, postfix_by, choice_at, below}
 
 -- ---- types
 
@@ -49,14 +49,17 @@ block_at deeper ts = do
   close ← expect signs.CloseBrace b.1
   Ok (b.0, close.1)
 
-abbrev pub otherwise_by : StmtDeeper → Token → Kind → List Token → Read Block
-otherwise_by deeper t (word words.Else) ts = block_at deeper ts
-otherwise_by deeper t (word words.Elseif) ts = deeper (elseif_part t.place) (t ∷ ts) ts
-otherwise_by deeper t k ts = Ok (Done, t ∷ ts)
+abbrev pub other_by : Read Block → Read Other
+other_by read = read >>= λ b. Ok (Else b.0, b.1)
 
--- the other side of an `if`: none is the empty block
-unfoldable pub otherwise_at : StmtDeeper → List Token → Read Block
-otherwise_at deeper [] = Ok (Done, [])
+abbrev pub otherwise_by : StmtDeeper → Token → Kind → List Token → Read Other
+otherwise_by deeper t (word words.Else) ts = other_by (block_at deeper ts)
+otherwise_by deeper t (word words.Elseif) ts = other_by (deeper (elseif_part t.place) (t ∷ ts) ts)
+otherwise_by deeper t k ts = Ok (NoElse, t ∷ ts)
+
+-- the other side of an `if`, or none
+unfoldable pub otherwise_at : StmtDeeper → List Token → Read Other
+otherwise_at deeper [] = Ok (NoElse, [])
 otherwise_at deeper (t ∷ ts) = otherwise_by deeper t t.kind ts
 
 -- behind an `if` or an `elseif`
@@ -79,7 +82,7 @@ value_at room ts = do
 -- what stands right of `:=`
 unfoldable pub right_at : ℕ → List Token → Read Right
 right_at room [] = Err (Unexpected [])
-right_at room (t ∷ ts) = if begins_new t.kind then enclosed (below room) allocation ts else value_at room (t ∷ ts)
+right_at room (t ∷ ts) = if begins_new t.kind then enclosed (below room) (allocation t.place) ts else value_at room (t ∷ ts)
 
 unfoldable pub initial_by : ℕ → Place → Declaration → List Token → Read Stmt
 initial_by room place d ts = do
@@ -98,32 +101,32 @@ declare_at room place ts = do
 
 -- ---- statements that begin with a name
 
-unfoldable pub assign_one : ℕ → Place → List ℕ → List Token → Read Stmt
+unfoldable pub assign_one : ℕ → Place → Placed → List Token → Read Stmt
 assign_one room place x ts = do
   r ← right_at room ts
   Ok (Assign place x r.0, r.1)
 
 -- behind the targets of a call and `:=`
-unfoldable pub invoke_at : ℕ → Place → List (List ℕ) → List Token → Read Stmt
+unfoldable pub invoke_at : ℕ → Place → List Placed → List Token → Read Stmt
 invoke_at room place xs ts = do
   m ← name_at ts
   es ← enclosed (below room) arguments m.1
   Ok (Invoke place xs m.0 es.0, es.1)
 
-abbrev pub assigned_by : ℕ → Place → List (List ℕ) → List Token → Read Stmt
+abbrev pub assigned_by : ℕ → Place → List Placed → List Token → Read Stmt
 assigned_by room place [] ts = Err (Unexpected ts)
 assigned_by room place (x ∷ []) ts = assign_one room place x ts
 assigned_by room place (x ∷ y ∷ ys) ts = invoke_at room place (x ∷ y ∷ ys) ts
 
 -- behind the name of a first target
-unfoldable pub assign_at : ℕ → Place → List ℕ → List Token → Read Stmt
+unfoldable pub assign_at : ℕ → Place → Placed → List Token → Read Stmt
 assign_at room place x ts = do
   xs ← run name_turn (length ts) (x ∷ []) ts
   becomes ← expect signs.Becomes xs.1
   assigned_by room place xs.0 becomes.1
 
 -- behind a field's location
-unfoldable pub store_at : ℕ → Place → Expr → List ℕ → List Token → Read Stmt
+unfoldable pub store_at : ℕ → Place → Expr → Placed → List Token → Read Stmt
 store_at room place e f ts = do
   becomes ← expect signs.Becomes ts
   v ← choice_at (below room) becomes.1
@@ -131,8 +134,8 @@ store_at room place e f ts = do
 
 -- behind a variable, an application or a field's location
 abbrev pub by_target : ℕ → Place → Expr → List Token → Read Stmt
-by_target room place (Variable at x) ts = assign_at room place x ts
-by_target room place (Call at m es) ts = Ok (Invoke place [] m es, ts)
+by_target room place (Variable at x) ts = assign_at room place (placed at x) ts
+by_target room place (Call at m es) ts = Ok (Invoke place [] (placed at m) es, ts)
 by_target room place (written.Read at e f) ts = store_at room place e f ts
 by_target room place e ts = Err (Unexpected ts)
 
@@ -154,6 +157,10 @@ abbrev pub begins_invariant : Kind → Bool
 begins_invariant (word words.Invariant) = true
 begins_invariant k = false
 
+abbrev pub is_measure : Kind → Bool
+is_measure (word words.Decreases) = true
+is_measure k = false
+
 -- one invariant more
 unfoldable pub invariant_turn : ℕ → Turn (List Expr)
 invariant_turn room before [] = Ok (None, [])
@@ -168,12 +175,21 @@ invariants_at room ts = do
   es ← run (invariant_turn room) (length ts) [] ts
   Ok (exprs_from es.0, es.1)
 
+-- a measure begins
+abbrev pub begins_decreases : List Token → Bool
+begins_decreases [] = false
+begins_decreases (t ∷ ts) = is_measure t.kind
+
+-- the block of a loop, behind its invariants
+unfoldable pub loop_block_at : StmtDeeper → List Token → Read Block
+loop_block_at deeper ts = if begins_decreases ts then Err (Measured ts) else block_at deeper ts
+
 -- behind a `while`
 unfoldable pub while_at : ℕ → StmtDeeper → Place → List Token → Read Stmt
 while_at room deeper place ts = do
   e ← enclosed (below room) choice ts
   is ← invariants_at room e.1
-  b ← block_at deeper is.1
+  b ← loop_block_at deeper is.1
   Ok (While place e.0 is.0 b.0, b.1)
 
 unfoldable pub claim_at : ℕ → Claim → Place → List Token → Read Stmt
