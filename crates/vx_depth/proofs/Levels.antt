@@ -6,7 +6,7 @@ use Rattle.vx_terms.specs.Terms.{Term, Binary, same, sort_of}
 use Rattle.vx_terms.specs.Build.{equals, pair, first, second, unit, wrap, written_unwrap, unwrap, zero_amount, whole_amount}
 use Rattle.vx_rules.specs.States.{Chunk, State, with_fact, with_facts, with_entry, is_known, is_named, name_of, after_name, fresh, after_fresh, declare_all, declare_fresh, sort_of_type, with_heap, with_store, assign, found, is_stored}
 use Rattle.vx_rules.specs.Chunks.{field_key, put, put_over, chosen, field_facts, instance_facts}
-use Rattle.vx_rules.specs.Groups.{is_among}
+use Rattle.vx_ast.specs.Mentions.{is_among}
 use Rattle.vx_rules.specs.Rules.{Context, field_sort, after_value, after_snapshot, with_split, with_unit, with_built_wrap, with_built_pair, pair_facts}
 use Rattle.vx_rules.specs.Members.{forget, put_fields, after_names}
 

@@ -3,7 +3,7 @@ use Rattle.std.proofs.Common.{◌≡◌, ◌⊎◌, inl, inr, ℕ, zero, suc, Li
 use Rattle.std.specs.Prelude.{flat_map}
 use Rattle.vx_ast.specs.Syntax.{Name, Program, Predicate, Function, Assertion, Pure, Points, Instance, Both, Implied, Chosen, predicate_named, function_named, joined, joined_with}
 use Rattle.vx_ast.specs.Mentions.{mentioned, mentioned_by}
-use Rattle.vx_rules.specs.Groups.{mentions_of}
+use Rattle.vx_ast.specs.Mentions.{mentions_of}
 use Rattle.vx_depth.specs.Entering.{entered_by, entered_by_measure, entered_by_body, entered_by_function, entered_by_predicate, entered_from, Stands, LeadsBy, NoneWithinItself}
 use Rattle.vx_depth.specs.Apart.{mentioned_by_body, mentioned_by_predicate, mentioned_from, Reaches, KeepsApart}
 

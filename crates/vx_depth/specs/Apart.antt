@@ -2,8 +2,7 @@
 -- function's precondition, an unfolding of its own group in a predicate's body.
 use Rattle.std.specs.Prelude.{◌≡◌, ◌⊎◌, ℕ, zero, suc, List, [], ◌++◌, Option, Some, None}
 use Rattle.vx_ast.specs.Syntax.{Name, Program, Predicate, Function, Assertion, predicate_named, function_named, joined}
-use Rattle.vx_ast.specs.Mentions.{mentioned_by}
-use Rattle.vx_rules.specs.Groups.{mentions_of}
+use Rattle.vx_ast.specs.Mentions.{mentioned_by, mentions_of}
 use Rattle.vx_depth.specs.Entering.{entered_by, entered_by_measure, entered_by_body, Stands}
 
 abbrev pub mentioned_by_body : Option Assertion → List Name

@@ -1,10 +1,10 @@
 -- Stores that differ, references that are not new, and groups of functions.
 use Rattle.std.proofs.Common.{◌≡◌, ℕ, zero, suc, pos, true, false, IsTrue, List, [], ◌∷◌, ◌++◌, refl, sym, subst, inl, inr, ◌⊎◌, arith, Some, Option}
-use Rattle.std.specs.Prelude.{Contains, flat_map}
+use Rattle.std.specs.Prelude.{Contains}
 use Rattle.vx_ast.specs.declared.ValueType.TheVariants.{Int}
 use Rattle.vx_ast.specs.declared.ValueType.TheVariants as type
 use Rattle.vx_ast.specs.Syntax.{Name, Function}
-use Rattle.vx_ast.specs.Mentions.{mentioned, mentioned_by}
+use Rattle.vx_ast.specs.Mentions.{mentioned_by_function}
 use Rattle.vx_meaning.specs.Values.{IntValue, BoolValue, RefValue}
 use Rattle.vx_meaning.specs.States.{HaveTypes}
 use Rattle.vx_meaning.specs.Run.{IsFresh, DiffersAt}
@@ -64,14 +64,12 @@ function_groups_reaches = (1, inl (applications_double, refl, (0, omega arith, r
 some_is : (a b : Function) → (let o : Option Function = Some a in o) ≡ Some b → a ≡ b
 some_is a b e = cc
 
-abbrev mentions_of : Function → List Name
-mentions_of d = mentioned d.body ++ flat_map mentioned_by d.requires ++ flat_map mentioned d.ensures
 
 none_in : {A : Type 0} (a : A) → Contains [] a → ⊥
 none_in a (k, less, e) = absurd (omega arith)
 
 get_mentions_none : (g : Name) → Mentions applications get g → ⊥
-get_mentions_none g (d, named, has) = none_in g (subst (λ z. Contains (mentions_of z) g) (sym (some_is applications_get d named)) has)
+get_mentions_none g (d, named, has) = none_in g (subst (λ z. Contains (mentioned_by_function z) g) (sym (some_is applications_get d named)) has)
 
 get_reaches_none : (n : ℕ) (g : Name) → ReachesBy applications n get g → ⊥
 get_reaches_none zero g r = r
@@ -87,7 +85,7 @@ only_get g (suc zero, less, e) = sym e
 only_get g (suc (suc k), less, e) = absurd (omega arith)
 
 double_mentions_get : (g : Name) → Mentions applications double g → g ≡ get
-double_mentions_get g (d, named, has) = only_get g (subst (λ z. Contains (mentions_of z) g) (sym (some_is applications_double d named)) has)
+double_mentions_get g (d, named, has) = only_get g (subst (λ z. Contains (mentioned_by_function z) g) (sym (some_is applications_double d named)) has)
 
 get_is_not_double : double ≡ get → ⊥
 get_is_not_double e = cc

@@ -1,5 +1,5 @@
 -- Written syntax, and the settled syntax that it becomes where `cell` is a predicate, `read` a method, and f and g are the fields.
-use Rattle.std.specs.Prelude.{Bool, true, false, List, [], ◌∷◌, Option, Some, None}
+use Rattle.std.specs.Prelude.{Bool, true, false, List, [], ◌∷◌, ◌++◌, Option, Some, None}
 use Rattle.vx_ast.specs.declared.UnaryOperator.TheVariants as unary
 use Rattle.vx_ast.specs.declared.BinaryOperator.{BinaryOperator}
 use Rattle.vx_ast.specs.declared.BinaryOperator.TheVariants as operator
@@ -15,6 +15,10 @@ use Rattle.vx_examples.specs.Mentioned.{g}
 
 abbrev pub names : Names
 names = record { is_predicate = same_name cell; is_method = same_name read_name; fields = f ∷ g ∷ [] }
+
+-- a name, wherever it stands
+abbrev pub named : Name → written.Placed
+named x = written.placed (at 1 2) x
 
 -- 1 OP 2
 abbrev pub one_two : BinaryOperator → written.Expr
@@ -35,7 +39,7 @@ sum = Operate (at 1 1) Syntax.Add (Number (at 1 1) 1) (Variable (at 1 5) x)
 
 -- x.f
 abbrev pub written_read : written.Expr
-written_read = written.Read (at 1 1) (written.Variable (at 1 1) x) f
+written_read = written.Read (at 1 1) (written.Variable (at 1 1) x) (named f)
 
 abbrev pub read : Expr
 read = Read (at 1 1) (Variable (at 1 1) x) f
@@ -72,8 +76,8 @@ of_expressions =
     -- acc(x.f), where it is no assertion
     ∷ (written.Access (at 1 1) written_read written.All, Null (at 1 1))
     -- unfolding cell(x) in x.f, unfolding acc(cell(x), none) in x.f
-    ∷ (written.Unfolding (at 1 1) cell written_x written.All written_read, Unfolding (at 1 1) cell one_x (Part (at 1 1) 1 1) read)
-    ∷ (written.Unfolding (at 1 1) cell written_x (written.Part (written.Nothing (at 1 7))) written_read, Unfolding (at 1 1) cell one_x (Part (at 1 7) 0 1) read) ∷ []
+    ∷ (written.Unfolding (at 1 1) (named cell) written_x written.All written_read, Unfolding (at 1 1) cell one_x (Part (at 1 1) 1 1) read)
+    ∷ (written.Unfolding (at 1 1) (named cell) written_x (written.Part (written.Nothing (at 1 7))) written_read, Unfolding (at 1 1) cell one_x (Part (at 1 7) 0 1) read) ∷ []
 
 -- acc(x.f)
 abbrev pub written_held : written.Expr
@@ -124,7 +128,10 @@ measures =
 -- Statements
 
 abbrev pub y_int : written.Declaration
-y_int = record { name = y; of = Int }
+y_int = record { name = named y; of = Int }
+
+abbrev pub x_ref : written.Declaration
+x_ref = record { name = named x; of = type.Ref }
 
 abbrev pub alone : Stmt → Block
 alone s = Then s Done
@@ -137,33 +144,39 @@ of_statements =
     ∷ (written.Declare (at 5 1) y_int (Some (written.Value written_sum)), Then (Syntax.Declare (at 5 1) y Int) (alone (Syntax.Assign (at 5 1) y sum)))
     ∷ (written.Declare (at 5 1) y_int (Some (written.Value (written.Call (at 5 9) read_name written_x))), Then (Syntax.Declare (at 5 1) y Int) (alone (Syntax.Call (at 5 1) (y ∷ []) read_name one_x)))
     -- y := 1 + x, y := read(x), y := get(x), y := new(*), y := new(g)
-    ∷ (written.Assign (at 5 1) y (written.Value written_sum), alone (Syntax.Assign (at 5 1) y sum))
-    ∷ (written.Assign (at 5 1) y (written.Value (written.Call (at 5 6) read_name written_x)), alone (Syntax.Call (at 5 1) (y ∷ []) read_name one_x))
-    ∷ (written.Assign (at 5 1) y (written.Value (written.Call (at 5 6) get written_x)), alone (Syntax.Assign (at 5 1) y (Apply (at 5 6) get one_x)))
-    ∷ (written.Assign (at 5 1) y written.NewAll, alone (Syntax.New (at 5 1) y (f ∷ g ∷ []))) ∷ (written.Assign (at 5 1) y (written.New (g ∷ [])), alone (Syntax.New (at 5 1) y (g ∷ [])))
+    ∷ (written.Assign (at 5 1) (named y) (written.Value written_sum), alone (Syntax.Assign (at 5 1) y sum))
+    ∷ (written.Assign (at 5 1) (named y) (written.Value (written.Call (at 5 6) read_name written_x)), alone (Syntax.Call (at 5 1) (y ∷ []) read_name one_x))
+    ∷ (written.Assign (at 5 1) (named y) (written.Value (written.Call (at 5 6) get written_x)), alone (Syntax.Assign (at 5 1) y (Apply (at 5 6) get one_x)))
+    ∷ (written.Assign (at 5 1) (named y) (written.NewAll (at 5 6)), alone (Syntax.New (at 5 1) y (f ∷ g ∷ []))) ∷ (written.Assign (at 5 1) (named y) (written.New (at 5 6) (named g ∷ [])), alone (Syntax.New (at 5 1) y (g ∷ [])))
     -- x.f := 1 + x, x, y := read(x), read(x)
-    ∷ (written.Write (at 5 1) (written.Variable (at 5 1) x) f written_sum, alone (Syntax.Write (at 5 1) (Variable (at 5 1) x) f sum))
-    ∷ (written.Invoke (at 5 1) (x ∷ y ∷ []) read_name written_x, alone (Syntax.Call (at 5 1) (x ∷ y ∷ []) read_name one_x)) ∷ (written.Invoke (at 5 1) [] read_name written_x, alone (Syntax.Call (at 5 1) [] read_name one_x))
+    ∷ (written.Write (at 5 1) (written.Variable (at 5 1) x) (named f) written_sum, alone (Syntax.Write (at 5 1) (Variable (at 5 1) x) f sum))
+    ∷ (written.Invoke (at 5 1) (named x ∷ named y ∷ []) (named read_name) written_x, alone (Syntax.Call (at 5 1) (x ∷ y ∷ []) read_name one_x)) ∷ (written.Invoke (at 5 1) [] (named read_name) written_x, alone (Syntax.Call (at 5 1) [] read_name one_x))
     ∷ (written.Inhale (at 5 1) written_held, alone (Syntax.Inhale (at 5 1) held)) ∷ (written.Exhale (at 5 1) written_held, alone (Syntax.Exhale (at 5 1) held)) ∷ (written.Assert (at 5 1) written_true, alone (Syntax.Assert (at 5 1) (Pure truth)))
     -- assume true && true, which is one expression
     ∷ (written.Assume (at 5 1) (written.Binary (at 5 8) operator.And written_true written_true), alone (Syntax.Assume (at 5 1) (Connect (at 5 8) Syntax.And truth truth)))
-    ∷ (written.Fold (at 5 1) cell written_x written.All, alone (Syntax.Fold (at 5 1) cell one_x (Part (at 5 1) 1 1))) ∷ (written.Fold (at 5 1) cell written_x (written.Part (written.Nothing (at 5 9))), alone (Syntax.Fold (at 5 1) cell one_x (Part (at 5 9) 0 1)))
-    ∷ (written.Unfold (at 5 1) cell written_x written.All, alone (Syntax.Unfold (at 5 1) cell one_x (Part (at 5 1) 1 1)))
-    ∷ (written.If (at 5 1) written_true (written.Then (written.Assert (at 5 2) written_true) written.Done) written.Done, alone (Syntax.If (at 5 1) truth (alone (Syntax.Assert (at 5 2) (Pure truth))) Done))
+    ∷ (written.Fold (at 5 1) (named cell) written_x written.All, alone (Syntax.Fold (at 5 1) cell one_x (Part (at 5 1) 1 1))) ∷ (written.Fold (at 5 1) (named cell) written_x (written.Part (written.Nothing (at 5 9))), alone (Syntax.Fold (at 5 1) cell one_x (Part (at 5 9) 0 1)))
+    ∷ (written.Unfold (at 5 1) (named cell) written_x written.All, alone (Syntax.Unfold (at 5 1) cell one_x (Part (at 5 1) 1 1)))
+    -- with no other side, and with one
+    ∷ (written.If (at 5 1) written_true (written.Then (written.Assert (at 5 2) written_true) written.Done) written.NoElse, alone (Syntax.If (at 5 1) truth (alone (Syntax.Assert (at 5 2) (Pure truth))) Done))
+    ∷ (written.If (at 5 1) written_true written.Done (written.Else (written.Then (written.Assert (at 5 2) written_true) written.Done)), alone (Syntax.If (at 5 1) truth Done (alone (Syntax.Assert (at 5 2) (Pure truth)))))
     ∷ (written.While (at 5 1) written_true (written.More written_held (written.More written_true written.NoMore)) written.Done, alone (Syntax.While (at 5 1) truth (held ∷ Pure truth ∷ []) Done)) ∷ []
 
 -- Members
 
 -- method read(x: Ref) returns (y: Int) requires true ensures acc(x.f) { assert true }, with or without its body
 abbrev pub written_method : Option written.Block → written.Method
-written_method b = record { parameters = record { name = x; of = type.Ref } ∷ []; returns = y_int ∷ []; requires = written.More written_true written.NoMore; ensures = written.More written_held written.NoMore; body = b }
+written_method b = record { parameters = x_ref ∷ []; returns = y_int ∷ []; clauses = written.Requires written_true ∷ written.Ensures written_held ∷ []; body = b }
 
 abbrev pub method : Option Block → Syntax.Method
 method b = record { place = at 6 1; parameters = record { name = x; of = type.Ref } ∷ []; returns = record { name = y; of = Int } ∷ []; requires = Pure truth ∷ []; ensures = held ∷ []; body = b }
 
 -- function get(x: Ref): Int requires acc(x.f) ensures true { x.f }, with or without a measure
+abbrev pub measured : Option written.Expr → List written.Clause
+measured None = []
+measured (Some e) = written.Decreases e ∷ []
+
 abbrev pub written_function : Option written.Expr → written.Function
-written_function m = record { parameters = record { name = x; of = type.Ref } ∷ []; of = Int; requires = written.More written_held written.NoMore; ensures = written.More written_true written.NoMore; decreases = m; body = written_read }
+written_function m = record { parameters = x_ref ∷ []; of = Int; clauses = written.Requires written_held ∷ (measured m ++ written.Ensures written_true ∷ []); body = written_read }
 
 abbrev pub function : Option Measure → Syntax.Function
 function m = record { place = at 6 1; parameters = record { name = x; of = type.Ref } ∷ []; of = Int; requires = held ∷ []; ensures = truth ∷ []; decreases = m; body = read }
@@ -171,7 +184,7 @@ function m = record { place = at 6 1; parameters = record { name = x; of = type.
 abbrev pub of_kinds : List (written.Kind × Syntax.Kind)
 of_kinds =
     (written.IsField Int, Syntax.IsField Int)
-    ∷ (written.IsPredicate (record { parameters = record { name = x; of = type.Ref } ∷ []; body = Some written_held }), Syntax.IsPredicate (record { place = at 6 1; parameters = record { name = x; of = type.Ref } ∷ []; body = Some held }))
+    ∷ (written.IsPredicate (record { parameters = x_ref ∷ []; body = Some written_held }), Syntax.IsPredicate (record { place = at 6 1; parameters = record { name = x; of = type.Ref } ∷ []; body = Some held }))
     ∷ (written.IsPredicate (record { parameters = []; body = None }), Syntax.IsPredicate (record { place = at 6 1; parameters = []; body = None }))
     ∷ (written.IsFunction (written_function None), Syntax.IsFunction (function None)) ∷ (written.IsFunction (written_function (Some written_sum)), Syntax.IsFunction (function (Some (ByNumber sum))))
     ∷ (written.IsMethod (written_method None), Syntax.IsMethod (method None))
@@ -184,8 +197,8 @@ of_kinds =
 -- function get(x: Ref): Int requires acc(x.f) ensures true { x.f }
 abbrev pub written_members : written.Program
 written_members =
-    record { place = at 6 1; name = f; kind = written.IsField Int } ∷ record { place = at 6 1; name = cell; kind = written.IsPredicate (record { parameters = record { name = x; of = type.Ref } ∷ []; body = Some written_held }) }
-    ∷ record { place = at 6 1; name = g; kind = written.IsField Int } ∷ record { place = at 6 1; name = read_name; kind = written.IsMethod (written_method None) } ∷ record { place = at 6 1; name = get; kind = written.IsFunction (written_function None) } ∷ []
+    record { place = at 6 1; name = named f; kind = written.IsField Int } ∷ record { place = at 6 1; name = named cell; kind = written.IsPredicate (record { parameters = x_ref ∷ []; body = Some written_held }) }
+    ∷ record { place = at 6 1; name = named g; kind = written.IsField Int } ∷ record { place = at 6 1; name = named read_name; kind = written.IsMethod (written_method None) } ∷ record { place = at 6 1; name = named get; kind = written.IsFunction (written_function None) } ∷ []
 
 abbrev pub members : Syntax.Program
 members =

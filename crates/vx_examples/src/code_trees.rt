@@ -12,6 +12,7 @@ ghost use Rattle.vx_ast.specs.declared.Expr.{Expr as Expr'};
 ghost use Rattle.vx_ast.specs.declared.ExprKind as tree;
 ghost use Rattle.vx_ast.specs.declared.Declaration.{Declaration as Declaration'};
 ghost use Rattle.vx_ast.specs.declared.Right.TheVariants as right;
+ghost use Rattle.vx_ast.specs.declared.Clause.TheVariants as clause;
 ghost use Rattle.vx_ast.specs.declared.StmtKind as step;
 ghost use Rattle.vx_ast.specs.declared.Block as block;
 ghost use Rattle.vx_ast.specs.declared.MemberKind.TheVariants as kind;
@@ -40,14 +41,14 @@ pub fn written_expressions()
     ensures outcome { written.written (at 1 1) tree.Outcome ≡ written.Result (at 1 1) }
     ensures variable { (x : String Global) → written.written (at 1 1) (tree.Variable x) ≡ written.Variable (at 1 1) (string_bytes x) }
     ensures call { (f : String Global) (shape row : _) → written.written (at 1 1) (tree.Call' f shape row) ≡ written.Call (at 1 1) (string_bytes f) (written.written_row row) }
-    ensures read { (p : _) (e : tree.ExprKind) (f : Name') → written.written (at 1 1) (tree.Read' p (at 1 2) e f) ≡ written.Read (at 1 1) (written.written (at 1 2) e) (string_bytes f.text) }
+    ensures read { (p : _) (e : tree.ExprKind) (f : Name') → written.written (at 1 1) (tree.Read' p (at 1 2) e f) ≡ written.Read (at 1 1) (written.written (at 1 2) e) (written.name_of f) }
     ensures negated { (p : _) (e : tree.ExprKind) → written.written (at 1 1) (tree.Unary' unary.Not p (at 1 2) e) ≡ written.Unary (at 1 1) unary.Not (written.written (at 1 2) e) }
     ensures sum { (p q : _) (a b : tree.ExprKind) → written.written (at 1 1) (tree.Binary' binary.Add p (at 1 2) a q (at 1 3) b) ≡ written.Binary (at 1 1) binary.Add (written.written (at 1 2) a) (written.written (at 1 3) b) }
     ensures choice { (p q r : _) (c a b : tree.ExprKind) → written.written (at 1 1) (tree.Conditional' p (at 1 2) c q (at 1 3) a r (at 1 4) b) ≡ written.Choice (at 1 1) (written.written (at 1 2) c) (written.written (at 1 3) a) (written.written (at 1 4) b) }
     ensures old { (p : _) (e : tree.ExprKind) → written.written (at 1 1) (tree.Old' p (at 1 2) e) ≡ written.Old (at 1 1) (written.written (at 1 2) e) }
     ensures access { (p : _) (e : tree.ExprKind) → written.written (at 1 1) (tree.Access' p (at 1 2) e tree.None') ≡ written.Access (at 1 1) (written.written (at 1 2) e) written.All }
     ensures part { (p q : _) (e share : tree.ExprKind) → written.written (at 1 1) (tree.Access' p (at 1 2) e (tree.Some' q (at 1 3) share)) ≡ written.Access (at 1 1) (written.written (at 1 2) e) (written.Part (written.written (at 1 3) share)) }
-    ensures unfolding { (i : Name') (shape row p : _) (e : tree.ExprKind) → written.written (at 1 1) (tree.Unfolding' i shape row tree.None' p (at 1 2) e) ≡ written.Unfolding (at 1 1) (string_bytes i.text) (written.written_row row) written.All (written.written (at 1 2) e) }
+    ensures unfolding { (i : Name') (shape row p : _) (e : tree.ExprKind) → written.written (at 1 1) (tree.Unfolding' i shape row tree.None' p (at 1 2) e) ≡ written.Unfolding (at 1 1) (written.name_of i) (written.written_row row) written.All (written.written (at 1 2) e) }
     ensures optional { (e : Rc Expr' Global) → written.written_optional (Some e) ≡ written.Part (written.written_expr e.value) }
     ensures no_optional { written.written_optional None ≡ written.All }
     ensures all { (e : Rc Expr' Global) → written.written_all (e ∷ []) ≡ written.More (written.written_expr e.value) written.NoMore }
@@ -58,13 +59,13 @@ pub fn written_expressions()
 /// Statements and members as written.
 pub fn written_statements()
     ensures value { (e : Rc Expr' Global) → written.written_right (right.Value e) ≡ written.Value (written.written_expr e.value) }
-    ensures new { (fields : _) → written.written_right (right.New fields) ≡ written.New (map written.name_of (vec_items fields)) }
-    ensures some_right { written.optional_right (Some right.NewAll) ≡ Some written.NewAll }
-    ensures new_all { written.written_right right.NewAll ≡ written.NewAll }
+    ensures new { (fields : _) → written.written_right (right.New (at 1 2) fields) ≡ written.New (at 1 2) (map written.name_of (vec_items fields)) }
+    ensures some_right { written.optional_right (Some (right.NewAll (at 1 2))) ≡ Some (written.NewAll (at 1 2)) }
+    ensures new_all { written.written_right (right.NewAll (at 1 2)) ≡ written.NewAll (at 1 2) }
     ensures no_right { written.optional_right None ≡ None }
     ensures declares { (d : Declaration') → written.written_stmt (at 1 1) (step.Declare d None) ≡ written.Declare (at 1 1) (written.written_declaration d) None }
-    ensures assigns { (x : Name') → written.written_stmt (at 1 1) (step.Assign x right.NewAll) ≡ written.Assign (at 1 1) (string_bytes x.text) written.NewAll }
-    ensures writes { (e v : Rc Expr' Global) (f : Name') → written.written_stmt (at 1 1) (step.Write e f v) ≡ written.Write (at 1 1) (written.written_expr e.value) (string_bytes f.text) (written.written_expr v.value) }
+    ensures assigns { (x : Name') → written.written_stmt (at 1 1) (step.Assign x (right.NewAll (at 1 2))) ≡ written.Assign (at 1 1) (written.name_of x) (written.NewAll (at 1 2)) }
+    ensures writes { (e v : Rc Expr' Global) (f : Name') → written.written_stmt (at 1 1) (step.Write e f v) ≡ written.Write (at 1 1) (written.written_expr e.value) (written.name_of f) (written.written_expr v.value) }
     ensures inhales { (e : Rc Expr' Global) → written.written_stmt (at 1 1) (step.Inhale e) ≡ written.Inhale (at 1 1) (written.written_expr e.value) }
     ensures exhales { (e : Rc Expr' Global) → written.written_stmt (at 1 1) (step.Exhale e) ≡ written.Exhale (at 1 1) (written.written_expr e.value) }
     ensures asserts { (e : Rc Expr' Global) → written.written_stmt (at 1 1) (step.Assert e) ≡ written.Assert (at 1 1) (written.written_expr e.value) }
@@ -73,13 +74,18 @@ pub fn written_statements()
     ensures folds { (i : _) → written.written_stmt (at 1 1) (step.Fold i) ≡ written.Fold (at 1 1) (written.name_of i.predicate) (written.written_all (vec_items i.arguments)) (written.written_optional i.amount) }
     ensures unfolds { (i : _) → written.written_stmt (at 1 1) (step.Unfold i) ≡ written.Unfold (at 1 1) (written.name_of i.predicate) (written.written_all (vec_items i.arguments)) (written.written_optional i.amount) }
     ensures loops { (e : Rc Expr' Global) (is p : _) (b : block.Block) → written.written_stmt (at 1 1) (step.While' e is p b) ≡ written.While (at 1 1) (written.written_expr e.value) (written.written_all (vec_items is)) (written.written_block b) }
-    ensures chooses { (e : Rc Expr' Global) (p q : _) (a b : block.Block) → written.written_stmt (at 1 1) (step.If' e p a q b) ≡ written.If (at 1 1) (written.written_expr e.value) (written.written_block a) (written.written_block b) }
+    ensures chooses { (e : Rc Expr' Global) (p q : _) (a b : block.Block) → written.written_stmt (at 1 1) (step.If' e p a (step.Some' q b)) ≡ written.If (at 1 1) (written.written_expr e.value) (written.written_block a) (written.Else (written.written_block b)) }
+    ensures one_side { (e : Rc Expr' Global) (p : _) (a : block.Block) → written.written_stmt (at 1 1) (step.If' e p a step.None') ≡ written.If (at 1 1) (written.written_expr e.value) (written.written_block a) written.NoElse }
+    ensures name { (x : Name') → written.name_of x ≡ written.placed x.place (string_bytes x.text) }
+    ensures requires_clause { (e : Rc Expr' Global) → written.written_clause (clause.Requires e) ≡ written.Requires (written.written_expr e.value) }
+    ensures ensures_clause { (e : Rc Expr' Global) → written.written_clause (clause.Ensures e) ≡ written.Ensures (written.written_expr e.value) }
+    ensures measure { (e : Rc Expr' Global) → written.written_clause (clause.Decreases e) ≡ written.Decreases (written.written_expr e.value) }
     ensures no_block { written.optional_block None ≡ None }
     ensures no_expression { written.optional_expr None ≡ None }
     ensures field { written.written_kind (kind.Field Int) ≡ written.IsField Int }
     ensures predicate { (p : _) → written.written_kind (kind.Predicate p) ≡ written.IsPredicate record { parameters = map written.written_declaration (vec_items p.parameters); body = written.optional_expr p.body } }
-    ensures function { (f : _) → written.written_kind (kind.Function f) ≡ written.IsFunction record { parameters = map written.written_declaration (vec_items f.parameters); of = f.value_type; requires = written.written_all (vec_items f.preconditions); ensures = written.written_all (vec_items f.postconditions); decreases = written.optional_expr f.measure; body = written.written_expr f.body.value } }
-    ensures method { (m : _) → written.written_kind (kind.Method m) ≡ written.IsMethod record { parameters = map written.written_declaration (vec_items m.parameters); returns = map written.written_declaration (vec_items m.returns); requires = written.written_all (vec_items m.preconditions); ensures = written.written_all (vec_items m.postconditions); body = written.optional_block m.body } }
+    ensures function { (f : _) → written.written_kind (kind.Function f) ≡ written.IsFunction record { parameters = map written.written_declaration (vec_items f.parameters); of = f.value_type; clauses = map written.written_clause (vec_items f.clauses); body = written.written_expr f.body.value } }
+    ensures method { (m : _) → written.written_kind (kind.Method m) ≡ written.IsMethod record { parameters = map written.written_declaration (vec_items m.parameters); returns = map written.written_declaration (vec_items m.returns); clauses = map written.written_clause (vec_items m.clauses); body = written.optional_block m.body } }
 {}
 
 /// Settled expressions, assertions, statements and blocks.

@@ -8,7 +8,8 @@ ghost use Rattle.vx_terms.specs.Sorts.{IntSort, BoolSort, RealSort, RefSort, Sna
 ghost use Rattle.vx_rules.specs.States as states;
 ghost use Rattle.vx_rules.specs.Rules as rules;
 ghost use Rattle.vx_rules.specs.Members as members;
-ghost use Rattle.vx_rules.specs.Groups.{is_in_group, function_number, is_among};
+ghost use Rattle.vx_ast.specs.Mentions.{is_among};
+ghost use Rattle.vx_rules.specs.Groups.{is_in_group, function_number};
 ghost use Rattle.vx_examples.specs.Words.{Computes, at, int, bool, real, ref, snap, null, unit, number, part, none, all, falsity, denied, equal, differ, less, at_most, plus, minus, times, both, either, implied, quotient, remainder, pair, first, second, as_int, wrapped_int};
 ghost use Rattle.vx_examples.specs.Simplified.{truth};
 ghost use Rattle.vx_examples.specs.Totals.{totals};

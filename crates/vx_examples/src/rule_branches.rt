@@ -9,6 +9,7 @@ ghost use Rattle.vx_rules.specs.Chunks as chunks;
 ghost use Rattle.vx_rules.specs.Rules as rules;
 ghost use Rattle.vx_rules.specs.Members as members;
 ghost use Rattle.vx_rules.specs.Groups as groups;
+ghost use Rattle.vx_ast.specs.Mentions.{mentions_of};
 ghost use Rattle.vx_rules.specs.Trees.{AssertCode, CallCode, End, FoldCode, Fork, FunctionCode, MeasureCode, PermissionCode, Probe, Step, UnfoldCode};
 ghost use Rattle.vx_examples.specs.Words.{at, int, bool, real, ref, snap, null, unit, number, part, none, all, denied, chosen_term, equal, at_most, plus, times, less, both, implied, pair, first, second, as_int, wrapped_int, probes};
 ghost use Rattle.vx_examples.specs.Simplified.{truth};
@@ -29,7 +30,7 @@ pub fn unknown_members()
     ensures method { members.exec [] (rules.outer [] 1) (syntax.Call (at 1 1) [] f syntax.NoMore) scene goes ≡ Step (Step (refused CallCode)) }
     ensures field { rules.field_sort [] f ≡ IntSort }
     ensures number { groups.function_number cells.cells x ≡ 1 }
-    ensures mentions { groups.mentions_of None ≡ [] }
+    ensures mentions { mentions_of None ≡ [] }
 {}
 
 /// Past the depth nothing is allowed, whatever the part.

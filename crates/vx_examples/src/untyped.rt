@@ -12,7 +12,9 @@ ghost use Rattle.vx_meaning.specs.States.{At, Folded};
 ghost use Rattle.vx_meaning.specs.Evaluate as evaluate;
 ghost use Rattle.vx_meaning.specs.Fits as fits;
 ghost use Rattle.vx_meaning.specs.Flatten as flatten;
-ghost use Rattle.vx_meaning.specs.Run.{mentions, owned, new_fields, run_all};
+ghost use Rattle.vx_ast.specs.Types.{same_type};
+ghost use Rattle.vx_ast.specs.Mentions.{is_among};
+ghost use Rattle.vx_meaning.specs.Run.{owned, new_fields, run_all};
 ghost use Rattle.vx_meaning.specs.Outcomes.{Outcome, Outcomes, Ends, FailsAt, Stops, ends, fails, stops, either, for_any, where_holds, failing_at, IsOver};
 ghost use Rattle.vx_meaning.specs.Fails as failing;
 ghost use Rattle.vx_examples.specs.Words.{Computes, at, held_in};
@@ -22,7 +24,7 @@ ghost use Rattle.vx_examples.specs.Untyped as untyped;
 
 /// Operators on values of other types, and when a right part is needed.
 pub fn operands()
-    ensures types { Computes (λ p. values.same_type p.0 p.1) untyped.of_types }
+    ensures types { Computes (λ p. same_type p.0 p.1) untyped.of_types }
     ensures values { Computes (λ p. values.same_value p.0 p.1) untyped.of_values }
     ensures and_needs { values.needs_right syntax.And true ≡ true }
     ensures and_has { values.needs_right syntax.And false ≡ false }
@@ -65,8 +67,8 @@ pub fn parts_of_states()
     ensures left { states.leave 1 poor ≡ record poor { store = (x, RefValue 1) ∷ [] } }
     ensures left_more { states.leave 9 poor ≡ poor }
     ensures declared { (states.declare f (IntValue (pos 7)) poor).store ≡ (x, RefValue 1) ∷ (y, IntValue (pos 0)) ∷ (f, IntValue (pos 7)) ∷ [] }
-    ensures among { mentions y (x ∷ y ∷ []) ≡ true }
-    ensures not_among { mentions f (x ∷ y ∷ []) ≡ false }
+    ensures among { is_among y (x ∷ y ∷ []) ≡ true }
+    ensures not_among { is_among f (x ∷ y ∷ []) ≡ false }
     ensures no_new_fields { new_fields 7 [] owner.holdings ≡ owner.holdings }
     ensures owned { owned owner (at 1 1) f (RefValue 1) ≡ Ok x_f }
     ensures half_owned { owned sharer (at 1 1) f (RefValue 1) ≡ Err (at 1 1) }

@@ -8,7 +8,7 @@ ghost use Rattle.vx_meaning.specs.Values as values;
 ghost use Rattle.vx_meaning.specs.Values.{IntValue, BoolValue, RefValue, PermValue};
 ghost use Rattle.vx_meaning.specs.States as states;
 ghost use Rattle.vx_meaning.specs.States.{At, Folded, HaveTypes};
-ghost use Rattle.vx_meaning.specs.Run.{IsFresh, DiffersAt, mentions, new_fields};
+ghost use Rattle.vx_meaning.specs.Run.{IsFresh, DiffersAt, new_fields};
 ghost use Rattle.vx_meaning.specs.Group.{Reaches, InGroup};
 ghost use Rattle.vx_examples.specs.Words.{at};
 ghost use Rattle.vx_examples.specs.Cells.{f, x, y, get, cell, cells, cells_read};

@@ -7,7 +7,8 @@ use Rattle.vx_ast.specs.declared.ValueType.TheVariants as type
 use Rattle.vx_ast.specs.declared.UnaryOperator.TheVariants as unary
 use Rattle.vx_ast.specs.Syntax.{Program, Method, Operator, Equal, Less, LessEqual, Greater, GreaterEqual, Add, Subtract, Multiply, Expr, Number, Truth, Null, Part, Variable, Not, Operate, Divide, Connect, Choose, Read, Old, Apply, Unfolding, Assertion, Pure, Points, Instance, Both, Implied, Chosen, Stmt, Declare, Assign, Write, New, Call, Inhale, Exhale, Assert, Assume, Fold, Unfold, If, While, Block, Done, Then}
 use Rattle.vx_types.specs.Typing.{Scope, type_in, TakesType, gives_type, HasType, number, truth, variable, nots, operates, connects, chooses, IsTyped, AllTyped, scope_after, IsTypedStmt, IsTypedBlock, IsTypedBody, IsTypedMethod}
-use Rattle.vx_types.specs.Computed.{same_type, is_ordered, where_true, unary_type, two_truths, compared, summed, choice_type, with_one, with_two, with_three, operated, type_of, is_some_of, is_of, is_typed, are_typed, is_typed_as, is_new, is_typed_stmt, is_typed_block, scope_after_stmt}
+use Rattle.vx_ast.specs.Types.{same_type, is_ordered}
+use Rattle.vx_types.specs.Computed.{where_true, unary_type, two_truths, compared, summed, choice_type, with_one, with_two, with_three, operated, type_of, is_some_of, is_of, is_typed, are_typed, is_typed_as, is_new, is_typed_stmt, is_typed_block, scope_after_stmt}
 use Rattle.vx_types.specs.Members.{is_typed_body, is_typed_method}
 
 same : (t u : ValueType) → same_type t u ≡ true → t ≡ u

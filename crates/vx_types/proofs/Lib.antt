@@ -1,4 +1,4 @@
-pub mod Clauses
+pub mod Asserted
 pub mod Methods
 pub mod Rows
 pub mod Scopes

@@ -15,7 +15,7 @@ use Rattle.vx_types.specs.Members.{declared}
 use Rattle.vx_types.specs.Programs.{is_typed_member, are_typed_members}
 
 abbrev one : Declaration' → Declaration
-one d = record { name = name_of d.name; of = d.value_type }
+one d = record { name = (name_of d.name).name; of = d.value_type }
 
 pub declared_twice : (names : resolve.Names) (ds : List Declaration') → declared ds ≡ map (resolve.declaration names) (map written_declaration ds)
 declared_twice names [] = refl

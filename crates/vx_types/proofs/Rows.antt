@@ -1,5 +1,5 @@
 -- The statements of a block, as a list.
-use Rattle.std.proofs.Common.{◌≡◌, ◌∙◌, refl, ap, rules}
+use Rattle.std.proofs.Common.{◌≡◌, refl, ap, rules}
 use Rattle.vx_ast.specs.declared.Block as block
 use Rattle.vx_ast.specs.declared.StmtKind.TheViews.{the_lemmas}
 use Rattle.vx_ast.specs.Written as written

@@ -1,5 +1,5 @@
 -- The type of an expression, computed: no type where it isn't typed.
-use Rattle.std.specs.Prelude.{ℕ, Bool, true, false, ◌&&◌, nat_eq, if◌then◌else◌, List, [], ◌∷◌, ◌++◌, Option, Some, None}
+use Rattle.std.specs.Prelude.{Bool, true, false, ◌&&◌, if◌then◌else◌, List, [], ◌∷◌, ◌++◌, Option, Some, None}
 use Rattle.vx_ast.specs.declared.ValueType.{ValueType}
 use Rattle.vx_ast.specs.declared.ValueType.TheVariants as type
 use Rattle.vx_ast.specs.declared.UnaryOperator.{UnaryOperator}
@@ -7,22 +7,8 @@ use Rattle.vx_ast.specs.declared.UnaryOperator.TheVariants as unary
 use Rattle.vx_ast.specs.declared.BinaryOperator.{BinaryOperator}
 use Rattle.vx_ast.specs.declared.BinaryOperator.TheVariants as binary
 use Rattle.vx_ast.specs.Syntax.{Operator, Equal, Less, LessEqual, Greater, GreaterEqual, Add, Subtract, Multiply, Expr, Number, Truth, Variable, Not, Operate, Connect, Choose, Assertion, Pure, Both, Stmt, Declare, Assign, Inhale, Exhale, Assert, Assume, If, Block, Done, Then}
-use Rattle.vx_types.specs.Typing.{Scope, type_in, scope_after}
-
-abbrev pub number_of_type : ValueType → ℕ
-number_of_type type.Int = 0
-number_of_type type.Bool = 1
-number_of_type type.Ref = 2
-number_of_type type.Perm = 3
-
-abbrev pub same_type : ValueType → ValueType → Bool
-same_type t u = nat_eq (number_of_type t) (number_of_type u)
-
--- Int and Perm
-abbrev pub is_ordered : ValueType → Bool
-is_ordered type.Int = true
-is_ordered type.Perm = true
-is_ordered _ = false
+use Rattle.vx_ast.specs.Types.{same_type, is_ordered}
+use Rattle.vx_types.specs.Typing.{Scope, type_in}
 
 abbrev pub where_true : Bool → ValueType → Option ValueType
 where_true b t = if b then Some t else None

@@ -1,6 +1,6 @@
 -- Typed programs.
-use Rattle.std.specs.Prelude.{Bool, true, ◌&&◌, List, [], ◌∷◌}
-use Rattle.vx_ast.specs.Syntax.{Kind, IsMethod, Member, Program}
+use Rattle.std.specs.Prelude.{Bool, true, ◌&&◌, [], ◌∷◌}
+use Rattle.vx_ast.specs.Syntax.{Kind, IsMethod, Program}
 use Rattle.vx_types.specs.Members.{is_typed_method}
 
 abbrev pub is_typed_member : Kind → Bool

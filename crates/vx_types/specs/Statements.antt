@@ -1,14 +1,14 @@
 -- Lists of statements, and what typing adds to them.
-use Rattle.std.specs.Prelude.{◌≡◌, Bool, true, ◌&&◌, ◌++◌, List, [], ◌∷◌, map, ⊤}
+use Rattle.std.specs.Prelude.{◌≡◌, Bool, true, ◌&&◌, List, [], ◌∷◌, map, Option, Some, None, ⊤}
 use Rattle.std.specs.declared.alloc.Global.{Global}
 use Rattle.std.specs.declared.rc.Rc.{Rc}
 use Rattle.vx_ast.specs.declared.Stmt as tree
+use Rattle.vx_ast.specs.declared.Block as block'
 use Rattle.vx_ast.specs.declared.resolved.Stmt as stmt'
 use Rattle.vx_ast.specs.Written as written
-use Rattle.vx_ast.specs.Written.{written_stmt}
-use Rattle.vx_ast.specs.Resolve.{Names, statement}
+use Rattle.vx_ast.specs.Written.{written_stmt, written_block}
 use Rattle.vx_ast.specs.Resolved as settled
-use Rattle.vx_ast.specs.Syntax.{Stmt, Assign, Block, Done, Then}
+use Rattle.vx_ast.specs.Syntax.{Stmt, Assign, Block, Then}
 use Rattle.vx_types.specs.Typing.{Scope}
 use Rattle.vx_types.specs.Computed.{is_typed_stmt, scope_after_stmt}
 
@@ -28,6 +28,11 @@ are_typed_stmts scope (s ∷ ss) = is_typed_stmt scope s && are_typed_stmts (sco
 
 abbrev pub stmts : List (Rc stmt'.Stmt Global) → List Stmt
 stmts ss = map (λ s. settled.stmt s.value) ss
+
+-- the other side of an `if` as it is written
+abbrev pub other_written : Option (Rc block'.Block Global) → written.Other
+other_written None = written.NoElse
+other_written (Some b) = written.Else (written_block b.value)
 
 -- a list of statements as it is written
 abbrev pub written_list : List tree.Stmt → written.Block

@@ -1,10 +1,10 @@
 //! Typing of assertions, and their settled form.
 
 ghost use Rattle.std.specs.Prelude.{◌≡◌, ◌&&◌, IfOk, true, false};
-ghost use Rattle.vx_ast.specs.Written.{written_expr, written_all};
-ghost use Rattle.vx_ast.specs.Resolve.{Names, assertion, assertions};
+ghost use Rattle.vx_ast.specs.Written.{written_expr};
+ghost use Rattle.vx_ast.specs.Resolve.{Names, assertion};
 ghost use Rattle.vx_ast.specs.Resolved as settled;
-ghost use Rattle.vx_types.specs.Computed.{is_typed, are_typed};
+ghost use Rattle.vx_types.specs.Computed.{is_typed};
 ghost use Rattle.vx_types.specs.Scopes.{known};
 ghost use Rattle.vx_types.specs.Parts.{is_conjunction};
 
@@ -16,7 +16,7 @@ use vx_ast::resolved::Assertion;
 use vx_ast::{BinaryOperator, Expr, ExprKind, ValueType};
 
 // An assertion that is no conjunction.
-#[tactic(auto, using(crate::proofs::Clauses::alone))]
+#[tactic(auto, using(crate::proofs::Asserted::alone))]
 fn pure(alloc: Global, scope: &Scope, e: &Expr) -> Result<Rc<Assertion>, TypeFault>
     ensures settled { IfOk result (λ a. (names : Names) → is_conjunction (written_expr e.now) ≡ false → settled.assertion a.value ≡ assertion names (written_expr e.now)) }
     ensures typed { IfOk result (λ a. is_typed (known scope.now) (settled.assertion a.value) ≡ true) }
@@ -70,20 +70,4 @@ pub fn assertion(alloc: Global, scope: &Scope, e: &Expr) -> Result<Rc<Assertion>
         | ExprKind::Access(_, _)
         | ExprKind::Unfolding(_, _, _, _) => pure(alloc, scope, e),
     }
-}
-
-/// The clauses of one kind, in order.
-pub fn assertions(
-    alloc: Global,
-    scope: &Scope,
-    clauses: &[Rc<Expr>],
-) -> Result<Vec<Rc<Assertion>>, TypeFault>
-    ensures settled { IfOk result (λ v. (names : Names) → settled.assertions v.items ≡ assertions names (written_all clauses.now)) }
-    ensures typed { IfOk result (λ v. are_typed (known scope.now) (settled.assertions v.items) ≡ true) }
-{
-    let mut settled = Vec::new(alloc);
-    for clause in clauses {
-        settled.push(assertion(alloc, scope, clause)?)?;
-    }
-    Ok(settled)
 }

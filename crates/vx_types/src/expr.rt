@@ -6,7 +6,8 @@ ghost use Rattle.vx_ast.specs.Resolve.{Names, is_pure, expression, unary_of, bin
 ghost use Rattle.vx_ast.specs.Resolved.{expr};
 ghost use Rattle.vx_ast.specs.Syntax as Syntax;
 ghost use Rattle.vx_types.specs.Typing.{Scope as Known};
-ghost use Rattle.vx_types.specs.Computed.{type_of, same_type, is_ordered, unary_type, binary_type, choice_type, two_truths, compared, summed};
+ghost use Rattle.vx_ast.specs.Types.{same_type, is_ordered};
+ghost use Rattle.vx_types.specs.Computed.{type_of, unary_type, binary_type, choice_type, two_truths, compared, summed};
 ghost use Rattle.vx_types.specs.Scopes.{known};
 ghost use Rattle.vx_types.specs.Parts.{IsTypedPart};
 

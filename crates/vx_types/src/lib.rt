@@ -3,6 +3,7 @@
 
 mod assertions;
 mod checking;
+mod clauses;
 mod expr;
 mod fault;
 mod members;

@@ -2,17 +2,17 @@
 
 ghost use Rattle.std.specs.Prelude.{◌≡◌, ◌++◌, [], IfOk, OnOk, Ok, true, map, Some, None};
 ghost use Rattle.vx_ast.specs.Written as written;
-ghost use Rattle.vx_ast.specs.Written.{written_all, optional_block};
+ghost use Rattle.vx_ast.specs.Written.{written_clause, optional_block};
 ghost use Rattle.vx_ast.specs.Resolve as resolve;
 ghost use Rattle.vx_ast.specs.Resolve.{Names};
 ghost use Rattle.vx_ast.specs.Resolved as settled;
 ghost use Rattle.vx_ast.specs.Syntax as Syntax;
 ghost use Rattle.vx_types.specs.Computed.{are_typed};
 ghost use Rattle.vx_types.specs.Scopes.{known};
-ghost use Rattle.vx_types.specs.Members.{declared, is_typed_body, is_typed_method};
+ghost use Rattle.vx_types.specs.Members.{required, ensured, declared, is_typed_body, is_typed_method};
 ghost use Rattle.vx_types.specs.Programs.{is_typed_member};
 
-use crate::assertions::assertions;
+use crate::clauses::{ensured, required};
 use crate::expr::shared;
 use crate::stmt::{block, declare};
 use crate::{Scope, TypeFault};
@@ -38,7 +38,7 @@ fn declare_all<'a>(
 
 // A variable, settled.
 fn declaration(alloc: Global, d: &Declaration) -> Result<resolved::Declaration, AllocError>
-    ensures { IfOk result (λ r. settled.declaration r ≡ record { name = written.name_of d.now.name; of = d.now.value_type }) }
+    ensures { IfOk result (λ r. settled.declaration r ≡ record { name = (written.name_of d.now.name).name; of = d.now.value_type }) }
 {
     Ok(resolved::Declaration {
         name: shared(alloc, &d.name.text)?,
@@ -91,17 +91,17 @@ fn clauses<'a>(
 ) -> Result<(Vec<Rc<Assertion>>, Vec<Rc<Assertion>>), TypeFault>
     requires { known scope.old ≡ [] }
     ensures scope { OnOk result (known scope.new ≡ declared m.now.parameters.items ++ declared m.now.returns.items) }
-    ensures requires_settled { IfOk result (λ r. (names : Names) → settled.assertions r.0.items ≡ resolve.assertions names (written_all m.now.preconditions.items)) }
+    ensures requires_settled { IfOk result (λ r. (names : Names) → settled.assertions r.0.items ≡ required names (map written_clause m.now.clauses.items)) }
     ensures requires_typed { IfOk result (λ r. are_typed (declared m.now.parameters.items) (settled.assertions r.0.items) ≡ true) }
-    ensures ensures_settled { IfOk result (λ r. (names : Names) → settled.assertions r.1.items ≡ resolve.assertions names (written_all m.now.postconditions.items)) }
+    ensures ensures_settled { IfOk result (λ r. (names : Names) → settled.assertions r.1.items ≡ ensured names (map written_clause m.now.clauses.items)) }
     ensures ensures_typed { IfOk result (λ r. are_typed (declared m.now.parameters.items ++ declared m.now.returns.items) (settled.assertions r.1.items) ≡ true) }
 {
     declare_all(alloc, scope, &m.parameters, false)?;
     let kept = scope.len();
     declare_all(alloc, scope, &m.returns, true)?;
-    let after = assertions(alloc, scope, &m.postconditions);
+    let after = ensured(alloc, scope, &m.clauses);
     scope.leave(kept);
-    let before = assertions(alloc, scope, &m.preconditions);
+    let before = required(alloc, scope, &m.clauses);
     let clauses = both(before, after)?;
     declare_all(alloc, scope, &m.returns, true)?;
     Ok(clauses)

@@ -8,9 +8,9 @@ ghost use Rattle.vx_ast.specs.Resolve.{Names};
 ghost use Rattle.vx_ast.specs.Resolved as settled;
 ghost use Rattle.vx_ast.specs.Syntax as Syntax;
 ghost use Rattle.vx_types.specs.Typing.{type_in, Scope as Known};
-ghost use Rattle.vx_types.specs.Computed.{is_typed_stmt, is_typed_block, scope_after_stmt, same_type};
+ghost use Rattle.vx_types.specs.Computed.{is_typed_stmt, is_typed_block, scope_after_stmt};
 ghost use Rattle.vx_types.specs.Scopes.{known};
-ghost use Rattle.vx_types.specs.Statements.{onto, Adds, written_list, stmts, IsAssignment};
+ghost use Rattle.vx_types.specs.Statements.{other_written, onto, Adds, written_list, stmts, IsAssignment};
 
 use crate::assertions::assertion;
 use crate::expr::{expression, shared};
@@ -25,7 +25,7 @@ pub type Settled = Vec<Rc<resolved::Stmt>>;
 
 // A new variable's name isn't known yet.
 fn new_name(alloc: Global, scope: &Scope, name: &Name) -> Result<(), TypeFault>
-    ensures { OnOk result (type_in (name_of name.now) (known scope.now) ≡ Rattle.std.specs.Prelude.None) }
+    ensures { OnOk result (type_in (name_of name.now).name (known scope.now) ≡ Rattle.std.specs.Prelude.None) }
 {
     if scope.find(&name.text).is_some() {
         return Err(TypeFault::Twice(name.place, name.text.clone()?));
@@ -40,8 +40,8 @@ pub fn declare<'a>(
     declaration: &'a Declaration,
     assignable: bool,
 ) -> Result<(), TypeFault>
-    ensures fresh { OnOk result (type_in (name_of declaration.now.name) (known scope.old) ≡ Rattle.std.specs.Prelude.None) }
-    ensures declared { OnOk result (known scope.new ≡ known scope.old ++ record { name = name_of declaration.now.name; of = declaration.now.value_type } ∷ []) }
+    ensures fresh { OnOk result (type_in (name_of declaration.now.name).name (known scope.old) ≡ Rattle.std.specs.Prelude.None) }
+    ensures declared { OnOk result (known scope.new ≡ known scope.old ++ record { name = (name_of declaration.now.name).name; of = declaration.now.value_type } ∷ []) }
 {
     new_name(alloc, scope, &declaration.name)?;
     let variable = Variable {
@@ -54,7 +54,7 @@ pub fn declare<'a>(
 
 // The type of what is assigned.
 fn target(alloc: Global, scope: &Scope, name: &Name) -> Result<ValueType, TypeFault>
-    ensures { IfOk result (λ t. type_in (name_of name.now) (known scope.now) ≡ Some t) }
+    ensures { IfOk result (λ t. type_in (name_of name.now).name (known scope.now) ≡ Some t) }
 {
     match scope.find(&name.text) {
         None => Err(TypeFault::Unknown(name.place, name.text.clone()?)),
@@ -72,8 +72,8 @@ fn assignment(
     of: ValueType,
     right: &Right,
 ) -> Result<Rc<resolved::Stmt>, TypeFault>
-    requires { type_in (name_of name.now) (known scope.now) ≡ Some of }
-    ensures settled { IfOk result (λ s. (names : Names) → settled.stmt s.value ≡ resolve.assign names place (name_of name.now) (written_right right.now)) }
+    requires { type_in (name_of name.now).name (known scope.now) ≡ Some of }
+    ensures settled { IfOk result (λ s. (names : Names) → settled.stmt s.value ≡ resolve.assign names place (name_of name.now).name (written_right right.now)) }
     ensures typed { IfOk result (λ s. is_typed_stmt (known scope.now) (settled.stmt s.value) ≡ true) }
     ensures assigns { IfOk result (λ s. IsAssignment (settled.stmt s.value)) }
 {
@@ -114,9 +114,9 @@ fn declaration<'a>(
     declared: &'a Declaration,
     block: &mut Settled,
 ) -> Result<(), TypeFault>
-    ensures known { OnOk result (type_in (name_of declared.now.name) (known scope.new) ≡ Some declared.now.value_type) }
+    ensures known { OnOk result (type_in (name_of declared.now.name).name (known scope.new) ≡ Some declared.now.value_type) }
     ensures settled { OnOk result ((rest : Syntax.Block) → onto (stmts block.new.items) rest
-        ≡ onto (stmts block.old.items) (Syntax.Then (Syntax.Declare place (name_of declared.now.name) declared.now.value_type) rest)) }
+        ≡ onto (stmts block.old.items) (Syntax.Then (Syntax.Declare place (name_of declared.now.name).name declared.now.value_type) rest)) }
     ensures adds { OnOk result (Adds (stmts block.old.items) (stmts block.new.items) (known scope.old) (known scope.new)) }
 {
     declare(alloc, scope, declared, true)?;
@@ -146,7 +146,7 @@ fn declaration_with<'a>(
     block: &mut Settled,
 ) -> Result<(), TypeFault>
     ensures settled { OnOk result ((names : Names) (rest : Syntax.Block) → onto (stmts block.new.items) rest
-        ≡ onto (stmts block.old.items) (Syntax.Then (Syntax.Declare place (name_of declared.now.name) declared.now.value_type) (Syntax.Then (resolve.assign names place (name_of declared.now.name) (written_right right.now)) rest))) }
+        ≡ onto (stmts block.old.items) (Syntax.Then (Syntax.Declare place (name_of declared.now.name).name declared.now.value_type) (Syntax.Then (resolve.assign names place (name_of declared.now.name).name (written_right right.now)) rest))) }
     ensures adds { OnOk result (Adds (stmts block.old.items) (stmts block.new.items) (known scope.old) (known scope.new)) }
 {
     declaration(alloc, scope, place, declared, block)?;
@@ -154,6 +154,25 @@ fn declaration_with<'a>(
     let first = assignment(alloc, scope, place, &declared.name, of, right)?;
     add(block, first)?;
     Ok(())
+}
+
+// A variable's declaration, with its first value or none.
+fn declared_by<'a>(
+    alloc: Global,
+    scope: &mut Scope<'a>,
+    place: Place,
+    declared: &'a Declaration,
+    right: &Option<Right>,
+    block: &mut Settled,
+) -> Result<(), TypeFault>
+    ensures settled { OnOk result ((names : Names) (rest : Syntax.Block) → onto (stmts block.new.items) rest
+        ≡ onto (stmts block.old.items) (resolve.statement names (written.Declare place (written.written_declaration declared.now) (written.optional_right right.now)) rest)) }
+    ensures adds { OnOk result (Adds (stmts block.old.items) (stmts block.new.items) (known scope.old) (known scope.new)) }
+{
+    match right {
+        None => declaration(alloc, scope, place, declared, block),
+        Some(right) => declaration_with(alloc, scope, place, declared, right, block),
+    }
 }
 
 fn assigned(
@@ -165,7 +184,7 @@ fn assigned(
     block: &mut Settled,
 ) -> Result<(), TypeFault>
     ensures settled { OnOk result ((names : Names) (rest : Syntax.Block) → onto (stmts block.new.items) rest
-        ≡ onto (stmts block.old.items) (Syntax.Then (resolve.assign names place (name_of name.now) (written_right right.now)) rest)) }
+        ≡ onto (stmts block.old.items) (Syntax.Then (resolve.assign names place (name_of name.now).name (written_right right.now)) rest)) }
     ensures adds { OnOk result (Adds (stmts block.old.items) (stmts block.new.items) (known scope.now) (known scope.now)) }
 {
     let of = target(alloc, scope, name)?;
@@ -286,6 +305,23 @@ pub fn block<'a>(
     Ok(linked(alloc, done)?)
 }
 
+// The other side of an `if`: none is the empty block.
+#[cycle(typing)]
+fn other_block<'a>(
+    alloc: Global,
+    scope: &mut Scope<'a>,
+    other: &'a Option<Rc<vx_ast::Block>>,
+) -> Result<Rc<Block>, TypeFault>
+    ensures settled { IfOk result (λ r. (names : Names) → settled.block r.value ≡ resolve.other_side names (other_written other.now)) }
+    ensures typed { IfOk result (λ r. is_typed_block (known scope.old) (settled.block r.value) ≡ true) }
+    ensures scope { OnOk result (known scope.new ≡ known scope.old) }
+{
+    match other {
+        None => Ok(Rc::new(alloc, Block::Done)?),
+        Some(b) => block(alloc, scope, b),
+    }
+}
+
 // A statement, added to its block.
 #[cycle(typing)]
 fn statement<'a>(
@@ -300,9 +336,8 @@ fn statement<'a>(
 {
     let place = s.place;
     match &s.kind {
-        StmtKind::Declare(declared, None) => declaration(alloc, scope, place, declared, done),
-        StmtKind::Declare(declared, Some(right)) => {
-            declaration_with(alloc, scope, place, declared, right, done)
+        StmtKind::Declare(declared, right) => {
+            declared_by(alloc, scope, place, declared, right, done)
         }
         StmtKind::Assign(name, right) => assigned(alloc, scope, place, name, right, done),
         StmtKind::Inhale(e) => inhaled(alloc, scope, place, e, done),
@@ -312,7 +347,7 @@ fn statement<'a>(
         StmtKind::If(c, a, b) => {
             let c = condition(alloc, scope, c)?;
             let a = block(alloc, scope, a)?;
-            let b = block(alloc, scope, b)?;
+            let b = other_block(alloc, scope, b)?;
             put(alloc, done, resolved::Stmt::If(place, c, a, b))?;
             Ok(())
         }

@@ -1,9 +1,8 @@
 -- An assertion in which no permission stands, and no `&&` at its top, is its expression.
-use Rattle.std.proofs.Common.{◌≡◌, ◌∙◌, ◌++◌, ◌∷◌, [], List, ℕ, suc, ◌+◌, ◌<◌, length, get_or, drop, map, Bool, true, false, refl, sym, ap, add-one, append_assoc, drop-cons}
+use Rattle.std.proofs.Common.{◌≡◌, ◌∙◌, ◌++◌, ◌∷◌, [], List, map, Bool, true, false, refl, sym, ap, append_assoc}
 use Rattle.std.proofs.lemmas.List.{map-append}
 use Rattle.std.specs.declared.alloc.Global.{Global}
 use Rattle.std.specs.declared.rc.Rc.{Rc}
-use Rattle.vx_ast.specs.declared.Expr as expr'
 use Rattle.vx_ast.specs.declared.resolved.Assertion as assertion'
 use Rattle.vx_ast.specs.Resolved as resolved
 use Rattle.vx_ast.specs.Written.{written_expr, written_all}
@@ -11,12 +10,12 @@ use Rattle.std.proofs.lemmas.Bool.{and_from}
 use Rattle.std.proofs.lemmas.List.Recursion.{and_push}
 use Rattle.vx_types.specs.Typing.{Scope}
 use Rattle.vx_types.specs.Computed.{is_typed, are_typed}
-use Rattle.std.specs.Prelude.{◌&&◌, not, if◌then◌else◌}
+use Rattle.std.specs.Prelude.{not, if◌then◌else◌}
 use Rattle.vx_ast.specs.declared.BinaryOperator.TheVariants as binary
 use Rattle.vx_ast.specs.Written as written
 use Rattle.vx_ast.specs.Syntax.{Assertion, Pure, Instance, Implied, Chosen}
 use Rattle.vx_types.specs.Parts.{is_conjunction}
-use Rattle.vx_ast.specs.Resolve.{Names, is_pure, whole, expression, expressions, assertion, assertions}
+use Rattle.vx_ast.specs.Resolve.{Names, is_pure, whole, expression, expressions, assertion}
 
 pub alone : (names : Names) (e : written.Expr) → is_conjunction e ≡ false → is_pure names e ≡ true → Pure (expression e) ≡ assertion names e
 alone names (written.Number at n) c h = refl
@@ -57,24 +56,18 @@ alone names (written.Unfolding at i es share e) c h = refl
 pub are_typed-append : (scope : Scope) (as' : List Assertion) (a : Assertion) → are_typed scope as' ≡ true → is_typed scope a ≡ true → are_typed scope (as' ++ a ∷ []) ≡ true
 are_typed-append scope as' a h k = and_push (are_typed scope) (is_typed scope) refl (λ _ _. refl) as' a ∙ and_from _ _ h k
 
--- the clauses settled so far, and one more
-pub one_more : (names : Names) (done : List (Rc assertion'.Assertion Global)) (a : Rc assertion'.Assertion Global) (clauses : List (Rc expr'.Expr Global)) (k : ℕ) (item : Rc expr'.Expr Global) (whole : List Assertion)
-    → k < length clauses → item ≡ get_or clauses k item → resolved.assertion a.value ≡ assertion names (written_expr item.value)
-    → resolved.assertions done ++ assertions names (written_all (drop k clauses)) ≡ whole
-    → resolved.assertions (done ++ a ∷ []) ++ assertions names (written_all (drop (k + 1) clauses)) ≡ whole
-one_more names done a clauses k item whole lt is same kept =
-    let f = λ (x : Rc assertion'.Assertion Global). resolved.assertion x.value in
-    let next : drop k clauses ≡ item ∷ drop (suc k) clauses = drop-cons clauses k item lt ∙ ap (λ x. x ∷ drop (suc k) clauses) (sym is) in
-    let rest = assertions names (written_all (drop (suc k) clauses)) in
-    ap (λ n. resolved.assertions (done ++ a ∷ []) ++ assertions names (written_all (drop n clauses))) (add-one k)
+-- the assertions settled so far, and one more, in front of others
+pub one_behind : (done : List (Rc assertion'.Assertion Global)) (a : Rc assertion'.Assertion Global) (next : List (Rc assertion'.Assertion Global)) (x : Assertion) (rest : List Assertion)
+    → next ≡ done ++ a ∷ [] → resolved.assertion a.value ≡ x → resolved.assertions next ++ rest ≡ resolved.assertions done ++ x ∷ rest
+one_behind done a next x rest is same =
+    let f = λ (y : Rc assertion'.Assertion Global). resolved.assertion y.value in
+    ap (λ xs. map f xs ++ rest) is
     ∙ ap (λ xs. xs ++ rest) (map-append f done (a ∷ []))
     ∙ append_assoc (map f done) (f a ∷ []) rest
-    ∙ ap (λ x. map f done ++ x ∷ rest) same
-    ∙ ap (λ xs. map f done ++ assertions names (written_all xs)) (sym next)
-    ∙ kept
+    ∙ ap (λ y. map f done ++ y ∷ rest) same
 
-pub one_more_typed : (scope : Scope) (done : List (Rc assertion'.Assertion Global)) (a : Rc assertion'.Assertion Global)
-    → are_typed scope (resolved.assertions done) ≡ true → is_typed scope (resolved.assertion a.value) ≡ true → are_typed scope (resolved.assertions (done ++ a ∷ [])) ≡ true
-one_more_typed scope done a h k =
+pub one_typed : (scope : Scope) (done : List (Rc assertion'.Assertion Global)) (a : Rc assertion'.Assertion Global) (next : List (Rc assertion'.Assertion Global))
+    → next ≡ done ++ a ∷ [] → are_typed scope (resolved.assertions done) ≡ true → is_typed scope (resolved.assertion a.value) ≡ true → are_typed scope (resolved.assertions next) ≡ true
+one_typed scope done a next is h k =
     let f = λ (x : Rc assertion'.Assertion Global). resolved.assertion x.value in
-    ap (are_typed scope) (map-append f done (a ∷ [])) ∙ are_typed-append scope (map f done) (f a) h k
+    ap (λ xs. are_typed scope (map f xs)) is ∙ ap (are_typed scope) (map-append f done (a ∷ [])) ∙ are_typed-append scope (map f done) (f a) h k
