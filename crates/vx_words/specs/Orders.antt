@@ -5,7 +5,7 @@ use Rattle.clap.specs.Words.{Row, Text, first_of, fault_of, subcommand_of}
 use Rattle.vx_words.specs.Table.{vsil_app}
 use Rattle.vx_words.specs.Solvers.{parts_in}
 use Rattle.vx_words.specs.declared.order.Order.{Order}
-use Rattle.vx_words.specs.declared.order.Order.TheVariants.{Verify}
+use Rattle.vx_words.specs.declared.order.Order.TheVariants.{Verify, Check, Print}
 use Rattle.vx_words.specs.declared.order.WordsFault.{WordsFault}
 use Rattle.vx_words.specs.declared.order.WordsFault.TheVariants.{Usage, Want}
 
@@ -21,7 +21,10 @@ verify_in rows =
 
 -- the order of a subcommand, by its name and its matches
 abbrev pub order_from : Text → List Row → Option Order
-order_from name rows = if bytes_eq name (codes "verify") then verify_in rows else None
+order_from name rows =
+    if bytes_eq name (codes "verify") then verify_in rows
+    else (if bytes_eq name (codes "check") then Some (Check (first_of (codes "file") rows))
+    else (if bytes_eq name (codes "print") then Some (Print (first_of (codes "file") rows)) else None))
 
 -- what the words mean, if the table takes them
 abbrev pub order_of_words : List Text → Option Order

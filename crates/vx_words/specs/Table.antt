@@ -22,6 +22,10 @@ command name rules = (with_rules (new_app name) rules).top
 abbrev pub verify_shape : Shape
 verify_shape = command (codes "verify") (plain_rule (codes "file") ∷ option_rule (codes "solver") ∷ [])
 
+-- a command that takes a file, or none
+abbrev pub file_shape : Text → Shape
+file_shape name = command name (plain_rule (codes "file") ∷ [])
+
 -- the program: a command is wanted, and there is no help and no version
 abbrev pub top_app : App
 top_app = record (new_app (codes "vsil")) {
@@ -29,4 +33,4 @@ top_app = record (new_app (codes "vsil")) {
 }
 
 unfoldable pub vsil_app : App
-vsil_app = with_subcommand top_app verify_shape
+vsil_app = with_subcommand (with_subcommand (with_subcommand top_app verify_shape) (file_shape (codes "check"))) (file_shape (codes "print"))

@@ -11,6 +11,10 @@ use vx_ends::Parts;
 pub enum Order {
     /// Verify a file, or standard input where there is no name, by a solver: `builtin` alone is the companion.
     Verify { file: Option<Text>, solver: Parts },
+    /// Type a file, or standard input.
+    Check { file: Option<Text> },
+    /// Write the canonical text of a file, or of standard input.
+    Print { file: Option<Text> },
 }
 
 /// Why the words give no order.

@@ -40,8 +40,14 @@ pub fn order_of(alloc: Global, name: &str, matches: &ArgMatches) -> Result<Order
     ensures { ReadsAs (order_from name.now (rows_of (found_of matches.now))) result }
 {
     if name == "verify" {
-        verify_of(alloc, matches)
-    } else {
-        Err(WordsFault::Usage)
+        return verify_of(alloc, matches);
     }
+    let file = file_of(alloc, matches)?;
+    if name == "check" {
+        return Ok(Order::Check { file });
+    }
+    if name == "print" {
+        return Ok(Order::Print { file });
+    }
+    Err(WordsFault::Usage)
 }

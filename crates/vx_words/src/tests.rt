@@ -21,7 +21,10 @@ fn mean(
     parts: usize,
     last: &str,
 ) -> Result<(), Fail> {
-    let Order::Verify { file: name, solver } = order(alloc, all)??;
+    let Order::Verify { file: name, solver } = order(alloc, all)?? else {
+        assert!(rt; false);
+        return Ok(());
+    };
     assert_eq!(rt; name.as_ref().map(|n| n.as_str()), file);
     assert!(rt; parts > 0);
     assert_eq!(rt; solver.len(), parts);
@@ -66,6 +69,32 @@ fn a_file_and_a_solver_are_read(rt: HostRuntime) -> Result<(), Fail> {
     )
 }
 
+// The file that the words check.
+fn checked(order: &Order) -> Option<&str> {
+    match order {
+        Order::Check { file: Some(name) } => Some(name.as_str()),
+        _ => None,
+    }
+}
+
+// The file that the words print.
+fn printed(order: &Order) -> Option<&str> {
+    match order {
+        Order::Print { file: Some(name) } => Some(name.as_str()),
+        _ => None,
+    }
+}
+
+#[test]
+fn files_are_checked_and_printed(rt: HostRuntime) -> Result<(), Fail> {
+    let alloc = rt.alloc();
+    assert_eq!(rt; checked(&order(alloc, &["vsil", "check", "f"])??), Some("f"));
+    assert_eq!(rt; printed(&order(alloc, &["vsil", "print", "f"])??), Some("f"));
+    assert!(rt; matches!(order(alloc, &["vsil", "check"])??, Order::Check { file: None }));
+    assert!(rt; matches!(order(alloc, &["vsil", "print"])??, Order::Print { file: None }));
+    Ok(())
+}
+
 #[test]
 fn other_words_are_refused(rt: HostRuntime) -> Result<(), Fail> {
     let rows = [
@@ -77,8 +106,11 @@ fn other_words_are_refused(rt: HostRuntime) -> Result<(), Fail> {
         &["vsil", "verify", "--solver"],
         &["vsil", "verify", "--solver", " "],
         &["vsil", "verify", "--solver", "a", "--solver", "b"],
-        &["vsil", "check"],
-        &["vsil", "print", "f"],
+        &["vsil", "check", "a", "b"],
+        &["vsil", "check", "--solver", "a"],
+        &["vsil", "print", "a", "b"],
+        &["vsil", "print", "--solver", "a"],
+        &["vsil", "run"],
     ];
     for row in rows {
         match order(rt.alloc(), row)? {

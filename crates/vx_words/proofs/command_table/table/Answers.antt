@@ -6,4 +6,7 @@ use Rattle.vx_words.proofs.command_table.table.Goals as goal
 
 pub returns : goal.returns
 unfolding vsil_app
-returns c = IfOk-weaker c.with.result _ _ (λ m h. h ∙ ap₂ with_subcommand c.top.ensures c.in_ok-verify.ensures.0) c.with.ensures
+returns c =
+    let verifies = c.in_ok-verifies.ensures ∙ ap₂ with_subcommand c.top.ensures c.in_ok-verify.ensures.0 in
+    let checks = c.in_ok-checks.ensures ∙ ap₂ with_subcommand verifies c.in_ok-of_a_file.ensures.0 in
+    IfOk-weaker c.with-3.result _ _ (λ m h. h ∙ ap₂ with_subcommand checks c.in_ok-of_a_file-2.ensures.0) c.with-3.ensures
