@@ -7,7 +7,7 @@ use Rattle.vx_ast.specs.declared.UnaryOperator.TheVariants.{Not, Negate}
 use Rattle.vx_ast.specs.declared.BinaryOperator.{BinaryOperator}
 use Rattle.vx_ast.specs.declared.BinaryOperator.TheVariants.{Implies}
 use Rattle.vx_tokens.specs.Tokens.{Token, Kind, name, number, word, symbol}
-use Rattle.vx_ast.specs.Written.{Expr, Exprs, NoMore, Amount, All, Truth, Number, Null, Whole, Nothing, Variable, Call, Unary, Binary, Choice, Old, Access, Right, NewAll, New}
+use Rattle.vx_ast.specs.Written.{Placed, placed, Expr, Exprs, NoMore, Amount, All, Truth, Number, Null, Whole, Nothing, Variable, Call, Unary, Binary, Choice, Old, Access, Right, NewAll, New}
 use Rattle.vx_ast.specs.Written as written
 use Rattle.vx_grammar.specs.Grammar.{level_of, operator_of}
 use Rattle.vx_grammar.specs.Reading.{◌>>=◌, Read, Unexpected, Deeper, is_symbol, Part, Given, choice, implication, chain, rest_of_chain, behind_dot, arguments, access, holding, allocation, name_at, expect, enclosed, call_by, named_by, old_by, access_by, primary_by, dots_at, dotted_at, postfix_by, unary_by, unary_at, run, argument_turn, some_arguments, arguments_at, amount_by, amount_at, access_at, bare_by, instance_by, instance_at, begins_body, behind_in, unfolding_by, holding_at, name_turn, fields_at, allocation_by, allocation_at, operator_by, rest_by, rest_at, chain_at, implies_by, implied_by, implication_at, second_by, sides_by, chosen_by, choice_at, part_at, below}
@@ -103,13 +103,13 @@ postfix_local : (d d' : Deeper) (t : Token) (k : Kind) (ts : List Token) → t.k
 unfolding postfix_by primary_at
 postfix_local d d' t k ts e same h = local_from_first t ts (primary_by d t k ts) (primary_at d') (unary_at d') (λ x. dots_at d t.place x.0 x.1) (λ x. dots_at d' t.place x.0 x.1) same (primary_local d d' t k ts e h) (λ x mid. dots_local d d' t.place x mid h)
 
-bare_local : (d d' : Deeper) (x : List ℕ) (ts : List Token) → LocalDeeper d d' → Local ts (bare_by d x ts) (bare_by d' x)
+bare_local : (d d' : Deeper) (x : Placed) (ts : List Token) → LocalDeeper d d' → Local ts (bare_by d x ts) (bare_by d' x)
 unfolding bare_by
 bare_local d d' x ts h = local_then ts (enclosed d arguments ts) (enclosed d' arguments) _ _ (enclosed_local d d' arguments ts h) (λ es us. local_return us _)
 
 instance_by_local : (d d' : Deeper) (t : Token) (k : Kind) (ts : List Token) → t.kind ≡ k → LocalDeeper d d' → Local (t ∷ ts) (instance_by d t k ts) (instance_at d')
 unfolding instance_at
-instance_by_local d d' t (name x) ts e h = local_token t ts (bare_by d x ts) (bare_by d' x) (instance_at d') (λ l. rw e refl) (bare_local d d' x ts h)
+instance_by_local d d' t (name x) ts e h = local_token t ts (bare_by d (placed t.place x) ts) (bare_by d' (placed t.place x)) (instance_at d') (λ l. rw e refl) (bare_local d d' (placed t.place x) ts h)
 instance_by_local d d' t (word words.Acc) ts e h = local_token t ts (enclosed d holding ts) (enclosed d' holding) (instance_at d') (λ l. rw e refl) (enclosed_local d d' holding ts h)
 instance_by_local d d' t k ts e h = local_unexpected t ts (instance_at d') (λ more. rw e refl)
 
@@ -335,12 +335,12 @@ holding_local d d' ts h =
 
 -- ---- names, and the fields of `new`
 
-name_by_comma : (before : List (List ℕ)) (t : Token) (ts : List Token) (b : Bool) → is_symbol signs.Comma t.kind ≡ b → Local (t ∷ ts) (cond b (name_at ts >>= λ x. Ok (Some (before ++ x.0 ∷ []), x.1)) (Ok (None, t ∷ ts))) (name_turn before)
+name_by_comma : (before : List Placed) (t : Token) (ts : List Token) (b : Bool) → is_symbol signs.Comma t.kind ≡ b → Local (t ∷ ts) (cond b (name_at ts >>= λ x. Ok (Some (before ++ x.0 ∷ []), x.1)) (Ok (None, t ∷ ts))) (name_turn before)
 unfolding name_turn
 name_by_comma before t ts true e = local_token t ts (name_at ts >>= λ x. Ok (Some (before ++ x.0 ∷ []), x.1)) (λ l. name_at l >>= λ x. Ok (Some (before ++ x.0 ∷ []), x.1)) (name_turn before) (λ l. rw e refl) (local_then ts (name_at ts) name_at _ _ (name_local ts) (λ x us. local_return us _))
 name_by_comma before t ts false e = local_ok t ts None (name_turn before) (λ more. rw e refl)
 
-name_turn_local : (before : List (List ℕ)) (ts : List Token) → Local ts (name_turn before ts) (name_turn before)
+name_turn_local : (before : List Placed) (ts : List Token) → Local ts (name_turn before ts) (name_turn before)
 unfolding name_turn
 name_turn_local before [] = local_end None (name_turn before) refl
 name_turn_local before (t ∷ ts) = name_by_comma before t ts (is_symbol signs.Comma t.kind) refl
@@ -349,25 +349,25 @@ pub name_turns : Turns name_turn name_turn
 unfolding name_turn
 name_turns = record {
   local = name_turn_local;
-  short = λ s t ts mid e. taken_short (TurnFor (NameStep 0) s) 0 ts (Some t) mid (λ ms (p, q, x, v, z). rw z (omega arith)) (subst (Tells (TurnFor (NameStep 0) s) 0 ts) e (name_turn_tells 0 0 (omega arith) s ts));
+  short = λ s t ts mid e. taken_short (TurnFor (NameStep 0) s) 0 ts (Some t) mid (λ ms (p, x, v, z). rw z (omega arith)) (subst (Tells (TurnFor (NameStep 0) s) 0 ts) e (name_turn_tells 0 0 (omega arith) s ts));
   same = λ s ts mid e. taken_none (TurnFor (NameStep 0) s) 0 ts None mid (λ ms z. z) (subst (Tells (TurnFor (NameStep 0) s) 0 ts) e (name_turn_tells 0 0 (omega arith) s ts));
   empty = λ s. refl;
 }
 
-fields_local : (ts : List Token) → Local ts (fields_at ts) fields_at
+fields_local : (at : Place) (ts : List Token) → Local ts (fields_at at ts) (fields_at at)
 unfolding fields_at
-fields_local ts = local_then ts (name_at ts) name_at _ _ (name_local ts) (λ x us. local_then us (run name_turn (length us) (x ∷ []) us) (λ l. run name_turn (length l) (x ∷ []) l) _ _ (run_local name_turn name_turn name_turns (x ∷ []) us) (λ xs vs. local_return vs _))
+fields_local at ts = local_then ts (name_at ts) name_at _ _ (name_local ts) (λ x us. local_then us (run name_turn (length us) (x ∷ []) us) (λ l. run name_turn (length l) (x ∷ []) l) _ _ (run_local name_turn name_turn name_turns (x ∷ []) us) (λ xs vs. local_return vs _))
 
-allocation_by_local : (t : Token) (k : Kind) (ts : List Token) → t.kind ≡ k → Local (t ∷ ts) (allocation_by t k ts) allocation_at
+allocation_by_local : (at : Place) (t : Token) (k : Kind) (ts : List Token) → t.kind ≡ k → Local (t ∷ ts) (allocation_by at t k ts) (allocation_at at)
 unfolding allocation_at
-allocation_by_local t (symbol signs.Times) ts e = local_token t ts (Ok (NewAll, ts)) (λ l. Ok (NewAll, l)) allocation_at (λ l. rw e refl) (local_return ts NewAll)
-allocation_by_local t (symbol signs.Close) ts e = local_ok t ts (New []) allocation_at (λ more. rw e refl)
-allocation_by_local t k ts e = local_same t ts (fields_at (t ∷ ts)) fields_at allocation_at (λ l. rw e refl) (fields_local (t ∷ ts))
+allocation_by_local at t (symbol signs.Times) ts e = local_token t ts (Ok (NewAll at, ts)) (λ l. Ok (NewAll at, l)) (allocation_at at) (λ l. rw e refl) (local_return ts (NewAll at))
+allocation_by_local at t (symbol signs.Close) ts e = local_ok t ts (New at []) (allocation_at at) (λ more. rw e refl)
+allocation_by_local at t k ts e = local_same t ts (fields_at at (t ∷ ts)) (fields_at at) (allocation_at at) (λ l. rw e refl) (fields_local at (t ∷ ts))
 
-allocation_local : (ts : List Token) → Local ts (allocation_at ts) allocation_at
+allocation_local : (at : Place) (ts : List Token) → Local ts (allocation_at at ts) (allocation_at at)
 unfolding allocation_at
-allocation_local [] = local_end_unexpected allocation_at refl
-allocation_local (t ∷ ts) = allocation_by_local t t.kind ts refl
+allocation_local at [] = local_end_unexpected (allocation_at at) refl
+allocation_local at (t ∷ ts) = allocation_by_local at t t.kind ts refl
 
 part_local : (d d' : Deeper) (p : Part) (ts : List Token) → LocalDeeper d d' → Local ts (part_at d p ts) (part_at d' p)
 part_local d d' choice ts h = choice_local d d' ts h
@@ -378,7 +378,7 @@ part_local d d' (behind_dot start left) ts h = dotted_local d d' start left ts h
 part_local d d' arguments ts h = arguments_local d d' ts h
 part_local d d' access ts h = access_local d d' ts h
 part_local d d' holding ts h = holding_local d d' ts h
-part_local d d' allocation ts h = allocation_local ts
+part_local d d' (allocation at) ts h = allocation_local at ts
 
 -- with as much room, or more
 below_local : (room more : ℕ) → LocalDeeper (below room) (below (room + more))

@@ -1,5 +1,6 @@
 -- Reading names, and what nests between two signs, looks no further than the token at which it stops.
 use Rattle.std.proofs.Common.{◌≡◌, List, [], ◌∷◌, Ok, Err, refl, Bool, true, false, cond}
+use Rattle.vx_ast.specs.Written.{placed}
 use Rattle.vx_tokens.specs.declared.token.Symbol.{Symbol}
 use Rattle.vx_tokens.specs.Tokens.{Token, Kind, name, number, word, symbol}
 use Rattle.vx_grammar.specs.Reading.{◌>>=◌, Read, Unexpected, expect, is_symbol, name_by, name_at}
@@ -8,7 +9,7 @@ use Rattle.vx_grammar.proofs.Local.{Local, local_unexpected, local_end_unexpecte
 
 name_by_local : (t : Token) (k : Kind) (ts : List Token) → t.kind ≡ k → Local (t ∷ ts) (name_by t k ts) name_at
 unfolding name_at
-name_by_local t (name x) ts e = local_token t ts (Ok (x, ts)) (λ l. Ok (x, l)) name_at (λ l. rw e refl) (local_return ts x)
+name_by_local t (name x) ts e = local_token t ts (Ok (placed t.place x, ts)) (λ l. Ok (placed t.place x, l)) name_at (λ l. rw e refl) (local_return ts (placed t.place x))
 name_by_local t (number x) ts e = local_unexpected t ts name_at (λ more. rw e refl)
 name_by_local t (word x) ts e = local_unexpected t ts name_at (λ more. rw e refl)
 name_by_local t (symbol x) ts e = local_unexpected t ts name_at (λ more. rw e refl)

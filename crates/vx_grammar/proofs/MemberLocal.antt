@@ -1,5 +1,5 @@
 -- Reading members looks no further than the token at which it stops.
-use Rattle.std.proofs.Common.{◌≡◌, ℕ, ◌+◌, ◌-◌, ◌≤◌, List, [], ◌∷◌, ◌++◌, Some, None, Ok, Err, length, refl, sym, ap, subst, ◌∙◌, append_assoc, arith, Bool, true, false, cond, leb, inl, inr}
+use Rattle.std.proofs.Common.{◌≡◌, ℕ, ◌+◌, not, ◌&&◌, ◌-◌, ◌≤◌, List, [], ◌∷◌, ◌++◌, Some, None, Ok, Err, length, refl, sym, ap, subst, ◌∙◌, append_assoc, arith, Bool, true, false, cond, leb, inl, inr}
 use Rattle.std.proofs.lemmas.Bool.{leb-true, le-leb}
 use Rattle.vx_ast.specs.declared.Place.{Place}
 use Rattle.vx_ast.specs.Written.{Expr, Declaration, Member}
@@ -7,14 +7,14 @@ use Rattle.vx_tokens.specs.declared.token.Symbol.TheVariants as signs
 use Rattle.vx_tokens.specs.declared.token.Word.TheVariants as words
 use Rattle.vx_tokens.specs.Tokens.{Token, Kind, word}
 use Rattle.vx_grammar.specs.Grammar.{Mark}
-use Rattle.vx_grammar.specs.Reading.{◌>>=◌, Read, Unexpected, TooDeep, is_symbol, expect, choice, choice_at, below, name_at}
-use Rattle.vx_grammar.specs.StmtReading.{clause_at, type_at, declaration_at, block_at, stmts_below, skip_semicolon}
-use Rattle.vx_grammar.specs.MemberReading.{limit, stopped, bodiless, measured_twice, Halting, halting, Head, head_at, function_by, no_body_at, behind_head, function_at, Clauses, no_clauses, with_requires, with_ensures, with_measure, begins_requires, begins_ensures, is_due, begins_measure, clause_turn, clauses_at, begins_braces, braced_at, some_braced, given_at, predicate_at, some_block, body_at, method_at, field_at, member_by, member_at, declaration_turn, declarations_at, inner_parameters_at, parameters_at, begins_returns, returns_at}
+use Rattle.vx_grammar.specs.Reading.{◌>>=◌, Read, Unexpected, Measured, TooDeep, is_symbol, expect, choice, choice_at, below, name_at}
+use Rattle.vx_grammar.specs.StmtReading.{is_measure, clause_at, type_at, declaration_at, block_at, stmts_below, skip_semicolon}
+use Rattle.vx_grammar.specs.MemberReading.{limit, stopped, bodiless, measured_twice, Halting, halting, Head, head_at, function_by, no_body_at, behind_head, function_at, Clauses, no_clauses, with_requires, with_ensures, with_measure, begins_requires, begins_ensures, clause_turn, clauses_at, begins_braces, braced_at, some_braced, given_at, predicate_at, some_block, body_at, method_at, field_at, member_by, member_at, declaration_turn, declarations_at, inner_parameters_at, parameters_at, begins_returns, returns_at}
 use Rattle.vx_grammar.proofs.Tells.{Tells}
 use Rattle.vx_grammar.proofs.Steps.{TurnFor}
 use Rattle.vx_grammar.proofs.MemberTold.{DeclarationStep, turn_tells}
 use Rattle.vx_grammar.proofs.MethodTold.{ClauseStep, clause_turn_tells}
-use Rattle.vx_grammar.proofs.Local.{Local, Front, SameHead, same_behind, at_first, at_end, front_same, local_expect, local_ok, local_end, local_end_unexpected, local_return, local_token, local_then, local_same}
+use Rattle.vx_grammar.proofs.Local.{Local, Front, SameHead, same_behind, at_first, at_end, front_same, local_expect, local_ok, local_measured, local_end, local_end_unexpected, local_return, local_token, local_then, local_same}
 use Rattle.vx_grammar.proofs.RunLocal.{Turns, run_local, taken_short, taken_none}
 use Rattle.vx_grammar.proofs.LocalExpr.{reading_local, nested_local}
 use Rattle.vx_grammar.proofs.StmtLocal.{type_local, declaration_local, block_reading_local}
@@ -78,6 +78,7 @@ returns_local (t ∷ ts) = by_returns t ts (begins_returns t.kind) refl
 local_eq : {A : Type 0} (ts : List Token) (r : Read A) (reader other : List Token → Read A) → ((l : List Token) → other l ≡ reader l) → Local ts r reader → Local ts r other
 local_eq ts (Ok x) reader other h f = record { front = f.front; is = f.is; repeats = λ next same. h (f.front ++ next) ∙ f.repeats next same }
 local_eq ts (Err (Unexpected rest)) reader other h f = record { front = f.front; is = f.is; repeats = λ next same. h (f.front ++ next) ∙ f.repeats next same }
+local_eq ts (Err (Measured rest)) reader other h f = record { front = f.front; is = f.is; repeats = λ next same. h (f.front ++ next) ∙ f.repeats next same }
 local_eq ts (Err (TooDeep rest)) reader other h f = tt
 
 clause_by_local : (more before : ℕ) (here ts : List Token) (heres : List Token → List Token) (b : Bool) → leb before limit ≡ b → Local ts (cond b (choice_at (below (limit - before)) ts) (Err (TooDeep here))) (λ l. clause_at (limit + more) before (heres l) l)
@@ -105,18 +106,18 @@ skip_local v (t ∷ ts) = by_semicolon v t ts (is_symbol signs.Semicolon t.kind)
 one_local : (more before : ℕ) (make : Expr → Clauses) (here ts : List Token) (heres : List Token → List Token) → Local ts (clause_at limit before here ts >>= λ e. Ok (Some (make e.0), skip_semicolon e.1)) (λ l. clause_at (limit + more) before (heres l) l >>= λ e. Ok (Some (make e.0), skip_semicolon e.1))
 one_local more before make here ts heres = local_then ts (clause_at limit before here ts) (λ l. clause_at (limit + more) before (heres l) l) _ _ (clause_local more before here ts heres) (λ e us. skip_local (Some (make e)) us)
 
-by_clause : (more : ℕ) (may : Bool) (before : Clauses) (t : Token) (ts : List Token) (r k d : Bool) → begins_requires t.kind ≡ r → begins_ensures t.kind ≡ k → begins_measure (is_due may before.measure) t.kind ≡ d
-    → Local (t ∷ ts) (cond r (clause_at limit (length before.requires) (t ∷ ts) ts >>= λ e. Ok (Some (with_requires before e.0), skip_semicolon e.1)) (cond k (clause_at limit (length before.ensures) (t ∷ ts) ts >>= λ e. Ok (Some (with_ensures before e.0), skip_semicolon e.1)) (cond d (clause_at limit 0 (t ∷ ts) ts >>= λ e. Ok (Some (with_measure before e.0), skip_semicolon e.1)) (Ok (None, t ∷ ts))))) (clause_turn (limit + more) may before)
+by_clause : (more : ℕ) (may : Bool) (before : Clauses) (t : Token) (ts : List Token) (r k d : Bool) → begins_requires t.kind ≡ r → begins_ensures t.kind ≡ k → may && not before.measured && is_measure t.kind ≡ d
+    → Local (t ∷ ts) (cond r (clause_at limit before.requires (t ∷ ts) ts >>= λ e. Ok (Some (with_requires before e.0), skip_semicolon e.1)) (cond k (clause_at limit before.ensures (t ∷ ts) ts >>= λ e. Ok (Some (with_ensures before e.0), skip_semicolon e.1)) (cond d (clause_at limit 0 (t ∷ ts) ts >>= λ e. Ok (Some (with_measure before e.0), skip_semicolon e.1)) (Ok (None, t ∷ ts))))) (clause_turn (limit + more) may before)
 unfolding clause_turn
-by_clause more may before t ts true k d h g f = local_token t ts _ (λ l. clause_at (limit + more) (length before.requires) (t ∷ l) l >>= λ e. Ok (Some (with_requires before e.0), skip_semicolon e.1)) (clause_turn (limit + more) may before) (λ l. rw h refl) (one_local more (length before.requires) (with_requires before) (t ∷ ts) ts (λ l. t ∷ l))
-by_clause more may before t ts false true d h g f = local_token t ts _ (λ l. clause_at (limit + more) (length before.ensures) (t ∷ l) l >>= λ e. Ok (Some (with_ensures before e.0), skip_semicolon e.1)) (clause_turn (limit + more) may before) (λ l. rw (h, g) refl) (one_local more (length before.ensures) (with_ensures before) (t ∷ ts) ts (λ l. t ∷ l))
+by_clause more may before t ts true k d h g f = local_token t ts _ (λ l. clause_at (limit + more) before.requires (t ∷ l) l >>= λ e. Ok (Some (with_requires before e.0), skip_semicolon e.1)) (clause_turn (limit + more) may before) (λ l. rw h refl) (one_local more before.requires (with_requires before) (t ∷ ts) ts (λ l. t ∷ l))
+by_clause more may before t ts false true d h g f = local_token t ts _ (λ l. clause_at (limit + more) before.ensures (t ∷ l) l >>= λ e. Ok (Some (with_ensures before e.0), skip_semicolon e.1)) (clause_turn (limit + more) may before) (λ l. rw (h, g) refl) (one_local more before.ensures (with_ensures before) (t ∷ ts) ts (λ l. t ∷ l))
 by_clause more may before t ts false false true h g f = local_token t ts _ (λ l. clause_at (limit + more) 0 (t ∷ l) l >>= λ e. Ok (Some (with_measure before e.0), skip_semicolon e.1)) (clause_turn (limit + more) may before) (λ l. rw (h, g, f) refl) (one_local more 0 (with_measure before) (t ∷ ts) ts (λ l. t ∷ l))
 by_clause more may before t ts false false false h g f = local_ok t ts None (clause_turn (limit + more) may before) (λ l. rw (h, g, f) refl)
 
 clause_turn_local : (more : ℕ) (may : Bool) (before : Clauses) (ts : List Token) → Local ts (clause_turn limit may before ts) (clause_turn (limit + more) may before)
 unfolding clause_turn
 clause_turn_local more may before [] = local_end None (clause_turn (limit + more) may before) refl
-clause_turn_local more may before (t ∷ ts) = by_clause more may before t ts (begins_requires t.kind) (begins_ensures t.kind) (begins_measure (is_due may before.measure) t.kind) refl refl refl
+clause_turn_local more may before (t ∷ ts) = by_clause more may before t ts (begins_requires t.kind) (begins_ensures t.kind) (may && not before.measured && is_measure t.kind) refl refl refl
 
 clause_long : (may : Bool) (s t : Clauses) (ms : List Mark) → ClauseStep may s t ms → 1 ≤ length ms
 clause_long may s t ms (inl c) = rw c.spelled (omega arith)
@@ -160,15 +161,16 @@ unfolding given_at
 given_local more [] = local_end None (given_at (limit + more)) refl
 given_local more (t ∷ ts) = given_by_local more t ts (is_symbol signs.OpenBrace t.kind) refl
 
-body_by_local : (more : ℕ) (t : Token) (ts : List Token) (b : Bool) → is_symbol signs.OpenBrace t.kind ≡ b → Local (t ∷ ts) (cond b (some_block limit (t ∷ ts)) (Ok (None, t ∷ ts))) (body_at (limit + more))
+body_by_local : (more : ℕ) (t : Token) (ts : List Token) (b d : Bool) → is_symbol signs.OpenBrace t.kind ≡ b → is_measure t.kind ≡ d → Local (t ∷ ts) (cond b (some_block limit (t ∷ ts)) (cond d (Err (Measured (t ∷ ts))) (Ok (None, t ∷ ts)))) (body_at (limit + more))
 unfolding body_at
-body_by_local more t ts true e = local_same t ts (some_block limit (t ∷ ts)) (some_block (limit + more)) (body_at (limit + more)) (λ l. rw e refl) (some_block_local more (t ∷ ts))
-body_by_local more t ts false e = local_ok t ts None (body_at (limit + more)) (λ l. rw e refl)
+body_by_local more t ts true d e f = local_same t ts (some_block limit (t ∷ ts)) (some_block (limit + more)) (body_at (limit + more)) (λ l. rw e refl) (some_block_local more (t ∷ ts))
+body_by_local more t ts false true e f = local_measured t ts (body_at (limit + more)) (λ l. rw (e, f) refl)
+body_by_local more t ts false false e f = local_ok t ts None (body_at (limit + more)) (λ l. rw (e, f) refl)
 
 body_local : (more : ℕ) (ts : List Token) → Local ts (body_at limit ts) (body_at (limit + more))
 unfolding body_at
 body_local more [] = local_end None (body_at (limit + more)) refl
-body_local more (t ∷ ts) = body_by_local more t ts (is_symbol signs.OpenBrace t.kind) refl
+body_local more (t ∷ ts) = body_by_local more t ts (is_symbol signs.OpenBrace t.kind) (is_measure t.kind) refl refl
 
 -- ---- predicates and methods
 
@@ -194,6 +196,7 @@ method_local more place ts =
 abbrev pub HaltingLocal : {A : Type 0} → List Token → Halting A → (List Token → Halting A) → Type 0
 HaltingLocal ts (Ok x) reader = Front ts x.1 (λ l. Ok (x.0, l)) reader
 HaltingLocal ts (Err (stopped (Unexpected rest))) reader = Front ts rest (λ l. Err (stopped (Unexpected l))) reader
+HaltingLocal ts (Err (stopped (Measured rest))) reader = Front ts rest (λ l. Err (stopped (Measured l))) reader
 HaltingLocal ts (Err (stopped (TooDeep rest))) reader = Unit {0}
 HaltingLocal ts (Err (bodiless rest)) reader = Front ts rest (λ l. Err (bodiless l)) reader
 HaltingLocal ts (Err (measured_twice rest)) reader = Front ts rest (λ l. Err (measured_twice l)) reader
@@ -201,11 +204,13 @@ HaltingLocal ts (Err (measured_twice rest)) reader = Front ts rest (λ l. Err (m
 halting_local : {A : Type 0} (ts : List Token) (r : Read A) (reader : List Token → Read A) → Local ts r reader → HaltingLocal ts (halting r) (λ l. halting (reader l))
 halting_local ts (Ok x) reader f = record { front = f.front; is = f.is; repeats = λ next same. ap halting (f.repeats next same) }
 halting_local ts (Err (Unexpected rest)) reader f = record { front = f.front; is = f.is; repeats = λ next same. ap halting (f.repeats next same) }
+halting_local ts (Err (Measured rest)) reader f = record { front = f.front; is = f.is; repeats = λ next same. ap halting (f.repeats next same) }
 halting_local ts (Err (TooDeep rest)) reader f = tt
 
 halting_same : {A : Type 0} (t : Token) (ts : List Token) (r : Halting A) (reader other : List Token → Halting A) → ((l : List Token) → reader (t ∷ l) ≡ other (t ∷ l)) → HaltingLocal (t ∷ ts) r reader → HaltingLocal (t ∷ ts) r other
 halting_same t ts (Ok x) reader other h f = front_same t ts x.1 (λ l. Ok (x.0, l)) reader other h f
 halting_same t ts (Err (stopped (Unexpected rest))) reader other h f = front_same t ts rest (λ l. Err (stopped (Unexpected l))) reader other h f
+halting_same t ts (Err (stopped (Measured rest))) reader other h f = front_same t ts rest (λ l. Err (stopped (Measured l))) reader other h f
 halting_same t ts (Err (stopped (TooDeep rest))) reader other h f = tt
 halting_same t ts (Err (bodiless rest)) reader other h f = front_same t ts rest (λ l. Err (bodiless l)) reader other h f
 halting_same t ts (Err (measured_twice rest)) reader other h f = front_same t ts rest (λ l. Err (measured_twice l)) reader other h f
@@ -229,14 +234,14 @@ function_by_local more place h ts = local_then ts (braced_at limit ts) (braced_a
 body_of : ℕ → Place → Head → List Token → Halting Member
 body_of deep place h ts = cond (begins_braces ts) (halting (function_by deep place h ts)) (Err (no_body_at ts))
 
-no_body_local : (t : Token) (ts : List Token) (reader : List Token → Halting Member) (b : Bool) → begins_measure true t.kind ≡ b → ((l : List Token) → reader (t ∷ l) ≡ Err (no_body_at (t ∷ l))) → HaltingLocal (t ∷ ts) (Err (cond b (measured_twice (t ∷ ts)) (bodiless (t ∷ ts)))) reader
+no_body_local : (t : Token) (ts : List Token) (reader : List Token → Halting Member) (b : Bool) → is_measure t.kind ≡ b → ((l : List Token) → reader (t ∷ l) ≡ Err (no_body_at (t ∷ l))) → HaltingLocal (t ∷ ts) (Err (cond b (measured_twice (t ∷ ts)) (bodiless (t ∷ ts)))) reader
 no_body_local t ts reader true e h = record { front = []; is = refl; repeats = at_first t ts reader (λ l. Err (measured_twice l)) (λ l. h l ∙ rw e refl) }
 no_body_local t ts reader false e h = record { front = []; is = refl; repeats = at_first t ts reader (λ l. Err (bodiless l)) (λ l. h l ∙ rw e refl) }
 
 body_by_local' : (more : ℕ) (place : Place) (h : Head) (t : Token) (ts : List Token) (b : Bool) → is_symbol signs.OpenBrace t.kind ≡ b → HaltingLocal (t ∷ ts) (cond b (halting (function_by limit place h (t ∷ ts))) (Err (no_body_at (t ∷ ts)))) (body_of (limit + more) place h)
 unfolding body_of
 body_by_local' more place h t ts true e = halting_same t ts (halting (function_by limit place h (t ∷ ts))) (λ l. halting (function_by (limit + more) place h l)) (body_of (limit + more) place h) (λ l. rw e refl) (halting_local (t ∷ ts) (function_by limit place h (t ∷ ts)) (function_by (limit + more) place h) (function_by_local more place h (t ∷ ts)))
-body_by_local' more place h t ts false e = no_body_local t ts (body_of (limit + more) place h) (begins_measure true t.kind) refl (λ l. rw e refl)
+body_by_local' more place h t ts false e = no_body_local t ts (body_of (limit + more) place h) (is_measure t.kind) refl (λ l. rw e refl)
 
 body_of_local : (more : ℕ) (place : Place) (h : Head) (ts : List Token) → HaltingLocal ts (body_of limit place h ts) (body_of (limit + more) place h)
 unfolding body_of
@@ -258,6 +263,7 @@ behind_front place more ts h mid rest answer f g = record {
 behind_by : (place : Place) (more : ℕ) (ts : List Token) (h : Head) (mid : List Token) (r : Halting Member) → Front ts mid (λ l. Ok (h, l)) (head_at (limit + more)) → HaltingLocal mid r (body_of (limit + more) place h) → HaltingLocal ts r (function_at (limit + more) place)
 behind_by place more ts h mid (Ok x) f g = behind_front place more ts h mid x.1 (λ l. Ok (x.0, l)) f g
 behind_by place more ts h mid (Err (stopped (Unexpected rest))) f g = behind_front place more ts h mid rest (λ l. Err (stopped (Unexpected l))) f g
+behind_by place more ts h mid (Err (stopped (Measured rest))) f g = behind_front place more ts h mid rest (λ l. Err (stopped (Measured l))) f g
 behind_by place more ts h mid (Err (stopped (TooDeep rest))) f g = tt
 behind_by place more ts h mid (Err (bodiless rest)) f g = behind_front place more ts h mid rest (λ l. Err (bodiless l)) f g
 behind_by place more ts h mid (Err (measured_twice rest)) f g = behind_front place more ts h mid rest (λ l. Err (measured_twice l)) f g
@@ -266,6 +272,7 @@ function_by_head : (place : Place) (more : ℕ) (ts : List Token) (r : Read Head
 unfolding function_at body_of
 function_by_head place more ts (Ok h) f = behind_by place more ts h.0 h.1 (body_of limit place h.0 h.1) f (body_of_local more place h.0 h.1)
 function_by_head place more ts (Err (Unexpected rest)) f = record { front = f.front; is = f.is; repeats = λ next same. ap (behind_head (limit + more) place) (f.repeats next same) }
+function_by_head place more ts (Err (Measured rest)) f = record { front = f.front; is = f.is; repeats = λ next same. ap (behind_head (limit + more) place) (f.repeats next same) }
 function_by_head place more ts (Err (TooDeep rest)) f = tt
 
 function_local : (more : ℕ) (place : Place) (ts : List Token) → HaltingLocal ts (function_at limit place ts) (function_at (limit + more) place)

@@ -6,7 +6,7 @@ use Rattle.vx_ast.specs.Written.{Member, Program}
 use Rattle.vx_tokens.specs.Tokens.{Token}
 use Rattle.vx_grammar.specs.Grammar.{Mark, tokens_of}
 use Rattle.vx_grammar.specs.Programs.{ProgramPhrase, program_meant, program_marks, StandsProgram}
-use Rattle.vx_grammar.specs.Reading.{Read, Unexpected, TooDeep}
+use Rattle.vx_grammar.specs.Reading.{Read, Unexpected, Measured, TooDeep}
 use Rattle.vx_grammar.specs.StmtReading.{skip_semicolon}
 use Rattle.vx_grammar.specs.MemberReading.{MemberStop, stopped, bodiless, measured_twice, Halting, Halt, inside, no_body, second_measure, no_member, too_many, halt_of, begins_member, then_members, members_by, members_within, member_at, limit, max_members}
 use Rattle.vx_grammar.specs.Laws.{Within}
@@ -70,6 +70,7 @@ pub record HaltFront (x y : ℕ) (before : List Member) (ts rest : List Token) (
 
 abbrev pub HaltLocal : (x y : ℕ) → List Member → List Token → Result Program Halt → Type 0
 HaltLocal x y before ts (Err (inside (Unexpected rest))) = HaltFront x y before ts rest (λ l. Err (inside (Unexpected l)))
+HaltLocal x y before ts (Err (inside (Measured rest))) = HaltFront x y before ts rest (λ l. Err (inside (Measured l)))
 HaltLocal x y before ts (Err (no_body rest)) = HaltFront x y before ts rest (λ l. Err (no_body l))
 HaltLocal x y before ts (Err (second_measure rest)) = HaltFront x y before ts rest (λ l. Err (second_measure l))
 HaltLocal x y before ts (Err (no_member rest)) = HaltFront x y before ts rest (λ l. Err (no_member l))
@@ -133,6 +134,7 @@ behind_local x y before t ts m mid rest answer e few f s g = record {
 on_local : (x y : ℕ) (before : List Member) (t : Token) (ts : List Token) (m : Member) (mid : List Token) (r : Result Program Halt) → begins_member t.kind ≡ true → length before < max_members
     → Front ts mid (λ l. Ok (m, l)) (member_at (limit + x) t) → HaltLocal x y (before ++ m ∷ []) (skip_semicolon mid) r → HaltLocal x y before (t ∷ ts) r
 on_local x y before t ts m mid (Err (inside (Unexpected rest))) e few f g = behind_local x y before t ts m mid rest _ e few f (skip_local m mid) g
+on_local x y before t ts m mid (Err (inside (Measured rest))) e few f g = behind_local x y before t ts m mid rest _ e few f (skip_local m mid) g
 on_local x y before t ts m mid (Err (no_body rest)) e few f g = behind_local x y before t ts m mid rest _ e few f (skip_local m mid) g
 on_local x y before t ts m mid (Err (second_measure rest)) e few f g = behind_local x y before t ts m mid rest _ e few f (skip_local m mid) g
 on_local x y before t ts m mid (Err (no_member rest)) e few f g = behind_local x y before t ts m mid rest _ e few f (skip_local m mid) g
@@ -147,6 +149,7 @@ method_by_local x y before t ts (Ok (m, mid)) go e few f h =
     let k = ap length f.is in
     on_local x y before t ts m mid (go m mid) e few f (h m mid (omega (arith, n, k)))
 method_by_local x y before t ts (Err (stopped (Unexpected rest))) go e few f h = inside_local x y before t ts rest (λ l. stopped (Unexpected l)) e few f
+method_by_local x y before t ts (Err (stopped (Measured rest))) go e few f h = inside_local x y before t ts rest (λ l. stopped (Measured l)) e few f
 method_by_local x y before t ts (Err (bodiless rest)) go e few f h = inside_local x y before t ts rest (λ l. bodiless l) e few f
 method_by_local x y before t ts (Err (measured_twice rest)) go e few f h = inside_local x y before t ts rest (λ l. measured_twice l) e few f
 method_by_local x y before t ts (Err (stopped (TooDeep rest))) go e few f h = tt
@@ -200,6 +203,7 @@ none_fits front (t ∷ rest) ts stop f is = λ p more s.
 
 stops : (ts : List Token) (r : Result Program Halt) → ((x y : ℕ) → HaltLocal x y [] ts r) → ProgramSays ts r → StopsAtFirst ts r
 stops ts (Err (inside (Unexpected rest))) f (front, fits) = record { front = front; fits = fits; none = none_fits (tokens_of front) rest ts (λ l. inside (Unexpected l)) f fits.tokens }
+stops ts (Err (inside (Measured rest))) f (front, fits) = record { front = front; fits = fits; none = none_fits (tokens_of front) rest ts (λ l. inside (Measured l)) f fits.tokens }
 stops ts (Err (no_body rest)) f ((front, fits), due) = record { front = front; fits = fits; none = none_fits (tokens_of front) rest ts (λ l. no_body l) f fits.tokens }
 stops ts (Err (second_measure rest)) f ((front, fits), due) = record { front = front; fits = fits; none = none_fits (tokens_of front) rest ts (λ l. second_measure l) f fits.tokens }
 stops ts (Err (no_member rest)) f (front, fits) = record { front = front; fits = fits; none = none_fits (tokens_of front) rest ts (λ l. no_member l) f fits.tokens }

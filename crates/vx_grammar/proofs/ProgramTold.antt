@@ -9,7 +9,7 @@ use Rattle.vx_tokens.specs.Tokens.{Token, Kind, word}
 use Rattle.vx_grammar.specs.Grammar.{Mark, mark, tokens_of}
 use Rattle.vx_grammar.specs.Statements.{semi_marks}
 use Rattle.vx_grammar.specs.Programs.{head_marks, MemberPhrase, a_field, a_predicate, a_function, a_method, member_meant, StandsMember, member_marks, ProgramPhrase, no_members, member, program_meant, StandsProgram, program_marks}
-use Rattle.vx_grammar.specs.Reading.{Read, Unexpected, TooDeep}
+use Rattle.vx_grammar.specs.Reading.{Read, Unexpected, Measured, TooDeep}
 use Rattle.vx_grammar.specs.StmtReading.{skip_semicolon, declaration_at}
 use Rattle.vx_grammar.specs.MemberReading.{stopped, bodiless, measured_twice, Halting, halting, predicate_at, method_at, Halt, no_member, too_many, begins_member, then_members, members_by, members_within, field_at, member_by, member_at, limit, max_members}
 use Rattle.vx_grammar.specs.Laws.{Within}
@@ -194,6 +194,7 @@ says_stop : (all : List Token) (before : List Member) (ms : List Mark) (ts : Lis
     → SaysBehind all before ms ts (then_members r go)
 says_stop all before ms ts (Ok (m, rest)) go h wants k f takes few = k m rest h.marks h.spelled h.takes f takes few
 says_stop all before ms ts (Err (stopped (Unexpected rest))) go h wants k f takes few = unfit_behind all before ms ts rest h f takes
+says_stop all before ms ts (Err (stopped (Measured rest))) go h wants k f takes few = unfit_behind all before ms ts rest h f takes
 says_stop all before ms ts (Err (bodiless rest)) go h wants k f takes few = (unfit_behind all before ms ts rest h f takes, body_behind_members all before ms ts rest (wants rest (inl refl)) f takes)
 says_stop all before ms ts (Err (measured_twice rest)) go h wants k f takes few = (unfit_behind all before ms ts rest h f takes, body_behind_members all before ms ts rest (wants rest (inr refl)) f takes)
 says_stop all before ms ts (Err (stopped (TooDeep rest))) go h wants k f takes few =

@@ -5,7 +5,7 @@ use Rattle.vx_ast.specs.declared.Place.{Place}
 use Rattle.vx_tokens.specs.declared.token.Symbol.TheVariants as signs
 use Rattle.vx_tokens.specs.Tokens.{Token, Kind, symbol}
 use Rattle.vx_grammar.specs.Grammar.{Mark, mark, tokens_of}
-use Rattle.vx_grammar.specs.Reading.{◌>>=◌, Read, Unexpected, TooDeep, is_symbol}
+use Rattle.vx_grammar.specs.Reading.{◌>>=◌, Read, Stop, Unexpected, Measured, TooDeep, is_symbol}
 use Rattle.vx_grammar.proofs.Lists.{tokens-append}
 use Rattle.vx_grammar.proofs.Symbols.{is_symbol_true}
 use Rattle.vx_grammar.proofs.Tells.{Grammar, Tells, After, tells_behind, tells_then, tells_here}
@@ -155,6 +155,7 @@ pub record RowFront {A : Type 0} (begins : Kind → Bool) (item : List Token →
 abbrev pub LocalRows : {A : Type 0} → (Kind → Bool) → (List Token → Read A) → List Token → Read (List A) → Type 0
 LocalRows begins item ts (Ok x) = RowFront begins item ts x.1 (λ l. Ok (x.0, l))
 LocalRows begins item ts (Err (Unexpected rest)) = RowFront begins item ts rest (λ l. Err (Unexpected l))
+LocalRows begins item ts (Err (Measured rest)) = RowFront begins item ts rest (λ l. Err (Measured l))
 LocalRows begins item ts (Err (TooDeep rest)) = Unit {0}
 
 rows_empty : {A : Type 0} (begins : Kind → Bool) (item : List Token → Read A) (most : ℕ) → rows begins item most [] ≡ Ok ([], [])
@@ -195,12 +196,12 @@ rows_step : {A : Type 0} (begins : Kind → Bool) (item : List Token → Read A)
 unfolding rows
 rows_step begins item t l most r f e q le = rw (f.is, e, ← f.is, q) refl
 
-local_stops : {A : Type 0} (begins : Kind → Bool) (item : List Token → Read A) (t : Token) (ts rest : List Token) → begins t.kind ≡ true → Front (t ∷ ts) rest (λ l. Err (Unexpected l)) item → LocalRows begins item (t ∷ ts) (Err (Unexpected rest))
-local_stops begins item t ts rest e f = record { front = f.front; is = f.is; repeats = stops }
+local_stops : {A : Type 0} (begins : Kind → Bool) (item : List Token → Read A) (stop : List Token → Stop) (t : Token) (ts rest : List Token) → begins t.kind ≡ true → Front (t ∷ ts) rest (λ l. Err (stop l)) item → RowFront begins item (t ∷ ts) rest (λ l. Err (stop l))
+local_stops begins item stop t ts rest e f = record { front = f.front; is = f.is; repeats = stops }
   where
-    stops : (next : List Token) → SameHead rest next → (most : ℕ) → length (f.front ++ next) ≤ most → rows begins item most (f.front ++ next) ≡ Err (Unexpected next)
+    stops : (next : List Token) → SameHead rest next → (most : ℕ) → length (f.front ++ next) ≤ most → rows begins item most (f.front ++ next) ≡ Err (stop next)
     stops next same zero le = let s = same_first t ts f.front rest next f.is same in let n = ap length s.is in absurd (omega (arith, le, n))
-    stops next same (suc most) le = rows_step begins item t (f.front ++ next) most (Err (Unexpected next)) (same_first t ts f.front rest next f.is same) e (f.repeats next same) le
+    stops next same (suc most) le = rows_step begins item t (f.front ++ next) most (Err (stop next)) (same_first t ts f.front rest next f.is same) e (f.repeats next same) le
 
 -- an item, and what is between it and the others
 record Between (mid skipped : List Token) : Type 0 where
@@ -264,6 +265,7 @@ more_front begins item t ts x mid rest answer e lt f g = record {
 local_more : {A : Type 0} (begins : Kind → Bool) (item : List Token → Read A) (t : Token) (ts : List Token) (x : A) (mid : List Token) (r : Read (List A)) → begins t.kind ≡ true → length mid < length (t ∷ ts) → Front (t ∷ ts) mid (λ l. Ok (x, l)) item → LocalRows begins item (skip mid) r → LocalRows begins item (t ∷ ts) (r >>= λ xs. Ok (x ∷ xs.0, xs.1))
 local_more begins item t ts x mid (Ok xs) e lt f g = more_front begins item t ts x mid xs.1 (λ l. Ok (xs.0, l)) e lt f g
 local_more begins item t ts x mid (Err (Unexpected rest)) e lt f g = more_front begins item t ts x mid rest (λ l. Err (Unexpected l)) e lt f g
+local_more begins item t ts x mid (Err (Measured rest)) e lt f g = more_front begins item t ts x mid rest (λ l. Err (Measured l)) e lt f g
 local_more begins item t ts x mid (Err (TooDeep rest)) e lt f g = tt
 
 skip_short : (ts : List Token) → length (skip ts) ≤ length ts
@@ -280,7 +282,8 @@ local_item begins item t ts (Ok x) go e f lt h =
     let k = lt x.0 x.1 refl in
     let s = skip_short x.1 in
     local_more begins item t ts x.0 x.1 (go (skip x.1)) e k f (h (skip x.1) (omega (arith, k, s)))
-local_item begins item t ts (Err (Unexpected rest)) go e f lt h = local_stops begins item t ts rest e f
+local_item begins item t ts (Err (Unexpected rest)) go e f lt h = local_stops begins item Unexpected t ts rest e f
+local_item begins item t ts (Err (Measured rest)) go e f lt h = local_stops begins item Measured t ts rest e f
 local_item begins item t ts (Err (TooDeep rest)) go e f lt h = tt
 
 -- reading items by one reader is repeated by the other, for as many items as there may be

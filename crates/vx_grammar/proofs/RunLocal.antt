@@ -2,7 +2,7 @@
 use Rattle.std.proofs.Common.{◌≡◌, ℕ, zero, suc, ◌+◌, ◌≤◌, ◌<◌, List, [], ◌∷◌, ◌++◌, Option, Some, None, Ok, Err, length, refl, sym, ap, subst, ◌∙◌, append_assoc, arith, length-append}
 use Rattle.std.proofs.lemmas.List.{append_cancel_right, length-map}
 use Rattle.vx_tokens.specs.Tokens.{Token}
-use Rattle.vx_grammar.specs.Reading.{◌>>=◌, Read, Unexpected, TooDeep, Turn, run, turned}
+use Rattle.vx_grammar.specs.Reading.{◌>>=◌, Read, Stop, Unexpected, Measured, TooDeep, Turn, run, turned}
 use Rattle.vx_grammar.specs.Grammar.{Mark, tokens_of}
 use Rattle.vx_grammar.proofs.Tells.{Grammar, TellsOk}
 use Rattle.vx_grammar.proofs.Local.{Local, Front, SameHead, same_behind}
@@ -16,6 +16,7 @@ pub record RunFront {S : Type 0} (turn : Turn S) (s : S) (ts rest : List Token) 
 abbrev pub LocalRun : {S : Type 0} → Turn S → S → List Token → Read S → Type 0
 LocalRun turn s ts (Ok x) = RunFront turn s ts x.1 (λ l. Ok (x.0, l))
 LocalRun turn s ts (Err (Unexpected rest)) = RunFront turn s ts rest (λ l. Err (Unexpected l))
+LocalRun turn s ts (Err (Measured rest)) = RunFront turn s ts rest (λ l. Err (Measured l))
 LocalRun turn s ts (Err (TooDeep rest)) = Unit {0}
 
 -- a turn that is repeated by another, takes a token at least where it goes on, and none where it does not
@@ -48,17 +49,17 @@ over_run turn other s ts f = record { front = []; is = refl; repeats = again }
         let read : other s next ≡ Ok (None, next) = subst (λ l. other s (l ++ next) ≡ Ok (None, next)) none (f.repeats next same) in
         rw read refl
 
-stop_run : {S : Type 0} (turn other : Turn S) → Turns turn other → (s : S) (ts rest : List Token) → Front ts rest (λ l. Err (Unexpected l)) (other s) → LocalRun other s ts (Err (Unexpected rest))
+stop_run : {S : Type 0} (turn other : Turn S) → Turns turn other → (stop : List Token → Stop) (s : S) (ts rest : List Token) → Front ts rest (λ l. Err (stop l)) (other s) → RunFront other s ts rest (λ l. Err (stop l))
 unfolding run
-stop_run turn other h s ts rest f = record { front = f.front; is = f.is; repeats = again }
+stop_run turn other h stop s ts rest f = record { front = f.front; is = f.is; repeats = again }
   where
     no_tokens : (l : List Token) → length l ≤ 0 → l ≡ []
     no_tokens [] le = refl
     no_tokens (t ∷ l) le = absurd (omega (arith, le))
 
-    again : (next : List Token) → SameHead rest next → (most : ℕ) → length (f.front ++ next) ≤ most → run other most s (f.front ++ next) ≡ Err (Unexpected next)
+    again : (next : List Token) → SameHead rest next → (most : ℕ) → length (f.front ++ next) ≤ most → run other most s (f.front ++ next) ≡ Err (stop next)
     again next same zero le =
-        let e : other s [] ≡ Err (Unexpected next) = subst (λ l. other s l ≡ Err (Unexpected next)) (no_tokens (f.front ++ next) le) (f.repeats next same) in
+        let e : other s [] ≡ Err (stop next) = subst (λ l. other s l ≡ Err (stop next)) (no_tokens (f.front ++ next) le) (f.repeats next same) in
         let o = h.empty s in
         absurd cc
     again next same (suc most) le = rw (f.repeats next same) refl
@@ -95,8 +96,10 @@ by_turn {S = S} turn other h s ts (Ok (Some t, mid)) e go k =
     more_run : (r : Read S) → LocalRun other t mid r → LocalRun other s ts r
     more_run (Ok x) g = on_run turn other s t ts mid x.1 (λ l. Ok (x.0, l)) (h.short s t ts mid e) (subst (λ r. Local ts r (other s)) e (h.local s ts)) g
     more_run (Err (Unexpected rest)) g = on_run turn other s t ts mid rest (λ l. Err (Unexpected l)) (h.short s t ts mid e) (subst (λ r. Local ts r (other s)) e (h.local s ts)) g
+    more_run (Err (Measured rest)) g = on_run turn other s t ts mid rest (λ l. Err (Measured l)) (h.short s t ts mid e) (subst (λ r. Local ts r (other s)) e (h.local s ts)) g
     more_run (Err (TooDeep rest)) g = tt
-by_turn {S = S} turn other h s ts (Err (Unexpected rest)) e go k = stop_run turn other h s ts rest (subst (λ r. Local ts r (other s)) e (h.local s ts))
+by_turn {S = S} turn other h s ts (Err (Unexpected rest)) e go k = stop_run turn other h Unexpected s ts rest (subst (λ r. Local ts r (other s)) e (h.local s ts))
+by_turn {S = S} turn other h s ts (Err (Measured rest)) e go k = stop_run turn other h Measured s ts rest (subst (λ r. Local ts r (other s)) e (h.local s ts))
 by_turn {S = S} turn other h s ts (Err (TooDeep rest)) e go k = tt
 
 run_local_by : {S : Type 0} (turn other : Turn S) → Turns turn other → (most : ℕ) (s : S) (ts : List Token) → length ts ≤ most → LocalRun other s ts (run turn most s ts)
@@ -112,6 +115,7 @@ run_local {S = S} turn other h s ts = by_read (run turn (length ts) s ts) (run_l
     by_read : (r : Read S) → LocalRun other s ts r → Local ts r (λ l. run other (length l) s l)
     by_read (Ok x) g = record { front = g.front; is = g.is; repeats = λ next same. g.repeats next same (length (g.front ++ next)) (omega arith) }
     by_read (Err (Unexpected rest)) g = record { front = g.front; is = g.is; repeats = λ next same. g.repeats next same (length (g.front ++ next)) (omega arith) }
+    by_read (Err (Measured rest)) g = record { front = g.front; is = g.is; repeats = λ next same. g.repeats next same (length (g.front ++ next)) (omega arith) }
     by_read (Err (TooDeep rest)) g = tt
 
 -- what was taken by some marks is shorter, and by none is the same

@@ -3,18 +3,18 @@ use Rattle.std.proofs.Common.{◌≡◌, ℕ, zero, suc, ◌+◌, ◌<◌, List,
 use Rattle.std.proofs.lemmas.List.{length-map}
 use Rattle.vx_ast.specs.declared.Place.{Place}
 use Rattle.vx_ast.specs.declared.ValueType.TheVariants as types
-use Rattle.vx_ast.specs.Written.{Expr, Variable, Call, Declaration, Value, Stmt, Declare, Assign, Write, Done, Then}
+use Rattle.vx_ast.specs.Written.{Placed, placed, Expr, Variable, Call, Declaration, Value, Stmt, NoElse, Else, Declare, Assign, Write, Done, Then}
 use Rattle.vx_ast.specs.Written as written
 use Rattle.vx_grammar.specs.Statements.{inhales, exhales, asserts, assumes, claim_meant, Folding, folds, unfolds}
 use Rattle.vx_tokens.specs.declared.token.Word.TheVariants as words
 use Rattle.vx_tokens.specs.declared.token.Symbol.TheVariants as signs
 use Rattle.vx_tokens.specs.Tokens.{Token, Kind, name, word}
 use Rattle.vx_grammar.specs.Grammar.{tokens_of}
-use Rattle.vx_grammar.specs.Reading.{Part, allocation, arguments, run, name_turn, postfix_by, unary_by, unary_at, enclosed, ◌>>=◌, Read, Unexpected, TooDeep, expect, is_symbol, choice, choice_at, instance_at, below, name_at}
-use Rattle.vx_grammar.specs.StmtReading.{skip_semicolon, clause_at, begins_invariant, invariant_turn, invariants_at, while_at, StmtPart, statements, elseif_part, StmtDeeper, stmt_part, stmts_below, type_by, type_at, declaration_at, block_at, otherwise_by, otherwise_at, branch_at, initial_by, initial_at, declare_at, begins_new, value_at, right_at, assign_one, invoke_at, assigned_by, assign_at, store_at, by_target, target_at, claim_at, fold_at, stmt_by, stmt_at, begins_stmt, stmts_at, block_from}
+use Rattle.vx_grammar.specs.Reading.{Part, allocation, arguments, run, name_turn, postfix_by, unary_by, unary_at, enclosed, ◌>>=◌, Read, Unexpected, Measured, TooDeep, expect, is_symbol, choice, choice_at, instance_at, below, name_at}
+use Rattle.vx_grammar.specs.StmtReading.{is_measure, loop_block_at, other_by, skip_semicolon, clause_at, begins_invariant, invariant_turn, invariants_at, while_at, StmtPart, statements, elseif_part, StmtDeeper, stmt_part, stmts_below, type_by, type_at, declaration_at, block_at, otherwise_by, otherwise_at, branch_at, initial_by, initial_at, declare_at, begins_new, value_at, right_at, assign_one, invoke_at, assigned_by, assign_at, store_at, by_target, target_at, claim_at, fold_at, stmt_by, stmt_at, begins_stmt, stmts_at, block_from}
 use Rattle.vx_grammar.proofs.Tells.{Tells, TellsOk}
 use Rattle.vx_grammar.proofs.Rows.{rows, rows_local, LocalRows}
-use Rattle.vx_grammar.proofs.Local.{Local, local_ok, local_unexpected, local_end, local_end_unexpected, local_return, local_token, local_then, local_expect, local_same}
+use Rattle.vx_grammar.proofs.Local.{Local, local_ok, local_unexpected, local_measured, local_end, local_end_unexpected, local_return, local_token, local_then, local_expect, local_same}
 use Rattle.vx_grammar.proofs.LocalParts.{name_local, bracket_local}
 use Rattle.vx_grammar.proofs.RunLocal.{Turns, run_local, taken_short, taken_none}
 use Rattle.vx_grammar.proofs.Steps.{TurnFor}
@@ -69,13 +69,13 @@ block_local d d' ts h = bracket_local signs.OpenBrace signs.CloseBrace (d statem
 
 other_by_local : (d d' : StmtDeeper) (t : Token) (k : Kind) (ts : List Token) → t.kind ≡ k → StmtLocal d d' → Local (t ∷ ts) (otherwise_by d t k ts) (otherwise_at d')
 unfolding otherwise_at StmtLocal
-other_by_local d d' t (word words.Else) ts e h = local_token t ts (block_at d ts) (block_at d') (otherwise_at d') (λ l. rw e refl) (block_local d d' ts h)
-other_by_local d d' t (word words.Elseif) ts e h = local_token t ts (d (elseif_part t.place) (t ∷ ts) ts) (λ l. d' (elseif_part t.place) (t ∷ l) l) (otherwise_at d') (λ l. rw e refl) (h (elseif_part t.place) (t ∷ ts) ts (λ l. t ∷ l))
-other_by_local d d' t k ts e h = local_ok t ts Done (otherwise_at d') (λ more. rw e refl)
+other_by_local d d' t (word words.Else) ts e h = local_token t ts (other_by (block_at d ts)) (λ l. other_by (block_at d' l)) (otherwise_at d') (λ l. rw e refl) (local_then ts (block_at d ts) (block_at d') _ _ (block_local d d' ts h) (λ b us. local_return us _))
+other_by_local d d' t (word words.Elseif) ts e h = local_token t ts (other_by (d (elseif_part t.place) (t ∷ ts) ts)) (λ l. other_by (d' (elseif_part t.place) (t ∷ l) l)) (otherwise_at d') (λ l. rw e refl) (local_then ts (d (elseif_part t.place) (t ∷ ts) ts) (λ l. d' (elseif_part t.place) (t ∷ l) l) _ _ (h (elseif_part t.place) (t ∷ ts) ts (λ l. t ∷ l)) (λ b us. local_return us _))
+other_by_local d d' t k ts e h = local_ok t ts NoElse (otherwise_at d') (λ more. rw e refl)
 
 other_local : (d d' : StmtDeeper) (ts : List Token) → StmtLocal d d' → Local ts (otherwise_at d ts) (otherwise_at d')
 unfolding otherwise_at
-other_local d d' [] h = local_end Done (otherwise_at d') refl
+other_local d d' [] h = local_end NoElse (otherwise_at d') refl
 other_local d d' (t ∷ ts) h = other_by_local d d' t t.kind ts refl h
 
 branch_local : (room more : ℕ) (d d' : StmtDeeper) (place : Place) (ts : List Token) → StmtLocal d d' → Local ts (branch_at room d place ts) (branch_at (room + more) d' place)
@@ -89,9 +89,9 @@ branch_local room more d d' place ts h =
 made_local : {A : Type 0} (room more : ℕ) (f : Expr → A) (ts : List Token) → Local ts (choice_at (below room) ts >>= λ e. Ok (f e.0, e.1)) (λ l. choice_at (below (room + more)) l >>= λ e. Ok (f e.0, e.1))
 made_local room more f ts = local_then ts (choice_at (below room) ts) (choice_at (below (room + more))) _ _ (reading_local room more ts) (λ e us. local_return us (f e))
 
-right_by_local : (room more : ℕ) (t : Token) (ts : List Token) (b : Bool) → begins_new t.kind ≡ b → Local (t ∷ ts) (cond b (enclosed (below room) allocation ts) (value_at room (t ∷ ts))) (right_at (room + more))
+right_by_local : (room more : ℕ) (t : Token) (ts : List Token) (b : Bool) → begins_new t.kind ≡ b → Local (t ∷ ts) (cond b (enclosed (below room) (allocation t.place) ts) (value_at room (t ∷ ts))) (right_at (room + more))
 unfolding right_at value_at
-right_by_local room more t ts true e = local_token t ts (enclosed (below room) allocation ts) (enclosed (below (room + more)) allocation) (right_at (room + more)) (λ l. rw e refl) (inside_local room more allocation ts)
+right_by_local room more t ts true e = local_token t ts (enclosed (below room) (allocation t.place) ts) (enclosed (below (room + more)) (allocation t.place)) (right_at (room + more)) (λ l. rw e refl) (inside_local room more (allocation t.place) ts)
 right_by_local room more t ts false e = local_same t ts (value_at room (t ∷ ts)) (value_at (room + more)) (right_at (room + more)) (λ l. rw e refl) (made_local room more Value (t ∷ ts))
 
 right_local : (room more : ℕ) (ts : List Token) → Local ts (right_at room ts) (right_at (room + more))
@@ -118,6 +118,7 @@ declare_local room more place ts = local_then ts (declaration_at ts) declaration
 local_eq : {A : Type 0} (ts : List Token) (r : Read A) (reader other : List Token → Read A) → ((l : List Token) → other l ≡ reader l) → Local ts r reader → Local ts r other
 local_eq ts (Ok x) reader other h f = record { front = f.front; is = f.is; repeats = λ next same. h (f.front ++ next) ∙ f.repeats next same }
 local_eq ts (Err (Unexpected rest)) reader other h f = record { front = f.front; is = f.is; repeats = λ next same. h (f.front ++ next) ∙ f.repeats next same }
+local_eq ts (Err (Measured rest)) reader other h f = record { front = f.front; is = f.is; repeats = λ next same. h (f.front ++ next) ∙ f.repeats next same }
 local_eq ts (Err (TooDeep rest)) reader other h f = tt
 
 clause_by_local : (room more before : ℕ) (here ts : List Token) (heres : List Token → List Token) (b : Bool) → leb before room ≡ b → Local ts (cond b (choice_at (below (room - before)) ts) (Err (TooDeep here))) (λ l. clause_at (room + more) before (heres l) l)
@@ -167,19 +168,29 @@ invariants_local : (room more : ℕ) (ts : List Token) → Local ts (invariants_
 unfolding invariants_at
 invariants_local room more ts = local_then ts (run (invariant_turn room) (length ts) [] ts) (λ l. run (invariant_turn (room + more)) (length l) [] l) _ _ (run_local (invariant_turn room) (invariant_turn (room + more)) (invariant_turns room more) [] ts) (λ es us. local_return us _)
 
+loop_block_by : (d d' : StmtDeeper) (t : Token) (ts : List Token) (b : Bool) → is_measure t.kind ≡ b → StmtLocal d d' → Local (t ∷ ts) (cond b (Err (Measured (t ∷ ts))) (block_at d (t ∷ ts))) (loop_block_at d')
+unfolding loop_block_at
+loop_block_by d d' t ts true e h = local_measured t ts (loop_block_at d') (λ more. rw e refl)
+loop_block_by d d' t ts false e h = local_same t ts (block_at d (t ∷ ts)) (block_at d') (loop_block_at d') (λ l. rw e refl) (block_local d d' (t ∷ ts) h)
+
+loop_block_local : (d d' : StmtDeeper) (ts : List Token) → StmtLocal d d' → Local ts (loop_block_at d ts) (loop_block_at d')
+unfolding loop_block_at block_at expect
+loop_block_local d d' [] h = local_end_unexpected (loop_block_at d') refl
+loop_block_local d d' (t ∷ ts) h = loop_block_by d d' t ts (is_measure t.kind) refl h
+
 while_local : (room more : ℕ) (d d' : StmtDeeper) (place : Place) (ts : List Token) → StmtLocal d d' → Local ts (while_at room d place ts) (while_at (room + more) d' place)
 unfolding while_at
 while_local room more d d' place ts h =
     local_then ts (enclosed (below room) choice ts) (enclosed (below (room + more)) choice) _ _ (condition_local room more ts) (λ e us.
     local_then us (invariants_at room us) (invariants_at (room + more)) _ _ (invariants_local room more us) (λ is vs.
-    local_then vs (block_at d vs) (block_at d') _ _ (block_local d d' vs h) (λ b ws. local_return ws _)))
+    local_then vs (loop_block_at d vs) (loop_block_at d') _ _ (loop_block_local d d' vs h) (λ b ws. local_return ws _)))
 
 -- ---- statements that begin with a name
 
 nothing_local : {A : Type 0} (ts : List Token) → (let r : Read A = Err (Unexpected ts) in Local ts r (λ l. Err (Unexpected l)))
 nothing_local ts = record { front = []; is = refl; repeats = λ next same. refl }
 
-assigned_local : (room more : ℕ) (place : Place) (xs : List (List ℕ)) (ts : List Token) → Local ts (assigned_by room place xs ts) (assigned_by (room + more) place xs)
+assigned_local : (room more : ℕ) (place : Place) (xs : List Placed) (ts : List Token) → Local ts (assigned_by room place xs ts) (assigned_by (room + more) place xs)
 unfolding assign_one invoke_at
 assigned_local room more place [] ts = nothing_local ts
 assigned_local room more place (x ∷ []) ts = local_then ts (right_at room ts) (right_at (room + more)) _ _ (right_local room more ts) (λ r us. local_return us _)
@@ -187,18 +198,18 @@ assigned_local room more place (x ∷ y ∷ ys) ts =
     local_then ts (name_at ts) name_at _ _ (name_local ts) (λ m us.
     local_then us (enclosed (below room) arguments us) (enclosed (below (room + more)) arguments) _ _ (inside_local room more arguments us) (λ es vs. local_return vs _))
 
-assign_local : (room more : ℕ) (place : Place) (x : List ℕ) (ts : List Token) → Local ts (assign_at room place x ts) (assign_at (room + more) place x)
+assign_local : (room more : ℕ) (place : Place) (x : Placed) (ts : List Token) → Local ts (assign_at room place x ts) (assign_at (room + more) place x)
 unfolding assign_at
 assign_local room more place x ts =
     local_then ts (run name_turn (length ts) (x ∷ []) ts) (λ l. run name_turn (length l) (x ∷ []) l) _ _ (run_local name_turn name_turn name_turns (x ∷ []) ts) (λ xs us.
     local_then us (expect signs.Becomes us) (expect signs.Becomes) _ _ (local_expect signs.Becomes us) (λ c vs. assigned_local room more place xs vs))
 
-store_local : (room more : ℕ) (place : Place) (e : Expr) (f : List ℕ) (ts : List Token) → Local ts (store_at room place e f ts) (store_at (room + more) place e f)
+store_local : (room more : ℕ) (place : Place) (e : Expr) (f : Placed) (ts : List Token) → Local ts (store_at room place e f ts) (store_at (room + more) place e f)
 unfolding store_at
 store_local room more place e f ts = local_then ts (expect signs.Becomes ts) (expect signs.Becomes) _ _ (local_expect signs.Becomes ts) (λ c us. made_local room more (Write place e f) us)
 
 by_target_local : (room more : ℕ) (place : Place) (e : Expr) (ts : List Token) → Local ts (by_target room place e ts) (by_target (room + more) place e)
-by_target_local room more place (Variable at x) ts = assign_local room more place x ts
+by_target_local room more place (Variable at x) ts = assign_local room more place (placed at x) ts
 by_target_local room more place (Call at m es) ts = local_return ts _
 by_target_local room more place (written.Read at e f) ts = store_local room more place e f ts
 by_target_local room more place e ts = nothing_local ts
@@ -246,6 +257,7 @@ stmt_short room ts s mid e = by_marks (subst (Tells (StmtFor 0) room ts) e (stmt
 row_of_local : (room more : ℕ) (ts : List Token) (r : Read (List Stmt)) → LocalRows begins_stmt (stmt_at (room + more) (stmts_below (room + more))) ts r → Local ts r (stmts_at (room + more) (stmts_below (room + more)))
 row_of_local room more ts (Ok x) h = record { front = h.front; is = h.is; repeats = λ next same. stmts_are_rows (room + more) (stmts_below (room + more)) (h.front ++ next) ∙ h.repeats next same (length (h.front ++ next)) (omega arith) }
 row_of_local room more ts (Err (Unexpected rest)) h = record { front = h.front; is = h.is; repeats = λ next same. stmts_are_rows (room + more) (stmts_below (room + more)) (h.front ++ next) ∙ h.repeats next same (length (h.front ++ next)) (omega arith) }
+row_of_local room more ts (Err (Measured rest)) h = record { front = h.front; is = h.is; repeats = λ next same. stmts_are_rows (room + more) (stmts_below (room + more)) (h.front ++ next) ∙ h.repeats next same (length (h.front ++ next)) (omega arith) }
 row_of_local room more ts (Err (TooDeep rest)) h = tt
 
 stmts_local : (room more : ℕ) (ts : List Token) → StmtLocal (stmts_below room) (stmts_below (room + more)) → Local ts (stmts_at room (stmts_below room) ts) (stmts_at (room + more) (stmts_below (room + more)))

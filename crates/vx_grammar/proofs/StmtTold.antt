@@ -1,17 +1,17 @@
 -- What reading statements is told by: the statements that the tokens spell, at each room.
-use Rattle.std.proofs.Common.{◌≡◌, ℕ, zero, suc, ◌+◌, ◌≤◌, List, [], ◌∷◌, ◌++◌, Some, None, Bool, true, false, Ok, length, refl, sym, ap, subst, ◌∙◌, append_assoc, arith, cond, inl, inr, ◌⊎◌}
+use Rattle.std.proofs.Common.{◌≡◌, ℕ, zero, suc, ◌+◌, ◌≤◌, List, [], ◌∷◌, ◌++◌, Some, None, Bool, true, false, Ok, Err, length, refl, sym, ap, subst, ◌∙◌, append_assoc, arith, cond, inl, inr, ◌⊎◌}
 use Rattle.std.proofs.lemmas.List.{append-nil}
 use Rattle.vx_ast.specs.declared.Place.{Place}
-use Rattle.vx_ast.specs.Written.{Expr, Declaration, Stmt, Block, Declare, If, While, Done, Then}
+use Rattle.vx_ast.specs.Written.{Expr, Declaration, Stmt, Other, NoElse, Else, Block, Declare, If, While, Done, Then}
 use Rattle.vx_tokens.specs.declared.token.Word.TheVariants as words
 use Rattle.vx_tokens.specs.declared.token.Symbol.TheVariants as signs
 use Rattle.vx_tokens.specs.Tokens.{Token, Kind, name, word, symbol}
 use Rattle.vx_grammar.specs.Grammar.{Phrase, Mark, mark, marks, meant, StandsAt}
 use Rattle.vx_grammar.specs.Statements.{repeated, invariants_marks, block_marks, StmtPhrase, RightPhrase, right_meant, RightStands, right_marks, declared, initialized, Claim, inhales, exhales, asserts, assumes, claim_word, claim_meant, claimed, Folding, folds, unfolds, folding_word, folding_meant, folded, branched, branch, no_other, other, another, block}
-use Rattle.vx_grammar.specs.Reading.{enclosed, ◌>>=◌, is_symbol, choice, choice_at, instance_at, below}
-use Rattle.vx_grammar.specs.StmtReading.{invariants_at, while_at, StmtPart, statements, elseif_part, stmt_part, stmts_below, declaration_at, block_at, otherwise_by, otherwise_at, branch_at, initial_by, initial_at, declare_at, right_at, claim_at, fold_at, stmt_by, stmt_at, begins_stmt, stmts_at, block_from}
+use Rattle.vx_grammar.specs.Reading.{enclosed, ◌>>=◌, Measured, is_symbol, choice, choice_at, instance_at, below}
+use Rattle.vx_grammar.specs.StmtReading.{begins_decreases, loop_block_at, invariants_at, while_at, StmtPart, statements, elseif_part, stmt_part, stmts_below, declaration_at, block_at, otherwise_by, otherwise_at, branch_at, initial_by, initial_at, declare_at, right_at, claim_at, fold_at, stmt_by, stmt_at, begins_stmt, stmts_at, block_from}
 use Rattle.vx_grammar.proofs.Symbols.{is_symbol_true}
-use Rattle.vx_grammar.proofs.Tells.{Grammar, Starts, Tells, takes_none, tells_as, tells_here, tells_unexpected, marks_is}
+use Rattle.vx_grammar.proofs.Tells.{Grammar, Starts, Tells, takes_none, tells_as, tells_here, tells_unexpected, tells_measured, marks_is}
 use Rattle.vx_grammar.proofs.Rows.{RowFor, tells_rows}
 use Rattle.vx_grammar.proofs.Sequence.{Sequence, Nothing, tells_sequence, starts_sequence, starts_nothing, tells_nothing}
 use Rattle.vx_grammar.proofs.Bracketed.{led_tells, Nested, Bracketed, bracket_tells}
@@ -83,38 +83,53 @@ block_tells limit n room ts e told =
 
 -- ---- the other side
 
-else_is : (n : ℕ) (t : Token) → t.kind ≡ word words.Else → (b : Block) (ms : List Mark) → Nested (record { token = t; count = n }) (BlockFor n) b ms → OtherFor n b ms
-else_is n t k b ms h = record {
-  phrase = other t.place h.spelled.phrase;
-  stands = h.spelled.stands;
-  means = h.spelled.means;
-  spelled = marks_is t (word words.Else) n _ k ∙ ap (λ l. let m : Mark = record { token = t; count = n } in m ∷ l) h.spelled.spelled ∙ sym h.is;
-}
-
-another_is : (n : ℕ) (t : Token) → t.kind ≡ word words.Elseif → (b : Block) (ms : List Mark) → Nested (record { token = t; count = n + 1 }) (Sequence (BranchFor (n + 1) t.place) (λ s. Nothing (Then s Done))) b ms → OtherFor n b ms
-another_is n t k b ms h = by_parts h.inner h.is h.spelled
+else_is : (n : ℕ) (t : Token) → t.kind ≡ word words.Else → (o : Other) (ms : List Mark) → Nested (record { token = t; count = n }) (Sequence (BlockFor n) (λ b. Nothing (Else b))) o ms → OtherFor n o ms
+else_is n t k o ms h = by_parts h.inner h.is h.spelled
   where
-    by_parts : (inner : List Mark) → (let m : Mark = record { token = t; count = n + 1 } in ms ≡ m ∷ inner) → Sequence (BranchFor (n + 1) t.place) (λ s. Nothing (Then s Done)) b inner → OtherFor n b ms
-    by_parts inner is (s, front, back, q, r, (v, z)) = record {
+    by_parts : (inner : List Mark) → (let m : Mark = record { token = t; count = n } in ms ≡ m ∷ inner) → Sequence (BlockFor n) (λ b. Nothing (Else b)) o inner → OtherFor n o ms
+    by_parts inner is (b, front, back, q, r, (v, z)) = record {
+      phrase = other t.place r.phrase;
+      stands = r.stands;
+      means = ap Else r.means ∙ sym v;
+      spelled = marks_is t (word words.Else) n _ k ∙ ap (λ l. let m : Mark = record { token = t; count = n } in m ∷ l) (r.spelled ∙ sym (q ∙ rw z (append-nil front))) ∙ sym is;
+    }
+
+-- what stands behind an `elseif`
+abbrev AnotherParts : ℕ → Place → Grammar Block
+AnotherParts n place = Sequence (BranchFor (n + 1) place) (λ s. Nothing (Then s Done))
+
+starts_another : (n : ℕ) (place : Place) → Starts (AnotherParts n place) []
+starts_another n place = starts_sequence (BranchFor (n + 1) place) _ (starts_branch (n + 1) place) (λ s. starts_nothing _)
+
+another_is : (n : ℕ) (t : Token) → t.kind ≡ word words.Elseif → (o : Other) (ms : List Mark) → Sequence (Nested (record { token = t; count = n + 1 }) (AnotherParts n t.place)) (λ b. Nothing (Else b)) o ms → OtherFor n o ms
+another_is n t k o ms (b, all, none, q, h, (v, z)) = by_parts h.inner (sym (append-nil all) ∙ ap (λ l. all ++ l) (sym z) ∙ sym q) h.is h.spelled
+  where
+    by_parts : (inner : List Mark) → all ≡ ms → (let m : Mark = record { token = t; count = n + 1 } in all ≡ m ∷ inner) → AnotherParts n t.place b inner → OtherFor n o ms
+    by_parts inner same is (s, front, back, q', r, (v', z')) = record {
       phrase = another t.place r.phrase;
       stands = r.stands;
-      means = ap (λ x. Then x Done) r.means ∙ sym v;
-      spelled = marks_is t (word words.Elseif) (n + 1) _ k ∙ ap (λ l. let m : Mark = record { token = t; count = n + 1 } in m ∷ l) (r.spelled ∙ sym (q ∙ rw z (append-nil front))) ∙ sym is;
+      means = ap (λ x. Else (Then x Done)) r.means ∙ ap Else (sym v') ∙ sym v;
+      spelled = marks_is t (word words.Elseif) (n + 1) _ k ∙ ap (λ l. let m : Mark = record { token = t; count = n + 1 } in m ∷ l) (r.spelled ∙ sym (q' ∙ rw z' (append-nil front))) ∙ sym is ∙ same;
     }
 
 other_by_tells : (limit n room : ℕ) (t : Token) (k : Kind) (ts : List Token) → n + room ≡ limit → StmtToldBelow limit room → t.kind ≡ k → Tells (OtherFor n) limit (t ∷ ts) (otherwise_by (stmts_below room) t k ts)
 unfolding StmtToldBelow
 other_by_tells limit n room t (word words.Else) ts e told k =
-    tells_as (Nested (record { token = t; count = n }) (BlockFor n)) (OtherFor n) limit (t ∷ ts) _ (else_is n t k) (led_tells (BlockFor n) limit n t ts _ (fits limit n room e) (block_tells limit n room ts e told))
+    tells_as (Nested (record { token = t; count = n }) (Sequence (BlockFor n) (λ b. Nothing (Else b)))) (OtherFor n) limit (t ∷ ts) _ (else_is n t k)
+    (led_tells (Sequence (BlockFor n) (λ b. Nothing (Else b))) limit n t ts _ (fits limit n room e)
+    (tells_sequence (BlockFor n) _ limit ts (block_at (stmts_below room) ts) _ (λ b. starts_nothing _) (block_tells limit n room ts e told) (λ b us. tells_nothing limit us _)))
 other_by_tells limit n room t (word words.Elseif) ts e told k =
-    tells_as (Nested (record { token = t; count = n + 1 }) (Sequence (BranchFor (n + 1) t.place) (λ s. Nothing (Then s Done)))) (OtherFor n) limit (t ∷ ts) _ (another_is n t k)
-    (nested_stmts (Sequence (BranchFor (n + 1) t.place) (λ s. Nothing (Then s Done))) limit n room (elseif_part t.place) t ts e (starts_sequence (BranchFor (n + 1) t.place) _ (starts_branch (n + 1) t.place) (λ s. starts_nothing _))
+    let m : Mark = record { token = t; count = n + 1 } in
+    tells_as (Sequence (Nested m (AnotherParts n t.place)) (λ b. Nothing (Else b))) (OtherFor n) limit (t ∷ ts) _ (another_is n t k)
+    (tells_sequence (Nested m (AnotherParts n t.place)) _ limit (t ∷ ts) (stmts_below room (elseif_part t.place) (t ∷ ts) ts) _ (λ b. starts_nothing _)
+    (nested_stmts (AnotherParts n t.place) limit n room (elseif_part t.place) t ts e (starts_another n t.place)
     (λ less q. tells_sequence (BranchFor (n + 1) t.place) _ limit ts (branch_at less (stmts_below less) t.place ts) _ (λ s. starts_nothing _) ((told less q).branch_tells (n + 1) (count_down limit n room less e q) t.place ts) (λ s us. tells_nothing limit us _)))
-other_by_tells limit n room t k ts e told h = tells_here (OtherFor n) limit (t ∷ ts) Done (record { phrase = no_other; stands = tt; means = refl; spelled = refl })
+    (λ b us. tells_nothing limit us _))
+other_by_tells limit n room t k ts e told h = tells_here (OtherFor n) limit (t ∷ ts) NoElse (record { phrase = no_other; stands = tt; means = refl; spelled = refl })
 
 other_tells : (limit n room : ℕ) (ts : List Token) → n + room ≡ limit → StmtToldBelow limit room → Tells (OtherFor n) limit ts (otherwise_at (stmts_below room) ts)
 unfolding otherwise_at
-other_tells limit n room [] e told = tells_here (OtherFor n) limit [] Done (record { phrase = no_other; stands = tt; means = refl; spelled = refl })
+other_tells limit n room [] e told = tells_here (OtherFor n) limit [] NoElse (record { phrase = no_other; stands = tt; means = refl; spelled = refl })
 other_tells limit n room (t ∷ ts) e told = other_by_tells limit n room t t.kind ts e told refl
 
 -- ---- branches
@@ -290,6 +305,15 @@ while_of n t k s ms h = by_parts h.inner h.is h.spelled
           spelled = marks_is t (word words.While) n _ k ∙ ap (λ l. let m : Mark = record { token = t; count = n } in m ∷ l) (sym all) ∙ sym is;
         }
 
+-- the block of a loop
+loop_block_by : (limit n room : ℕ) (ts : List Token) (b : Bool) → n + room ≡ limit → StmtToldBelow limit room → Tells (BlockFor n) limit ts (cond b (Err (Measured ts)) (block_at (stmts_below room) ts))
+loop_block_by limit n room ts true e told = tells_measured (BlockFor n) limit ts (starts_block n)
+loop_block_by limit n room ts false e told = block_tells limit n room ts e told
+
+loop_block_tells : (limit n room : ℕ) (ts : List Token) → n + room ≡ limit → StmtToldBelow limit room → Tells (BlockFor n) limit ts (loop_block_at (stmts_below room) ts)
+unfolding loop_block_at
+loop_block_tells limit n room ts e told = loop_block_by limit n room ts (begins_decreases ts) e told
+
 while_tells : (limit n room : ℕ) (t : Token) (ts : List Token) → n + room ≡ limit → StmtToldBelow limit room → t.kind ≡ word words.While → Tells (StmtFor n) limit (t ∷ ts) (while_at room (stmts_below room) t.place ts)
 unfolding while_at
 while_tells limit n room t ts e told k =
@@ -297,7 +321,7 @@ while_tells limit n room t ts e told k =
     (led_tells (WhileParts n t.place) limit n t ts _ (fits limit n room e)
     (tells_sequence (Bracketed n signs.Open signs.Close (PhraseFor (n + 1) 8)) _ limit ts (enclosed (below room) choice ts) _ (λ c. starts_sequence (InvariantsFor n) _ (starts_invariants n) (λ is. starts_sequence (BlockFor n) _ (starts_block n) (λ b. starts_nothing _))) (condition_tells limit n room ts e)
     (λ c us. tells_sequence (InvariantsFor n) _ limit us (invariants_at room us) _ (λ is. starts_sequence (BlockFor n) _ (starts_block n) (λ b. starts_nothing _)) (invariants_tells limit n room us e)
-    (λ is vs. tells_sequence (BlockFor n) _ limit vs (block_at (stmts_below room) vs) _ (λ b. starts_nothing _) (block_tells limit n room vs e told)
+    (λ is vs. tells_sequence (BlockFor n) _ limit vs (loop_block_at (stmts_below room) vs) _ (λ b. starts_nothing _) (loop_block_tells limit n room vs e told)
     (λ b ws. tells_nothing limit ws _)))))
 
 stmt_by_tells : (limit n room : ℕ) (t : Token) (k : Kind) (ts : List Token) → n + room ≡ limit → StmtToldBelow limit room → t.kind ≡ k → Tells (StmtFor n) limit (t ∷ ts) (stmt_by room (stmts_below room) t k ts)

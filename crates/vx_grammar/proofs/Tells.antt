@@ -2,10 +2,11 @@
 use Rattle.std.proofs.Common.{◌≡◌, ℕ, ◌≤◌, ◌<◌, List, [], ◌∷◌, ◌++◌, Bool, true, false, Ok, Err, refl, sym, ap, subst, ◌∙◌, append_assoc, cond}
 use Rattle.std.proofs.lemmas.List.{append-nil}
 use Rattle.vx_ast.specs.declared.Place.{Place}
+use Rattle.vx_ast.specs.Written.{Placed, placed}
 use Rattle.vx_tokens.specs.declared.token.Symbol.{Symbol}
 use Rattle.vx_tokens.specs.Tokens.{Token, Kind, name, number, word, symbol}
 use Rattle.vx_grammar.specs.Grammar.{Mark, mark, tokens_of}
-use Rattle.vx_grammar.specs.Reading.{◌>>=◌, Read, Unexpected, TooDeep, expect, is_symbol, name_by, name_at}
+use Rattle.vx_grammar.specs.Reading.{◌>>=◌, Read, Unexpected, Measured, TooDeep, expect, is_symbol, name_by, name_at}
 use Rattle.vx_grammar.specs.Laws.{Within}
 use Rattle.vx_grammar.proofs.Lists.{tokens-append, within-append}
 use Rattle.vx_grammar.proofs.Symbols.{is_symbol_true}
@@ -48,6 +49,7 @@ pub record TellsTooDeep {A : Type 0} (R : Grammar A) (limit : ℕ) (ts : List To
 abbrev pub TellsBy : {A : Type 0} → (List Token → Grammar A) → Grammar A → ℕ → List Token → Read A → Type 0
 TellsBy R S limit ts (Ok x) = TellsOk (R x.1) limit ts x.0 x.1
 TellsBy R S limit ts (Err (Unexpected rest)) = TellsUnexpected S limit ts rest
+TellsBy R S limit ts (Err (Measured rest)) = TellsUnexpected S limit ts rest
 TellsBy R S limit ts (Err (TooDeep rest)) = TellsTooDeep S limit ts rest
 
 abbrev pub Tells : {A : Type 0} → Grammar A → ℕ → List Token → Read A → Type 0
@@ -94,6 +96,11 @@ tells_by_behind T U limit ts us ms a (Err (Unexpected rest)) h = record {
   takes = takes_then limit ts us rest ms h.marks a h.takes;
   starts = starts_behind U ms h.marks h.starts;
 }
+tells_by_behind T U limit ts us ms a (Err (Measured rest)) h = record {
+  marks = ms ++ h.marks;
+  takes = takes_then limit ts us rest ms h.marks a h.takes;
+  starts = starts_behind U ms h.marks h.starts;
+}
 tells_by_behind T U limit ts us ms a (Err (TooDeep rest)) h = record {
   marks = ms ++ h.marks;
   takes = takes_then limit ts us rest ms h.marks a h.takes;
@@ -112,6 +119,7 @@ pub tells_by_then : {A B : Type 0} (R : List Token → Grammar A) (S : Grammar A
     → TellsBy T U limit ts (r >>= f)
 tells_by_then R S T U limit ts (Ok x) f g h k = tells_by_behind T U limit ts x.1 h.marks h.takes (f x) (k x.0 x.1 h.marks h.spelled h.takes)
 tells_by_then R S T U limit ts (Err (Unexpected rest)) f g h k = record { marks = h.marks; takes = h.takes; starts = starts_first S U h.marks g h.starts }
+tells_by_then R S T U limit ts (Err (Measured rest)) f g h k = record { marks = h.marks; takes = h.takes; starts = starts_first S U h.marks g h.starts }
 tells_by_then R S T U limit ts (Err (TooDeep rest)) f g h k = record {
   marks = h.marks;
   takes = h.takes;
@@ -131,6 +139,7 @@ tells_then R T limit ts r f g h k = tells_by_then (λ l. R) R (λ l. T) T limit 
 pub tells_by_as : {A : Type 0} (R : List Token → Grammar A) (S : Grammar A) (R' : List Token → Grammar A) (S' : Grammar A) (limit : ℕ) (ts : List Token) (r : Read A) → ((rest : List Token) (x : A) (ms : List Mark) → R rest x ms → R' rest x ms) → ((x : A) (ms : List Mark) → S x ms → S' x ms) → TellsBy R S limit ts r → TellsBy R' S' limit ts r
 tells_by_as R S R' S' limit ts (Ok x) f g h = record { marks = h.marks; takes = h.takes; spelled = f x.1 x.0 h.marks h.spelled }
 tells_by_as R S R' S' limit ts (Err (Unexpected rest)) f g h = record { marks = h.marks; takes = h.takes; starts = starts_first S S' h.marks (λ x ms s. record { value = x; more = []; spelled = rw append-nil (g x ms s) }) h.starts }
+tells_by_as R S R' S' limit ts (Err (Measured rest)) f g h = record { marks = h.marks; takes = h.takes; starts = starts_first S S' h.marks (λ x ms s. record { value = x; more = []; spelled = rw append-nil (g x ms s) }) h.starts }
 tells_by_as R S R' S' limit ts (Err (TooDeep rest)) f g h = record { marks = h.marks; takes = h.takes; deep = h.deep; after = h.after; first = h.first; count = h.count; starts = starts_first S S' (h.marks ++ h.deep ∷ []) (λ x ms s. record { value = x; more = []; spelled = rw append-nil (g x ms s) }) h.starts }
 
 pub tells_as : {A : Type 0} (R S : Grammar A) (limit : ℕ) (ts : List Token) (r : Read A) → ((x : A) (ms : List Mark) → R x ms → S x ms) → Tells R limit ts r → Tells S limit ts r
@@ -145,6 +154,9 @@ tells_here R limit ts x h = record { marks = []; takes = takes_none limit ts; sp
 
 pub tells_unexpected : {A : Type 0} (R : Grammar A) (limit : ℕ) (ts : List Token) → Starts R [] → Tells R limit ts (Err (Unexpected ts))
 tells_unexpected R limit ts s = record { marks = []; takes = takes_none limit ts; starts = s }
+
+pub tells_measured : {A : Type 0} (R : Grammar A) (limit : ℕ) (ts : List Token) → Starts R [] → Tells R limit ts (Err (Measured ts))
+tells_measured R limit ts s = record { marks = []; takes = takes_none limit ts; starts = s }
 
 -- one token is taken
 pub tells_token : {A : Type 0} (R : Grammar A) (limit : ℕ) (m : Mark) (ts : List Token) (x : A) → m.count ≤ limit → R x (m ∷ []) → Tells R limit (m.token ∷ ts) (Ok (x, ts))
@@ -181,14 +193,14 @@ marks_is t k n ms e = ap (λ x. x ∷ ms) (token_is t k n e)
 
 -- ---- names
 
-abbrev pub NameFor : ℕ → Grammar (List ℕ)
-NameFor n x ms = (p : Place) × (ms ≡ mark n p (name x) ∷ [])
+abbrev pub NameFor : ℕ → Grammar Placed
+NameFor n x ms = ms ≡ mark n x.place (name x.name) ∷ []
 
 pub starts_name : (n : ℕ) → Starts (NameFor n) []
-starts_name n = record { value = []; more = mark n somewhere (name []) ∷ []; spelled = (somewhere, refl) }
+starts_name n = record { value = placed somewhere []; more = mark n somewhere (name []) ∷ []; spelled = refl }
 
 name_by_tells : (limit n : ℕ) (t : Token) (k : Kind) (ts : List Token) → n ≤ limit → t.kind ≡ k → Tells (NameFor n) limit (t ∷ ts) (name_by t k ts)
-name_by_tells limit n t (name x) ts le e = tells_token (NameFor n) limit (record { token = t; count = n }) ts x le (t.place, sym (marks_is t (name x) n [] e))
+name_by_tells limit n t (name x) ts le e = tells_token (NameFor n) limit (record { token = t; count = n }) ts (placed t.place x) le (sym (marks_is t (name x) n [] e))
 name_by_tells limit n t (number m) ts le e = tells_unexpected (NameFor n) limit (t ∷ ts) (starts_name n)
 name_by_tells limit n t (word w) ts le e = tells_unexpected (NameFor n) limit (t ∷ ts) (starts_name n)
 name_by_tells limit n t (symbol s) ts le e = tells_unexpected (NameFor n) limit (t ∷ ts) (starts_name n)

@@ -4,7 +4,7 @@ use Rattle.std.proofs.lemmas.List.{append-nil, append_cancel_right}
 use Rattle.vx_tokens.specs.Tokens.{Token}
 use Rattle.vx_ast.specs.Written.{Expr}
 use Rattle.vx_grammar.specs.Grammar.{Phrase, Mark, marks, tokens_of, meant, StandsAt}
-use Rattle.vx_grammar.specs.Reading.{◌>>=◌, Read, Unexpected, TooDeep, choice_at, below}
+use Rattle.vx_grammar.specs.Reading.{◌>>=◌, Read, Unexpected, Measured, TooDeep, choice_at, below}
 use Rattle.vx_grammar.specs.Laws.{Within, CanGoOn, NoneFits, no_rest, whole, Says, AnswersAreRight, SpelledIsRead, SpelledOnce}
 use Rattle.vx_grammar.proofs.Complete.{is_read}
 use Rattle.vx_grammar.proofs.Tells.{Tells, Starts}
@@ -113,6 +113,11 @@ says limit ts (Err (Unexpected rest)) again h = record {
   front = h.marks;
   fits = record { tokens = h.takes.tokens; within = h.takes.within; goes_on = goes_on_from h.marks h.starts };
   none = none_fits limit (tokens_of h.marks) rest (λ l. Err (Unexpected l)) (repeat limit ts h.marks rest h.takes.tokens (λ l. Err (Unexpected l)) again) (λ next x same q. cc);
+}
+says limit ts (Err (Measured rest)) again h = record {
+  front = h.marks;
+  fits = record { tokens = h.takes.tokens; within = h.takes.within; goes_on = goes_on_from h.marks h.starts };
+  none = none_fits limit (tokens_of h.marks) rest (λ l. Err (Measured l)) (repeat limit ts h.marks rest h.takes.tokens (λ l. Err (Measured l)) again) (λ next x same q. cc);
 }
 says limit ts (Err (TooDeep rest)) again h = record {
   front = h.marks;
