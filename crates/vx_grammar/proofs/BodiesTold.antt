@@ -1,5 +1,5 @@
 -- What reading an expression between braces, the body of a predicate and the body of a method tells.
-use Rattle.std.proofs.Common.{◌≡◌, List, [], ◌∷◌, ◌++◌, Option, Some, None, Bool, true, false, Ok, Err, refl, sym, ap, ◌∙◌, arith, cond}
+use Rattle.std.proofs.Common.{◌≡◌, List, [], ◌∷◌, ◌++◌, Option, Some, None, Bool, true, false, Ok, refl, sym, ap, ◌∙◌, arith, cond}
 use Rattle.std.proofs.lemmas.List.{append-nil}
 use Rattle.vx_ast.specs.declared.Place.{Place}
 use Rattle.vx_ast.specs.Written.{Placed, Expr, Block, Declaration, Member}
@@ -9,10 +9,10 @@ use Rattle.vx_tokens.specs.Tokens.{Token, name, word}
 use Rattle.vx_grammar.specs.Grammar.{Mark, mark, meant, StandsAt}
 use Rattle.vx_grammar.specs.Statements.{BlockPhrase}
 use Rattle.vx_grammar.specs.Programs.{BracedPhrase, braced_marks, given_meant, GivenStands, given_marks, PredicatePhrase, predicate_meant, predicate_marks, body_meant, BodyStands, body_marks, parameters_marks}
-use Rattle.vx_grammar.specs.Reading.{Measured, choice, below, name_at}
-use Rattle.vx_grammar.specs.StmtReading.{begins_decreases, block_at, stmts_below}
-use Rattle.vx_grammar.specs.MemberReading.{limit, begins_braces, braced_at, some_braced, given_at, predicate_of, predicate_at, parameters_at, some_block, body_at}
-use Rattle.vx_grammar.proofs.Tells.{Grammar, Starts, Tells, somewhere, NameFor, name_tells, marks_is, tells_as, tells_here, tells_measured}
+use Rattle.vx_grammar.specs.Reading.{choice, below, name_at}
+use Rattle.vx_grammar.specs.StmtReading.{block_at, stmts_below}
+use Rattle.vx_grammar.specs.MemberReading.{limit, begins_braces, braced_at, some_braced, given_at, predicate_of, predicate_at, parameters_at, some_block}
+use Rattle.vx_grammar.proofs.Tells.{Grammar, Starts, Tells, somewhere, NameFor, name_tells, marks_is, tells_as, tells_here}
 use Rattle.vx_grammar.proofs.Sequence.{Sequence, Nothing, tells_sequence, starts_sequence, starts_nothing, tells_nothing}
 use Rattle.vx_grammar.proofs.Bracketed.{Nested, Bracketed, bracket_tells, led_tells}
 use Rattle.vx_grammar.proofs.PhraseFor.{PhraseFor, starts_any, tells_nested, count_down}
@@ -130,7 +130,7 @@ pub record BodyFor (o : Option Block) (ms : List Mark) : Type 0 where
   pub means : body_meant phrase ≡ o
   pub spelled : body_marks phrase ≡ ms
 
-no_body_for : BodyFor None []
+pub no_body_for : BodyFor None []
 no_body_for = record { phrase = None; stands = tt; means = refl; spelled = refl }
 
 pub starts_body : Starts BodyFor []
@@ -144,14 +144,9 @@ body_of o ms (e, a, b, q, r, (v, z)) = record {
   spelled = r.spelled ∙ sym (q ∙ rw z (append-nil a));
 }
 
-body_by_tells : (ts : List Token) (b d : Bool) → Tells BodyFor limit ts (cond b (some_block limit ts) (cond d (Err (Measured ts)) (Ok (None, ts))))
+-- behind an opening brace
+pub block_body_tells : (ts : List Token) → Tells BodyFor limit ts (some_block limit ts)
 unfolding some_block
-body_by_tells ts true d =
+block_body_tells ts =
     tells_as (Sequence (BlockFor 0) (λ b. Nothing (Some b))) BodyFor limit ts _ body_of
     (tells_sequence (BlockFor 0) _ limit ts (block_at (stmts_below limit) ts) _ (λ b. starts_nothing _) (block_reading_tells limit 0 limit ts (omega arith)) (λ b us. tells_nothing limit us _))
-body_by_tells ts false true = tells_measured BodyFor limit ts starts_body
-body_by_tells ts false false = tells_here BodyFor limit ts None no_body_for
-
-pub body_tells : (ts : List Token) → Tells BodyFor limit ts (body_at limit ts)
-unfolding body_at
-body_tells ts = body_by_tells ts (begins_braces ts) (begins_decreases ts)

@@ -12,7 +12,7 @@ use Rattle.vx_grammar.specs.Laws.{Within}
 use Rattle.vx_grammar.specs.Statements.{type_word}
 use Rattle.vx_grammar.specs.Programs.{ParametersPhrase, ClausesPhrase, BracedPhrase, braced_marks, FunctionPhrase, function_meant, StandsFunction, head_marks, function_marks, parameters_marks, clauses_marks, StandsClauses, clauses_meant, declarations_meant}
 use Rattle.vx_grammar.specs.Reading.{Read, Unexpected, expect, name_at, ◌>>=◌}
-use Rattle.vx_grammar.specs.StmtReading.{is_measure, type_at}
+use Rattle.vx_grammar.specs.StmtReading.{is_measure, begins_decreases, type_at}
 use Rattle.vx_grammar.specs.MemberReading.{limit, stopped, bodiless, measured_twice, Halting, halting, Clauses, parameters_at, clauses_at, begins_braces, braced_at, Head, function_of, head_at, function_by, no_body_at, behind_head, function_at}
 use Rattle.vx_grammar.proofs.Tells.{Grammar, Starts, Takes, Tells, Sign, starts_sign, somewhere, token_is, marks_is, NameFor, name_tells, tells_as, tells_unexpected, tells_expect}
 use Rattle.vx_grammar.proofs.Sequence.{Sequence, Nothing, tells_sequence, starts_sequence, starts_nothing, tells_nothing}
@@ -223,3 +223,36 @@ head_taken t ts rest k (Ok h) g w = by_braces (begins_braces h.1) w
 pub function_wants : (t : Token) (ts rest : List Token) → t.kind ≡ word words.Function → WantsBody (function_at limit t.place ts) rest → HeadTaken (t ∷ ts) rest
 unfolding function_at
 function_wants t ts rest k w = head_taken t ts rest k (head_at limit ts) (head_tells ts) w
+
+-- ---- a second measure
+
+-- a measure is told where a body is due, and only a measure
+abbrev pub TellsMeasure : {A : Type 0} → Halting A → Type 0
+TellsMeasure (Ok x) = Unit {0}
+TellsMeasure (Err (stopped stop)) = Unit {0}
+TellsMeasure (Err (bodiless rest)) = begins_decreases rest ≡ false
+TellsMeasure (Err (measured_twice rest)) = begins_decreases rest ≡ true
+
+pub none_told : {A : Type 0} (r : Read A) → TellsMeasure (halting r)
+none_told (Ok x) = tt
+none_told (Err stop) = tt
+
+no_body_told : (ts : List Token) → (let r : Halting Member = Err (no_body_at ts) in TellsMeasure r)
+no_body_told [] = refl
+no_body_told (t ∷ ts) = by_word (is_measure t.kind) refl
+  where
+    by_word : (b : Bool) → is_measure t.kind ≡ b → (let r : Halting Member = Err (cond b (measured_twice (t ∷ ts)) (bodiless (t ∷ ts))) in TellsMeasure r)
+    by_word true e = e
+    by_word false e = e
+
+body_told : (place : Place) (h : Head) (ts : List Token) (b : Bool) → TellsMeasure (cond b (halting (function_by limit place h ts)) (Err (no_body_at ts)))
+body_told place h ts true = none_told (function_by limit place h ts)
+body_told place h ts false = no_body_told ts
+
+head_told : (place : Place) (r : Read Head) → TellsMeasure (behind_head limit place r)
+head_told place (Ok h) = body_told place h.0 h.1 (begins_braces h.1)
+head_told place (Err stop) = tt
+
+pub function_told : (place : Place) (ts : List Token) → TellsMeasure (function_at limit place ts)
+unfolding function_at
+function_told place ts = head_told place (head_at limit ts)

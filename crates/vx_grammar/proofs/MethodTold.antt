@@ -1,26 +1,27 @@
 -- What reading clauses and methods tells.
-use Rattle.std.proofs.Common.{◌≡◌, ℕ, not, ◌&&◌, ◌-◌, ◌≤◌, List, [], ◌∷◌, ◌++◌, Option, Some, None, Bool, true, false, Ok, Err, length, refl, sym, ap, subst, ◌∙◌, append_assoc, arith, cond, leb, inl, inr, ◌⊎◌}
+use Rattle.std.proofs.Common.{◌≡◌, ℕ, ◌+◌, not, ◌&&◌, ◌-◌, ◌≤◌, List, [], ◌∷◌, ◌++◌, Option, Some, None, Bool, true, false, Ok, Err, length, refl, sym, ap, subst, ◌∙◌, append_assoc, arith, cond, leb, inl, inr, ◌⊎◌}
 use Rattle.std.proofs.lemmas.List.{append-nil}
 use Rattle.std.proofs.lemmas.Bool.{leb-true, leb-false}
 use Rattle.vx_ast.specs.declared.Place.{Place}
-use Rattle.vx_ast.specs.Written.{Placed, Expr, Clause, Requires, Ensures, Decreases, Declaration, Member}
+use Rattle.vx_ast.specs.Written.{Placed, Expr, Clause, Requires, Ensures, Decreases, Declaration, Block, Member}
 use Rattle.vx_tokens.specs.declared.token.Word.{Word}
 use Rattle.vx_tokens.specs.declared.token.Word.TheVariants as words
 use Rattle.vx_tokens.specs.declared.token.Symbol.TheVariants as signs
 use Rattle.vx_tokens.specs.Tokens.{Token, Kind, name, word, symbol}
 use Rattle.vx_grammar.specs.Grammar.{Phrase, Mark, mark, marks, meant, StandsAt}
-use Rattle.vx_grammar.specs.Statements.{semi_marks}
+use Rattle.vx_grammar.specs.Statements.{semi_marks, block_meant, block_marks}
 use Rattle.vx_grammar.specs.Programs.{body_marks, ClausesPhrase, no_clauses, requires, ensures, decreases, clauses_meant, StandsClauses, clauses_marks, MethodPhrase, method_meant, StandsMethod, method_marks, parameters_marks, returns_marks}
-use Rattle.vx_grammar.specs.Reading.{◌>>=◌, TooDeep, is_symbol, choice_at, below, name_at}
-use Rattle.vx_grammar.specs.StmtReading.{is_measure, clause_at, skip_semicolon}
+use Rattle.vx_grammar.specs.Reading.{◌>>=◌, Read, Measured, TooDeep, is_symbol, choice_at, below, name_at}
+use Rattle.vx_grammar.specs.StmtReading.{is_measure, begins_decreases, clause_at, skip_semicolon}
 use Rattle.vx_grammar.specs.MemberReading as reading
-use Rattle.vx_grammar.specs.MemberReading.{Clauses, with_requires, with_ensures, with_measure, begins_requires, begins_ensures, clause_turn, clauses_at, limit, method_of, method_at, parameters_at, returns_at, body_at}
+use Rattle.vx_grammar.specs.MemberReading.{Clauses, with_requires, with_ensures, with_measure, begins_requires, begins_ensures, clause_turn, clauses_at, limit, method_of, method_at, parameters_at, returns_at, begins_braces, some_block, body_at}
 use Rattle.vx_grammar.proofs.Symbols.{is_symbol_true}
-use Rattle.vx_grammar.proofs.Tells.{Grammar, Starts, Tells, takes_none, tells_as, tells_here, tells_token, marks_is, NameFor, name_tells}
-use Rattle.vx_grammar.proofs.Sequence.{Sequence, Nothing, tells_sequence, starts_sequence, starts_nothing, tells_nothing}
+use Rattle.vx_grammar.proofs.Tells.{Grammar, After, Starts, Tells, somewhere, tells_measured, measure_word, takes_none, tells_as, tells_here, tells_token, marks_is, NameFor, name_tells}
+use Rattle.vx_grammar.proofs.Sequence.{Sequence, Nothing, tells_second, tells_sequence_by, tells_sequence, starts_sequence, starts_nothing, tells_nothing}
 use Rattle.vx_grammar.proofs.Bracketed.{Nested, led_tells}
 use Rattle.vx_grammar.proofs.Means.{reading_tells}
-use Rattle.vx_grammar.proofs.BodiesTold.{BodyFor, body_tells, starts_body}
+use Rattle.vx_grammar.proofs.BodiesTold.{BodyFor, no_body_for, block_body_tells, starts_body}
+use Rattle.vx_grammar.proofs.StmtFor.{a_phrase, any_block}
 use Rattle.vx_grammar.proofs.Steps.{Step, TurnFor, StepsBy, StepsFor, run_tells}
 use Rattle.vx_grammar.proofs.MemberTold.{ParametersFor, parameters_tells, starts_parameters, ReturnsFor, returns_tells, starts_returns}
 use Rattle.vx_grammar.proofs.PhraseFor.{PhraseFor, starts_any}
@@ -104,10 +105,6 @@ ensures_of may before t k o ms (e, a, b, q, h, (semi, v, z)) = subst (λ x. Turn
 
 measure_of : (may : Bool) (before : Clauses) (t : Token) → t.kind ≡ word words.Decreases → may && not before.measured ≡ true → (o : Option Clauses) (ms : List Mark) → OneParts t 0 (with_measure before) o ms → TurnFor (ClauseStep may) before o ms
 measure_of may before t k due o ms (e, a, b, q, h, (semi, v, z)) = subst (λ x. TurnFor (ClauseStep may) before x ms) (sym v) (inr (inr (record { due = due; one = one_of t 0 words.Decreases (with_measure before) k e ms a b semi q h z })))
-
-measure_word : (k : Kind) → is_measure k ≡ true → k ≡ word words.Decreases
-measure_word (word words.Decreases) h = refl
-measure_word k h = absurd cc
 
 -- a measure is read where it begins and is due
 both_due : (may measured begins : Bool) → may && not measured && begins ≡ true → (may && not measured ≡ true) × (begins ≡ true)
@@ -218,6 +215,56 @@ clauses_of may c ms (path, h) =
       spelled = r.spelled;
     }
 
+-- one requirement more
+more_clauses : ClausesPhrase → ClausesPhrase
+more_clauses no_clauses = requires somewhere a_phrase None no_clauses
+more_clauses (requires p e semi rest) = requires p e semi (more_clauses rest)
+more_clauses (ensures p e semi rest) = ensures p e semi (more_clauses rest)
+more_clauses (decreases p e semi rest) = decreases p e semi (more_clauses rest)
+
+more_stand : (may : Bool) (w : ClausesPhrase) → StandsClauses may w → StandsClauses may (more_clauses w)
+unfolding more_clauses a_phrase
+more_stand may no_clauses st = (tt, tt)
+more_stand may (requires p e semi rest) st = (st.0, more_stand may rest st.1)
+more_stand may (ensures p e semi rest) st = (st.0, more_stand may rest st.1)
+more_stand may (decreases p e semi rest) st = (st.0, st.1, more_stand false rest st.2)
+
+-- how many requirements there are behind so many
+all_of : ℕ → ClausesPhrase → ℕ
+all_of r no_clauses = r
+all_of r (requires p e semi rest) = all_of (r + 1) rest
+all_of r (ensures p e semi rest) = all_of r rest
+all_of r (decreases p e semi rest) = all_of r rest
+
+one_requirement : ℕ → List Mark
+one_requirement c = mark c somewhere (word words.Requires) ∷ marks c a_phrase
+
+-- a clause in front of others, and one requirement behind them
+clause_behind : (c : ℕ) (p : Place) (w : Word) (e : Phrase) (semi : Option Place) (others last all : List Mark) → all ≡ others ++ last → mark c p (word w) ∷ (marks c e ++ (semi_marks 0 semi ++ all)) ≡ (mark c p (word w) ∷ (marks c e ++ (semi_marks 0 semi ++ others))) ++ last
+clause_behind c p w e semi others last all h =
+    ap (λ l. mark c p (word w) ∷ (marks c e ++ (semi_marks 0 semi ++ l))) h
+    ∙ ap (λ l. mark c p (word w) ∷ l) (ap (λ l. marks c e ++ l) (sym (append_assoc (semi_marks 0 semi) others last)) ∙ sym (append_assoc (marks c e) (semi_marks 0 semi ++ others) last))
+
+more_spelled : (r k : ℕ) (w : ClausesPhrase) → clauses_marks r k (more_clauses w) ≡ clauses_marks r k w ++ one_requirement (all_of r w)
+unfolding more_clauses all_of one_requirement
+more_spelled r k no_clauses = ap (λ l. mark r somewhere (word words.Requires) ∷ l) (append-nil (marks r a_phrase))
+more_spelled r k (requires p e semi rest) = clause_behind r p words.Requires e semi (clauses_marks (r + 1) k rest) (one_requirement (all_of (r + 1) rest)) _ (more_spelled (r + 1) k rest)
+more_spelled r k (ensures p e semi rest) = clause_behind k p words.Ensures e semi (clauses_marks r (k + 1) rest) (one_requirement (all_of r rest)) _ (more_spelled r (k + 1) rest)
+more_spelled r k (decreases p e semi rest) = clause_behind 0 p words.Decreases e semi (clauses_marks r k rest) (one_requirement (all_of r rest)) _ (more_spelled r k rest)
+
+-- what such clauses are read as
+clauses_with : List Clause → Clauses
+clauses_with cs = record { clauses = cs; requires = 0; ensures = 0; measured = false }
+
+one_more : (may : Bool) (c : Clauses) (ms : List Mark) (g : ClausesFor may c ms) → ClausesFor may (clauses_with (clauses_meant (more_clauses g.phrase))) (ms ++ one_requirement (all_of 0 g.phrase))
+unfolding clauses_with
+one_more may c ms g = record {
+  phrase = more_clauses g.phrase;
+  stands = more_stand may g.phrase g.stands;
+  clauses_are = refl;
+  spelled = more_spelled 0 0 g.phrase ∙ ap (λ l. l ++ one_requirement (all_of 0 g.phrase)) g.spelled;
+}
+
 pub starts_clauses : (may : Bool) → Starts (ClausesFor may) []
 starts_clauses may = record { value = reading.no_clauses; more = []; spelled = record { phrase = no_clauses; stands = tt; clauses_are = refl; spelled = refl } }
 
@@ -270,15 +317,53 @@ starts_rest place x ps = starts_sequence (ReturnsFor 0) _ (starts_returns 0) (λ
 starts_header : (place : Place) (x : Placed) → Starts (Sequence (ParametersFor 0) (λ ps. Sequence (ReturnsFor 0) (λ rs. Sequence (ClausesFor false) (λ c. Sequence BodyFor (λ b. Nothing (method_of place x ps rs c b)))))) []
 starts_header place x = starts_sequence (ParametersFor 0) _ (starts_parameters 0) (λ ps. starts_rest place x ps)
 
+-- what stands behind the results of a method
+abbrev ContractParts : Place → Placed → List Declaration → List Declaration → Grammar Member
+ContractParts place x ps rs = Sequence (ClausesFor false) (λ c. Sequence BodyFor (λ b. Nothing (method_of place x ps rs c b)))
+
+-- behind clauses a block begins, or one more
+block_begins : (place : Place) (x : Placed) (ps rs : List Declaration) (c : Clauses) (ms : List Mark) → ClausesFor false c ms → Starts (After (ContractParts place x ps rs) ms) (mark 1 somewhere (symbol signs.OpenBrace) ∷ [])
+unfolding any_block
+block_begins place x ps rs c ms g = record {
+  value = method_of place x ps rs c (Some (block_meant any_block));
+  more = mark 1 somewhere (symbol signs.CloseBrace) ∷ [];
+  spelled = (c, ms, block_marks 0 any_block, refl, g, (Some (block_meant any_block), block_marks 0 any_block, [], sym (append-nil (block_marks 0 any_block)), record { phrase = Some any_block; stands = tt; means = refl; spelled = refl }, (refl, refl)));
+}
+
+clause_begins : (place : Place) (x : Placed) (ps rs : List Declaration) (c : Clauses) (ms : List Mark) (g : ClausesFor false c ms) → Starts (After (ContractParts place x ps rs) ms) (mark (all_of 0 g.phrase) somewhere (word words.Requires) ∷ [])
+unfolding one_requirement
+clause_begins place x ps rs c ms g =
+    let d = clauses_with (clauses_meant (more_clauses g.phrase)) in
+    let last = one_requirement (all_of 0 g.phrase) in
+    record {
+      value = method_of place x ps rs d None;
+      more = marks (all_of 0 g.phrase) a_phrase;
+      spelled = (d, ms ++ last, [], sym (append-nil (ms ++ last)), one_more false c ms g, (None, [], [], refl, no_body_for, (refl, refl)));
+    }
+
+body_by_tells : (place : Place) (x : Placed) (ps rs : List Declaration) (c : Clauses) (ms : List Mark) (ts : List Token) (b d : Bool) → begins_decreases ts ≡ d → ClausesFor false c ms
+    → (let r : Read (Option Block) = cond b (some_block limit ts) (cond d (Err (Measured ts)) (Ok (None, ts))) in Tells (After (ContractParts place x ps rs) ms) limit ts (r >>= λ b. Ok (method_of place x ps rs c b.0, b.1)))
+body_by_tells place x ps rs c ms ts true d h g =
+    tells_second (ClausesFor false) _ limit c ts ms _ g
+    (tells_sequence BodyFor _ limit ts (some_block limit ts) _ (λ b. starts_nothing _) (block_body_tells ts) (λ b us. tells_nothing limit us _))
+body_by_tells place x ps rs c ms ts false true h g =
+    tells_measured (After (ContractParts place x ps rs) ms) limit ts (mark 1 somewhere (symbol signs.OpenBrace)) (mark (all_of 0 g.phrase) somewhere (word words.Requires)) h refl (block_begins place x ps rs c ms g) (inl refl) (clause_begins place x ps rs c ms g)
+body_by_tells place x ps rs c ms ts false false h g =
+    tells_here (After (ContractParts place x ps rs) ms) limit ts (method_of place x ps rs c None) (c, ms, [], refl, g, (None, [], [], refl, no_body_for, (refl, refl)))
+
+-- the body of a method
+body_tells : (place : Place) (x : Placed) (ps rs : List Declaration) (c : Clauses) (ms : List Mark) (ts : List Token) → ClausesFor false c ms → Tells (After (ContractParts place x ps rs) ms) limit ts (body_at limit ts >>= λ b. Ok (method_of place x ps rs c b.0, b.1))
+unfolding body_at
+body_tells place x ps rs c ms ts g = body_by_tells place x ps rs c ms ts (begins_braces ts) (begins_decreases ts) refl g
+
 parts_tells : (place : Place) (ts : List Token) → Tells (MethodParts place) limit ts (method_at limit place ts)
 unfolding method_at
 parts_tells place ts =
     tells_sequence (NameFor 0) _ limit ts (name_at ts) _ (λ x. starts_header place x) (name_tells limit 0 ts (omega arith))
     (λ x us. tells_sequence (ParametersFor 0) _ limit us (parameters_at us) _ (λ ps. starts_rest place x ps) (parameters_tells limit 0 us (omega arith))
     (λ ps vs. tells_sequence (ReturnsFor 0) _ limit vs (returns_at vs) _ (λ rs. starts_contract place x ps rs) (returns_tells limit 0 vs (omega arith))
-    (λ rs ws. tells_sequence (ClausesFor false) _ limit ws (clauses_at limit false ws) _ (λ c. starts_with_body place x ps rs c) (clauses_tells false ws)
-    (λ c xs. tells_sequence BodyFor _ limit xs (body_at limit xs) _ (λ b. starts_nothing _) (body_tells xs)
-    (λ b ys. tells_nothing limit ys _)))))
+    (λ rs ws. tells_sequence_by (ClausesFor false) _ limit ws (clauses_at limit false ws) _ (λ c. starts_with_body place x ps rs c) (clauses_tells false ws)
+    (λ c xs ms g. body_tells place x ps rs c ms xs g))))
 
 -- a method that begins with this token
 pub method_tells : (t : Token) (ts : List Token) → t.kind ≡ word words.Method → Tells MethodFor limit (t ∷ ts) (method_at limit t.place ts)

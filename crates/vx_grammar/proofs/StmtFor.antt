@@ -43,7 +43,7 @@ pub record InsideFor (n : ℕ) (b : Block) (ms : List Mark) : Type 0 where
   pub means : row_meant phrase ≡ b
   pub spelled : row_marks n phrase ≡ ms
 
-a_phrase : Phrase
+unfoldable pub a_phrase : Phrase
 a_phrase = literal somewhere true
 
 pub starts_stmt : (n : ℕ) → Starts (StmtFor n) []
@@ -53,7 +53,7 @@ starts_stmt n = record { value = stmt_meant (claimed asserts somewhere a_phrase)
 pub starts_inside : (n : ℕ) → Starts (InsideFor n) []
 starts_inside n = record { value = Done; more = []; spelled = record { phrase = no_more; stands = tt; means = refl; spelled = refl } }
 
-any_block : BlockPhrase
+unfoldable pub any_block : BlockPhrase
 any_block = block somewhere no_more somewhere
 
 pub starts_block : (n : ℕ) → Starts (BlockFor n) []

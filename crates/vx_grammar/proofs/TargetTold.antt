@@ -121,22 +121,49 @@ starts_path : (n : ℕ) → Starts (PathFor n) []
 starts_path n = record { value = _; more = _; spelled = record { phrase = named somewhere []; is = tt; stands = tt; means = refl; spelled = refl } }
 
 -- where the first token is a name, whatever the marks begin with is a path
-path_starts : (n : ℕ) (t : Token) (ts : List Token) (x : List ℕ) (ms : List Mark) (rest : List Token) → t.kind ≡ name x → t ∷ ts ≡ tokens_of ms ++ rest → Starts (PhraseFor n 0) ms → Starts (PathFor n) ms
-path_starts n t ts x [] rest k takes s = starts_path n
-path_starts n t ts x (m ∷ ms) rest k takes s =
-    let one : t ≡ m.token = cc in
-    let km : m.token.kind ≡ name x = ap (λ (u : Token). u.kind) (sym one) ∙ k in
+path_from : (n : ℕ) (m : Mark) (ms : List Mark) (x : List ℕ) → m.token.kind ≡ name x → Starts (PhraseFor n 0) (m ∷ ms) → Starts (PathFor n) (m ∷ ms)
+path_from n m ms x k s =
     let more = s.more in
     record {
       value = s.value;
       more = more;
-      spelled = as_path n m.token (tokens_of (ms ++ more)) x s.value (m ∷ (ms ++ more)) [] km (ap (λ l. m.token ∷ l) (sym (append-nil (tokens_of (ms ++ more))))) s.spelled;
+      spelled = as_path n m.token (tokens_of (ms ++ more)) x s.value (m ∷ (ms ++ more)) [] k (ap (λ l. m.token ∷ l) (sym (append-nil (tokens_of (ms ++ more))))) s.spelled;
     }
+
+path_starts : (n : ℕ) (t : Token) (ts : List Token) (x : List ℕ) (ms : List Mark) (rest : List Token) → t.kind ≡ name x → t ∷ ts ≡ tokens_of ms ++ rest → Starts (PhraseFor n 0) ms → Starts (PathFor n) ms
+path_starts n t ts x [] rest k takes s = starts_path n
+path_starts n t ts x (m ∷ ms) rest k takes s =
+    let one : t ≡ m.token = cc in
+    path_from n m ms x (ap (λ (u : Token). u.kind) (sym one) ∙ k) s
+
+path_measured : (n : ℕ) (t : Token) (ts : List Token) (x : List ℕ) (ms : List Mark) (next : Mark) (measure : Token) (after : List Token) → t.kind ≡ name x → measure.kind ≡ word words.Decreases → t ∷ ts ≡ tokens_of ms ++ measure ∷ after → Starts (PhraseFor n 0) (ms ++ next ∷ []) → Starts (PathFor n) (ms ++ next ∷ [])
+path_measured n t ts x [] next measure after k d takes s =
+    let one : t ≡ measure = cc in
+    let both : name x ≡ word words.Decreases = sym k ∙ ap (λ (u : Token). u.kind) one ∙ d in
+    absurd cc
+path_measured n t ts x (m ∷ ms) next measure after k d takes s =
+    let one : t ≡ m.token = cc in
+    path_from n m (ms ++ next ∷ []) x (ap (λ (u : Token). u.kind) (sym one) ∙ k) s
 
 path_tells : (limit n room : ℕ) (t : Token) (x : List ℕ) (ts : List Token) (r : Read Expr) → t.kind ≡ name x → Tells (PhraseFor n 0) limit (t ∷ ts) r → Tells (PathFor n) limit (t ∷ ts) r
 path_tells limit n room t x ts (Ok y) k h = record { marks = h.marks; takes = h.takes; spelled = as_path n t ts x y.0 h.marks y.1 k h.takes.tokens h.spelled }
 path_tells limit n room t x ts (Err (Unexpected rest)) k h = record { marks = h.marks; takes = h.takes; starts = path_starts n t ts x h.marks rest k h.takes.tokens h.starts }
-path_tells limit n room t x ts (Err (Measured rest)) k h = record { marks = h.marks; takes = h.takes; starts = path_starts n t ts x h.marks rest k h.takes.tokens h.starts }
+path_tells limit n room t x ts (Err (Measured rest)) k h =
+    let all : t ∷ ts ≡ tokens_of h.marks ++ h.measure ∷ h.after = h.takes.tokens ∙ ap (λ l. tokens_of h.marks ++ l) h.first in
+    record {
+      marks = h.marks;
+      takes = h.takes;
+      measure = h.measure;
+      after = h.after;
+      first = h.first;
+      is_measure = h.is_measure;
+      block = h.block;
+      block_is = h.block_is;
+      block_starts = path_measured n t ts x h.marks h.block h.measure h.after k h.is_measure all h.block_starts;
+      clause = h.clause;
+      clause_is = h.clause_is;
+      clause_starts = path_measured n t ts x h.marks h.clause h.measure h.after k h.is_measure all h.clause_starts;
+    }
 path_tells limit n room t x ts (Err (TooDeep rest)) k h = record {
   marks = h.marks;
   takes = h.takes;
