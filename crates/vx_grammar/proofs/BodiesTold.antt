@@ -1,8 +1,8 @@
 -- What reading an expression between braces, the body of a predicate and the body of a method tells.
-use Rattle.std.proofs.Common.{◌≡◌, ℕ, List, [], ◌∷◌, ◌++◌, Option, Some, None, Bool, true, false, Ok, refl, sym, ap, ◌∙◌, arith, cond}
+use Rattle.std.proofs.Common.{◌≡◌, List, [], ◌∷◌, ◌++◌, Option, Some, None, Bool, true, false, Ok, refl, sym, ap, ◌∙◌, arith, cond}
 use Rattle.std.proofs.lemmas.List.{append-nil}
 use Rattle.vx_ast.specs.declared.Place.{Place}
-use Rattle.vx_ast.specs.Written.{Expr, Block, Declaration, Member}
+use Rattle.vx_ast.specs.Written.{Placed, Expr, Block, Declaration, Member}
 use Rattle.vx_tokens.specs.declared.token.Word.TheVariants as words
 use Rattle.vx_tokens.specs.declared.token.Symbol.TheVariants as signs
 use Rattle.vx_tokens.specs.Tokens.{Token, name, word}
@@ -11,7 +11,7 @@ use Rattle.vx_grammar.specs.Statements.{BlockPhrase}
 use Rattle.vx_grammar.specs.Programs.{BracedPhrase, braced_marks, given_meant, GivenStands, given_marks, PredicatePhrase, predicate_meant, predicate_marks, body_meant, BodyStands, body_marks, parameters_marks}
 use Rattle.vx_grammar.specs.Reading.{choice, below, name_at}
 use Rattle.vx_grammar.specs.StmtReading.{block_at, stmts_below}
-use Rattle.vx_grammar.specs.MemberReading.{limit, begins_braces, braced_at, some_braced, given_at, predicate_of, predicate_at, parameters_at, some_block, body_at}
+use Rattle.vx_grammar.specs.MemberReading.{limit, begins_braces, braced_at, some_braced, given_at, predicate_of, predicate_at, parameters_at, some_block}
 use Rattle.vx_grammar.proofs.Tells.{Grammar, Starts, Tells, somewhere, NameFor, name_tells, marks_is, tells_as, tells_here}
 use Rattle.vx_grammar.proofs.Sequence.{Sequence, Nothing, tells_sequence, starts_sequence, starts_nothing, tells_nothing}
 use Rattle.vx_grammar.proofs.Bracketed.{Nested, Bracketed, bracket_tells, led_tells}
@@ -98,17 +98,17 @@ predicate_of_parts : (t : Token) → t.kind ≡ word words.Predicate → (m : Me
 predicate_of_parts t k m ms h = by_parts h.inner h.is h.spelled
   where
     by_parts : (inner : List Mark) → (let s : Mark = record { token = t; count = 0 } in ms ≡ s ∷ inner) → PredicateParts t.place m inner → PredicateFor m ms
-    by_parts inner is (x, a, a', q, (p, z), (ps, b, b', q', g, (o, c, c', q'', r, (v, y)))) = record {
-      phrase = record { at = t.place; name_at = p; text = x; parameters = g.phrase; body = r.phrase };
+    by_parts inner is (x, a, a', q, z, (ps, b, b', q', g, (o, c, c', q'', r, (v, y)))) = record {
+      phrase = record { at = t.place; name_at = x.place; text = x.name; parameters = g.phrase; body = r.phrase };
       stands = r.stands;
       means = ap (λ l. predicate_of t.place x l (given_meant r.phrase)) g.means ∙ ap (predicate_of t.place x ps) r.means ∙ sym v;
       spelled = marks_is t (word words.Predicate) 0 _ k ∙ ap (λ l. let s : Mark = record { token = t; count = 0 } in s ∷ l) (sym all) ∙ sym is;
     }
       where
-        all : inner ≡ mark 0 p (name x) ∷ (parameters_marks 0 g.phrase ++ given_marks r.phrase)
-        all = q ∙ ap (λ l. l ++ a') z ∙ ap (λ l. mark 0 p (name x) ∷ l) (q' ∙ ap (λ l. l ++ b') (sym g.spelled) ∙ ap (λ l. parameters_marks 0 g.phrase ++ l) (q'' ∙ ap (λ l. c ++ l) y ∙ append-nil c ∙ sym r.spelled))
+        all : inner ≡ mark 0 x.place (name x.name) ∷ (parameters_marks 0 g.phrase ++ given_marks r.phrase)
+        all = q ∙ ap (λ l. l ++ a') z ∙ ap (λ l. mark 0 x.place (name x.name) ∷ l) (q' ∙ ap (λ l. l ++ b') (sym g.spelled) ∙ ap (λ l. parameters_marks 0 g.phrase ++ l) (q'' ∙ ap (λ l. c ++ l) y ∙ append-nil c ∙ sym r.spelled))
 
-starts_predicate_body : (place : Place) (x : List ℕ) (ps : List Declaration) → Starts (Sequence GivenFor (λ b. Nothing (predicate_of place x ps b))) []
+starts_predicate_body : (place : Place) (x : Placed) (ps : List Declaration) → Starts (Sequence GivenFor (λ b. Nothing (predicate_of place x ps b))) []
 starts_predicate_body place x ps = starts_sequence GivenFor _ starts_given (λ b. starts_nothing _)
 
 -- a predicate that begins with this token
@@ -130,7 +130,7 @@ pub record BodyFor (o : Option Block) (ms : List Mark) : Type 0 where
   pub means : body_meant phrase ≡ o
   pub spelled : body_marks phrase ≡ ms
 
-no_body_for : BodyFor None []
+pub no_body_for : BodyFor None []
 no_body_for = record { phrase = None; stands = tt; means = refl; spelled = refl }
 
 pub starts_body : Starts BodyFor []
@@ -144,13 +144,9 @@ body_of o ms (e, a, b, q, r, (v, z)) = record {
   spelled = r.spelled ∙ sym (q ∙ rw z (append-nil a));
 }
 
-body_by_tells : (ts : List Token) (b : Bool) → Tells BodyFor limit ts (cond b (some_block limit ts) (Ok (None, ts)))
+-- behind an opening brace
+pub block_body_tells : (ts : List Token) → Tells BodyFor limit ts (some_block limit ts)
 unfolding some_block
-body_by_tells ts true =
+block_body_tells ts =
     tells_as (Sequence (BlockFor 0) (λ b. Nothing (Some b))) BodyFor limit ts _ body_of
     (tells_sequence (BlockFor 0) _ limit ts (block_at (stmts_below limit) ts) _ (λ b. starts_nothing _) (block_reading_tells limit 0 limit ts (omega arith)) (λ b us. tells_nothing limit us _))
-body_by_tells ts false = tells_here BodyFor limit ts None no_body_for
-
-pub body_tells : (ts : List Token) → Tells BodyFor limit ts (body_at limit ts)
-unfolding body_at
-body_tells ts = body_by_tells ts (begins_braces ts)

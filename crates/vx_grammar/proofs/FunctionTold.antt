@@ -1,19 +1,19 @@
 -- What reading functions tells.
-use Rattle.std.proofs.Common.{◌≡◌, ℕ, List, [], ◌∷◌, ◌++◌, Bool, true, false, Ok, Err, refl, sym, ap, subst, ◌∙◌, arith, cond, inl, inr, ◌⊎◌}
+use Rattle.std.proofs.Common.{◌≡◌, List, [], ◌∷◌, ◌++◌, Bool, true, false, Ok, Err, refl, sym, ap, subst, ◌∙◌, arith, cond, inl, inr, ◌⊎◌}
 use Rattle.std.proofs.lemmas.List.{append-nil}
 use Rattle.vx_ast.specs.declared.Place.{Place}
 use Rattle.vx_ast.specs.declared.ValueType.{ValueType}
-use Rattle.vx_ast.specs.Written.{Expr, Declaration, Member}
+use Rattle.vx_ast.specs.Written.{Placed, Expr, Declaration, Member}
 use Rattle.vx_tokens.specs.declared.token.Word.TheVariants as words
 use Rattle.vx_tokens.specs.declared.token.Symbol.TheVariants as signs
 use Rattle.vx_tokens.specs.Tokens.{Token, name, word, symbol}
 use Rattle.vx_grammar.specs.Grammar.{literal, meant, Mark, mark, tokens_of}
 use Rattle.vx_grammar.specs.Laws.{Within}
 use Rattle.vx_grammar.specs.Statements.{type_word}
-use Rattle.vx_grammar.specs.Programs.{ParametersPhrase, ClausesPhrase, BracedPhrase, braced_marks, FunctionPhrase, function_meant, StandsFunction, head_marks, function_marks, parameters_marks, clauses_marks, StandsClauses, requires_meant, ensures_meant, measure_meant, declarations_meant}
-use Rattle.vx_grammar.specs.Reading.{Read, Unexpected, expect, name_at, ◌>>=◌, exprs_from}
-use Rattle.vx_grammar.specs.StmtReading.{type_at}
-use Rattle.vx_grammar.specs.MemberReading.{limit, stopped, bodiless, measured_twice, Halting, halting, Clauses, parameters_at, clauses_at, begins_braces, begins_measure, braced_at, Head, function_of, head_at, function_by, no_body_at, behind_head, function_at}
+use Rattle.vx_grammar.specs.Programs.{ParametersPhrase, ClausesPhrase, BracedPhrase, braced_marks, FunctionPhrase, function_meant, StandsFunction, head_marks, function_marks, parameters_marks, clauses_marks, StandsClauses, clauses_meant, declarations_meant}
+use Rattle.vx_grammar.specs.Reading.{Read, Unexpected, expect, name_at, ◌>>=◌}
+use Rattle.vx_grammar.specs.StmtReading.{is_measure, begins_decreases, type_at}
+use Rattle.vx_grammar.specs.MemberReading.{limit, stopped, bodiless, measured_twice, Halting, halting, Clauses, parameters_at, clauses_at, begins_braces, braced_at, Head, function_of, head_at, function_by, no_body_at, behind_head, function_at}
 use Rattle.vx_grammar.proofs.Tells.{Grammar, Starts, Takes, Tells, Sign, starts_sign, somewhere, token_is, marks_is, NameFor, name_tells, tells_as, tells_unexpected, tells_expect}
 use Rattle.vx_grammar.proofs.Sequence.{Sequence, Nothing, tells_sequence, starts_sequence, starts_nothing, tells_nothing}
 use Rattle.vx_grammar.proofs.Bracketed.{Nested, led_tells}
@@ -37,19 +37,16 @@ plain_halting (Err stop) = refl
 
 -- a function behind its first word, up to its body
 pub record HeadFor (h : Head) (ms : List Mark) : Type 0 where
-  pub name_at : Place
   pub parameters : ParametersPhrase
   pub colon_at : Place
   pub type_at : Place
   pub clauses : ClausesPhrase
   pub stands : StandsClauses true clauses
   pub parameters_are : declarations_meant parameters.inner ≡ h.parameters
-  pub requires_are : requires_meant clauses ≡ exprs_from h.clauses.requires
-  pub ensures_are : ensures_meant clauses ≡ exprs_from h.clauses.ensures
-  pub measure_is : measure_meant clauses ≡ h.clauses.measure
-  pub spelled : mark 0 name_at (name h.name) ∷ (parameters_marks 0 parameters ++ mark 0 colon_at (symbol signs.Colon) ∷ mark 0 type_at (word (type_word h.of)) ∷ clauses_marks 0 0 clauses) ≡ ms
+  pub clauses_are : clauses_meant clauses ≡ h.clauses.clauses
+  pub spelled : mark 0 h.name.place (name h.name.name) ∷ (parameters_marks 0 parameters ++ mark 0 colon_at (symbol signs.Colon) ∷ mark 0 type_at (word (type_word h.of)) ∷ clauses_marks 0 0 clauses) ≡ ms
 
-head_with : List ℕ → List Declaration → ValueType → Clauses → Head
+head_with : Placed → List Declaration → ValueType → Clauses → Head
 head_with x ps t c = record { name = x; parameters = ps; of = t; clauses = c }
 
 abbrev HeadParts : Grammar Head
@@ -57,17 +54,14 @@ HeadParts = Sequence (NameFor 0) (λ x. Sequence (ParametersFor 0) (λ ps. Seque
 
 head_of : (h : Head) (ms : List Mark) → HeadParts h ms → HeadFor h ms
 unfolding head_with
-head_of h ms (x, a, a', q, (p, z), (ps, b, b', q', g, (c, d, d', q'', (cp, ce, cm), (t, f, f', q3, (tp, te), (cl, i, i', q4, r, (v, y)))))) = subst (λ k. HeadFor k ms) (sym v) (record {
-  name_at = p;
+head_of h ms (x, a, a', q, z, (ps, b, b', q', g, (c, d, d', q'', (cp, ce, cm), (t, f, f', q3, (tp, te), (cl, i, i', q4, r, (v, y)))))) = subst (λ k. HeadFor k ms) (sym v) (record {
   parameters = g.phrase;
   colon_at = cp;
   type_at = tp;
   clauses = r.phrase;
   stands = r.stands;
   parameters_are = g.means;
-  requires_are = r.requires_are;
-  ensures_are = r.ensures_are;
-  measure_is = r.measure_is;
+  clauses_are = r.clauses_are;
   spelled = sym all;
 })
   where
@@ -80,19 +74,19 @@ head_of h ms (x, a, a', q, (p, z), (ps, b, b', q', g, (c, d, d', q'', (cp, ce, c
     behind_parameters : b' ≡ mark 0 cp (symbol signs.Colon) ∷ mark 0 tp (word (type_word t)) ∷ clauses_marks 0 0 r.phrase
     behind_parameters = q'' ∙ ap (λ l. l ++ d') cm ∙ ap (λ l. mark 0 cp (symbol signs.Colon) ∷ l) behind_colon
 
-    all : ms ≡ mark 0 p (name x) ∷ (parameters_marks 0 g.phrase ++ mark 0 cp (symbol signs.Colon) ∷ mark 0 tp (word (type_word t)) ∷ clauses_marks 0 0 r.phrase)
-    all = q ∙ ap (λ l. l ++ a') z ∙ ap (λ l. mark 0 p (name x) ∷ l) (q' ∙ ap (λ l. l ++ b') (sym g.spelled) ∙ ap (λ l. parameters_marks 0 g.phrase ++ l) behind_parameters)
+    all : ms ≡ mark 0 x.place (name x.name) ∷ (parameters_marks 0 g.phrase ++ mark 0 cp (symbol signs.Colon) ∷ mark 0 tp (word (type_word t)) ∷ clauses_marks 0 0 r.phrase)
+    all = q ∙ ap (λ l. l ++ a') z ∙ ap (λ l. mark 0 x.place (name x.name) ∷ l) (q' ∙ ap (λ l. l ++ b') (sym g.spelled) ∙ ap (λ l. parameters_marks 0 g.phrase ++ l) behind_parameters)
 
-starts_contract : (x : List ℕ) (ps : List Declaration) (t : ValueType) → Starts (Sequence (ClausesFor true) (λ cl. Nothing (head_with x ps t cl))) []
+starts_contract : (x : Placed) (ps : List Declaration) (t : ValueType) → Starts (Sequence (ClausesFor true) (λ cl. Nothing (head_with x ps t cl))) []
 starts_contract x ps t = starts_sequence (ClausesFor true) _ (starts_clauses true) (λ cl. starts_nothing _)
 
-starts_of : (x : List ℕ) (ps : List Declaration) → Starts (Sequence (TypeFor 0) (λ t. Sequence (ClausesFor true) (λ cl. Nothing (head_with x ps t cl)))) []
+starts_of : (x : Placed) (ps : List Declaration) → Starts (Sequence (TypeFor 0) (λ t. Sequence (ClausesFor true) (λ cl. Nothing (head_with x ps t cl)))) []
 starts_of x ps = starts_sequence (TypeFor 0) _ (starts_type 0) (λ t. starts_contract x ps t)
 
-starts_result : (x : List ℕ) (ps : List Declaration) → Starts (Sequence (Sign 0 signs.Colon) (λ c. Sequence (TypeFor 0) (λ t. Sequence (ClausesFor true) (λ cl. Nothing (head_with x ps t cl))))) []
+starts_result : (x : Placed) (ps : List Declaration) → Starts (Sequence (Sign 0 signs.Colon) (λ c. Sequence (TypeFor 0) (λ t. Sequence (ClausesFor true) (λ cl. Nothing (head_with x ps t cl))))) []
 starts_result x ps = starts_sequence (Sign 0 signs.Colon) _ (starts_sign 0 signs.Colon) (λ c. starts_of x ps)
 
-starts_signature : (x : List ℕ) → Starts (Sequence (ParametersFor 0) (λ ps. Sequence (Sign 0 signs.Colon) (λ c. Sequence (TypeFor 0) (λ t. Sequence (ClausesFor true) (λ cl. Nothing (head_with x ps t cl)))))) []
+starts_signature : (x : Placed) → Starts (Sequence (ParametersFor 0) (λ ps. Sequence (Sign 0 signs.Colon) (λ c. Sequence (TypeFor 0) (λ t. Sequence (ClausesFor true) (λ cl. Nothing (head_with x ps t cl)))))) []
 starts_signature x = starts_sequence (ParametersFor 0) _ (starts_parameters 0) (λ ps. starts_result x ps)
 
 pub head_tells : (ts : List Token) → Tells HeadFor limit ts (head_at limit ts)
@@ -115,10 +109,10 @@ pub record FunctionFor (m : Member) (ms : List Mark) : Type 0 where
   pub spelled : function_marks phrase ≡ ms
 
 abbrev pub with_head : (at : Place) (h : Head) (ms : List Mark) → HeadFor h ms → BracedPhrase → FunctionPhrase
-with_head at h ms g w = record { at = at; name_at = g.name_at; text = h.name; parameters = g.parameters; colon_at = g.colon_at; type_at = g.type_at; of = h.of; clauses = g.clauses; body = w }
+with_head at h ms g w = record { at = at; name_at = h.name.place; text = h.name.name; parameters = g.parameters; colon_at = g.colon_at; type_at = g.type_at; of = h.of; clauses = g.clauses; body = w }
 
 with_head_means : (at : Place) (h : Head) (ms : List Mark) (g : HeadFor h ms) (w : BracedPhrase) (e : Expr) → meant w.inner ≡ e → function_meant (with_head at h ms g w) ≡ function_of at h e
-with_head_means at h ms g w e q = rw (g.parameters_are, g.requires_are, g.ensures_are, g.measure_is, q) refl
+with_head_means at h ms g w e q = rw (g.parameters_are, g.clauses_are, q) refl
 
 abbrev FunctionParts : Place → Grammar Member
 FunctionParts place = Sequence HeadFor (λ h. Sequence BracedFor (λ e. Nothing (function_of place h e)))
@@ -141,7 +135,7 @@ body_behind place h = cond (begins_braces h.1) (function_by limit place h.0 h.1)
 
 no_body_plain : (ts : List Token) → (let r : Halting Member = Err (no_body_at ts) in plain r) ≡ Err (Unexpected ts)
 no_body_plain [] = refl
-no_body_plain (t ∷ ts) = by_word (begins_measure true t.kind)
+no_body_plain (t ∷ ts) = by_word (is_measure t.kind)
   where
     by_word : (b : Bool) → (let r : Halting Member = Err (cond b (measured_twice (t ∷ ts)) (bodiless (t ∷ ts))) in plain r) ≡ Err (Unexpected (t ∷ ts))
     by_word true = refl
@@ -197,7 +191,7 @@ never_wants r rest h = halting_wants r rest h
 no_body_rest : (place : Place) (ts rest : List Token) → (let r : Halting Member = Err (no_body_at ts) in WantsBody r rest) → ts ≡ rest
 no_body_rest place [] rest (inl e) = cc
 no_body_rest place [] rest (inr e) = cc
-no_body_rest place (t ∷ ts) rest h = by_word (begins_measure true t.kind) h
+no_body_rest place (t ∷ ts) rest h = by_word (is_measure t.kind) h
   where
     by_word : (b : Bool) → (let r : Halting Member = Err (cond b (measured_twice (t ∷ ts)) (bodiless (t ∷ ts))) in WantsBody r rest) → t ∷ ts ≡ rest
     by_word true (inl e) = cc
@@ -229,3 +223,36 @@ head_taken t ts rest k (Ok h) g w = by_braces (begins_braces h.1) w
 pub function_wants : (t : Token) (ts rest : List Token) → t.kind ≡ word words.Function → WantsBody (function_at limit t.place ts) rest → HeadTaken (t ∷ ts) rest
 unfolding function_at
 function_wants t ts rest k w = head_taken t ts rest k (head_at limit ts) (head_tells ts) w
+
+-- ---- a second measure
+
+-- a measure is told where a body is due, and only a measure
+abbrev pub TellsMeasure : {A : Type 0} → Halting A → Type 0
+TellsMeasure (Ok x) = Unit {0}
+TellsMeasure (Err (stopped stop)) = Unit {0}
+TellsMeasure (Err (bodiless rest)) = begins_decreases rest ≡ false
+TellsMeasure (Err (measured_twice rest)) = begins_decreases rest ≡ true
+
+pub none_told : {A : Type 0} (r : Read A) → TellsMeasure (halting r)
+none_told (Ok x) = tt
+none_told (Err stop) = tt
+
+no_body_told : (ts : List Token) → (let r : Halting Member = Err (no_body_at ts) in TellsMeasure r)
+no_body_told [] = refl
+no_body_told (t ∷ ts) = by_word (is_measure t.kind) refl
+  where
+    by_word : (b : Bool) → is_measure t.kind ≡ b → (let r : Halting Member = Err (cond b (measured_twice (t ∷ ts)) (bodiless (t ∷ ts))) in TellsMeasure r)
+    by_word true e = e
+    by_word false e = e
+
+body_told : (place : Place) (h : Head) (ts : List Token) (b : Bool) → TellsMeasure (cond b (halting (function_by limit place h ts)) (Err (no_body_at ts)))
+body_told place h ts true = none_told (function_by limit place h ts)
+body_told place h ts false = no_body_told ts
+
+head_told : (place : Place) (r : Read Head) → TellsMeasure (behind_head limit place r)
+head_told place (Ok h) = body_told place h.0 h.1 (begins_braces h.1)
+head_told place (Err stop) = tt
+
+pub function_told : (place : Place) (ts : List Token) → TellsMeasure (function_at limit place ts)
+unfolding function_at
+function_told place ts = head_told place (head_at limit ts)

@@ -2,7 +2,7 @@
 use Rattle.std.proofs.Common.{◌≡◌, ℕ, ◌+◌, List, [], ◌∷◌, ◌++◌, refl, sym, ap, ◌∙◌, arith}
 use Rattle.std.proofs.lemmas.List.{append-nil}
 use Rattle.vx_ast.specs.declared.Place.{Place}
-use Rattle.vx_ast.specs.Written.{Exprs, Amount, All}
+use Rattle.vx_ast.specs.Written.{Placed, placed, Exprs, Amount, All}
 use Rattle.vx_tokens.specs.declared.token.Word.TheVariants as words
 use Rattle.vx_tokens.specs.declared.token.Symbol.TheVariants as signs
 use Rattle.vx_tokens.specs.Tokens.{Token, Kind, name, word, symbol}
@@ -15,7 +15,7 @@ use Rattle.vx_grammar.proofs.PhraseFor.{count_down}
 use Rattle.vx_grammar.proofs.PrimaryTells.{ChoiceTells, ToldInside, AmountFor, starts_amount, amount_tells, ArgumentsFor, starts_arguments, arguments_tells, enclosed_tells, made_tells}
 
 -- an instance of these parts
-pub instance_of : List ℕ → Exprs → Amount → Instance
+pub instance_of : Placed → Exprs → Amount → Instance
 instance_of x es a = record { predicate = x; arguments = es; amount = a }
 
 -- ---- what `acc` holds
@@ -29,16 +29,16 @@ pub record HoldingFor (n : ℕ) (i : Instance) (ms : List Mark) : Type 0 where
   pub amount : AmountPhrase
   pub inner_stands : ArgumentsStand inner
   pub amount_stands : AmountStands amount
-  pub means : instance_of text (arguments_meant inner) (amount_meant amount) ≡ i
+  pub means : instance_of (placed at text) (arguments_meant inner) (amount_meant amount) ≡ i
   pub spelled : mark n at (name text) ∷ mark (n + 1) from (symbol signs.Open) ∷ ((arguments_marks (n + 1) inner ++ mark (n + 1) to (symbol signs.Close) ∷ []) ++ amount_marks n amount) ≡ ms
 
 abbrev HoldingParts : ℕ → Grammar Instance
 HoldingParts n = Sequence (NameFor n) (λ x. Sequence (Bracketed n signs.Open signs.Close (ArgumentsFor (n + 1))) (λ es. Sequence (AmountFor n) (λ a. Nothing (instance_of x es a))))
 
 holding_of : (n : ℕ) (i : Instance) (ms : List Mark) → HoldingParts n i ms → HoldingFor n i ms
-holding_of n i ms (x, a, b, q, (p, z), (es, a', b', q', r, (am, c, d, q'', s, (v, y)))) = record {
-  at = p;
-  text = x;
+holding_of n i ms (x, a, b, q, z, (es, a', b', q', r, (am, c, d, q'', s, (v, y)))) = record {
+  at = x.place;
+  text = x.name;
   from = r.from;
   inner = r.spelled.phrase;
   to = r.to;
@@ -46,22 +46,22 @@ holding_of n i ms (x, a, b, q, (p, z), (es, a', b', q', r, (am, c, d, q'', s, (v
   inner_stands = r.spelled.stands;
   amount_stands = s.stands;
   means = ap (λ l. instance_of x l (amount_meant s.phrase)) r.spelled.means ∙ ap (instance_of x es) s.means ∙ sym v;
-  spelled = ap (λ l. mark n p (name x) ∷ mark (n + 1) r.from (symbol signs.Open) ∷ ((l ++ mark (n + 1) r.to (symbol signs.Close) ∷ []) ++ amount_marks n s.phrase)) r.spelled.spelled
-      ∙ ap (λ l. mark n p (name x) ∷ (l ++ amount_marks n s.phrase)) (sym r.is)
-      ∙ ap (λ l. mark n p (name x) ∷ (a' ++ l)) (s.spelled ∙ sym (q'' ∙ rw y (append-nil c)))
-      ∙ ap (λ l. mark n p (name x) ∷ l) (sym q')
+  spelled = ap (λ l. mark n x.place (name x.name) ∷ mark (n + 1) r.from (symbol signs.Open) ∷ ((l ++ mark (n + 1) r.to (symbol signs.Close) ∷ []) ++ amount_marks n s.phrase)) r.spelled.spelled
+      ∙ ap (λ l. mark n x.place (name x.name) ∷ (l ++ amount_marks n s.phrase)) (sym r.is)
+      ∙ ap (λ l. mark n x.place (name x.name) ∷ (a' ++ l)) (s.spelled ∙ sym (q'' ∙ rw y (append-nil c)))
+      ∙ ap (λ l. mark n x.place (name x.name) ∷ l) (sym q')
       ∙ ap (λ l. l ++ b) (sym z)
       ∙ sym q;
 }
 
 pub starts_holding : (n : ℕ) → Starts (HoldingFor n) []
 starts_holding n = record {
-  value = instance_of [] (arguments_meant no_arguments) All;
+  value = instance_of (placed somewhere []) (arguments_meant no_arguments) All;
   more = mark n somewhere (name []) ∷ mark (n + 1) somewhere (symbol signs.Open) ∷ mark (n + 1) somewhere (symbol signs.Close) ∷ [];
   spelled = record { at = somewhere; text = []; from = somewhere; inner = no_arguments; to = somewhere; amount = no_amount; inner_stands = tt; amount_stands = tt; means = refl; spelled = refl };
 }
 
-starts_behind_arguments : (n : ℕ) (x : List ℕ) (es : Exprs) → Starts (Sequence (AmountFor n) (λ a. Nothing (instance_of x es a))) []
+starts_behind_arguments : (n : ℕ) (x : Placed) (es : Exprs) → Starts (Sequence (AmountFor n) (λ a. Nothing (instance_of x es a))) []
 starts_behind_arguments n x es = starts_sequence (AmountFor n) _ (starts_amount n) (λ a. starts_nothing _)
 
 pub holding_tells : (limit n room : ℕ) (ts : List Token) → n + room ≡ limit → ChoiceTells limit room → ToldInside limit room → Tells (HoldingFor n) limit ts (holding_at (below room) ts)
@@ -87,14 +87,14 @@ starts_instance n =
     let w = alone somewhere [] somewhere no_arguments somewhere in
     record { value = instance_meant w; more = instance_marks n w; spelled = record { phrase = w; stands = tt; means = refl; spelled = refl } }
 
-bare_tells : (limit n room : ℕ) (t : Token) (x : List ℕ) (ts : List Token) → n + room ≡ limit → ToldInside limit room → t.kind ≡ name x → Tells (InstanceFor n) limit (t ∷ ts) (bare_by (below room) x ts)
+bare_tells : (limit n room : ℕ) (t : Token) (x : List ℕ) (ts : List Token) → n + room ≡ limit → ToldInside limit room → t.kind ≡ name x → Tells (InstanceFor n) limit (t ∷ ts) (bare_by (below room) (placed t.place x) ts)
 unfolding bare_by instance_of
 bare_tells limit n room t x ts e told k =
-    made_tells (InstanceFor n) arguments (ArgumentsFor (n + 1)) limit n room t ts (λ es. instance_of x es All) e (starts_arguments (n + 1)) (λ less s us. arguments_tells limit (n + 1) less us (count_down limit n room less e s) (told less s))
+    made_tells (InstanceFor n) arguments (ArgumentsFor (n + 1)) limit n room t ts (λ es. instance_of (placed t.place x) es All) e (starts_arguments (n + 1)) (λ less s us. arguments_tells limit (n + 1) less us (count_down limit n room less e s) (told less s))
     (λ y inner b. record {
       phrase = alone t.place x b.from b.spelled.phrase b.to;
       stands = b.spelled.stands;
-      means = ap (λ es. instance_of x es All) b.spelled.means;
+      means = ap (λ es. instance_of (placed t.place x) es All) b.spelled.means;
       spelled = marks_is t (name x) n _ k ∙ ap (λ l. let m : Mark = record { token = t; count = n } in m ∷ mark (n + 1) b.from (symbol signs.Open) ∷ (l ++ mark (n + 1) b.to (symbol signs.Close) ∷ [])) b.spelled.spelled ∙ ap (λ l. let m : Mark = record { token = t; count = n } in m ∷ l) (sym b.is);
     })
 

@@ -7,12 +7,12 @@ use Rattle.vx_ast.specs.Written.{Expr, Exprs, NoMore, More}
 use Rattle.vx_tokens.specs.declared.token.Word.TheVariants as words
 use Rattle.vx_tokens.specs.declared.token.Symbol.TheVariants as signs
 use Rattle.vx_tokens.specs.Tokens.{Token, Kind, word, symbol}
-use Rattle.vx_grammar.specs.Grammar.{Phrase, Mark, mark, marks, meant, StandsAt}
+use Rattle.vx_grammar.specs.Grammar.{Phrase, literal, Mark, mark, marks, meant, StandsAt}
 use Rattle.vx_grammar.specs.Statements.{semi_marks, InvariantsPhrase, no_invariants, invariant, invariants_meant, InvariantsStand, invariants_marks}
 use Rattle.vx_grammar.specs.Reading.{◌>>=◌, TooDeep, is_symbol, run, exprs_from, choice_at, below}
 use Rattle.vx_grammar.specs.StmtReading.{skip_semicolon, clause_at, begins_invariant, invariant_turn, invariants_at}
 use Rattle.vx_grammar.proofs.Symbols.{is_symbol_true}
-use Rattle.vx_grammar.proofs.Tells.{Grammar, Starts, Tells, takes_none, tells_as, tells_here, tells_token, marks_is}
+use Rattle.vx_grammar.proofs.Tells.{Grammar, somewhere, Starts, Tells, takes_none, tells_as, tells_here, tells_token, marks_is}
 use Rattle.vx_grammar.proofs.Sequence.{Sequence, Nothing, tells_sequence, starts_nothing, tells_nothing}
 use Rattle.vx_grammar.proofs.Steps.{Step, TurnFor, StepsBy, StepsFor, run_tells}
 use Rattle.vx_grammar.proofs.Bracketed.{Nested, led_tells}
@@ -140,6 +140,55 @@ pub record InvariantsFor (n : ℕ) (es : Exprs) (ms : List Mark) : Type 0 where
   pub stands : InvariantsStand phrase
   pub means : invariants_meant phrase ≡ es
   pub spelled : invariants_marks n 0 phrase ≡ ms
+
+-- one invariant more
+more_invariants : InvariantsPhrase → InvariantsPhrase
+more_invariants no_invariants = invariant somewhere (literal somewhere true) None no_invariants
+more_invariants (invariant p e semi rest) = invariant p e semi (more_invariants rest)
+
+more_stand : (w : InvariantsPhrase) → InvariantsStand w → InvariantsStand (more_invariants w)
+unfolding more_invariants
+more_stand no_invariants st = (tt, tt)
+more_stand (invariant p e semi rest) st = (st.0, more_stand rest st.1)
+
+-- how many there are behind so many
+all_of : ℕ → InvariantsPhrase → ℕ
+all_of k no_invariants = k
+all_of k (invariant p e semi rest) = all_of (k + 1) rest
+
+more_spelled : (n k : ℕ) (w : InvariantsPhrase) → (let c = n + all_of k w in invariants_marks n k (more_invariants w) ≡ invariants_marks n k w ++ mark c somewhere (word words.Invariant) ∷ mark c somewhere (word words.True) ∷ [])
+unfolding more_invariants all_of
+more_spelled n k no_invariants = refl
+more_spelled n k (invariant p e semi rest) =
+    let c = n + k in
+    let d = n + all_of (k + 1) rest in
+    let one = mark d somewhere (word words.Invariant) ∷ mark d somewhere (word words.True) ∷ [] in
+    ap (λ l. mark c p (word words.Invariant) ∷ (marks c e ++ (semi_marks n semi ++ l))) (more_spelled n (k + 1) rest)
+    ∙ ap (λ l. mark c p (word words.Invariant) ∷ l) (ap (λ l. marks c e ++ l) (sym (append_assoc (semi_marks n semi) (invariants_marks n (k + 1) rest) one)) ∙ sym (append_assoc (marks c e) (semi_marks n semi ++ invariants_marks n (k + 1) rest) one))
+
+-- behind invariants one more may come
+pub record OneMore (n : ℕ) (ms : List Mark) : Type 0 where
+  pub first : Mark
+  pub first_is : first.token.kind ≡ word words.Invariant
+  pub more : List Mark
+  pub value : Exprs
+  pub spelled : InvariantsFor n value (ms ++ first ∷ more)
+
+pub one_more : (n : ℕ) (es : Exprs) (ms : List Mark) → InvariantsFor n es ms → OneMore n ms
+one_more n es ms r =
+    let c = n + all_of 0 r.phrase in
+    record {
+      first = mark c somewhere (word words.Invariant);
+      first_is = refl;
+      more = mark c somewhere (word words.True) ∷ [];
+      value = invariants_meant (more_invariants r.phrase);
+      spelled = record {
+        phrase = more_invariants r.phrase;
+        stands = more_stand r.phrase r.stands;
+        means = refl;
+        spelled = more_spelled n 0 r.phrase ∙ ap (λ l. l ++ mark c somewhere (word words.Invariant) ∷ mark c somewhere (word words.True) ∷ []) r.spelled;
+      };
+    }
 
 pub starts_invariants : (n : ℕ) → Starts (InvariantsFor n) []
 starts_invariants n = record { value = NoMore; more = []; spelled = record { phrase = no_invariants; stands = tt; means = refl; spelled = refl } }

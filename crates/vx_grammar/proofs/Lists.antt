@@ -14,6 +14,10 @@ use Rattle.vx_grammar.specs.Grammar.{operator_of, literal_word, Constant, null_w
 use Rattle.vx_grammar.specs.Reading.{is_symbol}
 use Rattle.vx_grammar.specs.Laws.{Within}
 
+-- a clause's first word, other than a measure's
+abbrev pub BeginsClause : Kind → Type 0
+BeginsClause k = (k ≡ word words.Requires) ⊎ (k ≡ word words.Invariant)
+
 pub tokens-append : (xs ys : List Mark) → tokens_of (xs ++ ys) ≡ tokens_of xs ++ tokens_of ys
 tokens-append xs ys = map-append (λ m. m.token) xs ys
 

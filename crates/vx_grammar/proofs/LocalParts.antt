@@ -1,5 +1,6 @@
 -- Reading names, and what nests between two signs, looks no further than the token at which it stops.
 use Rattle.std.proofs.Common.{◌≡◌, List, [], ◌∷◌, Ok, Err, refl, Bool, true, false, cond}
+use Rattle.vx_ast.specs.Written.{placed}
 use Rattle.vx_tokens.specs.declared.token.Symbol.{Symbol}
 use Rattle.vx_tokens.specs.Tokens.{Token, Kind, name, number, word, symbol}
 use Rattle.vx_grammar.specs.Reading.{◌>>=◌, Read, Unexpected, expect, is_symbol, name_by, name_at}
@@ -8,10 +9,10 @@ use Rattle.vx_grammar.proofs.Local.{Local, local_unexpected, local_end_unexpecte
 
 name_by_local : (t : Token) (k : Kind) (ts : List Token) → t.kind ≡ k → Local (t ∷ ts) (name_by t k ts) name_at
 unfolding name_at
-name_by_local t (name x) ts e = local_token t ts (Ok (x, ts)) (λ l. Ok (x, l)) name_at (λ l. rw e refl) (local_return ts x)
-name_by_local t (number x) ts e = local_unexpected t ts name_at (λ more. rw e refl)
-name_by_local t (word x) ts e = local_unexpected t ts name_at (λ more. rw e refl)
-name_by_local t (symbol x) ts e = local_unexpected t ts name_at (λ more. rw e refl)
+name_by_local t (name x) ts e = local_token t ts (Ok (placed t.place x, ts)) (λ l. Ok (placed t.place x, l)) name_at (λ l. rw e refl) (local_return ts (placed t.place x))
+name_by_local t (number x) ts e = local_unexpected t ts name_at (λ more. rw e refl) (λ p more. refl) (λ p more. refl)
+name_by_local t (word x) ts e = local_unexpected t ts name_at (λ more. rw e refl) (λ p more. refl) (λ p more. refl)
+name_by_local t (symbol x) ts e = local_unexpected t ts name_at (λ more. rw e refl) (λ p more. refl) (λ p more. refl)
 
 pub name_local : (ts : List Token) → Local ts (name_at ts) name_at
 unfolding name_at
@@ -24,7 +25,7 @@ unfolding expect
 bracket_by_local s e go other h t us true q =
     local_token t us (go (t ∷ us) us >>= λ y. expect e y.1 >>= λ close. Ok (y.0, close.1)) (λ l. other (t ∷ l) l >>= λ y. expect e y.1 >>= λ close. Ok (y.0, close.1)) (bracketed_by s e other) (λ l. rw q refl)
     (local_then us (go (t ∷ us) us) (λ l. other (t ∷ l) l) _ _ (h (t ∷ us) us (λ l. t ∷ l)) (λ y vs. local_then vs (expect e vs) (expect e) _ _ (local_expect e vs) (λ c ws. local_return ws y)))
-bracket_by_local s e go other h t us false q = local_unexpected t us (bracketed_by s e other) (λ more. rw q refl)
+bracket_by_local s e go other h t us false q = local_unexpected t us (bracketed_by s e other) (λ more. rw q refl) (λ p more. refl) (λ p more. refl)
 
 pub bracket_local : {A : Type 0} (s e : Symbol) (go other : List Token → List Token → Read A) → ((here ts : List Token) (heres : List Token → List Token) → Local ts (go here ts) (λ l. other (heres l) l)) → (ts : List Token) → Local ts (bracketed_by s e go ts) (bracketed_by s e other)
 unfolding expect

@@ -12,7 +12,7 @@ use Rattle.vx_ast.specs.declared.UnaryOperator.TheVariants.{Not, Negate}
 use Rattle.vx_ast.specs.declared.BinaryOperator.{BinaryOperator}
 use Rattle.vx_ast.specs.declared.BinaryOperator.TheVariants.{Implies, Or, And, Equal, NotEqual, Less, LessEqual, Greater, GreaterEqual, Add, Subtract, Multiply, Divide, Quotient, Remainder}
 use Rattle.vx_tokens.specs.Tokens.{Token, Kind, name, word, symbol}
-use Rattle.vx_ast.specs.Written.{Expr, Unary, Binary, Choice}
+use Rattle.vx_ast.specs.Written.{Placed, placed, Expr, Unary, Binary, Choice}
 use Rattle.vx_ast.specs.Written as written
 use Rattle.vx_grammar.specs.Grammar.{operator_of, Phrase, literal, constant, numeral, named, called, dotted, grouped, past, accessed, prefixed, joined, chosen, unfolded, ends_open, Instance, unfolding_of, Mark, mark, marks, operators, dots, start_of, meant, IsPrimary, StandsAt, level_of, sign_of, prefix_sign}
 use Rattle.vx_grammar.specs.Reading.{◌>>=◌, Read, Unexpected, is_symbol, choice, implication, chain, rest_of_chain, behind_dot, name_at, expect, primary_by, dots_at, dotted_at, postfix_by, unary_by, unary_at, operator_by, rest_by, rest_at, chain_at, implies_by, implied_by, implication_at, second_by, sides_by, chosen_by, choice_at, instance_at, begins_body, behind_in, unfolding_by, below}
@@ -93,10 +93,10 @@ closed_up_to n rest e ms r = record { base = r.base; stops = subst (λ b. Stops 
 
 -- a field's name behind a dot, and further dots
 abbrev FieldThen : (n : ℕ) (w : Phrase) (at : Place) → Grammar Expr
-FieldThen n w at e ms = (f : List ℕ) × (p : Place) × (tail : List Mark) × (ms ≡ mark (n + dots w + 1) p (name f) ∷ tail) × ClosedFor n e (marks n (dotted w at p f) ++ tail)
+FieldThen n w at e ms = (f : Placed) × (tail : List Mark) × (ms ≡ mark (n + dots w + 1) f.place (name f.name) ∷ tail) × ClosedFor n e (marks n (dotted w at f.place f.name) ++ tail)
 
-field_start : (n : ℕ) (w : Phrase) (at : Place) → IsPrimary w → StandsAt 0 w → (f : List ℕ) (ms : List Mark) → NameFor (n + dots w + 1) f ms → FieldThen n w at (written.Read (start_of w) (meant w) f) ms
-field_start n w at is st f ms (p, q) = (f, p, [], q, record { base = record { phrase = dotted w at p f; stands = (is, st); means = refl; spelled = sym (append-nil (marks n (dotted w at p f))) }; closed = refl })
+field_start : (n : ℕ) (w : Phrase) (at : Place) → IsPrimary w → StandsAt 0 w → (f : Placed) (ms : List Mark) → NameFor (n + dots w + 1) f ms → FieldThen n w at (written.Read (start_of w) (meant w) f) ms
+field_start n w at is st f ms q = (f, [], q, record { base = record { phrase = dotted w at f.place f.name; stands = (is, st); means = refl; spelled = sym (append-nil (marks n (dotted w at f.place f.name))) }; closed = refl })
 
 dotted_tells : (limit n less : ℕ) (w : Phrase) (at : Place) (ts : List Token) → IsPrimary w → StandsAt 0 w → n + dots w + 1 + less ≡ limit → Told limit less → Tells (FieldThen n w at) limit ts (dotted_at (below less) (start_of w) (meant w) ts)
 unfolding dotted_at
@@ -107,10 +107,10 @@ dotted_tells limit n less w at ts is st e told =
     (name_tells limit c ts (omega (arith, e)))
     (λ f rest ms h takes. behind_field f rest ms h)
   where
-    behind_field : (f : List ℕ) (rest : List Token) (ms : List Mark) → NameFor (n + dots w + 1) f ms → Tells (After (FieldThen n w at) ms) limit rest (dots_at (below less) (start_of w) (written.Read (start_of w) (meant w) f) rest)
-    behind_field f rest ms (p, q) =
-        let w' = dotted w at p f in
-        tells_as (After (ClosedFor n) (marks n w')) (After (FieldThen n w at) ms) limit rest _ (λ y more r. (f, p, more, ap (λ l. l ++ more) q, r)) (told.dots_tells n w' tt (is, st) (omega (arith, e)) rest)
+    behind_field : (f : Placed) (rest : List Token) (ms : List Mark) → NameFor (n + dots w + 1) f ms → Tells (After (FieldThen n w at) ms) limit rest (dots_at (below less) (start_of w) (written.Read (start_of w) (meant w) f) rest)
+    behind_field f rest ms q =
+        let w' = dotted w at f.place f.name in
+        tells_as (After (ClosedFor n) (marks n w')) (After (FieldThen n w at) ms) limit rest _ (λ y more r. (f, more, ap (λ l. l ++ more) q, r)) (told.dots_tells n w' tt (is, st) (omega (arith, e)) rest)
 
 dot_tells : (limit n room : ℕ) (w : Phrase) (t : Token) (ts : List Token) (b : Bool) → is_symbol signs.Dot t.kind ≡ b → IsPrimary w → StandsAt 0 w → n + dots w + room ≡ limit → ToldBelow limit room
     → Tells (After (ClosedFor n) (marks n w)) limit (t ∷ ts) (cond b (below room (behind_dot (start_of w) (meant w)) (t ∷ ts) ts) (Ok (meant w, t ∷ ts)))
@@ -120,17 +120,17 @@ dot_tells limit n room w t ts true h is st e told =
     let m : Mark = record { token = t; count = c + 1 } in
     let k = is_symbol_true signs.Dot t.kind h in
     tells_as (Nested m (FieldThen n w t.place)) (After (ClosedFor n) (marks n w)) limit (t ∷ ts) _ (with_dot m refl k)
-    (tells_nested (behind_dot (start_of w) (meant w)) (FieldThen n w t.place) limit c room t ts e (record { value = written.Read (start_of w) (meant w) []; more = mark (c + 1) somewhere (name []) ∷ []; spelled = field_start n w t.place is st [] (mark (c + 1) somewhere (name []) ∷ []) (somewhere, refl) })
+    (tells_nested (behind_dot (start_of w) (meant w)) (FieldThen n w t.place) limit c room t ts e (record { value = written.Read (start_of w) (meant w) (placed somewhere []); more = mark (c + 1) somewhere (name []) ∷ []; spelled = field_start n w t.place is st (placed somewhere []) (mark (c + 1) somewhere (name []) ∷ []) refl })
     (λ less s. dotted_tells limit n less w t.place ts is st (omega (arith, e, s)) (told less s)))
   where
     with_dot : (m : Mark) → (let d : Mark = record { token = t; count = n + dots w + 1 } in m ≡ d) → t.kind ≡ symbol signs.Dot → (e : Expr) (ms : List Mark) → Nested m (FieldThen n w t.place) e ms → ClosedFor n e (marks n w ++ ms)
     with_dot m same k e ms b = by_parts b.inner b.is b.spelled
       where
         by_parts : (inner : List Mark) → ms ≡ m ∷ inner → FieldThen n w t.place e inner → ClosedFor n e (marks n w ++ ms)
-        by_parts inner is' (f, p, tail, q, r) =
+        by_parts inner is' (f, tail, q, r) =
             let d : Mark = mark (n + dots w + 1) t.place (symbol signs.Dot) in
             let here : d ≡ m = token_is t (symbol signs.Dot) (n + dots w + 1) k ∙ sym same in
-            subst (ClosedFor n e) (append_assoc (marks n w) (d ∷ mark (n + dots w + 1) p (name f) ∷ []) tail ∙ ap (λ l. marks n w ++ l) (ap (λ x. x ∷ mark (n + dots w + 1) p (name f) ∷ tail) here ∙ ap (λ l. m ∷ l) (sym q) ∙ sym is')) r
+            subst (ClosedFor n e) (append_assoc (marks n w) (d ∷ mark (n + dots w + 1) f.place (name f.name) ∷ []) tail ∙ ap (λ l. marks n w ++ l) (ap (λ x. x ∷ mark (n + dots w + 1) f.place (name f.name) ∷ tail) here ∙ ap (λ l. m ∷ l) (sym q) ∙ sym is')) r
 dot_tells limit n room w t ts false h is st e told = tells_here (After (ClosedFor n) (marks n w)) limit (t ∷ ts) (meant w) (closed_here n w is st)
 
 dots_tells_at : (limit n room : ℕ) (w : Phrase) (ts : List Token) → IsPrimary w → StandsAt 0 w → n + dots w + room ≡ limit → ToldBelow limit room → Tells (After (ClosedFor n) (marks n w)) limit ts (dots_at (below room) (start_of w) (meant w) ts)

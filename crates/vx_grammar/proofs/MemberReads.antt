@@ -1,9 +1,9 @@
 -- Programs that are spelled are read.
-use Rattle.std.proofs.Common.{◌≡◌, ℕ, zero, suc, ◌+◌, ◌-◌, ◌≤◌, ◌<◌, List, [], ◌∷◌, ◌++◌, Option, Some, None, true, false, Bool, Ok, length, refl, sym, ap, subst, ◌∙◌, append_assoc, arith, leb, ltb, length-append, inl, inr, ◌⊎◌}
+use Rattle.std.proofs.Common.{◌≡◌, ℕ, not, ◌&&◌, zero, suc, ◌+◌, ◌-◌, ◌≤◌, ◌<◌, List, [], ◌∷◌, ◌++◌, Option, Some, None, true, false, Bool, Ok, length, refl, sym, ap, subst, ◌∙◌, append_assoc, arith, leb, ltb, length-append, inl, inr, ◌⊎◌}
 use Rattle.std.proofs.lemmas.List.{append-nil, length-map}
 use Rattle.std.proofs.lemmas.Bool.{lt-ltb, le-leb}
 use Rattle.vx_ast.specs.declared.Place.{Place}
-use Rattle.vx_ast.specs.Written.{Expr, Declaration, Block, IsMethod, Member}
+use Rattle.vx_ast.specs.Written.{placed, Clause, Requires, Ensures, Decreases, Declaration, Block, IsMethod, Member}
 use Rattle.vx_tokens.specs.declared.token.Word.TheVariants as words
 use Rattle.vx_tokens.specs.declared.token.Symbol.TheVariants as signs
 use Rattle.vx_tokens.specs.Tokens.{Token, Kind, name, word, symbol}
@@ -11,18 +11,18 @@ use Rattle.vx_grammar.specs.Grammar.{Phrase, Mark, mark, marks, meant, StandsAt,
 use Rattle.vx_ast.specs.declared.ValueType.{ValueType}
 use Rattle.vx_ast.specs.declared.ValueType.TheVariants as types
 use Rattle.vx_grammar.specs.Statements.{type_word, declaration_meant, declaration_marks, BlockPhrase, block, block_meant, block_marks, StandsBlock, row_marks, semi_marks}
-use Rattle.vx_grammar.specs.Programs.{MoreDeclarations, no_more, listed, DeclarationsPhrase, none, some, ParametersPhrase, ReturnsPhrase, no_returns, returns, more_meant, declarations_meant, returns_meant, more_marks, declarations_marks, parameters_marks, returns_marks, ClausesPhrase, no_clauses, requires, ensures, decreases, requires_meant, ensures_meant, StandsClauses, clauses_marks, BracedPhrase, braced_marks, given_meant, GivenStands, given_marks, PredicatePhrase, predicate_meant, predicate_marks, FunctionPhrase, function_meant, StandsFunction, head_marks, function_marks, body_marks, MethodPhrase, method_meant, StandsMethod, method_marks, MemberPhrase, a_field, a_predicate, a_function, a_method, member_meant, member_marks, StandsMember, ProgramPhrase, no_members, member, program_meant, StandsProgram, program_marks}
+use Rattle.vx_grammar.specs.Programs.{MoreDeclarations, no_more, listed, DeclarationsPhrase, none, some, ParametersPhrase, ReturnsPhrase, no_returns, returns, more_meant, declarations_meant, returns_meant, more_marks, declarations_marks, parameters_marks, returns_marks, ClausesPhrase, no_clauses, requires, ensures, decreases, clauses_meant, StandsClauses, clauses_marks, BracedPhrase, braced_marks, given_meant, GivenStands, given_marks, PredicatePhrase, predicate_meant, predicate_marks, FunctionPhrase, function_meant, StandsFunction, head_marks, function_marks, body_marks, MethodPhrase, method_meant, StandsMethod, method_marks, MemberPhrase, a_field, a_predicate, a_function, a_method, member_meant, member_marks, StandsMember, ProgramPhrase, no_members, member, program_meant, StandsProgram, program_marks}
 use Rattle.vx_grammar.specs.Reading.{◌>>=◌, Read, expect, is_symbol, run, name_at, choice, choice_at, below}
 use Rattle.vx_grammar.specs.Nesting.{nests}
-use Rattle.vx_grammar.specs.StmtReading.{type_at, clause_at, skip_semicolon}
+use Rattle.vx_grammar.specs.StmtReading.{is_measure, begins_decreases, type_at, clause_at, skip_semicolon}
 use Rattle.vx_grammar.specs.MemberReading as reading
-use Rattle.vx_grammar.specs.MemberReading.{Halting, halting, Head, function_of, head_at, function_by, function_at, Clauses, with_requires, with_ensures, with_measure, begins_requires, begins_ensures, is_due, begins_measure, clause_turn, clauses_at, limit, max_members, begins_braces, braced_at, some_braced, given_at, predicate_at, some_block, body_at, method_of, method_at, field_at, member_at, begins_member, declaration_turn, declarations_at, is_closing, inner_parameters_at, parameters_at, begins_returns, returns_at, members_by, members_within, members_at}
+use Rattle.vx_grammar.specs.MemberReading.{Halting, halting, Head, function_of, head_at, function_by, function_at, Clauses, with_requires, with_ensures, with_measure, begins_requires, begins_ensures, clause_turn, clauses_at, limit, max_members, begins_braces, braced_at, some_braced, given_at, predicate_at, some_block, body_at, method_of, method_at, field_at, member_at, begins_member, declaration_turn, declarations_at, is_closing, inner_parameters_at, parameters_at, begins_returns, returns_at, members_by, members_within, members_at}
 use Rattle.vx_grammar.specs.Laws.{Within}
 use Rattle.vx_grammar.specs.ProgramLaws.{SpelledProgramsAreRead}
 use Rattle.vx_grammar.proofs.Lists.{tokens-append_more, within_front, within_back, reach, Ends}
 use Rattle.vx_grammar.proofs.Complete.{is_read}
 use Rattle.vx_grammar.proofs.StmtReads.{Toks, declaration_reads, block_is_read}
-use Rattle.vx_grammar.proofs.MethodTold.{requires_in, ensures_in, measure_in, requires_same, ensures_same, measure_same, one_more}
+use Rattle.vx_grammar.proofs.MethodTold.{none_due, first_due}
 
 -- ---- declarations
 
@@ -73,7 +73,7 @@ record Ending (k : Kind) : Type 0 where
   reaches : 8 < reach k
   not_requires : begins_requires k ≡ false
   not_ensures : begins_ensures k ≡ false
-  not_measure : begins_measure true k ≡ false
+  not_measure : is_measure k ≡ false
   not_returns : begins_returns k ≡ false
   not_semi : is_symbol signs.Semicolon k ≡ false
 
@@ -129,69 +129,59 @@ size (requires p e semi rest) = 1 + size rest
 size (ensures p e semi rest) = 1 + size rest
 size (decreases p e semi rest) = 1 + size rest
 
-these : List Expr → List Expr → Option Expr → Clauses
-these r k m = record { requires = r; ensures = k; measure = m }
-
--- the clauses before, and those of a phrase
-abbrev and_these : Clauses → ClausesPhrase → Clauses
-and_these c w = record { requires = c.requires ++ requires_in w; ensures = c.ensures ++ ensures_in w; measure = measure_in c.measure w }
-
-these_none : (c : Clauses) → c ≡ and_these c no_clauses
-unfolding these
-these_none c = ap (λ l. these l c.ensures c.measure) (sym (append-nil c.requires)) ∙ ap (λ l. these (c.requires ++ []) l c.measure) (sym (append-nil c.ensures))
-
-these_requires : (c : Clauses) (p : Place) (e : Phrase) (semi : Option Place) (w : ClausesPhrase) → and_these (with_requires c (meant e)) w ≡ and_these c (requires p e semi w)
-unfolding these
-these_requires c p e semi w = ap (λ l. these l (c.ensures ++ ensures_in w) (measure_in c.measure w)) (append_assoc c.requires (meant e ∷ []) (requires_in w))
-
-these_ensures : (c : Clauses) (p : Place) (e : Phrase) (semi : Option Place) (w : ClausesPhrase) → and_these (with_ensures c (meant e)) w ≡ and_these c (ensures p e semi w)
-unfolding these
-these_ensures c p e semi w = ap (λ l. these (c.requires ++ requires_in w) l (measure_in c.measure w)) (append_assoc c.ensures (meant e ∷ []) (ensures_in w))
-
 read_of : Clauses → List Token → Read Clauses
 read_of c ts = Ok (c, ts)
 
 -- what is read is these clauses, and what is left is all behind them, or all but a semicolon
-record ReadTo (read : Read Clauses) (c : Clauses) (semi : Option Place) (tail : List Token) : Type 0 where
+record ReadTo (read : Read Clauses) (cs : List Clause) (semi : Option Place) (tail : List Token) : Type 0 where
+  state : Clauses
   after : List Token
-  is : read ≡ read_of c after
+  is : read ≡ read_of state after
+  are : state.clauses ≡ cs
   left : (after ≡ Then semi tail) ⊎ (after ≡ tail)
 
-read_to : (semi : Option Place) (w : ClausesPhrase) (after : Option Place) (tail : List Token) (read : Read Clauses) (c d : Clauses) → c ≡ d → ReadTo read c (left_semi semi w after) tail → ReadTo read d after tail
-read_to (Some q) w after tail read c d e r = record { after = r.after; is = r.is ∙ ap (λ x. read_of x r.after) e; left = r.left }
-read_to None no_clauses after tail read c d e r = record { after = r.after; is = r.is ∙ ap (λ x. read_of x r.after) e; left = inr (elim r.left [ inl a ↦ a | inr b ↦ b ]) }
-read_to None (requires p u semi rest) after tail read c d e r = record { after = r.after; is = r.is ∙ ap (λ x. read_of x r.after) e; left = r.left }
-read_to None (ensures p u semi rest) after tail read c d e r = record { after = r.after; is = r.is ∙ ap (λ x. read_of x r.after) e; left = r.left }
-read_to None (decreases p u semi rest) after tail read c d e r = record { after = r.after; is = r.is ∙ ap (λ x. read_of x r.after) e; left = r.left }
+read_to : (semi : Option Place) (w : ClausesPhrase) (after : Option Place) (tail : List Token) (read : Read Clauses) (cs ds : List Clause) → cs ≡ ds → ReadTo read cs (left_semi semi w after) tail → ReadTo read ds after tail
+read_to (Some q) w after tail read cs ds e r = record { state = r.state; after = r.after; is = r.is; are = r.are ∙ e; left = r.left }
+read_to None no_clauses after tail read cs ds e r = record { state = r.state; after = r.after; is = r.is; are = r.are ∙ e; left = inr (elim r.left [ inl a ↦ a | inr b ↦ b ]) }
+read_to None (requires p u semi rest) after tail read cs ds e r = record { state = r.state; after = r.after; is = r.is; are = r.are ∙ e; left = r.left }
+read_to None (ensures p u semi rest) after tail read cs ds e r = record { state = r.state; after = r.after; is = r.is; are = r.are ∙ e; left = r.left }
+read_to None (decreases p u semi rest) after tail read cs ds e r = record { state = r.state; after = r.after; is = r.is; are = r.are ∙ e; left = r.left }
 
-not_measure : (due : Bool) (k : Kind) → begins_measure true k ≡ false → begins_measure due k ≡ false
-not_measure due (word words.Decreases) h = absurd cc
-not_measure due k h = by_kind due k h
-  where
-    by_kind : (due : Bool) (k : Kind) → begins_measure true k ≡ false → begins_measure due k ≡ false
-    by_kind true k h = h
-    by_kind false (word words.Decreases) h = refl
-    by_kind false k h = refl
+-- a measure is read where one is due and begins, and only there
+due_begins : (may measured : Bool) → may && not measured ≡ true → may && not measured && true ≡ true
+due_begins true false h = refl
+due_begins true true h = absurd cc
+due_begins false measured h = absurd cc
+
+none_begins : (may measured begins : Bool) → begins ≡ false → may && not measured && begins ≡ false
+none_begins true false false h = refl
+none_begins true false true h = absurd cc
+none_begins true true begins h = refl
+none_begins false measured begins h = refl
 
 no_clause_read : (deep : ℕ) (may : Bool) (before : Clauses) (semi : Option Place) (tail : List Token) → Ended tail → (most : ℕ) → run (clause_turn deep may) most before (Then semi tail) ≡ read_of before (Then semi tail)
 unfolding run clause_turn read_of
 no_clause_read deep may before semi tail h zero = refl
 no_clause_read deep may before None [] h (suc most) = refl
-no_clause_read deep may before None (t ∷ ts) h (suc most) = rw (h.not_requires, h.not_ensures, not_measure (is_due may before.measure) t.kind h.not_measure) refl
-no_clause_read deep may before (Some p) tail h (suc most) = refl
+no_clause_read deep may before None (t ∷ ts) h (suc most) = rw (h.not_requires, h.not_ensures, none_begins may before.measured (is_measure t.kind) h.not_measure) refl
+no_clause_read deep may before (Some p) tail h (suc most) = rw (none_begins may before.measured false refl) refl
 
-clauses_read : (deep : ℕ) (may : Bool) (w : ClausesPhrase) (before : Clauses) (r k : ℕ) (semi : Option Place) (tail : List Token) → length before.requires ≡ r → length before.ensures ≡ k → Ended tail → Within deep (clauses_marks r k w) → StandsClauses (is_due may before.measure) w → (most : ℕ) → size w ≤ most
-    → ReadTo (run (clause_turn deep may) most before (Toks (clauses_marks r k w) (Then semi tail))) (and_these before w) semi tail
+clauses_read : (deep : ℕ) (may : Bool) (w : ClausesPhrase) (before : Clauses) (semi : Option Place) (tail : List Token) → Ended tail → Within deep (clauses_marks before.requires before.ensures w) → StandsClauses (may && not before.measured) w → (most : ℕ) → size w ≤ most
+    → ReadTo (run (clause_turn deep may) most before (Toks (clauses_marks before.requires before.ensures w) (Then semi tail))) (before.clauses ++ clauses_meant w) semi tail
 unfolding run clause_turn size read_of
-clauses_read deep may no_clauses before r k semi tail er ek over h st most le = record {
+clauses_read deep may no_clauses before semi tail over h st most le = record {
+  state = before;
   after = Then semi tail;
-  is = no_clause_read deep may before semi tail over most ∙ ap (λ (c : Clauses). read_of c (Then semi tail)) (these_none before);
+  is = no_clause_read deep may before semi tail over most;
+  are = sym (append-nil before.clauses);
   left = inl refl;
 }
-clauses_read deep may (requires p e semi rest) before r k after tail er ek over h st zero le = absurd (omega (arith, le))
-clauses_read deep may (ensures p e semi rest) before r k after tail er ek over h st zero le = absurd (omega (arith, le))
-clauses_read deep may (decreases p e semi rest) before r k after tail er ek over h st zero le = absurd (omega (arith, le))
-clauses_read deep may (requires p e semi rest) before r k after tail er ek over h st (suc most) le =
+clauses_read deep may (requires p e semi rest) before after tail over h st zero le = absurd (omega (arith, le))
+clauses_read deep may (ensures p e semi rest) before after tail over h st zero le = absurd (omega (arith, le))
+clauses_read deep may (decreases p e semi rest) before after tail over h st zero le = absurd (omega (arith, le))
+clauses_read deep may (requires p e semi rest) before after tail over h st (suc most) le =
+    let r = before.requires in
+    let k = before.ensures in
     let others = clauses_marks (r + 1) k rest in
     let all = Then semi (Toks others (Then after tail)) in
     let he = within_front deep (marks r e) (semi_marks 0 semi ++ others) h.1 in
@@ -199,10 +189,11 @@ clauses_read deep may (requires p e semi rest) before r k after tail er ek over 
     let list : tokens_of (marks r e ++ (semi_marks 0 semi ++ others)) ++ Then after tail ≡ Toks (marks r e) all =
     tokens-append_more (marks r e) (semi_marks 0 semi ++ others) (Then after tail) ∙ ap (λ l. Toks (marks r e) l) (tokens-append_more (semi_marks 0 semi) others (Then after tail)) in
     let clause = clause_reads deep r e ((mark r p (word words.Requires)).token ∷ Toks (marks r e) all) all h.0 he st.0 (clause_ends semi (r + 1) k rest after tail over) in
-    let n = one_more before.requires (meant e) in
-    let go = clauses_read deep may rest (with_requires before (meant e)) (r + 1) k (left_semi semi rest after) tail (n ∙ ap (λ x. x + 1) er) ek over ho st.1 most (omega (arith, le)) in
-    rw (list, er, clause, clause_skips semi (r + 1) k rest after tail over) (read_to semi rest after tail _ _ _ (these_requires before p e semi rest) go)
-clauses_read deep may (ensures p e semi rest) before r k after tail er ek over h st (suc most) le =
+    let go = clauses_read deep may rest (with_requires before (meant e)) (left_semi semi rest after) tail over ho st.1 most (omega (arith, le)) in
+    rw (list, clause, clause_skips semi (r + 1) k rest after tail over) (read_to semi rest after tail _ _ _ (append_assoc before.clauses (Requires (meant e) ∷ []) (clauses_meant rest)) go)
+clauses_read deep may (ensures p e semi rest) before after tail over h st (suc most) le =
+    let r = before.requires in
+    let k = before.ensures in
     let others = clauses_marks r (k + 1) rest in
     let all = Then semi (Toks others (Then after tail)) in
     let he = within_front deep (marks k e) (semi_marks 0 semi ++ others) h.1 in
@@ -210,10 +201,11 @@ clauses_read deep may (ensures p e semi rest) before r k after tail er ek over h
     let list : tokens_of (marks k e ++ (semi_marks 0 semi ++ others)) ++ Then after tail ≡ Toks (marks k e) all =
     tokens-append_more (marks k e) (semi_marks 0 semi ++ others) (Then after tail) ∙ ap (λ l. Toks (marks k e) l) (tokens-append_more (semi_marks 0 semi) others (Then after tail)) in
     let clause = clause_reads deep k e ((mark k p (word words.Ensures)).token ∷ Toks (marks k e) all) all h.0 he st.0 (clause_ends semi r (k + 1) rest after tail over) in
-    let n = one_more before.ensures (meant e) in
-    let go = clauses_read deep may rest (with_ensures before (meant e)) r (k + 1) (left_semi semi rest after) tail er (n ∙ ap (λ x. x + 1) ek) over ho st.1 most (omega (arith, le)) in
-    rw (list, ek, clause, clause_skips semi r (k + 1) rest after tail over) (read_to semi rest after tail _ _ _ (these_ensures before p e semi rest) go)
-clauses_read deep may (decreases p e semi rest) before r k after tail er ek over h st (suc most) le =
+    let go = clauses_read deep may rest (with_ensures before (meant e)) (left_semi semi rest after) tail over ho st.1 most (omega (arith, le)) in
+    rw (list, clause, clause_skips semi r (k + 1) rest after tail over) (read_to semi rest after tail _ _ _ (append_assoc before.clauses (Ensures (meant e) ∷ []) (clauses_meant rest)) go)
+clauses_read deep may (decreases p e semi rest) before after tail over h st (suc most) le =
+    let r = before.requires in
+    let k = before.ensures in
     let others = clauses_marks r k rest in
     let all = Then semi (Toks others (Then after tail)) in
     let he = within_front deep (marks 0 e) (semi_marks 0 semi ++ others) h.1 in
@@ -221,8 +213,8 @@ clauses_read deep may (decreases p e semi rest) before r k after tail er ek over
     let list : tokens_of (marks 0 e ++ (semi_marks 0 semi ++ others)) ++ Then after tail ≡ Toks (marks 0 e) all =
     tokens-append_more (marks 0 e) (semi_marks 0 semi ++ others) (Then after tail) ∙ ap (λ l. Toks (marks 0 e) l) (tokens-append_more (semi_marks 0 semi) others (Then after tail)) in
     let clause = clause_reads deep 0 e ((mark 0 p (word words.Decreases)).token ∷ Toks (marks 0 e) all) all h.0 he st.1 (clause_ends semi r k rest after tail over) in
-    let go = clauses_read deep may rest (with_measure before (meant e)) r k (left_semi semi rest after) tail er ek over ho st.2 most (omega (arith, le)) in
-    rw (list, st.0, clause, clause_skips semi r k rest after tail over) (read_to semi rest after tail _ _ _ refl go)
+    let go = clauses_read deep may rest (with_measure before (meant e)) (left_semi semi rest after) tail over ho (subst (λ due. StandsClauses due rest) (sym (none_due may)) st.2) most (omega (arith, le)) in
+    rw (list, due_begins may before.measured st.0, clause, clause_skips semi r k rest after tail over) (read_to semi rest after tail _ _ _ (append_assoc before.clauses (Decreases (meant e) ∷ []) (clauses_meant rest)) go)
 
 size_long : (r k : ℕ) (w : ClausesPhrase) → size w ≤ length (clauses_marks r k w)
 unfolding size
@@ -249,11 +241,11 @@ long_enough ms ts n le =
     let b = length-map ms (λ m. m.token) in
     omega (arith, le, a, b)
 
-clauses_are_read : (deep : ℕ) (may : Bool) (w : ClausesPhrase) (semi : Option Place) (tail : List Token) → Ended tail → Within deep (clauses_marks 0 0 w) → StandsClauses may w → ReadTo (clauses_at deep may (Toks (clauses_marks 0 0 w) (Then semi tail))) (and_these reading.no_clauses w) semi tail
+clauses_are_read : (deep : ℕ) (may : Bool) (w : ClausesPhrase) (semi : Option Place) (tail : List Token) → Ended tail → Within deep (clauses_marks 0 0 w) → StandsClauses may w → ReadTo (clauses_at deep may (Toks (clauses_marks 0 0 w) (Then semi tail))) (clauses_meant w) semi tail
 unfolding clauses_at
 clauses_are_read deep may w semi tail over h st =
     let all = Toks (clauses_marks 0 0 w) (Then semi tail) in
-    clauses_read deep may w reading.no_clauses 0 0 semi tail refl refl over h st (length all) (long_enough (clauses_marks 0 0 w) _ (size w) (size_long 0 0 w))
+    clauses_read deep may w reading.no_clauses semi tail over h (subst (λ due. StandsClauses due w) (sym (first_due may)) st) (length all) (long_enough (clauses_marks 0 0 w) _ (size w) (size_long 0 0 w))
 
 -- ---- methods
 
@@ -315,8 +307,13 @@ record MemberHalted (read : Halting Member) (m : Member) (tail : List Token) : T
 halted : (read : Read Member) (m : Member) (tail : List Token) → MemberRead read m tail → MemberHalted (halting read) m tail
 halted read m tail r = record { after = r.after; is = ap halting r.is; skips = r.skips }
 
-ok_clauses : (deep : ℕ) (m : MethodPhrase) (c : Option Block) (ts : List Token) → (let a : Read Member = Ok (method_of m.at m.text (declarations_meant m.parameters.inner) (returns_meant m.returns) (and_these reading.no_clauses m.clauses) c, ts) in a) ≡ Ok (record { place = m.at; name = m.text; kind = IsMethod record { parameters = declarations_meant m.parameters.inner; returns = returns_meant m.returns; requires = requires_meant m.clauses; ensures = ensures_meant m.clauses; body = c } }, ts)
-ok_clauses deep m c ts = rw (← requires_same m.clauses, ← ensures_same m.clauses) refl
+-- the method that is meant, with this body
+abbrev method_with : MethodPhrase → Option Block → Member
+method_with m c = record {
+  place = m.at;
+  name = placed m.name_at m.text;
+  kind = IsMethod record { parameters = declarations_meant m.parameters.inner; returns = returns_meant m.returns; clauses = clauses_meant m.clauses; body = c };
+}
 
 left_skips : (semi : Option Place) (tail after : List Token) → Ended tail → (after ≡ Then semi tail) ⊎ (after ≡ tail) → skip_semicolon after ≡ tail
 left_skips semi tail after h (inl e) = ap skip_semicolon e ∙ skips semi tail h
@@ -326,12 +323,21 @@ left_braces : (semi : Option Place) (tail after : List Token) → begins_braces 
 left_braces semi tail after h (inl e) = ap begins_braces e ∙ then_no_braces semi tail h
 left_braces semi tail after h (inr e) = ap begins_braces e ∙ h
 
+then_no_measure : (semi : Option Place) (tail : List Token) → Ended tail → begins_decreases (Then semi tail) ≡ false
+then_no_measure None [] h = refl
+then_no_measure None (t ∷ ts) h = h.not_measure
+then_no_measure (Some p) tail h = refl
+
+left_measure : (semi : Option Place) (tail after : List Token) → Ended tail → (after ≡ Then semi tail) ⊎ (after ≡ tail) → begins_decreases after ≡ false
+left_measure semi tail after h (inl e) = ap begins_decreases e ∙ then_no_measure semi tail h
+left_measure semi tail after h (inr e) = ap begins_decreases e ∙ then_no_measure None tail h
+
 abbrev method_inner : MethodPhrase → List Mark
 method_inner m = mark 0 m.name_at (name m.text) ∷ (parameters_marks 0 m.parameters ++ (returns_marks 0 m.returns ++ (clauses_marks 0 0 m.clauses ++ body_marks m.body)))
 
 -- what is read behind the clauses
 abbrev behind_clauses : ℕ → MethodPhrase → Clauses × List Token → Read Member
-behind_clauses deep m clauses = body_at deep clauses.1 >>= λ body. Ok (method_of m.at m.text (declarations_meant m.parameters.inner) (returns_meant m.returns) clauses.0 body.0, body.1)
+behind_clauses deep m clauses = body_at deep clauses.1 >>= λ body. Ok (method_of m.at (placed m.name_at m.text) (declarations_meant m.parameters.inner) (returns_meant m.returns) clauses.0 body.0, body.1)
 
 -- up to the clauses
 head_reads : (deep : ℕ) (m : MethodPhrase) (ts : List Token) → NotReturns (Toks (clauses_marks 0 0 m.clauses) (Toks (body_marks m.body) ts))
@@ -355,7 +361,7 @@ clauses_within deep m h =
 -- the clauses and a body
 with_block : (deep : ℕ) (m : MethodPhrase) (b : BlockPhrase) (ts : List Token) → Within deep (clauses_marks 0 0 m.clauses ++ block_marks 0 b) → StandsClauses false m.clauses → StandsBlock b
     → (clauses_at deep false (Toks (clauses_marks 0 0 m.clauses) (Toks (block_marks 0 b) ts)) >>= behind_clauses deep m)
-    ≡ Ok (method_of m.at m.text (declarations_meant m.parameters.inner) (returns_meant m.returns) (and_these reading.no_clauses m.clauses) (Some (block_meant b)), ts)
+    ≡ Ok (method_with m (Some (block_meant b)), ts)
 unfolding body_at some_block read_of
 with_block deep m b ts h st sb =
     let tail = Toks (block_marks 0 b) ts in
@@ -365,7 +371,7 @@ with_block deep m b ts h st sb =
     let same : read.after ≡ tail = elim read.left [ inl e ↦ e | inr e ↦ e ] in
     let inside = block_is_read deep 0 deep b ts (omega arith) hb sb in
     let opens : begins_braces tail ≡ true = rw (block_opens b) refl in
-    rw (read.is, same, opens, inside) refl
+    rw (read.is, same, opens, inside, read.are) refl
 
 method_read : (deep : ℕ) (m : MethodPhrase) (semi : Option Place) (tail : List Token) → Follows tail → Within deep (method_marks m) → StandsMethod m → MemberRead (method_at deep m.at (Toks (method_inner m) (Then semi tail))) (method_meant m) tail
 unfolding read_of body_at
@@ -376,12 +382,12 @@ method_read deep m semi tail over h st = by_body m.body refl
         let hc : Within deep (clauses_marks 0 0 m.clauses) = within_front deep (clauses_marks 0 0 m.clauses) (body_marks m.body) (clauses_within deep m h) in
         let read = clauses_are_read deep false m.clauses semi tail over.ended hc st.clauses in
         let plain = left_braces semi tail read.after over.no_braces read.left in
-        record { after = read.after; is = no_block e read.after read.is plain; skips = left_skips semi tail read.after over.ended read.left }
+        record { after = read.after; is = no_block e read.state read.after read.is read.are plain (left_measure semi tail read.after over.ended read.left); skips = left_skips semi tail read.after over.ended read.left }
       where
-        no_block : m.body ≡ None → (after : List Token) → clauses_at deep false (Toks (clauses_marks 0 0 m.clauses) (Then semi tail)) ≡ read_of (and_these reading.no_clauses m.clauses) after → begins_braces after ≡ false → method_at deep m.at (Toks (method_inner m) (Then semi tail)) ≡ Ok (method_meant m, after)
-        no_block e after q plain =
+        no_block : m.body ≡ None → (state : Clauses) (after : List Token) → clauses_at deep false (Toks (clauses_marks 0 0 m.clauses) (Then semi tail)) ≡ read_of state after → state.clauses ≡ clauses_meant m.clauses → begins_braces after ≡ false → begins_decreases after ≡ false → method_at deep m.at (Toks (method_inner m) (Then semi tail)) ≡ Ok (method_meant m, after)
+        no_block e state after q are plain undue =
             head_reads deep m (Then semi tail) (subst (λ o. NotReturns (Toks (clauses_marks 0 0 m.clauses) (Toks (body_marks o) (Then semi tail)))) (sym e) (not_returns m.clauses semi tail over.ended))
-            ∙ rw (e, q, plain) (ok_clauses deep m None after)
+            ∙ rw (e, q, plain, undue, are) refl
     by_body (Some b) e =
         record { after = Then semi tail; is = with_body e; skips = skips semi tail over.ended }
       where
@@ -390,7 +396,7 @@ method_read deep m semi tail over h st = by_body m.body refl
             let all : Within deep (clauses_marks 0 0 m.clauses ++ block_marks 0 b) = rw e at (clauses_within deep m h) in
             let sb : StandsBlock b = rw e at st.body in
             head_reads deep m (Then semi tail) (subst (λ o. NotReturns (Toks (clauses_marks 0 0 m.clauses) (Toks (body_marks o) (Then semi tail)))) (sym e) (not_returns m.clauses None (Toks (block_marks 0 b) (Then semi tail)) (block_ends b (Then semi tail))))
-            ∙ rw e (with_block deep m b (Then semi tail) all st.clauses sb ∙ ok_clauses deep m (Some (block_meant b)) (Then semi tail))
+            ∙ rw e (with_block deep m b (Then semi tail) all st.clauses sb)
 
 -- ---- predicates
 
@@ -431,9 +437,15 @@ type_reads types.Ref at us = refl
 type_reads types.Perm at us = refl
 
 head_with : FunctionPhrase → Clauses → Head
-head_with f c = record { name = f.text; parameters = declarations_meant f.parameters.inner; of = f.of; clauses = c }
+head_with f c = record { name = placed f.name_at f.text; parameters = declarations_meant f.parameters.inner; of = f.of; clauses = c }
 
-head_read : (deep : ℕ) (f : FunctionPhrase) (tail : List Token) → Ended tail → Within deep (head_marks f) → StandsClauses true f.clauses → head_at deep (Toks (head_marks f) tail) ≡ Ok (head_with f (and_these reading.no_clauses f.clauses), tail)
+-- a head is read, with these clauses
+record HeadRead (read : Read Head) (f : FunctionPhrase) (tail : List Token) : Type 0 where
+  state : Clauses
+  is : read ≡ (let a : Read Head = Ok (head_with f state, tail) in a)
+  are : state.clauses ≡ clauses_meant f.clauses
+
+head_read : (deep : ℕ) (f : FunctionPhrase) (tail : List Token) → Ended tail → Within deep (head_marks f) → StandsClauses true f.clauses → HeadRead (head_at deep (Toks (head_marks f) tail)) f tail
 unfolding head_at name_at expect read_of head_with
 head_read deep f tail over h st =
     let clauses = clauses_marks 0 0 f.clauses in
@@ -444,14 +456,14 @@ head_read deep f tail over h st =
     let list : Toks (parameters_marks 0 f.parameters ++ colon ∷ type ∷ clauses) tail ≡ Toks (parameters_marks 0 f.parameters) (colon.token ∷ type.token ∷ l1) = tokens-append_more (parameters_marks 0 f.parameters) (colon ∷ type ∷ clauses) tail in
     let read = clauses_are_read deep true f.clauses None tail over hc st in
     let same : read.after ≡ tail = elim read.left [ inl e ↦ e | inr e ↦ e ] in
-    rw (list, parameters_read 0 f.parameters (colon.token ∷ type.token ∷ l1), type_reads f.of f.type_at l1, read.is, same) refl
+    record { state = read.state; is = rw (list, parameters_read 0 f.parameters (colon.token ∷ type.token ∷ l1), type_reads f.of f.type_at l1, read.is, same) refl; are = read.are }
 
 braces_end : (w : BracedPhrase) (ts : List Token) → Ended (Toks (braced_marks w) ts)
 braces_end w ts = brace_ends
 
-ok_function : (f : FunctionPhrase) (ts : List Token) → StandsClauses true f.clauses → (let a : Halting Member = Ok (function_of f.at (head_with f (and_these reading.no_clauses f.clauses)) (meant f.body.inner), ts) in a) ≡ Ok (function_meant f, ts)
+ok_function : (f : FunctionPhrase) (c : Clauses) (ts : List Token) → c.clauses ≡ clauses_meant f.clauses → (let a : Halting Member = Ok (function_of f.at (head_with f c) (meant f.body.inner), ts) in a) ≡ Ok (function_meant f, ts)
 unfolding head_with
-ok_function f ts st = rw (← requires_same f.clauses, ← ensures_same f.clauses, ← measure_same true f.clauses st) refl
+ok_function f c ts are = rw are refl
 
 function_read : (deep : ℕ) (f : FunctionPhrase) (ts : List Token) → Within deep (function_marks f) → StandsFunction f → function_at deep f.at (Toks (head_marks f ++ braced_marks f.body) ts) ≡ Ok (function_meant f, ts)
 unfolding function_at function_by
@@ -460,8 +472,8 @@ function_read deep f ts h st =
     let hb = within_back deep (head_marks f) (braced_marks f.body) h.1 in
     let tail = Toks (braced_marks f.body) ts in
     let list : Toks (head_marks f ++ braced_marks f.body) ts ≡ Toks (head_marks f) tail = tokens-append_more (head_marks f) (braced_marks f.body) ts in
-    ap (function_at deep f.at) list
-    ∙ rw (head_read deep f tail (braces_end f.body ts) hh st.clauses, braced_reads deep f.body ts hb st.body) (ok_function f ts st.clauses)
+    let head = head_read deep f tail (braces_end f.body ts) hh st.clauses in
+    ap (function_at deep f.at) list ∙ rw (head.is, braced_reads deep f.body ts hb st.body) (ok_function f head.state ts head.are)
 
 -- ---- members
 

@@ -5,18 +5,20 @@ use Rattle.std.proofs.lemmas.Bool.{ltb-true, ltb-false}
 use Rattle.vx_ast.specs.declared.Place.{Place}
 use Rattle.vx_ast.specs.Written.{Declaration, IsField, Member, Program}
 use Rattle.vx_tokens.specs.declared.token.Word.TheVariants as words
-use Rattle.vx_tokens.specs.Tokens.{Token, Kind, word}
+use Rattle.vx_tokens.specs.declared.token.Symbol.TheVariants as signs
+use Rattle.vx_tokens.specs.Tokens.{Token, Kind, word, symbol}
 use Rattle.vx_grammar.specs.Grammar.{Mark, mark, tokens_of}
 use Rattle.vx_grammar.specs.Statements.{semi_marks}
 use Rattle.vx_grammar.specs.Programs.{head_marks, MemberPhrase, a_field, a_predicate, a_function, a_method, member_meant, StandsMember, member_marks, ProgramPhrase, no_members, member, program_meant, StandsProgram, program_marks}
-use Rattle.vx_grammar.specs.Reading.{Read, Unexpected, TooDeep}
-use Rattle.vx_grammar.specs.StmtReading.{skip_semicolon, declaration_at}
-use Rattle.vx_grammar.specs.MemberReading.{stopped, bodiless, measured_twice, Halting, halting, predicate_at, method_at, Halt, no_member, too_many, begins_member, then_members, members_by, members_within, field_at, member_by, member_at, limit, max_members}
+use Rattle.vx_grammar.specs.Reading.{Read, Unexpected, Measured, TooDeep}
+use Rattle.vx_grammar.specs.StmtReading.{is_measure, begins_decreases, skip_semicolon, declaration_at}
+use Rattle.vx_grammar.specs.MemberReading.{inside, no_body, second_measure, members_at, stopped, bodiless, measured_twice, Halting, halting, predicate_at, method_at, Halt, no_member, too_many, begins_member, then_members, members_by, members_within, field_at, member_by, member_at, limit, max_members}
 use Rattle.vx_grammar.specs.Laws.{Within}
-use Rattle.vx_grammar.specs.ProgramLaws.{FitsInFront, StopsAtBody, ProgramGoesOn, ProgramSays, ProgramsAreSpelled}
-use Rattle.vx_grammar.proofs.Tells.{Grammar, Starts, Takes, Tells, TellsOk, TellsUnexpected, marks_is, takes_then, takes_none, tells_as}
+use Rattle.vx_grammar.specs.ProgramLaws.{GoesOnWith, ClauseFits, BeginsMeasure, StopsAtMeasure, FitsInFront, StopsAtBody, ProgramGoesOn, ProgramSays, ProgramsAreSpelled}
+use Rattle.vx_grammar.proofs.Lists.{BeginsClause, tokens-append}
+use Rattle.vx_grammar.proofs.Tells.{Grammar, Starts, Takes, Tells, TellsOk, TellsUnexpected, TellsMeasured, measure_first, marks_is, takes_then, takes_none, tells_as, starts_front}
 use Rattle.vx_grammar.proofs.BodiesTold.{PredicateFor, predicate_tells}
-use Rattle.vx_grammar.proofs.FunctionTold.{plain, plain_halting, FunctionFor, function_tells, HeadTaken, WantsBody, never_wants, function_wants}
+use Rattle.vx_grammar.proofs.FunctionTold.{TellsMeasure, none_told, function_told, plain, plain_halting, FunctionFor, function_tells, HeadTaken, WantsBody, never_wants, function_wants}
 use Rattle.vx_grammar.proofs.MethodTold.{SemiThen, semi_tells, MethodFor, method_tells}
 use Rattle.vx_grammar.proofs.Bracketed.{Nested, led_tells}
 use Rattle.vx_grammar.proofs.Sequence.{Sequence, Nothing, tells_sequence, starts_nothing, tells_nothing}
@@ -79,6 +81,17 @@ member_by_wants t k ts rest e w = absurd (never_wants (let a : Read Member = Err
 member_wants : (t : Token) (ts rest : List Token) → WantsBody (member_at limit t ts) rest → HeadTaken (t ∷ ts) rest
 unfolding member_at
 member_wants t ts rest w = member_by_wants t t.kind ts rest refl w
+
+member_by_told : (place : Place) (k : Kind) (ts : List Token) → TellsMeasure (member_by limit place k ts)
+member_by_told place (word words.Field) ts = none_told (field_at place ts)
+member_by_told place (word words.Predicate) ts = none_told (predicate_at limit place ts)
+member_by_told place (word words.Function) ts = function_told place ts
+member_by_told place (word words.Method) ts = none_told (method_at limit place ts)
+member_by_told place k ts = tt
+
+member_told : (t : Token) (ts : List Token) → TellsMeasure (member_at limit t ts)
+unfolding member_at
+member_told t ts = member_by_told t.place t.kind ts
 
 -- members, and then a part of what follows
 pub record Front (before : List Member) (after : List Member) (ms : List Mark) : Type 0 where
@@ -143,32 +156,49 @@ front_alone before after ms f = record { phrase = f.phrase; stands = f.stands; m
 
 -- ---- what an answer says, behind members that were read before
 
+-- what is told of a measure, but that no clause fits elsewhere
+abbrev pub MeasureTold : List Token → Result Program Halt → Type 0
+MeasureTold ts (Err (inside (Measured rest))) = StopsAtMeasure ts rest
+MeasureTold ts (Err (inside (Unexpected rest))) = Unit {0}
+MeasureTold ts (Err (no_member rest)) = Unit {0}
+MeasureTold ts (Err (second_measure rest)) = BeginsMeasure rest
+MeasureTold ts (Err (no_body rest)) = BeginsMeasure rest → ⊥
+MeasureTold ts (Err (inside (TooDeep rest))) = Unit {0}
+MeasureTold ts (Err (too_many rest)) = Unit {0}
+MeasureTold ts (Ok p) = Unit {0}
+
 -- what an answer says of all tokens, where those before were these members
 abbrev SaysBehind : List Token → List Member → List Mark → List Token → Result Program Halt → Type 0
-SaysBehind all before ms ts r = Front [] before ms → Takes limit all ms ts → length before ≤ max_members → ProgramSays all r
+SaysBehind all before ms ts r = Front [] before ms → Takes limit all ms ts → length before ≤ max_members → ProgramSays all r × MeasureTold all r
 
 says_none : (all : List Token) (before : List Member) (ms : List Mark) (rest : List Token) → SaysBehind all before ms rest (Err (no_member rest))
-says_none all before ms rest f takes few = (ms, record { tokens = takes.tokens; within = takes.within; goes_on = front_alone [] before ms f })
+says_none all before ms rest f takes few = ((ms, record { tokens = takes.tokens; within = takes.within; goes_on = front_alone [] before ms f }), tt)
 
 says_end : (all : List Token) (before : List Member) (ms : List Mark) → SaysBehind all before ms [] (Ok before)
-says_end all before ms f takes few = record {
-  spelled = record { phrase = f.phrase; stands = f.stands; means = f.means; tokens = ap tokens_of f.spelled ∙ sym (append-nil (tokens_of ms)) ∙ sym takes.tokens };
-  within = subst (Within limit) (sym f.spelled) takes.within;
-  few = few;
-}
+says_end all before ms f takes few = (
+  record {
+    spelled = record { phrase = f.phrase; stands = f.stands; means = f.means; tokens = ap tokens_of f.spelled ∙ sym (append-nil (tokens_of ms)) ∙ sym takes.tokens };
+    within = subst (Within limit) (sym f.spelled) takes.within;
+    few = few;
+  },
+  tt,
+)
 
 says_many : (all : List Token) (before : List Member) (ms : List Mark) (t : Token) (ts : List Token) → begins_member t.kind ≡ true → max_members ≤ length before → SaysBehind all before ms (t ∷ ts) (Err (too_many (t ∷ ts)))
-says_many all before ms t ts h many f takes few = record {
-  front = tokens_of ms;
-  members = before;
-  first = t;
-  after = ts;
-  is = takes.tokens;
-  rest_is = refl;
-  spelled = record { phrase = f.phrase; stands = f.stands; means = f.means; tokens = ap tokens_of f.spelled };
-  many = many;
-  begins_member = h;
-}
+says_many all before ms t ts h many f takes few = (
+  record {
+    front = tokens_of ms;
+    members = before;
+    first = t;
+    after = ts;
+    is = takes.tokens;
+    rest_is = refl;
+    spelled = record { phrase = f.phrase; stands = f.stands; means = f.means; tokens = ap tokens_of f.spelled };
+    many = many;
+    begins_member = h;
+  },
+  tt,
+)
 
 -- behind members, up to where the next one does not go on
 unfit_behind : (all : List Token) (before : List Member) (ms : List Mark) (ts rest : List Token) → TellsUnexpected MemberFor limit ts rest → Front [] before ms → Takes limit all ms ts → FitsInFront all rest
@@ -189,32 +219,72 @@ body_behind_members all before ms ts rest h f takes =
       tokens = both_taken.tokens ∙ ap (λ l. tokens_of (l ++ head) ++ rest) (sym f.spelled);
     }
 
-says_stop : (all : List Token) (before : List Member) (ms : List Mark) (ts : List Token) (r : Halting Member) (go : Member → List Token → Result Program Halt) → Tells MemberFor limit ts (plain r) → ((rest : List Token) → WantsBody r rest → HeadTaken ts rest)
+-- a program goes on with a mark of this kind
+goes_on_with : (ms : List Mark) (m : Mark) (k : Kind) → m.token.kind ≡ k → ProgramGoesOn (ms ++ m ∷ []) → GoesOnWith (tokens_of ms) k
+goes_on_with ms m k e g = record {
+  place = m.token.place;
+  more = tokens_of g.more;
+  program = program_meant g.phrase;
+  spelled = record {
+    phrase = g.phrase;
+    stands = g.stands;
+    means = refl;
+    tokens = ap tokens_of (g.marks ∙ append_assoc ms (m ∷ []) g.more) ∙ tokens-append ms (m ∷ g.more) ∙ ap (λ (x : Kind). let u : Token = record { kind = x; place = m.token.place } in tokens_of ms ++ u ∷ tokens_of g.more) e;
+  };
+}
+
+clause_fits : (ms : List Mark) (m : Mark) → BeginsClause m.token.kind → ProgramGoesOn (ms ++ m ∷ []) → ClauseFits (tokens_of ms)
+clause_fits ms m (inl e) g = inl (goes_on_with ms m (word words.Requires) e g)
+clause_fits ms m (inr e) g = inr (goes_on_with ms m (word words.Invariant) e g)
+
+-- behind members, up to a measure
+measure_behind : (all : List Token) (before : List Member) (ms : List Mark) (ts rest : List Token) → TellsMeasured MemberFor limit ts rest → Front [] before ms → Takes limit all ms ts → StopsAtMeasure all rest
+measure_behind all before ms ts rest h f takes =
+    let both_taken = takes_then limit all ts rest ms h.marks takes h.takes in
+    record {
+      front = tokens_of (ms ++ h.marks);
+      is = both_taken.tokens;
+      measure = subst BeginsMeasure (sym h.first) h.is_measure;
+      clause = clause_fits (ms ++ h.marks) h.clause h.clause_is (subst ProgramGoesOn (sym (append_assoc ms h.marks (h.clause ∷ []))) (front_goes_on [] before ms (h.marks ++ h.clause ∷ []) f h.clause_starts));
+      block = goes_on_with (ms ++ h.marks) h.block (symbol signs.OpenBrace) h.block_is (subst ProgramGoesOn (sym (append_assoc ms h.marks (h.block ∷ []))) (front_goes_on [] before ms (h.marks ++ h.block ∷ []) f h.block_starts));
+    }
+
+no_measure : (ts : List Token) → begins_decreases ts ≡ false → BeginsMeasure ts → ⊥
+no_measure (t ∷ ts) e h = let k : is_measure t.kind ≡ true = ap is_measure h in absurd cc
+no_measure [] e h = h
+
+a_measure : (ts : List Token) → begins_decreases ts ≡ true → BeginsMeasure ts
+a_measure ts e = let m = measure_first ts e in subst BeginsMeasure (sym m.first) m.is_measure
+
+says_stop : (all : List Token) (before : List Member) (ms : List Mark) (ts : List Token) (r : Halting Member) (go : Member → List Token → Result Program Halt) → Tells MemberFor limit ts (plain r) → ((rest : List Token) → WantsBody r rest → HeadTaken ts rest) → TellsMeasure r
     → ((m : Member) (rest : List Token) (ns : List Mark) → MemberFor m ns → Takes limit ts ns rest → SaysBehind all before ms ts (go m rest))
     → SaysBehind all before ms ts (then_members r go)
-says_stop all before ms ts (Ok (m, rest)) go h wants k f takes few = k m rest h.marks h.spelled h.takes f takes few
-says_stop all before ms ts (Err (stopped (Unexpected rest))) go h wants k f takes few = unfit_behind all before ms ts rest h f takes
-says_stop all before ms ts (Err (bodiless rest)) go h wants k f takes few = (unfit_behind all before ms ts rest h f takes, body_behind_members all before ms ts rest (wants rest (inl refl)) f takes)
-says_stop all before ms ts (Err (measured_twice rest)) go h wants k f takes few = (unfit_behind all before ms ts rest h f takes, body_behind_members all before ms ts rest (wants rest (inr refl)) f takes)
-says_stop all before ms ts (Err (stopped (TooDeep rest))) go h wants k f takes few =
+says_stop all before ms ts (Ok (m, rest)) go h wants d k f takes few = k m rest h.marks h.spelled h.takes f takes few
+says_stop all before ms ts (Err (stopped (Unexpected rest))) go h wants d k f takes few = (unfit_behind all before ms ts rest h f takes, tt)
+says_stop all before ms ts (Err (stopped (Measured rest))) go h wants d k f takes few = (unfit_behind all before ms ts rest (record { marks = h.marks; takes = h.takes; starts = starts_front MemberFor h.marks (h.block ∷ []) h.block_starts }) f takes, measure_behind all before ms ts rest h f takes)
+says_stop all before ms ts (Err (bodiless rest)) go h wants d k f takes few = ((unfit_behind all before ms ts rest h f takes, body_behind_members all before ms ts rest (wants rest (inl refl)) f takes), no_measure rest d)
+says_stop all before ms ts (Err (measured_twice rest)) go h wants d k f takes few = ((unfit_behind all before ms ts rest h f takes, body_behind_members all before ms ts rest (wants rest (inr refl)) f takes), a_measure rest d)
+says_stop all before ms ts (Err (stopped (TooDeep rest))) go h wants d k f takes few =
     let both_taken = takes_then limit all ts rest ms h.marks takes h.takes in
-    let deeper : ProgramGoesOn ((ms ++ h.marks) ++ h.deep ∷ []) = subst ProgramGoesOn (sym (append_assoc ms h.marks (h.deep ∷ []))) (front_goes_on [] before ms (h.marks ++ h.deep ∷ []) f h.starts) in
-    record {
-      front = ms ++ h.marks;
-      deep = h.deep;
-      after = h.after;
-      first = h.first;
-      fits = record { tokens = both_taken.tokens; within = both_taken.within; goes_on = record { phrase = deeper.phrase; stands = deeper.stands; more = h.deep ∷ deeper.more; marks = deeper.marks ∙ append_assoc (ms ++ h.marks) (h.deep ∷ []) deeper.more } };
-      count = h.count;
-      goes_on = deeper;
-    }
+    let deeper : ProgramGoesOn ((ms ++ h.marks) ++ h.deep ∷ []) = subst ProgramGoesOn (sym (append_assoc ms h.marks (h.deep ∷ []))) (front_goes_on [] before ms (h.marks ++ h.deep ∷ []) f h.starts) in (
+      record {
+        front = ms ++ h.marks;
+        deep = h.deep;
+        after = h.after;
+        first = h.first;
+        fits = record { tokens = both_taken.tokens; within = both_taken.within; goes_on = record { phrase = deeper.phrase; stands = deeper.stands; more = h.deep ∷ deeper.more; marks = deeper.marks ∙ append_assoc (ms ++ h.marks) (h.deep ∷ []) deeper.more } };
+        count = h.count;
+        goes_on = deeper;
+      },
+      tt,
+    )
 
 -- behind one member more and its semicolon
 says_on : (all : List Token) (before : List Member) (ms : List Mark) (ts : List Token) (r : Member → List Token → Result Program Halt) → length before < max_members → ((m : Member) (us : List Token) (ns : List Mark) → SaysBehind all (before ++ m ∷ []) ns us (r m us))
     → (m : Member) (rest : List Token) (ns : List Mark) → MemberFor m ns → Takes limit ts ns rest → SaysBehind all before ms ts (r m (skip_semicolon rest))
 says_on all before ms ts r lt h m rest ns g taken f takes few = by_semi (semi_tells limit m rest)
   where
-    by_semi : TellsOk (SemiThen m) limit rest m (skip_semicolon rest) → ProgramSays all (r m (skip_semicolon rest))
+    by_semi : TellsOk (SemiThen m) limit rest m (skip_semicolon rest) → ProgramSays all (r m (skip_semicolon rest)) × MeasureTold all (r m (skip_semicolon rest))
     by_semi s =
         let first = takes_then limit all ts rest ms ns takes taken in
         let second = takes_then limit all rest (skip_semicolon rest) (ms ++ ns) s.marks first s.takes in
@@ -225,7 +295,7 @@ says_on all before ms ts r lt h m rest ns g taken f takes few = by_semi (semi_te
 says_member : (all : List Token) (before : List Member) (ms : List Mark) (t : Token) (ts : List Token) (go : Member → List Token → Result Program Halt) (b : Bool) → ltb (length before) max_members ≡ b → begins_member t.kind ≡ true → ((m : Member) (us : List Token) (ns : List Mark) → SaysBehind all (before ++ m ∷ []) ns us (go m us))
     → SaysBehind all before ms (t ∷ ts) (cond b (then_members (member_at limit t ts) (λ m after. go m (skip_semicolon after))) (Err (too_many (t ∷ ts))))
 says_member all before ms t ts go true lt h k =
-    says_stop all before ms (t ∷ ts) (member_at limit t ts) (λ m after. go m (skip_semicolon after)) (member_tells t ts h) (member_wants t ts)
+    says_stop all before ms (t ∷ ts) (member_at limit t ts) (λ m after. go m (skip_semicolon after)) (member_tells t ts h) (member_wants t ts) (member_told t ts)
     (says_on all before ms (t ∷ ts) go (ltb-true _ _ lt) k)
 says_member all before ms t ts go false ge h k = says_many all before ms t ts h (ltb-false _ _ ge)
 
@@ -241,6 +311,12 @@ members_say (suc most) all before ms [] = says_end all before ms
 members_say zero all before ms (t ∷ ts) = says_none all before ms (t ∷ ts)
 members_say (suc most) all before ms (t ∷ ts) = says_turn all before ms t ts (λ m us. members_by limit max_members most (before ++ m ∷ []) us) (begins_member t.kind) refl (λ m us ns. members_say most all (before ++ m ∷ []) ns us)
 
-pub programs_are_spelled : ProgramsAreSpelled
+all_say : (ts : List Token) → ProgramSays ts (members_at ts) × MeasureTold ts (members_at ts)
 unfolding members_within
-programs_are_spelled ts = members_say (length ts) ts [] [] ts (no_front []) (takes_none limit ts) (omega arith)
+all_say ts = members_say (length ts) ts [] [] ts (no_front []) (takes_none limit ts) (omega arith)
+
+pub programs_are_spelled : ProgramsAreSpelled
+programs_are_spelled ts = (all_say ts).0
+
+pub measures_told : (ts : List Token) → MeasureTold ts (members_at ts)
+measures_told ts = (all_say ts).1

@@ -2,14 +2,15 @@
 use Rattle.std.proofs.Common.{◌≡◌, ℕ, zero, suc, ◌≤◌, ◌<◌, List, [], ◌∷◌, ◌++◌, Bool, true, false, cond, Ok, Err, length, refl, sym, ap, subst, ◌∙◌, append_assoc, arith, inl, inr, ◌⊎◌, length-append}
 use Rattle.std.proofs.lemmas.List.{append-nil}
 use Rattle.vx_ast.specs.declared.Place.{Place}
+use Rattle.vx_tokens.specs.declared.token.Word.TheVariants as words
 use Rattle.vx_tokens.specs.declared.token.Symbol.TheVariants as signs
-use Rattle.vx_tokens.specs.Tokens.{Token, Kind, symbol}
+use Rattle.vx_tokens.specs.Tokens.{Token, Kind, word, symbol}
 use Rattle.vx_grammar.specs.Grammar.{Mark, mark, tokens_of}
-use Rattle.vx_grammar.specs.Reading.{◌>>=◌, Read, Unexpected, TooDeep, is_symbol}
-use Rattle.vx_grammar.proofs.Lists.{tokens-append}
+use Rattle.vx_grammar.specs.Reading.{◌>>=◌, Read, Stop, Unexpected, Measured, TooDeep, is_symbol}
+use Rattle.vx_grammar.proofs.Lists.{BeginsClause, tokens-append}
 use Rattle.vx_grammar.proofs.Symbols.{is_symbol_true}
 use Rattle.vx_grammar.proofs.Tells.{Grammar, Tells, After, tells_behind, tells_then, tells_here}
-use Rattle.vx_grammar.proofs.Local.{Local, Front, SameHead, same_behind}
+use Rattle.vx_grammar.proofs.Local.{Local, Front, Heads, Alike, alike, alike_behind}
 
 abbrev pub skip : List Token → List Token
 skip [] = []
@@ -147,15 +148,21 @@ rows_read G begins item Over r n (x ∷ xs) ms more h o ro (suc most) le =
 -- ---- no further than the next token
 
 -- as Front of one reader, for as many items as there may be
-pub record RowFront {A : Type 0} (begins : Kind → Bool) (item : List Token → Read A) (ts rest : List Token) (answer : List Token → Read (List A)) : Type 0 where
+pub record RowFront {A : Type 0} (b : Bool) (begins : Kind → Bool) (item : List Token → Read A) (ts rest : List Token) (answer : List Token → Read (List A)) : Type 0 where
   pub front : List Token
   pub is : ts ≡ front ++ rest
-  pub repeats : (next : List Token) → SameHead rest next → (most : ℕ) → length (front ++ next) ≤ most → rows begins item most (front ++ next) ≡ answer next
+  pub repeats : (next : List Token) → Heads b rest next → (most : ℕ) → length (front ++ next) ≤ most → rows begins item most (front ++ next) ≡ answer next
 
 abbrev pub LocalRows : {A : Type 0} → (Kind → Bool) → (List Token → Read A) → List Token → Read (List A) → Type 0
-LocalRows begins item ts (Ok x) = RowFront begins item ts x.1 (λ l. Ok (x.0, l))
-LocalRows begins item ts (Err (Unexpected rest)) = RowFront begins item ts rest (λ l. Err (Unexpected l))
+LocalRows begins item ts (Ok x) = RowFront true begins item ts x.1 (λ l. Ok (x.0, l))
+LocalRows begins item ts (Err (Unexpected rest)) = RowFront true begins item ts rest (λ l. Err (Unexpected l))
+LocalRows begins item ts (Err (Measured rest)) = RowFront false begins item ts rest (λ l. Err (Measured l))
 LocalRows begins item ts (Err (TooDeep rest)) = Unit {0}
+
+-- no item begins with a measure, nor with a clause
+pub record NoClause (begins : Kind → Bool) : Type 0 where
+  pub measure : begins (word words.Decreases) ≡ false
+  pub clause : (k : Kind) → BeginsClause k → begins k ≡ false
 
 rows_empty : {A : Type 0} (begins : Kind → Bool) (item : List Token → Read A) (most : ℕ) → rows begins item most [] ≡ Ok ([], [])
 unfolding rows
@@ -165,29 +172,35 @@ rows_empty begins item (suc most) = refl
 local_empty : {A : Type 0} (begins : Kind → Bool) (item : List Token → Read A) → LocalRows begins item [] (Ok ([], []))
 local_empty begins item = record { front = []; is = refl; repeats = only_empty }
   where
-    only_empty : (next : List Token) → SameHead [] next → (most : ℕ) → length next ≤ most → rows begins item most next ≡ Ok ([], next)
+    only_empty : (next : List Token) → Alike [] next → (most : ℕ) → length next ≤ most → rows begins item most next ≡ Ok ([], next)
     only_empty [] same most le = rows_empty begins item most
     only_empty (t ∷ ts) same most le = absurd same
 
-local_over : {A : Type 0} (begins : Kind → Bool) (item : List Token → Read A) (t : Token) (ts : List Token) → begins t.kind ≡ false → LocalRows begins item (t ∷ ts) (Ok ([], t ∷ ts))
+local_over : {A : Type 0} (begins : Kind → Bool) (item : List Token → Read A) → NoClause begins → (t : Token) (ts : List Token) → begins t.kind ≡ false → LocalRows begins item (t ∷ ts) (Ok ([], t ∷ ts))
 unfolding rows
-local_over begins item t ts e = record { front = []; is = refl; repeats = over }
+local_over begins item n t ts e = record { front = []; is = refl; repeats = over }
   where
-    over : (next : List Token) → SameHead (t ∷ ts) next → (most : ℕ) → length next ≤ most → rows begins item most next ≡ Ok ([], next)
+    over : (next : List Token) → Alike (t ∷ ts) next → (most : ℕ) → length next ≤ most → rows begins item most next ≡ Ok ([], next)
     over [] same most le = absurd same
     over (s ∷ next) same zero le = absurd (omega (arith, le))
-    over (s ∷ next) same (suc most) le = rw (← same, e) refl
+    over (s ∷ next) (inl same) (suc most) le = rw (← same, e) refl
+    over (s ∷ next) (inr (d, c)) (suc most) le = rw (n.clause s.kind c) refl
 
 -- what is in front, with other tokens behind, begins with the same token
 record SameFirst (t : Token) (l : List Token) : Type 0 where
   more : List Token
   is : l ≡ t ∷ more
 
-same_first : (t : Token) (ts front rest next : List Token) → t ∷ ts ≡ front ++ rest → SameHead rest next → SameFirst t (front ++ next)
-same_first t ts [] [] next e same = absurd cc
-same_first t ts [] (r ∷ rest) [] e same = absurd same
-same_first t ts [] (r ∷ rest) (s ∷ next) e same = let one : t ≡ r = cc in record { more = next; is = ap (λ (v : Token). v ∷ next) (sym (one ∙ same)) }
-same_first t ts (a ∷ front) rest next e same = let one : t ≡ a = cc in record { more = front ++ next; is = ap (λ (v : Token). v ∷ (front ++ next)) (sym one) }
+same_first : (t : Token) (ts front rest next : List Token) → (t.kind ≡ word words.Decreases → ⊥) → t ∷ ts ≡ front ++ rest → Alike rest next → SameFirst t (front ++ next)
+same_first t ts [] [] next other e same = absurd cc
+same_first t ts [] (r ∷ rest) [] other e same = absurd same
+same_first t ts [] (r ∷ rest) (s ∷ next) other e (inl same) = let one : t ≡ r = cc in record { more = next; is = ap (λ (v : Token). v ∷ next) (sym (one ∙ same)) }
+same_first t ts [] (r ∷ rest) (s ∷ next) other e (inr (d, c)) = let one : t ≡ r = cc in absurd (other (ap (λ (v : Token). v.kind) one ∙ d))
+same_first t ts (a ∷ front) rest next other e same = let one : t ≡ a = cc in record { more = front ++ next; is = ap (λ (v : Token). v ∷ (front ++ next)) (sym one) }
+
+-- what begins an item is no measure
+other_word : (begins : Kind → Bool) (k : Kind) → NoClause begins → begins k ≡ true → k ≡ word words.Decreases → ⊥
+other_word begins k n e d = let h : begins (word words.Decreases) ≡ true = subst (λ x. begins x ≡ true) d e in let g = n.measure in absurd cc
 
 -- one item in front of a list that is as long as there may be items
 rows_step : {A : Type 0} (begins : Kind → Bool) (item : List Token → Read A) (t : Token) (l : List Token) (most : ℕ) (r : Read A) → SameFirst t l → begins t.kind ≡ true → item l ≡ r → length l ≤ suc most
@@ -195,23 +208,23 @@ rows_step : {A : Type 0} (begins : Kind → Bool) (item : List Token → Read A)
 unfolding rows
 rows_step begins item t l most r f e q le = rw (f.is, e, ← f.is, q) refl
 
-local_stops : {A : Type 0} (begins : Kind → Bool) (item : List Token → Read A) (t : Token) (ts rest : List Token) → begins t.kind ≡ true → Front (t ∷ ts) rest (λ l. Err (Unexpected l)) item → LocalRows begins item (t ∷ ts) (Err (Unexpected rest))
-local_stops begins item t ts rest e f = record { front = f.front; is = f.is; repeats = stops }
+local_stops : {A : Type 0} (b : Bool) (begins : Kind → Bool) (item : List Token → Read A) → NoClause begins → (stop : List Token → Stop) (t : Token) (ts rest : List Token) → begins t.kind ≡ true → Front b (t ∷ ts) rest (λ l. Err (stop l)) item → RowFront b begins item (t ∷ ts) rest (λ l. Err (stop l))
+local_stops b begins item n stop t ts rest e f = record { front = f.front; is = f.is; repeats = stops }
   where
-    stops : (next : List Token) → SameHead rest next → (most : ℕ) → length (f.front ++ next) ≤ most → rows begins item most (f.front ++ next) ≡ Err (Unexpected next)
-    stops next same zero le = let s = same_first t ts f.front rest next f.is same in let n = ap length s.is in absurd (omega (arith, le, n))
-    stops next same (suc most) le = rows_step begins item t (f.front ++ next) most (Err (Unexpected next)) (same_first t ts f.front rest next f.is same) e (f.repeats next same) le
+    stops : (next : List Token) → Heads b rest next → (most : ℕ) → length (f.front ++ next) ≤ most → rows begins item most (f.front ++ next) ≡ Err (stop next)
+    stops next same zero le = let s = same_first t ts f.front rest next (other_word begins t.kind n e) f.is (alike b rest next same) in let k = ap length s.is in absurd (omega (arith, le, k))
+    stops next same (suc most) le = rows_step begins item t (f.front ++ next) most (Err (stop next)) (same_first t ts f.front rest next (other_word begins t.kind n e) f.is (alike b rest next same)) e (f.repeats next same) le
 
 -- an item, and what is between it and the others
 record Between (mid skipped : List Token) : Type 0 where
   semi : List Token
   is : mid ≡ semi ++ skipped
-  again : (l : List Token) → SameHead skipped l → skip (semi ++ l) ≡ l
+  again : (l : List Token) → Alike skipped l → skip (semi ++ l) ≡ l
 
 between : (mid : List Token) → Between mid (skip mid)
 between [] = record { semi = []; is = refl; again = none_skipped }
   where
-    none_skipped : (l : List Token) → SameHead [] l → skip l ≡ l
+    none_skipped : (l : List Token) → Alike [] l → skip l ≡ l
     none_skipped [] same = refl
     none_skipped (t ∷ l) same = absurd same
 between (t ∷ ts) = by_test (is_symbol signs.Semicolon t.kind) refl
@@ -220,13 +233,15 @@ between (t ∷ ts) = by_test (is_symbol signs.Semicolon t.kind) refl
     by_test true e = record { semi = t ∷ []; is = refl; again = λ l same. rw e refl }
     by_test false e = record { semi = []; is = refl; again = none_skipped }
       where
-        none_skipped : (l : List Token) → SameHead (t ∷ ts) l → skip l ≡ l
+        none_skipped : (l : List Token) → Alike (t ∷ ts) l → skip l ≡ l
         none_skipped [] same = absurd same
-        none_skipped (s ∷ l) same = rw (← same, e) refl
+        none_skipped (s ∷ l) (inl same) = rw (← same, e) refl
+        none_skipped (s ∷ l) (inr (d, inl c)) = rw c refl
+        none_skipped (s ∷ l) (inr (d, inr c)) = rw c refl
 
-more_front : {A : Type 0} (begins : Kind → Bool) (item : List Token → Read A) (t : Token) (ts : List Token) (x : A) (mid rest : List Token) (answer : List Token → Read (List A)) → begins t.kind ≡ true → length mid < length (t ∷ ts) → Front (t ∷ ts) mid (λ l. Ok (x, l)) item → RowFront begins item (skip mid) rest answer
-    → RowFront begins item (t ∷ ts) rest (λ l. answer l >>= λ xs. Ok (x ∷ xs.0, xs.1))
-more_front begins item t ts x mid rest answer e lt f g = record {
+more_front : {A : Type 0} (c : Bool) (begins : Kind → Bool) (item : List Token → Read A) → NoClause begins → (t : Token) (ts : List Token) (x : A) (mid rest : List Token) (answer : List Token → Read (List A)) → begins t.kind ≡ true → length mid < length (t ∷ ts) → Front true (t ∷ ts) mid (λ l. Ok (x, l)) item → RowFront c begins item (skip mid) rest answer
+    → RowFront c begins item (t ∷ ts) rest (λ l. answer l >>= λ xs. Ok (x ∷ xs.0, xs.1))
+more_front c begins item n t ts x mid rest answer e lt f g = record {
   front = f.front ++ (b.semi ++ g.front);
   is = whole;
   repeats = again;
@@ -238,17 +253,17 @@ more_front begins item t ts x mid rest answer e lt f g = record {
     whole : t ∷ ts ≡ (f.front ++ (b.semi ++ g.front)) ++ rest
     whole = f.is ∙ ap (λ l. f.front ++ l) (b.is ∙ ap (λ l. b.semi ++ l) g.is ∙ sym (append_assoc b.semi g.front rest)) ∙ sym (append_assoc f.front (b.semi ++ g.front) rest)
 
-    again : (next : List Token) → SameHead rest next → (most : ℕ) → length ((f.front ++ (b.semi ++ g.front)) ++ next) ≤ most → rows begins item most ((f.front ++ (b.semi ++ g.front)) ++ next) ≡ (answer next >>= λ xs. Ok (x ∷ xs.0, xs.1))
+    again : (next : List Token) → Heads c rest next → (most : ℕ) → length ((f.front ++ (b.semi ++ g.front)) ++ next) ≤ most → rows begins item most ((f.front ++ (b.semi ++ g.front)) ++ next) ≡ (answer next >>= λ xs. Ok (x ∷ xs.0, xs.1))
     again next same zero le =
-        let s = same_first t ts (f.front ++ (b.semi ++ g.front)) rest next whole same in
-        let n = ap length s.is in
-        absurd (omega (arith, le, n))
+        let s = same_first t ts (f.front ++ (b.semi ++ g.front)) rest next (other_word begins t.kind n e) whole (alike c rest next same) in
+        let k = ap length s.is in
+        absurd (omega (arith, le, k))
     again next same (suc most) le =
         let l3 = g.front ++ next in
         let l2 = b.semi ++ l3 in
         let list : (f.front ++ (b.semi ++ g.front)) ++ next ≡ f.front ++ l2 = append_assoc f.front (b.semi ++ g.front) next ∙ ap (λ l. f.front ++ l) (append_assoc b.semi g.front next) in
-        let heads : SameHead (skip mid) l3 = subst (λ l. SameHead l l3) (sym g.is) (same_behind g.front rest next same) in
-        let heads2 : SameHead mid l2 = subst (λ l. SameHead l l2) (sym b.is) (same_behind b.semi (skip mid) l3 heads) in
+        let heads : Alike (skip mid) l3 = alike_behind c g.front (skip mid) rest next g.is same in
+        let heads2 : Alike mid l2 = alike_behind true b.semi mid (skip mid) l3 b.is heads in
         let read : item (f.front ++ l2) ≡ Ok (x, l2) = f.repeats l2 heads2 in
         let n1 = length-append f.front mid in
         let n2 = ap length f.is in
@@ -258,13 +273,14 @@ more_front begins item t ts x mid rest answer e lt f g = record {
         let short : length l3 ≤ most = omega (arith, lt, n1, n2, n3, n4, n5, le) in
         let long : length (f.front ++ l2) ≤ suc most = omega (arith, n5, le) in
         ap (rows begins item (suc most)) list
-        ∙ rows_step begins item t (f.front ++ l2) most (Ok (x, l2)) (same_first t ts f.front mid l2 f.is heads2) e read long
+        ∙ rows_step begins item t (f.front ++ l2) most (Ok (x, l2)) (same_first t ts f.front mid l2 (other_word begins t.kind n e) f.is heads2) e read long
         ∙ rw (b.again l3 heads, g.repeats next same most short) refl
 
-local_more : {A : Type 0} (begins : Kind → Bool) (item : List Token → Read A) (t : Token) (ts : List Token) (x : A) (mid : List Token) (r : Read (List A)) → begins t.kind ≡ true → length mid < length (t ∷ ts) → Front (t ∷ ts) mid (λ l. Ok (x, l)) item → LocalRows begins item (skip mid) r → LocalRows begins item (t ∷ ts) (r >>= λ xs. Ok (x ∷ xs.0, xs.1))
-local_more begins item t ts x mid (Ok xs) e lt f g = more_front begins item t ts x mid xs.1 (λ l. Ok (xs.0, l)) e lt f g
-local_more begins item t ts x mid (Err (Unexpected rest)) e lt f g = more_front begins item t ts x mid rest (λ l. Err (Unexpected l)) e lt f g
-local_more begins item t ts x mid (Err (TooDeep rest)) e lt f g = tt
+local_more : {A : Type 0} (begins : Kind → Bool) (item : List Token → Read A) → NoClause begins → (t : Token) (ts : List Token) (x : A) (mid : List Token) (r : Read (List A)) → begins t.kind ≡ true → length mid < length (t ∷ ts) → Front true (t ∷ ts) mid (λ l. Ok (x, l)) item → LocalRows begins item (skip mid) r → LocalRows begins item (t ∷ ts) (r >>= λ xs. Ok (x ∷ xs.0, xs.1))
+local_more begins item n t ts x mid (Ok xs) e lt f g = more_front true begins item n t ts x mid xs.1 (λ l. Ok (xs.0, l)) e lt f g
+local_more begins item n t ts x mid (Err (Unexpected rest)) e lt f g = more_front true begins item n t ts x mid rest (λ l. Err (Unexpected l)) e lt f g
+local_more begins item n t ts x mid (Err (Measured rest)) e lt f g = more_front false begins item n t ts x mid rest (λ l. Err (Measured l)) e lt f g
+local_more begins item n t ts x mid (Err (TooDeep rest)) e lt f g = tt
 
 skip_short : (ts : List Token) → length (skip ts) ≤ length ts
 skip_short [] = omega arith
@@ -274,23 +290,24 @@ skip_short (t ∷ ts) = by_test (is_symbol signs.Semicolon t.kind)
     by_test true = omega arith
     by_test false = omega arith
 
-local_item : {A : Type 0} (begins : Kind → Bool) (item : List Token → Read A) (t : Token) (ts : List Token) (r : Read A) (go : List Token → Read (List A)) → begins t.kind ≡ true → Local (t ∷ ts) r item → ((x : A) (mid : List Token) → r ≡ Ok (x, mid) → length mid < length (t ∷ ts)) → ((us : List Token) → length us ≤ length ts → LocalRows begins item us (go us))
+local_item : {A : Type 0} (begins : Kind → Bool) (item : List Token → Read A) → NoClause begins → (t : Token) (ts : List Token) (r : Read A) (go : List Token → Read (List A)) → begins t.kind ≡ true → Local (t ∷ ts) r item → ((x : A) (mid : List Token) → r ≡ Ok (x, mid) → length mid < length (t ∷ ts)) → ((us : List Token) → length us ≤ length ts → LocalRows begins item us (go us))
     → LocalRows begins item (t ∷ ts) (r >>= λ x. go (skip x.1) >>= λ xs. Ok (x.0 ∷ xs.0, xs.1))
-local_item begins item t ts (Ok x) go e f lt h =
+local_item begins item n t ts (Ok x) go e f lt h =
     let k = lt x.0 x.1 refl in
     let s = skip_short x.1 in
-    local_more begins item t ts x.0 x.1 (go (skip x.1)) e k f (h (skip x.1) (omega (arith, k, s)))
-local_item begins item t ts (Err (Unexpected rest)) go e f lt h = local_stops begins item t ts rest e f
-local_item begins item t ts (Err (TooDeep rest)) go e f lt h = tt
+    local_more begins item n t ts x.0 x.1 (go (skip x.1)) e k f (h (skip x.1) (omega (arith, k, s)))
+local_item begins item n t ts (Err (Unexpected rest)) go e f lt h = local_stops true begins item n Unexpected t ts rest e f
+local_item begins item n t ts (Err (Measured rest)) go e f lt h = local_stops false begins item n Measured t ts rest e f
+local_item begins item n t ts (Err (TooDeep rest)) go e f lt h = tt
 
 -- reading items by one reader is repeated by the other, for as many items as there may be
-pub rows_local : {A : Type 0} (begins : Kind → Bool) (item other : List Token → Read A) → ((ts : List Token) → Local ts (item ts) other) → ((ts : List Token) (x : A) (mid : List Token) → item ts ≡ Ok (x, mid) → length mid < length ts) → (most : ℕ) (ts : List Token) → length ts ≤ most → LocalRows begins other ts (rows begins item most ts)
+pub rows_local : {A : Type 0} (begins : Kind → Bool) (item other : List Token → Read A) → NoClause begins → ((ts : List Token) → Local ts (item ts) other) → ((ts : List Token) (x : A) (mid : List Token) → item ts ≡ Ok (x, mid) → length mid < length ts) → (most : ℕ) (ts : List Token) → length ts ≤ most → LocalRows begins other ts (rows begins item most ts)
 unfolding rows
-rows_local begins item other h short zero [] le = local_empty begins other
-rows_local begins item other h short zero (t ∷ ts) le = absurd (omega (arith, le))
-rows_local begins item other h short (suc most) [] le = local_empty begins other
-rows_local begins item other h short (suc most) (t ∷ ts) le = by_test (begins t.kind) refl (λ us less. rows_local begins item other h short most us (omega (arith, less, le)))
+rows_local begins item other n h short zero [] le = local_empty begins other
+rows_local begins item other n h short zero (t ∷ ts) le = absurd (omega (arith, le))
+rows_local begins item other n h short (suc most) [] le = local_empty begins other
+rows_local begins item other n h short (suc most) (t ∷ ts) le = by_test (begins t.kind) refl (λ us less. rows_local begins item other n h short most us (omega (arith, less, le)))
   where
     by_test : (b : Bool) → begins t.kind ≡ b → ((us : List Token) → length us ≤ length ts → LocalRows begins other us (rows begins item most us)) → LocalRows begins other (t ∷ ts) (cond b (item (t ∷ ts) >>= λ x. rows begins item most (skip x.1) >>= λ xs. Ok (x.0 ∷ xs.0, xs.1)) (Ok ([], t ∷ ts)))
-    by_test true e go = local_item begins other t ts (item (t ∷ ts)) (rows begins item most) e (h (t ∷ ts)) (short (t ∷ ts)) go
-    by_test false e go = local_over begins other t ts e
+    by_test true e go = local_item begins other n t ts (item (t ∷ ts)) (rows begins item most) e (h (t ∷ ts)) (short (t ∷ ts)) go
+    by_test false e go = local_over begins other n t ts e

@@ -2,7 +2,7 @@
 use Rattle.std.proofs.Common.{◌≡◌, ℕ, zero, suc, List, [], ◌∷◌, ◌++◌, Some, None, Bool, true, false, Ok, Err, length, refl, sym, ap, ◌∙◌, append_assoc, inl, inr}
 use Rattle.std.proofs.lemmas.List.{append-nil}
 use Rattle.vx_ast.specs.declared.Place.{Place}
-use Rattle.vx_ast.specs.Written.{Stmt, Block, Done, Then}
+use Rattle.vx_ast.specs.Written.{Stmt, Other, NoElse, Block, Done, Then}
 use Rattle.vx_tokens.specs.Tokens.{Token}
 use Rattle.vx_grammar.specs.Grammar.{Phrase, literal, Mark}
 use Rattle.vx_grammar.specs.Statements.{StmtPhrase, claimed, asserts, BranchPhrase, branch, OtherPhrase, no_other, BlockPhrase, block, RowPhrase, no_more, more, stmt_meant, branch_meant, other_meant, block_meant, row_meant, StandsStmt, StandsBranch, StandsOther, StandsBlock, StandsRow, stmt_marks, branch_marks, other_marks, block_marks, row_marks}
@@ -24,7 +24,7 @@ pub record BranchFor (n : ℕ) (place : Place) (s : Stmt) (ms : List Mark) : Typ
   pub means : branch_meant place phrase ≡ s
   pub spelled : branch_marks n phrase ≡ ms
 
-pub record OtherFor (n : ℕ) (b : Block) (ms : List Mark) : Type 0 where
+pub record OtherFor (n : ℕ) (b : Other) (ms : List Mark) : Type 0 where
   pub phrase : OtherPhrase
   pub stands : StandsOther phrase
   pub means : other_meant phrase ≡ b
@@ -43,7 +43,7 @@ pub record InsideFor (n : ℕ) (b : Block) (ms : List Mark) : Type 0 where
   pub means : row_meant phrase ≡ b
   pub spelled : row_marks n phrase ≡ ms
 
-a_phrase : Phrase
+unfoldable pub a_phrase : Phrase
 a_phrase = literal somewhere true
 
 pub starts_stmt : (n : ℕ) → Starts (StmtFor n) []
@@ -53,7 +53,7 @@ starts_stmt n = record { value = stmt_meant (claimed asserts somewhere a_phrase)
 pub starts_inside : (n : ℕ) → Starts (InsideFor n) []
 starts_inside n = record { value = Done; more = []; spelled = record { phrase = no_more; stands = tt; means = refl; spelled = refl } }
 
-any_block : BlockPhrase
+unfoldable pub any_block : BlockPhrase
 any_block = block somewhere no_more somewhere
 
 pub starts_block : (n : ℕ) → Starts (BlockFor n) []
@@ -61,7 +61,7 @@ unfolding any_block
 starts_block n = record { value = block_meant any_block; more = block_marks n any_block; spelled = record { phrase = any_block; stands = tt; means = refl; spelled = refl } }
 
 pub starts_other : (n : ℕ) → Starts (OtherFor n) []
-starts_other n = record { value = Done; more = []; spelled = record { phrase = no_other; stands = tt; means = refl; spelled = refl } }
+starts_other n = record { value = NoElse; more = []; spelled = record { phrase = no_other; stands = tt; means = refl; spelled = refl } }
 
 pub starts_branch : (n : ℕ) (place : Place) → Starts (BranchFor n place) []
 unfolding any_block a_phrase

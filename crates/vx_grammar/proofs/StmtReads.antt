@@ -4,14 +4,14 @@ use Rattle.std.proofs.lemmas.List.{length-map}
 use Rattle.vx_ast.specs.declared.Place.{Place}
 use Rattle.vx_ast.specs.declared.ValueType.{ValueType}
 use Rattle.vx_ast.specs.declared.ValueType.TheVariants as types
-use Rattle.vx_ast.specs.Written.{Expr, Stmt, Block, Done, Then}
+use Rattle.vx_ast.specs.Written.{Expr, Stmt, NoElse, Block, Done, Then}
 use Rattle.vx_tokens.specs.declared.token.Word.TheVariants as words
 use Rattle.vx_tokens.specs.declared.token.Symbol.TheVariants as signs
 use Rattle.vx_tokens.specs.Tokens.{Token, Kind, name, word, symbol}
 use Rattle.vx_grammar.specs.Grammar.{Phrase, dotted, start_of, Instance, Mark, mark, marks, meant, StandsAt, tokens_of}
 use Rattle.vx_grammar.specs.Statements.{InvariantsPhrase, repeated, invariants_marks, DeclarationPhrase, Claim, inhales, exhales, asserts, assumes, claim_word, claim_meant, Folding, folds, unfolds, folding_word, folding_meant, folded, type_word, declaration_meant, declaration_marks, StmtPhrase, assigned, stored, invoked, targeted, right_marks, IsPath, declared, initialized, claimed, branched, BranchPhrase, branch, OtherPhrase, no_other, other, another, BlockPhrase, block, RowPhrase, no_more, more, stmt_meant, branch_meant, other_meant, block_meant, row_meant, StandsStmt, StandsBranch, StandsOther, StandsBlock, StandsRow, stmt_marks, branch_marks, other_marks, block_marks, row_marks, semi_marks}
 use Rattle.vx_grammar.specs.Reading.{instance_at, enclosed, Read, expect, is_symbol, choice, choice_at, below, name_at}
-use Rattle.vx_grammar.specs.StmtReading.{while_at, StmtDeeper, statements, elseif_part, stmts_below, type_by, type_at, declaration_at, block_at, otherwise_by, otherwise_at, branch_at, initial_by, initial_at, declare_at, claim_at, fold_at, stmt_at, begins_stmt, stmts_at, block_from}
+use Rattle.vx_grammar.specs.StmtReading.{begins_decreases, loop_block_at, while_at, StmtDeeper, statements, elseif_part, stmts_below, type_by, type_at, declaration_at, block_at, otherwise_by, otherwise_at, branch_at, initial_by, initial_at, declare_at, claim_at, fold_at, stmt_at, begins_stmt, stmts_at, block_from}
 use Rattle.vx_grammar.specs.Nesting.{nests, stmt_nests}
 use Rattle.vx_grammar.specs.Laws.{Within}
 use Rattle.vx_grammar.proofs.Lists.{tokens-append_more, within_front, within_back, reach, Ends}
@@ -130,7 +130,7 @@ block_reads limit n room (block o r c) ts e below' h st =
     stmt_nests room less statements _ _ s ∙ rw (list, row) (ap (λ (b : Block). let a : Read Block = Ok (b, close.token ∷ ts) in a) (row_is r)) in
     rw taken refl
 
-no_other_by : (deeper : StmtDeeper) (t : Token) (k : Kind) (ts : List Token) → begins_other k ≡ false → otherwise_by deeper t k ts ≡ Ok (Done, t ∷ ts)
+no_other_by : (deeper : StmtDeeper) (t : Token) (k : Kind) (ts : List Token) → begins_other k ≡ false → otherwise_by deeper t k ts ≡ Ok (NoElse, t ∷ ts)
 no_other_by deeper t (word words.Else) ts h = absurd cc
 no_other_by deeper t (word words.Elseif) ts h = absurd cc
 no_other_by deeper t k ts h = refl
@@ -139,12 +139,14 @@ other_reads : (limit n room : ℕ) (x : OtherPhrase) (ts : List Token) → n + r
 unfolding otherwise_at StmtReadsBelow
 other_reads limit n room no_other [] e below' h st ends = refl
 other_reads limit n room no_other (t ∷ ts) e below' h st ends = no_other_by (stmts_below room) t t.kind ts ends.2
-other_reads limit n room (other p b) ts e below' h st ends = block_reads limit n room b ts e below' h.1 st
+other_reads limit n room (other p b) ts e below' h st ends = rw (block_reads limit n room b ts e below' h.1 st) refl
 other_reads limit n room (another p b) ts e below' h st ends =
     let less = room - 1 in
     let s = room_for limit n room e h.0 in
     let read = (below' less s).branch_reads (n + 1) p b ts (omega (arith, e, h.0)) h.1 st ends in
-    stmt_nests room less (elseif_part p) _ _ s ∙ rw read refl
+    let us = Toks (branch_marks (n + 1) b) ts in
+    let taken : stmts_below room (elseif_part p) ((mark (n + 1) p (word words.Elseif)).token ∷ us) us ≡ Ok (Then (branch_meant p b) Done, ts) = stmt_nests room less (elseif_part p) _ _ s ∙ rw read refl in
+    rw taken refl
 
 branch_reads_at : (limit n room : ℕ) (place : Place) (b : BranchPhrase) (ts : List Token) → n + room ≡ limit → StmtReadsBelow limit room → Within limit (branch_marks n b) → StandsBranch b → StmtOver ts → branch_at room (stmts_below room) place (Toks (branch_marks n b) ts) ≡ Ok (branch_meant place b, ts)
 unfolding branch_at
@@ -186,9 +188,13 @@ folding_begins : (f : Folding) → begins_stmt (word (folding_word f)) ≡ true
 folding_begins folds = refl
 folding_begins unfolds = refl
 
+-- no measure begins a block
+block_no_measure : (n : ℕ) (b : BlockPhrase) (ts : List Token) → begins_decreases (Toks (block_marks n b) ts) ≡ false
+block_no_measure n (block o r c) ts = refl
+
 while_reads : (limit n room : ℕ) (p o : Place) (w : Phrase) (c : Place) (is : InvariantsPhrase) (b : BlockPhrase) (ts : List Token) → n + room ≡ limit → StmtReadsBelow limit room → Within limit (stmt_marks n (repeated p o w c is b)) → StandsStmt (repeated p o w c is b)
     → stmt_at room (stmts_below room) (Toks (stmt_marks n (repeated p o w c is b)) ts) ≡ Ok (stmt_meant (repeated p o w c is b), ts)
-unfolding stmt_at while_at
+unfolding stmt_at while_at loop_block_at
 while_reads limit n room p o w c is b ts e below' h st =
     let close = mark (n + 1) c (symbol signs.Close) in
     let tail = invariants_marks n 0 is ++ block_marks n b in
@@ -201,7 +207,7 @@ while_reads limit n room p o w c is b ts e below' h st =
     let condition = condition_reads limit n room o c w (tokens_of tail ++ ts) e h.1.0 hw st.0 in
     let kept = invariants_are_read limit n room is b ts e hi st.1 in
     let inside = block_reads limit n room b ts e below' hb st.2 in
-    rw (first, condition, second, kept, inside) refl
+    rw (first, condition, second, kept, block_no_measure n b ts, inside) refl
 
 stmt_reads : (limit n room : ℕ) (w : StmtPhrase) (ts : List Token) → n + room ≡ limit → StmtReadsBelow limit room → Within limit (stmt_marks n w) → StandsStmt w → StmtOver ts → stmt_at room (stmts_below room) (Toks (stmt_marks n w) ts) ≡ Ok (stmt_meant w, ts)
 unfolding stmt_at claim_at declare_at initial_at initial_by expect

@@ -44,8 +44,8 @@ abbrev DeclarationParts : ℕ → Grammar Declaration
 DeclarationParts n = Sequence (NameFor n) (λ x. Sequence (Sign n signs.Colon) (λ c. Sequence (TypeFor n) (λ t. Nothing (record { name = x; of = t }))))
 
 declaration_of_parts : (n : ℕ) (d : Declaration) (ms : List Mark) → DeclarationParts n d ms → DeclarationFor n d ms
-declaration_of_parts n d ms (x, a, b, e, (p, ea), (c, a', b', e', (q, eq, eb), (t, a'', b'', e'', (r, et), (ed, en)))) = record {
-  phrase = record { name_at = p; text = x; colon_at = q; type_at = r; of = t };
+declaration_of_parts n d ms (x, a, b, e, ea, (c, a', b', e', (q, eq, eb), (t, a'', b'', e'', (r, et), (ed, en)))) = record {
+  phrase = record { name_at = x.place; text = x.name; colon_at = q; type_at = r; of = t };
   means = sym ed;
   spelled = sym (e ∙ rw (ea, e', eb, e'', et, en) refl);
 }

@@ -1,27 +1,27 @@
 -- What reading statements is told by: the statements that the tokens spell, at each room.
-use Rattle.std.proofs.Common.{◌≡◌, ℕ, zero, suc, ◌+◌, ◌≤◌, List, [], ◌∷◌, ◌++◌, Some, None, Bool, true, false, Ok, length, refl, sym, ap, subst, ◌∙◌, append_assoc, arith, cond, inl, inr, ◌⊎◌}
+use Rattle.std.proofs.Common.{◌≡◌, ℕ, zero, suc, ◌+◌, ◌≤◌, List, [], ◌∷◌, ◌++◌, Some, None, Bool, true, false, Ok, Err, length, refl, sym, ap, subst, ◌∙◌, append_assoc, arith, cond, inl, inr, ◌⊎◌}
 use Rattle.std.proofs.lemmas.List.{append-nil}
 use Rattle.vx_ast.specs.declared.Place.{Place}
-use Rattle.vx_ast.specs.Written.{Expr, Declaration, Stmt, Block, Declare, If, While, Done, Then}
+use Rattle.vx_ast.specs.Written.{Expr, Exprs, Declaration, Stmt, Other, NoElse, Else, Block, Declare, If, While, Done, Then}
 use Rattle.vx_tokens.specs.declared.token.Word.TheVariants as words
 use Rattle.vx_tokens.specs.declared.token.Symbol.TheVariants as signs
 use Rattle.vx_tokens.specs.Tokens.{Token, Kind, name, word, symbol}
 use Rattle.vx_grammar.specs.Grammar.{Phrase, Mark, mark, marks, meant, StandsAt}
-use Rattle.vx_grammar.specs.Statements.{repeated, invariants_marks, block_marks, StmtPhrase, RightPhrase, right_meant, RightStands, right_marks, declared, initialized, Claim, inhales, exhales, asserts, assumes, claim_word, claim_meant, claimed, Folding, folds, unfolds, folding_word, folding_meant, folded, branched, branch, no_other, other, another, block}
-use Rattle.vx_grammar.specs.Reading.{enclosed, ◌>>=◌, is_symbol, choice, choice_at, instance_at, below}
-use Rattle.vx_grammar.specs.StmtReading.{invariants_at, while_at, StmtPart, statements, elseif_part, stmt_part, stmts_below, declaration_at, block_at, otherwise_by, otherwise_at, branch_at, initial_by, initial_at, declare_at, right_at, claim_at, fold_at, stmt_by, stmt_at, begins_stmt, stmts_at, block_from}
+use Rattle.vx_grammar.specs.Statements.{block_meant, repeated, invariants_marks, block_marks, StmtPhrase, RightPhrase, right_meant, RightStands, right_marks, declared, initialized, Claim, inhales, exhales, asserts, assumes, claim_word, claim_meant, claimed, Folding, folds, unfolds, folding_word, folding_meant, folded, branched, branch, no_other, other, another, block}
+use Rattle.vx_grammar.specs.Reading.{Read, enclosed, ◌>>=◌, Measured, is_symbol, choice, choice_at, instance_at, below}
+use Rattle.vx_grammar.specs.StmtReading.{begins_decreases, loop_block_at, invariants_at, while_at, StmtPart, statements, elseif_part, stmt_part, stmts_below, declaration_at, block_at, otherwise_by, otherwise_at, branch_at, initial_by, initial_at, declare_at, right_at, claim_at, fold_at, stmt_by, stmt_at, begins_stmt, stmts_at, block_from}
 use Rattle.vx_grammar.proofs.Symbols.{is_symbol_true}
-use Rattle.vx_grammar.proofs.Tells.{Grammar, Starts, Tells, takes_none, tells_as, tells_here, tells_unexpected, marks_is}
+use Rattle.vx_grammar.proofs.Tells.{Grammar, After, somewhere, Starts, Tells, takes_none, tells_as, tells_here, tells_unexpected, tells_measured, marks_is}
 use Rattle.vx_grammar.proofs.Rows.{RowFor, tells_rows}
-use Rattle.vx_grammar.proofs.Sequence.{Sequence, Nothing, tells_sequence, starts_sequence, starts_nothing, tells_nothing}
+use Rattle.vx_grammar.proofs.Sequence.{Sequence, Nothing, tells_second, tells_sequence_by, tells_sequence, starts_sequence, starts_nothing, tells_nothing}
 use Rattle.vx_grammar.proofs.Bracketed.{led_tells, Nested, Bracketed, bracket_tells}
 use Rattle.vx_grammar.proofs.Means.{reading_tells, instance_reading_tells}
 use Rattle.vx_grammar.proofs.InstancesTold.{InstanceFor}
 use Rattle.vx_grammar.proofs.StmtTells.{DeclarationFor, declaration_tells}
-use Rattle.vx_grammar.proofs.StmtFor.{StmtFor, BranchFor, OtherFor, BlockFor, InsideFor, starts_stmt, starts_inside, starts_block, starts_other, starts_branch, row_inside, stmts_are_rows}
+use Rattle.vx_grammar.proofs.StmtFor.{any_block, StmtFor, BranchFor, OtherFor, BlockFor, InsideFor, starts_stmt, starts_inside, starts_block, starts_other, starts_branch, row_inside, stmts_are_rows}
 use Rattle.vx_grammar.proofs.PhraseFor.{PhraseFor, starts_any, tells_nested, count_down}
 use Rattle.vx_grammar.proofs.TargetTold.{RightFor, right_tells, target_tells}
-use Rattle.vx_grammar.proofs.InvariantsTold.{InvariantsFor, starts_invariants, invariants_tells}
+use Rattle.vx_grammar.proofs.InvariantsTold.{InvariantsFor, OneMore, one_more, starts_invariants, invariants_tells}
 
 pub fits : (limit n room : ℕ) → n + room ≡ limit → n ≤ limit
 fits limit n room e = omega (arith, e)
@@ -83,38 +83,53 @@ block_tells limit n room ts e told =
 
 -- ---- the other side
 
-else_is : (n : ℕ) (t : Token) → t.kind ≡ word words.Else → (b : Block) (ms : List Mark) → Nested (record { token = t; count = n }) (BlockFor n) b ms → OtherFor n b ms
-else_is n t k b ms h = record {
-  phrase = other t.place h.spelled.phrase;
-  stands = h.spelled.stands;
-  means = h.spelled.means;
-  spelled = marks_is t (word words.Else) n _ k ∙ ap (λ l. let m : Mark = record { token = t; count = n } in m ∷ l) h.spelled.spelled ∙ sym h.is;
-}
-
-another_is : (n : ℕ) (t : Token) → t.kind ≡ word words.Elseif → (b : Block) (ms : List Mark) → Nested (record { token = t; count = n + 1 }) (Sequence (BranchFor (n + 1) t.place) (λ s. Nothing (Then s Done))) b ms → OtherFor n b ms
-another_is n t k b ms h = by_parts h.inner h.is h.spelled
+else_is : (n : ℕ) (t : Token) → t.kind ≡ word words.Else → (o : Other) (ms : List Mark) → Nested (record { token = t; count = n }) (Sequence (BlockFor n) (λ b. Nothing (Else b))) o ms → OtherFor n o ms
+else_is n t k o ms h = by_parts h.inner h.is h.spelled
   where
-    by_parts : (inner : List Mark) → (let m : Mark = record { token = t; count = n + 1 } in ms ≡ m ∷ inner) → Sequence (BranchFor (n + 1) t.place) (λ s. Nothing (Then s Done)) b inner → OtherFor n b ms
-    by_parts inner is (s, front, back, q, r, (v, z)) = record {
+    by_parts : (inner : List Mark) → (let m : Mark = record { token = t; count = n } in ms ≡ m ∷ inner) → Sequence (BlockFor n) (λ b. Nothing (Else b)) o inner → OtherFor n o ms
+    by_parts inner is (b, front, back, q, r, (v, z)) = record {
+      phrase = other t.place r.phrase;
+      stands = r.stands;
+      means = ap Else r.means ∙ sym v;
+      spelled = marks_is t (word words.Else) n _ k ∙ ap (λ l. let m : Mark = record { token = t; count = n } in m ∷ l) (r.spelled ∙ sym (q ∙ rw z (append-nil front))) ∙ sym is;
+    }
+
+-- what stands behind an `elseif`
+abbrev AnotherParts : ℕ → Place → Grammar Block
+AnotherParts n place = Sequence (BranchFor (n + 1) place) (λ s. Nothing (Then s Done))
+
+starts_another : (n : ℕ) (place : Place) → Starts (AnotherParts n place) []
+starts_another n place = starts_sequence (BranchFor (n + 1) place) _ (starts_branch (n + 1) place) (λ s. starts_nothing _)
+
+another_is : (n : ℕ) (t : Token) → t.kind ≡ word words.Elseif → (o : Other) (ms : List Mark) → Sequence (Nested (record { token = t; count = n + 1 }) (AnotherParts n t.place)) (λ b. Nothing (Else b)) o ms → OtherFor n o ms
+another_is n t k o ms (b, all, none, q, h, (v, z)) = by_parts h.inner (sym (append-nil all) ∙ ap (λ l. all ++ l) (sym z) ∙ sym q) h.is h.spelled
+  where
+    by_parts : (inner : List Mark) → all ≡ ms → (let m : Mark = record { token = t; count = n + 1 } in all ≡ m ∷ inner) → AnotherParts n t.place b inner → OtherFor n o ms
+    by_parts inner same is (s, front, back, q', r, (v', z')) = record {
       phrase = another t.place r.phrase;
       stands = r.stands;
-      means = ap (λ x. Then x Done) r.means ∙ sym v;
-      spelled = marks_is t (word words.Elseif) (n + 1) _ k ∙ ap (λ l. let m : Mark = record { token = t; count = n + 1 } in m ∷ l) (r.spelled ∙ sym (q ∙ rw z (append-nil front))) ∙ sym is;
+      means = ap (λ x. Else (Then x Done)) r.means ∙ ap Else (sym v') ∙ sym v;
+      spelled = marks_is t (word words.Elseif) (n + 1) _ k ∙ ap (λ l. let m : Mark = record { token = t; count = n + 1 } in m ∷ l) (r.spelled ∙ sym (q' ∙ rw z' (append-nil front))) ∙ sym is ∙ same;
     }
 
 other_by_tells : (limit n room : ℕ) (t : Token) (k : Kind) (ts : List Token) → n + room ≡ limit → StmtToldBelow limit room → t.kind ≡ k → Tells (OtherFor n) limit (t ∷ ts) (otherwise_by (stmts_below room) t k ts)
 unfolding StmtToldBelow
 other_by_tells limit n room t (word words.Else) ts e told k =
-    tells_as (Nested (record { token = t; count = n }) (BlockFor n)) (OtherFor n) limit (t ∷ ts) _ (else_is n t k) (led_tells (BlockFor n) limit n t ts _ (fits limit n room e) (block_tells limit n room ts e told))
+    tells_as (Nested (record { token = t; count = n }) (Sequence (BlockFor n) (λ b. Nothing (Else b)))) (OtherFor n) limit (t ∷ ts) _ (else_is n t k)
+    (led_tells (Sequence (BlockFor n) (λ b. Nothing (Else b))) limit n t ts _ (fits limit n room e)
+    (tells_sequence (BlockFor n) _ limit ts (block_at (stmts_below room) ts) _ (λ b. starts_nothing _) (block_tells limit n room ts e told) (λ b us. tells_nothing limit us _)))
 other_by_tells limit n room t (word words.Elseif) ts e told k =
-    tells_as (Nested (record { token = t; count = n + 1 }) (Sequence (BranchFor (n + 1) t.place) (λ s. Nothing (Then s Done)))) (OtherFor n) limit (t ∷ ts) _ (another_is n t k)
-    (nested_stmts (Sequence (BranchFor (n + 1) t.place) (λ s. Nothing (Then s Done))) limit n room (elseif_part t.place) t ts e (starts_sequence (BranchFor (n + 1) t.place) _ (starts_branch (n + 1) t.place) (λ s. starts_nothing _))
+    let m : Mark = record { token = t; count = n + 1 } in
+    tells_as (Sequence (Nested m (AnotherParts n t.place)) (λ b. Nothing (Else b))) (OtherFor n) limit (t ∷ ts) _ (another_is n t k)
+    (tells_sequence (Nested m (AnotherParts n t.place)) _ limit (t ∷ ts) (stmts_below room (elseif_part t.place) (t ∷ ts) ts) _ (λ b. starts_nothing _)
+    (nested_stmts (AnotherParts n t.place) limit n room (elseif_part t.place) t ts e (starts_another n t.place)
     (λ less q. tells_sequence (BranchFor (n + 1) t.place) _ limit ts (branch_at less (stmts_below less) t.place ts) _ (λ s. starts_nothing _) ((told less q).branch_tells (n + 1) (count_down limit n room less e q) t.place ts) (λ s us. tells_nothing limit us _)))
-other_by_tells limit n room t k ts e told h = tells_here (OtherFor n) limit (t ∷ ts) Done (record { phrase = no_other; stands = tt; means = refl; spelled = refl })
+    (λ b us. tells_nothing limit us _))
+other_by_tells limit n room t k ts e told h = tells_here (OtherFor n) limit (t ∷ ts) NoElse (record { phrase = no_other; stands = tt; means = refl; spelled = refl })
 
 other_tells : (limit n room : ℕ) (ts : List Token) → n + room ≡ limit → StmtToldBelow limit room → Tells (OtherFor n) limit ts (otherwise_at (stmts_below room) ts)
 unfolding otherwise_at
-other_tells limit n room [] e told = tells_here (OtherFor n) limit [] Done (record { phrase = no_other; stands = tt; means = refl; spelled = refl })
+other_tells limit n room [] e told = tells_here (OtherFor n) limit [] NoElse (record { phrase = no_other; stands = tt; means = refl; spelled = refl })
 other_tells limit n room (t ∷ ts) e told = other_by_tells limit n room t t.kind ts e told refl
 
 -- ---- branches
@@ -290,15 +305,50 @@ while_of n t k s ms h = by_parts h.inner h.is h.spelled
           spelled = marks_is t (word words.While) n _ k ∙ ap (λ l. let m : Mark = record { token = t; count = n } in m ∷ l) (sym all) ∙ sym is;
         }
 
+-- what stands behind the condition of a loop
+abbrev LoopParts : ℕ → Place → Expr → Grammar Stmt
+LoopParts n place e = Sequence (InvariantsFor n) (λ is. Sequence (BlockFor n) (λ b. Nothing (While place e is b)))
+
+-- behind invariants a block begins, or one more
+block_begins : (n : ℕ) (place : Place) (e : Expr) (is : Exprs) (ms : List Mark) → InvariantsFor n is ms → Starts (After (LoopParts n place e) ms) (mark (n + 1) somewhere (symbol signs.OpenBrace) ∷ [])
+unfolding any_block
+block_begins n place e is ms r = record {
+  value = While place e is (block_meant any_block);
+  more = mark (n + 1) somewhere (symbol signs.CloseBrace) ∷ [];
+  spelled = (is, ms, block_marks n any_block, refl, r, (block_meant any_block, block_marks n any_block, [], sym (append-nil (block_marks n any_block)), record { phrase = any_block; stands = tt; means = refl; spelled = refl }, (refl, refl)));
+}
+
+invariant_begins : (n : ℕ) (place : Place) (e : Expr) (ms : List Mark) (o : OneMore n ms) → Starts (After (LoopParts n place e) ms) (o.first ∷ [])
+unfolding any_block
+invariant_begins n place e ms o = record {
+  value = While place e o.value (block_meant any_block);
+  more = o.more ++ block_marks n any_block;
+  spelled = (o.value, ms ++ o.first ∷ o.more, block_marks n any_block, sym (append_assoc ms (o.first ∷ o.more) (block_marks n any_block)), o.spelled, (block_meant any_block, block_marks n any_block, [], sym (append-nil (block_marks n any_block)), record { phrase = any_block; stands = tt; means = refl; spelled = refl }, (refl, refl)));
+}
+
+-- the block of a loop
+loop_block_by : (limit n room : ℕ) (place : Place) (c : Expr) (is : Exprs) (ms : List Mark) (ts : List Token) (b : Bool) → begins_decreases ts ≡ b → n + room ≡ limit → StmtToldBelow limit room → InvariantsFor n is ms
+    → (let r : Read Block = cond b (Err (Measured ts)) (block_at (stmts_below room) ts) in Tells (After (LoopParts n place c) ms) limit ts (r >>= λ b. Ok (While place c is b.0, b.1)))
+loop_block_by limit n room place c is ms ts true h e told r =
+    let o = one_more n is ms r in
+    tells_measured (After (LoopParts n place c) ms) limit ts (mark (n + 1) somewhere (symbol signs.OpenBrace)) o.first h refl (block_begins n place c is ms r) (inr o.first_is) (invariant_begins n place c ms o)
+loop_block_by limit n room place c is ms ts false h e told r =
+    tells_second (InvariantsFor n) _ limit is ts ms _ r
+    (tells_sequence (BlockFor n) _ limit ts (block_at (stmts_below room) ts) _ (λ b. starts_nothing _) (block_tells limit n room ts e told) (λ b us. tells_nothing limit us _))
+
+loop_block_tells : (limit n room : ℕ) (place : Place) (c : Expr) (is : Exprs) (ms : List Mark) (ts : List Token) → n + room ≡ limit → StmtToldBelow limit room → InvariantsFor n is ms
+    → Tells (After (LoopParts n place c) ms) limit ts (loop_block_at (stmts_below room) ts >>= λ b. Ok (While place c is b.0, b.1))
+unfolding loop_block_at
+loop_block_tells limit n room place c is ms ts e told r = loop_block_by limit n room place c is ms ts (begins_decreases ts) refl e told r
+
 while_tells : (limit n room : ℕ) (t : Token) (ts : List Token) → n + room ≡ limit → StmtToldBelow limit room → t.kind ≡ word words.While → Tells (StmtFor n) limit (t ∷ ts) (while_at room (stmts_below room) t.place ts)
 unfolding while_at
 while_tells limit n room t ts e told k =
     tells_as (LedFor n t (WhileParts n t.place)) (StmtFor n) limit (t ∷ ts) _ (while_of n t k)
     (led_tells (WhileParts n t.place) limit n t ts _ (fits limit n room e)
     (tells_sequence (Bracketed n signs.Open signs.Close (PhraseFor (n + 1) 8)) _ limit ts (enclosed (below room) choice ts) _ (λ c. starts_sequence (InvariantsFor n) _ (starts_invariants n) (λ is. starts_sequence (BlockFor n) _ (starts_block n) (λ b. starts_nothing _))) (condition_tells limit n room ts e)
-    (λ c us. tells_sequence (InvariantsFor n) _ limit us (invariants_at room us) _ (λ is. starts_sequence (BlockFor n) _ (starts_block n) (λ b. starts_nothing _)) (invariants_tells limit n room us e)
-    (λ is vs. tells_sequence (BlockFor n) _ limit vs (block_at (stmts_below room) vs) _ (λ b. starts_nothing _) (block_tells limit n room vs e told)
-    (λ b ws. tells_nothing limit ws _)))))
+    (λ c us. tells_sequence_by (InvariantsFor n) _ limit us (invariants_at room us) _ (λ is. starts_sequence (BlockFor n) _ (starts_block n) (λ b. starts_nothing _)) (invariants_tells limit n room us e)
+    (λ is vs ms r. loop_block_tells limit n room t.place c is ms vs e told r))))
 
 stmt_by_tells : (limit n room : ℕ) (t : Token) (k : Kind) (ts : List Token) → n + room ≡ limit → StmtToldBelow limit room → t.kind ≡ k → Tells (StmtFor n) limit (t ∷ ts) (stmt_by room (stmts_below room) t k ts)
 stmt_by_tells limit n room t (name x) ts e told k = target_tells limit n room t x ts e k

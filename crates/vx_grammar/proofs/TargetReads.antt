@@ -2,6 +2,7 @@
 use Rattle.std.proofs.Common.{◌≡◌, ℕ, zero, suc, ◌+◌, ◌≤◌, List, [], ◌∷◌, ◌++◌, false, Ok, length, refl, sym, ap, ◌∙◌, append_assoc, arith}
 use Rattle.std.proofs.lemmas.List.{append-nil}
 use Rattle.vx_ast.specs.declared.Place.{Place}
+use Rattle.vx_ast.specs.Written.{Placed, placed}
 use Rattle.vx_tokens.specs.declared.token.Word.TheVariants as words
 use Rattle.vx_tokens.specs.declared.token.Symbol.TheVariants as signs
 use Rattle.vx_tokens.specs.Tokens.{Token, Kind, name, word, symbol}
@@ -18,19 +19,19 @@ Toks ms us = tokens_of ms ++ us
 
 -- ---- names
 
-names_ok : List (List ℕ) → List Token → Read (List (List ℕ))
+names_ok : List Placed → List Token → Read (List Placed)
 names_ok xs ts = Ok (xs, ts)
 
 name_count : NamesPhrase → ℕ
 name_count no_names = 0
 name_count (next_name p q x rest) = 1 + name_count rest
 
-names_read : (n : ℕ) (ys : NamesPhrase) (before : List (List ℕ)) (t : Token) (ts : List Token) → is_symbol signs.Comma t.kind ≡ false → (most : ℕ) → name_count ys ≤ most → run name_turn most before (Toks (names_marks n ys) (t ∷ ts)) ≡ names_ok (before ++ names_meant ys) (t ∷ ts)
+names_read : (n : ℕ) (ys : NamesPhrase) (before : List Placed) (t : Token) (ts : List Token) → is_symbol signs.Comma t.kind ≡ false → (most : ℕ) → name_count ys ≤ most → run name_turn most before (Toks (names_marks n ys) (t ∷ ts)) ≡ names_ok (before ++ names_meant ys) (t ∷ ts)
 unfolding run name_turn name_at name_count names_ok
 names_read n no_names before t ts h zero le = ap (λ l. names_ok l (t ∷ ts)) (sym (append-nil before))
 names_read n no_names before t ts h (suc most) le = rw h (ap (λ l. names_ok l (t ∷ ts)) (sym (append-nil before)))
 names_read n (next_name p q x rest) before t ts h zero le = absurd (omega (arith, le))
-names_read n (next_name p q x rest) before t ts h (suc most) le = names_read n rest (before ++ x ∷ []) t ts h most (omega (arith, le)) ∙ ap (λ l. names_ok l (t ∷ ts)) (append_assoc before (x ∷ []) (names_meant rest))
+names_read n (next_name p q x rest) before t ts h (suc most) le = names_read n rest (before ++ placed q x ∷ []) t ts h most (omega (arith, le)) ∙ ap (λ l. names_ok l (t ∷ ts)) (append_assoc before (placed q x ∷ []) (names_meant rest))
 
 names_long : (n : ℕ) (ys : NamesPhrase) (ts : List Token) → name_count ys ≤ length (Toks (names_marks n ys) ts)
 unfolding name_count
@@ -38,17 +39,17 @@ names_long n no_names ts = omega arith
 names_long n (next_name p q x rest) ts = let h = names_long n rest ts in omega (arith, h)
 
 -- as many turns as there are tokens
-names_are_read : (n : ℕ) (ys : NamesPhrase) (before : List (List ℕ)) (t : Token) (ts : List Token) → is_symbol signs.Comma t.kind ≡ false → run name_turn (length (Toks (names_marks n ys) (t ∷ ts))) before (Toks (names_marks n ys) (t ∷ ts)) ≡ Ok (before ++ names_meant ys, t ∷ ts)
+names_are_read : (n : ℕ) (ys : NamesPhrase) (before : List Placed) (t : Token) (ts : List Token) → is_symbol signs.Comma t.kind ≡ false → run name_turn (length (Toks (names_marks n ys) (t ∷ ts))) before (Toks (names_marks n ys) (t ∷ ts)) ≡ Ok (before ++ names_meant ys, t ∷ ts)
 unfolding names_ok
 names_are_read n ys before t ts h = names_read n ys before t ts h (length (Toks (names_marks n ys) (t ∷ ts))) (names_long n ys (t ∷ ts))
 
 -- ---- right sides
 
-fields_read : (n : ℕ) (fs : FieldsPhrase) (c : Place) (more : List Token) → (let close = mark n c (symbol signs.Close) in allocation_at (Toks (fields_marks n fs) (close.token ∷ more)) ≡ Ok (fields_meant fs, close.token ∷ more))
+fields_read : (at : Place) (n : ℕ) (fs : FieldsPhrase) (c : Place) (more : List Token) → (let close = mark n c (symbol signs.Close) in allocation_at at (Toks (fields_marks n fs) (close.token ∷ more)) ≡ Ok (fields_meant at fs, close.token ∷ more))
 unfolding allocation_at fields_at name_at
-fields_read n (every_field p) c more = refl
-fields_read n no_fields c more = refl
-fields_read n (these_fields p x rest) c more = rw (names_are_read n rest (x ∷ []) (mark n c (symbol signs.Close)).token more refl) refl
+fields_read at n (every_field p) c more = refl
+fields_read at n no_fields c more = refl
+fields_read at n (these_fields p x rest) c more = rw (names_are_read n rest (placed p x ∷ []) (mark n c (symbol signs.Close)).token more refl) refl
 
 not_new : (k : Kind) → (k ≡ word words.New → ⊥) → begins_new k ≡ false
 not_new (word words.New) h = absurd (h refl)
@@ -60,7 +61,7 @@ right_reads limit n room (given e) us s h st ends =
     let b = begins e n us in
     let read : choice_at (below room) (Toks (marks n e) us) ≡ Ok (meant e, us) = is_read limit n room e us s h st ends in
     ap (right_at room) b.is ∙ rw (not_new b.first.kind b.not_new, rw b.is at read) refl
-right_reads limit n room (allocated p o fs c) us s h st ends = enclosed_reads limit n room allocation o c (fields_marks (n + 1) fs) (fields_meant fs) us s h.1.0 (λ less e. fields_read (n + 1) fs c us)
+right_reads limit n room (allocated p o fs c) us s h st ends = enclosed_reads limit n room (allocation p) o c (fields_marks (n + 1) fs) (fields_meant p fs) us s h.1.0 (λ less e. fields_read p (n + 1) fs c us)
 
 -- ---- what stands in front of `:=`
 
@@ -120,7 +121,7 @@ unfolding assign_at assign_one expect
 assigned_reads limit n room d p x q r ts s h st ends =
     let becomes : Token = (mark n q (symbol signs.Becomes)).token in
     path_reads limit n room d (named p x) (becomes ∷ Toks (right_marks n r) ts) s (h.0, tt) tt tt (omega arith)
-    ∙ rw (names_are_read n no_names (x ∷ []) becomes (Toks (right_marks n r) ts) refl, right_reads limit n room r ts s h.1.1 st ends) refl
+    ∙ rw (names_are_read n no_names (placed p x ∷ []) becomes (Toks (right_marks n r) ts) refl, right_reads limit n room r ts s h.1.1 st ends) refl
 
 pub stored_reads : (limit n room : ℕ) (d : StmtDeeper) (e : Phrase) (p q : Place) (f : List ℕ) (r : Place) (v : Phrase) (ts : List Token) → n + room ≡ limit → Within limit (stmt_marks n (stored e p q f r v)) → StandsStmt (stored e p q f r v) → Ends 8 ts → stmt_at room d (Toks (stmt_marks n (stored e p q f r v)) ts) ≡ Ok (stmt_meant (stored e p q f r v), ts)
 unfolding store_at expect
@@ -148,4 +149,4 @@ targeted_reads limit n room d p x k q y ys r s m o es c ts e h st =
     let list : tokens_of (names ++ becomes ∷ call) ++ ts ≡ Toks names (becomes.token ∷ tail) = tokens-append_more names (becomes ∷ call) ts in
     ap (λ l. stmt_at room d ((mark n p (name x)).token ∷ l)) list
     ∙ path_reads limit n room d (named p x) (Toks names (becomes.token ∷ tail)) e (h.0, tt) tt tt (omega arith)
-    ∙ rw (names_are_read n (next_name k q y ys) (x ∷ []) becomes.token tail refl, arguments_are_read limit n room o es c ts e hc.1.1.0 hc.1.1.1 st) refl
+    ∙ rw (names_are_read n (next_name k q y ys) (placed p x ∷ []) becomes.token tail refl, arguments_are_read limit n room o es c ts e hc.1.1.0 hc.1.1.1 st) refl

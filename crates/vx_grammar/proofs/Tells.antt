@@ -2,12 +2,16 @@
 use Rattle.std.proofs.Common.{◌≡◌, ℕ, ◌≤◌, ◌<◌, List, [], ◌∷◌, ◌++◌, Bool, true, false, Ok, Err, refl, sym, ap, subst, ◌∙◌, append_assoc, cond}
 use Rattle.std.proofs.lemmas.List.{append-nil}
 use Rattle.vx_ast.specs.declared.Place.{Place}
+use Rattle.vx_ast.specs.Written.{Placed, placed}
+use Rattle.vx_tokens.specs.declared.token.Word.TheVariants as words
 use Rattle.vx_tokens.specs.declared.token.Symbol.{Symbol}
+use Rattle.vx_tokens.specs.declared.token.Symbol.TheVariants as signs
 use Rattle.vx_tokens.specs.Tokens.{Token, Kind, name, number, word, symbol}
 use Rattle.vx_grammar.specs.Grammar.{Mark, mark, tokens_of}
-use Rattle.vx_grammar.specs.Reading.{◌>>=◌, Read, Unexpected, TooDeep, expect, is_symbol, name_by, name_at}
+use Rattle.vx_grammar.specs.Reading.{◌>>=◌, Read, Unexpected, Measured, TooDeep, expect, is_symbol, name_by, name_at}
+use Rattle.vx_grammar.specs.StmtReading.{is_measure, begins_decreases}
 use Rattle.vx_grammar.specs.Laws.{Within}
-use Rattle.vx_grammar.proofs.Lists.{tokens-append, within-append}
+use Rattle.vx_grammar.proofs.Lists.{BeginsClause, tokens-append, within-append}
 use Rattle.vx_grammar.proofs.Symbols.{is_symbol_true}
 
 -- which marks spell which values
@@ -44,10 +48,26 @@ pub record TellsTooDeep {A : Type 0} (R : Grammar A) (limit : ℕ) (ts : List To
   pub count : limit < deep.count
   pub starts : Starts R (marks ++ deep ∷ [])
 
+-- at a measure that does not fit, a block fits and so does a clause
+pub record TellsMeasured {A : Type 0} (R : Grammar A) (limit : ℕ) (ts : List Token) (rest : List Token) : Type 0 where
+  pub marks : List Mark
+  pub takes : Takes limit ts marks rest
+  pub measure : Token
+  pub after : List Token
+  pub first : rest ≡ measure ∷ after
+  pub is_measure : measure.kind ≡ word words.Decreases
+  pub block : Mark
+  pub block_is : block.token.kind ≡ symbol signs.OpenBrace
+  pub block_starts : Starts R (marks ++ block ∷ [])
+  pub clause : Mark
+  pub clause_is : BeginsClause clause.token.kind
+  pub clause_starts : Starts R (marks ++ clause ∷ [])
+
 -- what an answer tells, where what was read may depend on what is left
 abbrev pub TellsBy : {A : Type 0} → (List Token → Grammar A) → Grammar A → ℕ → List Token → Read A → Type 0
 TellsBy R S limit ts (Ok x) = TellsOk (R x.1) limit ts x.0 x.1
 TellsBy R S limit ts (Err (Unexpected rest)) = TellsUnexpected S limit ts rest
+TellsBy R S limit ts (Err (Measured rest)) = TellsMeasured S limit ts rest
 TellsBy R S limit ts (Err (TooDeep rest)) = TellsTooDeep S limit ts rest
 
 abbrev pub Tells : {A : Type 0} → Grammar A → ℕ → List Token → Read A → Type 0
@@ -83,6 +103,14 @@ starts_first R T ms g s =
 starts_behind : {B : Type 0} (T : Grammar B) (ms ns : List Mark) → Starts (After T ms) ns → Starts T (ms ++ ns)
 starts_behind T ms ns s = record { value = s.value; more = s.more; spelled = rw (append_assoc ms ns s.more) s.spelled }
 
+-- and one mark more
+starts_mark : {B : Type 0} (T : Grammar B) (ms ns : List Mark) (m : Mark) → Starts (After T ms) (ns ++ m ∷ []) → Starts T ((ms ++ ns) ++ m ∷ [])
+starts_mark T ms ns m s = starts_along T (ms ++ (ns ++ m ∷ [])) ((ms ++ ns) ++ m ∷ []) (sym (append_assoc ms ns (m ∷ []))) (starts_behind T ms (ns ++ m ∷ []) s)
+
+-- marks in front of others that begin so
+pub starts_front : {A : Type 0} (R : Grammar A) (ms ns : List Mark) → Starts R (ms ++ ns) → Starts R ms
+starts_front R ms ns s = record { value = s.value; more = ns ++ s.more; spelled = rw (← append_assoc ms ns s.more) s.spelled }
+
 pub tells_by_behind : {B : Type 0} (T : List Token → Grammar B) (U : Grammar B) (limit : ℕ) (ts us : List Token) (ms : List Mark) → Takes limit ts ms us → (r : Read B) → TellsBy (λ l. After (T l) ms) (After U ms) limit us r → TellsBy T U limit ts r
 tells_by_behind T U limit ts us ms a (Ok x) h = record {
   marks = ms ++ h.marks;
@@ -94,6 +122,20 @@ tells_by_behind T U limit ts us ms a (Err (Unexpected rest)) h = record {
   takes = takes_then limit ts us rest ms h.marks a h.takes;
   starts = starts_behind U ms h.marks h.starts;
 }
+tells_by_behind T U limit ts us ms a (Err (Measured rest)) h = record {
+  marks = ms ++ h.marks;
+  takes = takes_then limit ts us rest ms h.marks a h.takes;
+  measure = h.measure;
+  after = h.after;
+  first = h.first;
+  is_measure = h.is_measure;
+  block = h.block;
+  block_is = h.block_is;
+  block_starts = starts_mark U ms h.marks h.block h.block_starts;
+  clause = h.clause;
+  clause_is = h.clause_is;
+  clause_starts = starts_mark U ms h.marks h.clause h.clause_starts;
+}
 tells_by_behind T U limit ts us ms a (Err (TooDeep rest)) h = record {
   marks = ms ++ h.marks;
   takes = takes_then limit ts us rest ms h.marks a h.takes;
@@ -101,17 +143,34 @@ tells_by_behind T U limit ts us ms a (Err (TooDeep rest)) h = record {
   after = h.after;
   first = h.first;
   count = h.count;
-  starts = starts_along U (ms ++ (h.marks ++ h.deep ∷ [])) ((ms ++ h.marks) ++ h.deep ∷ []) (sym (append_assoc ms h.marks (h.deep ∷ []))) (starts_behind U ms (h.marks ++ h.deep ∷ []) h.starts);
+  starts = starts_mark U ms h.marks h.deep h.starts;
 }
 
 pub tells_behind : {B : Type 0} (T : Grammar B) (limit : ℕ) (ts us : List Token) (ms : List Mark) → Takes limit ts ms us → (r : Read B) → Tells (After T ms) limit us r → Tells T limit ts r
 tells_behind T limit ts us ms a r h = tells_by_behind (λ l. T) T limit ts us ms a r h
+
+measured_as : {A B : Type 0} (S : Grammar A) (U : Grammar B) (limit : ℕ) (ts rest : List Token) → GoesOn S U → TellsMeasured S limit ts rest → TellsMeasured U limit ts rest
+measured_as S U limit ts rest g h = record {
+  marks = h.marks;
+  takes = h.takes;
+  measure = h.measure;
+  after = h.after;
+  first = h.first;
+  is_measure = h.is_measure;
+  block = h.block;
+  block_is = h.block_is;
+  block_starts = starts_first S U (h.marks ++ h.block ∷ []) g h.block_starts;
+  clause = h.clause;
+  clause_is = h.clause_is;
+  clause_starts = starts_first S U (h.marks ++ h.clause ∷ []) g h.clause_starts;
+}
 
 pub tells_by_then : {A B : Type 0} (R : List Token → Grammar A) (S : Grammar A) (T : List Token → Grammar B) (U : Grammar B) (limit : ℕ) (ts : List Token) (r : Read A) (f : A × List Token → Read B) → GoesOn S U → TellsBy R S limit ts r
     → ((x : A) (rest : List Token) (ms : List Mark) → R rest x ms → Takes limit ts ms rest → TellsBy (λ l. After (T l) ms) (After U ms) limit rest (f (x, rest)))
     → TellsBy T U limit ts (r >>= f)
 tells_by_then R S T U limit ts (Ok x) f g h k = tells_by_behind T U limit ts x.1 h.marks h.takes (f x) (k x.0 x.1 h.marks h.spelled h.takes)
 tells_by_then R S T U limit ts (Err (Unexpected rest)) f g h k = record { marks = h.marks; takes = h.takes; starts = starts_first S U h.marks g h.starts }
+tells_by_then R S T U limit ts (Err (Measured rest)) f g h k = measured_as S U limit ts rest g h
 tells_by_then R S T U limit ts (Err (TooDeep rest)) f g h k = record {
   marks = h.marks;
   takes = h.takes;
@@ -131,6 +190,7 @@ tells_then R T limit ts r f g h k = tells_by_then (λ l. R) R (λ l. T) T limit 
 pub tells_by_as : {A : Type 0} (R : List Token → Grammar A) (S : Grammar A) (R' : List Token → Grammar A) (S' : Grammar A) (limit : ℕ) (ts : List Token) (r : Read A) → ((rest : List Token) (x : A) (ms : List Mark) → R rest x ms → R' rest x ms) → ((x : A) (ms : List Mark) → S x ms → S' x ms) → TellsBy R S limit ts r → TellsBy R' S' limit ts r
 tells_by_as R S R' S' limit ts (Ok x) f g h = record { marks = h.marks; takes = h.takes; spelled = f x.1 x.0 h.marks h.spelled }
 tells_by_as R S R' S' limit ts (Err (Unexpected rest)) f g h = record { marks = h.marks; takes = h.takes; starts = starts_first S S' h.marks (λ x ms s. record { value = x; more = []; spelled = rw append-nil (g x ms s) }) h.starts }
+tells_by_as R S R' S' limit ts (Err (Measured rest)) f g h = measured_as S S' limit ts rest (λ x ms s. record { value = x; more = []; spelled = rw append-nil (g x ms s) }) h
 tells_by_as R S R' S' limit ts (Err (TooDeep rest)) f g h = record { marks = h.marks; takes = h.takes; deep = h.deep; after = h.after; first = h.first; count = h.count; starts = starts_first S S' (h.marks ++ h.deep ∷ []) (λ x ms s. record { value = x; more = []; spelled = rw append-nil (g x ms s) }) h.starts }
 
 pub tells_as : {A : Type 0} (R S : Grammar A) (limit : ℕ) (ts : List Token) (r : Read A) → ((x : A) (ms : List Mark) → R x ms → S x ms) → Tells R limit ts r → Tells S limit ts r
@@ -145,6 +205,27 @@ tells_here R limit ts x h = record { marks = []; takes = takes_none limit ts; sp
 
 pub tells_unexpected : {A : Type 0} (R : Grammar A) (limit : ℕ) (ts : List Token) → Starts R [] → Tells R limit ts (Err (Unexpected ts))
 tells_unexpected R limit ts s = record { marks = []; takes = takes_none limit ts; starts = s }
+
+-- tokens that begin with a measure
+pub record MeasureFirst (ts : List Token) : Type 0 where
+  pub measure : Token
+  pub after : List Token
+  pub first : ts ≡ measure ∷ after
+  pub is_measure : measure.kind ≡ word words.Decreases
+
+pub measure_word : (k : Kind) → is_measure k ≡ true → k ≡ word words.Decreases
+measure_word (word words.Decreases) h = refl
+measure_word k h = absurd cc
+
+pub measure_first : (ts : List Token) → begins_decreases ts ≡ true → MeasureFirst ts
+measure_first [] h = absurd cc
+measure_first (t ∷ ts) h = record { measure = t; after = ts; first = refl; is_measure = measure_word t.kind h }
+
+-- a measure, where a block and a clause begin what may stand
+pub tells_measured : {A : Type 0} (R : Grammar A) (limit : ℕ) (ts : List Token) (block clause : Mark) → begins_decreases ts ≡ true → block.token.kind ≡ symbol signs.OpenBrace → Starts R (block ∷ []) → BeginsClause clause.token.kind → Starts R (clause ∷ []) → Tells R limit ts (Err (Measured ts))
+tells_measured R limit ts block clause d b s c r =
+    let m = measure_first ts d in
+    record { marks = []; takes = takes_none limit ts; measure = m.measure; after = m.after; first = m.first; is_measure = m.is_measure; block = block; block_is = b; block_starts = s; clause = clause; clause_is = c; clause_starts = r }
 
 -- one token is taken
 pub tells_token : {A : Type 0} (R : Grammar A) (limit : ℕ) (m : Mark) (ts : List Token) (x : A) → m.count ≤ limit → R x (m ∷ []) → Tells R limit (m.token ∷ ts) (Ok (x, ts))
@@ -181,14 +262,14 @@ marks_is t k n ms e = ap (λ x. x ∷ ms) (token_is t k n e)
 
 -- ---- names
 
-abbrev pub NameFor : ℕ → Grammar (List ℕ)
-NameFor n x ms = (p : Place) × (ms ≡ mark n p (name x) ∷ [])
+abbrev pub NameFor : ℕ → Grammar Placed
+NameFor n x ms = ms ≡ mark n x.place (name x.name) ∷ []
 
 pub starts_name : (n : ℕ) → Starts (NameFor n) []
-starts_name n = record { value = []; more = mark n somewhere (name []) ∷ []; spelled = (somewhere, refl) }
+starts_name n = record { value = placed somewhere []; more = mark n somewhere (name []) ∷ []; spelled = refl }
 
 name_by_tells : (limit n : ℕ) (t : Token) (k : Kind) (ts : List Token) → n ≤ limit → t.kind ≡ k → Tells (NameFor n) limit (t ∷ ts) (name_by t k ts)
-name_by_tells limit n t (name x) ts le e = tells_token (NameFor n) limit (record { token = t; count = n }) ts x le (t.place, sym (marks_is t (name x) n [] e))
+name_by_tells limit n t (name x) ts le e = tells_token (NameFor n) limit (record { token = t; count = n }) ts (placed t.place x) le (sym (marks_is t (name x) n [] e))
 name_by_tells limit n t (number m) ts le e = tells_unexpected (NameFor n) limit (t ∷ ts) (starts_name n)
 name_by_tells limit n t (word w) ts le e = tells_unexpected (NameFor n) limit (t ∷ ts) (starts_name n)
 name_by_tells limit n t (symbol s) ts le e = tells_unexpected (NameFor n) limit (t ∷ ts) (starts_name n)

@@ -1,15 +1,15 @@
 -- The laws of reading all of the tokens as one expression.
-use Rattle.std.proofs.Common.{◌≡◌, ℕ, ◌+◌, ◌≤◌, List, [], ◌∷◌, ◌++◌, Ok, Err, refl, sym, ap, ◌∙◌, append_assoc, arith, max}
+use Rattle.std.proofs.Common.{◌≡◌, false, ℕ, ◌+◌, ◌≤◌, List, [], ◌∷◌, ◌++◌, Ok, Err, refl, sym, ap, ◌∙◌, append_assoc, arith, max}
 use Rattle.std.proofs.lemmas.List.{append-nil, append_cancel_right}
 use Rattle.vx_tokens.specs.Tokens.{Token}
 use Rattle.vx_ast.specs.Written.{Expr}
 use Rattle.vx_grammar.specs.Grammar.{Phrase, Mark, marks, tokens_of, meant, StandsAt}
-use Rattle.vx_grammar.specs.Reading.{◌>>=◌, Read, Unexpected, TooDeep, choice_at, below}
+use Rattle.vx_grammar.specs.Reading.{◌>>=◌, Read, Unexpected, Measured, TooDeep, choice_at, below}
 use Rattle.vx_grammar.specs.Laws.{Within, CanGoOn, NoneFits, no_rest, whole, Says, AnswersAreRight, SpelledIsRead, SpelledOnce}
 use Rattle.vx_grammar.proofs.Complete.{is_read}
 use Rattle.vx_grammar.proofs.Tells.{Tells, Starts}
 use Rattle.vx_grammar.proofs.Means.{reading_tells}
-use Rattle.vx_grammar.proofs.Local.{Local, Front, SameHead}
+use Rattle.vx_grammar.proofs.Local.{Local, Front, SameHead, front_less}
 use Rattle.vx_grammar.proofs.LocalExpr.{reading_local}
 use Rattle.vx_grammar.proofs.PhraseFor.{PhraseFor}
 
@@ -63,7 +63,7 @@ spelled_is_read limit ts e s =
 -- ---- what each answer says
 
 -- what is answered where reading stops, again with more room and other tokens behind
-repeat : (limit : ℕ) (ts : List Token) (ms : List Mark) (rest : List Token) → ts ≡ tokens_of ms ++ rest → (answer : List Token → Read Expr) → ((more : ℕ) → Front ts rest answer (choice_at (below (limit + more))))
+repeat : (limit : ℕ) (ts : List Token) (ms : List Mark) (rest : List Token) → ts ≡ tokens_of ms ++ rest → (answer : List Token → Read Expr) → ((more : ℕ) → Front false ts rest answer (choice_at (below (limit + more))))
     → (more : ℕ) (next : List Token) → SameHead rest next → choice_at (below (limit + more)) (tokens_of ms ++ next) ≡ answer next
 repeat limit ts ms rest e answer f more next same =
     let g = f more in
@@ -107,12 +107,17 @@ says limit ts (Ok (e, t ∷ rest)) again h =
     record {
       front = h.marks;
       fits = record { tokens = h.takes.tokens; within = h.takes.within; goes_on = record { phrase = w.phrase; stands = w.stands; more = []; marks = w.spelled ∙ sym (append-nil h.marks) } };
-      none = none_fits limit (tokens_of h.marks) (t ∷ rest) (λ l. Ok (e, l)) (repeat limit ts h.marks (t ∷ rest) h.takes.tokens (λ l. Ok (e, l)) again) (λ next x same q. not_all e x t rest next same q);
+      none = none_fits limit (tokens_of h.marks) (t ∷ rest) (λ l. Ok (e, l)) (repeat limit ts h.marks (t ∷ rest) h.takes.tokens (λ l. Ok (e, l)) (λ more. front_less false ts (t ∷ rest) (λ l. Ok (e, l)) _ (again more))) (λ next x same q. not_all e x t rest next same q);
     }
 says limit ts (Err (Unexpected rest)) again h = record {
   front = h.marks;
   fits = record { tokens = h.takes.tokens; within = h.takes.within; goes_on = goes_on_from h.marks h.starts };
-  none = none_fits limit (tokens_of h.marks) rest (λ l. Err (Unexpected l)) (repeat limit ts h.marks rest h.takes.tokens (λ l. Err (Unexpected l)) again) (λ next x same q. cc);
+  none = none_fits limit (tokens_of h.marks) rest (λ l. Err (Unexpected l)) (repeat limit ts h.marks rest h.takes.tokens (λ l. Err (Unexpected l)) (λ more. front_less false ts rest (λ l. Err (Unexpected l)) _ (again more))) (λ next x same q. cc);
+}
+says limit ts (Err (Measured rest)) again h = record {
+  front = h.marks;
+  fits = record { tokens = h.takes.tokens; within = h.takes.within; goes_on = first_goes_on h.marks (h.block ∷ []) (goes_on_from (h.marks ++ h.block ∷ []) h.block_starts) };
+  none = none_fits limit (tokens_of h.marks) rest (λ l. Err (Measured l)) (repeat limit ts h.marks rest h.takes.tokens (λ l. Err (Measured l)) again) (λ next x same q. cc);
 }
 says limit ts (Err (TooDeep rest)) again h = record {
   front = h.marks;

@@ -1,9 +1,11 @@
 -- What the tokens of a program spell, and where they stop spelling.
-use Rattle.std.specs.Prelude.{◌≡◌, ◌≤◌, ◌<◌, List, [], ◌∷◌, ◌++◌, length, true, Result, Ok, Err}
+use Rattle.std.specs.Prelude.{◌≡◌, ◌≤◌, ◌<◌, ◌⊎◌, List, [], ◌∷◌, ◌++◌, length, true, Result, Ok, Err}
+use Rattle.vx_ast.specs.declared.Place.{Place}
 use Rattle.vx_ast.specs.Written.{Program}
 use Rattle.vx_tokens.specs.Tokens.{Token}
 use Rattle.vx_tokens.specs.declared.token.Word.TheVariants as words
-use Rattle.vx_tokens.specs.Tokens.{word}
+use Rattle.vx_tokens.specs.declared.token.Symbol.TheVariants as signs
+use Rattle.vx_tokens.specs.Tokens.{Kind, word, symbol}
 use Rattle.vx_grammar.specs.Grammar.{Mark, mark, tokens_of}
 use Rattle.vx_grammar.specs.Programs.{FunctionPhrase, StandsClauses, head_marks, ProgramPhrase, StandsProgram, program_meant, program_marks}
 use Rattle.vx_grammar.specs.Reading.{Unexpected, Measured, TooDeep}
@@ -118,3 +120,46 @@ StopsAtFirst ts (Ok p) = Unit {0}
 -- Where reading stops at a token that does not fit, that is the first one.
 abbrev pub ReadingStopsAtFirst : Type 0
 ReadingStopsAtFirst = (ts : List Token) → StopsAtFirst ts (members_at ts)
+
+-- ---- a measure that does not fit
+
+-- some program begins with these tokens and then one of this kind
+pub record GoesOnWith (front : List Token) (k : Kind) : Type 0 where
+  pub place : Place
+  pub more : List Token
+  pub program : Program
+  pub spelled : ProgramSpelled (front ++ record { kind = k; place = place } ∷ more) program
+
+-- a requirement fits behind these tokens, or an invariant
+abbrev pub ClauseFits : List Token → Type 0
+ClauseFits front = GoesOnWith front (word words.Requires) ⊎ GoesOnWith front (word words.Invariant)
+
+abbrev pub BeginsMeasure : List Token → Type 0
+BeginsMeasure [] = ⊥
+BeginsMeasure (t ∷ rest) = t.kind ≡ word words.Decreases
+
+-- The rest begins with a measure, where a clause fits, and so does the block of a method or a loop.
+pub record StopsAtMeasure (ts rest : List Token) : Type 0 where
+  pub front : List Token
+  pub is : ts ≡ front ++ rest
+  pub measure : BeginsMeasure rest
+  pub clause : ClauseFits front
+  pub block : GoesOnWith front (symbol signs.OpenBrace)
+
+-- if the rest begins with a measure, no clause fits in front of it
+abbrev pub NoClauseFits : List Token → List Token → Type 0
+NoClauseFits ts rest = (front : List Token) → ts ≡ front ++ rest → BeginsMeasure rest → ClauseFits front → ⊥
+
+abbrev pub MeasureSays : List Token → Result Program Halt → Type 0
+MeasureSays ts (Err (inside (Measured rest))) = StopsAtMeasure ts rest
+MeasureSays ts (Err (inside (Unexpected rest))) = NoClauseFits ts rest
+MeasureSays ts (Err (no_member rest)) = NoClauseFits ts rest
+MeasureSays ts (Err (second_measure rest)) = BeginsMeasure rest
+MeasureSays ts (Err (no_body rest)) = BeginsMeasure rest → ⊥
+MeasureSays ts (Err (inside (TooDeep rest))) = Unit {0}
+MeasureSays ts (Err (too_many rest)) = Unit {0}
+MeasureSays ts (Ok p) = Unit {0}
+
+-- Where reading stops at a measure, it tells so where a clause fits, and only there.
+abbrev pub MeasuresAreTold : Type 0
+MeasuresAreTold = (ts : List Token) → MeasureSays ts (members_at ts)

@@ -2,7 +2,7 @@
 #![tactic(auto)]
 
 ghost use Rattle.vx_grammar.specs.Laws.{AnswersAreRight, SpelledIsRead, SpelledOnce};
-ghost use Rattle.vx_grammar.specs.ProgramLaws.{ProgramsAreSpelled, ProgramsSpelledOnce, ReadingStopsAtFirst, SpelledProgramsAreRead};
+ghost use Rattle.vx_grammar.specs.ProgramLaws.{MeasuresAreTold, ProgramsAreSpelled, ProgramsSpelledOnce, ReadingStopsAtFirst, SpelledProgramsAreRead};
 
 /// What is read is spelled so within the limit, and else reading stops at the first token that does not fit.
 pub fn answers_are_right()
@@ -37,4 +37,9 @@ pub fn programs_spelled_once()
 /// Where reading stops at a token that does not fit, no program goes on with it.
 pub fn reading_stops_at_first()
     ensures { ReadingStopsAtFirst }
+{}
+
+/// Where reading stops at a measure, it tells so where a clause may come, and only there.
+pub fn measures_are_told()
+    ensures { MeasuresAreTold }
 {}
