@@ -1,22 +1,24 @@
 #!/usr/bin/env bash
-# Writes files of 100, 400 and 1600 store-language methods, and prints the program's seconds on each and the ratio to
-# the one before.
+# Writes files of 100, 400 and 1600 store-language methods, and prints what it takes to verify and to check each.
 set -eu
-here=$(cd "$(dirname "${BASH_SOURCE[0]}")/.." && pwd)
-folder=$(mktemp -d)
-trap 'rm -rf "$folder"' EXIT
+. "$(dirname "${BASH_SOURCE[0]}")/timing.sh"
 "$here/vsil" < /dev/null > /dev/null
-before=
-for count in 100 400 1600; do
-    file=$folder/$count.vpr
-    for ((i = 0; i < count; i++)); do
+
+methods() {
+    for ((i = 0; i < $1; i++)); do
         echo "method m$i(a: Bool, x: Int) returns (y: Int) requires a && x == $i ensures a { var z: Int := x + $i if (a) { y := z } else { y := x } assert a }"
-    done > "$file"
-    start=$(date +%s.%N)
-    "$here/vsil" < "$file" > "$folder/out" || true
-    end=$(date +%s.%N)
-    seconds=$(echo "$end - $start" | bc)
-    if [ -n "$before" ]; then ratio=$(echo "scale=2; $seconds / $before" | bc); else ratio=-; fi
-    echo "$count methods: $seconds s, ratio $ratio, $(tail -n 1 "$folder/out")"
-    before=$seconds
+    done
+}
+
+for command in verify check; do
+    before=
+    for count in 100 400 1600; do
+        methods "$count" > "$folder/file.vpr"
+        timed "$command, $count methods" "$folder/file.vpr" "$here/vsil" "$command"
+    done
 done
+
+# as many members as there may be
+before=
+awk 'BEGIN { for (i = 0; i < 65536; i++) print "field f" i ": Int" }' > "$folder/file.vpr"
+timed "check, 65536 fields" "$folder/file.vpr" "$here/vsil" check

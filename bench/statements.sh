@@ -3,9 +3,7 @@
 # 100, 400, 1600 and 6400 assignments with one check at its end, one of as many asserts, and one with 2^4, 2^8 and
 # 2^12 paths of one check each.
 set -eu
-here=$(cd "$(dirname "${BASH_SOURCE[0]}")/.." && pwd)
-folder=$(mktemp -d)
-trap 'rm -rf "$folder"' EXIT
+. "$(dirname "${BASH_SOURCE[0]}")/timing.sh"
 "$here/vsil" < /dev/null > /dev/null
 
 assignments() {
@@ -27,18 +25,12 @@ paths() {
 }
 
 measure() {
-    local what=$1 before=
+    local what=$1
     shift
+    before=
     for count in "$@"; do
         "$what" "$count" > "$folder/file.vpr"
-        local start end seconds ratio=-
-        start=$(date +%s.%N)
-        "$here/vsil" < "$folder/file.vpr" > "$folder/out" || true
-        end=$(date +%s.%N)
-        seconds=$(echo "$end - $start" | bc)
-        if [ -n "$before" ]; then ratio=$(echo "scale=2; $seconds / $before" | bc); fi
-        echo "$count $what: $seconds s, ratio $ratio, $(tail -n 1 "$folder/out")"
-        before=$seconds
+        timed "$count $what" "$folder/file.vpr" "$here/vsil"
     done
 }
 

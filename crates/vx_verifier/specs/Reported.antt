@@ -1,5 +1,5 @@
 -- What `run` promises: what the runs of a report are those of.
-use Rattle.std.specs.Prelude.{◌≡◌, ◌⊎◌, ℕ, ◌<◌, ⊤, Bool, true, false, List, [], ◌∷◌, ◌++◌, Option, Some, IfSome, codes, length, take}
+use Rattle.std.specs.Prelude.{◌≡◌, ◌⊎◌, ℕ, ◌<◌, ⊤, Bool, true, false, List, [], ◌∷◌, ◌++◌, Option, Some, IfSome, codes, length, take, vec_items}
 use Rattle.std.specs.Str.{bytes_eq}
 use Rattle.vx_ast.specs.Syntax.{Program}
 use Rattle.vx_ast.specs.Written as written
@@ -7,14 +7,17 @@ use Rattle.vx_ast.specs.Resolve as resolve
 use Rattle.vx_types.specs.Settled.{settled}
 use Rattle.vx_parser.specs.Spelling.{Spells}
 use Rattle.vx_words.specs.declared.order.Order.{Order}
-use Rattle.vx_words.specs.declared.order.Order.TheVariants.{Verify}
+use Rattle.vx_words.specs.declared.order.Order.TheVariants.{Verify, Check, Print}
 use Rattle.vx_ends.specs.declared.piece.Start.{Start}
 use Rattle.vx_report.specs.declared.run.MemberRun.{MemberRun}
 use Rattle.vx_report.specs.declared.status.Status.{Status}
 use Rattle.vx_report.specs.declared.status.Status.TheVariants.{Done, NotVerified, Usage, Unread, Refused, Faulted, Unwritten, Want}
 use Rattle.vx_report.specs.Statuses.{status_among}
-use Rattle.vx_verifier.specs.declared.top.Told.{Told}
-use Rattle.vx_verifier.specs.declared.top.Told.TheVariants as told
+use Rattle.vx_print.specs.Canonical.{canonical_text}
+use Rattle.vx_verifier.specs.declared.reading.Told.{Told}
+use Rattle.vx_verifier.specs.declared.reading.Told.TheVariants as told
+use Rattle.vx_verifier.specs.declared.reading.Loaded.{Loaded}
+use Rattle.vx_verifier.specs.declared.reading.Loaded.TheVariants as loaded
 use Rattle.vx_verifier.specs.Headline.{IsSupported}
 
 -- the program that a text spells, with its names settled; it is supported
@@ -24,12 +27,10 @@ pub record IsProgramOf (text : List ℕ) (p : Program) : Type 0 where
   pub settled : p ≡ resolve.program written
   pub supported : IsSupported p
 
--- a program comes from the file's text, where that is told
-abbrev pub IsReadFrom : Option (List ℕ) → Told → Type 0
-IsReadFrom holds (told.Program t) = (text : List ℕ) × IfSome holds (λ known. text ≡ known) × IsProgramOf text (settled t)
-IsReadFrom holds (told.Refused line) = ⊤
-IsReadFrom holds told.Unread = ⊤
-IsReadFrom holds told.TooLong = ⊤
+-- a program is that of the text
+abbrev pub IsReadFrom : List ℕ → Told → Type 0
+IsReadFrom text (told.Program t) = IsProgramOf text (settled t)
+IsReadFrom text (told.Refused line) = ⊤
 
 -- the name of the companion stands alone
 abbrev pub is_companion : List (List ℕ) → Bool
@@ -46,6 +47,8 @@ ByWhom false Companion Handed = Handed
 abbrev pub IsReportOf : Order → (holds : Option (List ℕ) → Option (List ℕ)) → (Companion Handed : Program → Type 0) → Type 0
 IsReportOf (Verify file solver) holds Companion Handed =
     (text : List ℕ) × (p : Program) × IfSome (holds file) (λ known. text ≡ known) × IsProgramOf text p × ByWhom (is_companion solver) (Companion p) (Handed p)
+IsReportOf (Check file) holds Companion Handed = ⊥
+IsReportOf (Print file) holds Companion Handed = ⊥
 
 -- the names that were asked: at most this one more
 abbrev pub AsksOnly : Option (List ℕ) → (old new : List (Option (List ℕ))) → Type 0
@@ -53,27 +56,24 @@ AsksOnly name old new = (new ≡ old) ⊎ (new ≡ old ++ name ∷ [])
 
 abbrev pub AsksFileOf : Order → (old new : List (Option (List ℕ))) → Type 0
 AsksFileOf (Verify file solver) old new = AsksOnly file old new
+AsksFileOf (Check file) old new = AsksOnly file old new
+AsksFileOf (Print file) old new = AsksOnly file old new
 
 -- a file isn't read only where reading failed, or where its text is too long
 abbrev pub IsUnread : (failed : Type 0) → Option (List ℕ) → Type 0
 IsUnread failed holds = failed ⊎ IfSome holds (λ text. 4194304 < length text)
 
--- a program or a refusal
-abbrev pub IsRead : Told → Type 0
-IsRead (told.Program t) = ⊤
-IsRead (told.Refused line) = ⊤
-IsRead told.Unread = ⊥
-IsRead told.TooLong = ⊥
-
-abbrev pub IsUnreadAs : (failed : Type 0) → Option (List ℕ) → Told → Type 0
-IsUnreadAs failed holds (told.Program t) = ⊤
-IsUnreadAs failed holds (told.Refused line) = ⊤
-IsUnreadAs failed holds told.Unread = failed
-IsUnreadAs failed holds told.TooLong = IfSome holds (λ text. 4194304 < length text)
+-- A text is what the file holds, where that is told; there is none only where reading failed, or the text is too long.
+abbrev pub IsLoadedFrom : (failed : Type 0) → Option (List ℕ) → Loaded → Type 0
+IsLoadedFrom failed holds (loaded.Text text) = IfSome holds (λ known. vec_items text ≡ known)
+IsLoadedFrom failed holds loaded.Unread = failed
+IsLoadedFrom failed holds loaded.TooLong = IfSome holds (λ text. 4194304 < length text)
 
 -- the same of the file that the words name
 abbrev pub IsUnreadFile : Order → (failed : Type 0) → (holds : Option (List ℕ) → Option (List ℕ)) → Type 0
 IsUnreadFile (Verify file solver) failed holds = IsUnread failed (holds file)
+IsUnreadFile (Check file) failed holds = IsUnread failed (holds file)
+IsUnreadFile (Print file) failed holds = IsUnread failed (holds file)
 
 -- A status with a report is that of its runs; sink is where the sink failed, usage where the words mean nothing, and unread where the file isn't read. The others have no runs.
 abbrev pub IsStatusOf : (sink usage unread : Type 0) → List MemberRun → Status → Type 0
@@ -89,7 +89,27 @@ IsStatusOf sink usage unread runs Want = runs ≡ []
 -- the starts of the spawner: at most one, by the words' command
 abbrev pub StartsOnly : Order → (old new : List Start) → Type 0
 StartsOnly (Verify file solver) old new = (new ≡ old) ⊎ (new ≡ old ++ record { lane = 0; command = solver } ∷ [])
+StartsOnly (Check file) old new = new ≡ old
+StartsOnly (Print file) old new = new ≡ old
 
 -- What is put is this text, or a beginning of it where the sink failed.
 abbrev pub IsPut : Option (List ℕ) → Option (List ℕ) → Status → List ℕ → Type 0
 IsPut old new s text = IfSome old (λ bytes. (new ≡ Some (bytes ++ text)) ⊎ ((s ≡ Unwritten) × (n : ℕ) × (new ≡ Some (bytes ++ take n text))))
+
+-- The bytes that `print` puts for a text, with their status: the canonical text of the program that it spells, or a refusal where it spells none.
+abbrev pub SaysPrinted : (text : List ℕ) → Status → List ℕ → Type 0
+SaysPrinted text Done bytes = (p : written.Program) × Spells text p × (bytes ≡ canonical_text p)
+SaysPrinted text Refused bytes = (p : written.Program) → Spells text p → ⊥
+SaysPrinted text s bytes = ⊥
+
+-- what is put for what the file holds; where it isn't read, or memory or the sink fails, nothing is said
+abbrev pub IsSaid : (Says : List ℕ → Status → List ℕ → Type 0) → (holds : Option (List ℕ)) → (old new : Option (List ℕ)) → Status → Type 0
+IsSaid Says holds old new Done = (text bytes : List ℕ) × IfSome holds (λ known. text ≡ known) × Says text Done bytes × IsPut old new Done bytes
+IsSaid Says holds old new Refused = (text bytes : List ℕ) × IfSome holds (λ known. text ≡ known) × Says text Refused bytes × IsPut old new Refused bytes
+IsSaid Says holds old new s = ⊤
+
+-- what the commands without a report say
+abbrev pub IsSaidBy : Order → (holds : Option (List ℕ) → Option (List ℕ)) → (old new : Option (List ℕ)) → Status → Type 0
+IsSaidBy (Verify file solver) holds old new s = ⊤
+IsSaidBy (Check file) holds old new s = IsSaid SaysChecked (holds file) old new s
+IsSaidBy (Print file) holds old new s = IsSaid SaysPrinted (holds file) old new s

@@ -7,6 +7,8 @@ pub mod companion;
 pub mod edge;
 mod execute;
 mod lane;
+mod reading;
+mod saying;
 mod supported;
 mod top;
 
