@@ -53,6 +53,7 @@ pub fault_answered : (f : the_fault.TextFault) (halt : the_halt.Halt) (ts : List
 unfolding answer
 fault_answered f (halts.Inside (inner.Stopped stops.Memory)) ts e h s = want_answered f (answer_by (members.members_at ts) e) s
 fault_answered f (halts.Inside (inner.Stopped (stops.Unexpected us))) ts e h s = rw h (shown f _ s)
+fault_answered f (halts.Inside (inner.Stopped (stops.Measured us))) ts e h s = rw h (shown f _ s)
 fault_answered f (halts.Inside (inner.Stopped (stops.TooDeep us))) ts e h s = rw h (shown f _ s)
 fault_answered f (halts.Inside (inner.Bodiless us)) ts e h s = rw h (shown f _ s)
 fault_answered f (halts.Inside (inner.MeasuredTwice us)) ts e h s = rw h (shown f _ s)

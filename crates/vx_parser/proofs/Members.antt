@@ -53,6 +53,9 @@ member_stops (inner.Stopped stops.Memory) tokens i before ts t us total lt first
 member_stops (inner.Stopped (stops.Unexpected r)) tokens i before ts t us total lt first begins few read so_far =
     let b : ltb (length before) max_members ≡ true = lt-ltb _ _ few in
     sym so_far ∙ rw (left tokens i lt, first, begins, b, read) refl
+member_stops (inner.Stopped (stops.Measured r)) tokens i before ts t us total lt first begins few read so_far =
+    let b : ltb (length before) max_members ≡ true = lt-ltb _ _ few in
+    sym so_far ∙ rw (left tokens i lt, first, begins, b, read) refl
 member_stops (inner.Stopped (stops.TooDeep r)) tokens i before ts t us total lt first begins few read so_far =
     let b : ltb (length before) max_members ≡ true = lt-ltb _ _ few in
     sym so_far ∙ rw (left tokens i lt, first, begins, b, read) refl

@@ -48,6 +48,8 @@ none_left ts h = λ p s. h.none p (subst (λ l. ProgramSpelled l p) (h.fits.toke
 halt_says : (ts : List Token) (e : Ending) (h : members.Halt) → ProgramSays ts (Err h) → StopsAtFirst ts (Err h) → AnswerSays ts e (answer_by (Err h) e)
 halt_says ts e (members.inside (reading.Unexpected [])) says stops = early_says ts e says (λ x. none_left ts stops)
 halt_says ts e (members.inside (reading.Unexpected (t ∷ after))) says stops = unfit_says ts e t after (is_foreign t.kind) stops
+halt_says ts e (members.inside (reading.Measured [])) says stops = early_says ts e says (λ x. none_left ts stops)
+halt_says ts e (members.inside (reading.Measured (t ∷ after))) says stops = unfit_says ts e t after true stops
 halt_says ts e (members.no_body []) says stops = early_says ts e says.0 (λ x. none_left ts stops)
 halt_says ts e (members.no_body (t ∷ after)) says stops = record { token = t; after = after; place = refl; first = stops; due = says.1 }
 halt_says ts e (members.second_measure []) says stops = early_says ts e says.0 (λ x. none_left ts stops)

@@ -12,5 +12,6 @@ use Rattle.vx_parser.specs.Says.{SaysOf}
 pub says_of : (limit : ℕ) (ts : List Token) (r : Result the_expr.Expr the_stop.Stop) → Gives written_expr r (whole limit ts) → Says limit ts (whole limit ts) → SaysOf limit ts r
 says_of limit ts (Ok e) g s = subst (Says limit ts) g s
 says_of limit ts (Err (stops.Unexpected rest)) g s = subst (Says limit ts) g s
+says_of limit ts (Err (stops.Measured rest)) g s = subst (Says limit ts) g s
 says_of limit ts (Err (stops.TooDeep rest)) g s = subst (Says limit ts) g s
 says_of limit ts (Err stops.Memory) g s = tt

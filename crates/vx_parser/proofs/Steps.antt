@@ -58,6 +58,7 @@ rest_goes_on room less level start left ts t inner op h n =
 stops_after : (e : the_stop.Stop) (read : Read Expr) (f : Expr × List Token → Read Expr) → Stops e read → Stops e (read >>= f)
 stops_after stops.Memory read f h = tt
 stops_after (stops.Unexpected ts) read f h = rw h refl
+stops_after (stops.Measured ts) read f h = rw h refl
 stops_after (stops.TooDeep ts) read f h = rw h refl
 
 pub rest_stops : (e : the_stop.Stop) (room less level : ℕ) (start : Place) (left : Expr) (ts : List Token) (t : Token) (inner : List Token) (op : BinaryOperator) → HasOperator ts t inner op level → (1 ≤ room) × (less ≡ room - 1)

@@ -1,13 +1,13 @@
 -- The turns of the parser's loops.
-use Rattle.std.proofs.Common.{◌≡◌, ℕ, ◌+◌, ◌-◌, ◌≤◌, ◌<◌, List, [], ◌∷◌, ◌++◌, Some, None, Result, Ok, Err, Bool, true, false, length, refl, sym, subst, arith, ap}
+use Rattle.std.proofs.Common.{◌≡◌, ℕ, ◌+◌, ◌-◌, ◌≤◌, ◌<◌, List, [], ◌∷◌, ◌++◌, Some, None, Result, Ok, Err, Bool, true, false, not, ◌&&◌, length, refl, sym, subst, arith, ap}
 use Rattle.std.proofs.lemmas.List.{length-map}
-use Rattle.vx_ast.specs.Written.{Expr, Exprs, Stmt, Block, Declaration}
+use Rattle.vx_ast.specs.Written.{Placed, Expr, Exprs, Stmt, Block, Declaration}
 use Rattle.vx_tokens.specs.declared.token.Token as the_token
 use Rattle.vx_tokens.specs.declared.token.Symbol.TheVariants as signs
 use Rattle.vx_tokens.specs.Tokens.{Token, tokens_in, token_of}
 use Rattle.vx_grammar.specs.Reading.{name_at, name_turn, ◌>>=◌, Read, choice_at, below, exprs_from, argument_turn, some_arguments, is_symbol, Turn, run}
-use Rattle.vx_grammar.specs.StmtReading.{clause_at, begins_invariant, invariant_turn, invariants_at, StmtDeeper, StmtPart, stmt_part, stmts_below, begins_stmt, skip_semicolon, stmt_at, stmt_turn, declaration_at}
-use Rattle.vx_grammar.specs.MemberReading.{limit, declaration_turn, Clauses, clause_turn, begins_requires, begins_ensures, is_due, begins_measure, with_requires, with_ensures, with_measure}
+use Rattle.vx_grammar.specs.StmtReading.{is_measure, clause_at, begins_invariant, invariant_turn, invariants_at, StmtDeeper, StmtPart, stmt_part, stmts_below, begins_stmt, skip_semicolon, stmt_at, stmt_turn, declaration_at}
+use Rattle.vx_grammar.specs.MemberReading.{limit, declaration_turn, Clauses, clause_turn, begins_requires, begins_ensures, with_requires, with_ensures, with_measure}
 use Rattle.vx_grammar.specs.Nesting.{stmt_nests}
 use Rattle.vx_grammar.proofs.Turns.{run_on, run_over, run_stops, run_all}
 use Rattle.vx_parser.specs.declared.stop.Stop as the_stop
@@ -32,11 +32,13 @@ pub halts : {S : Type 0} (e : the_stop.Stop) (turn : Turn S) (tokens : List the_
     → run turn (length (tokens_in tokens) - i) s ts ≡ total → Stops e total
 halts stops.Memory turn tokens i s ts total lt h so_far = tt
 halts (stops.Unexpected r) turn tokens i s ts total lt h so_far = let n = length-map tokens token_of in run_stops turn (length (tokens_in tokens)) i s ts _ total (omega (arith, n, lt)) h so_far
+halts (stops.Measured r) turn tokens i s ts total lt h so_far = let n = length-map tokens token_of in run_stops turn (length (tokens_in tokens)) i s ts _ total (omega (arith, n, lt)) h so_far
 halts (stops.TooDeep r) turn tokens i s ts total lt h so_far = let n = length-map tokens token_of in run_stops turn (length (tokens_in tokens)) i s ts _ total (omega (arith, n, lt)) h so_far
 
 pub stops_after : {A B : Type 0} (e : the_stop.Stop) (read : Read A) (f : A × List Token → Read B) → Stops e read → Stops e (read >>= f)
 stops_after stops.Memory read f h = tt
 stops_after (stops.Unexpected ts) read f h = rw h refl
+stops_after (stops.Measured ts) read f h = rw h refl
 stops_after (stops.TooDeep ts) read f h = rw h refl
 
 pub empty_tokens : (ts : List the_token.Token) → length ts ≡ 0 → tokens_in ts ≡ []
@@ -93,47 +95,47 @@ declaration_stops e before ts t us first comma read = rw (first, comma) (stops_a
 
 -- ---- names
 
-pub name_on : (before : List (List ℕ)) (ts : List Token) (t : Token) (us : List Token) (d : List ℕ) (after : List Token) → ts ≡ t ∷ us → is_symbol signs.Comma t.kind ≡ true → name_at us ≡ Ok (d, after)
+pub name_on : (before : List Placed) (ts : List Token) (t : Token) (us : List Token) (d : Placed) (after : List Token) → ts ≡ t ∷ us → is_symbol signs.Comma t.kind ≡ true → name_at us ≡ Ok (d, after)
     → name_turn before ts ≡ Ok (Some (before ++ d ∷ []), after)
 unfolding name_turn
 name_on before ts t us d after first comma read = rw (first, comma, read) refl
 
-pub name_over : (before : List (List ℕ)) (ts : List Token) (t : Token) (us : List Token) → ts ≡ t ∷ us → is_symbol signs.Comma t.kind ≡ false → name_turn before ts ≡ Ok (None, t ∷ us)
+pub name_over : (before : List Placed) (ts : List Token) (t : Token) (us : List Token) → ts ≡ t ∷ us → is_symbol signs.Comma t.kind ≡ false → name_turn before ts ≡ Ok (None, t ∷ us)
 unfolding name_turn
 name_over before ts t us first comma = rw (first, comma) refl
 
-pub name_end : (before : List (List ℕ)) (ts : List Token) → ts ≡ [] → name_turn before ts ≡ Ok (None, [])
+pub name_end : (before : List Placed) (ts : List Token) → ts ≡ [] → name_turn before ts ≡ Ok (None, [])
 unfolding name_turn
 name_end before ts none = rw none refl
 
-pub name_stops : (e : the_stop.Stop) (before : List (List ℕ)) (ts : List Token) (t : Token) (us : List Token) → ts ≡ t ∷ us → is_symbol signs.Comma t.kind ≡ true → Stops e (name_at us) → Stops e (name_turn before ts)
+pub name_stops : (e : the_stop.Stop) (before : List Placed) (ts : List Token) (t : Token) (us : List Token) → ts ≡ t ∷ us → is_symbol signs.Comma t.kind ≡ true → Stops e (name_at us) → Stops e (name_turn before ts)
 unfolding name_turn
 name_stops e before ts t us first comma read = rw (first, comma) (stops_after e (name_at us) (λ d. Ok (Some (before ++ d.0 ∷ []), d.1)) read)
 
 -- ---- clauses
 
-pub requires_on : (may : Bool) (before : Clauses) (ts : List Token) (t : Token) (us : List Token) (e : Expr) (after : List Token) → ts ≡ t ∷ us → begins_requires t.kind ≡ true → clause_at limit (length before.requires) ts us ≡ Ok (e, after)
+pub requires_on : (may : Bool) (before : Clauses) (ts : List Token) (t : Token) (us : List Token) (e : Expr) (after : List Token) → ts ≡ t ∷ us → begins_requires t.kind ≡ true → clause_at limit before.requires ts us ≡ Ok (e, after)
     → clause_turn limit may before ts ≡ Ok (Some (with_requires before e), skip_semicolon after)
 unfolding clause_turn
 requires_on may before ts t us e after first begins read =
-    let read' : clause_at limit (length before.requires) (t ∷ us) us ≡ Ok (e, after) = subst (λ l. clause_at limit (length before.requires) l us ≡ Ok (e, after)) first read in
+    let read' : clause_at limit before.requires (t ∷ us) us ≡ Ok (e, after) = subst (λ l. clause_at limit before.requires l us ≡ Ok (e, after)) first read in
     rw (first, begins, read') refl
 
-pub ensures_on : (may : Bool) (before : Clauses) (ts : List Token) (t : Token) (us : List Token) (e : Expr) (after : List Token) → ts ≡ t ∷ us → begins_requires t.kind ≡ false → begins_ensures t.kind ≡ true → clause_at limit (length before.ensures) ts us ≡ Ok (e, after)
+pub ensures_on : (may : Bool) (before : Clauses) (ts : List Token) (t : Token) (us : List Token) (e : Expr) (after : List Token) → ts ≡ t ∷ us → begins_requires t.kind ≡ false → begins_ensures t.kind ≡ true → clause_at limit before.ensures ts us ≡ Ok (e, after)
     → clause_turn limit may before ts ≡ Ok (Some (with_ensures before e), skip_semicolon after)
 unfolding clause_turn
 ensures_on may before ts t us e after first not begins read =
-    let read' : clause_at limit (length before.ensures) (t ∷ us) us ≡ Ok (e, after) = subst (λ l. clause_at limit (length before.ensures) l us ≡ Ok (e, after)) first read in
+    let read' : clause_at limit before.ensures (t ∷ us) us ≡ Ok (e, after) = subst (λ l. clause_at limit before.ensures l us ≡ Ok (e, after)) first read in
     rw (first, not, begins, read') refl
 
-pub measure_on : (may : Bool) (before : Clauses) (ts : List Token) (t : Token) (us : List Token) (e : Expr) (after : List Token) → ts ≡ t ∷ us → begins_requires t.kind ≡ false → begins_ensures t.kind ≡ false → begins_measure (is_due may before.measure) t.kind ≡ true → clause_at limit 0 ts us ≡ Ok (e, after)
+pub measure_on : (may : Bool) (before : Clauses) (ts : List Token) (t : Token) (us : List Token) (e : Expr) (after : List Token) → ts ≡ t ∷ us → begins_requires t.kind ≡ false → begins_ensures t.kind ≡ false → (may && not before.measured && is_measure t.kind) ≡ true → clause_at limit 0 ts us ≡ Ok (e, after)
     → clause_turn limit may before ts ≡ Ok (Some (with_measure before e), skip_semicolon after)
 unfolding clause_turn
 measure_on may before ts t us e after first not neither begins read =
     let read' : clause_at limit 0 (t ∷ us) us ≡ Ok (e, after) = subst (λ l. clause_at limit 0 l us ≡ Ok (e, after)) first read in
     rw (first, not, neither, begins, read') refl
 
-pub clause_over : (may : Bool) (before : Clauses) (ts : List Token) (t : Token) (us : List Token) → ts ≡ t ∷ us → begins_requires t.kind ≡ false → begins_ensures t.kind ≡ false → begins_measure (is_due may before.measure) t.kind ≡ false → clause_turn limit may before ts ≡ Ok (None, t ∷ us)
+pub clause_over : (may : Bool) (before : Clauses) (ts : List Token) (t : Token) (us : List Token) → ts ≡ t ∷ us → begins_requires t.kind ≡ false → begins_ensures t.kind ≡ false → (may && not before.measured && is_measure t.kind) ≡ false → clause_turn limit may before ts ≡ Ok (None, t ∷ us)
 unfolding clause_turn
 clause_over may before ts t us first not neither none = rw (first, not, neither, none) refl
 
@@ -141,19 +143,19 @@ pub clause_end : (may : Bool) (before : Clauses) (ts : List Token) → ts ≡ []
 unfolding clause_turn
 clause_end may before ts none = rw none refl
 
-pub requires_stops : (e : the_stop.Stop) (may : Bool) (before : Clauses) (ts : List Token) (t : Token) (us : List Token) → ts ≡ t ∷ us → begins_requires t.kind ≡ true → Stops e (clause_at limit (length before.requires) ts us) → Stops e (clause_turn limit may before ts)
+pub requires_stops : (e : the_stop.Stop) (may : Bool) (before : Clauses) (ts : List Token) (t : Token) (us : List Token) → ts ≡ t ∷ us → begins_requires t.kind ≡ true → Stops e (clause_at limit before.requires ts us) → Stops e (clause_turn limit may before ts)
 unfolding clause_turn
 requires_stops e may before ts t us first begins read =
-    let read' : Stops e (clause_at limit (length before.requires) (t ∷ us) us) = subst (λ l. Stops e (clause_at limit (length before.requires) l us)) first read in
-    rw (first, begins) (stops_after e (clause_at limit (length before.requires) (t ∷ us) us) (λ x. Ok (Some (with_requires before x.0), skip_semicolon x.1)) read')
+    let read' : Stops e (clause_at limit before.requires (t ∷ us) us) = subst (λ l. Stops e (clause_at limit before.requires l us)) first read in
+    rw (first, begins) (stops_after e (clause_at limit before.requires (t ∷ us) us) (λ x. Ok (Some (with_requires before x.0), skip_semicolon x.1)) read')
 
-pub ensures_stops : (e : the_stop.Stop) (may : Bool) (before : Clauses) (ts : List Token) (t : Token) (us : List Token) → ts ≡ t ∷ us → begins_requires t.kind ≡ false → begins_ensures t.kind ≡ true → Stops e (clause_at limit (length before.ensures) ts us) → Stops e (clause_turn limit may before ts)
+pub ensures_stops : (e : the_stop.Stop) (may : Bool) (before : Clauses) (ts : List Token) (t : Token) (us : List Token) → ts ≡ t ∷ us → begins_requires t.kind ≡ false → begins_ensures t.kind ≡ true → Stops e (clause_at limit before.ensures ts us) → Stops e (clause_turn limit may before ts)
 unfolding clause_turn
 ensures_stops e may before ts t us first not begins read =
-    let read' : Stops e (clause_at limit (length before.ensures) (t ∷ us) us) = subst (λ l. Stops e (clause_at limit (length before.ensures) l us)) first read in
-    rw (first, not, begins) (stops_after e (clause_at limit (length before.ensures) (t ∷ us) us) (λ x. Ok (Some (with_ensures before x.0), skip_semicolon x.1)) read')
+    let read' : Stops e (clause_at limit before.ensures (t ∷ us) us) = subst (λ l. Stops e (clause_at limit before.ensures l us)) first read in
+    rw (first, not, begins) (stops_after e (clause_at limit before.ensures (t ∷ us) us) (λ x. Ok (Some (with_ensures before x.0), skip_semicolon x.1)) read')
 
-pub measure_stops : (e : the_stop.Stop) (may : Bool) (before : Clauses) (ts : List Token) (t : Token) (us : List Token) → ts ≡ t ∷ us → begins_requires t.kind ≡ false → begins_ensures t.kind ≡ false → begins_measure (is_due may before.measure) t.kind ≡ true → Stops e (clause_at limit 0 ts us) → Stops e (clause_turn limit may before ts)
+pub measure_stops : (e : the_stop.Stop) (may : Bool) (before : Clauses) (ts : List Token) (t : Token) (us : List Token) → ts ≡ t ∷ us → begins_requires t.kind ≡ false → begins_ensures t.kind ≡ false → (may && not before.measured && is_measure t.kind) ≡ true → Stops e (clause_at limit 0 ts us) → Stops e (clause_turn limit may before ts)
 unfolding clause_turn
 measure_stops e may before ts t us first not neither begins read =
     let read' : Stops e (clause_at limit 0 (t ∷ us) us) = subst (λ l. Stops e (clause_at limit 0 l us)) first read in

@@ -25,7 +25,6 @@ use Rattle.vx_parser.specs.declared.fault.TextFault.TheVariants as faults
 -- ---- words and signs that this language leaves out
 
 abbrev pub is_foreign_word : Word → Bool
-is_foreign_word words.Decreases = true
 is_foreign_word words.Foreign = true
 is_foreign_word w = false
 
@@ -79,9 +78,13 @@ abbrev pub abstract_at : List Token → text.Ending → Fault
 abstract_at [] ending = early ending
 abstract_at (t ∷ ts) ending = Abstract t.place
 
--- a second measure is no word that is left out
+-- a second measure of a function is no word that is left out
 abbrev pub never_foreign : Kind → Bool
 never_foreign k = false
+
+-- a measure of a method or a loop is left out
+abbrev pub always_foreign : Kind → Bool
+always_foreign k = true
 
 abbrev pub too_deep : List Token → text.Ending → Fault
 too_deep [] ending = early ending
@@ -93,6 +96,7 @@ too_many (t ∷ ts) ending = TooManyMembers t.place
 
 abbrev pub fault_of : members.Halt → text.Ending → Fault
 fault_of (members.inside (reading.Unexpected rest)) ending = unfit is_foreign rest ending
+fault_of (members.inside (reading.Measured rest)) ending = unfit always_foreign rest ending
 fault_of (members.inside (reading.TooDeep rest)) ending = too_deep rest ending
 fault_of (members.no_body rest) ending = abstract_at rest ending
 fault_of (members.second_measure rest) ending = unfit never_foreign rest ending
@@ -120,6 +124,7 @@ answer ts ending = answer_by (members.members_at ts) ending
 abbrev pub Halts : the_halt.Halt → Result Program members.Halt → Type 0
 Halts (halts.Inside (inner.Stopped stops.Memory)) read = Unit {0}
 Halts (halts.Inside (inner.Stopped (stops.Unexpected ts))) read = read ≡ Err (members.inside (reading.Unexpected (tokens_in ts.now)))
+Halts (halts.Inside (inner.Stopped (stops.Measured ts))) read = read ≡ Err (members.inside (reading.Measured (tokens_in ts.now)))
 Halts (halts.Inside (inner.Stopped (stops.TooDeep ts))) read = read ≡ Err (members.inside (reading.TooDeep (tokens_in ts.now)))
 Halts (halts.Inside (inner.Bodiless ts)) read = read ≡ Err (members.no_body (tokens_in ts.now))
 Halts (halts.Inside (inner.MeasuredTwice ts)) read = read ≡ Err (members.second_measure (tokens_in ts.now))
@@ -158,6 +163,7 @@ Shows faults.TooLong f = ⊥
 abbrev pub FaultsInside : the_fault.TextFault → the_inner.MemberStop → text.Ending → Type 0
 FaultsInside f (inner.Stopped stops.Memory) ending = f ≡ faults.Want
 FaultsInside f (inner.Stopped (stops.Unexpected ts)) ending = Shows f (unfit is_foreign (tokens_in ts.now) ending)
+FaultsInside f (inner.Stopped (stops.Measured ts)) ending = Shows f (unfit always_foreign (tokens_in ts.now) ending)
 FaultsInside f (inner.Stopped (stops.TooDeep ts)) ending = Shows f (too_deep (tokens_in ts.now) ending)
 FaultsInside f (inner.Bodiless ts) ending = Shows f (abstract_at (tokens_in ts.now) ending)
 FaultsInside f (inner.MeasuredTwice ts) ending = Shows f (unfit never_foreign (tokens_in ts.now) ending)

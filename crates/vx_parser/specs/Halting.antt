@@ -2,7 +2,7 @@
 use Rattle.std.specs.Prelude.{◌≡◌, Result, Ok, Err}
 use Rattle.vx_ast.specs.Written.{Member}
 use Rattle.vx_tokens.specs.Tokens.{tokens_in}
-use Rattle.vx_grammar.specs.Reading.{Read, Unexpected, TooDeep}
+use Rattle.vx_grammar.specs.Reading.{Read, Unexpected, Measured, TooDeep}
 use Rattle.vx_grammar.specs.MemberReading.{MemberStop, stopped, bodiless, measured_twice, Halting}
 use Rattle.vx_parser.specs.declared.stop.Stop.TheVariants as stops
 use Rattle.vx_parser.specs.declared.stop.MemberStop as the_stop
@@ -12,6 +12,7 @@ use Rattle.vx_parser.specs.declared.stop.MemberStop.TheVariants as halts
 abbrev pub MemberStops : {Y : Type 0} → the_stop.MemberStop → Result Y MemberStop → Type 0
 MemberStops (halts.Stopped stops.Memory) read = Unit {0}
 MemberStops (halts.Stopped (stops.Unexpected ts)) read = read ≡ Err (stopped (Unexpected (tokens_in ts.now)))
+MemberStops (halts.Stopped (stops.Measured ts)) read = read ≡ Err (stopped (Measured (tokens_in ts.now)))
 MemberStops (halts.Stopped (stops.TooDeep ts)) read = read ≡ Err (stopped (TooDeep (tokens_in ts.now)))
 MemberStops (halts.Bodiless ts) read = read ≡ Err (bodiless (tokens_in ts.now))
 MemberStops (halts.MeasuredTwice ts) read = read ≡ Err (measured_twice (tokens_in ts.now))

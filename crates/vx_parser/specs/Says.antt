@@ -11,5 +11,6 @@ use Rattle.vx_parser.specs.declared.stop.Stop.TheVariants as stops
 abbrev pub SaysOf : ℕ → List Token → Result the_expr.Expr the_stop.Stop → Type 0
 SaysOf limit ts (Ok e) = SpelledWithin limit ts (written_expr e)
 SaysOf limit ts (Err (stops.Unexpected rest)) = StopsUnfit limit ts (tokens_in rest.now)
+SaysOf limit ts (Err (stops.Measured rest)) = StopsUnfit limit ts (tokens_in rest.now)
 SaysOf limit ts (Err (stops.TooDeep rest)) = StopsDeep limit ts (tokens_in rest.now)
 SaysOf limit ts (Err stops.Memory) = Unit {0}

@@ -3,7 +3,7 @@
 ghost use Rattle.std.specs.Prelude.{◌≡◌, ◌≤◌, ◌<◌, ◌+◌, ◌-◌, IfOk, Ok, ◌∷◌, [], length};
 ghost use Rattle.vx_tokens.specs.Tokens.{kind_of, token_of, tokens_in};
 ghost use Rattle.vx_grammar.specs.Grammar.{level_of, operator_of};
-ghost use Rattle.vx_ast.specs.Written.{written_all, written_expr, written_optional};
+ghost use Rattle.vx_ast.specs.Written.{placed, written_all, written_expr, written_optional};
 ghost use Rattle.vx_grammar.specs.Reading as reading;
 ghost use Rattle.vx_parser.specs.Gives.{Gives};
 ghost use Rattle.vx_grammar.specs.Laws.{whole, SpelledWithin};
@@ -552,7 +552,7 @@ fn alone<'t>(
     tokens: &'t [Token<'t>],
 ) -> Read<'t, Instance>
     requires { room < 1000 }
-    ensures { Gives (λ x. (instance_of x.0, tokens_in x.1.now)) result (reading.bare_by (reading.below room) text.now (tokens_in tokens.now)) }
+    ensures { Gives (λ x. (instance_of x.0, tokens_in x.1.now)) result (reading.bare_by (reading.below room) (placed place text.now) (tokens_in tokens.now)) }
 {
     let (arguments, rest) = enclosed_arguments(alloc, room, tokens)?;
     let text = String::from_str(alloc, text)?;

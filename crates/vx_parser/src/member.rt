@@ -1,10 +1,11 @@
 //! Reading members.
 
-ghost use Rattle.std.specs.Prelude.{◌≡◌, IfOk, length, ◌∷◌, []};
+ghost use Rattle.std.specs.Prelude.{◌≡◌, ◌<◌, ◌+◌, ◌^◌, ◌&&◌, not, IfOk, OnOk, length, ◌∷◌, []};
 ghost use Rattle.vx_ast.specs.Written.{name_of, optional_block, optional_expr, written_expr, written_declaration, written_member};
 ghost use Rattle.vx_tokens.specs.Tokens.{kind_of, token_of, tokens_in};
 ghost use Rattle.vx_grammar.specs.Reading.{run};
 ghost use Rattle.vx_grammar.specs.MemberReading as reading;
+ghost use Rattle.vx_grammar.specs.StmtReading.{is_measure};
 ghost use Rattle.std.specs.Prelude.{Err};
 ghost use Rattle.vx_parser.specs.Gives.{Gives};
 ghost use Rattle.vx_parser.specs.Halting.{GivesMember, MemberStops, Answer, HaltedAnswer};
@@ -12,12 +13,14 @@ ghost use Rattle.vx_parser.specs.Views.{clauses_of, declarations_of, head_of};
 
 use crate::expr::{Read, expect, is_symbol, nested_choice, same};
 use crate::name::name;
-use crate::stmt::{block, clause, declaration, skip_semicolon, value_type};
+use crate::stmt::{
+    begins_measure, block, clause, declaration, is_measure, skip_semicolon, value_type,
+};
 use crate::stop::{MemberStop, Stop};
 use std::alloc::{AllocError, Global};
 use std::rc::Rc;
 use vx_ast::{
-    Block, Declaration, Expr, Function, Member, MemberKind, Method, Name, Place, Predicate,
+    Block, Clause, Declaration, Expr, Function, Member, MemberKind, Method, Name, Place, Predicate,
     ValueType,
 };
 use vx_tokens::{Kind, Symbol, Token, Word};
@@ -25,12 +28,13 @@ use vx_tokens::{Kind, Symbol, Token, Word};
 /// The nesting limit.
 const LIMIT: u32 = 200;
 
-/// The clauses of a method or a function, each kind in order.
+/// The clauses of a method or a function so far, how many of them are of each kind, and whether a measure is among them.
 #[derive(Drop)]
 struct Clauses {
-    preconditions: Vec<Rc<Expr>>,
-    postconditions: Vec<Rc<Expr>>,
-    measure: Option<Rc<Expr>>,
+    clauses: Vec<Clause>,
+    preconditions: usize,
+    postconditions: usize,
+    is_measured: bool,
 }
 
 /// What stands in front of a function's body.
@@ -139,72 +143,80 @@ fn begins_ensures(kind: Kind) -> bool
     matches!(kind, Kind::Word(Word::Ensures))
 }
 
-fn begins_measure(due: bool, kind: Kind) -> bool
-    ensures { result ≡ reading.begins_measure due (kind_of kind.entry) }
-{
-    due && matches!(kind, Kind::Word(Word::Decreases))
-}
+impl Clauses {
+    fn new(alloc: Global) -> Clauses
+        ensures { clauses_of result ≡ reading.no_clauses }
+    {
+        Clauses {
+            clauses: Vec::new(alloc),
+            preconditions: 0,
+            postconditions: 0,
+            is_measured: false,
+        }
+    }
 
-// A measure may come, and none came before.
-fn is_due(may: bool, measure: &Option<Rc<Expr>>) -> bool
-    ensures { result ≡ reading.is_due may (optional_expr measure.now) }
-{
-    match measure {
-        None => may,
-        Some(_) => false,
+    // A measure begins, one may come, and none came before.
+    fn is_due(&self, may: bool, kind: Kind) -> bool
+        ensures { result ≡ (may && not (clauses_of self.now).measured && is_measure (kind_of kind.entry)) }
+    {
+        may && !self.is_measured && is_measure(kind)
+    }
+
+    fn add_precondition(&mut self, e: Rc<Expr>) -> Result<(), AllocError>
+        requires { self.now.preconditions + 1 < 2 ^ 64 }
+        ensures { OnOk result (clauses_of self.new ≡ reading.with_requires (clauses_of self.old) (written_expr e.value)) }
+    {
+        self.clauses.push(Clause::Requires(e))?;
+        self.preconditions += 1;
+        Ok(())
+    }
+
+    fn add_postcondition(&mut self, e: Rc<Expr>) -> Result<(), AllocError>
+        requires { self.now.postconditions + 1 < 2 ^ 64 }
+        ensures { OnOk result (clauses_of self.new ≡ reading.with_ensures (clauses_of self.old) (written_expr e.value)) }
+    {
+        self.clauses.push(Clause::Ensures(e))?;
+        self.postconditions += 1;
+        Ok(())
+    }
+
+    fn add_measure(&mut self, e: Rc<Expr>) -> Result<(), AllocError>
+        ensures { OnOk result (clauses_of self.new ≡ reading.with_measure (clauses_of self.old) (written_expr e.value)) }
+    {
+        self.clauses.push(Clause::Decreases(e))?;
+        self.is_measured = true;
+        Ok(())
     }
 }
 
+// The clauses of a contract, where a measure may come, or none may.
 #[tactic(auto, unfolding(vx_grammar::specs::MemberReading::clauses_at))]
 fn contract<'t>(alloc: Global, may: bool, tokens: &'t [Token<'t>]) -> Read<'t, Clauses>
     ensures { Gives (λ x. (clauses_of x.0, tokens_in x.1.now)) result (reading.clauses_at reading.limit may (tokens_in tokens.now)) }
 {
-    let mut preconditions = Vec::new(alloc);
-    let mut postconditions = Vec::new(alloc);
-    let mut measure = None;
+    let mut clauses = Clauses::new(alloc);
     let mut rest = tokens;
     for _ in 0..tokens.len() {
         let Some((first, inner)) = rest.split_first() else {
-            return Ok((
-                Clauses {
-                    preconditions,
-                    postconditions,
-                    measure,
-                },
-                rest,
-            ));
+            return Ok((clauses, rest));
         };
         if begins_requires(first.kind) {
-            let (e, after) = clause(alloc, LIMIT, preconditions.len(), rest, inner)?;
-            preconditions.push(e)?;
+            let (e, after) = clause(alloc, LIMIT, clauses.preconditions, rest, inner)?;
+            clauses.add_precondition(e)?;
             rest = skip_semicolon(after);
         } else if begins_ensures(first.kind) {
-            let (e, after) = clause(alloc, LIMIT, postconditions.len(), rest, inner)?;
-            postconditions.push(e)?;
+            let (e, after) = clause(alloc, LIMIT, clauses.postconditions, rest, inner)?;
+            clauses.add_postcondition(e)?;
             rest = skip_semicolon(after);
-        } else if begins_measure(is_due(may, &measure), first.kind) {
+        } else if clauses.is_due(may, first.kind) {
             let (e, after) = clause(alloc, LIMIT, 0, rest, inner)?;
-            measure = Some(e);
+            clauses.add_measure(e)?;
             rest = skip_semicolon(after);
         } else {
-            return Ok((
-                Clauses {
-                    preconditions,
-                    postconditions,
-                    measure,
-                },
-                rest,
-            ));
+            return Ok((clauses, rest));
         }
     }
-    Ok((
-        Clauses {
-            preconditions,
-            postconditions,
-            measure,
-        },
-        rest,
-    ))
+    Ok((clauses, rest))
 }
 
 /// What stands behind a token that begins a member.
@@ -329,7 +341,7 @@ fn no_body<'t>(tokens: &'t [Token<'t>]) -> MemberStop<'t>
     ensures { (total : HaltedAnswer) → total ≡ Err (reading.no_body_at (tokens_in tokens.now)) → MemberStops result total }
 {
     match tokens.split_first() {
-        Some((first, _)) if begins_measure(true, first.kind) => MemberStop::MeasuredTwice(tokens),
+        Some((first, _)) if is_measure(first.kind) => MemberStop::MeasuredTwice(tokens),
         _ => MemberStop::Bodiless(tokens),
     }
 }
@@ -355,16 +367,14 @@ fn function_made(place: Place, head: Head, body: Rc<Expr>) -> Member
     let function = Function {
         parameters,
         value_type,
-        preconditions: clauses.preconditions,
-        postconditions: clauses.postconditions,
-        measure: clauses.measure,
+        clauses: clauses.clauses,
         body,
     };
     let kind = MemberKind::Function(function);
     Member { place, name, kind }
 }
 
-// The body of a method, or none.
+// The body of a method, or none. No measure may stand there.
 #[tactic(auto, unfolding(vx_grammar::specs::MemberReading::body_at, vx_grammar::specs::MemberReading::some_block))]
 fn body<'t>(alloc: Global, tokens: &'t [Token<'t>]) -> Read<'t, Option<Rc<Block>>>
     ensures { Gives (λ x. (optional_block x.0, tokens_in x.1.now)) result (reading.body_at reading.limit (tokens_in tokens.now)) }
@@ -372,6 +382,9 @@ fn body<'t>(alloc: Global, tokens: &'t [Token<'t>]) -> Read<'t, Option<Rc<Block>
     if begins_braces(tokens) {
         let (body, rest) = block(alloc, LIMIT, tokens)?;
         return Ok((Some(Rc::new(alloc, body)?), rest));
+    }
+    if begins_measure(tokens) {
+        return Err(Stop::Measured(tokens));
     }
     Ok((None, tokens))
 }
@@ -399,16 +412,10 @@ fn made(
 ) -> Member
     ensures { written_member result ≡ reading.method_of place (name_of name) (declarations_of parameters.items) (declarations_of returns.items) (clauses_of clauses) (optional_block body) }
 {
-    let Clauses {
-        preconditions,
-        postconditions,
-        measure: _,
-    } = clauses;
     let method = Method {
         parameters,
         returns,
-        preconditions,
-        postconditions,
+        clauses: clauses.clauses,
         body,
     };
     let kind = MemberKind::Method(method);

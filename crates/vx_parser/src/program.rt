@@ -160,6 +160,10 @@ fn member_fault(alloc: Global, stop: MemberStop, ending: Ending) -> TextFault
             Some(token) => unfit(alloc, token, is_foreign(token.kind)),
             None => early(ending),
         },
+        MemberStop::Stopped(Stop::Measured(rest)) => match rest.first() {
+            Some(token) => unfit(alloc, token, true),
+            None => early(ending),
+        },
         MemberStop::Stopped(Stop::TooDeep(rest)) => match rest.first() {
             Some(token) => TextFault::TooDeep(token.place),
             None => early(ending),
@@ -242,5 +246,5 @@ fn is_foreign_symbol(symbol: Symbol) -> bool
 fn is_foreign_word(word: Word) -> bool
     ensures { result ≡ answers.is_foreign_word word }
 {
-    matches!(word, Word::Decreases | Word::Foreign)
+    matches!(word, Word::Foreign)
 }

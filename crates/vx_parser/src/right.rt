@@ -12,7 +12,7 @@ use crate::name::{more_names, name};
 use crate::stop::Stop;
 use std::alloc::{AllocError, Global};
 use std::rc::Rc;
-use vx_ast::{Expr, Name, Right};
+use vx_ast::{Expr, Name, Place, Right};
 use vx_tokens::{Kind, Symbol, Token, Word};
 
 fn begins_new(kind: Kind) -> bool
@@ -29,7 +29,9 @@ pub fn right<'t>(alloc: Global, room: u32, tokens: &'t [Token<'t>]) -> Read<'t, 
 {
     match tokens.split_first() {
         None => Err(Stop::Unexpected(tokens)),
-        Some((first, inner)) if begins_new(first.kind) => enclosed_allocation(alloc, room, inner),
+        Some((first, inner)) if begins_new(first.kind) => {
+            enclosed_allocation(alloc, room, first.place, inner)
+        }
         Some(_) => {
             let (e, rest) = choice(alloc, room, tokens)?;
             Ok((value(alloc, e)?, rest))
@@ -43,14 +45,19 @@ fn value(alloc: Global, e: Expr) -> Result<Right, AllocError>
     Ok(Right::Value(Rc::new(alloc, e)?))
 }
 
-// The fields of `new`, between parentheses.
+// The fields of a `new` that stands there, between parentheses.
 #[tactic(auto, unfolding(vx_grammar::specs::Reading::enclosed))]
-fn enclosed_allocation<'t>(alloc: Global, room: u32, tokens: &'t [Token<'t>]) -> Read<'t, Right>
+fn enclosed_allocation<'t>(
+    alloc: Global,
+    room: u32,
+    place: Place,
+    tokens: &'t [Token<'t>],
+) -> Read<'t, Right>
     requires { room < 1000 }
-    ensures { Gives (λ x. (written_right x.0, tokens_in x.1.now)) result (part.enclosed (part.below room) part.allocation (tokens_in tokens.now)) }
+    ensures { Gives (λ x. (written_right x.0, tokens_in x.1.now)) result (part.enclosed (part.below room) (part.allocation place) (tokens_in tokens.now)) }
 {
     let (_, inner) = expect(Symbol::Open, tokens)?;
-    let (right, rest) = nested_allocation(alloc, room, tokens, inner)?;
+    let (right, rest) = nested_allocation(alloc, room, place, tokens, inner)?;
     let (_, rest) = expect(Symbol::Close, rest)?;
     Ok((right, rest))
 }
@@ -58,46 +65,47 @@ fn enclosed_allocation<'t>(alloc: Global, room: u32, tokens: &'t [Token<'t>]) ->
 fn nested_allocation<'t>(
     alloc: Global,
     room: u32,
+    place: Place,
     here: &'t [Token<'t>],
     tokens: &'t [Token<'t>],
 ) -> Read<'t, Right>
     requires { room < 1000 }
-    ensures { Gives (λ x. (written_right x.0, tokens_in x.1.now)) result (part.below room part.allocation (tokens_in here.now) (tokens_in tokens.now)) }
+    ensures { Gives (λ x. (written_right x.0, tokens_in x.1.now)) result (part.below room (part.allocation place) (tokens_in here.now) (tokens_in tokens.now)) }
 {
     match room.checked_sub(1) {
-        Some(_) => allocation(alloc, tokens),
+        Some(_) => allocation(alloc, place, tokens),
         None => Err(Stop::TooDeep(here)),
     }
 }
 
 #[tactic(auto, unfolding(vx_grammar::specs::Reading::allocation_at))]
-fn allocation<'t>(alloc: Global, tokens: &'t [Token<'t>]) -> Read<'t, Right>
-    ensures { Gives (λ x. (written_right x.0, tokens_in x.1.now)) result (part.allocation_at (tokens_in tokens.now)) }
+fn allocation<'t>(alloc: Global, place: Place, tokens: &'t [Token<'t>]) -> Read<'t, Right>
+    ensures { Gives (λ x. (written_right x.0, tokens_in x.1.now)) result (part.allocation_at place (tokens_in tokens.now)) }
 {
     let Some((first, inner)) = tokens.split_first() else {
         return Err(Stop::Unexpected(tokens));
     };
     match first.kind {
-        Kind::Symbol(Symbol::Times) => Ok((Right::NewAll, inner)),
-        Kind::Symbol(Symbol::Close) => Ok((new(Vec::new(alloc)), tokens)),
-        _ => fields(alloc, tokens),
+        Kind::Symbol(Symbol::Times) => Ok((Right::NewAll(place), inner)),
+        Kind::Symbol(Symbol::Close) => Ok((new(place, Vec::new(alloc)), tokens)),
+        _ => fields(alloc, place, tokens),
     }
 }
 
-fn new(fields: Vec<Name>) -> Right
-    ensures { written_right result ≡ New (map name_of fields.items) }
+fn new(place: Place, fields: Vec<Name>) -> Right
+    ensures { written_right result ≡ New place (map name_of fields.items) }
 {
-    Right::New(fields)
+    Right::New(place, fields)
 }
 
 // One field at least.
 #[tactic(auto, unfolding(vx_grammar::specs::Reading::fields_at))]
-fn fields<'t>(alloc: Global, tokens: &'t [Token<'t>]) -> Read<'t, Right>
-    ensures { Gives (λ x. (written_right x.0, tokens_in x.1.now)) result (part.fields_at (tokens_in tokens.now)) }
+fn fields<'t>(alloc: Global, place: Place, tokens: &'t [Token<'t>]) -> Read<'t, Right>
+    ensures { Gives (λ x. (written_right x.0, tokens_in x.1.now)) result (part.fields_at place (tokens_in tokens.now)) }
 {
     let (first, rest) = name(alloc, tokens)?;
     let (fields, rest) = more_names(alloc, one(alloc, first)?, rest)?;
-    Ok((new(fields), rest))
+    Ok((new(place, fields), rest))
 }
 
 /// A list of one name.

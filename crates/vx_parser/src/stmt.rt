@@ -1,6 +1,6 @@
 //! Reading statements.
 
-ghost use Rattle.std.specs.Prelude.{◌≡◌, ◌<◌, IfOk, Some, None, map, string_bytes, length, []};
+ghost use Rattle.std.specs.Prelude.{◌≡◌, ◌<◌, IfOk, Some, None, map, length, []};
 ghost use Rattle.vx_ast.specs.Written.{name_of, written_all, written_expr, written_declaration, written_right, Declare, Invoke, If, Then, Done, While};
 ghost use Rattle.vx_tokens.specs.Tokens.{kind_of, token_of, tokens_in};
 ghost use Rattle.vx_grammar.specs.Reading.{below};
@@ -10,7 +10,7 @@ ghost use Rattle.vx_grammar.specs.Statements.{claim_meant, folding_meant};
 ghost use Rattle.vx_parser.specs.StmtPart.{stmt_part_of, claim_of, folding_of};
 ghost use Rattle.vx_grammar.specs.StmtReading.{block_from};
 ghost use Rattle.vx_grammar.specs.Reading.{run};
-ghost use Rattle.vx_parser.specs.Views.{stmt_of, block_of, exprs_of, instance_of};
+ghost use Rattle.vx_parser.specs.Views.{stmt_of, other_of, block_of, exprs_of, instance_of};
 
 use crate::expr::{
     Read, choice, enclosed_arguments, expect, grouped, instance, is_symbol, postfix,
@@ -89,30 +89,27 @@ pub fn block<'t>(alloc: Global, room: u32, tokens: &'t [Token<'t>]) -> Read<'t, 
     Ok((statements, rest))
 }
 
-// The other side of an `if`: none is the empty block.
+// The other side of an `if`, or none.
 #[cycle(stmt)]
 #[tactic(auto, unfolding(vx_grammar::specs::StmtReading::otherwise_at))]
-fn otherwise<'t>(alloc: Global, room: u32, tokens: &'t [Token<'t>]) -> Read<'t, Block>
+fn otherwise<'t>(alloc: Global, room: u32, tokens: &'t [Token<'t>]) -> Read<'t, Option<Rc<Block>>>
     requires { room < 1000 }
-    ensures { Gives (λ x. (block_of x.0, tokens_in x.1.now)) result (reading.otherwise_at (reading.stmts_below room) (tokens_in tokens.now)) }
+    ensures { Gives (λ x. (other_of x.0, tokens_in x.1.now)) result (reading.otherwise_at (reading.stmts_below room) (tokens_in tokens.now)) }
 {
     let Some((first, inner)) = tokens.split_first() else {
-        return Ok((empty(alloc), tokens));
+        return Ok((None, tokens));
     };
     match first.kind {
-        Kind::Word(Word::Else) => block(alloc, room, inner),
-        Kind::Word(Word::Elseif) => {
-            nested_statements(alloc, room, StmtPart::Elseif(first.place), tokens, inner)
+        Kind::Word(Word::Else) => {
+            let (other, rest) = block(alloc, room, inner)?;
+            Ok((Some(Rc::new(alloc, other)?), rest))
         }
-        _ => Ok((empty(alloc), tokens)),
-    }
-}
-
-fn empty(alloc: Global) -> Block
-    ensures { block_of result ≡ Done }
-{
-    Block {
-        statements: Vec::new(alloc),
+        Kind::Word(Word::Elseif) => {
+            let part = StmtPart::Elseif(first.place);
+            let (other, rest) = nested_statements(alloc, room, part, tokens, inner)?;
+            Ok((Some(Rc::new(alloc, other)?), rest))
+        }
+        _ => Ok((None, tokens)),
     }
 }
 
@@ -148,13 +145,12 @@ fn branched(
     place: Place,
     condition: Expr,
     then: Block,
-    otherwise: Block,
+    otherwise: Option<Rc<Block>>,
 ) -> Result<Stmt, AllocError>
-    ensures { IfOk result (λ stmt. stmt_of stmt ≡ If place (written_expr condition) (block_of then) (block_of otherwise)) }
+    ensures { IfOk result (λ stmt. stmt_of stmt ≡ If place (written_expr condition) (block_of then) (other_of otherwise)) }
 {
     let condition = Rc::new(alloc, condition)?;
-    let then = Rc::new(alloc, then)?;
-    let kind = StmtKind::If(condition, then, Rc::new(alloc, otherwise)?);
+    let kind = StmtKind::If(condition, Rc::new(alloc, then)?, otherwise);
     Ok(Stmt { place, kind })
 }
 
@@ -201,11 +197,14 @@ fn by_target<'t>(
     requires { room < 1000 }
     ensures { Gives (λ x. (stmt_of x.0, tokens_in x.1.now)) result (reading.by_target room place (written_expr target) (tokens_in tokens.now)) }
 {
-    let Expr { place: _, kind } = target;
+    let Expr { place: at, kind } = target;
     match kind {
-        ExprKind::Variable(text) => assign(alloc, room, place, text, tokens),
+        ExprKind::Variable(text) => {
+            let target = Name { text, place: at };
+            assign(alloc, room, place, target, tokens)
+        }
         ExprKind::Call(text, arguments) => {
-            let method = Name { text, place };
+            let method = Name { text, place: at };
             Ok((invoked(place, Vec::new(alloc), method, arguments), tokens))
         }
         ExprKind::Read(e, field) => store(alloc, room, place, e, field, tokens),
@@ -245,14 +244,13 @@ fn assign<'t>(
     alloc: Global,
     room: u32,
     place: Place,
-    text: String,
+    target: Name,
     tokens: &'t [Token<'t>],
 ) -> Read<'t, Stmt>
     requires { room < 1000 }
-    ensures { Gives (λ x. (stmt_of x.0, tokens_in x.1.now)) result (reading.assign_at room place (string_bytes text) (tokens_in tokens.now)) }
+    ensures { Gives (λ x. (stmt_of x.0, tokens_in x.1.now)) result (reading.assign_at room place (name_of target) (tokens_in tokens.now)) }
 {
-    let targets = one(alloc, Name { text, place })?;
-    let (targets, rest) = more_names(alloc, targets, tokens)?;
+    let (targets, rest) = more_names(alloc, one(alloc, target)?, tokens)?;
     let (_, rest) = expect(Symbol::Becomes, rest)?;
     assigned_by(alloc, room, place, targets, rest)
 }
@@ -335,6 +333,12 @@ fn begins_invariant(kind: Kind) -> bool
     matches!(kind, Kind::Word(Word::Invariant))
 }
 
+pub fn is_measure(kind: Kind) -> bool
+    ensures { result ≡ reading.is_measure (kind_of kind.entry) }
+{
+    matches!(kind, Kind::Word(Word::Decreases))
+}
+
 // The invariants of a loop.
 fn invariants<'t>(alloc: Global, room: u32, tokens: &'t [Token<'t>]) -> Read<'t, Vec<Rc<Expr>>>
     requires { room < 1000 }
@@ -363,6 +367,29 @@ fn kept<'t>(alloc: Global, room: u32, tokens: &'t [Token<'t>]) -> Read<'t, Vec<R
     Ok((invariants, rest))
 }
 
+/// A measure begins.
+pub fn begins_measure(tokens: &[Token]) -> bool
+    ensures { result ≡ reading.begins_decreases (tokens_in tokens.now) }
+{
+    match tokens.split_first() {
+        Some((first, _)) => is_measure(first.kind),
+        None => false,
+    }
+}
+
+// The block of a loop, where no measure may stand.
+#[cycle(stmt)]
+#[tactic(auto, unfolding(vx_grammar::specs::StmtReading::loop_block_at))]
+fn loop_block<'t>(alloc: Global, room: u32, tokens: &'t [Token<'t>]) -> Read<'t, Block>
+    requires { room < 1000 }
+    ensures { Gives (λ x. (block_of x.0, tokens_in x.1.now)) result (reading.loop_block_at (reading.stmts_below room) (tokens_in tokens.now)) }
+{
+    if begins_measure(tokens) {
+        return Err(Stop::Measured(tokens));
+    }
+    block(alloc, room, tokens)
+}
+
 // What stands behind `while`.
 #[cycle(stmt)]
 #[tactic(auto, unfolding(vx_grammar::specs::StmtReading::while_at))]
@@ -372,7 +399,7 @@ fn repetition<'t>(alloc: Global, room: u32, place: Place, tokens: &'t [Token<'t>
 {
     let (e, rest) = grouped(alloc, room, tokens)?;
     let (invariants, rest) = invariants(alloc, room, rest)?;
-    let (body, rest) = block(alloc, room, rest)?;
+    let (body, rest) = loop_block(alloc, room, rest)?;
     Ok((repeated(alloc, place, e, invariants, body)?, rest))
 }
 

@@ -8,10 +8,12 @@ use std::alloc::{AllocError, AllocFailed};
 use vx_tokens::Token;
 
 /// Why reading stops. The tokens begin with the one that does not fit, or nests too deep; none are left at the end.
+/// What does not fit may be a measure, where a clause or the block of a method or a loop is due.
 #[derive(Debug, Drop)]
 pub enum Stop<'t> {
     Memory,
     Unexpected(&'t [Token<'t>]),
+    Measured(&'t [Token<'t>]),
     TooDeep(&'t [Token<'t>]),
 }
 

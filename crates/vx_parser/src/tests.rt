@@ -192,6 +192,49 @@ const LAST_ROWS: [(&str, &str); 28] = [
     ("method m()\r\n\t{ assert ; }", "2:11 E03 Unexpected ;"),
 ];
 
+// A measure is left out where a clause or the block of a method or a loop is due. Else it fits in functions alone.
+const MEASURES: [(&str, &str); 12] = [
+    (
+        "method m() requires a; decreases 1 { }",
+        "1:24 E09 Unsupported decreases",
+    ),
+    (
+        "method m() decreases 1 field f: Int",
+        "1:12 E09 Unsupported decreases",
+    ),
+    (
+        "method m() { while (true) decreases 1 { } }",
+        "1:27 E09 Unsupported decreases",
+    ),
+    (
+        "method m() { while (true) invariant a decreases 1 { } }",
+        "1:39 E09 Unsupported decreases",
+    ),
+    ("decreases 1", "1:1 E03 Unexpected decreases"),
+    (
+        "method m() { } decreases 1",
+        "1:16 E03 Unexpected decreases",
+    ),
+    (
+        "method m() { decreases 1 }",
+        "1:14 E03 Unexpected decreases",
+    ),
+    (
+        "method m() { assert decreases }",
+        "1:21 E03 Unexpected decreases",
+    ),
+    ("method decreases() { }", "1:8 E03 Unexpected decreases"),
+    (
+        "function f() decreases 1 { 1 }",
+        "1:14 E03 Unexpected decreases",
+    ),
+    ("predicate P() decreases 1", "1:15 E03 Unexpected decreases"),
+    (
+        "function f(): Int decreases x ensures y requires z { 3 }",
+        "ok",
+    ),
+];
+
 fn all_hold(rt: &impl Abort, alloc: Global, rows: &[(&str, &str)]) -> Result<(), Fail> {
     for (text, want) in rows {
         let got = answer(alloc, text.as_bytes())?;
@@ -213,6 +256,11 @@ fn further_rows(rt: HostRuntime) -> Result<(), Fail> {
 #[test]
 fn last_rows(rt: HostRuntime) -> Result<(), Fail> {
     all_hold(&rt, rt.alloc(), &LAST_ROWS)
+}
+
+#[test]
+fn measures(rt: HostRuntime) -> Result<(), Fail> {
+    all_hold(&rt, rt.alloc(), &MEASURES)
 }
 
 const BEYOND: [(&str, &str); 10] = [

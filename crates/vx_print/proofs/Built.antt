@@ -13,7 +13,7 @@ use Rattle.vx_tokens.specs.Text.{one_token}
 use Rattle.vx_grammar.specs.Grammar.{null_word, write_word, none_word, result_word, Phrase, literal, constant, numeral, named, called, dotted, grouped, past, accessed, prefixed, joined, chosen, unfolded, ends_open, InstancePhrase, alone, held, instance_meant, InstanceStands, instance_marks, ArgumentsPhrase, no_arguments, arguments_from, FurtherPhrase, nothing_further, further, AmountPhrase, no_amount, amount, Mark, mark, marks, arguments_marks, further_marks, tokens_of, meant, arguments_meant, further_meant, amount_meant, IsPrimary, StandsAt, ArgumentsStand, FurtherStand, level_of, left_level, right_level, sign_of, prefix_sign, operators, dots}
 use Rattle.vx_grammar.proofs.Lists.{tokens-append, stands_looser}
 use Rattle.vx_print.specs.Canonical.{parenthesized, parenthesized_if, is_prefixed, applied, instance, instance_tokens, expr_tokens, exprs_tokens, further_tokens}
-use Rattle.vx_print.specs.Same.{nowhere, bare, bare_exprs, bare_amount}
+use Rattle.vx_print.specs.Same.{nowhere, bare_name, bare, bare_exprs, bare_amount}
 
 -- tokens of these kinds, the places by number
 abbrev pub placed : (ℕ → Place) → ℕ → List Kind → List Token
@@ -190,7 +190,7 @@ built_primary false f i w ks e build =
     let same : is_prefixed (meant b.phrase) ≡ false = sym (prefixed_bare (meant b.phrase)) ∙ ap is_prefixed b.means ∙ prefixed_bare (meant w) ∙ e in
     record { phrase = b.phrase; stands = b.stands; primary = is_primary b.phrase b.stands same (b.closed refl); means = b.means; tokens = λ n. b.tokens n ∙ ap (placed f i) (sym (append-nil ks)) }
 
-built_dotted : (f : ℕ → Place) (i level : ℕ) (last : Bool) (ks : List Kind) (e : Expr) (x : Name) → BuiltPrimary f i ks e → Built f i level last (ks ++ symbol signs.Dot ∷ name x ∷ []) (Read nowhere e x)
+built_dotted : (f : ℕ → Place) (i level : ℕ) (last : Bool) (ks : List Kind) (e : Expr) (x : Name) → BuiltPrimary f i ks e → Built f i level last (ks ++ symbol signs.Dot ∷ name x ∷ []) (Read nowhere e (bare_name x))
 built_dotted f i level last ks e x b =
     let p = f (i + length ks) in
     let q = f (i + length ks + 1) in
@@ -198,7 +198,7 @@ built_dotted f i level last ks e x b =
       phrase = dotted b.phrase p q x;
       stands = (b.primary, b.stands);
       closed = λ y. refl;
-      means = ap (λ y. Read nowhere y x) b.means;
+      means = ap (λ y. Read nowhere y (bare_name x)) b.means;
       tokens = λ n.
           let deep = n + dots b.phrase + 1 in
           two f i (marks n b.phrase) (mark deep p (symbol signs.Dot) ∷ mark deep q (name x) ∷ []) ks (symbol signs.Dot ∷ name x ∷ []) (b.tokens n) refl;
@@ -233,7 +233,7 @@ built_applied f i level last x ks es b = record {
 pub record BuiltInstance (f : ℕ → Place) (i : ℕ) (ks : List Kind) (x : Name) (es : Exprs) (a : Amount) : Type 0 where
   pub phrase : InstancePhrase
   pub stands : InstanceStands phrase
-  pub name_is : (instance_meant phrase).predicate ≡ x
+  pub name_is : (instance_meant phrase).predicate.name ≡ x
   pub arguments_are : bare_exprs (instance_meant phrase).arguments ≡ es
   pub amount_is : bare_amount (instance_meant phrase).amount ≡ a
   pub tokens : (n : ℕ) → tokens_of (instance_marks n phrase) ≡ placed f i ks
@@ -276,9 +276,9 @@ either_way false e = cc
 
 -- unfolding an instance in an expression
 built_unfolded : (f : ℕ → Place) (i level : ℕ) (last : Bool) (ki ke : List Kind) (x : Name) (es : Exprs) (a : Amount) (e : Expr) → ((j : ℕ) → BuiltInstance f j ki x es a) → ((j : ℕ) → Built f j 8 true ke e)
-    → Built f i level last (parenthesized_if (not last) (word words.Unfolding ∷ (ki ++ word words.In ∷ ke))) (Unfolding nowhere x es a e)
+    → Built f i level last (parenthesized_if (not last) (word words.Unfolding ∷ (ki ++ word words.In ∷ ke))) (Unfolding nowhere (bare_name x) es a e)
 built_unfolded f i level last ki ke x es a e instance body =
-    built_if (not last) f i level 0 last (word words.Unfolding ∷ (ki ++ word words.In ∷ ke)) (Unfolding nowhere x es a e) (omega arith) (λ y. omega arith)
+    built_if (not last) f i level 0 last (word words.Unfolding ∷ (ki ++ word words.In ∷ ke)) (Unfolding nowhere (bare_name x) es a e) (omega arith) (λ y. omega arith)
     (λ j.
     let b = instance (j + 1) in
     let q = j + 1 + length ki in
@@ -393,9 +393,9 @@ mutual
       let kb = expr_tokens 8 (inside || last) (meant b) in
       built_if inside f i level 8 last (kc ++ symbol signs.Question ∷ (ka ++ symbol signs.Colon ∷ kb)) (Choice nowhere (bare (meant c)) (bare (meant a)) (bare (meant b))) (omega arith) (λ e. ltb-false level 8 e)
       (λ j. built_chosen f j (inside || last) kc ka kb (bare (meant c)) (bare (meant a)) (bare (meant b)) (built f j 7 false c) (built f (j + length kc + 1) 8 true a) (built f (j + length kc + 1 + length ka + 1) 8 (inside || last) b))
-  built f i level last (unfolded p w q e) = built_unfolded f i level last (instance_tokens (instance_meant w).predicate (instance_meant w).arguments (instance_meant w).amount) (expr_tokens 8 true (meant e)) (instance_meant w).predicate (bare_exprs (instance_meant w).arguments) (bare_amount (instance_meant w).amount) (bare (meant e)) (λ j. built_instance f j w) (λ j. built f j 8 true e)
+  built f i level last (unfolded p w q e) = built_unfolded f i level last (instance_tokens (instance_meant w).predicate.name (instance_meant w).arguments (instance_meant w).amount) (expr_tokens 8 true (meant e)) (instance_meant w).predicate.name (bare_exprs (instance_meant w).arguments) (bare_amount (instance_meant w).amount) (bare (meant e)) (λ j. built_instance f j w) (λ j. built f j 8 true e)
 
-  pub built_instance : (f : ℕ → Place) (i : ℕ) (w : InstancePhrase) → BuiltInstance f i (instance_tokens (instance_meant w).predicate (instance_meant w).arguments (instance_meant w).amount) (instance_meant w).predicate (bare_exprs (instance_meant w).arguments) (bare_amount (instance_meant w).amount)
+  pub built_instance : (f : ℕ → Place) (i : ℕ) (w : InstancePhrase) → BuiltInstance f i (instance_tokens (instance_meant w).predicate.name (instance_meant w).arguments (instance_meant w).amount) (instance_meant w).predicate.name (bare_exprs (instance_meant w).arguments) (bare_amount (instance_meant w).amount)
   built_instance f i (alone p x o es c) =
       let ks = exprs_tokens (arguments_meant es) in
       let bs = bare_exprs (arguments_meant es) in

@@ -31,7 +31,7 @@ text_reads : (ms : Program) → Fine (program_tokens ms) → (p : Place) → Rea
 text_reads [] h p = reads_none p
 text_reads (m ∷ ms) h p =
     let first = word (member_word m.kind) in
-    let rest = member_rest m.name m.kind in
+    let rest = member_rest m.name.name m.kind in
     let both = fine_first (first ∷ rest) (program_tokens ms) h in
     let e : (behind (token_text first) rest ++ 10 ∷ []) ++ canonical_text ms ≡ behind (token_text first) rest ++ 10 ∷ canonical_text ms = append_assoc (behind (token_text first) rest) (10 ∷ []) (canonical_text ms) in
     subst (λ l. Reads l (first ∷ (rest ++ program_tokens ms)) p) (sym e) (reads_line first rest (program_tokens ms) (canonical_text ms) p both.0.0 both.0.1 (λ q. text_reads ms both.1 q))
@@ -50,7 +50,7 @@ no_mark_by (IsMethod m) ks rest = unmarked_line 109 101 116 (codes "hod") ks res
 
 no_mark : (ms : Program) → unmarked (canonical_text ms) ≡ canonical_text ms
 no_mark [] = refl
-no_mark (m ∷ ms) = no_mark_by m.kind (member_rest m.name m.kind) (canonical_text ms)
+no_mark (m ∷ ms) = no_mark_by m.kind (member_rest m.name.name m.kind) (canonical_text ms)
 
 -- ---- places by number
 

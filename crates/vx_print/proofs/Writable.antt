@@ -119,12 +119,12 @@ mutual
       (tt, fine_append ka (symbol signs.Colon ∷ kb) (fine (n + 1) 8 true a (fine_front (marks (n + 1) a) colon behind_c.1)) (tt, fine (n + 1) 8 (inside || last) b behind_a.1)))
   fine n level last (unfolded p w q e) h =
       let more = mark (n + 1) q (word words.In) ∷ marks (n + 1) e in
-      let ki = instance_tokens (instance_meant w).predicate (instance_meant w).arguments (instance_meant w).amount in
+      let ki = instance_tokens (instance_meant w).predicate.name (instance_meant w).arguments (instance_meant w).amount in
       let ke = expr_tokens 8 true (meant e) in
       let end = fine_back (instance_marks n w) more h.1 in
       fine_if (not last) (word words.Unfolding ∷ (ki ++ word words.In ∷ ke)) (tt, fine_append ki (word words.In ∷ ke) (fine_instance n w (fine_front (instance_marks n w) more h.1)) (tt, fine (n + 1) 8 true e end.1))
 
-  pub fine_instance : (n : ℕ) (w : InstancePhrase) → FineMarks (instance_marks n w) → Fine (instance_tokens (instance_meant w).predicate (instance_meant w).arguments (instance_meant w).amount)
+  pub fine_instance : (n : ℕ) (w : InstancePhrase) → FineMarks (instance_marks n w) → Fine (instance_tokens (instance_meant w).predicate.name (instance_meant w).arguments (instance_meant w).amount)
   fine_instance n (alone p x o es c) h =
       let ks = exprs_tokens (arguments_meant es) in
       fine_append (applied x ks) [] (h.0, fine_around ks (fine_arguments (n + 1) es (fine_front (arguments_marks (n + 1) es) (mark (n + 1) c (symbol signs.Close) ∷ []) h.1.1))) tt

@@ -2,13 +2,13 @@
 use Rattle.std.proofs.Common.{ℕ, ◌+◌, List, [], ◌∷◌, ◌++◌, true, Option, Some, None}
 use Rattle.vx_ast.specs.declared.Place.{Place}
 use Rattle.vx_ast.specs.Written.{Name, Declaration, Then, Done}
-use Rattle.vx_tokens.specs.declared.token.Word.TheVariants as words
+use Rattle.vx_print.specs.Same.{bare_name}
 use Rattle.vx_tokens.specs.declared.token.Symbol.TheVariants as signs
 use Rattle.vx_tokens.specs.Tokens.{Kind, name, word, symbol}
 use Rattle.vx_grammar.specs.Grammar.{Phrase, called, dotted, Mark, mark, marks, meant, arguments_meant}
 use Rattle.vx_grammar.specs.Statements.{type_word, inhales, exhales, asserts, assumes, NamesPhrase, no_names, next_name, every_field, no_fields, these_fields, RightPhrase, given, allocated, names_meant, right_meant, names_marks, fields_marks, right_marks, semi_marks, InvariantsPhrase, no_invariants, invariant, invariants_meant, invariants_marks, StmtPhrase, assigned, stored, invoked, targeted, declared, initialized, claimed, branched, repeated, folded, folds, unfolds, BranchPhrase, branch, OtherPhrase, no_other, other, another, BlockPhrase, block, RowPhrase, no_more, more, stmt_meant, other_meant, block_meant, row_meant, stmt_marks, branch_marks, other_marks, block_marks, row_marks}
-use Rattle.vx_grammar.specs.Programs.{MoreDeclarations, no_more as no_declarations, listed, DeclarationsPhrase, none, some, ParametersPhrase, ReturnsPhrase, no_returns, returns, more_meant, declarations_meant, returns_meant, more_marks, declarations_marks, parameters_marks, returns_marks, ClausesPhrase, no_clauses, requires, ensures, decreases, requires_meant, ensures_meant, measure_meant, clauses_marks, BracedPhrase, braced_marks, given_meant, given_marks, body_meant, body_marks, MemberPhrase, a_field, a_predicate, a_function, a_method, member_meant, member_marks, ProgramPhrase, no_members, member, program_meant, program_marks}
-use Rattle.vx_print.specs.Canonical.{parenthesized, braced, applied, whole_tokens, read_tokens, exprs_tokens, further_names, right_tokens, clauses_tokens, targets_tokens, stmt_tokens, block_tokens, else_tokens, else_block, further_declarations, declarations_tokens, returns_tokens, measure_tokens, optional_expr_tokens, optional_block_tokens, member_tokens}
+use Rattle.vx_grammar.specs.Programs.{MoreDeclarations, no_more as no_declarations, listed, DeclarationsPhrase, none, some, ParametersPhrase, ReturnsPhrase, no_returns, returns, more_meant, declarations_meant, returns_meant, more_marks, declarations_marks, parameters_marks, returns_marks, ClausesPhrase, no_clauses, requires, ensures, decreases, clauses_meant, clauses_marks, BracedPhrase, braced_marks, given_meant, given_marks, body_meant, body_marks, MemberPhrase, a_field, a_predicate, a_function, a_method, member_meant, member_marks, ProgramPhrase, no_members, member, program_meant, program_marks}
+use Rattle.vx_print.specs.Canonical.{parenthesized, braced, applied, whole_tokens, read_tokens, exprs_tokens, further_names, right_tokens, invariants_tokens, targets_tokens, stmt_tokens, block_tokens, other_tokens, else_tokens, else_block, further_declarations, declarations_tokens, returns_tokens, contract_tokens, optional_expr_tokens, optional_block_tokens, member_tokens}
 use Rattle.vx_print.proofs.Writable.{Fine, FineMarks, fine_append, fine_front, fine_back, fine_around, fine, fine_instance}
 use Rattle.vx_print.proofs.BuiltStmt.{branch_tokens}
 use Rattle.vx_print.proofs.BuiltProgram.{program_tokens}
@@ -34,12 +34,12 @@ fine_right n (allocated p o (these_fields q x rest) c) h =
     let inner = fine_front (fields_marks (n + 1) (these_fields q x rest)) (mark (n + 1) c (symbol signs.Close) ∷ []) h.1.1 in
     (tt, fine_around (name x ∷ further_names (names_meant rest)) (inner.0, fine_names (n + 1) rest inner.1))
 
-fine_invariants : (n k : ℕ) (w : InvariantsPhrase) → FineMarks (invariants_marks n k w) → Fine (clauses_tokens words.Invariant (invariants_meant w))
+fine_invariants : (n k : ℕ) (w : InvariantsPhrase) → FineMarks (invariants_marks n k w) → Fine (invariants_tokens (invariants_meant w))
 fine_invariants n k no_invariants h = tt
 fine_invariants n k (invariant p e semi rest) h =
     let tail = semi_marks n semi ++ invariants_marks n (k + 1) rest in
     let end = fine_back (semi_marks n semi) (invariants_marks n (k + 1) rest) (fine_back (marks (n + k) e) tail h.1) in
-    (tt, fine_append (whole_tokens (meant e)) (clauses_tokens words.Invariant (invariants_meant rest)) (fine (n + k) 8 true e (fine_front (marks (n + k) e) tail h.1)) (fine_invariants n (k + 1) rest end))
+    (tt, fine_append (whole_tokens (meant e)) (invariants_tokens (invariants_meant rest)) (fine (n + k) 8 true e (fine_front (marks (n + k) e) tail h.1)) (fine_invariants n (k + 1) rest end))
 
 fine_read : (n : ℕ) (e : Phrase) (p q : Place) (x : Name) → FineMarks (marks n (dotted e p q x)) → Fine (read_tokens (meant e) x)
 fine_read n e p q x h = fine n 0 true (dotted e p q x) h
@@ -77,7 +77,7 @@ mutual
   fine_stmt n (targeted p x k q y ys r s m o es c) h =
       let tail = mark n r (symbol signs.Becomes) ∷ marks n (called s m o es c) in
       let end = fine_back (names_marks n ys) tail h.1.1.1 in
-      fine_append (targets_tokens (x ∷ y ∷ names_meant ys)) (applied m (exprs_tokens (arguments_meant es)))
+      fine_append (targets_tokens (bare_name x ∷ bare_name y ∷ names_meant ys)) (applied m (exprs_tokens (arguments_meant es)))
       (h.0, (tt, (h.1.1.0, fine_append (further_names (names_meant ys)) (symbol signs.Becomes ∷ []) (fine_names n ys (fine_front (names_marks n ys) tail h.1.1.1)) (tt, tt))))
       (fine_applied n s m o es c end.1)
   fine_stmt n (declared p d) h = (tt, (h.1.0, (tt, (tt, tt))))
@@ -91,19 +91,19 @@ mutual
   fine_stmt n (branched p (branch o e c b x)) h = (tt, fine_branch n (branch o e c b x) h.1)
   fine_stmt n (repeated p o e c is b) h = (
     tt,
-    fine_condition n c e (invariants_marks n 0 is ++ block_marks n b) (clauses_tokens words.Invariant (invariants_meant is) ++ braced (block_tokens (block_meant b))) h.1.1
-        (λ k. fine_append (clauses_tokens words.Invariant (invariants_meant is)) (braced (block_tokens (block_meant b))) (fine_invariants n 0 is (fine_front (invariants_marks n 0 is) (block_marks n b) k)) (fine_block n b (fine_back (invariants_marks n 0 is) (block_marks n b) k))),
+    fine_condition n c e (invariants_marks n 0 is ++ block_marks n b) (invariants_tokens (invariants_meant is) ++ braced (block_tokens (block_meant b))) h.1.1
+        (λ k. fine_append (invariants_tokens (invariants_meant is)) (braced (block_tokens (block_meant b))) (fine_invariants n 0 is (fine_front (invariants_marks n 0 is) (block_marks n b) k)) (fine_block n b (fine_back (invariants_marks n 0 is) (block_marks n b) k))),
   )
 
   fine_branch : (n : ℕ) (b : BranchPhrase) → FineMarks (branch_marks n b) → Fine (branch_tokens b)
   fine_branch n (branch o e c b x) h =
-      fine_condition n c e (block_marks n b ++ other_marks n x) (braced (block_tokens (block_meant b)) ++ else_tokens (other_meant x)) h.1
-      (λ k. fine_append (braced (block_tokens (block_meant b))) (else_tokens (other_meant x)) (fine_block n b (fine_front (block_marks n b) (other_marks n x) k)) (fine_other n x (fine_back (block_marks n b) (other_marks n x) k)))
+      fine_condition n c e (block_marks n b ++ other_marks n x) (braced (block_tokens (block_meant b)) ++ other_tokens (other_meant x)) h.1
+      (λ k. fine_append (braced (block_tokens (block_meant b))) (other_tokens (other_meant x)) (fine_block n b (fine_front (block_marks n b) (other_marks n x) k)) (fine_other n x (fine_back (block_marks n b) (other_marks n x) k)))
 
-  fine_other : (n : ℕ) (x : OtherPhrase) → FineMarks (other_marks n x) → Fine (else_tokens (other_meant x))
+  fine_other : (n : ℕ) (x : OtherPhrase) → FineMarks (other_marks n x) → Fine (other_tokens (other_meant x))
   fine_other n no_other h = tt
   fine_other n (another p (branch o e c b x)) h = (tt, fine_branch (n + 1) (branch o e c b x) h.1)
-  fine_other n (other p (block o no_more c)) h = tt
+  fine_other n (other p (block o no_more c)) h = (tt, (tt, (tt, tt)))
   fine_other n (other p (block o (more s semi no_more) c)) h =
       let row = fine_front (row_marks (n + 1) (more s semi no_more)) (mark (n + 1) c (symbol signs.CloseBrace) ∷ []) h.1.1 in
       fine_alone s (fine_stmt (n + 1) s (fine_front (stmt_marks (n + 1) s) (semi_marks (n + 1) semi ++ []) row))
@@ -147,27 +147,17 @@ fine_returns : (n : ℕ) (w : ReturnsPhrase) → FineMarks (returns_marks n w) �
 fine_returns n no_returns h = tt
 fine_returns n (returns p w) h = fine_some_returns (declarations_meant w.inner) (fine_parameters n w h.1)
 
-fine_requires : (r k : ℕ) (w : ClausesPhrase) → FineMarks (clauses_marks r k w) → Fine (clauses_tokens words.Requires (requires_meant w))
-fine_requires r k no_clauses h = tt
-fine_requires r k (requires p e semi rest) h =
+fine_clauses : (r k : ℕ) (w : ClausesPhrase) → FineMarks (clauses_marks r k w) → Fine (contract_tokens (clauses_meant w))
+fine_clauses r k no_clauses h = tt
+fine_clauses r k (requires p e semi rest) h =
     let tail = semi_marks 0 semi ++ clauses_marks (r + 1) k rest in
-    (tt, fine_append (whole_tokens (meant e)) (clauses_tokens words.Requires (requires_meant rest)) (fine r 8 true e (fine_front (marks r e) tail h.1)) (fine_requires (r + 1) k rest (fine_back (semi_marks 0 semi) (clauses_marks (r + 1) k rest) (fine_back (marks r e) tail h.1))))
-fine_requires r k (ensures p e semi rest) h = fine_requires r (k + 1) rest (fine_back (semi_marks 0 semi) (clauses_marks r (k + 1) rest) (fine_back (marks k e) (semi_marks 0 semi ++ clauses_marks r (k + 1) rest) h.1))
-fine_requires r k (decreases p e semi rest) h = fine_requires r k rest (fine_back (semi_marks 0 semi) (clauses_marks r k rest) (fine_back (marks 0 e) (semi_marks 0 semi ++ clauses_marks r k rest) h.1))
-
-fine_ensures : (r k : ℕ) (w : ClausesPhrase) → FineMarks (clauses_marks r k w) → Fine (clauses_tokens words.Ensures (ensures_meant w))
-fine_ensures r k no_clauses h = tt
-fine_ensures r k (ensures p e semi rest) h =
+    (tt, fine_append (whole_tokens (meant e)) (contract_tokens (clauses_meant rest)) (fine r 8 true e (fine_front (marks r e) tail h.1)) (fine_clauses (r + 1) k rest (fine_back (semi_marks 0 semi) (clauses_marks (r + 1) k rest) (fine_back (marks r e) tail h.1))))
+fine_clauses r k (ensures p e semi rest) h =
     let tail = semi_marks 0 semi ++ clauses_marks r (k + 1) rest in
-    (tt, fine_append (whole_tokens (meant e)) (clauses_tokens words.Ensures (ensures_meant rest)) (fine k 8 true e (fine_front (marks k e) tail h.1)) (fine_ensures r (k + 1) rest (fine_back (semi_marks 0 semi) (clauses_marks r (k + 1) rest) (fine_back (marks k e) tail h.1))))
-fine_ensures r k (requires p e semi rest) h = fine_ensures (r + 1) k rest (fine_back (semi_marks 0 semi) (clauses_marks (r + 1) k rest) (fine_back (marks r e) (semi_marks 0 semi ++ clauses_marks (r + 1) k rest) h.1))
-fine_ensures r k (decreases p e semi rest) h = fine_ensures r k rest (fine_back (semi_marks 0 semi) (clauses_marks r k rest) (fine_back (marks 0 e) (semi_marks 0 semi ++ clauses_marks r k rest) h.1))
-
-fine_measure : (r k : ℕ) (w : ClausesPhrase) → FineMarks (clauses_marks r k w) → Fine (measure_tokens (measure_meant w))
-fine_measure r k no_clauses h = tt
-fine_measure r k (requires p e semi rest) h = fine_measure (r + 1) k rest (fine_back (semi_marks 0 semi) (clauses_marks (r + 1) k rest) (fine_back (marks r e) (semi_marks 0 semi ++ clauses_marks (r + 1) k rest) h.1))
-fine_measure r k (ensures p e semi rest) h = fine_measure r (k + 1) rest (fine_back (semi_marks 0 semi) (clauses_marks r (k + 1) rest) (fine_back (marks k e) (semi_marks 0 semi ++ clauses_marks r (k + 1) rest) h.1))
-fine_measure r k (decreases p e semi rest) h = (tt, fine 0 8 true e (fine_front (marks 0 e) (semi_marks 0 semi ++ clauses_marks r k rest) h.1))
+    (tt, fine_append (whole_tokens (meant e)) (contract_tokens (clauses_meant rest)) (fine k 8 true e (fine_front (marks k e) tail h.1)) (fine_clauses r (k + 1) rest (fine_back (semi_marks 0 semi) (clauses_marks r (k + 1) rest) (fine_back (marks k e) tail h.1))))
+fine_clauses r k (decreases p e semi rest) h =
+    let tail = semi_marks 0 semi ++ clauses_marks r k rest in
+    (tt, fine_append (whole_tokens (meant e)) (contract_tokens (clauses_meant rest)) (fine 0 8 true e (fine_front (marks 0 e) tail h.1)) (fine_clauses r k rest (fine_back (semi_marks 0 semi) (clauses_marks r k rest) (fine_back (marks 0 e) tail h.1))))
 
 fine_body : (w : Option BlockPhrase) → FineMarks (body_marks w) → Fine (optional_block_tokens (body_meant w))
 fine_body None h = tt
@@ -192,16 +182,13 @@ fine_member (a_function f) h =
     let head = fine_front (pm ++ cm) bm h.1.1 in
     let these = (fine_back pm cm head).1.1 in
     let kp = parenthesized (declarations_tokens (declarations_meant f.parameters.inner)) in
-    let kq = clauses_tokens words.Requires (requires_meant f.clauses) in
-    let ke = clauses_tokens words.Ensures (ensures_meant f.clauses) in
-    let km = measure_tokens (measure_meant f.clauses) in
-    let kb = braced (whole_tokens (meant f.body.inner)) in
-    let clauses = fine_append kq (ke ++ km) (fine_requires 0 0 f.clauses these) (fine_append ke km (fine_ensures 0 0 f.clauses these) (fine_measure 0 0 f.clauses these)) in (
+    let kc = contract_tokens (clauses_meant f.clauses) in
+    let kb = braced (whole_tokens (meant f.body.inner)) in (
       tt,
       (
         h.1.0,
-        fine_append kp (symbol signs.Colon ∷ word (type_word f.of) ∷ ((kq ++ (ke ++ km)) ++ kb)) (fine_parameters 0 f.parameters (fine_front pm cm head))
-            (tt, (tt, fine_append (kq ++ (ke ++ km)) kb clauses (fine_whole f.body (fine_back (pm ++ cm) bm h.1.1)))),
+        fine_append kp (symbol signs.Colon ∷ word (type_word f.of) ∷ (kc ++ kb)) (fine_parameters 0 f.parameters (fine_front pm cm head))
+            (tt, (tt, fine_append kc kb (fine_clauses 0 0 f.clauses these) (fine_whole f.body (fine_back (pm ++ cm) bm h.1.1)))),
       ),
     )
 fine_member (a_method m) h =
@@ -213,15 +200,14 @@ fine_member (a_method m) h =
     let these = fine_front clauses body behind_returns in
     let kp = parenthesized (declarations_tokens (declarations_meant m.parameters.inner)) in
     let kr = returns_tokens (returns_meant m.returns) in
-    let kq = clauses_tokens words.Requires (requires_meant m.clauses) in
-    let ke = clauses_tokens words.Ensures (ensures_meant m.clauses) in
+    let kc = contract_tokens (clauses_meant m.clauses) in
     let kb = optional_block_tokens (body_meant m.body) in (
       tt,
       (
         h.1.0,
-        fine_append kp (kr ++ ((kq ++ ke) ++ kb)) (fine_parameters 0 m.parameters (fine_front (parameters_marks 0 m.parameters) back h.1.1))
-            (fine_append kr ((kq ++ ke) ++ kb) (fine_returns 0 m.returns (fine_front (returns_marks 0 m.returns) (clauses ++ body) behind_parameters))
-            (fine_append (kq ++ ke) kb (fine_append kq ke (fine_requires 0 0 m.clauses these) (fine_ensures 0 0 m.clauses these)) (fine_body m.body (fine_back clauses body behind_returns)))),
+        fine_append kp (kr ++ (kc ++ kb)) (fine_parameters 0 m.parameters (fine_front (parameters_marks 0 m.parameters) back h.1.1))
+            (fine_append kr (kc ++ kb) (fine_returns 0 m.returns (fine_front (returns_marks 0 m.returns) (clauses ++ body) behind_parameters))
+            (fine_append kc kb (fine_clauses 0 0 m.clauses these) (fine_body m.body (fine_back clauses body behind_returns)))),
       ),
     )
 

@@ -5,7 +5,7 @@ use Rattle.vx_tokens.specs.declared.token.Word.{Word}
 use Rattle.vx_tokens.specs.declared.token.Word.TheVariants as words
 use Rattle.vx_tokens.specs.declared.token.Symbol.TheVariants as signs
 use Rattle.vx_tokens.specs.Tokens.{Kind, name, number, word, symbol}
-use Rattle.vx_ast.specs.Written.{Name, Expr, Exprs, NoMore, More, Amount, All, Part, Truth, Number, Null, Whole, Nothing, Result, Variable, Call, Read, Unary, Binary, Choice, Old, Access, Unfolding, Right, Value, NewAll, New, Declaration, Stmt, Block, Declare, Assign, Write, Invoke, Inhale, Exhale, Assert, Assume, Fold, Unfold, If, While, Done, Then, Predicate, Function, Method, Kind as MemberKind, IsField, IsPredicate, IsFunction, IsMethod, Member, Program}
+use Rattle.vx_ast.specs.Written.{Name, Placed, Expr, Exprs, NoMore, More, Amount, All, Part, Truth, Number, Null, Whole, Nothing, Result, Variable, Call, Read, Unary, Binary, Choice, Old, Access, Unfolding, Right, Value, NewAll, New, Declaration, Stmt, Other, NoElse, Else, Block, Declare, Assign, Write, Invoke, Inhale, Exhale, Assert, Assume, Fold, Unfold, If, While, Done, Then, Clause, Requires, Ensures, Decreases, Predicate, Function, Method, Kind as MemberKind, IsField, IsPredicate, IsFunction, IsMethod, Member, Program}
 use Rattle.vx_grammar.specs.Grammar.{sign_of, prefix_sign, literal_word, level_of, left_level, right_level}
 use Rattle.vx_grammar.specs.Statements.{type_word}
 use Rattle.vx_print.specs.Words.{line}
@@ -80,7 +80,7 @@ abbrev mutual
   expr_tokens level last (Call p f es) = applied f (exprs_tokens es)
   expr_tokens level last (Read p e f) =
       let inside = is_prefixed e in
-      parenthesized_if inside (expr_tokens 0 inside e) ++ symbol signs.Dot ∷ name f ∷ []
+      parenthesized_if inside (expr_tokens 0 inside e) ++ symbol signs.Dot ∷ name f.name ∷ []
   expr_tokens level last (Unary p op e) = symbol (prefix_sign op) ∷ expr_tokens 0 last e
   expr_tokens level last (Binary p op a b) =
       let inside = nat_lt level (level_of op) in
@@ -91,7 +91,7 @@ abbrev mutual
   expr_tokens level last (Old p e) = word words.Old ∷ parenthesized (expr_tokens 8 true e)
   expr_tokens level last (Access p e a) = word words.Acc ∷ parenthesized (expr_tokens 8 true e ++ symbol signs.Comma ∷ written_amount (amount_tokens a))
   expr_tokens level last (Unfolding p x es a e) =
-      parenthesized_if (not last) (word words.Unfolding ∷ (instance x (exprs_tokens es) (amount_tokens a) ++ word words.In ∷ expr_tokens 8 true e))
+      parenthesized_if (not last) (word words.Unfolding ∷ (instance x.name (exprs_tokens es) (amount_tokens a) ++ word words.In ∷ expr_tokens 8 true e))
 
   -- with a comma between two
   pub exprs_tokens : Exprs → List Kind
@@ -113,9 +113,9 @@ abbrev pub instance_tokens : Name → Exprs → Amount → List Kind
 instance_tokens x es a = instance x (exprs_tokens es) (amount_tokens a)
 
 abbrev pub read_tokens : Expr → Name → List Kind
-read_tokens e f =
+read_tokens e x =
     let inside = is_prefixed e in
-    parenthesized_if inside (expr_tokens 0 inside e) ++ symbol signs.Dot ∷ name f ∷ []
+    parenthesized_if inside (expr_tokens 0 inside e) ++ symbol signs.Dot ∷ name x ∷ []
 
 -- an expression that stands by itself
 abbrev pub whole_tokens : Expr → List Kind
@@ -123,66 +123,71 @@ whole_tokens e = expr_tokens 8 true e
 
 -- ---- statements
 
-abbrev pub next_name : Name → List Kind
-next_name x = symbol signs.Comma ∷ name x ∷ []
+abbrev pub next_name : Placed → List Kind
+next_name x = symbol signs.Comma ∷ name x.name ∷ []
 
-abbrev pub further_names : List Name → List Kind
+abbrev pub further_names : List Placed → List Kind
 further_names [] = []
 further_names (x ∷ xs) = next_name x ++ further_names xs
 
 -- with a comma between two
-abbrev pub names_tokens : List Name → List Kind
+abbrev pub names_tokens : List Placed → List Kind
 names_tokens [] = []
-names_tokens (x ∷ xs) = name x ∷ further_names xs
+names_tokens (x ∷ xs) = name x.name ∷ further_names xs
 
 abbrev pub declaration_tokens : Declaration → List Kind
-declaration_tokens d = name d.name ∷ symbol signs.Colon ∷ word (type_word d.of) ∷ []
+declaration_tokens d = name d.name.name ∷ symbol signs.Colon ∷ word (type_word d.of) ∷ []
 
 abbrev pub right_tokens : Right → List Kind
 right_tokens (Value e) = whole_tokens e
-right_tokens NewAll = word words.New ∷ parenthesized (symbol signs.Times ∷ [])
-right_tokens (New xs) = word words.New ∷ parenthesized (names_tokens xs)
+right_tokens (NewAll p) = word words.New ∷ parenthesized (symbol signs.Times ∷ [])
+right_tokens (New p xs) = word words.New ∷ parenthesized (names_tokens xs)
 
 abbrev pub initial_tokens : Option Right → List Kind
 initial_tokens None = []
 initial_tokens (Some r) = symbol signs.Becomes ∷ right_tokens r
 
-abbrev pub targets_tokens : List Name → List Kind
+abbrev pub targets_tokens : List Placed → List Kind
 targets_tokens [] = []
 targets_tokens (x ∷ xs) = names_tokens (x ∷ xs) ++ symbol signs.Becomes ∷ []
 
 abbrev pub clause_tokens : Word → Expr → List Kind
 clause_tokens w e = word w ∷ whole_tokens e
 
--- each expression behind the word
-abbrev pub clauses_tokens : Word → Exprs → List Kind
-clauses_tokens w NoMore = []
-clauses_tokens w (More e es) = clause_tokens w e ++ clauses_tokens w es
+-- the invariants of a loop
+abbrev pub invariants_tokens : Exprs → List Kind
+invariants_tokens NoMore = []
+invariants_tokens (More e es) = clause_tokens words.Invariant e ++ invariants_tokens es
 
 abbrev mutual
   pub stmt_tokens : Stmt → List Kind
   stmt_tokens (Declare p d r) = word words.Var ∷ (declaration_tokens d ++ initial_tokens r)
-  stmt_tokens (Assign p x r) = name x ∷ symbol signs.Becomes ∷ right_tokens r
-  stmt_tokens (Write p e f v) = read_tokens e f ++ symbol signs.Becomes ∷ whole_tokens v
-  stmt_tokens (Invoke p xs m es) = targets_tokens xs ++ applied m (exprs_tokens es)
+  stmt_tokens (Assign p x r) = name x.name ∷ symbol signs.Becomes ∷ right_tokens r
+  stmt_tokens (Write p e f v) = read_tokens e f.name ++ symbol signs.Becomes ∷ whole_tokens v
+  stmt_tokens (Invoke p xs m es) = targets_tokens xs ++ applied m.name (exprs_tokens es)
   stmt_tokens (Inhale p e) = clause_tokens words.Inhale e
   stmt_tokens (Exhale p e) = clause_tokens words.Exhale e
   stmt_tokens (Assert p e) = clause_tokens words.Assert e
   stmt_tokens (Assume p e) = clause_tokens words.Assume e
-  stmt_tokens (Fold p x es a) = word words.Fold ∷ instance_tokens x es a
-  stmt_tokens (Unfold p x es a) = word words.Unfold ∷ instance_tokens x es a
-  stmt_tokens (If p e a b) = word words.If ∷ (parenthesized (whole_tokens e) ++ (braced (block_tokens a) ++ else_tokens b))
-  stmt_tokens (While p e is b) = word words.While ∷ (parenthesized (whole_tokens e) ++ (clauses_tokens words.Invariant is ++ braced (block_tokens b)))
+  stmt_tokens (Fold p x es a) = word words.Fold ∷ instance_tokens x.name es a
+  stmt_tokens (Unfold p x es a) = word words.Unfold ∷ instance_tokens x.name es a
+  stmt_tokens (If p e a b) = word words.If ∷ (parenthesized (whole_tokens e) ++ (braced (block_tokens a) ++ other_tokens b))
+  stmt_tokens (While p e is b) = word words.While ∷ (parenthesized (whole_tokens e) ++ (invariants_tokens is ++ braced (block_tokens b)))
 
   pub block_tokens : Block → List Kind
   block_tokens Done = []
   block_tokens (Then s rest) = stmt_tokens s ++ block_tokens rest
 
-  -- The other side of an `if`: none, one `if` alone as `elseif`, or a block.
+  -- the other side of an `if`, or none
+  pub other_tokens : Other → List Kind
+  other_tokens NoElse = []
+  other_tokens (Else b) = else_tokens b
+
+  -- one `if` alone as `elseif`, and else a block
   pub else_tokens : Block → List Kind
-  else_tokens Done = []
+  else_tokens Done = word words.Else ∷ braced []
   else_tokens (Then s (Then t rest)) = word words.Else ∷ braced (stmt_tokens s ++ (stmt_tokens t ++ block_tokens rest))
-  else_tokens (Then (If p e a b) Done) = word words.Elseif ∷ (parenthesized (whole_tokens e) ++ (braced (block_tokens a) ++ else_tokens b))
+  else_tokens (Then (If p e a b) Done) = word words.Elseif ∷ (parenthesized (whole_tokens e) ++ (braced (block_tokens a) ++ other_tokens b))
   else_tokens (Then s Done) = word words.Else ∷ braced (stmt_tokens s ++ [])
 
 abbrev pub else_block : Block → List Kind
@@ -209,9 +214,15 @@ abbrev pub optional_expr_tokens : Option Expr → List Kind
 optional_expr_tokens None = []
 optional_expr_tokens (Some e) = braced (whole_tokens e)
 
-abbrev pub measure_tokens : Option Expr → List Kind
-measure_tokens None = []
-measure_tokens (Some e) = clause_tokens words.Decreases e
+abbrev pub contract_clause : Clause → List Kind
+contract_clause (Requires e) = clause_tokens words.Requires e
+contract_clause (Ensures e) = clause_tokens words.Ensures e
+contract_clause (Decreases e) = clause_tokens words.Decreases e
+
+-- in text order
+abbrev pub contract_tokens : List Clause → List Kind
+contract_tokens [] = []
+contract_tokens (c ∷ cs) = contract_clause c ++ contract_tokens cs
 
 abbrev pub optional_block_tokens : Option Block → List Kind
 optional_block_tokens None = []
@@ -221,17 +232,11 @@ optional_block_tokens (Some b) = braced (block_tokens b)
 abbrev pub predicate_tokens : Predicate → List Kind
 predicate_tokens p = parenthesized (declarations_tokens p.parameters) ++ optional_expr_tokens p.body
 
-abbrev pub function_clauses : Function → List Kind
-function_clauses f = clauses_tokens words.Requires f.requires ++ (clauses_tokens words.Ensures f.ensures ++ measure_tokens f.decreases)
-
 abbrev pub function_tokens : Function → List Kind
-function_tokens f = parenthesized (declarations_tokens f.parameters) ++ symbol signs.Colon ∷ word (type_word f.of) ∷ (function_clauses f ++ braced (whole_tokens f.body))
-
-abbrev pub method_clauses : Method → List Kind
-method_clauses m = clauses_tokens words.Requires m.requires ++ clauses_tokens words.Ensures m.ensures
+function_tokens f = parenthesized (declarations_tokens f.parameters) ++ symbol signs.Colon ∷ word (type_word f.of) ∷ (contract_tokens f.clauses ++ braced (whole_tokens f.body))
 
 abbrev pub method_tokens : Method → List Kind
-method_tokens m = parenthesized (declarations_tokens m.parameters) ++ (returns_tokens m.returns ++ (method_clauses m ++ optional_block_tokens m.body))
+method_tokens m = parenthesized (declarations_tokens m.parameters) ++ (returns_tokens m.returns ++ (contract_tokens m.clauses ++ optional_block_tokens m.body))
 
 abbrev pub member_word : MemberKind → Word
 member_word (IsField t) = words.Field
@@ -250,7 +255,7 @@ abbrev pub member_rest : Name → MemberKind → List Kind
 member_rest x k = name x ∷ kind_tokens k
 
 abbrev pub member_tokens : Member → List Kind
-member_tokens m = word (member_word m.kind) ∷ member_rest m.name m.kind
+member_tokens m = word (member_word m.kind) ∷ member_rest m.name.name m.kind
 
 abbrev pub member_line : Member → List ℕ
 member_line m = line (member_tokens m)

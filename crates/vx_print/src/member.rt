@@ -1,18 +1,20 @@
 //! Writing members.
 
 ghost use Rattle.std.specs.Prelude.{◌≡◌, ◌++◌, ◌∷◌, [], OnOk, IfOk, string_bytes, map, vec_items};
-ghost use Rattle.vx_ast.specs.Written.{written_program, written_member, written_kind, written_declaration, optional_expr, optional_block, name_of, written_expr, written_all};
+ghost use Rattle.vx_ast.specs.Written.{written_program, written_member, written_kind, written_declaration, written_clause, optional_expr, optional_block, name_of, written_expr};
+ghost use Rattle.std.specs.Str.{IsUtf8};
 ghost use Rattle.vx_print.specs.Canonical as canonical;
 ghost use Rattle.vx_print.specs.Views.{written_predicate, written_function, written_method};
 ghost use Rattle.vx_print.specs.Words.{behind, word_text};
 
 use crate::expr::put_whole;
-use crate::stmt::{put_block, put_clause, put_clauses, put_declaration, type_word};
+use crate::stmt::{put_block, put_clause, put_declaration, type_word};
 use crate::token::{put_name, put_sign, put_word, word_text};
 use std::alloc::{AllocError, Global};
 use std::rc::Rc;
 use vx_ast::{
-    Block, Declaration, Expr, Function, Member, MemberKind, Method, Name, Predicate, Program,
+    Block, Clause, Declaration, Expr, Function, Member, MemberKind, Method, Name, Predicate,
+    Program,
 };
 use vx_tokens::{Symbol, Word};
 
@@ -79,13 +81,25 @@ fn put_optional_body(out: &mut String, body: &Option<Rc<Expr>>) -> Result<(), Al
     }
 }
 
-fn put_measure(out: &mut String, measure: &Option<Rc<Expr>>) -> Result<(), AllocError>
-    ensures { OnOk result (string_bytes out.new ≡ behind (string_bytes out.old) (canonical.measure_tokens (optional_expr measure.now))) }
+fn put_contract_clause(out: &mut String, c: &Clause) -> Result<(), AllocError>
+    ensures { OnOk result (string_bytes out.new ≡ behind (string_bytes out.old) (canonical.contract_clause (written_clause c.now))) }
 {
-    match measure {
-        None => Ok(()),
-        Some(e) => put_clause(out, Word::Decreases, e),
+    match c {
+        Clause::Requires(e) => put_clause(out, Word::Requires, e),
+        Clause::Ensures(e) => put_clause(out, Word::Ensures, e),
+        Clause::Decreases(e) => put_clause(out, Word::Decreases, e),
     }
+}
+
+// In text order.
+#[tactic(auto, using(crate::proofs::Behind::behind_append))]
+fn put_contract(out: &mut String, clauses: &[Clause]) -> Result<(), AllocError>
+    ensures { OnOk result (string_bytes out.new ≡ behind (string_bytes out.old) (canonical.contract_tokens (map written_clause clauses.now))) }
+{
+    for c in clauses {
+        put_contract_clause(out, c)?;
+    }
+    Ok(())
 }
 
 fn put_optional_block(out: &mut String, body: &Option<Rc<Block>>) -> Result<(), AllocError>
@@ -106,31 +120,14 @@ fn put_predicate(out: &mut String, p: &Predicate) -> Result<(), AllocError>
 }
 
 #[tactic(auto, using(crate::proofs::Behind::behind_append))]
-fn put_function_clauses(out: &mut String, f: &Function) -> Result<(), AllocError>
-    ensures { OnOk result (string_bytes out.new ≡ behind (string_bytes out.old) (canonical.function_clauses (written_function f.now))) }
-{
-    put_clauses(out, Word::Requires, &f.preconditions)?;
-    put_clauses(out, Word::Ensures, &f.postconditions)?;
-    put_measure(out, &f.measure)
-}
-
-#[tactic(auto, using(crate::proofs::Behind::behind_append))]
 fn put_function(out: &mut String, f: &Function) -> Result<(), AllocError>
     ensures { OnOk result (string_bytes out.new ≡ behind (string_bytes out.old) (canonical.function_tokens (written_function f.now))) }
 {
     put_parameters(out, &f.parameters)?;
     put_sign(out, Symbol::Colon)?;
     put_word(out, type_word(f.value_type))?;
-    put_function_clauses(out, f)?;
+    put_contract(out, &f.clauses)?;
     put_body(out, &f.body)
-}
-
-#[tactic(auto, using(crate::proofs::Behind::behind_append))]
-fn put_method_clauses(out: &mut String, m: &Method) -> Result<(), AllocError>
-    ensures { OnOk result (string_bytes out.new ≡ behind (string_bytes out.old) (canonical.method_clauses (written_method m.now))) }
-{
-    put_clauses(out, Word::Requires, &m.preconditions)?;
-    put_clauses(out, Word::Ensures, &m.postconditions)
 }
 
 #[tactic(auto, using(crate::proofs::Behind::behind_append))]
@@ -139,14 +136,14 @@ fn put_method(out: &mut String, m: &Method) -> Result<(), AllocError>
 {
     put_parameters(out, &m.parameters)?;
     put_returns(out, &m.returns)?;
-    put_method_clauses(out, m)?;
+    put_contract(out, &m.clauses)?;
     put_optional_block(out, &m.body)
 }
 
 // What stands behind a member's first word.
 #[tactic(auto, using(crate::proofs::Behind::behind_append))]
 fn put_rest(out: &mut String, name: &Name, kind: &MemberKind) -> Result<(), AllocError>
-    ensures { OnOk result (string_bytes out.new ≡ behind (string_bytes out.old) (canonical.member_rest (name_of name.now) (written_kind kind.now))) }
+    ensures { OnOk result (string_bytes out.new ≡ behind (string_bytes out.old) (canonical.member_rest (name_of name.now).name (written_kind kind.now))) }
 {
     put_name(out, name)?;
     match kind {
@@ -174,7 +171,7 @@ fn first_word(kind: &MemberKind) -> Word
 // A member without its line feed.
 #[tactic(auto, using(crate::proofs::Behind::behind_front))]
 fn put_tokens(out: &mut String, m: &Member) -> Result<(), AllocError>
-    ensures { OnOk result (string_bytes out.new ≡ string_bytes out.old ++ behind (word_text (canonical.member_word (written_kind m.now.kind))) (canonical.member_rest (name_of m.now.name) (written_kind m.now.kind))) }
+    ensures { OnOk result (string_bytes out.new ≡ string_bytes out.old ++ behind (word_text (canonical.member_word (written_kind m.now.kind))) (canonical.member_rest (name_of m.now.name).name (written_kind m.now.kind))) }
 {
     out.push_str(word_text(first_word(&m.kind)))?;
     put_rest(out, &m.name, &m.kind)?;
@@ -191,7 +188,9 @@ fn put_member(out: &mut String, m: &Member) -> Result<(), AllocError>
 
 /// The canonical text of a program.
 pub fn print(alloc: Global, program: &Program) -> Result<Vec<u8>, AllocError>
-    ensures { IfOk result (λ text. vec_items text ≡ canonical.canonical_text (written_program program.now)) }
+    ensures canonical { IfOk result (λ text. vec_items text ≡ canonical.canonical_text (written_program program.now)) }
+    // The bytes are a text.
+    ensures utf8 { IfOk result (λ text. IsUtf8 (vec_items text)) }
 {
     let mut out = String::new(alloc);
     for m in &program.members {

@@ -4,7 +4,7 @@ ghost use Rattle.std.specs.Prelude.{◌≡◌, ◌++◌, ◌∷◌, [], OnOk, st
 ghost use Rattle.vx_ast.specs.Written.{written_all, written_expr, written_right, optional_right, written_declaration, written_stmt, written_block, name_of, Then, Done};
 ghost use Rattle.vx_grammar.specs.Statements.{type_word};
 ghost use Rattle.vx_print.specs.Canonical as canonical;
-ghost use Rattle.vx_print.specs.Views.{statements};
+ghost use Rattle.vx_print.specs.Views.{statements, other_of};
 ghost use Rattle.vx_print.specs.Words.{behind};
 
 use crate::expr::{put_applied, put_instance, put_read, put_whole};
@@ -63,13 +63,13 @@ fn put_right(out: &mut String, right: &Right) -> Result<(), AllocError>
 {
     match right {
         Right::Value(e) => put_whole(out, e),
-        Right::NewAll => {
+        Right::NewAll(_) => {
             put_word(out, Word::New)?;
             put_sign(out, Symbol::Open)?;
             put_sign(out, Symbol::Times)?;
             put_sign(out, Symbol::Close)
         }
-        Right::New(fields) => {
+        Right::New(_, fields) => {
             put_word(out, Word::New)?;
             put_sign(out, Symbol::Open)?;
             put_names(out, fields)?;
@@ -112,13 +112,12 @@ pub fn put_clause(out: &mut String, word: Word, e: &Expr) -> Result<(), AllocErr
     put_whole(out, e)
 }
 
-/// Writes each expression behind the word.
 #[tactic(auto, using(crate::proofs::Behind::behind_append))]
-pub fn put_clauses(out: &mut String, word: Word, es: &[Rc<Expr>]) -> Result<(), AllocError>
-    ensures { OnOk result (string_bytes out.new ≡ behind (string_bytes out.old) (canonical.clauses_tokens word (written_all es.now))) }
+fn put_invariants(out: &mut String, es: &[Rc<Expr>]) -> Result<(), AllocError>
+    ensures { OnOk result (string_bytes out.new ≡ behind (string_bytes out.old) (canonical.invariants_tokens (written_all es.now))) }
 {
     for e in es {
-        put_clause(out, word, e)?;
+        put_clause(out, Word::Invariant, e)?;
     }
     Ok(())
 }
@@ -175,12 +174,12 @@ fn put_stmt(out: &mut String, s: &Stmt) -> Result<(), AllocError>
             put_word(out, Word::If)?;
             put_condition(out, e)?;
             put_block(out, a)?;
-            put_else(out, b)
+            put_other(out, b)
         }
         StmtKind::While(e, invariants, b) => {
             put_word(out, Word::While)?;
             put_condition(out, e)?;
-            put_clauses(out, Word::Invariant, invariants)?;
+            put_invariants(out, invariants)?;
             put_block(out, b)
         }
     }
@@ -209,19 +208,28 @@ fn put_stmts(out: &mut String, all: &[Stmt]) -> Result<(), AllocError>
     Ok(())
 }
 
-// The other side of an `if`.
+// The other side of an `if`, or none.
+#[cycle(stmt)]
+fn put_other(out: &mut String, other: &Option<Rc<Block>>) -> Result<(), AllocError>
+    ensures { OnOk result (string_bytes out.new ≡ behind (string_bytes out.old) (canonical.other_tokens (other_of other.now))) }
+{
+    match other {
+        None => Ok(()),
+        Some(b) => put_else(out, b),
+    }
+}
+
 #[cycle(stmt)]
 #[tactic(auto, using(crate::proofs::Behind::behind_append))]
 fn put_else(out: &mut String, other: &Block) -> Result<(), AllocError>
     ensures { OnOk result (string_bytes out.new ≡ behind (string_bytes out.old) (canonical.else_tokens (written_block other.now))) }
 {
     match other.statements.as_slice() {
-        [] => Ok(()),
         [only] => {
             put_alone(out, only)?;
             Ok(())
         }
-        [_, _, ..] => {
+        _ => {
             put_word(out, Word::Else)?;
             put_block(out, other)?;
             Ok(())
@@ -240,7 +248,7 @@ fn put_alone(out: &mut String, s: &Stmt) -> Result<(), AllocError>
             put_word(out, Word::Elseif)?;
             put_condition(out, e)?;
             put_block(out, a)?;
-            put_else(out, b)
+            put_other(out, b)
         }
         StmtKind::Declare(_, _) => put_only(out, s),
         StmtKind::Assign(_, _) => put_only(out, s),

@@ -3,8 +3,8 @@ use std::alloc::{AllocError, Global};
 use std::rc::Rc;
 use std::test::*;
 use vx_ast::{
-    BinaryOperator, Block, Declaration, Expr, ExprKind, Function, Member, MemberKind, Method, Name,
-    Place, Program, Stmt, StmtKind, ValueType,
+    BinaryOperator, Block, Clause, Declaration, Expr, ExprKind, Function, Member, MemberKind,
+    Method, Name, Place, Program, Right, Stmt, StmtKind, ValueType,
 };
 
 const HERE: Place = Place { line: 1, column: 1 };
@@ -55,13 +55,6 @@ fn printed(alloc: Global, text: &str, kind: MemberKind) -> Result<Vec<u8>, Alloc
     print(alloc, &Program { members })
 }
 
-// A row of one.
-fn only(alloc: Global, e: Rc<Expr>) -> Result<Vec<Rc<Expr>>, AllocError> {
-    let mut row = Vec::new(alloc);
-    row.push(e)?;
-    Ok(row)
-}
-
 // The text of a method `m` with this body.
 fn method(
     alloc: Global,
@@ -71,8 +64,7 @@ fn method(
     let method = Method {
         parameters,
         returns: Vec::new(alloc),
-        preconditions: Vec::new(alloc),
-        postconditions: Vec::new(alloc),
+        clauses: Vec::new(alloc),
         body: Some(body),
     };
     printed(alloc, "m", MemberKind::Method(method))
@@ -162,13 +154,60 @@ fn an_elseif_and_an_amount(rt: HostRuntime) -> Result<(), Fail> {
     let inner = StmtKind::If(
         variable(alloc, "b")?,
         block(alloc, StmtKind::Inhale(held))?,
-        nothing(alloc)?,
+        None,
     );
-    let outer = StmtKind::If(variable(alloc, "a")?, nothing(alloc)?, block(alloc, inner)?);
+    let other = Some(block(alloc, inner)?);
+    let outer = StmtKind::If(variable(alloc, "a")?, nothing(alloc)?, other);
     let text = method(alloc, Vec::new(alloc), block(alloc, outer)?)?;
     assert_eq!(rt;
         text.as_slice(),
         b"method m ( ) { if ( a ) { } elseif ( b ) { inhale acc ( x . f , write ) } }\n".as_slice()
+    );
+    Ok(())
+}
+
+// The text of a method with an `if` that has this other side.
+fn branched(alloc: Global, other: Option<Rc<Block>>) -> Result<Vec<u8>, AllocError> {
+    let kind = StmtKind::If(variable(alloc, "a")?, nothing(alloc)?, other);
+    method(alloc, Vec::new(alloc), block(alloc, kind)?)
+}
+
+#[test]
+fn an_else_where_it_is_written(rt: HostRuntime) -> Result<(), Fail> {
+    let alloc = rt.alloc();
+    assert_eq!(rt;
+        branched(alloc, None)?.as_slice(),
+        b"method m ( ) { if ( a ) { } }\n".as_slice()
+    );
+    assert_eq!(rt;
+        branched(alloc, Some(nothing(alloc)?))?.as_slice(),
+        b"method m ( ) { if ( a ) { } else { } }\n".as_slice()
+    );
+    let kind = StmtKind::Assert(variable(alloc, "b")?);
+    assert_eq!(rt;
+        branched(alloc, Some(block(alloc, kind)?))?.as_slice(),
+        b"method m ( ) { if ( a ) { } else { assert b } }\n".as_slice()
+    );
+    Ok(())
+}
+
+#[test]
+fn fields_of_a_new(rt: HostRuntime) -> Result<(), Fail> {
+    let alloc = rt.alloc();
+    let all = StmtKind::Assign(name(alloc, "x")?, Right::NewAll(HERE));
+    let text = method(alloc, Vec::new(alloc), block(alloc, all)?)?;
+    assert_eq!(rt;
+        text.as_slice(),
+        b"method m ( ) { x := new ( * ) }\n".as_slice()
+    );
+    let mut fields = Vec::new(alloc);
+    fields.push(name(alloc, "f")?)?;
+    fields.push(name(alloc, "g")?)?;
+    let these = StmtKind::Assign(name(alloc, "x")?, Right::New(HERE, fields));
+    let text = method(alloc, Vec::new(alloc), block(alloc, these)?)?;
+    assert_eq!(rt;
+        text.as_slice(),
+        b"method m ( ) { x := new ( f , g ) }\n".as_slice()
     );
     Ok(())
 }
@@ -186,18 +225,20 @@ fn a_function_with_each_clause(rt: HostRuntime) -> Result<(), Fail> {
     let given = joined(alloc, below, zero, variable(alloc, "x")?)?;
     let outcome = node(alloc, ExprKind::Outcome)?;
     let told = joined(alloc, below, variable(alloc, "x")?, outcome)?;
+    let mut clauses = Vec::new(alloc);
+    clauses.push(Clause::Ensures(told))?;
+    clauses.push(Clause::Decreases(variable(alloc, "x")?))?;
+    clauses.push(Clause::Requires(given))?;
     let f = Function {
         parameters,
         value_type: ValueType::Int,
-        preconditions: only(alloc, given)?,
-        postconditions: only(alloc, told)?,
-        measure: Some(variable(alloc, "x")?),
+        clauses,
         body: variable(alloc, "x")?,
     };
     let text = printed(alloc, "f", MemberKind::Function(f))?;
     assert_eq!(rt;
         text.as_slice(),
-        b"function f ( x : Int ) : Int requires 0 <= x ensures x <= result decreases x { x }\n".as_slice()
+        b"function f ( x : Int ) : Int ensures x <= result decreases x requires 0 <= x { x }\n".as_slice()
     );
     Ok(())
 }

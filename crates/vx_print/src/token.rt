@@ -116,7 +116,7 @@ pub fn put_text(out: &mut String, text: &str) -> Result<(), AllocError>
 
 /// Writes a blank and the name.
 pub fn put_name(out: &mut String, x: &Name) -> Result<(), AllocError>
-    ensures { OnOk result (string_bytes out.new ≡ behind (string_bytes out.old) (name (name_of x.now) ∷ [])) }
+    ensures { OnOk result (string_bytes out.new ≡ behind (string_bytes out.old) (name (name_of x.now).name ∷ [])) }
 {
     put_text(out, &x.text)
 }

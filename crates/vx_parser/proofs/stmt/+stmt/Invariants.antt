@@ -17,6 +17,9 @@ decreases-block l = 8 * l.room + 1
 abbrev pub decreases-otherwise : goal.decreases-otherwise
 decreases-otherwise l = 8 * l.room + 2
 
+abbrev pub decreases-loop_block : goal.decreases-loop_block
+decreases-loop_block l = 8 * l.room + 2
+
 abbrev pub decreases-branch : goal.decreases-branch
 decreases-branch l = 8 * l.room + 3
 

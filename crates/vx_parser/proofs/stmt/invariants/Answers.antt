@@ -1,4 +1,4 @@
-use Rattle.std.proofs.Common.{◌≡◌, List, ap}
+use Rattle.std.proofs.Common.{List, ap}
 use Rattle.vx_tokens.specs.Tokens.{Token, tokens_in}
 use Rattle.vx_ast.specs.Written.{Exprs, written_all}
 use Rattle.vx_parser.specs.Views.{exprs_of}
