@@ -64,7 +64,6 @@ function_groups_reaches = (1, inl (applications_double, refl, (0, omega arith, r
 some_is : (a b : Function) → (let o : Option Function = Some a in o) ≡ Some b → a ≡ b
 some_is a b e = cc
 
-
 none_in : {A : Type 0} (a : A) → Contains [] a → ⊥
 none_in a (k, less, e) = absurd (omega arith)
 

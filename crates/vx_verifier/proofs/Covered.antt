@@ -1,7 +1,4 @@
 -- What is executed is of the store language where its types are small.
-use Rattle.vx_verifier.specs.declared.top.Told.{Told}
-use Rattle.vx_verifier.specs.declared.top.Told.TheVariants as told
-use Rattle.vx_verifier.specs.Reported.{IsRead, IsUnreadAs}
 use Rattle.std.proofs.Common.{◌≡◌, ℕ, zero, suc, Bool, true, false, ◌&&◌, List, [], ◌∷◌, Option, Some, None, map, slice_get, refl, ap, ◌∙◌, subst}
 use Rattle.std.specs.declared.alloc.Global.{Global}
 use Rattle.std.specs.declared.rc.Rc.{Rc}
@@ -120,10 +117,3 @@ typed p (y ∷ ms) h (suc n) x m at is =
 
 pub supported : (ms : List member'.Member) → are_typed_members (map member ms) ≡ true → are_small_members (map member ms) ≡ true → IsSupported (map member ms)
 supported ms h k = λ n m at. (typed (map member ms) (map member ms) h n at.0 m at.1 at.2, stored ms k n at.0 m at.1 at.2)
-
--- what is read isn't unread
-pub read_is : (failed : Type 0) (holds : Option (List ℕ)) (t : Told) → IsRead t → IsUnreadAs failed holds t
-read_is failed holds (told.Program t) r = tt
-read_is failed holds (told.Refused line) r = tt
-read_is failed holds told.Unread r = absurd r
-read_is failed holds told.TooLong r = absurd r

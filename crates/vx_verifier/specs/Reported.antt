@@ -1,5 +1,5 @@
 -- What `run` promises: what the runs of a report are those of.
-use Rattle.std.specs.Prelude.{◌≡◌, ◌⊎◌, ℕ, ◌<◌, ⊤, Bool, true, false, List, [], ◌∷◌, ◌++◌, Option, Some, IfSome, codes, length, take, vec_items}
+use Rattle.std.specs.Prelude.{◌≡◌, ◌⊎◌, ℕ, ◌<◌, ⊤, Bool, true, false, List, [], ◌∷◌, ◌++◌, Option, Some, IfSome, codes, length, take, vec_items, string_bytes}
 use Rattle.std.specs.Str.{bytes_eq}
 use Rattle.vx_ast.specs.Syntax.{Program}
 use Rattle.vx_ast.specs.Written as written
@@ -16,6 +16,10 @@ use Rattle.vx_report.specs.Statuses.{status_among}
 use Rattle.vx_print.specs.Canonical.{canonical_text}
 use Rattle.vx_verifier.specs.declared.reading.Told.{Told}
 use Rattle.vx_verifier.specs.declared.reading.Told.TheVariants as told
+use Rattle.vx_verifier.specs.declared.saying.Said.{Said}
+use Rattle.vx_verifier.specs.declared.saying.Said.TheVariants as said
+use Rattle.vx_verifier.specs.declared.saying.Saying.{Saying}
+use Rattle.vx_verifier.specs.declared.saying.Saying.TheVariants as saying
 use Rattle.vx_verifier.specs.declared.reading.Loaded.{Loaded}
 use Rattle.vx_verifier.specs.declared.reading.Loaded.TheVariants as loaded
 use Rattle.vx_verifier.specs.Headline.{IsSupported}
@@ -102,6 +106,18 @@ SaysPrinted text Done bytes = (p : written.Program) × Spells text p × (bytes �
 SaysPrinted text Refused bytes = (p : written.Program) → Spells text p → ⊥
 SaysPrinted text s bytes = ⊥
 
+abbrev pub SaysChecked : (text : List ℕ) → Status → List ℕ → Type 0
+SaysChecked text s bytes = ⊤
+
+-- what a command says of a text, with its status
+abbrev pub Says : Saying → (text : List ℕ) → Status → List ℕ → Type 0
+Says saying.Typed text s bytes = SaysChecked text s bytes
+Says saying.Canonical text s bytes = SaysPrinted text s bytes
+
+abbrev pub SaysSo : Saying → (text : List ℕ) → Said → Type 0
+SaysSo what text (said.Done bytes) = Says what text Done (vec_items bytes)
+SaysSo what text (said.Refused line) = Says what text Refused (string_bytes line)
+
 -- what is put for what the file holds; where it isn't read, or memory or the sink fails, nothing is said
 abbrev pub IsSaid : (Says : List ℕ → Status → List ℕ → Type 0) → (holds : Option (List ℕ)) → (old new : Option (List ℕ)) → Status → Type 0
 IsSaid Says holds old new Done = (text bytes : List ℕ) × IfSome holds (λ known. text ≡ known) × Says text Done bytes × IsPut old new Done bytes
@@ -111,5 +127,5 @@ IsSaid Says holds old new s = ⊤
 -- what the commands without a report say
 abbrev pub IsSaidBy : Order → (holds : Option (List ℕ) → Option (List ℕ)) → (old new : Option (List ℕ)) → Status → Type 0
 IsSaidBy (Verify file solver) holds old new s = ⊤
-IsSaidBy (Check file) holds old new s = IsSaid SaysChecked (holds file) old new s
-IsSaidBy (Print file) holds old new s = IsSaid SaysPrinted (holds file) old new s
+IsSaidBy (Check file) holds old new s = IsSaid (Says saying.Typed) (holds file) old new s
+IsSaidBy (Print file) holds old new s = IsSaid (Says saying.Canonical) (holds file) old new s

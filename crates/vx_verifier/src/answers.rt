@@ -1,6 +1,7 @@
 //! The texts that the program puts, but for the report.
 
-ghost use Rattle.std.specs.Prelude.{◌≡◌, OnOk, string_bytes};
+ghost use Rattle.std.specs.Prelude.{◌≡◌, IfOk};
+ghost use Rattle.vx_parser.specs.declared.fault.TextFault.TheVariants as faults;
 
 use std::alloc::{AllocError, Global};
 use vx_ast::Place;
@@ -26,8 +27,17 @@ fn refusal(alloc: Global, place: Place, code: &str, name: &str) -> Result<String
     Ok(line)
 }
 
-/// The line of a text that isn't spelled.
-pub fn text_refusal(alloc: Global, fault: &TextFault) -> Result<String, AllocError> {
+/// The line of a text that isn't spelled. Want of memory has none.
+pub fn text_refusal(alloc: Global, fault: &TextFault) -> Result<String, AllocError>
+    ensures { IfOk result (λ _. fault.now ≡ faults.Want → ⊥) }
+{
+    match fault {
+        TextFault::Want => Err(AllocError),
+        _ => text_line(alloc, fault),
+    }
+}
+
+fn text_line(alloc: Global, fault: &TextFault) -> Result<String, AllocError> {
     let mut line = refusal(alloc, fault.place(), fault.code(), fault.name())?;
     if let Some(argument) = fault.argument() {
         line.push_str(" ")?;

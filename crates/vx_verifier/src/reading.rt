@@ -8,7 +8,7 @@ use crate::answers::{refusal_of_types, text_refusal, type_refusal};
 use crate::supported::is_supported;
 use std::alloc::{AllocError, Global};
 use vx_ends::{Files, LoadFault};
-use vx_parser::{TextFault, beyond_store, parse};
+use vx_parser::{beyond_store, parse};
 use vx_types::{TypeFault, Typed, check};
 
 /// A text, or why there is none.
@@ -49,12 +49,10 @@ pub fn read_program(alloc: Global, text: &[u8]) -> Result<Told, AllocError>
 {
     let program = match parse(alloc, text) {
         Ok(program) => program,
-        Err(TextFault::Want) => return Err(AllocError),
         Err(fault) => return Ok(Told::Refused(text_refusal(alloc, &fault)?)),
     };
     match beyond_store(alloc, text) {
         None => {}
-        Some(TextFault::Want) => return Err(AllocError),
         Some(fault) => return Ok(Told::Refused(text_refusal(alloc, &fault)?)),
     }
     match check(alloc, &program) {

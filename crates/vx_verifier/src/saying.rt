@@ -1,13 +1,13 @@
 //! The commands that have no report: what they put for a text.
 
-ghost use Rattle.std.specs.Prelude.{◌≡◌, IfOk, vec_items};
-ghost use Rattle.vx_verifier.specs.Reported.{SaysPrinted};
+ghost use Rattle.std.specs.Prelude.{IfOk};
+ghost use Rattle.vx_verifier.specs.Reported.{SaysSo};
 
-use crate::answers::text_refusal;
+use crate::answers::{text_refusal, type_refusal};
 use std::alloc::{AllocError, Global};
-use vx_parser::{TextFault, parse};
+use vx_parser::parse;
 use vx_print::print;
-use vx_report::Status;
+use vx_types::{TypeFault, check};
 
 /// What a command without a report says of a text.
 #[derive(Clone, Copy, PartialEq, Eq, Debug)]
@@ -18,27 +18,17 @@ pub enum Saying {
     Canonical,
 }
 
-/// What a command puts, and its status.
+/// What a command puts: its text, or the line of a refusal.
 #[derive(Drop)]
-pub struct Said {
-    pub bytes: Vec<u8>,
-    pub status: Status,
-}
-
-// The line of a text that is refused.
-fn refused(alloc: Global, fault: &TextFault) -> Result<Said, AllocError>
-    ensures { IfOk result (λ said. said.status ≡ Status.Refused) }
-{
-    Ok(Said {
-        bytes: text_refusal(alloc, fault)?.into_bytes(),
-        status: Status::Refused,
-    })
+pub enum Said {
+    Done(Vec<u8>),
+    Refused(String),
 }
 
 impl Saying {
     /// What is said of this text.
     pub fn of(self, alloc: Global, text: &[u8]) -> Result<Said, AllocError>
-        ensures { IfOk result (λ said. Says self text.now said.status (vec_items said.bytes)) }
+        ensures { IfOk result (SaysSo self text.now) }
     {
         match self {
             Saying::Typed => checked(alloc, text),
@@ -47,16 +37,27 @@ impl Saying {
     }
 }
 
+// `ok`, where the program that a text spells is typed.
+fn checked(alloc: Global, text: &[u8]) -> Result<Said, AllocError>
+    ensures { IfOk result (SaysSo Saying.Typed text.now) }
+{
+    let program = match parse(alloc, text) {
+        Ok(program) => program,
+        Err(fault) => return Ok(Said::Refused(text_refusal(alloc, &fault)?)),
+    };
+    match check(alloc, &program) {
+        Ok(_) => Ok(Said::Done(String::from_str(alloc, "ok\n")?.into_bytes())),
+        Err(TypeFault::Want) => Err(AllocError),
+        Err(fault) => Ok(Said::Refused(type_refusal(alloc, &fault)?)),
+    }
+}
+
 // The canonical text of the program that a text spells.
 fn canonical(alloc: Global, text: &[u8]) -> Result<Said, AllocError>
-    ensures { IfOk result (λ said. SaysPrinted text.now said.status (vec_items said.bytes)) }
+    ensures { IfOk result (SaysSo Saying.Canonical text.now) }
 {
     match parse(alloc, text) {
-        Ok(program) => Ok(Said {
-            bytes: print(alloc, &program)?,
-            status: Status::Done,
-        }),
-        Err(TextFault::Want) => Err(AllocError),
-        Err(fault) => refused(alloc, &fault),
+        Ok(program) => Ok(Said::Done(print(alloc, &program)?)),
+        Err(fault) => Ok(Said::Refused(text_refusal(alloc, &fault)?)),
     }
 }

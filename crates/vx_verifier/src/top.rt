@@ -15,7 +15,7 @@ use crate::answers::{TOO_LONG, UNREAD, USAGE};
 use crate::companion::Builtin;
 use crate::execute::verify;
 use crate::reading::{Loaded, Told, load, read_program};
-use crate::saying::Saying;
+use crate::saying::{Said, Saying};
 use std::alloc::{AllocError, Global};
 use vx_ends::{Files, Parts, PutFault, Sink, Spawner, put_all};
 use vx_report::{MemberRun, Status, status_of, write_report};
@@ -136,10 +136,10 @@ fn say_file<F: Files, K: Sink>(
     ensures status { IfOk result (λ ended. IsStatusOf (Rose (K.faults out.old) (K.faults out.new)) ⊥ (IsUnread (Rose (F.faults files.old) (F.faults files.new)) (F.holds files.old file.now)) ended.runs.items ended.status) }
 {
     match load(alloc, files, name_of(file))? {
-        Loaded::Text(text) => {
-            let said = saying.of(alloc, &text)?;
-            Ok(say(alloc, out, &said.bytes, said.status))
-        }
+        Loaded::Text(text) => match saying.of(alloc, &text)? {
+            Said::Done(bytes) => Ok(say(alloc, out, &bytes, Status::Done)),
+            Said::Refused(line) => Ok(say(alloc, out, line.as_bytes(), Status::Refused)),
+        },
         Loaded::Unread => Ok(say(alloc, out, UNREAD.as_bytes(), Status::Unread)),
         Loaded::TooLong => Ok(say(alloc, out, TOO_LONG.as_bytes(), Status::Unread)),
     }

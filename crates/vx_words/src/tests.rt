@@ -88,10 +88,26 @@ fn printed(order: &Order) -> Option<&str> {
 #[test]
 fn files_are_checked_and_printed(rt: HostRuntime) -> Result<(), Fail> {
     let alloc = rt.alloc();
-    assert_eq!(rt; checked(&order(alloc, &["vsil", "check", "f"])??), Some("f"));
-    assert_eq!(rt; printed(&order(alloc, &["vsil", "print", "f"])??), Some("f"));
-    assert!(rt; matches!(order(alloc, &["vsil", "check"])??, Order::Check { file: None }));
-    assert!(rt; matches!(order(alloc, &["vsil", "print"])??, Order::Print { file: None }));
+    assert_eq!(rt;
+        checked(&order(alloc, &["vsil", "check", "f"])??),
+        Some("f")
+    );
+    assert_eq!(rt;
+        printed(&order(alloc, &["vsil", "print", "f"])??),
+        Some("f")
+    );
+    assert!(rt;
+        matches!(
+            order(alloc, &["vsil", "check"])??,
+            Order::Check { file: None }
+        )
+    );
+    assert!(rt;
+        matches!(
+            order(alloc, &["vsil", "print"])??,
+            Order::Print { file: None }
+        )
+    );
     Ok(())
 }
 
