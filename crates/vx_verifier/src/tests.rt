@@ -2,6 +2,7 @@ use crate::companion::Builtin;
 use crate::edge::ChildSpawner;
 use crate::{Ended, run};
 use std::alloc::Global;
+use std::process::Abort;
 use std::test::Fail;
 use vx_ends::{Bytes, MemFiles, MemSink, NamedText, Parts, Script, ScriptSpawner, Spawner};
 use vx_report::{Cause, MemberRun, Status, Verdict};
@@ -206,6 +207,63 @@ fn refused_texts_have_one_line(rt: HostRuntime) -> Result<(), Fail> {
         assert_eq!(rt; status, 4);
     }
     Ok(())
+}
+
+// What a command without a report puts for each text, and its status.
+fn say_all(
+    rt: &impl Abort,
+    alloc: Global,
+    command: &str,
+    rows: &[(&str, &str, u8)],
+) -> Result<(), Fail> {
+    for (text, line, status) in rows {
+        let words = ["vsil", command];
+        let (ended, out) = put_into(alloc, &words, text.as_bytes(), 4096)?;
+        assert_eq!(rt; out.taken(), line.as_bytes(), "{text}");
+        assert_eq!(rt; ended, *status, "{text}");
+    }
+    Ok(())
+}
+
+#[test]
+fn programs_are_printed(rt: HostRuntime) -> Result<(), Fail> {
+    let rows = [
+        (
+            "method m(x:Int){assert (x)==x;}",
+            "method m ( x : Int ) { assert x == x }\n",
+            0,
+        ),
+        ("", "", 0),
+        // what is printed need not be typed
+        ("method m(){x:=1}", "method m ( ) { x := 1 }\n", 0),
+        (
+            "field f:Int predicate p(x:Ref){acc(x.f)} method m(x:Ref) requires p(x) ensures true requires false",
+            "field f : Int\npredicate p ( x : Ref ) { acc ( x . f , write ) }\nmethod m ( x : Ref ) requires p ( x ) ensures true requires false\n",
+            0,
+        ),
+        (
+            "method m(b:Bool){if(b){}else{} if(b){}elseif(b){}}",
+            "method m ( b : Bool ) { if ( b ) { } else { } if ( b ) { } elseif ( b ) { } }\n",
+            0,
+        ),
+        (
+            "method m() { assert forall i: Int :: i >= 0 }",
+            "error at 1:21: E09 Unsupported forall\n",
+            4,
+        ),
+        (
+            "method m() decreases 1 { }",
+            "error at 1:12: E09 Unsupported decreases\n",
+            4,
+        ),
+        (
+            "function f(): Int decreases 1 decreases 2 { 1 }",
+            "error at 1:31: E03 Unexpected decreases\n",
+            4,
+        ),
+        ("method m() {", "error at 1:13: E04 EndOfText\n", 4),
+    ];
+    say_all(&rt, rt.alloc(), "print", &rows)
 }
 
 // A spawner whose one child answers `success` so many times, and then this.
