@@ -6,3 +6,4 @@ pub mod Members
 pub mod Answered
 pub mod Spelled
 pub mod Refused
+pub mod Told

@@ -12,7 +12,7 @@ use Rattle.vx_parser.specs.declared.stop.MemberStop.TheVariants as inner
 use Rattle.vx_parser.specs.declared.stop.Stop.TheVariants as stops
 use Rattle.vx_parser.specs.declared.program.Halt.TheVariants as halts
 use Rattle.vx_parser.specs.Halting.{MemberStops}
-use Rattle.vx_parser.specs.Answers.{Halts}
+use Rattle.vx_parser.specs.Answers.{halt_of, HaltsAt}
 
 abbrev pub Total : Type 0
 Total = Result Program Halt
@@ -47,7 +47,7 @@ member_many tokens i before ts t us total lt first begins many so_far =
     sym so_far ∙ rw (left tokens i lt, first, begins, b) refl ∙ ap (λ (l : List Token). Err (too_many l)) (sym first)
 
 pub member_stops : (e : the_stop.MemberStop) (tokens : List the_token.Token) (i : ℕ) (before : List Member) (ts : List Token) (t : Token) (us : List Token) (total : Total) → i < length tokens → ts ≡ t ∷ us → begins_member t.kind ≡ true → length before < max_members → MemberStops e (member_at limit t us)
-    → members_by limit max_members (length (tokens_in tokens) - i) before ts ≡ total → Halts (halts.Inside e) total
+    → members_by limit max_members (length (tokens_in tokens) - i) before ts ≡ total → HaltsAt (halt_of (halts.Inside e)) total
 unfolding members_by
 member_stops (inner.Stopped stops.Memory) tokens i before ts t us total lt first begins few read so_far = tt
 member_stops (inner.Stopped (stops.Unexpected r)) tokens i before ts t us total lt first begins few read so_far =

@@ -17,21 +17,21 @@ answered : (ts : List Token) (at : Place) (p : Program) → members_at ts ≡ Ok
 unfolding answer
 answered ts at p e = rw e refl
 
-program_of : (r : Result the_program.Program the_fault.TextFault) (p : Program) (a : Result Program Fault) → a ≡ Ok p → IsAnswer r a → IsProgram r p
-program_of (Ok q) p (Ok x) e h = let same : x ≡ p = cc in h ∙ same
-program_of (Ok q) p (Err f) e h = absurd h
-program_of (Err faults.Want) p a e h = refl
-program_of (Err (faults.NotUtf8 q)) p (Ok x) e h = absurd h
-program_of (Err (faults.BadCharacter q)) p (Ok x) e h = absurd h
-program_of (Err (faults.Unexpected q s)) p (Ok x) e h = absurd h
-program_of (Err (faults.EndOfText q)) p (Ok x) e h = absurd h
-program_of (Err (faults.WideLiteral q)) p (Ok x) e h = absurd h
-program_of (Err (faults.TooDeep q)) p (Ok x) e h = absurd h
-program_of (Err faults.TooLong) p (Ok x) e h = absurd h
-program_of (Err (faults.TooManyMembers q)) p (Ok x) e h = absurd h
-program_of (Err (faults.Unsupported q s)) p (Ok x) e h = absurd h
-program_of (Err x) p (Err f) e h = absurd cc
+program_of : (bytes : List ℕ) (r : Result the_program.Program the_fault.TextFault) (p : Program) (a : Result Program Fault) → a ≡ Ok p → IsAnswer bytes r a → IsProgram r p
+program_of bytes (Ok q) p (Ok x) e h = let same : x ≡ p = cc in h ∙ same
+program_of bytes (Ok q) p (Err f) e h = absurd h
+program_of bytes (Err faults.Want) p a e h = refl
+program_of bytes (Err (faults.NotUtf8 q)) p (Ok x) e h = absurd h
+program_of bytes (Err (faults.BadCharacter q)) p (Ok x) e h = absurd h
+program_of bytes (Err (faults.Unexpected q s)) p (Ok x) e h = absurd h
+program_of bytes (Err (faults.EndOfText q)) p (Ok x) e h = absurd h
+program_of bytes (Err (faults.WideLiteral q)) p (Ok x) e h = absurd h
+program_of bytes (Err (faults.TooDeep q)) p (Ok x) e h = absurd h
+program_of bytes (Err faults.TooLong) p (Ok x) e h = absurd h
+program_of bytes (Err (faults.TooManyMembers q)) p (Ok x) e h = absurd h
+program_of bytes (Err (faults.Unsupported q s)) p (Ok x) e h = absurd h
+program_of bytes (Err x) p (Err f) e h = absurd cc
 
 -- what is spelled is answered, by what is answered of all tokens and endings
-pub spelled_is_answered : (text : List ℕ) (r : Result the_program.Program the_fault.TextFault) → SpelledProgramsAreRead → (length text ≤ 4194304 → IsUtf8 text → (ts : List Token) (e : Ending) → Scans first_place (unmarked text) ts e → IsAnswer r (answer ts e)) → (p : Program) → Spells text p → IsProgram r p
-spelled_is_answered text r law reads p s = program_of r p (answer s.tokens (AtEnd s.at)) (answered s.tokens s.at p (law s.tokens p s.within)) (reads s.short s.utf8 s.tokens (AtEnd s.at) s.scans)
+pub spelled_is_answered : (text : List ℕ) (r : Result the_program.Program the_fault.TextFault) → SpelledProgramsAreRead → (length text ≤ 4194304 → IsUtf8 text → (ts : List Token) (e : Ending) → Scans first_place (unmarked text) ts e → IsAnswer (unmarked text) r (answer ts e)) → (p : Program) → Spells text p → IsProgram r p
+spelled_is_answered text r law reads p s = program_of (unmarked text) r p (answer s.tokens (AtEnd s.at)) (answered s.tokens s.at p (law s.tokens p s.within)) (reads s.short s.utf8 s.tokens (AtEnd s.at) s.scans)

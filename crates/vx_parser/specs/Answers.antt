@@ -1,5 +1,6 @@
 -- What is answered for a text: its program, or the first fault with its place.
-use Rattle.std.specs.Prelude.{◌≡◌, ℕ, string_bytes, List, [], ◌∷◌, map, Result, Ok, Err, Bool, true, false, if◌then◌else◌, codes, ◌==◌}
+use Rattle.std.specs.Prelude.{◌≡◌, ℕ, string_bytes, List, [], ◌∷◌, ◌++◌, map, Option, Some, None, Result, Ok, Err, Bool, true, false, if◌then◌else◌, codes, ◌==◌}
+use Rattle.std.specs.List.{AllByRecursion}
 use Rattle.std.specs.Cmp.Lexicographic.{pointwise}
 use Rattle.std.specs.Global.{Vec}
 use Rattle.vx_ast.specs.declared.Place.{Place}
@@ -10,12 +11,13 @@ use Rattle.vx_tokens.specs.declared.token.Word.{Word}
 use Rattle.vx_tokens.specs.declared.token.Word.TheVariants as words
 use Rattle.vx_tokens.specs.declared.token.Symbol.{Symbol}
 use Rattle.vx_tokens.specs.declared.token.Symbol.TheVariants as signs
-use Rattle.vx_tokens.specs.Tokens.{Kind, name, number, word, symbol, Token, tokens_in}
+use Rattle.vx_tokens.specs.declared.token.Token as the_token
+use Rattle.vx_tokens.specs.Tokens.{Kind, name, number, word, symbol, Token, kind_of, tokens_in}
+use Rattle.vx_tokens.specs.Standing.{TokenAt}
 use Rattle.vx_tokens.specs.Text as text
 use Rattle.vx_grammar.specs.Reading as reading
 use Rattle.vx_grammar.specs.MemberReading as members
 use Rattle.vx_parser.specs.declared.stop.Stop.TheVariants as stops
-use Rattle.vx_parser.specs.declared.stop.MemberStop as the_inner
 use Rattle.vx_parser.specs.declared.stop.MemberStop.TheVariants as inner
 use Rattle.vx_parser.specs.declared.program.Halt as the_halt
 use Rattle.vx_parser.specs.declared.program.Halt.TheVariants as halts
@@ -70,38 +72,32 @@ early (text.BadCharacter p) = BadCharacter p
 abbrev pub unfit_token : Bool → Token → Fault
 unfit_token foreign t = if foreign then Unsupported t.place t.kind else Unexpected t.place t.kind
 
-abbrev pub unfit : (Kind → Bool) → List Token → text.Ending → Fault
-unfit foreign [] ending = early ending
-unfit foreign (t ∷ ts) ending = unfit_token (foreign t.kind) t
+-- the tokens where reading halts
+abbrev pub rest_of : members.Halt → List Token
+rest_of (members.inside (reading.Unexpected rest)) = rest
+rest_of (members.inside (reading.Measured rest)) = rest
+rest_of (members.inside (reading.TooDeep rest)) = rest
+rest_of (members.no_body rest) = rest
+rest_of (members.second_measure rest) = rest
+rest_of (members.no_member rest) = rest
+rest_of (members.too_many rest) = rest
 
-abbrev pub abstract_at : List Token → text.Ending → Fault
-abstract_at [] ending = early ending
-abstract_at (t ∷ ts) ending = Abstract t.place
+-- The fault at the first of them. A measure is left out where none may stand; a function's second one is no such word.
+abbrev pub token_fault : members.Halt → Token → Fault
+token_fault (members.inside (reading.Unexpected rest)) t = unfit_token (is_foreign t.kind) t
+token_fault (members.inside (reading.Measured rest)) t = Unsupported t.place t.kind
+token_fault (members.inside (reading.TooDeep rest)) t = TooDeep t.place
+token_fault (members.no_body rest) t = Abstract t.place
+token_fault (members.second_measure rest) t = Unexpected t.place t.kind
+token_fault (members.no_member rest) t = unfit_token (is_foreign_member t.kind) t
+token_fault (members.too_many rest) t = TooManyMembers t.place
 
--- a second measure of a function is no word that is left out
-abbrev pub never_foreign : Kind → Bool
-never_foreign k = false
-
--- a measure of a method or a loop is left out
-abbrev pub always_foreign : Kind → Bool
-always_foreign k = true
-
-abbrev pub too_deep : List Token → text.Ending → Fault
-too_deep [] ending = early ending
-too_deep (t ∷ ts) ending = TooDeep t.place
-
-abbrev pub too_many : List Token → text.Ending → Fault
-too_many [] ending = early ending
-too_many (t ∷ ts) ending = TooManyMembers t.place
+abbrev pub fault_at : members.Halt → List Token → text.Ending → Fault
+fault_at halt [] ending = early ending
+fault_at halt (t ∷ ts) ending = token_fault halt t
 
 abbrev pub fault_of : members.Halt → text.Ending → Fault
-fault_of (members.inside (reading.Unexpected rest)) ending = unfit is_foreign rest ending
-fault_of (members.inside (reading.Measured rest)) ending = unfit always_foreign rest ending
-fault_of (members.inside (reading.TooDeep rest)) ending = too_deep rest ending
-fault_of (members.no_body rest) ending = abstract_at rest ending
-fault_of (members.second_measure rest) ending = unfit never_foreign rest ending
-fault_of (members.no_member rest) ending = unfit is_foreign_member rest ending
-fault_of (members.too_many rest) ending = too_many rest ending
+fault_of halt ending = fault_at halt (rest_of halt) ending
 
 -- a program, where the text goes on with nothing behind it
 abbrev pub ended : Program → text.Ending → Result Program Fault
@@ -120,59 +116,71 @@ answer ts ending = answer_by (members.members_at ts) ending
 
 -- ---- what the program answers
 
--- an Err tells where reading stops, unless memory ran out
-abbrev pub Halts : the_halt.Halt → Result Program members.Halt → Type 0
-Halts (halts.Inside (inner.Stopped stops.Memory)) read = Unit {0}
-Halts (halts.Inside (inner.Stopped (stops.Unexpected ts))) read = read ≡ Err (members.inside (reading.Unexpected (tokens_in ts.now)))
-Halts (halts.Inside (inner.Stopped (stops.Measured ts))) read = read ≡ Err (members.inside (reading.Measured (tokens_in ts.now)))
-Halts (halts.Inside (inner.Stopped (stops.TooDeep ts))) read = read ≡ Err (members.inside (reading.TooDeep (tokens_in ts.now)))
-Halts (halts.Inside (inner.Bodiless ts)) read = read ≡ Err (members.no_body (tokens_in ts.now))
-Halts (halts.Inside (inner.MeasuredTwice ts)) read = read ≡ Err (members.second_measure (tokens_in ts.now))
-Halts (halts.NoMember ts) read = read ≡ Err (members.no_member (tokens_in ts.now))
-Halts (halts.TooMany ts) read = read ≡ Err (members.too_many (tokens_in ts.now))
+-- where reading halts, unless memory ran out
+abbrev pub halt_of : the_halt.Halt → Option members.Halt
+halt_of (halts.Inside (inner.Stopped stops.Memory)) = None
+halt_of (halts.Inside (inner.Stopped (stops.Unexpected ts))) = Some (members.inside (reading.Unexpected (tokens_in ts.now)))
+halt_of (halts.Inside (inner.Stopped (stops.Measured ts))) = Some (members.inside (reading.Measured (tokens_in ts.now)))
+halt_of (halts.Inside (inner.Stopped (stops.TooDeep ts))) = Some (members.inside (reading.TooDeep (tokens_in ts.now)))
+halt_of (halts.Inside (inner.Bodiless ts)) = Some (members.no_body (tokens_in ts.now))
+halt_of (halts.Inside (inner.MeasuredTwice ts)) = Some (members.second_measure (tokens_in ts.now))
+halt_of (halts.NoMember ts) = Some (members.no_member (tokens_in ts.now))
+halt_of (halts.TooMany ts) = Some (members.too_many (tokens_in ts.now))
 
+abbrev pub HaltsAt : Option members.Halt → Result Program members.Halt → Type 0
+HaltsAt None read = Unit {0}
+HaltsAt (Some h) read = read ≡ Err h
+
+-- an Err tells where reading halts, unless memory ran out
 abbrev pub GivesMembers : Result (Vec the_member.Member) the_halt.Halt → Result Program members.Halt → Type 0
 GivesMembers (Ok ms) read = read ≡ Ok (map written_member ms.items)
-GivesMembers (Err e) read = Halts e read
+GivesMembers (Err e) read = HaltsAt (halt_of e) read
 
--- an unsupported token, or the word that tells a function without a body
-abbrev pub IsUnsupported : Place → List ℕ → Fault → Type 0
-IsUnsupported p text (Unsupported q k) = q ≡ p
-IsUnsupported p text (Abstract q) = (q ≡ p) × (text ≡ codes "abstract")
-IsUnsupported p text (BadCharacter q) = ⊥
-IsUnsupported p text (Unexpected q k) = ⊥
-IsUnsupported p text (EndOfText q) = ⊥
-IsUnsupported p text (WideLiteral q) = ⊥
-IsUnsupported p text (TooDeep q) = ⊥
-IsUnsupported p text (TooManyMembers q) = ⊥
+-- The argument of an unsupported token is its text. That of a function without a body is the word that tells it.
+abbrev pub IsUnsupported : List ℕ → Place → List ℕ → Fault → Type 0
+IsUnsupported bytes p argument (Unsupported q k) = (q ≡ p) × TokenAt bytes p k argument
+IsUnsupported bytes p argument (Abstract q) = (q ≡ p) × (argument ≡ codes "abstract")
+IsUnsupported bytes p argument (BadCharacter q) = ⊥
+IsUnsupported bytes p argument (Unexpected q k) = ⊥
+IsUnsupported bytes p argument (EndOfText q) = ⊥
+IsUnsupported bytes p argument (WideLiteral q) = ⊥
+IsUnsupported bytes p argument (TooDeep q) = ⊥
+IsUnsupported bytes p argument (TooManyMembers q) = ⊥
 
--- a fault that is answered is this one, unless memory ran out
-abbrev pub Shows : the_fault.TextFault → Fault → Type 0
-Shows faults.Want f = Unit {0}
-Shows (faults.BadCharacter p) f = f ≡ BadCharacter p
-Shows (faults.Unexpected p s) f = (k : Kind) × (f ≡ Unexpected p k)
-Shows (faults.EndOfText p) f = f ≡ EndOfText p
-Shows (faults.WideLiteral p) f = f ≡ WideLiteral p
-Shows (faults.TooDeep p) f = f ≡ TooDeep p
-Shows (faults.TooManyMembers p) f = f ≡ TooManyMembers p
-Shows (faults.Unsupported p s) f = IsUnsupported p (string_bytes s) f
-Shows (faults.NotUtf8 p) f = ⊥
-Shows faults.TooLong f = ⊥
+-- A fault that is answered of a text is this one, unless memory ran out. Its argument is the text of the token at which it
+-- stands.
+abbrev pub Shows : List ℕ → the_fault.TextFault → Fault → Type 0
+Shows bytes faults.Want f = Unit {0}
+Shows bytes (faults.BadCharacter p) f = f ≡ BadCharacter p
+Shows bytes (faults.Unexpected p s) f = (k : Kind) × (f ≡ Unexpected p k) × TokenAt bytes p k (string_bytes s)
+Shows bytes (faults.EndOfText p) f = f ≡ EndOfText p
+Shows bytes (faults.WideLiteral p) f = f ≡ WideLiteral p
+Shows bytes (faults.TooDeep p) f = f ≡ TooDeep p
+Shows bytes (faults.TooManyMembers p) f = f ≡ TooManyMembers p
+Shows bytes (faults.Unsupported p s) f = IsUnsupported bytes p (string_bytes s) f
+Shows bytes (faults.NotUtf8 p) f = ⊥
+Shows bytes faults.TooLong f = ⊥
 
--- the fault of a member where reading stops so
-abbrev pub FaultsInside : the_fault.TextFault → the_inner.MemberStop → text.Ending → Type 0
-FaultsInside f (inner.Stopped stops.Memory) ending = f ≡ faults.Want
-FaultsInside f (inner.Stopped (stops.Unexpected ts)) ending = Shows f (unfit is_foreign (tokens_in ts.now) ending)
-FaultsInside f (inner.Stopped (stops.Measured ts)) ending = Shows f (unfit always_foreign (tokens_in ts.now) ending)
-FaultsInside f (inner.Stopped (stops.TooDeep ts)) ending = Shows f (too_deep (tokens_in ts.now) ending)
-FaultsInside f (inner.Bodiless ts) ending = Shows f (abstract_at (tokens_in ts.now) ending)
-FaultsInside f (inner.MeasuredTwice ts) ending = Shows f (unfit never_foreign (tokens_in ts.now) ending)
+-- the token's text is what spells it at its place
+abbrev pub StandsIn : List ℕ → the_token.Token → Type 0
+StandsIn bytes t = TokenAt bytes t.place (kind_of t.kind) t.text.now
 
--- the fault of a reading that halts so
-abbrev pub FaultsAs : the_fault.TextFault → the_halt.Halt → text.Ending → Type 0
-FaultsAs f (halts.Inside stop) ending = FaultsInside f stop ending
-FaultsAs f (halts.NoMember ts) ending = Shows f (unfit is_foreign_member (tokens_in ts.now) ending)
-FaultsAs f (halts.TooMany ts) ending = Shows f (too_many (tokens_in ts.now) ending)
+abbrev pub AllStandIn : List ℕ → List the_token.Token → Type 0
+AllStandIn bytes ts = AllByRecursion (StandsIn bytes) ts
+
+-- the tokens end with these
+abbrev pub EndsWith : List Token → List Token → Type 0
+EndsWith ts rest = (front : List Token) × (ts ≡ front ++ rest)
+
+-- the fault where reading halts so at a token
+abbrev pub FaultsAt : List ℕ → the_fault.TextFault → Option members.Halt → Token → Type 0
+FaultsAt bytes f None t = f ≡ faults.Want
+FaultsAt bytes f (Some h) t = Shows bytes f (token_fault h t)
+
+-- the fault where reading these tokens halts so
+abbrev pub FaultsAs : List ℕ → List Token → the_fault.TextFault → Option members.Halt → text.Ending → Type 0
+FaultsAs bytes ts f None ending = f ≡ faults.Want
+FaultsAs bytes ts f (Some h) ending = EndsWith ts (rest_of h) → Shows bytes f (fault_of h ending)
 
 abbrev pub IsEnd : text.Ending → Type 0
 IsEnd (text.AtEnd p) = Unit {0}
@@ -180,10 +188,10 @@ IsEnd (text.OpenComment p) = ⊥
 IsEnd (text.WideLiteral p) = ⊥
 IsEnd (text.BadCharacter p) = ⊥
 
--- what is answered is the program, or the fault, unless memory ran out
-abbrev pub IsAnswer : Result the_program.Program the_fault.TextFault → Result Program Fault → Type 0
-IsAnswer (Ok p) (Ok q) = written_program p ≡ q
-IsAnswer (Ok p) (Err f) = ⊥
-IsAnswer (Err faults.Want) r = Unit {0}
-IsAnswer (Err e) (Ok q) = ⊥
-IsAnswer (Err e) (Err f) = Shows e f
+-- what is answered of a text is the program, or the fault, unless memory ran out
+abbrev pub IsAnswer : List ℕ → Result the_program.Program the_fault.TextFault → Result Program Fault → Type 0
+IsAnswer bytes (Ok p) (Ok q) = written_program p ≡ q
+IsAnswer bytes (Ok p) (Err f) = ⊥
+IsAnswer bytes (Err faults.Want) r = Unit {0}
+IsAnswer bytes (Err e) (Ok q) = ⊥
+IsAnswer bytes (Err e) (Err f) = Shows bytes e f

@@ -1,21 +1,23 @@
 -- What each fault says of the tokens, by the programs that could go on with them.
-use Rattle.std.specs.Prelude.{◌≡◌, List, [], ◌∷◌, Result, Ok, Err, ◌⊎◌}
+use Rattle.std.specs.Prelude.{◌≡◌, ℕ, List, [], ◌∷◌, Result, Ok, Err, ◌⊎◌}
 use Rattle.vx_ast.specs.declared.Place.{Place}
 use Rattle.vx_ast.specs.Written.{Program}
 use Rattle.vx_tokens.specs.Tokens.{Kind, Token}
 use Rattle.vx_tokens.specs.Text.{Ending}
-use Rattle.vx_grammar.specs.ProgramLaws.{ProgramSpelled, ProgramWithin, FitsInFront, FirstUnfit, StopsAtBody, StopsTooDeep, StopsTooMany}
+use Rattle.vx_grammar.specs.ProgramLaws.{ProgramSpelled, ProgramWithin, FitsInFront, FirstUnfit, StopsAtBody, StopsTooDeep, StopsTooMany, BeginsMeasure, StopsAtMeasure, NoClauseFits}
 use Rattle.vx_parser.specs.declared.fault.TextFault as the_fault
 use Rattle.vx_parser.specs.declared.fault.TextFault.TheVariants as faults
 use Rattle.vx_parser.specs.Answers.{Fault, BadCharacter, Unexpected, EndOfText, WideLiteral, TooDeep, TooManyMembers, Unsupported, Abstract, early, IsEnd, answer, Shows}
 
--- a token of this kind stands there, the tokens in front of it fit, and no program goes on with it
-pub record UnfitAt (at : Place) (kind : Kind) (ts : List Token) : Type 0 where
+-- A token of this kind stands there, the tokens in front of it fit, and no program goes on with it. What is left from it on
+-- is such.
+pub record UnfitAt (at : Place) (kind : Kind) (ts : List Token) (IsSuch : List Token → Type 0) : Type 0 where
   pub token : Token
   pub after : List Token
   pub place : token.place ≡ at
   pub is : token.kind ≡ kind
   pub first : FirstUnfit ts (token ∷ after)
+  pub such : IsSuch (token ∷ after)
 
 -- a token stands there with which no program goes on, and which stands in place of a function's body
 pub record AbstractAt (at : Place) (ts : List Token) : Type 0 where
@@ -46,10 +48,18 @@ AllFit ts = FitsInFront ts []
 abbrev pub NoProgram : List Token → Type 0
 NoProgram ts = (p : Program) → ProgramSpelled ts p → ⊥
 
+-- a measure is left out where a clause fits in its place, and the block of a method or a loop too
+abbrev pub LeavesOut : List Token → List Token → Type 0
+LeavesOut ts rest = BeginsMeasure rest → StopsAtMeasure ts rest
+
+-- no other measure is: no clause fits in its place, or it is a function's second one
+abbrev pub KnowsAll : List Token → List Token → Type 0
+KnowsAll ts rest = NoClauseFits ts rest ⊎ StopsAtBody ts rest
+
 -- what a fault says of the tokens of a text and its ending
 abbrev pub FaultSays : List Token → Ending → Fault → Type 0
-FaultSays ts e (Unexpected p k) = UnfitAt p k ts
-FaultSays ts e (Unsupported p k) = UnfitAt p k ts
+FaultSays ts e (Unexpected p k) = UnfitAt p k ts (KnowsAll ts)
+FaultSays ts e (Unsupported p k) = UnfitAt p k ts (LeavesOut ts)
 FaultSays ts e (Abstract p) = AbstractAt p ts
 FaultSays ts e (EndOfText p) = (early e ≡ EndOfText p) × AllFit ts × (IsEnd e → NoProgram ts)
 FaultSays ts e (WideLiteral p) = (early e ≡ WideLiteral p) × AllFit ts
@@ -65,6 +75,6 @@ AnswerSays ts e (Err f) = FaultSays ts e f
 abbrev pub AnswersSay : Type 0
 AnswersSay = (ts : List Token) (e : Ending) → AnswerSays ts e (answer ts e)
 
--- memory ran out, or the fault is one that says so
-abbrev pub IsRefusal : List Token → Ending → the_fault.TextFault → Type 0
-IsRefusal ts e f = (f ≡ faults.Want) ⊎ ((g : Fault) × Shows f g × FaultSays ts e g)
+-- memory ran out, or the fault of the text is one that says so
+abbrev pub IsRefusal : List ℕ → List Token → Ending → the_fault.TextFault → Type 0
+IsRefusal bytes ts e f = (f ≡ faults.Want) ⊎ ((g : Fault) × Shows bytes f g × FaultSays ts e g)

@@ -1,6 +1,6 @@
 -- The words and signs of Viper (VMCAI 2016), as they are parsed, that the store language lacks: its programs have no heap,
 -- so no fields, no references, no permissions and no predicates, no functions, and no loops.
-use Rattle.std.specs.Prelude.{◌≡◌, Bool, true, false, Option, Some, None}
+use Rattle.std.specs.Prelude.{◌≡◌, ℕ, List, Bool, true, false, Option, Some, None}
 use Rattle.vx_tokens.specs.declared.token.Word.{Word}
 use Rattle.vx_tokens.specs.declared.token.Word.TheVariants as words
 use Rattle.vx_tokens.specs.declared.token.Symbol.{Symbol}
@@ -48,9 +48,9 @@ is_beyond_kind (number n) = false
 abbrev pub is_beyond : Token → Bool
 is_beyond t = is_beyond_kind t.kind
 
--- what is answered stands at this token, and nothing is answered where there is none, unless memory ran out
-abbrev pub IsFirst : Option the_fault.TextFault → Option Token → Type 0
-IsFirst None None = Unit {0}
-IsFirst None (Some t) = ⊥
-IsFirst (Some f) None = f ≡ faults.Want
-IsFirst (Some f) (Some t) = Shows f (Unsupported t.place t.kind)
+-- what is answered of a text stands at this token, and nothing is answered where there is none, unless memory ran out
+abbrev pub IsFirst : List ℕ → Option the_fault.TextFault → Option Token → Type 0
+IsFirst bytes None None = Unit {0}
+IsFirst bytes None (Some t) = ⊥
+IsFirst bytes (Some f) None = f ≡ faults.Want
+IsFirst bytes (Some f) (Some t) = Shows bytes f (Unsupported t.place t.kind)

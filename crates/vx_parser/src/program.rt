@@ -1,6 +1,7 @@
 //! From the bytes of a text to its program.
 
-ghost use Rattle.std.specs.Prelude.{◌≡◌, ◌≤◌, ◌<◌, ◌↔◌, ℕ, List, length, take, Err, IfErr, IfOk, IsErrOf, MatchOption};
+ghost use Rattle.std.specs.Prelude.{◌≡◌, ◌≤◌, ◌<◌, ◌-◌, ◌↔◌, ℕ, List, length, take, Err, IfErr, IfOk, IsErrOf, MatchOption, option_copied, option_map};
+ghost use Rattle.std.specs.List.{slice_get};
 ghost use Rattle.std.specs.Str.{IsUtf8};
 ghost use Rattle.std.specs.Str.Lossy.{utf8_valid_len};
 ghost use Rattle.vx_tokens.specs.Text.{Scans, first_place, unmarked, after, Ending as End};
@@ -23,7 +24,9 @@ use crate::stop::{MemberStop, Stop};
 use std::alloc::{AllocError, AllocFailed, Global};
 use std::str;
 use vx_ast::{Member, Place, Program};
-use vx_grammar::{programs_are_spelled, reading_stops_at_first, spelled_programs_are_read};
+use vx_grammar::{
+    measures_are_told, programs_are_spelled, reading_stops_at_first, spelled_programs_are_read,
+};
 use vx_tokens::{Ending, Kind, MAX_TEXT, Symbol, Token, Word, end_of, lex};
 
 /// The most members of a program.
@@ -37,6 +40,24 @@ enum Halt<'t> {
     /// Where a member is due.
     NoMember(&'t [Token<'t>]),
     TooMany(&'t [Token<'t>]),
+}
+
+impl<'t> Halt<'t> {
+    // The tokens where reading halts, unless memory ran out.
+    fn rest(&self) -> Option<&'t [Token<'t>]>
+        ensures { option_map (λ ts. tokens_in ts.now) result ≡ option_map answers.rest_of (answers.halt_of self.now) }
+    {
+        match self {
+            Halt::Inside(MemberStop::Stopped(Stop::Memory)) => None,
+            Halt::Inside(MemberStop::Stopped(Stop::Unexpected(rest))) => Some(*rest),
+            Halt::Inside(MemberStop::Stopped(Stop::Measured(rest))) => Some(*rest),
+            Halt::Inside(MemberStop::Stopped(Stop::TooDeep(rest))) => Some(*rest),
+            Halt::Inside(MemberStop::Bodiless(rest)) => Some(*rest),
+            Halt::Inside(MemberStop::MeasuredTwice(rest)) => Some(*rest),
+            Halt::NoMember(rest) => Some(*rest),
+            Halt::TooMany(rest) => Some(*rest),
+        }
+    }
 }
 
 impl<'t> From<MemberStop<'t>> for Halt<'t> {
@@ -65,14 +86,15 @@ pub fn parse(alloc: Global, text: &[u8]) -> Result<Program, TextFault>
     ensures too_long { IsErrOf result faults.TooLong ↔ (4194304 < length text.now) }
     // Bytes that are no text are refused behind the last character before them, which is decided second.
     ensures not_utf8 { length text.now ≤ 4194304 → (IsUtf8 text.now → ⊥) → result ≡ Err (faults.NotUtf8 (after first_place (unmarked (take (utf8_valid_len text.now) text.now)))) }
-    // Another fault stands at the first token with which no program goes on, at the first that nests too deep, or at one
-    // member too many; or all tokens fit, and the text goes on with none.
-    ensures refused { IfErr result (λ f. length text.now ≤ 4194304 → IsUtf8 text.now → (ts : List Tok) (e : End) → Scans first_place (unmarked text.now) ts e → IsRefusal ts e f) }
+    // Another fault stands at the first token with which no program goes on, whose text it has as its argument, at the
+    // first that nests too deep, or at one member too many; or all tokens fit, and the text goes on with none.
+    ensures refused { IfErr result (λ f. length text.now ≤ 4194304 → IsUtf8 text.now → (ts : List Tok) (e : End) → Scans first_place (unmarked text.now) ts e → IsRefusal (unmarked text.now) ts e f) }
     // Else the tokens of the text, and how it goes on behind them, give the answer, unless memory runs out.
-    ensures reads { length text.now ≤ 4194304 → IsUtf8 text.now → (ts : List Tok) (e : End) → Scans first_place (unmarked text.now) ts e → answers.IsAnswer result (answers.answer ts e) }
+    ensures reads { length text.now ≤ 4194304 → IsUtf8 text.now → (ts : List Tok) (e : End) → Scans first_place (unmarked text.now) ts e → answers.IsAnswer (unmarked text.now) result (answers.answer ts e) }
 {
     programs_are_spelled();
     reading_stops_at_first();
+    measures_are_told();
     spelled_programs_are_read();
     if text.len() > MAX_TEXT {
         return Err(TextFault::TooLong);
@@ -82,12 +104,13 @@ pub fn parse(alloc: Global, text: &[u8]) -> Result<Program, TextFault>
         return Err(TextFault::NotUtf8(place));
     }
     let lexed = lex(alloc, text)?;
-    match members(alloc, lexed.tokens.as_slice()) {
+    let tokens = lexed.tokens.as_slice();
+    match members(alloc, tokens) {
         Ok(members) => match ended(lexed.ending) {
             None => Ok(Program { members }),
             Some(fault) => Err(fault),
         },
-        Err(halt) => Err(fault(alloc, halt, lexed.ending)),
+        Err(halt) => Err(fault(alloc, tokens, halt, lexed.ending)),
     }
 }
 
@@ -132,7 +155,7 @@ fn members<'t>(alloc: Global, tokens: &'t [Token<'t>]) -> Result<Vec<Member>, Ha
 
 // Why a text that ends so is no program, although its tokens spell one.
 fn ended(ending: Ending) -> Option<TextFault>
-    ensures { MatchOption result (answers.IsEnd (ending_of ending)) (λ f. (answers.IsEnd (ending_of ending) → ⊥) × answers.Shows f (answers.early (ending_of ending))) }
+    ensures { MatchOption result (answers.IsEnd (ending_of ending)) (λ f. (answers.IsEnd (ending_of ending) → ⊥) × ((bytes : List ℕ) → answers.Shows bytes f (answers.early (ending_of ending)))) }
 {
     match ending {
         Ending::AtEnd(_) => None,
@@ -142,7 +165,7 @@ fn ended(ending: Ending) -> Option<TextFault>
 
 // What stands where no token is left, but one is due.
 fn early(ending: Ending) -> TextFault
-    ensures { answers.Shows result (answers.early (ending_of ending)) }
+    ensures { (bytes : List ℕ) → answers.Shows bytes result (answers.early (ending_of ending)) }
 {
     match ending {
         Ending::AtEnd(place) | Ending::OpenComment(place) => TextFault::EndOfText(place),
@@ -151,37 +174,47 @@ fn early(ending: Ending) -> TextFault
     }
 }
 
-fn member_fault(alloc: Global, stop: MemberStop, ending: Ending) -> TextFault
-    ensures { answers.FaultsInside result stop.entry (ending_of ending) }
+// Why a text of these tokens is no program, where reading them halts so.
+fn fault(alloc: Global, tokens: &[Token], halt: Halt, ending: Ending) -> TextFault
+    ensures { (bytes : List ℕ) → answers.AllStandIn bytes tokens.now → answers.FaultsAs bytes (tokens_in tokens.now) result (answers.halt_of halt.entry) (ending_of ending) }
 {
-    match stop {
-        MemberStop::Stopped(Stop::Memory) => TextFault::Want,
-        MemberStop::Stopped(Stop::Unexpected(rest)) => match rest.first() {
-            Some(token) => unfit(alloc, token, is_foreign(token.kind)),
-            None => early(ending),
-        },
-        MemberStop::Stopped(Stop::Measured(rest)) => match rest.first() {
-            Some(token) => unfit(alloc, token, true),
-            None => early(ending),
-        },
-        MemberStop::Stopped(Stop::TooDeep(rest)) => match rest.first() {
-            Some(token) => TextFault::TooDeep(token.place),
-            None => early(ending),
-        },
-        MemberStop::Bodiless(rest) => match rest.first() {
-            Some(token) => bodiless(alloc, token.place),
-            None => early(ending),
-        },
-        MemberStop::MeasuredTwice(rest) => match rest.first() {
-            Some(token) => unfit(alloc, token, false),
-            None => early(ending),
-        },
+    let Some(rest) = halt.rest() else {
+        return TextFault::Want;
+    };
+    match first_left(tokens, rest) {
+        None => early(ending),
+        Some(token) => token_fault(alloc, halt, token),
+    }
+}
+
+// The token of all, with its text, at which the last ones begin.
+fn first_left<'a, 't>(tokens: &'a [Token<'t>], last: &[Token<'t>]) -> Option<&'a Token<'t>>
+    ensures { option_copied result ≡ slice_get tokens.now (length tokens.now - length last.now) }
+{
+    tokens.get(tokens.len().saturating_sub(last.len()))
+}
+
+// Why a text is no program, where reading halts so at a token.
+fn token_fault(alloc: Global, halt: Halt, token: &Token) -> TextFault
+    ensures { (bytes : List ℕ) → answers.StandsIn bytes token.now → answers.FaultsAt bytes result (answers.halt_of halt.entry) (token_of token.now) }
+{
+    match halt {
+        Halt::Inside(MemberStop::Stopped(Stop::Memory)) => TextFault::Want,
+        Halt::Inside(MemberStop::Stopped(Stop::Unexpected(_))) => {
+            unfit(alloc, token, is_foreign(token.kind))
+        }
+        Halt::Inside(MemberStop::Stopped(Stop::Measured(_))) => unfit(alloc, token, true),
+        Halt::Inside(MemberStop::Stopped(Stop::TooDeep(_))) => TextFault::TooDeep(token.place),
+        Halt::Inside(MemberStop::Bodiless(_)) => bodiless(alloc, token.place),
+        Halt::Inside(MemberStop::MeasuredTwice(_)) => unfit(alloc, token, false),
+        Halt::NoMember(_) => unfit(alloc, token, is_foreign_member(token.kind)),
+        Halt::TooMany(_) => TextFault::TooManyMembers(token.place),
     }
 }
 
 // A function without a body.
 fn bodiless(alloc: Global, place: Place) -> TextFault
-    ensures { answers.Shows result (answers.Abstract place) }
+    ensures { (bytes : List ℕ) → answers.Shows bytes result (answers.Abstract place) }
 {
     match String::from_str(alloc, "abstract") {
         Err(_) => TextFault::Want,
@@ -189,25 +222,9 @@ fn bodiless(alloc: Global, place: Place) -> TextFault
     }
 }
 
-fn fault(alloc: Global, halt: Halt, ending: Ending) -> TextFault
-    ensures { answers.FaultsAs result halt.entry (ending_of ending) }
-{
-    match halt {
-        Halt::Inside(stop) => member_fault(alloc, stop, ending),
-        Halt::NoMember(rest) => match rest.first() {
-            Some(token) => unfit(alloc, token, is_foreign_member(token.kind)),
-            None => early(ending),
-        },
-        Halt::TooMany(rest) => match rest.first() {
-            Some(token) => TextFault::TooManyMembers(token.place),
-            None => early(ending),
-        },
-    }
-}
-
 /// A token where no program goes on with it.
 pub fn unfit(alloc: Global, token: &Token, foreign: bool) -> TextFault
-    ensures { answers.Shows result (answers.unfit_token foreign (token_of token.now)) }
+    ensures { (bytes : List ℕ) → answers.StandsIn bytes token.now → answers.Shows bytes result (answers.unfit_token foreign (token_of token.now)) }
 {
     match String::from_utf8_lossy(alloc, token.text) {
         Err(_) => TextFault::Want,

@@ -1,6 +1,7 @@
 //! Texts within the store language.
 
-ghost use Rattle.std.specs.Prelude.{◌≡◌, ◌≤◌, ◌<◌, ◌↔◌, List, length, Some, option_map};
+ghost use Rattle.std.specs.Prelude.{◌≡◌, ◌≤◌, ◌<◌, ◌↔◌, ℕ, List, length, Some, IfSome, option_map};
+ghost use Rattle.vx_parser.specs.Answers.{StandsIn, AllStandIn};
 ghost use Rattle.std.specs.List.{find};
 ghost use Rattle.vx_tokens.specs.Text.{Scans, first_place, unmarked, Ending as End};
 ghost use Rattle.vx_tokens.specs.Tokens.{kind_of, token_of, tokens_in, Token as Tok};
@@ -18,8 +19,8 @@ use vx_tokens::{Kind, MAX_TEXT, Symbol, Token, Word, lex};
 pub fn beyond_store(alloc: Global, text: &[u8]) -> Option<TextFault>
     // A text is too long exactly above 4,194,304 bytes.
     ensures too_long { result ≡ Some faults.TooLong ↔ (4194304 < length text.now) }
-    // The first token that the store language lacks is answered, and none where it lacks none.
-    ensures first { length text.now ≤ 4194304 → (ts : List Tok) (e : End) → Scans first_place (unmarked text.now) ts e → store.IsFirst result (find store.is_beyond ts) }
+    // The first token that the store language lacks is answered, with its text, and none where it lacks none.
+    ensures first { length text.now ≤ 4194304 → (ts : List Tok) (e : End) → Scans first_place (unmarked text.now) ts e → store.IsFirst (unmarked text.now) result (find store.is_beyond ts) }
 {
     if text.len() > MAX_TEXT {
         return Some(TextFault::TooLong);
@@ -34,7 +35,8 @@ pub fn beyond_store(alloc: Global, text: &[u8]) -> Option<TextFault>
 }
 
 fn first_beyond<'t>(tokens: &'t [Token<'t>]) -> Option<&'t Token<'t>>
-    ensures { option_map (λ t. token_of t.now) result ≡ find store.is_beyond (tokens_in tokens.now) }
+    ensures first { option_map (λ t. token_of t.now) result ≡ find store.is_beyond (tokens_in tokens.now) }
+    ensures stands { (bytes : List ℕ) → AllStandIn bytes tokens.now → IfSome result (λ t. StandsIn bytes t.now) }
 {
     let mut rest = tokens;
     for _ in 0..tokens.len() {

@@ -4,3 +4,4 @@ pub mod Scan
 pub mod Pieces
 pub mod Right
 pub mod Answer
+pub mod Standing

@@ -188,7 +188,7 @@ describes (b ∷ bs) =
     (λ h4. sign_describes (b ∷ bs) (sign_in all_signs (b ∷ bs)) (omega arith) refl))))
 
 -- what is found is spelled by what is taken
-pub found_spells : (bytes : List ℕ) (k : Kind) (n : ℕ) → found k n ≡ next bytes → Spells k (take n bytes)
+found_spells : (bytes : List ℕ) (k : Kind) (n : ℕ) → found k n ≡ next bytes → Spells k (take n bytes)
 found_spells bytes k n e = (subst (λ x. Describes x bytes) (sym e) (describes bytes)).0
 
 open_is_unclosed : (bytes : List ℕ) → IsOpenComment bytes → next bytes ≡ unclosed
@@ -208,6 +208,11 @@ longest_of x bytes q n e bound is text le = record {
 
 none_of : (bytes : List ℕ) → next bytes ≡ bad → BeginsNoPiece bytes
 none_of bytes e q more is text = subst (λ y. Reaches y (length (text_of q))) (ap next (sym text) ∙ e) (reaches q more is)
+
+pub found_longest : (bytes : List ℕ) (k : Kind) (n : ℕ) → found k n ≡ next bytes → IsLongest (token k (take n bytes)) bytes (drop n bytes)
+found_longest bytes k n e =
+    let f : Fits (length bytes) (found k n) = subst (Fits (length bytes)) (sym e) (next_fits bytes) in
+    longest_of (found k n) bytes (token k (take n bytes)) n (sym e) (λ m h. h) (found_spells bytes k n e) refl f.1
 
 -- ---- all pieces
 

@@ -2,7 +2,8 @@
 
 ghost use Rattle.std.specs.Prelude.{◌≡◌, ◌≤◌, ◌<◌, ◌^◌, ◌+◌, length, IfOk, List};
 ghost use Rattle.std.specs.List.{AllByRecursion};
-ghost use Rattle.vx_tokens.specs.Text.{after, first_place, unmarked, Scans, Spells, Ending as End};
+ghost use Rattle.vx_tokens.specs.Text.{after, first_place, unmarked, Scans, Ending as End};
+ghost use Rattle.vx_tokens.specs.Standing.{TokenAt};
 ghost use Rattle.vx_tokens.specs.Scanning.{scan};
 ghost use Rattle.vx_tokens.specs.Views.{lexed_of, ending_of};
 ghost use Rattle.vx_tokens.specs.Tokens.{kind_of, tokens_in, Token as Tok};
@@ -83,8 +84,8 @@ pub fn lex<'t>(alloc: Global, text: &'t [u8]) -> Result<Lexed<'t>, AllocError>
     ensures scans { IfOk result (λ l. Scans first_place (unmarked text.now) (tokens_in l.tokens.items) (ending_of l.ending)) }
     // It is made of no others.
     ensures only { IfOk result (λ l. (ts : List Tok) (e : End) → Scans first_place (unmarked text.now) ts e → (tokens_in l.tokens.items ≡ ts) × (ending_of l.ending ≡ e)) }
-    // Each token's text spells it.
-    ensures texts { IfOk result (λ l. AllByRecursion (λ t. Spells (kind_of t.kind) t.text.now) l.tokens.items) }
+    // Each token's text is what spells it at its place.
+    ensures texts { IfOk result (λ l. AllByRecursion (λ t. TokenAt (unmarked text.now) t.place (kind_of t.kind) t.text.now) l.tokens.items) }
 {
     scanned(alloc, unmarked(text))
 }
@@ -92,7 +93,7 @@ pub fn lex<'t>(alloc: Global, text: &'t [u8]) -> Result<Lexed<'t>, AllocError>
 fn scanned<'t>(alloc: Global, text: &'t [u8]) -> Result<Lexed<'t>, AllocError>
     requires { length text.now ≤ 4194304 }
     ensures scanned { IfOk result (λ l. lexed_of l ≡ scan 0 first_place text.now) }
-    ensures texts { IfOk result (λ l. AllByRecursion (λ t. Spells (kind_of t.kind) t.text.now) l.tokens.items) }
+    ensures texts { IfOk result (λ l. AllByRecursion (λ t. TokenAt text.now t.place (kind_of t.kind) t.text.now) l.tokens.items) }
 {
     let mut tokens = Vec::new(alloc);
     let mut place = Place { line: 1, column: 1 };

@@ -4,7 +4,8 @@ use Rattle.std.proofs.Common.{◌∷◌, []}
 use Rattle.std.proofs.lemmas.List.{map-append, length-take}
 use Rattle.vx_tokens.specs.Text.{after, first_place, one_token}
 use Rattle.vx_tokens.specs.Scanning.{scan}
-use Rattle.vx_tokens.proofs.Right.{found_spells}
+use Rattle.vx_tokens.proofs.Right.{found_longest}
+use Rattle.vx_tokens.proofs.Standing.{reached_on}
 use Rattle.vx_tokens.proofs.Scan.{all_push, Stopped, stopped, after_pass, after_found, ends_with, passed, taken}
 use Rattle.vx_tokens.proofs.lexed.scanned.Goals as goal
 use Rattle.vx_tokens.proofs.lexed.scanned.Goals.{in-Pass, in-Found+in_ok-push-in-Found}
@@ -65,7 +66,16 @@ loop-tokens-preserved c =
       texts = elim c.match-front.branch [
         | in-Pass w ↦ rw w.tokens-is c.loop-tokens.invariant.texts
         | in-Found+in_ok-push-in-Found w ↦
-            rw (w.tokens-is, w.in_ok-push-in-Found.ensures.items) (all_push _ c.loop-tokens.tokens.items _ c.loop-tokens.invariant.texts (found_spells rest _ w.in-Found.len w.in-Found.ensures))
+            rw (w.tokens-is, w.in_ok-push-in-Found.ensures.items) (all_push _ c.loop-tokens.tokens.items _ c.loop-tokens.invariant.texts
+            record { bytes = rest; rest = drop w.in-Found.len rest; reached = c.loop-tokens.invariant.reached; longest = found_longest rest _ w.in-Found.len w.in-Found.ensures })
+      ];
+      reached = elim c.match-front.branch [
+        | in-Pass w ↦
+            let at_place : c.after-place.result ≡ after place (take w.in-Pass.len rest) = c.after-place.ensures.value ∙ ap (after place) (c.split_at.ensures.front ∙ ap (λ n. take n rest) w.len-is) in
+            reached_on c.args.text.now place c.after-place.result rest c.split_at.result.1.now w.in-Pass.len c.loop-tokens.invariant.reached at_place (c.split_at.ensures.back ∙ ap (λ n. drop n rest) w.len-is)
+        | in-Found+in_ok-push-in-Found w ↦
+            let at_place : c.after-place.result ≡ after place (take w.in-Found.len rest) = c.after-place.ensures.value ∙ ap (after place) (c.split_at.ensures.front ∙ ap (λ n. take n rest) w.len-is) in
+            reached_on c.args.text.now place c.after-place.result rest c.split_at.result.1.now w.in-Found.len c.loop-tokens.invariant.reached at_place (c.split_at.ensures.back ∙ ap (λ n. drop n rest) w.len-is)
       ];
       line = omega (arith, c.loop-tokens.invariant.line, c.after-place.ensures.line, c.split_at.ensures.front_len, c.split_at.ensures.back_len, f.1);
       column = omega (arith, c.loop-tokens.invariant.column, c.after-place.ensures.column, c.split_at.ensures.front_len, c.split_at.ensures.back_len, f.1);
