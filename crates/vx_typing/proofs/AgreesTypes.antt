@@ -9,13 +9,14 @@ use Rattle.vx_ast.specs.declared.UnaryOperator.{UnaryOperator}
 use Rattle.vx_ast.specs.declared.UnaryOperator.TheVariants as unary
 use Rattle.vx_ast.specs.declared.BinaryOperator.{BinaryOperator}
 use Rattle.vx_ast.specs.declared.BinaryOperator.TheVariants as binary
-use Rattle.vx_ast.specs.Written.{Name}
-use Rattle.vx_typing.specs.Placed as expr
-use Rattle.vx_typing.specs.Placed.{Placed, Expr, Exprs, NoMore, More, Amount, All, Part, place_of}
+use Rattle.vx_ast.specs.Written.{Name, Placed, Expr, Exprs, NoMore, More, Amount, All, Part}
+use Rattle.vx_ast.specs.Written as expr
+use Rattle.vx_typing.specs.Places.{place_of}
 use Rattle.vx_typing.specs.Settings.{Setting, Signature, IsField, IsPredicate, IsFunction}
 use Rattle.vx_typing.specs.Typing as typing
 use Rattle.vx_typing.specs.Typing.{Operates, HasType, HaveTypes, IsShare}
-use Rattle.vx_typing.specs.Faults.{Impure, Arity, NotHere, ◌>>=◌, same_type, is_numeral, unless, expect, expect_ordered, unary_type, both, compared, summed, same, multiplied, divided, binary_type, choice_type, known, field_type, read_type, old_type, unfolded_type, outcome_type, arguments_fit, arguments, instance_of, application, amount, check, check_all, check_share}
+use Rattle.vx_ast.specs.Types.{same_type}
+use Rattle.vx_typing.specs.Faults.{Impure, Arity, NotHere, ◌>>=◌, is_numeral, unless, expect, expect_ordered, unary_type, both, compared, summed, same, multiplied, divided, binary_type, choice_type, known, field_type, read_type, old_type, unfolded_type, outcome_type, arguments_fit, arguments, instance_of, application, amount, check, check_all, check_share}
 use Rattle.vx_typing.proofs.Passed.{ok_is, not_ok, bound, chosen, tested, type_is, expected, as_expected, ordered, as_ordered}
 use Rattle.vx_typing.proofs.AgreesAmounts.{to_amount, from_amount}
 

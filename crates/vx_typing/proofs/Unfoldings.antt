@@ -1,13 +1,11 @@
 -- An `unfolding` whose instance is typed.
-use Rattle.std.proofs.Common.{◌≡◌, refl, ap, ◌∙◌, sym, subst, Result, Ok, Err, Bool}
-use Rattle.std.specs.Prelude.{⊤}
+use Rattle.std.proofs.Common.{◌≡◌, refl, ap, ◌∙◌, sym, subst, Ok, Err, Bool}
 use Rattle.vx_ast.specs.declared.Place.{Place}
-use Rattle.vx_ast.specs.declared.ValueType.{ValueType}
 use Rattle.vx_typing.specs.declared.fault.TypeFault as fault'
-use Rattle.vx_typing.specs.Placed as expr
-use Rattle.vx_typing.specs.Placed.{Placed, Expr, Exprs, Amount}
+use Rattle.vx_ast.specs.Written as expr
+use Rattle.vx_ast.specs.Written.{Placed, Expr, Exprs, Amount}
 use Rattle.vx_typing.specs.Settings.{Setting}
-use Rattle.vx_typing.specs.Gives.{Gives, Fails}
+use Rattle.vx_typing.specs.Gives.{Fails}
 use Rattle.vx_typing.specs.Faults.{Checked, ◌>>=◌, check, check_all, check_share, instance_of, instance, unfolded_type}
 use Rattle.vx_typing.proofs.Fails.{fails_on}
 

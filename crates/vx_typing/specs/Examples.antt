@@ -6,8 +6,7 @@ use Rattle.vx_ast.specs.declared.ValueType.TheVariants.{Int, Ref, Perm}
 use Rattle.vx_ast.specs.declared.ValueType.TheVariants as type
 use Rattle.vx_ast.specs.declared.UnaryOperator.TheVariants as unary
 use Rattle.vx_ast.specs.declared.BinaryOperator.TheVariants as binary
-use Rattle.vx_ast.specs.Written.{Name}
-use Rattle.vx_typing.specs.Placed.{Placed, Expr, Exprs, NoMore, More, All, Part, Number, Truth, Null, Nothing, Result, Variable, Call, Read, Unary, Binary, Choice, Old, Access, Unfolding}
+use Rattle.vx_ast.specs.Written.{Name, placed, Placed, Expr, Exprs, NoMore, More, All, Part, Number, Truth, Null, Nothing, Result, Variable, Call, Read, Unary, Binary, Choice, Old, Access, Unfolding}
 use Rattle.vx_typing.specs.Settings.{Setting, Signature, IsField, IsPredicate, IsFunction, IsMethod}
 use Rattle.vx_typing.specs.Faults.{Checked, OfType, Numeral, Unknown, Mismatch, Impure, Arity, AmountNotConstant, NotHere, OldHere, ResultHere, UnfoldAbstract}
 
@@ -65,7 +64,7 @@ abbrev pub number : ℕ → ℕ → Expr
 number c k = Number (at c) k
 
 abbrev pub name : ℕ → List ℕ → Placed
-name c text = record { place = at c; name = text }
+name c text = placed (at c) text
 
 abbrev pub one : Expr → Exprs
 one e = More e NoMore

@@ -2,8 +2,8 @@
 use Rattle.std.specs.Prelude.{◌≡◌, ◌↔◌, Bool, true, false, ◌||◌, Option, Some, Ok, Err, List}
 use Rattle.vx_ast.specs.declared.ValueType.{ValueType}
 use Rattle.vx_ast.specs.declared.BinaryOperator.TheVariants as binary
-use Rattle.vx_typing.specs.Placed as expr
-use Rattle.vx_typing.specs.Placed.{Expr, Exprs, Amount}
+use Rattle.vx_ast.specs.Written as expr
+use Rattle.vx_ast.specs.Written.{Expr, Exprs, Amount}
 use Rattle.vx_typing.specs.Settings.{Setting, Signature, IsPredicate}
 use Rattle.vx_typing.specs.Typing.{HasType, HaveTypes, IsShare, IsPermission, IsAssertion}
 use Rattle.vx_typing.specs.Faults.{Fault, Checked, ◌>>=◌, Value, Permission, check, check_all, check_share, claim, assertion}

@@ -1,4 +1,4 @@
-pub mod Placed
+pub mod Places
 pub mod Settings
 pub mod Amounts
 pub mod AmountValues

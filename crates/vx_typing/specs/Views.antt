@@ -1,5 +1,5 @@
 -- Settings and faults without where they lie in memory.
-use Rattle.std.specs.Prelude.{List, Option, option_map, map, string_bytes}
+use Rattle.std.specs.Prelude.{List, option_map, map}
 use Rattle.std.specs.Map.{lookup}
 use Rattle.std.specs.Str.{bytes_eq}
 use Rattle.vx_ast.specs.declared.Declaration.{Declaration}

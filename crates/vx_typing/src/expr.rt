@@ -2,7 +2,7 @@
 
 ghost use Rattle.std.specs.Prelude.{◌≡◌, ◌<◌, Some, slice_get, IfSome, option_map, List, [], ◌∷◌, length, map};
 ghost use Rattle.vx_ast.specs.declared.ValueType.{ValueType};
-ghost use Rattle.vx_typing.specs.Placed.{written_expr, written_all, written_share, placed};
+ghost use Rattle.vx_ast.specs.Written.{written_expr, written_all, written_optional, name_of};
 ghost use Rattle.vx_typing.specs.Faults as faults;
 ghost use Rattle.vx_typing.specs.Gives.{Gives, told};
 ghost use Rattle.vx_typing.specs.Views.{setting, signature, types_of};
@@ -129,7 +129,7 @@ fn field_type(
     field: &Name,
     member: Option<Signature>,
 ) -> Result<ValueType, TypeFault>
-    ensures { Gives (λ t. t) result (faults.field_type (placed field.now) (option_map signature member.entry)) }
+    ensures { Gives (λ t. t) result (faults.field_type (name_of field.now) (option_map signature member.entry)) }
 {
     match member {
         Some(Signature::Field(t)) => Ok(t),
@@ -147,7 +147,7 @@ fn read_type(
     field: &Name,
     t: ValueType,
 ) -> Result<ValueType, TypeFault>
-    ensures { Gives (λ t. t) result (faults.read_type (setting s.entry) (written_expr e.now) (placed field.now) t) }
+    ensures { Gives (λ t. t) result (faults.read_type (setting s.entry) (written_expr e.now) (name_of field.now) t) }
 {
     expect(place(e), ValueType::Ref, t)?;
     field_type(alloc, field, s.member(&field.text))
@@ -228,7 +228,7 @@ pub fn instance(
 /// How much is held.
 #[cycle(typing)]
 pub fn share(alloc: Global, s: Setting, e: &Option<Rc<Expr>>) -> Result<(), TypeFault>
-    ensures { Gives (λ x. tt) result (faults.check_share (setting s.entry) (written_share e.now)) }
+    ensures { Gives (λ x. tt) result (faults.check_share (setting s.entry) (written_optional e.now)) }
 {
     match e {
         None => Ok(()),
@@ -241,7 +241,7 @@ pub fn share(alloc: Global, s: Setting, e: &Option<Rc<Expr>>) -> Result<(), Type
 
 #[cycle(typing)]
 fn read(alloc: Global, s: Setting, e: &Expr, field: &Name) -> Result<ValueType, TypeFault>
-    ensures { Gives (λ t. t) result (faults.read (setting s.entry) (written_expr e.now) (placed field.now)) }
+    ensures { Gives (λ t. t) result (faults.read (setting s.entry) (written_expr e.now) (name_of field.now)) }
 {
     let t = check(alloc, s, e)?;
     read_type(alloc, s, e, field, t)
