@@ -33,7 +33,7 @@ field_to : (f : Placed) (o : Option Signature) (t : ValueType) → field_type f 
 field_to f (Some (IsField u)) t h = ap (λ t. Some (IsField t)) (ok_is h)
 field_to f o t h = not_ok h
 
-fit_to : {s : Setting} {es : Exprs} {found : List ValueType} → HaveTypes s es found → (ts : List ValueType) (u : ⊤) → length found ≡ length ts → arguments_fit es found ts ≡ Ok u → found ≡ ts
+pub fit_to : {s : Setting} {es : Exprs} {found : List ValueType} → HaveTypes s es found → (ts : List ValueType) (u : ⊤) → length found ≡ length ts → arguments_fit es found ts ≡ Ok u → found ≡ ts
 fit_to typing.no_more [] u l h = refl
 fit_to typing.no_more (t ∷ ts) u l h = absurd (omega arith)
 fit_to (typing.more k ks) [] u l h = absurd (omega arith)
@@ -45,7 +45,7 @@ arguments_to at {es = es} {found = found} k ts u h =
     let x = bound (unless (nat_eq (length found) (length ts)) _) _ u h in
     fit_to k ts u (eqb-true (length found) (length ts) (tested (nat_eq (length found) (length ts)) _ x.0 x.1)) x.2
 
-fits : (es : Exprs) (ts : List ValueType) → arguments_fit es ts ts ≡ Ok tt
+pub fits : (es : Exprs) (ts : List ValueType) → arguments_fit es ts ts ≡ Ok tt
 fits NoMore ts = refl
 fits (More e es) [] = refl
 fits (More e es) (t ∷ ts) = ap (λ x. x >>= λ u. arguments_fit es ts ts) (as_expected (place_of e) t) ∙ fits es ts

@@ -15,7 +15,7 @@ use std::alloc::Global;
 use std::rc::Rc;
 use vx_ast::{Declaration, Expr, ExprKind, Name, Place, ValueType};
 
-fn unknown(alloc: Global, place: Place, name: &str) -> TypeFault
+pub(crate) fn unknown(alloc: Global, place: Place, name: &str) -> TypeFault
     ensures { IfSome (told result) (λ f. f ≡ faults.Unknown place name.now) }
 {
     match String::from_str(alloc, name) {
@@ -32,7 +32,7 @@ fn type_at(found: &[ValueType], i: usize) -> ValueType
 }
 
 // The types of arguments are those of the parameters, as far as there are such.
-fn arguments_fit(
+pub(crate) fn arguments_fit(
     es: &[Rc<Expr>],
     found: &[ValueType],
     expected: &[Declaration],
@@ -124,7 +124,7 @@ fn known(alloc: Global, s: Setting, at: Place, name: &str) -> Result<ValueType, 
     }
 }
 
-fn field_type(
+pub(crate) fn field_type(
     alloc: Global,
     field: &Name,
     member: Option<Signature>,
@@ -240,7 +240,12 @@ pub fn share(alloc: Global, s: Setting, e: &Option<Rc<Expr>>) -> Result<(), Type
 }
 
 #[cycle(typing)]
-fn read(alloc: Global, s: Setting, e: &Expr, field: &Name) -> Result<ValueType, TypeFault>
+pub(crate) fn read(
+    alloc: Global,
+    s: Setting,
+    e: &Expr,
+    field: &Name,
+) -> Result<ValueType, TypeFault>
     ensures { Gives (λ t. t) result (faults.read (setting s.entry) (written_expr e.now) (name_of field.now)) }
 {
     let t = check(alloc, s, e)?;
