@@ -1,10 +1,10 @@
 -- What is first in an `acc`, within an expression.
-use Rattle.std.proofs.Common.{◌≡◌, refl, sym, Result, Ok, Err}
+use Rattle.std.proofs.Common.{◌≡◌, refl, Ok, Err}
 use Rattle.std.specs.Prelude.{⊤}
 use Rattle.vx_ast.specs.declared.Place.{Place}
-use Rattle.vx_ast.specs.declared.ValueType.{ValueType}
-use Rattle.vx_typing.specs.Placed as expr
-use Rattle.vx_typing.specs.Placed.{Expr, Amount, place_of}
+use Rattle.vx_ast.specs.Written as expr
+use Rattle.vx_ast.specs.Written.{Expr, Amount}
+use Rattle.vx_typing.specs.Places.{place_of}
 use Rattle.vx_typing.specs.Settings.{Setting}
 use Rattle.vx_typing.specs.Faults.{Checked, Fault, Impure, ◌>>=◌, check, check_all, read_type, instance_of, check_held, check_share}
 

@@ -1,9 +1,11 @@
 -- The laws of typing.
 use Rattle.std.proofs.Common.{◌≡◌, refl, sym, ◌∙◌, Ok, Err}
-use Rattle.vx_typing.specs.Laws.{HasFault, TypesAgree, ListsAgree, SharesAgree, ValuesAgree, PermissionsAgree, AssertionsAgree, UntypedAreFaulty, OthersAreFaulty, HasOneType, PermissionsAreNoValues}
+use Rattle.vx_typing.specs.Laws.{HasFault, TypesAgree, ListsAgree, SharesAgree, ValuesAgree, PermissionsAgree, AssertionsAgree, UntypedAreFaulty, OthersAreFaulty, StatementsAgree, BlocksAgree, OtherBlocksAreFaulty, HasOneType, PermissionsAreNoValues}
 use Rattle.vx_typing.specs.Faults.{Checked, Value, Permission, check, assertion}
 use Rattle.vx_typing.proofs.Passed.{ok_is, not_ok}
 use Rattle.vx_typing.proofs.AgreesTypes.{to_type, to_types, to_share, from_type, from_types, from_share}
+use Rattle.vx_typing.specs.StatementFaults.{block}
+use Rattle.vx_typing.proofs.AgreesStatements.{to_stmt, to_block, from_stmt, from_block}
 use Rattle.vx_typing.proofs.AgreesClaims.{to_claim, to_assertion, value_claim, from_permission, passes}
 
 pub types : TypesAgree
@@ -46,3 +48,13 @@ different r t h k = cc
 
 pub no_values : PermissionsAreNoValues
 no_values s e t h k = different _ t (value_claim s e t (from_type s h)) (from_permission s k)
+
+pub statements : StatementsAgree
+statements table scope st = (to_stmt table scope st tt, from_stmt table scope st)
+
+pub blocks : BlocksAgree
+blocks table scope b = (to_block table scope b tt, from_block table scope b)
+
+pub other_blocks : OtherBlocksAreFaulty
+other_blocks table scope b =
+    (λ h k. gives_none (block table scope b) h tt (from_block table scope b k), λ h. faulty (block table scope b) (λ u k. h (to_block table scope b u k)))

@@ -6,7 +6,8 @@ use Rattle.vx_ast.specs.declared.Place.{Place}
 use Rattle.vx_ast.specs.declared.BinaryOperator.TheVariants as binary
 use Rattle.vx_frac.specs.Fractions as number
 use Rattle.vx_frac.specs.Fractions.{Fraction}
-use Rattle.vx_typing.specs.Placed.{Expr, Number, Whole, Nothing, Variable, Binary, place_of}
+use Rattle.vx_ast.specs.Written.{Expr, Number, Whole, Nothing, Variable, Binary}
+use Rattle.vx_typing.specs.Places.{place_of}
 use Rattle.vx_typing.specs.Amounts as made
 use Rattle.vx_typing.specs.Amounts.{IsAmount}
 use Rattle.vx_typing.specs.AmountValues as value

@@ -5,9 +5,9 @@ use Rattle.vx_ast.specs.declared.Place.{Place}
 use Rattle.vx_ast.specs.declared.ValueType.{ValueType}
 use Rattle.vx_ast.specs.declared.ValueType.TheVariants as type
 use Rattle.vx_ast.specs.declared.BinaryOperator.TheVariants as binary
-use Rattle.vx_ast.specs.Written.{Name}
-use Rattle.vx_typing.specs.Placed as expr
-use Rattle.vx_typing.specs.Placed.{Expr, Exprs, Amount, place_of}
+use Rattle.vx_ast.specs.Written.{Name, Expr, Exprs, Amount}
+use Rattle.vx_ast.specs.Written as expr
+use Rattle.vx_typing.specs.Places.{place_of}
 use Rattle.vx_typing.specs.Settings.{Setting, Signature, IsPredicate, IsFunction}
 use Rattle.vx_typing.specs.Typing as typing
 use Rattle.vx_typing.specs.Typing.{HasType, HaveTypes, IsPermission, IsAssertion}

@@ -9,13 +9,14 @@ use Rattle.vx_ast.specs.declared.UnaryOperator.{UnaryOperator}
 use Rattle.vx_ast.specs.declared.UnaryOperator.TheVariants as unary
 use Rattle.vx_ast.specs.declared.BinaryOperator.{BinaryOperator}
 use Rattle.vx_ast.specs.declared.BinaryOperator.TheVariants as binary
-use Rattle.vx_ast.specs.Written.{Name}
-use Rattle.vx_typing.specs.Placed as expr
-use Rattle.vx_typing.specs.Placed.{Placed, Expr, Exprs, NoMore, More, Amount, All, Part, place_of}
+use Rattle.vx_ast.specs.Written.{Name, Placed, Expr, Exprs, NoMore, More, Amount, All, Part}
+use Rattle.vx_ast.specs.Written as expr
+use Rattle.vx_typing.specs.Places.{place_of}
 use Rattle.vx_typing.specs.Settings.{Setting, Signature, IsField, IsPredicate, IsFunction}
 use Rattle.vx_typing.specs.Typing as typing
 use Rattle.vx_typing.specs.Typing.{Operates, HasType, HaveTypes, IsShare}
-use Rattle.vx_typing.specs.Faults.{Impure, Arity, NotHere, ◌>>=◌, same_type, is_numeral, unless, expect, expect_ordered, unary_type, both, compared, summed, same, multiplied, divided, binary_type, choice_type, known, field_type, read_type, old_type, unfolded_type, outcome_type, arguments_fit, arguments, instance_of, application, amount, check, check_all, check_share}
+use Rattle.vx_ast.specs.Types.{same_type}
+use Rattle.vx_typing.specs.Faults.{Impure, Arity, NotHere, ◌>>=◌, is_numeral, unless, expect, expect_ordered, unary_type, both, compared, summed, same, multiplied, divided, binary_type, choice_type, known, field_type, read_type, old_type, unfolded_type, outcome_type, arguments_fit, arguments, instance_of, application, amount, check, check_all, check_share}
 use Rattle.vx_typing.proofs.Passed.{ok_is, not_ok, bound, chosen, tested, type_is, expected, as_expected, ordered, as_ordered}
 use Rattle.vx_typing.proofs.AgreesAmounts.{to_amount, from_amount}
 
@@ -32,7 +33,7 @@ field_to : (f : Placed) (o : Option Signature) (t : ValueType) → field_type f 
 field_to f (Some (IsField u)) t h = ap (λ t. Some (IsField t)) (ok_is h)
 field_to f o t h = not_ok h
 
-fit_to : {s : Setting} {es : Exprs} {found : List ValueType} → HaveTypes s es found → (ts : List ValueType) (u : ⊤) → length found ≡ length ts → arguments_fit es found ts ≡ Ok u → found ≡ ts
+pub fit_to : {s : Setting} {es : Exprs} {found : List ValueType} → HaveTypes s es found → (ts : List ValueType) (u : ⊤) → length found ≡ length ts → arguments_fit es found ts ≡ Ok u → found ≡ ts
 fit_to typing.no_more [] u l h = refl
 fit_to typing.no_more (t ∷ ts) u l h = absurd (omega arith)
 fit_to (typing.more k ks) [] u l h = absurd (omega arith)
@@ -44,7 +45,7 @@ arguments_to at {es = es} {found = found} k ts u h =
     let x = bound (unless (nat_eq (length found) (length ts)) _) _ u h in
     fit_to k ts u (eqb-true (length found) (length ts) (tested (nat_eq (length found) (length ts)) _ x.0 x.1)) x.2
 
-fits : (es : Exprs) (ts : List ValueType) → arguments_fit es ts ts ≡ Ok tt
+pub fits : (es : Exprs) (ts : List ValueType) → arguments_fit es ts ts ≡ Ok tt
 fits NoMore ts = refl
 fits (More e es) [] = refl
 fits (More e es) (t ∷ ts) = ap (λ x. x >>= λ u. arguments_fit es ts ts) (as_expected (place_of e) t) ∙ fits es ts

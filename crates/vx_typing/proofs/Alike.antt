@@ -6,9 +6,9 @@ use Rattle.vx_ast.specs.declared.Place.{Place}
 use Rattle.vx_ast.specs.declared.ValueType.{ValueType}
 use Rattle.vx_ast.specs.declared.ValueType.TheVariants as type
 use Rattle.vx_ast.specs.declared.BinaryOperator.TheVariants as binary
-use Rattle.vx_ast.specs.Written.{Name}
-use Rattle.vx_typing.specs.Placed as expr
-use Rattle.vx_typing.specs.Placed.{Expr, Exprs, place_of}
+use Rattle.vx_ast.specs.Written.{Name, Expr, Exprs}
+use Rattle.vx_ast.specs.Written as expr
+use Rattle.vx_typing.specs.Places.{place_of}
 use Rattle.vx_typing.specs.Settings.{Setting, Signature, IsPredicate}
 use Rattle.vx_typing.specs.Faults.{Checked, ◌>>=◌, Claim, Value, expect, both, choice_type, application, check, check_all, held, joined, conjunction, choice, called, claim}
 use Rattle.vx_typing.specs.Laws.{PureAreWalkedAlike, is_predicate, has_permission}

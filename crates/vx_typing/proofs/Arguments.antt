@@ -1,5 +1,5 @@
 -- Arguments, one after another.
-use Rattle.std.proofs.Common.{◌≡◌, ◌∙◌, refl, sym, ap, subst, ℕ, zero, suc, ◌+◌, ◌<◌, ◌≤◌, ◌⊎◌, inl, inr, Bool, true, false, ◌||◌, List, [], ◌∷◌, length, drop, get_or, map, Result, Ok, Err, arith, add-one}
+use Rattle.std.proofs.Common.{◌≡◌, ◌∙◌, refl, sym, ap, subst, ℕ, zero, suc, ◌+◌, ◌<◌, ◌≤◌, ◌⊎◌, inl, inr, Bool, true, false, ◌||◌, List, [], ◌∷◌, length, drop, get_or, Ok, arith, add-one}
 use Rattle.std.proofs.Math.Seq.{drop-cons}
 use Rattle.std.proofs.lemmas.List.{get_or-map, length-map}
 use Rattle.std.proofs.Math.Dec.{leb}
@@ -9,7 +9,8 @@ use Rattle.std.specs.declared.rc.Rc.{Rc}
 use Rattle.vx_ast.specs.declared.Declaration.{Declaration}
 use Rattle.vx_ast.specs.declared.Expr as expr
 use Rattle.vx_ast.specs.declared.ValueType.{ValueType}
-use Rattle.vx_typing.specs.Placed.{Exprs, NoMore, More, place_of, written_expr, written_all}
+use Rattle.vx_ast.specs.Written.{Exprs, NoMore, More, written_expr, written_all}
+use Rattle.vx_typing.specs.Places.{place_of}
 use Rattle.vx_typing.specs.Views.{types_of}
 use Rattle.std.specs.Prelude.{⊤}
 use Rattle.vx_ast.specs.declared.Place.{Place}

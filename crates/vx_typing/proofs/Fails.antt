@@ -1,5 +1,5 @@
 -- A fault ends the check.
-use Rattle.std.proofs.Common.{◌≡◌, Option, Some, None, Result, Ok, Err, ap, ◌∙◌, sym, subst, refl}
+use Rattle.std.proofs.Common.{◌≡◌, Option, Some, None, Result, Ok, Err, ap, sym, subst}
 use Rattle.std.specs.Prelude.{IfSome, IsErrAnd}
 use Rattle.vx_typing.specs.Faults.{Fault, Checked, ◌>>=◌}
 use Rattle.vx_typing.specs.declared.fault.TypeFault as fault'

@@ -4,9 +4,14 @@ pub mod Rows
 pub mod Accesses
 pub mod Arguments
 pub mod Unfoldings
+pub mod Scopes
+pub mod Loops
+pub mod Blocks
+pub mod Assigns
 pub mod Passed
 pub mod AgreesAmounts
 pub mod AgreesTypes
 pub mod AgreesClaims
+pub mod AgreesStatements
 pub mod Agree
 pub mod Alike

@@ -5,7 +5,8 @@ use Rattle.vx_ast.specs.declared.Place.{Place}
 use Rattle.vx_ast.specs.declared.ValueType.{ValueType}
 use Rattle.vx_ast.specs.declared.ValueType.TheVariants as type
 use Rattle.vx_typing.specs.Typing.{IsOrdered, int, perm}
-use Rattle.vx_typing.specs.Faults.{Fault, Checked, ◌>>=◌, same_type, unless, expect, expect_ordered}
+use Rattle.vx_ast.specs.Types.{same_type}
+use Rattle.vx_typing.specs.Faults.{Fault, Checked, ◌>>=◌, unless, expect, expect_ordered}
 
 pub ok_is : {X : Type 0} {x y : X} → (let r : Checked X = Ok x in r) ≡ Ok y → x ≡ y
 ok_is e = cc

@@ -2,7 +2,8 @@
 use Rattle.std.proofs.Common.{◌≡◌, refl}
 use Rattle.vx_ast.specs.declared.Place.{Place}
 use Rattle.vx_ast.specs.declared.ExprKind as tree
-use Rattle.vx_typing.specs.Placed.{written, place_of}
+use Rattle.vx_ast.specs.Written.{written}
+use Rattle.vx_typing.specs.Places.{place_of}
 
 pub stands : (at : Place) (k : tree.ExprKind) → at ≡ place_of (written at k)
 stands at (tree.Number n) = refl

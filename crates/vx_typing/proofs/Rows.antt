@@ -1,14 +1,14 @@
 -- Arguments as a list, and what is left of them to check.
-use Rattle.std.proofs.Common.{◌≡◌, ◌∙◌, refl, ap, sym, rules, List, [], ◌∷◌, ◌++◌, Ok, Err, Result, ℕ, zero, suc, ◌+◌, ◌<◌, length, drop, arith, get_or, append_assoc, subst, add-one}
+use Rattle.std.proofs.Common.{◌≡◌, ◌∙◌, refl, ap, sym, List, [], ◌∷◌, ◌++◌, Ok, Err, ℕ, suc, ◌+◌, ◌<◌, length, drop, get_or, append_assoc, add-one}
 use Rattle.std.proofs.Math.Seq.{drop-cons}
 use Rattle.std.specs.declared.alloc.Global.{Global}
 use Rattle.std.specs.declared.rc.Rc.{Rc}
 use Rattle.vx_ast.specs.declared.Expr as expr
 use Rattle.vx_ast.specs.declared.ExprKind as tree
 use Rattle.vx_ast.specs.declared.ValueType.{ValueType}
-use Rattle.vx_typing.specs.Placed.{Exprs, More, written, written_expr, written_row, written_all}
+use Rattle.vx_ast.specs.Written.{More, written, written_expr, written_row, written_all}
 use Rattle.vx_typing.specs.Settings.{Setting}
-use Rattle.vx_typing.specs.Faults.{Checked, Fault, ◌>>=◌, check, check_all}
+use Rattle.vx_typing.specs.Faults.{Checked, ◌>>=◌, check, check_all}
 
 -- the types so far, before those of the rest
 abbrev pub onto : List ValueType → Checked (List ValueType) → Checked (List ValueType)

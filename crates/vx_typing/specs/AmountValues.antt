@@ -4,7 +4,7 @@ use Rattle.vx_ast.specs.declared.Place.{Place}
 use Rattle.vx_ast.specs.declared.BinaryOperator.TheVariants as binary
 use Rattle.vx_frac.specs.Fractions as number
 use Rattle.vx_frac.specs.Fractions.{Fraction}
-use Rattle.vx_typing.specs.Placed.{Expr, Number, Whole, Nothing, Binary}
+use Rattle.vx_ast.specs.Written.{Expr, Number, Whole, Nothing, Binary}
 
 -- The value of an amount without variables: each operation on fractions in number.lowest terms, where its numbers fit 128 bits.
 pub data HasAmount : Expr → Fraction → Type 0 where

@@ -2,8 +2,7 @@
 use Rattle.std.specs.Prelude.{ℕ}
 use Rattle.vx_ast.specs.declared.Place.{Place}
 use Rattle.vx_ast.specs.declared.BinaryOperator.TheVariants as binary
-use Rattle.vx_ast.specs.Written.{Name}
-use Rattle.vx_typing.specs.Placed.{Expr, Number, Whole, Nothing, Variable, Binary}
+use Rattle.vx_ast.specs.Written.{Name, Expr, Number, Whole, Nothing, Variable, Binary}
 
 -- `write`, `none`, fractions of numerals, variables, and their sums, differences and multiples by a numeral
 pub data IsAmount : Expr → Type 0 where

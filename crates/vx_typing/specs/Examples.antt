@@ -1,13 +1,13 @@
 -- Expressions and assertions on one line, with the type or the first fault of each.
-use Rattle.std.specs.Prelude.{◌≡◌, ℕ, ◌+◌, true, false, List, [], ◌∷◌, Option, Some, None, Ok, Err, codes, bytes_eq, if◌then◌else◌, ⊤}
+use Rattle.std.specs.Prelude.{◌≡◌, ℕ, ◌+◌, true, false, List, [], ◌∷◌, Some, None, Ok, Err, codes, ⊤}
 use Rattle.vx_ast.specs.declared.Place.{Place}
 use Rattle.vx_ast.specs.declared.ValueType.{ValueType}
 use Rattle.vx_ast.specs.declared.ValueType.TheVariants.{Int, Ref, Perm}
 use Rattle.vx_ast.specs.declared.ValueType.TheVariants as type
 use Rattle.vx_ast.specs.declared.UnaryOperator.TheVariants as unary
 use Rattle.vx_ast.specs.declared.BinaryOperator.TheVariants as binary
-use Rattle.vx_ast.specs.Written.{Name}
-use Rattle.vx_typing.specs.Placed.{Placed, Expr, Exprs, NoMore, More, All, Part, Number, Truth, Null, Nothing, Result, Variable, Call, Read, Unary, Binary, Choice, Old, Access, Unfolding}
+use Rattle.vx_ast.specs.Written.{Name, placed, Placed, Expr, Exprs, NoMore, More, All, Part, Number, Truth, Null, Nothing, Result, Variable, Call, Read, Unary, Binary, Choice, Old, Access, Unfolding}
+use Rattle.vx_typing.specs.Scopes.{named}
 use Rattle.vx_typing.specs.Settings.{Setting, Signature, IsField, IsPredicate, IsFunction, IsMethod}
 use Rattle.vx_typing.specs.Faults.{Checked, OfType, Numeral, Unknown, Mismatch, Impure, Arity, AmountNotConstant, NotHere, OldHere, ResultHere, UnfoldAbstract}
 
@@ -18,10 +18,6 @@ Computes f (row ∷ rows) = (f row.0 ≡ row.1) × Computes f rows
 
 abbrev pub at : ℕ → Place
 at n = record { line = 1; column = n }
-
-abbrev pub named : {X : Type 0} → List (Name × X) → Name → Option X
-named [] x = None
-named (e ∷ es) x = if bytes_eq x e.0 then Some e.1 else named es x
 
 -- field v: Int  field w: Perm  predicate p(x: Ref) { true }  predicate q(x: Ref)
 -- function g(n: Int): Int { n }  method m() {}
@@ -65,7 +61,7 @@ abbrev pub number : ℕ → ℕ → Expr
 number c k = Number (at c) k
 
 abbrev pub name : ℕ → List ℕ → Placed
-name c text = record { place = at c; name = text }
+name c text = placed (at c) text
 
 abbrev pub one : Expr → Exprs
 one e = More e NoMore

@@ -9,11 +9,12 @@ use Rattle.vx_ast.specs.declared.UnaryOperator.{UnaryOperator}
 use Rattle.vx_ast.specs.declared.UnaryOperator.TheVariants as unary
 use Rattle.vx_ast.specs.declared.BinaryOperator.{BinaryOperator}
 use Rattle.vx_ast.specs.declared.BinaryOperator.TheVariants as binary
-use Rattle.vx_frac.specs.Fractions.{Fraction, none, full, whole, over, lowest, sum, difference, product, sum_fits, difference_fits, product_fits, fits_i128, is_positive}
-use Rattle.vx_ast.specs.Written.{Name}
-use Rattle.vx_typing.specs.Placed as expr
-use Rattle.vx_typing.specs.Placed.{Placed, Expr, Exprs, NoMore, More, Amount, All, Part, place_of}
-use Rattle.vx_typing.specs.Settings.{Setting, Signature, IsField, IsPredicate, IsFunction, IsMethod}
+use Rattle.vx_ast.specs.Types.{same_type, is_ordered}
+use Rattle.vx_frac.specs.Fractions.{Fraction, none, full, over, lowest, sum, difference, product, sum_fits, difference_fits, product_fits, fits_i128, is_positive}
+use Rattle.vx_ast.specs.Written.{Name, Placed, Expr, Exprs, NoMore, More, Amount, All, Part}
+use Rattle.vx_ast.specs.Written as expr
+use Rattle.vx_typing.specs.Places.{place_of}
+use Rattle.vx_typing.specs.Settings.{Setting, Signature, IsField, IsPredicate, IsFunction}
 
 -- what was expected: a type, or a numeral
 pub data Expected : Type 0 where
@@ -42,20 +43,6 @@ infixl 10 ◌>>=◌
 abbrev pub ◌>>=◌ : {X Y : Type 0} → Checked X → (X → Checked Y) → Checked Y
 Ok x >>= f = f x
 Err e >>= f = Err e
-
-abbrev pub number_of_type : ValueType → ℕ
-number_of_type type.Int = 0
-number_of_type type.Bool = 1
-number_of_type type.Ref = 2
-number_of_type type.Perm = 3
-
-abbrev pub same_type : ValueType → ValueType → Bool
-same_type t u = nat_eq (number_of_type t) (number_of_type u)
-
-abbrev pub is_ordered : ValueType → Bool
-is_ordered type.Int = true
-is_ordered type.Perm = true
-is_ordered _ = false
 
 -- a test, or a fault
 abbrev pub unless : Bool → Fault → Checked ⊤

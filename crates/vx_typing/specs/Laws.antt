@@ -2,9 +2,12 @@
 use Rattle.std.specs.Prelude.{◌≡◌, ◌↔◌, Bool, true, false, ◌||◌, Option, Some, Ok, Err, List}
 use Rattle.vx_ast.specs.declared.ValueType.{ValueType}
 use Rattle.vx_ast.specs.declared.BinaryOperator.TheVariants as binary
-use Rattle.vx_typing.specs.Placed as expr
-use Rattle.vx_typing.specs.Placed.{Expr, Exprs, Amount}
-use Rattle.vx_typing.specs.Settings.{Setting, Signature, IsPredicate}
+use Rattle.vx_ast.specs.Written as expr
+use Rattle.vx_ast.specs.Written.{Stmt, Block, Expr, Exprs, Amount}
+use Rattle.vx_typing.specs.Settings.{Table, Setting, Signature, IsPredicate}
+use Rattle.vx_typing.specs.Scopes.{Scope}
+use Rattle.vx_typing.specs.Statements.{IsTypedStmt, IsTypedBlock}
+use Rattle.vx_typing.specs.StatementFaults.{stmt, block}
 use Rattle.vx_typing.specs.Typing.{HasType, HaveTypes, IsShare, IsPermission, IsAssertion}
 use Rattle.vx_typing.specs.Faults.{Fault, Checked, ◌>>=◌, Value, Permission, check, check_all, check_share, claim, assertion}
 
@@ -62,3 +65,13 @@ HasOneType = (s : Setting) (e : Expr) (t u : ValueType) → HasType s e t → Ha
 -- and none where it holds a permission
 abbrev pub PermissionsAreNoValues : Type 0
 PermissionsAreNoValues = (s : Setting) (e : Expr) (t : ValueType) → HasType s e t → IsPermission s e → ⊥
+
+-- a statement, a block
+abbrev pub StatementsAgree : Type 0
+StatementsAgree = (table : Table) (scope : Scope) (st : Stmt) → (stmt table scope st ≡ Ok tt) ↔ IsTypedStmt table scope st
+
+abbrev pub BlocksAgree : Type 0
+BlocksAgree = (table : Table) (scope : Scope) (b : Block) → (block table scope b ≡ Ok tt) ↔ IsTypedBlock table scope b
+
+abbrev pub OtherBlocksAreFaulty : Type 0
+OtherBlocksAreFaulty = (table : Table) (scope : Scope) (b : Block) → HasFault (block table scope b) ↔ (IsTypedBlock table scope b → ⊥)

@@ -1,9 +1,12 @@
-pub mod Placed
+pub mod Places
+pub mod Scopes
 pub mod Settings
 pub mod Amounts
 pub mod AmountValues
 pub mod Typing
 pub mod Faults
+pub mod Statements
+pub mod StatementFaults
 pub mod Views
 pub mod Gives
 pub mod Laws

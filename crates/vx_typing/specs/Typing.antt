@@ -1,14 +1,13 @@
 -- What is typed, by the structure of an expression. After the typing of Viper's core (VMCAI 2016, section 2; the
 -- Silicon thesis, chapter 2), for this part of the language.
-use Rattle.std.specs.Prelude.{◌≡◌, ◌<◌, ℕ, true, false, Bool, List, [], ◌∷◌, Option, Some, ⊤}
+use Rattle.std.specs.Prelude.{◌≡◌, ◌<◌, ℕ, true, Bool, List, [], ◌∷◌, Some}
 use Rattle.vx_ast.specs.declared.Place.{Place}
 use Rattle.vx_ast.specs.declared.ValueType.{ValueType}
 use Rattle.vx_ast.specs.declared.ValueType.TheVariants as type
 use Rattle.vx_ast.specs.declared.UnaryOperator.TheVariants as unary
 use Rattle.vx_ast.specs.declared.BinaryOperator.{BinaryOperator}
 use Rattle.vx_ast.specs.declared.BinaryOperator.TheVariants as binary
-use Rattle.vx_ast.specs.Written.{Name}
-use Rattle.vx_typing.specs.Placed.{Placed, Expr, Number, Truth, Null, Whole, Nothing, Result, Variable, Call, Read, Unary, Binary, Choice, Old, Access, Unfolding, Exprs, NoMore, More, Amount, All, Part}
+use Rattle.vx_ast.specs.Written.{Name, Placed, Expr, Number, Truth, Null, Whole, Nothing, Result, Variable, Call, Read, Unary, Binary, Choice, Old, Access, Unfolding, Exprs, NoMore, More, Amount, All, Part}
 use Rattle.vx_typing.specs.Settings.{Setting, IsField, IsPredicate, IsFunction}
 use Rattle.vx_typing.specs.Amounts.{IsAmount}
 use Rattle.vx_typing.specs.AmountValues.{IsConstantAmount}

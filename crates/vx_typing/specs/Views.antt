@@ -1,13 +1,20 @@
 -- Settings and faults without where they lie in memory.
-use Rattle.std.specs.Prelude.{List, Option, option_map, map, string_bytes}
-use Rattle.std.specs.Map.{lookup}
-use Rattle.std.specs.Str.{bytes_eq}
+use denote.Ref.{Bor}
+use Rattle.std.specs.Prelude.{◌≡◌, ◌++◌, List, [], ◌∷◌, Option, Some, None, map}
+use Rattle.std.specs.declared.alloc.Global.{Global}
+use Rattle.std.specs.declared.rc.Rc.{Rc}
+use Rattle.vx_ast.specs.declared.Block as block
 use Rattle.vx_ast.specs.declared.Declaration.{Declaration}
+use Rattle.vx_ast.specs.declared.Stmt as tree
 use Rattle.vx_ast.specs.declared.ValueType.{ValueType}
+use Rattle.vx_ast.specs.Written as written
+use Rattle.vx_ast.specs.Written.{Name, written_stmt, written_block}
 use Rattle.vx_typing.specs.declared.fault.Expected.TheVariants as expected'
 use Rattle.vx_typing.specs.declared.setting.Signature.TheVariants as signature'
 use Rattle.vx_typing.specs.declared.setting.Setting as setting'
-use Rattle.vx_typing.specs.Settings.{Setting, Signature, IsField, IsPredicate, IsFunction, IsMethod}
+use Rattle.vx_typing.specs.declared.setting.Variable.{Variable}
+use Rattle.vx_typing.specs.Scopes.{Scope, named, type_in}
+use Rattle.vx_typing.specs.Settings.{Table, Setting, Signature, IsField, IsPredicate, IsFunction, IsMethod}
 use Rattle.vx_typing.specs.declared.assertions.Claim.TheVariants as claim'
 use Rattle.vx_typing.specs.Faults.{Expected, OfType, Numeral, Claim, Value, Permission}
 
@@ -20,15 +27,39 @@ signature (signature'.Predicate ds has_body) = IsPredicate (types_of ds.now) has
 signature (signature'.Function ds t) = IsFunction (types_of ds.now) t
 signature (signature'.Method ds rs) = IsMethod (types_of ds.now) (types_of rs.now)
 
+-- the entries of the maps
+abbrev pub table : List (Bor Name × signature'.the_data) → Table
+table es = map (λ e. (e.0.now, signature e.1)) es
+
+abbrev pub known : List (Bor Name × Variable) → Scope
+known es = map (λ e. (e.0.now, e.1)) es
+
+abbrev pub listed : List (Bor Name) → List Name
+listed ks = map (λ k. k.now) ks
+
 abbrev pub setting : setting'.Setting → Setting
 setting s = record {
-  member = λ x. option_map signature (lookup (λ k. bytes_eq x k.now) s.members.now.entries);
-  variable = λ x. option_map (λ v. v.of) (lookup (λ k. bytes_eq x k.now) s.variables.now.entries);
+  member = named (table s.members.now.entries);
+  variable = type_in (known s.variables.now.entries);
   outcome = s.outcome;
   has_old = s.has_old;
   applies = s.applies;
   constant = s.constant;
 }
+
+-- a list of statements as it is written
+abbrev pub written_list : List tree.Stmt → written.Block
+written_list [] = written.Done
+written_list (s ∷ ss) = written.Then (written_stmt s.place s.kind) (written_list ss)
+
+-- the other side of an `if`
+abbrev pub optional_other : Option (Rc block.Block Global) → written.Other
+optional_other None = written.NoElse
+optional_other (Some b) = written.Else (written_block b.value)
+
+-- the first ones stay
+abbrev pub Extends : Scope → Scope → Type 0
+Extends before after = (added : Scope) × (after ≡ before ++ added)
 
 abbrev pub expected : expected'.the_data → Expected
 expected (expected'.Type t) = OfType t

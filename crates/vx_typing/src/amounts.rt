@@ -3,7 +3,7 @@
 ghost use Rattle.std.specs.Prelude.{◌≡◌};
 ghost use Rattle.vx_frac.specs.Fraction.{fraction};
 ghost use Rattle.vx_frac.specs.Fractions as fractions;
-ghost use Rattle.vx_typing.specs.Placed.{written_expr};
+ghost use Rattle.vx_ast.specs.Written.{written_expr};
 ghost use Rattle.vx_typing.specs.Faults as faults;
 ghost use Rattle.vx_typing.specs.Gives.{Gives};
 

@@ -1,7 +1,7 @@
 //! Assertions.
 
 ghost use Rattle.std.specs.Prelude.{◌≡◌, option_map};
-ghost use Rattle.vx_typing.specs.Placed.{written_expr, written_all, written_share};
+ghost use Rattle.vx_ast.specs.Written.{written_expr, written_all, written_optional};
 ghost use Rattle.vx_typing.specs.Faults as faults;
 ghost use Rattle.vx_typing.specs.Gives.{Gives};
 ghost use Rattle.vx_typing.specs.Views.{setting, signature, claim_of};
@@ -153,7 +153,7 @@ fn access(
     e: &Expr,
     amount: &Option<Rc<Expr>>,
 ) -> Result<Claim, TypeFault>
-    ensures { Gives claim_of result (faults.access (setting s.entry) (written_expr e.now) (written_share amount.now)) }
+    ensures { Gives claim_of result (faults.access (setting s.entry) (written_expr e.now) (written_optional amount.now)) }
 {
     held(alloc, s, e)?;
     share(alloc, s, amount)?;

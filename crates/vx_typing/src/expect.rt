@@ -1,7 +1,8 @@
 //! Tests of a type, a name and a number of arguments, with their faults.
 
 ghost use Rattle.std.specs.Prelude.{◌≡◌, IfErr};
-ghost use Rattle.vx_typing.specs.Placed.{place_of, written_expr};
+ghost use Rattle.vx_ast.specs.Written.{written_expr};
+ghost use Rattle.vx_typing.specs.Places.{place_of};
 ghost use Rattle.vx_typing.specs.Faults as faults;
 ghost use Rattle.vx_typing.specs.Gives.{Gives};
 

@@ -2,7 +2,7 @@
 
 ghost use Rattle.std.specs.Prelude.{◌≡◌, ◌<◌, Some, slice_get, IfSome, option_map, List, [], ◌∷◌, length, map};
 ghost use Rattle.vx_ast.specs.declared.ValueType.{ValueType};
-ghost use Rattle.vx_typing.specs.Placed.{written_expr, written_all, written_share, placed};
+ghost use Rattle.vx_ast.specs.Written.{written_expr, written_all, written_optional, name_of};
 ghost use Rattle.vx_typing.specs.Faults as faults;
 ghost use Rattle.vx_typing.specs.Gives.{Gives, told};
 ghost use Rattle.vx_typing.specs.Views.{setting, signature, types_of};
@@ -15,7 +15,7 @@ use std::alloc::Global;
 use std::rc::Rc;
 use vx_ast::{Declaration, Expr, ExprKind, Name, Place, ValueType};
 
-fn unknown(alloc: Global, place: Place, name: &str) -> TypeFault
+pub(crate) fn unknown(alloc: Global, place: Place, name: &str) -> TypeFault
     ensures { IfSome (told result) (λ f. f ≡ faults.Unknown place name.now) }
 {
     match String::from_str(alloc, name) {
@@ -32,7 +32,7 @@ fn type_at(found: &[ValueType], i: usize) -> ValueType
 }
 
 // The types of arguments are those of the parameters, as far as there are such.
-fn arguments_fit(
+pub(crate) fn arguments_fit(
     es: &[Rc<Expr>],
     found: &[ValueType],
     expected: &[Declaration],
@@ -124,12 +124,12 @@ fn known(alloc: Global, s: Setting, at: Place, name: &str) -> Result<ValueType, 
     }
 }
 
-fn field_type(
+pub(crate) fn field_type(
     alloc: Global,
     field: &Name,
     member: Option<Signature>,
 ) -> Result<ValueType, TypeFault>
-    ensures { Gives (λ t. t) result (faults.field_type (placed field.now) (option_map signature member.entry)) }
+    ensures { Gives (λ t. t) result (faults.field_type (name_of field.now) (option_map signature member.entry)) }
 {
     match member {
         Some(Signature::Field(t)) => Ok(t),
@@ -147,7 +147,7 @@ fn read_type(
     field: &Name,
     t: ValueType,
 ) -> Result<ValueType, TypeFault>
-    ensures { Gives (λ t. t) result (faults.read_type (setting s.entry) (written_expr e.now) (placed field.now) t) }
+    ensures { Gives (λ t. t) result (faults.read_type (setting s.entry) (written_expr e.now) (name_of field.now) t) }
 {
     expect(place(e), ValueType::Ref, t)?;
     field_type(alloc, field, s.member(&field.text))
@@ -228,7 +228,7 @@ pub fn instance(
 /// How much is held.
 #[cycle(typing)]
 pub fn share(alloc: Global, s: Setting, e: &Option<Rc<Expr>>) -> Result<(), TypeFault>
-    ensures { Gives (λ x. tt) result (faults.check_share (setting s.entry) (written_share e.now)) }
+    ensures { Gives (λ x. tt) result (faults.check_share (setting s.entry) (written_optional e.now)) }
 {
     match e {
         None => Ok(()),
@@ -240,8 +240,13 @@ pub fn share(alloc: Global, s: Setting, e: &Option<Rc<Expr>>) -> Result<(), Type
 }
 
 #[cycle(typing)]
-fn read(alloc: Global, s: Setting, e: &Expr, field: &Name) -> Result<ValueType, TypeFault>
-    ensures { Gives (λ t. t) result (faults.read (setting s.entry) (written_expr e.now) (placed field.now)) }
+pub(crate) fn read(
+    alloc: Global,
+    s: Setting,
+    e: &Expr,
+    field: &Name,
+) -> Result<ValueType, TypeFault>
+    ensures { Gives (λ t. t) result (faults.read (setting s.entry) (written_expr e.now) (name_of field.now)) }
 {
     let t = check(alloc, s, e)?;
     read_type(alloc, s, e, field, t)

@@ -1,6 +1,6 @@
 //! The laws of typing: the relation and the first fault tell the same.
 
-ghost use Rattle.vx_typing.specs.Laws.{TypesAgree, ListsAgree, SharesAgree, ValuesAgree, PermissionsAgree, AssertionsAgree, UntypedAreFaulty, OthersAreFaulty, HasOneType, PermissionsAreNoValues, PureAreWalkedAlike};
+ghost use Rattle.vx_typing.specs.Laws.{TypesAgree, ListsAgree, SharesAgree, ValuesAgree, PermissionsAgree, AssertionsAgree, UntypedAreFaulty, OthersAreFaulty, StatementsAgree, BlocksAgree, OtherBlocksAreFaulty, HasOneType, PermissionsAreNoValues, PureAreWalkedAlike};
 ghost use Rattle.vx_typing.specs.Faults.{assertion, check};
 ghost use Rattle.vx_typing.specs.Examples.{Computes, after, asserted, bodies, faulty, here, later, typed, unapplied, within};
 
@@ -18,6 +18,13 @@ pub fn assertions_are_told()
     ensures values { ValuesAgree }
     ensures permissions { PermissionsAgree }
     ensures others { OthersAreFaulty }
+{}
+
+/// A statement and a block are typed exactly where they have no first fault.
+pub fn statements_are_told()
+    ensures statements { StatementsAgree }
+    ensures blocks { BlocksAgree }
+    ensures others { OtherBlocksAreFaulty }
 {}
 
 /// Where no permission stands, an assertion is walked as any expression is.

@@ -7,15 +7,17 @@ mod expect;
 mod expr;
 mod fault;
 mod laws;
+mod names;
 mod operators;
 mod setting;
+mod stmt;
 
 pub use assertions::assertion;
 pub use expr::check;
 pub use fault::{Expected, TypeFault};
 pub use laws::{
     assertions_are_told, example_assertions, example_expressions, pure_assertions_are_expressions,
-    types_are_single, types_are_told,
+    statements_are_told, types_are_single, types_are_told,
 };
 pub use setting::{Members, Setting, Signature, Variable, Variables};
 

@@ -1,7 +1,7 @@
 //! The types of operators' nodes, by their operands and the types of these.
 
 ghost use Rattle.std.specs.Prelude.{◌≡◌};
-ghost use Rattle.vx_typing.specs.Placed.{written_expr};
+ghost use Rattle.vx_ast.specs.Written.{written_expr};
 ghost use Rattle.vx_typing.specs.Faults as faults;
 ghost use Rattle.vx_typing.specs.Gives.{Gives};
 

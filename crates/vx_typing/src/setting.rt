@@ -1,7 +1,9 @@
 //! What is known where an expression stands.
 
 ghost use Rattle.std.specs.Prelude.{◌≡◌, option_map};
-ghost use Rattle.vx_typing.specs.Views.{setting, signature};
+ghost use Rattle.vx_typing.specs.Scopes.{named};
+ghost use Rattle.vx_typing.specs.Settings as settings;
+ghost use Rattle.vx_typing.specs.Views.{setting, signature, table, known};
 
 use indexmap::IndexMap;
 use vx_ast::{Declaration, ValueType};
@@ -46,18 +48,126 @@ pub struct Setting<'s, 'a> {
     pub constant: bool,
 }
 
-impl<'a> Setting<'_, 'a> {
+/// The variable of a name.
+pub(crate) fn find(variables: &Variables, name: &str) -> Option<Variable>
+    ensures { result ≡ named (known variables.now.entries) name.now }
+{
+    variables.get(name).copied()
+}
+
+/// What a member's name stands for.
+pub(crate) fn member<'a>(members: &Members<'a>, name: &str) -> Option<Signature<'a>>
+    ensures { option_map signature result ≡ named (table members.now.entries) name.now }
+{
+    members.get(name).copied()
+}
+
+impl<'s, 'a> Setting<'s, 'a> {
+    /// In a method's precondition, and in a function's body.
+    pub fn plainly(members: &'s Members<'a>, variables: &'s Variables<'a>) -> Setting<'s, 'a>
+        ensures { setting result ≡ settings.plainly (table members.now.entries) (known variables.now.entries) }
+    {
+        Setting {
+            members,
+            variables,
+            outcome: None,
+            has_old: false,
+            applies: true,
+            constant: false,
+        }
+    }
+
+    /// In a method's body, its postcondition and its invariants.
+    pub fn within_method(members: &'s Members<'a>, variables: &'s Variables<'a>) -> Setting<'s, 'a>
+        ensures { setting result ≡ settings.within_method (table members.now.entries) (known variables.now.entries) }
+    {
+        Setting {
+            members,
+            variables,
+            outcome: None,
+            has_old: true,
+            applies: true,
+            constant: false,
+        }
+    }
+
+    /// In a function's precondition.
+    pub fn before_function(
+        members: &'s Members<'a>,
+        variables: &'s Variables<'a>,
+    ) -> Setting<'s, 'a>
+        ensures { setting result ≡ settings.before_function (table members.now.entries) (known variables.now.entries) }
+    {
+        Setting {
+            members,
+            variables,
+            outcome: None,
+            has_old: false,
+            applies: true,
+            constant: true,
+        }
+    }
+
+    /// In the postcondition of a function of this type.
+    pub fn after_function(
+        members: &'s Members<'a>,
+        variables: &'s Variables<'a>,
+        of: ValueType,
+    ) -> Setting<'s, 'a>
+        ensures { setting result ≡ settings.after_function (table members.now.entries) (known variables.now.entries) of }
+    {
+        Setting {
+            members,
+            variables,
+            outcome: Some(of),
+            has_old: false,
+            applies: true,
+            constant: false,
+        }
+    }
+
+    /// In a function's measure.
+    pub fn within_measure(members: &'s Members<'a>, variables: &'s Variables<'a>) -> Setting<'s, 'a>
+        ensures { setting result ≡ settings.within_measure (table members.now.entries) (known variables.now.entries) }
+    {
+        Setting {
+            members,
+            variables,
+            outcome: None,
+            has_old: false,
+            applies: false,
+            constant: false,
+        }
+    }
+
+    /// In a predicate's body.
+    pub fn within_predicate(
+        members: &'s Members<'a>,
+        variables: &'s Variables<'a>,
+    ) -> Setting<'s, 'a>
+        ensures { setting result ≡ settings.within_predicate (table members.now.entries) (known variables.now.entries) }
+    {
+        Setting {
+            members,
+            variables,
+            outcome: None,
+            has_old: false,
+            applies: false,
+            constant: true,
+        }
+    }
+
     /// What a member's name stands for.
     pub fn member(&self, name: &str) -> Option<Signature<'a>>
         ensures { option_map signature result ≡ (setting self.now).member name.now }
     {
-        self.members.get(name).copied()
+        member(self.members, name)
     }
 
     /// The type of a variable.
     pub fn variable(&self, name: &str) -> Option<ValueType>
         ensures { result ≡ (setting self.now).variable name.now }
     {
-        self.variables.get(name).map(|v| v.of)
+        find(self.variables, name).map(|v| v.of)
     }
 }

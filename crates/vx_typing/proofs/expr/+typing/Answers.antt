@@ -1,14 +1,13 @@
-use Rattle.std.proofs.Common.{◌≡◌, ◌∙◌, sym, ap, drop, rules, ◌+◌, Result, Ok, Err}
+use Rattle.std.proofs.Common.{◌≡◌, ◌∙◌, sym, ap, drop, rules, ◌+◌, Ok}
 use Rattle.vx_ast.specs.declared.ExprKind as tree
-use Rattle.vx_typing.specs.Gives.{Gives}
 use Rattle.vx_typing.proofs.Rows.{call_row, one_more, onto}
-use Rattle.vx_typing.specs.Placed as placed
-use Rattle.vx_typing.specs.Placed.{written_all, written_expr}
+use Rattle.vx_ast.specs.Written as written
+use Rattle.vx_ast.specs.Written.{written_all, written_expr}
 use Rattle.vx_typing.specs.Faults.{check, check_all, instance}
 use Rattle.vx_typing.specs.Views.{setting}
 use Rattle.vx_typing.proofs.Accesses.{access_is}
 use Rattle.vx_ast.specs.declared.Expr as expr
-use Rattle.vx_typing.proofs.Unfoldings.{share_fails, body_fails}
+use Rattle.vx_typing.proofs.Unfoldings.{instance_fails, share_fails, body_fails}
 use Rattle.vx_typing.proofs.Fails.{passed, passed_on}
 use Rattle.vx_typing.proofs.expr.+typing.Goals as goal
 
@@ -19,7 +18,15 @@ pub held-returns-in_ok-instance-in-Call : goal.held-returns-in_ok-instance-in-Ca
 held-returns-in_ok-instance-in-Call t c = search (rules, tree.the_lemmas, call_row)
 
 pub check-returns-in_err-has_body-in-Unfolding : goal.check-returns-in_err-has_body-in-Unfolding
-check-returns-in_err-has_body-in-Unfolding t c = search (rules, tree.the_lemmas, call_row, passed_on)
+check-returns-in_err-has_body-in-Unfolding t c =
+    let s = setting c.args.s in
+    let u = c.in-Unfolding in
+    let i = written.name_of u.name in
+    let view : written_expr c.args.e.now ≡ written.Unfolding c.args.e.now.place i (written_all u.es.items) (written.written_optional u.amount) (written_expr u.a.value) = search (rules, tree.the_lemmas, call_row) in
+    let r = c.from_residual-in_err-has_body-in-Unfolding in
+    let f = c.in_err-has_body-in-Unfolding.field-0.0 in
+    passed (λ t. t) r.result f (check s (written_expr c.args.e.now)) r.ensures.1
+    (instance_fails s c.args.e.now.place i (written_all u.es.items) (written.written_optional u.amount) (written_expr u.a.value) (written_expr c.args.e.now) f view (search rules))
 
 pub check-returns-in_ok-t-in-Unfolding : goal.check-returns-in_ok-t-in-Unfolding
 check-returns-in_ok-t-in-Unfolding t c = search (rules, tree.the_lemmas, call_row)
@@ -28,25 +35,25 @@ pub check-returns-in_err-share-in-Unfolding : goal.check-returns-in_err-share-in
 check-returns-in_err-share-in-Unfolding t c =
     let s = setting c.args.s in
     let u = c.in-Unfolding in
-    let i = placed.placed u.name in
-    let view : written_expr c.args.e.now ≡ placed.Unfolding c.args.e.now.place i (written_all u.es.items) (placed.written_share u.amount) (written_expr u.a.value) = search (rules, tree.the_lemmas, call_row) in
+    let i = written.name_of u.name in
+    let view : written_expr c.args.e.now ≡ written.Unfolding c.args.e.now.place i (written_all u.es.items) (written.written_optional u.amount) (written_expr u.a.value) = search (rules, tree.the_lemmas, call_row) in
     let is : instance s i.place i.name (written_all u.es.items) ≡ Ok c.in_ok-has_body-in-Unfolding.has_body = search rules in
     let r = c.from_residual-in_err-share-in-Unfolding in
     let f = c.in_err-share-in-Unfolding.field-0.0 in
     passed (λ t. t) r.result f (check s (written_expr c.args.e.now)) r.ensures.1
-    (share_fails s c.args.e.now.place i (written_all u.es.items) (placed.written_share u.amount) (written_expr u.a.value) (written_expr c.args.e.now) c.in_ok-has_body-in-Unfolding.has_body f view is (search rules))
+    (share_fails s c.args.e.now.place i (written_all u.es.items) (written.written_optional u.amount) (written_expr u.a.value) (written_expr c.args.e.now) c.in_ok-has_body-in-Unfolding.has_body f view is (search rules))
 
 pub check-returns-in_err-t-in-Unfolding : goal.check-returns-in_err-t-in-Unfolding
 check-returns-in_err-t-in-Unfolding t c =
     let s = setting c.args.s in
     let u = c.in-Unfolding in
-    let i = placed.placed u.name in
-    let view : written_expr c.args.e.now ≡ placed.Unfolding c.args.e.now.place i (written_all u.es.items) (placed.written_share u.amount) (written_expr u.a.value) = search (rules, tree.the_lemmas, call_row) in
+    let i = written.name_of u.name in
+    let view : written_expr c.args.e.now ≡ written.Unfolding c.args.e.now.place i (written_all u.es.items) (written.written_optional u.amount) (written_expr u.a.value) = search (rules, tree.the_lemmas, call_row) in
     let is : instance s i.place i.name (written_all u.es.items) ≡ Ok c.in_ok-has_body-in-Unfolding.has_body = search rules in
     let r = c.from_residual-in_err-t-in-Unfolding in
     let f = c.in_err-t-in-Unfolding.field-0.0 in
     passed (λ t. t) r.result f (check s (written_expr c.args.e.now)) r.ensures.1
-    (body_fails s c.args.e.now.place i (written_all u.es.items) (placed.written_share u.amount) (written_expr u.a.value) (written_expr c.args.e.now) c.in_ok-has_body-in-Unfolding.has_body f view is (search rules) (search rules))
+    (body_fails s c.args.e.now.place i (written_all u.es.items) (written.written_optional u.amount) (written_expr u.a.value) (written_expr c.args.e.now) c.in_ok-has_body-in-Unfolding.has_body f view is (search rules) (search rules))
 
 pub check-returns-in_ok-share-in-Access : goal.check-returns-in_ok-share-in-Access
 check-returns-in_ok-share-in-Access t c = search (rules, tree.the_lemmas, access_is)

@@ -1,5 +1,5 @@
 use Rattle.std.proofs.Common.{◌≡◌, drop}
-use Rattle.vx_typing.specs.Placed.{written_all}
+use Rattle.vx_ast.specs.Written.{written_all}
 use Rattle.vx_typing.specs.Faults.{check_all}
 use Rattle.vx_typing.specs.Views.{setting}
 use Rattle.vx_typing.proofs.Rows.{onto}

@@ -1,12 +1,12 @@
-use Rattle.std.proofs.Common.{◌≡◌, ◌∙◌, sym, ap, drop, arith, rules, ◌<◌, length, subst}
-use Rattle.std.proofs.lemmas.List.{get_or_default}
+use Rattle.std.proofs.Common.{◌∙◌, sym, ap, subst}
 use Rattle.std.proofs.lemmas.Option.{get_or_from_slice_get}
 use Rattle.vx_ast.specs.declared.Expr as expr
-use Rattle.vx_typing.specs.Placed.{place_of, written_expr}
+use Rattle.vx_ast.specs.Written.{written_expr}
+use Rattle.vx_typing.specs.Places.{place_of}
 use Rattle.vx_ast.specs.declared.Declaration.{Declaration}
 use Rattle.vx_typing.specs.Faults.{expect}
 use Rattle.vx_typing.specs.Gives.{Fails}
-use Rattle.vx_typing.proofs.Arguments.{ended, fits, fits_not, go_on}
+use Rattle.vx_typing.proofs.Arguments.{ended, fits, fits_not}
 use Rattle.vx_typing.proofs.Fails.{passed}
 use Rattle.vx_typing.proofs.expr.arguments_fit.Goals as goal
 

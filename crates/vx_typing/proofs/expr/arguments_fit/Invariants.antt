@@ -1,5 +1,5 @@
 use Rattle.std.proofs.Common.{◌≡◌, drop}
-use Rattle.vx_typing.specs.Placed.{written_all}
+use Rattle.vx_ast.specs.Written.{written_all}
 use Rattle.vx_typing.specs.Faults.{arguments_fit}
 use Rattle.vx_typing.specs.Views.{types_of}
 use Rattle.vx_typing.proofs.expr.arguments_fit.Given as goal

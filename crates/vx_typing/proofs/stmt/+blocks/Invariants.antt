@@ -1,0 +1,10 @@
+use Rattle.std.proofs.Common.{◌≡◌, drop}
+use Rattle.vx_typing.specs.StatementFaults.{block}
+use Rattle.vx_typing.specs.Views.{table, known, written_list, Extends}
+use Rattle.vx_typing.proofs.stmt.+blocks.Given as goal
+
+abbrev pub invariant-statements-loop-s : goal.invariant-statements-loop-s
+invariant-statements-loop-s l = record {
+  walk : block (table l.members.entries) (known l.initial.variables.entries) (written_list l.all) ≡ block (table l.members.entries) (known l.variables.entries) (written_list (drop l.s-index l.all));
+  kept : Extends (known l.initial.variables.entries) (known l.variables.entries);
+}

@@ -1,0 +1,45 @@
+-- Names, and what they stand for.
+use Rattle.std.specs.Prelude.{◌++◌, Bool, true, false, List, [], ◌∷◌, Option, Some, None, option_map, if◌then◌else◌}
+use Rattle.vx_ast.specs.declared.ValueType.{ValueType}
+use Rattle.vx_ast.specs.declared.ValueType.TheVariants as type
+use Rattle.vx_ast.specs.Written.{Name, Declaration}
+use Rattle.vx_ast.specs.Syntax.{same_name}
+use Rattle.vx_typing.specs.declared.setting.Variable.{Variable}
+
+-- what the first of this name stands for
+abbrev pub named : {X : Type 0} → List (Name × X) → Name → Option X
+named [] x = None
+named (e ∷ es) x = if same_name x e.0 then Some e.1 else named es x
+
+-- the variables that are known, in the order of their declarations
+abbrev pub Scope : Type 0
+Scope = List (Name × Variable)
+
+abbrev pub type_in : Scope → Name → Option ValueType
+type_in scope x = option_map (λ v. v.of) (named scope x)
+
+-- what a variable is declared as
+pub data Role : Type 0 where
+  -- a parameter of a predicate or a function, which is not Perm
+  Input : Role
+  -- a parameter of a method
+  Parameter : Role
+  -- a return or a local variable, which can be assigned
+  Local : Role
+
+abbrev pub is_assignable : Role → Bool
+is_assignable Input = false
+is_assignable Parameter = false
+is_assignable Local = true
+
+abbrev pub takes : Role → ValueType → Bool
+takes Input type.Perm = false
+takes _ _ = true
+
+-- one variable more
+abbrev pub with_variable : Role → Declaration → Scope → Scope
+with_variable role d scope = scope ++ (d.name.name, record { of = d.of; assignable = is_assignable role }) ∷ []
+
+abbrev pub with_variables : Role → List Declaration → Scope → Scope
+with_variables role [] scope = scope
+with_variables role (d ∷ ds) scope = with_variables role ds (with_variable role d scope)
