@@ -1,11 +1,12 @@
 -- The laws of typing.
 use Rattle.std.proofs.Common.{◌≡◌, refl, sym, ◌∙◌, Ok, Err}
-use Rattle.vx_typing.specs.Laws.{HasFault, TypesAgree, ListsAgree, SharesAgree, ValuesAgree, PermissionsAgree, AssertionsAgree, UntypedAreFaulty, OthersAreFaulty, StatementsAgree, BlocksAgree, OtherBlocksAreFaulty, HasOneType, PermissionsAreNoValues}
+use Rattle.vx_typing.specs.Laws.{HasFault, TypesAgree, ListsAgree, SharesAgree, ValuesAgree, PermissionsAgree, AssertionsAgree, UntypedAreFaulty, OthersAreFaulty, StatementsAgree, BlocksAgree, OtherBlocksAreFaulty, MembersAgree, HasOneType, PermissionsAreNoValues}
 use Rattle.vx_typing.specs.Faults.{Checked, Value, Permission, check, assertion}
 use Rattle.vx_typing.proofs.Passed.{ok_is, not_ok}
 use Rattle.vx_typing.proofs.AgreesTypes.{to_type, to_types, to_share, from_type, from_types, from_share}
 use Rattle.vx_typing.specs.StatementFaults.{block}
 use Rattle.vx_typing.proofs.AgreesStatements.{to_stmt, to_block, from_stmt, from_block}
+use Rattle.vx_typing.proofs.AgreesMembers.{members_to, members_from}
 use Rattle.vx_typing.proofs.AgreesClaims.{to_claim, to_assertion, value_claim, from_permission, passes}
 
 pub types : TypesAgree
@@ -58,3 +59,6 @@ blocks table scope b = (to_block table scope b tt, from_block table scope b)
 pub other_blocks : OtherBlocksAreFaulty
 other_blocks table scope b =
     (λ h k. gives_none (block table scope b) h tt (from_block table scope b k), λ h. faulty (block table scope b) (λ u k. h (to_block table scope b u k)))
+
+pub members : MembersAgree
+members table ms = (members_to table ms tt, members_from table ms)

@@ -10,7 +10,8 @@ use Rattle.vx_ast.specs.Written as expr
 use Rattle.vx_ast.specs.Written.{Name, Placed, placed, Expr, Call, Exprs, NoMore, More, Amount, Right, Value, NewAll, New, Stmt, Declare, Assign, Write, Invoke, Inhale, Exhale, Assert, Assume, Fold, Unfold, If, While, Other, NoElse, Else, Block, Done, Then}
 use Rattle.vx_typing.specs.declared.setting.Variable.{Variable}
 use Rattle.vx_typing.specs.Places.{place_of}
-use Rattle.vx_typing.specs.Scopes.{Scope, Local, named, with_variable}
+use Rattle.vx_typing.specs.declared.names.Role.TheVariants.{Local}
+use Rattle.vx_typing.specs.Scopes.{Scope, named, with_variable}
 use Rattle.vx_typing.specs.Settings.{Table, Setting, Signature, IsField, IsPredicate, IsMethod, within_method}
 use Rattle.vx_typing.specs.Typing as typing
 use Rattle.vx_typing.specs.Typing.{HasType, HaveTypes, IsAssertion}
@@ -124,7 +125,7 @@ opened_to s i es share u h =
 opened_from : (s : Setting) (i : Placed) (es : Exprs) (share : Amount) → IsOpened s i es share → opened s i es share ≡ Ok tt
 opened_from s i es share h =
     let is : instance s i.place i.name es ≡ Ok true =
-        ap (λ r. r >>= λ found. instance_of i.place i.name es found (s.member i.name)) (from_types s h.arguments) ∙ instance_from i.place i.name es h.predicate in
+    ap (λ r. r >>= λ found. instance_of i.place i.name es found (s.member i.name)) (from_types s h.arguments) ∙ instance_from i.place i.name es h.predicate in
     ap (λ r. r >>= λ b. check_share s share >>= λ u. unless b (UnfoldAbstract i.place)) is ∙ ap (λ r. r >>= λ u. unless true (UnfoldAbstract i.place)) (from_share s h.amount)
 
 module _ (table : Table) where

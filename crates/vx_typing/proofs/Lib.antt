@@ -6,6 +6,7 @@ pub mod Arguments
 pub mod Unfoldings
 pub mod Scopes
 pub mod Loops
+pub mod Tables
 pub mod Blocks
 pub mod Assigns
 pub mod Passed
@@ -13,5 +14,6 @@ pub mod AgreesAmounts
 pub mod AgreesTypes
 pub mod AgreesClaims
 pub mod AgreesStatements
+pub mod AgreesMembers
 pub mod Agree
 pub mod Alike

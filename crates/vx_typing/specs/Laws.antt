@@ -3,11 +3,13 @@ use Rattle.std.specs.Prelude.{◌≡◌, ◌↔◌, Bool, true, false, ◌||◌,
 use Rattle.vx_ast.specs.declared.ValueType.{ValueType}
 use Rattle.vx_ast.specs.declared.BinaryOperator.TheVariants as binary
 use Rattle.vx_ast.specs.Written as expr
-use Rattle.vx_ast.specs.Written.{Stmt, Block, Expr, Exprs, Amount}
+use Rattle.vx_ast.specs.Written.{Member, Stmt, Block, Expr, Exprs, Amount}
 use Rattle.vx_typing.specs.Settings.{Table, Setting, Signature, IsPredicate}
 use Rattle.vx_typing.specs.Scopes.{Scope}
 use Rattle.vx_typing.specs.Statements.{IsTypedStmt, IsTypedBlock}
 use Rattle.vx_typing.specs.StatementFaults.{stmt, block}
+use Rattle.vx_typing.specs.Members.{AreTypedMembers}
+use Rattle.vx_typing.specs.MemberFaults.{members}
 use Rattle.vx_typing.specs.Typing.{HasType, HaveTypes, IsShare, IsPermission, IsAssertion}
 use Rattle.vx_typing.specs.Faults.{Fault, Checked, ◌>>=◌, Value, Permission, check, check_all, check_share, claim, assertion}
 
@@ -75,3 +77,7 @@ BlocksAgree = (table : Table) (scope : Scope) (b : Block) → (block table scope
 
 abbrev pub OtherBlocksAreFaulty : Type 0
 OtherBlocksAreFaulty = (table : Table) (scope : Scope) (b : Block) → HasFault (block table scope b) ↔ (IsTypedBlock table scope b → ⊥)
+
+-- the members, one after another
+abbrev pub MembersAgree : Type 0
+MembersAgree = (table : Table) (ms : List Member) → (members table ms ≡ Ok tt) ↔ AreTypedMembers table ms

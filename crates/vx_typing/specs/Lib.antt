@@ -7,6 +7,8 @@ pub mod Typing
 pub mod Faults
 pub mod Statements
 pub mod StatementFaults
+pub mod Members
+pub mod MemberFaults
 pub mod Views
 pub mod Gives
 pub mod Laws

@@ -4,6 +4,8 @@ use Rattle.vx_ast.specs.declared.ValueType.{ValueType}
 use Rattle.vx_ast.specs.declared.ValueType.TheVariants as type
 use Rattle.vx_ast.specs.Written.{Name, Declaration}
 use Rattle.vx_ast.specs.Syntax.{same_name}
+use Rattle.vx_typing.specs.declared.names.Role.{Role}
+use Rattle.vx_typing.specs.declared.names.Role.TheVariants.{Input, Parameter, Local}
 use Rattle.vx_typing.specs.declared.setting.Variable.{Variable}
 
 -- what the first of this name stands for
@@ -18,15 +20,8 @@ Scope = List (Name × Variable)
 abbrev pub type_in : Scope → Name → Option ValueType
 type_in scope x = option_map (λ v. v.of) (named scope x)
 
--- what a variable is declared as
-pub data Role : Type 0 where
-  -- a parameter of a predicate or a function, which is not Perm
-  Input : Role
-  -- a parameter of a method
-  Parameter : Role
-  -- a return or a local variable, which can be assigned
-  Local : Role
-
+-- a variable is declared as an input of a predicate or a function, which is not Perm, as a parameter of a method, or as a
+-- local variable or a return, which can be assigned
 abbrev pub is_assignable : Role → Bool
 is_assignable Input = false
 is_assignable Parameter = false

@@ -4,7 +4,8 @@ use Rattle.vx_ast.specs.declared.ValueType.{ValueType}
 use Rattle.vx_ast.specs.declared.ValueType.TheVariants as type
 use Rattle.vx_ast.specs.Mentions.{is_among}
 use Rattle.vx_ast.specs.Written.{Name, Placed, Call, Read, Exprs, NoMore, More, Amount, Right, Value, NewAll, New, Stmt, Declare, Assign, Write, Invoke, Inhale, Exhale, Assert, Assume, Fold, Unfold, If, While, Other, NoElse, Else, Block, Done, Then}
-use Rattle.vx_typing.specs.Scopes.{Scope, Local, named, with_variable}
+use Rattle.vx_typing.specs.declared.names.Role.TheVariants.{Local}
+use Rattle.vx_typing.specs.Scopes.{Scope, named, with_variable}
 use Rattle.vx_typing.specs.Settings.{Table, Setting, IsField, IsPredicate, IsMethod, within_method}
 use Rattle.vx_typing.specs.Typing.{HasType, HaveTypes, IsShare, IsAssertion}
 

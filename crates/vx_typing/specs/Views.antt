@@ -34,6 +34,9 @@ table es = map (λ e. (e.0.now, signature e.1)) es
 abbrev pub known : List (Bor Name × Variable) → Scope
 known es = map (λ e. (e.0.now, e.1)) es
 
+abbrev pub names_in : Table → List Name
+names_in es = map (λ e. e.0) es
+
 abbrev pub listed : List (Bor Name) → List Name
 listed ks = map (λ k. k.now) ks
 

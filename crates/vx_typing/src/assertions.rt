@@ -134,7 +134,7 @@ fn called(
     }
 }
 
-fn call(
+pub(crate) fn call(
     alloc: Global,
     s: Setting,
     at: Place,

@@ -1,6 +1,6 @@
 //! The laws of typing: the relation and the first fault tell the same.
 
-ghost use Rattle.vx_typing.specs.Laws.{TypesAgree, ListsAgree, SharesAgree, ValuesAgree, PermissionsAgree, AssertionsAgree, UntypedAreFaulty, OthersAreFaulty, StatementsAgree, BlocksAgree, OtherBlocksAreFaulty, HasOneType, PermissionsAreNoValues, PureAreWalkedAlike};
+ghost use Rattle.vx_typing.specs.Laws.{TypesAgree, ListsAgree, SharesAgree, ValuesAgree, PermissionsAgree, AssertionsAgree, UntypedAreFaulty, OthersAreFaulty, StatementsAgree, BlocksAgree, OtherBlocksAreFaulty, MembersAgree, HasOneType, PermissionsAreNoValues, PureAreWalkedAlike};
 ghost use Rattle.vx_typing.specs.Faults.{assertion, check};
 ghost use Rattle.vx_typing.specs.Examples.{Computes, after, asserted, bodies, faulty, here, later, typed, unapplied, within};
 
@@ -25,6 +25,11 @@ pub fn statements_are_told()
     ensures statements { StatementsAgree }
     ensures blocks { BlocksAgree }
     ensures others { OtherBlocksAreFaulty }
+{}
+
+/// Members are typed exactly where they have no first fault.
+pub fn members_are_told()
+    ensures { MembersAgree }
 {}
 
 /// Where no permission stands, an assertion is walked as any expression is.

@@ -7,6 +7,7 @@ mod expect;
 mod expr;
 mod fault;
 mod laws;
+mod members;
 mod names;
 mod operators;
 mod setting;
@@ -16,8 +17,8 @@ pub use assertions::assertion;
 pub use expr::check;
 pub use fault::{Expected, TypeFault};
 pub use laws::{
-    assertions_are_told, example_assertions, example_expressions, pure_assertions_are_expressions,
-    statements_are_told, types_are_single, types_are_told,
+    assertions_are_told, example_assertions, example_expressions, members_are_told,
+    pure_assertions_are_expressions, statements_are_told, types_are_single, types_are_told,
 };
 pub use setting::{Members, Setting, Signature, Variable, Variables};
 

@@ -6,14 +6,15 @@ ghost use Rattle.vx_typing.specs.Faults as faults;
 ghost use Rattle.vx_typing.specs.StatementFaults as first;
 ghost use Rattle.vx_typing.specs.Statements.{scope_after};
 ghost use Rattle.vx_typing.specs.Settings.{within_method};
-ghost use Rattle.vx_typing.specs.Scopes.{Local, named, with_variable};
+ghost use Rattle.vx_typing.specs.declared.names.Role.TheVariants.{Local};
+ghost use Rattle.vx_typing.specs.Scopes.{named, with_variable};
 ghost use Rattle.vx_typing.specs.Gives.{Gives};
 ghost use Rattle.vx_typing.specs.Views.{setting, signature, table, known, listed, types_of, written_list, optional_other, Extends};
 
 use crate::assertions::assertion;
 use crate::expect::{expect, place};
 use crate::expr::{arguments_fit, check, check_all, field_type, instance, read, share, unknown};
-use crate::names::{add_name, declare};
+use crate::names::{Role, add_name, declare};
 use crate::setting::{find, member};
 use crate::{Members, Setting, Signature, TypeFault, Variables};
 use indexmap::IndexSet;
@@ -262,7 +263,7 @@ fn declaration<'a>(
     ensures first { Gives (λ x. tt) result (first.declaration (table members.now.entries) (known variables.old.entries) (written_declaration declared.now) (optional_right r.now)) }
     ensures after { OnOk result (known variables.new.entries ≡ with_variable Local (written_declaration declared.now) (known variables.old.entries)) }
 {
-    declare(alloc, variables, declared)?;
+    declare(alloc, variables, Role::Local, declared)?;
     match r {
         None => Ok(()),
         Some(r) => right(alloc, members, variables, declared.value_type, r),
