@@ -16,43 +16,43 @@ use Rattle.vx_types.specs.Parts.{is_conjunction}
 use Rattle.vx_ast.specs.Resolve.{Names, is_pure, whole, expression, expressions, assertion}
 
 -- what is executed is pure
-pub is_plain : (names : Names) (e : written.Expr) → is_executed_expr e ≡ true → is_pure names e ≡ true
-is_plain names (written.Number at n) h = refl
-is_plain names (written.Truth at b) h = refl
-is_plain names (written.Null at) h = (cc)
-is_plain names (written.Whole at) h = (cc)
-is_plain names (written.Nothing at) h = (cc)
-is_plain names (written.Result at) h = (cc)
-is_plain names (written.Variable at x) h = refl
-is_plain names (written.Call at f es) h = (cc)
-is_plain names (written.Read at e f) h = (cc)
-is_plain names (written.Unary at op e) h = refl
-is_plain names (written.Binary at binary.And a b) h =
+pub executed_is_pure : (names : Names) (e : written.Expr) → is_executed_expr e ≡ true → is_pure names e ≡ true
+executed_is_pure names (written.Number at n) h = refl
+executed_is_pure names (written.Truth at b) h = refl
+executed_is_pure names (written.Null at) h = (cc)
+executed_is_pure names (written.Whole at) h = (cc)
+executed_is_pure names (written.Nothing at) h = (cc)
+executed_is_pure names (written.Result at) h = (cc)
+executed_is_pure names (written.Variable at x) h = refl
+executed_is_pure names (written.Call at f es) h = (cc)
+executed_is_pure names (written.Read at e f) h = (cc)
+executed_is_pure names (written.Unary at op e) h = refl
+executed_is_pure names (written.Binary at binary.And a b) h =
     let k = and_parts (is_executed_expr a) (is_executed_expr b && true) h in
-    and_from _ _ (is_plain names a k.0) (is_plain names b (and_parts (is_executed_expr b) true k.1).0)
-is_plain names (written.Binary at binary.Or a b) h = refl
-is_plain names (written.Binary at binary.Implies a b) h =
+    and_from _ _ (executed_is_pure names a k.0) (executed_is_pure names b (and_parts (is_executed_expr b) true k.1).0)
+executed_is_pure names (written.Binary at binary.Or a b) h = refl
+executed_is_pure names (written.Binary at binary.Implies a b) h =
     let k = and_parts (is_executed_expr a) (is_executed_expr b && true) h in
-    is_plain names b (and_parts (is_executed_expr b) true k.1).0
-is_plain names (written.Binary at binary.Equal a b) h = refl
-is_plain names (written.Binary at binary.NotEqual a b) h = refl
-is_plain names (written.Binary at binary.Less a b) h = refl
-is_plain names (written.Binary at binary.LessEqual a b) h = refl
-is_plain names (written.Binary at binary.Greater a b) h = refl
-is_plain names (written.Binary at binary.GreaterEqual a b) h = refl
-is_plain names (written.Binary at binary.Add a b) h = refl
-is_plain names (written.Binary at binary.Subtract a b) h = refl
-is_plain names (written.Binary at binary.Multiply a b) h = refl
-is_plain names (written.Binary at binary.Divide a b) h = refl
-is_plain names (written.Binary at binary.Quotient a b) h = refl
-is_plain names (written.Binary at binary.Remainder a b) h = refl
-is_plain names (written.Choice at d a b) h =
+    executed_is_pure names b (and_parts (is_executed_expr b) true k.1).0
+executed_is_pure names (written.Binary at binary.Equal a b) h = refl
+executed_is_pure names (written.Binary at binary.NotEqual a b) h = refl
+executed_is_pure names (written.Binary at binary.Less a b) h = refl
+executed_is_pure names (written.Binary at binary.LessEqual a b) h = refl
+executed_is_pure names (written.Binary at binary.Greater a b) h = refl
+executed_is_pure names (written.Binary at binary.GreaterEqual a b) h = refl
+executed_is_pure names (written.Binary at binary.Add a b) h = refl
+executed_is_pure names (written.Binary at binary.Subtract a b) h = refl
+executed_is_pure names (written.Binary at binary.Multiply a b) h = refl
+executed_is_pure names (written.Binary at binary.Divide a b) h = refl
+executed_is_pure names (written.Binary at binary.Quotient a b) h = refl
+executed_is_pure names (written.Binary at binary.Remainder a b) h = refl
+executed_is_pure names (written.Choice at d a b) h =
     let k = and_parts (is_executed_expr d) (is_executed_expr a && is_executed_expr b) h in
     let l = and_parts (is_executed_expr a) (is_executed_expr b) k.1 in
-    and_from _ _ (is_plain names a l.0) (is_plain names b l.1)
-is_plain names (written.Old at e) h = (cc)
-is_plain names (written.Access at e share) h = (cc)
-is_plain names (written.Unfolding at i es share e) h = (cc)
+    and_from _ _ (executed_is_pure names a l.0) (executed_is_pure names b l.1)
+executed_is_pure names (written.Old at e) h = (cc)
+executed_is_pure names (written.Access at e share) h = (cc)
+executed_is_pure names (written.Unfolding at i es share e) h = (cc)
 
 alone : (names : Names) (e : written.Expr) → is_conjunction e ≡ false → is_pure names e ≡ true → Pure (expression e) ≡ assertion names e
 alone names (written.Number at n) c h = refl
@@ -101,4 +101,4 @@ one_behind done a next x rest is same =
 
 -- an executed expression, as an assertion
 pub executed_alone : (names : Names) (e : written.Expr) → is_conjunction e ≡ false → is_executed_expr e ≡ true → Pure (expression e) ≡ assertion names e
-executed_alone names e c h = alone names e c (is_plain names e h)
+executed_alone names e c h = alone names e c (executed_is_pure names e h)
