@@ -6,18 +6,55 @@ use Rattle.std.specs.declared.rc.Rc.{Rc}
 use Rattle.vx_ast.specs.declared.resolved.Assertion as assertion'
 use Rattle.vx_ast.specs.Resolved as resolved
 use Rattle.vx_ast.specs.Written.{written_expr, written_all}
-use Rattle.std.proofs.lemmas.Bool.{and_from}
-use Rattle.std.proofs.lemmas.List.Recursion.{and_push}
-use Rattle.vx_types.specs.Typing.{Scope}
-use Rattle.vx_types.specs.Computed.{is_typed, are_typed}
-use Rattle.std.specs.Prelude.{not, if◌then◌else◌}
+use Rattle.std.proofs.lemmas.Bool.{and_from, and_parts}
+use Rattle.std.specs.Prelude.{not, ◌&&◌, if◌then◌else◌}
+use Rattle.vx_types.specs.Executed.{is_executed_expr}
 use Rattle.vx_ast.specs.declared.BinaryOperator.TheVariants as binary
 use Rattle.vx_ast.specs.Written as written
 use Rattle.vx_ast.specs.Syntax.{Assertion, Pure, Instance, Implied, Chosen}
 use Rattle.vx_types.specs.Parts.{is_conjunction}
 use Rattle.vx_ast.specs.Resolve.{Names, is_pure, whole, expression, expressions, assertion}
 
-pub alone : (names : Names) (e : written.Expr) → is_conjunction e ≡ false → is_pure names e ≡ true → Pure (expression e) ≡ assertion names e
+-- what is executed is pure
+pub executed_is_pure : (names : Names) (e : written.Expr) → is_executed_expr e ≡ true → is_pure names e ≡ true
+executed_is_pure names (written.Number at n) h = refl
+executed_is_pure names (written.Truth at b) h = refl
+executed_is_pure names (written.Null at) h = (cc)
+executed_is_pure names (written.Whole at) h = (cc)
+executed_is_pure names (written.Nothing at) h = (cc)
+executed_is_pure names (written.Result at) h = (cc)
+executed_is_pure names (written.Variable at x) h = refl
+executed_is_pure names (written.Call at f es) h = (cc)
+executed_is_pure names (written.Read at e f) h = (cc)
+executed_is_pure names (written.Unary at op e) h = refl
+executed_is_pure names (written.Binary at binary.And a b) h =
+    let k = and_parts (is_executed_expr a) (is_executed_expr b && true) h in
+    and_from _ _ (executed_is_pure names a k.0) (executed_is_pure names b (and_parts (is_executed_expr b) true k.1).0)
+executed_is_pure names (written.Binary at binary.Or a b) h = refl
+executed_is_pure names (written.Binary at binary.Implies a b) h =
+    let k = and_parts (is_executed_expr a) (is_executed_expr b && true) h in
+    executed_is_pure names b (and_parts (is_executed_expr b) true k.1).0
+executed_is_pure names (written.Binary at binary.Equal a b) h = refl
+executed_is_pure names (written.Binary at binary.NotEqual a b) h = refl
+executed_is_pure names (written.Binary at binary.Less a b) h = refl
+executed_is_pure names (written.Binary at binary.LessEqual a b) h = refl
+executed_is_pure names (written.Binary at binary.Greater a b) h = refl
+executed_is_pure names (written.Binary at binary.GreaterEqual a b) h = refl
+executed_is_pure names (written.Binary at binary.Add a b) h = refl
+executed_is_pure names (written.Binary at binary.Subtract a b) h = refl
+executed_is_pure names (written.Binary at binary.Multiply a b) h = refl
+executed_is_pure names (written.Binary at binary.Divide a b) h = refl
+executed_is_pure names (written.Binary at binary.Quotient a b) h = refl
+executed_is_pure names (written.Binary at binary.Remainder a b) h = refl
+executed_is_pure names (written.Choice at d a b) h =
+    let k = and_parts (is_executed_expr d) (is_executed_expr a && is_executed_expr b) h in
+    let l = and_parts (is_executed_expr a) (is_executed_expr b) k.1 in
+    and_from _ _ (executed_is_pure names a l.0) (executed_is_pure names b l.1)
+executed_is_pure names (written.Old at e) h = (cc)
+executed_is_pure names (written.Access at e share) h = (cc)
+executed_is_pure names (written.Unfolding at i es share e) h = (cc)
+
+alone : (names : Names) (e : written.Expr) → is_conjunction e ≡ false → is_pure names e ≡ true → Pure (expression e) ≡ assertion names e
 alone names (written.Number at n) c h = refl
 alone names (written.Truth at b) c h = refl
 alone names (written.Null at) c h = refl
@@ -52,10 +89,6 @@ alone names (written.Old at e) c h = refl
 alone names (written.Access at e share) c h = (cc)
 alone names (written.Unfolding at i es share e) c h = refl
 
--- one more clause
-pub are_typed-append : (scope : Scope) (as' : List Assertion) (a : Assertion) → are_typed scope as' ≡ true → is_typed scope a ≡ true → are_typed scope (as' ++ a ∷ []) ≡ true
-are_typed-append scope as' a h k = and_push (are_typed scope) (is_typed scope) refl (λ _ _. refl) as' a ∙ and_from _ _ h k
-
 -- the assertions settled so far, and one more, in front of others
 pub one_behind : (done : List (Rc assertion'.Assertion Global)) (a : Rc assertion'.Assertion Global) (next : List (Rc assertion'.Assertion Global)) (x : Assertion) (rest : List Assertion)
     → next ≡ done ++ a ∷ [] → resolved.assertion a.value ≡ x → resolved.assertions next ++ rest ≡ resolved.assertions done ++ x ∷ rest
@@ -66,8 +99,6 @@ one_behind done a next x rest is same =
     ∙ append_assoc (map f done) (f a ∷ []) rest
     ∙ ap (λ y. map f done ++ y ∷ rest) same
 
-pub one_typed : (scope : Scope) (done : List (Rc assertion'.Assertion Global)) (a : Rc assertion'.Assertion Global) (next : List (Rc assertion'.Assertion Global))
-    → next ≡ done ++ a ∷ [] → are_typed scope (resolved.assertions done) ≡ true → is_typed scope (resolved.assertion a.value) ≡ true → are_typed scope (resolved.assertions next) ≡ true
-one_typed scope done a next is h k =
-    let f = λ (x : Rc assertion'.Assertion Global). resolved.assertion x.value in
-    ap (λ xs. are_typed scope (map f xs)) is ∙ ap (are_typed scope) (map-append f done (a ∷ [])) ∙ are_typed-append scope (map f done) (f a) h k
+-- an executed expression, as an assertion
+pub executed_alone : (names : Names) (e : written.Expr) → is_conjunction e ≡ false → is_executed_expr e ≡ true → Pure (expression e) ≡ assertion names e
+executed_alone names e c h = alone names e c (executed_is_pure names e h)

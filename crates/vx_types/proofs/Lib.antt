@@ -1,5 +1,6 @@
 pub mod Asserted
+pub mod Loops
 pub mod Methods
+pub mod Refused
 pub mod Rows
-pub mod Scopes
 pub mod Statements

@@ -4,7 +4,7 @@ use Rattle.vx_ast.specs.declared.Block as block
 use Rattle.vx_ast.specs.declared.StmtKind.TheViews.{the_lemmas}
 use Rattle.vx_ast.specs.Written as written
 use Rattle.vx_ast.specs.Written.{written_stmt, written_stmts, written_block}
-use Rattle.vx_types.specs.Statements.{written_list}
+use Rattle.vx_types.specs.Parts.{written_list}
 
 row : (m : _) (r : block.Row_of-Stmt m) → written_stmts r ≡ written_list (block.items-the_row-Stmt m r)
 row m block.end_of-Stmt = refl

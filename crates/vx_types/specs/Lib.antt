@@ -1,9 +1,5 @@
 pub mod Typing
-pub mod Computed
+pub mod Executed
 pub mod Settled
-pub mod Scopes
+pub mod Refusals
 pub mod Parts
-pub mod Statements
-pub mod Members
-pub mod Programs
-pub mod Faults

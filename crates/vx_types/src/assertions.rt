@@ -1,40 +1,39 @@
-//! Typing of assertions, and their settled form.
+//! Assertions, settled.
 
-ghost use Rattle.std.specs.Prelude.{◌≡◌, ◌&&◌, IfOk, true, false};
+ghost use Rattle.std.specs.Prelude.{◌≡◌, IfOk, false};
 ghost use Rattle.vx_ast.specs.Written.{written_expr};
 ghost use Rattle.vx_ast.specs.Resolve.{Names, assertion};
 ghost use Rattle.vx_ast.specs.Resolved as settled;
-ghost use Rattle.vx_types.specs.Computed.{is_typed};
-ghost use Rattle.vx_types.specs.Scopes.{known};
+ghost use Rattle.vx_types.specs.Executed.{is_executed_expr};
 ghost use Rattle.vx_types.specs.Parts.{is_conjunction};
+ghost use Rattle.vx_types.specs.Refusals.{Tells};
 
+use crate::Unsettled;
 use crate::expr::expression;
-use crate::{Scope, TypeFault};
 use std::alloc::Global;
 use std::rc::Rc;
 use vx_ast::resolved::Assertion;
-use vx_ast::{BinaryOperator, Expr, ExprKind, ValueType};
+use vx_ast::{BinaryOperator, Expr, ExprKind};
 
 // An assertion that is no conjunction.
-#[tactic(auto, using(crate::proofs::Asserted::alone))]
-fn pure(alloc: Global, scope: &Scope, e: &Expr) -> Result<Rc<Assertion>, TypeFault>
+#[tactic(auto, using(crate::proofs::Refused::passed, crate::proofs::Asserted::executed_alone))]
+fn pure(alloc: Global, e: &Expr) -> Result<Rc<Assertion>, Unsettled>
     ensures settled { IfOk result (λ a. (names : Names) → is_conjunction (written_expr e.now) ≡ false → settled.assertion a.value ≡ assertion names (written_expr e.now)) }
-    ensures typed { IfOk result (λ a. is_typed (known scope.now) (settled.assertion a.value) ≡ true) }
+    ensures executed { Tells result (is_executed_expr (written_expr e.now)) }
 {
-    let part = expression(alloc, scope, e)?;
-    part.expect(ValueType::Bool)?;
-    Ok(Rc::new(alloc, Assertion::Pure(part.expr))?)
+    let e = expression(alloc, e)?;
+    Ok(Rc::new(alloc, Assertion::Pure(e))?)
 }
 
-/// An assertion, typed and settled: `&&` at its top is taken apart.
-pub fn assertion(alloc: Global, scope: &Scope, e: &Expr) -> Result<Rc<Assertion>, TypeFault>
+/// An assertion, settled: `&&` at its top is taken apart.
+pub fn assertion(alloc: Global, e: &Expr) -> Result<Rc<Assertion>, Unsettled>
     ensures settled { IfOk result (λ a. (names : Names) → settled.assertion a.value ≡ assertion names (written_expr e.now)) }
-    ensures typed { IfOk result (λ a. is_typed (known scope.now) (settled.assertion a.value) ≡ true) }
+    ensures executed { Tells result (is_executed_expr (written_expr e.now)) }
 {
     match &e.kind {
         ExprKind::Binary(BinaryOperator::And, a, b) => {
-            let a = assertion(alloc, scope, a)?;
-            let b = assertion(alloc, scope, b)?;
+            let a = assertion(alloc, a)?;
+            let b = assertion(alloc, b)?;
             Ok(Rc::new(alloc, Assertion::Both(a, b))?)
         }
         ExprKind::Binary(
@@ -54,7 +53,7 @@ pub fn assertion(alloc: Global, scope: &Scope, e: &Expr) -> Result<Rc<Assertion>
             | BinaryOperator::Remainder,
             _,
             _,
-        ) => pure(alloc, scope, e),
+        ) => pure(alloc, e),
         ExprKind::Number(_)
         | ExprKind::Boolean(_)
         | ExprKind::Null
@@ -68,6 +67,6 @@ pub fn assertion(alloc: Global, scope: &Scope, e: &Expr) -> Result<Rc<Assertion>
         | ExprKind::Conditional(_, _, _)
         | ExprKind::Old(_)
         | ExprKind::Access(_, _)
-        | ExprKind::Unfolding(_, _, _, _) => pure(alloc, scope, e),
+        | ExprKind::Unfolding(_, _, _, _) => pure(alloc, e),
     }
 }

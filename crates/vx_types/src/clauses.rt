@@ -1,97 +1,66 @@
-//! Typing of a contract's clauses, and their settled form.
+//! The clauses of a contract, settled.
 
-ghost use Rattle.std.specs.Prelude.{◌≡◌, ◌++◌, ◌∷◌, [], List, IfOk, OnOk, map, true};
+ghost use Rattle.std.specs.Prelude.{◌≡◌, ◌++◌, ◌∷◌, [], List, IfOk, OnOk, map};
 ghost use Rattle.vx_ast.specs.Written as written;
-ghost use Rattle.vx_ast.specs.Written.{written_expr};
+ghost use Rattle.vx_ast.specs.Written.{written_expr, written_clause};
 ghost use Rattle.vx_ast.specs.Resolve.{Names, assertion};
 ghost use Rattle.vx_ast.specs.Resolved as view;
-ghost use Rattle.vx_types.specs.Computed.{are_typed};
-ghost use Rattle.vx_types.specs.Scopes.{known};
-ghost use Rattle.vx_types.specs.Members.{required, ensured};
 ghost use Rattle.vx_ast.specs.Syntax as Syntax;
+ghost use Rattle.vx_types.specs.Executed.{is_executed_expr, is_executed_clause, are_executed_clauses};
+ghost use Rattle.vx_types.specs.Parts.{required, ensured};
+ghost use Rattle.vx_types.specs.Refusals.{Tells};
 
+use crate::Unsettled;
 use crate::assertions::assertion;
-use crate::{Scope, TypeFault};
 use std::alloc::Global;
 use std::rc::Rc;
 use vx_ast::resolved::Assertion;
 use vx_ast::{Clause, Expr};
 
+type Assertions = Vec<Rc<Assertion>>;
+
+/// What clauses require and what they ensure, each in order.
+#[derive(Drop)]
+pub struct Contract {
+    pub preconditions: Assertions,
+    pub postconditions: Assertions,
+}
+
 // One assertion more.
-#[tactic(auto, using(crate::proofs::Asserted::one_behind, crate::proofs::Asserted::one_typed))]
-fn one_more(
-    alloc: Global,
-    scope: &Scope,
-    e: &Expr,
-    settled: &mut Vec<Rc<Assertion>>,
-) -> Result<(), TypeFault>
+#[tactic(auto, using(crate::proofs::Refused::passed, crate::proofs::Asserted::one_behind))]
+fn one_more(alloc: Global, e: &Expr, settled: &mut Assertions) -> Result<(), Unsettled>
     ensures settled { OnOk result ((names : Names) (rest : List Syntax.Assertion) → view.assertions settled.new.items ++ rest ≡ view.assertions settled.old.items ++ assertion names (written_expr e.now) ∷ rest) }
-    ensures typed { OnOk result (are_typed (known scope.now) (view.assertions settled.old.items) ≡ true → are_typed (known scope.now) (view.assertions settled.new.items) ≡ true) }
+    ensures executed { Tells result (is_executed_expr (written_expr e.now)) }
 {
-    settled.push(assertion(alloc, scope, e)?)?;
+    settled.push(assertion(alloc, e)?)?;
     Ok(())
 }
 
-// What one clause more requires.
-fn required_by(
-    alloc: Global,
-    scope: &Scope,
-    clause: &Clause,
-    settled: &mut Vec<Rc<Assertion>>,
-) -> Result<(), TypeFault>
-    ensures settled { OnOk result ((names : Names) (rest : List written.Clause) → view.assertions settled.new.items ++ required names rest ≡ view.assertions settled.old.items ++ required names (written.written_clause clause.now ∷ rest)) }
-    ensures typed { OnOk result (are_typed (known scope.now) (view.assertions settled.old.items) ≡ true → are_typed (known scope.now) (view.assertions settled.new.items) ≡ true) }
+// One clause more.
+fn add(alloc: Global, clause: &Clause, contract: &mut Contract) -> Result<(), Unsettled>
+    ensures requires_settled { OnOk result ((names : Names) (rest : List written.Clause) → view.assertions contract.new.preconditions.items ++ required names rest ≡ view.assertions contract.old.preconditions.items ++ required names (written_clause clause.now ∷ rest)) }
+    ensures ensures_settled { OnOk result ((names : Names) (rest : List written.Clause) → view.assertions contract.new.postconditions.items ++ ensured names rest ≡ view.assertions contract.old.postconditions.items ++ ensured names (written_clause clause.now ∷ rest)) }
+    ensures executed { Tells result (is_executed_clause (written_clause clause.now)) }
 {
     match clause {
-        Clause::Requires(e) => one_more(alloc, scope, e, settled),
-        Clause::Ensures(_) | Clause::Decreases(_) => Ok(()),
+        Clause::Requires(e) => one_more(alloc, e, &mut contract.preconditions),
+        Clause::Ensures(e) => one_more(alloc, e, &mut contract.postconditions),
+        Clause::Decreases(_) => Ok(()),
     }
 }
 
-/// What the clauses requires, in order.
-pub fn required(
-    alloc: Global,
-    scope: &Scope,
-    clauses: &[Clause],
-) -> Result<Vec<Rc<Assertion>>, TypeFault>
-    ensures settled { IfOk result (λ v. (names : Names) → view.assertions v.items ≡ required names (map written.written_clause clauses.now)) }
-    ensures typed { IfOk result (λ v. are_typed (known scope.now) (view.assertions v.items) ≡ true) }
+/// The clauses of a method.
+pub fn clauses(alloc: Global, all: &[Clause]) -> Result<Contract, Unsettled>
+    ensures requires_settled { IfOk result (λ c. (names : Names) → view.assertions c.preconditions.items ≡ required names (map written_clause all.now)) }
+    ensures ensures_settled { IfOk result (λ c. (names : Names) → view.assertions c.postconditions.items ≡ ensured names (map written_clause all.now)) }
+    ensures executed { Tells result (are_executed_clauses (map written_clause all.now)) }
 {
-    let mut settled = Vec::new(alloc);
-    for clause in clauses {
-        required_by(alloc, scope, clause, &mut settled)?;
+    let mut contract = Contract {
+        preconditions: Vec::new(alloc),
+        postconditions: Vec::new(alloc),
+    };
+    for clause in all {
+        add(alloc, clause, &mut contract)?;
     }
-    Ok(settled)
-}
-
-// What one clause more ensures.
-fn ensured_by(
-    alloc: Global,
-    scope: &Scope,
-    clause: &Clause,
-    settled: &mut Vec<Rc<Assertion>>,
-) -> Result<(), TypeFault>
-    ensures settled { OnOk result ((names : Names) (rest : List written.Clause) → view.assertions settled.new.items ++ ensured names rest ≡ view.assertions settled.old.items ++ ensured names (written.written_clause clause.now ∷ rest)) }
-    ensures typed { OnOk result (are_typed (known scope.now) (view.assertions settled.old.items) ≡ true → are_typed (known scope.now) (view.assertions settled.new.items) ≡ true) }
-{
-    match clause {
-        Clause::Ensures(e) => one_more(alloc, scope, e, settled),
-        Clause::Requires(_) | Clause::Decreases(_) => Ok(()),
-    }
-}
-
-/// What the clauses ensures, in order.
-pub fn ensured(
-    alloc: Global,
-    scope: &Scope,
-    clauses: &[Clause],
-) -> Result<Vec<Rc<Assertion>>, TypeFault>
-    ensures settled { IfOk result (λ v. (names : Names) → view.assertions v.items ≡ ensured names (map written.written_clause clauses.now)) }
-    ensures typed { IfOk result (λ v. are_typed (known scope.now) (view.assertions v.items) ≡ true) }
-{
-    let mut settled = Vec::new(alloc);
-    for clause in clauses {
-        ensured_by(alloc, scope, clause, &mut settled)?;
-    }
-    Ok(settled)
+    Ok(contract)
 }

@@ -1,17 +1,14 @@
-//! Typing: from a program as it is written to the settled syntax that meaning and rules speak of.
-#![tactic(auto)]
+//! Settling: from a program as it is written to the settled syntax that meaning and rules speak of.
+#![tactic(auto, using(crate::proofs::Refused::passed, crate::proofs::Refused::first, crate::proofs::Refused::second, crate::proofs::Refused::middle, crate::proofs::Refused::third))]
 
 mod assertions;
-mod checking;
 mod clauses;
 mod expr;
-mod fault;
 mod members;
-mod scope;
 mod stmt;
 mod typed;
+mod unsettled;
 
-pub use checking::check;
-pub use fault::{Expected, TypeFault, word_of};
-pub use scope::{Scope, Variable};
+pub use members::settle;
 pub use typed::Typed;
+pub use unsettled::{Unsettled, word_of};

@@ -1,56 +1,40 @@
-//! Typing of members, and their settled form.
+//! Members, settled.
 
-ghost use Rattle.std.specs.Prelude.{◌≡◌, ◌++◌, [], IfOk, OnOk, Ok, true, map, Some, None};
+ghost use Rattle.std.specs.Prelude.{◌≡◌, IfOk, map};
 ghost use Rattle.vx_ast.specs.Written as written;
-ghost use Rattle.vx_ast.specs.Written.{written_clause, optional_block};
+ghost use Rattle.vx_ast.specs.Written.{written_declaration, written_kind, written_member, written_program, optional_block};
 ghost use Rattle.vx_ast.specs.Resolve as resolve;
 ghost use Rattle.vx_ast.specs.Resolve.{Names};
-ghost use Rattle.vx_ast.specs.Resolved as settled;
+ghost use Rattle.vx_ast.specs.Resolved as view;
 ghost use Rattle.vx_ast.specs.Syntax as Syntax;
-ghost use Rattle.vx_types.specs.Computed.{are_typed};
-ghost use Rattle.vx_types.specs.Scopes.{known};
-ghost use Rattle.vx_types.specs.Members.{required, ensured, declared, is_typed_body, is_typed_method};
-ghost use Rattle.vx_types.specs.Programs.{is_typed_member};
+ghost use Rattle.vx_types.specs.Executed.{is_executed_type, are_executed_types, is_executed_body, is_executed_kind, is_executed};
+ghost use Rattle.vx_types.specs.Refusals.{Tells};
+ghost use Rattle.vx_types.specs.Settled.{settled};
 
-use crate::clauses::{ensured, required};
+use crate::clauses::clauses;
 use crate::expr::shared;
-use crate::stmt::{block, declare};
-use crate::{Scope, TypeFault};
-use std::alloc::{AllocError, Global};
+use crate::stmt::{block, executed_type};
+use crate::{Typed, Unsettled};
+use std::alloc::Global;
 use std::rc::Rc;
-use vx_ast::resolved::{self, Assertion, Block};
-use vx_ast::{Declaration, Member, MemberKind, Method, Place};
-
-// Variables, in order.
-fn declare_all<'a>(
-    alloc: Global,
-    scope: &mut Scope<'a>,
-    declarations: &'a [Declaration],
-    assignable: bool,
-) -> Result<(), TypeFault>
-    ensures { OnOk result (known scope.new ≡ known scope.old ++ declared declarations.now) }
-{
-    for declaration in declarations {
-        declare(alloc, scope, declaration, assignable)?;
-    }
-    Ok(())
-}
+use vx_ast::resolved::{self, Block};
+use vx_ast::{Declaration, Member, MemberKind, Method, Place, Program};
 
 // A variable, settled.
-fn declaration(alloc: Global, d: &Declaration) -> Result<resolved::Declaration, AllocError>
-    ensures { IfOk result (λ r. settled.declaration r ≡ record { name = (written.name_of d.now.name).name; of = d.now.value_type }) }
+fn declaration(alloc: Global, d: &Declaration) -> Result<resolved::Declaration, Unsettled>
+    ensures settled { IfOk result (λ r. (names : Names) → view.declaration r ≡ resolve.declaration names (written_declaration d.now)) }
+    ensures executed { Tells result (is_executed_type d.now.value_type) }
 {
+    executed_type(d)?;
     Ok(resolved::Declaration {
         name: shared(alloc, &d.name.text)?,
         of: d.value_type,
     })
 }
 
-fn declarations(
-    alloc: Global,
-    all: &[Declaration],
-) -> Result<Vec<resolved::Declaration>, AllocError>
-    ensures { IfOk result (λ v. map settled.declaration v.items ≡ declared all.now) }
+fn declarations(alloc: Global, all: &[Declaration]) -> Result<Vec<resolved::Declaration>, Unsettled>
+    ensures settled { IfOk result (λ v. (names : Names) → map view.declaration v.items ≡ map (resolve.declaration names) (map written_declaration all.now)) }
+    ensures executed { Tells result (are_executed_types (map written_declaration all.now)) }
 {
     let mut settled = Vec::new(alloc);
     for d in all {
@@ -59,102 +43,73 @@ fn declarations(
     Ok(settled)
 }
 
-// Of two faults the one that stands first.
-fn first_of(a: TypeFault, b: TypeFault) -> TypeFault {
-    match (a.place(), b.place()) {
-        (Some(p), Some(q)) if q < p => b,
-        _ => a,
-    }
-}
-
-// Both, or the fault that stands first.
-fn both<A: Drop, B: Drop>(
-    a: Result<A, TypeFault>,
-    b: Result<B, TypeFault>,
-) -> Result<(A, B), TypeFault>
-    ensures first { IfOk result (λ r. a ≡ Ok r.0) }
-    ensures second { IfOk result (λ r. b ≡ Ok r.1) }
-{
-    match (a, b) {
-        (Ok(a), Ok(b)) => Ok((a, b)),
-        (Err(a), Ok(_)) => Err(a),
-        (Ok(_), Err(b)) => Err(b),
-        (Err(a), Err(b)) => Err(first_of(a, b)),
-    }
-}
-
-// What a method requires and ensures: what it requires doesn't know its returns.
-fn clauses<'a>(
-    alloc: Global,
-    scope: &mut Scope<'a>,
-    m: &'a Method,
-) -> Result<(Vec<Rc<Assertion>>, Vec<Rc<Assertion>>), TypeFault>
-    requires { known scope.old ≡ [] }
-    ensures scope { OnOk result (known scope.new ≡ declared m.now.parameters.items ++ declared m.now.returns.items) }
-    ensures requires_settled { IfOk result (λ r. (names : Names) → settled.assertions r.0.items ≡ required names (map written_clause m.now.clauses.items)) }
-    ensures requires_typed { IfOk result (λ r. are_typed (declared m.now.parameters.items) (settled.assertions r.0.items) ≡ true) }
-    ensures ensures_settled { IfOk result (λ r. (names : Names) → settled.assertions r.1.items ≡ ensured names (map written_clause m.now.clauses.items)) }
-    ensures ensures_typed { IfOk result (λ r. are_typed (declared m.now.parameters.items ++ declared m.now.returns.items) (settled.assertions r.1.items) ≡ true) }
-{
-    declare_all(alloc, scope, &m.parameters, false)?;
-    let kept = scope.len();
-    declare_all(alloc, scope, &m.returns, true)?;
-    let after = ensured(alloc, scope, &m.clauses);
-    scope.leave(kept);
-    let before = required(alloc, scope, &m.clauses);
-    let clauses = both(before, after)?;
-    declare_all(alloc, scope, &m.returns, true)?;
-    Ok(clauses)
-}
-
-fn body<'a>(
-    alloc: Global,
-    scope: &mut Scope<'a>,
-    b: &'a Option<Rc<vx_ast::Block>>,
-) -> Result<Option<Rc<Block>>, TypeFault>
-    ensures settled { IfOk result (λ r. (names : Names) → settled.optional_block r ≡ resolve.optional_block names (optional_block b.now)) }
-    ensures typed { IfOk result (λ r. is_typed_body (known scope.old) (settled.optional_block r) ≡ true) }
+fn body(alloc: Global, b: &Option<Rc<vx_ast::Block>>) -> Result<Option<Rc<Block>>, Unsettled>
+    ensures settled { IfOk result (λ r. (names : Names) → view.optional_block r ≡ resolve.optional_block names (optional_block b.now)) }
+    ensures executed { Tells result (is_executed_body (optional_block b.now)) }
 {
     match b {
         None => Ok(None),
-        Some(b) => Ok(Some(block(alloc, scope, b)?)),
+        Some(b) => Ok(Some(block(alloc, b)?)),
     }
 }
 
-// A method, typed and settled.
-fn method(alloc: Global, place: Place, m: &Method) -> Result<resolved::Method, TypeFault>
-    ensures settled { IfOk result (λ r. (names : Names) → Syntax.IsMethod (settled.method r) ≡ resolve.kind names place (written.written_kind (MemberKind.Method m.now))) }
-    ensures typed { IfOk result (λ r. is_typed_method (settled.method r) ≡ true) }
+// A method, settled. Its parts are settled in text order.
+fn method(alloc: Global, place: Place, m: &Method) -> Result<resolved::Method, Unsettled>
+    ensures settled { IfOk result (λ r. (names : Names) → Syntax.IsMethod (view.method r) ≡ resolve.kind names place (written_kind (MemberKind.Method m.now))) }
+    ensures executed { Tells result (is_executed_kind (written_kind (MemberKind.Method m.now))) }
 {
-    let mut scope = Scope::new(alloc);
-    let (preconditions, postconditions) = clauses(alloc, &mut scope, m)?;
-    let body = body(alloc, &mut scope, &m.body)?;
+    let parameters = declarations(alloc, &m.parameters)?;
+    let returns = declarations(alloc, &m.returns)?;
+    let contract = clauses(alloc, &m.clauses)?;
+    let body = body(alloc, &m.body)?;
     Ok(resolved::Method {
         place,
-        parameters: declarations(alloc, &m.parameters)?,
-        returns: declarations(alloc, &m.returns)?,
-        preconditions,
-        postconditions,
+        parameters,
+        returns,
+        preconditions: contract.preconditions,
+        postconditions: contract.postconditions,
         body,
     })
 }
 
-/// A member, typed and settled.
-pub fn member(alloc: Global, m: &Member) -> Result<resolved::Member, TypeFault>
-    ensures settled { IfOk result (λ r. (names : Names) → settled.member r ≡ resolve.member names (written.written_member m.now)) }
-    ensures typed { IfOk result (λ r. is_typed_member (settled.member r).kind ≡ true) }
+// A member, settled.
+fn member(alloc: Global, m: &Member) -> Result<resolved::Member, Unsettled>
+    ensures settled { IfOk result (λ r. (names : Names) → view.member r ≡ resolve.member names (written_member m.now)) }
+    ensures executed { Tells result (is_executed_kind (written_member m.now).kind) }
 {
     let place = m.place;
     match &m.kind {
-        MemberKind::Method(method_of) => {
-            let method = Rc::new(alloc, method(alloc, place, method_of)?)?;
+        MemberKind::Method(of) => {
+            let of = Rc::new(alloc, method(alloc, place, of)?)?;
             Ok(resolved::Member {
                 name: shared(alloc, &m.name.text)?,
-                kind: resolved::Kind::Method(method),
+                kind: resolved::Kind::Method(of),
             })
         }
-        MemberKind::Field(_) => Err(TypeFault::Unsupported(place, "field")),
-        MemberKind::Predicate(_) => Err(TypeFault::Unsupported(place, "predicate")),
-        MemberKind::Function(_) => Err(TypeFault::Unsupported(place, "function")),
+        MemberKind::Field(_) => Err(Unsettled::NotExecuted(place, "field")),
+        MemberKind::Predicate(_) => Err(Unsettled::NotExecuted(place, "predicate")),
+        MemberKind::Function(_) => Err(Unsettled::NotExecuted(place, "function")),
     }
+}
+
+fn members(alloc: Global, all: &[Member]) -> Result<Vec<resolved::Member>, Unsettled>
+    ensures settled { IfOk result (λ v. (names : Names) → map view.member v.items ≡ map (resolve.member names) (map written_member all.now)) }
+    ensures executed { Tells result (is_executed (map written_member all.now)) }
+{
+    let mut settled = Vec::new(alloc);
+    for m in all {
+        settled.push(member(alloc, m)?)?;
+    }
+    Ok(settled)
+}
+
+/// The settled program, or the first form in text order that is not executed yet.
+pub fn settle(alloc: Global, p: &Program) -> Result<Typed, Unsettled>
+    ensures settled { IfOk result (λ t. settled t ≡ resolve.program (written_program p.now)) }
+    ensures executed { Tells result (is_executed (written_program p.now)) }
+{
+    let members = members(alloc, &p.members)?;
+    Ok(Typed {
+        program: resolved::Program { members },
+    })
 }

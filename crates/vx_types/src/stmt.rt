@@ -1,20 +1,20 @@
-//! Typing of statements, and their settled form.
+//! Statements, settled.
 
-ghost use Rattle.std.specs.Prelude.{◌≡◌, ◌++◌, ◌∷◌, [], IfOk, OnOk, Some, true, false, map};
-ghost use Rattle.vx_ast.specs.Written.{written_expr, written_stmt, written_block, written_right, name_of};
+ghost use Rattle.std.specs.Prelude.{◌≡◌, IfOk, OnOk};
 ghost use Rattle.vx_ast.specs.Written as written;
+ghost use Rattle.vx_ast.specs.Written.{written_expr, written_stmt, written_block, written_right, written_declaration, optional_right, name_of};
 ghost use Rattle.vx_ast.specs.Resolve as resolve;
 ghost use Rattle.vx_ast.specs.Resolve.{Names};
 ghost use Rattle.vx_ast.specs.Resolved as settled;
 ghost use Rattle.vx_ast.specs.Syntax as Syntax;
-ghost use Rattle.vx_types.specs.Typing.{type_in, Scope as Known};
-ghost use Rattle.vx_types.specs.Computed.{is_typed_stmt, is_typed_block, scope_after_stmt};
-ghost use Rattle.vx_types.specs.Scopes.{known};
-ghost use Rattle.vx_types.specs.Statements.{other_written, onto, Adds, written_list, stmts, IsAssignment};
+ghost use Rattle.vx_types.specs.Executed.{is_executed_type, is_executed_right, is_executed_value, is_executed_stmt, is_executed_block, is_executed_other, is_executed_expr};
+ghost use Rattle.vx_types.specs.Parts.{other_written, onto, written_list, stmts};
+ghost use Rattle.vx_types.specs.Refusals.{Tells};
 
+use crate::Unsettled;
 use crate::assertions::assertion;
 use crate::expr::{expression, shared};
-use crate::{Scope, TypeFault, Variable};
+use crate::unsettled::word_of;
 use std::alloc::{AllocError, Global};
 use std::rc::Rc;
 use vx_ast::resolved::{self, Block};
@@ -23,236 +23,144 @@ use vx_ast::{Declaration, Expr, Name, Place, Right, Stmt, StmtKind, ValueType};
 /// The settled statements of a block so far.
 pub type Settled = Vec<Rc<resolved::Stmt>>;
 
-// A new variable's name isn't known yet.
-fn new_name(alloc: Global, scope: &Scope, name: &Name) -> Result<(), TypeFault>
-    ensures { OnOk result (type_in (name_of name.now).name (known scope.now) ≡ Rattle.std.specs.Prelude.None) }
+/// The type of a variable is executed.
+pub fn executed_type(declared: &Declaration) -> Result<(), Unsettled>
+    ensures { Tells result (is_executed_type declared.now.value_type) }
 {
-    if scope.find(&name.text).is_some() {
-        return Err(TypeFault::Twice(name.place, name.text.clone()?));
-    }
-    Ok(())
-}
-
-/// One more variable, whose name isn't known yet.
-pub fn declare<'a>(
-    alloc: Global,
-    scope: &mut Scope<'a>,
-    declaration: &'a Declaration,
-    assignable: bool,
-) -> Result<(), TypeFault>
-    ensures fresh { OnOk result (type_in (name_of declaration.now.name).name (known scope.old) ≡ Rattle.std.specs.Prelude.None) }
-    ensures declared { OnOk result (known scope.new ≡ known scope.old ++ record { name = (name_of declaration.now.name).name; of = declaration.now.value_type } ∷ []) }
-{
-    new_name(alloc, scope, &declaration.name)?;
-    let variable = Variable {
-        of: declaration.value_type,
-        assignable,
-    };
-    scope.declare(&declaration.name.text, variable)?;
-    Ok(())
-}
-
-// The type of what is assigned.
-fn target(alloc: Global, scope: &Scope, name: &Name) -> Result<ValueType, TypeFault>
-    ensures { IfOk result (λ t. type_in (name_of name.now).name (known scope.now) ≡ Some t) }
-{
-    match scope.find(&name.text) {
-        None => Err(TypeFault::Unknown(name.place, name.text.clone()?)),
-        Some(variable) if variable.assignable => Ok(variable.of),
-        Some(_) => Err(TypeFault::NotAssignable(name.place)),
+    let of = declared.value_type;
+    match of {
+        ValueType::Int | ValueType::Bool => Ok(()),
+        ValueType::Ref | ValueType::Perm => {
+            Err(Unsettled::NotExecuted(declared.name.place, word_of(of)))
+        }
     }
 }
 
-// An assignment to a variable of this type.
+// An assignment to a variable.
 fn assignment(
     alloc: Global,
-    scope: &Scope,
     place: Place,
     name: &Name,
-    of: ValueType,
     right: &Right,
-) -> Result<Rc<resolved::Stmt>, TypeFault>
-    requires { type_in (name_of name.now).name (known scope.now) ≡ Some of }
+) -> Result<Rc<resolved::Stmt>, Unsettled>
     ensures settled { IfOk result (λ s. (names : Names) → settled.stmt s.value ≡ resolve.assign names place (name_of name.now).name (written_right right.now)) }
-    ensures typed { IfOk result (λ s. is_typed_stmt (known scope.now) (settled.stmt s.value) ≡ true) }
-    ensures assigns { IfOk result (λ s. IsAssignment (settled.stmt s.value)) }
+    ensures executed { Tells result (is_executed_right (written_right right.now)) }
 {
-    let Right::Value(e) = right else {
-        return Err(TypeFault::Unsupported(place, "new"));
-    };
-    let part = expression(alloc, scope, e)?;
-    part.expect(of)?;
-    let target = shared(alloc, &name.text)?;
-    Ok(Rc::new(alloc, resolved::Stmt::Assign(place, target, part.expr))?)
-}
-
-// A condition, or what is assumed.
-fn condition(alloc: Global, scope: &Scope, e: &Expr) -> Result<Rc<resolved::Expr>, TypeFault>
-    ensures settled { IfOk result (λ c. settled.expr c.value ≡ resolve.expression (written_expr e.now)) }
-    ensures typed { IfOk result (λ c. Rattle.vx_types.specs.Computed.is_of ValueType.Bool (known scope.now) (settled.expr c.value) ≡ true) }
-{
-    let part = expression(alloc, scope, e)?;
-    part.expect(ValueType::Bool)?;
-    Ok(part.expr)
+    match right {
+        Right::Value(e) => {
+            let e = expression(alloc, e)?;
+            let target = shared(alloc, &name.text)?;
+            Ok(Rc::new(alloc, resolved::Stmt::Assign(place, target, e))?)
+        }
+        Right::NewAll(_) | Right::New(_, _) => Err(Unsettled::NotExecuted(place, "new")),
+    }
 }
 
 // One statement more.
-#[tactic(auto, using(crate::proofs::Statements::onto_last, crate::proofs::Statements::adds_one))]
+#[tactic(auto, using(crate::proofs::Statements::onto_last))]
 fn add(block: &mut Settled, s: Rc<resolved::Stmt>) -> Result<(), AllocError>
-    ensures settled { OnOk result ((rest : Syntax.Block) → onto (stmts block.new.items) rest ≡ onto (stmts block.old.items) (Syntax.Then (settled.stmt s.value) rest)) }
-    ensures adds { OnOk result ((scope : Known) → is_typed_stmt scope (settled.stmt s.value) ≡ true → Adds (stmts block.old.items) (stmts block.new.items) scope (scope_after_stmt scope (settled.stmt s.value))) }
+    ensures { OnOk result ((rest : Syntax.Block) → onto (stmts block.new.items) rest ≡ onto (stmts block.old.items) (Syntax.Then (settled.stmt s.value) rest)) }
 {
     block.push(s)?;
     Ok(())
 }
 
-// A variable's declaration.
-fn declaration<'a>(
-    alloc: Global,
-    scope: &mut Scope<'a>,
-    place: Place,
-    declared: &'a Declaration,
-    block: &mut Settled,
-) -> Result<(), TypeFault>
-    ensures known { OnOk result (type_in (name_of declared.now.name).name (known scope.new) ≡ Some declared.now.value_type) }
-    ensures settled { OnOk result ((rest : Syntax.Block) → onto (stmts block.new.items) rest
-        ≡ onto (stmts block.old.items) (Syntax.Then (Syntax.Declare place (name_of declared.now.name).name declared.now.value_type) rest)) }
-    ensures adds { OnOk result (Adds (stmts block.old.items) (stmts block.new.items) (known scope.old) (known scope.new)) }
-{
-    declare(alloc, scope, declared, true)?;
-    let name = shared(alloc, &declared.name.text)?;
-    let of = declared.value_type;
-    let statement = Rc::new(alloc, resolved::Stmt::Declare(place, name, of))?;
-    add(block, statement)?;
-    Ok(())
-}
-
-// One statement more, which declares nothing.
 fn put(alloc: Global, block: &mut Settled, s: resolved::Stmt) -> Result<(), AllocError>
-    ensures settled { OnOk result ((rest : Syntax.Block) → onto (stmts block.new.items) rest ≡ onto (stmts block.old.items) (Syntax.Then (settled.stmt s) rest)) }
-    ensures adds { OnOk result ((scope : Known) → is_typed_stmt scope (settled.stmt s) ≡ true → Adds (stmts block.old.items) (stmts block.new.items) scope (scope_after_stmt scope (settled.stmt s))) }
+    ensures { OnOk result ((rest : Syntax.Block) → onto (stmts block.new.items) rest ≡ onto (stmts block.old.items) (Syntax.Then (settled.stmt s) rest)) }
 {
     let s = Rc::new(alloc, s)?;
     add(block, s)
 }
 
-// A variable's declaration with its first value.
-fn declaration_with<'a>(
+// A variable's declaration.
+fn declaration(
     alloc: Global,
-    scope: &mut Scope<'a>,
     place: Place,
-    declared: &'a Declaration,
-    right: &Right,
+    declared: &Declaration,
     block: &mut Settled,
-) -> Result<(), TypeFault>
-    ensures settled { OnOk result ((names : Names) (rest : Syntax.Block) → onto (stmts block.new.items) rest
-        ≡ onto (stmts block.old.items) (Syntax.Then (Syntax.Declare place (name_of declared.now.name).name declared.now.value_type) (Syntax.Then (resolve.assign names place (name_of declared.now.name).name (written_right right.now)) rest))) }
-    ensures adds { OnOk result (Adds (stmts block.old.items) (stmts block.new.items) (known scope.old) (known scope.new)) }
+) -> Result<(), Unsettled>
+    ensures settled { OnOk result ((rest : Syntax.Block) → onto (stmts block.new.items) rest
+        ≡ onto (stmts block.old.items) (Syntax.Then (Syntax.Declare place (name_of declared.now.name).name declared.now.value_type) rest)) }
+    ensures executed { Tells result (is_executed_type declared.now.value_type) }
 {
-    declaration(alloc, scope, place, declared, block)?;
+    executed_type(declared)?;
+    let name = shared(alloc, &declared.name.text)?;
     let of = declared.value_type;
-    let first = assignment(alloc, scope, place, &declared.name, of, right)?;
-    add(block, first)?;
+    put(alloc, block, resolved::Stmt::Declare(place, name, of))?;
     Ok(())
-}
-
-// A variable's declaration, with its first value or none.
-fn declared_by<'a>(
-    alloc: Global,
-    scope: &mut Scope<'a>,
-    place: Place,
-    declared: &'a Declaration,
-    right: &Option<Right>,
-    block: &mut Settled,
-) -> Result<(), TypeFault>
-    ensures settled { OnOk result ((names : Names) (rest : Syntax.Block) → onto (stmts block.new.items) rest
-        ≡ onto (stmts block.old.items) (resolve.statement names (written.Declare place (written.written_declaration declared.now) (written.optional_right right.now)) rest)) }
-    ensures adds { OnOk result (Adds (stmts block.old.items) (stmts block.new.items) (known scope.old) (known scope.new)) }
-{
-    match right {
-        None => declaration(alloc, scope, place, declared, block),
-        Some(right) => declaration_with(alloc, scope, place, declared, right, block),
-    }
 }
 
 fn assigned(
     alloc: Global,
-    scope: &Scope,
     place: Place,
     name: &Name,
     right: &Right,
     block: &mut Settled,
-) -> Result<(), TypeFault>
+) -> Result<(), Unsettled>
     ensures settled { OnOk result ((names : Names) (rest : Syntax.Block) → onto (stmts block.new.items) rest
         ≡ onto (stmts block.old.items) (Syntax.Then (resolve.assign names place (name_of name.now).name (written_right right.now)) rest)) }
-    ensures adds { OnOk result (Adds (stmts block.old.items) (stmts block.new.items) (known scope.now) (known scope.now)) }
+    ensures executed { Tells result (is_executed_right (written_right right.now)) }
 {
-    let of = target(alloc, scope, name)?;
-    let s = assignment(alloc, scope, place, name, of, right)?;
+    let s = assignment(alloc, place, name, right)?;
     add(block, s)?;
     Ok(())
 }
 
-fn asserted(
+// A variable's declaration, with its first value or none.
+fn declared_by(
     alloc: Global,
-    scope: &Scope,
     place: Place,
-    e: &Expr,
+    declared: &Declaration,
+    right: &Option<Right>,
     block: &mut Settled,
-) -> Result<(), TypeFault>
+) -> Result<(), Unsettled>
+    ensures settled { OnOk result ((names : Names) (rest : Syntax.Block) → onto (stmts block.new.items) rest
+        ≡ onto (stmts block.old.items) (resolve.statement names (written.Declare place (written_declaration declared.now) (optional_right right.now)) rest)) }
+    ensures executed { Tells result (is_executed_stmt (written.Declare place (written_declaration declared.now) (optional_right right.now))) }
+{
+    declaration(alloc, place, declared, block)?;
+    match right {
+        None => Ok(()),
+        Some(right) => assigned(alloc, place, &declared.name, right, block),
+    }
+}
+
+fn asserted(alloc: Global, place: Place, e: &Expr, block: &mut Settled) -> Result<(), Unsettled>
     ensures settled { OnOk result ((names : Names) (rest : Syntax.Block) → onto (stmts block.new.items) rest
         ≡ onto (stmts block.old.items) (Syntax.Then (Syntax.Assert place (resolve.assertion names (written_expr e.now))) rest)) }
-    ensures adds { OnOk result (Adds (stmts block.old.items) (stmts block.new.items) (known scope.now) (known scope.now)) }
+    ensures executed { Tells result (is_executed_expr (written_expr e.now)) }
 {
-    let a = assertion(alloc, scope, e)?;
+    let a = assertion(alloc, e)?;
     put(alloc, block, resolved::Stmt::Assert(place, a))?;
     Ok(())
 }
 
-fn inhaled(
-    alloc: Global,
-    scope: &Scope,
-    place: Place,
-    e: &Expr,
-    block: &mut Settled,
-) -> Result<(), TypeFault>
+fn inhaled(alloc: Global, place: Place, e: &Expr, block: &mut Settled) -> Result<(), Unsettled>
     ensures settled { OnOk result ((names : Names) (rest : Syntax.Block) → onto (stmts block.new.items) rest
         ≡ onto (stmts block.old.items) (Syntax.Then (Syntax.Inhale place (resolve.assertion names (written_expr e.now))) rest)) }
-    ensures adds { OnOk result (Adds (stmts block.old.items) (stmts block.new.items) (known scope.now) (known scope.now)) }
+    ensures executed { Tells result (is_executed_expr (written_expr e.now)) }
 {
-    let a = assertion(alloc, scope, e)?;
+    let a = assertion(alloc, e)?;
     put(alloc, block, resolved::Stmt::Inhale(place, a))?;
     Ok(())
 }
 
-fn exhaled(
-    alloc: Global,
-    scope: &Scope,
-    place: Place,
-    e: &Expr,
-    block: &mut Settled,
-) -> Result<(), TypeFault>
+fn exhaled(alloc: Global, place: Place, e: &Expr, block: &mut Settled) -> Result<(), Unsettled>
     ensures settled { OnOk result ((names : Names) (rest : Syntax.Block) → onto (stmts block.new.items) rest
         ≡ onto (stmts block.old.items) (Syntax.Then (Syntax.Exhale place (resolve.assertion names (written_expr e.now))) rest)) }
-    ensures adds { OnOk result (Adds (stmts block.old.items) (stmts block.new.items) (known scope.now) (known scope.now)) }
+    ensures executed { Tells result (is_executed_expr (written_expr e.now)) }
 {
-    let a = assertion(alloc, scope, e)?;
+    let a = assertion(alloc, e)?;
     put(alloc, block, resolved::Stmt::Exhale(place, a))?;
     Ok(())
 }
 
-fn assumed(
-    alloc: Global,
-    scope: &Scope,
-    place: Place,
-    e: &Expr,
-    block: &mut Settled,
-) -> Result<(), TypeFault>
+fn assumed(alloc: Global, place: Place, e: &Expr, block: &mut Settled) -> Result<(), Unsettled>
     ensures settled { OnOk result ((rest : Syntax.Block) → onto (stmts block.new.items) rest
         ≡ onto (stmts block.old.items) (Syntax.Then (Syntax.Assume place (resolve.expression (written_expr e.now))) rest)) }
-    ensures adds { OnOk result (Adds (stmts block.old.items) (stmts block.new.items) (known scope.now) (known scope.now)) }
+    ensures executed { Tells result (is_executed_expr (written_expr e.now)) }
 {
-    let c = condition(alloc, scope, e)?;
+    let c = expression(alloc, e)?;
     put(alloc, block, resolved::Stmt::Assume(place, c))?;
     Ok(())
 }
@@ -271,90 +179,66 @@ fn linked(alloc: Global, done: Settled) -> Result<Rc<Block>, AllocError>
 }
 
 // The statements of a block, in order.
-#[cycle(typing)]
-fn statements<'a>(
-    alloc: Global,
-    scope: &mut Scope<'a>,
-    all: &'a [Stmt],
-    done: &mut Settled,
-) -> Result<(), TypeFault>
+#[cycle(settling)]
+fn statements(alloc: Global, all: &[Stmt], done: &mut Settled) -> Result<(), Unsettled>
     ensures settled { OnOk result ((names : Names) → onto (stmts done.new.items) Syntax.Done ≡ onto (stmts done.old.items) (resolve.block names (written_list all.now))) }
-    ensures adds { OnOk result (Adds (stmts done.old.items) (stmts done.new.items) (known scope.old) (known scope.new)) }
+    ensures executed { Tells result (is_executed_block (written_list all.now)) }
 {
     for s in all {
-        statement(alloc, scope, s, done)?;
+        statement(alloc, s, done)?;
     }
     Ok(())
 }
 
-/// A block, typed and settled. After it the scope is as it was before.
-#[cycle(typing)]
-pub fn block<'a>(
-    alloc: Global,
-    scope: &mut Scope<'a>,
-    b: &'a vx_ast::Block,
-) -> Result<Rc<Block>, TypeFault>
+/// A block, settled.
+#[cycle(settling)]
+pub fn block(alloc: Global, b: &vx_ast::Block) -> Result<Rc<Block>, Unsettled>
     ensures settled { IfOk result (λ r. (names : Names) → settled.block r.value ≡ resolve.block names (written_block b.now)) }
-    ensures typed { IfOk result (λ r. is_typed_block (known scope.old) (settled.block r.value) ≡ true) }
-    ensures scope { OnOk result (known scope.new ≡ known scope.old) }
+    ensures executed { Tells result (is_executed_block (written_block b.now)) }
 {
-    let kept = scope.len();
     let mut done = Vec::new(alloc);
-    statements(alloc, scope, &b.statements, &mut done)?;
-    scope.leave(kept);
+    statements(alloc, &b.statements, &mut done)?;
     Ok(linked(alloc, done)?)
 }
 
 // The other side of an `if`: none is the empty block.
-#[cycle(typing)]
-fn other_block<'a>(
-    alloc: Global,
-    scope: &mut Scope<'a>,
-    other: &'a Option<Rc<vx_ast::Block>>,
-) -> Result<Rc<Block>, TypeFault>
+#[cycle(settling)]
+fn other_block(alloc: Global, other: &Option<Rc<vx_ast::Block>>) -> Result<Rc<Block>, Unsettled>
     ensures settled { IfOk result (λ r. (names : Names) → settled.block r.value ≡ resolve.other_side names (other_written other.now)) }
-    ensures typed { IfOk result (λ r. is_typed_block (known scope.old) (settled.block r.value) ≡ true) }
-    ensures scope { OnOk result (known scope.new ≡ known scope.old) }
+    ensures executed { Tells result (is_executed_other (other_written other.now)) }
 {
     match other {
         None => Ok(Rc::new(alloc, Block::Done)?),
-        Some(b) => block(alloc, scope, b),
+        Some(b) => block(alloc, b),
     }
 }
 
 // A statement, added to its block.
-#[cycle(typing)]
-fn statement<'a>(
-    alloc: Global,
-    scope: &mut Scope<'a>,
-    s: &'a Stmt,
-    done: &mut Settled,
-) -> Result<(), TypeFault>
+#[cycle(settling)]
+fn statement(alloc: Global, s: &Stmt, done: &mut Settled) -> Result<(), Unsettled>
     ensures settled { OnOk result ((names : Names) (rest : Syntax.Block) → onto (stmts done.new.items) rest
         ≡ onto (stmts done.old.items) (resolve.statement names (written_stmt s.now.place s.now.kind) rest)) }
-    ensures adds { OnOk result (Adds (stmts done.old.items) (stmts done.new.items) (known scope.old) (known scope.new)) }
+    ensures executed { Tells result (is_executed_stmt (written_stmt s.now.place s.now.kind)) }
 {
     let place = s.place;
     match &s.kind {
-        StmtKind::Declare(declared, right) => {
-            declared_by(alloc, scope, place, declared, right, done)
-        }
-        StmtKind::Assign(name, right) => assigned(alloc, scope, place, name, right, done),
-        StmtKind::Inhale(e) => inhaled(alloc, scope, place, e, done),
-        StmtKind::Exhale(e) => exhaled(alloc, scope, place, e, done),
-        StmtKind::Assert(e) => asserted(alloc, scope, place, e, done),
-        StmtKind::Assume(e) => assumed(alloc, scope, place, e, done),
+        StmtKind::Declare(declared, right) => declared_by(alloc, place, declared, right, done),
+        StmtKind::Assign(name, right) => assigned(alloc, place, name, right, done),
+        StmtKind::Inhale(e) => inhaled(alloc, place, e, done),
+        StmtKind::Exhale(e) => exhaled(alloc, place, e, done),
+        StmtKind::Assert(e) => asserted(alloc, place, e, done),
+        StmtKind::Assume(e) => assumed(alloc, place, e, done),
         StmtKind::If(c, a, b) => {
-            let c = condition(alloc, scope, c)?;
-            let a = block(alloc, scope, a)?;
-            let b = other_block(alloc, scope, b)?;
+            let c = expression(alloc, c)?;
+            let a = block(alloc, a)?;
+            let b = other_block(alloc, b)?;
             put(alloc, done, resolved::Stmt::If(place, c, a, b))?;
             Ok(())
         }
-        StmtKind::Write(_, _, _) => Err(TypeFault::Unsupported(place, ".")),
-        StmtKind::Call(_, _, _) => Err(TypeFault::Unsupported(place, "(")),
-        StmtKind::Fold(_) => Err(TypeFault::Unsupported(place, "fold")),
-        StmtKind::Unfold(_) => Err(TypeFault::Unsupported(place, "unfold")),
-        StmtKind::While(_, _, _) => Err(TypeFault::Unsupported(place, "while")),
+        StmtKind::Write(_, _, _) => Err(Unsettled::NotExecuted(place, ".")),
+        StmtKind::Call(_, _, _) => Err(Unsettled::NotExecuted(place, "(")),
+        StmtKind::Fold(_) => Err(Unsettled::NotExecuted(place, "fold")),
+        StmtKind::Unfold(_) => Err(Unsettled::NotExecuted(place, "unfold")),
+        StmtKind::While(_, _, _) => Err(Unsettled::NotExecuted(place, "while")),
     }
 }

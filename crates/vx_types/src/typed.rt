@@ -1,4 +1,4 @@
-//! What typing gives.
+//! What settling gives.
 
 ghost use Rattle.std.specs.Prelude.{◌≡◌, ◌<◌, length, slice_get, nat_eq, Some};
 ghost use Rattle.vx_ast.specs.Resolved.{member};
@@ -6,7 +6,7 @@ ghost use Rattle.vx_types.specs.Settled.{settled};
 
 use vx_ast::resolved::{Member, Program};
 
-/// A typed program, settled. Contracts see it as the list of its members, `settled`.
+/// A settled program. Contracts see it as the list of its members, `settled`.
 #[derive(Drop)]
 pub struct Typed {
     pub program: Program,

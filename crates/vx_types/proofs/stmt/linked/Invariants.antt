@@ -1,7 +1,7 @@
 use Rattle.std.proofs.Common.{◌≡◌, vec_len}
 use Rattle.vx_ast.specs.Syntax.{Done}
 use Rattle.vx_ast.specs.Resolved as view
-use Rattle.vx_types.specs.Statements.{onto, stmts}
+use Rattle.vx_types.specs.Parts.{onto, stmts}
 use Rattle.vx_types.proofs.stmt.linked.Given as goal
 
 abbrev pub invariant-loop-s : goal.invariant-loop-s
