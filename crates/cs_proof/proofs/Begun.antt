@@ -1,28 +1,26 @@
 -- A checker that begins with plans gives their answer.
-use Rattle.std.proofs.Common.{◌≡◌, ℕ, ◌<◌, ◌^◌, List, [], Option, Some, None, map, length, refl, sym, ◌∙◌, ap, subst}
+use Rattle.std.proofs.Common.{◌≡◌, ◌<◌, ◌^◌, List, Option, Some, None, map, length, refl, sym, ◌∙◌, subst}
 use Rattle.std.specs.Prelude.{slice_get, ◌↔◌}
 use Rattle.std.specs.Option.{option_map}
 use Rattle.std.proofs.lemmas.List.{length-map}
 use Rattle.std.proofs.lemmas.Option.{slice_get-map}
-use Rattle.std.specs.declared.rc.Rc.{Rc}
-use Rattle.std.proofs.Common.{Global}
-use Rattle.vx_terms.specs.Terms.{Term, AllOf, SomeOf, Terms}
+use Rattle.vx_terms.specs.Terms.{Term}
 use Rattle.vx_terms.specs.Interpretations.{Each}
 use Rattle.vx_terms.specs.Views.{term}
 use Rattle.vx_terms.specs.declared.term.Term.{Term as Term'}
 use Rattle.vx_terms.specs.declared.term.Term.TheVariants as term'
 use Rattle.cs_table.specs.Views.{nodes}
-use Rattle.cs_certificate.specs.Certificate.{Stack, Contains, Step}
+use Rattle.cs_certificate.specs.Certificate.{Contains, Step}
 use Rattle.cs_numbers.specs.Laws.{IsSorted}
 use Rattle.cs_proof.specs.declared.plans.Plans.{Plans as Plans'}
 use Rattle.cs_proof.specs.declared.stack.Stack.{Stack as Stack'}
 use Rattle.cs_proof.specs.Views.{duty}
 use Rattle.cs_proof.specs.Fits.{stand, seen, Fits}
 use Rattle.cs_proof.specs.Plans.{plans_of}
-use Rattle.cs_proof.specs.Checking.{Checker, Verdict, verdict}
+use Rattle.cs_proof.specs.Checking.{Verdict, verdict}
 use Rattle.cs_proof.specs.Answers.{Answers}
 use Rattle.cs_proof.proofs.OfKinds.{IsBare}
-use Rattle.cs_proof.proofs.Whole.{Whole, whole_answer}
+use Rattle.cs_proof.proofs.Whole.{whole_answer}
 
 some_is : {A : Type 0} {x y : A} → Some x ≡ Some y → x ≡ y
 some_is e = cc

@@ -1,35 +1,18 @@
 -- One step: what the checker does of it, and what its rule says.
-use Rattle.std.proofs.Common.{◌≡◌, ℕ, zero, suc, ◌<◌, ◌≤◌, ◌^◌, Bool, true, false, not, ◌&&◌, List, [], ◌∷◌, ◌++◌, Option, Some, None, map, length, take, ◌⊎◌, inl, inr, refl, sym, ◌∙◌, ap, ap₂, subst, arith}
-use Rattle.std.specs.Prelude.{slice_get, if◌then◌else◌}
-use Rattle.std.specs.List.{list_all}
-use Rattle.std.proofs.lemmas.Option.{slice_get_within}
-use Rattle.std.proofs.lemmas.Bool.{lt-ltb}
+use Rattle.std.proofs.Common.{◌≡◌, ℕ, suc, List, [], ◌∷◌, ◌++◌, Option, Some, None, map, length, refl, sym, ◌∙◌, ap, subst, arith}
 use Rattle.vx_frac.specs.Fractions.{Fraction}
-use Rattle.vx_terms.specs.Sorts.{Sort, BoolSort, same_sort}
-use Rattle.vx_terms.specs.Terms.{Term}
-use Rattle.vx_terms.proofs.Same.{sort_is}
-use Rattle.cs_certificate.specs.Terms.{HasSort}
-use Rattle.cs_certificate.specs.Certificate.{Stack, State, Clause, At, Contains, Sign, Plain, Negated, Yes, No, negated, NumberedLiteral, Step, NewTerm, Farkas, Propagate, Reads, plain, negation, ReadsAll, no-literals, one-literal, Refutes, Derives, farkas, propagate, Leads, stays, names, derives}
+use Rattle.cs_certificate.specs.Certificate.{Stack, State, Clause, At, Contains, Sign, Plain, Negated, Yes, No, negated, NumberedLiteral, Step, NewTerm, Farkas, Propagate, Reads, reads-plain, reads-negated, ReadsAll, no-literals, one-literal, Refutes, Derives, farkas, propagate, Leads, stays, names, derives}
 use Rattle.cs_certificate.specs.Certificate as certificate
 use Rattle.cs_nodes.specs.Nodes.{Node, Represents}
-use Rattle.cs_nodes.specs.Steps.{◌>>=◌, Names, names-none, names-yes, names-no, Computes}
-use Rattle.cs_nodes.proofs.Comparisons.{sort_at}
-use Rattle.cs_nodes.proofs.Find.{one_at}
-use Rattle.cs_nodes.proofs.Heads.{sort_same}
-use Rattle.cs_numbers.specs.Numbering.{nodes_of}
-use Rattle.cs_hints.specs.declared.Literal.{Literal}
+use Rattle.cs_nodes.specs.Steps.{◌>>=◌, Names, Computes}
 use Rattle.cs_hints.specs.declared.Clause.{Clause as Clause'}
-use Rattle.cs_hints.specs.Hints as hints
-use Rattle.cs_hints.specs.Bridge.{view, views, state, IsNumbered, AreDistinct}
 use Rattle.cs_farkas.specs.Sums.{Outcome, Done, Leaves, Misses}
 use Rattle.cs_farkas.specs.Sums as sums
-use Rattle.cs_farkas.specs.Rows.{Bound, Part, with_part, parts_of, bound_at, combination_of, if_parts, Combination, refutes, farkas_clause, if_combined}
-use Rattle.cs_proof.specs.Prepared.{Duty, Named, Derived, Missed, Sum, Hints, narrow_literals, within, turned, is_bool, other_sign, with_literals, derived, sum, if_all_bool, propagation, saturate}
+use Rattle.cs_proof.specs.Prepared.{Duty, Derived, Missed, within, derived}
 use Rattle.cs_proof.specs.Plans.{Plans, with_duty, with_clause, kept}
 use Rattle.cs_proof.specs.Checking.{met}
 use Rattle.cs_proof.specs.Answers.{Meets, IsOver}
-use Rattle.cs_proof.proofs.Literals.{named, all_within, viewed, numbered, one_clause}
-use Rattle.cs_proof.proofs.Narrowed.{literals_are, literals_named}
+use Rattle.cs_proof.proofs.Literals.{named, all_within, one_clause}
 use Rattle.cs_proof.proofs.State.{state_of, Stands, represents, as_long, clause_stands, clause_state}
 
 some_is : {A : Type 0} {x y : A} → Some x ≡ Some y → x ≡ y

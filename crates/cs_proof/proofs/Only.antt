@@ -1,9 +1,6 @@
 -- There is one answer.
-use Rattle.std.proofs.Common.{◌≡◌, ℕ, zero, suc, ◌+◌, List, [], ◌∷◌, ◌++◌, Option, Some, None, length, refl, sym, ◌∙◌, ap, subst, arith}
-use Rattle.vx_frac.specs.Fractions.{Fraction}
-use Rattle.cs_certificate.specs.Certificate.{Stack, State, start, Step, Farkas, NumberedLiteral, Contains}
-use Rattle.cs_nodes.specs.Nodes.{Node}
-use Rattle.cs_numbers.specs.Numbering.{nodes_of}
+use Rattle.std.proofs.Common.{◌≡◌, ℕ, suc, ◌+◌, List, [], ◌∷◌, ◌++◌, Option, Some, length, refl, sym, ◌∙◌, ap, subst, arith}
+use Rattle.cs_certificate.specs.Certificate.{Stack, State, start, Step, Farkas, Contains}
 use Rattle.cs_farkas.specs.Sums.{Leaves, Outcome}
 use Rattle.cs_farkas.specs.Sums as sums
 use Rattle.cs_farkas.specs.Rows.{farkas_clause}

@@ -1,25 +1,24 @@
 -- A `farkas` step: what the checker does of it, and what its rule says.
-use Rattle.std.proofs.Common.{◌≡◌, ℕ, suc, ◌<◌, ◌≤◌, ◌^◌, List, [], ◌∷◌, ◌++◌, Option, Some, None, map, length, take, ◌⊎◌, inl, inr, refl, sym, ◌∙◌, ap, ap₂, subst, arith}
+use Rattle.std.proofs.Common.{◌≡◌, ℕ, suc, ◌<◌, ◌≤◌, ◌^◌, List, [], ◌∷◌, ◌++◌, Option, Some, None, map, length, take, inl, inr, refl, sym, ◌∙◌, ap, subst, arith}
 use Rattle.vx_frac.specs.Fractions.{Fraction}
-use Rattle.cs_certificate.specs.Certificate.{Stack, State, Clause, NumberedLiteral, Step, Farkas, Derives, farkas}
+use Rattle.cs_certificate.specs.Certificate.{Stack, Clause, NumberedLiteral, Farkas, Derives, farkas}
 use Rattle.cs_nodes.specs.Nodes.{Node}
 use Rattle.cs_nodes.specs.Steps.{◌>>=◌, Names}
-use Rattle.cs_numbers.specs.Numbering.{nodes_of}
 use Rattle.cs_hints.specs.declared.Clause.{Clause as Clause'}
 use Rattle.cs_farkas.specs.Sums.{Outcome, Done, Leaves, Misses}
 use Rattle.cs_farkas.specs.Sums as sums
 use Rattle.cs_farkas.specs.Bridge.{Decides}
-use Rattle.cs_farkas.specs.Rows.{Part, parts_of, combination_of, if_parts, of_sort, sort_of_parts, Combination, refutes, farkas_clause, if_combined}
+use Rattle.cs_farkas.specs.Rows.{Part, parts_of, combination_of, if_parts, Combination, refutes, farkas_clause, if_combined}
 use Rattle.cs_farkas.proofs.Decided.{farkas_by_number}
 use Rattle.cs_proof.specs.Prepared.{Duty, Missed, Sum, narrow_literals, within, sum, with_literals}
 use Rattle.cs_proof.specs.Plans.{Plans, kept, with_clause}
 use Rattle.cs_proof.specs.Checking.{met}
-use Rattle.cs_proof.specs.Answers.{Meets, IsOver}
+use Rattle.cs_proof.specs.Answers.{IsOver}
 use Rattle.cs_proof.proofs.Literals.{named, one_clause}
 use Rattle.cs_proof.proofs.Narrowed.{literals_are, literals_named}
 use Rattle.cs_proof.proofs.Lits.{InRange, parts_in_range, reads_names}
 use Rattle.cs_proof.proofs.State.{state_of, Stands, represents, as_long}
-use Rattle.cs_proof.proofs.Moves.{Fate, moves, misses, leaves, not_met, moved}
+use Rattle.cs_proof.proofs.Moves.{Fate, misses, leaves, not_met, moved}
 
 some_is : {A : Type 0} {x y : A} → Some x ≡ Some y → x ≡ y
 some_is e = cc

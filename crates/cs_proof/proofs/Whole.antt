@@ -1,9 +1,9 @@
 -- The verdict is the answer: one step after another.
-use Rattle.std.proofs.Common.{◌≡◌, ℕ, zero, suc, ◌+◌, ◌<◌, ◌≤◌, ◌^◌, Bool, true, false, ◌||◌, List, [], ◌∷◌, ◌++◌, Option, Some, None, map, length, take, refl, sym, ◌∙◌, ap, ap₂, subst, arith, append_assoc, append-nil}
+use Rattle.std.proofs.Common.{◌≡◌, ℕ, zero, suc, ◌+◌, ◌<◌, ◌≤◌, ◌^◌, Bool, true, false, ◌||◌, List, [], ◌∷◌, ◌++◌, Option, Some, None, map, length, take, refl, sym, ◌∙◌, ap, subst, arith, append_assoc, append-nil}
 use Rattle.std.specs.Prelude.{slice_get, if◌then◌else◌, ◌↔◌}
 use Rattle.std.specs.List.{list_any}
 use Rattle.std.specs.Option.{option_map}
-use Rattle.std.proofs.lemmas.List.{length-append, length-map}
+use Rattle.std.proofs.lemmas.List.{length-append}
 use Rattle.std.proofs.lemmas.Option.{slice_get-get_or}
 use Rattle.vx_terms.specs.Terms.{Term, Truth, same}
 use Rattle.vx_terms.specs.Interpretations.{Each}
@@ -22,16 +22,16 @@ use Rattle.cs_numbers.specs.Laws.{IsSorted, IsTable, of_assertions}
 use Rattle.cs_numbers.proofs.Added.{added_distinct}
 use Rattle.cs_hints.specs.declared.Literal.{Literal}
 use Rattle.cs_hints.specs.declared.Clause.{Clause as Clause'}
-use Rattle.cs_hints.specs.Bridge.{term_at, views, state, IsNumbered, AreDistinct}
+use Rattle.cs_hints.specs.Bridge.{term_at, views, IsNumbered, AreDistinct}
 use Rattle.cs_farkas.specs.Sums.{Outcome, Done, Leaves, Misses}
 use Rattle.cs_farkas.specs.Sums as sums
 use Rattle.cs_proof.specs.Prepared.{Duty}
 use Rattle.cs_proof.specs.Plans.{Plans, planned, planned_all, begun, plans_of}
-use Rattle.cs_proof.specs.Checking.{Checker, Verdict, Finished, BadStep, Over, NotEmpty, met, after, stepped, is_nil, is_empty, closed, verdict}
+use Rattle.cs_proof.specs.Checking.{Checker, Verdict, Finished, BadStep, Over, NotEmpty, met, after, is_nil, is_empty, verdict}
 use Rattle.cs_proof.specs.Answers.{Meets, IsOver, Holds, none, more, Reaches, Answers}
-use Rattle.cs_proof.proofs.Grown.{Begins, Grows, planned_grows, all_grows, take_front, get_front, one_longer, at_left}
+use Rattle.cs_proof.proofs.Grown.{Begins, Grows, all_grows, take_front, get_front, one_longer, at_left}
 use Rattle.cs_proof.proofs.OfKinds.{IsBare}
-use Rattle.cs_proof.proofs.State.{state_of, Stands, represents, as_long}
+use Rattle.cs_proof.proofs.State.{state_of, Stands, represents}
 use Rattle.cs_proof.proofs.Moves.{Fate, moves, misses, leaves}
 use Rattle.cs_proof.proofs.Answered.{Scene, fate_of}
 use Rattle.cs_proof.proofs.Only.{From, Ahead, passes, stops, exceeds, AtEnd, finished, not_empty, one_over, answers_from}

@@ -1,5 +1,5 @@
 -- What plans stand for, and numbers that fit.
-use Rattle.std.specs.Prelude.{ℕ, ◌<◌, ◌^◌, length, map, All}
+use Rattle.std.specs.Prelude.{◌<◌, ◌^◌, length, map, All}
 use Rattle.vx_terms.specs.Views.{term}
 use Rattle.cs_table.specs.Views.{nodes}
 use Rattle.vx_smt_meaning.specs.Views.{declared_symbol}

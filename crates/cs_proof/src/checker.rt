@@ -11,16 +11,17 @@ ghost use Rattle.cs_hints.specs.Marks.{terms_in, rounds_in};
 ghost use Rattle.cs_proof.specs.Checking as clean;
 ghost use Rattle.cs_proof.specs.Plans as plans;
 ghost use Rattle.cs_proof.specs.Fits.{stand, seen, Fits};
+ghost use Rattle.cs_proof.specs.Meant.{all_meant};
 ghost use Rattle.cs_proof.specs.Views.{written, duty, IsFit, IsFitClause};
 
 use crate::plans::{Plans, extend, plan_all, roots_of};
 use crate::prepare::Duty;
 use crate::stack::Stack;
-use crate::step::Step;
+use crate::step::{Step, steps_of};
 use cs_farkas::{Break, Combination, Sums, refutes};
 use cs_hints::{Clause, Marks, refutes_by};
 use cs_numbers::number;
-use cs_reader::Refusal;
+use cs_reader::{Certificate, Refusal};
 use cs_table::{Node, Stop};
 use std::alloc::{AllocError, Global};
 
@@ -172,13 +173,24 @@ fn plans_of(alloc: Global, stack: &Stack, steps: &[Step]) -> Result<Plans, Stop>
 }
 
 impl Checker {
+    ghost use Rattle.cs_reader.specs.Steps.{certificate as seen_certificate};
     ghost use Rattle.cs_proof.specs.CheckerView.{checker, Tells, Closes, Begins};
 
-    /// A checker that has done no step. It numbers all terms and prepares each step's clause.
+    /// A checker that has done no step. It reads the terms of `term` steps over the live symbols,
+    /// numbers all terms and prepares each step's clause.
     ///
     /// # Errors
     /// `Want` where memory runs out.
-    pub fn new(alloc: Global, stack: &Stack, steps: &[Step]) -> Result<Checker, Want>
+    pub fn new(alloc: Global, stack: &Stack, certificate: Certificate) -> Result<Checker, Want>
+        ensures value { IfOk result (λ c. Begins (plans.plans_of (seen stack.now) (all_meant (seen stack.now) (seen_certificate certificate))) (checker c)) }
+        ensures answers { Each IsSorted (seen stack.now).assertions → (v : clean.Verdict) → IfOk result (λ c. Answers (seen stack.now) (length (checker c).nodes) (all_meant (seen stack.now) (seen_certificate certificate)) v ↔ (v ≡ clean.verdict (checker c))) }
+    {
+        let steps = steps_of(alloc, &stack.symbols, certificate)?;
+        Checker::of(alloc, stack, &steps)
+    }
+
+    /// A checker of these steps.
+    fn of(alloc: Global, stack: &Stack, steps: &[Step]) -> Result<Checker, Want>
         ensures value { IfOk result (λ c. Begins (plans.plans_of (seen stack.now) (map written steps.now)) (checker c)) }
         ensures answers { Each IsSorted (seen stack.now).assertions → (v : clean.Verdict) → IfOk result (λ c. Answers (seen stack.now) (length (checker c).nodes) (map written steps.now) v ↔ (v ≡ clean.verdict (checker c))) }
     {

@@ -1,4 +1,4 @@
-use Rattle.std.proofs.Common.{◌≡◌, rules, Vec, Global, vec_len, length, map, drop, sym, ◌∙◌, ap, subst}
+use Rattle.std.proofs.Common.{◌≡◌, rules, Vec, Global, vec_len, length, map, sym, ◌∙◌, ap, subst}
 use Rattle.cs_table.specs.declared.node.Node.{Node}
 use Rattle.vx_terms.specs.Views.{term}
 use Rattle.cs_table.specs.Views.{nodes}
