@@ -22,7 +22,7 @@ use cs_farkas::{Break, Combination, Sums, refutes};
 use cs_hints::{Clause, Marks, refutes_by};
 use cs_numbers::number;
 use cs_reader::{Certificate, Refusal};
-use cs_table::{Node, Stop};
+use cs_table::{Node, Stop, Table};
 use std::alloc::{AllocError, Global};
 
 /// The first items, so many where there are as many.
@@ -153,15 +153,9 @@ fn plans_of(alloc: Global, stack: &Stack, steps: &[Step]) -> Result<Plans, Stop>
         return Err(Stop::Want);
     }
     let terms = number(alloc, &stack.assertions)?;
-    if terms.len() >= 1 << 32 {
-        return Err(Stop::Want);
-    }
     let roots = roots_of(alloc, &terms, &stack.assertions)?;
-    let mut nodes = Vec::new(alloc);
+    let mut nodes = Table::new(alloc)?;
     extend(alloc, &mut nodes, &terms)?;
-    if nodes.len() >= 1 << 32 {
-        return Err(Stop::Want);
-    }
     let mut plans = Plans {
         terms,
         nodes,
@@ -201,12 +195,19 @@ impl Checker {
         if plans.clauses.len() >= 1 << 32 {
             return Err(Want);
         }
-        let sums = Sums::new(alloc, plans.nodes.len())?;
-        let marks = Marks::new(alloc, plans.nodes.len())?;
+        let Plans {
+            terms: _,
+            nodes,
+            duties,
+            clauses,
+        } = plans;
+        let nodes = nodes.into_nodes();
+        let sums = Sums::new(alloc, nodes.len())?;
+        let marks = Marks::new(alloc, nodes.len())?;
         Ok(Checker {
-            nodes: plans.nodes,
-            clauses: plans.clauses,
-            duties: plans.duties,
+            nodes,
+            clauses,
+            duties,
             sums,
             marks,
             done: 0,
