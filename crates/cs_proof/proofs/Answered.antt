@@ -55,7 +55,7 @@ parts_fine : (stack : Stack) (t : Term) (a : Sort) → HasSort t a → AreLive s
 parts_fine stack t a h l = ap (λ o. has_sort o && is_live stack.symbols t) ((tells_sorts t a).1 h) ∙ (tells_live stack t).1 l
 
 module _ (stack : Stack) (roots : List ℕ) (nodes : List Node) (clauses : List Clause') (p : Plans) (h : Stands stack roots p) (t : Term) where
-  over : (o : sums.Over) → IsOver (length nodes) (state_of p) (Some (NewTerm t)) o → ⊥
+  over : (o : sums.Over) → IsOver (state_of p) (Some (NewTerm t)) o → ⊥
   over o w = other w.0 w.1 w.2
     where
       other : (ls : List NumberedLiteral) (ms : List Fraction) → Some (NewTerm t) ≡ Some (Farkas ls ms) → ⊥

@@ -43,7 +43,7 @@ bare_at view xs t (n, e) = go (slice_get xs n) (sym (slice_get-map (λ x. term (
     go (Some x) f = subst IsBare (some_is f) (bare (view x))
 
 pub begun_answers : (stack : Stack') (ws : List (Option Step)) (p : Plans') → plans_of (seen stack) ws ≡ Some (stand p) → Fits p → length stack.assertions.items < 2 ^ 32 → length p.clauses.items < 2 ^ 32 → Each IsSorted (seen stack).assertions → (v : Verdict) →
-    Answers (seen stack) (length (nodes p.nodes.nodes.items)) ws v ↔ (v ≡ verdict record { nodes = nodes p.nodes.nodes.items; clauses = p.clauses.items; duties = map duty p.duties.items; done = 0; derived = 0; refusal = None })
+    Answers (seen stack) ws v ↔ (v ≡ verdict record { nodes = nodes p.nodes.nodes.items; clauses = p.clauses.items; duties = map duty p.duties.items; done = 0; derived = 0; refusal = None })
 begun_answers stack ws p e fits few few_clauses sorted v =
     whole_answer (seen stack) ws (stand p) record { nodes = nodes p.nodes.nodes.items; clauses = p.clauses.items; duties = map duty p.duties.items; done = 0; derived = 0; refusal = None } sorted e
     (λ roots. record {

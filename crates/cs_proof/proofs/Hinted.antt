@@ -34,7 +34,7 @@ module _ (stack : Stack) (roots : List ℕ) (nodes : List Node) (clauses : List 
     (distinct : AreDistinct p.terms)
     (within_terms : Each (λ c. Each (IsNumbered p.terms) c.literals.items) (take (length p.clauses) clauses))
     (ls : List NumberedLiteral) (hs : List ℕ) where
-  over : (o : sums.Over) → IsOver (length nodes) (state_of p) (Some (Propagate ls hs)) o → ⊥
+  over : (o : sums.Over) → IsOver (state_of p) (Some (Propagate ls hs)) o → ⊥
   over o w = other w.0 w.1 w.2
     where
       other : (ls' : List NumberedLiteral) (ms' : List Fraction) → Some (Propagate ls hs) ≡ Some (Farkas ls' ms') → ⊥

@@ -21,10 +21,10 @@ some_is e = cc
 -- the step meets its rule and is done, or not
 pub data Fate (stack : Stack) (roots : List ℕ) (nodes : List Node) (clauses : List Clause') (p : Plans) (w : Option Step) (q : Plans) : Type 0 where
   moves : (d : Duty) → q.duties ≡ p.duties ++ d ∷ [] → met nodes clauses (length p.clauses) d ≡ Done (length q.clauses) →
-      Meets stack (state_of p) w (state_of q) → ((u : State) → Meets stack (state_of p) w u → u ≡ state_of q) → ((o : sums.Over) → IsOver (length nodes) (state_of p) w o → ⊥) → Stands stack roots q → Fate stack roots nodes clauses p w q
+      Meets stack (state_of p) w (state_of q) → ((u : State) → Meets stack (state_of p) w u → u ≡ state_of q) → ((o : sums.Over) → IsOver (state_of p) w o → ⊥) → Stands stack roots q → Fate stack roots nodes clauses p w q
   misses : (d : Duty) → q.duties ≡ p.duties ++ d ∷ [] → met nodes clauses (length p.clauses) d ≡ Misses →
-      ((u : State) → Meets stack (state_of p) w u → ⊥) → ((o : sums.Over) → IsOver (length nodes) (state_of p) w o → ⊥) → Fate stack roots nodes clauses p w q
-  leaves : (d : Duty) → q.duties ≡ p.duties ++ d ∷ [] → (o : sums.Over) → met nodes clauses (length p.clauses) d ≡ Leaves o → IsOver (length nodes) (state_of p) w o → Fate stack roots nodes clauses p w q
+      ((u : State) → Meets stack (state_of p) w u → ⊥) → ((o : sums.Over) → IsOver (state_of p) w o → ⊥) → Fate stack roots nodes clauses p w q
+  leaves : (d : Duty) → q.duties ≡ p.duties ++ d ∷ [] → (o : sums.Over) → met nodes clauses (length p.clauses) d ≡ Leaves o → IsOver (state_of p) w o → Fate stack roots nodes clauses p w q
 
 -- a step with a clause
 abbrev pub IsDeriving : Step → Type 0
@@ -56,7 +56,7 @@ module _ (stack : Stack) (roots : List ℕ) (nodes : List Node) (clauses : List 
   no_step : (u : State) → Meets stack (state_of p) None u → ⊥
   no_step u (step, e, l) = cc
 
-  nothing_over : (o : sums.Over) → IsOver (length nodes) (state_of p) None o → ⊥
+  nothing_over : (o : sums.Over) → IsOver (state_of p) None o → ⊥
   nothing_over o w = no_farkas w.0 w.1 w.2
     where
       no_farkas : (ls : List NumberedLiteral) (ms : List Fraction) → None ≡ Some (Farkas ls ms) → ⊥
@@ -78,7 +78,7 @@ module _ (stack : Stack) (roots : List ℕ) (nodes : List Node) (clauses : List 
         x.2 ∙ ap (certificate.with_clause (state_of p)) (one x.0 x.1) ∙ clause_state p d n
 
     pub moved : (d : Duty) {ns : List NumberedLiteral} {c : Clause} → met nodes clauses (length p.clauses) d ≡ Done (suc (length p.clauses)) → Names p.terms ns c → Derives stack (state_of p) step c → ((b : Clause) → Derives stack (state_of p) step b → b ≡ c) →
-        ((o : sums.Over) → IsOver (length nodes) (state_of p) (Some step) o → ⊥) → Fate stack roots nodes clauses p (Some step) (with_clause p (d, map named ns))
+        ((o : sums.Over) → IsOver (state_of p) (Some step) o → ⊥) → Fate stack roots nodes clauses p (Some step) (with_clause p (d, map named ns))
     moved d {ns = ns} e n by one over = moves d refl (e ∙ ap Done (sym (one_longer p.clauses (map named ns)))) (met_by d n by) (met_only d n one) over (clause_stands stack roots p d h n)
 
     -- by a clause that is computed
@@ -86,7 +86,7 @@ module _ (stack : Stack) (roots : List ℕ) (nodes : List Node) (clauses : List 
         Fate stack roots nodes clauses p (Some step) (kept p (derived p.nodes computed))
     clause_fate other computed by = go computed refl
       where
-        over : (o : sums.Over) → IsOver (length nodes) (state_of p) (Some step) o → ⊥
+        over : (o : sums.Over) → IsOver (state_of p) (Some step) o → ⊥
         over o w = other w.0 w.1 (some_is w.2)
 
         go : (o : Option (List NumberedLiteral)) → computed ≡ o → Fate stack roots nodes clauses p (Some step) (kept p (derived p.nodes o))

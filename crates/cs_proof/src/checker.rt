@@ -177,7 +177,7 @@ impl Checker {
     /// `Want` where memory runs out.
     pub fn new(alloc: Global, stack: &Stack, certificate: Certificate) -> Result<Checker, Want>
         ensures value { IfOk result (λ c. Begins (plans.plans_of (seen stack.now) (all_meant (seen stack.now) (seen_certificate certificate))) (checker c)) }
-        ensures answers { Each IsSorted (seen stack.now).assertions → (v : clean.Verdict) → IfOk result (λ c. Answers (seen stack.now) (length (checker c).nodes) (all_meant (seen stack.now) (seen_certificate certificate)) v ↔ (v ≡ clean.verdict (checker c))) }
+        ensures answers { Each IsSorted (seen stack.now).assertions → (v : clean.Verdict) → IfOk result (λ c. Answers (seen stack.now) (all_meant (seen stack.now) (seen_certificate certificate)) v ↔ (v ≡ clean.verdict (checker c))) }
     {
         let steps = steps_of(alloc, &stack.symbols, certificate)?;
         Checker::of(alloc, stack, &steps)
@@ -186,7 +186,7 @@ impl Checker {
     /// A checker of these steps.
     fn of(alloc: Global, stack: &Stack, steps: &[Step]) -> Result<Checker, Want>
         ensures value { IfOk result (λ c. Begins (plans.plans_of (seen stack.now) (map written steps.now)) (checker c)) }
-        ensures answers { Each IsSorted (seen stack.now).assertions → (v : clean.Verdict) → IfOk result (λ c. Answers (seen stack.now) (length (checker c).nodes) (map written steps.now) v ↔ (v ≡ clean.verdict (checker c))) }
+        ensures answers { Each IsSorted (seen stack.now).assertions → (v : clean.Verdict) → IfOk result (λ c. Answers (seen stack.now) (map written steps.now) v ↔ (v ≡ clean.verdict (checker c))) }
     {
         let plans = plans_of(alloc, stack, steps)?;
         if plans.duties.len() >= 1 << 32 {

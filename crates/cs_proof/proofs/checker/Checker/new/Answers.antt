@@ -1,4 +1,4 @@
-use Rattle.std.proofs.Common.{◌≡◌, ◌↔◌, rules, length, map, IfOk, ap, ◌∙◌, subst}
+use Rattle.std.proofs.Common.{◌≡◌, ◌↔◌, rules, map, IfOk, ap, ◌∙◌, subst}
 use Rattle.vx_smt_meaning.specs.Views.{declared_symbol}
 use Rattle.cs_reader.specs.Steps.{certificate as seen_certificate}
 use Rattle.cs_proof.specs.Answers.{Answers}
@@ -24,4 +24,4 @@ returns-clause-answers c =
     let steps : c.deref-2.result.now ≡ c.in_ok-steps.steps.items = search rules in
     let e : map written c.deref-2.result.now ≡ all_meant (seen c.args.stack.now) (seen_certificate c.args.certificate) =
     ap (map written) steps ∙ c.in_ok-steps.ensures ∙ ap (λ ds. map (meant (map declared_symbol ds)) (seen_certificate c.args.certificate)) symbols in
-    λ sorted v. subst (λ ws. IfOk c.of.result (λ c'. Answers (seen c.args.stack.now) (length (checker c').nodes) ws v ↔ (v ≡ clean.verdict (checker c')))) e (c.of.ensures.answers sorted v)
+    λ sorted v. subst (λ ws. IfOk c.of.result (λ c'. Answers (seen c.args.stack.now) ws v ↔ (v ≡ clean.verdict (checker c')))) e (c.of.ensures.answers sorted v)

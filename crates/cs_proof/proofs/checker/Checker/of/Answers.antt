@@ -11,7 +11,7 @@ pub returns-clause-answers : goal.returns-clause-answers
 returns-clause-answers c =
     let few : length c.in_ok-plans.plans.clauses.items < 2 ^ 32 = (let a = c.if-len-2.false in let b = c.len-2.ensures in omega arith) in
     λ sorted v.
-    subst (λ ns. Answers (seen c.args.stack.now) (length (nodes ns.items)) (map written c.args.steps.now) v
+    subst (λ ns. Answers (seen c.args.stack.now) (map written c.args.steps.now) v
     ↔ (v ≡ verdict record { nodes = nodes ns.items; clauses = c.in_ok-plans.plans.clauses.items; duties = map duty c.in_ok-plans.plans.duties.items; done = 0; derived = 0; refusal = None }))
     (sym c.into_nodes-nodes.ensures)
     (begun_answers c.args.stack.now (map written c.args.steps.now) c.in_ok-plans.plans c.in_ok-plans.ensures.value c.in_ok-plans.ensures.fits c.in_ok-plans.ensures.few few sorted v)
