@@ -2,8 +2,8 @@
 use Rattle.std.proofs.Common.{◌≡◌, ℕ, suc, ◌+◌, ◌*◌, ◌<◌, ◌≤◌, ℤ, pos, negsuc, ◌+ℤ◌, ◌-ℤ◌, ◌*ℤ◌, neg_ℤ, refl, sym, ◌∙◌, ap, ap₂, arith, mul-le-mul_right, le_of_mul-le-mul_right, le_antisymm}
 use Rattle.std.proofs.Math.Nat.{lt_of_mul-lt-mul_right}
 use borrow.Author.Differences.{up, down, same_in, same_out, product_is, sum_is_lem, neg_is}
-use Rattle.vx_frac.specs.Fractions.{Fraction, denominator, whole, sum, minus, product}
-use Rattle.cs_certificate.specs.Linear.{one, minus_one}
+use Rattle.vx_frac.specs.Fractions.{Fraction, full, denominator, whole, sum, minus, product}
+use Rattle.cs_certificate.specs.Linear.{minus_one}
 use Rattle.cs_certificate.proofs.Ring.{diff, by_diff, diff_same, ring, diff_times, times_assoc}
 
 -- equal by cross products
@@ -111,9 +111,9 @@ zero_sum a =
     (λ a1 a2. record { cross = simp ring (diff_same _ _ _ _ (omega arith)) })
     a.numerator
 
-pub one_product : (a : Fraction) → Eq (product one a) a
+pub one_product : (a : Fraction) → Eq (product full a) a
 one_product a =
-    by_one (λ x. Eq (product one record { numerator = x; below = a.below }) record { numerator = x; below = a.below })
+    by_one (λ x. Eq (product full record { numerator = x; below = a.below }) record { numerator = x; below = a.below })
     (λ a1 a2. record { cross = simp ring (diff_same _ _ _ _ (omega arith)) })
     a.numerator
 

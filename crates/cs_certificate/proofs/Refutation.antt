@@ -2,12 +2,12 @@
 use Rattle.std.proofs.Common.{◌≡◌, ℕ, zero, suc, ◌+◌, ◌*◌, ◌<◌, ℤ, pos, negsuc, ◌*ℤ◌, neg_ℤ, Bool, true, false, not, ◌||◌, List, [], ◌∷◌, ◌++◌, Some, refl, sym, ◌∙◌, ap, ap₂, subst, inl, inr, arith}
 use Rattle.std.specs.Prelude.{int_lt, int_le}
 use borrow.Author.Differences.{up, down, lt-true, lt-false, le-true, le-false, neg_is, same_out, lt_in, le_in, product_is}
-use Rattle.vx_frac.specs.Fractions.{Fraction, denominator, whole, sum, minus, product, is_below, at_most}
+use Rattle.vx_frac.specs.Fractions.{Fraction, full, denominator, whole, sum, minus, product, is_below, at_most}
 use Rattle.vx_terms.specs.Sorts.{Sort, IntSort, BoolSort, RealSort, RefSort, SnapSort, OtherSort}
 use Rattle.vx_terms.specs.Terms.{Term}
 use Rattle.vx_terms.specs.Interpretations.{Element, as_int, as_fraction, same_element, Interpretation, value, Each}
 use Rattle.cs_certificate.specs.Terms.{HasSort}
-use Rattle.cs_certificate.specs.Linear.{one, minus_one, linear, Column, combination, Row, Constraint, read, one_more, Relation, AtMostZero, BelowZero, IsZero}
+use Rattle.cs_certificate.specs.Linear.{minus_one, linear, Column, combination, Row, Constraint, read, one_more, Relation, AtMostZero, BelowZero, IsZero}
 use Rattle.cs_certificate.specs.Certificate.{Literal, Clause, At, IsNumberSort, Constrains, not-less, not-at-most, less as below, at-most, equals, MayMultiply, Rows, no-rows, one-row, IsStrict, IsContradiction}
 use Rattle.cs_certificate.proofs.Fractions.{Eq, eq_refl, eq_sym, eq_trans, sum_eq, one_product, minus_one_product, NonPositive, Negative, Zero, nonpositive_eq, negative_eq, zero_eq, nonpositive_from_negative, zero_nonpositive, sum_parts, sum_nonpositive, sum_negative, sum_zero, sum_comm, product_nonpositive, product_negative, product_zero_left, product_zero_right, nonpositive_part, negative_part, zero_from, sum_zero_right}
 use Rattle.cs_certificate.proofs.Clauses.{literal_true, clause_true, Holds, true_or_false}
@@ -52,11 +52,11 @@ difference a b = sum a (minus b)
 parts_are : (i : Interpretation) (s : Sort) (c : Constraint) → IsNumberSort s → HasSort c.left s → HasSort c.right s →
     Eq (parts_value i (read s c)) (sum (sum (number i c.left) (minus (number i c.right))) (parts_value i (one_more s c.relation)))
 parts_are i s c n p q =
-    eq_trans (parts_append i (linear one c.left ++ linear minus_one c.right) (one_more s c.relation))
+    eq_trans (parts_append i (linear full c.left ++ linear minus_one c.right) (one_more s c.relation))
     (sum_eq
-    (eq_trans (parts_append i (linear one c.left) (linear minus_one c.right))
+    (eq_trans (parts_append i (linear full c.left) (linear minus_one c.right))
     (sum_eq
-    (eq_trans (linear_value i one c.left s n p) (one_product (number i c.left)))
+    (eq_trans (linear_value i full c.left s n p) (one_product (number i c.left)))
     (eq_trans (linear_value i minus_one c.right s n q) (minus_one_product (number i c.right)))))
     (eq_refl (parts_value i (one_more s c.relation))))
 
@@ -78,11 +78,11 @@ below_is : (a b : ℤ) → (difference (whole a) (whole b)).below ≡ 0
 unfolding difference
 below_is a b = refl
 
-int_below : (a b : ℤ) → int_lt a b ≡ true → NonPositive (sum (difference (whole a) (whole b)) (sum one (whole (pos 0))))
+int_below : (a b : ℤ) → int_lt a b ≡ true → NonPositive (sum (difference (whole a) (whole b)) (sum full (whole (pos 0))))
 int_below a b e =
     let l = lt-true a b e in
     let s = int_difference a b in
-    let t : up (sum (difference (whole a) (whole b)) (sum one (whole (pos 0)))).numerator + (down (difference (whole a) (whole b)).numerator * 1 + 0 * suc (difference (whole a) (whole b)).below) ≡ down (sum (difference (whole a) (whole b)) (sum one (whole (pos 0)))).numerator + (up (difference (whole a) (whole b)).numerator * 1 + 1 * suc (difference (whole a) (whole b)).below) = sum_parts (difference (whole a) (whole b)) (sum one (whole (pos 0))) in
+    let t : up (sum (difference (whole a) (whole b)) (sum full (whole (pos 0)))).numerator + (down (difference (whole a) (whole b)).numerator * 1 + 0 * suc (difference (whole a) (whole b)).below) ≡ down (sum (difference (whole a) (whole b)) (sum full (whole (pos 0)))).numerator + (up (difference (whole a) (whole b)).numerator * 1 + 1 * suc (difference (whole a) (whole b)).below) = sum_parts (difference (whole a) (whole b)) (sum full (whole (pos 0))) in
     let u : (difference (whole a) (whole b)).below ≡ 0 = below_is a b in
     let v = ap suc u in
     record { fact = omega arith }
@@ -116,12 +116,12 @@ signed_at_most i s a b n p q e = elim n [
       (subst (λ x. NonPositive (sum (as_fraction (value i a)) (minus (as_number x)))) (sym u) (at_most_nonpositive (as_fraction (value i a)) (as_fraction (value i b)) (sym (ap₂ at_most_in v u) ∙ e))))
 ]
 
-signed_below_int : (i : Interpretation) (a b : Term) → HasSort a IntSort → HasSort b IntSort → less_in (value i a) (value i b) ≡ true → NonPositive (sum (difference (number i a) (number i b)) (sum one (whole (pos 0))))
+signed_below_int : (i : Interpretation) (a b : Term) → HasSort a IntSort → HasSort b IntSort → less_in (value i a) (value i b) ≡ true → NonPositive (sum (difference (number i a) (number i b)) (sum full (whole (pos 0))))
 signed_below_int i a b p q e =
     let v = int_of i a p in
     let u = int_of i b q in
-    subst (λ x. NonPositive (sum (difference (as_number x) (number i b)) (sum one (whole (pos 0))))) (sym v)
-    (subst (λ x. NonPositive (sum (difference (whole (as_int (value i a))) (as_number x)) (sum one (whole (pos 0))))) (sym u) (int_below (as_int (value i a)) (as_int (value i b)) (sym (ap₂ less_in v u) ∙ e)))
+    subst (λ x. NonPositive (sum (difference (as_number x) (number i b)) (sum full (whole (pos 0))))) (sym v)
+    (subst (λ x. NonPositive (sum (difference (whole (as_int (value i a))) (as_number x)) (sum full (whole (pos 0))))) (sym u) (int_below (as_int (value i a)) (as_int (value i b)) (sym (ap₂ less_in v u) ∙ e)))
 
 signed_below_real : (i : Interpretation) (a b : Term) → HasSort a RealSort → HasSort b RealSort → less_in (value i a) (value i b) ≡ true → Negative (difference (number i a) (number i b))
 unfolding difference
@@ -189,7 +189,7 @@ row_zero i s c e n p q h =
 row_below_int : (i : Interpretation) (c : Constraint) → c.relation ≡ BelowZero → HasSort c.left IntSort → HasSort c.right IntSort → less_in (value i c.left) (value i c.right) ≡ true → NonPositive (parts_value i (read IntSort c))
 unfolding difference
 row_below_int i c e p q h =
-    let extra : parts_value i (one_more IntSort c.relation) ≡ sum one (whole (pos 0)) = ap (λ r. parts_value i (one_more IntSort r)) e in
+    let extra : parts_value i (one_more IntSort c.relation) ≡ sum full (whole (pos 0)) = ap (λ r. parts_value i (one_more IntSort r)) e in
     nonpositive_eq (eq_sym (parts_are i IntSort c (inl refl) p q))
     (subst (λ x. NonPositive (sum (sum (number i c.left) (minus (number i c.right))) x)) (sym extra) (signed_below_int i c.left c.right p q h))
 

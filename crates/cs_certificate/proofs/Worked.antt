@@ -4,7 +4,7 @@ use Rattle.vx_terms.specs.Sorts.{IntSort, Variable, Less, Add}
 use Rattle.vx_terms.specs.Terms.{Term, Number, Not, Binary}
 use Rattle.vx_terms.specs.Formed.{Formed, number, constant, binary}
 use Rattle.cs_certificate.specs.Terms.{equal}
-use Rattle.cs_certificate.specs.Certificate.{Yes, No, derives, stays, input, define, not-0, farkas, one-literal, no-literals, plain, negation, one-row, no-rows, equals, not-less, propagate, forces, ends, Contains}
+use Rattle.cs_certificate.specs.Certificate.{Yes, No, derives, stays, input, define, not-0, farkas, one-literal, no-literals, reads-plain, reads-negated, one-row, no-rows, equals, not-less, propagate, forces, ends, Contains}
 use Rattle.vx_terms.specs.Interpretations.{Each}
 use Rattle.cs_certificate.specs.Worked.{variable, Worked}
 
@@ -36,7 +36,7 @@ pub worked : Worked
 worked = (
   _,
   derives (input refl) (derives (input refl) (derives (define refl (not-0 _))
-      (derives (farkas {rows = _} (one-literal (negation refl (3, binary tt int_2 int_sum)) (one-literal (plain refl (3, binary (inl refl) int_0 int_2)) no-literals)) (inl refl)
+      (derives (farkas {rows = _} (one-literal (reads-negated refl (3, binary tt int_2 int_sum)) (one-literal (reads-plain refl (3, binary (inl refl) int_0 int_2)) no-literals)) (inl refl)
       (one-row (equals _ _) (3, int_2) (3, int_sum) tt (one-row (not-less _ _) (3, int_2) (3, int_0) refl no-rows))
       record { columns = (refl, (refl, tt)); constant = inl refl })
       (derives (propagate no-literals

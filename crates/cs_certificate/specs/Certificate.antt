@@ -28,6 +28,12 @@ pub record NumberedLiteral : Type 0 where
   pub sign : Sign
   pub number : ℕ
 
+abbrev pub plain : ℕ → NumberedLiteral
+plain n = record { sign = Plain; number = n }
+
+abbrev pub denial : ℕ → NumberedLiteral
+denial n = record { sign = Negated; number = n }
+
 pub data Step : Type 0 where
   Input : (assertion : ℕ) → Step
   NewTerm : Term → Step
@@ -77,8 +83,8 @@ pub data AllAt (terms : List Term) : List ℕ → List Term → Type 0 where
 
 -- a numbered Bool term, or its negation
 pub data Reads (s : State) : NumberedLiteral → Literal → Type 0 where
-  plain : {n : ℕ} {t : Term} → At s.terms n t → HasSort t BoolSort → Reads s record { sign = Plain; number = n } (Yes t)
-  negation : {n : ℕ} {t : Term} → At s.terms n t → HasSort t BoolSort → Reads s record { sign = Negated; number = n } (No t)
+  reads-plain : {n : ℕ} {t : Term} → At s.terms n t → HasSort t BoolSort → Reads s (plain n) (Yes t)
+  reads-negated : {n : ℕ} {t : Term} → At s.terms n t → HasSort t BoolSort → Reads s (denial n) (No t)
 
 pub data ReadsAll (s : State) : List NumberedLiteral → Clause → Type 0 where
   no-literals : ReadsAll s [] []

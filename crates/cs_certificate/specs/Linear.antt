@@ -1,11 +1,8 @@
 -- Linear combinations of constraints.
 use Rattle.std.specs.Prelude.{◌≡◌, pos, negsuc, cond, List, [], ◌∷◌, ◌++◌, Option, Some, None}
-use Rattle.vx_frac.specs.Fractions.{Fraction, whole, sum, product}
+use Rattle.vx_frac.specs.Fractions.{Fraction, full, whole, sum, product}
 use Rattle.vx_terms.specs.Sorts.{Sort, IntSort, Add, Subtract, Multiply}
 use Rattle.vx_terms.specs.Terms.{Term, Number, Part, Binary, same}
-
-abbrev pub one : Fraction
-one = whole (pos 1)
 
 abbrev pub minus_one : Fraction
 minus_one = whole (negsuc 0)
@@ -52,12 +49,12 @@ pub record Constraint : Type 0 where
 
 -- of Int, below 0 is at most 0 with 1 more
 abbrev pub one_more : Sort → Relation → List Multiple
-one_more IntSort BelowZero = constant one
+one_more IntSort BelowZero = constant full
 one_more s r = []
 
 -- left less right, read with the factors 1 and -1
 abbrev pub read : Sort → Constraint → List Multiple
-read s c = linear one c.left ++ linear minus_one c.right ++ one_more s c.relation
+read s c = linear full c.left ++ linear minus_one c.right ++ one_more s c.relation
 
 pub record Row : Type 0 where
   pub multiplier : Fraction

@@ -4,7 +4,7 @@ use Rattle.vx_frac.specs.Fractions.{whole}
 use Rattle.vx_terms.specs.Sorts.{IntSort, Variable, Less, Add}
 use Rattle.vx_terms.specs.Terms.{Term, Number, Constant, Not, Binary}
 use Rattle.cs_certificate.specs.Terms.{equal}
-use Rattle.cs_certificate.specs.Certificate.{Stack, Step, Input, Define, Farkas, Propagate, Plain, Negated, NumberedLiteral, IsFinished}
+use Rattle.cs_certificate.specs.Certificate.{Stack, Step, Input, Define, Farkas, Propagate, plain, denial, IsFinished}
 
 abbrev pub variable : ℕ → Term
 variable n = Constant (Variable n) IntSort
@@ -15,16 +15,10 @@ stack = record {
   symbols = record { symbol = Variable 0; takes = []; gives = IntSort } ∷ record { symbol = Variable 2; takes = []; gives = IntSort } ∷ [];
 }
 
-abbrev pub plain : ℕ → NumberedLiteral
-plain n = record { sign = Plain; number = n }
-
-abbrev pub denied : ℕ → NumberedLiteral
-denied n = record { sign = Negated; number = n }
-
 abbrev pub steps : List Step
 steps =
     Input 0 ∷ Input 1 ∷ Define 5 0
-    ∷ Farkas (denied 0 ∷ plain 6 ∷ []) (whole (negsuc 0) ∷ whole (pos 1) ∷ [])
+    ∷ Farkas (denial 0 ∷ plain 6 ∷ []) (whole (negsuc 0) ∷ whole (pos 1) ∷ [])
     ∷ Propagate [] (0 ∷ 1 ∷ 2 ∷ 3 ∷ []) ∷ []
 
 abbrev pub Worked : Type 0

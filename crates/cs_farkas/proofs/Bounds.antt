@@ -5,7 +5,7 @@ use Rattle.vx_terms.specs.Sorts.{BoolSort, Operator, And, Or, Implies, Equal, Le
 use Rattle.vx_terms.specs.Terms.{Term, Truth, Number, Part, Constant, Apply, Not, Binary, Ite, AllOf, SomeOf, sort_of}
 use Rattle.vx_terms.proofs.Values.{sort_of_formed}
 use Rattle.cs_certificate.specs.Terms.{Head, TruthHead, NumberHead, PartHead, ConstantHead, ApplyHead, BinaryHead, NotHead, IteHead, AllHead, SomeHead, head, parts, equal, HasSort}
-use Rattle.cs_certificate.specs.Certificate.{At, AllAt, no-terms, one-term, Literal, Yes, No, Clause, Sign, Plain, Negated, NumberedLiteral, State, Reads, plain, negation, Constrains, not-less, not-at-most, less, at-most, equals}
+use Rattle.cs_certificate.specs.Certificate.{At, AllAt, no-terms, one-term, Literal, Yes, No, Clause, Sign, Plain, Negated, NumberedLiteral, State, Reads, reads-plain, reads-negated, Constrains, not-less, not-at-most, less, at-most, equals}
 use Rattle.cs_certificate.specs.Linear.{Relation, AtMostZero, BelowZero, IsZero, Constraint}
 use Rattle.cs_nodes.specs.Nodes.{Node, Represents}
 use Rattle.cs_nodes.specs.Steps.{Names, names-yes, names-no}
@@ -32,8 +32,8 @@ pub record Compared (s : State) (l : NumberedLiteral) (b : Bound) : Type 0 where
 
 -- the same names, of one literal
 pub names_one : (s : State) (l : NumberedLiteral) (x : Literal) (ls : List NumberedLiteral) (c : Clause) → Reads s l x → Names s.terms ls c → Names s.terms (l ∷ ls) (x ∷ c)
-names_one s _ _ ls c (plain at h) n = names-yes at n
-names_one s _ _ ls c (negation at h) n = names-no at n
+names_one s _ _ ls c (reads-plain at h) n = names-yes at n
+names_one s _ _ ls c (reads-negated at h) n = names-no at n
 
 module _ (nodes : List Node) (s : State) (r : Represents nodes s.terms) where
   -- a numbered comparison is Bool
@@ -48,19 +48,19 @@ module _ (nodes : List Node) (s : State) (r : Represents nodes s.terms) where
   compared : (sign : Sign) (k : ℕ) (o : Operator) (t u : Term) (i j : ℕ) (b : Bound) → At s.terms k (Binary o t u) → At s.terms i t → At s.terms j u → comparison sign (BinaryHead o) i j ≡ Some b → Compared s record { sign = sign; number = k } b
   compared Plain k Less t u i j b at p q e =
       let is = some_is e in
-      subst (Compared s record { sign = Plain; number = k }) is record { literal = Yes (Binary Less t u); left = u; right = t; its_left = q; its_right = p; is_read = plain at (bool_at k (Binary Less t u) at refl); constrains = not-less t u }
+      subst (Compared s record { sign = Plain; number = k }) is record { literal = Yes (Binary Less t u); left = u; right = t; its_left = q; its_right = p; is_read = reads-plain at (bool_at k (Binary Less t u) at refl); constrains = not-less t u }
   compared Plain k LessEqual t u i j b at p q e =
       let is = some_is e in
-      subst (Compared s record { sign = Plain; number = k }) is record { literal = Yes (Binary LessEqual t u); left = u; right = t; its_left = q; its_right = p; is_read = plain at (bool_at k (Binary LessEqual t u) at refl); constrains = not-at-most t u }
+      subst (Compared s record { sign = Plain; number = k }) is record { literal = Yes (Binary LessEqual t u); left = u; right = t; its_left = q; its_right = p; is_read = reads-plain at (bool_at k (Binary LessEqual t u) at refl); constrains = not-at-most t u }
   compared Negated k Less t u i j b at p q e =
       let is = some_is e in
-      subst (Compared s record { sign = Negated; number = k }) is record { literal = No (Binary Less t u); left = t; right = u; its_left = p; its_right = q; is_read = negation at (bool_at k (Binary Less t u) at refl); constrains = less t u }
+      subst (Compared s record { sign = Negated; number = k }) is record { literal = No (Binary Less t u); left = t; right = u; its_left = p; its_right = q; is_read = reads-negated at (bool_at k (Binary Less t u) at refl); constrains = less t u }
   compared Negated k LessEqual t u i j b at p q e =
       let is = some_is e in
-      subst (Compared s record { sign = Negated; number = k }) is record { literal = No (Binary LessEqual t u); left = t; right = u; its_left = p; its_right = q; is_read = negation at (bool_at k (Binary LessEqual t u) at refl); constrains = at-most t u }
+      subst (Compared s record { sign = Negated; number = k }) is record { literal = No (Binary LessEqual t u); left = t; right = u; its_left = p; its_right = q; is_read = reads-negated at (bool_at k (Binary LessEqual t u) at refl); constrains = at-most t u }
   compared Negated k Equal t u i j b at p q e =
       let is = some_is e in
-      subst (Compared s record { sign = Negated; number = k }) is record { literal = No (equal t u); left = t; right = u; its_left = p; its_right = q; is_read = negation at (bool_at k (equal t u) at refl); constrains = equals t u }
+      subst (Compared s record { sign = Negated; number = k }) is record { literal = No (equal t u); left = t; right = u; its_left = p; its_right = q; is_read = reads-negated at (bool_at k (equal t u) at refl); constrains = equals t u }
   compared Plain k And t u i j b at p q e = cc
   compared Plain k Or t u i j b at p q e = cc
   compared Plain k Implies t u i j b at p q e = cc
@@ -163,18 +163,18 @@ module _ (nodes : List Node) (s : State) (r : Represents nodes s.terms) where
     pub its_bound : bound_at nodes l ≡ Some (bound i j c.relation)
 
   pub found_by : (l : NumberedLiteral) (x : Literal) (c : Constraint) → Reads s l x → Constrains x c → Found l c
-  found_by _ _ _ (plain {n = k} at h) (not-less t u) =
+  found_by _ _ _ (reads-plain {n = k} at h) (not-less t u) =
       let f = number_of_comparison Plain k Less t u AtMostZero at (λ i j p q. (_, refl)) in
       record { i = f.1; j = f.0; its_left = f.3; its_right = f.2; its_bound = f.4 }
-  found_by _ _ _ (plain {n = k} at h) (not-at-most t u) =
+  found_by _ _ _ (reads-plain {n = k} at h) (not-at-most t u) =
       let f = number_of_comparison Plain k LessEqual t u BelowZero at (λ i j p q. (_, refl)) in
       record { i = f.1; j = f.0; its_left = f.3; its_right = f.2; its_bound = f.4 }
-  found_by _ _ _ (negation {n = k} at h) (less t u) =
+  found_by _ _ _ (reads-negated {n = k} at h) (less t u) =
       let f = number_of_comparison Negated k Less t u BelowZero at (λ i j p q. (_, refl)) in
       record { i = f.0; j = f.1; its_left = f.2; its_right = f.3; its_bound = f.4 }
-  found_by _ _ _ (negation {n = k} at h) (at-most t u) =
+  found_by _ _ _ (reads-negated {n = k} at h) (at-most t u) =
       let f = number_of_comparison Negated k LessEqual t u AtMostZero at (λ i j p q. (_, refl)) in
       record { i = f.0; j = f.1; its_left = f.2; its_right = f.3; its_bound = f.4 }
-  found_by _ _ _ (negation {n = k} at h) (equals t u) =
+  found_by _ _ _ (reads-negated {n = k} at h) (equals t u) =
       let f = number_of_comparison Negated k Equal t u IsZero at (λ i j p q. (_, refl)) in
       record { i = f.0; j = f.1; its_left = f.2; its_right = f.3; its_bound = f.4 }

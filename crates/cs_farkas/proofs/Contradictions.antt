@@ -5,14 +5,14 @@ use Rattle.std.specs.List.{list_all, list_any}
 use Rattle.std.proofs.lemmas.Int.{ints}
 use Rattle.std.proofs.lemmas.List.{length-replicate}
 use borrow.Author.Differences.{up, down, lt-true, lt_in}
-use Rattle.vx_frac.specs.Fractions.{Fraction, none, whole}
+use Rattle.vx_frac.specs.Fractions.{Fraction, none, full, whole}
 use Rattle.vx_frac.proofs.Sums.{equal_ints}
 use Rattle.vx_terms.specs.Sorts.{Sort, IntSort, BoolSort, RealSort, RefSort, SnapSort, OtherSort, same_sort}
 use Rattle.vx_terms.specs.Terms.{Term, same}
 use Rattle.vx_terms.specs.Interpretations.{Each}
 use Rattle.vx_terms.proofs.Same.{int_is, sort_is, and_parts}
 use Rattle.cs_certificate.specs.Certificate.{At, Contains, IsStrict, IsContradiction}
-use Rattle.cs_certificate.specs.Linear.{one, minus_one, Relation, AtMostZero, BelowZero, IsZero, Multiple, Row, Column, Total, linear, read, add_rows, add_parts, combination}
+use Rattle.cs_certificate.specs.Linear.{minus_one, Relation, AtMostZero, BelowZero, IsZero, Multiple, Row, Column, Total, linear, read, add_rows, add_parts, combination}
 use Rattle.cs_certificate.specs.Linear as linear
 use Rattle.cs_certificate.proofs.Fractions.{Eq, eq_refl}
 use Rattle.cs_certificate.proofs.Numbers.{from_T}
@@ -39,7 +39,7 @@ module _ (nodes : List Node) (terms : List Term) (r : Represents nodes terms) (m
   raised_fine : (a : Sort) (i j : ℕ) (g : Relation) (m : Fraction) (s : Sums) (total : Total) → Agrees terms s total →
       Fine (λ s'. Agrees terms s' (add_parts m total (linear.one_more a g))) (one_more a record { bound = bound i j g; multiplier = m } s)
   raised_fine IntSort i j AtMostZero m s total h = h
-  raised_fine IntSort i j BelowZero m s total h = constant_fine terms m one one s total (eq_refl one) h
+  raised_fine IntSort i j BelowZero m s total h = constant_fine terms m full full s total (eq_refl full) h
   raised_fine IntSort i j IsZero m s total h = h
   raised_fine BoolSort i j g m s total h = h
   raised_fine RealSort i j g m s total h = h
@@ -50,14 +50,14 @@ module _ (nodes : List Node) (terms : List Term) (r : Represents nodes terms) (m
   part_fine : (a : Sort) (i j : ℕ) (t u : Term) (g : Relation) (m : Fraction) (s : Sums) (total : Total) → At terms i t → At terms j u → Agrees terms s total →
       Fine (λ s'. Agrees terms s' (add_parts m total (read a record { left = t; right = u; relation = g }))) (add_part nodes a record { bound = bound i j g; multiplier = m } s)
   part_fine a i j t u g m s total p w h =
-      let left : List Multiple = linear one t in
+      let left : List Multiple = linear full t in
       let right : List Multiple = linear minus_one u in
       let rest : List Multiple = linear.one_more a g in
       let whole_is : add_parts m total (read a record { left = t; right = u; relation = g }) ≡ add_parts m (add_parts m (add_parts m total left) right) rest =
       append_parts m total (left ++ right) rest ∙ ap (λ x. add_parts m x rest) (append_parts m total left right) in
       subst (λ x. Fine (λ s'. Agrees terms s' x) (add_part nodes a record { bound = bound i j g; multiplier = m } s)) (sym whole_is)
-      (fine_then (λ s'. Agrees terms s' (add_parts m total left)) (λ s'. Agrees terms s' (add_parts m (add_parts m (add_parts m total left) right) rest)) (read_term nodes (length nodes) m one i s) _
-      (reads nodes terms r m (length nodes) t i one one s total p h (eq_refl one) (enough t))
+      (fine_then (λ s'. Agrees terms s' (add_parts m total left)) (λ s'. Agrees terms s' (add_parts m (add_parts m (add_parts m total left) right) rest)) (read_term nodes (length nodes) m full i s) _
+      (reads nodes terms r m (length nodes) t i full full s total p h (eq_refl full) (enough t))
       (λ x k. fine_then (λ s'. Agrees terms s' (add_parts m (add_parts m total left) right)) (λ s'. Agrees terms s' (add_parts m (add_parts m (add_parts m total left) right) rest)) (read_term nodes (length nodes) m minus_one j x) _
       (reads nodes terms r m (length nodes) u j minus_one minus_one x (add_parts m total left) w k (eq_refl minus_one) (enough u))
       (λ y l. raised_fine a i j g m y (add_parts m (add_parts m total left) right) l)))

@@ -9,3 +9,4 @@ pub mod Contradictions
 pub mod Bounds
 pub mod Matches
 pub mod Decided
+pub mod Widths

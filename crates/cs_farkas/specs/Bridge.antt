@@ -17,3 +17,7 @@ abbrev pub FarkasByNumber : Type 0
 FarkasByNumber =
     (nodes : List Node) (s : State) (stack : Stack) (width : ℕ) → Represents nodes s.terms → length nodes ≤ width →
     (ls : List NumberedLiteral) (ms : List Fraction) → Decides s stack ls ms (farkas_clause nodes width ls ms)
+
+-- columns beyond those of the numbered terms change nothing
+abbrev pub AnyWidth : Type 0
+AnyWidth = (nodes : List Node) (width : ℕ) → length nodes ≤ width → (ls : List NumberedLiteral) (ms : List Fraction) → farkas_clause nodes width ls ms ≡ farkas_clause nodes (length nodes) ls ms

@@ -2,10 +2,10 @@
 use Rattle.std.specs.Prelude.{ℕ, pos, Bool, true, false, ◌&&◌, ◌||◌, if◌then◌else◌, List, [], ◌∷◌, Option, Some, None, length, slice_get, replicate, int_lt, int_le}
 use Rattle.std.specs.List.{list_all, list_any}
 use Rattle.std.specs.Ordering.{int_eq}
-use Rattle.vx_frac.specs.Fractions.{Fraction, none}
+use Rattle.vx_frac.specs.Fractions.{Fraction, none, full}
 use Rattle.vx_terms.specs.Sorts.{Sort, IntSort, RealSort, Equal, Less, LessEqual, same_sort}
 use Rattle.cs_certificate.specs.Terms.{Head, BinaryHead}
-use Rattle.cs_certificate.specs.Linear.{one, minus_one, Relation, AtMostZero, BelowZero, IsZero}
+use Rattle.cs_certificate.specs.Linear.{minus_one, Relation, AtMostZero, BelowZero, IsZero}
 use Rattle.cs_certificate.specs.Certificate.{Sign, Plain, Negated, NumberedLiteral}
 use Rattle.cs_nodes.specs.Nodes.{Node}
 use Rattle.cs_farkas.specs.Sums.{Outcome, Done, Misses, Sums, ◌>>=◌, read_term, add_constant}
@@ -80,11 +80,11 @@ is_raised IntSort BelowZero = true
 is_raised s r = false
 
 abbrev pub one_more : Sort → Part → Sums → Outcome Sums
-one_more a p s = if is_raised a p.bound.relation then add_constant p.multiplier one s else Done s
+one_more a p s = if is_raised a p.bound.relation then add_constant p.multiplier full s else Done s
 
 abbrev pub add_part : List Node → Sort → Part → Sums → Outcome Sums
 add_part nodes a p s =
-    read_term nodes (length nodes) p.multiplier one p.bound.left s >>= λ left.
+    read_term nodes (length nodes) p.multiplier full p.bound.left s >>= λ left.
     (read_term nodes (length nodes) p.multiplier minus_one p.bound.right left >>= one_more a p)
 
 abbrev pub add_all : List Node → Sort → List Part → Sums → Outcome Sums

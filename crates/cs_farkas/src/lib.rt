@@ -1,7 +1,7 @@
 //! Sums of constraints in code: each with its multiplier, to a contradiction.
 #![tactic(auto)]
 
-ghost use Rattle.cs_farkas.specs.Bridge.{FarkasByNumber};
+ghost use Rattle.cs_farkas.specs.Bridge.{FarkasByNumber, AnyWidth};
 ghost use Rattle.cs_farkas.specs.Examples.{Examples};
 
 mod calls;
@@ -20,7 +20,8 @@ pub use sums::Sums;
 
 /// The outcome of a `farkas` step by numbers is decided by its rule, and by the fractions that it meets.
 pub fn farkas_by_number()
-    ensures { FarkasByNumber }
+    ensures decided { FarkasByNumber }
+    ensures width { AnyWidth }
 {}
 
 /// Sums that are a contradiction, that aren't, and that leave 128 bits.

@@ -10,7 +10,8 @@ use Rattle.cs_hints.specs.declared.Literal.{Literal}
 use Rattle.cs_hints.specs.declared.Left.{Left}
 use Rattle.cs_hints.specs.declared.Left.TheVariants.{Nothing, One, Many}
 use Rattle.cs_hints.specs.declared.Clause.{Clause}
-use Rattle.cs_hints.specs.Hints.{same_bool, same_literal, opposite, denied, with, left, after, at_hint, refutes}
+use Rattle.vx_terms.specs.Terms.{same_bool}
+use Rattle.cs_hints.specs.Hints.{same_literal, opposite, denied, with, left, after, at_hint, refutes}
 use Rattle.cs_hints.specs.Bridge.{term_at, signed, view, views, state, IsNumbered, AreDistinct, Law, Converse}
 
 some_eq : {A : Type 0} {x y : A} → Some x ≡ Some y → x ≡ y

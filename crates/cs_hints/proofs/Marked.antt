@@ -7,7 +7,8 @@ use Rattle.cs_hints.specs.declared.Literal.{Literal}
 use Rattle.cs_hints.specs.declared.Left.{Left}
 use Rattle.cs_hints.specs.declared.Left.TheVariants.{Nothing, One}
 use Rattle.cs_hints.specs.declared.marks.Marks.{Marks}
-use Rattle.cs_hints.specs.Hints.{same_bool, same_literal, opposite, denied, with, left}
+use Rattle.vx_terms.specs.Terms.{same_bool}
+use Rattle.cs_hints.specs.Hints.{same_literal, opposite, denied, with, left}
 use Rattle.cs_hints.specs.Marks.{is_marked, flip, AreMarked, left_by, IsBelow}
 use Rattle.cs_hints.proofs.Bridged.{one_left}
 

@@ -1,13 +1,10 @@
 -- Hints that lead from what is assumed to a clause that leaves nothing.
 use Rattle.std.specs.Prelude.{ℕ, Bool, true, false, not, cond, nat_eq, ◌&&◌, ◌||◌, List, [], ◌∷◌, ◌++◌, Option, Some, None, slice_get}
+use Rattle.vx_terms.specs.Terms.{same_bool}
 use Rattle.cs_hints.specs.declared.Literal.{Literal}
 use Rattle.cs_hints.specs.declared.Left.{Left}
 use Rattle.cs_hints.specs.declared.Left.TheVariants.{Nothing, One, Many}
 use Rattle.cs_hints.specs.declared.Clause.{Clause}
-
-abbrev pub same_bool : Bool → Bool → Bool
-same_bool true b = b
-same_bool false b = not b
 
 abbrev pub same_literal : Literal → Literal → Bool
 same_literal a b = nat_eq a.number b.number && same_bool a.positive b.positive

@@ -6,7 +6,8 @@ use Rattle.vx_terms.specs.Terms.{Term}
 use Rattle.vx_terms.proofs.Same.{and_parts}
 use Rattle.cs_certificate.specs.Terms.{Head, head, parts}
 use Rattle.cs_certificate.specs.Certificate.{At, AllAt, no-terms, one-term}
-use Rattle.cs_nodes.specs.Nodes.{Node, Represents, same_head, same_numbers, is_node, number_of}
+use Rattle.vx_terms.specs.Sorts.{same_text}
+use Rattle.cs_nodes.specs.Nodes.{Node, Represents, same_head, is_node, number_of}
 use Rattle.cs_nodes.proofs.Heads.{one_term, head_is, head_same, numbers_are, numbers_same}
 
 pub one_at : {A : Type 0} (xs : List A) (n : ℕ) (x y : A) → At xs n x → At xs n y → x ≡ y
@@ -75,7 +76,7 @@ finds nodes terms r h ps k t a o =
     let heads : h ≡ (n.0).head = sym o.its_head ∙ sym (ap head is) ∙ (s.2).same_head in
     let numbers : ps ≡ (n.0).parts = all_one terms r.distinct ps (n.0).parts o.its_parts (subst (λ x. AllAt terms (n.0).parts (parts x)) is (s.2).same_parts) in
     let test : is_node h ps n.0 ≡ true =
-    ap₂ (λ x y. same_head h x && same_numbers ps y) (sym heads) (sym numbers) ∙ both (same_head h h) (same_numbers ps ps) (head_same h) (numbers_same ps) in
+    ap₂ (λ x y. same_head h x && same_text ps y) (sym heads) (sym numbers) ∙ both (same_head h h) (same_text ps ps) (head_same h) (numbers_same ps) in
     let j = finds_node nodes h ps k n.0 n.1 test in
     let f = found nodes terms r h ps j.0 j.1 in
     j.1 ∙ ap Some (r.distinct j.0 k t (subst (λ x. At terms j.0 x) (same_over terms h ps f.0 t f.2 o) f.1) a)

@@ -5,7 +5,7 @@ use Rattle.vx_terms.specs.Terms.{Term, Truth, Number, Part, Constant, Apply, Not
 use Rattle.vx_terms.proofs.Same.{and_parts, int_is, int_same, bool_is, fraction_is, sort_is, symbol_is, operator_is}
 use Rattle.vx_terms.proofs.Values.{bool_same, fraction_same}
 use Rattle.cs_certificate.specs.Terms.{Head, TruthHead, NumberHead, PartHead, ConstantHead, ApplyHead, BinaryHead, NotHead, IteHead, AllHead, SomeHead, head, items, parts}
-use Rattle.cs_nodes.specs.Nodes.{same_head, same_numbers}
+use Rattle.cs_nodes.specs.Nodes.{same_head}
 
 abbrev from_items : List Term → Terms
 from_items [] = NoTerms
@@ -92,12 +92,12 @@ head_same IteHead = refl
 head_same AllHead = refl
 head_same SomeHead = refl
 
-pub numbers_are : (ms ns : List ℕ) → same_numbers ms ns ≡ true → ms ≡ ns
+pub numbers_are : (ms ns : List ℕ) → same_text ms ns ≡ true → ms ≡ ns
 numbers_are [] [] e = refl
 numbers_are (m ∷ ms) (n ∷ ns) e = let p = and_parts _ _ e in ap₂ (λ k ks. k ∷ ks) (eqb-true m n p.0) (numbers_are ms ns p.1)
 numbers_are [] (n ∷ ns) e = cc
 numbers_are (m ∷ ms) [] e = cc
 
-pub numbers_same : (ns : List ℕ) → same_numbers ns ns ≡ true
+pub numbers_same : (ns : List ℕ) → same_text ns ns ≡ true
 numbers_same [] = refl
 numbers_same (n ∷ ns) = and_true _ _ (eq-eqb n n refl) (numbers_same ns)

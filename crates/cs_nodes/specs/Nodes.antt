@@ -1,8 +1,8 @@
 -- Terms by their numbers: each is a head over the numbers of its parts.
-use Rattle.std.specs.Prelude.{◌≡◌, ℕ, suc, Bool, true, false, ◌&&◌, nat_eq, nat_lt, if◌then◌else◌, List, [], ◌∷◌, Option, Some, None}
+use Rattle.std.specs.Prelude.{◌≡◌, ℕ, suc, Bool, true, false, ◌&&◌, nat_lt, if◌then◌else◌, List, [], ◌∷◌, Option, Some, None}
 use Rattle.std.specs.Option.{option_map}
 use Rattle.std.specs.Ordering.{int_eq}
-use Rattle.vx_terms.specs.Sorts.{Sort, Equal, same_symbol, same_sort, same_operator}
+use Rattle.vx_terms.specs.Sorts.{Sort, Equal, same_text, same_symbol, same_sort, same_operator}
 use Rattle.vx_terms.specs.Terms.{Term, same_bool, identical}
 use Rattle.cs_certificate.specs.Terms.{Head, TruthHead, NumberHead, PartHead, ConstantHead, ApplyHead, BinaryHead, NotHead, IteHead, AllHead, SomeHead, head, parts, HasSort}
 use Rattle.cs_certificate.specs.Certificate.{At, AllAt}
@@ -37,13 +37,8 @@ same_head AllHead AllHead = true
 same_head SomeHead SomeHead = true
 same_head _ _ = false
 
-abbrev pub same_numbers : List ℕ → List ℕ → Bool
-same_numbers [] [] = true
-same_numbers (m ∷ ms) (n ∷ ns) = nat_eq m n && same_numbers ms ns
-same_numbers _ _ = false
-
 abbrev pub is_node : Head → List ℕ → Node → Bool
-is_node h ps n = same_head h n.head && same_numbers ps n.parts
+is_node h ps n = same_head h n.head && same_text ps n.parts
 
 -- the number of the term with this head over these parts
 abbrev pub number_of : List Node → Head → List ℕ → Option ℕ

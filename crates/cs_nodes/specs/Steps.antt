@@ -3,19 +3,14 @@ use Rattle.std.specs.Prelude.{◌≡◌, ℕ, zero, suc, ℤ, pos, ◌+ℤ◌, u
 use Rattle.vx_terms.specs.Sorts.{Sort, IntSort, BoolSort, RealSort, Operator, And, Or, Implies, Equal, Less, LessEqual, Add, Multiply, Div, Mod, same_sort}
 use Rattle.vx_terms.specs.Terms.{Term}
 use Rattle.cs_certificate.specs.Terms.{Head, TruthHead, NumberHead, BinaryHead, NotHead, IteHead, AllHead, SomeHead}
-use Rattle.cs_certificate.specs.Certificate.{At, Clause, Yes, No, NumberedLiteral, Plain, Negated, Step, Define, Chain, Congruence, Pick, Split, Trichotomy, Divide, Stack, State, Derives}
+use Rattle.cs_certificate.specs.Certificate.{At, Clause, Yes, No, NumberedLiteral, Step, Define, Chain, Congruence, Pick, Split, Trichotomy, Divide, Stack, State, Derives}
+pub use Rattle.cs_certificate.specs.Certificate.{plain, denial}
 use Rattle.cs_nodes.specs.Nodes.{Node, Represents, same_head, number_of, equality}
 
 infixl 10 ◌>>=◌
 abbrev pub ◌>>=◌ : {A B : Type 0} → Option A → (A → Option B) → Option B
 (Some x) >>= f = f x
 None >>= f = None
-
-abbrev pub plain : ℕ → NumberedLiteral
-plain n = record { sign = Plain; number = n }
-
-abbrev pub denial : ℕ → NumberedLiteral
-denial n = record { sign = Negated; number = n }
 
 -- the numbered literals are those of the clause
 pub data Names (terms : List Term) : List NumberedLiteral → Clause → Type 0 where

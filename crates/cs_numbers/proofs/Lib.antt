@@ -3,3 +3,4 @@ pub mod Added
 pub mod Walks
 pub mod Numbered
 pub mod Tables
+pub mod Looked

@@ -1,3 +1,5 @@
+pub mod Keys
+pub mod Listed
 pub mod Numbering
 pub mod Laws
 pub mod Examples

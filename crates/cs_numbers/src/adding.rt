@@ -2,27 +2,26 @@
 ghost use Rattle.std.specs.Prelude.{◌≡◌, map, IfOk, [], reverse};
 ghost use Rattle.vx_terms.specs.Views.{term, terms};
 ghost use Rattle.cs_certificate.specs.Terms.{subterms, all_subterms, parts_of};
+ghost use Rattle.cs_numbers.specs.Listed.{terms_in};
 ghost use Rattle.cs_numbers.specs.Numbering.{has, with_one, added};
 
+use crate::NumberedTerms;
+use crate::table::place;
 use std::alloc::{AllocError, Global};
 use std::rc::Rc;
 use vx_terms::{Term, Terms};
 
 /// Whether a term has a number.
-fn has(all: &[Rc<Term>], t: &Term) -> bool
-    ensures { result ≡ has (map (λ x. term x.value) all.now) (term t.now) }
+#[tactic(auto, using(crate::proofs::Looked::has_placed))]
+fn has(all: &NumberedTerms, t: &Term) -> bool
+    ensures { result ≡ has (terms_in all.now) (term t.now) }
 {
-    for other in all {
-        if t.is_same(other) {
-            return true;
-        }
-    }
-    false
+    place(all, t).is_some()
 }
 
 /// A term that has no number yet gets the next one.
-fn add_one(all: &mut Vec<Rc<Term>>, t: &Rc<Term>) -> Result<(), AllocError>
-    ensures { IfOk result (λ u. map (λ x. term x.value) all.new.items ≡ with_one (map (λ x. term x.value) all.old.items) (term t.now.value)) }
+fn add_one(all: &mut NumberedTerms, t: &Rc<Term>) -> Result<(), AllocError>
+    ensures { IfOk result (λ u. terms_in all.new ≡ with_one (terms_in all.old) (term t.now.value)) }
 {
     if has(all, t) {
         return Ok(());
@@ -34,8 +33,8 @@ fn add_one(all: &mut Vec<Rc<Term>>, t: &Rc<Term>) -> Result<(), AllocError>
 /// Numbers a term and its parts, where they have no numbers yet.
 #[cycle(adding)]
 #[tactic(auto, using(crate::proofs::Added::added_append))]
-pub fn add(all: &mut Vec<Rc<Term>>, t: &Rc<Term>) -> Result<(), AllocError>
-    ensures { IfOk result (λ u. map (λ x. term x.value) all.new.items ≡ added (map (λ x. term x.value) all.old.items) (subterms (term t.now.value))) }
+pub fn add(all: &mut NumberedTerms, t: &Rc<Term>) -> Result<(), AllocError>
+    ensures { IfOk result (λ u. terms_in all.new ≡ added (terms_in all.old) (subterms (term t.now.value))) }
 {
     add_one(all, t)?;
     match &**t {
@@ -57,8 +56,8 @@ pub fn add(all: &mut Vec<Rc<Term>>, t: &Rc<Term>) -> Result<(), AllocError>
 /// Numbers the parts of an application.
 #[cycle(adding)]
 #[tactic(auto, using(crate::proofs::Added::added_append))]
-fn add_list(all: &mut Vec<Rc<Term>>, parts: &Rc<Terms>) -> Result<(), AllocError>
-    ensures { IfOk result (λ u. map (λ x. term x.value) all.new.items ≡ added (map (λ x. term x.value) all.old.items) (all_subterms (terms parts.now.value))) }
+fn add_list(all: &mut NumberedTerms, parts: &Rc<Terms>) -> Result<(), AllocError>
+    ensures { IfOk result (λ u. terms_in all.new ≡ added (terms_in all.old) (all_subterms (terms parts.now.value))) }
 {
     match &**parts {
         Terms::None => Ok(()),
@@ -71,10 +70,10 @@ fn add_list(all: &mut Vec<Rc<Term>>, parts: &Rc<Terms>) -> Result<(), AllocError
 
 /// The numbered terms of some assertions, in order.
 #[tactic(auto, using(crate::proofs::Added::added_append))]
-pub fn number(alloc: Global, assertions: &[Rc<Term>]) -> Result<Vec<Rc<Term>>, AllocError>
-    ensures { IfOk result (λ v. map (λ x. term x.value) v.items ≡ added [] (parts_of (map (λ x. term x.value) assertions.now))) }
+pub fn number(alloc: Global, assertions: &[Rc<Term>]) -> Result<NumberedTerms, AllocError>
+    ensures { IfOk result (λ n. terms_in n ≡ added [] (parts_of (map (λ x. term x.value) assertions.now))) }
 {
-    let mut all = Vec::new(alloc);
+    let mut all = NumberedTerms::new(alloc)?;
     for assertion in assertions {
         add(&mut all, assertion)?;
     }

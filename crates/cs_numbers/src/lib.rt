@@ -5,10 +5,13 @@ ghost use Rattle.cs_numbers.specs.Laws.{Numbers, NumbersMore, Tabulates, InputBy
 ghost use Rattle.cs_numbers.specs.Examples.{Examples};
 
 mod adding;
+mod key;
 mod table;
+mod terms;
 
 pub use adding::{add, number};
 pub use table::{node_of, nodes_of, place_of};
+pub use terms::NumberedTerms;
 
 /// Numbers are given as certificates number terms.
 pub fn numbers_are_given()

@@ -1,32 +1,45 @@
 //! The nodes of numbered terms.
-ghost use Rattle.std.specs.Prelude.{◌≡◌, ◌<◌, ◌^◌, ◌++◌, length, map, IfOk, Some, [], ◌∷◌};
+ghost use Rattle.std.specs.Prelude.{◌≡◌, ◌++◌, map, IfOk, Some, [], ◌∷◌};
 ghost use Rattle.vx_terms.specs.Views.{term, terms, sort};
 ghost use Rattle.cs_certificate.specs.Terms.{head, items, parts};
 ghost use Rattle.cs_table.specs.Views as views;
 ghost use Rattle.cs_table.specs.Gives.{Gives};
+ghost use Rattle.cs_index.specs.Found.{passes_at};
+ghost use Rattle.vx_terms.specs.Terms.{same};
+ghost use Rattle.cs_numbers.specs.Listed.{terms_in};
 ghost use Rattle.cs_numbers.specs.Numbering as clean;
 
+use crate::NumberedTerms;
+use crate::key::key;
 use cs_table::{Head, Node, Stop};
 use std::alloc::{AllocError, Global};
 use std::rc::Rc;
 use vx_terms::{Term, Terms};
 
-/// The number of a term.
-fn place(all: &[Rc<Term>], t: &Term) -> Option<u32>
-    requires { length all.now < 2 ^ 32 }
-    ensures { result ≡ clean.place (map (λ x. term x.value) all.now) (term t.now) }
+/// Whether a term has this number.
+fn is_at(all: &[Rc<Term>], number: u32, t: &Term) -> bool
+    ensures { result ≡ passes_at (same (term t.now)) (map (λ x. term x.value) all.now) number }
 {
-    for (at, other) in all.iter().enumerate() {
-        if t.is_same(other) {
-            return Some(at as u32);
+    match all.get(number as usize) {
+        Some(other) => t.is_same(other),
+        None => false,
+    }
+}
+
+/// The number of a term.
+pub fn place(all: &NumberedTerms, t: &Term) -> Option<u32>
+    ensures { result ≡ clean.place (terms_in all.now) (term t.now) }
+{
+    for number in all.index.under(key(t)) {
+        if is_at(&all.terms, *number, t) {
+            return Some(*number);
         }
     }
     None
 }
 
-pub fn place_of(all: &[Rc<Term>], t: &Term) -> Result<u32, Stop>
-    requires { length all.now < 2 ^ 32 }
-    ensures { Gives (λ n. n) result (clean.place (map (λ x. term x.value) all.now) (term t.now)) }
+pub fn place_of(all: &NumberedTerms, t: &Term) -> Result<u32, Stop>
+    ensures { Gives (λ n. n) result (clean.place (terms_in all.now) (term t.now)) }
 {
     match place(all, t) {
         Some(number) => Ok(number),
@@ -62,9 +75,8 @@ fn three(alloc: Global, a: u32, b: u32, c: u32) -> Result<Vec<u32>, Stop>
 }
 
 /// The numbers of the parts of an application, behind those that are there.
-fn places_after(numbers: Vec<u32>, all: &[Rc<Term>], parts: &Terms) -> Result<Vec<u32>, Stop>
-    requires { length all.now < 2 ^ 32 }
-    ensures { Gives (λ v. v.items) result (clean.places_after numbers.items (map (λ x. term x.value) all.now) (items (terms parts.now))) }
+fn places_after(numbers: Vec<u32>, all: &NumberedTerms, parts: &Terms) -> Result<Vec<u32>, Stop>
+    ensures { Gives (λ v. v.items) result (clean.places_after numbers.items (terms_in all.now) (items (terms parts.now))) }
 {
     let mut numbers = numbers;
     match parts {
@@ -78,9 +90,8 @@ fn places_after(numbers: Vec<u32>, all: &[Rc<Term>], parts: &Terms) -> Result<Ve
 }
 
 /// The numbers of a term's parts.
-fn places(alloc: Global, all: &[Rc<Term>], t: &Term) -> Result<Vec<u32>, Stop>
-    requires { length all.now < 2 ^ 32 }
-    ensures { Gives (λ v. v.items) result (clean.places (map (λ x. term x.value) all.now) (parts (term t.now))) }
+fn places(alloc: Global, all: &NumberedTerms, t: &Term) -> Result<Vec<u32>, Stop>
+    ensures { Gives (λ v. v.items) result (clean.places (terms_in all.now) (parts (term t.now))) }
 {
     match t {
         Term::Truth(_) | Term::Number(_) | Term::Part(_) | Term::Constant(_, _) => {
@@ -122,9 +133,8 @@ fn head_of(t: &Term) -> Result<Head, AllocError>
 }
 
 /// The node of a term.
-pub fn node_of(alloc: Global, all: &[Rc<Term>], t: &Term) -> Result<Node, Stop>
-    requires { length all.now < 2 ^ 32 }
-    ensures { Gives views.node result (clean.node_of (map (λ x. term x.value) all.now) (term t.now)) }
+pub fn node_of(alloc: Global, all: &NumberedTerms, t: &Term) -> Result<Node, Stop>
+    ensures { Gives views.node result (clean.node_of (terms_in all.now) (term t.now)) }
 {
     let parts = places(alloc, all, t)?;
     let head = head_of(t)?;
@@ -133,12 +143,11 @@ pub fn node_of(alloc: Global, all: &[Rc<Term>], t: &Term) -> Result<Node, Stop>
 }
 
 /// The nodes of numbered terms.
-pub fn nodes_of(alloc: Global, all: &[Rc<Term>]) -> Result<Vec<Node>, Stop>
-    requires { length all.now < 2 ^ 32 }
-    ensures { Gives (λ v. views.nodes v.items) result (clean.nodes_of (map (λ x. term x.value) all.now) (map (λ x. term x.value) all.now)) }
+pub fn nodes_of(alloc: Global, all: &NumberedTerms) -> Result<Vec<Node>, Stop>
+    ensures { Gives (λ v. views.nodes v.items) result (clean.nodes_of (terms_in all.now) (terms_in all.now)) }
 {
     let mut nodes = Vec::new(alloc);
-    for t in all {
+    for t in &all.terms {
         nodes.push(node_of(alloc, all, t)?)?;
     }
     Ok(nodes)

@@ -1,6 +1,6 @@
 //! The numbers of `a = b`, `b = c` and not `g a = g c`, and of `a = c` behind them.
 
-use crate::{add, nodes_of, number};
+use crate::{NumberedTerms, add, nodes_of, number};
 use cs_table::Head;
 use std::alloc::{AllocError, Global};
 use std::rc::Rc;
@@ -15,7 +15,7 @@ fn applied(alloc: Global, to: &Rc<Term>) -> Result<Rc<Term>, AllocError> {
 }
 
 /// The numbered terms of the assertions and of `a = c`.
-fn numbered(alloc: Global) -> Result<Vec<Rc<Term>>, AllocError> {
+fn numbered(alloc: Global) -> Result<NumberedTerms, AllocError> {
     let a = variable(alloc, 0, Sort::Ref)?;
     let b = variable(alloc, 1, Sort::Ref)?;
     let c = variable(alloc, 2, Sort::Ref)?;
@@ -35,10 +35,7 @@ fn terms_are_numbered_before_their_parts(rt: HostRuntime) {
     let Ok(all) = numbered(alloc) else {
         return;
     };
-    assert_eq!(rt; all.len(), 10);
-    if all.len() >= 1000 {
-        return;
-    }
+    assert_eq!(rt; all.terms.len(), 10);
     let Ok(nodes) = nodes_of(alloc, &all) else {
         return;
     };

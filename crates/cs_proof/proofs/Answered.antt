@@ -1,40 +1,30 @@
 -- The verdict is the answer.
-use Rattle.std.proofs.Common.{◌≡◌, ℕ, suc, ◌+◌, ◌<◌, ◌≤◌, ◌^◌, Bool, true, false, ◌&&◌, ◌||◌, List, [], ◌∷◌, ◌++◌, Option, Some, None, map, length, take, refl, sym, ◌∙◌, ap, ap₂, subst, arith, append_assoc}
-use Rattle.std.specs.Prelude.{slice_get, if◌then◌else◌}
-use Rattle.std.specs.List.{list_any}
-use Rattle.std.proofs.lemmas.List.{length-append, length-map}
-use Rattle.std.proofs.lemmas.Option.{slice_get-get_or}
+use Rattle.std.proofs.Common.{◌≡◌, ℕ, ◌<◌, ◌≤◌, ◌^◌, Bool, true, false, ◌&&◌, List, [], ◌∷◌, Option, Some, None, length, take, refl, sym, ◌∙◌, ap, subst, arith}
 use Rattle.vx_frac.specs.Fractions.{Fraction}
 use Rattle.vx_terms.specs.Sorts.{Sort}
 use Rattle.vx_terms.specs.Terms.{Term}
 use Rattle.vx_terms.specs.Interpretations.{Each}
-use Rattle.vx_smt_meaning.specs.Commands.{Declared}
 use Rattle.cs_certificate.specs.Terms.{HasSort}
 use Rattle.cs_certificate.specs.Certificate.{Stack, State, start, Clause, At, Contains, NumberedLiteral, Step, Input, NewTerm, Define, Pick, Chain, Congruence, Farkas, Split, Trichotomy, Divide, Propagate, Leads, stays, names, derives, AreLive}
 use Rattle.cs_certificate.specs.Certificate as certificate
-use Rattle.cs_nodes.specs.Nodes.{Node, Represents}
-use Rattle.cs_nodes.specs.Steps.{◌>>=◌, ComputesSteps, ByNumbers}
-use Rattle.cs_nodes.proofs.Chains.{bind_some}
+use Rattle.cs_nodes.specs.Nodes.{Node}
+use Rattle.cs_nodes.specs.Steps.{ComputesSteps}
 use Rattle.cs_numbers.specs.Laws.{IsSorted}
 use Rattle.cs_sorts.specs.Sorting.{sort_in, is_live}
-use Rattle.cs_sorts.specs.Laws.{TellsSorts, TellsLive}
 use Rattle.cs_sorts.proofs.Told.{tells_sorts, tells_live}
-use Rattle.cs_hints.specs.declared.Literal.{Literal}
 use Rattle.cs_hints.specs.declared.Clause.{Clause as Clause'}
-use Rattle.cs_hints.specs.Bridge.{term_at, views, state, IsNumbered, AreDistinct}
+use Rattle.cs_hints.specs.Bridge.{state, IsNumbered, AreDistinct}
 use Rattle.cs_farkas.specs.Sums.{Outcome, Done, Leaves, Misses}
 use Rattle.cs_farkas.specs.Sums as sums
 use Rattle.cs_proof.specs.Prepared.{Duty, Missed, clause_by, derived}
-use Rattle.cs_proof.specs.Plans.{Plans, with_duty, kept, has_sort, is_fine, named_if, planned, planned_all}
-use Rattle.cs_proof.specs.Checking.{Checker, Verdict, Finished, BadStep, Over, NotEmpty, met, after, next, stepped, is_nil, is_empty, closed, verdict}
-use Rattle.cs_proof.specs.Answers.{Meets, IsOver, Holds, none, more, Reaches, Answers}
-use Rattle.cs_proof.proofs.Grown.{Begins, Grows, IsNamed, named_is, planned_grows, all_grows, take_front, drop_front, get_front, one_longer, as_many}
+use Rattle.cs_proof.specs.Plans.{Plans, has_sort, is_fine, named_if, planned}
+use Rattle.cs_proof.specs.Answers.{Meets, IsOver}
+use Rattle.cs_proof.proofs.Grown.{IsNamed, named_is}
 use Rattle.cs_proof.proofs.OfKinds.{IsBare, by_input, by_define, by_pick, by_chain, by_congruence, by_split, by_trichotomy, by_divide}
-use Rattle.cs_proof.proofs.State.{state_of, Stands, represents, as_long, named_stands, named_state}
-use Rattle.cs_proof.proofs.Moves.{Fate, moves, misses, leaves, last_state, none_fate, clause_fate}
+use Rattle.cs_proof.proofs.State.{state_of, Stands, as_long, named_stands, named_state}
+use Rattle.cs_proof.proofs.Moves.{Fate, moves, misses, last_state, none_fate, clause_fate}
 use Rattle.cs_proof.proofs.Sums.{sum_fate}
 use Rattle.cs_proof.proofs.Hinted.{hints_fate}
-use Rattle.cs_proof.proofs.Verdicts.{verdict_stepped, at_end, refused_is}
 
 some_is : {A : Type 0} {x y : A} → Some x ≡ Some y → x ≡ y
 some_is e = cc
@@ -65,7 +55,7 @@ parts_fine : (stack : Stack) (t : Term) (a : Sort) → HasSort t a → AreLive s
 parts_fine stack t a h l = ap (λ o. has_sort o && is_live stack.symbols t) ((tells_sorts t a).1 h) ∙ (tells_live stack t).1 l
 
 module _ (stack : Stack) (roots : List ℕ) (nodes : List Node) (clauses : List Clause') (p : Plans) (h : Stands stack roots p) (t : Term) where
-  over : (o : sums.Over) → IsOver (length nodes) (state_of p) (Some (NewTerm t)) o → ⊥
+  over : (o : sums.Over) → IsOver (state_of p) (Some (NewTerm t)) o → ⊥
   over o w = other w.0 w.1 w.2
     where
       other : (ls : List NumberedLiteral) (ms : List Fraction) → Some (NewTerm t) ≡ Some (Farkas ls ms) → ⊥

@@ -1,28 +1,26 @@
 -- A checker that begins with plans gives their answer.
-use Rattle.std.proofs.Common.{◌≡◌, ℕ, ◌<◌, ◌^◌, List, [], Option, Some, None, map, length, refl, sym, ◌∙◌, ap, subst}
+use Rattle.std.proofs.Common.{◌≡◌, ◌<◌, ◌^◌, List, Option, Some, None, map, length, refl, sym, ◌∙◌, subst}
 use Rattle.std.specs.Prelude.{slice_get, ◌↔◌}
 use Rattle.std.specs.Option.{option_map}
 use Rattle.std.proofs.lemmas.List.{length-map}
 use Rattle.std.proofs.lemmas.Option.{slice_get-map}
-use Rattle.std.specs.declared.rc.Rc.{Rc}
-use Rattle.std.proofs.Common.{Global}
-use Rattle.vx_terms.specs.Terms.{Term, AllOf, SomeOf, Terms}
+use Rattle.vx_terms.specs.Terms.{Term}
 use Rattle.vx_terms.specs.Interpretations.{Each}
 use Rattle.vx_terms.specs.Views.{term}
 use Rattle.vx_terms.specs.declared.term.Term.{Term as Term'}
 use Rattle.vx_terms.specs.declared.term.Term.TheVariants as term'
 use Rattle.cs_table.specs.Views.{nodes}
-use Rattle.cs_certificate.specs.Certificate.{Stack, Contains, Step}
+use Rattle.cs_certificate.specs.Certificate.{Contains, Step}
 use Rattle.cs_numbers.specs.Laws.{IsSorted}
 use Rattle.cs_proof.specs.declared.plans.Plans.{Plans as Plans'}
 use Rattle.cs_proof.specs.declared.stack.Stack.{Stack as Stack'}
 use Rattle.cs_proof.specs.Views.{duty}
 use Rattle.cs_proof.specs.Fits.{stand, seen, Fits}
 use Rattle.cs_proof.specs.Plans.{plans_of}
-use Rattle.cs_proof.specs.Checking.{Checker, Verdict, verdict}
+use Rattle.cs_proof.specs.Checking.{Verdict, verdict}
 use Rattle.cs_proof.specs.Answers.{Answers}
 use Rattle.cs_proof.proofs.OfKinds.{IsBare}
-use Rattle.cs_proof.proofs.Whole.{Whole, whole_answer}
+use Rattle.cs_proof.proofs.Whole.{whole_answer}
 
 some_is : {A : Type 0} {x y : A} → Some x ≡ Some y → x ≡ y
 some_is e = cc
@@ -45,16 +43,16 @@ bare_at view xs t (n, e) = go (slice_get xs n) (sym (slice_get-map (λ x. term (
     go (Some x) f = subst IsBare (some_is f) (bare (view x))
 
 pub begun_answers : (stack : Stack') (ws : List (Option Step)) (p : Plans') → plans_of (seen stack) ws ≡ Some (stand p) → Fits p → length stack.assertions.items < 2 ^ 32 → length p.clauses.items < 2 ^ 32 → Each IsSorted (seen stack).assertions → (v : Verdict) →
-    Answers (seen stack) (length (nodes p.nodes.items)) ws v ↔ (v ≡ verdict record { nodes = nodes p.nodes.items; clauses = p.clauses.items; duties = map duty p.duties.items; done = 0; derived = 0; refusal = None })
+    Answers (seen stack) ws v ↔ (v ≡ verdict record { nodes = nodes p.nodes.nodes.items; clauses = p.clauses.items; duties = map duty p.duties.items; done = 0; derived = 0; refusal = None })
 begun_answers stack ws p e fits few few_clauses sorted v =
-    whole_answer (seen stack) ws (stand p) record { nodes = nodes p.nodes.items; clauses = p.clauses.items; duties = map duty p.duties.items; done = 0; derived = 0; refusal = None } sorted e
+    whole_answer (seen stack) ws (stand p) record { nodes = nodes p.nodes.nodes.items; clauses = p.clauses.items; duties = map duty p.duties.items; done = 0; derived = 0; refusal = None } sorted e
     (λ roots. record {
       nodes = refl;
       duties = refl;
       clauses = refl;
-      small = subst (λ n. n < 2 ^ 32) (sym (length-map p.nodes.items _)) fits.small;
+      small = subst (λ n. n < 2 ^ 32) (sym (length-map p.nodes.nodes.items _)) fits.small;
       few = subst (λ n. n < 2 ^ 32) (sym (length-map stack.assertions.items _)) few;
       few_clauses = few_clauses;
-      bare = bare_at (λ x. x.value) p.terms.items;
+      bare = bare_at (λ x. x.value) p.terms.terms.items;
     })
     refl refl refl v

@@ -1,5 +1,5 @@
 -- Literals of the first terms are literals of more.
-use Rattle.std.proofs.Common.{ℕ, ◌<◌, ◌≤◌, List, arith, length, get_or}
+use Rattle.std.proofs.Common.{ℕ, ◌≤◌, List, arith}
 use Rattle.std.specs.Prelude.{All}
 use Rattle.cs_hints.specs.declared.Clause.{Clause}
 use Rattle.cs_hints.specs.declared.Literal.{Literal}

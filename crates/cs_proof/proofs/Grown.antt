@@ -1,20 +1,18 @@
 -- Plans grow at their ends, and the nodes of the first terms stay.
-use Rattle.std.proofs.Common.{◌≡◌, ℕ, zero, suc, ◌+◌, ◌<◌, Bool, true, false, List, [], ◌∷◌, ◌++◌, Option, Some, None, map, length, take, drop, refl, sym, ◌∙◌, ap, ap₂, subst, append_assoc, append-nil}
+use Rattle.std.proofs.Common.{◌≡◌, ℕ, zero, suc, Bool, true, false, List, [], ◌∷◌, ◌++◌, Option, Some, None, length, take, drop, refl, sym, ◌∙◌, ap, ap₂, subst, append_assoc, append-nil}
 use Rattle.std.specs.Prelude.{slice_get, if◌then◌else◌}
 use Rattle.std.specs.Option.{option_map}
 use Rattle.vx_terms.specs.Terms.{Term, same, sort_of}
-use Rattle.vx_terms.proofs.Same.{term_is}
 use Rattle.vx_smt_meaning.specs.Commands.{Declared}
 use Rattle.cs_certificate.specs.Terms.{head, parts, subterms}
-use Rattle.cs_certificate.specs.Certificate.{At, Contains, AllAt, no-terms, one-term, Step, NewTerm}
+use Rattle.cs_certificate.specs.Certificate.{At, AllAt, no-terms, one-term, Step, NewTerm}
 use Rattle.cs_nodes.specs.Nodes.{Node}
 use Rattle.cs_nodes.specs.Steps.{◌>>=◌}
 use Rattle.cs_nodes.proofs.Chains.{bind_some}
-use Rattle.cs_numbers.specs.Numbering.{place, places, node_of, nodes_of, nodes_after, has, with_one, added}
-use Rattle.cs_numbers.proofs.Itself.{term_same}
+use Rattle.cs_numbers.specs.Numbering.{place, places, node_of, nodes_of, has, with_one, added}
 use Rattle.cs_hints.specs.declared.Literal.{Literal}
 use Rattle.cs_proof.specs.Prepared.{Duty, Missed, Named, prepared}
-use Rattle.cs_proof.specs.Plans.{Plans, with_duty, with_clause, kept, is_fine, numbered, named, named_if, planned_step, planned, planned_all}
+use Rattle.cs_proof.specs.Plans.{Plans, with_duty, kept, is_fine, named, named_if, planned, planned_all}
 
 some_is : {A : Type 0} {x y : A} → Some x ≡ Some y → x ≡ y
 some_is e = cc

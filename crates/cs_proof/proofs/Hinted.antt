@@ -1,30 +1,29 @@
 -- A `rup` step: what the checker does of it, and what its rule says.
-use Rattle.std.proofs.Common.{◌≡◌, ℕ, suc, ◌<◌, ◌^◌, Bool, true, false, List, [], ◌∷◌, ◌++◌, Option, Some, None, map, length, take, refl, sym, ◌∙◌, ap, ap₂, subst, arith}
+use Rattle.std.proofs.Common.{◌≡◌, ℕ, suc, ◌<◌, ◌^◌, Bool, true, false, List, [], ◌∷◌, ◌++◌, Option, Some, None, map, length, take, refl, sym, ◌∙◌, ap, subst, arith}
 use Rattle.std.specs.Prelude.{if◌then◌else◌}
 use Rattle.std.specs.List.{list_all}
 use Rattle.vx_frac.specs.Fractions.{Fraction}
-use Rattle.vx_terms.specs.Terms.{Term}
 use Rattle.vx_terms.specs.Interpretations.{Each}
-use Rattle.cs_certificate.specs.Certificate.{Stack, State, Clause, negated, NumberedLiteral, Step, Farkas, Propagate, Refutes, Derives, propagate}
+use Rattle.cs_certificate.specs.Certificate.{Stack, Clause, negated, NumberedLiteral, Farkas, Propagate, Refutes, Derives, propagate}
 use Rattle.cs_nodes.specs.Nodes.{Node}
 use Rattle.cs_nodes.specs.Steps.{◌>>=◌, Names}
 use Rattle.cs_hints.specs.declared.Literal.{Literal}
 use Rattle.cs_hints.specs.declared.Clause.{Clause as Clause'}
 use Rattle.cs_hints.specs.Hints as hints
-use Rattle.cs_hints.specs.Bridge.{views, state, IsNumbered, AreDistinct, Law, Converse}
+use Rattle.cs_hints.specs.Bridge.{views, state, IsNumbered, AreDistinct}
 use Rattle.cs_hints.proofs.Bridged.{bridged, converse}
 use Rattle.cs_farkas.specs.Sums.{Outcome, Done, Misses}
 use Rattle.cs_farkas.specs.Sums as sums
 use Rattle.cs_proof.specs.Prepared.{Duty, Missed, Hints, narrow_literals, within, turned, is_bool, with_literals, if_all_bool, propagation, saturate}
 use Rattle.cs_proof.specs.Plans.{Plans, kept, with_clause}
 use Rattle.cs_proof.specs.Checking.{met}
-use Rattle.cs_proof.specs.Answers.{Meets, IsOver}
+use Rattle.cs_proof.specs.Answers.{IsOver}
 use Rattle.cs_proof.proofs.Literals.{named, one_clause}
 use Rattle.cs_proof.proofs.Literals as literals
 use Rattle.cs_proof.proofs.Narrowed.{literals_are, literals_named, saturated}
 use Rattle.cs_proof.proofs.Lits.{reads_names, bools_within, turned_within, all_read, read_bools, turned_views}
 use Rattle.cs_proof.proofs.State.{state_of, Stands, represents, as_long}
-use Rattle.cs_proof.proofs.Moves.{Fate, moves, misses, not_met, moved}
+use Rattle.cs_proof.proofs.Moves.{Fate, misses, not_met, moved}
 
 some_is : {A : Type 0} {x y : A} → Some x ≡ Some y → x ≡ y
 some_is e = cc
@@ -35,7 +34,7 @@ module _ (stack : Stack) (roots : List ℕ) (nodes : List Node) (clauses : List 
     (distinct : AreDistinct p.terms)
     (within_terms : Each (λ c. Each (IsNumbered p.terms) c.literals.items) (take (length p.clauses) clauses))
     (ls : List NumberedLiteral) (hs : List ℕ) where
-  over : (o : sums.Over) → IsOver (length nodes) (state_of p) (Some (Propagate ls hs)) o → ⊥
+  over : (o : sums.Over) → IsOver (state_of p) (Some (Propagate ls hs)) o → ⊥
   over o w = other w.0 w.1 w.2
     where
       other : (ls' : List NumberedLiteral) (ms' : List Fraction) → Some (Propagate ls hs) ≡ Some (Farkas ls' ms') → ⊥

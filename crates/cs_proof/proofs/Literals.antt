@@ -1,14 +1,14 @@
 -- Numbered literals within the first terms are the literals of a clause.
-use Rattle.std.proofs.Common.{◌≡◌, ℕ, zero, suc, ◌<◌, ◌≤◌, Bool, true, false, List, [], ◌∷◌, ◌++◌, Option, Some, None, map, length, get_or, refl, sym, ◌∙◌, ap, ap₂, subst, arith}
-use Rattle.std.specs.Prelude.{nat_lt, slice_get, if◌then◌else◌}
+use Rattle.std.proofs.Common.{◌≡◌, ℕ, ◌<◌, ◌≤◌, true, List, ◌∷◌, Some, None, map, length, refl, sym, ◌∙◌, ap, ap₂, arith}
+use Rattle.std.specs.Prelude.{if◌then◌else◌}
 use Rattle.std.proofs.lemmas.Option.{slice_get_within, get_or_from_slice_get}
 use Rattle.std.proofs.lemmas.Bool.{lt-ltb}
 use Rattle.vx_terms.specs.Terms.{Term, Truth}
 use Rattle.vx_terms.specs.Interpretations.{Each}
-use Rattle.cs_certificate.specs.Certificate.{At, Clause, Yes, No, NumberedLiteral, Plain, Negated}
+use Rattle.cs_certificate.specs.Certificate.{At, Clause, Yes, No, NumberedLiteral}
 use Rattle.cs_nodes.specs.Steps.{◌>>=◌, plain, denial, Names, names-none, names-yes, names-no}
 use Rattle.cs_hints.specs.declared.Literal.{Literal}
-use Rattle.cs_hints.specs.Bridge.{term_at, view, views, IsNumbered}
+use Rattle.cs_hints.specs.Bridge.{term_at, views, IsNumbered}
 use Rattle.cs_proof.specs.Prepared.{is_plain, one_within, within}
 
 pub some_is : {A : Type 0} {x y : A} → Some x ≡ Some y → x ≡ y

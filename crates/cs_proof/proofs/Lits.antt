@@ -1,6 +1,6 @@
 -- Literals of a `rup` and of a `farkas` step.
-use Rattle.std.proofs.Common.{◌≡◌, ℕ, zero, suc, ◌<◌, ◌≤◌, ◌^◌, Bool, true, false, not, ◌&&◌, List, [], ◌∷◌, ◌++◌, Option, Some, None, map, length, refl, sym, ◌∙◌, ap, ap₂, subst, arith}
-use Rattle.std.specs.Prelude.{slice_get, nat_lt, if◌then◌else◌}
+use Rattle.std.proofs.Common.{◌≡◌, ℕ, ◌<◌, ◌^◌, Bool, true, false, ◌&&◌, List, [], ◌∷◌, Option, Some, None, map, length, refl, sym, ◌∙◌, ap, ap₂, subst, arith}
+use Rattle.std.specs.Prelude.{slice_get, if◌then◌else◌}
 use Rattle.std.specs.List.{list_all}
 use Rattle.std.proofs.lemmas.Option.{slice_get_within}
 use Rattle.std.proofs.lemmas.Bool.{lt-ltb}
@@ -9,15 +9,14 @@ use Rattle.vx_terms.specs.Sorts.{BoolSort, same_sort}
 use Rattle.vx_terms.specs.Terms.{Term}
 use Rattle.vx_terms.proofs.Same.{sort_is}
 use Rattle.cs_certificate.specs.Terms.{HasSort}
-use Rattle.cs_certificate.specs.Certificate.{State, Clause, At, Sign, Plain, Negated, Yes, No, negated, NumberedLiteral, Reads, plain, negation, ReadsAll, no-literals, one-literal}
+use Rattle.cs_certificate.specs.Certificate.{State, Clause, At, Sign, Plain, Negated, Yes, No, negated, NumberedLiteral, Reads, reads-plain, reads-negated, ReadsAll, no-literals, one-literal}
 use Rattle.cs_nodes.specs.Nodes.{Node, Represents}
 use Rattle.cs_nodes.specs.Steps.{◌>>=◌, Names, names-none, names-yes, names-no}
-use Rattle.cs_nodes.specs.Steps as steps
 use Rattle.cs_nodes.proofs.Comparisons.{sort_at}
 use Rattle.cs_nodes.proofs.Heads.{sort_same}
 use Rattle.cs_hints.specs.Bridge.{view, views}
 use Rattle.cs_farkas.specs.Rows.{Bound, Part, with_part, parts_of, bound_at, of_sides}
-use Rattle.cs_proof.specs.Prepared.{narrow_literals, one_within, within, turned, other_sign, is_plain, is_bool}
+use Rattle.cs_proof.specs.Prepared.{narrow_literals, within, turned, other_sign, is_bool}
 use Rattle.cs_proof.proofs.Literals.{named, term_is}
 use Rattle.cs_proof.proofs.Narrowed.{one_more}
 
@@ -27,8 +26,8 @@ some_is e = cc
 -- ---- what is read is named
 pub reads_names : (s : State) {ns : List NumberedLiteral} {c : Clause} → ReadsAll s ns c → Names s.terms ns c
 reads_names s no-literals = names-none
-reads_names s (one-literal (plain at h) more) = names-yes at (reads_names s more)
-reads_names s (one-literal (negation at h) more) = names-no at (reads_names s more)
+reads_names s (one-literal (reads-plain at h) more) = names-yes at (reads_names s more)
+reads_names s (one-literal (reads-negated at h) more) = names-no at (reads_names s more)
 
 -- ---- literals within the nodes
 within_more : (n : ℕ) (l : NumberedLiteral) (ls : List NumberedLiteral) → l.number < n → within n ls ≡ Some (map named ls) → within n (l ∷ ls) ≡ Some (map named (l ∷ ls))
@@ -102,8 +101,8 @@ module _ (nodes : List Node) (s : State) (r : Represents nodes s.terms) where
       by l.sign t.0 t.1 is
     where
       by : (g : Sign) (t : Term) → At s.terms l.number t → HasSort t BoolSort → Reads s record { sign = g; number = l.number } (view s.terms (named record { sign = g; number = l.number }))
-      by Plain t at h = subst (λ u. Reads s record { sign = Plain; number = l.number } (Yes u)) (sym (term_is s.terms l.number t at)) (plain at h)
-      by Negated t at h = subst (λ u. Reads s record { sign = Negated; number = l.number } (No u)) (sym (term_is s.terms l.number t at)) (negation at h)
+      by Plain t at h = subst (λ u. Reads s record { sign = Plain; number = l.number } (Yes u)) (sym (term_is s.terms l.number t at)) (reads-plain at h)
+      by Negated t at h = subst (λ u. Reads s record { sign = Negated; number = l.number } (No u)) (sym (term_is s.terms l.number t at)) (reads-negated at h)
 
   pub all_read : (ls : List NumberedLiteral) → list_all (is_bool nodes) ls ≡ true → ReadsAll s ls (views s.terms (map named ls))
   all_read [] e = no-literals
@@ -115,8 +114,8 @@ module _ (nodes : List Node) (s : State) (r : Represents nodes s.terms) where
       ap (λ o. elim o [ Some n ↦ same_sort n.sort BoolSort | None ↦ false ]) n.1 ∙ ap (λ a. same_sort a BoolSort) (sort_at nodes s r k n.0 t BoolSort n.1 at h) ∙ sort_same BoolSort
 
   read_bool : (l : NumberedLiteral) {k : _} → Reads s l k → is_bool nodes l ≡ true
-  read_bool l (plain {n = n} {t = t} at h) = term_bool n t Plain at h
-  read_bool l (negation {n = n} {t = t} at h) = term_bool n t Negated at h
+  read_bool l (reads-plain {n = n} {t = t} at h) = term_bool n t Plain at h
+  read_bool l (reads-negated {n = n} {t = t} at h) = term_bool n t Negated at h
 
   pub read_bools : {ls : List NumberedLiteral} {c : Clause} → ReadsAll s ls c → list_all (is_bool nodes) ls ≡ true
   read_bools no-literals = refl

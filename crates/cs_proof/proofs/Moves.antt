@@ -1,35 +1,18 @@
 -- One step: what the checker does of it, and what its rule says.
-use Rattle.std.proofs.Common.{◌≡◌, ℕ, zero, suc, ◌<◌, ◌≤◌, ◌^◌, Bool, true, false, not, ◌&&◌, List, [], ◌∷◌, ◌++◌, Option, Some, None, map, length, take, ◌⊎◌, inl, inr, refl, sym, ◌∙◌, ap, ap₂, subst, arith}
-use Rattle.std.specs.Prelude.{slice_get, if◌then◌else◌}
-use Rattle.std.specs.List.{list_all}
-use Rattle.std.proofs.lemmas.Option.{slice_get_within}
-use Rattle.std.proofs.lemmas.Bool.{lt-ltb}
+use Rattle.std.proofs.Common.{◌≡◌, ℕ, suc, List, [], ◌∷◌, ◌++◌, Option, Some, None, map, length, refl, sym, ◌∙◌, ap, subst, arith}
 use Rattle.vx_frac.specs.Fractions.{Fraction}
-use Rattle.vx_terms.specs.Sorts.{Sort, BoolSort, same_sort}
-use Rattle.vx_terms.specs.Terms.{Term}
-use Rattle.vx_terms.proofs.Same.{sort_is}
-use Rattle.cs_certificate.specs.Terms.{HasSort}
-use Rattle.cs_certificate.specs.Certificate.{Stack, State, Clause, At, Contains, Sign, Plain, Negated, Yes, No, negated, NumberedLiteral, Step, NewTerm, Farkas, Propagate, Reads, plain, negation, ReadsAll, no-literals, one-literal, Refutes, Derives, farkas, propagate, Leads, stays, names, derives}
+use Rattle.cs_certificate.specs.Certificate.{Stack, State, Clause, At, Contains, Sign, Plain, Negated, Yes, No, negated, NumberedLiteral, Step, NewTerm, Farkas, Propagate, Reads, reads-plain, reads-negated, ReadsAll, no-literals, one-literal, Refutes, Derives, farkas, propagate, Leads, stays, names, derives}
 use Rattle.cs_certificate.specs.Certificate as certificate
 use Rattle.cs_nodes.specs.Nodes.{Node, Represents}
-use Rattle.cs_nodes.specs.Steps.{◌>>=◌, Names, names-none, names-yes, names-no, Computes}
-use Rattle.cs_nodes.proofs.Comparisons.{sort_at}
-use Rattle.cs_nodes.proofs.Find.{one_at}
-use Rattle.cs_nodes.proofs.Heads.{sort_same}
-use Rattle.cs_numbers.specs.Numbering.{nodes_of}
-use Rattle.cs_hints.specs.declared.Literal.{Literal}
+use Rattle.cs_nodes.specs.Steps.{◌>>=◌, Names, Computes}
 use Rattle.cs_hints.specs.declared.Clause.{Clause as Clause'}
-use Rattle.cs_hints.specs.Hints as hints
-use Rattle.cs_hints.specs.Bridge.{view, views, state, IsNumbered, AreDistinct}
 use Rattle.cs_farkas.specs.Sums.{Outcome, Done, Leaves, Misses}
 use Rattle.cs_farkas.specs.Sums as sums
-use Rattle.cs_farkas.specs.Rows.{Bound, Part, with_part, parts_of, bound_at, combination_of, if_parts, Combination, refutes, farkas_clause, if_combined}
-use Rattle.cs_proof.specs.Prepared.{Duty, Named, Derived, Missed, Sum, Hints, narrow_literals, within, turned, is_bool, other_sign, with_literals, derived, sum, if_all_bool, propagation, saturate}
+use Rattle.cs_proof.specs.Prepared.{Duty, Derived, Missed, within, derived}
 use Rattle.cs_proof.specs.Plans.{Plans, with_duty, with_clause, kept}
 use Rattle.cs_proof.specs.Checking.{met}
 use Rattle.cs_proof.specs.Answers.{Meets, IsOver}
-use Rattle.cs_proof.proofs.Literals.{named, all_within, viewed, numbered, one_clause}
-use Rattle.cs_proof.proofs.Narrowed.{literals_are, literals_named}
+use Rattle.cs_proof.proofs.Literals.{named, all_within, one_clause}
 use Rattle.cs_proof.proofs.State.{state_of, Stands, represents, as_long, clause_stands, clause_state}
 
 some_is : {A : Type 0} {x y : A} → Some x ≡ Some y → x ≡ y
@@ -38,10 +21,10 @@ some_is e = cc
 -- the step meets its rule and is done, or not
 pub data Fate (stack : Stack) (roots : List ℕ) (nodes : List Node) (clauses : List Clause') (p : Plans) (w : Option Step) (q : Plans) : Type 0 where
   moves : (d : Duty) → q.duties ≡ p.duties ++ d ∷ [] → met nodes clauses (length p.clauses) d ≡ Done (length q.clauses) →
-      Meets stack (state_of p) w (state_of q) → ((u : State) → Meets stack (state_of p) w u → u ≡ state_of q) → ((o : sums.Over) → IsOver (length nodes) (state_of p) w o → ⊥) → Stands stack roots q → Fate stack roots nodes clauses p w q
+      Meets stack (state_of p) w (state_of q) → ((u : State) → Meets stack (state_of p) w u → u ≡ state_of q) → ((o : sums.Over) → IsOver (state_of p) w o → ⊥) → Stands stack roots q → Fate stack roots nodes clauses p w q
   misses : (d : Duty) → q.duties ≡ p.duties ++ d ∷ [] → met nodes clauses (length p.clauses) d ≡ Misses →
-      ((u : State) → Meets stack (state_of p) w u → ⊥) → ((o : sums.Over) → IsOver (length nodes) (state_of p) w o → ⊥) → Fate stack roots nodes clauses p w q
-  leaves : (d : Duty) → q.duties ≡ p.duties ++ d ∷ [] → (o : sums.Over) → met nodes clauses (length p.clauses) d ≡ Leaves o → IsOver (length nodes) (state_of p) w o → Fate stack roots nodes clauses p w q
+      ((u : State) → Meets stack (state_of p) w u → ⊥) → ((o : sums.Over) → IsOver (state_of p) w o → ⊥) → Fate stack roots nodes clauses p w q
+  leaves : (d : Duty) → q.duties ≡ p.duties ++ d ∷ [] → (o : sums.Over) → met nodes clauses (length p.clauses) d ≡ Leaves o → IsOver (state_of p) w o → Fate stack roots nodes clauses p w q
 
 -- a step with a clause
 abbrev pub IsDeriving : Step → Type 0
@@ -73,7 +56,7 @@ module _ (stack : Stack) (roots : List ℕ) (nodes : List Node) (clauses : List 
   no_step : (u : State) → Meets stack (state_of p) None u → ⊥
   no_step u (step, e, l) = cc
 
-  nothing_over : (o : sums.Over) → IsOver (length nodes) (state_of p) None o → ⊥
+  nothing_over : (o : sums.Over) → IsOver (state_of p) None o → ⊥
   nothing_over o w = no_farkas w.0 w.1 w.2
     where
       no_farkas : (ls : List NumberedLiteral) (ms : List Fraction) → None ≡ Some (Farkas ls ms) → ⊥
@@ -95,7 +78,7 @@ module _ (stack : Stack) (roots : List ℕ) (nodes : List Node) (clauses : List 
         x.2 ∙ ap (certificate.with_clause (state_of p)) (one x.0 x.1) ∙ clause_state p d n
 
     pub moved : (d : Duty) {ns : List NumberedLiteral} {c : Clause} → met nodes clauses (length p.clauses) d ≡ Done (suc (length p.clauses)) → Names p.terms ns c → Derives stack (state_of p) step c → ((b : Clause) → Derives stack (state_of p) step b → b ≡ c) →
-        ((o : sums.Over) → IsOver (length nodes) (state_of p) (Some step) o → ⊥) → Fate stack roots nodes clauses p (Some step) (with_clause p (d, map named ns))
+        ((o : sums.Over) → IsOver (state_of p) (Some step) o → ⊥) → Fate stack roots nodes clauses p (Some step) (with_clause p (d, map named ns))
     moved d {ns = ns} e n by one over = moves d refl (e ∙ ap Done (sym (one_longer p.clauses (map named ns)))) (met_by d n by) (met_only d n one) over (clause_stands stack roots p d h n)
 
     -- by a clause that is computed
@@ -103,7 +86,7 @@ module _ (stack : Stack) (roots : List ℕ) (nodes : List Node) (clauses : List 
         Fate stack roots nodes clauses p (Some step) (kept p (derived p.nodes computed))
     clause_fate other computed by = go computed refl
       where
-        over : (o : sums.Over) → IsOver (length nodes) (state_of p) (Some step) o → ⊥
+        over : (o : sums.Over) → IsOver (state_of p) (Some step) o → ⊥
         over o w = other w.0 w.1 (some_is w.2)
 
         go : (o : Option (List NumberedLiteral)) → computed ≡ o → Fate stack roots nodes clauses p (Some step) (kept p (derived p.nodes o))

@@ -1,18 +1,18 @@
 -- The state that plans stand for, and what holds of them.
-use Rattle.std.proofs.Common.{◌≡◌, ℕ, zero, suc, ◌<◌, List, [], ◌∷◌, ◌++◌, ◌+◌, true, Option, Some, None, map, length, refl, sym, ◌∙◌, ap, ap₂, subst, arith}
+use Rattle.std.proofs.Common.{◌≡◌, ℕ, ◌<◌, List, [], ◌∷◌, ◌++◌, ◌+◌, true, Some, map, length, refl, sym, ◌∙◌, ap, ap₂, subst, arith}
 use Rattle.std.proofs.lemmas.List.{map-append, get_or_append_left, length-append}
 use Rattle.vx_terms.specs.Terms.{Term, Truth}
 use Rattle.vx_terms.specs.Interpretations.{Each}
 use Rattle.cs_certificate.specs.Terms.{subterms}
 use Rattle.cs_certificate.specs.Certificate.{Stack, State, Clause, AllAt, At}
 use Rattle.cs_certificate.specs.Certificate as certificate
-use Rattle.cs_nodes.specs.Nodes.{Node, Represents}
+use Rattle.cs_nodes.specs.Nodes.{Represents}
 use Rattle.cs_nodes.specs.Steps.{Names}
 use Rattle.cs_numbers.specs.Numbering.{nodes_of, added}
 use Rattle.cs_numbers.specs.Laws.{IsSorted, IsTable, and_of}
 use Rattle.cs_numbers.proofs.Tables.{tabulates, numbers_more}
 use Rattle.cs_hints.specs.declared.Literal.{Literal}
-use Rattle.cs_hints.specs.Bridge.{term_at, signed, view, views, IsNumbered, AreDistinct}
+use Rattle.cs_hints.specs.Bridge.{term_at, signed, views, IsNumbered}
 use Rattle.cs_proof.specs.Prepared.{Duty}
 use Rattle.cs_proof.specs.Plans.{Plans, with_clause}
 use Rattle.cs_proof.proofs.Literals.{named, viewed, numbered}

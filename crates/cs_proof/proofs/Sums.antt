@@ -1,25 +1,25 @@
 -- A `farkas` step: what the checker does of it, and what its rule says.
-use Rattle.std.proofs.Common.{◌≡◌, ℕ, suc, ◌<◌, ◌≤◌, ◌^◌, List, [], ◌∷◌, ◌++◌, Option, Some, None, map, length, take, ◌⊎◌, inl, inr, refl, sym, ◌∙◌, ap, ap₂, subst, arith}
+use Rattle.std.proofs.Common.{◌≡◌, ℕ, suc, ◌<◌, ◌≤◌, ◌^◌, List, [], ◌∷◌, ◌++◌, Option, Some, None, map, length, take, inl, inr, refl, sym, ◌∙◌, ap, subst, arith}
 use Rattle.vx_frac.specs.Fractions.{Fraction}
-use Rattle.cs_certificate.specs.Certificate.{Stack, State, Clause, NumberedLiteral, Step, Farkas, Derives, farkas}
+use Rattle.cs_certificate.specs.Certificate.{Stack, Clause, NumberedLiteral, Farkas, Derives, farkas}
 use Rattle.cs_nodes.specs.Nodes.{Node}
 use Rattle.cs_nodes.specs.Steps.{◌>>=◌, Names}
-use Rattle.cs_numbers.specs.Numbering.{nodes_of}
 use Rattle.cs_hints.specs.declared.Clause.{Clause as Clause'}
 use Rattle.cs_farkas.specs.Sums.{Outcome, Done, Leaves, Misses}
 use Rattle.cs_farkas.specs.Sums as sums
 use Rattle.cs_farkas.specs.Bridge.{Decides}
-use Rattle.cs_farkas.specs.Rows.{Part, parts_of, combination_of, if_parts, of_sort, sort_of_parts, Combination, refutes, farkas_clause, if_combined}
+use Rattle.cs_farkas.specs.Rows.{Part, parts_of, combination_of, if_parts, Combination, refutes, farkas_clause, if_combined}
 use Rattle.cs_farkas.proofs.Decided.{farkas_by_number}
+use Rattle.cs_farkas.proofs.Widths.{any_width}
 use Rattle.cs_proof.specs.Prepared.{Duty, Missed, Sum, narrow_literals, within, sum, with_literals}
 use Rattle.cs_proof.specs.Plans.{Plans, kept, with_clause}
 use Rattle.cs_proof.specs.Checking.{met}
-use Rattle.cs_proof.specs.Answers.{Meets, IsOver}
+use Rattle.cs_proof.specs.Answers.{IsOver}
 use Rattle.cs_proof.proofs.Literals.{named, one_clause}
 use Rattle.cs_proof.proofs.Narrowed.{literals_are, literals_named}
 use Rattle.cs_proof.proofs.Lits.{InRange, parts_in_range, reads_names}
 use Rattle.cs_proof.proofs.State.{state_of, Stands, represents, as_long}
-use Rattle.cs_proof.proofs.Moves.{Fate, moves, misses, leaves, not_met, moved}
+use Rattle.cs_proof.proofs.Moves.{Fate, misses, leaves, not_met, moved}
 
 some_is : {A : Type 0} {x y : A} → Some x ≡ Some y → x ≡ y
 some_is e = cc
@@ -44,12 +44,13 @@ module _ (stack : Stack) (roots : List ℕ) (nodes : List Node) (clauses : List 
   decides = farkas_by_number p.nodes (state_of p) stack (length nodes) (represents stack roots p h) wide ls ms
 
   -- the call of the step itself
-  over_here : (o : sums.Over) → IsOver (length nodes) (state_of p) (Some (Farkas ls ms)) o → farkas_clause p.nodes (length nodes) ls ms ≡ Leaves o
+  over_here : (o : sums.Over) → IsOver (state_of p) (Some (Farkas ls ms)) o → farkas_clause p.nodes (length nodes) ls ms ≡ Leaves o
   over_here o (ls', ms', e, ns, is, f) =
       let same : ns ≡ p.nodes = some_is (sym is ∙ h.nodes) in
       let one : ls' ≡ ls = first (some_is e) in
       let two : ms' ≡ ms = second (some_is e) in
-      ap (λ l. farkas_clause p.nodes (length nodes) l ms) (sym one) ∙ ap (λ m. farkas_clause p.nodes (length nodes) ls' m) (sym two) ∙ ap (λ n. farkas_clause n (length nodes) ls' ms') (sym same) ∙ f
+      any_width p.nodes (length nodes) wide ls ms
+      ∙ ap (λ l. farkas_clause p.nodes (length p.nodes) l ms) (sym one) ∙ ap (λ m. farkas_clause p.nodes (length p.nodes) ls' m) (sym two) ∙ ap (λ n. farkas_clause n (length n) ls' ms') (sym same) ∙ f
     where
       first : Farkas ls ms ≡ Farkas ls' ms' → ls' ≡ ls
       first e = cc
@@ -65,7 +66,7 @@ module _ (stack : Stack) (roots : List ℕ) (nodes : List Node) (clauses : List 
           let same = as_long stack roots p h in
           let f : Some ls ≡ None = sym (literals_named p.terms (omega arith) (reads_names (state_of p) reads)) ∙ e in cc
 
-      over : (o : sums.Over) → IsOver (length nodes) (state_of p) (Some (Farkas ls ms)) o → ⊥
+      over : (o : sums.Over) → IsOver (state_of p) (Some (Farkas ls ms)) o → ⊥
       over o w =
           let c = leaves_combined p.nodes (length nodes) ls ms o (over_here o w) in
           let r = combined_in_range p.nodes ls ms c.0 c.1 in
@@ -80,7 +81,7 @@ module _ (stack : Stack) (roots : List ℕ) (nodes : List Node) (clauses : List 
         | inr x ↦ (let g : Misses ≡ Leaves x.0 = sym f ∙ x.1 in cc)
       ]
 
-      over : (o : sums.Over) → IsOver (length nodes) (state_of p) (Some (Farkas ls ms)) o → ⊥
+      over : (o : sums.Over) → IsOver (state_of p) (Some (Farkas ls ms)) o → ⊥
       over o w = let g : Misses ≡ Leaves o = sym f ∙ over_here o w in cc
 
   summed : (c : Combination) → combination_of p.nodes ls ms ≡ Some c → (o : Outcome sums.Sums) → refutes p.nodes (length nodes) c ≡ o →
@@ -95,7 +96,7 @@ module _ (stack : Stack) (roots : List ℕ) (nodes : List Node) (clauses : List 
       by (Done s) f g m =
           let x = decides.sound ls g in
           moved stack roots nodes clauses p h (Farkas ls ms) tt (Sum (length p.nodes) c) m x.1 x.2 (λ b d. one_clause p.terms (read_names b d) x.1) (λ o w. (let k : Done ls ≡ Leaves o = sym g ∙ over_here o w in cc))
-      by (Leaves over) f g m = leaves (Sum (length p.nodes) c) refl over m (ls, ms, refl, p.nodes, h.nodes, g)
+      by (Leaves over) f g m = leaves (Sum (length p.nodes) c) refl over m (ls, ms, refl, p.nodes, h.nodes, sym (any_width p.nodes (length nodes) wide ls ms) ∙ g)
       by Misses f g m = missing (Sum (length p.nodes) c) (with_clause p (Sum (length p.nodes) c, map named ls)) refl m g
 
   numbered : (o : Option Combination) → combination_of p.nodes ls ms ≡ o → Fate stack roots nodes clauses p (Some (Farkas ls ms)) (kept p (o >>= λ c. with_literals (Sum (length p.nodes) c) (within (length p.nodes) ls)))

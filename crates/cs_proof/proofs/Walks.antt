@@ -1,7 +1,6 @@
 -- What was found before, and what the rest gives.
 use Rattle.std.proofs.Common.{◌≡◌, ℕ, zero, suc, ◌-◌, arith, List, [], ◌∷◌, ◌++◌, map, length, take, drop, Option, Some, ◌≤◌, refl, sym, ◌∙◌, ap, append-nil}
 use Rattle.std.proofs.lemmas.List.{drop_all}
-use Rattle.vx_terms.specs.Views.{term}
 use Rattle.vx_terms.specs.Terms.{Term}
 use Rattle.cs_numbers.specs.Numbering.{nodes_after}
 use Rattle.cs_nodes.specs.Nodes.{Node as Clean}

@@ -1,9 +1,9 @@
 -- The verdict is the answer: one step after another.
-use Rattle.std.proofs.Common.{◌≡◌, ℕ, zero, suc, ◌+◌, ◌<◌, ◌≤◌, ◌^◌, Bool, true, false, ◌||◌, List, [], ◌∷◌, ◌++◌, Option, Some, None, map, length, take, refl, sym, ◌∙◌, ap, ap₂, subst, arith, append_assoc, append-nil}
+use Rattle.std.proofs.Common.{◌≡◌, ℕ, zero, suc, ◌+◌, ◌<◌, ◌≤◌, ◌^◌, Bool, true, false, ◌||◌, List, [], ◌∷◌, ◌++◌, Option, Some, None, map, length, take, refl, sym, ◌∙◌, ap, subst, arith, append_assoc, append-nil}
 use Rattle.std.specs.Prelude.{slice_get, if◌then◌else◌, ◌↔◌}
 use Rattle.std.specs.List.{list_any}
 use Rattle.std.specs.Option.{option_map}
-use Rattle.std.proofs.lemmas.List.{length-append, length-map}
+use Rattle.std.proofs.lemmas.List.{length-append}
 use Rattle.std.proofs.lemmas.Option.{slice_get-get_or}
 use Rattle.vx_terms.specs.Terms.{Term, Truth, same}
 use Rattle.vx_terms.specs.Interpretations.{Each}
@@ -22,16 +22,16 @@ use Rattle.cs_numbers.specs.Laws.{IsSorted, IsTable, of_assertions}
 use Rattle.cs_numbers.proofs.Added.{added_distinct}
 use Rattle.cs_hints.specs.declared.Literal.{Literal}
 use Rattle.cs_hints.specs.declared.Clause.{Clause as Clause'}
-use Rattle.cs_hints.specs.Bridge.{term_at, views, state, IsNumbered, AreDistinct}
+use Rattle.cs_hints.specs.Bridge.{term_at, views, IsNumbered, AreDistinct}
 use Rattle.cs_farkas.specs.Sums.{Outcome, Done, Leaves, Misses}
 use Rattle.cs_farkas.specs.Sums as sums
 use Rattle.cs_proof.specs.Prepared.{Duty}
 use Rattle.cs_proof.specs.Plans.{Plans, planned, planned_all, begun, plans_of}
-use Rattle.cs_proof.specs.Checking.{Checker, Verdict, Finished, BadStep, Over, NotEmpty, met, after, stepped, is_nil, is_empty, closed, verdict}
+use Rattle.cs_proof.specs.Checking.{Checker, Verdict, Finished, BadStep, Over, NotEmpty, met, after, is_nil, is_empty, verdict}
 use Rattle.cs_proof.specs.Answers.{Meets, IsOver, Holds, none, more, Reaches, Answers}
-use Rattle.cs_proof.proofs.Grown.{Begins, Grows, planned_grows, all_grows, take_front, get_front, one_longer, at_left}
+use Rattle.cs_proof.proofs.Grown.{Begins, Grows, all_grows, take_front, get_front, one_longer, at_left}
 use Rattle.cs_proof.proofs.OfKinds.{IsBare}
-use Rattle.cs_proof.proofs.State.{state_of, Stands, represents, as_long}
+use Rattle.cs_proof.proofs.State.{state_of, Stands, represents}
 use Rattle.cs_proof.proofs.Moves.{Fate, moves, misses, leaves}
 use Rattle.cs_proof.proofs.Answered.{Scene, fate_of}
 use Rattle.cs_proof.proofs.Only.{From, Ahead, passes, stops, exceeds, AtEnd, finished, not_empty, one_over, answers_from}
@@ -90,9 +90,9 @@ empty_nowhere terms (c ∷ cs) e (n, f) = go (is_empty c) refl e n f (empty_nowh
     go false g e (suc n) f h = h e (n, f)
 
 -- ---- one step more holds
-holds_end : (stack : Stack) (width : ℕ) (s u v : State) (w : Option Step) (ws : List (Option Step)) → Holds stack width s ws u → Meets stack u w v → ((o : sums.Over) → IsOver width u w o → ⊥) → Holds stack width s (ws ++ w ∷ []) v
-holds_end stack width s u v w _ none m n = more m n none
-holds_end stack width s u v w _ (more {u = x} {w = y} {ws = ys} a b rest) m n = more a b (holds_end stack width x u v w ys rest m n)
+holds_end : (stack : Stack) (s u v : State) (w : Option Step) (ws : List (Option Step)) → Holds stack s ws u → Meets stack u w v → ((o : sums.Over) → IsOver u w o → ⊥) → Holds stack s (ws ++ w ∷ []) v
+holds_end stack s u v w _ none m n = more m n none
+holds_end stack s u v w _ (more {u = x} {w = y} {ws = ys} a b rest) m n = more a b (holds_end stack x u v w ys rest m n)
 
 by_numbers : (nodes : List Node) (s : State) (stack : Stack) → Represents nodes s.terms → ComputesSteps nodes s stack
 by_numbers nodes s stack r = record {
@@ -151,45 +151,45 @@ module _ (stack : Stack) (roots : List ℕ) (q : Plans) (c : Checker) (g : Whole
   goes_to : (p p' : Plans) (d : Duty) (o : Outcome ℕ) → p'.duties ≡ p.duties ++ d ∷ [] → Grows p' q → met c.nodes c.clauses (length p.clauses) d ≡ o → verdict (at_state p) ≡ verdict (after (at_state p) o)
   goes_to p p' d o e r m = sym (verdict_stepped (at_state p)) ∙ ap verdict (stepped_to (at_state p) d o refl (duty_here p p' d e r) m)
 
-  module _ (p p' : Plans) (before ws : List (Option Step)) (w : Option Step) (holds : Holds stack (length c.nodes) (start stack) before (state_of p)) (count : length p.duties ≡ length before) (r : Grows p' q) where
-    reaches : Reaches stack (length c.nodes) (before ++ w ∷ ws) (length p.duties) w (state_of p)
+  module _ (p p' : Plans) (before ws : List (Option Step)) (w : Option Step) (holds : Holds stack (start stack) before (state_of p)) (count : length p.duties ≡ length before) (r : Grows p' q) where
+    reaches : Reaches stack (before ++ w ∷ ws) (length p.duties) w (state_of p)
     reaches = record { before = before; behind = ws; whole = refl; count = sym count; holds = holds }
 
-    answered : ((d : Duty) → p'.duties ≡ p.duties ++ d ∷ [] → Meets stack (state_of p) w (state_of p') → ((o : sums.Over) → IsOver (length c.nodes) (state_of p) w o → ⊥) → Stands stack roots p' → Answers stack (length c.nodes) (before ++ w ∷ ws) (verdict (at_state p'))) →
-        Fate stack roots c.nodes c.clauses p w p' → Answers stack (length c.nodes) (before ++ w ∷ ws) (verdict (at_state p))
+    answered : ((d : Duty) → p'.duties ≡ p.duties ++ d ∷ [] → Meets stack (state_of p) w (state_of p') → ((o : sums.Over) → IsOver (state_of p) w o → ⊥) → Stands stack roots p' → Answers stack (before ++ w ∷ ws) (verdict (at_state p'))) →
+        Fate stack roots c.nodes c.clauses p w p' → Answers stack (before ++ w ∷ ws) (verdict (at_state p))
     answered later (moves d e m meets only over stands) =
         let to : verdict (at_state p) ≡ verdict (at_state p') =
         goes_to p p' d (Done (length p'.clauses)) e r m
         ∙ ap (λ n. verdict record { nodes = c.nodes; clauses = c.clauses; duties = c.duties; done = n; derived = length p'.clauses; refusal = None }) (sym (ap length e ∙ one_longer p.duties d)) in
-        subst (Answers stack (length c.nodes) (before ++ w ∷ ws)) (sym to) (later d e meets over stands)
+        subst (Answers stack (before ++ w ∷ ws)) (sym to) (later d e meets over stands)
     answered later (misses d e m not_met over) =
         let to : verdict (at_state p) ≡ BadStep (length p.duties) = goes_to p p' d Misses e r m ∙ refused_is (after (at_state p) Misses) (BadStep (length p.duties)) refl in
-        subst (Answers stack (length c.nodes) (before ++ w ∷ ws)) (sym to) (w, state_of p, reaches, not_met, over)
+        subst (Answers stack (before ++ w ∷ ws)) (sym to) (w, state_of p, reaches, not_met, over)
     answered later (leaves d e o m over) =
         let to : verdict (at_state p) ≡ Over (length p.duties) o = goes_to p p' d (Leaves o) e r m ∙ refused_is (after (at_state p) (Leaves o)) (Over (length p.duties) o) refl in
-        subst (Answers stack (length c.nodes) (before ++ w ∷ ws)) (sym to) (w, state_of p, reaches, over)
+        subst (Answers stack (before ++ w ∷ ws)) (sym to) (w, state_of p, reaches, over)
 
-  ended : (p : Plans) (before : List (Option Step)) → p ≡ q → Holds stack (length c.nodes) (start stack) before (state_of p) → (b : Bool) → list_any is_empty c.clauses ≡ b → Answers stack (length c.nodes) before (if b then Finished else NotEmpty)
+  ended : (p : Plans) (before : List (Option Step)) → p ≡ q → Holds stack (start stack) before (state_of p) → (b : Bool) → list_any is_empty c.clauses ≡ b → Answers stack before (if b then Finished else NotEmpty)
   ended p before e h true f = (state_of p, h, subst (λ ls. Contains (map (views p.terms) ls) []) (g.clauses ∙ ap (λ x. x.clauses) (sym e)) (empty_here p.terms c.clauses f))
   ended p before e h false f = (state_of p, h, λ k. empty_nowhere p.terms c.clauses f (subst (λ ls. Contains (map (views p.terms) ls) []) (sym (g.clauses ∙ ap (λ x. x.clauses) (sym e))) k))
 
-  pub answer_from : (ws : List (Option Step)) (p : Plans) (before : List (Option Step)) → Stands stack roots p → Holds stack (length c.nodes) (start stack) before (state_of p) → length p.duties ≡ length before →
-      planned_all stack.symbols roots p ws ≡ Some q → Answers stack (length c.nodes) (before ++ ws) (verdict (at_state p))
+  pub answer_from : (ws : List (Option Step)) (p : Plans) (before : List (Option Step)) → Stands stack roots p → Holds stack (start stack) before (state_of p) → length p.duties ≡ length before →
+      planned_all stack.symbols roots p ws ≡ Some q → Answers stack (before ++ ws) (verdict (at_state p))
   answer_from [] p before h k count e =
       let is : p ≡ q = some_is e in
       let past : length c.duties ≤ length p.duties = (let f : length c.duties ≡ length p.duties = ap length (g.duties ∙ ap (λ x. x.duties) (sym is)) in omega arith) in
-      subst (λ l. Answers stack (length c.nodes) l (verdict (at_state p))) (sym (append-nil before))
-      (subst (Answers stack (length c.nodes) before) (sym (at_end (at_state p) past)) (go (list_any is_empty c.clauses) refl (ended p before is k)))
+      subst (λ l. Answers stack l (verdict (at_state p))) (sym (append-nil before))
+      (subst (Answers stack before) (sym (at_end (at_state p) past)) (go (list_any is_empty c.clauses) refl (ended p before is k)))
     where
-      go : (b : Bool) → list_any is_empty c.clauses ≡ b → ((b : Bool) → list_any is_empty c.clauses ≡ b → Answers stack (length c.nodes) before (if b then Finished else NotEmpty)) → Answers stack (length c.nodes) before (if list_any is_empty c.clauses then Finished else NotEmpty)
+      go : (b : Bool) → list_any is_empty c.clauses ≡ b → ((b : Bool) → list_any is_empty c.clauses ≡ b → Answers stack before (if b then Finished else NotEmpty)) → Answers stack before (if list_any is_empty c.clauses then Finished else NotEmpty)
       go b f h = h (list_any is_empty c.clauses) refl
   answer_from (w ∷ ws) p before h k count e =
       let b = bind_some (planned stack.symbols roots p w) (λ r. planned_all stack.symbols roots r ws) q e in
       let r = all_grows stack.symbols roots b.0 ws q b.2 in
       answered p b.0 before ws w k count r
       (λ d f meets over stands.
-      subst (λ l. Answers stack (length c.nodes) l (verdict (at_state b.0))) (append_assoc before (w ∷ []) ws)
-      (answer_from ws b.0 (before ++ w ∷ []) stands (holds_end stack (length c.nodes) (start stack) (state_of p) (state_of b.0) w before k meets over)
+      subst (λ l. Answers stack l (verdict (at_state b.0))) (append_assoc before (w ∷ []) ws)
+      (answer_from ws b.0 (before ++ w ∷ []) stands (holds_end stack (start stack) (state_of p) (state_of b.0) w before k meets over)
       (ap length f ∙ one_longer p.duties d ∙ ap suc count ∙ sym (one_longer before w)) b.2))
       (fate_of stack roots c.nodes c.clauses p (scene p h (all_grows stack.symbols roots p (w ∷ ws) q e)) w b.0 b.1)
 
@@ -198,13 +198,13 @@ module _ (stack : Stack) (roots : List ℕ) (q : Plans) (c : Checker) (g : Whole
     one_more_done : (d : Duty) → p'.duties ≡ p.duties ++ d ∷ [] → suc (length p.duties) ≡ length p'.duties
     one_more_done d e = sym (ap length e ∙ one_longer p.duties d)
 
-    no_other : (From stack (length c.nodes) (length p'.duties) (state_of p') ws v → Stands stack roots p' → v ≡ verdict (at_state p')) →
-        Fate stack roots c.nodes c.clauses p w p' → Ahead stack (length c.nodes) (length p.duties) (state_of p) w ws v → v ≡ verdict (at_state p)
+    no_other : (From stack (length p'.duties) (state_of p') ws v → Stands stack roots p' → v ≡ verdict (at_state p')) →
+        Fate stack roots c.nodes c.clauses p w p' → Ahead stack (length p.duties) (state_of p) w ws v → v ≡ verdict (at_state p)
     no_other ih (moves d e m meets only over stands) (passes x k l f) =
         let to : verdict (at_state p) ≡ verdict (at_state p') =
         goes_to p p' d (Done (length p'.clauses)) e r m
         ∙ ap (λ n. verdict record { nodes = c.nodes; clauses = c.clauses; duties = c.duties; done = n; derived = length p'.clauses; refusal = None }) (one_more_done d e) in
-        ih (subst (λ n. From stack (length c.nodes) n (state_of p') ws v) (one_more_done d e) (subst (λ y. From stack (length c.nodes) (suc (length p.duties)) y ws v) (only x k) f)) stands ∙ sym to
+        ih (subst (λ n. From stack n (state_of p') ws v) (one_more_done d e) (subst (λ y. From stack (suc (length p.duties)) y ws v) (only x k) f)) stands ∙ sym to
     no_other ih (moves d e m meets only over stands) (stops f a b) = absurd (a (state_of p') meets)
     no_other ih (moves d e m meets only over stands) (exceeds o f i) = absurd (over o i)
     no_other ih (misses d e m not_met no_over) (passes x k l f) = absurd (not_met x k)
@@ -213,23 +213,23 @@ module _ (stack : Stack) (roots : List ℕ) (q : Plans) (c : Checker) (g : Whole
     no_other ih (leaves d e o m i) (passes x k l f) = absurd (l o i)
     no_other ih (leaves d e o m i) (stops f a b) = absurd (b o i)
     no_other ih (leaves d e o m i) (exceeds y f j) =
-        f ∙ ap (Over (length p.duties)) (one_over (length c.nodes) (state_of p) w y o j i) ∙ sym (goes_to p p' d (Leaves o) e r m ∙ refused_is (after (at_state p) (Leaves o)) (Over (length p.duties) o) refl)
+        f ∙ ap (Over (length p.duties)) (one_over (state_of p) w y o j i) ∙ sym (goes_to p p' d (Leaves o) e r m ∙ refused_is (after (at_state p) (Leaves o)) (Over (length p.duties) o) refl)
 
-  only_end : (p : Plans) → p ≡ q → (v : Verdict) → AtEnd stack (length c.nodes) (length p.duties) (state_of p) v → (b : Bool) → list_any is_empty c.clauses ≡ b → v ≡ (if b then Finished else NotEmpty)
+  only_end : (p : Plans) → p ≡ q → (v : Verdict) → AtEnd stack (length p.duties) (state_of p) v → (b : Bool) → list_any is_empty c.clauses ≡ b → v ≡ (if b then Finished else NotEmpty)
   only_end p e v (finished f k) true g' = f
   only_end p e v (finished f k) false g' = absurd (empty_nowhere p.terms c.clauses g' (subst (λ ls. Contains (map (views p.terms) ls) []) (sym (g.clauses ∙ ap (λ x. x.clauses) (sym e))) k))
   only_end p e v (not_empty f k) true g' = absurd (k (subst (λ ls. Contains (map (views p.terms) ls) []) (g.clauses ∙ ap (λ x. x.clauses) (sym e)) (empty_here p.terms c.clauses g')))
   only_end p e v (not_empty f k) false g' = f
 
-  pub only_from : (ws : List (Option Step)) (p : Plans) → Stands stack roots p → planned_all stack.symbols roots p ws ≡ Some q → (v : Verdict) → From stack (length c.nodes) (length p.duties) (state_of p) ws v → v ≡ verdict (at_state p)
+  pub only_from : (ws : List (Option Step)) (p : Plans) → Stands stack roots p → planned_all stack.symbols roots p ws ≡ Some q → (v : Verdict) → From stack (length p.duties) (state_of p) ws v → v ≡ verdict (at_state p)
   only_from [] p h e v f =
       let is : p ≡ q = some_is e in
       let past : length c.duties ≤ length p.duties = (let f : length c.duties ≡ length p.duties = ap length (g.duties ∙ ap (λ x. x.duties) (sym is)) in omega arith) in
-      only_end p is v (only.at_end stack (length c.nodes) (length p.duties) (state_of p) v f) (list_any is_empty c.clauses) refl ∙ sym (at_end (at_state p) past)
+      only_end p is v (only.at_end stack (length p.duties) (state_of p) v f) (list_any is_empty c.clauses) refl ∙ sym (at_end (at_state p) past)
   only_from (w ∷ ws) p h e v f =
       let b = bind_some (planned stack.symbols roots p w) (λ r. planned_all stack.symbols roots r ws) q e in
       no_other p b.0 w ws (all_grows stack.symbols roots b.0 ws q b.2) v (λ f stands. only_from ws b.0 stands b.2 v f)
-      (fate_of stack roots c.nodes c.clauses p (scene p h (all_grows stack.symbols roots p (w ∷ ws) q e)) w b.0 b.1) (only.ahead stack (length c.nodes) (length p.duties) (state_of p) w ws v f)
+      (fate_of stack roots c.nodes c.clauses p (scene p h (all_grows stack.symbols roots p (w ∷ ws) q e)) w b.0 b.1) (only.ahead stack (length p.duties) (state_of p) w ws v f)
 
 -- ---- from the beginning
 place_at : (terms : List Term) (t : Term) (k : ℕ) → place terms t ≡ Some k → At terms k t
@@ -252,7 +252,7 @@ places_at terms (t ∷ ts) ns e =
     subst (λ l. AllAt terms l (t ∷ ts)) (some_is d.2) (one-term (place_at terms t b.0 b.1) (places_at terms ts d.0 d.1))
 
 pub whole_answer : (stack : Stack) (ws : List (Option Step)) (q : Plans) (c : Checker) → Each IsSorted stack.assertions → plans_of stack ws ≡ Some q →
-    ((roots : List ℕ) → Whole stack roots q c) → c.done ≡ 0 → c.derived ≡ 0 → c.refusal ≡ None → (v : Verdict) → Answers stack (length c.nodes) ws v ↔ (v ≡ verdict c)
+    ((roots : List ℕ) → Whole stack roots q c) → c.done ≡ 0 → c.derived ≡ 0 → c.refusal ≡ None → (v : Verdict) → Answers stack ws v ↔ (v ≡ verdict c)
 whole_answer stack ws q c sorted e g d1 d2 d3 v =
     let ts = added [] (parts_of stack.assertions) in
     let b = bind_some (begun stack.assertions) (λ b. planned_all stack.symbols b.0 b.1 ws) q e in
@@ -270,11 +270,11 @@ whole_answer stack ws q c sorted e g d1 d2 d3 v =
     } in
     let first : start stack ≡ state_of p = ap (λ l. record { terms = l; clauses = [] }) (sym (added_distinct (parts_of stack.assertions))) in
     let at : record { nodes = c.nodes; clauses = c.clauses; duties = c.duties; done = 0; derived = 0; refusal = None } ≡ c = rebuilt c d1 d2 d3 in
-    subst (λ x. Answers stack (length c.nodes) ws v ↔ (v ≡ verdict x)) at (
-      (λ a. only_from stack y.0 q c (g y.0) ws p stands planned' v (subst (λ s. From stack (length c.nodes) 0 s ws v) first (answers_from stack (length c.nodes) ws v a))),
+    subst (λ x. Answers stack ws v ↔ (v ≡ verdict x)) at (
+      (λ a. only_from stack y.0 q c (g y.0) ws p stands planned' v (subst (λ s. From stack 0 s ws v) first (answers_from stack ws v a))),
       (λ e.
-          subst (Answers stack (length c.nodes) ws) (sym e)
-          (answer_from stack y.0 q c (g y.0) ws p [] stands (subst (λ s. Holds stack (length c.nodes) (start stack) [] s) first none) refl planned')),
+          subst (Answers stack ws) (sym e)
+          (answer_from stack y.0 q c (g y.0) ws p [] stands (subst (λ s. Holds stack (start stack) [] s) first none) refl planned')),
     )
   where
     rebuilt : (c : Checker) → c.done ≡ 0 → c.derived ≡ 0 → c.refusal ≡ None → record { nodes = c.nodes; clauses = c.clauses; duties = c.duties; done = 0; derived = 0; refusal = None } ≡ c

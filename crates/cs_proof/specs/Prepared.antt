@@ -1,9 +1,9 @@
 -- What is prepared for a step by numbers: its duty, and the clause that it then derives.
-use Rattle.std.specs.Prelude.{ℕ, Bool, true, false, nat_lt, ◌^◌, if◌then◌else◌, List, [], ◌∷◌, ◌++◌, map, length, Option, Some, None, slice_get}
+use Rattle.std.specs.Prelude.{ℕ, Bool, true, false, nat_lt, ◌^◌, if◌then◌else◌, List, [], ◌∷◌, map, length, Option, Some, None, slice_get}
 use Rattle.std.specs.List.{list_all}
 use Rattle.vx_frac.specs.Fractions.{Fraction}
 use Rattle.vx_terms.specs.Sorts.{BoolSort, same_sort}
-use Rattle.cs_certificate.specs.Certificate.{Sign, Plain, Negated, NumberedLiteral, Step, Input, NewTerm, Define, Pick, Chain, Congruence, Farkas, Split, Trichotomy, Divide, Propagate}
+use Rattle.cs_certificate.specs.Certificate.{Sign, Plain, Negated, NumberedLiteral, Step, Input, Define, Pick, Chain, Congruence, Farkas, Split, Trichotomy, Divide, Propagate}
 use Rattle.cs_nodes.specs.Nodes.{Node}
 use Rattle.cs_nodes.specs.Steps.{◌>>=◌, define_clause, pick_clause, chain_clause, congruence_clause, split_clause, trichotomy_clause, divide_clause}
 use Rattle.cs_numbers.specs.Numbering.{input_clause}

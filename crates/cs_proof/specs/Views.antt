@@ -5,7 +5,6 @@ use Rattle.vx_terms.specs.Views.{term}
 use Rattle.cs_certificate.specs.Certificate.{NumberedLiteral, Step, Input, NewTerm, Define, Pick, Chain, Congruence, Farkas, Split, Trichotomy, Divide, Propagate}
 use Rattle.cs_reader.specs.declared.step.Literal.{Literal as Literal'}
 use Rattle.cs_table.specs.Gives.{sign_of}
-use Rattle.cs_table.specs.Views.{nodes}
 use Rattle.cs_farkas.specs.Views.{combination}
 use Rattle.cs_hints.specs.declared.Literal.{Literal}
 use Rattle.cs_hints.specs.declared.Clause.{Clause}

@@ -11,17 +11,18 @@ ghost use Rattle.cs_hints.specs.Marks.{terms_in, rounds_in};
 ghost use Rattle.cs_proof.specs.Checking as clean;
 ghost use Rattle.cs_proof.specs.Plans as plans;
 ghost use Rattle.cs_proof.specs.Fits.{stand, seen, Fits};
+ghost use Rattle.cs_proof.specs.Meant.{all_meant};
 ghost use Rattle.cs_proof.specs.Views.{written, duty, IsFit, IsFitClause};
 
 use crate::plans::{Plans, extend, plan_all, roots_of};
 use crate::prepare::Duty;
 use crate::stack::Stack;
-use crate::step::Step;
+use crate::step::{Step, steps_of};
 use cs_farkas::{Break, Combination, Sums, refutes};
 use cs_hints::{Clause, Marks, refutes_by};
 use cs_numbers::number;
-use cs_reader::Refusal;
-use cs_table::{Node, Stop};
+use cs_reader::{Certificate, Refusal};
+use cs_table::{Node, Stop, Table};
 use std::alloc::{AllocError, Global};
 
 /// The first items, so many where there are as many.
@@ -152,15 +153,9 @@ fn plans_of(alloc: Global, stack: &Stack, steps: &[Step]) -> Result<Plans, Stop>
         return Err(Stop::Want);
     }
     let terms = number(alloc, &stack.assertions)?;
-    if terms.len() >= 1 << 32 {
-        return Err(Stop::Want);
-    }
     let roots = roots_of(alloc, &terms, &stack.assertions)?;
-    let mut nodes = Vec::new(alloc);
+    let mut nodes = Table::new(alloc)?;
     extend(alloc, &mut nodes, &terms)?;
-    if nodes.len() >= 1 << 32 {
-        return Err(Stop::Want);
-    }
     let mut plans = Plans {
         terms,
         nodes,
@@ -172,15 +167,26 @@ fn plans_of(alloc: Global, stack: &Stack, steps: &[Step]) -> Result<Plans, Stop>
 }
 
 impl Checker {
+    ghost use Rattle.cs_reader.specs.Steps.{certificate as seen_certificate};
     ghost use Rattle.cs_proof.specs.CheckerView.{checker, Tells, Closes, Begins};
 
-    /// A checker that has done no step. It numbers all terms and prepares each step's clause.
+    /// A checker that has done no step. It reads the terms of `term` steps over the live symbols,
+    /// numbers all terms and prepares each step's clause.
     ///
     /// # Errors
     /// `Want` where memory runs out.
-    pub fn new(alloc: Global, stack: &Stack, steps: &[Step]) -> Result<Checker, Want>
+    pub fn new(alloc: Global, stack: &Stack, certificate: Certificate) -> Result<Checker, Want>
+        ensures value { IfOk result (λ c. Begins (plans.plans_of (seen stack.now) (all_meant (seen stack.now) (seen_certificate certificate))) (checker c)) }
+        ensures answers { Each IsSorted (seen stack.now).assertions → (v : clean.Verdict) → IfOk result (λ c. Answers (seen stack.now) (all_meant (seen stack.now) (seen_certificate certificate)) v ↔ (v ≡ clean.verdict (checker c))) }
+    {
+        let steps = steps_of(alloc, &stack.symbols, certificate)?;
+        Checker::of(alloc, stack, &steps)
+    }
+
+    /// A checker of these steps.
+    fn of(alloc: Global, stack: &Stack, steps: &[Step]) -> Result<Checker, Want>
         ensures value { IfOk result (λ c. Begins (plans.plans_of (seen stack.now) (map written steps.now)) (checker c)) }
-        ensures answers { Each IsSorted (seen stack.now).assertions → (v : clean.Verdict) → IfOk result (λ c. Answers (seen stack.now) (length (checker c).nodes) (map written steps.now) v ↔ (v ≡ clean.verdict (checker c))) }
+        ensures answers { Each IsSorted (seen stack.now).assertions → (v : clean.Verdict) → IfOk result (λ c. Answers (seen stack.now) (map written steps.now) v ↔ (v ≡ clean.verdict (checker c))) }
     {
         let plans = plans_of(alloc, stack, steps)?;
         if plans.duties.len() >= 1 << 32 {
@@ -189,12 +195,19 @@ impl Checker {
         if plans.clauses.len() >= 1 << 32 {
             return Err(Want);
         }
-        let sums = Sums::new(alloc, plans.nodes.len())?;
-        let marks = Marks::new(alloc, plans.nodes.len())?;
+        let Plans {
+            terms: _,
+            nodes,
+            duties,
+            clauses,
+        } = plans;
+        let nodes = nodes.into_nodes();
+        let sums = Sums::new(alloc, nodes.len())?;
+        let marks = Marks::new(alloc, nodes.len())?;
         Ok(Checker {
-            nodes: plans.nodes,
-            clauses: plans.clauses,
-            duties: plans.duties,
+            nodes,
+            clauses,
+            duties,
             sums,
             marks,
             done: 0,

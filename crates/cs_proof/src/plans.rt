@@ -1,9 +1,10 @@
 //! What is prepared for all steps, one after another.
-ghost use Rattle.std.specs.Prelude.{◌≡◌, ◌<◌, ◌≤◌, ◌^◌, length, drop, map, OnOk, Some};
+ghost use Rattle.std.specs.Prelude.{◌≡◌, ◌≤◌, length, drop, map, OnOk, Some};
 ghost use Rattle.vx_terms.specs.Views.{term};
 ghost use Rattle.vx_smt_meaning.specs.Views.{declared_symbol};
 ghost use Rattle.cs_numbers.specs.Numbering.{nodes_after, places};
-ghost use Rattle.cs_table.specs.Views.{nodes};
+ghost use Rattle.cs_numbers.specs.Listed.{terms_in};
+ghost use Rattle.cs_table.specs.Table.{nodes_in};
 ghost use Rattle.cs_table.specs.Gives.{Gives};
 ghost use Rattle.cs_proof.specs.Plans as clean;
 ghost use Rattle.cs_proof.specs.Prepared.{Missed, prepared_of};
@@ -14,9 +15,9 @@ ghost use Rattle.cs_proof.specs.Fits.{stand, Fits};
 use crate::prepare::{Duty, prepared};
 use crate::step::Step;
 use cs_hints::Clause;
-use cs_numbers::{add, node_of, place_of};
+use cs_numbers::{NumberedTerms, add, node_of, place_of};
 use cs_sorts::{is_live, sort_in};
-use cs_table::{Node, Stop};
+use cs_table::{Stop, Table};
 use std::alloc::Global;
 use std::rc::Rc;
 use vx_smt_meaning::Declared;
@@ -25,8 +26,8 @@ use vx_terms::Term;
 /// The numbered terms and their nodes, and for each step its duty, and its clause where it has one.
 #[derive(Drop)]
 pub struct Plans {
-    pub terms: Vec<Rc<Term>>,
-    pub nodes: Vec<Node>,
+    pub terms: NumberedTerms,
+    pub nodes: Table,
     pub duties: Vec<Duty>,
     pub clauses: Vec<Clause>,
 }
@@ -34,11 +35,10 @@ pub struct Plans {
 /// The numbers of the assertions.
 pub fn roots_of(
     alloc: Global,
-    terms: &[Rc<Term>],
+    terms: &NumberedTerms,
     assertions: &[Rc<Term>],
 ) -> Result<Vec<u32>, Stop>
-    requires { length terms.now < 2 ^ 32 }
-    ensures { Gives (λ v. v.items) result (places (map (λ x. term x.value) terms.now) (map (λ x. term x.value) assertions.now)) }
+    ensures { Gives (λ v. v.items) result (places (terms_in terms.now) (map (λ x. term x.value) assertions.now)) }
 {
     let mut roots = Vec::new(alloc);
     for assertion in assertions {
@@ -50,32 +50,31 @@ pub fn roots_of(
 /// The nodes of some terms, behind those that are there.
 fn push_nodes(
     alloc: Global,
-    all: &mut Vec<Node>,
-    terms: &[Rc<Term>],
+    all: &mut Table,
+    terms: &NumberedTerms,
     rest: &[Rc<Term>],
 ) -> Result<(), Stop>
-    requires { length terms.now < 2 ^ 32 }
-    ensures value { Gives (λ u. nodes all.new.items) result (nodes_after (nodes all.old.items) (map (λ x. term x.value) terms.now) (map (λ x. term x.value) rest.now)) }
-    ensures grown { length all.old.items ≤ length all.new.items }
+    ensures value { Gives (λ u. nodes_in all.new) result (nodes_after (nodes_in all.old) (terms_in terms.now) (map (λ x. term x.value) rest.now)) }
+    ensures grown { OnOk result (length all.old.nodes.items ≤ length all.new.nodes.items) }
 {
     for t in rest {
-        all.push(node_of(alloc, terms, t)?)?;
+        let node = node_of(alloc, terms, t)?;
+        all.push(node)?;
     }
     Ok(())
 }
 
 /// The nodes of the terms that have none yet.
 #[tactic(auto, using(crate::proofs::Walks::terms_drop, crate::proofs::Walks::none_left))]
-pub fn extend(alloc: Global, all: &mut Vec<Node>, terms: &[Rc<Term>]) -> Result<(), Stop>
-    requires { length terms.now < 2 ^ 32 }
-    ensures value { Gives (λ u. nodes all.new.items) result (nodes_after (nodes all.old.items) (map (λ x. term x.value) terms.now) (drop (length all.old.items) (map (λ x. term x.value) terms.now))) }
-    ensures grown { length all.old.items ≤ length all.new.items }
+pub fn extend(alloc: Global, all: &mut Table, terms: &NumberedTerms) -> Result<(), Stop>
+    ensures value { Gives (λ u. nodes_in all.new) result (nodes_after (nodes_in all.old) (terms_in terms.now) (drop (length all.old.nodes.items) (terms_in terms.now))) }
+    ensures grown { OnOk result (length all.old.nodes.items ≤ length all.new.nodes.items) }
 {
-    let known = all.len();
-    if known >= terms.len() {
+    let known = all.nodes.len();
+    if known >= terms.terms.len() {
         return Ok(());
     }
-    match push_nodes(alloc, all, terms, &terms[known..]) {
+    match push_nodes(alloc, all, terms, &terms.terms[known..]) {
         Ok(()) => Ok(()),
         Err(stop) => Err(stop),
     }
@@ -94,9 +93,9 @@ fn is_fine(symbols: &[Declared], t: &Term) -> Result<bool, Stop>
 
 fn push_duty(plans: &mut Plans, duty: Duty) -> Result<(), Stop>
     requires fits { Fits plans.old }
-    requires duty { IsFit (length plans.old.nodes.items) duty }
+    requires duty { IsFit (length plans.old.nodes.nodes.items) duty }
     ensures value { Gives (λ u. stand plans.new) result (Some (clean.with_duty (stand plans.old) (Views.duty duty))) }
-    ensures nodes { OnOk result (plans.new.nodes.items ≡ plans.old.nodes.items) }
+    ensures nodes { OnOk result (plans.new.nodes.nodes.items ≡ plans.old.nodes.nodes.items) }
     ensures fits { OnOk result (Fits plans.new) }
 {
     plans.duties.push(duty)?;
@@ -105,7 +104,7 @@ fn push_duty(plans: &mut Plans, duty: Duty) -> Result<(), Stop>
 
 fn push_clause(plans: &mut Plans, clause: Clause) -> Result<(), Stop>
     requires fits { Fits plans.old }
-    requires clause { IsFitClause (length plans.old.nodes.items) clause }
+    requires clause { IsFitClause (length plans.old.nodes.nodes.items) clause }
     ensures value { Gives (λ u. stand plans.new) result (Some (clean.and_clause (stand plans.old) clause.literals.items)) }
     ensures fits { OnOk result (Fits plans.new) }
 {
@@ -129,13 +128,7 @@ fn name(alloc: Global, t: &Rc<Term>, plans: &mut Plans) -> Result<(), Stop>
     ensures fits { OnOk result (Fits plans.new) }
 {
     add(&mut plans.terms, t)?;
-    if plans.terms.len() >= 1 << 32 {
-        return Err(Stop::Want);
-    }
     extend(alloc, &mut plans.nodes, &plans.terms)?;
-    if plans.nodes.len() >= 1 << 32 {
-        return Err(Stop::Want);
-    }
     plans.duties.push(Duty::Named)?;
     Ok(())
 }
@@ -143,7 +136,7 @@ fn name(alloc: Global, t: &Rc<Term>, plans: &mut Plans) -> Result<(), Stop>
 /// A step with a clause.
 fn keep(alloc: Global, roots: &[u32], step: &Step, plans: &mut Plans) -> Result<(), Stop>
     requires { Fits plans.old }
-    ensures value { Gives (λ u. stand plans.new) result (Some (clean.kept (stand plans.old) (prepared_of (nodes plans.old.nodes.items) roots.now (written step.now)))) }
+    ensures value { Gives (λ u. stand plans.new) result (Some (clean.kept (stand plans.old) (prepared_of (nodes_in plans.old.nodes) roots.now (written step.now)))) }
     ensures fits { OnOk result (Fits plans.new) }
 {
     match prepared(alloc, &plans.nodes, roots, step) {

@@ -5,6 +5,7 @@ ghost use Rattle.vx_frac.specs.Fraction.{fraction};
 ghost use Rattle.vx_terms.specs.Sorts.{BoolSort, same_sort};
 ghost use Rattle.vx_terms.specs.Views.{sort};
 ghost use Rattle.cs_numbers.specs.Numbering.{input_clause};
+ghost use Rattle.cs_table.specs.Table.{nodes_in};
 ghost use Rattle.cs_table.specs.Views.{nodes};
 ghost use Rattle.cs_table.specs.Gives.{Gives, clause};
 ghost use Rattle.cs_hints.specs.Marks.{IsBelow};
@@ -15,7 +16,9 @@ use crate::narrow::{clause_within, narrow, narrow_all, narrow_literals, saturate
 use crate::step::Step;
 use cs_farkas::{Combination, combination_of};
 use cs_hints::Clause;
-use cs_table::{Literal, Node, Stop, chain, congruence, define, divide, pick, split, trichotomy};
+use cs_table::{
+    Literal, Node, Stop, Table, chain, congruence, define, divide, pick, split, trichotomy,
+};
 use std::alloc::Global;
 use vx_frac::Frac;
 use vx_terms::Sort;
@@ -53,9 +56,8 @@ fn input(alloc: Global, roots: &[u32], number: u32) -> Result<Vec<Literal>, Stop
 }
 
 /// The clause of a step that has nothing more to show.
-fn clause_by(alloc: Global, all: &[Node], roots: &[u32], step: &Step) -> Result<Vec<Literal>, Stop>
-    requires { length all.now < 2 ^ 32 }
-    ensures { Gives (λ v. clause v.items) result (clean.clause_of (nodes all.now) roots.now (written step.now)) }
+fn clause_by(alloc: Global, all: &Table, roots: &[u32], step: &Step) -> Result<Vec<Literal>, Stop>
+    ensures { Gives (λ v. clause v.items) result (clean.clause_of (nodes_in all.now) roots.now (written step.now)) }
 {
     match step {
         Step::Input(n) => input(alloc, roots, narrow(*n)?),
@@ -141,32 +143,30 @@ fn propagation(
     Ok((Duty::Hints(assumed.literals, hints), clause))
 }
 
-fn derived(alloc: Global, all: &[Node], roots: &[u32], step: &Step) -> Result<(Duty, Clause), Stop>
-    requires { length all.now < 2 ^ 32 }
-    ensures value { Gives (λ x. (duty x.0, x.1.literals.items)) result (clean.derived (nodes all.now) (clean.clause_of (nodes all.now) roots.now (written step.now))) }
-    ensures duty { IfOk result (λ x. IsFit (length all.now) x.0) }
-    ensures clause { IfOk result (λ x. IsFitClause (length all.now) x.1) }
+fn derived(alloc: Global, all: &Table, roots: &[u32], step: &Step) -> Result<(Duty, Clause), Stop>
+    ensures value { Gives (λ x. (duty x.0, x.1.literals.items)) result (clean.derived (nodes_in all.now) (clean.clause_of (nodes_in all.now) roots.now (written step.now))) }
+    ensures duty { IfOk result (λ x. IsFit (length all.now.nodes.items) x.0) }
+    ensures clause { IfOk result (λ x. IsFitClause (length all.now.nodes.items) x.1) }
 {
     let literals = clause_by(alloc, all, roots, step)?;
-    let clause = clause_within(alloc, all.len(), &literals)?;
+    let clause = clause_within(alloc, all.nodes.len(), &literals)?;
     Ok((Duty::Derived, clause))
 }
 
 /// What a step has to show, and its clause; a step that can't meet its rule misses.
 pub fn prepared(
     alloc: Global,
-    all: &[Node],
+    all: &Table,
     roots: &[u32],
     step: &Step,
 ) -> Result<(Duty, Clause), Stop>
-    requires { length all.now < 2 ^ 32 }
-    ensures value { Gives (λ x. (duty x.0, x.1.literals.items)) result (clean.prepared_of (nodes all.now) roots.now (written step.now)) }
-    ensures duty { IfOk result (λ x. IsFit (length all.now) x.0) }
-    ensures clause { IfOk result (λ x. IsFitClause (length all.now) x.1) }
+    ensures value { Gives (λ x. (duty x.0, x.1.literals.items)) result (clean.prepared_of (nodes_in all.now) roots.now (written step.now)) }
+    ensures duty { IfOk result (λ x. IsFit (length all.now.nodes.items) x.0) }
+    ensures clause { IfOk result (λ x. IsFitClause (length all.now.nodes.items) x.1) }
 {
     match step {
-        Step::Farkas(literals, multipliers) => sum(alloc, all, literals, multipliers),
-        Step::Propagate(literals, hints) => propagation(alloc, all, literals, hints),
+        Step::Farkas(literals, multipliers) => sum(alloc, &all.nodes, literals, multipliers),
+        Step::Propagate(literals, hints) => propagation(alloc, &all.nodes, literals, hints),
         Step::Input(_)
         | Step::Define(_, _)
         | Step::Pick(_, _)

@@ -1,14 +1,17 @@
 //! Steps of certificates, over terms.
-ghost use Rattle.std.specs.Prelude.{◌≡◌};
-ghost use Rattle.std.specs.Option.{option_map};
-ghost use Rattle.vx_terms.specs.Views.{term};
-ghost use Rattle.cs_reader.specs.Steps.{step};
+ghost use Rattle.std.specs.Prelude.{◌≡◌, map, IfOk};
+ghost use Rattle.vx_smt_meaning.specs.Views.{declared_symbol};
+ghost use Rattle.cs_reader.specs.Steps.{step, certificate};
 ghost use Rattle.cs_proof.specs.Views.{written};
-ghost use Rattle.cs_proof.specs.Meant.{meant};
+ghost use Rattle.cs_proof.specs.Meant.{meant, new_term};
 
-use cs_reader::Literal;
+use cs_reader::{Certificate, Literal, Scope, spelled};
+use cs_table::Stop;
+use std::alloc::Global;
 use std::rc::Rc;
 use vx_frac::Frac;
+use vx_sexp::Token;
+use vx_smt_meaning::Declared;
 use vx_terms::Term;
 
 /// A step. Terms, assertions and clauses are named by their numbers.
@@ -16,7 +19,7 @@ use vx_terms::Term;
 pub enum Step {
     Input(u128),
     Term(Rc<Term>),
-    /// A `term` step that spells no term.
+    /// A `term` step that spells no term over the live symbols.
     NoTerm,
     Define(u128, u128),
     Pick(u128, u128),
@@ -29,17 +32,27 @@ pub enum Step {
     Propagate(Vec<Literal>, Vec<u128>),
 }
 
-/// The step that a written one stands for. A `term` step comes with the term that its tokens
-/// spell, if there is one; with any other step that is not looked at.
-pub fn step_of(read: cs_reader::Step, spelled: Option<Rc<Term>>) -> Step
-    ensures { written result ≡ meant (option_map (λ t. term t.value) spelled) (step read) }
+/// The `term` step of these tokens.
+fn term_step(alloc: Global, symbols: &[Declared], tokens: &[Token]) -> Result<Step, Stop>
+    ensures { IfOk result (λ s. written s ≡ new_term (map declared_symbol symbols.now) tokens.now) }
 {
-    match read {
+    match spelled(alloc, &Scope::Among(symbols), tokens) {
+        Ok(t) => Ok(Step::Term(t)),
+        Err(cs_reader::Stop::Form) => Ok(Step::NoTerm),
+        Err(cs_reader::Stop::Want) => Err(Stop::Want),
+    }
+}
+
+/// The step that a written one stands for, over the live symbols.
+///
+/// # Errors
+/// `Want` where memory runs out.
+pub fn step_of(alloc: Global, symbols: &[Declared], read: cs_reader::Step) -> Result<Step, Stop>
+    ensures { IfOk result (λ s. written s ≡ meant (map declared_symbol symbols.now) (step read)) }
+{
+    Ok(match read {
         cs_reader::Step::Input(n) => Step::Input(n),
-        cs_reader::Step::Term(_) => match spelled {
-            Some(t) => Step::Term(t),
-            None => Step::NoTerm,
-        },
+        cs_reader::Step::Term(tokens) => term_step(alloc, symbols, &tokens)?,
         cs_reader::Step::Define(t, k) => Step::Define(t, k),
         cs_reader::Step::Pick(t, k) => Step::Pick(t, k),
         cs_reader::Step::Chain(terms) => Step::Chain(terms),
@@ -49,5 +62,16 @@ pub fn step_of(read: cs_reader::Step, spelled: Option<Rc<Term>>) -> Step
         cs_reader::Step::Trichotomy(a, b) => Step::Trichotomy(a, b),
         cs_reader::Step::Divide(a, d, k) => Step::Divide(a, d, k),
         cs_reader::Step::Propagate(literals, hints) => Step::Propagate(literals, hints),
+    })
+}
+
+/// The steps that a certificate stands for, over the live symbols.
+pub fn steps_of(alloc: Global, symbols: &[Declared], read: Certificate) -> Result<Vec<Step>, Stop>
+    ensures { IfOk result (λ v. map written v.items ≡ map (meant (map declared_symbol symbols.now)) (certificate read)) }
+{
+    let mut steps = Vec::new(alloc);
+    for step in read.steps {
+        steps.push(step_of(alloc, symbols, step)?)?;
     }
+    Ok(steps)
 }

@@ -1,8 +1,7 @@
 //! Certificates over three stacks, from the text of the reply on.
 
-use crate::{Checker, Stack, Step, Want, step_of};
+use crate::{Checker, Stack};
 use cs_reader::{Certificate, ReadFault, Refusal};
-use cs_table::Stop;
 use std::alloc::{AllocError, Global};
 use std::rc::Rc;
 use vx_frac::{Frac, Op};
@@ -34,8 +33,8 @@ fn applied(alloc: Global, to: &Rc<Term>) -> Result<Rc<Term>, AllocError> {
     apply(alloc, Symbol::Variable(3), Sort::Int, &one)
 }
 
-/// `a = b`, `b = c` and not `g a = g c`, and the term `a = c`.
-fn equalities(alloc: Global) -> Result<(Stack, Rc<Term>), AllocError> {
+/// `v0 = v1`, `v1 = v2` and not `v3 v0 = v3 v2`.
+fn equalities(alloc: Global) -> Result<Stack, AllocError> {
     let a = variable(alloc, 0, Sort::Ref)?;
     let b = variable(alloc, 1, Sort::Ref)?;
     let c = variable(alloc, 2, Sort::Ref)?;
@@ -48,11 +47,10 @@ fn equalities(alloc: Global) -> Result<(Stack, Rc<Term>), AllocError> {
     assertions.push(eq(alloc, &b, &c)?)?;
     let same = eq(alloc, &applied(alloc, &a)?, &applied(alloc, &c)?)?;
     assertions.push(not(alloc, &same)?)?;
-    let stack = Stack {
+    Ok(Stack {
         assertions,
         symbols,
-    };
-    Ok((stack, eq(alloc, &a, &c)?))
+    })
 }
 
 /// `v2 = v0 + 1` and not `v0 < v2`.
@@ -78,40 +76,15 @@ fn bool(alloc: Global) -> Result<Stack, AllocError> {
     })
 }
 
-fn spelled(term: Option<&Rc<Term>>) -> Result<Option<Rc<Term>>, AllocError> {
-    match term {
-        Some(term) => Ok(Some(term.clone()?)),
-        None => Ok(None),
-    }
-}
-
-fn steps(
-    alloc: Global,
-    certificate: Certificate,
-    term: Option<&Rc<Term>>,
-) -> Result<Vec<Step>, Stop> {
-    let mut steps = Vec::new(alloc);
-    for step in certificate.steps {
-        steps.push(step_of(step, spelled(term)?))?;
-    }
-    Ok(steps)
-}
-
 /// The answer to a reply: `None` where memory runs out.
-fn answer(
-    alloc: Global,
-    stack: &Stack,
-    term: Option<&Rc<Term>>,
-    reply: &str,
-) -> Option<Result<(), Refusal>> {
+fn answer(alloc: Global, stack: &Stack, reply: &str) -> Option<Result<(), Refusal>> {
     let (reply, _) = vx_sexp::read(alloc, reply.as_bytes()).ok()?;
     if reply.tokens().len() >= 1000 {
         return None;
     }
     match Certificate::read(alloc, &reply) {
         Ok(certificate) => {
-            let steps = steps(alloc, certificate, term).ok()?;
-            let checker = Checker::new(alloc, stack, &steps).ok()?;
+            let checker = Checker::new(alloc, stack, certificate).ok()?;
             Some(checker.finish())
         }
         Err(ReadFault::Refused(refusal)) => Some(Err(refusal)),
@@ -122,7 +95,7 @@ fn answer(
 #[test]
 fn equalities_are_refuted(rt: HostRuntime) {
     let alloc = rt.alloc();
-    let Ok((stack, term)) = equalities(alloc) else {
+    let Ok(stack) = equalities(alloc) else {
         return;
     };
     let rows = [
@@ -142,14 +115,16 @@ fn equalities_are_refuted(rt: HostRuntime) {
             "(certificate (input 0) (input 1) (chain 1 2 4) (term (= v0 v2)))",
             Err(Refusal::BadStep(2)),
         ),
+        ("(certificate (term (= v0 v9)))", Err(Refusal::BadStep(0))),
+        ("(certificate (term (and v0 v2)))", Err(Refusal::BadStep(0))),
+        (
+            "(certificate (input 0) (term (= v0)))",
+            Err(Refusal::BadForm(1)),
+        ),
     ];
     for (reply, expected) in rows {
-        assert_eq!(rt; answer(alloc, &stack, Some(&term), reply), Some(expected));
+        assert_eq!(rt; answer(alloc, &stack, reply), Some(expected));
     }
-    assert_eq!(rt;
-        answer(alloc, &stack, None, "(certificate (term (= v0 v2)))"),
-        Some(Err(Refusal::BadStep(0)))
-    );
 }
 
 #[test]
@@ -196,7 +171,7 @@ fn sums_are_refuted(rt: HostRuntime) {
         (&bool, "(proof (input 0))", Err(Refusal::BadForm(0))),
     ];
     for (stack, reply, expected) in rows {
-        assert_eq!(rt; answer(alloc, stack, None, reply), Some(expected));
+        assert_eq!(rt; answer(alloc, stack, reply), Some(expected));
     }
 }
 
@@ -206,12 +181,16 @@ fn a_refusal_stays(rt: HostRuntime) {
     let Ok(stack) = bool(alloc) else {
         return;
     };
-    let mut steps = Vec::new(alloc);
-    if steps.push(Step::Input(0)).is_err() || steps.push(Step::Input(9)).is_err() {
+    let Ok((reply, _)) = vx_sexp::read(alloc, b"(certificate (input 0) (input 9))") else {
+        return;
+    };
+    if reply.tokens().len() >= 1000 {
         return;
     }
-    let checker: Result<Checker, Want> = Checker::new(alloc, &stack, &steps);
-    let Ok(mut checker) = checker else {
+    let Ok(certificate) = Certificate::read(alloc, &reply) else {
+        return;
+    };
+    let Ok(mut checker) = Checker::new(alloc, &stack, certificate) else {
         return;
     };
     assert_eq!(rt; checker.step(), Ok(()));

@@ -2,41 +2,42 @@
 use Rattle.std.proofs.Common.{◌≡◌, ℕ, suc, ◌+◌, ◌-◌, ◌<◌, Bool, true, false, List, [], ◌∷◌, ◌++◌, Option, Some, None, Ok, Err, refl, sym, ◌∙◌, ap, append_assoc, append-nil, arith}
 use Rattle.std.specs.Prelude.{if◌then◌else◌}
 use Rattle.std.specs.declared.result.Result.{Result}
-use Rattle.vx_frac.specs.Fractions.{Fraction}
 use Rattle.vx_sexp.specs.declared.token.Token.{Token}
-use Rattle.cs_reader.specs.declared.reader.Stop.{Stop}
-use Rattle.cs_reader.specs.declared.reader.Stop.TheVariants as stops
+use Rattle.cs_reader.specs.declared.stop.Stop.{Stop}
+use Rattle.cs_reader.specs.declared.stop.Stop.TheVariants as stops
 use Rattle.cs_reader.specs.Steps.{Step}
-use Rattle.cs_reader.specs.Reading.{◌>>=◌, Fails, with_front, more_at, with_more, multipliers_for, is_end, step_at, with_steps, after_step, steps_for}
+use Rattle.cs_reader.specs.Items.{◌>>=◌, Fails, with_front, with_item, items_for}
+use Rattle.cs_reader.specs.Reading.{is_end, step_at, with_steps, after_step, steps_for}
 
 one_less : (len n : ℕ) → n < len → len - n ≡ suc (len - (n + 1))
 one_less len n h = omega arith
 
--- multipliers
-unrolled : (len n : ℕ) (ts : List Token) → n < len → multipliers_for (len - n) ts ≡ (more_at ts >>= λ m. with_more m.0 (multipliers_for (len - (n + 1)) m.1) m.1)
-unrolled len n ts h = ap (λ k. multipliers_for k ts) (one_less len n h)
+-- items
+unrolled : {A : Type 0} (turn : List Token → Option (Option A × List Token)) (len n : ℕ) (ts : List Token) → n < len →
+    items_for turn (len - n) ts ≡ (turn ts >>= λ m. with_item m.0 (items_for turn (len - (n + 1)) m.1) m.1)
+unrolled turn len n ts h = ap (λ k. items_for turn k ts) (one_less len n h)
 
-pub stops_here : (xs : List Fraction) (len n : ℕ) (ts : List Token) (stop : Stop) (r : Option (List Fraction × List Token)) → n < len →
-    with_front xs (multipliers_for (len - n) ts) ≡ r → Fails stop (more_at ts) → Fails stop r
-stops_here xs len n ts stops.Want r h e f = tt
-stops_here xs len n ts stops.Form r h e f =
-    sym e ∙ ap (with_front xs) (unrolled len n ts h ∙ ap (λ o. o >>= λ m. with_more m.0 (multipliers_for (len - (n + 1)) m.1) m.1) f)
+pub stops_here : {A : Type 0} (turn : List Token → Option (Option A × List Token)) (xs : List A) (len n : ℕ) (ts : List Token) (stop : Stop) (r : Option (List A × List Token)) → n < len →
+    with_front xs (items_for turn (len - n) ts) ≡ r → Fails stop (turn ts) → Fails stop r
+stops_here turn xs len n ts stops.Want r h e f = tt
+stops_here turn xs len n ts stops.Form r h e f =
+    sym e ∙ ap (with_front xs) (unrolled turn len n ts h ∙ ap (λ o. o >>= λ m. with_item m.0 (items_for turn (len - (n + 1)) m.1) m.1) f)
 
-pub ends_here : (xs : List Fraction) (len n : ℕ) (ts behind : List Token) (r : Option (List Fraction × List Token)) → n < len →
-    with_front xs (multipliers_for (len - n) ts) ≡ r → more_at ts ≡ Some (None, behind) → r ≡ Some (xs, behind)
-ends_here xs len n ts behind r h e f =
-    sym e ∙ ap (with_front xs) (unrolled len n ts h ∙ ap (λ o. o >>= λ m. with_more m.0 (multipliers_for (len - (n + 1)) m.1) m.1) f)
+pub ends_here : {A : Type 0} (turn : List Token → Option (Option A × List Token)) (xs : List A) (len n : ℕ) (ts behind : List Token) (r : Option (List A × List Token)) → n < len →
+    with_front xs (items_for turn (len - n) ts) ≡ r → turn ts ≡ Some (None, behind) → r ≡ Some (xs, behind)
+ends_here turn xs len n ts behind r h e f =
+    sym e ∙ ap (with_front xs) (unrolled turn len n ts h ∙ ap (λ o. o >>= λ m. with_item m.0 (items_for turn (len - (n + 1)) m.1) m.1) f)
     ∙ ap (λ ys. Some (ys, behind)) (append-nil xs)
 
 front_front : {A : Type 0} (xs : List A) (x : A) (o : Option (List A × List Token)) → with_front xs (with_front (x ∷ []) o) ≡ with_front (xs ++ x ∷ []) o
 front_front xs x None = refl
 front_front xs x (Some r) = ap (λ ys. Some (ys, r.1)) (sym (append_assoc xs (x ∷ []) r.0))
 
-pub goes_on : (xs : List Fraction) (x : Fraction) (len n : ℕ) (ts behind : List Token) (r : Option (List Fraction × List Token)) → n < len →
-    with_front xs (multipliers_for (len - n) ts) ≡ r → more_at ts ≡ Some (Some x, behind) → with_front (xs ++ x ∷ []) (multipliers_for (len - (n + 1)) behind) ≡ r
-goes_on xs x len n ts behind r h e f =
-    sym (front_front xs x (multipliers_for (len - (n + 1)) behind))
-    ∙ ap (with_front xs) (sym (unrolled len n ts h ∙ ap (λ o. o >>= λ m. with_more m.0 (multipliers_for (len - (n + 1)) m.1) m.1) f))
+pub goes_on : {A : Type 0} (turn : List Token → Option (Option A × List Token)) (xs : List A) (x : A) (len n : ℕ) (ts behind : List Token) (r : Option (List A × List Token)) → n < len →
+    with_front xs (items_for turn (len - n) ts) ≡ r → turn ts ≡ Some (Some x, behind) → with_front (xs ++ x ∷ []) (items_for turn (len - (n + 1)) behind) ≡ r
+goes_on turn xs x len n ts behind r h e f =
+    sym (front_front xs x (items_for turn (len - (n + 1)) behind))
+    ∙ ap (with_front xs) (sym (unrolled turn len n ts h ∙ ap (λ o. o >>= λ m. with_item m.0 (items_for turn (len - (n + 1)) m.1) m.1) f))
     ∙ e
 
 -- steps

@@ -6,7 +6,8 @@ use Rattle.cs_reader.specs.declared.mark.Name.TheVariants as names
 use Rattle.cs_reader.specs.declared.mark.Mark.{Mark}
 use Rattle.cs_reader.specs.declared.mark.Mark.TheVariants as marks
 use Rattle.cs_reader.specs.Marks.{mark}
-use Rattle.cs_reader.specs.Reading.{◌>>=◌, if_open, if_name, opened_at, name_at, if_certificate, headed_at}
+use Rattle.cs_reader.specs.Items.{◌>>=◌}
+use Rattle.cs_reader.specs.Reading.{if_open, if_name, opened_at, name_at, if_certificate, headed_at}
 
 opened_shorter : (ts rest : List Token) → opened_at ts ≡ Some rest → length rest < length ts
 unfolding opened_at

@@ -1,5 +1,5 @@
 -- What the tokens of a certificate stand for.
-use Rattle.std.specs.Prelude.{ℕ, ◌<◌, ◌+◌, ◌-◌, ◌*◌, ◌^◌, Bool, true, false, ◌&&◌, nat_eq, nat_le, nat_lt, if◌then◌else◌, List, [], ◌∷◌, Option, Some, None, length, codes}
+use Rattle.std.specs.Prelude.{ℕ, ◌<◌, ◌+◌, ◌-◌, ◌*◌, ◌^◌, true, false, ◌&&◌, nat_eq, nat_lt, if◌then◌else◌, List, [], ◌∷◌, Option, Some, None, length, codes}
 use Rattle.std.specs.Option.{option_map, option_and_then}
 use Rattle.std.specs.Str.{bytes_eq}
 use Rattle.cs_reader.specs.declared.step.Literal.{Literal}
@@ -7,13 +7,11 @@ use Rattle.cs_reader.specs.declared.mark.Name.{Name}
 use Rattle.cs_reader.specs.declared.mark.Name.TheVariants as names
 use Rattle.cs_reader.specs.declared.mark.Mark.{Mark}
 use Rattle.cs_reader.specs.declared.mark.Mark.TheVariants as marks
+use Rattle.vx_sexp.specs.Characters.{is_digit}
 use Rattle.vx_sexp.specs.declared.token.Kind.{Kind}
 use Rattle.vx_sexp.specs.declared.token.Kind.TheVariants.{Numeral, Symbol}
 use Rattle.vx_sexp.specs.declared.token.Token.{Token}
 use Rattle.vx_sexp.specs.declared.token.Token.TheVariants.{Open, Close, Atom}
-
-abbrev pub is_digit : ℕ → Bool
-is_digit d = nat_le 48 d && nat_le d 57
 
 -- a number with a further digit, where it stays below 2^127
 abbrev pub with_digit : ℕ → ℕ → Option ℕ

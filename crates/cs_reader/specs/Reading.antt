@@ -9,27 +9,13 @@ use Rattle.cs_reader.specs.declared.mark.Name.{Name}
 use Rattle.cs_reader.specs.declared.mark.Name.TheVariants as names
 use Rattle.cs_reader.specs.declared.mark.Mark.{Mark}
 use Rattle.cs_reader.specs.declared.mark.Mark.TheVariants as marks
-use Rattle.cs_reader.specs.declared.reader.Stop.{Stop}
-use Rattle.cs_reader.specs.declared.reader.Stop.TheVariants as stops
 use Rattle.cs_reader.specs.declared.reader.ReadFault.{ReadFault}
 use Rattle.cs_reader.specs.declared.reader.ReadFault.TheVariants as faults
 use Rattle.cs_reader.specs.declared.refusal.Refusal.TheVariants.{BadForm}
+use Rattle.cs_reader.specs.Items.{◌>>=◌, with_front, items_for}
 use Rattle.cs_reader.specs.Marks.{mark}
+use Rattle.cs_reader.specs.Spelling.{spelled, any}
 use Rattle.cs_reader.specs.Steps.{Step, Input, NewTerm, Define, Pick, Chain, Congruence, Farkas, Split, Trichotomy, Divide, Propagate}
-
-infixl 10 ◌>>=◌
-abbrev pub ◌>>=◌ : {A B : Type 0} → Option A → (A → Option B) → Option B
-(Some x) >>= f = f x
-None >>= f = None
-
--- what a reader returned, seen by view, is what reading gives, unless memory ran out
-abbrev pub Fails : {Y : Type 0} → Stop → Option Y → Type 0
-Fails stops.Want read = Unit {0}
-Fails stops.Form read = read ≡ None
-
-abbrev pub Gives : {X Y : Type 0} → (X → Y) → Result X Stop → Option Y → Type 0
-Gives view (Ok x) read = read ≡ Some (view x)
-Gives view (Err e) read = Fails e read
 
 abbrev pub next_at : List Token → Option (Mark × List Token)
 next_at [] = None
@@ -91,9 +77,6 @@ three_at ts = do
   Some ((a.0, b.0.0, b.0.1), b.1)
 
 -- Lists, to their closing parenthesis.
-
-abbrev pub with_front : {A : Type 0} → List A → Option (List A × List Token) → Option (List A × List Token)
-with_front xs read = read >>= λ r. Some (xs ++ r.0, r.1)
 
 abbrev pub number_or_close : Mark → List Token → Option (List ℕ × List Token) → Option (List ℕ × List Token)
 number_or_close (marks.Number n) ts later = with_front (n ∷ []) later
@@ -201,28 +184,17 @@ more_at ts = do
   m ← next_at ts
   more_by m.0 m.1
 
-abbrev pub with_more : Option Fraction → Option (List Fraction × List Token) → List Token → Option (List Fraction × List Token)
-with_more None later ts = Some ([], ts)
-with_more (Some a) later ts = with_front (a ∷ []) later
-
--- at most so many; there are no more of them than tokens
-abbrev pub multipliers_for : ℕ → List Token → Option (List Fraction × List Token)
-multipliers_for zero ts = None
-multipliers_for (suc n) ts = do
-  m ← more_at ts
-  with_more m.0 (multipliers_for n m.1) m.1
-
+-- multipliers to the closing parenthesis; there are no more of them than tokens
 abbrev pub multipliers_at : List Token → Option (List Fraction × List Token)
-multipliers_at ts = multipliers_for (length ts) ts
+multipliers_at ts = items_for more_at (length ts) ts
 
 -- Terms.
 
--- so many lists are open behind a token of a term, in which no numeral is too large
+-- so many lists are open behind a token of a term
 abbrev pub depth_after : Mark → ℕ → Option ℕ
 depth_after marks.Open d = Some (d + 1)
 depth_after marks.Close zero = None
 depth_after marks.Close (suc d) = Some d
-depth_after marks.Wide d = None
 depth_after _ d = Some d
 
 -- the number of tokens of the first s-expression, in which so many lists are open
@@ -239,9 +211,11 @@ input_at ts = do
   n ← one_at ts
   Some (Input n.0, n.1)
 
+-- a term, whatever its symbols are
 unfoldable pub term_at : List Token → Option (Step × List Token)
 term_at ts = do
   n ← tokens_from 0 ts
+  t ← spelled any (take n ts)
   rest ← closed_at (drop n ts)
   Some (NewTerm (take n ts), rest)
 

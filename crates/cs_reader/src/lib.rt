@@ -1,14 +1,20 @@
 //! Certificates of unsatisfiability as they are written.
 #![tactic(auto)]
 
+mod decimal;
 mod mark;
 mod reader;
 mod refusal;
+mod spell;
 mod step;
+mod stop;
+mod word;
 
 pub use reader::ReadFault;
 pub use refusal::Refusal;
+pub use spell::{Scope, spelled};
 pub use step::{Certificate, Literal, Step};
+pub use stop::Stop;
 
 #[cfg(test)]
 mod tests;

@@ -39,6 +39,7 @@ pub enum Mark {
 }
 
 /// A number with a further digit, where it stays below 2^127.
+#[tactic(auto, unfolding(vx_sexp::specs::Characters::is_digit))]
 fn with_digit(value: u128, digit: u8) -> Option<u128>
     ensures value { result ≡ with_digit value digit }
     ensures small { IfSome result (λ n. n < 2 ^ 127) }

@@ -3,42 +3,18 @@ ghost use Rattle.std.specs.Prelude.{◌≡◌, ◌+◌, ◌<◌, ◌≤◌, ◌^
 ghost use Rattle.std.specs.Option.{option_map};
 ghost use Rattle.cs_reader.specs.Marks.{IsSmall};
 ghost use Rattle.vx_frac.specs.Fraction.{fraction};
-ghost use Rattle.cs_reader.specs.Reading.{Gives, next_at, opened_at, closed_at, number_at, name_at, one_at, two_at, three_at, numbers_at, literals_at, minus_at, slash_at, signed, integer_at, quotient_at, amount_at, multiplier_of, multiplier_by, more_at, multipliers_at, depth_after, tokens_from, input_at, term_at, pair_by, chain_at, farkas_at, split_at, divide_at, propagate_at, step_by, step_at, is_end, steps_at, headed_at, certificate_at, Answers};
+ghost use Rattle.cs_reader.specs.Items.{Gives};
+ghost use Rattle.cs_reader.specs.Reading.{next_at, opened_at, closed_at, number_at, name_at, one_at, two_at, three_at, numbers_at, literals_at, minus_at, slash_at, signed, integer_at, quotient_at, amount_at, multiplier_of, multiplier_by, more_at, multipliers_at, depth_after, tokens_from, input_at, term_at, pair_by, chain_at, farkas_at, split_at, divide_at, propagate_at, step_by, step_at, is_end, steps_at, headed_at, certificate_at, Answers};
 ghost use Rattle.cs_reader.specs.Steps.{step};
 
 use crate::mark::{Mark, Name, mark_of};
 use crate::refusal::Refusal;
+use crate::spell::{Scope, spelled};
 use crate::step::{Certificate, Literal, Step};
+use crate::stop::Stop;
 use std::alloc::{AllocError, AllocFailed, Global};
 use vx_frac::Frac;
 use vx_sexp::{Bytes, Sexp, Token};
-
-/// Why reading stops: the written form ends here, or memory does.
-#[derive(Clone, Copy)]
-enum Stop {
-    Form,
-    Want,
-}
-
-impl From<AllocError> for Stop {
-    ghost use Rattle.cs_reader.specs.declared.reader.Stop.TheVariants.{Want};
-
-    ghost from_gives = { λ _ e. e ≡ Want };
-
-    fn from(_: AllocError) -> Self {
-        Stop::Want
-    }
-}
-
-impl<T: Drop> From<AllocFailed<T>> for Stop {
-    ghost use Rattle.cs_reader.specs.declared.reader.Stop.TheVariants.{Want};
-
-    ghost from_gives = { λ _ e. e ≡ Want };
-
-    fn from(_: AllocFailed<T>) -> Self {
-        Stop::Want
-    }
-}
 
 fn next(tokens: &[Token]) -> Result<(Mark, &[Token]), Stop>
     ensures value { Gives (λ x. (x.0, x.1.now)) result (next_at tokens.now) }
@@ -299,7 +275,6 @@ fn depth_after(mark: Mark, depth: usize) -> Option<usize>
     match mark {
         Mark::Open => Some(depth + 1),
         Mark::Close => depth.checked_sub(1),
-        Mark::Wide => None,
         _ => Some(depth),
     }
 }
@@ -355,6 +330,7 @@ fn term(alloc: Global, tokens: &[Token]) -> Result<(Step, &[Token]), Stop>
     let Some(len) = expression_len(tokens) else {
         return Err(Stop::Form);
     };
+    let _term = spelled(alloc, &Scope::Any, &tokens[..len])?;
     let rest = closed(&tokens[len..])?;
     let copies = copies_of(alloc, &tokens[..len])?;
     Ok((Step::Term(copies), rest))

@@ -1,8 +1,11 @@
 //! Certificates read from their text.
 
-use crate::{Certificate, Literal, ReadFault, Refusal, Step};
+use crate::{Certificate, Literal, ReadFault, Refusal, Scope, Step, spelled};
 use std::alloc::Global;
+use std::rc::Rc;
 use vx_frac::Frac;
+use vx_smt_meaning::Declared;
+use vx_terms::{Operator, Sort, Symbol, Term};
 
 fn read(alloc: Global, text: &str) -> Result<Certificate, ReadFault> {
     match vx_sexp::read(alloc, text.as_bytes()) {
@@ -95,4 +98,55 @@ fn tells_the_first_step_that_misses_its_form(rt: HostRuntime) {
         .err(),
         bad(0)
     );
+}
+
+#[test]
+fn tells_terms_from_other_lists(rt: HostRuntime) {
+    let alloc = rt.alloc();
+    let rows = [
+        ("(certificate (term (f 0.5 (- 2.0) (/ 1.0 3.0))))", None),
+        ("(certificate (term (- (/ 1.0 3.0))))", None),
+        ("(certificate (term (ite a (- b c) (- 5))))", None),
+        ("(certificate (input 0) (term ()))", bad(1)),
+        ("(certificate (term (not)))", bad(0)),
+        ("(certificate (term (and a b c)))", bad(0)),
+        ("(certificate (term (- a)))", bad(0)),
+        ("(certificate (term (/ 1.0 0.0)))", bad(0)),
+        ("(certificate (term not))", bad(0)),
+        ("(certificate (term a b))", bad(0)),
+        (
+            "(certificate (term 170141183460469231731687303715884105728.0))",
+            bad(0),
+        ),
+    ];
+    for (text, expected) in rows {
+        assert_eq!(rt; read(alloc, text).err(), expected);
+    }
+}
+
+/// The term that the text spells, with `v0` an Int.
+fn spelled_term(alloc: Global, text: &str) -> Option<Rc<Term>> {
+    let (reply, _) = vx_sexp::read(alloc, text.as_bytes()).ok()?;
+    let mut symbols = Vec::new(alloc);
+    let declared = Declared {
+        symbol: Symbol::Variable(0),
+        takes: Vec::new(alloc),
+        gives: Sort::Int,
+    };
+    symbols.push(declared).ok()?;
+    spelled(alloc, &Scope::Among(&symbols), reply.tokens()).ok()
+}
+
+#[test]
+fn spells_terms(rt: HostRuntime) {
+    let alloc = rt.alloc();
+    let half = spelled_term(alloc, "0.50 ");
+    assert!(rt; half.is_some_and(|t| matches!(&*t, Term::Part(a) if *a == Frac::new(1, 2))));
+    let third = spelled_term(alloc, "(- (/ 2.0 6.0))");
+    assert!(rt; third.is_some_and(|t| matches!(&*t, Term::Part(a) if *a == Frac::new(-1, 3))));
+    let sum = spelled_term(alloc, "(+ v0 (- 3))");
+    assert!(rt; sum.is_some_and(|t| matches!(&*t, Term::Binary(Operator::Add, _, _))));
+    assert!(rt; spelled_term(alloc, "v1 ").is_none());
+    assert!(rt; spelled_term(alloc, "v00 ").is_none());
+    assert!(rt; spelled_term(alloc, "(v0 v0)").is_some());
 }

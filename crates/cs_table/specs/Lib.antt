@@ -1,2 +1,4 @@
 pub mod Views
+pub mod Keys
+pub mod Table
 pub mod Gives

@@ -1,10 +1,10 @@
 //! Heads and nodes.
 ghost use Rattle.std.specs.Prelude.{◌≡◌};
 ghost use Rattle.vx_frac.specs.Fraction.{fraction};
-ghost use Rattle.vx_terms.specs.Sorts.{same_operator};
+ghost use Rattle.vx_terms.specs.Sorts.{same_operator, same_text};
 ghost use Rattle.vx_terms.specs.Terms.{identical};
 ghost use Rattle.vx_terms.specs.Views.{operator};
-ghost use Rattle.cs_nodes.specs.Nodes.{same_head, same_numbers, is_node};
+ghost use Rattle.cs_nodes.specs.Nodes.{same_head, is_node};
 
 use vx_frac::Frac;
 use vx_terms::{Operator, Sort, Symbol};
@@ -49,7 +49,7 @@ fn is_same_operator(a: Operator, b: Operator) -> bool
 }
 
 fn is_same_numbers(a: &[u32], b: &[u32]) -> bool
-    ensures { result ≡ same_numbers a.now b.now }
+    ensures { result ≡ same_text a.now b.now }
 {
     a == b
 }

@@ -4,11 +4,12 @@ ghost use Rattle.std.specs.Int.{w128};
 ghost use Rattle.cs_certificate.specs.Terms.{NumberHead};
 ghost use Rattle.cs_nodes.specs.Nodes.{same_head};
 ghost use Rattle.cs_nodes.specs.Steps as clean;
+ghost use Rattle.cs_table.specs.Table.{nodes_in};
 ghost use Rattle.cs_table.specs.Views.{head, nodes};
 ghost use Rattle.cs_table.specs.Gives.{Gives, clause};
 
 use crate::steps::{binary_at, equality_at, node_at, number_at, one, plain, two};
-use crate::{Head, Literal, Node, Stop};
+use crate::{Head, Literal, Node, Stop, Table};
 use std::alloc::Global;
 use vx_terms::{Operator, Sort};
 
@@ -42,37 +43,34 @@ fn see_numbers(all: &[Node])
 }
 
 /// The number of the literal one above.
-fn number_after(all: &[Node], number: i128) -> Result<u32, Stop>
-    requires { length all.now < 2 ^ 32 }
-    ensures { Gives (λ n. n) result (clean.number_at (nodes all.now) (number +ℤ pos 1)) }
+fn number_after(all: &Table, number: i128) -> Result<u32, Stop>
+    ensures { Gives (λ n. n) result (clean.number_at (nodes_in all.now) (number +ℤ pos 1)) }
 {
     match number.checked_add(1) {
         Some(next) => number_at(all, next),
         None => {
-            see_numbers(all);
+            see_numbers(&all.nodes);
             Err(Stop::Miss)
         }
     }
 }
 
 /// The number of the literal that is the size of this one.
-fn number_of_size(all: &[Node], number: i128) -> Result<u32, Stop>
-    requires { length all.now < 2 ^ 32 }
-    ensures { Gives (λ n. n) result (clean.number_at (nodes all.now) (pos (unsigned_abs number))) }
+fn number_of_size(all: &Table, number: i128) -> Result<u32, Stop>
+    ensures { Gives (λ n. n) result (clean.number_at (nodes_in all.now) (pos (unsigned_abs number))) }
 {
     match number.checked_abs() {
         Some(size) => number_at(all, size),
         None => {
-            see_numbers(all);
+            see_numbers(&all.nodes);
             Err(Stop::Miss)
         }
     }
 }
 
 /// `split`: an Int is at most a number, or at least the next.
-pub fn split(alloc: Global, all: &[Node], t: u32, number: i128) -> Result<Vec<Literal>, Stop>
-    requires { length all.now < 2 ^ 32 }
-    ensures { Gives (λ v. clause v.items) result (clean.split_clause (nodes all.now) t number) }
+pub fn split(alloc: Global, all: &Table, t: u32, number: i128) -> Result<Vec<Literal>, Stop>
+    ensures { Gives (λ v. clause v.items) result (clean.split_clause (nodes_in all.now) t number) }
 {
     let node = node_at(all, t)?;
     let low = number_at(all, number)?;
@@ -97,9 +95,8 @@ fn divisor(of: &Head) -> Result<i128, Stop>
 }
 
 /// `div` at row 0: the dividend is the divisor times the quotient and the remainder.
-fn whole_row(alloc: Global, all: &[Node], a: u32, n: u32) -> Result<Vec<Literal>, Stop>
-    requires { length all.now < 2 ^ 32 }
-    ensures { Gives (λ v. clause v.items) result (clean.divide_row (nodes all.now) a n (pos 1) 0) }
+fn whole_row(alloc: Global, all: &Table, a: u32, n: u32) -> Result<Vec<Literal>, Stop>
+    ensures { Gives (λ v. clause v.items) result (clean.divide_row (nodes_in all.now) a n (pos 1) 0) }
 {
     let quotient = binary_at(all, Operator::Div, a, n)?;
     let product = binary_at(all, Operator::Multiply, n, quotient)?;
@@ -110,9 +107,8 @@ fn whole_row(alloc: Global, all: &[Node], a: u32, n: u32) -> Result<Vec<Literal>
 }
 
 /// `div` at row 1: the remainder is at least 0.
-fn low_row(alloc: Global, all: &[Node], a: u32, n: u32) -> Result<Vec<Literal>, Stop>
-    requires { length all.now < 2 ^ 32 }
-    ensures { Gives (λ v. clause v.items) result (clean.divide_row (nodes all.now) a n (pos 1) 1) }
+fn low_row(alloc: Global, all: &Table, a: u32, n: u32) -> Result<Vec<Literal>, Stop>
+    ensures { Gives (λ v. clause v.items) result (clean.divide_row (nodes_in all.now) a n (pos 1) 1) }
 {
     let rest = binary_at(all, Operator::Mod, a, n)?;
     let zero = number_at(all, 0)?;
@@ -121,9 +117,8 @@ fn low_row(alloc: Global, all: &[Node], a: u32, n: u32) -> Result<Vec<Literal>, 
 }
 
 /// `div` at row 2: the remainder is below the size of the divisor.
-fn high_row(alloc: Global, all: &[Node], a: u32, n: u32, d: i128) -> Result<Vec<Literal>, Stop>
-    requires { length all.now < 2 ^ 32 }
-    ensures { Gives (λ v. clause v.items) result (clean.divide_row (nodes all.now) a n d 2) }
+fn high_row(alloc: Global, all: &Table, a: u32, n: u32, d: i128) -> Result<Vec<Literal>, Stop>
+    ensures { Gives (λ v. clause v.items) result (clean.divide_row (nodes_in all.now) a n d 2) }
 {
     let rest = binary_at(all, Operator::Mod, a, n)?;
     let size = number_of_size(all, d)?;
@@ -134,13 +129,12 @@ fn high_row(alloc: Global, all: &[Node], a: u32, n: u32, d: i128) -> Result<Vec<
 /// The rows of `div`.
 fn divide_row(
     alloc: Global,
-    all: &[Node],
+    all: &Table,
     sides: (u32, u32),
     d: i128,
     row: u32,
 ) -> Result<Vec<Literal>, Stop>
-    requires { length all.now < 2 ^ 32 }
-    ensures { Gives (λ v. clause v.items) result (clean.divide_row (nodes all.now) sides.0 sides.1 d row) }
+    ensures { Gives (λ v. clause v.items) result (clean.divide_row (nodes_in all.now) sides.0 sides.1 d row) }
 {
     let (a, n) = sides;
     match row {
@@ -152,9 +146,8 @@ fn divide_row(
 }
 
 /// `div`: what the quotient and the remainder of an Int by a literal are.
-pub fn divide(alloc: Global, all: &[Node], a: u32, n: u32, row: u32) -> Result<Vec<Literal>, Stop>
-    requires { length all.now < 2 ^ 32 }
-    ensures { Gives (λ v. clause v.items) result (clean.divide_clause (nodes all.now) a n row) }
+pub fn divide(alloc: Global, all: &Table, a: u32, n: u32, row: u32) -> Result<Vec<Literal>, Stop>
+    ensures { Gives (λ v. clause v.items) result (clean.divide_clause (nodes_in all.now) a n row) }
 {
     let node = node_at(all, a)?;
     let by = node_at(all, n)?;

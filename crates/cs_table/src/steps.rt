@@ -5,10 +5,11 @@ ghost use Rattle.vx_terms.specs.Views.{operator, sort};
 ghost use Rattle.cs_nodes.specs.Steps as clean;
 ghost use Rattle.cs_nodes.specs.Nodes as named;
 ghost use Rattle.cs_certificate.specs.Terms.{BinaryHead};
+ghost use Rattle.cs_table.specs.Table.{nodes_in};
 ghost use Rattle.cs_table.specs.Views.{head, node, nodes};
 ghost use Rattle.cs_table.specs.Gives.{Gives, clause, numbered};
 
-use crate::{Head, Node, equality, number_of};
+use crate::{Head, Node, Table, equality, number_of};
 use std::alloc::{AllocError, AllocFailed, Global};
 use vx_terms::{Operator, Sort};
 
@@ -73,45 +74,36 @@ fn found(number: Option<u32>) -> Result<u32, Stop>
     }
 }
 
-pub(crate) fn number_at(all: &[Node], number: i128) -> Result<u32, Stop>
-    requires { length all.now < 2 ^ 32 }
-    ensures { Gives (λ n. n) result (clean.number_at (nodes all.now) number) }
+pub(crate) fn number_at(all: &Table, number: i128) -> Result<u32, Stop>
+    ensures { Gives (λ n. n) result (clean.number_at (nodes_in all.now) number) }
 {
     found(number_of(all, &Head::Number(number), &[]))
 }
 
-pub(crate) fn binary_at(all: &[Node], of: Operator, a: u32, b: u32) -> Result<u32, Stop>
-    requires { length all.now < 2 ^ 32 }
-    ensures { Gives (λ n. n) result (clean.binary_at (nodes all.now) (operator of) a b) }
+pub(crate) fn binary_at(all: &Table, of: Operator, a: u32, b: u32) -> Result<u32, Stop>
+    ensures { Gives (λ n. n) result (clean.binary_at (nodes_in all.now) (operator of) a b) }
 {
     found(number_of(all, &Head::Binary(of), &[a, b]))
 }
 
-pub(crate) fn equality_at(all: &[Node], a: u32, b: u32) -> Result<u32, Stop>
-    requires { length all.now < 2 ^ 32 }
-    ensures { Gives (λ n. n) result (named.equality (nodes all.now) a b) }
+pub(crate) fn equality_at(all: &Table, a: u32, b: u32) -> Result<u32, Stop>
+    ensures { Gives (λ n. n) result (named.equality (nodes_in all.now) a b) }
 {
     found(equality(all, a, b))
 }
 
-pub(crate) fn node_at(all: &[Node], number: u32) -> Result<&Node, Stop>
-    ensures { Gives (λ n. node n.now) result (slice_get (nodes all.now) number) }
+pub(crate) fn node_at(all: &Table, number: u32) -> Result<&Node, Stop>
+    ensures { Gives (λ n. node n.now) result (slice_get (nodes_in all.now) number) }
 {
-    match all.get(number as usize) {
+    match all.nodes.get(number as usize) {
         Some(node) => Ok(node),
         None => Err(Stop::Miss),
     }
 }
 
 /// The denials of the equalities along a chain, and its last term.
-fn links(
-    alloc: Global,
-    all: &[Node],
-    first: u32,
-    terms: &[u32],
-) -> Result<(Vec<Literal>, u32), Stop>
-    requires { length all.now < 2 ^ 32 }
-    ensures { Gives (λ x. (clause x.0.items, x.1)) result (clean.links (nodes all.now) first terms.now) }
+fn links(alloc: Global, all: &Table, first: u32, terms: &[u32]) -> Result<(Vec<Literal>, u32), Stop>
+    ensures { Gives (λ x. (clause x.0.items, x.1)) result (clean.links (nodes_in all.now) first terms.now) }
 {
     let mut denials = Vec::new(alloc);
     let mut last = first;
@@ -125,9 +117,8 @@ fn links(
 }
 
 /// `chain`: the terms are all equal, or an equality between neighbours isn't true.
-pub fn chain(alloc: Global, all: &[Node], terms: &[u32]) -> Result<Vec<Literal>, Stop>
-    requires { length all.now < 2 ^ 32 }
-    ensures { Gives (λ v. clause v.items) result (clean.chain_clause (nodes all.now) terms.now) }
+pub fn chain(alloc: Global, all: &Table, terms: &[u32]) -> Result<Vec<Literal>, Stop>
+    ensures { Gives (λ v. clause v.items) result (clean.chain_clause (nodes_in all.now) terms.now) }
 {
     let Some((first, rest)) = terms.split_first() else {
         return Err(Stop::Miss);
@@ -140,9 +131,8 @@ pub fn chain(alloc: Global, all: &[Node], terms: &[u32]) -> Result<Vec<Literal>,
 }
 
 /// `tri`: two numbers are below, equal or above.
-pub fn trichotomy(alloc: Global, all: &[Node], a: u32, b: u32) -> Result<Vec<Literal>, Stop>
-    requires { length all.now < 2 ^ 32 }
-    ensures { Gives (λ v. clause v.items) result (clean.trichotomy_clause (nodes all.now) a b) }
+pub fn trichotomy(alloc: Global, all: &Table, a: u32, b: u32) -> Result<Vec<Literal>, Stop>
+    ensures { Gives (λ v. clause v.items) result (clean.trichotomy_clause (nodes_in all.now) a b) }
 {
     let left = node_at(all, a)?;
     let right = node_at(all, b)?;
@@ -188,13 +178,12 @@ pub(crate) fn two(alloc: Global, a: Literal, b: Literal) -> Result<Vec<Literal>,
 /// Rows of a choice t that isn't Bool.
 fn pick_row(
     alloc: Global,
-    all: &[Node],
+    all: &Table,
     t: u32,
     parts: (u32, u32, u32),
     row: u32,
 ) -> Result<Vec<Literal>, Stop>
-    requires { length all.now < 2 ^ 32 }
-    ensures { Gives (λ v. clause v.items) result (clean.pick_row (nodes all.now) t parts.0 parts.1 parts.2 row) }
+    ensures { Gives (λ v. clause v.items) result (clean.pick_row (nodes_in all.now) t parts.0 parts.1 parts.2 row) }
 {
     let (test, left, right) = parts;
     match row {
@@ -324,13 +313,12 @@ fn or_row(alloc: Global, t: u32, parts: &[u32], row: u32) -> Result<Vec<Literal>
 /// `pick` of the parts of a choice.
 fn pick_parts(
     alloc: Global,
-    all: &[Node],
+    all: &Table,
     t: u32,
     row: u32,
     parts: &[u32],
 ) -> Result<Vec<Literal>, Stop>
-    requires { length all.now < 2 ^ 32 }
-    ensures { Gives (λ v. clause v.items) result (clean.pick_parts (nodes all.now) t row parts.now) }
+    ensures { Gives (λ v. clause v.items) result (clean.pick_parts (nodes_in all.now) t row parts.now) }
 {
     match parts {
         [test, left, right] => {
@@ -345,9 +333,8 @@ fn pick_parts(
 }
 
 /// `pick`: a choice that isn't Bool is its left or its right part.
-pub fn pick(alloc: Global, all: &[Node], t: u32, row: u32) -> Result<Vec<Literal>, Stop>
-    requires { length all.now < 2 ^ 32 }
-    ensures { Gives (λ v. clause v.items) result (clean.pick_clause (nodes all.now) t row) }
+pub fn pick(alloc: Global, all: &Table, t: u32, row: u32) -> Result<Vec<Literal>, Stop>
+    ensures { Gives (λ v. clause v.items) result (clean.pick_clause (nodes_in all.now) t row) }
 {
     let node = node_at(all, t)?;
     if !node.head.is_same(&Head::Ite) {
@@ -359,12 +346,12 @@ pub fn pick(alloc: Global, all: &[Node], t: u32, row: u32) -> Result<Vec<Literal
 /// `def` of an equality, where its sides are Bool.
 fn bool_equal_row(
     alloc: Global,
-    all: &[Node],
+    all: &Table,
     t: u32,
     sides: (u32, u32),
     row: u32,
 ) -> Result<Vec<Literal>, Stop>
-    ensures { Gives (λ v. clause v.items) result (clean.if_bool (nodes all.now) sides.0 (clean.if_bool (nodes all.now) sides.1 (clean.equal_row t sides.0 sides.1 row))) }
+    ensures { Gives (λ v. clause v.items) result (clean.if_bool (nodes_in all.now) sides.0 (clean.if_bool (nodes_in all.now) sides.1 (clean.equal_row t sides.0 sides.1 row))) }
 {
     let (x, y) = sides;
     let left = node_at(all, x)?;
@@ -381,12 +368,12 @@ fn bool_equal_row(
 /// `def` of a choice, where its parts are Bool.
 fn bool_ite_row(
     alloc: Global,
-    all: &[Node],
+    all: &Table,
     t: u32,
     parts: (u32, u32, u32),
     row: u32,
 ) -> Result<Vec<Literal>, Stop>
-    ensures { Gives (λ v. clause v.items) result (clean.if_bool (nodes all.now) parts.1 (clean.ite_row t parts.0 parts.1 parts.2 row)) }
+    ensures { Gives (λ v. clause v.items) result (clean.if_bool (nodes_in all.now) parts.1 (clean.ite_row t parts.0 parts.1 parts.2 row)) }
 {
     let node = node_at(all, parts.1)?;
     if !node.sort.is_same(&Sort::Bool) {
@@ -398,13 +385,13 @@ fn bool_ite_row(
 /// `def` of an operator's term.
 fn operator_row(
     alloc: Global,
-    all: &[Node],
+    all: &Table,
     t: u32,
     of: Operator,
     parts: &[u32],
     row: u32,
 ) -> Result<Vec<Literal>, Stop>
-    ensures { Gives (λ v. clause v.items) result (clean.define_by (nodes all.now) t (BinaryHead (operator of)) parts.now row) }
+    ensures { Gives (λ v. clause v.items) result (clean.define_by (nodes_in all.now) t (BinaryHead (operator of)) parts.now row) }
 {
     match of {
         Operator::And => and_row(alloc, t, parts, row),
@@ -424,13 +411,13 @@ fn operator_row(
 /// The row of the term's table.
 fn define_by(
     alloc: Global,
-    all: &[Node],
+    all: &Table,
     t: u32,
     of: &Head,
     parts: &[u32],
     row: u32,
 ) -> Result<Vec<Literal>, Stop>
-    ensures { Gives (λ v. clause v.items) result (clean.define_by (nodes all.now) t (head of.now) parts.now row) }
+    ensures { Gives (λ v. clause v.items) result (clean.define_by (nodes_in all.now) t (head of.now) parts.now row) }
 {
     match of {
         Head::Truth(holds) => truth_row(alloc, t, *holds, row),
@@ -450,17 +437,16 @@ fn define_by(
 }
 
 /// `def`: a row of the table of the Bool term t.
-pub fn define(alloc: Global, all: &[Node], t: u32, row: u32) -> Result<Vec<Literal>, Stop>
-    ensures { Gives (λ v. clause v.items) result (clean.define_clause (nodes all.now) t row) }
+pub fn define(alloc: Global, all: &Table, t: u32, row: u32) -> Result<Vec<Literal>, Stop>
+    ensures { Gives (λ v. clause v.items) result (clean.define_clause (nodes_in all.now) t row) }
 {
     let node = node_at(all, t)?;
     define_by(alloc, all, t, &node.head, &node.parts, row)
 }
 
 /// The denials of the equalities of two lists of parts, identical pairs left out.
-fn pairs(alloc: Global, all: &[Node], xs: &[u32], ys: &[u32]) -> Result<Vec<Literal>, Stop>
-    requires { length all.now < 2 ^ 32 }
-    ensures { Gives (λ v. clause v.items) result (clean.pairs (nodes all.now) xs.now ys.now) }
+fn pairs(alloc: Global, all: &Table, xs: &[u32], ys: &[u32]) -> Result<Vec<Literal>, Stop>
+    ensures { Gives (λ v. clause v.items) result (clean.pairs (nodes_in all.now) xs.now ys.now) }
 {
     if xs.len() != ys.len() {
         return Err(Stop::Miss);
@@ -480,9 +466,8 @@ fn pairs(alloc: Global, all: &[Node], xs: &[u32], ys: &[u32]) -> Result<Vec<Lite
 }
 
 /// `cong`: terms of one head whose parts are equal are equal.
-pub fn congruence(alloc: Global, all: &[Node], s: u32, t: u32) -> Result<Vec<Literal>, Stop>
-    requires { length all.now < 2 ^ 32 }
-    ensures { Gives (λ v. clause v.items) result (clean.congruence_clause (nodes all.now) s t) }
+pub fn congruence(alloc: Global, all: &Table, s: u32, t: u32) -> Result<Vec<Literal>, Stop>
+    ensures { Gives (λ v. clause v.items) result (clean.congruence_clause (nodes_in all.now) s t) }
 {
     let left = node_at(all, s)?;
     let right = node_at(all, t)?;

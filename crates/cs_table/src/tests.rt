@@ -1,6 +1,6 @@
 //! The steps of a certificate for `a = b`, `b = c` and not `g a = g c`.
 
-use crate::{Head, Literal, Node, Stop, chain, congruence, define, pick, trichotomy};
+use crate::{Head, Literal, Node, Stop, Table, chain, congruence, define, pick, trichotomy};
 use std::alloc::{AllocError, Global};
 use vx_terms::{Operator, Sort, Symbol};
 
@@ -34,8 +34,8 @@ fn applied(alloc: Global, to: u32) -> Result<Node, AllocError> {
     )
 }
 
-fn nodes(alloc: Global) -> Result<Vec<Node>, AllocError> {
-    let mut all = Vec::new(alloc);
+fn nodes(alloc: Global) -> Result<Table, Stop> {
+    let mut all = Table::new(alloc)?;
     all.push(equal(alloc, 1, 2)?)?;
     all.push(reference(alloc, 0)?)?;
     all.push(reference(alloc, 1)?)?;
@@ -68,9 +68,6 @@ fn equalities_lead_to_a_clause(rt: HostRuntime) {
     let Ok(all) = nodes(alloc) else {
         return;
     };
-    if all.len() >= 1000 {
-        return;
-    }
     assert!(rt; is(&define(alloc, &all, 5, 0), &[(false, 5), (false, 6)]));
     assert!(rt;
         is(

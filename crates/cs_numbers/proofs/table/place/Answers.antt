@@ -1,23 +1,26 @@
-use Rattle.std.proofs.Common.{map, sym, ◌∙◌, ap}
+use Rattle.std.proofs.Common.{map, get_or, sym, ◌∙◌, ap}
 use Rattle.std.proofs.lemmas.List.{drop_all}
 use Rattle.vx_terms.specs.Terms.{same}
 use Rattle.vx_terms.specs.Views.{term}
-use Rattle.cs_numbers.specs.Numbering.{place}
-use Rattle.cs_numbers.proofs.Walks.{here, further, at_first, at_end}
+use Rattle.cs_index.specs.Found.{found, passes_at}
+use Rattle.cs_index.specs.Under.{under}
+use Rattle.cs_index.proofs.Indexed.{found_here}
+use Rattle.cs_numbers.specs.Listed.{terms_in}
+use Rattle.cs_numbers.proofs.Looked.{looked_up}
 use Rattle.cs_numbers.proofs.table.place.Goals as goal
 
-pub loop-at-init : goal.loop-at-init
-loop-at-init c = at_first _
+pub loop-number-init : goal.loop-number-init
+loop-number-init c =
+    ap (found (same (term c.args.t.now)) (terms_in c.args.all.now)) (c.under-number-items.ensures ∙ ap (under c.args.all.now.index) c.key.ensures)
+    ∙ looked_up (terms_in c.args.all.now) c.args.all.now.index (term c.args.t.now) c.args.all.now.indexed
 
-pub returns-then-is_same : goal.returns-then-is_same
-returns-then-is_same c =
-    sym (c.loop-at.invariant ∙ here (λ x. term x.value) c.args.all.now c.loop-at.at c.index-all-at.result c.loop-at-test.true c.index-all-at.is (term c.args.t.now) (ap (λ x. same (term c.args.t.now) (term x)) (sym c.deref.ensures) ∙ sym c.is_same.ensures ∙ c.if-is_same.true))
-
-pub loop-at-preserved : goal.loop-at-preserved
-loop-at-preserved c =
-    c.loop-at.invariant
-    ∙ further (λ x. term x.value) c.args.all.now c.loop-at.at c.index-all-at.result c.loop-at-test.true c.index-all-at.is (term c.args.t.now) (ap (λ x. same (term c.args.t.now) (term x)) (sym c.deref.ensures) ∙ sym c.is_same.ensures ∙ c.if-is_same.false)
+pub returns-then-is_at : goal.returns-then-is_at
+returns-then-is_at c =
+    sym (found_here (same (term c.args.t.now)) (terms_in c.args.all.now) c.under-number-items.result.now c.loop-number.number-index c.loop-number-test.true
+    (ap (λ ts. passes_at (same (term c.args.t.now)) (map (λ x. term x.value) ts) (get_or c.under-number-items.result.now c.loop-number.number-index 0)) (sym c.deref.ensures.value) ∙ sym c.is_at.ensures ∙ c.if-is_at.true))
+    ∙ c.loop-number.invariant
 
 pub returns : goal.returns
 returns c =
-    sym (c.loop-at.invariant ∙ at_end c.loop-at.at _ (ap (λ ts. place (map (λ x. term x.value) ts) (term c.args.t.now)) (drop_all _ c.args.all.now c.loop-at-test.false)))
+    sym (ap (found (same (term c.args.t.now)) (terms_in c.args.all.now)) (drop_all _ c.under-number-items.result.now c.loop-number-test.false))
+    ∙ c.loop-number.invariant

@@ -1,4 +1,4 @@
-use Rattle.std.proofs.Common.{◌≡◌, drop, map}
+use Rattle.std.proofs.Common.{◌≡◌, drop}
 use Rattle.std.specs.Prelude.{All}
 use Rattle.cs_table.specs.Gives.{clause}
 use Rattle.cs_hints.specs.Marks.{IsBelow}

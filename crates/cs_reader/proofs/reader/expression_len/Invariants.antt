@@ -1,5 +1,6 @@
 use Rattle.std.proofs.Common.{◌≡◌, ◌+◌, ◌≤◌, drop, Some}
-use Rattle.cs_reader.specs.Reading.{◌>>=◌, tokens_from}
+use Rattle.cs_reader.specs.Items.{◌>>=◌}
+use Rattle.cs_reader.specs.Reading.{tokens_from}
 use Rattle.cs_reader.proofs.reader.expression_len.Given as goal
 
 abbrev pub invariant-loop-at : goal.invariant-loop-at

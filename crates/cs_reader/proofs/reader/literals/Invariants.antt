@@ -1,5 +1,6 @@
 use Rattle.std.proofs.Common.{◌≡◌, drop}
-use Rattle.cs_reader.specs.Reading.{with_front, literals_at}
+use Rattle.cs_reader.specs.Items.{with_front}
+use Rattle.cs_reader.specs.Reading.{literals_at}
 use Rattle.cs_reader.proofs.reader.literals.Given as goal
 
 abbrev pub invariant-loop-at : goal.invariant-loop-at

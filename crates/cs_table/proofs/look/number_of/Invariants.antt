@@ -1,8 +1,9 @@
 use Rattle.std.proofs.Common.{◌≡◌, drop}
-use Rattle.cs_nodes.specs.Nodes.{number_of}
-use Rattle.cs_table.specs.Views.{head, nodes}
-use Rattle.cs_table.proofs.Shifts.{shifted}
+use Rattle.cs_index.specs.Found.{found}
+use Rattle.cs_nodes.specs.Nodes.{is_node, number_of}
+use Rattle.cs_table.specs.Table.{nodes_in}
+use Rattle.cs_table.specs.Views.{head}
 use Rattle.cs_table.proofs.look.number_of.Given as goal
 
-abbrev pub invariant-loop-at : goal.invariant-loop-at
-invariant-loop-at l = number_of (nodes l.all) (head l.of) l.parts ≡ shifted l.at (number_of (nodes (drop l.at l.all)) (head l.of) l.parts)
+abbrev pub invariant-loop-number : goal.invariant-loop-number
+invariant-loop-number l = found (is_node (head l.of) l.parts) (nodes_in l.all) (drop l.number-index l.number-items) ≡ number_of (nodes_in l.all) (head l.of) l.parts

@@ -3,7 +3,7 @@ use Rattle.std.specs.Option.{option_map}
 use Rattle.std.proofs.lemmas.List.{length-map}
 use Rattle.cs_proof.specs.declared.prepare.Duty.{Duty}
 use Rattle.cs_proof.specs.Views.{duty}
-use Rattle.cs_proof.specs.Checking.{refusal, verdict, stepped}
+use Rattle.cs_proof.specs.Checking.{refusal, verdict}
 use Rattle.cs_proof.specs.CheckerView.{checker}
 use Rattle.cs_proof.proofs.Verdicts.{verdict_stepped, refused_is, goes_on, same_duties}
 use Rattle.cs_proof.proofs.checker.Checker.finish.Goals as goal

@@ -1,9 +1,27 @@
-use Rattle.std.proofs.Common.{◌≡◌, ◌<◌, ◌^◌, length, map, arith}
+use Rattle.std.proofs.Common.{◌≡◌, ◌↔◌, rules, map, IfOk, ap, ◌∙◌, subst}
+use Rattle.vx_smt_meaning.specs.Views.{declared_symbol}
+use Rattle.cs_reader.specs.Steps.{certificate as seen_certificate}
+use Rattle.cs_proof.specs.Answers.{Answers}
+use Rattle.cs_proof.specs.Checking as clean
+use Rattle.cs_proof.specs.Plans.{plans_of}
+use Rattle.cs_proof.specs.Fits.{seen}
+use Rattle.cs_proof.specs.Meant.{meant, all_meant}
 use Rattle.cs_proof.specs.Views.{written}
-use Rattle.cs_proof.proofs.Begun.{begun_answers}
+use Rattle.cs_proof.specs.CheckerView.{checker, Begins}
 use Rattle.cs_proof.proofs.checker.Checker.new.Goals as goal
+
+pub returns-clause-value : goal.returns-clause-value
+returns-clause-value c =
+    let symbols : c.deref.result.now ≡ c.args.stack.now.symbols.items = search rules in
+    let steps : c.deref-2.result.now ≡ c.in_ok-steps.steps.items = search rules in
+    let e : map written c.deref-2.result.now ≡ all_meant (seen c.args.stack.now) (seen_certificate c.args.certificate) =
+    ap (map written) steps ∙ c.in_ok-steps.ensures ∙ ap (λ ds. map (meant (map declared_symbol ds)) (seen_certificate c.args.certificate)) symbols in
+    subst (λ ws. IfOk c.of.result (λ c'. Begins (plans_of (seen c.args.stack.now) ws) (checker c'))) e c.of.ensures.value
 
 pub returns-clause-answers : goal.returns-clause-answers
 returns-clause-answers c =
-    let few : length c.in_ok-plans.plans.clauses.items < 2 ^ 32 = (let a = c.if-len-2.false in let b = c.len-2.ensures in omega arith) in
-    λ sorted v. begun_answers c.args.stack.now (map written c.args.steps.now) c.in_ok-plans.plans c.in_ok-plans.ensures.value c.in_ok-plans.ensures.fits c.in_ok-plans.ensures.few few sorted v
+    let symbols : c.deref.result.now ≡ c.args.stack.now.symbols.items = search rules in
+    let steps : c.deref-2.result.now ≡ c.in_ok-steps.steps.items = search rules in
+    let e : map written c.deref-2.result.now ≡ all_meant (seen c.args.stack.now) (seen_certificate c.args.certificate) =
+    ap (map written) steps ∙ c.in_ok-steps.ensures ∙ ap (λ ds. map (meant (map declared_symbol ds)) (seen_certificate c.args.certificate)) symbols in
+    λ sorted v. subst (λ ws. IfOk c.of.result (λ c'. Answers (seen c.args.stack.now) ws v ↔ (v ≡ clean.verdict (checker c')))) e (c.of.ensures.answers sorted v)

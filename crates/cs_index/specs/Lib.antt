@@ -1,0 +1,3 @@
+pub mod Keys
+pub mod Under
+pub mod Found

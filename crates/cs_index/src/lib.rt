@@ -1,0 +1,11 @@
+//! Numbers that are found by keys.
+#![tactic(auto)]
+
+mod index;
+mod key;
+
+pub use index::Index;
+pub use key::mix;
+
+#[cfg(test)]
+mod tests;

@@ -1,0 +1,21 @@
+use Rattle.std.proofs.Common.{◌≡◌, rules, [], ◌∷◌, ◌++◌, length, map, sym, ◌∙◌, ap, ap₂, subst}
+use Rattle.std.proofs.lemmas.List.{map-append, length-map}
+use Rattle.vx_terms.specs.Views.{term}
+use Rattle.cs_index.specs.Under.{meets, under, with_number}
+use Rattle.cs_index.specs.Found.{IsIndexed}
+use Rattle.cs_index.proofs.Indexed.{indexed_more}
+use Rattle.cs_numbers.specs.Keys.{term_key}
+use Rattle.cs_numbers.specs.Listed.{terms_in}
+use Rattle.cs_numbers.proofs.terms.NumberedTerms.push.Goals as goal
+
+pub invariant_of-self-in-Ok-clause-indexed : goal.invariant_of-self-in-Ok-clause-indexed
+invariant_of-self-in-Ok-clause-indexed c =
+    let old = c.args.self.now in
+    let length_is : c.len-number.result ≡ length old.terms.items = search rules in
+    let number : c.len-number.result ≡ length (terms_in old) = length_is ∙ sym (length-map old.terms.items (λ x. term x.value)) in
+    let whole : map (λ x. term x.value) c.push.new.self.items ≡ terms_in old ++ term c.args.t.value ∷ [] = ap (map (λ x. term x.value)) c.in_ok-push.ensures.items ∙ map-append (λ x. term x.value) old.terms.items (c.args.t ∷ []) in
+    let key : c.key-key.result ≡ term_key (term c.args.t.value) = search rules in
+    subst (λ ts. IsIndexed term_key ts c.add.new.self) (sym whole)
+    (indexed_more term_key (terms_in old) (term c.args.t.value) old.index c.add.new.self old.indexed
+    (λ k. c.in-Ok.ensures.added k ∙ ap₂ (λ key n. with_number (meets old.index key k) (under old.index k) n) key number)
+    c.in-Ok.ensures.same)

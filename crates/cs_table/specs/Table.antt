@@ -1,0 +1,8 @@
+-- The nodes of a table.
+use Rattle.std.specs.Prelude.{List}
+use Rattle.cs_nodes.specs.Nodes.{Node}
+use Rattle.cs_table.specs.Views.{nodes}
+use Rattle.cs_table.specs.declared.table.Table.{Table}
+
+abbrev pub nodes_in : Table → List Node
+nodes_in t = nodes t.nodes.items
