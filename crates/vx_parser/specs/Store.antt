@@ -1,6 +1,6 @@
 -- The words and signs of Viper (VMCAI 2016), as they are parsed, that the store language lacks: its programs have no heap,
--- so no fields, no references, no permissions and no predicates, no functions, and no loops.
-use Rattle.std.specs.Prelude.{◌≡◌, ℕ, List, Bool, true, false, Option, Some, None}
+-- so no fields, no references, no permissions and no predicates, no functions, no calls, and no loops.
+use Rattle.std.specs.Prelude.{◌≡◌, ℕ, Bool, true, false, not, ◌&&◌, ◌||◌, if◌then◌else◌, List, [], ◌∷◌, Option, Some, None}
 use Rattle.vx_tokens.specs.declared.token.Word.{Word}
 use Rattle.vx_tokens.specs.declared.token.Word.TheVariants as words
 use Rattle.vx_tokens.specs.declared.token.Symbol.{Symbol}
@@ -45,8 +45,32 @@ is_beyond_kind (symbol s) = is_beyond_symbol s
 is_beyond_kind (name x) = false
 is_beyond_kind (number n) = false
 
-abbrev pub is_beyond : Token → Bool
-is_beyond t = is_beyond_kind t.kind
+abbrev pub is_name : Kind → Bool
+is_name (name x) = true
+is_name (word w) = false
+is_name (symbol s) = false
+is_name (number n) = false
+
+abbrev pub is_method : Kind → Bool
+is_method (word words.Method) = true
+is_method k = false
+
+abbrev pub is_open : Kind → Bool
+is_open (symbol signs.Open) = true
+is_open k = false
+
+abbrev pub opens : List Token → Bool
+opens [] = false
+opens (t ∷ ts) = is_open t.kind
+
+-- a call or an application: a name and a parenthesis, but for the name of a method that is declared
+abbrev pub is_beyond : (declared : Bool) → Token → List Token → Bool
+is_beyond declared t rest = is_beyond_kind t.kind || (not declared && (is_name t.kind && opens rest))
+
+-- the first token that the store language lacks, where a method's name is due or not
+abbrev pub first_beyond : (declared : Bool) → List Token → Option Token
+first_beyond declared [] = None
+first_beyond declared (t ∷ ts) = if is_beyond declared t ts then Some t else first_beyond (is_method t.kind) ts
 
 -- what is answered of a text stands at this token, and nothing is answered where there is none, unless memory ran out
 abbrev pub IsFirst : List ℕ → Option the_fault.TextFault → Option Token → Type 0

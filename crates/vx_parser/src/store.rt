@@ -1,8 +1,7 @@
 //! Texts within the store language.
 
-ghost use Rattle.std.specs.Prelude.{◌≡◌, ◌≤◌, ◌<◌, ◌↔◌, ℕ, List, length, Some, IfSome, option_map};
+ghost use Rattle.std.specs.Prelude.{◌≡◌, ◌≤◌, ◌<◌, ◌↔◌, ℕ, List, length, Some, IfSome, option_map, false};
 ghost use Rattle.vx_parser.specs.Answers.{StandsIn, AllStandIn};
-ghost use Rattle.std.specs.List.{find};
 ghost use Rattle.vx_tokens.specs.Text.{Scans, first_place, unmarked, Ending as End};
 ghost use Rattle.vx_tokens.specs.Tokens.{kind_of, token_of, tokens_in, Token as Tok};
 ghost use Rattle.vx_parser.specs.Store as store;
@@ -20,7 +19,7 @@ pub fn beyond_store(alloc: Global, text: &[u8]) -> Option<TextFault>
     // A text is too long exactly above 4,194,304 bytes.
     ensures too_long { result ≡ Some faults.TooLong ↔ (4194304 < length text.now) }
     // The first token that the store language lacks is answered, with its text, and none where it lacks none.
-    ensures first { length text.now ≤ 4194304 → (ts : List Tok) (e : End) → Scans first_place (unmarked text.now) ts e → store.IsFirst (unmarked text.now) result (find store.is_beyond ts) }
+    ensures first { length text.now ≤ 4194304 → (ts : List Tok) (e : End) → Scans first_place (unmarked text.now) ts e → store.IsFirst (unmarked text.now) result (store.first_beyond false ts) }
 {
     if text.len() > MAX_TEXT {
         return Some(TextFault::TooLong);
@@ -35,24 +34,60 @@ pub fn beyond_store(alloc: Global, text: &[u8]) -> Option<TextFault>
 }
 
 fn first_beyond<'t>(tokens: &'t [Token<'t>]) -> Option<&'t Token<'t>>
-    ensures first { option_map (λ t. token_of t.now) result ≡ find store.is_beyond (tokens_in tokens.now) }
+    ensures first { option_map (λ t. token_of t.now) result ≡ store.first_beyond false (tokens_in tokens.now) }
     ensures stands { (bytes : List ℕ) → AllStandIn bytes tokens.now → IfSome result (λ t. StandsIn bytes t.now) }
 {
     let mut rest = tokens;
+    let mut declared = false;
     for _ in 0..tokens.len() {
         let Some((first, inner)) = rest.split_first() else {
             return None;
         };
-        if is_beyond(first.kind) {
+        if is_beyond(declared, first, inner) {
             return Some(first);
         }
+        declared = is_method(first.kind);
         rest = same(inner);
     }
     None
 }
 
+// A token that the store language lacks, or the name of a call or an application, where a method's name is due or not.
+fn is_beyond(declared: bool, first: &Token, rest: &[Token]) -> bool
+    ensures { result ≡ store.is_beyond declared (token_of first.now) (tokens_in rest.now) }
+{
+    is_beyond_kind(first.kind) || (!declared && is_name(first.kind) && opens(rest))
+}
+
+fn opens(tokens: &[Token]) -> bool
+    ensures { result ≡ store.opens (tokens_in tokens.now) }
+{
+    match tokens.split_first() {
+        None => false,
+        Some((first, _)) => is_open(first.kind),
+    }
+}
+
+fn is_open(kind: Kind) -> bool
+    ensures { result ≡ store.is_open (kind_of kind.entry) }
+{
+    matches!(kind, Kind::Symbol(Symbol::Open))
+}
+
+fn is_name(kind: Kind) -> bool
+    ensures { result ≡ store.is_name (kind_of kind.entry) }
+{
+    matches!(kind, Kind::Name(_))
+}
+
+fn is_method(kind: Kind) -> bool
+    ensures { result ≡ store.is_method (kind_of kind.entry) }
+{
+    matches!(kind, Kind::Word(Word::Method))
+}
+
 // A word or sign that the store language lacks.
-fn is_beyond(kind: Kind) -> bool
+fn is_beyond_kind(kind: Kind) -> bool
     ensures { result ≡ store.is_beyond_kind (kind_of kind.entry) }
 {
     match kind {

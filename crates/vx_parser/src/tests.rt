@@ -263,7 +263,7 @@ fn measures(rt: HostRuntime) -> Result<(), Fail> {
     all_hold(&rt, rt.alloc(), &MEASURES)
 }
 
-const BEYOND: [(&str, &str); 10] = [
+const BEYOND: [(&str, &str); 14] = [
     ("function f(): Int { 1 }", "1:1 Unsupported function"),
     ("predicate P()", "1:1 Unsupported predicate"),
     ("method m() { fold P(x) }", "1:14 Unsupported fold"),
@@ -280,6 +280,10 @@ const BEYOND: [(&str, &str); 10] = [
     ("method m(x: Ref) { }", "1:13 Unsupported Ref"),
     ("method m() { assert 1 / 2 == none }", "1:23 Unsupported /"),
     ("field f: Int", "1:1 Unsupported field"),
+    ("method m() { m() }", "1:14 Unsupported m"),
+    ("method m(x: Int) { x := f(x) }", "1:25 Unsupported f"),
+    ("method m(x: Int) { var y: Int := (x) }", "none"),
+    ("method m(x: Int) { if (x == x) { } }", "none"),
 ];
 
 // The first so many bytes of a method are a program exactly where no part of it is left out in the middle.

@@ -11,4 +11,4 @@ mod unsettled;
 
 pub use members::settle;
 pub use typed::Typed;
-pub use unsettled::{Unsettled, word_of};
+pub use unsettled::Unsettled;

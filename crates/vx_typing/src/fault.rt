@@ -1,6 +1,8 @@
 //! Why an expression isn't typed.
 
 ghost use Rattle.std.specs.Prelude.{◌≡◌};
+ghost use Rattle.vx_typing.specs.Printed.{place_of, code_of, title_of};
+ghost use Rattle.vx_typing.specs.Printed as printed;
 
 use std::alloc::{AllocError, AllocFailed};
 use std::fmt;
@@ -76,5 +78,94 @@ impl<T: Drop> From<AllocFailed<T>> for TypeFault {
 
     fn from(_: AllocFailed<T>) -> Self {
         TypeFault::Want
+    }
+}
+
+impl TypeFault {
+    /// Where it stands; want of memory stands nowhere.
+    pub fn place(&self) -> Option<Place>
+        ensures { result ≡ place_of self.now }
+    {
+        match self {
+            TypeFault::Unknown(place, _)
+            | TypeFault::Twice(place, _)
+            | TypeFault::Mismatch(place, _, _)
+            | TypeFault::Impure(place)
+            | TypeFault::Arity(place, _, _)
+            | TypeFault::NoMeasure(place)
+            | TypeFault::MixedMeasures(place)
+            | TypeFault::AmountNotConstant(place)
+            | TypeFault::NotHere(place)
+            | TypeFault::NotAssignable(place)
+            | TypeFault::OldHere(place)
+            | TypeFault::ResultHere(place)
+            | TypeFault::UnfoldAbstract(place) => Some(*place),
+            TypeFault::Want => None,
+        }
+    }
+
+    /// The code that is printed: `E20` to `E32`. Want of memory has none.
+    pub fn code(&self) -> &'static str
+        ensures { result.now ≡ code_of self.now }
+    {
+        match self {
+            TypeFault::Unknown(_, _) => "E20",
+            TypeFault::Twice(_, _) => "E21",
+            TypeFault::Mismatch(_, _, _) => "E22",
+            TypeFault::Impure(_) => "E23",
+            TypeFault::Arity(_, _, _) => "E24",
+            TypeFault::NoMeasure(_) => "E25",
+            TypeFault::MixedMeasures(_) => "E26",
+            TypeFault::AmountNotConstant(_) => "E27",
+            TypeFault::NotHere(_) => "E28",
+            TypeFault::NotAssignable(_) => "E29",
+            TypeFault::OldHere(_) => "E30",
+            TypeFault::ResultHere(_) => "E31",
+            TypeFault::UnfoldAbstract(_) => "E32",
+            TypeFault::Want => "",
+        }
+    }
+
+    /// The code's name.
+    pub fn name(&self) -> &'static str
+        ensures { result.now ≡ title_of self.now }
+    {
+        match self {
+            TypeFault::Unknown(_, _) => "Unknown",
+            TypeFault::Twice(_, _) => "Twice",
+            TypeFault::Mismatch(_, _, _) => "Mismatch",
+            TypeFault::Impure(_) => "Impure",
+            TypeFault::Arity(_, _, _) => "Arity",
+            TypeFault::NoMeasure(_) => "NoMeasure",
+            TypeFault::MixedMeasures(_) => "MixedMeasures",
+            TypeFault::AmountNotConstant(_) => "AmountNotConstant",
+            TypeFault::NotHere(_) => "NotHere",
+            TypeFault::NotAssignable(_) => "NotAssignable",
+            TypeFault::OldHere(_) => "OldHere",
+            TypeFault::ResultHere(_) => "ResultHere",
+            TypeFault::UnfoldAbstract(_) => "UnfoldAbstract",
+            TypeFault::Want => "",
+        }
+    }
+}
+
+/// The word of a type.
+pub fn word_of(t: ValueType) -> &'static str
+    ensures { result.now ≡ printed.word_of t }
+{
+    match t {
+        ValueType::Int => "Int",
+        ValueType::Bool => "Bool",
+        ValueType::Ref => "Ref",
+        ValueType::Perm => "Perm",
+    }
+}
+
+impl fmt::Display for Expected {
+    fn fmt<W: fmt::Write>(&self, f: &mut fmt::Formatter<W>) -> fmt::Result {
+        match self {
+            Expected::Type(t) => f.write_str(word_of(*t)),
+            Expected::Numeral => f.write_str("numeral"),
+        }
     }
 }

@@ -17,7 +17,7 @@ mod stmt;
 mod uses;
 
 pub use assertions::assertion;
-pub use fault::{Expected, TypeFault};
+pub use fault::{Expected, TypeFault, word_of};
 pub use laws::{
     assertions_are_told, example_assertions, example_expressions, groups_are_told,
     members_are_told, programs_are_told, pure_assertions_are_expressions, statements_are_told,

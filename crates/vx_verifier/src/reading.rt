@@ -4,12 +4,14 @@ ghost use Rattle.std.specs.Prelude.{◌≡◌, IfOk, option_copied};
 ghost use Rattle.vx_ends.specs.Causes.{Rose};
 ghost use Rattle.vx_verifier.specs.Reported.{AsksOnly, IsLoadedFrom, IsReadFrom};
 
-use crate::answers::{refusal_of_types, text_refusal, type_refusal};
-use crate::supported::is_supported;
+use crate::answers::{text_refusal, type_refusal, unsettled_refusal};
 use std::alloc::{AllocError, Global};
+use vx_ast::Program;
 use vx_ends::{Files, LoadFault};
 use vx_parser::{beyond_store, parse};
-use vx_types::{TypeFault, Typed, check};
+use vx_sound::{executed_programs_are_of_the_store_language, typed_programs_are_typed_when_settled};
+use vx_types::{Typed, settle};
+use vx_typing::{check, programs_are_told};
 
 /// A text, or why there is none.
 #[derive(Drop)]
@@ -43,22 +45,43 @@ pub fn load<F: Files>(
     }
 }
 
+/// The typed program of a text, or the line of its refusal.
+#[derive(Drop)]
+pub enum Checked {
+    Program(Program),
+    Refused(String),
+}
+
+/// Reads and types a text.
+pub fn read_typed(alloc: Global, text: &[u8]) -> Result<Checked, AllocError>
+    ensures { IfOk result (IsCheckedFrom text.now) }
+{
+    programs_are_told();
+    let program = match parse(alloc, text) {
+        Ok(program) => program,
+        Err(fault) => return Ok(Checked::Refused(text_refusal(alloc, &fault)?)),
+    };
+    match check(alloc, &program) {
+        Ok(()) => Ok(Checked::Program(program)),
+        Err(fault) => Ok(Checked::Refused(type_refusal(alloc, &fault)?)),
+    }
+}
+
 /// The program of a text, as far as it is executed.
 pub fn read_program(alloc: Global, text: &[u8]) -> Result<Told, AllocError>
     ensures { IfOk result (IsReadFrom text.now) }
 {
-    let program = match parse(alloc, text) {
-        Ok(program) => program,
-        Err(fault) => return Ok(Told::Refused(text_refusal(alloc, &fault)?)),
+    typed_programs_are_typed_when_settled();
+    executed_programs_are_of_the_store_language();
+    let program = match read_typed(alloc, text)? {
+        Checked::Program(program) => program,
+        Checked::Refused(line) => return Ok(Told::Refused(line)),
     };
-    match beyond_store(alloc, text) {
-        None => {}
-        Some(fault) => return Ok(Told::Refused(text_refusal(alloc, &fault)?)),
+    if let Some(fault) = beyond_store(alloc, text) {
+        return Ok(Told::Refused(text_refusal(alloc, &fault)?));
     }
-    match check(alloc, &program) {
-        Ok(typed) if is_supported(&typed) => Ok(Told::Program(typed)),
-        Ok(_other) => Ok(Told::Refused(refusal_of_types(alloc)?)),
-        Err(TypeFault::Want) => Err(AllocError),
-        Err(fault) => Ok(Told::Refused(type_refusal(alloc, &fault)?)),
+    match settle(alloc, &program) {
+        Ok(typed) => Ok(Told::Program(typed)),
+        Err(unsettled) => Ok(Told::Refused(unsettled_refusal(alloc, &unsettled)?)),
     }
 }

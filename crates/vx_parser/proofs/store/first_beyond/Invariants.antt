@@ -1,10 +1,9 @@
-use Rattle.std.proofs.Common.{◌≡◌, ℕ, List, ◌+◌, length}
-use Rattle.std.specs.List.{find}
+use Rattle.std.proofs.Common.{◌≡◌, ℕ, List, false, ◌+◌, length}
 use Rattle.vx_tokens.specs.Tokens.{tokens_in}
 use Rattle.vx_parser.specs.Answers.{AllStandIn}
-use Rattle.vx_parser.specs.Store.{is_beyond}
+use Rattle.vx_parser.specs.Store.{first_beyond}
 use Rattle.vx_parser.proofs.store.first_beyond.Given as goal
 
 -- what is left has the same first token beyond, as many tokens as there are turns left, and tokens of the text
 abbrev pub invariant-loop : goal.invariant-loop
-invariant-loop l = (find is_beyond (tokens_in l.rest) ≡ find is_beyond (tokens_in l.tokens)) × (length l.rest + l.counter ≡ length l.tokens) × ((bytes : List ℕ) → AllStandIn bytes l.tokens → AllStandIn bytes l.rest)
+invariant-loop l = (first_beyond l.declared (tokens_in l.rest) ≡ first_beyond false (tokens_in l.tokens)) × (length l.rest + l.counter ≡ length l.tokens) × ((bytes : List ℕ) → AllStandIn bytes l.tokens → AllStandIn bytes l.rest)
