@@ -21,3 +21,4 @@ pub mod Gives
 pub mod Laws
 pub mod Examples
 pub mod Printed
+pub mod ProgramExamples
