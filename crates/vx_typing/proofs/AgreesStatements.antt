@@ -24,7 +24,7 @@ use Rattle.vx_typing.proofs.AgreesTypes.{fit_to, fits, instance_to, instance_fro
 use Rattle.vx_typing.proofs.AgreesClaims.{to_assertion, passes}
 
 -- ---- names
-from_not : (b : Bool) → not b ≡ true → b ≡ false
+pub from_not : (b : Bool) → not b ≡ true → b ≡ false
 from_not true e = cc
 from_not false e = refl
 

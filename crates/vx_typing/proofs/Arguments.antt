@@ -19,7 +19,7 @@ use Rattle.vx_typing.specs.Gives.{Fails}
 use Rattle.vx_typing.proofs.Fails.{fails_on}
 use Rattle.vx_typing.specs.Faults.{Checked, ◌>>=◌, expect, arguments_fit}
 
-drop_past : {X : Type 0} (xs : List X) (i : ℕ) → length xs ≤ i → drop i xs ≡ []
+pub drop_past : {X : Type 0} (xs : List X) (i : ℕ) → length xs ≤ i → drop i xs ≡ []
 drop_past [] zero le = refl
 drop_past [] (suc i) le = refl
 drop_past (x ∷ xs) zero le = absurd (omega (arith, le))

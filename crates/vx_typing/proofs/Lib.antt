@@ -6,6 +6,9 @@ pub mod Arguments
 pub mod Unfoldings
 pub mod Scopes
 pub mod Loops
+pub mod Found
+pub mod Numbers
+pub mod Lists
 pub mod Tables
 pub mod Blocks
 pub mod Assigns
@@ -15,5 +18,8 @@ pub mod AgreesTypes
 pub mod AgreesClaims
 pub mod AgreesStatements
 pub mod AgreesMembers
+pub mod Reachable
+pub mod AgreesGroups
+pub mod Graphs
 pub mod Agree
 pub mod Alike

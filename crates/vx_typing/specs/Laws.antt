@@ -1,15 +1,17 @@
 -- Two ways to say what is typed agree: the relation by structure, and the first fault on a walk.
-use Rattle.std.specs.Prelude.{◌≡◌, ◌↔◌, Bool, true, false, ◌||◌, Option, Some, Ok, Err, List}
+use Rattle.std.specs.Prelude.{◌≡◌, ◌↔◌, ℕ, Bool, true, false, ◌||◌, Option, Some, Ok, Err, List}
 use Rattle.vx_ast.specs.declared.ValueType.{ValueType}
 use Rattle.vx_ast.specs.declared.BinaryOperator.TheVariants as binary
 use Rattle.vx_ast.specs.Written as expr
-use Rattle.vx_ast.specs.Written.{Member, Stmt, Block, Expr, Exprs, Amount}
+use Rattle.vx_ast.specs.Written.{Program, Member, Stmt, Block, Expr, Exprs, Amount}
 use Rattle.vx_typing.specs.Settings.{Table, Setting, Signature, IsPredicate}
 use Rattle.vx_typing.specs.Scopes.{Scope}
 use Rattle.vx_typing.specs.Statements.{IsTypedStmt, IsTypedBlock}
 use Rattle.vx_typing.specs.StatementFaults.{stmt, block}
 use Rattle.vx_typing.specs.Members.{AreTypedMembers}
 use Rattle.vx_typing.specs.MemberFaults.{members}
+use Rattle.vx_typing.specs.Groups.{InGroup, in_group}
+use Rattle.vx_typing.specs.Programs.{IsTyped, program}
 use Rattle.vx_typing.specs.Typing.{HasType, HaveTypes, IsShare, IsPermission, IsAssertion}
 use Rattle.vx_typing.specs.Faults.{Fault, Checked, ◌>>=◌, Value, Permission, check, check_all, check_share, claim, assertion}
 
@@ -81,3 +83,14 @@ OtherBlocksAreFaulty = (table : Table) (scope : Scope) (b : Block) → HasFault 
 -- the members, one after another
 abbrev pub MembersAgree : Type 0
 MembersAgree = (table : Table) (ms : List Member) → (members table ms ≡ Ok tt) ↔ AreTypedMembers table ms
+
+-- groups, as a relation and as a test
+abbrev pub GroupsAgree : Type 0
+GroupsAgree = (p : Program) (a b : ℕ) → (in_group p a b ≡ true) ↔ InGroup p a b
+
+-- a program
+abbrev pub ProgramsAgree : Type 0
+ProgramsAgree = (p : Program) → (program p ≡ Ok tt) ↔ IsTyped p
+
+abbrev pub OtherProgramsAreFaulty : Type 0
+OtherProgramsAreFaulty = (p : Program) → HasFault (program p) ↔ (IsTyped p → ⊥)

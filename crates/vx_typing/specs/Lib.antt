@@ -9,7 +9,14 @@ pub mod Statements
 pub mod StatementFaults
 pub mod Members
 pub mod MemberFaults
+pub mod Uses
+pub mod Groups
+pub mod Measures
+pub mod GroupFaults
+pub mod Programs
 pub mod Views
+pub mod Seen
+pub mod Numbered
 pub mod Gives
 pub mod Laws
 pub mod Examples

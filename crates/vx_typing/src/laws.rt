@@ -1,6 +1,6 @@
 //! The laws of typing: the relation and the first fault tell the same.
 
-ghost use Rattle.vx_typing.specs.Laws.{TypesAgree, ListsAgree, SharesAgree, ValuesAgree, PermissionsAgree, AssertionsAgree, UntypedAreFaulty, OthersAreFaulty, StatementsAgree, BlocksAgree, OtherBlocksAreFaulty, MembersAgree, HasOneType, PermissionsAreNoValues, PureAreWalkedAlike};
+ghost use Rattle.vx_typing.specs.Laws.{TypesAgree, ListsAgree, SharesAgree, ValuesAgree, PermissionsAgree, AssertionsAgree, UntypedAreFaulty, OthersAreFaulty, StatementsAgree, BlocksAgree, OtherBlocksAreFaulty, MembersAgree, GroupsAgree, ProgramsAgree, OtherProgramsAreFaulty, HasOneType, PermissionsAreNoValues, PureAreWalkedAlike};
 ghost use Rattle.vx_typing.specs.Faults.{assertion, check};
 ghost use Rattle.vx_typing.specs.Examples.{Computes, after, asserted, bodies, faulty, here, later, typed, unapplied, within};
 
@@ -30,6 +30,17 @@ pub fn statements_are_told()
 /// Members are typed exactly where they have no first fault.
 pub fn members_are_told()
     ensures { MembersAgree }
+{}
+
+/// A member is in the group of another exactly where the test says so.
+pub fn groups_are_told()
+    ensures { GroupsAgree }
+{}
+
+/// A program is typed exactly where it has no first fault.
+pub fn programs_are_told()
+    ensures programs { ProgramsAgree }
+    ensures others { OtherProgramsAreFaulty }
 {}
 
 /// Where no permission stands, an assertion is walked as any expression is.

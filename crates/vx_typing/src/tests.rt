@@ -1,6 +1,5 @@
-use crate::{
-    Expected, Members, Setting, Signature, TypeFault, Variable, Variables, assertion, check,
-};
+use crate::expr::check;
+use crate::{Expected, Members, Setting, Signature, TypeFault, Variable, Variables, assertion};
 use indexmap::IndexMap;
 use std::alloc::{AllocError, Global};
 use std::rc::Rc;
