@@ -12,7 +12,7 @@ use Rattle.vx_typing.specs.Scopes.{named, with_variable, with_variables}
 use Rattle.vx_typing.specs.Settings.{Table, plainly, within_method}
 use Rattle.vx_typing.specs.Members.{table_of, AreTypedContracts, AreTypedMembers, IsTypedKind, IsTypedBlockOf}
 use Rattle.vx_types.specs.Typing.{AllTyped, IsTypedBody, IsTypedMethod}
-use Rattle.vx_sound.specs.WhenSettled.{IsTyped}
+use Rattle.vx_typing.specs.Programs.{IsTyped}
 use Rattle.vx_sound.proofs.TypedNames.{Knows, knows}
 use Rattle.vx_sound.proofs.TypedExprs.{Sees}
 use Rattle.vx_sound.proofs.TypedClaims.{claim}

@@ -1,18 +1,12 @@
 -- What is typed as it is written is typed when it is settled, and what is executed is of the store language then.
-use Rattle.std.specs.Prelude.{◌≡◌, ℕ, true, [], Some, map, slice_get}
+use Rattle.std.specs.Prelude.{◌≡◌, ℕ, true, Some, slice_get}
 use Rattle.vx_ast.specs.Written as written
 use Rattle.vx_ast.specs.Resolve.{program}
 use Rattle.vx_ast.specs.Syntax.{Program, Member, Method, IsMethod}
-use Rattle.vx_typing.specs.Statements.{AreNew}
-use Rattle.vx_typing.specs.Members.{table_of, AreTypedMembers}
+use Rattle.vx_typing.specs.Programs.{IsTyped}
 use Rattle.vx_types.specs.Typing.{IsTypedMethod}
 use Rattle.vx_types.specs.Executed.{is_executed}
 use Rattle.vx_sound.specs.StoreLanguage.{IsStoreMethod}
-
--- each member is typed, and no two have one name
-pub record IsTyped (p : written.Program) : Type 0 where
-  pub members : AreTypedMembers (table_of p) p
-  pub names : AreNew [] (map (λ m. m.name) p)
 
 -- this holds of the methods of a program
 abbrev pub OfMethods : Program → (Method → Type 0) → Type 0
