@@ -9,7 +9,9 @@ use std::alloc::{AllocError, Global};
 use vx_ast::Program;
 use vx_ends::{Files, LoadFault};
 use vx_parser::{beyond_store, parse};
-use vx_sound::{executed_programs_are_of_the_store_language, typed_programs_are_typed_when_settled};
+use vx_sound::{
+    executed_programs_are_of_the_store_language, typed_programs_are_typed_when_settled,
+};
 use vx_types::{Typed, settle};
 use vx_typing::{check, programs_are_told};
 
