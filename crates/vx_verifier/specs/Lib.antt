@@ -1,6 +1,5 @@
 pub mod Companion
 pub mod Sequences
 pub mod Headline
-pub mod Covered
 pub mod Lanes
 pub mod Reported

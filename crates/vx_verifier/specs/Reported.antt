@@ -13,7 +13,14 @@ use Rattle.vx_report.specs.declared.run.MemberRun.{MemberRun}
 use Rattle.vx_report.specs.declared.status.Status.{Status}
 use Rattle.vx_report.specs.declared.status.Status.TheVariants.{Done, NotVerified, Usage, Unread, Refused, Faulted, Unwritten, Want}
 use Rattle.vx_report.specs.Statuses.{status_among}
+use Rattle.vx_tokens.specs.Tokens.{Token}
+use Rattle.vx_tokens.specs.Text.{Scans, Ending, first_place, unmarked}
+use Rattle.vx_parser.specs.Store.{first_beyond}
+use Rattle.vx_typing.specs.Programs.{IsTyped}
+use Rattle.vx_types.specs.Executed.{is_executed}
 use Rattle.vx_print.specs.Canonical.{canonical_text}
+use Rattle.vx_verifier.specs.declared.reading.Checked.{Checked}
+use Rattle.vx_verifier.specs.declared.reading.Checked.TheVariants as checked
 use Rattle.vx_verifier.specs.declared.reading.Told.{Told}
 use Rattle.vx_verifier.specs.declared.reading.Told.TheVariants as told
 use Rattle.vx_verifier.specs.declared.saying.Said.{Said}
@@ -24,17 +31,44 @@ use Rattle.vx_verifier.specs.declared.reading.Loaded.{Loaded}
 use Rattle.vx_verifier.specs.declared.reading.Loaded.TheVariants as loaded
 use Rattle.vx_verifier.specs.Headline.{IsSupported}
 
+-- some token of the text is none of the store language
+abbrev pub HoldsBeyond : List ℕ → Type 0
+HoldsBeyond text = (ts : List Token) × (e : Ending) × Scans first_place (unmarked text) ts e × (t : Token) × (first_beyond false ts ≡ Some t)
+
+-- the program of a text is not executed yet, by a token or by a form
+abbrev pub NotExecuted : List ℕ → written.Program → Type 0
+NotExecuted text p = HoldsBeyond text ⊎ (is_executed p ≡ false)
+
+-- the text spells the program, which is typed and executed
+pub record IsExecuted (text : List ℕ) (p : written.Program) : Type 0 where
+  pub spelled : Spells text p
+  pub typed : IsTyped p
+  pub executed : is_executed p ≡ true
+  pub within : HoldsBeyond text → ⊥
+
+-- the text is refused: whatever typed program it spells is not executed yet
+abbrev pub IsRefused : List ℕ → Type 0
+IsRefused text = (p : written.Program) → Spells text p → IsTyped p → NotExecuted text p
+
+-- the text spells no typed program
+abbrev pub IsUntyped : List ℕ → Type 0
+IsUntyped text = (p : written.Program) → Spells text p → IsTyped p → ⊥
+
 -- the program that a text spells, with its names settled; it is supported
 pub record IsProgramOf (text : List ℕ) (p : Program) : Type 0 where
   pub written : written.Program
-  pub spelled : Spells text written
+  pub executed : IsExecuted text written
   pub settled : p ≡ resolve.program written
   pub supported : IsSupported p
 
 -- a program is that of the text
 abbrev pub IsReadFrom : List ℕ → Told → Type 0
 IsReadFrom text (told.Program t) = IsProgramOf text (settled t)
-IsReadFrom text (told.Refused line) = ⊤
+IsReadFrom text (told.Refused line) = IsRefused text
+
+abbrev pub IsCheckedFrom : List ℕ → Checked → Type 0
+IsCheckedFrom text (checked.Program p) = Spells text (written.written_program p) × IsTyped (written.written_program p)
+IsCheckedFrom text (checked.Refused line) = IsUntyped text
 
 -- the name of the companion stands alone
 abbrev pub is_companion : List (List ℕ) → Bool
@@ -106,8 +140,11 @@ SaysPrinted text Done bytes = (p : written.Program) × Spells text p × (bytes �
 SaysPrinted text Refused bytes = (p : written.Program) → Spells text p → ⊥
 SaysPrinted text s bytes = ⊥
 
+-- the same of `check`: `ok`, where the program is typed
 abbrev pub SaysChecked : (text : List ℕ) → Status → List ℕ → Type 0
-SaysChecked text s bytes = ⊤
+SaysChecked text Done bytes = (p : written.Program) × Spells text p × IsTyped p × (bytes ≡ codes "ok" ++ 10 ∷ [])
+SaysChecked text Refused bytes = IsUntyped text
+SaysChecked text s bytes = ⊥
 
 -- what a command says of a text, with its status
 abbrev pub Says : Saying → (text : List ℕ) → Status → List ℕ → Type 0
@@ -124,8 +161,16 @@ IsSaid Says holds old new Done = (text bytes : List ℕ) × IfSome holds (λ kno
 IsSaid Says holds old new Refused = (text bytes : List ℕ) × IfSome holds (λ known. text ≡ known) × Says text Refused bytes × IsPut old new Refused bytes
 IsSaid Says holds old new s = ⊤
 
--- what the commands without a report say
+-- A program is reported only where the file's text spells one that is typed and executed, and refused only where it spells none.
+abbrev pub IsTaken : (holds : Option (List ℕ)) → Status → Type 0
+IsTaken holds Refused = (text : List ℕ) × IfSome holds (λ known. text ≡ known) × IsRefused text
+IsTaken holds Done = (text : List ℕ) × IfSome holds (λ known. text ≡ known) × (p : written.Program) × IsExecuted text p
+IsTaken holds NotVerified = (text : List ℕ) × IfSome holds (λ known. text ≡ known) × (p : written.Program) × IsExecuted text p
+IsTaken holds Faulted = (text : List ℕ) × IfSome holds (λ known. text ≡ known) × (p : written.Program) × IsExecuted text p
+IsTaken holds s = ⊤
+
+-- what each command says by its status
 abbrev pub IsSaidBy : Order → (holds : Option (List ℕ) → Option (List ℕ)) → (old new : Option (List ℕ)) → Status → Type 0
-IsSaidBy (Verify file solver) holds old new s = ⊤
+IsSaidBy (Verify file solver) holds old new s = IsTaken (holds file) s
 IsSaidBy (Check file) holds old new s = IsSaid (Says saying.Typed) (holds file) old new s
 IsSaidBy (Print file) holds old new s = IsSaid (Says saying.Canonical) (holds file) old new s

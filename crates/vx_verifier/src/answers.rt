@@ -2,12 +2,15 @@
 
 ghost use Rattle.std.specs.Prelude.{◌≡◌, IfOk};
 ghost use Rattle.vx_parser.specs.declared.fault.TextFault.TheVariants as faults;
+ghost use Rattle.vx_types.specs.declared.unsettled.Unsettled.TheVariants as unsettling;
+ghost use Rattle.vx_typing.specs.declared.fault.TypeFault.TheVariants as untyped;
 
 use std::alloc::{AllocError, Global};
 use vx_ast::Place;
 use vx_parser::TextFault;
 use vx_report::write_place;
-use vx_types::TypeFault;
+use vx_types::Unsettled;
+use vx_typing::{TypeFault, word_of};
 
 /// What is put where the words are no command.
 pub const USAGE: &str =
@@ -47,24 +50,40 @@ fn text_line(alloc: Global, fault: &TextFault) -> Result<String, AllocError> {
     Ok(line)
 }
 
-/// The line of a program with other types than those that are executed.
-pub fn refusal_of_types(alloc: Global) -> Result<String, AllocError> {
-    let mut line = refusal(alloc, Place { line: 1, column: 1 }, "E09", "Unsupported")?;
-    line.push_str(" type\n")?;
-    Ok(line)
+/// The line of a program that is not executed yet. Want of memory has none.
+pub fn unsettled_refusal(alloc: Global, unsettled: &Unsettled) -> Result<String, AllocError>
+    ensures { IfOk result (λ _. unsettled.now ≡ unsettling.Want → ⊥) }
+{
+    match unsettled {
+        Unsettled::Want => Err(AllocError),
+        Unsettled::NotExecuted(place, word) => {
+            let mut line = refusal(alloc, *place, unsettled.code(), unsettled.name())?;
+            write!(&mut line, " {}\n", word)?;
+            Ok(line)
+        }
+    }
 }
 
-/// The line of a program that isn't typed.
-pub fn type_refusal(alloc: Global, fault: &TypeFault) -> Result<String, AllocError> {
+/// The line of a program that isn't typed. Want of memory has none.
+pub fn type_refusal(alloc: Global, fault: &TypeFault) -> Result<String, AllocError>
+    ensures { IfOk result (λ _. fault.now ≡ untyped.Want → ⊥) }
+{
+    match fault {
+        TypeFault::Want => Err(AllocError),
+        _ => type_line(alloc, fault),
+    }
+}
+
+fn type_line(alloc: Global, fault: &TypeFault) -> Result<String, AllocError> {
     let place = fault.place().unwrap_or(Place { line: 1, column: 1 });
     let mut line = refusal(alloc, place, fault.code(), fault.name())?;
     match fault {
         TypeFault::Unknown(_, name) | TypeFault::Twice(_, name) => write!(&mut line, " {}", name)?,
         TypeFault::Mismatch(_, expected, found) => {
-            write!(&mut line, " {} {}", expected, vx_types::word_of(*found))?
+            write!(&mut line, " {} {}", expected, word_of(*found))?
         }
-        TypeFault::Unsupported(_, word) => write!(&mut line, " {}", word)?,
-        TypeFault::NotAssignable(_) | TypeFault::Want => {}
+        TypeFault::Arity(_, expected, found) => write!(&mut line, " {} {}", expected, found)?,
+        _ => {}
     }
     line.push_str("\n")?;
     Ok(line)

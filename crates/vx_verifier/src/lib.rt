@@ -9,7 +9,6 @@ mod execute;
 mod lane;
 mod reading;
 mod saying;
-mod supported;
 mod top;
 
 pub use execute::verify;

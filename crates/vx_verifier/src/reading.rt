@@ -2,16 +2,14 @@
 
 ghost use Rattle.std.specs.Prelude.{◌≡◌, IfOk, option_copied};
 ghost use Rattle.vx_ends.specs.Causes.{Rose};
-ghost use Rattle.vx_verifier.specs.Reported.{AsksOnly, IsLoadedFrom, IsReadFrom};
+ghost use Rattle.vx_verifier.specs.Reported.{AsksOnly, IsLoadedFrom, IsCheckedFrom, IsReadFrom};
 
 use crate::answers::{text_refusal, type_refusal, unsettled_refusal};
 use std::alloc::{AllocError, Global};
 use vx_ast::Program;
 use vx_ends::{Files, LoadFault};
 use vx_parser::{beyond_store, parse};
-use vx_sound::{
-    executed_programs_are_of_the_store_language, typed_programs_are_typed_when_settled,
-};
+use vx_sound::{executed_programs_are_of_the_store, typed_programs_settle_typed};
 use vx_types::{Typed, settle};
 use vx_typing::{check, programs_are_told};
 
@@ -73,8 +71,8 @@ pub fn read_typed(alloc: Global, text: &[u8]) -> Result<Checked, AllocError>
 pub fn read_program(alloc: Global, text: &[u8]) -> Result<Told, AllocError>
     ensures { IfOk result (IsReadFrom text.now) }
 {
-    typed_programs_are_typed_when_settled();
-    executed_programs_are_of_the_store_language();
+    typed_programs_settle_typed();
+    executed_programs_are_of_the_store();
     let program = match read_typed(alloc, text)? {
         Checked::Program(program) => program,
         Checked::Refused(line) => return Ok(Told::Refused(line)),

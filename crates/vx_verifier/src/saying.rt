@@ -3,11 +3,11 @@
 ghost use Rattle.std.specs.Prelude.{IfOk};
 ghost use Rattle.vx_verifier.specs.Reported.{SaysSo};
 
-use crate::answers::{text_refusal, type_refusal};
+use crate::answers::text_refusal;
+use crate::reading::{Checked, read_typed};
 use std::alloc::{AllocError, Global};
 use vx_parser::parse;
 use vx_print::print;
-use vx_types::{TypeFault, check};
 
 /// What a command without a report says of a text.
 #[derive(Clone, Copy, PartialEq, Eq, Debug)]
@@ -41,14 +41,9 @@ impl Saying {
 fn checked(alloc: Global, text: &[u8]) -> Result<Said, AllocError>
     ensures { IfOk result (SaysSo Saying.Typed text.now) }
 {
-    let program = match parse(alloc, text) {
-        Ok(program) => program,
-        Err(fault) => return Ok(Said::Refused(text_refusal(alloc, &fault)?)),
-    };
-    match check(alloc, &program) {
-        Ok(_) => Ok(Said::Done(String::from_str(alloc, "ok\n")?.into_bytes())),
-        Err(TypeFault::Want) => Err(AllocError),
-        Err(fault) => Ok(Said::Refused(type_refusal(alloc, &fault)?)),
+    match read_typed(alloc, text)? {
+        Checked::Program(_program) => Ok(Said::Done(Vec::from_slice(alloc, b"ok\n")?)),
+        Checked::Refused(line) => Ok(Said::Refused(line)),
     }
 }
 
