@@ -20,3 +20,4 @@ pub mod Numbered
 pub mod Gives
 pub mod Laws
 pub mod Examples
+pub mod ProgramExamples

@@ -2,6 +2,8 @@
 
 ghost use Rattle.vx_typing.specs.Laws.{TypesAgree, ListsAgree, SharesAgree, ValuesAgree, PermissionsAgree, AssertionsAgree, UntypedAreFaulty, OthersAreFaulty, StatementsAgree, BlocksAgree, OtherBlocksAreFaulty, MembersAgree, GroupsAgree, ProgramsAgree, OtherProgramsAreFaulty, HasOneType, PermissionsAreNoValues, PureAreWalkedAlike};
 ghost use Rattle.vx_typing.specs.Faults.{assertion, check};
+ghost use Rattle.vx_typing.specs.Programs.{program};
+ghost use Rattle.vx_typing.specs.ProgramExamples.{names, statements, calls, contracts, groups};
 ghost use Rattle.vx_typing.specs.Examples.{Computes, after, asserted, bodies, faulty, here, later, typed, unapplied, within};
 
 /// An expression has the type that its check gives, and a first fault exactly where it has none.
@@ -67,4 +69,14 @@ pub fn example_expressions()
 pub fn example_assertions()
     ensures asserted { Computes (assertion here) asserted }
     ensures bodies { Computes (assertion within) bodies }
+{}
+
+/// Programs that are typed, and others with their first faults.
+#[tactic(auto, unfolding(vx_frac::specs::Fractions::lowest))]
+pub fn example_programs()
+    ensures names { Computes program names }
+    ensures statements { Computes program statements }
+    ensures calls { Computes program calls }
+    ensures contracts { Computes program contracts }
+    ensures groups { Computes program groups }
 {}

@@ -19,7 +19,7 @@ mod uses;
 pub use assertions::assertion;
 pub use fault::{Expected, TypeFault};
 pub use laws::{
-    assertions_are_told, example_assertions, example_expressions, groups_are_told,
+    assertions_are_told, example_assertions, example_expressions, example_programs, groups_are_told,
     members_are_told, programs_are_told, pure_assertions_are_expressions, statements_are_told,
     types_are_single, types_are_told,
 };
