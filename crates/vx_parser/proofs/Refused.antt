@@ -13,7 +13,7 @@ use Rattle.vx_grammar.specs.ProgramLaws.{ProgramSpelled, ProgramWithin, ProgramS
 use Rattle.vx_parser.specs.declared.fault.TextFault as the_fault
 use Rattle.vx_parser.specs.declared.fault.TextFault.TheVariants as faults
 use Rattle.vx_parser.specs.Answers.{Fault, answer, answer_by, early, unfit_token, is_foreign, is_foreign_member, IsEnd, IsAnswer, Shows}
-use Rattle.vx_parser.specs.Refusing.{AllFit, NoProgram, LeavesOut, KnowsAll, FaultSays, AnswerSays, AnswersSay, IsRefusal}
+use Rattle.vx_parser.specs.Refusing.{AllFit, NoProgram, ClauseFitsThere, NoClauseFitsThere, FaultSays, AnswerSays, AnswersSay, IsRefusal}
 
 early_says : (ts : List Token) (e : Ending) → AllFit ts → (IsEnd e → NoProgram ts) → FaultSays ts e (early e)
 early_says ts (AtEnd p) fit none = (refl, fit, none)
@@ -38,12 +38,12 @@ ended_says ts p (OpenComment at) h = (refl, program_fits ts p h, λ x. absurd x)
 ended_says ts p (WideLiteral at) h = (refl, program_fits ts p h)
 ended_says ts p (BadCharacter at) h = (refl, program_fits ts p h)
 
-unfit_says : (ts : List Token) (e : Ending) (t : Token) (after : List Token) (b : Bool) → FirstUnfit ts (t ∷ after) → (b ≡ true → LeavesOut ts (t ∷ after)) → (b ≡ false → KnowsAll ts (t ∷ after)) → FaultSays ts e (unfit_token b t)
+unfit_says : (ts : List Token) (e : Ending) (t : Token) (after : List Token) (b : Bool) → FirstUnfit ts (t ∷ after) → (b ≡ true → ClauseFitsThere ts (t ∷ after)) → (b ≡ false → NoClauseFitsThere ts (t ∷ after)) → FaultSays ts e (unfit_token b t)
 unfit_says ts e t after true h out known = record { token = t; after = after; place = refl; is = refl; first = h; such = out refl }
 unfit_says ts e t after false h out known = record { token = t; after = after; place = refl; is = refl; first = h; such = known refl }
 
 -- a measure is no word that is left out anywhere
-no_measure : (ts : List Token) (t : Token) (after : List Token) (foreign : Kind → Bool) → foreign (word words.Decreases) ≡ false → foreign t.kind ≡ true → LeavesOut ts (t ∷ after)
+no_measure : (ts : List Token) (t : Token) (after : List Token) (foreign : Kind → Bool) → foreign (word words.Decreases) ≡ false → foreign t.kind ≡ true → ClauseFitsThere ts (t ∷ after)
 no_measure ts t after foreign not e = λ measure. absurd (let k : foreign (word words.Decreases) ≡ true = subst (λ x. foreign x ≡ true) measure e in cc)
 
 -- where no token is left, the tokens are no program yet

@@ -48,18 +48,18 @@ AllFit ts = FitsInFront ts []
 abbrev pub NoProgram : List Token → Type 0
 NoProgram ts = (p : Program) → ProgramSpelled ts p → ⊥
 
--- a measure is left out where a clause fits in its place, and the block of a method or a loop too
-abbrev pub LeavesOut : List Token → List Token → Type 0
-LeavesOut ts rest = BeginsMeasure rest → StopsAtMeasure ts rest
+-- a measure stands there only where a clause fits, and so does the block of a method or a loop
+abbrev pub ClauseFitsThere : List Token → List Token → Type 0
+ClauseFitsThere ts rest = BeginsMeasure rest → StopsAtMeasure ts rest
 
--- no other measure is: no clause fits in its place, or it is a function's second one
-abbrev pub KnowsAll : List Token → List Token → Type 0
-KnowsAll ts rest = NoClauseFits ts rest ⊎ StopsAtBody ts rest
+-- a measure stands there only where no clause fits, or as a function's second one
+abbrev pub NoClauseFitsThere : List Token → List Token → Type 0
+NoClauseFitsThere ts rest = NoClauseFits ts rest ⊎ StopsAtBody ts rest
 
 -- what a fault says of the tokens of a text and its ending
 abbrev pub FaultSays : List Token → Ending → Fault → Type 0
-FaultSays ts e (Unexpected p k) = UnfitAt p k ts (KnowsAll ts)
-FaultSays ts e (Unsupported p k) = UnfitAt p k ts (LeavesOut ts)
+FaultSays ts e (Unexpected p k) = UnfitAt p k ts (NoClauseFitsThere ts)
+FaultSays ts e (Unsupported p k) = UnfitAt p k ts (ClauseFitsThere ts)
 FaultSays ts e (Abstract p) = AbstractAt p ts
 FaultSays ts e (EndOfText p) = (early e ≡ EndOfText p) × AllFit ts × (IsEnd e → NoProgram ts)
 FaultSays ts e (WideLiteral p) = (early e ≡ WideLiteral p) × AllFit ts
