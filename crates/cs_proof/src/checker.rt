@@ -21,7 +21,7 @@ use crate::step::{Step, steps_of};
 use cs_farkas::{Break, Combination, Sums, refutes};
 use cs_hints::{Clause, Marks, refutes_by};
 use cs_numbers::number;
-use cs_reader::{Certificate, Refusal};
+use cs_reader::{Certificate, Refusal, Symbols};
 use cs_table::{Node, Stop, Table};
 use std::alloc::{AllocError, Global};
 
@@ -144,7 +144,13 @@ impl From<Stop> for Want {
 }
 
 /// The plans of all steps over a stack.
-fn plans_of(alloc: Global, stack: &Stack, steps: &[Step]) -> Result<Plans, Stop>
+fn plans_of(
+    alloc: Global,
+    stack: &Stack,
+    symbols: &Symbols<'_>,
+    steps: &[Step],
+) -> Result<Plans, Stop>
+    requires { symbols.now.declared.now ≡ stack.now.symbols.items }
     ensures value { IfOk result (λ p. plans.plans_of (seen stack.now) (map written steps.now) ≡ Some (stand p)) }
     ensures fits { IfOk result Fits }
     ensures few { IfOk result (λ p. length stack.now.assertions.items < 2 ^ 32) }
@@ -162,7 +168,7 @@ fn plans_of(alloc: Global, stack: &Stack, steps: &[Step]) -> Result<Plans, Stop>
         duties: Vec::new(alloc),
         clauses: Vec::new(alloc),
     };
-    plan_all(alloc, &stack.symbols, &roots, steps, &mut plans)?;
+    plan_all(alloc, symbols, &roots, steps, &mut plans)?;
     Ok(plans)
 }
 
@@ -179,16 +185,23 @@ impl Checker {
         ensures value { IfOk result (λ c. Begins (plans.plans_of (seen stack.now) (all_meant (seen stack.now) (seen_certificate certificate))) (checker c)) }
         ensures answers { Each IsSorted (seen stack.now).assertions → (v : clean.Verdict) → IfOk result (λ c. Answers (seen stack.now) (all_meant (seen stack.now) (seen_certificate certificate)) v ↔ (v ≡ clean.verdict (checker c))) }
     {
-        let steps = steps_of(alloc, &stack.symbols, certificate)?;
-        Checker::of(alloc, stack, &steps)
+        let symbols = Symbols::new(alloc, &stack.symbols)?;
+        let steps = steps_of(alloc, &symbols, certificate)?;
+        Checker::of(alloc, stack, &symbols, &steps)
     }
 
     /// A checker of these steps.
-    fn of(alloc: Global, stack: &Stack, steps: &[Step]) -> Result<Checker, Want>
+    fn of(
+        alloc: Global,
+        stack: &Stack,
+        symbols: &Symbols<'_>,
+        steps: &[Step],
+    ) -> Result<Checker, Want>
+        requires { symbols.now.declared.now ≡ stack.now.symbols.items }
         ensures value { IfOk result (λ c. Begins (plans.plans_of (seen stack.now) (map written steps.now)) (checker c)) }
         ensures answers { Each IsSorted (seen stack.now).assertions → (v : clean.Verdict) → IfOk result (λ c. Answers (seen stack.now) (map written steps.now) v ↔ (v ≡ clean.verdict (checker c))) }
     {
-        let plans = plans_of(alloc, stack, steps)?;
+        let plans = plans_of(alloc, stack, symbols, steps)?;
         if plans.duties.len() >= 1 << 32 {
             return Err(Want);
         }

@@ -1,7 +1,7 @@
 //! What is prepared for all steps, one after another.
 ghost use Rattle.std.specs.Prelude.{◌≡◌, ◌≤◌, length, drop, map, OnOk, Some};
 ghost use Rattle.vx_terms.specs.Views.{term};
-ghost use Rattle.vx_smt_meaning.specs.Views.{declared_symbol};
+ghost use Rattle.cs_reader.specs.Live.{declared_in};
 ghost use Rattle.cs_numbers.specs.Numbering.{nodes_after, places};
 ghost use Rattle.cs_numbers.specs.Listed.{terms_in};
 ghost use Rattle.cs_table.specs.Table.{nodes_in};
@@ -16,11 +16,11 @@ use crate::prepare::{Duty, prepared};
 use crate::step::Step;
 use cs_hints::Clause;
 use cs_numbers::{NumberedTerms, add, node_of, place_of};
+use cs_reader::Symbols;
 use cs_sorts::{is_live, sort_in};
 use cs_table::{Stop, Table};
 use std::alloc::Global;
 use std::rc::Rc;
-use vx_smt_meaning::Declared;
 use vx_terms::Term;
 
 /// The numbered terms and their nodes, and for each step its duty, and its clause where it has one.
@@ -81,8 +81,8 @@ pub fn extend(alloc: Global, all: &mut Table, terms: &NumberedTerms) -> Result<(
 }
 
 /// Whether a term is well-sorted over the live symbols.
-fn is_fine(symbols: &[Declared], t: &Term) -> Result<bool, Stop>
-    ensures { Gives (λ b. b) result (Some (clean.is_fine (map declared_symbol symbols.now) (term t.now))) }
+fn is_fine(symbols: &Symbols<'_>, t: &Term) -> Result<bool, Stop>
+    ensures { Gives (λ b. b) result (Some (clean.is_fine (declared_in symbols.now) (term t.now))) }
 {
     match sort_in(t) {
         Ok(_sort) => Ok(is_live(symbols, t)?),
@@ -152,13 +152,13 @@ fn keep(alloc: Global, roots: &[u32], step: &Step, plans: &mut Plans) -> Result<
 /// One step more.
 fn plan(
     alloc: Global,
-    symbols: &[Declared],
+    symbols: &Symbols<'_>,
     roots: &[u32],
     step: &Step,
     plans: &mut Plans,
 ) -> Result<(), Stop>
     requires { Fits plans.old }
-    ensures value { Gives (λ u. stand plans.new) result (clean.planned (map declared_symbol symbols.now) roots.now (stand plans.old) (written step.now)) }
+    ensures value { Gives (λ u. stand plans.new) result (clean.planned (declared_in symbols.now) roots.now (stand plans.old) (written step.now)) }
     ensures fits { OnOk result (Fits plans.new) }
 {
     match step {
@@ -186,13 +186,13 @@ fn plan(
 /// All steps, in order.
 pub fn plan_all(
     alloc: Global,
-    symbols: &[Declared],
+    symbols: &Symbols<'_>,
     roots: &[u32],
     steps: &[Step],
     plans: &mut Plans,
 ) -> Result<(), Stop>
     requires { Fits plans.old }
-    ensures value { Gives (λ u. stand plans.new) result (clean.planned_all (map declared_symbol symbols.now) roots.now (stand plans.old) (map written steps.now)) }
+    ensures value { Gives (λ u. stand plans.new) result (clean.planned_all (declared_in symbols.now) roots.now (stand plans.old) (map written steps.now)) }
     ensures fits { OnOk result (Fits plans.new) }
 {
     for step in steps {

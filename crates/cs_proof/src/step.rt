@@ -1,17 +1,16 @@
 //! Steps of certificates, over terms.
 ghost use Rattle.std.specs.Prelude.{◌≡◌, map, IfOk};
-ghost use Rattle.vx_smt_meaning.specs.Views.{declared_symbol};
+ghost use Rattle.cs_reader.specs.Live.{declared_in};
 ghost use Rattle.cs_reader.specs.Steps.{step, certificate};
 ghost use Rattle.cs_proof.specs.Views.{written};
 ghost use Rattle.cs_proof.specs.Meant.{meant, new_term};
 
-use cs_reader::{Certificate, Literal, Scope, spelled};
+use cs_reader::{Certificate, Literal, Scope, Symbols, spelled};
 use cs_table::Stop;
 use std::alloc::Global;
 use std::rc::Rc;
 use vx_frac::Frac;
 use vx_sexp::Token;
-use vx_smt_meaning::Declared;
 use vx_terms::Term;
 
 /// A step. Terms, assertions and clauses are named by their numbers.
@@ -33,8 +32,8 @@ pub enum Step {
 }
 
 /// The `term` step of these tokens.
-fn term_step(alloc: Global, symbols: &[Declared], tokens: &[Token]) -> Result<Step, Stop>
-    ensures { IfOk result (λ s. written s ≡ new_term (map declared_symbol symbols.now) tokens.now) }
+fn term_step(alloc: Global, symbols: &Symbols<'_>, tokens: &[Token]) -> Result<Step, Stop>
+    ensures { IfOk result (λ s. written s ≡ new_term (declared_in symbols.now) tokens.now) }
 {
     match spelled(alloc, &Scope::Among(symbols), tokens) {
         Ok(t) => Ok(Step::Term(t)),
@@ -47,8 +46,8 @@ fn term_step(alloc: Global, symbols: &[Declared], tokens: &[Token]) -> Result<St
 ///
 /// # Errors
 /// `Want` where memory runs out.
-pub fn step_of(alloc: Global, symbols: &[Declared], read: cs_reader::Step) -> Result<Step, Stop>
-    ensures { IfOk result (λ s. written s ≡ meant (map declared_symbol symbols.now) (step read)) }
+pub fn step_of(alloc: Global, symbols: &Symbols<'_>, read: cs_reader::Step) -> Result<Step, Stop>
+    ensures { IfOk result (λ s. written s ≡ meant (declared_in symbols.now) (step read)) }
 {
     Ok(match read {
         cs_reader::Step::Input(n) => Step::Input(n),
@@ -66,8 +65,8 @@ pub fn step_of(alloc: Global, symbols: &[Declared], read: cs_reader::Step) -> Re
 }
 
 /// The steps that a certificate stands for, over the live symbols.
-pub fn steps_of(alloc: Global, symbols: &[Declared], read: Certificate) -> Result<Vec<Step>, Stop>
-    ensures { IfOk result (λ v. map written v.items ≡ map (meant (map declared_symbol symbols.now)) (certificate read)) }
+pub fn steps_of(alloc: Global, symbols: &Symbols<'_>, read: Certificate) -> Result<Vec<Step>, Stop>
+    ensures { IfOk result (λ v. map written v.items ≡ map (meant (declared_in symbols.now)) (certificate read)) }
 {
     let mut steps = Vec::new(alloc);
     for step in read.steps {

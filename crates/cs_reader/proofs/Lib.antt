@@ -1,3 +1,5 @@
 pub mod Loops
 pub mod Shorter
 pub mod Lists
+pub mod Among
+pub mod Fronts

@@ -1,5 +1,5 @@
 -- The term that tokens spell, over the symbols of a scope.
-use Rattle.std.specs.Prelude.{ℕ, zero, suc, ◌-◌, Bool, true, false, nat_eq, if◌then◌else◌, ℤ, pos, negsuc, neg_ℤ, List, [], ◌∷◌, length, codes, Option, Some, None}
+use Rattle.std.specs.Prelude.{ℕ, zero, suc, ◌-◌, Bool, true, false, nat_eq, if◌then◌else◌, ℤ, pos, negsuc, neg_ℤ, List, [], ◌∷◌, length, slice_get, codes, Option, Some, None}
 use Rattle.std.specs.Option.{option_map}
 use Rattle.std.specs.Str.{bytes_eq}
 use Rattle.vx_frac.specs.Fractions.{Fraction, lowest, sum, product, sum_fits, product_fits}
@@ -18,6 +18,7 @@ use Rattle.vx_smt_meaning.specs.Commands.{Declared}
 use Rattle.cs_reader.specs.declared.word.Word.{Word}
 use Rattle.cs_reader.specs.declared.word.Word.TheVariants as words
 use Rattle.cs_reader.specs.Marks.{numeral}
+use Rattle.cs_index.specs.Found.{first}
 use Rattle.cs_reader.specs.Items.{◌>>=◌, items_for}
 
 -- ---- symbols
@@ -42,10 +43,15 @@ is_spelled text (Named x) = same_text text x
 abbrev pub Scope : Type 0
 Scope = List ℕ → Option (Symbol × Sort)
 
+abbrev pub spelled_by : List ℕ → Declared → Bool
+spelled_by text d = is_spelled text d.symbol
+
+abbrev pub meaning_at : List Declared → ℕ → Option (Symbol × Sort)
+meaning_at ds n = option_map (λ d. (d.symbol, d.gives)) (slice_get ds n)
+
 -- the first of these symbols that is spelled so
 abbrev pub among : List Declared → Scope
-among [] text = None
-among (d ∷ ds) text = if is_spelled text d.symbol then Some (d.symbol, d.gives) else among ds text
+among ds text = first (spelled_by text) ds >>= meaning_at ds
 
 -- each word names a symbol: which one is not looked at
 abbrev pub any : Scope

@@ -8,6 +8,7 @@ mod refusal;
 mod spell;
 mod step;
 mod stop;
+mod symbols;
 mod word;
 
 pub use reader::ReadFault;
@@ -15,6 +16,7 @@ pub use refusal::Refusal;
 pub use spell::{Scope, spelled};
 pub use step::{Certificate, Literal, Step};
 pub use stop::Stop;
+pub use symbols::{Symbols, symbol_key};
 
 #[cfg(test)]
 mod tests;

@@ -5,12 +5,16 @@ ghost use Rattle.vx_frac.specs.Fraction.{fraction};
 ghost use Rattle.vx_terms.specs.Views.{sort, symbol, term, terms};
 ghost use Rattle.vx_smt_meaning.specs.Views.{declared_symbol};
 ghost use Rattle.cs_reader.specs.Items.{Gives};
+ghost use Rattle.cs_index.specs.Found.{first, passes_at};
+ghost use Rattle.cs_reader.specs.Live.{declared_in};
+ghost use Rattle.cs_reader.specs.Spelling.{spelled_by};
 ghost use Rattle.cs_reader.specs.Spelling as clean;
 ghost use Rattle.cs_reader.specs.Views.{scope};
 
 use crate::decimal::{decimal_of, inverse_of, multiplied};
 use crate::mark::numeral_of;
 use crate::stop::Stop;
+use crate::symbols::{Symbols, word_key};
 use crate::word::{Word, is_spelled, word_of};
 use std::alloc::{AllocError, Global};
 use std::rc::Rc;
@@ -21,29 +25,62 @@ use vx_terms::{Operator, Sort, Symbol, Term, Terms};
 
 /// What words name.
 #[derive(Clone, Copy)]
-pub enum Scope<'s> {
+pub enum Scope<'s, 'd> {
     /// Each names a symbol: which one is not looked at.
     Any,
     /// They name these symbols.
-    Among(&'s [Declared]),
+    Among(&'s Symbols<'d>),
+}
+
+/// Whether the symbol at this place is spelled so.
+fn is_at(symbols: &[Declared], at: u32, text: &[u8]) -> bool
+    ensures { result ≡ passes_at (spelled_by text.now) (map declared_symbol symbols.now) at }
+{
+    match symbols.get(at as usize) {
+        Some(declared) => is_spelled(text, &declared.symbol),
+        None => false,
+    }
+}
+
+/// The place of the first of the symbols that is spelled so.
+#[tactic(auto, using(crate::proofs::Among::looked_up))]
+fn place_of(symbols: &Symbols<'_>, text: &[u8]) -> Option<u32>
+    ensures { result ≡ first (spelled_by text.now) (declared_in symbols.now) }
+{
+    for at in symbols.under(word_key(text)) {
+        if is_at(symbols.declared, *at, text) {
+            return Some(*at);
+        }
+    }
+    None
+}
+
+/// What stands at a place.
+fn at_place(symbols: &[Declared], at: u32) -> Result<(Symbol, Sort), Stop>
+    ensures { Gives (λ d. (symbol d.0, sort d.1)) result (clean.meaning_at (map declared_symbol symbols.now) at) }
+{
+    match symbols.get(at as usize) {
+        Some(declared) => {
+            let of = declared.symbol.copy()?;
+            let gives = declared.gives.copy()?;
+            Ok((of, gives))
+        }
+        None => Err(Stop::Form),
+    }
 }
 
 /// The first of the symbols that is spelled so, and the sort of its value.
-fn among(symbols: &[Declared], text: &[u8]) -> Result<(Symbol, Sort), Stop>
-    ensures { Gives (λ d. (symbol d.0, sort d.1)) result (clean.among (map declared_symbol symbols.now) text.now) }
+fn among(symbols: &Symbols<'_>, text: &[u8]) -> Result<(Symbol, Sort), Stop>
+    ensures { Gives (λ d. (symbol d.0, sort d.1)) result (clean.among (declared_in symbols.now) text.now) }
 {
-    for declared in symbols {
-        if is_spelled(text, &declared.symbol) {
-            let of = declared.symbol.copy()?;
-            let gives = declared.gives.copy()?;
-            return Ok((of, gives));
-        }
+    match place_of(symbols, text) {
+        Some(at) => at_place(symbols.declared, at),
+        None => Err(Stop::Form),
     }
-    Err(Stop::Form)
 }
 
 /// What a word names.
-fn named(within: &Scope<'_>, text: &[u8]) -> Result<(Symbol, Sort), Stop>
+fn named(within: &Scope<'_, '_>, text: &[u8]) -> Result<(Symbol, Sort), Stop>
     ensures { Gives (λ d. (symbol d.0, sort d.1)) result (scope within.now text.now) }
 {
     match within {
@@ -53,7 +90,7 @@ fn named(within: &Scope<'_>, text: &[u8]) -> Result<(Symbol, Sort), Stop>
 }
 
 /// A word alone.
-fn alone(alloc: Global, within: &Scope<'_>, text: &[u8]) -> Result<Rc<Term>, Stop>
+fn alone(alloc: Global, within: &Scope<'_, '_>, text: &[u8]) -> Result<Rc<Term>, Stop>
     ensures { Gives (λ t. term t.value) result (clean.alone (scope within.now) text.now (clean.word text.now)) }
 {
     match word_of(text) {
@@ -67,7 +104,7 @@ fn alone(alloc: Global, within: &Scope<'_>, text: &[u8]) -> Result<Rc<Term>, Sto
 }
 
 /// The atom of this kind.
-fn leaf_of(alloc: Global, within: &Scope<'_>, kind: Kind, text: &[u8]) -> Result<Rc<Term>, Stop>
+fn leaf_of(alloc: Global, within: &Scope<'_, '_>, kind: Kind, text: &[u8]) -> Result<Rc<Term>, Stop>
     ensures { Gives (λ t. term t.value) result (clean.leaf_of (scope within.now) kind text.now) }
 {
     match kind {
@@ -87,7 +124,7 @@ fn leaf_of(alloc: Global, within: &Scope<'_>, kind: Kind, text: &[u8]) -> Result
 }
 
 /// A term of one token.
-fn leaf(alloc: Global, within: &Scope<'_>, token: &Token) -> Result<Rc<Term>, Stop>
+fn leaf(alloc: Global, within: &Scope<'_, '_>, token: &Token) -> Result<Rc<Term>, Stop>
     ensures { Gives (λ t. term t.value) result (clean.leaf (scope within.now) token.now) }
 {
     match token {
@@ -214,7 +251,7 @@ fn listed(alloc: Global, parts: &[Rc<Term>]) -> Result<Rc<Terms>, AllocError>
 /// A symbol before its arguments.
 fn applied(
     alloc: Global,
-    within: &Scope<'_>,
+    within: &Scope<'_, '_>,
     text: &[u8],
     parts: &[Rc<Term>],
 ) -> Result<Rc<Term>, Stop>
@@ -230,7 +267,7 @@ fn applied(
 /// A word before its parts.
 fn made(
     alloc: Global,
-    within: &Scope<'_>,
+    within: &Scope<'_, '_>,
     text: &[u8],
     parts: &[Rc<Term>],
 ) -> Result<Rc<Term>, Stop>
@@ -268,7 +305,7 @@ fn symbol_in(token: &Token) -> Result<&[u8], Stop>
 #[cycle(spelling)]
 fn part_or_end<'t>(
     alloc: Global,
-    within: &Scope<'_>,
+    within: &Scope<'_, '_>,
     room: usize,
     tokens: &'t [Token],
 ) -> Result<(Option<Rc<Term>>, &'t [Token]), Stop>
@@ -288,7 +325,7 @@ fn part_or_end<'t>(
 #[cycle(spelling)]
 fn parts<'t>(
     alloc: Global,
-    within: &Scope<'_>,
+    within: &Scope<'_, '_>,
     room: usize,
     tokens: &'t [Token],
 ) -> Result<(Vec<Rc<Term>>, &'t [Token]), Stop>
@@ -315,7 +352,7 @@ fn parts<'t>(
 #[cycle(spelling)]
 fn listed_at<'t>(
     alloc: Global,
-    within: &Scope<'_>,
+    within: &Scope<'_, '_>,
     room: usize,
     tokens: &'t [Token],
 ) -> Result<(Rc<Term>, &'t [Token]), Stop>
@@ -334,7 +371,7 @@ fn listed_at<'t>(
 #[cycle(spelling)]
 fn spelled_at<'t>(
     alloc: Global,
-    within: &Scope<'_>,
+    within: &Scope<'_, '_>,
     room: usize,
     tokens: &'t [Token],
 ) -> Result<(Rc<Term>, &'t [Token]), Stop>
@@ -357,7 +394,7 @@ fn spelled_at<'t>(
 ///
 /// # Errors
 /// `Form` where they spell none, `Want` where memory runs out.
-pub fn spelled(alloc: Global, within: &Scope<'_>, tokens: &[Token]) -> Result<Rc<Term>, Stop>
+pub fn spelled(alloc: Global, within: &Scope<'_, '_>, tokens: &[Token]) -> Result<Rc<Term>, Stop>
     ensures { Gives (λ t. term t.value) result (clean.spelled (scope within.now) tokens.now) }
 {
     let (t, rest) = spelled_at(alloc, within, tokens.len(), tokens)?;

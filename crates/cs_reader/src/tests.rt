@@ -1,6 +1,6 @@
 //! Certificates read from their text.
 
-use crate::{Certificate, Literal, ReadFault, Refusal, Scope, Step, spelled};
+use crate::{Certificate, Literal, ReadFault, Refusal, Scope, Step, Symbols, spelled};
 use std::alloc::Global;
 use std::rc::Rc;
 use vx_frac::Frac;
@@ -134,7 +134,8 @@ fn spelled_term(alloc: Global, text: &str) -> Option<Rc<Term>> {
         gives: Sort::Int,
     };
     symbols.push(declared).ok()?;
-    spelled(alloc, &Scope::Among(&symbols), reply.tokens()).ok()
+    let live = Symbols::new(alloc, &symbols).ok()?;
+    spelled(alloc, &Scope::Among(&live), reply.tokens()).ok()
 }
 
 #[test]

@@ -6,8 +6,11 @@ ghost use Rattle.vx_terms.specs.Terms.{sort_of};
 ghost use Rattle.vx_terms.specs.Views.{term, terms, sort, symbol};
 ghost use Rattle.vx_smt_meaning.specs.Views.{declared_symbol};
 ghost use Rattle.cs_certificate.specs.Terms.{items};
+ghost use Rattle.cs_index.specs.Found.{passes_at};
+ghost use Rattle.cs_reader.specs.Live.{declared_in};
 ghost use Rattle.cs_sorts.specs.Sorting as clean;
 
+use cs_reader::{Symbols, symbol_key};
 use std::alloc::AllocError;
 use vx_smt_meaning::Declared;
 use vx_terms::{Sort, Symbol, Term, Terms};
@@ -47,16 +50,32 @@ fn is_declaration(
     Ok(gives.is_same(&by.gives))
 }
 
-fn declares(
+/// Whether the symbol at this place is so declared.
+fn is_at(
     symbols: &[Declared],
+    at: u32,
     f: &Symbol,
     parts: &Terms,
     gives: &Sort,
 ) -> Result<bool, AllocError>
-    ensures { IfOk result (λ b. b ≡ clean.declares (map declared_symbol symbols.now) (symbol f.now) (map sort_of (items (terms parts.now))) (sort gives.now)) }
+    ensures { IfOk result (λ b. b ≡ passes_at (clean.is_declaration (symbol f.now) (map sort_of (items (terms parts.now))) (sort gives.now)) (map declared_symbol symbols.now) at) }
 {
-    for by in symbols {
-        if is_declaration(f, parts, gives, by)? {
+    match symbols.get(at as usize) {
+        Some(by) => is_declaration(f, parts, gives, by),
+        None => Ok(false),
+    }
+}
+
+fn declares(
+    symbols: &Symbols<'_>,
+    f: &Symbol,
+    parts: &Terms,
+    gives: &Sort,
+) -> Result<bool, AllocError>
+    ensures { IfOk result (λ b. b ≡ clean.declares (declared_in symbols.now) (symbol f.now) (map sort_of (items (terms parts.now))) (sort gives.now)) }
+{
+    for at in symbols.under(symbol_key(f)) {
+        if is_at(symbols.declared, *at, f, parts, gives)? {
             return Ok(true);
         }
     }
@@ -65,8 +84,8 @@ fn declares(
 
 /// Whether the symbols of a term are declared, with the sorts that they have there.
 #[cycle(live)]
-pub fn is_live(symbols: &[Declared], t: &Term) -> Result<bool, AllocError>
-    ensures { IfOk result (λ b. b ≡ clean.is_live (map declared_symbol symbols.now) (term t.now)) }
+pub fn is_live(symbols: &Symbols<'_>, t: &Term) -> Result<bool, AllocError>
+    ensures { IfOk result (λ b. b ≡ clean.is_live (declared_in symbols.now) (term t.now)) }
 {
     match t {
         Term::Truth(_) | Term::Number(_) | Term::Part(_) => Ok(true),
@@ -100,8 +119,8 @@ pub fn is_live(symbols: &[Declared], t: &Term) -> Result<bool, AllocError>
 }
 
 #[cycle(live)]
-fn are_live(symbols: &[Declared], parts: &Terms) -> Result<bool, AllocError>
-    ensures { IfOk result (λ b. b ≡ clean.are_live (map declared_symbol symbols.now) (terms parts.now)) }
+fn are_live(symbols: &Symbols<'_>, parts: &Terms) -> Result<bool, AllocError>
+    ensures { IfOk result (λ b. b ≡ clean.are_live (declared_in symbols.now) (terms parts.now)) }
 {
     match parts {
         Terms::None => Ok(true),

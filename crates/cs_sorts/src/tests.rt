@@ -1,6 +1,7 @@
 //! Sorts of terms over two declared symbols.
 
 use crate::{is_live, sort_in};
+use cs_reader::Symbols;
 use cs_table::Stop;
 use std::alloc::{AllocError, Global};
 use std::rc::Rc;
@@ -38,6 +39,9 @@ fn tells_sorts_and_live_symbols(rt: HostRuntime) {
         return;
     };
     assert!(rt; matches!(sort_in(&known), Ok(Sort::Bool)));
+    let Ok(symbols) = Symbols::new(alloc, &symbols) else {
+        return;
+    };
     assert_eq!(rt; is_live(&symbols, &known).ok(), Some(true));
     assert_eq!(rt; is_live(&symbols, &other).ok(), Some(false));
     let Ok(number) = variable(alloc, 0, Sort::Int) else {

@@ -1,5 +1,5 @@
 use Rattle.std.proofs.Common.{◌≡◌, drop, map}
-use Rattle.vx_smt_meaning.specs.Views.{declared_symbol}
+use Rattle.cs_reader.specs.Live.{declared_in}
 use Rattle.cs_proof.specs.Plans.{planned_all}
 use Rattle.cs_proof.specs.Views.{written}
 use Rattle.cs_proof.specs.Fits.{stand, Fits}
@@ -7,6 +7,6 @@ use Rattle.cs_proof.proofs.plans.plan_all.Given as goal
 
 abbrev pub invariant-loop-step : goal.invariant-loop-step
 invariant-loop-step l = record {
-  value : planned_all (map declared_symbol l.symbols) l.roots (stand l.plans) (map written (drop l.step-index l.steps)) ≡ planned_all (map declared_symbol l.symbols) l.roots (stand l.initial.plans) (map written l.steps);
+  value : planned_all (declared_in l.symbols) l.roots (stand l.plans) (map written (drop l.step-index l.steps)) ≡ planned_all (declared_in l.symbols) l.roots (stand l.initial.plans) (map written l.steps);
   fits : Fits l.plans;
 }

@@ -12,7 +12,7 @@ use Rattle.cs_proof.proofs.checker.Checker.new.Goals as goal
 
 pub returns-clause-value : goal.returns-clause-value
 returns-clause-value c =
-    let symbols : c.deref.result.now ≡ c.args.stack.now.symbols.items = search rules in
+    let symbols : c.in_ok-symbols.symbols.declared.now ≡ c.args.stack.now.symbols.items = search rules in
     let steps : c.deref-2.result.now ≡ c.in_ok-steps.steps.items = search rules in
     let e : map written c.deref-2.result.now ≡ all_meant (seen c.args.stack.now) (seen_certificate c.args.certificate) =
     ap (map written) steps ∙ c.in_ok-steps.ensures ∙ ap (λ ds. map (meant (map declared_symbol ds)) (seen_certificate c.args.certificate)) symbols in
@@ -20,7 +20,7 @@ returns-clause-value c =
 
 pub returns-clause-answers : goal.returns-clause-answers
 returns-clause-answers c =
-    let symbols : c.deref.result.now ≡ c.args.stack.now.symbols.items = search rules in
+    let symbols : c.in_ok-symbols.symbols.declared.now ≡ c.args.stack.now.symbols.items = search rules in
     let steps : c.deref-2.result.now ≡ c.in_ok-steps.steps.items = search rules in
     let e : map written c.deref-2.result.now ≡ all_meant (seen c.args.stack.now) (seen_certificate c.args.certificate) =
     ap (map written) steps ∙ c.in_ok-steps.ensures ∙ ap (λ ds. map (meant (map declared_symbol ds)) (seen_certificate c.args.certificate)) symbols in

@@ -1,0 +1,8 @@
+-- The symbols of a list of declarations.
+use Rattle.std.specs.Prelude.{List, map}
+use Rattle.vx_smt_meaning.specs.Commands.{Declared}
+use Rattle.vx_smt_meaning.specs.Views.{declared_symbol}
+use Rattle.cs_reader.specs.declared.symbols.Symbols.{Symbols}
+
+abbrev pub declared_in : Symbols → List Declared
+declared_in s = map declared_symbol s.declared.now
