@@ -5,3 +5,5 @@ mod Children
 mod Members
 mod Questions
 mod Covered
+mod Statuses
+mod Typing

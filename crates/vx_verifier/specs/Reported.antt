@@ -66,8 +66,10 @@ abbrev pub IsReadFrom : List ℕ → Told → Type 0
 IsReadFrom text (told.Program t) = IsProgramOf text (settled t)
 IsReadFrom text (told.Refused line) = IsRefused text
 
+-- a program is the one that the text spells, and typed
 abbrev pub IsCheckedFrom : List ℕ → Checked → Type 0
-IsCheckedFrom text (checked.Program p) = Spells text (written.written_program p) × IsTyped (written.written_program p)
+IsCheckedFrom text (checked.Program p) =
+    Spells text (written.written_program p) × ((q : written.Program) → Spells text q → written.written_program p ≡ q) × IsTyped (written.written_program p)
 IsCheckedFrom text (checked.Refused line) = IsUntyped text
 
 -- the name of the companion stands alone
@@ -160,6 +162,14 @@ abbrev pub IsSaid : (Says : List ℕ → Status → List ℕ → Type 0) → (ho
 IsSaid Says holds old new Done = (text bytes : List ℕ) × IfSome holds (λ known. text ≡ known) × Says text Done bytes × IsPut old new Done bytes
 IsSaid Says holds old new Refused = (text bytes : List ℕ) × IfSome holds (λ known. text ≡ known) × Says text Refused bytes × IsPut old new Refused bytes
 IsSaid Says holds old new s = ⊤
+
+-- the status of a report, or the sink failed
+abbrev pub IsReported : Status → Type 0
+IsReported Done = ⊤
+IsReported NotVerified = ⊤
+IsReported Faulted = ⊤
+IsReported Unwritten = ⊤
+IsReported s = ⊥
 
 -- A program is reported only where the file's text spells one that is typed and executed, and refused only where it spells none.
 abbrev pub IsTaken : (holds : Option (List ℕ)) → Status → Type 0

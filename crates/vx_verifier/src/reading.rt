@@ -77,8 +77,9 @@ pub fn read_program(alloc: Global, text: &[u8]) -> Result<Told, AllocError>
         Checked::Program(program) => program,
         Checked::Refused(line) => return Ok(Told::Refused(line)),
     };
-    if let Some(fault) = beyond_store(alloc, text) {
-        return Ok(Told::Refused(text_refusal(alloc, &fault)?));
+    match beyond_store(alloc, text) {
+        None => {}
+        Some(fault) => return Ok(Told::Refused(text_refusal(alloc, &fault)?)),
     }
     match settle(alloc, &program) {
         Ok(typed) => Ok(Told::Program(typed)),

@@ -9,7 +9,7 @@ ghost use Rattle.vx_words.specs.Orders.{order_of};
 ghost use Rattle.vx_words.specs.declared.order.Order as meant;
 ghost use Rattle.vx_verifier.specs.Headline.{Headline};
 ghost use Rattle.vx_verifier.specs.Reported as spec;
-ghost use Rattle.vx_verifier.specs.Reported.{IsReportOf, IsSaid, IsSaidBy, AsksOnly, AsksFileOf, IsStatusOf, StartsOnly, IsPut, IsUnread, IsUnreadFile};
+ghost use Rattle.vx_verifier.specs.Reported.{IsReportOf, IsReported, IsTaken, IsSaid, IsSaidBy, AsksOnly, AsksFileOf, IsStatusOf, StartsOnly, IsPut, IsUnread, IsUnreadFile};
 
 use crate::answers::{TOO_LONG, UNREAD, USAGE};
 use crate::companion::Builtin;
@@ -46,6 +46,7 @@ fn put<K: Sink>(out: &mut K, bytes: &[u8], status: Status, runs: Vec<MemberRun>)
 }
 
 // Verifies a program, and puts the report.
+#[tactic(auto, using(crate::proofs::Statuses::reported))]
 fn report<K: Sink, W: Spawner>(
     alloc: Global,
     typed: &Typed,
@@ -56,6 +57,7 @@ fn report<K: Sink, W: Spawner>(
     ensures headline { IfOk result (λ ended. Headline (settled typed.now) (W.ended spawner.old) (W.ended spawner.new) (W.faults spawner.old) (W.faults spawner.new) ended.runs.items) }
     ensures taken { IfOk result (λ ended. IsPut (K.taken out.old) (K.taken out.new) ended.status (report_of (settled typed.now) ended.runs.items)) }
     ensures status { IfOk result (λ ended. IsStatusOf (Rose (K.faults out.old) (K.faults out.new)) ⊥ ⊥ ended.runs.items ended.status) }
+    ensures reported { IfOk result (λ ended. IsReported ended.status) }
     ensures starts { let start : Start = record { lane = 0; command = solver.now } in (W.starts spawner.new ≡ W.starts spawner.old) ⊎ (W.starts spawner.new ≡ W.starts spawner.old ++ start ∷ []) }
 {
     let runs = verify(alloc, typed, solver, spawner)?;
@@ -89,6 +91,7 @@ fn say<K: Sink>(alloc: Global, out: &mut K, bytes: &[u8], status: Status) -> End
 }
 
 // Verifies a file, or standard input.
+#[tactic(auto, using(crate::proofs::Statuses::taken))]
 fn verify_file<F: Files, K: Sink, W: Spawner>(
     alloc: Global,
     file: &Option<Text>,
@@ -101,6 +104,7 @@ fn verify_file<F: Files, K: Sink, W: Spawner>(
     ensures headline { IfOk result (λ ended. (ended.runs.items ≡ []) ⊎ IsReportOf (Order.Verify file.now solver.now) (F.holds files.old)
         (λ p. Headline p builtin.old.ended.items builtin.new.ended.items 0 0 ended.runs.items × IsPut (K.taken out.old) (K.taken out.new) ended.status (report_of p ended.runs.items))
         (λ p. Headline p (W.ended spawner.old) (W.ended spawner.new) (W.faults spawner.old) (W.faults spawner.new) ended.runs.items × IsPut (K.taken out.old) (K.taken out.new) ended.status (report_of p ended.runs.items))) }
+    ensures taken { IfOk result (λ ended. IsTaken (F.holds files.old file.now) ended.status) }
     ensures asked { AsksFileOf (Order.Verify file.now solver.now) (F.asked files.old) (F.asked files.new) }
     ensures status { IfOk result (λ ended. IsStatusOf (Rose (K.faults out.old) (K.faults out.new)) ⊥ (IsUnreadFile (Order.Verify file.now solver.now) (Rose (F.faults files.old) (F.faults files.new)) (F.holds files.old)) ended.runs.items ended.status) }
     ensures starts { StartsOnly (Order.Verify file.now solver.now) (W.starts spawner.old) (W.starts spawner.new) }
