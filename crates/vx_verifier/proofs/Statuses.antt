@@ -1,5 +1,5 @@
 -- Which statuses come with a report, and what a status says of the file.
-use Rattle.std.proofs.Common.{◌≡◌, ◌⊎◌, ℕ, Bool, true, false, if◌then◌else◌, List, Option, refl, subst, sym}
+use Rattle.std.proofs.Common.{◌≡◌, ◌⊎◌, ℕ, Bool, true, false, if◌then◌else◌, List, Option, Some, inl, inr, refl, subst, sym}
 use Rattle.std.specs.Prelude.{IfSome, not}
 use Rattle.std.specs.List.{list_any}
 use Rattle.vx_ast.specs.Written as written
@@ -8,7 +8,8 @@ use Rattle.vx_report.specs.declared.status.Status.{Status}
 use Rattle.vx_report.specs.declared.status.Status.TheVariants.{Done, NotVerified, Usage, Unread, Refused, Faulted, Unwritten, Want}
 use Rattle.vx_report.specs.Statuses.{status_among}
 use Rattle.vx_report.specs.Reports.{is_verified, is_faulted}
-use Rattle.vx_verifier.specs.Reported.{IsReported, IsExecuted, IsTaken, IsStatusOf}
+use Rattle.vx_words.specs.declared.order.Order.{Order}
+use Rattle.vx_verifier.specs.Reported.{IsReported, IsExecuted, IsTaken, IsStatusOf, IsUnreadFile}
 
 chosen : (a b : Bool) → IsReported (if a then Faulted else (if b then NotVerified else Done))
 chosen true b = tt
@@ -31,12 +32,13 @@ taken holds text p Refused r known is = absurd r
 taken holds text p Want r known is = absurd r
 
 -- what a command says of its file, the words say
-pub of_words : (sink usage unread read : Type 0) (runs : List MemberRun) (s : Status) → (unread → read) → IsStatusOf sink ⊥ unread runs s → IsStatusOf sink usage read runs s
-of_words sink usage unread read runs Done f h = h
-of_words sink usage unread read runs NotVerified f h = h
-of_words sink usage unread read runs Faulted f h = h
-of_words sink usage unread read runs Unwritten f h = h
-of_words sink usage unread read runs Usage f h = absurd h.0
-of_words sink usage unread read runs Unread f h = (f h.0, h.1)
-of_words sink usage unread read runs Refused f h = h
-of_words sink usage unread read runs Want f h = h
+pub of_words : (sink usage : Type 0) (meaning : Option Order) (order : Order) (failed : Type 0) (holds : Option (List ℕ) → Option (List ℕ)) (runs : List MemberRun) (s : Status) → meaning ≡ Some order
+    → IsStatusOf sink ⊥ (IsUnreadFile order failed holds) runs s → IsStatusOf sink usage ((o : Order) × (meaning ≡ Some o) × IsUnreadFile o failed holds) runs s
+of_words sink usage meaning order failed holds runs Done e h = h
+of_words sink usage meaning order failed holds runs NotVerified e h = h
+of_words sink usage meaning order failed holds runs Faulted e h = h
+of_words sink usage meaning order failed holds runs Unwritten e h = h
+of_words sink usage meaning order failed holds runs Usage e h = absurd h.0
+of_words sink usage meaning order failed holds runs Unread e h = ((order, e, h.0), h.1)
+of_words sink usage meaning order failed holds runs Refused e h = h
+of_words sink usage meaning order failed holds runs Want e h = h

@@ -109,20 +109,19 @@ fn verify_file<F: Files, K: Sink, W: Spawner>(
     ensures status { IfOk result (λ ended. IsStatusOf (Rose (K.faults out.old) (K.faults out.new)) ⊥ (IsUnreadFile (Order.Verify file.now solver.now) (Rose (F.faults files.old) (F.faults files.new)) (F.holds files.old)) ended.runs.items ended.status) }
     ensures starts { StartsOnly (Order.Verify file.now solver.now) (W.starts spawner.old) (W.starts spawner.new) }
 {
-    let text = match load(alloc, files, name_of(file))? {
-        Loaded::Text(text) => text,
-        Loaded::Unread => return Ok(say(alloc, out, UNREAD.as_bytes(), Status::Unread)),
-        Loaded::TooLong => return Ok(say(alloc, out, TOO_LONG.as_bytes(), Status::Unread)),
-    };
-    match read_program(alloc, &text)? {
-        Told::Program(typed) => {
-            if is_companion(solver) {
-                report(alloc, &typed, out, solver, builtin)
-            } else {
-                report(alloc, &typed, out, solver, spawner)
+    match load(alloc, files, name_of(file))? {
+        Loaded::Text(text) => match read_program(alloc, &text)? {
+            Told::Program(typed) => {
+                if is_companion(solver) {
+                    report(alloc, &typed, out, solver, builtin)
+                } else {
+                    report(alloc, &typed, out, solver, spawner)
+                }
             }
-        }
-        Told::Refused(line) => Ok(say(alloc, out, line.as_bytes(), Status::Refused)),
+            Told::Refused(line) => Ok(say(alloc, out, line.as_bytes(), Status::Refused)),
+        },
+        Loaded::Unread => Ok(say(alloc, out, UNREAD.as_bytes(), Status::Unread)),
+        Loaded::TooLong => Ok(say(alloc, out, TOO_LONG.as_bytes(), Status::Unread)),
     }
 }
 
