@@ -19,9 +19,9 @@ mod uses;
 pub use assertions::assertion;
 pub use fault::{Expected, TypeFault};
 pub use laws::{
-    assertions_are_told, example_assertions, example_expressions, example_programs, groups_are_told,
-    members_are_told, programs_are_told, pure_assertions_are_expressions, statements_are_told,
-    types_are_single, types_are_told,
+    assertions_are_told, example_assertions, example_expressions, example_programs,
+    groups_are_told, members_are_told, programs_are_told, pure_assertions_are_expressions,
+    statements_are_told, types_are_single, types_are_told,
 };
 pub use program::check;
 pub use setting::{Members, Setting, Signature, Variable, Variables};
