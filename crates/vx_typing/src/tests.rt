@@ -118,11 +118,11 @@ fn an_assertion_is_typed_and_a_sum_isn_t(rt: HostRuntime) {
     );
 }
 
-// `field v: Int`, from this column on.
-fn field(alloc: Global, column: u32) -> Result<Member, AllocError> {
+// `field v: Int`, with its column and that of its name.
+fn field(alloc: Global, column: u32, behind: u32) -> Result<Member, AllocError> {
     let name = Name {
         text: String::from_str(alloc, "v")?,
-        place: at(column + 6),
+        place: at(behind),
     };
     Ok(Member {
         place: at(column),
@@ -131,20 +131,18 @@ fn field(alloc: Global, column: u32) -> Result<Member, AllocError> {
     })
 }
 
-fn told(alloc: Global, columns: &[u32]) -> Result<(), TypeFault> {
+fn told(alloc: Global, columns: &[(u32, u32)]) -> Result<(), TypeFault> {
     let mut members = Vec::new(alloc);
-    for column in columns {
-        if *column < 1000 {
-            members.push(field(alloc, *column)?)?;
-        }
+    for (column, behind) in columns {
+        members.push(field(alloc, *column, *behind)?)?;
     }
     crate::check(alloc, &Program { members })
 }
 
 #[test]
 fn no_two_members_have_one_name(rt: HostRuntime) {
-    assert!(rt; told(rt.alloc(), &[1]).is_ok());
-    let twice = told(rt.alloc(), &[1, 14]);
+    assert!(rt; told(rt.alloc(), &[(1, 7)]).is_ok());
+    let twice = told(rt.alloc(), &[(1, 7), (14, 20)]);
     assert!(rt;
         matches!(
             &twice,
