@@ -11,7 +11,8 @@ use Rattle.vx_ast.specs.Written as expr
 use Rattle.vx_typing.specs.Places.{place_of}
 use Rattle.vx_typing.specs.Settings.{Setting, Signature, IsPredicate}
 use Rattle.vx_typing.specs.Faults.{Checked, ◌>>=◌, Claim, Value, expect, both, choice_type, application, check, check_all, held, joined, conjunction, choice, called, claim}
-use Rattle.vx_typing.specs.Laws.{PureAreWalkedAlike, is_predicate, has_permission}
+use Rattle.vx_typing.specs.Laws.{PureAreWalkedAlike, has_permission}
+use Rattle.vx_typing.specs.Measures.{is_predicate}
 
 or_parts : (a b : Bool) → (a || b) ≡ false → (a ≡ false) × (b ≡ false)
 or_parts true b e = absurd (true≢false e)

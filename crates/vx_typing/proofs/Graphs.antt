@@ -1,5 +1,5 @@
 -- The graph of members: its rows tell what members mention, so its groups are theirs.
-use Rattle.std.proofs.Common.{◌≡◌, ◌∙◌, refl, sym, ap, subst, ℕ, zero, suc, ◌+◌, ◌<◌, Bool, true, ◌&&◌, ◌↔◌, not, nat_eq, List, [], ◌∷◌, ◌++◌, length, map, drop, get_or, ◌≤◌, Option, Some, None, All, Vec, arith, append_assoc, eq-eqb, Ok, Err}
+use Rattle.std.proofs.Common.{false, ◌≡◌, ◌∙◌, refl, sym, ap, subst, ℕ, zero, suc, ◌+◌, ◌<◌, Bool, true, ◌&&◌, ◌↔◌, not, nat_eq, List, [], ◌∷◌, ◌++◌, length, map, drop, get_or, ◌≤◌, Option, Some, None, IsTrue, All, Vec, arith, append_assoc, eq-eqb, Ok, Err}
 use Rattle.std.proofs.lemmas.Bool.{false≢true, eqb-true}
 use Rattle.std.proofs.lemmas.List.Elements.{All-cons}
 use Rattle.std.specs.declared.alloc.Global.{Global}
@@ -19,7 +19,7 @@ use Rattle.vx_typing.specs.Faults.{Checked, ◌>>=◌, MixedMeasures, unless}
 use Rattle.vx_typing.specs.GroupFaults.{some_below, measures_by, some_measures_by, own_measure, group_measured}
 use Rattle.vx_typing.proofs.Loops.{left}
 use Rattle.vx_typing.proofs.Passed.{and_parts, and_true}
-use Rattle.vx_typing.proofs.Reachable.{as_true, one_of, or_left, or_right, are_below, grouped, in_its_group}
+use Rattle.vx_typing.proofs.Reachable.{on, as_true, one_of, or_left, or_right, are_below, grouped, in_its_group}
 use Rattle.vx_typing.proofs.AgreesGroups.{not_some, some_is, some_of as some_passes}
 
 -- one row more
@@ -73,6 +73,11 @@ module _ (rows : Rows) (p : Program) (same : (a b : ℕ) → leads rows a b ≡ 
   pub same_group : (ms : List MemberId) (a : ℕ) → ((n : ℕ) → (is_in ms n ≡ true) ↔ (graph.Reaches rows a n × graph.Reaches rows n a)) → (b : ℕ) → is_in ms b ≡ in_group p a b
   same_group ms a h b =
       as_true (is_in ms b) (in_group p a b) (λ e. let r = (h b).0 e in grouped p (to_members r.0, to_members r.1)) (λ e. let r = in_its_group p a b e in (h b).1 (to_rows r.0, to_rows r.1))
+
+  -- the group of what doesn't reach itself is empty
+  pub no_group : (a : ℕ) (again : Bool) → again ≡ false → (IsTrue again ↔ graph.Reaches rows a a) → (b : ℕ) → false ≡ in_group p a b
+  no_group a again e h b =
+      as_true false (in_group p a b) (λ e. absurd (false≢true e)) (λ g. let r = in_its_group p a b g in sym e ∙ h.1 (to_rows (on p r.0 r.1)))
 
 -- ---- numbers that pass
 some_in_list : (t : ℕ → Bool) (ms : List MemberId) (k : ℕ) → is_in ms k ≡ true → t k ≡ true → some_of t ms ≡ true

@@ -1,15 +1,16 @@
 -- Two ways to say what is typed agree: the relation by structure, and the first fault on a walk.
-use Rattle.std.specs.Prelude.{◌≡◌, ◌↔◌, ℕ, Bool, true, false, ◌||◌, Option, Some, Ok, Err, List}
+use Rattle.std.specs.Prelude.{◌≡◌, ◌↔◌, ℕ, Bool, true, false, ◌||◌, Ok, Err, List}
 use Rattle.vx_ast.specs.declared.ValueType.{ValueType}
 use Rattle.vx_ast.specs.declared.BinaryOperator.TheVariants as binary
 use Rattle.vx_ast.specs.Written as expr
 use Rattle.vx_ast.specs.Written.{Program, Member, Stmt, Block, Expr, Exprs, Amount}
-use Rattle.vx_typing.specs.Settings.{Table, Setting, Signature, IsPredicate}
+use Rattle.vx_typing.specs.Settings.{Table, Setting}
 use Rattle.vx_typing.specs.Scopes.{Scope}
 use Rattle.vx_typing.specs.Statements.{IsTypedStmt, IsTypedBlock}
 use Rattle.vx_typing.specs.StatementFaults.{stmt, block}
 use Rattle.vx_typing.specs.Members.{AreTypedMembers}
 use Rattle.vx_typing.specs.MemberFaults.{members}
+use Rattle.vx_typing.specs.Measures.{is_predicate}
 use Rattle.vx_typing.specs.Groups.{InGroup, in_group}
 use Rattle.vx_typing.specs.Programs.{IsTyped, program}
 use Rattle.vx_typing.specs.Typing.{HasType, HaveTypes, IsShare, IsPermission, IsAssertion}
@@ -44,10 +45,6 @@ UntypedAreFaulty = (s : Setting) (e : Expr) → HasFault (check s e) ↔ ((t : V
 
 abbrev pub OthersAreFaulty : Type 0
 OthersAreFaulty = (s : Setting) (e : Expr) → HasFault (assertion s e) ↔ (IsAssertion s e → ⊥)
-
-abbrev pub is_predicate : Option Signature → Bool
-is_predicate (Some (IsPredicate ts has_body)) = true
-is_predicate _ = false
 
 -- whether a permission stands where an assertion's parts may stand
 abbrev pub has_permission : Setting → Expr → Bool

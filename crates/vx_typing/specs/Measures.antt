@@ -23,7 +23,8 @@ pub record AreMeasured (p : Program) : Type 0 where
   pub alike : (a b : ℕ) (f g : Function) (d e : Expr) → kind_at p a ≡ Some (IsFunction f) → kind_at p b ≡ Some (IsFunction g) → InGroup p a b →
       measure_of f.clauses ≡ Some d → measure_of g.clauses ≡ Some e → is_instance (table_of p) d ≡ is_instance (table_of p) e
 
--- no function's precondition applies its own group, and no predicate's body unfolds its own
+-- No function's precondition names its own group, and no predicate's body unfolds its own. Where members are typed, the
+-- group of a function has functions alone, since no predicate's body applies one.
 pub record KeepApart (p : Program) : Type 0 where
   pub preconditions : (a : ℕ) (f : Function) → kind_at p a ≡ Some (IsFunction f) → Each (λ u. IsOwn p a u.name → ⊥) (uses_before f.clauses [])
   pub bodies : (a : ℕ) (d : Predicate) → kind_at p a ≡ Some (IsPredicate d) → Each (λ u. u.unfolds ≡ true → IsOwn p a u.name → ⊥) (uses_of_body d.body [])

@@ -24,7 +24,7 @@ use crate::uses::{Named, uses_before, uses_by, uses_of_body};
 use crate::{Members, Signature, TypeFault};
 use std::alloc::{AllocError, Global};
 use vx_ast::{Clause, Expr, ExprKind, Function, Member, MemberId, MemberKind, Place};
-use vx_graph::{Edges, group};
+use vx_graph::{Edges, group, reaches};
 
 // A member's number in file order.
 fn number(members: &Members, name: &str) -> Option<MemberId>
@@ -97,11 +97,15 @@ fn edges_of(alloc: Global, members: &Members, all: &[Member]) -> Result<Edges, A
     Ok(edges)
 }
 
-// The group of a member.
+// The group of a member. One search tells that a member doesn't reach itself, as most don't.
 fn group_of(alloc: Global, edges: &Edges, member: MemberId) -> Result<Vec<MemberId>, AllocError>
     requires { member.0 < length (rows edges.now) }
     ensures { IfOk result (λ ms. (p : Program) → ((a b : ℕ) → leads (rows edges.now) a b ≡ mentions p a b) → (b : ℕ) → is_in ms.items b ≡ in_group p member.0 b) }
 {
+    let again = reaches(alloc, edges, member, member)?;
+    if !again {
+        return Ok(Vec::new(alloc));
+    }
     let group = group(alloc, edges, member)?;
     Ok(group)
 }

@@ -3,7 +3,7 @@ use crate::{Expected, Members, Setting, Signature, TypeFault, Variable, Variable
 use indexmap::IndexMap;
 use std::alloc::{AllocError, Global};
 use std::rc::Rc;
-use vx_ast::{BinaryOperator, Expr, ExprKind, Name, Place, ValueType};
+use vx_ast::{BinaryOperator, Expr, ExprKind, Member, MemberKind, Name, Place, Program, ValueType};
 
 fn at(column: u32) -> Place {
     Place { line: 1, column }
@@ -114,6 +114,39 @@ fn an_assertion_is_typed_and_a_sum_isn_t(rt: HostRuntime) {
                 Expected::Type(ValueType::Int),
                 ValueType::Bool,
             ))
+        )
+    );
+}
+
+// `field v: Int`, with its column and that of its name.
+fn field(alloc: Global, column: u32, behind: u32) -> Result<Member, AllocError> {
+    let name = Name {
+        text: String::from_str(alloc, "v")?,
+        place: at(behind),
+    };
+    Ok(Member {
+        place: at(column),
+        name,
+        kind: MemberKind::Field(ValueType::Int),
+    })
+}
+
+fn told(alloc: Global, columns: &[(u32, u32)]) -> Result<(), TypeFault> {
+    let mut members = Vec::new(alloc);
+    for (column, behind) in columns {
+        members.push(field(alloc, *column, *behind)?)?;
+    }
+    crate::check(alloc, &Program { members })
+}
+
+#[test]
+fn no_two_members_have_one_name(rt: HostRuntime) {
+    assert!(rt; told(rt.alloc(), &[(1, 7)]).is_ok());
+    let twice = told(rt.alloc(), &[(1, 7), (14, 20)]);
+    assert!(rt;
+        matches!(
+            &twice,
+            Err(TypeFault::Twice(Place { line: 1, column: 20 }, name)) if name.as_str() == "v"
         )
     );
 }
