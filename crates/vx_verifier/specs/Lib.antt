@@ -1,5 +1,6 @@
 pub mod Companion
 pub mod Sequences
+pub mod Causes
 pub mod Headline
 pub mod Covered
 pub mod Lanes
