@@ -7,7 +7,9 @@ ghost use Rattle.vx_smt_meaning.specs.Commands.{Level, stack_of};
 ghost use Rattle.vx_smt_meaning.specs.Commands as Spec;
 ghost use Rattle.vx_smt_meaning.specs.Dialogues.{Check, is_plain, ArePlain};
 ghost use Rattle.vx_smt_meaning.specs.Views.{command, declared_symbol};
+ghost use Rattle.vx_smt_meaning.specs.Names.{AreCommands};
 ghost use Rattle.vx_dialogue.specs.History.{Breaks};
+ghost use Rattle.vx_dialogue.specs.Steady.{IsSteady};
 ghost use Rattle.vx_dialogue.specs.Dialogue.{preamble, question, closing, shared, link_of, has_failed, is_in_member, IsFree, IsAsked, Gathers, Waits, Stands, Asks, check_of, told_check, gives};
 
 use crate::Talk;
@@ -51,6 +53,7 @@ impl<L: Link> Dialogue<L> {
         ensures fault { IfErr result (λ talk. (commands : List Spec.Command) (checks : List Check) → Gathers L.dialogue self.old commands checks → Breaks talk (L.dialogue self.new.link) checks) }
         ensures grows { Grows (L.dialogue self.old.link) (L.dialogue self.new.link) }
         ensures cause { HasCause Talk.Pipe (L.faults self.old.link) (L.faults self.new.link) result }
+        ensures steady { IsSteady L.steady L.faults self.old.link → (commands : List Spec.Command) (checks : List Check) → Gathers L.dialogue self.old commands checks → AreCommands commands → IsSteady L.steady L.faults self.new.link }
         ensures open { result ≡ Err Talk.Closed → ⊥ }
     {
         send_all(alloc, &mut self.link, &self.batch)?;
@@ -67,6 +70,7 @@ impl<L: Link> Dialogue<L> {
         ensures fault { IfErr result (λ talk. (commands : List Spec.Command) (checks : List Check) → Gathers L.dialogue self.old commands checks → Breaks talk (L.dialogue self.new.link) checks) }
         ensures grows { Grows (L.dialogue self.old.link) (L.dialogue self.new.link) }
         ensures cause { HasCause Talk.Pipe (L.faults self.old.link) (L.faults self.new.link) result }
+        ensures steady { IsSteady L.steady L.faults self.old.link → (commands : List Spec.Command) (checks : List Check) → Gathers L.dialogue self.old commands checks → AreCommands commands → IsSteady L.steady L.faults self.new.link }
         ensures open { result ≡ Err Talk.Closed → ⊥ }
     {
         if self.count >= MOST {
@@ -84,6 +88,7 @@ impl<L: Link> Dialogue<L> {
         ensures fault { IfErr result (λ talk. (commands : List Spec.Command) (checks : List Check) → Gathers L.dialogue self.old commands checks → Breaks talk (L.dialogue self.new.link) checks) }
         ensures grows { Grows (L.dialogue self.old.link) (L.dialogue self.new.link) }
         ensures cause { HasCause Talk.Pipe (L.faults self.old.link) (L.faults self.new.link) result }
+        ensures steady { IsSteady L.steady L.faults self.old.link → (commands : List Spec.Command) (checks : List Check) → Gathers L.dialogue self.old commands checks → AreCommands commands → IsSteady L.steady L.faults self.new.link }
         ensures open { result ≡ Err Talk.Closed → ⊥ }
     {
         self.make_room(alloc)?;
@@ -99,6 +104,7 @@ impl<L: Link> Dialogue<L> {
         ensures fault { IfErr result (λ talk. ArePlain (map command all.now) → (commands : List Spec.Command) (checks : List Check) → Gathers L.dialogue self.old commands checks → Breaks talk (L.dialogue self.new.link) checks) }
         ensures grows { Grows (L.dialogue self.old.link) (L.dialogue self.new.link) }
         ensures cause { HasCause Talk.Pipe (L.faults self.old.link) (L.faults self.new.link) result }
+        ensures steady { ArePlain (map command all.now) → IsSteady L.steady L.faults self.old.link → (commands : List Spec.Command) (checks : List Check) → Gathers L.dialogue self.old commands checks → AreCommands (commands ++ map command all.now) → IsSteady L.steady L.faults self.new.link }
         ensures open { result ≡ Err Talk.Closed → ⊥ }
     {
         for c in all {
@@ -115,6 +121,7 @@ impl<L: Link> Dialogue<L> {
         ensures fault { IfErr result (λ talk. (commands : List Spec.Command) (checks : List Check) → Gathers L.dialogue self.old commands checks → Breaks talk (L.dialogue self.new.link) checks) }
         ensures grows { Grows (L.dialogue self.old.link) (L.dialogue self.new.link) }
         ensures cause { HasCause Talk.Pipe (L.faults self.old.link) (L.faults self.new.link) result }
+        ensures steady { IsSteady L.steady L.faults self.old.link → (commands : List Spec.Command) (checks : List Check) → Gathers L.dialogue self.old commands checks → AreCommands (commands ++ preamble certify (map declared_symbol functions.now)) → IsSteady L.steady L.faults self.new.link }
         ensures open { result ≡ Err Talk.Closed → ⊥ }
     {
         let mut commands = front_commands(alloc, certify)?;
@@ -135,6 +142,7 @@ impl<L: Link> Dialogue<L> {
         ensures free { IfOk result (λ d. IsFree d × (has_failed d ≡ false) × (is_in_member d ≡ false)) }
         ensures fault { IfErr result (λ e. Breaks e.1 (L.dialogue e.0) []) }
         ensures cause { MatchResult result (λ d. L.faults link ≤ L.faults (link_of d)) (λ e. HasCause Talk.Pipe (L.faults link) (L.faults e.0) (gives e.1)) }
+        ensures steady { IsSteady L.steady L.faults link → AreCommands (preamble certify (map declared_symbol functions.now)) → MatchResult result (λ d. IsSteady L.steady L.faults (link_of d)) (λ e. IsSteady L.steady L.faults e.0) }
         ensures open { MatchResult result (λ _. Unit {0}) (λ e. e.1 ≡ Talk.Closed → ⊥) }
     {
         let mut dialogue = Dialogue {
@@ -162,6 +170,7 @@ impl<L: Link> Dialogue<L> {
         ensures fault { IfErr result (λ talk. (commands : List Spec.Command) (checks : List Check) → Gathers L.dialogue self.old commands checks → Breaks talk (L.dialogue self.new.link) checks) }
         ensures grows { Grows (L.dialogue self.old.link) (L.dialogue self.new.link) }
         ensures cause { HasCause Talk.Pipe (L.faults self.old.link) (L.faults self.new.link) result }
+        ensures steady { IsSteady L.steady L.faults self.old.link → (commands : List Spec.Command) (checks : List Check) → Gathers L.dialogue self.old commands checks → AreCommands commands → IsSteady L.steady L.faults self.new.link }
         ensures open { result ≡ Err Talk.Closed → ⊥ }
     {
         self.make_room(alloc)?;
@@ -188,6 +197,7 @@ impl<L: Link> Dialogue<L> {
         ensures fault { IfErr result (λ talk. (commands : List Spec.Command) (checks : List Check) → Gathers L.dialogue self.old commands checks → Breaks talk (L.dialogue self.new.link) checks) }
         ensures grows { Grows (L.dialogue self.old.link) (L.dialogue self.new.link) }
         ensures cause { HasCause Talk.Pipe (L.faults self.old.link) (L.faults self.new.link) result }
+        ensures steady { IsSteady L.steady L.faults self.old.link → (commands : List Spec.Command) (checks : List Check) → Gathers L.dialogue self.old commands checks → AreCommands (commands ++ question self.old.in_member (map shared path.now) (shared condition.now)) → IsSteady L.steady L.faults self.new.link }
         ensures open { result ≡ Err Talk.Closed → ⊥ }
     {
         let commands = question_commands(alloc, self.in_member, path, condition)?;
@@ -211,6 +221,8 @@ impl<L: Link> Dialogue<L> {
             → Breaks talk (L.dialogue (link_of self.new)) checks) }
         ensures grows { Grows (L.dialogue (link_of self.old)) (L.dialogue (link_of self.new)) }
         ensures cause { HasCause Talk.Pipe (L.faults (link_of self.old)) (L.faults (link_of self.new)) result }
+        ensures steady { IsSteady L.steady L.faults (link_of self.old) → (base : List Level) (commands : List Spec.Command) (checks : List Check) → Stands L.dialogue base self.old commands checks
+            → AreCommands (commands ++ question (is_in_member self.old) (map shared path.now) (shared condition.now)) → IsSteady L.steady L.faults (link_of self.new) }
         ensures closed { (result ≡ Err Talk.Closed) ↔ (has_failed self.old ≡ true) }
         ensures failed { has_failed self.new ≡ is_err result }
     {
@@ -235,6 +247,7 @@ impl<L: Link> Dialogue<L> {
         ensures fault { IfErr result (λ talk. self.old.owed ≡ Some owed → (commands : List Spec.Command) (checks : List Check) → Waits L.dialogue self.old commands checks → Breaks talk (L.dialogue self.new.link) checks) }
         ensures grows { Grows (L.dialogue self.old.link) (L.dialogue self.new.link) }
         ensures cause { HasCause Talk.Pipe (L.faults self.old.link) (L.faults self.new.link) result }
+        ensures steady { IsSteady L.steady L.faults self.old.link → self.old.owed ≡ Some owed → (commands : List Spec.Command) (checks : List Check) → Waits L.dialogue self.old commands checks → AreCommands commands → IsSteady L.steady L.faults self.new.link }
         ensures open { result ≡ Err Talk.Closed → ⊥ }
     {
         expect_successes(alloc, &mut self.link, &mut self.unread, owed)?;
@@ -259,6 +272,8 @@ impl<L: Link> Dialogue<L> {
             → Asks L.dialogue base path condition self.old commands checks → Breaks talk (L.dialogue (link_of self.new)) checks) }
         ensures grows { Grows (L.dialogue (link_of self.old)) (L.dialogue (link_of self.new)) }
         ensures cause { HasCause Talk.Pipe (L.faults (link_of self.old)) (L.faults (link_of self.new)) result }
+        ensures steady { IsSteady L.steady L.faults (link_of self.old) → (base : List Level) (path : List Written.Term) (condition : Written.Term) (commands : List Spec.Command) (checks : List Check)
+            → Asks L.dialogue base path condition self.old commands checks → AreCommands commands → IsSteady L.steady L.faults (link_of self.new) }
         ensures closed { (result ≡ Err Talk.Closed) ↔ (has_failed self.old ≡ true) }
         ensures failed { has_failed self.new ≡ is_err result }
     {
@@ -292,6 +307,8 @@ impl<L: Link> Dialogue<L> {
             → Breaks talk (L.dialogue (link_of self.new)) checks) }
         ensures grows { Grows (L.dialogue (link_of self.old)) (L.dialogue (link_of self.new)) }
         ensures cause { HasCause Talk.Pipe (L.faults (link_of self.old)) (L.faults (link_of self.new)) result }
+        ensures steady { IsSteady L.steady L.faults (link_of self.old) → (base : List Level) (commands : List Spec.Command) (checks : List Check) → Stands L.dialogue base self.old commands checks
+            → AreCommands (commands ++ question (is_in_member self.old) (map shared path.now) (shared condition.now)) → IsSteady L.steady L.faults (link_of self.new) }
         ensures closed { (result ≡ Err Talk.Closed) ↔ (has_failed self.old ≡ true) }
         ensures failed { has_failed self.new ≡ is_err result }
     {

@@ -6,3 +6,5 @@ mod Children
 mod Complete
 mod Members
 mod Questions
+mod Steady
+mod Replies

@@ -25,7 +25,9 @@ use Rattle.vx_verifier.specs.declared.lane.Child.{Child}
 use Rattle.vx_verifier.specs.declared.lane.Trouble.{Trouble}
 use Rattle.vx_verifier.specs.declared.lane.Trouble.TheVariants as trouble
 use Rattle.vx_verifier.specs.Lanes.{AreAsked, IsDue, is_started, verdict_of, Hears, HearsOf, IsRunning, IsFaultOf, IsCausedBy, Judges}
+use Rattle.vx_verifier.specs.Steady.{IsSpelled, AllSpelled}
 use Rattle.vx_verifier.proofs.Walks.{walk_extends}
+use Rattle.vx_verifier.proofs.Steady.{open_spelled}
 use Rattle.vx_verifier.proofs.Sequences.{checks_more, replies_more, never_fails}
 
 map_length : {A B : Type 0} (f : A → B) (xs : List A) → length (map f xs) ≡ length xs
@@ -153,6 +155,12 @@ started_done p n m ask o child first running is (inr some) = some.0 ∙ sym (ap 
 
 pub started_fault : (first : Bool) {now asks : Bool} → now ≡ true → asks ≡ true → now ≡ (first || asks)
 started_fault first {now = now} {asks = asks} here asked = here ∙ sym (ap (λ x. first || x) asked ∙ or_true first)
+
+-- the question that is due is one of the member's tree
+pub due_spelled : (p : Program) (n : ℕ) (m : Machine) (ask : Ask) (q : Query) → IsRunning p n m ask → ask ≡ Due q → AllSpelled (member_tree p n) → IsSpelled (query q)
+due_spelled p n m ask q running is spelled =
+    let due = subst (λ a. Told a (walk (member_tree p n) (given m)) 100000 (length m.replies.items)) is running.told in
+    open_spelled (member_tree p n) (given m) (query q) spelled due.0
 
 -- A member's execution, between two questions.
 module _ {L : Type 0} (dialogue : L → List Piece) (p : Program) (n : ℕ) (before : List Ended) where

@@ -5,3 +5,4 @@ pub mod Headline
 pub mod Covered
 pub mod Lanes
 pub mod Reported
+pub mod Steady

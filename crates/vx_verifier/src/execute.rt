@@ -1,13 +1,14 @@
 //! The members of a program, each executed by the machine and its questions asked of the lane's child.
 
-ghost use Rattle.std.specs.Prelude.{◌≡◌, ◌+◌, ◌*◌, ◌<◌, ◌≤◌, ◌^◌, ◌||◌, ◌++◌, ◌∷◌, ◌⊎◌, [], List, IfOk, length, true};
+ghost use Rattle.std.specs.Prelude.{◌≡◌, ℕ, ◌+◌, ◌-◌, ◌*◌, ◌<◌, ◌≤◌, ◌^◌, ◌||◌, IsTrue, ◌++◌, ◌∷◌, ◌⊎◌, [], List, IfOk, length, true};
 ghost use Rattle.vx_ends.specs.declared.piece.Start.{Start};
 ghost use Rattle.vx_ends.specs.declared.piece.Ending.{Ending};
 ghost use Rattle.vx_smt_meaning.specs.Dialogues.{Check};
 ghost use Rattle.vx_types.specs.Settled.{settled};
 ghost use Rattle.vx_report.specs.Reports.{AreNamed, is_faulted};
-ghost use Rattle.vx_machine.specs.Runs.{Follows, awaits};
-ghost use Rattle.vx_verifier.specs.Causes.{HasCauseOf};
+ghost use Rattle.vx_machine.specs.Runs.{Follows, awaits, member_tree};
+ghost use Rattle.vx_verifier.specs.Causes.{HasCauseOf, NoCountRose};
+ghost use Rattle.vx_verifier.specs.Steady.{AllSpelled, AsksSpelled, IsCalmLane};
 ghost use Rattle.vx_verifier.specs.Headline.{Headline, has_question, some_ask};
 ghost use Rattle.vx_verifier.specs.Lanes as spec;
 ghost use Rattle.vx_verifier.specs.Lanes.{IsHeld, IsRunning, links, is_lost, is_started, Hears, Starts, StartsWhere, Later, Judges, Executes, IsFaultOf};
@@ -118,6 +119,8 @@ fn judge<W: Spawner>(
     ensures starts { (before : List Start) → let start : Start = record { lane = LANE; command = command.now } in Starts before (W.starts spawner.old) start child → Starts before (W.starts spawner.new) start result.0 }
     ensures faults { W.faults spawner.old ≤ W.faults spawner.new }
     ensures later { Later (W.ended spawner.old) (W.ended spawner.new) }
+    ensures calm { AllSpelled (member_tree (settled typed.now) member.0) → (before : List Ending) (count : ℕ) → IsCalmLane W.Link.dialogue W.Link.steady W.Link.faults before (W.ended spawner.old) (W.steady spawner.old) count (W.faults spawner.old) child
+        → IsCalmLane W.Link.dialogue W.Link.steady W.Link.faults before (W.ended spawner.new) (W.steady spawner.new) count (W.faults spawner.new) result.0 }
 {
     let mut child = child;
     let mut running = match begin(alloc, typed, member) {
@@ -175,6 +178,8 @@ fn execute<W: Spawner>(
     ensures starts { (before : List Start) → let start : Start = record { lane = LANE; command = command.now } in Starts before (W.starts spawner.old) start lane.child → Starts before (W.starts spawner.new) start result.0.child }
     ensures faults { W.faults spawner.old ≤ W.faults spawner.new }
     ensures later { Later (W.ended spawner.old) (W.ended spawner.new) }
+    ensures calm { AllSpelled (member_tree (settled typed.now) member.0) → (before : List Ending) (count : ℕ) → IsCalmLane W.Link.dialogue W.Link.steady W.Link.faults before (W.ended spawner.old) (W.steady spawner.old) count (W.faults spawner.old) lane.child
+        → IsCalmLane W.Link.dialogue W.Link.steady W.Link.faults before (W.ended spawner.new) (W.steady spawner.new) count (W.faults spawner.new) result.0.child }
 {
     let Lane {
         child,
@@ -231,6 +236,8 @@ fn execute_all<W: Spawner>(
     ensures starts { let start : Start = record { lane = LANE; command = command.now } in Starts (W.starts spawner.old) (W.starts spawner.new) start result.0.child }
     ensures faults { W.faults spawner.old ≤ W.faults spawner.new }
     ensures later { Later (W.ended spawner.old) (W.ended spawner.new) }
+    ensures calm { AsksSpelled (settled typed.now) → IsTrue (W.steady spawner.old)
+        → IsCalmLane W.Link.dialogue W.Link.steady W.Link.faults (W.ended spawner.old) (W.ended spawner.new) (W.steady spawner.new) (W.faults spawner.old) (W.faults spawner.new) result.0.child }
 {
     let mut lane = Lane {
         child: Child::NotStarted,
@@ -272,6 +279,8 @@ pub fn verify<W: Spawner>(
     ensures handed_back { W.owed spawner.new LANE ≡ W.owed spawner.old LANE }
     ensures faults { W.faults spawner.old ≤ W.faults spawner.new }
     ensures later { Later (W.ended spawner.old) (W.ended spawner.new) }
+    ensures steady { IsTrue (W.steady spawner.old) → AsksSpelled (settled typed.now) → W.faults spawner.old < 2 ^ 64 - 1
+        → NoCountRose (W.ended spawner.old) (W.ended spawner.new) (W.faults spawner.old) (W.faults spawner.new) }
 {
     let (lane, runs) = execute_all(alloc, typed, command, spawner);
     let Lane { child, checks: _ } = lane;

@@ -1,11 +1,12 @@
 //! A lane: its child, which is started at the lane's first question.
 
-ghost use Rattle.std.specs.Prelude.{◌≡◌, ◌<◌, ◌≤◌, ◌+◌, List, IfOk, OnOk, IfErr, MatchResult, if◌then◌else◌, is_ok, is_err, true, false};
+ghost use Rattle.std.specs.Prelude.{◌≡◌, ◌<◌, ◌≤◌, ◌+◌, ℕ, List, IfOk, OnOk, IfErr, MatchResult, if◌then◌else◌, is_ok, is_err, true, false};
 ghost use Rattle.vx_ends.specs.declared.piece.Start.{Start};
 ghost use Rattle.vx_ends.specs.declared.piece.Ending.{Ending};
 ghost use Rattle.vx_smt_meaning.specs.Dialogues.{Check};
 ghost use Rattle.vx_rules.specs.Stack as rules;
 ghost use Rattle.vx_verifier.specs.Headline.{IsRecorded};
+ghost use Rattle.vx_verifier.specs.Steady.{IsSpelled, IsCalmLane};
 ghost use Rattle.vx_verifier.specs.Lanes as spec;
 ghost use Rattle.vx_verifier.specs.Lanes.{IsHeld, links, is_fault, is_lost, is_started, Hears, HearsOf, Loses, Starts, Later};
 
@@ -61,6 +62,9 @@ fn start<W: Spawner>(
         → MatchResult result (λ d. Starts before (W.starts spawner.new) start (Child.Talking d)) (λ lost. Starts before (W.starts spawner.new) start lost.0) }
     ensures faults { W.faults spawner.old ≤ W.faults spawner.new }
     ensures later { Later (W.ended spawner.old) (W.ended spawner.new) }
+    ensures calm { (before : List Ending) (count : ℕ) → IsCalmLane W.Link.dialogue W.Link.steady W.Link.faults before (W.ended spawner.old) (W.steady spawner.old) count (W.faults spawner.old) Child.NotStarted
+        → MatchResult result (λ d. IsCalmLane W.Link.dialogue W.Link.steady W.Link.faults before (W.ended spawner.new) (W.steady spawner.new) count (W.faults spawner.new) (Child.Talking d))
+        (λ lost. IsCalmLane W.Link.dialogue W.Link.steady W.Link.faults before (W.ended spawner.new) (W.steady spawner.new) count (W.faults spawner.new) lost.0) }
 {
     let link = match spawner.start(alloc, LANE, command) {
         Ok(link) => link,
@@ -94,6 +98,8 @@ fn talk<W: Spawner>(
     ensures starts { (before : List Start) (start : Start) → Starts before (W.starts spawner.old) start (Child.Talking dialogue) → Starts before (W.starts spawner.new) start result.0 }
     ensures faults { W.faults spawner.new ≡ W.faults spawner.old }
     ensures later { Later (W.ended spawner.old) (W.ended spawner.new) }
+    ensures calm { IsSpelled (rules.query query.now) → (before : List Ending) (count : ℕ) → IsCalmLane W.Link.dialogue W.Link.steady W.Link.faults before (W.ended spawner.old) (W.steady spawner.old) count (W.faults spawner.old) (Child.Talking dialogue)
+        → IsCalmLane W.Link.dialogue W.Link.steady W.Link.faults before (W.ended spawner.new) (W.steady spawner.new) count (W.faults spawner.new) result.0 }
 {
     let mut dialogue = dialogue;
     let path = match query.path.terms(alloc) {
@@ -132,6 +138,8 @@ pub fn ask<W: Spawner>(
     ensures starts { (before : List Start) → let start : Start = record { lane = LANE; command = command.now } in Starts before (W.starts spawner.old) start child → Starts before (W.starts spawner.new) start result.0 }
     ensures faults { W.faults spawner.old ≤ W.faults spawner.new }
     ensures later { Later (W.ended spawner.old) (W.ended spawner.new) }
+    ensures calm { IsSpelled (rules.query query.now) → (before : List Ending) (count : ℕ) → IsCalmLane W.Link.dialogue W.Link.steady W.Link.faults before (W.ended spawner.old) (W.steady spawner.old) count (W.faults spawner.old) child
+        → IsCalmLane W.Link.dialogue W.Link.steady W.Link.faults before (W.ended spawner.new) (W.steady spawner.new) count (W.faults spawner.new) result.0 }
 {
     match child {
         Child::NotStarted => match start(alloc, spawner, command) {
@@ -160,6 +168,8 @@ pub fn leave<W: Spawner>(
     ensures starts { (before : List Start) (start : Start) → Starts before (W.starts spawner.old) start child → Starts before (W.starts spawner.new) start result.0 }
     ensures faults { W.faults spawner.new ≡ W.faults spawner.old }
     ensures later { Later (W.ended spawner.old) (W.ended spawner.new) }
+    ensures calm { (before : List Ending) (count : ℕ) → IsCalmLane W.Link.dialogue W.Link.steady W.Link.faults before (W.ended spawner.old) (W.steady spawner.old) count (W.faults spawner.old) child
+        → IsCalmLane W.Link.dialogue W.Link.steady W.Link.faults before (W.ended spawner.new) (W.steady spawner.new) count (W.faults spawner.new) result.0 }
 {
     match child {
         Child::Talking(dialogue) => {
@@ -184,6 +194,8 @@ pub fn end<W: Spawner>(spawner: &mut W, child: Child<W::Link>)
     ensures starts { W.starts spawner.new ≡ W.starts spawner.old }
     ensures faults { W.faults spawner.new ≡ W.faults spawner.old }
     ensures later { Later (W.ended spawner.old) (W.ended spawner.new) }
+    ensures calm { (before : List Ending) (count : ℕ) → IsCalmLane W.Link.dialogue W.Link.steady W.Link.faults before (W.ended spawner.old) (W.steady spawner.old) count (W.faults spawner.old) child
+        → IsCalmLane W.Link.dialogue W.Link.steady W.Link.faults before (W.ended spawner.new) (W.steady spawner.new) count (W.faults spawner.new) Child.NotStarted }
 {
     match child {
         Child::Talking(dialogue) => spawner.finish(LANE, dialogue.close()),

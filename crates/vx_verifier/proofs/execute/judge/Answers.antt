@@ -3,7 +3,7 @@ use Rattle.std.proofs.lemmas.Result.{IfOk-weaker}
 use Rattle.vx_types.specs.Settled.{settled}
 use Rattle.vx_verifier.specs.Lanes.{Hears, IsDue, is_lost, is_started}
 use Rattle.vx_verifier.proofs.Children.{caused_earlier, lost_hears, lost_started, gone_by, faulted_by, match_ok_at, if_ok_at, if_err_at}
-use Rattle.vx_verifier.proofs.Questions.{none_asked, at_done, at_fault, goes_on, still_running, one_longer, asked_by, started_done, started_fault}
+use Rattle.vx_verifier.proofs.Questions.{none_asked, at_done, at_fault, goes_on, still_running, one_longer, asked_by, started_done, started_fault, due_spelled}
 use Rattle.vx_verifier.proofs.execute.judge.Goals as goal
 
 pub questions-init : goal.questions-init
@@ -23,6 +23,7 @@ questions-init g c =
       lost = refl;
       silent = λ lost. begins.none;
       asks = inl (begins.none, refl);
+      calm = λ spelled before count calm. calm;
       starts = λ before starts. starts;
       faults = omega arith;
       later = λ front handed. handed;
@@ -89,6 +90,9 @@ questions-preserved g c =
           cc;
       asks = inr (here.0, asked_by (settled c.args.typed.now) c.args.member.0 machine c.questions.running.ask c.in-Check.query c.questions.child c.args.child so_far.running c.in-Check.is so_far.asks);
       starts = λ before starts. c.ask-kept.ensures.starts before (so_far.starts before starts);
+      calm = λ spelled before count calm.
+          c.ask-kept.ensures.calm (due_spelled (settled c.args.typed.now) c.args.member.0 machine c.questions.running.ask c.in-Check.query so_far.running c.in-Check.is spelled) before count
+          (so_far.calm spelled before count calm);
       faults = omega arith;
       later = λ front handed. c.ask-kept.ensures.later front (so_far.later front handed);
     }
@@ -109,3 +113,17 @@ pub returns-in-Err-reply-clause-lost : goal.returns-in-Err-reply-clause-lost
 returns-in-Err-reply-clause-lost g c = IfOk-weaker c.faulted.result _ _ (λ judged fault.
     let gone = gone_by c.ask-kept.result.0 c.ask-kept.result.1 c.in-Err-reply.trouble judged.verdict c.ask-kept.ensures.child c.in-Err-reply.is fault.1 in
     started_fault (is_lost c.args.child) gone (faulted_by c.in-Err-reply.trouble judged.verdict fault.1)) c.faulted.ensures
+
+pub returns-in-Err-reply-clause-calm : goal.returns-in-Err-reply-clause-calm
+returns-in-Err-reply-clause-calm g c = λ spelled before count calm.
+    let so_far = c.questions.invariant in
+    c.ask-kept.ensures.calm
+    (due_spelled (settled c.args.typed.now) c.args.member.0 c.questions.running.machine c.questions.running.ask c.in-Check.query so_far.running c.in-Check.is spelled) before count
+    (so_far.calm spelled before count calm)
+
+pub returns-in-Err-go_on-clause-calm : goal.returns-in-Err-go_on-clause-calm
+returns-in-Err-go_on-clause-calm g c = λ spelled before count calm.
+    let so_far = c.questions.invariant in
+    c.ask-kept.ensures.calm
+    (due_spelled (settled c.args.typed.now) c.args.member.0 c.questions.running.machine c.questions.running.ask c.in-Check.query so_far.running c.in-Check.is spelled) before count
+    (so_far.calm spelled before count calm)

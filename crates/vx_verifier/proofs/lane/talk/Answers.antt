@@ -6,6 +6,9 @@ use Rattle.vx_rules.specs.Stack.{query}
 use Rattle.vx_dialogue.specs.History.{Breaks}
 use Rattle.vx_verifier.specs.Lanes.{Loses}
 use Rattle.vx_verifier.proofs.Children.{answered, lost_by, recorded, lost_recorded, above_none}
+use Rattle.vx_dialogue.specs.Dialogue.{link_of}
+use Rattle.vx_verifier.specs.declared.lane.Child.TheVariants.{Talking, Lost}
+use Rattle.vx_verifier.proofs.Steady.{calm_on, calm_handed, asks_steady, asked_steady}
 use Rattle.vx_verifier.proofs.lane.talk.Goals as goal
 
 pub returns-in-Ok-ask-clause-told : goal.returns-in-Ok-ask-clause-told
@@ -39,3 +42,24 @@ returns-clause-lost g c = λ before checks heard.
     subst (λ t. Loses before (g.W.Spawner.ended c.finish-in-Err-ask.new.self) (g.W.Spawner.faults c.args.spawner.now) (g.W.Spawner.faults c.finish-in-Err-ask.new.self) false checks t) (sym c.trouble_of.ensures)
     (lost_by dialogue before _ (g.W.Spawner.ended c.finish-in-Err-ask.new.self) (g.W.Spawner.faults c.args.spawner.now) (g.W.Spawner.faults c.finish-in-Err-ask.new.self) e c.in-Err-ask.talk checks
     heard.0 c.finish-in-Err-ask.ensures.ended refl broken rose shut)
+
+pub returns-in-Ok-ask-clause-calm : goal.returns-in-Ok-ask-clause-calm
+returns-in-Ok-ask-clause-calm g c = λ spelled before count calm.
+    let w = g.W.Spawner in
+    let l = g.W.Link.Link in
+    let path = ap (λ x. map shared x) c.deref.ensures.value ∙ c.in-Ok.ensures in
+    calm_on l.dialogue l.steady l.faults before count (w.ended c.args.spawner.now) (w.ended c.args.spawner.now) _ _ _ _ (Talking c.args.dialogue) (Talking c.ask.new.self) refl refl refl
+    (asked_steady l.dialogue l.steady l.faults before count c.args.dialogue c.ask.new.self (query c.args.query.now) (map shared c.deref.result.now) c.in-Ok-ask.reply path spelled
+    c.ask.ensures.steady c.in-Ok-ask.ensures.reply calm.child_is) calm
+
+pub returns-clause-calm : goal.returns-clause-calm
+returns-clause-calm g c = λ spelled before count calm.
+    let w = g.W.Spawner in
+    let l = g.W.Link.Link in
+    let link = c.close-in-Err-ask.result in
+    let e : Ending = record { lane = 0; dialogue = l.dialogue link; faults = l.faults link } in
+    let path = ap (λ x. map shared x) c.deref.ensures.value ∙ c.in-Ok.ensures in
+    let link_is = asks_steady l.dialogue l.steady l.faults before count c.args.dialogue (link_of c.ask.new.self) (query c.args.query.now) (map shared c.deref.result.now) path spelled
+    c.ask.ensures.steady calm.child_is in
+    calm_handed l.dialogue l.steady l.faults before count (w.ended c.args.spawner.now) (w.ended c.finish-in-Err-ask.new.self) _ _ _ _ (Talking c.args.dialogue) Lost e
+    c.finish-in-Err-ask.ensures.ended c.finish-in-Err-ask.ensures.fixed c.finish-in-Err-ask.ensures.faults (ap l.faults c.close-in-Err-ask.ensures ∙ link_is.1) tt calm

@@ -7,6 +7,7 @@ use Rattle.vx_dialogue.proofs.Lists.{on_ok_map}
 use Rattle.vx_dialogue.proofs.Levels.{plain_question}
 use Rattle.vx_dialogue.proofs.Explained.{if_err_map}
 use Rattle.std.proofs.lemmas.Result.{err_from_is_err_and}
+use Rattle.vx_smt_meaning.specs.Names.{AreCommands}
 use Rattle.vx_dialogue.proofs.dialogue.Dialogue.post_all.Goals as goal
 
 pub returns-clause-told : goal.returns-clause-told
@@ -38,3 +39,24 @@ returns-clause-fault g c =
     let all : map command c.deref.result.now ≡ question member path condition = search rules in
     let plain : ArePlain (map command c.deref.result.now) = rw all (plain_question member path condition) in
     if_err_map c.send_check.result _ _ (λ talk broken. λ commands checks told. broken _ checks (c.in_ok-say_all.ensures.told plain commands checks told)) c.send_check.ensures.fault
+
+pub returns-in_err-say_all-clause-steady : goal.returns-in_err-say_all-clause-steady
+returns-in_err-say_all-clause-steady g c = λ steady commands checks told named.
+    let path = map shared c.args.path.now in
+    let condition = shared c.args.condition.now in
+    let member = c.args.self.now.in_member in
+    let all : map command c.deref.result.now ≡ question member path condition = search rules in
+    let plain : ArePlain (map command c.deref.result.now) = rw all (plain_question member path condition) in
+    let names : AreCommands (commands ++ map command c.deref.result.now) = rw all named in
+    c.say_all.ensures.steady plain steady commands checks told names
+
+pub returns-clause-steady : goal.returns-clause-steady
+returns-clause-steady g c = λ steady commands checks told named.
+    let path = map shared c.args.path.now in
+    let condition = shared c.args.condition.now in
+    let member = c.args.self.now.in_member in
+    let all : map command c.deref.result.now ≡ question member path condition = search rules in
+    let plain : ArePlain (map command c.deref.result.now) = rw all (plain_question member path condition) in
+    let names : AreCommands (commands ++ map command c.deref.result.now) = rw all named in
+    c.send_check.ensures.steady (c.say_all.ensures.steady plain steady commands checks told names) (commands ++ map command c.deref.result.now) checks
+    (c.in_ok-say_all.ensures.told plain commands checks told) names

@@ -5,6 +5,7 @@ use Rattle.vx_smt_meaning.specs.Dialogues.{is_plain}
 use Rattle.vx_dialogue.specs.Dialogue.{Gathers}
 use Rattle.vx_dialogue.proofs.Lists.{map_take_more, plain_at}
 use Rattle.std.proofs.lemmas.Result.{err_from_is_err_and}
+use Rattle.vx_dialogue.proofs.Steady.{commands_upto}
 use Rattle.vx_dialogue.proofs.dialogue.Dialogue.say_all.Goals as goal
 
 pub loop-c-preserved : goal.loop-c-preserved
@@ -25,9 +26,20 @@ loop-c-preserved g c =
       owed = c.say.ensures.same.1 ∙ before.owed;
       failed = c.say.ensures.same.2 ∙ before.failed;
       grows = λ front begins. c.say.ensures.grows front (before.grows front begins);
+      steady = λ plain steady commands checks told named.
+          c.say.ensures.steady (before.steady plain steady commands checks told named) (commands ++ map command (take i all)) checks (before.told plain commands checks told)
+          (commands_upto command all i commands named);
       later = grind (arith, common_steps);
     }
 
 pub returns-in_err-say-clause-fault : goal.returns-in_err-say-clause-fault
 returns-in_err-say-clause-fault g c = let p = err_from_is_err_and c.from_residual.result c.from_residual.ensures.1 in rw (p.1, p.2) (λ plain commands checks told.
     c.in_err-say.ensures.fault _ checks (c.loop-c.invariant.told plain commands checks told))
+
+pub returns-in_err-say-clause-steady : goal.returns-in_err-say-clause-steady
+returns-in_err-say-clause-steady g c = λ plain steady commands checks told named.
+    let before = c.loop-c.invariant in
+    let all = c.args.all.now in
+    let i = c.loop-c.c-index in
+    c.say.ensures.steady (before.steady plain steady commands checks told named) (commands ++ map command (take i all)) checks (before.told plain commands checks told)
+    (commands_upto command all i commands named)

@@ -6,6 +6,7 @@ use Rattle.vx_dialogue.proofs.Lists.{on_ok_map}
 use Rattle.vx_dialogue.proofs.Levels.{plain_preamble}
 use Rattle.vx_dialogue.proofs.Explained.{if_err_map}
 use Rattle.std.proofs.lemmas.Result.{err_from_is_err_and}
+use Rattle.vx_smt_meaning.specs.Names.{AreCommands}
 use Rattle.vx_dialogue.proofs.dialogue.Dialogue.start.Goals as goal
 
 pub returns-clause-told : goal.returns-clause-told
@@ -31,3 +32,20 @@ returns-clause-fault g c =
     let all : map command c.deref.result.now ≡ preamble c.args.certify functions = search rules in
     let plain : ArePlain (map command c.deref.result.now) = rw all (plain_preamble c.args.certify functions) in
     if_err_map c.flush.result _ _ (λ talk broken. λ commands checks told. broken _ checks (c.in_ok-say_all.ensures.told plain commands checks told)) c.flush.ensures.fault
+
+pub returns-in_err-say_all-clause-steady : goal.returns-in_err-say_all-clause-steady
+returns-in_err-say_all-clause-steady g c = λ steady commands checks told named.
+    let functions = map declared_symbol c.args.functions.now in
+    let all : map command c.deref.result.now ≡ preamble c.args.certify functions = search rules in
+    let plain : ArePlain (map command c.deref.result.now) = rw all (plain_preamble c.args.certify functions) in
+    let names : AreCommands (commands ++ map command c.deref.result.now) = rw all named in
+    c.say_all.ensures.steady plain steady commands checks told names
+
+pub returns-clause-steady : goal.returns-clause-steady
+returns-clause-steady g c = λ steady commands checks told named.
+    let functions = map declared_symbol c.args.functions.now in
+    let all : map command c.deref.result.now ≡ preamble c.args.certify functions = search rules in
+    let plain : ArePlain (map command c.deref.result.now) = rw all (plain_preamble c.args.certify functions) in
+    let names : AreCommands (commands ++ map command c.deref.result.now) = rw all named in
+    c.flush.ensures.steady (c.say_all.ensures.steady plain steady commands checks told names) (commands ++ map command c.deref.result.now) checks
+    (c.in_ok-say_all.ensures.told plain commands checks told) names
