@@ -1,5 +1,5 @@
 -- How many expressions are finished in commands and in items.
-use Rattle.std.proofs.Common.{◌≡◌, ◌++◌, ◌+◌, ◌-◌, ◌<◌, ◌≤◌, ◌==◌, ◌&&◌, ◌⊎◌, inl, inr, not, nat_le, drop, ℕ, ℤ, pos, negsuc, zero, suc, Bool, true, false, List, [], ◌∷◌, codes, length, refl, ap, ◌∙◌, sym, subst, append_assoc, if◌then◌else◌, arith}
+use Rattle.std.proofs.Common.{◌≡◌, ◌++◌, ◌+◌, ◌-◌, ◌<◌, ◌≤◌, ◌==◌, ◌&&◌, ◌⊎◌, inl, inr, not, nat_le, drop, ℕ, ℤ, pos, negsuc, zero, suc, Bool, true, false, List, [], ◌∷◌, codes, length, refl, ap, ◌∙◌, sym, append_assoc, if◌then◌else◌, arith}
 use Rattle.std.proofs.lemmas.Grind.{common_steps}
 use Rattle.vx_sexp.specs.declared.token.Kind.{Kind}
 use Rattle.vx_sexp.specs.declared.token.Kind.TheVariants as kind
@@ -8,7 +8,7 @@ use Rattle.vx_sexp.specs.declared.token.Token.TheVariants.{Open, Close, Atom}
 use Rattle.vx_sexp.specs.Tokens.{Lexes, is_empty}
 use Rattle.vx_sexp.specs.declared.reader.SexpFault.{SexpFault}
 use Rattle.vx_sexp.specs.declared.reader.SexpFault.TheVariants as fault
-use Rattle.vx_sexp.specs.First.{IsFirst, CutFaults, NextIs, after, fits, closes, opens, depth}
+use Rattle.vx_sexp.specs.First.{CutFaults, NextIs, after, fits, closes, opens, depth}
 use Rattle.vx_sexp.specs.Scanning.{next, Unfinished, Bad}
 use Rattle.vx_sexp.specs.Finished.{counted, finished_at, finished}
 use Rattle.vx_sexp.proofs.Backs.{starts_next}

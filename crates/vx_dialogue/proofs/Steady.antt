@@ -8,7 +8,7 @@ use Rattle.vx_sexp.specs.declared.reader.SexpFault.TheVariants as fault
 use Rattle.vx_sexp.specs.First.{Faults}
 use Rattle.vx_sexp.specs.Finished.{finished}
 use Rattle.vx_smt_meaning.specs.Commands.{Command, CheckSat}
-use Rattle.vx_smt_meaning.specs.Names.{IsCommand, AreCommands}
+use Rattle.vx_smt_meaning.specs.Names.{AreCommands}
 use Rattle.vx_smt_meaning.specs.Replies.{Items}
 use Rattle.vx_smt_meaning.specs.Dialogues.{Answers, Check}
 use Rattle.vx_smt_text.specs.Text.{commands_text}

@@ -8,3 +8,4 @@ mod Members
 mod Questions
 mod Steady
 mod Replies
+mod Spelled

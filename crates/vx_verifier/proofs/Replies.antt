@@ -1,5 +1,5 @@
 -- Each reply of the companion is one whole expression, and so there is one to each command.
-use Rattle.std.proofs.Common.{◌≡◌, ℕ, zero, suc, ◌+◌, ◌<◌, ◌≤◌, true, List, [], ◌++◌, ◌∷◌, codes, length, drop, refl, ap, ◌∙◌, sym, subst, append_assoc, arith}
+use Rattle.std.proofs.Common.{◌≡◌, ℕ, zero, suc, ◌<◌, ◌≤◌, List, [], ◌++◌, ◌∷◌, codes, length, drop, refl, ap, ◌∙◌, sym, append_assoc, arith}
 use Rattle.std.proofs.lemmas.List.{length-drop}
 use Rattle.vx_ends.specs.declared.piece.Piece.{Piece}
 use Rattle.vx_ends.specs.declared.piece.Piece.TheVariants.{Got}
@@ -7,7 +7,7 @@ use Rattle.vx_ends.specs.Dialogue.{got}
 use Rattle.vx_ends.proofs.Dialogues.{got_by_got}
 use Rattle.vx_sexp.specs.declared.token.Token.{Token}
 use Rattle.vx_sexp.specs.First.{IsFirst}
-use Rattle.vx_sexp.proofs.Counts.{more_finished, joined_finished, joined_closed, none_finished, none_closed}
+use Rattle.vx_sexp.proofs.Counts.{more_finished, joined_finished, joined_closed, none_closed}
 use Rattle.vx_dialogue.proofs.Joined.{append_none, first_longer}
 use Rattle.vx_dialogue.proofs.Counts.{finished_first}
 use Rattle.vx_sexp.specs.Finished.{finished, finished_at, finished_from, is_closed, closed_at, closed_from}

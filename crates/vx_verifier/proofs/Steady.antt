@@ -1,10 +1,10 @@
 -- How no count rises, from one call to the next.
-use Rattle.std.proofs.Common.{◌≡◌, ℕ, ◌+◌, ◌-◌, ◌^◌, ◌<◌, Bool, true, false, IsTrue, ◌++◌, ◌∷◌, [], List, Result, Ok, Err, IfOk, MatchResult, refl, ap, ◌∙◌, sym, subst, append_assoc, arith}
+use Rattle.std.proofs.Common.{◌≡◌, ℕ, ◌-◌, ◌^◌, ◌<◌, Bool, false, IsTrue, ◌++◌, ◌∷◌, [], List, refl, ap, ◌∙◌, sym, subst, append_assoc, arith}
 use Rattle.vx_terms.specs.Terms.{Term}
 use Rattle.vx_terms.specs.Interpretations.{Each}
 use Rattle.vx_ends.specs.declared.piece.Piece.{Piece}
 use Rattle.vx_ends.specs.declared.piece.Ending.{Ending}
-use Rattle.vx_ends.specs.Causes.{Rose, IsCalm}
+use Rattle.vx_ends.specs.Causes.{Rose}
 use Rattle.vx_smt_meaning.specs.Commands.{Command, CheckSat, Pop, Level}
 use Rattle.vx_smt_meaning.specs.Dialogues.{Check}
 use Rattle.vx_smt_meaning.specs.Names.{AreCommands}
@@ -17,8 +17,8 @@ use Rattle.vx_dialogue.proofs.Joined.{append_none}
 use Rattle.vx_dialogue.proofs.Steady.{commands_join, preamble_named, question_named, closing_named}
 use Rattle.vx_rules.specs.Trees.{Question, Tree, End, On, Step, Ask, Probe, Fork, Walked, Open, walk, walk_then, passed}
 use Rattle.vx_verifier.specs.declared.lane.Child.{Child}
-use Rattle.vx_verifier.specs.declared.lane.Child.TheVariants.{NotStarted, Talking, Lost}
-use Rattle.vx_verifier.specs.Causes.{EachEnding, NoCountRose}
+use Rattle.vx_verifier.specs.declared.lane.Child.TheVariants.{NotStarted, Talking}
+use Rattle.vx_verifier.specs.Causes.{NoCountRose}
 use Rattle.vx_verifier.specs.Steady.{IsSpelled, AllSpelled, IsSteadyChild, IsCalmLane}
 
 each_more : (P : Ending → Type 0) (xs : List Ending) (e : Ending) → Each P xs → P e → Each P (xs ++ e ∷ [])

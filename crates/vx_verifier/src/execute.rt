@@ -9,7 +9,7 @@ ghost use Rattle.vx_report.specs.Reports.{AreNamed, is_faulted};
 ghost use Rattle.vx_machine.specs.Runs.{Follows, awaits, member_tree};
 ghost use Rattle.vx_verifier.specs.Causes.{HasCauseOf, NoCountRose};
 ghost use Rattle.vx_verifier.specs.Steady.{AllSpelled, AsksSpelled, IsCalmLane};
-ghost use Rattle.vx_verifier.specs.Headline.{Headline, has_question, some_ask};
+ghost use Rattle.vx_verifier.specs.Headline.{Headline, IsSupported, has_question, some_ask};
 ghost use Rattle.vx_verifier.specs.Lanes as spec;
 ghost use Rattle.vx_verifier.specs.Lanes.{IsHeld, IsRunning, links, is_lost, is_started, Hears, Starts, StartsWhere, Later, Judges, Executes, IsFaultOf};
 
@@ -279,7 +279,7 @@ pub fn verify<W: Spawner>(
     ensures handed_back { W.owed spawner.new LANE ≡ W.owed spawner.old LANE }
     ensures faults { W.faults spawner.old ≤ W.faults spawner.new }
     ensures later { Later (W.ended spawner.old) (W.ended spawner.new) }
-    ensures steady { IsTrue (W.steady spawner.old) → AsksSpelled (settled typed.now) → W.faults spawner.old < 2 ^ 64 - 1
+    ensures steady { IsTrue (W.steady spawner.old) → IsSupported (settled typed.now) → W.faults spawner.old < 2 ^ 64 - 1
         → NoCountRose (W.ended spawner.old) (W.ended spawner.new) (W.faults spawner.old) (W.faults spawner.new) }
 {
     let (lane, runs) = execute_all(alloc, typed, command, spawner);

@@ -4,6 +4,7 @@ use Rattle.vx_types.specs.Settled.{settled}
 use Rattle.vx_verifier.proofs.Members.{headline}
 use Rattle.vx_verifier.specs.declared.lane.Child.TheVariants.{NotStarted}
 use Rattle.vx_verifier.proofs.Steady.{none_rose}
+use Rattle.vx_verifier.proofs.Spelled.{supported_spelled}
 use Rattle.vx_verifier.proofs.execute.verify.Goals as goal
 
 pub returns-clause-headline : goal.returns-clause-headline
@@ -18,8 +19,8 @@ returns-clause-headline g c =
     c.execute_all-lane.ensures.told
 
 pub returns-clause-steady : goal.returns-clause-steady
-returns-clause-steady g c = λ steady spelled room.
+returns-clause-steady g c = λ steady supported room.
     let w = g.W.Spawner in
     let l = g.W.Link.Link in
     none_rose l.dialogue l.steady l.faults (w.ended c.args.spawner.now) (w.faults c.args.spawner.now) (w.ended c.end.new.spawner) (w.steady c.end.new.spawner) (w.faults c.end.new.spawner) NotStarted room
-    (c.end.ensures.calm (w.ended c.args.spawner.now) (w.faults c.args.spawner.now) (c.execute_all-lane.ensures.calm spelled steady))
+    (c.end.ensures.calm (w.ended c.args.spawner.now) (w.faults c.args.spawner.now) (c.execute_all-lane.ensures.calm (supported_spelled c.args.typed.now.program.members.items supported) steady))

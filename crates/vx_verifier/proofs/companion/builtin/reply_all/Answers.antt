@@ -1,5 +1,4 @@
 use Rattle.std.proofs.Common.{rules, ◌≡◌, ◌<◌, ◌++◌, drop, length, subst, append_assoc}
-use Rattle.vx_sexp.specs.Finished.{finished}
 use Rattle.vx_verifier.specs.Companion.{HasAnswered}
 use Rattle.vx_verifier.proofs.Replies.{answered_one, more_replies, shorter}
 use Rattle.vx_dialogue.proofs.Counts.{finished_fault}

@@ -1,4 +1,4 @@
-use Rattle.std.proofs.Common.{◌≡◌, ◌≤◌, ◌++◌, [], arith}
+use Rattle.std.proofs.Common.{◌≤◌, ◌++◌, [], arith}
 use Rattle.vx_ends.specs.Dialogue.{sent, got}
 use Rattle.vx_sexp.specs.Finished.{finished}
 use Rattle.vx_verifier.proofs.Replies.{none_answered}
