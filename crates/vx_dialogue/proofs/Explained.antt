@@ -3,7 +3,7 @@ use Rattle.std.proofs.Common.{◌≡◌, ◌++◌, ◌<◌, ℕ, zero, suc, true
 use Rattle.vx_ends.specs.declared.piece.Piece.{Piece}
 use Rattle.vx_ends.specs.declared.fault.LinkFault.{LinkFault}
 use Rattle.vx_ends.specs.declared.fault.LinkFault.TheVariants as link
-use Rattle.vx_ends.specs.Dialogue.{got}
+use Rattle.vx_ends.specs.Dialogue.{sent, got}
 use Rattle.vx_sexp.specs.declared.token.Token.{Token}
 use Rattle.vx_smt_meaning.specs.Commands.{Command, SetOption, SetLogic, DeclareSort, DeclareFun, Assert, Push, Pop, CheckSat, GetProof, Exit}
 use Rattle.vx_smt_meaning.specs.Replies.{Items}
@@ -18,7 +18,8 @@ use Rattle.vx_dialogue.specs.Items.{IsGarbled, IsRefused, Meets, GivesNoReply}
 use Rattle.vx_dialogue.specs.Hears.{ReadsSuccesses}
 use Rattle.vx_dialogue.specs.Stops.{wanted_by, Stops, Explains, FailsAfter}
 use Rattle.vx_dialogue.specs.Dialogue.{Gathers, Waits}
-use Rattle.vx_dialogue.proofs.Lists.{none_more, successes_to, answers_join}
+use Rattle.vx_smt_text.specs.Text.{commands_text}
+use Rattle.vx_dialogue.proofs.Lists.{none_more, text_append, successes_to, answers_join}
 use Rattle.vx_dialogue.proofs.Told.{some_same}
 use Rattle.vx_dialogue.proofs.Joined.{items_longer, items_join}
 
@@ -26,30 +27,9 @@ pub if_err_map : {T E : Type 0} (r : Result T E) (P Q : E → Type 0) → ((e : 
 if_err_map (Ok x) P Q f p = p
 if_err_map (Err e) P Q f p = f e p
 
-pub by_link : (f : LinkFault) (bytes : List ℕ) (commands : List Command) → Explains (talk_of f) bytes commands
-by_link link.Failed bytes commands = tt
-by_link link.Want bytes commands = tt
-
-stops_longer : (bytes : List ℕ) (commands more : List Command) (Told : Wanted → List ℕ → Type 0) → Stops bytes commands Told → Stops bytes (commands ++ more) Told
-stops_longer bytes commands more Told s = record {
-  before = s.before;
-  command = s.command;
-  after = s.after ++ more;
-  items = s.items;
-  next = s.next;
-  all = ap (λ x. x ++ more) s.all ∙ append_assoc s.before (s.command ∷ s.after) more;
-  heard = s.heard;
-  lawful = s.lawful;
-  told = s.told;
-}
-
--- the same with more commands
-pub longer : (t : Talk) (bytes : List ℕ) (commands more : List Command) → Explains t bytes commands → Explains t bytes (commands ++ more)
-longer (talk.Garbled kept) bytes commands more e = stops_longer bytes commands more _ e
-longer (talk.Refused kept) bytes commands more e = stops_longer bytes commands more _ e
-longer talk.Pipe bytes commands more e = tt
-longer talk.Want bytes commands more e = tt
-longer talk.Closed bytes commands more e = tt
+pub by_link : (f : LinkFault) (pieces : List Piece) → Explains (talk_of f) pieces
+by_link link.Failed pieces = tt
+by_link link.Want pieces = tt
 
 -- a list up to a place, and from there on
 record Splits (cs : List Command) (i : ℕ) : Type 0 where
@@ -82,17 +62,21 @@ wants_success CheckSat e = absurd (cc)
 wants_success GetProof e = absurd (cc)
 wants_success Exit e = refl
 
--- Lawful replies to the first commands, successes to some plain ones behind them, and then what is told of the next.
-stops_at : (g0 u0 g1 u1 g2 : List ℕ) (items : List (List Token)) (answered : List Command) (front : List Command) (c : Command) (rest : List Command)
-    (Told : Wanted → List ℕ → Type 0) (w : Wanted) → Items g0 items u0 → Answers answered items → ArePlain front → wanted_by c ≡ w
-    → ReadsSuccesses (length front) g0 u0 g1 u1 → Meets g1 u1 g2 (Told w) → Stops g2 (answered ++ (front ++ c ∷ rest)) Told
-stops_at g0 u0 g1 u1 g2 items answered front c rest Told w heard lawful plain wants reads meets = record {
+-- the text of commands, up to one of them and from there on
+text_to : (before : List Command) (c : Command) (rest : List Command) → commands_text (before ++ c ∷ rest) ≡ commands_text (before ++ c ∷ []) ++ commands_text rest
+text_to before c rest = ap commands_text (sym (append_assoc before (c ∷ []) rest)) ∙ text_append (before ++ c ∷ []) rest
+
+-- Lawful replies to the first commands sent, successes to some plain ones behind them, and then what is told of the next.
+stops_at : (pieces : List Piece) (g0 u0 g1 u1 : List ℕ) (items : List (List Token)) (answered : List Command) (front : List Command) (c : Command) (rest : List Command)
+    (Told : Wanted → List ℕ → Type 0) (w : Wanted) → sent pieces ≡ commands_text (answered ++ (front ++ c ∷ rest)) → Items g0 items u0 → Answers answered items → ArePlain front → wanted_by c ≡ w
+    → ReadsSuccesses (length front) g0 u0 g1 u1 → Meets g1 u1 (got pieces) (Told w) → Stops pieces Told
+stops_at pieces g0 u0 g1 u1 items answered front c rest Told w sent_on heard lawful plain wants reads meets = record {
   before = answered ++ front;
   command = c;
-  after = rest;
+  sent_later = commands_text rest;
   items = items ++ reads.2;
   next = u1 ++ meets.0;
-  all = sym (append_assoc answered front (c ∷ rest));
+  sent_is = sent_on ∙ (ap commands_text (sym (append_assoc answered front (c ∷ rest))) ∙ text_to (answered ++ front) c rest);
   heard = subst (λ x. Items x (items ++ reads.2) (u1 ++ meets.0)) (sym meets.1)
       (items_longer g1 meets.0 (items ++ reads.2) u1
       (subst (λ x. Items x (items ++ reads.2) u1) (sym reads.1)
@@ -101,53 +85,58 @@ stops_at g0 u0 g1 u1 g2 items answered front c rest Told w heard lawful plain wa
   told = subst (λ x. Told x (u1 ++ meets.0)) (sym wants) meets.2;
 }
 
-explains_at : (t : Talk) (g0 u0 g1 u1 g2 : List ℕ) (items : List (List Token)) (answered : List Command) (front : List Command) (c : Command) (rest : List Command) (w : Wanted)
-    → Items g0 items u0 → Answers answered items → ArePlain front → wanted_by c ≡ w → ReadsSuccesses (length front) g0 u0 g1 u1 → GivesNoReply t w g1 u1 g2
-    → Explains t g2 (answered ++ (front ++ c ∷ rest))
-explains_at (talk.Garbled kept) g0 u0 g1 u1 g2 items answered front c rest w heard lawful plain wants reads gives =
-    stops_at g0 u0 g1 u1 g2 items answered front c rest (λ v bytes. IsGarbled v bytes kept) w heard lawful plain wants reads gives
-explains_at (talk.Refused kept) g0 u0 g1 u1 g2 items answered front c rest w heard lawful plain wants reads gives =
-    stops_at g0 u0 g1 u1 g2 items answered front c rest (λ v bytes. IsRefused bytes kept) w heard lawful plain wants reads gives
-explains_at talk.Pipe g0 u0 g1 u1 g2 items answered front c rest w heard lawful plain wants reads gives = tt
-explains_at talk.Want g0 u0 g1 u1 g2 items answered front c rest w heard lawful plain wants reads gives = tt
-explains_at talk.Closed g0 u0 g1 u1 g2 items answered front c rest w heard lawful plain wants reads gives = tt
+explains_at : (t : Talk) (pieces : List Piece) (g0 u0 g1 u1 : List ℕ) (items : List (List Token)) (answered : List Command) (front : List Command) (c : Command) (rest : List Command) (w : Wanted)
+    → sent pieces ≡ commands_text (answered ++ (front ++ c ∷ rest)) → Items g0 items u0 → Answers answered items → ArePlain front → wanted_by c ≡ w
+    → ReadsSuccesses (length front) g0 u0 g1 u1 → GivesNoReply t w g1 u1 (got pieces) → Explains t pieces
+explains_at (talk.Garbled kept) pieces g0 u0 g1 u1 items answered front c rest w sent_on heard lawful plain wants reads gives =
+    stops_at pieces g0 u0 g1 u1 items answered front c rest (λ v bytes. IsGarbled v bytes kept) w sent_on heard lawful plain wants reads gives
+explains_at (talk.Refused kept) pieces g0 u0 g1 u1 items answered front c rest w sent_on heard lawful plain wants reads gives =
+    stops_at pieces g0 u0 g1 u1 items answered front c rest (λ v bytes. IsRefused bytes kept) w sent_on heard lawful plain wants reads gives
+explains_at talk.Pipe pieces g0 u0 g1 u1 items answered front c rest w sent_on heard lawful plain wants reads gives = tt
+explains_at talk.Want pieces g0 u0 g1 u1 items answered front c rest w sent_on heard lawful plain wants reads gives = tt
+explains_at talk.Closed pieces g0 u0 g1 u1 items answered front c rest w sent_on heard lawful plain wants reads gives = tt
 
 -- some of plain commands were answered, and then one was not
-explains_among : (t : Talk) (g0 u0 g2 : List ℕ) (items : List (List Token)) (answered plains rest : List Command) → Items g0 items u0 → Answers answered items → ArePlain plains
-    → FailsAfter t (length plains) g0 u0 g2 → Explains t g2 (answered ++ (plains ++ rest))
-explains_among t g0 u0 g2 items answered plains rest heard lawful plain fails =
+explains_among : (t : Talk) (pieces : List Piece) (g0 u0 : List ℕ) (items : List (List Token)) (answered plains rest : List Command) → sent pieces ≡ commands_text (answered ++ (plains ++ rest))
+    → Items g0 items u0 → Answers answered items → ArePlain plains → FailsAfter t (length plains) g0 u0 (got pieces) → Explains t pieces
+explains_among t pieces g0 u0 items answered plains rest sent_on heard lawful plain fails =
     let split = split_at plains fails.0 fails.1 in
     let parts = plain_front split.front split.here split.rest (subst ArePlain split.all plain) in
     let reads = subst (λ n. ReadsSuccesses n g0 u0 fails.2 fails.3) (sym split.place) fails.4 in
-    let explained = explains_at t g0 u0 fails.2 fails.3 g2 items answered split.front split.here (split.rest ++ rest) wanted.Success heard lawful parts.0 (wants_success split.here parts.1) reads fails.5 in
-    let same : split.front ++ (split.here ∷ (split.rest ++ rest)) ≡ plains ++ rest = sym (append_assoc split.front (split.here ∷ split.rest) rest) ∙ ap (λ x. x ++ rest) (sym split.all) in
-    subst (λ x. Explains t g2 (answered ++ x)) same explained
+    let same : plains ++ rest ≡ split.front ++ (split.here ∷ (split.rest ++ rest)) = ap (λ x. x ++ rest) split.all ∙ append_assoc split.front (split.here ∷ split.rest) rest in
+    explains_at t pieces g0 u0 fails.2 fails.3 items answered split.front split.here (split.rest ++ rest) wanted.Success
+    (sent_on ∙ ap (λ x. commands_text (answered ++ x)) same) heard lawful parts.0 (wants_success split.here parts.1) reads fails.5
 
 -- while what is gathered is answered
-pub in_flush : {L : Type 0} (dialogue : L → List Piece) (d : Dialogue L) (t : Talk) (g0 g2 : List ℕ) → g0 ≡ got (dialogue d.link) → FailsAfter t d.count g0 d.unread.items g2
-    → (commands : List Command) (checks : List Check) → Gathers dialogue d commands checks → Explains t g2 commands
-in_flush dialogue d t g0 g2 is fails commands checks g =
+pub in_flush : {L : Type 0} (dialogue : L → List Piece) (d : Dialogue L) (t : Talk) (pieces : List Piece) (g0 : List ℕ) → g0 ≡ got (dialogue d.link)
+    → sent pieces ≡ sent (dialogue d.link) ++ d.batch.items → FailsAfter t d.count g0 d.unread.items (got pieces)
+    → (commands : List Command) (checks : List Check) → Gathers dialogue d commands checks → Explains t pieces
+in_flush dialogue d t pieces g0 is sent_on fails commands checks g =
     let heard = subst (λ x. Items x g.items d.unread.items) (sym is) g.got_is in
-    let counted = subst (λ n. FailsAfter t n g0 d.unread.items g2) g.count_is fails in
-    let explained = explains_among t g0 d.unread.items g2 g.items g.answered g.gathered [] heard g.lawful g.plain counted in
-    let same : g.answered ++ (g.gathered ++ []) ≡ commands = ap (λ x. g.answered ++ x) (none_more g.gathered) ∙ sym g.all in
-    subst (Explains t g2) same explained
+    let counted = subst (λ n. FailsAfter t n g0 d.unread.items (got pieces)) g.count_is fails in
+    let text : sent pieces ≡ commands_text (g.answered ++ (g.gathered ++ [])) =
+    sent_on ∙ (rw (g.sent_is, g.batch_is) (sym (text_append g.answered g.gathered)) ∙ ap (λ x. commands_text (g.answered ++ x)) (sym (none_more g.gathered))) in
+    explains_among t pieces g0 d.unread.items g.items g.answered g.gathered [] text heard g.lawful g.plain counted
+
+waiting_text : {L : Type 0} (dialogue : L → List Piece) (d : Dialogue L) (pieces : List Piece) → sent pieces ≡ sent (dialogue d.link)
+    → (commands : List Command) (checks : List Check) → (w : Waits dialogue d commands checks) → sent pieces ≡ commands_text (w.answered ++ (w.waiting ++ CheckSat ∷ []))
+waiting_text dialogue d pieces sent_on commands checks w = sent_on ∙ (w.sent_is ∙ ap commands_text (w.all ∙ append_assoc w.answered w.waiting (CheckSat ∷ [])))
 
 -- while the successes before a check's answer are read
-pub in_waiting : {L : Type 0} (dialogue : L → List Piece) (d : Dialogue L) (t : Talk) (owed : ℕ) (g2 : List ℕ) → d.owed ≡ Some owed → FailsAfter t owed (got (dialogue d.link)) d.unread.items g2
-    → (commands : List Command) (checks : List Check) → Waits dialogue d commands checks → Explains t g2 commands
-in_waiting dialogue d t owed g2 is fails commands checks w =
+pub in_waiting : {L : Type 0} (dialogue : L → List Piece) (d : Dialogue L) (t : Talk) (owed : ℕ) (pieces : List Piece) → d.owed ≡ Some owed → sent pieces ≡ sent (dialogue d.link)
+    → FailsAfter t owed (got (dialogue d.link)) d.unread.items (got pieces)
+    → (commands : List Command) (checks : List Check) → Waits dialogue d commands checks → Explains t pieces
+in_waiting dialogue d t owed pieces is sent_on fails commands checks w =
     let number : owed ≡ length w.waiting = some_same owed (length w.waiting) (sym is ∙ w.owed_is) in
-    let counted = subst (λ n. FailsAfter t n (got (dialogue d.link)) d.unread.items g2) number fails in
-    let explained = explains_among t (got (dialogue d.link)) d.unread.items g2 w.items w.answered w.waiting (CheckSat ∷ []) w.got_is w.lawful w.plain counted in
-    subst (Explains t g2) (sym (append_assoc w.answered w.waiting (CheckSat ∷ [])) ∙ sym w.all) explained
+    let counted = subst (λ n. FailsAfter t n (got (dialogue d.link)) d.unread.items (got pieces)) number fails in
+    explains_among t pieces (got (dialogue d.link)) d.unread.items w.items w.answered w.waiting (CheckSat ∷ []) (waiting_text dialogue d pieces sent_on commands checks w) w.got_is w.lawful w.plain counted
 
 -- while the check's answer is read
-pub in_answer : {L : Type 0} (dialogue : L → List Piece) (d : Dialogue L) (t : Talk) (owed : ℕ) (g1 u1 g2 : List ℕ) → d.owed ≡ Some owed
-    → ReadsSuccesses owed (got (dialogue d.link)) d.unread.items g1 u1 → GivesNoReply t wanted.Answer g1 u1 g2
-    → (commands : List Command) (checks : List Check) → Waits dialogue d commands checks → Explains t g2 commands
-in_answer dialogue d t owed g1 u1 g2 is reads gives commands checks w =
+pub in_answer : {L : Type 0} (dialogue : L → List Piece) (d : Dialogue L) (t : Talk) (owed : ℕ) (g1 u1 : List ℕ) (pieces : List Piece) → d.owed ≡ Some owed → sent pieces ≡ sent (dialogue d.link)
+    → ReadsSuccesses owed (got (dialogue d.link)) d.unread.items g1 u1 → GivesNoReply t wanted.Answer g1 u1 (got pieces)
+    → (commands : List Command) (checks : List Check) → Waits dialogue d commands checks → Explains t pieces
+in_answer dialogue d t owed g1 u1 pieces is sent_on reads gives commands checks w =
     let number : owed ≡ length w.waiting = some_same owed (length w.waiting) (sym is ∙ w.owed_is) in
     let counted = subst (λ n. ReadsSuccesses n (got (dialogue d.link)) d.unread.items g1 u1) number reads in
-    let explained = explains_at t (got (dialogue d.link)) d.unread.items g1 u1 g2 w.items w.answered w.waiting CheckSat [] wanted.Answer w.got_is w.lawful w.plain refl counted gives in
-    subst (Explains t g2) (sym (append_assoc w.answered w.waiting (CheckSat ∷ [])) ∙ sym w.all) explained
+    explains_at t pieces (got (dialogue d.link)) d.unread.items g1 u1 w.items w.answered w.waiting CheckSat [] wanted.Answer (waiting_text dialogue d pieces sent_on commands checks w)
+    w.got_is w.lawful w.plain refl counted gives

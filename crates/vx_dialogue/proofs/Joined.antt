@@ -18,7 +18,7 @@ lexes_longer : (bytes more : List ℕ) (ts : List Token) (rest : List ℕ) → L
 lexes_longer bytes more [] rest e = ap (λ x. x ++ more) e
 lexes_longer bytes more (t ∷ ts) rest e = (e.0 ++ more, starts_more more e.1, lexes_longer e.0 more ts rest e.2)
 
-first_longer : (bytes more : List ℕ) (ts : List Token) (rest : List ℕ) → IsFirst bytes ts rest → IsFirst (bytes ++ more) ts (rest ++ more)
+pub first_longer : (bytes more : List ℕ) (ts : List Token) (rest : List ℕ) → IsFirst bytes ts rest → IsFirst (bytes ++ more) ts (rest ++ more)
 first_longer bytes more ts rest e = record { lexed = lexes_longer bytes more ts rest e.lexed; one = e.one }
 
 pub items_longer : (bytes more : List ℕ) (items : List (List Token)) (rest : List ℕ) → Items bytes items rest → Items (bytes ++ more) items (rest ++ more)
@@ -33,7 +33,7 @@ lawful_more : (w : Wanted) (items : List (List Token)) (item : List Token) → a
 lawful_more w [] item e f = (f, tt)
 lawful_more w (i ∷ items) item e f = (e.0, lawful_more w items item e.1 f)
 
-length_more : {A : Type 0} (xs : List A) (x : A) → length (xs ++ x ∷ []) ≡ length xs + 1
+pub length_more : {A : Type 0} (xs : List A) (x : A) → length (xs ++ x ∷ []) ≡ length xs + 1
 length_more [] x = refl
 length_more (y ∷ xs) x = let h = length_more xs x in omega arith
 

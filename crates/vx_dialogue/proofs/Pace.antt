@@ -33,7 +33,7 @@ none_got [] e = refl
 none_got (Sent b ∷ xs) e = none_got xs e
 none_got (Got b ∷ xs) e = absurd e
 
-none_sent : (xs : List Piece) → AreGot xs → sent xs ≡ []
+pub none_sent : (xs : List Piece) → AreGot xs → sent xs ≡ []
 none_sent [] e = refl
 none_sent (Sent b ∷ xs) e = absurd e
 none_sent (Got b ∷ xs) e = none_sent xs e

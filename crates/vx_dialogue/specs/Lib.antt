@@ -8,3 +8,4 @@ pub mod Dialogue
 pub mod Pace
 pub mod Over
 pub mod History
+pub mod Steady

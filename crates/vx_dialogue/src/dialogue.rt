@@ -7,7 +7,9 @@ ghost use Rattle.vx_smt_meaning.specs.Commands.{Level, stack_of};
 ghost use Rattle.vx_smt_meaning.specs.Commands as Spec;
 ghost use Rattle.vx_smt_meaning.specs.Dialogues.{Check, is_plain, ArePlain};
 ghost use Rattle.vx_smt_meaning.specs.Views.{command, declared_symbol};
-ghost use Rattle.vx_dialogue.specs.Stops.{Explains};
+ghost use Rattle.vx_smt_meaning.specs.Names.{AreCommands};
+ghost use Rattle.vx_dialogue.specs.History.{Breaks};
+ghost use Rattle.vx_dialogue.specs.Steady.{IsSteady};
 ghost use Rattle.vx_dialogue.specs.Dialogue.{preamble, question, closing, shared, link_of, has_failed, is_in_member, IsFree, IsAsked, Gathers, Waits, Stands, Asks, check_of, told_check, gives};
 
 use crate::Talk;
@@ -48,9 +50,10 @@ impl<L: Link> Dialogue<L> {
         ensures told { OnOk result ((commands : List Spec.Command) (checks : List Check) → Gathers L.dialogue self.old commands checks → Gathers L.dialogue self.new commands checks) }
         ensures count { OnOk result (self.new.count ≡ 0) }
         ensures same { (self.new.in_member ≡ self.old.in_member) × (self.new.owed ≡ self.old.owed) × (self.new.failed ≡ self.old.failed) }
-        ensures fault { IfErr result (λ talk. (commands : List Spec.Command) (checks : List Check) → Gathers L.dialogue self.old commands checks → Explains talk (got (L.dialogue self.new.link)) commands) }
+        ensures fault { IfErr result (λ talk. (commands : List Spec.Command) (checks : List Check) → Gathers L.dialogue self.old commands checks → Breaks talk (L.dialogue self.new.link) checks) }
         ensures grows { Grows (L.dialogue self.old.link) (L.dialogue self.new.link) }
         ensures cause { HasCause Talk.Pipe (L.faults self.old.link) (L.faults self.new.link) result }
+        ensures steady { IsSteady L.steady L.faults self.old.link → (commands : List Spec.Command) (checks : List Check) → Gathers L.dialogue self.old commands checks → AreCommands commands → IsSteady L.steady L.faults self.new.link }
         ensures open { result ≡ Err Talk.Closed → ⊥ }
     {
         send_all(alloc, &mut self.link, &self.batch)?;
@@ -64,9 +67,10 @@ impl<L: Link> Dialogue<L> {
         ensures told { OnOk result ((commands : List Spec.Command) (checks : List Check) → Gathers L.dialogue self.old commands checks → Gathers L.dialogue self.new commands checks) }
         ensures count { OnOk result (self.new.count < 256) }
         ensures same { (self.new.in_member ≡ self.old.in_member) × (self.new.owed ≡ self.old.owed) × (self.new.failed ≡ self.old.failed) }
-        ensures fault { IfErr result (λ talk. (commands : List Spec.Command) (checks : List Check) → Gathers L.dialogue self.old commands checks → Explains talk (got (L.dialogue self.new.link)) commands) }
+        ensures fault { IfErr result (λ talk. (commands : List Spec.Command) (checks : List Check) → Gathers L.dialogue self.old commands checks → Breaks talk (L.dialogue self.new.link) checks) }
         ensures grows { Grows (L.dialogue self.old.link) (L.dialogue self.new.link) }
         ensures cause { HasCause Talk.Pipe (L.faults self.old.link) (L.faults self.new.link) result }
+        ensures steady { IsSteady L.steady L.faults self.old.link → (commands : List Spec.Command) (checks : List Check) → Gathers L.dialogue self.old commands checks → AreCommands commands → IsSteady L.steady L.faults self.new.link }
         ensures open { result ≡ Err Talk.Closed → ⊥ }
     {
         if self.count >= MOST {
@@ -81,9 +85,10 @@ impl<L: Link> Dialogue<L> {
         ensures told { OnOk result (is_plain (command c.now) ≡ true → (commands : List Spec.Command) (checks : List Check)
             → Gathers L.dialogue self.old commands checks → Gathers L.dialogue self.new (commands ++ command c.now ∷ []) checks) }
         ensures same { (self.new.in_member ≡ self.old.in_member) × (self.new.owed ≡ self.old.owed) × (self.new.failed ≡ self.old.failed) }
-        ensures fault { IfErr result (λ talk. (commands : List Spec.Command) (checks : List Check) → Gathers L.dialogue self.old commands checks → Explains talk (got (L.dialogue self.new.link)) commands) }
+        ensures fault { IfErr result (λ talk. (commands : List Spec.Command) (checks : List Check) → Gathers L.dialogue self.old commands checks → Breaks talk (L.dialogue self.new.link) checks) }
         ensures grows { Grows (L.dialogue self.old.link) (L.dialogue self.new.link) }
         ensures cause { HasCause Talk.Pipe (L.faults self.old.link) (L.faults self.new.link) result }
+        ensures steady { IsSteady L.steady L.faults self.old.link → (commands : List Spec.Command) (checks : List Check) → Gathers L.dialogue self.old commands checks → AreCommands commands → IsSteady L.steady L.faults self.new.link }
         ensures open { result ≡ Err Talk.Closed → ⊥ }
     {
         self.make_room(alloc)?;
@@ -96,9 +101,10 @@ impl<L: Link> Dialogue<L> {
         ensures told { OnOk result (ArePlain (map command all.now) → (commands : List Spec.Command) (checks : List Check)
             → Gathers L.dialogue self.old commands checks → Gathers L.dialogue self.new (commands ++ map command all.now) checks) }
         ensures same { (self.new.in_member ≡ self.old.in_member) × (self.new.owed ≡ self.old.owed) × (self.new.failed ≡ self.old.failed) }
-        ensures fault { IfErr result (λ talk. ArePlain (map command all.now) → (commands : List Spec.Command) (checks : List Check) → Gathers L.dialogue self.old commands checks → Explains talk (got (L.dialogue self.new.link)) (commands ++ map command all.now)) }
+        ensures fault { IfErr result (λ talk. ArePlain (map command all.now) → (commands : List Spec.Command) (checks : List Check) → Gathers L.dialogue self.old commands checks → Breaks talk (L.dialogue self.new.link) checks) }
         ensures grows { Grows (L.dialogue self.old.link) (L.dialogue self.new.link) }
         ensures cause { HasCause Talk.Pipe (L.faults self.old.link) (L.faults self.new.link) result }
+        ensures steady { ArePlain (map command all.now) → IsSteady L.steady L.faults self.old.link → (commands : List Spec.Command) (checks : List Check) → Gathers L.dialogue self.old commands checks → AreCommands (commands ++ map command all.now) → IsSteady L.steady L.faults self.new.link }
         ensures open { result ≡ Err Talk.Closed → ⊥ }
     {
         for c in all {
@@ -112,9 +118,10 @@ impl<L: Link> Dialogue<L> {
             → Gathers L.dialogue self.old commands checks → Gathers L.dialogue self.new (commands ++ preamble certify (map declared_symbol functions.now)) checks) }
         ensures count { OnOk result (self.new.count ≡ 0) }
         ensures same { (self.new.in_member ≡ self.old.in_member) × (self.new.owed ≡ self.old.owed) × (self.new.failed ≡ self.old.failed) }
-        ensures fault { IfErr result (λ talk. (commands : List Spec.Command) (checks : List Check) → Gathers L.dialogue self.old commands checks → Explains talk (got (L.dialogue self.new.link)) (commands ++ preamble certify (map declared_symbol functions.now))) }
+        ensures fault { IfErr result (λ talk. (commands : List Spec.Command) (checks : List Check) → Gathers L.dialogue self.old commands checks → Breaks talk (L.dialogue self.new.link) checks) }
         ensures grows { Grows (L.dialogue self.old.link) (L.dialogue self.new.link) }
         ensures cause { HasCause Talk.Pipe (L.faults self.old.link) (L.faults self.new.link) result }
+        ensures steady { IsSteady L.steady L.faults self.old.link → (commands : List Spec.Command) (checks : List Check) → Gathers L.dialogue self.old commands checks → AreCommands (commands ++ preamble certify (map declared_symbol functions.now)) → IsSteady L.steady L.faults self.new.link }
         ensures open { result ≡ Err Talk.Closed → ⊥ }
     {
         let mut commands = front_commands(alloc, certify)?;
@@ -133,8 +140,9 @@ impl<L: Link> Dialogue<L> {
         requires { L.dialogue link ≡ [] }
         ensures stands { IfOk result (λ d. let commands = preamble certify (map declared_symbol functions.now) in Stands L.dialogue (stack_of commands) d commands []) }
         ensures free { IfOk result (λ d. IsFree d × (has_failed d ≡ false) × (is_in_member d ≡ false)) }
-        ensures fault { IfErr result (λ e. Explains e.1 (got (L.dialogue e.0)) (preamble certify (map declared_symbol functions.now))) }
+        ensures fault { IfErr result (λ e. Breaks e.1 (L.dialogue e.0) []) }
         ensures cause { MatchResult result (λ d. L.faults link ≤ L.faults (link_of d)) (λ e. HasCause Talk.Pipe (L.faults link) (L.faults e.0) (gives e.1)) }
+        ensures steady { IsSteady L.steady L.faults link → AreCommands (preamble certify (map declared_symbol functions.now)) → MatchResult result (λ d. IsSteady L.steady L.faults (link_of d)) (λ e. IsSteady L.steady L.faults e.0) }
         ensures open { MatchResult result (λ _. Unit {0}) (λ e. e.1 ≡ Talk.Closed → ⊥) }
     {
         let mut dialogue = Dialogue {
@@ -159,9 +167,10 @@ impl<L: Link> Dialogue<L> {
         ensures asked { OnOk result (IsAsked self.new) }
         ensures member { OnOk result (self.new.in_member ≡ true) }
         ensures failed { self.new.failed ≡ self.old.failed }
-        ensures fault { IfErr result (λ talk. (commands : List Spec.Command) (checks : List Check) → Gathers L.dialogue self.old commands checks → Explains talk (got (L.dialogue self.new.link)) (commands ++ Spec.CheckSat ∷ [])) }
+        ensures fault { IfErr result (λ talk. (commands : List Spec.Command) (checks : List Check) → Gathers L.dialogue self.old commands checks → Breaks talk (L.dialogue self.new.link) checks) }
         ensures grows { Grows (L.dialogue self.old.link) (L.dialogue self.new.link) }
         ensures cause { HasCause Talk.Pipe (L.faults self.old.link) (L.faults self.new.link) result }
+        ensures steady { IsSteady L.steady L.faults self.old.link → (commands : List Spec.Command) (checks : List Check) → Gathers L.dialogue self.old commands checks → AreCommands commands → IsSteady L.steady L.faults self.new.link }
         ensures open { result ≡ Err Talk.Closed → ⊥ }
     {
         self.make_room(alloc)?;
@@ -185,9 +194,10 @@ impl<L: Link> Dialogue<L> {
         ensures asked { OnOk result (IsAsked self.new) }
         ensures member { OnOk result (self.new.in_member ≡ true) }
         ensures failed { self.new.failed ≡ self.old.failed }
-        ensures fault { IfErr result (λ talk. (commands : List Spec.Command) (checks : List Check) → Gathers L.dialogue self.old commands checks → Explains talk (got (L.dialogue self.new.link)) ((commands ++ question self.old.in_member (map shared path.now) (shared condition.now)) ++ Spec.CheckSat ∷ [])) }
+        ensures fault { IfErr result (λ talk. (commands : List Spec.Command) (checks : List Check) → Gathers L.dialogue self.old commands checks → Breaks talk (L.dialogue self.new.link) checks) }
         ensures grows { Grows (L.dialogue self.old.link) (L.dialogue self.new.link) }
         ensures cause { HasCause Talk.Pipe (L.faults self.old.link) (L.faults self.new.link) result }
+        ensures steady { IsSteady L.steady L.faults self.old.link → (commands : List Spec.Command) (checks : List Check) → Gathers L.dialogue self.old commands checks → AreCommands (commands ++ question self.old.in_member (map shared path.now) (shared condition.now)) → IsSteady L.steady L.faults self.new.link }
         ensures open { result ≡ Err Talk.Closed → ⊥ }
     {
         let commands = question_commands(alloc, self.in_member, path, condition)?;
@@ -208,9 +218,11 @@ impl<L: Link> Dialogue<L> {
             ((commands ++ question (is_in_member self.old) (map shared path.now) (shared condition.now)) ++ Spec.CheckSat ∷ []) checks) }
         ensures asked { IsAsked self.new }
         ensures fault { IfErr result (λ talk. (base : List Level) (commands : List Spec.Command) (checks : List Check) → Stands L.dialogue base self.old commands checks
-            → Explains talk (got (L.dialogue (link_of self.new))) ((commands ++ question (is_in_member self.old) (map shared path.now) (shared condition.now)) ++ Spec.CheckSat ∷ [])) }
+            → Breaks talk (L.dialogue (link_of self.new)) checks) }
         ensures grows { Grows (L.dialogue (link_of self.old)) (L.dialogue (link_of self.new)) }
         ensures cause { HasCause Talk.Pipe (L.faults (link_of self.old)) (L.faults (link_of self.new)) result }
+        ensures steady { IsSteady L.steady L.faults (link_of self.old) → (base : List Level) (commands : List Spec.Command) (checks : List Check) → Stands L.dialogue base self.old commands checks
+            → AreCommands (commands ++ question (is_in_member self.old) (map shared path.now) (shared condition.now)) → IsSteady L.steady L.faults (link_of self.new) }
         ensures closed { (result ≡ Err Talk.Closed) ↔ (has_failed self.old ≡ true) }
         ensures failed { has_failed self.new ≡ is_err result }
     {
@@ -232,9 +244,10 @@ impl<L: Link> Dialogue<L> {
             → Gathers L.dialogue self.new (commands ++ Spec.Pop 1 ∷ []) (checks ++ told_check (stack_of commands) reply ∷ [])) }
         ensures free { OnOk result ((self.new.owed ≡ None) × (self.new.count ≡ 1)) }
         ensures same { (self.new.in_member ≡ self.old.in_member) × (self.new.failed ≡ self.old.failed) }
-        ensures fault { IfErr result (λ talk. self.old.owed ≡ Some owed → (commands : List Spec.Command) (checks : List Check) → Waits L.dialogue self.old commands checks → Explains talk (got (L.dialogue self.new.link)) commands) }
+        ensures fault { IfErr result (λ talk. self.old.owed ≡ Some owed → (commands : List Spec.Command) (checks : List Check) → Waits L.dialogue self.old commands checks → Breaks talk (L.dialogue self.new.link) checks) }
         ensures grows { Grows (L.dialogue self.old.link) (L.dialogue self.new.link) }
         ensures cause { HasCause Talk.Pipe (L.faults self.old.link) (L.faults self.new.link) result }
+        ensures steady { IsSteady L.steady L.faults self.old.link → self.old.owed ≡ Some owed → (commands : List Spec.Command) (checks : List Check) → Waits L.dialogue self.old commands checks → AreCommands commands → IsSteady L.steady L.faults self.new.link }
         ensures open { result ≡ Err Talk.Closed → ⊥ }
     {
         expect_successes(alloc, &mut self.link, &mut self.unread, owed)?;
@@ -256,9 +269,11 @@ impl<L: Link> Dialogue<L> {
             → Stands L.dialogue base self.new (commands ++ Spec.Pop 1 ∷ []) (checks ++ check_of base path condition reply ∷ [])) }
         ensures free { IsFree self.new }
         ensures fault { IfErr result (λ talk. (base : List Level) (path : List Written.Term) (condition : Written.Term) (commands : List Spec.Command) (checks : List Check)
-            → Asks L.dialogue base path condition self.old commands checks → Explains talk (got (L.dialogue (link_of self.new))) commands) }
+            → Asks L.dialogue base path condition self.old commands checks → Breaks talk (L.dialogue (link_of self.new)) checks) }
         ensures grows { Grows (L.dialogue (link_of self.old)) (L.dialogue (link_of self.new)) }
         ensures cause { HasCause Talk.Pipe (L.faults (link_of self.old)) (L.faults (link_of self.new)) result }
+        ensures steady { IsSteady L.steady L.faults (link_of self.old) → (base : List Level) (path : List Written.Term) (condition : Written.Term) (commands : List Spec.Command) (checks : List Check)
+            → Asks L.dialogue base path condition self.old commands checks → AreCommands commands → IsSteady L.steady L.faults (link_of self.new) }
         ensures closed { (result ≡ Err Talk.Closed) ↔ (has_failed self.old ≡ true) }
         ensures failed { has_failed self.new ≡ is_err result }
     {
@@ -289,9 +304,11 @@ impl<L: Link> Dialogue<L> {
             (checks ++ check_of base (map shared path.now) (shared condition.now) reply ∷ [])) }
         ensures free { IsFree self.new }
         ensures fault { IfErr result (λ talk. (base : List Level) (commands : List Spec.Command) (checks : List Check) → Stands L.dialogue base self.old commands checks
-            → Explains talk (got (L.dialogue (link_of self.new))) ((commands ++ question (is_in_member self.old) (map shared path.now) (shared condition.now)) ++ Spec.CheckSat ∷ [])) }
+            → Breaks talk (L.dialogue (link_of self.new)) checks) }
         ensures grows { Grows (L.dialogue (link_of self.old)) (L.dialogue (link_of self.new)) }
         ensures cause { HasCause Talk.Pipe (L.faults (link_of self.old)) (L.faults (link_of self.new)) result }
+        ensures steady { IsSteady L.steady L.faults (link_of self.old) → (base : List Level) (commands : List Spec.Command) (checks : List Check) → Stands L.dialogue base self.old commands checks
+            → AreCommands (commands ++ question (is_in_member self.old) (map shared path.now) (shared condition.now)) → IsSteady L.steady L.faults (link_of self.new) }
         ensures closed { (result ≡ Err Talk.Closed) ↔ (has_failed self.old ≡ true) }
         ensures failed { has_failed self.new ≡ is_err result }
     {

@@ -5,6 +5,7 @@ ghost use Rattle.vx_ends.specs.Causes.{HasCause};
 ghost use Rattle.vx_sexp.specs.First.{IsFirst};
 ghost use Rattle.vx_sexp.specs.Pieces.{EndsAt};
 ghost use Rattle.vx_dialogue.specs.Items.{Keeps, ReadsItem, GivesNoItem, GivesNoReply, without_blanks, kept_of, is_lawful};
+ghost use Rattle.vx_dialogue.specs.Steady.{IsSteady, Owes};
 ghost use Rattle.vx_smt_meaning.specs.Replies.{is_word_item, is_headed_by, is_refusal, answer_of};
 
 use crate::Talk;
@@ -77,6 +78,7 @@ pub fn next_item<L: Link>(
     ensures grows { Grows (L.dialogue link.old) (L.dialogue link.new) }
     ensures pieces { GetsOn (L.dialogue link.old) (L.dialogue link.new) }
     ensures cause { HasCause Talk.Pipe (L.faults link.old) (L.faults link.new) result }
+    ensures steady { IsSteady L.steady L.faults link.old → Owes 1 (L.dialogue link.old) unread.old.items → IsSteady L.steady L.faults link.new }
 {
     let mut reading = Reading::new();
     'reading: loop {
@@ -164,6 +166,7 @@ pub fn expect<L: Link>(
     ensures pieces { GetsOn (L.dialogue link.old) (L.dialogue link.new) }
     ensures cause { HasCause Talk.Pipe (L.faults link.old) (L.faults link.new) result }
     ensures open { result ≡ Err Talk.Closed → ⊥ }
+    ensures steady { IsSteady L.steady L.faults link.old → Owes 1 (L.dialogue link.old) unread.old.items → IsSteady L.steady L.faults link.new }
 {
     let (item, end) = match next_item(alloc, link, unread) {
         Ok(found) => found,

@@ -3,12 +3,10 @@ use Rattle.std.proofs.Common.{◌≡◌, ℕ, zero, suc, ◌≤◌, Bool, true, 
 use Rattle.std.proofs.Math.Seq.{take-append_seam}
 use Rattle.vx_ast.specs.declared.ValueType.{ValueType}
 use Rattle.vx_ast.specs.Syntax.{Name, same_name, Program, Declaration, Method, place_of, Assertion, Pure, Points, Instance, Both, Implied, Chosen, Stmt, Declare, Assign, Write, New, Call, Inhale, Exhale, Assert, Assume, Fold, Unfold, If, While, Block, Done, Then}
-use Rattle.vx_terms.specs.Sorts.{Sort, Variable}
+use Rattle.vx_terms.specs.Sorts.{Sort}
 use Rattle.vx_terms.specs.Terms.{Term, sort_of}
 use Rattle.vx_terms.specs.Build.{unit, pair, equals, variable, whole_amount}
-use Rattle.vx_terms.specs.Formed.{Formed, constant}
-use Rattle.vx_terms.proofs.Values.{sort_of_formed, formed_le}
-use Rattle.vx_terms.proofs.Build.{equals_formed}
+use Rattle.vx_terms.proofs.Values.{sort_of_formed}
 use Rattle.vx_rules.specs.States as rules
 use Rattle.vx_rules.specs.States.{sort_of_type}
 use Rattle.vx_rules.specs.Trees.{AssertCode, PermissionCode, PostCode, Tree, Step, Fork}
@@ -21,11 +19,12 @@ use Rattle.vx_sound.specs.Live.{AllLive, LiveLaw}
 use Rattle.vx_sound.proofs.Stands.{name_is}
 use Rattle.vx_sound.proofs.Execute.{scope_more, small_append, still_small, still_small_all}
 use Rattle.vx_sound.proofs.Methods.{joined_typed, joined_plain, typed_longer, all_typed_longer}
+use Rattle.vx_sound.proofs.Nameless.{Fine, fine_le, variable_fine, built_sort, built_type, equals_fine}
 use Rattle.vx_sound.proofs.Live.{StoreShape, Shaped, Later, Follows, fact_later, fresh_later, ask_live, fork_live, eval_live}
 
 -- Stores
 
-shape_append : (n : ℕ) (scope : Scope) (xs : rules.Store) (d : Declaration) (u : Term) → StoreShape n scope xs → Formed n u (sort_of_type d.of) → StoreShape n (scope ++ d ∷ []) (xs ++ (d.name, u) ∷ [])
+shape_append : (n : ℕ) (scope : Scope) (xs : rules.Store) (d : Declaration) (u : Term) → StoreShape n scope xs → Fine n u (sort_of_type d.of) → StoreShape n (scope ++ d ∷ []) (xs ++ (d.name, u) ∷ [])
 shape_append n [] [] d u h f = (refl, f, tt)
 shape_append n (c ∷ ds) (x ∷ xs) d u h f = (h.0, h.1, shape_append n ds xs d u h.2 f)
 shape_append n [] (x ∷ xs) d u h f = absurd h
@@ -47,7 +46,7 @@ shape_length n (c ∷ ds) [] h = absurd h
 some_is : {A : Type 0} (a b : A) → Some a ≡ Some b → a ≡ b
 some_is a b e = cc
 
-shape_assign : (n : ℕ) (x : Name) (t : ValueType) (u : Term) (scope : Scope) (xs : rules.Store) → StoreShape n scope xs → type_in x scope ≡ Some t → Formed n u (sort_of_type t) → StoreShape n scope (rules.assign x u xs)
+shape_assign : (n : ℕ) (x : Name) (t : ValueType) (u : Term) (scope : Scope) (xs : rules.Store) → StoreShape n scope xs → type_in x scope ≡ Some t → Fine n u (sort_of_type t) → StoreShape n scope (rules.assign x u xs)
 shape_assign n x t u [] xs h e f = cc
 shape_assign n x t u (d ∷ ds) [] h e f = absurd h
 shape_assign n x t u (d ∷ ds) (a ∷ xs) h e f =
@@ -56,7 +55,7 @@ shape_assign n x t u (d ∷ ds) (a ∷ xs) h e f =
   where
     go : (q : Bool) → same_name x d.name ≡ q → cond q (Some d.of) (type_in x ds) ≡ Some t → (type_in x ds ≡ Some t → StoreShape n ds (rules.assign x u xs)) →
         StoreShape n (d ∷ ds) (cond q ((x, u) ∷ xs) (a ∷ rules.assign x u xs))
-    go true m k r = (name_is (λ g es e. Unit {0}) [] x d.name m, subst (λ y. Formed n u (sort_of_type y)) (sym (some_is d.of t k)) f, h.2)
+    go true m k r = (name_is (λ g es e. Unit {0}) [] x d.name m, subst (λ y. Fine n u (sort_of_type y)) (sym (some_is d.of t k)) f, h.2)
     go false m k r = (h.0, h.1, r k)
 
 -- Naming and declaring
@@ -64,23 +63,23 @@ shape_assign n x t u (d ∷ ds) (a ∷ xs) h e f =
 record Named (scope : Scope) (n : ℕ) (a : Sort) (u : Term) (s : rules.State) : Type 0 where
   pub le : n ≤ s.next
   pub shaped : Shaped scope s
-  pub formed : Formed s.next u a
+  pub formed : Fine s.next u a
 
-named : {scope : Scope} {s : rules.State} (t : Term) (a : Sort) → Shaped scope s → Formed s.next t a → Named scope s.next a (rules.name_of t s) (rules.after_name t s)
+named : {scope : Scope} {s : rules.State} (t : Term) (a : Sort) → Shaped scope s → Fine s.next t a → Named scope s.next a (rules.name_of t s) (rules.after_name t s)
 named {scope = scope} {s = s} t a sh f = go (rules.is_named t s)
   where
-    symbol : Formed (suc s.next) (variable s.next (sort_of t)) a
-    symbol = subst (λ b. Formed (suc s.next) (variable s.next (sort_of t)) b) (sort_of_formed f) (constant (Variable s.next) (sort_of t) (lt-suc_self s.next))
+    symbol : Fine (suc s.next) (variable s.next (sort_of t)) a
+    symbol = subst (λ b. Fine (suc s.next) (variable s.next (sort_of t)) b) (sort_of_formed f.0) (variable_fine s.next (sort_of t) (built_sort t f.1) (lt-suc_self s.next))
 
     fresh : Later scope s.next (rules.after_fresh s)
     fresh = fresh_later sh
 
     after : Later scope (suc s.next) (rules.with_fact (equals (variable s.next (sort_of t)) t) (rules.after_fresh s))
-    after = fact_later (equals (variable s.next (sort_of t)) t) fresh.shaped (equals_formed symbol (formed_le fresh.le f))
+    after = fact_later (equals (variable s.next (sort_of t)) t) fresh.shaped (equals_fine symbol (fine_le fresh.le f))
 
     go : (b : Bool) → Named scope s.next a (cond b t (variable s.next (sort_of t))) (cond b s (rules.with_fact (equals (variable s.next (sort_of t)) t) (rules.after_fresh s)))
     go true = record { le = le_refl _; shaped = sh; formed = f }
-    go false = record { le = le_trans fresh.le after.le; shaped = after.shaped; formed = formed_le after.le symbol }
+    go false = record { le = le_trans fresh.le after.le; shaped = after.shaped; formed = fine_le after.le symbol }
 
 declared : {scope : Scope} {s : rules.State} (d : Declaration) → Shaped scope s → Later (scope ++ d ∷ []) s.next (rules.declare_fresh d.name (sort_of_type d.of) s)
 declared {scope = scope} {s = s} d sh =
@@ -88,7 +87,7 @@ declared {scope = scope} {s = s} d sh =
     record {
       le = f.le;
       shaped = record {
-        store = shape_append (suc s.next) scope s.store d (variable s.next (sort_of_type d.of)) f.shaped.store (constant (Variable s.next) (sort_of_type d.of) (lt-suc_self s.next));
+        store = shape_append (suc s.next) scope s.store d (variable s.next (sort_of_type d.of)) f.shaped.store (variable_fine s.next (sort_of_type d.of) (built_type d.of) (lt-suc_self s.next));
         path = f.shaped.path;
       };
     }

@@ -1,9 +1,8 @@
 -- How the checks of a lane's child are heard, from one call to the next.
-use Rattle.std.proofs.Common.{Bool, true, Result, Ok, Err, IfOk, IfErr, ◌≡◌, ℕ, ◌<◌, ◌≤◌, false, ◌++◌, ◌∷◌, [], List, refl, ap, ◌∙◌, sym, subst, inl, inr, append_assoc, arith}
+use Rattle.std.proofs.Common.{Bool, true, Result, Ok, Err, IfOk, IfErr, MatchResult, ◌≡◌, ℕ, ◌<◌, ◌≤◌, false, ◌++◌, ◌∷◌, [], List, refl, ap, ◌∙◌, sym, subst, inl, inr, ◌⊎◌, append_assoc, arith}
 use Rattle.vx_ends.specs.declared.piece.Piece.{Piece}
 use Rattle.vx_ends.specs.declared.piece.Ending.{Ending}
 use Rattle.vx_ends.specs.Causes.{Rose}
-use Rattle.vx_ends.specs.Dialogue.{got, Begins, Grows}
 use Rattle.vx_smt_meaning.specs.Commands.{Command, Level}
 use Rattle.vx_smt_meaning.specs.Dialogues.{Check}
 use Rattle.vx_smt_meaning.specs.declared.reply.Reply.{Reply}
@@ -12,9 +11,9 @@ use Rattle.vx_dialogue.specs.declared.talk.Talk.{Talk}
 use Rattle.vx_dialogue.specs.declared.talk.Talk.TheVariants as talk
 use Rattle.vx_dialogue.specs.Dialogue.{Stands, link_of, check_of}
 use Rattle.vx_dialogue.specs.Stops.{Explains}
-use Rattle.vx_dialogue.specs.History.{Tells}
+use Rattle.vx_dialogue.specs.History.{Tells, Breaks}
 use Rattle.vx_dialogue.proofs.Joined.{append_none}
-use Rattle.vx_dialogue.proofs.History.{tells_none, standing_tells, tells_on}
+use Rattle.vx_dialogue.proofs.History.{standing_tells, tells_failed}
 use Rattle.vx_rules.specs.Trees.{Question}
 use Rattle.vx_report.specs.declared.run.Cause.{Cause}
 use Rattle.vx_report.specs.declared.run.Cause.TheVariants as cause
@@ -24,12 +23,13 @@ use Rattle.vx_verifier.specs.declared.lane.Child.{Child}
 use Rattle.vx_verifier.specs.declared.lane.Child.TheVariants.{NotStarted, Talking, Lost}
 use Rattle.vx_terms.specs.Terms.{Term}
 use Rattle.vx_verifier.specs.Sequences.{IsCheckOf}
-use Rattle.vx_verifier.specs.Headline.{HasCauseOf, IsRecorded}
-use Rattle.vx_verifier.specs.Lanes.{Hears, HearsOf, IsCausedBy, trouble_of, Handed, Later, is_lost}
+use Rattle.vx_verifier.specs.Causes.{HasCauseOf}
+use Rattle.vx_verifier.specs.Headline.{IsRecorded}
+use Rattle.vx_ends.specs.declared.piece.Start.{Start}
+use Rattle.vx_verifier.specs.Lanes.{Hears, HearsOf, IsCausedBy, Loses, trouble_of, Handed, Later, StartsWhere, IsFaultOf, is_fault, is_lost, is_started}
+use Rattle.vx_report.specs.declared.run.Verdict.{Verdict}
+use Rattle.vx_report.specs.Reports.{is_faulted}
 use Rattle.vx_verifier.proofs.Sequences.{check_is}
-
-pub begins_itself : (xs : List Piece) → Begins xs xs
-begins_itself xs = record { rest = []; is = sym (append_none xs) }
 
 pub handed_itself : (xs : List Ending) → Handed xs xs
 handed_itself xs = record { more = []; is = sym (append_none xs) }
@@ -54,13 +54,8 @@ module _ {L : Type 0} (dialogue : L → List Piece) (before : List Ending) where
       (same ∙ heard.0, base, commands, subst (λ x. Stands dialogue base d commands x) (sym heard.1) stands)
 
   -- no child is started
-  pub not_started : (old new : List Ending) (checks : List Check) → new ≡ old → Hears dialogue before old NotStarted checks → IsRecorded before new checks
-  not_started old new checks same heard = inl (same ∙ heard.0, heard.1)
-
-  -- its preamble fails
-  pub not_opened : (old new : List Ending) (e : Ending) (checks : List Check) → new ≡ old ++ e ∷ [] → e.lane ≡ 0 → Hears dialogue before old NotStarted checks → IsRecorded before new checks
-  not_opened old new e checks is lane heard =
-      inr (e, is ∙ ap (λ x. x ++ e ∷ []) heard.0, lane, subst (λ x. Tells e.dialogue x) (sym heard.1) (tells_none e.dialogue))
+  pub not_started : (failed : Bool) (old new : List Ending) (checks : List Check) → new ≡ old → Hears dialogue before old NotStarted checks → IsRecorded failed before new checks
+  not_started failed old new checks same heard = inl (same ∙ heard.0, heard.1)
 
   -- a question is answered
   pub answered : (old new : List Ending) (d d' : Dialogue L) (q : Question) (path : List Term) (r : Reply) (after : List Command → List Command) → path ≡ q.path
@@ -83,55 +78,36 @@ module _ {L : Type 0} (dialogue : L → List Piece) (before : List Ending) where
 
   -- a link is handed back
   pub recorded : (old new : List Ending) (d : Dialogue L) (e : Ending) (checks : List Check) → new ≡ old ++ e ∷ [] → e.lane ≡ 0
-      → Grows (dialogue (link_of d)) e.dialogue → Hears dialogue before old (Talking d) checks → IsRecorded before new checks
-  recorded old new d e checks is lane grows heard =
+      → e.dialogue ≡ dialogue (link_of d) → Hears dialogue before old (Talking d) checks → IsRecorded false before new checks
+  recorded old new d e checks is lane same heard =
       inr (
         e,
         is ∙ ap (λ x. x ++ e ∷ []) heard.0,
         lane,
-        tells_on (dialogue (link_of d)) e.dialogue checks (grows (dialogue (link_of d)) (begins_itself (dialogue (link_of d)))) (standing_tells dialogue heard.1 d heard.2 checks heard.3),
+        subst (λ x. Tells false x checks) (sym same) (standing_tells dialogue heard.1 d heard.2 checks heard.3),
       )
 
   -- why no reply came
-  talk_causes : (new : List Ending) (f g : ℕ) (t : Talk) (e : Ending) (commands : List Command) → new ≡ before ++ e ∷ []
-      → Explains t (got e.dialogue) commands → (t ≡ talk.Pipe → 0 < e.faults) → (t ≡ talk.Closed → ⊥) → IsCausedBy (HasCauseOf before new f g false) (trouble_of t)
-  talk_causes new f g talk.Pipe e commands is explained rose shut = (refl, (e, [], is, rose refl))
-  talk_causes new f g (talk.Garbled kept) e commands is explained rose shut = (refl, (e, [], is, (commands, inl explained)))
-  talk_causes new f g (talk.Refused kept) e commands is explained rose shut = (refl, (e, [], is, (commands, inr explained)))
-  talk_causes new f g talk.Want e commands is explained rose shut = tt
-  talk_causes new f g talk.Closed e commands is explained rose shut = absurd (shut refl)
+  talk_causes : (new : List Ending) (f g : ℕ) (t : Talk) (e : Ending) → new ≡ before ++ e ∷ []
+      → Explains t e.dialogue → (t ≡ talk.Pipe → 0 < e.faults) → (t ≡ talk.Closed → ⊥) → IsCausedBy (HasCauseOf before new f g false) (trouble_of t)
+  talk_causes new f g talk.Pipe e is explained rose shut = (refl, (e, [], is, rose refl))
+  talk_causes new f g (talk.Garbled kept) e is explained rose shut = (refl, (e, [], is, inl explained))
+  talk_causes new f g (talk.Refused kept) e is explained rose shut = (refl, (e, [], is, inr explained))
+  talk_causes new f g talk.Want e is explained rose shut = tt
+  talk_causes new f g talk.Closed e is explained rose shut = absurd (shut refl)
 
-  -- a question has no reply, and the link is handed back
-  pub lost_by : (faults : L → ℕ) (old new : List Ending) (f g : ℕ) (d d' : Dialogue L) (link : L) (t : Talk) (commands : List Command) (checks : List Check) (before_faults : ℕ)
-      → new ≡ old ++ record { lane = 0; dialogue = dialogue link; faults = faults link } ∷ [] → link ≡ link_of d' → Grows (dialogue (link_of d)) (dialogue (link_of d'))
-      → Explains t (got (dialogue (link_of d'))) commands → (t ≡ talk.Pipe → Rose before_faults (faults (link_of d'))) → (t ≡ talk.Closed → ⊥)
-      → Hears dialogue before old (Talking d) checks → IsRecorded before new checks × IsCausedBy (HasCauseOf before new f g false) (trouble_of t)
-  lost_by faults old new f g d d' link t commands checks before_faults is same grows explained rose shut heard =
-      let e : Ending = record { lane = 0; dialogue = dialogue link; faults = faults link } in
-      let grows_on : Grows (dialogue (link_of d)) (dialogue link) = subst (λ x. Grows (dialogue (link_of d)) (dialogue x)) (sym same) grows in
-      let explained_on : Explains t (got (dialogue link)) commands = subst (λ x. Explains t (got (dialogue x)) commands) (sym same) explained in
-      let rose_on : t ≡ talk.Pipe → 0 < faults link = λ h. subst (λ x. 0 < faults x) (sym same) (above_none before_faults _ (rose h)) in (
-        recorded old new d e checks is refl grows_on heard,
-        talk_causes new f g t e commands (is ∙ ap (λ x. x ++ e ∷ []) heard.0) explained_on rose_on shut,
-      )
-
-  -- the preamble fails, and the link is handed back
-  pub not_opened_by : (faults : L → ℕ) (old new : List Ending) (f g : ℕ) (link : L) (t : Talk) (commands : List Command) (checks : List Check) (before_faults : ℕ)
-      → new ≡ old ++ record { lane = 0; dialogue = dialogue link; faults = faults link } ∷ []
-      → Explains t (got (dialogue link)) commands → (t ≡ talk.Pipe → Rose before_faults (faults link)) → (t ≡ talk.Closed → ⊥)
-      → Hears dialogue before old NotStarted checks → IsRecorded before new checks × IsCausedBy (HasCauseOf before new f g false) (trouble_of t)
-  not_opened_by faults old new f g link t commands checks before_faults is explained rose shut heard =
-      let e : Ending = record { lane = 0; dialogue = dialogue link; faults = faults link } in
-      let rose_on : t ≡ talk.Pipe → 0 < faults link = λ h. above_none before_faults (faults link) (rose h) in (
-        not_opened old new e checks is refl heard,
-        talk_causes new f g t e commands (is ∙ ap (λ x. x ++ e ∷ []) heard.0) explained rose_on shut,
-      )
+  -- a call gives no reply, and the link is handed back
+  pub lost_by : (old new : List Ending) (f g : ℕ) (e : Ending) (t : Talk) (checks : List Check) → old ≡ before → new ≡ old ++ e ∷ [] → e.lane ≡ 0
+      → Breaks t e.dialogue checks → (t ≡ talk.Pipe → 0 < e.faults) → (t ≡ talk.Closed → ⊥) → Loses before new f g false checks (trouble_of t)
+  lost_by old new f g e t checks first is lane broken rose shut =
+      let here = is ∙ ap (λ x. x ++ e ∷ []) first in
+      (inr (e, here, lane, broken.told), talk_causes new f g t e here broken.explained rose shut)
 
   pub at_child : (old : List Ending) (a b : Child L) → a ≡ b → (checks : List Check) → Hears dialogue before old a checks → Hears dialogue before old b checks
   at_child old a b same checks heard = subst (λ (x : Child L). Hears dialogue before old x checks) same heard
 
 pub lost_hears : {L : Type 0} (dialogue : L → List Piece) (before now : List Ending) (child : Child L) (checks : List Check) → is_lost child ≡ true
-    → IsRecorded before now checks → Hears dialogue before now child checks
+    → IsRecorded true before now checks → Hears dialogue before now child checks
 lost_hears dialogue before now Lost checks lost heard = heard
 lost_hears dialogue before now NotStarted checks lost heard = cc
 lost_hears dialogue before now (Talking d) checks lost heard = cc
@@ -145,6 +121,12 @@ if_err_at r P x h is = subst (λ y. IfErr y P) is h
 pub if_err_map : {T E : Type 0} (r : Result T E) (P Q : E → Type 0) → ((e : E) → P e → Q e) → IfErr r P → IfErr r Q
 if_err_map (Ok x) P Q f h = h
 if_err_map (Err e) P Q f h = f e h
+
+pub match_ok_at : {T E : Type 0} (r : Result T E) (P : T → Type 0) (Q : E → Type 0) (x : T) → MatchResult r P Q → r ≡ Ok x → P x
+match_ok_at r P Q x h is = subst (λ y. MatchResult y P Q) is h
+
+pub match_err_at : {T E : Type 0} (r : Result T E) (P : T → Type 0) (Q : E → Type 0) (x : E) → MatchResult r P Q → r ≡ Err x → Q x
+match_err_at r P Q x h is = subst (λ y. MatchResult y P Q) is h
 
 -- Causes in a longer time.
 
@@ -162,3 +144,28 @@ pub caused_earlier : (before now : List Ending) (f g h : ℕ) → f ≤ g → (l
     → IsCausedBy (HasCauseOf before now g h lost) t → IsCausedBy (HasCauseOf before now f h other) t
 caused_earlier before now f g h earlier lost other same (trouble.Fault x) has = cause_earlier before now f g h earlier lost other same x has
 caused_earlier before now f g h earlier lost other same trouble.Want has = has
+
+-- where a child failed, all may be answered as well
+pub lost_recorded : (before now : List Ending) (checks : List Check) → IsRecorded false before now checks → IsRecorded true before now checks
+lost_recorded before now checks (inl none) = inl none
+lost_recorded before now checks (inr some) = inr (some.0, some.1, some.2, tells_failed some.0.dialogue checks some.3)
+
+-- a lost child was started
+pub lost_started : {L : Type 0} (child : Child L) → is_lost child ≡ true → is_started child ≡ true
+lost_started Lost lost = refl
+lost_started NotStarted lost = cc
+lost_started (Talking d) lost = refl
+
+pub starts_once : (started : Bool) (old new : List Start) (start : Start) → StartsWhere started old new start → (new ≡ old) ⊎ (new ≡ old ++ start ∷ [])
+starts_once true old new start is = inr is
+starts_once false old new start is = inl is
+
+-- a fault takes the child with it
+pub gone_by : {L T : Type 0} (child : Child L) (r : Result T Trouble) (t : Trouble) (v : Verdict)
+    → MatchResult r (λ _. (is_started child ≡ true) × (is_lost child ≡ false)) (λ trouble. is_fault trouble ≡ true → is_lost child ≡ true) → r ≡ Err t → IsFaultOf t v → is_lost child ≡ true
+gone_by (child) r (trouble.Fault x) v after is fault = match_err_at r _ _ (trouble.Fault x) after is refl
+gone_by (child) r trouble.Want v after is fault = absurd fault
+
+pub faulted_by : (t : Trouble) (v : Verdict) → IsFaultOf t v → is_faulted v ≡ true
+faulted_by (trouble.Fault x) v fault = ap is_faulted fault
+faulted_by trouble.Want v fault = absurd fault

@@ -1,9 +1,14 @@
 mod Walks
 mod Sequences
 mod Runs
+mod Covered
 mod Children
+mod Complete
 mod Members
 mod Questions
 mod Covered
 mod Statuses
 mod Typing
+mod Steady
+mod Replies
+mod Spelled

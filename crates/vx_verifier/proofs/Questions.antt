@@ -1,5 +1,5 @@
 -- A member's questions, one by one, and its verdict at the end.
-use Rattle.std.proofs.Common.{◌≡◌, ℕ, ◌+◌, ◌++◌, ◌∷◌, [], List, length, map, refl, ap, ◌∙◌, sym, subst, append_assoc, arith}
+use Rattle.std.proofs.Common.{◌≡◌, ℕ, ◌+◌, ◌<◌, ◌||◌, ◌⊎◌, inl, inr, Bool, true, false, ◌++◌, ◌∷◌, [], List, length, map, refl, ap, ◌∙◌, sym, subst, append_assoc, arith}
 use Rattle.vx_ast.specs.Syntax.{Program}
 use Rattle.vx_smt_meaning.specs.Dialogues.{Check}
 use Rattle.vx_report.specs.declared.run.Cause.{Cause}
@@ -15,15 +15,19 @@ use Rattle.vx_machine.specs.declared.machine.Outcome.{Outcome}
 use Rattle.vx_machine.specs.declared.machine.Outcome.TheVariants as outcome
 use Rattle.vx_machine.specs.Runs.{Told, EachAnswered, given, member_tree}
 use Rattle.vx_verifier.specs.Sequences.{IsCheckOf, AreChecksOf}
-use Rattle.vx_verifier.specs.Headline.{IsVerdictOf, IsTold}
+use Rattle.vx_report.specs.declared.run.Cause.TheVariants as cause
+use Rattle.vx_verifier.specs.Causes.{HasCauseOf}
+use Rattle.vx_verifier.specs.Headline.{IsVerdictOf, IsTold, IsSpentAfter, is_open, has_question, walk_of}
 use Rattle.vx_ends.specs.declared.piece.Piece.{Piece}
 use Rattle.vx_ends.specs.declared.piece.Ending.{Ending as Ended}
 use Rattle.vx_machine.specs.declared.machine.Ask.{Ask}
 use Rattle.vx_verifier.specs.declared.lane.Child.{Child}
 use Rattle.vx_verifier.specs.declared.lane.Trouble.{Trouble}
 use Rattle.vx_verifier.specs.declared.lane.Trouble.TheVariants as trouble
-use Rattle.vx_verifier.specs.Lanes.{AreAsked, verdict_of, Hears, HearsOf, IsRunning, IsFaultOf, IsCausedBy, Judges}
+use Rattle.vx_verifier.specs.Lanes.{AreAsked, IsDue, is_started, verdict_of, Hears, HearsOf, IsRunning, IsFaultOf, IsCausedBy, Judges}
+use Rattle.vx_verifier.specs.Steady.{IsSpelled, AllSpelled}
 use Rattle.vx_verifier.proofs.Walks.{walk_extends}
+use Rattle.vx_verifier.proofs.Steady.{open_spelled}
 use Rattle.vx_verifier.proofs.Sequences.{checks_more, replies_more, never_fails}
 
 map_length : {A B : Type 0} (f : A → B) (xs : List A) → length (map f xs) ≡ length xs
@@ -87,42 +91,124 @@ judged p n m own HasCause v member so_far has =
       sound = λ is right. never_fails p n own checks (passed_of HasCause _ (length own) v verdict_is is) right;
     }
 
+-- behind a fault of the lane
+none_own : (own : List Check) → length own ≡ 0 → own ≡ []
+none_own [] none = refl
+none_own (c ∷ cs) none = absurd (omega arith)
+
+spent_verdict : (before now : List Ended) (f g : ℕ) (e : Ending) (v : Verdict) → IsVerdictOf (HasCauseOf before now f g true) e 0 v → is_open e ≡ true → v ≡ verdict.Fault cause.Spent
+spent_verdict before now f g e verdict.Verified has asks = let h = ap is_open has in cc
+spent_verdict before now f g e (verdict.Failed place c r) has asks = let h = ap is_open has in cc
+spent_verdict before now f g e verdict.Limit has asks = let h = has.0 in absurd (omega arith)
+spent_verdict before now f g e (verdict.Fault cause.Pipe) has asks = let h = has.0.0 in cc
+spent_verdict before now f g e (verdict.Fault cause.Start) has asks = let h = has.0.0 in cc
+spent_verdict before now f g e (verdict.Fault cause.Spent) has asks = refl
+spent_verdict before now f g e (verdict.Fault (cause.Reply kept)) has asks = let h = has.0.0 in cc
+
+spent_after : (p : Program) (n : ℕ) (before now : List Ended) (f g : ℕ) (lost : Bool) (own : List Check) (v : Verdict) → IsTold p n (HasCauseOf before now f g lost) own v
+    → (lost ≡ true → length own ≡ 0) → IsSpentAfter lost p n own v
+spent_after p n before now f g false own v told silent = tt
+spent_after p n before now f g true own v told silent =
+    let none = none_own own (silent refl) in (
+      none,
+      λ asks. spent_verdict before now f g (walk_of p n []).ending v (subst (λ o. IsVerdictOf (HasCauseOf before now f g true) (walk_of p n o).ending (length o) v) none told.verdict) asks,
+    )
+
+-- whether a member has a question is seen at its machine's first answer
+pub asks_first : (p : Program) (n : ℕ) (m : Machine) (q : Query) → IsRunning p n m (Due q) → m.replies.items ≡ [] → has_question p n ≡ true
+asks_first p n m q running none =
+    let given_none : given m ≡ [] = none in
+    let ending = subst (λ rs. (walk (member_tree p n) rs).ending ≡ Open (query q)) given_none running.told.0 in
+    ap is_open ending
+
+asks_nothing : (o : Outcome) (w : Walked) (checks : ℕ) → checks ≡ 0 → Told (Done o) w 100000 checks → is_open w.ending ≡ false
+asks_nothing outcome.Passed w checks none told = ap is_open told
+asks_nothing (outcome.Failed place c r) w checks none told = ap is_open told
+asks_nothing (outcome.Limit n) w checks none told = let h = told.1 in absurd (omega arith)
+
+pub ends_first : (p : Program) (n : ℕ) (m : Machine) (o : Outcome) → IsRunning p n m (Done o) → m.replies.items ≡ [] → has_question p n ≡ false
+ends_first p n m o running none =
+    let given_none : given m ≡ [] = none in
+    let here = asks_nothing o (walk (member_tree p n) (given m)) (length m.replies.items) (ap length none) running.told in
+    subst (λ rs. is_open (walk (member_tree p n) rs).ending ≡ false) given_none here
+
+abbrev SoAsked : {L : Type 0} → Program → ℕ → Machine → (child first : Child L) → Type 0
+SoAsked p n m child first = ((m.replies.items ≡ []) × (is_started child ≡ is_started first)) ⊎ ((is_started child ≡ true) × (has_question p n ≡ true))
+
+pub asked_by : {L : Type 0} (p : Program) (n : ℕ) (m : Machine) (ask : Ask) (q : Query) (child first : Child L) → IsRunning p n m ask → ask ≡ Due q → SoAsked p n m child first → has_question p n ≡ true
+asked_by p n m ask q child first running is (inl none) = asks_first p n m q (subst (IsRunning p n m) is running) none.0
+asked_by p n m ask q child first running is (inr some) = some.1
+
+or_true : (a : Bool) → (a || true) ≡ true
+or_true true = refl
+or_true false = refl
+
+or_false : (a : Bool) → (a || false) ≡ a
+or_false true = refl
+or_false false = refl
+
+pub started_done : {L : Type 0} (p : Program) (n : ℕ) (m : Machine) (ask : Ask) (o : Outcome) (child first : Child L) → IsRunning p n m ask → ask ≡ Done o → SoAsked p n m child first
+    → is_started child ≡ (is_started first || has_question p n)
+started_done p n m ask o child first running is (inl none) =
+    none.1 ∙ sym (ap (λ x. is_started first || x) (ends_first p n m o (subst (IsRunning p n m) is running) none.0) ∙ or_false (is_started first))
+started_done p n m ask o child first running is (inr some) = some.0 ∙ sym (ap (λ x. is_started first || x) some.1 ∙ or_true (is_started first))
+
+pub started_fault : (first : Bool) {now asks : Bool} → now ≡ true → asks ≡ true → now ≡ (first || asks)
+started_fault first {now = now} {asks = asks} here asked = here ∙ sym (ap (λ x. first || x) asked ∙ or_true first)
+
+-- the question that is due is one of the member's tree
+pub due_spelled : (p : Program) (n : ℕ) (m : Machine) (ask : Ask) (q : Query) → IsRunning p n m ask → ask ≡ Due q → AllSpelled (member_tree p n) → IsSpelled (query q)
+due_spelled p n m ask q running is spelled =
+    let due = subst (λ a. Told a (walk (member_tree p n) (given m)) 100000 (length m.replies.items)) is running.told in
+    open_spelled (member_tree p n) (given m) (query q) spelled due.0
+
 -- A member's execution, between two questions.
 module _ {L : Type 0} (dialogue : L → List Piece) (p : Program) (n : ℕ) (before : List Ended) where
   told_count : (m : Machine) (ask : Ask) (own : List Check) → IsRunning p n m ask → AreAsked p m own → length own ≡ length m.replies.items
   told_count m ask own running so_far =
       asked_count p m own so_far (subst (λ k. EachAnswered (walk (member_tree p k) (given m)) (given m)) (sym running.member) running.answered)
 
-  pub at_done : (now : List Ended) (HasCause : Cause → Type 0) (child : Child L) (checks own : List Check) (m : Machine) (ask : Ask) (o : Outcome) (v : Verdict) (asked : ℕ)
+  pub at_done : (now : List Ended) (f g : ℕ) (lost : Bool) (child : Child L) (checks own : List Check) (m : Machine) (ask : Ask) (o : Outcome) (v : Verdict) (asked : ℕ)
       → IsRunning p n m ask → ask ≡ Done o → v ≡ verdict_of o → asked ≡ length m.replies.items
-      → Hears dialogue before now child (checks ++ own) → AreAsked p m own → Judges dialogue p n before now HasCause child checks asked v
-  at_done now HasCause child checks own m ask o v asked running is verdict_is asked_is heard so_far =
+      → (lost ≡ true → m.replies.items ≡ [])
+      → Hears dialogue before now child (checks ++ own) → AreAsked p m own → Judges dialogue p n before now (HasCauseOf before now f g lost) lost child checks asked v
+  at_done now f g lost child checks own m ask o v asked running is verdict_is asked_is silent heard so_far =
+      let HasCause : Cause → Type 0 = HasCauseOf before now f g lost in
       let done = subst (λ a. Told a (walk (member_tree p n) (given m)) 100000 (length m.replies.items)) is running.told in
       let count = told_count m ask own running so_far in
       let has = at_end HasCause o (walk (member_tree p n) (given m)) (length m.replies.items) (length own) done count in
+      let told = judged p n m own HasCause v running.member so_far
+      (subst (λ x. IsVerdictOf HasCause (walk (member_tree p n) (given m)).ending (length own) x) (sym verdict_is) has) in
       record {
         own = own;
         heard = heard;
         count = count ∙ sym asked_is;
-        told = judged p n m own HasCause v running.member so_far
-            (subst (λ x. IsVerdictOf HasCause (walk (member_tree p n) (given m)).ending (length own) x) (sym verdict_is) has);
+        told = told;
+        spent = spent_after p n before now f g lost own v told (λ h. count ∙ ap length (silent h));
       }
 
-  fault_verdict : (HasCause : Cause → Type 0) (t : Trouble) (v : Verdict) (e : Ending) (asked : ℕ) (q : Question) → e ≡ Open q → IsFaultOf t v → IsCausedBy HasCause t → IsVerdictOf HasCause e asked v
-  fault_verdict HasCause (trouble.Fault x) v e asked q is fault caused = subst (λ y. IsVerdictOf HasCause e asked y) (sym fault) (caused, q, is)
-  fault_verdict HasCause trouble.Want v e asked q is fault caused = absurd fault
+  fault_verdict : (HasCause : Cause → Type 0) (t : Trouble) (v : Verdict) (e : Ending) (asked : ℕ) (q : Question) → e ≡ Open q → asked < 100000 → IsFaultOf t v → IsCausedBy HasCause t → IsVerdictOf HasCause e asked v
+  fault_verdict HasCause (trouble.Fault x) v e asked q is few fault caused = subst (λ y. IsVerdictOf HasCause e asked y) (sym fault) (caused, few, q, is)
+  fault_verdict HasCause trouble.Want v e asked q is few fault caused = absurd fault
 
-  pub at_fault : (now : List Ended) (HasCause : Cause → Type 0) (child : Child L) (checks own : List Check) (m : Machine) (ask : Ask) (q : Query) (t : Trouble) (v : Verdict) (asked : ℕ)
-      → IsRunning p n m ask → ask ≡ Due q → IsFaultOf t v → IsCausedBy HasCause t → asked ≡ length m.replies.items
-      → Hears dialogue before now child (checks ++ own) → AreAsked p m own → Judges dialogue p n before now HasCause child checks asked v
-  at_fault now HasCause child checks own m ask q t v asked running is fault caused asked_is heard so_far =
+  pub at_fault : (now : List Ended) (f g : ℕ) (lost : Bool) (child : Child L) (checks own : List Check) (m : Machine) (ask : Ask) (q : Query) (t : Trouble) (v : Verdict) (asked : ℕ)
+      → IsRunning p n m ask → ask ≡ Due q → IsFaultOf t v → IsCausedBy (HasCauseOf before now f g lost) t → asked ≡ length m.replies.items → (lost ≡ true → m.replies.items ≡ [])
+      → Hears dialogue before now child (checks ++ own) → AreAsked p m own → Judges dialogue p n before now (HasCauseOf before now f g lost) lost child checks asked v
+  at_fault now f g lost child checks own m ask q t v asked running is fault caused asked_is silent heard so_far =
+      let HasCause : Cause → Type 0 = HasCauseOf before now f g lost in
       let due = subst (λ a. Told a (walk (member_tree p n) (given m)) 100000 (length m.replies.items)) is running.told in
+      let count = told_count m ask own running so_far in
+      let below : length m.replies.items < m.limit = subst (λ a. IsDue a m.limit (length m.replies.items)) is running.due in
+      let limit = running.limit in
+      let few : length own < 100000 = omega arith in
+      let told = judged p n m own HasCause v running.member so_far
+      (fault_verdict HasCause t v (walk (member_tree p n) (given m)).ending (length own) (query q) due.0 few fault caused) in
       record {
         own = own;
         heard = heard;
-        count = told_count m ask own running so_far ∙ sym asked_is;
-        told = judged p n m own HasCause v running.member so_far
-            (fault_verdict HasCause t v (walk (member_tree p n) (given m)).ending (length own) (query q) due.0 fault caused);
+        count = count ∙ sym asked_is;
+        told = told;
+        spent = spent_after p n before now f g lost own v told (λ h. count ∙ ap length (silent h));
       }
 
   pub goes_on : (now : List Ended) (child : Child L) (checks own : List Check) (m m' : Machine) (ask ask' : Ask) (q : Query) (r : Reply)

@@ -11,8 +11,8 @@ use Rattle.vx_report.specs.declared.run.Verdict.TheVariants as verdict
 use Rattle.vx_report.specs.declared.run.MemberRun.{MemberRun}
 use Rattle.vx_report.specs.Reports.{is_faulted}
 use Rattle.vx_rules.specs.Trees.{Ending as Ends}
-use Rattle.vx_verifier.specs.Headline.{SomeEnding, HasCauseOf, IsVerdictOf, IsTold, AreTold, walk_of}
-use Rattle.vx_verifier.specs.Lanes.{lost_after}
+use Rattle.vx_verifier.specs.Causes.{SomeEnding, HasCauseOf}
+use Rattle.vx_verifier.specs.Headline.{IsVerdictOf, IsTold, AreTold, IsSpentAfter, lost_after, walk_of}
 
 -- Causes stay causes as links are handed back and counts rise.
 
@@ -34,7 +34,7 @@ verdict_later : (P Q : Cause → Type 0) → ((x : Cause) → P x → Q x) → (
 verdict_later P Q on e asked verdict.Verified has = has
 verdict_later P Q on e asked (verdict.Failed place c r) has = has
 verdict_later P Q on e asked verdict.Limit has = has
-verdict_later P Q on e asked (verdict.Fault x) has = (on x has.0, has.1, has.2)
+verdict_later P Q on e asked (verdict.Fault x) has = (on x has.0, has.1, has.2, has.3)
 
 pub told_later : (p : Program) (n : ℕ) (P Q : Cause → Type 0) → ((x : Cause) → P x → Q x) → (own : List Check) (v : Verdict) → IsTold p n P own v → IsTold p n Q own v
 told_later p n P Q on own v told = record {
@@ -56,7 +56,8 @@ runs_later p before now more f g h later lost n first (r ∷ runs) checks told =
   told.6,
   told.7,
   told_later p n _ _ (cause_later before now more f g h later lost) told.4 r.verdict told.8,
-  runs_later p before now more f g h later (lost || is_faulted r.verdict) (n + 1) (first + length told.4) runs told.5 told.9,
+  told.9,
+  runs_later p before now more f g h later (lost || is_faulted r.verdict) (n + 1) (first + length told.4) runs told.5 told.10,
 )
 
 -- One member more is told.
@@ -65,8 +66,9 @@ module _ (p : Program) (before now : List Ending) (f g : ℕ) where
       → AreTold p before now f g lost n first runs checks
       → r.member.0 ≡ n + length runs → r.lane ≡ 0 → r.child ≡ 0 → r.first ≡ first + length checks → length own ≡ r.checks
       → IsTold p (n + length runs) (HasCauseOf before now f g (lost_after lost runs)) own r.verdict
+      → IsSpentAfter (lost_after lost runs) p (n + length runs) own r.verdict
       → AreTold p before now f g lost n first (runs ++ r ∷ []) (checks ++ own)
-  runs_more lost n first [] checks r own told member lane child is count this =
+  runs_more lost n first [] checks r own told member lane child is count this spent =
       let none : checks ≡ [] = told in (
         member ∙ omega arith,
         lane,
@@ -77,9 +79,10 @@ module _ (p : Program) (before now : List Ending) (f g : ℕ) where
         rw none (sym (append-nil own)),
         count,
         subst (λ k. IsTold p k (HasCauseOf before now f g lost) own r.verdict) (omega arith) this,
+        subst (λ k. IsSpentAfter lost p k own r.verdict) (omega arith) spent,
         refl,
       )
-  runs_more lost n first (r' ∷ runs) checks r own told member lane child is count this = (
+  runs_more lost n first (r' ∷ runs) checks r own told member lane child is count this spent = (
     told.0,
     told.1,
     told.2,
@@ -89,7 +92,9 @@ module _ (p : Program) (before now : List Ending) (f g : ℕ) where
     ap (λ x. x ++ own) told.6 ∙ append_assoc told.4 told.5 own,
     told.7,
     told.8,
-    runs_more (lost || is_faulted r'.verdict) (n + 1) (first + length told.4) runs told.5 r own told.9
+    told.9,
+    runs_more (lost || is_faulted r'.verdict) (n + 1) (first + length told.4) runs told.5 r own told.10
         (member ∙ omega arith) lane child (is ∙ rw told.6 (omega (arith, length-append told.4 told.5))) count
-        (subst (λ k. IsTold p k (HasCauseOf before now f g (lost_after (lost || is_faulted r'.verdict) runs)) own r.verdict) (omega arith) this),
+        (subst (λ k. IsTold p k (HasCauseOf before now f g (lost_after (lost || is_faulted r'.verdict) runs)) own r.verdict) (omega arith) this)
+        (subst (λ k. IsSpentAfter (lost_after (lost || is_faulted r'.verdict) runs) p k own r.verdict) (omega arith) spent),
   )

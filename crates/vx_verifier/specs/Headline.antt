@@ -1,20 +1,14 @@
 -- What the runs of a program's members promise: each verdict is that of the walk over the replies that the record of
 -- the child's link tells, and a member that is verified by right replies fails at no place.
-use Rattle.std.specs.Prelude.{◌≡◌, ◌⊎◌, ℕ, ◌+◌, ◌<◌, ◌||◌, Bool, true, false, List, [], ◌∷◌, ◌++◌, Some, length, slice_get}
+use Rattle.std.specs.Prelude.{◌≡◌, ◌⊎◌, ℕ, zero, suc, ◌+◌, ◌<◌, ◌||◌, ⊤, Bool, true, false, List, [], ◌∷◌, ◌++◌, Some, length, take, drop, slice_get}
 use Rattle.vx_ast.specs.declared.Place.{Place}
 use Rattle.vx_ast.specs.Syntax.{Program, Member, Method, IsMethod}
 use Rattle.vx_terms.specs.Interpretations.{Each}
 use Rattle.vx_types.specs.Typing.{IsTypedMethod}
 use Rattle.vx_meaning.specs.Fails.{MethodFails}
 use Rattle.vx_sound.specs.StoreLanguage.{IsStoreMethod}
-use Rattle.vx_smt_meaning.specs.Commands.{Command}
 use Rattle.vx_smt_meaning.specs.Dialogues.{Check}
-use Rattle.vx_ends.specs.declared.piece.Piece.{Piece}
 use Rattle.vx_ends.specs.declared.piece.Ending.{Ending}
-use Rattle.vx_ends.specs.Dialogue.{got}
-use Rattle.vx_ends.specs.Causes.{Rose}
-use Rattle.vx_dialogue.specs.Items.{IsGarbled, IsRefused}
-use Rattle.vx_dialogue.specs.Stops.{Stops}
 use Rattle.vx_dialogue.specs.History.{Tells}
 use Rattle.vx_rules.specs.Trees.{Question, Ending as Ends, Passed, Failed, Open, Walked, walk}
 use Rattle.vx_rules.specs.Stack.{code}
@@ -25,23 +19,8 @@ use Rattle.vx_report.specs.declared.run.Verdict.{Verdict}
 use Rattle.vx_report.specs.declared.run.Verdict.TheVariants as verdict'
 use Rattle.vx_report.specs.declared.run.MemberRun.{MemberRun}
 use Rattle.vx_report.specs.Reports.{is_faulted}
-use Rattle.vx_verifier.specs.Sequences.{AreChecksOf, replies_to, IsRight}
-
--- What was got begins with lawful replies to the first of some commands, and the next expression is no lawful reply; so much is kept of it.
-abbrev pub IsUnlawful : List Piece → List ℕ → Type 0
-IsUnlawful pieces kept =
-    (commands : List Command) × (Stops (got pieces) commands (λ w bytes. IsGarbled w bytes kept) ⊎ Stops (got pieces) commands (λ w bytes. IsRefused bytes kept))
-
--- among the links that were handed back since, one with this property
-abbrev pub SomeEnding : (before now : List Ending) → (Ending → Type 0) → Type 0
-SomeEnding before now P = (ending : Ending) × (later : List Ending) × (now ≡ before ++ ending ∷ later) × P ending
-
--- why a member has no verdict of its own, where the child was lost before or not
-abbrev pub HasCauseOf : (before now : List Ending) (faults_then faults_now : ℕ) → (lost : Bool) → Cause → Type 0
-HasCauseOf before now faults_then faults_now lost cause.Pipe = (lost ≡ false) × SomeEnding before now (λ e. 0 < e.faults)
-HasCauseOf before now faults_then faults_now lost cause.Start = (lost ≡ false) × Rose faults_then faults_now
-HasCauseOf before now faults_then faults_now lost cause.Spent = lost ≡ true
-HasCauseOf before now faults_then faults_now lost (cause.Reply kept) = (lost ≡ false) × SomeEnding before now (λ e. IsUnlawful e.dialogue kept)
+use Rattle.vx_verifier.specs.Sequences.{AreChecksOf, replies_to, IsRight, AllUnsat}
+use Rattle.vx_verifier.specs.Causes.{HasCauseOf, NoCountRose, AllLawful}
 
 -- the member with this number is this method
 abbrev pub IsMethodAt : Program → ℕ → Method → Type 0
@@ -55,16 +34,35 @@ IsSupported p = (n : ℕ) (m : Method) → IsMethodAt p n m → IsTypedMethod p 
 abbrev pub NeverFails : Program → ℕ → Type 0
 NeverFails p n = IsSupported p → (m : Method) → IsMethodAt p n m → (at : Place) → MethodFails p m at → ⊥
 
--- the verdict is that of the walk, which asked so many questions
+-- The verdict is that of the walk, which asked so many questions. The limit comes at 100,000 of them with one more due; a fault below it, in place of an answer.
 abbrev pub IsVerdictOf : (Cause → Type 0) → Ends → (asked : ℕ) → Verdict → Type 0
 IsVerdictOf HasCause ending asked verdict'.Verified = ending ≡ Passed
 IsVerdictOf HasCause ending asked (verdict'.Failed place c r) = ending ≡ Failed place (code c) r
 IsVerdictOf HasCause ending asked verdict'.Limit = (asked ≡ 100000) × (q : Question) × (ending ≡ Open q)
-IsVerdictOf HasCause ending asked (verdict'.Fault cause) = HasCause cause × (q : Question) × (ending ≡ Open q)
+IsVerdictOf HasCause ending asked (verdict'.Fault cause) = HasCause cause × (asked < 100000) × (q : Question) × (ending ≡ Open q)
 
 -- the walk through the tree of a member, over the replies to its checks
 abbrev pub walk_of : Program → ℕ → List Check → Walked
 walk_of p n own = walk (member_tree p n) (replies_to own)
+
+-- the member has a question
+abbrev pub is_open : Ends → Bool
+is_open (Open q) = true
+is_open Passed = false
+is_open (Failed place c r) = false
+
+abbrev pub has_question : Program → ℕ → Bool
+has_question p n = is_open (walk_of p n []).ending
+
+-- one of the first so many members has a question
+abbrev pub some_ask : Program → ℕ → Bool
+some_ask p zero = false
+some_ask p (suc n) = some_ask p n || has_question p n
+
+-- Behind a fault of the lane no member is asked anything: where it has a question, its verdict is a fault, spent.
+abbrev pub IsSpentAfter : (lost : Bool) → Program → ℕ → List Check → Verdict → Type 0
+IsSpentAfter false p n own v = ⊤
+IsSpentAfter true p n own v = (own ≡ []) × (has_question p n ≡ true → v ≡ verdict'.Fault cause.Spent)
 
 -- What became of a member with these checks of its own.
 pub record IsTold (p : Program) (n : ℕ) (HasCause : Cause → Type 0) (own : List Check) (v : Verdict) : Type 0 where
@@ -82,16 +80,38 @@ module _ (p : Program) (before now : List Ending) (faults_then faults_now : ℕ)
       (r.member.0 ≡ n) × (r.lane ≡ 0) × (r.child ≡ 0) × (r.first ≡ first)
       × (own rest : List Check) × (checks ≡ own ++ rest) × (length own ≡ r.checks)
       × IsTold p n (HasCauseOf before now faults_then faults_now lost) own r.verdict
+      × IsSpentAfter lost p n own r.verdict
       × AreTold (lost || is_faulted r.verdict) (n + 1) (first + length own) runs rest
 
--- The links that were handed back since tell of these checks first: none, where there are no checks; else the one of lane 0.
-abbrev pub IsRecorded : (before now : List Ending) → List Check → Type 0
-IsRecorded before now checks =
-    ((now ≡ before) × (checks ≡ [])) ⊎ ((ending : Ending) × (now ≡ before ++ ending ∷ []) × (ending.lane ≡ 0) × Tells ending.dialogue checks)
+-- a child is lost at the first fault
+abbrev pub lost_after : Bool → List MemberRun → Bool
+lost_after lost [] = lost
+lost_after lost (r ∷ runs) = lost_after (lost || is_faulted r.verdict) runs
+
+-- The links that were handed back since tell of these checks: none, where there are no checks; else the one of lane 0. Where it failed, one check more may wait there.
+abbrev pub IsRecorded : (failed : Bool) → (before now : List Ending) → List Check → Type 0
+IsRecorded failed before now checks =
+    ((now ≡ before) × (checks ≡ [])) ⊎ ((ending : Ending) × (now ≡ before ++ ending ∷ []) × (ending.lane ≡ 0) × Tells failed ending.dialogue checks)
+
+-- the checks of a run: so many, from its first on
+abbrev pub sequence_of : MemberRun → List Check → List Check
+sequence_of r checks = take r.checks (drop r.first checks)
+
+abbrev pub HasNoFault : List MemberRun → Type 0
+HasNoFault runs = Each (λ (r : MemberRun). is_faulted r.verdict ≡ false) runs
+
+abbrev pub HasNoLimit : List MemberRun → Type 0
+HasNoLimit runs = Each (λ (r : MemberRun). r.verdict ≡ verdict'.Limit → ⊥) runs
+
+-- Where no count rose and all replies were lawful, no verdict is a fault. Where none is a limit either, each member whose checks were all answered unsat is verified.
+pub record IsComplete (before now : List Ending) (faults_then faults_now : ℕ) (runs : List MemberRun) (checks : List Check) : Type 0 where
+  pub no_fault : NoCountRose before now faults_then faults_now → AllLawful before now → HasNoFault runs
+  pub verified : HasNoFault runs → HasNoLimit runs → Each (λ (r : MemberRun). AllUnsat (sequence_of r checks) → r.verdict ≡ verdict'.Verified) runs
 
 -- The promise: a run for each member, in file order, by the replies that the record of the one child tells.
 pub record Headline (p : Program) (before now : List Ending) (faults_then faults_now : ℕ) (runs : List MemberRun) : Type 0 where
   pub checks : List Check
-  pub recorded : IsRecorded before now checks
+  pub recorded : IsRecorded (lost_after false runs) before now checks
   pub each : length runs ≡ length p
   pub told : AreTold p before now faults_then faults_now false 0 0 runs checks
+  pub complete : IsComplete before now faults_then faults_now runs checks

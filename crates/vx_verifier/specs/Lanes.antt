@@ -1,5 +1,5 @@
 -- What holds of a lane between two questions.
-use Rattle.std.specs.Prelude.{◌≡◌, ◌⊎◌, ℕ, ◌<◌, ◌||◌, ⊤, Bool, true, false, List, [], ◌∷◌, ◌++◌, length}
+use Rattle.std.specs.Prelude.{◌≡◌, ℕ, ◌<◌, ⊤, Bool, true, false, List, [], ◌∷◌, ◌++◌, length}
 use Rattle.vx_ast.specs.Syntax.{Program}
 use Rattle.vx_smt_meaning.specs.Commands.{Command, Level}
 use Rattle.vx_smt_meaning.specs.Dialogues.{Check}
@@ -22,13 +22,13 @@ use Rattle.vx_report.specs.declared.run.Cause.TheVariants as cause
 use Rattle.vx_report.specs.declared.run.Verdict.{Verdict}
 use Rattle.vx_report.specs.declared.run.Verdict.TheVariants as verdict
 use Rattle.vx_report.specs.declared.run.MemberRun.{MemberRun}
-use Rattle.vx_report.specs.Reports.{is_faulted}
 use Rattle.vx_verifier.specs.declared.lane.Child.{Child}
 use Rattle.vx_verifier.specs.declared.lane.Child.TheVariants.{NotStarted, Talking, Lost}
 use Rattle.vx_verifier.specs.declared.lane.Trouble.{Trouble}
 use Rattle.vx_verifier.specs.declared.lane.Trouble.TheVariants as trouble
 use Rattle.vx_verifier.specs.Sequences.{IsCheckOf, AreChecksOf, replies_to}
-use Rattle.vx_verifier.specs.Headline.{HasCauseOf, IsRecorded, IsTold, AreTold}
+use Rattle.vx_verifier.specs.Causes.{HasCauseOf}
+use Rattle.vx_verifier.specs.Headline.{IsRecorded, IsTold, AreTold, IsSpentAfter, some_ask, lost_after}
 
 -- a child that talks has no open question and no earlier fault, and its link is owed
 abbrev pub IsHeld : {L : Type 0} → Child L → ℕ → Type 0
@@ -47,27 +47,30 @@ is_lost Lost = true
 is_lost (Talking d) = false
 is_lost NotStarted = false
 
--- a child is lost at the first fault
-abbrev pub lost_after : Bool → List MemberRun → Bool
-lost_after lost [] = lost
-lost_after lost (r ∷ runs) = lost_after (lost || is_faulted r.verdict) runs
+-- it was started, or that was tried
+abbrev pub is_started : {L : Type 0} → Child L → Bool
+is_started NotStarted = false
+is_started (Talking d) = true
+is_started Lost = true
 
 -- These are the checks of the lane's child so far, with the links that were handed back before and by now.
 abbrev pub Hears : {L : Type 0} → (L → List Piece) → (before now : List Ending) → Child L → List Check → Type 0
 Hears dialogue before now NotStarted checks = (now ≡ before) × (checks ≡ [])
 Hears dialogue before now (Talking d) checks = (now ≡ before) × (base : List Level) × (commands : List Command) × Stands dialogue base d commands checks
-Hears dialogue before now Lost checks = IsRecorded before now checks
+Hears dialogue before now Lost checks = IsRecorded true before now checks
 
 -- one check more, of this question with this reply
 abbrev pub HearsOf : {L : Type 0} → (L → List Piece) → (before now : List Ending) → Child L → List Check → Question → Reply → Type 0
 HearsOf dialogue before now child checks q r =
     (check : Check) × Hears dialogue before now child (checks ++ check ∷ []) × IsCheckOf (record { question = q; reply = r }) check
 
--- the command is started at most once
+-- the command is started, once, or not
+abbrev pub StartsWhere : Bool → (before now : List Start) → Start → Type 0
+StartsWhere true before now start = now ≡ before ++ start ∷ []
+StartsWhere false before now start = now ≡ before
+
 abbrev pub Starts : {L : Type 0} → (before now : List Start) → Start → Child L → Type 0
-Starts before now start NotStarted = now ≡ before
-Starts before now start (Talking d) = now ≡ before ++ start ∷ []
-Starts before now start Lost = (now ≡ before) ⊎ (now ≡ before ++ start ∷ [])
+Starts before now start child = StartsWhere (is_started child) before now start
 
 abbrev pub trouble_of : Talk → Trouble
 trouble_of talk.Pipe = trouble.Fault cause.Pipe
@@ -76,15 +79,19 @@ trouble_of (talk.Refused kept) = trouble.Fault (cause.Reply kept)
 trouble_of talk.Want = trouble.Want
 trouble_of talk.Closed = trouble.Fault cause.Spent
 
+abbrev pub is_fault : Trouble → Bool
+is_fault (trouble.Fault x) = true
+is_fault trouble.Want = false
+
 -- want of memory needs no cause
 abbrev pub IsCausedBy : (Cause → Type 0) → Trouble → Type 0
 IsCausedBy HasCause (trouble.Fault x) = HasCause x
 IsCausedBy HasCause trouble.Want = ⊤
 
--- No reply came: the child is lost, with the checks that it has told; and there is a cause.
-abbrev pub Loses : {L : Type 0} → (L → List Piece) → (before now : List Ending) → (faults_then faults_now : ℕ) → (lost : Bool) → List Check → Trouble → Type 0
-Loses dialogue before now faults_then faults_now lost checks t =
-    Hears dialogue before now Lost checks × IsCausedBy (HasCauseOf before now faults_then faults_now lost) t
+-- No reply came: the links handed back tell of the checks before; and there is a cause.
+abbrev pub Loses : (before now : List Ending) → (faults_then faults_now : ℕ) → (lost : Bool) → List Check → Trouble → Type 0
+Loses before now faults_then faults_now lost checks t =
+    IsRecorded true before now checks × IsCausedBy (HasCauseOf before now faults_then faults_now lost) t
 
 -- a fault is the member's verdict, with its cause
 abbrev pub IsFaultOf : Trouble → Verdict → Type 0
@@ -117,12 +124,13 @@ pub record AreAsked (p : Program) (machine : Machine) (own : List Check) : Type 
   pub checks : AreChecksOf (walk (member_tree p machine.member.0) (given machine)).answered own
 
 -- A member's execution came to this verdict after so many checks of its own.
-pub record Judges {L : Type 0} (dialogue : L → List Piece) (p : Program) (n : ℕ) (before now : List Ending) (HasCause : Cause → Type 0) (child : Child L)
+pub record Judges {L : Type 0} (dialogue : L → List Piece) (p : Program) (n : ℕ) (before now : List Ending) (HasCause : Cause → Type 0) (lost : Bool) (child : Child L)
     (checks : List Check) (asked : ℕ) (v : Verdict) : Type 0 where
   pub own : List Check
   pub heard : Hears dialogue before now child (checks ++ own)
   pub count : length own ≡ asked
   pub told : IsTold p n HasCause own v
+  pub spent : IsSpentAfter lost p n own v
 
 -- the links that were handed back stay so
 pub record Handed (before now : List Ending) : Type 0 where
@@ -140,3 +148,4 @@ pub record Executes {L : Type 0} (dialogue : L → List Piece) (p : Program) (be
   pub count : length checks ≡ asked
   pub told : AreTold p before now faults_then faults_now false 0 0 runs checks
   pub lost : is_lost child ≡ lost_after false runs
+  pub started : is_started child ≡ some_ask p (length runs)

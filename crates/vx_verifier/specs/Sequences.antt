@@ -2,7 +2,7 @@
 use Rattle.std.specs.Prelude.{◌≡◌, ◌⊎◌, ⊤, List, [], ◌∷◌, ◌++◌, Option, Some, None}
 use Rattle.vx_terms.specs.Terms.{Term}
 use Rattle.vx_terms.specs.Build.{negate}
-use Rattle.vx_terms.specs.Interpretations.{IsUnsatisfiable}
+use Rattle.vx_terms.specs.Interpretations.{Each, IsUnsatisfiable}
 use Rattle.vx_smt_meaning.specs.Dialogues.{Check}
 use Rattle.vx_smt_meaning.specs.declared.reply.Reply.{Reply}
 use Rattle.vx_smt_meaning.specs.declared.reply.Reply.TheVariants.{Unsat}
@@ -40,3 +40,6 @@ replies_to (c ∷ cs) = reply_list c.reply ++ replies_to cs
 -- an unsat is right where no interpretation makes all true that was asserted
 abbrev pub IsRight : Check → Type 0
 IsRight c = c.reply ≡ Some Unsat → IsUnsatisfiable c.assertions
+
+abbrev pub AllUnsat : List Check → Type 0
+AllUnsat checks = Each (λ (c : Check). c.reply ≡ Some Unsat) checks

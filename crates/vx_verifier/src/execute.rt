@@ -1,15 +1,17 @@
 //! The members of a program, each executed by the machine and its questions asked of the lane's child.
 
-ghost use Rattle.std.specs.Prelude.{◌≡◌, ◌+◌, ◌*◌, ◌<◌, ◌≤◌, ◌^◌, ◌||◌, ◌++◌, ◌∷◌, ◌⊎◌, [], List, IfOk, length, true};
+ghost use Rattle.std.specs.Prelude.{◌≡◌, ℕ, ◌+◌, ◌-◌, ◌*◌, ◌<◌, ◌≤◌, ◌^◌, ◌||◌, IsTrue, ◌++◌, ◌∷◌, ◌⊎◌, [], List, IfOk, length, true};
 ghost use Rattle.vx_ends.specs.declared.piece.Start.{Start};
 ghost use Rattle.vx_ends.specs.declared.piece.Ending.{Ending};
 ghost use Rattle.vx_smt_meaning.specs.Dialogues.{Check};
 ghost use Rattle.vx_types.specs.Settled.{settled};
 ghost use Rattle.vx_report.specs.Reports.{AreNamed, is_faulted};
-ghost use Rattle.vx_machine.specs.Runs.{Follows, awaits};
-ghost use Rattle.vx_verifier.specs.Headline.{HasCauseOf, Headline};
+ghost use Rattle.vx_machine.specs.Runs.{Follows, awaits, member_tree};
+ghost use Rattle.vx_verifier.specs.Causes.{HasCauseOf, NoCountRose};
+ghost use Rattle.vx_verifier.specs.Steady.{AllSpelled, AsksSpelled, IsCalmLane};
+ghost use Rattle.vx_verifier.specs.Headline.{Headline, IsSupported, has_question, some_ask};
 ghost use Rattle.vx_verifier.specs.Lanes as spec;
-ghost use Rattle.vx_verifier.specs.Lanes.{IsHeld, IsRunning, links, is_lost, Hears, Starts, Later, Judges, Executes, IsFaultOf};
+ghost use Rattle.vx_verifier.specs.Lanes.{IsHeld, IsRunning, links, is_lost, is_started, Hears, Starts, StartsWhere, Later, Judges, Executes, IsFaultOf};
 
 use crate::lane::{Child, LANE, Trouble, ask, end, leave};
 use std::alloc::{AllocError, Global};
@@ -109,13 +111,16 @@ fn judge<W: Spawner>(
     ensures held { IsHeld result.0 (W.owed spawner.new LANE) }
     ensures owed { W.owed spawner.new LANE + links child ≡ W.owed spawner.old LANE + links result.0 }
     ensures told { IfOk result.1 (λ judged. (before : List Ending) (checks : List Check) → Hears W.Link.dialogue before (W.ended spawner.old) child checks
-        → Judges W.Link.dialogue (settled typed.now) member.0 before (W.ended spawner.new) (HasCauseOf before (W.ended spawner.new) (W.faults spawner.old) (W.faults spawner.new) (is_lost child))
+        → Judges W.Link.dialogue (settled typed.now) member.0 before (W.ended spawner.new) (HasCauseOf before (W.ended spawner.new) (W.faults spawner.old) (W.faults spawner.new) (is_lost child)) (is_lost child)
         result.0 checks judged.checks judged.verdict) }
     ensures lost { IfOk result.1 (λ judged. is_lost result.0 ≡ (is_lost child || is_faulted judged.verdict)) }
+    ensures started { IfOk result.1 (λ _. is_started result.0 ≡ (is_started child || has_question (settled typed.now) member.0)) }
     ensures few { IfOk result.1 (λ judged. judged.checks ≤ LIMIT) }
     ensures starts { (before : List Start) → let start : Start = record { lane = LANE; command = command.now } in Starts before (W.starts spawner.old) start child → Starts before (W.starts spawner.new) start result.0 }
     ensures faults { W.faults spawner.old ≤ W.faults spawner.new }
     ensures later { Later (W.ended spawner.old) (W.ended spawner.new) }
+    ensures calm { AllSpelled (member_tree (settled typed.now) member.0) → (before : List Ending) (count : ℕ) → IsCalmLane W.Link.dialogue W.Link.steady W.Link.faults before (W.ended spawner.old) (W.steady spawner.old) count (W.faults spawner.old) child
+        → IsCalmLane W.Link.dialogue W.Link.steady W.Link.faults before (W.ended spawner.new) (W.steady spawner.new) count (W.faults spawner.new) result.0 }
 {
     let mut child = child;
     let mut running = match begin(alloc, typed, member) {
@@ -165,13 +170,16 @@ fn execute<W: Spawner>(
     ensures owed { W.owed spawner.new LANE + links lane.child ≡ W.owed spawner.old LANE + links result.0.child }
     ensures numbers { IfOk result.1 (λ run. (run.member ≡ member) × (run.lane ≡ LANE) × (run.child ≡ 0) × (run.first ≡ lane.checks)) }
     ensures told { IfOk result.1 (λ run. (before : List Ending) (checks : List Check) → Hears W.Link.dialogue before (W.ended spawner.old) lane.child checks
-        → Judges W.Link.dialogue (settled typed.now) member.0 before (W.ended spawner.new) (HasCauseOf before (W.ended spawner.new) (W.faults spawner.old) (W.faults spawner.new) (is_lost lane.child))
+        → Judges W.Link.dialogue (settled typed.now) member.0 before (W.ended spawner.new) (HasCauseOf before (W.ended spawner.new) (W.faults spawner.old) (W.faults spawner.new) (is_lost lane.child)) (is_lost lane.child)
         result.0.child checks run.checks run.verdict) }
     ensures lost { IfOk result.1 (λ run. is_lost result.0.child ≡ (is_lost lane.child || is_faulted run.verdict)) }
+    ensures started { IfOk result.1 (λ _. is_started result.0.child ≡ (is_started lane.child || has_question (settled typed.now) member.0)) }
     ensures count { IfOk result.1 (λ run. (result.0.checks ≡ lane.checks + run.checks) × (run.checks ≤ LIMIT)) }
     ensures starts { (before : List Start) → let start : Start = record { lane = LANE; command = command.now } in Starts before (W.starts spawner.old) start lane.child → Starts before (W.starts spawner.new) start result.0.child }
     ensures faults { W.faults spawner.old ≤ W.faults spawner.new }
     ensures later { Later (W.ended spawner.old) (W.ended spawner.new) }
+    ensures calm { AllSpelled (member_tree (settled typed.now) member.0) → (before : List Ending) (count : ℕ) → IsCalmLane W.Link.dialogue W.Link.steady W.Link.faults before (W.ended spawner.old) (W.steady spawner.old) count (W.faults spawner.old) lane.child
+        → IsCalmLane W.Link.dialogue W.Link.steady W.Link.faults before (W.ended spawner.new) (W.steady spawner.new) count (W.faults spawner.new) result.0.child }
 {
     let Lane {
         child,
@@ -228,6 +236,8 @@ fn execute_all<W: Spawner>(
     ensures starts { let start : Start = record { lane = LANE; command = command.now } in Starts (W.starts spawner.old) (W.starts spawner.new) start result.0.child }
     ensures faults { W.faults spawner.old ≤ W.faults spawner.new }
     ensures later { Later (W.ended spawner.old) (W.ended spawner.new) }
+    ensures calm { AsksSpelled (settled typed.now) → IsTrue (W.steady spawner.old)
+        → IsCalmLane W.Link.dialogue W.Link.steady W.Link.faults (W.ended spawner.old) (W.ended spawner.new) (W.steady spawner.new) (W.faults spawner.old) (W.faults spawner.new) result.0.child }
 {
     let mut lane = Lane {
         child: Child::NotStarted,
@@ -253,8 +263,8 @@ fn execute_all<W: Spawner>(
     (lane, Ok(runs))
 }
 
-/// Verifies the members in file order, by one child, which is started at the first question and handed back at the
-/// end, also where memory runs out. The clause `headline` is the promise.
+/// Verifies the members in file order, by one child, which is started at the first question, if there is any, and
+/// handed back at the end, also where memory runs out. The clause `headline` is the promise.
 pub fn verify<W: Spawner>(
     alloc: Global,
     typed: &Typed,
@@ -264,9 +274,13 @@ pub fn verify<W: Spawner>(
     ensures named { IfOk result (λ runs. AreNamed (settled typed.now) runs.items) }
     ensures headline { IfOk result (λ runs. Headline (settled typed.now) (W.ended spawner.old) (W.ended spawner.new) (W.faults spawner.old) (W.faults spawner.new) runs.items) }
     ensures starts { let start : Start = record { lane = LANE; command = command.now } in (W.starts spawner.new ≡ W.starts spawner.old) ⊎ (W.starts spawner.new ≡ W.starts spawner.old ++ start ∷ []) }
+    ensures started { IfOk result (λ _. let start : Start = record { lane = LANE; command = command.now } in
+        StartsWhere (some_ask (settled typed.now) (length (settled typed.now))) (W.starts spawner.old) (W.starts spawner.new) start) }
     ensures handed_back { W.owed spawner.new LANE ≡ W.owed spawner.old LANE }
     ensures faults { W.faults spawner.old ≤ W.faults spawner.new }
     ensures later { Later (W.ended spawner.old) (W.ended spawner.new) }
+    ensures steady { IsTrue (W.steady spawner.old) → IsSupported (settled typed.now) → W.faults spawner.old < 2 ^ 64 - 1
+        → NoCountRose (W.ended spawner.old) (W.ended spawner.new) (W.faults spawner.old) (W.faults spawner.new) }
 {
     let (lane, runs) = execute_all(alloc, typed, command, spawner);
     let Lane { child, checks: _ } = lane;

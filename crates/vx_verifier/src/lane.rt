@@ -1,13 +1,14 @@
 //! A lane: its child, which is started at the lane's first question.
 
-ghost use Rattle.std.specs.Prelude.{◌≡◌, ◌<◌, ◌≤◌, ◌+◌, List, IfOk, OnOk, IfErr, MatchResult, if◌then◌else◌, is_ok, is_err, false};
+ghost use Rattle.std.specs.Prelude.{◌≡◌, ◌<◌, ◌≤◌, ◌+◌, ℕ, List, IfOk, OnOk, IfErr, MatchResult, if◌then◌else◌, is_ok, is_err, true, false};
 ghost use Rattle.vx_ends.specs.declared.piece.Start.{Start};
 ghost use Rattle.vx_ends.specs.declared.piece.Ending.{Ending};
 ghost use Rattle.vx_smt_meaning.specs.Dialogues.{Check};
 ghost use Rattle.vx_rules.specs.Stack as rules;
 ghost use Rattle.vx_verifier.specs.Headline.{IsRecorded};
+ghost use Rattle.vx_verifier.specs.Steady.{IsSpelled, IsCalmLane};
 ghost use Rattle.vx_verifier.specs.Lanes as spec;
-ghost use Rattle.vx_verifier.specs.Lanes.{IsHeld, links, is_lost, Hears, HearsOf, Loses, Starts, Later};
+ghost use Rattle.vx_verifier.specs.Lanes.{IsHeld, links, is_fault, is_lost, is_started, Hears, HearsOf, Loses, Starts, Later};
 
 use std::alloc::Global;
 use vx_dialogue::{Dialogue, Talk};
@@ -19,7 +20,7 @@ use vx_rules::{Query, Reply};
 pub enum Child<L> {
     NotStarted,
     Talking(Dialogue<L>),
-    /// It faulted or could not be started, and no further one is.
+    /// It faulted, or its start did, and no further one is started.
     Lost,
 }
 
@@ -44,32 +45,37 @@ fn trouble_of(talk: Talk) -> Trouble
     }
 }
 
-// A child with its preamble said.
+// A child with its preamble said; or what there is in place of it.
 fn start<W: Spawner>(
     alloc: Global,
     spawner: &mut W,
     command: &Parts,
-) -> Result<Dialogue<W::Link>, Trouble>
-    ensures held { IfOk result (λ d. IsHeld (Child.Talking d) (W.owed spawner.new LANE)) }
+) -> Result<Dialogue<W::Link>, (Child<W::Link>, Trouble)>
+    ensures held { MatchResult result (λ d. IsHeld (Child.Talking d) (W.owed spawner.new LANE)) (λ lost. IsHeld lost.0 (W.owed spawner.new LANE)) }
     ensures owed { W.owed spawner.new LANE ≡ W.owed spawner.old LANE + (if is_ok result then 1 else 0) }
+    ensures links { IfErr result (λ lost. links lost.0 ≡ 0) }
+    ensures child { IfErr result (λ lost. is_fault lost.1 ≡ true → is_lost lost.0 ≡ true) }
     ensures told { (before : List Ending) (checks : List Check) → Hears W.Link.dialogue before (W.ended spawner.old) Child.NotStarted checks
         → MatchResult result (λ d. Hears W.Link.dialogue before (W.ended spawner.new) (Child.Talking d) checks)
-        (λ trouble. Loses W.Link.dialogue before (W.ended spawner.new) (W.faults spawner.old) (W.faults spawner.new) false checks trouble) }
+        (λ lost. Loses before (W.ended spawner.new) (W.faults spawner.old) (W.faults spawner.new) false checks lost.1) }
     ensures starts { (before : List Start) → let start : Start = record { lane = LANE; command = command.now } in Starts {L = W.Link} before (W.starts spawner.old) start Child.NotStarted
-        → MatchResult result (λ d. Starts before (W.starts spawner.new) start (Child.Talking d)) (λ _. Starts {L = W.Link} before (W.starts spawner.new) start Child.Lost) }
+        → MatchResult result (λ d. Starts before (W.starts spawner.new) start (Child.Talking d)) (λ lost. Starts before (W.starts spawner.new) start lost.0) }
     ensures faults { W.faults spawner.old ≤ W.faults spawner.new }
     ensures later { Later (W.ended spawner.old) (W.ended spawner.new) }
+    ensures calm { (before : List Ending) (count : ℕ) → IsCalmLane W.Link.dialogue W.Link.steady W.Link.faults before (W.ended spawner.old) (W.steady spawner.old) count (W.faults spawner.old) Child.NotStarted
+        → MatchResult result (λ d. IsCalmLane W.Link.dialogue W.Link.steady W.Link.faults before (W.ended spawner.new) (W.steady spawner.new) count (W.faults spawner.new) (Child.Talking d))
+        (λ lost. IsCalmLane W.Link.dialogue W.Link.steady W.Link.faults before (W.ended spawner.new) (W.steady spawner.new) count (W.faults spawner.new) lost.0) }
 {
     let link = match spawner.start(alloc, LANE, command) {
         Ok(link) => link,
-        Err(StartFault::Failed) => return Err(Trouble::Fault(Cause::Start)),
-        Err(StartFault::Want) => return Err(Trouble::Want),
+        Err(StartFault::Failed) => return Err((Child::Lost, Trouble::Fault(Cause::Start))),
+        Err(StartFault::Want) => return Err((Child::NotStarted, Trouble::Want)),
     };
     match Dialogue::open(alloc, link, &[], false) {
         Ok(dialogue) => Ok(dialogue),
         Err((link, talk)) => {
             spawner.finish(LANE, link);
-            Err(trouble_of(talk))
+            Err((Child::Lost, trouble_of(talk)))
         }
     }
 }
@@ -87,11 +93,13 @@ fn talk<W: Spawner>(
     ensures told { IfOk result.1 (λ reply. (before : List Ending) (checks : List Check) → Hears W.Link.dialogue before (W.ended spawner.old) (Child.Talking dialogue) checks
         → HearsOf W.Link.dialogue before (W.ended spawner.new) result.0 checks (rules.query query.now) reply) }
     ensures lost { IfErr result.1 (λ trouble. (before : List Ending) (checks : List Check) → Hears W.Link.dialogue before (W.ended spawner.old) (Child.Talking dialogue) checks
-        → Loses W.Link.dialogue before (W.ended spawner.new) (W.faults spawner.old) (W.faults spawner.new) false checks trouble) }
-    ensures child { is_lost result.0 ≡ is_err result.1 }
+        → Loses before (W.ended spawner.new) (W.faults spawner.old) (W.faults spawner.new) false checks trouble) }
+    ensures child { (is_started result.0 ≡ true) × (is_lost result.0 ≡ is_err result.1) }
     ensures starts { (before : List Start) (start : Start) → Starts before (W.starts spawner.old) start (Child.Talking dialogue) → Starts before (W.starts spawner.new) start result.0 }
     ensures faults { W.faults spawner.new ≡ W.faults spawner.old }
     ensures later { Later (W.ended spawner.old) (W.ended spawner.new) }
+    ensures calm { IsSpelled (rules.query query.now) → (before : List Ending) (count : ℕ) → IsCalmLane W.Link.dialogue W.Link.steady W.Link.faults before (W.ended spawner.old) (W.steady spawner.old) count (W.faults spawner.old) (Child.Talking dialogue)
+        → IsCalmLane W.Link.dialogue W.Link.steady W.Link.faults before (W.ended spawner.new) (W.steady spawner.new) count (W.faults spawner.new) result.0 }
 {
     let mut dialogue = dialogue;
     let path = match query.path.terms(alloc) {
@@ -124,17 +132,19 @@ pub fn ask<W: Spawner>(
     ensures told { IfOk result.1 (λ reply. (before : List Ending) (checks : List Check) → Hears W.Link.dialogue before (W.ended spawner.old) child checks
         → HearsOf W.Link.dialogue before (W.ended spawner.new) result.0 checks (rules.query query.now) reply) }
     ensures lost { IfErr result.1 (λ trouble. (before : List Ending) (checks : List Check) → Hears W.Link.dialogue before (W.ended spawner.old) child checks
-        → Loses W.Link.dialogue before (W.ended spawner.new) (W.faults spawner.old) (W.faults spawner.new) (is_lost child) checks trouble) }
-    ensures child { is_lost result.0 ≡ is_err result.1 }
+        → Loses before (W.ended spawner.new) (W.faults spawner.old) (W.faults spawner.new) (is_lost child) checks trouble) }
+    ensures child { MatchResult result.1 (λ _. (is_started result.0 ≡ true) × (is_lost result.0 ≡ false)) (λ trouble. is_fault trouble ≡ true → is_lost result.0 ≡ true) }
     ensures before { IfOk result.1 (λ _. is_lost child ≡ false) }
     ensures starts { (before : List Start) → let start : Start = record { lane = LANE; command = command.now } in Starts before (W.starts spawner.old) start child → Starts before (W.starts spawner.new) start result.0 }
     ensures faults { W.faults spawner.old ≤ W.faults spawner.new }
     ensures later { Later (W.ended spawner.old) (W.ended spawner.new) }
+    ensures calm { IsSpelled (rules.query query.now) → (before : List Ending) (count : ℕ) → IsCalmLane W.Link.dialogue W.Link.steady W.Link.faults before (W.ended spawner.old) (W.steady spawner.old) count (W.faults spawner.old) child
+        → IsCalmLane W.Link.dialogue W.Link.steady W.Link.faults before (W.ended spawner.new) (W.steady spawner.new) count (W.faults spawner.new) result.0 }
 {
     match child {
         Child::NotStarted => match start(alloc, spawner, command) {
             Ok(dialogue) => talk(alloc, spawner, dialogue, query),
-            Err(trouble) => (Child::Lost, Err(trouble)),
+            Err((child, trouble)) => (child, Err(trouble)),
         },
         Child::Talking(dialogue) => talk(alloc, spawner, dialogue, query),
         Child::Lost => (Child::Lost, Err(Trouble::Fault(Cause::Spent))),
@@ -152,11 +162,14 @@ pub fn leave<W: Spawner>(
     ensures owed { W.owed spawner.new LANE + links child ≡ W.owed spawner.old LANE + links result.0 }
     ensures told { (before : List Ending) (checks : List Check) → Hears W.Link.dialogue before (W.ended spawner.old) child checks → Hears W.Link.dialogue before (W.ended spawner.new) result.0 checks }
     ensures lost { OnOk result.1 (is_lost result.0 ≡ is_lost child) }
+    ensures started { is_started result.0 ≡ is_started child }
     ensures same { OnOk result.1 (W.ended spawner.new ≡ W.ended spawner.old) }
     ensures others { IfErr result.1 (λ trouble. trouble ≡ Trouble.Want) }
     ensures starts { (before : List Start) (start : Start) → Starts before (W.starts spawner.old) start child → Starts before (W.starts spawner.new) start result.0 }
     ensures faults { W.faults spawner.new ≡ W.faults spawner.old }
     ensures later { Later (W.ended spawner.old) (W.ended spawner.new) }
+    ensures calm { (before : List Ending) (count : ℕ) → IsCalmLane W.Link.dialogue W.Link.steady W.Link.faults before (W.ended spawner.old) (W.steady spawner.old) count (W.faults spawner.old) child
+        → IsCalmLane W.Link.dialogue W.Link.steady W.Link.faults before (W.ended spawner.new) (W.steady spawner.new) count (W.faults spawner.new) result.0 }
 {
     match child {
         Child::Talking(dialogue) => {
@@ -177,10 +190,12 @@ pub fn leave<W: Spawner>(
 pub fn end<W: Spawner>(spawner: &mut W, child: Child<W::Link>)
     requires { IsHeld child (W.owed spawner.old LANE) }
     ensures owed { W.owed spawner.new LANE + links child ≡ W.owed spawner.old LANE }
-    ensures told { (before : List Ending) (checks : List Check) → Hears W.Link.dialogue before (W.ended spawner.old) child checks → IsRecorded before (W.ended spawner.new) checks }
+    ensures told { (before : List Ending) (checks : List Check) → Hears W.Link.dialogue before (W.ended spawner.old) child checks → IsRecorded (is_lost child) before (W.ended spawner.new) checks }
     ensures starts { W.starts spawner.new ≡ W.starts spawner.old }
     ensures faults { W.faults spawner.new ≡ W.faults spawner.old }
     ensures later { Later (W.ended spawner.old) (W.ended spawner.new) }
+    ensures calm { (before : List Ending) (count : ℕ) → IsCalmLane W.Link.dialogue W.Link.steady W.Link.faults before (W.ended spawner.old) (W.steady spawner.old) count (W.faults spawner.old) child
+        → IsCalmLane W.Link.dialogue W.Link.steady W.Link.faults before (W.ended spawner.new) (W.steady spawner.new) count (W.faults spawner.new) Child.NotStarted }
 {
     match child {
         Child::Talking(dialogue) => spawner.finish(LANE, dialogue.close()),

@@ -1,5 +1,8 @@
 // The companion's link and its spawner.
-ghost use Rattle.std.specs.Prelude.{◌≡◌, ℕ, ◌+◌, ◌≤◌, ◌==◌, [], vec_len, vec_capacity, count_by, false};
+ghost use Rattle.std.specs.Prelude.{◌≡◌, ℕ, ◌+◌, ◌≤◌, ◌==◌, ◌++◌, [], vec_len, vec_capacity, count_by, List, IfOk, true, false};
+ghost use Rattle.vx_ends.specs.Dialogue.{sent, got};
+ghost use Rattle.vx_sexp.specs.Finished.{finished};
+ghost use Rattle.vx_verifier.specs.Companion.{HasAnswered};
 
 use crate::companion::Session;
 use std::alloc::{AllocError, Global};
@@ -7,6 +10,30 @@ use vx_ends::{
     Bytes, Ending, Link, LinkFault, Parts, Piece, Record, Spawner, Start, StartFault, remove_once,
 };
 use vx_sexp::cut;
+
+// Replies to each finished command that the bytes begin with, and gives what is left of them.
+fn reply_all<'a>(
+    alloc: Global,
+    session: &mut Session,
+    replies: &mut Vec<u8>,
+    bytes: &'a [u8],
+) -> Result<&'a [u8], AllocError>
+    ensures answered { IfOk result (λ rest. (all_sent front : List ℕ) → HasAnswered all_sent bytes.now (front ++ replies.old.items) → HasAnswered all_sent rest.now (front ++ replies.new.items)) }
+    ensures none_left { IfOk result (λ rest. finished rest.now ≡ 0) }
+    ensures more { (n : ℕ) (front : List ℕ) → n ≤ finished (front ++ replies.old.items) → n ≤ finished (front ++ replies.new.items) }
+{
+    let mut rest = bytes;
+    'commands: loop {
+        let taken = match cut(rest) {
+            Ok(taken) => taken,
+            Err(_fault) => return Ok(rest),
+        };
+        let (command, more) = rest.split_at(taken);
+        let reply = session.command(alloc, command)?;
+        replies.extend_from_slice(reply.as_bytes())?;
+        rest = more;
+    }
+}
 
 /// The link to a companion: it answers each finished command of what is sent.
 #[derive(Drop)]
@@ -20,6 +47,8 @@ pub struct CompanionLink {
     faults: u64,
     // memory ran out in the midst of a command
     is_spent: bool,
+    ghost owed: { finished (sent pieces.items) ≤ finished (got pieces.items ++ replies.items) },
+    ghost answered: { is_spent ≡ false → HasAnswered (sent pieces.items) unread.items (got pieces.items ++ replies.items) },
 }
 
 impl CompanionLink {
@@ -36,26 +65,6 @@ impl CompanionLink {
             is_spent: false,
         }
     }
-
-    // Answers each finished command.
-    fn answer(&mut self, alloc: Global, piece: &[u8]) -> Result<(), AllocError>
-        ensures dialogue { self.new.pieces ≡ self.old.pieces }
-        ensures faults { self.new.faults ≡ self.old.faults }
-    {
-        self.unread.extend_from_slice(piece)?;
-        let mut rest: &[u8] = &self.unread;
-        while let Ok(taken) = cut(rest) {
-            if taken == 0 {
-                break;
-            }
-            let (command, more) = rest.split_at(taken);
-            let reply = self.session.command(alloc, command)?;
-            self.replies.extend_from_slice(reply.as_bytes())?;
-            rest = more;
-        }
-        self.unread = rest.to_vec(alloc)?;
-        Ok(())
-    }
 }
 
 impl Link for CompanionLink {
@@ -63,7 +72,7 @@ impl Link for CompanionLink {
 
     ghost faults = { λ l. l.faults };
 
-    ghost steady = { λ _. false };
+    ghost steady = { λ _. true };
 
     fn send(&mut self, alloc: Global, piece: &[u8]) -> Result<usize, LinkFault> {
         if self.faults > 0 {
@@ -76,7 +85,9 @@ impl Link for CompanionLink {
         let copy = Bytes::copy(alloc, piece)?;
         self.pieces.reserve(1)?;
         self.is_spent = true;
-        self.answer(alloc, piece)?;
+        self.unread.extend_from_slice(piece)?;
+        let rest = reply_all(alloc, &mut self.session, &mut self.replies, &self.unread)?;
+        self.unread = rest.to_vec(alloc)?;
         self.is_spent = false;
         match self.pieces.push(Piece::Sent(copy)) {
             Ok(()) => Ok(piece.len()),
@@ -140,7 +151,7 @@ impl Spawner for Builtin {
 
     ghost faults = { λ _. 0 };
 
-    ghost steady = { λ _. false };
+    ghost steady = { λ _. true };
 
     fn start(
         &mut self,

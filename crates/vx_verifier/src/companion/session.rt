@@ -1,6 +1,6 @@
 // What the companion knows, and how it answers a command.
 ghost use Rattle.std.specs.Prelude.{◌≡◌, ◌↔◌, IfOk, IsTrue, true};
-ghost use Rattle.vx_verifier.specs.Companion.{is_refuted, negates_some, is_negation};
+ghost use Rattle.vx_verifier.specs.Companion.{is_refuted, negates_some, is_negation, IsOneReply};
 
 use std::alloc::{AllocError, Global};
 use vx_sexp::Bytes;
@@ -102,7 +102,10 @@ impl Session {
     }
 
     /// The reply to a command's text.
-    pub fn command(&mut self, alloc: Global, text: &[u8]) -> Result<&'static str, AllocError> {
+    #[tactic(auto, using(crate::proofs::Replies::success_one, crate::proofs::Replies::levels_one, crate::proofs::Replies::unsat_one, crate::proofs::Replies::unknown_one, crate::proofs::Replies::unsupported_one))]
+    pub fn command(&mut self, alloc: Global, text: &[u8]) -> Result<&'static str, AllocError>
+        ensures one { IfOk result (λ reply. IsOneReply reply.now) }
+    {
         match command_in(text) {
             Heard::Assert(term) => {
                 let term = Bytes::copy(alloc, term)?;

@@ -1,5 +1,6 @@
-use Rattle.std.proofs.Common.{◌∙◌, arith}
-use Rattle.vx_ends.proofs.Dialogues.{sent_by_sent, got_by_sent, taken_on, grows_by_piece, sends_more}
+use Rattle.std.proofs.Common.{◌∙◌, ◌++◌, ap, arith}
+use Rattle.vx_ends.proofs.Dialogues.{sent_by_sent, got_by_sent, taken_on, begun_by, grows_by_piece, sends_more}
+use Rattle.vx_ends.specs.Dialogue.{sent}
 use Rattle.std.proofs.lemmas.Grind.{common_steps}
 use Rattle.vx_ends.proofs.whole.send_all.Goals as goal
 
@@ -19,3 +20,8 @@ loop-done-preserved g c =
           let still = so_far.calm steady none in
           (c.in_ok-done.ensures.steady (rw so_far.fixed steady) still).same ∙ still;
     }
+
+pub returns-in_err-done-clause-begun : goal.returns-in_err-done-clause-begun
+returns-in_err-done-clause-begun g c =
+    let here = begun_by c.args.text.now _ _ c.loop-done.done c.loop-done.invariant.sent in
+    (here.0, ap (λ x. sent x ++ here.0) c.in_err-done.ensures.record ∙ here.1)

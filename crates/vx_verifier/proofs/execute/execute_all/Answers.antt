@@ -22,6 +22,7 @@ loop-number-preserved g c =
     let count = if_ok_at c.execute-kept.result.1 _ run c.execute-kept.ensures.count c.in-Ok-run.is in
     let lost = if_ok_at c.execute-kept.result.1 _ run c.execute-kept.ensures.lost c.in-Ok-run.is in
     let told = if_ok_at c.execute-kept.result.1 _ run c.execute-kept.ensures.told c.in-Ok-run.is in
+    let started = if_ok_at c.execute-kept.result.1 _ run c.execute-kept.ensures.started c.in-Ok-run.is in
     let place : c.in-Ok.number ≡ c.loop-number.number = search rules in
     let count_is = count.0 in
     let few_more = count.1 in
@@ -42,8 +43,15 @@ loop-number-preserved g c =
           (g.W.Spawner.faults c.args.spawner.now) (g.W.Spawner.faults c.loop-number.spawner) (g.W.Spawner.faults c.execute-kept.new.spawner)
           c.loop-number.lane.child c.execute-kept.result.0.child c.loop-number.lane.checks c.execute-kept.result.0.checks runs run c.in-Ok.number
           so_far.told told c.execute-kept.ensures.later so_far.faults c.execute-kept.ensures.faults
-          (ap (λ m. m.0) numbers.0) (place ∙ sym so_far.each) numbers.1 numbers.2 numbers.3 count.0 lost);
+          (ap (λ m. m.0) numbers.0) (place ∙ sym so_far.each) numbers.1 numbers.2 numbers.3 count.0 lost started);
       starts = c.execute-kept.ensures.starts _ so_far.starts;
+      calm = λ spelled steady. c.execute-kept.ensures.calm (spelled c.in-Ok.number) _ _ (so_far.calm spelled steady);
       faults = omega arith;
       later = λ front handed. c.execute-kept.ensures.later front (so_far.later front handed);
     }
+
+pub returns-in-Err-clause-calm : goal.returns-in-Err-clause-calm
+returns-in-Err-clause-calm g c = λ spelled steady. c.execute-kept.ensures.calm (spelled c.in-Ok.number) _ _ (c.loop-number.invariant.calm spelled steady)
+
+pub returns-then-is_err-clause-calm : goal.returns-then-is_err-clause-calm
+returns-then-is_err-clause-calm g c = λ spelled steady. c.execute-kept.ensures.calm (spelled c.in-Ok.number) _ _ (c.loop-number.invariant.calm spelled steady)

@@ -1,8 +1,9 @@
-use Rattle.std.proofs.Common.{◌≡◌, ◌+◌, ◌*◌, ◌≤◌, length}
+use Rattle.std.proofs.Common.{◌≡◌, ◌+◌, ◌*◌, ◌≤◌, IsTrue, length}
 use Rattle.vx_types.specs.Settled.{settled}
 use Rattle.vx_ends.specs.declared.piece.Start.{Start}
 use Rattle.vx_report.specs.Reports.{AreNamed}
 use Rattle.vx_verifier.specs.Lanes.{IsHeld, links, Starts, Later, Executes}
+use Rattle.vx_verifier.specs.Steady.{AsksSpelled, IsCalmLane}
 use Rattle.vx_verifier.proofs.execute.execute_all.Given as goal
 
 abbrev pub invariant-loop-number : goal.invariant-loop-number
@@ -18,6 +19,9 @@ invariant-loop-number g l =
       told : Executes g.W.Link.Link.dialogue (settled l.typed) (w.ended l.fn.spawner) (w.ended l.spawner) (w.faults l.fn.spawner) (w.faults l.spawner)
           l.lane.child l.lane.checks l.runs.items;
       starts : Starts (w.starts l.fn.spawner) (w.starts l.spawner) start l.lane.child;
+      calm : AsksSpelled (settled l.typed) → IsTrue (w.steady l.fn.spawner)
+          → IsCalmLane g.W.Link.Link.dialogue g.W.Link.Link.steady g.W.Link.Link.faults (w.ended l.fn.spawner) (w.ended l.spawner) (w.steady l.spawner)
+          (w.faults l.fn.spawner) (w.faults l.spawner) l.lane.child;
       faults : w.faults l.fn.spawner ≤ w.faults l.spawner;
       later : Later (w.ended l.fn.spawner) (w.ended l.spawner);
     }

@@ -1,9 +1,9 @@
-use Rattle.std.proofs.Common.{◌≡◌, ◌<◌, ◌++◌, [], length, refl, ap, ◌∙◌, sym, subst, append-nil, arith, true, is_err}
+use Rattle.std.proofs.Common.{◌<◌, ◌++◌, [], length, refl, ap, ◌∙◌, sym, subst, append-nil, arith, inl, inr}
 use Rattle.std.proofs.lemmas.Result.{IfOk-weaker}
 use Rattle.vx_types.specs.Settled.{settled}
-use Rattle.vx_verifier.specs.Lanes.{Hears, IsDue, is_lost}
-use Rattle.vx_verifier.proofs.Children.{caused_earlier, lost_hears, if_ok_at, if_err_at}
-use Rattle.vx_verifier.proofs.Questions.{none_asked, at_done, at_fault, goes_on, still_running, one_longer}
+use Rattle.vx_verifier.specs.Lanes.{Hears, IsDue, is_lost, is_started}
+use Rattle.vx_verifier.proofs.Children.{caused_earlier, lost_hears, lost_started, gone_by, faulted_by, match_ok_at, if_ok_at, if_err_at}
+use Rattle.vx_verifier.proofs.Questions.{none_asked, at_done, at_fault, goes_on, still_running, one_longer, asked_by, started_done, started_fault, due_spelled}
 use Rattle.vx_verifier.proofs.execute.judge.Goals as goal
 
 pub questions-init : goal.questions-init
@@ -21,6 +21,9 @@ questions-init g c =
         none_asked (settled c.args.typed.now) c.in-Ok.running.machine begins.none,
       );
       lost = refl;
+      silent = λ lost. begins.none;
+      asks = inl (begins.none, refl);
+      calm = λ spelled before count calm. calm;
       starts = λ before starts. starts;
       faults = omega arith;
       later = λ front handed. handed;
@@ -30,8 +33,8 @@ pub returns-in-Done-clause-told : goal.returns-in-Done-clause-told
 returns-in-Done-clause-told g c = λ before checks heard.
     let so_far = c.questions.invariant in
     let told = so_far.told before checks heard in
-    at_done g.W.Link.Link.dialogue (settled c.args.typed.now) c.args.member.0 before _ _ c.questions.child checks told.0 c.questions.running.machine c.questions.running.ask
-    c.in-Done.outcome c.verdict_of-verdict.result c.questions.checks so_far.running c.in-Done.is c.verdict_of-verdict.ensures so_far.checks told.1 told.2
+    at_done g.W.Link.Link.dialogue (settled c.args.typed.now) c.args.member.0 before _ (g.W.Spawner.faults c.args.spawner.now) _ (is_lost c.args.child) c.questions.child checks told.0 c.questions.running.machine c.questions.running.ask
+    c.in-Done.outcome c.verdict_of-verdict.result c.questions.checks so_far.running c.in-Done.is c.verdict_of-verdict.ensures so_far.checks so_far.silent told.1 told.2
 
 pub returns-in-Err-reply-clause-told : goal.returns-in-Err-reply-clause-told
 returns-in-Err-reply-clause-told g c = IfOk-weaker c.faulted.result _ _ (λ judged fault. λ before checks heard.
@@ -39,12 +42,12 @@ returns-in-Err-reply-clause-told g c = IfOk-weaker c.faulted.result _ _ (λ judg
     let so_far = c.questions.invariant in
     let told = so_far.told before checks heard in
     let lost = if_err_at c.ask-kept.result.1 _ c.in-Err-reply.trouble c.ask-kept.ensures.lost c.in-Err-reply.is before (checks ++ told.0) told.1 in
-    let gone : is_lost c.ask-kept.result.0 ≡ true = c.ask-kept.ensures.child ∙ ap is_err c.in-Err-reply.is in
+    let gone = gone_by c.ask-kept.result.0 c.ask-kept.result.1 c.in-Err-reply.trouble judged.verdict c.ask-kept.ensures.child c.in-Err-reply.is fault.1 in
     let caused = caused_earlier before (g.W.Spawner.ended c.ask-kept.new.spawner) (g.W.Spawner.faults c.args.spawner.now) (g.W.Spawner.faults c.questions.spawner)
     (g.W.Spawner.faults c.ask-kept.new.spawner) so_far.faults (is_lost c.questions.child) (is_lost c.args.child) so_far.lost c.in-Err-reply.trouble lost.1 in
-    at_fault dialogue (settled c.args.typed.now) c.args.member.0 before (g.W.Spawner.ended c.ask-kept.new.spawner) _ c.ask-kept.result.0 checks told.0
+    at_fault dialogue (settled c.args.typed.now) c.args.member.0 before (g.W.Spawner.ended c.ask-kept.new.spawner) (g.W.Spawner.faults c.args.spawner.now) (g.W.Spawner.faults c.ask-kept.new.spawner) (is_lost c.args.child) c.ask-kept.result.0 checks told.0
     c.questions.running.machine c.questions.running.ask c.in-Check.query c.in-Err-reply.trouble judged.verdict judged.checks so_far.running c.in-Check.is fault.1 caused
-    (fault.0 ∙ so_far.checks) (lost_hears dialogue before _ c.ask-kept.result.0 (checks ++ told.0) gone lost.0) told.2) c.faulted.ensures
+    (fault.0 ∙ so_far.checks) so_far.silent (lost_hears dialogue before _ c.ask-kept.result.0 (checks ++ told.0) gone lost.0) told.2) c.faulted.ensures
 
 pub returns-in-Err-reply-clause-starts : goal.returns-in-Err-reply-clause-starts
 returns-in-Err-reply-clause-starts g c = λ before starts. c.ask-kept.ensures.starts before (c.questions.invariant.starts before starts)
@@ -66,6 +69,7 @@ questions-preserved g c =
     let owed_on = c.ask-kept.ensures.owed in
     let faults = so_far.faults in
     let faults_on = c.ask-kept.ensures.faults in
+    let here = match_ok_at c.ask-kept.result.1 _ _ c.in-Ok-reply.reply c.ask-kept.ensures.child c.in-Ok-reply.is in
     record {
       held = c.ask-kept.ensures.held;
       owed = omega arith;
@@ -79,8 +83,47 @@ questions-preserved g c =
           c.questions.running.ask c.in-Ok-go_on.next.ask c.in-Check.query c.in-Ok-reply.reply so_far.running c.in-Check.is more.running more.one_more told.2 hears;
       lost =
           let before = if_ok_at c.ask-kept.result.1 _ c.in-Ok-reply.reply c.ask-kept.ensures.before c.in-Ok-reply.is in
-          c.ask-kept.ensures.child ∙ (ap is_err c.in-Ok-reply.is ∙ (sym before ∙ so_far.lost));
+          here.1 ∙ (sym before ∙ so_far.lost);
+      silent = λ lost.
+          let before = if_ok_at c.ask-kept.result.1 _ c.in-Ok-reply.reply c.ask-kept.ensures.before c.in-Ok-reply.is in
+          let so = so_far.lost in
+          cc;
+      asks = inr (here.0, asked_by (settled c.args.typed.now) c.args.member.0 machine c.questions.running.ask c.in-Check.query c.questions.child c.args.child so_far.running c.in-Check.is so_far.asks);
       starts = λ before starts. c.ask-kept.ensures.starts before (so_far.starts before starts);
+      calm = λ spelled before count calm.
+          c.ask-kept.ensures.calm (due_spelled (settled c.args.typed.now) c.args.member.0 machine c.questions.running.ask c.in-Check.query so_far.running c.in-Check.is spelled) before count
+          (so_far.calm spelled before count calm);
       faults = omega arith;
       later = λ front handed. c.ask-kept.ensures.later front (so_far.later front handed);
     }
+
+pub returns-in-Done-clause-started : goal.returns-in-Done-clause-started
+returns-in-Done-clause-started g c =
+    let so_far = c.questions.invariant in
+    started_done (settled c.args.typed.now) c.args.member.0 c.questions.running.machine c.questions.running.ask c.in-Done.outcome c.questions.child c.args.child so_far.running c.in-Done.is so_far.asks
+
+pub returns-in-Err-reply-clause-started : goal.returns-in-Err-reply-clause-started
+returns-in-Err-reply-clause-started g c = IfOk-weaker c.faulted.result _ _ (λ judged fault.
+    let so_far = c.questions.invariant in
+    let gone = gone_by c.ask-kept.result.0 c.ask-kept.result.1 c.in-Err-reply.trouble judged.verdict c.ask-kept.ensures.child c.in-Err-reply.is fault.1 in
+    started_fault (is_started c.args.child) (lost_started c.ask-kept.result.0 gone)
+    (asked_by (settled c.args.typed.now) c.args.member.0 c.questions.running.machine c.questions.running.ask c.in-Check.query c.questions.child c.args.child so_far.running c.in-Check.is so_far.asks)) c.faulted.ensures
+
+pub returns-in-Err-reply-clause-lost : goal.returns-in-Err-reply-clause-lost
+returns-in-Err-reply-clause-lost g c = IfOk-weaker c.faulted.result _ _ (λ judged fault.
+    let gone = gone_by c.ask-kept.result.0 c.ask-kept.result.1 c.in-Err-reply.trouble judged.verdict c.ask-kept.ensures.child c.in-Err-reply.is fault.1 in
+    started_fault (is_lost c.args.child) gone (faulted_by c.in-Err-reply.trouble judged.verdict fault.1)) c.faulted.ensures
+
+pub returns-in-Err-reply-clause-calm : goal.returns-in-Err-reply-clause-calm
+returns-in-Err-reply-clause-calm g c = λ spelled before count calm.
+    let so_far = c.questions.invariant in
+    c.ask-kept.ensures.calm
+    (due_spelled (settled c.args.typed.now) c.args.member.0 c.questions.running.machine c.questions.running.ask c.in-Check.query so_far.running c.in-Check.is spelled) before count
+    (so_far.calm spelled before count calm)
+
+pub returns-in-Err-go_on-clause-calm : goal.returns-in-Err-go_on-clause-calm
+returns-in-Err-go_on-clause-calm g c = λ spelled before count calm.
+    let so_far = c.questions.invariant in
+    c.ask-kept.ensures.calm
+    (due_spelled (settled c.args.typed.now) c.args.member.0 c.questions.running.machine c.questions.running.ask c.in-Check.query so_far.running c.in-Check.is spelled) before count
+    (so_far.calm spelled before count calm)

@@ -1,19 +1,43 @@
-use Rattle.std.proofs.Common.{false, ◌++◌, ◌∷◌, [], ap, ◌∙◌, sym, subst, Err}
+use Rattle.std.proofs.Common.{◌≡◌, ◌<◌, ◌++◌, ◌∷◌, [], false, refl, ap, ◌∙◌, sym, subst, Err}
 use Rattle.vx_ends.specs.declared.piece.Ending.{Ending}
-use Rattle.vx_verifier.specs.Headline.{HasCauseOf}
-use Rattle.vx_verifier.specs.Lanes.{IsCausedBy}
-use Rattle.vx_verifier.proofs.Children.{not_opened_by}
+use Rattle.vx_dialogue.specs.History.{Breaks}
+use Rattle.vx_dialogue.specs.declared.talk.Talk.TheVariants as talk
+use Rattle.vx_verifier.specs.Lanes.{Loses}
+use Rattle.vx_verifier.proofs.Children.{lost_by, above_none}
+use Rattle.vx_dialogue.specs.Steady.{IsSteady}
+use Rattle.vx_dialogue.proofs.Steady.{preamble_named}
+use Rattle.vx_verifier.specs.declared.lane.Child.TheVariants.{NotStarted, Talking, Lost}
+use Rattle.vx_verifier.proofs.Steady.{calm_on, calm_handed, opened}
 use Rattle.vx_verifier.proofs.lane.start.Goals as goal
 
 pub returns-in-Err-clause-told : goal.returns-in-Err-clause-told
 returns-in-Err-clause-told g c = λ before checks heard.
+    let dialogue = g.W.Link.Link.dialogue in
+    let faults = g.W.Link.Link.faults in
     let link = c.in-Err.link in
-    let e : Ending = record { lane = 0; dialogue = g.W.Link.Link.dialogue link; faults = g.W.Link.Link.faults link } in
-    let lost = not_opened_by g.W.Link.Link.dialogue before g.W.Link.Link.faults (g.W.Spawner.ended c.args.spawner.now) (g.W.Spawner.ended c.finish.new.self)
-    (g.W.Spawner.faults c.args.spawner.now) (g.W.Spawner.faults c.finish.new.self) link c.in-Err.talk _ checks _
-    (c.finish.ensures.ended ∙ ap (λ x. x ++ e ∷ []) c.start.ensures.ended) c.in-Err.ensures.fault
-    (λ h. c.in-Err.ensures.cause.rose (ap Err h)) c.in-Err.ensures.open heard in (
-      lost.0,
-      subst (λ t. IsCausedBy (HasCauseOf before (g.W.Spawner.ended c.finish.new.self) (g.W.Spawner.faults c.args.spawner.now) (g.W.Spawner.faults c.finish.new.self) false) t)
-          (sym c.trouble_of.ensures) lost.1,
-    )
+    let e : Ending = record { lane = 0; dialogue = dialogue link; faults = faults link } in
+    let broken : Breaks c.in-Err.talk (dialogue link) checks = subst (λ x. Breaks c.in-Err.talk (dialogue link) x) (sym heard.1) c.in-Err.ensures.fault in
+    let rose : c.in-Err.talk ≡ talk.Pipe → 0 < faults link = λ h. above_none _ (faults link) (c.in-Err.ensures.cause.rose (ap Err h)) in
+    subst (λ t. Loses before (g.W.Spawner.ended c.finish.new.self) (g.W.Spawner.faults c.args.spawner.now) (g.W.Spawner.faults c.finish.new.self) false checks t) (sym c.trouble_of.ensures)
+    (lost_by dialogue before (g.W.Spawner.ended c.start.new.self) (g.W.Spawner.ended c.finish.new.self) (g.W.Spawner.faults c.args.spawner.now) (g.W.Spawner.faults c.finish.new.self) e c.in-Err.talk checks
+    (c.start.ensures.ended ∙ heard.0) c.finish.ensures.ended refl broken rose c.in-Err.ensures.open)
+
+pub returns-in-Ok-open-clause-calm : goal.returns-in-Ok-open-clause-calm
+returns-in-Ok-open-clause-calm g c = λ before count calm.
+    let w = g.W.Spawner in
+    let l = g.W.Link.Link in
+    let link_is : IsSteady l.steady l.faults c.in-Ok.link = ((c.in-Ok.ensures.steady calm.spawner).1, c.in-Ok.ensures.fresh.1) in
+    calm_on l.dialogue l.steady l.faults before count (w.ended c.args.spawner.now) (w.ended c.start.new.self) _ _ _ _ NotStarted (Talking c.in-Ok-open.dialogue)
+    c.start.ensures.ended c.start.ensures.fixed (c.start.ensures.steady calm.spawner).0.same
+    (opened l.dialogue l.steady l.faults before count c.in-Ok-open.dialogue _ (c.in-Ok-open.ensures.steady link_is preamble_named) c.in-Ok-open.ensures.stands) calm
+
+pub returns-in-Err-clause-calm : goal.returns-in-Err-clause-calm
+returns-in-Err-clause-calm g c = λ before count calm.
+    let w = g.W.Spawner in
+    let l = g.W.Link.Link in
+    let link = c.in-Err.link in
+    let e : Ending = record { lane = 0; dialogue = l.dialogue link; faults = l.faults link } in
+    let link_is : IsSteady l.steady l.faults c.in-Ok.link = ((c.in-Ok.ensures.steady calm.spawner).1, c.in-Ok.ensures.fresh.1) in
+    calm_handed l.dialogue l.steady l.faults before count (w.ended c.args.spawner.now) (w.ended c.finish.new.self) _ _ _ _ NotStarted Lost e
+    (c.finish.ensures.ended ∙ ap (λ x. x ++ e ∷ []) c.start.ensures.ended) (c.finish.ensures.fixed ∙ c.start.ensures.fixed)
+    (c.finish.ensures.faults ∙ (c.start.ensures.steady calm.spawner).0.same) (c.in-Err.ensures.steady link_is preamble_named).1 tt calm

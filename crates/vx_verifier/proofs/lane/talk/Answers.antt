@@ -1,12 +1,14 @@
-use Rattle.std.proofs.Common.{◌≡◌, false, map, refl, ap, ◌∙◌, sym, subst, Err}
+use Rattle.std.proofs.Common.{◌≡◌, ◌<◌, false, map, refl, ap, ◌∙◌, sym, subst, Err}
 use Rattle.vx_ends.specs.declared.piece.Ending.{Ending}
-use Rattle.vx_ends.specs.Dialogue.{Grows}
 use Rattle.vx_dialogue.specs.declared.talk.Talk.TheVariants as talk
-use Rattle.vx_dialogue.specs.Dialogue.{shared, link_of}
+use Rattle.vx_dialogue.specs.Dialogue.{shared}
 use Rattle.vx_rules.specs.Stack.{query}
-use Rattle.vx_verifier.specs.Headline.{HasCauseOf}
-use Rattle.vx_verifier.specs.Lanes.{IsCausedBy}
-use Rattle.vx_verifier.proofs.Children.{answered, lost_by, recorded}
+use Rattle.vx_dialogue.specs.History.{Breaks}
+use Rattle.vx_verifier.specs.Lanes.{Loses}
+use Rattle.vx_verifier.proofs.Children.{answered, lost_by, recorded, lost_recorded, above_none}
+use Rattle.vx_dialogue.specs.Dialogue.{link_of}
+use Rattle.vx_verifier.specs.declared.lane.Child.TheVariants.{Talking, Lost}
+use Rattle.vx_verifier.proofs.Steady.{calm_on, calm_handed, asks_steady, asked_steady}
 use Rattle.vx_verifier.proofs.lane.talk.Goals as goal
 
 pub returns-in-Ok-ask-clause-told : goal.returns-in-Ok-ask-clause-told
@@ -19,20 +21,45 @@ returns-in-Ok-ask-clause-told g c = λ before checks heard.
 pub returns-in-Err-clause-lost : goal.returns-in-Err-clause-lost
 returns-in-Err-clause-lost g c = λ before checks heard.
     let dialogue = g.W.Link.Link.dialogue in
-    let e : Ending = record { lane = 0; dialogue = dialogue c.close.result; faults = g.W.Link.Link.faults c.close.result } in
-    let grows : Grows (dialogue (link_of c.args.dialogue)) (dialogue c.close.result) =
-    subst (λ x. Grows (dialogue (link_of c.args.dialogue)) (dialogue x)) (sym c.close.ensures) (λ front begins. begins) in
-    (recorded dialogue before (g.W.Spawner.ended c.args.spawner.now) (g.W.Spawner.ended c.finish.new.self) c.args.dialogue e checks c.finish.ensures.ended refl grows heard, tt)
+    let e : Ending = record { lane = 0; dialogue = dialogue c.close.result; faults = g.W.Link.Link.faults c.close.result } in (
+      lost_recorded before _ checks (recorded dialogue before (g.W.Spawner.ended c.args.spawner.now) (g.W.Spawner.ended c.finish.new.self) c.args.dialogue e checks c.finish.ensures.ended refl
+          (ap dialogue c.close.ensures) heard),
+      tt,
+    )
 
 pub returns-clause-lost : goal.returns-clause-lost
 returns-clause-lost g c = λ before checks heard.
+    let dialogue = g.W.Link.Link.dialogue in
+    let faults = g.W.Link.Link.faults in
+    let link = c.close-in-Err-ask.result in
     let free = c.requires.1 in
     let shut : c.in-Err-ask.talk ≡ talk.Closed → ⊥ = λ h. let failed = c.ask.ensures.closed.0 (c.in-Err-ask.is ∙ ap Err h) in cc (free, failed) in
-    let lost = lost_by g.W.Link.Link.dialogue before g.W.Link.Link.faults (g.W.Spawner.ended c.args.spawner.now) (g.W.Spawner.ended c.finish-in-Err-ask.new.self)
-    (g.W.Spawner.faults c.args.spawner.now) (g.W.Spawner.faults c.finish-in-Err-ask.new.self) c.args.dialogue c.ask.new.self c.close-in-Err-ask.result c.in-Err-ask.talk _ checks _
-    c.finish-in-Err-ask.ensures.ended c.close-in-Err-ask.ensures c.ask.ensures.grows (c.in-Err-ask.ensures.fault heard.1 heard.2 checks heard.3)
-    (λ h. c.ask.ensures.cause.rose (c.in-Err-ask.is ∙ ap Err h)) shut heard in (
-      lost.0,
-      subst (λ t. IsCausedBy (HasCauseOf before (g.W.Spawner.ended c.finish-in-Err-ask.new.self) (g.W.Spawner.faults c.args.spawner.now) (g.W.Spawner.faults c.finish-in-Err-ask.new.self) false) t)
-          (sym c.trouble_of.ensures) lost.1,
-    )
+    let e : Ending = record { lane = 0; dialogue = dialogue link; faults = faults link } in
+    let broken : Breaks c.in-Err-ask.talk (dialogue link) checks =
+    subst (λ x. Breaks c.in-Err-ask.talk (dialogue x) checks) (sym c.close-in-Err-ask.ensures) (c.in-Err-ask.ensures.fault heard.1 heard.2 checks heard.3) in
+    let rose : c.in-Err-ask.talk ≡ talk.Pipe → 0 < faults link =
+    λ h. subst (λ x. 0 < faults x) (sym c.close-in-Err-ask.ensures) (above_none _ _ (c.ask.ensures.cause.rose (c.in-Err-ask.is ∙ ap Err h))) in
+    subst (λ t. Loses before (g.W.Spawner.ended c.finish-in-Err-ask.new.self) (g.W.Spawner.faults c.args.spawner.now) (g.W.Spawner.faults c.finish-in-Err-ask.new.self) false checks t) (sym c.trouble_of.ensures)
+    (lost_by dialogue before _ (g.W.Spawner.ended c.finish-in-Err-ask.new.self) (g.W.Spawner.faults c.args.spawner.now) (g.W.Spawner.faults c.finish-in-Err-ask.new.self) e c.in-Err-ask.talk checks
+    heard.0 c.finish-in-Err-ask.ensures.ended refl broken rose shut)
+
+pub returns-in-Ok-ask-clause-calm : goal.returns-in-Ok-ask-clause-calm
+returns-in-Ok-ask-clause-calm g c = λ spelled before count calm.
+    let w = g.W.Spawner in
+    let l = g.W.Link.Link in
+    let path = ap (λ x. map shared x) c.deref.ensures.value ∙ c.in-Ok.ensures in
+    calm_on l.dialogue l.steady l.faults before count (w.ended c.args.spawner.now) (w.ended c.args.spawner.now) _ _ _ _ (Talking c.args.dialogue) (Talking c.ask.new.self) refl refl refl
+    (asked_steady l.dialogue l.steady l.faults before count c.args.dialogue c.ask.new.self (query c.args.query.now) (map shared c.deref.result.now) c.in-Ok-ask.reply path spelled
+    c.ask.ensures.steady c.in-Ok-ask.ensures.reply calm.child_is) calm
+
+pub returns-clause-calm : goal.returns-clause-calm
+returns-clause-calm g c = λ spelled before count calm.
+    let w = g.W.Spawner in
+    let l = g.W.Link.Link in
+    let link = c.close-in-Err-ask.result in
+    let e : Ending = record { lane = 0; dialogue = l.dialogue link; faults = l.faults link } in
+    let path = ap (λ x. map shared x) c.deref.ensures.value ∙ c.in-Ok.ensures in
+    let link_is = asks_steady l.dialogue l.steady l.faults before count c.args.dialogue (link_of c.ask.new.self) (query c.args.query.now) (map shared c.deref.result.now) path spelled
+    c.ask.ensures.steady calm.child_is in
+    calm_handed l.dialogue l.steady l.faults before count (w.ended c.args.spawner.now) (w.ended c.finish-in-Err-ask.new.self) _ _ _ _ (Talking c.args.dialogue) Lost e
+    c.finish-in-Err-ask.ensures.ended c.finish-in-Err-ask.ensures.fixed c.finish-in-Err-ask.ensures.faults (ap l.faults c.close-in-Err-ask.ensures ∙ link_is.1) tt calm

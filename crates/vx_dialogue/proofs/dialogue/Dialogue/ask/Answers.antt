@@ -1,7 +1,10 @@
-use Rattle.std.proofs.Common.{map}
+use Rattle.std.proofs.Common.{map, ◌++◌, ◌∷◌, []}
 use Rattle.vx_dialogue.specs.Dialogue.{shared}
 use Rattle.vx_dialogue.proofs.Lists.{if_ok_map}
 use Rattle.vx_dialogue.proofs.Explained.{if_err_map}
+use Rattle.vx_smt_meaning.specs.Commands.{CheckSat}
+use Rattle.vx_dialogue.specs.Dialogue.{question, is_in_member}
+use Rattle.vx_dialogue.proofs.Steady.{commands_join}
 use Rattle.vx_dialogue.proofs.dialogue.Dialogue.ask.Goals as goal
 
 pub returns-clause-reply : goal.returns-clause-reply
@@ -15,3 +18,10 @@ returns-clause-fault g c =
     if_err_map c.take.result _ _ (λ talk explained. λ base commands checks stands.
     explained base (map shared c.args.path.now) (shared c.args.condition.now) _ checks (c.in_ok-post.ensures.asks base commands checks stands))
     c.take.ensures.fault
+
+pub returns-clause-steady : goal.returns-clause-steady
+returns-clause-steady g c = λ steady base commands checks stands named.
+    let path = map shared c.args.path.now in
+    let condition = shared c.args.condition.now in
+    c.take.ensures.steady (c.post.ensures.steady steady base commands checks stands named) base path condition _ checks (c.in_ok-post.ensures.asks base commands checks stands)
+    (commands_join (commands ++ question (is_in_member c.args.self.now) path condition) (CheckSat ∷ []) named (tt, tt))

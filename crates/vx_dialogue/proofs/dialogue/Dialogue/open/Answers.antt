@@ -16,3 +16,10 @@ returns-in-Ok-clause-stands g c =
 pub returns-in-Err-clause-fault : goal.returns-in-Err-clause-fault
 returns-in-Err-clause-fault g c =
     rw c.close.ensures (c.in-Err.ensures.fault [] [] (gathers_none g.L.Link.dialogue _ c.requires (search rules) refl (search rules)))
+
+pub returns-in-Ok-clause-steady : goal.returns-in-Ok-clause-steady
+returns-in-Ok-clause-steady g c = λ steady named. c.start.ensures.steady steady [] [] (gathers_none g.L.Link.dialogue _ c.requires (search rules) refl (search rules)) named
+
+pub returns-in-Err-clause-steady : goal.returns-in-Err-clause-steady
+returns-in-Err-clause-steady g c = λ steady named.
+    rw c.close.ensures (c.start.ensures.steady steady [] [] (gathers_none g.L.Link.dialogue _ c.requires (search rules) refl (search rules)) named)

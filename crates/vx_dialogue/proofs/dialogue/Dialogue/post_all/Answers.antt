@@ -4,11 +4,10 @@ use Rattle.vx_smt_meaning.specs.Dialogues.{ArePlain}
 use Rattle.vx_smt_meaning.specs.Views.{command}
 use Rattle.vx_dialogue.specs.Dialogue.{Waits, question, shared}
 use Rattle.vx_dialogue.proofs.Lists.{on_ok_map}
-use Rattle.vx_dialogue.specs.Stops.{Explains}
 use Rattle.vx_dialogue.proofs.Levels.{plain_question}
-use Rattle.vx_dialogue.proofs.Explained.{if_err_map, longer}
+use Rattle.vx_dialogue.proofs.Explained.{if_err_map}
 use Rattle.std.proofs.lemmas.Result.{err_from_is_err_and}
-use Rattle.vx_ends.specs.Dialogue.{got}
+use Rattle.vx_smt_meaning.specs.Names.{AreCommands}
 use Rattle.vx_dialogue.proofs.dialogue.Dialogue.post_all.Goals as goal
 
 pub returns-clause-told : goal.returns-clause-told
@@ -30,7 +29,7 @@ returns-in_err-say_all-clause-fault g c =
     let all : map command c.deref.result.now ≡ question member path condition = search rules in
     let plain : ArePlain (map command c.deref.result.now) = rw all (plain_question member path condition) in
     let p = err_from_is_err_and c.from_residual-in_err-say_all.result c.from_residual-in_err-say_all.ensures.1 in rw (p.1, p.2) (λ commands checks told.
-    longer _ _ _ (CheckSat ∷ []) (subst (λ x. Explains c.in_err-say_all.field-0.0 (got (g.L.Link.dialogue c.say_all.new.self.link)) (commands ++ x)) all (c.in_err-say_all.ensures.fault plain commands checks told)))
+    c.in_err-say_all.ensures.fault plain commands checks told)
 
 pub returns-clause-fault : goal.returns-clause-fault
 returns-clause-fault g c =
@@ -39,6 +38,25 @@ returns-clause-fault g c =
     let member = c.args.self.now.in_member in
     let all : map command c.deref.result.now ≡ question member path condition = search rules in
     let plain : ArePlain (map command c.deref.result.now) = rw all (plain_question member path condition) in
-    if_err_map c.send_check.result _ _ (λ talk explained. λ commands checks told.
-    subst (λ x. Explains talk (got (g.L.Link.dialogue c.send_check.new.self.link)) ((commands ++ x) ++ CheckSat ∷ [])) all (explained _ checks (c.in_ok-say_all.ensures.told plain commands checks told)))
-    c.send_check.ensures.fault
+    if_err_map c.send_check.result _ _ (λ talk broken. λ commands checks told. broken _ checks (c.in_ok-say_all.ensures.told plain commands checks told)) c.send_check.ensures.fault
+
+pub returns-in_err-say_all-clause-steady : goal.returns-in_err-say_all-clause-steady
+returns-in_err-say_all-clause-steady g c = λ steady commands checks told named.
+    let path = map shared c.args.path.now in
+    let condition = shared c.args.condition.now in
+    let member = c.args.self.now.in_member in
+    let all : map command c.deref.result.now ≡ question member path condition = search rules in
+    let plain : ArePlain (map command c.deref.result.now) = rw all (plain_question member path condition) in
+    let names : AreCommands (commands ++ map command c.deref.result.now) = rw all named in
+    c.say_all.ensures.steady plain steady commands checks told names
+
+pub returns-clause-steady : goal.returns-clause-steady
+returns-clause-steady g c = λ steady commands checks told named.
+    let path = map shared c.args.path.now in
+    let condition = shared c.args.condition.now in
+    let member = c.args.self.now.in_member in
+    let all : map command c.deref.result.now ≡ question member path condition = search rules in
+    let plain : ArePlain (map command c.deref.result.now) = rw all (plain_question member path condition) in
+    let names : AreCommands (commands ++ map command c.deref.result.now) = rw all named in
+    c.send_check.ensures.steady (c.say_all.ensures.steady plain steady commands checks told names) (commands ++ map command c.deref.result.now) checks
+    (c.in_ok-say_all.ensures.told plain commands checks told) names

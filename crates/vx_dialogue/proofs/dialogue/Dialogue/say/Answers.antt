@@ -1,7 +1,9 @@
 use Rattle.std.proofs.Common.{◌≡◌, ◌++◌, refl}
 use Rattle.vx_smt_meaning.specs.Views.{command}
 use Rattle.vx_smt_text.specs.Text.{command_text}
+use Rattle.std.proofs.lemmas.Result.{err_from_is_err_and}
 use Rattle.vx_dialogue.proofs.Told.{gathers_said}
+use Rattle.vx_dialogue.proofs.History.{gathers_tells, tells_failed, breaks_want}
 use Rattle.vx_dialogue.proofs.dialogue.Dialogue.say.Goals as goal
 
 pub returns-clause-told : goal.returns-clause-told
@@ -10,3 +12,7 @@ returns-clause-told g c = λ plain commands checks told.
     let before = c.in_ok-make_room.ensures.told commands checks told in
     let written : c.write.new.out.items ≡ room.batch.items ++ command_text (command c.args.c.now) = c.in_ok-write.ensures.ok in
     gathers_said g.L.Link.dialogue room _ (command c.args.c.now) plain refl written refl refl c.in_ok-make_room.ensures.count commands checks before
+
+pub returns-in_err-write-clause-fault : goal.returns-in_err-write-clause-fault
+returns-in_err-write-clause-fault g c = let p = err_from_is_err_and c.from_residual-in_err-write.result c.from_residual-in_err-write.ensures.1 in rw p.1 (λ commands checks told.
+    breaks_want p.0 _ checks p.2 (tells_failed _ checks (gathers_tells g.L.Link.dialogue c.make_room.new.self commands checks (c.in_ok-make_room.ensures.told commands checks told))))

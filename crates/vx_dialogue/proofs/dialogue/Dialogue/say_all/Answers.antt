@@ -1,12 +1,11 @@
-use Rattle.std.proofs.Common.{◌≡◌, ◌++◌, ◌+◌, ◌∷◌, [], true, map, take, drop, ap, ◌∙◌, sym, subst, arith, append_assoc}
+use Rattle.std.proofs.Common.{◌≡◌, ◌++◌, ◌+◌, ◌∷◌, [], true, map, take, ap, ◌∙◌, sym, subst, arith, append_assoc}
 use Rattle.std.proofs.lemmas.Grind.{common_steps}
 use Rattle.vx_smt_meaning.specs.Views.{command}
 use Rattle.vx_smt_meaning.specs.Dialogues.{is_plain}
 use Rattle.vx_dialogue.specs.Dialogue.{Gathers}
-use Rattle.vx_dialogue.specs.Stops.{Explains}
-use Rattle.vx_dialogue.proofs.Lists.{map_take_more, map_whole, plain_at}
-use Rattle.vx_dialogue.proofs.Explained.{longer}
+use Rattle.vx_dialogue.proofs.Lists.{map_take_more, plain_at}
 use Rattle.std.proofs.lemmas.Result.{err_from_is_err_and}
+use Rattle.vx_dialogue.proofs.Steady.{commands_upto}
 use Rattle.vx_dialogue.proofs.dialogue.Dialogue.say_all.Goals as goal
 
 pub loop-c-preserved : goal.loop-c-preserved
@@ -27,14 +26,20 @@ loop-c-preserved g c =
       owed = c.say.ensures.same.1 ∙ before.owed;
       failed = c.say.ensures.same.2 ∙ before.failed;
       grows = λ front begins. c.say.ensures.grows front (before.grows front begins);
+      steady = λ plain steady commands checks told named.
+          c.say.ensures.steady (before.steady plain steady commands checks told named) (commands ++ map command (take i all)) checks (before.told plain commands checks told)
+          (commands_upto command all i commands named);
       later = grind (arith, common_steps);
     }
 
 pub returns-in_err-say-clause-fault : goal.returns-in_err-say-clause-fault
 returns-in_err-say-clause-fault g c = let p = err_from_is_err_and c.from_residual.result c.from_residual.ensures.1 in rw (p.1, p.2) (λ plain commands checks told.
+    c.in_err-say.ensures.fault _ checks (c.loop-c.invariant.told plain commands checks told))
+
+pub returns-in_err-say-clause-steady : goal.returns-in_err-say-clause-steady
+returns-in_err-say-clause-steady g c = λ plain steady commands checks told named.
+    let before = c.loop-c.invariant in
     let all = c.args.all.now in
     let i = c.loop-c.c-index in
-    let so_far = c.in_err-say.ensures.fault _ checks (c.loop-c.invariant.told plain commands checks told) in
-    let whole : (commands ++ map command (take i all)) ++ map command (drop i all) ≡ commands ++ map command all =
-    append_assoc commands (map command (take i all)) (map command (drop i all)) ∙ ap (λ x. commands ++ x) (map_whole command all i) in
-    subst (Explains _ _) whole (longer _ _ _ (map command (drop i all)) so_far))
+    c.say.ensures.steady (before.steady plain steady commands checks told named) (commands ++ map command (take i all)) checks (before.told plain commands checks told)
+    (commands_upto command all i commands named)

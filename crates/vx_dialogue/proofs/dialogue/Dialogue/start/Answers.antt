@@ -3,11 +3,10 @@ use Rattle.vx_smt_meaning.specs.Dialogues.{ArePlain}
 use Rattle.vx_smt_meaning.specs.Views.{command, declared_symbol}
 use Rattle.vx_dialogue.specs.Dialogue.{Gathers, preamble}
 use Rattle.vx_dialogue.proofs.Lists.{on_ok_map}
-use Rattle.vx_dialogue.specs.Stops.{Explains}
 use Rattle.vx_dialogue.proofs.Levels.{plain_preamble}
 use Rattle.vx_dialogue.proofs.Explained.{if_err_map}
 use Rattle.std.proofs.lemmas.Result.{err_from_is_err_and}
-use Rattle.vx_ends.specs.Dialogue.{got}
+use Rattle.vx_smt_meaning.specs.Names.{AreCommands}
 use Rattle.vx_dialogue.proofs.dialogue.Dialogue.start.Goals as goal
 
 pub returns-clause-told : goal.returns-clause-told
@@ -25,13 +24,28 @@ returns-in_err-say_all-clause-fault g c =
     let all : map command c.deref.result.now ≡ preamble c.args.certify functions = search rules in
     let plain : ArePlain (map command c.deref.result.now) = rw all (plain_preamble c.args.certify functions) in
     let p = err_from_is_err_and c.from_residual-in_err-say_all.result c.from_residual-in_err-say_all.ensures.1 in rw (p.1, p.2) (λ commands checks told.
-    subst (λ x. Explains c.in_err-say_all.field-0.0 (got (g.L.Link.dialogue c.say_all.new.self.link)) (commands ++ x)) all (c.in_err-say_all.ensures.fault plain commands checks told))
+    c.in_err-say_all.ensures.fault plain commands checks told)
 
 pub returns-clause-fault : goal.returns-clause-fault
 returns-clause-fault g c =
     let functions = map declared_symbol c.args.functions.now in
     let all : map command c.deref.result.now ≡ preamble c.args.certify functions = search rules in
     let plain : ArePlain (map command c.deref.result.now) = rw all (plain_preamble c.args.certify functions) in
-    if_err_map c.flush.result _ _ (λ talk explained. λ commands checks told.
-    subst (λ x. Explains talk (got (g.L.Link.dialogue c.flush.new.self.link)) (commands ++ x)) all (explained _ checks (c.in_ok-say_all.ensures.told plain commands checks told)))
-    c.flush.ensures.fault
+    if_err_map c.flush.result _ _ (λ talk broken. λ commands checks told. broken _ checks (c.in_ok-say_all.ensures.told plain commands checks told)) c.flush.ensures.fault
+
+pub returns-in_err-say_all-clause-steady : goal.returns-in_err-say_all-clause-steady
+returns-in_err-say_all-clause-steady g c = λ steady commands checks told named.
+    let functions = map declared_symbol c.args.functions.now in
+    let all : map command c.deref.result.now ≡ preamble c.args.certify functions = search rules in
+    let plain : ArePlain (map command c.deref.result.now) = rw all (plain_preamble c.args.certify functions) in
+    let names : AreCommands (commands ++ map command c.deref.result.now) = rw all named in
+    c.say_all.ensures.steady plain steady commands checks told names
+
+pub returns-clause-steady : goal.returns-clause-steady
+returns-clause-steady g c = λ steady commands checks told named.
+    let functions = map declared_symbol c.args.functions.now in
+    let all : map command c.deref.result.now ≡ preamble c.args.certify functions = search rules in
+    let plain : ArePlain (map command c.deref.result.now) = rw all (plain_preamble c.args.certify functions) in
+    let names : AreCommands (commands ++ map command c.deref.result.now) = rw all named in
+    c.flush.ensures.steady (c.say_all.ensures.steady plain steady commands checks told names) (commands ++ map command c.deref.result.now) checks
+    (c.in_ok-say_all.ensures.told plain commands checks told) names

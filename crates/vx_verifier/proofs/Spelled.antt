@@ -1,0 +1,141 @@
+-- In a supported program each name in a question is spelled as a symbol: none is a name of its own.
+use Rattle.std.proofs.Common.{◌≡◌, ℕ, zero, suc, Bool, true, false, List, [], ◌∷◌, ◌++◌, Option, Some, None, map, slice_get, if◌then◌else◌, ap, ◌∙◌, sym, refl, subst}
+use Rattle.vx_ast.specs.declared.resolved.Kind.TheVariants as kind'
+use Rattle.vx_ast.specs.declared.resolved.Member as member'
+use Rattle.vx_ast.specs.Syntax.{Member, Method, IsMethod}
+use Rattle.vx_ast.specs.Resolved.{kind, member, method}
+use Rattle.vx_terms.specs.Sorts.{Sort, IntSort, BoolSort, RealSort, RefSort, SnapSort, OtherSort, Symbol, Standard, Function, Variable, Named}
+use Rattle.vx_terms.specs.Terms.{Term, Truth, Number, Part, Constant, Apply, Not, Binary, Ite, AllOf, SomeOf, Terms, NoTerms, MoreTerms}
+use Rattle.vx_terms.specs.Build.{negate}
+use Rattle.vx_terms.specs.Interpretations.{Each}
+use Rattle.vx_smt_meaning.specs.Commands.{Declared, Assert, Push}
+use Rattle.vx_smt_meaning.specs.Names.{IsName, IsSortName, AreNames, AllAreNames, AreCommands}
+use Rattle.vx_dialogue.specs.Dialogue.{declarations, assertions, symbols_of}
+use Rattle.vx_dialogue.specs.Symbols.{variable, declares, with_variable, with_symbol, with_variables, with_all_variables, with_listed}
+use Rattle.vx_dialogue.proofs.Steady.{commands_join}
+use Rattle.vx_rules.specs.Trees.{Question, Tree, End, On, Step, Ask, Probe, Fork}
+use Rattle.vx_rules.specs.Members.{tree, method_tree}
+use Rattle.vx_machine.specs.Runs.{tree_of}
+use Rattle.vx_sound.specs.Live.{IsBuiltIn, IsNumbered, IsNameless, AreNameless, IsLive, AllLive}
+use Rattle.vx_sound.proofs.Nameless.{negate_nameless}
+use Rattle.vx_sound.proofs.LiveMethods.{methods_live}
+use Rattle.vx_verifier.specs.Headline.{IsSupported}
+use Rattle.vx_verifier.specs.Steady.{IsSpelled, AllSpelled, AsksSpelled}
+
+numbered_name : (f : Symbol) → IsNumbered f → IsName f
+numbered_name (Standard n) h = tt
+numbered_name (Function n) h = tt
+numbered_name (Variable n) h = tt
+numbered_name (Named x) h = absurd h
+
+built_name : (a : Sort) → IsBuiltIn a → IsSortName a
+built_name IntSort h = tt
+built_name BoolSort h = tt
+built_name RealSort h = tt
+built_name RefSort h = tt
+built_name SnapSort h = tt
+built_name (OtherSort x) h = absurd h
+
+mutual
+  nameless_names : (t : Term) → IsNameless t → AreNames t
+  nameless_names (Truth b) h = tt
+  nameless_names (Number z) h = tt
+  nameless_names (Part a) h = tt
+  nameless_names (Constant f a) h = numbered_name f h.0
+  nameless_names (Apply f a ts) h = (numbered_name f h.0, all_names ts h.2)
+  nameless_names (Not t) h = nameless_names t h
+  nameless_names (Binary o t u) h = (nameless_names t h.0, nameless_names u h.1)
+  nameless_names (Ite c t u) h = (nameless_names c h.0, nameless_names t h.1, nameless_names u h.2)
+  nameless_names (AllOf ts) h = all_names ts h
+  nameless_names (SomeOf ts) h = all_names ts h
+
+  all_names : (ts : Terms) → AreNameless ts → AllAreNames ts
+  all_names NoTerms h = tt
+  all_names (MoreTerms t ts) h = (nameless_names t h.0, all_names ts h.1)
+
+-- ---- the declarations of a question
+
+declared_more : (ds : List Declared) (n : ℕ) (a : Sort) → IsBuiltIn a → AreCommands (declarations ds) → AreCommands (declarations (ds ++ variable n a ∷ []))
+declared_more [] n a built h = ((tt, tt, built_name a built), tt)
+declared_more (d ∷ ds) n a built h = (h.0, declared_more ds n a built h.1)
+
+declared_variable : (ds : List Declared) (n : ℕ) (a : Sort) → IsBuiltIn a → AreCommands (declarations ds) → AreCommands (declarations (with_variable ds n a))
+declared_variable ds n a built h = by_case (declares ds n)
+  where
+    by_case : (b : Bool) → AreCommands (declarations (if b then ds else (ds ++ variable n a ∷ [])))
+    by_case true = h
+    by_case false = declared_more ds n a built h
+
+declared_symbol : (ds : List Declared) (f : Symbol) (a : Sort) → IsBuiltIn a → AreCommands (declarations ds) → AreCommands (declarations (with_symbol ds f a))
+declared_symbol ds (Standard n) a built h = h
+declared_symbol ds (Function n) a built h = h
+declared_symbol ds (Variable n) a built h = declared_variable ds n a built h
+declared_symbol ds (Named x) a built h = h
+
+mutual
+  declared_term : (t : Term) (ds : List Declared) → IsNameless t → AreCommands (declarations ds) → AreCommands (declarations (with_variables ds t))
+  declared_term (Truth b) ds n h = h
+  declared_term (Number z) ds n h = h
+  declared_term (Part a) ds n h = h
+  declared_term (Constant f a) ds n h = declared_symbol ds f a n.1 h
+  declared_term (Apply f a ts) ds n h = declared_terms ts ds n.2 h
+  declared_term (Not t) ds n h = declared_term t ds n h
+  declared_term (Binary o t u) ds n h = declared_term u (with_variables ds t) n.1 (declared_term t ds n.0 h)
+  declared_term (Ite c t u) ds n h = declared_term u (with_variables (with_variables ds c) t) n.2 (declared_term t (with_variables ds c) n.1 (declared_term c ds n.0 h))
+  declared_term (AllOf ts) ds n h = declared_terms ts ds n h
+  declared_term (SomeOf ts) ds n h = declared_terms ts ds n h
+
+  declared_terms : (ts : Terms) (ds : List Declared) → AreNameless ts → AreCommands (declarations ds) → AreCommands (declarations (with_all_variables ds ts))
+  declared_terms NoTerms ds n h = h
+  declared_terms (MoreTerms t ts) ds n h = declared_terms ts (with_variables ds t) n.1 (declared_term t ds n.0 h)
+
+declared_path : (path : List Term) (ds : List Declared) → Each IsNameless path → AreCommands (declarations ds) → AreCommands (declarations (with_listed ds path))
+declared_path [] ds n h = h
+declared_path (t ∷ path) ds n h = declared_path path (with_variables ds t) n.1 (declared_term t ds n.0 h)
+
+asserted_path : (path : List Term) → Each IsNameless path → AreCommands (assertions path)
+asserted_path [] n = tt
+asserted_path (t ∷ path) n = (nameless_names t n.0, asserted_path path n.1)
+
+live_spelled : (q : Question) → IsLive q → IsSpelled q
+live_spelled q live =
+    let negated = negate_nameless q.condition live.nameless in
+    let declared : AreCommands (declarations (symbols_of q.path (negate q.condition))) = declared_term (negate q.condition) (with_listed [] q.path) negated (declared_path q.path [] live.path_nameless tt) in
+    let opened = commands_join (Push 1 ∷ Push 1 ∷ []) (declarations (symbols_of q.path (negate q.condition))) (tt, (tt, tt)) declared in
+    let asserted = commands_join ((Push 1 ∷ Push 1 ∷ []) ++ declarations (symbols_of q.path (negate q.condition))) (assertions q.path) opened (asserted_path q.path live.path_nameless) in
+    commands_join (((Push 1 ∷ Push 1 ∷ []) ++ declarations (symbols_of q.path (negate q.condition))) ++ assertions q.path) (Assert (negate q.condition) ∷ []) asserted
+    (nameless_names (negate q.condition) negated, tt)
+
+-- ---- trees and members
+
+all_spelled : (t : Tree) → AllLive t → AllSpelled t
+all_spelled End live = tt
+all_spelled (On t s) live = tt
+all_spelled (Step t) live = all_spelled t live
+all_spelled (Ask q t) live = (live_spelled q live.0, all_spelled t live.1)
+all_spelled (Probe q a b) live = (live_spelled q live.0, all_spelled a live.1, all_spelled b live.2)
+all_spelled (Fork a b) live = (all_spelled a live.0, all_spelled b live.1)
+
+one_kind : (k : kind'.the_data) → (m : Method) × (kind k ≡ IsMethod m)
+one_kind (kind'.Method m) = (method m.value, refl)
+
+some_same : {A : Type 0} (a b : A) → Some a ≡ Some b → a ≡ b
+some_same a b e = cc
+
+only_methods : (ms : List member'.Member) (n : ℕ) (x : Member) → slice_get (map member ms) n ≡ Some x → (m : Method) × (x.kind ≡ IsMethod m)
+only_methods [] n x at = cc
+only_methods (y ∷ ms) zero x at =
+    let here = one_kind y.kind in
+    (here.0, ap (λ (z : Member). z.kind) (sym (some_same (member y) x at)) ∙ here.1)
+only_methods (y ∷ ms) (suc n) x at = only_methods ms n x at
+
+pub supported_spelled : (ms : List member'.Member) → IsSupported (map member ms) → AsksSpelled (map member ms)
+supported_spelled ms supported n = by_member (slice_get (map member ms) n) refl
+  where
+    by_member : (o : Option Member) → slice_get (map member ms) n ≡ o → AllSpelled (tree_of (map member ms) o)
+    by_member None at = tt
+    by_member (Some x) at =
+        let p = map member ms in
+        let m = only_methods ms n x at in
+        let law = supported n m.0 (x, at, m.1) in
+        subst (λ k. AllSpelled (tree p x.name k)) (sym m.1) (all_spelled (method_tree p m.0) (methods_live p m.0 law.0 law.1))

@@ -1,0 +1,164 @@
+-- How no count rises, from one call to the next.
+use Rattle.std.proofs.Common.{◌≡◌, ℕ, ◌-◌, ◌^◌, ◌<◌, Bool, false, IsTrue, ◌++◌, ◌∷◌, [], List, refl, ap, ◌∙◌, sym, subst, append_assoc, arith}
+use Rattle.vx_terms.specs.Terms.{Term}
+use Rattle.vx_terms.specs.Interpretations.{Each}
+use Rattle.vx_ends.specs.declared.piece.Piece.{Piece}
+use Rattle.vx_ends.specs.declared.piece.Ending.{Ending}
+use Rattle.vx_ends.specs.Causes.{Rose}
+use Rattle.vx_smt_meaning.specs.Commands.{Command, CheckSat, Pop, Level}
+use Rattle.vx_smt_meaning.specs.Dialogues.{Check}
+use Rattle.vx_smt_meaning.specs.Names.{AreCommands}
+use Rattle.vx_smt_meaning.specs.declared.reply.Reply.{Reply}
+use Rattle.vx_smt_meaning.specs.declared.reply.Reply.TheVariants.{Unsat, Sat, Unknown}
+use Rattle.vx_dialogue.specs.declared.dialogue.Dialogue.{Dialogue}
+use Rattle.vx_dialogue.specs.Dialogue.{Stands, link_of, question, closing, preamble, is_in_member, check_of}
+use Rattle.vx_dialogue.specs.Steady.{IsSteady}
+use Rattle.vx_dialogue.proofs.Joined.{append_none}
+use Rattle.vx_dialogue.proofs.Steady.{commands_join, preamble_named, question_named, closing_named}
+use Rattle.vx_rules.specs.Trees.{Question, Tree, End, On, Step, Ask, Probe, Fork, Walked, Open, walk, walk_then, passed}
+use Rattle.vx_verifier.specs.declared.lane.Child.{Child}
+use Rattle.vx_verifier.specs.declared.lane.Child.TheVariants.{NotStarted, Talking}
+use Rattle.vx_verifier.specs.Causes.{NoCountRose}
+use Rattle.vx_verifier.specs.Steady.{IsSpelled, AllSpelled, IsSteadyChild, IsCalmLane}
+
+each_more : (P : Ending → Type 0) (xs : List Ending) (e : Ending) → Each P xs → P e → Each P (xs ++ e ∷ [])
+each_more P [] e all one = (one, tt)
+each_more P (x ∷ xs) e all one = (all.0, each_more P xs e all.1 one)
+
+module _ {L : Type 0} (dialogue : L → List Piece) (steady_link : L → Bool) (faults_of : L → ℕ) (before : List Ending) (count : ℕ) where
+  abbrev Calm : (now : List Ending) (steady : Bool) (faults : ℕ) → Child L → Type 0
+  Calm now steady faults child = IsCalmLane dialogue steady_link faults_of before now steady count faults child
+
+  -- the same with another child, where nothing else changed
+  pub calm_on : (old new : List Ending) (s t : Bool) (f g : ℕ) (a b : Child L) → new ≡ old → t ≡ s → g ≡ f → IsSteadyChild dialogue steady_link faults_of b
+      → Calm old s f a → Calm new t g b
+  calm_on old new s t f g a b ended steady faults child calm = record {
+    spawner = subst IsTrue (sym steady) calm.spawner;
+    starts = faults ∙ calm.starts;
+    since = calm.since;
+    ended = ended ∙ calm.ended;
+    links = calm.links;
+    child_is = child;
+  }
+
+  -- a link is handed back that has not failed
+  pub calm_handed : (old new : List Ending) (s t : Bool) (f g : ℕ) (a b : Child L) (e : Ending) → new ≡ old ++ e ∷ [] → t ≡ s → g ≡ f → e.faults ≡ 0
+      → IsSteadyChild dialogue steady_link faults_of b → Calm old s f a → Calm new t g b
+  calm_handed old new s t f g a b e ended steady faults none child calm = record {
+    spawner = subst IsTrue (sym steady) calm.spawner;
+    starts = faults ∙ calm.starts;
+    since = calm.since ++ e ∷ [];
+    ended = ended ∙ (ap (λ x. x ++ e ∷ []) calm.ended ∙ append_assoc before calm.since (e ∷ []));
+    links = each_more (λ x. x.faults ≡ 0) calm.since e calm.links none;
+    child_is = child;
+  }
+
+  pub calm_at : (now : List Ending) (s : Bool) (f : ℕ) (a b : Child L) → a ≡ b → Calm now s f a → Calm now s f b
+  calm_at now s f a b is calm = subst (λ (x : Child L). Calm now s f x) is calm
+
+  -- a child talks, with its preamble said
+  pub opened : (d : Dialogue L) (base : List Level) → IsSteady steady_link faults_of (link_of d) → Stands dialogue base d (preamble false []) []
+      → IsSteadyChild dialogue steady_link faults_of (Talking d)
+  opened d base steady stands = (steady, base, preamble false [], [], stands, preamble_named)
+
+  said_named : (m : Bool) (path : List Term) (q : Question) (commands : List Command) → path ≡ q.path → IsSpelled q → AreCommands commands → AreCommands (commands ++ question m path q.condition)
+  said_named m path q commands is spelled named =
+      commands_join commands (question m path q.condition) named
+      (question_named m path q.condition (subst (λ x. AreCommands (question false x q.condition)) (sym is) spelled))
+
+  -- a question keeps its link steady
+  pub asks_steady : (d : Dialogue L) (link : L) (q : Question) (path : List Term) → path ≡ q.path → IsSpelled q
+      → (IsSteady steady_link faults_of (link_of d) → (base : List Level) (commands : List Command) (checks : List Check) → Stands dialogue base d commands checks
+      → AreCommands (commands ++ question (is_in_member d) path q.condition) → IsSteady steady_link faults_of link)
+      → IsSteadyChild dialogue steady_link faults_of (Talking d) → IsSteady steady_link faults_of link
+  asks_steady d link q path is spelled on child = on child.0 child.1 child.2 child.3 child.4 (said_named (is_in_member d) path q child.2 is spelled child.5)
+
+  -- and is answered
+  pub asked_steady : (d d' : Dialogue L) (q : Question) (path : List Term) (r : Reply) → path ≡ q.path → IsSpelled q
+      → (IsSteady steady_link faults_of (link_of d) → (base : List Level) (commands : List Command) (checks : List Check) → Stands dialogue base d commands checks
+      → AreCommands (commands ++ question (is_in_member d) path q.condition) → IsSteady steady_link faults_of (link_of d'))
+      → ((base : List Level) (commands : List Command) (checks : List Check) → Stands dialogue base d commands checks
+      → Stands dialogue base d' (((commands ++ question (is_in_member d) path q.condition) ++ CheckSat ∷ []) ++ Pop 1 ∷ []) (checks ++ check_of base path q.condition r ∷ []))
+      → IsSteadyChild dialogue steady_link faults_of (Talking d) → IsSteadyChild dialogue steady_link faults_of (Talking d')
+  asked_steady d d' q path r is spelled on answer child =
+      let named = said_named (is_in_member d) path q child.2 is spelled child.5 in
+      let said = child.2 ++ question (is_in_member d) path q.condition in (
+        on child.0 child.1 child.2 child.3 child.4 named,
+        child.1,
+        (said ++ CheckSat ∷ []) ++ Pop 1 ∷ [],
+        child.3 ++ check_of child.1 path q.condition r ∷ [],
+        answer child.1 child.2 child.3 child.4,
+        commands_join (said ++ CheckSat ∷ []) (Pop 1 ∷ []) (commands_join said (CheckSat ∷ []) named (tt, tt)) (tt, tt),
+      )
+
+  -- the member is left
+  pub left_steady : (d d' : Dialogue L) → link_of d' ≡ link_of d
+      → ((base : List Level) (commands : List Command) (checks : List Check) → Stands dialogue base d commands checks → Stands dialogue base d' (commands ++ closing (is_in_member d)) checks)
+      → IsSteadyChild dialogue steady_link faults_of (Talking d) → IsSteadyChild dialogue steady_link faults_of (Talking d')
+  left_steady d d' same on child = (
+    subst (IsSteady steady_link faults_of) (sym same) child.0,
+    child.1,
+    child.2 ++ closing (is_in_member d),
+    child.3,
+    on child.1 child.2 child.3 child.4,
+    commands_join child.2 (closing (is_in_member d)) child.5 (closing_named (is_in_member d)),
+  )
+
+  -- the spawner is steady at first
+  pub calm_first : (now : List Ending) (s : Bool) → now ≡ before → IsTrue s → Calm now s count NotStarted
+  calm_first now s same steady = record {
+    spawner = steady;
+    starts = refl;
+    since = [];
+    ended = same ∙ sym (append_none before);
+    links = tt;
+    child_is = tt;
+  }
+
+  cancelled : {A : Type 0} (xs ys zs : List A) → xs ++ ys ≡ xs ++ zs → ys ≡ zs
+  cancelled [] ys zs e = e
+  cancelled (x ∷ xs) ys zs e = cancelled xs ys zs (cc)
+
+  not_rose : (g : ℕ) → count < 2 ^ 64 - 1 → g ≡ count → Rose count g → ⊥
+  not_rose g room same rose = omega arith
+
+  -- so no count rose
+  pub none_rose : (now : List Ending) (s : Bool) (g : ℕ) (child : Child L) → count < 2 ^ 64 - 1 → Calm now s g child → NoCountRose before now count g
+  none_rose now s g child room calm = record {
+    starts = not_rose g room calm.starts;
+    links = λ since is. subst (λ x. Each (λ (e : Ending). e.faults ≡ 0) x) (cancelled before calm.since since (sym calm.ended ∙ is)) calm.links;
+  }
+
+-- ---- the open question of a walk is one of the tree's
+
+abbrev OpensSpelled : (List Reply → Walked) → Type 0
+OpensSpelled next = (rs : List Reply) (q : Question) → (next rs).ending ≡ Open q → IsSpelled q
+
+one_open : (q q' : Question) → Open q ≡ Open q' → q ≡ q'
+one_open q q' e = cc
+
+ask_opens : (q : Question) (t : Tree) (next : List Reply → Walked) → IsSpelled q → OpensSpelled (walk_then t next) → OpensSpelled (walk_then (Ask q t) next)
+ask_opens q t next h e [] q' is = subst IsSpelled (one_open q q' is) h
+ask_opens q t next h e (Unsat ∷ rs) q' is = e rs q' is
+ask_opens q t next h e (Sat ∷ rs) q' is = cc
+ask_opens q t next h e (Unknown ∷ rs) q' is = cc
+
+probe_opens : (q : Question) (a b : Tree) (next : List Reply → Walked) → IsSpelled q → OpensSpelled (walk_then a next) → OpensSpelled (walk_then b next) → OpensSpelled (walk_then (Probe q a b) next)
+probe_opens q a b next h e f [] q' is = subst IsSpelled (one_open q q' is) h
+probe_opens q a b next h e f (Unsat ∷ rs) q' is = e rs q' is
+probe_opens q a b next h e f (Sat ∷ rs) q' is = f rs q' is
+probe_opens q a b next h e f (Unknown ∷ rs) q' is = f rs q' is
+
+through : (t : Tree) (next : List Reply → Walked) → AllSpelled t → OpensSpelled next → OpensSpelled (walk_then t next)
+through End next all e = e
+through (On t s) next all e = e
+through (Step t) next all e = through t next all e
+through (Ask q t) next all e = ask_opens q t next all.0 (through t next all.1 e)
+through (Probe q a b) next all e = probe_opens q a b next all.0 (through a next all.1 e) (through b next all.2 e)
+through (Fork a b) next all e = through a (walk_then b next) all.0 (through b next all.1 e)
+
+passed_opens : OpensSpelled passed
+passed_opens rs q is = cc
+
+pub open_spelled : (t : Tree) (rs : List Reply) (q : Question) → AllSpelled t → (walk t rs).ending ≡ Open q → IsSpelled q
+open_spelled t rs q all is = through t passed all passed_opens rs q is
