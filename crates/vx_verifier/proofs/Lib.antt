@@ -1,7 +1,6 @@
 mod Walks
 mod Sequences
 mod Runs
-mod Covered
 mod Children
 mod Complete
 mod Members
