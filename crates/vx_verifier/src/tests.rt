@@ -226,6 +226,196 @@ fn say_all(
 }
 
 #[test]
+fn programs_are_checked(rt: HostRuntime) -> Result<(), Fail> {
+    let rows = [
+        (
+            "method id(b: Bool) returns (c: Bool) requires b ensures c { c := b }",
+            "ok\n",
+            0,
+        ),
+        ("method m() { x := 1 }", "error at 1:14: E20 Unknown x\n", 4),
+        (
+            "method m(x: Int) { x := 1 }",
+            "error at 1:20: E29 NotAssignable\n",
+            4,
+        ),
+        (
+            "method m(b: Bool) requires old(b) {}",
+            "error at 1:28: E30 OldHere\n",
+            4,
+        ),
+        (
+            "method m() { assert 1 + true == 2 }",
+            "error at 1:25: E22 Mismatch Int Bool\n",
+            4,
+        ),
+        (
+            "predicate p(x: Ref) method m(x: Ref) { fold p(x) }",
+            "error at 1:45: E32 UnfoldAbstract\n",
+            4,
+        ),
+        (
+            "function g(n: Int): Int requires g(n) > 0 decreases n { 0 }",
+            "error at 1:34: E28 NotHere\n",
+            4,
+        ),
+        (
+            "function f(n: Int): Int { n == 0 ? 0 : f(n - 1) }",
+            "error at 1:1: E25 NoMeasure\n",
+            4,
+        ),
+        ("method m() {", "error at 1:13: E04 EndOfText\n", 4),
+    ];
+    say_all(&rt, rt.alloc(), "check", &rows)
+}
+
+#[test]
+fn names_and_permissions_are_checked(rt: HostRuntime) -> Result<(), Fail> {
+    let rows = [
+        (
+            "field f: Int field f: Int",
+            "error at 1:20: E21 Twice f\n",
+            4,
+        ),
+        (
+            "method m(x: Int) { var x: Int }",
+            "error at 1:24: E21 Twice x\n",
+            4,
+        ),
+        (
+            "method m() { if (true) { var y: Int } var y: Int }",
+            "ok\n",
+            0,
+        ),
+        (
+            "field f: Int method m(x: Ref) { assume acc(x.f) }",
+            "error at 1:40: E23 Impure\n",
+            4,
+        ),
+        (
+            "field f: Int method m(x: Ref) { inhale acc(x) }",
+            "error at 1:44: E23 Impure\n",
+            4,
+        ),
+        (
+            "function f(n: Int): Int { n } method m() { assert f() == 0 }",
+            "error at 1:51: E24 Arity 1 0\n",
+            4,
+        ),
+        (
+            "method m() { } method n() { m(1) }",
+            "error at 1:29: E24 Arity 0 1\n",
+            4,
+        ),
+        (
+            "method m() returns (x: Int) { } method n() { var y: Int var z: Int y, z := m() }",
+            "error at 1:76: E24 Arity 1 2\n",
+            4,
+        ),
+        (
+            "method m() returns (b: Bool) { } method n() { var y: Int y := m() }",
+            "error at 1:63: E22 Mismatch Int Bool\n",
+            4,
+        ),
+        (
+            "predicate p(x: Ref) { true } function f(n: Int, x: Ref): Int decreases n { g(n, x) } function g(n: Int, x: Ref): Int decreases p(x) { f(n, x) }",
+            "error at 1:30: E26 MixedMeasures\n",
+            4,
+        ),
+        (
+            "field f: Int predicate p(x: Ref) { acc(x.f, none) }",
+            "error at 1:45: E27 AmountNotConstant\n",
+            4,
+        ),
+        (
+            "field f: Int method m(x: Ref, n: Int) { inhale acc(x.f, n) }",
+            "error at 1:57: E22 Mismatch Perm Int\n",
+            4,
+        ),
+        (
+            "field f: Int method m(x: Ref, q: Perm) { inhale acc(x.f, q + (true ? q : q)) }",
+            "error at 1:63: E27 AmountNotConstant\n",
+            4,
+        ),
+        (
+            "function f(n: Int): Int { n } predicate p(x: Ref) { f(1) == 1 }",
+            "error at 1:53: E28 NotHere\n",
+            4,
+        ),
+        (
+            "method m() ensures result == 1 { }",
+            "error at 1:20: E31 ResultHere\n",
+            4,
+        ),
+    ];
+    say_all(&rt, rt.alloc(), "check", &rows)
+}
+
+#[test]
+fn operands_and_places_are_checked(rt: HostRuntime) -> Result<(), Fail> {
+    let rows = [
+        (
+            "method m() returns (x: Int) { } method n() { assert m() == 1 }",
+            "error at 1:53: E20 Unknown m\n",
+            4,
+        ),
+        (
+            "method m(x: Ref) { assert x.f == 1 }",
+            "error at 1:29: E20 Unknown f\n",
+            4,
+        ),
+        (
+            "method m(q: Perm) { assert q / 2 == q }",
+            "error at 1:28: E22 Mismatch numeral Perm\n",
+            4,
+        ),
+        ("method m(q: Perm) { assert 2 * q == q }", "ok\n", 0),
+        (
+            "method m(q: Perm) { assert q * 2 == q }",
+            "error at 1:28: E22 Mismatch Int Perm\n",
+            4,
+        ),
+        (
+            "function f(p: Perm): Int { 0 }",
+            "error at 1:12: E22 Mismatch Int Perm\n",
+            4,
+        ),
+        (
+            "field f: Int method m() { var x: Ref x := new(f, f) }",
+            "error at 1:50: E21 Twice f\n",
+            4,
+        ),
+        (
+            "field f: Int method m() { var x: Int x := new(f) }",
+            "error at 1:43: E22 Mismatch Int Ref\n",
+            4,
+        ),
+        (
+            "field f: Int predicate p(x: Ref) { acc(x.f) } method m(x: Ref) { unfold p(x) fold acc(p(x), 1/2) }",
+            "ok\n",
+            0,
+        ),
+        (
+            "field f: Int predicate p(x: Ref) { acc(x.f) && unfolding p(x) in true }",
+            "error at 1:58: E28 NotHere\n",
+            4,
+        ),
+        (
+            "function f(n: Int): Int ensures old(n) == 1 { n }",
+            "error at 1:33: E30 OldHere\n",
+            4,
+        ),
+        (
+            "method m(x: Ref) { unfold q(x) }",
+            "error at 1:27: E20 Unknown q\n",
+            4,
+        ),
+        ("method m() { y := x }", "error at 1:14: E20 Unknown y\n", 4),
+    ];
+    say_all(&rt, rt.alloc(), "check", &rows)
+}
+
+#[test]
 fn programs_are_printed(rt: HostRuntime) -> Result<(), Fail> {
     let rows = [
         (
