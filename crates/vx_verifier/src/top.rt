@@ -9,7 +9,7 @@ ghost use Rattle.vx_words.specs.Orders.{order_of};
 ghost use Rattle.vx_words.specs.declared.order.Order as meant;
 ghost use Rattle.vx_verifier.specs.Headline.{Headline};
 ghost use Rattle.vx_verifier.specs.Reported as spec;
-ghost use Rattle.vx_verifier.specs.Reported.{IsReportOf, IsReported, IsTaken, IsSaid, IsSaidBy, AsksOnly, AsksFileOf, IsStatusOf, StartsOnly, IsPut, IsUnread, IsUnreadFile};
+ghost use Rattle.vx_verifier.specs.Reported.{ByWhom, IsReportOf, IsReported, IsTaken, IsSaid, IsSaidBy, AsksOnly, AsksFileOf, IsStatusOf, StartsOnly, IsPut, IsUnread, IsUnreadFile};
 
 use crate::answers::{TOO_LONG, UNREAD, USAGE};
 use crate::companion::Builtin;
@@ -74,6 +74,29 @@ fn is_companion(solver: &Parts) -> bool
     solver.len() == 1 && solver.part(0) == "builtin"
 }
 
+// Verifies a program by the companion, or by the spawner, as the solver says, and puts the report.
+fn report_by<K: Sink, W: Spawner>(
+    alloc: Global,
+    typed: &Typed,
+    out: &mut K,
+    solver: &Parts,
+    spawner: &mut W,
+    builtin: &mut Builtin,
+) -> Result<Ended, AllocError>
+    ensures headline { IfOk result (λ ended. ByWhom (spec.is_companion solver.now)
+        (Headline (settled typed.now) builtin.old.ended.items builtin.new.ended.items 0 0 ended.runs.items × IsPut (K.taken out.old) (K.taken out.new) ended.status (report_of (settled typed.now) ended.runs.items))
+        (Headline (settled typed.now) (W.ended spawner.old) (W.ended spawner.new) (W.faults spawner.old) (W.faults spawner.new) ended.runs.items × IsPut (K.taken out.old) (K.taken out.new) ended.status (report_of (settled typed.now) ended.runs.items))) }
+    ensures status { IfOk result (λ ended. IsStatusOf (Rose (K.faults out.old) (K.faults out.new)) ⊥ ⊥ ended.runs.items ended.status) }
+    ensures reported { IfOk result (λ ended. IsReported ended.status) }
+    ensures starts { let start : Start = record { lane = 0; command = solver.now } in (W.starts spawner.new ≡ W.starts spawner.old) ⊎ (W.starts spawner.new ≡ W.starts spawner.old ++ start ∷ []) }
+{
+    if is_companion(solver) {
+        report(alloc, typed, out, solver, builtin)
+    } else {
+        report(alloc, typed, out, solver, spawner)
+    }
+}
+
 // The name of a file, or none.
 fn name_of(file: &Option<Text>) -> Option<&str>
     ensures { option_copied result ≡ file.now }
@@ -111,13 +134,7 @@ fn verify_file<F: Files, K: Sink, W: Spawner>(
 {
     match load(alloc, files, name_of(file))? {
         Loaded::Text(text) => match read_program(alloc, &text)? {
-            Told::Program(typed) => {
-                if is_companion(solver) {
-                    report(alloc, &typed, out, solver, builtin)
-                } else {
-                    report(alloc, &typed, out, solver, spawner)
-                }
-            }
+            Told::Program(typed) => report_by(alloc, &typed, out, solver, spawner, builtin),
             Told::Refused(line) => Ok(say(alloc, out, line.as_bytes(), Status::Refused)),
         },
         Loaded::Unread => Ok(say(alloc, out, UNREAD.as_bytes(), Status::Unread)),
