@@ -1,5 +1,6 @@
 #!/usr/bin/env bash
-# Writes files of 100, 400 and 1600 store-language methods, and prints what it takes to verify and to check each.
+# Writes files of 100, 400 and 1600 store-language methods, and prints what it takes to verify and to check each; and
+# files of functions and of fields, which are checked alone.
 set -eu
 . "$(dirname "${BASH_SOURCE[0]}")/timing.sh"
 "$here/vsil" < /dev/null > /dev/null
@@ -16,6 +17,13 @@ for command in verify check; do
         methods "$count" > "$folder/file.vpr"
         timed "$command, $count methods" "$folder/file.vpr" "$here/vsil" "$command"
     done
+done
+
+# functions, each of which applies the next one
+before=
+for count in 1000 4000 16000; do
+    awk -v count="$count" 'BEGIN { for (i = 0; i + 1 < count; i++) print "function f" i "(): Int { f" (i + 1) "() }"; print "function f" (count - 1) "(): Int { 0 }" }' > "$folder/file.vpr"
+    timed "check, $count functions in a chain" "$folder/file.vpr" "$here/vsil" check
 done
 
 # as many members as there may be

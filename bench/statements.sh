@@ -1,5 +1,5 @@
 #!/usr/bin/env bash
-# Writes files of one method, and prints the program's seconds on each and the ratio to the one before: a method of
+# Writes files of one method, and prints what it takes to verify each: a method of
 # 100, 400, 1600 and 6400 assignments with one check at its end, one of as many asserts, and one with 2^4, 2^8 and
 # 2^12 paths of one check each.
 set -eu

@@ -6,7 +6,7 @@ set -eu
 "$here/vsil" < /dev/null > /dev/null
 
 for count in 5000 10000 20000 40000; do
-    awk -v count="$count" 'BEGIN { for (i = 0; i < count; i++) printf "method m%d(a: Bool, x: Int) returns (y: Int) requires a ensures y == x { if (a) { y := x } else { y := x + 1 - 1 } }\n", i }' > "$folder/$count.vpr"
+    awk -v count="$count" 'BEGIN { for (i = 0; i < count; i++) printf "method m%d(x: Int) returns (y: Int) requires x > 0 ensures y == x { var z: Int := x y := z }\n", i }' > "$folder/$count.vpr"
 done
 for count in 5000 10000 20000 40000; do
     timed "print, $(stat -c %s "$folder/$count.vpr") bytes" "$folder/$count.vpr" "$here/vsil" print
