@@ -1,5 +1,5 @@
 -- What `run` promises: what the runs of a report are those of.
-use Rattle.std.specs.Prelude.{◌≡◌, ◌⊎◌, ℕ, ◌<◌, ⊤, Bool, true, false, List, [], ◌∷◌, ◌++◌, Option, Some, IfSome, codes, length, take, vec_items, string_bytes}
+use Rattle.std.specs.Prelude.{◌≡◌, ◌⊎◌, ℕ, ◌<◌, ⊤, Bool, true, false, List, [], ◌∷◌, ◌++◌, ◌^◌, ◌-◌, Option, Some, IfSome, IsTrue, codes, length, take, vec_items, string_bytes}
 use Rattle.std.specs.Str.{bytes_eq}
 use Rattle.vx_ast.specs.Syntax.{Program}
 use Rattle.vx_ast.specs.Written as written
@@ -29,7 +29,11 @@ use Rattle.vx_verifier.specs.declared.saying.Saying.{Saying}
 use Rattle.vx_verifier.specs.declared.saying.Saying.TheVariants as saying
 use Rattle.vx_verifier.specs.declared.reading.Loaded.{Loaded}
 use Rattle.vx_verifier.specs.declared.reading.Loaded.TheVariants as loaded
-use Rattle.vx_verifier.specs.Headline.{IsSupported}
+use Rattle.vx_ends.specs.declared.piece.Ending.{Ending as Ended}
+use Rattle.vx_report.specs.Reports.{report_of}
+use Rattle.vx_verifier.specs.Causes.{NoCountRose}
+use Rattle.vx_verifier.specs.Lanes.{StartsWhere}
+use Rattle.vx_verifier.specs.Headline.{IsSupported, Headline, some_ask}
 
 -- some token of the text is none of the store language
 abbrev pub HoldsBeyond : List ℕ → Type 0
@@ -82,6 +86,12 @@ is_companion (part ∷ other ∷ parts) = false
 abbrev pub ByWhom : Bool → Type 0 → Type 0 → Type 0
 ByWhom true Companion Handed = Companion
 ByWhom false Companion Handed = Handed
+
+-- the command that the words name for a solver
+abbrev pub solver_of : Order → List (List ℕ)
+solver_of (Verify file solver) = solver
+solver_of (Check file) = []
+solver_of (Print file) = []
 
 -- a program of this file's text has this property, by the spawner that the solver names
 abbrev pub IsReportOf : Order → (holds : Option (List ℕ) → Option (List ℕ)) → (Companion Handed : Program → Type 0) → Type 0
@@ -162,6 +172,15 @@ abbrev pub IsSaid : (Says : List ℕ → Status → List ℕ → Type 0) → (ho
 IsSaid Says holds old new Done = (text bytes : List ℕ) × IfSome holds (λ known. text ≡ known) × Says text Done bytes × IsPut old new Done bytes
 IsSaid Says holds old new Refused = (text bytes : List ℕ) × IfSome holds (λ known. text ≡ known) × Says text Refused bytes × IsPut old new Refused bytes
 IsSaid Says holds old new s = ⊤
+
+-- What a report says of a program, by the records of the spawner that was asked: the headline, and exactly the report's bytes. The command is started
+-- exactly where a member has a question, and over a steady spawner no count of faults rises.
+pub record IsReport (p : Program) (before now : List Ended) (faults_then faults_now : ℕ) (steady : Bool) (starts_then starts_now : List Start) (command : List (List ℕ))
+    (taken_then taken_now : Option (List ℕ)) (runs : List MemberRun) (s : Status) : Type 0 where
+  pub headline : Headline p before now faults_then faults_now runs
+  pub put : IsPut taken_then taken_now s (report_of p runs)
+  pub started : StartsWhere (some_ask p (length p)) starts_then starts_now record { lane = 0; command = command }
+  pub calm : IsSupported p → IsTrue steady → faults_then < 2 ^ 64 - 1 → NoCountRose before now faults_then faults_now
 
 -- the status of a report, or the sink failed
 abbrev pub IsReported : Status → Type 0

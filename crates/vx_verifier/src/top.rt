@@ -1,6 +1,6 @@
 //! The top call: from the words of the command line to what is put, and the exit status.
 
-ghost use Rattle.std.specs.Prelude.{◌≡◌, ◌⊎◌, ◌++◌, ◌∷◌, [], IfOk, Some, None, option_copied};
+ghost use Rattle.std.specs.Prelude.{◌≡◌, ◌⊎◌, ◌++◌, ◌∷◌, [], IfOk, Some, None, true, option_copied};
 ghost use Rattle.vx_ends.specs.Causes.{Rose};
 ghost use Rattle.vx_ends.specs.declared.piece.Start.{Start};
 ghost use Rattle.vx_types.specs.Settled.{settled};
@@ -9,7 +9,7 @@ ghost use Rattle.vx_words.specs.Orders.{order_of};
 ghost use Rattle.vx_words.specs.declared.order.Order as meant;
 ghost use Rattle.vx_verifier.specs.Headline.{Headline};
 ghost use Rattle.vx_verifier.specs.Reported as spec;
-ghost use Rattle.vx_verifier.specs.Reported.{ByWhom, IsReportOf, IsReported, IsTaken, IsSaid, IsSaidBy, AsksOnly, AsksFileOf, IsStatusOf, StartsOnly, IsPut, IsUnread, IsUnreadFile};
+ghost use Rattle.vx_verifier.specs.Reported.{ByWhom, IsReport, IsReportOf, IsReported, IsTaken, IsSaid, IsSaidBy, AsksOnly, AsksFileOf, IsStatusOf, StartsOnly, IsPut, IsUnread, IsUnreadFile};
 
 use crate::answers::{TOO_LONG, UNREAD, USAGE};
 use crate::companion::Builtin;
@@ -54,8 +54,7 @@ fn report<K: Sink, W: Spawner>(
     solver: &Parts,
     spawner: &mut W,
 ) -> Result<Ended, AllocError>
-    ensures headline { IfOk result (λ ended. Headline (settled typed.now) (W.ended spawner.old) (W.ended spawner.new) (W.faults spawner.old) (W.faults spawner.new) ended.runs.items) }
-    ensures taken { IfOk result (λ ended. IsPut (K.taken out.old) (K.taken out.new) ended.status (report_of (settled typed.now) ended.runs.items)) }
+    ensures report { IfOk result (λ ended. IsReport (settled typed.now) (W.ended spawner.old) (W.ended spawner.new) (W.faults spawner.old) (W.faults spawner.new) (W.steady spawner.old) (W.starts spawner.old) (W.starts spawner.new) solver.now (K.taken out.old) (K.taken out.new) ended.runs.items ended.status) }
     ensures status { IfOk result (λ ended. IsStatusOf (Rose (K.faults out.old) (K.faults out.new)) ⊥ ⊥ ended.runs.items ended.status) }
     ensures reported { IfOk result (λ ended. IsReported ended.status) }
     ensures starts { let start : Start = record { lane = 0; command = solver.now } in (W.starts spawner.new ≡ W.starts spawner.old) ⊎ (W.starts spawner.new ≡ W.starts spawner.old ++ start ∷ []) }
@@ -84,8 +83,8 @@ fn report_by<K: Sink, W: Spawner>(
     builtin: &mut Builtin,
 ) -> Result<Ended, AllocError>
     ensures headline { IfOk result (λ ended. ByWhom (spec.is_companion solver.now)
-        (Headline (settled typed.now) builtin.old.ended.items builtin.new.ended.items 0 0 ended.runs.items × IsPut (K.taken out.old) (K.taken out.new) ended.status (report_of (settled typed.now) ended.runs.items))
-        (Headline (settled typed.now) (W.ended spawner.old) (W.ended spawner.new) (W.faults spawner.old) (W.faults spawner.new) ended.runs.items × IsPut (K.taken out.old) (K.taken out.new) ended.status (report_of (settled typed.now) ended.runs.items))) }
+        (IsReport (settled typed.now) builtin.old.ended.items builtin.new.ended.items 0 0 true builtin.old.starts.items builtin.new.starts.items solver.now (K.taken out.old) (K.taken out.new) ended.runs.items ended.status)
+        (IsReport (settled typed.now) (W.ended spawner.old) (W.ended spawner.new) (W.faults spawner.old) (W.faults spawner.new) (W.steady spawner.old) (W.starts spawner.old) (W.starts spawner.new) solver.now (K.taken out.old) (K.taken out.new) ended.runs.items ended.status)) }
     ensures status { IfOk result (λ ended. IsStatusOf (Rose (K.faults out.old) (K.faults out.new)) ⊥ ⊥ ended.runs.items ended.status) }
     ensures reported { IfOk result (λ ended. IsReported ended.status) }
     ensures starts { let start : Start = record { lane = 0; command = solver.now } in (W.starts spawner.new ≡ W.starts spawner.old) ⊎ (W.starts spawner.new ≡ W.starts spawner.old ++ start ∷ []) }
@@ -125,8 +124,8 @@ fn verify_file<F: Files, K: Sink, W: Spawner>(
     builtin: &mut Builtin,
 ) -> Result<Ended, AllocError>
     ensures headline { IfOk result (λ ended. (ended.runs.items ≡ []) ⊎ IsReportOf (Order.Verify file.now solver.now) (F.holds files.old)
-        (λ p. Headline p builtin.old.ended.items builtin.new.ended.items 0 0 ended.runs.items × IsPut (K.taken out.old) (K.taken out.new) ended.status (report_of p ended.runs.items))
-        (λ p. Headline p (W.ended spawner.old) (W.ended spawner.new) (W.faults spawner.old) (W.faults spawner.new) ended.runs.items × IsPut (K.taken out.old) (K.taken out.new) ended.status (report_of p ended.runs.items))) }
+        (λ p. IsReport p builtin.old.ended.items builtin.new.ended.items 0 0 true builtin.old.starts.items builtin.new.starts.items solver.now (K.taken out.old) (K.taken out.new) ended.runs.items ended.status)
+        (λ p. IsReport p (W.ended spawner.old) (W.ended spawner.new) (W.faults spawner.old) (W.faults spawner.new) (W.steady spawner.old) (W.starts spawner.old) (W.starts spawner.new) solver.now (K.taken out.old) (K.taken out.new) ended.runs.items ended.status)) }
     ensures taken { IfOk result (λ ended. IsTaken (F.holds files.old file.now) ended.status) }
     ensures asked { AsksFileOf (Order.Verify file.now solver.now) (F.asked files.old) (F.asked files.new) }
     ensures status { IfOk result (λ ended. IsStatusOf (Rose (K.faults out.old) (K.faults out.new)) ⊥ (IsUnreadFile (Order.Verify file.now solver.now) (Rose (F.faults files.old) (F.faults files.new)) (F.holds files.old)) ended.runs.items ended.status) }
@@ -175,8 +174,8 @@ fn obey<F: Files, K: Sink, W: Spawner>(
     builtin: &mut Builtin,
 ) -> Result<Ended, AllocError>
     ensures headline { IfOk result (λ ended. (ended.runs.items ≡ []) ⊎ IsReportOf order.now (F.holds files.old)
-        (λ p. Headline p builtin.old.ended.items builtin.new.ended.items 0 0 ended.runs.items × IsPut (K.taken out.old) (K.taken out.new) ended.status (report_of p ended.runs.items))
-        (λ p. Headline p (W.ended spawner.old) (W.ended spawner.new) (W.faults spawner.old) (W.faults spawner.new) ended.runs.items × IsPut (K.taken out.old) (K.taken out.new) ended.status (report_of p ended.runs.items))) }
+        (λ p. IsReport p builtin.old.ended.items builtin.new.ended.items 0 0 true builtin.old.starts.items builtin.new.starts.items (spec.solver_of order.now) (K.taken out.old) (K.taken out.new) ended.runs.items ended.status)
+        (λ p. IsReport p (W.ended spawner.old) (W.ended spawner.new) (W.faults spawner.old) (W.faults spawner.new) (W.steady spawner.old) (W.starts spawner.old) (W.starts spawner.new) (spec.solver_of order.now) (K.taken out.old) (K.taken out.new) ended.runs.items ended.status)) }
     ensures said { IfOk result (λ ended. IsSaidBy order.now (F.holds files.old) (K.taken out.old) (K.taken out.new) ended.status) }
     ensures asked { AsksFileOf order.now (F.asked files.old) (F.asked files.new) }
     ensures status { IfOk result (λ ended. IsStatusOf (Rose (K.faults out.old) (K.faults out.new)) ⊥ (IsUnreadFile order.now (Rose (F.faults files.old) (F.faults files.new)) (F.holds files.old)) ended.runs.items ended.status) }
@@ -213,8 +212,8 @@ pub fn run<F: Files, K: Sink, W: Spawner>(
     builtin: &mut Builtin,
 ) -> Ended
     ensures headline { (result.runs.items ≡ []) ⊎ ((order : meant.Order) × (order_of words.now ≡ Some order) × IsReportOf order (F.holds files.old)
-        (λ p. Headline p builtin.old.ended.items builtin.new.ended.items 0 0 result.runs.items × IsPut (K.taken out.old) (K.taken out.new) result.status (report_of p result.runs.items))
-        (λ p. Headline p (W.ended spawner.old) (W.ended spawner.new) (W.faults spawner.old) (W.faults spawner.new) result.runs.items × IsPut (K.taken out.old) (K.taken out.new) result.status (report_of p result.runs.items))) }
+        (λ p. IsReport p builtin.old.ended.items builtin.new.ended.items 0 0 true builtin.old.starts.items builtin.new.starts.items (spec.solver_of order) (K.taken out.old) (K.taken out.new) result.runs.items result.status)
+        (λ p. IsReport p (W.ended spawner.old) (W.ended spawner.new) (W.faults spawner.old) (W.faults spawner.new) (W.steady spawner.old) (W.starts spawner.old) (W.starts spawner.new) (spec.solver_of order) (K.taken out.old) (K.taken out.new) result.runs.items result.status)) }
     ensures said { (order : meant.Order) → order_of words.now ≡ Some order → IsSaidBy order (F.holds files.old) (K.taken out.old) (K.taken out.new) result.status }
     ensures status { IsStatusOf (Rose (K.faults out.old) (K.faults out.new)) (order_of words.now ≡ None)
         ((order : meant.Order) × (order_of words.now ≡ Some order) × IsUnreadFile order (Rose (F.faults files.old) (F.faults files.new)) (F.holds files.old)) result.runs.items result.status }
