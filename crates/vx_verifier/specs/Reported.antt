@@ -1,5 +1,5 @@
 -- What `run` promises: what the runs of a report are those of.
-use Rattle.std.specs.Prelude.{◌≡◌, ◌⊎◌, ℕ, ◌<◌, ⊤, Bool, true, false, List, [], ◌∷◌, ◌++◌, ◌^◌, ◌-◌, Option, Some, IfSome, IsTrue, codes, length, take, vec_items, string_bytes}
+use Rattle.std.specs.Prelude.{◌≡◌, ◌⊎◌, ℕ, ◌<◌, ◌≤◌, ⊤, Bool, true, false, List, [], ◌∷◌, ◌++◌, ◌^◌, ◌-◌, Option, Some, IfSome, IsTrue, codes, length, take, vec_items, string_bytes}
 use Rattle.std.specs.Str.{bytes_eq}
 use Rattle.vx_ast.specs.Syntax.{Program}
 use Rattle.vx_ast.specs.Written as written
@@ -113,9 +113,9 @@ AsksFileOf (Print file) old new = AsksOnly file old new
 abbrev pub IsUnread : (failed : Type 0) → Option (List ℕ) → Type 0
 IsUnread failed holds = failed ⊎ IfSome holds (λ text. 4194304 < length text)
 
--- A text is what the file holds, where that is told; there is none only where reading failed, or the text is too long.
+-- A text is what the file holds, where that is told, and not too long; there is none only where reading failed, or the text is too long.
 abbrev pub IsLoadedFrom : (failed : Type 0) → Option (List ℕ) → Loaded → Type 0
-IsLoadedFrom failed holds (loaded.Text text) = IfSome holds (λ known. vec_items text ≡ known)
+IsLoadedFrom failed holds (loaded.Text text) = IfSome holds (λ known. vec_items text ≡ known) × (length (vec_items text) ≤ 4194304)
 IsLoadedFrom failed holds loaded.Unread = failed
 IsLoadedFrom failed holds loaded.TooLong = IfSome holds (λ text. 4194304 < length text)
 
@@ -170,7 +170,7 @@ SaysSo what text (said.Refused line) = Says what text Refused (string_bytes line
 -- what is put for what the file holds; where it isn't read, or memory or the sink fails, nothing is said
 abbrev pub IsSaid : (Says : List ℕ → Status → List ℕ → Type 0) → (holds : Option (List ℕ)) → (old new : Option (List ℕ)) → Status → Type 0
 IsSaid Says holds old new Done = (text bytes : List ℕ) × IfSome holds (λ known. text ≡ known) × Says text Done bytes × IsPut old new Done bytes
-IsSaid Says holds old new Refused = (text bytes : List ℕ) × IfSome holds (λ known. text ≡ known) × Says text Refused bytes × IsPut old new Refused bytes
+IsSaid Says holds old new Refused = (text bytes : List ℕ) × IfSome holds (λ known. text ≡ known) × (length text ≤ 4194304) × Says text Refused bytes × IsPut old new Refused bytes
 IsSaid Says holds old new s = ⊤
 
 -- What a report says of a program, by the records of the spawner that was asked: the headline, and exactly the report's bytes. The command is started
@@ -190,9 +190,9 @@ IsReported Faulted = ⊤
 IsReported Unwritten = ⊤
 IsReported s = ⊥
 
--- A program is reported only where the file's text spells one that is typed and executed, and refused only where it spells none.
+-- A program is reported only where the file's text spells one that is typed and executed, and refused only where it spells none and is not too long.
 abbrev pub IsTaken : (holds : Option (List ℕ)) → Status → Type 0
-IsTaken holds Refused = (text : List ℕ) × IfSome holds (λ known. text ≡ known) × IsRefused text
+IsTaken holds Refused = (text : List ℕ) × IfSome holds (λ known. text ≡ known) × (length text ≤ 4194304) × IsRefused text
 IsTaken holds Done = (text : List ℕ) × IfSome holds (λ known. text ≡ known) × (p : written.Program) × IsExecuted text p
 IsTaken holds NotVerified = (text : List ℕ) × IfSome holds (λ known. text ≡ known) × (p : written.Program) × IsExecuted text p
 IsTaken holds Faulted = (text : List ℕ) × IfSome holds (λ known. text ≡ known) × (p : written.Program) × IsExecuted text p
