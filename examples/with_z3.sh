@@ -1,0 +1,17 @@
+#!/usr/bin/env bash
+# Verifies each example by z3, and compares what is put with the text beside it. Skipped where z3 is missing.
+set -eu
+here=$(cd "$(dirname "${BASH_SOURCE[0]}")" && pwd)
+if ! command -v z3 > /dev/null; then
+    echo "skipped: no z3"
+    exit 0
+fi
+for file in "$here"/*.vpr; do
+    status=0
+    got=$("$here/../vsil" verify --solver 'z3 -in' "$file") || status=$?
+    if [ "$got" != "$(cat "${file%.vpr}.z3")" ]; then
+        echo "$file: $got"
+        exit 1
+    fi
+    echo "$file: status $status, as expected"
+done
