@@ -17,7 +17,7 @@ use vx_ast::Place;
 use vx_ast::resolved::{Assertion, Expr};
 use vx_rules::{Codes, Consumed, Conts, Frame, Hole, Move, Next, SymState};
 use vx_terms::{Term, snapshots};
-use vx_types::Typed;
+use vx_types::Settled;
 
 /// Where an expression stands.
 fn place_of(e: &Expr) -> Place
@@ -37,26 +37,26 @@ fn place_of(e: &Expr) -> Place
 /// A step of consuming an assertion whose snapshot goes into a hole.
 pub fn step(
     alloc: Global,
-    typed: &Typed,
+    program: &Settled,
     a: &Assertion,
     codes: Codes,
     hole: Rc<Hole>,
     state: SymState,
     conts: &mut Conts,
 ) -> Result<Move, AllocError>
-    ensures { IfOk result (λ m. Stepped (settled typed.now) (rule.consume (settled typed.now) (rules (settled typed.now)) (assertion a.now) (context codes) whole_amount [] (state_of state) (giving (settled typed.now) hole.value)) conts.old.sides.items m conts.new.sides.items) }
+    ensures { IfOk result (λ m. Stepped (settled program.now) (rule.consume (settled program.now) (rules (settled program.now)) (assertion a.now) (context codes) whole_amount [] (state_of state) (giving (settled program.now) hole.value)) conts.old.sides.items m conts.new.sides.items) }
 {
     match a {
         Assertion::Pure(e) => {
             let asking = Consumed::Ask(place_of(e), codes.pure);
-            conts.eval(alloc, typed, e, Hole::Consumed(asking, hole), state)
+            conts.eval(alloc, program, e, Hole::Consumed(asking, hole), state)
         }
         Assertion::Both(left, right) => {
             let after = Consumed::Right(right.clone()?, codes);
             let rest = Rc::new(alloc, Hole::Consumed(after, hole))?;
             conts.next(
                 alloc,
-                typed,
+                program,
                 Next::Consume(left.clone()?, codes, rest),
                 state,
             )
@@ -67,27 +67,35 @@ pub fn step(
 /// A value or a snapshot goes on to the assertion that it is of.
 pub fn step_consumed(
     alloc: Global,
-    typed: &Typed,
+    program: &Settled,
     value: Rc<Term>,
     consumed: &Consumed,
     hole: &Rc<Hole>,
     state: SymState,
     conts: &mut Conts,
 ) -> Result<Move, AllocError>
-    ensures { IfOk result (λ m. Stepped (settled typed.now) (consumed_of (settled typed.now) consumed.now (giving (settled typed.now) hole.now.value) (term value.value) (state_of state)) conts.old.sides.items m conts.new.sides.items) }
+    ensures { IfOk result (λ m. Stepped (settled program.now) (consumed_of (settled program.now) consumed.now (giving (settled program.now) hole.now.value) (term value.value) (state_of state)) conts.old.sides.items m conts.new.sides.items) }
 {
     match consumed {
         Consumed::Ask(place, code) => {
             let after = Rc::new(alloc, Next::Unit(hole.clone()?))?;
-            conts.ask(alloc, typed, value, *place, *code, state, Frame::Go(after))
+            conts.ask(
+                alloc,
+                program,
+                value,
+                *place,
+                *code,
+                state,
+                Frame::Go(after),
+            )
         }
         Consumed::Right(right, codes) => {
             let with = Rc::new(alloc, Hole::Consumed(Consumed::With(value), hole.clone()?))?;
-            step(alloc, typed, right, *codes, with, state, conts)
+            step(alloc, program, right, *codes, with, state, conts)
         }
         Consumed::With(first) => {
             let both = snapshots::pair(alloc, first, &value)?;
-            conts.give(typed, both, hole, state)
+            conts.give(program, both, hole, state)
         }
     }
 }
@@ -95,13 +103,13 @@ pub fn step_consumed(
 /// A pure part was consumed: its snapshot is unit.
 pub fn step_unit(
     alloc: Global,
-    typed: &Typed,
+    program: &Settled,
     hole: &Rc<Hole>,
     state: SymState,
     conts: &mut Conts,
 ) -> Result<Move, AllocError>
-    ensures { IfOk result (λ m. Stepped (settled typed.now) (going (settled typed.now) (Next.Unit hole.now) (state_of state)) conts.old.sides.items m conts.new.sides.items) }
+    ensures { IfOk result (λ m. Stepped (settled program.now) (going (settled program.now) (Next.Unit hole.now) (state_of state)) conts.old.sides.items m conts.new.sides.items) }
 {
     let unit = snapshots::unit(alloc)?;
-    conts.give(typed, unit, hole, state)
+    conts.give(program, unit, hole, state)
 }

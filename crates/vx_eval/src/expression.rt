@@ -13,7 +13,7 @@ use std::rc::Rc;
 use vx_ast::resolved::Expr;
 use vx_rules::{Conts, Hole, Move, Operand, SymState};
 use vx_terms::make;
-use vx_types::Typed;
+use vx_types::Settled;
 
 fn are_total(a: &Expr, b: &Expr) -> bool
     ensures { result ≡ (rule.is_total (expr a.now) && rule.is_total (expr b.now)) }
@@ -25,50 +25,56 @@ fn are_total(a: &Expr, b: &Expr) -> bool
 /// want of memory.
 pub fn step(
     alloc: Global,
-    typed: &Typed,
+    program: &Settled,
     e: &Expr,
     hole: Rc<Hole>,
     state: SymState,
     conts: &mut Conts,
 ) -> Result<Move, AllocError>
-    ensures { IfOk result (λ m. Stepped (settled typed.now) (rule.eval (settled typed.now) (rules (settled typed.now)) (expr e.now) (state_of state) (giving (settled typed.now) hole.value)) conts.old.sides.items m conts.new.sides.items) }
+    ensures { IfOk result (λ m. Stepped (settled program.now) (rule.eval (settled program.now) (rules (settled program.now)) (expr e.now) (state_of state) (giving (settled program.now) hole.value)) conts.old.sides.items m conts.new.sides.items) }
 {
     match e {
         Expr::Number(_, n) => match i128::try_from(*n) {
             Ok(number) => {
                 let value = make::int(alloc, number)?;
-                conts.give(typed, value, &hole, state)
+                conts.give(program, value, &hole, state)
             }
             Err(_) => Err(AllocError),
         },
         Expr::Truth(_, b) => {
             let value = make::boolean(alloc, *b)?;
-            conts.give(typed, value, &hole, state)
+            conts.give(program, value, &hole, state)
         }
         Expr::Variable(_, x) => {
             let value = state.value_of(alloc, x)?;
-            conts.give(typed, value, &hole, state)
+            conts.give(program, value, &hole, state)
         }
-        Expr::Not(_, a) => conts.eval(alloc, typed, a, Hole::Operand(Operand::Negate, hole), state),
+        Expr::Not(_, a) => conts.eval(
+            alloc,
+            program,
+            a,
+            Hole::Operand(Operand::Negate, hole),
+            state,
+        ),
         Expr::Operate(_, op, a, b) => {
             let operand = Operand::OperateRight(*op, b.clone()?);
-            conts.eval(alloc, typed, a, Hole::Operand(operand, hole), state)
+            conts.eval(alloc, program, a, Hole::Operand(operand, hole), state)
         }
         Expr::Connect(_, op, a, b) => {
             if is_total(b) {
                 let operand = Operand::ConnectRight(*op, b.clone()?);
-                return conts.eval(alloc, typed, a, Hole::Operand(operand, hole), state);
+                return conts.eval(alloc, program, a, Hole::Operand(operand, hole), state);
             }
             let operand = Operand::ConnectSides(*op, b.clone()?);
-            conts.eval(alloc, typed, a, Hole::Operand(operand, hole), state)
+            conts.eval(alloc, program, a, Hole::Operand(operand, hole), state)
         }
         Expr::Choose(_, c, a, b) => {
             if are_total(a, b) {
                 let operand = Operand::ChooseThen(a.clone()?, b.clone()?);
-                return conts.eval(alloc, typed, c, Hole::Operand(operand, hole), state);
+                return conts.eval(alloc, program, c, Hole::Operand(operand, hole), state);
             }
             let operand = Operand::ChooseSides(a.clone()?, b.clone()?);
-            conts.eval(alloc, typed, c, Hole::Operand(operand, hole), state)
+            conts.eval(alloc, program, c, Hole::Operand(operand, hole), state)
         }
     }
 }

@@ -14,60 +14,60 @@ use std::rc::Rc;
 use vx_ast::resolved::{Connective, Expr};
 use vx_rules::{Conts, Frame, Hole, Move, Operand, SymState};
 use vx_terms::{Term, make};
-use vx_types::Typed;
+use vx_types::Settled;
 
 /// The value of an operand goes on to the expression that it stands in.
 pub fn step_operand(
     alloc: Global,
-    typed: &Typed,
+    program: &Settled,
     value: Rc<Term>,
     operand: &Operand,
     hole: &Rc<Hole>,
     state: SymState,
     conts: &mut Conts,
 ) -> Result<Move, AllocError>
-    ensures { IfOk result (λ m. Stepped (settled typed.now) (operand_of (settled typed.now) operand.now (giving (settled typed.now) hole.now.value) (term value.value) (state_of state)) conts.old.sides.items m conts.new.sides.items) }
+    ensures { IfOk result (λ m. Stepped (settled program.now) (operand_of (settled program.now) operand.now (giving (settled program.now) hole.now.value) (term value.value) (state_of state)) conts.old.sides.items m conts.new.sides.items) }
 {
     match operand {
         Operand::Negate => {
             let negated = make::not(alloc, &value)?;
-            conts.give(typed, negated, hole, state)
+            conts.give(program, negated, hole, state)
         }
         Operand::OperateRight(op, b) => {
             let with = Operand::OperateWith(*op, value);
-            conts.eval(alloc, typed, b, Hole::Operand(with, hole.clone()?), state)
+            conts.eval(alloc, program, b, Hole::Operand(with, hole.clone()?), state)
         }
         Operand::OperateWith(op, first) => {
             let both = operated(alloc, *op, first, &value)?;
-            conts.give(typed, both, hole, state)
+            conts.give(program, both, hole, state)
         }
         Operand::ConnectRight(op, b) => {
             let with = Operand::ConnectWith(*op, value);
-            conts.eval(alloc, typed, b, Hole::Operand(with, hole.clone()?), state)
+            conts.eval(alloc, program, b, Hole::Operand(with, hole.clone()?), state)
         }
         Operand::ConnectWith(op, first) => {
             let both = connected(alloc, *op, first, &value)?;
-            conts.give(typed, both, hole, state)
+            conts.give(program, both, hole, state)
         }
         Operand::ConnectSides(op, b) => {
-            step_short(alloc, typed, value, *op, b, hole, state, conts)
+            step_short(alloc, program, value, *op, b, hole, state, conts)
         }
         Operand::ChooseThen(a, b) => {
             let with = Operand::ChooseElse(value, b.clone()?);
-            conts.eval(alloc, typed, a, Hole::Operand(with, hole.clone()?), state)
+            conts.eval(alloc, program, a, Hole::Operand(with, hole.clone()?), state)
         }
         Operand::ChooseElse(condition, b) => {
             let with = Operand::ChooseWith(condition.clone()?, value);
-            conts.eval(alloc, typed, b, Hole::Operand(with, hole.clone()?), state)
+            conts.eval(alloc, program, b, Hole::Operand(with, hole.clone()?), state)
         }
         Operand::ChooseWith(condition, first) => {
             let choice = make::ite(alloc, condition, first, &value)?;
-            conts.give(typed, choice, hole, state)
+            conts.give(program, choice, hole, state)
         }
         Operand::ChooseSides(a, b) => {
             let left = Frame::Eval(a.clone()?, hole.clone()?);
             let right = Frame::Eval(b.clone()?, hole.clone()?);
-            conts.fork(alloc, typed, value, state, left, right)
+            conts.fork(alloc, program, value, state, left, right)
         }
     }
 }
@@ -75,7 +75,7 @@ pub fn step_operand(
 /// The two sides of a connective: its right part, or its value without it.
 fn step_short(
     alloc: Global,
-    typed: &Typed,
+    program: &Settled,
     value: Rc<Term>,
     op: Connective,
     right: &Rc<Expr>,
@@ -83,24 +83,24 @@ fn step_short(
     state: SymState,
     conts: &mut Conts,
 ) -> Result<Move, AllocError>
-    ensures { IfOk result (λ m. Stepped (settled typed.now) (rule.short (connective op) (term value.value) (state_of state) (λ s. rule.eval (settled typed.now) (rules (settled typed.now)) (expr right.now.value) s (giving (settled typed.now) hole.now.value)) (giving (settled typed.now) hole.now.value)) conts.old.sides.items m conts.new.sides.items) }
+    ensures { IfOk result (λ m. Stepped (settled program.now) (rule.short (connective op) (term value.value) (state_of state) (λ s. rule.eval (settled program.now) (rules (settled program.now)) (expr right.now.value) s (giving (settled program.now) hole.now.value)) (giving (settled program.now) hole.now.value)) conts.old.sides.items m conts.new.sides.items) }
 {
     let more = Frame::Eval(right.clone()?, hole.clone()?);
     match op {
         Connective::And => {
             let never = make::boolean(alloc, false)?;
             let done = Frame::Give(never, hole.clone()?);
-            conts.fork(alloc, typed, value, state, more, done)
+            conts.fork(alloc, program, value, state, more, done)
         }
         Connective::Or => {
             let always = make::boolean(alloc, true)?;
             let done = Frame::Give(always, hole.clone()?);
-            conts.fork(alloc, typed, value, state, done, more)
+            conts.fork(alloc, program, value, state, done, more)
         }
         Connective::Implies => {
             let always = make::boolean(alloc, true)?;
             let done = Frame::Give(always, hole.clone()?);
-            conts.fork(alloc, typed, value, state, more, done)
+            conts.fork(alloc, program, value, state, more, done)
         }
     }
 }

@@ -14,7 +14,7 @@ use std::alloc::{AllocError, Global};
 use std::rc::Rc;
 use vx_ast::resolved::{Assertion, Block, Method};
 use vx_rules::{Code, Codes, Conts, Frame, Hole, Move, Next, Side, SymState, joined};
-use vx_types::Typed;
+use vx_types::Settled;
 
 /// The side of the postcondition by itself: what is produced, in which state, and its end.
 #[derive(Drop)]
@@ -27,13 +27,13 @@ pub struct Promise {
 /// The postcondition by itself, over the parameters as they are and fresh returns.
 pub fn make_promise(
     alloc: Global,
-    typed: &Typed,
+    program: &Settled,
     m: &Method,
     state: SymState,
 ) -> Result<Promise, AllocError>
-    ensures { IfOk result (λ r. produce (settled typed.now) (rules (settled typed.now)) (assertion r.all.value) whole_amount None (state_of r.state) (going (settled typed.now) r.finish.value) ≡ rule.promise_side (settled typed.now) (method m.now) (state_of state)) }
+    ensures { IfOk result (λ r. produce (settled program.now) (rules (settled program.now)) (assertion r.all.value) whole_amount None (state_of r.state) (going (settled program.now) r.finish.value) ≡ rule.promise_side (settled program.now) (method m.now) (state_of state)) }
 {
-    let _typed = typed;
+    let _program = program;
     let mut state = state;
     state.leave(m.parameters.len());
     state.declare_all(alloc, &m.returns)?;
@@ -45,13 +45,13 @@ pub fn make_promise(
 /// The side of a method's postcondition.
 fn promise_side(
     alloc: Global,
-    typed: &Typed,
+    program: &Settled,
     m: &Method,
     state: SymState,
 ) -> Result<Side, AllocError>
-    ensures { IfOk result (λ side. side_tree (settled typed.now) side ≡ rule.promise_side (settled typed.now) (method m.now) (state_of state)) }
+    ensures { IfOk result (λ side. side_tree (settled program.now) side ≡ rule.promise_side (settled program.now) (method m.now) (state_of state)) }
 {
-    let promise = make_promise(alloc, typed, m, state)?;
+    let promise = make_promise(alloc, program, m, state)?;
     let next = Rc::new(alloc, Next::Produce(promise.all, promise.finish))?;
     Ok(Side {
         frame: Frame::Go(next),
@@ -62,14 +62,14 @@ fn promise_side(
 /// The side of the body, and then the postcondition.
 fn body_side(
     alloc: Global,
-    typed: &Typed,
+    program: &Settled,
     m: &Method,
     body: &Rc<Block>,
     state: SymState,
 ) -> Result<Side, AllocError>
-    ensures { IfOk result (λ side. side_tree (settled typed.now) side ≡ rule.body_side (settled typed.now) (method m.now) (block body.now.value) (state_of state)) }
+    ensures { IfOk result (λ side. side_tree (settled program.now) side ≡ rule.body_side (settled program.now) (method m.now) (block body.now.value) (state_of state)) }
 {
-    let _typed = typed;
+    let _program = program;
     let finish = Rc::new(alloc, Hole::Finish)?;
     let all = joined(alloc, m.place, &m.postconditions)?;
     let codes = Codes {
@@ -87,24 +87,30 @@ fn body_side(
 /// Both sides of a method with a body, whose precondition was produced.
 pub fn step_sides(
     alloc: Global,
-    typed: &Typed,
+    program: &Settled,
     m: &Method,
     body: &Rc<Block>,
     state: SymState,
     conts: &mut Conts,
 ) -> Result<Move, AllocError>
-    ensures { IfOk result (λ v. Stepped (settled typed.now) (tree.Fork (rule.promise_side (settled typed.now) (method m.now) (state_of state)) (rule.body_side (settled typed.now) (method m.now) (block body.now.value) (state_of state))) conts.old.sides.items v conts.new.sides.items) }
+    ensures { IfOk result (λ v. Stepped (settled program.now) (tree.Fork (rule.promise_side (settled program.now) (method m.now) (state_of state)) (rule.body_side (settled program.now) (method m.now) (block body.now.value) (state_of state))) conts.old.sides.items v conts.new.sides.items) }
 {
-    let first = promise_side(alloc, typed, m, state.copy(alloc)?)?;
-    let second = body_side(alloc, typed, m, body, state)?;
-    conts.both(typed, first.frame, first.state, second.frame, second.state)
+    let first = promise_side(alloc, program, m, state.copy(alloc)?)?;
+    let second = body_side(alloc, program, m, body, state)?;
+    conts.both(
+        program,
+        first.frame,
+        first.state,
+        second.frame,
+        second.state,
+    )
 }
 
 /// The side that a method begins with: its precondition, over fresh parameters and returns.
-pub fn first_side(alloc: Global, typed: &Typed, m: &Rc<Method>) -> Result<Side, AllocError>
-    ensures { IfOk result (λ side. side_tree (settled typed.now) side ≡ rule.method_tree (settled typed.now) (method m.now.value)) }
+pub fn first_side(alloc: Global, program: &Settled, m: &Rc<Method>) -> Result<Side, AllocError>
+    ensures { IfOk result (λ side. side_tree (settled program.now) side ≡ rule.method_tree (settled program.now) (method m.now.value)) }
 {
-    let _typed = typed;
+    let _program = program;
     let mut state = SymState::new(alloc);
     state.declare_all(alloc, &m.parameters)?;
     state.declare_all(alloc, &m.returns)?;

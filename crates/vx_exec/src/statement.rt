@@ -17,19 +17,19 @@ use std::rc::Rc;
 use vx_ast::resolved::{Assertion, Block, Stmt};
 use vx_rules::{Code, Codes, Conts, Executed, Frame, Hole, Move, Next, SymState, sort_of_value};
 use vx_terms::Term;
-use vx_types::Typed;
+use vx_types::Settled;
 
 /// Consuming what is asserted or exhaled.
 fn consuming(
     alloc: Global,
-    typed: &Typed,
+    program: &Settled,
     a: &Rc<Assertion>,
     after: Executed,
     next: &Rc<Next>,
 ) -> Result<Next, AllocError>
-    ensures { IfOk result (λ n. going (settled typed.now) n ≡ (λ s. consume (settled typed.now) (rules (settled typed.now)) (assertion a.now.value) (rule.codes AssertCode PermissionCode) whole_amount s.heap s (executed_of (settled typed.now) after (going (settled typed.now) next.now.value)))) }
+    ensures { IfOk result (λ n. going (settled program.now) n ≡ (λ s. consume (settled program.now) (rules (settled program.now)) (assertion a.now.value) (rule.codes AssertCode PermissionCode) whole_amount s.heap s (executed_of (settled program.now) after (going (settled program.now) next.now.value)))) }
 {
-    let _typed = typed;
+    let _program = program;
     let hole = Rc::new(alloc, Hole::Executed(after, next.clone()?))?;
     let codes = Codes {
         pure: Code::Assert,
@@ -41,25 +41,25 @@ fn consuming(
 /// A step of a statement.
 pub fn step(
     alloc: Global,
-    typed: &Typed,
+    program: &Settled,
     c: &Stmt,
     next: &Rc<Next>,
     state: SymState,
     conts: &mut Conts,
 ) -> Result<Move, AllocError>
-    ensures { IfOk result (λ m. Stepped (settled typed.now) (rule.exec (settled typed.now) (rules (settled typed.now)) (stmt c.now) (state_of state) (going (settled typed.now) next.now.value)) conts.old.sides.items m conts.new.sides.items) }
+    ensures { IfOk result (λ m. Stepped (settled program.now) (rule.exec (settled program.now) (rules (settled program.now)) (stmt c.now) (state_of state) (going (settled program.now) next.now.value)) conts.old.sides.items m conts.new.sides.items) }
 {
     match c {
         Stmt::Declare(_, x, of) => {
             let mut state = state;
             state.declare_fresh(alloc, x, sort_of_value(*of))?;
-            conts.go(typed, Frame::Go(next.clone()?), state)
+            conts.go(program, Frame::Go(next.clone()?), state)
         }
         Stmt::Assign(_, x, e) => {
             let assign = Executed::Assign(x.clone()?);
             conts.eval(
                 alloc,
-                typed,
+                program,
                 e,
                 Hole::Executed(assign, next.clone()?),
                 state,
@@ -68,23 +68,23 @@ pub fn step(
         Stmt::Inhale(_, a) => {
             conts.next(
                 alloc,
-                typed,
+                program,
                 Next::Produce(a.clone()?, next.clone()?),
                 state,
             )
         }
         Stmt::Exhale(_, a) => {
-            let consume = consuming(alloc, typed, a, Executed::Exhaled, next)?;
-            conts.next(alloc, typed, consume, state)
+            let consume = consuming(alloc, program, a, Executed::Exhaled, next)?;
+            conts.next(alloc, program, consume, state)
         }
         Stmt::Assert(_, a) => {
-            let consume = consuming(alloc, typed, a, Executed::Asserted, next)?;
-            conts.next(alloc, typed, consume, state)
+            let consume = consuming(alloc, program, a, Executed::Asserted, next)?;
+            conts.next(alloc, program, consume, state)
         }
         Stmt::Assume(_, e) => {
             conts.eval(
                 alloc,
-                typed,
+                program,
                 e,
                 Hole::Executed(Executed::Assume, next.clone()?),
                 state,
@@ -92,7 +92,13 @@ pub fn step(
         }
         Stmt::If(_, e, a, b) => {
             let sides = Executed::If(a.clone()?, b.clone()?, state.store.len());
-            conts.eval(alloc, typed, e, Hole::Executed(sides, next.clone()?), state)
+            conts.eval(
+                alloc,
+                program,
+                e,
+                Hole::Executed(sides, next.clone()?),
+                state,
+            )
         }
     }
 }
@@ -100,19 +106,19 @@ pub fn step(
 /// A step of a block.
 pub fn step_block(
     alloc: Global,
-    typed: &Typed,
+    program: &Settled,
     block: &Block,
     next: &Rc<Next>,
     state: SymState,
     conts: &mut Conts,
 ) -> Result<Move, AllocError>
-    ensures { IfOk result (λ m. Stepped (settled typed.now) (rule.exec_all (settled typed.now) (rules (settled typed.now)) (block_of block.now) (state_of state) (going (settled typed.now) next.now.value)) conts.old.sides.items m conts.new.sides.items) }
+    ensures { IfOk result (λ m. Stepped (settled program.now) (rule.exec_all (settled program.now) (rules (settled program.now)) (block_of block.now) (state_of state) (going (settled program.now) next.now.value)) conts.old.sides.items m conts.new.sides.items) }
 {
     match block {
-        Block::Done => conts.go(typed, Frame::Go(next.clone()?), state),
+        Block::Done => conts.go(program, Frame::Go(next.clone()?), state),
         Block::Then(first, rest) => {
             let rest = Rc::new(alloc, Next::Block(rest.clone()?, next.clone()?))?;
-            conts.next(alloc, typed, Next::Exec(first.clone()?, rest), state)
+            conts.next(alloc, program, Next::Exec(first.clone()?, rest), state)
         }
     }
 }
@@ -120,24 +126,24 @@ pub fn step_block(
 /// A step of a block within another, whose own variables are forgotten at its end.
 pub fn step_inner(
     alloc: Global,
-    typed: &Typed,
+    program: &Settled,
     block: &Block,
     kept: usize,
     next: &Rc<Next>,
     state: SymState,
     conts: &mut Conts,
 ) -> Result<Move, AllocError>
-    ensures { IfOk result (λ m. Stepped (settled typed.now) (rule.exec_all (settled typed.now) (rules (settled typed.now)) (block_of block.now) (state_of state) (λ s. going (settled typed.now) next.now.value (leave kept s))) conts.old.sides.items m conts.new.sides.items) }
+    ensures { IfOk result (λ m. Stepped (settled program.now) (rule.exec_all (settled program.now) (rules (settled program.now)) (block_of block.now) (state_of state) (λ s. going (settled program.now) next.now.value (leave kept s))) conts.old.sides.items m conts.new.sides.items) }
 {
     match block {
         Block::Done => {
             let mut state = state;
             state.leave(kept);
-            conts.go(typed, Frame::Go(next.clone()?), state)
+            conts.go(program, Frame::Go(next.clone()?), state)
         }
         Block::Then(first, rest) => {
             let rest = Rc::new(alloc, Next::Inner(rest.clone()?, kept, next.clone()?))?;
-            conts.next(alloc, typed, Next::Exec(first.clone()?, rest), state)
+            conts.next(alloc, program, Next::Exec(first.clone()?, rest), state)
         }
     }
 }
@@ -145,14 +151,14 @@ pub fn step_inner(
 /// On with a block within another.
 fn inner_frame(
     alloc: Global,
-    typed: &Typed,
+    program: &Settled,
     block: &Rc<Block>,
     kept: usize,
     next: &Rc<Next>,
 ) -> Result<Frame, AllocError>
-    ensures { IfOk result (λ f. frame_tree (settled typed.now) f ≡ (λ s. rule.exec_all (settled typed.now) (rules (settled typed.now)) (block_of block.now.value) s (λ s1. going (settled typed.now) next.now.value (leave kept s1)))) }
+    ensures { IfOk result (λ f. frame_tree (settled program.now) f ≡ (λ s. rule.exec_all (settled program.now) (rules (settled program.now)) (block_of block.now.value) s (λ s1. going (settled program.now) next.now.value (leave kept s1)))) }
 {
-    let _typed = typed;
+    let _program = program;
     let inner = Rc::new(alloc, Next::Inner(block.clone()?, kept, next.clone()?))?;
     Ok(Frame::Go(inner))
 }
@@ -160,32 +166,32 @@ fn inner_frame(
 /// A value goes on to the statement that it is of.
 pub fn step_executed(
     alloc: Global,
-    typed: &Typed,
+    program: &Settled,
     value: Rc<Term>,
     executed: &Executed,
     next: &Rc<Next>,
     state: SymState,
     conts: &mut Conts,
 ) -> Result<Move, AllocError>
-    ensures { IfOk result (λ m. Stepped (settled typed.now) (executed_of (settled typed.now) executed.now (going (settled typed.now) next.now.value) (term value.value) (state_of state)) conts.old.sides.items m conts.new.sides.items) }
+    ensures { IfOk result (λ m. Stepped (settled program.now) (executed_of (settled program.now) executed.now (going (settled program.now) next.now.value) (term value.value) (state_of state)) conts.old.sides.items m conts.new.sides.items) }
 {
     let mut state = state;
     match executed {
         Executed::Assign(x) => {
             let name = state.name(alloc, value)?;
             state.assign(x, name);
-            conts.go(typed, Frame::Go(next.clone()?), state)
+            conts.go(program, Frame::Go(next.clone()?), state)
         }
         Executed::Assume => {
             state.add_fact(alloc, value)?;
-            conts.go(typed, Frame::Go(next.clone()?), state)
+            conts.go(program, Frame::Go(next.clone()?), state)
         }
         Executed::If(a, b, kept) => {
-            let left = inner_frame(alloc, typed, a, *kept, next)?;
-            let right = inner_frame(alloc, typed, b, *kept, next)?;
-            conts.fork(alloc, typed, value, state, left, right)
+            let left = inner_frame(alloc, program, a, *kept, next)?;
+            let right = inner_frame(alloc, program, b, *kept, next)?;
+            conts.fork(alloc, program, value, state, left, right)
         }
-        Executed::Asserted => conts.go(typed, Frame::Go(next.clone()?), state),
-        Executed::Exhaled => conts.go(typed, Frame::Go(next.clone()?), state),
+        Executed::Asserted => conts.go(program, Frame::Go(next.clone()?), state),
+        Executed::Exhaled => conts.go(program, Frame::Go(next.clone()?), state),
     }
 }

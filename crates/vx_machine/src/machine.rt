@@ -11,7 +11,7 @@ use std::mem;
 use vx_ast::resolved::Kind;
 use vx_ast::{MemberId, Place};
 use vx_rules::{Code, Conts, Query, Reply};
-use vx_types::Typed;
+use vx_types::Settled;
 
 /// Where a machine is.
 #[derive(Drop)]
@@ -105,19 +105,19 @@ impl Machine {
     /// A machine at the root of a member's tree, which asks at most this many questions.
     pub fn start(
         alloc: Global,
-        typed: &Typed,
+        program: &Settled,
         member: MemberId,
         limit: u32,
     ) -> Result<Machine, AllocError>
-        requires { member.0 < length (settled typed.now) }
-        ensures follows { IfOk result (λ m. Follows (settled typed.now) m) }
+        requires { member.0 < length (settled program.now) }
+        ensures follows { IfOk result (λ m. Follows (settled program.now) m) }
         ensures member { IfOk result (λ m. m.member ≡ member) }
         ensures limit { IfOk result (λ m. m.limit ≡ limit) }
         ensures replies { IfOk result (λ m. m.replies.items ≡ []) }
         ensures ready { IfOk result (λ m. m.phase ≡ Phase.Ready) }
     {
-        let side = match &typed.member(member.0 as usize).kind {
-            Kind::Method(m) => vx_exec::first_side(alloc, typed, m)?,
+        let side = match &program.member(member.0 as usize).kind {
+            Kind::Method(m) => vx_exec::first_side(alloc, program, m)?,
         };
         let mut conts = Conts::new(alloc);
         conts.sides.push(side)?;
@@ -138,20 +138,20 @@ impl Machine {
     }
 
     /// On to the next question, or to the end.
-    fn go_on(&mut self, alloc: Global, typed: &Typed) -> Result<Ask, AllocError>
+    fn go_on(&mut self, alloc: Global, program: &Settled) -> Result<Ask, AllocError>
         requires spent { self.old.phase ≡ Phase.Spent }
-        requires at { IsAt (settled typed.now) (member_tree (settled typed.now) self.old.member.0) Phase.Ready self.old.conts.sides.items (given self.old) }
+        requires at { IsAt (settled program.now) (member_tree (settled program.now) self.old.member.0) Phase.Ready self.old.conts.sides.items (given self.old) }
         requires within { Within Phase.Ready self.old.limit (length self.old.replies.items) }
-        ensures follows { Follows (settled typed.now) self.new }
-        ensures told { IfOk result (λ ask. Told ask (walk (member_tree (settled typed.now) self.new.member.0) (given self.new)) self.new.limit (length self.new.replies.items)) }
-        ensures answered { OnOk result (EachAnswered (walk (member_tree (settled typed.now) self.new.member.0) (given self.new)) (given self.new)) }
+        ensures follows { Follows (settled program.now) self.new }
+        ensures told { IfOk result (λ ask. Told ask (walk (member_tree (settled program.now) self.new.member.0) (given self.new)) self.new.limit (length self.new.replies.items)) }
+        ensures answered { OnOk result (EachAnswered (walk (member_tree (settled program.now) self.new.member.0) (given self.new)) (given self.new)) }
         ensures replies { self.new.replies.items ≡ self.old.replies.items }
         ensures member { self.new.member ≡ self.old.member }
         ensures limit { self.new.limit ≡ self.old.limit }
         ensures shows { IfOk result (λ ask. Shows self.new.phase self.new.limit ask) }
         ensures err { OnErr result (self.new.phase ≡ Phase.Spent) }
     {
-        match run(alloc, typed, &mut self.conts)? {
+        match run(alloc, program, &mut self.conts)? {
             None => {
                 self.phase = Phase::Passed;
                 Ok(Ask::Done(Outcome::Passed))
@@ -169,21 +169,21 @@ impl Machine {
     }
 
     /// The open question was not refuted, and it is no probe.
-    fn fail(&mut self, typed: &Typed, query: Query, reply: Reply) -> Result<Ask, AllocError>
+    fn fail(&mut self, program: &Settled, query: Query, reply: Reply) -> Result<Ask, AllocError>
         requires spent { self.old.phase ≡ Phase.Spent }
         requires kind { is_unsat reply ≡ false }
         requires probe { query.probe ≡ false }
-        requires at { IsAt (settled typed.now) (member_tree (settled typed.now) self.old.member.0) (Phase.Asked query) self.old.conts.sides.items (given self.old) }
-        ensures follows { Follows (settled typed.now) self.new }
-        ensures told { IfOk result (λ ask. Told ask (walk (member_tree (settled typed.now) self.new.member.0) (given self.new)) self.new.limit (length self.new.replies.items)) }
-        ensures answered { OnOk result (EachAnswered (walk (member_tree (settled typed.now) self.new.member.0) (given self.new)) (given self.new)) }
+        requires at { IsAt (settled program.now) (member_tree (settled program.now) self.old.member.0) (Phase.Asked query) self.old.conts.sides.items (given self.old) }
+        ensures follows { Follows (settled program.now) self.new }
+        ensures told { IfOk result (λ ask. Told ask (walk (member_tree (settled program.now) self.new.member.0) (given self.new)) self.new.limit (length self.new.replies.items)) }
+        ensures answered { OnOk result (EachAnswered (walk (member_tree (settled program.now) self.new.member.0) (given self.new)) (given self.new)) }
         ensures replies { OnOk result (self.new.replies.items ≡ self.old.replies.items ++ reply ∷ []) }
         ensures member { self.new.member ≡ self.old.member }
         ensures limit { self.new.limit ≡ self.old.limit }
         ensures shows { IfOk result (λ ask. Shows self.new.phase self.new.limit ask) }
         ensures err { OnErr result (self.new.phase ≡ Phase.Spent) }
     {
-        let _typed = typed;
+        let _program = program;
         self.replies.push(reply)?;
         let place = query.place;
         let code = query.code;
@@ -195,16 +195,16 @@ impl Machine {
     fn answer(
         &mut self,
         alloc: Global,
-        typed: &Typed,
+        program: &Settled,
         query: Query,
         reply: Reply,
     ) -> Result<Ask, AllocError>
         requires spent { self.old.phase ≡ Phase.Spent }
-        requires at { IsAt (settled typed.now) (member_tree (settled typed.now) self.old.member.0) (Phase.Asked query) self.old.conts.sides.items (given self.old) }
+        requires at { IsAt (settled program.now) (member_tree (settled program.now) self.old.member.0) (Phase.Asked query) self.old.conts.sides.items (given self.old) }
         requires within { Within (Phase.Asked query) self.old.limit (length self.old.replies.items) }
-        ensures follows { Follows (settled typed.now) self.new }
-        ensures told { IfOk result (λ ask. Told ask (walk (member_tree (settled typed.now) self.new.member.0) (given self.new)) self.new.limit (length self.new.replies.items)) }
-        ensures answered { OnOk result (EachAnswered (walk (member_tree (settled typed.now) self.new.member.0) (given self.new)) (given self.new)) }
+        ensures follows { Follows (settled program.now) self.new }
+        ensures told { IfOk result (λ ask. Told ask (walk (member_tree (settled program.now) self.new.member.0) (given self.new)) self.new.limit (length self.new.replies.items)) }
+        ensures answered { OnOk result (EachAnswered (walk (member_tree (settled program.now) self.new.member.0) (given self.new)) (given self.new)) }
         ensures replies { OnOk result (self.new.replies.items ≡ self.old.replies.items ++ reply ∷ []) }
         ensures member { self.new.member ≡ self.old.member }
         ensures limit { self.new.limit ≡ self.old.limit }
@@ -215,16 +215,16 @@ impl Machine {
         if query.probe {
             choose(&mut self.conts, refuted)?;
             self.replies.push(reply)?;
-            return self.go_on(alloc, typed);
+            return self.go_on(alloc, program);
         }
         if !refuted {
-            return self.fail(typed, query, reply);
+            return self.fail(program, query, reply);
         }
         self.replies.push(reply)?;
-        self.go_on(alloc, typed)
+        self.go_on(alloc, program)
     }
 
-    /// On to the next question, or to the end. A reply is given exactly where one is awaited, to the `Typed` that the
+    /// On to the next question, or to the end. A reply is given exactly where one is awaited, to the `Settled` that the
     /// machine was started with.
     ///
     /// # Errors
@@ -232,14 +232,14 @@ impl Machine {
     pub fn next(
         &mut self,
         alloc: Global,
-        typed: &Typed,
+        program: &Settled,
         reply: Option<Reply>,
     ) -> Result<Ask, AllocError>
         requires awaited { is_awaiting self.old.phase ≡ is_some reply }
-        requires follows { Follows (settled typed.now) self.old }
-        ensures follows { Follows (settled typed.now) self.new }
-        ensures told { IfOk result (λ ask. Told ask (walk (member_tree (settled typed.now) self.new.member.0) (given self.new)) self.new.limit (length self.new.replies.items)) }
-        ensures answered { OnOk result (EachAnswered (walk (member_tree (settled typed.now) self.new.member.0) (given self.new)) (given self.new)) }
+        requires follows { Follows (settled program.now) self.old }
+        ensures follows { Follows (settled program.now) self.new }
+        ensures told { IfOk result (λ ask. Told ask (walk (member_tree (settled program.now) self.new.member.0) (given self.new)) self.new.limit (length self.new.replies.items)) }
+        ensures answered { OnOk result (EachAnswered (walk (member_tree (settled program.now) self.new.member.0) (given self.new)) (given self.new)) }
         ensures replies { OnOk result (self.new.replies.items ≡ self.old.replies.items ++ option_list reply) }
         ensures member { self.new.member ≡ self.old.member }
         ensures limit { self.new.limit ≡ self.old.limit }
@@ -250,9 +250,9 @@ impl Machine {
     {
         let phase = mem::replace(&mut self.phase, Phase::Spent);
         match phase {
-            Phase::Ready => self.go_on(alloc, typed),
+            Phase::Ready => self.go_on(alloc, program),
             Phase::Asked(query) => match reply {
-                Some(reply) => self.answer(alloc, typed, query, reply),
+                Some(reply) => self.answer(alloc, program, query, reply),
                 None => unreachable!(),
             },
             Phase::Limited(query) => {

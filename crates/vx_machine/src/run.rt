@@ -15,7 +15,7 @@ use vx_ast::resolved::Method;
 use vx_exec::Promise;
 use vx_rules::{Conts, Frame, Hole, Move, Next, Query, Side, SymState};
 use vx_terms::Term;
-use vx_types::Typed;
+use vx_types::Settled;
 
 fn has_ended(frame: &Frame) -> bool
     ensures { result ≡ is_over frame.now }
@@ -30,18 +30,18 @@ fn has_ended(frame: &Frame) -> bool
 /// A step of a method whose precondition was produced.
 fn step_method(
     alloc: Global,
-    typed: &Typed,
+    program: &Settled,
     m: &Method,
     state: SymState,
     conts: &mut Conts,
 ) -> Result<Move, AllocError>
-    ensures { IfOk result (λ v. Stepped (settled typed.now) (sides (settled typed.now) (method m.now) (state_of state)) conts.old.sides.items v conts.new.sides.items) }
+    ensures { IfOk result (λ v. Stepped (settled program.now) (sides (settled program.now) (method m.now) (state_of state)) conts.old.sides.items v conts.new.sides.items) }
 {
     match &m.body {
-        Some(body) => vx_exec::step_sides(alloc, typed, m, body, state, conts),
+        Some(body) => vx_exec::step_sides(alloc, program, m, body, state, conts),
         None => {
-            let Promise { all, state, finish } = vx_exec::make_promise(alloc, typed, m, state)?;
-            vx_produce::step(alloc, typed, &all, &finish, state, conts)
+            let Promise { all, state, finish } = vx_exec::make_promise(alloc, program, m, state)?;
+            vx_produce::step(alloc, program, &all, &finish, state, conts)
         }
     }
 }
@@ -49,53 +49,55 @@ fn step_method(
 /// A step of what waits for a state.
 fn step_next(
     alloc: Global,
-    typed: &Typed,
+    program: &Settled,
     next: &Next,
     state: SymState,
     conts: &mut Conts,
 ) -> Result<Move, AllocError>
     requires { is_finish next.now ≡ false }
-    ensures { IfOk result (λ m. Stepped (settled typed.now) (going (settled typed.now) next.now (state_of state)) conts.old.sides.items m conts.new.sides.items) }
+    ensures { IfOk result (λ m. Stepped (settled program.now) (going (settled program.now) next.now (state_of state)) conts.old.sides.items m conts.new.sides.items) }
 {
     match next {
         Next::Finish => unreachable!(),
-        Next::Exec(c, next) => vx_exec::step(alloc, typed, c, next, state, conts),
-        Next::Block(b, next) => vx_exec::step_block(alloc, typed, b, next, state, conts),
+        Next::Exec(c, next) => vx_exec::step(alloc, program, c, next, state, conts),
+        Next::Block(b, next) => vx_exec::step_block(alloc, program, b, next, state, conts),
         Next::Inner(b, kept, next) => {
-            vx_exec::step_inner(alloc, typed, b, *kept, next, state, conts)
+            vx_exec::step_inner(alloc, program, b, *kept, next, state, conts)
         }
-        Next::Produce(a, next) => vx_produce::step(alloc, typed, a, next, state, conts),
+        Next::Produce(a, next) => vx_produce::step(alloc, program, a, next, state, conts),
         Next::Consume(a, codes, hole) => {
-            vx_consume::step(alloc, typed, a, *codes, hole.clone()?, state, conts)
+            vx_consume::step(alloc, program, a, *codes, hole.clone()?, state, conts)
         }
-        Next::Unit(hole) => vx_consume::step_unit(alloc, typed, hole, state, conts),
-        Next::Sides(m) => step_method(alloc, typed, m, state, conts),
+        Next::Unit(hole) => vx_consume::step_unit(alloc, program, hole, state, conts),
+        Next::Sides(m) => step_method(alloc, program, m, state, conts),
     }
 }
 
 /// A step of what waits for a value.
 fn step_hole(
     alloc: Global,
-    typed: &Typed,
+    program: &Settled,
     value: Rc<Term>,
     hole: &Hole,
     state: SymState,
     conts: &mut Conts,
 ) -> Result<Move, AllocError>
     requires { is_last hole.now ≡ false }
-    ensures { IfOk result (λ m. Stepped (settled typed.now) (giving (settled typed.now) hole.now (term value.value) (state_of state)) conts.old.sides.items m conts.new.sides.items) }
+    ensures { IfOk result (λ m. Stepped (settled program.now) (giving (settled program.now) hole.now (term value.value) (state_of state)) conts.old.sides.items m conts.new.sides.items) }
 {
     match hole {
         Hole::Finish => unreachable!(),
         Hole::Operand(operand, hole) => {
-            vx_eval::step_operand(alloc, typed, value, operand, hole, state, conts)
+            vx_eval::step_operand(alloc, program, value, operand, hole, state, conts)
         }
         Hole::Consumed(consumed, hole) => {
-            vx_consume::step_consumed(alloc, typed, value, consumed, hole, state, conts)
+            vx_consume::step_consumed(alloc, program, value, consumed, hole, state, conts)
         }
-        Hole::Produced(next) => vx_produce::step_produced(alloc, typed, value, next, state, conts),
+        Hole::Produced(next) => vx_produce::step_produced(
+            alloc, program, value, next, state, conts,
+        ),
         Hole::Executed(executed, next) => {
-            vx_exec::step_executed(alloc, typed, value, executed, next, state, conts)
+            vx_exec::step_executed(alloc, program, value, executed, next, state, conts)
         }
     }
 }
@@ -103,35 +105,35 @@ fn step_hole(
 /// One step.
 fn step(
     alloc: Global,
-    typed: &Typed,
+    program: &Settled,
     frame: Frame,
     state: SymState,
     conts: &mut Conts,
 ) -> Result<Move, AllocError>
     requires { is_over frame ≡ false }
-    ensures { IfOk result (λ m. Stepped (settled typed.now) (frame_tree (settled typed.now) frame (state_of state)) conts.old.sides.items m conts.new.sides.items) }
+    ensures { IfOk result (λ m. Stepped (settled program.now) (frame_tree (settled program.now) frame (state_of state)) conts.old.sides.items m conts.new.sides.items) }
 {
     match frame {
-        Frame::Go(next) => step_next(alloc, typed, &next, state, conts),
-        Frame::Eval(e, hole) => vx_eval::step(alloc, typed, &e, hole, state, conts),
-        Frame::Give(value, hole) => step_hole(alloc, typed, value, &hole, state, conts),
+        Frame::Go(next) => step_next(alloc, program, &next, state, conts),
+        Frame::Eval(e, hole) => vx_eval::step(alloc, program, &e, hole, state, conts),
+        Frame::Give(value, hole) => step_hole(alloc, program, value, &hole, state, conts),
     }
 }
 
 /// One step, or the end of a side.
 fn turn(
     alloc: Global,
-    typed: &Typed,
+    program: &Settled,
     side: Side,
     conts: &mut Conts,
 ) -> Result<Option<Query>, AllocError>
-    ensures { IfOk result (λ o. Turned (settled typed.now) (side_tree (settled typed.now) side) conts.old.sides.items o conts.new.sides.items) }
+    ensures { IfOk result (λ o. Turned (settled program.now) (side_tree (settled program.now) side) conts.old.sides.items o conts.new.sides.items) }
 {
     let Side { frame, state } = side;
     if has_ended(&frame) {
         return Ok(None);
     }
-    match step(alloc, typed, frame, state, conts)? {
+    match step(alloc, program, frame, state, conts)? {
         Move::Go => Ok(None),
         Move::Fork => Ok(None),
         Move::Check(query) => Ok(Some(query)),
@@ -139,11 +141,11 @@ fn turn(
 }
 
 /// On to the next question, or to the end.
-pub fn run(alloc: Global, typed: &Typed, conts: &mut Conts) -> Result<Option<Query>, AllocError>
-    ensures { IfOk result (λ o. RunsTo (settled typed.now) conts.old.sides.items o conts.new.sides.items) }
+pub fn run(alloc: Global, program: &Settled, conts: &mut Conts) -> Result<Option<Query>, AllocError>
+    ensures { IfOk result (λ o. RunsTo (settled program.now) conts.old.sides.items o conts.new.sides.items) }
 {
     while let Some(side) = conts.sides.pop() {
-        match turn(alloc, typed, side, conts)? {
+        match turn(alloc, program, side, conts)? {
             Some(query) => return Ok(Some(query)),
             None => {}
         }

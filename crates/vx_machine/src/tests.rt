@@ -13,7 +13,7 @@ use vx_ast::resolved::{
 use vx_ast::{MemberId, Place, ValueType};
 use vx_rules::{Code, Query, Reply};
 use vx_terms::{Sort, arithmetic, make, numbers};
-use vx_types::Typed;
+use vx_types::Settled;
 
 fn at(line: u32, column: u32) -> Place {
     Place { line, column }
@@ -65,20 +65,20 @@ fn method(alloc: Global) -> Method {
 }
 
 /// A program of one method.
-fn program(alloc: Global, m: Method) -> Result<Typed, AllocError> {
+fn only_method(alloc: Global, m: Method) -> Result<Settled, AllocError> {
     let mut members = Vec::new(alloc);
     members.push(Member {
         name: name(alloc, "m")?,
         kind: Kind::Method(Rc::new(alloc, m)?),
     })?;
-    Ok(Typed {
+    Ok(Settled {
         program: Program { members },
     })
 }
 
 /// `if (a) { assert true } else { assert true }`, and under it
 /// `if (b) { assert a ==> a } else { assert a }`, with the parameters a and b.
-fn two_choices(alloc: Global) -> Result<Typed, AllocError> {
+fn two_choices(alloc: Global) -> Result<Settled, AllocError> {
     let always = Rc::new(alloc, Expr::Truth(at(3, 17), true))?;
     let left = single(alloc, asserting(alloc, at(3, 10), &always)?)?;
     let right = single(alloc, asserting(alloc, at(3, 34), &always)?)?;
@@ -97,11 +97,11 @@ fn two_choices(alloc: Global) -> Result<Typed, AllocError> {
     m.parameters.push(declared(alloc, "a", ValueType::Bool)?)?;
     m.parameters.push(declared(alloc, "b", ValueType::Bool)?)?;
     m.body = Some(Rc::new(alloc, body)?);
-    program(alloc, m)
+    only_method(alloc, m)
 }
 
 /// `method m(a: Bool) requires a { assert a assert a }`
-fn two_asserts(alloc: Global) -> Result<Typed, AllocError> {
+fn two_asserts(alloc: Global) -> Result<Settled, AllocError> {
     let a = variable(alloc, at(1, 28), "a")?;
     let first = asserting(alloc, at(1, 32), &variable(alloc, at(1, 39), "a")?)?;
     let second = asserting(alloc, at(1, 41), &variable(alloc, at(1, 48), "a")?)?;
@@ -110,11 +110,11 @@ fn two_asserts(alloc: Global) -> Result<Typed, AllocError> {
     m.parameters.push(declared(alloc, "a", ValueType::Bool)?)?;
     m.preconditions.push(pure(alloc, &a)?)?;
     m.body = Some(Rc::new(alloc, body)?);
-    program(alloc, m)
+    only_method(alloc, m)
 }
 
 /// `method inc(x: Int) returns (y: Int) ensures y > x { y := x + 1 }`, with a body or without one.
-fn increment(alloc: Global, has_body: bool) -> Result<Typed, AllocError> {
+fn increment(alloc: Global, has_body: bool) -> Result<Settled, AllocError> {
     let x = variable(alloc, at(1, 49), "x")?;
     let y = variable(alloc, at(1, 45), "y")?;
     let greater = Rc::new(
@@ -132,27 +132,32 @@ fn increment(alloc: Global, has_body: bool) -> Result<Typed, AllocError> {
     if has_body {
         m.body = Some(body);
     }
-    program(alloc, m)
+    only_method(alloc, m)
 }
 
-fn start(alloc: Global, typed: &Typed, limit: u32) -> Result<Machine, Fail>
-    ensures { IfOk result (λ m. Follows (settled typed.now) m) }
+fn start(alloc: Global, program: &Settled, limit: u32) -> Result<Machine, Fail>
+    ensures { IfOk result (λ m. Follows (settled program.now) m) }
 {
-    if typed.len() < 1 {
+    if program.len() < 1 {
         return Err("no member".into());
     }
-    Ok(Machine::start(alloc, typed, MemberId(0), limit)?)
+    Ok(Machine::start(alloc, program, MemberId(0), limit)?)
 }
 
 /// On, with this reply where one is awaited.
-fn on(alloc: Global, machine: &mut Machine, typed: &Typed, reply: Reply) -> Result<Ask, AllocError>
-    requires { Follows (settled typed.now) machine.old }
-    ensures { Follows (settled typed.now) machine.new }
+fn on(
+    alloc: Global,
+    machine: &mut Machine,
+    program: &Settled,
+    reply: Reply,
+) -> Result<Ask, AllocError>
+    requires { Follows (settled program.now) machine.old }
+    ensures { Follows (settled program.now) machine.new }
 {
     if machine.awaits() {
-        return machine.next(alloc, typed, Some(reply));
+        return machine.next(alloc, program, Some(reply));
     }
-    machine.next(alloc, typed, None)
+    machine.next(alloc, program, None)
 }
 
 /// The place of the question.
@@ -181,19 +186,19 @@ fn failed(line: u32, column: u32, reply: Reply) -> Option<Outcome> {
 #[test]
 fn the_other_side_is_walked(rt: HostRuntime) -> Result<(), Fail> {
     let alloc = rt.alloc();
-    let typed = two_choices(alloc)?;
-    let mut machine = start(alloc, &typed, 100_000)?;
-    let first = on(alloc, &mut machine, &typed, Reply::Unsat)?;
+    let program = two_choices(alloc)?;
+    let mut machine = start(alloc, &program, 100_000)?;
+    let first = on(alloc, &mut machine, &program, Reply::Unsat)?;
     assert!(rt; asked(&first) == Some(at(4, 17)));
-    let second = on(alloc, &mut machine, &typed, Reply::Unsat)?;
+    let second = on(alloc, &mut machine, &program, Reply::Unsat)?;
     assert!(rt; asked(&second) == Some(at(4, 41)));
-    let third = on(alloc, &mut machine, &typed, Reply::Unsat)?;
+    let third = on(alloc, &mut machine, &program, Reply::Unsat)?;
     assert!(rt; asked(&third) == Some(at(4, 17)));
-    let fourth = on(alloc, &mut machine, &typed, Reply::Unsat)?;
+    let fourth = on(alloc, &mut machine, &program, Reply::Unsat)?;
     assert!(rt; asked(&fourth) == Some(at(4, 41)));
-    let end = on(alloc, &mut machine, &typed, Reply::Sat)?;
+    let end = on(alloc, &mut machine, &program, Reply::Sat)?;
     assert!(rt; ended(&end) == failed(4, 41, Reply::Sat));
-    let again = on(alloc, &mut machine, &typed, Reply::Unsat)?;
+    let again = on(alloc, &mut machine, &program, Reply::Unsat)?;
     assert!(rt; ended(&again) == failed(4, 41, Reply::Sat));
     Ok(())
 }
@@ -201,11 +206,11 @@ fn the_other_side_is_walked(rt: HostRuntime) -> Result<(), Fail> {
 #[test]
 fn an_unknown_fails(rt: HostRuntime) -> Result<(), Fail> {
     let alloc = rt.alloc();
-    let typed = two_choices(alloc)?;
-    let mut machine = start(alloc, &typed, 100_000)?;
-    let first = on(alloc, &mut machine, &typed, Reply::Unsat)?;
+    let program = two_choices(alloc)?;
+    let mut machine = start(alloc, &program, 100_000)?;
+    let first = on(alloc, &mut machine, &program, Reply::Unsat)?;
     assert!(rt; asked(&first) == Some(at(4, 17)));
-    let end = on(alloc, &mut machine, &typed, Reply::Unknown)?;
+    let end = on(alloc, &mut machine, &program, Reply::Unknown)?;
     assert!(rt; ended(&end) == failed(4, 17, Reply::Unknown));
     Ok(())
 }
@@ -213,18 +218,18 @@ fn an_unknown_fails(rt: HostRuntime) -> Result<(), Fail> {
 #[test]
 fn a_limit_stops_at_a_further_question(rt: HostRuntime) -> Result<(), Fail> {
     let alloc = rt.alloc();
-    let typed = two_asserts(alloc)?;
-    let mut machine = start(alloc, &typed, 1)?;
-    let first = on(alloc, &mut machine, &typed, Reply::Unsat)?;
+    let program = two_asserts(alloc)?;
+    let mut machine = start(alloc, &program, 1)?;
+    let first = on(alloc, &mut machine, &program, Reply::Unsat)?;
     assert!(rt; asked(&first) == Some(at(1, 39)));
-    let end = on(alloc, &mut machine, &typed, Reply::Unsat)?;
+    let end = on(alloc, &mut machine, &program, Reply::Unsat)?;
     assert!(rt; ended(&end) == Some(Outcome::Limit { checks: 1 }));
-    let mut machine = start(alloc, &typed, 2)?;
-    let first = on(alloc, &mut machine, &typed, Reply::Unsat)?;
+    let mut machine = start(alloc, &program, 2)?;
+    let first = on(alloc, &mut machine, &program, Reply::Unsat)?;
     assert!(rt; asked(&first) == Some(at(1, 39)));
-    let second = on(alloc, &mut machine, &typed, Reply::Unsat)?;
+    let second = on(alloc, &mut machine, &program, Reply::Unsat)?;
     assert!(rt; asked(&second) == Some(at(1, 48)));
-    let end = on(alloc, &mut machine, &typed, Reply::Unsat)?;
+    let end = on(alloc, &mut machine, &program, Reply::Unsat)?;
     assert!(rt; ended(&end) == Some(Outcome::Passed));
     Ok(())
 }
@@ -246,9 +251,9 @@ fn is_of_increment(alloc: Global, query: &Query) -> Result<bool, AllocError> {
 #[test]
 fn a_value_has_a_name(rt: HostRuntime) -> Result<(), Fail> {
     let alloc = rt.alloc();
-    let typed = increment(alloc, true)?;
-    let mut machine = start(alloc, &typed, 100_000)?;
-    match on(alloc, &mut machine, &typed, Reply::Unsat)? {
+    let program = increment(alloc, true)?;
+    let mut machine = start(alloc, &program, 100_000)?;
+    match on(alloc, &mut machine, &program, Reply::Unsat)? {
         Ask::Check(query) => {
             assert!(rt; query.code == Code::Postcondition);
             assert!(rt; query.place == at(1, 45));
@@ -256,7 +261,7 @@ fn a_value_has_a_name(rt: HostRuntime) -> Result<(), Fail> {
         }
         Ask::Done(_) => return Err("no question".into()),
     }
-    let end = on(alloc, &mut machine, &typed, Reply::Unsat)?;
+    let end = on(alloc, &mut machine, &program, Reply::Unsat)?;
     assert!(rt; ended(&end) == Some(Outcome::Passed));
     Ok(())
 }
@@ -264,29 +269,29 @@ fn a_value_has_a_name(rt: HostRuntime) -> Result<(), Fail> {
 #[test]
 fn a_method_without_a_body_passes(rt: HostRuntime) -> Result<(), Fail> {
     let alloc = rt.alloc();
-    let typed = increment(alloc, false)?;
-    let mut machine = start(alloc, &typed, 100_000)?;
-    let end = on(alloc, &mut machine, &typed, Reply::Sat)?;
+    let program = increment(alloc, false)?;
+    let mut machine = start(alloc, &program, 100_000)?;
+    let end = on(alloc, &mut machine, &program, Reply::Sat)?;
     assert!(rt; ended(&end) == Some(Outcome::Passed));
     Ok(())
 }
 
-/// Both are on the same `Typed`; each gets the questions that it gets alone.
+/// Both are on the same `Settled`; each gets the questions that it gets alone.
 #[test]
 fn two_machines_stand_suspended(rt: HostRuntime) -> Result<(), Fail> {
     let alloc = rt.alloc();
-    let typed = two_choices(alloc)?;
-    let mut one = start(alloc, &typed, 100_000)?;
-    let mut other = start(alloc, &typed, 100_000)?;
-    let ask = on(alloc, &mut one, &typed, Reply::Unsat)?;
+    let program = two_choices(alloc)?;
+    let mut one = start(alloc, &program, 100_000)?;
+    let mut other = start(alloc, &program, 100_000)?;
+    let ask = on(alloc, &mut one, &program, Reply::Unsat)?;
     assert!(rt; asked(&ask) == Some(at(4, 17)));
-    let ask = on(alloc, &mut other, &typed, Reply::Unsat)?;
+    let ask = on(alloc, &mut other, &program, Reply::Unsat)?;
     assert!(rt; asked(&ask) == Some(at(4, 17)));
-    let ask = on(alloc, &mut one, &typed, Reply::Unsat)?;
+    let ask = on(alloc, &mut one, &program, Reply::Unsat)?;
     assert!(rt; asked(&ask) == Some(at(4, 41)));
-    let ask = on(alloc, &mut other, &typed, Reply::Sat)?;
+    let ask = on(alloc, &mut other, &program, Reply::Sat)?;
     assert!(rt; ended(&ask) == failed(4, 17, Reply::Sat));
-    let ask = on(alloc, &mut one, &typed, Reply::Unknown)?;
+    let ask = on(alloc, &mut one, &program, Reply::Unknown)?;
     assert!(rt; ended(&ask) == failed(4, 41, Reply::Unknown));
     Ok(())
 }

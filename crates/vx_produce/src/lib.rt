@@ -17,24 +17,24 @@ use std::rc::Rc;
 use vx_ast::resolved::Assertion;
 use vx_rules::{Conts, Frame, Hole, Move, Next, SymState};
 use vx_terms::Term;
-use vx_types::Typed;
+use vx_types::Settled;
 
 /// A step of producing an assertion.
 pub fn step(
     alloc: Global,
-    typed: &Typed,
+    program: &Settled,
     a: &Assertion,
     next: &Rc<Next>,
     state: SymState,
     conts: &mut Conts,
 ) -> Result<Move, AllocError>
-    ensures { IfOk result (λ m. Stepped (settled typed.now) (rule.produce (settled typed.now) (rules (settled typed.now)) (assertion a.now) whole_amount None (state_of state) (going (settled typed.now) next.now.value)) conts.old.sides.items m conts.new.sides.items) }
+    ensures { IfOk result (λ m. Stepped (settled program.now) (rule.produce (settled program.now) (rules (settled program.now)) (assertion a.now) whole_amount None (state_of state) (going (settled program.now) next.now.value)) conts.old.sides.items m conts.new.sides.items) }
 {
     match a {
-        Assertion::Pure(e) => conts.eval(alloc, typed, e, Hole::Produced(next.clone()?), state),
+        Assertion::Pure(e) => conts.eval(alloc, program, e, Hole::Produced(next.clone()?), state),
         Assertion::Both(left, right) => {
             let rest = Rc::new(alloc, Next::Produce(right.clone()?, next.clone()?))?;
-            conts.next(alloc, typed, Next::Produce(left.clone()?, rest), state)
+            conts.next(alloc, program, Next::Produce(left.clone()?, rest), state)
         }
     }
 }
@@ -42,15 +42,15 @@ pub fn step(
 /// A pure part is a fact.
 pub fn step_produced(
     alloc: Global,
-    typed: &Typed,
+    program: &Settled,
     value: Rc<Term>,
     next: &Rc<Next>,
     state: SymState,
     conts: &mut Conts,
 ) -> Result<Move, AllocError>
-    ensures { IfOk result (λ m. Stepped (settled typed.now) (tree.Step (going (settled typed.now) next.now.value (with_fact (term value.value) (state_of state)))) conts.old.sides.items m conts.new.sides.items) }
+    ensures { IfOk result (λ m. Stepped (settled program.now) (tree.Step (going (settled program.now) next.now.value (with_fact (term value.value) (state_of state)))) conts.old.sides.items m conts.new.sides.items) }
 {
     let mut state = state;
     state.add_fact(alloc, value)?;
-    conts.go(typed, Frame::Go(next.clone()?), state)
+    conts.go(program, Frame::Go(next.clone()?), state)
 }

@@ -12,7 +12,7 @@ use std::alloc::AllocError;
 use vx_ast::Place;
 use vx_ast::resolved::Kind;
 use vx_rules::{Code, Reply};
-use vx_types::Typed;
+use vx_types::Settled;
 
 fn code_word(code: Code) -> &'static str
     ensures { result.now ≡ spec.code_word code }
@@ -97,11 +97,11 @@ fn kind_word(kind: &Kind) -> &'static str
 }
 
 // The line of a member.
-fn write_line(out: &mut String, typed: &Typed, run: &MemberRun) -> Result<(), AllocError>
-    requires { run.now.member.0 < length (settled typed.now) }
-    ensures { OnOk result (string_bytes out.new ≡ string_bytes out.old ++ spec.line_of (settled typed.now) run.now) }
+fn write_line(out: &mut String, program: &Settled, run: &MemberRun) -> Result<(), AllocError>
+    requires { run.now.member.0 < length (settled program.now) }
+    ensures { OnOk result (string_bytes out.new ≡ string_bytes out.old ++ spec.line_of (settled program.now) run.now) }
 {
-    let member = typed.member(run.member.0 as usize);
+    let member = program.member(run.member.0 as usize);
     out.push_str(kind_word(&member.kind))?;
     out.push_str(" ")?;
     out.push_str(&member.name)?;
@@ -171,21 +171,25 @@ fn write_total(out: &mut String, runs: &[MemberRun]) -> Result<(), AllocError>
     write_others(out, totals.limited, totals.faulted)
 }
 
-fn write_lines(out: &mut String, typed: &Typed, runs: &[MemberRun]) -> Result<(), AllocError>
-    requires { AreNamed (settled typed.now) runs.now }
-    ensures { OnOk result (string_bytes out.new ≡ string_bytes out.old ++ spec.lines_of (settled typed.now) runs.now) }
+fn write_lines(out: &mut String, program: &Settled, runs: &[MemberRun]) -> Result<(), AllocError>
+    requires { AreNamed (settled program.now) runs.now }
+    ensures { OnOk result (string_bytes out.new ≡ string_bytes out.old ++ spec.lines_of (settled program.now) runs.now) }
 {
     for run in runs {
-        write_line(out, typed, run)?;
+        write_line(out, program, run)?;
     }
     Ok(())
 }
 
 /// Writes the report's text: the line of each run's member, and the total line.
-pub fn write_report(out: &mut String, typed: &Typed, runs: &[MemberRun]) -> Result<(), AllocError>
-    requires { AreNamed (settled typed.now) runs.now }
-    ensures { OnOk result (string_bytes out.new ≡ string_bytes out.old ++ spec.report_of (settled typed.now) runs.now) }
+pub fn write_report(
+    out: &mut String,
+    program: &Settled,
+    runs: &[MemberRun],
+) -> Result<(), AllocError>
+    requires { AreNamed (settled program.now) runs.now }
+    ensures { OnOk result (string_bytes out.new ≡ string_bytes out.old ++ spec.report_of (settled program.now) runs.now) }
 {
-    write_lines(out, typed, runs)?;
+    write_lines(out, program, runs)?;
     write_total(out, runs)
 }

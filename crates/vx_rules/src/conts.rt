@@ -16,7 +16,7 @@ use std::rc::Rc;
 use vx_ast::Place;
 use vx_ast::resolved::Expr;
 use vx_terms::{Term, make};
-use vx_types::Typed;
+use vx_types::Settled;
 
 /// The sides that are still to be walked, the next one last.
 #[derive(Drop)]
@@ -80,10 +80,15 @@ impl Conts {
     }
 
     /// On with this frame.
-    pub fn go(&mut self, typed: &Typed, frame: Frame, state: SymState) -> Result<Move, AllocError>
-        ensures { IfOk result (λ m. Stepped (settled typed.now) (tree.Step (frame_tree (settled typed.now) frame (state_of state))) self.old.sides.items m self.new.sides.items) }
+    pub fn go(
+        &mut self,
+        program: &Settled,
+        frame: Frame,
+        state: SymState,
+    ) -> Result<Move, AllocError>
+        ensures { IfOk result (λ m. Stepped (settled program.now) (tree.Step (frame_tree (settled program.now) frame (state_of state))) self.old.sides.items m self.new.sides.items) }
     {
-        let _typed = typed;
+        let _program = program;
         self.push(frame, state)?;
         Ok(Move::Go)
     }
@@ -92,59 +97,59 @@ impl Conts {
     pub fn eval(
         &mut self,
         alloc: Global,
-        typed: &Typed,
+        program: &Settled,
         e: &Rc<Expr>,
         hole: Hole,
         state: SymState,
     ) -> Result<Move, AllocError>
-        ensures { IfOk result (λ m. Stepped (settled typed.now) (tree.Step (rule.eval (settled typed.now) (rules (settled typed.now)) (expr e.now.value) (state_of state) (giving (settled typed.now) hole))) self.old.sides.items m self.new.sides.items) }
+        ensures { IfOk result (λ m. Stepped (settled program.now) (tree.Step (rule.eval (settled program.now) (rules (settled program.now)) (expr e.now.value) (state_of state) (giving (settled program.now) hole))) self.old.sides.items m self.new.sides.items) }
     {
         let hole = Rc::new(alloc, hole)?;
-        self.go(typed, Frame::Eval(e.clone()?, hole), state)
+        self.go(program, Frame::Eval(e.clone()?, hole), state)
     }
 
     /// On with a value.
     pub fn give(
         &mut self,
-        typed: &Typed,
+        program: &Settled,
         value: Rc<Term>,
         hole: &Rc<Hole>,
         state: SymState,
     ) -> Result<Move, AllocError>
-        ensures { IfOk result (λ m. Stepped (settled typed.now) (tree.Step (giving (settled typed.now) hole.now.value (term value.value) (state_of state))) self.old.sides.items m self.new.sides.items) }
+        ensures { IfOk result (λ m. Stepped (settled program.now) (tree.Step (giving (settled program.now) hole.now.value (term value.value) (state_of state))) self.old.sides.items m self.new.sides.items) }
     {
-        self.go(typed, Frame::Give(value, hole.clone()?), state)
+        self.go(program, Frame::Give(value, hole.clone()?), state)
     }
 
     /// On with what waits for a state.
     pub fn next(
         &mut self,
         alloc: Global,
-        typed: &Typed,
+        program: &Settled,
         next: Next,
         state: SymState,
     ) -> Result<Move, AllocError>
-        ensures { IfOk result (λ m. Stepped (settled typed.now) (tree.Step (going (settled typed.now) next (state_of state))) self.old.sides.items m self.new.sides.items) }
+        ensures { IfOk result (λ m. Stepped (settled program.now) (tree.Step (going (settled program.now) next (state_of state))) self.old.sides.items m self.new.sides.items) }
     {
         let next = Rc::new(alloc, next)?;
-        self.go(typed, Frame::Go(next), state)
+        self.go(program, Frame::Go(next), state)
     }
 
     /// Ask: on with this frame where the condition holds.
     pub fn ask(
         &mut self,
         alloc: Global,
-        typed: &Typed,
+        program: &Settled,
         condition: Rc<Term>,
         place: Place,
         code: Code,
         state: SymState,
         frame: Frame,
     ) -> Result<Move, AllocError>
-        ensures { IfOk result (λ m. Stepped (settled typed.now) (rule.ask (term condition.value) place (code_of code) (state_of state) (frame_tree (settled typed.now) frame)) self.old.sides.items m self.new.sides.items) }
+        ensures { IfOk result (λ m. Stepped (settled program.now) (rule.ask (term condition.value) place (code_of code) (state_of state) (frame_tree (settled program.now) frame)) self.old.sides.items m self.new.sides.items) }
     {
         if condition.is_same(&Term::Truth(true)) {
-            return self.go(typed, frame, state);
+            return self.go(program, frame, state);
         }
         let query = question(&condition, place, code, false, &state)?;
         if condition.is_same(&Term::Truth(false)) {
@@ -163,17 +168,17 @@ impl Conts {
     pub fn probe(
         &mut self,
         alloc: Global,
-        typed: &Typed,
+        program: &Settled,
         condition: &Rc<Term>,
         place: Place,
         code: Code,
         refuted: Side,
         otherwise: Side,
     ) -> Result<Move, AllocError>
-        ensures { IfOk result (λ m. Stepped (settled typed.now) (rule.probe (term condition.now.value) place (code_of code) (state_of otherwise.state) (side_tree (settled typed.now) refuted) (side_tree (settled typed.now) otherwise)) self.old.sides.items m self.new.sides.items) }
+        ensures { IfOk result (λ m. Stepped (settled program.now) (rule.probe (term condition.now.value) place (code_of code) (state_of otherwise.state) (side_tree (settled program.now) refuted) (side_tree (settled program.now) otherwise)) self.old.sides.items m self.new.sides.items) }
     {
         if condition.is_same(&Term::Truth(true)) {
-            return self.go(typed, refuted.frame, refuted.state);
+            return self.go(program, refuted.frame, refuted.state);
         }
         let query = question(condition, place, code, true, &otherwise.state)?;
         self.sides.push(otherwise)?;
@@ -190,40 +195,40 @@ impl Conts {
     pub fn fork(
         &mut self,
         alloc: Global,
-        typed: &Typed,
+        program: &Settled,
         condition: Rc<Term>,
         state: SymState,
         left: Frame,
         right: Frame,
     ) -> Result<Move, AllocError>
-        ensures { IfOk result (λ m. Stepped (settled typed.now) (rule.fork (term condition.value) (state_of state) (frame_tree (settled typed.now) left) (frame_tree (settled typed.now) right)) self.old.sides.items m self.new.sides.items) }
+        ensures { IfOk result (λ m. Stepped (settled program.now) (rule.fork (term condition.value) (state_of state) (frame_tree (settled program.now) left) (frame_tree (settled program.now) right)) self.old.sides.items m self.new.sides.items) }
     {
         if state.is_known(&condition) {
-            return self.go(typed, left, state);
+            return self.go(program, left, state);
         }
         let negated = make::not(alloc, &condition)?;
         if state.is_known(&negated) {
-            return self.go(typed, right, state);
+            return self.go(program, right, state);
         }
         let mut first = state.copy(alloc)?;
         let mut second = state;
         first.add_branch(alloc, condition)?;
         second.add_branch(alloc, negated)?;
-        self.both(typed, left, first, right, second)
+        self.both(program, left, first, right, second)
     }
 
     /// Two sides, the first one first.
     pub fn both(
         &mut self,
-        typed: &Typed,
+        program: &Settled,
         left: Frame,
         first: SymState,
         right: Frame,
         second: SymState,
     ) -> Result<Move, AllocError>
-        ensures { IfOk result (λ m. Stepped (settled typed.now) (tree.Fork (frame_tree (settled typed.now) left (state_of first)) (frame_tree (settled typed.now) right (state_of second))) self.old.sides.items m self.new.sides.items) }
+        ensures { IfOk result (λ m. Stepped (settled program.now) (tree.Fork (frame_tree (settled program.now) left (state_of first)) (frame_tree (settled program.now) right (state_of second))) self.old.sides.items m self.new.sides.items) }
     {
-        let _typed = typed;
+        let _program = program;
         self.push(right, second)?;
         self.push(left, first)?;
         Ok(Move::Fork)

@@ -5,10 +5,10 @@ mod assertions;
 mod clauses;
 mod expr;
 mod members;
+mod settled;
 mod stmt;
-mod typed;
 mod unsettled;
 
 pub use members::settle;
-pub use typed::Typed;
+pub use settled::Settled;
 pub use unsettled::Unsettled;

@@ -14,7 +14,7 @@ ghost use Rattle.vx_types.specs.Settled.{settled};
 use crate::clauses::clauses;
 use crate::expr::shared;
 use crate::stmt::{block, executed_type};
-use crate::{Typed, Unsettled};
+use crate::{Settled, Unsettled};
 use std::alloc::Global;
 use std::rc::Rc;
 use vx_ast::resolved::{self, Block};
@@ -104,12 +104,12 @@ fn members(alloc: Global, all: &[Member]) -> Result<Vec<resolved::Member>, Unset
 }
 
 /// The settled program, or the first form in text order that is not executed yet.
-pub fn settle(alloc: Global, p: &Program) -> Result<Typed, Unsettled>
+pub fn settle(alloc: Global, p: &Program) -> Result<Settled, Unsettled>
     ensures settled { IfOk result (λ t. settled t ≡ resolve.program (written_program p.now)) }
     ensures executed { Tells result (is_executed (written_program p.now)) }
 {
     let members = members(alloc, &p.members)?;
-    Ok(Typed {
+    Ok(Settled {
         program: resolved::Program { members },
     })
 }

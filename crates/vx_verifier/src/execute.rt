@@ -20,7 +20,7 @@ use vx_ends::{Parts, Spawner};
 use vx_machine::{Ask, Machine, Outcome};
 use vx_report::{MemberRun, Verdict};
 use vx_rules::Reply;
-use vx_types::Typed;
+use vx_types::Settled;
 
 /// The most checks of a member.
 const LIMIT: u32 = 100_000;
@@ -56,31 +56,31 @@ struct Running {
 }
 
 // A member's machine at its first question, or at its end.
-fn begin(alloc: Global, typed: &Typed, member: MemberId) -> Result<Running, AllocError>
-    requires { member.0 < length (settled typed.now) }
-    ensures running { IfOk result (λ r. IsRunning (settled typed.now) member.0 r.machine r.ask) }
+fn begin(alloc: Global, program: &Settled, member: MemberId) -> Result<Running, AllocError>
+    requires { member.0 < length (settled program.now) }
+    ensures running { IfOk result (λ r. IsRunning (settled program.now) member.0 r.machine r.ask) }
     ensures none { IfOk result (λ r. r.machine.replies.items ≡ []) }
 {
-    let mut machine = Machine::start(alloc, typed, member, LIMIT)?;
-    let ask = machine.next(alloc, typed, None)?;
+    let mut machine = Machine::start(alloc, program, member, LIMIT)?;
+    let ask = machine.next(alloc, program, None)?;
     Ok(Running { machine, ask })
 }
 
 // The machine at its next question, or at its end.
 fn go_on(
     alloc: Global,
-    typed: &Typed,
+    program: &Settled,
     machine: Machine,
     reply: Reply,
 ) -> Result<Running, AllocError>
-    requires follows { Follows (settled typed.now) machine }
+    requires follows { Follows (settled program.now) machine }
     requires awaits { awaits machine.phase ≡ true }
     requires limit { machine.limit ≡ LIMIT }
-    ensures running { IfOk result (λ r. IsRunning (settled typed.now) machine.member.0 r.machine r.ask) }
+    ensures running { IfOk result (λ r. IsRunning (settled program.now) machine.member.0 r.machine r.ask) }
     ensures one_more { IfOk result (λ r. r.machine.replies.items ≡ machine.replies.items ++ reply ∷ []) }
 {
     let mut machine = machine;
-    let ask = machine.next(alloc, typed, Some(reply))?;
+    let ask = machine.next(alloc, program, Some(reply))?;
     Ok(Running { machine, ask })
 }
 
@@ -100,30 +100,30 @@ fn faulted(trouble: Trouble, checks: u32) -> Result<Judged, AllocError>
 // Executes a member to its end, or to a fault.
 fn judge<W: Spawner>(
     alloc: Global,
-    typed: &Typed,
+    program: &Settled,
     command: &Parts,
     spawner: &mut W,
     child: Child<W::Link>,
     member: MemberId,
 ) -> (Child<W::Link>, Result<Judged, AllocError>)
-    requires member { member.0 < length (settled typed.now) }
+    requires member { member.0 < length (settled program.now) }
     requires held { IsHeld child (W.owed spawner.old LANE) }
     ensures held { IsHeld result.0 (W.owed spawner.new LANE) }
     ensures owed { W.owed spawner.new LANE + links child ≡ W.owed spawner.old LANE + links result.0 }
     ensures told { IfOk result.1 (λ judged. (before : List Ending) (checks : List Check) → Hears W.Link.dialogue before (W.ended spawner.old) child checks
-        → Judges W.Link.dialogue (settled typed.now) member.0 before (W.ended spawner.new) (HasCauseOf before (W.ended spawner.new) (W.faults spawner.old) (W.faults spawner.new) (is_lost child)) (is_lost child)
+        → Judges W.Link.dialogue (settled program.now) member.0 before (W.ended spawner.new) (HasCauseOf before (W.ended spawner.new) (W.faults spawner.old) (W.faults spawner.new) (is_lost child)) (is_lost child)
         result.0 checks judged.checks judged.verdict) }
     ensures lost { IfOk result.1 (λ judged. is_lost result.0 ≡ (is_lost child || is_faulted judged.verdict)) }
-    ensures started { IfOk result.1 (λ _. is_started result.0 ≡ (is_started child || has_question (settled typed.now) member.0)) }
+    ensures started { IfOk result.1 (λ _. is_started result.0 ≡ (is_started child || has_question (settled program.now) member.0)) }
     ensures few { IfOk result.1 (λ judged. judged.checks ≤ LIMIT) }
     ensures starts { (before : List Start) → let start : Start = record { lane = LANE; command = command.now } in Starts before (W.starts spawner.old) start child → Starts before (W.starts spawner.new) start result.0 }
     ensures faults { W.faults spawner.old ≤ W.faults spawner.new }
     ensures later { Later (W.ended spawner.old) (W.ended spawner.new) }
-    ensures calm { AllSpelled (member_tree (settled typed.now) member.0) → (before : List Ending) (count : ℕ) → IsCalmLane W.Link.dialogue W.Link.steady W.Link.faults before (W.ended spawner.old) (W.steady spawner.old) count (W.faults spawner.old) child
+    ensures calm { AllSpelled (member_tree (settled program.now) member.0) → (before : List Ending) (count : ℕ) → IsCalmLane W.Link.dialogue W.Link.steady W.Link.faults before (W.ended spawner.old) (W.steady spawner.old) count (W.faults spawner.old) child
         → IsCalmLane W.Link.dialogue W.Link.steady W.Link.faults before (W.ended spawner.new) (W.steady spawner.new) count (W.faults spawner.new) result.0 }
 {
     let mut child = child;
-    let mut running = match begin(alloc, typed, member) {
+    let mut running = match begin(alloc, program, member) {
         Ok(running) => running,
         Err(error) => return (child, Err(error)),
     };
@@ -146,7 +146,7 @@ fn judge<W: Spawner>(
             Ok(reply) => reply,
             Err(trouble) => return (child, faulted(trouble, checks)),
         };
-        match go_on(alloc, typed, machine, reply) {
+        match go_on(alloc, program, machine, reply) {
             Ok(next) => running = next,
             Err(error) => return (child, Err(error)),
         }
@@ -157,35 +157,35 @@ fn judge<W: Spawner>(
 // A member's line.
 fn execute<W: Spawner>(
     alloc: Global,
-    typed: &Typed,
+    program: &Settled,
     command: &Parts,
     spawner: &mut W,
     lane: Lane<W::Link>,
     member: MemberId,
 ) -> (Lane<W::Link>, Result<MemberRun, AllocError>)
-    requires member { member.0 < length (settled typed.now) }
+    requires member { member.0 < length (settled program.now) }
     requires held { IsHeld lane.child (W.owed spawner.old LANE) }
     requires room { lane.checks + LIMIT < 2 ^ 64 }
     ensures held { IsHeld result.0.child (W.owed spawner.new LANE) }
     ensures owed { W.owed spawner.new LANE + links lane.child ≡ W.owed spawner.old LANE + links result.0.child }
     ensures numbers { IfOk result.1 (λ run. (run.member ≡ member) × (run.lane ≡ LANE) × (run.child ≡ 0) × (run.first ≡ lane.checks)) }
     ensures told { IfOk result.1 (λ run. (before : List Ending) (checks : List Check) → Hears W.Link.dialogue before (W.ended spawner.old) lane.child checks
-        → Judges W.Link.dialogue (settled typed.now) member.0 before (W.ended spawner.new) (HasCauseOf before (W.ended spawner.new) (W.faults spawner.old) (W.faults spawner.new) (is_lost lane.child)) (is_lost lane.child)
+        → Judges W.Link.dialogue (settled program.now) member.0 before (W.ended spawner.new) (HasCauseOf before (W.ended spawner.new) (W.faults spawner.old) (W.faults spawner.new) (is_lost lane.child)) (is_lost lane.child)
         result.0.child checks run.checks run.verdict) }
     ensures lost { IfOk result.1 (λ run. is_lost result.0.child ≡ (is_lost lane.child || is_faulted run.verdict)) }
-    ensures started { IfOk result.1 (λ _. is_started result.0.child ≡ (is_started lane.child || has_question (settled typed.now) member.0)) }
+    ensures started { IfOk result.1 (λ _. is_started result.0.child ≡ (is_started lane.child || has_question (settled program.now) member.0)) }
     ensures count { IfOk result.1 (λ run. (result.0.checks ≡ lane.checks + run.checks) × (run.checks ≤ LIMIT)) }
     ensures starts { (before : List Start) → let start : Start = record { lane = LANE; command = command.now } in Starts before (W.starts spawner.old) start lane.child → Starts before (W.starts spawner.new) start result.0.child }
     ensures faults { W.faults spawner.old ≤ W.faults spawner.new }
     ensures later { Later (W.ended spawner.old) (W.ended spawner.new) }
-    ensures calm { AllSpelled (member_tree (settled typed.now) member.0) → (before : List Ending) (count : ℕ) → IsCalmLane W.Link.dialogue W.Link.steady W.Link.faults before (W.ended spawner.old) (W.steady spawner.old) count (W.faults spawner.old) lane.child
+    ensures calm { AllSpelled (member_tree (settled program.now) member.0) → (before : List Ending) (count : ℕ) → IsCalmLane W.Link.dialogue W.Link.steady W.Link.faults before (W.ended spawner.old) (W.steady spawner.old) count (W.faults spawner.old) lane.child
         → IsCalmLane W.Link.dialogue W.Link.steady W.Link.faults before (W.ended spawner.new) (W.steady spawner.new) count (W.faults spawner.new) result.0.child }
 {
     let Lane {
         child,
         checks: first,
     } = lane;
-    let (child, judged) = judge(alloc, typed, command, spawner, child, member);
+    let (child, judged) = judge(alloc, program, command, spawner, child, member);
     let (child, left) = leave(alloc, spawner, child);
     let judged = match judged {
         Ok(judged) => judged,
@@ -224,19 +224,19 @@ fn execute<W: Spawner>(
 // The members in file order, and the lane after them.
 fn execute_all<W: Spawner>(
     alloc: Global,
-    typed: &Typed,
+    program: &Settled,
     command: &Parts,
     spawner: &mut W,
 ) -> (Lane<W::Link>, Result<Vec<MemberRun>, AllocError>)
     ensures held { IsHeld result.0.child (W.owed spawner.new LANE) }
     ensures owed { W.owed spawner.new LANE ≡ W.owed spawner.old LANE + links result.0.child }
-    ensures named { IfOk result.1 (λ runs. AreNamed (settled typed.now) runs.items) }
-    ensures told { IfOk result.1 (λ runs. (length runs.items ≡ length (settled typed.now)) × Executes W.Link.dialogue (settled typed.now) (W.ended spawner.old) (W.ended spawner.new) (W.faults spawner.old) (W.faults spawner.new)
+    ensures named { IfOk result.1 (λ runs. AreNamed (settled program.now) runs.items) }
+    ensures told { IfOk result.1 (λ runs. (length runs.items ≡ length (settled program.now)) × Executes W.Link.dialogue (settled program.now) (W.ended spawner.old) (W.ended spawner.new) (W.faults spawner.old) (W.faults spawner.new)
         result.0.child result.0.checks runs.items) }
     ensures starts { let start : Start = record { lane = LANE; command = command.now } in Starts (W.starts spawner.old) (W.starts spawner.new) start result.0.child }
     ensures faults { W.faults spawner.old ≤ W.faults spawner.new }
     ensures later { Later (W.ended spawner.old) (W.ended spawner.new) }
-    ensures calm { AsksSpelled (settled typed.now) → IsTrue (W.steady spawner.old)
+    ensures calm { AsksSpelled (settled program.now) → IsTrue (W.steady spawner.old)
         → IsCalmLane W.Link.dialogue W.Link.steady W.Link.faults (W.ended spawner.old) (W.ended spawner.new) (W.steady spawner.new) (W.faults spawner.old) (W.faults spawner.new) result.0.child }
 {
     let mut lane = Lane {
@@ -244,13 +244,13 @@ fn execute_all<W: Spawner>(
         checks: 0,
     };
     let mut runs = Vec::new(alloc);
-    for number in 0..typed.len() {
+    for number in 0..program.len() {
         // A file has at most 65,536 members.
         let Ok(number) = u32::try_from(number) else {
             return (lane, Err(AllocError));
         };
         let member = MemberId(number);
-        let (kept, run) = execute(alloc, typed, command, spawner, lane, member);
+        let (kept, run) = execute(alloc, program, command, spawner, lane, member);
         lane = kept;
         let run = match run {
             Ok(run) => run,
@@ -267,22 +267,22 @@ fn execute_all<W: Spawner>(
 /// handed back at the end, also where memory runs out. The clause `headline` is the promise.
 pub fn verify<W: Spawner>(
     alloc: Global,
-    typed: &Typed,
+    program: &Settled,
     command: &Parts,
     spawner: &mut W,
 ) -> Result<Vec<MemberRun>, AllocError>
-    ensures named { IfOk result (λ runs. AreNamed (settled typed.now) runs.items) }
-    ensures headline { IfOk result (λ runs. Headline (settled typed.now) (W.ended spawner.old) (W.ended spawner.new) (W.faults spawner.old) (W.faults spawner.new) runs.items) }
+    ensures named { IfOk result (λ runs. AreNamed (settled program.now) runs.items) }
+    ensures headline { IfOk result (λ runs. Headline (settled program.now) (W.ended spawner.old) (W.ended spawner.new) (W.faults spawner.old) (W.faults spawner.new) runs.items) }
     ensures starts { let start : Start = record { lane = LANE; command = command.now } in (W.starts spawner.new ≡ W.starts spawner.old) ⊎ (W.starts spawner.new ≡ W.starts spawner.old ++ start ∷ []) }
     ensures started { IfOk result (λ _. let start : Start = record { lane = LANE; command = command.now } in
-        StartsWhere (some_ask (settled typed.now) (length (settled typed.now))) (W.starts spawner.old) (W.starts spawner.new) start) }
+        StartsWhere (some_ask (settled program.now) (length (settled program.now))) (W.starts spawner.old) (W.starts spawner.new) start) }
     ensures handed_back { W.owed spawner.new LANE ≡ W.owed spawner.old LANE }
     ensures faults { W.faults spawner.old ≤ W.faults spawner.new }
     ensures later { Later (W.ended spawner.old) (W.ended spawner.new) }
-    ensures steady { IsTrue (W.steady spawner.old) → IsSupported (settled typed.now) → W.faults spawner.old < 2 ^ 64 - 1
+    ensures steady { IsTrue (W.steady spawner.old) → IsSupported (settled program.now) → W.faults spawner.old < 2 ^ 64 - 1
         → NoCountRose (W.ended spawner.old) (W.ended spawner.new) (W.faults spawner.old) (W.faults spawner.new) }
 {
-    let (lane, runs) = execute_all(alloc, typed, command, spawner);
+    let (lane, runs) = execute_all(alloc, program, command, spawner);
     let Lane { child, checks: _ } = lane;
     end(spawner, child);
     runs

@@ -10,7 +10,7 @@ use vx_ast::Program;
 use vx_ends::{Files, LoadFault};
 use vx_parser::{beyond_store, parse};
 use vx_sound::{executed_programs_are_of_the_store, typed_programs_settle_typed};
-use vx_types::{Typed, settle};
+use vx_types::{Settled, settle};
 use vx_typing::{check, programs_are_told};
 
 /// A text, or why there is none.
@@ -24,7 +24,7 @@ pub enum Loaded {
 /// What reading a program gives: it, or the line of its refusal.
 #[derive(Drop)]
 pub enum Told {
-    Program(Typed),
+    Program(Settled),
     Refused(String),
 }
 

@@ -19,7 +19,7 @@ use crate::saying::{Said, Saying};
 use std::alloc::{AllocError, Global};
 use vx_ends::{Files, Parts, PutFault, Sink, Spawner, put_all};
 use vx_report::{MemberRun, Status, status_of, write_report};
-use vx_types::Typed;
+use vx_types::Settled;
 use vx_words::{Order, Text, WordsFault, read_words};
 
 /// How the program ended: its status, and what became of each member with a line, in file order. There are no runs
@@ -49,19 +49,19 @@ fn put<K: Sink>(out: &mut K, bytes: &[u8], status: Status, runs: Vec<MemberRun>)
 #[tactic(auto, using(crate::proofs::Statuses::reported))]
 fn report<K: Sink, W: Spawner>(
     alloc: Global,
-    typed: &Typed,
+    program: &Settled,
     out: &mut K,
     solver: &Parts,
     spawner: &mut W,
 ) -> Result<Ended, AllocError>
-    ensures report { IfOk result (λ ended. IsReport (settled typed.now) (W.ended spawner.old) (W.ended spawner.new) (W.faults spawner.old) (W.faults spawner.new) (W.steady spawner.old) (W.starts spawner.old) (W.starts spawner.new) solver.now (K.taken out.old) (K.taken out.new) ended.runs.items ended.status) }
+    ensures report { IfOk result (λ ended. IsReport (settled program.now) (W.ended spawner.old) (W.ended spawner.new) (W.faults spawner.old) (W.faults spawner.new) (W.steady spawner.old) (W.starts spawner.old) (W.starts spawner.new) solver.now (K.taken out.old) (K.taken out.new) ended.runs.items ended.status) }
     ensures status { IfOk result (λ ended. IsStatusOf (Rose (K.faults out.old) (K.faults out.new)) ⊥ ⊥ ended.runs.items ended.status) }
     ensures reported { IfOk result (λ ended. IsReported ended.status) }
     ensures starts { let start : Start = record { lane = 0; command = solver.now } in (W.starts spawner.new ≡ W.starts spawner.old) ⊎ (W.starts spawner.new ≡ W.starts spawner.old ++ start ∷ []) }
 {
-    let runs = verify(alloc, typed, solver, spawner)?;
+    let runs = verify(alloc, program, solver, spawner)?;
     let mut text = String::new(alloc);
-    write_report(&mut text, typed, &runs)?;
+    write_report(&mut text, program, &runs)?;
     let status = status_of(&runs);
     Ok(put(out, text.as_bytes(), status, runs))
 }
@@ -76,23 +76,23 @@ fn is_companion(solver: &Parts) -> bool
 // Verifies a program by the companion, or by the spawner, as the solver says, and puts the report.
 fn report_by<K: Sink, W: Spawner>(
     alloc: Global,
-    typed: &Typed,
+    program: &Settled,
     out: &mut K,
     solver: &Parts,
     spawner: &mut W,
     builtin: &mut Builtin,
 ) -> Result<Ended, AllocError>
     ensures headline { IfOk result (λ ended. ByWhom (spec.is_companion solver.now)
-        (IsReport (settled typed.now) builtin.old.ended.items builtin.new.ended.items 0 0 true builtin.old.starts.items builtin.new.starts.items solver.now (K.taken out.old) (K.taken out.new) ended.runs.items ended.status)
-        (IsReport (settled typed.now) (W.ended spawner.old) (W.ended spawner.new) (W.faults spawner.old) (W.faults spawner.new) (W.steady spawner.old) (W.starts spawner.old) (W.starts spawner.new) solver.now (K.taken out.old) (K.taken out.new) ended.runs.items ended.status)) }
+        (IsReport (settled program.now) builtin.old.ended.items builtin.new.ended.items 0 0 true builtin.old.starts.items builtin.new.starts.items solver.now (K.taken out.old) (K.taken out.new) ended.runs.items ended.status)
+        (IsReport (settled program.now) (W.ended spawner.old) (W.ended spawner.new) (W.faults spawner.old) (W.faults spawner.new) (W.steady spawner.old) (W.starts spawner.old) (W.starts spawner.new) solver.now (K.taken out.old) (K.taken out.new) ended.runs.items ended.status)) }
     ensures status { IfOk result (λ ended. IsStatusOf (Rose (K.faults out.old) (K.faults out.new)) ⊥ ⊥ ended.runs.items ended.status) }
     ensures reported { IfOk result (λ ended. IsReported ended.status) }
     ensures starts { let start : Start = record { lane = 0; command = solver.now } in (W.starts spawner.new ≡ W.starts spawner.old) ⊎ (W.starts spawner.new ≡ W.starts spawner.old ++ start ∷ []) }
 {
     if is_companion(solver) {
-        report(alloc, typed, out, solver, builtin)
+        report(alloc, program, out, solver, builtin)
     } else {
-        report(alloc, typed, out, solver, spawner)
+        report(alloc, program, out, solver, spawner)
     }
 }
 

@@ -5,10 +5,10 @@ use Rattle.vx_consume.proofs.step.Goals as goal
 
 pub returns-in-Pure : goal.returns-in-Pure
 returns-in-Pure c =
-    stepped_as (settled c.args.typed.now) _ _ _ _ _
+    stepped_as (settled c.args.program.now) _ _ _ _ _
     (rw (c.in-Pure.is, c.place_of.ensures, c.deref.ensures) refl) c.eval.ensures
 
 pub returns-in_ok-clone-in-Both-2 : goal.returns-in_ok-clone-in-Both-2
 returns-in_ok-clone-in-Both-2 c =
-    stepped_as (settled c.args.typed.now) _ _ _ _ _
+    stepped_as (settled c.args.program.now) _ _ _ _ _
     (rw (c.in-Both.is, c.in_ok-clone-in-Both-2.ensures.cases, c.in_ok-rest-in-Both.ensures.ok, c.in_ok-clone-in-Both.ensures.cases) refl) c.next.ensures

@@ -6,26 +6,26 @@ use Rattle.vx_rules.proofs.Steps.{stepped_as}
 use Rattle.vx_eval.proofs.expression.step.Goals as goal
 
 pub returns-in-Operate : goal.returns-in-Operate
-returns-in-Operate c = stepped_as (settled c.args.typed.now) _ _ _ _ _ (rw (c.in-Operate.is, c.in_ok-clone-in-Operate.ensures.cases) refl) c.eval-in-Operate.ensures
+returns-in-Operate c = stepped_as (settled c.args.program.now) _ _ _ _ _ (rw (c.in-Operate.is, c.in_ok-clone-in-Operate.ensures.cases) refl) c.eval-in-Operate.ensures
 
 pub returns-then-is_total : goal.returns-then-is_total
 returns-then-is_total c =
     let t : is_total (expr c.in-Connect.b.value) ≡ true = ap (λ x. is_total (expr x)) (sym c.deref.ensures) ∙ sym c.is_total.ensures ∙ c.if-is_total.true in
-    stepped_as (settled c.args.typed.now) _ _ _ _ _ (rw (c.in-Connect.is, t, c.in_ok-clone-in-Connect.ensures.cases) refl) c.eval-then-is_total.ensures
+    stepped_as (settled c.args.program.now) _ _ _ _ _ (rw (c.in-Connect.is, t, c.in_ok-clone-in-Connect.ensures.cases) refl) c.eval-then-is_total.ensures
 
 pub returns-in-Connect : goal.returns-in-Connect
 returns-in-Connect c =
     let t : is_total (expr c.in-Connect.b.value) ≡ false = ap (λ x. is_total (expr x)) (sym c.deref.ensures) ∙ sym c.is_total.ensures ∙ c.if-is_total.false in
-    stepped_as (settled c.args.typed.now) _ _ _ _ _ (rw (c.in-Connect.is, t, c.in_ok-clone-in-Connect-2.ensures.cases) refl) c.eval-in-Connect.ensures
+    stepped_as (settled c.args.program.now) _ _ _ _ _ (rw (c.in-Connect.is, t, c.in_ok-clone-in-Connect-2.ensures.cases) refl) c.eval-in-Connect.ensures
 
 pub returns-then-are_total : goal.returns-then-are_total
 returns-then-are_total c =
     let t : (is_total (expr c.in-Choose.a.value) && is_total (expr c.in-Choose.b.value)) ≡ true =
     ap (λ x. is_total (expr x) && is_total (expr c.in-Choose.b.value)) (sym c.deref-in-Choose.ensures) ∙ ap (λ x. is_total (expr c.deref-in-Choose.result.now) && is_total (expr x)) (sym c.deref-in-Choose-2.ensures) ∙ sym c.are_total.ensures ∙ c.if-are_total.true in
-    stepped_as (settled c.args.typed.now) _ _ _ _ _ (rw (c.in-Choose.is, t, c.in_ok-clone-in-Choose.ensures.cases, c.in_ok-clone-in-Choose-2.ensures.cases) refl) c.eval-then-are_total.ensures
+    stepped_as (settled c.args.program.now) _ _ _ _ _ (rw (c.in-Choose.is, t, c.in_ok-clone-in-Choose.ensures.cases, c.in_ok-clone-in-Choose-2.ensures.cases) refl) c.eval-then-are_total.ensures
 
 pub returns : goal.returns
 returns c =
     let t : (is_total (expr c.in-Choose.a.value) && is_total (expr c.in-Choose.b.value)) ≡ false =
     ap (λ x. is_total (expr x) && is_total (expr c.in-Choose.b.value)) (sym c.deref-in-Choose.ensures) ∙ ap (λ x. is_total (expr c.deref-in-Choose.result.now) && is_total (expr x)) (sym c.deref-in-Choose-2.ensures) ∙ sym c.are_total.ensures ∙ c.if-are_total.false in
-    stepped_as (settled c.args.typed.now) _ _ _ _ _ (rw (c.in-Choose.is, t, c.in_ok-clone-in-Choose-3.ensures.cases, c.in_ok-clone-in-Choose-4.ensures.cases) refl) c.eval-in-Choose.ensures
+    stepped_as (settled c.args.program.now) _ _ _ _ _ (rw (c.in-Choose.is, t, c.in_ok-clone-in-Choose-3.ensures.cases, c.in_ok-clone-in-Choose-4.ensures.cases) refl) c.eval-in-Choose.ensures

@@ -14,7 +14,7 @@ use Rattle.vx_exec.proofs.member.first_side.Goals as goal
 pub returns : goal.returns
 unfolding rules
 returns c =
-    let p = settled c.args.typed.now in
+    let p = settled c.args.program.now in
     let m : Method = c.args.m.now.value in
     let r1 : c.deref-2.result.now ≡ m.parameters.items = c.deref-2.ensures.value ∙ ap (λ (x : Method). x.parameters.items) c.deref.ensures in
     let r2 : c.deref-4.result.now ≡ m.returns.items = c.deref-4.ensures.value ∙ ap (λ (x : Method). x.returns.items) c.deref-3.ensures in

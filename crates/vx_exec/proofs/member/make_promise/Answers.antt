@@ -14,7 +14,7 @@ use Rattle.vx_exec.proofs.member.make_promise.Goals as goal
 pub returns : goal.returns
 unfolding rules
 returns c =
-    let p = settled c.args.typed.now in
+    let p = settled c.args.program.now in
     let m = c.args.m.now in
     let k : c.len.result ≡ length (map declaration m.parameters.items) = c.len.ensures ∙ m.parameters.ok.0 ∙ sym (length-map m.parameters.items declaration) in
     let s : state c.declare_all.new.self ≡ with_new_returns (method m) (state c.args.state) =

@@ -5,5 +5,5 @@ use Rattle.vx_exec.proofs.statement.step_executed.Goals as goal
 
 pub returns-in_ok-right-in-If : goal.returns-in_ok-right-in-If
 returns-in_ok-right-in-If c =
-    stepped_as (settled c.args.typed.now) _ _ _ _ _
+    stepped_as (settled c.args.program.now) _ _ _ _ _
     (rw (c.in-If.is, c.in_ok-left-in-If.ensures, c.in_ok-right-in-If.ensures) refl) c.fork.ensures

@@ -9,11 +9,11 @@ use Rattle.vx_machine.proofs.run.run.Goals as goal
 pub returns-in-Some-2 : goal.returns-in-Some-2
 returns-in-Some-2 c =
     let t = rw c.in-Some-2.is at c.in_ok-query.ensures in
-    λ rs. c.loop-side.invariant rs ∙ popped (settled c.args.typed.now) _ _ _ c.in-Some.ensures.items rs ∙ t rs
+    λ rs. c.loop-side.invariant rs ∙ popped (settled c.args.program.now) _ _ _ c.in-Some.ensures.items rs ∙ t rs
 
 pub loop-side-smaller : goal.loop-side-smaller
 loop-side-smaller c =
-    let p = settled c.args.typed.now in
+    let p = settled c.args.program.now in
     let t = rw c.in-None.is at c.in_ok-query.ensures in
     let e : stack_size p c.loop-side.conts.sides.items ≡ stack_size p c.pop.new.self.items + size (side_tree p c.in-Some.side) = popped_size p _ _ _ c.in-Some.ensures.items in
     let l : stack_size p c.turn.new.conts.sides.items < stack_size p c.pop.new.self.items + size (side_tree p c.in-Some.side) = t.1 in
@@ -23,4 +23,4 @@ loop-side-smaller c =
 pub loop-side-preserved : goal.loop-side-preserved
 loop-side-preserved c =
     let t = rw c.in-None.is at c.in_ok-query.ensures in
-    λ rs. c.loop-side.invariant rs ∙ popped (settled c.args.typed.now) _ _ _ c.in-Some.ensures.items rs ∙ t.0 rs
+    λ rs. c.loop-side.invariant rs ∙ popped (settled c.args.program.now) _ _ _ c.in-Some.ensures.items rs ∙ t.0 rs

@@ -5,7 +5,7 @@ use Rattle.vx_machine.specs.Runs.{remaining, stack_size}
 use Rattle.vx_machine.proofs.run.run.Given as goal
 
 abbrev pub invariant-loop-side : goal.invariant-loop-side
-invariant-loop-side l = (rs : List Reply) → remaining (settled l.typed) l.initial.conts.sides.items rs ≡ remaining (settled l.typed) l.conts.sides.items rs
+invariant-loop-side l = (rs : List Reply) → remaining (settled l.program) l.initial.conts.sides.items rs ≡ remaining (settled l.program) l.conts.sides.items rs
 
 abbrev pub decreases-loop-side : goal.decreases-loop-side
-decreases-loop-side l = stack_size (settled l.typed) l.conts.sides.items
+decreases-loop-side l = stack_size (settled l.program) l.conts.sides.items

@@ -4,7 +4,7 @@ use Rattle.vx_rules.proofs.Steps.{stepped_as}
 use Rattle.vx_machine.proofs.run.step_hole.Goals as goal
 
 pub returns-in-Operand : goal.returns-in-Operand
-returns-in-Operand c = stepped_as (settled c.args.typed.now) _ _ _ _ _ (rw c.in-Operand.is refl) c.step_operand.ensures
+returns-in-Operand c = stepped_as (settled c.args.program.now) _ _ _ _ _ (rw c.in-Operand.is refl) c.step_operand.ensures
 
 pub returns-in-Consumed : goal.returns-in-Consumed
-returns-in-Consumed c = stepped_as (settled c.args.typed.now) _ _ _ _ _ (rw c.in-Consumed.is refl) c.step_consumed.ensures
+returns-in-Consumed c = stepped_as (settled c.args.program.now) _ _ _ _ _ (rw c.in-Consumed.is refl) c.step_consumed.ensures

@@ -8,14 +8,14 @@ use Rattle.vx_rules.proofs.Steps.{stepped_as}
 use Rattle.vx_machine.proofs.run.step_next.Goals as goal
 
 pub returns-in-Inner : goal.returns-in-Inner
-returns-in-Inner c = stepped_as (settled c.args.typed.now) _ _ _ _ _ (rw (c.in-Inner.is, c.deref-in-Inner.ensures) refl) c.step_inner.ensures
+returns-in-Inner c = stepped_as (settled c.args.program.now) _ _ _ _ _ (rw (c.in-Inner.is, c.deref-in-Inner.ensures) refl) c.step_inner.ensures
 
 pub returns-in_ok-clone-in-Consume : goal.returns-in_ok-clone-in-Consume
 returns-in_ok-clone-in-Consume c =
-    stepped_as (settled c.args.typed.now) _ _ _ _ _ (rw (c.in-Consume.is, c.deref-in-Consume.ensures, c.in_ok-clone-in-Consume.ensures.cases) refl) c.step-in-Consume.ensures
+    stepped_as (settled c.args.program.now) _ _ _ _ _ (rw (c.in-Consume.is, c.deref-in-Consume.ensures, c.in_ok-clone-in-Consume.ensures.cases) refl) c.step-in-Consume.ensures
 
 pub returns-in-Sides : goal.returns-in-Sides
 returns-in-Sides c =
-    let p = settled c.args.typed.now in
+    let p = settled c.args.program.now in
     let s = state c.args.state in
     stepped_as p _ _ _ _ _ (ap (λ n. going p n s) c.in-Sides.is ∙ ap (λ m. sides p (method m) s) (sym c.deref-in-Sides.ensures)) c.step_method.ensures

@@ -3,10 +3,10 @@ use Rattle.vx_machine.proofs.Walks.{turned_go, turned_fork, turned_ask}
 use Rattle.vx_machine.proofs.run.turn.Goals as goal
 
 pub returns-in-Go : goal.returns-in-Go
-returns-in-Go c = turned_go (settled c.args.typed.now) _ _ _ (rw c.in-Go.is at c.in_ok-step.ensures)
+returns-in-Go c = turned_go (settled c.args.program.now) _ _ _ (rw c.in-Go.is at c.in_ok-step.ensures)
 
 pub returns-in-Fork : goal.returns-in-Fork
-returns-in-Fork c = turned_fork (settled c.args.typed.now) _ _ _ (rw c.in-Fork.is at c.in_ok-step.ensures)
+returns-in-Fork c = turned_fork (settled c.args.program.now) _ _ _ (rw c.in-Fork.is at c.in_ok-step.ensures)
 
 pub returns-in-Check : goal.returns-in-Check
-returns-in-Check c = turned_ask (settled c.args.typed.now) _ _ _ c.in-Check.query (rw c.in-Check.is at c.in_ok-step.ensures)
+returns-in-Check c = turned_ask (settled c.args.program.now) _ _ _ c.in-Check.query (rw c.in-Check.is at c.in_ok-step.ensures)

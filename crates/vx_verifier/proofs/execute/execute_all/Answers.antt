@@ -37,9 +37,9 @@ loop-number-preserved g c =
       named = search rules;
       each = ap length pushed ∙ (one_longer runs run ∙ ap (λ x. x + 1) so_far.each);
       few = omega arith;
-      told = subst (λ x. Executes g.W.Link.Link.dialogue (settled c.args.typed.now) (g.W.Spawner.ended c.args.spawner.now) (g.W.Spawner.ended c.execute-kept.new.spawner)
+      told = subst (λ x. Executes g.W.Link.Link.dialogue (settled c.args.program.now) (g.W.Spawner.ended c.args.spawner.now) (g.W.Spawner.ended c.execute-kept.new.spawner)
           (g.W.Spawner.faults c.args.spawner.now) (g.W.Spawner.faults c.execute-kept.new.spawner) c.execute-kept.result.0.child c.execute-kept.result.0.checks x) (sym pushed)
-          (executes_more g.W.Link.Link.dialogue (settled c.args.typed.now) (g.W.Spawner.ended c.args.spawner.now) (g.W.Spawner.ended c.loop-number.spawner) (g.W.Spawner.ended c.execute-kept.new.spawner)
+          (executes_more g.W.Link.Link.dialogue (settled c.args.program.now) (g.W.Spawner.ended c.args.spawner.now) (g.W.Spawner.ended c.loop-number.spawner) (g.W.Spawner.ended c.execute-kept.new.spawner)
           (g.W.Spawner.faults c.args.spawner.now) (g.W.Spawner.faults c.loop-number.spawner) (g.W.Spawner.faults c.execute-kept.new.spawner)
           c.loop-number.lane.child c.execute-kept.result.0.child c.loop-number.lane.checks c.execute-kept.result.0.checks runs run c.in-Ok.number
           so_far.told told c.execute-kept.ensures.later so_far.faults c.execute-kept.ensures.faults

@@ -13,13 +13,13 @@ invariant-loop-number g l =
     record {
       held : IsHeld l.lane.child (w.owed l.spawner 0);
       owed : w.owed l.spawner 0 ≡ w.owed l.fn.spawner 0 + links l.lane.child;
-      named : AreNamed (settled l.typed) l.runs.items;
+      named : AreNamed (settled l.program) l.runs.items;
       each : length l.runs.items ≡ l.number;
       few : l.lane.checks ≤ 100000 * l.number;
-      told : Executes g.W.Link.Link.dialogue (settled l.typed) (w.ended l.fn.spawner) (w.ended l.spawner) (w.faults l.fn.spawner) (w.faults l.spawner)
+      told : Executes g.W.Link.Link.dialogue (settled l.program) (w.ended l.fn.spawner) (w.ended l.spawner) (w.faults l.fn.spawner) (w.faults l.spawner)
           l.lane.child l.lane.checks l.runs.items;
       starts : Starts (w.starts l.fn.spawner) (w.starts l.spawner) start l.lane.child;
-      calm : AsksSpelled (settled l.typed) → IsTrue (w.steady l.fn.spawner)
+      calm : AsksSpelled (settled l.program) → IsTrue (w.steady l.fn.spawner)
           → IsCalmLane g.W.Link.Link.dialogue g.W.Link.Link.steady g.W.Link.Link.faults (w.ended l.fn.spawner) (w.ended l.spawner) (w.steady l.spawner)
           (w.faults l.fn.spawner) (w.faults l.spawner) l.lane.child;
       faults : w.faults l.fn.spawner ≤ w.faults l.spawner;

@@ -18,7 +18,7 @@ questions-init g c =
       told = λ before checks heard. (
         [],
         subst (λ x. Hears g.W.Link.Link.dialogue before (g.W.Spawner.ended c.args.spawner.now) c.args.child x) (sym (append-nil checks)) heard,
-        none_asked (settled c.args.typed.now) c.in-Ok.running.machine begins.none,
+        none_asked (settled c.args.program.now) c.in-Ok.running.machine begins.none,
       );
       lost = refl;
       silent = λ lost. begins.none;
@@ -33,7 +33,7 @@ pub returns-in-Done-clause-told : goal.returns-in-Done-clause-told
 returns-in-Done-clause-told g c = λ before checks heard.
     let so_far = c.questions.invariant in
     let told = so_far.told before checks heard in
-    at_done g.W.Link.Link.dialogue (settled c.args.typed.now) c.args.member.0 before _ (g.W.Spawner.faults c.args.spawner.now) _ (is_lost c.args.child) c.questions.child checks told.0 c.questions.running.machine c.questions.running.ask
+    at_done g.W.Link.Link.dialogue (settled c.args.program.now) c.args.member.0 before _ (g.W.Spawner.faults c.args.spawner.now) _ (is_lost c.args.child) c.questions.child checks told.0 c.questions.running.machine c.questions.running.ask
     c.in-Done.outcome c.verdict_of-verdict.result c.questions.checks so_far.running c.in-Done.is c.verdict_of-verdict.ensures so_far.checks so_far.silent told.1 told.2
 
 pub returns-in-Err-reply-clause-told : goal.returns-in-Err-reply-clause-told
@@ -45,7 +45,7 @@ returns-in-Err-reply-clause-told g c = IfOk-weaker c.faulted.result _ _ (λ judg
     let gone = gone_by c.ask-kept.result.0 c.ask-kept.result.1 c.in-Err-reply.trouble judged.verdict c.ask-kept.ensures.child c.in-Err-reply.is fault.1 in
     let caused = caused_earlier before (g.W.Spawner.ended c.ask-kept.new.spawner) (g.W.Spawner.faults c.args.spawner.now) (g.W.Spawner.faults c.questions.spawner)
     (g.W.Spawner.faults c.ask-kept.new.spawner) so_far.faults (is_lost c.questions.child) (is_lost c.args.child) so_far.lost c.in-Err-reply.trouble lost.1 in
-    at_fault dialogue (settled c.args.typed.now) c.args.member.0 before (g.W.Spawner.ended c.ask-kept.new.spawner) (g.W.Spawner.faults c.args.spawner.now) (g.W.Spawner.faults c.ask-kept.new.spawner) (is_lost c.args.child) c.ask-kept.result.0 checks told.0
+    at_fault dialogue (settled c.args.program.now) c.args.member.0 before (g.W.Spawner.ended c.ask-kept.new.spawner) (g.W.Spawner.faults c.args.spawner.now) (g.W.Spawner.faults c.ask-kept.new.spawner) (is_lost c.args.child) c.ask-kept.result.0 checks told.0
     c.questions.running.machine c.questions.running.ask c.in-Check.query c.in-Err-reply.trouble judged.verdict judged.checks so_far.running c.in-Check.is fault.1 caused
     (fault.0 ∙ so_far.checks) so_far.silent (lost_hears dialogue before _ c.ask-kept.result.0 (checks ++ told.0) gone lost.0) told.2) c.faulted.ensures
 
@@ -73,13 +73,13 @@ questions-preserved g c =
     record {
       held = c.ask-kept.ensures.held;
       owed = omega arith;
-      running = still_running g.W.Link.Link.dialogue (settled c.args.typed.now) c.args.member.0 [] machine next c.questions.running.ask c.in-Ok-go_on.next.ask so_far.running more.running;
+      running = still_running g.W.Link.Link.dialogue (settled c.args.program.now) c.args.member.0 [] machine next c.questions.running.ask c.in-Ok-go_on.next.ask so_far.running more.running;
       checks = omega arith;
       few = omega arith;
       told = λ before checks heard.
           let told = so_far.told before checks heard in
           let hears = if_ok_at c.ask-kept.result.1 _ c.in-Ok-reply.reply c.ask-kept.ensures.told c.in-Ok-reply.is before (checks ++ told.0) told.1 in
-          goes_on g.W.Link.Link.dialogue (settled c.args.typed.now) c.args.member.0 before _ c.ask-kept.result.0 checks told.0 machine next
+          goes_on g.W.Link.Link.dialogue (settled c.args.program.now) c.args.member.0 before _ c.ask-kept.result.0 checks told.0 machine next
           c.questions.running.ask c.in-Ok-go_on.next.ask c.in-Check.query c.in-Ok-reply.reply so_far.running c.in-Check.is more.running more.one_more told.2 hears;
       lost =
           let before = if_ok_at c.ask-kept.result.1 _ c.in-Ok-reply.reply c.ask-kept.ensures.before c.in-Ok-reply.is in
@@ -88,10 +88,10 @@ questions-preserved g c =
           let before = if_ok_at c.ask-kept.result.1 _ c.in-Ok-reply.reply c.ask-kept.ensures.before c.in-Ok-reply.is in
           let so = so_far.lost in
           cc;
-      asks = inr (here.0, asked_by (settled c.args.typed.now) c.args.member.0 machine c.questions.running.ask c.in-Check.query c.questions.child c.args.child so_far.running c.in-Check.is so_far.asks);
+      asks = inr (here.0, asked_by (settled c.args.program.now) c.args.member.0 machine c.questions.running.ask c.in-Check.query c.questions.child c.args.child so_far.running c.in-Check.is so_far.asks);
       starts = λ before starts. c.ask-kept.ensures.starts before (so_far.starts before starts);
       calm = λ spelled before count calm.
-          c.ask-kept.ensures.calm (due_spelled (settled c.args.typed.now) c.args.member.0 machine c.questions.running.ask c.in-Check.query so_far.running c.in-Check.is spelled) before count
+          c.ask-kept.ensures.calm (due_spelled (settled c.args.program.now) c.args.member.0 machine c.questions.running.ask c.in-Check.query so_far.running c.in-Check.is spelled) before count
           (so_far.calm spelled before count calm);
       faults = omega arith;
       later = λ front handed. c.ask-kept.ensures.later front (so_far.later front handed);
@@ -100,14 +100,14 @@ questions-preserved g c =
 pub returns-in-Done-clause-started : goal.returns-in-Done-clause-started
 returns-in-Done-clause-started g c =
     let so_far = c.questions.invariant in
-    started_done (settled c.args.typed.now) c.args.member.0 c.questions.running.machine c.questions.running.ask c.in-Done.outcome c.questions.child c.args.child so_far.running c.in-Done.is so_far.asks
+    started_done (settled c.args.program.now) c.args.member.0 c.questions.running.machine c.questions.running.ask c.in-Done.outcome c.questions.child c.args.child so_far.running c.in-Done.is so_far.asks
 
 pub returns-in-Err-reply-clause-started : goal.returns-in-Err-reply-clause-started
 returns-in-Err-reply-clause-started g c = IfOk-weaker c.faulted.result _ _ (λ judged fault.
     let so_far = c.questions.invariant in
     let gone = gone_by c.ask-kept.result.0 c.ask-kept.result.1 c.in-Err-reply.trouble judged.verdict c.ask-kept.ensures.child c.in-Err-reply.is fault.1 in
     started_fault (is_started c.args.child) (lost_started c.ask-kept.result.0 gone)
-    (asked_by (settled c.args.typed.now) c.args.member.0 c.questions.running.machine c.questions.running.ask c.in-Check.query c.questions.child c.args.child so_far.running c.in-Check.is so_far.asks)) c.faulted.ensures
+    (asked_by (settled c.args.program.now) c.args.member.0 c.questions.running.machine c.questions.running.ask c.in-Check.query c.questions.child c.args.child so_far.running c.in-Check.is so_far.asks)) c.faulted.ensures
 
 pub returns-in-Err-reply-clause-lost : goal.returns-in-Err-reply-clause-lost
 returns-in-Err-reply-clause-lost g c = IfOk-weaker c.faulted.result _ _ (λ judged fault.
@@ -118,12 +118,12 @@ pub returns-in-Err-reply-clause-calm : goal.returns-in-Err-reply-clause-calm
 returns-in-Err-reply-clause-calm g c = λ spelled before count calm.
     let so_far = c.questions.invariant in
     c.ask-kept.ensures.calm
-    (due_spelled (settled c.args.typed.now) c.args.member.0 c.questions.running.machine c.questions.running.ask c.in-Check.query so_far.running c.in-Check.is spelled) before count
+    (due_spelled (settled c.args.program.now) c.args.member.0 c.questions.running.machine c.questions.running.ask c.in-Check.query so_far.running c.in-Check.is spelled) before count
     (so_far.calm spelled before count calm)
 
 pub returns-in-Err-go_on-clause-calm : goal.returns-in-Err-go_on-clause-calm
 returns-in-Err-go_on-clause-calm g c = λ spelled before count calm.
     let so_far = c.questions.invariant in
     c.ask-kept.ensures.calm
-    (due_spelled (settled c.args.typed.now) c.args.member.0 c.questions.running.machine c.questions.running.ask c.in-Check.query so_far.running c.in-Check.is spelled) before count
+    (due_spelled (settled c.args.program.now) c.args.member.0 c.questions.running.machine c.questions.running.ask c.in-Check.query so_far.running c.in-Check.is spelled) before count
     (so_far.calm spelled before count calm)

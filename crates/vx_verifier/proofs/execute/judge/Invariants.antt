@@ -17,18 +17,18 @@ invariant-questions g l =
     record {
       held : IsHeld l.child (w.owed l.spawner 0);
       owed : w.owed l.spawner 0 + links l.fn.child ≡ w.owed l.fn.spawner 0 + links l.child;
-      running : IsRunning (settled l.typed) l.fn.member.0 l.running.machine l.running.ask;
+      running : IsRunning (settled l.program) l.fn.member.0 l.running.machine l.running.ask;
       checks : l.checks ≡ length l.running.machine.replies.items;
       few : l.checks ≤ 100000;
       told : (before : List Ending) (checks : List Check) → Hears dialogue before (w.ended l.fn.spawner) l.fn.child checks
-          → (own : List Check) × Hears dialogue before (w.ended l.spawner) l.child (checks ++ own) × AreAsked (settled l.typed) l.running.machine own;
+          → (own : List Check) × Hears dialogue before (w.ended l.spawner) l.child (checks ++ own) × AreAsked (settled l.program) l.running.machine own;
       lost : is_lost l.child ≡ is_lost l.fn.child;
       silent : is_lost l.fn.child ≡ true → l.running.machine.replies.items ≡ [];
       asks : ((l.running.machine.replies.items ≡ []) × (is_started l.child ≡ is_started l.fn.child))
-          ⊎ ((is_started l.child ≡ true) × (has_question (settled l.typed) l.fn.member.0 ≡ true));
+          ⊎ ((is_started l.child ≡ true) × (has_question (settled l.program) l.fn.member.0 ≡ true));
       starts : (before : List Start) → Starts before (w.starts l.fn.spawner) start l.fn.child → Starts before (w.starts l.spawner) start l.child;
       faults : w.faults l.fn.spawner ≤ w.faults l.spawner;
-      calm : AllSpelled (member_tree (settled l.typed) l.fn.member.0) → (before : List Ending) (count : ℕ)
+      calm : AllSpelled (member_tree (settled l.program) l.fn.member.0) → (before : List Ending) (count : ℕ)
           → IsCalmLane dialogue g.W.Link.Link.steady g.W.Link.Link.faults before (w.ended l.fn.spawner) (w.steady l.fn.spawner) count (w.faults l.fn.spawner) l.fn.child
           → IsCalmLane dialogue g.W.Link.Link.steady g.W.Link.Link.faults before (w.ended l.spawner) (w.steady l.spawner) count (w.faults l.spawner) l.child;
       later : Later (w.ended l.fn.spawner) (w.ended l.spawner);

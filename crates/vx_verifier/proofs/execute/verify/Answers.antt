@@ -13,7 +13,7 @@ returns-clause-headline g c =
     let same = c.end.ensures.faults in
     let after : g.W.Spawner.faults c.execute_all-lane.new.spawner ≤ g.W.Spawner.faults c.end.new.spawner = omega arith in
     IfOk-weaker c.execute_all-lane.result.1 _ _ (λ runs told.
-    headline g.W.Link.Link.dialogue (settled c.args.typed.now) before (g.W.Spawner.ended c.execute_all-lane.new.spawner) (g.W.Spawner.ended c.end.new.spawner)
+    headline g.W.Link.Link.dialogue (settled c.args.program.now) before (g.W.Spawner.ended c.execute_all-lane.new.spawner) (g.W.Spawner.ended c.end.new.spawner)
     (g.W.Spawner.faults c.args.spawner.now) (g.W.Spawner.faults c.execute_all-lane.new.spawner) (g.W.Spawner.faults c.end.new.spawner)
     c.execute_all-lane.result.0.child c.execute_all-lane.result.0.checks runs.items told.0 told.1 (λ checks. c.end.ensures.told before checks) c.end.ensures.later after)
     c.execute_all-lane.ensures.told
@@ -23,4 +23,4 @@ returns-clause-steady g c = λ steady supported room.
     let w = g.W.Spawner in
     let l = g.W.Link.Link in
     none_rose l.dialogue l.steady l.faults (w.ended c.args.spawner.now) (w.faults c.args.spawner.now) (w.ended c.end.new.spawner) (w.steady c.end.new.spawner) (w.faults c.end.new.spawner) NotStarted room
-    (c.end.ensures.calm (w.ended c.args.spawner.now) (w.faults c.args.spawner.now) (c.execute_all-lane.ensures.calm (supported_spelled c.args.typed.now.program.members.items supported) steady))
+    (c.end.ensures.calm (w.ended c.args.spawner.now) (w.faults c.args.spawner.now) (c.execute_all-lane.ensures.calm (supported_spelled c.args.program.now.program.members.items supported) steady))

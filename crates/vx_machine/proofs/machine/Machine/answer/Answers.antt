@@ -9,7 +9,7 @@ use Rattle.vx_machine.proofs.machine.Machine.answer.Goals as goal
 
 pub go_on-requires-clause-at : goal.go_on-requires-clause-at
 go_on-requires-clause-at c =
-    let p = settled c.args.typed.now in
+    let p = settled c.args.program.now in
     let t : Tree = member_tree p c.args.self.now.member.0 in
     let sides : List Side = c.args.self.now.conts.sides.items in
     let new : List Side = c.choose.new.conts.sides.items in
@@ -19,7 +19,7 @@ go_on-requires-clause-at c =
 
 pub go_on-requires-2-clause-at : goal.go_on-requires-2-clause-at
 go_on-requires-2-clause-at c =
-    let p = settled c.args.typed.now in
+    let p = settled c.args.program.now in
     let t : Tree = member_tree p c.args.self.now.member.0 in
     let sides : List Side = c.args.self.now.conts.sides.items in
     let u : is_unsat c.args.reply ≡ true = sym c.is_refuted-refuted.ensures ∙ c.if-not-refuted.false in

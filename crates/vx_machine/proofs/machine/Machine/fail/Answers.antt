@@ -10,7 +10,7 @@ use Rattle.vx_machine.proofs.machine.Machine.fail.Goals as goal
 
 pub returns-clause-follows : goal.returns-clause-follows
 returns-clause-follows c e =
-    let p = settled c.args.typed.now in
+    let p = settled c.args.program.now in
     let t : Tree = member_tree p c.args.self.now.member.0 in
     let sides : List Side = c.args.self.now.conts.sides.items in
     let phase : Phase = phase'.Failed c.args.query.place c.args.query.code c.args.reply in (
@@ -21,7 +21,7 @@ returns-clause-follows c e =
 
 pub returns-clause-told : goal.returns-clause-told
 returns-clause-told c =
-    let p = settled c.args.typed.now in
+    let p = settled c.args.program.now in
     let t : Tree = member_tree p c.args.self.now.member.0 in
     let sides : List Side = c.args.self.now.conts.sides.items in
     let phase : Phase = phase'.Failed c.args.query.place c.args.query.code c.args.reply in
@@ -31,7 +31,7 @@ returns-clause-told c =
 
 pub returns-clause-answered : goal.returns-clause-answered
 returns-clause-answered c =
-    let p = settled c.args.typed.now in
+    let p = settled c.args.program.now in
     let t : Tree = member_tree p c.args.self.now.member.0 in
     let sides : List Side = c.args.self.now.conts.sides.items in
     let phase : Phase = phase'.Failed c.args.query.place c.args.query.code c.args.reply in

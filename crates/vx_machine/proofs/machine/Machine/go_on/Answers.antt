@@ -11,7 +11,7 @@ use Rattle.vx_machine.proofs.machine.Machine.go_on.Goals as goal
 
 pub returns-in-None-clause-told : goal.returns-in-None-clause-told
 returns-in-None-clause-told c =
-    let p = settled c.args.typed.now in
+    let p = settled c.args.program.now in
     let t : Tree = member_tree p c.args.self.now.member.0 in
     let g : List Reply = given c.args.self.now in
     let new : List Side = c.run.new.conts.sides.items in
@@ -19,7 +19,7 @@ returns-in-None-clause-told c =
 
 pub returns-in-None-clause-answered : goal.returns-in-None-clause-answered
 returns-in-None-clause-answered c =
-    let p = settled c.args.typed.now in
+    let p = settled c.args.program.now in
     let t : Tree = member_tree p c.args.self.now.member.0 in
     let g : List Reply = given c.args.self.now in
     let new : List Side = c.run.new.conts.sides.items in
@@ -27,7 +27,7 @@ returns-in-None-clause-answered c =
 
 pub returns-then-len-self-clause-told : goal.returns-then-len-self-clause-told
 returns-then-len-self-clause-told c =
-    let p = settled c.args.typed.now in
+    let p = settled c.args.program.now in
     let t : Tree = member_tree p c.args.self.now.member.0 in
     let g : List Reply = given c.args.self.now in
     let new : List Side = c.run.new.conts.sides.items in
@@ -43,7 +43,7 @@ returns-then-len-self-clause-told c =
 
 pub returns-then-len-self-clause-answered : goal.returns-then-len-self-clause-answered
 returns-then-len-self-clause-answered c =
-    let p = settled c.args.typed.now in
+    let p = settled c.args.program.now in
     let t : Tree = member_tree p c.args.self.now.member.0 in
     let g : List Reply = given c.args.self.now in
     let new : List Side = c.run.new.conts.sides.items in
@@ -52,7 +52,7 @@ returns-then-len-self-clause-answered c =
 
 pub returns-in_ok-kept-in-Some-clause-told : goal.returns-in_ok-kept-in-Some-clause-told
 returns-in_ok-kept-in-Some-clause-told c =
-    let p = settled c.args.typed.now in
+    let p = settled c.args.program.now in
     let t : Tree = member_tree p c.args.self.now.member.0 in
     let g : List Reply = given c.args.self.now in
     let new : List Side = c.run.new.conts.sides.items in
@@ -64,7 +64,7 @@ returns-in_ok-kept-in-Some-clause-told c =
 
 pub returns-in_ok-kept-in-Some-clause-answered : goal.returns-in_ok-kept-in-Some-clause-answered
 returns-in_ok-kept-in-Some-clause-answered c =
-    let p = settled c.args.typed.now in
+    let p = settled c.args.program.now in
     let t : Tree = member_tree p c.args.self.now.member.0 in
     let g : List Reply = given c.args.self.now in
     let new : List Side = c.run.new.conts.sides.items in

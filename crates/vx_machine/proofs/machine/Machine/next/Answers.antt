@@ -11,7 +11,7 @@ use Rattle.vx_machine.proofs.machine.Machine.next.Goals as goal
 
 pub returns-in-Limited-clause-told : goal.returns-in-Limited-clause-told
 returns-in-Limited-clause-told c =
-    let p = settled c.args.typed.now in
+    let p = settled c.args.program.now in
     let t : Tree = member_tree p c.args.self.now.member.0 in
     let sides : List Side = c.args.self.now.conts.sides.items in
     let q = c.in-Limited.query in
@@ -27,7 +27,7 @@ returns-in-Limited-clause-told c =
 
 pub returns-in-Limited-clause-answered : goal.returns-in-Limited-clause-answered
 returns-in-Limited-clause-answered c =
-    let p = settled c.args.typed.now in
+    let p = settled c.args.program.now in
     let t : Tree = member_tree p c.args.self.now.member.0 in
     let sides : List Side = c.args.self.now.conts.sides.items in
     let q = c.in-Limited.query in
@@ -36,26 +36,26 @@ returns-in-Limited-clause-answered c =
 
 pub returns-in-Passed-clause-told : goal.returns-in-Passed-clause-told
 returns-in-Passed-clause-told c =
-    let p = settled c.args.typed.now in
+    let p = settled c.args.program.now in
     let t : Tree = member_tree p c.args.self.now.member.0 in
     ending_now p t (given c.args.self.now) phase'.Passed c.args.self.now.conts.sides.items (follows_at p c.args.self.now phase'.Passed (sym c.in-Passed.ensures.value) refl c.requires.follows)
 
 pub returns-in-Passed-clause-answered : goal.returns-in-Passed-clause-answered
 returns-in-Passed-clause-answered c =
-    let p = settled c.args.typed.now in
+    let p = settled c.args.program.now in
     let t : Tree = member_tree p c.args.self.now.member.0 in
     answered_now p t (given c.args.self.now) phase'.Passed c.args.self.now.conts.sides.items (follows_at p c.args.self.now phase'.Passed (sym c.in-Passed.ensures.value) refl c.requires.follows) refl
 
 pub returns-in-Failed-clause-told : goal.returns-in-Failed-clause-told
 returns-in-Failed-clause-told c =
-    let p = settled c.args.typed.now in
+    let p = settled c.args.program.now in
     let t : Tree = member_tree p c.args.self.now.member.0 in
     let phase : Phase = phase'.Failed c.in-Failed.place c.in-Failed.code c.in-Failed.reply in
     ending_now p t (given c.args.self.now) phase c.args.self.now.conts.sides.items (follows_at p c.args.self.now phase (sym c.in-Failed.ensures.value) refl c.requires.follows)
 
 pub returns-in-Failed-clause-answered : goal.returns-in-Failed-clause-answered
 returns-in-Failed-clause-answered c =
-    let p = settled c.args.typed.now in
+    let p = settled c.args.program.now in
     let t : Tree = member_tree p c.args.self.now.member.0 in
     let phase : Phase = phase'.Failed c.in-Failed.place c.in-Failed.code c.in-Failed.reply in
     answered_now p t (given c.args.self.now) phase c.args.self.now.conts.sides.items (follows_at p c.args.self.now phase (sym c.in-Failed.ensures.value) refl c.requires.follows) refl

@@ -12,7 +12,7 @@ use Rattle.vx_rules.proofs.conts.Conts.ask.Goals as goal
 
 pub returns-then-is_same-2 : goal.returns-then-is_same-2
 returns-then-is_same-2 c =
-    let p = settled c.args.typed.now in
+    let p = settled c.args.program.now in
     let c' : Term = term c.args.condition.value in
     let s' : State = state c.args.state in
     let q = c.in_ok-query.query in
@@ -24,7 +24,7 @@ returns-then-is_same-2 c =
 
 pub returns : goal.returns
 returns c =
-    let p = settled c.args.typed.now in
+    let p = settled c.args.program.now in
     let c' : Term = term c.args.condition.value in
     let s' : State = state c.args.state in
     let q = c.in_ok-query.query in

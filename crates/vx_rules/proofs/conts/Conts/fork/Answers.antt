@@ -11,7 +11,7 @@ use Rattle.vx_rules.proofs.conts.Conts.fork.Goals as goal
 
 pub returns : goal.returns
 returns c =
-    let p = settled c.args.typed.now in
+    let p = settled c.args.program.now in
     let c' : Term = term c.args.condition.value in
     let d' : Term = term c.in_ok-negated.negated.value in
     let s' : State = state c.args.state in

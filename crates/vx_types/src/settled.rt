@@ -8,11 +8,11 @@ use vx_ast::resolved::{Member, Program};
 
 /// A settled program. Contracts see it as the list of its members, `settled`.
 #[derive(Drop)]
-pub struct Typed {
+pub struct Settled {
     pub program: Program,
 }
 
-impl Typed {
+impl Settled {
     /// How many members there are.
     pub fn len(&self) -> usize
         ensures { result ≡ length (settled self.now) }
