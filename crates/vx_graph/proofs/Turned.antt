@@ -8,13 +8,18 @@ use Rattle.std.specs.declared.alloc.Global.{Global}
 use Rattle.vx_ast.specs.declared.MemberId.{MemberId}
 use Rattle.vx_graph.specs.Listed.{is_in, AreThose}
 use Rattle.vx_graph.specs.Reach.{Rows, Reaches, at_once, further, leads, InRange}
-use Rattle.vx_graph.proofs.Searches.{leads_further, all_at}
+use Rattle.vx_graph.proofs.Searches.{all_at}
+
+-- one more edge at the end
+pub leads_further : (rows : Rows) {from c b : ℕ} → Reaches rows from c → leads rows c b ≡ true → Reaches rows from b
+leads_further rows (at_once l) m = further l (at_once m)
+leads_further rows (further l more) m = further l (leads_further rows more m)
 
 pub back : (rows sources : Rows) → ((a b : ℕ) → leads sources b a ≡ leads rows a b) → {a b : ℕ} → Reaches rows a b → Reaches sources b a
 back rows sources turned {a} {b} (at_once l) = at_once (turned a b ∙ l)
 back rows sources turned {a} (further {b = c} l more) = leads_further sources (back rows sources turned more) (turned a c ∙ l)
 
-leads_within : (n : ℕ) (rows : Rows) → InRange n rows → (a b : ℕ) → leads rows a b ≡ true → b < n
+pub leads_within : (n : ℕ) (rows : Rows) → InRange n rows → (a b : ℕ) → leads rows a b ≡ true → b < n
 leads_within n [] range a b l = absurd (false≢true l)
 leads_within n (r ∷ rows) range zero b l = all_at (λ k. k < n) r.items b (All-head (λ (v : Vec MemberId Global). All (λ m. m.0 < n) v.items) r rows range) l
 leads_within n (r ∷ rows) range (suc a) b l = leads_within n rows (All-tail (λ (v : Vec MemberId Global). All (λ m. m.0 < n) v.items) r rows range) a b l

@@ -1,11 +1,15 @@
 -- Members in a list, and marks.
-use Rattle.std.specs.Prelude.{◌≡◌, ◌<◌, ℕ, ◌+◌, Bool, false, ◌||◌, nat_eq, List, [], ◌∷◌, if◌then◌else◌, All, ⊤}
+use Rattle.std.specs.Prelude.{◌≡◌, ◌<◌, ℕ, ◌+◌, Bool, false, ◌||◌, nat_eq, List, [], ◌∷◌, get_or, if◌then◌else◌, All, ⊤}
 use Rattle.vx_ast.specs.declared.MemberId.{MemberId}
 
 -- whether the member of this number is in it
 abbrev pub is_in : List MemberId → ℕ → Bool
 is_in [] n = false
 is_in (m ∷ ms) n = nat_eq m.0 n || is_in ms n
+
+-- whether the member of this number is marked
+abbrev pub is_marked : List Bool → ℕ → Bool
+is_marked marks n = get_or marks n false
 
 -- how many marks are set
 abbrev pub set_in : List Bool → ℕ

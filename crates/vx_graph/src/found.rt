@@ -1,7 +1,7 @@
 //! The members that a search has found.
 
-ghost use Rattle.std.specs.Prelude.{◌≡◌, ◌<◌, ◌⊎◌, ◌++◌, ◌∷◌, ℕ, [], IfOk, OnOk, length, get_or, true, false};
-ghost use Rattle.vx_graph.specs.Listed.{is_in, set_in};
+ghost use Rattle.std.specs.Prelude.{◌≡◌, ◌<◌, ◌⊎◌, ◌&&◌, ◌++◌, ◌∷◌, ℕ, [], IfOk, OnOk, All, length, get_or, not, true, false};
+ghost use Rattle.vx_graph.specs.Listed.{is_in, is_marked, set_in};
 
 use std::alloc::{AllocError, AllocFailed, Global};
 use vx_ast::MemberId;
@@ -13,6 +13,18 @@ pub struct Found {
     pub marks: Vec<bool>,
     ghost counted: { length order.items ≡ set_in marks.items },
     ghost marked: { (n : ℕ) → n < length marks.items → get_or marks.items n false ≡ is_in order.items n },
+    ghost within: { All (λ m. m.0 < length marks.items) order.items },
+}
+
+/// These members are marked no longer.
+pub fn unmark(marks: &mut Vec<bool>, members: &[MemberId])
+    requires { All (λ m. m.0 < length marks.old.items) members.now }
+    ensures members { length marks.new.items ≡ length marks.old.items }
+    ensures marks { (n : ℕ) → is_marked marks.new.items n ≡ (is_marked marks.old.items n && not (is_in members.now n)) }
+{
+    for m in members {
+        marks[m.0 as usize] = false;
+    }
 }
 
 impl Found {
@@ -48,5 +60,14 @@ impl Found {
             self.marks[at] = true;
         }
         Ok(())
+    }
+
+    /// None is found any more. The time goes by how many were.
+    pub fn clear(&mut self)
+        ensures order { self.new.order.items ≡ [] }
+        ensures members { length self.new.marks.items ≡ length self.old.marks.items }
+    {
+        unmark(&mut self.marks, &self.order);
+        self.order.clear();
     }
 }

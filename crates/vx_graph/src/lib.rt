@@ -3,9 +3,12 @@
 
 mod edges;
 mod found;
+mod groups;
+mod order;
 mod search;
 
 pub use edges::{Edges, are_in_range};
+pub use groups::{Groups, all_groups};
 pub use search::{group, reaches, rests};
 
 #[cfg(test)]

@@ -1,25 +1,70 @@
 //! Searches along edges.
 
-ghost use Rattle.std.specs.Prelude.{◌≡◌, ◌<◌, ◌&&◌, ◌+◌, ◌^◌, ◌↔◌, ◌++◌, ◌≢◌, ℕ, Bool, List, true, not, nat_eq, IsTrue, IfOk, OnOk, All, length};
+ghost use Rattle.std.specs.Prelude.{◌≡◌, ◌<◌, ◌&&◌, ◌+◌, ◌^◌, ◌↔◌, ◌⊎◌, ◌++◌, ◌∷◌, ◌≢◌, ℕ, Bool, List, [], true, not, nat_eq, IsTrue, IfOk, OnOk, All, length};
 ghost use Rattle.vx_ast.specs.declared.MemberId.{MemberId};
-ghost use Rattle.vx_graph.specs.Listed.{is_in, Ascends, AreThose};
+ghost use Rattle.vx_graph.specs.Listed.{is_in, is_marked, Ascends, AreThose};
 ghost use Rattle.vx_graph.specs.Reach.{InRange, Reaches};
 ghost use Rattle.vx_graph.specs.Views.{rows};
+ghost use Rattle.vx_graph.specs.Within.{ReachesWithin};
 
 use crate::Edges;
 use crate::found::Found;
 use std::alloc::{AllocError, AllocFailed, Global};
 use vx_ast::MemberId;
 
-// Those of a row are found.
-fn mark_all(found: &mut Found, row: &[MemberId]) -> Result<(), AllocFailed<MemberId>>
-    requires { All (λ m. m.0 < length found.old.marks.items) row.now }
+// A member is found, if it is marked.
+fn find(found: &mut Found, member: MemberId, marks: &[bool]) -> Result<(), AllocFailed<MemberId>>
+    requires member { member.0 < length found.old.marks.items }
+    requires marks { length marks.now ≡ length found.old.marks.items }
     ensures members { length found.new.marks.items ≡ length found.old.marks.items }
-    ensures found { OnOk result (All (λ m. is_in found.new.order.items m.0 ≡ true) row.now) }
-    ensures order { OnOk result ((added : List MemberId) × (found.new.order.items ≡ found.old.order.items ++ added) × All (λ m. is_in row.now m.0 ≡ true) added) }
+    ensures found { OnOk result (is_marked marks.now member.0 ≡ true → is_in found.new.order.items member.0 ≡ true) }
+    ensures order { OnOk result ((found.new.order.items ≡ found.old.order.items) ⊎ ((found.new.order.items ≡ found.old.order.items ++ member ∷ []) × (is_marked marks.now member.0 ≡ true))) }
+{
+    if marks[member.0 as usize] {
+        found.mark(member)?;
+    }
+    Ok(())
+}
+
+// Those of a row that are marked are found.
+fn find_all(
+    found: &mut Found,
+    row: &[MemberId],
+    marks: &[bool],
+) -> Result<(), AllocFailed<MemberId>>
+    requires row { All (λ m. m.0 < length found.old.marks.items) row.now }
+    requires marks { length marks.now ≡ length found.old.marks.items }
+    ensures members { length found.new.marks.items ≡ length found.old.marks.items }
+    ensures found { OnOk result (All (λ m. is_marked marks.now m.0 ≡ true → is_in found.new.order.items m.0 ≡ true) row.now) }
+    ensures order { OnOk result ((added : List MemberId) × (found.new.order.items ≡ found.old.order.items ++ added) × All (λ m. (is_in row.now m.0 ≡ true) × (is_marked marks.now m.0 ≡ true)) added) }
 {
     for m in row {
-        found.mark(*m)?;
+        find(found, *m, marks)?;
+    }
+    Ok(())
+}
+
+/// Those that one edge or more lead to from a member, by way of marked members alone. Nothing was found before.
+pub(crate) fn find_within(
+    found: &mut Found,
+    rows: &[Vec<MemberId>],
+    marks: &[bool],
+    from: MemberId,
+) -> Result<(), AllocFailed<MemberId>>
+    requires within { InRange (length rows.now) rows.now }
+    requires from { from.0 < length rows.now }
+    requires members { length found.old.marks.items ≡ length rows.now }
+    requires marks { length marks.now ≡ length rows.now }
+    requires none { found.old.order.items ≡ [] }
+    ensures members { length found.new.marks.items ≡ length found.old.marks.items }
+    ensures found { OnOk result ((b : ℕ) → (is_in found.new.order.items b ≡ true) ↔ ReachesWithin marks.now rows.now from.0 b) }
+{
+    find_all(found, &rows[from.0 as usize], marks)?;
+    let mut next = 0;
+    while next < found.order.len() {
+        let at = found.order[next];
+        find_all(found, &rows[at.0 as usize], marks)?;
+        next += 1;
     }
     Ok(())
 }
@@ -32,13 +77,8 @@ fn found_from(alloc: Global, rows: &[Vec<MemberId>], from: MemberId) -> Result<F
     ensures found { IfOk result (λ f. (b : ℕ) → (is_in f.order.items b ≡ true) ↔ Reaches rows.now from.0 b) }
 {
     let mut found = Found::new(alloc, rows.len())?;
-    mark_all(&mut found, &rows[from.0 as usize])?;
-    let mut next = 0;
-    while next < found.order.len() {
-        let at = found.order[next];
-        mark_all(&mut found, &rows[at.0 as usize])?;
-        next += 1;
-    }
+    let all = vec![in alloc; true; rows.len()]?;
+    find_within(&mut found, rows, &all, from)?;
     Ok(found)
 }
 

@@ -1,40 +1,12 @@
-use Rattle.std.proofs.Common.{◌≡◌, ◌<◌, ◌≤◌, ◌-◌, ◌+◌, ℕ, ◌∙◌, subst, length, arith, true}
-use Rattle.std.specs.Prelude.{All}
-use Rattle.vx_graph.specs.Listed.{is_in, set_in}
-use Rattle.vx_graph.proofs.Lists.{at_most_all}
-use Rattle.vx_graph.proofs.Searches.{Grows, searched_first, searched_more, searched_all, searched_sound}
+use Rattle.std.proofs.Common.{◌≡◌, ◌<◌, ◌∙◌, ℕ, ap, length, true}
+use Rattle.vx_graph.specs.Listed.{is_marked}
+use Rattle.vx_graph.proofs.Marks.{all_marked}
+use Rattle.vx_graph.proofs.Roots.{any_way, all_ways}
 use Rattle.vx_graph.proofs.search.found_from.Goals as goal
-
-smaller : (all next order set marks : ℕ) → order ≡ set → set ≤ marks → marks ≡ all → next < order → all - (next + 1) < all - next
-smaller all next order set marks e few same before = omega arith
-
-pub loop-next-init : goal.loop-next-init
-loop-next-init c =
-    let e = c.in_ok-mark_all.ensures in
-    let new = c.mark_all.new.found.order.items in
-    record {
-      members = e.members ∙ c.in_ok-found.ensures.members;
-      searched = searched_first c.args.rows.now c.args.from.0 c.in_ok-found.found.order.items new c.index-rows-from.result c.requires.within c.requires.from c.index-rows-from.is c.in_ok-found.ensures.order
-          (subst (λ row. Grows row c.in_ok-found.found.order.items new) c.deref.ensures.value e.order) (subst (All (λ m. is_in new m.0 ≡ true)) c.deref.ensures.value e.found);
-    }
-
-pub loop-next-smaller : goal.loop-next-smaller
-loop-next-smaller c =
-    let f = c.loop-next.found in
-    smaller (length c.args.rows.now) c.loop-next.next (length f.order.items) (set_in f.marks.items) (length f.marks.items) f.counted (at_most_all f.marks.items) c.loop-next.invariant.members (omega (arith, c.loop-next-test.true, c.len.ensures))
-
-pub loop-next-preserved : goal.loop-next-preserved
-loop-next-preserved c =
-    let e = c.in_ok-mark_all-2.ensures in
-    let old = c.loop-next.found.order.items in
-    let new = c.mark_all-in-loop-next.new.found.order.items in
-    record {
-      members = e.members ∙ c.loop-next.invariant.members;
-      searched = searched_more c.args.rows.now c.args.from.0 old new c.loop-next.next c.index-at.result.now c.index-rows-at.result c.requires.within (omega (arith, c.loop-next-test.true, c.len.ensures)) c.index-at.ensures c.index-rows-at.is c.loop-next.invariant.searched
-          (subst (λ row. Grows row old new) c.deref-in-loop-next.ensures.value e.order) (subst (All (λ m. is_in new m.0 ≡ true)) c.deref-in-loop-next.ensures.value e.found);
-    }
 
 pub returns-clause-found : goal.returns-clause-found
 returns-clause-found c b =
-    let s = c.loop-next.invariant.searched in
-    (searched_sound _ _ _ _ s b, searched_all _ _ _ _ s (omega (arith, c.loop-next-test.false, c.len.ensures)) b)
+    let rows = c.args.rows.now in
+    let marks = c.deref.result.now in
+    let all : (k : ℕ) → k < length rows → is_marked marks k ≡ true = λ k lt. ap (λ ms. is_marked ms k) (c.deref.ensures.value ∙ c.in_ok-all.ensures.items_if_clones_equal (λ y e. e)) ∙ all_marked (length rows) k lt in
+    ((λ e. any_way marks rows ((c.in_ok-find_within.ensures.found b).0 e)), (λ way. (c.in_ok-find_within.ensures.found b).1 (all_ways marks rows (length rows) c.requires.within all way)))
