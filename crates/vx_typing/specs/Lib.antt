@@ -22,3 +22,5 @@ pub mod Laws
 pub mod Examples
 pub mod Printed
 pub mod ProgramExamples
+pub mod Known
+pub mod Typed

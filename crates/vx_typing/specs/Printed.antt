@@ -3,6 +3,8 @@ use Rattle.std.specs.Prelude.{ℕ, List, [], codes, Option, Some, None}
 use Rattle.vx_ast.specs.declared.Place.{Place}
 use Rattle.vx_ast.specs.declared.ValueType.{ValueType}
 use Rattle.vx_ast.specs.declared.ValueType.TheVariants as type
+use Rattle.vx_typing.specs.declared.fault.Expected.{Expected}
+use Rattle.vx_typing.specs.declared.fault.Expected.TheVariants as expected
 use Rattle.vx_typing.specs.declared.fault.TypeFault.{TypeFault}
 use Rattle.vx_typing.specs.declared.fault.TypeFault.TheVariants as faults
 
@@ -61,3 +63,7 @@ word_of type.Int = codes "Int"
 word_of type.Bool = codes "Bool"
 word_of type.Ref = codes "Ref"
 word_of type.Perm = codes "Perm"
+
+abbrev pub expected_word : Expected → List ℕ
+expected_word (expected.Type t) = word_of t
+expected_word expected.Numeral = codes "numeral"

@@ -161,11 +161,20 @@ pub fn word_of(t: ValueType) -> &'static str
     }
 }
 
+impl Expected {
+    /// The word of what is expected.
+    pub fn word(self) -> &'static str
+        ensures { result.now ≡ printed.expected_word self }
+    {
+        match self {
+            Expected::Type(t) => word_of(t),
+            Expected::Numeral => "numeral",
+        }
+    }
+}
+
 impl fmt::Display for Expected {
     fn fmt<W: fmt::Write>(&self, f: &mut fmt::Formatter<W>) -> fmt::Result {
-        match self {
-            Expected::Type(t) => f.write_str(word_of(*t)),
-            Expected::Numeral => f.write_str("numeral"),
-        }
+        f.write_str(self.word())
     }
 }

@@ -1,21 +1,22 @@
 //! Which members lead back to themselves, and what typing asks of them.
 
-ghost use Rattle.std.specs.Prelude.{◌≡◌, ◌<◌, ◌^◌, ◌||◌, [], ℕ, All, OnOk, IfOk, option_map, length, map, Some};
+ghost use Rattle.std.specs.Prelude.{◌≡◌, ◌<◌, ◌^◌, ◌||◌, ◌&&◌, [], ℕ, Bool, IfSome, OnOk, IfOk, false, get_or, option_map, length, map, Some};
+ghost use Rattle.vx_ast.specs.declared.MemberId.{MemberId as Id};
 ghost use Rattle.vx_ast.specs.Written.{written_expr, written_clause, written_kind, written_member, Program};
 ghost use Rattle.vx_ast.specs.Written as written;
+ghost use Rattle.vx_graph.specs.Groups.{roots, root_at, is_same};
 ghost use Rattle.vx_graph.specs.Listed.{is_in};
-ghost use Rattle.vx_graph.specs.Reach.{InRange, leads};
+ghost use Rattle.vx_graph.specs.Reach.{leads};
 ghost use Rattle.vx_graph.specs.Views.{rows};
 ghost use Rattle.vx_typing.specs.GroupFaults as first;
 ghost use Rattle.vx_typing.specs.Programs as programs;
-ghost use Rattle.vx_typing.specs.Groups.{number_of, is_number, are_of, mentions, kind_at, in_group};
+ghost use Rattle.vx_typing.specs.Groups.{number_of, is_number, are_of, mentions};
 ghost use Rattle.vx_typing.specs.Groups as groups;
 ghost use Rattle.vx_typing.specs.Uses as uses;
 ghost use Rattle.vx_typing.specs.Measures as measures;
 ghost use Rattle.vx_typing.specs.Members.{table_of};
 ghost use Rattle.vx_typing.specs.Gives.{Gives};
-ghost use Rattle.vx_typing.specs.Numbered as numbered;
-ghost use Rattle.vx_typing.specs.Numbered.{Tells, some_of, shown};
+ghost use Rattle.vx_typing.specs.Numbered.{AreRoots, AreMarks, Tells, marks, shown};
 ghost use Rattle.vx_typing.specs.Seen.{seen};
 ghost use Rattle.vx_typing.specs.Views.{table, signature};
 
@@ -24,10 +25,10 @@ use crate::uses::{Named, uses_before, uses_by, uses_of_body};
 use crate::{Members, Signature, TypeFault};
 use std::alloc::{AllocError, Global};
 use vx_ast::{Clause, Expr, ExprKind, Function, Member, MemberId, MemberKind, Place};
-use vx_graph::{Edges, group, reaches};
+use vx_graph::{Edges, Groups, all_groups};
 
-// A member's number in file order.
-fn number(members: &Members, name: &str) -> Option<MemberId>
+/// A member's number in file order.
+pub(crate) fn number(members: &Members, name: &str) -> Option<MemberId>
     requires { length members.now.entries < 2 ^ 32 }
     ensures { (p : Program) → table members.now.entries ≡ table_of p → option_map (λ m. m.0) result ≡ number_of p name.now }
 {
@@ -85,8 +86,8 @@ fn rows_of(
     Ok(rows)
 }
 
-// Which members lead to which.
-fn edges_of(alloc: Global, members: &Members, all: &[Member]) -> Result<Edges, AllocError>
+/// Which members lead to which.
+pub fn edges_of(alloc: Global, members: &Members, all: &[Member]) -> Result<Edges, AllocError>
     requires few { length all.now < 2 ^ 32 }
     requires table { table members.now.entries ≡ table_of (map written_member all.now) }
     ensures count { IfOk result (λ e. length (rows e) ≡ length all.now) }
@@ -97,40 +98,20 @@ fn edges_of(alloc: Global, members: &Members, all: &[Member]) -> Result<Edges, A
     Ok(edges)
 }
 
-// The group of a member. One search tells that a member doesn't reach itself, as most don't.
-fn group_of(alloc: Global, edges: &Edges, member: MemberId) -> Result<Vec<MemberId>, AllocError>
-    requires { member.0 < length (rows edges.now) }
-    ensures { IfOk result (λ ms. (p : Program) → ((a b : ℕ) → leads (rows edges.now) a b ≡ mentions p a b) → (b : ℕ) → is_in ms.items b ≡ in_group p member.0 b) }
+// The groups of the members.
+fn groups_of(alloc: Global, edges: &Edges) -> Result<Groups, AllocError>
+    ensures { (p : Program) → length (rows edges.now) ≡ length p → ((a b : ℕ) → leads (rows edges.now) a b ≡ mentions p a b) → IfOk result (λ g. AreRoots p (roots g)) }
 {
-    let again = reaches(alloc, edges, member, member)?;
-    if !again {
-        return Ok(Vec::new(alloc));
-    }
-    let group = group(alloc, edges, member)?;
-    Ok(group)
+    let groups = all_groups(alloc, edges)?;
+    Ok(groups)
 }
 
-// Whether a member is one of these.
-fn has(group: &[MemberId], member: MemberId) -> bool
-    ensures { result ≡ is_in group.now member.0 }
-{
-    for m in group {
-        if m.0 == member.0 {
-            return true;
-        }
-    }
-    false
-}
-
-// Whether the member of this name is one of a group.
-fn is_own(members: &Members, group: &[MemberId], name: &str) -> bool
-    requires { length members.now.entries < 2 ^ 32 }
-    ensures { (p : Program) (a : ℕ) → table members.now.entries ≡ table_of p → ((b : ℕ) → is_in group.now b ≡ in_group p a b) → result ≡ groups.is_own p a name.now }
-{
-    match number(members, name) {
-        Some(m) => has(group, m),
-        None => false,
-    }
+/// The members of a program, by number and by name, and their groups.
+#[derive(Clone, Copy)]
+pub struct Graph<'s, 'a> {
+    pub all: &'s [Member],
+    pub members: &'s Members<'a>,
+    pub groups: &'s Groups,
 }
 
 // Whether a measure is an instance.
@@ -203,30 +184,58 @@ fn measures_by(members: &Members, by_instance: bool, kind: &MemberKind) -> bool
     }
 }
 
-fn measures_at(members: &Members, all: &[Member], by_instance: bool, m: MemberId) -> bool
-    ensures { result ≡ first.measures_by (table members.now.entries) by_instance (kind_at (map written_member all.now) m.0) }
-{
-    match all.get(m.0 as usize) {
-        Some(m) => measures_by(members, by_instance, &m.kind),
-        None => false,
+// Which groups have a function that measures by an instance, and which have one that measures by a number: a mark for
+// each member, which counts where it is the root of a group.
+#[derive(Drop)]
+struct Kinds {
+    by_instance: Vec<bool>,
+    by_number: Vec<bool>,
+}
+
+impl Kinds {
+    // Whether a function of the group measures so.
+    fn has(&self, root: MemberId, by_instance: bool) -> bool
+        requires { root.0 < length (marks self.now by_instance) }
+        ensures { result ≡ get_or (marks self.now by_instance) root.0 false }
+    {
+        if by_instance {
+            self.by_instance[root.0 as usize]
+        } else {
+            self.by_number[root.0 as usize]
+        }
     }
 }
 
-// Whether one of a group measures so.
-fn some_measures_by(
-    members: &Members,
-    all: &[Member],
-    group: &[MemberId],
-    by_instance: bool,
-) -> bool
-    ensures { result ≡ some_of (λ m. first.measures_by (table members.now.entries) by_instance (kind_at (map written_member all.now) m)) group.now }
+// One more member of the group of this root measures so, or doesn't.
+fn mark(marks: &mut Vec<bool>, root: Option<MemberId>, measures: bool)
+    requires { IfSome root (λ r. r.0 < length marks.old.items) }
+    ensures members { length marks.new.items ≡ length marks.old.items }
+    ensures marks { (r : Id) → get_or marks.new.items r.0 false ≡ ((is_same (Some r) root && measures) || get_or marks.old.items r.0 false) }
 {
-    for m in group {
-        if measures_at(members, all, by_instance, *m) {
-            return true;
-        }
+    if let Some(r) = root {
+        marks[r.0 as usize] |= measures;
     }
-    false
+}
+
+// How the functions of each group measure.
+fn kinds_of(alloc: Global, g: Graph) -> Result<Kinds, AllocError>
+    requires few { length g.all.now < 2 ^ 32 }
+    requires table { table g.members.now.entries ≡ table_of (map written_member g.all.now) }
+    requires groups { AreRoots (map written_member g.all.now) (roots g.groups.now) }
+    ensures { IfOk result (λ k. (b : Bool) → AreMarks (map written_member g.entry.all.now) (roots g.entry.groups.now) b (length g.entry.all.now) (marks k b)) }
+{
+    let mut by_instance = vec![in alloc; false; g.all.len()]?;
+    let mut by_number = vec![in alloc; false; g.all.len()]?;
+    for n in 0..g.all.len() {
+        let root = g.groups.root(MemberId(n as u32));
+        let kind = &g.all[n].kind;
+        mark(&mut by_instance, root, measures_by(g.members, true, kind));
+        mark(&mut by_number, root, measures_by(g.members, false, kind));
+    }
+    Ok(Kinds {
+        by_instance,
+        by_number,
+    })
 }
 
 // The kind of a measure.
@@ -241,57 +250,52 @@ fn own_measure(members: &Members, at: Place, measure: Option<&Expr>) -> Result<b
 
 // A function that reaches itself has a measure, and none of its group measures otherwise.
 fn group_measured(
-    members: &Members,
-    all: &[Member],
-    group: &[MemberId],
+    g: Graph,
+    kinds: &Kinds,
+    root: MemberId,
     at: Place,
     measure: Option<&Expr>,
 ) -> Result<(), TypeFault>
-    requires { table members.now.entries ≡ table_of (map written_member all.now) }
-    ensures { Gives (λ x. tt) result (numbered.measured_in (map written_member all.now) group.now at (shown measure.entry)) }
+    requires table { table g.members.now.entries ≡ table_of (map written_member g.all.now) }
+    requires kinds { (b : Bool) → AreMarks (map written_member g.all.now) (roots g.groups.now) b (length g.all.now) (marks kinds.now b) }
+    requires root { root.0 < length g.all.now }
+    ensures { (a : ℕ) → root_at (roots g.entry.groups.now) a ≡ Some root → Gives (λ x. tt) result (first.group_measured (map written_member g.entry.all.now) a at (shown measure.entry)) }
 {
-    let by_instance = own_measure(members, at, measure)?;
-    if some_measures_by(members, all, group, !by_instance) {
+    let by_instance = own_measure(g.members, at, measure)?;
+    if kinds.has(root, !by_instance) {
         return Err(TypeFault::MixedMeasures(at));
     }
     Ok(())
 }
 
-/// The members of a program, by number and by name, and which lead to which.
-#[derive(Clone, Copy)]
-pub struct Graph<'s, 'a> {
-    pub all: &'s [Member],
-    pub members: &'s Members<'a>,
-    pub edges: &'s Edges,
-}
-
 fn function_measured(
-    alloc: Global,
     g: Graph,
+    kinds: &Kinds,
     member: MemberId,
     at: Place,
     f: &Function,
 ) -> Result<(), TypeFault>
     requires table { table g.members.now.entries ≡ table_of (map written_member g.all.now) }
-    requires edges { (a b : ℕ) → leads (rows g.edges.now) a b ≡ mentions (map written_member g.all.now) a b }
-    requires member { member.0 < length (rows g.edges.now) }
+    requires groups { AreRoots (map written_member g.all.now) (roots g.groups.now) }
+    requires kinds { (b : Bool) → AreMarks (map written_member g.all.now) (roots g.groups.now) b (length g.all.now) (marks kinds.now b) }
+    requires member { member.0 < length g.all.now }
     ensures { Gives (λ x. tt) result (first.measured (map written_member g.entry.all.now) member.0 at (written_kind (MemberKind.Function f.now))) }
 {
-    let group = group_of(alloc, g.edges, member)?;
-    if has(&group, member) {
-        return group_measured(g.members, g.all, &group, at, measure_of(&f.clauses));
+    match g.groups.root(member) {
+        Some(root) => group_measured(g, kinds, root, at, measure_of(&f.clauses)),
+        None => Ok(()),
     }
-    Ok(())
 }
 
-fn measured(alloc: Global, g: Graph, member: MemberId, m: &Member) -> Result<(), TypeFault>
+fn measured(g: Graph, kinds: &Kinds, member: MemberId, m: &Member) -> Result<(), TypeFault>
     requires table { table g.members.now.entries ≡ table_of (map written_member g.all.now) }
-    requires edges { (a b : ℕ) → leads (rows g.edges.now) a b ≡ mentions (map written_member g.all.now) a b }
-    requires member { member.0 < length (rows g.edges.now) }
+    requires groups { AreRoots (map written_member g.all.now) (roots g.groups.now) }
+    requires kinds { (b : Bool) → AreMarks (map written_member g.all.now) (roots g.groups.now) b (length g.all.now) (marks kinds.now b) }
+    requires member { member.0 < length g.all.now }
     ensures { Gives (λ x. tt) result (first.measured (map written_member g.entry.all.now) member.0 m.now.place (written_kind m.now.kind)) }
 {
     match &m.kind {
-        MemberKind::Function(f) => function_measured(alloc, g, member, m.place, f),
+        MemberKind::Function(f) => function_measured(g, kinds, member, m.place, f),
         MemberKind::Field(_) => Ok(()),
         MemberKind::Predicate(_) => Ok(()),
         MemberKind::Method(_) => Ok(()),
@@ -299,31 +303,43 @@ fn measured(alloc: Global, g: Graph, member: MemberId, m: &Member) -> Result<(),
 }
 
 // Each function that reaches itself, in file order.
-fn all_measured(alloc: Global, g: Graph) -> Result<(), TypeFault>
+fn all_measured(g: Graph, kinds: &Kinds) -> Result<(), TypeFault>
     requires few { length g.all.now < 2 ^ 32 }
     requires table { table g.members.now.entries ≡ table_of (map written_member g.all.now) }
-    requires count { length (rows g.edges.now) ≡ length g.all.now }
-    requires edges { (a b : ℕ) → leads (rows g.edges.now) a b ≡ mentions (map written_member g.all.now) a b }
+    requires groups { AreRoots (map written_member g.all.now) (roots g.groups.now) }
+    requires kinds { (b : Bool) → AreMarks (map written_member g.all.now) (roots g.groups.now) b (length g.all.now) (marks kinds.now b) }
     ensures { Gives (λ x. tt) result (first.measures (map written_member g.entry.all.now) 0 (map written_member g.entry.all.now)) }
 {
     for n in 0..g.all.len() {
-        measured(alloc, g, MemberId(n as u32), &g.all[n])?;
+        measured(g, kinds, MemberId(n as u32), &g.all[n])?;
     }
     Ok(())
 }
 
-// None of these is of a group: all of them, or those that are unfolded.
-fn none_own(
-    members: &Members,
-    group: &[MemberId],
-    every: bool,
-    uses: &[Named],
-) -> Result<(), TypeFault>
-    requires { length members.now.entries < 2 ^ 32 }
-    ensures { (p : Program) (a : ℕ) → table members.now.entries ≡ table_of p → ((b : ℕ) → is_in group.now b ≡ in_group p a b) → Gives (λ x. tt) result (first.none_own p a every (seen uses.now)) }
+// Whether the member of this name is in the group of a member.
+fn is_own(g: Graph, member: MemberId, name: &str) -> bool
+    requires few { length g.all.now < 2 ^ 32 }
+    requires table { table g.members.now.entries ≡ table_of (map written_member g.all.now) }
+    requires groups { AreRoots (map written_member g.all.now) (roots g.groups.now) }
+    requires member { member.0 < length g.all.now }
+    ensures { result ≡ groups.is_own (map written_member g.entry.all.now) member.0 name.now }
+{
+    match number(g.members, name) {
+        Some(other) => g.groups.are_together(member, other),
+        None => false,
+    }
+}
+
+// None of these is of a member's own group: all of them, or those that are unfolded.
+fn none_own(g: Graph, member: MemberId, every: bool, uses: &[Named]) -> Result<(), TypeFault>
+    requires few { length g.all.now < 2 ^ 32 }
+    requires table { table g.members.now.entries ≡ table_of (map written_member g.all.now) }
+    requires groups { AreRoots (map written_member g.all.now) (roots g.groups.now) }
+    requires member { member.0 < length g.all.now }
+    ensures { Gives (λ x. tt) result (first.none_own (map written_member g.entry.all.now) member.0 every (seen uses.now)) }
 {
     for u in uses {
-        let own = is_own(members, group, u.name);
+        let own = is_own(g, member, u.name);
         if (every | u.unfolds) & own {
             return Err(TypeFault::NotHere(u.place));
         }
@@ -331,41 +347,24 @@ fn none_own(
     Ok(())
 }
 
-fn group_apart(
-    alloc: Global,
-    g: Graph,
-    member: MemberId,
-    every: bool,
-    uses: &[Named],
-) -> Result<(), TypeFault>
-    requires few { length g.members.now.entries < 2 ^ 32 }
-    requires table { table g.members.now.entries ≡ table_of (map written_member g.all.now) }
-    requires edges { (a b : ℕ) → leads (rows g.edges.now) a b ≡ mentions (map written_member g.all.now) a b }
-    requires member { member.0 < length (rows g.edges.now) }
-    ensures { Gives (λ x. tt) result (first.none_own (map written_member g.entry.all.now) member.0 every (seen uses.now)) }
-{
-    let group = group_of(alloc, g.edges, member)?;
-    none_own(g.members, &group, every, uses)
-}
-
 // No function's precondition uses its own group, and no predicate's body unfolds its own.
 fn apart(alloc: Global, g: Graph, member: MemberId, kind: &MemberKind) -> Result<(), TypeFault>
-    requires few { length g.members.now.entries < 2 ^ 32 }
+    requires few { length g.all.now < 2 ^ 32 }
     requires table { table g.members.now.entries ≡ table_of (map written_member g.all.now) }
-    requires edges { (a b : ℕ) → leads (rows g.edges.now) a b ≡ mentions (map written_member g.all.now) a b }
-    requires member { member.0 < length (rows g.edges.now) }
+    requires groups { AreRoots (map written_member g.all.now) (roots g.groups.now) }
+    requires member { member.0 < length g.all.now }
     ensures { Gives (λ x. tt) result (first.apart (map written_member g.entry.all.now) member.0 (written_kind kind.now)) }
 {
     match kind {
         MemberKind::Function(f) => {
             let mut found = Vec::new(alloc);
             uses_before(&mut found, &f.clauses)?;
-            group_apart(alloc, g, member, true, &found)
+            none_own(g, member, true, &found)
         }
         MemberKind::Predicate(d) => {
             let mut found = Vec::new(alloc);
             uses_of_body(&mut found, &d.body)?;
-            group_apart(alloc, g, member, false, &found)
+            none_own(g, member, false, &found)
         }
         MemberKind::Field(_) => Ok(()),
         MemberKind::Method(_) => Ok(()),
@@ -375,8 +374,7 @@ fn apart(alloc: Global, g: Graph, member: MemberId, kind: &MemberKind) -> Result
 fn all_apart(alloc: Global, g: Graph) -> Result<(), TypeFault>
     requires few { length g.all.now < 2 ^ 32 }
     requires table { table g.members.now.entries ≡ table_of (map written_member g.all.now) }
-    requires count { length (rows g.edges.now) ≡ length g.all.now }
-    requires edges { (a b : ℕ) → leads (rows g.edges.now) a b ≡ mentions (map written_member g.all.now) a b }
+    requires groups { AreRoots (map written_member g.all.now) (roots g.groups.now) }
     ensures { Gives (λ x. tt) result (first.all_apart (map written_member g.entry.all.now) 0 (map written_member g.entry.all.now)) }
 {
     for n in 0..g.all.len() {
@@ -385,18 +383,26 @@ fn all_apart(alloc: Global, g: Graph) -> Result<(), TypeFault>
     Ok(())
 }
 
-/// Measures, and then what leads back to its own group.
-pub fn check_groups(alloc: Global, members: &Members, all: &[Member]) -> Result<(), TypeFault>
+/// Measures, and then what leads back to its own group. The groups of all members are found at once.
+pub fn check_groups(
+    alloc: Global,
+    members: &Members,
+    edges: &Edges,
+    all: &[Member],
+) -> Result<(), TypeFault>
     requires few { length all.now < 2 ^ 32 }
     requires table { table members.now.entries ≡ table_of (map written_member all.now) }
+    requires count { length (rows edges.now) ≡ length all.now }
+    requires edges { (a b : ℕ) → leads (rows edges.now) a b ≡ mentions (map written_member all.now) a b }
     ensures { Gives (λ x. tt) result (programs.groups (map written_member all.now)) }
 {
-    let edges = edges_of(alloc, members, all)?;
+    let groups = groups_of(alloc, edges)?;
     let g = Graph {
         all,
         members,
-        edges: &edges,
+        groups: &groups,
     };
-    all_measured(alloc, g)?;
+    let kinds = kinds_of(alloc, g)?;
+    all_measured(g, &kinds)?;
     all_apart(alloc, g)
 }

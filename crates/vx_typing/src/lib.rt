@@ -14,6 +14,7 @@ mod operators;
 mod program;
 mod setting;
 mod stmt;
+mod typed;
 mod uses;
 
 pub use assertions::assertion;
@@ -25,6 +26,7 @@ pub use laws::{
 };
 pub use program::check;
 pub use setting::{Members, Setting, Signature, Variable, Variables};
+pub use typed::Typed;
 
 #[cfg(test)]
 mod tests;

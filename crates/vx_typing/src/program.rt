@@ -1,25 +1,33 @@
 //! Programs.
 
-ghost use Rattle.std.specs.Prelude.{◌≡◌};
+ghost use Rattle.std.specs.Prelude.{◌≡◌, IfOk};
 ghost use Rattle.vx_ast.specs.Written.{written_program};
 ghost use Rattle.vx_typing.specs.Programs as first;
 ghost use Rattle.vx_typing.specs.Gives.{Gives};
+ghost use Rattle.vx_typing.specs.Typed.{written_of};
 
-use crate::TypeFault;
-use crate::groups::check_groups;
+use crate::groups::{check_groups, edges_of};
 use crate::members::{check_members, members_of};
+use crate::{TypeFault, Typed};
 use std::alloc::Global;
 use vx_ast::Program;
 
-/// The program is typed. Otherwise its first fault: of the names of all members, of each member in file order, of
-/// measures, and of what leads back to its own group. A program of 2^32 members or more is beyond memory.
-pub fn check(alloc: Global, program: &Program) -> Result<(), TypeFault>
-    ensures { Gives (λ x. tt) result (first.program (written_program program.now)) }
+/// The typed program, where it is typed. Otherwise its first fault: of the names of all members, of each member in file
+/// order, of measures, and of what leads back to its own group. A program of 2^32 members or more is beyond memory.
+pub fn check<'a>(alloc: Global, program: &'a Program) -> Result<Typed<'a>, TypeFault>
+    ensures first { Gives (λ x. tt) result (first.program (written_program program.now)) }
+    ensures program { IfOk result (λ t. written_of t ≡ written_program program.now) }
 {
     if program.members.len() >= 1 << 32 {
         return Err(TypeFault::Want);
     }
     let members = members_of(alloc, &program.members)?;
     check_members(alloc, &members, &program.members)?;
-    check_groups(alloc, &members, &program.members)
+    let edges = edges_of(alloc, &members, &program.members)?;
+    check_groups(alloc, &members, &edges, &program.members)?;
+    Ok(Typed {
+        program,
+        members,
+        edges,
+    })
 }

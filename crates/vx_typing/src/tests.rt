@@ -3,7 +3,9 @@ use crate::{Expected, Members, Setting, Signature, TypeFault, Variable, Variable
 use indexmap::IndexMap;
 use std::alloc::{AllocError, Global};
 use std::rc::Rc;
-use vx_ast::{BinaryOperator, Expr, ExprKind, Member, MemberKind, Name, Place, Program, ValueType};
+use vx_ast::{
+    BinaryOperator, Expr, ExprKind, Member, MemberId, MemberKind, Name, Place, Program, ValueType,
+};
 
 fn at(column: u32) -> Place {
     Place { line: 1, column }
@@ -131,17 +133,32 @@ fn field(alloc: Global, column: u32, behind: u32) -> Result<Member, AllocError> 
     })
 }
 
-fn told(alloc: Global, columns: &[(u32, u32)]) -> Result<(), TypeFault> {
+// What is known of `v` in a typed program of these fields, whether it knows `w`, and how many members it has.
+fn told(
+    alloc: Global,
+    columns: &[(u32, u32)],
+) -> Result<(Option<MemberId>, bool, usize), TypeFault> {
     let mut members = Vec::new(alloc);
     for (column, behind) in columns {
         members.push(field(alloc, *column, *behind)?)?;
     }
-    crate::check(alloc, &Program { members })
+    let program = Program { members };
+    let typed = crate::check(alloc, &program)?;
+    let number = match typed.signature("v") {
+        Some(Signature::Field(ValueType::Int)) => typed.number("v"),
+        _ => None,
+    };
+    Ok((number, typed.signature("w").is_some(), typed.edges().len()))
 }
 
 #[test]
 fn no_two_members_have_one_name(rt: HostRuntime) {
-    assert!(rt; told(rt.alloc(), &[(1, 7)]).is_ok());
+    assert!(rt;
+        matches!(
+            told(rt.alloc(), &[(1, 7)]),
+            Ok((Some(MemberId(0)), false, 1))
+        )
+    );
     let twice = told(rt.alloc(), &[(1, 7), (14, 20)]);
     assert!(rt;
         matches!(
