@@ -23,7 +23,7 @@ location_of s (typing.reads at f h m) = (h, m)
 
 module _ (s : Setting) (scope : Scope) (names : Names) (p : Program) (sees : Sees s scope names p) where
   -- a value is pure, and a permission isn't
-  pure_value : {e : written.Expr} {t : ValueType} → typing.HasType s e t → is_pure names e ≡ true
+  pub pure_value : {e : written.Expr} {t : ValueType} → typing.HasType s e t → is_pure names e ≡ true
   pure_value (typing.number at n) = refl
   pure_value (typing.truth at b) = refl
   pure_value (typing.nulls at) = refl
@@ -55,7 +55,7 @@ module _ (s : Setting) (scope : Scope) (names : Names) (p : Program) (sees : See
   pure_value (typing.olds at h o) = refl
   pure_value (typing.unfoldings at i m h k g) = refl
 
-  impure : {e : written.Expr} → typing.IsPermission s e → is_pure names e ≡ false
+  pub impure : {e : written.Expr} → typing.IsPermission s e → is_pure names e ≡ false
   impure (typing.location at q f h k) = refl
   impure (typing.share_of at q i m h k) = refl
   impure (typing.instance at i {ts = ts} {has_body = b} m h) = ap not (sees.members.is_predicate i ts b m)
