@@ -4,6 +4,7 @@ use Rattle.vx_ends.specs.declared.piece.Piece.{Piece}
 use Rattle.vx_ends.specs.Dialogue.{sent, got}
 use Rattle.vx_sexp.specs.declared.token.Token.{Token}
 use Rattle.vx_smt_meaning.specs.Commands.{Command, CheckSat, GetProof}
+use Rattle.vx_smt_meaning.specs.Names.{AreCommands}
 use Rattle.vx_smt_meaning.specs.Replies.{Items}
 use Rattle.vx_smt_meaning.specs.Dialogues.{Answers}
 use Rattle.vx_smt_text.specs.Text.{commands_text}
@@ -20,13 +21,14 @@ wanted_by CheckSat = wanted.Answer
 wanted_by GetProof = wanted.Proof
 wanted_by c = wanted.Success
 
--- What was sent begins with the text of some commands and of one more. The first items of what was got answer the former lawfully; what follows them is told of the last one.
+-- What was sent begins with the text of some commands and of one more, whose names are spelled. The first items of what was got answer the former lawfully; what follows them is told of the last one.
 pub record Stops (pieces : List Piece) (Told : Wanted → List ℕ → Type 0) : Type 0 where
   pub before : List Command
   pub command : Command
   pub sent_later : List ℕ
   pub items : List (List Token)
   pub next : List ℕ
+  pub spelled : AreCommands (before ++ command ∷ [])
   pub sent_is : sent pieces ≡ commands_text (before ++ command ∷ []) ++ sent_later
   pub heard : Items (got pieces) items next
   pub lawful : Answers before items

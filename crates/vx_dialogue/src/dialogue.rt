@@ -50,7 +50,7 @@ impl<L: Link> Dialogue<L> {
         ensures told { OnOk result ((commands : List Spec.Command) (checks : List Check) → Gathers L.dialogue self.old commands checks → Gathers L.dialogue self.new commands checks) }
         ensures count { OnOk result (self.new.count ≡ 0) }
         ensures same { (self.new.in_member ≡ self.old.in_member) × (self.new.owed ≡ self.old.owed) × (self.new.failed ≡ self.old.failed) }
-        ensures fault { IfErr result (λ talk. (commands : List Spec.Command) (checks : List Check) → Gathers L.dialogue self.old commands checks → Breaks talk (L.dialogue self.new.link) checks) }
+        ensures fault { IfErr result (λ talk. (commands : List Spec.Command) (checks : List Check) → Gathers L.dialogue self.old commands checks → AreCommands commands → Breaks talk (L.dialogue self.new.link) checks) }
         ensures grows { Grows (L.dialogue self.old.link) (L.dialogue self.new.link) }
         ensures cause { HasCause Talk.Pipe (L.faults self.old.link) (L.faults self.new.link) result }
         ensures steady { IsSteady L.steady L.faults self.old.link → (commands : List Spec.Command) (checks : List Check) → Gathers L.dialogue self.old commands checks → AreCommands commands → IsSteady L.steady L.faults self.new.link }
@@ -67,7 +67,7 @@ impl<L: Link> Dialogue<L> {
         ensures told { OnOk result ((commands : List Spec.Command) (checks : List Check) → Gathers L.dialogue self.old commands checks → Gathers L.dialogue self.new commands checks) }
         ensures count { OnOk result (self.new.count < 256) }
         ensures same { (self.new.in_member ≡ self.old.in_member) × (self.new.owed ≡ self.old.owed) × (self.new.failed ≡ self.old.failed) }
-        ensures fault { IfErr result (λ talk. (commands : List Spec.Command) (checks : List Check) → Gathers L.dialogue self.old commands checks → Breaks talk (L.dialogue self.new.link) checks) }
+        ensures fault { IfErr result (λ talk. (commands : List Spec.Command) (checks : List Check) → Gathers L.dialogue self.old commands checks → AreCommands commands → Breaks talk (L.dialogue self.new.link) checks) }
         ensures grows { Grows (L.dialogue self.old.link) (L.dialogue self.new.link) }
         ensures cause { HasCause Talk.Pipe (L.faults self.old.link) (L.faults self.new.link) result }
         ensures steady { IsSteady L.steady L.faults self.old.link → (commands : List Spec.Command) (checks : List Check) → Gathers L.dialogue self.old commands checks → AreCommands commands → IsSteady L.steady L.faults self.new.link }
@@ -85,7 +85,7 @@ impl<L: Link> Dialogue<L> {
         ensures told { OnOk result (is_plain (command c.now) ≡ true → (commands : List Spec.Command) (checks : List Check)
             → Gathers L.dialogue self.old commands checks → Gathers L.dialogue self.new (commands ++ command c.now ∷ []) checks) }
         ensures same { (self.new.in_member ≡ self.old.in_member) × (self.new.owed ≡ self.old.owed) × (self.new.failed ≡ self.old.failed) }
-        ensures fault { IfErr result (λ talk. (commands : List Spec.Command) (checks : List Check) → Gathers L.dialogue self.old commands checks → Breaks talk (L.dialogue self.new.link) checks) }
+        ensures fault { IfErr result (λ talk. (commands : List Spec.Command) (checks : List Check) → Gathers L.dialogue self.old commands checks → AreCommands commands → Breaks talk (L.dialogue self.new.link) checks) }
         ensures grows { Grows (L.dialogue self.old.link) (L.dialogue self.new.link) }
         ensures cause { HasCause Talk.Pipe (L.faults self.old.link) (L.faults self.new.link) result }
         ensures steady { IsSteady L.steady L.faults self.old.link → (commands : List Spec.Command) (checks : List Check) → Gathers L.dialogue self.old commands checks → AreCommands commands → IsSteady L.steady L.faults self.new.link }
@@ -101,7 +101,7 @@ impl<L: Link> Dialogue<L> {
         ensures told { OnOk result (ArePlain (map command all.now) → (commands : List Spec.Command) (checks : List Check)
             → Gathers L.dialogue self.old commands checks → Gathers L.dialogue self.new (commands ++ map command all.now) checks) }
         ensures same { (self.new.in_member ≡ self.old.in_member) × (self.new.owed ≡ self.old.owed) × (self.new.failed ≡ self.old.failed) }
-        ensures fault { IfErr result (λ talk. ArePlain (map command all.now) → (commands : List Spec.Command) (checks : List Check) → Gathers L.dialogue self.old commands checks → Breaks talk (L.dialogue self.new.link) checks) }
+        ensures fault { IfErr result (λ talk. ArePlain (map command all.now) → (commands : List Spec.Command) (checks : List Check) → Gathers L.dialogue self.old commands checks → AreCommands (commands ++ map command all.now) → Breaks talk (L.dialogue self.new.link) checks) }
         ensures grows { Grows (L.dialogue self.old.link) (L.dialogue self.new.link) }
         ensures cause { HasCause Talk.Pipe (L.faults self.old.link) (L.faults self.new.link) result }
         ensures steady { ArePlain (map command all.now) → IsSteady L.steady L.faults self.old.link → (commands : List Spec.Command) (checks : List Check) → Gathers L.dialogue self.old commands checks → AreCommands (commands ++ map command all.now) → IsSteady L.steady L.faults self.new.link }
@@ -118,7 +118,7 @@ impl<L: Link> Dialogue<L> {
             → Gathers L.dialogue self.old commands checks → Gathers L.dialogue self.new (commands ++ preamble certify (map declared_symbol functions.now)) checks) }
         ensures count { OnOk result (self.new.count ≡ 0) }
         ensures same { (self.new.in_member ≡ self.old.in_member) × (self.new.owed ≡ self.old.owed) × (self.new.failed ≡ self.old.failed) }
-        ensures fault { IfErr result (λ talk. (commands : List Spec.Command) (checks : List Check) → Gathers L.dialogue self.old commands checks → Breaks talk (L.dialogue self.new.link) checks) }
+        ensures fault { IfErr result (λ talk. (commands : List Spec.Command) (checks : List Check) → Gathers L.dialogue self.old commands checks → AreCommands (commands ++ preamble certify (map declared_symbol functions.now)) → Breaks talk (L.dialogue self.new.link) checks) }
         ensures grows { Grows (L.dialogue self.old.link) (L.dialogue self.new.link) }
         ensures cause { HasCause Talk.Pipe (L.faults self.old.link) (L.faults self.new.link) result }
         ensures steady { IsSteady L.steady L.faults self.old.link → (commands : List Spec.Command) (checks : List Check) → Gathers L.dialogue self.old commands checks → AreCommands (commands ++ preamble certify (map declared_symbol functions.now)) → IsSteady L.steady L.faults self.new.link }
@@ -140,7 +140,7 @@ impl<L: Link> Dialogue<L> {
         requires { L.dialogue link ≡ [] }
         ensures stands { IfOk result (λ d. let commands = preamble certify (map declared_symbol functions.now) in Stands L.dialogue (stack_of commands) d commands []) }
         ensures free { IfOk result (λ d. IsFree d × (has_failed d ≡ false) × (is_in_member d ≡ false)) }
-        ensures fault { IfErr result (λ e. Breaks e.1 (L.dialogue e.0) []) }
+        ensures fault { IfErr result (λ e. AreCommands (preamble certify (map declared_symbol functions.now)) → Breaks e.1 (L.dialogue e.0) []) }
         ensures cause { MatchResult result (λ d. L.faults link ≤ L.faults (link_of d)) (λ e. HasCause Talk.Pipe (L.faults link) (L.faults e.0) (gives e.1)) }
         ensures steady { IsSteady L.steady L.faults link → AreCommands (preamble certify (map declared_symbol functions.now)) → MatchResult result (λ d. IsSteady L.steady L.faults (link_of d)) (λ e. IsSteady L.steady L.faults e.0) }
         ensures open { MatchResult result (λ _. Unit {0}) (λ e. e.1 ≡ Talk.Closed → ⊥) }
@@ -167,7 +167,7 @@ impl<L: Link> Dialogue<L> {
         ensures asked { OnOk result (IsAsked self.new) }
         ensures member { OnOk result (self.new.in_member ≡ true) }
         ensures failed { self.new.failed ≡ self.old.failed }
-        ensures fault { IfErr result (λ talk. (commands : List Spec.Command) (checks : List Check) → Gathers L.dialogue self.old commands checks → Breaks talk (L.dialogue self.new.link) checks) }
+        ensures fault { IfErr result (λ talk. (commands : List Spec.Command) (checks : List Check) → Gathers L.dialogue self.old commands checks → AreCommands commands → Breaks talk (L.dialogue self.new.link) checks) }
         ensures grows { Grows (L.dialogue self.old.link) (L.dialogue self.new.link) }
         ensures cause { HasCause Talk.Pipe (L.faults self.old.link) (L.faults self.new.link) result }
         ensures steady { IsSteady L.steady L.faults self.old.link → (commands : List Spec.Command) (checks : List Check) → Gathers L.dialogue self.old commands checks → AreCommands commands → IsSteady L.steady L.faults self.new.link }
@@ -194,7 +194,7 @@ impl<L: Link> Dialogue<L> {
         ensures asked { OnOk result (IsAsked self.new) }
         ensures member { OnOk result (self.new.in_member ≡ true) }
         ensures failed { self.new.failed ≡ self.old.failed }
-        ensures fault { IfErr result (λ talk. (commands : List Spec.Command) (checks : List Check) → Gathers L.dialogue self.old commands checks → Breaks talk (L.dialogue self.new.link) checks) }
+        ensures fault { IfErr result (λ talk. (commands : List Spec.Command) (checks : List Check) → Gathers L.dialogue self.old commands checks → AreCommands (commands ++ question self.old.in_member (map shared path.now) (shared condition.now)) → Breaks talk (L.dialogue self.new.link) checks) }
         ensures grows { Grows (L.dialogue self.old.link) (L.dialogue self.new.link) }
         ensures cause { HasCause Talk.Pipe (L.faults self.old.link) (L.faults self.new.link) result }
         ensures steady { IsSteady L.steady L.faults self.old.link → (commands : List Spec.Command) (checks : List Check) → Gathers L.dialogue self.old commands checks → AreCommands (commands ++ question self.old.in_member (map shared path.now) (shared condition.now)) → IsSteady L.steady L.faults self.new.link }
@@ -218,7 +218,7 @@ impl<L: Link> Dialogue<L> {
             ((commands ++ question (is_in_member self.old) (map shared path.now) (shared condition.now)) ++ Spec.CheckSat ∷ []) checks) }
         ensures asked { IsAsked self.new }
         ensures fault { IfErr result (λ talk. (base : List Level) (commands : List Spec.Command) (checks : List Check) → Stands L.dialogue base self.old commands checks
-            → Breaks talk (L.dialogue (link_of self.new)) checks) }
+            → AreCommands (commands ++ question (is_in_member self.old) (map shared path.now) (shared condition.now)) → Breaks talk (L.dialogue (link_of self.new)) checks) }
         ensures grows { Grows (L.dialogue (link_of self.old)) (L.dialogue (link_of self.new)) }
         ensures cause { HasCause Talk.Pipe (L.faults (link_of self.old)) (L.faults (link_of self.new)) result }
         ensures steady { IsSteady L.steady L.faults (link_of self.old) → (base : List Level) (commands : List Spec.Command) (checks : List Check) → Stands L.dialogue base self.old commands checks
@@ -244,7 +244,7 @@ impl<L: Link> Dialogue<L> {
             → Gathers L.dialogue self.new (commands ++ Spec.Pop 1 ∷ []) (checks ++ told_check (stack_of commands) reply ∷ [])) }
         ensures free { OnOk result ((self.new.owed ≡ None) × (self.new.count ≡ 1)) }
         ensures same { (self.new.in_member ≡ self.old.in_member) × (self.new.failed ≡ self.old.failed) }
-        ensures fault { IfErr result (λ talk. self.old.owed ≡ Some owed → (commands : List Spec.Command) (checks : List Check) → Waits L.dialogue self.old commands checks → Breaks talk (L.dialogue self.new.link) checks) }
+        ensures fault { IfErr result (λ talk. self.old.owed ≡ Some owed → (commands : List Spec.Command) (checks : List Check) → Waits L.dialogue self.old commands checks → AreCommands commands → Breaks talk (L.dialogue self.new.link) checks) }
         ensures grows { Grows (L.dialogue self.old.link) (L.dialogue self.new.link) }
         ensures cause { HasCause Talk.Pipe (L.faults self.old.link) (L.faults self.new.link) result }
         ensures steady { IsSteady L.steady L.faults self.old.link → self.old.owed ≡ Some owed → (commands : List Spec.Command) (checks : List Check) → Waits L.dialogue self.old commands checks → AreCommands commands → IsSteady L.steady L.faults self.new.link }
@@ -269,7 +269,7 @@ impl<L: Link> Dialogue<L> {
             → Stands L.dialogue base self.new (commands ++ Spec.Pop 1 ∷ []) (checks ++ check_of base path condition reply ∷ [])) }
         ensures free { IsFree self.new }
         ensures fault { IfErr result (λ talk. (base : List Level) (path : List Written.Term) (condition : Written.Term) (commands : List Spec.Command) (checks : List Check)
-            → Asks L.dialogue base path condition self.old commands checks → Breaks talk (L.dialogue (link_of self.new)) checks) }
+            → Asks L.dialogue base path condition self.old commands checks → AreCommands commands → Breaks talk (L.dialogue (link_of self.new)) checks) }
         ensures grows { Grows (L.dialogue (link_of self.old)) (L.dialogue (link_of self.new)) }
         ensures cause { HasCause Talk.Pipe (L.faults (link_of self.old)) (L.faults (link_of self.new)) result }
         ensures steady { IsSteady L.steady L.faults (link_of self.old) → (base : List Level) (path : List Written.Term) (condition : Written.Term) (commands : List Spec.Command) (checks : List Check)
@@ -304,7 +304,7 @@ impl<L: Link> Dialogue<L> {
             (checks ++ check_of base (map shared path.now) (shared condition.now) reply ∷ [])) }
         ensures free { IsFree self.new }
         ensures fault { IfErr result (λ talk. (base : List Level) (commands : List Spec.Command) (checks : List Check) → Stands L.dialogue base self.old commands checks
-            → Breaks talk (L.dialogue (link_of self.new)) checks) }
+            → AreCommands (commands ++ question (is_in_member self.old) (map shared path.now) (shared condition.now)) → Breaks talk (L.dialogue (link_of self.new)) checks) }
         ensures grows { Grows (L.dialogue (link_of self.old)) (L.dialogue (link_of self.new)) }
         ensures cause { HasCause Talk.Pipe (L.faults (link_of self.old)) (L.faults (link_of self.new)) result }
         ensures steady { IsSteady L.steady L.faults (link_of self.old) → (base : List Level) (commands : List Spec.Command) (checks : List Check) → Stands L.dialogue base self.old commands checks

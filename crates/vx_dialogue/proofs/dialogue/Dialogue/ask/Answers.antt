@@ -15,8 +15,9 @@ returns-clause-reply g c =
 
 pub returns-clause-fault : goal.returns-clause-fault
 returns-clause-fault g c =
-    if_err_map c.take.result _ _ (λ talk explained. λ base commands checks stands.
-    explained base (map shared c.args.path.now) (shared c.args.condition.now) _ checks (c.in_ok-post.ensures.asks base commands checks stands))
+    if_err_map c.take.result _ _ (λ talk explained. λ base commands checks stands named.
+    explained base (map shared c.args.path.now) (shared c.args.condition.now) _ checks (c.in_ok-post.ensures.asks base commands checks stands)
+    (commands_join (commands ++ question (is_in_member c.args.self.now) (map shared c.args.path.now) (shared c.args.condition.now)) (CheckSat ∷ []) named (tt, tt)))
     c.take.ensures.fault
 
 pub returns-clause-steady : goal.returns-clause-steady

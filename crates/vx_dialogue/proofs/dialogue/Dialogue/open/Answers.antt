@@ -15,7 +15,7 @@ returns-in-Ok-clause-stands g c =
 
 pub returns-in-Err-clause-fault : goal.returns-in-Err-clause-fault
 returns-in-Err-clause-fault g c =
-    rw c.close.ensures (c.in-Err.ensures.fault [] [] (gathers_none g.L.Link.dialogue _ c.requires (search rules) refl (search rules)))
+    λ named. rw c.close.ensures (c.in-Err.ensures.fault [] [] (gathers_none g.L.Link.dialogue _ c.requires (search rules) refl (search rules)) named)
 
 pub returns-in-Ok-clause-steady : goal.returns-in-Ok-clause-steady
 returns-in-Ok-clause-steady g c = λ steady named. c.start.ensures.steady steady [] [] (gathers_none g.L.Link.dialogue _ c.requires (search rules) refl (search rules)) named

@@ -11,7 +11,7 @@ returns-in-Ok-clause-asks g c = λ base commands checks stands. record {
 }
 
 pub returns-in-Err-clause-fault : goal.returns-in-Err-clause-fault
-returns-in-Err-clause-fault g c = λ base commands checks stands. c.in-Err.ensures.fault commands checks stands.told
+returns-in-Err-clause-fault g c = λ base commands checks stands named. c.in-Err.ensures.fault commands checks stands.told named
 
 pub returns-in-Ok-clause-steady : goal.returns-in-Ok-clause-steady
 returns-in-Ok-clause-steady g c = λ steady base commands checks stands named. c.post_all.ensures.steady steady commands checks stands.told named

@@ -1,4 +1,4 @@
-use Rattle.std.proofs.Common.{rules, ◌≡◌, ◌++◌, ◌∷◌, [], map, subst}
+use Rattle.std.proofs.Common.{rules, ◌≡◌, ◌++◌, ◌∷◌, [], map, subst, sym}
 use Rattle.vx_smt_meaning.specs.Commands.{CheckSat}
 use Rattle.vx_smt_meaning.specs.Dialogues.{ArePlain}
 use Rattle.vx_smt_meaning.specs.Views.{command}
@@ -28,8 +28,8 @@ returns-in_err-say_all-clause-fault g c =
     let member = c.args.self.now.in_member in
     let all : map command c.deref.result.now ≡ question member path condition = search rules in
     let plain : ArePlain (map command c.deref.result.now) = rw all (plain_question member path condition) in
-    let p = err_from_is_err_and c.from_residual-in_err-say_all.result c.from_residual-in_err-say_all.ensures.1 in rw (p.1, p.2) (λ commands checks told.
-    c.in_err-say_all.ensures.fault plain commands checks told)
+    let p = err_from_is_err_and c.from_residual-in_err-say_all.result c.from_residual-in_err-say_all.ensures.1 in rw (p.1, p.2) (λ commands checks told named.
+    c.in_err-say_all.ensures.fault plain commands checks told (subst (λ x. AreCommands (commands ++ x)) (sym all) named))
 
 pub returns-clause-fault : goal.returns-clause-fault
 returns-clause-fault g c =
@@ -38,7 +38,8 @@ returns-clause-fault g c =
     let member = c.args.self.now.in_member in
     let all : map command c.deref.result.now ≡ question member path condition = search rules in
     let plain : ArePlain (map command c.deref.result.now) = rw all (plain_question member path condition) in
-    if_err_map c.send_check.result _ _ (λ talk broken. λ commands checks told. broken _ checks (c.in_ok-say_all.ensures.told plain commands checks told)) c.send_check.ensures.fault
+    if_err_map c.send_check.result _ _ (λ talk broken. λ commands checks told named. broken (commands ++ map command c.deref.result.now) checks (c.in_ok-say_all.ensures.told plain commands checks told)
+    (subst (λ x. AreCommands (commands ++ x)) (sym all) named)) c.send_check.ensures.fault
 
 pub returns-in_err-say_all-clause-steady : goal.returns-in_err-say_all-clause-steady
 returns-in_err-say_all-clause-steady g c = λ steady commands checks told named.

@@ -33,8 +33,9 @@ loop-c-preserved g c =
     }
 
 pub returns-in_err-say-clause-fault : goal.returns-in_err-say-clause-fault
-returns-in_err-say-clause-fault g c = let p = err_from_is_err_and c.from_residual.result c.from_residual.ensures.1 in rw (p.1, p.2) (λ plain commands checks told.
-    c.in_err-say.ensures.fault _ checks (c.loop-c.invariant.told plain commands checks told))
+returns-in_err-say-clause-fault g c = let p = err_from_is_err_and c.from_residual.result c.from_residual.ensures.1 in rw (p.1, p.2) (λ plain commands checks told named.
+    c.in_err-say.ensures.fault (commands ++ map command (take c.loop-c.c-index c.args.all.now)) checks (c.loop-c.invariant.told plain commands checks told)
+    (commands_upto command c.args.all.now c.loop-c.c-index commands named))
 
 pub returns-in_err-say-clause-steady : goal.returns-in_err-say-clause-steady
 returns-in_err-say-clause-steady g c = λ plain steady commands checks told named.

@@ -18,11 +18,11 @@ returns-clause-told g c = λ commands checks told.
     waits_sent dialogue room _ c.send_all.ensures.pieces c.in_ok-make_room.ensures.count sent_on cleared refl c.send_all.ensures.got refl commands checks before
 
 pub returns-in_err-make_room-clause-fault : goal.returns-in_err-make_room-clause-fault
-returns-in_err-make_room-clause-fault g c = let p = err_from_is_err_and c.from_residual.result c.from_residual.ensures.1 in rw (p.1, p.2) (λ commands checks told.
-    c.in_err-make_room.ensures.fault commands checks told)
+returns-in_err-make_room-clause-fault g c = let p = err_from_is_err_and c.from_residual.result c.from_residual.ensures.1 in rw (p.1, p.2) (λ commands checks told named.
+    c.in_err-make_room.ensures.fault commands checks told named)
 
 pub returns-in_err-write-clause-fault : goal.returns-in_err-write-clause-fault
-returns-in_err-write-clause-fault g c = let p = err_from_is_err_and c.from_residual-in_err-write.result c.from_residual-in_err-write.ensures.1 in rw p.1 (λ commands checks told.
+returns-in_err-write-clause-fault g c = let p = err_from_is_err_and c.from_residual-in_err-write.result c.from_residual-in_err-write.ensures.1 in rw p.1 (λ commands checks told named.
     breaks_want p.0 _ checks p.2 (tells_failed _ checks (gathers_tells g.L.Link.dialogue c.make_room.new.self commands checks (c.in_ok-make_room.ensures.told commands checks told))))
 
 pub returns-in_err-send_all-clause-fault : goal.returns-in_err-send_all-clause-fault
@@ -31,7 +31,7 @@ returns-in_err-send_all-clause-fault g c =
     let room = c.make_room.new.self in
     let batch : c.deref.result.now ≡ room.batch.items ++ command_text CheckSat = search rules in
     let begun = subst (λ x. (rest : List ℕ) × (sent (dialogue c.send_all.new.link) ++ rest ≡ sent (dialogue room.link) ++ x)) batch c.send_all.ensures.begun in
-    let p = err_from_is_err_and c.from_residual-in_err-send_all.result c.from_residual-in_err-send_all.ensures.1 in rw p.1 (λ commands checks told.
+    let p = err_from_is_err_and c.from_residual-in_err-send_all.result c.from_residual-in_err-send_all.ensures.1 in rw p.1 (λ commands checks told named.
     breaks_link _ p.0 (dialogue c.send_all.new.link) checks p.2
     (check_tells dialogue room commands checks (dialogue c.send_all.new.link) begun c.send_all.ensures.got (c.in_ok-make_room.ensures.told commands checks told)))
 

@@ -1,4 +1,4 @@
-use Rattle.std.proofs.Common.{rules, ◌≡◌, ◌++◌, map, subst}
+use Rattle.std.proofs.Common.{rules, ◌≡◌, ◌++◌, map, subst, sym}
 use Rattle.vx_smt_meaning.specs.Dialogues.{ArePlain}
 use Rattle.vx_smt_meaning.specs.Views.{command, declared_symbol}
 use Rattle.vx_dialogue.specs.Dialogue.{Gathers, preamble}
@@ -23,15 +23,16 @@ returns-in_err-say_all-clause-fault g c =
     let functions = map declared_symbol c.args.functions.now in
     let all : map command c.deref.result.now ≡ preamble c.args.certify functions = search rules in
     let plain : ArePlain (map command c.deref.result.now) = rw all (plain_preamble c.args.certify functions) in
-    let p = err_from_is_err_and c.from_residual-in_err-say_all.result c.from_residual-in_err-say_all.ensures.1 in rw (p.1, p.2) (λ commands checks told.
-    c.in_err-say_all.ensures.fault plain commands checks told)
+    let p = err_from_is_err_and c.from_residual-in_err-say_all.result c.from_residual-in_err-say_all.ensures.1 in rw (p.1, p.2) (λ commands checks told named.
+    c.in_err-say_all.ensures.fault plain commands checks told (subst (λ x. AreCommands (commands ++ x)) (sym all) named))
 
 pub returns-clause-fault : goal.returns-clause-fault
 returns-clause-fault g c =
     let functions = map declared_symbol c.args.functions.now in
     let all : map command c.deref.result.now ≡ preamble c.args.certify functions = search rules in
     let plain : ArePlain (map command c.deref.result.now) = rw all (plain_preamble c.args.certify functions) in
-    if_err_map c.flush.result _ _ (λ talk broken. λ commands checks told. broken _ checks (c.in_ok-say_all.ensures.told plain commands checks told)) c.flush.ensures.fault
+    if_err_map c.flush.result _ _ (λ talk broken. λ commands checks told named. broken (commands ++ map command c.deref.result.now) checks (c.in_ok-say_all.ensures.told plain commands checks told)
+    (subst (λ x. AreCommands (commands ++ x)) (sym all) named)) c.flush.ensures.fault
 
 pub returns-in_err-say_all-clause-steady : goal.returns-in_err-say_all-clause-steady
 returns-in_err-say_all-clause-steady g c = λ steady commands checks told named.

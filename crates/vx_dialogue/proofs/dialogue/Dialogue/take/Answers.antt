@@ -16,7 +16,7 @@ returns-in-Ok-clause-reply g c = λ base path condition commands checks asks.
     }
 
 pub returns-in-Err-clause-fault : goal.returns-in-Err-clause-fault
-returns-in-Err-clause-fault g c = λ base path condition commands checks asks. c.in-Err.ensures.fault c.in-Some.is commands checks asks.told
+returns-in-Err-clause-fault g c = λ base path condition commands checks asks named. c.in-Err.ensures.fault c.in-Some.is commands checks asks.told named
 
 pub returns-in-Ok-clause-steady : goal.returns-in-Ok-clause-steady
 returns-in-Ok-clause-steady g c = λ steady base path condition commands checks asks named. c.take_all.ensures.steady steady c.in-Some.is commands checks asks.told named
