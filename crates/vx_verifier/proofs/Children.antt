@@ -5,6 +5,7 @@ use Rattle.vx_ends.specs.declared.piece.Ending.{Ending}
 use Rattle.vx_ends.specs.Causes.{Rose}
 use Rattle.vx_smt_meaning.specs.Commands.{Command, Level}
 use Rattle.vx_smt_meaning.specs.Dialogues.{Check}
+use Rattle.vx_smt_meaning.specs.Names.{AreCommands}
 use Rattle.vx_smt_meaning.specs.declared.reply.Reply.{Reply}
 use Rattle.vx_dialogue.specs.declared.dialogue.Dialogue.{Dialogue}
 use Rattle.vx_dialogue.specs.declared.talk.Talk.{Talk}
@@ -48,10 +49,10 @@ above_none f g rose = omega arith
 
 module _ {L : Type 0} (dialogue : L → List Piece) (before : List Ending) where
   -- the child is started, and its preamble is said
-  pub talks : (old new : List Ending) (d : Dialogue L) (checks : List Check) (base : List Level) (commands : List Command) → Stands dialogue base d commands []
+  pub talks : (old new : List Ending) (d : Dialogue L) (checks : List Check) (base : List Level) (commands : List Command) → Stands dialogue base d commands [] → AreCommands commands
       → new ≡ old → Hears dialogue before old NotStarted checks → Hears dialogue before new (Talking d) checks
-  talks old new d checks base commands stands same heard =
-      (same ∙ heard.0, base, commands, subst (λ x. Stands dialogue base d commands x) (sym heard.1) stands)
+  talks old new d checks base commands stands named same heard =
+      (same ∙ heard.0, base, commands, subst (λ x. Stands dialogue base d commands x) (sym heard.1) stands, named)
 
   -- no child is started
   pub not_started : (failed : Bool) (old new : List Ending) (checks : List Check) → new ≡ old → Hears dialogue before old NotStarted checks → IsRecorded failed before new checks
@@ -59,22 +60,24 @@ module _ {L : Type 0} (dialogue : L → List Piece) (before : List Ending) where
 
   -- a question is answered
   pub answered : (old new : List Ending) (d d' : Dialogue L) (q : Question) (path : List Term) (r : Reply) (after : List Command → List Command) → path ≡ q.path
+      → ((commands : List Command) → AreCommands commands → AreCommands (after commands))
       → ((base : List Level) (commands : List Command) (checks : List Check) → Stands dialogue base d commands checks
       → Stands dialogue base d' (after commands) (checks ++ check_of base path q.condition r ∷ []))
       → new ≡ old → (checks : List Check) → Hears dialogue before old (Talking d) checks → HearsOf dialogue before new (Talking d') checks q r
-  answered old new d d' q path r after is step same checks heard = (
+  answered old new d d' q path r after is named step same checks heard = (
     check_of heard.1 path q.condition r,
-    (same ∙ heard.0, heard.1, after heard.2, step heard.1 heard.2 checks heard.3),
+    (same ∙ heard.0, heard.1, after heard.2, step heard.1 heard.2 checks heard.3, named heard.2 heard.4),
     subst (λ x. IsCheckOf (record { question = q; reply = r }) (check_of heard.1 x q.condition r)) (sym is) (check_is heard.1 q r),
   )
 
   -- the member is left
   pub left : (old new : List Ending) (child : Child L) (d d' : Dialogue L) (after : List Command → List Command) → child ≡ Talking d
+      → ((commands : List Command) → AreCommands commands → AreCommands (after commands))
       → ((base : List Level) (commands : List Command) (checks : List Check) → Stands dialogue base d commands checks → Stands dialogue base d' (after commands) checks)
       → new ≡ old → (checks : List Check) → Hears dialogue before old child checks → Hears dialogue before new (Talking d') checks
-  left old new child d d' after is step same checks heard =
+  left old new child d d' after is named step same checks heard =
       let h = subst (λ (x : Child L). Hears dialogue before old x checks) is heard in
-      (same ∙ h.0, h.1, after h.2, step h.1 h.2 checks h.3)
+      (same ∙ h.0, h.1, after h.2, step h.1 h.2 checks h.3, named h.2 h.4)
 
   -- a link is handed back
   pub recorded : (old new : List Ending) (d : Dialogue L) (e : Ending) (checks : List Check) → new ≡ old ++ e ∷ [] → e.lane ≡ 0

@@ -7,7 +7,11 @@ mod Members
 mod Questions
 mod Covered
 mod Statuses
-mod Typing
 mod Steady
 mod Replies
+mod OneCommand
+mod Said
+mod Replied
+pub mod Lawful
 mod Spelled
+mod Faultless

@@ -1,5 +1,5 @@
--- Each reply of the companion is one whole expression, and so there is one to each command.
-use Rattle.std.proofs.Common.{◌≡◌, ℕ, zero, suc, ◌<◌, ◌≤◌, List, [], ◌++◌, ◌∷◌, codes, length, drop, refl, ap, ◌∙◌, sym, append_assoc, arith}
+-- There is one reply to each command, since each is one whole expression.
+use Rattle.std.proofs.Common.{◌≡◌, ℕ, zero, suc, ◌<◌, ◌≤◌, List, [], ◌++◌, ◌∷◌, length, drop, ap, ◌∙◌, sym, append_assoc, arith}
 use Rattle.std.proofs.lemmas.List.{length-drop}
 use Rattle.vx_ends.specs.declared.piece.Piece.{Piece}
 use Rattle.vx_ends.specs.declared.piece.Piece.TheVariants.{Got}
@@ -10,30 +10,8 @@ use Rattle.vx_sexp.specs.First.{IsFirst}
 use Rattle.vx_sexp.proofs.Counts.{more_finished, joined_finished, joined_closed, none_closed}
 use Rattle.vx_dialogue.proofs.Joined.{append_none, first_longer}
 use Rattle.vx_dialogue.proofs.Counts.{finished_first}
-use Rattle.vx_sexp.specs.Finished.{finished, finished_at, finished_from, is_closed, closed_at, closed_from}
-use Rattle.vx_sexp.specs.Scanning.{next, scan, move_of, token_at, kind_of}
-use Rattle.vx_sexp.specs.Characters.{is_blank, is_digit, is_symbol_byte, is_word_byte, is_text_byte, is_line_end}
+use Rattle.vx_sexp.specs.Finished.{finished}
 use Rattle.vx_verifier.specs.Companion.{IsOneReply, HasAnswered}
-
-pub success_one : IsOneReply (codes "success\n")
-unfolding finished finished_at finished_from is_closed closed_at closed_from next scan move_of token_at kind_of is_blank is_digit is_symbol_byte is_word_byte
-success_one = (refl, refl)
-
-pub unsat_one : IsOneReply (codes "unsat\n")
-unfolding finished finished_at finished_from is_closed closed_at closed_from next scan move_of token_at kind_of is_blank is_digit is_symbol_byte is_word_byte
-unsat_one = (refl, refl)
-
-pub unknown_one : IsOneReply (codes "unknown\n")
-unfolding finished finished_at finished_from is_closed closed_at closed_from next scan move_of token_at kind_of is_blank is_digit is_symbol_byte is_word_byte
-unknown_one = (refl, refl)
-
-pub unsupported_one : IsOneReply (codes "unsupported\n")
-unfolding finished finished_at finished_from is_closed closed_at closed_from next scan move_of token_at kind_of is_blank is_digit is_symbol_byte is_word_byte
-unsupported_one = (refl, refl)
-
-pub levels_one : IsOneReply (codes "(error \"levels\")\n")
-unfolding finished finished_at finished_from is_closed closed_at closed_from next scan move_of token_at kind_of is_blank is_digit is_symbol_byte is_word_byte is_text_byte is_line_end
-levels_one = (refl, refl)
 
 -- ---- what is answered
 

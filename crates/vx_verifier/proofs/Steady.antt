@@ -25,6 +25,24 @@ each_more : (P : Ending → Type 0) (xs : List Ending) (e : Ending) → Each P x
 each_more P [] e all one = (one, tt)
 each_more P (x ∷ xs) e all one = (all.0, each_more P xs e all.1 one)
 
+-- the names in what was said, and a question more
+pub said_named : (m : Bool) (path : List Term) (q : Question) (commands : List Command) → path ≡ q.path → IsSpelled q → AreCommands commands
+    → AreCommands (commands ++ question m path q.condition)
+said_named m path q commands is spelled named =
+    commands_join commands (question m path q.condition) named
+    (question_named m path q.condition (subst (λ x. AreCommands (question false x q.condition)) (sym is) spelled))
+
+-- and it is asked
+pub asked_named : (m : Bool) (path : List Term) (q : Question) (commands : List Command) → path ≡ q.path → IsSpelled q → AreCommands commands
+    → AreCommands (((commands ++ question m path q.condition) ++ CheckSat ∷ []) ++ Pop 1 ∷ [])
+asked_named m path q commands is spelled named =
+    let said = commands ++ question m path q.condition in
+    commands_join (said ++ CheckSat ∷ []) (Pop 1 ∷ []) (commands_join said (CheckSat ∷ []) (said_named m path q commands is spelled named) (tt, tt)) (tt, tt)
+
+-- the member is left
+pub left_named : (m : Bool) (commands : List Command) → AreCommands commands → AreCommands (commands ++ closing m)
+left_named m commands named = commands_join commands (closing m) named (closing_named m)
+
 module _ {L : Type 0} (dialogue : L → List Piece) (steady_link : L → Bool) (faults_of : L → ℕ) (before : List Ending) (count : ℕ) where
   abbrev Calm : (now : List Ending) (steady : Bool) (faults : ℕ) → Child L → Type 0
   Calm now steady faults child = IsCalmLane dialogue steady_link faults_of before now steady count faults child
@@ -61,11 +79,6 @@ module _ {L : Type 0} (dialogue : L → List Piece) (steady_link : L → Bool) (
       → IsSteadyChild dialogue steady_link faults_of (Talking d)
   opened d base steady stands = (steady, base, preamble false [], [], stands, preamble_named)
 
-  said_named : (m : Bool) (path : List Term) (q : Question) (commands : List Command) → path ≡ q.path → IsSpelled q → AreCommands commands → AreCommands (commands ++ question m path q.condition)
-  said_named m path q commands is spelled named =
-      commands_join commands (question m path q.condition) named
-      (question_named m path q.condition (subst (λ x. AreCommands (question false x q.condition)) (sym is) spelled))
-
   -- a question keeps its link steady
   pub asks_steady : (d : Dialogue L) (link : L) (q : Question) (path : List Term) → path ≡ q.path → IsSpelled q
       → (IsSteady steady_link faults_of (link_of d) → (base : List Level) (commands : List Command) (checks : List Check) → Stands dialogue base d commands checks
@@ -88,7 +101,7 @@ module _ {L : Type 0} (dialogue : L → List Piece) (steady_link : L → Bool) (
         (said ++ CheckSat ∷ []) ++ Pop 1 ∷ [],
         child.3 ++ check_of child.1 path q.condition r ∷ [],
         answer child.1 child.2 child.3 child.4,
-        commands_join (said ++ CheckSat ∷ []) (Pop 1 ∷ []) (commands_join said (CheckSat ∷ []) named (tt, tt)) (tt, tt),
+        asked_named (is_in_member d) path q child.2 is spelled child.5,
       )
 
   -- the member is left
@@ -101,7 +114,7 @@ module _ {L : Type 0} (dialogue : L → List Piece) (steady_link : L → Bool) (
     child.2 ++ closing (is_in_member d),
     child.3,
     on child.1 child.2 child.3 child.4,
-    commands_join child.2 (closing (is_in_member d)) child.5 (closing_named (is_in_member d)),
+    left_named (is_in_member d) child.2 child.5,
   )
 
   -- the spawner is steady at first

@@ -3,6 +3,7 @@ use Rattle.std.specs.Prelude.{◌≡◌, ℕ, ◌<◌, ⊤, Bool, true, false, L
 use Rattle.vx_ast.specs.Syntax.{Program}
 use Rattle.vx_smt_meaning.specs.Commands.{Command, Level}
 use Rattle.vx_smt_meaning.specs.Dialogues.{Check}
+use Rattle.vx_smt_meaning.specs.Names.{AreCommands}
 use Rattle.vx_ends.specs.declared.piece.Piece.{Piece}
 use Rattle.vx_ends.specs.declared.piece.Start.{Start}
 use Rattle.vx_ends.specs.declared.piece.Ending.{Ending}
@@ -53,10 +54,10 @@ is_started NotStarted = false
 is_started (Talking d) = true
 is_started Lost = true
 
--- These are the checks of the lane's child so far, with the links that were handed back before and by now.
+-- These are the checks of the lane's child so far, with the links that were handed back before and by now. The names in what was said to a child that talks are spelled.
 abbrev pub Hears : {L : Type 0} → (L → List Piece) → (before now : List Ending) → Child L → List Check → Type 0
 Hears dialogue before now NotStarted checks = (now ≡ before) × (checks ≡ [])
-Hears dialogue before now (Talking d) checks = (now ≡ before) × (base : List Level) × (commands : List Command) × Stands dialogue base d commands checks
+Hears dialogue before now (Talking d) checks = (now ≡ before) × (base : List Level) × (commands : List Command) × Stands dialogue base d commands checks × AreCommands commands
 Hears dialogue before now Lost checks = IsRecorded true before now checks
 
 -- one check more, of this question with this reply

@@ -3,5 +3,6 @@ pub mod Sequences
 pub mod Causes
 pub mod Headline
 pub mod Lanes
+pub mod Refusals
 pub mod Reported
 pub mod Steady

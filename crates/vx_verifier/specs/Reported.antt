@@ -1,10 +1,9 @@
 -- What `run` promises: what the runs of a report are those of.
-use Rattle.std.specs.Prelude.{◌≡◌, ◌⊎◌, ℕ, ◌<◌, ◌≤◌, ⊤, Bool, true, false, List, [], ◌∷◌, ◌++◌, ◌^◌, ◌-◌, Option, Some, IfSome, IsTrue, codes, length, take, vec_items, string_bytes}
+use Rattle.std.specs.Prelude.{◌≡◌, ◌⊎◌, ℕ, ◌<◌, ◌≤◌, Bool, true, false, List, [], ◌∷◌, ◌++◌, ◌^◌, ◌-◌, Option, Some, None, IfSome, IsTrue, codes, length, take, vec_items, string_bytes}
 use Rattle.std.specs.Str.{bytes_eq}
 use Rattle.vx_ast.specs.Syntax.{Program}
 use Rattle.vx_ast.specs.Written as written
 use Rattle.vx_ast.specs.Resolve as resolve
-use Rattle.vx_types.specs.Settled.{settled}
 use Rattle.vx_parser.specs.Spelling.{Spells}
 use Rattle.vx_words.specs.declared.order.Order.{Order}
 use Rattle.vx_words.specs.declared.order.Order.TheVariants.{Verify, Check, Print}
@@ -13,16 +12,13 @@ use Rattle.vx_report.specs.declared.run.MemberRun.{MemberRun}
 use Rattle.vx_report.specs.declared.status.Status.{Status}
 use Rattle.vx_report.specs.declared.status.Status.TheVariants.{Done, NotVerified, Usage, Unread, Refused, Faulted, Unwritten, Want}
 use Rattle.vx_report.specs.Statuses.{status_among}
-use Rattle.vx_tokens.specs.Tokens.{Token}
-use Rattle.vx_tokens.specs.Text.{Scans, Ending, first_place, unmarked}
-use Rattle.vx_parser.specs.Store.{first_beyond}
 use Rattle.vx_typing.specs.Programs.{IsTyped}
 use Rattle.vx_types.specs.Executed.{is_executed}
 use Rattle.vx_print.specs.Canonical.{canonical_text}
+use Rattle.vx_verifier.specs.declared.reading.Parsed.{Parsed}
+use Rattle.vx_verifier.specs.declared.reading.Parsed.TheVariants as parsed
 use Rattle.vx_verifier.specs.declared.reading.Checked.{Checked}
 use Rattle.vx_verifier.specs.declared.reading.Checked.TheVariants as checked
-use Rattle.vx_verifier.specs.declared.reading.Told.{Told}
-use Rattle.vx_verifier.specs.declared.reading.Told.TheVariants as told
 use Rattle.vx_verifier.specs.declared.saying.Said.{Said}
 use Rattle.vx_verifier.specs.declared.saying.Said.TheVariants as said
 use Rattle.vx_verifier.specs.declared.saying.Saying.{Saying}
@@ -31,32 +27,17 @@ use Rattle.vx_verifier.specs.declared.reading.Loaded.{Loaded}
 use Rattle.vx_verifier.specs.declared.reading.Loaded.TheVariants as loaded
 use Rattle.vx_ends.specs.declared.piece.Ending.{Ending as Ended}
 use Rattle.vx_report.specs.Reports.{report_of}
+use Rattle.vx_typing.specs.Typed.{written_of}
+use Rattle.vx_verifier.specs.Refusals.{RefusesText, RefusesTyping, RefusesExecution, IsSpelledBy}
 use Rattle.vx_verifier.specs.Causes.{NoCountRose}
 use Rattle.vx_verifier.specs.Lanes.{StartsWhere}
 use Rattle.vx_verifier.specs.Headline.{IsSupported, Headline, some_ask}
-
--- some token of the text is none of the store language
-abbrev pub HoldsBeyond : List ℕ → Type 0
-HoldsBeyond text = (ts : List Token) × (e : Ending) × Scans first_place (unmarked text) ts e × (t : Token) × (first_beyond false ts ≡ Some t)
-
--- the program of a text is not executed yet, by a token or by a form
-abbrev pub NotExecuted : List ℕ → written.Program → Type 0
-NotExecuted text p = HoldsBeyond text ⊎ (is_executed p ≡ false)
 
 -- the text spells the program, which is typed and executed
 pub record IsExecuted (text : List ℕ) (p : written.Program) : Type 0 where
   pub spelled : Spells text p
   pub typed : IsTyped p
   pub executed : is_executed p ≡ true
-  pub within : HoldsBeyond text → ⊥
-
--- the text is refused: whatever typed program it spells is not executed yet
-abbrev pub IsRefused : List ℕ → Type 0
-IsRefused text = (p : written.Program) → Spells text p → IsTyped p → NotExecuted text p
-
--- the text spells no typed program
-abbrev pub IsUntyped : List ℕ → Type 0
-IsUntyped text = (p : written.Program) → Spells text p → IsTyped p → ⊥
 
 -- the program that a text spells, with its names settled; it is supported
 pub record IsProgramOf (text : List ℕ) (p : Program) : Type 0 where
@@ -65,16 +46,15 @@ pub record IsProgramOf (text : List ℕ) (p : Program) : Type 0 where
   pub settled : p ≡ resolve.program written
   pub supported : IsSupported p
 
--- a program is that of the text
-abbrev pub IsReadFrom : List ℕ → Told → Type 0
-IsReadFrom text (told.Program t) = IsProgramOf text (settled t)
-IsReadFrom text (told.Refused line) = IsRefused text
+-- a program is the one that the text spells
+abbrev pub IsParsedFrom : List ℕ → Parsed → Type 0
+IsParsedFrom text (parsed.Program p) = IsSpelledBy text (written.written_program p)
+IsParsedFrom text (parsed.Refused line) = RefusesText text (string_bytes line)
 
--- a program is the one that the text spells, and typed
-abbrev pub IsCheckedFrom : List ℕ → Checked → Type 0
-IsCheckedFrom text (checked.Program p) =
-    Spells text (written.written_program p) × ((q : written.Program) → Spells text q → written.written_program p ≡ q) × IsTyped (written.written_program p)
-IsCheckedFrom text (checked.Refused line) = IsUntyped text
+-- a program is typed
+abbrev pub IsCheckedFrom : written.Program → Checked → Type 0
+IsCheckedFrom p (checked.Typed t) = written_of t ≡ p
+IsCheckedFrom p (checked.Refused line) = RefusesTyping p (string_bytes line)
 
 -- the name of the companion stands alone
 abbrev pub is_companion : List (List ℕ) → Bool
@@ -93,12 +73,20 @@ solver_of (Verify file solver) = solver
 solver_of (Check file) = []
 solver_of (Print file) = []
 
--- a program of this file's text has this property, by the spawner that the solver names
-abbrev pub IsReportOf : Order → (holds : Option (List ℕ) → Option (List ℕ)) → (Companion Handed : Program → Type 0) → Type 0
-IsReportOf (Verify file solver) holds Companion Handed =
-    (text : List ℕ) × (p : Program) × IfSome (holds file) (λ known. text ≡ known) × IsProgramOf text p × ByWhom (is_companion solver) (Companion p) (Handed p)
-IsReportOf (Check file) holds Companion Handed = ⊥
-IsReportOf (Print file) holds Companion Handed = ⊥
+abbrev pub solver_by : Option Order → List (List ℕ)
+solver_by None = []
+solver_by (Some order) = solver_of order
+
+-- the program of a text has this property, by the spawner that the solver names
+abbrev pub IsReportFor : (text : List ℕ) → (solver : List (List ℕ)) → (Companion Handed : Program → Type 0) → Type 0
+IsReportFor text solver Companion Handed = (p : Program) × IsProgramOf text p × ByWhom (is_companion solver) (Companion p) (Handed p)
+
+-- so it is with the text of the file that the words name
+abbrev pub IsReportOf : Option Order → (holds : Option (List ℕ) → Option (List ℕ)) → (Companion Handed : Program → Type 0) → Type 0
+IsReportOf (Some (Verify file solver)) holds Companion Handed = (text : List ℕ) × IfSome (holds file) (λ known. text ≡ known) × IsReportFor text solver Companion Handed
+IsReportOf (Some (Check file)) holds Companion Handed = ⊥
+IsReportOf (Some (Print file)) holds Companion Handed = ⊥
+IsReportOf None holds Companion Handed = ⊥
 
 -- the names that were asked: at most this one more
 abbrev pub AsksOnly : Option (List ℕ) → (old new : List (Option (List ℕ))) → Type 0
@@ -146,17 +134,23 @@ StartsOnly (Print file) old new = new ≡ old
 abbrev pub IsPut : Option (List ℕ) → Option (List ℕ) → Status → List ℕ → Type 0
 IsPut old new s text = IfSome old (λ bytes. (new ≡ Some (bytes ++ text)) ⊎ ((s ≡ Unwritten) × (n : ℕ) × (new ≡ Some (bytes ++ take n text))))
 
--- The bytes that `print` puts for a text, with their status: the canonical text of the program that it spells, or a refusal where it spells none.
+-- The bytes that `print` puts for a text, with their status: the canonical text of the program that it spells, or the line of its refusal.
 abbrev pub SaysPrinted : (text : List ℕ) → Status → List ℕ → Type 0
-SaysPrinted text Done bytes = (p : written.Program) × Spells text p × (bytes ≡ canonical_text p)
-SaysPrinted text Refused bytes = (p : written.Program) → Spells text p → ⊥
+SaysPrinted text Done bytes = (p : written.Program) × IsSpelledBy text p × (bytes ≡ canonical_text p)
+SaysPrinted text Refused bytes = RefusesText text bytes
 SaysPrinted text s bytes = ⊥
 
 -- the same of `check`: `ok`, where the program is typed
 abbrev pub SaysChecked : (text : List ℕ) → Status → List ℕ → Type 0
-SaysChecked text Done bytes = (p : written.Program) × Spells text p × IsTyped p × (bytes ≡ codes "ok" ++ 10 ∷ [])
-SaysChecked text Refused bytes = IsUntyped text
+SaysChecked text Done bytes = (p : written.Program) × IsSpelledBy text p × IsTyped p × (bytes ≡ codes "ok\n")
+SaysChecked text Refused bytes = RefusesText text bytes ⊎ ((p : written.Program) × IsSpelledBy text p × RefusesTyping p bytes)
 SaysChecked text s bytes = ⊥
+
+-- the same of `verify`, where there is no report: the program is typed, and not executed yet
+abbrev pub SaysRefused : (text : List ℕ) → Status → List ℕ → Type 0
+SaysRefused text Refused bytes =
+    RefusesText text bytes ⊎ ((p : written.Program) × IsSpelledBy text p × (RefusesTyping p bytes ⊎ (IsTyped p × RefusesExecution text bytes)))
+SaysRefused text s bytes = ⊥
 
 -- what a command says of a text, with its status
 abbrev pub Says : Saying → (text : List ℕ) → Status → List ℕ → Type 0
@@ -167,11 +161,39 @@ abbrev pub SaysSo : Saying → (text : List ℕ) → Said → Type 0
 SaysSo what text (said.Done bytes) = Says what text Done (vec_items bytes)
 SaysSo what text (said.Refused line) = Says what text Refused (string_bytes line)
 
--- what is put for what the file holds; where it isn't read, or memory or the sink fails, nothing is said
-abbrev pub IsSaid : (Says : List ℕ → Status → List ℕ → Type 0) → (holds : Option (List ℕ)) → (old new : Option (List ℕ)) → Status → Type 0
-IsSaid Says holds old new Done = (text bytes : List ℕ) × IfSome holds (λ known. text ≡ known) × Says text Done bytes × IsPut old new Done bytes
-IsSaid Says holds old new Refused = (text bytes : List ℕ) × IfSome holds (λ known. text ≡ known) × (length text ≤ 4194304) × Says text Refused bytes × IsPut old new Refused bytes
-IsSaid Says holds old new s = ⊤
+-- what is put of a file: that it can't be read, only where reading failed; that it is too long; or what is said of its text
+abbrev pub IsToldOf : (Says : List ℕ → Status → List ℕ → Type 0) → (failed : Type 0) → (holds : Option (List ℕ)) → Status → List ℕ → Type 0
+IsToldOf Says failed holds Unread bytes = (failed × (bytes ≡ codes "error: cannot read\n")) ⊎ (IfSome holds (λ text. 4194304 < length text) × (bytes ≡ codes "error: longer than 4194304 bytes\n"))
+IsToldOf Says failed holds s bytes = (text : List ℕ) × IfSome holds (λ known. text ≡ known) × (length text ≤ 4194304) × Says text s bytes
+
+abbrev pub IsToldBy : Order → (failed : Type 0) → (holds : Option (List ℕ) → Option (List ℕ)) → Status → List ℕ → Type 0
+IsToldBy (Verify file solver) failed holds s bytes = IsToldOf SaysRefused failed (holds file) s bytes
+IsToldBy (Check file) failed holds s bytes = IsToldOf (Says saying.Typed) failed (holds file) s bytes
+IsToldBy (Print file) failed holds s bytes = IsToldOf (Says saying.Canonical) failed (holds file) s bytes
+
+-- the line of how to use the program, where the words mean nothing
+abbrev pub usage : List ℕ
+usage = codes "usage: vsil [verify [FILE] [--solver TEXT] [--jobs N] [--certify] | check [FILE] | print [FILE] | gen N | work N [--jobs J]]\n"
+
+abbrev pub IsTold : Option Order → (failed : Type 0) → (holds : Option (List ℕ) → Option (List ℕ)) → Status → List ℕ → Type 0
+IsTold None failed holds s bytes = (s ≡ Usage) × (bytes ≡ usage)
+IsTold (Some order) failed holds s bytes = IsToldBy order failed holds s bytes
+
+-- This text, due with this status, is put, or a beginning of it where the sink failed; there are no runs.
+pub record IsSaid (due : Status) (bytes : List ℕ) (old new : Option (List ℕ)) (runs : List MemberRun) (s : Status) : Type 0 where
+  pub put : IsPut old new s bytes
+  pub status : (s ≡ due) ⊎ (s ≡ Unwritten)
+  pub none : runs ≡ []
+
+-- a text with this property is put
+abbrev pub Puts : (Told : Status → List ℕ → Type 0) → (old new : Option (List ℕ)) → List MemberRun → Status → Type 0
+Puts Told old new runs s = (due : Status) × (bytes : List ℕ) × Told due bytes × IsSaid due bytes old new runs s
+
+-- nothing is put where memory runs out
+pub record PutsNothing (old new : Option (List ℕ)) (runs : List MemberRun) (s : Status) : Type 0 where
+  pub status : s ≡ Want
+  pub put : new ≡ old
+  pub none : runs ≡ []
 
 -- What a report says of a program, by the records of the spawner that was asked: the headline, and exactly the report's bytes. The command is started
 -- exactly where a member has a question, and over a steady spawner no count of faults rises.
@@ -180,26 +202,12 @@ pub record IsReport (p : Program) (before now : List Ended) (faults_then faults_
   pub headline : Headline p before now faults_then faults_now runs
   pub put : IsPut taken_then taken_now s (report_of p runs)
   pub started : StartsWhere (some_ask p (length p)) starts_then starts_now record { lane = 0; command = command }
-  pub calm : IsSupported p → IsTrue steady → faults_then < 2 ^ 64 - 1 → NoCountRose before now faults_then faults_now
+  pub calm : IsTrue steady → faults_then < 2 ^ 64 - 1 → NoCountRose before now faults_then faults_now
 
--- the status of a report, or the sink failed
-abbrev pub IsReported : Status → Type 0
-IsReported Done = ⊤
-IsReported NotVerified = ⊤
-IsReported Faulted = ⊤
-IsReported Unwritten = ⊤
-IsReported s = ⊥
+-- a text's program is reported, or the text refused
+abbrev pub IsVerified : (text : List ℕ) → (solver : List (List ℕ)) → (Companion Handed : Program → Type 0) → (old new : Option (List ℕ)) → List MemberRun → Status → Type 0
+IsVerified text solver Companion Handed old new runs s = Puts (SaysRefused text) old new runs s ⊎ IsReportFor text solver Companion Handed
 
--- A program is reported only where the file's text spells one that is typed and executed, and refused only where it spells none and is not too long.
-abbrev pub IsTaken : (holds : Option (List ℕ)) → Status → Type 0
-IsTaken holds Refused = (text : List ℕ) × IfSome holds (λ known. text ≡ known) × (length text ≤ 4194304) × IsRefused text
-IsTaken holds Done = (text : List ℕ) × IfSome holds (λ known. text ≡ known) × (p : written.Program) × IsExecuted text p
-IsTaken holds NotVerified = (text : List ℕ) × IfSome holds (λ known. text ≡ known) × (p : written.Program) × IsExecuted text p
-IsTaken holds Faulted = (text : List ℕ) × IfSome holds (λ known. text ≡ known) × (p : written.Program) × IsExecuted text p
-IsTaken holds s = ⊤
-
--- what each command says by its status
-abbrev pub IsSaidBy : Order → (holds : Option (List ℕ) → Option (List ℕ)) → (old new : Option (List ℕ)) → Status → Type 0
-IsSaidBy (Verify file solver) holds old new s = IsTaken (holds file) s
-IsSaidBy (Check file) holds old new s = IsSaid (Says saying.Typed) (holds file) old new s
-IsSaidBy (Print file) holds old new s = IsSaid (Says saying.Canonical) (holds file) old new s
+-- What becomes of an order: nothing is put where memory runs out; or a text is put by its cause; or a report.
+abbrev pub IsAnswer : Option Order → (failed : Type 0) → (holds : Option (List ℕ) → Option (List ℕ)) → (Companion Handed : Program → Type 0) → (old new : Option (List ℕ)) → List MemberRun → Status → Type 0
+IsAnswer order failed holds Companion Handed old new runs s = PutsNothing old new runs s ⊎ Puts (IsTold order failed holds) old new runs s ⊎ IsReportOf order holds Companion Handed

@@ -1,6 +1,6 @@
 //! The members of a program, each executed by the machine and its questions asked of the lane's child.
 
-ghost use Rattle.std.specs.Prelude.{◌≡◌, ℕ, ◌+◌, ◌-◌, ◌*◌, ◌<◌, ◌≤◌, ◌^◌, ◌||◌, IsTrue, ◌++◌, ◌∷◌, ◌⊎◌, [], List, IfOk, length, true};
+ghost use Rattle.std.specs.Prelude.{◌≡◌, ℕ, ◌+◌, ◌-◌, ◌*◌, ◌<◌, ◌≤◌, ◌^◌, ◌||◌, IsTrue, ◌++◌, ◌∷◌, ◌⊎◌, [], List, IfOk, length, true, false};
 ghost use Rattle.vx_ends.specs.declared.piece.Start.{Start};
 ghost use Rattle.vx_ends.specs.declared.piece.Ending.{Ending};
 ghost use Rattle.vx_smt_meaning.specs.Dialogues.{Check};
@@ -9,18 +9,25 @@ ghost use Rattle.vx_report.specs.Reports.{AreNamed, is_faulted};
 ghost use Rattle.vx_machine.specs.Runs.{Follows, awaits, member_tree};
 ghost use Rattle.vx_verifier.specs.Causes.{HasCauseOf, NoCountRose};
 ghost use Rattle.vx_verifier.specs.Steady.{AllSpelled, AsksSpelled, IsCalmLane};
+ghost use Rattle.vx_types.specs.Executed.{is_executed};
+ghost use Rattle.vx_typing.specs.Typed.{written_of, resolved_of};
 ghost use Rattle.vx_verifier.specs.Headline.{Headline, IsSupported, has_question, some_ask};
 ghost use Rattle.vx_verifier.specs.Lanes as spec;
 ghost use Rattle.vx_verifier.specs.Lanes.{IsHeld, IsRunning, links, is_lost, is_started, Hears, Starts, StartsWhere, Later, Judges, Executes, IsFaultOf};
 
 use crate::lane::{Child, LANE, Trouble, ask, end, leave};
+use crate::program::{methods_are_supported, settled};
 use std::alloc::{AllocError, Global};
 use vx_ast::MemberId;
-use vx_ends::{Parts, Spawner};
+use vx_ends::{Parts, Spawner, Turns};
 use vx_machine::{Ask, Machine, Outcome};
 use vx_report::{MemberRun, Verdict};
 use vx_rules::Reply;
 use vx_types::Settled;
+use vx_typing::Typed;
+
+/// What became of each member with a line, in file order.
+pub type Runs = Vec<MemberRun>;
 
 /// The most checks of a member.
 const LIMIT: u32 = 100_000;
@@ -98,16 +105,18 @@ fn faulted(trouble: Trouble, checks: u32) -> Result<Judged, AllocError>
 }
 
 // Executes a member to its end, or to a fault.
-fn judge<W: Spawner>(
+fn judge<W: Spawner, N: Turns>(
     alloc: Global,
     program: &Settled,
     command: &Parts,
     spawner: &mut W,
+    turns: &mut N,
     child: Child<W::Link>,
     member: MemberId,
 ) -> (Child<W::Link>, Result<Judged, AllocError>)
     requires member { member.0 < length (settled program.now) }
     requires held { IsHeld child (W.owed spawner.old LANE) }
+    requires spelled { AllSpelled (member_tree (settled program.now) member.0) }
     ensures held { IsHeld result.0 (W.owed spawner.new LANE) }
     ensures owed { W.owed spawner.new LANE + links child ≡ W.owed spawner.old LANE + links result.0 }
     ensures told { IfOk result.1 (λ judged. (before : List Ending) (checks : List Check) → Hears W.Link.dialogue before (W.ended spawner.old) child checks
@@ -119,7 +128,7 @@ fn judge<W: Spawner>(
     ensures starts { (before : List Start) → let start : Start = record { lane = LANE; command = command.now } in Starts before (W.starts spawner.old) start child → Starts before (W.starts spawner.new) start result.0 }
     ensures faults { W.faults spawner.old ≤ W.faults spawner.new }
     ensures later { Later (W.ended spawner.old) (W.ended spawner.new) }
-    ensures calm { AllSpelled (member_tree (settled program.now) member.0) → (before : List Ending) (count : ℕ) → IsCalmLane W.Link.dialogue W.Link.steady W.Link.faults before (W.ended spawner.old) (W.steady spawner.old) count (W.faults spawner.old) child
+    ensures calm { (before : List Ending) (count : ℕ) → IsCalmLane W.Link.dialogue W.Link.steady W.Link.faults before (W.ended spawner.old) (W.steady spawner.old) count (W.faults spawner.old) child
         → IsCalmLane W.Link.dialogue W.Link.steady W.Link.faults before (W.ended spawner.new) (W.steady spawner.new) count (W.faults spawner.new) result.0 }
 {
     let mut child = child;
@@ -140,6 +149,8 @@ fn judge<W: Spawner>(
                 return (child, Ok(Judged { verdict, checks }));
             }
         };
+        // One child waits, so any turn is its own.
+        let _turn = turns.pick(1);
         let (kept, reply) = ask(alloc, spawner, command, child, &query);
         child = kept;
         let reply = match reply {
@@ -155,16 +166,18 @@ fn judge<W: Spawner>(
 }
 
 // A member's line.
-fn execute<W: Spawner>(
+fn execute<W: Spawner, N: Turns>(
     alloc: Global,
     program: &Settled,
     command: &Parts,
     spawner: &mut W,
+    turns: &mut N,
     lane: Lane<W::Link>,
     member: MemberId,
 ) -> (Lane<W::Link>, Result<MemberRun, AllocError>)
     requires member { member.0 < length (settled program.now) }
     requires held { IsHeld lane.child (W.owed spawner.old LANE) }
+    requires spelled { AllSpelled (member_tree (settled program.now) member.0) }
     requires room { lane.checks + LIMIT < 2 ^ 64 }
     ensures held { IsHeld result.0.child (W.owed spawner.new LANE) }
     ensures owed { W.owed spawner.new LANE + links lane.child ≡ W.owed spawner.old LANE + links result.0.child }
@@ -178,14 +191,14 @@ fn execute<W: Spawner>(
     ensures starts { (before : List Start) → let start : Start = record { lane = LANE; command = command.now } in Starts before (W.starts spawner.old) start lane.child → Starts before (W.starts spawner.new) start result.0.child }
     ensures faults { W.faults spawner.old ≤ W.faults spawner.new }
     ensures later { Later (W.ended spawner.old) (W.ended spawner.new) }
-    ensures calm { AllSpelled (member_tree (settled program.now) member.0) → (before : List Ending) (count : ℕ) → IsCalmLane W.Link.dialogue W.Link.steady W.Link.faults before (W.ended spawner.old) (W.steady spawner.old) count (W.faults spawner.old) lane.child
+    ensures calm { (before : List Ending) (count : ℕ) → IsCalmLane W.Link.dialogue W.Link.steady W.Link.faults before (W.ended spawner.old) (W.steady spawner.old) count (W.faults spawner.old) lane.child
         → IsCalmLane W.Link.dialogue W.Link.steady W.Link.faults before (W.ended spawner.new) (W.steady spawner.new) count (W.faults spawner.new) result.0.child }
 {
     let Lane {
         child,
         checks: first,
     } = lane;
-    let (child, judged) = judge(alloc, program, command, spawner, child, member);
+    let (child, judged) = judge(alloc, program, command, spawner, turns, child, member);
     let (child, left) = leave(alloc, spawner, child);
     let judged = match judged {
         Ok(judged) => judged,
@@ -222,12 +235,14 @@ fn execute<W: Spawner>(
 }
 
 // The members in file order, and the lane after them.
-fn execute_all<W: Spawner>(
+fn execute_all<W: Spawner, N: Turns>(
     alloc: Global,
     program: &Settled,
     command: &Parts,
     spawner: &mut W,
+    turns: &mut N,
 ) -> (Lane<W::Link>, Result<Vec<MemberRun>, AllocError>)
+    requires spelled { AsksSpelled (settled program.now) }
     ensures held { IsHeld result.0.child (W.owed spawner.new LANE) }
     ensures owed { W.owed spawner.new LANE ≡ W.owed spawner.old LANE + links result.0.child }
     ensures named { IfOk result.1 (λ runs. AreNamed (settled program.now) runs.items) }
@@ -236,7 +251,7 @@ fn execute_all<W: Spawner>(
     ensures starts { let start : Start = record { lane = LANE; command = command.now } in Starts (W.starts spawner.old) (W.starts spawner.new) start result.0.child }
     ensures faults { W.faults spawner.old ≤ W.faults spawner.new }
     ensures later { Later (W.ended spawner.old) (W.ended spawner.new) }
-    ensures calm { AsksSpelled (settled program.now) → IsTrue (W.steady spawner.old)
+    ensures calm { IsTrue (W.steady spawner.old)
         → IsCalmLane W.Link.dialogue W.Link.steady W.Link.faults (W.ended spawner.old) (W.ended spawner.new) (W.steady spawner.new) (W.faults spawner.old) (W.faults spawner.new) result.0.child }
 {
     let mut lane = Lane {
@@ -250,7 +265,7 @@ fn execute_all<W: Spawner>(
             return (lane, Err(AllocError));
         };
         let member = MemberId(number);
-        let (kept, run) = execute(alloc, program, command, spawner, lane, member);
+        let (kept, run) = execute(alloc, program, command, spawner, turns, lane, member);
         lane = kept;
         let run = match run {
             Ok(run) => run,
@@ -263,14 +278,15 @@ fn execute_all<W: Spawner>(
     (lane, Ok(runs))
 }
 
-/// Verifies the members in file order, by one child, which is started at the first question, if there is any, and
-/// handed back at the end, also where memory runs out. The clause `headline` is the promise.
-pub fn verify<W: Spawner>(
+// Verifies the members in file order, by one child, which is handed back at the end.
+fn verify_members<W: Spawner, N: Turns>(
     alloc: Global,
     program: &Settled,
     command: &Parts,
     spawner: &mut W,
-) -> Result<Vec<MemberRun>, AllocError>
+    turns: &mut N,
+) -> Result<Runs, AllocError>
+    requires supported { IsSupported (settled program.now) }
     ensures named { IfOk result (λ runs. AreNamed (settled program.now) runs.items) }
     ensures headline { IfOk result (λ runs. Headline (settled program.now) (W.ended spawner.old) (W.ended spawner.new) (W.faults spawner.old) (W.faults spawner.new) runs.items) }
     ensures starts { let start : Start = record { lane = LANE; command = command.now } in (W.starts spawner.new ≡ W.starts spawner.old) ⊎ (W.starts spawner.new ≡ W.starts spawner.old ++ start ∷ []) }
@@ -279,11 +295,44 @@ pub fn verify<W: Spawner>(
     ensures handed_back { W.owed spawner.new LANE ≡ W.owed spawner.old LANE }
     ensures faults { W.faults spawner.old ≤ W.faults spawner.new }
     ensures later { Later (W.ended spawner.old) (W.ended spawner.new) }
-    ensures steady { IsTrue (W.steady spawner.old) → IsSupported (settled program.now) → W.faults spawner.old < 2 ^ 64 - 1
+    ensures steady { IsTrue (W.steady spawner.old) → W.faults spawner.old < 2 ^ 64 - 1
         → NoCountRose (W.ended spawner.old) (W.ended spawner.new) (W.faults spawner.old) (W.faults spawner.new) }
 {
-    let (lane, runs) = execute_all(alloc, program, command, spawner);
+    let (lane, runs) = execute_all(alloc, program, command, spawner, turns);
     let Lane { child, checks: _ } = lane;
     end(spawner, child);
     runs
+}
+
+/// Verifies the members of a program in file order, by one child, which is started at the first question, if there is any,
+/// and handed back at the end, also where memory runs out. The clause `headline` is the promise. There is one lane so far,
+/// and no certificate is asked for; `turns` says which of the waiting children is read next.
+pub fn verify<W: Spawner, N: Turns>(
+    alloc: Global,
+    typed: &Typed,
+    jobs: u32,
+    command: &Parts,
+    certify: bool,
+    spawner: &mut W,
+    turns: &mut N,
+) -> Result<Runs, AllocError>
+    requires jobs { jobs ≡ 1 }
+    requires certify { certify ≡ false }
+    requires executed { is_executed (written_of typed.now) ≡ true }
+    ensures named { IfOk result (λ runs. AreNamed (resolved_of typed.now) runs.items) }
+    ensures headline { IfOk result (λ runs. Headline (resolved_of typed.now) (W.ended spawner.old) (W.ended spawner.new) (W.faults spawner.old) (W.faults spawner.new) runs.items) }
+    ensures starts { let start : Start = record { lane = LANE; command = command.now } in (W.starts spawner.new ≡ W.starts spawner.old) ⊎ (W.starts spawner.new ≡ W.starts spawner.old ++ start ∷ []) }
+    ensures started { IfOk result (λ _. let start : Start = record { lane = LANE; command = command.now } in
+        StartsWhere (some_ask (resolved_of typed.now) (length (resolved_of typed.now))) (W.starts spawner.old) (W.starts spawner.new) start) }
+    ensures handed_back { W.owed spawner.new LANE ≡ W.owed spawner.old LANE }
+    ensures faults { W.faults spawner.old ≤ W.faults spawner.new }
+    ensures later { Later (W.ended spawner.old) (W.ended spawner.new) }
+    ensures steady { IsTrue (W.steady spawner.old) → W.faults spawner.old < 2 ^ 64 - 1
+        → NoCountRose (W.ended spawner.old) (W.ended spawner.new) (W.faults spawner.old) (W.faults spawner.new) }
+    ensures supported { IsSupported (resolved_of typed.now) }
+{
+    let _ = (jobs, certify);
+    methods_are_supported(typed);
+    let program = settled(alloc, typed)?;
+    verify_members(alloc, &program, command, spawner, turns)
 }

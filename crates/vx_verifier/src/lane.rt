@@ -87,7 +87,8 @@ fn talk<W: Spawner>(
     dialogue: Dialogue<W::Link>,
     query: &Query,
 ) -> (Child<W::Link>, Result<Reply, Trouble>)
-    requires { IsHeld (Child.Talking dialogue) (W.owed spawner.old LANE) }
+    requires held { IsHeld (Child.Talking dialogue) (W.owed spawner.old LANE) }
+    requires spelled { IsSpelled (rules.query query.now) }
     ensures held { IsHeld result.0 (W.owed spawner.new LANE) }
     ensures owed { W.owed spawner.new LANE + 1 ≡ W.owed spawner.old LANE + links result.0 }
     ensures told { IfOk result.1 (λ reply. (before : List Ending) (checks : List Check) → Hears W.Link.dialogue before (W.ended spawner.old) (Child.Talking dialogue) checks
@@ -98,7 +99,7 @@ fn talk<W: Spawner>(
     ensures starts { (before : List Start) (start : Start) → Starts before (W.starts spawner.old) start (Child.Talking dialogue) → Starts before (W.starts spawner.new) start result.0 }
     ensures faults { W.faults spawner.new ≡ W.faults spawner.old }
     ensures later { Later (W.ended spawner.old) (W.ended spawner.new) }
-    ensures calm { IsSpelled (rules.query query.now) → (before : List Ending) (count : ℕ) → IsCalmLane W.Link.dialogue W.Link.steady W.Link.faults before (W.ended spawner.old) (W.steady spawner.old) count (W.faults spawner.old) (Child.Talking dialogue)
+    ensures calm { (before : List Ending) (count : ℕ) → IsCalmLane W.Link.dialogue W.Link.steady W.Link.faults before (W.ended spawner.old) (W.steady spawner.old) count (W.faults spawner.old) (Child.Talking dialogue)
         → IsCalmLane W.Link.dialogue W.Link.steady W.Link.faults before (W.ended spawner.new) (W.steady spawner.new) count (W.faults spawner.new) result.0 }
 {
     let mut dialogue = dialogue;
@@ -126,7 +127,8 @@ pub fn ask<W: Spawner>(
     child: Child<W::Link>,
     query: &Query,
 ) -> (Child<W::Link>, Result<Reply, Trouble>)
-    requires { IsHeld child (W.owed spawner.old LANE) }
+    requires held { IsHeld child (W.owed spawner.old LANE) }
+    requires spelled { IsSpelled (rules.query query.now) }
     ensures held { IsHeld result.0 (W.owed spawner.new LANE) }
     ensures owed { W.owed spawner.new LANE + links child ≡ W.owed spawner.old LANE + links result.0 }
     ensures told { IfOk result.1 (λ reply. (before : List Ending) (checks : List Check) → Hears W.Link.dialogue before (W.ended spawner.old) child checks
@@ -138,7 +140,7 @@ pub fn ask<W: Spawner>(
     ensures starts { (before : List Start) → let start : Start = record { lane = LANE; command = command.now } in Starts before (W.starts spawner.old) start child → Starts before (W.starts spawner.new) start result.0 }
     ensures faults { W.faults spawner.old ≤ W.faults spawner.new }
     ensures later { Later (W.ended spawner.old) (W.ended spawner.new) }
-    ensures calm { IsSpelled (rules.query query.now) → (before : List Ending) (count : ℕ) → IsCalmLane W.Link.dialogue W.Link.steady W.Link.faults before (W.ended spawner.old) (W.steady spawner.old) count (W.faults spawner.old) child
+    ensures calm { (before : List Ending) (count : ℕ) → IsCalmLane W.Link.dialogue W.Link.steady W.Link.faults before (W.ended spawner.old) (W.steady spawner.old) count (W.faults spawner.old) child
         → IsCalmLane W.Link.dialogue W.Link.steady W.Link.faults before (W.ended spawner.new) (W.steady spawner.new) count (W.faults spawner.new) result.0 }
 {
     match child {

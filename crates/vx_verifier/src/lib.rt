@@ -7,11 +7,13 @@ pub mod companion;
 pub mod edge;
 mod execute;
 mod lane;
+mod program;
 mod reading;
 mod saying;
 mod top;
 
-pub use execute::verify;
+pub use execute::{Runs, verify};
+pub use program::supported;
 pub use top::{Ended, run};
 
 #[cfg(test)]

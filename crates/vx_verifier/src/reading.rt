@@ -1,17 +1,16 @@
 //! Loading a text, and reading its program.
 
 ghost use Rattle.std.specs.Prelude.{◌≡◌, IfOk, option_copied};
+ghost use Rattle.vx_ast.specs.Written.{written_program};
 ghost use Rattle.vx_ends.specs.Causes.{Rose};
-ghost use Rattle.vx_verifier.specs.Reported.{AsksOnly, IsLoadedFrom, IsCheckedFrom, IsReadFrom};
+ghost use Rattle.vx_verifier.specs.Reported.{AsksOnly, IsLoadedFrom, IsParsedFrom, IsCheckedFrom};
 
-use crate::answers::{text_refusal, type_refusal, unsettled_refusal};
+use crate::answers::{text_refusal, type_refusal};
 use std::alloc::{AllocError, Global};
 use vx_ast::Program;
 use vx_ends::{Files, LoadFault};
-use vx_parser::{beyond_store, parse};
-use vx_sound::{executed_programs_are_of_the_store, typed_programs_settle_typed};
-use vx_types::{Settled, settle};
-use vx_typing::{check, programs_are_told};
+use vx_parser::parse;
+use vx_typing::{Typed, check};
 
 /// A text, or why there is none.
 #[derive(Drop)]
@@ -19,13 +18,6 @@ pub enum Loaded {
     Text(Vec<u8>),
     Unread,
     TooLong,
-}
-
-/// What reading a program gives: it, or the line of its refusal.
-#[derive(Drop)]
-pub enum Told {
-    Program(Settled),
-    Refused(String),
 }
 
 /// The text of a file, or of standard input where there is no name.
@@ -45,44 +37,36 @@ pub fn load<F: Files>(
     }
 }
 
-/// The typed program of a text, or the line of its refusal.
+/// The program of a text, or the line of its refusal.
 #[derive(Drop)]
-pub enum Checked {
+pub enum Parsed {
     Program(Program),
     Refused(String),
 }
 
-/// Reads and types a text.
-pub fn read_typed(alloc: Global, text: &[u8]) -> Result<Checked, AllocError>
-    ensures { IfOk result (IsCheckedFrom text.now) }
+/// Reads a text.
+pub fn read(alloc: Global, text: &[u8]) -> Result<Parsed, AllocError>
+    ensures { IfOk result (IsParsedFrom text.now) }
 {
-    programs_are_told();
-    let program = match parse(alloc, text) {
-        Ok(program) => program,
-        Err(fault) => return Ok(Checked::Refused(text_refusal(alloc, &fault)?)),
-    };
-    match check(alloc, &program) {
-        Ok(()) => Ok(Checked::Program(program)),
-        Err(fault) => Ok(Checked::Refused(type_refusal(alloc, &fault)?)),
+    match parse(alloc, text) {
+        Ok(program) => Ok(Parsed::Program(program)),
+        Err(fault) => Ok(Parsed::Refused(text_refusal(alloc, &fault)?)),
     }
 }
 
-/// The program of a text, as far as it is executed.
-pub fn read_program(alloc: Global, text: &[u8]) -> Result<Told, AllocError>
-    ensures { IfOk result (IsReadFrom text.now) }
+/// A typed program, or the line of its refusal.
+#[derive(Drop)]
+pub enum Checked<'a> {
+    Typed(Typed<'a>),
+    Refused(String),
+}
+
+/// Types a program.
+pub fn type_of(alloc: Global, program: &Program) -> Result<Checked<'_>, AllocError>
+    ensures { IfOk result (IsCheckedFrom (written_program program.now)) }
 {
-    typed_programs_settle_typed();
-    executed_programs_are_of_the_store();
-    let program = match read_typed(alloc, text)? {
-        Checked::Program(program) => program,
-        Checked::Refused(line) => return Ok(Told::Refused(line)),
-    };
-    match beyond_store(alloc, text) {
-        None => {}
-        Some(fault) => return Ok(Told::Refused(text_refusal(alloc, &fault)?)),
-    }
-    match settle(alloc, &program) {
-        Ok(typed) => Ok(Told::Program(typed)),
-        Err(unsettled) => Ok(Told::Refused(unsettled_refusal(alloc, &unsettled)?)),
+    match check(alloc, program) {
+        Ok(typed) => Ok(Checked::Typed(typed)),
+        Err(fault) => Ok(Checked::Refused(type_refusal(alloc, &fault)?)),
     }
 }

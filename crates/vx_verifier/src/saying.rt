@@ -3,10 +3,8 @@
 ghost use Rattle.std.specs.Prelude.{IfOk};
 ghost use Rattle.vx_verifier.specs.Reported.{SaysSo};
 
-use crate::answers::text_refusal;
-use crate::reading::{Checked, read_typed};
+use crate::reading::{Checked, Parsed, read, type_of};
 use std::alloc::{AllocError, Global};
-use vx_parser::parse;
 use vx_print::print;
 
 /// What a command without a report says of a text.
@@ -41,8 +39,15 @@ impl Saying {
 fn checked(alloc: Global, text: &[u8]) -> Result<Said, AllocError>
     ensures { IfOk result (SaysSo Saying.Typed text.now) }
 {
-    match read_typed(alloc, text)? {
-        Checked::Program(_program) => Ok(Said::Done(Vec::from_slice(alloc, b"ok\n")?)),
+    let program = match read(alloc, text)? {
+        Parsed::Program(program) => program,
+        Parsed::Refused(line) => return Ok(Said::Refused(line)),
+    };
+    match type_of(alloc, &program)? {
+        Checked::Typed(typed) => {
+            typed.typed();
+            Ok(Said::Done(Vec::from_slice(alloc, b"ok\n")?))
+        }
         Checked::Refused(line) => Ok(Said::Refused(line)),
     }
 }
@@ -51,8 +56,8 @@ fn checked(alloc: Global, text: &[u8]) -> Result<Said, AllocError>
 fn canonical(alloc: Global, text: &[u8]) -> Result<Said, AllocError>
     ensures { IfOk result (SaysSo Saying.Canonical text.now) }
 {
-    match parse(alloc, text) {
-        Ok(program) => Ok(Said::Done(print(alloc, &program)?)),
-        Err(fault) => Ok(Said::Refused(text_refusal(alloc, &fault)?)),
+    match read(alloc, text)? {
+        Parsed::Program(program) => Ok(Said::Done(print(alloc, &program)?)),
+        Parsed::Refused(line) => Ok(Said::Refused(line)),
     }
 }

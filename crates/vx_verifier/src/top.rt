@@ -1,25 +1,29 @@
 //! The top call: from the words of the command line to what is put, and the exit status.
 
-ghost use Rattle.std.specs.Prelude.{◌≡◌, ◌⊎◌, ◌++◌, ◌∷◌, [], IfOk, Some, None, true, option_copied};
+ghost use Rattle.std.specs.Prelude.{◌≡◌, ◌⊎◌, ◌++◌, ◌∷◌, [], IfOk, IfErr, Some, None, true, option_copied};
+ghost use Rattle.vx_ast.specs.Written.{written_program};
 ghost use Rattle.vx_ends.specs.Causes.{Rose};
 ghost use Rattle.vx_ends.specs.declared.piece.Start.{Start};
-ghost use Rattle.vx_types.specs.Settled.{settled};
-ghost use Rattle.vx_report.specs.Reports.{report_of};
+ghost use Rattle.vx_types.specs.Executed.{is_executed};
+ghost use Rattle.vx_typing.specs.Typed.{written_of, resolved_of};
 ghost use Rattle.vx_words.specs.Orders.{order_of};
 ghost use Rattle.vx_words.specs.declared.order.Order as meant;
-ghost use Rattle.vx_verifier.specs.Headline.{Headline};
+ghost use Rattle.vx_verifier.specs.Headline.{HasNoFault};
+ghost use Rattle.vx_verifier.specs.Refusals.{IsSpelledBy};
 ghost use Rattle.vx_verifier.specs.Reported as spec;
-ghost use Rattle.vx_verifier.specs.Reported.{ByWhom, IsReport, IsReportOf, IsReported, IsTaken, IsSaid, IsSaidBy, AsksOnly, AsksFileOf, IsStatusOf, StartsOnly, IsPut, IsUnread, IsUnreadFile};
+ghost use Rattle.vx_verifier.specs.Reported.{ByWhom, IsReport, IsAnswer, IsVerified, Puts, IsSaid, IsToldOf, AsksOnly, AsksFileOf, IsStatusOf, StartsOnly, IsPut, IsUnread, IsUnreadFile};
 
-use crate::answers::{TOO_LONG, UNREAD, USAGE};
+use crate::answers::{TOO_LONG, UNREAD, USAGE, text_refusal};
 use crate::companion::Builtin;
-use crate::execute::verify;
-use crate::reading::{Loaded, Told, load, read_program};
+use crate::execute::{Runs, verify};
+use crate::program::{methods_are_supported, settled, supported};
+use crate::reading::{Checked, Loaded, Parsed, load, read, type_of};
 use crate::saying::{Said, Saying};
 use std::alloc::{AllocError, Global};
-use vx_ends::{Files, Parts, PutFault, Sink, Spawner, put_all};
-use vx_report::{MemberRun, Status, status_of, write_report};
-use vx_types::Settled;
+use vx_ast::Program;
+use vx_ends::{Files, Parts, PutFault, RoundRobin, Sink, Spawner, put_all};
+use vx_report::{Status, status_of, write_report};
+use vx_typing::Typed;
 use vx_words::{Order, Text, WordsFault, read_words};
 
 /// How the program ended: its status, and what became of each member with a line, in file order. There are no runs
@@ -27,11 +31,11 @@ use vx_words::{Order, Text, WordsFault, read_words};
 #[derive(Drop)]
 pub struct Ended {
     pub status: Status,
-    pub runs: Vec<MemberRun>,
+    pub runs: Runs,
 }
 
 // Puts these bytes; where the sink fails, that is the status.
-fn put<K: Sink>(out: &mut K, bytes: &[u8], status: Status, runs: Vec<MemberRun>) -> Ended
+fn put<K: Sink>(out: &mut K, bytes: &[u8], status: Status, runs: Runs) -> Ended
     ensures runs { result.runs ≡ runs }
     ensures taken { IsPut (K.taken out.old) (K.taken out.new) result.status bytes.now }
     ensures status { (result.status ≡ status) ⊎ ((result.status ≡ Status.Unwritten) × Rose (K.faults out.old) (K.faults out.new)) }
@@ -46,22 +50,23 @@ fn put<K: Sink>(out: &mut K, bytes: &[u8], status: Status, runs: Vec<MemberRun>)
 }
 
 // Verifies a program, and puts the report.
-#[tactic(auto, using(crate::proofs::Statuses::reported))]
 fn report<K: Sink, W: Spawner>(
     alloc: Global,
-    program: &Settled,
+    typed: &Typed,
     out: &mut K,
     solver: &Parts,
     spawner: &mut W,
 ) -> Result<Ended, AllocError>
-    ensures report { IfOk result (λ ended. IsReport (settled program.now) (W.ended spawner.old) (W.ended spawner.new) (W.faults spawner.old) (W.faults spawner.new) (W.steady spawner.old) (W.starts spawner.old) (W.starts spawner.new) solver.now (K.taken out.old) (K.taken out.new) ended.runs.items ended.status) }
+    requires { is_executed (written_of typed.now) ≡ true }
+    ensures report { IfOk result (λ ended. IsReport (resolved_of typed.now) (W.ended spawner.old) (W.ended spawner.new) (W.faults spawner.old) (W.faults spawner.new) (W.steady spawner.old) (W.starts spawner.old) (W.starts spawner.new) solver.now (K.taken out.old) (K.taken out.new) ended.runs.items ended.status) }
     ensures status { IfOk result (λ ended. IsStatusOf (Rose (K.faults out.old) (K.faults out.new)) ⊥ ⊥ ended.runs.items ended.status) }
-    ensures reported { IfOk result (λ ended. IsReported ended.status) }
     ensures starts { let start : Start = record { lane = 0; command = solver.now } in (W.starts spawner.new ≡ W.starts spawner.old) ⊎ (W.starts spawner.new ≡ W.starts spawner.old ++ start ∷ []) }
+    ensures nothing { IfErr result (λ _. K.taken out.new ≡ K.taken out.old) }
 {
-    let runs = verify(alloc, program, solver, spawner)?;
+    let mut turns = RoundRobin::new();
+    let runs = verify(alloc, typed, 1, solver, false, spawner, &mut turns)?;
     let mut text = String::new(alloc);
-    write_report(&mut text, program, &runs)?;
+    write_report(&mut text, &settled(alloc, typed)?, &runs)?;
     let status = status_of(&runs);
     Ok(put(out, text.as_bytes(), status, runs))
 }
@@ -73,26 +78,43 @@ fn is_companion(solver: &Parts) -> bool
     solver.len() == 1 && solver.part(0) == "builtin"
 }
 
+// Verifies a program by the companion, and puts the report. No member is faulted.
+fn report_by_companion<K: Sink>(
+    alloc: Global,
+    typed: &Typed,
+    solver: &Parts,
+    out: &mut K,
+    builtin: &mut Builtin,
+) -> Result<Ended, AllocError>
+    requires { is_executed (written_of typed.now) ≡ true }
+    ensures report { IfOk result (λ ended. IsReport (resolved_of typed.now) builtin.old.ended.items builtin.new.ended.items 0 0 true builtin.old.starts.items builtin.new.starts.items solver.now (K.taken out.old) (K.taken out.new) ended.runs.items ended.status × HasNoFault ended.runs.items) }
+    ensures status { IfOk result (λ ended. IsStatusOf (Rose (K.faults out.old) (K.faults out.new)) ⊥ ⊥ ended.runs.items ended.status) }
+    ensures nothing { IfErr result (λ _. K.taken out.new ≡ K.taken out.old) }
+{
+    report(alloc, typed, out, solver, builtin)
+}
+
 // Verifies a program by the companion, or by the spawner, as the solver says, and puts the report.
 fn report_by<K: Sink, W: Spawner>(
     alloc: Global,
-    program: &Settled,
-    out: &mut K,
+    typed: &Typed,
     solver: &Parts,
+    out: &mut K,
     spawner: &mut W,
     builtin: &mut Builtin,
 ) -> Result<Ended, AllocError>
-    ensures headline { IfOk result (λ ended. ByWhom (spec.is_companion solver.now)
-        (IsReport (settled program.now) builtin.old.ended.items builtin.new.ended.items 0 0 true builtin.old.starts.items builtin.new.starts.items solver.now (K.taken out.old) (K.taken out.new) ended.runs.items ended.status)
-        (IsReport (settled program.now) (W.ended spawner.old) (W.ended spawner.new) (W.faults spawner.old) (W.faults spawner.new) (W.steady spawner.old) (W.starts spawner.old) (W.starts spawner.new) solver.now (K.taken out.old) (K.taken out.new) ended.runs.items ended.status)) }
+    requires { is_executed (written_of typed.now) ≡ true }
+    ensures report { IfOk result (λ ended. ByWhom (spec.is_companion solver.now)
+        (IsReport (resolved_of typed.now) builtin.old.ended.items builtin.new.ended.items 0 0 true builtin.old.starts.items builtin.new.starts.items solver.now (K.taken out.old) (K.taken out.new) ended.runs.items ended.status × HasNoFault ended.runs.items)
+        (IsReport (resolved_of typed.now) (W.ended spawner.old) (W.ended spawner.new) (W.faults spawner.old) (W.faults spawner.new) (W.steady spawner.old) (W.starts spawner.old) (W.starts spawner.new) solver.now (K.taken out.old) (K.taken out.new) ended.runs.items ended.status)) }
     ensures status { IfOk result (λ ended. IsStatusOf (Rose (K.faults out.old) (K.faults out.new)) ⊥ ⊥ ended.runs.items ended.status) }
-    ensures reported { IfOk result (λ ended. IsReported ended.status) }
     ensures starts { let start : Start = record { lane = 0; command = solver.now } in (W.starts spawner.new ≡ W.starts spawner.old) ⊎ (W.starts spawner.new ≡ W.starts spawner.old ++ start ∷ []) }
+    ensures nothing { IfErr result (λ _. K.taken out.new ≡ K.taken out.old) }
 {
     if is_companion(solver) {
-        report(alloc, program, out, solver, builtin)
+        report_by_companion(alloc, typed, solver, out, builtin)
     } else {
-        report(alloc, program, out, solver, spawner)
+        report(alloc, typed, out, solver, spawner)
     }
 }
 
@@ -105,15 +127,97 @@ fn name_of(file: &Option<Text>) -> Option<&str>
 
 // An end without a report.
 fn say<K: Sink>(alloc: Global, out: &mut K, bytes: &[u8], status: Status) -> Ended
-    ensures runs { result.runs.items ≡ [] }
-    ensures taken { IsPut (K.taken out.old) (K.taken out.new) result.status bytes.now }
+    ensures said { IsSaid status bytes.now (K.taken out.old) (K.taken out.new) result.runs.items result.status }
     ensures status { (result.status ≡ status) ⊎ ((result.status ≡ Status.Unwritten) × Rose (K.faults out.old) (K.faults out.new)) }
 {
     put(out, bytes, status, Vec::new(alloc))
 }
 
+// Verifies a typed program of a text, if it is executed.
+fn verify_typed<K: Sink, W: Spawner>(
+    alloc: Global,
+    text: &[u8],
+    typed: &Typed,
+    solver: &Parts,
+    out: &mut K,
+    spawner: &mut W,
+    builtin: &mut Builtin,
+) -> Result<Ended, AllocError>
+    requires { IsSpelledBy text.now (written_of typed.now) }
+    ensures verified { IfOk result (λ ended. IsVerified text.now solver.now
+        (λ p. IsReport p builtin.old.ended.items builtin.new.ended.items 0 0 true builtin.old.starts.items builtin.new.starts.items solver.now (K.taken out.old) (K.taken out.new) ended.runs.items ended.status × HasNoFault ended.runs.items)
+        (λ p. IsReport p (W.ended spawner.old) (W.ended spawner.new) (W.faults spawner.old) (W.faults spawner.new) (W.steady spawner.old) (W.starts spawner.old) (W.starts spawner.new) solver.now (K.taken out.old) (K.taken out.new) ended.runs.items ended.status)
+        (K.taken out.old) (K.taken out.new) ended.runs.items ended.status) }
+    ensures status { IfOk result (λ ended. IsStatusOf (Rose (K.faults out.old) (K.faults out.new)) ⊥ ⊥ ended.runs.items ended.status) }
+    ensures starts { let start : Start = record { lane = 0; command = solver.now } in (W.starts spawner.new ≡ W.starts spawner.old) ⊎ (W.starts spawner.new ≡ W.starts spawner.old ++ start ∷ []) }
+    ensures nothing { IfErr result (λ _. K.taken out.new ≡ K.taken out.old) }
+{
+    typed.typed();
+    match supported(alloc, text, typed) {
+        Ok(()) => {
+            methods_are_supported(typed);
+            report_by(alloc, typed, solver, out, spawner, builtin)
+        }
+        Err(fault) => Ok(say(
+            alloc,
+            out,
+            text_refusal(alloc, &fault)?.as_bytes(),
+            Status::Refused,
+        )),
+    }
+}
+
+// Verifies the program of a text, if it is typed.
+fn verify_program<K: Sink, W: Spawner>(
+    alloc: Global,
+    text: &[u8],
+    program: &Program,
+    solver: &Parts,
+    out: &mut K,
+    spawner: &mut W,
+    builtin: &mut Builtin,
+) -> Result<Ended, AllocError>
+    requires { IsSpelledBy text.now (written_program program.now) }
+    ensures verified { IfOk result (λ ended. IsVerified text.now solver.now
+        (λ p. IsReport p builtin.old.ended.items builtin.new.ended.items 0 0 true builtin.old.starts.items builtin.new.starts.items solver.now (K.taken out.old) (K.taken out.new) ended.runs.items ended.status × HasNoFault ended.runs.items)
+        (λ p. IsReport p (W.ended spawner.old) (W.ended spawner.new) (W.faults spawner.old) (W.faults spawner.new) (W.steady spawner.old) (W.starts spawner.old) (W.starts spawner.new) solver.now (K.taken out.old) (K.taken out.new) ended.runs.items ended.status)
+        (K.taken out.old) (K.taken out.new) ended.runs.items ended.status) }
+    ensures status { IfOk result (λ ended. IsStatusOf (Rose (K.faults out.old) (K.faults out.new)) ⊥ ⊥ ended.runs.items ended.status) }
+    ensures starts { let start : Start = record { lane = 0; command = solver.now } in (W.starts spawner.new ≡ W.starts spawner.old) ⊎ (W.starts spawner.new ≡ W.starts spawner.old ++ start ∷ []) }
+    ensures nothing { IfErr result (λ _. K.taken out.new ≡ K.taken out.old) }
+{
+    match type_of(alloc, program)? {
+        Checked::Typed(typed) => verify_typed(alloc, text, &typed, solver, out, spawner, builtin),
+        Checked::Refused(line) => Ok(say(alloc, out, line.as_bytes(), Status::Refused)),
+    }
+}
+
+// Verifies the program of a text, if there is one.
+fn verify_text<K: Sink, W: Spawner>(
+    alloc: Global,
+    text: &[u8],
+    solver: &Parts,
+    out: &mut K,
+    spawner: &mut W,
+    builtin: &mut Builtin,
+) -> Result<Ended, AllocError>
+    ensures verified { IfOk result (λ ended. IsVerified text.now solver.now
+        (λ p. IsReport p builtin.old.ended.items builtin.new.ended.items 0 0 true builtin.old.starts.items builtin.new.starts.items solver.now (K.taken out.old) (K.taken out.new) ended.runs.items ended.status × HasNoFault ended.runs.items)
+        (λ p. IsReport p (W.ended spawner.old) (W.ended spawner.new) (W.faults spawner.old) (W.faults spawner.new) (W.steady spawner.old) (W.starts spawner.old) (W.starts spawner.new) solver.now (K.taken out.old) (K.taken out.new) ended.runs.items ended.status)
+        (K.taken out.old) (K.taken out.new) ended.runs.items ended.status) }
+    ensures status { IfOk result (λ ended. IsStatusOf (Rose (K.faults out.old) (K.faults out.new)) ⊥ ⊥ ended.runs.items ended.status) }
+    ensures starts { let start : Start = record { lane = 0; command = solver.now } in (W.starts spawner.new ≡ W.starts spawner.old) ⊎ (W.starts spawner.new ≡ W.starts spawner.old ++ start ∷ []) }
+    ensures nothing { IfErr result (λ _. K.taken out.new ≡ K.taken out.old) }
+{
+    match read(alloc, text)? {
+        Parsed::Program(program) => {
+            verify_program(alloc, text, &program, solver, out, spawner, builtin)
+        }
+        Parsed::Refused(line) => Ok(say(alloc, out, line.as_bytes(), Status::Refused)),
+    }
+}
+
 // Verifies a file, or standard input.
-#[tactic(auto, using(crate::proofs::Statuses::taken))]
 fn verify_file<F: Files, K: Sink, W: Spawner>(
     alloc: Global,
     file: &Option<Text>,
@@ -123,19 +227,17 @@ fn verify_file<F: Files, K: Sink, W: Spawner>(
     spawner: &mut W,
     builtin: &mut Builtin,
 ) -> Result<Ended, AllocError>
-    ensures headline { IfOk result (λ ended. (ended.runs.items ≡ []) ⊎ IsReportOf (Order.Verify file.now solver.now) (F.holds files.old)
-        (λ p. IsReport p builtin.old.ended.items builtin.new.ended.items 0 0 true builtin.old.starts.items builtin.new.starts.items solver.now (K.taken out.old) (K.taken out.new) ended.runs.items ended.status)
-        (λ p. IsReport p (W.ended spawner.old) (W.ended spawner.new) (W.faults spawner.old) (W.faults spawner.new) (W.steady spawner.old) (W.starts spawner.old) (W.starts spawner.new) solver.now (K.taken out.old) (K.taken out.new) ended.runs.items ended.status)) }
-    ensures taken { IfOk result (λ ended. IsTaken (F.holds files.old file.now) ended.status) }
+    ensures answered { IfOk result (λ ended. IsAnswer (Some (Order.Verify file.now solver.now)) (Rose (F.faults files.old) (F.faults files.new)) (F.holds files.old)
+        (λ p. IsReport p builtin.old.ended.items builtin.new.ended.items 0 0 true builtin.old.starts.items builtin.new.starts.items solver.now (K.taken out.old) (K.taken out.new) ended.runs.items ended.status × HasNoFault ended.runs.items)
+        (λ p. IsReport p (W.ended spawner.old) (W.ended spawner.new) (W.faults spawner.old) (W.faults spawner.new) (W.steady spawner.old) (W.starts spawner.old) (W.starts spawner.new) solver.now (K.taken out.old) (K.taken out.new) ended.runs.items ended.status)
+        (K.taken out.old) (K.taken out.new) ended.runs.items ended.status) }
     ensures asked { AsksFileOf (Order.Verify file.now solver.now) (F.asked files.old) (F.asked files.new) }
     ensures status { IfOk result (λ ended. IsStatusOf (Rose (K.faults out.old) (K.faults out.new)) ⊥ (IsUnreadFile (Order.Verify file.now solver.now) (Rose (F.faults files.old) (F.faults files.new)) (F.holds files.old)) ended.runs.items ended.status) }
     ensures starts { StartsOnly (Order.Verify file.now solver.now) (W.starts spawner.old) (W.starts spawner.new) }
+    ensures nothing { IfErr result (λ _. K.taken out.new ≡ K.taken out.old) }
 {
     match load(alloc, files, name_of(file))? {
-        Loaded::Text(text) => match read_program(alloc, &text)? {
-            Told::Program(typed) => report_by(alloc, &typed, out, solver, spawner, builtin),
-            Told::Refused(line) => Ok(say(alloc, out, line.as_bytes(), Status::Refused)),
-        },
+        Loaded::Text(text) => verify_text(alloc, &text, solver, out, spawner, builtin),
         Loaded::Unread => Ok(say(alloc, out, UNREAD.as_bytes(), Status::Unread)),
         Loaded::TooLong => Ok(say(alloc, out, TOO_LONG.as_bytes(), Status::Unread)),
     }
@@ -149,10 +251,10 @@ fn say_file<F: Files, K: Sink>(
     files: &mut F,
     out: &mut K,
 ) -> Result<Ended, AllocError>
-    ensures runs { IfOk result (λ ended. ended.runs.items ≡ []) }
-    ensures said { IfOk result (λ ended. IsSaid (spec.Says saying) (F.holds files.old file.now) (K.taken out.old) (K.taken out.new) ended.status) }
+    ensures said { IfOk result (λ ended. Puts (IsToldOf (spec.Says saying) (Rose (F.faults files.old) (F.faults files.new)) (F.holds files.old file.now)) (K.taken out.old) (K.taken out.new) ended.runs.items ended.status) }
     ensures asked { AsksOnly file.now (F.asked files.old) (F.asked files.new) }
     ensures status { IfOk result (λ ended. IsStatusOf (Rose (K.faults out.old) (K.faults out.new)) ⊥ (IsUnread (Rose (F.faults files.old) (F.faults files.new)) (F.holds files.old file.now)) ended.runs.items ended.status) }
+    ensures nothing { IfErr result (λ _. K.taken out.new ≡ K.taken out.old) }
 {
     match load(alloc, files, name_of(file))? {
         Loaded::Text(text) => match saying.of(alloc, &text)? {
@@ -173,13 +275,14 @@ fn obey<F: Files, K: Sink, W: Spawner>(
     spawner: &mut W,
     builtin: &mut Builtin,
 ) -> Result<Ended, AllocError>
-    ensures headline { IfOk result (λ ended. (ended.runs.items ≡ []) ⊎ IsReportOf order.now (F.holds files.old)
-        (λ p. IsReport p builtin.old.ended.items builtin.new.ended.items 0 0 true builtin.old.starts.items builtin.new.starts.items (spec.solver_of order.now) (K.taken out.old) (K.taken out.new) ended.runs.items ended.status)
-        (λ p. IsReport p (W.ended spawner.old) (W.ended spawner.new) (W.faults spawner.old) (W.faults spawner.new) (W.steady spawner.old) (W.starts spawner.old) (W.starts spawner.new) (spec.solver_of order.now) (K.taken out.old) (K.taken out.new) ended.runs.items ended.status)) }
-    ensures said { IfOk result (λ ended. IsSaidBy order.now (F.holds files.old) (K.taken out.old) (K.taken out.new) ended.status) }
+    ensures answered { IfOk result (λ ended. IsAnswer (Some order.now) (Rose (F.faults files.old) (F.faults files.new)) (F.holds files.old)
+        (λ p. IsReport p builtin.old.ended.items builtin.new.ended.items 0 0 true builtin.old.starts.items builtin.new.starts.items (spec.solver_of order.now) (K.taken out.old) (K.taken out.new) ended.runs.items ended.status × HasNoFault ended.runs.items)
+        (λ p. IsReport p (W.ended spawner.old) (W.ended spawner.new) (W.faults spawner.old) (W.faults spawner.new) (W.steady spawner.old) (W.starts spawner.old) (W.starts spawner.new) (spec.solver_of order.now) (K.taken out.old) (K.taken out.new) ended.runs.items ended.status)
+        (K.taken out.old) (K.taken out.new) ended.runs.items ended.status) }
     ensures asked { AsksFileOf order.now (F.asked files.old) (F.asked files.new) }
     ensures status { IfOk result (λ ended. IsStatusOf (Rose (K.faults out.old) (K.faults out.new)) ⊥ (IsUnreadFile order.now (Rose (F.faults files.old) (F.faults files.new)) (F.holds files.old)) ended.runs.items ended.status) }
     ensures starts { StartsOnly order.now (W.starts spawner.old) (W.starts spawner.new) }
+    ensures nothing { IfErr result (λ _. K.taken out.new ≡ K.taken out.old) }
 {
     match order {
         Order::Verify { file, solver } => {
@@ -211,10 +314,10 @@ pub fn run<F: Files, K: Sink, W: Spawner>(
     spawner: &mut W,
     builtin: &mut Builtin,
 ) -> Ended
-    ensures headline { (result.runs.items ≡ []) ⊎ ((order : meant.Order) × (order_of words.now ≡ Some order) × IsReportOf order (F.holds files.old)
-        (λ p. IsReport p builtin.old.ended.items builtin.new.ended.items 0 0 true builtin.old.starts.items builtin.new.starts.items (spec.solver_of order) (K.taken out.old) (K.taken out.new) result.runs.items result.status)
-        (λ p. IsReport p (W.ended spawner.old) (W.ended spawner.new) (W.faults spawner.old) (W.faults spawner.new) (W.steady spawner.old) (W.starts spawner.old) (W.starts spawner.new) (spec.solver_of order) (K.taken out.old) (K.taken out.new) result.runs.items result.status)) }
-    ensures said { (order : meant.Order) → order_of words.now ≡ Some order → IsSaidBy order (F.holds files.old) (K.taken out.old) (K.taken out.new) result.status }
+    ensures answered { IsAnswer (order_of words.now) (Rose (F.faults files.old) (F.faults files.new)) (F.holds files.old)
+        (λ p. IsReport p builtin.old.ended.items builtin.new.ended.items 0 0 true builtin.old.starts.items builtin.new.starts.items (spec.solver_by (order_of words.now)) (K.taken out.old) (K.taken out.new) result.runs.items result.status × HasNoFault result.runs.items)
+        (λ p. IsReport p (W.ended spawner.old) (W.ended spawner.new) (W.faults spawner.old) (W.faults spawner.new) (W.steady spawner.old) (W.starts spawner.old) (W.starts spawner.new) (spec.solver_by (order_of words.now)) (K.taken out.old) (K.taken out.new) result.runs.items result.status)
+        (K.taken out.old) (K.taken out.new) result.runs.items result.status }
     ensures status { IsStatusOf (Rose (K.faults out.old) (K.faults out.new)) (order_of words.now ≡ None)
         ((order : meant.Order) × (order_of words.now ≡ Some order) × IsUnreadFile order (Rose (F.faults files.old) (F.faults files.new)) (F.holds files.old)) result.runs.items result.status }
     ensures usage { order_of words.now ≡ None → (result.status ≡ Status.Usage) ⊎ (result.status ≡ Status.Unwritten) ⊎ (result.status ≡ Status.Want) }

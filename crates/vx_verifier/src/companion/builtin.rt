@@ -2,7 +2,7 @@
 ghost use Rattle.std.specs.Prelude.{◌≡◌, ℕ, ◌+◌, ◌≤◌, ◌==◌, ◌++◌, [], vec_len, vec_capacity, count_by, List, IfOk, true, false};
 ghost use Rattle.vx_ends.specs.Dialogue.{sent, got};
 ghost use Rattle.vx_sexp.specs.Finished.{finished};
-ghost use Rattle.vx_verifier.specs.Companion.{HasAnswered};
+ghost use Rattle.vx_verifier.specs.Companion.{HasAnswered, HasSaid, AllReplied, AllRight};
 
 use crate::companion::Session;
 use std::alloc::{AllocError, Global};
@@ -19,8 +19,10 @@ fn reply_all<'a>(
     bytes: &'a [u8],
 ) -> Result<&'a [u8], AllocError>
     ensures answered { IfOk result (λ rest. (all_sent front : List ℕ) → HasAnswered all_sent bytes.now (front ++ replies.old.items) → HasAnswered all_sent rest.now (front ++ replies.new.items)) }
+    ensures said { IfOk result (λ rest. (all_sent front : List ℕ) → HasSaid all_sent bytes.now (front ++ replies.old.items) → HasSaid all_sent rest.now (front ++ replies.new.items)) }
     ensures none_left { IfOk result (λ rest. finished rest.now ≡ 0) }
     ensures more { (n : ℕ) (front : List ℕ) → n ≤ finished (front ++ replies.old.items) → n ≤ finished (front ++ replies.new.items) }
+    ensures replied { (all_sent front : List ℕ) → AllReplied all_sent (front ++ replies.old.items) → AllReplied all_sent (front ++ replies.new.items) }
 {
     let mut rest = bytes;
     'commands: loop {
@@ -29,7 +31,8 @@ fn reply_all<'a>(
             Err(_fault) => return Ok(rest),
         };
         let (command, more) = rest.split_at(taken);
-        let reply = session.command(alloc, command)?;
+        let said = session.command(alloc, command)?;
+        let reply = said.text();
         replies.extend_from_slice(reply.as_bytes())?;
         rest = more;
     }
@@ -49,6 +52,8 @@ pub struct CompanionLink {
     is_spent: bool,
     ghost owed: { finished (sent pieces.items) ≤ finished (got pieces.items ++ replies.items) },
     ghost answered: { is_spent ≡ false → HasAnswered (sent pieces.items) unread.items (got pieces.items ++ replies.items) },
+    ghost said: { is_spent ≡ false → ∥ HasSaid (sent pieces.items) unread.items (got pieces.items ++ replies.items) ∥₁ },
+    ghost replied: { AllReplied (sent pieces.items) (got pieces.items ++ replies.items) },
 }
 
 impl CompanionLink {
@@ -124,6 +129,7 @@ pub struct Builtin {
     lanes_out: Vec<u32>,
     ended: Vec<Ending>,
     ghost room: { vec_len ended + vec_len lanes_out ≤ vec_capacity ended },
+    ghost right: { AllRight ended.items },
 }
 
 impl Builtin {

@@ -4,4 +4,7 @@ mod builtin;
 mod session;
 
 pub use builtin::{Builtin, CompanionLink};
-pub use session::Session;
+pub use session::{Said, Session};
+
+#[cfg(test)]
+mod tests;

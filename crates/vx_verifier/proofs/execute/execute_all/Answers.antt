@@ -45,13 +45,13 @@ loop-number-preserved g c =
           so_far.told told c.execute-kept.ensures.later so_far.faults c.execute-kept.ensures.faults
           (ap (λ m. m.0) numbers.0) (place ∙ sym so_far.each) numbers.1 numbers.2 numbers.3 count.0 lost started);
       starts = c.execute-kept.ensures.starts _ so_far.starts;
-      calm = λ spelled steady. c.execute-kept.ensures.calm (spelled c.in-Ok.number) _ _ (so_far.calm spelled steady);
+      calm = λ steady. c.execute-kept.ensures.calm _ _ (so_far.calm steady);
       faults = omega arith;
       later = λ front handed. c.execute-kept.ensures.later front (so_far.later front handed);
     }
 
 pub returns-in-Err-clause-calm : goal.returns-in-Err-clause-calm
-returns-in-Err-clause-calm g c = λ spelled steady. c.execute-kept.ensures.calm (spelled c.in-Ok.number) _ _ (c.loop-number.invariant.calm spelled steady)
+returns-in-Err-clause-calm g c = λ steady. c.execute-kept.ensures.calm _ _ (c.loop-number.invariant.calm steady)
 
 pub returns-then-is_err-clause-calm : goal.returns-then-is_err-clause-calm
-returns-then-is_err-clause-calm g c = λ spelled steady. c.execute-kept.ensures.calm (spelled c.in-Ok.number) _ _ (c.loop-number.invariant.calm spelled steady)
+returns-then-is_err-clause-calm g c = λ steady. c.execute-kept.ensures.calm _ _ (c.loop-number.invariant.calm steady)

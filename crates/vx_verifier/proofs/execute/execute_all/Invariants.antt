@@ -3,7 +3,7 @@ use Rattle.vx_types.specs.Settled.{settled}
 use Rattle.vx_ends.specs.declared.piece.Start.{Start}
 use Rattle.vx_report.specs.Reports.{AreNamed}
 use Rattle.vx_verifier.specs.Lanes.{IsHeld, links, Starts, Later, Executes}
-use Rattle.vx_verifier.specs.Steady.{AsksSpelled, IsCalmLane}
+use Rattle.vx_verifier.specs.Steady.{IsCalmLane}
 use Rattle.vx_verifier.proofs.execute.execute_all.Given as goal
 
 abbrev pub invariant-loop-number : goal.invariant-loop-number
@@ -19,7 +19,7 @@ invariant-loop-number g l =
       told : Executes g.W.Link.Link.dialogue (settled l.program) (w.ended l.fn.spawner) (w.ended l.spawner) (w.faults l.fn.spawner) (w.faults l.spawner)
           l.lane.child l.lane.checks l.runs.items;
       starts : Starts (w.starts l.fn.spawner) (w.starts l.spawner) start l.lane.child;
-      calm : AsksSpelled (settled l.program) → IsTrue (w.steady l.fn.spawner)
+      calm : IsTrue (w.steady l.fn.spawner)
           → IsCalmLane g.W.Link.Link.dialogue g.W.Link.Link.steady g.W.Link.Link.faults (w.ended l.fn.spawner) (w.ended l.spawner) (w.steady l.spawner)
           (w.faults l.fn.spawner) (w.faults l.spawner) l.lane.child;
       faults : w.faults l.fn.spawner ≤ w.faults l.spawner;

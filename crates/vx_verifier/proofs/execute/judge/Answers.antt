@@ -23,11 +23,15 @@ questions-init g c =
       lost = refl;
       silent = λ lost. begins.none;
       asks = inl (begins.none, refl);
-      calm = λ spelled before count calm. calm;
+      calm = λ before count calm. calm;
       starts = λ before starts. starts;
       faults = omega arith;
       later = λ front handed. handed;
     }
+
+pub ask-kept-requires-clause-spelled : goal.ask-kept-requires-clause-spelled
+ask-kept-requires-clause-spelled g c =
+    due_spelled (settled c.args.program.now) c.args.member.0 c.questions.running.machine c.questions.running.ask c.in-Check.query c.questions.invariant.running c.in-Check.is c.requires.spelled
 
 pub returns-in-Done-clause-told : goal.returns-in-Done-clause-told
 returns-in-Done-clause-told g c = λ before checks heard.
@@ -90,9 +94,7 @@ questions-preserved g c =
           cc;
       asks = inr (here.0, asked_by (settled c.args.program.now) c.args.member.0 machine c.questions.running.ask c.in-Check.query c.questions.child c.args.child so_far.running c.in-Check.is so_far.asks);
       starts = λ before starts. c.ask-kept.ensures.starts before (so_far.starts before starts);
-      calm = λ spelled before count calm.
-          c.ask-kept.ensures.calm (due_spelled (settled c.args.program.now) c.args.member.0 machine c.questions.running.ask c.in-Check.query so_far.running c.in-Check.is spelled) before count
-          (so_far.calm spelled before count calm);
+      calm = λ before count calm. c.ask-kept.ensures.calm before count (so_far.calm before count calm);
       faults = omega arith;
       later = λ front handed. c.ask-kept.ensures.later front (so_far.later front handed);
     }
@@ -115,15 +117,7 @@ returns-in-Err-reply-clause-lost g c = IfOk-weaker c.faulted.result _ _ (λ judg
     started_fault (is_lost c.args.child) gone (faulted_by c.in-Err-reply.trouble judged.verdict fault.1)) c.faulted.ensures
 
 pub returns-in-Err-reply-clause-calm : goal.returns-in-Err-reply-clause-calm
-returns-in-Err-reply-clause-calm g c = λ spelled before count calm.
-    let so_far = c.questions.invariant in
-    c.ask-kept.ensures.calm
-    (due_spelled (settled c.args.program.now) c.args.member.0 c.questions.running.machine c.questions.running.ask c.in-Check.query so_far.running c.in-Check.is spelled) before count
-    (so_far.calm spelled before count calm)
+returns-in-Err-reply-clause-calm g c = λ before count calm. c.ask-kept.ensures.calm before count (c.questions.invariant.calm before count calm)
 
 pub returns-in-Err-go_on-clause-calm : goal.returns-in-Err-go_on-clause-calm
-returns-in-Err-go_on-clause-calm g c = λ spelled before count calm.
-    let so_far = c.questions.invariant in
-    c.ask-kept.ensures.calm
-    (due_spelled (settled c.args.program.now) c.args.member.0 c.questions.running.machine c.questions.running.ask c.in-Check.query so_far.running c.in-Check.is spelled) before count
-    (so_far.calm spelled before count calm)
+returns-in-Err-go_on-clause-calm g c = λ before count calm. c.ask-kept.ensures.calm before count (c.questions.invariant.calm before count calm)

@@ -4,8 +4,7 @@ use Rattle.vx_ends.specs.declared.piece.Start.{Start}
 use Rattle.vx_ends.specs.declared.piece.Ending.{Ending}
 use Rattle.vx_smt_meaning.specs.Dialogues.{Check}
 use Rattle.vx_verifier.specs.Lanes.{IsHeld, IsRunning, links, is_lost, is_started, Hears, Starts, Later, AreAsked}
-use Rattle.vx_machine.specs.Runs.{member_tree}
-use Rattle.vx_verifier.specs.Steady.{AllSpelled, IsCalmLane}
+use Rattle.vx_verifier.specs.Steady.{IsCalmLane}
 use Rattle.vx_verifier.specs.Headline.{has_question}
 use Rattle.vx_verifier.proofs.execute.judge.Given as goal
 
@@ -28,7 +27,7 @@ invariant-questions g l =
           ⊎ ((is_started l.child ≡ true) × (has_question (settled l.program) l.fn.member.0 ≡ true));
       starts : (before : List Start) → Starts before (w.starts l.fn.spawner) start l.fn.child → Starts before (w.starts l.spawner) start l.child;
       faults : w.faults l.fn.spawner ≤ w.faults l.spawner;
-      calm : AllSpelled (member_tree (settled l.program) l.fn.member.0) → (before : List Ending) (count : ℕ)
+      calm : (before : List Ending) (count : ℕ)
           → IsCalmLane dialogue g.W.Link.Link.steady g.W.Link.Link.faults before (w.ended l.fn.spawner) (w.steady l.fn.spawner) count (w.faults l.fn.spawner) l.fn.child
           → IsCalmLane dialogue g.W.Link.Link.steady g.W.Link.Link.faults before (w.ended l.spawner) (w.steady l.spawner) count (w.faults l.spawner) l.child;
       later : Later (w.ended l.fn.spawner) (w.ended l.spawner);

@@ -1,13 +1,14 @@
 use Rattle.std.proofs.Common.{refl, ap, ◌∙◌}
 use Rattle.vx_ends.specs.declared.piece.Ending.{Ending}
 use Rattle.vx_verifier.specs.declared.lane.Child.TheVariants.{Talking}
-use Rattle.vx_verifier.proofs.Steady.{calm_on, calm_at, left_steady}
+use Rattle.vx_dialogue.specs.Dialogue.{is_in_member}
+use Rattle.vx_verifier.proofs.Steady.{calm_on, calm_at, left_steady, left_named}
 use Rattle.vx_verifier.proofs.Children.{left, at_child, recorded, lost_recorded}
 use Rattle.vx_verifier.proofs.lane.leave.Goals as goal
 
 pub returns-in-Ok-clause-told : goal.returns-in-Ok-clause-told
 returns-in-Ok-clause-told g c = λ before checks heard.
-    left g.W.Link.Link.dialogue before _ _ c.args.child c.in-Talking.dialogue c.leave.new.self _ c.in-Talking.is c.in-Ok.ensures.stands refl checks heard
+    left g.W.Link.Link.dialogue before _ _ c.args.child c.in-Talking.dialogue c.leave.new.self _ c.in-Talking.is (left_named (is_in_member c.in-Talking.dialogue)) c.in-Ok.ensures.stands refl checks heard
 
 pub returns-in-Ok-clause-calm : goal.returns-in-Ok-clause-calm
 returns-in-Ok-clause-calm g c = λ before count calm.

@@ -3,7 +3,7 @@ use Rattle.vx_ends.specs.declared.piece.Ending.{Ending}
 use Rattle.vx_dialogue.specs.History.{Breaks}
 use Rattle.vx_dialogue.specs.declared.talk.Talk.TheVariants as talk
 use Rattle.vx_verifier.specs.Lanes.{Loses}
-use Rattle.vx_verifier.proofs.Children.{lost_by, above_none}
+use Rattle.vx_verifier.proofs.Children.{talks, lost_by, above_none}
 use Rattle.vx_dialogue.specs.Steady.{IsSteady}
 use Rattle.vx_dialogue.proofs.Steady.{preamble_named}
 use Rattle.vx_verifier.specs.declared.lane.Child.TheVariants.{NotStarted, Talking, Lost}
@@ -16,11 +16,16 @@ returns-in-Err-clause-told g c = λ before checks heard.
     let faults = g.W.Link.Link.faults in
     let link = c.in-Err.link in
     let e : Ending = record { lane = 0; dialogue = dialogue link; faults = faults link } in
-    let broken : Breaks c.in-Err.talk (dialogue link) checks = subst (λ x. Breaks c.in-Err.talk (dialogue link) x) (sym heard.1) c.in-Err.ensures.fault in
+    let broken : Breaks c.in-Err.talk (dialogue link) checks = subst (λ x. Breaks c.in-Err.talk (dialogue link) x) (sym heard.1) (c.in-Err.ensures.fault preamble_named) in
     let rose : c.in-Err.talk ≡ talk.Pipe → 0 < faults link = λ h. above_none _ (faults link) (c.in-Err.ensures.cause.rose (ap Err h)) in
     subst (λ t. Loses before (g.W.Spawner.ended c.finish.new.self) (g.W.Spawner.faults c.args.spawner.now) (g.W.Spawner.faults c.finish.new.self) false checks t) (sym c.trouble_of.ensures)
     (lost_by dialogue before (g.W.Spawner.ended c.start.new.self) (g.W.Spawner.ended c.finish.new.self) (g.W.Spawner.faults c.args.spawner.now) (g.W.Spawner.faults c.finish.new.self) e c.in-Err.talk checks
     (c.start.ensures.ended ∙ heard.0) c.finish.ensures.ended refl broken rose c.in-Err.ensures.open)
+
+pub returns-in-Ok-open-clause-told : goal.returns-in-Ok-open-clause-told
+returns-in-Ok-open-clause-told g c = λ before checks heard.
+    talks g.W.Link.Link.dialogue before (g.W.Spawner.ended c.args.spawner.now) (g.W.Spawner.ended c.start.new.self) c.in-Ok-open.dialogue checks _ _
+    c.in-Ok-open.ensures.stands preamble_named c.start.ensures.ended heard
 
 pub returns-in-Ok-open-clause-calm : goal.returns-in-Ok-open-clause-calm
 returns-in-Ok-open-clause-calm g c = λ before count calm.

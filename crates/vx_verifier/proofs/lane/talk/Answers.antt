@@ -6,9 +6,9 @@ use Rattle.vx_rules.specs.Stack.{query}
 use Rattle.vx_dialogue.specs.History.{Breaks}
 use Rattle.vx_verifier.specs.Lanes.{Loses}
 use Rattle.vx_verifier.proofs.Children.{answered, lost_by, recorded, lost_recorded, above_none}
-use Rattle.vx_dialogue.specs.Dialogue.{link_of}
+use Rattle.vx_dialogue.specs.Dialogue.{link_of, is_in_member}
 use Rattle.vx_verifier.specs.declared.lane.Child.TheVariants.{Talking, Lost}
-use Rattle.vx_verifier.proofs.Steady.{calm_on, calm_handed, asks_steady, asked_steady}
+use Rattle.vx_verifier.proofs.Steady.{calm_on, calm_handed, said_named, asked_named, asks_steady, asked_steady}
 use Rattle.vx_verifier.proofs.lane.talk.Goals as goal
 
 pub returns-in-Ok-ask-clause-told : goal.returns-in-Ok-ask-clause-told
@@ -16,7 +16,9 @@ returns-in-Ok-ask-clause-told g c = λ before checks heard.
     let ended = g.W.Spawner.ended c.args.spawner.now in
     let path = ap (λ x. map shared x) c.deref.ensures.value ∙ c.in-Ok.ensures in
     answered g.W.Link.Link.dialogue before ended ended c.args.dialogue c.ask.new.self (query c.args.query.now) (map shared c.deref.result.now) c.in-Ok-ask.reply _
-    path c.in-Ok-ask.ensures.reply refl checks heard
+    path
+    (λ commands. asked_named (is_in_member c.args.dialogue) (map shared c.deref.result.now) (query c.args.query.now) commands path c.requires.spelled)
+    c.in-Ok-ask.ensures.reply refl checks heard
 
 pub returns-in-Err-clause-lost : goal.returns-in-Err-clause-lost
 returns-in-Err-clause-lost g c = λ before checks heard.
@@ -32,11 +34,13 @@ returns-clause-lost g c = λ before checks heard.
     let dialogue = g.W.Link.Link.dialogue in
     let faults = g.W.Link.Link.faults in
     let link = c.close-in-Err-ask.result in
-    let free = c.requires.1 in
+    let free = c.requires.held.1 in
+    let path = ap (λ x. map shared x) c.deref.ensures.value ∙ c.in-Ok.ensures in
+    let named = said_named (is_in_member c.args.dialogue) (map shared c.deref.result.now) (query c.args.query.now) heard.2 path c.requires.spelled heard.4 in
     let shut : c.in-Err-ask.talk ≡ talk.Closed → ⊥ = λ h. let failed = c.ask.ensures.closed.0 (c.in-Err-ask.is ∙ ap Err h) in cc (free, failed) in
     let e : Ending = record { lane = 0; dialogue = dialogue link; faults = faults link } in
     let broken : Breaks c.in-Err-ask.talk (dialogue link) checks =
-    subst (λ x. Breaks c.in-Err-ask.talk (dialogue x) checks) (sym c.close-in-Err-ask.ensures) (c.in-Err-ask.ensures.fault heard.1 heard.2 checks heard.3) in
+    subst (λ x. Breaks c.in-Err-ask.talk (dialogue x) checks) (sym c.close-in-Err-ask.ensures) (c.in-Err-ask.ensures.fault heard.1 heard.2 checks heard.3 named) in
     let rose : c.in-Err-ask.talk ≡ talk.Pipe → 0 < faults link =
     λ h. subst (λ x. 0 < faults x) (sym c.close-in-Err-ask.ensures) (above_none _ _ (c.ask.ensures.cause.rose (c.in-Err-ask.is ∙ ap Err h))) in
     subst (λ t. Loses before (g.W.Spawner.ended c.finish-in-Err-ask.new.self) (g.W.Spawner.faults c.args.spawner.now) (g.W.Spawner.faults c.finish-in-Err-ask.new.self) false checks t) (sym c.trouble_of.ensures)
@@ -44,22 +48,22 @@ returns-clause-lost g c = λ before checks heard.
     heard.0 c.finish-in-Err-ask.ensures.ended refl broken rose shut)
 
 pub returns-in-Ok-ask-clause-calm : goal.returns-in-Ok-ask-clause-calm
-returns-in-Ok-ask-clause-calm g c = λ spelled before count calm.
+returns-in-Ok-ask-clause-calm g c = λ before count calm.
     let w = g.W.Spawner in
     let l = g.W.Link.Link in
     let path = ap (λ x. map shared x) c.deref.ensures.value ∙ c.in-Ok.ensures in
     calm_on l.dialogue l.steady l.faults before count (w.ended c.args.spawner.now) (w.ended c.args.spawner.now) _ _ _ _ (Talking c.args.dialogue) (Talking c.ask.new.self) refl refl refl
-    (asked_steady l.dialogue l.steady l.faults before count c.args.dialogue c.ask.new.self (query c.args.query.now) (map shared c.deref.result.now) c.in-Ok-ask.reply path spelled
+    (asked_steady l.dialogue l.steady l.faults before count c.args.dialogue c.ask.new.self (query c.args.query.now) (map shared c.deref.result.now) c.in-Ok-ask.reply path c.requires.spelled
     c.ask.ensures.steady c.in-Ok-ask.ensures.reply calm.child_is) calm
 
 pub returns-clause-calm : goal.returns-clause-calm
-returns-clause-calm g c = λ spelled before count calm.
+returns-clause-calm g c = λ before count calm.
     let w = g.W.Spawner in
     let l = g.W.Link.Link in
     let link = c.close-in-Err-ask.result in
     let e : Ending = record { lane = 0; dialogue = l.dialogue link; faults = l.faults link } in
     let path = ap (λ x. map shared x) c.deref.ensures.value ∙ c.in-Ok.ensures in
-    let link_is = asks_steady l.dialogue l.steady l.faults before count c.args.dialogue (link_of c.ask.new.self) (query c.args.query.now) (map shared c.deref.result.now) path spelled
+    let link_is = asks_steady l.dialogue l.steady l.faults before count c.args.dialogue (link_of c.ask.new.self) (query c.args.query.now) (map shared c.deref.result.now) path c.requires.spelled
     c.ask.ensures.steady calm.child_is in
     calm_handed l.dialogue l.steady l.faults before count (w.ended c.args.spawner.now) (w.ended c.finish-in-Err-ask.new.self) _ _ _ _ (Talking c.args.dialogue) Lost e
     c.finish-in-Err-ask.ensures.ended c.finish-in-Err-ask.ensures.fixed c.finish-in-Err-ask.ensures.faults (ap l.faults c.close-in-Err-ask.ensures ∙ link_is.1) tt calm

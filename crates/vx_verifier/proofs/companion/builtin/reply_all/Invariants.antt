@@ -1,12 +1,14 @@
 use Rattle.std.proofs.Common.{◌≤◌, ◌++◌, ℕ, List, length}
 use Rattle.vx_sexp.specs.Finished.{finished}
-use Rattle.vx_verifier.specs.Companion.{HasAnswered}
+use Rattle.vx_verifier.specs.Companion.{HasAnswered, HasSaid, AllReplied}
 use Rattle.vx_verifier.proofs.companion.builtin.reply_all.Given as goal
 
 abbrev pub invariant-commands : goal.invariant-commands
 invariant-commands l = record {
   answered : (all_sent front : List ℕ) → HasAnswered all_sent l.bytes (front ++ l.fn.replies.items) → HasAnswered all_sent l.rest (front ++ l.replies.items);
+  said : (all_sent front : List ℕ) → HasSaid all_sent l.bytes (front ++ l.fn.replies.items) → HasSaid all_sent l.rest (front ++ l.replies.items);
   more : (n : ℕ) (front : List ℕ) → n ≤ finished (front ++ l.fn.replies.items) → n ≤ finished (front ++ l.replies.items);
+  replied : (all_sent front : List ℕ) → AllReplied all_sent (front ++ l.fn.replies.items) → AllReplied all_sent (front ++ l.replies.items);
 }
 
 abbrev pub decreases-commands : goal.decreases-commands

@@ -17,4 +17,20 @@ invariant_of-self-in-Ok c =
     let sent_same : sent new ≡ sent old.pieces.items = sent_by_got old.pieces.items new front pieces in
     let same : got new ++ back ≡ got old.pieces.items ++ old.replies.items = after_got old.pieces.items new old.replies.items front back pieces replies in
     let owed : finished (sent new) ≤ finished (got new ++ back) = rw (sent_same, same) old.owed in
-    record { owed = owed; answered = λ fresh. rw (sent_same, same) (old.answered fresh) }
+    record {
+      owed = owed;
+      answered = λ fresh. rw (sent_same, same) (old.answered fresh);
+      said = λ fresh. rw (sent_same, same) (old.said fresh);
+      replied = rw (sent_same, same) old.replied;
+    }
+
+pub invariant_of-self-in-Break-branch-4 : goal.invariant_of-self-in-Break-branch-4
+invariant_of-self-in-Break-branch-4 c =
+    let old = c.args.self.now in
+    let same : c.reserve.new.self.items ≡ old.pieces.items = search rules in
+    record {
+      owed = rw same old.owed;
+      answered = λ fresh. rw same (old.answered fresh);
+      said = λ fresh. rw same (old.said fresh);
+      replied = rw same old.replied;
+    }

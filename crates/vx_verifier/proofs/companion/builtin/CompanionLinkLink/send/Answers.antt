@@ -1,10 +1,12 @@
-use Rattle.std.proofs.Common.{rules, ◌≡◌, ◌≤◌, ◌++◌, ◌∷◌, [], false}
+use Rattle.std.proofs.Common.{rules, ◌≡◌, ◌≤◌, ◌++◌, ◌∷◌, [], false, sym, subst}
+use Rattle.std.proofs.Math.Logic.{∥∥₁_map}
 use Rattle.vx_ends.specs.Dialogue.{sent, got}
 use Rattle.vx_ends.specs.declared.piece.Piece.TheVariants.{Sent}
 use Rattle.vx_ends.proofs.Dialogues.{sent_by_sent, got_by_sent}
 use Rattle.vx_sexp.specs.Finished.{finished}
-use Rattle.vx_verifier.specs.Companion.{HasAnswered}
+use Rattle.vx_verifier.specs.Companion.{HasAnswered, HasSaid, AllReplied}
 use Rattle.vx_verifier.proofs.Replies.{answered_on, replies_all}
+use Rattle.vx_verifier.proofs.Replied.{said_on, read_replied}
 use Rattle.vx_verifier.proofs.companion.builtin.CompanionLinkLink.send.Goals as goal
 
 pub invariant_of-self-2 : goal.invariant_of-self-2
@@ -26,4 +28,61 @@ invariant_of-self-2 c =
     c.in_ok-rest.ensures.answered (sent old.pieces.items ++ piece) (got old.pieces.items) before in
     let all = replies_all (sent old.pieces.items ++ piece) rest (got old.pieces.items ++ replies) c.in_ok-rest.ensures.none_left now in
     let owed : finished (sent new) ≤ finished (got new ++ replies) = rw (sent_on, got_on) all in
-    record { owed = owed; answered = λ again. rw (sent_on, got_on, kept) now }
+    let read : ∥ HasSaid (sent old.pieces.items ++ piece) rest (got old.pieces.items ++ replies) ∥₁ =
+    ∥∥₁_map (old.said fresh) (λ h. c.in_ok-rest.ensures.said (sent old.pieces.items ++ piece) (got old.pieces.items)
+    (subst (λ x. HasSaid (sent old.pieces.items ++ piece) x (got old.pieces.items ++ old.replies.items)) (sym bytes)
+    (said_on (sent old.pieces.items) old.unread.items (got old.pieces.items ++ old.replies.items) piece h))) in
+    let replied : AllReplied (sent old.pieces.items ++ piece) (got old.pieces.items ++ replies) =
+    read_replied (sent old.pieces.items ++ piece) rest (got old.pieces.items ++ replies) c.in_ok-rest.ensures.none_left read in
+    record {
+      owed = owed;
+      answered = λ again. rw (sent_on, got_on, kept) now;
+      said = λ again. rw (sent_on, got_on, kept) read;
+      replied = rw (sent_on, got_on) replied;
+    }
+
+-- ---- where memory runs out
+
+pub invariant_of-self-in-Break-branch-2 : goal.invariant_of-self-in-Break-branch-2
+invariant_of-self-in-Break-branch-2 c =
+    let old = c.args.self.now in
+    let same : c.reserve.new.self.items ≡ old.pieces.items = search rules in
+    record {
+      owed = rw same old.owed;
+      answered = λ fresh. rw same (old.answered fresh);
+      said = λ fresh. rw same (old.said fresh);
+      replied = rw same old.replied;
+    }
+
+pub invariant_of-self-in-Break-branch-3 : goal.invariant_of-self-in-Break-branch-3
+invariant_of-self-in-Break-branch-3 c =
+    let old = c.args.self.now in
+    let same : c.reserve.new.self.items ≡ old.pieces.items = search rules in
+    record {
+      owed = rw same old.owed;
+      answered = λ fresh. absurd (cc);
+      said = λ fresh. absurd (cc);
+      replied = rw same old.replied;
+    }
+
+pub invariant_of-self-in_err-rest : goal.invariant_of-self-in_err-rest
+invariant_of-self-in_err-rest c =
+    let old = c.args.self.now in
+    let same : c.reserve.new.self.items ≡ old.pieces.items = search rules in
+    record {
+      owed = rw same (c.reply_all.ensures.more (finished (sent old.pieces.items)) (got old.pieces.items) old.owed);
+      answered = λ fresh. absurd (cc);
+      said = λ fresh. absurd (cc);
+      replied = rw same (c.reply_all.ensures.replied (sent old.pieces.items) (got old.pieces.items) old.replied);
+    }
+
+pub invariant_of-self-in-Break-branch-5 : goal.invariant_of-self-in-Break-branch-5
+invariant_of-self-in-Break-branch-5 c =
+    let old = c.args.self.now in
+    let same : c.reserve.new.self.items ≡ old.pieces.items = search rules in
+    record {
+      owed = rw same (c.reply_all.ensures.more (finished (sent old.pieces.items)) (got old.pieces.items) old.owed);
+      answered = λ fresh. absurd (cc);
+      said = λ fresh. absurd (cc);
+      replied = rw same (c.reply_all.ensures.replied (sent old.pieces.items) (got old.pieces.items) old.replied);
+    }

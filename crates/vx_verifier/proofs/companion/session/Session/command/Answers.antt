@@ -1,8 +1,7 @@
-use Rattle.vx_verifier.proofs.Replies.{levels_one, unsupported_one}
+use Rattle.vx_verifier.proofs.Said.{fit_all}
 use Rattle.vx_verifier.proofs.companion.session.Session.command.Goals as goal
 
-pub returns-in-None : goal.returns-in-None
-returns-in-None c = record { one = levels_one }
-
-pub returns-in-Unsupported : goal.returns-in-Unsupported
-returns-in-Unsupported c = record { one = unsupported_one }
+pub returns : goal.returns
+returns c = record {
+  lawful = fit_all c.args.text.now c.trim_ascii_start-text.result.now c.obey.result c.trim_ascii_start-text.ensures.value c.heard_in.result c.heard_in.ensures c.obey.ensures;
+}
