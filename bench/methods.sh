@@ -21,9 +21,16 @@ done
 
 # functions, each of which applies the next one
 before=
-for count in 1000 4000 16000; do
+for count in 1000 4000 16000 64000; do
     awk -v count="$count" 'BEGIN { for (i = 0; i + 1 < count; i++) print "function f" i "(): Int { f" (i + 1) "() }"; print "function f" (count - 1) "(): Int { 0 }" }' > "$folder/file.vpr"
     timed "check, $count functions in a chain" "$folder/file.vpr" "$here/vsil" check
+done
+
+# functions of one group, each of which applies the next one, and the last the first
+before=
+for count in 1000 4000 16000 64000; do
+    awk -v count="$count" 'BEGIN { for (i = 0; i < count; i++) print "function f" i "(n: Int): Int decreases n { f" ((i + 1) % count) "(n - 1) }" }' > "$folder/file.vpr"
+    timed "check, $count functions in a circle" "$folder/file.vpr" "$here/vsil" check
 done
 
 # as many members as there may be
