@@ -50,14 +50,14 @@ head_with : Placed → List Declaration → ValueType → Clauses → Head
 head_with x ps t c = record { name = x; parameters = ps; of = t; clauses = c }
 
 abbrev HeadParts : Grammar Head
-HeadParts = Sequence (NameFor 0) (λ x. Sequence (ParametersFor 0) (λ ps. Sequence (Sign 0 signs.Colon) (λ c. Sequence (TypeFor 0) (λ t. Sequence (ClausesFor true) (λ cl. Nothing (head_with x ps t cl))))))
+HeadParts = Sequence (NameFor 0) (λ x. Sequence (ParametersFor 0) (λ ps. Sequence (Sign 0 signs.Colon) (λ c. Sequence (TypeFor 0) (λ t. Sequence (ClausesFor true) (λ cl. Nothing (head_with x ps t.of cl))))))
 
 head_of : (h : Head) (ms : List Mark) → HeadParts h ms → HeadFor h ms
 unfolding head_with
-head_of h ms (x, a, a', q, z, (ps, b, b', q', g, (c, d, d', q'', (cp, ce, cm), (t, f, f', q3, (tp, te), (cl, i, i', q4, r, (v, y)))))) = subst (λ k. HeadFor k ms) (sym v) (record {
+head_of h ms (x, a, a', q, z, (ps, b, b', q', g, (c, d, d', q'', (cp, ce, cm), (t, f, f', q3, te, (cl, i, i', q4, r, (v, y)))))) = subst (λ k. HeadFor k ms) (sym v) (record {
   parameters = g.phrase;
   colon_at = cp;
-  type_at = tp;
+  type_at = t.place;
   clauses = r.phrase;
   stands = r.stands;
   parameters_are = g.means;
@@ -68,25 +68,25 @@ head_of h ms (x, a, a', q, z, (ps, b, b', q', g, (c, d, d', q'', (cp, ce, cm), (
     behind_type : f' ≡ clauses_marks 0 0 r.phrase
     behind_type = q4 ∙ ap (λ l. i ++ l) y ∙ append-nil i ∙ sym r.spelled
 
-    behind_colon : d' ≡ mark 0 tp (word (type_word t)) ∷ clauses_marks 0 0 r.phrase
-    behind_colon = q3 ∙ ap (λ l. l ++ f') te ∙ ap (λ l. mark 0 tp (word (type_word t)) ∷ l) behind_type
+    behind_colon : d' ≡ mark 0 t.place (word (type_word t.of)) ∷ clauses_marks 0 0 r.phrase
+    behind_colon = q3 ∙ ap (λ l. l ++ f') te ∙ ap (λ l. mark 0 t.place (word (type_word t.of)) ∷ l) behind_type
 
-    behind_parameters : b' ≡ mark 0 cp (symbol signs.Colon) ∷ mark 0 tp (word (type_word t)) ∷ clauses_marks 0 0 r.phrase
+    behind_parameters : b' ≡ mark 0 cp (symbol signs.Colon) ∷ mark 0 t.place (word (type_word t.of)) ∷ clauses_marks 0 0 r.phrase
     behind_parameters = q'' ∙ ap (λ l. l ++ d') cm ∙ ap (λ l. mark 0 cp (symbol signs.Colon) ∷ l) behind_colon
 
-    all : ms ≡ mark 0 x.place (name x.name) ∷ (parameters_marks 0 g.phrase ++ mark 0 cp (symbol signs.Colon) ∷ mark 0 tp (word (type_word t)) ∷ clauses_marks 0 0 r.phrase)
+    all : ms ≡ mark 0 x.place (name x.name) ∷ (parameters_marks 0 g.phrase ++ mark 0 cp (symbol signs.Colon) ∷ mark 0 t.place (word (type_word t.of)) ∷ clauses_marks 0 0 r.phrase)
     all = q ∙ ap (λ l. l ++ a') z ∙ ap (λ l. mark 0 x.place (name x.name) ∷ l) (q' ∙ ap (λ l. l ++ b') (sym g.spelled) ∙ ap (λ l. parameters_marks 0 g.phrase ++ l) behind_parameters)
 
 starts_contract : (x : Placed) (ps : List Declaration) (t : ValueType) → Starts (Sequence (ClausesFor true) (λ cl. Nothing (head_with x ps t cl))) []
 starts_contract x ps t = starts_sequence (ClausesFor true) _ (starts_clauses true) (λ cl. starts_nothing _)
 
-starts_of : (x : Placed) (ps : List Declaration) → Starts (Sequence (TypeFor 0) (λ t. Sequence (ClausesFor true) (λ cl. Nothing (head_with x ps t cl)))) []
-starts_of x ps = starts_sequence (TypeFor 0) _ (starts_type 0) (λ t. starts_contract x ps t)
+starts_of : (x : Placed) (ps : List Declaration) → Starts (Sequence (TypeFor 0) (λ t. Sequence (ClausesFor true) (λ cl. Nothing (head_with x ps t.of cl)))) []
+starts_of x ps = starts_sequence (TypeFor 0) _ (starts_type 0) (λ t. starts_contract x ps t.of)
 
-starts_result : (x : Placed) (ps : List Declaration) → Starts (Sequence (Sign 0 signs.Colon) (λ c. Sequence (TypeFor 0) (λ t. Sequence (ClausesFor true) (λ cl. Nothing (head_with x ps t cl))))) []
+starts_result : (x : Placed) (ps : List Declaration) → Starts (Sequence (Sign 0 signs.Colon) (λ c. Sequence (TypeFor 0) (λ t. Sequence (ClausesFor true) (λ cl. Nothing (head_with x ps t.of cl))))) []
 starts_result x ps = starts_sequence (Sign 0 signs.Colon) _ (starts_sign 0 signs.Colon) (λ c. starts_of x ps)
 
-starts_signature : (x : Placed) → Starts (Sequence (ParametersFor 0) (λ ps. Sequence (Sign 0 signs.Colon) (λ c. Sequence (TypeFor 0) (λ t. Sequence (ClausesFor true) (λ cl. Nothing (head_with x ps t cl)))))) []
+starts_signature : (x : Placed) → Starts (Sequence (ParametersFor 0) (λ ps. Sequence (Sign 0 signs.Colon) (λ c. Sequence (TypeFor 0) (λ t. Sequence (ClausesFor true) (λ cl. Nothing (head_with x ps t.of cl)))))) []
 starts_signature x = starts_sequence (ParametersFor 0) _ (starts_parameters 0) (λ ps. starts_result x ps)
 
 pub head_tells : (ts : List Token) → Tells HeadFor limit ts (head_at limit ts)
@@ -96,7 +96,7 @@ head_tells ts =
     (tells_sequence (NameFor 0) _ limit ts (name_at ts) _ (λ x. starts_signature x) (name_tells limit 0 ts (omega arith))
     (λ x us. tells_sequence (ParametersFor 0) _ limit us (parameters_at us) _ (λ ps. starts_result x ps) (parameters_tells limit 0 us (omega arith))
     (λ ps vs. tells_sequence (Sign 0 signs.Colon) _ limit vs (expect signs.Colon vs) _ (λ c. starts_of x ps) (tells_expect 0 signs.Colon limit vs (omega arith))
-    (λ c ws. tells_sequence (TypeFor 0) _ limit ws (type_at ws) _ (λ t. starts_contract x ps t) (type_tells limit 0 ws (omega arith))
+    (λ c ws. tells_sequence (TypeFor 0) _ limit ws (type_at ws) _ (λ t. starts_contract x ps t.of) (type_tells limit 0 ws (omega arith))
     (λ t xs. tells_sequence (ClausesFor true) _ limit xs (clauses_at limit true xs) _ (λ cl. starts_nothing _) (clauses_tells true xs)
     (λ cl ys. tells_nothing limit ys _))))))
 

@@ -233,7 +233,7 @@ head_local more ts =
     local_by_then false us (parameters_at us) parameters_at _ _ (parameters_local us) (λ ps vs.
     local_by_then false vs (expect signs.Colon vs) (expect signs.Colon) _ _ (local_expect signs.Colon vs) (λ c ws.
     local_by_then false ws (type_at ws) type_at _ _ (type_local ws) (λ t xs.
-    local_made false xs (clauses_at limit true xs) (clauses_at (limit + more) true) (λ cl. record { name = x; parameters = ps; of = t; clauses = cl }) (clauses_local more true xs)))))
+    local_made false xs (clauses_at limit true xs) (clauses_at (limit + more) true) (λ cl. record { name = x; parameters = ps; of = t.of; clauses = cl }) (clauses_local more true xs)))))
 
 function_by_local : (more : ℕ) (place : Place) (h : Head) (ts : List Token) → Local ts (function_by limit place h ts) (function_by (limit + more) place h)
 unfolding function_by

@@ -3,7 +3,7 @@ use Rattle.std.proofs.Common.{◌≡◌, ℕ, not, ◌&&◌, zero, suc, ◌+◌,
 use Rattle.std.proofs.lemmas.List.{append-nil, length-map}
 use Rattle.std.proofs.lemmas.Bool.{lt-ltb, le-leb}
 use Rattle.vx_ast.specs.declared.Place.{Place}
-use Rattle.vx_ast.specs.Written.{placed, Clause, Requires, Ensures, Decreases, Declaration, Block, IsMethod, Member}
+use Rattle.vx_ast.specs.Written.{placed, placed_type, Clause, Requires, Ensures, Decreases, Declaration, Block, IsMethod, Member}
 use Rattle.vx_tokens.specs.declared.token.Word.TheVariants as words
 use Rattle.vx_tokens.specs.declared.token.Symbol.TheVariants as signs
 use Rattle.vx_tokens.specs.Tokens.{Token, Kind, name, word, symbol}
@@ -429,7 +429,7 @@ predicate_read deep w semi tail over h st =
 
 -- ---- functions
 
-type_reads : (t : ValueType) (at : Place) (us : List Token) → type_at ((mark 0 at (word (type_word t))).token ∷ us) ≡ Ok (t, us)
+type_reads : (t : ValueType) (at : Place) (us : List Token) → type_at ((mark 0 at (word (type_word t))).token ∷ us) ≡ Ok (placed_type at t, us)
 unfolding type_at
 type_reads types.Int at us = refl
 type_reads types.Bool at us = refl

@@ -3,7 +3,7 @@ use Rattle.std.proofs.Common.{◌≡◌, ℕ, zero, suc, ◌+◌, ◌<◌, List,
 use Rattle.std.proofs.lemmas.List.{length-map}
 use Rattle.vx_ast.specs.declared.Place.{Place}
 use Rattle.vx_ast.specs.declared.ValueType.TheVariants as types
-use Rattle.vx_ast.specs.Written.{Placed, placed, Expr, Variable, Call, Declaration, Value, Stmt, NoElse, Else, Declare, Assign, Write, Done, Then}
+use Rattle.vx_ast.specs.Written.{Placed, placed, placed_type, Expr, Variable, Call, Declaration, Value, Stmt, NoElse, Else, Declare, Assign, Write, Done, Then}
 use Rattle.vx_ast.specs.Written as written
 use Rattle.vx_grammar.specs.Statements.{inhales, exhales, asserts, assumes, claim_meant, Folding, folds, unfolds}
 use Rattle.vx_tokens.specs.declared.token.Word.TheVariants as words
@@ -32,10 +32,10 @@ use Rattle.vx_grammar.proofs.StmtReads.{stmt_first}
 
 type_by_local : (t : Token) (k : Kind) (ts : List Token) → t.kind ≡ k → Local (t ∷ ts) (type_by t k ts) type_at
 unfolding type_at
-type_by_local t (word words.Int) ts e = local_token t ts (Ok (types.Int, ts)) (λ l. Ok (types.Int, l)) type_at (λ l. rw e refl) (local_return ts types.Int)
-type_by_local t (word words.Bool) ts e = local_token t ts (Ok (types.Bool, ts)) (λ l. Ok (types.Bool, l)) type_at (λ l. rw e refl) (local_return ts types.Bool)
-type_by_local t (word words.Ref) ts e = local_token t ts (Ok (types.Ref, ts)) (λ l. Ok (types.Ref, l)) type_at (λ l. rw e refl) (local_return ts types.Ref)
-type_by_local t (word words.Perm) ts e = local_token t ts (Ok (types.Perm, ts)) (λ l. Ok (types.Perm, l)) type_at (λ l. rw e refl) (local_return ts types.Perm)
+type_by_local t (word words.Int) ts e = local_token t ts (Ok (placed_type t.place types.Int, ts)) (λ l. Ok (placed_type t.place types.Int, l)) type_at (λ l. rw e refl) (local_return ts (placed_type t.place types.Int))
+type_by_local t (word words.Bool) ts e = local_token t ts (Ok (placed_type t.place types.Bool, ts)) (λ l. Ok (placed_type t.place types.Bool, l)) type_at (λ l. rw e refl) (local_return ts (placed_type t.place types.Bool))
+type_by_local t (word words.Ref) ts e = local_token t ts (Ok (placed_type t.place types.Ref, ts)) (λ l. Ok (placed_type t.place types.Ref, l)) type_at (λ l. rw e refl) (local_return ts (placed_type t.place types.Ref))
+type_by_local t (word words.Perm) ts e = local_token t ts (Ok (placed_type t.place types.Perm, ts)) (λ l. Ok (placed_type t.place types.Perm, l)) type_at (λ l. rw e refl) (local_return ts (placed_type t.place types.Perm))
 type_by_local t k ts e = local_unexpected t ts type_at (λ more. rw e refl) (λ p more. refl) (λ p more. refl)
 
 pub type_local : (ts : List Token) → Local ts (type_at ts) type_at

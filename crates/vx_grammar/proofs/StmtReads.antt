@@ -4,7 +4,7 @@ use Rattle.std.proofs.lemmas.List.{length-map}
 use Rattle.vx_ast.specs.declared.Place.{Place}
 use Rattle.vx_ast.specs.declared.ValueType.{ValueType}
 use Rattle.vx_ast.specs.declared.ValueType.TheVariants as types
-use Rattle.vx_ast.specs.Written.{Expr, Stmt, NoElse, Block, Done, Then}
+use Rattle.vx_ast.specs.Written.{placed_type, Expr, Stmt, NoElse, Block, Done, Then}
 use Rattle.vx_tokens.specs.declared.token.Word.TheVariants as words
 use Rattle.vx_tokens.specs.declared.token.Symbol.TheVariants as signs
 use Rattle.vx_tokens.specs.Tokens.{Token, Kind, name, word, symbol}
@@ -68,7 +68,7 @@ not_semi k h = absurd cc
 abbrev pub Toks : List Mark → List Token → List Token
 Toks ms us = tokens_of ms ++ us
 
-type_reads : (t : ValueType) (at : Token) (us : List Token) → type_by at (word (type_word t)) us ≡ Ok (t, us)
+type_reads : (t : ValueType) (at : Token) (us : List Token) → type_by at (word (type_word t)) us ≡ Ok (placed_type at.place t, us)
 type_reads types.Int at us = refl
 type_reads types.Bool at us = refl
 type_reads types.Ref at us = refl

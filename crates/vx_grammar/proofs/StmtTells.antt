@@ -1,9 +1,7 @@
 -- What reading statements tells.
 use Rattle.std.proofs.Common.{◌≡◌, ℕ, ◌≤◌, List, [], ◌∷◌, refl, sym, ◌∙◌}
-use Rattle.vx_ast.specs.declared.Place.{Place}
-use Rattle.vx_ast.specs.declared.ValueType.{ValueType}
 use Rattle.vx_ast.specs.declared.ValueType.TheVariants as types
-use Rattle.vx_ast.specs.Written.{Declaration}
+use Rattle.vx_ast.specs.Written.{PlacedType, placed_type, Declaration}
 use Rattle.vx_tokens.specs.declared.token.Word.TheVariants as words
 use Rattle.vx_tokens.specs.declared.token.Symbol.TheVariants as signs
 use Rattle.vx_tokens.specs.Tokens.{Token, Kind, word}
@@ -16,17 +14,17 @@ use Rattle.vx_grammar.proofs.Sequence.{Sequence, Nothing, tells_sequence, starts
 
 -- ---- types
 
-abbrev pub TypeFor : ℕ → Grammar ValueType
-TypeFor n t ms = (p : Place) × (ms ≡ mark n p (word (type_word t)) ∷ [])
+abbrev pub TypeFor : ℕ → Grammar PlacedType
+TypeFor n t ms = ms ≡ mark n t.place (word (type_word t.of)) ∷ []
 
 pub starts_type : (n : ℕ) → Starts (TypeFor n) []
-starts_type n = record { value = types.Int; more = mark n somewhere (word words.Int) ∷ []; spelled = (somewhere, refl) }
+starts_type n = record { value = placed_type somewhere types.Int; more = mark n somewhere (word words.Int) ∷ []; spelled = refl }
 
 type_by_tells : (limit n : ℕ) (t : Token) (k : Kind) (ts : List Token) → n ≤ limit → t.kind ≡ k → Tells (TypeFor n) limit (t ∷ ts) (type_by t k ts)
-type_by_tells limit n t (word words.Int) ts le e = tells_token (TypeFor n) limit (record { token = t; count = n }) ts types.Int le (t.place, sym (marks_is t (word words.Int) n [] e))
-type_by_tells limit n t (word words.Bool) ts le e = tells_token (TypeFor n) limit (record { token = t; count = n }) ts types.Bool le (t.place, sym (marks_is t (word words.Bool) n [] e))
-type_by_tells limit n t (word words.Ref) ts le e = tells_token (TypeFor n) limit (record { token = t; count = n }) ts types.Ref le (t.place, sym (marks_is t (word words.Ref) n [] e))
-type_by_tells limit n t (word words.Perm) ts le e = tells_token (TypeFor n) limit (record { token = t; count = n }) ts types.Perm le (t.place, sym (marks_is t (word words.Perm) n [] e))
+type_by_tells limit n t (word words.Int) ts le e = tells_token (TypeFor n) limit (record { token = t; count = n }) ts (placed_type t.place types.Int) le (sym (marks_is t (word words.Int) n [] e))
+type_by_tells limit n t (word words.Bool) ts le e = tells_token (TypeFor n) limit (record { token = t; count = n }) ts (placed_type t.place types.Bool) le (sym (marks_is t (word words.Bool) n [] e))
+type_by_tells limit n t (word words.Ref) ts le e = tells_token (TypeFor n) limit (record { token = t; count = n }) ts (placed_type t.place types.Ref) le (sym (marks_is t (word words.Ref) n [] e))
+type_by_tells limit n t (word words.Perm) ts le e = tells_token (TypeFor n) limit (record { token = t; count = n }) ts (placed_type t.place types.Perm) le (sym (marks_is t (word words.Perm) n [] e))
 type_by_tells limit n t k ts le e = tells_unexpected (TypeFor n) limit (t ∷ ts) (starts_type n)
 
 pub type_tells : (limit n : ℕ) (ts : List Token) → n ≤ limit → Tells (TypeFor n) limit ts (type_at ts)
@@ -41,11 +39,11 @@ pub record DeclarationFor (n : ℕ) (d : Declaration) (ms : List Mark) : Type 0 
   pub spelled : declaration_marks n phrase ≡ ms
 
 abbrev DeclarationParts : ℕ → Grammar Declaration
-DeclarationParts n = Sequence (NameFor n) (λ x. Sequence (Sign n signs.Colon) (λ c. Sequence (TypeFor n) (λ t. Nothing (record { name = x; of = t }))))
+DeclarationParts n = Sequence (NameFor n) (λ x. Sequence (Sign n signs.Colon) (λ c. Sequence (TypeFor n) (λ t. Nothing (record { name = x; of = t.of; type_at = t.place }))))
 
 declaration_of_parts : (n : ℕ) (d : Declaration) (ms : List Mark) → DeclarationParts n d ms → DeclarationFor n d ms
-declaration_of_parts n d ms (x, a, b, e, ea, (c, a', b', e', (q, eq, eb), (t, a'', b'', e'', (r, et), (ed, en)))) = record {
-  phrase = record { name_at = x.place; text = x.name; colon_at = q; type_at = r; of = t };
+declaration_of_parts n d ms (x, a, b, e, ea, (c, a', b', e', (q, eq, eb), (t, a'', b'', e'', et, (ed, en)))) = record {
+  phrase = record { name_at = x.place; text = x.name; colon_at = q; type_at = t.place; of = t.of };
   means = sym ed;
   spelled = sym (e ∙ rw (ea, e', eb, e'', et, en) refl);
 }

@@ -177,7 +177,7 @@ head_at deep ts = do
   colon ← expect signs.Colon parameters.1
   type ← type_at colon.1
   clauses ← clauses_at deep true type.1
-  Ok (record { name = x.0; parameters = parameters.0; of = type.0; clauses = clauses.0 }, clauses.1)
+  Ok (record { name = x.0; parameters = parameters.0; of = type.0.of; clauses = clauses.0 }, clauses.1)
 
 unfoldable pub function_by : ℕ → Place → Head → List Token → Read Member
 function_by deep place h ts = do

@@ -27,7 +27,7 @@ type_word types.Ref = words.Ref
 type_word types.Perm = words.Perm
 
 abbrev pub declaration_meant : DeclarationPhrase → Declaration
-declaration_meant d = record { name = placed d.name_at d.text; of = d.of }
+declaration_meant d = record { name = placed d.name_at d.text; of = d.of; type_at = d.type_at }
 
 abbrev pub declaration_marks : ℕ → DeclarationPhrase → List Mark
 declaration_marks n d = mark n d.name_at (name d.text) ∷ mark n d.colon_at (symbol signs.Colon) ∷ mark n d.type_at (word (type_word d.of)) ∷ []

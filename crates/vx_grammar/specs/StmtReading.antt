@@ -1,26 +1,25 @@
 -- Reading statements from left to right.
 use Rattle.std.specs.Prelude.{ℕ, ◌-◌, nat_le, zero, suc, List, [], ◌∷◌, ◌++◌, length, Ok, Err, Some, None, Bool, true, false, if◌then◌else◌}
 use Rattle.vx_ast.specs.declared.Place.{Place}
-use Rattle.vx_ast.specs.declared.ValueType.{ValueType}
 use Rattle.vx_ast.specs.declared.ValueType.TheVariants as types
 use Rattle.vx_tokens.specs.declared.token.Word.TheVariants as words
 use Rattle.vx_tokens.specs.declared.token.Symbol.TheVariants as signs
 use Rattle.vx_tokens.specs.Tokens.{Kind, name, word, Token}
-use Rattle.vx_ast.specs.Written.{Placed, placed, Other, NoElse, Else, Expr, Variable, Call, Right, Value, Declaration, Stmt, Block, Declare, Assign, Write, Invoke, If, While, Exprs, Done, Then}
+use Rattle.vx_ast.specs.Written.{Placed, placed, PlacedType, placed_type, Other, NoElse, Else, Expr, Variable, Call, Right, Value, Declaration, Stmt, Block, Declare, Assign, Write, Invoke, If, While, Exprs, Done, Then}
 use Rattle.vx_ast.specs.Written as written
 use Rattle.vx_grammar.specs.Statements.{Claim, inhales, exhales, asserts, assumes, claim_meant, Folding, folds, unfolds, folding_meant}
 use Rattle.vx_grammar.specs.Reading.{exprs_from, Unexpected, Measured, TooDeep, Read, ◌>>=◌, Turn, run, is_symbol, expect, name_at, enclosed, choice, arguments, allocation, instance_at, name_turn, postfix_by, choice_at, below}
 
 -- ---- types
 
-abbrev pub type_by : Token → Kind → List Token → Read ValueType
-type_by t (word words.Int) ts = Ok (types.Int, ts)
-type_by t (word words.Bool) ts = Ok (types.Bool, ts)
-type_by t (word words.Ref) ts = Ok (types.Ref, ts)
-type_by t (word words.Perm) ts = Ok (types.Perm, ts)
+abbrev pub type_by : Token → Kind → List Token → Read PlacedType
+type_by t (word words.Int) ts = Ok (placed_type t.place types.Int, ts)
+type_by t (word words.Bool) ts = Ok (placed_type t.place types.Bool, ts)
+type_by t (word words.Ref) ts = Ok (placed_type t.place types.Ref, ts)
+type_by t (word words.Perm) ts = Ok (placed_type t.place types.Perm, ts)
 type_by t k ts = Err (Unexpected (t ∷ ts))
 
-unfoldable pub type_at : List Token → Read ValueType
+unfoldable pub type_at : List Token → Read PlacedType
 type_at [] = Err (Unexpected [])
 type_at (t ∷ ts) = type_by t t.kind ts
 
@@ -30,7 +29,7 @@ declaration_at ts = do
   x ← name_at ts
   colon ← expect signs.Colon x.1
   type ← type_at colon.1
-  Ok (record { name = x.0; of = type.0 }, type.1)
+  Ok (record { name = x.0; of = type.0.of; type_at = type.0.place }, type.1)
 
 -- ---- statements
 

@@ -3,7 +3,5 @@
 
 mod machine;
 mod run;
-#[cfg(test)]
-mod tests;
 
 pub use machine::{Ask, Machine, Outcome};

@@ -17,6 +17,3 @@ pub use fault::TextFault;
 pub use program::parse;
 pub use stop::Stop;
 pub use store::beyond_store;
-
-#[cfg(test)]
-mod tests;

@@ -252,7 +252,7 @@ fn halting<'t>(read: Read<'t, Member>) -> Result<(Member, &'t [Token<'t>]), Memb
 fn field<'t>(alloc: Global, place: Place, tokens: &'t [Token<'t>]) -> Read<'t, Member>
     ensures { Gives (λ x. (written_member x.0, tokens_in x.1.now)) result (reading.field_at place (tokens_in tokens.now)) }
 {
-    let (Declaration { name, value_type }, rest) = declaration(alloc, tokens)?;
+    let (Declaration { name, value_type, type_place: _ }, rest) = declaration(alloc, tokens)?;
     let kind = MemberKind::Field(value_type);
     Ok((Member { place, name, kind }, rest))
 }
@@ -309,7 +309,7 @@ fn heading<'t>(alloc: Global, tokens: &'t [Token<'t>]) -> Read<'t, Head>
     let (name, rest) = name(alloc, tokens)?;
     let (parameters, rest) = parameters(alloc, rest)?;
     let (_, rest) = expect(Symbol::Colon, rest)?;
-    let (value_type, rest) = value_type(rest)?;
+    let ((value_type, _), rest) = value_type(rest)?;
     let (clauses, rest) = contract(alloc, true, rest)?;
     let head = Head {
         name,

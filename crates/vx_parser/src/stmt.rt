@@ -1,7 +1,7 @@
 //! Reading statements.
 
 ghost use Rattle.std.specs.Prelude.{◌≡◌, ◌<◌, IfOk, Some, None, map, length, []};
-ghost use Rattle.vx_ast.specs.Written.{name_of, written_all, written_expr, written_declaration, written_right, Declare, Invoke, If, Then, Done, While};
+ghost use Rattle.vx_ast.specs.Written.{name_of, placed_type, written_all, written_expr, written_declaration, written_right, Declare, Invoke, If, Then, Done, While};
 ghost use Rattle.vx_tokens.specs.Tokens.{kind_of, token_of, tokens_in};
 ghost use Rattle.vx_grammar.specs.Reading.{below};
 ghost use Rattle.vx_grammar.specs.StmtReading as reading;
@@ -48,19 +48,19 @@ enum Folding {
     Unfold,
 }
 
-/// A type.
+/// A type, and where it stands.
 #[tactic(auto, unfolding(vx_grammar::specs::StmtReading::type_at))]
-pub fn value_type<'t>(tokens: &'t [Token<'t>]) -> Read<'t, ValueType>
-    ensures { Gives (λ x. (x.0, tokens_in x.1.now)) result (reading.type_at (tokens_in tokens.now)) }
+pub fn value_type<'t>(tokens: &'t [Token<'t>]) -> Read<'t, (ValueType, Place)>
+    ensures { Gives (λ x. (placed_type x.0.1 x.0.0, tokens_in x.1.now)) result (reading.type_at (tokens_in tokens.now)) }
 {
     let Some((first, rest)) = tokens.split_first() else {
         return Err(Stop::Unexpected(tokens));
     };
     match first.kind {
-        Kind::Word(Word::Int) => Ok((ValueType::Int, rest)),
-        Kind::Word(Word::Bool) => Ok((ValueType::Bool, rest)),
-        Kind::Word(Word::Ref) => Ok((ValueType::Ref, rest)),
-        Kind::Word(Word::Perm) => Ok((ValueType::Perm, rest)),
+        Kind::Word(Word::Int) => Ok(((ValueType::Int, first.place), rest)),
+        Kind::Word(Word::Bool) => Ok(((ValueType::Bool, first.place), rest)),
+        Kind::Word(Word::Ref) => Ok(((ValueType::Ref, first.place), rest)),
+        Kind::Word(Word::Perm) => Ok(((ValueType::Perm, first.place), rest)),
         _ => Err(Stop::Unexpected(tokens)),
     }
 }
@@ -72,8 +72,13 @@ pub fn declaration<'t>(alloc: Global, tokens: &'t [Token<'t>]) -> Read<'t, Decla
 {
     let (name, rest) = name(alloc, tokens)?;
     let (_, rest) = expect(Symbol::Colon, rest)?;
-    let (value_type, rest) = value_type(rest)?;
-    Ok((Declaration { name, value_type }, rest))
+    let ((value_type, type_place), rest) = value_type(rest)?;
+    let declaration = Declaration {
+        name,
+        value_type,
+        type_place,
+    };
+    Ok((declaration, rest))
 }
 
 /// A block between braces.

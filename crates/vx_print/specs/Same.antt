@@ -50,7 +50,7 @@ bare_right (NewAll p) = NewAll nowhere
 bare_right (New p fs) = New nowhere (bare_names fs)
 
 abbrev pub bare_declaration : Declaration → Declaration
-bare_declaration d = record { name = bare_name d.name.name; of = d.of }
+bare_declaration d = record { name = bare_name d.name.name; of = d.of; type_at = nowhere }
 
 abbrev pub bare_declarations : List Declaration → List Declaration
 bare_declarations ds = map bare_declaration ds

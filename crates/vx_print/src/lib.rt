@@ -22,6 +22,3 @@ pub fn printed_reads_back()
 pub fn places_are_not_printed()
     ensures { PlacesAreNotPrinted }
 {}
-
-#[cfg(test)]
-mod tests;

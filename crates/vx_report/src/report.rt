@@ -14,7 +14,8 @@ use vx_ast::resolved::Kind;
 use vx_rules::{Code, Reply};
 use vx_types::Settled;
 
-fn code_word(code: Code) -> &'static str
+/// The word of a code in the report.
+pub fn code_word(code: Code) -> &'static str
     ensures { result.now ≡ spec.code_word code }
 {
     match code {
@@ -33,7 +34,8 @@ fn code_word(code: Code) -> &'static str
     }
 }
 
-fn reply_word(reply: Reply) -> &'static str
+/// The word of a reply in the report.
+pub fn reply_word(reply: Reply) -> &'static str
     ensures { result.now ≡ spec.reply_word reply }
 {
     match reply {

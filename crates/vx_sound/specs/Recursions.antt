@@ -18,7 +18,7 @@ counts_down =
       place = on_line 1;
       name = placed (on_line 1) f;
       kind = IsFunction record {
-        parameters = record { name = placed (on_line 1) n; of = Int } ∷ [];
+        parameters = record { name = placed (on_line 1) n; of = Int; type_at = on_line 1 } ∷ [];
         of = Int;
         clauses = Decreases (Variable (on_line 2) n) ∷ [];
         body = Choice (on_line 3) (Binary (on_line 3) Equal (Variable (on_line 3) n) (Number (on_line 3) 0)) (Number (on_line 3) 0)
@@ -33,7 +33,7 @@ applies_itself_before =
       place = on_line 1;
       name = placed (on_line 1) f;
       kind = IsFunction record {
-        parameters = record { name = placed (on_line 1) n; of = Int } ∷ [];
+        parameters = record { name = placed (on_line 1) n; of = Int; type_at = on_line 1 } ∷ [];
         of = Int;
         clauses = Requires (Binary (on_line 2) Equal (Call (on_line 2) f (More (Variable (on_line 2) n) NoMore)) (Number (on_line 2) 0)) ∷ Decreases (Variable (on_line 3) n) ∷ [];
         body = Number (on_line 4) 0;

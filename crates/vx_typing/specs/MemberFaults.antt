@@ -12,7 +12,7 @@ use Rattle.vx_typing.specs.Faults.{Checked, ◌>>=◌, Mismatch, OfType, unless,
 use Rattle.vx_typing.specs.StatementFaults.{new_name, new_variable, truth, block}
 
 abbrev pub declaration : Role → Scope → Declaration → Checked ⊤
-declaration role scope d = new_variable scope d.name >>= λ _. unless (takes role d.of) (Mismatch d.name.place (OfType type.Int) d.of)
+declaration role scope d = new_variable scope d.name >>= λ _. unless (takes role d.of) (Mismatch d.type_at (OfType type.Int) d.of)
 
 abbrev pub declarations : Role → Scope → List Declaration → Checked ⊤
 declarations role scope [] = Ok tt

@@ -1,5 +1,5 @@
 -- Programs on one line, with the first fault of each.
-use Rattle.std.specs.Prelude.{ℕ, true, List, [], ◌∷◌, Option, Some, None, Ok, Err, codes, ⊤}
+use Rattle.std.specs.Prelude.{ℕ, ◌+◌, true, List, [], ◌∷◌, Option, Some, None, Ok, Err, codes, ⊤}
 use Rattle.vx_ast.specs.declared.ValueType.{ValueType}
 use Rattle.vx_ast.specs.declared.ValueType.TheVariants.{Int, Ref, Perm}
 use Rattle.vx_ast.specs.declared.ValueType.TheVariants as type
@@ -8,8 +8,9 @@ use Rattle.vx_ast.specs.Written.{Name, placed, Expr, NoMore, More, All, Part, Nu
 use Rattle.vx_typing.specs.Faults.{Checked, OfType, Unknown, Twice, Mismatch, Impure, Arity, NoMeasure, MixedMeasures, AmountNotConstant, NotHere, NotAssignable, OldHere, ResultHere, UnfoldAbstract}
 use Rattle.vx_typing.specs.Examples.{at, name}
 
+-- a name of one letter, and a type behind its colon and a blank
 abbrev decl : ℕ → Name → ValueType → Declaration
-decl c x t = record { name = placed (at c) x; of = t }
+decl c x t = record { name = placed (at c) x; of = t; type_at = at (c + 3) }
 
 -- members with their columns and those of their names
 
@@ -127,7 +128,7 @@ contracts =
     -- function f(n: Int): Bool { n }
     ∷ ((function 1 10 (codes "f") ((decl 12 (codes "n") Int) ∷ []) type.Bool [] (Variable (at 28) (codes "n")) ∷ []), Err (Mismatch (at 28) (OfType type.Bool) Int))
     -- function f(a: Perm): Int { 1 }
-    ∷ ((function 1 10 (codes "f") ((decl 12 (codes "a") Perm) ∷ []) Int [] (Number (at 28) 1) ∷ []), Err (Mismatch (at 12) (OfType Int) Perm))
+    ∷ ((function 1 10 (codes "f") ((decl 12 (codes "a") Perm) ∷ []) Int [] (Number (at 28) 1) ∷ []), Err (Mismatch (at 15) (OfType Int) Perm))
     -- method m(a: Perm)
     ∷ ((method 1 8 (codes "m") ((decl 10 (codes "a") Perm) ∷ []) [] [] None ∷ []), Ok tt)
     -- field v: Int function f(x: Ref): Int requires acc(x.v, 1 / 2) { x.v }

@@ -27,6 +27,3 @@ pub use laws::{
 pub use program::check;
 pub use setting::{Members, Setting, Signature, Variable, Variables};
 pub use typed::Typed;
-
-#[cfg(test)]
-mod tests;

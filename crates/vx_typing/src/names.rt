@@ -120,7 +120,7 @@ fn declare_one<'a>(
         return Ok(());
     }
     let expected = Expected::Type(ValueType::Int);
-    Err(TypeFault::Mismatch(declared.name.place, expected, t))
+    Err(TypeFault::Mismatch(declared.type_place, expected, t))
 }
 
 /// More of them, in order.

@@ -15,6 +15,3 @@ mod top;
 pub use execute::{Runs, verify};
 pub use program::supported;
 pub use top::{Ended, run};
-
-#[cfg(test)]
-mod tests;

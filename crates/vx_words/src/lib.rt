@@ -11,6 +11,3 @@ mod words;
 pub use order::{Order, WordsFault};
 pub use text::Text;
 pub use words::read_words;
-
-#[cfg(test)]
-mod tests;

@@ -5,6 +5,3 @@ mod session;
 
 pub use builtin::{Builtin, CompanionLink};
 pub use session::{Said, Session};
-
-#[cfg(test)]
-mod tests;

@@ -7,6 +7,3 @@ mod sink;
 pub use child::{ChildLink, ChildSpawner};
 pub use disk::DiskFiles;
 pub use sink::StdSink;
-
-#[cfg(test)]
-mod tests;

@@ -1,0 +1,217 @@
+//! The lines of a table. A line is a word and what stands behind it; a row ends before the next `row`.
+
+use crate::answers::answer;
+use crate::row::{Asks, Row, Solver, Step};
+use crate::told::put_line;
+use std::alloc::{AllocError, Global};
+use vx_ends::Bytes;
+use vx_rules::Reply;
+
+// The number in front of a text, and the text behind a blank.
+fn counted(rest: &str) -> (usize, &str) {
+    match rest.split_once(' ') {
+        Some((number, text)) => (number.parse().unwrap_or(0), text),
+        None => (rest.parse().unwrap_or(0), ""),
+    }
+}
+
+// Adds a text so many times, each with this behind it.
+fn add_times(text: &mut Vec<u8>, rest: &str, behind: &[u8]) -> Result<(), AllocError> {
+    let (count, part) = counted(rest);
+    for _ in 0..count {
+        text.extend_from_slice(part.as_bytes())?;
+        text.extend_from_slice(behind)?;
+    }
+    Ok(())
+}
+
+// Adds bytes, which are given as numbers.
+fn add_bytes(text: &mut Vec<u8>, rest: &str) -> Result<(), AllocError> {
+    for number in rest.split_whitespace() {
+        text.push(number.parse().unwrap_or(0))?;
+    }
+    Ok(())
+}
+
+fn add_blanks(text: &mut Vec<u8>, rest: &str) -> Result<(), AllocError> {
+    for _ in 0..rest.parse::<usize>().unwrap_or(0) {
+        text.push(b' ')?;
+    }
+    Ok(())
+}
+
+// Adds so many replies, each a line.
+fn add_replies(
+    alloc: Global,
+    replies: &mut Vec<Bytes>,
+    count: usize,
+    line: &str,
+) -> Result<(), AllocError> {
+    for _ in 0..count {
+        let mut text = Vec::from_slice(alloc, line.as_bytes())?;
+        text.push(b'\n')?;
+        replies.push(Bytes::copy(alloc, &text)?)?;
+    }
+    Ok(())
+}
+
+fn reply_of(word: &str) -> Reply {
+    match word {
+        "sat" => Reply::Sat,
+        "unknown" => Reply::Unknown,
+        _ => Reply::Unsat,
+    }
+}
+
+fn asks_of(word: &str) -> Asks {
+    match word {
+        "parse" => Asks::Parse,
+        "beyond" => Asks::Beyond,
+        "beginnings" => Asks::Beginnings,
+        "machines" => Asks::Machines,
+        "order" => Asks::Order,
+        "names" => Asks::Names,
+        "file" => Asks::File,
+        "child" => Asks::Child,
+        "companion" => Asks::Companion,
+        _ => Asks::Run,
+    }
+}
+
+// Takes a line of a row's text; false: it is none.
+fn take_text(row: &mut Row, word: &str, rest: &str) -> Result<bool, AllocError> {
+    match word {
+        "text" => row.text.extend_from_slice(rest.as_bytes())?,
+        "line" => {
+            row.text.extend_from_slice(rest.as_bytes())?;
+            row.text.push(b'\n')?;
+        }
+        "times" => add_times(&mut row.text, rest, b"")?,
+        "lines" => add_times(&mut row.text, rest, b"\n")?,
+        "bytes" => add_bytes(&mut row.text, rest)?,
+        "blanks" => add_blanks(&mut row.text, rest)?,
+        "absent" => row.has_input = false,
+        _ => return Ok(false),
+    }
+    Ok(true)
+}
+
+// Takes a line of a row's solver or machine; false: it is none.
+fn take_script(alloc: Global, row: &mut Row, word: &str, rest: &str) -> Result<bool, AllocError> {
+    match word {
+        "reply" => add_replies(alloc, &mut row.replies, 1, rest)?,
+        "replies" => {
+            let (count, line) = counted(rest);
+            add_replies(alloc, &mut row.replies, count, line)?;
+        }
+        "part" => row.replies.push(Bytes::copy(alloc, rest.as_bytes())?)?,
+        "process" => row.solver = Solver::Process,
+        "fails" => row.fails.push(rest.parse().unwrap_or(0))?,
+        "limit" => row.limit = rest.parse().unwrap_or(0),
+        "first" => row.steps.push(Step { other: false, reply: reply_of(rest) })?,
+        "other" => row.steps.push(Step { other: true, reply: reply_of(rest) })?,
+        _ => return Ok(false),
+    }
+    Ok(true)
+}
+
+// Takes what else a row has; false: it is none.
+fn take_call(alloc: Global, row: &mut Row, word: &str, rest: &str) -> Result<bool, AllocError> {
+    match word {
+        "words" => {
+            for part in rest.split_whitespace() {
+                row.words.push(alloc, part)?;
+            }
+        }
+        "word" => row.words.push(alloc, rest)?,
+        "nameless" => row.has_name = false,
+        "asks" => row.asks = asks_of(rest),
+        "room" => row.room = rest.parse().unwrap_or(0),
+        _ => return Ok(false),
+    }
+    Ok(true)
+}
+
+// A row of one line, which asks this of its text.
+fn of_one_line(alloc: Global, word: &str, text: &str) -> Result<Option<Row>, AllocError> {
+    let asks = match word {
+        "parse" => Asks::Parse,
+        "beyond" => Asks::Beyond,
+        "beginnings" => Asks::Beginnings,
+        "verify" | "check" | "print" => Asks::Run,
+        _ => return Ok(None),
+    };
+    let mut row = Row::of(alloc, asks, text)?;
+    row.words.push(alloc, word)?;
+    Ok(Some(row))
+}
+
+// Ends the row before, if there is one.
+fn end(
+    rt: &HostRuntime,
+    alloc: Global,
+    row: &mut Option<Row>,
+    out: &mut Vec<u8>,
+) -> Result<(), AllocError> {
+    match row.take() {
+        Some(row) => answer(rt, alloc, &row, out),
+        None => Ok(()),
+    }
+}
+
+// Takes a line into the row that is open.
+fn take(alloc: Global, row: &mut Row, word: &str, rest: &str) -> Result<bool, AllocError> {
+    Ok(take_text(row, word, rest)?
+        || take_script(alloc, row, word, rest)?
+        || take_call(alloc, row, word, rest)?)
+}
+
+// Takes a line of the table; a line that means nothing is told.
+fn take_line(
+    rt: &HostRuntime,
+    alloc: Global,
+    row: &mut Option<Row>,
+    line: &str,
+    out: &mut Vec<u8>,
+) -> Result<(), AllocError> {
+    let (word, rest) = line.split_once(' ').unwrap_or((line, ""));
+    if word.is_empty() || word == "#" {
+        return Ok(());
+    }
+    if word == "row" {
+        end(rt, alloc, row, out)?;
+        put_line(out, "", rest)?;
+        *row = Some(Row::new(alloc));
+        return Ok(());
+    }
+    if let Some(only) = of_one_line(alloc, word, rest)? {
+        end(rt, alloc, row, out)?;
+        put_line(out, "", rest)?;
+        return answer(rt, alloc, &only, out);
+    }
+    let is_taken = match row {
+        Some(row) => take(alloc, row, word, rest)?,
+        None => false,
+    };
+    if is_taken {
+        return Ok(());
+    }
+    put_line(out, "a line means nothing: ", line)
+}
+
+/// Runs the rows of a table, and writes what came of each.
+///
+/// # Errors
+/// Want of memory.
+pub fn run_all(
+    rt: &HostRuntime,
+    alloc: Global,
+    table: &str,
+    out: &mut Vec<u8>,
+) -> Result<(), AllocError> {
+    let mut row = None;
+    for line in table.split('\n') {
+        take_line(rt, alloc, &mut row, line, out)?;
+    }
+    end(rt, alloc, &mut row, out)
+}
