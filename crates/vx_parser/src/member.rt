@@ -252,7 +252,14 @@ fn halting<'t>(read: Read<'t, Member>) -> Result<(Member, &'t [Token<'t>]), Memb
 fn field<'t>(alloc: Global, place: Place, tokens: &'t [Token<'t>]) -> Read<'t, Member>
     ensures { Gives (λ x. (written_member x.0, tokens_in x.1.now)) result (reading.field_at place (tokens_in tokens.now)) }
 {
-    let (Declaration { name, value_type, type_place: _ }, rest) = declaration(alloc, tokens)?;
+    let (
+        Declaration {
+            name,
+            value_type,
+            type_place: _,
+        },
+        rest,
+    ) = declaration(alloc, tokens)?;
     let kind = MemberKind::Field(value_type);
     Ok((Member { place, name, kind }, rest))
 }

@@ -1,7 +1,7 @@
 //! What a row is answered.
 
-use crate::machines::put_machines;
 use crate::ends::{put_child_answer, put_companion_answer, put_file};
+use crate::machines::put_machines;
 use crate::names::{put_names, put_order};
 use crate::row::{Asks, Row, Solver};
 use crate::told::{put_line, put_text};
@@ -110,11 +110,7 @@ fn checks_in(ending: &Ending) -> usize {
 }
 
 // How often each child was asked.
-fn put_children(
-    alloc: Global,
-    ended: &[Ending],
-    out: &mut Vec<u8>,
-) -> Result<(), AllocError> {
+fn put_children(alloc: Global, ended: &[Ending], out: &mut Vec<u8>) -> Result<(), AllocError> {
     for ending in ended {
         let line = format!(in alloc; "a child was asked {} times", checks_in(ending))?;
         put_line(out, "  ", &line)?;
@@ -144,14 +140,7 @@ fn put_run_by<W: Spawner>(
     let mut files = input(alloc, row)?;
     let mut sink = MemSink::new(alloc, row.room)?;
     let mut builtin = Builtin::new(alloc);
-    let Ended { status, runs } = run(
-        alloc,
-        &words,
-        &mut files,
-        &mut sink,
-        spawner,
-        &mut builtin,
-    );
+    let Ended { status, runs } = run(alloc, &words, &mut files, &mut sink, spawner, &mut builtin);
     put_text(out, sink.taken())?;
     put_kept(alloc, &runs, out)?;
     let line = format!(in alloc; "status {}", status.number())?;

@@ -87,10 +87,6 @@ pub fn put_child_answer<W: Spawner>(
 ///
 /// # Errors
 /// Want of memory.
-pub fn put_companion_answer(
-    alloc: Global,
-    row: &Row,
-    out: &mut Vec<u8>,
-) -> Result<(), AllocError> {
+pub fn put_companion_answer(alloc: Global, row: &Row, out: &mut Vec<u8>) -> Result<(), AllocError> {
     put_answer(alloc, &mut Builtin::new(alloc), &row.words, &row.text, out)
 }

@@ -108,8 +108,14 @@ fn take_script(alloc: Global, row: &mut Row, word: &str, rest: &str) -> Result<b
         "process" => row.solver = Solver::Process,
         "fails" => row.fails.push(rest.parse().unwrap_or(0))?,
         "limit" => row.limit = rest.parse().unwrap_or(0),
-        "first" => row.steps.push(Step { other: false, reply: reply_of(rest) })?,
-        "other" => row.steps.push(Step { other: true, reply: reply_of(rest) })?,
+        "first" => row.steps.push(Step {
+            other: false,
+            reply: reply_of(rest),
+        })?,
+        "other" => row.steps.push(Step {
+            other: true,
+            reply: reply_of(rest),
+        })?,
         _ => return Ok(false),
     }
     Ok(true)
@@ -161,9 +167,11 @@ fn end(
 
 // Takes a line into the row that is open.
 fn take(alloc: Global, row: &mut Row, word: &str, rest: &str) -> Result<bool, AllocError> {
-    Ok(take_text(row, word, rest)?
-        || take_script(alloc, row, word, rest)?
-        || take_call(alloc, row, word, rest)?)
+    Ok(
+        take_text(row, word, rest)?
+            || take_script(alloc, row, word, rest)?
+            || take_call(alloc, row, word, rest)?,
+    )
 }
 
 // Takes a line of the table; a line that means nothing is told.

@@ -7,8 +7,7 @@ use vx_ast::Place;
 pub fn put_line(out: &mut Vec<u8>, front: &str, text: &str) -> Result<(), AllocError> {
     out.extend_from_slice(front.as_bytes())?;
     out.extend_from_slice(text.as_bytes())?;
-    out.push(b'\n')
-        .map_err(|_| AllocError)
+    out.push(b'\n').map_err(|_| AllocError)
 }
 
 /// A text, with two blanks in front of each of its lines.
