@@ -11,8 +11,8 @@ use Rattle.vx_ast.specs.Resolve.{Names, whole, expression, expressions, amount, 
 use Rattle.vx_ast.specs.Syntax.{Program, Expr, Exprs, Assertion, Pure, Points, Instance, Both, Implied, Chosen}
 use Rattle.vx_ast.specs.Mentions.{mentioned, mentioned_in, mentioned_by}
 use Rattle.vx_typing.specs.Uses.{Use, calls, uses, uses_in, uses_of}
-use Rattle.vx_typing.specs.Settings.{Setting}
-use Rattle.vx_typing.specs.Typing as typing
+use Rattle.vx_expressions.specs.Settings.{Setting}
+use Rattle.vx_expressions.specs.Typing as typing
 use Rattle.vx_types.specs.Typing.{Scope}
 use Rattle.vx_depth.specs.Entering.{Stands, entered_by}
 use Rattle.vx_sound.proofs.TypedExprs.{Sees}

@@ -9,12 +9,13 @@ use Rattle.vx_ast.specs.Resolve as resolve
 use Rattle.vx_ast.specs.Resolve.{names_of, program, expression, expressions, assertion}
 use Rattle.vx_ast.specs.Syntax.{Program, Kind, Predicate, Function, IsField, IsPredicate, IsFunction, IsMethod, Assertion, ByNumber, ByInstance, Both, joined, joined_with, member_named, function_in, predicate_in, function_named, predicate_named}
 use Rattle.vx_ast.specs.Mentions.{mentioned, mentioned_by, mentions_of}
-use Rattle.vx_typing.specs.Scopes as scopes
-use Rattle.vx_typing.specs.Scopes.{named, with_variables}
+use Rattle.vx_expressions.specs.Scopes as scopes
+use Rattle.vx_expressions.specs.Scopes.{named}
+use Rattle.vx_typing.specs.Roles.{with_variables}
 use Rattle.vx_typing.specs.declared.names.Role.TheVariants.{Input}
-use Rattle.vx_typing.specs.Settings as settings
-use Rattle.vx_typing.specs.Settings.{plainly, before_function, after_function, within_measure, within_predicate}
-use Rattle.vx_typing.specs.Typing as typing
+use Rattle.vx_expressions.specs.Settings as settings
+use Rattle.vx_expressions.specs.Settings.{plainly, before_function, after_function, within_measure, within_predicate}
+use Rattle.vx_expressions.specs.Typing as typing
 use Rattle.vx_typing.specs.Members.{table_of, IsMeasure, AreTypedClauses, IsTypedBody}
 use Rattle.vx_typing.specs.Programs.{IsTyped}
 use Rattle.vx_typing.specs.Uses.{Use, uses, uses_in, uses_of_body, uses_before, uses_of_clauses, uses_by}

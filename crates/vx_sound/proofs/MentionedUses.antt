@@ -10,8 +10,8 @@ use Rattle.vx_ast.specs.Resolve.{expression, expressions, amount, part_of, binar
 use Rattle.vx_ast.specs.Syntax.{Expr, Number}
 use Rattle.vx_ast.specs.Mentions.{mentioned, mentioned_in}
 use Rattle.vx_typing.specs.Uses.{Use, calls, unfolds_it, uses, uses_in, uses_of}
-use Rattle.vx_typing.specs.Settings.{Setting, IsPredicate}
-use Rattle.vx_typing.specs.Typing as typing
+use Rattle.vx_expressions.specs.Settings.{Setting, IsPredicate}
+use Rattle.vx_expressions.specs.Typing as typing
 use Rattle.vx_depth.specs.Entering.{Stands}
 
 -- ---- names in lists

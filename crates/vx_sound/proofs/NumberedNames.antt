@@ -8,7 +8,7 @@ use Rattle.vx_ast.specs.Written.{Name}
 use Rattle.vx_ast.specs.Resolve as resolve
 use Rattle.vx_ast.specs.Resolve.{Names, names_of, program}
 use Rattle.vx_ast.specs.Syntax.{same_name, Kind, IsField, IsPredicate, IsFunction, IsMethod, Predicate, Function, member_named, function_in, predicate_in, function_named, predicate_named}
-use Rattle.vx_typing.specs.Settings.{Table}
+use Rattle.vx_expressions.specs.Settings.{Table}
 use Rattle.vx_typing.specs.Members.{table_of, IsTypedKind, IsTypedFunction, IsTypedPredicate, AreTypedMembers}
 use Rattle.vx_typing.specs.Programs.{IsTyped}
 use Rattle.vx_typing.specs.Uses.{Use}

@@ -9,10 +9,10 @@ use Rattle.vx_ast.specs.declared.BinaryOperator.TheVariants as binary
 use Rattle.vx_ast.specs.Written as written
 use Rattle.vx_ast.specs.Resolve.{Names, whole, expression, expressions, is_pure, assertion, assertions}
 use Rattle.vx_ast.specs.Syntax.{Program, Pure, Instance, Implied, Chosen}
-use Rattle.vx_typing.specs.Settings as settings
-use Rattle.vx_typing.specs.Settings.{Setting}
+use Rattle.vx_expressions.specs.Settings as settings
+use Rattle.vx_expressions.specs.Settings.{Setting}
 use Rattle.vx_typing.specs.Statements.{AreAssertions}
-use Rattle.vx_typing.specs.Typing as typing
+use Rattle.vx_expressions.specs.Typing as typing
 use Rattle.vx_types.specs.Typing.{Scope, HasType, IsTyped, AllTyped}
 use Rattle.vx_sound.proofs.TypedExprs.{Sees, whole_share, typed, all_typed, share_typed}
 

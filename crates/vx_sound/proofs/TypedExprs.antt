@@ -9,8 +9,8 @@ use Rattle.vx_ast.specs.Written.{Name}
 use Rattle.vx_ast.specs.Resolve.{Names, expression, expressions, amount, binary_of}
 use Rattle.vx_ast.specs.Syntax as Syntax
 use Rattle.vx_ast.specs.Syntax.{result_name, Declaration, Program, Expr, Equal, Less, LessEqual, Greater, GreaterEqual, Add, Subtract, Multiply, Apply}
-use Rattle.vx_typing.specs.Settings.{Setting}
-use Rattle.vx_typing.specs.Typing as typing
+use Rattle.vx_expressions.specs.Settings.{Setting}
+use Rattle.vx_expressions.specs.Typing as typing
 use Rattle.vx_types.specs.Typing.{Scope, type_in, HasType, number, truth, nulls, part, variable, nots, operates, scales, divides, connects, chooses, reads, olds, applies, unfoldings, HaveTypes, no_more, more}
 use Rattle.vx_sound.proofs.TypedNames.{Knows, types}
 

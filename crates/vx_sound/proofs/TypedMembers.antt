@@ -7,9 +7,10 @@ use Rattle.vx_ast.specs.Resolve.{Names, assertion, names_of}
 use Rattle.vx_ast.specs.Syntax.{Program, Member, Method, IsMethod}
 use Rattle.vx_typing.specs.declared.names.Role.{Role}
 use Rattle.vx_typing.specs.declared.names.Role.TheVariants.{Parameter, Local}
-use Rattle.vx_typing.specs.Scopes as scopes
-use Rattle.vx_typing.specs.Scopes.{named, with_variable, with_variables}
-use Rattle.vx_typing.specs.Settings.{Table, plainly, within_method}
+use Rattle.vx_expressions.specs.Scopes as scopes
+use Rattle.vx_expressions.specs.Scopes.{named}
+use Rattle.vx_typing.specs.Roles.{with_variable, with_variables}
+use Rattle.vx_expressions.specs.Settings.{Table, plainly, within_method}
 use Rattle.vx_typing.specs.Members.{table_of, AreTypedContracts, AreTypedMembers, IsTypedKind, IsTypedBlockOf}
 use Rattle.vx_types.specs.Typing.{AllTyped, IsTypedBody, IsTypedMethod}
 use Rattle.vx_typing.specs.Programs.{IsTyped}

@@ -9,9 +9,9 @@ use Rattle.vx_ast.specs.Written.{Name}
 use Rattle.vx_ast.specs.Resolve as resolve
 use Rattle.vx_ast.specs.Resolve.{Names, has_member, is_predicate, is_method, is_field, fields_of, names_of}
 use Rattle.vx_ast.specs.Syntax.{same_name, Declaration, Kind, Program, Predicate, Function, Method, member_named, field_in, predicate_in, function_in, method_in, field_named, predicate_named, function_named, method_named}
-use Rattle.vx_typing.specs.Scopes.{named}
-use Rattle.vx_typing.specs.Settings as settings
-use Rattle.vx_typing.specs.Settings.{Signature}
+use Rattle.vx_expressions.specs.Scopes.{named}
+use Rattle.vx_expressions.specs.Settings as settings
+use Rattle.vx_expressions.specs.Settings.{Signature}
 use Rattle.vx_typing.specs.Statements.{AreNew}
 use Rattle.vx_typing.specs.Members.{types_in, signature_of, table_of}
 use Rattle.vx_types.specs.Typing.{AreFields}

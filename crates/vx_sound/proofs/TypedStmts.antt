@@ -13,11 +13,12 @@ use Rattle.vx_ast.specs.Syntax as Syntax
 use Rattle.vx_ast.specs.Syntax.{same_name, Declaration, Program, Method}
 use Rattle.vx_typing.specs.declared.names.Role.{Role}
 use Rattle.vx_typing.specs.declared.names.Role.TheVariants.{Local}
-use Rattle.vx_typing.specs.declared.setting.Variable.{Variable}
-use Rattle.vx_typing.specs.Scopes as scopes
-use Rattle.vx_typing.specs.Scopes.{named, with_variable}
-use Rattle.vx_typing.specs.Settings.{Table, Setting, within_method}
-use Rattle.vx_typing.specs.Typing as typing
+use Rattle.vx_expressions.specs.declared.setting.Variable.{Variable}
+use Rattle.vx_expressions.specs.Scopes as scopes
+use Rattle.vx_expressions.specs.Scopes.{named}
+use Rattle.vx_typing.specs.Roles.{with_variable}
+use Rattle.vx_expressions.specs.Settings.{Table, Setting, within_method}
+use Rattle.vx_expressions.specs.Typing as typing
 use Rattle.vx_typing.specs.Statements as typing'
 use Rattle.vx_typing.specs.Statements.{IsTarget, AreTargets, IsOpened, IsTypedCall, IsRight, AssignsCall}
 use Rattle.vx_types.specs.Typing.{Scope, type_in, HasType, TargetsHaveTypes, AreFields, scope_after, IsTypedStmt, IsTypedBlock}

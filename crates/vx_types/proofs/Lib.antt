@@ -2,5 +2,4 @@ pub mod Asserted
 pub mod Loops
 pub mod Methods
 pub mod Refused
-pub mod Rows
 pub mod Statements

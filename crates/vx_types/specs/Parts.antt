@@ -1,13 +1,10 @@
 -- Parts of a program as they are settled one after another.
-use Rattle.std.specs.Prelude.{Bool, true, false, List, [], ◌∷◌, map, Option, Some, None}
+use Rattle.std.specs.Prelude.{Bool, true, false, List, [], ◌∷◌, map}
 use Rattle.std.specs.declared.alloc.Global.{Global}
 use Rattle.std.specs.declared.rc.Rc.{Rc}
 use Rattle.vx_ast.specs.declared.BinaryOperator.TheVariants as binary
-use Rattle.vx_ast.specs.declared.Stmt as tree
-use Rattle.vx_ast.specs.declared.Block as block'
 use Rattle.vx_ast.specs.declared.resolved.Stmt as stmt'
 use Rattle.vx_ast.specs.Written as written
-use Rattle.vx_ast.specs.Written.{written_stmt, written_block}
 use Rattle.vx_ast.specs.Resolve.{Names, assertion}
 use Rattle.vx_ast.specs.Resolved as settled
 use Rattle.vx_ast.specs.Syntax.{Assertion, Stmt, Block, Then}
@@ -31,13 +28,3 @@ onto (s ∷ ss) b = Then s (onto ss b)
 
 abbrev pub stmts : List (Rc stmt'.Stmt Global) → List Stmt
 stmts ss = map (λ s. settled.stmt s.value) ss
-
--- the other side of an `if` as it is written
-abbrev pub other_written : Option (Rc block'.Block Global) → written.Other
-other_written None = written.NoElse
-other_written (Some b) = written.Else (written_block b.value)
-
--- a list of statements as it is written
-abbrev pub written_list : List tree.Stmt → written.Block
-written_list [] = written.Done
-written_list (s ∷ ss) = written.Then (written_stmt s.place s.kind) (written_list ss)

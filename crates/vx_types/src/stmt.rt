@@ -8,13 +8,13 @@ ghost use Rattle.vx_ast.specs.Resolve.{Names};
 ghost use Rattle.vx_ast.specs.Resolved as settled;
 ghost use Rattle.vx_ast.specs.Syntax as Syntax;
 ghost use Rattle.vx_types.specs.Executed.{is_executed_type, is_executed_right, is_executed_value, is_executed_stmt, is_executed_block, is_executed_other, is_executed_expr};
-ghost use Rattle.vx_types.specs.Parts.{other_written, onto, written_list, stmts};
+ghost use Rattle.vx_types.specs.Parts.{onto, stmts};
+ghost use Rattle.vx_ast.specs.Written.{optional_other, written_list};
 ghost use Rattle.vx_types.specs.Refusals.{Tells};
 
 use crate::Unsettled;
 use crate::assertions::assertion;
 use crate::expr::{expression, shared};
-use crate::unsettled::word_of;
 use std::alloc::{AllocError, Global};
 use std::rc::Rc;
 use vx_ast::resolved::{self, Block};
@@ -27,12 +27,10 @@ pub type Settled = Vec<Rc<resolved::Stmt>>;
 pub fn executed_type(declared: &Declaration) -> Result<(), Unsettled>
     ensures { Tells result (is_executed_type declared.now.value_type) }
 {
-    let of = declared.value_type;
-    match of {
+    match declared.value_type {
         ValueType::Int | ValueType::Bool => Ok(()),
-        ValueType::Ref | ValueType::Perm => {
-            Err(Unsettled::NotExecuted(declared.name.place, word_of(of)))
-        }
+        ValueType::Ref => Err(Unsettled::NotExecuted(declared.type_place, "Ref")),
+        ValueType::Perm => Err(Unsettled::NotExecuted(declared.type_place, "Perm")),
     }
 }
 
@@ -204,8 +202,8 @@ pub fn block(alloc: Global, b: &vx_ast::Block) -> Result<Rc<Block>, Unsettled>
 // The other side of an `if`: none is the empty block.
 #[cycle(settling)]
 fn other_block(alloc: Global, other: &Option<Rc<vx_ast::Block>>) -> Result<Rc<Block>, Unsettled>
-    ensures settled { IfOk result (λ r. (names : Names) → settled.block r.value ≡ resolve.other_side names (other_written other.now)) }
-    ensures executed { Tells result (is_executed_other (other_written other.now)) }
+    ensures settled { IfOk result (λ r. (names : Names) → settled.block r.value ≡ resolve.other_side names (optional_other other.now)) }
+    ensures executed { Tells result (is_executed_other (optional_other other.now)) }
 {
     match other {
         None => Ok(Rc::new(alloc, Block::Done)?),

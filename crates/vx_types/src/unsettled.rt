@@ -1,11 +1,8 @@
 //! Why a program isn't settled.
 
-ghost use Rattle.std.specs.Prelude.{◌≡◌};
-ghost use Rattle.vx_types.specs.Refusals.{code_of, title_of};
-
 use std::alloc::{AllocError, AllocFailed};
 use thiserror::Error;
-use vx_ast::{Place, ValueType};
+use vx_ast::Place;
 
 /// Why a program isn't settled.
 #[derive(Debug, Drop, Error)]
@@ -34,45 +31,5 @@ impl<T: Drop> From<AllocFailed<T>> for Unsettled {
 
     fn from(_: AllocFailed<T>) -> Self {
         Unsettled::Want
-    }
-}
-
-impl Unsettled {
-    /// Where it stands; want of memory stands nowhere.
-    pub fn place(&self) -> Option<Place> {
-        match self {
-            Unsettled::NotExecuted(place, _) => Some(*place),
-            Unsettled::Want => None,
-        }
-    }
-
-    /// The code that is printed; want of memory has none.
-    pub fn code(&self) -> &'static str
-        ensures { result.now ≡ code_of self.now }
-    {
-        match self {
-            Unsettled::NotExecuted(_, _) => "E09",
-            Unsettled::Want => "",
-        }
-    }
-
-    /// The code's name.
-    pub fn name(&self) -> &'static str
-        ensures { result.now ≡ title_of self.now }
-    {
-        match self {
-            Unsettled::NotExecuted(_, _) => "Unsupported",
-            Unsettled::Want => "",
-        }
-    }
-}
-
-/// The word of a type.
-pub fn word_of(t: ValueType) -> &'static str {
-    match t {
-        ValueType::Int => "Int",
-        ValueType::Bool => "Bool",
-        ValueType::Ref => "Ref",
-        ValueType::Perm => "Perm",
     }
 }

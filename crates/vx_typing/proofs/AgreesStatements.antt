@@ -8,20 +8,21 @@ use Rattle.vx_ast.specs.declared.ValueType.TheVariants as type
 use Rattle.vx_ast.specs.Mentions.{is_among}
 use Rattle.vx_ast.specs.Written as expr
 use Rattle.vx_ast.specs.Written.{Name, Placed, placed, Expr, Call, Exprs, NoMore, More, Amount, Right, Value, NewAll, New, Stmt, Declare, Assign, Write, Invoke, Inhale, Exhale, Assert, Assume, Fold, Unfold, If, While, Other, NoElse, Else, Block, Done, Then}
-use Rattle.vx_typing.specs.declared.setting.Variable.{Variable}
-use Rattle.vx_typing.specs.Places.{place_of}
+use Rattle.vx_expressions.specs.declared.setting.Variable.{Variable}
+use Rattle.vx_expressions.specs.Places.{place_of}
 use Rattle.vx_typing.specs.declared.names.Role.TheVariants.{Local}
-use Rattle.vx_typing.specs.Scopes.{Scope, named, with_variable}
-use Rattle.vx_typing.specs.Settings.{Table, Setting, Signature, IsField, IsPredicate, IsMethod, within_method}
-use Rattle.vx_typing.specs.Typing as typing
-use Rattle.vx_typing.specs.Typing.{HasType, HaveTypes, IsAssertion}
-use Rattle.vx_typing.specs.Faults.{◌>>=◌, Twice, Arity, UnfoldAbstract, unless, expect, field_type, arguments_fit, instance_of, check, check_all, check_share, instance, read, assertion}
+use Rattle.vx_expressions.specs.Scopes.{Scope, named}
+use Rattle.vx_typing.specs.Roles.{with_variable}
+use Rattle.vx_expressions.specs.Settings.{Table, Setting, Signature, IsField, IsPredicate, IsMethod, within_method}
+use Rattle.vx_expressions.specs.Typing as typing
+use Rattle.vx_expressions.specs.Typing.{HasType, HaveTypes, IsAssertion}
+use Rattle.vx_expressions.specs.Faults.{◌>>=◌, Twice, Arity, UnfoldAbstract, unless, expect, field_type, arguments_fit, instance_of, check, check_all, check_share, instance, read, assertion}
 use Rattle.vx_typing.specs.Statements.{AreNew, IsTarget, AreTargets, AreAssertions, IsOpened, scope_after, AreFields, IsTypedCall, IsRight, AssignsCall, AssignsRight, IsTypedDeclaration, IsTypedStmt, IsTypedOther, IsTypedBlock}
 use Rattle.vx_typing.specs.StatementFaults.{new_name, new_variable, assignable, target, targets, new_field, fields, targets_fit, method_of, as_many, called_with, is_method, truth, assertions, opened, call, right, assigned, assign, first_value, field_write, stmt, other, block}
-use Rattle.vx_typing.proofs.Passed.{ok_is, not_ok, bound, chosen, tested, expected, as_expected}
-use Rattle.vx_typing.proofs.Scopes.{not_known}
-use Rattle.vx_typing.proofs.AgreesTypes.{fit_to, fits, instance_to, instance_from, to_type, to_types, to_share, from_type, from_types, from_share}
-use Rattle.vx_typing.proofs.AgreesClaims.{to_assertion, passes}
+use Rattle.vx_expressions.proofs.Passed.{ok_is, not_ok, bound, chosen, tested, expected, as_expected}
+use Rattle.vx_expressions.proofs.Scopes.{not_known}
+use Rattle.vx_expressions.proofs.AgreesTypes.{fit_to, fits, instance_to, instance_from, to_type, to_types, to_share, from_type, from_types, from_share}
+use Rattle.vx_expressions.proofs.AgreesClaims.{to_assertion, passes}
 
 -- ---- names
 pub from_not : (b : Bool) → not b ≡ true → b ≡ false

@@ -3,8 +3,8 @@ use Rattle.std.proofs.Common.{◌≡◌, ◌∙◌, ap, true, [], ◌∷◌}
 use Rattle.std.specs.Prelude.{if◌then◌else◌}
 use Rattle.vx_ast.specs.declared.Place.{Place}
 use Rattle.vx_ast.specs.Written.{Name, Placed, placed, Call, Exprs, Right, Value}
-use Rattle.vx_typing.specs.Scopes.{Scope, named}
-use Rattle.vx_typing.specs.Settings.{Table}
+use Rattle.vx_expressions.specs.Scopes.{Scope, named}
+use Rattle.vx_expressions.specs.Settings.{Table}
 use Rattle.vx_typing.specs.StatementFaults.{is_method, call, assigned, assign}
 
 pub calls : (table : Table) (scope : Scope) (x : Placed) (r : Right) (at : Place) (m : Name) (es : Exprs) → r ≡ Value (Call at m es) → is_method (named table m) ≡ true →

@@ -12,7 +12,7 @@ use Rattle.vx_graph.specs.Reach.{Rows, InRange, leads}
 use Rattle.vx_typing.specs.Uses.{uses_by}
 use Rattle.vx_typing.specs.Groups.{are_of, uses_by_kind, kind_at, mentions, Reaches, at_once, further, in_group}
 use Rattle.vx_typing.specs.Numbered.{AreMarks, AreRoots, Tells}
-use Rattle.vx_typing.specs.Settings.{Table}
+use Rattle.vx_expressions.specs.Settings.{Table}
 use Rattle.vx_typing.specs.Members.{table_of}
 use Rattle.vx_typing.specs.GroupFaults.{some_below, measures_by}
 use Rattle.vx_typing.proofs.Loops.{left}

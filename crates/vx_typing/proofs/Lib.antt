@@ -1,10 +1,3 @@
-pub mod Fails
-pub mod Places
-pub mod Rows
-pub mod Accesses
-pub mod Arguments
-pub mod Unfoldings
-pub mod Scopes
 pub mod Loops
 pub mod Found
 pub mod Numbers
@@ -12,14 +5,9 @@ pub mod Lists
 pub mod Tables
 pub mod Blocks
 pub mod Assigns
-pub mod Passed
-pub mod AgreesAmounts
-pub mod AgreesTypes
-pub mod AgreesClaims
 pub mod AgreesStatements
 pub mod AgreesMembers
 pub mod Reachable
 pub mod AgreesGroups
 pub mod Graphs
 pub mod Agree
-pub mod Alike

@@ -1,10 +1,10 @@
 -- Walks over lists, one item after another.
 use Rattle.std.proofs.Common.{◌≡◌, ◌∙◌, ap, sym, subst, ℕ, suc, ◌+◌, ◌<◌, List, ◌∷◌, length, drop, get_or, Ok, add-one}
 use Rattle.std.proofs.Math.Seq.{drop-cons}
-use Rattle.vx_typing.specs.Faults.{Checked, ◌>>=◌}
-use Rattle.vx_typing.specs.declared.fault.TypeFault as fault'
-use Rattle.vx_typing.specs.Gives.{Fails}
-use Rattle.vx_typing.proofs.Fails.{fails_on}
+use Rattle.vx_expressions.specs.Faults.{Checked, ◌>>=◌}
+use Rattle.vx_expressions.specs.declared.fault.TypeFault as fault'
+use Rattle.vx_expressions.specs.Gives.{Fails}
+use Rattle.vx_expressions.proofs.Fails.{fails_on}
 
 -- what is left, one item of it and the others
 pub left : {X : Type 0} (xs : List X) (i : ℕ) (x : X) → i < length xs → x ≡ get_or xs i x → drop i xs ≡ x ∷ drop (i + 1) xs

@@ -4,10 +4,10 @@ use Rattle.std.specs.List.{position_or_len}
 use Rattle.std.proofs.lemmas.Bool.{ltb-true, lt-ltb}
 use Rattle.vx_ast.specs.Syntax.{same_name}
 use Rattle.vx_ast.specs.Written.{Name, Member, Program}
-use Rattle.vx_typing.specs.Settings.{Signature, Table}
+use Rattle.vx_expressions.specs.Settings.{Signature, Table}
 use Rattle.vx_typing.specs.Members.{table_of}
 use Rattle.vx_typing.specs.Groups.{number_in, number_of}
-use Rattle.vx_typing.proofs.Scopes.{same}
+use Rattle.vx_expressions.proofs.Scopes.{same}
 use Rattle.vx_typing.proofs.Reachable.{as_true}
 
 -- by the table

@@ -5,7 +5,7 @@ use Rattle.vx_ast.specs.Syntax.{same_name}
 use Rattle.vx_ast.specs.Written.{Name, Member, Program}
 use Rattle.vx_typing.specs.Uses.{Use}
 use Rattle.vx_typing.specs.Groups.{number_in, number_of, is_number, are_of, uses_by_kind, kind_at, mentions, Reaches, at_once, further, InGroup, reaches_by, in_group, IsOwn, is_own_number, is_own}
-use Rattle.vx_typing.proofs.Passed.{and_parts, and_true}
+use Rattle.vx_expressions.proofs.Passed.{and_parts, and_true}
 
 pub either : (a b : Bool) → (a || b) ≡ true → (a ≡ true) ⊎ (b ≡ true)
 either true b h = inl refl

@@ -10,8 +10,8 @@ use Rattle.vx_ast.specs.Mentions.{is_among}
 use Rattle.vx_ast.specs.Syntax.{same_name}
 use Rattle.vx_ast.specs.Written.{Name, written_declaration, optional_expr}
 use Rattle.vx_typing.specs.Members.{types_in}
-use Rattle.vx_typing.specs.Scopes.{named}
-use Rattle.vx_typing.specs.Views.{types_of}
+use Rattle.vx_expressions.specs.Scopes.{named}
+use Rattle.vx_expressions.specs.Views.{types_of}
 
 pub types : (ds : List Declaration) → types_of ds ≡ types_in (map written_declaration ds)
 types [] = refl

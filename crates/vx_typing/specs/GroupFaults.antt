@@ -2,8 +2,8 @@
 use Rattle.std.specs.Prelude.{ℕ, zero, suc, Bool, true, false, not, ◌&&◌, ◌||◌, length, List, [], ◌∷◌, Option, Some, None, Ok, Err, if◌then◌else◌, ⊤}
 use Rattle.vx_ast.specs.declared.Place.{Place}
 use Rattle.vx_ast.specs.Written.{Expr, Kind, IsPredicate, IsFunction, Member, Program, measure_of}
-use Rattle.vx_typing.specs.Settings.{Table}
-use Rattle.vx_typing.specs.Faults.{Checked, ◌>>=◌, NoMeasure, MixedMeasures, NotHere, unless}
+use Rattle.vx_expressions.specs.Settings.{Table}
+use Rattle.vx_expressions.specs.Faults.{Checked, ◌>>=◌, NoMeasure, MixedMeasures, NotHere, unless}
 use Rattle.vx_typing.specs.Members.{table_of}
 use Rattle.vx_typing.specs.Measures.{is_instance}
 use Rattle.vx_typing.specs.Uses.{Use, uses_before, uses_of_body}

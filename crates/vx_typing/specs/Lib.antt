@@ -1,10 +1,4 @@
-pub mod Places
-pub mod Scopes
-pub mod Settings
-pub mod Amounts
-pub mod AmountValues
-pub mod Typing
-pub mod Faults
+pub mod Roles
 pub mod Statements
 pub mod StatementFaults
 pub mod Members
@@ -14,13 +8,10 @@ pub mod Groups
 pub mod Measures
 pub mod GroupFaults
 pub mod Programs
-pub mod Views
+pub mod Blocks
 pub mod Seen
 pub mod Numbered
-pub mod Gives
 pub mod Laws
-pub mod Examples
-pub mod Printed
 pub mod ProgramExamples
 pub mod Known
 pub mod Typed

@@ -1,16 +1,12 @@
 -- What typing asks of groups of functions and predicates.
 use Rattle.std.specs.Prelude.{◌≡◌, ℕ, Bool, true, false, [], Option, Some}
 use Rattle.vx_ast.specs.Written.{Expr, Call, Predicate, Function, IsPredicate, IsFunction, Program, measure_of}
-use Rattle.vx_typing.specs.Settings as settings
-use Rattle.vx_typing.specs.Settings.{Table, Signature}
-use Rattle.vx_typing.specs.Scopes.{named}
+use Rattle.vx_expressions.specs.Settings as settings
+use Rattle.vx_expressions.specs.Settings.{Table, Signature, is_predicate}
+use Rattle.vx_expressions.specs.Scopes.{named}
 use Rattle.vx_typing.specs.Members.{table_of}
 use Rattle.vx_typing.specs.Uses.{Each, uses_before, uses_of_body}
 use Rattle.vx_typing.specs.Groups.{kind_at, Reaches, InGroup, IsOwn}
-
-abbrev pub is_predicate : Option Signature → Bool
-is_predicate (Some (settings.IsPredicate ts has_body)) = true
-is_predicate _ = false
 
 -- whether it measures by an instance: the other measures are numbers
 abbrev pub is_instance : Table → Expr → Bool

@@ -5,8 +5,8 @@ use Rattle.vx_ast.specs.declared.ValueType.TheVariants.{Int, Ref, Perm}
 use Rattle.vx_ast.specs.declared.ValueType.TheVariants as type
 use Rattle.vx_ast.specs.declared.BinaryOperator.TheVariants as binary
 use Rattle.vx_ast.specs.Written.{Name, placed, Expr, NoMore, More, All, Part, Number, Truth, Null, Nothing, Result, Variable, Call, Read, Binary, Choice, Old, Access, Unfolding, Value, New, Declaration, Declare, Assign, Write, Invoke, Inhale, Exhale, Assert, Assume, Fold, Unfold, If, While, NoElse, Block, Done, Then, Clause, Requires, Ensures, Decreases, IsField, IsPredicate, IsFunction, IsMethod, Member, Program}
-use Rattle.vx_typing.specs.Faults.{Checked, OfType, Unknown, Twice, Mismatch, Impure, Arity, NoMeasure, MixedMeasures, AmountNotConstant, NotHere, NotAssignable, OldHere, ResultHere, UnfoldAbstract}
-use Rattle.vx_typing.specs.Examples.{at, name}
+use Rattle.vx_expressions.specs.Faults.{Checked, OfType, Unknown, Twice, Mismatch, Impure, Arity, NoMeasure, MixedMeasures, AmountNotConstant, NotHere, NotAssignable, OldHere, ResultHere, UnfoldAbstract}
+use Rattle.vx_expressions.specs.Examples.{at, name}
 
 -- a name of one letter, and a type behind its colon and a blank
 abbrev decl : ℕ → Name → ValueType → Declaration

@@ -5,7 +5,7 @@ use Rattle.vx_ast.specs.Written.{Program}
 use Rattle.vx_typing.specs.Statements.{AreNew}
 use Rattle.vx_typing.specs.Members.{table_of, AreTypedMembers}
 use Rattle.vx_typing.specs.Measures.{AreMeasured, KeepApart}
-use Rattle.vx_typing.specs.Faults.{Checked, ◌>>=◌}
+use Rattle.vx_expressions.specs.Faults.{Checked, ◌>>=◌}
 use Rattle.vx_typing.specs.MemberFaults.{new_names, members}
 use Rattle.vx_typing.specs.GroupFaults.{measures, all_apart}
 

@@ -6,13 +6,14 @@ use Rattle.vx_ast.specs.declared.ValueType.{ValueType}
 use Rattle.vx_ast.specs.declared.ValueType.TheVariants as type
 use Rattle.vx_ast.specs.Mentions.{is_among}
 use Rattle.vx_ast.specs.Written.{Name, Placed, placed, Declaration, Expr, Call, Exprs, NoMore, More, Amount, Right, Value, NewAll, New, Stmt, Declare, Assign, Write, Invoke, Inhale, Exhale, Assert, Assume, Fold, Unfold, If, While, Other, NoElse, Else, Block, Done, Then}
-use Rattle.vx_typing.specs.declared.setting.Variable.{Variable}
-use Rattle.vx_typing.specs.Places.{place_of}
+use Rattle.vx_expressions.specs.declared.setting.Variable.{Variable}
+use Rattle.vx_expressions.specs.Places.{place_of}
 use Rattle.vx_typing.specs.declared.names.Role.TheVariants.{Local}
-use Rattle.vx_typing.specs.Scopes.{Scope, named, with_variable}
-use Rattle.vx_typing.specs.Settings.{Table, Setting, Signature, IsMethod, within_method}
+use Rattle.vx_expressions.specs.Scopes.{Scope, named}
+use Rattle.vx_typing.specs.Roles.{with_variable}
+use Rattle.vx_expressions.specs.Settings.{Table, Setting, Signature, IsMethod, within_method}
 use Rattle.vx_typing.specs.Statements.{scope_after}
-use Rattle.vx_typing.specs.Faults.{Checked, ◌>>=◌, Unknown, Twice, Arity, NotAssignable, UnfoldAbstract, unless, expect, field_type, arguments_fit, check, check_all, check_share, instance, read, assertion}
+use Rattle.vx_expressions.specs.Faults.{Checked, ◌>>=◌, Unknown, Twice, Arity, NotAssignable, UnfoldAbstract, unless, expect, field_type, arguments_fit, check, check_all, check_share, instance, read, assertion}
 
 -- a name that is not among those before it
 abbrev pub new_name : List Name → Placed → Checked ⊤

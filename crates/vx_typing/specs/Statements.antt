@@ -5,9 +5,10 @@ use Rattle.vx_ast.specs.declared.ValueType.TheVariants as type
 use Rattle.vx_ast.specs.Mentions.{is_among}
 use Rattle.vx_ast.specs.Written.{Name, Placed, Call, Read, Exprs, NoMore, More, Amount, Right, Value, NewAll, New, Stmt, Declare, Assign, Write, Invoke, Inhale, Exhale, Assert, Assume, Fold, Unfold, If, While, Other, NoElse, Else, Block, Done, Then}
 use Rattle.vx_typing.specs.declared.names.Role.TheVariants.{Local}
-use Rattle.vx_typing.specs.Scopes.{Scope, named, with_variable}
-use Rattle.vx_typing.specs.Settings.{Table, Setting, IsField, IsPredicate, IsMethod, within_method}
-use Rattle.vx_typing.specs.Typing.{HasType, HaveTypes, IsShare, IsAssertion}
+use Rattle.vx_expressions.specs.Scopes.{Scope, named}
+use Rattle.vx_typing.specs.Roles.{with_variable}
+use Rattle.vx_expressions.specs.Settings.{Table, Setting, IsField, IsPredicate, IsMethod, within_method}
+use Rattle.vx_expressions.specs.Typing.{HasType, HaveTypes, IsShare, IsAssertion}
 
 -- none is among those before it
 abbrev pub AreNew : List Name → List Placed → Type 0

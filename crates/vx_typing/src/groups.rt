@@ -14,17 +14,17 @@ ghost use Rattle.vx_typing.specs.Groups.{number_of, is_number, are_of, mentions}
 ghost use Rattle.vx_typing.specs.Groups as groups;
 ghost use Rattle.vx_typing.specs.Uses as uses;
 ghost use Rattle.vx_typing.specs.Measures as measures;
+ghost use Rattle.vx_expressions.specs.Settings as settings;
 ghost use Rattle.vx_typing.specs.Members.{table_of};
-ghost use Rattle.vx_typing.specs.Gives.{Gives};
+ghost use Rattle.vx_expressions.specs.Gives.{Gives};
 ghost use Rattle.vx_typing.specs.Numbered.{AreRoots, AreMarks, Tells, marks, shown};
 ghost use Rattle.vx_typing.specs.Seen.{seen};
-ghost use Rattle.vx_typing.specs.Views.{table, signature};
+ghost use Rattle.vx_expressions.specs.Views.{table, signature};
 
-use crate::setting::member;
 use crate::uses::{Named, uses_before, uses_by, uses_of_body};
-use crate::{Members, Signature, TypeFault};
 use std::alloc::{AllocError, Global};
 use vx_ast::{Clause, Expr, ExprKind, Function, Member, MemberId, MemberKind, Place};
+use vx_expressions::{Members, Signature, TypeFault, member};
 use vx_graph::{Edges, Groups, all_groups};
 
 /// A member's number in file order.
@@ -138,7 +138,7 @@ fn is_instance(members: &Members, e: &Expr) -> bool
 }
 
 fn is_predicate(found: Option<Signature>) -> bool
-    ensures { result ≡ measures.is_predicate (option_map signature found.entry) }
+    ensures { result ≡ settings.is_predicate (option_map signature found.entry) }
 {
     match found {
         Some(Signature::Predicate(_, _)) => true,

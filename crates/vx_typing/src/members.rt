@@ -2,28 +2,27 @@
 
 ghost use Rattle.std.specs.Prelude.{◌≡◌, ◌++◌, ◌∷◌, [], OnOk, IfOk, map, string_bytes};
 ghost use Rattle.vx_ast.specs.Written.{name_of, written_expr, written_clause, written_declaration, written_kind, written_member, optional_expr, optional_block};
-ghost use Rattle.vx_typing.specs.Faults as faults;
+ghost use Rattle.vx_expressions.specs.Faults as faults;
 ghost use Rattle.vx_typing.specs.StatementFaults as statements;
 ghost use Rattle.vx_typing.specs.MemberFaults as first;
 ghost use Rattle.vx_typing.specs.Members.{signature_of, table_of};
 ghost use Rattle.vx_typing.specs.declared.names.Role.TheVariants.{Input, Parameter, Local};
-ghost use Rattle.vx_typing.specs.Scopes.{with_variables};
-ghost use Rattle.vx_typing.specs.Gives.{Gives};
-ghost use Rattle.vx_typing.specs.Views as views;
-ghost use Rattle.vx_typing.specs.Views.{setting, table, known, claim_of, names_in};
+ghost use Rattle.vx_typing.specs.Roles.{with_variables};
+ghost use Rattle.vx_expressions.specs.Gives.{Gives};
+ghost use Rattle.vx_expressions.specs.Views as views;
+ghost use Rattle.vx_expressions.specs.Views.{setting, table, known, claim_of, names_in};
 
-use crate::assertions::{Claim, assertion, call};
-use crate::expect::{expect, place};
-use crate::expr::check;
 use crate::names::{Role, declare_all, twice};
 use crate::stmt::{block, truth};
-use crate::{Members, Setting, Signature, TypeFault, Variables};
 use indexmap::IndexMap;
 use std::alloc::Global;
 use std::rc::Rc;
 use vx_ast::{
     Block, Clause, Declaration, Expr, ExprKind, Function, Member, MemberKind, Method, Predicate,
     ValueType,
+};
+use vx_expressions::{
+    Claim, Members, Setting, Signature, TypeFault, Variables, assertion, call, check, expect, place,
 };
 
 fn typed_as(alloc: Global, s: Setting, t: ValueType, e: &Expr) -> Result<(), TypeFault>
@@ -260,7 +259,7 @@ fn add_member<'a>(alloc: Global, members: &mut Members<'a>, m: &'a Member) -> Re
     ensures added { OnOk result (table members.new.entries ≡ table members.old.entries ++ (string_bytes m.now.name.text, signature_of (written_kind m.now.kind)) ∷ []) }
 {
     let name: &str = &m.name.text;
-    if crate::setting::member(members, name).is_some() {
+    if vx_expressions::member(members, name).is_some() {
         return Err(twice(alloc, &m.name));
     }
     members.insert(name, signature(&m.kind))?;

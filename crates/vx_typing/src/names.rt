@@ -2,19 +2,18 @@
 
 ghost use Rattle.std.specs.Prelude.{◌≡◌, ◌++◌, ◌∷◌, [], OnOk, IfSome, map, string_bytes};
 ghost use Rattle.vx_ast.specs.Written.{name_of, written_declaration};
-ghost use Rattle.vx_typing.specs.Faults as faults;
+ghost use Rattle.vx_expressions.specs.Faults as faults;
 ghost use Rattle.vx_typing.specs.StatementFaults as first;
-ghost use Rattle.vx_typing.specs.Gives.{Gives, told};
+ghost use Rattle.vx_expressions.specs.Gives.{Gives, told};
 ghost use Rattle.vx_typing.specs.MemberFaults as members;
-ghost use Rattle.vx_typing.specs.Scopes as scopes;
-ghost use Rattle.vx_typing.specs.Scopes.{with_variable, with_variables};
-ghost use Rattle.vx_typing.specs.Views.{known, listed};
+ghost use Rattle.vx_typing.specs.Roles as scopes;
+ghost use Rattle.vx_typing.specs.Roles.{with_variable, with_variables};
+ghost use Rattle.vx_expressions.specs.Views.{known, listed};
 
-use crate::setting::find;
-use crate::{Expected, TypeFault, Variable, Variables};
 use indexmap::IndexSet;
 use std::alloc::Global;
 use vx_ast::{Declaration, Name, ValueType};
+use vx_expressions::{Expected, TypeFault, Variable, Variables, find};
 
 /// What a variable is declared as.
 #[derive(Clone, Copy, Debug, PartialEq, Eq)]

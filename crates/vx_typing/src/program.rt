@@ -3,14 +3,15 @@
 ghost use Rattle.std.specs.Prelude.{◌≡◌, IfOk};
 ghost use Rattle.vx_ast.specs.Written.{written_program};
 ghost use Rattle.vx_typing.specs.Programs as first;
-ghost use Rattle.vx_typing.specs.Gives.{Gives};
+ghost use Rattle.vx_expressions.specs.Gives.{Gives};
 ghost use Rattle.vx_typing.specs.Typed.{written_of};
 
+use crate::Typed;
 use crate::groups::{check_groups, edges_of};
 use crate::members::{check_members, members_of};
-use crate::{TypeFault, Typed};
 use std::alloc::Global;
 use vx_ast::Program;
+use vx_expressions::TypeFault;
 
 /// The typed program, where it is typed. Otherwise its first fault: of the names of all members, of each member in file
 /// order, of measures, and of what leads back to its own group. A program of 2^32 members or more is beyond memory.

@@ -2,26 +2,28 @@
 
 ghost use Rattle.std.specs.Prelude.{◌≡◌, ◌++◌, ◌∷◌, [], OnOk, option_map, map, string_bytes};
 ghost use Rattle.vx_ast.specs.Written.{name_of, placed, written_expr, written_all, written_optional, written_right, optional_right, written_declaration, written_stmt, written_block};
-ghost use Rattle.vx_typing.specs.Faults as faults;
+ghost use Rattle.vx_expressions.specs.Faults as faults;
 ghost use Rattle.vx_typing.specs.StatementFaults as first;
 ghost use Rattle.vx_typing.specs.Statements.{scope_after};
-ghost use Rattle.vx_typing.specs.Settings.{within_method};
+ghost use Rattle.vx_expressions.specs.Settings.{within_method};
 ghost use Rattle.vx_typing.specs.declared.names.Role.TheVariants.{Local};
-ghost use Rattle.vx_typing.specs.Scopes.{named, with_variable};
-ghost use Rattle.vx_typing.specs.Gives.{Gives};
-ghost use Rattle.vx_typing.specs.Views.{setting, signature, table, known, listed, types_of, written_list, optional_other, Extends};
+ghost use Rattle.vx_expressions.specs.Scopes.{named};
+ghost use Rattle.vx_typing.specs.Roles.{with_variable};
+ghost use Rattle.vx_expressions.specs.Gives.{Gives};
+ghost use Rattle.vx_expressions.specs.Views.{setting, signature, table, known, listed, types_of};
+ghost use Rattle.vx_typing.specs.Blocks.{Extends};
+ghost use Rattle.vx_ast.specs.Written.{optional_other, written_list};
 
-use crate::assertions::assertion;
-use crate::expect::{expect, place};
-use crate::expr::{arguments_fit, check, check_all, field_type, instance, read, share, unknown};
 use crate::names::{Role, add_name, declare};
-use crate::setting::{find, member};
-use crate::{Members, Setting, Signature, TypeFault, Variables};
 use indexmap::IndexSet;
 use std::alloc::Global;
 use std::rc::Rc;
 use vx_ast::{
     Block, Declaration, Expr, ExprKind, Instance, Name, Place, Right, Stmt, StmtKind, ValueType,
+};
+use vx_expressions::{
+    Members, Setting, Signature, TypeFault, Variables, arguments_fit, assertion, check, check_all,
+    expect, field_type, find, instance, member, place, read, share, unknown,
 };
 
 // The type of a target.

@@ -5,13 +5,12 @@ ghost use Rattle.vx_ast.specs.Written.{written_program};
 ghost use Rattle.vx_graph.specs.Views.{rows};
 ghost use Rattle.vx_typing.specs.Known.{HasNoFault, AreMentions};
 ghost use Rattle.vx_typing.specs.Members.{table_of};
-ghost use Rattle.vx_typing.specs.Views.{table};
+ghost use Rattle.vx_expressions.specs.Views.{table};
 
 use crate::groups::number;
 use crate::laws::programs_are_told;
-use crate::setting::member;
-use crate::{Members, Signature};
 use vx_ast::{MemberId, Program};
+use vx_expressions::{Members, Signature, member};
 use vx_graph::Edges;
 
 /// A typed program, with what its names stand for, and which members mention which.
@@ -30,9 +29,9 @@ impl<'a> Typed<'a> {
     ghost use Rattle.std.specs.Prelude.{option_map};
     ghost use Rattle.vx_typing.specs.Groups.{number_of};
     ghost use Rattle.vx_typing.specs.Programs.{IsTyped};
-    ghost use Rattle.vx_typing.specs.Scopes.{named};
+    ghost use Rattle.vx_expressions.specs.Scopes.{named};
     ghost use Rattle.vx_typing.specs.Typed.{written_of};
-    ghost use Rattle.vx_typing.specs.Views.{signature};
+    ghost use Rattle.vx_expressions.specs.Views.{signature};
 
     /// The program as it is written.
     pub fn program(&self) -> &'a Program

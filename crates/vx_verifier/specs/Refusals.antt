@@ -13,11 +13,11 @@ use Rattle.vx_parser.specs.Faults as text
 use Rattle.vx_parser.specs.Spelling.{Spells}
 use Rattle.vx_parser.specs.Refusing.{IsRefusal}
 use Rattle.vx_parser.specs.Store.{first_beyond, IsFirst}
-use Rattle.vx_typing.specs.declared.fault.TypeFault.{TypeFault}
-use Rattle.vx_typing.specs.declared.fault.TypeFault.TheVariants as untyped
-use Rattle.vx_typing.specs.Printed as type
+use Rattle.vx_expressions.specs.declared.fault.TypeFault.{TypeFault}
+use Rattle.vx_expressions.specs.declared.fault.TypeFault.TheVariants as untyped
+use Rattle.vx_expressions.specs.Printed as type
 use Rattle.vx_typing.specs.Programs.{program}
-use Rattle.vx_typing.specs.Gives.{told as told_of}
+use Rattle.vx_expressions.specs.Gives.{told as told_of}
 use Rattle.vx_report.specs.Reports.{place_text}
 
 -- each behind a blank

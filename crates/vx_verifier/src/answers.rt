@@ -4,7 +4,7 @@ ghost use Rattle.std.specs.Prelude.{◌≡◌, ◌++◌, ◌∷◌, [], IfOk, On
 ghost use Rattle.std.specs.Fmt.{decimal};
 ghost use Rattle.vx_parser.specs.declared.fault.TextFault.TheVariants as faults;
 ghost use Rattle.vx_report.specs.Reports.{place_text};
-ghost use Rattle.vx_typing.specs.declared.fault.TypeFault.TheVariants as untyped;
+ghost use Rattle.vx_expressions.specs.declared.fault.TypeFault.TheVariants as untyped;
 ghost use Rattle.vx_verifier.specs.Refusals as spec;
 
 use std::alloc::{AllocError, Global};

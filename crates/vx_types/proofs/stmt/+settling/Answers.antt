@@ -5,8 +5,9 @@ use Rattle.vx_types.proofs.Refused.{passed}
 use Rattle.vx_ast.specs.declared.StmtKind.TheViews as tree
 use Rattle.vx_ast.specs.Resolve as resolve
 use Rattle.vx_ast.specs.Written.{If, written_stmt, written_expr, written_block}
-use Rattle.vx_types.specs.Parts.{other_written, onto, stmts, written_list}
-use Rattle.vx_types.proofs.Rows.{rows}
+use Rattle.vx_types.specs.Parts.{onto, stmts}
+use Rattle.vx_ast.specs.Written.{optional_other, written_list}
+use Rattle.vx_ast.proofs.Rows.{rows}
 use Rattle.vx_types.proofs.stmt.+settling.Goals as goal
 
 pub block-returns-clause-settled : goal.block-returns-clause-settled
@@ -20,7 +21,7 @@ pub statement-returns-in_ok-put-in-If-clause-settled : goal.statement-returns-in
 statement-returns-in_ok-put-in-If-clause-settled t c =
     let i = c.in-If in
     let k = c.args.s.now.kind in
-    let view : written_stmt c.args.s.now.place k ≡ If c.args.s.now.place (written_expr i.c.value) (written_block i.a.value) (other_written i.b) = search (rules, tree.the_lemmas) in
+    let view : written_stmt c.args.s.now.place k ≡ If c.args.s.now.place (written_expr i.c.value) (written_block i.a.value) (optional_other i.b) = search (rules, tree.the_lemmas) in
     search (rules, view)
 
 pub block-returns-in_err-statements-clause-executed : goal.block-returns-in_err-statements-clause-executed

@@ -1,7 +1,8 @@
 use Rattle.std.proofs.Common.{◌≡◌, drop}
 use Rattle.vx_ast.specs.Resolve.{Names, block}
 use Rattle.vx_types.specs.Executed.{is_executed_block}
-use Rattle.vx_types.specs.Parts.{onto, stmts, written_list}
+use Rattle.vx_types.specs.Parts.{onto, stmts}
+use Rattle.vx_ast.specs.Written.{written_list}
 use Rattle.vx_types.proofs.stmt.+settling.Given as goal
 
 abbrev pub invariant-statements-loop-s : goal.invariant-statements-loop-s

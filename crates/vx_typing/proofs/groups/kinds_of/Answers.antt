@@ -1,7 +1,7 @@
 use Rattle.std.proofs.Common.{◌∙◌, map, true, false, Bool}
 use Rattle.vx_ast.specs.Written.{written_member}
 use Rattle.vx_graph.specs.Groups.{roots}
-use Rattle.vx_typing.specs.Views.{table}
+use Rattle.vx_expressions.specs.Views.{table}
 use Rattle.vx_typing.proofs.Graphs.{measures_at, one_mark}
 use Rattle.vx_typing.proofs.groups.kinds_of.Goals as goal
 

@@ -1,5 +1,5 @@
 use Rattle.std.proofs.Common.{◌∙◌}
-use Rattle.vx_typing.specs.Views.{signature}
+use Rattle.vx_expressions.specs.Views.{signature}
 use Rattle.vx_typing.proofs.Numbers.{placed_at}
 use Rattle.vx_typing.proofs.groups.number.Goals as goal
 

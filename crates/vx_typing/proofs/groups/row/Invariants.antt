@@ -4,7 +4,7 @@ use Rattle.vx_graph.specs.Listed.{is_in}
 use Rattle.vx_typing.specs.Groups.{are_of}
 use Rattle.vx_typing.specs.Members.{table_of}
 use Rattle.vx_typing.specs.Seen.{seen}
-use Rattle.vx_typing.specs.Views.{table}
+use Rattle.vx_expressions.specs.Views.{table}
 use Rattle.vx_typing.proofs.groups.row.Given as goal
 
 abbrev pub invariant-loop-u : goal.invariant-loop-u

@@ -1,7 +1,7 @@
 use Rattle.std.proofs.Common.{◌≡◌, [], sym, subst, map, drop, length, arith, ◌≤◌, append-nil}
 use Rattle.vx_ast.specs.Written.{written_member}
 use Rattle.vx_typing.specs.Numbered.{Tells}
-use Rattle.vx_typing.proofs.Arguments.{drop_past}
+use Rattle.vx_expressions.proofs.Arguments.{drop_past}
 use Rattle.vx_typing.proofs.groups.rows_of.Goals as goal
 
 pub returns : goal.returns

@@ -3,7 +3,7 @@ use Rattle.vx_ast.specs.Written.{Program, written_member}
 use Rattle.vx_graph.specs.Reach.{Rows}
 use Rattle.vx_typing.specs.Members.{table_of}
 use Rattle.vx_typing.specs.Numbered.{Tells}
-use Rattle.vx_typing.specs.Views.{table}
+use Rattle.vx_expressions.specs.Views.{table}
 use Rattle.vx_typing.proofs.groups.rows_of.Given as goal
 
 abbrev pub invariant-loop-m : goal.invariant-loop-m

@@ -1,9 +1,9 @@
 use Rattle.std.proofs.Common.{◌≡◌, ◌∙◌, ◌++◌, ◌∷◌, [], ap, sym, string_bytes, true, false}
 use Rattle.std.specs.Prelude.{not, is_some}
 use Rattle.vx_ast.specs.Mentions.{is_among}
-use Rattle.vx_typing.specs.Scopes.{named}
-use Rattle.vx_typing.specs.Views.{table, names_in, signature}
-use Rattle.vx_typing.proofs.Scopes.{appended, unless_fails, unless_passes}
+use Rattle.vx_expressions.specs.Scopes.{named}
+use Rattle.vx_expressions.specs.Views.{table, names_in, signature}
+use Rattle.vx_expressions.proofs.Scopes.{appended, unless_fails, unless_passes}
 use Rattle.vx_typing.proofs.Tables.{stands, seen_some, nothing}
 use Rattle.vx_typing.proofs.members.add_member.Goals as goal
 

@@ -1,7 +1,7 @@
 use Rattle.std.proofs.Common.{◌≡◌, drop, map}
 use Rattle.vx_ast.specs.Written.{written_clause}
 use Rattle.vx_typing.specs.MemberFaults.{clauses}
-use Rattle.vx_typing.specs.Views.{table, known}
+use Rattle.vx_expressions.specs.Views.{table, known}
 use Rattle.vx_typing.proofs.members.clauses.Given as goal
 
 abbrev pub invariant-loop-c : goal.invariant-loop-c

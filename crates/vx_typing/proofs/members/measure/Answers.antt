@@ -1,7 +1,7 @@
 use Rattle.std.proofs.Common.{rules}
 use Rattle.vx_ast.specs.declared.ExprKind as tree
-use Rattle.vx_typing.proofs.Rows.{call_row}
-use Rattle.vx_typing.proofs.Fails.{passed_on}
+use Rattle.vx_expressions.proofs.Rows.{call_row}
+use Rattle.vx_expressions.proofs.Fails.{passed_on}
 use Rattle.vx_typing.proofs.members.measure.Goals as goal
 
 pub returns-in_err-x-in-Call : goal.returns-in_err-x-in-Call

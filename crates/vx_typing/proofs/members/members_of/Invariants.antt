@@ -2,7 +2,7 @@ use Rattle.std.proofs.Common.{◌≡◌, ◌++◌, [], drop, map}
 use Rattle.vx_ast.specs.Written.{written_member}
 use Rattle.vx_typing.specs.Members.{table_of}
 use Rattle.vx_typing.specs.MemberFaults.{new_names}
-use Rattle.vx_typing.specs.Views.{table, names_in}
+use Rattle.vx_expressions.specs.Views.{table, names_in}
 use Rattle.vx_typing.proofs.members.members_of.Given as goal
 
 abbrev pub invariant-loop-m : goal.invariant-loop-m

@@ -1,8 +1,8 @@
 use Rattle.std.proofs.Common.{◌∙◌, ap, ap₂, sym}
 use Rattle.vx_ast.specs.Written.{written_kind}
-use Rattle.vx_typing.specs.Settings.{IsPredicate, IsFunction, IsMethod}
+use Rattle.vx_expressions.specs.Settings.{IsPredicate, IsFunction, IsMethod}
 use Rattle.vx_typing.specs.Members.{signature_of}
-use Rattle.vx_typing.specs.Views.{types_of}
+use Rattle.vx_expressions.specs.Views.{types_of}
 use Rattle.vx_typing.proofs.Tables.{types, has_body}
 use Rattle.vx_typing.proofs.members.signature.Goals as goal
 

@@ -1,8 +1,8 @@
 use Rattle.std.proofs.Common.{◌∙◌, ◌++◌, ◌∷◌, [], ap, sym}
 use Rattle.std.specs.Prelude.{not}
 use Rattle.vx_ast.specs.Mentions.{is_among}
-use Rattle.vx_typing.specs.Views.{listed}
-use Rattle.vx_typing.proofs.Scopes.{among, added, unless_fails, unless_passes}
+use Rattle.vx_expressions.specs.Views.{listed}
+use Rattle.vx_expressions.proofs.Scopes.{among, added, unless_fails, unless_passes}
 use Rattle.vx_typing.proofs.names.add_name.Goals as goal
 
 pub returns-then-is_new-clause-first : goal.returns-then-is_new-clause-first

@@ -1,8 +1,8 @@
 use Rattle.std.proofs.Common.{◌∙◌, ◌++◌, ◌∷◌, [], ap, string_bytes}
-use Rattle.vx_typing.specs.declared.setting.Variable.{Variable}
-use Rattle.vx_typing.specs.Scopes.{named}
-use Rattle.vx_typing.specs.Views.{known}
-use Rattle.vx_typing.proofs.Scopes.{appended, not_known}
+use Rattle.vx_expressions.specs.declared.setting.Variable.{Variable}
+use Rattle.vx_expressions.specs.Scopes.{named}
+use Rattle.vx_expressions.specs.Views.{known}
+use Rattle.vx_expressions.proofs.Scopes.{appended, not_known}
 use Rattle.vx_typing.proofs.names.declare.Goals as goal
 
 pub returns-clause-after : goal.returns-clause-after

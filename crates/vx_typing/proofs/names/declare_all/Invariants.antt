@@ -1,8 +1,8 @@
 use Rattle.std.proofs.Common.{◌≡◌, drop, map}
 use Rattle.vx_ast.specs.Written.{written_declaration}
 use Rattle.vx_typing.specs.MemberFaults.{declarations}
-use Rattle.vx_typing.specs.Scopes.{with_variables}
-use Rattle.vx_typing.specs.Views.{known}
+use Rattle.vx_typing.specs.Roles.{with_variables}
+use Rattle.vx_expressions.specs.Views.{known}
 use Rattle.vx_typing.proofs.names.declare_all.Given as goal
 
 abbrev pub invariant-loop-declared : goal.invariant-loop-declared

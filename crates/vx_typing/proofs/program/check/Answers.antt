@@ -3,12 +3,12 @@ use Rattle.std.proofs.lemmas.List.{length-map}
 use Rattle.vx_ast.specs.Written.{written_member, written_program}
 use Rattle.vx_graph.specs.Reach.{leads}
 use Rattle.vx_graph.specs.Views.{rows}
-use Rattle.vx_typing.specs.Faults.{◌>>=◌}
+use Rattle.vx_expressions.specs.Faults.{◌>>=◌}
 use Rattle.vx_typing.specs.Groups.{mentions}
 use Rattle.vx_typing.specs.MemberFaults.{new_names, members}
 use Rattle.vx_typing.specs.Members.{table_of}
 use Rattle.vx_typing.specs.Programs as first
-use Rattle.vx_typing.specs.Views.{table}
+use Rattle.vx_expressions.specs.Views.{table}
 use Rattle.vx_typing.proofs.program.check.Goals as goal
 
 pub invariant_of-result : goal.invariant_of-result

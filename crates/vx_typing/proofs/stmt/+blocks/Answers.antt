@@ -1,9 +1,11 @@
 use Rattle.std.proofs.Common.{◌∙◌, ap, sym, subst}
-use Rattle.vx_typing.specs.Gives.{Gives}
+use Rattle.vx_expressions.specs.Gives.{Gives}
 use Rattle.vx_typing.specs.StatementFaults.{block}
-use Rattle.vx_typing.specs.Views.{table, known, written_list}
-use Rattle.vx_typing.proofs.Blocks.{rows, left}
-use Rattle.vx_typing.proofs.Fails.{passed}
+use Rattle.vx_expressions.specs.Views.{table, known}
+use Rattle.vx_ast.specs.Written.{written_list}
+use Rattle.vx_typing.proofs.Blocks.{left}
+use Rattle.vx_ast.proofs.Rows.{rows}
+use Rattle.vx_expressions.proofs.Fails.{passed}
 use Rattle.vx_typing.proofs.stmt.+blocks.Goals as goal
 
 pub block-returns-in_err-statements-clause-first : goal.block-returns-in_err-statements-clause-first

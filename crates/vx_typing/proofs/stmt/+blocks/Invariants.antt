@@ -1,6 +1,8 @@
 use Rattle.std.proofs.Common.{◌≡◌, drop}
 use Rattle.vx_typing.specs.StatementFaults.{block}
-use Rattle.vx_typing.specs.Views.{table, known, written_list, Extends}
+use Rattle.vx_expressions.specs.Views.{table, known}
+use Rattle.vx_typing.specs.Blocks.{Extends}
+use Rattle.vx_ast.specs.Written.{written_list}
 use Rattle.vx_typing.proofs.stmt.+blocks.Given as goal
 
 abbrev pub invariant-statements-loop-s : goal.invariant-statements-loop-s

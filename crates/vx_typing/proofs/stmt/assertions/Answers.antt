@@ -2,11 +2,11 @@ use Rattle.std.proofs.Common.{refl, subst}
 use Rattle.std.specs.Prelude.{⊤}
 use Rattle.vx_ast.specs.declared.Expr as expr
 use Rattle.vx_ast.specs.Written.{written_all, written_expr}
-use Rattle.vx_typing.specs.Faults.{assertion}
+use Rattle.vx_expressions.specs.Faults.{assertion}
 use Rattle.vx_typing.specs.StatementFaults.{assertions}
-use Rattle.vx_typing.specs.Gives.{Fails}
-use Rattle.vx_typing.specs.Views.{setting}
-use Rattle.vx_typing.proofs.Fails.{passed}
+use Rattle.vx_expressions.specs.Gives.{Fails}
+use Rattle.vx_expressions.specs.Views.{setting}
+use Rattle.vx_expressions.proofs.Fails.{passed}
 use Rattle.vx_typing.proofs.Loops.{ends}
 use Rattle.vx_typing.proofs.stmt.assertions.Goals as goal
 

@@ -1,7 +1,7 @@
 use Rattle.std.proofs.Common.{◌≡◌, drop}
 use Rattle.vx_ast.specs.Written.{written_all}
 use Rattle.vx_typing.specs.StatementFaults.{assertions}
-use Rattle.vx_typing.specs.Views.{setting}
+use Rattle.vx_expressions.specs.Views.{setting}
 use Rattle.vx_typing.proofs.stmt.assertions.Given as goal
 
 abbrev pub invariant-loop-e : goal.invariant-loop-e

@@ -1,11 +1,11 @@
 use Rattle.std.proofs.Common.{◌≡◌, rules, sym, subst, true, ap, ◌∙◌}
 use Rattle.vx_ast.specs.declared.ExprKind as tree
 use Rattle.vx_ast.specs.Written.{name_of, Call, Value, written_right, written_all}
-use Rattle.vx_typing.specs.Gives.{Gives}
-use Rattle.vx_typing.specs.Scopes.{named}
+use Rattle.vx_expressions.specs.Gives.{Gives}
+use Rattle.vx_expressions.specs.Scopes.{named}
 use Rattle.vx_typing.specs.StatementFaults.{is_method}
-use Rattle.vx_typing.specs.Views.{table, known}
-use Rattle.vx_typing.proofs.Rows.{call_row}
+use Rattle.vx_expressions.specs.Views.{table, known}
+use Rattle.vx_expressions.proofs.Rows.{call_row}
 use Rattle.vx_typing.proofs.Assigns.{calls}
 use Rattle.vx_typing.proofs.stmt.assign.Goals as goal
 

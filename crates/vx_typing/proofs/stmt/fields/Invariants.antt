@@ -1,7 +1,7 @@
 use Rattle.std.proofs.Common.{◌≡◌, [], drop, map}
 use Rattle.vx_ast.specs.Written.{name_of}
 use Rattle.vx_typing.specs.StatementFaults.{fields}
-use Rattle.vx_typing.specs.Views.{table, listed}
+use Rattle.vx_expressions.specs.Views.{table, listed}
 use Rattle.vx_typing.proofs.stmt.fields.Given as goal
 
 abbrev pub invariant-loop-f : goal.invariant-loop-f

@@ -1,8 +1,8 @@
 use Rattle.std.proofs.Common.{◌≡◌, [], drop, map}
 use Rattle.vx_ast.specs.Written.{name_of}
 use Rattle.vx_typing.specs.StatementFaults.{targets}
-use Rattle.vx_typing.specs.Views.{known, listed}
-use Rattle.vx_typing.proofs.Rows.{onto}
+use Rattle.vx_expressions.specs.Views.{known, listed}
+use Rattle.vx_expressions.proofs.Rows.{onto}
 use Rattle.vx_typing.proofs.stmt.targets.Given as goal
 
 abbrev pub invariant-loop-x : goal.invariant-loop-x

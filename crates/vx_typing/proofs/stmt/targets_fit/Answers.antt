@@ -3,7 +3,7 @@ use Rattle.vx_ast.specs.declared.Place.{Place}
 use Rattle.vx_ast.specs.declared.ValueType.{ValueType}
 use Rattle.vx_ast.specs.declared.Declaration.{Declaration}
 use Rattle.vx_typing.specs.StatementFaults.{targets_fit}
-use Rattle.vx_typing.specs.Views.{types_of}
+use Rattle.vx_expressions.specs.Views.{types_of}
 use Rattle.vx_typing.proofs.stmt.targets_fit.Goals as goal
 
 empty : {X : Type 0} (xs : List X) → length xs ≡ 0 → xs ≡ []

@@ -1,6 +1,6 @@
 use Rattle.std.proofs.Common.{◌≡◌}
 use Rattle.vx_typing.specs.StatementFaults.{targets_fit}
-use Rattle.vx_typing.specs.Views.{types_of}
+use Rattle.vx_expressions.specs.Views.{types_of}
 use Rattle.vx_typing.proofs.stmt.targets_fit.Given as goal
 
 abbrev pub invariant-loop-t : goal.invariant-loop-t

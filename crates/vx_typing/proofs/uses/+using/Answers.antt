@@ -5,7 +5,7 @@ use Rattle.vx_ast.specs.Written.{Call, Unfolding, name_of, written_expr, written
 use Rattle.vx_typing.specs.Uses as spec
 use Rattle.vx_typing.specs.Uses.{Use, calls, unfolds_it}
 use Rattle.vx_typing.specs.Seen.{seen}
-use Rattle.vx_typing.proofs.Rows.{call_row}
+use Rattle.vx_expressions.proofs.Rows.{call_row}
 use Rattle.vx_typing.proofs.uses.+using.Goals as goal
 
 pub uses-returns-in_ok-add-in-Call : goal.uses-returns-in_ok-add-in-Call

@@ -1,0 +1,13 @@
+pub mod Fails
+pub mod Places
+pub mod Rows
+pub mod Accesses
+pub mod Arguments
+pub mod Unfoldings
+pub mod Scopes
+pub mod Passed
+pub mod AgreesAmounts
+pub mod AgreesTypes
+pub mod AgreesClaims
+pub mod Agree
+pub mod Alike

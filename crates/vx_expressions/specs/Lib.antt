@@ -1,0 +1,12 @@
+pub mod Places
+pub mod Scopes
+pub mod Settings
+pub mod Amounts
+pub mod AmountValues
+pub mod Typing
+pub mod Faults
+pub mod Views
+pub mod Gives
+pub mod Laws
+pub mod Examples
+pub mod Printed

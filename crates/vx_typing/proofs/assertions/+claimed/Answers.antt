@@ -1,7 +1,0 @@
-use Rattle.std.proofs.Common.{rules}
-use Rattle.vx_ast.specs.declared.ExprKind as tree
-use Rattle.vx_typing.proofs.Rows.{call_row}
-use Rattle.vx_typing.proofs.assertions.+claimed.Goals as goal
-
-pub returns-in-Call : goal.returns-in-Call
-returns-in-Call t c = search (rules, tree.the_lemmas, call_row)

@@ -1,5 +1,0 @@
-use Rattle.vx_typing.proofs.Alike.{alike}
-use Rattle.vx_typing.proofs.laws.pure_assertions_are_expressions.Goals as goal
-
-pub returns : goal.returns
-returns c = alike

@@ -1,7 +1,0 @@
-use Rattle.std.proofs.Common.{◌∙◌, ap, option_map}
-use Rattle.vx_typing.specs.Views.{signature}
-use Rattle.vx_typing.proofs.Scopes.{found}
-use Rattle.vx_typing.proofs.setting.member.Goals as goal
-
-pub returns : goal.returns
-returns c = ap (option_map signature) (c.copied.ensures ∙ c.get.ensures.value) ∙ found signature c.args.name.now c.args.members.now.entries
