@@ -16,9 +16,9 @@ use Rattle.vx_dialogue.proofs.Steady.{commands_join}
 use Rattle.vx_rules.specs.Trees.{Question, Tree, End, On, Step, Ask, Probe, Fork}
 use Rattle.vx_rules.specs.Members.{tree, method_tree}
 use Rattle.vx_machine.specs.Runs.{tree_of}
-use Rattle.vx_sound.specs.Live.{IsBuiltIn, IsNumbered, IsNameless, AreNameless, IsLive, AllLive}
-use Rattle.vx_sound.proofs.Nameless.{negate_nameless}
-use Rattle.vx_sound.proofs.LiveMethods.{methods_live}
+use Rattle.vx_live.specs.Live.{IsBuiltIn, IsNumbered, IsNameless, AreNameless, IsLive, AllLive}
+use Rattle.vx_live.proofs.Nameless.{negate_nameless}
+use Rattle.vx_live.proofs.LiveMethods.{store_methods_live}
 use Rattle.vx_verifier.specs.Headline.{IsSupported}
 use Rattle.vx_verifier.specs.Steady.{IsSpelled, AllSpelled, AsksSpelled}
 
@@ -138,4 +138,4 @@ supported_spelled ms supported n = by_member (slice_get (map member ms) n) refl
         let p = map member ms in
         let m = only_methods ms n x at in
         let law = supported n m.0 (x, at, m.1) in
-        subst (λ k. AllSpelled (tree p x.name k)) (sym m.1) (all_spelled (method_tree p m.0) (methods_live p m.0 law.0 law.1))
+        subst (λ k. AllSpelled (tree p x.name k)) (sym m.1) (all_spelled (method_tree p m.0) (store_methods_live p m.0 law.0 law.1))

@@ -1,0 +1,3 @@
+pub mod Nameless
+pub mod Live
+pub mod LiveMethods
