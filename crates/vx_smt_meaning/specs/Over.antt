@@ -1,4 +1,4 @@
--- Terms over the symbols of the preamble and symbols v.
+-- Terms over given symbols, the base, and symbols v.
 use Rattle.std.specs.Prelude.{◌≡◌, ℕ, List, []}
 use Rattle.vx_terms.specs.Sorts.{Sort, Symbol, Standard, Function, Variable, Named}
 use Rattle.vx_terms.specs.Terms.{Term, Truth, Number, Part, Constant, Apply, Not, Binary, Ite, AllOf, SomeOf, Terms, NoTerms, MoreTerms}
@@ -7,14 +7,14 @@ use Rattle.vx_smt_meaning.specs.Commands.{Declared}
 use Rattle.vx_smt_meaning.specs.Dialogues.{Check}
 use Rattle.vx_smt_meaning.specs.Symbols.{declaration, Declares, sorts_of, UsesDeclared}
 
--- a v stands at its one sort; any other is of the preamble
+-- a v stands at its one sort; any other is of the base
 abbrev pub IsConstantOver : List Declared → (ℕ → Sort) → Symbol → Sort → Type 0
 IsConstantOver base sorts (Standard n) a = Declares base (declaration (Standard n) [] a)
 IsConstantOver base sorts (Function n) a = Declares base (declaration (Function n) [] a)
 IsConstantOver base sorts (Variable n) a = a ≡ sorts n
 IsConstantOver base sorts (Named x) a = Declares base (declaration (Named x) [] a)
 
--- The term uses symbols of the preamble as they are declared, and each v without arguments and at one sort.
+-- The term uses symbols of the base as they are declared, and each v without arguments and at one sort.
 abbrev mutual
   pub IsOver : List Declared → (ℕ → Sort) → Term → Type 0
   IsOver base sorts (Truth b) = Unit {0}
