@@ -66,4 +66,3 @@ matching_same key (c ∷ cs) n = go (is_kin key c && same_bool true (same_argume
         Each (λ (c : Candidate). same_arguments key.arguments c.chunk.arguments ≡ true) (cond b (record { number = n; chunk = c } ∷ chosen true key (suc n) cs) (chosen true key (suc n) cs))
     go true k rest = (sym (bool_is true _ (and_parts (is_kin key c) _ k).1), rest)
     go false k rest = rest
-

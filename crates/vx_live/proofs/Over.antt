@@ -205,6 +205,7 @@ one_above {d = d} n a built = record {
   le = le_of_lt (lt-suc_self n);
   same = λ k below. ap (λ b. cond b a (d.of k)) (ne_eqb k n (λ e. absurd (lt_irrefl n (subst (λ k. k < n) e below))));
 }
+
 pub fresh_fine : (d : Sorts) (n : ℕ) (a : Sort) (built : IsBuiltIn a) → Fine (one_above {d = d} n a built).sorts (suc n) (variable n a) a
 fresh_fine d n a built = record { formed = constant (Variable n) a (lt-suc_self n); over = sym (ap (λ b. cond b a (d.of n)) (eq-eqb n n refl)) }
 
@@ -277,8 +278,11 @@ module _ {d : Sorts} {n : ℕ} where
   subtract_fine {s = s} {t = t} k f g = record { formed = subtract_formed k f.formed g.formed; over = cond_over d.of (build.is_zero t) s (build.subtract_by (literals_of s t) s t) f.over (subtract_over d.of (literals_of s t) s t f.over g.over) }
 
   pub multiply_fine : {s t : Term} {a : Sort} → Takes Multiply a → Fine d n s a → Fine d n t a → Fine d n (multiply s t) a
-  multiply_fine {s = s} {t = t} k f g = record { formed = multiply_formed k f.formed g.formed; over = cond_over d.of (build.is_one t) s (cond (build.is_one s) t (cond (build.is_zero t) t (cond (build.is_zero s) s (build.multiply_by (literals_of s t) s t)))) f.over (cond_over d.of (build.is_one s) t (cond (build.is_zero t) t (cond (build.is_zero s) s (build.multiply_by (literals_of s t) s t))) g.over (cond_over d.of (build.is_zero t) t (cond (build.is_zero s) s (build.multiply_by (literals_of s t) s t)) g.over
-        (cond_over d.of (build.is_zero s) s (build.multiply_by (literals_of s t) s t) f.over (multiply_over d.of (literals_of s t) s t f.over g.over)))) }
+  multiply_fine {s = s} {t = t} k f g = record {
+    formed = multiply_formed k f.formed g.formed;
+    over = cond_over d.of (build.is_one t) s (cond (build.is_one s) t (cond (build.is_zero t) t (cond (build.is_zero s) s (build.multiply_by (literals_of s t) s t)))) f.over (cond_over d.of (build.is_one s) t (cond (build.is_zero t) t (cond (build.is_zero s) s (build.multiply_by (literals_of s t) s t))) g.over (cond_over d.of (build.is_zero t) t (cond (build.is_zero s) s (build.multiply_by (literals_of s t) s t)) g.over
+        (cond_over d.of (build.is_zero s) s (build.multiply_by (literals_of s t) s t) f.over (multiply_over d.of (literals_of s t) s t f.over g.over))));
+  }
 
   pub div_fine : {s t : Term} → Fine d n s IntSort → Fine d n t IntSort → Fine d n (div s t) IntSort
   div_fine {s = s} {t = t} f g = record { formed = div_formed f.formed g.formed; over = div_over d.of (literals_of s t) s t f.over g.over }

@@ -9,3 +9,5 @@ pub mod EnteredUses
 pub mod NumberedNames
 pub mod KeptApart
 pub mod Recursions
+pub mod ConstantAmounts
+pub mod TypedPrograms

@@ -19,7 +19,7 @@ use Rattle.vx_settled.proofs.TypedClaims.{claim}
 use Rattle.vx_settled.proofs.TypedStmts.{settled, declared_once, same_types, one_more, sees, block}
 
 -- variables as they are settled
-all_more : (names : Names) (role : Role) (ds : List written.Declaration) (scope : scopes.Scope) → settled (with_variables role ds scope) ≡ settled scope ++ map (resolve.declaration names) ds
+pub all_more : (names : Names) (role : Role) (ds : List written.Declaration) (scope : scopes.Scope) → settled (with_variables role ds scope) ≡ settled scope ++ map (resolve.declaration names) ds
 all_more names role [] scope = sym (append-nil (settled scope))
 all_more names role (d ∷ ds) scope =
     all_more names role ds (with_variable role d scope) ∙ ap (λ s. s ++ map (resolve.declaration names) ds) (one_more role d scope) ∙ append_assoc (settled scope) (resolve.declaration names d ∷ []) (map (resolve.declaration names) ds)
@@ -50,7 +50,7 @@ module _ (table : Table) (names : Names) (p : Program) (knows : Knows (named tab
   body scope None h = tt
   body scope (Some b) h = block table names p knows scope b h
 
-  method : (k : written.Kind) (at : Place) (m : Method) → IsTypedKind table k → resolve.kind names at k ≡ IsMethod m → IsTypedMethod p m
+  pub method : (k : written.Kind) (at : Place) (m : Method) → IsTypedKind table k → resolve.kind names at k ≡ IsMethod m → IsTypedMethod p m
   method (written.IsField t) at m h is = (cc)
   method (written.IsPredicate d) at m h is = (cc)
   method (written.IsFunction f) at m h is = (cc)

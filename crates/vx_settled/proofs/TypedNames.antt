@@ -38,17 +38,16 @@ among_more x (y ∷ ys) more h = go (same_name x y) h (among_more x ys more)
     go true h k = refl
     go false h k = k h
 
-among_last : (x : Name) (before : List Name) → is_among x (before ++ x ∷ []) ≡ true
+pub among_last : (x : Name) (before : List Name) → is_among x (before ++ x ∷ []) ≡ true
 among_last x [] = or_left _ _ (same_refl x)
 among_last x (y ∷ ys) = or_right (same_name x y) _ (among_last x ys)
 
 -- no member has this name
-Absent : Name → List written.Member → Type 0
+abbrev pub Absent : Name → List written.Member → Type 0
 Absent x [] = ⊤
 Absent x (m ∷ ms) = (same_name x m.name.name ≡ false) × Absent x ms
 
-absent : (x : Name) (before : List Name) (ms : List written.Member) → is_among x before ≡ true → AreNew before (map (λ m. m.name) ms) → Absent x ms
-unfolding Absent
+pub absent : (x : Name) (before : List Name) (ms : List written.Member) → is_among x before ≡ true → AreNew before (map (λ m. m.name) ms) → Absent x ms
 absent x before [] h new = tt
 absent x before (m ∷ ms) h new = (
   false_from_ne_true (same_name x m.name.name) (λ e. both_ways (is_among m.name.name before) new.0 (subst (λ y. is_among y before ≡ true) (same_is x m.name.name e) h)),
@@ -56,7 +55,6 @@ absent x before (m ∷ ms) h new = (
 )
 
 absent_has : (k : written.Kind → Bool) (x : Name) (ms : List written.Member) → Absent x ms → has_member k ms x ≡ false
-unfolding Absent
 absent_has k x [] h = refl
 absent_has k x (m ∷ ms) h = ap (λ b. (k m.kind && b) || has_member k ms x) h.0 ∙ ap (λ b. b || has_member k ms x) (and_right (k m.kind) false refl) ∙ absent_has k x ms h.1
 
@@ -160,7 +158,6 @@ the_method names at (written.IsMethod m) ts rs h =
 -- ---- its fields
 -- one member more, of another name
 kept : (names : Names) (m : written.Member) (ms some : List written.Member) → Absent m.name.name some → AreFields (map (resolve.member names) ms) (fields_of some) → AreFields (map (resolve.member names) (m ∷ ms)) (fields_of some)
-unfolding Absent
 kept names m ms [] away h = tt
 kept names m ms (f ∷ some) away h = go (is_field f.kind) h (kept names m ms some away.1)
   where
@@ -193,7 +190,6 @@ neither false b e f = f
 
 -- a name of no member is that of no field
 unlisted : (x : Name) (ms : List written.Member) → Absent x ms → is_among x (fields_of ms) ≡ false
-unfolding Absent
 unlisted x [] away = refl
 unlisted x (m ∷ ms) away = go (is_field m.kind) (unlisted x ms away.1)
   where

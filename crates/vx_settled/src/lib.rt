@@ -4,7 +4,7 @@
 ghost use Rattle.vx_ast.specs.Resolve.{program};
 ghost use Rattle.vx_typing.specs.Programs.{IsTyped};
 ghost use Rattle.vx_depth.specs.Apart.{Reaches, KeepsApart};
-ghost use Rattle.vx_settled.specs.WhenSettled.{TypedWhenSettled, InStoreWhenSettled, KeptApartWhenSettled, DepthSufficesWhenSettled};
+ghost use Rattle.vx_settled.specs.WhenSettled.{TypedWhenSettled, InStoreWhenSettled, KeptApartWhenSettled, DepthSufficesWhenSettled, TypedProgramWhenSettled};
 ghost use Rattle.vx_settled.specs.Recursions.{f, counts_down, applies_itself_before};
 
 use vx_depth::groups_kept_apart;
@@ -13,6 +13,12 @@ use vx_typing::programs_are_told;
 /// A typed program of the whole language is typed when it is settled: each of its methods is.
 pub fn typed_programs_settle_typed()
     ensures { TypedWhenSettled }
+{}
+
+/// A typed program is typed as a whole when it is settled: each member is found by its name, and is typed as its kind asks,
+/// amounts in predicates and in preconditions of functions are known, and no member is entered within itself.
+pub fn typed_programs_settle_whole()
+    ensures { TypedProgramWhenSettled }
 {}
 
 /// In a typed program no function's precondition or measure applies the function again, and no predicate's body unfolds the
