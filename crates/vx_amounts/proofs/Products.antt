@@ -1,11 +1,11 @@
 -- Further laws of amounts: products.
-use Rattle.std.proofs.Common.{◌≡◌, ℕ, zero, suc, ◌+◌, ◌*◌, ◌≤◌, ℤ, pos, negsuc, ◌+ℤ◌, ◌*ℤ◌, Bool, true, false, refl, sym, ◌∙◌, ap, ap₂, subst, arith}
+use Rattle.std.proofs.Common.{◌≡◌, ℕ, zero, suc, ◌+◌, ◌*◌, ℤ, pos, negsuc, ◌+ℤ◌, ◌*ℤ◌, true, refl, sym, ◌∙◌, ap, ap₂, subst, arith}
 use Rattle.std.specs.Prelude.{int_lt, int_le}
 use Rattle.std.specs.Ordering.{int_eq}
 use Rattle.std.proofs.lemmas.Int.{ints}
-use Rattle.vx_frac.specs.Fractions.{Fraction, denominator, none, full, same_fraction, at_most, is_positive, sum, minus, difference, product}
+use Rattle.vx_frac.specs.Fractions.{Fraction, denominator, none, full, sum, minus, difference, product}
 use Rattle.vx_amounts.proofs.Ring.{diff, by_diff, diff_same, ring, times_assoc}
-use Rattle.vx_amounts.proofs.Amounts.{Le, Positive, Same, same-of, same-refl, same-sym, same-trans, le-refl, le-trans, sum_same, product_same, none-sum, sum-minus, sum_comm, sum_assoc, add-mono, add-left, add-right, none-none, positive-le, unscaled, cancel-left, difference-none}
+use Rattle.vx_amounts.proofs.Amounts.{Le, Positive, Same, same-of, same-refl, same-trans, le-trans, sum_same, product_same, none-sum, sum-minus, sum_comm, sum_assoc, add-left, difference-none}
 
 int_same : (x y : ℤ) → x ≡ y → int_eq x y ≡ true
 int_same x y e = grind (arith, ints)

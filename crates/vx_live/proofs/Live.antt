@@ -1,5 +1,5 @@
 -- Every expression with fields asks well-sorted questions, over symbols below the next number of the state.
-use Rattle.std.proofs.Common.{◌≡◌, ℕ, ◌≤◌, slice_set, Bool, true, false, cond, ◌||◌, ◌&&◌, inl, inr, pos, List, [], ◌∷◌, ◌++◌, Some, refl, sym, ◌∙◌, ap, subst, suc}
+use Rattle.std.proofs.Common.{◌≡◌, ℕ, slice_set, Bool, true, false, cond, ◌||◌, ◌&&◌, inl, inr, pos, List, [], ◌∷◌, ◌++◌, Some, refl, sym, ◌∙◌, ap, subst, suc}
 use Rattle.vx_ast.specs.declared.Place.{Place}
 use Rattle.vx_ast.specs.declared.ValueType.{ValueType}
 use Rattle.vx_ast.specs.Syntax.{Name, same_name, Program, Operator, Equal, Less, LessEqual, Greater, GreaterEqual, Add, Subtract, Multiply, Division, Quotient, Remainder, Connective, And, Or, Implies, Expr}

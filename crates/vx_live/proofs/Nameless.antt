@@ -1,5 +1,5 @@
 -- No symbol or sort in a live question has a name of its own.
-use Rattle.std.proofs.Common.{◌≡◌, ◌⊎◌, inl, inr, ℕ, List, [], ◌∷◌, sym, subst}
+use Rattle.std.proofs.Common.{inl, inr, List, [], ◌∷◌, sym, subst}
 use Rattle.std.specs.Prelude.{⊤}
 use Rattle.vx_terms.specs.Sorts.{Sort, Symbol, Standard, Function, Variable, Named}
 use Rattle.vx_terms.specs.Terms.{Term, Truth, Number, Part, Constant, Apply, Not, Binary, Ite, AllOf, SomeOf, Terms, NoTerms, MoreTerms}

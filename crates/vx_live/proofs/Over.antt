@@ -1,10 +1,10 @@
 -- What the term constructors build is over the standard symbols and symbols v of one sort each, where its parts are.
-use Rattle.std.proofs.Common.{◌≡◌, ◌∙◌, ◌⊎◌, inl, inr, refl, sym, ap, subst, nat_eq, ne_eqb, eq-eqb, le_refl, le_trans, lt_of_lt_of_le, lt_irrefl, le_of_lt, lt-suc_self, List, [], ◌∷◌, ℕ, zero, suc, ◌<◌, ◌≤◌, Bool, true, false, cond, ℤ, pos, negsuc, ◌+ℤ◌, ◌-ℤ◌, ◌*ℤ◌, Option, Some, None}
+use Rattle.std.proofs.Common.{◌≡◌, ◌∙◌, inl, inr, refl, sym, ap, subst, nat_eq, ne_eqb, eq-eqb, le_refl, le_trans, lt_of_lt_of_le, lt_irrefl, le_of_lt, lt-suc_self, List, [], ◌∷◌, ℕ, zero, suc, ◌<◌, ◌≤◌, Bool, true, false, cond, ℤ, pos, negsuc, ◌+ℤ◌, ◌-ℤ◌, ◌*ℤ◌, Option, Some, None}
 use Rattle.vx_ast.specs.declared.ValueType.{ValueType}
 use Rattle.vx_ast.specs.declared.ValueType.TheVariants as type
 use Rattle.vx_frac.specs.Fractions.{Fraction, sum, difference, product, lowest, sum_fits, difference_fits, product_fits}
 use Rattle.vx_terms.specs.Sorts.{Sort, IntSort, BoolSort, Symbol, Standard, Function, Variable, Named, Operator, And, Or, Implies, Equal, Less, LessEqual, Add, Subtract, Multiply, Div, Mod, Takes, gives}
-use Rattle.vx_terms.specs.Terms.{Term, Truth, Number, Part, Constant, Apply, Not, Binary, Ite, AllOf, SomeOf, Terms, NoTerms, MoreTerms, same, sort_of}
+use Rattle.vx_terms.specs.Terms.{Term, Truth, Number, Part, Constant, Apply, Not, Binary, Ite, AllOf, SomeOf, Terms, same, sort_of}
 use Rattle.vx_terms.specs.Build as build
 use Rattle.vx_terms.specs.Build.{Literals, Numbers, Parts, Truths, Neither, truth_of, literals_of, negate, and, or, implies, equals, ite, less, less_equal, add, subtract, multiply, div, modulo, variable}
 use Rattle.vx_terms.specs.Formed.{IsKnown, Formed, truth, number, part, constant, applies, nots, binary, ites, all_of, some_of, FormedAll, no_terms, more_terms, FormedBools, no_bools, more_bools}

@@ -1,10 +1,10 @@
 -- No run of a cleared assertion fails, and what follows one that ends is cleared at its state.
-use Rattle.std.proofs.Common.{◌≡◌, ℕ, ◌≤◌, Bool, true, false, cond, inl, inr, [], ◌∷◌, ◌++◌, None, refl, sym, ◌∙◌, ap, subst, le_trans, append_assoc}
+use Rattle.std.proofs.Common.{◌≡◌, ℕ, ◌≤◌, Bool, true, false, cond, inl, inr, None, refl, sym, ◌∙◌, ap, subst, le_trans}
 use Rattle.std.specs.Prelude.{Ok, Err}
 use Rattle.vx_frac.specs.Fractions.{Fraction, product}
 use Rattle.vx_ast.specs.declared.Place.{Place}
 use Rattle.vx_ast.specs.declared.ValueType.TheVariants as type
-use Rattle.vx_ast.specs.Syntax.{Name, Declaration, Program, place_of, Expr, Assertion, Pure, Points, Instance, Both, Implied, Chosen, Declare, Block, Done, Then}
+use Rattle.vx_ast.specs.Syntax.{Name, Program, place_of, Expr, Assertion, Pure, Points, Instance, Both, Implied, Chosen}
 use Rattle.vx_meaning.specs.Values.{Value, BoolValue, type_of, is_true}
 use Rattle.vx_meaning.specs.States as run
 use Rattle.vx_meaning.specs.Consistent.{IsConsistent}
@@ -19,7 +19,7 @@ use Rattle.vx_rules.specs.States as rules
 use Rattle.vx_rules.specs.Trees.{Step}
 use Rattle.vx_rules.specs.Chunks.{field_key, candidates, put}
 use Rattle.vx_rules.specs.Rules.{Giving, Going, Context, pair_facts, Outer, ask, fork, placed, field_sort, with_built_wrap, take_chunk, eval, produce, consume}
-use Rattle.vx_types.specs.Typing.{Scope, HasType, IsTyped, scope_after_all}
+use Rattle.vx_types.specs.Typing.{Scope, HasType, IsTyped}
 use Rattle.vx_types.specs.FieldLanguage.{InFields, IsOfFields}
 use Rattle.vx_sound.proofs.Passes.{Cleared}
 use Rattle.vx_elements.proofs.Settled.{Meaning, extends-trans}

@@ -3,7 +3,7 @@ use Rattle.std.specs.Prelude.{ℕ, false, codes, [], ◌∷◌, Some}
 use Rattle.vx_ast.specs.declared.Place.{Place}
 use Rattle.vx_ast.specs.declared.ValueType.TheVariants.{Int}
 use Rattle.vx_ast.specs.declared.ValueType.TheVariants as type
-use Rattle.vx_ast.specs.Syntax.{Name, Program, IsField, Method, Equal, Greater, Add, Number, Truth, Part, Variable, Read, Operate, Pure, Points, Assign, Write, New, Assert, Done, Then}
+use Rattle.vx_ast.specs.Syntax.{Name, Program, IsField, IsMethod, Method, Equal, Greater, Add, Number, Truth, Part, Variable, Read, Operate, Pure, Points, Assign, Write, New, Assert, Done, Then}
 
 abbrev pub on_line : ℕ → Place
 on_line n = record { line = n; column = 1 }
@@ -53,6 +53,13 @@ sets = record {
   ensures = [];
   body = Some (Then (Write (on_line 3) (Variable (on_line 3) x) f (Number (on_line 3) 1)) (Then (Assert (on_line 4) (Pure (Operate (on_line 4) Equal (Read (on_line 4) (Variable (on_line 4) x) f) (Number (on_line 4) 1)))) Done));
 }
+
+abbrev pub m : Name
+m = codes "m"
+
+-- field f: Int, and m as `sets`
+abbrev pub writes : Program
+writes = record { name = f; kind = IsField Int } ∷ record { name = m; kind = IsMethod sets } ∷ []
 
 -- method twice(x: Ref) { x := new(f, f); assert false }, which no typed text has
 abbrev pub twice : Method

@@ -1,24 +1,23 @@
 -- What adding the parts of a body does to what is held.
-use Rattle.std.proofs.Common.{◌≡◌, ℕ, zero, suc, Bool, true, false, cond, List, [], ◌∷◌, ◌++◌, Option, Some, None, refl, sym, ◌∙◌, ap, ap₂, subst, true≢false}
-use Rattle.std.specs.Prelude.{Result, Ok, Err, option_and_then}
+use Rattle.std.proofs.Common.{◌≡◌, Bool, true, false, cond, List, [], ◌∷◌, ◌++◌, Option, Some, None, refl, sym, ◌∙◌, ap, ap₂, subst}
+use Rattle.std.specs.Prelude.{Ok, option_and_then}
 use Rattle.vx_ast.specs.declared.Place.{Place}
-use Rattle.vx_frac.specs.Fractions.{Fraction, none, full, at_most, is_positive, sum, minus, product}
+use Rattle.vx_frac.specs.Fractions.{Fraction, none, sum, product}
 use Rattle.vx_ast.specs.Syntax.{Name, Program, Expr, Exprs, Assertion, Pure, Points, Both, Implied, Chosen, place_of}
 use Rattle.vx_ast.specs.Syntax as syntax
 use Rattle.vx_meaning.specs.Values.{Value, IntValue, BoolValue, RefValue, PermValue, is_true}
-use Rattle.vx_meaning.specs.States.{State, Store, Heap, Holdings, Location, Instance, Resource, At, Folded, same_resource, amount, gained, lost, value_at, with_holdings}
+use Rattle.vx_meaning.specs.States.{State, Store, Heap, Holdings, Location, Instance, Resource, At, Folded, same_resource, amount, gained, with_holdings}
 use Rattle.vx_meaning.specs.Evaluate as plain
 use Rattle.vx_meaning.specs.Evaluate.{value, values}
 use Rattle.vx_meaning.specs.Flatten.{no_applications, entries, location_entry, instance_entry, IsGrounded}
-use Rattle.vx_meaning.specs.Fits.{Checked, ◌>>=◌, Deeper, choose, location_of, amount_of, fit, fit_all, field_part, instance_part, add, add_part}
-use Rattle.vx_amounts.proofs.Amounts.{Le, Positive, Same, same-refl, same-sym, same-trans, le-refl, le-trans, le-is, sum_same, none-sum, sum_comm, sum_assoc, none-none, positive-le, above-add, below-add, add-right}
-use Rattle.vx_amounts.proofs.Products.{product_sum, product_assoc, product-none, product_sign, positive_le}
+use Rattle.vx_meaning.specs.Fits.{Checked, Deeper, choose, location_of, amount_of, fit, fit_all, field_part, instance_part, add, add_part}
+use Rattle.vx_amounts.proofs.Amounts.{Le, Positive, Same, same-refl, same-sym, same-trans, le-trans, sum_same, none-sum, sum_comm, sum_assoc, none-none, positive-le, add-right}
+use Rattle.vx_amounts.proofs.Products.{product_sum, product_assoc, product-none, product_sign}
 use Rattle.vx_sound_preds.proofs.Fitting.{IsPlain, ArePlain, undo, step, some_is, Opens, fit_framed, fit_all_framed}
 use Rattle.vx_sound_preds.proofs.Flats.{came}
-use Rattle.vx_sound_preds.proofs.Looks.{Sees}
-use Rattle.vx_sound_preds.proofs.Totals.{weigh, weigh_append, same_is}
-use Rattle.vx_sound_preds.proofs.Grouped.{IsRigid, AreRigid, IsSingle, AreSingle, NoDebts, resource_is}
-use Rattle.vx_sound_preds.proofs.Framing.{IsAmount, IsPlainBody, Known, field_parts, instance_parts, agrees_itself, entries_seen, ok_same, failed}
+use Rattle.vx_sound_preds.proofs.Totals.{weigh, same_is}
+use Rattle.vx_sound_preds.proofs.Grouped.{IsRigid, IsSingle, AreSingle, NoDebts, resource_is}
+use Rattle.vx_sound_preds.proofs.Framing.{IsPlainBody, Known, field_parts, instance_parts, agrees_itself, entries_seen, ok_same, failed}
 
 -- the values of the variables are no amounts
 abbrev pub RigidStore : Store → Type 0

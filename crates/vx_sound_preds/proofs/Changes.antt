@@ -1,15 +1,15 @@
 -- A change of the heap where nothing is held leaves a state that can be.
-use Rattle.std.proofs.Common.{◌≡◌, ℕ, zero, suc, ◌+◌, ◌≤◌, Bool, true, false, cond, List, [], ◌∷◌, length, Option, Some, None, refl, sym, ◌∙◌, ap, subst, arith, true≢false}
+use Rattle.std.proofs.Common.{◌≡◌, ℕ, zero, suc, ◌+◌, ◌≤◌, Bool, true, false, cond, [], ◌∷◌, length, Option, Some, refl, sym, ◌∙◌, ap, subst, arith, true≢false}
 use Rattle.std.specs.Prelude.{unwrap_or}
 use Rattle.vx_frac.specs.Fractions.{Fraction, none, full, sum, product}
-use Rattle.vx_ast.specs.Syntax.{Name, Program}
+use Rattle.vx_ast.specs.Syntax.{Program}
 use Rattle.vx_meaning.specs.States.{State, Heap, Holdings, Location, Instance, Resource, At, Folded, same_resource, amount, with_heap}
 use Rattle.vx_meaning.specs.Flatten.{flat, IsGrounded}
-use Rattle.vx_meaning.specs.Consistent.{total, IsHeld, Changes, IsConsistent}
+use Rattle.vx_meaning.specs.Consistent.{total, Changes, IsConsistent}
 use Rattle.vx_amounts.proofs.Amounts.{Le, Positive, Same, same-refl, same-sym, same-trans, le-refl, le-trans, le-is, sum_same, product_same, not-positive, positive-or}
 use Rattle.vx_sound_preds.proofs.Flats.{flat_later}
 use Rattle.vx_sound_preds.proofs.Totals.{weigh, weigh_none, weight, total_weighs, same_is}
-use Rattle.vx_sound_preds.proofs.Grouped.{AreRigid, IsSingle, AreSingle, NoDebts, resource_is, others, split, others_single, others_no_debts, others_amount, others_none, shorter, none-product}
+use Rattle.vx_sound_preds.proofs.Grouped.{IsSingle, AreSingle, NoDebts, resource_is, others, split, others_single, others_no_debts, others_amount, others_none, shorter, none-product}
 use Rattle.vx_sound_preds.proofs.Exchanging.{GoodBodies, no_negatives, grown, held_rigid}
 use Rattle.vx_sound_preds.proofs.Frames.{Covered, SameAt, framed_at}
 use Rattle.vx_sound_preds.proofs.Folding.{Stock, held_inside}

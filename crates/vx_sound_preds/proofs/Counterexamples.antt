@@ -1,12 +1,11 @@
 -- What the bodies of the examples do to what is held.
-use Rattle.std.proofs.Common.{◌≡◌, ℕ, zero, suc, Bool, true, false, List, [], ◌∷◌, ◌++◌, Option, Some, None, refl, sym, ◌∙◌, ap}
-use Rattle.std.specs.Prelude.{Ok, option_and_then, unwrap_or}
-use Rattle.vx_frac.specs.Fractions.{Fraction, none, full, at_most, is_positive, product}
-use Rattle.vx_meaning.specs.Values.{Value, RefValue, IntValue}
-use Rattle.vx_meaning.specs.States.{State, Heap, Holdings, Location, Instance, Resource, At, Folded, amount, scaled, lost, value_at, with_store}
-use Rattle.vx_meaning.specs.Flatten.{bare, flat, with_inner, IsGrounded}
-use Rattle.vx_meaning.specs.Consistent.{total, IsHeld, Changes}
-use Rattle.vx_sound_preds.specs.Examples.{f, P, x, y, instance_of, loops, owes, owing}
+use Rattle.std.proofs.Common.{◌≡◌, ℕ, zero, suc, true, false, [], ◌∷◌, ◌++◌, Option, Some, None, refl, sym, ◌∙◌, ap}
+use Rattle.std.specs.Prelude.{option_and_then, unwrap_or}
+use Rattle.vx_frac.specs.Fractions.{none, full, at_most, is_positive}
+use Rattle.vx_meaning.specs.States.{Heap, Holdings, Location, At, Folded, amount, scaled}
+use Rattle.vx_meaning.specs.Flatten.{flat, IsGrounded}
+use Rattle.vx_meaning.specs.Consistent.{total}
+use Rattle.vx_sound_preds.specs.Examples.{f, x, instance_of, loops, owes, owing}
 
 -- no fuel suffices for an instance that has none of itself within it
 pub never : (n : ℕ) (h : Heap) (r : ℕ) → flat loops n h (instance_of r) ≡ None

@@ -1,26 +1,25 @@
 -- An exchange of an instance for its body keeps every total, and so what is held.
-use Rattle.std.proofs.Common.{◌≡◌, ℕ, zero, suc, ◌+◌, Bool, true, false, cond, ◌&&◌, List, [], ◌∷◌, ◌++◌, Option, Some, None, refl, sym, ◌∙◌, ap, ap₂, subst, arith, true≢false}
-use Rattle.std.specs.Prelude.{Result, Ok, Err, option_and_then, unwrap_or}
-use Rattle.vx_frac.specs.Fractions.{Fraction, none, full, at_most, is_positive, sum, minus, product}
+use Rattle.std.proofs.Common.{◌≡◌, ℕ, zero, suc, ◌+◌, Bool, true, false, cond, List, [], ◌∷◌, ◌++◌, Option, Some, None, refl, sym, ◌∙◌, ap, subst, arith}
+use Rattle.std.specs.Prelude.{Ok, Err, option_and_then, unwrap_or}
+use Rattle.vx_frac.specs.Fractions.{Fraction, none, at_most, is_positive, sum, minus, product}
 use Rattle.vx_ast.specs.Syntax.{Name, Program, Predicate, Declaration, Assertion, Pure, Points, Both, Implied, Chosen, predicate_named}
 use Rattle.vx_ast.specs.Syntax as syntax
 use Rattle.vx_meaning.specs.Values.{Value, IntValue, BoolValue, RefValue, PermValue, is_true}
-use Rattle.vx_meaning.specs.States.{State, Store, Heap, Holdings, Location, Instance, Resource, At, Folded, same_resource, amount, gained, lost, scaled, bind, with_holdings, with_store}
+use Rattle.vx_meaning.specs.States.{State, Heap, Holdings, Location, Instance, Resource, At, Folded, same_resource, amount, lost, scaled, bind, with_holdings, with_store}
 use Rattle.vx_meaning.specs.Evaluate as plain
 use Rattle.vx_meaning.specs.Evaluate.{value, values}
 use Rattle.vx_meaning.specs.Flatten.{no_applications, bare, entries, location_entry, instance_entry, body_entries, within, with_inner, flat, IsGrounded}
 use Rattle.vx_meaning.specs.Consistent.{total, IsHeld}
 use Rattle.vx_meaning.specs.Fits.{Checked, ◌>>=◌, Deeper, to_option, has_instance, add, exchange, deeper}
 use Rattle.vx_terms.proofs.Same.{and_parts}
-use Rattle.vx_amounts.proofs.Amounts.{Le, Positive, Same, same-refl, same-sym, same-trans, le-refl, le-trans, le-is, sum_same, product_same, none-sum, sum-minus, sum_comm, sum_assoc, none-none, positive-le, not-positive, add-below, minus_none, difference-none}
+use Rattle.vx_amounts.proofs.Amounts.{Le, Positive, Same, same-refl, same-sym, same-trans, le-refl, le-trans, le-is, sum_same, product_same, none-sum, sum-minus, sum_comm, sum_assoc, positive-le, not-positive, add-below, minus_none, difference-none}
 use Rattle.vx_amounts.proofs.Products.{product_dist, product_comm, product-none, positive_le}
-use Rattle.vx_sound_preds.proofs.Fitting.{step, some_is, undo, Keeps, Opens}
+use Rattle.vx_sound_preds.proofs.Fitting.{step, some_is, Keeps, Opens}
 use Rattle.vx_sound_preds.proofs.Flats.{came, flat_more, flat_later}
-use Rattle.vx_sound_preds.proofs.Looks.{Sees}
-use Rattle.vx_sound_preds.proofs.Totals.{weigh, same_is, weight, total_weighs, weight_of_body, weight_sign, weight_grows, AtLeastNone, NoNegatives}
-use Rattle.vx_sound_preds.proofs.Grouped.{IsRigid, AreRigid, IsSingle, AreSingle, NoDebts, resource_is, weigh_grows}
-use Rattle.vx_sound_preds.proofs.Framing.{IsAmount, IsPlainBody, Known, entries_seen, ok_same}
-use Rattle.vx_sound_preds.proofs.Adding.{RigidStore, Rigid, Sound, Grounded, Fine, IsEntry, AreEntries, added, weigh_added, Adds, add_adds}
+use Rattle.vx_sound_preds.proofs.Totals.{weigh, same_is, weight, total_weighs, weight_of_body, weight_grows, AtLeastNone, NoNegatives}
+use Rattle.vx_sound_preds.proofs.Grouped.{AreRigid, IsSingle, AreSingle, NoDebts, resource_is, weigh_grows}
+use Rattle.vx_sound_preds.proofs.Framing.{IsPlainBody, entries_seen}
+use Rattle.vx_sound_preds.proofs.Adding.{RigidStore, Rigid, Sound, Grounded, Fine, IsEntry, AreEntries, added, weigh_added, add_adds}
 
 -- the bodies of predicates are as typing leaves them
 pub record GoodBodies (p : Program) : Type 0 where

@@ -1,17 +1,16 @@
 -- What fits has its value in every state that agrees where something is held.
-use Rattle.std.proofs.Common.{◌≡◌, ℕ, zero, suc, pos, Bool, true, false, cond, ◌&&◌, List, [], ◌∷◌, Option, Some, None, refl, sym, ◌∙◌, ap, ap₂, subst}
-use Rattle.std.specs.Prelude.{Result, Ok, Err, IsTrue, option_and_then}
+use Rattle.std.proofs.Common.{◌≡◌, pos, Bool, true, false, cond, List, [], ◌∷◌, Option, Some, None, refl, sym, ◌∙◌, ap}
+use Rattle.std.specs.Prelude.{Ok, Err, option_and_then}
 use Rattle.vx_ast.specs.declared.Place.{Place}
 use Rattle.vx_frac.specs.Fractions.{Fraction, is_positive, over}
 use Rattle.vx_ast.specs.Syntax.{Name, Program, Connective, Expr, Number, Truth, Null, Part, Variable, Not, Operate, Divide, Connect, Choose, Read, Old, Apply, Unfolding, Exprs, NoMore, More}
 use Rattle.vx_meaning.specs.Values.{Value, IntValue, BoolValue, RefValue, PermValue, negated, operated, divided, needs_right, without_right}
-use Rattle.vx_meaning.specs.States.{State, Heap, Holdings, Location, Instance, At, Folded, amount, lookup, value_at}
+use Rattle.vx_meaning.specs.States.{State, Heap, Location, Instance, At, amount, lookup, value_at}
 use Rattle.vx_meaning.specs.Evaluate as plain
 use Rattle.vx_meaning.specs.Evaluate.{value, values}
 use Rattle.vx_meaning.specs.Flatten.{no_applications}
-use Rattle.vx_meaning.specs.Consistent.{spread, IsHeld}
+use Rattle.vx_meaning.specs.Consistent.{IsHeld}
 use Rattle.vx_meaning.specs.Fits.{Checked, ◌>>=◌, or_fail, guard, Deeper, choose, connected, location_of, amount_of, readable, has_instance, fit, fit_all}
-use Rattle.vx_amounts.proofs.Amounts.{Positive}
 use Rattle.vx_sound.proofs.Chunks.{held_directly}
 
 -- what the bodies of predicates are made of: no application, and no `old`

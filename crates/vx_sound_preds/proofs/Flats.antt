@@ -1,5 +1,5 @@
 -- What lies inside an instance, and the tree of its values, are the same for all fuel that suffices.
-use Rattle.std.proofs.Common.{◌≡◌, ℕ, zero, suc, ◌+◌, ◌≤◌, Bool, true, false, List, [], ◌∷◌, ◌++◌, Option, Some, None, refl, sym, ◌∙◌, ap, subst, arith}
+use Rattle.std.proofs.Common.{◌≡◌, ℕ, zero, suc, ◌+◌, true, false, List, [], ◌∷◌, ◌++◌, Option, Some, None, refl, sym, ◌∙◌, ap, subst, arith}
 use Rattle.std.specs.Prelude.{option_and_then}
 use Rattle.vx_ast.specs.Syntax.{Name, Program, Predicate, Assertion, Pure, Points, Both, Implied, Chosen, predicate_named}
 use Rattle.vx_ast.specs.Syntax as syntax
@@ -7,9 +7,9 @@ use Rattle.vx_frac.specs.Fractions.{Fraction}
 use Rattle.vx_meaning.specs.Values.{Value, IntValue, BoolValue, RefValue, PermValue}
 use Rattle.vx_meaning.specs.States.{State, Heap, Holdings, Instance, Resource, At, Folded, scaled, bind}
 use Rattle.vx_meaning.specs.Evaluate.{choose, value, values}
-use Rattle.vx_meaning.specs.Flatten.{no_applications, bare, body_entries, within, with_inner, flat, IsGrounded}
+use Rattle.vx_meaning.specs.Flatten.{no_applications, bare, body_entries, within, with_inner, flat}
 use Rattle.vx_terms.specs.Interpretations.{Tree, Empty, Pair}
-use Rattle.vx_sound_preds.specs.Snapshots.{location_leaf, truth_leaf, assertion_tree, body_tree, tree_by, IsTree}
+use Rattle.vx_sound_preds.specs.Snapshots.{assertion_tree, body_tree, tree_by, IsTree}
 use Rattle.vx_sound_preds.proofs.Fitting.{step, some_is}
 
 -- Undoing options

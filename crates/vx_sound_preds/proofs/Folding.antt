@@ -1,29 +1,19 @@
 -- What taking a body does, and that a fold keeps the state one that can be.
-use Rattle.std.proofs.Common.{◌≡◌, ℕ, zero, suc, ◌+◌, Bool, true, false, cond, List, [], ◌∷◌, ◌++◌, Option, Some, None, refl, sym, ◌∙◌, ap, ap₂, subst, arith, true≢false}
-use Rattle.std.specs.Prelude.{Result, Ok, Err, option_and_then}
-use Rattle.vx_ast.specs.declared.Place.{Place}
-use Rattle.vx_frac.specs.Fractions.{Fraction, none, full, at_most, is_positive, sum, minus, product}
-use Rattle.vx_ast.specs.Syntax.{Name, Program, Predicate, Expr, Assertion, Pure, Points, Both, Implied, Chosen, predicate_named, place_of}
-use Rattle.vx_ast.specs.Syntax as syntax
-use Rattle.vx_meaning.specs.Values.{Value, IntValue, BoolValue, RefValue, PermValue, is_true}
-use Rattle.vx_meaning.specs.States.{State, Store, Heap, Holdings, Location, Instance, Resource, At, Folded, same_resource, amount, gained, lost, scaled, bind, value_at, with_holdings}
-use Rattle.vx_meaning.specs.Evaluate as plain
-use Rattle.vx_meaning.specs.Evaluate.{value, values}
-use Rattle.vx_meaning.specs.Flatten.{no_applications, bare, entries, location_entry, instance_entry, body_entries, within, with_inner, flat, IsGrounded}
+use Rattle.std.proofs.Common.{◌≡◌, ℕ, ◌+◌, Bool, cond, [], ◌∷◌, Some, sym, ◌∙◌, ap, subst, arith, true≢false}
+use Rattle.vx_frac.specs.Fractions.{Fraction, none, full, product}
+use Rattle.vx_ast.specs.Syntax.{Program}
+use Rattle.vx_meaning.specs.States.{State, Heap, Holdings, Location, Instance, Resource, At, Folded, amount}
+use Rattle.vx_meaning.specs.Flatten.{IsGrounded}
 use Rattle.vx_meaning.specs.Consistent.{total, IsHeld, Changes}
-use Rattle.vx_meaning.specs.Fits.{Checked, ◌>>=◌, guard, Deeper, choose, fit, fit_all, field_part, instance_part, take, take_part, take_pure}
-use Rattle.vx_amounts.proofs.Amounts.{Le, Positive, Same, same-refl, same-sym, same-trans, le-refl, le-trans, le-is, sum_same, product_same, none-sum, sum-minus, sum_comm, sum_assoc, add-mono, none-none, positive-le, not-positive, positive-or, add-below, below-add, above-add, minus_none, difference-none, add-full, add-right, add-left}
-use Rattle.vx_sound.proofs.Chunks.{location_same, held_directly}
+use Rattle.vx_amounts.proofs.Amounts.{Le, Positive, le-trans, le-is, none-none, positive-le, not-positive, above-add, add-full}
+use Rattle.vx_sound.proofs.Chunks.{location_same}
 use Rattle.vx_sound_preds.specs.Snapshots.{tree_by, IsTree}
-use Rattle.vx_amounts.proofs.Products.{product-full, product_comm, product_sum, product_dist, product_assoc, product_sign, product_positive, product-none, product_mono, positive_le}
-use Rattle.vx_sound_preds.proofs.Fitting.{step, some_is, undo, guarded, Agrees, Opens, IsPlain}
-use Rattle.vx_sound_preds.proofs.Flats.{came, flat_more, flat_later, inner_more, tree_later, Covers}
-use Rattle.vx_sound_preds.proofs.Totals.{weigh, weigh_none, weigh_more, same_is, weight, total_weighs, inner_weighs, weight_of_body, weight_sign, weigh_sign, NoNegatives}
-use Rattle.vx_sound_preds.proofs.Grouped.{AreRigid, IsSingle, AreSingle, NoDebts, resource_is, resource_self, others, split, others_single, others_no_debts, others_amount, weigh_grows}
-use Rattle.vx_sound_preds.proofs.Framing.{IsAmount, IsPlainBody, Known, field_parts, instance_parts, ok_same, failed}
-use Rattle.vx_sound_preds.proofs.Adding.{RigidStore, Rigid, Sound, Grounded, Fine, IsEntry, AreEntries, value_here, values_here, location_entries, instance_entries}
-use Rattle.vx_sound_preds.proofs.Exchanging.{GoodBodies, no_negatives, held_grows, held_rigid}
-use Rattle.vx_sound_preds.proofs.Frames.{Covered, SameAt, framed_at}
+use Rattle.vx_amounts.proofs.Products.{product-full, product_positive, product-none}
+use Rattle.vx_sound_preds.proofs.Flats.{flat_later, tree_later}
+use Rattle.vx_sound_preds.proofs.Totals.{weigh, weigh_none, weigh_more, weight, total_weighs, weight_sign}
+use Rattle.vx_sound_preds.proofs.Grouped.{AreSingle, NoDebts, others, split, others_single, others_no_debts, others_amount, weigh_grows}
+use Rattle.vx_sound_preds.proofs.Exchanging.{GoodBodies, no_negatives, held_rigid}
+use Rattle.vx_sound_preds.proofs.Frames.{Covered, framed_at}
 
 -- what is held, where each instance held is grounded
 pub record Stock (p : Program) (h : Heap) (hs : Holdings) : Type 0 where

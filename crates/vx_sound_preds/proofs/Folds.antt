@@ -1,30 +1,29 @@
 -- A fold leaves a state that can be; the new instance's tree is that of the body that was taken; an unfold gives back what it took.
-use Rattle.std.proofs.Common.{◌≡◌, ℕ, zero, suc, ◌+◌, Bool, true, false, cond, List, [], ◌∷◌, ◌++◌, Option, Some, None, refl, sym, ◌∙◌, ap, ap₂, subst, arith, true≢false}
-use Rattle.std.specs.Prelude.{Result, Ok, Err, option_and_then, unwrap_or}
-use Rattle.vx_frac.specs.Fractions.{Fraction, none, full, at_most, is_positive, sum, minus, product}
+use Rattle.std.proofs.Common.{◌≡◌, ℕ, zero, suc, ◌+◌, Bool, true, false, cond, List, [], ◌∷◌, ◌++◌, Option, Some, None, refl, sym, ◌∙◌, ap, ap₂, subst, arith}
+use Rattle.std.specs.Prelude.{Ok, option_and_then, unwrap_or}
+use Rattle.vx_frac.specs.Fractions.{Fraction, none, full, sum}
 use Rattle.vx_ast.specs.Syntax.{Name, Program, Predicate, Assertion, Pure, Points, Both, Implied, Chosen, predicate_named}
 use Rattle.vx_ast.specs.Syntax as syntax
 use Rattle.vx_meaning.specs.Values.{Value, IntValue, BoolValue, RefValue, PermValue, is_true}
-use Rattle.vx_meaning.specs.States.{State, Store, Heap, Holdings, Location, Instance, Resource, At, Folded, same_resource, amount, gained, lost, scaled, bind, value_at, with_holdings, with_store}
+use Rattle.vx_meaning.specs.States.{State, Store, Heap, Holdings, Location, Instance, Resource, At, Folded, same_resource, amount, gained, scaled, bind, value_at, with_holdings, with_store}
 use Rattle.vx_meaning.specs.Evaluate as plain
 use Rattle.vx_meaning.specs.Evaluate.{value, values}
-use Rattle.vx_meaning.specs.Flatten.{no_applications, bare, entries, location_entry, instance_entry, body_entries, within, with_inner, flat, IsGrounded}
-use Rattle.vx_meaning.specs.Consistent.{total, IsHeld, IsSupported, IsConsistent}
-use Rattle.vx_meaning.specs.Fits.{Deeper, take, deeper}
+use Rattle.vx_meaning.specs.Flatten.{no_applications, bare, entries, location_entry, instance_entry, body_entries, with_inner, flat, IsGrounded}
+use Rattle.vx_meaning.specs.Consistent.{total, IsConsistent}
+use Rattle.vx_meaning.specs.Fits.{take, deeper}
 use Rattle.vx_terms.specs.Interpretations.{Tree, Empty, Pair}
-use Rattle.vx_amounts.proofs.Amounts.{Le, Positive, Same, same-refl, same-sym, same-trans, le-refl, le-trans, le-is, sum_same, product_same, none-sum, none-none, positive-le}
-use Rattle.vx_sound_preds.specs.Snapshots.{leaf, location_leaf, truth_leaf, assertion_tree, body_tree, tree_by, IsTree}
-use Rattle.vx_amounts.proofs.Products.{product_sign, positive_le}
-use Rattle.vx_sound_preds.proofs.Fitting.{step, some_is, Opens}
-use Rattle.vx_sound_preds.proofs.Flats.{came, flat_more, flat_later, inner_more, tree_more, tree_later, assertion_more, Covers}
-use Rattle.vx_sound_preds.proofs.Looks.{Sees}
+use Rattle.vx_amounts.proofs.Amounts.{Le, Positive, Same, same-refl, same-trans, le-trans, le-is, sum_same, product_same, none-none}
+use Rattle.vx_sound_preds.specs.Snapshots.{leaf, location_leaf, truth_leaf, assertion_tree, body_tree, tree_by}
+use Rattle.vx_amounts.proofs.Products.{positive_le}
+use Rattle.vx_sound_preds.proofs.Fitting.{step, some_is}
+use Rattle.vx_sound_preds.proofs.Flats.{came, flat_more, flat_later, inner_more}
 use Rattle.vx_sound_preds.proofs.Totals.{weigh, weigh_more, same_is, weight, total_weighs, weight_of_body}
-use Rattle.vx_sound_preds.proofs.Grouped.{AreRigid, IsSingle, AreSingle, NoDebts, resource_is}
-use Rattle.vx_sound_preds.proofs.Framing.{IsPlainBody, Known, entries_seen, tree_seen}
-use Rattle.vx_sound_preds.proofs.Adding.{Rigid, Fine, IsEntry, AreEntries}
+use Rattle.vx_sound_preds.proofs.Grouped.{AreRigid, IsSingle, resource_is}
+use Rattle.vx_sound_preds.proofs.Framing.{entries_seen}
+use Rattle.vx_sound_preds.proofs.Adding.{Rigid, Fine, AreEntries}
 use Rattle.vx_sound_preds.proofs.Exchanging.{GoodBodies, no_negatives, grown, entered_fine, all_open}
 use Rattle.vx_sound_preds.proofs.Folding.{Stock}
-use Rattle.vx_sound_preds.proofs.Taking.{taken, weigh_taken, Takes, take_takes}
+use Rattle.vx_sound_preds.proofs.Taking.{taken, weigh_taken, take_takes}
 
 -- entries that can be have one fuel that suffices for all of them
 pub record Inner (p : Program) (h : Heap) (es : Holdings) : Type 0 where

@@ -1,28 +1,28 @@
 -- Frames of instances: what is inside, and the tree, look only where something is held.
-use Rattle.std.proofs.Common.{◌≡◌, ℕ, zero, suc, ◌+◌, Bool, true, false, cond, List, [], ◌∷◌, ◌++◌, Option, Some, None, refl, sym, ◌∙◌, ap, ap₂, subst, arith, true≢false}
-use Rattle.std.specs.Prelude.{Result, Ok, Err, option_and_then}
-use Rattle.vx_frac.specs.Fractions.{Fraction, none, full, at_most, is_positive, sum, minus, product}
+use Rattle.std.proofs.Common.{◌≡◌, ℕ, zero, suc, ◌+◌, Bool, true, false, cond, [], ◌∷◌, ◌++◌, Option, Some, None, refl, sym, ◌∙◌, ap, ap₂, subst, arith}
+use Rattle.std.specs.Prelude.{Ok, option_and_then}
+use Rattle.vx_frac.specs.Fractions.{Fraction, none, full, at_most, sum, product}
 use Rattle.vx_ast.specs.Syntax.{Name, Program, Predicate, Declaration, Assertion, Pure, Points, Both, Implied, Chosen, predicate_named}
 use Rattle.vx_ast.specs.Syntax as syntax
 use Rattle.vx_meaning.specs.Values.{Value, IntValue, BoolValue, RefValue, PermValue, is_true}
-use Rattle.vx_meaning.specs.States.{State, Store, Heap, Holdings, Location, Instance, Resource, At, Folded, same_resource, same_location, amount, gained, scaled, bind, value_at, with_holdings}
+use Rattle.vx_meaning.specs.States.{State, Heap, Holdings, Location, Instance, Resource, At, Folded, same_resource, amount, gained, scaled, bind, value_at}
 use Rattle.vx_meaning.specs.Evaluate as plain
 use Rattle.vx_meaning.specs.Evaluate.{value, values}
-use Rattle.vx_meaning.specs.Flatten.{no_applications, bare, entries, location_entry, instance_entry, body_entries, within, with_inner, flat, IsGrounded}
-use Rattle.vx_meaning.specs.Consistent.{total, IsHeld, Changes}
+use Rattle.vx_meaning.specs.Flatten.{no_applications, bare, entries, location_entry, instance_entry, body_entries, with_inner, flat, IsGrounded}
+use Rattle.vx_meaning.specs.Consistent.{total, IsHeld}
 use Rattle.vx_meaning.specs.Fits.{add, deeper}
 use Rattle.vx_terms.specs.Interpretations.{Tree, Empty}
-use Rattle.vx_amounts.proofs.Amounts.{Le, Positive, Same, same-refl, same-sym, same-trans, le-refl, le-trans, le-is, sum_same, none-sum, sum_comm, none-none, positive-le, not-positive, above-add, below-add, full-positive, none-full}
+use Rattle.vx_amounts.proofs.Amounts.{Le, Positive, Same, same-trans, le-refl, le-trans, sum_same, none-sum, sum_comm, none-none, positive-le, not-positive, above-add, below-add, full-positive, none-full}
 use Rattle.vx_sound.proofs.Chunks.{location_same, held_directly}
-use Rattle.vx_sound_preds.specs.Snapshots.{assertion_tree, body_tree, tree_by, IsTree}
-use Rattle.vx_amounts.proofs.Products.{product-full, product_comm, product_sign, product_positive, product-none, positive_le}
+use Rattle.vx_sound_preds.specs.Snapshots.{assertion_tree, body_tree, tree_by}
+use Rattle.vx_amounts.proofs.Products.{product-full, product_comm, product_sign, product_positive, positive_le}
 use Rattle.vx_sound_preds.proofs.Fitting.{step, some_is, Agrees}
-use Rattle.vx_sound_preds.proofs.Flats.{came, flat_more, flat_later, inner_more, Covers}
-use Rattle.vx_sound_preds.proofs.Totals.{weigh, weigh_none, weigh_more, same_is, weight, total_weighs, inner_weighs, weight_of_body, weight_sign, weigh_sign, AtLeastNone, NoNegatives}
-use Rattle.vx_sound_preds.proofs.Grouped.{AreRigid, IsSingle, AreSingle, NoDebts, resource_is, resource_self, others, split, others_single, others_no_debts, weigh_grows}
-use Rattle.vx_sound_preds.proofs.Framing.{IsAmount, IsPlainBody, Known, Later, Gains, Framed, framed}
-use Rattle.vx_sound_preds.proofs.Adding.{RigidStore, Rigid, Sound, Grounded, Fine, AreEntries, added, weigh_added, Adds, add_adds}
-use Rattle.vx_sound_preds.proofs.Exchanging.{GoodBodies, no_negatives, IsOpen, opened, held_grows, bound_rigid, all_open}
+use Rattle.vx_sound_preds.proofs.Flats.{came, flat_later, inner_more}
+use Rattle.vx_sound_preds.proofs.Totals.{weigh, weigh_none, same_is, weight, total_weighs, inner_weighs, weight_of_body, weight_sign, weigh_sign, AtLeastNone}
+use Rattle.vx_sound_preds.proofs.Grouped.{AreRigid, IsSingle, AreSingle, NoDebts, resource_is, resource_self}
+use Rattle.vx_sound_preds.proofs.Framing.{IsPlainBody, Gains, framed}
+use Rattle.vx_sound_preds.proofs.Adding.{Rigid, Sound, Grounded, Fine, AreEntries, added, weigh_added, add_adds}
+use Rattle.vx_sound_preds.proofs.Exchanging.{GoodBodies, no_negatives, opened, held_grows, bound_rigid, all_open}
 
 -- what an amount that is gained does
 module _ (p : Program) (good : GoodBodies p) (q : Fraction) (scale : Positive q) where

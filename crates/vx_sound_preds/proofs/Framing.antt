@@ -1,8 +1,8 @@
 -- The entries and the tree of a body look at no location of which nothing is held.
-use Rattle.std.proofs.Common.{◌≡◌, ℕ, zero, suc, Bool, true, false, cond, ◌⊎◌, List, [], ◌∷◌, ◌++◌, Option, Some, None, refl, sym, ◌∙◌, ap, ap₂, subst}
-use Rattle.std.specs.Prelude.{Result, Ok, Err, IsTrue, option_and_then}
+use Rattle.std.proofs.Common.{◌≡◌, true, false, cond, List, [], ◌++◌, Option, Some, None, refl, sym, ◌∙◌, ap, ap₂, subst}
+use Rattle.std.specs.Prelude.{Ok, Err, option_and_then}
 use Rattle.vx_ast.specs.declared.Place.{Place}
-use Rattle.vx_frac.specs.Fractions.{Fraction, none, at_most, is_positive, product}
+use Rattle.vx_frac.specs.Fractions.{Fraction, none, at_most, product}
 use Rattle.vx_ast.specs.Syntax.{Name, Program, Expr, Exprs, Assertion, Pure, Points, Both, Implied, Chosen, place_of}
 use Rattle.vx_ast.specs.Syntax as syntax
 use Rattle.vx_meaning.specs.Values.{Value, IntValue, BoolValue, RefValue, PermValue, is_true}
@@ -17,7 +17,7 @@ use Rattle.vx_amounts.proofs.Amounts.{Positive}
 use Rattle.vx_sound_preds.specs.Snapshots.{leaf, location_leaf, truth_leaf, assertion_tree}
 use Rattle.vx_sound_preds.proofs.Grouped.{AreRigid, IsSingle}
 use Rattle.vx_sound_preds.proofs.Looks.{Sees, value_seen, values_seen}
-use Rattle.vx_sound_preds.proofs.Fitting.{IsPlain, ArePlain, undo, not_failed, guarded, step, some_is, Agrees, Keeps, Opens, fit_framed, fit_all_framed}
+use Rattle.vx_sound_preds.proofs.Fitting.{IsPlain, ArePlain, undo, not_failed, guarded, step, some_is, Agrees, Opens, fit_framed, fit_all_framed}
 
 -- an amount of a body: one fraction above none, whatever the state
 pub record IsAmount (p : Program) (share : Expr) : Type 0 where

@@ -1,14 +1,14 @@
 -- Where a Give ends, the parts fit from left to right, and what is added is what it adds.
-use Rattle.std.proofs.Common.{◌≡◌, ◌⊎◌, inl, inr, ℕ, zero, suc, ◌+◌, ◌≤◌, Bool, true, false, cond, List, [], ◌∷◌, Option, Some, None, refl, sym, ◌∙◌, ap, ap₂, subst, arith, true≢false}
-use Rattle.std.specs.Prelude.{Result, Ok, Err}
+use Rattle.std.proofs.Common.{◌≡◌, inl, inr, ℕ, ◌+◌, ◌≤◌, Bool, true, false, sym, ◌∙◌, ap, subst, arith}
+use Rattle.std.specs.Prelude.{Ok}
 use Rattle.vx_frac.specs.Fractions.{Fraction, product}
 use Rattle.vx_ast.specs.Syntax.{Name, Program, Expr, Assertion, Pure, Points, Both, Implied, Chosen, place_of}
 use Rattle.vx_ast.specs.Syntax as syntax
 use Rattle.vx_meaning.specs.Values.{Value, IntValue, BoolValue, RefValue, PermValue, is_true}
 use Rattle.vx_meaning.specs.States.{State, Holdings, Resource, gained, with_holdings}
-use Rattle.vx_meaning.specs.Fits.{Checked, ◌>>=◌, Eventually, choose, fit, fit_by, field_part, instance_part, deeper, add, add_part}
-use Rattle.vx_meaning.specs.Outcomes.{Outcomes, Ends, passes, refused, goes_on, is_over, checked, and_then, ends, stops}
-use Rattle.vx_meaning.specs.Give.{give, give_part, if_possible, side, when}
+use Rattle.vx_meaning.specs.Fits.{Checked, ◌>>=◌, Eventually, choose, fit_by, deeper, add, add_part}
+use Rattle.vx_meaning.specs.Outcomes.{Ends, passes, refused, goes_on, is_over, ends, stops}
+use Rattle.vx_meaning.specs.Give.{give, if_possible, side, when}
 
 abbrev pub IsBool : Value → Type 0
 IsBool (BoolValue b) = Unit {0}

@@ -1,18 +1,18 @@
 -- What any assertion of a method gives keeps what is known of what is held.
-use Rattle.std.proofs.Common.{◌≡◌, ℕ, Bool, true, false, cond, inl, inr, List, [], ◌∷◌, Option, Some, None, refl, sym, ◌∙◌, ap, subst}
-use Rattle.std.specs.Prelude.{Result, Ok, Err}
+use Rattle.std.proofs.Common.{◌≡◌, Bool, true, false, cond, inl, inr, List, sym, ◌∙◌, ap, subst}
+use Rattle.std.specs.Prelude.{Ok}
 use Rattle.vx_frac.specs.Fractions.{Fraction, none, sum, product}
 use Rattle.vx_ast.specs.Syntax.{Name, Program, Assertion, Pure, Points, Both, Implied, Chosen, place_of}
 use Rattle.vx_ast.specs.Syntax as syntax
 use Rattle.vx_meaning.specs.Values.{Value, is_true}
-use Rattle.vx_meaning.specs.States.{State, Holdings, Instance, Resource, At, Folded, same_resource, amount, gained, with_holdings}
-use Rattle.vx_meaning.specs.Fits.{Checked, ◌>>=◌, Deeper, choose, fit, fit_all, field_part, instance_part, add, add_part}
-use Rattle.vx_meaning.specs.Outcomes.{Outcomes, Ends, passes, refused, goes_on, is_over, ends, stops}
+use Rattle.vx_meaning.specs.States.{State, Holdings, Resource, At, Folded, same_resource, amount, gained, with_holdings}
+use Rattle.vx_meaning.specs.Fits.{Checked, Deeper, choose, fit, fit_all, field_part, instance_part, add, add_part}
+use Rattle.vx_meaning.specs.Outcomes.{Ends, passes, refused, goes_on, is_over, ends, stops}
 use Rattle.vx_meaning.specs.Give.{give, if_possible, when}
 use Rattle.vx_amounts.proofs.Amounts.{Le, Positive, none-none}
 use Rattle.vx_amounts.proofs.Products.{product_sign, positive_le}
 use Rattle.vx_sound_preds.proofs.Fitting.{undo}
-use Rattle.vx_sound_preds.proofs.Grouped.{AreRigid, IsSingle, AreSingle, NoDebts}
+use Rattle.vx_sound_preds.proofs.Grouped.{AreRigid, IsSingle, NoDebts}
 use Rattle.vx_sound_preds.proofs.Framing.{field_parts, instance_parts, ok_same, picked}
 use Rattle.vx_sound_preds.proofs.Adding.{Sound}
 

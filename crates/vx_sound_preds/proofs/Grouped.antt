@@ -1,20 +1,20 @@
 -- What is held, with the entries of one resource taken together.
-use Rattle.std.proofs.Common.{◌≡◌, ℕ, zero, suc, ◌+◌, ◌≤◌, Bool, true, false, cond, ◌&&◌, List, [], ◌∷◌, ◌++◌, length, Option, Some, None, refl, sym, ◌∙◌, ap, ap₂, subst, arith, eq-eqb, eqb-true, true≢false}
-use Rattle.std.specs.Prelude.{nat_eq, ℤ}
+use Rattle.std.proofs.Common.{◌≡◌, ℕ, zero, suc, ◌≤◌, Bool, true, false, cond, ◌&&◌, List, [], ◌∷◌, length, refl, sym, ◌∙◌, ap, ap₂, subst, arith, eq-eqb, eqb-true, true≢false}
+use Rattle.std.specs.Prelude.{ℤ}
 use Rattle.std.specs.Bool.{beq}
 use Rattle.std.specs.Ordering.{int_eq}
 use Rattle.std.proofs.lemmas.Int.{ints}
-use Rattle.vx_frac.specs.Fractions.{Fraction, none, full, sum, minus, product}
-use Rattle.vx_ast.specs.Syntax.{Name, same_name}
+use Rattle.vx_frac.specs.Fractions.{Fraction, none, sum, product}
+use Rattle.vx_ast.specs.Syntax.{Name}
 use Rattle.vx_meaning.specs.Values.{Value, IntValue, BoolValue, RefValue, PermValue, same_value, same_values}
-use Rattle.vx_meaning.specs.States.{Holdings, Location, Instance, Resource, At, Folded, same_location, same_resource, amount}
+use Rattle.vx_meaning.specs.States.{Holdings, Instance, Resource, At, Folded, same_resource, amount}
 use Rattle.vx_terms.proofs.Same.{and_parts}
-use Rattle.vx_amounts.proofs.Amounts.{Le, Positive, Same, same-refl, same-sym, same-trans, le-refl, le-trans, le-is, sum_same, none-sum, sum_comm, sum_assoc, add-mono, none-none}
+use Rattle.vx_amounts.proofs.Amounts.{Le, Same, same-refl, same-sym, same-trans, le-trans, le-is, sum_same, none-sum, sum_comm, sum_assoc, add-mono}
 use Rattle.vx_elements.proofs.Lists.{name_is}
 use Rattle.vx_sound.proofs.Chunks.{location_same, location_is}
 use Rattle.vx_elements.proofs.Lists.{name_same}
-use Rattle.vx_amounts.proofs.Products.{product_comm, product_dist, product_mono, product-none, product_sign}
-use Rattle.vx_sound_preds.proofs.Totals.{weigh, weigh_none, weigh_more}
+use Rattle.vx_amounts.proofs.Products.{product_comm, product_dist, product_mono, product-none}
+use Rattle.vx_sound_preds.proofs.Totals.{weigh, weigh_none}
 
 -- values that are no amounts: those of the parameters of predicates
 abbrev pub IsRigid : Value → Type 0

@@ -1,32 +1,30 @@
 -- Chunks of instances: what they stand for, and what keeps it.
-use Rattle.std.proofs.Common.{◌≡◌, ℕ, zero, suc, ◌+◌, Bool, true, false, cond, ◌&&◌, List, [], ◌∷◌, Option, Some, None, refl, sym, ◌∙◌, ap, ap₂, subst, arith, true≢false}
-use Rattle.std.specs.Prelude.{map}
+use Rattle.std.proofs.Common.{◌≡◌, ℕ, suc, ◌+◌, Bool, true, false, cond, ◌&&◌, List, [], ◌∷◌, Some, refl, sym, ◌∙◌, ap, subst, arith}
 use Rattle.vx_frac.specs.Fractions.{Fraction, none, full, sum, minus, product}
-use Rattle.vx_ast.specs.Syntax.{Name, Program, Predicate, Assertion, predicate_named}
+use Rattle.vx_ast.specs.Syntax.{Program, Predicate, Assertion, predicate_named}
 use Rattle.vx_ast.specs.Types.{same_type}
 use Rattle.vx_meaning.specs.Values.{Value, type_of}
 use Rattle.vx_meaning.specs.States.{State, Heap, Holdings, Location, Instance, Resource, At, Folded, same_location, same_resource, amount, gained, lost, bind, value_at, find_value, field_type}
-use Rattle.vx_meaning.specs.Flatten.{bare, IsGrounded}
-use Rattle.vx_meaning.specs.Consistent.{total, IsHeld, Changes, IsConsistent}
+use Rattle.vx_meaning.specs.Flatten.{bare}
+use Rattle.vx_meaning.specs.Consistent.{Changes, IsConsistent}
 use Rattle.vx_terms.specs.Terms.{Term}
 use Rattle.vx_terms.specs.Interpretations as terms
 use Rattle.vx_terms.specs.Interpretations.{Each, Interpretation, Element, Tree, TreeElement}
 use Rattle.vx_rules.specs.States.{Chunk}
 use Rattle.vx_elements.proofs.Elements.{element}
-use Rattle.vx_amounts.proofs.Amounts.{Le, Positive, Same, same-refl, same-sym, same-trans, le-refl, le-trans, sum_same, none-sum, sum_comm, sum_assoc, sum-minus, product_same}
+use Rattle.vx_amounts.proofs.Amounts.{Le, Positive, Same, same-refl, same-sym, same-trans, sum_same, none-sum, sum_comm, sum_assoc, sum-minus, product_same}
 use Rattle.vx_sound.proofs.Stands.{amount_of}
 use Rattle.vx_sound.proofs.Chunks.{location_is}
-use Rattle.vx_sound_preds.specs.Snapshots.{assertion_tree, tree_by, IsTree}
+use Rattle.vx_sound_preds.specs.Snapshots.{tree_by, IsTree}
 use Rattle.vx_amounts.proofs.Products.{product-full, product-none, product_comm, product_dist}
 use Rattle.vx_sound_preds.proofs.Flats.{flat_later, tree_later, tree_single}
-use Rattle.vx_sound_preds.proofs.Totals.{weigh, weigh_none, weigh_more, weight, same_is}
-use Rattle.vx_sound_preds.proofs.Grouped.{AreRigid}
+use Rattle.vx_sound_preds.proofs.Totals.{weigh, weigh_more, weight, same_is}
 use Rattle.vx_sound_preds.proofs.Exchanging.{GoodBodies, held_rigid}
 use Rattle.vx_sound_preds.proofs.Adding.{added, weigh_added}
-use Rattle.vx_sound_preds.proofs.Frames.{Covered, SameAt, framed_at}
+use Rattle.vx_sound_preds.proofs.Frames.{Covered, framed_at}
 use Rattle.vx_sound_preds.proofs.Folding.{Stock, instance_changed, owned_apart}
 use Rattle.vx_sound_preds.proofs.Taking.{taken, weigh_taken}
-use Rattle.vx_sound_preds.proofs.Folds.{tree_of_body, flat_has_tree}
+use Rattle.vx_sound_preds.proofs.Folds.{tree_of_body}
 use Rattle.vx_sound_preds.proofs.Snaps as snaps
 use Rattle.vx_sound_preds.proofs.Snaps.{IsStandard}
 

@@ -1,9 +1,9 @@
 -- Values, entries and trees look at the variables and the heap alone, not at what is held.
-use Rattle.std.proofs.Common.{◌≡◌, ℕ, Bool, true, false, List, [], ◌∷◌, ◌++◌, Option, Some, None, refl, sym, ◌∙◌, ap, ap₂, subst}
+use Rattle.std.proofs.Common.{◌≡◌, List, ◌∷◌, Option, Some, None, refl, ◌∙◌, ap, ap₂}
 use Rattle.std.specs.Prelude.{option_and_then}
-use Rattle.vx_ast.specs.Syntax.{Name, Program, Connective, Expr, Number, Truth, Null, Part, Variable, Not, Operate, Divide, Connect, Choose, Read, Old, Apply, Unfolding, Exprs, NoMore, More}
+use Rattle.vx_ast.specs.Syntax.{Name, Program, Expr, Number, Truth, Null, Part, Variable, Not, Operate, Divide, Connect, Choose, Read, Old, Apply, Unfolding, Exprs, NoMore, More}
 use Rattle.vx_meaning.specs.Values.{Value, IntValue, BoolValue, RefValue, PermValue, negated, operated, divided}
-use Rattle.vx_meaning.specs.States.{State, Heap, Location, lookup, value_at}
+use Rattle.vx_meaning.specs.States.{State, Heap, lookup, value_at}
 use Rattle.vx_meaning.specs.Evaluate.{value, values, read, choose, connected}
 use Rattle.vx_meaning.specs.Flatten.{no_applications}
 use Rattle.vx_sound_preds.proofs.Fitting.{IsPlain, ArePlain}

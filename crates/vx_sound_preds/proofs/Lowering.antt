@@ -1,22 +1,22 @@
 -- Whatever an assertion of a method takes, a state that can be stays one.
-use Rattle.std.proofs.Common.{◌≡◌, ℕ, Bool, true, false, cond, List, [], ◌∷◌, Option, Some, None, refl, sym, ◌∙◌, ap, subst}
-use Rattle.std.specs.Prelude.{Result, Ok, Err}
+use Rattle.std.proofs.Common.{◌≡◌, ℕ, List, refl, subst}
+use Rattle.std.specs.Prelude.{Ok}
 use Rattle.vx_frac.specs.Fractions.{Fraction, none, full, sum, minus, product}
 use Rattle.vx_ast.specs.Syntax.{Name, Program, Expr, Exprs, Assertion, Pure, Points, Both, Implied, Chosen, place_of}
 use Rattle.vx_ast.specs.Syntax as syntax
 use Rattle.vx_meaning.specs.Values.{Value, is_true}
-use Rattle.vx_meaning.specs.States.{State, Heap, Holdings, Location, Instance, Resource, At, Folded, amount, gained, lost, with_holdings}
-use Rattle.vx_meaning.specs.Consistent.{total, IsHeld, IsSupported, IsConsistent}
-use Rattle.vx_meaning.specs.Fits.{Checked, ◌>>=◌, guard, Deeper, choose, fit, fit_all, field_part, instance_part, take, take_part}
-use Rattle.vx_amounts.proofs.Amounts.{Le, Positive, Same, same-refl, same-trans, le-refl, le-trans, le-is, sum_comm, none-sum, add-right, add-below, minus_none, sum-minus, product_same, sum_same, below-add}
+use Rattle.vx_meaning.specs.States.{State, Heap, Holdings, Location, Resource, At, Folded, lost, with_holdings}
+use Rattle.vx_meaning.specs.Consistent.{total, IsConsistent}
+use Rattle.vx_meaning.specs.Fits.{◌>>=◌, guard, Deeper, choose, fit, fit_all, field_part, instance_part, take, take_part}
+use Rattle.vx_amounts.proofs.Amounts.{Le, Positive, Same, same-refl, same-trans, le-refl, le-trans, le-is, add-below, sum-minus, product_same, below-add}
 use Rattle.vx_amounts.proofs.Products.{product_sign, product_dist, product_comm, product-none, positive_le}
 use Rattle.vx_sound_preds.proofs.Fitting.{undo}
-use Rattle.vx_sound_preds.proofs.Totals.{weigh, weigh_more, weight, weight_sign, total_weighs, same_is, NoNegatives}
-use Rattle.vx_sound_preds.proofs.Grouped.{AreRigid, IsSingle}
+use Rattle.vx_sound_preds.proofs.Totals.{weigh, weigh_more, weight, weight_sign, total_weighs, same_is}
+use Rattle.vx_sound_preds.proofs.Grouped.{AreRigid}
 use Rattle.vx_sound_preds.proofs.Framing.{field_parts, instance_parts, ok_same, picked}
 use Rattle.vx_sound_preds.proofs.Exchanging.{GoodBodies, no_negatives}
 use Rattle.vx_sound_preds.proofs.Folding.{Stock}
-use Rattle.vx_sound_preds.proofs.Taking.{lost_stock, Part, part_of}
+use Rattle.vx_sound_preds.proofs.Taking.{lost_stock, part_of}
 
 -- less is held
 pub record Lowers (p : Program) (h : Heap) (hs rest : Holdings) : Type 0 where

@@ -1,17 +1,16 @@
 -- What the terms of snapshots stand for, where the symbols of pairs and wraps mean what they should.
-use Rattle.std.proofs.Common.{◌≡◌, ℕ, ◌+◌, Bool, true, false, cond, List, [], ◌∷◌, Option, Some, None, refl, sym, ◌∙◌, ap, ap₂, subst}
+use Rattle.std.proofs.Common.{◌≡◌, ℕ, ◌+◌, true, false, List, [], ◌∷◌, Option, Some, refl, sym, ◌∙◌, ap, ap₂}
 use Rattle.std.specs.Prelude.{option_and_then}
 use Rattle.vx_ast.specs.Syntax.{Name, Program, Assertion, Pure, Points, Both, Implied, Chosen}
 use Rattle.vx_ast.specs.Syntax as syntax
-use Rattle.vx_frac.specs.Fractions.{lowest}
 use Rattle.vx_frac.proofs.Lowest.{lowest-lowest}
-use Rattle.vx_meaning.specs.Values.{Value, IntValue, BoolValue, RefValue, PermValue, type_of, is_true}
-use Rattle.vx_meaning.specs.States.{State, Heap, Instance, Location, value_at}
+use Rattle.vx_meaning.specs.Values.{Value, IntValue, BoolValue, RefValue, PermValue, type_of}
+use Rattle.vx_meaning.specs.States.{State, Instance, value_at}
 use Rattle.vx_meaning.specs.Evaluate as plain
 use Rattle.vx_meaning.specs.Evaluate.{value, values}
 use Rattle.vx_meaning.specs.Flatten.{no_applications}
 use Rattle.vx_terms.specs.Sorts.{Sort, SnapSort, Standard}
-use Rattle.vx_terms.specs.Terms.{Term, MoreTerms, NoTerms}
+use Rattle.vx_terms.specs.Terms.{Term}
 use Rattle.vx_terms.specs.Build.{unit, pair, wrap, wrap_number, written_first, written_second, written_unwrap}
 use Rattle.vx_terms.specs.Interpretations as terms
 use Rattle.vx_terms.specs.Interpretations.{Element, Interpretation, Tree, TreeElement, Empty, Pair, as_sort}

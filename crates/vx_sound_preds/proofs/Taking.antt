@@ -1,26 +1,23 @@
 -- What taking a body does, and that a fold keeps the state one that can be.
-use Rattle.std.proofs.Common.{◌≡◌, ℕ, zero, suc, ◌+◌, Bool, true, false, cond, List, [], ◌∷◌, ◌++◌, Option, Some, None, refl, sym, ◌∙◌, ap, ap₂, subst, arith, true≢false}
-use Rattle.std.specs.Prelude.{Result, Ok, Err, option_and_then, unwrap_or}
+use Rattle.std.proofs.Common.{◌≡◌, Bool, true, false, cond, List, [], ◌∷◌, ◌++◌, Some, None, refl, sym, ◌∙◌, ap, ap₂, subst}
+use Rattle.std.specs.Prelude.{Ok, option_and_then}
 use Rattle.vx_ast.specs.declared.Place.{Place}
-use Rattle.vx_frac.specs.Fractions.{Fraction, none, full, at_most, is_positive, sum, minus, product}
+use Rattle.vx_frac.specs.Fractions.{Fraction, none, at_most, sum, minus, product}
 use Rattle.vx_ast.specs.Syntax.{Name, Program, Predicate, Expr, Assertion, Pure, Points, Both, Implied, Chosen, predicate_named, place_of}
 use Rattle.vx_ast.specs.Syntax as syntax
 use Rattle.vx_meaning.specs.Values.{Value, IntValue, BoolValue, RefValue, PermValue, is_true}
-use Rattle.vx_meaning.specs.States.{State, Store, Heap, Holdings, Location, Instance, Resource, At, Folded, same_resource, amount, gained, lost, scaled, bind, value_at, with_holdings}
+use Rattle.vx_meaning.specs.States.{State, Heap, Holdings, Location, Instance, Resource, At, Folded, same_resource, amount, lost}
 use Rattle.vx_meaning.specs.Evaluate as plain
 use Rattle.vx_meaning.specs.Evaluate.{value, values}
-use Rattle.vx_meaning.specs.Flatten.{no_applications, bare, entries, location_entry, instance_entry, body_entries, within, with_inner, flat, IsGrounded}
-use Rattle.vx_meaning.specs.Consistent.{total, IsHeld, IsSupported, IsConsistent}
-use Rattle.vx_meaning.specs.Fits.{Checked, ◌>>=◌, guard, Deeper, choose, location_of, amount_of, fit, fit_all, field_part, instance_part, take, take_part, take_pure}
-use Rattle.vx_amounts.proofs.Amounts.{Le, Positive, Same, same-refl, same-sym, same-trans, le-refl, le-trans, le-is, sum_same, product_same, none-sum, sum-minus, sum_comm, sum_assoc, none-none, positive-le, not-positive, add-below, below-add, minus_none, difference-none}
+use Rattle.vx_meaning.specs.Flatten.{no_applications, entries, location_entry, instance_entry, IsGrounded}
+use Rattle.vx_meaning.specs.Fits.{Checked, ◌>>=◌, guard, Deeper, choose, location_of, amount_of, fit, field_part, instance_part, take, take_part}
+use Rattle.vx_amounts.proofs.Amounts.{Le, Positive, Same, same-refl, same-sym, same-trans, le-trans, sum_same, product_same, none-sum, sum-minus, sum_comm, sum_assoc, positive-le, add-below, minus_none, difference-none}
 use Rattle.vx_amounts.proofs.Products.{product_comm, product_sum, product_dist, product_assoc, product_sign, product_positive, product-none, positive_le}
-use Rattle.vx_sound_preds.proofs.Fitting.{step, some_is, undo, guarded, Opens, IsPlain}
-use Rattle.vx_sound_preds.proofs.Flats.{came, flat_more, flat_later, inner_more, Covers}
-use Rattle.vx_sound_preds.proofs.Totals.{weigh, weigh_none, weigh_more, same_is, weight, total_weighs, inner_weighs, weight_of_body, weight_sign, NoNegatives}
-use Rattle.vx_sound_preds.proofs.Grouped.{AreRigid, IsSingle, AreSingle, NoDebts, resource_is, resource_self}
-use Rattle.vx_sound_preds.proofs.Framing.{IsAmount, IsPlainBody, Known, field_parts, instance_parts, ok_same, amount_same, failed}
-use Rattle.vx_sound_preds.proofs.Adding.{RigidStore, Rigid, Sound, Grounded, Fine, IsEntry, AreEntries, value_here, values_here, location_entries, instance_entries}
-use Rattle.vx_sound_preds.proofs.Exchanging.{GoodBodies, no_negatives, held_grows, grown}
+use Rattle.vx_sound_preds.proofs.Fitting.{step, some_is, undo, guarded, Opens}
+use Rattle.vx_sound_preds.proofs.Totals.{weigh, same_is}
+use Rattle.vx_sound_preds.proofs.Grouped.{IsSingle, resource_is}
+use Rattle.vx_sound_preds.proofs.Framing.{IsPlainBody, field_parts, instance_parts, ok_same, amount_same, failed}
+use Rattle.vx_sound_preds.proofs.Adding.{Rigid, Fine, IsEntry, AreEntries, value_here, values_here}
 use Rattle.vx_sound_preds.proofs.Folding.{Stock}
 
 -- the entries, scaled, taken one after the other

@@ -1,16 +1,15 @@
 -- A total is a sum over what is held, each by its weight: what one whole of it holds of the location.
-use Rattle.std.proofs.Common.{◌≡◌, ℕ, zero, suc, ◌+◌, ◌≤◌, Bool, true, false, cond, ◌&&◌, List, [], ◌∷◌, ◌++◌, Option, Some, None, refl, sym, ◌∙◌, ap, ap₂, subst, arith}
+use Rattle.std.proofs.Common.{◌≡◌, ℕ, zero, suc, Bool, true, false, cond, [], ◌∷◌, ◌++◌, Option, Some, None, refl, sym, ◌∙◌, ap, subst}
 use Rattle.std.specs.Prelude.{option_and_then, unwrap_or}
-use Rattle.vx_frac.specs.Fractions.{Fraction, none, full, at_most, is_positive, sum, minus, product}
-use Rattle.vx_ast.specs.Syntax.{Name, Program, Predicate, predicate_named}
-use Rattle.vx_meaning.specs.Values.{Value}
-use Rattle.vx_meaning.specs.States.{State, Heap, Holdings, Location, Instance, Resource, At, Folded, same_location, same_resource, amount, scaled, value_at}
-use Rattle.vx_meaning.specs.Flatten.{body_entries, within, with_inner, flat, IsGrounded}
-use Rattle.vx_meaning.specs.Consistent.{spread, total, IsHeld}
-use Rattle.vx_amounts.proofs.Amounts.{Le, Positive, Same, same-refl, same-sym, same-trans, le-refl, le-trans, le-is, sum_same, product_same, none-sum, sum_comm, sum_assoc, add-mono, none-none, positive-le}
-use Rattle.vx_amounts.proofs.Products.{product-full, product-none, product_comm, product_assoc, product_sum, product_sign}
+use Rattle.vx_frac.specs.Fractions.{Fraction, none, full, sum, product}
+use Rattle.vx_ast.specs.Syntax.{Program, predicate_named}
+use Rattle.vx_meaning.specs.States.{Heap, Holdings, Location, Instance, Resource, At, Folded, same_location, same_resource, amount, scaled}
+use Rattle.vx_meaning.specs.Flatten.{body_entries, within, with_inner, flat}
+use Rattle.vx_meaning.specs.Consistent.{spread, total}
+use Rattle.vx_amounts.proofs.Amounts.{Le, Same, same-refl, same-sym, same-trans, le-refl, le-trans, le-is, sum_same, none-sum, sum_comm, sum_assoc, none-none}
+use Rattle.vx_amounts.proofs.Products.{product-full, product-none, product_assoc, product_sum, product_sign}
 use Rattle.vx_sound_preds.proofs.Fitting.{step, some_is}
-use Rattle.vx_sound_preds.proofs.Flats.{came, flat_more, Covers}
+use Rattle.vx_sound_preds.proofs.Flats.{came, flat_more}
 
 pub same_is : {a b : Fraction} → a ≡ b → Same a b
 same_is {a = a} e = subst (Same a) e (same-refl a)

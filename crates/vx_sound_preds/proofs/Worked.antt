@@ -1,24 +1,21 @@
 -- The premises are met by a program with a predicate.
-use Rattle.std.proofs.Common.{◌≡◌, ℕ, zero, suc, Bool, true, false, cond, ◌&&◌, List, [], ◌∷◌, Option, Some, None, refl, sym, ◌∙◌, ap, subst}
-use Rattle.std.specs.Prelude.{Ok, option_and_then}
+use Rattle.std.proofs.Common.{◌≡◌, Bool, true, false, cond, ◌&&◌, List, [], ◌∷◌, Option, Some, None, refl, ◌∙◌, ap, subst}
+use Rattle.std.specs.Prelude.{option_and_then}
 use Rattle.vx_frac.specs.Fractions.{full}
 use Rattle.vx_ast.specs.declared.ValueType.TheVariants as type
-use Rattle.vx_ast.specs.Syntax.{Name, same_name, Program, Predicate, Assertion, Kind, IsField, IsPredicate, predicate_in, predicate_named}
+use Rattle.vx_ast.specs.Syntax.{Name, same_name, Predicate, Assertion, Kind, IsField, IsPredicate, predicate_in, predicate_named}
 use Rattle.vx_ast.specs.Syntax.{Read, Variable, NoMore, More}
 use Rattle.vx_ast.specs.Types.{same_type}
 use Rattle.vx_meaning.specs.Values.{Value, IntValue, BoolValue, RefValue, PermValue, type_of}
 use Rattle.vx_meaning.specs.Evaluate.{values, read}
 use Rattle.vx_meaning.specs.Flatten.{no_applications}
-use Rattle.vx_meaning.specs.States.{State, Store, Heap, Holdings, Location, Instance, At, bind, value_at, find_value, same_location, lookup}
-use Rattle.vx_meaning.specs.Flatten.{bare, body_entries, entries, flat, IsGrounded}
-use Rattle.vx_meaning.specs.Fits.{add, deeper}
+use Rattle.vx_meaning.specs.States.{State, Heap, Location, value_at, find_value, same_location, lookup}
 use Rattle.vx_sound_preds.specs.Examples.{here, P, f, x, cell, cell_body, cells, chain_body, chains}
 use Rattle.vx_sound_preds.proofs.Fitting.{some_is}
 use Rattle.vx_sound_preds.proofs.Grouped.{IsRigid, AreRigid}
 use Rattle.vx_sound_preds.proofs.Framing.{IsPlainBody}
 use Rattle.vx_sound_preds.proofs.Adding.{Rigid}
 use Rattle.vx_sound_preds.proofs.Exchanging.{GoodBodies}
-use Rattle.vx_sound_preds.proofs.Frames.{Covered, AllGood}
 
 plain_cell : IsPlainBody cells Rigid cell_body
 plain_cell = ((tt, record { plain = tt; amount = full; positive = record { holds = refl }; value_is = λ s. refl }), (tt, tt))

@@ -1,5 +1,5 @@
 -- Bodies that typing refuses, each of which makes the law of predicates false.
-use Rattle.std.specs.Prelude.{codes, ℕ, [], ◌∷◌, Some, None}
+use Rattle.std.specs.Prelude.{codes, ℕ, [], ◌∷◌, Some}
 use Rattle.vx_ast.specs.declared.Place.{Place}
 use Rattle.vx_ast.specs.declared.ValueType.TheVariants as type
 use Rattle.vx_ast.specs.Syntax.{Name, Program, Predicate, IsField, IsPredicate, Expr, Null, Part, Variable, Not, Operate, Equal, Subtract, Read, Number, NoMore, More, Assertion, Pure, Points, Instance, Both, Implied}

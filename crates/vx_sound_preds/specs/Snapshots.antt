@@ -1,10 +1,10 @@
 -- The tree of the values under an instance, and what a snapshot term stands for.
-use Rattle.std.specs.Prelude.{◌≡◌, ℕ, zero, suc, true, false, Bool, if◌then◌else◌, IsTrue, List, [], ◌∷◌, ◌++◌, Option, Some, None}
-use Rattle.vx_frac.specs.Fractions.{Fraction, is_positive, lowest, product}
+use Rattle.std.specs.Prelude.{◌≡◌, ℕ, zero, suc, if◌then◌else◌, List, Option, Some, None}
+use Rattle.vx_frac.specs.Fractions.{lowest}
 use Rattle.vx_ast.specs.Syntax.{Name, Program, Predicate, Assertion, Pure, Points, Both, Implied, Chosen, predicate_named}
 use Rattle.vx_ast.specs.Syntax as syntax
 use Rattle.vx_meaning.specs.Values.{◌>>=◌, Value, IntValue, BoolValue, RefValue, PermValue, is_true}
-use Rattle.vx_meaning.specs.States.{State, Heap, Holdings, Instance, Location, Resource, value_at, bind}
+use Rattle.vx_meaning.specs.States.{State, Heap, Instance, value_at, bind}
 use Rattle.vx_meaning.specs.Evaluate.{choose, value, values}
 use Rattle.vx_meaning.specs.Flatten.{no_applications, bare}
 use Rattle.vx_terms.specs.Terms.{Term}

@@ -1,6 +1,6 @@
 -- A method with fields and loops mentions no other member.
-use Rattle.std.proofs.Common.{◌≡◌, List, [], ◌∷◌, ◌++◌, Option, Some, None, refl, sym, ◌∙◌, ap, ap₂, subst}
-use Rattle.vx_ast.specs.Syntax.{Name, Program, Kind, IsField, IsPredicate, IsFunction, IsMethod, Method, Expr, Number, Truth, Null, Part, Variable, Not, Operate, Divide, Connect, Choose, Read, Old, Assertion, Pure, Points, Both, Implied, Chosen, Stmt, Declare, Assign, Write, New, Inhale, Exhale, Assert, Assume, If, While, Block, Done, Then, member_named}
+use Rattle.std.proofs.Common.{◌≡◌, List, [], ◌∷◌, ◌++◌, Option, Some, None, refl, ◌∙◌, ap, ap₂, subst}
+use Rattle.vx_ast.specs.Syntax.{Name, Program, IsMethod, Method, Expr, Number, Truth, Null, Part, Variable, Not, Operate, Divide, Connect, Choose, Read, Old, Assertion, Pure, Points, Both, Implied, Chosen, Stmt, Declare, Assign, Write, New, Inhale, Exhale, Assert, Assume, If, While, Block, Done, Then, member_named}
 use Rattle.vx_ast.specs.Mentions.{mentioned, mentioned_by}
 use Rattle.vx_types.specs.FieldLanguage.{InFields, IsOfFields, AreOfFields, IsFieldStmt, IsFieldBlock, IsFieldBody, IsFieldMethod}
 use Rattle.vx_depth.specs.Entering.{Stands}
