@@ -9,7 +9,7 @@ use Rattle.vx_smt_meaning.specs.Commands.{Declared, Level, declared_in}
 use Rattle.vx_smt_meaning.specs.Symbols.{declaration, Declares, UsesDeclared, AllUseDeclared}
 use Rattle.vx_smt_meaning.specs.declared.reply.Reply.{Reply}
 use Rattle.vx_dialogue.specs.Symbols.{variable, declares, with_variable, with_symbol, with_variables, with_all_variables, with_listed}
-use Rattle.vx_dialogue.specs.Over.{IsConstantOver, IsOver, AreOver, IsWhole}
+use Rattle.vx_smt_meaning.specs.Over.{IsConstantOver, IsOver, AreOver, IsWhole}
 use Rattle.vx_dialogue.specs.Dialogue.{symbols_of, pushed, check_of}
 
 abbrev Includes : List Declared → List Declared → Type 0

@@ -6,10 +6,11 @@ use Rattle.vx_terms.specs.Build.{negate}
 use Rattle.vx_smt_meaning.specs.Commands.{Command, Declared, Assert, Pop, CheckSat, Level, empty_level, stack_from, stack_of, assertions_of, declared_in}
 use Rattle.vx_smt_meaning.specs.Dialogues.{ArePlain, Check}
 use Rattle.vx_smt_meaning.specs.declared.reply.Reply.{Reply}
+use Rattle.vx_smt_meaning.specs.Standard.{standard_symbols}
 use Rattle.vx_smt_text.specs.Text.{command_text}
 use Rattle.vx_dialogue.specs.declared.dialogue.Dialogue.{Dialogue}
-use Rattle.vx_dialogue.specs.Preamble.{front, options, logic, pairs, wraps, unwraps}
-use Rattle.vx_dialogue.specs.Dialogue.{preamble, declarations, assertions, question, opening, closing, symbols_of, pushed, resting, asked_level, check_of, told_check, Gathers, Stands, IsFree}
+use Rattle.vx_dialogue.specs.Preamble.{front, options, logic, declarations}
+use Rattle.vx_dialogue.specs.Dialogue.{preamble, assertions, question, opening, closing, symbols_of, pushed, resting, asked_level, check_of, told_check, Gathers, Stands, IsFree}
 use Rattle.vx_dialogue.proofs.Lists.{none_more, stack_append, plain_join}
 use Rattle.vx_dialogue.proofs.Told.{gathers_said}
 
@@ -33,11 +34,8 @@ plain_options false = (refl, tt)
 
 plain_front : (c : Bool) → ArePlain (front c)
 plain_front c =
-    plain_join (((options c ++ logic) ++ pairs) ++ wraps) unwraps
-    (plain_join ((options c ++ logic) ++ pairs) wraps
-    (plain_join (options c ++ logic) pairs
-    (plain_join (options c) logic (plain_options c) (refl, (refl, (refl, tt))))
-    (refl, (refl, (refl, (refl, (refl, tt)))))) (refl, (refl, (refl, (refl, tt))))) (refl, (refl, (refl, (refl, tt))))
+    plain_join (options c ++ logic) (declarations standard_symbols)
+    (plain_join (options c) logic (plain_options c) (refl, (refl, (refl, tt)))) (plain_declarations standard_symbols)
 
 pub plain_preamble : (c : Bool) (fs : List Declared) → ArePlain (preamble c fs)
 plain_preamble c fs = plain_join (front c) (declarations fs) (plain_front c) (plain_declarations fs)

@@ -9,20 +9,16 @@ use Rattle.vx_terms.specs.Terms.{Term}
 use Rattle.vx_terms.specs.Build.{negate}
 use Rattle.vx_terms.specs.declared.term.Term.{Term as Term'}
 use Rattle.vx_terms.specs.Views.{term}
-use Rattle.vx_smt_meaning.specs.Commands.{Command, Declared, DeclareFun, Assert, Push, Pop, CheckSat, Level, empty_level, stack_of, assertions_of, declared_in}
+use Rattle.vx_smt_meaning.specs.Commands.{Command, Declared, Assert, Push, Pop, CheckSat, Level, empty_level, stack_of, assertions_of, declared_in}
 use Rattle.vx_smt_meaning.specs.Replies.{Items}
 use Rattle.vx_smt_meaning.specs.Dialogues.{ArePlain, Answers, Check, checks_told}
 use Rattle.vx_smt_meaning.specs.declared.reply.Reply.{Reply}
 use Rattle.vx_smt_text.specs.Text.{commands_text}
 use Rattle.vx_dialogue.specs.Pace.{KeepsPace}
-use Rattle.vx_dialogue.specs.Preamble.{front}
+use Rattle.vx_dialogue.specs.Preamble.{declarations, front}
 use Rattle.vx_dialogue.specs.Symbols.{with_variables, with_listed}
 use Rattle.vx_dialogue.specs.declared.talk.Talk.{Talk}
 use Rattle.vx_dialogue.specs.declared.dialogue.Dialogue.{Dialogue}
-
-abbrev pub declarations : List Declared → List Command
-declarations [] = []
-declarations (d ∷ ds) = DeclareFun d ∷ declarations ds
 
 abbrev pub assertions : List Term → List Command
 assertions [] = []

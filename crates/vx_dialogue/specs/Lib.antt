@@ -6,6 +6,5 @@ pub mod Symbols
 pub mod Preamble
 pub mod Dialogue
 pub mod Pace
-pub mod Over
 pub mod History
 pub mod Steady

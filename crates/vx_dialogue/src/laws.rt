@@ -5,8 +5,8 @@ ghost use Rattle.vx_terms.specs.Terms.{Term};
 ghost use Rattle.vx_terms.specs.Interpretations.{Each};
 ghost use Rattle.vx_smt_meaning.specs.Commands.{Level, declared_in};
 ghost use Rattle.vx_smt_meaning.specs.declared.reply.Reply.{Reply};
+ghost use Rattle.vx_smt_meaning.specs.Over.{IsOver, IsWhole};
 ghost use Rattle.vx_dialogue.specs.Dialogue.{check_of};
-ghost use Rattle.vx_dialogue.specs.Over.{IsOver, IsWhole};
 
 /// Where a question's terms use the preamble's symbols as they are declared, and each v at one sort,
 /// each symbol of what is asserted at its check is declared on a live level, with its sorts.

@@ -4,7 +4,8 @@ ghost use Rattle.vx_terms.specs.Sorts.{SnapSort};
 ghost use Rattle.vx_terms.specs.Views.{sort};
 ghost use Rattle.vx_smt_meaning.specs.Commands as Spec;
 ghost use Rattle.vx_smt_meaning.specs.Views.{command};
-ghost use Rattle.vx_dialogue.specs.Preamble.{standard, print_success, produce_proofs, options, logic, pairs, wraps, unwraps, front};
+ghost use Rattle.vx_smt_meaning.specs.Standard.{standard, pairs, wraps, unwraps, standard_symbols};
+ghost use Rattle.vx_dialogue.specs.Preamble.{declarations, print_success, produce_proofs, options, logic, front};
 
 use std::alloc::{AllocError, Global};
 use vx_smt_meaning::{Command, Declared};
@@ -65,7 +66,7 @@ fn put_symbol(
     takes: Vec<Sort>,
     gives: Sort,
 ) -> Result<(), AllocError>
-    ensures { OnOk result (map command commands.new.items ≡ map command commands.old.items ++ standard number (map sort takes.items) (sort gives) ∷ []) }
+    ensures { OnOk result (map command commands.new.items ≡ map command commands.old.items ++ Spec.DeclareFun (standard number (map sort takes.items) (sort gives)) ∷ []) }
 {
     commands.push(Command::DeclareFun(Declared {
         symbol: Symbol::Standard(number),
@@ -82,7 +83,7 @@ fn put_unary(
     taken: Sort,
     gives: Sort,
 ) -> Result<(), AllocError>
-    ensures { OnOk result (map command commands.new.items ≡ map command commands.old.items ++ standard number (sort taken ∷ []) (sort gives) ∷ []) }
+    ensures { OnOk result (map command commands.new.items ≡ map command commands.old.items ++ Spec.DeclareFun (standard number (sort taken ∷ []) (sort gives)) ∷ []) }
 {
     let mut takes = Vec::new(alloc);
     takes.push(taken)?;
@@ -90,7 +91,7 @@ fn put_unary(
 }
 
 fn put_pairing(alloc: Global, commands: &mut Vec<Command>) -> Result<(), AllocError>
-    ensures { OnOk result (map command commands.new.items ≡ map command commands.old.items ++ standard 2 (SnapSort ∷ SnapSort ∷ []) SnapSort ∷ []) }
+    ensures { OnOk result (map command commands.new.items ≡ map command commands.old.items ++ Spec.DeclareFun (standard 2 (SnapSort ∷ SnapSort ∷ []) SnapSort) ∷ []) }
 {
     let mut takes = Vec::new(alloc);
     takes.push(Sort::Snap)?;
@@ -99,7 +100,7 @@ fn put_pairing(alloc: Global, commands: &mut Vec<Command>) -> Result<(), AllocEr
 }
 
 fn put_pairs(alloc: Global, commands: &mut Vec<Command>) -> Result<(), AllocError>
-    ensures { OnOk result (map command commands.new.items ≡ map command commands.old.items ++ pairs) }
+    ensures { OnOk result (map command commands.new.items ≡ map command commands.old.items ++ declarations pairs) }
 {
     put_symbol(commands, 0, Vec::new(alloc), Sort::Ref)?;
     put_symbol(commands, 1, Vec::new(alloc), Sort::Snap)?;
@@ -109,7 +110,7 @@ fn put_pairs(alloc: Global, commands: &mut Vec<Command>) -> Result<(), AllocErro
 }
 
 fn put_wraps(alloc: Global, commands: &mut Vec<Command>) -> Result<(), AllocError>
-    ensures { OnOk result (map command commands.new.items ≡ map command commands.old.items ++ wraps) }
+    ensures { OnOk result (map command commands.new.items ≡ map command commands.old.items ++ declarations wraps) }
 {
     put_unary(alloc, commands, 5, Sort::Int, Sort::Snap)?;
     put_unary(alloc, commands, 6, Sort::Bool, Sort::Snap)?;
@@ -118,12 +119,21 @@ fn put_wraps(alloc: Global, commands: &mut Vec<Command>) -> Result<(), AllocErro
 }
 
 fn put_unwraps(alloc: Global, commands: &mut Vec<Command>) -> Result<(), AllocError>
-    ensures { OnOk result (map command commands.new.items ≡ map command commands.old.items ++ unwraps) }
+    ensures { OnOk result (map command commands.new.items ≡ map command commands.old.items ++ declarations unwraps) }
 {
     put_unary(alloc, commands, 9, Sort::Snap, Sort::Int)?;
     put_unary(alloc, commands, 10, Sort::Snap, Sort::Bool)?;
     put_unary(alloc, commands, 11, Sort::Snap, Sort::Real)?;
     put_unary(alloc, commands, 12, Sort::Snap, Sort::Ref)
+}
+
+#[tactic(auto, using(std::proofs::Common::append_assoc))]
+fn put_standard(alloc: Global, commands: &mut Vec<Command>) -> Result<(), AllocError>
+    ensures { OnOk result (map command commands.new.items ≡ map command commands.old.items ++ declarations standard_symbols) }
+{
+    put_pairs(alloc, commands)?;
+    put_wraps(alloc, commands)?;
+    put_unwraps(alloc, commands)
 }
 
 /// The commands before the symbols f are declared.
@@ -133,8 +143,6 @@ pub fn front_commands(alloc: Global, certify: bool) -> Result<Vec<Command>, Allo
     let mut commands = Vec::new(alloc);
     put_options(alloc, &mut commands, certify)?;
     put_logic(alloc, &mut commands)?;
-    put_pairs(alloc, &mut commands)?;
-    put_wraps(alloc, &mut commands)?;
-    put_unwraps(alloc, &mut commands)?;
+    put_standard(alloc, &mut commands)?;
     Ok(commands)
 }

@@ -2,7 +2,8 @@
 ghost use Rattle.std.specs.Prelude.{◌≡◌, ◌∷◌, [], ◌++◌, OnOk, IfOk, map};
 ghost use Rattle.vx_smt_meaning.specs.Commands as Spec;
 ghost use Rattle.vx_smt_meaning.specs.Views.{command, declared_symbol};
-ghost use Rattle.vx_dialogue.specs.Dialogue.{shared, declarations, assertions, opening, question};
+ghost use Rattle.vx_dialogue.specs.Preamble.{declarations};
+ghost use Rattle.vx_dialogue.specs.Dialogue.{shared, assertions, opening, question};
 
 use crate::symbols::Variables;
 use std::alloc::{AllocError, Global};

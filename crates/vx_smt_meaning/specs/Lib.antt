@@ -6,3 +6,5 @@ pub mod Replies
 pub mod Views
 pub mod Dialogues
 pub mod Symbols
+pub mod Over
+pub mod Standard

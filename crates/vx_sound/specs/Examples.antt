@@ -1,9 +1,9 @@
--- Two small methods: one that never fails, and one that can.
-use Rattle.std.specs.Prelude.{ℕ, codes, [], ◌∷◌, Some}
+-- Small methods: some that never fail, one that can, and one that no typed text has.
+use Rattle.std.specs.Prelude.{ℕ, false, codes, [], ◌∷◌, Some}
 use Rattle.vx_ast.specs.declared.Place.{Place}
 use Rattle.vx_ast.specs.declared.ValueType.TheVariants.{Int}
 use Rattle.vx_ast.specs.declared.ValueType.TheVariants as type
-use Rattle.vx_ast.specs.Syntax.{Name, Method, Greater, Add, Number, Variable, Operate, Pure, Assign, Assert, Done, Then}
+use Rattle.vx_ast.specs.Syntax.{Name, Program, IsField, IsMethod, Method, Equal, Greater, Add, Number, Truth, Part, Variable, Read, Operate, Pure, Points, Assign, Write, New, Assert, Done, Then}
 
 abbrev pub on_line : ℕ → Place
 on_line n = record { line = n; column = 1 }
@@ -34,4 +34,40 @@ claim = record {
   requires = [];
   ensures = [];
   body = Some (Then (Assert (on_line 2) (Pure (Variable (on_line 3) x))) Done);
+}
+
+abbrev pub f : Name
+f = codes "f"
+
+-- field f: Int
+abbrev pub cells : Program
+cells = record { name = f; kind = IsField Int } ∷ []
+
+-- method sets(x: Ref) requires acc(x.f, 1/1) { x.f := 1; assert x.f == 1 }
+abbrev pub sets : Method
+sets = record {
+  place = on_line 1;
+  parameters = record { name = x; of = type.Ref } ∷ [];
+  returns = [];
+  requires = Points (on_line 2) (Variable (on_line 2) x) f (Part (on_line 2) 1 1) ∷ [];
+  ensures = [];
+  body = Some (Then (Write (on_line 3) (Variable (on_line 3) x) f (Number (on_line 3) 1)) (Then (Assert (on_line 4) (Pure (Operate (on_line 4) Equal (Read (on_line 4) (Variable (on_line 4) x) f) (Number (on_line 4) 1)))) Done));
+}
+
+abbrev pub m : Name
+m = codes "m"
+
+-- field f: Int, and m as `sets`
+abbrev pub writes : Program
+writes = record { name = f; kind = IsField Int } ∷ record { name = m; kind = IsMethod sets } ∷ []
+
+-- method twice(x: Ref) { x := new(f, f); assert false }, which no typed text has
+abbrev pub twice : Method
+twice = record {
+  place = on_line 1;
+  parameters = record { name = x; of = type.Ref } ∷ [];
+  returns = [];
+  requires = [];
+  ensures = [];
+  body = Some (Then (New (on_line 2) x (f ∷ f ∷ [])) (Then (Assert (on_line 3) (Pure (Truth (on_line 3) false))) Done));
 }

@@ -33,7 +33,7 @@ declared_to role scope (d ∷ ds) u h =
 
 one_from : (role : Role) (scope : Scope) (d : Declaration) → named scope d.name.name ≡ None → takes role d.of ≡ true → declaration role scope d ≡ Ok tt
 one_from role scope d h k =
-    ap (λ r. r >>= λ u. unless (takes role d.of) (Mismatch d.name.place (OfType type.Int) d.of)) (variable_from scope d.name h) ∙ ap (λ b. unless b (Mismatch d.name.place (OfType type.Int) d.of)) k
+    ap (λ r. r >>= λ u. unless (takes role d.of) (Mismatch d.type_at (OfType type.Int) d.of)) (variable_from scope d.name h) ∙ ap (λ b. unless b (Mismatch d.type_at (OfType type.Int) d.of)) k
 
 declared_from : (role : Role) (scope : Scope) (ds : List Declaration) → AreDeclared role scope ds → declarations role scope ds ≡ Ok tt
 declared_from role scope [] h = refl

@@ -4,7 +4,7 @@ use Rattle.vx_ast.specs.Written as written
 use Rattle.vx_ast.specs.Resolve as resolve
 use Rattle.vx_typing.specs.Programs.{IsTyped}
 use Rattle.vx_types.specs.Executed.{is_executed}
-use Rattle.vx_sound.specs.WhenSettled.{TypedWhenSettled, InStoreWhenSettled}
+use Rattle.vx_settled.specs.WhenSettled.{TypedWhenSettled, InStoreWhenSettled}
 use Rattle.vx_verifier.specs.Headline.{IsSupported}
 
 pub supported : (p : written.Program) → IsTyped p → is_executed p ≡ true → TypedWhenSettled → InStoreWhenSettled → IsSupported (resolve.program p)

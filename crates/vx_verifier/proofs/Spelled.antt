@@ -10,15 +10,16 @@ use Rattle.vx_terms.specs.Build.{negate}
 use Rattle.vx_terms.specs.Interpretations.{Each}
 use Rattle.vx_smt_meaning.specs.Commands.{Declared, Assert, Push}
 use Rattle.vx_smt_meaning.specs.Names.{IsName, IsSortName, AreNames, AllAreNames, AreCommands}
-use Rattle.vx_dialogue.specs.Dialogue.{declarations, assertions, symbols_of}
+use Rattle.vx_dialogue.specs.Preamble.{declarations}
+use Rattle.vx_dialogue.specs.Dialogue.{assertions, symbols_of}
 use Rattle.vx_dialogue.specs.Symbols.{variable, declares, with_variable, with_symbol, with_variables, with_all_variables, with_listed}
 use Rattle.vx_dialogue.proofs.Steady.{commands_join}
 use Rattle.vx_rules.specs.Trees.{Question, Tree, End, On, Step, Ask, Probe, Fork}
 use Rattle.vx_rules.specs.Members.{tree, method_tree}
 use Rattle.vx_machine.specs.Runs.{tree_of}
-use Rattle.vx_sound.specs.Live.{IsBuiltIn, IsNumbered, IsNameless, AreNameless, IsLive, AllLive}
-use Rattle.vx_sound.proofs.Nameless.{negate_nameless}
-use Rattle.vx_sound.proofs.LiveMethods.{methods_live}
+use Rattle.vx_live.specs.Live.{IsBuiltIn, IsLive, AllLive}
+use Rattle.vx_live.proofs.Nameless.{IsNumbered, IsNameless, AreNameless, negate_nameless, condition_nameless, path_nameless}
+use Rattle.vx_live.proofs.LiveMethods.{store_methods_live}
 use Rattle.vx_verifier.specs.Headline.{IsSupported}
 use Rattle.vx_verifier.specs.Steady.{IsSpelled, AllSpelled, AsksSpelled}
 
@@ -99,10 +100,10 @@ asserted_path (t ∷ path) n = (nameless_names t n.0, asserted_path path n.1)
 
 live_spelled : (q : Question) → IsLive q → IsSpelled q
 live_spelled q live =
-    let negated = negate_nameless q.condition live.nameless in
-    let declared : AreCommands (declarations (symbols_of q.path (negate q.condition))) = declared_term (negate q.condition) (with_listed [] q.path) negated (declared_path q.path [] live.path_nameless tt) in
+    let negated = negate_nameless q.condition (condition_nameless q live) in
+    let declared : AreCommands (declarations (symbols_of q.path (negate q.condition))) = declared_term (negate q.condition) (with_listed [] q.path) negated (declared_path q.path [] (path_nameless q live) tt) in
     let opened = commands_join (Push 1 ∷ Push 1 ∷ []) (declarations (symbols_of q.path (negate q.condition))) (tt, (tt, tt)) declared in
-    let asserted = commands_join ((Push 1 ∷ Push 1 ∷ []) ++ declarations (symbols_of q.path (negate q.condition))) (assertions q.path) opened (asserted_path q.path live.path_nameless) in
+    let asserted = commands_join ((Push 1 ∷ Push 1 ∷ []) ++ declarations (symbols_of q.path (negate q.condition))) (assertions q.path) opened (asserted_path q.path (path_nameless q live)) in
     commands_join (((Push 1 ∷ Push 1 ∷ []) ++ declarations (symbols_of q.path (negate q.condition))) ++ assertions q.path) (Assert (negate q.condition) ∷ []) asserted
     (nameless_names (negate q.condition) negated, tt)
 
@@ -138,4 +139,4 @@ supported_spelled ms supported n = by_member (slice_get (map member ms) n) refl
         let p = map member ms in
         let m = only_methods ms n x at in
         let law = supported n m.0 (x, at, m.1) in
-        subst (λ k. AllSpelled (tree p x.name k)) (sym m.1) (all_spelled (method_tree p m.0) (methods_live p m.0 law.0 law.1))
+        subst (λ k. AllSpelled (tree p x.name k)) (sym m.1) (all_spelled (method_tree p m.0) (store_methods_live p m.0 law.0 law.1))

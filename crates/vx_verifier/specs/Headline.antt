@@ -6,7 +6,7 @@ use Rattle.vx_ast.specs.Syntax.{Program, Member, Method, IsMethod}
 use Rattle.vx_terms.specs.Interpretations.{Each}
 use Rattle.vx_types.specs.Typing.{IsTypedMethod}
 use Rattle.vx_meaning.specs.Fails.{MethodFails}
-use Rattle.vx_sound.specs.StoreLanguage.{IsStoreMethod}
+use Rattle.vx_types.specs.StoreLanguage.{IsStoreMethod}
 use Rattle.vx_smt_meaning.specs.Dialogues.{Check}
 use Rattle.vx_ends.specs.declared.piece.Ending.{Ending}
 use Rattle.vx_dialogue.specs.History.{Tells}

@@ -10,7 +10,7 @@ ghost use Rattle.vx_verifier.specs.Refusals.{IsSpelledBy, IsFirstBeyond};
 
 use std::alloc::{AllocError, Global};
 use vx_parser::{TextFault, beyond_store};
-use vx_sound::{executed_programs_are_of_the_store, typed_programs_settle_typed};
+use vx_settled::{executed_programs_are_of_the_store, typed_programs_settle_typed};
 use vx_store::texts_within_are_executed;
 use vx_types::{Settled, Unsettled, settle};
 use vx_typing::Typed;

@@ -1,4 +1,4 @@
-use Rattle.vx_sound.proofs.Worked.{inc_never_fails}
+use Rattle.vx_sound.proofs.WorkedStore.{inc_never_fails}
 use Rattle.vx_sound.proofs.an_increment_never_fails.Goals as goal
 
 pub returns-clause-never_fails : goal.returns-clause-never_fails

@@ -1,0 +1,3 @@
+pub mod Ring
+pub mod Amounts
+pub mod Products

@@ -1,0 +1,11 @@
+pub mod Lists
+pub mod Scopes
+pub mod Settled
+pub mod Built
+pub mod Elements
+pub mod Values
+pub mod Truth
+pub mod Places
+pub mod Eventually
+pub mod Kept
+pub mod Cases

@@ -1,0 +1,4 @@
+pub mod Over
+pub mod Nameless
+pub mod Live
+pub mod LiveMethods

@@ -1,0 +1,8 @@
+use Rattle.vx_live.proofs.LiveMethods.{methods_live, store_methods_live}
+use Rattle.vx_live.proofs.questions_are_live.Goals as goal
+
+pub returns-clause-fields : goal.returns-clause-fields
+returns-clause-fields c = methods_live
+
+pub returns-clause-store : goal.returns-clause-store
+returns-clause-store c = store_methods_live

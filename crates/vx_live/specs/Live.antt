@@ -1,0 +1,39 @@
+-- Questions that are well-sorted over declared symbols.
+use Rattle.std.specs.Prelude.{ℕ, ⊤}
+use Rattle.vx_ast.specs.Syntax.{Program, Method}
+use Rattle.vx_terms.specs.Sorts.{Sort, BoolSort, OtherSort}
+use Rattle.vx_terms.specs.Interpretations.{Each}
+use Rattle.vx_terms.specs.Formed.{Formed}
+use Rattle.vx_smt_meaning.specs.Over.{IsOver}
+use Rattle.vx_smt_meaning.specs.Standard.{standard_symbols}
+use Rattle.vx_rules.specs.Trees.{Question, Tree, End, On, Step, Ask, Probe, Fork}
+use Rattle.vx_rules.specs.Members.{method_tree}
+use Rattle.vx_types.specs.Typing.{IsTypedMethod}
+
+-- one of the five sorts that every dialogue knows
+abbrev pub IsBuiltIn : Sort → Type 0
+IsBuiltIn (OtherSort x) = ⊥
+IsBuiltIn a = ⊤
+
+-- its condition and its path are of sort Bool, over symbols below one number, with the standard symbols as they are declared and
+-- each v at one sort, which is built in
+pub record IsLive (q : Question) : Type 0 where
+  pub next : ℕ
+  pub sorts : ℕ → Sort
+  pub built_in : (n : ℕ) → IsBuiltIn (sorts n)
+  pub condition : Formed next q.condition BoolSort
+  pub path : Each (λ t. Formed next t BoolSort) q.path
+  pub condition_over : IsOver standard_symbols sorts q.condition
+  pub path_over : Each (IsOver standard_symbols sorts) q.path
+
+abbrev pub AllLive : Tree → Type 0
+AllLive End = Unit {0}
+AllLive (On t s) = Unit {0}
+AllLive (Step t) = AllLive t
+AllLive (Ask q t) = IsLive q × AllLive t
+AllLive (Probe q a b) = IsLive q × AllLive a × AllLive b
+AllLive (Fork a b) = AllLive a × AllLive b
+
+-- for the methods of a part of the language
+abbrev pub LiveLaw : (Method → Type 0) → Type 0
+LiveLaw IsOfPart = (p : Program) (m : Method) → IsTypedMethod p m → IsOfPart m → AllLive (method_tree p m)

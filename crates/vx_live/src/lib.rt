@@ -1,0 +1,13 @@
+//! The questions of walks are well-sorted.
+#![tactic(auto)]
+
+ghost use Rattle.vx_types.specs.StoreLanguage.{IsStoreMethod};
+ghost use Rattle.vx_types.specs.FieldLanguage.{IsFieldMethod};
+ghost use Rattle.vx_live.specs.Live.{LiveLaw};
+
+/// Each question that a walk of a method with fields and loops can meet is well-sorted: its condition and its path are of
+/// sort Bool, over the standard symbols as they are declared and symbols below one number, each of one sort.
+pub fn questions_are_live()
+    ensures fields { LiveLaw IsFieldMethod }
+    ensures store { LiveLaw IsStoreMethod }
+{}

@@ -1,0 +1,13 @@
+pub mod TypedNames
+pub mod TypedExprs
+pub mod TypedClaims
+pub mod TypedStmts
+pub mod TypedMembers
+pub mod StoreMembers
+pub mod MentionedUses
+pub mod EnteredUses
+pub mod NumberedNames
+pub mod KeptApart
+pub mod Recursions
+pub mod ConstantAmounts
+pub mod TypedPrograms

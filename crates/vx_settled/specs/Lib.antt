@@ -1,0 +1,2 @@
+pub mod WhenSettled
+pub mod Recursions

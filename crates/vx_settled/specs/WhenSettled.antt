@@ -1,0 +1,50 @@
+-- What is typed as it is written is typed when it is settled, as a whole and member by member, and keeps its members apart;
+-- what is executed is of the store language then.
+use Rattle.std.specs.Prelude.{◌≡◌, ◌≤◌, ℕ, true, false, List, [], ◌∷◌, Some, map, slice_get, ⊤}
+use Rattle.vx_ast.specs.Mentions.{is_among}
+use Rattle.vx_ast.specs.Written as written
+use Rattle.vx_ast.specs.Resolve.{program}
+use Rattle.vx_ast.specs.Syntax.{Name, result_name, Program, Member, Kind, Method, IsMethod}
+use Rattle.vx_typing.specs.Programs.{IsTyped}
+use Rattle.vx_types.specs.Typing.{IsTypedMethod}
+use Rattle.vx_types.specs.Executed.{is_executed}
+use Rattle.vx_rules.specs.Rules.{outer}
+use Rattle.vx_rules.specs.Members.{depth, tree}
+use Rattle.vx_depth.specs.Apart.{KeepsApart}
+use Rattle.vx_depth.specs.Trees.{tree_over}
+use Rattle.vx_whole.specs.Premises.{IsTypedProgram}
+use Rattle.vx_types.specs.StoreLanguage.{IsStoreMethod}
+
+-- this holds of the methods of a program
+abbrev pub OfMethods : Program → (Method → Type 0) → Type 0
+OfMethods p Holds = (n : ℕ) (x : Member) (m : Method) → slice_get p n ≡ Some x → x.kind ≡ IsMethod m → Holds m
+
+-- for the whole language
+abbrev pub TypedWhenSettled : Type 0
+TypedWhenSettled = (p : written.Program) → IsTyped p → OfMethods (program p) (IsTypedMethod (program p))
+
+abbrev pub InStoreWhenSettled : Type 0
+InStoreWhenSettled = (p : written.Program) → is_executed p ≡ true → OfMethods (program p) IsStoreMethod
+
+-- no member is entered within itself in what is typed
+abbrev pub KeptApartWhenSettled : Type 0
+KeptApartWhenSettled = (p : written.Program) → IsTyped p → KeepsApart (program p)
+
+-- so the depth of the rules suffices: with more, each member's tree is the same
+abbrev pub DepthSufficesWhenSettled : Type 0
+DepthSufficesWhenSettled = (p : written.Program) (d : ℕ) → IsTyped p → depth (program p) ≤ d → (x : Name) (k : Kind) → tree_over (program p) (outer (program p) d) x k ≡ tree (program p) x k
+
+-- no function's parameter has the name of its result; the word is no name in a text
+abbrev pub LeavesResult : written.Kind → Type 0
+LeavesResult (written.IsFunction f) = is_among result_name (map (λ d. d.name.name) f.parameters) ≡ false
+LeavesResult (written.IsField t) = ⊤
+LeavesResult (written.IsPredicate d) = ⊤
+LeavesResult (written.IsMethod m) = ⊤
+
+abbrev pub LeaveResults : List written.Member → Type 0
+LeaveResults [] = ⊤
+LeaveResults (m ∷ ms) = LeavesResult m.kind × LeaveResults ms
+
+-- for the whole language
+abbrev pub TypedProgramWhenSettled : Type 0
+TypedProgramWhenSettled = (p : written.Program) → IsTyped p → LeaveResults p → IsTypedProgram (program p)

@@ -1,5 +1,0 @@
-use Rattle.vx_sound.proofs.TypedMembers.{typed_when_settled}
-use Rattle.vx_sound.proofs.typed_programs_settle_typed.Goals as goal
-
-pub returns : goal.returns
-returns c = typed_when_settled

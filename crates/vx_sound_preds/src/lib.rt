@@ -1,0 +1,38 @@
+//! What holds of instances of predicates: their trees, and how a state that can be is kept by giving, taking, folding and
+//! changing. The premises of the law's part on predicates stand in the proofs.
+#![tactic(auto)]
+
+ghost use Rattle.std.specs.Prelude.{◌≡◌, ℕ, [], ◌∷◌, List, true, false, Some};
+ghost use Rattle.vx_frac.specs.Fractions.{Fraction, none, full, at_most, is_positive};
+ghost use Rattle.vx_ast.specs.Syntax.{Program, Assertion};
+ghost use Rattle.vx_terms.specs.Interpretations.{Tree};
+ghost use Rattle.vx_meaning.specs.States.{State, Heap, Holdings, Location, Instance, Folded};
+ghost use Rattle.vx_meaning.specs.Flatten.{flat, IsGrounded};
+ghost use Rattle.vx_meaning.specs.Consistent.{total, IsSupported, IsConsistent};
+ghost use Rattle.vx_meaning.specs.Outcomes.{Ends};
+ghost use Rattle.vx_meaning.specs.Give.{give};
+ghost use Rattle.vx_sound_preds.specs.Snapshots.{tree_by, IsTree};
+ghost use Rattle.vx_sound_preds.specs.Examples.{f, instance_of, loops, owes, owing};
+
+/// What lies inside an instance is the same for all fuel that suffices, and so is the tree of its values; where the one is
+/// known, so is the other.
+pub fn trees_are_single()
+    ensures inside { (p : Program) (m n : ℕ) (h : Heap) (i : Instance) (x y : Holdings) → flat p m h i ≡ Some x → flat p n h i ≡ Some y → x ≡ y }
+    ensures tree { (p : Program) (h : Heap) (i : Instance) (t u : Tree) → IsTree p h i t → IsTree p h i u → t ≡ u }
+    ensures known { (p : Program) (h : Heap) (n : ℕ) (i : Instance) (x : Holdings) → flat p n h i ≡ Some x → (t : Tree) × (tree_by p n h i ≡ Some t) }
+{}
+
+/// Where the giving of an assertion ends, the state is one that can be, if it was before.
+pub fn what_is_given_can_be()
+    ensures consistent { (p : Program) (q : Fraction) (a : Assertion) (s t : State) → IsConsistent p s → give p (IsConsistent p) q a s (Ends t) → IsConsistent p t }
+    ensures supported { (p : Program) (q : Fraction) (a : Assertion) (s t : State) → IsSupported p s → give p (IsSupported p) q a s (Ends t) → IsSupported p t }
+{}
+
+/// Two bodies that typing refuses, each of which makes the law false: an instance with an amount of none of itself within it
+/// is never grounded, so nothing is held in it; and a debt within an instance hides what is held beside it.
+pub fn refused_bodies_break_the_law()
+    ensures never_grounded { (h : Heap) (r : ℕ) → IsGrounded loops h (instance_of r) → ⊥ }
+    ensures nothing_held { (n : ℕ) (h : Heap) (l : Location) → total loops n h ((Folded (instance_of 1), full) ∷ []) l ≡ none }
+    ensures hidden { is_positive (total owes 1 [] owing record { receiver = 1; field = f }) ≡ false }
+    ensures null_is_fine { at_most (total owes 1 [] owing record { receiver = 0; field = f }) none ≡ true }
+{}

@@ -1,0 +1,12 @@
+//! What the law asks of a program as a whole, and what a member leads to.
+#![tactic(auto)]
+
+ghost use Rattle.std.specs.Prelude.{◌≡◌, Some};
+ghost use Rattle.vx_ast.specs.Syntax.{Name, Program, Method, IsMethod, member_named};
+ghost use Rattle.vx_types.specs.FieldLanguage.{IsFieldMethod};
+ghost use Rattle.vx_whole.specs.Closure.{InClosure};
+
+/// A method with fields and loops, and without calls, leads to no other member.
+pub fn field_methods_stand_alone()
+    ensures { (p : Program) (x : Name) (m : Method) → member_named p x ≡ Some (IsMethod m) → IsFieldMethod m → (y : Name) → InClosure p x y → y ≡ x }
+{}
