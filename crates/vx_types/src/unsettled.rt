@@ -1,5 +1,7 @@
 //! Why a program isn't settled.
 
+ghost use Rattle.std.specs.Prelude.{◌≡◌};
+
 use std::alloc::{AllocError, AllocFailed};
 use thiserror::Error;
 use vx_ast::Place;
