@@ -10,7 +10,8 @@ use Rattle.vx_smt_meaning.specs.Symbols.{declaration, Declares, UsesDeclared, Al
 use Rattle.vx_smt_meaning.specs.declared.reply.Reply.{Reply}
 use Rattle.vx_dialogue.specs.Symbols.{variable, declares, with_variable, with_symbol, with_variables, with_all_variables, with_listed}
 use Rattle.vx_smt_meaning.specs.Over.{IsConstantOver, IsOver, AreOver, IsWhole}
-use Rattle.vx_dialogue.specs.Dialogue.{symbols_of, pushed, check_of}
+use Rattle.vx_dialogue.specs.Scripts.{symbols_of}
+use Rattle.vx_dialogue.specs.Dialogue.{pushed, check_of}
 
 abbrev Includes : List Declared → List Declared → Type 0
 Includes xs ys = (d : Declared) → Declares xs d → Declares ys d

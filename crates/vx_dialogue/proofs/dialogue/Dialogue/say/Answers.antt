@@ -15,4 +15,4 @@ returns-clause-told g c = λ plain commands checks told.
 
 pub returns-in_err-write-clause-fault : goal.returns-in_err-write-clause-fault
 returns-in_err-write-clause-fault g c = let p = err_from_is_err_and c.from_residual-in_err-write.result c.from_residual-in_err-write.ensures.1 in rw p.1 (λ commands checks told named.
-    breaks_want p.0 _ checks p.2 (tells_failed _ checks (gathers_tells g.L.Link.dialogue c.make_room.new.self commands checks (c.in_ok-make_room.ensures.told commands checks told))))
+    breaks_want p.0 commands _ checks p.2 (tells_failed commands _ checks (gathers_tells g.L.Link.dialogue c.make_room.new.self commands checks (c.in_ok-make_room.ensures.told commands checks told))))
