@@ -50,20 +50,20 @@ plain_question m p t =
 
 -- ---- the levels
 
-declared_level : (l : Level) (levels : List Level) (s : List Declared) → stack_from (l ∷ levels) (declarations s) ≡ record l { symbols = pushed s l.symbols } ∷ levels
+pub declared_level : (l : Level) (levels : List Level) (s : List Declared) → stack_from (l ∷ levels) (declarations s) ≡ record l { symbols = pushed s l.symbols } ∷ levels
 declared_level l levels [] = refl
 declared_level l levels (d ∷ ds) = declared_level (record l { symbols = d ∷ l.symbols }) levels ds
 
-asserted_level : (l : Level) (levels : List Level) (p : List Term) → stack_from (l ∷ levels) (assertions p) ≡ record l { assertions = pushed p l.assertions } ∷ levels
+pub asserted_level : (l : Level) (levels : List Level) (p : List Term) → stack_from (l ∷ levels) (assertions p) ≡ record l { assertions = pushed p l.assertions } ∷ levels
 asserted_level l levels [] = refl
 asserted_level l levels (t ∷ p) = asserted_level (record l { assertions = t ∷ l.assertions }) levels p
 
-opened_level : (m : Bool) (base : List Level) → stack_from (resting m base) (opening m) ≡ empty_level ∷ empty_level ∷ base
+pub opened_level : (m : Bool) (base : List Level) → stack_from (resting m base) (opening m) ≡ empty_level ∷ empty_level ∷ base
 opened_level true base = refl
 opened_level false base = refl
 
 -- behind a question and its check-sat its level is the last
-posted_levels : (m : Bool) (base : List Level) (p : List Term) (t : Term) → stack_from (resting m base) (posted m p t) ≡ asked_level p t ∷ empty_level ∷ base
+pub posted_levels : (m : Bool) (base : List Level) (p : List Term) (t : Term) → stack_from (resting m base) (posted m p t) ≡ asked_level p t ∷ empty_level ∷ base
 posted_levels m base p t =
     let symbols = symbols_of p (negate t) in
     stack_append (resting m base) (question m p t) (CheckSat ∷ [])
@@ -74,7 +74,7 @@ posted_levels m base p t =
     ∙ declared_level empty_level (empty_level ∷ base) symbols)
     ∙ asserted_level (record empty_level { symbols = pushed symbols [] }) (empty_level ∷ base) p)
 
-closed_level : (m : Bool) (base : List Level) → stack_from (resting m base) (closing m) ≡ base
+pub closed_level : (m : Bool) (base : List Level) → stack_from (resting m base) (closing m) ≡ base
 closed_level true base = refl
 closed_level false base = refl
 

@@ -9,3 +9,4 @@ pub mod Dialogue
 pub mod Pace
 pub mod History
 pub mod Steady
+pub mod Askable
