@@ -1,5 +1,5 @@
 // The dialogue that drives one link.
-ghost use Rattle.std.specs.Prelude.{◌≡◌, Bool, ◌++◌, ◌∷◌, ◌<◌, ◌≤◌, [], OnOk, IfOk, IfErr, None, Some, true, false, map, List, ◌↔◌, Err, ◌⊎◌, MatchResult, IsErr, is_err};
+ghost use Rattle.std.specs.Prelude.{◌≡◌, Bool, ◌+◌, length, ◌++◌, ◌∷◌, ◌<◌, ◌≤◌, [], OnOk, IfOk, IfErr, None, Some, true, false, map, List, ◌↔◌, Err, ◌⊎◌, MatchResult, IsErr, is_err};
 ghost use Rattle.vx_ends.specs.Dialogue.{sent, got, Grows};
 ghost use Rattle.vx_ends.specs.Causes.{HasCause};
 ghost use Rattle.vx_terms.specs.Terms as Written;
@@ -46,6 +46,13 @@ pub struct Dialogue<L> {
 /// The most commands that are sent before their replies are read.
 const MOST: usize = 256;
 
+/// The most bytes that are sent before their replies are read, unless one command alone is longer. A pipe holds as much, so a
+/// child that waits until its replies are read has room for all of a batch, and the two don't wait for one another.
+const ROOM: usize = 16_384;
+
+/// The length of a check-sat's line.
+const CHECK: usize = 12;
+
 impl<L: Link> Dialogue<L> {
     /// Sends what is gathered, and reads the replies.
     fn flush(&mut self, alloc: Global) -> Result<(), Talk>
@@ -65,9 +72,19 @@ impl<L: Link> Dialogue<L> {
         expect_successes(alloc, &mut self.link, &mut self.unread, count)
     }
 
-    fn make_room(&mut self, alloc: Global) -> Result<(), Talk>
+    // the batch is full, or has no room for so many bytes more
+    fn is_full(&self, more: usize) -> bool
+        ensures { result ≡ false → (self.now.count < 256) × (length self.now.batch.items + more ≤ 16384) }
+    {
+        let used = self.batch.len();
+        self.count >= MOST || used > ROOM || more > ROOM - used
+    }
+
+    // Sends what is gathered, where the batch is full.
+    fn make_room(&mut self, alloc: Global, more: usize) -> Result<(), Talk>
         ensures told { OnOk result ((commands : List Spec.Command) (checks : List Check) → Gathers L.dialogue self.old commands checks → Gathers L.dialogue self.new commands checks) }
         ensures count { OnOk result (self.new.count < 256) }
+        ensures room { OnOk result ((self.new.count ≡ 0) ⊎ (length self.new.batch.items + more ≤ 16384)) }
         ensures same { (self.new.in_member ≡ self.old.in_member) × (self.new.owed ≡ self.old.owed) × (self.new.failed ≡ self.old.failed) }
         ensures fault { IfErr result (λ talk. (commands : List Spec.Command) (checks : List Check) → Gathers L.dialogue self.old commands checks → AreCommands commands → Breaks talk commands (L.dialogue self.new.link) checks) }
         ensures grows { Grows (L.dialogue self.old.link) (L.dialogue self.new.link) }
@@ -75,7 +92,7 @@ impl<L: Link> Dialogue<L> {
         ensures steady { IsSteady L.steady L.faults self.old.link → (commands : List Spec.Command) (checks : List Check) → Gathers L.dialogue self.old commands checks → AreCommands commands → IsSteady L.steady L.faults self.new.link }
         ensures open { result ≡ Err Talk.Closed → ⊥ }
     {
-        if self.count >= MOST {
+        if self.is_full(more) {
             self.flush(alloc)
         } else {
             Ok(())
@@ -93,8 +110,10 @@ impl<L: Link> Dialogue<L> {
         ensures steady { IsSteady L.steady L.faults self.old.link → (commands : List Spec.Command) (checks : List Check) → Gathers L.dialogue self.old commands checks → AreCommands commands → IsSteady L.steady L.faults self.new.link }
         ensures open { result ≡ Err Talk.Closed → ⊥ }
     {
-        self.make_room(alloc)?;
-        write(alloc, c, &mut self.batch)?;
+        let mut text = Vec::new(alloc);
+        write(alloc, c, &mut text)?;
+        self.make_room(alloc, text.len())?;
+        self.batch.extend_from_slice(&text)?;
         self.count += 1;
         Ok(())
     }
@@ -175,7 +194,7 @@ impl<L: Link> Dialogue<L> {
         ensures steady { IsSteady L.steady L.faults self.old.link → (commands : List Spec.Command) (checks : List Check) → Gathers L.dialogue self.old commands checks → AreCommands commands → IsSteady L.steady L.faults self.new.link }
         ensures open { result ≡ Err Talk.Closed → ⊥ }
     {
-        self.make_room(alloc)?;
+        self.make_room(alloc, CHECK)?;
         write(alloc, &Command::CheckSat, &mut self.batch)?;
         send_all(alloc, &mut self.link, &self.batch)?;
         self.batch.clear();
