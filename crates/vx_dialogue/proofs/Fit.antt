@@ -124,16 +124,16 @@ five_name RefSort h = tt
 five_name SnapSort h = tt
 five_name (OtherSort x) h = absurd h
 
-declarations_follow : (sorts : ℕ → Sort) (l : Level) (levels : List Level) (ds : List Declared) → AreVariables sorts ds → Each (λ (d : Declared). IsOfFive d.gives) ds
+declarations_follow : (sorts : ℕ → Sort) (l : Level) (levels : List Level) (ds : List Declared) → AreVariables sorts ds → ((n : ℕ) → IsOfFive (sorts n))
     → AreNew (declared_in (l ∷ levels)) ds → ((a : Sort) → IsOfFive a → knows_sort (sorts_in (l ∷ levels)) a ≡ true) → AllMayFollow (l ∷ levels) (declarations ds)
 declarations_follow sorts l levels [] variables five new known = tt
 declarations_follow sorts l levels (d ∷ ds) variables five new known = (
   record {
     new = new.0;
     takes = subst (λ (x : Declared). Each (λ (a : Sort). knows_sort (sorts_in (l ∷ levels)) a ≡ true) x.takes) (sym variables.0.1) tt;
-    gives = known d.gives five.0;
+    gives = known d.gives (subst (λ (x : Declared). IsOfFive x.gives) (sym variables.0.1) (five variables.0.0));
   },
-  declarations_follow sorts (record l { symbols = d ∷ l.symbols }) levels ds variables.1 five.1 new.1 known,
+  declarations_follow sorts (record l { symbols = d ∷ l.symbols }) levels ds variables.1 five new.1 known,
 )
 
 assertions_follow : (l : Level) (levels : List Level) (ts : List Term) → Each (λ (t : Term). sort_of t ≡ BoolSort) ts → Each (UsesDeclared (declared_in (l ∷ levels))) ts
@@ -236,12 +236,11 @@ mutual
   all_over_names sorts NoTerms e = tt
   all_over_names sorts (MoreTerms t ts) e = (over_names sorts t e.0, all_over_names sorts ts e.1)
 
-declared_named : (sorts : ℕ → Sort) (ds : List Declared) → AreVariables sorts ds → Each (λ (d : Declared). IsOfFive d.gives) ds → AreCommands (declarations ds)
+declared_named : (sorts : ℕ → Sort) (ds : List Declared) → AreVariables sorts ds → ((n : ℕ) → IsOfFive (sorts n)) → AreCommands (declarations ds)
 declared_named sorts [] variables five = tt
 declared_named sorts (d ∷ ds) variables five =
     let n = variables.0.0 in
-    let built : IsOfFive (sorts n) = subst (λ (x : Declared). IsOfFive x.gives) variables.0.1 five.0 in
-    (subst (λ (x : Declared). IsCommand (DeclareFun x)) (sym variables.0.1) (tt, tt, five_name (sorts n) built), declared_named sorts ds variables.1 five.1)
+    (subst (λ (x : Declared). IsCommand (DeclareFun x)) (sym variables.0.1) (tt, tt, five_name (sorts n) (five n)), declared_named sorts ds variables.1 five)
 
 asserted_named : (sorts : ℕ → Sort) (path : List Term) → Each (IsOver standard_symbols sorts) path → AreCommands (assertions path)
 asserted_named sorts [] over = tt

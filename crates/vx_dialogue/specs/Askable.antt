@@ -4,10 +4,9 @@ use Rattle.vx_terms.specs.Sorts.{Sort, IntSort, BoolSort, RealSort, RefSort, Sna
 use Rattle.vx_terms.specs.Terms.{Term, sort_of}
 use Rattle.vx_terms.specs.Build.{negate}
 use Rattle.vx_terms.specs.Interpretations.{Each}
-use Rattle.vx_smt_meaning.specs.Commands.{Declared}
 use Rattle.vx_smt_meaning.specs.Over.{IsOver}
 use Rattle.vx_smt_meaning.specs.Standard.{standard_symbols}
-use Rattle.vx_dialogue.specs.Scripts.{Turn, Asks, Posts, Leaves, symbols_of}
+use Rattle.vx_dialogue.specs.Scripts.{Turn, Asks, Posts, Leaves}
 
 -- one of the five sorts that every dialogue knows
 abbrev pub IsOfFive : Sort → Type 0
@@ -21,11 +20,11 @@ IsOfFive (OtherSort x) = ⊥
 -- A question over the standard symbols and symbols v, each v at one sort, which is one of the five; and what it asserts is of sort Bool.
 pub record IsAskable (path : List Term) (condition : Term) : Type 0 where
   pub sorts : ℕ → Sort
+  pub five : (n : ℕ) → IsOfFive (sorts n)
   pub path_over : Each (IsOver standard_symbols sorts) path
   pub over : IsOver standard_symbols sorts condition
   pub path_bool : Each (λ (t : Term). sort_of t ≡ BoolSort) path
   pub bool : sort_of (negate condition) ≡ BoolSort
-  pub five : Each (λ (d : Declared). IsOfFive d.gives) (symbols_of path (negate condition))
 
 -- So are all questions of these turns; one without a reply is the last.
 abbrev pub AreAskable : List Turn → Type 0
