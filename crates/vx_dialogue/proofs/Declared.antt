@@ -5,18 +5,18 @@ use Rattle.vx_terms.specs.Sorts.{Sort, Symbol, Standard, Function, Variable, Nam
 use Rattle.vx_terms.specs.Terms.{Term, Truth, Number, Part, Constant, Apply, Not, Binary, Ite, AllOf, SomeOf, Terms, NoTerms, MoreTerms}
 use Rattle.vx_terms.specs.Interpretations.{Each}
 use Rattle.vx_terms.specs.Build.{negate}
-use Rattle.vx_smt_meaning.specs.Commands.{Declared, Level, declared_in}
+use Rattle.vx_smt_meaning.specs.Commands.{Declared}
 use Rattle.vx_smt_meaning.specs.Symbols.{declaration, Declares, UsesDeclared, AllUseDeclared}
-use Rattle.vx_smt_meaning.specs.declared.reply.Reply.{Reply}
 use Rattle.vx_dialogue.specs.Symbols.{variable, declares, with_variable, with_symbol, with_variables, with_all_variables, with_listed}
-use Rattle.vx_smt_meaning.specs.Over.{IsConstantOver, IsOver, AreOver, IsWhole}
-use Rattle.vx_dialogue.specs.Dialogue.{symbols_of, pushed, check_of}
+use Rattle.vx_smt_meaning.specs.Over.{IsConstantOver, IsOver, AreOver}
+use Rattle.vx_dialogue.specs.Scripts.{symbols_of}
+use Rattle.vx_dialogue.specs.Dialogue.{pushed}
 
-abbrev Includes : List Declared → List Declared → Type 0
+abbrev pub Includes : List Declared → List Declared → Type 0
 Includes xs ys = (d : Declared) → Declares xs d → Declares ys d
 
 -- each is a v at its sort
-abbrev AreVariables : (ℕ → Sort) → List Declared → Type 0
+abbrev pub AreVariables : (ℕ → Sort) → List Declared → Type 0
 AreVariables sorts [] = Unit {0}
 AreVariables sorts (d ∷ ds) = ((n : ℕ) × (d ≡ variable n (sorts n))) × AreVariables sorts ds
 
@@ -161,45 +161,71 @@ path_uses base sorts (t ∷ path) ds fs v e i j =
     let two = path_grows base sorts path (with_variables ds t) one.variables e.1 in
     (uses base sorts t ds fs v e.0 (λ d h. i d (two.keeps d h)) j, path_uses base sorts path (with_variables ds t) fs one.variables e.1 i j)
 
--- ---- the check of a question
-
-each_pushed : {A : Type 0} (P : A → Type 0) (xs ys : List A) → Each P xs → Each P ys → Each P (pushed xs ys)
-each_pushed P [] ys e f = f
-each_pushed P (x ∷ xs) ys e f = each_pushed P xs (x ∷ ys) e.1 (e.0, f)
+-- ---- what a question asserts
 
 under_pushed : (xs ys : List Declared) → Includes ys (pushed xs ys)
 under_pushed [] ys d e = e
 under_pushed (x ∷ xs) ys d e = under_pushed xs (x ∷ ys) d (inr e)
 
-in_pushed : (xs ys : List Declared) → Includes xs (pushed xs ys)
+pub in_pushed : (xs ys : List Declared) → Includes xs (pushed xs ys)
 in_pushed [] ys d e = absurd e
 in_pushed (x ∷ xs) ys d (inl e) = under_pushed xs (x ∷ ys) d (inl e)
 in_pushed (x ∷ xs) ys d (inr e) = in_pushed xs (x ∷ ys) d e
 
-over_negate : (base : List Declared) (sorts : ℕ → Sort) (t : Term) → IsOver base sorts t → IsOver base sorts (negate t)
-over_negate base sorts (Truth b) e = tt
-over_negate base sorts (Number z) e = e
-over_negate base sorts (Part a) e = e
-over_negate base sorts (Constant f a) e = e
-over_negate base sorts (Apply f a ts) e = e
-over_negate base sorts (Not t) e = e
-over_negate base sorts (Binary o t u) e = e
-over_negate base sorts (Ite c t u) e = e
-over_negate base sorts (AllOf ts) e = e
-over_negate base sorts (SomeOf ts) e = e
+pub negated_over : (base : List Declared) (sorts : ℕ → Sort) (t : Term) → IsOver base sorts t → IsOver base sorts (negate t)
+negated_over base sorts (Truth b) e = tt
+negated_over base sorts (Number z) e = e
+negated_over base sorts (Part a) e = e
+negated_over base sorts (Constant f a) e = e
+negated_over base sorts (Apply f a ts) e = e
+negated_over base sorts (Not t) e = e
+negated_over base sorts (Binary o t u) e = e
+negated_over base sorts (Ite c t u) e = e
+negated_over base sorts (AllOf ts) e = e
+negated_over base sorts (SomeOf ts) e = e
 
-pub check_whole : (base : List Level) (sorts : ℕ → Sort) (path : List Term) (condition : Term) (reply : Reply)
-    → Each (IsOver (declared_in base) sorts) path → IsOver (declared_in base) sorts condition → IsWhole (check_of base path condition reply)
-check_whole base sorts path condition reply over_path over_condition =
-    let below = declared_in base in
-    let negated = negate condition in
-    let over_negated = over_negate below sorts condition over_condition in
-    let symbols = symbols_of path negated in
-    let all = pushed symbols [] ++ below in
-    let listed = path_grows below sorts path [] tt over_path in
-    let last = grows below sorts negated (with_listed [] path) listed.variables over_negated in
-    let declared : Includes symbols all = λ d h. in_left (pushed symbols []) below d (in_pushed symbols [] d h) in
-    let under : Includes below all = in_right (pushed symbols []) below in (
-      uses below sorts negated (with_listed [] path) all listed.variables over_negated declared under,
-      each_pushed (UsesDeclared all) path [] (path_uses below sorts path [] all tt over_path (λ d h. declared d (last.keeps d h)) under) tt,
-    )
+module _ (base : List Declared) (sorts : ℕ → Sort) (path : List Term) (condition : Term) (over_path : Each (IsOver base sorts) path) (over_condition : IsOver base sorts condition) where
+  -- the symbols of a question are symbols v
+  pub question_variables : AreVariables sorts (symbols_of path (negate condition))
+  question_variables =
+      let listed = path_grows base sorts path [] tt over_path in
+      (grows base sorts (negate condition) (with_listed [] path) listed.variables (negated_over base sorts condition over_condition)).variables
+
+  -- each symbol of what a question asserts is declared
+  pub question_declared : Each (UsesDeclared (pushed (symbols_of path (negate condition)) [] ++ base)) path × UsesDeclared (pushed (symbols_of path (negate condition)) [] ++ base) (negate condition)
+  question_declared =
+      let negated = negate condition in
+      let over_negated = negated_over base sorts condition over_condition in
+      let symbols = symbols_of path negated in
+      let all = pushed symbols [] ++ base in
+      let listed = path_grows base sorts path [] tt over_path in
+      let last = grows base sorts negated (with_listed [] path) listed.variables over_negated in
+      let declared : Includes symbols all = λ d h. in_left (pushed symbols []) base d (in_pushed symbols [] d h) in
+      let under : Includes base all = in_right (pushed symbols []) base in (
+        path_uses base sorts path [] all tt over_path (λ d h. declared d (last.keeps d h)) under,
+        uses base sorts negated (with_listed [] path) all listed.variables over_negated declared under,
+      )
+
+-- more symbols of the base
+constant_includes : (xs ys : List Declared) (sorts : ℕ → Sort) (f : Symbol) (a : Sort) → Includes xs ys → IsConstantOver xs sorts f a → IsConstantOver ys sorts f a
+constant_includes xs ys sorts (Standard n) a i e = i _ e
+constant_includes xs ys sorts (Function n) a i e = i _ e
+constant_includes xs ys sorts (Variable n) a i e = e
+constant_includes xs ys sorts (Named x) a i e = i _ e
+
+mutual
+  pub over_includes : (xs ys : List Declared) (sorts : ℕ → Sort) (t : Term) → Includes xs ys → IsOver xs sorts t → IsOver ys sorts t
+  over_includes xs ys sorts (Truth b) i e = tt
+  over_includes xs ys sorts (Number z) i e = tt
+  over_includes xs ys sorts (Part a) i e = tt
+  over_includes xs ys sorts (Constant f a) i e = constant_includes xs ys sorts f a i e
+  over_includes xs ys sorts (Apply f a ts) i e = (i _ e.0, all_over_includes xs ys sorts ts i e.1)
+  over_includes xs ys sorts (Not t) i e = over_includes xs ys sorts t i e
+  over_includes xs ys sorts (Binary o t u) i e = (over_includes xs ys sorts t i e.0, over_includes xs ys sorts u i e.1)
+  over_includes xs ys sorts (Ite c t u) i e = (over_includes xs ys sorts c i e.0, over_includes xs ys sorts t i e.1, over_includes xs ys sorts u i e.2)
+  over_includes xs ys sorts (AllOf ts) i e = all_over_includes xs ys sorts ts i e
+  over_includes xs ys sorts (SomeOf ts) i e = all_over_includes xs ys sorts ts i e
+
+  all_over_includes : (xs ys : List Declared) (sorts : ℕ → Sort) (ts : Terms) → Includes xs ys → AreOver xs sorts ts → AreOver ys sorts ts
+  all_over_includes xs ys sorts NoTerms i e = tt
+  all_over_includes xs ys sorts (MoreTerms t ts) i e = (over_includes xs ys sorts t i e.0, all_over_includes xs ys sorts ts i e.1)

@@ -1,5 +1,6 @@
 -- A dialogue that keeps its pace as pieces are added.
-use Rattle.std.proofs.Common.{◌≡◌, ◌⊎◌, inl, inr, ◌++◌, ℕ, ◌≤◌, List, [], ◌∷◌, length, refl, ap, ◌∙◌, sym, subst, arith}
+use Rattle.std.proofs.Common.{◌≡◌, ◌⊎◌, inl, inr, ◌++◌, ℕ, ◌≤◌, List, [], ◌∷◌, length, refl, ap, ◌∙◌, sym, subst, append_assoc, arith}
+use Rattle.std.proofs.lemmas.List.{append_cancel_left}
 use Rattle.vx_ends.specs.declared.piece.Piece.{Piece}
 use Rattle.vx_ends.specs.declared.piece.Piece.TheVariants.{Sent, Got}
 use Rattle.vx_ends.specs.Dialogue.{sent, got, AreSent, AreGot, SendsOn, GetsOn}
@@ -11,7 +12,6 @@ use Rattle.vx_smt_meaning.specs.Dialogues.{Answers}
 use Rattle.vx_smt_text.specs.Text.{commands_text}
 use Rattle.vx_dialogue.specs.Pace.{FewWait, KeepsPace}
 use Rattle.vx_dialogue.proofs.Joined.{append_none, items_longer}
-use Rattle.vx_dialogue.proofs.Lists.{text_append}
 
 -- a front of two lists ends in the first or in the second
 fronts : {A : Type 0} (xs ys before after : List A) → xs ++ ys ≡ before ++ after
@@ -48,24 +48,59 @@ got_front [] ys e = tt
 got_front (Sent b ∷ xs) ys e = absurd e
 got_front (Got b ∷ xs) ys e = got_front xs ys e
 
-pub pace_none : KeepsPace []
-pace_none before after e = at_none before e
+pub pace_none : (script : List Command) → KeepsPace script []
+pace_none script before after e = at_none before e
   where
-    at_none : (before : List Piece) → [] ≡ before ++ after → FewWait before
-    at_none [] f = record { answered = []; waiting = []; unsent = []; items = []; rest = []; sent_is = refl; few = omega arith; got_is = refl; lawful = tt }
+    at_none : (before : List Piece) → [] ≡ before ++ after → FewWait script before
+    at_none [] f = record {
+      answered = [];
+      waiting = [];
+      later = script;
+      begun = [];
+      unsent = [];
+      items = [];
+      rest = [];
+      all = refl;
+      sent_is = refl;
+      begun_is = refl;
+      few = omega arith;
+      got_is = refl;
+      lawful = tt;
+    }
     at_none (p ∷ before) f = absurd (cc)
 
--- Where all that was sent has its replies, a batch of 256 commands at most is sent.
-pub pace_sent : (old new : List Piece) (batch : List ℕ) (answered waiting : List Command) (items : List (List Token)) (rest : List ℕ)
-    → SendsOn old new → sent new ≡ sent old ++ batch → sent old ≡ commands_text answered → batch ≡ commands_text waiting → length waiting ≤ 256
-    → Items (got old) items rest → Answers answered items → KeepsPace old → KeepsPace new
-pace_sent old new batch answered waiting items rest more sent_on sent_is batch_is few heard lawful pace before after e =
+-- A longer script changes nothing of it.
+pub pace_longer : (script more : List Command) (pieces : List Piece) → KeepsPace script pieces → KeepsPace (script ++ more) pieces
+pace_longer script more pieces pace before after e =
+    let few = pace before after e in
+    record {
+      answered = few.answered;
+      waiting = few.waiting;
+      later = few.later ++ more;
+      begun = few.begun;
+      unsent = few.unsent;
+      items = few.items;
+      rest = few.rest;
+      all = ap (λ x. x ++ more) few.all ∙ append_assoc (few.answered ++ few.waiting) few.later more;
+      sent_is = few.sent_is;
+      begun_is = few.begun_is;
+      few = few.few;
+      got_is = few.got_is;
+      lawful = few.lawful;
+    }
+
+-- Where all that was sent has its replies, a batch of 256 commands at most is sent, or a beginning of it.
+pub pace_begun : (old new : List Piece) (batch left : List ℕ) (script answered waiting : List Command) (items : List (List Token)) (rest : List ℕ) → script ≡ answered ++ waiting
+    → SendsOn old new → sent new ++ left ≡ sent old ++ batch → sent old ≡ commands_text answered → batch ≡ commands_text waiting → length waiting ≤ 256
+    → Items (got old) items rest → Answers answered items → KeepsPace script old → KeepsPace script new
+pace_begun old new batch left script answered waiting items rest all more sent_on sent_is batch_is few heard lawful pace before after e =
     by_front (fronts old more.0 before after (sym more.1 ∙ e))
   where
-    text : sent new ≡ commands_text (answered ++ waiting)
-    text = sent_on ∙ ap (λ x. x ++ batch) sent_is ∙ ap (λ x. commands_text answered ++ x) batch_is ∙ sym (text_append answered waiting)
+    added : sent more.0 ++ left ≡ batch
+    added = append_cancel_left (sent old) (sent more.0 ++ left) batch
+        (sym (append_assoc (sent old) (sent more.0) left) ∙ (ap (λ x. x ++ left) (sym (sent-append old more.0) ∙ ap sent (sym more.1)) ∙ sent_on))
 
-    by_front : ((m : List Piece) × (old ≡ before ++ m)) ⊎ ((m : List Piece) × (before ≡ old ++ m) × (more.0 ≡ m ++ after)) → FewWait before
+    by_front : ((m : List Piece) × (old ≡ before ++ m)) ⊎ ((m : List Piece) × (before ≡ old ++ m) × (more.0 ≡ m ++ after)) → FewWait script before
     by_front (inl f) = pace before f.0 f.1
     by_front (inr f) =
         let silent : got f.0 ≡ [] = none_got f.0 (sent_front f.0 after (subst AreSent f.2 more.2)) in
@@ -73,20 +108,31 @@ pace_sent old new batch answered waiting items rest more sent_on sent_is batch_i
         record {
           answered = answered;
           waiting = waiting;
-          unsent = sent after;
+          later = [];
+          begun = sent f.0;
+          unsent = sent after ++ left;
           items = items;
           rest = rest;
-          sent_is = sym (sent-append before after) ∙ ap sent (sym e) ∙ text;
+          all = all ∙ sym (append_none (answered ++ waiting));
+          sent_is = ap sent f.1 ∙ (sent-append old f.0 ∙ ap (λ x. x ++ sent f.0) sent_is);
+          begun_is = sym (append_assoc (sent f.0) (sent after) left) ∙ (ap (λ x. x ++ left) (sym (sent-append f.0 after) ∙ ap sent (sym f.2)) ∙ (added ∙ batch_is));
           few = few;
           got_is = subst (λ x. Items x items rest) (sym same) heard;
           lawful = lawful;
         }
 
+-- and the whole batch
+pub pace_sent : (old new : List Piece) (batch : List ℕ) (script answered waiting : List Command) (items : List (List Token)) (rest : List ℕ) → script ≡ answered ++ waiting
+    → SendsOn old new → sent new ≡ sent old ++ batch → sent old ≡ commands_text answered → batch ≡ commands_text waiting → length waiting ≤ 256
+    → Items (got old) items rest → Answers answered items → KeepsPace script old → KeepsPace script new
+pace_sent old new batch script answered waiting items rest all more sent_on =
+    pace_begun old new batch [] script answered waiting items rest all more (append_none (sent new) ∙ sent_on)
+
 -- Getting pieces changes nothing of it.
-pub pace_got : (old new : List Piece) → GetsOn old new → KeepsPace old → KeepsPace new
-pace_got old new more pace before after e = by_front (fronts old more.0 before after (sym more.1 ∙ e))
+pub pace_got : (script : List Command) (old new : List Piece) → GetsOn old new → KeepsPace script old → KeepsPace script new
+pace_got script old new more pace before after e = by_front (fronts old more.0 before after (sym more.1 ∙ e))
   where
-    by_front : ((m : List Piece) × (old ≡ before ++ m)) ⊎ ((m : List Piece) × (before ≡ old ++ m) × (more.0 ≡ m ++ after)) → FewWait before
+    by_front : ((m : List Piece) × (old ≡ before ++ m)) ⊎ ((m : List Piece) × (before ≡ old ++ m) × (more.0 ≡ m ++ after)) → FewWait script before
     by_front (inl f) = pace before f.0 f.1
     by_front (inr f) =
         let few = pace old [] (sym (append_none old)) in
@@ -95,10 +141,14 @@ pace_got old new more pace before after e = by_front (fronts old more.0 before a
         record {
           answered = few.answered;
           waiting = few.waiting;
+          later = few.later;
+          begun = few.begun;
           unsent = few.unsent;
           items = few.items;
           rest = few.rest ++ got f.0;
-          sent_is = ap (λ x. x ++ few.unsent) same ∙ few.sent_is;
+          all = few.all;
+          sent_is = same ∙ few.sent_is;
+          begun_is = few.begun_is;
           few = few.few;
           got_is = subst (λ x. Items x few.items (few.rest ++ got f.0)) (sym (ap got f.1 ∙ got-append old f.0)) (items_longer (got old) (got f.0) few.items few.rest few.got_is);
           lawful = few.lawful;

@@ -18,7 +18,8 @@ use Rattle.vx_dialogue.specs.Hears.{ReadsSuccesses}
 use Rattle.vx_terms.specs.Terms.{Term}
 use Rattle.vx_sexp.specs.Characters.{is_symbol_byte, is_digit}
 use Rattle.vx_dialogue.specs.Preamble.{print_success}
-use Rattle.vx_dialogue.specs.Dialogue.{Gathers, Waits, preamble, question, closing}
+use Rattle.vx_dialogue.specs.Dialogue.{Gathers, Waits}
+use Rattle.vx_dialogue.specs.Scripts.{preamble, question, closing}
 use Rattle.vx_dialogue.specs.Steady.{IsSteady, Owes}
 use Rattle.vx_dialogue.proofs.Joined.{items_longer, items_more, items_join, length_more}
 use Rattle.vx_dialogue.proofs.Lists.{text_append, map_whole}

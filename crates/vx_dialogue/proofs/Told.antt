@@ -13,7 +13,7 @@ use Rattle.vx_dialogue.specs.Items.{ReadsItem}
 use Rattle.vx_dialogue.specs.Hears.{ReadsSuccesses}
 use Rattle.vx_dialogue.specs.Dialogue.{Gathers, Waits, told_check}
 use Rattle.vx_dialogue.specs.Pace.{KeepsPace}
-use Rattle.vx_dialogue.proofs.Pace.{pace_none, pace_sent, pace_got}
+use Rattle.vx_dialogue.proofs.Pace.{pace_none, pace_longer, pace_sent, pace_got}
 use Rattle.vx_dialogue.proofs.Lists.{none_more, length_more, text_append, text_more, stack_append, plain_join, no_checks, successes_to, answers_join, checks_join}
 use Rattle.vx_dialogue.proofs.Joined.{items_longer, items_join}
 
@@ -35,7 +35,7 @@ gathers_said dialogue d e c plain link batch count unread room commands checks g
   batch_is = batch ∙ rw g.batch_is (sym (text_more g.gathered c));
   count_is = count ∙ rw g.count_is (sym (length_more g.gathered c));
   few = omega (arith, length_more g.gathered c, g.count_is);
-  pace = rw link g.pace;
+  pace = rw link (pace_longer commands (c ∷ []) (dialogue d.link) g.pace);
   plain = plain_join g.gathered (c ∷ []) g.plain (plain, tt);
   got_is = rw (link, unread) g.got_is;
   lawful = g.lawful;
@@ -62,8 +62,8 @@ gathers_sent dialogue d e between sends gets sent_between sent_on batch count re
       batch_is = batch;
       count_is = count;
       few = omega arith;
-      pace = pace_got between (dialogue e.link) gets (pace_sent (dialogue d.link) between d.batch.items g.answered g.gathered g.items d.unread.items
-          sends sent_between g.sent_is g.batch_is g.few g.got_is g.lawful g.pace);
+      pace = pace_got commands between (dialogue e.link) gets (pace_sent (dialogue d.link) between d.batch.items commands g.answered g.gathered g.items d.unread.items
+          g.all sends sent_between g.sent_is g.batch_is g.few g.got_is g.lawful g.pace);
       plain = tt;
       got_is = items_go_on _ _ _ _ reads.0 g.items successes reads.1 g.got_is reads.3;
       lawful = answers_join g.answered g.gathered g.items successes g.lawful replies;
@@ -82,9 +82,9 @@ waits_sent dialogue d e sends room sent_on batch owed got_on unread commands che
   sent_is = sent_on ∙ rw (g.sent_is, g.batch_is, text_more commands CheckSat, g.all, text_append g.answered g.gathered) (sym (append_assoc (commands_text g.answered) (commands_text g.gathered) (command_text CheckSat)));
   batch_is = batch;
   owed_is = owed ∙ ap Some g.count_is;
-  pace = pace_sent (dialogue d.link) (dialogue e.link) (d.batch.items ++ command_text CheckSat) g.answered (g.gathered ++ CheckSat ∷ []) g.items d.unread.items
-      sends sent_on g.sent_is (ap (λ x. x ++ command_text CheckSat) g.batch_is ∙ sym (text_more g.gathered CheckSat))
-      (omega (arith, length_more g.gathered CheckSat, g.count_is)) g.got_is g.lawful g.pace;
+  pace = pace_sent (dialogue d.link) (dialogue e.link) (d.batch.items ++ command_text CheckSat) (commands ++ CheckSat ∷ []) g.answered (g.gathered ++ CheckSat ∷ []) g.items d.unread.items
+      (ap (λ x. x ++ CheckSat ∷ []) g.all ∙ append_assoc g.answered g.gathered (CheckSat ∷ [])) sends sent_on g.sent_is (ap (λ x. x ++ command_text CheckSat) g.batch_is ∙ sym (text_more g.gathered CheckSat))
+      (omega (arith, length_more g.gathered CheckSat, g.count_is)) g.got_is g.lawful (pace_longer commands (CheckSat ∷ []) (dialogue d.link) g.pace);
   plain = g.plain;
   got_is = rw (got_on, unread) g.got_is;
   lawful = g.lawful;
@@ -122,7 +122,7 @@ gathers_answered dialogue d e owed got1 unread1 item reply gets owed_is sent_on 
       batch_is = batch ∙ rw w.batch_is (sym (none_more (command_text (Pop 1))));
       count_is = count;
       few = omega arith;
-      pace = pace_got (dialogue d.link) (dialogue e.link) gets w.pace;
+      pace = pace_longer commands (Pop 1 ∷ []) (dialogue e.link) (pace_got commands (dialogue d.link) (dialogue e.link) gets w.pace);
       plain = (refl, tt);
       got_is = items_go_on _ _ _ _ answers.0 (w.items ++ successes) (item ∷ []) answers.1 got_before (_, answers.2, refl);
       lawful = subst (λ x. Answers x ((w.items ++ successes) ++ item ∷ [])) (sym w.all) (answers_join before (CheckSat ∷ []) (w.items ++ successes) (item ∷ []) lawful_before last);
@@ -141,7 +141,7 @@ gathers_none dialogue d link batch count unread = record {
   batch_is = batch;
   count_is = count;
   few = omega arith;
-  pace = subst KeepsPace (sym link) pace_none;
+  pace = subst (KeepsPace []) (sym link) (pace_none []);
   plain = tt;
   got_is = unread ∙ sym (ap got link);
   lawful = tt;

@@ -9,42 +9,15 @@ use Rattle.vx_terms.specs.Terms.{Term}
 use Rattle.vx_terms.specs.Build.{negate}
 use Rattle.vx_terms.specs.declared.term.Term.{Term as Term'}
 use Rattle.vx_terms.specs.Views.{term}
-use Rattle.vx_smt_meaning.specs.Commands.{Command, Declared, Assert, Push, Pop, CheckSat, Level, empty_level, stack_of, assertions_of, declared_in}
+use Rattle.vx_smt_meaning.specs.Commands.{Command, Declared, CheckSat, Level, empty_level, stack_of, assertions_of, declared_in}
 use Rattle.vx_smt_meaning.specs.Replies.{Items}
 use Rattle.vx_smt_meaning.specs.Dialogues.{ArePlain, Answers, Check, checks_told}
 use Rattle.vx_smt_meaning.specs.declared.reply.Reply.{Reply}
 use Rattle.vx_smt_text.specs.Text.{commands_text}
 use Rattle.vx_dialogue.specs.Pace.{KeepsPace}
-use Rattle.vx_dialogue.specs.Preamble.{declarations, front}
-use Rattle.vx_dialogue.specs.Symbols.{with_variables, with_listed}
+use Rattle.vx_dialogue.specs.Scripts.{Turn, Posts, preamble, symbols_of, script, is_inside_after}
 use Rattle.vx_dialogue.specs.declared.talk.Talk.{Talk}
 use Rattle.vx_dialogue.specs.declared.dialogue.Dialogue.{Dialogue}
-
-abbrev pub assertions : List Term → List Command
-assertions [] = []
-assertions (t ∷ ts) = Assert t ∷ assertions ts
-
--- what a dialogue begins with
-abbrev pub preamble : Bool → List Declared → List Command
-preamble certify functions = front certify ++ declarations functions
-
--- A question stands under a level of its own. The member's own level is opened before its first question.
-abbrev pub opening : Bool → List Command
-opening true = Push 1 ∷ []
-opening false = Push 1 ∷ Push 1 ∷ []
-
--- what ends a member
-abbrev pub closing : Bool → List Command
-closing true = Pop 1 ∷ []
-closing false = []
-
--- the symbols that a question declares, in the order of their first occurrence
-abbrev pub symbols_of : List Term → Term → List Declared
-symbols_of path negated = with_variables (with_listed [] path) negated
-
--- whether the condition follows from the path: can the path and the negated condition be true together?
-abbrev pub question : Bool → List Term → Term → List Command
-question in_member path condition = ((opening in_member ++ declarations (symbols_of path (negate condition))) ++ assertions path) ++ Assert (negate condition) ∷ []
 
 -- a list put on another, the last of it at the top
 abbrev pub pushed : {A : Type 0} → List A → List A → List A
@@ -83,7 +56,7 @@ pub record Gathers {L : Type 0} (dialogue : L → List Piece) (d : Dialogue L) (
   pub batch_is : d.batch.items ≡ commands_text gathered
   pub count_is : d.count ≡ length gathered
   pub few : length gathered ≤ 256
-  pub pace : KeepsPace (dialogue d.link)
+  pub pace : KeepsPace commands (dialogue d.link)
   pub plain : ArePlain gathered
   pub got_is : Items (got (dialogue d.link)) items d.unread.items
   pub lawful : Answers answered items
@@ -98,7 +71,7 @@ pub record Waits {L : Type 0} (dialogue : L → List Piece) (d : Dialogue L) (co
   pub sent_is : sent (dialogue d.link) ≡ commands_text commands
   pub batch_is : d.batch.items ≡ []
   pub owed_is : d.owed ≡ Some (length waiting)
-  pub pace : KeepsPace (dialogue d.link)
+  pub pace : KeepsPace commands (dialogue d.link)
   pub plain : ArePlain waiting
   pub got_is : Items (got (dialogue d.link)) items d.unread.items
   pub lawful : Answers answered items
@@ -125,17 +98,21 @@ check_of base path condition reply = record {
 abbrev pub told_check : List Level → Reply → Check
 told_check levels reply = record { symbols = declared_in levels; assertions = assertions_of levels; reply = Some reply }
 
--- No question is open: the commands said so far, over the levels of the preamble, and the checks so far.
-pub record Stands {L : Type 0} (dialogue : L → List Piece) (base : List Level) (d : Dialogue L) (commands : List Command) (checks : List Check) : Type 0 where
-  pub told : Gathers dialogue d commands checks
-  pub levels : stack_of commands ≡ resting d.in_member base
-  pub bare : assertions_of base ≡ []
+-- the levels of the preamble
+abbrev pub base_of : Bool → List Declared → List Level
+base_of certify functions = stack_of (preamble certify functions)
 
--- The question of this path and condition is open.
-pub record Asks {L : Type 0} (dialogue : L → List Piece) (base : List Level) (path : List Term) (condition : Term) (d : Dialogue L) (commands : List Command) (checks : List Check) : Type 0 where
-  pub told : Waits dialogue d commands checks
-  pub levels : stack_of commands ≡ asked_level path condition ∷ empty_level ∷ base
-  pub bare : assertions_of base ≡ []
+-- No question is open: the commands said so far are exactly those of these turns, and these are their checks.
+pub record Stands {L : Type 0} (dialogue : L → List Piece) (certify : Bool) (functions : List Declared) (turns : List Turn) (d : Dialogue L) (checks : List Check) : Type 0 where
+  pub told : Gathers dialogue d (script certify functions turns) checks
+  pub inside : d.in_member ≡ is_inside_after turns
+  pub levels : stack_of (script certify functions turns) ≡ resting d.in_member (base_of certify functions)
+
+-- The reply to this question is awaited, behind these turns.
+pub record Awaits {L : Type 0} (dialogue : L → List Piece) (certify : Bool) (functions : List Declared) (turns : List Turn) (path : List Term) (condition : Term) (d : Dialogue L)
+    (checks : List Check) : Type 0 where
+  pub told : Waits dialogue d (script certify functions (turns ++ Posts path condition ∷ [])) checks
+  pub levels : stack_of (script certify functions (turns ++ Posts path condition ∷ [])) ≡ asked_level path condition ∷ empty_level ∷ base_of certify functions
 
 -- an answer with this error
 abbrev pub gives : Talk → Result ℕ Talk

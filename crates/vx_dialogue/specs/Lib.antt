@@ -4,7 +4,9 @@ pub mod Hears
 pub mod Stops
 pub mod Symbols
 pub mod Preamble
+pub mod Scripts
 pub mod Dialogue
 pub mod Pace
 pub mod History
 pub mod Steady
+pub mod Askable

@@ -8,18 +8,22 @@ use Rattle.vx_smt_meaning.specs.Replies.{Items}
 use Rattle.vx_smt_meaning.specs.Dialogues.{Answers}
 use Rattle.vx_smt_text.specs.Text.{commands_text}
 
--- What was sent begins the text of some commands. The first of them have their replies; the others, at most 256, wait for theirs.
-pub record FewWait (pieces : List Piece) : Type 0 where
+-- What was sent begins the text of a script. The first of its commands have their replies; those behind them of which something is sent, at most 256, wait for theirs.
+pub record FewWait (script : List Command) (pieces : List Piece) : Type 0 where
   pub answered : List Command
   pub waiting : List Command
+  pub later : List Command
+  pub begun : List ℕ
   pub unsent : List ℕ
   pub items : List (List Token)
   pub rest : List ℕ
-  pub sent_is : sent pieces ++ unsent ≡ commands_text (answered ++ waiting)
+  pub all : script ≡ (answered ++ waiting) ++ later
+  pub sent_is : sent pieces ≡ commands_text answered ++ begun
+  pub begun_is : begun ++ unsent ≡ commands_text waiting
   pub few : length waiting ≤ 256
   pub got_is : Items (got pieces) items rest
   pub lawful : Answers answered items
 
 -- So it was at every time of the dialogue.
-abbrev pub KeepsPace : List Piece → Type 0
-KeepsPace pieces = (before after : List Piece) → pieces ≡ before ++ after → FewWait before
+abbrev pub KeepsPace : List Command → List Piece → Type 0
+KeepsPace script pieces = (before after : List Piece) → pieces ≡ before ++ after → FewWait script before

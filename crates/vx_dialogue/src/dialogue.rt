@@ -1,16 +1,18 @@
 // The dialogue that drives one link.
-ghost use Rattle.std.specs.Prelude.{◌≡◌, ◌++◌, ◌∷◌, ◌<◌, ◌≤◌, [], OnOk, IfOk, IfErr, None, Some, true, false, map, List, ◌↔◌, Err, ◌⊎◌, MatchResult, IsErr, is_err};
+ghost use Rattle.std.specs.Prelude.{◌≡◌, Bool, ◌+◌, length, ◌++◌, ◌∷◌, ◌<◌, ◌≤◌, [], OnOk, IfOk, IfErr, None, Some, true, false, map, List, ◌↔◌, Err, ◌⊎◌, MatchResult, IsErr, is_err};
 ghost use Rattle.vx_ends.specs.Dialogue.{sent, got, Grows};
 ghost use Rattle.vx_ends.specs.Causes.{HasCause};
 ghost use Rattle.vx_terms.specs.Terms as Written;
-ghost use Rattle.vx_smt_meaning.specs.Commands.{Level, stack_of};
+ghost use Rattle.vx_smt_meaning.specs.Commands.{stack_of};
 ghost use Rattle.vx_smt_meaning.specs.Commands as Spec;
 ghost use Rattle.vx_smt_meaning.specs.Dialogues.{Check, is_plain, ArePlain};
 ghost use Rattle.vx_smt_meaning.specs.Views.{command, declared_symbol};
 ghost use Rattle.vx_smt_meaning.specs.Names.{AreCommands};
 ghost use Rattle.vx_dialogue.specs.History.{Breaks};
 ghost use Rattle.vx_dialogue.specs.Steady.{IsSteady};
-ghost use Rattle.vx_dialogue.specs.Dialogue.{preamble, question, closing, shared, link_of, has_failed, is_in_member, IsFree, IsAsked, Gathers, Waits, Stands, Asks, check_of, told_check, gives};
+ghost use Rattle.vx_dialogue.specs.Scripts as Said;
+ghost use Rattle.vx_dialogue.specs.Scripts.{Turn, preamble, question, script};
+ghost use Rattle.vx_dialogue.specs.Dialogue.{shared, link_of, has_failed, is_in_member, IsFree, IsAsked, Gathers, Waits, Stands, Awaits, base_of, check_of, told_check, gives};
 
 use crate::Talk;
 use crate::batch::expect_successes;
@@ -44,13 +46,20 @@ pub struct Dialogue<L> {
 /// The most commands that are sent before their replies are read.
 const MOST: usize = 256;
 
+/// The most bytes that are sent before their replies are read, unless one command alone is longer. A pipe holds as much, so a
+/// child that waits until its replies are read has room for all of a batch, and the two don't wait for one another.
+const ROOM: usize = 16_384;
+
+/// The length of a check-sat's line.
+const CHECK: usize = 12;
+
 impl<L: Link> Dialogue<L> {
     /// Sends what is gathered, and reads the replies.
     fn flush(&mut self, alloc: Global) -> Result<(), Talk>
         ensures told { OnOk result ((commands : List Spec.Command) (checks : List Check) → Gathers L.dialogue self.old commands checks → Gathers L.dialogue self.new commands checks) }
         ensures count { OnOk result (self.new.count ≡ 0) }
         ensures same { (self.new.in_member ≡ self.old.in_member) × (self.new.owed ≡ self.old.owed) × (self.new.failed ≡ self.old.failed) }
-        ensures fault { IfErr result (λ talk. (commands : List Spec.Command) (checks : List Check) → Gathers L.dialogue self.old commands checks → AreCommands commands → Breaks talk (L.dialogue self.new.link) checks) }
+        ensures fault { IfErr result (λ talk. (commands : List Spec.Command) (checks : List Check) → Gathers L.dialogue self.old commands checks → AreCommands commands → Breaks talk commands (L.dialogue self.new.link) checks) }
         ensures grows { Grows (L.dialogue self.old.link) (L.dialogue self.new.link) }
         ensures cause { HasCause Talk.Pipe (L.faults self.old.link) (L.faults self.new.link) result }
         ensures steady { IsSteady L.steady L.faults self.old.link → (commands : List Spec.Command) (checks : List Check) → Gathers L.dialogue self.old commands checks → AreCommands commands → IsSteady L.steady L.faults self.new.link }
@@ -63,17 +72,27 @@ impl<L: Link> Dialogue<L> {
         expect_successes(alloc, &mut self.link, &mut self.unread, count)
     }
 
-    fn make_room(&mut self, alloc: Global) -> Result<(), Talk>
+    // the batch is full, or has no room for so many bytes more
+    fn is_full(&self, more: usize) -> bool
+        ensures { result ≡ false → (self.now.count < 256) × (length self.now.batch.items + more ≤ 16384) }
+    {
+        let used = self.batch.len();
+        self.count >= MOST || used > ROOM || more > ROOM - used
+    }
+
+    // Sends what is gathered, where the batch is full.
+    fn make_room(&mut self, alloc: Global, more: usize) -> Result<(), Talk>
         ensures told { OnOk result ((commands : List Spec.Command) (checks : List Check) → Gathers L.dialogue self.old commands checks → Gathers L.dialogue self.new commands checks) }
         ensures count { OnOk result (self.new.count < 256) }
+        ensures room { OnOk result ((self.new.count ≡ 0) ⊎ (length self.new.batch.items + more ≤ 16384)) }
         ensures same { (self.new.in_member ≡ self.old.in_member) × (self.new.owed ≡ self.old.owed) × (self.new.failed ≡ self.old.failed) }
-        ensures fault { IfErr result (λ talk. (commands : List Spec.Command) (checks : List Check) → Gathers L.dialogue self.old commands checks → AreCommands commands → Breaks talk (L.dialogue self.new.link) checks) }
+        ensures fault { IfErr result (λ talk. (commands : List Spec.Command) (checks : List Check) → Gathers L.dialogue self.old commands checks → AreCommands commands → Breaks talk commands (L.dialogue self.new.link) checks) }
         ensures grows { Grows (L.dialogue self.old.link) (L.dialogue self.new.link) }
         ensures cause { HasCause Talk.Pipe (L.faults self.old.link) (L.faults self.new.link) result }
         ensures steady { IsSteady L.steady L.faults self.old.link → (commands : List Spec.Command) (checks : List Check) → Gathers L.dialogue self.old commands checks → AreCommands commands → IsSteady L.steady L.faults self.new.link }
         ensures open { result ≡ Err Talk.Closed → ⊥ }
     {
-        if self.count >= MOST {
+        if self.is_full(more) {
             self.flush(alloc)
         } else {
             Ok(())
@@ -85,14 +104,16 @@ impl<L: Link> Dialogue<L> {
         ensures told { OnOk result (is_plain (command c.now) ≡ true → (commands : List Spec.Command) (checks : List Check)
             → Gathers L.dialogue self.old commands checks → Gathers L.dialogue self.new (commands ++ command c.now ∷ []) checks) }
         ensures same { (self.new.in_member ≡ self.old.in_member) × (self.new.owed ≡ self.old.owed) × (self.new.failed ≡ self.old.failed) }
-        ensures fault { IfErr result (λ talk. (commands : List Spec.Command) (checks : List Check) → Gathers L.dialogue self.old commands checks → AreCommands commands → Breaks talk (L.dialogue self.new.link) checks) }
+        ensures fault { IfErr result (λ talk. (commands : List Spec.Command) (checks : List Check) → Gathers L.dialogue self.old commands checks → AreCommands commands → Breaks talk commands (L.dialogue self.new.link) checks) }
         ensures grows { Grows (L.dialogue self.old.link) (L.dialogue self.new.link) }
         ensures cause { HasCause Talk.Pipe (L.faults self.old.link) (L.faults self.new.link) result }
         ensures steady { IsSteady L.steady L.faults self.old.link → (commands : List Spec.Command) (checks : List Check) → Gathers L.dialogue self.old commands checks → AreCommands commands → IsSteady L.steady L.faults self.new.link }
         ensures open { result ≡ Err Talk.Closed → ⊥ }
     {
-        self.make_room(alloc)?;
-        write(alloc, c, &mut self.batch)?;
+        let mut text = Vec::new(alloc);
+        write(alloc, c, &mut text)?;
+        self.make_room(alloc, text.len())?;
+        self.batch.extend_from_slice(&text)?;
         self.count += 1;
         Ok(())
     }
@@ -101,7 +122,7 @@ impl<L: Link> Dialogue<L> {
         ensures told { OnOk result (ArePlain (map command all.now) → (commands : List Spec.Command) (checks : List Check)
             → Gathers L.dialogue self.old commands checks → Gathers L.dialogue self.new (commands ++ map command all.now) checks) }
         ensures same { (self.new.in_member ≡ self.old.in_member) × (self.new.owed ≡ self.old.owed) × (self.new.failed ≡ self.old.failed) }
-        ensures fault { IfErr result (λ talk. ArePlain (map command all.now) → (commands : List Spec.Command) (checks : List Check) → Gathers L.dialogue self.old commands checks → AreCommands (commands ++ map command all.now) → Breaks talk (L.dialogue self.new.link) checks) }
+        ensures fault { IfErr result (λ talk. ArePlain (map command all.now) → (commands : List Spec.Command) (checks : List Check) → Gathers L.dialogue self.old commands checks → AreCommands (commands ++ map command all.now) → Breaks talk (commands ++ map command all.now) (L.dialogue self.new.link) checks) }
         ensures grows { Grows (L.dialogue self.old.link) (L.dialogue self.new.link) }
         ensures cause { HasCause Talk.Pipe (L.faults self.old.link) (L.faults self.new.link) result }
         ensures steady { ArePlain (map command all.now) → IsSteady L.steady L.faults self.old.link → (commands : List Spec.Command) (checks : List Check) → Gathers L.dialogue self.old commands checks → AreCommands (commands ++ map command all.now) → IsSteady L.steady L.faults self.new.link }
@@ -118,7 +139,7 @@ impl<L: Link> Dialogue<L> {
             → Gathers L.dialogue self.old commands checks → Gathers L.dialogue self.new (commands ++ preamble certify (map declared_symbol functions.now)) checks) }
         ensures count { OnOk result (self.new.count ≡ 0) }
         ensures same { (self.new.in_member ≡ self.old.in_member) × (self.new.owed ≡ self.old.owed) × (self.new.failed ≡ self.old.failed) }
-        ensures fault { IfErr result (λ talk. (commands : List Spec.Command) (checks : List Check) → Gathers L.dialogue self.old commands checks → AreCommands (commands ++ preamble certify (map declared_symbol functions.now)) → Breaks talk (L.dialogue self.new.link) checks) }
+        ensures fault { IfErr result (λ talk. (commands : List Spec.Command) (checks : List Check) → Gathers L.dialogue self.old commands checks → AreCommands (commands ++ preamble certify (map declared_symbol functions.now)) → Breaks talk (commands ++ preamble certify (map declared_symbol functions.now)) (L.dialogue self.new.link) checks) }
         ensures grows { Grows (L.dialogue self.old.link) (L.dialogue self.new.link) }
         ensures cause { HasCause Talk.Pipe (L.faults self.old.link) (L.faults self.new.link) result }
         ensures steady { IsSteady L.steady L.faults self.old.link → (commands : List Spec.Command) (checks : List Check) → Gathers L.dialogue self.old commands checks → AreCommands (commands ++ preamble certify (map declared_symbol functions.now)) → IsSteady L.steady L.faults self.new.link }
@@ -138,9 +159,9 @@ impl<L: Link> Dialogue<L> {
         certify: bool,
     ) -> Result<Dialogue<L>, (L, Talk)>
         requires { L.dialogue link ≡ [] }
-        ensures stands { IfOk result (λ d. let commands = preamble certify (map declared_symbol functions.now) in Stands L.dialogue (stack_of commands) d commands []) }
+        ensures stands { IfOk result (λ d. Stands L.dialogue certify (map declared_symbol functions.now) [] d []) }
         ensures free { IfOk result (λ d. IsFree d × (has_failed d ≡ false) × (is_in_member d ≡ false)) }
-        ensures fault { IfErr result (λ e. AreCommands (preamble certify (map declared_symbol functions.now)) → Breaks e.1 (L.dialogue e.0) []) }
+        ensures fault { IfErr result (λ e. AreCommands (preamble certify (map declared_symbol functions.now)) → Breaks e.1 (preamble certify (map declared_symbol functions.now)) (L.dialogue e.0) []) }
         ensures cause { MatchResult result (λ d. L.faults link ≤ L.faults (link_of d)) (λ e. HasCause Talk.Pipe (L.faults link) (L.faults e.0) (gives e.1)) }
         ensures steady { IsSteady L.steady L.faults link → AreCommands (preamble certify (map declared_symbol functions.now)) → MatchResult result (λ d. IsSteady L.steady L.faults (link_of d)) (λ e. IsSteady L.steady L.faults e.0) }
         ensures open { MatchResult result (λ _. Unit {0}) (λ e. e.1 ≡ Talk.Closed → ⊥) }
@@ -167,13 +188,13 @@ impl<L: Link> Dialogue<L> {
         ensures asked { OnOk result (IsAsked self.new) }
         ensures member { OnOk result (self.new.in_member ≡ true) }
         ensures failed { self.new.failed ≡ self.old.failed }
-        ensures fault { IfErr result (λ talk. (commands : List Spec.Command) (checks : List Check) → Gathers L.dialogue self.old commands checks → AreCommands commands → Breaks talk (L.dialogue self.new.link) checks) }
+        ensures fault { IfErr result (λ talk. (commands : List Spec.Command) (checks : List Check) → Gathers L.dialogue self.old commands checks → AreCommands commands → Breaks talk (commands ++ Spec.CheckSat ∷ []) (L.dialogue self.new.link) checks) }
         ensures grows { Grows (L.dialogue self.old.link) (L.dialogue self.new.link) }
         ensures cause { HasCause Talk.Pipe (L.faults self.old.link) (L.faults self.new.link) result }
         ensures steady { IsSteady L.steady L.faults self.old.link → (commands : List Spec.Command) (checks : List Check) → Gathers L.dialogue self.old commands checks → AreCommands commands → IsSteady L.steady L.faults self.new.link }
         ensures open { result ≡ Err Talk.Closed → ⊥ }
     {
-        self.make_room(alloc)?;
+        self.make_room(alloc, CHECK)?;
         write(alloc, &Command::CheckSat, &mut self.batch)?;
         send_all(alloc, &mut self.link, &self.batch)?;
         self.batch.clear();
@@ -194,7 +215,7 @@ impl<L: Link> Dialogue<L> {
         ensures asked { OnOk result (IsAsked self.new) }
         ensures member { OnOk result (self.new.in_member ≡ true) }
         ensures failed { self.new.failed ≡ self.old.failed }
-        ensures fault { IfErr result (λ talk. (commands : List Spec.Command) (checks : List Check) → Gathers L.dialogue self.old commands checks → AreCommands (commands ++ question self.old.in_member (map shared path.now) (shared condition.now)) → Breaks talk (L.dialogue self.new.link) checks) }
+        ensures fault { IfErr result (λ talk. (commands : List Spec.Command) (checks : List Check) → Gathers L.dialogue self.old commands checks → AreCommands (commands ++ question self.old.in_member (map shared path.now) (shared condition.now)) → Breaks talk ((commands ++ question self.old.in_member (map shared path.now) (shared condition.now)) ++ Spec.CheckSat ∷ []) (L.dialogue self.new.link) checks) }
         ensures grows { Grows (L.dialogue self.old.link) (L.dialogue self.new.link) }
         ensures cause { HasCause Talk.Pipe (L.faults self.old.link) (L.faults self.new.link) result }
         ensures steady { IsSteady L.steady L.faults self.old.link → (commands : List Spec.Command) (checks : List Check) → Gathers L.dialogue self.old commands checks → AreCommands (commands ++ question self.old.in_member (map shared path.now) (shared condition.now)) → IsSteady L.steady L.faults self.new.link }
@@ -213,16 +234,15 @@ impl<L: Link> Dialogue<L> {
         condition: &Rc<Term>,
     ) -> Result<(), Talk>
         requires { IsFree self.old }
-        ensures asks { OnOk result ((base : List Level) (commands : List Spec.Command) (checks : List Check) → Stands L.dialogue base self.old commands checks
-            → Asks L.dialogue base (map shared path.now) (shared condition.now) self.new
-            ((commands ++ question (is_in_member self.old) (map shared path.now) (shared condition.now)) ++ Spec.CheckSat ∷ []) checks) }
+        ensures asks { OnOk result ((certify : Bool) (functions : List Spec.Declared) (turns : List Turn) (checks : List Check) → Stands L.dialogue certify functions turns self.old checks
+            → Awaits L.dialogue certify functions turns (map shared path.now) (shared condition.now) self.new checks) }
         ensures asked { IsAsked self.new }
-        ensures fault { IfErr result (λ talk. (base : List Level) (commands : List Spec.Command) (checks : List Check) → Stands L.dialogue base self.old commands checks
-            → AreCommands (commands ++ question (is_in_member self.old) (map shared path.now) (shared condition.now)) → Breaks talk (L.dialogue (link_of self.new)) checks) }
+        ensures fault { IfErr result (λ talk. (certify : Bool) (functions : List Spec.Declared) (turns : List Turn) (checks : List Check) → Stands L.dialogue certify functions turns self.old checks
+            → AreCommands (script certify functions (turns ++ Said.Posts (map shared path.now) (shared condition.now) ∷ [])) → Breaks talk (script certify functions (turns ++ Said.Posts (map shared path.now) (shared condition.now) ∷ [])) (L.dialogue (link_of self.new)) checks) }
         ensures grows { Grows (L.dialogue (link_of self.old)) (L.dialogue (link_of self.new)) }
         ensures cause { HasCause Talk.Pipe (L.faults (link_of self.old)) (L.faults (link_of self.new)) result }
-        ensures steady { IsSteady L.steady L.faults (link_of self.old) → (base : List Level) (commands : List Spec.Command) (checks : List Check) → Stands L.dialogue base self.old commands checks
-            → AreCommands (commands ++ question (is_in_member self.old) (map shared path.now) (shared condition.now)) → IsSteady L.steady L.faults (link_of self.new) }
+        ensures steady { IsSteady L.steady L.faults (link_of self.old) → (certify : Bool) (functions : List Spec.Declared) (turns : List Turn) (checks : List Check) → Stands L.dialogue certify functions turns self.old checks
+            → AreCommands (script certify functions (turns ++ Said.Posts (map shared path.now) (shared condition.now) ∷ [])) → IsSteady L.steady L.faults (link_of self.new) }
         ensures closed { (result ≡ Err Talk.Closed) ↔ (has_failed self.old ≡ true) }
         ensures failed { has_failed self.new ≡ is_err result }
     {
@@ -244,7 +264,7 @@ impl<L: Link> Dialogue<L> {
             → Gathers L.dialogue self.new (commands ++ Spec.Pop 1 ∷ []) (checks ++ told_check (stack_of commands) reply ∷ [])) }
         ensures free { OnOk result ((self.new.owed ≡ None) × (self.new.count ≡ 1)) }
         ensures same { (self.new.in_member ≡ self.old.in_member) × (self.new.failed ≡ self.old.failed) }
-        ensures fault { IfErr result (λ talk. self.old.owed ≡ Some owed → (commands : List Spec.Command) (checks : List Check) → Waits L.dialogue self.old commands checks → AreCommands commands → Breaks talk (L.dialogue self.new.link) checks) }
+        ensures fault { IfErr result (λ talk. self.old.owed ≡ Some owed → (commands : List Spec.Command) (checks : List Check) → Waits L.dialogue self.old commands checks → AreCommands commands → Breaks talk commands (L.dialogue self.new.link) checks) }
         ensures grows { Grows (L.dialogue self.old.link) (L.dialogue self.new.link) }
         ensures cause { HasCause Talk.Pipe (L.faults self.old.link) (L.faults self.new.link) result }
         ensures steady { IsSteady L.steady L.faults self.old.link → self.old.owed ≡ Some owed → (commands : List Spec.Command) (checks : List Check) → Waits L.dialogue self.old commands checks → AreCommands commands → IsSteady L.steady L.faults self.new.link }
@@ -264,16 +284,16 @@ impl<L: Link> Dialogue<L> {
     /// Reads the reply to the open question.
     pub fn take(&mut self, alloc: Global) -> Result<Reply, Talk>
         requires { IsAsked self.old }
-        ensures reply { IfOk result (λ reply. (base : List Level) (path : List Written.Term) (condition : Written.Term) (commands : List Spec.Command) (checks : List Check)
-            → Asks L.dialogue base path condition self.old commands checks
-            → Stands L.dialogue base self.new (commands ++ Spec.Pop 1 ∷ []) (checks ++ check_of base path condition reply ∷ [])) }
+        ensures reply { IfOk result (λ reply. (certify : Bool) (functions : List Spec.Declared) (turns : List Turn) (path : List Written.Term) (condition : Written.Term) (checks : List Check)
+            → Awaits L.dialogue certify functions turns path condition self.old checks
+            → Stands L.dialogue certify functions (turns ++ Said.Asks path condition ∷ []) self.new (checks ++ check_of (base_of certify functions) path condition reply ∷ [])) }
         ensures free { IsFree self.new }
-        ensures fault { IfErr result (λ talk. (base : List Level) (path : List Written.Term) (condition : Written.Term) (commands : List Spec.Command) (checks : List Check)
-            → Asks L.dialogue base path condition self.old commands checks → AreCommands commands → Breaks talk (L.dialogue (link_of self.new)) checks) }
+        ensures fault { IfErr result (λ talk. (certify : Bool) (functions : List Spec.Declared) (turns : List Turn) (path : List Written.Term) (condition : Written.Term) (checks : List Check)
+            → Awaits L.dialogue certify functions turns path condition self.old checks → AreCommands (script certify functions (turns ++ Said.Posts path condition ∷ [])) → Breaks talk (script certify functions (turns ++ Said.Posts path condition ∷ [])) (L.dialogue (link_of self.new)) checks) }
         ensures grows { Grows (L.dialogue (link_of self.old)) (L.dialogue (link_of self.new)) }
         ensures cause { HasCause Talk.Pipe (L.faults (link_of self.old)) (L.faults (link_of self.new)) result }
-        ensures steady { IsSteady L.steady L.faults (link_of self.old) → (base : List Level) (path : List Written.Term) (condition : Written.Term) (commands : List Spec.Command) (checks : List Check)
-            → Asks L.dialogue base path condition self.old commands checks → AreCommands commands → IsSteady L.steady L.faults (link_of self.new) }
+        ensures steady { IsSteady L.steady L.faults (link_of self.old) → (certify : Bool) (functions : List Spec.Declared) (turns : List Turn) (path : List Written.Term) (condition : Written.Term) (checks : List Check)
+            → Awaits L.dialogue certify functions turns path condition self.old checks → AreCommands (script certify functions (turns ++ Said.Posts path condition ∷ [])) → IsSteady L.steady L.faults (link_of self.new) }
         ensures closed { (result ≡ Err Talk.Closed) ↔ (has_failed self.old ≡ true) }
         ensures failed { has_failed self.new ≡ is_err result }
     {
@@ -298,17 +318,15 @@ impl<L: Link> Dialogue<L> {
         condition: &Rc<Term>,
     ) -> Result<Reply, Talk>
         requires { IsFree self.old }
-        ensures reply { IfOk result (λ reply. (base : List Level) (commands : List Spec.Command) (checks : List Check) → Stands L.dialogue base self.old commands checks
-            → Stands L.dialogue base self.new
-            (((commands ++ question (is_in_member self.old) (map shared path.now) (shared condition.now)) ++ Spec.CheckSat ∷ []) ++ Spec.Pop 1 ∷ [])
-            (checks ++ check_of base (map shared path.now) (shared condition.now) reply ∷ [])) }
+        ensures reply { IfOk result (λ reply. (certify : Bool) (functions : List Spec.Declared) (turns : List Turn) (checks : List Check) → Stands L.dialogue certify functions turns self.old checks
+            → Stands L.dialogue certify functions (turns ++ Said.Asks (map shared path.now) (shared condition.now) ∷ []) self.new (checks ++ check_of (base_of certify functions) (map shared path.now) (shared condition.now) reply ∷ [])) }
         ensures free { IsFree self.new }
-        ensures fault { IfErr result (λ talk. (base : List Level) (commands : List Spec.Command) (checks : List Check) → Stands L.dialogue base self.old commands checks
-            → AreCommands (commands ++ question (is_in_member self.old) (map shared path.now) (shared condition.now)) → Breaks talk (L.dialogue (link_of self.new)) checks) }
+        ensures fault { IfErr result (λ talk. (certify : Bool) (functions : List Spec.Declared) (turns : List Turn) (checks : List Check) → Stands L.dialogue certify functions turns self.old checks
+            → AreCommands (script certify functions (turns ++ Said.Posts (map shared path.now) (shared condition.now) ∷ [])) → Breaks talk (script certify functions (turns ++ Said.Posts (map shared path.now) (shared condition.now) ∷ [])) (L.dialogue (link_of self.new)) checks) }
         ensures grows { Grows (L.dialogue (link_of self.old)) (L.dialogue (link_of self.new)) }
         ensures cause { HasCause Talk.Pipe (L.faults (link_of self.old)) (L.faults (link_of self.new)) result }
-        ensures steady { IsSteady L.steady L.faults (link_of self.old) → (base : List Level) (commands : List Spec.Command) (checks : List Check) → Stands L.dialogue base self.old commands checks
-            → AreCommands (commands ++ question (is_in_member self.old) (map shared path.now) (shared condition.now)) → IsSteady L.steady L.faults (link_of self.new) }
+        ensures steady { IsSteady L.steady L.faults (link_of self.old) → (certify : Bool) (functions : List Spec.Declared) (turns : List Turn) (checks : List Check) → Stands L.dialogue certify functions turns self.old checks
+            → AreCommands (script certify functions (turns ++ Said.Posts (map shared path.now) (shared condition.now) ∷ [])) → IsSteady L.steady L.faults (link_of self.new) }
         ensures closed { (result ≡ Err Talk.Closed) ↔ (has_failed self.old ≡ true) }
         ensures failed { has_failed self.new ≡ is_err result }
     {
@@ -319,8 +337,8 @@ impl<L: Link> Dialogue<L> {
     /// Ends the member. Nothing is sent before the next question.
     pub fn leave(&mut self, alloc: Global) -> Result<(), Talk>
         requires { IsFree self.old }
-        ensures stands { OnOk result ((base : List Level) (commands : List Spec.Command) (checks : List Check) → Stands L.dialogue base self.old commands checks
-            → Stands L.dialogue base self.new (commands ++ closing (is_in_member self.old)) checks) }
+        ensures stands { OnOk result ((certify : Bool) (functions : List Spec.Declared) (turns : List Turn) (checks : List Check) → Stands L.dialogue certify functions turns self.old checks
+            → Stands L.dialogue certify functions (turns ++ Said.Leaves ∷ []) self.new checks) }
         ensures left { OnOk result (is_in_member self.new ≡ false) }
         ensures free { IsFree self.new }
         ensures link { link_of self.new ≡ link_of self.old }

@@ -1,16 +1,12 @@
 // Laws of the definitions.
-ghost use Rattle.std.specs.Prelude.{ℕ, List};
-ghost use Rattle.vx_terms.specs.Sorts.{Sort};
-ghost use Rattle.vx_terms.specs.Terms.{Term};
-ghost use Rattle.vx_terms.specs.Interpretations.{Each};
-ghost use Rattle.vx_smt_meaning.specs.Commands.{Level, declared_in};
-ghost use Rattle.vx_smt_meaning.specs.declared.reply.Reply.{Reply};
-ghost use Rattle.vx_smt_meaning.specs.Over.{IsOver, IsWhole};
-ghost use Rattle.vx_dialogue.specs.Dialogue.{check_of};
+ghost use Rattle.std.specs.Prelude.{Bool, List, []};
+ghost use Rattle.vx_smt_meaning.specs.WellFormed.{IsWellFormed};
+ghost use Rattle.vx_dialogue.specs.Askable.{AreAskable};
+ghost use Rattle.vx_dialogue.specs.Scripts.{Turn, script};
 
-/// Where a question's terms use the preamble's symbols as they are declared, and each v at one sort,
-/// each symbol of what is asserted at its check is declared on a live level, with its sorts.
-pub fn symbols_are_declared()
-    ensures { (base : List Level) (sorts : ℕ → Sort) (path : List Term) (condition : Term) (reply : Reply) → Each (IsOver (declared_in base) sorts) path
-        → IsOver (declared_in base) sorts condition → IsWhole (check_of base path condition reply) }
+/// Where each question is over the standard symbols and symbols v, each v at one sort, and asserts what is of sort Bool,
+/// all that a dialogue says is well formed: names are spelled, each symbol is declared before it is used, with its sorts,
+/// and no live one is declared again; and no level is left that isn't open.
+pub fn scripts_are_well_formed()
+    ensures { (certify : Bool) (turns : List Turn) → AreAskable turns → IsWellFormed (script certify [] turns) }
 {}

@@ -11,7 +11,7 @@ mod symbols;
 mod talk;
 
 pub use dialogue::Dialogue;
-pub use laws::symbols_are_declared;
+pub use laws::scripts_are_well_formed;
 pub use talk::Talk;
 
 #[cfg(test)]

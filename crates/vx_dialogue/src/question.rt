@@ -3,7 +3,8 @@ ghost use Rattle.std.specs.Prelude.{◌≡◌, ◌∷◌, [], ◌++◌, OnOk, If
 ghost use Rattle.vx_smt_meaning.specs.Commands as Spec;
 ghost use Rattle.vx_smt_meaning.specs.Views.{command, declared_symbol};
 ghost use Rattle.vx_dialogue.specs.Preamble.{declarations};
-ghost use Rattle.vx_dialogue.specs.Dialogue.{shared, assertions, opening, question};
+ghost use Rattle.vx_dialogue.specs.Scripts.{assertions, opening, question};
+ghost use Rattle.vx_dialogue.specs.Dialogue.{shared};
 
 use crate::symbols::Variables;
 use std::alloc::{AllocError, Global};

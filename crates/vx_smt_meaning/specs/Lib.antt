@@ -8,3 +8,4 @@ pub mod Dialogues
 pub mod Symbols
 pub mod Over
 pub mod Standard
+pub mod WellFormed

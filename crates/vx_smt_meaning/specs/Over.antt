@@ -2,10 +2,8 @@
 use Rattle.std.specs.Prelude.{◌≡◌, ℕ, List, []}
 use Rattle.vx_terms.specs.Sorts.{Sort, Symbol, Standard, Function, Variable, Named}
 use Rattle.vx_terms.specs.Terms.{Term, Truth, Number, Part, Constant, Apply, Not, Binary, Ite, AllOf, SomeOf, Terms, NoTerms, MoreTerms}
-use Rattle.vx_terms.specs.Interpretations.{Each}
 use Rattle.vx_smt_meaning.specs.Commands.{Declared}
-use Rattle.vx_smt_meaning.specs.Dialogues.{Check}
-use Rattle.vx_smt_meaning.specs.Symbols.{declaration, Declares, sorts_of, UsesDeclared}
+use Rattle.vx_smt_meaning.specs.Symbols.{declaration, Declares, sorts_of}
 
 -- a v stands at its one sort; any other is of the base
 abbrev pub IsConstantOver : List Declared → (ℕ → Sort) → Symbol → Sort → Type 0
@@ -31,7 +29,3 @@ abbrev mutual
   pub AreOver : List Declared → (ℕ → Sort) → Terms → Type 0
   AreOver base sorts NoTerms = Unit {0}
   AreOver base sorts (MoreTerms t ts) = IsOver base sorts t × AreOver base sorts ts
-
--- each symbol of what is asserted is declared on a live level, with its sorts
-abbrev pub IsWhole : Check → Type 0
-IsWhole check = Each (UsesDeclared check.symbols) check.assertions

@@ -1,20 +1,22 @@
 -- How the checks of a lane's child are heard, from one call to the next.
-use Rattle.std.proofs.Common.{Bool, true, Result, Ok, Err, IfOk, IfErr, MatchResult, ◌≡◌, ℕ, ◌<◌, ◌≤◌, false, ◌++◌, ◌∷◌, [], List, refl, ap, ◌∙◌, sym, subst, inl, inr, ◌⊎◌, append_assoc, arith}
+use Rattle.std.proofs.Common.{Bool, true, Result, Ok, Err, is_err, IfOk, IfErr, OnOk, MatchResult, ◌≡◌, ℕ, ◌<◌, ◌≤◌, false, ◌++◌, ◌∷◌, [], List, refl, ap, ◌∙◌, sym, subst, inl, inr, ◌⊎◌, append_assoc, arith}
 use Rattle.vx_ends.specs.declared.piece.Piece.{Piece}
 use Rattle.vx_ends.specs.declared.piece.Ending.{Ending}
 use Rattle.vx_ends.specs.Causes.{Rose}
-use Rattle.vx_smt_meaning.specs.Commands.{Command, Level}
+use Rattle.vx_smt_meaning.specs.Commands.{Declared, stack_of}
 use Rattle.vx_smt_meaning.specs.Dialogues.{Check}
 use Rattle.vx_smt_meaning.specs.Names.{AreCommands}
 use Rattle.vx_smt_meaning.specs.declared.reply.Reply.{Reply}
 use Rattle.vx_dialogue.specs.declared.dialogue.Dialogue.{Dialogue}
 use Rattle.vx_dialogue.specs.declared.talk.Talk.{Talk}
 use Rattle.vx_dialogue.specs.declared.talk.Talk.TheVariants as talk
-use Rattle.vx_dialogue.specs.Dialogue.{Stands, link_of, check_of}
+use Rattle.vx_dialogue.specs.Scripts.{Turn, Asks, Posts, Leaves, preamble, posted, closing, said_of, script, is_inside_after}
+use Rattle.vx_dialogue.specs.Dialogue.{Gathers, Stands, link_of, base_of, check_of}
 use Rattle.vx_dialogue.specs.Stops.{Explains}
 use Rattle.vx_dialogue.specs.History.{Tells, Breaks}
 use Rattle.vx_dialogue.proofs.Joined.{append_none}
-use Rattle.vx_dialogue.proofs.History.{standing_tells, tells_failed}
+use Rattle.vx_dialogue.proofs.History.{standing_tells, tells_failed, tells_longer, breaks_longer}
+use Rattle.vx_dialogue.proofs.Levels.{script_more, script_none, inside_behind}
 use Rattle.vx_rules.specs.Trees.{Question}
 use Rattle.vx_report.specs.declared.run.Cause.{Cause}
 use Rattle.vx_report.specs.declared.run.Cause.TheVariants as cause
@@ -25,12 +27,17 @@ use Rattle.vx_verifier.specs.declared.lane.Child.TheVariants.{NotStarted, Talkin
 use Rattle.vx_terms.specs.Terms.{Term}
 use Rattle.vx_verifier.specs.Sequences.{IsCheckOf}
 use Rattle.vx_verifier.specs.Causes.{HasCauseOf}
-use Rattle.vx_verifier.specs.Headline.{IsRecorded}
+use Rattle.vx_verifier.specs.Headline.{IsRecorded, left_turn}
 use Rattle.vx_ends.specs.declared.piece.Start.{Start}
-use Rattle.vx_verifier.specs.Lanes.{Hears, HearsOf, IsCausedBy, Loses, trouble_of, Handed, Later, StartsWhere, IsFaultOf, is_fault, is_lost, is_started}
+use Rattle.vx_verifier.specs.Lanes.{AreSilent, tried_turn, Hears, HearsOf, IsCausedBy, Loses, trouble_of, Handed, Later, StartsWhere, IsFaultOf, is_fault, is_lost, is_started}
 use Rattle.vx_report.specs.declared.run.Verdict.{Verdict}
 use Rattle.vx_report.specs.Reports.{is_faulted}
 use Rattle.vx_verifier.proofs.Sequences.{check_is}
+
+abbrev pub is_talking : {L : Type 0} → Child L → Bool
+is_talking (Talking d) = true
+is_talking NotStarted = false
+is_talking Lost = false
 
 pub handed_itself : (xs : List Ending) → Handed xs xs
 handed_itself xs = record { more = []; is = sym (append_none xs) }
@@ -49,45 +56,80 @@ above_none f g rose = omega arith
 
 module _ {L : Type 0} (dialogue : L → List Piece) (before : List Ending) where
   -- the child is started, and its preamble is said
-  pub talks : (old new : List Ending) (d : Dialogue L) (checks : List Check) (base : List Level) (commands : List Command) → Stands dialogue base d commands [] → AreCommands commands
-      → new ≡ old → Hears dialogue before old NotStarted checks → Hears dialogue before new (Talking d) checks
-  talks old new d checks base commands stands named same heard =
-      (same ∙ heard.0, base, commands, subst (λ x. Stands dialogue base d commands x) (sym heard.1) stands, named)
-
-  -- no child is started
-  pub not_started : (failed : Bool) (old new : List Ending) (checks : List Check) → new ≡ old → Hears dialogue before old NotStarted checks → IsRecorded failed before new checks
-  not_started failed old new checks same heard = inl (same ∙ heard.0, heard.1)
+  pub talks : (old new : List Ending) (d : Dialogue L) (turns : List Turn) (checks : List Check) → Stands dialogue false [] [] d [] → AreCommands (preamble false [])
+      → new ≡ old → Hears dialogue before old NotStarted turns checks → Hears dialogue before new (Talking d) turns checks
+  talks old new d turns checks stands named same heard =
+      let silent = heard.2 in (
+        same ∙ heard.0,
+        record {
+          told = subst (λ x. Gathers dialogue d x checks) (sym silent.none) (subst (λ x. Gathers dialogue d (script false [] []) x) (sym heard.1) stands.told);
+          inside = stands.inside ∙ sym silent.outside;
+          levels = ap stack_of silent.none ∙ stands.levels;
+        },
+        subst AreCommands (sym (silent.none ∙ script_none false [])) named,
+      )
 
   -- a question is answered
-  pub answered : (old new : List Ending) (d d' : Dialogue L) (q : Question) (path : List Term) (r : Reply) (after : List Command → List Command) → path ≡ q.path
-      → ((commands : List Command) → AreCommands commands → AreCommands (after commands))
-      → ((base : List Level) (commands : List Command) (checks : List Check) → Stands dialogue base d commands checks
-      → Stands dialogue base d' (after commands) (checks ++ check_of base path q.condition r ∷ []))
-      → new ≡ old → (checks : List Check) → Hears dialogue before old (Talking d) checks → HearsOf dialogue before new (Talking d') checks q r
-  answered old new d d' q path r after is named step same checks heard = (
-    check_of heard.1 path q.condition r,
-    (same ∙ heard.0, heard.1, after heard.2, step heard.1 heard.2 checks heard.3, named heard.2 heard.4),
-    subst (λ x. IsCheckOf (record { question = q; reply = r }) (check_of heard.1 x q.condition r)) (sym is) (check_is heard.1 q r),
+  pub answered : (old new : List Ending) (d d' : Dialogue L) (q : Question) (path : List Term) (r : Reply) → path ≡ q.path
+      → ((turns : List Turn) → AreCommands (script false [] turns) → AreCommands (script false [] (turns ++ Asks path q.condition ∷ [])))
+      → ((certify : Bool) (functions : List Declared) (turns : List Turn) (checks : List Check) → Stands dialogue certify functions turns d checks
+      → Stands dialogue certify functions (turns ++ Asks path q.condition ∷ []) d' (checks ++ check_of (base_of certify functions) path q.condition r ∷ []))
+      → new ≡ old → (turns : List Turn) (checks : List Check) → Hears dialogue before old (Talking d) turns checks → HearsOf dialogue before new (Talking d') turns checks q r
+  answered old new d d' q path r is named step same turns checks heard = (
+    check_of (base_of false []) path q.condition r,
+    subst (λ x. Hears dialogue before new (Talking d') (turns ++ Asks x q.condition ∷ []) (checks ++ check_of (base_of false []) path q.condition r ∷ [])) is
+        (same ∙ heard.0, step false [] turns checks heard.1, named turns heard.2),
+    subst (λ x. IsCheckOf (record { question = q; reply = r }) (check_of (base_of false []) x q.condition r)) (sym is) (check_is (base_of false []) q r),
   )
 
   -- the member is left
-  pub left : (old new : List Ending) (child : Child L) (d d' : Dialogue L) (after : List Command → List Command) → child ≡ Talking d
-      → ((commands : List Command) → AreCommands commands → AreCommands (after commands))
-      → ((base : List Level) (commands : List Command) (checks : List Check) → Stands dialogue base d commands checks → Stands dialogue base d' (after commands) checks)
-      → new ≡ old → (checks : List Check) → Hears dialogue before old child checks → Hears dialogue before new (Talking d') checks
-  left old new child d d' after is named step same checks heard =
-      let h = subst (λ (x : Child L). Hears dialogue before old x checks) is heard in
-      (same ∙ h.0, h.1, after h.2, step h.1 h.2 checks h.3, named h.2 h.4)
+  pub left : (old new : List Ending) (child : Child L) (d d' : Dialogue L) → child ≡ Talking d
+      → ((turns : List Turn) → AreCommands (script false [] turns) → AreCommands (script false [] (turns ++ Leaves ∷ [])))
+      → ((certify : Bool) (functions : List Declared) (turns : List Turn) (checks : List Check) → Stands dialogue certify functions turns d checks
+      → Stands dialogue certify functions (turns ++ Leaves ∷ []) d' checks)
+      → new ≡ old → (turns : List Turn) (checks : List Check) → Hears dialogue before old child turns checks → Hears dialogue before new (Talking d') (turns ++ left_turn (is_lost child)) checks
+  left old new child d d' is named step same turns checks heard =
+      let h = subst (λ (x : Child L). Hears dialogue before old x turns checks) is heard in
+      let lost : left_turn (is_lost child) ≡ Leaves ∷ [] = ap (λ (x : Child L). left_turn (is_lost x)) is in
+      subst (λ x. Hears dialogue before new (Talking d') (turns ++ x) checks) (sym lost) (same ∙ h.0, step false [] turns checks h.1, named turns h.2)
+
+  -- where no child talks, nothing is said
+  pub left_otherwise : (now : List Ending) (child other : Child L) → child ≡ other → is_talking other ≡ false
+      → (turns : List Turn) (checks : List Check) → Hears dialogue before now child turns checks → Hears dialogue before now other (turns ++ left_turn (is_lost child)) checks
+  left_otherwise now child other is quiet turns checks heard =
+      subst (λ (x : Child L). Hears dialogue before now other (turns ++ left_turn (is_lost x)) checks) (sym is)
+      (by_child other quiet (subst (λ (x : Child L). Hears dialogue before now x turns checks) is heard))
+    where
+      by_child : (x : Child L) → is_talking x ≡ false → Hears dialogue before now x turns checks → Hears dialogue before now x (turns ++ left_turn (is_lost x)) checks
+      by_child NotStarted quiet heard = (
+        heard.0,
+        heard.1,
+        record {
+          none = script_more false [] turns Leaves ∙ (ap (λ x. script false [] turns ++ closing x) heard.2.outside ∙ (append_none (script false [] turns) ∙ heard.2.none));
+          outside = inside_behind turns Leaves;
+        },
+      )
+      by_child Lost quiet heard = subst (λ x. IsRecorded true before now x checks) (sym (append_none turns)) heard
+      by_child (Talking d) quiet heard = absurd (cc)
+
+  -- behind a fault no question is asked
+  pub spent_lost : (now : List Ending) (child : Child L) (f : ℕ) → child ≡ Lost → (turns : List Turn) (checks : List Check) (q : Question) → Hears dialogue before now child turns checks
+      → Loses before now f f (is_lost child) turns checks q (trouble.Fault cause.Spent)
+  spent_lost now child f is turns checks q heard =
+      let lost : is_lost child ≡ true = ap (λ (x : Child L). is_lost x) is in
+      let told = subst (λ (x : Child L). Hears dialogue before now x turns checks) is heard in
+      let same : turns ++ tried_turn (is_lost child) q ≡ turns = ap (λ b. turns ++ tried_turn b q) lost ∙ append_none turns in
+      (subst (λ x. IsRecorded true before now x checks) (sym same) told, lost)
 
   -- a link is handed back
-  pub recorded : (old new : List Ending) (d : Dialogue L) (e : Ending) (checks : List Check) → new ≡ old ++ e ∷ [] → e.lane ≡ 0
-      → e.dialogue ≡ dialogue (link_of d) → Hears dialogue before old (Talking d) checks → IsRecorded false before new checks
-  recorded old new d e checks is lane same heard =
+  pub recorded : (old new : List Ending) (d : Dialogue L) (e : Ending) (turns : List Turn) (checks : List Check) → new ≡ old ++ e ∷ [] → e.lane ≡ 0
+      → e.dialogue ≡ dialogue (link_of d) → Hears dialogue before old (Talking d) turns checks → IsRecorded false before new turns checks
+  recorded old new d e turns checks is lane same heard =
       inr (
         e,
         is ∙ ap (λ x. x ++ e ∷ []) heard.0,
         lane,
-        subst (λ x. Tells false x checks) (sym same) (standing_tells dialogue heard.1 d heard.2 checks heard.3),
+        subst (λ x. Tells false (script false [] turns) x checks) (sym same) (standing_tells dialogue false [] turns d checks heard.1),
       )
 
   -- why no reply came
@@ -100,26 +142,55 @@ module _ {L : Type 0} (dialogue : L → List Piece) (before : List Ending) where
   talk_causes new f g talk.Closed e is explained rose shut = absurd (shut refl)
 
   -- a call gives no reply, and the link is handed back
-  pub lost_by : (old new : List Ending) (f g : ℕ) (e : Ending) (t : Talk) (checks : List Check) → old ≡ before → new ≡ old ++ e ∷ [] → e.lane ≡ 0
-      → Breaks t e.dialogue checks → (t ≡ talk.Pipe → 0 < e.faults) → (t ≡ talk.Closed → ⊥) → Loses before new f g false checks (trouble_of t)
-  lost_by old new f g e t checks first is lane broken rose shut =
+  pub lost_by : (old new : List Ending) (f g : ℕ) (e : Ending) (t : Talk) (turns : List Turn) (q : Question) (checks : List Check) → old ≡ before → new ≡ old ++ e ∷ [] → e.lane ≡ 0
+      → Breaks t (script false [] (turns ++ Posts q.path q.condition ∷ [])) e.dialogue checks → (t ≡ talk.Pipe → 0 < e.faults) → (t ≡ talk.Closed → ⊥)
+      → Loses before new f g false turns checks q (trouble_of t)
+  lost_by old new f g e t turns q checks first is lane broken rose shut =
       let here = is ∙ ap (λ x. x ++ e ∷ []) first in
       (inr (e, here, lane, broken.told), talk_causes new f g t e here broken.explained rose shut)
 
-  pub at_child : (old : List Ending) (a b : Child L) → a ≡ b → (checks : List Check) → Hears dialogue before old a checks → Hears dialogue before old b checks
-  at_child old a b same checks heard = subst (λ (x : Child L). Hears dialogue before old x checks) same heard
+  pub at_child : (old : List Ending) (a b : Child L) → a ≡ b → (turns : List Turn) (checks : List Check) → Hears dialogue before old a turns checks → Hears dialogue before old b turns checks
+  at_child old a b same turns checks heard = subst (λ (x : Child L). Hears dialogue before old x turns checks) same heard
 
-pub lost_hears : {L : Type 0} (dialogue : L → List Piece) (before now : List Ending) (child : Child L) (checks : List Check) → is_lost child ≡ true
-    → IsRecorded true before now checks → Hears dialogue before now child checks
-lost_hears dialogue before now Lost checks lost heard = heard
-lost_hears dialogue before now NotStarted checks lost heard = cc
-lost_hears dialogue before now (Talking d) checks lost heard = cc
+-- where a child failed, more may be said
+pub recorded_longer : (before now : List Ending) (failed : Bool) (turns : List Turn) (t : Turn) (checks : List Check) → IsRecorded failed before now turns checks → IsRecorded true before now (turns ++ t ∷ []) checks
+recorded_longer before now failed turns t checks (inl none) = inl none
+recorded_longer before now failed turns t checks (inr some) =
+    inr (
+      some.0,
+      some.1,
+      some.2,
+      subst (λ x. Tells true x some.0.dialogue checks) (sym (script_more false [] turns t))
+          (tells_longer failed (script false [] turns) (said_of (is_inside_after turns) t) some.0.dialogue checks some.3),
+    )
+
+-- a started child whose preamble broke off
+pub preamble_breaks : (t : Talk) (turns : List Turn) (q : Question) (pieces : List Piece) (checks : List Check) → AreSilent turns → Breaks t (preamble false []) pieces checks
+    → Breaks t (script false [] (turns ++ Posts q.path q.condition ∷ [])) pieces checks
+preamble_breaks t turns q pieces checks silent broken =
+    subst (λ x. Breaks t x pieces checks) (sym (script_more false [] turns (Posts q.path q.condition)))
+    (breaks_longer t (script false [] turns) (posted (is_inside_after turns) q.path q.condition) pieces checks
+    (subst (λ x. Breaks t x pieces checks) (sym (silent.none ∙ script_none false [])) broken))
+
+pub lost_hears : {L : Type 0} (dialogue : L → List Piece) (before now : List Ending) (child : Child L) (turns : List Turn) (checks : List Check) → is_lost child ≡ true
+    → IsRecorded true before now turns checks → Hears dialogue before now child turns checks
+lost_hears dialogue before now Lost turns checks lost heard = heard
+lost_hears dialogue before now NotStarted turns checks lost heard = cc
+lost_hears dialogue before now (Talking d) turns checks lost heard = cc
 
 pub if_ok_at : {T E : Type 0} (r : Result T E) (P : T → Type 0) (x : T) → IfOk r P → r ≡ Ok x → P x
 if_ok_at r P x h is = subst (λ y. IfOk y P) is h
 
 pub if_err_at : {T E : Type 0} (r : Result T E) (P : E → Type 0) (x : E) → IfErr r P → r ≡ Err x → P x
 if_err_at r P x h is = subst (λ y. IfErr y P) is h
+
+pub on_ok_of : {T E : Type 0} (r : Result T E) (P : Type 0) → is_err r ≡ false → OnOk r P → P
+on_ok_of (Ok x) P fine h = h
+on_ok_of (Err e) P fine h = absurd (cc)
+
+pub match_ok_of : {T E : Type 0} (r : Result T E) (P Q : Type 0) → is_err r ≡ false → MatchResult r (λ _. P) (λ _. Q) → P
+match_ok_of (Ok x) P Q fine h = h
+match_ok_of (Err e) P Q fine h = absurd (cc)
 
 pub if_err_map : {T E : Type 0} (r : Result T E) (P Q : E → Type 0) → ((e : E) → P e → Q e) → IfErr r P → IfErr r Q
 if_err_map (Ok x) P Q f h = h
@@ -149,9 +220,9 @@ caused_earlier before now f g h earlier lost other same (trouble.Fault x) has = 
 caused_earlier before now f g h earlier lost other same trouble.Want has = has
 
 -- where a child failed, all may be answered as well
-pub lost_recorded : (before now : List Ending) (checks : List Check) → IsRecorded false before now checks → IsRecorded true before now checks
-lost_recorded before now checks (inl none) = inl none
-lost_recorded before now checks (inr some) = inr (some.0, some.1, some.2, tells_failed some.0.dialogue checks some.3)
+pub lost_recorded : (before now : List Ending) (turns : List Turn) (checks : List Check) → IsRecorded false before now turns checks → IsRecorded true before now turns checks
+lost_recorded before now turns checks (inl none) = inl none
+lost_recorded before now turns checks (inr some) = inr (some.0, some.1, some.2, tells_failed (script false [] turns) some.0.dialogue checks some.3)
 
 -- a lost child was started
 pub lost_started : {L : Type 0} (child : Child L) → is_lost child ≡ true → is_started child ≡ true

@@ -18,6 +18,7 @@ use Rattle.vx_rules.specs.Stack.{code}
 use Rattle.vx_machine.specs.Runs.{member_tree}
 use Rattle.vx_verifier.specs.Sequences.{AllUnsat, replies_to}
 use Rattle.vx_verifier.specs.Causes.{SomeEnding, EachEnding, HasCauseOf, NoCountRose, AllLawful}
+use Rattle.vx_verifier.proofs.Runs.{take_front, drop_front}
 use Rattle.vx_verifier.specs.Headline.{IsVerdictOf, AreTold, HasNoFault, HasNoLimit, IsComplete, sequence_of, walk_of}
 
 -- ---- no cause of a fault
@@ -94,14 +95,6 @@ by_unsat C e asked verdict.Limit has never fine below = absurd (below refl)
 by_unsat C e asked (verdict.Fault x) has never fine below = cc
 
 -- ---- the checks of a run among all
-
-drop_front : {A : Type 0} (xs ys : List A) → drop (length xs) (xs ++ ys) ≡ ys
-drop_front [] ys = refl
-drop_front (x ∷ xs) ys = drop_front xs ys
-
-take_front : {A : Type 0} (xs ys : List A) → take (length xs) (xs ++ ys) ≡ xs
-take_front [] ys = refl
-take_front (x ∷ xs) ys = ap (λ l. x ∷ l) (take_front xs ys)
 
 own_sequence : (r : MemberRun) (done own rest : List Check) → r.first ≡ length done → length own ≡ r.checks → sequence_of r (done ++ (own ++ rest)) ≡ own
 own_sequence r done own rest first count =

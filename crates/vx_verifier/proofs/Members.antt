@@ -1,17 +1,20 @@
 -- One member more is executed.
-use Rattle.std.proofs.Common.{◌≡◌, ℕ, ◌+◌, ◌≤◌, ◌||◌, Bool, false, ◌++◌, ◌∷◌, [], List, length, refl, ap, ◌∙◌, sym, subst, add-one, arith}
+use Rattle.std.proofs.Common.{◌≡◌, ℕ, zero, suc, ◌+◌, ◌<◌, ◌≤◌, ◌||◌, Bool, false, ◌++◌, ◌∷◌, [], List, length, refl, ap, ◌∙◌, sym, subst, add-one, arith}
+use Rattle.std.specs.List.{All}
+use Rattle.std.proofs.lemmas.List.Elements.{All-append}
 use Rattle.vx_ast.specs.Syntax.{Program}
 use Rattle.vx_smt_meaning.specs.Dialogues.{Check}
+use Rattle.vx_dialogue.specs.Scripts.{Turn}
 use Rattle.vx_ends.specs.declared.piece.Piece.{Piece}
 use Rattle.vx_ends.specs.declared.piece.Ending.{Ending}
 use Rattle.vx_report.specs.declared.run.MemberRun.{MemberRun}
-use Rattle.vx_report.specs.Reports.{is_faulted}
+use Rattle.vx_report.specs.Reports.{AreNamed, is_faulted}
 use Rattle.vx_verifier.specs.declared.lane.Child.{Child}
 use Rattle.vx_verifier.specs.Causes.{HasCauseOf}
-use Rattle.vx_verifier.specs.Headline.{IsTold, AreTold, IsRecorded, IsSpentAfter, Headline, has_question, some_ask, lost_after}
+use Rattle.vx_verifier.specs.Headline.{IsTold, AreTold, IsRecorded, IsSpentAfter, member_turns, turns_of, Headline, has_question, some_ask, lost_after}
 use Rattle.vx_verifier.specs.Lanes.{Hears, Later, Judges, Executes, is_lost, is_started}
 use Rattle.vx_verifier.proofs.Children.{handed_itself, cause_earlier}
-use Rattle.vx_verifier.proofs.Runs.{told_later, runs_later, runs_more}
+use Rattle.vx_verifier.proofs.Runs.{told_later, runs_later, runs_more, turns_more}
 use Rattle.vx_verifier.proofs.Questions.{one_longer}
 use Rattle.vx_verifier.proofs.Complete.{complete}
 
@@ -26,20 +29,28 @@ length_append (x ∷ xs) ys = let h = length_append xs ys in omega arith
 ask_more : (p : Program) (runs : List MemberRun) (r : MemberRun) → some_ask p (length (runs ++ r ∷ [])) ≡ (some_ask p (length runs) || has_question p (length runs))
 ask_more p runs r = ap (some_ask p) (one_longer runs r ∙ add-one (length runs))
 
+pub named_more : (p : Program) (runs : List MemberRun) (r : MemberRun) → AreNamed p runs → r.member.0 < length p → AreNamed p (runs ++ r ∷ [])
+named_more p runs r named below = All-append (λ (x : MemberRun). x.member.0 < length p) runs (r ∷ []) named one
+  where
+    one : All (λ (x : MemberRun). x.member.0 < length p) (r ∷ [])
+    one zero d h = below
+    one (suc n) d h = absurd (omega arith)
+
 module _ {L : Type 0} (dialogue : L → List Piece) (p : Program) (before : List Ending) where
-  pub executes_none : (f : ℕ) (child : Child L) → Hears dialogue before before child [] → is_lost child ≡ false → is_started child ≡ false → Executes dialogue p before before f f child 0 []
+  pub executes_none : (f : ℕ) (child : Child L) → Hears dialogue before before child [] [] → is_lost child ≡ false → is_started child ≡ false → Executes dialogue p before before f f child 0 []
   executes_none f child heard lost started = record { checks = []; heard = heard; count = refl; told = refl; lost = lost; started = started }
 
   pub executes_more : (mid new : List Ending) (f g h : ℕ) (child child' : Child L) (asked asked' : ℕ) (runs : List MemberRun) (r : MemberRun) (n : ℕ)
       → Executes dialogue p before mid f g child asked runs
-      → ((first : List Ending) (checks : List Check) → Hears dialogue first mid child checks
-      → Judges dialogue p n first new (HasCauseOf first new g h (is_lost child)) (is_lost child) child' checks r.checks r.verdict)
+      → ((first : List Ending) (turns : List Turn) (checks : List Check) → Hears dialogue first mid child turns checks
+      → Judges dialogue p n first new (HasCauseOf first new g h (is_lost child)) (is_lost child) child' turns (λ x. member_turns (is_lost child) p n x r.verdict) checks r.checks r.verdict)
       → Later mid new → f ≤ g → g ≤ h
       → r.member.0 ≡ n → n ≡ length runs → r.lane ≡ 0 → r.child ≡ 0 → r.first ≡ asked → asked' ≡ asked + r.checks
       → is_lost child' ≡ (is_lost child || is_faulted r.verdict) → is_started child' ≡ (is_started child || has_question p n)
       → Executes dialogue p before new f h child' asked' (runs ++ r ∷ [])
   executes_more mid new f g h child child' asked asked' runs r n so_far judge later earlier after member place lane number is count lost started =
-      let judged = judge before so_far.checks so_far.heard in
+      let turns = turns_of false p 0 runs so_far.checks in
+      let judged = judge before turns so_far.checks so_far.heard in
       let handed = later mid (handed_itself mid) in
       let told = subst (λ x. AreTold p before x f h false 0 0 runs so_far.checks) (sym handed.is)
       (runs_later p before mid handed.more f g h after false 0 0 runs so_far.checks so_far.told) in
@@ -53,9 +64,13 @@ module _ {L : Type 0} (dialogue : L → List Piece) (p : Program) (before : List
       let length_is = length_append so_far.checks judged.own in
       let known = so_far.count in
       let own_count = judged.count in
+      let number_is : 0 + length runs ≡ n = sym (place ∙ omega arith) in
+      let all_turns : turns_of false p 0 (runs ++ r ∷ []) (so_far.checks ++ judged.own) ≡ turns ++ member_turns (is_lost child) p n judged.own r.verdict =
+      turns_more p before new f h false 0 0 runs so_far.checks r judged.own told own_count
+      ∙ (ap (λ k. turns ++ member_turns (lost_after false runs) p k judged.own r.verdict) number_is ∙ ap (λ b. turns ++ member_turns b p n judged.own r.verdict) (sym so_far.lost)) in
       record {
         checks = so_far.checks ++ judged.own;
-        heard = judged.heard;
+        heard = subst (λ x. Hears dialogue before new child' x (so_far.checks ++ judged.own)) (sym all_turns) judged.heard;
         count = length_is ∙ omega arith;
         told = runs_more p before new f h false 0 0 runs so_far.checks r judged.own told (member ∙ (place ∙ omega arith)) lane number (is ∙ omega arith) own_count this spent;
         lost = lost ∙ (ap (λ x. x || is_faulted r.verdict) so_far.lost ∙ sym (lost_more false runs r));
@@ -65,7 +80,7 @@ module _ {L : Type 0} (dialogue : L → List Piece) (p : Program) (before : List
   -- the child is handed back
   pub headline : (mid new : List Ending) (f g h : ℕ) (child : Child L) (asked : ℕ) (runs : List MemberRun) → length runs ≡ length p
       → Executes dialogue p before mid f g child asked runs
-      → ((checks : List Check) → Hears dialogue before mid child checks → IsRecorded (is_lost child) before new checks)
+      → ((turns : List Turn) (checks : List Check) → Hears dialogue before mid child turns checks → IsRecorded (is_lost child) before new turns checks)
       → Later mid new → g ≤ h → Headline p before new f h runs
   headline mid new f g h child asked runs each so_far end later after =
       let handed = later mid (handed_itself mid) in
@@ -73,7 +88,7 @@ module _ {L : Type 0} (dialogue : L → List Piece) (p : Program) (before : List
       (runs_later p before mid handed.more f g h after false 0 0 runs so_far.checks so_far.told) in
       record {
         checks = so_far.checks;
-        recorded = subst (λ b. IsRecorded b before new so_far.checks) so_far.lost (end so_far.checks so_far.heard);
+        recorded = subst (λ b. IsRecorded b before new (turns_of false p 0 runs so_far.checks) so_far.checks) so_far.lost (end (turns_of false p 0 runs so_far.checks) so_far.checks so_far.heard);
         each = each;
         told = told;
         complete = complete p before new f h runs so_far.checks told;

@@ -1,5 +1,5 @@
 -- A member's questions, one by one, and its verdict at the end.
-use Rattle.std.proofs.Common.{◌≡◌, ℕ, ◌+◌, ◌<◌, ◌||◌, ◌⊎◌, inl, inr, Bool, true, false, ◌++◌, ◌∷◌, [], List, length, map, refl, ap, ◌∙◌, sym, subst, append_assoc, arith}
+use Rattle.std.proofs.Common.{◌≡◌, ℕ, ◌+◌, ◌<◌, ◌||◌, ◌⊎◌, inl, inr, Bool, true, false, ◌++◌, ◌∷◌, [], List, length, map, refl, ap, ◌∙◌, sym, subst, append_assoc, append-nil, arith}
 use Rattle.vx_ast.specs.Syntax.{Program}
 use Rattle.vx_smt_meaning.specs.Dialogues.{Check}
 use Rattle.vx_report.specs.declared.run.Cause.{Cause}
@@ -17,15 +17,18 @@ use Rattle.vx_machine.specs.Runs.{Told, EachAnswered, given, member_tree}
 use Rattle.vx_verifier.specs.Sequences.{IsCheckOf, AreChecksOf}
 use Rattle.vx_report.specs.declared.run.Cause.TheVariants as cause
 use Rattle.vx_verifier.specs.Causes.{HasCauseOf}
-use Rattle.vx_verifier.specs.Headline.{IsVerdictOf, IsTold, IsSpentAfter, is_open, has_question, walk_of}
+use Rattle.vx_verifier.specs.Headline.{IsVerdictOf, IsTold, IsSpentAfter, asks_of, failed_turn, left_turn, asked_turns, member_turns, is_open, has_question, walk_of}
 use Rattle.vx_ends.specs.declared.piece.Piece.{Piece}
 use Rattle.vx_ends.specs.declared.piece.Ending.{Ending as Ended}
 use Rattle.vx_machine.specs.declared.machine.Ask.{Ask}
 use Rattle.vx_verifier.specs.declared.lane.Child.{Child}
 use Rattle.vx_verifier.specs.declared.lane.Trouble.{Trouble}
 use Rattle.vx_verifier.specs.declared.lane.Trouble.TheVariants as trouble
-use Rattle.vx_verifier.specs.Lanes.{AreAsked, IsDue, is_started, verdict_of, Hears, HearsOf, IsRunning, IsFaultOf, IsCausedBy, Judges}
+use Rattle.vx_verifier.specs.Lanes.{AreAsked, turns_so_far, tried_turn, IsDue, is_lost, is_started, verdict_of, Hears, HearsOf, IsRunning, IsFaultOf, IsCausedBy, Judges}
 use Rattle.vx_verifier.specs.Steady.{IsSpelled, AllSpelled}
+use Rattle.vx_dialogue.specs.Scripts.{Turn, Asks}
+use Rattle.vx_report.specs.Reports.{is_faulted}
+use Rattle.vx_verifier.proofs.Children.{faulted_by}
 use Rattle.vx_verifier.proofs.Walks.{walk_extends}
 use Rattle.vx_verifier.proofs.Steady.{open_spelled}
 use Rattle.vx_verifier.proofs.Sequences.{checks_more, replies_more, never_fails}
@@ -33,6 +36,46 @@ use Rattle.vx_verifier.proofs.Sequences.{checks_more, replies_more, never_fails}
 map_length : {A B : Type 0} (f : A → B) (xs : List A) → length (map f xs) ≡ length xs
 map_length f [] = refl
 map_length f (x ∷ xs) = let h = map_length f xs in omega arith
+
+-- ---- the turns of a walk
+
+asks_more : (as' : List Answered) (a : Answered) → asks_of (as' ++ a ∷ []) ≡ asks_of as' ++ Asks a.question.path a.question.condition ∷ []
+asks_more [] a = refl
+asks_more (b ∷ as') a = ap (λ l. Asks b.question.path b.question.condition ∷ l) (asks_more as' a)
+
+pub no_turns : (p : Program) (m : Machine) → m.replies.items ≡ [] → turns_so_far p m ≡ []
+no_turns p m none =
+    let given_none : given m ≡ [] = none in
+    ap (λ rs. asks_of (walk (member_tree p m.member.0) rs).answered) given_none ∙ ap asks_of (walk_extends (member_tree p m.member.0)).none
+
+one_turn : (p : Program) (m m' : Machine) (q : Query) (r : Reply) → m'.member.0 ≡ m.member.0 → m'.replies.items ≡ m.replies.items ++ r ∷ []
+    → (walk (member_tree p m.member.0) (given m)).ending ≡ Open (query q) → turns_so_far p m' ≡ turns_so_far p m ++ Asks (query q).path (query q).condition ∷ []
+one_turn p m m' q r member replies due =
+    let t = member_tree p m.member.0 in
+    let given_is : given m' ≡ given m ++ r ∷ [] = replies in
+    ap (λ k. asks_of (walk (member_tree p k) (given m')).answered) member
+    ∙ (ap (λ rs. asks_of (walk t rs).answered) given_is
+    ∙ (ap asks_of ((walk_extends t).one_more (query q) (given m) r due) ∙ asks_more (walk t (given m)).answered (record { question = query q; reply = r })))
+
+-- those of the member's checks
+turns_are : (p : Program) (n : ℕ) (m : Machine) (own : List Check) → m.member.0 ≡ n → AreAsked p m own → turns_so_far p m ≡ asks_of (walk_of p n own).answered
+turns_are p n m own member so_far =
+    ap (λ k. asks_of (walk (member_tree p k) (given m)).answered) member ∙ ap (λ rs. asks_of (walk (member_tree p n) rs).answered) (sym so_far.replies)
+
+not_faulted : (o : Outcome) → is_faulted (verdict_of o) ≡ false
+not_faulted outcome.Passed = refl
+not_faulted (outcome.Failed place c r) = refl
+not_faulted (outcome.Limit n) = refl
+
+-- where nothing failed, no turn more
+none_failed : (lost : Bool) (e : Ending) (v : Verdict) → is_faulted v ≡ false → failed_turn lost e v ≡ []
+none_failed true e v fine = refl
+none_failed false e v fine = rw fine refl
+
+-- else the open question
+one_failed : (lost : Bool) (e : Ending) (v : Verdict) (q : Question) → is_faulted v ≡ true → e ≡ Open q → failed_turn lost e v ≡ tried_turn lost q
+one_failed true e v q fault is = refl
+one_failed false e v q fault is = rw (fault, is) refl
 
 pub none_asked : (p : Program) (m : Machine) → m.replies.items ≡ [] → AreAsked p m []
 none_asked p m none =
@@ -171,17 +214,22 @@ module _ {L : Type 0} (dialogue : L → List Piece) (p : Program) (n : ℕ) (bef
   pub at_done : (now : List Ended) (f g : ℕ) (lost : Bool) (child : Child L) (checks own : List Check) (m : Machine) (ask : Ask) (o : Outcome) (v : Verdict) (asked : ℕ)
       → IsRunning p n m ask → ask ≡ Done o → v ≡ verdict_of o → asked ≡ length m.replies.items
       → (lost ≡ true → m.replies.items ≡ [])
-      → Hears dialogue before now child (checks ++ own) → AreAsked p m own → Judges dialogue p n before now (HasCauseOf before now f g lost) lost child checks asked v
-  at_done now f g lost child checks own m ask o v asked running is verdict_is asked_is silent heard so_far =
+      → (turns : List Turn) → Hears dialogue before now child (turns ++ turns_so_far p m) (checks ++ own) → AreAsked p m own
+      → Judges dialogue p n before now (HasCauseOf before now f g lost) lost child turns (λ x. asked_turns lost p n x v) checks asked v
+  at_done now f g lost child checks own m ask o v asked running is verdict_is asked_is silent turns heard so_far =
       let HasCause : Cause → Type 0 = HasCauseOf before now f g lost in
       let done = subst (λ a. Told a (walk (member_tree p n) (given m)) 100000 (length m.replies.items)) is running.told in
       let count = told_count m ask own running so_far in
       let has = at_end HasCause o (walk (member_tree p n) (given m)) (length m.replies.items) (length own) done count in
       let told = judged p n m own HasCause v running.member so_far
       (subst (λ x. IsVerdictOf HasCause (walk (member_tree p n) (given m)).ending (length own) x) (sym verdict_is) has) in
+      let w = walk_of p n own in
+      let none = none_failed lost w.ending v (ap is_faulted verdict_is ∙ not_faulted o) in
+      let all : turns_so_far p m ≡ asked_turns lost p n own v =
+      turns_are p n m own running.member so_far ∙ (sym (append-nil (asks_of w.answered)) ∙ ap (λ x. asks_of w.answered ++ x) (sym none)) in
       record {
         own = own;
-        heard = heard;
+        heard = subst (λ x. Hears dialogue before now child (turns ++ x) (checks ++ own)) all heard;
         count = count ∙ sym asked_is;
         told = told;
         spent = spent_after p n before now f g lost own v told (λ h. count ∙ ap length (silent h));
@@ -193,8 +241,9 @@ module _ {L : Type 0} (dialogue : L → List Piece) (p : Program) (n : ℕ) (bef
 
   pub at_fault : (now : List Ended) (f g : ℕ) (lost : Bool) (child : Child L) (checks own : List Check) (m : Machine) (ask : Ask) (q : Query) (t : Trouble) (v : Verdict) (asked : ℕ)
       → IsRunning p n m ask → ask ≡ Due q → IsFaultOf t v → IsCausedBy (HasCauseOf before now f g lost) t → asked ≡ length m.replies.items → (lost ≡ true → m.replies.items ≡ [])
-      → Hears dialogue before now child (checks ++ own) → AreAsked p m own → Judges dialogue p n before now (HasCauseOf before now f g lost) lost child checks asked v
-  at_fault now f g lost child checks own m ask q t v asked running is fault caused asked_is silent heard so_far =
+      → (turns : List Turn) → Hears dialogue before now child ((turns ++ turns_so_far p m) ++ tried_turn lost (query q)) (checks ++ own) → AreAsked p m own
+      → Judges dialogue p n before now (HasCauseOf before now f g lost) lost child turns (λ x. asked_turns lost p n x v) checks asked v
+  at_fault now f g lost child checks own m ask q t v asked running is fault caused asked_is silent turns heard so_far =
       let HasCause : Cause → Type 0 = HasCauseOf before now f g lost in
       let due = subst (λ a. Told a (walk (member_tree p n) (given m)) 100000 (length m.replies.items)) is running.told in
       let count = told_count m ask own running so_far in
@@ -203,9 +252,15 @@ module _ {L : Type 0} (dialogue : L → List Piece) (p : Program) (n : ℕ) (bef
       let few : length own < 100000 = omega arith in
       let told = judged p n m own HasCause v running.member so_far
       (fault_verdict HasCause t v (walk (member_tree p n) (given m)).ending (length own) (query q) due.0 few fault caused) in
+      let w = walk_of p n own in
+      let ending : w.ending ≡ Open (query q) = ap (λ rs. (walk (member_tree p n) rs).ending) so_far.replies ∙ due.0 in
+      let last = one_failed lost w.ending v (query q) (faulted_by t v fault) ending in
+      let all : (turns ++ turns_so_far p m) ++ tried_turn lost (query q) ≡ turns ++ asked_turns lost p n own v =
+      append_assoc turns (turns_so_far p m) (tried_turn lost (query q))
+      ∙ ap (λ x. turns ++ x) (ap (λ x. x ++ tried_turn lost (query q)) (turns_are p n m own running.member so_far) ∙ ap (λ x. asks_of w.answered ++ x) (sym last)) in
       record {
         own = own;
-        heard = heard;
+        heard = subst (λ x. Hears dialogue before now child x (checks ++ own)) all heard;
         count = count ∙ sym asked_is;
         told = told;
         spent = spent_after p n before now f g lost own v told (λ h. count ∙ ap length (silent h));
@@ -213,18 +268,55 @@ module _ {L : Type 0} (dialogue : L → List Piece) (p : Program) (n : ℕ) (bef
 
   pub goes_on : (now : List Ended) (child : Child L) (checks own : List Check) (m m' : Machine) (ask ask' : Ask) (q : Query) (r : Reply)
       → IsRunning p n m ask → ask ≡ Due q → IsRunning p m.member.0 m' ask' → m'.replies.items ≡ m.replies.items ++ r ∷ [] → AreAsked p m own
-      → HearsOf dialogue before now child (checks ++ own) (query q) r
-      → (own' : List Check) × Hears dialogue before now child (checks ++ own') × AreAsked p m' own'
-  goes_on now child checks own m m' ask ask' q r running is next replies so_far more =
+      → (turns : List Turn) → HearsOf dialogue before now child (turns ++ turns_so_far p m) (checks ++ own) (query q) r
+      → (own' : List Check) × Hears dialogue before now child (turns ++ turns_so_far p m') (checks ++ own') × AreAsked p m' own'
+  goes_on now child checks own m m' ask ask' q r running is next replies so_far turns more =
       let due = subst (λ a. Told a (walk (member_tree p n) (given m)) 100000 (length m.replies.items)) is running.told in
-      let ending = subst (λ k. (walk (member_tree p k) (given m)).ending ≡ Open (query q)) (sym running.member) due.0 in (
+      let ending = subst (λ k. (walk (member_tree p k) (given m)).ending ≡ Open (query q)) (sym running.member) due.0 in
+      let asked : (turns ++ turns_so_far p m) ++ Asks (query q).path (query q).condition ∷ [] ≡ turns ++ turns_so_far p m' =
+      append_assoc turns (turns_so_far p m) (Asks (query q).path (query q).condition ∷ []) ∙ ap (λ x. turns ++ x) (sym (one_turn p m m' q r next.member replies ending)) in (
         own ++ more.0 ∷ [],
-        subst (λ x. Hears dialogue before now child x) (append_assoc checks own (more.0 ∷ [])) more.1,
+        subst (λ x. Hears dialogue before now child (turns ++ turns_so_far p m') x) (append_assoc checks own (more.0 ∷ []))
+            (subst (λ x. Hears dialogue before now child x ((checks ++ own) ++ more.0 ∷ [])) asked more.1),
         one_asked p m m' q r own more.0 next.member replies ending so_far more.2,
       )
 
+  -- the member is left
+  pub leaves : (now : List Ended) (HasCause : Cause → Type 0) (lost : Bool) (child child' : Child L) (turns : List Turn) (checks : List Check) (asked : ℕ) (v : Verdict)
+      → Judges dialogue p n before now HasCause lost child turns (λ x. asked_turns lost p n x v) checks asked v → is_lost child ≡ (lost || is_faulted v)
+      → ((turns : List Turn) (checks : List Check) → Hears dialogue before now child turns checks → Hears dialogue before now child' (turns ++ left_turn (is_lost child)) checks)
+      → Judges dialogue p n before now HasCause lost child' turns (λ x. member_turns lost p n x v) checks asked v
+  leaves now HasCause lost child child' turns checks asked v judged gone left =
+      let said = asked_turns lost p n judged.own v in
+      let all : (turns ++ said) ++ left_turn (is_lost child) ≡ turns ++ member_turns lost p n judged.own v =
+      append_assoc turns said (left_turn (is_lost child)) ∙ ap (λ b. turns ++ (said ++ left_turn b)) gone in
+      record {
+        own = judged.own;
+        heard = subst (λ x. Hears dialogue before now child' x (checks ++ judged.own)) all (left (turns ++ said) (checks ++ judged.own) judged.heard);
+        count = judged.count;
+        told = judged.told;
+        spent = judged.spent;
+      }
+
+  pub judges_at : (now later : List Ended) (f g h : ℕ) (lost : Bool) (child child' : Child L) (turns : List Turn) (checks : List Check) (asked : ℕ) (v : Verdict) → now ≡ later → g ≡ h
+      → Judges dialogue p n before now (HasCauseOf before now f g lost) lost child turns (λ x. asked_turns lost p n x v) checks asked v → is_lost child ≡ (lost || is_faulted v)
+      → ((turns : List Turn) (checks : List Check) → Hears dialogue before now child turns checks → Hears dialogue before later child' (turns ++ left_turn (is_lost child)) checks)
+      → Judges dialogue p n before later (HasCauseOf before later f h lost) lost child' turns (λ x. member_turns lost p n x v) checks asked v
+  judges_at now later f g h lost child child' turns checks asked v same faults judged gone left =
+      subst (λ k. Judges dialogue p n before later (HasCauseOf before later f k lost) lost child' turns (λ x. member_turns lost p n x v) checks asked v) faults
+      (subst (λ e. Judges dialogue p n before e (HasCauseOf before e f g lost) lost child' turns (λ x. member_turns lost p n x v) checks asked v) same
+      (leaves now (HasCauseOf before now f g lost) lost child child' turns checks asked v judged gone
+      (λ turns checks heard. subst (λ e. Hears dialogue before e child' (turns ++ left_turn (is_lost child)) checks) (sym same) (left turns checks heard))))
+
   pub still_running : (m m' : Machine) (ask ask' : Ask) → IsRunning p n m ask → IsRunning p m.member.0 m' ask' → IsRunning p n m' ask'
   still_running m m' ask ask' running next = subst (λ k. IsRunning p k m' ask') running.member next
+
+-- before its first question
+pub hears_none : {L : Type 0} (dialogue : L → List Piece) (before now : List Ended) (child : Child L) (turns : List Turn) (checks : List Check) (more : List Turn) → more ≡ []
+    → Hears dialogue before now child turns checks → Hears dialogue before now child (turns ++ more) (checks ++ [])
+hears_none dialogue before now child turns checks more none heard =
+    subst (λ x. Hears dialogue before now child x (checks ++ [])) (sym (ap (λ x. turns ++ x) none ∙ append-nil turns))
+    (subst (λ x. Hears dialogue before now child turns x) (sym (append-nil checks)) heard)
 
 pub one_longer : {A : Type 0} (xs : List A) (x : A) → length (xs ++ x ∷ []) ≡ length xs + 1
 one_longer [] x = refl

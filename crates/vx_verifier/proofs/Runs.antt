@@ -1,5 +1,5 @@
 -- The runs of a program's members, as one more is told.
-use Rattle.std.proofs.Common.{◌≡◌, ℕ, ◌+◌, ◌≤◌, ◌||◌, Bool, ◌++◌, ◌∷◌, [], List, length, refl, ap, ◌∙◌, sym, subst, append_assoc, append-nil, length-append, arith}
+use Rattle.std.proofs.Common.{◌≡◌, ℕ, ◌+◌, ◌≤◌, ◌||◌, Bool, ◌++◌, ◌∷◌, [], List, length, take, drop, refl, ap, ◌∙◌, sym, subst, append_assoc, append-nil, length-append, arith}
 use Rattle.vx_ast.specs.Syntax.{Program}
 use Rattle.vx_smt_meaning.specs.Dialogues.{Check}
 use Rattle.vx_ends.specs.declared.piece.Ending.{Ending}
@@ -12,7 +12,7 @@ use Rattle.vx_report.specs.declared.run.MemberRun.{MemberRun}
 use Rattle.vx_report.specs.Reports.{is_faulted}
 use Rattle.vx_rules.specs.Trees.{Ending as Ends}
 use Rattle.vx_verifier.specs.Causes.{SomeEnding, HasCauseOf}
-use Rattle.vx_verifier.specs.Headline.{IsVerdictOf, IsTold, AreTold, IsSpentAfter, lost_after, walk_of}
+use Rattle.vx_verifier.specs.Headline.{IsVerdictOf, IsTold, AreTold, IsSpentAfter, member_turns, turns_of, lost_after, walk_of}
 
 -- Causes stay causes as links are handed back and counts rise.
 
@@ -98,3 +98,46 @@ module _ (p : Program) (before now : List Ending) (f g : ℕ) where
         (subst (λ k. IsTold p k (HasCauseOf before now f g (lost_after (lost || is_faulted r'.verdict) runs)) own r.verdict) (omega arith) this)
         (subst (λ k. IsSpentAfter (lost_after (lost || is_faulted r'.verdict) runs) p k own r.verdict) (omega arith) spent),
   )
+
+-- ---- all turns
+
+pub drop_front : {A : Type 0} (xs ys : List A) → drop (length xs) (xs ++ ys) ≡ ys
+drop_front [] ys = refl
+drop_front (x ∷ xs) ys = drop_front xs ys
+
+pub take_front : {A : Type 0} (xs ys : List A) → take (length xs) (xs ++ ys) ≡ xs
+take_front [] ys = refl
+take_front (x ∷ xs) ys = ap (λ l. x ∷ l) (take_front xs ys)
+
+own_front : (k : ℕ) (checks own rest : List Check) → checks ≡ own ++ rest → length own ≡ k → (take k checks ≡ own) × (drop k checks ≡ rest)
+own_front k checks own rest is count = (
+  ap (λ n. take n checks) (sym count) ∙ (ap (take (length own)) is ∙ take_front own rest),
+  ap (λ n. drop n checks) (sym count) ∙ (ap (drop (length own)) is ∙ drop_front own rest),
+)
+
+-- those of one member more
+module _ (p : Program) (before now : List Ending) (f g : ℕ) where
+  pub turns_more : (lost : Bool) (n first : ℕ) (runs : List MemberRun) (checks : List Check) (r : MemberRun) (own : List Check)
+      → AreTold p before now f g lost n first runs checks → length own ≡ r.checks
+      → turns_of lost p n (runs ++ r ∷ []) (checks ++ own) ≡ turns_of lost p n runs checks ++ member_turns (lost_after lost runs) p (n + length runs) own r.verdict
+  turns_more lost n first [] checks r own told count =
+      let mine = own_front r.checks (checks ++ own) own [] (ap (λ x. x ++ own) told ∙ sym (append-nil own)) count in
+      let place : n ≡ n + 0 = omega arith in
+      append-nil (member_turns lost p n (take r.checks (checks ++ own)) r.verdict)
+      ∙ (ap (λ x. member_turns lost p n x r.verdict) mine.0 ∙ ap (λ k. member_turns lost p k own r.verdict) place)
+  turns_more lost n first (r' ∷ runs) checks r own told count =
+      let here = own_front r'.checks checks told.4 told.5 told.6 told.7 in
+      let longer = own_front r'.checks (checks ++ own) told.4 (told.5 ++ own) (ap (λ x. x ++ own) told.6 ∙ append_assoc told.4 told.5 own) told.7 in
+      let gone = lost || is_faulted r'.verdict in
+      let rest = turns_more gone (n + 1) (first + length told.4) runs told.5 r own told.10 count in
+      let last = member_turns (lost_after gone runs) p (n + length (r' ∷ runs)) own r.verdict in
+      let place : (n + 1) + length runs ≡ n + length (r' ∷ runs) = omega arith in
+      let ours = member_turns lost p n told.4 r'.verdict in
+      let later = turns_of gone p (n + 1) runs told.5 in
+      let left_is : turns_of lost p n (r' ∷ (runs ++ r ∷ [])) (checks ++ own) ≡ ours ++ (later ++ last) =
+      ap (λ x. member_turns lost p n x r'.verdict ++ turns_of gone p (n + 1) (runs ++ r ∷ []) (drop r'.checks (checks ++ own))) longer.0
+      ∙ (ap (λ x. ours ++ turns_of gone p (n + 1) (runs ++ r ∷ []) x) longer.1
+      ∙ (ap (λ x. ours ++ x) rest ∙ ap (λ k. ours ++ (later ++ member_turns (lost_after gone runs) p k own r.verdict)) place)) in
+      let right_is : turns_of lost p n (r' ∷ runs) checks ≡ ours ++ later =
+      ap (λ x. member_turns lost p n x r'.verdict ++ turns_of gone p (n + 1) runs (drop r'.checks checks)) here.0 ∙ ap (λ x. ours ++ turns_of gone p (n + 1) runs x) here.1 in
+      left_is ∙ (sym (append_assoc ours later last) ∙ ap (λ x. x ++ last) (sym right_is))

@@ -11,7 +11,7 @@ use Rattle.vx_terms.specs.Interpretations.{Each}
 use Rattle.vx_smt_meaning.specs.Commands.{Declared, Assert, Push}
 use Rattle.vx_smt_meaning.specs.Names.{IsName, IsSortName, AreNames, AllAreNames, AreCommands}
 use Rattle.vx_dialogue.specs.Preamble.{declarations}
-use Rattle.vx_dialogue.specs.Dialogue.{assertions, symbols_of}
+use Rattle.vx_dialogue.specs.Scripts.{assertions, symbols_of}
 use Rattle.vx_dialogue.specs.Symbols.{variable, declares, with_variable, with_symbol, with_variables, with_all_variables, with_listed}
 use Rattle.vx_dialogue.proofs.Steady.{commands_join}
 use Rattle.vx_rules.specs.Trees.{Question, Tree, End, On, Step, Ask, Probe, Fork}

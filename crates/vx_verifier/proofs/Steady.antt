@@ -5,15 +5,17 @@ use Rattle.vx_terms.specs.Interpretations.{Each}
 use Rattle.vx_ends.specs.declared.piece.Piece.{Piece}
 use Rattle.vx_ends.specs.declared.piece.Ending.{Ending}
 use Rattle.vx_ends.specs.Causes.{Rose}
-use Rattle.vx_smt_meaning.specs.Commands.{Command, CheckSat, Pop, Level}
+use Rattle.vx_smt_meaning.specs.Commands.{Declared, CheckSat, Pop}
 use Rattle.vx_smt_meaning.specs.Dialogues.{Check}
 use Rattle.vx_smt_meaning.specs.Names.{AreCommands}
 use Rattle.vx_smt_meaning.specs.declared.reply.Reply.{Reply}
 use Rattle.vx_smt_meaning.specs.declared.reply.Reply.TheVariants.{Unsat, Sat, Unknown}
 use Rattle.vx_dialogue.specs.declared.dialogue.Dialogue.{Dialogue}
-use Rattle.vx_dialogue.specs.Dialogue.{Stands, link_of, question, closing, preamble, is_in_member, check_of}
+use Rattle.vx_dialogue.specs.Scripts.{Turn, Asks, Posts, Leaves, question, posted, closing, script, is_inside_after}
+use Rattle.vx_dialogue.specs.Dialogue.{Stands, link_of, base_of, check_of}
 use Rattle.vx_dialogue.specs.Steady.{IsSteady}
 use Rattle.vx_dialogue.proofs.Joined.{append_none}
+use Rattle.vx_dialogue.proofs.Levels.{script_none, script_more, script_asked}
 use Rattle.vx_dialogue.proofs.Steady.{commands_join, preamble_named, question_named, closing_named}
 use Rattle.vx_rules.specs.Trees.{Question, Tree, End, On, Step, Ask, Probe, Fork, Walked, Open, walk, walk_then, passed}
 use Rattle.vx_verifier.specs.declared.lane.Child.{Child}
@@ -26,22 +28,26 @@ each_more P [] e all one = (one, tt)
 each_more P (x ∷ xs) e all one = (all.0, each_more P xs e all.1 one)
 
 -- the names in what was said, and a question more
-pub said_named : (m : Bool) (path : List Term) (q : Question) (commands : List Command) → path ≡ q.path → IsSpelled q → AreCommands commands
-    → AreCommands (commands ++ question m path q.condition)
-said_named m path q commands is spelled named =
-    commands_join commands (question m path q.condition) named
-    (question_named m path q.condition (subst (λ x. AreCommands (question false x q.condition)) (sym is) spelled))
+pub said_named : (turns : List Turn) (path : List Term) (q : Question) → path ≡ q.path → IsSpelled q → AreCommands (script false [] turns)
+    → AreCommands (script false [] (turns ++ Posts path q.condition ∷ []))
+said_named turns path q is spelled named =
+    let inside = is_inside_after turns in
+    let asked = question_named inside path q.condition (subst (λ x. AreCommands (question false x q.condition)) (sym is) spelled) in
+    subst AreCommands (sym (script_more false [] turns (Posts path q.condition)))
+    (commands_join (script false [] turns) (posted inside path q.condition) named (commands_join (question inside path q.condition) (CheckSat ∷ []) asked (tt, tt)))
 
 -- and it is asked
-pub asked_named : (m : Bool) (path : List Term) (q : Question) (commands : List Command) → path ≡ q.path → IsSpelled q → AreCommands commands
-    → AreCommands (((commands ++ question m path q.condition) ++ CheckSat ∷ []) ++ Pop 1 ∷ [])
-asked_named m path q commands is spelled named =
-    let said = commands ++ question m path q.condition in
-    commands_join (said ++ CheckSat ∷ []) (Pop 1 ∷ []) (commands_join said (CheckSat ∷ []) (said_named m path q commands is spelled named) (tt, tt)) (tt, tt)
+pub asked_named : (turns : List Turn) (path : List Term) (q : Question) → path ≡ q.path → IsSpelled q → AreCommands (script false [] turns)
+    → AreCommands (script false [] (turns ++ Asks path q.condition ∷ []))
+asked_named turns path q is spelled named =
+    subst AreCommands (sym (script_asked false [] turns path q.condition))
+    (commands_join (script false [] (turns ++ Posts path q.condition ∷ [])) (Pop 1 ∷ []) (said_named turns path q is spelled named) (tt, tt))
 
 -- the member is left
-pub left_named : (m : Bool) (commands : List Command) → AreCommands commands → AreCommands (commands ++ closing m)
-left_named m commands named = commands_join commands (closing m) named (closing_named m)
+pub left_named : (turns : List Turn) → AreCommands (script false [] turns) → AreCommands (script false [] (turns ++ Leaves ∷ []))
+left_named turns named =
+    subst AreCommands (sym (script_more false [] turns Leaves))
+    (commands_join (script false [] turns) (closing (is_inside_after turns)) named (closing_named (is_inside_after turns)))
 
 module _ {L : Type 0} (dialogue : L → List Piece) (steady_link : L → Bool) (faults_of : L → ℕ) (before : List Ending) (count : ℕ) where
   abbrev Calm : (now : List Ending) (steady : Bool) (faults : ℕ) → Child L → Type 0
@@ -75,46 +81,43 @@ module _ {L : Type 0} (dialogue : L → List Piece) (steady_link : L → Bool) (
   calm_at now s f a b is calm = subst (λ (x : Child L). Calm now s f x) is calm
 
   -- a child talks, with its preamble said
-  pub opened : (d : Dialogue L) (base : List Level) → IsSteady steady_link faults_of (link_of d) → Stands dialogue base d (preamble false []) []
+  pub opened : (d : Dialogue L) → IsSteady steady_link faults_of (link_of d) → Stands dialogue false [] [] d []
       → IsSteadyChild dialogue steady_link faults_of (Talking d)
-  opened d base steady stands = (steady, base, preamble false [], [], stands, preamble_named)
+  opened d steady stands = (steady, [], [], stands, subst AreCommands (sym (script_none false [])) preamble_named)
 
   -- a question keeps its link steady
   pub asks_steady : (d : Dialogue L) (link : L) (q : Question) (path : List Term) → path ≡ q.path → IsSpelled q
-      → (IsSteady steady_link faults_of (link_of d) → (base : List Level) (commands : List Command) (checks : List Check) → Stands dialogue base d commands checks
-      → AreCommands (commands ++ question (is_in_member d) path q.condition) → IsSteady steady_link faults_of link)
+      → (IsSteady steady_link faults_of (link_of d) → (certify : Bool) (functions : List Declared) (turns : List Turn) (checks : List Check) → Stands dialogue certify functions turns d checks
+      → AreCommands (script certify functions (turns ++ Posts path q.condition ∷ [])) → IsSteady steady_link faults_of link)
       → IsSteadyChild dialogue steady_link faults_of (Talking d) → IsSteady steady_link faults_of link
-  asks_steady d link q path is spelled on child = on child.0 child.1 child.2 child.3 child.4 (said_named (is_in_member d) path q child.2 is spelled child.5)
+  asks_steady d link q path is spelled on child = on child.0 false [] child.1 child.2 child.3 (said_named child.1 path q is spelled child.4)
 
   -- and is answered
   pub asked_steady : (d d' : Dialogue L) (q : Question) (path : List Term) (r : Reply) → path ≡ q.path → IsSpelled q
-      → (IsSteady steady_link faults_of (link_of d) → (base : List Level) (commands : List Command) (checks : List Check) → Stands dialogue base d commands checks
-      → AreCommands (commands ++ question (is_in_member d) path q.condition) → IsSteady steady_link faults_of (link_of d'))
-      → ((base : List Level) (commands : List Command) (checks : List Check) → Stands dialogue base d commands checks
-      → Stands dialogue base d' (((commands ++ question (is_in_member d) path q.condition) ++ CheckSat ∷ []) ++ Pop 1 ∷ []) (checks ++ check_of base path q.condition r ∷ []))
+      → (IsSteady steady_link faults_of (link_of d) → (certify : Bool) (functions : List Declared) (turns : List Turn) (checks : List Check) → Stands dialogue certify functions turns d checks
+      → AreCommands (script certify functions (turns ++ Posts path q.condition ∷ [])) → IsSteady steady_link faults_of (link_of d'))
+      → ((certify : Bool) (functions : List Declared) (turns : List Turn) (checks : List Check) → Stands dialogue certify functions turns d checks
+      → Stands dialogue certify functions (turns ++ Asks path q.condition ∷ []) d' (checks ++ check_of (base_of certify functions) path q.condition r ∷ []))
       → IsSteadyChild dialogue steady_link faults_of (Talking d) → IsSteadyChild dialogue steady_link faults_of (Talking d')
-  asked_steady d d' q path r is spelled on answer child =
-      let named = said_named (is_in_member d) path q child.2 is spelled child.5 in
-      let said = child.2 ++ question (is_in_member d) path q.condition in (
-        on child.0 child.1 child.2 child.3 child.4 named,
-        child.1,
-        (said ++ CheckSat ∷ []) ++ Pop 1 ∷ [],
-        child.3 ++ check_of child.1 path q.condition r ∷ [],
-        answer child.1 child.2 child.3 child.4,
-        asked_named (is_in_member d) path q child.2 is spelled child.5,
-      )
+  asked_steady d d' q path r is spelled on answer child = (
+    on child.0 false [] child.1 child.2 child.3 (said_named child.1 path q is spelled child.4),
+    child.1 ++ Asks path q.condition ∷ [],
+    child.2 ++ check_of (base_of false []) path q.condition r ∷ [],
+    answer false [] child.1 child.2 child.3,
+    asked_named child.1 path q is spelled child.4,
+  )
 
   -- the member is left
   pub left_steady : (d d' : Dialogue L) → link_of d' ≡ link_of d
-      → ((base : List Level) (commands : List Command) (checks : List Check) → Stands dialogue base d commands checks → Stands dialogue base d' (commands ++ closing (is_in_member d)) checks)
+      → ((certify : Bool) (functions : List Declared) (turns : List Turn) (checks : List Check) → Stands dialogue certify functions turns d checks
+      → Stands dialogue certify functions (turns ++ Leaves ∷ []) d' checks)
       → IsSteadyChild dialogue steady_link faults_of (Talking d) → IsSteadyChild dialogue steady_link faults_of (Talking d')
   left_steady d d' same on child = (
     subst (IsSteady steady_link faults_of) (sym same) child.0,
-    child.1,
-    child.2 ++ closing (is_in_member d),
-    child.3,
-    on child.1 child.2 child.3 child.4,
-    left_named (is_in_member d) child.2 child.5,
+    child.1 ++ Leaves ∷ [],
+    child.2,
+    on false [] child.1 child.2 child.3,
+    left_named child.1 child.4,
   )
 
   -- the spawner is steady at first

@@ -1,6 +1,6 @@
 -- What the runs of a program's members promise: each verdict is that of the walk over the replies that the record of
 -- the child's link tells, and a member that is verified by right replies fails at no place.
-use Rattle.std.specs.Prelude.{◌≡◌, ◌⊎◌, ℕ, zero, suc, ◌+◌, ◌<◌, ◌||◌, ⊤, Bool, true, false, List, [], ◌∷◌, ◌++◌, Some, length, take, drop, slice_get}
+use Rattle.std.specs.Prelude.{◌≡◌, ◌⊎◌, ℕ, zero, suc, ◌+◌, ◌<◌, ◌||◌, ⊤, Bool, true, false, List, [], ◌∷◌, ◌++◌, Some, length, take, drop, slice_get, if◌then◌else◌}
 use Rattle.vx_ast.specs.declared.Place.{Place}
 use Rattle.vx_ast.specs.Syntax.{Program, Member, Method, IsMethod}
 use Rattle.vx_terms.specs.Interpretations.{Each}
@@ -10,7 +10,8 @@ use Rattle.vx_types.specs.StoreLanguage.{IsStoreMethod}
 use Rattle.vx_smt_meaning.specs.Dialogues.{Check}
 use Rattle.vx_ends.specs.declared.piece.Ending.{Ending}
 use Rattle.vx_dialogue.specs.History.{Tells}
-use Rattle.vx_rules.specs.Trees.{Question, Ending as Ends, Passed, Failed, Open, Walked, walk}
+use Rattle.vx_dialogue.specs.Scripts.{Turn, Asks, Posts, Leaves, script}
+use Rattle.vx_rules.specs.Trees.{Question, Answered, Ending as Ends, Passed, Failed, Open, Walked, walk}
 use Rattle.vx_rules.specs.Stack.{code}
 use Rattle.vx_machine.specs.Runs.{member_tree}
 use Rattle.vx_report.specs.declared.run.Cause.{Cause}
@@ -83,15 +84,51 @@ module _ (p : Program) (before now : List Ending) (faults_then faults_now : ℕ)
       × IsSpentAfter lost p n own r.verdict
       × AreTold (lost || is_faulted r.verdict) (n + 1) (first + length own) runs rest
 
+-- the questions that a walk answered, as a dialogue asks them
+abbrev pub asks_of : List Answered → List Turn
+asks_of [] = []
+asks_of (a ∷ as') = Asks a.question.path a.question.condition ∷ asks_of as'
+
+-- the question that is open has no reply
+abbrev pub open_turn : Ends → List Turn
+open_turn (Open q) = Posts q.path q.condition ∷ []
+open_turn Passed = []
+open_turn (Failed place c r) = []
+
+-- the question at which the child is lost; behind a fault none is asked
+abbrev pub failed_turn : (lost : Bool) → Ends → Verdict → List Turn
+failed_turn true ending v = []
+failed_turn false ending v = if is_faulted v then open_turn ending else []
+
+-- a child that isn't lost is told that the member is left
+abbrev pub left_turn : (lost : Bool) → List Turn
+left_turn true = []
+left_turn false = Leaves ∷ []
+
+-- what the child is asked for a member with these checks of its own, before the member is left
+abbrev pub asked_turns : (lost : Bool) → Program → ℕ → List Check → Verdict → List Turn
+asked_turns lost p n own v = asks_of (walk_of p n own).answered ++ failed_turn lost (walk_of p n own).ending v
+
+abbrev pub member_turns : (lost : Bool) → Program → ℕ → List Check → Verdict → List Turn
+member_turns lost p n own v = asked_turns lost p n own v ++ left_turn (lost || is_faulted v)
+
+-- All that the one child is asked, member by member from number n on: the questions that the member's walk answered, and that it is left.
+-- At a fault the open question of the walk is the last, and has no reply.
+abbrev pub turns_of : (lost : Bool) → Program → ℕ → List MemberRun → List Check → List Turn
+turns_of lost p n [] checks = []
+turns_of lost p n (r ∷ runs) checks =
+    member_turns lost p n (take r.checks checks) r.verdict ++ turns_of (lost || is_faulted r.verdict) p (n + 1) runs (drop r.checks checks)
+
 -- a child is lost at the first fault
 abbrev pub lost_after : Bool → List MemberRun → Bool
 lost_after lost [] = lost
 lost_after lost (r ∷ runs) = lost_after (lost || is_faulted r.verdict) runs
 
--- The links that were handed back since tell of these checks: none, where there are no checks; else the one of lane 0. Where it failed, one check more may wait there.
-abbrev pub IsRecorded : (failed : Bool) → (before now : List Ending) → List Check → Type 0
-IsRecorded failed before now checks =
-    ((now ≡ before) × (checks ≡ [])) ⊎ ((ending : Ending) × (now ≡ before ++ ending ∷ []) × (ending.lane ≡ 0) × Tells failed ending.dialogue checks)
+-- The links that were handed back since tell of these turns and checks: there is none, where there are no checks; else the one of lane 0. What was sent there is the text
+-- of exactly these turns, with no proof asked for and no symbol f; where it failed, a beginning of it.
+abbrev pub IsRecorded : (failed : Bool) → (before now : List Ending) → List Turn → List Check → Type 0
+IsRecorded failed before now turns checks =
+    ((now ≡ before) × (checks ≡ [])) ⊎ ((ending : Ending) × (now ≡ before ++ ending ∷ []) × (ending.lane ≡ 0) × Tells failed (script false [] turns) ending.dialogue checks)
 
 -- the checks of a run: so many, from its first on
 abbrev pub sequence_of : MemberRun → List Check → List Check
@@ -108,10 +145,10 @@ pub record IsComplete (before now : List Ending) (faults_then faults_now : ℕ) 
   pub no_fault : NoCountRose before now faults_then faults_now → AllLawful before now → HasNoFault runs
   pub verified : HasNoFault runs → HasNoLimit runs → Each (λ (r : MemberRun). AllUnsat (sequence_of r checks) → r.verdict ≡ verdict'.Verified) runs
 
--- The promise: a run for each member, in file order, by the replies that the record of the one child tells.
+-- The promise: a run for each member, in file order, by the replies that the record of the one child tells, which was asked exactly the questions of the members' walks.
 pub record Headline (p : Program) (before now : List Ending) (faults_then faults_now : ℕ) (runs : List MemberRun) : Type 0 where
   pub checks : List Check
-  pub recorded : IsRecorded (lost_after false runs) before now checks
+  pub recorded : IsRecorded (lost_after false runs) before now (turns_of false p 0 runs checks) checks
   pub each : length runs ≡ length p
   pub told : AreTold p before now faults_then faults_now false 0 0 runs checks
   pub complete : IsComplete before now faults_then faults_now runs checks

@@ -1,7 +1,7 @@
 -- What holds of a lane between two questions.
 use Rattle.std.specs.Prelude.{◌≡◌, ℕ, ◌<◌, ⊤, Bool, true, false, List, [], ◌∷◌, ◌++◌, length}
 use Rattle.vx_ast.specs.Syntax.{Program}
-use Rattle.vx_smt_meaning.specs.Commands.{Command, Level}
+use Rattle.vx_smt_meaning.specs.Commands.{Command}
 use Rattle.vx_smt_meaning.specs.Dialogues.{Check}
 use Rattle.vx_smt_meaning.specs.Names.{AreCommands}
 use Rattle.vx_ends.specs.declared.piece.Piece.{Piece}
@@ -15,6 +15,7 @@ use Rattle.vx_machine.specs.declared.machine.Ask.{Ask}
 use Rattle.vx_machine.specs.declared.machine.Ask.TheVariants.{Check as Due, Done}
 use Rattle.vx_machine.specs.declared.machine.Outcome.{Outcome}
 use Rattle.vx_machine.specs.declared.machine.Outcome.TheVariants as outcome
+use Rattle.vx_dialogue.specs.Scripts.{Turn, Asks, Posts, script, is_inside_after}
 use Rattle.vx_dialogue.specs.Dialogue.{IsFree, has_failed, Stands}
 use Rattle.vx_dialogue.specs.declared.talk.Talk.{Talk}
 use Rattle.vx_dialogue.specs.declared.talk.Talk.TheVariants as talk
@@ -29,7 +30,7 @@ use Rattle.vx_verifier.specs.declared.lane.Trouble.{Trouble}
 use Rattle.vx_verifier.specs.declared.lane.Trouble.TheVariants as trouble
 use Rattle.vx_verifier.specs.Sequences.{IsCheckOf, AreChecksOf, replies_to}
 use Rattle.vx_verifier.specs.Causes.{HasCauseOf}
-use Rattle.vx_verifier.specs.Headline.{IsRecorded, IsTold, AreTold, IsSpentAfter, some_ask, lost_after}
+use Rattle.vx_verifier.specs.Headline.{IsRecorded, IsTold, AreTold, IsSpentAfter, asks_of, turns_of, some_ask, lost_after}
 
 -- a child that talks has no open question and no earlier fault, and its link is owed
 abbrev pub IsHeld : {L : Type 0} → Child L → ℕ → Type 0
@@ -54,16 +55,21 @@ is_started NotStarted = false
 is_started (Talking d) = true
 is_started Lost = true
 
--- These are the checks of the lane's child so far, with the links that were handed back before and by now. The names in what was said to a child that talks are spelled.
-abbrev pub Hears : {L : Type 0} → (L → List Piece) → (before now : List Ending) → Child L → List Check → Type 0
-Hears dialogue before now NotStarted checks = (now ≡ before) × (checks ≡ [])
-Hears dialogue before now (Talking d) checks = (now ≡ before) × (base : List Level) × (commands : List Command) × Stands dialogue base d commands checks × AreCommands commands
-Hears dialogue before now Lost checks = IsRecorded true before now checks
+-- These turns say nothing, as long as no child is started.
+pub record AreSilent (turns : List Turn) : Type 0 where
+  pub none : script false [] turns ≡ script false [] []
+  pub outside : is_inside_after turns ≡ false
 
--- one check more, of this question with this reply
-abbrev pub HearsOf : {L : Type 0} → (L → List Piece) → (before now : List Ending) → Child L → List Check → Question → Reply → Type 0
-HearsOf dialogue before now child checks q r =
-    (check : Check) × Hears dialogue before now child (checks ++ check ∷ []) × IsCheckOf (record { question = q; reply = r }) check
+-- These are the turns and the checks of the lane's child so far, with the links that were handed back before and by now. The names in what was said to a child that talks are spelled.
+abbrev pub Hears : {L : Type 0} → (L → List Piece) → (before now : List Ending) → Child L → List Turn → List Check → Type 0
+Hears dialogue before now NotStarted turns checks = (now ≡ before) × (checks ≡ []) × AreSilent turns
+Hears dialogue before now (Talking d) turns checks = (now ≡ before) × Stands dialogue false [] turns d checks × AreCommands (script false [] turns)
+Hears dialogue before now Lost turns checks = IsRecorded true before now turns checks
+
+-- one turn and one check more, of this question with this reply
+abbrev pub HearsOf : {L : Type 0} → (L → List Piece) → (before now : List Ending) → Child L → List Turn → List Check → Question → Reply → Type 0
+HearsOf dialogue before now child turns checks q r =
+    (check : Check) × Hears dialogue before now child (turns ++ Asks q.path q.condition ∷ []) (checks ++ check ∷ []) × IsCheckOf (record { question = q; reply = r }) check
 
 -- the command is started, once, or not
 abbrev pub StartsWhere : Bool → (before now : List Start) → Start → Type 0
@@ -89,10 +95,15 @@ abbrev pub IsCausedBy : (Cause → Type 0) → Trouble → Type 0
 IsCausedBy HasCause (trouble.Fault x) = HasCause x
 IsCausedBy HasCause trouble.Want = ⊤
 
--- No reply came: the links handed back tell of the checks before; and there is a cause.
-abbrev pub Loses : (before now : List Ending) → (faults_then faults_now : ℕ) → (lost : Bool) → List Check → Trouble → Type 0
-Loses before now faults_then faults_now lost checks t =
-    IsRecorded true before now checks × IsCausedBy (HasCauseOf before now faults_then faults_now lost) t
+-- the question was asked, unless the child was lost before
+abbrev pub tried_turn : (lost : Bool) → Question → List Turn
+tried_turn true q = []
+tried_turn false q = Posts q.path q.condition ∷ []
+
+-- No reply came to this question: the links handed back tell of the turns and checks before; and there is a cause.
+abbrev pub Loses : (before now : List Ending) → (faults_then faults_now : ℕ) → (lost : Bool) → List Turn → List Check → Question → Trouble → Type 0
+Loses before now faults_then faults_now lost turns checks q t =
+    IsRecorded true before now (turns ++ tried_turn lost q) checks × IsCausedBy (HasCauseOf before now faults_then faults_now lost) t
 
 -- a fault is the member's verdict, with its cause
 abbrev pub IsFaultOf : Trouble → Verdict → Type 0
@@ -119,16 +130,20 @@ pub record IsRunning (p : Program) (n : ℕ) (machine : Machine) (ask : Ask) : T
   pub told : Told ask (walk (member_tree p n) (given machine)) 100000 (length machine.replies.items)
   pub answered : EachAnswered (walk (member_tree p n) (given machine)) (given machine)
 
+-- the turns of a member so far
+abbrev pub turns_so_far : Program → Machine → List Turn
+turns_so_far p machine = asks_of (walk (member_tree p machine.member.0) (given machine)).answered
+
 -- the checks of a member so far are the questions that the walk has answered, and their replies are the machine's
 pub record AreAsked (p : Program) (machine : Machine) (own : List Check) : Type 0 where
   pub replies : replies_to own ≡ given machine
   pub checks : AreChecksOf (walk (member_tree p machine.member.0) (given machine)).answered own
 
--- A member's execution came to this verdict after so many checks of its own.
+-- A member's execution came to this verdict after so many checks of its own, and these turns more.
 pub record Judges {L : Type 0} (dialogue : L → List Piece) (p : Program) (n : ℕ) (before now : List Ending) (HasCause : Cause → Type 0) (lost : Bool) (child : Child L)
-    (checks : List Check) (asked : ℕ) (v : Verdict) : Type 0 where
+    (turns : List Turn) (more : List Check → List Turn) (checks : List Check) (asked : ℕ) (v : Verdict) : Type 0 where
   pub own : List Check
-  pub heard : Hears dialogue before now child (checks ++ own)
+  pub heard : Hears dialogue before now child (turns ++ more own) (checks ++ own)
   pub count : length own ≡ asked
   pub told : IsTold p n HasCause own v
   pub spent : IsSpentAfter lost p n own v
@@ -145,7 +160,7 @@ Later old new = (front : List Ending) → Handed front old → Handed front new
 pub record Executes {L : Type 0} (dialogue : L → List Piece) (p : Program) (before now : List Ending) (faults_then faults_now : ℕ) (child : Child L) (asked : ℕ)
     (runs : List MemberRun) : Type 0 where
   pub checks : List Check
-  pub heard : Hears dialogue before now child checks
+  pub heard : Hears dialogue before now child (turns_of false p 0 runs checks) checks
   pub count : length checks ≡ asked
   pub told : AreTold p before now faults_then faults_now false 0 0 runs checks
   pub lost : is_lost child ≡ lost_after false runs

@@ -1,13 +1,13 @@
 -- That no count rises over a spawner that is steady.
-use Rattle.std.specs.Prelude.{◌≡◌, ℕ, ⊤, Bool, false, IsTrue, List, ◌++◌}
+use Rattle.std.specs.Prelude.{◌≡◌, ℕ, ⊤, Bool, false, IsTrue, List, [], ◌++◌}
 use Rattle.vx_ast.specs.Syntax.{Program}
 use Rattle.vx_terms.specs.Interpretations.{Each}
-use Rattle.vx_smt_meaning.specs.Commands.{Command, Level}
 use Rattle.vx_smt_meaning.specs.Dialogues.{Check}
 use Rattle.vx_smt_meaning.specs.Names.{AreCommands}
 use Rattle.vx_ends.specs.declared.piece.Piece.{Piece}
 use Rattle.vx_ends.specs.declared.piece.Ending.{Ending}
-use Rattle.vx_dialogue.specs.Dialogue.{Stands, link_of, question}
+use Rattle.vx_dialogue.specs.Scripts.{Turn, question, script}
+use Rattle.vx_dialogue.specs.Dialogue.{Stands, link_of}
 use Rattle.vx_dialogue.specs.Steady.{IsSteady}
 use Rattle.vx_rules.specs.Trees.{Question, Tree, End, On, Step, Ask, Probe, Fork}
 use Rattle.vx_machine.specs.Runs.{member_tree}
@@ -33,7 +33,7 @@ AsksSpelled p = (n : ℕ) → AllSpelled (member_tree p n)
 -- The link of a child that talks is steady and has not failed, and the names in what was said are spelled.
 abbrev pub IsSteadyChild : {L : Type 0} → (L → List Piece) → (steady : L → Bool) → (faults : L → ℕ) → Child L → Type 0
 IsSteadyChild dialogue steady faults (Talking d) =
-    IsSteady steady faults (link_of d) × (base : List Level) × (commands : List Command) × (checks : List Check) × Stands dialogue base d commands checks × AreCommands commands
+    IsSteady steady faults (link_of d) × (turns : List Turn) × (checks : List Check) × Stands dialogue false [] turns d checks × AreCommands (script false [] turns)
 IsSteadyChild dialogue steady faults NotStarted = ⊤
 IsSteadyChild dialogue steady faults Lost = ⊤
 

@@ -4,6 +4,7 @@ ghost use Rattle.std.specs.Prelude.{◌≡◌, ℕ, ◌+◌, ◌-◌, ◌*◌, �
 ghost use Rattle.vx_ends.specs.declared.piece.Start.{Start};
 ghost use Rattle.vx_ends.specs.declared.piece.Ending.{Ending};
 ghost use Rattle.vx_smt_meaning.specs.Dialogues.{Check};
+ghost use Rattle.vx_dialogue.specs.Scripts.{Turn};
 ghost use Rattle.vx_types.specs.Settled.{settled};
 ghost use Rattle.vx_report.specs.Reports.{AreNamed, is_faulted};
 ghost use Rattle.vx_machine.specs.Runs.{Follows, awaits, member_tree};
@@ -11,7 +12,7 @@ ghost use Rattle.vx_verifier.specs.Causes.{HasCauseOf, NoCountRose};
 ghost use Rattle.vx_verifier.specs.Steady.{AllSpelled, AsksSpelled, IsCalmLane};
 ghost use Rattle.vx_types.specs.Executed.{is_executed};
 ghost use Rattle.vx_typing.specs.Typed.{written_of, resolved_of};
-ghost use Rattle.vx_verifier.specs.Headline.{Headline, IsSupported, has_question, some_ask};
+ghost use Rattle.vx_verifier.specs.Headline.{Headline, IsSupported, asked_turns, member_turns, has_question, some_ask};
 ghost use Rattle.vx_verifier.specs.Lanes as spec;
 ghost use Rattle.vx_verifier.specs.Lanes.{IsHeld, IsRunning, links, is_lost, is_started, Hears, Starts, StartsWhere, Later, Judges, Executes, IsFaultOf};
 
@@ -119,9 +120,9 @@ fn judge<W: Spawner, N: Turns>(
     requires spelled { AllSpelled (member_tree (settled program.now) member.0) }
     ensures held { IsHeld result.0 (W.owed spawner.new LANE) }
     ensures owed { W.owed spawner.new LANE + links child ≡ W.owed spawner.old LANE + links result.0 }
-    ensures told { IfOk result.1 (λ judged. (before : List Ending) (checks : List Check) → Hears W.Link.dialogue before (W.ended spawner.old) child checks
+    ensures told { IfOk result.1 (λ judged. (before : List Ending) (turns : List Turn) (checks : List Check) → Hears W.Link.dialogue before (W.ended spawner.old) child turns checks
         → Judges W.Link.dialogue (settled program.now) member.0 before (W.ended spawner.new) (HasCauseOf before (W.ended spawner.new) (W.faults spawner.old) (W.faults spawner.new) (is_lost child)) (is_lost child)
-        result.0 checks judged.checks judged.verdict) }
+        result.0 turns (λ own. asked_turns (is_lost child) (settled program.now) member.0 own judged.verdict) checks judged.checks judged.verdict) }
     ensures lost { IfOk result.1 (λ judged. is_lost result.0 ≡ (is_lost child || is_faulted judged.verdict)) }
     ensures started { IfOk result.1 (λ _. is_started result.0 ≡ (is_started child || has_question (settled program.now) member.0)) }
     ensures few { IfOk result.1 (λ judged. judged.checks ≤ LIMIT) }
@@ -182,9 +183,9 @@ fn execute<W: Spawner, N: Turns>(
     ensures held { IsHeld result.0.child (W.owed spawner.new LANE) }
     ensures owed { W.owed spawner.new LANE + links lane.child ≡ W.owed spawner.old LANE + links result.0.child }
     ensures numbers { IfOk result.1 (λ run. (run.member ≡ member) × (run.lane ≡ LANE) × (run.child ≡ 0) × (run.first ≡ lane.checks)) }
-    ensures told { IfOk result.1 (λ run. (before : List Ending) (checks : List Check) → Hears W.Link.dialogue before (W.ended spawner.old) lane.child checks
+    ensures told { IfOk result.1 (λ run. (before : List Ending) (turns : List Turn) (checks : List Check) → Hears W.Link.dialogue before (W.ended spawner.old) lane.child turns checks
         → Judges W.Link.dialogue (settled program.now) member.0 before (W.ended spawner.new) (HasCauseOf before (W.ended spawner.new) (W.faults spawner.old) (W.faults spawner.new) (is_lost lane.child)) (is_lost lane.child)
-        result.0.child checks run.checks run.verdict) }
+        result.0.child turns (λ own. member_turns (is_lost lane.child) (settled program.now) member.0 own run.verdict) checks run.checks run.verdict) }
     ensures lost { IfOk result.1 (λ run. is_lost result.0.child ≡ (is_lost lane.child || is_faulted run.verdict)) }
     ensures started { IfOk result.1 (λ _. is_started result.0.child ≡ (is_started lane.child || has_question (settled program.now) member.0)) }
     ensures count { IfOk result.1 (λ run. (result.0.checks ≡ lane.checks + run.checks) × (run.checks ≤ LIMIT)) }

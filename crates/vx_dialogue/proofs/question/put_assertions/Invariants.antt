@@ -1,6 +1,7 @@
 use Rattle.std.proofs.Common.{◌≡◌, ◌++◌, map, drop}
 use Rattle.vx_smt_meaning.specs.Views.{command}
-use Rattle.vx_dialogue.specs.Dialogue.{shared, assertions}
+use Rattle.vx_dialogue.specs.Scripts.{assertions}
+use Rattle.vx_dialogue.specs.Dialogue.{shared}
 use Rattle.vx_dialogue.proofs.question.put_assertions.Given as goal
 
 abbrev pub invariant-loop-t : goal.invariant-loop-t

@@ -1,9 +1,10 @@
-use Rattle.std.proofs.Common.{◌≡◌, ◌+◌, ◌++◌, ◌∷◌, [], length, ap, ◌∙◌, sym, subst, rules, arith}
+use Rattle.std.proofs.Common.{◌≡◌, ◌<◌, ◌+◌, ◌++◌, ◌∷◌, [], length, ap, ◌∙◌, sym, subst, rules, arith}
 use Rattle.vx_types.specs.Settled.{settled}
+use Rattle.vx_report.specs.Reports.{AreNamed}
 use Rattle.vx_verifier.specs.Lanes.{Executes}
 use Rattle.vx_verifier.proofs.Children.{if_ok_at}
 use Rattle.vx_verifier.proofs.Questions.{one_longer}
-use Rattle.vx_verifier.proofs.Members.{executes_more}
+use Rattle.vx_verifier.proofs.Members.{executes_more, named_more}
 use Rattle.vx_verifier.proofs.execute.execute_all.Goals as goal
 
 pub returns-in-Err-clause-starts : goal.returns-in-Err-clause-starts
@@ -24,6 +25,9 @@ loop-number-preserved g c =
     let told = if_ok_at c.execute-kept.result.1 _ run c.execute-kept.ensures.told c.in-Ok-run.is in
     let started = if_ok_at c.execute-kept.result.1 _ run c.execute-kept.ensures.started c.in-Ok-run.is in
     let place : c.in-Ok.number ≡ c.loop-number.number = search rules in
+    let inside : c.in-Ok.number < length (settled c.args.program.now) = search rules in
+    let member_is = ap (λ m. m.0) numbers.0 in
+    let below : run.member.0 < length (settled c.args.program.now) = omega arith in
     let count_is = count.0 in
     let few_more = count.1 in
     let few_so_far = so_far.few in
@@ -34,7 +38,7 @@ loop-number-preserved g c =
     record {
       held = c.execute-kept.ensures.held;
       owed = omega arith;
-      named = search rules;
+      named = subst (AreNamed (settled c.args.program.now)) (sym pushed) (named_more (settled c.args.program.now) runs run so_far.named below);
       each = ap length pushed ∙ (one_longer runs run ∙ ap (λ x. x + 1) so_far.each);
       few = omega arith;
       told = subst (λ x. Executes g.W.Link.Link.dialogue (settled c.args.program.now) (g.W.Spawner.ended c.args.spawner.now) (g.W.Spawner.ended c.execute-kept.new.spawner)

@@ -18,7 +18,7 @@ returns-clause-headline g c =
     IfOk-weaker c.execute_all-lane.result.1 _ _ (λ runs told.
     headline g.W.Link.Link.dialogue (settled c.args.program.now) before (g.W.Spawner.ended c.execute_all-lane.new.spawner) (g.W.Spawner.ended c.end.new.spawner)
     (g.W.Spawner.faults c.args.spawner.now) (g.W.Spawner.faults c.execute_all-lane.new.spawner) (g.W.Spawner.faults c.end.new.spawner)
-    c.execute_all-lane.result.0.child c.execute_all-lane.result.0.checks runs.items told.0 told.1 (λ checks. c.end.ensures.told before checks) c.end.ensures.later after)
+    c.execute_all-lane.result.0.child c.execute_all-lane.result.0.checks runs.items told.0 told.1 (λ turns checks. c.end.ensures.told before turns checks) c.end.ensures.later after)
     c.execute_all-lane.ensures.told
 
 pub returns-clause-steady : goal.returns-clause-steady

@@ -1,20 +1,52 @@
-use Rattle.std.proofs.Common.{map}
-use Rattle.vx_dialogue.specs.Dialogue.{shared}
-use Rattle.vx_dialogue.proofs.Levels.{asked_levels}
+use Rattle.std.proofs.Common.{◌++◌, ◌∷◌, [], map, sym, subst}
+use Rattle.vx_smt_meaning.specs.Commands.{CheckSat}
+use Rattle.vx_smt_meaning.specs.Names.{AreCommands}
+use Rattle.vx_dialogue.specs.Scripts.{Posts, script, question}
+use Rattle.vx_dialogue.specs.Dialogue.{Waits, shared}
+use Rattle.vx_dialogue.specs.History.{Breaks}
+use Rattle.vx_dialogue.proofs.Levels.{script_posted, posted_stack}
+use Rattle.vx_dialogue.proofs.Steady.{commands_front}
+use Rattle.vx_dialogue.proofs.History.{standing_longer}
 use Rattle.vx_dialogue.proofs.dialogue.Dialogue.post.Goals as goal
 
 pub returns-in-Ok-clause-asks : goal.returns-in-Ok-clause-asks
-returns-in-Ok-clause-asks g c = λ base commands checks stands. record {
-  told = c.in-Ok.ensures.told commands checks stands.told;
-  levels = asked_levels c.args.self.now.in_member base (map shared c.args.path.now) (shared c.args.condition.now) commands stands.levels;
-  bare = stands.bare;
-}
+returns-in-Ok-clause-asks g c = λ certify functions turns checks stands.
+    let is = script_posted certify functions turns (map shared c.args.path.now) (shared c.args.condition.now) c.args.self.now.in_member stands.inside in
+    record {
+      told = subst (λ x. Waits g.L.Link.dialogue c.post_all.new.self x checks) is (c.in-Ok.ensures.told (script certify functions turns) checks stands.told);
+      levels = posted_stack certify functions turns (map shared c.args.path.now) (shared c.args.condition.now) c.args.self.now.in_member stands.inside stands.levels;
+    }
 
 pub returns-in-Err-clause-fault : goal.returns-in-Err-clause-fault
-returns-in-Err-clause-fault g c = λ base commands checks stands named. c.in-Err.ensures.fault commands checks stands.told named
+returns-in-Err-clause-fault g c = λ certify functions turns checks stands named.
+    let path = map shared c.args.path.now in
+    let condition = shared c.args.condition.now in
+    let inside = c.args.self.now.in_member in
+    let commands = script certify functions turns in
+    let is = script_posted certify functions turns path condition inside stands.inside in
+    subst (λ x. Breaks c.in-Err.talk x (g.L.Link.dialogue c.post_all.new.self.link) checks) is
+    (c.in-Err.ensures.fault commands checks stands.told (commands_front (commands ++ question inside path condition) (CheckSat ∷ []) (subst AreCommands (sym is) named)))
 
 pub returns-in-Ok-clause-steady : goal.returns-in-Ok-clause-steady
-returns-in-Ok-clause-steady g c = λ steady base commands checks stands named. c.post_all.ensures.steady steady commands checks stands.told named
+returns-in-Ok-clause-steady g c = λ steady certify functions turns checks stands named.
+    let path = map shared c.args.path.now in
+    let condition = shared c.args.condition.now in
+    let inside = c.args.self.now.in_member in
+    let commands = script certify functions turns in
+    let is = script_posted certify functions turns path condition inside stands.inside in
+    c.post_all.ensures.steady steady commands checks stands.told (commands_front (commands ++ question inside path condition) (CheckSat ∷ []) (subst AreCommands (sym is) named))
 
 pub returns-in-Err-clause-steady : goal.returns-in-Err-clause-steady
-returns-in-Err-clause-steady g c = λ steady base commands checks stands named. c.post_all.ensures.steady steady commands checks stands.told named
+returns-in-Err-clause-steady g c = λ steady certify functions turns checks stands named.
+    let path = map shared c.args.path.now in
+    let condition = shared c.args.condition.now in
+    let inside = c.args.self.now.in_member in
+    let commands = script certify functions turns in
+    let is = script_posted certify functions turns path condition inside stands.inside in
+    c.post_all.ensures.steady steady commands checks stands.told (commands_front (commands ++ question inside path condition) (CheckSat ∷ []) (subst AreCommands (sym is) named))
+
+pub returns-then-self-clause-fault : goal.returns-then-self-clause-fault
+returns-then-self-clause-fault g c = λ certify functions turns checks stands named. record {
+  explained = tt;
+  told = standing_longer g.L.Link.dialogue certify functions turns (Posts (map shared c.args.path.now) (shared c.args.condition.now)) c.args.self.now checks stands;
+}

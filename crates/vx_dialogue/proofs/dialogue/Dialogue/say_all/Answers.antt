@@ -1,9 +1,10 @@
-use Rattle.std.proofs.Common.{◌≡◌, ◌++◌, ◌+◌, ◌∷◌, [], true, map, take, ap, ◌∙◌, sym, subst, arith, append_assoc}
+use Rattle.std.proofs.Common.{◌≡◌, ◌++◌, ◌+◌, ◌∷◌, [], true, map, take, drop, ap, ◌∙◌, sym, subst, arith, append_assoc}
 use Rattle.std.proofs.lemmas.Grind.{common_steps}
 use Rattle.vx_smt_meaning.specs.Views.{command}
 use Rattle.vx_smt_meaning.specs.Dialogues.{is_plain}
 use Rattle.vx_dialogue.specs.Dialogue.{Gathers}
-use Rattle.vx_dialogue.proofs.Lists.{map_take_more, plain_at}
+use Rattle.vx_dialogue.proofs.Lists.{map_take_more, map_whole, plain_at}
+use Rattle.vx_dialogue.proofs.History.{breaks_at, breaks_longer}
 use Rattle.std.proofs.lemmas.Result.{err_from_is_err_and}
 use Rattle.vx_dialogue.proofs.Steady.{commands_upto}
 use Rattle.vx_dialogue.proofs.dialogue.Dialogue.say_all.Goals as goal
@@ -34,8 +35,14 @@ loop-c-preserved g c =
 
 pub returns-in_err-say-clause-fault : goal.returns-in_err-say-clause-fault
 returns-in_err-say-clause-fault g c = let p = err_from_is_err_and c.from_residual.result c.from_residual.ensures.1 in rw (p.1, p.2) (λ plain commands checks told named.
-    c.in_err-say.ensures.fault (commands ++ map command (take c.loop-c.c-index c.args.all.now)) checks (c.loop-c.invariant.told plain commands checks told)
-    (commands_upto command c.args.all.now c.loop-c.c-index commands named))
+    let all = c.args.all.now in
+    let i = c.loop-c.c-index in
+    let whole : (commands ++ map command (take i all)) ++ map command (drop i all) ≡ commands ++ map command all =
+    append_assoc commands (map command (take i all)) (map command (drop i all)) ∙ ap (λ x. commands ++ x) (map_whole command all i) in
+    breaks_at _ _ (commands ++ map command all) (g.L.Link.dialogue c.say.new.self.link) checks whole
+    (breaks_longer _ (commands ++ map command (take i all)) (map command (drop i all)) (g.L.Link.dialogue c.say.new.self.link) checks
+    (c.in_err-say.ensures.fault (commands ++ map command (take i all)) checks (c.loop-c.invariant.told plain commands checks told)
+    (commands_upto command all i commands named))))
 
 pub returns-in_err-say-clause-steady : goal.returns-in_err-say-clause-steady
 returns-in_err-say-clause-steady g c = λ plain steady commands checks told named.

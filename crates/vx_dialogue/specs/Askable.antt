@@ -1,0 +1,34 @@
+-- Turns whose script is well formed.
+use Rattle.std.specs.Prelude.{◌≡◌, ⊤, ℕ, List, [], ◌∷◌}
+use Rattle.vx_terms.specs.Sorts.{Sort, IntSort, BoolSort, RealSort, RefSort, SnapSort, OtherSort}
+use Rattle.vx_terms.specs.Terms.{Term, sort_of}
+use Rattle.vx_terms.specs.Build.{negate}
+use Rattle.vx_terms.specs.Interpretations.{Each}
+use Rattle.vx_smt_meaning.specs.Over.{IsOver}
+use Rattle.vx_smt_meaning.specs.Standard.{standard_symbols}
+use Rattle.vx_dialogue.specs.Scripts.{Turn, Asks, Posts, Leaves}
+
+-- one of the five sorts that every dialogue knows
+abbrev pub IsOfFive : Sort → Type 0
+IsOfFive IntSort = ⊤
+IsOfFive BoolSort = ⊤
+IsOfFive RealSort = ⊤
+IsOfFive RefSort = ⊤
+IsOfFive SnapSort = ⊤
+IsOfFive (OtherSort x) = ⊥
+
+-- A question over the standard symbols and symbols v, each v at one sort, which is one of the five; and what it asserts is of sort Bool.
+pub record IsAskable (path : List Term) (condition : Term) : Type 0 where
+  pub sorts : ℕ → Sort
+  pub five : (n : ℕ) → IsOfFive (sorts n)
+  pub path_over : Each (IsOver standard_symbols sorts) path
+  pub over : IsOver standard_symbols sorts condition
+  pub path_bool : Each (λ (t : Term). sort_of t ≡ BoolSort) path
+  pub bool : sort_of (negate condition) ≡ BoolSort
+
+-- So are all questions of these turns; one without a reply is the last.
+abbrev pub AreAskable : List Turn → Type 0
+AreAskable [] = ⊤
+AreAskable (Asks path condition ∷ turns) = IsAskable path condition × AreAskable turns
+AreAskable (Posts path condition ∷ turns) = IsAskable path condition × (turns ≡ [])
+AreAskable (Leaves ∷ turns) = AreAskable turns
