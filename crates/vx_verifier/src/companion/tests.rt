@@ -15,7 +15,7 @@ fn each_command_is_answered(rt: HostRuntime) -> Result<(), Fail> {
         "(exit)",
         "(reset)",
     ];
-    let mut session = Session::new(alloc);
+    let mut session = Session::new(alloc)?;
     let mut replies = Vec::new(alloc);
     for command in commands {
         let said = session.command(alloc, command.as_bytes())?;
