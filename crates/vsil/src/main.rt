@@ -2,6 +2,7 @@
 #![tactic(auto)]
 
 use std::alloc::Global;
+use std::io::ErrorKind;
 use std::process::ExitCode;
 use std::{env, io};
 use vx_ends::Parts;
@@ -9,10 +10,23 @@ use vx_verifier::companion::Builtin;
 use vx_verifier::edge::{ChildSpawner, DiskFiles, StdSink};
 use vx_verifier::run;
 
-// The words of the command line, the program's name first.
-fn words_of(rt: &HostRuntime, alloc: Global) -> io::Result<Parts> {
+// Words that are no command.
+fn no_command(alloc: Global) -> io::Result<Parts> {
     let mut words = Parts::new(alloc);
-    for word in env::args(rt)? {
+    words.push(alloc, "vsil")?;
+    words.push(alloc, "")?;
+    Ok(words)
+}
+
+// The words of the command line, the program's name first. Where one is no UTF-8, they are no command.
+fn words_of(rt: &HostRuntime, alloc: Global) -> io::Result<Parts> {
+    let args = match env::args(rt) {
+        Ok(args) => args,
+        Err(error) if error.kind() == ErrorKind::InvalidData => return no_command(alloc),
+        Err(error) => return Err(error),
+    };
+    let mut words = Parts::new(alloc);
+    for word in args {
         words.push(alloc, &word)?;
     }
     Ok(words)

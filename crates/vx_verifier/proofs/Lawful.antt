@@ -8,7 +8,7 @@ use Rattle.vx_sexp.specs.First.{IsFirst, Faults, deepest}
 use Rattle.vx_sexp.proofs.Exact.{first_is_one, fault_excludes}
 use Rattle.vx_sexp.proofs.Goes.{bad_goes_nowhere, deep_goes_deep}
 use Rattle.vx_terms.specs.Interpretations.{Each}
-use Rattle.vx_smt_meaning.specs.Commands.{Command}
+use Rattle.vx_smt_meaning.specs.Commands.{Command, empty_level}
 use Rattle.vx_smt_meaning.specs.Replies.{Items, is_refusal}
 use Rattle.vx_smt_meaning.specs.Dialogues.{is_lawful_to, Answers}
 use Rattle.vx_ends.specs.declared.piece.Piece.{Piece}
@@ -19,8 +19,9 @@ use Rattle.vx_dialogue.specs.Items.{longest, is_lawful, IsNoItem, IsGarbled, IsR
 use Rattle.vx_dialogue.specs.Stops.{Stops, wanted_by}
 use Rattle.vx_dialogue.proofs.Joined.{first_longer}
 use Rattle.vx_verifier.specs.declared.companion.session.Said.{Said}
-use Rattle.vx_verifier.specs.Companion.{said_text, item_of, texts_of, items_of, RepliesRightly, AllRight, CompanionIsLawful}
+use Rattle.vx_verifier.specs.Companion.{said_text, item_of, texts_of, items_of, replies_of, RepliesByCompanion, AllByCompanion, CompanionIsLawful}
 use Rattle.vx_verifier.specs.Causes.{IsLawful}
+use Rattle.vx_verifier.proofs.Levels.{replies_lawful}
 use Rattle.vx_verifier.proofs.Said.{fed, first_fed, said_first, said_short, said_shallow, wanted_lawful, lawful_given}
 
 -- ---- the reply to one command among those that are got
@@ -123,14 +124,15 @@ no_two x y = absurd x
 
 -- Where all that was sent is replied to, no reply is unlawful.
 never_stops : (pieces : List Piece) (Told : Wanted → List ℕ → Type 0) → ((c : Command) (next ungot : List ℕ) → Next c next ungot → Told (wanted_by c) next → ⊥)
-    → RepliesRightly pieces → Stops pieces Told → ⊥
+    → RepliesByCompanion pieces → Stops pieces Told → ⊥
 never_stops pieces Told excludes right s =
     ∥∥₁_elim right no_two (λ r.
     ∥∥₁_elim (r.1 (s.before ++ s.command ∷ []) s.sent_later s.spelled s.sent_is) no_two (λ t.
     excludes s.command s.next r.0
-    (next_of s.before s.command false t.0 s.items (got pieces) s.next r.0 t.1 t.2 s.heard s.lawful t.3) s.told))
+    (next_of s.before s.command false (replies_of (s.before ++ s.command ∷ [])) s.items (got pieces) s.next r.0 t.0 t.1 s.heard s.lawful
+    (replies_lawful (empty_level ∷ []) (s.before ++ s.command ∷ []))) s.told))
 
-pub rightly_lawful : (pieces : List Piece) → RepliesRightly pieces → IsLawful pieces
+pub rightly_lawful : (pieces : List Piece) → RepliesByCompanion pieces → IsLawful pieces
 rightly_lawful pieces right kept (inl garbled) = never_stops pieces _ (λ c next ungot n told. not_garbled n kept told) right garbled
 rightly_lawful pieces right kept (inr refused) = never_stops pieces _ (λ c next ungot n told. not_refused n kept told) right refused
 
@@ -149,5 +151,5 @@ each_since P Q leads before (e ∷ since) all = (
 
 pub companion_is_lawful : CompanionIsLawful
 companion_is_lawful before now all since is =
-    each_since (λ (e : Ending). RepliesRightly e.dialogue) (λ (e : Ending). IsLawful e.dialogue) (λ e right. rightly_lawful e.dialogue right) before since
-    (subst AllRight is all)
+    each_since (λ (e : Ending). RepliesByCompanion e.dialogue) (λ (e : Ending). IsLawful e.dialogue) (λ e right. rightly_lawful e.dialogue right) before since
+    (subst AllByCompanion is all)

@@ -10,6 +10,7 @@ mod Statuses
 mod Steady
 mod Replies
 mod OneCommand
+mod Levels
 mod Said
 mod Replied
 pub mod Lawful

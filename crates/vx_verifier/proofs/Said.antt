@@ -8,7 +8,7 @@ use Rattle.vx_sexp.specs.Characters.{is_blank, is_digit, is_symbol_byte, is_word
 use Rattle.vx_sexp.specs.Scanning.{next, scan, move_of, token_at, kind_of}
 use Rattle.vx_sexp.specs.Finished.{finished, finished_at, finished_from, is_closed, closed_at, closed_from}
 use Rattle.vx_sexp.specs.First.{IsFirst, deepest}
-use Rattle.vx_smt_meaning.specs.Commands.{Command, SetOption, SetLogic, DeclareSort, DeclareFun, Assert, Push, Pop, CheckSat, GetProof, Exit}
+use Rattle.vx_smt_meaning.specs.Commands.{Command, SetOption, SetLogic, DeclareSort, DeclareFun, Assert, Push, Pop, CheckSat, GetProof, Exit, Level, stack_after}
 use Rattle.vx_smt_meaning.specs.Dialogues.{is_lawful_to}
 use Rattle.vx_smt_meaning.specs.Replies.{is_refusal}
 use Rattle.vx_smt_text.specs.Text.{front_text, set_option_head, set_logic_head, declare_sort_head, declare_fun_head}
@@ -17,7 +17,8 @@ use Rattle.vx_dialogue.specs.Stops.{wanted_by}
 use Rattle.vx_verifier.specs.declared.companion.session.Heard.{Heard}
 use Rattle.vx_verifier.specs.declared.companion.session.Said.{Said}
 use Rattle.vx_verifier.specs.declared.companion.session.Said.TheVariants.{Success, Unsat, Unknown, NoSteps, Unsupported}
-use Rattle.vx_verifier.specs.Companion.{said_text, item_of, heard_in, is_other, may_say, IsOneReply, IsTextOf, IsFit}
+use Rattle.vx_verifier.specs.declared.companion.session.Session.{Session}
+use Rattle.vx_verifier.specs.Companion.{said_text, item_of, heard_in, heard_of, is_other, verdict_on, reply_to, Knows, Obeys, IsOneReply, IsTextOf, IsFit}
 
 -- a line feed may stand in front
 abbrev pub fed : Bool → List ℕ → List ℕ
@@ -129,18 +130,36 @@ lawful_given c Unsupported e = absurd (let h = unsupported_unlawful c in cc)
 
 -- ---- as it is said
 
-heard_lawful : (c : Command) (s : Said) → may_say (heard_in (front_text c ++ 41 ∷ [])) s ≡ true → is_lawful_to c (item_of s) ≡ true
+heard_is : (c : Command) → heard_in (front_text c ++ 41 ∷ []) ≡ heard_of c
 unfolding heard_in is_other set_option_head set_logic_head declare_sort_head declare_fun_head
-heard_lawful (SetOption x b) s e = e
-heard_lawful (SetLogic x) s e = e
-heard_lawful (DeclareSort x) s e = e
-heard_lawful (DeclareFun d) s e = e
-heard_lawful (Assert t) s e = e
-heard_lawful (Push n) s e = e
-heard_lawful (Pop n) s e = e
-heard_lawful CheckSat s e = e
-heard_lawful GetProof s e = e
-heard_lawful Exit s e = e
+heard_is (SetOption x b) = refl
+heard_is (SetLogic x) = refl
+heard_is (DeclareSort x) = refl
+heard_is (DeclareFun d) = refl
+heard_is (Assert t) = refl
+heard_is (Push n) = refl
+heard_is (Pop n) = refl
+heard_is CheckSat = refl
+heard_is GetProof = refl
+heard_is Exit = refl
+
+-- what is done is what the command says
+obeyed : (c : Command) (levels : List Level) (text : List ℕ) (old new : Session) (s : Said) → text ≡ front_text c ++ 41 ∷ [] → Knows old levels → Obeys (heard_of c) text old new s
+    → (s ≡ reply_to levels c) × Knows new (stack_after c levels)
+obeyed (SetOption x b) levels text old new s is k o = (o.0, subst (λ (y : Session). Knows y levels) (sym o.1) k)
+obeyed (SetLogic x) levels text old new s is k o = (o.0, subst (λ (y : Session). Knows y levels) (sym o.1) k)
+obeyed (DeclareSort x) [] text old new s is k o = (o.0, subst (λ (y : Session). Knows y []) (sym o.1) k)
+obeyed (DeclareSort x) (l ∷ levels) text old new s is k o =
+    (o.0, subst (λ (y : Session). Knows y (stack_after (DeclareSort x) (l ∷ levels))) (sym o.1) (record { live = k.live; marks = k.marks }))
+obeyed (DeclareFun d) [] text old new s is k o = (o.0, subst (λ (y : Session). Knows y []) (sym o.1) k)
+obeyed (DeclareFun d) (l ∷ levels) text old new s is k o =
+    (o.0, subst (λ (y : Session). Knows y (stack_after (DeclareFun d) (l ∷ levels))) (sym o.1) (record { live = k.live; marks = k.marks }))
+obeyed (Assert t) levels text old new s is k o = (o.0, o.1 t levels is k)
+obeyed (Push n) levels text old new s is k o = (o.0, o.1 n levels is k)
+obeyed (Pop n) levels text old new s is k o = (o.0, o.1 n levels is k)
+obeyed CheckSat levels text old new s is k o = (o.0 ∙ ap verdict_on k.live, subst (λ (y : Session). Knows y levels) (sym o.1) k)
+obeyed GetProof levels text old new s is k o = (o.0, subst (λ (y : Session). Knows y levels) (sym o.1) k)
+obeyed Exit levels text old new s is k o = (o.0, subst (λ (y : Session). Knows y levels) (sym o.1) k)
 
 -- a command's text begins with a parenthesis
 opens : (c : Command) → (text : List ℕ) × (front_text c ++ 41 ∷ [] ≡ 40 ∷ text)
@@ -175,10 +194,13 @@ trimmed_text : (c : Command) (s r : List ℕ) → IsTextOf c s → IsTrimAsciiSt
 trimmed_text c s r (inl is) trim = let o = opens c in trimmed false o.0 s r (is ∙ o.1) trim ∙ sym o.1
 trimmed_text c s r (inr is) trim = let o = opens c in trimmed true o.0 s r (is ∙ ap (λ x. 10 ∷ x) o.1) trim ∙ sym o.1
 
--- what may be said to what is heard is lawful
-fit : (text left : List ℕ) (s : Said) → IsTrimAsciiStart text left → may_say (heard_in left) s ≡ true → IsFit text s
-fit text left s trim says c is = heard_lawful c s (subst (λ x. may_say (heard_in x) s ≡ true) (trimmed_text c text left is trim) says)
+-- what is said to a text is the reply to each command that has it
+pub fit : (text left : List ℕ) (old new : Session) (s : Said) → IsTrimAsciiStart text left → Obeys (heard_in left) left old new s → IsFit text old new s
+fit text left old new s trim obeys c levels is k =
+    let same = trimmed_text c text left is trim in
+    obeyed c levels left old new s same k (subst (λ h. Obeys h left old new s) (ap heard_in same ∙ heard_is c) obeys)
 
-pub fit_all : {E : Type 0} (text left : List ℕ) (r : Result Said E) → IsTrimAsciiStart text left → (h : Heard) → h ≡ heard_in left → IfOk r (λ s. may_say h s ≡ true) → IfOk r (λ s. IsFit text s)
-fit_all text left (Ok s) trim h is says = fit text left s trim (subst (λ x. may_say x s ≡ true) is says)
-fit_all text left (Err e) trim h is says = tt
+pub fit_all : {E : Type 0} (text left : List ℕ) (old new : Session) (r : Result Said E) → IsTrimAsciiStart text left → (h : Heard) → h ≡ heard_in left
+    → IfOk r (Obeys h left old new) → IfOk r (IsFit text old new)
+fit_all text left old new (Ok s) trim h is obeys = fit text left old new s trim (subst (λ x. Obeys x left old new s) is obeys)
+fit_all text left old new (Err e) trim h is obeys = tt

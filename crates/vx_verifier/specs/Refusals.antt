@@ -12,6 +12,7 @@ use Rattle.vx_parser.specs.declared.fault.TextFault.TheVariants as unspelled
 use Rattle.vx_parser.specs.Faults as text
 use Rattle.vx_parser.specs.Spelling.{Spells}
 use Rattle.vx_parser.specs.Refusing.{IsRefusal}
+use Rattle.vx_parser.specs.Answers.{IsAnswer, answer}
 use Rattle.vx_parser.specs.Store.{first_beyond, IsFirst}
 use Rattle.vx_expressions.specs.declared.fault.TypeFault.{TypeFault}
 use Rattle.vx_expressions.specs.declared.fault.TypeFault.TheVariants as untyped
@@ -63,6 +64,8 @@ pub record IsTextFault (bytes : List ℕ) (f : TextFault) : Type 0 where
   pub too_long : (f ≡ unspelled.TooLong) ↔ (4194304 < length bytes)
   pub not_utf8 : length bytes ≤ 4194304 → (IsUtf8 bytes → ⊥) → f ≡ unspelled.NotUtf8 (after first_place (unmarked (take (utf8_valid_len bytes) bytes)))
   pub refused : length bytes ≤ 4194304 → IsUtf8 bytes → (ts : List Token) (e : Ending) → Scans first_place (unmarked bytes) ts e → IsRefusal (unmarked bytes) ts e f
+  -- its code, name and argument are those of reading the tokens
+  pub reads : length bytes ≤ 4194304 → IsUtf8 bytes → (ts : List Token) (e : Ending) → Scans first_place (unmarked bytes) ts e → IsAnswer (unmarked bytes) (Err f) (answer ts e)
 
 -- the first fault of a program
 pub record IsTypeFault (p : written.Program) (f : TypeFault) : Type 0 where

@@ -1,4 +1,4 @@
--- What `run` promises: what the runs of a report are those of.
+-- What `run` promises: what is put, by its cause, with its status.
 use Rattle.std.specs.Prelude.{◌≡◌, ◌⊎◌, ℕ, ◌<◌, ◌≤◌, Bool, true, false, List, [], ◌∷◌, ◌++◌, ◌^◌, ◌-◌, Option, Some, None, IfSome, IsTrue, codes, length, take, vec_items, string_bytes}
 use Rattle.std.specs.Str.{bytes_eq}
 use Rattle.vx_ast.specs.Syntax.{Program}
@@ -7,7 +7,6 @@ use Rattle.vx_ast.specs.Resolve as resolve
 use Rattle.vx_parser.specs.Spelling.{Spells}
 use Rattle.vx_words.specs.declared.order.Order.{Order}
 use Rattle.vx_words.specs.declared.order.Order.TheVariants.{Verify, Check, Print}
-use Rattle.vx_ends.specs.declared.piece.Start.{Start}
 use Rattle.vx_report.specs.declared.run.MemberRun.{MemberRun}
 use Rattle.vx_report.specs.declared.status.Status.{Status}
 use Rattle.vx_report.specs.declared.status.Status.TheVariants.{Done, NotVerified, Usage, Unread, Refused, Faulted, Unwritten, Want}
@@ -25,13 +24,15 @@ use Rattle.vx_verifier.specs.declared.saying.Saying.{Saying}
 use Rattle.vx_verifier.specs.declared.saying.Saying.TheVariants as saying
 use Rattle.vx_verifier.specs.declared.reading.Loaded.{Loaded}
 use Rattle.vx_verifier.specs.declared.reading.Loaded.TheVariants as loaded
-use Rattle.vx_ends.specs.declared.piece.Ending.{Ending as Ended}
+use Rattle.vx_verifier.specs.declared.top.Ended.{Ended}
 use Rattle.vx_report.specs.Reports.{report_of}
 use Rattle.vx_typing.specs.Typed.{written_of}
 use Rattle.vx_verifier.specs.Refusals.{RefusesText, RefusesTyping, RefusesExecution, IsSpelledBy}
 use Rattle.vx_verifier.specs.Causes.{NoCountRose}
+use Rattle.vx_verifier.specs.Companion.{AllByCompanion}
+use Rattle.vx_verifier.specs.Outside.{Change, Texts, Taken, Children, IsUnchanged, AsksOnly, HasFailedToRead, IsTooLong, HasFailedToPut, StartsOnly}
 use Rattle.vx_verifier.specs.Lanes.{StartsWhere}
-use Rattle.vx_verifier.specs.Headline.{IsSupported, Headline, some_ask}
+use Rattle.vx_verifier.specs.Headline.{IsSupported, Headline, HasNoFault, some_ask}
 
 -- the text spells the program, which is typed and executed
 pub record IsExecuted (text : List ℕ) (p : written.Program) : Type 0 where
@@ -67,72 +68,45 @@ abbrev pub ByWhom : Bool → Type 0 → Type 0 → Type 0
 ByWhom true Companion Handed = Companion
 ByWhom false Companion Handed = Handed
 
--- the command that the words name for a solver
-abbrev pub solver_of : Order → List (List ℕ)
-solver_of (Verify file solver) = solver
-solver_of (Check file) = []
-solver_of (Print file) = []
-
-abbrev pub solver_by : Option Order → List (List ℕ)
-solver_by None = []
-solver_by (Some order) = solver_of order
-
--- the program of a text has this property, by the spawner that the solver names
-abbrev pub IsReportFor : (text : List ℕ) → (solver : List (List ℕ)) → (Companion Handed : Program → Type 0) → Type 0
-IsReportFor text solver Companion Handed = (p : Program) × IsProgramOf text p × ByWhom (is_companion solver) (Companion p) (Handed p)
-
--- so it is with the text of the file that the words name
-abbrev pub IsReportOf : Option Order → (holds : Option (List ℕ) → Option (List ℕ)) → (Companion Handed : Program → Type 0) → Type 0
-IsReportOf (Some (Verify file solver)) holds Companion Handed = (text : List ℕ) × IfSome (holds file) (λ known. text ≡ known) × IsReportFor text solver Companion Handed
-IsReportOf (Some (Check file)) holds Companion Handed = ⊥
-IsReportOf (Some (Print file)) holds Companion Handed = ⊥
-IsReportOf None holds Companion Handed = ⊥
-
--- the names that were asked: at most this one more
-abbrev pub AsksOnly : Option (List ℕ) → (old new : List (Option (List ℕ))) → Type 0
-AsksOnly name old new = (new ≡ old) ⊎ (new ≡ old ++ name ∷ [])
-
-abbrev pub AsksFileOf : Order → (old new : List (Option (List ℕ))) → Type 0
-AsksFileOf (Verify file solver) old new = AsksOnly file old new
-AsksFileOf (Check file) old new = AsksOnly file old new
-AsksFileOf (Print file) old new = AsksOnly file old new
-
--- a file isn't read only where reading failed, or where its text is too long
-abbrev pub IsUnread : (failed : Type 0) → Option (List ℕ) → Type 0
-IsUnread failed holds = failed ⊎ IfSome holds (λ text. 4194304 < length text)
+-- ---- files
 
 -- A text is what the file holds, where that is told, and not too long; there is none only where reading failed, or the text is too long.
-abbrev pub IsLoadedFrom : (failed : Type 0) → Option (List ℕ) → Loaded → Type 0
-IsLoadedFrom failed holds (loaded.Text text) = IfSome holds (λ known. vec_items text ≡ known) × (length (vec_items text) ≤ 4194304)
-IsLoadedFrom failed holds loaded.Unread = failed
-IsLoadedFrom failed holds loaded.TooLong = IfSome holds (λ text. 4194304 < length text)
+abbrev pub IsLoadedFrom : Option (List ℕ) → Change Texts → Loaded → Type 0
+IsLoadedFrom name files (loaded.Text text) = IfSome (files.before.holds name) (λ known. vec_items text ≡ known) × (length (vec_items text) ≤ 4194304)
+IsLoadedFrom name files loaded.Unread = HasFailedToRead files
+IsLoadedFrom name files loaded.TooLong = IsTooLong name files
 
--- the same of the file that the words name
-abbrev pub IsUnreadFile : Order → (failed : Type 0) → (holds : Option (List ℕ) → Option (List ℕ)) → Type 0
-IsUnreadFile (Verify file solver) failed holds = IsUnread failed (holds file)
-IsUnreadFile (Check file) failed holds = IsUnread failed (holds file)
-IsUnreadFile (Print file) failed holds = IsUnread failed (holds file)
+-- At most the file that the words name is asked.
+abbrev pub AsksFileOf : Option Order → Change Texts → Type 0
+AsksFileOf None files = files.after.asked ≡ files.before.asked
+AsksFileOf (Some (Verify file solver)) files = AsksOnly file files
+AsksFileOf (Some (Check file)) files = AsksOnly file files
+AsksFileOf (Some (Print file)) files = AsksOnly file files
 
--- A status with a report is that of its runs; sink is where the sink failed, usage where the words mean nothing, and unread where the file isn't read. The others have no runs.
-abbrev pub IsStatusOf : (sink usage unread : Type 0) → List MemberRun → Status → Type 0
-IsStatusOf sink usage unread runs Done = status_among runs ≡ Done
-IsStatusOf sink usage unread runs NotVerified = status_among runs ≡ NotVerified
-IsStatusOf sink usage unread runs Faulted = status_among runs ≡ Faulted
-IsStatusOf sink usage unread runs Unwritten = sink
-IsStatusOf sink usage unread runs Usage = usage × (runs ≡ [])
-IsStatusOf sink usage unread runs Unread = unread × (runs ≡ [])
-IsStatusOf sink usage unread runs Refused = runs ≡ []
-IsStatusOf sink usage unread runs Want = runs ≡ []
+-- ---- spawners
 
--- the starts of the spawner: at most one, by the words' command
-abbrev pub StartsOnly : Order → (old new : List Start) → Type 0
-StartsOnly (Verify file solver) old new = (new ≡ old) ⊎ (new ≡ old ++ record { lane = 0; command = solver } ∷ [])
-StartsOnly (Check file) old new = new ≡ old
-StartsOnly (Print file) old new = new ≡ old
+-- The spawner that the solver names starts it once at most; the other shows what it showed.
+abbrev pub StartsBy : (solver : List (List ℕ)) → (companion handed : Change Children) → Type 0
+StartsBy solver companion handed =
+    ByWhom (is_companion solver) (StartsOnly solver companion × IsUnchanged handed) (IsUnchanged companion × StartsOnly solver handed)
+
+-- so it is with the solver that the words name, and nothing is started where they name none
+abbrev pub StartsSolverOf : Option Order → (companion handed : Change Children) → Type 0
+StartsSolverOf None companion handed = IsUnchanged companion × IsUnchanged handed
+StartsSolverOf (Some (Verify file solver)) companion handed = StartsBy solver companion handed
+StartsSolverOf (Some (Check file)) companion handed = IsUnchanged companion × IsUnchanged handed
+StartsSolverOf (Some (Print file)) companion handed = IsUnchanged companion × IsUnchanged handed
+
+-- ---- what is put
 
 -- What is put is this text, or a beginning of it where the sink failed.
-abbrev pub IsPut : Option (List ℕ) → Option (List ℕ) → Status → List ℕ → Type 0
-IsPut old new s text = IfSome old (λ bytes. (new ≡ Some (bytes ++ text)) ⊎ ((s ≡ Unwritten) × (n : ℕ) × (new ≡ Some (bytes ++ take n text))))
+abbrev pub IsPut : Change Taken → Status → List ℕ → Type 0
+IsPut sink s text =
+    IfSome sink.before.bytes (λ bytes. (sink.after.bytes ≡ Some (bytes ++ text)) ⊎ ((s ≡ Unwritten) × (n : ℕ) × (sink.after.bytes ≡ Some (bytes ++ take n text))))
+
+-- The status is the one that is due; or the sink failed.
+abbrev pub IsStatus : (due : Status) → Change Taken → Status → Type 0
+IsStatus due sink s = (s ≡ due) ⊎ ((s ≡ Unwritten) × HasFailedToPut sink)
 
 -- The bytes that `print` puts for a text, with their status: the canonical text of the program that it spells, or the line of its refusal.
 abbrev pub SaysPrinted : (text : List ℕ) → Status → List ℕ → Type 0
@@ -162,52 +136,103 @@ SaysSo what text (said.Done bytes) = Says what text Done (vec_items bytes)
 SaysSo what text (said.Refused line) = Says what text Refused (string_bytes line)
 
 -- what is put of a file: that it can't be read, only where reading failed; that it is too long; or what is said of its text
-abbrev pub IsToldOf : (Says : List ℕ → Status → List ℕ → Type 0) → (failed : Type 0) → (holds : Option (List ℕ)) → Status → List ℕ → Type 0
-IsToldOf Says failed holds Unread bytes = (failed × (bytes ≡ codes "error: cannot read\n")) ⊎ (IfSome holds (λ text. 4194304 < length text) × (bytes ≡ codes "error: longer than 4194304 bytes\n"))
-IsToldOf Says failed holds s bytes = (text : List ℕ) × IfSome holds (λ known. text ≡ known) × (length text ≤ 4194304) × Says text s bytes
-
-abbrev pub IsToldBy : Order → (failed : Type 0) → (holds : Option (List ℕ) → Option (List ℕ)) → Status → List ℕ → Type 0
-IsToldBy (Verify file solver) failed holds s bytes = IsToldOf SaysRefused failed (holds file) s bytes
-IsToldBy (Check file) failed holds s bytes = IsToldOf (Says saying.Typed) failed (holds file) s bytes
-IsToldBy (Print file) failed holds s bytes = IsToldOf (Says saying.Canonical) failed (holds file) s bytes
+abbrev pub IsToldOf : (Says : List ℕ → Status → List ℕ → Type 0) → (name : Option (List ℕ)) → Change Texts → Status → List ℕ → Type 0
+IsToldOf Says name files Unread bytes =
+    (HasFailedToRead files × (bytes ≡ codes "error: cannot read\n")) ⊎ (IsTooLong name files × (bytes ≡ codes "error: longer than 4194304 bytes\n"))
+IsToldOf Says name files s bytes = (text : List ℕ) × IfSome (files.before.holds name) (λ known. text ≡ known) × (length text ≤ 4194304) × Says text s bytes
 
 -- the line of how to use the program, where the words mean nothing
 abbrev pub usage : List ℕ
 usage = codes "usage: vsil [verify [FILE] [--solver TEXT] [--jobs N] [--certify] | check [FILE] | print [FILE] | gen N | work N [--jobs J]]\n"
 
-abbrev pub IsTold : Option Order → (failed : Type 0) → (holds : Option (List ℕ) → Option (List ℕ)) → Status → List ℕ → Type 0
-IsTold None failed holds s bytes = (s ≡ Usage) × (bytes ≡ usage)
-IsTold (Some order) failed holds s bytes = IsToldBy order failed holds s bytes
+-- what is put for an order that has no report
+abbrev pub IsTold : Option Order → Change Texts → Status → List ℕ → Type 0
+IsTold None files s bytes = (s ≡ Usage) × (bytes ≡ usage)
+IsTold (Some (Verify file solver)) files s bytes = IsToldOf SaysRefused file files s bytes
+IsTold (Some (Check file)) files s bytes = IsToldOf (Says saying.Typed) file files s bytes
+IsTold (Some (Print file)) files s bytes = IsToldOf (Says saying.Canonical) file files s bytes
 
 -- This text, due with this status, is put, or a beginning of it where the sink failed; there are no runs.
-pub record IsSaid (due : Status) (bytes : List ℕ) (old new : Option (List ℕ)) (runs : List MemberRun) (s : Status) : Type 0 where
-  pub put : IsPut old new s bytes
-  pub status : (s ≡ due) ⊎ (s ≡ Unwritten)
-  pub none : runs ≡ []
+pub record IsSaid (due : Status) (bytes : List ℕ) (sink : Change Taken) (ended : Ended) : Type 0 where
+  pub put : IsPut sink ended.status bytes
+  pub status : IsStatus due sink ended.status
+  pub none : ended.runs.items ≡ []
 
--- a text with this property is put
-abbrev pub Puts : (Told : Status → List ℕ → Type 0) → (old new : Option (List ℕ)) → List MemberRun → Status → Type 0
-Puts Told old new runs s = (due : Status) × (bytes : List ℕ) × Told due bytes × IsSaid due bytes old new runs s
+-- a text with this property is put, due with its status
+abbrev pub Puts : (Told : Status → List ℕ → Type 0) → Change Taken → Ended → Type 0
+Puts Told sink ended = (due : Status) × (bytes : List ℕ) × Told due bytes × IsSaid due bytes sink ended
 
--- nothing is put where memory runs out
-pub record PutsNothing (old new : Option (List ℕ)) (runs : List MemberRun) (s : Status) : Type 0 where
-  pub status : s ≡ Want
-  pub put : new ≡ old
-  pub none : runs ≡ []
+-- memory ran out, and nothing is put
+pub record PutsNothing (sink : Change Taken) (ended : Ended) : Type 0 where
+  pub status : ended.status ≡ Want
+  pub put : sink.after.bytes ≡ sink.before.bytes
+  pub none : ended.runs.items ≡ []
 
--- What a report says of a program, by the records of the spawner that was asked: the headline, and exactly the report's bytes. The command is started
--- exactly where a member has a question, and over a steady spawner no count of faults rises.
-pub record IsReport (p : Program) (before now : List Ended) (faults_then faults_now : ℕ) (steady : Bool) (starts_then starts_now : List Start) (command : List (List ℕ))
-    (taken_then taken_now : Option (List ℕ)) (runs : List MemberRun) (s : Status) : Type 0 where
-  pub headline : Headline p before now faults_then faults_now runs
-  pub put : IsPut taken_then taken_now s (report_of p runs)
-  pub started : StartsWhere (some_ask p (length p)) starts_then starts_now record { lane = 0; command = command }
-  pub calm : IsTrue steady → faults_then < 2 ^ 64 - 1 → NoCountRose before now faults_then faults_now
+-- ---- reports
 
--- a text's program is reported, or the text refused
-abbrev pub IsVerified : (text : List ℕ) → (solver : List (List ℕ)) → (Companion Handed : Program → Type 0) → (old new : Option (List ℕ)) → List MemberRun → Status → Type 0
-IsVerified text solver Companion Handed old new runs s = Puts (SaysRefused text) old new runs s ⊎ IsReportFor text solver Companion Handed
+-- What a report says of a program, by what the spawner that was asked shows: the headline, exactly the report's bytes, and the status of the runs. The
+-- command is started exactly where a member has a question, and over a steady spawner no count of faults rises.
+pub record IsReport (p : Program) (command : List (List ℕ)) (spawner : Change Children) (sink : Change Taken) (ended : Ended) : Type 0 where
+  pub headline : Headline p spawner.before.ended spawner.after.ended spawner.before.faults spawner.after.faults ended.runs.items
+  pub put : IsPut sink ended.status (report_of p ended.runs.items)
+  pub status : IsStatus (status_among ended.runs.items) sink ended.status
+  pub started : StartsWhere (some_ask p (length p)) spawner.before.starts spawner.after.starts record { lane = 0; command = command }
+  pub calm : IsTrue spawner.before.steady → spawner.before.faults < 2 ^ 64 - 1
+      → NoCountRose spawner.before.ended spawner.after.ended spawner.before.faults spawner.after.faults
+
+-- A report by the companion: no member is faulted, and each command had the reply that the companion has for it.
+pub record IsCompanionReport (p : Program) (command : List (List ℕ)) (spawner : Change Children) (sink : Change Taken) (ended : Ended) : Type 0 where
+  pub report : IsReport p command spawner sink ended
+  pub no_fault : HasNoFault ended.runs.items
+  pub replies : AllByCompanion spawner.after.ended
+
+-- by the spawner that the solver names
+abbrev pub IsReportBy : (solver : List (List ℕ)) → Program → (companion handed : Change Children) → Change Taken → Ended → Type 0
+IsReportBy solver p companion handed sink ended = ByWhom (is_companion solver) (IsCompanionReport p solver companion sink ended) (IsReport p solver handed sink ended)
+
+-- the program of a text is reported
+abbrev pub IsReportFor : (text : List ℕ) → (solver : List (List ℕ)) → (companion handed : Change Children) → Change Taken → Ended → Type 0
+IsReportFor text solver companion handed sink ended = (p : Program) × IsProgramOf text p × IsReportBy solver p companion handed sink ended
+
+-- so it is with the text of the file that the words name
+abbrev pub IsReportOf : Option Order → Change Texts → (companion handed : Change Children) → Change Taken → Ended → Type 0
+IsReportOf (Some (Verify file solver)) files companion handed sink ended =
+    (text : List ℕ) × IfSome (files.before.holds file) (λ known. text ≡ known) × IsReportFor text solver companion handed sink ended
+IsReportOf (Some (Check file)) files companion handed sink ended = ⊥
+IsReportOf (Some (Print file)) files companion handed sink ended = ⊥
+IsReportOf None files companion handed sink ended = ⊥
+
+-- ---- answers
+
+-- A text is put, and no spawner is asked for anything.
+pub record IsToldAlone (Told : Status → List ℕ → Type 0) (companion handed : Change Children) (sink : Change Taken) (ended : Ended) : Type 0 where
+  pub told : Puts Told sink ended
+  pub companion_rests : IsUnchanged companion
+  pub handed_rests : IsUnchanged handed
+
+-- a text is refused, or its program reported
+abbrev pub IsVerified : (text : List ℕ) → (solver : List (List ℕ)) → (companion handed : Change Children) → Change Taken → Ended → Type 0
+IsVerified text solver companion handed sink ended = IsToldAlone (SaysRefused text) companion handed sink ended ⊎ IsReportFor text solver companion handed sink ended
 
 -- What becomes of an order: nothing is put where memory runs out; or a text is put by its cause; or a report.
-abbrev pub IsAnswer : Option Order → (failed : Type 0) → (holds : Option (List ℕ) → Option (List ℕ)) → (Companion Handed : Program → Type 0) → (old new : Option (List ℕ)) → List MemberRun → Status → Type 0
-IsAnswer order failed holds Companion Handed old new runs s = PutsNothing old new runs s ⊎ Puts (IsTold order failed holds) old new runs s ⊎ IsReportOf order holds Companion Handed
+abbrev pub IsAnswer : Option Order → Change Texts → (companion handed : Change Children) → Change Taken → Ended → Type 0
+IsAnswer order files companion handed sink ended =
+    PutsNothing sink ended ⊎ IsToldAlone (IsTold order files) companion handed sink ended ⊎ IsReportOf order files companion handed sink ended
+
+-- the file that the words name isn't read: reading failed, or its text is too long
+abbrev pub IsUnread : Option Order → Change Texts → Type 0
+IsUnread None files = ⊥
+IsUnread (Some (Verify file solver)) files = HasFailedToRead files ⊎ IsTooLong file files
+IsUnread (Some (Check file)) files = HasFailedToRead files ⊎ IsTooLong file files
+IsUnread (Some (Print file)) files = HasFailedToRead files ⊎ IsTooLong file files
+
+-- What a status says. One with a report is that of its runs; the others have no runs, and each its cause.
+abbrev pub IsStatusOf : Option Order → Change Texts → Change Taken → List MemberRun → Status → Type 0
+IsStatusOf order files sink runs Done = status_among runs ≡ Done
+IsStatusOf order files sink runs NotVerified = status_among runs ≡ NotVerified
+IsStatusOf order files sink runs Faulted = status_among runs ≡ Faulted
+IsStatusOf order files sink runs Unwritten = HasFailedToPut sink
+IsStatusOf order files sink runs Usage = (order ≡ None) × (runs ≡ [])
+IsStatusOf order files sink runs Unread = IsUnread order files × (runs ≡ [])
+IsStatusOf order files sink runs Refused = runs ≡ []
+IsStatusOf order files sink runs Want = runs ≡ []

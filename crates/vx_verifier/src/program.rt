@@ -1,7 +1,6 @@
 //! Typed programs: which are executed, and settled.
 
 ghost use Rattle.std.specs.Prelude.{◌≡◌, true, IfErr, IfOk, OnOk};
-ghost use Rattle.vx_parser.specs.declared.fault.TextFault.TheVariants as faults;
 ghost use Rattle.vx_types.specs.Executed.{is_executed};
 ghost use Rattle.vx_types.specs.Settled.{settled};
 ghost use Rattle.vx_typing.specs.Typed.{written_of, resolved_of};

@@ -2,8 +2,8 @@
 
 ghost use Rattle.std.specs.Prelude.{◌≡◌, IfOk, option_copied};
 ghost use Rattle.vx_ast.specs.Written.{written_program};
-ghost use Rattle.vx_ends.specs.Causes.{Rose};
-ghost use Rattle.vx_verifier.specs.Reported.{AsksOnly, IsLoadedFrom, IsParsedFrom, IsCheckedFrom};
+ghost use Rattle.vx_verifier.specs.Outside.{change, texts, AsksOnly};
+ghost use Rattle.vx_verifier.specs.Reported.{IsLoadedFrom, IsParsedFrom, IsCheckedFrom};
 
 use crate::answers::{text_refusal, type_refusal};
 use std::alloc::{AllocError, Global};
@@ -26,8 +26,8 @@ pub fn load<F: Files>(
     files: &mut F,
     name: Option<&str>,
 ) -> Result<Loaded, AllocError>
-    ensures text { IfOk result (IsLoadedFrom (Rose (F.faults files.old) (F.faults files.new)) (F.holds files.old (option_copied name.entry))) }
-    ensures asked { AsksOnly (option_copied name.entry) (F.asked files.old) (F.asked files.new) }
+    ensures text { IfOk result (IsLoadedFrom (option_copied name.entry) (change (texts F.holds F.asked F.faults) files.old files.new)) }
+    ensures asked { AsksOnly (option_copied name.entry) (change (texts F.holds F.asked F.faults) files.old files.new) }
 {
     match files.load(alloc, name) {
         Ok(text) => Ok(Loaded::Text(text)),

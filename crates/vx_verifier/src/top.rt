@@ -1,17 +1,14 @@
 //! The top call: from the words of the command line to what is put, and the exit status.
 
-ghost use Rattle.std.specs.Prelude.{◌≡◌, ◌⊎◌, ◌++◌, ◌∷◌, [], IfOk, IfErr, Some, None, true, option_copied};
+ghost use Rattle.std.specs.Prelude.{◌≡◌, ◌⊎◌, [], IfOk, IfErr, Some, None, true, option_copied};
 ghost use Rattle.vx_ast.specs.Written.{written_program};
-ghost use Rattle.vx_ends.specs.Causes.{Rose};
-ghost use Rattle.vx_ends.specs.declared.piece.Start.{Start};
 ghost use Rattle.vx_types.specs.Executed.{is_executed};
 ghost use Rattle.vx_typing.specs.Typed.{written_of, resolved_of};
 ghost use Rattle.vx_words.specs.Orders.{order_of};
-ghost use Rattle.vx_words.specs.declared.order.Order as meant;
-ghost use Rattle.vx_verifier.specs.Headline.{HasNoFault};
 ghost use Rattle.vx_verifier.specs.Refusals.{IsSpelledBy};
 ghost use Rattle.vx_verifier.specs.Reported as spec;
-ghost use Rattle.vx_verifier.specs.Reported.{ByWhom, IsReport, IsAnswer, IsVerified, Puts, IsSaid, IsToldOf, AsksOnly, AsksFileOf, IsStatusOf, StartsOnly, IsPut, IsUnread, IsUnreadFile};
+ghost use Rattle.vx_verifier.specs.Outside.{change, texts, taken, children, companions, AsksOnly, StartsOnly};
+ghost use Rattle.vx_verifier.specs.Reported.{IsPut, IsStatus, IsSaid, Puts, IsToldOf, IsReport, IsCompanionReport, IsReportBy, IsVerified, IsAnswer, IsStatusOf, AsksFileOf, StartsBy, StartsSolverOf};
 
 use crate::answers::{TOO_LONG, UNREAD, USAGE, text_refusal};
 use crate::companion::Builtin;
@@ -37,8 +34,8 @@ pub struct Ended {
 // Puts these bytes; where the sink fails, that is the status.
 fn put<K: Sink>(out: &mut K, bytes: &[u8], status: Status, runs: Runs) -> Ended
     ensures runs { result.runs ≡ runs }
-    ensures taken { IsPut (K.taken out.old) (K.taken out.new) result.status bytes.now }
-    ensures status { (result.status ≡ status) ⊎ ((result.status ≡ Status.Unwritten) × Rose (K.faults out.old) (K.faults out.new)) }
+    ensures taken { IsPut (change (taken K.taken K.faults) out.old out.new) result.status bytes.now }
+    ensures status { IsStatus status (change (taken K.taken K.faults) out.old out.new) result.status }
 {
     match put_all(out, bytes) {
         Ok(()) => Ended { status, runs },
@@ -58,9 +55,8 @@ fn report<K: Sink, W: Spawner>(
     spawner: &mut W,
 ) -> Result<Ended, AllocError>
     requires { is_executed (written_of typed.now) ≡ true }
-    ensures report { IfOk result (λ ended. IsReport (resolved_of typed.now) (W.ended spawner.old) (W.ended spawner.new) (W.faults spawner.old) (W.faults spawner.new) (W.steady spawner.old) (W.starts spawner.old) (W.starts spawner.new) solver.now (K.taken out.old) (K.taken out.new) ended.runs.items ended.status) }
-    ensures status { IfOk result (λ ended. IsStatusOf (Rose (K.faults out.old) (K.faults out.new)) ⊥ ⊥ ended.runs.items ended.status) }
-    ensures starts { let start : Start = record { lane = 0; command = solver.now } in (W.starts spawner.new ≡ W.starts spawner.old) ⊎ (W.starts spawner.new ≡ W.starts spawner.old ++ start ∷ []) }
+    ensures report { IfOk result (IsReport (resolved_of typed.now) solver.now (change (children W.starts W.ended W.faults W.steady) spawner.old spawner.new) (change (taken K.taken K.faults) out.old out.new)) }
+    ensures starts { StartsOnly solver.now (change (children W.starts W.ended W.faults W.steady) spawner.old spawner.new) }
     ensures nothing { IfErr result (λ _. K.taken out.new ≡ K.taken out.old) }
 {
     let mut turns = RoundRobin::new();
@@ -87,8 +83,8 @@ fn report_by_companion<K: Sink>(
     builtin: &mut Builtin,
 ) -> Result<Ended, AllocError>
     requires { is_executed (written_of typed.now) ≡ true }
-    ensures report { IfOk result (λ ended. IsReport (resolved_of typed.now) builtin.old.ended.items builtin.new.ended.items 0 0 true builtin.old.starts.items builtin.new.starts.items solver.now (K.taken out.old) (K.taken out.new) ended.runs.items ended.status × HasNoFault ended.runs.items) }
-    ensures status { IfOk result (λ ended. IsStatusOf (Rose (K.faults out.old) (K.faults out.new)) ⊥ ⊥ ended.runs.items ended.status) }
+    ensures report { IfOk result (IsCompanionReport (resolved_of typed.now) solver.now (change companions builtin.old builtin.new) (change (taken K.taken K.faults) out.old out.new)) }
+    ensures starts { StartsOnly solver.now (change companions builtin.old builtin.new) }
     ensures nothing { IfErr result (λ _. K.taken out.new ≡ K.taken out.old) }
 {
     report(alloc, typed, out, solver, builtin)
@@ -104,11 +100,8 @@ fn report_by<K: Sink, W: Spawner>(
     builtin: &mut Builtin,
 ) -> Result<Ended, AllocError>
     requires { is_executed (written_of typed.now) ≡ true }
-    ensures report { IfOk result (λ ended. ByWhom (spec.is_companion solver.now)
-        (IsReport (resolved_of typed.now) builtin.old.ended.items builtin.new.ended.items 0 0 true builtin.old.starts.items builtin.new.starts.items solver.now (K.taken out.old) (K.taken out.new) ended.runs.items ended.status × HasNoFault ended.runs.items)
-        (IsReport (resolved_of typed.now) (W.ended spawner.old) (W.ended spawner.new) (W.faults spawner.old) (W.faults spawner.new) (W.steady spawner.old) (W.starts spawner.old) (W.starts spawner.new) solver.now (K.taken out.old) (K.taken out.new) ended.runs.items ended.status)) }
-    ensures status { IfOk result (λ ended. IsStatusOf (Rose (K.faults out.old) (K.faults out.new)) ⊥ ⊥ ended.runs.items ended.status) }
-    ensures starts { let start : Start = record { lane = 0; command = solver.now } in (W.starts spawner.new ≡ W.starts spawner.old) ⊎ (W.starts spawner.new ≡ W.starts spawner.old ++ start ∷ []) }
+    ensures report { IfOk result (IsReportBy solver.now (resolved_of typed.now) (change companions builtin.old builtin.new) (change (children W.starts W.ended W.faults W.steady) spawner.old spawner.new) (change (taken K.taken K.faults) out.old out.new)) }
+    ensures starts { StartsBy solver.now (change companions builtin.old builtin.new) (change (children W.starts W.ended W.faults W.steady) spawner.old spawner.new) }
     ensures nothing { IfErr result (λ _. K.taken out.new ≡ K.taken out.old) }
 {
     if is_companion(solver) {
@@ -127,8 +120,7 @@ fn name_of(file: &Option<Text>) -> Option<&str>
 
 // An end without a report.
 fn say<K: Sink>(alloc: Global, out: &mut K, bytes: &[u8], status: Status) -> Ended
-    ensures said { IsSaid status bytes.now (K.taken out.old) (K.taken out.new) result.runs.items result.status }
-    ensures status { (result.status ≡ status) ⊎ ((result.status ≡ Status.Unwritten) × Rose (K.faults out.old) (K.faults out.new)) }
+    ensures { IsSaid status bytes.now (change (taken K.taken K.faults) out.old out.new) result }
 {
     put(out, bytes, status, Vec::new(alloc))
 }
@@ -144,12 +136,8 @@ fn verify_typed<K: Sink, W: Spawner>(
     builtin: &mut Builtin,
 ) -> Result<Ended, AllocError>
     requires { IsSpelledBy text.now (written_of typed.now) }
-    ensures verified { IfOk result (λ ended. IsVerified text.now solver.now
-        (λ p. IsReport p builtin.old.ended.items builtin.new.ended.items 0 0 true builtin.old.starts.items builtin.new.starts.items solver.now (K.taken out.old) (K.taken out.new) ended.runs.items ended.status × HasNoFault ended.runs.items)
-        (λ p. IsReport p (W.ended spawner.old) (W.ended spawner.new) (W.faults spawner.old) (W.faults spawner.new) (W.steady spawner.old) (W.starts spawner.old) (W.starts spawner.new) solver.now (K.taken out.old) (K.taken out.new) ended.runs.items ended.status)
-        (K.taken out.old) (K.taken out.new) ended.runs.items ended.status) }
-    ensures status { IfOk result (λ ended. IsStatusOf (Rose (K.faults out.old) (K.faults out.new)) ⊥ ⊥ ended.runs.items ended.status) }
-    ensures starts { let start : Start = record { lane = 0; command = solver.now } in (W.starts spawner.new ≡ W.starts spawner.old) ⊎ (W.starts spawner.new ≡ W.starts spawner.old ++ start ∷ []) }
+    ensures verified { IfOk result (IsVerified text.now solver.now (change companions builtin.old builtin.new) (change (children W.starts W.ended W.faults W.steady) spawner.old spawner.new) (change (taken K.taken K.faults) out.old out.new)) }
+    ensures starts { StartsBy solver.now (change companions builtin.old builtin.new) (change (children W.starts W.ended W.faults W.steady) spawner.old spawner.new) }
     ensures nothing { IfErr result (λ _. K.taken out.new ≡ K.taken out.old) }
 {
     typed.typed();
@@ -178,12 +166,8 @@ fn verify_program<K: Sink, W: Spawner>(
     builtin: &mut Builtin,
 ) -> Result<Ended, AllocError>
     requires { IsSpelledBy text.now (written_program program.now) }
-    ensures verified { IfOk result (λ ended. IsVerified text.now solver.now
-        (λ p. IsReport p builtin.old.ended.items builtin.new.ended.items 0 0 true builtin.old.starts.items builtin.new.starts.items solver.now (K.taken out.old) (K.taken out.new) ended.runs.items ended.status × HasNoFault ended.runs.items)
-        (λ p. IsReport p (W.ended spawner.old) (W.ended spawner.new) (W.faults spawner.old) (W.faults spawner.new) (W.steady spawner.old) (W.starts spawner.old) (W.starts spawner.new) solver.now (K.taken out.old) (K.taken out.new) ended.runs.items ended.status)
-        (K.taken out.old) (K.taken out.new) ended.runs.items ended.status) }
-    ensures status { IfOk result (λ ended. IsStatusOf (Rose (K.faults out.old) (K.faults out.new)) ⊥ ⊥ ended.runs.items ended.status) }
-    ensures starts { let start : Start = record { lane = 0; command = solver.now } in (W.starts spawner.new ≡ W.starts spawner.old) ⊎ (W.starts spawner.new ≡ W.starts spawner.old ++ start ∷ []) }
+    ensures verified { IfOk result (IsVerified text.now solver.now (change companions builtin.old builtin.new) (change (children W.starts W.ended W.faults W.steady) spawner.old spawner.new) (change (taken K.taken K.faults) out.old out.new)) }
+    ensures starts { StartsBy solver.now (change companions builtin.old builtin.new) (change (children W.starts W.ended W.faults W.steady) spawner.old spawner.new) }
     ensures nothing { IfErr result (λ _. K.taken out.new ≡ K.taken out.old) }
 {
     match type_of(alloc, program)? {
@@ -201,12 +185,8 @@ fn verify_text<K: Sink, W: Spawner>(
     spawner: &mut W,
     builtin: &mut Builtin,
 ) -> Result<Ended, AllocError>
-    ensures verified { IfOk result (λ ended. IsVerified text.now solver.now
-        (λ p. IsReport p builtin.old.ended.items builtin.new.ended.items 0 0 true builtin.old.starts.items builtin.new.starts.items solver.now (K.taken out.old) (K.taken out.new) ended.runs.items ended.status × HasNoFault ended.runs.items)
-        (λ p. IsReport p (W.ended spawner.old) (W.ended spawner.new) (W.faults spawner.old) (W.faults spawner.new) (W.steady spawner.old) (W.starts spawner.old) (W.starts spawner.new) solver.now (K.taken out.old) (K.taken out.new) ended.runs.items ended.status)
-        (K.taken out.old) (K.taken out.new) ended.runs.items ended.status) }
-    ensures status { IfOk result (λ ended. IsStatusOf (Rose (K.faults out.old) (K.faults out.new)) ⊥ ⊥ ended.runs.items ended.status) }
-    ensures starts { let start : Start = record { lane = 0; command = solver.now } in (W.starts spawner.new ≡ W.starts spawner.old) ⊎ (W.starts spawner.new ≡ W.starts spawner.old ++ start ∷ []) }
+    ensures verified { IfOk result (IsVerified text.now solver.now (change companions builtin.old builtin.new) (change (children W.starts W.ended W.faults W.steady) spawner.old spawner.new) (change (taken K.taken K.faults) out.old out.new)) }
+    ensures starts { StartsBy solver.now (change companions builtin.old builtin.new) (change (children W.starts W.ended W.faults W.steady) spawner.old spawner.new) }
     ensures nothing { IfErr result (λ _. K.taken out.new ≡ K.taken out.old) }
 {
     match read(alloc, text)? {
@@ -227,13 +207,9 @@ fn verify_file<F: Files, K: Sink, W: Spawner>(
     spawner: &mut W,
     builtin: &mut Builtin,
 ) -> Result<Ended, AllocError>
-    ensures answered { IfOk result (λ ended. IsAnswer (Some (Order.Verify file.now solver.now)) (Rose (F.faults files.old) (F.faults files.new)) (F.holds files.old)
-        (λ p. IsReport p builtin.old.ended.items builtin.new.ended.items 0 0 true builtin.old.starts.items builtin.new.starts.items solver.now (K.taken out.old) (K.taken out.new) ended.runs.items ended.status × HasNoFault ended.runs.items)
-        (λ p. IsReport p (W.ended spawner.old) (W.ended spawner.new) (W.faults spawner.old) (W.faults spawner.new) (W.steady spawner.old) (W.starts spawner.old) (W.starts spawner.new) solver.now (K.taken out.old) (K.taken out.new) ended.runs.items ended.status)
-        (K.taken out.old) (K.taken out.new) ended.runs.items ended.status) }
-    ensures asked { AsksFileOf (Order.Verify file.now solver.now) (F.asked files.old) (F.asked files.new) }
-    ensures status { IfOk result (λ ended. IsStatusOf (Rose (K.faults out.old) (K.faults out.new)) ⊥ (IsUnreadFile (Order.Verify file.now solver.now) (Rose (F.faults files.old) (F.faults files.new)) (F.holds files.old)) ended.runs.items ended.status) }
-    ensures starts { StartsOnly (Order.Verify file.now solver.now) (W.starts spawner.old) (W.starts spawner.new) }
+    ensures answered { IfOk result (IsAnswer (Some (Order.Verify file.now solver.now)) (change (texts F.holds F.asked F.faults) files.old files.new) (change companions builtin.old builtin.new) (change (children W.starts W.ended W.faults W.steady) spawner.old spawner.new) (change (taken K.taken K.faults) out.old out.new)) }
+    ensures asked { AsksOnly file.now (change (texts F.holds F.asked F.faults) files.old files.new) }
+    ensures starts { StartsBy solver.now (change companions builtin.old builtin.new) (change (children W.starts W.ended W.faults W.steady) spawner.old spawner.new) }
     ensures nothing { IfErr result (λ _. K.taken out.new ≡ K.taken out.old) }
 {
     match load(alloc, files, name_of(file))? {
@@ -251,9 +227,8 @@ fn say_file<F: Files, K: Sink>(
     files: &mut F,
     out: &mut K,
 ) -> Result<Ended, AllocError>
-    ensures said { IfOk result (λ ended. Puts (IsToldOf (spec.Says saying) (Rose (F.faults files.old) (F.faults files.new)) (F.holds files.old file.now)) (K.taken out.old) (K.taken out.new) ended.runs.items ended.status) }
-    ensures asked { AsksOnly file.now (F.asked files.old) (F.asked files.new) }
-    ensures status { IfOk result (λ ended. IsStatusOf (Rose (K.faults out.old) (K.faults out.new)) ⊥ (IsUnread (Rose (F.faults files.old) (F.faults files.new)) (F.holds files.old file.now)) ended.runs.items ended.status) }
+    ensures said { IfOk result (Puts (IsToldOf (spec.Says saying) file.now (change (texts F.holds F.asked F.faults) files.old files.new)) (change (taken K.taken K.faults) out.old out.new)) }
+    ensures asked { AsksOnly file.now (change (texts F.holds F.asked F.faults) files.old files.new) }
     ensures nothing { IfErr result (λ _. K.taken out.new ≡ K.taken out.old) }
 {
     match load(alloc, files, name_of(file))? {
@@ -275,13 +250,9 @@ fn obey<F: Files, K: Sink, W: Spawner>(
     spawner: &mut W,
     builtin: &mut Builtin,
 ) -> Result<Ended, AllocError>
-    ensures answered { IfOk result (λ ended. IsAnswer (Some order.now) (Rose (F.faults files.old) (F.faults files.new)) (F.holds files.old)
-        (λ p. IsReport p builtin.old.ended.items builtin.new.ended.items 0 0 true builtin.old.starts.items builtin.new.starts.items (spec.solver_of order.now) (K.taken out.old) (K.taken out.new) ended.runs.items ended.status × HasNoFault ended.runs.items)
-        (λ p. IsReport p (W.ended spawner.old) (W.ended spawner.new) (W.faults spawner.old) (W.faults spawner.new) (W.steady spawner.old) (W.starts spawner.old) (W.starts spawner.new) (spec.solver_of order.now) (K.taken out.old) (K.taken out.new) ended.runs.items ended.status)
-        (K.taken out.old) (K.taken out.new) ended.runs.items ended.status) }
-    ensures asked { AsksFileOf order.now (F.asked files.old) (F.asked files.new) }
-    ensures status { IfOk result (λ ended. IsStatusOf (Rose (K.faults out.old) (K.faults out.new)) ⊥ (IsUnreadFile order.now (Rose (F.faults files.old) (F.faults files.new)) (F.holds files.old)) ended.runs.items ended.status) }
-    ensures starts { StartsOnly order.now (W.starts spawner.old) (W.starts spawner.new) }
+    ensures answered { IfOk result (IsAnswer (Some order.now) (change (texts F.holds F.asked F.faults) files.old files.new) (change companions builtin.old builtin.new) (change (children W.starts W.ended W.faults W.steady) spawner.old spawner.new) (change (taken K.taken K.faults) out.old out.new)) }
+    ensures asked { AsksFileOf (Some order.now) (change (texts F.holds F.asked F.faults) files.old files.new) }
+    ensures starts { StartsSolverOf (Some order.now) (change companions builtin.old builtin.new) (change (children W.starts W.ended W.faults W.steady) spawner.old spawner.new) }
     ensures nothing { IfErr result (λ _. K.taken out.new ≡ K.taken out.old) }
 {
     match order {
@@ -304,6 +275,29 @@ fn without_memory(alloc: Global) -> Ended
     }
 }
 
+// Does what the words say.
+fn answer<F: Files, K: Sink, W: Spawner>(
+    alloc: Global,
+    words: &Parts,
+    files: &mut F,
+    out: &mut K,
+    spawner: &mut W,
+    builtin: &mut Builtin,
+) -> Ended
+    ensures answered { IsAnswer (order_of words.now) (change (texts F.holds F.asked F.faults) files.old files.new) (change companions builtin.old builtin.new) (change (children W.starts W.ended W.faults W.steady) spawner.old spawner.new) (change (taken K.taken K.faults) out.old out.new) result }
+    ensures asked { AsksFileOf (order_of words.now) (change (texts F.holds F.asked F.faults) files.old files.new) }
+    ensures starts { StartsSolverOf (order_of words.now) (change companions builtin.old builtin.new) (change (children W.starts W.ended W.faults W.steady) spawner.old spawner.new) }
+{
+    match read_words(alloc, words) {
+        Ok(order) => match obey(alloc, &order, files, out, spawner, builtin) {
+            Ok(ended) => ended,
+            Err(AllocError) => without_memory(alloc),
+        },
+        Err(WordsFault::Usage) => say(alloc, out, USAGE.as_bytes(), Status::Usage),
+        Err(WordsFault::Want) => without_memory(alloc),
+    }
+}
+
 /// Does what the words say; the first is the program's name. All text goes to `out`, built whole before its first byte
 /// is put. Children are started by `spawner`, or, where the solver is `builtin` or none is named, by `builtin`.
 pub fn run<F: Files, K: Sink, W: Spawner>(
@@ -314,22 +308,11 @@ pub fn run<F: Files, K: Sink, W: Spawner>(
     spawner: &mut W,
     builtin: &mut Builtin,
 ) -> Ended
-    ensures answered { IsAnswer (order_of words.now) (Rose (F.faults files.old) (F.faults files.new)) (F.holds files.old)
-        (λ p. IsReport p builtin.old.ended.items builtin.new.ended.items 0 0 true builtin.old.starts.items builtin.new.starts.items (spec.solver_by (order_of words.now)) (K.taken out.old) (K.taken out.new) result.runs.items result.status × HasNoFault result.runs.items)
-        (λ p. IsReport p (W.ended spawner.old) (W.ended spawner.new) (W.faults spawner.old) (W.faults spawner.new) (W.steady spawner.old) (W.starts spawner.old) (W.starts spawner.new) (spec.solver_by (order_of words.now)) (K.taken out.old) (K.taken out.new) result.runs.items result.status)
-        (K.taken out.old) (K.taken out.new) result.runs.items result.status }
-    ensures status { IsStatusOf (Rose (K.faults out.old) (K.faults out.new)) (order_of words.now ≡ None)
-        ((order : meant.Order) × (order_of words.now ≡ Some order) × IsUnreadFile order (Rose (F.faults files.old) (F.faults files.new)) (F.holds files.old)) result.runs.items result.status }
+    ensures answered { IsAnswer (order_of words.now) (change (texts F.holds F.asked F.faults) files.old files.new) (change companions builtin.old builtin.new) (change (children W.starts W.ended W.faults W.steady) spawner.old spawner.new) (change (taken K.taken K.faults) out.old out.new) result }
+    ensures asked { AsksFileOf (order_of words.now) (change (texts F.holds F.asked F.faults) files.old files.new) }
+    ensures starts { StartsSolverOf (order_of words.now) (change companions builtin.old builtin.new) (change (children W.starts W.ended W.faults W.steady) spawner.old spawner.new) }
+    ensures status { IsStatusOf (order_of words.now) (change (texts F.holds F.asked F.faults) files.old files.new) (change (taken K.taken K.faults) out.old out.new) result.runs.items result.status }
     ensures usage { order_of words.now ≡ None → (result.status ≡ Status.Usage) ⊎ (result.status ≡ Status.Unwritten) ⊎ (result.status ≡ Status.Want) }
-    ensures asked { (F.asked files.new ≡ F.asked files.old) ⊎ ((order : meant.Order) × (order_of words.now ≡ Some order) × AsksFileOf order (F.asked files.old) (F.asked files.new)) }
-    ensures starts { (W.starts spawner.new ≡ W.starts spawner.old) ⊎ ((order : meant.Order) × (order_of words.now ≡ Some order) × StartsOnly order (W.starts spawner.old) (W.starts spawner.new)) }
 {
-    match read_words(alloc, words) {
-        Ok(order) => match obey(alloc, &order, files, out, spawner, builtin) {
-            Ok(ended) => ended,
-            Err(AllocError) => without_memory(alloc),
-        },
-        Err(WordsFault::Usage) => say(alloc, out, USAGE.as_bytes(), Status::Usage),
-        Err(WordsFault::Want) => without_memory(alloc),
-    }
+    answer(alloc, words, files, out, spawner, builtin)
 }

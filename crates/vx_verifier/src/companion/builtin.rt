@@ -2,7 +2,7 @@
 ghost use Rattle.std.specs.Prelude.{◌≡◌, ℕ, ◌+◌, ◌≤◌, ◌==◌, ◌++◌, [], vec_len, vec_capacity, count_by, List, IfOk, true, false};
 ghost use Rattle.vx_ends.specs.Dialogue.{sent, got};
 ghost use Rattle.vx_sexp.specs.Finished.{finished};
-ghost use Rattle.vx_verifier.specs.Companion.{HasAnswered, HasSaid, AllReplied, AllRight};
+ghost use Rattle.vx_verifier.specs.Companion.{HasAnswered, HasSaid, AllReplied, AllByCompanion};
 
 use crate::companion::Session;
 use std::alloc::{AllocError, Global};
@@ -19,7 +19,7 @@ fn reply_all<'a>(
     bytes: &'a [u8],
 ) -> Result<&'a [u8], AllocError>
     ensures answered { IfOk result (λ rest. (all_sent front : List ℕ) → HasAnswered all_sent bytes.now (front ++ replies.old.items) → HasAnswered all_sent rest.now (front ++ replies.new.items)) }
-    ensures said { IfOk result (λ rest. (all_sent front : List ℕ) → HasSaid all_sent bytes.now (front ++ replies.old.items) → HasSaid all_sent rest.now (front ++ replies.new.items)) }
+    ensures said { IfOk result (λ rest. (all_sent front : List ℕ) → HasSaid all_sent bytes.now (front ++ replies.old.items) session.old → HasSaid all_sent rest.now (front ++ replies.new.items) session.new) }
     ensures none_left { IfOk result (λ rest. finished rest.now ≡ 0) }
     ensures more { (n : ℕ) (front : List ℕ) → n ≤ finished (front ++ replies.old.items) → n ≤ finished (front ++ replies.new.items) }
     ensures replied { (all_sent front : List ℕ) → AllReplied all_sent (front ++ replies.old.items) → AllReplied all_sent (front ++ replies.new.items) }
@@ -52,23 +52,24 @@ pub struct CompanionLink {
     is_spent: bool,
     ghost owed: { finished (sent pieces.items) ≤ finished (got pieces.items ++ replies.items) },
     ghost answered: { is_spent ≡ false → HasAnswered (sent pieces.items) unread.items (got pieces.items ++ replies.items) },
-    ghost said: { is_spent ≡ false → ∥ HasSaid (sent pieces.items) unread.items (got pieces.items ++ replies.items) ∥₁ },
+    ghost said: { is_spent ≡ false → ∥ HasSaid (sent pieces.items) unread.items (got pieces.items ++ replies.items) session ∥₁ },
     ghost replied: { AllReplied (sent pieces.items) (got pieces.items ++ replies.items) },
 }
 
 impl CompanionLink {
-    fn new(alloc: Global) -> CompanionLink
-        ensures dialogue { result.pieces.items ≡ [] }
-        ensures faults { result.faults ≡ 0 }
+    fn new(alloc: Global) -> Result<CompanionLink, AllocError>
+        ensures dialogue { IfOk result (λ link. link.pieces.items ≡ []) }
+        ensures faults { IfOk result (λ link. link.faults ≡ 0) }
     {
-        CompanionLink {
-            session: Session::new(alloc),
+        let session = Session::new(alloc)?;
+        Ok(CompanionLink {
+            session,
             unread: Vec::new(alloc),
             replies: Vec::new(alloc),
             pieces: Vec::new(alloc),
             faults: 0,
             is_spent: false,
-        }
+        })
     }
 }
 
@@ -129,7 +130,7 @@ pub struct Builtin {
     lanes_out: Vec<u32>,
     ended: Vec<Ending>,
     ghost room: { vec_len ended + vec_len lanes_out ≤ vec_capacity ended },
-    ghost right: { AllRight ended.items },
+    ghost right: { AllByCompanion ended.items },
 }
 
 impl Builtin {
@@ -165,6 +166,7 @@ impl Spawner for Builtin {
         lane: u32,
         command: &Parts,
     ) -> Result<CompanionLink, StartFault> {
+        let link = CompanionLink::new(alloc)?;
         let kept = command.copy(alloc)?;
         self.lanes_out.reserve(1)?;
         let room = self.lanes_out.len() + 1;
@@ -174,7 +176,7 @@ impl Spawner for Builtin {
             command: kept,
         })?;
         match self.lanes_out.push(lane) {
-            Ok(()) => Ok(CompanionLink::new(alloc)),
+            Ok(()) => Ok(link),
             Err(_) => unreachable!(),
         }
     }

@@ -1,6 +1,9 @@
 // What the companion knows, and what it says to a command.
-ghost use Rattle.std.specs.Prelude.{◌≡◌, IfOk, true};
-ghost use Rattle.vx_verifier.specs.Companion.{is_refuted, negates_some, is_negation, said_text, is_other, heard_in, may_say, IsFit};
+ghost use Rattle.std.specs.Prelude.{◌≡◌, ◌+◌, ◌-◌, ◌<◌, ◌++◌, ◌∷◌, [], List, ℕ, IfOk, OnOk, true, false, length, take, drop};
+ghost use Rattle.vx_terms.specs.Terms.{Term};
+ghost use Rattle.vx_smt_meaning.specs.Commands.{Level, Assert, Push, Pop, empty_level, opened, stack_after};
+ghost use Rattle.vx_smt_text.specs.Text.{term_text, front_text};
+ghost use Rattle.vx_verifier.specs.Companion.{is_refuted, negates_some, is_negation, said_text, is_other, heard_in, number_from, verdict_on, Knows, IsMoved, Obeys, IsFit};
 
 use std::alloc::{AllocError, Global};
 use vx_sexp::Bytes;
@@ -33,9 +36,9 @@ impl Said {
 
 /// The live assertions by their texts, and how many there were as each level was opened.
 ///
-/// Each command of the language is answered lawfully. Where more levels are to be closed than are open, all are
-/// closed; it has no proofs, and where one is asked for gives that of no steps. What isn't of the language is
-/// unsupported, as far as its first word tells.
+/// Each command of the language has its reply. Where more levels are to be closed than are open, all are closed, and
+/// nothing is asserted until one is opened; it has no proofs, and where one is asked for gives that of no steps. What
+/// isn't of the language is unsupported, as far as its first word tells.
 #[derive(Drop)]
 pub struct Session {
     live: Vec<Bytes>,
@@ -93,24 +96,33 @@ fn heard_in(text: &[u8]) -> Heard
 }
 
 // What stands behind the front and before the last parenthesis.
-fn behind<'t>(text: &'t [u8], front: &[u8]) -> &'t [u8] {
-    match text.strip_prefix(front) {
-        Some(rest) => rest.strip_suffix(b")".as_slice()).unwrap_or(rest),
-        None => text,
+fn behind<'t>(text: &'t [u8], front: &[u8]) -> &'t [u8]
+    ensures { length front.now < length text.entry.now → result.now ≡ take (length text.entry.now - length front.now - 1) (drop (length front.now) text.entry.now) }
+{
+    if text.len() <= front.len() {
+        return text;
     }
+    let (_, rest) = text.split_at(front.len());
+    let (middle, _) = rest.split_at(rest.len() - 1);
+    middle
 }
 
-// The number that the text begins with, at most the greatest of its type.
-fn number_in(text: &[u8]) -> usize {
+// The number that the text begins with. One that is wider than the machine's is more than memory holds.
+fn number_in(text: &[u8]) -> Result<usize, AllocError>
+    ensures { IfOk result (λ n. n ≡ number_from 0 text.now) }
+{
     let mut number: usize = 0;
     for byte in text {
         if !byte.is_ascii_digit() {
-            return number;
+            return Ok(number);
         }
-        let digit = usize::from(byte.saturating_sub(b'0'));
-        number = number.saturating_mul(10).saturating_add(digit);
+        let digit = usize::from(*byte - b'0');
+        if number > (usize::MAX - digit) / 10 {
+            return Err(AllocError);
+        }
+        number = number * 10 + digit;
     }
-    number
+    Ok(number)
 }
 
 // The one is the other's negation.
@@ -139,11 +151,16 @@ fn negates_some(text: &[u8], live: &[Bytes]) -> bool
 }
 
 impl Session {
-    pub fn new(alloc: Global) -> Session {
-        Session {
+    /// One level is open, and nothing is live.
+    pub fn new(alloc: Global) -> Result<Session, AllocError>
+        ensures { IfOk result (λ s. Knows s (empty_level ∷ [])) }
+    {
+        let mut marks = Vec::new(alloc);
+        marks.push(0)?;
+        Ok(Session {
             live: Vec::new(alloc),
-            marks: Vec::new(alloc),
-        }
+            marks,
+        })
     }
 
     // Some live assertion is `false`, or the negation of another.
@@ -159,51 +176,112 @@ impl Session {
         false
     }
 
-    fn open(&mut self, levels: usize) -> Result<(), AllocError> {
-        self.marks.reserve(levels)?;
-        for _ in 0..levels {
+    // Asserts a term.
+    fn add(&mut self, alloc: Global, term: &[u8]) -> Result<(), AllocError>
+        ensures { OnOk result ((levels : List Level) (t : Term) → term.now ≡ term_text t → Knows self.old levels → Knows self.new (stack_after (Assert t) levels)) }
+    {
+        if self.marks.is_empty() {
+            return Ok(());
+        }
+        let copy = Bytes::copy(alloc, term)?;
+        self.live.push(copy)?;
+        Ok(())
+    }
+
+    // Opens so many levels.
+    fn open(&mut self, count: usize) -> Result<(), AllocError>
+        ensures { OnOk result ((levels : List Level) → Knows self.old levels → Knows self.new (opened count levels)) }
+    {
+        self.marks.reserve(count)?;
+        for _ in 0..count {
             self.marks.push(self.live.len())?;
         }
         Ok(())
     }
 
-    fn close(&mut self, levels: usize) {
-        let kept = self.marks.len().saturating_sub(levels);
-        if let Some(mark) = self.marks.get(kept) {
-            self.live.truncate(*mark);
-            self.marks.truncate(kept);
+    // Closes the level that was opened last, if one is open.
+    fn close_one(&mut self) -> bool
+        ensures closed { (levels : List Level) → Knows self.old levels → Knows self.new (drop 1 levels) }
+        ensures none { result ≡ false → (levels : List Level) → Knows self.old levels → levels ≡ [] }
+    {
+        match self.marks.pop() {
+            Some(mark) => {
+                self.live.truncate(mark);
+                true
+            }
+            None => false,
         }
     }
 
-    #[tactic(auto, unfolding(vx_smt_meaning::specs::Replies::is_refusal))]
+    // Closes so many levels, or all.
+    fn close(&mut self, count: usize)
+        ensures { (levels : List Level) → Knows self.old levels → Knows self.new (drop count levels) }
+    {
+        for _ in 0..count {
+            if !self.close_one() {
+                return;
+            }
+        }
+    }
+
+    fn obey_assert(&mut self, alloc: Global, text: &[u8]) -> Result<(), AllocError>
+        ensures { OnOk result ((t : Term) → IsMoved (Assert t) text.now self.old self.new) }
+    {
+        self.add(alloc, behind(text, b"(assert "))
+    }
+
+    fn obey_push(&mut self, text: &[u8]) -> Result<(), AllocError>
+        ensures { OnOk result ((n : ℕ) → IsMoved (Push n) text.now self.old self.new) }
+    {
+        let count = number_in(behind(text, b"(push "))?;
+        self.open(count)
+    }
+
+    fn obey_pop(&mut self, text: &[u8]) -> Result<(), AllocError>
+        ensures { OnOk result ((n : ℕ) → IsMoved (Pop n) text.now self.old self.new) }
+    {
+        let count = number_in(behind(text, b"(pop "))?;
+        self.close(count);
+        Ok(())
+    }
+
     fn obey(&mut self, alloc: Global, heard: Heard, text: &[u8]) -> Result<Said, AllocError>
-        ensures { IfOk result (λ said. may_say heard said ≡ true) }
+        ensures { IfOk result (Obeys heard text.now self.old self.new) }
     {
         match heard {
             Heard::Assert => {
-                let term = Bytes::copy(alloc, behind(text, b"(assert "))?;
-                self.live.push(term)?;
+                self.obey_assert(alloc, text)?;
                 Ok(Said::Success)
             }
             Heard::Push => {
-                self.open(number_in(behind(text, b"(push ")))?;
+                self.obey_push(text)?;
                 Ok(Said::Success)
             }
             Heard::Pop => {
-                self.close(number_in(behind(text, b"(pop ")));
+                self.obey_pop(text)?;
                 Ok(Said::Success)
             }
-            Heard::Check if self.is_refuted() => Ok(Said::Unsat),
-            Heard::Check => Ok(Said::Unknown),
+            Heard::Check => Ok(self.verdict()),
             Heard::Proof => Ok(Said::NoSteps),
             Heard::Other => Ok(Said::Success),
             Heard::Unsupported => Ok(Said::Unsupported),
         }
     }
 
-    /// What is said to a command, by its text. It is lawful to each command that has this text.
+    // The reply to a check.
+    fn verdict(&self) -> Said
+        ensures { result ≡ verdict_on self.now.live.items }
+    {
+        if self.is_refuted() {
+            Said::Unsat
+        } else {
+            Said::Unknown
+        }
+    }
+
+    /// What is said to a command, by its text. It is the companion's reply to each command that has this text.
     pub fn command(&mut self, alloc: Global, text: &[u8]) -> Result<Said, AllocError>
-        ensures lawful { IfOk result (λ said. IsFit text.now said) }
+        ensures fits { IfOk result (IsFit text.now self.old self.new) }
     {
         let text = text.trim_ascii_start();
         self.obey(alloc, heard_in(text), text)

@@ -1,7 +1,7 @@
 // Child processes behind pipes.
 ghost use Rattle.std.specs.Prelude.{◌≡◌, ℕ, ◌+◌, ◌≤◌, ◌==◌, [], vec_len, vec_capacity, count_by, false, IfOk};
 
-use std::alloc::Global;
+use std::alloc::{AllocError, Global};
 use std::io;
 use std::io::{ErrorKind, Read, Write};
 use std::process::{Child, Command, OpenProcess, Processes, Stdio};
@@ -9,13 +9,50 @@ use vx_ends::{
     Bytes, Ending, Link, LinkFault, Parts, Piece, Record, Spawner, Start, StartFault, remove_once,
 };
 
-/// The pipes to one child. Its record is what it gave to the child's `write` and got from its `read`.
+// Room for the most bytes that are read at once.
+fn read_buffer(alloc: Global) -> Result<Vec<u8>, AllocError> {
+    vec![in alloc; 0u8; 65_536]
+}
+
+/// The pipes to one child. Its record is what it gave to the child's `write` and got from its `read`; a piece takes no
+/// more room than its bytes.
 pub struct ChildLink<P: OpenProcess> {
     child: Child<P>,
     input: P::Stdin,
     output: P::Stdout,
+    // where the child's output is read to; so many bytes at its front were not got yet
+    buffer: Vec<u8>,
+    ready: usize,
     pieces: Vec<Piece>,
     faults: u64,
+}
+
+impl<P: OpenProcess> ChildLink<P> {
+    // Reads, at most so many bytes, where none are ready. None are then at the end of the output, or where reading fails.
+    fn fill(&mut self, max: usize)
+        ensures pieces { self.new.pieces ≡ self.old.pieces }
+        ensures faults { self.new.faults ≡ self.old.faults }
+    {
+        if self.ready > 0 {
+            return;
+        }
+        let most = self.buffer.len().min(max);
+        if let Ok(count) = self.output.read(&mut self.buffer[..most]) {
+            self.ready = count;
+        }
+    }
+
+    // The bytes at the front were got.
+    fn take(&mut self, count: usize)
+        requires { (count ≤ self.old.ready) × (count ≤ vec_len self.old.buffer) }
+        ensures pieces { self.new.pieces ≡ self.old.pieces }
+        ensures faults { self.new.faults ≡ self.old.faults }
+    {
+        if count < self.ready {
+            self.buffer.rotate_left(count);
+        }
+        self.ready -= count;
+    }
 }
 
 impl<P: OpenProcess> Link for ChildLink<P> {
@@ -45,14 +82,13 @@ impl<P: OpenProcess> Link for ChildLink<P> {
 
     fn receive(&mut self, alloc: Global, max: usize) -> Result<Vec<u8>, LinkFault> {
         if self.faults == 0 {
-            let mut piece = vec![in alloc; 0u8; max.min(65_536)]?;
-            let mut copy = Bytes::copy(alloc, &piece)?;
-            self.pieces.reserve(1)?;
-            if let Ok(count) = self.output.read(&mut piece)
-                && count > 0
-            {
-                piece.truncate(count);
-                copy.copy_from(&piece);
+            self.fill(max);
+            let count = self.ready.min(max).min(self.buffer.len());
+            if count > 0 {
+                let piece = self.buffer[..count].to_vec(alloc)?;
+                let copy = Bytes::copy(alloc, &piece)?;
+                self.pieces.reserve(1)?;
+                self.take(count);
                 return match self.pieces.push(Piece::Got(copy)) {
                     Ok(()) => Ok(piece),
                     Err(_) => unreachable!(),
@@ -137,6 +173,7 @@ impl<R: Processes> Spawner for ChildSpawner<R> {
         let room = self.lanes_out.len() + 1;
         self.ended.reserve(room)?;
         self.starts.reserve(1)?;
+        let buffer = read_buffer(alloc)?;
         let child = spawn(alloc, &self.processes, command);
         if let Err(error) = &child
             && error.kind() == ErrorKind::OutOfMemory
@@ -159,6 +196,8 @@ impl<R: Processes> Spawner for ChildSpawner<R> {
                     child,
                     input,
                     output,
+                    buffer,
+                    ready: 0,
                     pieces: Vec::new(alloc),
                     faults: 0,
                 }),
@@ -175,6 +214,8 @@ impl<R: Processes> Spawner for ChildSpawner<R> {
             mut child,
             input,
             output: _,
+            buffer: _,
+            ready: _,
             pieces,
             faults,
         } = link;

@@ -15,6 +15,7 @@ returns-in_ok-text_refusal-in-Err c = (
     too_long = (λ e. c.in-Err.ensures.too_long.0 (ap Err e), λ long. err_is (c.in-Err.ensures.too_long.1 long));
     not_utf8 = λ short bad. err_is (c.in-Err.ensures.not_utf8 short bad);
     refused = c.in-Err.ensures.refused;
+    reads = c.in-Err.ensures.reads;
   },
   c.in_ok-text_refusal-in-Err.ensures.line,
 )

@@ -4,4 +4,5 @@ use Rattle.vx_verifier.proofs.top.report_by_companion.Goals as goal
 
 pub returns-clause-report : goal.returns-clause-report
 returns-clause-report g c =
-    IfOk-weaker c.report.result _ _ (λ ended h. (h, no_fault _ _ _ _ _ _ _ _ _ _ h c.report.new.spawner.right)) c.report.ensures.report
+    let replies = c.report.new.spawner.right in
+    IfOk-weaker c.report.result _ _ (λ ended h. record { report = h; no_fault = no_fault _ _ c.args.builtin.now c.report.new.spawner _ ended h replies; replies = replies }) c.report.ensures.report

@@ -1,4 +1,4 @@
-use Rattle.std.proofs.Common.{inl, inr, ◌∙◌, subst}
+use Rattle.std.proofs.Common.{inl, inr, refl, ◌∙◌, subst}
 use Rattle.vx_ast.specs.Written.{written_program}
 use Rattle.vx_report.specs.declared.status.Status.TheVariants.{Refused}
 use Rattle.vx_verifier.specs.Reported.{IsCheckedFrom}
@@ -8,4 +8,5 @@ pub returns-in-Refused-clause-verified : goal.returns-in-Refused-clause-verified
 returns-in-Refused-clause-verified g c =
     let p = written_program c.args.program.now in
     let refused = subst (IsCheckedFrom p) c.in-Refused.is c.in_ok-typed.ensures in
-    inl (Refused, c.as_bytes.result.now, inr (p, c.requires, inl (refused.0, refused.1, c.as_bytes.ensures.value ∙ refused.2)), c.say.ensures.said)
+    let said = inr (p, c.requires, inl (refused.0, refused.1, c.as_bytes.ensures.value ∙ refused.2)) in
+    inl (record { told = (Refused, c.as_bytes.result.now, said, c.say.ensures); companion_rests = refl; handed_rests = refl })

@@ -26,8 +26,8 @@ commands-preserved c =
           rw (items, back) (subst (λ x. HasAnswered all_sent left x) (append_assoc front replies reply)
           (answered_one all_sent rest left (front ++ replies) reply first.1 first.2 (said_one said) (so_far.answered all_sent front h)));
       said = λ all_sent front h.
-          rw (items, back) (subst (λ x. HasSaid all_sent left x) (append_assoc front replies reply)
-          (said_next all_sent rest left (front ++ replies) command first.1 said whole first.2 c.in_ok-said.ensures.lawful (so_far.said all_sent front h)));
+          rw (items, back) (subst (λ x. HasSaid all_sent left x c.command.new.self) (append_assoc front replies reply)
+          (said_next all_sent rest left (front ++ replies) command first.1 c.commands.session c.command.new.self said whole first.2 c.in_ok-said.ensures.fits (so_far.said all_sent front h)));
       more = λ n front h. rw items (more_replies n front replies reply (so_far.more n front h));
       replied = λ all_sent front h.
           rw items (subst (λ x. AllReplied all_sent x) (append_assoc front replies reply) (replied_more all_sent (front ++ replies) reply (so_far.replied all_sent front h)));

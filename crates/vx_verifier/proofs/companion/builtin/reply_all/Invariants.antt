@@ -6,7 +6,7 @@ use Rattle.vx_verifier.proofs.companion.builtin.reply_all.Given as goal
 abbrev pub invariant-commands : goal.invariant-commands
 invariant-commands l = record {
   answered : (all_sent front : List ℕ) → HasAnswered all_sent l.bytes (front ++ l.fn.replies.items) → HasAnswered all_sent l.rest (front ++ l.replies.items);
-  said : (all_sent front : List ℕ) → HasSaid all_sent l.bytes (front ++ l.fn.replies.items) → HasSaid all_sent l.rest (front ++ l.replies.items);
+  said : (all_sent front : List ℕ) → HasSaid all_sent l.bytes (front ++ l.fn.replies.items) l.fn.session → HasSaid all_sent l.rest (front ++ l.replies.items) l.session;
   more : (n : ℕ) (front : List ℕ) → n ≤ finished (front ++ l.fn.replies.items) → n ≤ finished (front ++ l.replies.items);
   replied : (all_sent front : List ℕ) → AllReplied all_sent (front ++ l.fn.replies.items) → AllReplied all_sent (front ++ l.replies.items);
 }

@@ -1,7 +1,7 @@
 use Rattle.std.proofs.Common.{rules, ◌≡◌, ◌++◌, ◌∷◌, [], sym, subst}
 use Rattle.std.proofs.lemmas.List.Elements.{All-push}
 use Rattle.vx_ends.specs.declared.piece.Ending.{Ending}
-use Rattle.vx_verifier.specs.Companion.{RepliesRightly, AllRight}
+use Rattle.vx_verifier.specs.Companion.{RepliesByCompanion, AllByCompanion}
 use Rattle.vx_verifier.proofs.companion.builtin.BuiltinSpawner.finish.Goals as goal
 
 pub invariant_of-self-clause-right : goal.invariant_of-self-clause-right
@@ -10,5 +10,5 @@ invariant_of-self-clause-right c =
     let old = c.args.self.now.ended.items in
     let ending : Ending = record { lane = c.args.lane; dialogue = link.pieces.items; faults = link.faults } in
     let items : c.push.new.self.items ≡ old ++ ending ∷ [] = search rules in
-    let right : RepliesRightly link.pieces.items = ∣ (link.replies.items, link.replied) ∣₁ in
-    subst AllRight (sym items) (All-push (λ (e : Ending). RepliesRightly e.dialogue) old ending c.args.self.now.right right)
+    let right : RepliesByCompanion link.pieces.items = ∣ (link.replies.items, link.replied) ∣₁ in
+    subst AllByCompanion (sym items) (All-push (λ (e : Ending). RepliesByCompanion e.dialogue) old ending c.args.self.now.right right)

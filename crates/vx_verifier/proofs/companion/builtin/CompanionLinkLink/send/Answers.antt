@@ -28,12 +28,13 @@ invariant_of-self-2 c =
     c.in_ok-rest.ensures.answered (sent old.pieces.items ++ piece) (got old.pieces.items) before in
     let all = replies_all (sent old.pieces.items ++ piece) rest (got old.pieces.items ++ replies) c.in_ok-rest.ensures.none_left now in
     let owed : finished (sent new) ≤ finished (got new ++ replies) = rw (sent_on, got_on) all in
-    let read : ∥ HasSaid (sent old.pieces.items ++ piece) rest (got old.pieces.items ++ replies) ∥₁ =
+    let session = c.reply_all.new.session in
+    let read : ∥ HasSaid (sent old.pieces.items ++ piece) rest (got old.pieces.items ++ replies) session ∥₁ =
     ∥∥₁_map (old.said fresh) (λ h. c.in_ok-rest.ensures.said (sent old.pieces.items ++ piece) (got old.pieces.items)
-    (subst (λ x. HasSaid (sent old.pieces.items ++ piece) x (got old.pieces.items ++ old.replies.items)) (sym bytes)
-    (said_on (sent old.pieces.items) old.unread.items (got old.pieces.items ++ old.replies.items) piece h))) in
+    (subst (λ x. HasSaid (sent old.pieces.items ++ piece) x (got old.pieces.items ++ old.replies.items) old.session) (sym bytes)
+    (said_on (sent old.pieces.items) old.unread.items (got old.pieces.items ++ old.replies.items) piece old.session h))) in
     let replied : AllReplied (sent old.pieces.items ++ piece) (got old.pieces.items ++ replies) =
-    read_replied (sent old.pieces.items ++ piece) rest (got old.pieces.items ++ replies) c.in_ok-rest.ensures.none_left read in
+    read_replied (sent old.pieces.items ++ piece) rest (got old.pieces.items ++ replies) session c.in_ok-rest.ensures.none_left read in
     record {
       owed = owed;
       answered = λ again. rw (sent_on, got_on, kept) now;

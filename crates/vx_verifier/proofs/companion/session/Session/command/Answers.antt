@@ -3,5 +3,5 @@ use Rattle.vx_verifier.proofs.companion.session.Session.command.Goals as goal
 
 pub returns : goal.returns
 returns c = record {
-  lawful = fit_all c.args.text.now c.trim_ascii_start-text.result.now c.obey.result c.trim_ascii_start-text.ensures.value c.heard_in.result c.heard_in.ensures c.obey.ensures;
+  fits = fit_all c.args.text.now c.trim_ascii_start-text.result.now c.args.self.now c.obey.new.self c.obey.result c.trim_ascii_start-text.ensures.value c.heard_in.result c.heard_in.ensures c.obey.ensures;
 }
