@@ -69,11 +69,11 @@ pub learns_one : (clauses clauses' : List Clause) (steps steps' : List Hints) (v
 learns_one clauses clauses' steps steps' values trail c hints start n forced s d l ec es =
     let P : List Clause → Type 0 = λ x. Learns clauses steps x steps' in
     let Q : List Hints → Type 0 = λ x. Learns clauses steps (clauses ++ c ∷ []) x in
-    subst P (sym ec) (subst Q (sym es) (learns_more c hints learns_none l.derived (uncovered clauses values trail start n c.literals.items hints.numbers.items forced s d l)))
+    subst P (sym ec) (subst Q (sym es) (learns_more c hints learns_none l.derived (values, trail, n, s.sound, l.false) (uncovered clauses values trail start n c.literals.items hints.numbers.items forced s d l)))
 
 pub learns_twice : (c1 c2 c3 : List Clause) (s1 s2 s3 : List Hints) → Learns c1 s1 c2 s2 → Learns c2 s2 c3 s3 → Learns c1 s1 c3 s3
 learns_twice c1 c2 c3 s1 s2 s3 a learns_none = a
-learns_twice c1 c2 c3 s1 s2 s3 a (learns_more c hints rest derived fresh) = learns_more c hints (learns_twice c1 _ _ s1 _ _ a rest) derived fresh
+learns_twice c1 c2 c3 s1 s2 s3 a (learns_more c hints rest derived falsified fresh) = learns_more c hints (learns_twice c1 _ _ s1 _ _ a rest) derived falsified fresh
 
 pub learned_over : (clauses clauses' : List Clause) (values : List Value) (start n : ℕ) (lits : List Literal) (hints : List ℕ) (forced : Literal) → clauses' ≡ clauses → IsLearned clauses' values start n lits hints forced → IsLearned clauses values start n lits hints forced
 learned_over clauses clauses' values start n lits hints forced e l = let P : List Clause → Type 0 = λ x. IsLearned x values start n lits hints forced in subst P e l

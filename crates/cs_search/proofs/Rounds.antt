@@ -10,7 +10,8 @@ use Rattle.cs_search.specs.declared.Value.TheVariants.{Unset, Positive, Negative
 use Rattle.cs_search.specs.declared.Status.TheVariants.{True, False}
 use Rattle.cs_search.specs.declared.Entry.{Entry}
 use Rattle.cs_hints.specs.declared.Clause.{Clause}
-use Rattle.cs_search.specs.declared.search.Meter.{Meter}
+use Rattle.cs_meter.specs.declared.Meter.{Meter}
+use Rattle.cs_meter.specs.Units.{limit}
 use Rattle.cs_search.specs.declared.search.Turn.{Turn}
 use Rattle.cs_search.specs.Assignment.{seen_or, status_of, valued, FalseBefore, IsFalse, IsTrail, IsForced, IsClosed, IsSatisfied}
 use Rattle.cs_search.specs.Found.{IsUnassigned}
@@ -134,18 +135,18 @@ get_over v v' a e h = ap (λ x. slice_get x a) (sym e) ∙ h
 pub latest_over : (t t' : List Entry) (n : ℕ) (r : Option ℕ) → t' ≡ t → IsLatest t' n r → IsLatest t n r
 latest_over t t' n r e h = let P : List Entry → Type 0 = λ x. IsLatest x n r in subst P e h
 
-pub measure_on : (old new : List Value) (w : ℕ) (before after : Meter) (limit : ℕ) → IsOn old new before after → length new ≡ w → length old ≡ w → before.limit ≡ limit → after.limit ≡ limit →
-    (after.limit - after.spent) * (length new + 1) + unset_count new < (before.limit - before.spent) * (length old + 1) + unset_count old
-measure_on old new w before after limit (inl (s, le)) en eo lb la =
-    let P : ℕ → ℕ → Type 0 = λ m n. (after.limit - after.spent) * (m + 1) + unset_count new < (before.limit - before.spent) * (n + 1) + unset_count old in
+pub measure_on : (old new : List Value) (w : ℕ) (before after : Meter) → IsOn old new before after → length new ≡ w → length old ≡ w →
+    (limit - after.spent) * (length new + 1) + unset_count new < (limit - before.spent) * (length old + 1) + unset_count old
+measure_on old new w before after (inl (s, lt)) en eo =
+    let P : ℕ → ℕ → Type 0 = λ m n. (limit - after.spent) * (m + 1) + unset_count new < (limit - before.spent) * (n + 1) + unset_count old in
     let bound = unset_bound new in
-    let h = measure_spent (before.limit - before.spent) (after.limit - after.spent) w (unset_count new) (unset_count old) (omega arith) (omega arith) in
+    let h = measure_spent (limit - before.spent) (limit - after.spent) w (unset_count new) (unset_count old) (omega arith) (omega arith) in
     subst (λ (m : ℕ). P m (length old)) (sym en) (subst (λ (n : ℕ). P w n) (sym eo) h)
-measure_on old new w before after limit (inr (s, lt)) en eo lb la =
-    let P : ℕ → ℕ → Type 0 = λ m n. (after.limit - after.spent) * (m + 1) + unset_count new < (before.limit - before.spent) * (n + 1) + unset_count old in
-    let e : after.limit - after.spent ≡ before.limit - before.spent = omega arith in
-    let h : (after.limit - after.spent) * (w + 1) + unset_count new < (before.limit - before.spent) * (w + 1) + unset_count old =
-    subst (λ (x : ℕ). x * (w + 1) + unset_count new < (before.limit - before.spent) * (w + 1) + unset_count old) (sym e) (omega (arith, lt)) in
+measure_on old new w before after (inr (s, lt)) en eo =
+    let P : ℕ → ℕ → Type 0 = λ m n. (limit - after.spent) * (m + 1) + unset_count new < (limit - before.spent) * (n + 1) + unset_count old in
+    let e : limit - after.spent ≡ limit - before.spent = omega arith in
+    let h : (limit - after.spent) * (w + 1) + unset_count new < (limit - before.spent) * (w + 1) + unset_count old =
+    subst (λ (x : ℕ). x * (w + 1) + unset_count new < (limit - before.spent) * (w + 1) + unset_count old) (sym e) (omega (arith, lt)) in
     subst (λ (m : ℕ). P m (length old)) (sym en) (subst (λ (n : ℕ). P w n) (sym eo) h)
 
 pub round_at : (clauses : List Clause) (old new : List Value) (before after : Meter) (t u : Turn) → t ≡ u → IsRound clauses old new before after t → IsRound clauses old new before after u

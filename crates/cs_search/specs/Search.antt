@@ -9,9 +9,10 @@ use Rattle.cs_search.specs.declared.search.Solved.{Solved}
 use Rattle.cs_search.specs.declared.search.Solved.TheVariants.{Refuted, Assigned}
 use Rattle.cs_search.specs.declared.search.Turn.{Turn}
 use Rattle.cs_search.specs.declared.search.Turn.TheVariants.{Ended, Spent, On}
-use Rattle.cs_search.specs.declared.search.Meter.{Meter}
+use Rattle.cs_meter.specs.declared.Meter.{Meter}
+use Rattle.cs_meter.specs.Units.{limit}
 use Rattle.cs_search.specs.declared.Value.TheVariants.{Unset}
-use Rattle.cs_search.specs.Assignment.{IsTrail, IsContained, IsSatisfied, IsClosedAtDecisions}
+use Rattle.cs_search.specs.Assignment.{IsTrail, IsFalse, IsContained, IsSatisfied, IsClosedAtDecisions}
 use Rattle.cs_search.specs.Extended.{AreKnown, unset_count}
 use Rattle.cs_search.specs.Propagation.{IsDerived}
 
@@ -24,11 +25,15 @@ pub record IsSearch (clauses : List Clause) (values : List Value) (trail : List 
 abbrev pub IsUncovered : List Clause → List Literal → Type 0
 IsUncovered clauses literals = (i : ℕ) (c : Clause) → slice_get clauses i ≡ Some c → ¬ (IsContained c.literals.items literals)
 
--- the clauses, with further ones, each derived by its hints from those before it, and containing none of them
+-- its literals are false under an assignment that the clauses made
+abbrev pub IsFalsified : List Clause → List Literal → Type 0
+IsFalsified clauses literals = (values : List Value) × (trail : List Entry) × (k : ℕ) × IsTrail clauses values trail × IsFalse values k literals
+
+-- the clauses, with further ones, each derived by its hints from those before it, false when it was learned, and containing none of them
 pub data Learns : List Clause → List Hints → List Clause → List Hints → Type 0 where
   learns_none : {clauses : List Clause} {steps : List Hints} → Learns clauses steps clauses steps
   learns_more : {old new : List Clause} {before after : List Hints} (c : Clause) (hints : Hints) →
-      Learns old before new after → IsDerived new c.literals.items (reverse hints.numbers.items) → IsUncovered new c.literals.items →
+      Learns old before new after → IsDerived new c.literals.items (reverse hints.numbers.items) → IsFalsified new c.literals.items → IsUncovered new c.literals.items →
       Learns old before (new ++ c ∷ []) (after ++ hints ∷ [])
 
 abbrev pub AreSatisfied : List Clause → List Value → Type 0
@@ -45,9 +50,9 @@ AreSet values = (i : ℕ) (v : Value) → slice_get values i ≡ Some v → ¬ (
 -- a unit was spent, or one more atom has a value
 abbrev pub IsOn : List Value → List Value → Meter → Meter → Type 0
 IsOn old new before after =
-    ((after.spent ≡ before.spent + 1) × (after.spent ≤ after.limit)) ⊎ ((after.spent ≡ before.spent) × (unset_count new < unset_count old))
+    ((after.spent ≡ before.spent + 1) × (before.spent < limit)) ⊎ ((after.spent ≡ before.spent) × (unset_count new < unset_count old))
 
 abbrev pub IsRound : List Clause → List Value → List Value → Meter → Meter → Turn → Type 0
 IsRound clauses old new before after (Ended solved) = IsSolved clauses new solved
-IsRound clauses old new before after Spent = after.limit ≤ after.spent
+IsRound clauses old new before after Spent = after.spent ≡ limit
 IsRound clauses old new before after On = IsOn old new before after

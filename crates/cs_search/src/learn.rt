@@ -2,6 +2,7 @@
 ghost use Rattle.std.specs.Prelude.{◌≡◌, [], ◌∷◌, ◌++◌, ◌<◌, ◌≤◌, ◌+◌, ◌⊎◌, List, length, ℕ, OnOk, IfOk, IfErr, take, true, false};
 ghost use Rattle.std.specs.List.{Contains};
 ghost use Rattle.cs_search.specs.Assignment.{IsTrail, IsFalse, IsClosed, FalseBefore, LeavesOnly};
+ghost use Rattle.cs_meter.specs.Units.{limit};
 ghost use Rattle.cs_search.specs.Search.{IsSearch, AreSatisfied, IsUncovered};
 ghost use Rattle.cs_search.specs.Settled.{IsSettled, IsDecision, Forces};
 ghost use Rattle.cs_hints.specs.declared.Literal.{Literal};
@@ -9,9 +10,10 @@ ghost use Rattle.cs_search.specs.Top.{IsTop};
 
 use crate::assignment::{Assignment, take_back};
 use crate::examine::status;
-use crate::search::{Meter, Search, Undecided};
+use crate::search::{Search, Undecided, spend};
 use crate::settle::settle;
 use crate::{Clause, Literal, Status};
+use cs_meter::Meter;
 use std::alloc::AllocError;
 
 /// A literal with its place.
@@ -93,9 +95,9 @@ pub fn learn(search: &mut Search, clause: Clause, meter: &mut Meter) -> Result<(
     ensures uncovered { OnOk result (IsUncovered search.old.clauses.items clause.literals.items) }
     ensures forces { OnOk result ((clause.literals.items ≡ []) ⊎ ((forced : Literal) × Forces search.new.made.values.items (length search.new.made.trail.items) clause.literals.items forced)) }
     ensures spent { OnOk result (meter.new.spent ≡ meter.old.spent + 1) }
-    ensures budget { IfErr result (λ e. e ≡ Undecided.Budget → meter.new.limit ≤ meter.new.spent) }
+    ensures budget { IfErr result (λ e. e ≡ Undecided.Budget → meter.new.spent ≡ limit) }
 {
-    if !meter.spend() {
+    if !spend(meter) {
         return Err(Undecided::Budget);
     }
     let cut = cut_for(&search.made, &clause.literals, &search.clauses);

@@ -1,6 +1,7 @@
 //! The search itself.
 ghost use Rattle.std.specs.Prelude.{◌≡◌, [], ◌∷◌, ◌++◌, ◌<◌, ◌≤◌, ◌+◌, List, length, reverse, OnOk, IfOk, IfErr, IsTrue, IfSome, IfNone, true, false, ◌^◌, ℕ, Some, slice_get};
 ghost use Rattle.std.specs.List.{Contains};
+ghost use Rattle.cs_meter.specs.Units.{limit};
 ghost use Rattle.cs_search.specs.Assignment.{IsTrail, IsFalse};
 ghost use Rattle.cs_search.specs.Propagation.{IsDerived};
 ghost use Rattle.cs_search.specs.Extended.{IsConflict, AreClosed, unset_count};
@@ -13,6 +14,7 @@ use crate::assignment::{Assignment, assign, take_back};
 use crate::propagate::propagate;
 use crate::settle::{last_decision, settle};
 use crate::{Clause, Entry, Literal, Value};
+use cs_meter::Meter;
 use std::alloc::{AllocError, Global};
 
 /// The numbers of clauses that derive one, from last to first.
@@ -28,13 +30,6 @@ pub enum Solved {
     Assigned,
 }
 
-/// The units of a check.
-#[derive(Clone, Copy, PartialEq, Eq, Debug)]
-pub struct Meter {
-    pub spent: u32,
-    pub limit: u32,
-}
-
 /// Why a search is undecided.
 #[derive(Debug, Drop)]
 pub enum Undecided {
@@ -42,20 +37,16 @@ pub enum Undecided {
     Want(AllocError),
 }
 
-impl Meter {
-    /// Spends one unit, where one is left.
-    pub fn spend(&mut self) -> bool
-        ensures spent { result ≡ true → self.new.spent ≡ self.old.spent + 1 }
-        ensures left { result ≡ true → self.new.spent ≤ self.new.limit }
-        ensures full { result ≡ false → self.old.limit ≤ self.old.spent }
-        ensures same { result ≡ false → self.new ≡ self.old }
-        ensures limit { self.new.limit ≡ self.old.limit }
-    {
-        if self.spent >= self.limit {
-            return false;
-        }
-        self.spent += 1;
-        true
+/// Spends one unit, where one is left.
+pub fn spend(meter: &mut Meter) -> bool
+    ensures spent { result ≡ true → meter.new.spent ≡ meter.old.spent + 1 }
+    ensures left { result ≡ true → meter.old.spent < limit }
+    ensures full { result ≡ false → meter.old.spent ≡ limit }
+    ensures same { result ≡ false → meter.new.spent ≡ meter.old.spent }
+{
+    match meter.spend() {
+        Ok(()) => true,
+        Err(_) => false,
     }
 }
 
@@ -187,14 +178,13 @@ pub fn round(alloc: Global, search: &mut Search, meter: &mut Meter) -> Result<Tu
     ensures sound { OnOk result (IsSearch search.new.clauses.items search.new.made.values.items search.new.made.trail.items) }
     ensures learns { OnOk result (Learns search.old.clauses.items search.old.steps.items search.new.clauses.items search.new.steps.items) }
     ensures width { OnOk result (length search.new.made.values.items ≡ length search.old.made.values.items) }
-    ensures limit { OnOk result (meter.new.limit ≡ meter.old.limit) }
     ensures round { IfOk result (λ r. IsRound search.new.clauses.items search.old.made.values.items search.new.made.values.items meter.old meter.new r) }
 {
     match spread(search)? {
         Some(conflict) => match latest(search) {
             None => Ok(Turn::Ended(Solved::Refuted(refutation(alloc, search, conflict)?))),
             Some(start) => {
-                if !meter.spend() {
+                if !spend(meter) {
                     return Ok(Turn::Spent);
                 }
                 learn_conflict(alloc, search, start, conflict)?;
@@ -218,7 +208,7 @@ pub fn solve(alloc: Global, search: &mut Search, meter: &mut Meter) -> Result<So
     ensures sound { OnOk result (IsSearch search.new.clauses.items search.new.made.values.items search.new.made.trail.items) }
     ensures learns { OnOk result (Learns search.old.clauses.items search.old.steps.items search.new.clauses.items search.new.steps.items) }
     ensures solved { IfOk result (IsSolved search.new.clauses.items search.new.made.values.items) }
-    ensures budget { IfErr result (λ e. e ≡ Undecided.Budget → meter.new.limit ≤ meter.new.spent) }
+    ensures budget { IfErr result (λ e. e ≡ Undecided.Budget → meter.new.spent ≡ limit) }
 {
     loop {
         match round(alloc, search, meter) {
