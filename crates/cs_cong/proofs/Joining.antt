@@ -1,13 +1,13 @@
 -- What is in one class is what follows from the claims.
-use Rattle.std.proofs.Common.{◌≡◌, ℕ, zero, suc, ◌<◌, ◌≤◌, ◌⊎◌, inl, inr, Bool, true, false, nat_eq, cond, ◌&&◌, ◌||◌, List, [], ◌∷◌, length, get_or, slice_get, Option, Some, None, refl, sym, ◌∙◌, ap, ap₂, subst, arith, eq-eqb}
-use Rattle.std.proofs.lemmas.Bool.{eqb-true, eqb-false, and_parts}
+use Rattle.std.proofs.Common.{◌≡◌, ℕ, zero, suc, ◌≤◌, ◌⊎◌, inl, inr, Bool, true, false, nat_eq, cond, ◌&&◌, ◌||◌, List, [], ◌∷◌, length, get_or, slice_get, Option, Some, None, refl, sym, ◌∙◌, ap₂, subst, arith, eq-eqb}
+use Rattle.std.proofs.lemmas.Bool.{eqb-true, and_parts}
 use Rattle.cs_cong.specs.declared.congruent.Applied.{Applied}
 use Rattle.cs_cong.specs.declared.congruent.Claim.{Claim}
 use Rattle.cs_cong.specs.declared.merges.Merge.{Merge}
 use Rattle.cs_cong.specs.declared.merges.Reason.{Reason}
 use Rattle.cs_cong.specs.declared.merges.Reason.TheVariants.{Claimed, Congruence}
 use Rattle.cs_cong.specs.Merged.{nothing, across, representative, current}
-use Rattle.cs_cong.specs.Joined.{is_claimed, Joined, claimed, itself, turned, joined, congruent, AllJoined, no_parts, one_part, all_same, alike, are_congruent, is_reason, AreJustified, IsClosed}
+use Rattle.cs_cong.specs.Joined.{is_claimed, Joined, claimed, itself, turned, joined, congruent, AllJoined, no_parts, one_part, all_same, alike, are_congruent, is_reason, AreJustified}
 use Rattle.cs_cong.specs.Stages.{IsStage}
 
 -- the cases of one more merge: merged before, or across the merge, either way

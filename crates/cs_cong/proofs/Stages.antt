@@ -1,6 +1,6 @@
 -- One claim more, and back to the first claims.
-use Rattle.std.proofs.Common.{◌≡◌, ℕ, zero, suc, ◌<◌, ◌≤◌, ◌+◌, ◌⊎◌, inl, inr, Bool, true, false, nat_eq, cond, ◌&&◌, ◌||◌, List, [], ◌∷◌, ◌++◌, length, take, drop, get_or, slice_get, Option, Some, None, refl, sym, ◌∙◌, ap, ap₂, subst, arith, eq-eqb}
-use Rattle.std.proofs.lemmas.Bool.{cases_eq, cases_lt, eqb-true, eqb-false, and_parts}
+use Rattle.std.proofs.Common.{◌≡◌, ℕ, zero, suc, ◌<◌, ◌≤◌, ◌+◌, inl, inr, Bool, true, false, nat_eq, cond, ◌&&◌, ◌||◌, List, [], ◌∷◌, ◌++◌, length, take, drop, get_or, slice_get, Option, Some, None, refl, sym, ◌∙◌, ap, ap₂, subst, arith, eq-eqb}
+use Rattle.std.proofs.lemmas.Bool.{cases_eq, cases_lt, eqb-true, and_parts}
 use Rattle.std.proofs.lemmas.List.{get_or_append_left, get_or_at, get_or_past, get_or_default, get_or-take, length-append, length-take-le, take-append-le, take-append-drop, take_all, take-take, take_at}
 use Rattle.std.proofs.lemmas.Option.{slice_get_past}
 use Rattle.cs_cong.specs.declared.congruent.Applied.{Applied}
@@ -9,7 +9,7 @@ use Rattle.cs_cong.specs.declared.merges.Merge.{Merge}
 use Rattle.cs_cong.specs.declared.merges.Reason.{Reason}
 use Rattle.cs_cong.specs.declared.merges.Reason.TheVariants.{Claimed, Congruence}
 use Rattle.cs_cong.specs.Merged.{nothing, across, representative, current, with_merge, IsMerged}
-use Rattle.cs_cong.specs.Joined.{says, is_claimed, are_congruent, is_reason, AreJustified, IsClosed, IsMet, Grown}
+use Rattle.cs_cong.specs.Joined.{says, is_claimed, is_reason, AreJustified, IsClosed, Grown}
 use Rattle.cs_cong.specs.Stages.{IsStage, cut, IsHistory}
 use Rattle.cs_cong.proofs.Times.{front, same_later, same_across, crosses}
 use Rattle.cs_cong.proofs.Grown.{justified_more, with_cases}

@@ -1,9 +1,9 @@
 -- Representatives at different times.
-use Rattle.std.proofs.Common.{◌≡◌, ℕ, zero, suc, ◌<◌, ◌≤◌, ◌⊎◌, inl, inr, Bool, true, false, nat_eq, cond, List, [], ◌∷◌, ◌++◌, length, get_or, refl, sym, ◌∙◌, ap, subst, arith, eq-eqb, ne_eqb}
-use Rattle.std.proofs.lemmas.Bool.{cases_eq, cases_lt, cond-true, cond-false, eqb-true}
+use Rattle.std.proofs.Common.{◌≡◌, ℕ, zero, suc, ◌≤◌, inl, inr, Bool, true, false, nat_eq, cond, List, ◌++◌, length, get_or, refl, sym, ◌∙◌, ap, subst, arith, eq-eqb, ne_eqb}
+use Rattle.std.proofs.lemmas.Bool.{cases_eq, cond-true, cond-false, eqb-true}
 use Rattle.std.proofs.lemmas.List.{get_or_append_left, get_or_past}
 use Rattle.cs_cong.specs.declared.merges.Merge.{Merge}
-use Rattle.cs_cong.specs.Merged.{nothing, across, representative, current}
+use Rattle.cs_cong.specs.Merged.{nothing, across, representative}
 
 -- what is merged stays so
 pub same_later : (log : List Merge) (j x y : ℕ) → representative log j x ≡ representative log j y → (k : ℕ) → j ≤ k → representative log k x ≡ representative log k y

@@ -1,13 +1,13 @@
 -- Walks along merges lead from their first term to their last.
-use Rattle.std.proofs.Common.{◌≡◌, ℕ, zero, suc, ◌<◌, ◌≤◌, ◌⊎◌, inl, inr, Bool, true, false, nat_eq, cond, List, [], ◌∷◌, ◌++◌, length, get_or, refl, sym, ◌∙◌, ap, subst, arith, eq-eqb, ne_eqb, append_assoc}
+use Rattle.std.proofs.Common.{◌≡◌, ℕ, zero, suc, ◌<◌, ◌≤◌, inl, inr, true, false, nat_eq, List, [], ◌∷◌, ◌++◌, length, get_or, refl, sym, ◌∙◌, ap, subst, arith, eq-eqb, ne_eqb, append_assoc}
 use Rattle.std.proofs.lemmas.List.{get_or_default}
-use Rattle.std.proofs.lemmas.Bool.{cases_eq, cases_lt, cond-true, cond-false}
+use Rattle.std.proofs.lemmas.Bool.{cases_eq, cond-true, cond-false}
 use Rattle.cs_cong.specs.declared.merges.Merge.{Merge}
 use Rattle.cs_cong.specs.declared.merges.Link.{Link}
 use Rattle.cs_cong.specs.declared.paths.Edge.{Edge}
-use Rattle.cs_cong.specs.Merged.{nothing, across, representative}
-use Rattle.cs_cong.specs.Trees.{nowhere, never, link_at, Moves, IsTree}
-use Rattle.cs_cong.specs.Walks.{IsParting, along, walk, start_of, end_of, Leads, arrived, goes}
+use Rattle.cs_cong.specs.Merged.{nothing, representative}
+use Rattle.cs_cong.specs.Trees.{never, link_at, IsTree}
+use Rattle.cs_cong.specs.Walks.{IsParting, walk, Leads, arrived, goes}
 use Rattle.cs_cong.proofs.Times.{same_later}
 use Rattle.cs_cong.proofs.Joining.{merge_cases}
 use Rattle.cs_cong.proofs.Trees.{at_link}

@@ -1,5 +1,5 @@
 -- Signatures: the head of a term with the representatives of its parts, and keys of them.
-use Rattle.std.specs.Prelude.{◌≡◌, ◌⊎◌, ℕ, ◌<◌, ◌%◌, Bool, true, false, nat_eq, List, [], ◌∷◌, length, get_or, slice_get, Option, Some, None}
+use Rattle.std.specs.Prelude.{◌≡◌, ◌⊎◌, ℕ, ◌%◌, Bool, true, false, nat_eq, List, [], ◌∷◌, get_or, slice_get, Option, Some, None}
 use Rattle.std.specs.List.{list_any}
 use Rattle.cs_index.specs.Keys.{mixed}
 use Rattle.cs_index.specs.declared.index.Index.{Index}

@@ -1,5 +1,5 @@
 -- A tree over the merges: each representative that is one no longer leads on, from the time of its merge.
-use Rattle.std.specs.Prelude.{◌≡◌, ℕ, suc, ◌<◌, ◌≤◌, ◌+◌, ◌^◌, List, length, get_or}
+use Rattle.std.specs.Prelude.{◌≡◌, ℕ, suc, ◌<◌, ◌≤◌, List, length, get_or}
 use Rattle.cs_cong.specs.declared.merges.Merge.{Merge}
 use Rattle.cs_cong.specs.declared.merges.Link.{Link}
 use Rattle.cs_cong.specs.Merged.{nothing, representative}

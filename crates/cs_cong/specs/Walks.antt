@@ -1,5 +1,5 @@
 -- Walks along merges.
-use Rattle.std.specs.Prelude.{◌≡◌, ℕ, zero, suc, ◌<◌, Bool, true, false, nat_eq, cond, ◌||◌, List, [], ◌∷◌, ◌++◌, get_or}
+use Rattle.std.specs.Prelude.{◌≡◌, ℕ, zero, suc, ◌<◌, Bool, true, false, nat_eq, cond, List, [], ◌∷◌, ◌++◌, get_or}
 use Rattle.cs_cong.specs.declared.merges.Merge.{Merge}
 use Rattle.cs_cong.specs.declared.paths.Edge.{Edge}
 use Rattle.cs_cong.specs.Merged.{nothing, representative}

@@ -14,6 +14,3 @@ pub use explain::{Chain, Derived};
 pub use laws::{joined_are_merged, merged_are_joined, walks_lead};
 pub use merges::{Link, Merge, Merges, Reason, Want};
 pub use paths::Edge;
-
-#[cfg(test)]
-mod tests;

@@ -1,5 +1,5 @@
 -- The interpretation that tables make.
-use Rattle.std.specs.Prelude.{ℤ, pos, Bool, ◌&&◌, if◌then◌else◌, List, [], ◌∷◌}
+use Rattle.std.specs.Prelude.{pos, Bool, ◌&&◌, if◌then◌else◌, List, [], ◌∷◌}
 use Rattle.vx_terms.specs.Sorts.{Sort, Symbol, same_symbol, same_sort}
 use Rattle.vx_terms.specs.Views.{sort, symbol}
 use Rattle.vx_terms.specs.Interpretations.{Element, IntElement, Interpretation}

@@ -1,13 +1,12 @@
 -- Hints that derive a clause are followed by the checker to a clause that leaves nothing.
-use Rattle.std.proofs.Common.{◌≡◌, ℕ, zero, suc, ◌<◌, ◌⊎◌, inl, inr, Bool, true, false, not, cond, nat_eq, ◌&&◌, ◌||◌, List, [], ◌∷◌, ◌++◌, map, length, slice_get, Option, Some, None, refl, sym, ◌∙◌, ap, ap₂, subst, arith, eq-eqb}
+use Rattle.std.proofs.Common.{◌≡◌, ℕ, zero, suc, ◌⊎◌, inl, inr, Bool, true, false, not, cond, nat_eq, ◌&&◌, ◌||◌, List, [], ◌∷◌, ◌++◌, map, refl, sym, ◌∙◌, ap, ap₂, arith, eq-eqb}
 use Rattle.std.specs.List.{All, Contains}
 use Rattle.std.proofs.lemmas.Bool.{eqb-true, and_parts, or_cases}
 use Rattle.vx_terms.specs.Terms.{same_bool}
 use Rattle.cs_hints.specs.declared.Literal.{Literal}
-use Rattle.cs_hints.specs.declared.Left.{Left}
 use Rattle.cs_hints.specs.declared.Left.TheVariants.{Nothing, One, Many}
 use Rattle.cs_hints.specs.declared.Clause.{Clause}
-use Rattle.cs_hints.specs.Hints.{same_literal, opposite, denied, with, left, after, at_hint, refutes}
+use Rattle.cs_hints.specs.Hints.{opposite, denied, with, left, after, at_hint, refutes}
 use Rattle.cs_search.specs.Assignment.{negated}
 use Rattle.cs_search.specs.Propagation.{Denied, Refutes, ends, forces, IsDerived}
 

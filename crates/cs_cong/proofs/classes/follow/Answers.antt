@@ -1,5 +1,4 @@
-use Rattle.std.proofs.Common.{◌≡◌, ◌∙◌, length, sym, ap, subst}
-use Rattle.cs_cong.specs.declared.merges.Merge.{Merge}
+use Rattle.std.proofs.Common.{subst}
 use Rattle.cs_cong.specs.declared.merges.Reason.TheVariants.{Claimed}
 use Rattle.cs_cong.specs.Merged.{IsMerged}
 use Rattle.cs_cong.proofs.Signatures.{covers}

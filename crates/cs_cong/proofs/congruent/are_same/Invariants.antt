@@ -1,4 +1,4 @@
-use Rattle.std.proofs.Common.{◌≡◌, length, drop}
+use Rattle.std.proofs.Common.{◌≡◌, drop}
 use Rattle.cs_cong.specs.Merged.{current}
 use Rattle.cs_cong.specs.Joined.{all_same}
 use Rattle.cs_cong.proofs.congruent.are_same.Given as goal

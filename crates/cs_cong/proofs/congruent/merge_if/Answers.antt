@@ -1,4 +1,4 @@
-use Rattle.std.proofs.Common.{◌≡◌, sym, subst}
+use Rattle.std.proofs.Common.{sym, subst}
 use Rattle.cs_cong.specs.Joined.{Grown}
 use Rattle.cs_cong.proofs.Grown.{grown_none, grown_merged, closed_merged}
 use Rattle.cs_cong.proofs.congruent.merge_if.Goals as goal

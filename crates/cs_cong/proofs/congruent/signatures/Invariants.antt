@@ -1,4 +1,4 @@
-use Rattle.std.proofs.Common.{◌≡◌, take}
+use Rattle.std.proofs.Common.{take}
 use Rattle.cs_index.specs.Found.{IsIndexed}
 use Rattle.cs_cong.specs.Merged.{current}
 use Rattle.cs_cong.specs.Signatures.{key_at}

@@ -1,4 +1,4 @@
-use Rattle.std.proofs.Common.{sym, subst, ◌≡◌, ◌<◌, ◌^◌, ◌+◌, ℕ, List, ◌∷◌, [], ◌++◌, ◌∙◌, ap, length, rules, refl, false, arith, Ok, Err, OnOk, OnErr}
+use Rattle.std.proofs.Common.{sym, subst, ◌≡◌, ◌<◌, ◌^◌, ◌+◌, ◌∷◌, [], ◌++◌, ◌∙◌, ap, length, rules, refl, false, arith, Ok, Err, OnOk, OnErr}
 use Rattle.std.specs.declared.result.Result.{Result}
 use Rattle.std.proofs.lemmas.List.{length-append}
 use Rattle.std.proofs.lemmas.List.Elements.{All-push}

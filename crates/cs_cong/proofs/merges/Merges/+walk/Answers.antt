@@ -1,7 +1,7 @@
-use Rattle.std.proofs.Common.{◌≡◌, ◌<◌, ◌∙◌, ◌++◌, ◌∷◌, [], inl, inr, true, false, List, ap, ap₂, sym, arith, append-nil, length}
+use Rattle.std.proofs.Common.{◌≡◌, ◌∙◌, ◌++◌, ◌∷◌, [], inl, inr, true, false, List, ap, sym, arith, append-nil}
 use Rattle.cs_cong.specs.declared.merges.Merge.{Merge}
 use Rattle.cs_cong.specs.declared.paths.Edge.{Edge}
-use Rattle.cs_cong.specs.Merged.{nothing, representative}
+use Rattle.cs_cong.specs.Merged.{representative}
 use Rattle.cs_cong.specs.Walks.{walk}
 use Rattle.cs_cong.proofs.Walks.{walk_self, walk_forth, walk_back, right_joined, left_joined, put_together, read_merge}
 use Rattle.cs_cong.proofs.merges.Merges.+walk.Goals as goal

@@ -1,8 +1,8 @@
-use Rattle.std.proofs.Common.{◌≡◌, ◌<◌, ◌∙◌, ap, subst, sym, arith, length}
+use Rattle.std.proofs.Common.{◌<◌, ◌∙◌, ap, subst, sym, arith, length}
 use Rattle.cs_cong.specs.declared.merges.Link.{Link}
 use Rattle.cs_cong.specs.Merged.{representative}
 use Rattle.cs_cong.specs.Trees.{link_at}
-use Rattle.cs_cong.proofs.Trees.{climbs, climbs_within, climbs_later, at_link}
+use Rattle.cs_cong.proofs.Trees.{climbs, climbs_within, at_link}
 use Rattle.cs_cong.proofs.merges.Merges.at.Goals as goal
 
 pub climb-preserved : goal.climb-preserved

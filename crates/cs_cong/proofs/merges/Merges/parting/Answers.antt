@@ -1,5 +1,4 @@
-use Rattle.std.proofs.Common.{◌≡◌, ◌≤◌, ◌<◌, ◌∙◌, suc, sym, inr, arith, min}
-use Rattle.cs_cong.specs.Trees.{link_at}
+use Rattle.std.proofs.Common.{◌≡◌, ◌∙◌, suc, sym, inr, arith, min}
 use Rattle.cs_cong.proofs.Walks.{still, comes}
 use Rattle.cs_cong.proofs.merges.Merges.parting.Goals as goal
 

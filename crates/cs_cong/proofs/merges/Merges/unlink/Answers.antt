@@ -1,4 +1,4 @@
-use Rattle.std.proofs.Common.{◌≡◌, ◌<◌, ◌^◌, ℕ, List, length, sym, subst, set, arith, ◌∙◌}
+use Rattle.std.proofs.Common.{◌<◌, ◌^◌, ℕ, List, length, sym, subst}
 use Rattle.cs_cong.specs.declared.merges.Merge.{Merge}
 use Rattle.cs_cong.specs.declared.merges.Link.{Link}
 use Rattle.cs_cong.specs.Merged.{AreWithin}
