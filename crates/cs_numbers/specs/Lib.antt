@@ -1,3 +1,4 @@
+pub mod Parts
 pub mod Keys
 pub mod Listed
 pub mod Numbering

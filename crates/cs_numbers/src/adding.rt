@@ -39,7 +39,9 @@ pub fn add(all: &mut NumberedTerms, t: &Rc<Term>) -> Result<(), AllocError>
     add_one(all, t)?;
     match &**t {
         Term::Truth(_) | Term::Number(_) | Term::Part(_) | Term::Constant(_, _) => Ok(()),
-        Term::Apply(_, _, parts) => add_list(all, parts),
+        Term::Apply(_, _, parts) | Term::AllOf(parts) | Term::SomeOf(parts) => {
+            add_list(all, parts)
+        }
         Term::Not(a) => add(all, a),
         Term::Binary(_, a, b) => {
             add(all, a)?;

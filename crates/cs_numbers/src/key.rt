@@ -20,6 +20,8 @@ fn key_down(t: &Term, depth: u8) -> u16
         Term::Number(number) => mix(14, (number.unsigned_abs() % 65536) as u16),
         Term::Part(part) => mix(15, (part.num().unsigned_abs() % 65536) as u16),
         Term::Constant(f, _) => key_of_symbol(f),
+        Term::AllOf(_) => 19,
+        Term::SomeOf(_) => 20,
         Term::Apply(f, _, parts) => {
             if depth == 0 {
                 0

@@ -6,6 +6,7 @@ ghost use Rattle.cs_numbers.specs.Examples.{Examples};
 
 mod adding;
 mod key;
+mod parts;
 mod table;
 mod terms;
 

@@ -97,7 +97,9 @@ fn places(alloc: Global, all: &NumberedTerms, t: &Term) -> Result<Vec<u32>, Stop
         Term::Truth(_) | Term::Number(_) | Term::Part(_) | Term::Constant(_, _) => {
             Ok(Vec::new(alloc))
         }
-        Term::Apply(_, _, parts) => places_after(Vec::new(alloc), all, parts),
+        Term::Apply(_, _, parts) | Term::AllOf(parts) | Term::SomeOf(parts) => {
+            places_after(Vec::new(alloc), all, parts)
+        }
         Term::Not(a) => {
             let first = place_of(all, a)?;
             one(alloc, first)
@@ -129,6 +131,8 @@ fn head_of(t: &Term) -> Result<Head, AllocError>
         Term::Not(_) => Ok(Head::Not),
         Term::Binary(of, _, _) => Ok(Head::Binary(*of)),
         Term::Ite(_, _, _) => Ok(Head::Ite),
+        Term::AllOf(_) => Ok(Head::All),
+        Term::SomeOf(_) => Ok(Head::Some),
     }
 }
 

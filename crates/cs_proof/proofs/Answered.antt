@@ -10,6 +10,7 @@ use Rattle.cs_certificate.specs.Certificate as certificate
 use Rattle.cs_nodes.specs.Nodes.{Node}
 use Rattle.cs_nodes.specs.Steps.{ComputesSteps}
 use Rattle.cs_numbers.specs.Laws.{IsSorted}
+use Rattle.cs_numbers.specs.Parts.{HasFewParts}
 use Rattle.cs_sorts.specs.Sorting.{sort_in, is_live}
 use Rattle.cs_sorts.proofs.Told.{tells_sorts, tells_live}
 use Rattle.cs_hints.specs.declared.Clause.{Clause as Clause'}
@@ -20,7 +21,7 @@ use Rattle.cs_proof.specs.Prepared.{Duty, Missed, clause_by, derived}
 use Rattle.cs_proof.specs.Plans.{Plans, has_sort, is_fine, named_if, planned}
 use Rattle.cs_proof.specs.Answers.{Meets, IsOver}
 use Rattle.cs_proof.proofs.Grown.{IsNamed, named_is}
-use Rattle.cs_proof.proofs.OfKinds.{IsBare, by_input, by_define, by_pick, by_chain, by_congruence, by_split, by_trichotomy, by_divide}
+use Rattle.cs_proof.proofs.OfKinds.{by_input, by_define, by_pick, by_chain, by_congruence, by_split, by_trichotomy, by_divide}
 use Rattle.cs_proof.proofs.State.{state_of, Stands, as_long, named_stands, named_state}
 use Rattle.cs_proof.proofs.Moves.{Fate, moves, misses, last_state, none_fate, clause_fate}
 use Rattle.cs_proof.proofs.Sums.{sum_fate}
@@ -35,7 +36,7 @@ pub record Scene (stack : Stack) (roots : List ℕ) (nodes : List Node) (clauses
   pub small : length p.nodes < 2 ^ 32
   pub few : length stack.assertions < 2 ^ 32
   pub few_clauses : length (take (length p.clauses) clauses) < 2 ^ 32
-  pub bare : (t : Term) → Contains p.terms t → IsBare t
+  pub few_parts : (t : Term) → Contains p.terms t → HasFewParts t
   pub by : ComputesSteps p.nodes (state_of p) stack
   pub distinct : AreDistinct p.terms
   pub front : take (length p.nodes) nodes ≡ p.nodes
@@ -96,11 +97,11 @@ module _ (stack : Stack) (roots : List ℕ) (nodes : List Node) (clauses : List 
   fate_of (Some (NewTerm t)) q e = term_fate stack roots nodes clauses p h.stands t q (is_fine stack.symbols t) refl e
   fate_of (Some (Farkas ls ms)) q e = subst (Fate stack roots nodes clauses p (Some (Farkas ls ms))) (some_is e) (sum_fate stack roots nodes clauses p h.stands h.small h.front h.wide ls ms)
   fate_of (Some (Propagate ls hs)) q e = subst (Fate stack roots nodes clauses p (Some (Propagate ls hs))) (some_is e) (hints_fate stack roots nodes clauses p h.stands h.small h.few_clauses h.here h.distinct h.within_terms ls hs)
-  fate_of (Some (Input n)) q e = subst (Fate stack roots nodes clauses p (Some (Input n))) (some_is e) (clause_fate stack roots nodes clauses p h.stands (Input n) tt (λ ls ms f. cc) (clause_by p.nodes roots (Input n)) (by_input stack (state_of p) small_terms h.few h.bare p.nodes roots h.by (h.stands).at_roots n))
-  fate_of (Some (Define t k)) q e = subst (Fate stack roots nodes clauses p (Some (Define t k))) (some_is e) (clause_fate stack roots nodes clauses p h.stands (Define t k) tt (λ ls ms f. cc) (clause_by p.nodes roots (Define t k)) (by_define stack (state_of p) small_terms h.few h.bare p.nodes roots h.by (h.stands).at_roots t k))
-  fate_of (Some (Pick t k)) q e = subst (Fate stack roots nodes clauses p (Some (Pick t k))) (some_is e) (clause_fate stack roots nodes clauses p h.stands (Pick t k) tt (λ ls ms f. cc) (clause_by p.nodes roots (Pick t k)) (by_pick stack (state_of p) small_terms h.few h.bare p.nodes roots h.by (h.stands).at_roots t k))
-  fate_of (Some (Chain ns)) q e = subst (Fate stack roots nodes clauses p (Some (Chain ns))) (some_is e) (clause_fate stack roots nodes clauses p h.stands (Chain ns) tt (λ ls ms f. cc) (clause_by p.nodes roots (Chain ns)) (by_chain stack (state_of p) small_terms h.few h.bare p.nodes roots h.by (h.stands).at_roots ns))
-  fate_of (Some (Congruence m n)) q e = subst (Fate stack roots nodes clauses p (Some (Congruence m n))) (some_is e) (clause_fate stack roots nodes clauses p h.stands (Congruence m n) tt (λ ls ms f. cc) (clause_by p.nodes roots (Congruence m n)) (by_congruence stack (state_of p) small_terms h.few h.bare p.nodes roots h.by (h.stands).at_roots m n))
-  fate_of (Some (Split t z)) q e = subst (Fate stack roots nodes clauses p (Some (Split t z))) (some_is e) (clause_fate stack roots nodes clauses p h.stands (Split t z) tt (λ ls ms f. cc) (clause_by p.nodes roots (Split t z)) (by_split stack (state_of p) small_terms h.few h.bare p.nodes roots h.by (h.stands).at_roots t z))
-  fate_of (Some (Trichotomy m n)) q e = subst (Fate stack roots nodes clauses p (Some (Trichotomy m n))) (some_is e) (clause_fate stack roots nodes clauses p h.stands (Trichotomy m n) tt (λ ls ms f. cc) (clause_by p.nodes roots (Trichotomy m n)) (by_trichotomy stack (state_of p) small_terms h.few h.bare p.nodes roots h.by (h.stands).at_roots m n))
-  fate_of (Some (Divide m n k)) q e = subst (Fate stack roots nodes clauses p (Some (Divide m n k))) (some_is e) (clause_fate stack roots nodes clauses p h.stands (Divide m n k) tt (λ ls ms f. cc) (clause_by p.nodes roots (Divide m n k)) (by_divide stack (state_of p) small_terms h.few h.bare p.nodes roots h.by (h.stands).at_roots m n k))
+  fate_of (Some (Input n)) q e = subst (Fate stack roots nodes clauses p (Some (Input n))) (some_is e) (clause_fate stack roots nodes clauses p h.stands (Input n) tt (λ ls ms f. cc) (clause_by p.nodes roots (Input n)) (by_input stack (state_of p) small_terms h.few h.few_parts p.nodes roots h.by (h.stands).at_roots n))
+  fate_of (Some (Define t k)) q e = subst (Fate stack roots nodes clauses p (Some (Define t k))) (some_is e) (clause_fate stack roots nodes clauses p h.stands (Define t k) tt (λ ls ms f. cc) (clause_by p.nodes roots (Define t k)) (by_define stack (state_of p) small_terms h.few h.few_parts p.nodes roots h.by (h.stands).at_roots t k))
+  fate_of (Some (Pick t k)) q e = subst (Fate stack roots nodes clauses p (Some (Pick t k))) (some_is e) (clause_fate stack roots nodes clauses p h.stands (Pick t k) tt (λ ls ms f. cc) (clause_by p.nodes roots (Pick t k)) (by_pick stack (state_of p) small_terms h.few h.few_parts p.nodes roots h.by (h.stands).at_roots t k))
+  fate_of (Some (Chain ns)) q e = subst (Fate stack roots nodes clauses p (Some (Chain ns))) (some_is e) (clause_fate stack roots nodes clauses p h.stands (Chain ns) tt (λ ls ms f. cc) (clause_by p.nodes roots (Chain ns)) (by_chain stack (state_of p) small_terms h.few h.few_parts p.nodes roots h.by (h.stands).at_roots ns))
+  fate_of (Some (Congruence m n)) q e = subst (Fate stack roots nodes clauses p (Some (Congruence m n))) (some_is e) (clause_fate stack roots nodes clauses p h.stands (Congruence m n) tt (λ ls ms f. cc) (clause_by p.nodes roots (Congruence m n)) (by_congruence stack (state_of p) small_terms h.few h.few_parts p.nodes roots h.by (h.stands).at_roots m n))
+  fate_of (Some (Split t z)) q e = subst (Fate stack roots nodes clauses p (Some (Split t z))) (some_is e) (clause_fate stack roots nodes clauses p h.stands (Split t z) tt (λ ls ms f. cc) (clause_by p.nodes roots (Split t z)) (by_split stack (state_of p) small_terms h.few h.few_parts p.nodes roots h.by (h.stands).at_roots t z))
+  fate_of (Some (Trichotomy m n)) q e = subst (Fate stack roots nodes clauses p (Some (Trichotomy m n))) (some_is e) (clause_fate stack roots nodes clauses p h.stands (Trichotomy m n) tt (λ ls ms f. cc) (clause_by p.nodes roots (Trichotomy m n)) (by_trichotomy stack (state_of p) small_terms h.few h.few_parts p.nodes roots h.by (h.stands).at_roots m n))
+  fate_of (Some (Divide m n k)) q e = subst (Fate stack roots nodes clauses p (Some (Divide m n k))) (some_is e) (clause_fate stack roots nodes clauses p h.stands (Divide m n k) tt (λ ls ms f. cc) (clause_by p.nodes roots (Divide m n k)) (by_divide stack (state_of p) small_terms h.few h.few_parts p.nodes roots h.by (h.stands).at_roots m n k))

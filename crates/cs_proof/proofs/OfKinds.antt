@@ -1,29 +1,25 @@
 -- The clause of each kind of step, by numbers that are cut to 32 bits.
 use Rattle.std.proofs.Common.{◌≡◌, ℕ, ◌<◌, ◌^◌, List, Option, Some, None, length, refl, sym, ◌∙◌, subst, arith}
 use Rattle.std.proofs.lemmas.Option.{slice_get_within}
-use Rattle.vx_terms.specs.Terms.{Term, AllOf, SomeOf, Terms}
+use Rattle.vx_terms.specs.Terms.{Term}
 use Rattle.cs_certificate.specs.Certificate.{AllAt, one-term, Contains, Clause, Stack, State, Input, Define, Pick, Chain, Congruence, Split, Trichotomy, Divide, IsAnd, and-of-two, and-of-more, IsOr, or-of-two, or-of-more, Defines, true-is, false-is, not-0, not-1, and-part, and-all, or-part, or-all, implies-0, implies-1, implies-2, ite-0, ite-1, ite-2, ite-3, equal-0, equal-1, equal-2, equal-3, Derives, input, define, pick-then, pick-else, chain, congruence, split, trichotomy, divide-0, divide-1, divide-2}
 use Rattle.cs_nodes.specs.Nodes.{Node}
 use Rattle.cs_nodes.specs.Steps.{◌>>=◌, Computes, ComputesSteps, define_clause, pick_clause, chain_clause, congruence_clause, split_clause, trichotomy_clause, divide_clause}
 use Rattle.cs_numbers.specs.Numbering.{input_clause}
+use Rattle.cs_numbers.specs.Parts.{HasFewParts}
 use Rattle.cs_numbers.proofs.Tables.{input_by_number}
 use Rattle.cs_proof.specs.Prepared.{narrow, narrow_all, clause_by}
 use Rattle.cs_proof.proofs.Narrowed.{small_at, all_narrow, narrowed_all, by_narrow}
 
--- no `and` and no `or` of a list
-pub record IsBare (t : Term) : Type 0 where
-  pub no_and : (xs : Terms) → t ≡ AllOf xs → ⊥
-  pub no_or : (xs : Terms) → t ≡ SomeOf xs → ⊥
-
-and_small : (t : Term) (xs : List Term) → IsBare t → IsAnd t xs → length xs < 2 ^ 32
+and_small : (t : Term) (xs : List Term) → HasFewParts t → IsAnd t xs → length xs < 2 ^ 32
 and_small t xs b (and-of-two x y) = omega arith
-and_small t xs b (and-of-more ts) = absurd (b.no_and ts refl)
+and_small t xs b (and-of-more ts) = b
 
-or_small : (t : Term) (xs : List Term) → IsBare t → IsOr t xs → length xs < 2 ^ 32
+or_small : (t : Term) (xs : List Term) → HasFewParts t → IsOr t xs → length xs < 2 ^ 32
 or_small t xs b (or-of-two x y) = omega arith
-or_small t xs b (or-of-more ts) = absurd (b.no_or ts refl)
+or_small t xs b (or-of-more ts) = b
 
-row_small : (t : Term) (k : ℕ) (c : Clause) → IsBare t → Defines t k c → k < 2 ^ 32
+row_small : (t : Term) (k : ℕ) (c : Clause) → HasFewParts t → Defines t k c → k < 2 ^ 32
 row_small t k c b true-is = omega arith
 row_small t k c b false-is = omega arith
 row_small t k c b (not-0 x) = omega arith
@@ -44,7 +40,7 @@ row_small t k c b (equal-1 x y s u) = omega arith
 row_small t k c b (equal-2 x y s u) = omega arith
 row_small t k c b (equal-3 x y s u) = omega arith
 
-module _ (stack : Stack) (s : State) (small : length s.terms < 2 ^ 32) (few : length stack.assertions < 2 ^ 32) (bare : (t : Term) → Contains s.terms t → IsBare t) where
+module _ (stack : Stack) (s : State) (small : length s.terms < 2 ^ 32) (few : length stack.assertions < 2 ^ 32) (few_parts : (t : Term) → Contains s.terms t → HasFewParts t) where
   input_small : {n : ℕ} (c : Clause) → Derives stack s (Input n) c → n < 2 ^ 32
   input_small {n} c (input at) = let k = slice_get_within stack.assertions n _ at in omega arith
 
@@ -52,7 +48,7 @@ module _ (stack : Stack) (s : State) (small : length s.terms < 2 ^ 32) (few : le
   define_small {n} c (define at d) = small_at s.terms n _ small at
 
   define_row : {n k : ℕ} (c : Clause) → Derives stack s (Define n k) c → k < 2 ^ 32
-  define_row {n} {k} c (define {t = t} at d) = row_small t k c (bare t (n, at)) d
+  define_row {n} {k} c (define {t = t} at d) = row_small t k c (few_parts t (n, at)) d
 
   pick_small : {n k : ℕ} (c : Clause) → Derives stack s (Pick n k) c → n < 2 ^ 32
   pick_small {n} c (pick-then at h e) = small_at s.terms n _ small at

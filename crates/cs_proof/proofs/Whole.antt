@@ -30,7 +30,7 @@ use Rattle.cs_proof.specs.Plans.{Plans, planned, planned_all, begun, plans_of}
 use Rattle.cs_proof.specs.Checking.{Checker, Verdict, Finished, BadStep, Over, NotEmpty, met, after, is_nil, is_empty, verdict}
 use Rattle.cs_proof.specs.Answers.{Meets, IsOver, Holds, none, more, Reaches, Answers}
 use Rattle.cs_proof.proofs.Grown.{Begins, Grows, all_grows, take_front, get_front, one_longer, at_left}
-use Rattle.cs_proof.proofs.OfKinds.{IsBare}
+use Rattle.cs_numbers.specs.Parts.{HasFewParts}
 use Rattle.cs_proof.proofs.State.{state_of, Stands, represents}
 use Rattle.cs_proof.proofs.Moves.{Fate, moves, misses, leaves}
 use Rattle.cs_proof.proofs.Answered.{Scene, fate_of}
@@ -119,7 +119,7 @@ pub record Whole (stack : Stack) (roots : List ℕ) (q : Plans) (c : Checker) : 
   pub small : length q.nodes < 2 ^ 32
   pub few : length stack.assertions < 2 ^ 32
   pub few_clauses : length c.clauses < 2 ^ 32
-  pub bare : (t : Term) → Contains q.terms t → IsBare t
+  pub few_parts : (t : Term) → Contains q.terms t → HasFewParts t
 
 module _ (stack : Stack) (roots : List ℕ) (q : Plans) (c : Checker) (g : Whole stack roots q c) where
   front_is : (p : Plans) → Grows p q → literals (take (length p.clauses) c.clauses) ≡ p.clauses
@@ -131,7 +131,7 @@ module _ (stack : Stack) (roots : List ℕ) (q : Plans) (c : Checker) (g : Whole
     small = (let le = longer p.nodes q.nodes r.nodes in let s = g.small in omega arith);
     few = g.few;
     few_clauses = (let le = take_short (length p.clauses) c.clauses in let s = g.few_clauses in omega arith);
-    bare = λ t k. g.bare t (k.0, subst (λ ts. At ts k.0 t) (sym (r.terms).1) (at_left p.terms (r.terms).0 k.0 t k.1));
+    few_parts = λ t k. g.few_parts t (k.0, subst (λ ts. At ts k.0 t) (sym (r.terms).1) (at_left p.terms (r.terms).0 k.0 t k.1));
     by = by_numbers p.nodes (state_of p) stack (represents stack roots p h);
     distinct = are_distinct p.nodes p.terms (represents stack roots p h);
     front = ap (take (length p.nodes)) (g.nodes ∙ (r.nodes).1) ∙ take_front p.nodes (r.nodes).0;

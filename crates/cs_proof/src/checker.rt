@@ -191,7 +191,10 @@ impl Checker {
     }
 
     /// A checker of these steps.
-    fn of(
+    ///
+    /// # Errors
+    /// `Want` where memory runs out.
+    pub fn of(
         alloc: Global,
         stack: &Stack,
         symbols: &Symbols<'_>,

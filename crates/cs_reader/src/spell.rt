@@ -155,7 +155,9 @@ fn negative(alloc: Global, of: &Term) -> Result<Rc<Term>, Stop>
         | Term::Apply(_, _, _)
         | Term::Not(_)
         | Term::Binary(_, _, _)
-        | Term::Ite(_, _, _) => Err(Stop::Form),
+        | Term::Ite(_, _, _)
+        | Term::AllOf(_)
+        | Term::SomeOf(_) => Err(Stop::Form),
     }
 }
 

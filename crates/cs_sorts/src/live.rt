@@ -97,6 +97,7 @@ pub fn is_live(symbols: &Symbols<'_>, t: &Term) -> Result<bool, AllocError>
                 Ok(false)
             }
         }
+        Term::AllOf(parts) | Term::SomeOf(parts) => are_live(symbols, parts),
         Term::Not(a) => is_live(symbols, a),
         Term::Binary(_, a, b) => {
             if is_live(symbols, a)? {

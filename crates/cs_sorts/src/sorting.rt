@@ -104,6 +104,10 @@ pub fn sort_in(t: &Term) -> Result<Sort, Stop>
             let right = sort_in(b)?;
             of_choice(test, left, right)
         }
+        Term::AllOf(parts) | Term::SomeOf(parts) => {
+            are_bools(parts)?;
+            Ok(Sort::Bool)
+        }
     }
 }
 
@@ -117,6 +121,20 @@ fn are_sorted(parts: &Terms) -> Result<(), Stop>
         Terms::More(t, rest) => {
             sort_in(t)?;
             are_sorted(rest)
+        }
+    }
+}
+
+/// Whether each part of an `and` or `or` is well-sorted and Bool.
+#[cycle(sorting)]
+fn are_bools(parts: &Terms) -> Result<(), Stop>
+    ensures { Gives (λ u. u) result (clean.are_bools (terms parts.now)) }
+{
+    match parts {
+        Terms::None => Ok(()),
+        Terms::More(t, rest) => {
+            of_bool(sort_in(t)?)?;
+            are_bools(rest)
         }
     }
 }

@@ -85,7 +85,9 @@ impl Variables {
             Term::Constant(Symbol::Standard(_), _) => Ok(()),
             Term::Constant(Symbol::Function(_), _) => Ok(()),
             Term::Constant(Symbol::Named(_), _) => Ok(()),
-            Term::Apply(_, _, parts) => self.add_parts(alloc, parts),
+            Term::Apply(_, _, parts) | Term::AllOf(parts) | Term::SomeOf(parts) => {
+                self.add_parts(alloc, parts)
+            }
             Term::Not(part) => self.add_term(alloc, part),
             Term::Binary(_, left, right) => {
                 self.add_term(alloc, left)?;

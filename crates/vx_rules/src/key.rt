@@ -53,7 +53,7 @@ fn key_down(t: &Term, depth: u8) -> u16
         return 0;
     }
     match t {
-        Term::Truth(_) | Term::Part(_) => 0,
+        Term::Truth(_) | Term::Part(_) | Term::AllOf(_) | Term::SomeOf(_) => 0,
         Term::Number(n) => (n.unsigned_abs() % 65536) as u16,
         Term::Constant(f, _) | Term::Apply(f, _, _) => key_of_symbol(f),
         Term::Not(u) => mix(12, key_down(u, depth - 1)),

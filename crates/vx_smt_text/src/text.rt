@@ -182,6 +182,16 @@ fn put_term(text: &mut Vec<u8>, t: &Term) -> Result<(), AllocError>
             put_term(text, u)?;
             text.push(b')')?;
         }
+        Term::AllOf(parts) => {
+            text.extend_from_slice(b"(and")?;
+            put_args(text, parts)?;
+            text.push(b')')?;
+        }
+        Term::SomeOf(parts) => {
+            text.extend_from_slice(b"(or")?;
+            put_args(text, parts)?;
+            text.push(b')')?;
+        }
     }
     Ok(())
 }

@@ -12,7 +12,7 @@ use Rattle.vx_terms.specs.declared.term.Terms.{Terms as Terms'}
 use Rattle.vx_terms.specs.declared.term.Terms.TheVariants as terms'
 use Rattle.vx_frac.specs.Fraction.{fraction}
 use Rattle.vx_terms.specs.Sorts.{Sort, IntSort, BoolSort, RealSort, RefSort, SnapSort, OtherSort, Symbol, Standard, Function, Variable, Named, Operator, And, Or, Implies, Equal, Less, LessEqual, Add, Subtract, Multiply, Div, Mod}
-use Rattle.vx_terms.specs.Terms.{Term, Truth, Number, Part, Constant, Apply, Not, Binary, Ite, Terms, NoTerms, MoreTerms}
+use Rattle.vx_terms.specs.Terms.{Term, Truth, Number, Part, Constant, Apply, Not, Binary, Ite, AllOf, SomeOf, Terms, NoTerms, MoreTerms}
 
 abbrev pub sort : Sort' → Sort
 sort sort'.Int = IntSort
@@ -51,6 +51,8 @@ abbrev mutual
   term (term'.Not' p t) = Not (term t)
   term (term'.Binary' o p t q u) = Binary (operator o) (term t) (term u)
   term (term'.Ite' p c q t r u) = Ite (term c) (term t) (term u)
+  term (term'.AllOf' p ts) = AllOf (terms ts)
+  term (term'.SomeOf' p ts) = SomeOf (terms ts)
 
   pub terms : Terms' → Terms
   terms terms'.None = NoTerms

@@ -96,6 +96,8 @@ impl Term {
             Term::Not(t) => Ok(Term::Not(t.clone()?)),
             Term::Binary(op, t, u) => Ok(Term::Binary(*op, t.clone()?, u.clone()?)),
             Term::Ite(c, t, u) => Ok(Term::Ite(c.clone()?, t.clone()?, u.clone()?)),
+            Term::AllOf(ts) => Ok(Term::AllOf(ts.clone()?)),
+            Term::SomeOf(ts) => Ok(Term::SomeOf(ts.clone()?)),
         }
     }
 
@@ -119,6 +121,8 @@ impl Term {
             (Term::Ite(c, t, u), Term::Ite(d, v, w)) => {
                 c.is_same(d) && (t.is_same(v) && u.is_same(w))
             }
+            (Term::AllOf(ts), Term::AllOf(us)) => ts.is_same(us),
+            (Term::SomeOf(ts), Term::SomeOf(us)) => ts.is_same(us),
             _ => false,
         }
     }

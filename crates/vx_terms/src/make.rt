@@ -81,7 +81,9 @@ pub fn not(alloc: Global, t: &Rc<Term>) -> Result<Rc<Term>, AllocError>
         | Term::Constant(_, _)
         | Term::Apply(_, _, _)
         | Term::Binary(_, _, _)
-        | Term::Ite(_, _, _) => Ok(Rc::new(alloc, Term::Not(t.clone()?))?),
+        | Term::Ite(_, _, _)
+        | Term::AllOf(_)
+        | Term::SomeOf(_) => Ok(Rc::new(alloc, Term::Not(t.clone()?))?),
     }
 }
 
@@ -173,6 +175,7 @@ impl Term {
                 | Operator::LessEqual => Ok(Sort::Bool),
             },
             Term::Ite(_, s, _) => s.sort(),
+            Term::AllOf(_) | Term::SomeOf(_) => Ok(Sort::Bool),
         }
     }
 }

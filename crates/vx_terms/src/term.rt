@@ -43,6 +43,9 @@ pub enum Term {
     Not(Rc<Term>),
     Binary(Operator, Rc<Term>, Rc<Term>),
     Ite(Rc<Term>, Rc<Term>, Rc<Term>),
+    /// `and` and `or` of three parts or more
+    AllOf(Rc<Terms>),
+    SomeOf(Rc<Terms>),
 }
 
 /// The first parts are let go one after the other: a snapshot of many clauses is deep there.
@@ -53,7 +56,11 @@ impl Drop for Term {
             let first = match self {
                 Term::Truth(_) | Term::Number(_) | Term::Part(_) => return,
                 Term::Constant(_f, _a) => return,
-                Term::Apply(_f, _a, arguments) => match Rc::into_inner(arguments) {
+                Term::Apply(_f, _a, parts) => match Rc::into_inner(parts) {
+                    Some(Terms::More(first, _rest)) => first,
+                    Some(Terms::None) | None => return,
+                },
+                Term::AllOf(parts) | Term::SomeOf(parts) => match Rc::into_inner(parts) {
                     Some(Terms::More(first, _rest)) => first,
                     Some(Terms::None) | None => return,
                 },

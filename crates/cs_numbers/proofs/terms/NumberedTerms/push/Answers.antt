@@ -1,10 +1,12 @@
-use Rattle.std.proofs.Common.{◌≡◌, rules, [], ◌∷◌, ◌++◌, length, map, sym, ◌∙◌, ap, ap₂, subst}
+use Rattle.std.proofs.Common.{◌≡◌, rules, List, [], ◌∷◌, ◌++◌, length, map, All, refl, sym, ◌∙◌, ap, ap₂, subst}
+use Rattle.std.proofs.lemmas.List.Elements.{All-push}
 use Rattle.std.proofs.lemmas.List.{map-append, length-map}
 use Rattle.vx_terms.specs.Views.{term}
 use Rattle.cs_index.specs.Under.{meets, under, with_number}
 use Rattle.cs_index.specs.Found.{IsIndexed}
 use Rattle.cs_index.proofs.Indexed.{indexed_more}
 use Rattle.cs_numbers.specs.Keys.{term_key}
+use Rattle.cs_numbers.specs.Parts.{HasFewParts}
 use Rattle.cs_numbers.specs.Listed.{terms_in}
 use Rattle.cs_numbers.proofs.terms.NumberedTerms.push.Goals as goal
 
@@ -19,3 +21,9 @@ invariant_of-self-in-Ok-clause-indexed c =
     (indexed_more term_key (terms_in old) (term c.args.t.value) old.index c.add.new.self old.indexed
     (λ k. c.in-Ok.ensures.added k ∙ ap₂ (λ key n. with_number (meets old.index key k) (under old.index k) n) key number)
     c.in-Ok.ensures.same)
+
+pub invariant_of-self-in-Ok-clause-few_parts : goal.invariant_of-self-in-Ok-clause-few_parts
+invariant_of-self-in-Ok-clause-few_parts c =
+    let old = c.args.self.now in
+    subst (All (λ x. HasFewParts (term x.value))) (sym c.in_ok-push.ensures.items)
+    (All-push (λ x. HasFewParts (term x.value)) old.terms.items c.args.t old.few_parts (subst (λ x. HasFewParts (term x)) c.deref.ensures (c.if-not-has_few_parts.ensures refl)))

@@ -1,0 +1,15 @@
+pub mod Examined
+pub mod Gets
+pub mod Statuses
+pub mod Trails
+pub mod Passes
+pub mod Added
+pub mod Resolution
+pub mod Analyses
+pub mod Settles
+pub mod Learns
+pub mod Rounds
+pub mod Tops
+pub mod Pops
+pub mod Widens
+pub mod Refuted

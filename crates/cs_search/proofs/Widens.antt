@@ -1,0 +1,50 @@
+-- A table with room for more atoms.
+use Rattle.std.proofs.Common.{◌≡◌, ℕ, zero, suc, ◌<◌, ◌≤◌, inl, inr, Bool, List, [], ◌∷◌, ◌++◌, length, Some, refl, sym, ◌∙◌, subst, ap, arith}
+use Rattle.std.specs.List.{slice_get, All}
+use Rattle.std.proofs.lemmas.List.{length-append}
+use Rattle.std.proofs.lemmas.List.Elements.{All-weaker}
+use Rattle.cs_hints.specs.declared.Literal.{Literal}
+use Rattle.cs_search.specs.declared.Value.{Value}
+use Rattle.cs_search.specs.declared.Value.TheVariants.{Unset}
+use Rattle.cs_search.specs.declared.Entry.{Entry}
+use Rattle.cs_hints.specs.declared.Clause.{Clause}
+use Rattle.cs_search.specs.Assignment.{seen_or, IsTrail}
+use Rattle.cs_search.specs.Search.{IsSearch}
+use Rattle.cs_search.specs.Widened.{IsWidened}
+use Rattle.cs_search.proofs.Gets.{get_push_cases}
+
+seen_push : (b : Bool) (values : List Value) (a : ℕ) → seen_or b (slice_get (values ++ Unset ∷ []) a) ≡ seen_or b (slice_get values a)
+seen_push b [] zero = refl
+seen_push b [] (suc a) = refl
+seen_push b (v ∷ values) zero = refl
+seen_push b (v ∷ values) (suc a) = seen_push b values a
+
+pub widened_itself : (values : List Value) → IsWidened values values
+widened_itself values = record { same = λ l. refl; longer = omega arith }
+
+pub widened_push : (old now new : List Value) → new ≡ now ++ Unset ∷ [] → IsWidened old now → IsWidened old new
+widened_push old now new e w =
+    let P : List Value → Type 0 = λ x. IsWidened old x in
+    subst P (sym e) record { same = λ l. seen_push l.positive now l.number ∙ w.same l; longer = (let a = w.longer in omega (arith, a, length-append now (Unset ∷ []))) }
+
+pub widened_twice : (a b c : List Value) → IsWidened a b → IsWidened b c → IsWidened a c
+widened_twice a b c f g = record { same = λ l. g.same l ∙ f.same l; longer = (let x = f.longer in let y = g.longer in omega arith) }
+
+pub room_later : (m n : ℕ) (c : List Literal) → m ≤ n → All (λ l. l.number < m) c → All (λ l. l.number < n) c
+room_later m n c le h = All-weaker (λ l. l.number < m) (λ l. l.number < n) (λ l x. (let a : l.number < m = x in omega arith)) c h
+
+nothing : (j : ℕ) (e : Entry) → slice_get [] j ≡ Some e → ⊥
+nothing j e h = cc
+
+pub added_search : (clauses clauses' : List Clause) (values v1 v2 : List Value) (trail trail' : List Entry) (c : Clause) →
+    IsSearch clauses values trail → IsTrail clauses v1 trail' → trail' ≡ [] → length v1 ≡ length values → IsWidened v1 v2 → All (λ l. l.number < length v2) c.literals.items → clauses' ≡ clauses ++ c ∷ [] → IsSearch clauses' v2 trail'
+added_search clauses clauses' values v1 v2 trail trail' c s t et width w room ec =
+    let P : List Clause → Type 0 = λ x. IsSearch x v2 trail' in
+    let none : (j : ℕ) (e : Entry) → slice_get trail' j ≡ Some e → ⊥ = λ j e h. nothing j e (ap (λ x. slice_get x j) (sym et) ∙ h) in
+    let le : length values ≤ length v2 = let a = w.longer in omega (arith, a, width) in
+    let R : Clause → Type 0 = λ x. All (λ l. l.number < length v2) x.literals.items in
+    subst P (sym ec) record {
+      sound = record { set = λ j e at. absurd (none j e at); placed = λ l p is. t.placed l p (sym (w.same l) ∙ is); reasoned = λ j r e at why. absurd (none j e at) };
+      known = λ i x at. elim (get_push_cases clauses i c x at) [ inl h ↦ room_later (length values) (length v2) x.literals.items le (s.known i x h) | inr h ↦ subst R (sym h.1) room ];
+      closed = λ d e at why i x here. absurd (none d e at);
+    }

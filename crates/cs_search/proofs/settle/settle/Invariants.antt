@@ -1,0 +1,12 @@
+use Rattle.std.proofs.Common.{◌≤◌}
+use Rattle.cs_search.specs.Assignment.{LeavesOnly}
+use Rattle.cs_search.proofs.settle.settle.Given as goal
+
+abbrev pub invariant-loop-before : goal.invariant-loop-before
+invariant-loop-before l = record {
+  within : l.cut ≤ l.from;
+  leaves : LeavesOnly l.values l.cut l.literals l.forced;
+}
+
+abbrev pub decreases-loop-before : goal.decreases-loop-before
+decreases-loop-before l = l.cut

@@ -1,0 +1,10 @@
+pub mod Assignment
+pub mod Propagation
+pub mod Found
+pub mod Extended
+pub mod Learned
+pub mod Settled
+pub mod Search
+pub mod Top
+pub mod Widened
+pub mod Law
