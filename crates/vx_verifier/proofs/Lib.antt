@@ -15,3 +15,4 @@ mod Replied
 pub mod Lawful
 mod Spelled
 mod Faultless
+mod Askable
