@@ -16,3 +16,4 @@ mod Replied
 pub mod Lawful
 mod Spelled
 mod Faultless
+mod Askable

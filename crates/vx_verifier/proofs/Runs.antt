@@ -109,7 +109,7 @@ pub take_front : {A : Type 0} (xs ys : List A) → take (length xs) (xs ++ ys) �
 take_front [] ys = refl
 take_front (x ∷ xs) ys = ap (λ l. x ∷ l) (take_front xs ys)
 
-own_front : (k : ℕ) (checks own rest : List Check) → checks ≡ own ++ rest → length own ≡ k → (take k checks ≡ own) × (drop k checks ≡ rest)
+pub own_front : (k : ℕ) (checks own rest : List Check) → checks ≡ own ++ rest → length own ≡ k → (take k checks ≡ own) × (drop k checks ≡ rest)
 own_front k checks own rest is count = (
   ap (λ n. take n checks) (sym count) ∙ (ap (take (length own)) is ∙ take_front own rest),
   ap (λ n. drop n checks) (sym count) ∙ (ap (drop (length own)) is ∙ drop_front own rest),

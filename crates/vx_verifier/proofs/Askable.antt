@@ -1,0 +1,114 @@
+-- What the one child is asked is askable, where each question of the members' trees is.
+use Rattle.std.proofs.Common.{◌≡◌, ℕ, ◌+◌, ◌||◌, Bool, true, false, ◌++◌, ◌∷◌, [], List, length, take, drop, refl, ap, ◌∙◌, sym, subst, append_assoc, if◌then◌else◌}
+use Rattle.vx_ast.specs.Syntax.{Program}
+use Rattle.vx_terms.specs.Interpretations.{Each}
+use Rattle.vx_smt_meaning.specs.Dialogues.{Check}
+use Rattle.vx_smt_meaning.specs.declared.reply.Reply.{Reply}
+use Rattle.vx_smt_meaning.specs.declared.reply.Reply.TheVariants.{Unsat, Sat, Unknown}
+use Rattle.vx_ends.specs.declared.piece.Ending.{Ending}
+use Rattle.vx_dialogue.specs.Scripts.{Turn, Asks, Posts, Leaves}
+use Rattle.vx_dialogue.specs.Askable.{IsAskable, AreAskable}
+use Rattle.vx_rules.specs.Trees.{Question, Answered, Ending as Ends, Passed, Failed, Open, Tree, End, On, Step, Ask, Probe, Fork, Walked, walk_then, asked, probed, passed}
+use Rattle.vx_machine.specs.Runs.{member_tree}
+use Rattle.vx_report.specs.declared.run.Verdict.{Verdict}
+use Rattle.vx_report.specs.declared.run.MemberRun.{MemberRun}
+use Rattle.vx_report.specs.Reports.{is_faulted}
+use Rattle.vx_verifier.specs.Sequences.{replies_to}
+use Rattle.vx_verifier.specs.Headline.{AreTold, asks_of, open_turn, failed_turn, left_turn, member_turns, turns_of, walk_of}
+use Rattle.vx_verifier.proofs.Runs.{own_front}
+use Rattle.vx_verifier.proofs.Walks.{walk_extends}
+
+abbrev pub AllAskable : Tree → Type 0
+AllAskable End = Unit {0}
+AllAskable (On t s) = Unit {0}
+AllAskable (Step t) = AllAskable t
+AllAskable (Ask q t) = IsAskable q.path q.condition × AllAskable t
+AllAskable (Probe q a b) = IsAskable q.path q.condition × AllAskable a × AllAskable b
+AllAskable (Fork a b) = AllAskable a × AllAskable b
+
+-- ---- the questions that a walk meets
+
+abbrev IsOpenAskable : Ends → Type 0
+IsOpenAskable (Open q) = IsAskable q.path q.condition
+IsOpenAskable Passed = Unit {0}
+IsOpenAskable (Failed place c r) = Unit {0}
+
+record MeetsAskable (w : Walked) : Type 0 where
+  answered : Each (λ (a : Answered). IsAskable a.question.path a.question.condition) w.answered
+  last : IsOpenAskable w.ending
+
+asked_askable : (q : Question) (r : Reply) (w : Walked) → IsAskable q.path q.condition → MeetsAskable w → MeetsAskable (asked q r w)
+asked_askable q Unsat w h e = record { answered = (h, e.answered); last = e.last }
+asked_askable q Sat w h e = record { answered = (h, tt); last = tt }
+asked_askable q Unknown w h e = record { answered = (h, tt); last = tt }
+
+probed_askable : (q : Question) (r : Reply) (v w : Walked) → IsAskable q.path q.condition → MeetsAskable v → MeetsAskable w → MeetsAskable (probed q r v w)
+probed_askable q Unsat v w h e f = record { answered = (h, e.answered); last = e.last }
+probed_askable q Sat v w h e f = record { answered = (h, f.answered); last = f.last }
+probed_askable q Unknown v w h e f = record { answered = (h, f.answered); last = f.last }
+
+through : (t : Tree) (next : List Reply → Walked) → AllAskable t → ((rs : List Reply) → MeetsAskable (next rs)) → (rs : List Reply) → MeetsAskable (walk_then t next rs)
+through End next all e rs = e rs
+through (On t s) next all e rs = e rs
+through (Step t) next all e rs = through t next all e rs
+through (Fork a b) next all e rs = through a (walk_then b next) all.0 (through b next all.1 e) rs
+through (Ask q t) next all e [] = record { answered = tt; last = all.0 }
+through (Ask q t) next all e (r ∷ rs) = asked_askable q r (walk_then t next rs) all.0 (through t next all.1 e rs)
+through (Probe q a b) next all e [] = record { answered = tt; last = all.0 }
+through (Probe q a b) next all e (r ∷ rs) =
+    probed_askable q r (walk_then a next rs) (walk_then b next rs) all.0 (through a next all.1 e rs) (through b next all.2 e rs)
+
+-- ---- the turns of one member, and then those behind it
+
+asks_askable : (as' : List Answered) (rest : List Turn) → Each (λ (a : Answered). IsAskable a.question.path a.question.condition) as' → AreAskable rest → AreAskable (asks_of as' ++ rest)
+asks_askable [] rest each askable = askable
+asks_askable (a ∷ as') rest each askable = (each.0, asks_askable as' rest each.1 askable)
+
+open_askable : (e : Ends) (rest : List Turn) → IsOpenAskable e → rest ≡ [] → AreAskable (open_turn e ++ rest)
+open_askable (Open q) rest h none = (h, none)
+open_askable Passed rest h none = subst AreAskable (sym none) tt
+open_askable (Failed place c r) rest h none = subst AreAskable (sym none) tt
+
+last_askable : (lost b : Bool) (e : Ends) (rest : List Turn) → IsOpenAskable e → AreAskable rest → ((lost || b) ≡ true → rest ≡ []) → (f : List Turn)
+    → (lost ≡ true → f ≡ []) → (lost ≡ false → f ≡ (if b then open_turn e else [])) → AreAskable (f ++ (left_turn (lost || b) ++ rest))
+last_askable true b e rest h askable none f gone here = subst (λ x. AreAskable (x ++ rest)) (sym (gone refl)) askable
+last_askable false true e rest h askable none f gone here = subst (λ x. AreAskable (x ++ rest)) (sym (here refl)) (open_askable e rest h (none refl))
+last_askable false false e rest h askable none f gone here = subst (λ x. AreAskable (x ++ (Leaves ∷ rest))) (sym (here refl)) askable
+
+failed_gone : (lost : Bool) (e : Ends) (v : Verdict) → lost ≡ true → failed_turn lost e v ≡ []
+failed_gone true e v is = refl
+failed_gone false e v is = cc
+
+failed_here : (lost : Bool) (e : Ends) (v : Verdict) → lost ≡ false → failed_turn lost e v ≡ (if is_faulted v then open_turn e else [])
+failed_here true e v is = cc
+failed_here false e v is = refl
+
+module _ (p : Program) (before now : List Ending) (f g : ℕ) where
+  -- behind a fault nothing is asked
+  silent : (n first : ℕ) (runs : List MemberRun) (checks : List Check) → AreTold p before now f g true n first runs checks → turns_of true p n runs checks ≡ []
+  silent n first [] checks told = refl
+  silent n first (r ∷ runs) checks told =
+      let front = own_front r.checks checks told.4 told.5 told.6 told.7 in
+      let none : take r.checks checks ≡ [] = front.0 ∙ told.9.0 in
+      let here : member_turns true p n (take r.checks checks) r.verdict ≡ [] =
+      ap (λ x. member_turns true p n x r.verdict) none ∙ ap (λ x. (asks_of x ++ []) ++ []) (walk_extends (member_tree p n)).none in
+      ap (λ x. x ++ turns_of true p (n + 1) runs (drop r.checks checks)) here
+      ∙ (ap (turns_of true p (n + 1) runs) front.1 ∙ silent (n + 1) (first + length told.4) runs told.5 told.10)
+
+  pub turns_askable : ((k : ℕ) → AllAskable (member_tree p k)) → (lost : Bool) (n first : ℕ) (runs : List MemberRun) (checks : List Check)
+      → AreTold p before now f g lost n first runs checks → AreAskable (turns_of lost p n runs checks)
+  turns_askable all lost n first [] checks told = tt
+  turns_askable all lost n first (r ∷ runs) checks told =
+      let front = own_front r.checks checks told.4 told.5 told.6 told.7 in
+      let gone = lost || is_faulted r.verdict in
+      let w = walk_of p n (take r.checks checks) in
+      let rest = turns_of gone p (n + 1) runs (drop r.checks checks) in
+      let met : MeetsAskable w = through (member_tree p n) passed (all n) (λ rs. record { answered = tt; last = tt }) (replies_to (take r.checks checks)) in
+      let later : AreAskable rest = subst (λ x. AreAskable (turns_of gone p (n + 1) runs x)) (sym front.1) (turns_askable all gone (n + 1) (first + length told.4) runs told.5 told.10) in
+      let none : gone ≡ true → rest ≡ [] = λ is.
+      ap (λ b. turns_of b p (n + 1) runs (drop r.checks checks)) is ∙ (ap (turns_of true p (n + 1) runs) front.1
+      ∙ silent (n + 1) (first + length told.4) runs told.5 (subst (λ b. AreTold p before now f g b (n + 1) (first + length told.4) runs told.5) is told.10)) in
+      let failed = failed_turn lost w.ending r.verdict in
+      let ends = last_askable lost (is_faulted r.verdict) w.ending rest met.last later none failed (failed_gone lost w.ending r.verdict) (failed_here lost w.ending r.verdict) in
+      subst AreAskable (sym (append_assoc (asks_of w.answered ++ failed) (left_turn gone) rest ∙ append_assoc (asks_of w.answered) failed (left_turn gone ++ rest)))
+      (asks_askable w.answered (failed ++ (left_turn gone ++ rest)) met.answered ends)
