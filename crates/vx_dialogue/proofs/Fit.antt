@@ -4,7 +4,7 @@ use Rattle.vx_terms.specs.Sorts.{Sort, IntSort, BoolSort, RealSort, RefSort, Sna
 use Rattle.vx_terms.specs.Terms.{Term, Truth, Number, Part, Constant, Apply, Not, Binary, Ite, AllOf, SomeOf, Terms, NoTerms, MoreTerms, sort_of}
 use Rattle.vx_terms.specs.Interpretations.{Each}
 use Rattle.vx_terms.specs.Build.{negate}
-use Rattle.vx_smt_meaning.specs.Commands.{Command, Declared, DeclareFun, Assert, Push, Pop, CheckSat, Level, empty_level, stack_after, stack_from, stack_of, declared_in}
+use Rattle.vx_smt_meaning.specs.Commands.{Command, Declared, DeclareFun, Assert, Pop, CheckSat, Level, empty_level, stack_after, stack_from, declared_in}
 use Rattle.vx_smt_meaning.specs.Names.{IsName, IsSortName, AreNames, AllAreNames, IsCommand, AreCommands}
 use Rattle.vx_smt_meaning.specs.Symbols.{declaration, Declares, UsesDeclared}
 use Rattle.vx_smt_meaning.specs.Standard.{standard_symbols}
@@ -12,8 +12,8 @@ use Rattle.vx_smt_meaning.specs.Over.{IsConstantOver, IsOver, AreOver}
 use Rattle.vx_smt_meaning.specs.WellFormed.{names, sorts_in, knows_sort, AllMayFollow, IsWellFormed}
 use Rattle.vx_dialogue.specs.Askable.{IsOfFive, IsAskable, AreAskable}
 use Rattle.vx_dialogue.specs.Symbols.{variable, declares, with_variable, with_symbol, with_variables, with_all_variables, with_listed}
-use Rattle.vx_dialogue.specs.Preamble.{declarations, print_success, produce_proofs}
-use Rattle.vx_dialogue.specs.Scripts.{Turn, Asks, Posts, Leaves, assertions, preamble, opening, closing, symbols_of, question, posted, said_of, is_inside, said_by, script}
+use Rattle.vx_dialogue.specs.Preamble.{declarations, produce_proofs}
+use Rattle.vx_dialogue.specs.Scripts.{Turn, Asks, Posts, Leaves, assertions, preamble, opening, closing, symbols_of, question, posted, said_by, script}
 use Rattle.vx_dialogue.specs.Dialogue.{pushed, resting, base_of}
 use Rattle.vx_sexp.specs.Characters.{is_symbol_byte, is_digit}
 use Rattle.vx_dialogue.proofs.Lists.{none_more, stack_append}

@@ -1,7 +1,6 @@
 -- What holds of a lane between two questions.
 use Rattle.std.specs.Prelude.{◌≡◌, ℕ, ◌<◌, ⊤, Bool, true, false, List, [], ◌∷◌, ◌++◌, length}
 use Rattle.vx_ast.specs.Syntax.{Program}
-use Rattle.vx_smt_meaning.specs.Commands.{Command}
 use Rattle.vx_smt_meaning.specs.Dialogues.{Check}
 use Rattle.vx_smt_meaning.specs.Names.{AreCommands}
 use Rattle.vx_ends.specs.declared.piece.Piece.{Piece}

@@ -1,11 +1,8 @@
-use Rattle.std.proofs.Common.{◌≡◌, ◌||◌, false, is_err, rules, sym, subst}
+use Rattle.std.proofs.Common.{◌≡◌, false, is_err, rules, sym}
 use Rattle.vx_types.specs.Settled.{settled}
-use Rattle.vx_report.specs.Reports.{is_faulted}
-use Rattle.vx_verifier.specs.Causes.{HasCauseOf}
-use Rattle.vx_verifier.specs.Headline.{asked_turns}
-use Rattle.vx_verifier.specs.Lanes.{Judges, Hears, is_lost}
+use Rattle.vx_verifier.specs.Lanes.{is_lost}
 use Rattle.vx_verifier.proofs.Children.{if_ok_at, on_ok_of, match_ok_of}
-use Rattle.vx_verifier.proofs.Questions.{leaves, judges_at}
+use Rattle.vx_verifier.proofs.Questions.{judges_at}
 use Rattle.vx_verifier.proofs.execute.execute.Goals as goal
 
 pub returns-in-Err-clause-starts : goal.returns-in-Err-clause-starts
