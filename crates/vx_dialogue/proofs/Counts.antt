@@ -186,7 +186,7 @@ whole_sorts (a ∷ as') = whole_more kind.Symbol (sort_word a) (sorts_tokens as'
 one_listed : (ts : List Token) → Whole ts → closes 0 (listed ts) ≡ true
 one_listed ts e = open_step 0 (ts ++ Close ∷ []) ∙ (e (0 + 1) (Close ∷ []) (omega arith) ∙ refl)
 
-one_command : (c : Command) → closes 0 (command_tokens c) ≡ true
+pub one_command : (c : Command) → closes 0 (command_tokens c) ≡ true
 one_command (SetOption x b) =
     one_listed (word (codes "set-option") ∷ Atom kind.Keyword x ∷ word (truth_word b) ∷ [])
     (whole_more kind.Symbol (codes "set-option") (Atom kind.Keyword x ∷ word (truth_word b) ∷ []) (whole_more kind.Keyword x (word (truth_word b) ∷ []) (whole_atom kind.Symbol (truth_word b))))

@@ -9,7 +9,6 @@ mod Covered
 mod Statuses
 mod Steady
 mod Replies
-mod OneCommand
 mod Levels
 mod Said
 mod Replied

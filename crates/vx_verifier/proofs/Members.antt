@@ -5,6 +5,8 @@ use Rattle.std.proofs.lemmas.List.Elements.{All-append}
 use Rattle.vx_ast.specs.Syntax.{Program}
 use Rattle.vx_smt_meaning.specs.Dialogues.{Check}
 use Rattle.vx_dialogue.specs.Scripts.{Turn}
+use Rattle.vx_dialogue.proofs.Fit.{well_formed}
+use Rattle.vx_machine.specs.Runs.{member_tree}
 use Rattle.vx_ends.specs.declared.piece.Piece.{Piece}
 use Rattle.vx_ends.specs.declared.piece.Ending.{Ending}
 use Rattle.vx_report.specs.declared.run.MemberRun.{MemberRun}
@@ -17,6 +19,7 @@ use Rattle.vx_verifier.proofs.Children.{handed_itself, cause_earlier}
 use Rattle.vx_verifier.proofs.Runs.{told_later, runs_later, runs_more, turns_more}
 use Rattle.vx_verifier.proofs.Questions.{one_longer}
 use Rattle.vx_verifier.proofs.Complete.{complete}
+use Rattle.vx_verifier.proofs.Askable.{AllAskable, turns_askable}
 
 lost_more : (lost : Bool) (runs : List MemberRun) (r : MemberRun) → lost_after lost (runs ++ r ∷ []) ≡ (lost_after lost runs || is_faulted r.verdict)
 lost_more lost [] r = refl
@@ -81,14 +84,15 @@ module _ {L : Type 0} (dialogue : L → List Piece) (p : Program) (before : List
   pub headline : (mid new : List Ending) (f g h : ℕ) (child : Child L) (asked : ℕ) (runs : List MemberRun) → length runs ≡ length p
       → Executes dialogue p before mid f g child asked runs
       → ((turns : List Turn) (checks : List Check) → Hears dialogue before mid child turns checks → IsRecorded (is_lost child) before new turns checks)
-      → Later mid new → g ≤ h → Headline p before new f h runs
-  headline mid new f g h child asked runs each so_far end later after =
+      → Later mid new → g ≤ h → ((k : ℕ) → AllAskable (member_tree p k)) → Headline p before new f h runs
+  headline mid new f g h child asked runs each so_far end later after askable =
       let handed = later mid (handed_itself mid) in
       let told = subst (λ x. AreTold p before x f h false 0 0 runs so_far.checks) (sym handed.is)
       (runs_later p before mid handed.more f g h after false 0 0 runs so_far.checks so_far.told) in
       record {
         checks = so_far.checks;
         recorded = subst (λ b. IsRecorded b before new (turns_of false p 0 runs so_far.checks) so_far.checks) so_far.lost (end (turns_of false p 0 runs so_far.checks) so_far.checks so_far.heard);
+        well_formed = well_formed false (turns_of false p 0 runs so_far.checks) (turns_askable p before new f h askable false 0 0 runs so_far.checks told);
         each = each;
         told = told;
         complete = complete p before new f h runs so_far.checks told;

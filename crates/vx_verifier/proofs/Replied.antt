@@ -16,7 +16,7 @@ use Rattle.vx_dialogue.proofs.Counts.{finished_first}
 use Rattle.vx_verifier.specs.declared.companion.session.Said.{Said}
 use Rattle.vx_verifier.specs.declared.companion.session.Session.{Session}
 use Rattle.vx_verifier.specs.Companion.{said_text, texts_of, reply_to, replies_from, replies_of, Knows, IsTextOf, IsFit, AreAnswered, HasSaid, RepliesTo, AllReplied}
-use Rattle.vx_verifier.proofs.OneCommand.{one_command}
+use Rattle.vx_dialogue.proofs.Counts.{one_command}
 use Rattle.vx_verifier.proofs.Said.{fed, first_fed}
 
 -- ---- one command after another

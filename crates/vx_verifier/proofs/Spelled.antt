@@ -1,4 +1,4 @@
--- In a supported program each name in a question is spelled as a symbol: none is a name of its own.
+-- In a supported program each question can be asked: each name in it is spelled as a symbol, and each symbol has its sorts.
 use Rattle.std.proofs.Common.{◌≡◌, ℕ, zero, suc, Bool, true, false, List, [], ◌∷◌, ◌++◌, Option, Some, None, map, slice_get, if◌then◌else◌, ap, ◌∙◌, sym, refl, subst}
 use Rattle.vx_ast.specs.declared.resolved.Kind.TheVariants as kind'
 use Rattle.vx_ast.specs.declared.resolved.Member as member'
@@ -16,10 +16,13 @@ use Rattle.vx_dialogue.specs.Symbols.{variable, declares, with_variable, with_sy
 use Rattle.vx_dialogue.proofs.Steady.{commands_join}
 use Rattle.vx_rules.specs.Trees.{Question, Tree, End, On, Step, Ask, Probe, Fork}
 use Rattle.vx_rules.specs.Members.{tree, method_tree}
-use Rattle.vx_machine.specs.Runs.{tree_of}
+use Rattle.vx_machine.specs.Runs.{tree_of, member_tree}
 use Rattle.vx_live.specs.Live.{IsBuiltIn, IsLive, AllLive}
 use Rattle.vx_live.proofs.Nameless.{IsNumbered, IsNameless, AreNameless, negate_nameless, condition_nameless, path_nameless}
+use Rattle.vx_live.proofs.Bools.{path_bool, negated_bool}
 use Rattle.vx_live.proofs.LiveMethods.{store_methods_live}
+use Rattle.vx_dialogue.specs.Askable.{IsOfFive, IsAskable}
+use Rattle.vx_verifier.proofs.Askable.{AllAskable}
 use Rattle.vx_verifier.specs.Headline.{IsSupported}
 use Rattle.vx_verifier.specs.Steady.{IsSpelled, AllSpelled, AsksSpelled}
 
@@ -117,6 +120,32 @@ all_spelled (Ask q t) live = (live_spelled q live.0, all_spelled t live.1)
 all_spelled (Probe q a b) live = (live_spelled q live.0, all_spelled a live.1, all_spelled b live.2)
 all_spelled (Fork a b) live = (all_spelled a live.0, all_spelled b live.1)
 
+five : (a : Sort) → IsBuiltIn a → IsOfFive a
+five IntSort h = tt
+five BoolSort h = tt
+five RealSort h = tt
+five RefSort h = tt
+five SnapSort h = tt
+five (OtherSort x) h = h
+
+askable : (q : Question) → IsLive q → IsAskable q.path q.condition
+askable q live = record {
+  sorts = live.sorts;
+  five = λ n. five (live.sorts n) (live.built_in n);
+  path_over = live.path_over;
+  over = live.condition_over;
+  path_bool = path_bool q live;
+  bool = negated_bool q live;
+}
+
+all_askable : (t : Tree) → AllLive t → AllAskable t
+all_askable End live = tt
+all_askable (On t s) live = tt
+all_askable (Step t) live = all_askable t live
+all_askable (Ask q t) live = (askable q live.0, all_askable t live.1)
+all_askable (Probe q a b) live = (askable q live.0, all_askable a live.1, all_askable b live.2)
+all_askable (Fork a b) live = (all_askable a live.0, all_askable b live.1)
+
 one_kind : (k : kind'.the_data) → (m : Method) × (kind k ≡ IsMethod m)
 one_kind (kind'.Method m) = (method m.value, refl)
 
@@ -130,13 +159,20 @@ only_methods (y ∷ ms) zero x at =
     (here.0, ap (λ (z : Member). z.kind) (sym (some_same (member y) x at)) ∙ here.1)
 only_methods (y ∷ ms) (suc n) x at = only_methods ms n x at
 
-pub supported_spelled : (ms : List member'.Member) → IsSupported (map member ms) → AsksSpelled (map member ms)
-supported_spelled ms supported n = by_member (slice_get (map member ms) n) refl
+-- each question of the members is live
+supported_live : (ms : List member'.Member) → IsSupported (map member ms) → (n : ℕ) → AllLive (member_tree (map member ms) n)
+supported_live ms supported n = by_member (slice_get (map member ms) n) refl
   where
-    by_member : (o : Option Member) → slice_get (map member ms) n ≡ o → AllSpelled (tree_of (map member ms) o)
+    by_member : (o : Option Member) → slice_get (map member ms) n ≡ o → AllLive (tree_of (map member ms) o)
     by_member None at = tt
     by_member (Some x) at =
         let p = map member ms in
         let m = only_methods ms n x at in
         let law = supported n m.0 (x, at, m.1) in
-        subst (λ k. AllSpelled (tree p x.name k)) (sym m.1) (all_spelled (method_tree p m.0) (store_methods_live p m.0 law.0 law.1))
+        subst (λ k. AllLive (tree p x.name k)) (sym m.1) (store_methods_live p m.0 law.0 law.1)
+
+pub supported_spelled : (ms : List member'.Member) → IsSupported (map member ms) → AsksSpelled (map member ms)
+supported_spelled ms supported n = all_spelled (member_tree (map member ms) n) (supported_live ms supported n)
+
+pub supported_askable : (ms : List member'.Member) → IsSupported (map member ms) → (n : ℕ) → AllAskable (member_tree (map member ms) n)
+supported_askable ms supported n = all_askable (member_tree (map member ms) n) (supported_live ms supported n)

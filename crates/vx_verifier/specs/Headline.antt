@@ -8,6 +8,7 @@ use Rattle.vx_types.specs.Typing.{IsTypedMethod}
 use Rattle.vx_meaning.specs.Fails.{MethodFails}
 use Rattle.vx_types.specs.StoreLanguage.{IsStoreMethod}
 use Rattle.vx_smt_meaning.specs.Dialogues.{Check}
+use Rattle.vx_smt_meaning.specs.WellFormed.{IsWellFormed}
 use Rattle.vx_ends.specs.declared.piece.Ending.{Ending}
 use Rattle.vx_dialogue.specs.History.{Tells}
 use Rattle.vx_dialogue.specs.Scripts.{Turn, Asks, Posts, Leaves, script}
@@ -149,6 +150,8 @@ pub record IsComplete (before now : List Ending) (faults_then faults_now : ℕ) 
 pub record Headline (p : Program) (before now : List Ending) (faults_then faults_now : ℕ) (runs : List MemberRun) : Type 0 where
   pub checks : List Check
   pub recorded : IsRecorded (lost_after false runs) before now (turns_of false p 0 runs checks) checks
+  -- names are spelled, each symbol is declared before it is used, with its sorts, and no live one again; what is asserted is of sort Bool
+  pub well_formed : IsWellFormed (script false [] (turns_of false p 0 runs checks))
   pub each : length runs ≡ length p
   pub told : AreTold p before now faults_then faults_now false 0 0 runs checks
   pub complete : IsComplete before now faults_then faults_now runs checks

@@ -4,7 +4,7 @@ use Rattle.vx_types.specs.Settled.{settled}
 use Rattle.vx_verifier.proofs.Members.{headline}
 use Rattle.vx_verifier.specs.declared.lane.Child.TheVariants.{NotStarted}
 use Rattle.vx_verifier.proofs.Steady.{none_rose}
-use Rattle.vx_verifier.proofs.Spelled.{supported_spelled}
+use Rattle.vx_verifier.proofs.Spelled.{supported_spelled, supported_askable}
 use Rattle.vx_verifier.proofs.execute.verify_members.Goals as goal
 
 pub execute_all-lane-requires : goal.execute_all-lane-requires
@@ -18,7 +18,8 @@ returns-clause-headline g c =
     IfOk-weaker c.execute_all-lane.result.1 _ _ (λ runs told.
     headline g.W.Link.Link.dialogue (settled c.args.program.now) before (g.W.Spawner.ended c.execute_all-lane.new.spawner) (g.W.Spawner.ended c.end.new.spawner)
     (g.W.Spawner.faults c.args.spawner.now) (g.W.Spawner.faults c.execute_all-lane.new.spawner) (g.W.Spawner.faults c.end.new.spawner)
-    c.execute_all-lane.result.0.child c.execute_all-lane.result.0.checks runs.items told.0 told.1 (λ turns checks. c.end.ensures.told before turns checks) c.end.ensures.later after)
+    c.execute_all-lane.result.0.child c.execute_all-lane.result.0.checks runs.items told.0 told.1 (λ turns checks. c.end.ensures.told before turns checks) c.end.ensures.later after
+    (supported_askable c.args.program.now.program.members.items c.requires.supported))
     c.execute_all-lane.ensures.told
 
 pub returns-clause-steady : goal.returns-clause-steady
