@@ -6,7 +6,7 @@ use Rattle.vx_smt_meaning.specs.Dialogues.{Check}
 use Rattle.vx_smt_meaning.specs.declared.reply.Reply.{Reply}
 use Rattle.vx_smt_meaning.specs.declared.reply.Reply.TheVariants.{Unsat, Sat, Unknown}
 use Rattle.vx_ends.specs.declared.piece.Ending.{Ending}
-use Rattle.vx_dialogue.specs.Scripts.{Turn, Asks, Posts, Leaves}
+use Rattle.vx_dialogue.specs.Scripts.{Turn, Leaves}
 use Rattle.vx_dialogue.specs.Askable.{IsAskable, AreAskable}
 use Rattle.vx_rules.specs.Trees.{Question, Answered, Ending as Ends, Passed, Failed, Open, Tree, End, On, Step, Ask, Probe, Fork, Walked, walk_then, asked, probed, passed}
 use Rattle.vx_machine.specs.Runs.{member_tree}

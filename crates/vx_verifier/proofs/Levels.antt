@@ -1,20 +1,19 @@
 -- What a session knows of its levels, and what it replies.
-use Rattle.std.proofs.Common.{◌≡◌, ◌++◌, ℕ, zero, suc, ◌+◌, ◌*◌, ◌-◌, ◌<◌, ◌≤◌, Bool, true, false, List, [], ◌∷◌, map, reverse, length, take, drop, refl, ap, ◌∙◌, sym, subst, append_assoc, arith, Result, Ok, Err, OnOk}
+use Rattle.std.proofs.Common.{◌≡◌, ◌++◌, ℕ, zero, suc, ◌+◌, ◌*◌, ◌-◌, ◌<◌, ◌≤◌, Bool, true, false, List, [], ◌∷◌, map, reverse, length, take, drop, refl, ap, ◌∙◌, sym, subst, arith, Result, Ok, Err, OnOk}
 use Rattle.std.specs.Char.{is_ascii_digit}
 use Rattle.std.specs.Int.Digits.{digits_of, number_from_digits_after, AllBelowBase}
 use Rattle.std.proofs.lemmas.Int.Digits.{number_digits_of, all_below_base_digits_of}
 use Rattle.std.proofs.lemmas.List.{reverse-append, length-reverse, length-map, length-append, map-append, same_from_push, length_push}
 use Rattle.vx_terms.specs.Terms.{Term}
-use Rattle.vx_smt_meaning.specs.Commands.{Command, SetOption, SetLogic, DeclareSort, DeclareFun, Assert, Push, Pop, CheckSat, GetProof, Exit, Level, empty_level, opened, stack_after, assertions_of}
+use Rattle.vx_smt_meaning.specs.Commands.{Command, SetOption, SetLogic, DeclareSort, DeclareFun, Assert, Push, Pop, CheckSat, GetProof, Exit, Level, opened, stack_after, assertions_of}
 use Rattle.vx_smt_meaning.specs.Words.{numeral, digits}
 use Rattle.vx_smt_meaning.specs.Replies.{is_refusal}
 use Rattle.vx_smt_meaning.specs.Dialogues.{is_lawful_to, Answers}
 use Rattle.vx_smt_text.specs.Text.{term_text}
 use Rattle.std.specs.Prelude.{if◌then◌else◌, ◌==◌}
 use Rattle.vx_verifier.specs.declared.companion.session.Session.{Session}
-use Rattle.vx_verifier.specs.declared.companion.session.Said.{Said}
 use Rattle.vx_verifier.specs.declared.companion.session.Said.TheVariants.{Unsat, Unknown}
-use Rattle.vx_verifier.specs.Companion.{item_of, items_of, is_refuted, number_from, live_texts, marks_of, Knows, verdict_on, reply_to, replies_from}
+use Rattle.vx_verifier.specs.Companion.{item_of, items_of, is_refuted, number_from, live_texts, marks_of, Knows, reply_to, replies_from}
 
 -- ---- one assertion more
 

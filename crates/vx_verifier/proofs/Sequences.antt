@@ -14,6 +14,7 @@ use Rattle.vx_rules.specs.Members.{tree, method_tree}
 use Rattle.vx_machine.specs.Runs.{tree_of, member_tree}
 use Rattle.vx_sound.specs.Law.{StoreLaw, AllRight}
 use Rattle.vx_sound.specs.Law.{IsRight as IsRightAnswer}
+use Rattle.vx_elements.proofs.Cases.{store_method}
 use Rattle.vx_sound.proofs.Passes.{cleared}
 use Rattle.vx_sound.proofs.Methods.{sound}
 use Rattle.vx_verifier.specs.Sequences.{IsIn, SameSet, IsCheckOf, AreChecksOf, reply_list, replies_to, IsRight}
@@ -84,7 +85,7 @@ all_right (a ∷ as') [] all right = absurd all
 all_right (a ∷ as') (c ∷ cs) all right = (right_answer a.question a.reply c all.0.set all.0.reply right.0, all_right as' cs all.1 right.1)
 
 store_law : StoreLaw
-store_law p m replies typed plain passed right = sound (λ g es e. ⊥) p m typed plain (cleared (method_tree p m) replies passed right)
+store_law p m replies typed plain passed right = sound (λ g es e. ⊥) p m typed (store_method m plain) (cleared (method_tree p m) replies passed right)
 
 -- a walk that passed by right replies
 pub never_fails : (p : Program) (n : ℕ) (own : List Check) → AreChecksOf (walk_of p n own).answered own → (walk_of p n own).ending ≡ Passed

@@ -15,7 +15,7 @@ use Rattle.vx_dialogue.specs.Scripts.{assertions, symbols_of}
 use Rattle.vx_dialogue.specs.Symbols.{variable, declares, with_variable, with_symbol, with_variables, with_all_variables, with_listed}
 use Rattle.vx_dialogue.proofs.Steady.{commands_join}
 use Rattle.vx_rules.specs.Trees.{Question, Tree, End, On, Step, Ask, Probe, Fork}
-use Rattle.vx_rules.specs.Members.{tree, method_tree}
+use Rattle.vx_rules.specs.Members.{tree}
 use Rattle.vx_machine.specs.Runs.{tree_of, member_tree}
 use Rattle.vx_live.specs.Live.{IsBuiltIn, IsLive, AllLive}
 use Rattle.vx_live.proofs.Nameless.{IsNumbered, IsNameless, AreNameless, negate_nameless, condition_nameless, path_nameless}

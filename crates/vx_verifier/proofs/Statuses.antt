@@ -12,7 +12,7 @@ use Rattle.vx_words.specs.declared.order.Order.TheVariants.{Verify, Check, Print
 use Rattle.vx_verifier.specs.declared.saying.Saying.TheVariants as saying
 use Rattle.vx_verifier.specs.declared.top.Ended.{Ended}
 use Rattle.vx_verifier.specs.Outside.{Change, Texts, Taken, Children, HasFailedToRead, IsTooLong}
-use Rattle.vx_verifier.specs.Reported.{is_companion, ByWhom, IsUnread, IsStatus, IsStatusOf, IsToldOf, IsTold, Says, SaysRefused, IsReport, IsCompanionReport, IsReportBy, IsAnswer}
+use Rattle.vx_verifier.specs.Reported.{is_companion, ByWhom, IsUnread, IsStatus, IsStatusOf, IsToldOf, IsTold, Says, SaysRefused, IsReport, IsCompanionReport, IsAnswer}
 
 -- what is said of a text is done or refused
 abbrev OnlySays : (List ℕ → Status → List ℕ → Type 0) → Type 0

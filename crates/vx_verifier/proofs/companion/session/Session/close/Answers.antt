@@ -1,4 +1,4 @@
-use Rattle.std.proofs.Common.{rules, ◌≡◌, ◌≤◌, ◌∙◌, ap, sym, subst, false, [], List, drop, arith}
+use Rattle.std.proofs.Common.{rules, ◌≡◌, ◌≤◌, ◌∙◌, ap, sym, subst, false, [], List, drop}
 use Rattle.vx_smt_meaning.specs.Commands.{Level}
 use Rattle.vx_verifier.specs.Companion.{Knows}
 use Rattle.vx_verifier.proofs.Levels.{drop_more, drop_none}
