@@ -54,6 +54,9 @@ fn put_answer<W: Spawner>(
     text: &[u8],
     out: &mut Vec<u8>,
 ) -> Result<(), AllocError> {
+    if text.is_empty() {
+        return put_line(out, "  ", "there is no text");
+    }
     let mut link = match spawner.start(alloc, 0, command) {
         Ok(link) => link,
         Err(StartFault::Failed) => return put_line(out, "  ", "not started"),
