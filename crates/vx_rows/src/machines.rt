@@ -71,6 +71,25 @@ fn put_ask(alloc: Global, step: Step, ask: &Ask, out: &mut Vec<u8>) -> Result<()
     }
 }
 
+// One step, of the one machine or of the other.
+fn take_step(
+    alloc: Global,
+    first: &mut Machine,
+    other: &mut Machine,
+    program: &Settled,
+    step: Step,
+) -> Result<Ask, AllocError>
+    requires first { Follows (settled program.now) first.old }
+    requires other { Follows (settled program.now) other.old }
+    ensures first { Follows (settled program.now) first.new }
+    ensures other { Follows (settled program.now) other.new }
+{
+    if step.other {
+        return on(alloc, other, program, step.reply);
+    }
+    on(alloc, first, program, step.reply)
+}
+
 // The steps of both machines.
 fn put_steps(
     alloc: Global,
@@ -85,11 +104,7 @@ fn put_steps(
     let mut first = Machine::start(alloc, program, MemberId(0), limit)?;
     let mut other = Machine::start(alloc, program, MemberId(0), limit)?;
     for step in steps {
-        let ask = if step.other {
-            on(alloc, &mut other, program, step.reply)?
-        } else {
-            on(alloc, &mut first, program, step.reply)?
-        };
+        let ask = take_step(alloc, &mut first, &mut other, program, *step)?;
         put_ask(alloc, *step, &ask, out)?;
     }
     Ok(())
