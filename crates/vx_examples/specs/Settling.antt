@@ -128,10 +128,10 @@ measures =
 -- Statements
 
 abbrev pub y_int : written.Declaration
-y_int = record { name = named y; of = Int }
+y_int = record { name = named y; of = Int; type_at = at 1 1 }
 
 abbrev pub x_ref : written.Declaration
-x_ref = record { name = named x; of = type.Ref }
+x_ref = record { name = named x; of = type.Ref; type_at = at 1 1 }
 
 abbrev pub alone : Stmt → Block
 alone s = Then s Done
