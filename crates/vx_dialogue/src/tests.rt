@@ -42,7 +42,7 @@ fn script(alloc: Global, successes: usize, rest: &[&str]) -> Result<Script, Allo
 // All that was sent, joined.
 fn sent(alloc: Global, link: &ScriptLink) -> Result<Vec<u8>, AllocError> {
     let mut bytes = Vec::new(alloc);
-    for piece in link.pieces() {
+    for piece in &link.record().pieces(alloc)? {
         if let Piece::Sent(text) = piece {
             bytes.extend_from_slice(text.as_slice())?;
         }

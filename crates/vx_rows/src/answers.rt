@@ -99,7 +99,7 @@ pub fn words(alloc: Global, row: &Row) -> Result<Parts, AllocError> {
 // How many checks are in the bytes that were sent.
 fn checks_in(ending: &Ending) -> usize {
     let mut checks = 0usize;
-    for piece in ending.dialogue.pieces() {
+    for piece in &ending.dialogue.pieces(alloc)? {
         if let Piece::Sent(bytes) = piece {
             for window in bytes.as_slice().windows(11) {
                 checks = checks.saturating_add(usize::from(window == b"(check-sat)".as_slice()));

@@ -46,19 +46,19 @@ pub struct CompanionLink {
     unread: Vec<u8>,
     // replies that were not got yet
     replies: Vec<u8>,
-    pieces: Vec<Piece>,
+    pieces: Record,
     faults: u64,
     // memory ran out in the midst of a command
     is_spent: bool,
-    ghost owed: { finished (sent pieces.items) ≤ finished (got pieces.items ++ replies.items) },
-    ghost answered: { is_spent ≡ false → HasAnswered (sent pieces.items) unread.items (got pieces.items ++ replies.items) },
-    ghost said: { is_spent ≡ false → ∥ HasSaid (sent pieces.items) unread.items (got pieces.items ++ replies.items) session ∥₁ },
-    ghost replied: { AllReplied (sent pieces.items) (got pieces.items ++ replies.items) },
+    ghost owed: { finished (sent pieces) ≤ finished (got pieces ++ replies.items) },
+    ghost answered: { is_spent ≡ false → HasAnswered (sent pieces) unread.items (got pieces ++ replies.items) },
+    ghost said: { is_spent ≡ false → ∥ HasSaid (sent pieces) unread.items (got pieces ++ replies.items) session ∥₁ },
+    ghost replied: { AllReplied (sent pieces) (got pieces ++ replies.items) },
 }
 
 impl CompanionLink {
     fn new(alloc: Global) -> Result<CompanionLink, AllocError>
-        ensures dialogue { IfOk result (λ link. link.pieces.items ≡ []) }
+        ensures dialogue { IfOk result (λ link. link.pieces ≡ []) }
         ensures faults { IfOk result (λ link. link.faults ≡ 0) }
     {
         let session = Session::new(alloc)?;
@@ -66,7 +66,7 @@ impl CompanionLink {
             session,
             unread: Vec::new(alloc),
             replies: Vec::new(alloc),
-            pieces: Vec::new(alloc),
+            pieces: Record::new(alloc),
             faults: 0,
             is_spent: false,
         })
@@ -74,7 +74,7 @@ impl CompanionLink {
 }
 
 impl Link for CompanionLink {
-    ghost dialogue = { λ l. l.pieces.items };
+    ghost dialogue = { λ l. l.pieces };
 
     ghost faults = { λ l. l.faults };
 
@@ -109,16 +109,10 @@ impl Link for CompanionLink {
         let count = self.replies.len().min(max);
         let (front, back) = self.replies.split_at(count);
         let piece = front.to_vec(alloc)?;
-        let copy = Bytes::copy(alloc, front)?;
         let rest = back.to_vec(alloc)?;
-        self.pieces.reserve(1)?;
-        match self.pieces.push(Piece::Got(copy)) {
-            Ok(()) => {
-                self.replies = rest;
-                Ok(piece)
-            }
-            Err(_) => unreachable!(),
-        }
+        self.pieces.push_got(front)?;
+        self.replies = rest;
+        Ok(piece)
     }
 }
 
@@ -193,7 +187,7 @@ impl Spawner for Builtin {
         } = link;
         let ending = Ending {
             lane,
-            dialogue: Record::of(pieces),
+            dialogue: pieces,
             faults,
         };
         match self.ended.push(ending) {

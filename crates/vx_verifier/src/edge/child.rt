@@ -5,9 +5,7 @@ use std::alloc::{AllocError, Global};
 use std::io;
 use std::io::{ErrorKind, Read, Write};
 use std::process::{Child, Command, OpenProcess, Processes, Stdio};
-use vx_ends::{
-    Bytes, Ending, Link, LinkFault, Parts, Piece, Record, Spawner, Start, StartFault, remove_once,
-};
+use vx_ends::{Ending, Link, LinkFault, Parts, Record, Spawner, Start, StartFault, remove_once};
 
 // Room for the most bytes that are read at once.
 fn read_buffer(alloc: Global) -> Result<Vec<u8>, AllocError> {
@@ -23,7 +21,7 @@ pub struct ChildLink<P: OpenProcess> {
     // where the child's output is read to; so many bytes at its front were not got yet
     buffer: Vec<u8>,
     ready: usize,
-    pieces: Vec<Piece>,
+    pieces: Record,
     faults: u64,
 }
 
@@ -56,24 +54,19 @@ impl<P: OpenProcess> ChildLink<P> {
 }
 
 impl<P: OpenProcess> Link for ChildLink<P> {
-    ghost dialogue = { λ l. l.pieces.items };
+    ghost dialogue = { λ l. l.pieces };
 
     ghost faults = { λ l. l.faults };
 
     ghost steady = { λ _. false };
 
-    fn send(&mut self, alloc: Global, piece: &[u8]) -> Result<usize, LinkFault> {
+    fn send(&mut self, _alloc: Global, piece: &[u8]) -> Result<usize, LinkFault> {
         if self.faults == 0 {
-            let mut copy = Bytes::copy(alloc, piece)?;
-            self.pieces.reserve(1)?;
-            if let Ok(count) = self.input.write(piece)
-                && count > 0
-            {
-                copy.truncate(count);
-                return match self.pieces.push(Piece::Sent(copy)) {
-                    Ok(()) => Ok(count),
-                    Err(_) => unreachable!(),
-                };
+            self.pieces.push_sent(piece)?;
+            let count = self.input.write(piece).unwrap_or(0);
+            self.pieces.cut_last(count);
+            if count > 0 {
+                return Ok(count);
             }
         }
         self.faults = self.faults.saturating_add(1);
@@ -86,13 +79,9 @@ impl<P: OpenProcess> Link for ChildLink<P> {
             let count = self.ready.min(max).min(self.buffer.len());
             if count > 0 {
                 let piece = self.buffer[..count].to_vec(alloc)?;
-                let copy = Bytes::copy(alloc, &piece)?;
-                self.pieces.reserve(1)?;
+                self.pieces.push_got(&piece)?;
                 self.take(count);
-                return match self.pieces.push(Piece::Got(copy)) {
-                    Ok(()) => Ok(piece),
-                    Err(_) => unreachable!(),
-                };
+                return Ok(piece);
             }
         }
         self.faults = self.faults.saturating_add(1);
@@ -198,7 +187,7 @@ impl<R: Processes> Spawner for ChildSpawner<R> {
                     output,
                     buffer,
                     ready: 0,
-                    pieces: Vec::new(alloc),
+                    pieces: Record::new(alloc),
                     faults: 0,
                 }),
                 Err(_) => unreachable!(),
@@ -224,7 +213,7 @@ impl<R: Processes> Spawner for ChildSpawner<R> {
         let _ = child.wait();
         let ending = Ending {
             lane,
-            dialogue: Record::of(pieces),
+            dialogue: pieces,
             faults,
         };
         match self.ended.push(ending) {
