@@ -6,9 +6,9 @@ use std::io::ErrorKind;
 use std::process::ExitCode;
 use std::{env, io};
 use vx_ends::Parts;
-use vx_verifier::companion::Builtin;
-use vx_verifier::edge::{ChildSpawner, DiskFiles, StdSink};
-use vx_verifier::run;
+use vx_companion::Builtin;
+use vx_edge::{ChildSpawner, DiskFiles, StdSink};
+use vx_commands::run;
 
 // Words that are no command.
 fn no_command(alloc: Global) -> io::Result<Parts> {

@@ -11,9 +11,9 @@ use vx_ends::{
 };
 use vx_parser::{TextFault, beyond_store, parse};
 use vx_report::{Cause, MemberRun, Verdict};
-use vx_verifier::companion::Builtin;
-use vx_verifier::edge::ChildSpawner;
-use vx_verifier::{Ended, run};
+use vx_companion::Builtin;
+use vx_edge::ChildSpawner;
+use vx_commands::{Ended, run};
 
 // The place, code, name and argument of a fault.
 fn fault_line(alloc: Global, fault: &TextFault) -> Result<String, AllocError> {
