@@ -11,16 +11,16 @@ ghost use Rattle.vx_commands.specs.Outside.{change, texts, taken, children, comp
 ghost use Rattle.vx_commands.specs.Reported.{IsPut, IsStatus, IsSaid, Puts, IsToldOf, IsReport, IsCompanionReport, IsReportBy, IsVerified, IsAnswer, IsStatusOf, AsksFileOf, StartsBy, StartsSolverOf};
 
 use crate::answers::{TOO_LONG, UNREAD, USAGE, text_refusal};
-use vx_companion::Builtin;
-use vx_verifier::{Runs, methods_are_supported, settled, verify};
 use crate::executed::supported;
 use crate::reading::{Checked, Loaded, Parsed, load, read, type_of};
 use crate::saying::{Said, Saying};
 use std::alloc::{AllocError, Global};
 use vx_ast::Program;
+use vx_companion::Builtin;
 use vx_ends::{Files, Parts, PutFault, RoundRobin, Sink, Spawner, put_all};
 use vx_report::{Status, status_of, write_report};
 use vx_typing::Typed;
+use vx_verifier::{Runs, methods_are_supported, settled, verify};
 use vx_words::{Order, Text, WordsFault, read_words};
 
 /// How the program ended: its status, and what became of each member with a line, in file order. There are no runs
