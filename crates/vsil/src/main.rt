@@ -5,10 +5,10 @@ use std::alloc::Global;
 use std::io::ErrorKind;
 use std::process::ExitCode;
 use std::{env, io};
+use vx_commands::run;
+use vx_companion::Builtin;
+use vx_edge::{ChildSpawner, DiskFiles, StdSink};
 use vx_ends::Parts;
-use vx_verifier::companion::Builtin;
-use vx_verifier::edge::{ChildSpawner, DiskFiles, StdSink};
-use vx_verifier::run;
 
 // Words that are no command.
 fn no_command(alloc: Global) -> io::Result<Parts> {

@@ -6,14 +6,14 @@ use crate::names::{put_names, put_order};
 use crate::row::{Asks, Row, Solver};
 use crate::told::{put_line, put_text};
 use std::alloc::{AllocError, Global};
+use vx_commands::{Ended, run};
+use vx_companion::Builtin;
+use vx_edge::ChildSpawner;
 use vx_ends::{
     Bytes, Ending, MemFiles, MemSink, NamedText, Parts, Piece, Script, ScriptSpawner, Spawner,
 };
 use vx_parser::{TextFault, beyond_store, parse};
 use vx_report::{Cause, MemberRun, Verdict};
-use vx_verifier::companion::Builtin;
-use vx_verifier::edge::ChildSpawner;
-use vx_verifier::{Ended, run};
 
 // The place, code, name and argument of a fault.
 fn fault_line(alloc: Global, fault: &TextFault) -> Result<String, AllocError> {

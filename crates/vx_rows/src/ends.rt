@@ -3,9 +3,9 @@
 use crate::row::Row;
 use crate::told::{put_line, put_text};
 use std::alloc::{AllocError, Global};
+use vx_companion::Builtin;
+use vx_edge::DiskFiles;
 use vx_ends::{Files, Link, LinkFault, LoadFault, Parts, Spawner, StartFault};
-use vx_verifier::companion::Builtin;
-use vx_verifier::edge::DiskFiles;
 
 /// How much the file holds that the words name.
 ///

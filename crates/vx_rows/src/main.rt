@@ -13,8 +13,8 @@ mod told;
 use std::alloc::{AllocError, Global};
 use std::io::Read;
 use std::process::ExitCode;
+use vx_edge::StdSink;
 use vx_ends::put_all;
-use vx_verifier::edge::StdSink;
 
 // What came of the rows of a table.
 fn told_of(rt: &HostRuntime, alloc: Global, table: &str) -> Result<Vec<u8>, AllocError> {

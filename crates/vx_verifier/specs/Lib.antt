@@ -1,9 +1,5 @@
-pub mod Companion
 pub mod Sequences
 pub mod Causes
 pub mod Headline
 pub mod Lanes
-pub mod Outside
-pub mod Refusals
-pub mod Reported
 pub mod Steady

@@ -1,17 +1,10 @@
-//! The verifier's top: the trusted edge, through which it reaches files, standard output and child processes, the
-//! companion in process, and the call `run` that joins reading, typing, execution and report.
+//! Executes the members of a typed program in file order, and asks a solver the questions that come up. The clauses of
+//! `verify` are what is promised of that.
 #![tactic(auto)]
 
-mod answers;
-pub mod companion;
-pub mod edge;
 mod execute;
 mod lane;
 mod program;
-mod reading;
-mod saying;
-mod top;
 
 pub use execute::{Runs, verify};
-pub use program::supported;
-pub use top::{Ended, run};
+pub use program::{methods_are_supported, settled};

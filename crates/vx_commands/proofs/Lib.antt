@@ -1,0 +1,3 @@
+mod Statuses
+pub mod Lawful
+mod Faultless

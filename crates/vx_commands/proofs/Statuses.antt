@@ -1,0 +1,124 @@
+-- What an answer says of its status.
+use Rattle.std.proofs.Common.{◌≡◌, ◌⊎◌, inl, inr, ℕ, Bool, true, false, List, [], Option, Some, None, refl, ap, ◌∙◌, sym, subst}
+use Rattle.std.specs.Prelude.{if◌then◌else◌, not}
+use Rattle.std.specs.List.{list_any}
+use Rattle.vx_report.specs.declared.run.MemberRun.{MemberRun}
+use Rattle.vx_report.specs.declared.status.Status.{Status}
+use Rattle.vx_report.specs.declared.status.Status.TheVariants.{Done, NotVerified, Usage, Unread, Refused, Faulted, Unwritten, Want}
+use Rattle.vx_report.specs.Statuses.{status_among}
+use Rattle.vx_report.specs.Reports.{is_verified, is_faulted}
+use Rattle.vx_words.specs.declared.order.Order.{Order}
+use Rattle.vx_words.specs.declared.order.Order.TheVariants.{Verify, Check, Print}
+use Rattle.vx_commands.specs.declared.saying.Saying.TheVariants as saying
+use Rattle.vx_commands.specs.declared.top.Ended.{Ended}
+use Rattle.vx_commands.specs.Outside.{Change, Texts, Taken, Children, HasFailedToRead, IsTooLong}
+use Rattle.vx_commands.specs.Reported.{is_companion, ByWhom, IsUnread, IsStatus, IsStatusOf, IsToldOf, IsTold, Says, SaysRefused, IsReport, IsCompanionReport, IsAnswer}
+
+-- what is said of a text is done or refused
+abbrev OnlySays : (List ℕ → Status → List ℕ → Type 0) → Type 0
+OnlySays Says = (text : List ℕ) (s : Status) (bytes : List ℕ) → Says text s bytes → (s ≡ Done) ⊎ (s ≡ Refused)
+
+only_refused : OnlySays SaysRefused
+only_refused text Done bytes h = inl refl
+only_refused text Refused bytes h = inr refl
+only_refused text NotVerified bytes h = absurd h
+only_refused text Usage bytes h = absurd h
+only_refused text Unread bytes h = absurd h
+only_refused text Faulted bytes h = absurd h
+only_refused text Unwritten bytes h = absurd h
+only_refused text Want bytes h = absurd h
+
+only_checked : OnlySays (Says saying.Typed)
+only_checked text Done bytes h = inl refl
+only_checked text Refused bytes h = inr refl
+only_checked text NotVerified bytes h = absurd h
+only_checked text Usage bytes h = absurd h
+only_checked text Unread bytes h = absurd h
+only_checked text Faulted bytes h = absurd h
+only_checked text Unwritten bytes h = absurd h
+only_checked text Want bytes h = absurd h
+
+only_printed : OnlySays (Says saying.Canonical)
+only_printed text Done bytes h = inl refl
+only_printed text Refused bytes h = inr refl
+only_printed text NotVerified bytes h = absurd h
+only_printed text Usage bytes h = absurd h
+only_printed text Unread bytes h = absurd h
+only_printed text Faulted bytes h = absurd h
+only_printed text Unwritten bytes h = absurd h
+only_printed text Want bytes h = absurd h
+
+neither : (s : Status) → (s ≡ Done → ⊥) → (s ≡ Refused → ⊥) → (s ≡ Done) ⊎ (s ≡ Refused) → ⊥
+neither s done refused (inl e) = done e
+neither s done refused (inr e) = refused e
+
+module _ (order : Option Order) (files : Change Texts) (sink : Change Taken) (runs : List MemberRun) where
+  of_file : (Says : List ℕ → Status → List ℕ → Type 0) (only : OnlySays Says) (name : Option (List ℕ)) → (HasFailedToRead files ⊎ IsTooLong name files → IsUnread order files)
+      → (due : Status) (bytes : List ℕ) → IsToldOf Says name files due bytes → runs ≡ [] → IsStatusOf order files sink runs due
+  of_file Says only name unread Done bytes told none = ap status_among none
+  of_file Says only name unread Refused bytes told none = none
+  of_file Says only name unread Want bytes told none = none
+  of_file Says only name unread Unread bytes (inl failed) none = (unread (inl failed.0), none)
+  of_file Says only name unread Unread bytes (inr long) none = (unread (inr long.0), none)
+  of_file Says only name unread NotVerified bytes told none = absurd (neither NotVerified (λ e. cc) (λ e. cc) (only told.0 NotVerified bytes told.3))
+  of_file Says only name unread Usage bytes told none = absurd (neither Usage (λ e. cc) (λ e. cc) (only told.0 Usage bytes told.3))
+  of_file Says only name unread Faulted bytes told none = absurd (neither Faulted (λ e. cc) (λ e. cc) (only told.0 Faulted bytes told.3))
+  of_file Says only name unread Unwritten bytes told none = absurd (neither Unwritten (λ e. cc) (λ e. cc) (only told.0 Unwritten bytes told.3))
+
+  of_status : (due s : Status) → IsStatusOf order files sink runs due → IsStatus due sink s → IsStatusOf order files sink runs s
+  of_status due s h (inl e) = subst (λ x. IsStatusOf order files sink runs x) (sym e) h
+  of_status due s h (inr failed) = subst (λ x. IsStatusOf order files sink runs x) (sym failed.0) failed.1
+
+  of_bools : (a b : Bool) → status_among runs ≡ (if a then Faulted else (if b then NotVerified else Done))
+      → IsStatusOf order files sink runs (if a then Faulted else (if b then NotVerified else Done))
+  of_bools true b e = e
+  of_bools false true e = e
+  of_bools false false e = e
+
+  of_runs : IsStatusOf order files sink runs (status_among runs)
+  of_runs = of_bools (list_any (λ r. is_faulted r.verdict) runs) (list_any (λ r. not (is_verified r.verdict)) runs) refl
+
+of_told : (order : Option Order) (files : Change Texts) (sink : Change Taken) (runs : List MemberRun) (due : Status) (bytes : List ℕ) → IsTold order files due bytes → runs ≡ []
+    → IsStatusOf order files sink runs due
+of_told None files sink runs due bytes told none = subst (λ x. IsStatusOf None files sink runs x) (sym told.0) (refl, none)
+of_told (Some (Verify file solver)) files sink runs due bytes told none = of_file (Some (Verify file solver)) files sink runs SaysRefused only_refused file (λ u. u) due bytes told none
+of_told (Some (Check file)) files sink runs due bytes told none = of_file (Some (Check file)) files sink runs (Says saying.Typed) only_checked file (λ u. u) due bytes told none
+of_told (Some (Print file)) files sink runs due bytes told none = of_file (Some (Print file)) files sink runs (Says saying.Canonical) only_printed file (λ u. u) due bytes told none
+
+by_either : (b : Bool) (A B C : Type 0) → (A → C) → (B → C) → ByWhom b A B → C
+by_either true A B C f g h = f h
+by_either false A B C f g h = g h
+
+pub status_told : (order : Option Order) (files : Change Texts) (companion handed : Change Children) (sink : Change Taken) (ended : Ended)
+    → IsAnswer order files companion handed sink ended → IsStatusOf order files sink ended.runs.items ended.status
+status_told order files companion handed sink ended (inl nothing) = subst (λ x. IsStatusOf order files sink ended.runs.items x) (sym nothing.status) nothing.none
+status_told order files companion handed sink ended (inr (inl alone)) =
+    let told = alone.told in
+    let said = told.3 in
+    of_status order files sink ended.runs.items told.0 ended.status (of_told order files sink ended.runs.items told.0 told.1 told.2 said.none) said.status
+status_told None files companion handed sink ended (inr (inr report)) = absurd report
+status_told (Some (Check file)) files companion handed sink ended (inr (inr report)) = absurd report
+status_told (Some (Print file)) files companion handed sink ended (inr (inr report)) = absurd report
+status_told (Some (Verify file solver)) files companion handed sink ended (inr (inr report)) =
+    let order = Some (Verify file solver) in
+    let runs = ended.runs.items in
+    let p = report.2.0 in
+    by_either (is_companion solver) (IsCompanionReport p solver companion sink ended) (IsReport p solver handed sink ended) _
+    (λ h. of_status order files sink runs (status_among runs) ended.status (of_runs order files sink runs) h.report.status)
+    (λ h. of_status order files sink runs (status_among runs) ended.status (of_runs order files sink runs) h.status) report.2.2
+
+of_usage : (sink : Change Taken) (due s : Status) → due ≡ Usage → IsStatus due sink s → (s ≡ Usage) ⊎ (s ≡ Unwritten) ⊎ (s ≡ Want)
+of_usage sink due s is (inl e) = inl (e ∙ is)
+of_usage sink due s is (inr failed) = inr (inl failed.0)
+
+usage_by : (files : Change Texts) (companion handed : Change Children) (sink : Change Taken) (ended : Ended) → IsAnswer None files companion handed sink ended
+    → (ended.status ≡ Usage) ⊎ (ended.status ≡ Unwritten) ⊎ (ended.status ≡ Want)
+usage_by files companion handed sink ended (inl nothing) = inr (inr nothing.status)
+usage_by files companion handed sink ended (inr (inl alone)) = of_usage sink alone.told.0 ended.status alone.told.2.0 alone.told.3.status
+usage_by files companion handed sink ended (inr (inr report)) = absurd report
+
+-- where the words mean nothing
+pub usage_told : (order : Option Order) (files : Change Texts) (companion handed : Change Children) (sink : Change Taken) (ended : Ended)
+    → IsAnswer order files companion handed sink ended → order ≡ None → (ended.status ≡ Usage) ⊎ (ended.status ≡ Unwritten) ⊎ (ended.status ≡ Want)
+usage_told None files companion handed sink ended h e = usage_by files companion handed sink ended h
+usage_told (Some order) files companion handed sink ended h e = cc

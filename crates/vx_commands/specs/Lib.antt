@@ -1,0 +1,4 @@
+pub mod Lawful
+pub mod Outside
+pub mod Refusals
+pub mod Reported

@@ -1,0 +1,69 @@
+-- What the outside shows before a call and after it: files, a sink, and the spawners of children.
+use Rattle.std.specs.Prelude.{◌≡◌, ◌⊎◌, ℕ, ◌<◌, Bool, true, List, [], ◌∷◌, ◌++◌, Option, IfSome, length}
+use Rattle.vx_ends.specs.Causes.{Rose}
+use Rattle.vx_ends.specs.declared.piece.Start.{Start}
+use Rattle.vx_ends.specs.declared.piece.Ending.{Ending}
+use Rattle.vx_companion.specs.declared.builtin.Builtin.{Builtin}
+
+pub record Change (A : Type 0) : Type 0 where
+  pub before : A
+  pub after : A
+
+abbrev pub change : {S A : Type 0} → (shows : S → A) → (old new : S) → Change A
+change shows old new = record { before = shows old; after = shows new }
+
+-- it shows what it showed
+abbrev pub IsUnchanged : {A : Type 0} → Change A → Type 0
+IsUnchanged c = c.after ≡ c.before
+
+-- what a name holds, where that is told; the names that were asked; how often reading failed
+pub record Texts : Type 0 where
+  pub holds : Option (List ℕ) → Option (List ℕ)
+  pub asked : List (Option (List ℕ))
+  pub faults : ℕ
+
+abbrev pub texts : {S : Type 0} → (holds : S → Option (List ℕ) → Option (List ℕ)) → (asked : S → List (Option (List ℕ))) → (faults : S → ℕ) → S → Texts
+texts holds asked faults s = record { holds = holds s; asked = asked s; faults = faults s }
+
+-- the bytes that a sink took, where that is told; how often it failed
+pub record Taken : Type 0 where
+  pub bytes : Option (List ℕ)
+  pub faults : ℕ
+
+abbrev pub taken : {S : Type 0} → (bytes : S → Option (List ℕ)) → (faults : S → ℕ) → S → Taken
+taken bytes faults s = record { bytes = bytes s; faults = faults s }
+
+-- a spawner's starts, the links that were handed back, how often a start failed, and whether it is steady
+pub record Children : Type 0 where
+  pub starts : List Start
+  pub ended : List Ending
+  pub faults : ℕ
+  pub steady : Bool
+
+abbrev pub children : {S : Type 0} → (starts : S → List Start) → (ended : S → List Ending) → (faults : S → ℕ) → (steady : S → Bool) → S → Children
+children starts ended faults steady s = record { starts = starts s; ended = ended s; faults = faults s; steady = steady s }
+
+-- those of the companion in process
+abbrev pub companions : Builtin → Children
+companions s = record { starts = s.starts.items; ended = s.ended.items; faults = 0; steady = true }
+
+-- at most this name was asked
+abbrev pub AsksOnly : Option (List ℕ) → Change Texts → Type 0
+AsksOnly name files = (files.after.asked ≡ files.before.asked) ⊎ (files.after.asked ≡ files.before.asked ++ name ∷ [])
+
+-- reading failed
+abbrev pub HasFailedToRead : Change Texts → Type 0
+HasFailedToRead files = Rose files.before.faults files.after.faults
+
+-- the text of this name is longer than what is read
+abbrev pub IsTooLong : Option (List ℕ) → Change Texts → Type 0
+IsTooLong name files = IfSome (files.before.holds name) (λ text. 4194304 < length text)
+
+-- the sink failed
+abbrev pub HasFailedToPut : Change Taken → Type 0
+HasFailedToPut sink = Rose sink.before.faults sink.after.faults
+
+-- at most one start, by this command
+abbrev pub StartsOnly : (command : List (List ℕ)) → Change Children → Type 0
+StartsOnly command spawner =
+    (spawner.after.starts ≡ spawner.before.starts) ⊎ (spawner.after.starts ≡ spawner.before.starts ++ record { lane = 0; command = command } ∷ [])

@@ -1,0 +1,318 @@
+//! The top call: from the words of the command line to what is put, and the exit status.
+
+ghost use Rattle.std.specs.Prelude.{◌≡◌, ◌⊎◌, [], IfOk, IfErr, Some, None, true, option_copied};
+ghost use Rattle.vx_ast.specs.Written.{written_program};
+ghost use Rattle.vx_types.specs.Executed.{is_executed};
+ghost use Rattle.vx_typing.specs.Typed.{written_of, resolved_of};
+ghost use Rattle.vx_words.specs.Orders.{order_of};
+ghost use Rattle.vx_commands.specs.Refusals.{IsSpelledBy};
+ghost use Rattle.vx_commands.specs.Reported as spec;
+ghost use Rattle.vx_commands.specs.Outside.{change, texts, taken, children, companions, AsksOnly, StartsOnly};
+ghost use Rattle.vx_commands.specs.Reported.{IsPut, IsStatus, IsSaid, Puts, IsToldOf, IsReport, IsCompanionReport, IsReportBy, IsVerified, IsAnswer, IsStatusOf, AsksFileOf, StartsBy, StartsSolverOf};
+
+use crate::answers::{TOO_LONG, UNREAD, USAGE, text_refusal};
+use crate::executed::supported;
+use crate::reading::{Checked, Loaded, Parsed, load, read, type_of};
+use crate::saying::{Said, Saying};
+use std::alloc::{AllocError, Global};
+use vx_ast::Program;
+use vx_companion::Builtin;
+use vx_ends::{Files, Parts, PutFault, RoundRobin, Sink, Spawner, put_all};
+use vx_report::{Status, status_of, write_report};
+use vx_typing::Typed;
+use vx_verifier::{Runs, methods_are_supported, settled, verify};
+use vx_words::{Order, Text, WordsFault, read_words};
+
+/// How the program ended: its status, and what became of each member with a line, in file order. There are no runs
+/// with the statuses of refused words and texts and of want of memory.
+#[derive(Drop)]
+pub struct Ended {
+    pub status: Status,
+    pub runs: Runs,
+}
+
+// Puts these bytes; where the sink fails, that is the status.
+fn put<K: Sink>(out: &mut K, bytes: &[u8], status: Status, runs: Runs) -> Ended
+    ensures runs { result.runs ≡ runs }
+    ensures taken { IsPut (change (taken K.taken K.faults) out.old out.new) result.status bytes.now }
+    ensures status { IsStatus status (change (taken K.taken K.faults) out.old out.new) result.status }
+{
+    match put_all(out, bytes) {
+        Ok(()) => Ended { status, runs },
+        Err(PutFault::Failed) => Ended {
+            status: Status::Unwritten,
+            runs,
+        },
+    }
+}
+
+// Verifies a program, and puts the report.
+fn report<K: Sink, W: Spawner>(
+    alloc: Global,
+    typed: &Typed,
+    out: &mut K,
+    solver: &Parts,
+    spawner: &mut W,
+) -> Result<Ended, AllocError>
+    requires { is_executed (written_of typed.now) ≡ true }
+    ensures report { IfOk result (IsReport (resolved_of typed.now) solver.now (change (children W.starts W.ended W.faults W.steady) spawner.old spawner.new) (change (taken K.taken K.faults) out.old out.new)) }
+    ensures starts { StartsOnly solver.now (change (children W.starts W.ended W.faults W.steady) spawner.old spawner.new) }
+    ensures nothing { IfErr result (λ _. K.taken out.new ≡ K.taken out.old) }
+{
+    let mut turns = RoundRobin::new();
+    let runs = verify(alloc, typed, 1, solver, false, spawner, &mut turns)?;
+    let mut text = String::new(alloc);
+    write_report(&mut text, &settled(alloc, typed)?, &runs)?;
+    let status = status_of(&runs);
+    Ok(put(out, text.as_bytes(), status, runs))
+}
+
+// The companion is asked, and no child process.
+fn is_companion(solver: &Parts) -> bool
+    ensures { result ≡ spec.is_companion solver.now }
+{
+    solver.len() == 1 && solver.part(0) == "builtin"
+}
+
+// Verifies a program by the companion, and puts the report. No member is faulted.
+fn report_by_companion<K: Sink>(
+    alloc: Global,
+    typed: &Typed,
+    solver: &Parts,
+    out: &mut K,
+    builtin: &mut Builtin,
+) -> Result<Ended, AllocError>
+    requires { is_executed (written_of typed.now) ≡ true }
+    ensures report { IfOk result (IsCompanionReport (resolved_of typed.now) solver.now (change companions builtin.old builtin.new) (change (taken K.taken K.faults) out.old out.new)) }
+    ensures starts { StartsOnly solver.now (change companions builtin.old builtin.new) }
+    ensures nothing { IfErr result (λ _. K.taken out.new ≡ K.taken out.old) }
+{
+    report(alloc, typed, out, solver, builtin)
+}
+
+// Verifies a program by the companion, or by the spawner, as the solver says, and puts the report.
+fn report_by<K: Sink, W: Spawner>(
+    alloc: Global,
+    typed: &Typed,
+    solver: &Parts,
+    out: &mut K,
+    spawner: &mut W,
+    builtin: &mut Builtin,
+) -> Result<Ended, AllocError>
+    requires { is_executed (written_of typed.now) ≡ true }
+    ensures report { IfOk result (IsReportBy solver.now (resolved_of typed.now) (change companions builtin.old builtin.new) (change (children W.starts W.ended W.faults W.steady) spawner.old spawner.new) (change (taken K.taken K.faults) out.old out.new)) }
+    ensures starts { StartsBy solver.now (change companions builtin.old builtin.new) (change (children W.starts W.ended W.faults W.steady) spawner.old spawner.new) }
+    ensures nothing { IfErr result (λ _. K.taken out.new ≡ K.taken out.old) }
+{
+    if is_companion(solver) {
+        report_by_companion(alloc, typed, solver, out, builtin)
+    } else {
+        report(alloc, typed, out, solver, spawner)
+    }
+}
+
+// The name of a file, or none.
+fn name_of(file: &Option<Text>) -> Option<&str>
+    ensures { option_copied result ≡ file.now }
+{
+    file.as_ref().map(|name| name.as_str())
+}
+
+// An end without a report.
+fn say<K: Sink>(alloc: Global, out: &mut K, bytes: &[u8], status: Status) -> Ended
+    ensures { IsSaid status bytes.now (change (taken K.taken K.faults) out.old out.new) result }
+{
+    put(out, bytes, status, Vec::new(alloc))
+}
+
+// Verifies a typed program of a text, if it is executed.
+fn verify_typed<K: Sink, W: Spawner>(
+    alloc: Global,
+    text: &[u8],
+    typed: &Typed,
+    solver: &Parts,
+    out: &mut K,
+    spawner: &mut W,
+    builtin: &mut Builtin,
+) -> Result<Ended, AllocError>
+    requires { IsSpelledBy text.now (written_of typed.now) }
+    ensures verified { IfOk result (IsVerified text.now solver.now (change companions builtin.old builtin.new) (change (children W.starts W.ended W.faults W.steady) spawner.old spawner.new) (change (taken K.taken K.faults) out.old out.new)) }
+    ensures starts { StartsBy solver.now (change companions builtin.old builtin.new) (change (children W.starts W.ended W.faults W.steady) spawner.old spawner.new) }
+    ensures nothing { IfErr result (λ _. K.taken out.new ≡ K.taken out.old) }
+{
+    typed.typed();
+    match supported(alloc, text, typed) {
+        Ok(()) => {
+            methods_are_supported(typed);
+            report_by(alloc, typed, solver, out, spawner, builtin)
+        }
+        Err(fault) => Ok(say(
+            alloc,
+            out,
+            text_refusal(alloc, &fault)?.as_bytes(),
+            Status::Refused,
+        )),
+    }
+}
+
+// Verifies the program of a text, if it is typed.
+fn verify_program<K: Sink, W: Spawner>(
+    alloc: Global,
+    text: &[u8],
+    program: &Program,
+    solver: &Parts,
+    out: &mut K,
+    spawner: &mut W,
+    builtin: &mut Builtin,
+) -> Result<Ended, AllocError>
+    requires { IsSpelledBy text.now (written_program program.now) }
+    ensures verified { IfOk result (IsVerified text.now solver.now (change companions builtin.old builtin.new) (change (children W.starts W.ended W.faults W.steady) spawner.old spawner.new) (change (taken K.taken K.faults) out.old out.new)) }
+    ensures starts { StartsBy solver.now (change companions builtin.old builtin.new) (change (children W.starts W.ended W.faults W.steady) spawner.old spawner.new) }
+    ensures nothing { IfErr result (λ _. K.taken out.new ≡ K.taken out.old) }
+{
+    match type_of(alloc, program)? {
+        Checked::Typed(typed) => verify_typed(alloc, text, &typed, solver, out, spawner, builtin),
+        Checked::Refused(line) => Ok(say(alloc, out, line.as_bytes(), Status::Refused)),
+    }
+}
+
+// Verifies the program of a text, if there is one.
+fn verify_text<K: Sink, W: Spawner>(
+    alloc: Global,
+    text: &[u8],
+    solver: &Parts,
+    out: &mut K,
+    spawner: &mut W,
+    builtin: &mut Builtin,
+) -> Result<Ended, AllocError>
+    ensures verified { IfOk result (IsVerified text.now solver.now (change companions builtin.old builtin.new) (change (children W.starts W.ended W.faults W.steady) spawner.old spawner.new) (change (taken K.taken K.faults) out.old out.new)) }
+    ensures starts { StartsBy solver.now (change companions builtin.old builtin.new) (change (children W.starts W.ended W.faults W.steady) spawner.old spawner.new) }
+    ensures nothing { IfErr result (λ _. K.taken out.new ≡ K.taken out.old) }
+{
+    match read(alloc, text)? {
+        Parsed::Program(program) => {
+            verify_program(alloc, text, &program, solver, out, spawner, builtin)
+        }
+        Parsed::Refused(line) => Ok(say(alloc, out, line.as_bytes(), Status::Refused)),
+    }
+}
+
+// Verifies a file, or standard input.
+fn verify_file<F: Files, K: Sink, W: Spawner>(
+    alloc: Global,
+    file: &Option<Text>,
+    solver: &Parts,
+    files: &mut F,
+    out: &mut K,
+    spawner: &mut W,
+    builtin: &mut Builtin,
+) -> Result<Ended, AllocError>
+    ensures answered { IfOk result (IsAnswer (Some (Order.Verify file.now solver.now)) (change (texts F.holds F.asked F.faults) files.old files.new) (change companions builtin.old builtin.new) (change (children W.starts W.ended W.faults W.steady) spawner.old spawner.new) (change (taken K.taken K.faults) out.old out.new)) }
+    ensures asked { AsksOnly file.now (change (texts F.holds F.asked F.faults) files.old files.new) }
+    ensures starts { StartsBy solver.now (change companions builtin.old builtin.new) (change (children W.starts W.ended W.faults W.steady) spawner.old spawner.new) }
+    ensures nothing { IfErr result (λ _. K.taken out.new ≡ K.taken out.old) }
+{
+    match load(alloc, files, name_of(file))? {
+        Loaded::Text(text) => verify_text(alloc, &text, solver, out, spawner, builtin),
+        Loaded::Unread => Ok(say(alloc, out, UNREAD.as_bytes(), Status::Unread)),
+        Loaded::TooLong => Ok(say(alloc, out, TOO_LONG.as_bytes(), Status::Unread)),
+    }
+}
+
+// What a command without a report says of a file, or of standard input.
+fn say_file<F: Files, K: Sink>(
+    alloc: Global,
+    saying: Saying,
+    file: &Option<Text>,
+    files: &mut F,
+    out: &mut K,
+) -> Result<Ended, AllocError>
+    ensures said { IfOk result (Puts (IsToldOf (spec.Says saying) file.now (change (texts F.holds F.asked F.faults) files.old files.new)) (change (taken K.taken K.faults) out.old out.new)) }
+    ensures asked { AsksOnly file.now (change (texts F.holds F.asked F.faults) files.old files.new) }
+    ensures nothing { IfErr result (λ _. K.taken out.new ≡ K.taken out.old) }
+{
+    match load(alloc, files, name_of(file))? {
+        Loaded::Text(text) => match saying.of(alloc, &text)? {
+            Said::Done(bytes) => Ok(say(alloc, out, &bytes, Status::Done)),
+            Said::Refused(line) => Ok(say(alloc, out, line.as_bytes(), Status::Refused)),
+        },
+        Loaded::Unread => Ok(say(alloc, out, UNREAD.as_bytes(), Status::Unread)),
+        Loaded::TooLong => Ok(say(alloc, out, TOO_LONG.as_bytes(), Status::Unread)),
+    }
+}
+
+// Does what is ordered.
+fn obey<F: Files, K: Sink, W: Spawner>(
+    alloc: Global,
+    order: &Order,
+    files: &mut F,
+    out: &mut K,
+    spawner: &mut W,
+    builtin: &mut Builtin,
+) -> Result<Ended, AllocError>
+    ensures answered { IfOk result (IsAnswer (Some order.now) (change (texts F.holds F.asked F.faults) files.old files.new) (change companions builtin.old builtin.new) (change (children W.starts W.ended W.faults W.steady) spawner.old spawner.new) (change (taken K.taken K.faults) out.old out.new)) }
+    ensures asked { AsksFileOf (Some order.now) (change (texts F.holds F.asked F.faults) files.old files.new) }
+    ensures starts { StartsSolverOf (Some order.now) (change companions builtin.old builtin.new) (change (children W.starts W.ended W.faults W.steady) spawner.old spawner.new) }
+    ensures nothing { IfErr result (λ _. K.taken out.new ≡ K.taken out.old) }
+{
+    match order {
+        Order::Verify { file, solver } => {
+            verify_file(alloc, file, solver, files, out, spawner, builtin)
+        }
+        Order::Check { file } => say_file(alloc, Saying::Typed, file, files, out),
+        Order::Print { file } => say_file(alloc, Saying::Canonical, file, files, out),
+    }
+}
+
+// The end where memory runs out.
+fn without_memory(alloc: Global) -> Ended
+    ensures status { result.status ≡ Status.Want }
+    ensures runs { result.runs.items ≡ [] }
+{
+    Ended {
+        status: Status::Want,
+        runs: Vec::new(alloc),
+    }
+}
+
+// Does what the words say.
+fn answer<F: Files, K: Sink, W: Spawner>(
+    alloc: Global,
+    words: &Parts,
+    files: &mut F,
+    out: &mut K,
+    spawner: &mut W,
+    builtin: &mut Builtin,
+) -> Ended
+    ensures answered { IsAnswer (order_of words.now) (change (texts F.holds F.asked F.faults) files.old files.new) (change companions builtin.old builtin.new) (change (children W.starts W.ended W.faults W.steady) spawner.old spawner.new) (change (taken K.taken K.faults) out.old out.new) result }
+    ensures asked { AsksFileOf (order_of words.now) (change (texts F.holds F.asked F.faults) files.old files.new) }
+    ensures starts { StartsSolverOf (order_of words.now) (change companions builtin.old builtin.new) (change (children W.starts W.ended W.faults W.steady) spawner.old spawner.new) }
+{
+    match read_words(alloc, words) {
+        Ok(order) => match obey(alloc, &order, files, out, spawner, builtin) {
+            Ok(ended) => ended,
+            Err(AllocError) => without_memory(alloc),
+        },
+        Err(WordsFault::Usage) => say(alloc, out, USAGE.as_bytes(), Status::Usage),
+        Err(WordsFault::Want) => without_memory(alloc),
+    }
+}
+
+/// Does what the words say; the first is the program's name. All text goes to `out`, built whole before its first byte
+/// is put. Children are started by `spawner`, or, where the solver is `builtin` or none is named, by `builtin`.
+pub fn run<F: Files, K: Sink, W: Spawner>(
+    alloc: Global,
+    words: &Parts,
+    files: &mut F,
+    out: &mut K,
+    spawner: &mut W,
+    builtin: &mut Builtin,
+) -> Ended
+    ensures answered { IsAnswer (order_of words.now) (change (texts F.holds F.asked F.faults) files.old files.new) (change companions builtin.old builtin.new) (change (children W.starts W.ended W.faults W.steady) spawner.old spawner.new) (change (taken K.taken K.faults) out.old out.new) result }
+    ensures asked { AsksFileOf (order_of words.now) (change (texts F.holds F.asked F.faults) files.old files.new) }
+    ensures starts { StartsSolverOf (order_of words.now) (change companions builtin.old builtin.new) (change (children W.starts W.ended W.faults W.steady) spawner.old spawner.new) }
+    ensures status { IsStatusOf (order_of words.now) (change (texts F.holds F.asked F.faults) files.old files.new) (change (taken K.taken K.faults) out.old out.new) result.runs.items result.status }
+    ensures usage { order_of words.now ≡ None → (result.status ≡ Status.Usage) ⊎ (result.status ≡ Status.Unwritten) ⊎ (result.status ≡ Status.Want) }
+{
+    answer(alloc, words, files, out, spawner, builtin)
+}

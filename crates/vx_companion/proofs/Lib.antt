@@ -1,0 +1,5 @@
+mod Replies
+mod Levels
+mod Said
+mod Replied
+pub mod Lawful

@@ -1,0 +1,36 @@
+use Rattle.std.proofs.Common.{rules, ◌≡◌, ◌≤◌, ◌++◌, ◌∷◌, []}
+use Rattle.vx_ends.specs.Dialogue.{sent, got}
+use Rattle.vx_ends.specs.declared.piece.Piece.TheVariants.{Got}
+use Rattle.vx_ends.proofs.Dialogues.{sent_by_got}
+use Rattle.vx_sexp.specs.Finished.{finished}
+use Rattle.vx_companion.proofs.Replies.{after_got}
+use Rattle.vx_companion.proofs.builtin.CompanionLinkLink.receive.Goals as goal
+
+pub invariant_of-self-in-Ok : goal.invariant_of-self-in-Ok
+invariant_of-self-in-Ok c =
+    let old = c.args.self.now in
+    let new = c.push.new.self.items in
+    let front = c.split_at.result.0.now in
+    let back = c.in_ok-rest.rest.items in
+    let pieces : new ≡ old.pieces.items ++ Got front ∷ [] = search rules in
+    let replies : old.replies.items ≡ front ++ back = search rules in
+    let sent_same : sent new ≡ sent old.pieces.items = sent_by_got old.pieces.items new front pieces in
+    let same : got new ++ back ≡ got old.pieces.items ++ old.replies.items = after_got old.pieces.items new old.replies.items front back pieces replies in
+    let owed : finished (sent new) ≤ finished (got new ++ back) = rw (sent_same, same) old.owed in
+    record {
+      owed = owed;
+      answered = λ fresh. rw (sent_same, same) (old.answered fresh);
+      said = λ fresh. rw (sent_same, same) (old.said fresh);
+      replied = rw (sent_same, same) old.replied;
+    }
+
+pub invariant_of-self-in-Break-branch-4 : goal.invariant_of-self-in-Break-branch-4
+invariant_of-self-in-Break-branch-4 c =
+    let old = c.args.self.now in
+    let same : c.reserve.new.self.items ≡ old.pieces.items = search rules in
+    record {
+      owed = rw same old.owed;
+      answered = λ fresh. rw same (old.answered fresh);
+      said = λ fresh. rw same (old.said fresh);
+      replied = rw same old.replied;
+    }

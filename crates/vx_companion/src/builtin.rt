@@ -1,0 +1,198 @@
+// The companion's link and its spawner.
+ghost use Rattle.std.specs.Prelude.{◌≡◌, ℕ, ◌+◌, ◌≤◌, ◌==◌, ◌++◌, [], vec_len, vec_capacity, count_by, List, IfOk, true, false};
+ghost use Rattle.vx_ends.specs.Dialogue.{sent, got};
+ghost use Rattle.vx_sexp.specs.Finished.{finished};
+ghost use Rattle.vx_companion.specs.Companion.{HasAnswered, HasSaid, AllReplied, AllByCompanion};
+
+use crate::session::Session;
+use std::alloc::{AllocError, Global};
+use vx_ends::{
+    Bytes, Ending, Link, LinkFault, Parts, Piece, Record, Spawner, Start, StartFault, remove_once,
+};
+use vx_sexp::cut;
+
+// Replies to each finished command that the bytes begin with, and gives what is left of them.
+fn reply_all<'a>(
+    alloc: Global,
+    session: &mut Session,
+    replies: &mut Vec<u8>,
+    bytes: &'a [u8],
+) -> Result<&'a [u8], AllocError>
+    ensures answered { IfOk result (λ rest. (all_sent front : List ℕ) → HasAnswered all_sent bytes.now (front ++ replies.old.items) → HasAnswered all_sent rest.now (front ++ replies.new.items)) }
+    ensures said { IfOk result (λ rest. (all_sent front : List ℕ) → HasSaid all_sent bytes.now (front ++ replies.old.items) session.old → HasSaid all_sent rest.now (front ++ replies.new.items) session.new) }
+    ensures none_left { IfOk result (λ rest. finished rest.now ≡ 0) }
+    ensures more { (n : ℕ) (front : List ℕ) → n ≤ finished (front ++ replies.old.items) → n ≤ finished (front ++ replies.new.items) }
+    ensures replied { (all_sent front : List ℕ) → AllReplied all_sent (front ++ replies.old.items) → AllReplied all_sent (front ++ replies.new.items) }
+{
+    let mut rest = bytes;
+    'commands: loop {
+        let taken = match cut(rest) {
+            Ok(taken) => taken,
+            Err(_fault) => return Ok(rest),
+        };
+        let (command, more) = rest.split_at(taken);
+        let said = session.command(alloc, command)?;
+        let reply = said.text();
+        replies.extend_from_slice(reply.as_bytes())?;
+        rest = more;
+    }
+}
+
+/// The link to a companion: it answers each finished command of what is sent.
+#[derive(Drop)]
+pub struct CompanionLink {
+    session: Session,
+    // what was sent and isn't finished yet
+    unread: Vec<u8>,
+    // replies that were not got yet
+    replies: Vec<u8>,
+    pieces: Record,
+    faults: u64,
+    // memory ran out in the midst of a command
+    is_spent: bool,
+    ghost owed: { finished (sent pieces) ≤ finished (got pieces ++ replies.items) },
+    ghost answered: { is_spent ≡ false → HasAnswered (sent pieces) unread.items (got pieces ++ replies.items) },
+    ghost said: { is_spent ≡ false → ∥ HasSaid (sent pieces) unread.items (got pieces ++ replies.items) session ∥₁ },
+    ghost replied: { AllReplied (sent pieces) (got pieces ++ replies.items) },
+}
+
+impl CompanionLink {
+    fn new(alloc: Global) -> Result<CompanionLink, AllocError>
+        ensures dialogue { IfOk result (λ link. link.pieces ≡ []) }
+        ensures faults { IfOk result (λ link. link.faults ≡ 0) }
+    {
+        let session = Session::new(alloc)?;
+        Ok(CompanionLink {
+            session,
+            unread: Vec::new(alloc),
+            replies: Vec::new(alloc),
+            pieces: Record::new(alloc),
+            faults: 0,
+            is_spent: false,
+        })
+    }
+}
+
+impl Link for CompanionLink {
+    ghost dialogue = { λ l. l.pieces };
+
+    ghost faults = { λ l. l.faults };
+
+    ghost steady = { λ _. true };
+
+    fn send(&mut self, alloc: Global, piece: &[u8]) -> Result<usize, LinkFault> {
+        if self.faults > 0 {
+            self.faults = self.faults.saturating_add(1);
+            return Err(LinkFault::Failed);
+        }
+        if self.is_spent {
+            return Err(LinkFault::Want);
+        }
+        let copy = Bytes::copy(alloc, piece)?;
+        self.pieces.reserve(1)?;
+        self.is_spent = true;
+        self.unread.extend_from_slice(piece)?;
+        let rest = reply_all(alloc, &mut self.session, &mut self.replies, &self.unread)?;
+        self.unread = rest.to_vec(alloc)?;
+        self.is_spent = false;
+        match self.pieces.push(Piece::Sent(copy)) {
+            Ok(()) => Ok(piece.len()),
+            Err(_) => unreachable!(),
+        }
+    }
+
+    fn receive(&mut self, alloc: Global, max: usize) -> Result<Vec<u8>, LinkFault> {
+        if self.faults > 0 || self.replies.is_empty() {
+            self.faults = self.faults.saturating_add(1);
+            return Err(LinkFault::Failed);
+        }
+        let count = self.replies.len().min(max);
+        let (front, back) = self.replies.split_at(count);
+        let piece = front.to_vec(alloc)?;
+        let rest = back.to_vec(alloc)?;
+        self.pieces.push_got(front)?;
+        self.replies = rest;
+        Ok(piece)
+    }
+}
+
+/// Starts companions. Its command is the one word `builtin`.
+#[derive(Drop)]
+pub struct Builtin {
+    starts: Vec<Start>,
+    // the lane of each link that is out
+    lanes_out: Vec<u32>,
+    ended: Vec<Ending>,
+    ghost room: { vec_len ended + vec_len lanes_out ≤ vec_capacity ended },
+    ghost right: { AllByCompanion ended.items },
+}
+
+impl Builtin {
+    pub fn new(alloc: Global) -> Builtin
+        ensures starts { result.starts.items ≡ [] }
+        ensures out { result.lanes_out.items ≡ [] }
+        ensures ended { result.ended.items ≡ [] }
+    {
+        Builtin {
+            starts: Vec::new(alloc),
+            lanes_out: Vec::new(alloc),
+            ended: Vec::new(alloc),
+        }
+    }
+}
+
+impl Spawner for Builtin {
+    type Link = CompanionLink;
+
+    ghost starts = { λ s. s.starts.items };
+
+    ghost owed = { λ s lane. count_by (λ other. other == lane) s.lanes_out.items };
+
+    ghost ended = { λ s. s.ended.items };
+
+    ghost faults = { λ _. 0 };
+
+    ghost steady = { λ _. true };
+
+    fn start(
+        &mut self,
+        alloc: Global,
+        lane: u32,
+        command: &Parts,
+    ) -> Result<CompanionLink, StartFault> {
+        let link = CompanionLink::new(alloc)?;
+        let kept = command.copy(alloc)?;
+        self.lanes_out.reserve(1)?;
+        let room = self.lanes_out.len() + 1;
+        self.ended.reserve(room)?;
+        self.starts.push(Start {
+            lane,
+            command: kept,
+        })?;
+        match self.lanes_out.push(lane) {
+            Ok(()) => Ok(link),
+            Err(_) => unreachable!(),
+        }
+    }
+
+    fn finish(&mut self, lane: u32, link: CompanionLink) {
+        remove_once(&mut self.lanes_out, lane);
+        let CompanionLink {
+            session: _,
+            unread: _,
+            replies: _,
+            pieces,
+            faults,
+            is_spent: _,
+        } = link;
+        let ending = Ending {
+            lane,
+            dialogue: pieces,
+            faults,
+        };
+        match self.ended.push(ending) {
+            Ok(()) => {}
+            Err(_) => unreachable!(),
+        }
+    }
+}

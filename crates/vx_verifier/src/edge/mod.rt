@@ -1,9 +1,0 @@
-//! The real ends: files, standard output and child processes. Each counts its faults.
-
-mod child;
-mod disk;
-mod sink;
-
-pub use child::{ChildLink, ChildSpawner};
-pub use disk::DiskFiles;
-pub use sink::StdSink;
