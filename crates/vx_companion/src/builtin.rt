@@ -6,9 +6,7 @@ ghost use Rattle.vx_companion.specs.Companion.{HasAnswered, HasSaid, AllReplied,
 
 use crate::session::Session;
 use std::alloc::{AllocError, Global};
-use vx_ends::{
-    Bytes, Ending, Link, LinkFault, Parts, Piece, Record, Spawner, Start, StartFault, remove_once,
-};
+use vx_ends::{Ending, Link, LinkFault, Parts, Record, Spawner, Start, StartFault, remove_once};
 use vx_sexp::cut;
 
 // Replies to each finished command that the bytes begin with, and gives what is left of them.
@@ -88,17 +86,13 @@ impl Link for CompanionLink {
         if self.is_spent {
             return Err(LinkFault::Want);
         }
-        let copy = Bytes::copy(alloc, piece)?;
-        self.pieces.reserve(1)?;
         self.is_spent = true;
         self.unread.extend_from_slice(piece)?;
         let rest = reply_all(alloc, &mut self.session, &mut self.replies, &self.unread)?;
         self.unread = rest.to_vec(alloc)?;
+        self.pieces.push_sent(piece)?;
         self.is_spent = false;
-        match self.pieces.push(Piece::Sent(copy)) {
-            Ok(()) => Ok(piece.len()),
-            Err(_) => unreachable!(),
-        }
+        Ok(piece.len())
     }
 
     fn receive(&mut self, alloc: Global, max: usize) -> Result<Vec<u8>, LinkFault> {

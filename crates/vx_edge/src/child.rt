@@ -61,13 +61,15 @@ impl<P: OpenProcess> Link for ChildLink<P> {
     ghost steady = { λ _. false };
 
     fn send(&mut self, _alloc: Global, piece: &[u8]) -> Result<usize, LinkFault> {
-        if self.faults == 0 {
-            self.pieces.push_sent(piece)?;
-            let count = self.input.write(piece).unwrap_or(0);
-            self.pieces.cut_last(count);
-            if count > 0 {
-                return Ok(count);
-            }
+        if self.faults > 0 {
+            self.faults = self.faults.saturating_add(1);
+            return Err(LinkFault::Failed);
+        }
+        self.pieces.push_sent(piece)?;
+        let count = self.input.write(piece).unwrap_or(0);
+        self.pieces.cut_last(count);
+        if count > 0 {
+            return Ok(count);
         }
         self.faults = self.faults.saturating_add(1);
         Err(LinkFault::Failed)

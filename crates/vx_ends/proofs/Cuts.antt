@@ -89,3 +89,12 @@ module _ (cs : List Cut) (c : Cut) (bytes : List ℕ) (counts : total (cs ++ c �
 
   pub counts_before : (m : ℕ) → m ≡ min c.len 0 → total cs ≡ length (take (length bytes - c.len + m) bytes)
   counts_before m is = let all = in_all in rw (before, length-take-le (total cs + m) bytes (omega arith)) (omega arith)
+
+-- ---- a piece just sent
+
+pub cut_sent : (n : ℕ) (old sent new : List Piece) (bytes : List ℕ) → sent ≡ old ++ Sent bytes ∷ [] → new ≡ cut_last n sent → (n ≡ 0 → ⊥) → new ≡ old ++ Sent (take n bytes) ∷ []
+cut_sent zero old sent new bytes one cut some = absurd (some refl)
+cut_sent (suc n) old sent new bytes one cut some = rw (cut, one, cut_last_one (suc n) old (Sent bytes)) refl
+
+pub cut_none : (n : ℕ) (old sent new : List Piece) (x : Piece) → sent ≡ old ++ x ∷ [] → new ≡ cut_last n sent → n ≡ 0 → new ≡ old
+cut_none n old sent new x one cut none = rw (cut, none, one, cut_last_one 0 old x) (none_more old)

@@ -97,7 +97,7 @@ pub fn words(alloc: Global, row: &Row) -> Result<Parts, AllocError> {
 }
 
 // How many checks are in the bytes that were sent.
-fn checks_in(ending: &Ending) -> usize {
+fn checks_in(alloc: Global, ending: &Ending) -> Result<usize, AllocError> {
     let mut checks = 0usize;
     for piece in &ending.dialogue.pieces(alloc)? {
         if let Piece::Sent(bytes) = piece {
@@ -106,13 +106,13 @@ fn checks_in(ending: &Ending) -> usize {
             }
         }
     }
-    checks
+    Ok(checks)
 }
 
 // How often each child was asked.
 fn put_children(alloc: Global, ended: &[Ending], out: &mut Vec<u8>) -> Result<(), AllocError> {
     for ending in ended {
-        let line = format!(in alloc; "a child was asked {} times", checks_in(ending))?;
+        let line = format!(in alloc; "a child was asked {} times", checks_in(alloc, ending)?)?;
         put_line(out, "  ", &line)?;
     }
     Ok(())

@@ -8,7 +8,7 @@ pub invariant_of-self-clause-right : goal.invariant_of-self-clause-right
 invariant_of-self-clause-right c =
     let link = c.args.link in
     let old = c.args.self.now.ended.items in
-    let ending : Ending = record { lane = c.args.lane; dialogue = link.pieces.items; faults = link.faults } in
+    let ending : Ending = record { lane = c.args.lane; dialogue = link.pieces; faults = link.faults } in
     let items : c.push.new.self.items ≡ old ++ ending ∷ [] = search rules in
-    let right : RepliesByCompanion link.pieces.items = ∣ (link.replies.items, link.replied) ∣₁ in
+    let right : RepliesByCompanion link.pieces = ∣ (link.replies.items, link.replied) ∣₁ in
     subst AllByCompanion (sym items) (All-push (λ (e : Ending). RepliesByCompanion e.dialogue) old ending c.args.self.now.right right)
