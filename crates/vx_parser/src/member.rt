@@ -7,21 +7,20 @@ ghost use Rattle.vx_grammar.specs.Reading.{run};
 ghost use Rattle.vx_grammar.specs.MemberReading as reading;
 ghost use Rattle.vx_grammar.specs.StmtReading.{is_measure};
 ghost use Rattle.std.specs.Prelude.{Err};
-ghost use Rattle.vx_parser.specs.Gives.{Gives};
+ghost use Rattle.vx_expr_parser.specs.Gives.{Gives};
 ghost use Rattle.vx_parser.specs.Halting.{GivesMember, MemberStops, Answer, HaltedAnswer};
 ghost use Rattle.vx_parser.specs.Views.{clauses_of, declarations_of, head_of};
 
-use crate::expr::{Read, expect, is_symbol, nested_choice, same};
-use crate::name::name;
-use crate::stmt::{
-    begins_measure, block, clause, declaration, is_measure, skip_semicolon, value_type,
-};
-use crate::stop::{MemberStop, Stop};
+use crate::stmt::{begins_measure, block, clause, is_measure, skip_semicolon};
+use crate::stop::MemberStop;
 use std::alloc::{AllocError, Global};
 use std::rc::Rc;
 use vx_ast::{
     Block, Clause, Declaration, Expr, Function, Member, MemberKind, Method, Name, Place, Predicate,
     ValueType,
+};
+use vx_expr_parser::{
+    Read, Stop, declaration, expect, is_symbol, name, nested_choice, same, value_type,
 };
 use vx_tokens::{Kind, Symbol, Token, Word};
 

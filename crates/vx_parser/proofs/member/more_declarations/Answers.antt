@@ -5,7 +5,8 @@ use Rattle.vx_tokens.specs.Tokens.{token_of, tokens_in}
 use Rattle.vx_ast.specs.Written.{written_declaration}
 use Rattle.vx_grammar.specs.MemberReading.{declaration_turn}
 use Rattle.vx_parser.specs.Views.{declarations_of}
-use Rattle.vx_parser.proofs.Turns.{goes_on, is_over, is_done, halts, declaration_on, declaration_over, declaration_end, declaration_stops, empty_tokens}
+use Rattle.vx_expr_parser.proofs.Turns.{goes_on, is_over, is_done, halts, empty_tokens}
+use Rattle.vx_parser.proofs.Turns.{declaration_on, declaration_over, declaration_end, declaration_stops}
 use Rattle.vx_parser.proofs.member.more_declarations.Goals as goal
 
 pub returns-in_default : goal.returns-in_default
