@@ -1,11 +1,13 @@
 -- The turns of the parser's loops.
 use Rattle.std.proofs.Common.{◌≡◌, ℕ, ◌+◌, ◌-◌, ◌≤◌, ◌<◌, List, [], ◌∷◌, ◌++◌, Some, None, Result, Ok, Err, true, false, length, refl, sym, arith, ap}
 use Rattle.std.proofs.lemmas.List.{length-map}
-use Rattle.vx_ast.specs.Written.{Placed, Expr, Exprs}
+use Rattle.vx_ast.specs.Written.{Placed, Expr, Exprs, Declaration}
 use Rattle.vx_tokens.specs.declared.token.Token as the_token
 use Rattle.vx_tokens.specs.declared.token.Symbol.TheVariants as signs
 use Rattle.vx_tokens.specs.Tokens.{Token, tokens_in, token_of}
 use Rattle.vx_grammar.specs.Reading.{name_at, name_turn, ◌>>=◌, Read, choice_at, below, exprs_from, argument_turn, some_arguments, is_symbol, Turn, run}
+use Rattle.vx_grammar.specs.StmtReading.{declaration_at}
+use Rattle.vx_grammar.specs.MemberReading.{declaration_turn}
 use Rattle.vx_grammar.proofs.Turns.{run_on, run_over, run_stops, run_all}
 use Rattle.vx_expr_parser.specs.declared.stop.Stop as the_stop
 use Rattle.vx_expr_parser.specs.declared.stop.Stop.TheVariants as stops
@@ -60,6 +62,25 @@ name_end before ts none = rw none refl
 pub name_stops : (e : the_stop.Stop) (before : List Placed) (ts : List Token) (t : Token) (us : List Token) → ts ≡ t ∷ us → is_symbol signs.Comma t.kind ≡ true → Stops e (name_at us) → Stops e (name_turn before ts)
 unfolding name_turn
 name_stops e before ts t us first comma read = rw (first, comma) (stops_after e (name_at us) (λ d. Ok (Some (before ++ d.0 ∷ []), d.1)) read)
+
+-- ---- declarations
+
+pub declaration_on : (before : List Declaration) (ts : List Token) (t : Token) (us : List Token) (d : Declaration) (after : List Token) → ts ≡ t ∷ us → is_symbol signs.Comma t.kind ≡ true → declaration_at us ≡ Ok (d, after)
+    → declaration_turn before ts ≡ Ok (Some (before ++ d ∷ []), after)
+unfolding declaration_turn
+declaration_on before ts t us d after first comma read = rw (first, comma, read) refl
+
+pub declaration_over : (before : List Declaration) (ts : List Token) (t : Token) (us : List Token) → ts ≡ t ∷ us → is_symbol signs.Comma t.kind ≡ false → declaration_turn before ts ≡ Ok (None, t ∷ us)
+unfolding declaration_turn
+declaration_over before ts t us first comma = rw (first, comma) refl
+
+pub declaration_end : (before : List Declaration) (ts : List Token) → ts ≡ [] → declaration_turn before ts ≡ Ok (None, [])
+unfolding declaration_turn
+declaration_end before ts none = rw none refl
+
+pub declaration_stops : (e : the_stop.Stop) (before : List Declaration) (ts : List Token) (t : Token) (us : List Token) → ts ≡ t ∷ us → is_symbol signs.Comma t.kind ≡ true → Stops e (declaration_at us) → Stops e (declaration_turn before ts)
+unfolding declaration_turn
+declaration_stops e before ts t us first comma read = rw (first, comma) (stops_after e (declaration_at us) (λ d. Ok (Some (before ++ d.0 ∷ []), d.1)) read)
 
 -- ---- arguments
 

@@ -99,7 +99,7 @@ pub fn expression<'t>(alloc: Global, tokens: &'t [Token<'t>]) -> Result<Expr, St
 
 /// An expression that may nest room deeper.
 #[cycle(expr)]
-#[tactic(auto, unfolding(vx_grammar::specs::Reading::choice_at, vx_grammar::specs::Reading::chosen_by, vx_grammar::specs::Reading::sides_by, vx_grammar::specs::Reading::second_by))]
+#[tactic(auto, unfolding(vx_grammar::specs::Reading::choice_at, vx_grammar::specs::Reading::chosen_by))]
 pub fn choice<'t>(alloc: Global, room: u32, tokens: &'t [Token<'t>]) -> Read<'t, Expr>
     requires { room < 1000 }
     ensures { Gives (λ x. (written_expr x.0, tokens_in x.1.now)) result (reading.choice_at (reading.below room) (tokens_in tokens.now)) }
@@ -110,13 +110,42 @@ pub fn choice<'t>(alloc: Global, room: u32, tokens: &'t [Token<'t>]) -> Read<'t,
     let (condition, rest) = implication(alloc, room, tokens)?;
     match rest.split_first() {
         Some((question, inner)) if is_symbol(Symbol::Question, question.kind) => {
-            let (left, rest) = nested_choice(alloc, room, rest, inner)?;
-            let (_, inner) = expect(Symbol::Colon, rest)?;
-            let (right, rest) = nested_choice(alloc, room, rest, inner)?;
-            Ok((chosen(alloc, first.place, condition, left, right)?, rest))
+            sides(alloc, room, first.place, condition, question, rest, inner)
         }
         _ => Ok((condition, rest)),
     }
+}
+
+// The sides of a choice, behind its condition and the question mark at which `here` begins.
+#[cycle(expr)]
+#[tactic(auto, unfolding(vx_grammar::specs::Reading::sides_by))]
+fn sides<'t>(
+    alloc: Global,
+    room: u32,
+    place: Place,
+    condition: Expr,
+    question: &'t Token<'t>,
+    here: &'t [Token<'t>],
+    tokens: &'t [Token<'t>],
+) -> Read<'t, Expr>
+    requires room { room < 1000 }
+    requires first { tokens_in here.now ≡ token_of question.now ∷ tokens_in tokens.now }
+    ensures { Gives (λ x. (written_expr x.0, tokens_in x.1.now)) result (reading.sides_by (reading.below room) place (written_expr condition) (token_of question.now) (tokens_in tokens.now)) }
+{
+    let (left, rest) = nested_choice(alloc, room, here, tokens)?;
+    let (right, rest) = second(alloc, room, rest)?;
+    Ok((chosen(alloc, place, condition, left, right)?, rest))
+}
+
+// A colon, and the side behind it.
+#[cycle(expr)]
+#[tactic(auto, unfolding(vx_grammar::specs::Reading::second_by))]
+fn second<'t>(alloc: Global, room: u32, tokens: &'t [Token<'t>]) -> Read<'t, Expr>
+    requires { room < 1000 }
+    ensures { Gives (λ x. (written_expr x.0, tokens_in x.1.now)) result (reading.second_by (reading.below room) (tokens_in tokens.now)) }
+{
+    let (_, inner) = expect(Symbol::Colon, tokens)?;
+    nested_choice(alloc, room, tokens, inner)
 }
 
 #[cycle(expr)]

@@ -1,8 +1,9 @@
-//! From tokens to expressions, and to what else statements and members are made of: names, types, and what stands right of
-//! `:=`.
+//! From tokens to expressions, and to what else statements and members are made of: names, types, declarations, and what
+//! stands right of `:=`.
 #![tactic(auto)]
 
 mod assigned;
+mod declarations;
 mod expr;
 mod made;
 mod names;
@@ -11,6 +12,7 @@ mod stop;
 mod types;
 
 pub use assigned::right;
+pub use declarations::parameters;
 pub use expr::{choice, enclosed_arguments, expression, grouped, instance, nested_choice, postfix};
 pub use names::{more_names, name, one_name};
 pub use reading::{Read, expect, is_symbol, same};

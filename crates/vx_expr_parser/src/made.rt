@@ -17,6 +17,13 @@ pub fn prefixed(alloc: Global, place: Place, op: UnaryOperator, e: Expr) -> Resu
     Ok(Expr { place, kind })
 }
 
+fn both(alloc: Global, left: Expr, right: Expr) -> Result<(Rc<Expr>, Rc<Expr>), AllocError>
+    ensures { IfOk result (λ pair. (pair.0.value ≡ left) × (pair.1.value ≡ right)) }
+{
+    let left = Rc::new(alloc, left)?;
+    Ok((left, Rc::new(alloc, right)?))
+}
+
 /// Two operands and the operator between them.
 pub fn joined(
     alloc: Global,
@@ -27,7 +34,8 @@ pub fn joined(
 ) -> Result<Expr, AllocError>
     ensures { IfOk result (λ whole. written_expr whole ≡ Binary place op (written_expr left) (written_expr right)) }
 {
-    let kind = ExprKind::Binary(op, Rc::new(alloc, left)?, Rc::new(alloc, right)?);
+    let (left, right) = both(alloc, left, right)?;
+    let kind = ExprKind::Binary(op, left, right);
     Ok(Expr { place, kind })
 }
 
@@ -42,7 +50,8 @@ pub fn chosen(
     ensures { IfOk result (λ whole. written_expr whole ≡ Choice place (written_expr condition) (written_expr left) (written_expr right)) }
 {
     let condition = Rc::new(alloc, condition)?;
-    let kind = ExprKind::Conditional(condition, Rc::new(alloc, left)?, Rc::new(alloc, right)?);
+    let (left, right) = both(alloc, left, right)?;
+    let kind = ExprKind::Conditional(condition, left, right);
     Ok(Expr { place, kind })
 }
 

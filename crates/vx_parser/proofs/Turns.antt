@@ -1,11 +1,10 @@
 -- The turns of the parser's loops.
 use Rattle.std.proofs.Common.{◌≡◌, ℕ, ◌+◌, ◌-◌, ◌≤◌, List, [], ◌∷◌, ◌++◌, Some, None, Result, Ok, Err, Bool, true, false, not, ◌&&◌, length, refl, sym, subst, arith, ap}
-use Rattle.vx_ast.specs.Written.{Expr, Exprs, Stmt, Block, Declaration}
-use Rattle.vx_tokens.specs.declared.token.Symbol.TheVariants as signs
+use Rattle.vx_ast.specs.Written.{Expr, Exprs, Stmt, Block}
 use Rattle.vx_tokens.specs.Tokens.{Token}
-use Rattle.vx_grammar.specs.Reading.{◌>>=◌, Read, exprs_from, is_symbol, run}
-use Rattle.vx_grammar.specs.StmtReading.{is_measure, clause_at, begins_invariant, invariant_turn, invariants_at, StmtDeeper, StmtPart, stmt_part, stmts_below, begins_stmt, skip_semicolon, stmt_at, stmt_turn, declaration_at}
-use Rattle.vx_grammar.specs.MemberReading.{limit, declaration_turn, Clauses, clause_turn, begins_requires, begins_ensures, with_requires, with_ensures, with_measure}
+use Rattle.vx_grammar.specs.Reading.{◌>>=◌, Read, exprs_from, run}
+use Rattle.vx_grammar.specs.StmtReading.{is_measure, clause_at, begins_invariant, invariant_turn, invariants_at, StmtDeeper, StmtPart, stmt_part, stmts_below, begins_stmt, skip_semicolon, stmt_at, stmt_turn}
+use Rattle.vx_grammar.specs.MemberReading.{limit, Clauses, clause_turn, begins_requires, begins_ensures, with_requires, with_ensures, with_measure}
 use Rattle.vx_grammar.specs.Nesting.{stmt_nests}
 use Rattle.vx_expr_parser.specs.declared.stop.Stop as the_stop
 use Rattle.vx_expr_parser.specs.Gives.{Gives, Stops}
@@ -39,25 +38,6 @@ pub stmt_nested_is : {X : Type 0} (view : X → Block × List Token) (result : R
 stmt_nested_is view result room less p here ts h g =
     let r : room ≡ less + 1 = omega (arith, h.0, h.1) in
     subst (Gives view result) (sym (stmt_nests room less p here ts r)) g
-
--- ---- declarations
-
-pub declaration_on : (before : List Declaration) (ts : List Token) (t : Token) (us : List Token) (d : Declaration) (after : List Token) → ts ≡ t ∷ us → is_symbol signs.Comma t.kind ≡ true → declaration_at us ≡ Ok (d, after)
-    → declaration_turn before ts ≡ Ok (Some (before ++ d ∷ []), after)
-unfolding declaration_turn
-declaration_on before ts t us d after first comma read = rw (first, comma, read) refl
-
-pub declaration_over : (before : List Declaration) (ts : List Token) (t : Token) (us : List Token) → ts ≡ t ∷ us → is_symbol signs.Comma t.kind ≡ false → declaration_turn before ts ≡ Ok (None, t ∷ us)
-unfolding declaration_turn
-declaration_over before ts t us first comma = rw (first, comma) refl
-
-pub declaration_end : (before : List Declaration) (ts : List Token) → ts ≡ [] → declaration_turn before ts ≡ Ok (None, [])
-unfolding declaration_turn
-declaration_end before ts none = rw none refl
-
-pub declaration_stops : (e : the_stop.Stop) (before : List Declaration) (ts : List Token) (t : Token) (us : List Token) → ts ≡ t ∷ us → is_symbol signs.Comma t.kind ≡ true → Stops e (declaration_at us) → Stops e (declaration_turn before ts)
-unfolding declaration_turn
-declaration_stops e before ts t us first comma read = rw (first, comma) (stops_after e (declaration_at us) (λ d. Ok (Some (before ++ d.0 ∷ []), d.1)) read)
 
 -- ---- clauses
 

@@ -70,6 +70,12 @@ decreases-rest_of_chain l = 32 * l.room + 1
 abbrev pub decreases-choice : goal.decreases-choice
 decreases-choice l = 32 * l.room + 18
 
+abbrev pub decreases-sides : goal.decreases-sides
+decreases-sides l = 32 * l.room + 2
+
+abbrev pub decreases-second : goal.decreases-second
+decreases-second l = 32 * l.room + 1
+
 abbrev pub decreases-implication : goal.decreases-implication
 decreases-implication l = 32 * l.room + 17
 

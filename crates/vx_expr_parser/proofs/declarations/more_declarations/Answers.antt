@@ -1,13 +1,11 @@
-use Rattle.std.proofs.Common.{◌≡◌, ◌++◌, ◌∷◌, [], ap, ◌∙◌, rules}
+use Rattle.std.proofs.Common.{◌≡◌, ◌++◌, ◌∷◌, [], ap, ◌∙◌, map, rules}
 use Rattle.std.proofs.lemmas.Result.{err_from_is_err_and}
 use Rattle.std.proofs.lemmas.List.{map-append}
 use Rattle.vx_tokens.specs.Tokens.{token_of, tokens_in}
 use Rattle.vx_ast.specs.Written.{written_declaration}
 use Rattle.vx_grammar.specs.MemberReading.{declaration_turn}
-use Rattle.vx_parser.specs.Views.{declarations_of}
-use Rattle.vx_expr_parser.proofs.Turns.{goes_on, is_over, is_done, halts, empty_tokens}
-use Rattle.vx_parser.proofs.Turns.{declaration_on, declaration_over, declaration_end, declaration_stops}
-use Rattle.vx_parser.proofs.member.more_declarations.Goals as goal
+use Rattle.vx_expr_parser.proofs.Turns.{goes_on, is_over, is_done, halts, empty_tokens, declaration_on, declaration_over, declaration_end, declaration_stops}
+use Rattle.vx_expr_parser.proofs.declarations.more_declarations.Goals as goal
 
 pub returns-in_default : goal.returns-in_default
 returns-in_default c =
@@ -26,7 +24,7 @@ returns-in_err-next c =
 pub loop-preserved : goal.loop-preserved
 loop-preserved c =
     let d = c.in_ok-next.next in
-    let items : declarations_of c.push.new.self.items ≡ declarations_of c.loop.declarations.items ++ written_declaration d ∷ [] = ap declarations_of c.in_ok-push.ensures.items ∙ map-append written_declaration c.loop.declarations.items (d ∷ []) in
+    let items : map written_declaration c.push.new.self.items ≡ map written_declaration c.loop.declarations.items ++ written_declaration d ∷ [] = ap (map written_declaration) c.in_ok-push.ensures.items ∙ map-append written_declaration c.loop.declarations.items (d ∷ []) in
     rw (items, c.same-rest.ensures) (goes_on declaration_turn c.args.tokens.now c.loop.counter _ _ (tokens_in c.loop.rest.now) _ _ c.loop-test.true
     (declaration_on _ (tokens_in c.loop.rest.now) (token_of c.in-Some.first.now) (tokens_in c.in-Some.inner.now) (written_declaration d) (tokens_in c.in_ok-next.after.now) (search rules) (search rules) c.in_ok-next.ensures) c.loop.invariant)
 
