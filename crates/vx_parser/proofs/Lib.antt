@@ -1,5 +1,3 @@
-pub mod Steps
-pub mod Says
 pub mod Turns
 pub mod Rows
 pub mod Members

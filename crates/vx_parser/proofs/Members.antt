@@ -9,7 +9,7 @@ use Rattle.vx_grammar.specs.StmtReading.{skip_semicolon}
 use Rattle.vx_grammar.specs.MemberReading.{limit, Halt, no_member, too_many, begins_member, member_at, members_by, max_members}
 use Rattle.vx_parser.specs.declared.stop.MemberStop as the_stop
 use Rattle.vx_parser.specs.declared.stop.MemberStop.TheVariants as inner
-use Rattle.vx_parser.specs.declared.stop.Stop.TheVariants as stops
+use Rattle.vx_expr_parser.specs.declared.stop.Stop.TheVariants as stops
 use Rattle.vx_parser.specs.declared.program.Halt.TheVariants as halts
 use Rattle.vx_parser.specs.Halting.{MemberStops}
 use Rattle.vx_parser.specs.Answers.{halt_of, HaltsAt}

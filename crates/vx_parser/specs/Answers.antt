@@ -17,7 +17,7 @@ use Rattle.vx_tokens.specs.Standing.{TokenAt}
 use Rattle.vx_tokens.specs.Text as text
 use Rattle.vx_grammar.specs.Reading as reading
 use Rattle.vx_grammar.specs.MemberReading as members
-use Rattle.vx_parser.specs.declared.stop.Stop.TheVariants as stops
+use Rattle.vx_expr_parser.specs.declared.stop.Stop.TheVariants as stops
 use Rattle.vx_parser.specs.declared.stop.MemberStop.TheVariants as inner
 use Rattle.vx_parser.specs.declared.program.Halt as the_halt
 use Rattle.vx_parser.specs.declared.program.Halt.TheVariants as halts

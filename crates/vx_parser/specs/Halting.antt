@@ -4,7 +4,7 @@ use Rattle.vx_ast.specs.Written.{Member}
 use Rattle.vx_tokens.specs.Tokens.{tokens_in}
 use Rattle.vx_grammar.specs.Reading.{Read, Unexpected, Measured, TooDeep}
 use Rattle.vx_grammar.specs.MemberReading.{MemberStop, stopped, bodiless, measured_twice, Halting}
-use Rattle.vx_parser.specs.declared.stop.Stop.TheVariants as stops
+use Rattle.vx_expr_parser.specs.declared.stop.Stop.TheVariants as stops
 use Rattle.vx_parser.specs.declared.stop.MemberStop as the_stop
 use Rattle.vx_parser.specs.declared.stop.MemberStop.TheVariants as halts
 

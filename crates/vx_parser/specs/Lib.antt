@@ -1,9 +1,7 @@
 pub mod Faults
 pub mod Answers
-pub mod Gives
 pub mod Halting
 pub mod Refusing
-pub mod Says
 pub mod Spelling
 pub mod Store
 pub mod StmtPart

@@ -1,27 +1,25 @@
 //! Reading members.
 
-ghost use Rattle.std.specs.Prelude.{◌≡◌, ◌<◌, ◌+◌, ◌^◌, ◌&&◌, not, IfOk, OnOk, length, ◌∷◌, []};
-ghost use Rattle.vx_ast.specs.Written.{name_of, optional_block, optional_expr, written_expr, written_declaration, written_member};
+ghost use Rattle.std.specs.Prelude.{◌≡◌, ◌<◌, ◌+◌, ◌^◌, ◌&&◌, not, OnOk};
+ghost use Rattle.vx_ast.specs.Written.{name_of, optional_block, optional_expr, written_expr, written_member};
 ghost use Rattle.vx_tokens.specs.Tokens.{kind_of, token_of, tokens_in};
-ghost use Rattle.vx_grammar.specs.Reading.{run};
 ghost use Rattle.vx_grammar.specs.MemberReading as reading;
 ghost use Rattle.vx_grammar.specs.StmtReading.{is_measure};
 ghost use Rattle.std.specs.Prelude.{Err};
-ghost use Rattle.vx_parser.specs.Gives.{Gives};
+ghost use Rattle.vx_expr_parser.specs.Gives.{Gives};
 ghost use Rattle.vx_parser.specs.Halting.{GivesMember, MemberStops, Answer, HaltedAnswer};
 ghost use Rattle.vx_parser.specs.Views.{clauses_of, declarations_of, head_of};
 
-use crate::expr::{Read, expect, is_symbol, nested_choice, same};
-use crate::name::name;
-use crate::stmt::{
-    begins_measure, block, clause, declaration, is_measure, skip_semicolon, value_type,
-};
-use crate::stop::{MemberStop, Stop};
+use crate::stmt::{begins_measure, block, clause, is_measure, skip_semicolon};
+use crate::stop::MemberStop;
 use std::alloc::{AllocError, Global};
 use std::rc::Rc;
 use vx_ast::{
     Block, Clause, Declaration, Expr, Function, Member, MemberKind, Method, Name, Place, Predicate,
     ValueType,
+};
+use vx_expr_parser::{
+    Read, Stop, declaration, expect, is_symbol, name, nested_choice, parameters, value_type,
 };
 use vx_tokens::{Kind, Symbol, Token, Word};
 
@@ -44,75 +42,6 @@ struct Head {
     parameters: Vec<Declaration>,
     value_type: ValueType,
     clauses: Clauses,
-}
-
-// What follows a declaration, each behind a comma.
-fn more_declarations<'t>(
-    alloc: Global,
-    mut declarations: Vec<Declaration>,
-    tokens: &'t [Token<'t>],
-) -> Read<'t, Vec<Declaration>>
-    ensures { Gives (λ x. (declarations_of x.0.items, tokens_in x.1.now)) result (run reading.declaration_turn (length (tokens_in tokens.now)) (declarations_of declarations.items) (tokens_in tokens.now)) }
-{
-    let mut rest = tokens;
-    for _ in 0..tokens.len() {
-        let Some((first, inner)) = rest.split_first() else {
-            return Ok((declarations, rest));
-        };
-        if !is_symbol(Symbol::Comma, first.kind) {
-            return Ok((declarations, rest));
-        }
-        let (next, after) = declaration(alloc, inner)?;
-        declarations.push(next)?;
-        rest = same(after);
-    }
-    Ok((declarations, rest))
-}
-
-#[tactic(auto, unfolding(vx_grammar::specs::MemberReading::declarations_at))]
-fn declarations<'t>(alloc: Global, tokens: &'t [Token<'t>]) -> Read<'t, Vec<Declaration>>
-    ensures { Gives (λ x. (declarations_of x.0.items, tokens_in x.1.now)) result (reading.declarations_at (tokens_in tokens.now)) }
-{
-    let (first, rest) = declaration(alloc, tokens)?;
-    more_declarations(alloc, one(alloc, first)?, rest)
-}
-
-fn one(alloc: Global, declaration: Declaration) -> Result<Vec<Declaration>, AllocError>
-    ensures { IfOk result (λ ds. declarations_of ds.items ≡ written_declaration declaration ∷ []) }
-{
-    let mut declarations = Vec::new(alloc);
-    declarations.push(declaration)?;
-    Ok(declarations)
-}
-
-// Declarations between parentheses.
-#[tactic(auto, unfolding(vx_grammar::specs::MemberReading::parameters_at))]
-fn parameters<'t>(alloc: Global, tokens: &'t [Token<'t>]) -> Read<'t, Vec<Declaration>>
-    ensures { Gives (λ x. (declarations_of x.0.items, tokens_in x.1.now)) result (reading.parameters_at (tokens_in tokens.now)) }
-{
-    let (_, inner) = expect(Symbol::Open, tokens)?;
-    let (parameters, rest) = inner_parameters(alloc, inner)?;
-    let (_, rest) = expect(Symbol::Close, rest)?;
-    Ok((parameters, rest))
-}
-
-fn is_closing(tokens: &[Token]) -> bool
-    ensures { result ≡ reading.is_closing (tokens_in tokens.now) }
-{
-    match tokens.split_first() {
-        Some((first, _)) => is_symbol(Symbol::Close, first.kind),
-        None => false,
-    }
-}
-
-#[tactic(auto, unfolding(vx_grammar::specs::MemberReading::inner_parameters_at))]
-fn inner_parameters<'t>(alloc: Global, tokens: &'t [Token<'t>]) -> Read<'t, Vec<Declaration>>
-    ensures { Gives (λ x. (declarations_of x.0.items, tokens_in x.1.now)) result (reading.inner_parameters_at (tokens_in tokens.now)) }
-{
-    if is_closing(tokens) {
-        return Ok((Vec::new(alloc), tokens));
-    }
-    declarations(alloc, tokens)
 }
 
 fn begins_returns(kind: Kind) -> bool

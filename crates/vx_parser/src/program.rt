@@ -14,16 +14,17 @@ ghost use Rattle.vx_parser.specs.Refusing.{IsRefusal};
 ghost use Rattle.vx_parser.specs.Spelling.{Spells, IsProgram};
 ghost use Rattle.vx_parser.specs.declared.fault.TextFault.TheVariants as faults;
 ghost use Rattle.vx_parser.specs.declared.program.Halt.TheVariants.{Inside};
-ghost use Rattle.vx_parser.specs.declared.stop.Stop.TheVariants.{Memory};
+ghost use Rattle.vx_expr_parser.specs.declared.stop.Stop.TheVariants.{Memory};
 ghost use Rattle.vx_parser.specs.declared.stop.MemberStop.TheVariants.{Stopped};
 
 use crate::fault::TextFault;
 use crate::member::member;
 use crate::stmt::skip_semicolon;
-use crate::stop::{MemberStop, Stop};
+use crate::stop::MemberStop;
 use std::alloc::{AllocError, AllocFailed, Global};
 use std::str;
 use vx_ast::{Member, Place, Program};
+use vx_expr_parser::Stop;
 use vx_grammar::{
     measures_are_told, programs_are_spelled, reading_stops_at_first, spelled_programs_are_read,
 };

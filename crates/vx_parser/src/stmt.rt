@@ -1,27 +1,24 @@
 //! Reading statements.
 
 ghost use Rattle.std.specs.Prelude.{◌≡◌, ◌<◌, IfOk, Some, None, map, length, []};
-ghost use Rattle.vx_ast.specs.Written.{name_of, placed_type, written_all, written_expr, written_declaration, written_right, Declare, Invoke, If, Then, Done, While};
+ghost use Rattle.vx_ast.specs.Written.{name_of, written_all, written_expr, written_declaration, written_right, Declare, Invoke, If, Then, Done, While};
 ghost use Rattle.vx_tokens.specs.Tokens.{kind_of, token_of, tokens_in};
 ghost use Rattle.vx_grammar.specs.Reading.{below};
 ghost use Rattle.vx_grammar.specs.StmtReading as reading;
-ghost use Rattle.vx_parser.specs.Gives.{Gives};
+ghost use Rattle.vx_expr_parser.specs.Gives.{Gives};
 ghost use Rattle.vx_grammar.specs.Statements.{claim_meant, folding_meant};
 ghost use Rattle.vx_parser.specs.StmtPart.{stmt_part_of, claim_of, folding_of};
 ghost use Rattle.vx_grammar.specs.StmtReading.{block_from};
 ghost use Rattle.vx_grammar.specs.Reading.{run};
-ghost use Rattle.vx_parser.specs.Views.{stmt_of, other_of, block_of, exprs_of, instance_of};
+ghost use Rattle.vx_expr_parser.specs.Views.{exprs_of, instance_of};
+ghost use Rattle.vx_parser.specs.Views.{stmt_of, other_of, block_of};
 
-use crate::expr::{
-    Read, choice, enclosed_arguments, expect, grouped, instance, is_symbol, postfix,
-};
-use crate::name::{more_names, name};
-use crate::right::{one, right};
-use crate::stop::Stop;
 use std::alloc::{AllocError, Global};
 use std::rc::Rc;
-use vx_ast::{
-    Block, Declaration, Expr, ExprKind, Instance, Name, Place, Right, Stmt, StmtKind, ValueType,
+use vx_ast::{Block, Declaration, Expr, ExprKind, Instance, Name, Place, Right, Stmt, StmtKind};
+use vx_expr_parser::{
+    Read, Stop, choice, declaration, enclosed_arguments, expect, grouped, instance, is_symbol,
+    more_names, name, one_name, postfix, right,
 };
 use vx_tokens::{Kind, Symbol, Token, Word};
 
@@ -46,39 +43,6 @@ enum Claim {
 enum Folding {
     Fold,
     Unfold,
-}
-
-/// A type, and where it stands.
-#[tactic(auto, unfolding(vx_grammar::specs::StmtReading::type_at))]
-pub fn value_type<'t>(tokens: &'t [Token<'t>]) -> Read<'t, (ValueType, Place)>
-    ensures { Gives (λ x. (placed_type x.0.1 x.0.0, tokens_in x.1.now)) result (reading.type_at (tokens_in tokens.now)) }
-{
-    let Some((first, rest)) = tokens.split_first() else {
-        return Err(Stop::Unexpected(tokens));
-    };
-    match first.kind {
-        Kind::Word(Word::Int) => Ok(((ValueType::Int, first.place), rest)),
-        Kind::Word(Word::Bool) => Ok(((ValueType::Bool, first.place), rest)),
-        Kind::Word(Word::Ref) => Ok(((ValueType::Ref, first.place), rest)),
-        Kind::Word(Word::Perm) => Ok(((ValueType::Perm, first.place), rest)),
-        _ => Err(Stop::Unexpected(tokens)),
-    }
-}
-
-/// A name with its type.
-#[tactic(auto, unfolding(vx_grammar::specs::StmtReading::declaration_at))]
-pub fn declaration<'t>(alloc: Global, tokens: &'t [Token<'t>]) -> Read<'t, Declaration>
-    ensures { Gives (λ x. (written_declaration x.0, tokens_in x.1.now)) result (reading.declaration_at (tokens_in tokens.now)) }
-{
-    let (name, rest) = name(alloc, tokens)?;
-    let (_, rest) = expect(Symbol::Colon, rest)?;
-    let ((value_type, type_place), rest) = value_type(rest)?;
-    let declaration = Declaration {
-        name,
-        value_type,
-        type_place,
-    };
-    Ok((declaration, rest))
 }
 
 /// A block between braces.
@@ -255,7 +219,7 @@ fn assign<'t>(
     requires { room < 1000 }
     ensures { Gives (λ x. (stmt_of x.0, tokens_in x.1.now)) result (reading.assign_at room place (name_of target) (tokens_in tokens.now)) }
 {
-    let (targets, rest) = more_names(alloc, one(alloc, target)?, tokens)?;
+    let (targets, rest) = more_names(alloc, one_name(alloc, target)?, tokens)?;
     let (_, rest) = expect(Symbol::Becomes, rest)?;
     assigned_by(alloc, room, place, targets, rest)
 }

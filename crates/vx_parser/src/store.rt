@@ -7,10 +7,10 @@ ghost use Rattle.vx_tokens.specs.Tokens.{kind_of, token_of, tokens_in, Token as 
 ghost use Rattle.vx_parser.specs.Store as store;
 ghost use Rattle.vx_parser.specs.declared.fault.TextFault.TheVariants as faults;
 
-use crate::expr::same;
 use crate::fault::TextFault;
 use crate::program::unfit;
 use std::alloc::Global;
+use vx_expr_parser::same;
 use vx_tokens::{Kind, MAX_TEXT, Symbol, Token, Word, lex};
 
 /// Why a text leaves the store language: at its first token that the store language lacks, which is answered as

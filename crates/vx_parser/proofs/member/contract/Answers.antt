@@ -3,7 +3,8 @@ use Rattle.std.proofs.lemmas.Result.{err_from_is_err_and}
 use Rattle.vx_tokens.specs.Tokens.{token_of, tokens_in}
 use Rattle.vx_ast.specs.Written.{written_expr}
 use Rattle.vx_grammar.specs.MemberReading.{limit, clause_turn}
-use Rattle.vx_parser.proofs.Turns.{goes_on, is_over, is_done, halts, requires_on, ensures_on, clause_over, clause_end, measure_on, requires_stops, ensures_stops, measure_stops, empty_tokens}
+use Rattle.vx_expr_parser.proofs.Turns.{goes_on, is_over, is_done, halts, empty_tokens}
+use Rattle.vx_parser.proofs.Turns.{requires_on, ensures_on, clause_over, clause_end, measure_on, requires_stops, ensures_stops, measure_stops}
 use Rattle.vx_parser.proofs.member.contract.Goals as goal
 use Rattle.vx_parser.proofs.member.contract.Goals.{then-begins_requires+in_ok-e+in_ok-add_precondition, else-begins_requires+then-begins_ensures+in_ok-e-2+in_ok-add_postcondition, else-begins_requires+else-begins_ensures+then-is_due+in_ok-e-3+in_ok-add_measure}
 

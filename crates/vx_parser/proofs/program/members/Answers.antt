@@ -6,7 +6,7 @@ use Rattle.vx_ast.specs.declared.Member as the_member
 use Rattle.vx_ast.specs.Written.{written_member}
 use Rattle.vx_tokens.specs.Tokens.{token_of, tokens_in}
 use Rattle.vx_grammar.specs.MemberReading.{max_members}
-use Rattle.vx_parser.proofs.Turns.{empty_tokens}
+use Rattle.vx_expr_parser.proofs.Turns.{empty_tokens}
 use Rattle.vx_parser.proofs.Members.{member_on, member_end, member_none, member_many, member_stops, member_left, some_tokens}
 use Rattle.vx_parser.proofs.program.members.Goals as goal
 

@@ -1,6 +1,6 @@
 use Rattle.std.proofs.Common.{rules}
 use Rattle.vx_ast.specs.declared.ExprKind as the_kind
-use Rattle.vx_parser.proofs.Rows.{call_row}
+use Rattle.vx_expr_parser.proofs.Rows.{call_row}
 use Rattle.vx_parser.proofs.stmt.by_target.Goals as goal
 
 pub returns-in-Call : goal.returns-in-Call

@@ -1,8 +1,8 @@
 use Rattle.std.proofs.Common.{List, ap}
 use Rattle.vx_tokens.specs.Tokens.{Token, tokens_in}
 use Rattle.vx_ast.specs.Written.{Exprs, written_all}
-use Rattle.vx_parser.specs.Views.{exprs_of}
-use Rattle.vx_parser.proofs.Rows.{all_items}
+use Rattle.vx_expr_parser.specs.Views.{exprs_of}
+use Rattle.vx_expr_parser.proofs.Rows.{all_items}
 use Rattle.vx_parser.proofs.Turns.{invariants_is}
 use Rattle.vx_parser.proofs.stmt.invariants.Goals as goal
 

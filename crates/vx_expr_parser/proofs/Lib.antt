@@ -1,0 +1,4 @@
+pub mod Turns
+pub mod Steps
+pub mod Says
+pub mod Rows

@@ -1,0 +1,727 @@
+//! Reading expressions.
+
+ghost use Rattle.std.specs.Prelude.{◌≡◌, ◌≤◌, ◌<◌, ◌-◌, IfOk, Ok, ◌∷◌, [], length};
+ghost use Rattle.vx_tokens.specs.Tokens.{kind_of, token_of, tokens_in};
+ghost use Rattle.vx_grammar.specs.Grammar.{level_of, operator_of};
+ghost use Rattle.vx_ast.specs.Written.{placed, written_all, written_expr, written_optional};
+ghost use Rattle.vx_grammar.specs.Reading as reading;
+ghost use Rattle.vx_expr_parser.specs.Gives.{Gives};
+ghost use Rattle.vx_grammar.specs.Laws.{whole, SpelledWithin};
+ghost use Rattle.vx_expr_parser.specs.Says.{SaysOf};
+ghost use Rattle.vx_ast.specs.Written.{Expr as Tree};
+ghost use Rattle.vx_expr_parser.specs.Views.{exprs_of, access_of, instance_of};
+
+use crate::made::{accessed, applied, chosen, joined, old, prefixed, read, unfolded};
+use crate::names::name;
+use crate::reading::{Read, expect, is_symbol, same};
+use crate::stop::Stop;
+use std::alloc::{AllocError, Global};
+use std::rc::Rc;
+use vx_ast::{BinaryOperator, Expr, ExprKind, Instance, Name, Place, UnaryOperator};
+use vx_grammar::{answers_are_right, spelled_is_read};
+use vx_tokens::{Kind, Symbol, Token, Word};
+
+/// What `acc` holds, and how much of it.
+#[derive(Drop)]
+struct Access {
+    held: Expr,
+    amount: Option<Rc<Expr>>,
+}
+
+fn operator_of(kind: Kind) -> Option<BinaryOperator>
+    ensures { result ≡ operator_of (kind_of kind.entry) }
+{
+    match kind {
+        Kind::Symbol(Symbol::Implies) => Some(BinaryOperator::Implies),
+        Kind::Symbol(Symbol::Or) => Some(BinaryOperator::Or),
+        Kind::Symbol(Symbol::And) => Some(BinaryOperator::And),
+        Kind::Symbol(Symbol::Equal) => Some(BinaryOperator::Equal),
+        Kind::Symbol(Symbol::NotEqual) => Some(BinaryOperator::NotEqual),
+        Kind::Symbol(Symbol::Less) => Some(BinaryOperator::Less),
+        Kind::Symbol(Symbol::LessEqual) => Some(BinaryOperator::LessEqual),
+        Kind::Symbol(Symbol::Greater) => Some(BinaryOperator::Greater),
+        Kind::Symbol(Symbol::GreaterEqual) => Some(BinaryOperator::GreaterEqual),
+        Kind::Symbol(Symbol::Plus) => Some(BinaryOperator::Add),
+        Kind::Symbol(Symbol::Minus) => Some(BinaryOperator::Subtract),
+        Kind::Symbol(Symbol::Times) => Some(BinaryOperator::Multiply),
+        Kind::Symbol(Symbol::Slash) => Some(BinaryOperator::Divide),
+        Kind::Symbol(Symbol::Backslash) => Some(BinaryOperator::Quotient),
+        Kind::Symbol(Symbol::Percent) => Some(BinaryOperator::Remainder),
+        _ => None,
+    }
+}
+
+fn level_of(op: BinaryOperator) -> u32
+    ensures { result ≡ level_of op }
+{
+    match op {
+        BinaryOperator::Multiply
+        | BinaryOperator::Divide
+        | BinaryOperator::Quotient
+        | BinaryOperator::Remainder => 1,
+        BinaryOperator::Add | BinaryOperator::Subtract => 2,
+        BinaryOperator::Less
+        | BinaryOperator::LessEqual
+        | BinaryOperator::Greater
+        | BinaryOperator::GreaterEqual => 3,
+        BinaryOperator::Equal | BinaryOperator::NotEqual => 4,
+        BinaryOperator::And => 5,
+        BinaryOperator::Or => 6,
+        BinaryOperator::Implies => 7,
+    }
+}
+
+// The expression that all of the tokens spell.
+#[tactic(auto, unfolding(vx_grammar::specs::Laws::whole))]
+fn whole<'t>(alloc: Global, tokens: &'t [Token<'t>]) -> Result<Expr, Stop<'t>>
+    ensures { Gives written_expr result (whole 200 (tokens_in tokens.now)) }
+{
+    let (e, rest) = choice(alloc, 200, tokens)?;
+    if rest.is_empty() {
+        Ok(e)
+    } else {
+        Err(Stop::Unexpected(rest))
+    }
+}
+
+/// The expression that all of the tokens spell.
+pub fn expression<'t>(alloc: Global, tokens: &'t [Token<'t>]) -> Result<Expr, Stop<'t>>
+    // What is read is spelled so, within the limit; and where reading stops, the first token that does not fit stands,
+    // or nests too deep.
+    ensures says { SaysOf 200 (tokens_in tokens.now) result }
+    // What is spelled within the limit is read, unless memory runs out.
+    ensures only { (e : Tree) → SpelledWithin 200 (tokens_in tokens.now) e → Gives written_expr result (Ok e) }
+{
+    answers_are_right();
+    spelled_is_read();
+    whole(alloc, tokens)
+}
+
+/// An expression that may nest room deeper.
+#[cycle(expr)]
+#[tactic(auto, unfolding(vx_grammar::specs::Reading::choice_at, vx_grammar::specs::Reading::chosen_by))]
+pub fn choice<'t>(alloc: Global, room: u32, tokens: &'t [Token<'t>]) -> Read<'t, Expr>
+    requires { room < 1000 }
+    ensures { Gives (λ x. (written_expr x.0, tokens_in x.1.now)) result (reading.choice_at (reading.below room) (tokens_in tokens.now)) }
+{
+    let Some(first) = tokens.first() else {
+        return Err(Stop::Unexpected(tokens));
+    };
+    let (condition, rest) = implication(alloc, room, tokens)?;
+    match rest.split_first() {
+        Some((question, inner)) if is_symbol(Symbol::Question, question.kind) => {
+            sides(alloc, room, first.place, condition, question, rest, inner)
+        }
+        _ => Ok((condition, rest)),
+    }
+}
+
+// The sides of a choice, behind its condition and the question mark at which `here` begins.
+#[cycle(expr)]
+#[tactic(auto, unfolding(vx_grammar::specs::Reading::sides_by))]
+fn sides<'t>(
+    alloc: Global,
+    room: u32,
+    place: Place,
+    condition: Expr,
+    question: &'t Token<'t>,
+    here: &'t [Token<'t>],
+    tokens: &'t [Token<'t>],
+) -> Read<'t, Expr>
+    requires room { room < 1000 }
+    requires first { tokens_in here.now ≡ token_of question.now ∷ tokens_in tokens.now }
+    ensures { Gives (λ x. (written_expr x.0, tokens_in x.1.now)) result (reading.sides_by (reading.below room) place (written_expr condition) (token_of question.now) (tokens_in tokens.now)) }
+{
+    let (left, rest) = nested_choice(alloc, room, here, tokens)?;
+    let (right, rest) = second(alloc, room, rest)?;
+    Ok((chosen(alloc, place, condition, left, right)?, rest))
+}
+
+// A colon, and the side behind it.
+#[cycle(expr)]
+#[tactic(auto, unfolding(vx_grammar::specs::Reading::second_by))]
+fn second<'t>(alloc: Global, room: u32, tokens: &'t [Token<'t>]) -> Read<'t, Expr>
+    requires { room < 1000 }
+    ensures { Gives (λ x. (written_expr x.0, tokens_in x.1.now)) result (reading.second_by (reading.below room) (tokens_in tokens.now)) }
+{
+    let (_, inner) = expect(Symbol::Colon, tokens)?;
+    nested_choice(alloc, room, tokens, inner)
+}
+
+#[cycle(expr)]
+#[tactic(auto, unfolding(vx_grammar::specs::Reading::implication_at, vx_grammar::specs::Reading::implied_by, vx_grammar::specs::Reading::implies_by))]
+fn implication<'t>(alloc: Global, room: u32, tokens: &'t [Token<'t>]) -> Read<'t, Expr>
+    requires { room < 1000 }
+    ensures { Gives (λ x. (written_expr x.0, tokens_in x.1.now)) result (reading.implication_at (reading.below room) (tokens_in tokens.now)) }
+{
+    let Some(first) = tokens.first() else {
+        return Err(Stop::Unexpected(tokens));
+    };
+    let (left, rest) = chain(alloc, room, 6, tokens)?;
+    match rest.split_first() {
+        Some((arrow, inner)) if is_symbol(Symbol::Implies, arrow.kind) => {
+            let (right, rest) = nested_implication(alloc, room, rest, inner)?;
+            Ok((
+                joined(alloc, first.place, BinaryOperator::Implies, left, right)?,
+                rest,
+            ))
+        }
+        _ => Ok((left, rest)),
+    }
+}
+
+// A chain of operators of the level, or of what binds tighter.
+#[cycle(expr)]
+#[tactic(auto, unfolding(vx_grammar::specs::Reading::chain_at))]
+fn chain<'t>(alloc: Global, room: u32, level: u32, tokens: &'t [Token<'t>]) -> Read<'t, Expr>
+    requires room { room < 1000 }
+    requires level { level ≤ 6 }
+    ensures { Gives (λ x. (written_expr x.0, tokens_in x.1.now)) result (reading.chain_at (reading.below room) level (tokens_in tokens.now)) }
+{
+    if level == 0 {
+        return unary(alloc, room, tokens);
+    }
+    let Some(first) = tokens.first() else {
+        return Err(Stop::Unexpected(tokens));
+    };
+    let (left, rest) = chain(alloc, room, level - 1, tokens)?;
+    rest_of_chain(alloc, room, level, first.place, left, rest)
+}
+
+#[cycle(expr)]
+#[tactic(auto, unfolding(vx_grammar::specs::Reading::rest_at, vx_grammar::specs::Reading::rest_by, vx_grammar::specs::Reading::operator_by))]
+fn rest_of_chain<'t>(
+    alloc: Global,
+    room: u32,
+    level: u32,
+    place: Place,
+    left: Expr,
+    tokens: &'t [Token<'t>],
+) -> Read<'t, Expr>
+    requires room { room < 1000 }
+    requires low { 1 ≤ level }
+    requires level { level ≤ 6 }
+    ensures { Gives (λ x. (written_expr x.0, tokens_in x.1.now)) result (reading.rest_at (reading.below room) (level - 1) place (written_expr left) (tokens_in tokens.now)) }
+{
+    let Some((first, inner)) = tokens.split_first() else {
+        return Ok((left, tokens));
+    };
+    match operator_of(first.kind) {
+        Some(op) if level_of(op) == level => {
+            let Some(less) = room.checked_sub(1) else {
+                return Err(Stop::TooDeep(tokens));
+            };
+            let (right, rest) = chain(alloc, less, level - 1, inner)?;
+            let left = joined(alloc, place, op, left, right)?;
+            rest_of_chain(alloc, less, level, place, left, rest)
+        }
+        _ => Ok((left, tokens)),
+    }
+}
+
+#[cycle(expr)]
+#[tactic(auto, unfolding(vx_grammar::specs::Reading::unary_at, vx_grammar::specs::Reading::unary_by))]
+fn unary<'t>(alloc: Global, room: u32, tokens: &'t [Token<'t>]) -> Read<'t, Expr>
+    requires { room < 1000 }
+    ensures { Gives (λ x. (written_expr x.0, tokens_in x.1.now)) result (reading.unary_at (reading.below room) (tokens_in tokens.now)) }
+{
+    let Some((first, inner)) = tokens.split_first() else {
+        return Err(Stop::Unexpected(tokens));
+    };
+    let place = first.place;
+    match first.kind {
+        Kind::Symbol(Symbol::Not) => {
+            let (e, rest) = nested_operand(alloc, room, tokens, inner)?;
+            Ok((prefixed(alloc, place, UnaryOperator::Not, e)?, rest))
+        }
+        Kind::Symbol(Symbol::Minus) => {
+            let (e, rest) = nested_operand(alloc, room, tokens, inner)?;
+            Ok((prefixed(alloc, place, UnaryOperator::Negate, e)?, rest))
+        }
+        Kind::Word(Word::Unfolding) => unfolding(alloc, room, first, inner),
+        _ => postfix(alloc, room, first, tokens, inner),
+    }
+}
+
+/// What a dot may stand behind, and dots.
+#[cycle(expr)]
+#[tactic(auto, unfolding(vx_grammar::specs::Reading::postfix_by))]
+pub fn postfix<'t>(
+    alloc: Global,
+    room: u32,
+    first: &'t Token<'t>,
+    tokens: &'t [Token<'t>],
+    inner: &'t [Token<'t>],
+) -> Read<'t, Expr>
+    requires room { room < 1000 }
+    requires first { tokens_in tokens.now ≡ token_of first.now ∷ tokens_in inner.now }
+    ensures { Gives (λ x. (written_expr x.0, tokens_in x.1.now)) result (reading.postfix_by (reading.below room) (token_of first.now) (kind_of first.now.kind) (tokens_in inner.now)) }
+{
+    let (e, rest) = primary(alloc, room, first, tokens, inner)?;
+    dots(alloc, room, first.place, e, rest)
+}
+
+// What a dot may stand behind.
+#[cycle(expr)]
+#[tactic(auto, unfolding(vx_grammar::specs::Reading::primary_by, vx_grammar::specs::Reading::old_by, vx_grammar::specs::Reading::access_by))]
+fn primary<'t>(
+    alloc: Global,
+    room: u32,
+    first: &'t Token<'t>,
+    tokens: &'t [Token<'t>],
+    inner: &'t [Token<'t>],
+) -> Read<'t, Expr>
+    requires room { room < 1000 }
+    requires first { tokens_in tokens.now ≡ token_of first.now ∷ tokens_in inner.now }
+    ensures { Gives (λ x. (written_expr x.0, tokens_in x.1.now)) result (reading.primary_by (reading.below room) (token_of first.now) (kind_of first.now.kind) (tokens_in inner.now)) }
+{
+    let place = first.place;
+    match first.kind {
+        Kind::Name(name) => named(alloc, room, first, name, inner),
+        Kind::Number(value) => Ok((leaf(place, ExprKind::Number(value)), inner)),
+        Kind::Word(Word::True) => Ok((leaf(place, ExprKind::Boolean(true)), inner)),
+        Kind::Word(Word::False) => Ok((leaf(place, ExprKind::Boolean(false)), inner)),
+        Kind::Word(Word::Null) => Ok((leaf(place, ExprKind::Null), inner)),
+        Kind::Word(Word::Write) => Ok((leaf(place, ExprKind::Write), inner)),
+        Kind::Word(Word::Nothing) => Ok((leaf(place, ExprKind::Nothing), inner)),
+        Kind::Word(Word::Outcome) => Ok((leaf(place, ExprKind::Outcome), inner)),
+        Kind::Word(Word::Old) => {
+            let (e, rest) = grouped(alloc, room, inner)?;
+            Ok((old(alloc, place, e)?, rest))
+        }
+        Kind::Word(Word::Acc) => {
+            let (access, rest) = enclosed_access(alloc, room, inner)?;
+            Ok((accessed(alloc, place, access.held, access.amount)?, rest))
+        }
+        Kind::Symbol(Symbol::Open) => grouped(alloc, room, tokens),
+        _ => Err(Stop::Unexpected(tokens)),
+    }
+}
+
+fn leaf(place: Place, kind: ExprKind) -> Expr
+    ensures { result.place ≡ place × (result.kind ≡ kind) }
+{
+    Expr { place, kind }
+}
+
+// A variable, or an application.
+#[cycle(expr)]
+#[tactic(auto, unfolding(vx_grammar::specs::Reading::named_by, vx_grammar::specs::Reading::call_by))]
+fn named<'t>(
+    alloc: Global,
+    room: u32,
+    first: &'t Token<'t>,
+    name: &str,
+    tokens: &'t [Token<'t>],
+) -> Read<'t, Expr>
+    requires { room < 1000 }
+    ensures { Gives (λ x. (written_expr x.0, tokens_in x.1.now)) result (reading.named_by (reading.below room) (token_of first.now) name.now (tokens_in tokens.now)) }
+{
+    let place = first.place;
+    match tokens.first() {
+        Some(open) if is_symbol(Symbol::Open, open.kind) => {
+            let (arguments, rest) = enclosed_arguments(alloc, room, tokens)?;
+            let name = String::from_str(alloc, name)?;
+            Ok((applied(place, name, arguments), rest))
+        }
+        _ => {
+            let kind = ExprKind::Variable(String::from_str(alloc, name)?);
+            Ok((Expr { place, kind }, tokens))
+        }
+    }
+}
+
+// Dots, each with a field's name.
+#[cycle(dots)]
+#[tactic(auto, unfolding(vx_grammar::specs::Reading::dots_at))]
+fn dots<'t>(
+    alloc: Global,
+    room: u32,
+    place: Place,
+    left: Expr,
+    tokens: &'t [Token<'t>],
+) -> Read<'t, Expr>
+    requires { room < 1000 }
+    ensures { Gives (λ x. (written_expr x.0, tokens_in x.1.now)) result (reading.dots_at (reading.below room) place (written_expr left) (tokens_in tokens.now)) }
+{
+    match tokens.split_first() {
+        Some((dot, inner)) if is_symbol(Symbol::Dot, dot.kind) => {
+            nested_dot(alloc, room, place, left, tokens, inner)
+        }
+        _ => Ok((left, tokens)),
+    }
+}
+
+// A field's name behind a dot, which nests it, and further dots.
+#[cycle(dots)]
+fn nested_dot<'t>(
+    alloc: Global,
+    room: u32,
+    place: Place,
+    left: Expr,
+    here: &'t [Token<'t>],
+    tokens: &'t [Token<'t>],
+) -> Read<'t, Expr>
+    requires { room < 1000 }
+    ensures { Gives (λ x. (written_expr x.0, tokens_in x.1.now)) result (reading.below room (reading.behind_dot place (written_expr left)) (tokens_in here.now) (tokens_in tokens.now)) }
+{
+    match room.checked_sub(1) {
+        Some(less) => dotted(alloc, less, place, left, tokens),
+        None => Err(Stop::TooDeep(here)),
+    }
+}
+
+#[cycle(dots)]
+#[tactic(auto, unfolding(vx_grammar::specs::Reading::dotted_at))]
+fn dotted<'t>(
+    alloc: Global,
+    room: u32,
+    place: Place,
+    left: Expr,
+    tokens: &'t [Token<'t>],
+) -> Read<'t, Expr>
+    requires { room < 1000 }
+    ensures { Gives (λ x. (written_expr x.0, tokens_in x.1.now)) result (reading.dotted_at (reading.below room) place (written_expr left) (tokens_in tokens.now)) }
+{
+    let (field, rest) = name(alloc, tokens)?;
+    let left = read(alloc, place, left, field)?;
+    dots(alloc, room, place, left, rest)
+}
+
+/// An expression between parentheses.
+#[cycle(expr)]
+#[tactic(auto, unfolding(vx_grammar::specs::Reading::enclosed))]
+pub fn grouped<'t>(alloc: Global, room: u32, tokens: &'t [Token<'t>]) -> Read<'t, Expr>
+    requires { room < 1000 }
+    ensures { Gives (λ x. (written_expr x.0, tokens_in x.1.now)) result (reading.enclosed (reading.below room) reading.choice (tokens_in tokens.now)) }
+{
+    let (_, inner) = expect(Symbol::Open, tokens)?;
+    let (e, rest) = nested_choice(alloc, room, tokens, inner)?;
+    let (_, rest) = expect(Symbol::Close, rest)?;
+    Ok((e, rest))
+}
+
+/// Arguments between parentheses.
+#[cycle(expr)]
+#[tactic(auto, unfolding(vx_grammar::specs::Reading::enclosed))]
+pub fn enclosed_arguments<'t>(
+    alloc: Global,
+    room: u32,
+    tokens: &'t [Token<'t>],
+) -> Read<'t, Vec<Rc<Expr>>>
+    requires { room < 1000 }
+    ensures { Gives (λ x. (written_all x.0.items, tokens_in x.1.now)) result (reading.enclosed (reading.below room) reading.arguments (tokens_in tokens.now)) }
+{
+    let (_, inner) = expect(Symbol::Open, tokens)?;
+    let (arguments, rest) = nested_arguments(alloc, room, tokens, inner)?;
+    let (_, rest) = expect(Symbol::Close, rest)?;
+    Ok((arguments, rest))
+}
+
+// What `acc` holds, between parentheses.
+#[cycle(expr)]
+#[tactic(auto, unfolding(vx_grammar::specs::Reading::enclosed))]
+fn enclosed_access<'t>(alloc: Global, room: u32, tokens: &'t [Token<'t>]) -> Read<'t, Access>
+    requires { room < 1000 }
+    ensures { Gives (λ x. (access_of x.0, tokens_in x.1.now)) result (reading.enclosed (reading.below room) reading.access (tokens_in tokens.now)) }
+{
+    let (_, inner) = expect(Symbol::Open, tokens)?;
+    let (access, rest) = nested_access(alloc, room, tokens, inner)?;
+    let (_, rest) = expect(Symbol::Close, rest)?;
+    Ok((access, rest))
+}
+
+#[cycle(expr)]
+#[tactic(auto, unfolding(vx_grammar::specs::Reading::arguments_at))]
+fn arguments<'t>(alloc: Global, room: u32, tokens: &'t [Token<'t>]) -> Read<'t, Vec<Rc<Expr>>>
+    requires { room < 1000 }
+    ensures { Gives (λ x. (written_all x.0.items, tokens_in x.1.now)) result (reading.arguments_at (reading.below room) (tokens_in tokens.now)) }
+{
+    match tokens.first() {
+        None => Err(Stop::Unexpected(tokens)),
+        Some(first) if is_symbol(Symbol::Close, first.kind) => Ok((Vec::new(alloc), tokens)),
+        Some(_) => some_arguments(alloc, room, tokens),
+    }
+}
+
+// One argument at least.
+#[cycle(expr)]
+#[tactic(auto, unfolding(vx_grammar::specs::Reading::some_arguments))]
+fn some_arguments<'t>(alloc: Global, room: u32, tokens: &'t [Token<'t>]) -> Read<'t, Vec<Rc<Expr>>>
+    requires { room < 1000 }
+    ensures { Gives (λ x. (written_all x.0.items, tokens_in x.1.now)) result (reading.some_arguments (reading.below room) (tokens_in tokens.now)) }
+{
+    let (e, rest) = choice(alloc, room, tokens)?;
+    more_arguments(alloc, room, one(alloc, e)?, rest)
+}
+
+fn one(alloc: Global, e: Expr) -> Result<Vec<Rc<Expr>>, AllocError>
+    ensures { IfOk result (λ es. exprs_of es.items ≡ written_expr e ∷ []) }
+{
+    let mut es = Vec::new(alloc);
+    es.push(Rc::new(alloc, e)?)?;
+    Ok(es)
+}
+
+// What follows an argument, each behind a comma.
+#[cycle(expr)]
+fn more_arguments<'t>(
+    alloc: Global,
+    room: u32,
+    mut arguments: Vec<Rc<Expr>>,
+    tokens: &'t [Token<'t>],
+) -> Read<'t, Vec<Rc<Expr>>>
+    requires { room < 1000 }
+    ensures { Gives (λ x. (exprs_of x.0.items, tokens_in x.1.now)) result (reading.run (reading.argument_turn (reading.below room)) (length (tokens_in tokens.now)) (exprs_of arguments.items) (tokens_in tokens.now)) }
+{
+    let mut rest = tokens;
+    for _ in 0..tokens.len() {
+        let Some((first, inner)) = rest.split_first() else {
+            return Ok((arguments, rest));
+        };
+        if !is_symbol(Symbol::Comma, first.kind) {
+            return Ok((arguments, rest));
+        }
+        let (next, after) = choice(alloc, room, inner)?;
+        arguments.push(Rc::new(alloc, next)?)?;
+        rest = same(after);
+    }
+    Ok((arguments, rest))
+}
+
+#[cycle(expr)]
+#[tactic(auto, unfolding(vx_grammar::specs::Reading::access_at))]
+fn access_inside<'t>(alloc: Global, room: u32, tokens: &'t [Token<'t>]) -> Read<'t, Access>
+    requires { room < 1000 }
+    ensures { Gives (λ x. (access_of x.0, tokens_in x.1.now)) result (reading.access_at (reading.below room) (tokens_in tokens.now)) }
+{
+    let (held, rest) = choice(alloc, room, tokens)?;
+    let (amount, rest) = amount(alloc, room, rest)?;
+    Ok((Access { held, amount }, rest))
+}
+
+// An amount behind a comma, or none.
+#[cycle(expr)]
+#[tactic(auto, unfolding(vx_grammar::specs::Reading::amount_at, vx_grammar::specs::Reading::amount_by))]
+fn amount<'t>(alloc: Global, room: u32, tokens: &'t [Token<'t>]) -> Read<'t, Option<Rc<Expr>>>
+    requires { room < 1000 }
+    ensures { Gives (λ x. (written_optional x.0, tokens_in x.1.now)) result (reading.amount_at (reading.below room) (tokens_in tokens.now)) }
+{
+    match tokens.split_first() {
+        Some((comma, inner)) if is_symbol(Symbol::Comma, comma.kind) => {
+            let (e, rest) = choice(alloc, room, inner)?;
+            Ok((Some(Rc::new(alloc, e)?), rest))
+        }
+        _ => Ok((None, tokens)),
+    }
+}
+
+// ---- instances and unfoldings
+
+/// An instance, with an amount where it stands in `acc`.
+#[cycle(expr)]
+#[tactic(auto, unfolding(vx_grammar::specs::Reading::instance_at))]
+pub fn instance<'t>(alloc: Global, room: u32, tokens: &'t [Token<'t>]) -> Read<'t, Instance>
+    requires { room < 1000 }
+    ensures { Gives (λ x. (instance_of x.0, tokens_in x.1.now)) result (reading.instance_at (reading.below room) (tokens_in tokens.now)) }
+{
+    let Some((first, inner)) = tokens.split_first() else {
+        return Err(Stop::Unexpected(tokens));
+    };
+    match first.kind {
+        Kind::Name(text) => alone(alloc, room, first.place, text, inner),
+        Kind::Word(Word::Acc) => enclosed_holding(alloc, room, inner),
+        _ => Err(Stop::Unexpected(tokens)),
+    }
+}
+
+// What stands behind the name of an instance without an amount.
+#[cycle(expr)]
+#[tactic(auto, unfolding(vx_grammar::specs::Reading::bare_by))]
+fn alone<'t>(
+    alloc: Global,
+    room: u32,
+    place: Place,
+    text: &str,
+    tokens: &'t [Token<'t>],
+) -> Read<'t, Instance>
+    requires { room < 1000 }
+    ensures { Gives (λ x. (instance_of x.0, tokens_in x.1.now)) result (reading.bare_by (reading.below room) (placed place text.now) (tokens_in tokens.now)) }
+{
+    let (arguments, rest) = enclosed_arguments(alloc, room, tokens)?;
+    let text = String::from_str(alloc, text)?;
+    let instance = Instance {
+        predicate: Name { text, place },
+        arguments,
+        amount: None,
+    };
+    Ok((instance, rest))
+}
+
+// What `acc` holds, between parentheses.
+#[cycle(expr)]
+#[tactic(auto, unfolding(vx_grammar::specs::Reading::enclosed))]
+fn enclosed_holding<'t>(alloc: Global, room: u32, tokens: &'t [Token<'t>]) -> Read<'t, Instance>
+    requires { room < 1000 }
+    ensures { Gives (λ x. (instance_of x.0, tokens_in x.1.now)) result (reading.enclosed (reading.below room) reading.holding (tokens_in tokens.now)) }
+{
+    let (_, inner) = expect(Symbol::Open, tokens)?;
+    let (instance, rest) = nested_holding(alloc, room, tokens, inner)?;
+    let (_, rest) = expect(Symbol::Close, rest)?;
+    Ok((instance, rest))
+}
+
+#[cycle(expr)]
+fn nested_holding<'t>(
+    alloc: Global,
+    room: u32,
+    here: &'t [Token<'t>],
+    tokens: &'t [Token<'t>],
+) -> Read<'t, Instance>
+    requires { room < 1000 }
+    ensures { Gives (λ x. (instance_of x.0, tokens_in x.1.now)) result (reading.below room reading.holding (tokens_in here.now) (tokens_in tokens.now)) }
+{
+    match room.checked_sub(1) {
+        Some(less) => holding(alloc, less, tokens),
+        None => Err(Stop::TooDeep(here)),
+    }
+}
+
+#[cycle(expr)]
+#[tactic(auto, unfolding(vx_grammar::specs::Reading::holding_at))]
+fn holding<'t>(alloc: Global, room: u32, tokens: &'t [Token<'t>]) -> Read<'t, Instance>
+    requires { room < 1000 }
+    ensures { Gives (λ x. (instance_of x.0, tokens_in x.1.now)) result (reading.holding_at (reading.below room) (tokens_in tokens.now)) }
+{
+    let (predicate, rest) = name(alloc, tokens)?;
+    let (arguments, rest) = enclosed_arguments(alloc, room, rest)?;
+    let (amount, rest) = amount(alloc, room, rest)?;
+    let instance = Instance {
+        predicate,
+        arguments,
+        amount,
+    };
+    Ok((instance, rest))
+}
+
+fn begins_body(kind: Kind) -> bool
+    ensures { result ≡ reading.begins_body (kind_of kind.entry) }
+{
+    matches!(kind, Kind::Word(Word::In))
+}
+
+// What stands behind `unfolding`.
+#[cycle(expr)]
+#[tactic(auto, unfolding(vx_grammar::specs::Reading::unfolding_by))]
+fn unfolding<'t>(
+    alloc: Global,
+    room: u32,
+    first: &'t Token<'t>,
+    tokens: &'t [Token<'t>],
+) -> Read<'t, Expr>
+    requires { room < 1000 }
+    ensures { Gives (λ x. (written_expr x.0, tokens_in x.1.now)) result (reading.unfolding_by (reading.below room) (token_of first.now) (tokens_in tokens.now)) }
+{
+    let place = first.place;
+    let (instance, rest) = instance(alloc, room, tokens)?;
+    let (body, rest) = behind_in(alloc, room, rest)?;
+    Ok((unfolded(place, instance, Rc::new(alloc, body)?), rest))
+}
+
+// `in`, and the body behind it.
+#[cycle(expr)]
+#[tactic(auto, unfolding(vx_grammar::specs::Reading::behind_in))]
+fn behind_in<'t>(alloc: Global, room: u32, tokens: &'t [Token<'t>]) -> Read<'t, Expr>
+    requires { room < 1000 }
+    ensures { Gives (λ x. (written_expr x.0, tokens_in x.1.now)) result (reading.behind_in (reading.below room) (tokens_in tokens.now)) }
+{
+    match tokens.split_first() {
+        Some((first, inner)) if begins_body(first.kind) => {
+            nested_choice(alloc, room, tokens, inner)
+        }
+        _ => Err(Stop::Unexpected(tokens)),
+    }
+}
+
+// ---- parts that the token before them nests one deeper
+
+/// An expression that the token at which `here` begins nests one deeper.
+#[cycle(expr)]
+pub fn nested_choice<'t>(
+    alloc: Global,
+    room: u32,
+    here: &'t [Token<'t>],
+    tokens: &'t [Token<'t>],
+) -> Read<'t, Expr>
+    requires { room < 1000 }
+    ensures { Gives (λ x. (written_expr x.0, tokens_in x.1.now)) result (reading.below room reading.choice (tokens_in here.now) (tokens_in tokens.now)) }
+{
+    match room.checked_sub(1) {
+        Some(less) => choice(alloc, less, tokens),
+        None => Err(Stop::TooDeep(here)),
+    }
+}
+
+#[cycle(expr)]
+fn nested_implication<'t>(
+    alloc: Global,
+    room: u32,
+    here: &'t [Token<'t>],
+    tokens: &'t [Token<'t>],
+) -> Read<'t, Expr>
+    requires { room < 1000 }
+    ensures { Gives (λ x. (written_expr x.0, tokens_in x.1.now)) result (reading.below room reading.implication (tokens_in here.now) (tokens_in tokens.now)) }
+{
+    match room.checked_sub(1) {
+        Some(less) => implication(alloc, less, tokens),
+        None => Err(Stop::TooDeep(here)),
+    }
+}
+
+#[cycle(expr)]
+fn nested_operand<'t>(
+    alloc: Global,
+    room: u32,
+    here: &'t [Token<'t>],
+    tokens: &'t [Token<'t>],
+) -> Read<'t, Expr>
+    requires { room < 1000 }
+    ensures { Gives (λ x. (written_expr x.0, tokens_in x.1.now)) result (reading.below room (reading.chain 0) (tokens_in here.now) (tokens_in tokens.now)) }
+{
+    match room.checked_sub(1) {
+        Some(less) => chain(alloc, less, 0, tokens),
+        None => Err(Stop::TooDeep(here)),
+    }
+}
+
+#[cycle(expr)]
+fn nested_arguments<'t>(
+    alloc: Global,
+    room: u32,
+    here: &'t [Token<'t>],
+    tokens: &'t [Token<'t>],
+) -> Read<'t, Vec<Rc<Expr>>>
+    requires { room < 1000 }
+    ensures { Gives (λ x. (written_all x.0.items, tokens_in x.1.now)) result (reading.below room reading.arguments (tokens_in here.now) (tokens_in tokens.now)) }
+{
+    match room.checked_sub(1) {
+        Some(less) => arguments(alloc, less, tokens),
+        None => Err(Stop::TooDeep(here)),
+    }
+}
+
+#[cycle(expr)]
+fn nested_access<'t>(
+    alloc: Global,
+    room: u32,
+    here: &'t [Token<'t>],
+    tokens: &'t [Token<'t>],
+) -> Read<'t, Access>
+    requires { room < 1000 }
+    ensures { Gives (λ x. (access_of x.0, tokens_in x.1.now)) result (reading.below room reading.access (tokens_in here.now) (tokens_in tokens.now)) }
+{
+    match room.checked_sub(1) {
+        Some(less) => access_inside(alloc, less, tokens),
+        None => Err(Stop::TooDeep(here)),
+    }
+}

@@ -1,0 +1,106 @@
+//! The nodes of expressions.
+
+ghost use Rattle.std.specs.Prelude.{◌≡◌, IfOk, string_bytes};
+ghost use Rattle.vx_grammar.specs.Grammar.{unfolding_of};
+ghost use Rattle.vx_expr_parser.specs.Views.{instance_of};
+ghost use Rattle.vx_ast.specs.Written.{Unary, Binary, Choice, Call, Read, Old, Access, name_of, written_all, written_expr, written_optional};
+
+use std::alloc::{AllocError, Global};
+use std::rc::Rc;
+use vx_ast::{BinaryOperator, Expr, ExprKind, Instance, Name, Place, UnaryOperator};
+
+/// An operand behind a prefix.
+pub fn prefixed(alloc: Global, place: Place, op: UnaryOperator, e: Expr) -> Result<Expr, AllocError>
+    ensures { IfOk result (λ whole. written_expr whole ≡ Unary place op (written_expr e)) }
+{
+    let kind = ExprKind::Unary(op, Rc::new(alloc, e)?);
+    Ok(Expr { place, kind })
+}
+
+fn both(alloc: Global, left: Expr, right: Expr) -> Result<(Rc<Expr>, Rc<Expr>), AllocError>
+    ensures { IfOk result (λ pair. (pair.0.value ≡ left) × (pair.1.value ≡ right)) }
+{
+    let left = Rc::new(alloc, left)?;
+    Ok((left, Rc::new(alloc, right)?))
+}
+
+/// Two operands and the operator between them.
+pub fn joined(
+    alloc: Global,
+    place: Place,
+    op: BinaryOperator,
+    left: Expr,
+    right: Expr,
+) -> Result<Expr, AllocError>
+    ensures { IfOk result (λ whole. written_expr whole ≡ Binary place op (written_expr left) (written_expr right)) }
+{
+    let (left, right) = both(alloc, left, right)?;
+    let kind = ExprKind::Binary(op, left, right);
+    Ok(Expr { place, kind })
+}
+
+/// A condition and its two sides.
+pub fn chosen(
+    alloc: Global,
+    place: Place,
+    condition: Expr,
+    left: Expr,
+    right: Expr,
+) -> Result<Expr, AllocError>
+    ensures { IfOk result (λ whole. written_expr whole ≡ Choice place (written_expr condition) (written_expr left) (written_expr right)) }
+{
+    let condition = Rc::new(alloc, condition)?;
+    let (left, right) = both(alloc, left, right)?;
+    let kind = ExprKind::Conditional(condition, left, right);
+    Ok(Expr { place, kind })
+}
+
+/// A function's application, or a predicate's instance.
+pub fn applied(place: Place, name: String, arguments: Vec<Rc<Expr>>) -> Expr
+    ensures { written_expr result ≡ Call place (string_bytes name) (written_all arguments.items) }
+{
+    let kind = ExprKind::Call(name, arguments);
+    Expr { place, kind }
+}
+
+/// A field of a receiver.
+pub fn read(alloc: Global, place: Place, receiver: Expr, field: Name) -> Result<Expr, AllocError>
+    ensures { IfOk result (λ whole. written_expr whole ≡ Read place (written_expr receiver) (name_of field)) }
+{
+    let kind = ExprKind::Read(Rc::new(alloc, receiver)?, field);
+    Ok(Expr { place, kind })
+}
+
+/// The old value of an expression.
+pub fn old(alloc: Global, place: Place, e: Expr) -> Result<Expr, AllocError>
+    ensures { IfOk result (λ whole. written_expr whole ≡ Old place (written_expr e)) }
+{
+    let kind = ExprKind::Old(Rc::new(alloc, e)?);
+    Ok(Expr { place, kind })
+}
+
+/// A permission.
+pub fn accessed(
+    alloc: Global,
+    place: Place,
+    held: Expr,
+    amount: Option<Rc<Expr>>,
+) -> Result<Expr, AllocError>
+    ensures { IfOk result (λ whole. written_expr whole ≡ Access place (written_expr held) (written_optional amount)) }
+{
+    let kind = ExprKind::Access(Rc::new(alloc, held)?, amount);
+    Ok(Expr { place, kind })
+}
+
+/// An expression under an unfolded instance.
+pub fn unfolded(place: Place, instance: Instance, body: Rc<Expr>) -> Expr
+    ensures { written_expr result ≡ unfolding_of place (instance_of instance) (written_expr body.value) }
+{
+    let Instance {
+        predicate,
+        arguments,
+        amount,
+    } = instance;
+    let kind = ExprKind::Unfolding(predicate, arguments, amount, body);
+    Expr { place, kind }
+}
