@@ -1,27 +1,20 @@
 -- The trees of members over the rules of two depths.
-use Rattle.std.proofs.Common.{◌≡◌, ℕ, ◌≤◌, List, [], ◌∷◌, Option, Some, None, refl, sym, ap, ap₂, ◌∙◌, true, false}
-use Rattle.std.specs.Prelude.{slice_set}
-use Rattle.vx_ast.specs.declared.Place.{Place}
+use Rattle.std.proofs.Common.{◌≡◌, ℕ, ◌≤◌, [], Option, Some, None, refl, sym, ap, ap₂, ◌∙◌, false}
 use Rattle.vx_ast.specs.Syntax.{Name, result_name, Program, Kind, IsField, IsPredicate, IsFunction, IsMethod, Predicate, Function, Method, Assertion, Block, joined, conjoined, as_assertion, Measure, ByNumber, ByInstance}
 use Rattle.vx_terms.specs.Sorts.{SnapSort}
 use Rattle.vx_terms.specs.Terms.{Term}
 use Rattle.vx_terms.specs.Build.{whole_amount}
-use Rattle.vx_rules.specs.States.{State, with_heap, declare, declare_all, fresh, after_fresh}
+use Rattle.vx_rules.specs.States.{with_heap, declare, declare_all, fresh, after_fresh}
 use Rattle.vx_rules.specs.Trees.{PostCode, MeasureCode, Tree, End, Step, Fork}
-use Rattle.vx_rules.specs.Chunks.{Candidate, instance_key, candidates}
-use Rattle.vx_rules.specs.Rules.{Going, outer, produce}
-use Rattle.vx_rules.specs.Members.{codes, depth, blank, ended, with_new_returns, rooted_in, tree}
+use Rattle.vx_rules.specs.Chunks.{instance_key, candidates}
+use Rattle.vx_rules.specs.Rules.{outer, holds_some, produce}
+use Rattle.vx_rules.specs.Members.{codes, depth, blank, ended, with_new_returns, rooted, tree}
 use Rattle.vx_depth.specs.Entering.{NoneWithinItself}
 use Rattle.vx_depth.specs.Depths.{SameGoing, SameRules}
 use Rattle.vx_depth.specs.Trees.{promise_over, body_over, sides_over, method_over, function_body_over, from_measure_over, function_over, predicate_over, tree_over}
 use Rattle.vx_depth.proofs.Levels.{declare_level}
-use Rattle.vx_depth.proofs.Same.{probe_same}
+use Rattle.vx_depth.proofs.Same.{first_same}
 use Rattle.vx_depth.proofs.Statements.{depth_suffices}
-
-rooted_same : (cs : List Candidate) (ts : List Term) (at : Place) (s : State) {on other : Going} → s.level ≡ 0 → SameGoing 0 on other → rooted_in cs ts at s on ≡ rooted_in cs ts at s other
-rooted_same [] ts at s v h = refl
-rooted_same (c ∷ cs) ts at s v h =
-    probe_same _ at MeasureCode s (h (with_heap (slice_set s.heap c.number (record c.chunk { root = true })) s) v) (rooted_same cs ts at s v h)
 
 module _ (p : Program) (c d : ℕ) (same : SameRules p c d) where
   promise_same : (m : Method) → SameGoing 0 (promise_over p (outer p c) m) (promise_over p (outer p d) m)
@@ -52,7 +45,7 @@ module _ (p : Program) (c d : ℕ) (same : SameRules p c d) where
   from_measure_same f g None s v = function_body_same f g None s v
   from_measure_same f g (Some (ByNumber e)) s v = ap Step (same.eval e s v _ _ (λ m s1 v1. function_body_same f g (Some m) s1 v1))
   from_measure_same f g (Some (ByInstance at i es)) s v =
-      ap Step (same.evals es s v _ _ (λ ts s1 v1. rooted_same (candidates (instance_key i ts) s1.heap) ts at s1 v1 (function_body_same f g None)))
+      ap Step (same.evals es s v _ _ (λ ts s1 v1. first_same (holds_some ts) (candidates (instance_key i ts) s1.heap) at MeasureCode s1 (λ c. function_body_same f g None (rooted c s1) v1) refl))
 
   function_same : (f : Name) (g : Function) → function_over p (outer p c) f g ≡ function_over p (outer p d) f g
   function_same f g =

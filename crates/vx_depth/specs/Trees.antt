@@ -5,10 +5,10 @@ use Rattle.vx_terms.specs.Sorts.{SnapSort}
 use Rattle.vx_terms.specs.Terms.{Term}
 use Rattle.vx_terms.specs.Build.{whole_amount}
 use Rattle.vx_rules.specs.States.{with_heap, declare, declare_all, fresh, after_fresh}
-use Rattle.vx_rules.specs.Trees.{PostCode, Tree, End, Step, Fork}
+use Rattle.vx_rules.specs.Trees.{PostCode, MeasureCode, Tree, End, Step, Fork}
 use Rattle.vx_rules.specs.Chunks.{instance_key, candidates}
-use Rattle.vx_rules.specs.Rules.{Going, Outer, eval, evals, produce, consume}
-use Rattle.vx_rules.specs.Members.{codes, exec_all, blank, ended, with_new_returns, rooted_in}
+use Rattle.vx_rules.specs.Rules.{Going, Outer, never, first_with, holds_some, eval, evals, produce, consume}
+use Rattle.vx_rules.specs.Members.{codes, exec_all, blank, ended, with_new_returns, rooted}
 
 module _ (p : Program) (o : Outer) where
   abbrev pub promise_over : Method → Going
@@ -35,7 +35,10 @@ module _ (p : Program) (o : Outer) where
   from_measure_over f g None s = function_body_over f g None s
   from_measure_over f g (Some (ByNumber e)) s = Step (eval p o e s (λ m s1. function_body_over f g (Some m) s1))
   from_measure_over f g (Some (ByInstance at i es)) s =
-      Step (evals p o es s (λ ts s1. rooted_in (candidates (instance_key i ts) s1.heap) ts at s1 (function_body_over f g None)))
+      Step (evals p o es s (λ ts s1.
+      first_with (holds_some ts) (candidates (instance_key i ts) s1.heap) at MeasureCode s1
+      (λ c. function_body_over f g None (rooted c s1))
+      (never at MeasureCode s1)))
 
   abbrev pub function_over : Name → Function → Tree
   function_over f g =
