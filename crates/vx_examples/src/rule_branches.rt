@@ -51,7 +51,7 @@ pub fn no_candidates()
     ensures written { rules.write_field f (ref 0) (int 1) (at 1 1) scene goes ≡ refused PermissionCode }
     ensures held { rules.first_with (rules.holds_some (ref 0 ∷ [])) [] (at 1 1) MeasureCode scene (λ c. Step End) (refused MeasureCode) ≡ refused MeasureCode }
     ensures held_by_other { rules.first_with (rules.holds_some (ref 0 ∷ [])) (record { number = 0; chunk = cell_chunk (ref 1) half (snap 2) } ∷ []) (at 1 1) MeasureCode scene (λ c. End) (refused MeasureCode) ≡ Probe (probes (at 1 1) MeasureCode (bool 0 ∷ denied (bool 1) ∷ []) (equal (ref 1) (ref 0))) End (refused MeasureCode) }
-    ensures rooted { members.from_measure [] f cells.cells_get (Some (syntax.ByInstance (at 1 1) cell syntax.NoMore)) scene ≡ Step (Step (refused MeasureCode)) }
+    ensures rooted { members.from_measure [] (rules.outer [] 1) f cells.cells_get (Some (syntax.ByInstance (at 1 1) cell syntax.NoMore)) scene ≡ Step (Step (refused MeasureCode)) }
 {}
 
 /// Which applications are measured: those of the function's own tree, at level 0, of its group, of a callee with a measure.
@@ -114,7 +114,7 @@ pub fn parts_of_rules()
 
 /// A method without a body has one side, and with one two; the returns of a promise are fresh.
 pub fn sides_of_methods()
-    ensures without_body { members.both_sides [] (a_method None) scene ≡ Step (Step (Step End)) }
-    ensures with_body { members.both_sides [] (a_method (Some syntax.Done)) scene ≡ Fork (Step (Step (Step End))) (Step (Step (Step (Step (Step End))))) }
+    ensures without_body { members.both_sides [] (rules.outer [] 1) (a_method None) scene ≡ Step (Step (Step End)) }
+    ensures with_body { members.both_sides [] (rules.outer [] 1) (a_method (Some syntax.Done)) scene ≡ Fork (Step (Step (Step End))) (Step (Step (Step (Step (Step End))))) }
     ensures new_returns { (members.with_new_returns cells.cells_read (record scene { store = (cells.x, ref 0) ∷ (cells.y, int 1) ∷ [] })).store ≡ (cells.x, ref 0) ∷ (cells.y, int 7) ∷ [] }
 {}

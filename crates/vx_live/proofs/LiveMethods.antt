@@ -17,8 +17,8 @@ use Rattle.vx_rules.specs.States as rules
 use Rattle.vx_rules.specs.States.{sort_of_type}
 use Rattle.vx_rules.specs.Trees.{Code, AssertCode, PermissionCode, AmountCode, PostCode, EntryCode, KeptCode, Tree, End, Step, Fork}
 use Rattle.vx_rules.specs.Chunks.{field_key, is_kin, same_arguments, Candidate, chosen, without, reduced, first_argument, merged, agree, is_not_null, apart, bounding, field_facts, instance_facts, put_over, put}
-use Rattle.vx_rules.specs.Rules.{Giving, Going, Context, pair_facts, with_built_wrap, Outer, outer, ask, never, placed, field_sort, holds_amount, take_fresh, take_chunk, written, write_field, eval, produce, consume}
-use Rattle.vx_rules.specs.Members.{codes, forget, is_ref, unlike, unlike_stored, unlike_chunk, unlike_held, distinct, put_fields, exec, exec_all, depth, blank, ended, promise_side, body_side, both_sides, sides, method_tree}
+use Rattle.vx_rules.specs.Rules.{Giving, Going, Context, pair_facts, with_built_wrap, Outer, ask, never, placed, field_sort, holds_amount, take_fresh, take_chunk, written, write_field, eval, produce, consume}
+use Rattle.vx_rules.specs.Members.{codes, forget, is_ref, unlike, unlike_stored, unlike_chunk, unlike_held, distinct, put_fields, exec, exec_all, rules as member_rules, blank, ended, promise_side, body_side, both_sides, sides, method_tree}
 use Rattle.vx_meaning.specs.Fails.{precondition_of, postcondition_of}
 use Rattle.vx_types.specs.Typing.{Scope, type_in, HasType, IsTyped, IsTypedStmt, IsTypedBlock, IsTypedBody, IsTypedMethod, scope_after, scope_after_all}
 use Rattle.vx_types.specs.FieldLanguage.{InFields, IsOfFields, IsFieldStmt, IsFieldBlock, IsFieldBody, IsFieldMethod}
@@ -466,7 +466,7 @@ module _ (p : Program) (m : Method) (t : IsTypedMethod p m) (k : IsFieldMethod m
   post_typed : IsTyped p scope (postcondition_of m)
   post_typed = joined_typed p scope m.place m.ensures t.ensures
 
-  promise_live : {sorts : Sorts} (s : rules.State) → Shaped p sorts scope s → AllLive (promise_side p m s)
+  promise_live : {sorts : Sorts} (s : rules.State) → Shaped p sorts scope s → AllLive (promise_side p (member_rules p) m s)
   promise_live {sorts = sorts} s sh =
       let n = length m.parameters in
       let front : Shaped p sorts m.parameters (rules.leave n (rules.with_heap [] s)) = record {
@@ -476,19 +476,19 @@ module _ (p : Program) (m : Method) (t : IsTypedMethod p m) (k : IsFieldMethod m
         old = sh.old;
       } in
       let r = declared_all p m.returns m.parameters (rules.leave n (rules.with_heap [] s)) front in
-      produce_live p (outer p (depth p)) (postcondition_of m) post_typed (joined_plain m.place m.ensures k.ensures) whole_amount ended r.shaped whole_fine (λ s le sh. tt)
+      produce_live p (member_rules p) (postcondition_of m) post_typed (joined_plain m.place m.ensures k.ensures) whole_amount ended r.shaped whole_fine (λ s le sh. tt)
 
-  body_live : {sorts : Sorts} (b : Block) (s : rules.State) → IsTypedBlock p scope b → IsFieldBlock b → Shaped p sorts scope s → AllLive (body_side p m b s)
+  body_live : {sorts : Sorts} (b : Block) (s : rules.State) → IsTypedBlock p scope b → IsFieldBlock b → Shaped p sorts scope s → AllLive (body_side p (member_rules p) m b s)
   body_live b s tb kb sh =
-      exec_all_live p (outer p (depth p)) b kb scope tb s _ sh (λ s1 le sh1.
+      exec_all_live p (member_rules p) b kb scope tb s _ sh (λ s1 le sh1.
       let r = scope_more p b scope in
       let wide : IsTyped p (scope_after_all p b scope) (postcondition_of m) = subst (λ z. IsTyped p z (postcondition_of m)) (sym r.1) (typed_longer p scope r.0 (postcondition_of m) post_typed) in
-      consume_live p (outer p (depth p)) (postcondition_of m) wide (joined_plain m.place m.ensures k.ensures) (codes PostCode PostCode) whole_amount s1.heap _ refl sh1 sh1.heap whole_fine (λ u s2 le2 sh2. tt))
+      consume_live p (member_rules p) (postcondition_of m) wide (joined_plain m.place m.ensures k.ensures) (codes PostCode PostCode) whole_amount s1.heap _ refl sh1 sh1.heap whole_fine (λ u s2 le2 sh2. tt))
 
-  sides_live : {sorts : Sorts} (s : rules.State) → Shaped p sorts scope s → AllLive (both_sides p m s)
+  sides_live : {sorts : Sorts} (s : rules.State) → Shaped p sorts scope s → AllLive (both_sides p (member_rules p) m s)
   sides_live s sh = go m.body t.body k.body
     where
-      go : (b : Option Block) → IsTypedBody p scope b → IsFieldBody b → AllLive (elim b as (λ b. Tree) [ None ↦ promise_side p m s | Some b ↦ Fork (promise_side p m s) (body_side p m b s) ])
+      go : (b : Option Block) → IsTypedBody p scope b → IsFieldBody b → AllLive (elim b as (λ b. Tree) [ None ↦ promise_side p (member_rules p) m s | Some b ↦ Fork (promise_side p (member_rules p) m s) (body_side p (member_rules p) m b s) ])
       go None tb kb = promise_live s sh
       go (Some b) tb kb = (promise_live s sh, body_live b s tb kb sh)
 
@@ -496,8 +496,8 @@ module _ (p : Program) (m : Method) (t : IsTypedMethod p m) (k : IsFieldMethod m
   method_live =
       let a = declared_all p m.parameters [] {sorts = record { of = λ n. IntSort; built_in = λ n. tt }} blank (record { store = tt; path = tt; heap = tt; old = tt }) in
       let r = declared_all p m.returns m.parameters (rules.declare_all m.parameters blank) a.shaped in
-      produce_live p (outer p (depth p)) (precondition_of m) (joined_typed p scope m.place m.requires (all_typed_longer p m.parameters m.returns m.requires t.requires))
-      (joined_plain m.place m.requires k.requires) whole_amount (sides p m) r.shaped whole_fine (λ s le sh. sides_live (record s { old = s.heap }) (record { store = sh.store; path = sh.path; heap = sh.heap; old = sh.heap }))
+      produce_live p (member_rules p) (precondition_of m) (joined_typed p scope m.place m.requires (all_typed_longer p m.parameters m.returns m.requires t.requires))
+      (joined_plain m.place m.requires k.requires) whole_amount (sides p (member_rules p) m) r.shaped whole_fine (λ s le sh. sides_live (record s { old = s.heap }) (record { store = sh.store; path = sh.path; heap = sh.heap; old = sh.heap }))
 
 pub methods_live : LiveLaw IsFieldMethod
 methods_live p m t k = method_live p m t k
