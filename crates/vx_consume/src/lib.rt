@@ -4,8 +4,9 @@
 ghost use Rattle.std.specs.Prelude.{◌≡◌, [], IfOk};
 ghost use Rattle.vx_ast.specs.Resolved.{assertion, expr};
 ghost use Rattle.vx_ast.specs.Syntax as syntax;
+ghost use Rattle.vx_rules.specs.Members.{rules};
 ghost use Rattle.vx_rules.specs.Rules as rule;
-ghost use Rattle.vx_rules.specs.Stack.{consumed as consumed_of, context, rules, giving, going, Stepped};
+ghost use Rattle.vx_rules.specs.Stack.{consumed as consumed_of, context, giving, going, Stepped};
 ghost use Rattle.vx_rules.specs.SymStates.{state as state_of};
 ghost use Rattle.vx_terms.specs.Build.{whole_amount};
 ghost use Rattle.vx_terms.specs.Views.{term};

@@ -1,6 +1,6 @@
 -- Rules over two rules of other members' parts that agree on what is entered give the same trees.
 use Rattle.std.proofs.Common.{◌≡◌, ℕ, Bool, true, false, cond, ◌&&◌, ◌||◌, List, [], ◌∷◌, ◌++◌, Option, Some, None, refl, ap, ap₂, ◌∙◌}
-use Rattle.std.specs.Prelude.{slice_set, pos}
+use Rattle.std.specs.Prelude.{pos}
 use Rattle.vx_ast.specs.declared.Place.{Place}
 use Rattle.vx_ast.specs.Syntax.{Name, Program, Predicate, Function, predicate_named, function_named, joined, place_of, Connective, And, Or, Implies, Expr, Number, Truth, Null, Part, Variable, Not, Operate, Divide, Connect, Choose, Read, Old, Apply, Unfolding, Exprs, NoMore, More, Assertion, Pure, Points, Instance, Both, Implied, Chosen, Measure, ByNumber, ByInstance}
 use Rattle.vx_ast.specs.Mentions.{mentioned, mentioned_in}
@@ -13,7 +13,7 @@ use Rattle.vx_rules.specs.States.{sort_of_type, bind, Store, Chunk, Own, State, 
 use Rattle.vx_rules.specs.Trees.{Code, MeasureCode, UnfoldCode, PermissionCode, AmountCode, DivisorCode, FunctionCode, Tree, Step, Ask, Fork}
 use Rattle.vx_rules.specs.Chunks.{Candidate, field_key, instance_key, candidates, only_inner, reduced, put}
 use Rattle.vx_rules.specs.Groups.{is_in_group, function_number}
-use Rattle.vx_rules.specs.Rules.{Giving, Going, Outer, question, unless_false, ask, never, probe, fork, short, operated, divided, connected, is_total, taken_from, read_from, write_to, held_in, field_sort, entered, back, placed, lesser, leads_inside, terms, left_part, right_part, with_split, with_unit, produced_value, after_value, produced_snapshot, after_snapshot, with_built_wrap, with_built_pair, with_equations, decreasing, measured, applied, unfolded, eval, evals, produce, consume}
+use Rattle.vx_rules.specs.Rules.{Giving, Going, Outer, question, unless_false, ask, never, probe, fork, short, operated, divided, connected, is_total, first_with, holds_some, holds_amount, take_chunk, written, write_field, field_sort, entered, back, placed, lesser, leads_inside, terms, left_part, right_part, with_split, with_unit, produced_value, after_value, produced_snapshot, after_snapshot, with_built_wrap, with_built_pair, with_equations, decreasing, measured, applied, unfolded, eval, evals, produce, consume}
 use Rattle.vx_depth.specs.Entering.{entered_by}
 use Rattle.vx_depth.specs.Depths.{SameGiving, SameGoing, EvalSame, EvalsSame, ProduceSame, ConsumeSame}
 use Rattle.vx_depth.proofs.Levels.{fact_level, name_level, put_level, value_level, snapshot_level, split_level, unit_level, wrap_level, pair_level}
@@ -52,25 +52,18 @@ short_same And t s e h k = fork_same t s e h (k false_term)
 short_same Or t s e h k = fork_same t s e (k true_term) h
 short_same Implies t s e h k = fork_same t s e h (k true_term)
 
-taken_same : {l : ℕ} (cs : List Candidate) (key : Chunk) (a : Term) (sort : Sort) (at : Place) (code : Code) (s : State) {on other : Chunk → State → Tree} → s.level ≡ l →
-    ((c : Chunk) → SameGoing l (on c) (other c)) → taken_from cs key a sort at code s on ≡ taken_from cs key a sort at code s other
-taken_same [] key a sort at code s e h =
-    if_same (is_quiet s) refl (ask_same (equals a zero_amount) at code s e (λ s1 e1. h (record key { amount = a; value = fresh sort s1 }) (after_fresh s1) e1))
-taken_same (c ∷ cs) key a sort at code s e h =
-    probe_same _ at code s (h c.chunk (with_heap (reduced c a s.heap) s) e) (taken_same cs key a sort at code s e h)
+pub first_same : (wanted : Chunk → Term) (cs : List Candidate) (at : Place) (code : Code) (s : State) {on other : Candidate → Tree} {t u : Tree} → ((c : Candidate) → on c ≡ other c) → t ≡ u →
+    first_with wanted cs at code s on t ≡ first_with wanted cs at code s other u
+first_same wanted [] at code s h e = e
+first_same wanted (c ∷ cs) at code s h e = probe_same (wanted c.chunk) at code s (h c) (first_same wanted cs at code s h e)
 
-read_same : {l : ℕ} (cs : List Candidate) (r : Term) (at : Place) (s : State) {on other : Giving} → s.level ≡ l → SameGiving l on other → read_from cs r at s on ≡ read_from cs r at s other
-read_same [] r at s e h = refl
-read_same (c ∷ cs) r at s e h = probe_same _ at PermissionCode s (h c.chunk.value s e) (read_same cs r at s e h)
+taken_same : {l : ℕ} (key : Chunk) (a : Term) (sort : Sort) (at : Place) (code : Code) (s : State) {on other : Chunk → State → Tree} → s.level ≡ l →
+    ((c : Chunk) → SameGoing l (on c) (other c)) → take_chunk key a sort at code s on ≡ take_chunk key a sort at code s other
+taken_same key a sort at code s e h = first_same (holds_amount a key.arguments) (candidates key s.heap) at code s (λ c. h c.chunk (with_heap (reduced c a s.heap) s) e)
+    (if_same (is_quiet s) refl (ask_same (equals a zero_amount) at code s e (λ s1 e1. h (record key { amount = a; value = fresh sort s1 }) (after_fresh s1) e1)))
 
-pub write_same : {l : ℕ} (cs : List Candidate) (r t : Term) (at : Place) (s : State) {on other : Going} → s.level ≡ l → SameGoing l on other → write_to cs r t at s on ≡ write_to cs r t at s other
-write_same [] r t at s e h = refl
-write_same (c ∷ cs) r t at s e h =
-    probe_same _ at PermissionCode s (h (with_heap (slice_set s.heap c.number (record c.chunk { value = name_of t s })) (after_name t s)) (name_level t s e)) (write_same cs r t at s e h)
-
-held_same : {l : ℕ} (cs : List Candidate) (ts : List Term) (at : Place) (code : Code) (s : State) {on other : Going} → s.level ≡ l → SameGoing l on other → held_in cs ts at code s on ≡ held_in cs ts at code s other
-held_same [] ts at code s e h = refl
-held_same (c ∷ cs) ts at code s e h = probe_same _ at code s (h s e) (held_same cs ts at code s e h)
+pub write_same : {l : ℕ} (f : Name) (r t : Term) (at : Place) (s : State) {on other : Going} → s.level ≡ l → SameGoing l on other → write_field f r t at s on ≡ write_field f r t at s other
+write_same f r t at s e h = first_same (holds_amount whole_amount (r ∷ [])) (candidates (field_key f r) s.heap) at PermissionCode s (λ c. h (written c t s) (name_level t s e)) refl
 
 -- The two rules agree on what is entered from names of a kind, on a level.
 pub record Opens (p : Program) (Good : Name → Type 0) (l : ℕ) (o o' : Outer) : Type 0 where
@@ -88,7 +81,7 @@ module _ (p : Program) (Good : Name → Type 0) (l : ℕ) (o o' : Outer) (opens 
   decreasing_same f g k e own (Some (ByNumber n)) q x at s v h =
       ap Step (opens.number f g n k e q (entered x at s) v _ _ (λ m s1 v1. ask_same (lesser p o own.measure m) at MeasureCode (back s s1) v1 h))
   decreasing_same f g k e own (Some (ByInstance place i es)) q x at s v h =
-      ap Step (opens.instance f g place i es k e q (entered x at s) v _ _ (λ us s1 v1. held_same (only_inner (candidates (instance_key i us) s1.heap)) us at MeasureCode (back s s1) v1 h))
+      ap Step (opens.instance f g place i es k e q (entered x at s) v _ _ (λ us s1 v1. first_same (holds_some us) (only_inner (candidates (instance_key i us) s1.heap)) at MeasureCode (back s s1) (λ c. h (back s s1) v1) refl))
 
   measured_same : (f : Name) (g : Function) → Good f → function_named p f ≡ Some g → (x : Store) (at : Place) (s : State) {on other : Going} → s.level ≡ l → SameGoing l on other →
       measured p o f g x at s on ≡ measured p o' f g x at s other
@@ -133,7 +126,7 @@ module _ (p : Program) (Good : Name → Type 0) (l : ℕ) (o o' : Outer) (opens 
 
   pub unfolded_same : (at : Place) (i : Name) (ts : List Term) (a : Term) (s : State) {on other : Going} → Good i → s.level ≡ l → SameGoing l on other →
       unfolded p o at i ts a s on ≡ unfolded p o' at i ts a s other
-  unfolded_same at i ts a s {on = on} {other = other} k v h = taken_same (candidates (instance_key i ts) s.heap) (instance_key i ts) a SnapSort at UnfoldCode s v (λ c s1 v1. go c s1 v1 (predicate_named p i) refl)
+  unfolded_same at i ts a s {on = on} {other = other} k v h = taken_same (instance_key i ts) a SnapSort at UnfoldCode s v (λ c s1 v1. go c s1 v1 (predicate_named p i) refl)
     where
       opened : (o : Outer) (on : Going) (c : Chunk) (s1 : State) → Predicate → Option Assertion → Tree
       opened o on c s1 d b = elim b as (λ b. Tree) [
@@ -180,7 +173,7 @@ module _ (p : Program) (Good : Name → Type 0) (l : ℕ) (o o' : Outer) (opens 
         (ap Step (eval_same c (each_left Good (mentioned c) (mentioned a) rest) s v _ _ (λ t s1 v1.
         fork_same t s1 v1 (λ s2 v2. eval_same a (each_right Good (mentioned c) (mentioned a) rest) s2 v2 on other h) (λ s2 v2. eval_same b (each_right Good (mentioned c ++ mentioned a) (mentioned b) k) s2 v2 on other h))))
     eval_same (Read at e f) k s v on other h =
-        ap Step (eval_same e k s v _ _ (λ r s1 v1. read_same (candidates (field_key f r) s1.heap) r (placed s1 at) s1 v1 h))
+        ap Step (eval_same e k s v _ _ (λ r s1 v1. first_same (holds_some (r ∷ [])) (candidates (field_key f r) s1.heap) (placed s1 at) PermissionCode s1 (λ c. h c.chunk.value s1 v1) refl))
     eval_same (Old at e) k s v on other h =
         ap Step (eval_same e k (with_heap s.old s) v _ _ (λ t s1 v1. ap Step (h t (with_heap s.heap s1) v1)))
     eval_same (Apply at f es) k s v on other h =
@@ -235,13 +228,13 @@ module _ (p : Program) (Good : Name → Type 0) (l : ℕ) (o o' : Outer) (opens 
       ap Step (eval_same e (each_left Good (mentioned e) (mentioned share) k) (with_heap hp s) v _ _ (λ r s1 v1.
       eval_same share (each_right Good (mentioned e) (mentioned share) k) s1 v1 _ _ (λ a s2 v2.
       ask_same _ (placed s2 at) AmountCode s2 v2 (λ s3 v3.
-      taken_same (candidates (field_key f r) s.heap) (field_key f r) (multiply q a) (field_sort p f) (placed s3 at) x.permission (with_heap s.heap s3) v3 (λ c s4 v4.
+      taken_same (field_key f r) (multiply q a) (field_sort p f) (placed s3 at) x.permission (with_heap s.heap s3) v3 (λ c s4 v4.
       ap Step (h (wrap (field_sort p f) c.value) (with_built_wrap x (field_sort p f) c.value s4) (wrap_level x (field_sort p f) c.value s4 v4)))))))
   consume_same (Instance at i es share) k x q hp s v on other h =
       ap Step (evals_same es (each_left Good (mentioned_in es) (mentioned share) k) (with_heap hp s) v _ _ (λ ts s1 v1.
       eval_same share (each_right Good (mentioned_in es) (mentioned share) k) s1 v1 _ _ (λ a s2 v2.
       ask_same _ (placed s2 at) AmountCode s2 v2 (λ s3 v3.
-      taken_same (candidates (instance_key i ts) s.heap) (instance_key i ts) (multiply q a) SnapSort (placed s3 at) x.permission (with_heap s.heap s3) v3 (λ c s4 v4.
+      taken_same (instance_key i ts) (multiply q a) SnapSort (placed s3 at) x.permission (with_heap s.heap s3) v3 (λ c s4 v4.
       ap Step (h c.value s4 v4))))))
   consume_same (Both a b) k x q hp s v on other h =
       ap Step (consume_same a (each_left Good (entered_by a) (entered_by b) k) x q hp s v _ _ (λ t s1 v1.

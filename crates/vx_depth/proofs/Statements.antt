@@ -7,7 +7,7 @@ use Rattle.vx_terms.specs.Terms.{Term}
 use Rattle.vx_terms.specs.Build.{negate, whole_amount}
 use Rattle.vx_rules.specs.States.{State, sort_of_type, fresh, after_fresh, with_facts, with_fact, with_store, with_heap, with_branch, assign, assign_all, bind, terms_in, leave, declare_all, declare_fresh, name_of, after_name}
 use Rattle.vx_rules.specs.Trees.{AssertCode, PermissionCode, AmountCode, CallCode, EntryCode, KeptCode, FoldCode, Tree, Step, Fork}
-use Rattle.vx_rules.specs.Chunks.{field_key, instance_key, candidates, put}
+use Rattle.vx_rules.specs.Chunks.{instance_key, put}
 use Rattle.vx_rules.specs.Rules.{Going, Outer, outer, never, entered, back, eval, evals, produce, consume}
 use Rattle.vx_rules.specs.Members.{codes, distinct, put_fields, names_of, after_names, called, folded, forget, exec, exec_all, depth}
 use Rattle.vx_depth.specs.Entering.{IsWithin, NoneWithinItself}
@@ -57,7 +57,7 @@ module _ (p : Program) (n : ℕ) (all : (x : Name) → IsWithin p n x) (o o' : O
         ap Step (here.eval e (each_of_all all _) s v _ _ (λ t s1 v1. ap Step (h (with_store (assign x (name_of t s1) (after_name t s1).store) (after_name t s1)) (name_level t s1 v1))))
     exec_same (Write at e f e') s v on other h =
         ap Step (here.eval e (each_of_all all _) s v _ _ (λ r s1 v1. ap Step (here.eval e' (each_of_all all _) s1 v1 _ _ (λ t s2 v2.
-        write_same (candidates (field_key f r) s2.heap) r t at s2 v2 h))))
+        write_same f r t at s2 v2 h))))
     exec_same (New at x fs) s v on other h =
         let w = fresh RefSort s in
         let s1 = put_fields p fs w (with_facts (distinct w s) (after_fresh s)) in

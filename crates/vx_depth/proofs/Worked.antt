@@ -4,11 +4,10 @@ use Rattle.vx_ast.specs.Syntax.{Name, same_name, Kind, IsFunction, Predicate, fu
 use Rattle.vx_frac.specs.Fractions.{lowest}
 use Rattle.vx_rules.specs.Trees.{Question, Open, size, walk}
 use Rattle.vx_rules.specs.Rules.{nowhere, outer}
-use Rattle.vx_rules.specs.Members.{depth, tree}
+use Rattle.vx_rules.specs.Members.{depth, rules, tree_over, tree}
 use Rattle.vx_ast.specs.Syntax.{IsPredicate}
 use Rattle.vx_depth.specs.Entering.{entered_by_function, entered_by_predicate, entered_from, IsWithin, Stands, LeadsBy, NoneWithinItself}
 use Rattle.vx_depth.specs.Apart.{KeepsApart}
-use Rattle.vx_depth.specs.Trees.{tree_over}
 use Rattle.vx_depth.specs.Worked.{f, n, P, applies_itself, applies_itself_f, unfolds_itself, unfolds_itself_P, nested, nested_P, plain, plain_f}
 
 pub applies_itself_is_refused : NoneWithinItself applies_itself → ⊥
@@ -43,13 +42,15 @@ pub not_two_within : IsWithin nested 2 n → ⊥
 not_two_within h = some_is_not_none h.0.0.1
 
 pub applies_itself_asks : (q : Question) × ((walk (tree applies_itself f (IsFunction applies_itself_f)) []).ending ≡ Open q) × (q.place ≡ nowhere)
+unfolding rules
 applies_itself_asks = (_, refl, refl)
 
 pub unfolds_itself_asks : (q : Question) × ((walk (tree unfolds_itself P (IsPredicate unfolds_itself_P)) []).ending ≡ Open q) × (q.place ≡ nowhere)
-unfolding lowest
+unfolding rules lowest
 unfolds_itself_asks = (_, refl, refl)
 
 pub applies_itself_goes_on : tree_over applies_itself (outer applies_itself (suc (depth applies_itself))) f (IsFunction applies_itself_f) ≡ tree applies_itself f (IsFunction applies_itself_f) → ⊥
+unfolding rules
 applies_itself_goes_on e = let m = ap size e in absurd (omega (arith, m))
 
 nothing_named : {A : Type 0} {B : Type 0} (a : A) → (let o : Option A = None in o) ≡ Some a → B

@@ -5,11 +5,10 @@ ghost use Rattle.std.specs.Prelude.{◌≡◌, ℕ, ◌*◌, ◌<◌, ◌≤◌,
 ghost use Rattle.vx_ast.specs.Syntax.{Name, Program, Kind, IsFunction, IsPredicate};
 ghost use Rattle.vx_rules.specs.Trees.{Question, Open, walk};
 ghost use Rattle.vx_rules.specs.Rules.{nowhere, outer};
-ghost use Rattle.vx_rules.specs.Members.{depth, tree};
+ghost use Rattle.vx_rules.specs.Members.{depth, tree_over, tree};
 ghost use Rattle.vx_depth.specs.Apart.{KeepsApart};
 ghost use Rattle.vx_depth.specs.Entering.{IsWithin, NoneWithinItself};
 ghost use Rattle.vx_depth.specs.Depths.{SameRules};
-ghost use Rattle.vx_depth.specs.Trees.{tree_over};
 ghost use Rattle.vx_depth.specs.Worked.{f, n, P, applies_itself, applies_itself_f, unfolds_itself, unfolds_itself_P, nested, plain};
 
 /// Where no more than n functions and predicates are entered, one from another, the rules of all depths above 4 n are the same.
@@ -21,11 +20,6 @@ pub fn rules_past_a_depth_are_the_same()
 pub fn the_depth_suffices()
     ensures rules { (p : Program) (d : ℕ) → NoneWithinItself p → depth p ≤ d → SameRules p (depth p) d }
     ensures trees { (p : Program) (d : ℕ) → NoneWithinItself p → depth p ≤ d → (x : Name) (k : Kind) → tree_over p (outer p d) x k ≡ tree p x k }
-{}
-
-/// The tree of a member is the one over the rules to the depth.
-pub fn trees_are_over_the_depth()
-    ensures { (p : Program) (x : Name) (k : Kind) → tree_over p (outer p (depth p)) x k ≡ tree p x k }
 {}
 
 /// What is entered from what: a function whose precondition unfolds a predicate that unfolds another one enters three.

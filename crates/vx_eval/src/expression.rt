@@ -2,8 +2,9 @@
 
 ghost use Rattle.std.specs.Prelude.{◌≡◌, ◌&&◌, IfOk};
 ghost use Rattle.vx_ast.specs.Resolved.{expr};
+ghost use Rattle.vx_rules.specs.Members.{rules};
 ghost use Rattle.vx_rules.specs.Rules as rule;
-ghost use Rattle.vx_rules.specs.Stack.{rules, giving, Stepped};
+ghost use Rattle.vx_rules.specs.Stack.{giving, Stepped};
 ghost use Rattle.vx_rules.specs.SymStates.{state as state_of};
 ghost use Rattle.vx_types.specs.Settled.{settled};
 

@@ -25,7 +25,7 @@ pub fn probed_amounts()
 {}
 
 /// A fold and an unfold of a part: its amount is above none, and scales the body.
-#[tactic(auto, unfolding(vx_frac::specs::Fractions::lowest))]
+#[tactic(auto, unfolding(vx_frac::specs::Fractions::lowest, vx_rules::specs::Members::rules))]
 pub fn parts_of_instances()
     ensures folds_part { questions_of amounts folds_part ≡
         asks (at 10 56) AmountCode (differ (ref 0) null ∷ []) (less none (real 1))
@@ -70,7 +70,7 @@ pub fn literal_postconditions()
 {}
 
 /// A predicate that unfolds another: it has what it unfolds, or is asked for it.
-#[tactic(auto, unfolding(vx_frac::specs::Fractions::lowest))]
+#[tactic(auto, unfolding(vx_frac::specs::Fractions::lowest, vx_rules::specs::Members::rules))]
 pub fn nested_predicates()
     ensures nested { questions_of amounts nested ≡ [] }
     ensures too_much { questions_of amounts too_much ≡
@@ -79,7 +79,7 @@ pub fn nested_predicates()
 {}
 
 /// A side without a permission has the snapshot unit.
-#[tactic(auto, unfolding(vx_frac::specs::Fractions::lowest))]
+#[tactic(auto, unfolding(vx_frac::specs::Fractions::lowest, vx_rules::specs::Members::rules))]
 pub fn snapshots_of_sides()
     ensures folds_maybe { questions_of amounts folds_maybe ≡
         asks (at 16 87) AssertCode (bool 1 ∷ differ (ref 0) null ∷ equal (as_int (wrapped_int (int 2))) (int 2) ∷ equal (snap 3) (wrapped_int (int 2)) ∷ []) falsity
@@ -90,7 +90,7 @@ pub fn snapshots_of_sides()
 {}
 
 /// Either side of a choice has a snapshot of its own.
-#[tactic(auto, unfolding(vx_frac::specs::Fractions::lowest))]
+#[tactic(auto, unfolding(vx_frac::specs::Fractions::lowest, vx_rules::specs::Members::rules))]
 pub fn snapshots_of_choices()
     ensures folds_picked { questions_of amounts folds_picked ≡
         asks (at 20 98) AssertCode (bool 1 ∷ differ (ref 0) null ∷ equal (as_int (wrapped_int (int 2))) (int 2) ∷ equal (snap 3) (wrapped_int (int 2)) ∷ []) falsity

@@ -6,7 +6,7 @@ ghost use Rattle.vx_examples.specs.Words.{at, int, bool, real, ref, snap, null, 
 ghost use Rattle.vx_examples.specs.Applications.{where_same_at, low_at, applications, double, get, where_same, unheld_part, drops_a_side, even, unkept, low, uses_promise, folds_two, unfolds_two, folds_positive, loses, loop_without, loop_loses, two_variables, below_zero, whole_condition};
 
 /// An application of another group has no measure to lower.
-#[tactic(auto, unfolding(vx_frac::specs::Fractions::lowest))]
+#[tactic(auto, unfolding(vx_frac::specs::Fractions::lowest, vx_rules::specs::Members::rules))]
 pub fn other_groups()
     ensures double { questions_of applications double ≡ [] }
     ensures get { questions_of applications get ≡ [] }
@@ -22,13 +22,13 @@ pub fn function_bodies()
 {}
 
 /// What an application tells leaves out the side in which no candidate passes.
-#[tactic(auto, unfolding(vx_frac::specs::Fractions::lowest))]
+#[tactic(auto, unfolding(vx_frac::specs::Fractions::lowest, vx_rules::specs::Members::rules))]
 pub fn dropped_sides()
     ensures drops_a_side { questions_of applications drops_a_side ≡ asks (at 9 64) AssertCode (differ (ref 0) null ∷ equal (as_int (wrapped_int (int 2))) (int 2) ∷ equal (snap 3) (wrapped_int (int 2)) ∷ implied (differ (ref 1) (ref 0)) (both (equal (snap 3) (wrapped_int (as_int (snap 3)))) (equal (where_same_at (snap 3) (ref 0) (ref 1)) (number 0))) ∷ equal (snap 3) (wrapped_int (as_int (snap 3))) ∷ []) (equal (where_same_at (snap 3) (ref 0) (ref 1)) (number 0)) ∷ [] }
 {}
 
 /// Each of two functions that apply one another has a lesser measure there.
-#[tactic(auto, unfolding(vx_frac::specs::Fractions::lowest))]
+#[tactic(auto, unfolding(vx_frac::specs::Fractions::lowest, vx_rules::specs::Members::rules))]
 pub fn mutual_measures()
     ensures even { questions_of applications even ≡
         asks (at 7 75) FunctionCode (at_most (number 0) (int 0) ∷ equal (snap 1) unit ∷ differ (int 0) (number 0) ∷ []) (at_most (number 0) (minus (int 0) (number 1)))
@@ -43,7 +43,7 @@ pub fn function_promises()
 {}
 
 /// An application asks for the precondition, and tells the body and the postcondition.
-#[tactic(auto, unfolding(vx_frac::specs::Fractions::lowest))]
+#[tactic(auto, unfolding(vx_frac::specs::Fractions::lowest, vx_rules::specs::Members::rules))]
 pub fn told_facts()
     ensures uses_promise { questions_of applications uses_promise ≡
         asks (at 20 53) FunctionCode (less (number 5) (int 0) ∷ []) (less (number 0) (int 0))
@@ -51,19 +51,19 @@ pub fn told_facts()
 {}
 
 /// A fold says what is built, inner parts first.
-#[tactic(auto, unfolding(vx_frac::specs::Fractions::lowest))]
+#[tactic(auto, unfolding(vx_frac::specs::Fractions::lowest, vx_rules::specs::Members::rules))]
 pub fn built_snapshots()
     ensures folds_two { questions_of applications folds_two ≡ asks (at 10 88) PermissionCode (differ (ref 0) null ∷ differ (ref 1) null ∷ differ (ref 0) (ref 1) ∷ equal (as_int (wrapped_int (int 2))) (int 2) ∷ equal (as_int (wrapped_int (int 3))) (int 3) ∷ equal (first (pair (wrapped_int (int 2)) (wrapped_int (int 3)))) (wrapped_int (int 2)) ∷ equal (second (pair (wrapped_int (int 2)) (wrapped_int (int 3)))) (wrapped_int (int 3)) ∷ equal (snap 4) (pair (wrapped_int (int 2)) (wrapped_int (int 3))) ∷ []) falsity ∷ [] }
 {}
 
 /// An unfold says what the snapshot is made of.
-#[tactic(auto, unfolding(vx_frac::specs::Fractions::lowest))]
+#[tactic(auto, unfolding(vx_frac::specs::Fractions::lowest, vx_rules::specs::Members::rules))]
 pub fn split_snapshots()
     ensures unfolds_two { questions_of applications unfolds_two ≡ asks (at 11 81) AssertCode (equal (snap 2) (pair (first (snap 2)) (second (snap 2))) ∷ equal (int 3) (as_int (first (snap 2))) ∷ equal (first (snap 2)) (wrapped_int (int 3)) ∷ differ (ref 0) null ∷ equal (int 4) (as_int (second (snap 2))) ∷ equal (second (snap 2)) (wrapped_int (int 4)) ∷ differ (ref 1) null ∷ differ (ref 0) (ref 1) ∷ []) (equal (int 3) (int 4)) ∷ [] }
 {}
 
 /// The codes of what is not true or not held.
-#[tactic(auto, unfolding(vx_frac::specs::Fractions::lowest))]
+#[tactic(auto, unfolding(vx_frac::specs::Fractions::lowest, vx_rules::specs::Members::rules))]
 pub fn codes()
     ensures folds_positive { questions_of applications folds_positive ≡ asks (at 12 51) FoldCode (differ (ref 0) null ∷ equal (as_int (wrapped_int (int 1))) (int 1) ∷ []) (less (number 0) (int 1)) ∷ [] }
     ensures loses { questions_of applications loses ≡ asks (at 13 48) PostCode (differ (ref 0) null ∷ []) falsity ∷ [] }

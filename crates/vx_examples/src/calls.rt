@@ -7,7 +7,7 @@ ghost use Rattle.vx_examples.specs.Words.{at, int, ref, null, number, falsity, e
 ghost use Rattle.vx_examples.specs.Calls.{m, inc, called_for, called_bare};
 
 /// The caller's postcondition is the callee's: one check in all, and none for the callee, which has no body.
-#[tactic(auto, unfolding(vx_frac::specs::Fractions::lowest))]
+#[tactic(auto, unfolding(vx_frac::specs::Fractions::lowest, vx_rules::specs::Members::rules))]
 pub fn a_call_for_the_postcondition()
     ensures callee { questions_of called_for inc ≡ [] }
     ensures callee_passed { ending_of called_for inc [] ≡ Passed }
@@ -18,7 +18,7 @@ pub fn a_call_for_the_postcondition()
 {}
 
 /// A call without what its precondition asks for.
-#[tactic(auto, unfolding(vx_frac::specs::Fractions::lowest))]
+#[tactic(auto, unfolding(vx_frac::specs::Fractions::lowest, vx_rules::specs::Members::rules))]
 pub fn a_call_with_nothing()
     ensures asked { questions_of called_bare m ≡ asks (at 3 20) CallCode [] falsity ∷ [] }
     ensures failed { ending_of called_bare m (Sat ∷ []) ≡ Failed (at 3 20) CallCode Sat }

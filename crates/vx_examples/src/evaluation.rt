@@ -53,7 +53,7 @@ pub fn reads()
 {}
 
 /// An unfolding reads what is in the body by the snapshot, and leaves the instance.
-#[tactic(auto, unfolding(vx_frac::specs::Fractions::lowest))]
+#[tactic(auto, unfolding(vx_frac::specs::Fractions::lowest, vx_rules::specs::Members::rules))]
 pub fn unfoldings()
     ensures peek { questions_of branches peek ≡ asks (at 12 47) AssertCode (equal (int 2) (as_int (snap 1)) ∷ equal (snap 1) (wrapped_int (int 2)) ∷ differ (ref 0) null ∷ []) (equal (int 2) (number 0)) ∷ [] }
     ensures peek_bare { questions_of branches peek_bare ≡ asks (at 13 35) UnfoldCode [] falsity ∷ [] }

@@ -8,7 +8,7 @@ ghost use Rattle.vx_examples.specs.Told.{told, length_at, whole_of};
 ghost use Rattle.vx_examples.specs.Functions.{m, f, g, list, length, lengths, rising, unheld};
 
 /// The list predicate and its length function: no check, one for the postcondition where a node follows, and one for the assertion.
-#[tactic(auto, unfolding(vx_frac::specs::Fractions::lowest))]
+#[tactic(auto, unfolding(vx_frac::specs::Fractions::lowest, vx_rules::specs::Members::rules))]
 pub fn the_length_of_a_list()
     ensures predicate { questions_of lengths list ≡ [] }
     ensures function { questions_of lengths length ≡
@@ -29,7 +29,7 @@ pub fn the_length_of_a_list()
 {}
 
 /// A measure that doesn't fall; what applies the function asks nothing.
-#[tactic(auto, unfolding(vx_frac::specs::Fractions::lowest))]
+#[tactic(auto, unfolding(vx_frac::specs::Fractions::lowest, vx_rules::specs::Members::rules))]
 pub fn a_rising_measure()
     ensures asked { questions_of rising f ≡
         asks (at 2 3) MeasureCode (equal (snap 1) unit ∷ []) (both (at_most (number 0) (int 0)) (less (plus (int 0) (number 1)) (int 0))) ∷ [] }
@@ -39,7 +39,7 @@ pub fn a_rising_measure()
 {}
 
 /// An application without what its precondition asks for.
-#[tactic(auto, unfolding(vx_frac::specs::Fractions::lowest))]
+#[tactic(auto, unfolding(vx_frac::specs::Fractions::lowest, vx_rules::specs::Members::rules))]
 pub fn an_application_with_nothing()
     ensures function { questions_of unheld g ≡ [] }
     ensures asked { questions_of unheld m ≡ asks (at 3 27) FunctionCode [] falsity ∷ [] }

@@ -14,7 +14,7 @@ pub fn a_list_predicate()
 {}
 
 /// What is folded can't be written.
-#[tactic(auto, unfolding(vx_frac::specs::Fractions::lowest))]
+#[tactic(auto, unfolding(vx_frac::specs::Fractions::lowest, vx_rules::specs::Members::rules))]
 pub fn a_write_after_a_fold()
     ensures predicate { questions_of folded_write P_name ≡ [] }
     ensures asked { questions_of folded_write m ≡
@@ -24,7 +24,7 @@ pub fn a_write_after_a_fold()
 {}
 
 /// Half of an instance is half of what is in its body.
-#[tactic(auto, unfolding(vx_frac::specs::Fractions::lowest))]
+#[tactic(auto, unfolding(vx_frac::specs::Fractions::lowest, vx_rules::specs::Members::rules))]
 pub fn a_write_after_half_an_unfold()
     ensures asked { questions_of half_unfolded m ≡
         probes (at 6 1) PermissionCode (equal (int 2) (as_int (snap 1)) ∷ equal (snap 1) (wrapped_int (int 2)) ∷ differ (ref 0) null ∷ []) falsity

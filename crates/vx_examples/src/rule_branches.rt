@@ -44,14 +44,14 @@ pub fn past_the_depth()
 /// The last resorts: what is taken where no candidate is left, what is read and written, and the measure's instance.
 #[tactic(auto, unfolding(vx_frac::specs::Fractions::lowest))]
 pub fn no_candidates()
-    ensures taken { rules.taken_from [] (chunks.field_key f (ref 0)) half IntSort (at 1 1) PermissionCode scene (λ c s. End) ≡ refused PermissionCode }
-    ensures none_taken { rules.taken_from [] (chunks.field_key f (ref 0)) none IntSort (at 1 1) PermissionCode scene from_chunks ≡ Step (from_chunks (record (chunks.field_key f (ref 0)) { value = int 7 }) (record scene { next = 8 })) }
-    ensures quiet_taken { rules.taken_from [] (chunks.field_key f (ref 0)) none IntSort (at 1 1) PermissionCode quiet_scene (λ c s. Step End) ≡ End }
-    ensures read { rules.read_from [] (ref 0) (at 1 1) scene gives ≡ refused PermissionCode }
-    ensures written { rules.write_to [] (ref 0) (int 1) (at 1 1) scene goes ≡ refused PermissionCode }
-    ensures held { rules.held_in [] (ref 0 ∷ []) (at 1 1) MeasureCode scene goes ≡ refused MeasureCode }
-    ensures held_by_other { rules.held_in (record { number = 0; chunk = cell_chunk (ref 1) half (snap 2) } ∷ []) (ref 0 ∷ []) (at 1 1) MeasureCode scene goes ≡ Probe (probes (at 1 1) MeasureCode (bool 0 ∷ denied (bool 1) ∷ []) (equal (ref 1) (ref 0))) End (refused MeasureCode) }
-    ensures rooted { members.rooted_in [] (ref 0 ∷ []) (at 1 1) scene goes ≡ refused MeasureCode }
+    ensures taken { rules.take_chunk (chunks.field_key f (ref 0)) half IntSort (at 1 1) PermissionCode scene (λ c s. End) ≡ refused PermissionCode }
+    ensures none_taken { rules.take_chunk (chunks.field_key f (ref 0)) none IntSort (at 1 1) PermissionCode scene from_chunks ≡ Step (from_chunks (record (chunks.field_key f (ref 0)) { value = int 7 }) (record scene { next = 8 })) }
+    ensures quiet_taken { rules.take_chunk (chunks.field_key f (ref 0)) none IntSort (at 1 1) PermissionCode quiet_scene (λ c s. Step End) ≡ End }
+    ensures read { rules.read_field f (ref 0) (at 1 1) scene gives ≡ refused PermissionCode }
+    ensures written { rules.write_field f (ref 0) (int 1) (at 1 1) scene goes ≡ refused PermissionCode }
+    ensures held { rules.first_with (rules.holds_some (ref 0 ∷ [])) [] (at 1 1) MeasureCode scene (λ c. Step End) (refused MeasureCode) ≡ refused MeasureCode }
+    ensures held_by_other { rules.first_with (rules.holds_some (ref 0 ∷ [])) (record { number = 0; chunk = cell_chunk (ref 1) half (snap 2) } ∷ []) (at 1 1) MeasureCode scene (λ c. End) (refused MeasureCode) ≡ Probe (probes (at 1 1) MeasureCode (bool 0 ∷ denied (bool 1) ∷ []) (equal (ref 1) (ref 0))) End (refused MeasureCode) }
+    ensures rooted { members.from_measure [] (rules.outer [] 1) f cells.cells_get (Some (syntax.ByInstance (at 1 1) cell syntax.NoMore)) scene ≡ Step (Step (refused MeasureCode)) }
 {}
 
 /// Which applications are measured: those of the function's own tree, at level 0, of its group, of a callee with a measure.
@@ -114,7 +114,7 @@ pub fn parts_of_rules()
 
 /// A method without a body has one side, and with one two; the returns of a promise are fresh.
 pub fn sides_of_methods()
-    ensures without_body { members.both_sides [] (a_method None) scene ≡ Step (Step (Step End)) }
-    ensures with_body { members.both_sides [] (a_method (Some syntax.Done)) scene ≡ Fork (Step (Step (Step End))) (Step (Step (Step (Step (Step End))))) }
+    ensures without_body { members.both_sides [] (rules.outer [] 1) (a_method None) scene ≡ Step (Step (Step End)) }
+    ensures with_body { members.both_sides [] (rules.outer [] 1) (a_method (Some syntax.Done)) scene ≡ Fork (Step (Step (Step End))) (Step (Step (Step (Step (Step End))))) }
     ensures new_returns { (members.with_new_returns cells.cells_read (record scene { store = (cells.x, ref 0) ∷ (cells.y, int 1) ∷ [] })).store ≡ (cells.x, ref 0) ∷ (cells.y, int 7) ∷ [] }
 {}

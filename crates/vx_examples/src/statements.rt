@@ -6,7 +6,7 @@ ghost use Rattle.vx_examples.specs.Words.{asks, at, bool, denied, differ, equal,
 ghost use Rattle.vx_examples.specs.Branches.{branches, folds_bare, folds_none, unfolds_bare, unfolds_none, sets, writes_other, creates, assumes, calls, loops_over_heap, forgets_variables, increases, precondition, postcondition, needs, stuck};
 
 /// A fold without the body, and one of no amount.
-#[tactic(auto, unfolding(vx_frac::specs::Fractions::lowest))]
+#[tactic(auto, unfolding(vx_frac::specs::Fractions::lowest, vx_rules::specs::Members::rules))]
 pub fn folds()
     ensures folds_bare { questions_of branches folds_bare ≡ asks (at 18 29) FoldCode [] falsity ∷ [] }
     ensures folds_none { questions_of branches folds_none ≡ asks (at 19 29) AmountCode [] falsity ∷ [] }
@@ -46,7 +46,7 @@ pub fn facts()
 {}
 
 /// A call names its arguments, asks for the precondition and gives the postcondition of fresh returns.
-#[tactic(auto, unfolding(vx_frac::specs::Fractions::lowest))]
+#[tactic(auto, unfolding(vx_frac::specs::Fractions::lowest, vx_rules::specs::Members::rules))]
 pub fn called_methods()
     ensures calls { questions_of branches calls ≡
         asks (at 26 35) CallCode (equal (int 2) (plus (int 0) (number 1)) ∷ []) (less (number 0) (int 2))
@@ -82,7 +82,7 @@ pub fn measures_unheld()
 {}
 
 /// An application whose instance is not inside the measured one.
-#[tactic(auto, unfolding(vx_frac::specs::Fractions::lowest))]
+#[tactic(auto, unfolding(vx_frac::specs::Fractions::lowest, vx_rules::specs::Members::rules))]
 pub fn measures_not_inside()
     ensures stuck { questions_of branches stuck ≡ asks (at 30 66) MeasureCode [] falsity ∷ [] }
 {}

@@ -99,7 +99,7 @@ pub fn paths_and_indices()
 {}
 
 /// What an operand's value leads to, before what waits for the whole.
-#[tactic(auto, unfolding(vx_rules::specs::Stack::rules))]
+#[tactic(auto, unfolding(vx_rules::specs::Members::rules))]
 pub fn operands_that_wait()
     ensures negate { (on : Giving) → operand [] operand'.Negate on (bool 0) scene ≡ Step (on (denied (bool 0)) scene) }
     ensures operate_right { (b : Rc Expr' Global) (on : Giving) → operand [] (operand'.OperateRight operator'.Greater b) on (int 0) scene ≡ Step (rules.eval [] (rules.outer [] 4) (expr b.value) scene (λ u s. Step (on (rules.operated syntax.Greater (int 0) u) s))) }
@@ -115,7 +115,7 @@ pub fn operands_that_wait()
 {}
 
 /// What a value leads to within a consume, and within a statement.
-#[tactic(auto, unfolding(vx_rules::specs::Stack::rules))]
+#[tactic(auto, unfolding(vx_rules::specs::Members::rules))]
 pub fn parts_that_wait()
     ensures context { context (record { pure = code'.Postcondition; permission = code'.Call }) ≡ members.codes PostCode CallCode }
     ensures asked { (on : Giving) → consumed [] (consumed'.Ask (at 1 1) code'.Assert) on truth with_chunks ≡ Step (Step (on unit (record with_chunks { heap = [] }))) }
@@ -130,7 +130,7 @@ pub fn parts_that_wait()
 {}
 
 /// What a state, or a value and a state, leads to, and the tree of a frame.
-#[tactic(auto, unfolding(vx_rules::specs::Stack::rules))]
+#[tactic(auto, unfolding(vx_rules::specs::Members::rules))]
 pub fn frames_that_wait()
     ensures finish { going [] next'.Finish scene ≡ End }
     ensures exec { (q : _) (c : Rc Stmt' Global) (n : Next) → going [] (next'.Exec' c q n) scene ≡ members.exec [] (rules.outer [] 4) (stmt c.value) scene (going [] n) }
@@ -140,7 +140,7 @@ pub fn frames_that_wait()
     ensures unit { (q : _) (h : Hole) → going [] (next'.Unit' q h) with_chunks ≡ Step (giving [] h unit (record with_chunks { heap = [] })) }
     ensures consume { (q : _) (a : Rc Assertion' Global) (h : Hole) → going [] (next'.Consume' a (record { pure = code'.Entry; permission = code'.Entry }) q h) with_chunks ≡
         rules.consume [] (rules.outer [] 4) (assertion a.value) (members.codes EntryCode EntryCode) all with_chunks.heap with_chunks (giving [] h) }
-    ensures sides { (m : Rc Method' Global) → going [] (next'.Sides m) scene ≡ members.sides [] (method m.value) scene }
+    ensures sides { (m : Rc Method' Global) → going [] (next'.Sides m) scene ≡ members.sides [] (rules.outer [] 4) (method m.value) scene }
     ensures given { giving [] hole'.Finish (int 0) scene ≡ End }
     ensures produced { (q : _) (n : Next) → giving [] (hole'.Produced' q n) (bool 0) scene ≡ Step (going [] n scene) }
     ensures operand { (q : _) (h : Hole) → giving [] (hole'.Operand' operand'.Negate q h) (bool 0) scene ≡ Step (giving [] h (denied (bool 0)) scene) }

@@ -9,8 +9,8 @@ ghost use Rattle.vx_rules.specs.Rules as rules;
 ghost use Rattle.vx_rules.specs.Trees.{AmountCode, Ask, AssertCode, CallCode, DivisorCode, End, EntryCode, Failed, FoldCode, Fork, FunctionCode, KeptCode, MeasureCode, Open, Passed, PermissionCode, PostCode, Probe, Step, UnfoldCode, leaves, size, walk};
 ghost use Rattle.vx_rules.specs.Stack.{code_number};
 ghost use Rattle.vx_ast.specs.declared.ValueType.TheVariants.{Int};
-ghost use Rattle.vx_ast.specs.Syntax.{IsField, NoMore};
-ghost use Rattle.vx_rules.specs.Members.{blank, ended, tree, predicate_tree, depth};
+ghost use Rattle.vx_ast.specs.Syntax.{IsField, IsPredicate, NoMore};
+ghost use Rattle.vx_rules.specs.Members.{blank, ended, tree, depth};
 ghost use Rattle.vx_examples.specs.Words.{at, int, bool, real, ref, snap, null, unit, number, part, none, all, falsity, denied, equal, differ, less, at_most, plus, minus, both, implied, chosen_term, asks, probes, refuted, satisfied};
 ghost use Rattle.vx_examples.specs.Simplified.{truth};
 ghost use Rattle.vx_examples.specs.Walks.{first_ask, second_ask, a_probe, two_asks, two_sides, probing, leaving, x, y, f, g, cell, fact, branch, scene, quiet_scene, field_chunk, cell_chunk, half, heap, with_chunks};
@@ -147,7 +147,7 @@ pub fn code_numbers()
 /// A field, and a predicate or method without what it would ask about, have no question; the rules need a depth.
 pub fn trees_of_members()
     ensures field { tree [] f (IsField Int) ≡ End }
-    ensures no_body { predicate_tree [] (record { place = at 1 1; parameters = []; body = None }) ≡ End }
+    ensures no_body { tree [] f (IsPredicate record { place = at 1 1; parameters = []; body = None }) ≡ End }
     ensures depth { depth (record { name = f; kind = IsField Int } ∷ record { name = g; kind = IsField Int } ∷ []) ≡ 12 }
     ensures no_depth { (rules.outer [] 0).evals NoMore scene (λ ts s. End) ≡ Ask (asks (at 0 0) AssertCode (bool 0 ∷ denied (bool 1) ∷ []) falsity) End }
     ensures some_depth { (rules.outer [] 1).evals NoMore scene (λ ts s. End) ≡ Step End }

@@ -3,8 +3,9 @@
 ghost use Rattle.std.specs.Prelude.{◌≡◌, None, IfOk};
 ghost use Rattle.vx_ast.specs.Resolved.{assertion, block, method};
 ghost use Rattle.vx_rules.specs.Members as rule;
+ghost use Rattle.vx_rules.specs.Members.{rules};
 ghost use Rattle.vx_rules.specs.Rules.{produce};
-ghost use Rattle.vx_rules.specs.Stack.{rules, going, side_tree, Stepped};
+ghost use Rattle.vx_rules.specs.Stack.{going, side_tree, Stepped};
 ghost use Rattle.vx_rules.specs.SymStates.{state as state_of};
 ghost use Rattle.vx_rules.specs.Trees as tree;
 ghost use Rattle.vx_terms.specs.Build.{whole_amount};
@@ -31,7 +32,7 @@ pub fn make_promise(
     m: &Method,
     state: SymState,
 ) -> Result<Promise, AllocError>
-    ensures { IfOk result (λ r. produce (settled program.now) (rules (settled program.now)) (assertion r.all.value) whole_amount None (state_of r.state) (going (settled program.now) r.finish.value) ≡ rule.promise_side (settled program.now) (method m.now) (state_of state)) }
+    ensures { IfOk result (λ r. produce (settled program.now) (rules (settled program.now)) (assertion r.all.value) whole_amount None (state_of r.state) (going (settled program.now) r.finish.value) ≡ rule.promise_side (settled program.now) (rules (settled program.now)) (method m.now) (state_of state)) }
 {
     let _program = program;
     let mut state = state;
@@ -49,7 +50,7 @@ fn promise_side(
     m: &Method,
     state: SymState,
 ) -> Result<Side, AllocError>
-    ensures { IfOk result (λ side. side_tree (settled program.now) side ≡ rule.promise_side (settled program.now) (method m.now) (state_of state)) }
+    ensures { IfOk result (λ side. side_tree (settled program.now) side ≡ rule.promise_side (settled program.now) (rules (settled program.now)) (method m.now) (state_of state)) }
 {
     let promise = make_promise(alloc, program, m, state)?;
     let next = Rc::new(alloc, Next::Produce(promise.all, promise.finish))?;
@@ -67,7 +68,7 @@ fn body_side(
     body: &Rc<Block>,
     state: SymState,
 ) -> Result<Side, AllocError>
-    ensures { IfOk result (λ side. side_tree (settled program.now) side ≡ rule.body_side (settled program.now) (method m.now) (block body.now.value) (state_of state)) }
+    ensures { IfOk result (λ side. side_tree (settled program.now) side ≡ rule.body_side (settled program.now) (rules (settled program.now)) (method m.now) (block body.now.value) (state_of state)) }
 {
     let _program = program;
     let finish = Rc::new(alloc, Hole::Finish)?;
@@ -93,7 +94,7 @@ pub fn step_sides(
     state: SymState,
     conts: &mut Conts,
 ) -> Result<Move, AllocError>
-    ensures { IfOk result (λ v. Stepped (settled program.now) (tree.Fork (rule.promise_side (settled program.now) (method m.now) (state_of state)) (rule.body_side (settled program.now) (method m.now) (block body.now.value) (state_of state))) conts.old.sides.items v conts.new.sides.items) }
+    ensures { IfOk result (λ v. Stepped (settled program.now) (tree.Fork (rule.promise_side (settled program.now) (rules (settled program.now)) (method m.now) (state_of state)) (rule.body_side (settled program.now) (rules (settled program.now)) (method m.now) (block body.now.value) (state_of state))) conts.old.sides.items v conts.new.sides.items) }
 {
     let first = promise_side(alloc, program, m, state.copy(alloc)?)?;
     let second = body_side(alloc, program, m, body, state)?;

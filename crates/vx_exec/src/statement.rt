@@ -3,8 +3,9 @@
 ghost use Rattle.std.specs.Prelude.{◌≡◌, IfOk};
 ghost use Rattle.vx_ast.specs.Resolved.{assertion, block as block_of, stmt};
 ghost use Rattle.vx_rules.specs.Members as rule;
+ghost use Rattle.vx_rules.specs.Members.{rules};
 ghost use Rattle.vx_rules.specs.Rules.{consume};
-ghost use Rattle.vx_rules.specs.Stack.{executed as executed_of, rules, frame_tree, giving, going, Stepped};
+ghost use Rattle.vx_rules.specs.Stack.{executed as executed_of, frame_tree, giving, going, Stepped};
 ghost use Rattle.vx_rules.specs.States.{leave};
 ghost use Rattle.vx_rules.specs.SymStates.{state as state_of};
 ghost use Rattle.vx_rules.specs.Trees.{AssertCode, PermissionCode};

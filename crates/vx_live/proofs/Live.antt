@@ -6,16 +6,16 @@ use Rattle.vx_ast.specs.Syntax.{Name, same_name, Program, Operator, Equal, Less,
 use Rattle.vx_frac.specs.Fractions.{Fraction, none, full, whole, over, lowest}
 use Rattle.vx_frac.proofs.Lowest.{lowest-lowest}
 use Rattle.vx_terms.specs.Sorts.{Sort, IntSort, BoolSort, RealSort, RefSort, Standard, same_sort}
-use Rattle.vx_terms.specs.Terms.{Term, same, sort_of}
+use Rattle.vx_terms.specs.Terms.{Term, same}
 use Rattle.vx_terms.specs.Terms as term
-use Rattle.vx_terms.specs.Build.{true_term, false_term, negate, and, equals, less, ite, multiply, null, zero_amount, whole_amount, variable}
+use Rattle.vx_terms.specs.Build.{true_term, false_term, negate, and, equals, less, less_equal, ite, multiply, null, zero_amount, whole_amount, variable}
 use Rattle.vx_terms.specs.Interpretations.{Each}
 use Rattle.vx_terms.specs.Formed.{Formed, constant, part as formed_part}
 use Rattle.vx_terms.proofs.Values.{sort_of_formed}
 use Rattle.vx_rules.specs.States as rules
 use Rattle.vx_rules.specs.States.{sort_of_type}
 use Rattle.vx_rules.specs.Trees.{Code, DivisorCode, PermissionCode, Tree, End, Ask}
-use Rattle.vx_rules.specs.Chunks.{field_key, first_argument, Candidate, candidates}
+use Rattle.vx_rules.specs.Chunks.{field_key, equal_arguments, first_argument, Candidate, candidates}
 use Rattle.vx_rules.specs.Rules as rule
 use Rattle.vx_rules.specs.Rules.{Giving, Going, Outer, question, ask, never, probe, field_sort, fork, short, is_total, eval}
 use Rattle.vx_types.specs.Typing.{Scope, type_in, TakesType, gives_type, HasType, variable as variable', nulls, part, nots, operates, scales, divides, connects, chooses, reads, olds, applies, unfoldings}
@@ -232,16 +232,35 @@ module _ (p : Program) (o : Outer) where
   short_live Or t more on sh f h k = fork_live t (on true_term) more sh f (λ s le sh. k true_term s le sh (truth_fine true)) h
   short_live Implies t more on sh f h k = fork_live t more (on true_term) sh f h (λ s le sh. k true_term s le sh (truth_fine true))
 
+  -- candidates, by what is known of each chunk
+  first_of_live : {sorts : Sorts} {scope : Scope} {s : rules.State} (key : rules.Chunk) (wanted : rules.Chunk → Term) (cs : List Candidate) (at : Place) (code : Code) (on : Candidate → Tree) (otherwise : Tree) → Each (IsPlace key s.heap) cs → Shaped p sorts scope s →
+      ((d : Candidate) → IsPlace key s.heap d → Fine sorts s.next (wanted d.chunk) BoolSort × AllLive (on d)) → AllLive otherwise → AllLive (rule.first_with wanted cs at code s on otherwise)
+  first_of_live key wanted [] at code on otherwise pl sh h k = k
+  first_of_live {s = s} key wanted (d ∷ ds) at code on otherwise pl sh h k =
+      probe_live (wanted d.chunk) at code (on d) (rule.first_with wanted ds at code s on otherwise) sh (h d pl.0).0 (h d pl.0).1 (first_of_live key wanted ds at code on otherwise pl.1 sh h k)
+
+  pub first_live : {sorts : Sorts} {scope : Scope} {s : rules.State} (key : rules.Chunk) (wanted : rules.Chunk → Term) (at : Place) (code : Code) (on : Candidate → Tree) (otherwise : Tree) → Shaped p sorts scope s →
+      ((d : Candidate) → IsPlace key s.heap d → Fine sorts s.next (wanted d.chunk) BoolSort × AllLive (on d)) → AllLive otherwise → AllLive (rule.first_with wanted (candidates key s.heap) at code s on otherwise)
+  first_live {s = s} key wanted at code on otherwise sh h k = first_of_live key wanted (candidates key s.heap) at code on otherwise (candidates_places key s.heap) sh h k
+
+  -- a chunk of a field has one argument
+  some_fine : {sorts : Sorts} {n : ℕ} {r : Term} (d : rules.Chunk) → ChunkShape p sorts n d → Fine sorts n r RefSort → Fine sorts n (rule.holds_some (r ∷ []) d) BoolSort
+  some_fine {sorts = sorts} {n = n} {r = r} d c g =
+      subst (λ ts. Fine sorts n (and (equal_arguments ts (r ∷ [])) (less zero_amount d.amount)) BoolSort) (sym c.single) (and_fine (equals_fine c.receiver g) (positive_fine c.amount))
+
+  pub amount_fine : {sorts : Sorts} {n : ℕ} {r a : Term} (d : rules.Chunk) → ChunkShape p sorts n d → Fine sorts n r RefSort → Fine sorts n a RealSort → Fine sorts n (rule.holds_amount a (r ∷ []) d) BoolSort
+  amount_fine {sorts = sorts} {n = n} {r = r} {a = a} d c g ga =
+      subst (λ ts. Fine sorts n (and (equal_arguments ts (r ∷ [])) (less_equal a d.amount)) BoolSort) (sym c.single) (and_fine (equals_fine c.receiver g) (less_equal_fine (inr refl) ga c.amount))
+
   -- reading
-  read_live : {sorts : Sorts} {scope : Scope} {s : rules.State} (f : Name) (r : Term) (t : ValueType) (cs : List Candidate) (at : Place) (on : Giving) → field_sort p f ≡ sort_of_type t → Each (IsPlace (field_key f r) s.heap) cs → Shaped p sorts scope s → Fine sorts s.next r RefSort →
-      ((u : Term) → Fine sorts s.next u (sort_of_type t) → AllLive (on u s)) → AllLive (rule.read_from cs r at s on)
-  read_live f r t [] at on e pl sh g h = never_live at PermissionCode sh
-  read_live {sorts = sorts} {s = s} f r t (d ∷ ds) at on e pl sh g h =
-      let c = place_shape pl.0 sh.heap in
-      probe_live (and (equals (first_argument d.chunk.arguments) r) (less zero_amount d.chunk.amount)) at PermissionCode (on d.chunk.value s) (rule.read_from ds r at s on) sh
-      (and_fine (equals_fine c.0.receiver g) (positive_fine c.0.amount))
-      (h d.chunk.value (subst (λ a. Fine sorts s.next d.chunk.value a) (ap (field_sort p) pl.0.resource ∙ e) c.0.content))
-      (read_live f r t ds at on e pl.1 sh g h)
+  read_live : {sorts : Sorts} {scope : Scope} {s : rules.State} (f : Name) (r : Term) (t : ValueType) (at : Place) (on : Giving) → field_sort p f ≡ sort_of_type t → Shaped p sorts scope s → Fine sorts s.next r RefSort →
+      ((u : Term) → Fine sorts s.next u (sort_of_type t) → AllLive (on u s)) → AllLive (rule.read_field f r at s on)
+  read_live {sorts = sorts} {s = s} f r t at on e sh g h =
+      first_live (field_key f r) (rule.holds_some (r ∷ [])) at PermissionCode (λ d. on d.chunk.value s) (rule.never at PermissionCode s) sh
+      (λ d pl.
+        let c = (place_shape pl sh.heap).0 in
+        (some_fine d.chunk c g, h d.chunk.value (subst (λ a. Fine sorts s.next d.chunk.value a) (ap (field_sort p) pl.resource ∙ e) c.content)))
+      (never_live at PermissionCode sh)
 
   pub eval_live : {scope : Scope} {e : Expr} {t : ValueType} → HasType p scope e t → InFields e → {sorts : Sorts} {s : rules.State} (on : Giving) → Shaped p sorts scope s →
       FollowsWith p sorts s.next scope (sort_of_type t) on → AllLive (eval p o e s on)
@@ -284,7 +303,7 @@ module _ (p : Program) (o : Outer) where
   eval_live (part at n d l) k {s = s} on sh h = h (term.Part (lowest (over n d))) s stays sh (part_fine (lowest (over n d)) (lowest-lowest (over n d)))
   eval_live (reads {at = at} f {t = t} named te) k on sh h =
       eval_live te k _ sh (λ r s1 le sh1 g.
-      read_live f r t (candidates (field_key f r) s1.heap) (rule.placed s1 at) on (sort_of_field p f ∙ ap sort_of_type (field_type_is p f named)) (candidates_places (field_key f r) s1.heap) sh1 g (λ u f2. h u s1 le sh1 f2))
+      read_live f r t (rule.placed s1 at) on (sort_of_field p f ∙ ap sort_of_type (field_type_is p f named)) sh1 g (λ u f2. h u s1 le sh1 f2))
   eval_live (olds te) k {s = s} on sh h =
       eval_live te k {s = rules.with_heap s.old s} _ (record { store = sh.store; path = sh.path; heap = sh.old; old = sh.old }) (λ t s1 le sh1 f.
       h t (rules.with_heap s.heap s1) le (record { store = sh1.store; path = sh1.path; heap = heap_le p s.heap le sh.heap; old = sh1.old }) f)

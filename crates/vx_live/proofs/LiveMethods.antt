@@ -9,16 +9,16 @@ use Rattle.vx_ast.specs.Syntax.{Name, same_name, Program, Declaration, Method, p
 use Rattle.vx_ast.specs.Mentions.{is_among}
 use Rattle.vx_terms.specs.Sorts.{Sort, IntSort, BoolSort, RealSort, RefSort}
 use Rattle.vx_terms.specs.Terms.{Term, same, sort_of}
-use Rattle.vx_terms.specs.Build.{negate, unit, pair, wrap, and, implies, equals, less, less_equal, add, subtract, multiply, variable, zero_amount, whole_amount}
+use Rattle.vx_terms.specs.Build.{negate, unit, pair, wrap, implies, equals, less, less_equal, add, subtract, multiply, variable, zero_amount, whole_amount}
 use Rattle.vx_terms.specs.Interpretations.{Each}
 use Rattle.vx_terms.proofs.Same.{sort_is}
 use Rattle.vx_terms.proofs.Values.{sort_of_formed}
 use Rattle.vx_rules.specs.States as rules
 use Rattle.vx_rules.specs.States.{sort_of_type}
 use Rattle.vx_rules.specs.Trees.{Code, AssertCode, PermissionCode, AmountCode, PostCode, EntryCode, KeptCode, Tree, End, Step, Fork}
-use Rattle.vx_rules.specs.Chunks.{field_key, is_kin, same_arguments, equal_arguments, Candidate, chosen, candidates, without, reduced, first_argument, merged, agree, is_not_null, apart, bounding, field_facts, instance_facts, put_over, put}
-use Rattle.vx_rules.specs.Rules.{Giving, Going, Context, pair_facts, with_built_wrap, Outer, outer, ask, probe, placed, field_sort, taken_from, take_chunk, write_to, eval, produce, consume}
-use Rattle.vx_rules.specs.Members.{codes, forget, is_ref, unlike, unlike_stored, unlike_chunk, unlike_held, distinct, put_fields, exec, exec_all, depth, blank, ended, promise_side, body_side, both_sides, sides, method_tree}
+use Rattle.vx_rules.specs.Chunks.{field_key, is_kin, same_arguments, Candidate, chosen, without, reduced, first_argument, merged, agree, is_not_null, apart, bounding, field_facts, instance_facts, put_over, put}
+use Rattle.vx_rules.specs.Rules.{Giving, Going, Context, pair_facts, with_built_wrap, Outer, ask, never, placed, field_sort, holds_amount, take_fresh, take_chunk, written, write_field, eval, produce, consume}
+use Rattle.vx_rules.specs.Members.{codes, forget, is_ref, unlike, unlike_stored, unlike_chunk, unlike_held, distinct, put_fields, exec, exec_all, rules as member_rules, blank, ended, promise_side, body_side, both_sides, sides, method_tree}
 use Rattle.vx_meaning.specs.Fails.{precondition_of, postcondition_of}
 use Rattle.vx_types.specs.Typing.{Scope, type_in, HasType, IsTyped, IsTypedStmt, IsTypedBlock, IsTypedBody, IsTypedMethod, scope_after, scope_after_all}
 use Rattle.vx_types.specs.FieldLanguage.{InFields, IsOfFields, IsFieldStmt, IsFieldBlock, IsFieldBody, IsFieldMethod}
@@ -26,8 +26,8 @@ use Rattle.vx_types.specs.StoreLanguage.{IsStoreMethod}
 use Rattle.vx_live.specs.Live.{IsBuiltIn, AllLive, LiveLaw}
 use Rattle.vx_live.proofs.Over.{Sorts, Above, stays, above, Fine, fine_later, built_sort, built_type, negate_fine, and_fine, implies_fine, equals_fine, ite_fine, less_equal_fine, add_fine, subtract_fine, multiply_fine}
 use Rattle.vx_elements.proofs.Values.{sort_of_field, field_type_is}
-use Rattle.vx_elements.proofs.Places.{IsPlace, candidates_places, matching_places}
-use Rattle.vx_live.proofs.Live.{found_formed, entry_shaped, StoreShape, ChunkShape, HeapShape, Shaped, Later, Follows, Fresh, heap_le, fact_later, facts_later, fresh_later, live_case, ask_live, probe_live, never_live, fork_live, null_fine, zero_fine, whole_fine, positive_fine, place_shape, set_shape, eval_live}
+use Rattle.vx_elements.proofs.Places.{IsPlace, matching_places}
+use Rattle.vx_live.proofs.Live.{found_formed, entry_shaped, StoreShape, ChunkShape, HeapShape, Shaped, Later, Follows, Fresh, heap_le, fact_later, facts_later, fresh_later, live_case, ask_live, never_live, fork_live, null_fine, zero_fine, whole_fine, positive_fine, place_shape, set_shape, first_live, amount_fine, eval_live}
 use Rattle.vx_elements.proofs.Lists.{name_is, each_append}
 use Rattle.vx_elements.proofs.Cases.{store_method}
 use Rattle.vx_elements.proofs.Scopes.{scope_more, joined_typed, joined_plain, typed_longer, all_typed_longer}
@@ -281,19 +281,14 @@ module _ (p : Program) (o : Outer) where
       go true = subst (λ h. HeapShape p sorts s.next h) (sym pl.without_is) c.1
       go false = set_shape pl (record d.chunk { amount = subtract d.chunk.amount a }) sh.heap (record { single = c.0.single; receiver = c.0.receiver; amount = subtract_fine (inr refl) c.0.amount ga; content = c.0.content })
 
-  take_live : {sorts : Sorts} {scope : Scope} {s : rules.State} (f : Name) (r a : Term) (sort : Sort) → IsBuiltIn sort → (at : Place) (code : Code) (on : rules.Chunk → Going) (cs : List Candidate) → Each (IsPlace (field_key f r) s.heap) cs → Shaped p sorts scope s → Fine sorts s.next r RefSort → Fine sorts s.next a RealSort →
-      ((c : rules.Chunk) (s1 : rules.State) (le : Above sorts s.next s1.next) → Shaped p le.sorts scope s1 → AllLive (on c s1)) → AllLive (taken_from cs (field_key f r) a sort at code s on)
-  take_live {s = s} f r a sort built at code on [] pl sh g ga h =
-      live_case (rules.is_quiet s) _ _ tt
+  take_live : {sorts : Sorts} {scope : Scope} {s : rules.State} (f : Name) (r a : Term) (sort : Sort) → IsBuiltIn sort → (at : Place) (code : Code) (on : rules.Chunk → Going) → Shaped p sorts scope s → Fine sorts s.next r RefSort → Fine sorts s.next a RealSort →
+      ((c : rules.Chunk) (s1 : rules.State) (le : Above sorts s.next s1.next) → Shaped p le.sorts scope s1 → AllLive (on c s1)) → AllLive (take_chunk (field_key f r) a sort at code s on)
+  take_live {s = s} f r a sort built at code on sh g ga h =
+      first_live p o (field_key f r) (holds_amount a (r ∷ [])) at code (λ d. on d.chunk (rules.with_heap (reduced d a s.heap) s)) (take_fresh (field_key f r) a sort at code s on) sh
+      (λ d pl. (amount_fine p o d.chunk (place_shape pl sh.heap).0 g ga, h d.chunk (rules.with_heap (reduced d a s.heap) s) stays (reduced_shape d a pl sh ga)))
+      (live_case (rules.is_quiet s) _ _ tt
       (ask_live (equals a zero_amount) at code (λ s1. on (record (field_key f r) { amount = a; value = rules.fresh sort s1 }) (rules.after_fresh s1)) sh (equals_fine ga zero_fine) (λ s1 le sh1.
-      let k = fresh_later sort built sh1 in h (record (field_key f r) { amount = a; value = rules.fresh sort s1 }) (rules.after_fresh s1) (above le k.le) k.shaped))
-  take_live {s = s} f r a sort built at code on (d ∷ ds) pl sh g ga h =
-      let c = place_shape pl.0 sh.heap in
-      subst (λ ts. AllLive (probe (and (equal_arguments ts (r ∷ [])) (less_equal a d.chunk.amount)) at code s (on d.chunk (rules.with_heap (reduced d a s.heap) s)) (taken_from ds (field_key f r) a sort at code s on))) (sym c.0.single)
-      (probe_live (and (equals (first_argument d.chunk.arguments) r) (less_equal a d.chunk.amount)) at code (on d.chunk (rules.with_heap (reduced d a s.heap) s)) (taken_from ds (field_key f r) a sort at code s on) sh
-      (and_fine (equals_fine c.0.receiver g) (less_equal_fine (inr refl) ga c.0.amount))
-      (h d.chunk (rules.with_heap (reduced d a s.heap) s) stays (reduced_shape d a pl.0 sh ga))
-      (take_live f r a sort built at code on ds pl.1 sh g ga h))
+      let k = fresh_later sort built sh1 in h (record (field_key f r) { amount = a; value = rules.fresh sort s1 }) (rules.after_fresh s1) (above le k.le) k.shaped)))
 
   -- with the chunks of another state
   with_chunks : {sorts : Sorts} {scope : Scope} {n : ℕ} {s1 : rules.State} (heap : rules.Heap) (le : Above sorts n s1.next) → HeapShape p sorts n heap → Shaped p le.sorts scope s1 → Shaped p le.sorts scope (rules.with_heap heap s1)
@@ -309,7 +304,7 @@ module _ (p : Program) (o : Outer) where
       locate_live at t.0 k.0 t.2 k.1 {s = rules.with_heap heap s} scale
       (λ r a s3. take_chunk (field_key f r) a (field_sort p f) (placed s3 at) x.permission (rules.with_heap s.heap s3) (λ c s4. Step (on (wrap (field_sort p f) c.value) (with_built_wrap x (field_sort p f) c.value s4))))
       (with_chunks heap stays hs sh) q (λ r a s3 le sh3 g ga.
-      take_live f r a (field_sort p f) (built_field p f) (placed s3 at) x.permission (λ c s4. Step (on (wrap (field_sort p f) c.value) (with_built_wrap x (field_sort p f) c.value s4))) (candidates (field_key f r) s.heap) (candidates_places (field_key f r) s.heap)
+      take_live f r a (field_sort p f) (built_field p f) (placed s3 at) x.permission (λ c s4. Step (on (wrap (field_sort p f) c.value) (with_built_wrap x (field_sort p f) c.value s4)))
       (with_chunks s.heap le sh.heap sh3) g ga (λ c s4 le4 sh4.
       subst (λ z. AllLive (on (wrap (field_sort p f) c.value) (with_built_wrap (record x { builds = z }) (field_sort p f) c.value s4))) (sym b) (h (wrap (field_sort p f) c.value) s4 (above le le4) sh4)))
   consume_live (Both a b) t k {s = s} x scale heap on e sh hs q h =
@@ -329,24 +324,26 @@ module _ (p : Program) (o : Outer) where
       (λ s2 le2 sh2. consume_live b t.2 k.2 x scale heap on e sh2 (heap_le p heap (above le le2) hs) (fine_later (above le le2) q) (λ l s3 le3 sh3. h l s3 (above le (above le2 le3)) sh3)))
 
   -- writing
-  write_live : {sorts : Sorts} {scope : Scope} {s : rules.State} (f : Name) (r t : Term) (cs : List Candidate) (at : Place) (on : Going) → Each (IsPlace (field_key f r) s.heap) cs → Shaped p sorts scope s → Fine sorts s.next r RefSort → Fine sorts s.next t (field_sort p f) →
-      Follows p sorts s.next scope on → AllLive (write_to cs r t at s on)
-  write_live f r t [] at on pl sh g ft h = never_live at PermissionCode sh
-  write_live {scope = scope} {s = s} f r t (d ∷ ds) at on pl sh g ft h =
-      let c = place_shape pl.0 sh.heap in
-      let n = named t (field_sort p f) sh ft in
-      let content : Fine n.le.sorts (rules.after_name t s).next (rules.name_of t s) (field_sort p d.chunk.resource) = subst (λ a. Fine n.le.sorts (rules.after_name t s).next (rules.name_of t s) a) (sym (ap (field_sort p) pl.0.resource)) n.formed in
-      let after : Shaped p n.le.sorts scope (rules.with_heap (slice_set s.heap d.number (record d.chunk { value = rules.name_of t s })) (rules.after_name t s)) = record {
-        store = n.shaped.store;
-        path = n.shaped.path;
-        heap = set_shape pl.0 (record d.chunk { value = rules.name_of t s }) (heap_le p s.heap n.le sh.heap) (record { single = c.0.single; receiver = fine_later n.le c.0.receiver; amount = fine_later n.le c.0.amount; content = content });
-        old = n.shaped.old;
-      } in
-      probe_live (and (equals (first_argument d.chunk.arguments) r) (less_equal whole_amount d.chunk.amount)) at PermissionCode
-      (on (rules.with_heap (slice_set s.heap d.number (record d.chunk { value = rules.name_of t s })) (rules.after_name t s))) (write_to ds r t at s on) sh
-      (and_fine (equals_fine c.0.receiver g) (less_equal_fine (inr refl) whole_fine c.0.amount))
-      (h (rules.with_heap (slice_set s.heap d.number (record d.chunk { value = rules.name_of t s })) (rules.after_name t s)) n.le after)
-      (write_live f r t ds at on pl.1 sh g ft h)
+  write_live : {sorts : Sorts} {scope : Scope} {s : rules.State} (f : Name) (r t : Term) (at : Place) (on : Going) → Shaped p sorts scope s → Fine sorts s.next r RefSort → Fine sorts s.next t (field_sort p f) →
+      Follows p sorts s.next scope on → AllLive (write_field f r t at s on)
+  write_live {sorts = sorts} {scope = scope} {s = s} f r t at on sh g ft h =
+      first_live p o (field_key f r) (holds_amount whole_amount (r ∷ [])) at PermissionCode (λ d. on (written d t s)) (never at PermissionCode s) sh
+      (λ d pl. (amount_fine p o d.chunk (place_shape pl sh.heap).0 g whole_fine, h (written d t s) n.le (after d pl)))
+      (never_live at PermissionCode sh)
+    where
+      n : Named p sorts scope s.next (field_sort p f) (rules.name_of t s) (rules.after_name t s)
+      n = named t (field_sort p f) sh ft
+
+      after : (d : Candidate) → IsPlace (field_key f r) s.heap d → Shaped p n.le.sorts scope (written d t s)
+      after d pl =
+          let c = (place_shape pl sh.heap).0 in
+          let content : Fine n.le.sorts (rules.after_name t s).next (rules.name_of t s) (field_sort p d.chunk.resource) = subst (λ a. Fine n.le.sorts (rules.after_name t s).next (rules.name_of t s) a) (sym (ap (field_sort p) pl.resource)) n.formed in
+          record {
+            store = n.shaped.store;
+            path = n.shaped.path;
+            heap = set_shape pl (record d.chunk { value = rules.name_of t s }) (heap_le p s.heap n.le sh.heap) (record { single = c.single; receiver = fine_later n.le c.receiver; amount = fine_later n.le c.amount; content = content });
+            old = n.shaped.old;
+          }
 
   put_all_live : {scope : Scope} (fs : List Name) (x : Term) {sorts : Sorts} (s : rules.State) → Shaped p sorts scope s → Fine sorts s.next x RefSort → Later p sorts scope s.next (put_fields p fs x s)
   put_all_live [] x s sh g = record { le = stays; shaped = sh }
@@ -421,7 +418,7 @@ module _ (p : Program) (o : Outer) where
     exec_live (Write at e f e') j scope k s on sh h =
         eval_live p o k.2 j.0 _ sh (λ r s1 le sh1 g.
         eval_live p o k.3 j.1 _ sh1 (λ t s2 le2 sh2 ft.
-        write_live f r t (candidates (field_key f r) s2.heap) at on (candidates_places (field_key f r) s2.heap) sh2 (fine_later le2 g)
+        write_live f r t at on sh2 (fine_later le2 g)
         (subst (λ a. Fine le2.sorts s2.next t a) (sym (sort_of_field p f ∙ ap sort_of_type (field_type_is p f k.1))) ft) (λ s3 le3 sh3. h s3 (above le (above le2 le3)) sh3)))
     exec_live (New at x fs) j scope k s on sh h =
         let v = rules.fresh RefSort s in
@@ -469,7 +466,7 @@ module _ (p : Program) (m : Method) (t : IsTypedMethod p m) (k : IsFieldMethod m
   post_typed : IsTyped p scope (postcondition_of m)
   post_typed = joined_typed p scope m.place m.ensures t.ensures
 
-  promise_live : {sorts : Sorts} (s : rules.State) → Shaped p sorts scope s → AllLive (promise_side p m s)
+  promise_live : {sorts : Sorts} (s : rules.State) → Shaped p sorts scope s → AllLive (promise_side p (member_rules p) m s)
   promise_live {sorts = sorts} s sh =
       let n = length m.parameters in
       let front : Shaped p sorts m.parameters (rules.leave n (rules.with_heap [] s)) = record {
@@ -479,19 +476,19 @@ module _ (p : Program) (m : Method) (t : IsTypedMethod p m) (k : IsFieldMethod m
         old = sh.old;
       } in
       let r = declared_all p m.returns m.parameters (rules.leave n (rules.with_heap [] s)) front in
-      produce_live p (outer p (depth p)) (postcondition_of m) post_typed (joined_plain m.place m.ensures k.ensures) whole_amount ended r.shaped whole_fine (λ s le sh. tt)
+      produce_live p (member_rules p) (postcondition_of m) post_typed (joined_plain m.place m.ensures k.ensures) whole_amount ended r.shaped whole_fine (λ s le sh. tt)
 
-  body_live : {sorts : Sorts} (b : Block) (s : rules.State) → IsTypedBlock p scope b → IsFieldBlock b → Shaped p sorts scope s → AllLive (body_side p m b s)
+  body_live : {sorts : Sorts} (b : Block) (s : rules.State) → IsTypedBlock p scope b → IsFieldBlock b → Shaped p sorts scope s → AllLive (body_side p (member_rules p) m b s)
   body_live b s tb kb sh =
-      exec_all_live p (outer p (depth p)) b kb scope tb s _ sh (λ s1 le sh1.
+      exec_all_live p (member_rules p) b kb scope tb s _ sh (λ s1 le sh1.
       let r = scope_more p b scope in
       let wide : IsTyped p (scope_after_all p b scope) (postcondition_of m) = subst (λ z. IsTyped p z (postcondition_of m)) (sym r.1) (typed_longer p scope r.0 (postcondition_of m) post_typed) in
-      consume_live p (outer p (depth p)) (postcondition_of m) wide (joined_plain m.place m.ensures k.ensures) (codes PostCode PostCode) whole_amount s1.heap _ refl sh1 sh1.heap whole_fine (λ u s2 le2 sh2. tt))
+      consume_live p (member_rules p) (postcondition_of m) wide (joined_plain m.place m.ensures k.ensures) (codes PostCode PostCode) whole_amount s1.heap _ refl sh1 sh1.heap whole_fine (λ u s2 le2 sh2. tt))
 
-  sides_live : {sorts : Sorts} (s : rules.State) → Shaped p sorts scope s → AllLive (both_sides p m s)
+  sides_live : {sorts : Sorts} (s : rules.State) → Shaped p sorts scope s → AllLive (both_sides p (member_rules p) m s)
   sides_live s sh = go m.body t.body k.body
     where
-      go : (b : Option Block) → IsTypedBody p scope b → IsFieldBody b → AllLive (elim b as (λ b. Tree) [ None ↦ promise_side p m s | Some b ↦ Fork (promise_side p m s) (body_side p m b s) ])
+      go : (b : Option Block) → IsTypedBody p scope b → IsFieldBody b → AllLive (elim b as (λ b. Tree) [ None ↦ promise_side p (member_rules p) m s | Some b ↦ Fork (promise_side p (member_rules p) m s) (body_side p (member_rules p) m b s) ])
       go None tb kb = promise_live s sh
       go (Some b) tb kb = (promise_live s sh, body_live b s tb kb sh)
 
@@ -499,8 +496,8 @@ module _ (p : Program) (m : Method) (t : IsTypedMethod p m) (k : IsFieldMethod m
   method_live =
       let a = declared_all p m.parameters [] {sorts = record { of = λ n. IntSort; built_in = λ n. tt }} blank (record { store = tt; path = tt; heap = tt; old = tt }) in
       let r = declared_all p m.returns m.parameters (rules.declare_all m.parameters blank) a.shaped in
-      produce_live p (outer p (depth p)) (precondition_of m) (joined_typed p scope m.place m.requires (all_typed_longer p m.parameters m.returns m.requires t.requires))
-      (joined_plain m.place m.requires k.requires) whole_amount (sides p m) r.shaped whole_fine (λ s le sh. sides_live (record s { old = s.heap }) (record { store = sh.store; path = sh.path; heap = sh.heap; old = sh.heap }))
+      produce_live p (member_rules p) (precondition_of m) (joined_typed p scope m.place m.requires (all_typed_longer p m.parameters m.returns m.requires t.requires))
+      (joined_plain m.place m.requires k.requires) whole_amount (sides p (member_rules p) m) r.shaped whole_fine (λ s le sh. sides_live (record s { old = s.heap }) (record { store = sh.store; path = sh.path; heap = sh.heap; old = sh.heap }))
 
 pub methods_live : LiveLaw IsFieldMethod
 methods_live p m t k = method_live p m t k

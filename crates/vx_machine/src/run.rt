@@ -2,7 +2,7 @@
 
 ghost use Rattle.std.specs.Prelude.{◌≡◌, IfOk, false};
 ghost use Rattle.vx_ast.specs.Resolved.{method};
-ghost use Rattle.vx_rules.specs.Members.{sides};
+ghost use Rattle.vx_rules.specs.Members.{rules, sides};
 ghost use Rattle.vx_rules.specs.Stack.{giving, going, frame_tree, side_tree, Stepped};
 ghost use Rattle.vx_rules.specs.SymStates.{state as state_of};
 ghost use Rattle.vx_terms.specs.Views.{term};
@@ -35,7 +35,7 @@ fn step_method(
     state: SymState,
     conts: &mut Conts,
 ) -> Result<Move, AllocError>
-    ensures { IfOk result (λ v. Stepped (settled program.now) (sides (settled program.now) (method m.now) (state_of state)) conts.old.sides.items v conts.new.sides.items) }
+    ensures { IfOk result (λ v. Stepped (settled program.now) (sides (settled program.now) (rules (settled program.now)) (method m.now) (state_of state)) conts.old.sides.items v conts.new.sides.items) }
 {
     match &m.body {
         Some(body) => vx_exec::step_sides(alloc, program, m, body, state, conts),

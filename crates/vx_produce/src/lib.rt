@@ -3,8 +3,9 @@
 
 ghost use Rattle.std.specs.Prelude.{◌≡◌, None, IfOk};
 ghost use Rattle.vx_ast.specs.Resolved.{assertion};
+ghost use Rattle.vx_rules.specs.Members.{rules};
 ghost use Rattle.vx_rules.specs.Rules as rule;
-ghost use Rattle.vx_rules.specs.Stack.{rules, giving, going, Stepped};
+ghost use Rattle.vx_rules.specs.Stack.{giving, going, Stepped};
 ghost use Rattle.vx_rules.specs.States.{with_fact};
 ghost use Rattle.vx_rules.specs.SymStates.{state as state_of};
 ghost use Rattle.vx_rules.specs.Trees as tree;

@@ -27,8 +27,8 @@ use Rattle.vx_rules.specs.States.{State, with_store, with_heap, assign, leave, w
 use Rattle.vx_rules.specs.Paths.{entries}
 use Rattle.vx_rules.specs.SymStates.{state}
 use Rattle.vx_rules.specs.Trees.{Code, AssertCode, PermissionCode, AmountCode, DivisorCode, CallCode, FunctionCode, PostCode, EntryCode, KeptCode, FoldCode, UnfoldCode, MeasureCode, Question, Tree, End, Step, Ask, Probe, Fork}
-use Rattle.vx_rules.specs.Rules.{Giving, Going, Context, Outer, outer, ask, fork, short, operated, connected, placed, with_built_pair, eval, produce, consume}
-use Rattle.vx_rules.specs.Members.{codes, exec, exec_all, depth, sides}
+use Rattle.vx_rules.specs.Rules.{Giving, Going, Context, ask, fork, short, operated, connected, placed, with_built_pair, eval, produce, consume}
+use Rattle.vx_rules.specs.Members.{codes, exec, exec_all, rules, sides}
 
 abbrev pub code : Code' → Code
 code code'.Assert = AssertCode
@@ -64,10 +64,6 @@ query q = record { place = q.place; code = code q.code; path = path_terms (entri
 
 abbrev pub context : Codes → Context
 context x = codes (code x.pure) (code x.permission)
-
--- the rules for the parts of other members
-unfoldable pub rules : Program → Outer
-rules p = outer p (depth p)
 
 module _ (p : Program) where
   -- what the value of an operand leads to, before what waits for the whole
@@ -113,7 +109,7 @@ module _ (p : Program) where
     going (next'.Produce' a q n) s = produce p (rules p) (assertion a.value) whole_amount None s (going n)
     going (next'.Consume' a x q h) s = consume p (rules p) (assertion a.value) (context x) whole_amount s.heap s (giving h)
     going (next'.Unit' q h) s = Step (giving h unit (with_heap [] s))
-    going (next'.Sides m) s = sides p (method m.value) s
+    going (next'.Sides m) s = sides p (rules p) (method m.value) s
 
     -- what a value and a state lead to
     pub giving : Hole → Giving

@@ -3,8 +3,9 @@
 ghost use Rattle.std.specs.Prelude.{◌≡◌, ◌++◌, ◌∷◌, [], IfOk, map};
 ghost use Rattle.vx_ast.specs.Resolved.{expr};
 ghost use Rattle.vx_ast.specs.Syntax.{Program};
+ghost use Rattle.vx_rules.specs.Members.{rules};
 ghost use Rattle.vx_rules.specs.Rules as rule;
-ghost use Rattle.vx_rules.specs.Stack.{code as code_of, rules, going, giving, frame_tree, side_tree, Stepped};
+ghost use Rattle.vx_rules.specs.Stack.{code as code_of, going, giving, frame_tree, side_tree, Stepped};
 ghost use Rattle.vx_rules.specs.SymStates.{state as state_of};
 ghost use Rattle.vx_rules.specs.Trees as tree;
 ghost use Rattle.vx_terms.specs.Views.{term};

@@ -9,9 +9,8 @@ use Rattle.vx_typing.specs.Programs.{IsTyped}
 use Rattle.vx_types.specs.Typing.{IsTypedMethod}
 use Rattle.vx_types.specs.Executed.{is_executed}
 use Rattle.vx_rules.specs.Rules.{outer}
-use Rattle.vx_rules.specs.Members.{depth, tree}
+use Rattle.vx_rules.specs.Members.{depth, tree_over, tree}
 use Rattle.vx_depth.specs.Apart.{KeepsApart}
-use Rattle.vx_depth.specs.Trees.{tree_over}
 use Rattle.vx_whole.specs.Premises.{IsTypedProgram}
 use Rattle.vx_types.specs.StoreLanguage.{IsStoreMethod}
 

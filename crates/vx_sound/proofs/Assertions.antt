@@ -17,7 +17,7 @@ use Rattle.vx_terms.specs.Build.{unit, pair, wrap}
 use Rattle.vx_terms.specs.Interpretations.{Interpretation, as_bool}
 use Rattle.vx_rules.specs.States as rules
 use Rattle.vx_rules.specs.Trees.{Step}
-use Rattle.vx_rules.specs.Chunks.{field_key, candidates, put}
+use Rattle.vx_rules.specs.Chunks.{field_key, put}
 use Rattle.vx_rules.specs.Rules.{Giving, Going, Context, pair_facts, Outer, ask, fork, placed, field_sort, with_built_wrap, take_chunk, eval, produce, consume}
 use Rattle.vx_types.specs.Typing.{Scope, HasType, IsTyped}
 use Rattle.vx_types.specs.FieldLanguage.{InFields, IsOfFields}
@@ -26,7 +26,6 @@ use Rattle.vx_elements.proofs.Settled.{Meaning, extends-trans}
 use Rattle.vx_elements.proofs.Elements.{element, bool_value_is}
 use Rattle.vx_elements.proofs.Eventually.{eventually, both_eventually, one_answer, no_refusal}
 use Rattle.vx_sound.proofs.Stands.{Bounded, HeapStands, Stands, heap_later, stands_fact, next_after_fact}
-use Rattle.vx_elements.proofs.Places.{candidates_places}
 use Rattle.vx_sound.proofs.Chunks.{consistent_bounded}
 use Rattle.vx_sound.proofs.Puts.{stands_with_holdings}
 use Rattle.vx_sound.proofs.Goes.{Goes, Evaluates, goes_after, reached, asked, forked}
@@ -289,8 +288,7 @@ module _ (means : Meaning) (p : Program) where
         tested z = guard at z >>= λ _. Ok (run.lost (run.At (at_field l.reference f)) (product q l.fraction) rest)
 
         d : Taken means p o scope l.interp l.state.next end (run.with_holdings rest c) (at_field l.reference f) (product q l.fraction)
-        d = take_one means p o f l.receiver l.amount l.reference (product q l.fraction) (field_sort p f) (placed l.state at) x.permission end (candidates (field_key f l.receiver) s.heap)
-            (candidates_places (field_key f l.receiver) s.heap)
+        d = take_one means p o f l.receiver l.amount l.reference (product q l.fraction) (field_sort p f) (placed l.state at) x.permission end
             (stands_with_holdings means p s.heap rest l.stands (heap_later means p l.later l.extends s.heap c.heap rest st.heap) st.bounded)
             l.receiver_good l.receiver_is l.amount_good l.amount_is l.sign l.cleared
 

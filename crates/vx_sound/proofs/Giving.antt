@@ -10,29 +10,29 @@ use Rattle.vx_meaning.specs.Values.{Value, RefValue, PermValue}
 use Rattle.vx_meaning.specs.States as run
 use Rattle.vx_meaning.specs.Fits.{Checked, ◌>>=◌, or_fail, guard, Eventually, fit_by, field_part, deeper}
 use Rattle.vx_meaning.specs.Fits as fits
-use Rattle.vx_terms.specs.Sorts.{Sort, BoolSort, RealSort, RefSort}
+use Rattle.vx_terms.specs.Sorts.{Sort, RealSort, RefSort}
 use Rattle.vx_terms.specs.Terms.{Term, same}
-use Rattle.vx_terms.specs.Build.{and, equals, less_equal, multiply, zero_amount}
-use Rattle.vx_terms.specs.Interpretations.{Each, Interpretation, IntElement, as_fraction, IsOf, value, IsTrueIn}
+use Rattle.vx_terms.specs.Build.{equals, less_equal, multiply, zero_amount}
+use Rattle.vx_terms.specs.Interpretations.{Interpretation, IntElement, as_fraction, IsOf, value, IsTrueIn}
 use Rattle.vx_rules.specs.States as rules
 use Rattle.vx_rules.specs.Trees.{Code, Tree, AmountCode}
-use Rattle.vx_rules.specs.Chunks.{field_key, equal_arguments, Candidate, chosen, reduced, first_argument, field_facts, instance_facts, put_over, put}
-use Rattle.vx_rules.specs.Rules.{Giving, Going, Outer, ask, probe, placed, eval, field_sort, taken_from}
+use Rattle.vx_rules.specs.Chunks.{field_key, Candidate, chosen, reduced, field_facts, instance_facts, put_over, put}
+use Rattle.vx_rules.specs.Rules.{Giving, Going, Outer, ask, placed, eval, field_sort, holds_amount, take_fresh, take_chunk}
 use Rattle.vx_types.specs.Typing.{Scope, HasType}
 use Rattle.vx_types.specs.FieldLanguage.{InFields}
 use Rattle.vx_sound.proofs.Passes.{Cleared}
 use Rattle.vx_elements.proofs.Settled.{Meaning, Extends, extends-refl, extends-trans, with_symbol, symbol_extends, value_kept, fresh_value}
-use Rattle.vx_elements.proofs.Built.{Good, good_later, good_and, good_equals}
+use Rattle.vx_elements.proofs.Built.{Good, good_later, good_equals}
 use Rattle.vx_elements.proofs.Elements.{element, element_is}
 use Rattle.vx_elements.proofs.Eventually.{both_eventually}
 use Rattle.vx_amounts.proofs.Amounts.{Le, Positive, Same, le-refl, le-trans, same-trans, same-lowest', product_same, unscaled, minus_none, add-below}
-use Rattle.vx_elements.proofs.Truth.{equal_is, both_true, true_le, good_zero, good_at_most, good_product, multiply_is}
+use Rattle.vx_elements.proofs.Truth.{equal_is, true_le, good_zero, good_at_most, good_product, multiply_is}
 use Rattle.vx_sound.proofs.Stands.{ref_of, location_of, amount_of, Bounded, ChunkStands, HeapStands, Stands, stands_later, next_after_facts}
 use Rattle.vx_elements.proofs.Values.{ref_value_is, perm_value_is, value_typed, sort_of_field}
-use Rattle.vx_elements.proofs.Places.{IsPlace}
-use Rattle.vx_sound.proofs.Chunks.{held_sign, Apart, taken_apart, chunk_held, reduced_stands, lowered_by_none}
+use Rattle.vx_sound.proofs.Chunks.{held_sign, taken_apart, chunk_held, reduced_stands, lowered_by_none}
+use Rattle.vx_sound.proofs.Candidates.{FirstWith, first_one, good_amount, amount_is}
 use Rattle.vx_sound.proofs.Puts.{stands_with_holdings, put_stands}
-use Rattle.vx_sound.proofs.Goes.{cleared_case, Goes, Evaluates, asked, probed, good_fresh}
+use Rattle.vx_sound.proofs.Goes.{cleared_case, Goes, Evaluates, asked, good_fresh}
 use Rattle.vx_sound.proofs.Evaluate.{bind_ok, eval_goes}
 
 abbrev pub at_field : ℕ → Name → run.Location
@@ -274,38 +274,22 @@ module _ (means : Meaning) (p : Program) where
         st' : Stands means p scope (with_symbol means g.interp g.state.next (IntElement (pos 0))) (rules.after_fresh g.state) c
         st' = stands_later means p (suc g.state.next) le ext g.stands
 
-    pub take_one : {scope : Scope} {i : Interpretation} {s : rules.State} {c : run.State} (f : Name) (r a : Term) (k : ℕ) (q : Fraction) (sort : Sort) (at : Place) (code : Code) (on : rules.Chunk → Going) (cs : List Candidate) →
-        Each (IsPlace (field_key f r) s.heap) cs →
+    pub take_one : {scope : Scope} {i : Interpretation} {s : rules.State} {c : run.State} (f : Name) (r a : Term) (k : ℕ) (q : Fraction) (sort : Sort) (at : Place) (code : Code) (on : rules.Chunk → Going) →
         Stands means p scope i s c → Good means s.next i r RefSort → value i r ≡ element (RefValue k) → Good means s.next i a RealSort → Same (as_fraction (value i a)) q → Le none (as_fraction (value i a)) →
-        Cleared (taken_from cs (field_key f r) a sort at code s on) → Taken scope i s.next on c (at_field k f) q
-    take_one {s = s} f r a k q sort at code on [] pl st gr r_is ga same_q sign h =
-        cleared_case (rules.is_quiet s) _ _ h (λ e m. absurd (true≢false (sym e ∙ st.awake))) (λ e m. nothing_taken f r a k q sort at code on st ga same_q sign m)
-    take_one {scope = scope} {i = i} {s = s} {c = c} f r a k q sort at code on (d ∷ ds) pl st gr r_is ga same_q sign h =
-        pick (probed means p (and (equals (first_argument d.chunk.arguments) r) (less_equal a d.chunk.amount)) at code (on d.chunk (rules.with_heap (reduced d a s.heap) s)) (taken_from ds (field_key f r) a sort at code s on) st (good_and means ge gl) h')
-        (take_one f r a k q sort at code on ds pl.1 st gr r_is ga same_q sign)
+        Cleared (take_chunk (field_key f r) a sort at code s on) → Taken scope i s.next on c (at_field k f) q
+    take_one {scope = scope} {i = i} {s = s} {c = c} f r a k q sort at code on st gr r_is ga same_q sign h =
+        go (first_one means p (field_key f r) (holds_amount a (r ∷ [])) at code on_taken (take_fresh (field_key f r) a sort at code s on) st (λ d m. good_amount means p d m gr ga) h)
       where
-        apart : Apart means p s.next i c.heap pl.0.front d.chunk pl.0.back c.holdings
-        apart = taken_apart means p s.next i c.heap pl.0 st.heap
+        on_taken : Candidate → Tree
+        on_taken d = on d.chunk (rules.with_heap (reduced d a s.heap) s)
 
-        ge : Good means s.next i (equals (first_argument d.chunk.arguments) r) BoolSort
-        ge = good_equals means apart.chunk.receiver gr
-
-        gl : Good means s.next i (less_equal a d.chunk.amount) BoolSort
-        gl = good_at_most means ga apart.chunk.amount
-
-        on_taken : Tree
-        on_taken = on d.chunk (rules.with_heap (reduced d a s.heap) s)
-
-        h' : Cleared (probe (and (equals (first_argument d.chunk.arguments) r) (less_equal a d.chunk.amount)) at code s (on d.chunk (rules.with_heap (reduced d a s.heap) s)) (taken_from ds (field_key f r) a sort at code s on))
-        h' = subst (λ ts. Cleared (probe (and (equal_arguments ts (r ∷ [])) (less_equal a d.chunk.amount)) at code s (on d.chunk (rules.with_heap (reduced d a s.heap) s)) (taken_from ds (field_key f r) a sort at code s on))) apart.chunk.single h
-
-        pick : (IsTrueIn i (and (equals (first_argument d.chunk.arguments) r) (less_equal a d.chunk.amount)) × Cleared (on d.chunk (rules.with_heap (reduced d a s.heap) s))) ⊎ Cleared (taken_from ds (field_key f r) a sort at code s on) →
-            (Cleared (taken_from ds (field_key f r) a sort at code s on) → Taken scope i s.next on c (at_field k f) q) → Taken scope i s.next on c (at_field k f) q
-        pick (inr m) next = next m
-        pick (inl m) next =
-            let both = both_true means ge gl m.0 in
-            let small : Le (as_fraction (value i a)) (amount_of i d.chunk) = true_le means d.chunk.amount ga both.1 in
-            let at_is : location_of i d.chunk ≡ at_field k f = ap₂ (λ (x : ℕ) (g : Name). at_field x g) (ap ref_of (equal_is i (first_argument d.chunk.arguments) r both.0 ∙ r_is)) pl.0.resource in
+        go : FirstWith means p (field_key f r) (holds_amount a (r ∷ [])) i s on_taken ⊎ Cleared (take_fresh (field_key f r) a sort at code s on) → Taken scope i s.next on c (at_field k f) q
+        go (inr m) = cleared_case (rules.is_quiet s) _ _ m (λ e m. absurd (true≢false (sym e ∙ st.awake))) (λ e m. nothing_taken f r a k q sort at code on st ga same_q sign m)
+        go (inl m) =
+            let d = m.candidate in
+            let apart = taken_apart means p s.next i c.heap m.place st.heap in
+            let taken = amount_is means p d.chunk apart.chunk gr ga m.as_wanted in
+            let at_is : location_of i d.chunk ≡ at_field k f = ap₂ (λ (x : ℕ) (g : Name). at_field x g) (ap ref_of (taken.0 ∙ r_is)) m.place.resource in
             record {
               interp = i;
               state = rules.with_heap (reduced d a s.heap) s;
@@ -313,8 +297,8 @@ module _ (means : Meaning) (p : Program) where
               extends = extends-refl means s.next i;
               later = le_refl _;
               stands = stands_with_holdings means p (reduced d a s.heap) (run.lost (run.At (at_field k f)) q c.holdings) st
-                  (subst (λ l. HeapStands means p s.next i (reduced d a s.heap) c.heap (run.lost (run.At l) q c.holdings)) at_is (reduced_stands means p s.next i c.heap pl.0 st.heap a q ga same_q sign small))
+                  (subst (λ l. HeapStands means p s.next i (reduced d a s.heap) c.heap (run.lost (run.At l) q c.holdings)) at_is (reduced_stands means p s.next i c.heap m.place st.heap a q ga same_q sign taken.1))
                   (bounded_lost (at_field k f) q c.holdings (le-trans sign same_q.there) st.bounded);
-              enough = le-trans same_q.back (le-trans small (subst (λ l. Le (amount_of i d.chunk) (run.amount c.holdings (run.At l))) at_is (chunk_held means p s.next i c.heap pl.0 st.heap)));
-              cleared = m.1;
+              enough = le-trans same_q.back (le-trans taken.1 (subst (λ l. Le (amount_of i d.chunk) (run.amount c.holdings (run.At l))) at_is (chunk_held means p s.next i c.heap m.place st.heap)));
+              cleared = m.cleared;
             }

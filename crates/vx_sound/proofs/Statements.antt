@@ -14,32 +14,34 @@ use Rattle.vx_meaning.specs.Fits.{Checked, ◌>>=◌, guard, Eventually, fit_by,
 use Rattle.vx_meaning.specs.Outcomes.{Outcome, Outcomes, ends, stops, either, and_then, checked, passes, refused}
 use Rattle.vx_meaning.specs.Give.{when, side, give}
 use Rattle.vx_meaning.specs.Run as meaning
-use Rattle.vx_terms.specs.Sorts.{BoolSort, RealSort, RefSort}
+use Rattle.vx_terms.specs.Sorts.{RealSort, RefSort}
 use Rattle.vx_terms.specs.Terms.{Term}
-use Rattle.vx_terms.specs.Build.{negate, and, equals, less_equal, whole_amount}
+use Rattle.vx_terms.specs.Build.{negate, whole_amount}
 use Rattle.vx_terms.proofs.Build.{negate_value}
-use Rattle.vx_terms.specs.Interpretations.{Each, Interpretation, as_bool, as_fraction, value, IsTrueIn}
+use Rattle.vx_terms.specs.Interpretations.{Interpretation, as_bool, as_fraction, value}
 use Rattle.vx_rules.specs.States as rules
 use Rattle.vx_rules.specs.States.{sort_of_type}
-use Rattle.vx_rules.specs.Trees.{AssertCode, PermissionCode, EntryCode, KeptCode, Tree, End, Step, Fork}
-use Rattle.vx_rules.specs.Chunks.{field_key, Candidate, candidates, first_argument}
-use Rattle.vx_rules.specs.Rules.{Giving, Going, Outer, fork, field_sort, write_to, eval, produce, consume}
+use Rattle.vx_rules.specs.Trees.{AssertCode, PermissionCode, EntryCode, KeptCode, End, Step, Fork}
+use Rattle.vx_rules.specs.Chunks.{field_key, Candidate, first_argument}
+use Rattle.vx_rules.specs.Rules.{Giving, Going, Outer, never, fork, holds_amount, write_field, field_sort, eval, produce, consume}
+use Rattle.vx_rules.specs.Rules as rule
 use Rattle.vx_rules.specs.Members.{codes, forget, exec, exec_all}
 use Rattle.vx_types.specs.Typing.{Scope, AreOnce, IsTyped, IsTypedStmt, IsTypedBlock, scope_after, scope_after_all}
 use Rattle.vx_types.specs.FieldLanguage.{InFields, IsOfFields, AreOfFields, IsFieldStmt, IsFieldBlock}
 use Rattle.vx_sound.proofs.Passes.{Cleared}
 use Rattle.vx_elements.proofs.Settled.{Meaning, Extends, extends-refl, extends-trans, value_kept}
-use Rattle.vx_elements.proofs.Built.{Good, good_later, good_negate, good_and, good_equals}
+use Rattle.vx_elements.proofs.Built.{Good, good_later, good_negate}
 use Rattle.vx_elements.proofs.Elements.{element}
 use Rattle.vx_elements.proofs.Eventually.{both_eventually, one_answer}
 use Rattle.vx_amounts.proofs.Amounts.{Le, same-refl, le-refl, le-trans, none-full, full-positive}
-use Rattle.vx_elements.proofs.Truth.{equal_is, both_true, true_le, good_at_most, good_whole}
+use Rattle.vx_elements.proofs.Truth.{good_whole}
 use Rattle.vx_sound.proofs.Stands.{ref_of, location_of, amount_of, StoreStands, HeapStands, Stands, stands_with_store, heap_later, store_take, store_lengths, store_assign, stands_entry}
 use Rattle.vx_elements.proofs.Values.{ref_value_is, sort_of_field, field_type_is}
-use Rattle.vx_elements.proofs.Places.{IsPlace, candidates_places}
+use Rattle.vx_elements.proofs.Places.{IsPlace}
 use Rattle.vx_sound.proofs.Chunks.{Apart, taken_apart, chunk_held}
 use Rattle.vx_sound.proofs.Puts.{heap_changed, written_stands}
-use Rattle.vx_sound.proofs.Goes.{Goes, Evaluates, here, goes_after, reached, probed, stuck, forked, declared, Named, named}
+use Rattle.vx_sound.proofs.Candidates.{FirstWith, first_one, good_amount, amount_is}
+use Rattle.vx_sound.proofs.Goes.{Goes, Evaluates, here, goes_after, reached, stuck, forked, declared, Named, named}
 use Rattle.vx_sound.proofs.Evaluate.{bind_ok, eval_goes}
 use Rattle.vx_sound.proofs.Giving.{at_field, ScaleStands}
 use Rattle.vx_sound.proofs.Assertions.{by_side, Leaves, leaves_after, ends_leaves, stops_leaves, then_leaves, refused_leaves, stands_at, pure_goes, is_true_of, give_goes, Consumes, consumed}
@@ -216,33 +218,22 @@ module _ (means : Meaning) (p : Program) where
       pub place : IsPlace key s.heap candidate
       pub receiver_is : value i (first_argument candidate.chunk.arguments) ≡ value i r
       pub whole : Le full (amount_of i candidate.chunk)
-      pub cleared : Cleared (on (rules.with_heap (slice_set s.heap candidate.number (record candidate.chunk { value = rules.name_of t s })) (rules.after_name t s)))
+      pub cleared : Cleared (on (rule.written candidate t s))
 
-    write_one : {scope : Scope} {i : Interpretation} {s : rules.State} {c : run.State} (key : rules.Chunk) (r t : Term) (cs : List Candidate) (at : Place) (on : Going) → Each (IsPlace key s.heap) cs →
-        Stands means p scope i s c → Good means s.next i r RefSort → Cleared (write_to cs r t at s on) → WroteAt key r t i s on
-    write_one key r t [] at on pl st g h = stuck means p at PermissionCode st h
-    write_one {scope = scope} {i = i} {s = s} {c = c} key r t (d ∷ ds) at on pl st g h =
-        pick (probed means p (and (equals (first_argument d.chunk.arguments) r) (less_equal whole_amount d.chunk.amount)) at PermissionCode written (write_to ds r t at s on) st (good_and means ge gl) h) (write_one key r t ds at on pl.1 st g)
+    write_one : {scope : Scope} {i : Interpretation} {s : rules.State} {c : run.State} (f : Name) (r t : Term) (at : Place) (on : Going) →
+        Stands means p scope i s c → Good means s.next i r RefSort → Cleared (write_field f r t at s on) → WroteAt (field_key f r) r t i s on
+    write_one {i = i} {s = s} {c = c} f r t at on st g h =
+        go (first_one means p (field_key f r) (holds_amount whole_amount (r ∷ [])) at PermissionCode (λ d. on (rule.written d t s)) (never at PermissionCode s) st (λ d k. good_amount means p d k g gw) h)
       where
-        a : Apart means p s.next i c.heap pl.0.front d.chunk pl.0.back c.holdings
-        a = taken_apart means p s.next i c.heap pl.0 st.heap
+        gw : Good means s.next i whole_amount RealSort
+        gw = good_whole means
 
-        ge : Good means s.next i (equals (first_argument d.chunk.arguments) r) BoolSort
-        ge = good_equals means a.chunk.receiver g
-
-        gl : Good means s.next i (less_equal whole_amount d.chunk.amount) BoolSort
-        gl = good_at_most means (good_whole means) a.chunk.amount
-
-        written : Tree
-        written = on (rules.with_heap (slice_set s.heap d.number (record d.chunk { value = rules.name_of t s })) (rules.after_name t s))
-
-        pick : (IsTrueIn i (and (equals (first_argument d.chunk.arguments) r) (less_equal whole_amount d.chunk.amount)) × Cleared (on (rules.with_heap (slice_set s.heap d.number (record d.chunk { value = rules.name_of t s })) (rules.after_name t s)))) ⊎ Cleared (write_to ds r t at s on) →
-            (Cleared (write_to ds r t at s on) → WroteAt key r t i s on) → WroteAt key r t i s on
-        pick (inr k) next = next k
-        pick (inl k) next =
-            let both = both_true means ge gl k.0 in
-            let gw : Good means s.next i whole_amount RealSort = good_whole means in
-            record { candidate = d; place = pl.0; receiver_is = equal_is i (first_argument d.chunk.arguments) r both.0; whole = true_le means d.chunk.amount gw both.1; cleared = k.1 }
+        go : FirstWith means p (field_key f r) (holds_amount whole_amount (r ∷ [])) i s (λ d. on (rule.written d t s)) ⊎ Cleared (never at PermissionCode s) → WroteAt (field_key f r) r t i s on
+        go (inr k) = stuck means p at PermissionCode st k
+        go (inl k) =
+            let a = taken_apart means p s.next i c.heap k.place st.heap in
+            let held = amount_is means p k.candidate.chunk a.chunk g gw k.as_wanted in
+            record { candidate = k.candidate; place = k.place; receiver_is = held.0; whole = held.1; cleared = k.cleared }
 
     abbrev owned_value : run.State → Place → Name → Value → Value → Checked (run.Location × Value)
     owned_value c at f r v = meaning.owned c at f r >>= λ l. Ok (l, v)
@@ -260,7 +251,7 @@ module _ (means : Meaning) (p : Program) where
     write_goes at e f e' j j' scope c outcome h k u i s on st w = go h
       where
         second : Term → Giving
-        second r t s2 = write_to (candidates (field_key f r) s2.heap) r t at s2 on
+        second r t s2 = write_field f r t at s2 on
 
         r : Evaluates means p scope i s.next (λ r s1. Step (eval p o e' s1 (second r))) c e type.Ref
         r = eval_goes means p o k.2 j (λ r s1. Step (eval p o e' s1 (second r))) st w
@@ -269,7 +260,7 @@ module _ (means : Meaning) (p : Program) where
         q = eval_goes means p o k.3 j' (second r.term) r.stands r.cleared
 
         x : WroteAt (field_key f r.term) r.term q.term q.interp q.state on
-        x = write_one (field_key f r.term) r.term q.term (candidates (field_key f r.term) q.state.heap) at on (candidates_places (field_key f r.term) q.state.heap) q.stands (good_later means q.later q.extends r.good) q.cleared
+        x = write_one f r.term q.term at on q.stands (good_later means q.later q.extends r.good) q.cleared
 
         d : rules.Chunk
         d = x.candidate.chunk
@@ -307,7 +298,7 @@ module _ (means : Meaning) (p : Program) where
         written : Goes means p scope i s.next on (run.with_heap ((at_field reference.0 f, q.result) ∷ c.heap) c)
         written = record {
           interp = n.interp;
-          state = rules.with_heap (slice_set q.state.heap x.candidate.number (record x.candidate.chunk { value = rules.name_of q.term q.state })) (rules.after_name q.term q.state);
+          state = rule.written x.candidate q.term q.state;
           extends = extends-trans means (le_trans r.later q.later) (extends-trans means r.later r.extends q.extends) n.extends;
           later = le_trans (le_trans r.later q.later) n.later;
           stands = record {

@@ -1,11 +1,10 @@
 -- The law at work over a whole program: a field, and a method that writes it.
-use Rattle.std.proofs.Common.{◌≡◌, ◌⊎◌, inl, inr, ◌<◌, ℕ, zero, suc, Bool, true, false, [], ◌∷◌, Option, Some, None, slice_get, refl, sym, ap, subst, arith}
+use Rattle.std.proofs.Common.{◌≡◌, ◌⊎◌, inl, inr, ◌<◌, ℕ, zero, suc, Bool, true, false, [], Option, Some, None, slice_get, refl, sym, subst, arith}
 use Rattle.vx_frac.specs.Fractions.{lowest}
 use Rattle.vx_ast.specs.declared.ValueType.TheVariants.{Int}
-use Rattle.vx_ast.specs.Syntax.{Name, same_name, Member, Kind, IsField, IsPredicate, IsFunction, IsMethod, Predicate, Function, Method, Equal, member_named, predicate_in, function_in, method_in, predicate_named, function_named, method_named}
+use Rattle.vx_ast.specs.Syntax.{Name, same_name, Member, Kind, IsField, IsMethod, Predicate, Function, Method, Equal, member_named, predicate_in, function_in, method_in}
 use Rattle.vx_meaning.specs.Fails.{Fails}
 use Rattle.vx_types.specs.Typing.{IsTypedMethod, number, part, variable, operates, reads}
-use Rattle.vx_types.specs.FieldLanguage.{IsFieldMethod}
 use Rattle.vx_whole.specs.Premises.{IsTypedProgram}
 use Rattle.vx_whole.specs.Closure.{InClosure}
 use Rattle.vx_whole.proofs.Alone.{alone}

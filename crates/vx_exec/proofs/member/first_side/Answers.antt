@@ -6,13 +6,12 @@ use Rattle.vx_terms.specs.Build.{whole_amount}
 use Rattle.vx_types.specs.Settled.{settled}
 use Rattle.vx_rules.specs.States.{State, declare_all}
 use Rattle.vx_rules.specs.SymStates.{state}
-use Rattle.vx_rules.specs.Members.{blank, sides}
+use Rattle.vx_rules.specs.Members.{blank, rules, sides}
 use Rattle.vx_rules.specs.Rules.{Going, produce}
-use Rattle.vx_rules.specs.Stack.{rules, going}
+use Rattle.vx_rules.specs.Stack.{going}
 use Rattle.vx_exec.proofs.member.first_side.Goals as goal
 
 pub returns : goal.returns
-unfolding rules
 returns c =
     let p = settled c.args.program.now in
     let m : Method = c.args.m.now.value in
@@ -27,7 +26,7 @@ returns c =
     let all : Assertion = joined m.place (assertions m.preconditions.items) in
     let a : assertion c.in_ok-all.all.value ≡ all =
     c.in_ok-all.ensures ∙ ap (λ l. joined c.deref-5.result.now.place (assertions l)) r3 ∙ ap (λ (x : Method). joined x.place (assertions m.preconditions.items)) c.deref-5.ensures in
-    let k : going p c.in_ok-sides.sides.value ≡ sides p (method m) = ap (going p) c.in_ok-sides.ensures.ok ∙ ap (λ (x : Method). sides p (method x)) c.in_ok-clone.ensures.cases in
+    let k : going p c.in_ok-sides.sides.value ≡ sides p (rules p) (method m) = ap (going p) c.in_ok-sides.ensures.ok ∙ ap (λ (x : Method). sides p (rules p) (method x)) c.in_ok-clone.ensures.cases in
     ap (λ n. going p n (state c.declare_all-2.new.self)) c.in_ok-next.ensures.ok
     ∙ ap (λ (x : Assertion). produce p (rules p) x whole_amount None (state c.declare_all-2.new.self) (going p c.in_ok-sides.sides.value)) a
     ∙ ap (λ (x : State). produce p (rules p) all whole_amount None x (going p c.in_ok-sides.sides.value)) s2

@@ -1,4 +1,4 @@
-use Rattle.std.proofs.Common.{◌≡◌, length, map, sym, ap, ◌∙◌, None, refl}
+use Rattle.std.proofs.Common.{◌≡◌, length, map, sym, ap, ◌∙◌, None}
 use Rattle.std.proofs.lemmas.List.{length-map}
 use Rattle.vx_ast.specs.Syntax.{Assertion, joined}
 use Rattle.vx_ast.specs.Resolved.{assertion, assertions, declaration, method}
@@ -6,13 +6,12 @@ use Rattle.vx_terms.specs.Build.{whole_amount}
 use Rattle.vx_types.specs.Settled.{settled}
 use Rattle.vx_rules.specs.States.{State, declare_all, leave}
 use Rattle.vx_rules.specs.SymStates.{state}
-use Rattle.vx_rules.specs.Members.{with_new_returns}
+use Rattle.vx_rules.specs.Members.{rules, with_new_returns}
 use Rattle.vx_rules.specs.Rules.{produce}
-use Rattle.vx_rules.specs.Stack.{rules, going}
+use Rattle.vx_rules.specs.Stack.{going}
 use Rattle.vx_exec.proofs.member.make_promise.Goals as goal
 
 pub returns : goal.returns
-unfolding rules
 returns c =
     let p = settled c.args.program.now in
     let m = c.args.m.now in

@@ -1,7 +1,7 @@
 use Rattle.std.proofs.Common.{refl, ap, sym, ◌∙◌}
 use Rattle.vx_ast.specs.Resolved.{method}
 use Rattle.vx_types.specs.Settled.{settled}
-use Rattle.vx_rules.specs.Members.{sides}
+use Rattle.vx_rules.specs.Members.{rules, sides}
 use Rattle.vx_rules.specs.Stack.{going}
 use Rattle.vx_rules.specs.SymStates.{state}
 use Rattle.vx_rules.proofs.Steps.{stepped_as}
@@ -18,4 +18,4 @@ pub returns-in-Sides : goal.returns-in-Sides
 returns-in-Sides c =
     let p = settled c.args.program.now in
     let s = state c.args.state in
-    stepped_as p _ _ _ _ _ (ap (λ n. going p n s) c.in-Sides.is ∙ ap (λ m. sides p (method m) s) (sym c.deref-in-Sides.ensures)) c.step_method.ensures
+    stepped_as p _ _ _ _ _ (ap (λ n. going p n s) c.in-Sides.is ∙ ap (λ m. sides p (rules p) (method m) s) (sym c.deref-in-Sides.ensures)) c.step_method.ensures
