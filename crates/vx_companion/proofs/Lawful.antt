@@ -18,7 +18,7 @@ use Rattle.vx_dialogue.proofs.Joined.{first_longer}
 use Rattle.vx_companion.specs.declared.session.Said.{Said}
 use Rattle.vx_companion.specs.Companion.{said_text, item_of, texts_of, items_of, replies_of, RepliesByCompanion, RepliesAreLawful}
 use Rattle.vx_companion.proofs.Levels.{replies_lawful}
-use Rattle.vx_companion.proofs.Said.{fed, first_fed, said_first, said_short, said_shallow, wanted_lawful, lawful_given}
+use Rattle.vx_companion.proofs.Hearing.{fed, first_fed, said_first, said_short, said_shallow, wanted_lawful, lawful_given}
 
 -- ---- the reply to one command among those that are got
 

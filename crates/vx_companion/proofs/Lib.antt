@@ -1,5 +1,5 @@
 mod Replies
 mod Levels
-mod Said
+mod Hearing
 mod Replied
 pub mod Lawful

@@ -17,7 +17,7 @@ use Rattle.vx_companion.specs.declared.session.Said.{Said}
 use Rattle.vx_companion.specs.declared.session.Session.{Session}
 use Rattle.vx_companion.specs.Companion.{said_text, texts_of, reply_to, replies_from, replies_of, Knows, IsTextOf, IsFit, AreAnswered, HasSaid, RepliesTo, AllReplied}
 use Rattle.vx_dialogue.proofs.Counts.{one_command}
-use Rattle.vx_companion.proofs.Said.{fed, first_fed}
+use Rattle.vx_companion.proofs.Hearing.{fed, first_fed}
 
 -- ---- one command after another
 

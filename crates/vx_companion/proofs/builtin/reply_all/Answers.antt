@@ -2,7 +2,7 @@ use Rattle.std.proofs.Common.{rules, ◌≡◌, ◌<◌, ◌++◌, drop, length,
 use Rattle.std.proofs.lemmas.List.{take-append-drop}
 use Rattle.vx_companion.specs.Companion.{said_text, HasAnswered, HasSaid, AllReplied}
 use Rattle.vx_companion.proofs.Replies.{answered_one, more_replies, shorter}
-use Rattle.vx_companion.proofs.Said.{said_one}
+use Rattle.vx_companion.proofs.Hearing.{said_one}
 use Rattle.vx_companion.proofs.Replied.{said_next, replied_more}
 use Rattle.vx_dialogue.proofs.Counts.{finished_fault}
 use Rattle.vx_companion.proofs.builtin.reply_all.Goals as goal

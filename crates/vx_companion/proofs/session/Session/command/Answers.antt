@@ -1,4 +1,4 @@
-use Rattle.vx_companion.proofs.Said.{fit_all}
+use Rattle.vx_companion.proofs.Hearing.{fit_all}
 use Rattle.vx_companion.proofs.session.Session.command.Goals as goal
 
 pub returns : goal.returns
