@@ -28,6 +28,3 @@ pub fn farkas_by_number()
 pub fn examples()
     ensures { Examples }
 {}
-
-#[cfg(test)]
-mod tests;

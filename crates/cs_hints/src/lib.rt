@@ -27,6 +27,3 @@ mod propagate;
 
 pub use marks::Marks;
 pub use propagate::{by_terms, refutes_by};
-
-#[cfg(test)]
-mod tests;

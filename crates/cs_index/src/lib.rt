@@ -6,6 +6,3 @@ mod key;
 
 pub use index::Index;
 pub use key::mix;
-
-#[cfg(test)]
-mod tests;

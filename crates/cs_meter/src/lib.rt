@@ -50,16 +50,3 @@ impl Meter {
         Ok(())
     }
 }
-
-#[cfg(test)]
-mod tests {
-    use super::*;
-
-    #[test]
-    fn counts_units(rt: HostRuntime) {
-        let mut meter = Meter::new();
-        assert_eq!(rt; meter.spend(), Ok(()));
-        assert_eq!(rt; meter.spend(), Ok(()));
-        assert_eq!(rt; meter.spent(), 2);
-    }
-}

@@ -30,6 +30,3 @@ pub fn nodes_represent()
 pub fn examples()
     ensures { Examples }
 {}
-
-#[cfg(test)]
-mod tests;

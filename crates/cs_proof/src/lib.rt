@@ -21,6 +21,3 @@ pub fn finished_refutes()
     ensures finished { IsFinishedToo }
     ensures refuted { IsRefuted }
 {}
-
-#[cfg(test)]
-mod tests;

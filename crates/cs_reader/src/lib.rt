@@ -17,6 +17,3 @@ pub use spell::{Scope, spelled};
 pub use step::{Certificate, Literal, Step};
 pub use stop::Stop;
 pub use symbols::{Symbols, symbol_key};
-
-#[cfg(test)]
-mod tests;

@@ -20,6 +20,3 @@ pub fn sorts_are_told()
 pub fn examples()
     ensures { Examples }
 {}
-
-#[cfg(test)]
-mod tests;

@@ -14,6 +14,3 @@ pub use node::{Head, Node};
 pub use numbers::{divide, split};
 pub use steps::{Literal, Stop, chain, congruence, define, pick, trichotomy};
 pub use table::Table;
-
-#[cfg(test)]
-mod tests;

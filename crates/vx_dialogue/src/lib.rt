@@ -13,6 +13,3 @@ mod talk;
 pub use dialogue::Dialogue;
 pub use laws::scripts_are_well_formed;
 pub use talk::Talk;
-
-#[cfg(test)]
-mod tests;

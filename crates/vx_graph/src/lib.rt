@@ -10,6 +10,3 @@ mod search;
 pub use edges::{Edges, are_in_range};
 pub use groups::{Groups, all_groups};
 pub use search::{group, reaches, rests};
-
-#[cfg(test)]
-mod tests;

@@ -1,9 +1,12 @@
 //! What a row is answered.
 
 use crate::ends::{put_child_answer, put_companion_answer, put_file};
+use crate::fractions::put_fraction;
+use crate::graphs::put_graph;
 use crate::machines::put_machines;
 use crate::names::{put_names, put_order};
 use crate::row::{Asks, Row, Solver};
+use crate::sexps::put_sexp;
 use crate::told::{put_line, put_text};
 use std::alloc::{AllocError, Global};
 use vx_commands::{Ended, run};
@@ -164,6 +167,11 @@ fn put_run(
     }
 }
 
+// The row's text; what is no character is another one.
+fn text_in(alloc: Global, row: &Row) -> Result<String, AllocError> {
+    String::from_utf8_lossy(alloc, &row.text)
+}
+
 /// What a row is answered.
 ///
 /// # Errors
@@ -185,5 +193,8 @@ pub fn answer(
         Asks::File => put_file(rt, alloc, row, out),
         Asks::Child => put_child_answer(alloc, &mut ChildSpawner::new(alloc, rt), row, out),
         Asks::Companion => put_companion_answer(alloc, row, out),
+        Asks::Graph => put_graph(alloc, &text_in(alloc, row)?, out),
+        Asks::Fraction => put_fraction(alloc, &text_in(alloc, row)?, out),
+        Asks::Sexp => put_sexp(alloc, &row.text, out),
     }
 }

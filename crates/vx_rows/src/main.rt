@@ -4,9 +4,12 @@
 
 mod answers;
 mod ends;
+mod fractions;
+mod graphs;
 mod machines;
 mod names;
 mod row;
+mod sexps;
 mod table;
 mod told;
 

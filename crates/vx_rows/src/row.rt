@@ -27,6 +27,12 @@ pub enum Asks {
     Child,
     /// What the companion answers to the text.
     Companion,
+    /// Which members of the graph lead to which that the text tells.
+    Graph,
+    /// The fraction of the text, or what is reckoned with two.
+    Fraction,
+    /// How the text's first s-expression is read.
+    Sexp,
 }
 
 /// By whom questions are answered.

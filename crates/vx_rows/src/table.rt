@@ -74,6 +74,7 @@ fn asks_of(word: &str) -> Asks {
         "file" => Asks::File,
         "child" => Asks::Child,
         "companion" => Asks::Companion,
+        "s-expression" => Asks::Sexp,
         _ => Asks::Run,
     }
 }
@@ -144,6 +145,9 @@ fn of_one_line(alloc: Global, word: &str, text: &str) -> Result<Option<Row>, All
         "parse" => Asks::Parse,
         "beyond" => Asks::Beyond,
         "beginnings" => Asks::Beginnings,
+        "graph" => Asks::Graph,
+        "fraction" => Asks::Fraction,
+        "s-expression" => Asks::Sexp,
         "verify" | "check" | "print" => Asks::Run,
         _ => return Ok(None),
     };
