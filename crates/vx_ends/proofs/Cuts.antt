@@ -76,9 +76,17 @@ module _ (cs : List Cut) (c : Cut) (bytes : List ℕ) (counts : total (cs ++ c �
   cut_down (suc n) m is some =
       let rest : drop (total cs) (take (total cs + m) bytes) ≡ take m (drop (total cs) bytes) = drop-take (total cs) m bytes in
       let bytes_kept : take (suc n) (take c.len (drop (total cs) bytes)) ≡ take m (drop (total cs) bytes) = kept (drop (total cs) bytes) c.len (suc n) m behind is in
-      rw (before, last_piece cs (record { is_sent = c.is_sent; len = m }) (take (total cs + m) bytes), within cs m bytes, rest, take-take m m (drop (total cs) bytes) (omega arith),
-      last_piece cs c bytes, cut_last_one (suc n) (pieces_of cs bytes) (piece_of c.is_sent (take c.len (drop (total cs) bytes))),
-      front_of_piece n c.is_sent (take c.len (drop (total cs) bytes)), bytes_kept) refl
+      rw (
+        before,
+        last_piece cs (record { is_sent = c.is_sent; len = m }) (take (total cs + m) bytes),
+        within cs m bytes,
+        rest,
+        take-take m m (drop (total cs) bytes) (omega arith),
+        last_piece cs c bytes,
+        cut_last_one (suc n) (pieces_of cs bytes) (piece_of c.is_sent (take c.len (drop (total cs) bytes))),
+        front_of_piece n c.is_sent (take c.len (drop (total cs) bytes)),
+        bytes_kept,
+      ) refl
 
   pub cut_off : (m : ℕ) → pieces_of cs (take (length bytes - c.len + m) bytes) ≡ cut_last 0 (pieces_of (cs ++ c ∷ []) bytes)
   cut_off m =

@@ -1,6 +1,5 @@
 //! Reading types.
 
-ghost use Rattle.std.specs.Prelude.{◌≡◌};
 ghost use Rattle.vx_ast.specs.Written.{placed_type, written_declaration};
 ghost use Rattle.vx_tokens.specs.Tokens.{tokens_in};
 ghost use Rattle.vx_grammar.specs.StmtReading as reading;

@@ -2,7 +2,7 @@
 use Rattle.std.proofs.Common.{◌≡◌, ℕ, ◌+◌, ◌-◌, ◌≤◌, List, [], ◌∷◌, ◌++◌, Some, None, Result, Ok, Err, Bool, true, false, not, ◌&&◌, length, refl, sym, subst, arith, ap}
 use Rattle.vx_ast.specs.Written.{Expr, Exprs, Stmt, Block}
 use Rattle.vx_tokens.specs.Tokens.{Token}
-use Rattle.vx_grammar.specs.Reading.{◌>>=◌, Read, exprs_from, run}
+use Rattle.vx_grammar.specs.Reading.{Read, exprs_from, run}
 use Rattle.vx_grammar.specs.StmtReading.{is_measure, clause_at, begins_invariant, invariant_turn, invariants_at, StmtDeeper, StmtPart, stmt_part, stmts_below, begins_stmt, skip_semicolon, stmt_at, stmt_turn}
 use Rattle.vx_grammar.specs.MemberReading.{limit, Clauses, clause_turn, begins_requires, begins_ensures, with_requires, with_ensures, with_measure}
 use Rattle.vx_grammar.specs.Nesting.{stmt_nests}

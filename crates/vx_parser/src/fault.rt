@@ -9,7 +9,7 @@ use thiserror::Error;
 use vx_ast::Place;
 
 /// Why a text is no program, and where. Memory may also run out.
-#[derive(Debug, PartialEq, Eq, Error, Drop)]
+#[derive(Debug, Error, Drop)]
 pub enum TextFault {
     /// The first byte that belongs to no character.
     #[error("not UTF-8")]
