@@ -36,7 +36,7 @@ if_same false e f = f
 
 pub ask_same : {l : ℕ} (c : Term) (at : Place) (code : Code) (s : State) {on other : Going} → s.level ≡ l → SameGoing l on other → ask c at code s on ≡ ask c at code s other
 ask_same c at code s e h =
-    if_same (same c true_term || is_quiet s) (ap Step (h s e)) (ap (λ t. Ask (question false c at code s) (unless_false c t)) (h (with_fact c s) (fact_level c s e)))
+    if_same (same c true_term || is_quiet s) (ap Step (h s e)) (ap (λ t. Ask (question false c at code s) (unless_false c s t)) (h (with_fact c s) (fact_level c s e)))
 
 pub probe_same : (c : Term) (at : Place) (code : Code) (s : State) {t u t' u' : Tree} → t ≡ t' → u ≡ u' → probe c at code s t u ≡ probe c at code s t' u'
 probe_same c at code s e f = ap₂ (λ t u. probe c at code s t u) e f

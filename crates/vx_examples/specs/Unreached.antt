@@ -3,15 +3,15 @@ use Rattle.std.specs.Prelude.{false, [], ◌∷◌, List, Option, None}
 use Rattle.vx_ast.specs.declared.ValueType.TheVariants as type
 use Rattle.vx_ast.specs.Syntax.{Expr, Variable, Declaration, Method, Block}
 use Rattle.vx_rules.specs.States.{Chunk, Own, State}
-use Rattle.vx_rules.specs.Trees.{Code, Tree, End, On, Ask}
+use Rattle.vx_rules.specs.Trees.{Code, Tree, End, Impossible, On, Ask}
 use Rattle.vx_rules.specs.Rules.{Giving, Going}
 use Rattle.vx_examples.specs.Words.{at, bool, denied, falsity, ref, snap, all, asks}
 use Rattle.vx_examples.specs.Cells.{hidden}
 use Rattle.vx_examples.specs.Walks.{x, f, scene, quiet_scene, cell_chunk, half}
 
--- the literal false is asked in the scene, and this side is over
+-- the literal false is asked in the scene, which is impossible once it is refuted
 abbrev pub refused : Code → Tree
-refused code = Ask (asks (at 1 1) code (bool 0 ∷ denied (bool 1) ∷ []) falsity) End
+refused code = Ask (asks (at 1 1) code (bool 0 ∷ denied (bool 1) ∷ []) falsity) (Impossible scene)
 
 -- what follows is the end
 abbrev pub goes : Going

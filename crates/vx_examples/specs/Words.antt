@@ -11,7 +11,7 @@ use Rattle.vx_terms.specs.Sorts as sort
 use Rattle.vx_terms.specs.Sorts.{IntSort, BoolSort, RealSort, RefSort, SnapSort, Sort}
 use Rattle.vx_terms.specs.Terms as term
 use Rattle.vx_terms.specs.Terms.{Term, Terms, NoTerms, MoreTerms}
-use Rattle.vx_rules.specs.Trees.{Code, Question, Tree, End, On, Step, Ask, Probe, Fork, Ending, Answered, Walked, walk}
+use Rattle.vx_rules.specs.Trees.{Code, Question, Tree, End, Impossible, On, Step, Ask, Probe, Fork, Ending, Answered, Walked, walk}
 use Rattle.vx_rules.specs.Members.{tree}
 
 abbrev pub at : ℕ → ℕ → Place
@@ -113,6 +113,7 @@ tree_of p x = elim (member_named p x) as (λ o. Tree) [ None ↦ End | Some k �
 -- all of its questions, in the order of the walk: what follows a refuted probe before what follows else
 abbrev pub questions : Tree → List Question
 questions End = []
+questions (Impossible s) = []
 questions (On t s) = []
 questions (Step t) = questions t
 questions (Ask q t) = q ∷ questions t

@@ -45,7 +45,7 @@ ghost use Rattle.vx_rules.specs.States as states;
 ghost use Rattle.vx_rules.specs.Rules as rules;
 ghost use Rattle.vx_rules.specs.Rules.{Giving, Going};
 ghost use Rattle.vx_rules.specs.Members as members;
-ghost use Rattle.vx_rules.specs.Trees.{AssertCode, CallCode, EntryCode, PermissionCode, PostCode, Tree, End, Step, Ask, Probe, Fork};
+ghost use Rattle.vx_rules.specs.Trees.{AssertCode, CallCode, EntryCode, PermissionCode, PostCode, Tree, End, Impossible, Step, Ask, Probe, Fork};
 ghost use Rattle.vx_rules.specs.declared.question.Code.TheVariants as code';
 ghost use Rattle.vx_rules.specs.declared.frame.Operand.TheVariants as operand';
 ghost use Rattle.vx_rules.specs.declared.frame.Consumed.TheVariants as consumed';
@@ -133,6 +133,7 @@ pub fn parts_that_wait()
 #[tactic(auto, unfolding(vx_rules::specs::Members::rules))]
 pub fn frames_that_wait()
     ensures finish { going [] next'.Finish scene ≡ End }
+    ensures impossible { going [] next'.Impossible scene ≡ Impossible scene }
     ensures exec { (q : _) (c : Rc Stmt' Global) (n : Next) → going [] (next'.Exec' c q n) scene ≡ members.exec [] (rules.outer [] 4) (stmt c.value) scene (going [] n) }
     ensures block { (q : _) (b : Rc Block' Global) (n : Next) → going [] (next'.Block' b q n) scene ≡ members.exec_all [] (rules.outer [] 4) (block b.value) scene (going [] n) }
     ensures inner { (q : _) (b : Rc Block' Global) (n : Next) → going [] (next'.Inner' b 1 q n) scene ≡ members.exec_all [] (rules.outer [] 4) (block b.value) scene (λ s. going [] n (states.leave 1 s)) }

@@ -6,7 +6,7 @@ ghost use Rattle.vx_terms.specs.Sorts.{IntSort, BoolSort, RefSort};
 ghost use Rattle.vx_rules.specs.States as states;
 ghost use Rattle.vx_rules.specs.Chunks as chunks;
 ghost use Rattle.vx_rules.specs.Rules as rules;
-ghost use Rattle.vx_rules.specs.Trees.{AmountCode, Ask, AssertCode, CallCode, DivisorCode, End, EntryCode, Failed, FoldCode, Fork, FunctionCode, KeptCode, MeasureCode, Open, Passed, PermissionCode, PostCode, Probe, Step, UnfoldCode, leaves, size, walk};
+ghost use Rattle.vx_rules.specs.Trees.{AmountCode, Ask, AssertCode, CallCode, DivisorCode, End, EntryCode, Failed, FoldCode, Fork, FunctionCode, Impossible, KeptCode, MeasureCode, Open, Passed, PermissionCode, PostCode, Probe, Step, UnfoldCode, leaves, size, walk};
 ghost use Rattle.vx_rules.specs.Stack.{code_number};
 ghost use Rattle.vx_ast.specs.declared.ValueType.TheVariants.{Int};
 ghost use Rattle.vx_ast.specs.Syntax.{IsField, IsPredicate, NoMore};
@@ -31,6 +31,9 @@ pub fn walking()
     ensures probe_unknown { (walk probing (Unknown ∷ Sat ∷ [])).ending ≡ Failed (at 2 1) AssertCode Sat }
     ensures probe_open { (walk probing []).ending ≡ Open a_probe }
     ensures no_question { walk End [] ≡ record { answered = []; ending = Passed } }
+    ensures impossible { walk (Impossible blank) [] ≡ record { answered = []; ending = Passed } }
+    ensures impossible_leaves { leaves (Impossible blank) ≡ [] }
+    ensures impossible_size { size (Impossible blank) ≡ 1 }
     ensures sizes { size probing ≡ 5 }
     ensures leaves { leaves leaving ≡ record { value = int 1; state = blank } ∷ record { value = int 2; state = blank } ∷ record { value = int 3; state = blank } ∷ [] }
     ensures no_leaves { leaves two_asks ≡ [] }
@@ -78,13 +81,13 @@ pub fn asking()
     ensures truth { rules.ask truth (at 1 1) AssertCode scene ended ≡ Step End }
     ensures other { rules.ask (bool 2) (at 1 1) AssertCode scene ended ≡ Ask (asks (at 1 1) AssertCode (bool 0 ∷ denied (bool 1) ∷ []) (bool 2)) End }
     ensures known { rules.ask (bool 0) (at 1 1) AssertCode scene ended ≡ Ask (asks (at 1 1) AssertCode (bool 0 ∷ denied (bool 1) ∷ []) (bool 0)) End }
-    ensures impossible { rules.ask falsity (at 1 1) AssertCode scene (λ s. Step End) ≡ Ask (asks (at 1 1) AssertCode (bool 0 ∷ denied (bool 1) ∷ []) falsity) End }
+    ensures impossible { rules.ask falsity (at 1 1) AssertCode scene (λ s. Step End) ≡ Ask (asks (at 1 1) AssertCode (bool 0 ∷ denied (bool 1) ∷ []) falsity) (Impossible scene) }
     ensures quiet { rules.ask falsity (at 1 1) AssertCode quiet_scene ended ≡ Step End }
-    ensures never { rules.never (at 1 1) AssertCode scene ≡ Ask (asks (at 1 1) AssertCode (bool 0 ∷ denied (bool 1) ∷ []) falsity) End }
+    ensures never { rules.never (at 1 1) AssertCode scene ≡ Ask (asks (at 1 1) AssertCode (bool 0 ∷ denied (bool 1) ∷ []) falsity) (Impossible scene) }
     ensures quiet_never { rules.never (at 1 1) AssertCode quiet_scene ≡ End }
     ensures probe_truth { rules.probe truth (at 1 1) AssertCode scene two_asks End ≡ Step two_asks }
     ensures probe { rules.probe (bool 2) (at 1 1) AssertCode scene two_asks two_sides ≡ Probe (probes (at 1 1) AssertCode (bool 0 ∷ denied (bool 1) ∷ []) (bool 2)) two_asks two_sides }
-    ensures probe_impossible { rules.probe falsity (at 1 1) AssertCode scene two_asks two_sides ≡ Probe (probes (at 1 1) AssertCode (bool 0 ∷ denied (bool 1) ∷ []) falsity) End two_sides }
+    ensures probe_impossible { rules.probe falsity (at 1 1) AssertCode scene two_asks two_sides ≡ Probe (probes (at 1 1) AssertCode (bool 0 ∷ denied (bool 1) ∷ []) falsity) (Impossible scene) two_sides }
     ensures quiet_probe { rules.probe (bool 2) (at 1 1) AssertCode quiet_scene two_asks two_sides ≡ Step two_sides }
     ensures fork_known { rules.fork (bool 0) scene (λ s. two_asks) (λ s. two_sides) ≡ Step two_asks }
     ensures fork_denied { rules.fork (bool 1) scene (λ s. two_asks) (λ s. two_sides) ≡ Step two_sides }
@@ -149,6 +152,6 @@ pub fn trees_of_members()
     ensures field { tree [] f (IsField Int) ≡ End }
     ensures no_body { tree [] f (IsPredicate record { place = at 1 1; parameters = []; body = None }) ≡ End }
     ensures depth { depth (record { name = f; kind = IsField Int } ∷ record { name = g; kind = IsField Int } ∷ []) ≡ 12 }
-    ensures no_depth { (rules.outer [] 0).evals NoMore scene (λ ts s. End) ≡ Ask (asks (at 0 0) AssertCode (bool 0 ∷ denied (bool 1) ∷ []) falsity) End }
+    ensures no_depth { (rules.outer [] 0).evals NoMore scene (λ ts s. End) ≡ Ask (asks (at 0 0) AssertCode (bool 0 ∷ denied (bool 1) ∷ []) falsity) (Impossible scene) }
     ensures some_depth { (rules.outer [] 1).evals NoMore scene (λ ts s. End) ≡ Step End }
 {}

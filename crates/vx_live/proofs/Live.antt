@@ -14,7 +14,7 @@ use Rattle.vx_terms.specs.Formed.{Formed, constant, part as formed_part}
 use Rattle.vx_terms.proofs.Values.{sort_of_formed}
 use Rattle.vx_rules.specs.States as rules
 use Rattle.vx_rules.specs.States.{sort_of_type}
-use Rattle.vx_rules.specs.Trees.{Code, DivisorCode, PermissionCode, Tree, End, Ask}
+use Rattle.vx_rules.specs.Trees.{Code, DivisorCode, PermissionCode, Tree, End, Impossible, Ask}
 use Rattle.vx_rules.specs.Chunks.{field_key, equal_arguments, first_argument, Candidate, candidates}
 use Rattle.vx_rules.specs.Rules as rule
 use Rattle.vx_rules.specs.Rules.{Giving, Going, Outer, question, ask, never, probe, field_sort, fork, short, is_total, eval}
@@ -152,7 +152,7 @@ pub ask_live : {sorts : Sorts} {p : Program} {scope : Scope} {s : rules.State} (
 ask_live {s = s} t at code on sh f h =
     let k = fact_later t sh f in
     live_case (same t true_term || rules.is_quiet s) _ _ (h s stays sh)
-    (is_live false t at code sh f, live_case (same t false_term) End (on (rules.with_fact t s)) tt (h (rules.with_fact t s) k.le k.shaped))
+    (is_live false t at code sh f, live_case (same t false_term) (Impossible s) (on (rules.with_fact t s)) tt (h (rules.with_fact t s) k.le k.shaped))
 
 pub fork_live : {sorts : Sorts} {p : Program} {scope : Scope} {s : rules.State} (t : Term) (left right : Going) → Shaped p sorts scope s → Fine sorts s.next t BoolSort → Follows p sorts s.next scope left → Follows p sorts s.next scope right → AllLive (fork t s left right)
 fork_live {s = s} t left right sh f h k =
@@ -172,12 +172,12 @@ facts_later {p = p} {scope = scope} (t ∷ ts) s sh h =
     each_le (t ∷ ts) le h = (fine_later le h.0, each_le ts le h.1)
 
 pub never_live : {sorts : Sorts} {p : Program} {scope : Scope} {s : rules.State} (at : Place) (code : Code) → Shaped p sorts scope s → AllLive (never at code s)
-never_live {s = s} at code sh = live_case (rules.is_quiet s) End (Ask (question false false_term at code s) End) tt (is_live false false_term at code sh (truth_fine false), tt)
+never_live {s = s} at code sh = live_case (rules.is_quiet s) End (Ask (question false false_term at code s) (Impossible s)) tt (is_live false false_term at code sh (truth_fine false), tt)
 
 pub probe_live : {sorts : Sorts} {p : Program} {scope : Scope} {s : rules.State} (t : Term) (at : Place) (code : Code) (refuted otherwise : Tree) → Shaped p sorts scope s → Fine sorts s.next t BoolSort → AllLive refuted → AllLive otherwise →
     AllLive (probe t at code s refuted otherwise)
 probe_live {s = s} t at code refuted otherwise sh f h k =
-    live_case (same t true_term) _ _ h (live_case (rules.is_quiet s) _ _ k (is_live true t at code sh f, live_case (same t false_term) End refuted tt h, k))
+    live_case (same t true_term) _ _ h (live_case (rules.is_quiet s) _ _ k (is_live true t at code sh f, live_case (same t false_term) (Impossible s) refuted tt h, k))
 
 pub null_fine : {sorts : Sorts} {n : ℕ} → Fine sorts n null RefSort
 null_fine = record { formed = constant (Standard 0) RefSort tt; over = inl refl }
@@ -258,8 +258,8 @@ module _ (p : Program) (o : Outer) where
   read_live {sorts = sorts} {s = s} f r t at on e sh g h =
       first_live (field_key f r) (rule.holds_some (r ∷ [])) at PermissionCode (λ d. on d.chunk.value s) (rule.never at PermissionCode s) sh
       (λ d pl.
-        let c = (place_shape pl sh.heap).0 in
-        (some_fine d.chunk c g, h d.chunk.value (subst (λ a. Fine sorts s.next d.chunk.value a) (ap (field_sort p) pl.resource ∙ e) c.content)))
+      let c = (place_shape pl sh.heap).0 in
+      (some_fine d.chunk c g, h d.chunk.value (subst (λ a. Fine sorts s.next d.chunk.value a) (ap (field_sort p) pl.resource ∙ e) c.content)))
       (never_live at PermissionCode sh)
 
   pub eval_live : {scope : Scope} {e : Expr} {t : ValueType} → HasType p scope e t → InFields e → {sorts : Sorts} {s : rules.State} (on : Giving) → Shaped p sorts scope s →

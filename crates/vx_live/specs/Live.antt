@@ -6,7 +6,7 @@ use Rattle.vx_terms.specs.Interpretations.{Each}
 use Rattle.vx_terms.specs.Formed.{Formed}
 use Rattle.vx_smt_meaning.specs.Over.{IsOver}
 use Rattle.vx_smt_meaning.specs.Standard.{standard_symbols}
-use Rattle.vx_rules.specs.Trees.{Question, Tree, End, On, Step, Ask, Probe, Fork}
+use Rattle.vx_rules.specs.Trees.{Question, Tree, End, Impossible, On, Step, Ask, Probe, Fork}
 use Rattle.vx_rules.specs.Members.{method_tree}
 use Rattle.vx_types.specs.Typing.{IsTypedMethod}
 
@@ -28,6 +28,7 @@ pub record IsLive (q : Question) : Type 0 where
 
 abbrev pub AllLive : Tree → Type 0
 AllLive End = Unit {0}
+AllLive (Impossible s) = Unit {0}
 AllLive (On t s) = Unit {0}
 AllLive (Step t) = AllLive t
 AllLive (Ask q t) = IsLive q × AllLive t

@@ -32,6 +32,7 @@ member_tree p n = tree_of p (slice_get p n)
 
 abbrev pub is_finish : Next → Bool
 is_finish next'.Finish = true
+is_finish next'.Impossible = true
 is_finish n = false
 
 abbrev pub is_last : Hole → Bool

@@ -21,7 +21,7 @@ fn has_ended(frame: &Frame) -> bool
     ensures { result ≡ is_over frame.now }
 {
     match frame {
-        Frame::Go(next) => matches!(&**next, Next::Finish),
+        Frame::Go(next) => matches!(&**next, Next::Finish | Next::Impossible),
         Frame::Eval(_, _) => false,
         Frame::Give(_, hole) => matches!(&**hole, Hole::Finish),
     }
@@ -59,6 +59,7 @@ fn step_next(
 {
     match next {
         Next::Finish => unreachable!(),
+        Next::Impossible => unreachable!(),
         Next::Exec(c, next) => vx_exec::step(alloc, program, c, next, state, conts),
         Next::Block(b, next) => vx_exec::step_block(alloc, program, b, next, state, conts),
         Next::Inner(b, kept, next) => {

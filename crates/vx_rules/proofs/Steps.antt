@@ -10,7 +10,7 @@ use Rattle.vx_rules.specs.declared.conts.Move.TheVariants as move'
 use Rattle.vx_terms.specs.Terms.{Term, same}
 use Rattle.vx_terms.specs.Build.{true_term, false_term, negate}
 use Rattle.vx_rules.specs.States.{State, is_quiet, is_known, with_fact, with_branch}
-use Rattle.vx_rules.specs.Trees.{Code, Question, Tree, End, Ask, Probe, Fork}
+use Rattle.vx_rules.specs.Trees.{Code, Question, Tree, Impossible, Ask, Probe, Fork}
 use Rattle.vx_rules.specs.Rules.{Going, question, ask, probe, fork}
 use Rattle.vx_rules.specs.Stack.{side_tree, query, Checked, Stepped}
 
@@ -31,23 +31,23 @@ neither a b e f = rw (e, f) refl
 
 pub ask_fact : (c : Term) (at : Place) (code : Code) (s s1 : State) (on : Going) (q : Question) → is_quiet s ≡ false → same c true_term ≡ false → same c false_term ≡ false → s1 ≡ with_fact c s → q ≡ question false c at code s → ask c at code s on ≡ Ask q (on s1)
 ask_fact c at code s s1 on q l e f h i =
-    if_false (same c true_term || is_quiet s) _ _ (neither _ _ e l) ∙ ap (Ask (question false c at code s)) (if_false (same c false_term) End (on (with_fact c s)) f)
+    if_false (same c true_term || is_quiet s) _ _ (neither _ _ e l) ∙ ap (Ask (question false c at code s)) (if_false (same c false_term) (Impossible s) (on (with_fact c s)) f)
     ∙ ap (λ x. Ask x (on (with_fact c s))) (sym i) ∙ ap (λ x. Ask q (on x)) (sym h)
 
-pub ask_false : (c : Term) (at : Place) (code : Code) (s : State) (on : Going) (q : Question) → is_quiet s ≡ false → same c true_term ≡ false → same c false_term ≡ true → q ≡ question false c at code s → ask c at code s on ≡ Ask q End
+pub ask_false : (c : Term) (at : Place) (code : Code) (s : State) (on : Going) (q : Question) → is_quiet s ≡ false → same c true_term ≡ false → same c false_term ≡ true → q ≡ question false c at code s → ask c at code s on ≡ Ask q (Impossible s)
 ask_false c at code s on q l e f i =
-    if_false (same c true_term || is_quiet s) _ _ (neither _ _ e l) ∙ ap (Ask (question false c at code s)) (if_true (same c false_term) End (on (with_fact c s)) f)
-    ∙ ap (λ x. Ask x End) (sym i)
+    if_false (same c true_term || is_quiet s) _ _ (neither _ _ e l) ∙ ap (Ask (question false c at code s)) (if_true (same c false_term) (Impossible s) (on (with_fact c s)) f)
+    ∙ ap (λ x. Ask x (Impossible s)) (sym i)
 
 pub probe_other : (c : Term) (at : Place) (code : Code) (s : State) (a b : Tree) (q : Question) → is_quiet s ≡ false → same c true_term ≡ false → same c false_term ≡ false → q ≡ question true c at code s → probe c at code s a b ≡ Probe q a b
 probe_other c at code s a b q l e f i =
-    if_false (same c true_term) _ _ e ∙ if_false (is_quiet s) _ _ l ∙ ap (λ x. Probe (question true c at code s) x b) (if_false (same c false_term) End a f)
+    if_false (same c true_term) _ _ e ∙ if_false (is_quiet s) _ _ l ∙ ap (λ x. Probe (question true c at code s) x b) (if_false (same c false_term) (Impossible s) a f)
     ∙ ap (λ x. Probe x a b) (sym i)
 
-pub probe_false : (c : Term) (at : Place) (code : Code) (s : State) (a b : Tree) (q : Question) → is_quiet s ≡ false → same c true_term ≡ false → same c false_term ≡ true → q ≡ question true c at code s → probe c at code s a b ≡ Probe q End b
+pub probe_false : (c : Term) (at : Place) (code : Code) (s : State) (a b : Tree) (q : Question) → is_quiet s ≡ false → same c true_term ≡ false → same c false_term ≡ true → q ≡ question true c at code s → probe c at code s a b ≡ Probe q (Impossible s) b
 probe_false c at code s a b q l e f i =
-    if_false (same c true_term) _ _ e ∙ if_false (is_quiet s) _ _ l ∙ ap (λ x. Probe (question true c at code s) x b) (if_true (same c false_term) End a f)
-    ∙ ap (λ x. Probe x End b) (sym i)
+    if_false (same c true_term) _ _ e ∙ if_false (is_quiet s) _ _ l ∙ ap (λ x. Probe (question true c at code s) x b) (if_true (same c false_term) (Impossible s) a f)
+    ∙ ap (λ x. Probe x (Impossible s) b) (sym i)
 
 pub checked_ask : (p : Program) (q : Query) (t : Tree) (old new : List Side) (a : Side) → q.probe ≡ false → new ≡ old ++ a ∷ [] → t ≡ Ask (query q) (side_tree p a) → Stepped p t old (move'.Check q) new
 checked_ask p q t old new a e n h = subst (λ b. Checked p b t old (query q) new) (sym e) (a, n, h)

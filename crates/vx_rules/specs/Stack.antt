@@ -26,7 +26,7 @@ use Rattle.vx_terms.specs.Build.{negate, ite, unit, pair, whole_amount}
 use Rattle.vx_rules.specs.States.{State, with_store, with_heap, assign, leave, with_fact, name_of, after_name, path_terms}
 use Rattle.vx_rules.specs.Paths.{entries}
 use Rattle.vx_rules.specs.SymStates.{state}
-use Rattle.vx_rules.specs.Trees.{Code, AssertCode, PermissionCode, AmountCode, DivisorCode, CallCode, FunctionCode, PostCode, EntryCode, KeptCode, FoldCode, UnfoldCode, MeasureCode, Question, Tree, End, Step, Ask, Probe, Fork}
+use Rattle.vx_rules.specs.Trees.{Code, AssertCode, PermissionCode, AmountCode, DivisorCode, CallCode, FunctionCode, PostCode, EntryCode, KeptCode, FoldCode, UnfoldCode, MeasureCode, Question, Tree, End, Impossible, Step, Ask, Probe, Fork}
 use Rattle.vx_rules.specs.Rules.{Giving, Going, Context, ask, fork, short, operated, connected, placed, with_built_pair, eval, produce, consume}
 use Rattle.vx_rules.specs.Members.{codes, exec, exec_all, rules, sides}
 
@@ -103,6 +103,7 @@ module _ (p : Program) where
     -- what a state leads to
     pub going : Next → Going
     going next'.Finish s = End
+    going next'.Impossible s = Impossible s
     going (next'.Exec' c q n) s = exec p (rules p) (stmt c.value) s (going n)
     going (next'.Block' b q n) s = exec_all p (rules p) (block b.value) s (going n)
     going (next'.Inner' b kept q n) s = exec_all p (rules p) (block b.value) s (λ s1. going n (leave kept s1))

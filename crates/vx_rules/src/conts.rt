@@ -154,8 +154,8 @@ impl Conts {
         }
         let query = question(&condition, place, code, false, &state)?;
         if condition.is_same(&Term::Truth(false)) {
-            let finish = Rc::new(alloc, Next::Finish)?;
-            self.push(Frame::Go(finish), state)?;
+            let impossible = Rc::new(alloc, Next::Impossible)?;
+            self.push(Frame::Go(impossible), state)?;
             return Ok(Move::Check(query));
         }
         let mut state = state;
@@ -182,12 +182,14 @@ impl Conts {
             return self.go(program, refuted.frame, refuted.state);
         }
         let query = question(condition, place, code, true, &otherwise.state)?;
-        self.sides.push(otherwise)?;
         if condition.is_same(&Term::Truth(false)) {
-            let finish = Rc::new(alloc, Next::Finish)?;
-            self.push(Frame::Go(finish), refuted.state)?;
+            let state = otherwise.state.copy(alloc)?;
+            let impossible = Rc::new(alloc, Next::Impossible)?;
+            self.sides.push(otherwise)?;
+            self.push(Frame::Go(impossible), state)?;
             return Ok(Move::Check(query));
         }
+        self.sides.push(otherwise)?;
         self.sides.push(refuted)?;
         Ok(Move::Check(query))
     }

@@ -63,6 +63,8 @@ pub enum Executed {
 pub enum Next {
     /// The side is over.
     Finish,
+    /// The side is over since its state is impossible.
+    Impossible,
     Exec(Rc<Stmt>, Rc<Next>),
     Block(Rc<Block>, Rc<Next>),
     /// A block within another: this many variables are kept at its end.
@@ -94,6 +96,7 @@ impl Drop for Next {
         loop {
             let rest = match self {
                 Next::Finish => return,
+                Next::Impossible => return,
                 Next::Exec(_c, rest) => rest,
                 Next::Block(_b, rest) => rest,
                 Next::Inner(_b, _kept, rest) => rest,

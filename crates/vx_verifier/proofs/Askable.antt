@@ -8,7 +8,7 @@ use Rattle.vx_smt_meaning.specs.declared.reply.Reply.TheVariants.{Unsat, Sat, Un
 use Rattle.vx_ends.specs.declared.piece.Ending.{Ending}
 use Rattle.vx_dialogue.specs.Scripts.{Turn, Leaves}
 use Rattle.vx_dialogue.specs.Askable.{IsAskable, AreAskable}
-use Rattle.vx_rules.specs.Trees.{Question, Answered, Ending as Ends, Passed, Failed, Open, Tree, End, On, Step, Ask, Probe, Fork, Walked, walk_then, asked, probed, passed}
+use Rattle.vx_rules.specs.Trees.{Question, Answered, Ending as Ends, Passed, Failed, Open, Tree, End, Impossible, On, Step, Ask, Probe, Fork, Walked, walk_then, asked, probed, passed}
 use Rattle.vx_machine.specs.Runs.{member_tree}
 use Rattle.vx_report.specs.declared.run.Verdict.{Verdict}
 use Rattle.vx_report.specs.declared.run.MemberRun.{MemberRun}
@@ -20,6 +20,7 @@ use Rattle.vx_verifier.proofs.Walks.{walk_extends}
 
 abbrev pub AllAskable : Tree → Type 0
 AllAskable End = Unit {0}
+AllAskable (Impossible s) = Unit {0}
 AllAskable (On t s) = Unit {0}
 AllAskable (Step t) = AllAskable t
 AllAskable (Ask q t) = IsAskable q.path q.condition × AllAskable t
@@ -49,6 +50,7 @@ probed_askable q Unknown v w h e f = record { answered = (h, f.answered); last =
 
 through : (t : Tree) (next : List Reply → Walked) → AllAskable t → ((rs : List Reply) → MeetsAskable (next rs)) → (rs : List Reply) → MeetsAskable (walk_then t next rs)
 through End next all e rs = e rs
+through (Impossible s) next all e rs = e rs
 through (On t s) next all e rs = e rs
 through (Step t) next all e rs = through t next all e rs
 through (Fork a b) next all e rs = through a (walk_then b next) all.0 (through b next all.1 e) rs

@@ -13,7 +13,7 @@ use Rattle.vx_report.specs.declared.run.Verdict.{Verdict}
 use Rattle.vx_report.specs.declared.run.Verdict.TheVariants as verdict
 use Rattle.vx_report.specs.declared.run.MemberRun.{MemberRun}
 use Rattle.vx_report.specs.Reports.{is_faulted}
-use Rattle.vx_rules.specs.Trees.{Ending as Ends, Tree, End, On, Step, Ask, Probe, Fork, Walked, Failed, Code, walk_then, passed}
+use Rattle.vx_rules.specs.Trees.{Ending as Ends, Tree, End, Impossible, On, Step, Ask, Probe, Fork, Walked, Failed, Code, walk_then, passed}
 use Rattle.vx_rules.specs.Stack.{code}
 use Rattle.vx_machine.specs.Runs.{member_tree}
 use Rattle.vx_verifier.specs.Sequences.{AllUnsat, replies_to}
@@ -74,6 +74,7 @@ probe_never q a b next e (Unknown ∷ rs) all place c r is = let h = all.0 in cc
 
 through : (t : Tree) (next : List Reply → Walked) → NeverFails next → NeverFails (walk_then t next)
 through End next e = e
+through (Impossible s) next e = e
 through (On t s) next e = e
 through (Step t) next e = through t next e
 through (Ask q t) next e = ask_never q t next (through t next e)

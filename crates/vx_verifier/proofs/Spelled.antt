@@ -14,7 +14,7 @@ use Rattle.vx_dialogue.specs.Preamble.{declarations}
 use Rattle.vx_dialogue.specs.Scripts.{assertions, symbols_of}
 use Rattle.vx_dialogue.specs.Symbols.{variable, declares, with_variable, with_symbol, with_variables, with_all_variables, with_listed}
 use Rattle.vx_dialogue.proofs.Steady.{commands_join}
-use Rattle.vx_rules.specs.Trees.{Question, Tree, End, On, Step, Ask, Probe, Fork}
+use Rattle.vx_rules.specs.Trees.{Question, Tree, End, Impossible, On, Step, Ask, Probe, Fork}
 use Rattle.vx_rules.specs.Members.{tree}
 use Rattle.vx_machine.specs.Runs.{tree_of, member_tree}
 use Rattle.vx_live.specs.Live.{IsBuiltIn, IsLive, AllLive}
@@ -114,6 +114,7 @@ live_spelled q live =
 
 all_spelled : (t : Tree) → AllLive t → AllSpelled t
 all_spelled End live = tt
+all_spelled (Impossible s) live = tt
 all_spelled (On t s) live = tt
 all_spelled (Step t) live = all_spelled t live
 all_spelled (Ask q t) live = (live_spelled q live.0, all_spelled t live.1)
@@ -140,6 +141,7 @@ askable q live = record {
 
 all_askable : (t : Tree) → AllLive t → AllAskable t
 all_askable End live = tt
+all_askable (Impossible s) live = tt
 all_askable (On t s) live = tt
 all_askable (Step t) live = all_askable t live
 all_askable (Ask q t) live = (askable q live.0, all_askable t live.1)

@@ -17,7 +17,7 @@ use Rattle.vx_dialogue.specs.Steady.{IsSteady}
 use Rattle.vx_dialogue.proofs.Joined.{append_none}
 use Rattle.vx_dialogue.proofs.Levels.{script_none, script_more, script_asked}
 use Rattle.vx_dialogue.proofs.Steady.{commands_join, preamble_named, question_named, closing_named}
-use Rattle.vx_rules.specs.Trees.{Question, Tree, End, On, Step, Ask, Probe, Fork, Walked, Open, walk, walk_then, passed}
+use Rattle.vx_rules.specs.Trees.{Question, Tree, End, Impossible, On, Step, Ask, Probe, Fork, Walked, Open, walk, walk_then, passed}
 use Rattle.vx_verifier.specs.declared.lane.Child.{Child}
 use Rattle.vx_verifier.specs.declared.lane.Child.TheVariants.{NotStarted, Talking}
 use Rattle.vx_verifier.specs.Causes.{NoCountRose}
@@ -167,6 +167,7 @@ probe_opens q a b next h e f (Unknown ∷ rs) q' is = f rs q' is
 
 through : (t : Tree) (next : List Reply → Walked) → AllSpelled t → OpensSpelled next → OpensSpelled (walk_then t next)
 through End next all e = e
+through (Impossible s) next all e = e
 through (On t s) next all e = e
 through (Step t) next all e = through t next all e
 through (Ask q t) next all e = ask_opens q t next all.0 (through t next all.1 e)

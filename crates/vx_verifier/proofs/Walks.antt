@@ -2,7 +2,7 @@
 use Rattle.std.proofs.Common.{◌≡◌, ◌++◌, ◌∷◌, [], List, refl, ap}
 use Rattle.vx_smt_meaning.specs.declared.reply.Reply.{Reply}
 use Rattle.vx_smt_meaning.specs.declared.reply.Reply.TheVariants.{Unsat, Sat, Unknown}
-use Rattle.vx_rules.specs.Trees.{Question, Tree, End, On, Step, Ask, Probe, Fork, Walked, Open, walk_then, passed, walk}
+use Rattle.vx_rules.specs.Trees.{Question, Tree, End, Impossible, On, Step, Ask, Probe, Fork, Walked, Open, walk_then, passed, walk}
 
 -- with no reply nothing is answered; a reply more to an open question is one answer more
 pub record Extends (next : List Reply → Walked) : Type 0 where
@@ -35,6 +35,7 @@ probe_more q a b next e f q' (Unknown ∷ rs) r is = ap (λ l. record { question
 
 through : (t : Tree) (next : List Reply → Walked) → Extends next → Extends (walk_then t next)
 through End next e = e
+through (Impossible s) next e = e
 through (On t s) next e = e
 through (Step t) next e = through t next e
 through (Ask q t) next e = record { none = refl; one_more = ask_more q t next (through t next e) }

@@ -9,7 +9,7 @@ use Rattle.vx_ends.specs.declared.piece.Ending.{Ending}
 use Rattle.vx_dialogue.specs.Scripts.{Turn, question, script}
 use Rattle.vx_dialogue.specs.Dialogue.{Stands, link_of}
 use Rattle.vx_dialogue.specs.Steady.{IsSteady}
-use Rattle.vx_rules.specs.Trees.{Question, Tree, End, On, Step, Ask, Probe, Fork}
+use Rattle.vx_rules.specs.Trees.{Question, Tree, End, Impossible, On, Step, Ask, Probe, Fork}
 use Rattle.vx_machine.specs.Runs.{member_tree}
 use Rattle.vx_verifier.specs.declared.lane.Child.{Child}
 use Rattle.vx_verifier.specs.declared.lane.Child.TheVariants.{NotStarted, Talking, Lost}
@@ -20,6 +20,7 @@ IsSpelled q = AreCommands (question false q.path q.condition)
 
 abbrev pub AllSpelled : Tree → Type 0
 AllSpelled End = ⊤
+AllSpelled (Impossible s) = ⊤
 AllSpelled (On t s) = ⊤
 AllSpelled (Step t) = AllSpelled t
 AllSpelled (Ask q t) = IsSpelled q × AllSpelled t

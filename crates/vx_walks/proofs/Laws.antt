@@ -3,7 +3,7 @@ use Rattle.std.proofs.Common.{◌≡◌, List, [], ◌∷◌, ◌++◌, length, 
 use Rattle.std.proofs.lemmas.List.{length-append, drop-drop}
 use Rattle.vx_smt_meaning.specs.declared.reply.Reply.{Reply}
 use Rattle.vx_smt_meaning.specs.declared.reply.Reply.TheVariants.{Unsat, Sat, Unknown}
-use Rattle.vx_rules.specs.Trees.{Question, Tree, End, On, Step, Ask, Probe, Fork, Ending, Passed, Failed, Open, Answered, Walked, after_answer, walk_then, walk}
+use Rattle.vx_rules.specs.Trees.{Question, Tree, End, Impossible, On, Step, Ask, Probe, Fork, Ending, Passed, Failed, Open, Answered, Walked, after_answer, walk_then, walk}
 use Rattle.vx_walks.specs.Walks.{IsOver, Begins, followed_by, followed}
 
 -- what is left for what follows
@@ -39,6 +39,7 @@ left_by a (Open q) v u next rs = refl
 
 pub walked_on : (t : Tree) (next : List Reply → Walked) (rs : List Reply) → walk_then t next rs ≡ followed (walk t rs) (next (left (walk t rs) rs))
 walked_on End next rs = refl
+walked_on (Impossible s) next rs = refl
 walked_on (On t s) next rs = refl
 walked_on (Step t) next rs = walked_on t next rs
 walked_on (Ask q t) next [] = refl
@@ -71,6 +72,7 @@ Grows next = (rs more : List Reply) → Begins (next rs).answered (next (rs ++ m
 
 pub final_then : (t : Tree) (next : List Reply → Walked) → IsFinal next → IsFinal (walk_then t next)
 final_then End next f rs more h = f rs more h
+final_then (Impossible s) next f rs more h = f rs more h
 final_then (On t s) next f rs more h = f rs more h
 final_then (Step t) next f rs more h = final_then t next f rs more h
 final_then (Fork a b) next f rs more h = final_then a (walk_then b next) (final_then b next f) rs more h
@@ -88,6 +90,7 @@ one_more x xs ys h = (h.0, ap (λ l. x ∷ l) h.1)
 
 pub grows_then : (t : Tree) (next : List Reply → Walked) → Grows next → Grows (walk_then t next)
 grows_then End next g rs more = g rs more
+grows_then (Impossible s) next g rs more = g rs more
 grows_then (On t s) next g rs more = g rs more
 grows_then (Step t) next g rs more = grows_then t next g rs more
 grows_then (Fork a b) next g rs more = grows_then a (walk_then b next) (grows_then b next g) rs more
@@ -106,6 +109,7 @@ Takes next = (rs : List Reply) → Begins (map (λ a. a.reply) (next rs).answere
 
 pub takes_then : (t : Tree) (next : List Reply → Walked) → Takes next → Takes (walk_then t next)
 takes_then End next k rs = k rs
+takes_then (Impossible s) next k rs = k rs
 takes_then (On t s) next k rs = k rs
 takes_then (Step t) next k rs = takes_then t next k rs
 takes_then (Fork a b) next k rs = takes_then a (walk_then b next) (takes_then b next k) rs

@@ -20,7 +20,7 @@ returns-then-is_same-2 c =
     let e2 : same c' false_term ≡ true = ap (λ t. same (term t) false_term) (sym c.deref-2.ensures) ∙ sym c.is_same-2.ensures ∙ c.if-is_same-2.true in
     checked_ask p q _ _ _ _ c.in_ok-query.ensures.probe c.in_ok-push.ensures
     (ask_false c' c.args.place (code c.args.code) s' (frame_tree p c.args.frame) (query q) refl e1 e2 c.in_ok-query.ensures.question
-    ∙ ap (λ n. Ask (query q) (going p n s')) (sym c.in_ok-finish.ensures.ok))
+    ∙ ap (λ n. Ask (query q) (going p n s')) (sym c.in_ok-impossible.ensures.ok))
 
 pub returns : goal.returns
 returns c =
