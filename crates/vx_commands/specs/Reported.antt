@@ -33,6 +33,7 @@ use Rattle.vx_companion.specs.Companion.{AllByCompanion}
 use Rattle.vx_commands.specs.Outside.{Change, Texts, Taken, Children, IsUnchanged, AsksOnly, HasFailedToRead, IsTooLong, HasFailedToPut, StartsOnly}
 use Rattle.vx_verifier.specs.Lanes.{StartsWhere}
 use Rattle.vx_verifier.specs.Headline.{IsSupported, Headline, HasNoFault, some_ask}
+use Rattle.vx_verifier.specs.Lines.{lines}
 
 -- the text spells the program, which is typed and executed
 pub record IsExecuted (text : List ℕ) (p : written.Program) : Type 0 where
@@ -176,7 +177,7 @@ pub record IsReport (p : Program) (command : List (List ℕ)) (spawner : Change 
   pub headline : Headline p spawner.before.ended spawner.after.ended spawner.before.faults spawner.after.faults ended.runs.items
   pub put : IsPut sink ended.status (report_of p ended.runs.items)
   pub status : IsStatus (status_among ended.runs.items) sink ended.status
-  pub started : StartsWhere (some_ask p (length p)) spawner.before.starts spawner.after.starts record { lane = 0; command = command }
+  pub started : StartsWhere (some_ask p (lines p)) spawner.before.starts spawner.after.starts record { lane = 0; command = command }
   pub calm : IsTrue spawner.before.steady → spawner.before.faults < 2 ^ 64 - 1
       → NoCountRose spawner.before.ended spawner.after.ended spawner.before.faults spawner.after.faults
 

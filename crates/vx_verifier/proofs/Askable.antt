@@ -87,29 +87,29 @@ failed_here false e v is = refl
 
 module _ (p : Program) (before now : List Ending) (f g : ℕ) where
   -- behind a fault nothing is asked
-  silent : (n first : ℕ) (runs : List MemberRun) (checks : List Check) → AreTold p before now f g true n first runs checks → turns_of true p n runs checks ≡ []
-  silent n first [] checks told = refl
-  silent n first (r ∷ runs) checks told =
-      let front = own_front r.checks checks told.4 told.5 told.6 told.7 in
-      let none : take r.checks checks ≡ [] = front.0 ∙ told.9.0 in
-      let here : member_turns true p n (take r.checks checks) r.verdict ≡ [] =
-      ap (λ x. member_turns true p n x r.verdict) none ∙ ap (λ x. (asks_of x ++ []) ++ []) (walk_extends (member_tree p n)).none in
-      ap (λ x. x ++ turns_of true p (n + 1) runs (drop r.checks checks)) here
-      ∙ (ap (turns_of true p (n + 1) runs) front.1 ∙ silent (n + 1) (first + length told.4) runs told.5 told.10)
+  silent : (first : ℕ) (runs : List MemberRun) (checks : List Check) → AreTold p before now f g true first runs checks → turns_of true p runs checks ≡ []
+  silent first [] checks told = refl
+  silent first (r ∷ runs) checks told =
+      let front = own_front r.checks checks told.3 told.4 told.5 told.6 in
+      let none : take r.checks checks ≡ [] = front.0 ∙ told.8.0 in
+      let here : member_turns true p r.member.0 (take r.checks checks) r.verdict ≡ [] =
+      ap (λ x. member_turns true p r.member.0 x r.verdict) none ∙ ap (λ x. (asks_of x ++ []) ++ []) (walk_extends (member_tree p r.member.0)).none in
+      ap (λ x. x ++ turns_of true p runs (drop r.checks checks)) here ∙ (ap (turns_of true p runs) front.1 ∙ silent (first + length told.3) runs told.4 told.9)
 
-  pub turns_askable : ((k : ℕ) → AllAskable (member_tree p k)) → (lost : Bool) (n first : ℕ) (runs : List MemberRun) (checks : List Check)
-      → AreTold p before now f g lost n first runs checks → AreAskable (turns_of lost p n runs checks)
-  turns_askable all lost n first [] checks told = tt
-  turns_askable all lost n first (r ∷ runs) checks told =
-      let front = own_front r.checks checks told.4 told.5 told.6 told.7 in
+  pub turns_askable : ((k : ℕ) → AllAskable (member_tree p k)) → (lost : Bool) (first : ℕ) (runs : List MemberRun) (checks : List Check)
+      → AreTold p before now f g lost first runs checks → AreAskable (turns_of lost p runs checks)
+  turns_askable all lost first [] checks told = tt
+  turns_askable all lost first (r ∷ runs) checks told =
+      let n = r.member.0 in
+      let front = own_front r.checks checks told.3 told.4 told.5 told.6 in
       let gone = lost || is_faulted r.verdict in
       let w = walk_of p n (take r.checks checks) in
-      let rest = turns_of gone p (n + 1) runs (drop r.checks checks) in
+      let rest = turns_of gone p runs (drop r.checks checks) in
       let met : MeetsAskable w = through (member_tree p n) passed (all n) (λ rs. record { answered = tt; last = tt }) (replies_to (take r.checks checks)) in
-      let later : AreAskable rest = subst (λ x. AreAskable (turns_of gone p (n + 1) runs x)) (sym front.1) (turns_askable all gone (n + 1) (first + length told.4) runs told.5 told.10) in
+      let later : AreAskable rest = subst (λ x. AreAskable (turns_of gone p runs x)) (sym front.1) (turns_askable all gone (first + length told.3) runs told.4 told.9) in
       let none : gone ≡ true → rest ≡ [] = λ is.
-      ap (λ b. turns_of b p (n + 1) runs (drop r.checks checks)) is ∙ (ap (turns_of true p (n + 1) runs) front.1
-      ∙ silent (n + 1) (first + length told.4) runs told.5 (subst (λ b. AreTold p before now f g b (n + 1) (first + length told.4) runs told.5) is told.10)) in
+      ap (λ b. turns_of b p runs (drop r.checks checks)) is ∙ (ap (turns_of true p runs) front.1
+      ∙ silent (first + length told.3) runs told.4 (subst (λ b. AreTold p before now f g b (first + length told.3) runs told.4) is told.9)) in
       let failed = failed_turn lost w.ending r.verdict in
       let ends = last_askable lost (is_faulted r.verdict) w.ending rest met.last later none failed (failed_gone lost w.ending r.verdict) (failed_here lost w.ending r.verdict) in
       subst AreAskable (sym (append_assoc (asks_of w.answered ++ failed) (left_turn gone) rest ∙ append_assoc (asks_of w.answered) failed (left_turn gone ++ rest)))

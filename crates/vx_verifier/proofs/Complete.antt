@@ -42,14 +42,14 @@ not_faulted C none e asked verdict.Limit has = refl
 not_faulted C none e asked (verdict.Fault x) has = absurd (none x has.0)
 
 module _ (p : Program) (before now : List Ending) (f g : ℕ) where
-  none_faulted : NoCountRose before now f g → AllLawful before now → (n first : ℕ) (runs : List MemberRun) (checks : List Check)
-      → AreTold p before now f g false n first runs checks → HasNoFault runs
-  none_faulted calm lawful n first [] checks told = tt
-  none_faulted calm lawful n first (r ∷ runs) checks told =
-      let fine = not_faulted (HasCauseOf before now f g false) (no_cause before now f g calm lawful) (walk_of p n told.4).ending (length told.4) r.verdict told.8.verdict in (
+  none_faulted : NoCountRose before now f g → AllLawful before now → (first : ℕ) (runs : List MemberRun) (checks : List Check)
+      → AreTold p before now f g false first runs checks → HasNoFault runs
+  none_faulted calm lawful first [] checks told = tt
+  none_faulted calm lawful first (r ∷ runs) checks told =
+      let none = no_cause before now f g calm lawful in
+      let fine = not_faulted (HasCauseOf before now f g false) none (walk_of p r.member.0 told.3).ending (length told.3) r.verdict told.7.verdict in (
         fine,
-        none_faulted calm lawful (n + 1) (first + length told.4) runs told.5
-            (subst (λ b. AreTold p before now f g b (n + 1) (first + length told.4) runs told.5) fine told.10),
+        none_faulted calm lawful (first + length told.3) runs told.4 (subst (λ b. AreTold p before now f g b (first + length told.3) runs told.4) fine told.9),
       )
 
 -- ---- by unsat alone no walk fails
@@ -103,24 +103,24 @@ own_sequence r done own rest first count =
     ∙ (ap (λ k. take (length own) (drop k (done ++ (own ++ rest)))) first ∙ (ap (take (length own)) (drop_front done (own ++ rest)) ∙ take_front own rest))
 
 module _ (p : Program) (before now : List Ending) (f g : ℕ) (all : List Check) where
-  are_verified : (lost : Bool) (n first : ℕ) (runs : List MemberRun) (done checks : List Check) → all ≡ done ++ checks → first ≡ length done
-      → AreTold p before now f g lost n first runs checks → HasNoFault runs → HasNoLimit runs
+  are_verified : (lost : Bool) (first : ℕ) (runs : List MemberRun) (done checks : List Check) → all ≡ done ++ checks → first ≡ length done
+      → AreTold p before now f g lost first runs checks → HasNoFault runs → HasNoLimit runs
       → Each (λ (r : MemberRun). AllUnsat (sequence_of r all) → r.verdict ≡ verdict.Verified) runs
-  are_verified lost n first [] done checks is place told fine below = tt
-  are_verified lost n first (r ∷ runs) done checks is place told fine below =
-      let own = told.4 in
-      let whole : all ≡ done ++ (own ++ told.5) = is ∙ ap (λ x. done ++ x) told.6 in
-      let mine : sequence_of r all ≡ own = ap (sequence_of r) whole ∙ own_sequence r done own told.5 (told.3 ∙ place) told.7 in
+  are_verified lost first [] done checks is place told fine below = tt
+  are_verified lost first (r ∷ runs) done checks is place told fine below =
+      let own = told.3 in
+      let whole : all ≡ done ++ (own ++ told.4) = is ∙ ap (λ x. done ++ x) told.5 in
+      let mine : sequence_of r all ≡ own = ap (sequence_of r) whole ∙ own_sequence r done own told.4 (told.2 ∙ place) told.6 in
       let longer = length-append done own in (
-        λ unsat. by_unsat (HasCauseOf before now f g lost) (walk_of p n own).ending (length own) r.verdict told.8.verdict
-            (through (member_tree p n) passed passed_never (replies_to own) (unsat_replies own (subst AllUnsat mine unsat))) fine.0 below.0,
-        are_verified (lost || is_faulted r.verdict) (n + 1) (first + length own) runs (done ++ own) told.5
-            (whole ∙ sym (append_assoc done own told.5)) (omega arith) told.10 fine.1 below.1,
+        λ unsat. by_unsat (HasCauseOf before now f g lost) (walk_of p r.member.0 own).ending (length own) r.verdict told.7.verdict
+            (through (member_tree p r.member.0) passed passed_never (replies_to own) (unsat_replies own (subst AllUnsat mine unsat))) fine.0 below.0,
+        are_verified (lost || is_faulted r.verdict) (first + length own) runs (done ++ own) told.4
+            (whole ∙ sym (append_assoc done own told.4)) (omega arith) told.9 fine.1 below.1,
       )
 
 pub complete : (p : Program) (before now : List Ending) (f g : ℕ) (runs : List MemberRun) (checks : List Check)
-    → AreTold p before now f g false 0 0 runs checks → IsComplete before now f g runs checks
+    → AreTold p before now f g false 0 runs checks → IsComplete before now f g runs checks
 complete p before now f g runs checks told = record {
-  no_fault = λ calm lawful. none_faulted p before now f g calm lawful 0 0 runs checks told;
-  verified = λ fine below. are_verified p before now f g checks false 0 0 runs [] checks refl refl told fine below;
+  no_fault = λ calm lawful. none_faulted p before now f g calm lawful 0 runs checks told;
+  verified = λ fine below. are_verified p before now f g checks false 0 runs [] checks refl refl told fine below;
 }

@@ -4,6 +4,7 @@ mod Runs
 mod Children
 mod Complete
 mod Members
+mod Lines
 mod Questions
 mod Covered
 mod Steady

@@ -1,5 +1,7 @@
 -- One member more is executed.
-use Rattle.std.proofs.Common.{◌≡◌, ℕ, zero, suc, ◌+◌, ◌<◌, ◌≤◌, ◌||◌, Bool, false, ◌++◌, ◌∷◌, [], List, length, refl, ap, ◌∙◌, sym, subst, add-one, arith}
+use Rattle.std.proofs.Common.{◌≡◌, ℕ, zero, suc, ◌+◌, ◌<◌, ◌≤◌, ◌||◌, Bool, true, false, ◌++◌, ◌∷◌, [], List, length, refl, ap, ◌∙◌, sym, subst, arith}
+use Rattle.std.proofs.lemmas.List.{map-append}
+use Rattle.std.proofs.lemmas.List.Folds.{list_any-append}
 use Rattle.std.specs.List.{All}
 use Rattle.std.proofs.lemmas.List.Elements.{All-append}
 use Rattle.vx_ast.specs.Syntax.{Program}
@@ -13,11 +15,11 @@ use Rattle.vx_report.specs.declared.run.MemberRun.{MemberRun}
 use Rattle.vx_report.specs.Reports.{AreNamed, is_faulted}
 use Rattle.vx_verifier.specs.declared.lane.Child.{Child}
 use Rattle.vx_verifier.specs.Causes.{HasCauseOf}
-use Rattle.vx_verifier.specs.Headline.{IsTold, AreTold, IsRecorded, IsSpentAfter, member_turns, turns_of, Headline, has_question, some_ask, lost_after}
+use Rattle.vx_verifier.specs.Headline.{IsTold, AreTold, IsRecorded, IsSpentAfter, member_turns, turns_of, members_of, Headline, has_question, some_ask, lost_after}
+use Rattle.vx_verifier.specs.Lines.{lines}
 use Rattle.vx_verifier.specs.Lanes.{Hears, Later, Judges, Executes, is_lost, is_started}
 use Rattle.vx_verifier.proofs.Children.{handed_itself, cause_earlier}
 use Rattle.vx_verifier.proofs.Runs.{told_later, runs_later, runs_more, turns_more}
-use Rattle.vx_verifier.proofs.Questions.{one_longer}
 use Rattle.vx_verifier.proofs.Complete.{complete}
 use Rattle.vx_verifier.proofs.Askable.{AllAskable, turns_askable}
 
@@ -29,8 +31,17 @@ length_append : (xs ys : List Check) → length (xs ++ ys) ≡ length xs + lengt
 length_append [] ys = sym (omega arith)
 length_append (x ∷ xs) ys = let h = length_append xs ys in omega arith
 
-ask_more : (p : Program) (runs : List MemberRun) (r : MemberRun) → some_ask p (length (runs ++ r ∷ [])) ≡ (some_ask p (length runs) || has_question p (length runs))
-ask_more p runs r = ap (some_ask p) (one_longer runs r ∙ add-one (length runs))
+or_false : (a : Bool) → (a || false) ≡ a
+or_false true = refl
+or_false false = refl
+
+pub members_more : (runs : List MemberRun) (r : MemberRun) → members_of (runs ++ r ∷ []) ≡ members_of runs ++ r.member.0 ∷ []
+members_more runs r = map-append (λ (x : MemberRun). x.member.0) runs (r ∷ [])
+
+ask_more : (p : Program) (runs : List MemberRun) (r : MemberRun) → some_ask p (members_of (runs ++ r ∷ [])) ≡ (some_ask p (members_of runs) || has_question p r.member.0)
+ask_more p runs r =
+    ap (some_ask p) (members_more runs r)
+    ∙ (list_any-append (has_question p) (members_of runs) (r.member.0 ∷ []) ∙ ap (λ b. some_ask p (members_of runs) || b) (or_false (has_question p r.member.0)))
 
 pub named_more : (p : Program) (runs : List MemberRun) (r : MemberRun) → AreNamed p runs → r.member.0 < length p → AreNamed p (runs ++ r ∷ [])
 named_more p runs r named below = All-append (λ (x : MemberRun). x.member.0 < length p) runs (r ∷ []) named one
@@ -48,51 +59,51 @@ module _ {L : Type 0} (dialogue : L → List Piece) (p : Program) (before : List
       → ((first : List Ending) (turns : List Turn) (checks : List Check) → Hears dialogue first mid child turns checks
       → Judges dialogue p n first new (HasCauseOf first new g h (is_lost child)) (is_lost child) child' turns (λ x. member_turns (is_lost child) p n x r.verdict) checks r.checks r.verdict)
       → Later mid new → f ≤ g → g ≤ h
-      → r.member.0 ≡ n → n ≡ length runs → r.lane ≡ 0 → r.child ≡ 0 → r.first ≡ asked → asked' ≡ asked + r.checks
+      → r.member.0 ≡ n → r.lane ≡ 0 → r.child ≡ 0 → r.first ≡ asked → asked' ≡ asked + r.checks
       → is_lost child' ≡ (is_lost child || is_faulted r.verdict) → is_started child' ≡ (is_started child || has_question p n)
       → Executes dialogue p before new f h child' asked' (runs ++ r ∷ [])
-  executes_more mid new f g h child child' asked asked' runs r n so_far judge later earlier after member place lane number is count lost started =
-      let turns = turns_of false p 0 runs so_far.checks in
+  executes_more mid new f g h child child' asked asked' runs r n so_far judge later earlier after member lane number is count lost started =
+      let turns = turns_of false p runs so_far.checks in
       let judged = judge before turns so_far.checks so_far.heard in
       let handed = later mid (handed_itself mid) in
-      let told = subst (λ x. AreTold p before x f h false 0 0 runs so_far.checks) (sym handed.is)
-      (runs_later p before mid handed.more f g h after false 0 0 runs so_far.checks so_far.told) in
-      let at : IsTold p (0 + length runs) (HasCauseOf before new g h (is_lost child)) judged.own r.verdict =
-      subst (λ k. IsTold p k (HasCauseOf before new g h (is_lost child)) judged.own r.verdict) (place ∙ omega arith) judged.told in
-      let this = told_later p (0 + length runs) (HasCauseOf before new g h (is_lost child)) (HasCauseOf before new f h (lost_after false runs))
+      let told = subst (λ x. AreTold p before x f h false 0 runs so_far.checks) (sym handed.is)
+      (runs_later p before mid handed.more f g h after false 0 runs so_far.checks so_far.told) in
+      let at : IsTold p r.member.0 (HasCauseOf before new g h (is_lost child)) judged.own r.verdict =
+      subst (λ k. IsTold p k (HasCauseOf before new g h (is_lost child)) judged.own r.verdict) (sym member) judged.told in
+      let this = told_later p r.member.0 (HasCauseOf before new g h (is_lost child)) (HasCauseOf before new f h (lost_after false runs))
       (cause_earlier before new f g h earlier (is_lost child) (lost_after false runs) so_far.lost) judged.own r.verdict at in
-      let spent : IsSpentAfter (lost_after false runs) p (0 + length runs) judged.own r.verdict =
-      subst (λ k. IsSpentAfter (lost_after false runs) p k judged.own r.verdict) (place ∙ omega arith)
+      let spent : IsSpentAfter (lost_after false runs) p r.member.0 judged.own r.verdict =
+      subst (λ k. IsSpentAfter (lost_after false runs) p k judged.own r.verdict) (sym member)
       (subst (λ b. IsSpentAfter b p n judged.own r.verdict) so_far.lost judged.spent) in
       let length_is = length_append so_far.checks judged.own in
       let known = so_far.count in
       let own_count = judged.count in
-      let number_is : 0 + length runs ≡ n = sym (place ∙ omega arith) in
-      let all_turns : turns_of false p 0 (runs ++ r ∷ []) (so_far.checks ++ judged.own) ≡ turns ++ member_turns (is_lost child) p n judged.own r.verdict =
-      turns_more p before new f h false 0 0 runs so_far.checks r judged.own told own_count
-      ∙ (ap (λ k. turns ++ member_turns (lost_after false runs) p k judged.own r.verdict) number_is ∙ ap (λ b. turns ++ member_turns b p n judged.own r.verdict) (sym so_far.lost)) in
+      let all_turns : turns_of false p (runs ++ r ∷ []) (so_far.checks ++ judged.own) ≡ turns ++ member_turns (is_lost child) p n judged.own r.verdict =
+      turns_more p before new f h false 0 runs so_far.checks r judged.own told own_count
+      ∙ (ap (λ k. turns ++ member_turns (lost_after false runs) p k judged.own r.verdict) member ∙ ap (λ b. turns ++ member_turns b p n judged.own r.verdict) (sym so_far.lost)) in
       record {
         checks = so_far.checks ++ judged.own;
         heard = subst (λ x. Hears dialogue before new child' x (so_far.checks ++ judged.own)) (sym all_turns) judged.heard;
         count = length_is ∙ omega arith;
-        told = runs_more p before new f h false 0 0 runs so_far.checks r judged.own told (member ∙ (place ∙ omega arith)) lane number (is ∙ omega arith) own_count this spent;
+        told = runs_more p before new f h false 0 runs so_far.checks r judged.own told lane number (is ∙ omega arith) own_count this spent;
         lost = lost ∙ (ap (λ x. x || is_faulted r.verdict) so_far.lost ∙ sym (lost_more false runs r));
-        started = started ∙ (ap (λ x. x || has_question p n) so_far.started ∙ (ap (λ k. some_ask p (length runs) || has_question p k) place ∙ sym (ask_more p runs r)));
+        started = started ∙ (ap (λ x. x || has_question p n) so_far.started ∙ (ap (λ k. some_ask p (members_of runs) || has_question p k) (sym member) ∙ sym (ask_more p runs r)));
       }
 
   -- the child is handed back
-  pub headline : (mid new : List Ending) (f g h : ℕ) (child : Child L) (asked : ℕ) (runs : List MemberRun) → length runs ≡ length p
+  pub headline : (mid new : List Ending) (f g h : ℕ) (child : Child L) (asked : ℕ) (runs : List MemberRun) → members_of runs ≡ lines p
       → Executes dialogue p before mid f g child asked runs
       → ((turns : List Turn) (checks : List Check) → Hears dialogue before mid child turns checks → IsRecorded (is_lost child) before new turns checks)
       → Later mid new → g ≤ h → ((k : ℕ) → AllAskable (member_tree p k)) → Headline p before new f h runs
   headline mid new f g h child asked runs each so_far end later after askable =
       let handed = later mid (handed_itself mid) in
-      let told = subst (λ x. AreTold p before x f h false 0 0 runs so_far.checks) (sym handed.is)
-      (runs_later p before mid handed.more f g h after false 0 0 runs so_far.checks so_far.told) in
+      let turns = turns_of false p runs so_far.checks in
+      let told = subst (λ x. AreTold p before x f h false 0 runs so_far.checks) (sym handed.is)
+      (runs_later p before mid handed.more f g h after false 0 runs so_far.checks so_far.told) in
       record {
         checks = so_far.checks;
-        recorded = subst (λ b. IsRecorded b before new (turns_of false p 0 runs so_far.checks) so_far.checks) so_far.lost (end (turns_of false p 0 runs so_far.checks) so_far.checks so_far.heard);
-        well_formed = well_formed false (turns_of false p 0 runs so_far.checks) (turns_askable p before new f h askable false 0 0 runs so_far.checks told);
+        recorded = subst (λ b. IsRecorded b before new turns so_far.checks) so_far.lost (end turns so_far.checks so_far.heard);
+        well_formed = well_formed false turns (turns_askable p before new f h askable false 0 runs so_far.checks told);
         each = each;
         told = told;
         complete = complete p before new f h runs so_far.checks told;

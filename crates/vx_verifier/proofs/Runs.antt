@@ -1,5 +1,5 @@
 -- The runs of a program's members, as one more is told.
-use Rattle.std.proofs.Common.{◌≡◌, ℕ, ◌+◌, ◌≤◌, ◌||◌, Bool, ◌++◌, ◌∷◌, [], List, length, take, drop, refl, ap, ◌∙◌, sym, subst, append_assoc, append-nil, length-append, arith}
+use Rattle.std.proofs.Common.{◌≡◌, ℕ, ◌+◌, ◌≤◌, ◌||◌, Bool, ◌++◌, ◌∷◌, [], List, length, take, drop, refl, ap, ◌∙◌, sym, append_assoc, append-nil, length-append, arith}
 use Rattle.vx_ast.specs.Syntax.{Program}
 use Rattle.vx_smt_meaning.specs.Dialogues.{Check}
 use Rattle.vx_ends.specs.declared.piece.Ending.{Ending}
@@ -43,10 +43,10 @@ told_later p n P Q on own v told = record {
   sound = told.sound;
 }
 
-pub runs_later : (p : Program) (before now more : List Ending) (f g h : ℕ) → g ≤ h → (lost : Bool) (n first : ℕ) (runs : List MemberRun) (checks : List Check)
-    → AreTold p before now f g lost n first runs checks → AreTold p before (now ++ more) f h lost n first runs checks
-runs_later p before now more f g h later lost n first [] checks told = told
-runs_later p before now more f g h later lost n first (r ∷ runs) checks told = (
+pub runs_later : (p : Program) (before now more : List Ending) (f g h : ℕ) → g ≤ h → (lost : Bool) (first : ℕ) (runs : List MemberRun) (checks : List Check)
+    → AreTold p before now f g lost first runs checks → AreTold p before (now ++ more) f h lost first runs checks
+runs_later p before now more f g h later lost first [] checks told = told
+runs_later p before now more f g h later lost first (r ∷ runs) checks told = (
   told.0,
   told.1,
   told.2,
@@ -54,23 +54,21 @@ runs_later p before now more f g h later lost n first (r ∷ runs) checks told =
   told.4,
   told.5,
   told.6,
-  told.7,
-  told_later p n _ _ (cause_later before now more f g h later lost) told.4 r.verdict told.8,
-  told.9,
-  runs_later p before now more f g h later (lost || is_faulted r.verdict) (n + 1) (first + length told.4) runs told.5 told.10,
+  told_later p r.member.0 _ _ (cause_later before now more f g h later lost) told.3 r.verdict told.7,
+  told.8,
+  runs_later p before now more f g h later (lost || is_faulted r.verdict) (first + length told.3) runs told.4 told.9,
 )
 
--- One member more is told.
+-- One run more is told.
 module _ (p : Program) (before now : List Ending) (f g : ℕ) where
-  pub runs_more : (lost : Bool) (n first : ℕ) (runs : List MemberRun) (checks : List Check) (r : MemberRun) (own : List Check)
-      → AreTold p before now f g lost n first runs checks
-      → r.member.0 ≡ n + length runs → r.lane ≡ 0 → r.child ≡ 0 → r.first ≡ first + length checks → length own ≡ r.checks
-      → IsTold p (n + length runs) (HasCauseOf before now f g (lost_after lost runs)) own r.verdict
-      → IsSpentAfter (lost_after lost runs) p (n + length runs) own r.verdict
-      → AreTold p before now f g lost n first (runs ++ r ∷ []) (checks ++ own)
-  runs_more lost n first [] checks r own told member lane child is count this spent =
+  pub runs_more : (lost : Bool) (first : ℕ) (runs : List MemberRun) (checks : List Check) (r : MemberRun) (own : List Check)
+      → AreTold p before now f g lost first runs checks
+      → r.lane ≡ 0 → r.child ≡ 0 → r.first ≡ first + length checks → length own ≡ r.checks
+      → IsTold p r.member.0 (HasCauseOf before now f g (lost_after lost runs)) own r.verdict
+      → IsSpentAfter (lost_after lost runs) p r.member.0 own r.verdict
+      → AreTold p before now f g lost first (runs ++ r ∷ []) (checks ++ own)
+  runs_more lost first [] checks r own told lane child is count this spent =
       let none : checks ≡ [] = told in (
-        member ∙ omega arith,
         lane,
         child,
         is ∙ rw none (omega arith),
@@ -78,25 +76,22 @@ module _ (p : Program) (before now : List Ending) (f g : ℕ) where
         [],
         rw none (sym (append-nil own)),
         count,
-        subst (λ k. IsTold p k (HasCauseOf before now f g lost) own r.verdict) (omega arith) this,
-        subst (λ k. IsSpentAfter lost p k own r.verdict) (omega arith) spent,
+        this,
+        spent,
         refl,
       )
-  runs_more lost n first (r' ∷ runs) checks r own told member lane child is count this spent = (
+  runs_more lost first (r' ∷ runs) checks r own told lane child is count this spent = (
     told.0,
     told.1,
     told.2,
     told.3,
-    told.4,
-    told.5 ++ own,
-    ap (λ x. x ++ own) told.6 ∙ append_assoc told.4 told.5 own,
+    told.4 ++ own,
+    ap (λ x. x ++ own) told.5 ∙ append_assoc told.3 told.4 own,
+    told.6,
     told.7,
     told.8,
-    told.9,
-    runs_more (lost || is_faulted r'.verdict) (n + 1) (first + length told.4) runs told.5 r own told.10
-        (member ∙ omega arith) lane child (is ∙ rw told.6 (omega (arith, length-append told.4 told.5))) count
-        (subst (λ k. IsTold p k (HasCauseOf before now f g (lost_after (lost || is_faulted r'.verdict) runs)) own r.verdict) (omega arith) this)
-        (subst (λ k. IsSpentAfter (lost_after (lost || is_faulted r'.verdict) runs) p k own r.verdict) (omega arith) spent),
+    runs_more (lost || is_faulted r'.verdict) (first + length told.3) runs told.4 r own told.9
+        lane child (is ∙ rw told.5 (omega (arith, length-append told.3 told.4))) count this spent,
   )
 
 -- ---- all turns
@@ -115,29 +110,25 @@ own_front k checks own rest is count = (
   ap (λ n. drop n checks) (sym count) ∙ (ap (drop (length own)) is ∙ drop_front own rest),
 )
 
--- those of one member more
+-- those of one run more
 module _ (p : Program) (before now : List Ending) (f g : ℕ) where
-  pub turns_more : (lost : Bool) (n first : ℕ) (runs : List MemberRun) (checks : List Check) (r : MemberRun) (own : List Check)
-      → AreTold p before now f g lost n first runs checks → length own ≡ r.checks
-      → turns_of lost p n (runs ++ r ∷ []) (checks ++ own) ≡ turns_of lost p n runs checks ++ member_turns (lost_after lost runs) p (n + length runs) own r.verdict
-  turns_more lost n first [] checks r own told count =
+  pub turns_more : (lost : Bool) (first : ℕ) (runs : List MemberRun) (checks : List Check) (r : MemberRun) (own : List Check)
+      → AreTold p before now f g lost first runs checks → length own ≡ r.checks
+      → turns_of lost p (runs ++ r ∷ []) (checks ++ own) ≡ turns_of lost p runs checks ++ member_turns (lost_after lost runs) p r.member.0 own r.verdict
+  turns_more lost first [] checks r own told count =
       let mine = own_front r.checks (checks ++ own) own [] (ap (λ x. x ++ own) told ∙ sym (append-nil own)) count in
-      let place : n ≡ n + 0 = omega arith in
-      append-nil (member_turns lost p n (take r.checks (checks ++ own)) r.verdict)
-      ∙ (ap (λ x. member_turns lost p n x r.verdict) mine.0 ∙ ap (λ k. member_turns lost p k own r.verdict) place)
-  turns_more lost n first (r' ∷ runs) checks r own told count =
-      let here = own_front r'.checks checks told.4 told.5 told.6 told.7 in
-      let longer = own_front r'.checks (checks ++ own) told.4 (told.5 ++ own) (ap (λ x. x ++ own) told.6 ∙ append_assoc told.4 told.5 own) told.7 in
+      append-nil (member_turns lost p r.member.0 (take r.checks (checks ++ own)) r.verdict) ∙ ap (λ x. member_turns lost p r.member.0 x r.verdict) mine.0
+  turns_more lost first (r' ∷ runs) checks r own told count =
+      let here = own_front r'.checks checks told.3 told.4 told.5 told.6 in
+      let longer = own_front r'.checks (checks ++ own) told.3 (told.4 ++ own) (ap (λ x. x ++ own) told.5 ∙ append_assoc told.3 told.4 own) told.6 in
       let gone = lost || is_faulted r'.verdict in
-      let rest = turns_more gone (n + 1) (first + length told.4) runs told.5 r own told.10 count in
-      let last = member_turns (lost_after gone runs) p (n + length (r' ∷ runs)) own r.verdict in
-      let place : (n + 1) + length runs ≡ n + length (r' ∷ runs) = omega arith in
-      let ours = member_turns lost p n told.4 r'.verdict in
-      let later = turns_of gone p (n + 1) runs told.5 in
-      let left_is : turns_of lost p n (r' ∷ (runs ++ r ∷ [])) (checks ++ own) ≡ ours ++ (later ++ last) =
-      ap (λ x. member_turns lost p n x r'.verdict ++ turns_of gone p (n + 1) (runs ++ r ∷ []) (drop r'.checks (checks ++ own))) longer.0
-      ∙ (ap (λ x. ours ++ turns_of gone p (n + 1) (runs ++ r ∷ []) x) longer.1
-      ∙ (ap (λ x. ours ++ x) rest ∙ ap (λ k. ours ++ (later ++ member_turns (lost_after gone runs) p k own r.verdict)) place)) in
-      let right_is : turns_of lost p n (r' ∷ runs) checks ≡ ours ++ later =
-      ap (λ x. member_turns lost p n x r'.verdict ++ turns_of gone p (n + 1) runs (drop r'.checks checks)) here.0 ∙ ap (λ x. ours ++ turns_of gone p (n + 1) runs x) here.1 in
+      let rest = turns_more gone (first + length told.3) runs told.4 r own told.9 count in
+      let last = member_turns (lost_after gone runs) p r.member.0 own r.verdict in
+      let ours = member_turns lost p r'.member.0 told.3 r'.verdict in
+      let later = turns_of gone p runs told.4 in
+      let left_is : turns_of lost p (r' ∷ (runs ++ r ∷ [])) (checks ++ own) ≡ ours ++ (later ++ last) =
+      ap (λ x. member_turns lost p r'.member.0 x r'.verdict ++ turns_of gone p (runs ++ r ∷ []) (drop r'.checks (checks ++ own))) longer.0
+      ∙ (ap (λ x. ours ++ turns_of gone p (runs ++ r ∷ []) x) longer.1 ∙ ap (λ x. ours ++ x) rest) in
+      let right_is : turns_of lost p (r' ∷ runs) checks ≡ ours ++ later =
+      ap (λ x. member_turns lost p r'.member.0 x r'.verdict ++ turns_of gone p runs (drop r'.checks checks)) here.0 ∙ ap (λ x. ours ++ turns_of gone p runs x) here.1 in
       left_is ∙ (sym (append_assoc ours later last) ∙ ap (λ x. x ++ last) (sym right_is))

@@ -1,6 +1,7 @@
 -- What the runs of a program's members promise: each verdict is that of the walk over the replies that the record of
 -- the child's link tells, and a member that is verified by right replies fails at no place.
-use Rattle.std.specs.Prelude.{◌≡◌, ◌⊎◌, ℕ, zero, suc, ◌+◌, ◌<◌, ◌||◌, ⊤, Bool, true, false, List, [], ◌∷◌, ◌++◌, Some, length, take, drop, slice_get, if◌then◌else◌}
+use Rattle.std.specs.Prelude.{◌≡◌, ◌⊎◌, ℕ, ◌+◌, ◌<◌, ◌||◌, ⊤, Bool, true, false, List, [], ◌∷◌, ◌++◌, Some, length, map, take, drop, slice_get, if◌then◌else◌}
+use Rattle.std.specs.List.{list_any}
 use Rattle.vx_ast.specs.declared.Place.{Place}
 use Rattle.vx_ast.specs.Syntax.{Program, Member, Method, IsMethod}
 use Rattle.vx_terms.specs.Interpretations.{Each}
@@ -23,6 +24,7 @@ use Rattle.vx_report.specs.declared.run.MemberRun.{MemberRun}
 use Rattle.vx_report.specs.Reports.{is_faulted}
 use Rattle.vx_verifier.specs.Sequences.{AreChecksOf, replies_to, IsRight, AllUnsat}
 use Rattle.vx_verifier.specs.Causes.{HasCauseOf, NoCountRose, AllLawful}
+use Rattle.vx_verifier.specs.Lines.{lines}
 
 -- the member with this number is this method
 abbrev pub IsMethodAt : Program → ℕ → Method → Type 0
@@ -56,10 +58,9 @@ is_open (Failed place c r) = false
 abbrev pub has_question : Program → ℕ → Bool
 has_question p n = is_open (walk_of p n []).ending
 
--- one of the first so many members has a question
-abbrev pub some_ask : Program → ℕ → Bool
-some_ask p zero = false
-some_ask p (suc n) = some_ask p n || has_question p n
+-- one of the members with these numbers has a question
+abbrev pub some_ask : Program → List ℕ → Bool
+some_ask p ns = list_any (has_question p) ns
 
 -- Behind a fault of the lane no member is asked anything: where it has a question, its verdict is a fault, spent.
 abbrev pub IsSpentAfter : (lost : Bool) → Program → ℕ → List Check → Verdict → Type 0
@@ -75,15 +76,15 @@ pub record IsTold (p : Program) (n : ℕ) (HasCause : Cause → Type 0) (own : L
   pub sound : v ≡ verdict'.Verified → Each IsRight own → NeverFails p n
 
 module _ (p : Program) (before now : List Ending) (faults_then faults_now : ℕ) where
-  -- The runs are those of the members from number n on, in order; their checks follow one another, from number `first` on.
-  abbrev pub AreTold : (lost : Bool) (n first : ℕ) → List MemberRun → List Check → Type 0
-  AreTold lost n first [] checks = checks ≡ []
-  AreTold lost n first (r ∷ runs) checks =
-      (r.member.0 ≡ n) × (r.lane ≡ 0) × (r.child ≡ 0) × (r.first ≡ first)
+  -- Each run tells what became of its member; their checks follow one another, from number `first` on.
+  abbrev pub AreTold : (lost : Bool) (first : ℕ) → List MemberRun → List Check → Type 0
+  AreTold lost first [] checks = checks ≡ []
+  AreTold lost first (r ∷ runs) checks =
+      (r.lane ≡ 0) × (r.child ≡ 0) × (r.first ≡ first)
       × (own rest : List Check) × (checks ≡ own ++ rest) × (length own ≡ r.checks)
-      × IsTold p n (HasCauseOf before now faults_then faults_now lost) own r.verdict
-      × IsSpentAfter lost p n own r.verdict
-      × AreTold (lost || is_faulted r.verdict) (n + 1) (first + length own) runs rest
+      × IsTold p r.member.0 (HasCauseOf before now faults_then faults_now lost) own r.verdict
+      × IsSpentAfter lost p r.member.0 own r.verdict
+      × AreTold (lost || is_faulted r.verdict) (first + length own) runs rest
 
 -- the questions that a walk answered, as a dialogue asks them
 abbrev pub asks_of : List Answered → List Turn
@@ -113,12 +114,12 @@ asked_turns lost p n own v = asks_of (walk_of p n own).answered ++ failed_turn l
 abbrev pub member_turns : (lost : Bool) → Program → ℕ → List Check → Verdict → List Turn
 member_turns lost p n own v = asked_turns lost p n own v ++ left_turn (lost || is_faulted v)
 
--- All that the one child is asked, member by member from number n on: the questions that the member's walk answered, and that it is left.
+-- All that the one child is asked, run by run: the questions that the member's walk answered, and that it is left.
 -- At a fault the open question of the walk is the last, and has no reply.
-abbrev pub turns_of : (lost : Bool) → Program → ℕ → List MemberRun → List Check → List Turn
-turns_of lost p n [] checks = []
-turns_of lost p n (r ∷ runs) checks =
-    member_turns lost p n (take r.checks checks) r.verdict ++ turns_of (lost || is_faulted r.verdict) p (n + 1) runs (drop r.checks checks)
+abbrev pub turns_of : (lost : Bool) → Program → List MemberRun → List Check → List Turn
+turns_of lost p [] checks = []
+turns_of lost p (r ∷ runs) checks =
+    member_turns lost p r.member.0 (take r.checks checks) r.verdict ++ turns_of (lost || is_faulted r.verdict) p runs (drop r.checks checks)
 
 -- a child is lost at the first fault
 abbrev pub lost_after : Bool → List MemberRun → Bool
@@ -146,12 +147,16 @@ pub record IsComplete (before now : List Ending) (faults_then faults_now : ℕ) 
   pub no_fault : NoCountRose before now faults_then faults_now → AllLawful before now → HasNoFault runs
   pub verified : HasNoFault runs → HasNoLimit runs → Each (λ (r : MemberRun). AllUnsat (sequence_of r checks) → r.verdict ≡ verdict'.Verified) runs
 
--- The promise: a run for each member, in file order, by the replies that the record of the one child tells, which was asked exactly the questions of the members' walks.
+-- the numbers of the members, in the order of their runs
+abbrev pub members_of : List MemberRun → List ℕ
+members_of runs = map (λ r. r.member.0) runs
+
+-- The promise: a run for each member that has a line, in file order, by the replies that the record of the one child tells, which was asked exactly the questions of the members' walks.
 pub record Headline (p : Program) (before now : List Ending) (faults_then faults_now : ℕ) (runs : List MemberRun) : Type 0 where
   pub checks : List Check
-  pub recorded : IsRecorded (lost_after false runs) before now (turns_of false p 0 runs checks) checks
+  pub recorded : IsRecorded (lost_after false runs) before now (turns_of false p runs checks) checks
   -- names are spelled, each symbol is declared before it is used, with its sorts, and no live one again; what is asserted is of sort Bool
-  pub well_formed : IsWellFormed (script false [] (turns_of false p 0 runs checks))
-  pub each : length runs ≡ length p
-  pub told : AreTold p before now faults_then faults_now false 0 0 runs checks
+  pub well_formed : IsWellFormed (script false [] (turns_of false p runs checks))
+  pub each : members_of runs ≡ lines p
+  pub told : AreTold p before now faults_then faults_now false 0 runs checks
   pub complete : IsComplete before now faults_then faults_now runs checks

@@ -29,7 +29,7 @@ use Rattle.vx_verifier.specs.declared.lane.Trouble.{Trouble}
 use Rattle.vx_verifier.specs.declared.lane.Trouble.TheVariants as trouble
 use Rattle.vx_verifier.specs.Sequences.{IsCheckOf, AreChecksOf, replies_to}
 use Rattle.vx_verifier.specs.Causes.{HasCauseOf}
-use Rattle.vx_verifier.specs.Headline.{IsRecorded, IsTold, AreTold, IsSpentAfter, asks_of, turns_of, some_ask, lost_after}
+use Rattle.vx_verifier.specs.Headline.{IsRecorded, IsTold, AreTold, IsSpentAfter, asks_of, turns_of, some_ask, members_of, lost_after}
 
 -- a child that talks has no open question and no earlier fault, and its link is owed
 abbrev pub IsHeld : {L : Type 0} → Child L → ℕ → Type 0
@@ -159,8 +159,8 @@ Later old new = (front : List Ending) → Handed front old → Handed front new
 pub record Executes {L : Type 0} (dialogue : L → List Piece) (p : Program) (before now : List Ending) (faults_then faults_now : ℕ) (child : Child L) (asked : ℕ)
     (runs : List MemberRun) : Type 0 where
   pub checks : List Check
-  pub heard : Hears dialogue before now child (turns_of false p 0 runs checks) checks
+  pub heard : Hears dialogue before now child (turns_of false p runs checks) checks
   pub count : length checks ≡ asked
-  pub told : AreTold p before now faults_then faults_now false 0 0 runs checks
+  pub told : AreTold p before now faults_then faults_now false 0 runs checks
   pub lost : is_lost child ≡ lost_after false runs
-  pub started : is_started child ≡ some_ask p (length runs)
+  pub started : is_started child ≡ some_ask p (members_of runs)

@@ -5,6 +5,7 @@ ghost use Rattle.vx_ends.specs.declared.piece.Start.{Start};
 ghost use Rattle.vx_ends.specs.declared.piece.Ending.{Ending};
 ghost use Rattle.vx_smt_meaning.specs.Dialogues.{Check};
 ghost use Rattle.vx_dialogue.specs.Scripts.{Turn};
+ghost use Rattle.vx_ast.specs.Resolved.{kind as kind_of};
 ghost use Rattle.vx_types.specs.Settled.{settled};
 ghost use Rattle.vx_report.specs.Reports.{AreNamed, is_faulted};
 ghost use Rattle.vx_machine.specs.Runs.{Follows, awaits, member_tree};
@@ -12,7 +13,8 @@ ghost use Rattle.vx_verifier.specs.Causes.{HasCauseOf, NoCountRose};
 ghost use Rattle.vx_verifier.specs.Steady.{AllSpelled, AsksSpelled, IsCalmLane};
 ghost use Rattle.vx_types.specs.Executed.{is_executed};
 ghost use Rattle.vx_typing.specs.Typed.{written_of, resolved_of};
-ghost use Rattle.vx_verifier.specs.Headline.{Headline, IsSupported, asked_turns, member_turns, has_question, some_ask};
+ghost use Rattle.vx_verifier.specs.Headline.{Headline, IsSupported, asked_turns, member_turns, members_of, has_question, some_ask};
+ghost use Rattle.vx_verifier.specs.Lines.{has_line, lines};
 ghost use Rattle.vx_verifier.specs.Lanes as spec;
 ghost use Rattle.vx_verifier.specs.Lanes.{IsHeld, IsRunning, links, is_lost, is_started, Hears, Starts, StartsWhere, Later, Judges, Executes, IsFaultOf};
 
@@ -20,6 +22,7 @@ use crate::lane::{Child, LANE, Trouble, ask, end, leave};
 use crate::program::{methods_are_supported, settled};
 use std::alloc::{AllocError, Global};
 use vx_ast::MemberId;
+use vx_ast::resolved::Kind;
 use vx_ends::{Parts, Spawner, Turns};
 use vx_machine::{Ask, Machine, Outcome};
 use vx_report::{MemberRun, Verdict};
@@ -235,7 +238,16 @@ fn execute<W: Spawner, N: Turns>(
     (lane, Ok(run))
 }
 
-// The members in file order, and the lane after them.
+// A member has a line in the report.
+fn has_line(kind: &Kind) -> bool
+    ensures { result ≡ has_line (kind_of kind.now) }
+{
+    match kind {
+        Kind::Method(_) => true,
+    }
+}
+
+// The members with a line, in file order, and the lane after them.
 fn execute_all<W: Spawner, N: Turns>(
     alloc: Global,
     program: &Settled,
@@ -247,7 +259,7 @@ fn execute_all<W: Spawner, N: Turns>(
     ensures held { IsHeld result.0.child (W.owed spawner.new LANE) }
     ensures owed { W.owed spawner.new LANE ≡ W.owed spawner.old LANE + links result.0.child }
     ensures named { IfOk result.1 (λ runs. AreNamed (settled program.now) runs.items) }
-    ensures told { IfOk result.1 (λ runs. (length runs.items ≡ length (settled program.now)) × Executes W.Link.dialogue (settled program.now) (W.ended spawner.old) (W.ended spawner.new) (W.faults spawner.old) (W.faults spawner.new)
+    ensures told { IfOk result.1 (λ runs. (members_of runs.items ≡ lines (settled program.now)) × Executes W.Link.dialogue (settled program.now) (W.ended spawner.old) (W.ended spawner.new) (W.faults spawner.old) (W.faults spawner.new)
         result.0.child result.0.checks runs.items) }
     ensures starts { let start : Start = record { lane = LANE; command = command.now } in Starts (W.starts spawner.old) (W.starts spawner.new) start result.0.child }
     ensures faults { W.faults spawner.old ≤ W.faults spawner.new }
@@ -261,6 +273,9 @@ fn execute_all<W: Spawner, N: Turns>(
     };
     let mut runs = Vec::new(alloc);
     for number in 0..program.len() {
+        if !has_line(&program.member(number).kind) {
+            continue;
+        }
         // A file has at most 65,536 members.
         let Ok(number) = u32::try_from(number) else {
             return (lane, Err(AllocError));
@@ -279,7 +294,7 @@ fn execute_all<W: Spawner, N: Turns>(
     (lane, Ok(runs))
 }
 
-// Verifies the members in file order, by one child, which is handed back at the end.
+// Verifies the members with a line in file order, by one child, which is handed back at the end.
 fn verify_members<W: Spawner, N: Turns>(
     alloc: Global,
     program: &Settled,
@@ -292,7 +307,7 @@ fn verify_members<W: Spawner, N: Turns>(
     ensures headline { IfOk result (λ runs. Headline (settled program.now) (W.ended spawner.old) (W.ended spawner.new) (W.faults spawner.old) (W.faults spawner.new) runs.items) }
     ensures starts { let start : Start = record { lane = LANE; command = command.now } in (W.starts spawner.new ≡ W.starts spawner.old) ⊎ (W.starts spawner.new ≡ W.starts spawner.old ++ start ∷ []) }
     ensures started { IfOk result (λ _. let start : Start = record { lane = LANE; command = command.now } in
-        StartsWhere (some_ask (settled program.now) (length (settled program.now))) (W.starts spawner.old) (W.starts spawner.new) start) }
+        StartsWhere (some_ask (settled program.now) (lines (settled program.now))) (W.starts spawner.old) (W.starts spawner.new) start) }
     ensures handed_back { W.owed spawner.new LANE ≡ W.owed spawner.old LANE }
     ensures faults { W.faults spawner.old ≤ W.faults spawner.new }
     ensures later { Later (W.ended spawner.old) (W.ended spawner.new) }
@@ -305,7 +320,7 @@ fn verify_members<W: Spawner, N: Turns>(
     runs
 }
 
-/// Verifies the members of a program in file order, by one child, which is started at the first question, if there is any,
+/// Verifies the members of a program that have a line, in file order, by one child, which is started at the first question, if there is any,
 /// and handed back at the end, also where memory runs out. The clause `headline` is the promise. There is one lane so far,
 /// and no certificate is asked for; `turns` says which of the waiting children is read next.
 pub fn verify<W: Spawner, N: Turns>(
@@ -324,7 +339,7 @@ pub fn verify<W: Spawner, N: Turns>(
     ensures headline { IfOk result (λ runs. Headline (resolved_of typed.now) (W.ended spawner.old) (W.ended spawner.new) (W.faults spawner.old) (W.faults spawner.new) runs.items) }
     ensures starts { let start : Start = record { lane = LANE; command = command.now } in (W.starts spawner.new ≡ W.starts spawner.old) ⊎ (W.starts spawner.new ≡ W.starts spawner.old ++ start ∷ []) }
     ensures started { IfOk result (λ _. let start : Start = record { lane = LANE; command = command.now } in
-        StartsWhere (some_ask (resolved_of typed.now) (length (resolved_of typed.now))) (W.starts spawner.old) (W.starts spawner.new) start) }
+        StartsWhere (some_ask (resolved_of typed.now) (lines (resolved_of typed.now))) (W.starts spawner.old) (W.starts spawner.new) start) }
     ensures handed_back { W.owed spawner.new LANE ≡ W.owed spawner.old LANE }
     ensures faults { W.faults spawner.old ≤ W.faults spawner.new }
     ensures later { Later (W.ended spawner.old) (W.ended spawner.new) }

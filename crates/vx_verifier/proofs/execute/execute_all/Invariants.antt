@@ -1,7 +1,9 @@
-use Rattle.std.proofs.Common.{◌≡◌, ◌+◌, ◌*◌, ◌≤◌, IsTrue, length}
+use Rattle.std.proofs.Common.{◌≡◌, ◌+◌, ◌*◌, ◌≤◌, ◌++◌, IsTrue, drop}
 use Rattle.vx_types.specs.Settled.{settled}
 use Rattle.vx_ends.specs.declared.piece.Start.{Start}
 use Rattle.vx_report.specs.Reports.{AreNamed}
+use Rattle.vx_verifier.specs.Headline.{members_of}
+use Rattle.vx_verifier.specs.Lines.{lines, lines_from}
 use Rattle.vx_verifier.specs.Lanes.{IsHeld, links, Starts, Later, Executes}
 use Rattle.vx_verifier.specs.Steady.{IsCalmLane}
 use Rattle.vx_verifier.proofs.execute.execute_all.Given as goal
@@ -14,7 +16,7 @@ invariant-loop-number g l =
       held : IsHeld l.lane.child (w.owed l.spawner 0);
       owed : w.owed l.spawner 0 ≡ w.owed l.fn.spawner 0 + links l.lane.child;
       named : AreNamed (settled l.program) l.runs.items;
-      each : length l.runs.items ≡ l.number;
+      each : members_of l.runs.items ++ lines_from l.number (drop l.number (settled l.program)) ≡ lines (settled l.program);
       few : l.lane.checks ≤ 100000 * l.number;
       told : Executes g.W.Link.Link.dialogue (settled l.program) (w.ended l.fn.spawner) (w.ended l.spawner) (w.faults l.fn.spawner) (w.faults l.spawner)
           l.lane.child l.lane.checks l.runs.items;
