@@ -6,3 +6,6 @@ pub mod Stages
 pub mod Signatures
 pub mod Joining
 pub mod Walks
+pub mod Steps
+pub mod Explaining
+pub mod Marks
