@@ -9,3 +9,4 @@ pub mod Walks
 pub mod Steps
 pub mod Explaining
 pub mod Marks
+pub mod Explained
