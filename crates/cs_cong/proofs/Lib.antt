@@ -6,3 +6,7 @@ pub mod Stages
 pub mod Signatures
 pub mod Joining
 pub mod Walks
+pub mod Steps
+pub mod Explaining
+pub mod Marks
+pub mod Explained

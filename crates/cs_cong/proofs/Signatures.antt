@@ -117,7 +117,7 @@ found_passes p xs (n ∷ ns) m e = go (passes_at p xs n) refl e (found_passes p 
     go true f g on = subst (λ k. passes_at p xs k ≡ true) (some_is g) f
     go false f g on = on g
 
-get_some : {A : Type 0} (xs : List A) (n : ℕ) (d : A) → n < length xs → slice_get xs n ≡ Some (get_or xs n d)
+pub get_some : {A : Type 0} (xs : List A) (n : ℕ) (d : A) → n < length xs → slice_get xs n ≡ Some (get_or xs n d)
 get_some [] n d lt = absurd (omega arith)
 get_some (x ∷ xs) zero d lt = refl
 get_some (x ∷ xs) (suc n) d lt = get_some xs n d (omega arith)

@@ -14,16 +14,16 @@ use Rattle.cs_cong.specs.Stages.{IsStage, cut, IsHistory}
 use Rattle.cs_cong.proofs.Times.{front, same_later, same_across, crosses}
 use Rattle.cs_cong.proofs.Grown.{justified_more, with_cases}
 
-get_front : {A : Type 0} (xs ys : List A) (n : ℕ) → n < length xs → slice_get (xs ++ ys) n ≡ slice_get xs n
+pub get_front : {A : Type 0} (xs ys : List A) (n : ℕ) → n < length xs → slice_get (xs ++ ys) n ≡ slice_get xs n
 get_front [] ys n h = absurd (omega arith)
 get_front (x ∷ xs) ys zero h = refl
 get_front (x ∷ xs) ys (suc n) h = get_front xs ys n (omega arith)
 
-get_last : {A : Type 0} (xs : List A) (x : A) → slice_get (xs ++ x ∷ []) (length xs) ≡ Some x
+pub get_last : {A : Type 0} (xs : List A) (x : A) → slice_get (xs ++ x ∷ []) (length xs) ≡ Some x
 get_last [] x = refl
 get_last (y ∷ xs) x = get_last xs x
 
-get_past : {A : Type 0} (xs : List A) (x : A) (n : ℕ) → length xs < n → slice_get (xs ++ x ∷ []) n ≡ None
+pub get_past : {A : Type 0} (xs : List A) (x : A) (n : ℕ) → length xs < n → slice_get (xs ++ x ∷ []) n ≡ None
 get_past xs x n lt = slice_get_past (xs ++ x ∷ []) n (let long : length (xs ++ x ∷ []) ≡ length xs + 1 = length-append xs (x ∷ []) in omega arith)
 
 says_nothing : (o : Option Claim) (a b : ℕ) → o ≡ None → says o a b ≡ true → ⊥

@@ -4,4 +4,6 @@ pub mod Joined
 pub mod Signatures
 pub mod Stages
 pub mod Walks
+pub mod Explained
+pub mod Needed
 pub mod Laws

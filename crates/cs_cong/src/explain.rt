@@ -1,6 +1,10 @@
 //! Why two terms are equal.
-ghost use Rattle.std.specs.Prelude.{◌≡◌, ◌<◌, ◌≤◌, ◌↔◌, ℕ, length, All, IsSome, IfOk};
-ghost use Rattle.cs_cong.specs.Joined.{Joined};
+ghost use Rattle.std.specs.Prelude.{◌≡◌, ◌<◌, ◌≤◌, ◌↔◌, ◌∷◌, ℕ, List, true, false, length, get_or, All, IsSome, IfSome, IfOk, OnOk};
+ghost use Rattle.cs_cong.specs.Merged.{representative, current};
+ghost use Rattle.cs_cong.specs.Joined.{Joined, all_same, are_congruent};
+ghost use Rattle.cs_cong.specs.Walks.{walk, end_of};
+ghost use Rattle.cs_cong.specs.Explained.{IsDerivation, Explains};
+ghost use Rattle.cs_cong.specs.Needed.{ends, merge_at, is_marked, Marked, AreMarked, ArePartsMarked, IsBacked, AreBacked, AreKnownBelow, HasPath, HasPart, HasFirst, HasCongruence, HasMerge};
 
 use crate::classes::Classes;
 use crate::merges::{Merges, Reason, Want};
@@ -24,66 +28,156 @@ pub struct Chain {
     pub steps: Vec<Derived>,
 }
 
-/// Marks the merges of a walk.
-fn mark(marks: &mut Vec<bool>, edges: &[Edge])
-    ensures { length marks.new.items ≡ length marks.old.items }
+/// Marks one merge, if it is before this time.
+fn mark_one(marks: &mut Vec<bool>, time: usize, at: usize)
+    requires { time ≤ length marks.old.items }
+    ensures marks { Marked time marks.old.items marks.new.items }
+    ensures marked { at < time → is_marked marks.new.items at ≡ true }
+{
+    if at < time {
+        marks[at] = true;
+    }
+}
+
+/// Marks the merges of a walk that are before this time.
+fn mark(marks: &mut Vec<bool>, time: usize, edges: &[Edge])
+    requires { time ≤ length marks.old.items }
+    ensures marks { Marked time marks.old.items marks.new.items }
+    ensures marked { All (λ e. e.merge < time → is_marked marks.new.items e.merge ≡ true) edges.now }
 {
     for edge in edges {
-        let at = edge.merge as usize;
-        if at < marks.len() {
-            marks[at] = true;
-        }
+        mark_one(marks, time, edge.merge as usize);
     }
 }
 
 impl Merges {
-    /// Adds the walks between parts, place by place.
-    fn walk_parts(
+    /// Marks the merges of the walk from a term to another.
+    fn mark_walk(
         &self,
+        alloc: Global,
+        time: u32,
+        a: u32,
+        b: u32,
+        marks: &mut Vec<bool>,
+    ) -> Result<(), Want>
+        requires left { a < length self.now.links.items }
+        requires right { b < length self.now.links.items }
+        requires time { time ≤ length self.now.log.items }
+        requires room { time ≤ length marks.old.items }
+        ensures marks { Marked time marks.old.items marks.new.items }
+        ensures marked { OnOk result (representative self.now.log.items time a ≡ representative self.now.log.items time b → AreMarked marks.new.items (walk self.now.log.items time a b)) }
+    {
+        let mut edges = Vec::new(alloc);
+        self.walk(time, a, b, &mut edges)?;
+        mark(marks, time as usize, &edges);
+        Ok(())
+    }
+
+    /// Marks the merges of the walks between parts, place by place.
+    fn mark_parts(
+        &self,
+        alloc: Global,
         time: u32,
         xs: &[u32],
         ys: &[u32],
-        edges: &mut Vec<Edge>,
+        marks: &mut Vec<bool>,
     ) -> Result<(), Want>
         requires left { All (λ x. x < length self.now.links.items) xs.now }
         requires right { All (λ y. y < length self.now.links.items) ys.now }
         requires time { time ≤ length self.now.log.items }
+        requires room { time ≤ length marks.old.items }
+        ensures marks { Marked time marks.old.items marks.new.items }
+        ensures marked { OnOk result (all_same (representative self.now.log.items time) xs.now ys.now ≡ true → ArePartsMarked self.now.log.items marks.new.items time xs.now ys.now) }
     {
         for at in 0..xs.len().min(ys.len()) {
-            self.walk(time, xs[at], ys[at], edges)?;
+            self.mark_walk(alloc, time, xs[at], ys[at], marks)?;
         }
         Ok(())
     }
 
+    /// The term that an edge leads to.
+    fn end_of_edge(&self, edge: Edge) -> u32
+        requires { edge.merge < length self.now.log.items }
+        ensures { result ≡ end_of edge.forward (merge_at self.now.log.items edge.merge) }
+    {
+        let merge = self.log[edge.merge as usize];
+        if edge.forward {
+            merge.right
+        } else {
+            merge.left
+        }
+    }
+
     /// The terms of a walk from a term, in order.
-    fn terms_of(&self, alloc: Global, from: u32, edges: &[Edge]) -> Result<Vec<u32>, Want> {
+    fn terms_of(&self, alloc: Global, from: u32, edges: &[Edge]) -> Result<Vec<u32>, Want>
+        requires { All (λ e. e.merge < length self.now.log.items) edges.now }
+        ensures { IfOk result (λ v. v.items ≡ from ∷ ends self.now.log.items edges.now) }
+    {
         let mut terms = Vec::new(alloc);
         terms.push(from)?;
         for edge in edges {
-            if let Some(merge) = self.log.get(edge.merge as usize) {
-                terms.push(if edge.forward {
-                    merge.right
-                } else {
-                    merge.left
-                })?;
-            }
+            terms.push(self.end_of_edge(*edge))?;
         }
         Ok(terms)
     }
 
-    /// The walk from a term to another, as a step.
-    fn path(&self, alloc: Global, time: u32, a: u32, b: u32) -> Result<Derived, Want>
+    /// The terms of the walk from a term to another.
+    fn terms_between(&self, alloc: Global, time: u32, a: u32, b: u32) -> Result<Vec<u32>, Want>
         requires left { a < length self.now.links.items }
         requires right { b < length self.now.links.items }
         requires time { time ≤ length self.now.log.items }
+        requires joined { representative self.now.log.items time a ≡ representative self.now.log.items time b }
+        ensures { IfOk result (λ v. v.items ≡ a ∷ ends self.now.log.items (walk self.now.log.items time a b)) }
     {
         let mut edges = Vec::new(alloc);
         self.walk(time, a, b, &mut edges)?;
-        Ok(Derived::Path(self.terms_of(alloc, a, &edges)?))
+        self.terms_of(alloc, a, &edges)
+    }
+
+    /// Adds the walk from a term to another, as a step.
+    fn add_path(
+        &self,
+        alloc: Global,
+        time: u32,
+        a: u32,
+        b: u32,
+        steps: &mut Vec<Derived>,
+    ) -> Result<(), Want>
+        requires left { a < length self.now.links.items }
+        requires right { b < length self.now.links.items }
+        requires time { time ≤ length self.now.log.items }
+        requires joined { representative self.now.log.items time a ≡ representative self.now.log.items time b }
+        ensures { OnOk result (HasPath self.now.log.items time a b steps.old.items steps.new.items) }
+    {
+        let terms = self.terms_between(alloc, time, a, b)?;
+        steps.push(Derived::Path(terms))?;
+        Ok(())
+    }
+
+    /// Adds a step for two parts, where they differ.
+    fn add_part(
+        &self,
+        alloc: Global,
+        time: u32,
+        a: u32,
+        b: u32,
+        steps: &mut Vec<Derived>,
+    ) -> Result<(), Want>
+        requires left { a < length self.now.links.items }
+        requires right { b < length self.now.links.items }
+        requires time { time ≤ length self.now.log.items }
+        requires joined { representative self.now.log.items time a ≡ representative self.now.log.items time b }
+        ensures { OnOk result (HasPart self.now.log.items time a b steps.old.items steps.new.items) }
+    {
+        if a == b {
+            return Ok(());
+        }
+        self.add_path(alloc, time, a, b, steps)?;
+        Ok(())
     }
 
     /// Adds a step for each pair of parts that differ.
-    fn paths(
+    fn add_parts(
         &self,
         alloc: Global,
         time: u32,
@@ -94,11 +188,11 @@ impl Merges {
         requires left { All (λ x. x < length self.now.links.items) xs.now }
         requires right { All (λ y. y < length self.now.links.items) ys.now }
         requires time { time ≤ length self.now.log.items }
+        requires same { all_same (representative self.now.log.items time) xs.now ys.now ≡ true }
+        ensures { OnOk result (HasFirst (length xs.now) self.now.log.items time xs.now ys.now steps.old.items steps.new.items) }
     {
         for at in 0..xs.len().min(ys.len()) {
-            if xs[at] != ys[at] {
-                steps.push(self.path(alloc, time, xs[at], ys[at])?)?;
-            }
+            self.add_part(alloc, time, xs[at], ys[at], steps)?;
         }
         Ok(())
     }
@@ -106,53 +200,20 @@ impl Merges {
 
 impl Classes {
     /// Marks what a merge by congruence needs.
-    fn mark_parts(&self, alloc: Global, at: usize, marks: &mut Vec<bool>) -> Result<(), Want>
-        requires { at < length self.now.merges.log.items }
-        ensures { length marks.new.items ≡ length marks.old.items }
-    {
-        let merge = self.merges.log[at];
-        match (
-            merge.reason,
-            self.terms.get(merge.left as usize),
-            self.terms.get(merge.right as usize),
-        ) {
-            (Reason::Congruence, Some(left), Some(right)) => {
-                let mut edges = Vec::new(alloc);
-                self.merges
-                    .walk_parts(at as u32, &left.parts, &right.parts, &mut edges)?;
-                mark(marks, &edges);
-                Ok(())
-            }
-            (_, _, _) => Ok(()),
-        }
-    }
-
-    /// Adds what derives a merge.
-    fn derive(&self, alloc: Global, at: usize, chain: &mut Chain) -> Result<(), Want>
-        requires { at < length self.now.merges.log.items }
+    fn mark_needs(&self, alloc: Global, at: usize, marks: &mut Vec<bool>) -> Result<(), Want>
+        requires within { at < length self.now.merges.log.items }
+        requires room { length marks.old.items ≡ length self.now.merges.log.items }
+        ensures marks { Marked at marks.old.items marks.new.items }
+        ensures backed { OnOk result (IsBacked self.now.terms.items self.now.merges.log.items marks.new.items at) }
     {
         let merge = self.merges.log[at];
         match merge.reason {
-            Reason::Claimed(claim) => {
-                chain.claims.push(claim)?;
-                Ok(())
-            }
+            Reason::Claimed(_) => Ok(()),
             Reason::Congruence => {
-                if let (Some(left), Some(right)) = (
-                    self.terms.get(merge.left as usize),
-                    self.terms.get(merge.right as usize),
-                ) {
-                    self.merges.paths(
-                        alloc,
-                        at as u32,
-                        &left.parts,
-                        &right.parts,
-                        &mut chain.steps,
-                    )?;
-                }
-                chain
-                    .steps
-                    .push(Derived::Congruent(merge.left, merge.right))?;
+                let left = &self.terms[merge.left as usize];
+                let right = &self.terms[merge.right as usize];
+                self.merges
+                    .mark_parts(alloc, at as u32, &left.parts, &right.parts, marks)?;
                 Ok(())
             }
         }
@@ -162,21 +223,99 @@ impl Classes {
     fn needed(&self, alloc: Global, a: u32, b: u32) -> Result<Vec<bool>, Want>
         requires left { a < length self.now.terms.items }
         requires right { b < length self.now.terms.items }
-        ensures { IfOk result (λ v. length v.items ≡ length self.now.merges.log.items) }
+        ensures length { IfOk result (λ v. length v.items ≡ length self.now.merges.log.items) }
+        ensures backed { IfOk result (λ v. AreBacked self.now.terms.items self.now.merges.log.items v.items 0) }
+        ensures marked { IfOk result (λ v. current self.now.merges.log.items a ≡ current self.now.merges.log.items b → AreMarked v.items (walk self.now.merges.log.items (length self.now.merges.log.items) a b)) }
     {
         let len = self.merges.log.len();
         let mut marks = vec![in alloc; false; len]?;
-        let mut edges = Vec::new(alloc);
-        self.merges.walk(len as u32, a, b, &mut edges)?;
-        mark(&mut marks, &edges);
+        self.merges.mark_walk(alloc, len as u32, a, b, &mut marks)?;
         let mut at = len;
         while at > 0 {
             at -= 1;
             if marks[at] {
-                self.mark_parts(alloc, at, &mut marks)?;
+                self.mark_needs(alloc, at, &mut marks)?;
             }
         }
         Ok(marks)
+    }
+
+    /// Adds the congruence of two terms, and before it why their parts are equal.
+    fn add_congruence(
+        &self,
+        alloc: Global,
+        time: u32,
+        left: u32,
+        right: u32,
+        steps: &mut Vec<Derived>,
+    ) -> Result<(), Want>
+        requires time { time ≤ length self.now.merges.log.items }
+        requires left { left < length self.now.terms.items }
+        requires right { right < length self.now.terms.items }
+        requires congruent { are_congruent self.now.terms.items (representative self.now.merges.log.items time) left right ≡ true }
+        ensures { OnOk result (HasCongruence self.now.terms.items self.now.merges.log.items time left right steps.old.items steps.new.items) }
+    {
+        let one = &self.terms[left as usize];
+        let other = &self.terms[right as usize];
+        self.merges
+            .add_parts(alloc, time, &one.parts, &other.parts, steps)?;
+        steps.push(Derived::Congruent(left, right))?;
+        Ok(())
+    }
+
+    /// Adds what derives a merge.
+    fn derive(&self, alloc: Global, at: usize, chain: &mut Chain) -> Result<(), Want>
+        requires { at < length self.now.merges.log.items }
+        ensures { OnOk result (HasMerge self.now.terms.items self.now.claims.items self.now.merges.log.items at chain.old chain.new) }
+    {
+        let merge = self.merges.log[at];
+        match merge.reason {
+            Reason::Claimed(claim) => {
+                chain.claims.push(claim)?;
+                Ok(())
+            }
+            Reason::Congruence => {
+                self.add_congruence(alloc, at as u32, merge.left, merge.right, &mut chain.steps)?;
+                Ok(())
+            }
+        }
+    }
+
+    /// Adds what derives a merge, where it is wanted.
+    fn derive_if(
+        &self,
+        alloc: Global,
+        at: usize,
+        wanted: bool,
+        chain: &mut Chain,
+    ) -> Result<(), Want>
+        requires { at < length self.now.merges.log.items }
+        ensures wanted { OnOk result (wanted ≡ true → HasMerge self.now.terms.items self.now.claims.items self.now.merges.log.items at chain.old chain.new) }
+        ensures claims { wanted ≡ false → chain.new.claims.items ≡ chain.old.claims.items }
+        ensures steps { wanted ≡ false → chain.new.steps.items ≡ chain.old.steps.items }
+    {
+        if !wanted {
+            return Ok(());
+        }
+        self.derive(alloc, at, chain)?;
+        Ok(())
+    }
+
+    /// Adds what derives the merges that are marked, in order.
+    fn derive_all(&self, alloc: Global, marks: &[bool]) -> Result<Chain, Want>
+        requires length { length marks.now ≡ length self.now.merges.log.items }
+        requires backed { AreBacked self.now.terms.items self.now.merges.log.items marks.now 0 }
+        ensures sound { IfOk result (λ c. IsDerivation self.now.terms.items self.now.claims.items c.claims.items c.steps.items) }
+        ensures known { IfOk result (λ c. AreKnownBelow (length marks.now) self.now.merges.log.items self.now.claims.items marks.now c.claims.items c.steps.items) }
+    {
+        let mut chain = Chain {
+            claims: Vec::new(alloc),
+            steps: Vec::new(alloc),
+        };
+        for at in 0..marks.len() {
+            self.derive_if(alloc, at, marks[at], &mut chain)?;
+        }
+        Ok(chain)
     }
 
     /// Why two terms are equal: `None` exactly where they aren't, by what is claimed and by congruence.
@@ -186,23 +325,15 @@ impl Classes {
     pub fn explain(&self, alloc: Global, a: u32, b: u32) -> Result<Option<Chain>, Want>
         requires left { a < length self.now.terms.items }
         requires right { b < length self.now.terms.items }
-        ensures { IfOk result (λ o. IsSome o ↔ Joined self.now.terms.items self.now.claims.items a b) }
+        ensures joined { IfOk result (λ o. IsSome o ↔ Joined self.now.terms.items self.now.claims.items a b) }
+        ensures explained { IfOk result (λ o. IfSome o (Explains self.now.terms.items self.now.claims.items a b)) }
     {
         if !self.are_equal(a, b) {
             return Ok(None);
         }
         let marks = self.needed(alloc, a, b)?;
-        let mut chain = Chain {
-            claims: Vec::new(alloc),
-            steps: Vec::new(alloc),
-        };
-        for at in 0..marks.len() {
-            if marks[at] {
-                self.derive(alloc, at, &mut chain)?;
-            }
-        }
-        let last = self.merges.path(alloc, self.merges.log.len() as u32, a, b)?;
-        chain.steps.push(last)?;
+        let mut chain = self.derive_all(alloc, &marks)?;
+        self.merges.add_path(alloc, self.merges.log.len() as u32, a, b, &mut chain.steps)?;
         Ok(Some(chain))
     }
 }

@@ -1,5 +1,5 @@
 //! What the classes and the walks say.
-ghost use Rattle.cs_cong.specs.Laws.{MergedAreJoined, JoinedAreMerged, WalksLead};
+ghost use Rattle.cs_cong.specs.Laws.{MergedAreJoined, JoinedAreMerged, WalksLead, ExplainedAreJoined};
 
 /// What is in one class follows from the claims.
 pub fn merged_are_joined()
@@ -14,4 +14,9 @@ pub fn joined_are_merged()
 /// A walk leads from its first term to its last, along merges before its time.
 pub fn walks_lead()
     ensures { WalksLead }
+{}
+
+/// What a chain explains follows from the claims.
+pub fn explained_are_joined()
+    ensures { ExplainedAreJoined }
 {}

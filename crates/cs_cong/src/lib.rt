@@ -11,6 +11,6 @@ mod paths;
 pub use classes::Classes;
 pub use congruent::{Applied, Claim};
 pub use explain::{Chain, Derived};
-pub use laws::{joined_are_merged, merged_are_joined, walks_lead};
+pub use laws::{explained_are_joined, joined_are_merged, merged_are_joined, walks_lead};
 pub use merges::{Link, Merge, Merges, Reason, Want};
 pub use paths::Edge;
