@@ -1,5 +1,5 @@
 -- What a visit of one clause makes of the assignment.
-use Rattle.std.proofs.Common.{◌≡◌, ℕ, zero, suc, ◌+◌, ◌<◌, ◌≤◌, ◌⊎◌, inl, inr, Bool, true, false, List, [], ◌∷◌, ◌++◌, length, get_or, set, Option, Some, refl, sym, ◌∙◌, subst, ap, arith}
+use Rattle.std.proofs.Common.{◌≡◌, ℕ, zero, suc, ◌<◌, ◌⊎◌, inl, inr, Bool, true, false, List, [], ◌∷◌, ◌++◌, length, get_or, set, Option, Some, refl, sym, ◌∙◌, subst, ap, arith}
 use Rattle.std.specs.List.{slice_get, Contains}
 use Rattle.std.proofs.lemmas.Option.{slice_get_within, slice_get_read}
 use Rattle.std.proofs.lemmas.List.{length-set, length-append}
@@ -16,7 +16,7 @@ use Rattle.cs_search.specs.Assignment.{negated, seen_or, status_of, valued, Fals
 use Rattle.cs_search.specs.Found.{IsFound, IsPlacedBelow, IsUnassigned, IsOpen}
 use Rattle.cs_search.specs.Extended.{is_unset, unset_count, AreKnown, IsExtended}
 use Rattle.cs_search.proofs.Gets.{get_push_old, get_push_cases}
-use Rattle.cs_search.proofs.Statuses.{true_negated, never_both, same_atom}
+use Rattle.cs_search.proofs.Statuses.{true_negated, never_both}
 use Rattle.cs_search.proofs.Trails.{trail_more}
 
 pub placed_below : (clauses : List Clause) (values : List Value) (trail : List Entry) → IsTrail clauses values trail → IsPlacedBelow values (length trail)

@@ -1,14 +1,11 @@
 -- Rows of numbers, with one more and one fewer.
-use Rattle.std.proofs.Common.{◌≡◌, ℕ, zero, suc, ◌+◌, ◌-◌, ◌*◌, ◌<◌, ◌≤◌, ◌⊎◌, inl, inr, Bool, true, false, List, [], ◌∷◌, ◌++◌, length, get_or, set, take, Option, Some, None, refl, sym, ◌∙◌, subst, ap, ap₂, arith, Vec}
+use Rattle.std.proofs.Common.{◌≡◌, ℕ, zero, suc, ◌*◌, ◌<◌, Bool, true, false, List, [], ◌∷◌, ◌++◌, length, get_or, set, refl, sym, ◌∙◌, ap, arith, Vec}
 use Rattle.std.specs.declared.alloc.Global.{Global}
-use Rattle.std.specs.List.{slice_get, swap_remove}
-use Rattle.std.proofs.lemmas.Option.{slice_get_within, get_or_from_slice_get, slice_get-get_or, slice_get_read}
-use Rattle.std.proofs.lemmas.List.{length-set, length-take-le}
+use Rattle.std.proofs.lemmas.Option.{slice_get_read}
+use Rattle.std.proofs.lemmas.List.{length-set}
 use Rattle.cs_hints.specs.declared.Literal.{Literal}
 use Rattle.cs_search.specs.Rows.{Rows, items_or, row, slot_of, slot, Has, IsPut}
-use Rattle.cs_search.proofs.Gets.{get_set_same, get_set_other, get_push_old, get_push_new, get_push_cases}
-use Rattle.cs_search.proofs.Statuses.{same_atom}
-use Rattle.cs_search.proofs.Settles.{take_kept, take_has}
+use Rattle.cs_search.proofs.Gets.{get_set_same, get_set_other, get_push_old, get_push_new}
 
 pub row_read : (rows : Rows) (s : ℕ) (v : Vec ℕ Global) → s < length rows → v ≡ get_or rows s v → row rows s ≡ v.items
 row_read rows s v lt e = ap items_or (slice_get_read rows (length rows) s v refl lt e)
@@ -31,19 +28,6 @@ put_in rows at n old new lt is e = record {
   others = λ s ne. row_other rows at s new ne;
   count = length-set rows at new;
 }
-
--- different literals have different rows
-pub slot_apart : (l m : Literal) → ¬ (l ≡ m) → ¬ (slot l ≡ slot m)
-slot_apart l m ne = go l.positive m.positive l.number m.number ne
-  where
-    mk : Bool → ℕ → Literal
-    mk b n = record { positive = b; number = n }
-
-    go : (a b : Bool) (i j : ℕ) → ¬ (mk a i ≡ mk b j) → ¬ (slot_of a i ≡ slot_of b j)
-    go true true i j ne e = ne (ap (mk true) (let t : i ≡ j = omega arith in t))
-    go false false i j ne e = ne (ap (mk false) (let t : i ≡ j = omega arith in t))
-    go true false i j ne e = absurd (omega arith)
-    go false true i j ne e = absurd (omega arith)
 
 pub slot_within : (l : Literal) (width : ℕ) → l.number < width → slot l < width * 2
 slot_within l width lt = go l.positive l.number lt

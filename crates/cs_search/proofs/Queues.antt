@@ -8,17 +8,17 @@ use Rattle.std.proofs.lemmas.List.Elements.{All-weaker, All-contains, All-head, 
 use Rattle.cs_hints.specs.declared.Literal.{Literal}
 use Rattle.cs_hints.specs.declared.Clause.{Clause}
 use Rattle.cs_search.specs.declared.Value.{Value}
-use Rattle.cs_search.specs.declared.Status.TheVariants.{True, False}
+use Rattle.cs_search.specs.declared.Status.TheVariants.{False}
 use Rattle.cs_search.specs.declared.Entry.{Entry}
-use Rattle.cs_search.specs.Assignment.{negated, status_of, valued, FalseBefore, TrueBefore, LeavesOnly, IsTrail, IsClosed, IsSatisfied, IsClosedAtDecisions}
+use Rattle.cs_search.specs.Assignment.{negated, status_of, valued, FalseBefore, TrueBefore, LeavesOnly, IsTrail, IsClosed, IsClosedAtDecisions}
 use Rattle.cs_search.specs.Extended.{IsExtended, AreClosed, AreKnown}
 use Rattle.cs_search.specs.Settled.{IsDecision}
 use Rattle.cs_search.specs.Rows.{Rows, row, slot, Has, IsPut}
 use Rattle.cs_search.specs.Queued.{IsEntered, IsListed, IsClosedTo, AreClosedTo, AreRowClosed}
 use Rattle.cs_search.proofs.Gets.{get_push_cases}
-use Rattle.cs_search.proofs.Statuses.{same_atom, true_negated, never_both, status_set_same, false_negated, atom_within}
+use Rattle.cs_search.proofs.Statuses.{same_atom, never_both, status_set_same, false_negated, atom_within}
 use Rattle.cs_search.proofs.Trails.{false_same, true_same}
-use Rattle.cs_search.proofs.Settles.{false_more, only_more, some_at, take_has, take_kept}
+use Rattle.cs_search.proofs.Settles.{only_more, some_at, take_has, take_kept}
 use Rattle.cs_search.proofs.Added.{contains_here, contains_there, contains_nothing}
 use Rattle.cs_search.proofs.Tops.{same_place}
 use Rattle.cs_search.proofs.Places.{slot_within, has_push, has_new, row_read}

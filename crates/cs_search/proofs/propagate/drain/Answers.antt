@@ -1,4 +1,4 @@
-use Rattle.std.proofs.Common.{◌≤◌, ◌<◌, ◌≡◌, ◌+◌, length, refl, sym, ◌∙◌, ap, arith}
+use Rattle.std.proofs.Common.{◌<◌, ◌≡◌, length, refl, ap, arith}
 use Rattle.cs_search.proofs.Passes.{extended_itself, extended_twice}
 use Rattle.cs_search.proofs.Queues.{kept_length, none_at, listed_at, known_at, closed_from}
 use Rattle.cs_search.proofs.propagate.drain.Goals as goal

@@ -1,4 +1,4 @@
-use Rattle.std.proofs.Common.{refl, length, arith, ◌+◌, vec_len}
+use Rattle.std.proofs.Common.{refl, length, arith, ◌+◌}
 use Rattle.std.proofs.lemmas.Option.{slice_get_read}
 use Rattle.cs_search.proofs.Queues.{step_slot, step_row, step_within, step_closed, none_then}
 use Rattle.cs_search.proofs.propagate.step.Goals as goal

@@ -1,4 +1,4 @@
-use Rattle.std.proofs.Common.{length, arith}
+use Rattle.std.proofs.Common.{arith}
 use Rattle.std.proofs.lemmas.Option.{slice_get_within}
 use Rattle.cs_search.proofs.Passes.{extended_twice}
 use Rattle.cs_search.proofs.Queues.{visited_more}

@@ -1,8 +1,4 @@
-use Rattle.std.proofs.Common.{◌<◌, false, length, take, get_or, subst, sym, ap, arith}
-use Rattle.std.proofs.lemmas.List.{take_all}
-use Rattle.cs_hints.specs.declared.Literal.{Literal}
-use Rattle.cs_search.specs.Rows.{slot}
-use Rattle.cs_search.specs.Queued.{IsEntered}
+use Rattle.std.proofs.Common.{false, arith}
 use Rattle.cs_search.proofs.Queues.{entered_nothing, entered_more, entered_all}
 use Rattle.cs_search.proofs.queue.enter.Goals as goal
 

@@ -1,4 +1,4 @@
-use Rattle.std.proofs.Common.{◌∙◌, sym, ap, refl}
+use Rattle.std.proofs.Common.{◌∙◌, sym, ap}
 use Rattle.cs_search.proofs.Passes.{at_index}
 use Rattle.cs_search.proofs.Queues.{listed_nothing, listed_next, listed_whole, slots_room}
 use Rattle.cs_search.proofs.queue.list.Goals as goal
