@@ -13,3 +13,6 @@ pub mod Tops
 pub mod Pops
 pub mod Widens
 pub mod Refuted
+pub mod Places
+pub mod Queues
+pub mod Follows

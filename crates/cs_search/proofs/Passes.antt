@@ -1,8 +1,8 @@
 -- What a visit of one clause makes of the assignment.
-use Rattle.std.proofs.Common.{◌≡◌, ℕ, zero, suc, ◌+◌, ◌<◌, ◌≤◌, ◌⊎◌, inl, inr, Bool, true, false, List, [], ◌∷◌, ◌++◌, length, get_or, set, Option, Some, refl, sym, ◌∙◌, subst, ap, arith}
+use Rattle.std.proofs.Common.{◌≡◌, ℕ, zero, suc, ◌<◌, ◌⊎◌, inl, inr, Bool, true, false, List, [], ◌∷◌, ◌++◌, length, get_or, set, Option, Some, refl, sym, ◌∙◌, subst, ap, arith}
 use Rattle.std.specs.List.{slice_get, Contains}
 use Rattle.std.proofs.lemmas.Option.{slice_get_within, slice_get_read}
-use Rattle.std.proofs.lemmas.List.{length-set}
+use Rattle.std.proofs.lemmas.List.{length-set, length-append}
 use Rattle.std.proofs.lemmas.List.Elements.{All-contains}
 use Rattle.cs_hints.specs.declared.Literal.{Literal}
 use Rattle.cs_search.specs.declared.Value.{Value}
@@ -12,13 +12,11 @@ use Rattle.cs_search.specs.declared.Entry.{Entry}
 use Rattle.cs_hints.specs.declared.Clause.{Clause}
 use Rattle.cs_search.specs.declared.examine.Found.{Found}
 use Rattle.cs_search.specs.declared.examine.Found.TheVariants.{Unit}
-use Rattle.cs_search.specs.declared.propagate.Pass.{Pass}
-use Rattle.cs_search.specs.declared.propagate.Pass.TheVariants.{Conflict as Clash, Changed, Closed}
 use Rattle.cs_search.specs.Assignment.{negated, seen_or, status_of, valued, FalseBefore, IsTrail, IsForced, IsClosed, IsSatisfied}
 use Rattle.cs_search.specs.Found.{IsFound, IsPlacedBelow, IsUnassigned, IsOpen}
-use Rattle.cs_search.specs.Extended.{is_unset, unset_count, AreKnown, AreClosed, IsPassed, IsVisited, IsExtended}
+use Rattle.cs_search.specs.Extended.{is_unset, unset_count, AreKnown, IsExtended}
 use Rattle.cs_search.proofs.Gets.{get_push_old, get_push_cases}
-use Rattle.cs_search.proofs.Statuses.{true_negated, never_both, same_atom}
+use Rattle.cs_search.proofs.Statuses.{true_negated, never_both}
 use Rattle.cs_search.proofs.Trails.{trail_more}
 
 pub placed_below : (clauses : List Clause) (values : List Value) (trail : List Entry) → IsTrail clauses values trail → IsPlacedBelow values (length trail)
@@ -76,7 +74,7 @@ count_assigned values l p lt u =
     count_set values l.number (valued l.positive p) (w.1 ∙ ap (λ v. Some v) (seen_unset l.positive (slice_get values l.number) w.0 w.1 u)) (valued_set l.positive p)
 
 pub extended_itself : (clauses : List Clause) (values : List Value) (trail : List Entry) → IsTrail clauses values trail → IsExtended clauses values trail values trail
-extended_itself clauses values trail t = record { sound = t; width = refl; kept = λ j e h. h; forced = λ j e h. inl h; fewer = omega arith }
+extended_itself clauses values trail t = record { sound = t; width = refl; kept = λ j e h. h; forced = λ j e h. inl h; fewer = omega arith; counted = refl }
 
 pub extended_by : (clauses : List Clause) (values values' : List Value) (trail trail' : List Entry) (i : ℕ) (c : Clause) (l : Literal) →
     IsTrail clauses values trail → slice_get clauses i ≡ Some c → l.number < length values → IsFound values (length trail) c.literals.items (Unit l) →
@@ -93,6 +91,7 @@ extended_by clauses values values' trail trail' i c l t at lt (in', u, only) ev 
       kept = λ j x h. get_push_old trail j e x h;
       forced = λ j x h. elim (get_push_cases trail j e x h) [ inl old ↦ inl old | inr new ↦ inr (i, ap (λ y. y.reason) new.1) ];
       fewer = let n = count_assigned values l (length trail) lt u in omega arith;
+      counted = let n = count_assigned values l (length trail) lt u in omega (arith, n, length-append trail (e ∷ []));
     })
 
 pub extended_twice : (clauses : List Clause) (v1 v2 v3 : List Value) (t1 t2 t3 : List Entry) → IsExtended clauses v1 t1 v2 t2 → IsExtended clauses v2 t2 v3 t3 → IsExtended clauses v1 t1 v3 t3
@@ -102,6 +101,7 @@ extended_twice clauses v1 v2 v3 t1 t2 t3 a b = record {
   kept = λ j e h. b.kept j e (a.kept j e h);
   forced = λ j e h. elim (b.forced j e h) [ inl old ↦ a.forced j e old | inr r ↦ inr r ];
   fewer = let x = a.fewer in let y = b.fewer in omega arith;
+  counted = b.counted ∙ a.counted;
 }
 
 pub known_atom : (clauses : List Clause) (n i : ℕ) (c : Clause) (l : Literal) → AreKnown clauses n → slice_get clauses i ≡ Some c → Contains c.literals.items l → l.number < n
@@ -138,38 +138,3 @@ fewer values values' l p lt u e =
     let P : List Value → Type 0 = λ v. unset_count v < unset_count values in
     let t : unset_count (set values l.number (valued l.positive p)) < unset_count values = omega arith in
     subst P (sym e) t
-
-closed_more : (clauses : List Clause) (values : List Value) (len i : ℕ) → AreClosed clauses values len i → ((c : Clause) → slice_get clauses i ≡ Some c → IsClosed values len c.literals.items) → AreClosed clauses values len (i + 1)
-closed_more clauses values len i h here j c lt at = elim (same_atom j i) [
-  | inl e ↦ here c (ap (slice_get clauses) (sym e) ∙ at)
-  | inr ne ↦ h j c (let n : ¬ (j ≡ i) = ne in omega arith) at
-]
-
-pub passed_closed : (clauses : List Clause) (old v v' : List Value) (len len' i : ℕ) (done : Pass) → (done ≡ Closed) ⊎ (done ≡ Changed) → v' ≡ v → len' ≡ len →
-    ((c : Clause) → slice_get clauses i ≡ Some c → IsClosed v' len' c.literals.items) → IsPassed clauses old v len i done → IsPassed clauses old v' len' (i + 1) done
-passed_closed clauses old v v' len len' i done calm ev el here h =
-    let P : List Value → Type 0 = λ x. IsPassed clauses old x len i done in
-    let Q : ℕ → Type 0 = λ n. IsPassed clauses old v' n i done in
-    go done calm (subst Q (sym el) (subst P (sym ev) h))
-  where
-    go : (d : Pass) → (d ≡ Closed) ⊎ (d ≡ Changed) → IsPassed clauses old v' len' i d → IsPassed clauses old v' len' (i + 1) d
-    go (Clash j) (inl e) h = cc
-    go (Clash j) (inr e) h = cc
-    go Changed calm h = h
-    go Closed calm h = closed_more clauses v' len' i h here
-
-pub passed_changed : (clauses : List Clause) (old v v' : List Value) (len n : ℕ) (done : Pass) → done ≡ Changed → unset_count v' < unset_count v → unset_count v ≤ unset_count old → IsPassed clauses old v' len n done
-passed_changed clauses old v v' len n done e a b =
-    let P : Pass → Type 0 = λ d. IsPassed clauses old v' len n d in
-    let t : unset_count v' < unset_count old = omega arith in
-    subst P (sym e) t
-
-pub visited_at : (clauses : List Clause) (old values : List Value) (len i : ℕ) (p q : Pass) → p ≡ q → IsVisited clauses old values len i p → IsVisited clauses old values len i q
-visited_at clauses old values len i p q e h = let P : Pass → Type 0 = λ x. IsVisited clauses old values len i x in subst P e h
-
-pub calm_same : (d e : Pass) → d ≡ e → (e ≡ Closed) ⊎ (e ≡ Changed) → (d ≡ Closed) ⊎ (d ≡ Changed)
-calm_same d e s (inl x) = inl (s ∙ x)
-calm_same d e s (inr x) = inr (s ∙ x)
-
-pub passed_same : (clauses : List Clause) (old v : List Value) (len n : ℕ) (d e : Pass) → d ≡ e → IsPassed clauses old v len n e → IsPassed clauses old v len n d
-passed_same clauses old v len n d e s h = let P : Pass → Type 0 = λ x. IsPassed clauses old v len n x in subst P (sym s) h

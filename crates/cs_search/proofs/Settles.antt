@@ -102,7 +102,7 @@ closed_back clauses c values values' trail cut t t' closed settled d e at none i
     ])
 
 -- propagation keeps the decisions, and what was closed there
-some_at : {X : Type 0} (xs : List X) (j : ℕ) → j < length xs → (x : X) × (slice_get xs j ≡ Some x)
+pub some_at : {X : Type 0} (xs : List X) (j : ℕ) → j < length xs → (x : X) × (slice_get xs j ≡ Some x)
 some_at [] j lt = absurd (omega arith)
 some_at (x ∷ xs) zero lt = (x, refl)
 some_at (x ∷ xs) (suc j) lt = some_at xs j (omega arith)

@@ -34,7 +34,7 @@ top_later values c t l p is lt w = (
       ]) c w.2) (inl refl),
 )
 
-same_place : (clauses : List Clause) (values : List Value) (trail : List Entry) (l m : Literal) (p : ℕ) → IsTrail clauses values trail → status_of values l ≡ False p → status_of values m ≡ False p → l ≡ m
+pub same_place : (clauses : List Clause) (values : List Value) (trail : List Entry) (l m : Literal) (p : ℕ) → IsTrail clauses values trail → status_of values l ≡ False p → status_of values m ≡ False p → l ≡ m
 same_place clauses values trail l m p t el em =
     let a = t.placed (negated l) p (true_negated values l p el) in
     let b = t.placed (negated m) p (true_negated values m p em) in

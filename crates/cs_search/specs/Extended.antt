@@ -1,12 +1,10 @@
 -- An assignment that propagation extends.
-use Rattle.std.specs.Prelude.{◌≡◌, ℕ, ◌<◌, ◌≤◌, ◌⊎◌, Bool, true, false, List, [], ◌∷◌, suc, Some, length, slice_get}
+use Rattle.std.specs.Prelude.{◌≡◌, ℕ, ◌<◌, ◌≤◌, ◌+◌, ◌⊎◌, Bool, true, false, List, [], ◌∷◌, suc, Some, length, slice_get}
 use Rattle.std.specs.List.{All}
 use Rattle.cs_search.specs.declared.Value.{Value}
 use Rattle.cs_search.specs.declared.Value.TheVariants.{Unset, Positive, Negative}
 use Rattle.cs_search.specs.declared.Entry.{Entry}
 use Rattle.cs_hints.specs.declared.Clause.{Clause}
-use Rattle.cs_search.specs.declared.propagate.Pass.{Pass}
-use Rattle.cs_search.specs.declared.propagate.Pass.TheVariants.{Conflict, Changed, Closed}
 use Rattle.cs_search.specs.Assignment.{IsTrail, IsFalse, IsClosed}
 
 abbrev pub is_unset : Value → Bool
@@ -31,6 +29,7 @@ pub record IsExtended (clauses : List Clause) (values : List Value) (trail : Lis
   pub kept : (j : ℕ) (e : Entry) → slice_get trail j ≡ Some e → slice_get trail' j ≡ Some e
   pub forced : (j : ℕ) (e : Entry) → slice_get trail' j ≡ Some e → (slice_get trail j ≡ Some e) ⊎ ((r : ℕ) × (e.reason ≡ Some r))
   pub fewer : unset_count values' ≤ unset_count values
+  pub counted : unset_count values' + length trail' ≡ unset_count values + length trail
 
 abbrev pub IsConflict : List Clause → List Value → ℕ → ℕ → Type 0
 IsConflict clauses values len i = (c : Clause) × (slice_get clauses i ≡ Some c) × IsFalse values len c.literals.items
@@ -38,15 +37,3 @@ IsConflict clauses values len i = (c : Clause) × (slice_get clauses i ≡ Some 
 -- each clause below n is closed
 abbrev pub AreClosed : List Clause → List Value → ℕ → ℕ → Type 0
 AreClosed clauses values len n = (i : ℕ) (c : Clause) → i < n → slice_get clauses i ≡ Some c → IsClosed values len c.literals.items
-
--- what a pass over the clauses below n made of the table
-abbrev pub IsPassed : List Clause → List Value → List Value → ℕ → ℕ → Pass → Type 0
-IsPassed clauses old values len n (Conflict i) = IsConflict clauses values len i
-IsPassed clauses old values len n Changed = unset_count values < unset_count old
-IsPassed clauses old values len n Closed = AreClosed clauses values len n
-
--- what a visit of the clause i made of the table
-abbrev pub IsVisited : List Clause → List Value → List Value → ℕ → ℕ → Pass → Type 0
-IsVisited clauses old values len i (Conflict j) = IsConflict clauses values len j
-IsVisited clauses old values len i Changed = unset_count values < unset_count old
-IsVisited clauses old values len i Closed = (values ≡ old) × ((c : Clause) → slice_get clauses i ≡ Some c → IsClosed values len c.literals.items)

@@ -8,3 +8,5 @@ pub mod Search
 pub mod Top
 pub mod Widened
 pub mod Law
+pub mod Rows
+pub mod Queued

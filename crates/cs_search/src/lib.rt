@@ -34,5 +34,7 @@ pub mod laws;
 pub mod learn;
 pub mod levels;
 pub mod propagate;
+pub mod queue;
+pub mod rows;
 pub mod search;
 pub mod settle;

@@ -7,11 +7,14 @@ ghost use Rattle.cs_search.specs.Propagation.{IsDerived};
 ghost use Rattle.cs_search.specs.Extended.{IsConflict, AreClosed, unset_count};
 ghost use Rattle.cs_search.specs.Search.{IsSearch, Learns, IsSolved, IsRound, AreSet, AreSatisfied};
 ghost use Rattle.cs_search.specs.Learned.{IsLastDecision};
-ghost use Rattle.cs_search.specs.Settled.{IsDecision, HasReason};
+ghost use Rattle.cs_search.specs.Settled.{IsDecision, HasReason, Forces};
+ghost use Rattle.cs_hints.specs.declared.Clause.{Clause};
+ghost use Rattle.cs_search.specs.Queued.{IsListed, IsQueued, IsLast, AreClosedTo};
 
 use crate::analyse::{analyse, refute};
 use crate::assignment::{Assignment, assign, take_back};
 use crate::propagate::propagate;
+use crate::queue::{Queue, enter, list};
 use crate::settle::{last_decision, settle};
 use crate::{Clause, Entry, Literal, Value};
 use cs_meter::Meter;
@@ -58,19 +61,21 @@ pub struct Search {
     pub made: Assignment,
 }
 
-/// Learns a clause that the conflict derives, and takes the assignment back until it forces a literal.
+/// Learns a clause that the conflict derives, and takes the assignment back until it forces the literal that is given.
 pub fn learn_conflict(
     alloc: Global,
     search: &mut Search,
     start: usize,
     conflict: usize,
-) -> Result<(), AllocError>
+) -> Result<Literal, AllocError>
     requires sound { IsSearch search.old.clauses.items search.old.made.values.items search.old.made.trail.items }
     requires decision { IsLastDecision search.old.made.trail.items start }
     requires conflict { IsConflict search.old.clauses.items search.old.made.values.items (length search.old.made.trail.items) conflict }
     ensures sound { OnOk result (IsSearch search.new.clauses.items search.new.made.values.items search.new.made.trail.items) }
     ensures learns { OnOk result (Learns search.old.clauses.items search.old.steps.items search.new.clauses.items search.new.steps.items) }
     ensures width { OnOk result (length search.new.made.values.items ≡ length search.old.made.values.items) }
+    ensures closed { OnOk result (AreClosedTo search.old.clauses.items search.new.made.values.items (length search.new.made.trail.items) (length search.new.made.trail.items)) }
+    ensures forces { IfOk result (λ forced. (c : Clause) × (search.new.clauses.items ≡ search.old.clauses.items ++ c ∷ []) × Forces search.new.made.values.items (length search.new.made.trail.items) c.literals.items forced) }
 {
     let learned = analyse(alloc, &search.clauses, &search.made, start, conflict)?;
     let cut = settle(
@@ -87,6 +92,22 @@ pub fn learn_conflict(
     search.steps.push(Hints {
         numbers: learned.hints,
     })?;
+    Ok(learned.forced)
+}
+
+/// Enters the last clause, and makes the literal true that it forces.
+pub fn follow(search: &mut Search, queue: &mut Queue, forced: Literal) -> Result<(), AllocError>
+    requires sound { IsSearch search.old.clauses.items search.old.made.values.items search.old.made.trail.items }
+    requires last { IsLast search.old.clauses.items search.old.made.values.items (length search.old.made.trail.items) queue.old.rows.items forced }
+    ensures sound { OnOk result (IsSearch search.new.clauses.items search.new.made.values.items search.new.made.trail.items) }
+    ensures same { search.new ≡ record search.old { made = search.new.made } }
+    ensures width { OnOk result (length search.new.made.values.items ≡ length search.old.made.values.items) }
+    ensures queued { OnOk result (IsQueued search.new.clauses.items search.new.made.values.items search.new.made.trail.items queue.new) }
+{
+    let number = search.clauses.len() - 1;
+    queue.head = search.made.trail.len();
+    enter(&mut queue.rows, &search.clauses[number].literals, number)?;
+    assign(&mut search.made, forced, Some(number))?;
     Ok(())
 }
 
@@ -115,16 +136,19 @@ pub enum Turn {
 }
 
 /// Makes true all that the clauses force, up to a conflict.
-pub fn spread(search: &mut Search) -> Result<Option<usize>, AllocError>
+pub fn spread(search: &mut Search, queue: &mut Queue) -> Result<Option<usize>, AllocError>
     requires sound { IsSearch search.old.clauses.items search.old.made.values.items search.old.made.trail.items }
+    requires queued { IsQueued search.old.clauses.items search.old.made.values.items search.old.made.trail.items queue.old }
     ensures sound { OnOk result (IsSearch search.new.clauses.items search.new.made.values.items search.new.made.trail.items) }
     ensures same { search.new ≡ record search.old { made = search.new.made } }
     ensures width { OnOk result (length search.new.made.values.items ≡ length search.old.made.values.items) }
     ensures fewer { OnOk result (unset_count search.new.made.values.items ≤ unset_count search.old.made.values.items) }
     ensures conflict { IfOk result (λ found. IfSome found (IsConflict search.new.clauses.items search.new.made.values.items (length search.new.made.trail.items))) }
     ensures closed { IfOk result (λ found. IfNone found (AreClosed search.new.clauses.items search.new.made.values.items (length search.new.made.trail.items) (length search.new.clauses.items))) }
+    ensures listed { OnOk result (IsListed search.new.clauses.items (length search.new.made.values.items) queue.new.rows.items) }
+    ensures walked { IfOk result (λ found. IfNone found (queue.new.head ≡ length search.new.made.trail.items)) }
 {
-    let found = propagate(&search.clauses, &mut search.made)?;
+    let found = propagate(&search.clauses, &mut search.made, queue)?;
     Ok(found)
 }
 
@@ -148,14 +172,17 @@ pub fn refutation(alloc: Global, search: &Search, conflict: usize) -> Result<Hin
 }
 
 /// Decides an atom, where one has no value.
-pub fn decide(search: &mut Search) -> Result<bool, AllocError>
+pub fn decide(search: &mut Search, queue: &Queue) -> Result<bool, AllocError>
     requires sound { IsSearch search.old.clauses.items search.old.made.values.items search.old.made.trail.items }
     requires narrow { length search.old.made.values.items < 2 ^ 32 }
     requires closed { AreClosed search.old.clauses.items search.old.made.values.items (length search.old.made.trail.items) (length search.old.clauses.items) }
+    requires listed { IsListed search.old.clauses.items (length search.old.made.values.items) queue.now.rows.items }
+    requires walked { queue.now.head ≡ length search.old.made.trail.items }
     ensures sound { OnOk result (IsSearch search.new.clauses.items search.new.made.values.items search.new.made.trail.items) }
     ensures same { search.new ≡ record search.old { made = search.new.made } }
     ensures width { OnOk result (length search.new.made.values.items ≡ length search.old.made.values.items) }
     ensures decided { IfOk result (λ b. b ≡ true → unset_count search.new.made.values.items < unset_count search.old.made.values.items) }
+    ensures queued { IfOk result (λ b. b ≡ true → IsQueued search.new.clauses.items search.new.made.values.items search.new.made.trail.items queue.now) }
     ensures satisfied { IfOk result (λ b. b ≡ false → AreSatisfied search.new.clauses.items search.new.made.values.items) }
 {
     match first_unset(&search.made.values) {
@@ -172,31 +199,76 @@ pub fn decide(search: &mut Search) -> Result<bool, AllocError>
 }
 
 /// Propagates, and then learns from a conflict, or decides one atom.
-pub fn round(alloc: Global, search: &mut Search, meter: &mut Meter) -> Result<Turn, AllocError>
+pub fn round(
+    alloc: Global,
+    search: &mut Search,
+    queue: &mut Queue,
+    meter: &mut Meter,
+) -> Result<Turn, AllocError>
     requires sound { IsSearch search.old.clauses.items search.old.made.values.items search.old.made.trail.items }
+    requires queued { IsQueued search.old.clauses.items search.old.made.values.items search.old.made.trail.items queue.old }
     requires narrow { length search.old.made.values.items < 2 ^ 32 }
     ensures sound { OnOk result (IsSearch search.new.clauses.items search.new.made.values.items search.new.made.trail.items) }
     ensures learns { OnOk result (Learns search.old.clauses.items search.old.steps.items search.new.clauses.items search.new.steps.items) }
     ensures width { OnOk result (length search.new.made.values.items ≡ length search.old.made.values.items) }
     ensures round { IfOk result (λ r. IsRound search.new.clauses.items search.old.made.values.items search.new.made.values.items meter.old meter.new r) }
+    ensures queued { IfOk result (λ r. r ≡ Turn.On → IsQueued search.new.clauses.items search.new.made.values.items search.new.made.trail.items queue.new) }
 {
-    match spread(search)? {
+    match spread(search, queue)? {
         Some(conflict) => match latest(search) {
             None => Ok(Turn::Ended(Solved::Refuted(refutation(alloc, search, conflict)?))),
             Some(start) => {
                 if !spend(meter) {
                     return Ok(Turn::Spent);
                 }
-                learn_conflict(alloc, search, start, conflict)?;
+                let forced = learn_conflict(alloc, search, start, conflict)?;
+                follow(search, queue, forced)?;
                 Ok(Turn::On)
             }
         },
         None => {
-            if decide(search)? {
+            if decide(search, queue)? {
                 Ok(Turn::On)
             } else {
                 Ok(Turn::Ended(Solved::Assigned))
             }
+        }
+    }
+}
+
+/// The clauses by their literals, with nothing walked yet.
+pub fn start(alloc: Global, search: &Search) -> Result<Queue, AllocError>
+    requires sound { IsSearch search.now.clauses.items search.now.made.values.items search.now.made.trail.items }
+    requires narrow { length search.now.made.values.items < 2 ^ 32 }
+    ensures { IfOk result (λ queue. IsQueued search.now.clauses.items search.now.made.values.items search.now.made.trail.items queue) }
+{
+    let rows = list(alloc, &search.clauses, search.made.values.len())?;
+    Ok(Queue { rows, head: 0 })
+}
+
+/// Round by round, up to an answer.
+pub fn run(
+    alloc: Global,
+    search: &mut Search,
+    queue: &mut Queue,
+    meter: &mut Meter,
+) -> Result<Solved, Undecided>
+    requires sound { IsSearch search.old.clauses.items search.old.made.values.items search.old.made.trail.items }
+    requires queued { IsQueued search.old.clauses.items search.old.made.values.items search.old.made.trail.items queue.old }
+    requires narrow { length search.old.made.values.items < 2 ^ 32 }
+    ensures sound { OnOk result (IsSearch search.new.clauses.items search.new.made.values.items search.new.made.trail.items) }
+    ensures learns { OnOk result (Learns search.old.clauses.items search.old.steps.items search.new.clauses.items search.new.steps.items) }
+    ensures solved { IfOk result (IsSolved search.new.clauses.items search.new.made.values.items) }
+    ensures budget { IfErr result (λ e. e ≡ Undecided.Budget → meter.new.spent ≡ limit) }
+{
+    loop {
+        match round(alloc, search, queue, meter) {
+            Err(e) => return Err(Undecided::Want(e)),
+            Ok(turn) => match turn {
+                Turn::Ended(solved) => return Ok(solved),
+                Turn::Spent => return Err(Undecided::Budget),
+                Turn::On => {}
+            },
         }
     }
 }
@@ -210,14 +282,8 @@ pub fn solve(alloc: Global, search: &mut Search, meter: &mut Meter) -> Result<So
     ensures solved { IfOk result (IsSolved search.new.clauses.items search.new.made.values.items) }
     ensures budget { IfErr result (λ e. e ≡ Undecided.Budget → meter.new.spent ≡ limit) }
 {
-    loop {
-        match round(alloc, search, meter) {
-            Err(e) => return Err(Undecided::Want(e)),
-            Ok(turn) => match turn {
-                Turn::Ended(solved) => return Ok(solved),
-                Turn::Spent => return Err(Undecided::Budget),
-                Turn::On => {}
-            },
-        }
+    match start(alloc, search) {
+        Err(e) => Err(Undecided::Want(e)),
+        Ok(mut queue) => run(alloc, search, &mut queue, meter),
     }
 }

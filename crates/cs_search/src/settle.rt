@@ -2,7 +2,7 @@
 ghost use Rattle.std.specs.Prelude.{◌≡◌, ◌<◌, ◌≤◌, ◌+◌, List, length};
 ghost use Rattle.std.specs.List.{Contains};
 ghost use Rattle.cs_search.specs.Assignment.{FalseBefore, LeavesOnly};
-ghost use Rattle.cs_search.specs.Settled.{IsLatest, IsSettled};
+ghost use Rattle.cs_search.specs.Settled.{IsLatest, IsSettled, IsDecision};
 
 use crate::analyse::leaves_only;
 use crate::{Entry, Literal, Value};
@@ -37,6 +37,7 @@ pub fn settle(
     requires free { ¬ (FalseBefore values.now from forced) }
     ensures settled { IsSettled values.now trail.now literals.now forced result }
     ensures within { result ≤ from }
+    ensures decision { IsDecision trail.now from → IsDecision trail.now result }
 {
     let mut cut = from;
     while let Some(before) = last_decision(trail, cut) {

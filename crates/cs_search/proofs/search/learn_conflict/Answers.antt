@@ -1,9 +1,11 @@
-use Rattle.std.proofs.Common.{List, length, refl, sym, ap, subst, arith}
+use Rattle.std.proofs.Common.{◌≤◌, List, length, refl, sym, ap, subst, arith}
 use Rattle.std.proofs.lemmas.Option.{slice_get_within}
 use Rattle.cs_hints.specs.declared.Clause.{Clause}
 use Rattle.cs_search.specs.Extended.{IsConflict, AreClosed}
 use Rattle.cs_search.proofs.Analyses.{only_at}
 use Rattle.cs_search.proofs.Learns.{closed_at_start, forced_free, learned_search, learns_one, learned_over, trail_over, settled_over, false_over}
+use Rattle.cs_search.proofs.Tops.{forced_there}
+use Rattle.cs_search.proofs.Follows.{closed_after, decision_over}
 use Rattle.cs_search.proofs.search.learn_conflict.Goals as goal
 
 pub analyse-requires-clause-closed : goal.analyse-requires-clause-closed
@@ -56,3 +58,26 @@ returns-clause-learns c =
     let learned = learned_over s.clauses.items _ s.made.values.items c.args.start (length s.made.trail.items) l.literals.items l.hints.items l.forced c.deref.ensures.value c.in_ok-learned.ensures in
     learns_one s.clauses.items _ s.steps.items _ s.made.values.items s.made.trail.items record { literals = l.literals } record { numbers = l.hints } c.args.start (length s.made.trail.items) l.forced
     c.requires.sound c.requires.decision learned c.in_ok-push.ensures.items c.in_ok-push-2.ensures.items
+
+pub returns-clause-closed : goal.returns-clause-closed
+returns-clause-closed c =
+    let s = c.args.search.now in
+    let d = c.requires.decision.decision in
+    let lt = slice_get_within s.made.trail.items c.args.start d.0 d.1 in
+    let le : c.settle-cut.result ≤ length s.made.trail.items = omega (arith, lt, c.settle-cut.ensures.within) in
+    let cut = decision_over s.made.trail.items _ c.settle-cut.result c.deref-3.ensures.value (c.settle-cut.ensures.decision (decision_over _ s.made.trail.items c.args.start (sym c.deref-3.ensures.value) d)) in
+    closed_after s.clauses.items s.made.values.items _ s.made.trail.items _ c.settle-cut.result c.requires.sound (trail_over s.clauses.items _ _ _ c.deref-5.ensures.value c.take_back.ensures.sound) c.take_back.ensures.trail le cut
+
+pub returns-clause-forces : goal.returns-clause-forces
+returns-clause-forces c =
+    let s = c.args.search.now in
+    let l = c.in_ok-learned.learned in
+    let d = c.requires.decision.decision in
+    let lt = slice_get_within s.made.trail.items c.args.start d.0 d.1 in
+    let le : c.settle-cut.result ≤ length s.made.trail.items = omega (arith, lt, c.settle-cut.ensures.within) in
+    let settled = settled_over s.made.values.items _ s.made.trail.items _ l.literals.items _ l.forced c.settle-cut.result c.deref-2.ensures.value c.deref-3.ensures.value c.deref-4.ensures.value c.settle-cut.ensures.settled in (
+      record { literals = l.literals },
+      c.in_ok-push.ensures.items,
+      forced_there s.clauses.items s.made.values.items _ s.made.trail.items _ l.literals.items l.forced c.settle-cut.result c.requires.sound.sound (trail_over s.clauses.items _ _ _ c.deref-5.ensures.value c.take_back.ensures.sound)
+          c.take_back.ensures.trail le settled c.in_ok-learned.ensures.false c.in_ok-learned.ensures.contained,
+    )

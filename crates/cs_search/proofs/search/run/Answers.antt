@@ -3,10 +3,10 @@ use Rattle.cs_search.specs.declared.search.Turn.TheVariants.{On}
 use Rattle.cs_search.specs.Search.{learns_none}
 use Rattle.cs_search.proofs.Learns.{learns_twice}
 use Rattle.cs_search.proofs.Rounds.{measure_on, round_at}
-use Rattle.cs_search.proofs.search.solve.Goals as goal
+use Rattle.cs_search.proofs.search.run.Goals as goal
 
 pub loop-e-init : goal.loop-e-init
-loop-e-init c = record { sound = c.requires.sound; learns = learns_none; width = refl }
+loop-e-init c = record { sound = c.requires.sound; learns = learns_none; width = refl; queued = c.requires.queued }
 
 pub loop-e-preserved : goal.loop-e-preserved
 loop-e-preserved c =
@@ -16,6 +16,7 @@ loop-e-preserved c =
       sound = now.sound;
       learns = learns_twice _ _ _ _ _ _ was.learns now.learns;
       width = now.width ∙ was.width;
+      queued = now.queued c.in-On.is;
     }
 
 pub loop-e-smaller : goal.loop-e-smaller
