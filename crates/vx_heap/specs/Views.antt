@@ -1,0 +1,43 @@
+-- What the types of src/ stand for.
+use Rattle.std.specs.Prelude.{Bool, true, false, List, map, string_bytes}
+use Rattle.std.specs.declared.alloc.Global.{Global}
+use Rattle.std.specs.declared.rc.Rc.{Rc}
+use Rattle.vx_ast.specs.Syntax.{Name}
+use Rattle.vx_terms.specs.declared.term.Term.{Term as Term'}
+use Rattle.vx_terms.specs.Terms.{Term}
+use Rattle.vx_terms.specs.Build.{zero_amount, unit}
+use Rattle.vx_terms.specs.Views.{term}
+use Rattle.vx_rules.specs.States.{Chunk, Heap}
+use Rattle.vx_heap.specs.declared.chunk.Resource.{Resource}
+use Rattle.vx_heap.specs.declared.chunk.Resource.TheVariants as resource
+use Rattle.vx_heap.specs.declared.chunk.Chunk.{Chunk as Chunk'}
+use Rattle.vx_heap.specs.declared.heap.SymHeap.{SymHeap}
+
+abbrev pub terms_of : List (Rc Term' Global) → List Term
+terms_of ts = map (λ t. term t.value) ts
+
+abbrev pub is_field : Resource → Bool
+is_field (resource.Field x) = true
+is_field (resource.Predicate x) = false
+
+abbrev pub name : Resource → Name
+name (resource.Field x) = string_bytes x.value
+name (resource.Predicate x) = string_bytes x.value
+
+abbrev pub chunk : Chunk' → Chunk
+chunk c = record {
+  is_field = is_field c.resource;
+  resource = name c.resource;
+  arguments = terms_of c.arguments.items;
+  amount = term c.amount.value;
+  value = term c.value.value;
+  root = c.is_root;
+  inner = c.is_inner;
+}
+
+abbrev pub heap : SymHeap → Heap
+heap h = map chunk h.chunks.items
+
+-- a chunk of no amount, by which others are looked for: a field's key, or an instance's
+abbrev pub key : Resource → List (Rc Term' Global) → Chunk
+key r ts = record { is_field = is_field r; resource = name r; arguments = terms_of ts; amount = zero_amount; value = unit; root = false; inner = false }

@@ -1,0 +1,49 @@
+//! The literal amounts.
+
+ghost use Rattle.std.specs.Prelude.{◌≡◌, IfOk};
+ghost use Rattle.vx_terms.specs.Build.{less, less_equal, whole_amount, zero_amount};
+ghost use Rattle.vx_terms.specs.Terms.{same};
+ghost use Rattle.vx_terms.specs.Views.{term};
+
+use std::alloc::{AllocError, Global};
+use std::rc::Rc;
+use vx_frac::Frac;
+use vx_terms::{Term, make, numbers};
+
+/// Whether an amount is literally 0.
+#[tactic(auto, unfolding(vx_frac::specs::Fractions::lowest))]
+pub fn is_zero(amount: &Term) -> bool
+    ensures { result ≡ same (term amount.now) zero_amount }
+{
+    amount.is_same(&Term::Part(Frac::new(0, 1)))
+}
+
+/// No amount.
+#[tactic(auto, unfolding(vx_frac::specs::Fractions::lowest))]
+fn zero(alloc: Global) -> Result<Rc<Term>, AllocError>
+    ensures { IfOk result (λ t. term t.value ≡ zero_amount) }
+{
+    make::real(alloc, Frac::new(0, 1))
+}
+
+/// All of a location or instance.
+#[tactic(auto, unfolding(vx_frac::specs::Fractions::lowest))]
+fn whole(alloc: Global) -> Result<Rc<Term>, AllocError>
+    ensures { IfOk result (λ t. term t.value ≡ whole_amount) }
+{
+    make::real(alloc, Frac::new(1, 1))
+}
+
+/// That an amount is above 0.
+pub fn positive(alloc: Global, amount: &Rc<Term>) -> Result<Rc<Term>, AllocError>
+    ensures { IfOk result (λ t. term t.value ≡ less zero_amount (term amount.now.value)) }
+{
+    numbers::lt(alloc, &zero(alloc)?, amount)
+}
+
+/// That an amount is at most the whole.
+pub fn at_most_whole(alloc: Global, amount: &Rc<Term>) -> Result<Rc<Term>, AllocError>
+    ensures { IfOk result (λ t. term t.value ≡ less_equal (term amount.now.value) whole_amount) }
+{
+    numbers::le(alloc, amount, &whole(alloc)?)
+}

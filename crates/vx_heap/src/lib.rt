@@ -1,0 +1,15 @@
+//! The heap of a symbolic state: chunks, those that a probe looks at, and what putting and taking an amount makes of it.
+#![tactic(auto)]
+
+mod amounts;
+mod candidates;
+mod chunk;
+mod conditions;
+mod facts;
+mod heap;
+mod put;
+
+pub use chunk::{Chunk, Resource};
+pub use conditions::{equal_arguments, holds_amount, holds_some};
+pub use facts::merged;
+pub use heap::SymHeap;
