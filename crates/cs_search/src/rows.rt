@@ -1,4 +1,4 @@
-//! Rows of numbers: for each literal the clauses that watch it.
+//! Rows of numbers: for each literal the clauses that contain it.
 ghost use Rattle.std.specs.Prelude.{◌≡◌, ℕ, [], ◌<◌, length, OnOk, IfOk};
 ghost use Rattle.cs_search.specs.Rows.{row, slot, IsPut};
 
