@@ -1,4 +1,4 @@
--- Rows of numbers: for each literal the clauses that watch it.
+-- Rows of numbers: for each literal the clauses that contain it.
 use Rattle.std.specs.Prelude.{◌≡◌, ℕ, ◌+◌, ◌*◌, Bool, true, false, List, [], ◌∷◌, ◌++◌, Vec, Option, Some, None, length, slice_get}
 use Rattle.std.specs.declared.alloc.Global.{Global}
 use Rattle.cs_hints.specs.declared.Literal.{Literal}
