@@ -4,15 +4,16 @@ ghost use Rattle.std.specs.Prelude.{◌≡◌, ◌&&◌, IfOk};
 ghost use Rattle.vx_ast.specs.Resolved.{expr};
 ghost use Rattle.vx_rules.specs.Members.{rules};
 ghost use Rattle.vx_rules.specs.Rules as rule;
-ghost use Rattle.vx_rules.specs.Stack.{giving, Stepped};
-ghost use Rattle.vx_rules.specs.SymStates.{state as state_of};
+ghost use Rattle.vx_stack.specs.Stack.{giving, Stepped};
+ghost use Rattle.vx_states.specs.SymStates.{state as state_of};
 ghost use Rattle.vx_types.specs.Settled.{settled};
 
 use crate::operators::is_total;
 use std::alloc::{AllocError, Global};
 use std::rc::Rc;
 use vx_ast::resolved::Expr;
-use vx_rules::{Conts, Hole, Move, Operand, SymState};
+use vx_stack::{Conts, Hole, Move, Operand};
+use vx_states::SymState;
 use vx_terms::make;
 use vx_types::Settled;
 

@@ -4,8 +4,8 @@ ghost use Rattle.std.specs.Prelude.{◌≡◌, IfOk};
 ghost use Rattle.vx_ast.specs.Resolved.{connective, expr};
 ghost use Rattle.vx_rules.specs.Members.{rules};
 ghost use Rattle.vx_rules.specs.Rules as rule;
-ghost use Rattle.vx_rules.specs.Stack.{operand as operand_of, giving, Stepped};
-ghost use Rattle.vx_rules.specs.SymStates.{state as state_of};
+ghost use Rattle.vx_stack.specs.Stack.{operand as operand_of, giving, Stepped};
+ghost use Rattle.vx_states.specs.SymStates.{state as state_of};
 ghost use Rattle.vx_terms.specs.Views.{term};
 ghost use Rattle.vx_types.specs.Settled.{settled};
 
@@ -13,7 +13,8 @@ use crate::operators::{connected, operated};
 use std::alloc::{AllocError, Global};
 use std::rc::Rc;
 use vx_ast::resolved::{Connective, Expr};
-use vx_rules::{Conts, Frame, Hole, Move, Operand, SymState};
+use vx_stack::{Conts, Frame, Hole, Move, Operand};
+use vx_states::SymState;
 use vx_terms::{Term, make};
 use vx_types::Settled;
 

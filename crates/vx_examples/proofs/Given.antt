@@ -8,7 +8,7 @@ use Rattle.vx_meaning.specs.Consistent.{total, IsConsistent}
 use Rattle.vx_meaning.specs.Flatten.{IsGrounded}
 use Rattle.vx_meaning.specs.Outcomes.{Ends, FailsAt, Stops, passes, refused, goes_on, is_over}
 use Rattle.vx_meaning.specs.Run.{run_all}
-use Rattle.vx_rules.proofs.Stores.{same_name_is}
+use Rattle.vx_rules.proofs.Names.{same_name_is}
 use Rattle.vx_examples.specs.Words.{at}
 use Rattle.vx_examples.specs.Cells.{f, cell, cells}
 use Rattle.vx_examples.specs.Blocks.{inhales_framed, inhales_too_early, inhales_where, inhales_nowhere, inhales_by_choice, inhales_other_choice, inhales_unread_condition, inhales_instance, inhales_negative}

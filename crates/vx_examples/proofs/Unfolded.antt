@@ -8,7 +8,7 @@ use Rattle.vx_meaning.specs.Consistent.{total, IsConsistent}
 use Rattle.vx_meaning.specs.Flatten.{IsGrounded}
 use Rattle.vx_meaning.specs.Outcomes.{passes, refused, goes_on, is_over}
 use Rattle.vx_meaning.specs.Fails.{MethodFails, body}
-use Rattle.vx_rules.proofs.Stores.{same_name_is}
+use Rattle.vx_rules.proofs.Names.{same_name_is}
 use Rattle.vx_examples.specs.Words.{at}
 use Rattle.vx_examples.specs.Predicates.{P_name, f, x, half_unfolded, half_unfolded_m, below_none, below_none_m}
 use Rattle.vx_examples.specs.Scenes.{half}

@@ -15,8 +15,8 @@ use Rattle.vx_terms.specs.declared.term.Operator.TheVariants as operator'
 use Rattle.vx_terms.specs.Sorts.{Sort, IntSort, BoolSort, RealSort, RefSort, SnapSort, Symbol, Standard, Function, Variable, Named, Operator}
 use Rattle.vx_terms.specs.Terms as term
 use Rattle.vx_terms.specs.Terms.{Term, NoTerms}
-use Rattle.vx_rules.specs.declared.question.Code.{Code as Code'}
-use Rattle.vx_rules.specs.declared.question.Code.TheVariants as code'
+use Rattle.vx_rules.specs.declared.code.Code.{Code as Code'}
+use Rattle.vx_rules.specs.declared.code.Code.TheVariants as code'
 use Rattle.vx_rules.specs.Trees.{Code, AssertCode, PermissionCode, AmountCode, DivisorCode, CallCode, FunctionCode, PostCode, EntryCode, KeptCode, FoldCode, UnfoldCode, MeasureCode}
 use Rattle.vx_examples.specs.Words.{int, bool, snap, number, denied, plus, chosen_term, first}
 use Rattle.vx_examples.specs.Simplified.{truth, half}

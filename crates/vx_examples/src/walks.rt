@@ -7,7 +7,7 @@ ghost use Rattle.vx_rules.specs.States as states;
 ghost use Rattle.vx_rules.specs.Chunks as chunks;
 ghost use Rattle.vx_rules.specs.Rules as rules;
 ghost use Rattle.vx_rules.specs.Trees.{AmountCode, Ask, AssertCode, CallCode, DivisorCode, End, EntryCode, Failed, FoldCode, Fork, FunctionCode, Impossible, KeptCode, MeasureCode, Open, Passed, PermissionCode, PostCode, Probe, Step, UnfoldCode, leaves, size, walk};
-ghost use Rattle.vx_rules.specs.Stack.{code_number};
+ghost use Rattle.vx_rules.specs.Codes.{code_number};
 ghost use Rattle.vx_ast.specs.declared.ValueType.TheVariants.{Int};
 ghost use Rattle.vx_ast.specs.Syntax.{IsField, IsPredicate, NoMore};
 ghost use Rattle.vx_rules.specs.Members.{blank, ended, tree, depth};

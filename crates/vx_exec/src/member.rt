@@ -5,8 +5,8 @@ ghost use Rattle.vx_ast.specs.Resolved.{assertion, block, method};
 ghost use Rattle.vx_rules.specs.Members as rule;
 ghost use Rattle.vx_rules.specs.Members.{rules};
 ghost use Rattle.vx_rules.specs.Rules.{produce};
-ghost use Rattle.vx_rules.specs.Stack.{going, side_tree, Stepped};
-ghost use Rattle.vx_rules.specs.SymStates.{state as state_of};
+ghost use Rattle.vx_stack.specs.Stack.{going, side_tree, Stepped};
+ghost use Rattle.vx_states.specs.SymStates.{state as state_of};
 ghost use Rattle.vx_rules.specs.Trees as tree;
 ghost use Rattle.vx_terms.specs.Build.{whole_amount};
 ghost use Rattle.vx_types.specs.Settled.{settled};
@@ -14,7 +14,9 @@ ghost use Rattle.vx_types.specs.Settled.{settled};
 use std::alloc::{AllocError, Global};
 use std::rc::Rc;
 use vx_ast::resolved::{Assertion, Block, Method};
-use vx_rules::{Code, Codes, Conts, Frame, Hole, Move, Next, Side, SymState, joined};
+use vx_rules::Code;
+use vx_stack::{Codes, Conts, Frame, Hole, Move, Next, Side, joined};
+use vx_states::SymState;
 use vx_types::Settled;
 
 /// The side of the postcondition by itself: what is produced, in which state, and its end.

@@ -2,15 +2,16 @@
 use Rattle.std.proofs.Common.{◌≡◌, List, [], ◌∷◌, ◌++◌, Bool, true, false, cond, Some, None, refl, sym, ap, subst, map, ◌∙◌, append_assoc, append-nil}
 use Rattle.std.proofs.lemmas.List.{map-append}
 use Rattle.vx_ast.specs.Syntax.{Program}
-use Rattle.vx_rules.specs.declared.frame.Side.{Side}
-use Rattle.vx_rules.specs.declared.question.Query.{Query}
+use Rattle.vx_stack.specs.declared.frame.Side.{Side}
+use Rattle.vx_stack.specs.declared.question.Query.{Query}
 use Rattle.vx_machine.specs.declared.machine.Phase.{Phase}
 use Rattle.vx_machine.specs.declared.machine.Phase.TheVariants as phase'
 use Rattle.vx_machine.specs.declared.machine.Machine.{Machine}
 use Rattle.vx_smt_meaning.specs.declared.reply.Reply.{Reply}
 use Rattle.vx_smt_meaning.specs.declared.reply.Reply.TheVariants.{Unsat, Sat, Unknown}
 use Rattle.vx_rules.specs.Trees.{Question, Tree, Answered, Walked, Failed, Open, after_answer, walk, ends}
-use Rattle.vx_rules.specs.Stack.{query, code, side_tree}
+use Rattle.vx_rules.specs.Codes.{code}
+use Rattle.vx_stack.specs.Stack.{query, side_tree}
 use Rattle.vx_machine.specs.Runs.{without_other, without_last, remaining, waiting_by, RunsTo, after_answers, coming, IsAt, Within, Follows, given, is_spent, is_unsat, member_tree, EachAnswered}
 
 after_answers-more : (as' : List Answered) (a : Answered) (w : Walked) → after_answers (as' ++ a ∷ []) w ≡ after_answers as' (after_answer a.question a.reply w)

@@ -1,12 +1,12 @@
 -- Walks through stacks.
 use Rattle.std.proofs.Common.{◌≡◌, ◌+◌, Bool, true, false, List, [], ◌∷◌, ◌++◌, Some, None, refl, sym, ap, ◌∙◌, arith}
 use Rattle.vx_ast.specs.Syntax.{Program}
-use Rattle.vx_rules.specs.declared.frame.Side.{Side}
-use Rattle.vx_rules.specs.declared.question.Query.{Query}
-use Rattle.vx_rules.specs.declared.conts.Move.TheVariants as move'
+use Rattle.vx_stack.specs.declared.frame.Side.{Side}
+use Rattle.vx_stack.specs.declared.question.Query.{Query}
+use Rattle.vx_stack.specs.declared.conts.Move.TheVariants as move'
 use Rattle.vx_smt_meaning.specs.declared.reply.Reply.{Reply}
 use Rattle.vx_rules.specs.Trees.{Question, Tree, End, Ask, Probe, Walked, walk_then, passed, size}
-use Rattle.vx_rules.specs.Stack.{side_tree, query, Checked, Stepped}
+use Rattle.vx_stack.specs.Stack.{side_tree, query, Checked, Stepped}
 use Rattle.vx_machine.specs.Runs.{without_other, without_last, asking, probing, below, remaining, stack_size, waiting_by, Turned}
 
 pub without_last-push : (sides : List Side) (a : Side) → without_last (sides ++ a ∷ []) ≡ sides

@@ -1,14 +1,14 @@
 -- What a machine has still to do, against the walk through its member's tree.
 use Rattle.std.specs.Prelude.{◌≡◌, ℕ, ◌+◌, ◌<◌, ◌≤◌, ⊤, length, Bool, true, false, List, [], ◌∷◌, ◌++◌, map, Option, Some, None, slice_get}
 use Rattle.vx_ast.specs.Syntax.{Program, Member}
-use Rattle.vx_rules.specs.declared.frame.Next.{Next}
-use Rattle.vx_rules.specs.declared.frame.Next.TheVariants as next'
-use Rattle.vx_rules.specs.declared.frame.Hole.{Hole}
-use Rattle.vx_rules.specs.declared.frame.Hole.TheVariants as hole'
-use Rattle.vx_rules.specs.declared.frame.Frame.{Frame}
-use Rattle.vx_rules.specs.declared.frame.Frame.TheVariants as frame'
-use Rattle.vx_rules.specs.declared.frame.Side.{Side}
-use Rattle.vx_rules.specs.declared.question.Query.{Query}
+use Rattle.vx_stack.specs.declared.frame.Next.{Next}
+use Rattle.vx_stack.specs.declared.frame.Next.TheVariants as next'
+use Rattle.vx_stack.specs.declared.frame.Hole.{Hole}
+use Rattle.vx_stack.specs.declared.frame.Hole.TheVariants as hole'
+use Rattle.vx_stack.specs.declared.frame.Frame.{Frame}
+use Rattle.vx_stack.specs.declared.frame.Frame.TheVariants as frame'
+use Rattle.vx_stack.specs.declared.frame.Side.{Side}
+use Rattle.vx_stack.specs.declared.question.Query.{Query}
 use Rattle.vx_machine.specs.declared.machine.Phase.{Phase}
 use Rattle.vx_machine.specs.declared.machine.Phase.TheVariants as phase'
 use Rattle.vx_machine.specs.declared.machine.Outcome.{Outcome}
@@ -20,7 +20,8 @@ use Rattle.vx_smt_meaning.specs.declared.reply.Reply.{Reply}
 use Rattle.vx_smt_meaning.specs.declared.reply.Reply.TheVariants.{Unsat}
 use Rattle.vx_rules.specs.Trees.{Question, Tree, End, Answered, Walked, Passed, Failed, Open, ends, after_answer, asked, probed, walk, walk_then, passed, size}
 use Rattle.vx_rules.specs.Members.{tree}
-use Rattle.vx_rules.specs.Stack.{side_tree, query, code}
+use Rattle.vx_rules.specs.Codes.{code}
+use Rattle.vx_stack.specs.Stack.{side_tree, query}
 
 -- the tree of a member by its number in the file
 abbrev pub tree_of : Program → Option Member → Tree

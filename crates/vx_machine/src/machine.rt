@@ -10,7 +10,8 @@ use std::alloc::{AllocError, Global};
 use std::mem;
 use vx_ast::resolved::Kind;
 use vx_ast::{MemberId, Place};
-use vx_rules::{Code, Conts, Query, Reply};
+use vx_rules::{Code, Reply};
+use vx_stack::{Conts, Query};
 use vx_types::Settled;
 
 /// Where a machine is.

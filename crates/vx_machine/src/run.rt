@@ -3,8 +3,8 @@
 ghost use Rattle.std.specs.Prelude.{◌≡◌, IfOk, false};
 ghost use Rattle.vx_ast.specs.Resolved.{method};
 ghost use Rattle.vx_rules.specs.Members.{rules, sides};
-ghost use Rattle.vx_rules.specs.Stack.{giving, going, frame_tree, side_tree, Stepped};
-ghost use Rattle.vx_rules.specs.SymStates.{state as state_of};
+ghost use Rattle.vx_stack.specs.Stack.{giving, going, frame_tree, side_tree, Stepped};
+ghost use Rattle.vx_states.specs.SymStates.{state as state_of};
 ghost use Rattle.vx_terms.specs.Views.{term};
 ghost use Rattle.vx_types.specs.Settled.{settled};
 ghost use Rattle.vx_machine.specs.Runs.{is_over, is_finish, is_last, Turned, RunsTo};
@@ -13,7 +13,8 @@ use std::alloc::{AllocError, Global};
 use std::rc::Rc;
 use vx_ast::resolved::Method;
 use vx_exec::Promise;
-use vx_rules::{Conts, Frame, Hole, Move, Next, Query, Side, SymState};
+use vx_stack::{Conts, Frame, Hole, Move, Next, Query, Side};
+use vx_states::SymState;
 use vx_terms::Term;
 use vx_types::Settled;
 

@@ -4,8 +4,8 @@ use Rattle.std.specs.List.{All}
 use Rattle.std.specs.Fmt.{decimal}
 use Rattle.vx_ast.specs.declared.Place.{Place}
 use Rattle.vx_ast.specs.Syntax.{Program, Member, Kind, IsField, IsPredicate, IsFunction, IsMethod}
-use Rattle.vx_rules.specs.declared.question.Code.{Code}
-use Rattle.vx_rules.specs.declared.question.Code.TheVariants as code
+use Rattle.vx_rules.specs.declared.code.Code.{Code}
+use Rattle.vx_rules.specs.declared.code.Code.TheVariants as code
 use Rattle.vx_smt_meaning.specs.declared.reply.Reply.{Reply}
 use Rattle.vx_smt_meaning.specs.declared.reply.Reply.TheVariants as reply
 use Rattle.vx_report.specs.declared.run.Cause.{Cause}

@@ -14,7 +14,7 @@ use Rattle.vx_report.specs.declared.run.Verdict.TheVariants as verdict
 use Rattle.vx_report.specs.declared.run.MemberRun.{MemberRun}
 use Rattle.vx_report.specs.Reports.{is_faulted}
 use Rattle.vx_rules.specs.Trees.{Ending as Ends, Tree, End, Impossible, On, Step, Ask, Probe, Fork, Walked, Failed, Code, walk_then, passed}
-use Rattle.vx_rules.specs.Stack.{code}
+use Rattle.vx_rules.specs.Codes.{code}
 use Rattle.vx_machine.specs.Runs.{member_tree}
 use Rattle.vx_verifier.specs.Sequences.{AllUnsat, replies_to}
 use Rattle.vx_verifier.specs.Causes.{SomeEnding, EachEnding, HasCauseOf, NoCountRose, AllLawful}

@@ -5,10 +5,10 @@ use Rattle.vx_smt_meaning.specs.Dialogues.{Check}
 use Rattle.vx_report.specs.declared.run.Cause.{Cause}
 use Rattle.vx_report.specs.declared.run.Verdict.{Verdict}
 use Rattle.vx_report.specs.declared.run.Verdict.TheVariants as verdict
-use Rattle.vx_rules.specs.declared.question.Query.{Query}
+use Rattle.vx_stack.specs.declared.question.Query.{Query}
 use Rattle.vx_smt_meaning.specs.declared.reply.Reply.{Reply}
 use Rattle.vx_rules.specs.Trees.{Question, Answered, Passed, Open, Ending, Walked, walk}
-use Rattle.vx_rules.specs.Stack.{query}
+use Rattle.vx_stack.specs.Stack.{query}
 use Rattle.vx_machine.specs.declared.machine.Machine.{Machine}
 use Rattle.vx_machine.specs.declared.machine.Ask.TheVariants.{Check as Due, Done}
 use Rattle.vx_machine.specs.declared.machine.Outcome.{Outcome}

@@ -14,7 +14,7 @@ use Rattle.vx_ends.specs.declared.piece.Ending.{Ending}
 use Rattle.vx_dialogue.specs.History.{Tells}
 use Rattle.vx_dialogue.specs.Scripts.{Turn, Asks, Posts, Leaves, script}
 use Rattle.vx_rules.specs.Trees.{Question, Answered, Ending as Ends, Passed, Failed, Open, Walked, walk}
-use Rattle.vx_rules.specs.Stack.{code}
+use Rattle.vx_rules.specs.Codes.{code}
 use Rattle.vx_machine.specs.Runs.{member_tree}
 use Rattle.vx_report.specs.declared.run.Cause.{Cause}
 use Rattle.vx_report.specs.declared.run.Cause.TheVariants as cause

@@ -6,7 +6,7 @@ ghost use Rattle.vx_ends.specs.declared.piece.Ending.{Ending};
 ghost use Rattle.vx_smt_meaning.specs.Dialogues.{Check};
 ghost use Rattle.vx_dialogue.specs.Scripts.{Turn};
 ghost use Rattle.vx_rules.specs.Trees.{Question};
-ghost use Rattle.vx_rules.specs.Stack as rules;
+ghost use Rattle.vx_stack.specs.Stack as rules;
 ghost use Rattle.vx_verifier.specs.Headline.{IsRecorded, left_turn};
 ghost use Rattle.vx_verifier.specs.Steady.{IsSpelled, IsCalmLane};
 ghost use Rattle.vx_verifier.specs.Lanes as spec;
@@ -16,7 +16,8 @@ use std::alloc::Global;
 use vx_dialogue::{Dialogue, Talk};
 use vx_ends::{Parts, Spawner, StartFault};
 use vx_report::Cause;
-use vx_rules::{Query, Reply};
+use vx_rules::Reply;
+use vx_stack::Query;
 
 /// The child of a lane.
 pub enum Child<L> {

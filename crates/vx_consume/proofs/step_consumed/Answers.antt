@@ -1,6 +1,6 @@
 use Rattle.std.proofs.Common.{refl}
 use Rattle.vx_types.specs.Settled.{settled}
-use Rattle.vx_rules.proofs.Steps.{stepped_as}
+use Rattle.vx_stack.proofs.Steps.{stepped_as}
 use Rattle.vx_consume.proofs.step_consumed.Goals as goal
 
 pub returns-in_ok-with-in-Right : goal.returns-in_ok-with-in-Right

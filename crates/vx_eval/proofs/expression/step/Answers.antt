@@ -2,7 +2,7 @@ use Rattle.std.proofs.Common.{◌≡◌, true, false, refl, ap, sym, ◌∙◌, 
 use Rattle.vx_ast.specs.Resolved.{expr}
 use Rattle.vx_types.specs.Settled.{settled}
 use Rattle.vx_rules.specs.Rules.{is_total}
-use Rattle.vx_rules.proofs.Steps.{stepped_as}
+use Rattle.vx_stack.proofs.Steps.{stepped_as}
 use Rattle.vx_eval.proofs.expression.step.Goals as goal
 
 pub returns-in-Operate : goal.returns-in-Operate

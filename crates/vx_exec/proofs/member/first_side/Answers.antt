@@ -5,10 +5,10 @@ use Rattle.vx_ast.specs.Resolved.{assertion, assertions, declaration, method}
 use Rattle.vx_terms.specs.Build.{whole_amount}
 use Rattle.vx_types.specs.Settled.{settled}
 use Rattle.vx_rules.specs.States.{State, declare_all}
-use Rattle.vx_rules.specs.SymStates.{state}
+use Rattle.vx_states.specs.SymStates.{state}
 use Rattle.vx_rules.specs.Members.{blank, rules, sides}
 use Rattle.vx_rules.specs.Rules.{Going, produce}
-use Rattle.vx_rules.specs.Stack.{going}
+use Rattle.vx_stack.specs.Stack.{going}
 use Rattle.vx_exec.proofs.member.first_side.Goals as goal
 
 pub returns : goal.returns

@@ -1,8 +1,8 @@
 use Rattle.std.proofs.Common.{◌≡◌, length, map, refl, sym, ◌∙◌}
 use Rattle.std.proofs.lemmas.List.{length-map}
 use Rattle.vx_types.specs.Settled.{settled}
-use Rattle.vx_rules.specs.SymStates.{binding}
-use Rattle.vx_rules.proofs.Steps.{stepped_as}
+use Rattle.vx_states.specs.SymStates.{binding}
+use Rattle.vx_stack.proofs.Steps.{stepped_as}
 use Rattle.vx_exec.proofs.statement.step.Goals as goal
 
 pub returns-in_ok-clone-in-Assign-2 : goal.returns-in_ok-clone-in-Assign-2

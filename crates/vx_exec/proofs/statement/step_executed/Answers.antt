@@ -1,6 +1,6 @@
 use Rattle.std.proofs.Common.{refl}
 use Rattle.vx_types.specs.Settled.{settled}
-use Rattle.vx_rules.proofs.Steps.{stepped_as}
+use Rattle.vx_stack.proofs.Steps.{stepped_as}
 use Rattle.vx_exec.proofs.statement.step_executed.Goals as goal
 
 pub returns-in_ok-right-in-If : goal.returns-in_ok-right-in-If

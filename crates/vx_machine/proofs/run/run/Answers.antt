@@ -1,6 +1,6 @@
 use Rattle.std.proofs.Common.{◌≡◌, ◌<◌, ◌+◌, ◌∙◌}
 use Rattle.vx_types.specs.Settled.{settled}
-use Rattle.vx_rules.specs.Stack.{side_tree}
+use Rattle.vx_stack.specs.Stack.{side_tree}
 use Rattle.vx_rules.specs.Trees.{size}
 use Rattle.vx_machine.specs.Runs.{stack_size}
 use Rattle.vx_machine.proofs.Walks.{popped, popped_size}

@@ -2,9 +2,9 @@ use Rattle.std.proofs.Common.{refl, ap, sym, ◌∙◌}
 use Rattle.vx_ast.specs.Resolved.{method}
 use Rattle.vx_types.specs.Settled.{settled}
 use Rattle.vx_rules.specs.Members.{rules, sides}
-use Rattle.vx_rules.specs.Stack.{going}
-use Rattle.vx_rules.specs.SymStates.{state}
-use Rattle.vx_rules.proofs.Steps.{stepped_as}
+use Rattle.vx_stack.specs.Stack.{going}
+use Rattle.vx_states.specs.SymStates.{state}
+use Rattle.vx_stack.proofs.Steps.{stepped_as}
 use Rattle.vx_machine.proofs.run.step_next.Goals as goal
 
 pub returns-in-Inner : goal.returns-in-Inner

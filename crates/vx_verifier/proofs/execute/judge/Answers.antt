@@ -2,7 +2,7 @@ use Rattle.std.proofs.Common.{◌<◌, ◌++◌, [], length, true, refl, ap, ◌
 use Rattle.std.proofs.lemmas.Result.{IfOk-weaker}
 use Rattle.vx_types.specs.Settled.{settled}
 use Rattle.vx_verifier.specs.Headline.{IsRecorded}
-use Rattle.vx_rules.specs.Stack.{query}
+use Rattle.vx_stack.specs.Stack.{query}
 use Rattle.vx_verifier.specs.Lanes.{IsDue, tried_turn, turns_so_far, is_lost, is_started}
 use Rattle.vx_verifier.proofs.Children.{caused_earlier, lost_hears, lost_started, gone_by, faulted_by, match_ok_at, if_ok_at, if_err_at}
 use Rattle.vx_verifier.proofs.Questions.{none_asked, no_turns, hears_none, at_done, at_fault, goes_on, still_running, one_longer, asked_by, started_done, started_fault, due_spelled}

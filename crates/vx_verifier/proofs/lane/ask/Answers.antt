@@ -1,6 +1,6 @@
 use Rattle.std.proofs.Common.{◌≡◌, ◌≤◌, ◌++◌, true, false, ap, sym, subst, arith}
 use Rattle.std.proofs.lemmas.Result.{IfOk-weaker}
-use Rattle.vx_rules.specs.Stack.{query}
+use Rattle.vx_stack.specs.Stack.{query}
 use Rattle.vx_verifier.specs.Headline.{IsRecorded}
 use Rattle.vx_verifier.specs.Lanes.{is_lost, tried_turn}
 use Rattle.vx_verifier.proofs.Children.{at_child, spent_lost, if_err_map, caused_earlier}

@@ -2,7 +2,7 @@ use Rattle.std.proofs.Common.{◌≡◌, ◌<◌, ◌++◌, ◌∷◌, [], false
 use Rattle.vx_ends.specs.declared.piece.Ending.{Ending}
 use Rattle.vx_dialogue.specs.declared.talk.Talk.TheVariants as talk
 use Rattle.vx_dialogue.specs.Dialogue.{shared}
-use Rattle.vx_rules.specs.Stack.{query}
+use Rattle.vx_stack.specs.Stack.{query}
 use Rattle.vx_dialogue.specs.Scripts.{Posts, script}
 use Rattle.vx_dialogue.specs.History.{Breaks}
 use Rattle.vx_verifier.specs.Lanes.{Loses}

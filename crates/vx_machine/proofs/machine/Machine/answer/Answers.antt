@@ -1,6 +1,6 @@
 use Rattle.std.proofs.Common.{◌≡◌, List, true, cond, ap, sym, ◌∙◌}
 use Rattle.vx_types.specs.Settled.{settled}
-use Rattle.vx_rules.specs.declared.frame.Side.{Side}
+use Rattle.vx_stack.specs.declared.frame.Side.{Side}
 use Rattle.vx_rules.specs.Trees.{Tree}
 use Rattle.vx_machine.specs.declared.machine.Phase.TheVariants as phase'
 use Rattle.vx_machine.specs.Runs.{given, member_tree, is_unsat, without_other, without_last}

@@ -1,9 +1,9 @@
 use Rattle.std.proofs.Common.{◌≡◌, length, List, refl, ap, ◌∙◌, arith}
 use Rattle.vx_types.specs.Settled.{settled}
-use Rattle.vx_rules.specs.declared.frame.Side.{Side}
+use Rattle.vx_stack.specs.declared.frame.Side.{Side}
 use Rattle.vx_smt_meaning.specs.declared.reply.Reply.{Reply}
 use Rattle.vx_rules.specs.Trees.{Tree, Open}
-use Rattle.vx_rules.specs.Stack.{query}
+use Rattle.vx_stack.specs.Stack.{query}
 use Rattle.vx_machine.specs.declared.machine.Phase.TheVariants as phase'
 use Rattle.vx_machine.specs.Runs.{given, member_tree}
 use Rattle.vx_machine.proofs.Follow.{at_end, at_question, at_limit, ending_now, answered_now, waiting_ends}

@@ -1,8 +1,8 @@
 use Rattle.std.proofs.Common.{◌≡◌, length, List, refl, sym, ap, ◌∙◌}
 use Rattle.vx_types.specs.Settled.{settled}
-use Rattle.vx_rules.specs.declared.frame.Side.{Side}
+use Rattle.vx_stack.specs.declared.frame.Side.{Side}
 use Rattle.vx_rules.specs.Trees.{Tree}
-use Rattle.vx_rules.specs.Stack.{query}
+use Rattle.vx_stack.specs.Stack.{query}
 use Rattle.vx_machine.specs.declared.machine.Phase.{Phase}
 use Rattle.vx_machine.specs.declared.machine.Phase.TheVariants as phase'
 use Rattle.vx_machine.specs.Runs.{given, member_tree}

@@ -1,0 +1,60 @@
+-- The rules Ask, Probe and Fork by their cases.
+use Rattle.std.proofs.Common.{◌≡◌, Bool, cond, true, false, ◌||◌, refl, sym, ap, ◌∙◌, subst, List, [], ◌∷◌, ◌++◌, Result, IfOk}
+use Rattle.std.proofs.lemmas.Result.{IfOk-weaker}
+use Rattle.vx_ast.specs.declared.Place.{Place}
+use Rattle.vx_ast.specs.Syntax.{Program}
+use Rattle.vx_stack.specs.declared.frame.Side.{Side}
+use Rattle.vx_stack.specs.declared.question.Query.{Query}
+use Rattle.vx_stack.specs.declared.conts.Move.{Move}
+use Rattle.vx_stack.specs.declared.conts.Move.TheVariants as move'
+use Rattle.vx_terms.specs.Terms.{Term, same}
+use Rattle.vx_terms.specs.Build.{true_term, false_term, negate}
+use Rattle.vx_rules.specs.States.{State, is_quiet, is_known, with_fact, with_branch}
+use Rattle.vx_rules.specs.Trees.{Code, Question, Tree, Impossible, Ask, Probe, Fork}
+use Rattle.vx_rules.specs.Rules.{Going, question, ask, probe, fork}
+use Rattle.vx_stack.specs.Stack.{side_tree, query, Checked, Stepped}
+
+pub fork_both : (c d : Term) (s s1 s2 : State) (left right : Going) → is_known c s ≡ false → d ≡ negate c → is_known d s ≡ false → s1 ≡ with_branch c s → s2 ≡ with_branch d s → fork c s left right ≡ Fork (left s1) (right s2)
+fork_both c d s s1 s2 left right e n f h k =
+    let f' : is_known (negate c) s ≡ false = subst (λ x. is_known x s ≡ false) n f in
+    let k' : s2 ≡ with_branch (negate c) s = subst (λ x. s2 ≡ with_branch x s) n k in
+    rw (e, f') (ap (λ x. Fork (left x) (right (with_branch (negate c) s))) (sym h) ∙ ap (λ x. Fork (left s1) (right x)) (sym k'))
+
+if_false : {A : Type 0} (b : Bool) (x y : A) → b ≡ false → cond b x y ≡ y
+if_false b x y e = rw e refl
+
+if_true : {A : Type 0} (b : Bool) (x y : A) → b ≡ true → cond b x y ≡ x
+if_true b x y e = rw e refl
+
+neither : (a b : Bool) → a ≡ false → b ≡ false → (a || b) ≡ false
+neither a b e f = rw (e, f) refl
+
+pub ask_fact : (c : Term) (at : Place) (code : Code) (s s1 : State) (on : Going) (q : Question) → is_quiet s ≡ false → same c true_term ≡ false → same c false_term ≡ false → s1 ≡ with_fact c s → q ≡ question false c at code s → ask c at code s on ≡ Ask q (on s1)
+ask_fact c at code s s1 on q l e f h i =
+    if_false (same c true_term || is_quiet s) _ _ (neither _ _ e l) ∙ ap (Ask (question false c at code s)) (if_false (same c false_term) (Impossible s) (on (with_fact c s)) f)
+    ∙ ap (λ x. Ask x (on (with_fact c s))) (sym i) ∙ ap (λ x. Ask q (on x)) (sym h)
+
+pub ask_false : (c : Term) (at : Place) (code : Code) (s : State) (on : Going) (q : Question) → is_quiet s ≡ false → same c true_term ≡ false → same c false_term ≡ true → q ≡ question false c at code s → ask c at code s on ≡ Ask q (Impossible s)
+ask_false c at code s on q l e f i =
+    if_false (same c true_term || is_quiet s) _ _ (neither _ _ e l) ∙ ap (Ask (question false c at code s)) (if_true (same c false_term) (Impossible s) (on (with_fact c s)) f)
+    ∙ ap (λ x. Ask x (Impossible s)) (sym i)
+
+pub probe_other : (c : Term) (at : Place) (code : Code) (s : State) (a b : Tree) (q : Question) → is_quiet s ≡ false → same c true_term ≡ false → same c false_term ≡ false → q ≡ question true c at code s → probe c at code s a b ≡ Probe q a b
+probe_other c at code s a b q l e f i =
+    if_false (same c true_term) _ _ e ∙ if_false (is_quiet s) _ _ l ∙ ap (λ x. Probe (question true c at code s) x b) (if_false (same c false_term) (Impossible s) a f)
+    ∙ ap (λ x. Probe x a b) (sym i)
+
+pub probe_false : (c : Term) (at : Place) (code : Code) (s : State) (a b : Tree) (q : Question) → is_quiet s ≡ false → same c true_term ≡ false → same c false_term ≡ true → q ≡ question true c at code s → probe c at code s a b ≡ Probe q (Impossible s) b
+probe_false c at code s a b q l e f i =
+    if_false (same c true_term) _ _ e ∙ if_false (is_quiet s) _ _ l ∙ ap (λ x. Probe (question true c at code s) x b) (if_true (same c false_term) (Impossible s) a f)
+    ∙ ap (λ x. Probe x (Impossible s) b) (sym i)
+
+pub checked_ask : (p : Program) (q : Query) (t : Tree) (old new : List Side) (a : Side) → q.probe ≡ false → new ≡ old ++ a ∷ [] → t ≡ Ask (query q) (side_tree p a) → Stepped p t old (move'.Check q) new
+checked_ask p q t old new a e n h = subst (λ b. Checked p b t old (query q) new) (sym e) (a, n, h)
+
+pub checked_probe : (p : Program) (q : Query) (t : Tree) (old new : List Side) (a b : Side) → q.probe ≡ true → new ≡ old ++ b ∷ a ∷ [] → t ≡ Probe (query q) (side_tree p a) (side_tree p b) → Stepped p t old (move'.Check q) new
+checked_probe p q t old new a b e n h = subst (λ x. Checked p x t old (query q) new) (sym e) (a, b, n, h)
+
+-- a step from a tree is one from an equal tree
+pub stepped_as : {E : Type 0} (p : Program) (r : Result Move E) (t u : Tree) (old new : List Side) → t ≡ u → IfOk r (λ m. Stepped p u old m new) → IfOk r (λ m. Stepped p t old m new)
+stepped_as p r t u old new e h = IfOk-weaker r (λ m. Stepped p u old m new) (λ m. Stepped p t old m new) (λ m. subst (λ x. Stepped p x old m new) (sym e)) h

@@ -1,0 +1,242 @@
+//! The stack of sides, and the steps that the rules are made of.
+
+ghost use Rattle.std.specs.Prelude.{◌≡◌, ◌++◌, ◌∷◌, [], IfOk, map};
+ghost use Rattle.vx_ast.specs.Resolved.{expr};
+ghost use Rattle.vx_ast.specs.Syntax.{Program};
+ghost use Rattle.vx_rules.specs.Members.{rules};
+ghost use Rattle.vx_rules.specs.Rules as rule;
+ghost use Rattle.vx_rules.specs.Codes.{code as code_of};
+ghost use Rattle.vx_stack.specs.Stack.{going, giving, frame_tree, side_tree, Stepped};
+ghost use Rattle.vx_states.specs.SymStates.{state as state_of};
+ghost use Rattle.vx_rules.specs.Trees as tree;
+ghost use Rattle.vx_terms.specs.Views.{term};
+ghost use Rattle.vx_types.specs.Settled.{settled};
+
+use crate::{Frame, Hole, Next, Query, Side};
+use std::alloc::{AllocError, Global};
+use std::rc::Rc;
+use vx_ast::Place;
+use vx_ast::resolved::Expr;
+use vx_rules::Code;
+use vx_states::SymState;
+use vx_terms::{Term, make};
+use vx_types::Settled;
+
+/// The sides that are still to be walked, the next one last.
+#[derive(Drop)]
+pub struct Conts {
+    pub sides: Vec<Side>,
+}
+
+/// What a step came to. Of a probe that is checked both candidates wait, the one where it is refuted on top.
+#[derive(Drop)]
+pub enum Move {
+    Go,
+    Fork,
+    Check(Query),
+}
+
+/// The question of a condition in a state.
+fn question(
+    condition: &Rc<Term>,
+    place: Place,
+    code: Code,
+    probe: bool,
+    state: &SymState,
+) -> Result<Query, AllocError>
+    ensures question { IfOk result (λ q. Rattle.vx_stack.specs.Stack.query q ≡ rule.question probe (term condition.now.value) place (code_of code) (state_of state.now)) }
+    ensures probe { IfOk result (λ q. q.probe ≡ probe) }
+{
+    Ok(Query {
+        place,
+        code,
+        path: state.path.path.copy()?,
+        condition: condition.clone()?,
+        probe,
+    })
+}
+
+impl Conts {
+    pub fn new(alloc: Global) -> Conts
+        ensures { result.sides.items ≡ [] }
+    {
+        Conts {
+            sides: Vec::new(alloc),
+        }
+    }
+
+    /// The same stack once more.
+    pub fn copy(&self, alloc: Global) -> Result<Conts, AllocError>
+        ensures { IfOk result (λ copy. (p : Program) → map (side_tree p) copy.sides.items ≡ map (side_tree p) self.now.sides.items) }
+    {
+        let mut sides = Vec::new(alloc);
+        for side in &self.sides {
+            sides.push(side.copy(alloc)?)?;
+        }
+        Ok(Conts { sides })
+    }
+
+    pub fn push(&mut self, frame: Frame, state: SymState) -> Result<(), AllocError>
+        ensures { IfOk result (λ _. self.new.sides.items ≡ self.old.sides.items ++ record { frame = frame; state = state } ∷ []) }
+    {
+        self.sides.push(Side { frame, state })?;
+        Ok(())
+    }
+
+    /// On with this frame.
+    pub fn go(
+        &mut self,
+        program: &Settled,
+        frame: Frame,
+        state: SymState,
+    ) -> Result<Move, AllocError>
+        ensures { IfOk result (λ m. Stepped (settled program.now) (tree.Step (frame_tree (settled program.now) frame (state_of state))) self.old.sides.items m self.new.sides.items) }
+    {
+        let _program = program;
+        self.push(frame, state)?;
+        Ok(Move::Go)
+    }
+
+    /// On with the value of an expression.
+    pub fn eval(
+        &mut self,
+        alloc: Global,
+        program: &Settled,
+        e: &Rc<Expr>,
+        hole: Hole,
+        state: SymState,
+    ) -> Result<Move, AllocError>
+        ensures { IfOk result (λ m. Stepped (settled program.now) (tree.Step (rule.eval (settled program.now) (rules (settled program.now)) (expr e.now.value) (state_of state) (giving (settled program.now) hole))) self.old.sides.items m self.new.sides.items) }
+    {
+        let hole = Rc::new(alloc, hole)?;
+        self.go(program, Frame::Eval(e.clone()?, hole), state)
+    }
+
+    /// On with a value.
+    pub fn give(
+        &mut self,
+        program: &Settled,
+        value: Rc<Term>,
+        hole: &Rc<Hole>,
+        state: SymState,
+    ) -> Result<Move, AllocError>
+        ensures { IfOk result (λ m. Stepped (settled program.now) (tree.Step (giving (settled program.now) hole.now.value (term value.value) (state_of state))) self.old.sides.items m self.new.sides.items) }
+    {
+        self.go(program, Frame::Give(value, hole.clone()?), state)
+    }
+
+    /// On with what waits for a state.
+    pub fn next(
+        &mut self,
+        alloc: Global,
+        program: &Settled,
+        next: Next,
+        state: SymState,
+    ) -> Result<Move, AllocError>
+        ensures { IfOk result (λ m. Stepped (settled program.now) (tree.Step (going (settled program.now) next (state_of state))) self.old.sides.items m self.new.sides.items) }
+    {
+        let next = Rc::new(alloc, next)?;
+        self.go(program, Frame::Go(next), state)
+    }
+
+    /// Ask: on with this frame where the condition holds.
+    pub fn ask(
+        &mut self,
+        alloc: Global,
+        program: &Settled,
+        condition: Rc<Term>,
+        place: Place,
+        code: Code,
+        state: SymState,
+        frame: Frame,
+    ) -> Result<Move, AllocError>
+        ensures { IfOk result (λ m. Stepped (settled program.now) (rule.ask (term condition.value) place (code_of code) (state_of state) (frame_tree (settled program.now) frame)) self.old.sides.items m self.new.sides.items) }
+    {
+        if condition.is_same(&Term::Truth(true)) {
+            return self.go(program, frame, state);
+        }
+        let query = question(&condition, place, code, false, &state)?;
+        if condition.is_same(&Term::Truth(false)) {
+            let impossible = Rc::new(alloc, Next::Impossible)?;
+            self.push(Frame::Go(impossible), state)?;
+            return Ok(Move::Check(query));
+        }
+        let mut state = state;
+        state.add_fact(alloc, condition)?;
+        self.push(frame, state)?;
+        Ok(Move::Check(query))
+    }
+
+    /// Probe: on with one side where the condition is refuted, with the other where it isn't. It is asked in the
+    /// other side's state.
+    pub fn probe(
+        &mut self,
+        alloc: Global,
+        program: &Settled,
+        condition: &Rc<Term>,
+        place: Place,
+        code: Code,
+        refuted: Side,
+        otherwise: Side,
+    ) -> Result<Move, AllocError>
+        ensures { IfOk result (λ m. Stepped (settled program.now) (rule.probe (term condition.now.value) place (code_of code) (state_of otherwise.state) (side_tree (settled program.now) refuted) (side_tree (settled program.now) otherwise)) self.old.sides.items m self.new.sides.items) }
+    {
+        if condition.is_same(&Term::Truth(true)) {
+            return self.go(program, refuted.frame, refuted.state);
+        }
+        let query = question(condition, place, code, true, &otherwise.state)?;
+        if condition.is_same(&Term::Truth(false)) {
+            let state = otherwise.state.copy(alloc)?;
+            let impossible = Rc::new(alloc, Next::Impossible)?;
+            self.sides.push(otherwise)?;
+            self.push(Frame::Go(impossible), state)?;
+            return Ok(Move::Check(query));
+        }
+        self.sides.push(otherwise)?;
+        self.sides.push(refuted)?;
+        Ok(Move::Check(query))
+    }
+
+    /// Fork: on with one frame where the condition holds, with the other where it doesn't.
+    pub fn fork(
+        &mut self,
+        alloc: Global,
+        program: &Settled,
+        condition: Rc<Term>,
+        state: SymState,
+        left: Frame,
+        right: Frame,
+    ) -> Result<Move, AllocError>
+        ensures { IfOk result (λ m. Stepped (settled program.now) (rule.fork (term condition.value) (state_of state) (frame_tree (settled program.now) left) (frame_tree (settled program.now) right)) self.old.sides.items m self.new.sides.items) }
+    {
+        if state.is_known(&condition) {
+            return self.go(program, left, state);
+        }
+        let negated = make::not(alloc, &condition)?;
+        if state.is_known(&negated) {
+            return self.go(program, right, state);
+        }
+        let mut first = state.copy(alloc)?;
+        let mut second = state;
+        first.add_branch(alloc, condition)?;
+        second.add_branch(alloc, negated)?;
+        self.both(program, left, first, right, second)
+    }
+
+    /// Two sides, the first one first.
+    pub fn both(
+        &mut self,
+        program: &Settled,
+        left: Frame,
+        first: SymState,
+        right: Frame,
+        second: SymState,
+    ) -> Result<Move, AllocError>
+        ensures { IfOk result (λ m. Stepped (settled program.now) (tree.Fork (frame_tree (settled program.now) left (state_of first)) (frame_tree (settled program.now) right (state_of second))) self.old.sides.items m self.new.sides.items) }
+    {
+        let _program = program;
+        self.push(right, second)?;
+        self.push(left, first)?;
+        Ok(Move::Fork)
+    }
+}

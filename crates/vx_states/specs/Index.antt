@@ -1,0 +1,34 @@
+-- Which terms stand in an index.
+use Rattle.std.specs.Prelude.{◌≡◌, ℕ, zero, suc, ◌/◌, ◌%◌, Bool, true, false, List, ◌&&◌, ◌||◌, if◌then◌else◌, nat_eq}
+use Rattle.vx_terms.specs.Terms.{Term, same, same_bool}
+use Rattle.vx_terms.specs.Views.{term}
+use Rattle.vx_rules.specs.States.{Entry, in_path}
+use Rattle.vx_states.specs.Keys.{key_of}
+use Rattle.vx_states.specs.declared.index.Index.{Index}
+use Rattle.vx_states.specs.declared.index.Index.TheVariants as index'
+
+abbrev pub is_even : ℕ → Bool
+is_even k = nat_eq (k % 2) 0
+
+-- a term stands in it under a key
+abbrev pub finds : Index → ℕ → Term → Bool
+finds index'.Nothing k t = false
+finds (index'.Holds' u q more) k t = same t (term u.value) || finds more k t
+finds (index'.Branch' p even q odd) k t = if is_even k then finds even (k / 2) t else finds odd (k / 2) t
+
+-- two keys have so many of their lowest bits in common
+abbrev pub meets : ℕ → ℕ → ℕ → Bool
+meets zero j k = true
+meets (suc n) j k = same_bool (is_even j) (is_even k) && meets n (j / 2) (k / 2)
+
+-- the same terms stand in both
+abbrev pub IsAlike : Index → Index → Type 0
+IsAlike a b = (k : ℕ) (u : Term) → finds a k u ≡ finds b k u
+
+-- one term more stands in the new one, under the keys that have so many bits in common with its own
+abbrev pub IsExtended : (old new : Index) (bits key : ℕ) (t : Term) → Type 0
+IsExtended old new bits key t = (k : ℕ) (u : Term) → finds new k u ≡ (finds old k u || (meets bits key k && same u t))
+
+-- what the path holds is found in the index by its key, and nothing else
+abbrev pub IsIndexed : List Entry → Index → Type 0
+IsIndexed es i = (u : Term) → finds i (key_of u 3) u ≡ in_path u es

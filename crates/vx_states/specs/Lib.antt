@@ -1,0 +1,4 @@
+pub mod Paths
+pub mod SymStates
+pub mod Keys
+pub mod Index
