@@ -35,8 +35,12 @@ chunk c = record {
   inner = c.is_inner;
 }
 
+-- a chunk that heaps and candidates share
+abbrev pub shared : Rc Chunk' Global → Chunk
+shared c = chunk c.value
+
 abbrev pub heap : SymHeap → Heap
-heap h = map chunk h.chunks.items
+heap h = map shared h.chunks.items
 
 -- a chunk of no amount, by which others are looked for: a field's key, or an instance's
 abbrev pub key : Resource → List (Rc Term' Global) → Chunk

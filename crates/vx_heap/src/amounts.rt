@@ -28,7 +28,7 @@ fn zero(alloc: Global) -> Result<Rc<Term>, AllocError>
 
 /// All of a location or instance.
 #[tactic(auto, unfolding(vx_frac::specs::Fractions::lowest))]
-fn whole(alloc: Global) -> Result<Rc<Term>, AllocError>
+pub fn whole(alloc: Global) -> Result<Rc<Term>, AllocError>
     ensures { IfOk result (λ t. term t.value ≡ whole_amount) }
 {
     make::real(alloc, Frac::new(1, 1))

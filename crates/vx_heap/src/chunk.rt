@@ -5,6 +5,7 @@ ghost use Rattle.vx_ast.specs.Syntax.{same_name};
 ghost use Rattle.vx_heap.specs.Views.{chunk as chunk_view, is_field, key, name, terms_of};
 ghost use Rattle.vx_rules.specs.Chunks.{is_kin, same_arguments};
 ghost use Rattle.vx_terms.specs.Terms.{same_bool};
+ghost use Rattle.vx_terms.specs.Views.{term};
 
 use std::alloc::{AllocError, Global};
 use std::rc::Rc;
@@ -107,5 +108,14 @@ impl Chunk {
             is_root: self.is_root,
             is_inner: self.is_inner,
         })
+    }
+
+    /// The same chunk with another amount.
+    pub fn with_amount(&self, alloc: Global, amount: Rc<Term>) -> Result<Chunk, AllocError>
+        ensures { IfOk result (λ other. chunk_view other ≡ record (chunk_view self.now) { amount = term amount.value }) }
+    {
+        let mut other = self.copy(alloc)?;
+        other.amount = amount;
+        Ok(other)
     }
 }

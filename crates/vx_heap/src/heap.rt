@@ -10,10 +10,10 @@ use std::alloc::{AllocError, Global};
 use std::rc::Rc;
 use vx_terms::Term;
 
-/// The chunks of a heap, in order.
+/// The chunks of a heap, in order, which its copies share.
 #[derive(Drop)]
 pub struct SymHeap {
-    pub(crate) chunks: Vec<Chunk>,
+    pub(crate) chunks: Vec<Rc<Chunk>>,
 }
 
 impl SymHeap {
@@ -48,6 +48,14 @@ impl SymHeap {
         &self.chunks[at]
     }
 
+    /// The chunk of a number, to be held.
+    pub fn share(&self, at: usize) -> Result<Rc<Chunk>, AllocError>
+        requires { at < length (heap self.now) }
+        ensures { IfOk result (λ c. slice_get (heap self.now) at ≡ Some (chunk_view c.value)) }
+    {
+        self.chunks[at].clone()
+    }
+
     /// The number of the first chunk of a resource with identical arguments.
     pub fn find(&self, resource: &Resource, arguments: &[Rc<Term>]) -> Option<usize>
         ensures { IsFirst result (heap self.now) (chosen true (key resource.now arguments.now) 0 (heap self.now)) }
@@ -61,17 +69,17 @@ impl SymHeap {
     }
 
     /// Removes a chunk; the later ones move up.
-    pub fn take(&mut self, at: usize) -> Chunk
+    pub fn take(&mut self, at: usize) -> Rc<Chunk>
         requires { at < length (heap self.old) }
-        ensures chunk { slice_get (heap self.old) at ≡ Some (chunk_view result) }
+        ensures chunk { slice_get (heap self.old) at ≡ Some (chunk_view result.value) }
         ensures rest { heap self.new ≡ without at (heap self.old) }
     {
         self.chunks.remove(at)
     }
 
     /// Adds a chunk at the end.
-    pub fn push(&mut self, chunk: Chunk) -> Result<(), AllocError>
-        ensures ok { OnOk result (heap self.new ≡ heap self.old ++ chunk_view chunk ∷ []) }
+    pub fn push(&mut self, chunk: Rc<Chunk>) -> Result<(), AllocError>
+        ensures ok { OnOk result (heap self.new ≡ heap self.old ++ chunk_view chunk.value ∷ []) }
         ensures err { OnErr result (heap self.new ≡ heap self.old) }
     {
         self.chunks.push(chunk)?;
@@ -79,20 +87,20 @@ impl SymHeap {
     }
 
     /// Another chunk in the place of one.
-    pub fn replace(&mut self, at: usize, chunk: Chunk)
+    pub fn replace(&mut self, at: usize, chunk: Rc<Chunk>)
         requires { at < length (heap self.old) }
-        ensures { heap self.new ≡ slice_set (heap self.old) at (chunk_view chunk) }
+        ensures { heap self.new ≡ slice_set (heap self.old) at (chunk_view chunk.value) }
     {
         self.chunks[at] = chunk;
     }
 
-    /// The same heap once more, over shared terms.
+    /// The same heap once more, over shared chunks.
     pub fn copy(&self, alloc: Global) -> Result<SymHeap, AllocError>
         ensures { IfOk result (λ copy. heap copy ≡ heap self.now) }
     {
         let mut chunks = Vec::new(alloc);
         for chunk in &self.chunks {
-            chunks.push(chunk.copy(alloc)?)?;
+            chunks.push(chunk.clone()?)?;
         }
         Ok(SymHeap { chunks })
     }

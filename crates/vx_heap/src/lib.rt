@@ -9,6 +9,7 @@ mod facts;
 mod heap;
 mod put;
 
+pub use amounts::whole;
 pub use chunk::{Chunk, Resource};
 pub use conditions::{equal_arguments, holds_amount, holds_some};
 pub use facts::merged;

@@ -60,7 +60,7 @@ impl SymHeap {
         ensures err { OnErr result (heap self.new ≡ heap self.old) }
     {
         let facts = beside(alloc, bounded, &new, self)?;
-        self.push(new)?;
+        self.push(Rc::new(alloc, new)?)?;
         Ok(facts)
     }
 
@@ -79,7 +79,7 @@ impl SymHeap {
         let old = self.chunk(at);
         let whole = merged(alloc, &new, old)?;
         let facts = merging(alloc, bounded, &new, old, &whole, self)?;
-        self.replace(at, whole);
+        self.replace(at, Rc::new(alloc, whole)?);
         Ok(facts)
     }
 
@@ -103,11 +103,14 @@ impl SymHeap {
     }
 
     /// A chunk's amount becomes another.
-    fn set_amount(&mut self, at: usize, amount: Rc<Term>)
+    fn set_amount(&mut self, alloc: Global, at: usize, amount: Rc<Term>) -> Result<(), AllocError>
         requires { at < length (heap self.old) }
-        ensures { IfSome (slice_get (heap self.old) at) (λ c. heap self.new ≡ slice_set (heap self.old) at (record c { amount = term amount.value })) }
+        ensures ok { OnOk result (IfSome (slice_get (heap self.old) at) (λ c. heap self.new ≡ slice_set (heap self.old) at (record c { amount = term amount.value }))) }
+        ensures err { OnErr result (heap self.new ≡ heap self.old) }
     {
-        self.chunks[at].amount = amount;
+        let chunk = self.chunk(at).with_amount(alloc, amount)?;
+        self.replace(at, Rc::new(alloc, chunk)?);
+        Ok(())
     }
 
     /// Takes an amount from a chunk, which is gone where nothing is literally left.
@@ -121,7 +124,7 @@ impl SymHeap {
             let _gone = self.take(at);
             return Ok(());
         }
-        self.set_amount(at, rest);
+        self.set_amount(alloc, at, rest)?;
         Ok(())
     }
 }
