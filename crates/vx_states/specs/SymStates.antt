@@ -1,28 +1,40 @@
--- What the symbolic states of src/ stand for. They have no heap yet.
-use Rattle.std.specs.Prelude.{ℕ, suc, true, false, [], ◌∷◌, Option, Some, None, option_map, if◌then◌else◌, map, string_bytes}
+-- What the symbolic states of src/ stand for.
+use Rattle.std.specs.Prelude.{ℕ, suc, [], ◌∷◌, Option, Some, None, option_map, if◌then◌else◌, map, string_bytes}
+use Rattle.std.specs.declared.alloc.Global.{Global}
+use Rattle.std.specs.declared.rc.Rc.{Rc}
 use Rattle.vx_states.specs.declared.state.Binding.{Binding}
+use Rattle.vx_states.specs.declared.state.Own.{Own as Own'}
 use Rattle.vx_states.specs.declared.state.SymState.{SymState}
 use Rattle.vx_ast.specs.Syntax.{Name, same_name}
+use Rattle.vx_terms.specs.declared.term.Term.{Term as Term'}
 use Rattle.vx_terms.specs.Terms.{Term}
 use Rattle.vx_terms.specs.Views.{term}
-use Rattle.vx_rules.specs.States.{Store, State}
+use Rattle.vx_heap.specs.Views.{heap}
+use Rattle.vx_rules.specs.States.{Own, Store, State}
 use Rattle.vx_states.specs.Paths.{entries}
 
 abbrev pub binding : Binding → Name × Term
 binding b = (string_bytes b.name.value, term b.value.value)
 
+-- a term, where there is one
+abbrev pub optional_term : Option (Rc Term' Global) → Option Term
+optional_term o = option_map (λ t. term t.value) o
+
+abbrev pub own : Own' → Own
+own o = record { function = string_bytes o.function.value; measure = optional_term o.measure }
+
 abbrev pub state : SymState → State
 state s = record {
   store = map binding s.store.items;
-  heap = [];
-  old = [];
+  heap = heap s.heap.value;
+  old = heap s.old_heap.value;
   path = entries s.path.path;
   next = s.next;
-  level = 0;
-  bounded = true;
-  inner = false;
-  own = None;
-  at = None;
+  level = s.level;
+  bounded = s.is_bounded;
+  inner = s.is_inner;
+  own = option_map own s.own;
+  at = s.at;
 }
 
 -- where a variable stands in a store

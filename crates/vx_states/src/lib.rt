@@ -5,8 +5,10 @@ mod index;
 mod indexed;
 mod key;
 mod path;
+mod snapshots;
 mod state;
 
 pub use indexed::IndexedPath;
 pub use path::Path;
-pub use state::{Binding, SymState, sort_of_value};
+pub use snapshots::{left_part, right_part};
+pub use state::{Binding, Own, SymState, copy_optional, sort_of_value};

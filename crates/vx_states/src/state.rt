@@ -1,20 +1,23 @@
 //! Symbolic states.
 
-ghost use Rattle.std.specs.Prelude.{◌≡◌, IfOk, map, string_bytes};
+ghost use Rattle.std.specs.Prelude.{◌≡◌, IfOk, [], map, option_map, string_bytes};
 ghost use Rattle.vx_ast.specs.Resolved.{declaration};
 ghost use Rattle.vx_ast.specs.Syntax.{same_name};
+ghost use Rattle.vx_heap.specs.Views.{heap};
 ghost use Rattle.vx_rules.specs.Members.{blank};
+ghost use Rattle.vx_rules.specs.Rules as rules;
 ghost use Rattle.vx_rules.specs.States as states;
 ghost use Rattle.vx_rules.specs.States.{sort_of_type};
-ghost use Rattle.vx_states.specs.SymStates.{binding, state, place_in};
+ghost use Rattle.vx_states.specs.SymStates.{binding, optional_term, own, state, place_in};
 ghost use Rattle.vx_terms.specs.Views.{sort, term};
 
 use crate::IndexedPath;
 use std::alloc::{AllocError, Global};
 use std::mem;
 use std::rc::Rc;
-use vx_ast::ValueType;
 use vx_ast::resolved::Declaration;
+use vx_ast::{Place, ValueType};
+use vx_heap::SymHeap;
 use vx_terms::{Sort, Term, make, numbers};
 
 /// A variable with its value.
@@ -24,13 +27,32 @@ pub struct Binding {
     pub value: Rc<Term>,
 }
 
-/// A symbolic state: the variables in the order of their declarations, the path from its oldest entry on, and the
-/// number of the next symbol.
+/// What the applications of a function's own group are measured against.
+#[derive(Drop)]
+pub struct Own {
+    pub function: Rc<String>,
+    pub measure: Option<Rc<Term>>,
+}
+
+/// A symbolic state: the variables in the order of their declarations, the heaps, which its copies share, the path from
+/// its oldest entry on, and the number of the next symbol.
 #[derive(Drop)]
 pub struct SymState {
     pub store: Vec<Binding>,
+    pub heap: Rc<SymHeap>,
+    /// The heap that `old` reads.
+    pub old_heap: Rc<SymHeap>,
     pub path: IndexedPath,
     pub next: u64,
+    /// Above 0 nothing is asked, and values are their own names.
+    pub level: u8,
+    /// Putting a chunk gives the facts that bound amounts.
+    pub is_bounded: bool,
+    /// Chunks that are put are inner.
+    pub is_inner: bool,
+    pub own: Option<Own>,
+    /// The place that brought in the part of another member.
+    pub at: Option<Place>,
 }
 
 /// The sort of a type's values.
@@ -65,16 +87,63 @@ fn copy_store(alloc: Global, store: &[Binding]) -> Result<Vec<Binding>, AllocErr
     Ok(copies)
 }
 
+/// The same term once more, where there is one.
+pub fn copy_optional(t: &Option<Rc<Term>>) -> Result<Option<Rc<Term>>, AllocError>
+    ensures { IfOk result (λ copy. optional_term copy ≡ optional_term t.now) }
+{
+    match t {
+        Some(t) => Ok(Some(t.clone()?)),
+        None => Ok(None),
+    }
+}
+
+impl Own {
+    /// The same once more.
+    pub fn copy(&self) -> Result<Own, AllocError>
+        ensures { IfOk result (λ copy. own copy ≡ own self.now) }
+    {
+        Ok(Own {
+            function: self.function.clone()?,
+            measure: copy_optional(&self.measure)?,
+        })
+    }
+}
+
+fn copy_own(owned: &Option<Own>) -> Result<Option<Own>, AllocError>
+    ensures { IfOk result (λ copy. option_map own copy ≡ option_map own owned.now) }
+{
+    match owned {
+        Some(it) => Ok(Some(it.copy()?)),
+        None => Ok(None),
+    }
+}
+
+/// A heap without chunks.
+fn no_chunks(alloc: Global) -> Result<Rc<SymHeap>, AllocError>
+    ensures { IfOk result (λ h. heap h.value ≡ []) }
+{
+    Ok(Rc::new(alloc, SymHeap::new(alloc))?)
+}
+
 impl SymState {
     /// The state before anything is declared.
-    pub fn new(alloc: Global) -> SymState
-        ensures { state result ≡ blank }
+    pub fn new(alloc: Global) -> Result<SymState, AllocError>
+        ensures { IfOk result (λ s. state s ≡ blank) }
     {
-        SymState {
+        let none = no_chunks(alloc)?;
+        let old_heap = none.clone()?;
+        Ok(SymState {
             store: Vec::new(alloc),
+            heap: none,
+            old_heap,
             path: IndexedPath::new(),
             next: 0,
-        }
+            level: 0,
+            is_bounded: true,
+            is_inner: false,
+            own: None,
+            at: None,
+        })
     }
 
     /// The same state once more.
@@ -83,9 +152,57 @@ impl SymState {
     {
         Ok(SymState {
             store: copy_store(alloc, &self.store)?,
+            heap: self.heap.clone()?,
+            old_heap: self.old_heap.clone()?,
             path: self.path.copy()?,
             next: self.next,
+            level: self.level,
+            is_bounded: self.is_bounded,
+            is_inner: self.is_inner,
+            own: copy_own(&self.own)?,
+            at: self.at,
         })
+    }
+
+    /// Whether nothing is asked in it.
+    pub fn is_quiet(&self) -> bool
+        ensures { result ≡ states.is_quiet (state self.now) }
+    {
+        0 < self.level
+    }
+
+    /// The place of a question: that which brought in the part, if it is another member's.
+    pub fn placed(&self, at: Place) -> Place
+        ensures { result ≡ rules.placed (state self.now) at }
+    {
+        match self.at {
+            Some(outer) => outer,
+            None => at,
+        }
+    }
+
+    /// Another heap in the place of this one, which is given back.
+    pub fn exchange_heap(&mut self, other: Rc<SymHeap>) -> Rc<SymHeap>
+        ensures before { heap result.value ≡ (state self.old).heap }
+        ensures after { state self.new ≡ states.with_heap (heap other.value) (state self.old) }
+    {
+        mem::replace(&mut self.heap, other)
+    }
+
+    /// No chunks in the heap.
+    pub fn clear_heap(&mut self, alloc: Global) -> Result<(), AllocError>
+        ensures { IfOk result (λ _. state self.new ≡ states.with_heap [] (state self.old)) }
+    {
+        self.heap = no_chunks(alloc)?;
+        Ok(())
+    }
+
+    /// The old heap becomes the heap as it is.
+    pub fn keep_old(&mut self) -> Result<(), AllocError>
+        ensures { IfOk result (λ _. state self.new ≡ record (state self.old) { old = (state self.old).heap }) }
+    {
+        self.old_heap = self.heap.clone()?;
+        Ok(())
     }
 
     /// The value of a variable.
@@ -179,11 +296,18 @@ impl SymState {
         make::variable(alloc, number, of)
     }
 
+    /// Whether a value is its own name.
+    fn is_named(&self, t: &Term) -> bool
+        ensures { result ≡ states.is_named (term t.now) (state self.now) }
+    {
+        t.is_name() || self.is_quiet()
+    }
+
     /// A name for a value: itself, or a new symbol that equals it.
     pub fn name(&mut self, alloc: Global, t: Rc<Term>) -> Result<Rc<Term>, AllocError>
         ensures { IfOk result (λ r. (term r.value ≡ states.name_of (term t.value) (state self.old)) × (state self.new ≡ states.after_name (term t.value) (state self.old))) }
     {
-        if t.is_name() {
+        if self.is_named(&t) {
             return Ok(t);
         }
         let symbol = self.new_symbol(alloc, t.sort()?)?;
