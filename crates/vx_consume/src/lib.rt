@@ -1,14 +1,15 @@
 //! The rules of consuming an assertion, step by step.
 #![tactic(auto)]
 
-ghost use Rattle.std.specs.Prelude.{◌≡◌, [], IfOk};
+ghost use Rattle.std.specs.Prelude.{◌≡◌, IfOk};
 ghost use Rattle.vx_ast.specs.Resolved.{assertion, expr};
 ghost use Rattle.vx_ast.specs.Syntax as syntax;
 ghost use Rattle.vx_rules.specs.Members.{rules};
 ghost use Rattle.vx_rules.specs.Rules as rule;
-ghost use Rattle.vx_stack.specs.Stack.{consumed as consumed_of, context, giving, going, Stepped};
+ghost use Rattle.vx_stack.specs.Stack.{consumed as consumed_of, consuming, context, giving, going, Stepped};
 ghost use Rattle.vx_states.specs.SymStates.{state as state_of};
-ghost use Rattle.vx_terms.specs.Build.{whole_amount};
+ghost use Rattle.vx_rules.specs.Trees as tree;
+ghost use Rattle.vx_terms.specs.Build as built;
 ghost use Rattle.vx_terms.specs.Views.{term};
 ghost use Rattle.vx_types.specs.Settled.{settled};
 
@@ -16,7 +17,8 @@ use std::alloc::{AllocError, Global};
 use std::rc::Rc;
 use vx_ast::Place;
 use vx_ast::resolved::{Assertion, Expr};
-use vx_stack::{Codes, Consumed, Conts, Frame, Hole, Move, Next};
+use vx_heap::SymHeap;
+use vx_stack::{Codes, Consumed, Consumption, Conts, Frame, Hole, Move, Next};
 use vx_states::SymState;
 use vx_terms::{Term, snapshots};
 use vx_types::Settled;
@@ -36,34 +38,87 @@ fn place_of(e: &Expr) -> Place
     }
 }
 
+/// A left part, and then the right one; each is read in the heap of the start.
+fn parts(
+    alloc: Global,
+    program: &Settled,
+    left: &Rc<Assertion>,
+    right: &Rc<Assertion>,
+    x: &Rc<Consumption>,
+    hole: Rc<Hole>,
+) -> Result<Next, AllocError>
+    ensures { IfOk result (λ n. going (settled program.now) n ≡ (λ s. consuming (settled program.now) (assertion left.now.value) x.now.value s (λ t s1. consuming (settled program.now) (assertion right.now.value) x.now.value s1 (λ u s2. tree.Step (giving (settled program.now) hole.value (built.pair t u) (rule.with_built_pair (context x.now.value.codes) t u s2)))))) }
+{
+    let _program = program;
+    let after = Consumed::Right(right.clone()?, x.clone()?);
+    let rest = Rc::new(alloc, Hole::Consumed(after, hole))?;
+    Ok(Next::ConsumeFrom(left.clone()?, x.clone()?, rest))
+}
+
 /// A step of consuming an assertion whose snapshot goes into a hole.
 pub fn step(
     alloc: Global,
     program: &Settled,
     a: &Assertion,
-    codes: Codes,
+    x: &Rc<Consumption>,
     hole: Rc<Hole>,
     state: SymState,
     conts: &mut Conts,
 ) -> Result<Move, AllocError>
-    ensures { IfOk result (λ m. Stepped (settled program.now) (rule.consume (settled program.now) (rules (settled program.now)) (assertion a.now) (context codes) whole_amount [] (state_of state) (giving (settled program.now) hole.value)) conts.old.sides.items m conts.new.sides.items) }
+    ensures { IfOk result (λ m. Stepped (settled program.now) (consuming (settled program.now) (assertion a.now) x.now.value (state_of state) (giving (settled program.now) hole.value)) conts.old.sides.items m conts.new.sides.items) }
 {
     match a {
         Assertion::Pure(e) => {
-            let asking = Consumed::Ask(place_of(e), codes.pure);
+            let mut state = state;
+            let heap = state.exchange_heap(x.start.clone()?);
+            let asking = Consumed::Ask(place_of(e), x.codes.pure, heap);
             conts.eval(alloc, program, e, Hole::Consumed(asking, hole), state)
         }
         Assertion::Both(left, right) => {
-            let after = Consumed::Right(right.clone()?, codes);
-            let rest = Rc::new(alloc, Hole::Consumed(after, hole))?;
-            conts.next(
-                alloc,
-                program,
-                Next::Consume(left.clone()?, codes, rest),
-                state,
-            )
+            let both = parts(alloc, program, left, right, x, hole)?;
+            conts.next(alloc, program, both, state)
         }
     }
+}
+
+/// A step of consuming an assertion that is read in the heap that it finds.
+pub fn step_here(
+    alloc: Global,
+    program: &Settled,
+    a: &Assertion,
+    codes: Codes,
+    scale: &Rc<Term>,
+    hole: &Rc<Hole>,
+    state: SymState,
+    conts: &mut Conts,
+) -> Result<Move, AllocError>
+    ensures { IfOk result (λ m. Stepped (settled program.now) (rule.consume (settled program.now) (rules (settled program.now)) (assertion a.now) (context codes) (term scale.now.value) (state_of state).heap (state_of state) (giving (settled program.now) hole.now.value)) conts.old.sides.items m conts.new.sides.items) }
+{
+    let scale = scale.clone()?;
+    let start = state.heap.clone()?;
+    let consumption = Consumption {
+        codes,
+        scale,
+        start,
+    };
+    let shared = Rc::new(alloc, consumption)?;
+    step(alloc, program, a, &shared, hole.clone()?, state, conts)
+}
+
+/// The facts on a pair that is built, where they are given.
+fn add_built_pair(
+    alloc: Global,
+    codes: Codes,
+    first: &Rc<Term>,
+    second: &Rc<Term>,
+    state: &mut SymState,
+) -> Result<(), AllocError>
+    ensures { IfOk result (λ _. state_of state.new ≡ rule.with_built_pair (context codes) (term first.now.value) (term second.now.value) (state_of state.old)) }
+{
+    if codes.builds {
+        return state.add_pair(alloc, first, second);
+    }
+    Ok(())
 }
 
 /// A value or a snapshot goes on to the assertion that it is of.
@@ -79,39 +134,46 @@ pub fn step_consumed(
     ensures { IfOk result (λ m. Stepped (settled program.now) (consumed_of (settled program.now) consumed.now (giving (settled program.now) hole.now.value) (term value.value) (state_of state)) conts.old.sides.items m conts.new.sides.items) }
 {
     match consumed {
-        Consumed::Ask(place, code) => {
-            let after = Rc::new(alloc, Next::Unit(hole.clone()?))?;
+        Consumed::Ask(place, code, heap) => {
+            let after = Rc::new(alloc, Next::Unit(heap.clone()?, hole.clone()?))?;
+            let place = state.placed(*place);
             conts.ask(
                 alloc,
                 program,
                 value,
-                *place,
+                place,
                 *code,
                 state,
                 Frame::Go(after),
             )
         }
-        Consumed::Right(right, codes) => {
-            let with = Rc::new(alloc, Hole::Consumed(Consumed::With(value), hole.clone()?))?;
-            step(alloc, program, right, *codes, with, state, conts)
+        Consumed::Right(right, x) => {
+            let with = Consumed::With(value, x.codes);
+            let rest = Rc::new(alloc, Hole::Consumed(with, hole.clone()?))?;
+            step(alloc, program, right, x, rest, state, conts)
         }
-        Consumed::With(first) => {
+        Consumed::With(first, codes) => {
             let both = snapshots::pair(alloc, first, &value)?;
+            let mut state = state;
+            add_built_pair(alloc, *codes, first, &value, &mut state)?;
             conts.give(program, both, hole, state)
         }
     }
 }
 
-/// A pure part was consumed: its snapshot is unit.
+/// A pure part was consumed: the heap is as before, and its snapshot is unit.
 pub fn step_unit(
     alloc: Global,
     program: &Settled,
+    heap: &Rc<SymHeap>,
     hole: &Rc<Hole>,
     state: SymState,
     conts: &mut Conts,
 ) -> Result<Move, AllocError>
-    ensures { IfOk result (λ m. Stepped (settled program.now) (going (settled program.now) (Next.Unit hole.now) (state_of state)) conts.old.sides.items m conts.new.sides.items) }
+    ensures { IfOk result (λ m. Stepped (settled program.now) (going (settled program.now) (Next.Unit heap.now hole.now) (state_of state)) conts.old.sides.items m conts.new.sides.items) }
 {
     let unit = snapshots::unit(alloc)?;
+    let mut state = state;
+    let _start = state.exchange_heap(heap.clone()?);
     conts.give(program, unit, hole, state)
 }

@@ -1,6 +1,6 @@
 //! What the paths, indices, states and frames of the code stand for: each variant, whatever its parts.
 
-ghost use Rattle.std.specs.Prelude.{◌≡◌, ◌^◌, ◌||◌, ℕ, Bool, true, false, pos, map, Ok, Err, [], ◌∷◌, ◌++◌, Some, None, List, Option, String, string_bytes};
+ghost use Rattle.std.specs.Prelude.{◌≡◌, ◌^◌, ◌||◌, ℕ, Bool, true, false, pos, map, option_map, Ok, Err, [], ◌∷◌, ◌++◌, Some, None, List, Option, String, string_bytes};
 ghost use Rattle.std.specs.declared.alloc.Global.{Global};
 ghost use Rattle.std.specs.declared.rc.Rc.{Rc};
 ghost use Rattle.vx_ast.specs.Syntax.{Program};
@@ -21,7 +21,10 @@ ghost use Rattle.vx_terms.specs.declared.term.Operator.TheVariants as operator''
 ghost use Rattle.vx_terms.specs.declared.term.Term.TheVariants as term';
 ghost use Rattle.vx_terms.specs.declared.term.Terms.TheVariants as terms';
 ghost use Rattle.vx_states.specs.declared.state.Binding.{Binding};
+ghost use Rattle.vx_states.specs.declared.state.Own.{Own as Own'};
 ghost use Rattle.vx_states.specs.declared.state.SymState.{SymState};
+ghost use Rattle.vx_heap.specs.declared.heap.SymHeap.{SymHeap};
+ghost use Rattle.vx_heap.specs.Views.{heap};
 ghost use Rattle.vx_stack.specs.declared.question.Query.{Query};
 ghost use Rattle.vx_states.specs.declared.path.Path.{Path};
 ghost use Rattle.vx_states.specs.declared.path.Path.TheVariants as path';
@@ -30,7 +33,7 @@ ghost use Rattle.vx_states.specs.declared.index.Index.TheVariants as index';
 ghost use Rattle.vx_states.specs.Keys.{mixed, symbol_key, operator_key, key_of};
 ghost use Rattle.vx_states.specs.Index.{is_even, finds, meets, IsAlike, IsExtended, IsIndexed};
 ghost use Rattle.vx_states.specs.Paths.{extended, entries};
-ghost use Rattle.vx_states.specs.SymStates.{binding, state, place_in};
+ghost use Rattle.vx_states.specs.SymStates.{binding, optional_term, own, state, place_in};
 ghost use Rattle.vx_ast.specs.Syntax as syntax;
 ghost use Rattle.vx_ast.specs.Resolved.{expr, assertion, stmt, block, method};
 ghost use Rattle.vx_ast.specs.declared.resolved.Operator.TheVariants as operator';
@@ -45,9 +48,11 @@ ghost use Rattle.vx_rules.specs.States as states;
 ghost use Rattle.vx_rules.specs.Rules as rules;
 ghost use Rattle.vx_rules.specs.Rules.{Giving, Going};
 ghost use Rattle.vx_rules.specs.Members as members;
-ghost use Rattle.vx_rules.specs.Trees.{AssertCode, CallCode, EntryCode, PermissionCode, PostCode, Tree, End, Impossible, Step, Ask, Probe, Fork};
+ghost use Rattle.vx_rules.specs.Trees.{CallCode, EntryCode, FoldCode, PostCode, Tree, End, Impossible, Step, Ask, Probe, Fork};
 ghost use Rattle.vx_rules.specs.declared.code.Code.TheVariants as code';
 ghost use Rattle.vx_stack.specs.declared.frame.Operand.TheVariants as operand';
+ghost use Rattle.vx_stack.specs.declared.frame.Consumption.{Consumption};
+ghost use Rattle.vx_stack.specs.declared.frame.Production.{Production};
 ghost use Rattle.vx_stack.specs.declared.frame.Consumed.TheVariants as consumed';
 ghost use Rattle.vx_stack.specs.declared.frame.Executed.TheVariants as executed';
 ghost use Rattle.vx_stack.specs.declared.frame.Next.{Next};
@@ -59,7 +64,7 @@ ghost use Rattle.vx_stack.specs.declared.frame.Side.{Side};
 ghost use Rattle.vx_stack.specs.declared.conts.Move.TheVariants as move';
 ghost use Rattle.vx_rules.specs.Codes.{code};
 ghost use Rattle.vx_stack.specs.Stack.{query, context, operand, consumed, executed, going, giving, frame_tree, side_tree, Stepped, Checked};
-ghost use Rattle.vx_examples.specs.Words.{Computes, at, int, bool, real, number, snap, null, unit, pair, first, plus, chosen_term, all, falsity, denied};
+ghost use Rattle.vx_examples.specs.Words.{Computes, at, int, bool, real, number, snap, null, unit, pair, first, plus, chosen_term, falsity, denied};
 ghost use Rattle.vx_examples.specs.Simplified.{truth};
 ghost use Rattle.vx_examples.specs.Walks.{y, f, fact, branch, scene, with_chunks, first_ask, a_probe};
 ghost use Rattle.vx_examples.specs.Viewed.{of_codes, of_symbols, of_operators, of_keys, of_sorts, of_term_symbols, of_term_operators};
@@ -118,13 +123,17 @@ pub fn operands_that_wait()
 /// What a value leads to within a consume, and within a statement.
 #[tactic(auto, unfolding(vx_rules::specs::Members::rules))]
 pub fn parts_that_wait()
-    ensures context { context (record { pure = code'.Postcondition; permission = code'.Call }) ≡ members.codes PostCode CallCode }
-    ensures asked { (on : Giving) → consumed [] (consumed'.Ask (at 1 1) code'.Assert) on truth with_chunks ≡ Step (Step (on unit (record with_chunks { heap = [] }))) }
-    ensures right { (b : Rc Assertion' Global) (on : Giving) → consumed [] (consumed'.Right b (record { pure = code'.Assert; permission = code'.Permission })) on (snap 1) scene ≡
-        rules.consume [] (rules.outer [] 4) (assertion b.value) (members.codes AssertCode PermissionCode) all [] scene (λ u s. Step (on (pair (snap 1) u) s)) }
-    ensures with_left { (t : Rc Term' Global) (on : Giving) → consumed [] (consumed'.With t) on unit scene ≡ Step (on (pair (term t.value) unit) scene) }
+    ensures context { context (record { pure = code'.Postcondition; permission = code'.Call; builds = false }) ≡ members.codes PostCode CallCode }
+    ensures building { context (record { pure = code'.Fold; permission = code'.Fold; builds = true }) ≡ record { pure = FoldCode; permission = FoldCode; builds = true } }
+    ensures asked { (h : Rc SymHeap Global) (on : Giving) → consumed [] (consumed'.Ask (at 1 1) code'.Assert h) on truth with_chunks ≡ Step (Step (on unit (record with_chunks { heap = heap h.value }))) }
+    ensures right { (b : Rc Assertion' Global) (x : Rc Consumption Global) (on : Giving) → consumed [] (consumed'.Right b x) on (snap 1) scene ≡
+        rules.consume [] (rules.outer [] 4) (assertion b.value) (context x.value.codes) (term x.value.scale.value) (heap x.value.start.value) scene
+        (λ u s. Step (on (pair (snap 1) u) (rules.with_built_pair (context x.value.codes) (snap 1) u s))) }
+    ensures with_left { (t : Rc Term' Global) (on : Giving) → consumed [] (consumed'.With t (record { pure = code'.Assert; permission = code'.Permission; builds = false })) on unit scene ≡ Step (on (pair (term t.value) unit) scene) }
+    ensures with_facts { (t : Rc Term' Global) (on : Giving) → consumed [] (consumed'.With t (record { pure = code'.Fold; permission = code'.Fold; builds = true })) on unit scene ≡
+        Step (on (pair (term t.value) unit) (states.with_facts (rules.pair_facts (term t.value) unit) scene)) }
     ensures assume { (on : Going) → executed [] executed'.Assume on (bool 0) scene ≡ Step (on scene) }
-    ensures asserted { (on : Going) → executed [] executed'.Asserted on unit with_chunks ≡ Step (on (record with_chunks { heap = [] })) }
+    ensures asserted { (h : Rc SymHeap Global) (on : Going) → executed [] (executed'.Asserted h) on unit with_chunks ≡ Step (on (record with_chunks { heap = heap h.value })) }
     ensures exhaled { (on : Going) → executed [] executed'.Exhaled on unit with_chunks ≡ Step (on with_chunks) }
     ensures chosen { (a b : Rc Block' Global) (on : Going) → executed [] (executed'.If a b 1) on (bool 0) scene ≡ Step (members.exec_all [] (rules.outer [] 4) (block a.value) scene (λ s. on (states.leave 1 s))) }
     ensures assigned { (x : Rc (String Global) Global) (on : Going) → executed [] (executed'.Assign x) on (number 3) scene ≡ Step (on (states.with_store (states.assign (string_bytes x.value) (number 3) scene.store) scene)) }
@@ -138,15 +147,19 @@ pub fn frames_that_wait()
     ensures exec { (q : _) (c : Rc Stmt' Global) (n : Next) → going [] (next'.Exec' c q n) scene ≡ members.exec [] (rules.outer [] 4) (stmt c.value) scene (going [] n) }
     ensures block { (q : _) (b : Rc Block' Global) (n : Next) → going [] (next'.Block' b q n) scene ≡ members.exec_all [] (rules.outer [] 4) (block b.value) scene (going [] n) }
     ensures inner { (q : _) (b : Rc Block' Global) (n : Next) → going [] (next'.Inner' b 1 q n) scene ≡ members.exec_all [] (rules.outer [] 4) (block b.value) scene (λ s. going [] n (states.leave 1 s)) }
-    ensures produce { (q : _) (a : Rc Assertion' Global) (n : Next) → going [] (next'.Produce' a q n) scene ≡ rules.produce [] (rules.outer [] 4) (assertion a.value) all None scene (going [] n) }
-    ensures unit { (q : _) (h : Hole) → going [] (next'.Unit' q h) with_chunks ≡ Step (giving [] h unit (record with_chunks { heap = [] })) }
-    ensures consume { (q : _) (a : Rc Assertion' Global) (h : Hole) → going [] (next'.Consume' a (record { pure = code'.Entry; permission = code'.Entry }) q h) with_chunks ≡
-        rules.consume [] (rules.outer [] 4) (assertion a.value) (members.codes EntryCode EntryCode) all with_chunks.heap with_chunks (giving [] h) }
+    ensures produce { (q : _) (a : Rc Assertion' Global) (x : Rc Production Global) (n : Next) → going [] (next'.Produce' a x q n) scene ≡
+        rules.produce [] (rules.outer [] 4) (assertion a.value) (term x.value.scale.value) (optional_term x.value.snapshot) scene (going [] n) }
+    ensures unit { (q : _) (start : Rc SymHeap Global) (h : Hole) → going [] (next'.Unit' start q h) with_chunks ≡ Step (giving [] h unit (record with_chunks { heap = heap start.value })) }
+    ensures consume { (q : _) (a : Rc Assertion' Global) (t : Rc Term' Global) (h : Hole) → going [] (next'.Consume' a (record { pure = code'.Entry; permission = code'.Entry; builds = false }) t q h) with_chunks ≡
+        rules.consume [] (rules.outer [] 4) (assertion a.value) (members.codes EntryCode EntryCode) (term t.value) with_chunks.heap with_chunks (giving [] h) }
+    ensures consume_from { (q : _) (a : Rc Assertion' Global) (x : Rc Consumption Global) (h : Hole) → going [] (next'.ConsumeFrom' a x q h) with_chunks ≡
+        rules.consume [] (rules.outer [] 4) (assertion a.value) (context x.value.codes) (term x.value.scale.value) (heap x.value.start.value) with_chunks (giving [] h) }
     ensures sides { (m : Rc Method' Global) → going [] (next'.Sides m) scene ≡ members.sides [] (rules.outer [] 4) (method m.value) scene }
     ensures given { giving [] hole'.Finish (int 0) scene ≡ End }
-    ensures produced { (q : _) (n : Next) → giving [] (hole'.Produced' q n) (bool 0) scene ≡ Step (going [] n scene) }
+    ensures produced { (q : _) (n : Next) → giving [] (hole'.Produced' None q n) (bool 0) scene ≡ Step (going [] n scene) }
+    ensures produced_unit { (q : _) (t : Rc Term' Global) (n : Next) → giving [] (hole'.Produced' (Some t) q n) (bool 0) scene ≡ Step (going [] n (states.with_fact (make.equals (term t.value) unit) scene)) }
     ensures operand { (q : _) (h : Hole) → giving [] (hole'.Operand' operand'.Negate q h) (bool 0) scene ≡ Step (giving [] h (denied (bool 0)) scene) }
-    ensures consumed { (q : _) (t : Rc Term' Global) (h : Hole) → giving [] (hole'.Consumed' (consumed'.With t) q h) unit scene ≡ Step (giving [] h (pair (term t.value) unit) scene) }
+    ensures consumed { (q : _) (t : Rc Term' Global) (h : Hole) → giving [] (hole'.Consumed' (consumed'.With t (record { pure = code'.Assert; permission = code'.Permission; builds = false })) q h) unit scene ≡ Step (giving [] h (pair (term t.value) unit) scene) }
     ensures executed { (q : _) (n : Next) → giving [] (hole'.Executed' executed'.Exhaled q n) unit scene ≡ Step (going [] n scene) }
     ensures go { (n : Rc Next Global) → frame_tree [] (frame'.Go n) scene ≡ going [] n.value scene }
     ensures eval { (e : Rc Expr' Global) (h : Rc Hole Global) → frame_tree [] (frame'.Eval e h) scene ≡ rules.eval [] (rules.outer [] 4) (expr e.value) scene (giving [] h.value) }
@@ -202,8 +215,16 @@ pub fn views_of_states()
     ensures store { (s : SymState) → (state s).store ≡ map binding s.store.items }
     ensures path { (s : SymState) → (state s).path ≡ entries s.path.path }
     ensures next { (s : SymState) → (state s).next ≡ s.next }
-    ensures no_heap { (s : SymState) → (state s).heap ≡ [] }
-    ensures no_level { (s : SymState) → states.is_quiet (state s) ≡ false }
+    ensures heap { (s : SymState) → (state s).heap ≡ heap s.heap.value }
+    ensures old { (s : SymState) → (state s).old ≡ heap s.old_heap.value }
+    ensures level { (s : SymState) → (state s).level ≡ s.level }
+    ensures bounded { (s : SymState) → (state s).bounded ≡ s.is_bounded }
+    ensures inner { (s : SymState) → (state s).inner ≡ s.is_inner }
+    ensures measured { (s : SymState) → (state s).own ≡ option_map own s.own }
+    ensures place { (s : SymState) → (state s).at ≡ s.at }
+    ensures own { (o : Own') → own o ≡ record { function = string_bytes o.function.value; measure = optional_term o.measure } }
+    ensures term { (t : Rc Term' Global) → optional_term (Some t) ≡ Some (term t.value) }
+    ensures no_term { optional_term None ≡ None }
     ensures question { (q : Query) → (query q).path ≡ states.path_terms (entries q.path) }
     ensures condition { (q : Query) → (query q).condition ≡ term q.condition.value }
 {}

@@ -1,11 +1,13 @@
 //! The sides of a method.
 
-ghost use Rattle.std.specs.Prelude.{◌≡◌, None, IfOk};
+ghost use Rattle.std.specs.Prelude.{◌≡◌, [], None, IfOk};
 ghost use Rattle.vx_ast.specs.Resolved.{assertion, block, method};
+ghost use Rattle.vx_ast.specs.Syntax.{joined as joined_of};
 ghost use Rattle.vx_rules.specs.Members as rule;
 ghost use Rattle.vx_rules.specs.Members.{rules};
 ghost use Rattle.vx_rules.specs.Rules.{produce};
-ghost use Rattle.vx_stack.specs.Stack.{going, side_tree, Stepped};
+ghost use Rattle.vx_rules.specs.States.{declare_all, with_heap};
+ghost use Rattle.vx_stack.specs.Stack.{going, producing, side_tree, Stepped};
 ghost use Rattle.vx_states.specs.SymStates.{state as state_of};
 ghost use Rattle.vx_rules.specs.Trees as tree;
 ghost use Rattle.vx_terms.specs.Build.{whole_amount};
@@ -15,34 +17,50 @@ use std::alloc::{AllocError, Global};
 use std::rc::Rc;
 use vx_ast::resolved::{Assertion, Block, Method};
 use vx_rules::Code;
-use vx_stack::{Codes, Conts, Frame, Hole, Move, Next, Side, joined};
+use vx_stack::{Codes, Conts, Frame, Hole, Move, Next, Production, Side, joined};
 use vx_states::SymState;
 use vx_types::Settled;
 
-/// The side of the postcondition by itself: what is produced, in which state, and its end.
+/// The side of the postcondition by itself: what is produced, how, in which state, and its end.
 #[derive(Drop)]
 pub struct Promise {
     pub all: Rc<Assertion>,
+    pub production: Rc<Production>,
     pub state: SymState,
     pub finish: Rc<Next>,
 }
 
-/// The postcondition by itself, over the parameters as they are and fresh returns.
+/// The parameters as they are, fresh returns, and no chunks.
+fn promise_state(alloc: Global, m: &Method, state: SymState) -> Result<SymState, AllocError>
+    ensures { IfOk result (λ s. state_of s ≡ rule.with_new_returns (method m.now) (with_heap [] (state_of state))) }
+{
+    let mut state = state;
+    state.clear_heap(alloc)?;
+    state.leave(m.parameters.len());
+    state.declare_all(alloc, &m.returns)?;
+    Ok(state)
+}
+
+/// The postcondition by itself, over the parameters as they are and fresh returns, with no chunks.
 pub fn make_promise(
     alloc: Global,
     program: &Settled,
     m: &Method,
     state: SymState,
 ) -> Result<Promise, AllocError>
-    ensures { IfOk result (λ r. produce (settled program.now) (rules (settled program.now)) (assertion r.all.value) whole_amount None (state_of r.state) (going (settled program.now) r.finish.value) ≡ rule.promise_side (settled program.now) (rules (settled program.now)) (method m.now) (state_of state)) }
+    ensures { IfOk result (λ r. producing (settled program.now) (assertion r.all.value) r.production.value (state_of r.state) (going (settled program.now) r.finish.value) ≡ rule.promise_side (settled program.now) (rules (settled program.now)) (method m.now) (state_of state)) }
 {
     let _program = program;
-    let mut state = state;
-    state.leave(m.parameters.len());
-    state.declare_all(alloc, &m.returns)?;
+    let state = promise_state(alloc, m, state)?;
     let finish = Rc::new(alloc, Next::Finish)?;
     let all = joined(alloc, m.place, &m.postconditions)?;
-    Ok(Promise { all, state, finish })
+    let production = Production::as_written(alloc)?;
+    Ok(Promise {
+        all,
+        production,
+        state,
+        finish,
+    })
 }
 
 /// The side of a method's postcondition.
@@ -55,7 +73,8 @@ fn promise_side(
     ensures { IfOk result (λ side. side_tree (settled program.now) side ≡ rule.promise_side (settled program.now) (rules (settled program.now)) (method m.now) (state_of state)) }
 {
     let promise = make_promise(alloc, program, m, state)?;
-    let next = Rc::new(alloc, Next::Produce(promise.all, promise.finish))?;
+    let next = Next::Produce(promise.all, promise.production, promise.finish);
+    let next = Rc::new(alloc, next)?;
     Ok(Side {
         frame: Frame::Go(next),
         state: promise.state,
@@ -78,8 +97,10 @@ fn body_side(
     let codes = Codes {
         pure: Code::Postcondition,
         permission: Code::Postcondition,
+        builds: false,
     };
-    let after = Rc::new(alloc, Next::Consume(all, codes, finish))?;
+    let whole = vx_heap::whole(alloc)?;
+    let after = Rc::new(alloc, Next::Consume(all, codes, whole, finish))?;
     let next = Rc::new(alloc, Next::Block(body.clone()?, after))?;
     Ok(Side {
         frame: Frame::Go(next),
@@ -109,17 +130,34 @@ pub fn step_sides(
     )
 }
 
+/// Fresh parameters and returns.
+fn first_state(alloc: Global, m: &Method) -> Result<SymState, AllocError>
+    ensures { IfOk result (λ s. state_of s ≡ declare_all (method m.now).returns (declare_all (method m.now).parameters rule.blank)) }
+{
+    let mut state = SymState::new(alloc)?;
+    state.declare_all(alloc, &m.parameters)?;
+    state.declare_all(alloc, &m.returns)?;
+    Ok(state)
+}
+
+/// The precondition, and then both sides.
+fn first_part(alloc: Global, program: &Settled, m: &Rc<Method>) -> Result<Rc<Next>, AllocError>
+    ensures { IfOk result (λ n. going (settled program.now) n.value ≡ (λ s. produce (settled program.now) (rules (settled program.now)) (joined_of (method m.now.value).place (method m.now.value).requires) whole_amount None s (rule.sides (settled program.now) (rules (settled program.now)) (method m.now.value)))) }
+{
+    let _program = program;
+    let all = joined(alloc, m.place, &m.preconditions)?;
+    let production = Production::as_written(alloc)?;
+    let sides = Rc::new(alloc, Next::Sides(m.clone()?))?;
+    Ok(Rc::new(alloc, Next::Produce(all, production, sides))?)
+}
+
 /// The side that a method begins with: its precondition, over fresh parameters and returns.
 pub fn first_side(alloc: Global, program: &Settled, m: &Rc<Method>) -> Result<Side, AllocError>
     ensures { IfOk result (λ side. side_tree (settled program.now) side ≡ rule.method_tree (settled program.now) (method m.now.value)) }
 {
     let _program = program;
-    let mut state = SymState::new(alloc);
-    state.declare_all(alloc, &m.parameters)?;
-    state.declare_all(alloc, &m.returns)?;
-    let all = joined(alloc, m.place, &m.preconditions)?;
-    let sides = Rc::new(alloc, Next::Sides(m.clone()?))?;
-    let next = Rc::new(alloc, Next::Produce(all, sides))?;
+    let next = first_part(alloc, program, m)?;
+    let state = first_state(alloc, m)?;
     Ok(Side {
         frame: Frame::Go(next),
         state,

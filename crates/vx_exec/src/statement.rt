@@ -17,7 +17,7 @@ use std::alloc::{AllocError, Global};
 use std::rc::Rc;
 use vx_ast::resolved::{Assertion, Block, Stmt};
 use vx_rules::Code;
-use vx_stack::{Codes, Conts, Executed, Frame, Hole, Move, Next};
+use vx_stack::{Codes, Conts, Executed, Frame, Hole, Move, Next, Production};
 use vx_states::{SymState, sort_of_value};
 use vx_terms::Term;
 use vx_types::Settled;
@@ -37,8 +37,10 @@ fn consuming(
     let codes = Codes {
         pure: Code::Assert,
         permission: Code::Permission,
+        builds: false,
     };
-    Ok(Next::Consume(a.clone()?, codes, hole))
+    let whole = vx_heap::whole(alloc)?;
+    Ok(Next::Consume(a.clone()?, codes, whole, hole))
 }
 
 /// A step of a statement.
@@ -69,19 +71,17 @@ pub fn step(
             )
         }
         Stmt::Inhale(_, a) => {
-            conts.next(
-                alloc,
-                program,
-                Next::Produce(a.clone()?, next.clone()?),
-                state,
-            )
+            let production = Production::as_written(alloc)?;
+            let produce = Next::Produce(a.clone()?, production, next.clone()?);
+            conts.next(alloc, program, produce, state)
         }
         Stmt::Exhale(_, a) => {
             let consume = consuming(alloc, program, a, Executed::Exhaled, next)?;
             conts.next(alloc, program, consume, state)
         }
         Stmt::Assert(_, a) => {
-            let consume = consuming(alloc, program, a, Executed::Asserted, next)?;
+            let asserted = Executed::Asserted(state.heap.clone()?);
+            let consume = consuming(alloc, program, a, asserted, next)?;
             conts.next(alloc, program, consume, state)
         }
         Stmt::Assume(_, e) => {
@@ -194,7 +194,10 @@ pub fn step_executed(
             let right = inner_frame(alloc, program, b, *kept, next)?;
             conts.fork(alloc, program, value, state, left, right)
         }
-        Executed::Asserted => conts.go(program, Frame::Go(next.clone()?), state),
+        Executed::Asserted(heap) => {
+            let _rest = state.exchange_heap(heap.clone()?);
+            conts.go(program, Frame::Go(next.clone()?), state)
+        }
         Executed::Exhaled => conts.go(program, Frame::Go(next.clone()?), state),
     }
 }

@@ -2,7 +2,7 @@
 
 ghost use Rattle.std.specs.Prelude.{◌≡◌, IfOk, false};
 ghost use Rattle.vx_ast.specs.Resolved.{method};
-ghost use Rattle.vx_rules.specs.Members.{rules, sides};
+ghost use Rattle.vx_rules.specs.Members.{both_sides, rules, sides};
 ghost use Rattle.vx_stack.specs.Stack.{giving, going, frame_tree, side_tree, Stepped};
 ghost use Rattle.vx_states.specs.SymStates.{state as state_of};
 ghost use Rattle.vx_terms.specs.Views.{term};
@@ -28,6 +28,30 @@ fn has_ended(frame: &Frame) -> bool
     }
 }
 
+/// A step of a method whose old heap is kept.
+fn step_both_sides(
+    alloc: Global,
+    program: &Settled,
+    m: &Method,
+    state: SymState,
+    conts: &mut Conts,
+) -> Result<Move, AllocError>
+    ensures { IfOk result (λ v. Stepped (settled program.now) (both_sides (settled program.now) (rules (settled program.now)) (method m.now) (state_of state)) conts.old.sides.items v conts.new.sides.items) }
+{
+    match &m.body {
+        Some(body) => vx_exec::step_sides(alloc, program, m, body, state, conts),
+        None => {
+            let Promise {
+                all,
+                production,
+                state,
+                finish,
+            } = vx_exec::make_promise(alloc, program, m, state)?;
+            vx_produce::step(alloc, program, &all, &production, &finish, state, conts)
+        }
+    }
+}
+
 /// A step of a method whose precondition was produced.
 fn step_method(
     alloc: Global,
@@ -38,13 +62,9 @@ fn step_method(
 ) -> Result<Move, AllocError>
     ensures { IfOk result (λ v. Stepped (settled program.now) (sides (settled program.now) (rules (settled program.now)) (method m.now) (state_of state)) conts.old.sides.items v conts.new.sides.items) }
 {
-    match &m.body {
-        Some(body) => vx_exec::step_sides(alloc, program, m, body, state, conts),
-        None => {
-            let Promise { all, state, finish } = vx_exec::make_promise(alloc, program, m, state)?;
-            vx_produce::step(alloc, program, &all, &finish, state, conts)
-        }
-    }
+    let mut state = state;
+    state.keep_old()?;
+    step_both_sides(alloc, program, m, state, conts)
 }
 
 /// A step of what waits for a state.
@@ -66,11 +86,14 @@ fn step_next(
         Next::Inner(b, kept, next) => {
             vx_exec::step_inner(alloc, program, b, *kept, next, state, conts)
         }
-        Next::Produce(a, next) => vx_produce::step(alloc, program, a, next, state, conts),
-        Next::Consume(a, codes, hole) => {
-            vx_consume::step(alloc, program, a, *codes, hole.clone()?, state, conts)
+        Next::Produce(a, x, next) => vx_produce::step(alloc, program, a, x, next, state, conts),
+        Next::Consume(a, codes, scale, hole) => {
+            vx_consume::step_here(alloc, program, a, *codes, scale, hole, state, conts)
         }
-        Next::Unit(hole) => vx_consume::step_unit(alloc, program, hole, state, conts),
+        Next::ConsumeFrom(a, x, hole) => {
+            vx_consume::step(alloc, program, a, x, hole.clone()?, state, conts)
+        }
+        Next::Unit(heap, hole) => vx_consume::step_unit(alloc, program, heap, hole, state, conts),
         Next::Sides(m) => step_method(alloc, program, m, state, conts),
     }
 }
@@ -95,8 +118,8 @@ fn step_hole(
         Hole::Consumed(consumed, hole) => {
             vx_consume::step_consumed(alloc, program, value, consumed, hole, state, conts)
         }
-        Hole::Produced(next) => vx_produce::step_produced(
-            alloc, program, value, next, state, conts,
+        Hole::Produced(snapshot, next) => vx_produce::step_produced(
+            alloc, program, value, snapshot, next, state, conts,
         ),
         Hole::Executed(executed, next) => {
             vx_exec::step_executed(alloc, program, value, executed, next, state, conts)

@@ -1,58 +1,104 @@
 //! The rules of producing an assertion, step by step.
 #![tactic(auto)]
 
-ghost use Rattle.std.specs.Prelude.{◌≡◌, None, IfOk};
+ghost use Rattle.std.specs.Prelude.{◌≡◌, IfOk};
 ghost use Rattle.vx_ast.specs.Resolved.{assertion};
 ghost use Rattle.vx_rules.specs.Members.{rules};
 ghost use Rattle.vx_rules.specs.Rules as rule;
-ghost use Rattle.vx_stack.specs.Stack.{giving, going, Stepped};
+ghost use Rattle.vx_stack.specs.Stack.{giving, going, producing, Stepped};
 ghost use Rattle.vx_rules.specs.States.{with_fact};
-ghost use Rattle.vx_states.specs.SymStates.{state as state_of};
+ghost use Rattle.vx_states.specs.SymStates.{optional_term, state as state_of};
 ghost use Rattle.vx_rules.specs.Trees as tree;
-ghost use Rattle.vx_terms.specs.Build.{whole_amount};
 ghost use Rattle.vx_terms.specs.Views.{term};
 ghost use Rattle.vx_types.specs.Settled.{settled};
 
 use std::alloc::{AllocError, Global};
 use std::rc::Rc;
 use vx_ast::resolved::Assertion;
-use vx_stack::{Conts, Frame, Hole, Move, Next};
-use vx_states::SymState;
+use vx_stack::{Conts, Frame, Hole, Move, Next, Production};
+use vx_states::{SymState, copy_optional, left_part, right_part};
 use vx_terms::Term;
 use vx_types::Settled;
+
+/// How a left part is produced: with its part of the snapshot.
+fn of_left(alloc: Global, x: &Production) -> Result<Rc<Production>, AllocError>
+    ensures scale { IfOk result (λ r. term r.value.scale.value ≡ term x.now.scale.value) }
+    ensures snapshot { IfOk result (λ r. optional_term r.value.snapshot ≡ rule.left_part (optional_term x.now.snapshot)) }
+{
+    let snapshot = left_part(alloc, &x.snapshot)?;
+    let scale = x.scale.clone()?;
+    Ok(Rc::new(alloc, Production { scale, snapshot })?)
+}
+
+/// How a right part is produced: with its part of the snapshot.
+fn of_right(alloc: Global, x: &Production) -> Result<Rc<Production>, AllocError>
+    ensures scale { IfOk result (λ r. term r.value.scale.value ≡ term x.now.scale.value) }
+    ensures snapshot { IfOk result (λ r. optional_term r.value.snapshot ≡ rule.right_part (optional_term x.now.snapshot)) }
+{
+    let snapshot = right_part(alloc, &x.snapshot)?;
+    let scale = x.scale.clone()?;
+    Ok(Rc::new(alloc, Production { scale, snapshot })?)
+}
+
+/// A left part, and then the right one.
+fn parts(
+    alloc: Global,
+    program: &Settled,
+    left: &Rc<Assertion>,
+    right: &Rc<Assertion>,
+    x: &Production,
+    next: &Rc<Next>,
+) -> Result<Next, AllocError>
+    ensures { IfOk result (λ n. going (settled program.now) n ≡ (λ s. rule.produce (settled program.now) (rules (settled program.now)) (assertion left.now.value) (term x.now.scale.value) (rule.left_part (optional_term x.now.snapshot)) s (λ s1. rule.produce (settled program.now) (rules (settled program.now)) (assertion right.now.value) (term x.now.scale.value) (rule.right_part (optional_term x.now.snapshot)) s1 (going (settled program.now) next.now.value)))) }
+{
+    let _program = program;
+    let later = of_right(alloc, x)?;
+    let rest = Rc::new(alloc, Next::Produce(right.clone()?, later, next.clone()?))?;
+    let first = of_left(alloc, x)?;
+    Ok(Next::Produce(left.clone()?, first, rest))
+}
 
 /// A step of producing an assertion.
 pub fn step(
     alloc: Global,
     program: &Settled,
     a: &Assertion,
+    x: &Production,
     next: &Rc<Next>,
     state: SymState,
     conts: &mut Conts,
 ) -> Result<Move, AllocError>
-    ensures { IfOk result (λ m. Stepped (settled program.now) (rule.produce (settled program.now) (rules (settled program.now)) (assertion a.now) whole_amount None (state_of state) (going (settled program.now) next.now.value)) conts.old.sides.items m conts.new.sides.items) }
+    ensures { IfOk result (λ m. Stepped (settled program.now) (producing (settled program.now) (assertion a.now) x.now (state_of state) (going (settled program.now) next.now.value)) conts.old.sides.items m conts.new.sides.items) }
 {
     match a {
-        Assertion::Pure(e) => conts.eval(alloc, program, e, Hole::Produced(next.clone()?), state),
+        Assertion::Pure(e) => {
+            let snapshot = copy_optional(&x.snapshot)?;
+            let hole = Hole::Produced(snapshot, next.clone()?);
+            conts.eval(alloc, program, e, hole, state)
+        }
         Assertion::Both(left, right) => {
-            let rest = Rc::new(alloc, Next::Produce(right.clone()?, next.clone()?))?;
-            conts.next(alloc, program, Next::Produce(left.clone()?, rest), state)
+            let both = parts(alloc, program, left, right, x, next)?;
+            let mut state = state;
+            state.add_split(alloc, &x.snapshot)?;
+            conts.next(alloc, program, both, state)
         }
     }
 }
 
-/// A pure part is a fact.
+/// A pure part is a fact, and its snapshot, where there is one, is unit.
 pub fn step_produced(
     alloc: Global,
     program: &Settled,
     value: Rc<Term>,
+    snapshot: &Option<Rc<Term>>,
     next: &Rc<Next>,
     state: SymState,
     conts: &mut Conts,
 ) -> Result<Move, AllocError>
-    ensures { IfOk result (λ m. Stepped (settled program.now) (tree.Step (going (settled program.now) next.now.value (with_fact (term value.value) (state_of state)))) conts.old.sides.items m conts.new.sides.items) }
+    ensures { IfOk result (λ m. Stepped (settled program.now) (tree.Step (going (settled program.now) next.now.value (rule.with_unit (optional_term snapshot.now) (with_fact (term value.value) (state_of state))))) conts.old.sides.items m conts.new.sides.items) }
 {
     let mut state = state;
     state.add_fact(alloc, value)?;
+    state.add_unit(alloc, snapshot)?;
     conts.go(program, Frame::Go(next.clone()?), state)
 }

@@ -10,7 +10,7 @@ use Rattle.vx_stack.specs.declared.conts.Move.TheVariants as move'
 use Rattle.vx_terms.specs.Terms.{Term, same}
 use Rattle.vx_terms.specs.Build.{true_term, false_term, negate}
 use Rattle.vx_rules.specs.States.{State, is_quiet, is_known, with_fact, with_branch}
-use Rattle.vx_rules.specs.Trees.{Code, Question, Tree, Impossible, Ask, Probe, Fork}
+use Rattle.vx_rules.specs.Trees.{Code, Question, Tree, Impossible, Step, Ask, Probe, Fork}
 use Rattle.vx_rules.specs.Rules.{Going, question, ask, probe, fork}
 use Rattle.vx_stack.specs.Stack.{side_tree, query, Checked, Stepped}
 
@@ -26,18 +26,21 @@ if_false b x y e = rw e refl
 if_true : {A : Type 0} (b : Bool) (x y : A) → b ≡ true → cond b x y ≡ x
 if_true b x y e = rw e refl
 
-neither : (a b : Bool) → a ≡ false → b ≡ false → (a || b) ≡ false
-neither a b e f = rw (e, f) refl
+pub ask_passes : (c : Term) (at : Place) (code : Code) (s : State) (on : Going) → (same c true_term || is_quiet s) ≡ true → ask c at code s on ≡ Step (on s)
+ask_passes c at code s on e = if_true (same c true_term || is_quiet s) _ _ e
 
-pub ask_fact : (c : Term) (at : Place) (code : Code) (s s1 : State) (on : Going) (q : Question) → is_quiet s ≡ false → same c true_term ≡ false → same c false_term ≡ false → s1 ≡ with_fact c s → q ≡ question false c at code s → ask c at code s on ≡ Ask q (on s1)
-ask_fact c at code s s1 on q l e f h i =
-    if_false (same c true_term || is_quiet s) _ _ (neither _ _ e l) ∙ ap (Ask (question false c at code s)) (if_false (same c false_term) (Impossible s) (on (with_fact c s)) f)
+pub ask_fact : (c : Term) (at : Place) (code : Code) (s s1 : State) (on : Going) (q : Question) → (same c true_term || is_quiet s) ≡ false → same c false_term ≡ false → s1 ≡ with_fact c s → q ≡ question false c at code s → ask c at code s on ≡ Ask q (on s1)
+ask_fact c at code s s1 on q e f h i =
+    if_false (same c true_term || is_quiet s) _ _ e ∙ ap (Ask (question false c at code s)) (if_false (same c false_term) (Impossible s) (on (with_fact c s)) f)
     ∙ ap (λ x. Ask x (on (with_fact c s))) (sym i) ∙ ap (λ x. Ask q (on x)) (sym h)
 
-pub ask_false : (c : Term) (at : Place) (code : Code) (s : State) (on : Going) (q : Question) → is_quiet s ≡ false → same c true_term ≡ false → same c false_term ≡ true → q ≡ question false c at code s → ask c at code s on ≡ Ask q (Impossible s)
-ask_false c at code s on q l e f i =
-    if_false (same c true_term || is_quiet s) _ _ (neither _ _ e l) ∙ ap (Ask (question false c at code s)) (if_true (same c false_term) (Impossible s) (on (with_fact c s)) f)
+pub ask_false : (c : Term) (at : Place) (code : Code) (s : State) (on : Going) (q : Question) → (same c true_term || is_quiet s) ≡ false → same c false_term ≡ true → q ≡ question false c at code s → ask c at code s on ≡ Ask q (Impossible s)
+ask_false c at code s on q e f i =
+    if_false (same c true_term || is_quiet s) _ _ e ∙ ap (Ask (question false c at code s)) (if_true (same c false_term) (Impossible s) (on (with_fact c s)) f)
     ∙ ap (λ x. Ask x (Impossible s)) (sym i)
+
+pub probe_quiet : (c : Term) (at : Place) (code : Code) (s : State) (a b : Tree) → is_quiet s ≡ true → same c true_term ≡ false → probe c at code s a b ≡ Step b
+probe_quiet c at code s a b l e = if_false (same c true_term) _ _ e ∙ if_true (is_quiet s) _ _ l
 
 pub probe_other : (c : Term) (at : Place) (code : Code) (s : State) (a b : Tree) (q : Question) → is_quiet s ≡ false → same c true_term ≡ false → same c false_term ≡ false → q ≡ question true c at code s → probe c at code s a b ≡ Probe q a b
 probe_other c at code s a b q l e f i =

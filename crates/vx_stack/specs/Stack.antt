@@ -1,7 +1,9 @@
 -- What the frames, the stack and the questions of src/ stand for: the tree that is still to be walked.
-use Rattle.std.specs.Prelude.{◌≡◌, Bool, true, false, List, [], ◌∷◌, ◌++◌, None, string_bytes}
+use Rattle.std.specs.Prelude.{◌≡◌, Bool, true, false, List, [], ◌∷◌, ◌++◌, string_bytes}
 use Rattle.vx_stack.specs.declared.question.Query.{Query}
 use Rattle.vx_stack.specs.declared.frame.Codes.{Codes}
+use Rattle.vx_stack.specs.declared.frame.Production.{Production}
+use Rattle.vx_stack.specs.declared.frame.Consumption.{Consumption}
 use Rattle.vx_stack.specs.declared.frame.Operand.{Operand}
 use Rattle.vx_stack.specs.declared.frame.Operand.TheVariants as operand'
 use Rattle.vx_stack.specs.declared.frame.Consumed.{Consumed}
@@ -17,23 +19,24 @@ use Rattle.vx_stack.specs.declared.frame.Frame.TheVariants as frame'
 use Rattle.vx_stack.specs.declared.frame.Side.{Side}
 use Rattle.vx_stack.specs.declared.conts.Move.{Move}
 use Rattle.vx_stack.specs.declared.conts.Move.TheVariants as move'
-use Rattle.vx_ast.specs.Syntax.{Program}
+use Rattle.vx_ast.specs.Syntax.{Program, Assertion}
 use Rattle.vx_ast.specs.Resolved.{operator, connective, expr, assertion, stmt, block, method}
 use Rattle.vx_terms.specs.Views.{term}
-use Rattle.vx_terms.specs.Build.{negate, ite, unit, pair, whole_amount}
+use Rattle.vx_terms.specs.Build.{negate, ite, unit, pair}
+use Rattle.vx_heap.specs.Views.{heap}
 use Rattle.vx_rules.specs.States.{State, with_store, with_heap, assign, leave, with_fact, name_of, after_name, path_terms}
 use Rattle.vx_states.specs.Paths.{entries}
-use Rattle.vx_states.specs.SymStates.{state}
+use Rattle.vx_states.specs.SymStates.{optional_term, state}
 use Rattle.vx_rules.specs.Trees.{Question, Tree, End, Impossible, Step, Ask, Probe, Fork}
 use Rattle.vx_rules.specs.Codes.{code}
-use Rattle.vx_rules.specs.Rules.{Giving, Going, Context, ask, fork, short, operated, connected, placed, with_built_pair, eval, produce, consume}
-use Rattle.vx_rules.specs.Members.{codes, exec, exec_all, rules, sides}
+use Rattle.vx_rules.specs.Rules.{Giving, Going, Context, ask, fork, short, operated, connected, placed, with_built_pair, with_unit, eval, produce, consume}
+use Rattle.vx_rules.specs.Members.{exec, exec_all, rules, sides}
 
 abbrev pub query : Query → Question
 query q = record { place = q.place; code = code q.code; path = path_terms (entries q.path); condition = term q.condition.value; probe = q.probe }
 
 abbrev pub context : Codes → Context
-context x = codes (code x.pure) (code x.permission)
+context x = record { pure = code x.pure; permission = code x.permission; builds = x.builds }
 
 module _ (p : Program) where
   -- what the value of an operand leads to, before what waits for the whole
@@ -51,12 +54,19 @@ module _ (p : Program) where
   operand (operand'.ChooseSides a b) on t s =
       fork t s (λ s1. eval p (rules p) (expr a.value) s1 on) (λ s1. eval p (rules p) (expr b.value) s1 on)
 
+  -- an assertion is produced, or consumed, in this way
+  abbrev pub producing : Assertion → Production → State → Going → Tree
+  producing a x s on = produce p (rules p) a (term x.scale.value) (optional_term x.snapshot) s on
+
+  abbrev pub consuming : Assertion → Consumption → State → Giving → Tree
+  consuming a x s on = consume p (rules p) a (context x.codes) (term x.scale.value) (heap x.start.value) s on
+
   -- what a value or a snapshot leads to, before what waits for the whole snapshot
   abbrev pub consumed : Consumed → Giving → Giving
-  consumed (consumed'.Ask at f) on t s = ask t (placed s at) (code f) s (λ s1. Step (on unit (with_heap [] s1)))
+  consumed (consumed'.Ask at f h) on t s = ask t (placed s at) (code f) s (λ s1. Step (on unit (with_heap (heap h.value) s1)))
   consumed (consumed'.Right b x) on t s =
-      consume p (rules p) (assertion b.value) (context x) whole_amount [] s (λ u s1. Step (on (pair t u) (with_built_pair (context x) t u s1)))
-  consumed (consumed'.With t) on u s = Step (on (pair (term t.value) u) s)
+      consuming (assertion b.value) x.value s (λ u s1. Step (on (pair t u) (with_built_pair (context x.value.codes) t u s1)))
+  consumed (consumed'.With t x) on u s = Step (on (pair (term t.value) u) (with_built_pair (context x) (term t.value) u s))
 
   -- what a value leads to, before what waits for the statement's end
   abbrev pub executed : Executed → Going → Giving
@@ -66,7 +76,7 @@ module _ (p : Program) where
       fork t s
       (λ s1. exec_all p (rules p) (block a.value) s1 (λ s2. on (leave kept s2)))
       (λ s1. exec_all p (rules p) (block b.value) s1 (λ s2. on (leave kept s2)))
-  executed executed'.Asserted on t s = Step (on (with_heap [] s))
+  executed (executed'.Asserted h) on t s = Step (on (with_heap (heap h.value) s))
   executed executed'.Exhaled on t s = Step (on s)
 
   abbrev mutual
@@ -77,9 +87,10 @@ module _ (p : Program) where
     going (next'.Exec' c q n) s = exec p (rules p) (stmt c.value) s (going n)
     going (next'.Block' b q n) s = exec_all p (rules p) (block b.value) s (going n)
     going (next'.Inner' b kept q n) s = exec_all p (rules p) (block b.value) s (λ s1. going n (leave kept s1))
-    going (next'.Produce' a q n) s = produce p (rules p) (assertion a.value) whole_amount None s (going n)
-    going (next'.Consume' a x q h) s = consume p (rules p) (assertion a.value) (context x) whole_amount s.heap s (giving h)
-    going (next'.Unit' q h) s = Step (giving h unit (with_heap [] s))
+    going (next'.Produce' a x q n) s = producing (assertion a.value) x.value s (going n)
+    going (next'.Consume' a x t q h) s = consume p (rules p) (assertion a.value) (context x) (term t.value) s.heap s (giving h)
+    going (next'.ConsumeFrom' a x q h) s = consuming (assertion a.value) x.value s (giving h)
+    going (next'.Unit' start q h) s = Step (giving h unit (with_heap (heap start.value) s))
     going (next'.Sides m) s = sides p (rules p) (method m.value) s
 
     -- what a value and a state lead to
@@ -87,7 +98,7 @@ module _ (p : Program) where
     giving hole'.Finish t s = End
     giving (hole'.Operand' v q h) t s = operand v (giving h) t s
     giving (hole'.Consumed' v q h) t s = consumed v (giving h) t s
-    giving (hole'.Produced' q n) t s = Step (going n (with_fact t s))
+    giving (hole'.Produced' snapshot q n) t s = Step (going n (with_unit (optional_term snapshot) (with_fact t s)))
     giving (hole'.Executed' v q n) t s = executed v (going n) t s
 
   -- the tree of a side

@@ -1,14 +1,17 @@
 //! The stack of sides, and the steps that the rules are made of.
 
-ghost use Rattle.std.specs.Prelude.{◌≡◌, ◌++◌, ◌∷◌, [], IfOk, map};
+ghost use Rattle.std.specs.Prelude.{◌≡◌, ◌++◌, ◌∷◌, ◌||◌, [], IfOk, map};
 ghost use Rattle.vx_ast.specs.Resolved.{expr};
 ghost use Rattle.vx_ast.specs.Syntax.{Program};
 ghost use Rattle.vx_rules.specs.Members.{rules};
 ghost use Rattle.vx_rules.specs.Rules as rule;
 ghost use Rattle.vx_rules.specs.Codes.{code as code_of};
+ghost use Rattle.vx_rules.specs.States.{is_quiet};
 ghost use Rattle.vx_stack.specs.Stack.{going, giving, frame_tree, side_tree, Stepped};
 ghost use Rattle.vx_states.specs.SymStates.{state as state_of};
 ghost use Rattle.vx_rules.specs.Trees as tree;
+ghost use Rattle.vx_terms.specs.Build.{true_term};
+ghost use Rattle.vx_terms.specs.Terms.{same};
 ghost use Rattle.vx_terms.specs.Views.{term};
 ghost use Rattle.vx_types.specs.Settled.{settled};
 
@@ -54,6 +57,13 @@ fn question(
         condition: condition.clone()?,
         probe,
     })
+}
+
+/// Whether an ask passes unasked.
+fn passes(condition: &Term, state: &SymState) -> bool
+    ensures { result ≡ (same (term condition.now) true_term || is_quiet (state_of state.now)) }
+{
+    condition.is_same(&Term::Truth(true)) || state.is_quiet()
 }
 
 impl Conts {
@@ -139,7 +149,7 @@ impl Conts {
         self.go(program, Frame::Go(next), state)
     }
 
-    /// Ask: on with this frame where the condition holds.
+    /// Ask: on with this frame where the condition holds. In a quiet state nothing is asked.
     pub fn ask(
         &mut self,
         alloc: Global,
@@ -152,7 +162,7 @@ impl Conts {
     ) -> Result<Move, AllocError>
         ensures { IfOk result (λ m. Stepped (settled program.now) (rule.ask (term condition.value) place (code_of code) (state_of state) (frame_tree (settled program.now) frame)) self.old.sides.items m self.new.sides.items) }
     {
-        if condition.is_same(&Term::Truth(true)) {
+        if passes(&condition, &state) {
             return self.go(program, frame, state);
         }
         let query = question(&condition, place, code, false, &state)?;
@@ -168,7 +178,7 @@ impl Conts {
     }
 
     /// Probe: on with one side where the condition is refuted, with the other where it isn't. It is asked in the
-    /// other side's state.
+    /// other side's state; where that is quiet, only what is literally true passes.
     pub fn probe(
         &mut self,
         alloc: Global,
@@ -183,6 +193,9 @@ impl Conts {
     {
         if condition.is_same(&Term::Truth(true)) {
             return self.go(program, refuted.frame, refuted.state);
+        }
+        if otherwise.state.is_quiet() {
+            return self.go(program, otherwise.frame, otherwise.state);
         }
         let query = question(condition, place, code, true, &otherwise.state)?;
         if condition.is_same(&Term::Truth(false)) {

@@ -1,13 +1,16 @@
 //! What a side does next, and what waits for it.
 
-ghost use Rattle.std.specs.Prelude.{◌≡◌, IfOk};
+ghost use Rattle.std.specs.Prelude.{◌≡◌, IfOk, None};
 ghost use Rattle.vx_ast.specs.Syntax.{Program};
 ghost use Rattle.vx_stack.specs.Stack.{frame_tree, side_tree};
+ghost use Rattle.vx_terms.specs.Build.{whole_amount};
+ghost use Rattle.vx_terms.specs.Views.{term};
 
 use std::alloc::{AllocError, Global};
 use std::rc::Rc;
 use vx_ast::Place;
 use vx_ast::resolved::{Assertion, Block, Connective, Expr, Method, Operator, Stmt};
+use vx_heap::SymHeap;
 use vx_rules::Code;
 use vx_states::SymState;
 use vx_terms::Term;
@@ -17,6 +20,43 @@ use vx_terms::Term;
 pub struct Codes {
     pub pure: Code,
     pub permission: Code,
+    /// Facts tell the parts of what it builds.
+    pub builds: bool,
+}
+
+/// How an assertion is produced.
+#[derive(Drop)]
+pub struct Production {
+    /// Each amount is multiplied by it.
+    pub scale: Rc<Term>,
+    pub snapshot: Option<Rc<Term>>,
+}
+
+/// How an assertion is consumed.
+#[derive(Drop)]
+pub struct Consumption {
+    pub codes: Codes,
+    /// Each amount is multiplied by it.
+    pub scale: Rc<Term>,
+    /// The heap of the start, in which expressions are read.
+    pub start: Rc<SymHeap>,
+}
+
+impl Production {
+    /// As it is written, without a snapshot.
+    pub fn as_written(alloc: Global) -> Result<Rc<Production>, AllocError>
+        ensures scale { IfOk result (λ x. term x.value.scale.value ≡ whole_amount) }
+        ensures snapshot { IfOk result (λ x. x.value.snapshot ≡ None) }
+    {
+        let scale = vx_heap::whole(alloc)?;
+        Ok(Rc::new(
+            alloc,
+            Production {
+                scale,
+                snapshot: None,
+            },
+        )?)
+    }
 }
 
 /// What of an expression waits for the value of an operand.
@@ -39,12 +79,12 @@ pub enum Operand {
 /// What of a consume waits for a value or a snapshot.
 #[derive(Drop)]
 pub enum Consumed {
-    /// The condition to ask for.
-    Ask(Place, Code),
+    /// The condition to ask for, and the heap behind it.
+    Ask(Place, Code, Rc<SymHeap>),
     /// The left snapshot, before the right part.
-    Right(Rc<Assertion>, Codes),
+    Right(Rc<Assertion>, Rc<Consumption>),
     /// The right snapshot, after the left one.
-    With(Rc<Term>),
+    With(Rc<Term>, Codes),
 }
 
 /// What of a statement waits for a value.
@@ -54,8 +94,8 @@ pub enum Executed {
     Assume,
     /// Both blocks, and how many variables stand before them.
     If(Rc<Block>, Rc<Block>, usize),
-    /// What was asserted stays.
-    Asserted,
+    /// What was asserted stays: the heap of before.
+    Asserted(Rc<SymHeap>),
     Exhaled,
 }
 
@@ -70,10 +110,13 @@ pub enum Next {
     Block(Rc<Block>, Rc<Next>),
     /// A block within another: this many variables are kept at its end.
     Inner(Rc<Block>, usize, Rc<Next>),
-    Produce(Rc<Assertion>, Rc<Next>),
-    Consume(Rc<Assertion>, Codes, Rc<Hole>),
-    /// A pure part was consumed.
-    Unit(Rc<Hole>),
+    Produce(Rc<Assertion>, Rc<Production>, Rc<Next>),
+    /// By this scale, read in the heap that it finds.
+    Consume(Rc<Assertion>, Codes, Rc<Term>, Rc<Hole>),
+    /// Read in the heap of an earlier start.
+    ConsumeFrom(Rc<Assertion>, Rc<Consumption>, Rc<Hole>),
+    /// A pure part was consumed: the heap is this one again.
+    Unit(Rc<SymHeap>, Rc<Hole>),
     /// The sides of a method whose precondition was produced.
     Sides(Rc<Method>),
 }
@@ -85,8 +128,8 @@ pub enum Hole {
     Finish,
     Operand(Operand, Rc<Hole>),
     Consumed(Consumed, Rc<Hole>),
-    /// A pure part is produced.
-    Produced(Rc<Next>),
+    /// A pure part is produced, with this snapshot.
+    Produced(Option<Rc<Term>>, Rc<Next>),
     Executed(Executed, Rc<Next>),
 }
 
@@ -101,9 +144,10 @@ impl Drop for Next {
                 Next::Exec(_c, rest) => rest,
                 Next::Block(_b, rest) => rest,
                 Next::Inner(_b, _kept, rest) => rest,
-                Next::Produce(_a, rest) => rest,
-                Next::Consume(_a, _codes, _hole) => return,
-                Next::Unit(_hole) => return,
+                Next::Produce(_a, _x, rest) => rest,
+                Next::Consume(_a, _codes, _scale, _hole) => return,
+                Next::ConsumeFrom(_a, _x, _hole) => return,
+                Next::Unit(_start, _hole) => return,
                 Next::Sides(_m) => return,
             };
             match Rc::into_inner(rest) {
@@ -122,7 +166,7 @@ impl Drop for Hole {
                 Hole::Finish => return,
                 Hole::Operand(_operand, rest) => rest,
                 Hole::Consumed(_consumed, rest) => rest,
-                Hole::Produced(_next) => return,
+                Hole::Produced(_snapshot, _next) => return,
                 Hole::Executed(_executed, _next) => return,
             };
             match Rc::into_inner(rest) {

@@ -8,5 +8,7 @@ mod question;
 
 pub use clauses::joined;
 pub use conts::{Conts, Move};
-pub use frame::{Codes, Consumed, Executed, Frame, Hole, Next, Operand, Side};
+pub use frame::{
+    Codes, Consumed, Consumption, Executed, Frame, Hole, Next, Operand, Production, Side,
+};
 pub use question::Query;

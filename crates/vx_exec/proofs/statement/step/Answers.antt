@@ -15,10 +15,21 @@ returns-in_ok-consume-in-Exhale c =
     stepped_as (settled c.args.program.now) _ _ _ _ _
     (rw (c.in-Exhale.is, c.in_ok-consume-in-Exhale.ensures) refl) c.next-in-Exhale.ensures
 
+pub returns-in_ok-clone-in-Inhale-2 : goal.returns-in_ok-clone-in-Inhale-2
+returns-in_ok-clone-in-Inhale-2 c =
+    stepped_as (settled c.args.program.now) _ _ _ _ _
+    (rw (
+      c.in-Inhale.is,
+      c.in_ok-clone-in-Inhale.ensures.cases,
+      c.in_ok-clone-in-Inhale-2.ensures.cases,
+      c.in_ok-production-in-Inhale.ensures.scale,
+      c.in_ok-production-in-Inhale.ensures.snapshot,
+    ) refl) c.next-in-Inhale.ensures
+
 pub returns-in_ok-consume-in-Assert : goal.returns-in_ok-consume-in-Assert
 returns-in_ok-consume-in-Assert c =
     stepped_as (settled c.args.program.now) _ _ _ _ _
-    (rw (c.in-Assert.is, c.in_ok-consume-in-Assert.ensures) refl) c.next-in-Assert.ensures
+    (rw (c.in-Assert.is, c.in_ok-consume-in-Assert.ensures, c.in_ok-clone-in-Assert.ensures.cases) refl) c.next-in-Assert.ensures
 
 pub returns-in_ok-clone-in-If-3 : goal.returns-in_ok-clone-in-If-3
 returns-in_ok-clone-in-If-3 c =

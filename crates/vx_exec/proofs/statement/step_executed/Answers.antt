@@ -7,3 +7,13 @@ pub returns-in_ok-right-in-If : goal.returns-in_ok-right-in-If
 returns-in_ok-right-in-If c =
     stepped_as (settled c.args.program.now) _ _ _ _ _
     (rw (c.in-If.is, c.in_ok-left-in-If.ensures, c.in_ok-right-in-If.ensures) refl) c.fork.ensures
+
+pub returns-in_ok-clone-in-Asserted-2 : goal.returns-in_ok-clone-in-Asserted-2
+returns-in_ok-clone-in-Asserted-2 c =
+    stepped_as (settled c.args.program.now) _ _ _ _ _
+    (rw (
+      c.in-Asserted.is,
+      c.in_ok-clone-in-Asserted-2.ensures.cases,
+      c.exchange_heap-_rest.ensures.after,
+      c.in_ok-clone-in-Asserted.ensures.cases,
+    ) refl) c.go-in-Asserted.ensures

@@ -8,3 +8,6 @@ returns-in-Operand c = stepped_as (settled c.args.program.now) _ _ _ _ _ (rw c.i
 
 pub returns-in-Consumed : goal.returns-in-Consumed
 returns-in-Consumed c = stepped_as (settled c.args.program.now) _ _ _ _ _ (rw c.in-Consumed.is refl) c.step_consumed.ensures
+
+pub returns-in-Produced : goal.returns-in-Produced
+returns-in-Produced c = stepped_as (settled c.args.program.now) _ _ _ _ _ (rw c.in-Produced.is refl) c.step_produced.ensures

@@ -10,9 +10,14 @@ use Rattle.vx_machine.proofs.run.step_next.Goals as goal
 pub returns-in-Inner : goal.returns-in-Inner
 returns-in-Inner c = stepped_as (settled c.args.program.now) _ _ _ _ _ (rw (c.in-Inner.is, c.deref-in-Inner.ensures) refl) c.step_inner.ensures
 
-pub returns-in_ok-clone-in-Consume : goal.returns-in_ok-clone-in-Consume
-returns-in_ok-clone-in-Consume c =
-    stepped_as (settled c.args.program.now) _ _ _ _ _ (rw (c.in-Consume.is, c.deref-in-Consume.ensures, c.in_ok-clone-in-Consume.ensures.cases) refl) c.step-in-Consume.ensures
+pub returns-in-Consume : goal.returns-in-Consume
+returns-in-Consume c =
+    stepped_as (settled c.args.program.now) _ _ _ _ _ (rw (c.in-Consume.is, c.deref-in-Consume.ensures) refl) c.step_here.ensures
+
+pub returns-in_ok-clone-in-ConsumeFrom : goal.returns-in_ok-clone-in-ConsumeFrom
+returns-in_ok-clone-in-ConsumeFrom c =
+    stepped_as (settled c.args.program.now) _ _ _ _ _
+    (rw (c.in-ConsumeFrom.is, c.deref-in-ConsumeFrom.ensures, c.in_ok-clone-in-ConsumeFrom.ensures.cases) refl) c.step-in-ConsumeFrom.ensures
 
 pub returns-in-Sides : goal.returns-in-Sides
 returns-in-Sides c =

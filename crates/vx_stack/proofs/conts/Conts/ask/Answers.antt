@@ -1,26 +1,34 @@
-use Rattle.std.proofs.Common.{◌≡◌, true, false, refl, ap, sym, ◌∙◌}
+use Rattle.std.proofs.Common.{◌≡◌, true, false, ◌||◌, ap, sym, ◌∙◌}
 use Rattle.vx_terms.specs.Terms.{Term, same}
 use Rattle.vx_terms.specs.Views.{term}
 use Rattle.vx_terms.specs.Build.{true_term, false_term}
 use Rattle.vx_types.specs.Settled.{settled}
-use Rattle.vx_rules.specs.States.{State}
+use Rattle.vx_rules.specs.States.{State, is_quiet}
 use Rattle.vx_states.specs.SymStates.{state}
 use Rattle.vx_rules.specs.Trees.{Ask}
 use Rattle.vx_rules.specs.Codes.{code}
 use Rattle.vx_stack.specs.Stack.{frame_tree, going, query}
-use Rattle.vx_stack.proofs.Steps.{ask_fact, ask_false, checked_ask}
+use Rattle.vx_stack.proofs.Steps.{ask_passes, ask_fact, ask_false, checked_ask, stepped_as}
 use Rattle.vx_stack.proofs.conts.Conts.ask.Goals as goal
 
-pub returns-then-is_same-2 : goal.returns-then-is_same-2
-returns-then-is_same-2 c =
+pub returns-then-passes : goal.returns-then-passes
+returns-then-passes c =
+    let p = settled c.args.program.now in
+    let c' : Term = term c.args.condition.value in
+    let s' : State = state c.args.state in
+    let e : (same c' true_term || is_quiet s') ≡ true = ap (λ t. same (term t) true_term || is_quiet s') (sym c.deref.ensures) ∙ sym c.passes.ensures ∙ c.if-passes.true in
+    stepped_as p c.go.result _ _ _ c.go.new.self.sides.items (ask_passes c' c.args.place (code c.args.code) s' (frame_tree p c.args.frame) e) c.go.ensures
+
+pub returns-then-is_same : goal.returns-then-is_same
+returns-then-is_same c =
     let p = settled c.args.program.now in
     let c' : Term = term c.args.condition.value in
     let s' : State = state c.args.state in
     let q = c.in_ok-query.query in
-    let e1 : same c' true_term ≡ false = ap (λ t. same (term t) true_term) (sym c.deref.ensures) ∙ sym c.is_same.ensures ∙ c.if-is_same.false in
-    let e2 : same c' false_term ≡ true = ap (λ t. same (term t) false_term) (sym c.deref-2.ensures) ∙ sym c.is_same-2.ensures ∙ c.if-is_same-2.true in
+    let e1 : (same c' true_term || is_quiet s') ≡ false = ap (λ t. same (term t) true_term || is_quiet s') (sym c.deref.ensures) ∙ sym c.passes.ensures ∙ c.if-passes.false in
+    let e2 : same c' false_term ≡ true = ap (λ t. same (term t) false_term) (sym c.deref-2.ensures) ∙ sym c.is_same.ensures ∙ c.if-is_same.true in
     checked_ask p q _ _ _ _ c.in_ok-query.ensures.probe c.in_ok-push.ensures
-    (ask_false c' c.args.place (code c.args.code) s' (frame_tree p c.args.frame) (query q) refl e1 e2 c.in_ok-query.ensures.question
+    (ask_false c' c.args.place (code c.args.code) s' (frame_tree p c.args.frame) (query q) e1 e2 c.in_ok-query.ensures.question
     ∙ ap (λ n. Ask (query q) (going p n s')) (sym c.in_ok-impossible.ensures.ok))
 
 pub returns : goal.returns
@@ -29,7 +37,7 @@ returns c =
     let c' : Term = term c.args.condition.value in
     let s' : State = state c.args.state in
     let q = c.in_ok-query.query in
-    let e1 : same c' true_term ≡ false = ap (λ t. same (term t) true_term) (sym c.deref.ensures) ∙ sym c.is_same.ensures ∙ c.if-is_same.false in
-    let e2 : same c' false_term ≡ false = ap (λ t. same (term t) false_term) (sym c.deref-2.ensures) ∙ sym c.is_same-2.ensures ∙ c.if-is_same-2.false in
+    let e1 : (same c' true_term || is_quiet s') ≡ false = ap (λ t. same (term t) true_term || is_quiet s') (sym c.deref.ensures) ∙ sym c.passes.ensures ∙ c.if-passes.false in
+    let e2 : same c' false_term ≡ false = ap (λ t. same (term t) false_term) (sym c.deref-2.ensures) ∙ sym c.is_same.ensures ∙ c.if-is_same.false in
     checked_ask p q _ _ _ _ c.in_ok-query.ensures.probe c.in_ok-push-2.ensures
-    (ask_fact c' c.args.place (code c.args.code) s' _ (frame_tree p c.args.frame) (query q) refl e1 e2 c.in_ok-add_fact.ensures c.in_ok-query.ensures.question)
+    (ask_fact c' c.args.place (code c.args.code) s' _ (frame_tree p c.args.frame) (query q) e1 e2 c.in_ok-add_fact.ensures c.in_ok-query.ensures.question)

@@ -1,0 +1,12 @@
+use Rattle.std.proofs.Common.{refl}
+use Rattle.vx_consume.proofs.parts.Goals as goal
+
+pub returns : goal.returns
+returns c =
+    rw (
+      c.in_ok-clone-3.ensures.cases,
+      c.in_ok-clone-4.ensures.cases,
+      c.in_ok-rest.ensures.ok,
+      c.in_ok-clone.ensures.cases,
+      c.in_ok-clone-2.ensures.cases,
+    ) refl
