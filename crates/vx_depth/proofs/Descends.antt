@@ -1,5 +1,6 @@
 -- From enough depth on the rules of all depths are the same: level by level from the third down, and on each level by how many members are entered from one another.
 use Rattle.std.proofs.Common.{◌≡◌, ℕ, zero, suc, ◌+◌, ◌*◌, ◌<◌, nat_lt, Bool, true, false, cond, List, [], ◌∷◌, ◌++◌, Option, Some, None, refl, sym, ap, ◌∙◌, subst, true≢false, arith, is_some}
+use Rattle.std.proofs.lemmas.Bool.{ltb-true}
 use Rattle.vx_ast.specs.Syntax.{Name, result_name, Program, Predicate, Function, predicate_named, function_named, joined, conjoined, Expr, Exprs, Assertion, Measure, ByNumber, ByInstance}
 use Rattle.vx_ast.specs.Mentions.{mentioned, mentioned_in}
 use Rattle.vx_terms.specs.Interpretations.{Each}
@@ -130,6 +131,14 @@ module _ (p : Program) (n : ℕ) (all : (x : Name) → IsWithin p n x) where
 
   pub ground_level : (r d d' : ℕ) → 3 * n + r < d → 3 * n + r < d' → Agree p r 0 (outer p d) (outer p d')
   ground_level r d d' m m' = on_level 0 (3 * n) (λ d d' m m' q. first_level n d d' (omega (arith, m)) (omega (arith, m'))) r d d' m m'
+
+  -- on every level: from the third on nothing is entered on a further one
+  pub any_level : (l r d d' : ℕ) → 3 * n + r < d → 3 * n + r < d' → Agree p r l (outer p d) (outer p d')
+  any_level zero r d d' m m' = ground_level r d d' m m'
+  any_level (suc zero) r d d' m m' = first_level r d d' (omega (arith, m)) (omega (arith, m'))
+  any_level (suc (suc zero)) r d d' m m' = second r d d' (omega (arith, m)) (omega (arith, m'))
+  any_level (suc (suc (suc k))) r d d' m m' =
+      on_level (suc (suc (suc k))) 0 (λ d d' m m' q. let e = ltb-true (suc (suc (suc k))) 3 q in absurd (omega (arith, e))) r d d' (omega (arith, m)) (omega (arith, m'))
 
   opens_by : (o o' : Outer) → (nat_lt 0 3 ≡ true → Agree p n 1 o o') → (r : ℕ) → ((k : ℕ) → r ≡ suc k → Agree p k 0 o o') → Opens p (IsWithin p r) 0 o o'
   opens_by o o' up zero h = opens_none p 0 o o'

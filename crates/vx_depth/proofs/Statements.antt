@@ -9,13 +9,13 @@ use Rattle.vx_rules.specs.States.{State, sort_of_type, fresh, after_fresh, with_
 use Rattle.vx_rules.specs.Trees.{AssertCode, PermissionCode, AmountCode, CallCode, EntryCode, KeptCode, FoldCode, Tree, Step, Fork}
 use Rattle.vx_rules.specs.Chunks.{instance_key, put}
 use Rattle.vx_rules.specs.Rules.{Going, Outer, outer, never, entered, back, eval, evals, produce, consume}
-use Rattle.vx_rules.specs.Members.{codes, distinct, put_fields, names_of, after_names, called, folded, forget, exec, exec_all, depth}
+use Rattle.vx_rules.specs.Members.{codes, distinct, put_fields, names_of, after_names, called, folded, forget, exec, exec_all, depth, rules}
 use Rattle.vx_depth.specs.Entering.{IsWithin, NoneWithinItself}
-use Rattle.vx_depth.specs.Depths.{SameGoing, ExecSame, SameRules}
+use Rattle.vx_depth.specs.Depths.{SameGoing, ExecSame, SameRules, ReadsItself}
 use Rattle.vx_depth.proofs.Levels.{fact_level, facts_level, name_level, names_level, put_level, declare_level, forget_level, fields_level}
 use Rattle.vx_depth.proofs.Same.{ask_same, fork_same, write_same, Opens, unfolded_same}
 use Rattle.vx_depth.proofs.Chains.{all_within}
-use Rattle.vx_depth.proofs.Descends.{each_of_all, Agree, ground_level, ground_opens}
+use Rattle.vx_depth.proofs.Descends.{each_of_all, Agree, ground_level, any_level, ground_opens}
 
 module _ (p : Program) (n : ℕ) (all : (x : Name) → IsWithin p n x) (o o' : Outer) (outside : Agree p n 0 o o')
     (opens : Opens p (IsWithin p n) 0 o o') (here : Agree p n 0 record { eval = eval p o; evals = evals p o; produce = produce p o; consume = consume p o } record { eval = eval p o'; evals = evals p o'; produce = produce p o'; consume = consume p o' }) where
@@ -118,3 +118,15 @@ same_rules p n c d all m m' =
 
 pub depth_suffices : (p : Program) (d : ℕ) → NoneWithinItself p → depth p ≤ d → SameRules p (depth p) d
 depth_suffices p d apart m = same_rules p (length p) (depth p) d (all_within p apart) (omega arith) (omega (arith, m))
+
+pub reads_itself : (p : Program) (l : ℕ) → NoneWithinItself p → ReadsItself p l
+unfolding rules
+reads_itself p l apart =
+    let all = all_within p apart in
+    let h = any_level p (length p) all l (length p) (depth p) (suc (depth p)) (omega arith) (omega arith) in
+    record {
+      eval = λ e. h.eval e (each_of_all all _);
+      evals = λ es. h.evals es (each_of_all all _);
+      produce = λ a. h.produce a (each_of_all all _);
+      consume = λ a. h.consume a (each_of_all all _);
+    }

@@ -44,3 +44,10 @@ pub record SameRules (p : Program) (c d : ℕ) : Type 0 where
   pub consume : (a : Assertion) → ConsumeSame 0 (rules.consume p (outer p c)) (rules.consume p (outer p d)) a
   pub exec : (st : Stmt) → ExecSame (members.exec p (outer p c)) (members.exec p (outer p d)) st
   pub exec_all : (b : Block) → ExecSame (members.exec_all p (outer p c)) (members.exec_all p (outer p d)) b
+
+-- from states of a level, what stands in another member is read as the rules over themselves read it: no depth is seen
+pub record ReadsItself (p : Program) (l : ℕ) : Type 0 where
+  pub eval : (e : Expr) → EvalSame l (members.rules p).eval (rules.eval p (members.rules p)) e
+  pub evals : (es : Exprs) → EvalsSame l (members.rules p).evals (rules.evals p (members.rules p)) es
+  pub produce : (a : Assertion) → ProduceSame l (members.rules p).produce (rules.produce p (members.rules p)) a
+  pub consume : (a : Assertion) → ConsumeSame l (members.rules p).consume (rules.consume p (members.rules p)) a

@@ -8,7 +8,7 @@ ghost use Rattle.vx_rules.specs.Rules.{nowhere, outer};
 ghost use Rattle.vx_rules.specs.Members.{depth, tree_over, tree};
 ghost use Rattle.vx_depth.specs.Apart.{KeepsApart};
 ghost use Rattle.vx_depth.specs.Entering.{IsWithin, NoneWithinItself};
-ghost use Rattle.vx_depth.specs.Depths.{SameRules};
+ghost use Rattle.vx_depth.specs.Depths.{SameRules, ReadsItself};
 ghost use Rattle.vx_depth.specs.Worked.{f, n, P, applies_itself, applies_itself_f, unfolds_itself, unfolds_itself_P, nested, plain};
 
 /// Where no more than n functions and predicates are entered, one from another, the rules of all depths above 4 n are the same.
@@ -20,6 +20,12 @@ pub fn rules_past_a_depth_are_the_same()
 pub fn the_depth_suffices()
     ensures rules { (p : Program) (d : ℕ) → NoneWithinItself p → depth p ≤ d → SameRules p (depth p) d }
     ensures trees { (p : Program) (d : ℕ) → NoneWithinItself p → depth p ≤ d → (x : Name) (k : Kind) → tree_over p (outer p d) x k ≡ tree p x k }
+{}
+
+/// Where no member is entered within itself, what stands in another member, as the contract of a callee, is read as the
+/// rules over themselves read it, at every level.
+pub fn rules_read_parts_by_themselves()
+    ensures { (p : Program) (l : ℕ) → KeepsApart p → ReadsItself p l }
 {}
 
 /// What is entered from what: a function whose precondition unfolds a predicate that unfolds another one enters three.

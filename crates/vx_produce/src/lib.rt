@@ -2,7 +2,7 @@
 #![tactic(auto)]
 
 ghost use Rattle.std.specs.Prelude.{◌≡◌, IfOk};
-ghost use Rattle.vx_ast.specs.Resolved.{assertion};
+ghost use Rattle.vx_resolved.specs.Resolved.{assertion};
 ghost use Rattle.vx_rules.specs.Members.{rules};
 ghost use Rattle.vx_rules.specs.Rules as rule;
 ghost use Rattle.vx_stack.specs.Stack.{giving, going, producing, Stepped};
@@ -14,7 +14,7 @@ ghost use Rattle.vx_types.specs.Settled.{settled};
 
 use std::alloc::{AllocError, Global};
 use std::rc::Rc;
-use vx_ast::resolved::Assertion;
+use vx_resolved::Assertion;
 use vx_stack::{Conts, Frame, Hole, Move, Next, Production};
 use vx_states::{SymState, copy_optional, left_part, right_part};
 use vx_terms::Term;

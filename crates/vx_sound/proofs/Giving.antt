@@ -1,7 +1,7 @@
 -- What putting a fresh chunk, and locating and taking a permission, lead to.
 use Rattle.std.proofs.Common.{◌≡◌, ℕ, suc, pos, ◌≤◌, Bool, true, false, cond, ◌⊎◌, inl, inr, List, [], ◌∷◌, refl, sym, ◌∙◌, ap, ap₂, subst, le_refl, le_trans, le_of_lt, lt-suc_self, true≢false}
 use Rattle.std.specs.Prelude.{Ok}
-use Rattle.vx_frac.specs.Fractions.{Fraction, none, at_most, sum, minus, product}
+use Rattle.vx_frac.specs.Fractions.{Fraction, none, full, at_most, sum, minus, product}
 use Rattle.vx_ast.specs.declared.Place.{Place}
 use Rattle.vx_ast.specs.declared.ValueType.TheVariants.{Perm}
 use Rattle.vx_ast.specs.declared.ValueType.TheVariants as type
@@ -12,7 +12,7 @@ use Rattle.vx_meaning.specs.Fits.{Checked, ◌>>=◌, or_fail, guard, Eventually
 use Rattle.vx_meaning.specs.Fits as fits
 use Rattle.vx_terms.specs.Sorts.{Sort, RealSort, RefSort}
 use Rattle.vx_terms.specs.Terms.{Term, same}
-use Rattle.vx_terms.specs.Build.{equals, less_equal, multiply, zero_amount}
+use Rattle.vx_terms.specs.Build.{equals, less_equal, multiply, zero_amount, whole_amount}
 use Rattle.vx_terms.specs.Interpretations.{Interpretation, IntElement, as_fraction, IsOf, value, IsTrueIn}
 use Rattle.vx_rules.specs.States as rules
 use Rattle.vx_rules.specs.Trees.{Code, Tree, AmountCode}
@@ -25,8 +25,8 @@ use Rattle.vx_elements.proofs.Settled.{Meaning, Extends, extends-refl, extends-t
 use Rattle.vx_elements.proofs.Built.{Good, good_later, good_equals}
 use Rattle.vx_elements.proofs.Elements.{element, element_is}
 use Rattle.vx_elements.proofs.Eventually.{both_eventually}
-use Rattle.vx_amounts.proofs.Amounts.{Le, Positive, Same, le-refl, le-trans, same-trans, same-lowest', product_same, unscaled, minus_none, add-below}
-use Rattle.vx_elements.proofs.Truth.{equal_is, true_le, good_zero, good_at_most, good_product, multiply_is}
+use Rattle.vx_amounts.proofs.Amounts.{Le, Positive, Same, same-refl, full-positive, le-refl, le-trans, same-trans, same-lowest', product_same, unscaled, minus_none, add-below}
+use Rattle.vx_elements.proofs.Truth.{equal_is, true_le, good_zero, good_whole, good_at_most, good_product, multiply_is}
 use Rattle.vx_sound.proofs.Stands.{ref_of, location_of, amount_of, Bounded, ChunkStands, HeapStands, Stands, stands_later, next_after_facts}
 use Rattle.vx_elements.proofs.Values.{ref_value_is, perm_value_is, value_typed, sort_of_field}
 use Rattle.vx_sound.proofs.Chunks.{held_sign, taken_apart, chunk_held, reduced_stands, lowered_by_none}
@@ -80,6 +80,10 @@ module _ (means : Meaning) (p : Program) where
 
   pub scale_later : {m n : ℕ} {i j : Interpretation} {scale : Term} {q : Fraction} → m ≤ n → Extends means m i j → ScaleStands m i scale q → ScaleStands n j scale q
   scale_later {scale = scale} {q = q} le x k = record { good = good_later means le x k.good; is = subst (λ e. Same (as_fraction e) q) (sym (value_kept means scale k.good.settled x)) k.is; positive = k.positive }
+
+  -- the whole as a scale
+  pub whole_scale : (n : ℕ) (i : Interpretation) → ScaleStands n i whole_amount full
+  whole_scale n i = record { good = good_whole means; is = same-refl full; positive = full-positive }
 
   -- a chunk with a fresh value
   pub put_fresh : {scope : Scope} {i : Interpretation} {s : rules.State} {c : run.State} (f : Name) (r a : Term) (k : ℕ) (q : Fraction) (inner : Bool) (on : Going) →

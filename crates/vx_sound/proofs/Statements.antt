@@ -1,16 +1,16 @@
 -- No run of a cleared statement fails, and what follows one that ends is cleared at its state.
-use Rattle.std.proofs.Common.{◌≡◌, ℕ, Bool, true, false, not, cond, ◌⊎◌, inl, inr, List, [], ◌∷◌, ◌++◌, length, take, slice_set, None, refl, sym, ◌∙◌, ap, ap₂, subst, le_refl, le_trans}
+use Rattle.std.proofs.Common.{◌≡◌, ℕ, Bool, true, false, not, cond, ◌⊎◌, inl, inr, List, [], ◌∷◌, ◌++◌, length, take, slice_set, Some, None, refl, sym, ◌∙◌, ap, ap₂, subst, le_refl, le_trans}
 use Rattle.std.specs.Prelude.{Ok}
 use Rattle.std.proofs.Math.Seq.{take-append_seam}
 use Rattle.vx_frac.specs.Fractions.{none, full, at_most}
 use Rattle.vx_ast.specs.declared.Place.{Place}
 use Rattle.vx_ast.specs.declared.ValueType.{ValueType}
 use Rattle.vx_ast.specs.declared.ValueType.TheVariants as type
-use Rattle.vx_ast.specs.Syntax.{Name, Program, Expr, Assertion, Stmt, Declare, Assign, Write, New, Call, Inhale, Exhale, Assert, Assume, Fold, Unfold, If, While, Block, Done, Then, joined, assigned_in}
+use Rattle.vx_ast.specs.Syntax.{Name, Program, Expr, Exprs, Assertion, Stmt, Declare, Assign, Write, New, Call, Inhale, Exhale, Assert, Assume, Fold, Unfold, If, While, Block, Done, Then, joined, assigned_in, method_named}
 use Rattle.vx_meaning.specs.Values.{Value, RefValue, type_of, is_true}
 use Rattle.vx_meaning.specs.States as run
 use Rattle.vx_meaning.specs.Consistent.{IsConsistent, Changes}
-use Rattle.vx_meaning.specs.Fits.{Checked, ◌>>=◌, guard, Eventually, fit_by, take_by}
+use Rattle.vx_meaning.specs.Fits.{Checked, ◌>>=◌, guard, placed, Eventually, fit_by, fit_all, deeper, take_by}
 use Rattle.vx_meaning.specs.Outcomes.{Outcome, Outcomes, ends, stops, either, and_then, checked, passes, refused}
 use Rattle.vx_meaning.specs.Give.{when, side, give}
 use Rattle.vx_meaning.specs.Run as meaning
@@ -21,19 +21,20 @@ use Rattle.vx_terms.proofs.Build.{negate_value}
 use Rattle.vx_terms.specs.Interpretations.{Interpretation, as_bool, as_fraction, value}
 use Rattle.vx_rules.specs.States as rules
 use Rattle.vx_rules.specs.States.{sort_of_type}
-use Rattle.vx_rules.specs.Trees.{AssertCode, PermissionCode, EntryCode, KeptCode, End, Step, Fork}
+use Rattle.vx_rules.specs.Trees.{AssertCode, PermissionCode, CallCode, EntryCode, KeptCode, Tree, End, Step, Fork}
 use Rattle.vx_rules.specs.Chunks.{field_key, Candidate, first_argument}
-use Rattle.vx_rules.specs.Rules.{Giving, Going, Outer, never, fork, holds_amount, write_field, field_sort, eval, produce, consume}
+use Rattle.vx_rules.specs.Rules.{Giving, GivingAll, Going, Outer, never, fork, holds_amount, write_field, field_sort, eval, produce, consume}
 use Rattle.vx_rules.specs.Rules as rule
-use Rattle.vx_rules.specs.Members.{codes, forget, exec, exec_all}
+use Rattle.vx_rules.specs.Members.{codes, forget, names_of, after_names, called, exec, exec_all}
 use Rattle.vx_types.specs.Typing.{Scope, AreOnce, IsTyped, IsTypedStmt, IsTypedBlock, scope_after, scope_after_all}
-use Rattle.vx_types.specs.FieldLanguage.{InFields, IsOfFields, AreOfFields, IsFieldStmt, IsFieldBlock}
+use Rattle.vx_types.specs.FieldLanguage.{InFields, IsOfFields, AreOfFields}
+use Rattle.vx_sound.specs.CallLanguage.{AreInFields}
 use Rattle.vx_sound.proofs.Passes.{Cleared}
 use Rattle.vx_elements.proofs.Settled.{Meaning, Extends, extends-refl, extends-trans, value_kept}
 use Rattle.vx_elements.proofs.Built.{Good, good_later, good_negate}
 use Rattle.vx_elements.proofs.Elements.{element}
 use Rattle.vx_elements.proofs.Eventually.{both_eventually, one_answer}
-use Rattle.vx_amounts.proofs.Amounts.{Le, same-refl, le-refl, le-trans, none-full, full-positive}
+use Rattle.vx_amounts.proofs.Amounts.{Le, le-refl, le-trans, none-full}
 use Rattle.vx_elements.proofs.Truth.{good_whole}
 use Rattle.vx_sound.proofs.Stands.{ref_of, location_of, amount_of, StoreStands, HeapStands, Stands, stands_with_store, heap_later, store_take, store_lengths, store_assign, stands_entry}
 use Rattle.vx_elements.proofs.Values.{ref_value_is, sort_of_field, field_type_is}
@@ -43,8 +44,11 @@ use Rattle.vx_sound.proofs.Puts.{heap_changed, written_stands}
 use Rattle.vx_sound.proofs.Candidates.{FirstWith, first_one, good_amount, amount_is}
 use Rattle.vx_sound.proofs.Goes.{Goes, Evaluates, here, goes_after, reached, stuck, forked, declared, Named, named}
 use Rattle.vx_sound.proofs.Evaluate.{bind_ok, eval_goes}
-use Rattle.vx_sound.proofs.Giving.{at_field, ScaleStands}
+use Rattle.vx_sound.proofs.Giving.{at_field, whole_scale}
 use Rattle.vx_sound.proofs.Assertions.{by_side, Leaves, leaves_after, ends_leaves, stops_leaves, then_leaves, refused_leaves, stands_at, pure_goes, is_true_of, give_goes, Consumes, consumed}
+use Rattle.vx_sound.proofs.Contracts.{IsCallable, SpeaksOfFields, AllSpeaks}
+use Rattle.vx_sound.proofs.Arguments.{EvaluatesAll, evals_goes, NamedAll, named_all}
+use Rattle.vx_sound.proofs.Calls.{CallsGo}
 use Rattle.vx_sound.proofs.Forget.{toward_start, forget_goes}
 use Rattle.vx_sound.proofs.Once.{once_more}
 use Rattle.vx_sound.proofs.Fresh.{new_goes}
@@ -67,11 +71,7 @@ module _ (p : Program) where
   still_once (While at e is b) scope k u = u
 
 module _ (means : Meaning) (p : Program) where
-  -- the whole as a scale
-  pub whole_scale : (n : ℕ) (i : Interpretation) → ScaleStands means p n i whole_amount full
-  whole_scale n i = record { good = good_whole means; is = same-refl full; positive = full-positive }
-
-  module _ (o : Outer) where
+  module _ (o : Outer) (calls : CallsGo means p o) where
     -- back from a block
     leave_goes : {mid scope : Scope} {i : Interpretation} {n : ℕ} {d : run.State} (on : Going) (k l : ℕ) → k ≡ length scope → l ≡ length scope → take (length scope) mid ≡ scope →
         Goes means p mid i n (λ s1. on (rules.leave k s1)) d → Goes means p scope i n on (run.leave l d)
@@ -148,7 +148,7 @@ module _ (means : Meaning) (p : Program) where
 
     inhale_goes : (at : Place) (a : Assertion) → IsOfFields a → ExecGoes (Inhale at a)
     unfolding ExecGoes
-    inhale_goes at a j scope c outcome h k u i s on st w = give_goes means p o outcome a full h k j whole_amount on (whole_scale s.next i) st w
+    inhale_goes at a j scope c outcome h k u i s on st w = give_goes means p o outcome a full h k j whole_amount on (whole_scale means p s.next i) st w
 
     assume_goes : (at : Place) (e : Expr) → InFields e → ExecGoes (Assume at e)
     unfolding ExecGoes
@@ -162,7 +162,7 @@ module _ (means : Meaning) (p : Program) where
         after t s1 = Step (on (rules.with_heap s.heap s1))
 
         r : Consumes means p o scope i s.next after c a full c.holdings
-        r = consumed means p o a full k j (codes AssertCode PermissionCode) whole_amount after refl (whole_scale s.next i) st w
+        r = consumed means p o a full k j (codes AssertCode PermissionCode) whole_amount after refl (whole_scale means p s.next i) st w
 
         go : checked (λ n. take_by p n c full a c.holdings) (λ _. ends c) outcome → Leaves means p scope i s.next on outcome
         go (passes v h rest) = ends_leaves means p scope i s.next on c outcome rest record {
@@ -184,7 +184,7 @@ module _ (means : Meaning) (p : Program) where
         after t s1 = Step (on s1)
 
         r : Consumes means p o scope i s.next after c a full c.holdings
-        r = consumed means p o a full k j (codes AssertCode PermissionCode) whole_amount after refl (whole_scale s.next i) st w
+        r = consumed means p o a full k j (codes AssertCode PermissionCode) whole_amount after refl (whole_scale means p s.next i) st w
 
         changed : (heap : run.Heap) → Changes p (run.with_holdings r.left c) heap → Goes means p scope i s.next on (run.with_heap heap (run.with_holdings r.left c))
         changed heap same = record {
@@ -373,6 +373,50 @@ module _ (means : Meaning) (p : Program) where
             on_left on_right
         go (refused place h f) = refused_leaves means p scope i s.next on outcome r.result place r.fits h
 
+    -- a call, once its arguments are evaluated and named
+    call_goes : (at : Place) (xs : List Name) (f : Name) (es : Exprs) → AreInFields es → IsCallable p f → ExecGoes (Call at xs f es)
+    unfolding ExecGoes
+    call_goes at xs f es j contract scope c outcome h k u i s on st w = go h
+      where
+        after : GivingAll
+        after ts s1 = elim (method_named p f) as (λ c. Tree) [
+          | None ↦ never at CallCode s1
+          | Some m ↦ called p o at m (names_of ts s1) xs (after_names ts s1) on
+        ]
+
+        r : EvaluatesAll means p scope i s.next after c es (k.0).parameters
+        r = evals_goes means p o k.2 j after st w
+
+        n : NamedAll means p scope r.interp r.state.next c (k.0).parameters (names_of r.terms r.state) r.results (after_names r.terms r.state)
+        n = named_all means p (k.0).parameters r.terms r.results r.each r.stands
+
+        entered : Cleared (called p o at k.0 (names_of r.terms r.state) xs (after_names r.terms r.state) on)
+        entered = subst (λ m. Cleared (elim m as (λ c. Tree) [
+          | None ↦ never at CallCode r.state
+          | Some m ↦ called p o at m (names_of r.terms r.state) xs (after_names r.terms r.state) on
+        ])) k.1 r.cleared
+
+        named : Goes means p scope i s.next (λ s1. called p o at k.0 (names_of r.terms r.state) xs s1 on) c
+        named = record {
+          interp = n.interp;
+          state = after_names r.terms r.state;
+          extends = extends-trans means r.later r.extends n.extends;
+          later = le_trans r.later n.later;
+          stands = n.stands;
+          cleared = entered;
+        }
+
+        calling : meaning.call p c at xs f r.results outcome →
+            checked (λ n. placed at (take_by p n (run.with_store (run.bind (k.0).parameters r.results) c) full (joined (k.0).place (k.0).requires) c.holdings)) (meaning.return_from p c at xs k.0 r.results) outcome
+        calling h = rw k.1 at h
+
+        go : checked (λ n. fit_all p (deeper p n) c es) (meaning.call p c at xs f) outcome → Leaves means p scope i s.next on outcome
+        go (passes vs h rest) =
+            leaves_after means p scope on outcome named
+            (calls k.0 (contract k.0 k.1) scope n.interp (after_names r.terms r.state) c at xs (names_of r.terms r.state) r.results on k.3 n.each n.stands entered outcome
+            (calling (subst (λ z. meaning.call p c at xs f z outcome) (one_answer vs r.results h r.fits) rest)))
+        go (refused place h z) = refused_leaves means p scope i s.next on outcome r.results place r.fits h
+
     -- Loops
 
     -- an arbitrary iteration, and what is behind
@@ -411,7 +455,7 @@ module _ (means : Meaning) (p : Program) where
         after t s1 = Fork (first (forget [] (assigned_in b) s1)) (second (forget [] (assigned_in b) s1))
 
         r : Consumes means p o scope i s.next after c (joined at is) full c.holdings
-        r = consumed means p o (joined at is) full inv_typed inv_plain (codes EntryCode EntryCode) whole_amount after refl (whole_scale s.next i) st w
+        r = consumed means p o (joined at is) full inv_typed inv_plain (codes EntryCode EntryCode) whole_amount after refl (whole_scale means p s.next i) st w
 
         lengths : length s.store ≡ length scope
         lengths = (store_lengths means p s.next i scope s.store c.store st.store).0
@@ -431,7 +475,7 @@ module _ (means : Meaning) (p : Program) where
             end_of v g1 q = end q
               where
                 z : Consumes means p o scope g1.interp g1.state.next (λ a s6. End) v (joined at is) full v.holdings
-                z = consumed means p o (joined at is) full inv_typed inv_plain (codes KeptCode KeptCode) whole_amount (λ a s6. End) refl (whole_scale g1.state.next g1.interp) g1.stands g1.cleared
+                z = consumed means p o (joined at is) full inv_typed inv_plain (codes KeptCode KeptCode) whole_amount (λ a s6. End) refl (whole_scale means p g1.state.next g1.interp) g1.stands g1.cleared
 
                 end : checked (λ n. take_by p n v full (joined at is) v.holdings) (λ _. stops) outcome → Leaves means p scope g1.interp g1.state.next on outcome
                 end (passes a h rest) = stops_leaves means p scope g1.interp g1.state.next on outcome rest
@@ -470,7 +514,7 @@ module _ (means : Meaning) (p : Program) where
             (leaves_after means p {mid = scope} scope on outcome f
             (then_leaves means p scope scope f.interp f.state.next (give p (IsConsistent p) full (joined at is) t0)
             (λ t. checked (λ n. fit_by p n t e) (λ v. side v (and_then (meaning.scoped p (meaning.run_all p b) t) (λ v. checked (λ n. take_by p n v full (joined at is) v.holdings) (λ _. stops))) stops)) inside on outcome q
-            (λ other m. give_goes means p o other (joined at is) full m inv_typed inv_plain {s = rules.with_heap [] f.state} whole_amount inside (whole_scale f.state.next f.interp) empty f.cleared)
+            (λ other m. give_goes means p o other (joined at is) full m inv_typed inv_plain {s = rules.with_heap [] f.state} whole_amount inside (whole_scale means p f.state.next f.interp) empty f.cleared)
             (λ t g m. iterates t f.interp f.state.next g m)))
 
         leaves_on : (t : run.State) (j : Interpretation) (n : ℕ) (g : Goes means p scope j n outside t) → checked (λ n. fit_by p n t e) (λ v. side v stops (ends t)) outcome → Leaves means p scope g.interp g.state.next on outcome
@@ -513,7 +557,7 @@ module _ (means : Meaning) (p : Program) where
             (leaves_after means p {mid = scope} scope on outcome f
             (then_leaves means p scope scope f.interp f.state.next (give p (IsConsistent p) full (joined at is) (run.with_store y (run.with_heap heap (run.with_holdings r.left c))))
             (λ t. checked (λ n. fit_by p n t e) (λ v. side v stops (ends t))) outside on outcome q
-            (λ other m. give_goes means p o other (joined at is) full m inv_typed inv_plain {s = f.state} whole_amount outside (whole_scale f.state.next f.interp) f.stands f.cleared)
+            (λ other m. give_goes means p o other (joined at is) full m inv_typed inv_plain {s = f.state} whole_amount outside (whole_scale means p f.state.next f.interp) f.stands f.cleared)
             (λ t g m. leaves_on t f.interp f.state.next g m)))
 
         either_side : meaning.iteration p c (assigned_in b) e (joined at is) (meaning.scoped p (meaning.run_all p b)) outcome ⊎ meaning.behind p (run.with_holdings r.left c) (assigned_in b) e (joined at is) outcome → Leaves means p scope i s.next on outcome
@@ -531,7 +575,7 @@ module _ (means : Meaning) (p : Program) where
     unfolding ExecAllGoes
     done_goes scope c outcome h k u i s on st w = ends_leaves means p scope i s.next on c outcome h (here means p on st w)
 
-    then_goes : (st : Stmt) (b : Block) → IsFieldStmt st → ExecGoes st → ExecAllGoes b → ExecAllGoes (Then st b)
+    then_goes : (st : Stmt) (b : Block) → SpeaksOfFields p st → ExecGoes st → ExecAllGoes b → ExecAllGoes (Then st b)
     unfolding ExecGoes ExecAllGoes
     then_goes st b j on_st on_b scope c outcome h k u i s on sta w =
         let after = λ (s1 : rules.State). exec_all p o b s1 on in
@@ -540,7 +584,7 @@ module _ (means : Meaning) (p : Program) where
         (λ e g r. on_b (scope_after p st scope) e outcome r k.1 (still_once p st scope k.0 u) g.interp g.state on g.stands g.cleared)
 
     mutual
-      exec_goes : (st : Stmt) → IsFieldStmt st → ExecGoes st
+      exec_goes : (st : Stmt) → SpeaksOfFields p st → ExecGoes st
       exec_goes (Declare at x t) j = declare_goes at x t
       exec_goes (Assign at x e) j = assign_goes at x e j
       exec_goes (Inhale at a) j = inhale_goes at a j
@@ -550,16 +594,16 @@ module _ (means : Meaning) (p : Program) where
       exec_goes (If at e a b) j = if_goes at e a b j.0 (exec_all_goes a j.1) (exec_all_goes b j.2)
       exec_goes (Write at e f e') j = write_goes at e f e' j.0 j.1
       exec_goes (New at x fs) j = new_leaves at x fs
-      exec_goes (Call at xs f es) j = absurd j
+      exec_goes (Call at xs f es) j = call_goes at xs f es j.0 j.1
       exec_goes (Fold at i es share) j = absurd j
       exec_goes (Unfold at i es share) j = absurd j
       exec_goes (While at e is b) j = while_goes at e is b j.0 j.1 (exec_all_goes b j.2)
 
-      exec_all_goes : (b : Block) → IsFieldBlock b → ExecAllGoes b
+      exec_all_goes : (b : Block) → AllSpeaks p b → ExecAllGoes b
       exec_all_goes Done j = done_goes
       exec_all_goes (Then st b) j = then_goes st b j.0 (exec_goes st j.0) (exec_all_goes b j.1)
 
-    pub block_goes : {scope : Scope} {c : run.State} (outcome : Outcome) (b : Block) → meaning.run_all p b c outcome → IsTypedBlock p scope b → IsFieldBlock b → AreOnce scope → {i : Interpretation} {s : rules.State} (on : Going) →
+    pub block_goes : {scope : Scope} {c : run.State} (outcome : Outcome) (b : Block) → meaning.run_all p b c outcome → IsTypedBlock p scope b → AllSpeaks p b → AreOnce scope → {i : Interpretation} {s : rules.State} (on : Going) →
         Stands means p scope i s c → Cleared (exec_all p o b s on) → Leaves means p (scope_after_all p b scope) i s.next on outcome
     unfolding ExecAllGoes
     block_goes {scope = scope} {c = c} outcome b h k j u {i = i} {s = s} on st w = exec_all_goes b j scope c outcome h k u i s on st w

@@ -9,7 +9,7 @@ ghost use Rattle.vx_terms.specs.Views.{term};
 use std::alloc::{AllocError, Global};
 use std::rc::Rc;
 use vx_ast::Place;
-use vx_ast::resolved::{Assertion, Block, Connective, Expr, Method, Operator, Stmt};
+use vx_resolved::{Assertion, Block, Connective, Expr, Method, Operator, Stmt};
 use vx_heap::SymHeap;
 use vx_rules::Code;
 use vx_states::SymState;

@@ -1,7 +1,7 @@
 //! Symbolic states.
 
 ghost use Rattle.std.specs.Prelude.{◌≡◌, IfOk, [], map, option_map, string_bytes};
-ghost use Rattle.vx_ast.specs.Resolved.{declaration};
+ghost use Rattle.vx_resolved.specs.Resolved.{declaration};
 ghost use Rattle.vx_ast.specs.Syntax.{same_name};
 ghost use Rattle.vx_heap.specs.Views.{heap};
 ghost use Rattle.vx_rules.specs.Members.{blank};
@@ -15,7 +15,7 @@ use crate::IndexedPath;
 use std::alloc::{AllocError, Global};
 use std::mem;
 use std::rc::Rc;
-use vx_ast::resolved::Declaration;
+use vx_resolved::Declaration;
 use vx_ast::{Place, ValueType};
 use vx_heap::SymHeap;
 use vx_terms::{Sort, Term, make, numbers};

@@ -1,7 +1,7 @@
 use Rattle.std.proofs.Common.{◌≡◌, refl, ap, ◌∙◌}
-use Rattle.vx_ast.specs.declared.resolved.Method.{Method}
+use Rattle.vx_resolved.specs.declared.Method.{Method}
 use Rattle.vx_ast.specs.Syntax.{joined}
-use Rattle.vx_ast.specs.Resolved.{assertion, assertions}
+use Rattle.vx_resolved.specs.Resolved.{assertion, assertions}
 use Rattle.vx_exec.proofs.member.first_part.Goals as goal
 
 pub returns : goal.returns

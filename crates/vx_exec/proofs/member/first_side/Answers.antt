@@ -1,6 +1,6 @@
 use Rattle.std.proofs.Common.{◌≡◌, ap, ◌∙◌, None}
 use Rattle.vx_ast.specs.Syntax.{joined}
-use Rattle.vx_ast.specs.Resolved.{method}
+use Rattle.vx_resolved.specs.Resolved.{method}
 use Rattle.vx_terms.specs.Build.{whole_amount}
 use Rattle.vx_types.specs.Settled.{settled}
 use Rattle.vx_rules.specs.States.{State, declare_all}

@@ -1,5 +1,5 @@
 use Rattle.std.proofs.Common.{◌≡◌, map, ap, ◌∙◌}
-use Rattle.vx_ast.specs.Resolved.{declaration}
+use Rattle.vx_resolved.specs.Resolved.{declaration}
 use Rattle.vx_rules.specs.States.{declare_all}
 use Rattle.vx_rules.specs.Members.{blank}
 use Rattle.vx_states.specs.SymStates.{state}

@@ -1,6 +1,6 @@
 use Rattle.std.proofs.Common.{◌≡◌, refl, ap, ◌∙◌}
 use Rattle.vx_ast.specs.Syntax.{joined}
-use Rattle.vx_ast.specs.Resolved.{assertion, assertions}
+use Rattle.vx_resolved.specs.Resolved.{assertion, assertions}
 use Rattle.vx_exec.proofs.member.make_promise.Goals as goal
 
 pub returns : goal.returns

@@ -1,6 +1,6 @@
 use Rattle.std.proofs.Common.{◌≡◌, [], length, map, sym, ap, ◌∙◌}
 use Rattle.std.proofs.lemmas.List.{length-map}
-use Rattle.vx_ast.specs.Resolved.{declaration}
+use Rattle.vx_resolved.specs.Resolved.{declaration}
 use Rattle.vx_rules.specs.States.{declare_all, leave, with_heap}
 use Rattle.vx_states.specs.SymStates.{state}
 use Rattle.vx_exec.proofs.member.promise_state.Goals as goal

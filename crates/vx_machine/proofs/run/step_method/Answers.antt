@@ -1,5 +1,5 @@
 use Rattle.std.proofs.Common.{ap, sym}
-use Rattle.vx_ast.specs.Resolved.{method}
+use Rattle.vx_resolved.specs.Resolved.{method}
 use Rattle.vx_types.specs.Settled.{settled}
 use Rattle.vx_rules.specs.Members.{both_sides, rules}
 use Rattle.vx_stack.proofs.Steps.{stepped_as}
