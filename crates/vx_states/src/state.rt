@@ -15,9 +15,9 @@ use crate::IndexedPath;
 use std::alloc::{AllocError, Global};
 use std::mem;
 use std::rc::Rc;
-use vx_resolved::Declaration;
 use vx_ast::{Place, ValueType};
 use vx_heap::SymHeap;
+use vx_resolved::Declaration;
 use vx_terms::{Sort, Term, make, numbers};
 
 /// A variable with its value.
