@@ -6,7 +6,7 @@ ghost use Rattle.vx_ast.specs.Syntax.{joined as joined_of};
 ghost use Rattle.vx_rules.specs.Members as rule;
 ghost use Rattle.vx_rules.specs.Members.{rules};
 ghost use Rattle.vx_rules.specs.Rules.{produce};
-ghost use Rattle.vx_rules.specs.States.{declare_all, with_heap};
+ghost use Rattle.vx_rules.specs.States.{State, declare_all, with_heap};
 ghost use Rattle.vx_stack.specs.Stack.{going, producing, side_tree, Stepped};
 ghost use Rattle.vx_states.specs.SymStates.{state as state_of};
 ghost use Rattle.vx_rules.specs.Trees as tree;
@@ -142,7 +142,7 @@ fn first_state(alloc: Global, m: &Method) -> Result<SymState, AllocError>
 
 /// The precondition, and then both sides.
 fn first_part(alloc: Global, program: &Settled, m: &Rc<Method>) -> Result<Rc<Next>, AllocError>
-    ensures { IfOk result (λ n. going (settled program.now) n.value ≡ (λ s. produce (settled program.now) (rules (settled program.now)) (joined_of (method m.now.value).place (method m.now.value).requires) whole_amount None s (rule.sides (settled program.now) (rules (settled program.now)) (method m.now.value)))) }
+    ensures { IfOk result (λ n. (s : State) → going (settled program.now) n.value s ≡ produce (settled program.now) (rules (settled program.now)) (joined_of (method m.now.value).place (method m.now.value).requires) whole_amount None s (rule.sides (settled program.now) (rules (settled program.now)) (method m.now.value))) }
 {
     let _program = program;
     let all = joined(alloc, m.place, &m.preconditions)?;

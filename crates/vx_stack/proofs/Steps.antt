@@ -1,18 +1,22 @@
--- The rules Ask, Probe and Fork by their cases.
-use Rattle.std.proofs.Common.{◌≡◌, Bool, cond, true, false, ◌||◌, refl, sym, ap, ◌∙◌, subst, List, [], ◌∷◌, ◌++◌, Result, IfOk}
+-- The rules Ask, Probe and Fork by their cases, and what a frame stands for by what its parts stand for.
+use Rattle.std.proofs.Common.{◌≡◌, Bool, cond, true, false, ◌||◌, refl, sym, ap, ◌∙◌, subst, List, [], ◌∷◌, ◌++◌, Option, Result, IfOk}
 use Rattle.std.proofs.lemmas.Result.{IfOk-weaker}
 use Rattle.vx_ast.specs.declared.Place.{Place}
-use Rattle.vx_ast.specs.Syntax.{Program}
+use Rattle.vx_ast.specs.Syntax.{Program, Assertion}
+use Rattle.vx_stack.specs.declared.frame.Production.{Production}
 use Rattle.vx_stack.specs.declared.frame.Side.{Side}
 use Rattle.vx_stack.specs.declared.question.Query.{Query}
 use Rattle.vx_stack.specs.declared.conts.Move.{Move}
 use Rattle.vx_stack.specs.declared.conts.Move.TheVariants as move'
 use Rattle.vx_terms.specs.Terms.{Term, same}
+use Rattle.vx_terms.specs.Views.{term}
 use Rattle.vx_terms.specs.Build.{true_term, false_term, negate}
 use Rattle.vx_rules.specs.States.{State, is_quiet, is_known, with_fact, with_branch}
 use Rattle.vx_rules.specs.Trees.{Code, Question, Tree, Impossible, Step, Ask, Probe, Fork}
-use Rattle.vx_rules.specs.Rules.{Going, question, ask, probe, fork}
-use Rattle.vx_stack.specs.Stack.{side_tree, query, Checked, Stepped}
+use Rattle.vx_rules.specs.Rules.{Giving, Going, Context, question, ask, probe, fork, produce, consume}
+use Rattle.vx_rules.specs.Members.{rules}
+use Rattle.vx_states.specs.SymStates.{optional_term}
+use Rattle.vx_stack.specs.Stack.{producing, side_tree, query, Checked, Stepped}
 
 pub fork_both : (c d : Term) (s s1 s2 : State) (left right : Going) → is_known c s ≡ false → d ≡ negate c → is_known d s ≡ false → s1 ≡ with_branch c s → s2 ≡ with_branch d s → fork c s left right ≡ Fork (left s1) (right s2)
 fork_both c d s s1 s2 left right e n f h k =
@@ -61,3 +65,18 @@ checked_probe p q t old new a b e n h = subst (λ x. Checked p x t old (query q)
 -- a step from a tree is one from an equal tree
 pub stepped_as : {E : Type 0} (p : Program) (r : Result Move E) (t u : Tree) (old new : List Side) → t ≡ u → IfOk r (λ m. Stepped p u old m new) → IfOk r (λ m. Stepped p t old m new)
 stepped_as p r t u old new e h = IfOk-weaker r (λ m. Stepped p u old m new) (λ m. Stepped p t old m new) (λ m. subst (λ x. Stepped p x old m new) (sym e)) h
+
+pub produces : (p : Program) (a b : Assertion) (x : Production) (scale : Term) (snapshot : Option Term) (k on : Going) → a ≡ b → term x.scale.value ≡ scale → optional_term x.snapshot ≡ snapshot → k ≡ on →
+    ◌≡◌ {A = Going} (λ s. producing p a x s k) (λ s. produce p (rules p) b scale snapshot s on)
+produces p a b x scale snapshot k on e f g h =
+    ap {B = Going} (λ (y : Assertion) s. produce p (rules p) y (term x.scale.value) (optional_term x.snapshot) s k) e
+    ∙ ap {B = Going} (λ (y : Term) s. produce p (rules p) b y (optional_term x.snapshot) s k) f
+    ∙ ap {B = Going} (λ (y : Option Term) s. produce p (rules p) b scale y s k) g
+    ∙ ap {B = Going} (λ (y : Going) s. produce p (rules p) b scale snapshot s y) h
+
+pub consumes : (p : Program) (a b : Assertion) (x : Context) (t scale : Term) (k on : Giving) → a ≡ b → t ≡ scale → k ≡ on →
+    ◌≡◌ {A = Going} (λ s. consume p (rules p) a x t s.heap s k) (λ s. consume p (rules p) b x scale s.heap s on)
+consumes p a b x t scale k on e f h =
+    ap {B = Going} (λ (y : Assertion) s. consume p (rules p) y x t s.heap s k) e
+    ∙ ap {B = Going} (λ (y : Term) s. consume p (rules p) b x y s.heap s k) f
+    ∙ ap {B = Going} (λ (y : Giving) s. consume p (rules p) b x scale s.heap s y) h

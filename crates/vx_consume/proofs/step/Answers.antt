@@ -10,7 +10,7 @@ returns-in_ok-clone-in-Pure c =
       c.in-Pure.is,
       c.place_of.ensures,
       c.deref-in-Pure-3.ensures,
-      c.exchange_heap-heap.ensures.before,
+      ← c.exchange_heap-heap.ensures.before,
       c.exchange_heap-heap.ensures.after,
       c.in_ok-clone-in-Pure.ensures.cases,
       c.deref-in-Pure.ensures,

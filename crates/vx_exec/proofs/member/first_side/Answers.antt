@@ -15,5 +15,5 @@ returns c =
     let m = method c.args.m.now.value in
     let s : state c.in_ok-state.state ≡ declare_all m.returns (declare_all m.parameters blank) =
     c.in_ok-state.ensures ∙ ap (λ x. declare_all (method x).returns (declare_all (method x).parameters blank)) c.deref.ensures in
-    ap (λ f. f (state c.in_ok-state.state)) c.in_ok-next.ensures
+    c.in_ok-next.ensures (state c.in_ok-state.state)
     ∙ ap (λ (x : State). produce p (rules p) (joined m.place m.requires) whole_amount None x (sides p (rules p) m)) s
