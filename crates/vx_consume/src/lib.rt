@@ -16,8 +16,8 @@ ghost use Rattle.vx_types.specs.Settled.{settled};
 use std::alloc::{AllocError, Global};
 use std::rc::Rc;
 use vx_ast::Place;
-use vx_resolved::{Assertion, Expr};
 use vx_heap::SymHeap;
+use vx_resolved::{Assertion, Expr};
 use vx_stack::{Codes, Consumed, Consumption, Conts, Frame, Hole, Move, Next};
 use vx_states::SymState;
 use vx_terms::{Term, snapshots};
@@ -137,15 +137,7 @@ pub fn step_consumed(
         Consumed::Ask(place, code, heap) => {
             let after = Rc::new(alloc, Next::Unit(heap.clone()?, hole.clone()?))?;
             let place = state.placed(*place);
-            conts.ask(
-                alloc,
-                program,
-                value,
-                place,
-                *code,
-                state,
-                Frame::Go(after),
-            )
+            conts.ask(alloc, program, value, place, *code, state, Frame::Go(after))
         }
         Consumed::Right(right, x) => {
             let with = Consumed::With(value, x.codes);

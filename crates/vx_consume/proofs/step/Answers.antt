@@ -9,11 +9,11 @@ returns-in_ok-clone-in-Pure c =
     (rw (
       c.in-Pure.is,
       c.place_of.ensures,
-      c.deref-in-Pure-3.ensures,
+      c.deref-in-Pure.ensures,
       ← c.exchange_heap-heap.ensures.before,
       c.exchange_heap-heap.ensures.after,
       c.in_ok-clone-in-Pure.ensures.cases,
-      c.deref-in-Pure.ensures,
+      c.deref.ensures,
       c.deref-in-Pure-2.ensures,
     ) refl) c.eval.ensures
 

@@ -11,7 +11,7 @@ returns-in_ok-after-in-Ask c =
 pub returns-in_ok-rest-in-Right : goal.returns-in_ok-rest-in-Right
 returns-in_ok-rest-in-Right c =
     stepped_as (settled c.args.program.now) _ _ _ _ _
-    (rw (c.in-Right.is, c.deref-in-Right-2.ensures, c.in_ok-rest-in-Right.ensures.ok, c.in_ok-clone-in-Right.ensures.cases, c.deref-in-Right.ensures) refl) c.step.ensures
+    (rw (c.in-Right.is, c.deref-in-Right.ensures, c.in_ok-rest-in-Right.ensures.ok, c.in_ok-clone-in-Right.ensures.cases, c.deref.ensures) refl) c.step.ensures
 
 pub returns-in_ok-add_built_pair-in-With : goal.returns-in_ok-add_built_pair-in-With
 returns-in_ok-add_built_pair-in-With c =
