@@ -24,12 +24,17 @@ returns-in_ok-clone-in-Inhale-2 c =
       c.in_ok-clone-in-Inhale-2.ensures.cases,
       c.in_ok-production-in-Inhale.ensures.scale,
       c.in_ok-production-in-Inhale.ensures.snapshot,
-    ) refl) c.next-in-Inhale.ensures
+    ) refl) c.next.ensures
 
 pub returns-in_ok-consume-in-Assert : goal.returns-in_ok-consume-in-Assert
 returns-in_ok-consume-in-Assert c =
     stepped_as (settled c.args.program.now) _ _ _ _ _
     (rw (c.in-Assert.is, c.in_ok-consume-in-Assert.ensures, c.in_ok-clone-in-Assert.ensures.cases) refl) c.next-in-Assert.ensures
+
+pub returns-in_ok-clone-in-Assume : goal.returns-in_ok-clone-in-Assume
+returns-in_ok-clone-in-Assume c =
+    stepped_as (settled c.args.program.now) _ _ _ _ _
+    (rw (c.in-Assume.is, c.in_ok-clone-in-Assume.ensures.cases) refl) c.eval-in-Assume.ensures
 
 pub returns-in_ok-clone-in-If-3 : goal.returns-in_ok-clone-in-If-3
 returns-in_ok-clone-in-If-3 c =

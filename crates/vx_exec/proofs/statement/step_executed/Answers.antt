@@ -14,6 +14,6 @@ returns-in_ok-clone-in-Asserted-2 c =
     (rw (
       c.in-Asserted.is,
       c.in_ok-clone-in-Asserted-2.ensures.cases,
-      c.exchange_heap-_rest.ensures.after,
+      c.exchange_heap-rest.ensures.after,
       c.in_ok-clone-in-Asserted.ensures.cases,
     ) refl) c.go-in-Asserted.ensures
