@@ -11,8 +11,8 @@ ghost use Rattle.vx_machine.specs.Runs.{is_over, is_finish, is_last, Turned, Run
 
 use std::alloc::{AllocError, Global};
 use std::rc::Rc;
-use vx_resolved::Method;
 use vx_exec::Promise;
+use vx_resolved::Method;
 use vx_stack::{Conts, Frame, Hole, Move, Next, Query, Side};
 use vx_states::SymState;
 use vx_terms::Term;
