@@ -2,7 +2,7 @@
 #![tactic(auto)]
 
 ghost use Rattle.std.specs.Prelude.{◌≡◌, [], IfOk};
-ghost use Rattle.vx_ast.specs.Resolved.{assertion, expr};
+ghost use Rattle.vx_resolved.specs.Resolved.{assertion, expr};
 ghost use Rattle.vx_ast.specs.Syntax as syntax;
 ghost use Rattle.vx_rules.specs.Members.{rules};
 ghost use Rattle.vx_rules.specs.Rules as rule;
@@ -15,7 +15,7 @@ ghost use Rattle.vx_types.specs.Settled.{settled};
 use std::alloc::{AllocError, Global};
 use std::rc::Rc;
 use vx_ast::Place;
-use vx_ast::resolved::{Assertion, Expr};
+use vx_resolved::{Assertion, Expr};
 use vx_stack::{Codes, Consumed, Conts, Frame, Hole, Move, Next};
 use vx_states::SymState;
 use vx_terms::{Term, snapshots};

@@ -77,7 +77,7 @@ pub record Opens (p : Program) (Good : Name → Type 0) (l : ℕ) (o o' : Outer)
 module _ (p : Program) (Good : Name → Type 0) (l : ℕ) (o o' : Outer) (opens : Opens p Good l o o') where
   decreasing_same : (f : Name) (g : Function) → Good f → function_named p f ≡ Some g → (own : Own) (m : Option Measure) → g.decreases ≡ m → (x : Store) (at : Place) (s : State) {on other : Going} →
       s.level ≡ l → SameGoing l on other → decreasing p o own m x at s on ≡ decreasing p o' own m x at s other
-  decreasing_same f g k e own None q x at s v h = ap Step (h s v)
+  decreasing_same f g k e own None q x at s v h = refl
   decreasing_same f g k e own (Some (ByNumber n)) q x at s v h =
       ap Step (opens.number f g n k e q (entered x at s) v _ _ (λ m s1 v1. ask_same (lesser p o own.measure m) at MeasureCode (back s s1) v1 h))
   decreasing_same f g k e own (Some (ByInstance place i es)) q x at s v h =

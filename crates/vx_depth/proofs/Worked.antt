@@ -2,7 +2,7 @@
 use Rattle.std.proofs.Common.{◌≡◌, ℕ, zero, suc, Bool, true, false, [], ◌++◌, Option, Some, None, inl, inr, refl, ap, subst, arith, sym, true≢false, is_some}
 use Rattle.vx_ast.specs.Syntax.{Name, same_name, Kind, IsFunction, Predicate, function_in, predicate_in}
 use Rattle.vx_frac.specs.Fractions.{lowest}
-use Rattle.vx_rules.specs.Trees.{Question, Open, size, walk}
+use Rattle.vx_rules.specs.Trees.{Question, Open, steps_then, walk}
 use Rattle.vx_rules.specs.Rules.{nowhere, outer}
 use Rattle.vx_rules.specs.Members.{depth, rules, tree_over, tree}
 use Rattle.vx_ast.specs.Syntax.{IsPredicate}
@@ -51,7 +51,7 @@ unfolds_itself_asks = (_, refl, refl)
 
 pub applies_itself_goes_on : tree_over applies_itself (outer applies_itself (suc (depth applies_itself))) f (IsFunction applies_itself_f) ≡ tree applies_itself f (IsFunction applies_itself_f) → ⊥
 unfolding rules
-applies_itself_goes_on e = let m = ap size e in absurd (omega (arith, m))
+applies_itself_goes_on e = let m = ap (λ t. steps_then t 0) e in absurd (omega (arith, m))
 
 nothing_named : {A : Type 0} {B : Type 0} (a : A) → (let o : Option A = None in o) ≡ Some a → B
 nothing_named a e = absurd (true≢false (sym (ap is_some e)))

@@ -1,7 +1,7 @@
 //! A step of an expression.
 
 ghost use Rattle.std.specs.Prelude.{◌≡◌, ◌&&◌, IfOk};
-ghost use Rattle.vx_ast.specs.Resolved.{expr};
+ghost use Rattle.vx_resolved.specs.Resolved.{expr};
 ghost use Rattle.vx_rules.specs.Members.{rules};
 ghost use Rattle.vx_rules.specs.Rules as rule;
 ghost use Rattle.vx_stack.specs.Stack.{giving, Stepped};
@@ -11,7 +11,7 @@ ghost use Rattle.vx_types.specs.Settled.{settled};
 use crate::operators::is_total;
 use std::alloc::{AllocError, Global};
 use std::rc::Rc;
-use vx_ast::resolved::Expr;
+use vx_resolved::Expr;
 use vx_stack::{Conts, Hole, Move, Operand};
 use vx_states::SymState;
 use vx_terms::make;

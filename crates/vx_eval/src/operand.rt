@@ -1,7 +1,7 @@
 //! A step of what waits for the value of an operand.
 
 ghost use Rattle.std.specs.Prelude.{◌≡◌, IfOk};
-ghost use Rattle.vx_ast.specs.Resolved.{connective, expr};
+ghost use Rattle.vx_resolved.specs.Resolved.{connective, expr};
 ghost use Rattle.vx_rules.specs.Members.{rules};
 ghost use Rattle.vx_rules.specs.Rules as rule;
 ghost use Rattle.vx_stack.specs.Stack.{operand as operand_of, giving, Stepped};
@@ -12,7 +12,7 @@ ghost use Rattle.vx_types.specs.Settled.{settled};
 use crate::operators::{connected, operated};
 use std::alloc::{AllocError, Global};
 use std::rc::Rc;
-use vx_ast::resolved::{Connective, Expr};
+use vx_resolved::{Connective, Expr};
 use vx_stack::{Conts, Frame, Hole, Move, Operand};
 use vx_states::SymState;
 use vx_terms::{Term, make};

@@ -1,7 +1,7 @@
 //! What operators make of two values, and which expressions are total.
 
 ghost use Rattle.std.specs.Prelude.{◌≡◌, ◌&&◌, IfOk};
-ghost use Rattle.vx_ast.specs.Resolved.{connective, expr, operator};
+ghost use Rattle.vx_resolved.specs.Resolved.{connective, expr, operator};
 ghost use Rattle.vx_rules.specs.Rules as rule;
 ghost use Rattle.vx_terms.specs.Sorts.{RealSort, same_sort};
 ghost use Rattle.vx_frac.specs.Fractions.{whole};
@@ -11,8 +11,8 @@ ghost use Rattle.vx_terms.specs.Views.{term};
 
 use std::alloc::{AllocError, Global};
 use std::rc::Rc;
-use vx_ast::resolved::{Connective, Expr, Operator};
 use vx_frac::Frac;
+use vx_resolved::{Connective, Expr, Operator};
 use vx_terms::{Sort, Term, arithmetic, make, numbers};
 
 /// Whether there is nothing in it that can fail: all that is executed so far is total.

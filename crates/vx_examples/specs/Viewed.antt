@@ -1,10 +1,10 @@
 -- The code's codes, and keys of terms, computed by hand: a key mixes two as `(31 a + b) % 65536`.
 use Rattle.std.specs.Prelude.{ℕ, negsuc, List, [], ◌∷◌}
 use Rattle.vx_ast.specs.Syntax as syntax
-use Rattle.vx_ast.specs.declared.resolved.Operator.{Operator as SettledOperator}
-use Rattle.vx_ast.specs.declared.resolved.Operator.TheVariants as settled'
-use Rattle.vx_ast.specs.declared.resolved.Connective.{Connective as Connective'}
-use Rattle.vx_ast.specs.declared.resolved.Connective.TheVariants as connective'
+use Rattle.vx_resolved.specs.declared.Operator.{Operator as SettledOperator}
+use Rattle.vx_resolved.specs.declared.Operator.TheVariants as settled'
+use Rattle.vx_resolved.specs.declared.Connective.{Connective as Connective'}
+use Rattle.vx_resolved.specs.declared.Connective.TheVariants as connective'
 use Rattle.vx_terms.specs.Sorts as sort
 use Rattle.vx_terms.specs.declared.sort.Sort.{Sort as Sort'}
 use Rattle.vx_terms.specs.declared.sort.Sort.TheVariants as sort'

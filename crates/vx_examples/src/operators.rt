@@ -36,7 +36,7 @@ pub fn on_terms()
     ensures implies { rules.connected syntax.Implies (bool 0) (bool 1) ≡ implied (bool 0) (bool 1) }
     ensures totals { Computes rules.is_total totals }
     ensures lesser { rules.lesser [] (rules.outer [] 0) (Some (int 0)) (int 1) ≡ both (at_most (number 0) (int 0)) (less (int 1) (int 0)) }
-    ensures lesser_than_none { rules.lesser [] (rules.outer [] 0) None (int 1) ≡ truth }
+    ensures lesser_than_none { rules.lesser [] (rules.outer [] 0) None (int 1) ≡ falsity }
 {}
 
 /// What is produced with a snapshot and without, and the facts on snapshots.

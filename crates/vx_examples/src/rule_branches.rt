@@ -54,12 +54,12 @@ pub fn no_candidates()
     ensures rooted { members.from_measure [] (rules.outer [] 1) f cells.cells_get (Some (syntax.ByInstance (at 1 1) cell syntax.NoMore)) scene ≡ Step (Step (refused MeasureCode)) }
 {}
 
-/// Which applications are measured: those of the function's own tree, at level 0, of its group, of a callee with a measure.
+/// Which applications are measured: those of the function's own tree, at level 0, of its group. A callee without a measure is refused.
 pub fn measured_applications()
     ensures no_function { rules.measured cells.cells (rules.outer cells.cells 1) cells.get cells.cells_get [] (at 1 1) scene goes ≡ Step End }
     ensures quiet { rules.measured cells.cells (rules.outer cells.cells 1) cells.get cells.cells_get [] (at 1 1) (record quiet_scene { own = Some measured_by }) goes ≡ Step End }
     ensures other_group { rules.measured cells.cells (rules.outer cells.cells 1) cells.get cells.cells_get [] (at 1 1) (record scene { own = Some measured_by }) goes ≡ Step End }
-    ensures no_measure { rules.decreasing cells.cells (rules.outer cells.cells 1) measured_by None [] (at 1 1) scene goes ≡ Step End }
+    ensures no_measure { rules.decreasing cells.cells (rules.outer cells.cells 1) measured_by None [] (at 1 1) scene goes ≡ refused MeasureCode }
     ensures no_equations { rules.with_equations cells.cells (rules.outer cells.cells 1) cells.cells_get (ref 0 ∷ []) (snap 1) (int 2) (record scene { level = 3 }) ≡ record scene { level = 3 } }
 {}
 

@@ -6,7 +6,7 @@ ghost use Rattle.vx_terms.specs.Sorts.{IntSort, BoolSort, RefSort};
 ghost use Rattle.vx_rules.specs.States as states;
 ghost use Rattle.vx_rules.specs.Chunks as chunks;
 ghost use Rattle.vx_rules.specs.Rules as rules;
-ghost use Rattle.vx_rules.specs.Trees.{AmountCode, Ask, AssertCode, CallCode, DivisorCode, End, EntryCode, Failed, FoldCode, Fork, FunctionCode, Impossible, KeptCode, MeasureCode, Open, Passed, PermissionCode, PostCode, Probe, Step, UnfoldCode, leaves, size, walk};
+ghost use Rattle.vx_rules.specs.Trees.{AmountCode, Ask, AssertCode, CallCode, DivisorCode, End, EntryCode, Failed, FoldCode, Fork, FunctionCode, Impossible, KeptCode, MeasureCode, On, Open, Passed, PermissionCode, PostCode, Probe, Step, UnfoldCode, leaves, steps_then, walk};
 ghost use Rattle.vx_rules.specs.Codes.{code_number};
 ghost use Rattle.vx_ast.specs.declared.ValueType.TheVariants.{Int};
 ghost use Rattle.vx_ast.specs.Syntax.{IsField, IsPredicate, NoMore};
@@ -33,8 +33,14 @@ pub fn walking()
     ensures no_question { walk End [] ≡ record { answered = []; ending = Passed } }
     ensures impossible { walk (Impossible blank) [] ≡ record { answered = []; ending = Passed } }
     ensures impossible_leaves { leaves (Impossible blank) ≡ [] }
-    ensures impossible_size { size (Impossible blank) ≡ 1 }
-    ensures sizes { size probing ≡ 5 }
+    ensures steps_of_an_end { steps_then End 3 ≡ 4 }
+    ensures steps_where_impossible { steps_then (Impossible blank) 3 ≡ 4 }
+    ensures steps_of_a_value { steps_then (On (int 1) blank) 3 ≡ 4 }
+    ensures steps_to_an_ask { steps_then (Step two_asks) 3 ≡ 1 }
+    ensures steps_to_a_probe { steps_then (Step probing) 3 ≡ 1 }
+    ensures steps_of_a_first_side { steps_then two_sides 3 ≡ 1 }
+    ensures steps_of_both_sides { steps_then (Fork End (Step End)) 3 ≡ 7 }
+    ensures steps_to_a_second_side { steps_then leaving 3 ≡ 3 }
     ensures leaves { leaves leaving ≡ record { value = int 1; state = blank } ∷ record { value = int 2; state = blank } ∷ record { value = int 3; state = blank } ∷ [] }
     ensures no_leaves { leaves two_asks ≡ [] }
 {}

@@ -1,7 +1,7 @@
 //! The sides of a method.
 
 ghost use Rattle.std.specs.Prelude.{◌≡◌, None, IfOk};
-ghost use Rattle.vx_ast.specs.Resolved.{assertion, block, method};
+ghost use Rattle.vx_resolved.specs.Resolved.{assertion, block, method};
 ghost use Rattle.vx_rules.specs.Members as rule;
 ghost use Rattle.vx_rules.specs.Members.{rules};
 ghost use Rattle.vx_rules.specs.Rules.{produce};
@@ -13,7 +13,7 @@ ghost use Rattle.vx_types.specs.Settled.{settled};
 
 use std::alloc::{AllocError, Global};
 use std::rc::Rc;
-use vx_ast::resolved::{Assertion, Block, Method};
+use vx_resolved::{Assertion, Block, Method};
 use vx_rules::Code;
 use vx_stack::{Codes, Conts, Frame, Hole, Move, Next, Side, joined};
 use vx_states::SymState;

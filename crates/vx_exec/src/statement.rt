@@ -1,7 +1,7 @@
 //! A step of a statement or of a block.
 
 ghost use Rattle.std.specs.Prelude.{◌≡◌, IfOk};
-ghost use Rattle.vx_ast.specs.Resolved.{assertion, block as block_of, stmt};
+ghost use Rattle.vx_resolved.specs.Resolved.{assertion, block as block_of, stmt};
 ghost use Rattle.vx_rules.specs.Members as rule;
 ghost use Rattle.vx_rules.specs.Members.{rules};
 ghost use Rattle.vx_rules.specs.Rules.{consume};
@@ -15,7 +15,7 @@ ghost use Rattle.vx_types.specs.Settled.{settled};
 
 use std::alloc::{AllocError, Global};
 use std::rc::Rc;
-use vx_ast::resolved::{Assertion, Block, Stmt};
+use vx_resolved::{Assertion, Block, Stmt};
 use vx_rules::Code;
 use vx_stack::{Codes, Conts, Executed, Frame, Hole, Move, Next};
 use vx_states::{SymState, sort_of_value};

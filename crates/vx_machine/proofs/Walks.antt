@@ -1,13 +1,13 @@
 -- Walks through stacks.
-use Rattle.std.proofs.Common.{◌≡◌, ◌+◌, Bool, true, false, List, [], ◌∷◌, ◌++◌, Some, None, refl, sym, ap, ◌∙◌, arith}
+use Rattle.std.proofs.Common.{◌≡◌, ℕ, ◌+◌, Bool, true, false, List, [], ◌∷◌, ◌++◌, Some, None, refl, sym, ap, ◌∙◌, arith}
 use Rattle.vx_ast.specs.Syntax.{Program}
 use Rattle.vx_stack.specs.declared.frame.Side.{Side}
 use Rattle.vx_stack.specs.declared.question.Query.{Query}
 use Rattle.vx_stack.specs.declared.conts.Move.TheVariants as move'
 use Rattle.vx_smt_meaning.specs.declared.reply.Reply.{Reply}
-use Rattle.vx_rules.specs.Trees.{Question, Tree, End, Ask, Probe, Walked, walk_then, passed, size}
+use Rattle.vx_rules.specs.Trees.{Question, Tree, Ask, Probe, Walked, walk_then, passed, steps_then}
 use Rattle.vx_stack.specs.Stack.{side_tree, query, Checked, Stepped}
-use Rattle.vx_machine.specs.Runs.{without_other, without_last, asking, probing, below, remaining, stack_size, waiting_by, Turned}
+use Rattle.vx_machine.specs.Runs.{without_other, without_last, asking, probing, below, remaining, steps_below, steps_remaining, waiting_by, Turned}
 
 pub without_last-push : (sides : List Side) (a : Side) → without_last (sides ++ a ∷ []) ≡ sides
 without_last-push [] a = refl
@@ -31,33 +31,30 @@ module _ (p : Program) where
   below-push [] a next = refl
   below-push (b ∷ sides) a next = below-push sides a (walk_then (side_tree p b) next)
 
-  pub stack_size-push : (sides : List Side) (a : Side) → stack_size p (sides ++ a ∷ []) ≡ stack_size p sides + size (side_tree p a)
-  stack_size-push [] a = omega arith
-  stack_size-push (b ∷ sides) a = omega (arith, stack_size-push sides a)
+  steps_below-push : (sides : List Side) (a : Side) (left : ℕ) → steps_below p (sides ++ a ∷ []) left ≡ steps_then (side_tree p a) (steps_below p sides left)
+  steps_below-push [] a left = refl
+  steps_below-push (b ∷ sides) a left = steps_below-push sides a (steps_then (side_tree p b) left)
 
   below-two : (sides : List Side) (b a : Side) (next : List Reply → Walked) → below p (sides ++ b ∷ a ∷ []) next ≡ walk_then (side_tree p a) (walk_then (side_tree p b) (below p sides next))
   below-two [] b a next = refl
   below-two (c ∷ sides) b a next = below-two sides b a (walk_then (side_tree p c) next)
 
-  stack_size-two : (sides : List Side) (b a : Side) → stack_size p (sides ++ b ∷ a ∷ []) ≡ stack_size p sides + size (side_tree p a) + size (side_tree p b)
-  stack_size-two [] b a = omega arith
-  stack_size-two (c ∷ sides) b a = omega (arith, stack_size-two sides b a)
-
-  pub turned_over : (t : Tree) (old : List Side) → t ≡ End → Turned p t old None old
-  turned_over t old e =
-      let s : size t ≡ 1 = ap size e in
-      ((λ rs. ap (λ x. walk_then x (remaining p old) rs) e), omega arith)
+  steps_below-two : (sides : List Side) (b a : Side) (left : ℕ) → steps_below p (sides ++ b ∷ a ∷ []) left ≡ steps_then (side_tree p a) (steps_then (side_tree p b) (steps_below p sides left))
+  steps_below-two [] b a left = refl
+  steps_below-two (c ∷ sides) b a left = steps_below-two sides b a (steps_then (side_tree p c) left)
 
   pub turned_go : (t : Tree) (old new : List Side) → Stepped p t old move'.Go new → Turned p t old None new
   turned_go t old new h =
-      let s : size t ≡ size (side_tree p h.0) + 1 = ap size h.2 in
-      let l : stack_size p new ≡ stack_size p old + size (side_tree p h.0) = ap (stack_size p) h.1 ∙ stack_size-push old h.0 in
+      let after : ℕ = steps_then (side_tree p h.0) (steps_remaining p old) in
+      let s : steps_then t (steps_remaining p old) ≡ after + 1 = ap (λ x. steps_then x (steps_remaining p old)) h.2 in
+      let l : steps_remaining p new ≡ after = ap (steps_remaining p) h.1 ∙ steps_below-push old h.0 0 in
       ((λ rs. ap (λ x. walk_then x (remaining p old) rs) h.2 ∙ ap (λ f. f rs) (sym (ap (remaining p) h.1 ∙ below-push old h.0 passed))), omega arith)
 
   pub turned_fork : (t : Tree) (old new : List Side) → Stepped p t old move'.Fork new → Turned p t old None new
   turned_fork t old new h =
-      let s : size t ≡ size (side_tree p h.0) + size (side_tree p h.1) + 1 = ap size h.3 in
-      let l : stack_size p new ≡ stack_size p old + size (side_tree p h.0) + size (side_tree p h.1) = ap (stack_size p) h.2 ∙ stack_size-two old h.1 h.0 in
+      let after : ℕ = steps_then (side_tree p h.0) (steps_then (side_tree p h.1) (steps_remaining p old)) in
+      let s : steps_then t (steps_remaining p old) ≡ after + 1 = ap (λ x. steps_then x (steps_remaining p old)) h.3 in
+      let l : steps_remaining p new ≡ after = ap (steps_remaining p) h.2 ∙ steps_below-two old h.1 h.0 0 in
       ((λ rs. ap (λ x. walk_then x (remaining p old) rs) h.3 ∙ ap (λ f. f rs) (sym (ap (remaining p) h.2 ∙ below-two old h.1 h.0 passed))), omega arith)
 
   asked_as : (q : Question) (t : Tree) (next : List Reply → Walked) (rs : List Reply) → walk_then (Ask q t) next rs ≡ asking q (walk_then t next) rs
@@ -87,5 +84,5 @@ module _ (p : Program) where
   pub popped : (before rest : List Side) (a : Side) → before ≡ rest ++ a ∷ [] → (rs : List Reply) → remaining p before rs ≡ walk_then (side_tree p a) (remaining p rest) rs
   popped before rest a e rs = ap (λ l. remaining p l rs) e ∙ ap (λ f. f rs) (below-push rest a passed)
 
-  pub popped_size : (before rest : List Side) (a : Side) → before ≡ rest ++ a ∷ [] → stack_size p before ≡ stack_size p rest + size (side_tree p a)
-  popped_size before rest a e = ap (stack_size p) e ∙ stack_size-push rest a
+  pub popped_steps : (before rest : List Side) (a : Side) → before ≡ rest ++ a ∷ [] → steps_remaining p before ≡ steps_then (side_tree p a) (steps_remaining p rest)
+  popped_steps before rest a e = ap (steps_remaining p) e ∙ steps_below-push rest a 0

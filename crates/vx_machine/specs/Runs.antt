@@ -1,5 +1,5 @@
 -- What a machine has still to do, against the walk through its member's tree.
-use Rattle.std.specs.Prelude.{◌≡◌, ℕ, ◌+◌, ◌<◌, ◌≤◌, ⊤, length, Bool, true, false, List, [], ◌∷◌, ◌++◌, map, Option, Some, None, slice_get}
+use Rattle.std.specs.Prelude.{◌≡◌, ℕ, ◌<◌, ◌≤◌, ⊤, length, Bool, true, false, List, [], ◌∷◌, ◌++◌, map, Option, Some, None, slice_get}
 use Rattle.vx_ast.specs.Syntax.{Program, Member}
 use Rattle.vx_stack.specs.declared.frame.Next.{Next}
 use Rattle.vx_stack.specs.declared.frame.Next.TheVariants as next'
@@ -18,7 +18,7 @@ use Rattle.vx_machine.specs.declared.machine.Ask.TheVariants as ask'
 use Rattle.vx_machine.specs.declared.machine.Machine.{Machine}
 use Rattle.vx_smt_meaning.specs.declared.reply.Reply.{Reply}
 use Rattle.vx_smt_meaning.specs.declared.reply.Reply.TheVariants.{Unsat}
-use Rattle.vx_rules.specs.Trees.{Question, Tree, End, Answered, Walked, Passed, Failed, Open, ends, after_answer, asked, probed, walk, walk_then, passed, size}
+use Rattle.vx_rules.specs.Trees.{Question, Tree, End, Answered, Walked, Passed, Failed, Open, ends, after_answer, asked, probed, walk, walk_then, passed, steps_then}
 use Rattle.vx_rules.specs.Members.{tree}
 use Rattle.vx_rules.specs.Codes.{code}
 use Rattle.vx_stack.specs.Stack.{side_tree, query}
@@ -95,9 +95,13 @@ module _ (p : Program) where
   abbrev pub remaining : List Side → List Reply → Walked
   remaining sides = below sides passed
 
-  abbrev pub stack_size : List Side → ℕ
-  stack_size [] = 0
-  stack_size (a ∷ rest) = size (side_tree p a) + stack_size rest
+  -- the steps of that walk to its next question
+  abbrev pub steps_below : List Side → ℕ → ℕ
+  steps_below [] left = left
+  steps_below (a ∷ rest) left = steps_below rest (steps_then (side_tree p a) left)
+
+  abbrev pub steps_remaining : List Side → ℕ
+  steps_remaining sides = steps_below sides 0
 
   -- an open question over the stack that waits for its reply
   abbrev pub waiting_by : Bool → Question → List Side → List Reply → Walked
@@ -110,7 +114,7 @@ module _ (p : Program) where
   -- from a tree over a stack to a stack, or to a question over a stack
   abbrev pub Turned : Tree → List Side → Option Query → List Side → Type 0
   Turned t old None new =
-      ((rs : List Reply) → walk_then t (remaining old) rs ≡ remaining new rs) × (stack_size new < stack_size old + size t)
+      ((rs : List Reply) → walk_then t (remaining old) rs ≡ remaining new rs) × (steps_remaining new < steps_then t (steps_remaining old))
   Turned t old (Some q) new = (rs : List Reply) → walk_then t (remaining old) rs ≡ waiting q new rs
 
   -- from a stack to its next question, or to its end

@@ -8,8 +8,8 @@ ghost use Rattle.vx_machine.specs.Runs.{IsAt, Within, Follows, Told, EachAnswere
 use crate::run::run;
 use std::alloc::{AllocError, Global};
 use std::mem;
-use vx_ast::resolved::Kind;
 use vx_ast::{MemberId, Place};
+use vx_resolved::Kind;
 use vx_rules::{Code, Reply};
 use vx_stack::{Conts, Query};
 use vx_types::Settled;

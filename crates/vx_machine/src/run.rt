@@ -1,7 +1,7 @@
 //! From question to question.
 
 ghost use Rattle.std.specs.Prelude.{◌≡◌, IfOk, false};
-ghost use Rattle.vx_ast.specs.Resolved.{method};
+ghost use Rattle.vx_resolved.specs.Resolved.{method};
 ghost use Rattle.vx_rules.specs.Members.{rules, sides};
 ghost use Rattle.vx_stack.specs.Stack.{giving, going, frame_tree, side_tree, Stepped};
 ghost use Rattle.vx_states.specs.SymStates.{state as state_of};
@@ -11,8 +11,8 @@ ghost use Rattle.vx_machine.specs.Runs.{is_over, is_finish, is_last, Turned, Run
 
 use std::alloc::{AllocError, Global};
 use std::rc::Rc;
-use vx_ast::resolved::Method;
 use vx_exec::Promise;
+use vx_resolved::Method;
 use vx_stack::{Conts, Frame, Hole, Move, Next, Query, Side};
 use vx_states::SymState;
 use vx_terms::Term;

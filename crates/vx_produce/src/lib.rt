@@ -2,7 +2,7 @@
 #![tactic(auto)]
 
 ghost use Rattle.std.specs.Prelude.{◌≡◌, None, IfOk};
-ghost use Rattle.vx_ast.specs.Resolved.{assertion};
+ghost use Rattle.vx_resolved.specs.Resolved.{assertion};
 ghost use Rattle.vx_rules.specs.Members.{rules};
 ghost use Rattle.vx_rules.specs.Rules as rule;
 ghost use Rattle.vx_stack.specs.Stack.{giving, going, Stepped};
@@ -15,7 +15,7 @@ ghost use Rattle.vx_types.specs.Settled.{settled};
 
 use std::alloc::{AllocError, Global};
 use std::rc::Rc;
-use vx_ast::resolved::Assertion;
+use vx_resolved::Assertion;
 use vx_stack::{Conts, Frame, Hole, Move, Next};
 use vx_states::SymState;
 use vx_terms::Term;

@@ -2,7 +2,7 @@
 
 ghost use Rattle.std.specs.Prelude.{◌≡◌, ◌++◌, ◌<◌, ℕ, OnOk, string_bytes, length, codes, Some, slice_get};
 ghost use Rattle.std.specs.Fmt.{decimal};
-ghost use Rattle.vx_ast.specs.Resolved.{kind as kind_of};
+ghost use Rattle.vx_resolved.specs.Resolved.{kind as kind_of};
 ghost use Rattle.vx_report.specs.Reports as spec;
 ghost use Rattle.vx_report.specs.Reports.{AreNamed};
 ghost use Rattle.vx_types.specs.Settled.{settled};
@@ -10,7 +10,7 @@ ghost use Rattle.vx_types.specs.Settled.{settled};
 use crate::{Cause, MemberRun, Verdict};
 use std::alloc::AllocError;
 use vx_ast::Place;
-use vx_ast::resolved::Kind;
+use vx_resolved::Kind;
 use vx_rules::{Code, Reply};
 use vx_types::Settled;
 

@@ -1,5 +1,5 @@
 -- Names that are found the same are.
-use Rattle.std.proofs.Common.{◌≡◌, Bool, true, false, ◌&&◌, List, [], ◌∷◌, refl, sym, ap₂, true≢false, eqb-true}
+use Rattle.std.proofs.Common.{◌≡◌, Bool, true, false, ◌&&◌, [], ◌∷◌, refl, sym, ap₂, true≢false, eqb-true}
 use Rattle.vx_ast.specs.Syntax.{Name, same_name}
 
 and_parts : (a b : Bool) → (a && b) ≡ true → (a ≡ true) × (b ≡ true)

@@ -18,7 +18,7 @@ use Rattle.vx_stack.specs.declared.frame.Side.{Side}
 use Rattle.vx_stack.specs.declared.conts.Move.{Move}
 use Rattle.vx_stack.specs.declared.conts.Move.TheVariants as move'
 use Rattle.vx_ast.specs.Syntax.{Program}
-use Rattle.vx_ast.specs.Resolved.{operator, connective, expr, assertion, stmt, block, method}
+use Rattle.vx_resolved.specs.Resolved.{operator, connective, expr, assertion, stmt, block, method}
 use Rattle.vx_terms.specs.Views.{term}
 use Rattle.vx_terms.specs.Build.{negate, ite, unit, pair, whole_amount}
 use Rattle.vx_rules.specs.States.{State, with_store, with_heap, assign, leave, with_fact, name_of, after_name, path_terms}

@@ -1,13 +1,13 @@
 //! Clauses joined by `&&`.
 
 ghost use Rattle.std.specs.Prelude.{◌≡◌, IfOk};
-ghost use Rattle.vx_ast.specs.Resolved.{assertion, assertions};
+ghost use Rattle.vx_resolved.specs.Resolved.{assertion, assertions};
 ghost use Rattle.vx_ast.specs.Syntax as syntax;
 
 use std::alloc::{AllocError, Global};
 use std::rc::Rc;
 use vx_ast::Place;
-use vx_ast::resolved::{Assertion, Expr};
+use vx_resolved::{Assertion, Expr};
 
 /// The clauses of one kind, joined in order to the left; none is `true` at this place.
 pub fn joined(

@@ -1,7 +1,7 @@
 //! The stack of sides, and the steps that the rules are made of.
 
 ghost use Rattle.std.specs.Prelude.{◌≡◌, ◌++◌, ◌∷◌, [], IfOk, map};
-ghost use Rattle.vx_ast.specs.Resolved.{expr};
+ghost use Rattle.vx_resolved.specs.Resolved.{expr};
 ghost use Rattle.vx_ast.specs.Syntax.{Program};
 ghost use Rattle.vx_rules.specs.Members.{rules};
 ghost use Rattle.vx_rules.specs.Rules as rule;
@@ -16,7 +16,7 @@ use crate::{Frame, Hole, Next, Query, Side};
 use std::alloc::{AllocError, Global};
 use std::rc::Rc;
 use vx_ast::Place;
-use vx_ast::resolved::Expr;
+use vx_resolved::Expr;
 use vx_rules::Code;
 use vx_states::SymState;
 use vx_terms::{Term, make};

@@ -7,7 +7,7 @@ ghost use Rattle.vx_stack.specs.Stack.{frame_tree, side_tree};
 use std::alloc::{AllocError, Global};
 use std::rc::Rc;
 use vx_ast::Place;
-use vx_ast::resolved::{Assertion, Block, Connective, Expr, Method, Operator, Stmt};
+use vx_resolved::{Assertion, Block, Connective, Expr, Method, Operator, Stmt};
 use vx_rules::Code;
 use vx_states::SymState;
 use vx_terms::Term;

@@ -1,7 +1,7 @@
 //! Symbolic states.
 
 ghost use Rattle.std.specs.Prelude.{◌≡◌, IfOk, map, string_bytes};
-ghost use Rattle.vx_ast.specs.Resolved.{declaration};
+ghost use Rattle.vx_resolved.specs.Resolved.{declaration};
 ghost use Rattle.vx_ast.specs.Syntax.{same_name};
 ghost use Rattle.vx_rules.specs.Members.{blank};
 ghost use Rattle.vx_rules.specs.States as states;
@@ -14,7 +14,7 @@ use std::alloc::{AllocError, Global};
 use std::mem;
 use std::rc::Rc;
 use vx_ast::ValueType;
-use vx_ast::resolved::Declaration;
+use vx_resolved::Declaration;
 use vx_terms::{Sort, Term, make, numbers};
 
 /// A variable with its value.

@@ -3,8 +3,8 @@ use Rattle.std.proofs.Common.{◌≡◌, ◌∙◌, ◌++◌, ◌∷◌, [], Lis
 use Rattle.std.proofs.lemmas.List.{map-append}
 use Rattle.std.specs.declared.alloc.Global.{Global}
 use Rattle.std.specs.declared.rc.Rc.{Rc}
-use Rattle.vx_ast.specs.declared.resolved.Assertion as assertion'
-use Rattle.vx_ast.specs.Resolved as resolved
+use Rattle.vx_resolved.specs.declared.Assertion as assertion'
+use Rattle.vx_resolved.specs.Resolved as resolved
 use Rattle.vx_ast.specs.Written.{written_expr, written_all}
 use Rattle.std.proofs.lemmas.Bool.{and_from, and_parts}
 use Rattle.std.specs.Prelude.{not, ◌&&◌, if◌then◌else◌}

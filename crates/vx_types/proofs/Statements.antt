@@ -3,8 +3,8 @@ use Rattle.std.proofs.Common.{◌≡◌, ◌++◌, ◌∷◌, [], List, refl, ap
 use Rattle.std.proofs.lemmas.List.{map-append}
 use Rattle.std.specs.declared.alloc.Global.{Global}
 use Rattle.std.specs.declared.rc.Rc.{Rc}
-use Rattle.vx_ast.specs.declared.resolved.Stmt as stmt'
-use Rattle.vx_ast.specs.Resolved as settled
+use Rattle.vx_resolved.specs.declared.Stmt as stmt'
+use Rattle.vx_resolved.specs.Resolved as settled
 use Rattle.vx_ast.specs.Syntax.{Stmt, Block, Then}
 use Rattle.vx_types.specs.Parts.{onto, stmts}
 

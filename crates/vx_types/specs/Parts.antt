@@ -3,10 +3,10 @@ use Rattle.std.specs.Prelude.{Bool, true, false, List, [], ◌∷◌, map}
 use Rattle.std.specs.declared.alloc.Global.{Global}
 use Rattle.std.specs.declared.rc.Rc.{Rc}
 use Rattle.vx_ast.specs.declared.BinaryOperator.TheVariants as binary
-use Rattle.vx_ast.specs.declared.resolved.Stmt as stmt'
+use Rattle.vx_resolved.specs.declared.Stmt as stmt'
 use Rattle.vx_ast.specs.Written as written
 use Rattle.vx_ast.specs.Resolve.{Names, assertion}
-use Rattle.vx_ast.specs.Resolved as settled
+use Rattle.vx_resolved.specs.Resolved as settled
 use Rattle.vx_ast.specs.Syntax.{Assertion, Stmt, Block, Then}
 
 -- `&&` stands at its top

@@ -3,7 +3,7 @@
 ghost use Rattle.std.specs.Prelude.{◌≡◌, IfOk, false};
 ghost use Rattle.vx_ast.specs.Written.{written_expr};
 ghost use Rattle.vx_ast.specs.Resolve.{Names, assertion};
-ghost use Rattle.vx_ast.specs.Resolved as settled;
+ghost use Rattle.vx_resolved.specs.Resolved as settled;
 ghost use Rattle.vx_types.specs.Executed.{is_executed_expr};
 ghost use Rattle.vx_types.specs.Parts.{is_conjunction};
 ghost use Rattle.vx_types.specs.Refusals.{Tells};
@@ -12,8 +12,8 @@ use crate::Unsettled;
 use crate::expr::expression;
 use std::alloc::Global;
 use std::rc::Rc;
-use vx_ast::resolved::Assertion;
 use vx_ast::{BinaryOperator, Expr, ExprKind};
+use vx_resolved::Assertion;
 
 // An assertion that is no conjunction.
 #[tactic(auto, using(crate::proofs::Refused::passed, crate::proofs::Asserted::executed_alone))]

@@ -4,7 +4,7 @@ ghost use Rattle.std.specs.Prelude.{◌≡◌, ◌++◌, ◌∷◌, [], List, If
 ghost use Rattle.vx_ast.specs.Written as written;
 ghost use Rattle.vx_ast.specs.Written.{written_expr, written_clause};
 ghost use Rattle.vx_ast.specs.Resolve.{Names, assertion};
-ghost use Rattle.vx_ast.specs.Resolved as view;
+ghost use Rattle.vx_resolved.specs.Resolved as view;
 ghost use Rattle.vx_ast.specs.Syntax as Syntax;
 ghost use Rattle.vx_types.specs.Executed.{is_executed_expr, is_executed_clause, are_executed_clauses};
 ghost use Rattle.vx_types.specs.Parts.{required, ensured};
@@ -14,8 +14,8 @@ use crate::Unsettled;
 use crate::assertions::assertion;
 use std::alloc::Global;
 use std::rc::Rc;
-use vx_ast::resolved::Assertion;
 use vx_ast::{Clause, Expr};
+use vx_resolved::Assertion;
 
 type Assertions = Vec<Rc<Assertion>>;
 

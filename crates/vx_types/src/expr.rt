@@ -3,7 +3,7 @@
 ghost use Rattle.std.specs.Prelude.{◌≡◌, IfOk};
 ghost use Rattle.vx_ast.specs.Written.{written_expr};
 ghost use Rattle.vx_ast.specs.Resolve.{expression, unary_of, binary_of};
-ghost use Rattle.vx_ast.specs.Resolved.{expr, operator, connective};
+ghost use Rattle.vx_resolved.specs.Resolved.{expr, operator, connective};
 ghost use Rattle.vx_ast.specs.Syntax as Syntax;
 ghost use Rattle.vx_types.specs.Executed.{is_executed_expr, is_executed_operator};
 ghost use Rattle.vx_types.specs.Refusals.{Tells};
@@ -11,41 +11,41 @@ ghost use Rattle.vx_types.specs.Refusals.{Tells};
 use crate::Unsettled;
 use std::alloc::{AllocError, Global};
 use std::rc::Rc;
-use vx_ast::resolved::{self, Connective, Operator};
 use vx_ast::{BinaryOperator, Expr, ExprKind, Place, UnaryOperator};
+use vx_resolved::{Connective, Operator};
 
 fn operate(
     alloc: Global,
     place: Place,
     op: Operator,
-    a: Rc<resolved::Expr>,
-    b: Rc<resolved::Expr>,
-) -> Result<Rc<resolved::Expr>, AllocError>
+    a: Rc<vx_resolved::Expr>,
+    b: Rc<vx_resolved::Expr>,
+) -> Result<Rc<vx_resolved::Expr>, AllocError>
     ensures { IfOk result (λ e. expr e.value ≡ Syntax.Operate place (operator op) (expr a.value) (expr b.value)) }
 {
-    Ok(Rc::new(alloc, resolved::Expr::Operate(place, op, a, b))?)
+    Ok(Rc::new(alloc, vx_resolved::Expr::Operate(place, op, a, b))?)
 }
 
 fn connect(
     alloc: Global,
     place: Place,
     op: Connective,
-    a: Rc<resolved::Expr>,
-    b: Rc<resolved::Expr>,
-) -> Result<Rc<resolved::Expr>, AllocError>
+    a: Rc<vx_resolved::Expr>,
+    b: Rc<vx_resolved::Expr>,
+) -> Result<Rc<vx_resolved::Expr>, AllocError>
     ensures { IfOk result (λ e. expr e.value ≡ Syntax.Connect place (connective op) (expr a.value) (expr b.value)) }
 {
-    Ok(Rc::new(alloc, resolved::Expr::Connect(place, op, a, b))?)
+    Ok(Rc::new(alloc, vx_resolved::Expr::Connect(place, op, a, b))?)
 }
 
 fn negate(
     alloc: Global,
     place: Place,
-    e: Rc<resolved::Expr>,
-) -> Result<Rc<resolved::Expr>, AllocError>
+    e: Rc<vx_resolved::Expr>,
+) -> Result<Rc<vx_resolved::Expr>, AllocError>
     ensures { IfOk result (λ r. expr r.value ≡ Syntax.Not place (expr e.value)) }
 {
-    Ok(Rc::new(alloc, resolved::Expr::Not(place, e))?)
+    Ok(Rc::new(alloc, vx_resolved::Expr::Not(place, e))?)
 }
 
 // A node of two operands, which isn't a division.
@@ -53,9 +53,9 @@ fn binary(
     alloc: Global,
     place: Place,
     op: BinaryOperator,
-    a: Rc<resolved::Expr>,
-    b: Rc<resolved::Expr>,
-) -> Result<Rc<resolved::Expr>, Unsettled>
+    a: Rc<vx_resolved::Expr>,
+    b: Rc<vx_resolved::Expr>,
+) -> Result<Rc<vx_resolved::Expr>, Unsettled>
     ensures settled { IfOk result (λ e. expr e.value ≡ binary_of place op (expr a.value) (expr b.value)) }
     ensures executed { Tells result (is_executed_operator op) }
 {
@@ -85,11 +85,11 @@ fn binary(
 fn minus(
     alloc: Global,
     place: Place,
-    e: Rc<resolved::Expr>,
-) -> Result<Rc<resolved::Expr>, AllocError>
+    e: Rc<vx_resolved::Expr>,
+) -> Result<Rc<vx_resolved::Expr>, AllocError>
     ensures { IfOk result (λ r. expr r.value ≡ unary_of place UnaryOperator.Negate (expr e.value)) }
 {
-    let zero = Rc::new(alloc, resolved::Expr::Number(place, 0))?;
+    let zero = Rc::new(alloc, vx_resolved::Expr::Number(place, 0))?;
     operate(alloc, place, Operator::Subtract, zero, e)
 }
 
@@ -97,8 +97,8 @@ fn unary(
     alloc: Global,
     place: Place,
     op: UnaryOperator,
-    e: Rc<resolved::Expr>,
-) -> Result<Rc<resolved::Expr>, AllocError>
+    e: Rc<vx_resolved::Expr>,
+) -> Result<Rc<vx_resolved::Expr>, AllocError>
     ensures { IfOk result (λ r. expr r.value ≡ unary_of place op (expr e.value)) }
 {
     match op {
@@ -115,22 +115,22 @@ pub fn shared(alloc: Global, text: &str) -> Result<Rc<String>, AllocError>
     Ok(Rc::new(alloc, text)?)
 }
 
-fn variable(alloc: Global, place: Place, name: &str) -> Result<Rc<resolved::Expr>, AllocError>
+fn variable(alloc: Global, place: Place, name: &str) -> Result<Rc<vx_resolved::Expr>, AllocError>
     ensures { IfOk result (λ r. expr r.value ≡ Syntax.Variable place name.now) }
 {
     let name = shared(alloc, name)?;
-    Ok(Rc::new(alloc, resolved::Expr::Variable(place, name))?)
+    Ok(Rc::new(alloc, vx_resolved::Expr::Variable(place, name))?)
 }
 
 /// An expression, settled. Its parts are settled from left to right, and before the node itself.
-pub fn expression(alloc: Global, e: &Expr) -> Result<Rc<resolved::Expr>, Unsettled>
+pub fn expression(alloc: Global, e: &Expr) -> Result<Rc<vx_resolved::Expr>, Unsettled>
     ensures settled { IfOk result (λ r. expr r.value ≡ expression (written_expr e.now)) }
     ensures executed { Tells result (is_executed_expr (written_expr e.now)) }
 {
     let place = e.place;
     match &e.kind {
-        ExprKind::Number(n) => Ok(Rc::new(alloc, resolved::Expr::Number(place, *n))?),
-        ExprKind::Boolean(b) => Ok(Rc::new(alloc, resolved::Expr::Truth(place, *b))?),
+        ExprKind::Number(n) => Ok(Rc::new(alloc, vx_resolved::Expr::Number(place, *n))?),
+        ExprKind::Boolean(b) => Ok(Rc::new(alloc, vx_resolved::Expr::Truth(place, *b))?),
         ExprKind::Variable(name) => Ok(variable(alloc, place, name)?),
         ExprKind::Unary(op, a) => {
             let a = expression(alloc, a)?;
@@ -145,7 +145,7 @@ pub fn expression(alloc: Global, e: &Expr) -> Result<Rc<resolved::Expr>, Unsettl
             let c = expression(alloc, c)?;
             let a = expression(alloc, a)?;
             let b = expression(alloc, b)?;
-            Ok(Rc::new(alloc, resolved::Expr::Choose(place, c, a, b))?)
+            Ok(Rc::new(alloc, vx_resolved::Expr::Choose(place, c, a, b))?)
         }
         ExprKind::Null => Err(Unsettled::NotExecuted(place, "null")),
         ExprKind::Write => Err(Unsettled::NotExecuted(place, "write")),

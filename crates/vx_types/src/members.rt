@@ -5,7 +5,7 @@ ghost use Rattle.vx_ast.specs.Written as written;
 ghost use Rattle.vx_ast.specs.Written.{written_declaration, written_kind, written_member, written_program, optional_block};
 ghost use Rattle.vx_ast.specs.Resolve as resolve;
 ghost use Rattle.vx_ast.specs.Resolve.{Names};
-ghost use Rattle.vx_ast.specs.Resolved as view;
+ghost use Rattle.vx_resolved.specs.Resolved as view;
 ghost use Rattle.vx_ast.specs.Syntax as Syntax;
 ghost use Rattle.vx_types.specs.Executed.{is_executed_type, are_executed_types, is_executed_body, is_executed_kind, is_executed};
 ghost use Rattle.vx_types.specs.Refusals.{Tells};
@@ -17,22 +17,25 @@ use crate::stmt::{block, executed_type};
 use crate::{Settled, Unsettled};
 use std::alloc::Global;
 use std::rc::Rc;
-use vx_ast::resolved::{self, Block};
 use vx_ast::{Declaration, Member, MemberKind, Method, Place, Program};
+use vx_resolved::Block;
 
 // A variable, settled.
-fn declaration(alloc: Global, d: &Declaration) -> Result<resolved::Declaration, Unsettled>
+fn declaration(alloc: Global, d: &Declaration) -> Result<vx_resolved::Declaration, Unsettled>
     ensures settled { IfOk result (λ r. (names : Names) → view.declaration r ≡ resolve.declaration names (written_declaration d.now)) }
     ensures executed { Tells result (is_executed_type d.now.value_type) }
 {
     executed_type(d)?;
-    Ok(resolved::Declaration {
+    Ok(vx_resolved::Declaration {
         name: shared(alloc, &d.name.text)?,
         of: d.value_type,
     })
 }
 
-fn declarations(alloc: Global, all: &[Declaration]) -> Result<Vec<resolved::Declaration>, Unsettled>
+fn declarations(
+    alloc: Global,
+    all: &[Declaration],
+) -> Result<Vec<vx_resolved::Declaration>, Unsettled>
     ensures settled { IfOk result (λ v. (names : Names) → map view.declaration v.items ≡ map (resolve.declaration names) (map written_declaration all.now)) }
     ensures executed { Tells result (are_executed_types (map written_declaration all.now)) }
 {
@@ -54,7 +57,7 @@ fn body(alloc: Global, b: &Option<Rc<vx_ast::Block>>) -> Result<Option<Rc<Block>
 }
 
 // A method, settled. Its parts are settled in text order.
-fn method(alloc: Global, place: Place, m: &Method) -> Result<resolved::Method, Unsettled>
+fn method(alloc: Global, place: Place, m: &Method) -> Result<vx_resolved::Method, Unsettled>
     ensures settled { IfOk result (λ r. (names : Names) → Syntax.IsMethod (view.method r) ≡ resolve.kind names place (written_kind (MemberKind.Method m.now))) }
     ensures executed { Tells result (is_executed_kind (written_kind (MemberKind.Method m.now))) }
 {
@@ -62,7 +65,7 @@ fn method(alloc: Global, place: Place, m: &Method) -> Result<resolved::Method, U
     let returns = declarations(alloc, &m.returns)?;
     let contract = clauses(alloc, &m.clauses)?;
     let body = body(alloc, &m.body)?;
-    Ok(resolved::Method {
+    Ok(vx_resolved::Method {
         place,
         parameters,
         returns,
@@ -73,7 +76,7 @@ fn method(alloc: Global, place: Place, m: &Method) -> Result<resolved::Method, U
 }
 
 // A member, settled.
-fn member(alloc: Global, m: &Member) -> Result<resolved::Member, Unsettled>
+fn member(alloc: Global, m: &Member) -> Result<vx_resolved::Member, Unsettled>
     ensures settled { IfOk result (λ r. (names : Names) → view.member r ≡ resolve.member names (written_member m.now)) }
     ensures executed { Tells result (is_executed_kind (written_member m.now).kind) }
 {
@@ -81,9 +84,9 @@ fn member(alloc: Global, m: &Member) -> Result<resolved::Member, Unsettled>
     match &m.kind {
         MemberKind::Method(of) => {
             let of = Rc::new(alloc, method(alloc, place, of)?)?;
-            Ok(resolved::Member {
+            Ok(vx_resolved::Member {
                 name: shared(alloc, &m.name.text)?,
-                kind: resolved::Kind::Method(of),
+                kind: vx_resolved::Kind::Method(of),
             })
         }
         MemberKind::Field(_) => Err(Unsettled::NotExecuted(place, "field")),
@@ -92,7 +95,7 @@ fn member(alloc: Global, m: &Member) -> Result<resolved::Member, Unsettled>
     }
 }
 
-fn members(alloc: Global, all: &[Member]) -> Result<Vec<resolved::Member>, Unsettled>
+fn members(alloc: Global, all: &[Member]) -> Result<Vec<vx_resolved::Member>, Unsettled>
     ensures settled { IfOk result (λ v. (names : Names) → map view.member v.items ≡ map (resolve.member names) (map written_member all.now)) }
     ensures executed { Tells result (is_executed (map written_member all.now)) }
 {
@@ -110,6 +113,6 @@ pub fn settle(alloc: Global, p: &Program) -> Result<Settled, Unsettled>
 {
     let members = members(alloc, &p.members)?;
     Ok(Settled {
-        program: resolved::Program { members },
+        program: vx_resolved::Program { members },
     })
 }

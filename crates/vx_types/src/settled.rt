@@ -1,10 +1,10 @@
 //! What settling gives.
 
 ghost use Rattle.std.specs.Prelude.{◌≡◌, ◌<◌, length, slice_get, nat_eq, Some};
-ghost use Rattle.vx_ast.specs.Resolved.{member};
+ghost use Rattle.vx_resolved.specs.Resolved.{member};
 ghost use Rattle.vx_types.specs.Settled.{settled};
 
-use vx_ast::resolved::{Member, Program};
+use vx_resolved::{Member, Program};
 
 /// A settled program. Contracts see it as the list of its members, `settled`.
 #[derive(Drop)]

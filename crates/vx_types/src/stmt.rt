@@ -5,7 +5,7 @@ ghost use Rattle.vx_ast.specs.Written as written;
 ghost use Rattle.vx_ast.specs.Written.{written_expr, written_stmt, written_block, written_right, written_declaration, optional_right, name_of};
 ghost use Rattle.vx_ast.specs.Resolve as resolve;
 ghost use Rattle.vx_ast.specs.Resolve.{Names};
-ghost use Rattle.vx_ast.specs.Resolved as settled;
+ghost use Rattle.vx_resolved.specs.Resolved as settled;
 ghost use Rattle.vx_ast.specs.Syntax as Syntax;
 ghost use Rattle.vx_types.specs.Executed.{is_executed_type, is_executed_right, is_executed_value, is_executed_stmt, is_executed_block, is_executed_other, is_executed_expr};
 ghost use Rattle.vx_types.specs.Parts.{onto, stmts};
@@ -17,11 +17,11 @@ use crate::assertions::assertion;
 use crate::expr::{expression, shared};
 use std::alloc::{AllocError, Global};
 use std::rc::Rc;
-use vx_ast::resolved::{self, Block};
 use vx_ast::{Declaration, Expr, Name, Place, Right, Stmt, StmtKind, ValueType};
+use vx_resolved::Block;
 
 /// The settled statements of a block so far.
-pub type Settled = Vec<Rc<resolved::Stmt>>;
+pub type Settled = Vec<Rc<vx_resolved::Stmt>>;
 
 /// The type of a variable is executed.
 pub fn executed_type(declared: &Declaration) -> Result<(), Unsettled>
@@ -40,7 +40,7 @@ fn assignment(
     place: Place,
     name: &Name,
     right: &Right,
-) -> Result<Rc<resolved::Stmt>, Unsettled>
+) -> Result<Rc<vx_resolved::Stmt>, Unsettled>
     ensures settled { IfOk result (λ s. (names : Names) → settled.stmt s.value ≡ resolve.assign names place (name_of name.now).name (written_right right.now)) }
     ensures executed { Tells result (is_executed_right (written_right right.now)) }
 {
@@ -48,7 +48,7 @@ fn assignment(
         Right::Value(e) => {
             let e = expression(alloc, e)?;
             let target = shared(alloc, &name.text)?;
-            Ok(Rc::new(alloc, resolved::Stmt::Assign(place, target, e))?)
+            Ok(Rc::new(alloc, vx_resolved::Stmt::Assign(place, target, e))?)
         }
         Right::NewAll(_) | Right::New(_, _) => Err(Unsettled::NotExecuted(place, "new")),
     }
@@ -56,14 +56,14 @@ fn assignment(
 
 // One statement more.
 #[tactic(auto, using(crate::proofs::Statements::onto_last))]
-fn add(block: &mut Settled, s: Rc<resolved::Stmt>) -> Result<(), AllocError>
+fn add(block: &mut Settled, s: Rc<vx_resolved::Stmt>) -> Result<(), AllocError>
     ensures { OnOk result ((rest : Syntax.Block) → onto (stmts block.new.items) rest ≡ onto (stmts block.old.items) (Syntax.Then (settled.stmt s.value) rest)) }
 {
     block.push(s)?;
     Ok(())
 }
 
-fn put(alloc: Global, block: &mut Settled, s: resolved::Stmt) -> Result<(), AllocError>
+fn put(alloc: Global, block: &mut Settled, s: vx_resolved::Stmt) -> Result<(), AllocError>
     ensures { OnOk result ((rest : Syntax.Block) → onto (stmts block.new.items) rest ≡ onto (stmts block.old.items) (Syntax.Then (settled.stmt s) rest)) }
 {
     let s = Rc::new(alloc, s)?;
@@ -84,7 +84,7 @@ fn declaration(
     executed_type(declared)?;
     let name = shared(alloc, &declared.name.text)?;
     let of = declared.value_type;
-    put(alloc, block, resolved::Stmt::Declare(place, name, of))?;
+    put(alloc, block, vx_resolved::Stmt::Declare(place, name, of))?;
     Ok(())
 }
 
@@ -129,7 +129,7 @@ fn asserted(alloc: Global, place: Place, e: &Expr, block: &mut Settled) -> Resul
     ensures executed { Tells result (is_executed_expr (written_expr e.now)) }
 {
     let a = assertion(alloc, e)?;
-    put(alloc, block, resolved::Stmt::Assert(place, a))?;
+    put(alloc, block, vx_resolved::Stmt::Assert(place, a))?;
     Ok(())
 }
 
@@ -139,7 +139,7 @@ fn inhaled(alloc: Global, place: Place, e: &Expr, block: &mut Settled) -> Result
     ensures executed { Tells result (is_executed_expr (written_expr e.now)) }
 {
     let a = assertion(alloc, e)?;
-    put(alloc, block, resolved::Stmt::Inhale(place, a))?;
+    put(alloc, block, vx_resolved::Stmt::Inhale(place, a))?;
     Ok(())
 }
 
@@ -149,7 +149,7 @@ fn exhaled(alloc: Global, place: Place, e: &Expr, block: &mut Settled) -> Result
     ensures executed { Tells result (is_executed_expr (written_expr e.now)) }
 {
     let a = assertion(alloc, e)?;
-    put(alloc, block, resolved::Stmt::Exhale(place, a))?;
+    put(alloc, block, vx_resolved::Stmt::Exhale(place, a))?;
     Ok(())
 }
 
@@ -159,7 +159,7 @@ fn assumed(alloc: Global, place: Place, e: &Expr, block: &mut Settled) -> Result
     ensures executed { Tells result (is_executed_expr (written_expr e.now)) }
 {
     let c = expression(alloc, e)?;
-    put(alloc, block, resolved::Stmt::Assume(place, c))?;
+    put(alloc, block, vx_resolved::Stmt::Assume(place, c))?;
     Ok(())
 }
 
@@ -230,7 +230,7 @@ fn statement(alloc: Global, s: &Stmt, done: &mut Settled) -> Result<(), Unsettle
             let c = expression(alloc, c)?;
             let a = block(alloc, a)?;
             let b = other_block(alloc, b)?;
-            put(alloc, done, resolved::Stmt::If(place, c, a, b))?;
+            put(alloc, done, vx_resolved::Stmt::If(place, c, a, b))?;
             Ok(())
         }
         StmtKind::Write(_, _, _) => Err(Unsettled::NotExecuted(place, ".")),

@@ -1,9 +1,9 @@
 -- In a supported program each question can be asked: each name in it is spelled as a symbol, and each symbol has its sorts.
 use Rattle.std.proofs.Common.{◌≡◌, ℕ, zero, suc, Bool, true, false, List, [], ◌∷◌, ◌++◌, Option, Some, None, map, slice_get, if◌then◌else◌, ap, ◌∙◌, sym, refl, subst}
-use Rattle.vx_ast.specs.declared.resolved.Kind.TheVariants as kind'
-use Rattle.vx_ast.specs.declared.resolved.Member as member'
+use Rattle.vx_resolved.specs.declared.Kind.TheVariants as kind'
+use Rattle.vx_resolved.specs.declared.Member as member'
 use Rattle.vx_ast.specs.Syntax.{Member, Method, IsMethod}
-use Rattle.vx_ast.specs.Resolved.{kind, member, method}
+use Rattle.vx_resolved.specs.Resolved.{kind, member, method}
 use Rattle.vx_terms.specs.Sorts.{Sort, IntSort, BoolSort, RealSort, RefSort, SnapSort, OtherSort, Symbol, Standard, Function, Variable, Named}
 use Rattle.vx_terms.specs.Terms.{Term, Truth, Number, Part, Constant, Apply, Not, Binary, Ite, AllOf, SomeOf, Terms, NoTerms, MoreTerms}
 use Rattle.vx_terms.specs.Build.{negate}

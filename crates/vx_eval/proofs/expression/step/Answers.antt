@@ -1,5 +1,5 @@
 use Rattle.std.proofs.Common.{◌≡◌, true, false, refl, ap, sym, ◌∙◌, ◌&&◌}
-use Rattle.vx_ast.specs.Resolved.{expr}
+use Rattle.vx_resolved.specs.Resolved.{expr}
 use Rattle.vx_types.specs.Settled.{settled}
 use Rattle.vx_rules.specs.Rules.{is_total}
 use Rattle.vx_stack.proofs.Steps.{stepped_as}

@@ -1,7 +1,7 @@
 use Rattle.std.proofs.Common.{◌≡◌, length, map, sym, ap, ◌∙◌, None}
 use Rattle.std.proofs.lemmas.List.{length-map}
 use Rattle.vx_ast.specs.Syntax.{Assertion, joined}
-use Rattle.vx_ast.specs.Resolved.{assertion, assertions, declaration, method}
+use Rattle.vx_resolved.specs.Resolved.{assertion, assertions, declaration, method}
 use Rattle.vx_terms.specs.Build.{whole_amount}
 use Rattle.vx_types.specs.Settled.{settled}
 use Rattle.vx_rules.specs.States.{State, declare_all, leave}

@@ -1,11 +1,11 @@
 use Rattle.std.proofs.Common.{◌≡◌, List}
 use Rattle.vx_types.specs.Settled.{settled}
 use Rattle.vx_smt_meaning.specs.declared.reply.Reply.{Reply}
-use Rattle.vx_machine.specs.Runs.{remaining, stack_size}
+use Rattle.vx_machine.specs.Runs.{remaining, steps_remaining}
 use Rattle.vx_machine.proofs.run.run.Given as goal
 
 abbrev pub invariant-loop-side : goal.invariant-loop-side
 invariant-loop-side l = (rs : List Reply) → remaining (settled l.program) l.initial.conts.sides.items rs ≡ remaining (settled l.program) l.conts.sides.items rs
 
 abbrev pub decreases-loop-side : goal.decreases-loop-side
-decreases-loop-side l = stack_size (settled l.program) l.conts.sides.items
+decreases-loop-side l = steps_remaining (settled l.program) l.conts.sides.items

@@ -1,5 +1,5 @@
 use Rattle.std.proofs.Common.{refl, ap, sym, ◌∙◌}
-use Rattle.vx_ast.specs.Resolved.{method}
+use Rattle.vx_resolved.specs.Resolved.{method}
 use Rattle.vx_types.specs.Settled.{settled}
 use Rattle.vx_rules.specs.Members.{rules, sides}
 use Rattle.vx_stack.specs.Stack.{going}

@@ -1,5 +1,5 @@
 use Rattle.std.proofs.Common.{◌≡◌, drop}
-use Rattle.vx_ast.specs.Resolved.{assertion, assertions}
+use Rattle.vx_resolved.specs.Resolved.{assertion, assertions}
 use Rattle.vx_ast.specs.Syntax.{joined_with}
 use Rattle.vx_stack.proofs.clauses.joined.Given as goal
 

@@ -1,7 +1,7 @@
 use Rattle.std.proofs.Common.{◌≡◌, ◌∙◌, ◌++◌, ◌∷◌, ◌+◌, drop, map, ap, sym, append-nil, refl}
 use Rattle.std.proofs.lemmas.List.{drop_all}
 use Rattle.vx_ast.specs.declared.Clause.{Clause}
-use Rattle.vx_ast.specs.Resolved as view
+use Rattle.vx_resolved.specs.Resolved as view
 use Rattle.vx_ast.specs.Written.{written_clause}
 use Rattle.vx_types.specs.Executed.{is_executed_clause, are_executed_clauses}
 use Rattle.vx_types.specs.Parts.{required, ensured}

@@ -1,6 +1,6 @@
 use Rattle.std.proofs.Common.{◌≡◌, ◌++◌, drop, map}
 use Rattle.vx_ast.specs.Resolve.{Names}
-use Rattle.vx_ast.specs.Resolved as view
+use Rattle.vx_resolved.specs.Resolved as view
 use Rattle.vx_ast.specs.Written.{written_clause}
 use Rattle.vx_types.specs.Executed.{are_executed_clauses}
 use Rattle.vx_types.specs.Parts.{required, ensured}

@@ -2,7 +2,7 @@ use Rattle.std.proofs.Common.{◌∙◌, ap, map, refl}
 use Rattle.std.proofs.lemmas.List.{take_all}
 use Rattle.vx_ast.specs.declared.Declaration.{Declaration}
 use Rattle.vx_ast.specs.Resolve as resolve
-use Rattle.vx_ast.specs.Resolved as view
+use Rattle.vx_resolved.specs.Resolved as view
 use Rattle.vx_ast.specs.Written.{written_declaration}
 use Rattle.vx_types.specs.Executed.{is_executed_type, are_executed_types}
 use Rattle.vx_types.proofs.Loops.{goes_on, ends, one_more}

@@ -1,6 +1,6 @@
 use Rattle.std.proofs.Common.{◌≡◌, map, take, drop}
 use Rattle.vx_ast.specs.Resolve as resolve
-use Rattle.vx_ast.specs.Resolved as view
+use Rattle.vx_resolved.specs.Resolved as view
 use Rattle.vx_ast.specs.Written.{written_declaration}
 use Rattle.vx_types.specs.Executed.{are_executed_types}
 use Rattle.vx_types.proofs.members.declarations.Given as goal

@@ -1,7 +1,7 @@
 use Rattle.std.proofs.Common.{◌∙◌, ap, map, refl}
 use Rattle.vx_ast.specs.declared.Member.{Member}
 use Rattle.vx_ast.specs.Resolve as resolve
-use Rattle.vx_ast.specs.Resolved as view
+use Rattle.vx_resolved.specs.Resolved as view
 use Rattle.vx_ast.specs.Written.{written_member}
 use Rattle.vx_types.specs.Executed.{is_executed_kind, is_executed}
 use Rattle.vx_types.proofs.Loops.{goes_on, ends, one_more}

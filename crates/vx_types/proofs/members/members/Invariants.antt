@@ -1,6 +1,6 @@
 use Rattle.std.proofs.Common.{◌≡◌, map, take, drop}
 use Rattle.vx_ast.specs.Resolve as resolve
-use Rattle.vx_ast.specs.Resolved as view
+use Rattle.vx_resolved.specs.Resolved as view
 use Rattle.vx_ast.specs.Written.{written_member}
 use Rattle.vx_types.specs.Executed.{is_executed}
 use Rattle.vx_types.proofs.members.members.Given as goal

@@ -1,5 +1,5 @@
 use Rattle.std.proofs.Common.{◌∙◌, ap}
-use Rattle.vx_ast.specs.Resolved as view
+use Rattle.vx_resolved.specs.Resolved as view
 use Rattle.vx_types.specs.Parts.{onto, stmts}
 use Rattle.vx_types.proofs.Statements.{onto_last, stmts_last}
 use Rattle.vx_types.proofs.stmt.add.Goals as goal

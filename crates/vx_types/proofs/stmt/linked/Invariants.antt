@@ -1,6 +1,6 @@
 use Rattle.std.proofs.Common.{◌≡◌, vec_len}
 use Rattle.vx_ast.specs.Syntax.{Done}
-use Rattle.vx_ast.specs.Resolved as view
+use Rattle.vx_resolved.specs.Resolved as view
 use Rattle.vx_types.specs.Parts.{onto, stmts}
 use Rattle.vx_types.proofs.stmt.linked.Given as goal
 

@@ -1,5 +1,5 @@
 use Rattle.std.proofs.Common.{◌≡◌, ◌<◌, ◌≤◌, ◌+◌, ◌++◌, ◌∷◌, [], true, false, drop, length, ap, ◌∙◌, sym, subst, rules, arith}
-use Rattle.vx_ast.specs.Resolved.{kind, member}
+use Rattle.vx_resolved.specs.Resolved.{kind, member}
 use Rattle.vx_types.specs.Settled.{settled}
 use Rattle.vx_report.specs.Reports.{AreNamed}
 use Rattle.vx_verifier.specs.Headline.{members_of}

@@ -1,5 +1,5 @@
 use Rattle.std.proofs.Common.{◌≡◌, map, drop}
-use Rattle.vx_ast.specs.Resolved.{declaration}
+use Rattle.vx_resolved.specs.Resolved.{declaration}
 use Rattle.vx_rules.specs.States.{declare_all}
 use Rattle.vx_states.specs.SymStates.{state}
 use Rattle.vx_states.proofs.state.SymState.declare_all.Given as goal

@@ -1,9 +1,10 @@
 //! The syntax that is executed, settled once: names stand for what they name, assertions stand apart from expressions,
 //! `&&` at an assertion's top is taken apart, and `var x: T := e` is two statements. It has the forms that are executed
 //! so far.
+#![tactic(auto)]
 
-use crate::{Place, ValueType};
 use std::rc::Rc;
+use vx_ast::{Place, ValueType};
 
 /// An operator both of whose operands are evaluated.
 #[derive(Clone, Copy, Debug, PartialEq, Eq)]

@@ -1,20 +1,20 @@
--- The settled syntax of src/resolved, without its pointers.
+-- The settled syntax in code, without its pointers.
 use Rattle.std.specs.Prelude.{List, [], ◌∷◌, Option, Some, None, string_bytes, map}
 use Rattle.std.specs.declared.alloc.Global.{Global}
 use Rattle.std.specs.declared.rc.Rc.{Rc}
-use Rattle.vx_ast.specs.declared.resolved.Operator.{Operator as Operator'}
-use Rattle.vx_ast.specs.declared.resolved.Operator.TheVariants as operator'
-use Rattle.vx_ast.specs.declared.resolved.Connective.{Connective as Connective'}
-use Rattle.vx_ast.specs.declared.resolved.Connective.TheVariants as connective'
-use Rattle.vx_ast.specs.declared.resolved.Expr as expr'
-use Rattle.vx_ast.specs.declared.resolved.Assertion as assertion'
-use Rattle.vx_ast.specs.declared.resolved.Declaration as declaration'
-use Rattle.vx_ast.specs.declared.resolved.Stmt as stmt'
-use Rattle.vx_ast.specs.declared.resolved.Block as block'
-use Rattle.vx_ast.specs.declared.resolved.Method as method'
-use Rattle.vx_ast.specs.declared.resolved.Kind.TheVariants as kind'
-use Rattle.vx_ast.specs.declared.resolved.Member as member'
-use Rattle.vx_ast.specs.declared.resolved.Program as program'
+use Rattle.vx_resolved.specs.declared.Operator.{Operator as Operator'}
+use Rattle.vx_resolved.specs.declared.Operator.TheVariants as operator'
+use Rattle.vx_resolved.specs.declared.Connective.{Connective as Connective'}
+use Rattle.vx_resolved.specs.declared.Connective.TheVariants as connective'
+use Rattle.vx_resolved.specs.declared.Expr as expr'
+use Rattle.vx_resolved.specs.declared.Assertion as assertion'
+use Rattle.vx_resolved.specs.declared.Declaration as declaration'
+use Rattle.vx_resolved.specs.declared.Stmt as stmt'
+use Rattle.vx_resolved.specs.declared.Block as block'
+use Rattle.vx_resolved.specs.declared.Method as method'
+use Rattle.vx_resolved.specs.declared.Kind.TheVariants as kind'
+use Rattle.vx_resolved.specs.declared.Member as member'
+use Rattle.vx_resolved.specs.declared.Program as program'
 use Rattle.vx_ast.specs.Syntax.{Name, Operator, Equal, Less, LessEqual, Greater, GreaterEqual, Add, Subtract, Multiply, Connective, And, Or, Implies, Expr, Number, Truth, Variable, Not, Operate, Connect, Choose, Assertion, Pure, Both, Declaration, Stmt, Declare, Assign, Inhale, Exhale, Assert, Assume, If, Block, Done, Then, Method, Kind, IsMethod, Member, Program}
 
 abbrev pub operator : Operator' → Operator
