@@ -1,6 +1,5 @@
 -- What is known of the terms that don't wait, as terms are looked at and classes are made one.
-use Rattle.std.proofs.Common.{◌≡◌, ℕ, zero, suc, ◌<◌, ◌%◌, inl, inr, Bool, true, false, not, nat_eq, cond, ◌&&◌, ◌||◌, List, [], ◌∷◌, ◌++◌, length, slice_get, Option, Some, None, refl, sym, ◌∙◌, ap, ap₂, subst, arith, add-one, eq-eqb, ne_eqb}
-use Rattle.std.specs.Prelude.{IfSome}
+use Rattle.std.proofs.Common.{◌≡◌, ℕ, zero, suc, ◌<◌, ◌%◌, inl, inr, Bool, true, false, not, nat_eq, cond, ◌&&◌, ◌||◌, List, [], ◌∷◌, ◌++◌, length, slice_get, Some, refl, sym, ◌∙◌, ap, ap₂, subst, arith, add-one, eq-eqb, ne_eqb}
 use Rattle.std.specs.List.{list_any}
 use Rattle.std.proofs.lemmas.Bool.{cases_eq, and_parts}
 use Rattle.std.proofs.lemmas.List.{length-append}
@@ -11,13 +10,13 @@ use Rattle.cs_cong.specs.declared.merges.Merge.{Merge}
 use Rattle.cs_cong.specs.declared.merges.Reason.{Reason}
 use Rattle.cs_cong.specs.declared.waiting.Waiting.{Waiting}
 use Rattle.cs_cong.specs.Merged.{representative, current, with_merge}
-use Rattle.cs_cong.specs.Joined.{all_same, alike, are_congruent, IsClosed}
+use Rattle.cs_cong.specs.Joined.{all_same, alike, are_congruent}
 use Rattle.cs_cong.specs.Rows.{row}
 use Rattle.cs_cong.specs.Signatures.{has, key_at}
 use Rattle.cs_cong.specs.Used.{touches, IsUsed}
 use Rattle.cs_cong.specs.Waits.{waits, IsDone}
 use Rattle.cs_cong.specs.Settled.{is_partner, has_partner, IsSettled, IsSpread}
-use Rattle.cs_cong.proofs.Grown.{flipped, congruent_within}
+use Rattle.cs_cong.proofs.Grown.{flipped}
 use Rattle.cs_cong.proofs.Signatures.{same_key, alike_on}
 use Rattle.cs_cong.proofs.Used.{or_none, any_weaker, same_touches, still_one, alike_kept, key_kept, used_moved}
 use Rattle.cs_cong.proofs.Stages.{last_one}
@@ -26,29 +25,6 @@ use Rattle.cs_cong.proofs.Steps.{some_same}
 not_true : (b : Bool) → not b ≡ true → b ≡ false
 not_true true e = absurd (let f : false ≡ true = e in cc)
 not_true false e = refl
-
--- all terms wait
-pub settled_new : (terms : List Applied) (f : ℕ → ℕ) (w : Waiting) → length w.queue.flags.items ≡ length terms → length w.uses.items ≡ length terms → IsUsed terms f w.uses.items →
-    ((a : ℕ) → waits w.queue a ≡ true) → IsSettled terms f w
-settled_new terms f w wide count used all = record {
-  wide = wide;
-  count = count;
-  used = used;
-  closed = λ a b wa wb e. absurd (let g : true ≡ false = sym (all a) ∙ wa in cc);
-  entered = λ a wa. absurd (let g : true ≡ false = sym (all a) ∙ wa in cc);
-}
-
--- no term waits
-pub settled_end : (terms : List Applied) (log : List Merge) (w : Waiting) → IsSettled terms (current log) w →
-    ((a : ℕ) → a < length w.queue.flags.items → waits w.queue a ≡ true → has w.queue.list.items a ≡ true) → w.queue.list.items ≡ [] → IsClosed terms log
-settled_end terms log w s listed none a b e = s.closed a b (calm a (congruent_within terms (current log) b a (flipped (current log) (slice_get terms a) (slice_get terms b) e))) (calm b (congruent_within terms (current log) a b e)) e
-  where
-    calm : (x : ℕ) → x < length terms → waits w.queue x ≡ false
-    calm x lt = go (waits w.queue x) refl
-      where
-        go : (t : Bool) → waits w.queue x ≡ t → waits w.queue x ≡ false
-        go true h = absurd (let wide = s.wide in let g : false ≡ true = sym (ap (λ l. has l x) none) ∙ listed x (omega arith) h in cc)
-        go false h = h
 
 -- ---- a term that is looked at
 -- congruent terms have one key
@@ -191,9 +167,6 @@ merged_moves log a b why apart p =
     ∙ ap (λ k. representative (log ++ record { left = a; right = b; reason = why; moved = current log a } ∷ []) k p) (length-append log (record { left = a; right = b; reason = why; moved = current log a } ∷ []) ∙ add-one (length log))
     ∙ last_one log record { left = a; right = b; reason = why; moved = current log a } p
 
-pub merged_none : (log : List Merge) (a b : ℕ) (why : Reason) → current log a ≡ current log b → with_merge log a b why ≡ log
-merged_none log a b why e = ap (λ t. cond t log (log ++ record { left = a; right = b; reason = why; moved = current log a } ∷ [])) (eq-eqb _ _ e)
-
 pub settled_turned : (terms : List Applied) (log new : List Merge) (a b : ℕ) (why : Reason) (from to : ℕ) → from ≡ current log a → to ≡ current log b → (from ≡ to → ⊥) → new ≡ with_merge log a b why → (old after : Waiting) →
     IsSpread old after from to → IsSettled terms (current log) old → IsSettled terms (current new) after
 settled_turned terms log new a b why from to ea eb apart is old after sp s =
@@ -201,18 +174,6 @@ settled_turned terms log new a b why from to ea eb apart is old after sp s =
     (λ p. ap (λ l. current l p) is ∙ merged_moves log a b why (λ e. apart (ea ∙ e ∙ sym eb)) p ∙ ap₂ (λ x y. cond (nat_eq (current log p) x) y (current log p)) (sym ea) (sym eb))
     old after s sp
 
-pub settled_same : (terms : List Applied) (log new : List Merge) (a b : ℕ) (why : Reason) (from to : ℕ) → from ≡ current log a → to ≡ current log b → from ≡ to → new ≡ with_merge log a b why → (w : Waiting) →
-    IsSettled terms (current log) w → IsSettled terms (current new) w
-settled_same terms log new a b why from to ea eb same is w s = subst (λ l. IsSettled terms (current l) w) (sym (is ∙ merged_none log a b why (sym ea ∙ same ∙ eb))) s
-
 -- what is known, where something is
 pub known_some : (terms : List Applied) (f : ℕ → ℕ) (v w : Waiting) → Some v ≡ Some w → IsSettled terms f v → IsSettled terms f w
 known_some terms f v w e s = subst (IsSettled terms f) (some_same v w e) s
-
-pub known_if : (terms : List Applied) (f : ℕ → ℕ) (o p : Option Waiting) → p ≡ o → ((w : Waiting) → o ≡ Some w → IsSettled terms f w) → IfSome p (IsSettled terms f)
-known_if terms f (Some v) (Some w) e all = all w (sym e)
-known_if terms f None (Some w) e all = absurd (let g : Some w ≡ None = e in cc)
-known_if terms f o None e all = tt
-
-pub known_none : (terms : List Applied) (f : ℕ → ℕ) (o : Option Waiting) (w : Waiting) → o ≡ None → o ≡ Some w → IsSettled terms f w
-known_none terms f o w e h = absurd (let g : None ≡ Some w = sym e ∙ h in cc)

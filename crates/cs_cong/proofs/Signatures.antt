@@ -1,18 +1,12 @@
 -- Congruent terms have one key, and congruence is an equivalence.
-use Rattle.std.proofs.Common.{◌≡◌, ℕ, zero, suc, ◌<◌, ◌≤◌, ◌+◌, ◌%◌, true, false, nat_eq, ◌&&◌, List, [], ◌∷◌, length, drop, get_or, slice_get, Option, Some, None, refl, sym, ◌∙◌, ap, ap₂, arith, add-one, drop-cons, eq-eqb}
+use Rattle.std.proofs.Common.{◌≡◌, ℕ, zero, suc, ◌<◌, ◌%◌, true, false, nat_eq, ◌&&◌, List, [], ◌∷◌, length, get_or, slice_get, Option, Some, None, refl, sym, ◌∙◌, ap, ap₂, arith, eq-eqb}
 use Rattle.std.proofs.lemmas.Bool.{eqb-true, and_parts}
 use Rattle.cs_index.specs.Keys.{mixed}
 use Rattle.cs_cong.specs.declared.congruent.Applied.{Applied}
 use Rattle.cs_cong.specs.Joined.{all_same, alike}
 use Rattle.cs_cong.specs.Signatures.{with_parts, signature_key, key_at}
-use Rattle.cs_cong.proofs.Same.{gone}
 
 -- ---- keys
-pub parts_more : (key : ℕ) (f : ℕ → ℕ) (xs : List ℕ) (at : ℕ) → at < length xs → with_parts key f (drop at xs) ≡ with_parts (mixed key (f (get_or xs at 0) % 65536)) f (drop (at + 1) xs)
-parts_more key f xs at lt = ap (with_parts key f) (drop-cons xs at 0 lt ∙ ap (λ k. get_or xs at 0 ∷ drop k xs) (sym (add-one at)))
-
-pub parts_end : (key : ℕ) (f : ℕ → ℕ) (xs : List ℕ) (at : ℕ) → length xs ≤ at → with_parts key f (drop at xs) ≡ key
-parts_end key f xs at le = ap (with_parts key f) (gone xs at le)
 
 same_parts : (f : ℕ → ℕ) (k l : ℕ) → k ≡ l → (xs ys : List ℕ) → all_same f xs ys ≡ true → with_parts k f xs ≡ with_parts l f ys
 same_parts f k l e [] [] h = e

@@ -238,18 +238,6 @@ stage_merged terms claims c old mid new e s (inl h) g closed =
 stage_merged terms claims c old mid new e s (inr h) g closed =
     stage_either terms claims c old mid new c.right c.left s h (or_right (is_claimed (claims ++ c ∷ []) (length claims) c.right c.left) _ (claimed_last claims c e)) (λ f q. sym q) g closed
 
--- one merge more, or none
-pub longer_merged : (old new : List Merge) (a b : ℕ) (why : Reason) → new ≡ with_merge old a b why → IsLonger old new
-longer_merged old new a b why e = subst (IsLonger old) (sym e) (with_cases (IsLonger old) old a b why
-    (λ h. record { front = take_all (length old) old (omega arith); longer = omega arith })
-    record {
-      front = take_at old (record { left = a; right = b; reason = why; moved = current old a } ∷ []) (length old) refl;
-      longer = let long : length (old ++ record { left = a; right = b; reason = why; moved = current old a } ∷ []) ≡ length old + 1 = length-append old _ in omega arith;
-    })
-
-pub longer_same : (old new : List Merge) → new ≡ old → IsLonger old new
-longer_same old new e = subst (IsLonger old) (sym e) record { front = take_all (length old) old (omega arith); longer = omega arith }
-
 pub longer_on : (old mid new : List Merge) → IsLonger old mid → IsLonger mid new → IsLonger old new
 longer_on old mid new g h = let l = g.longer in let k = h.longer in record { front = grown_front old mid new g.front g.longer h.front h.longer; longer = omega arith }
 

@@ -1,13 +1,12 @@
 -- Terms with a part in the class of a representative, as classes are made one.
-use Rattle.std.proofs.Common.{◌≡◌, ℕ, zero, suc, ◌<◌, ◌≤◌, ◌+◌, ◌%◌, inl, inr, Bool, true, false, nat_eq, cond, ◌&&◌, ◌||◌, List, [], ◌∷◌, ◌++◌, length, take, get_or, slice_get, Option, Some, None, refl, sym, ◌∙◌, ap, ap₂, subst, arith, add-one, eq-eqb, ne_eqb}
+use Rattle.std.proofs.Common.{◌≡◌, ℕ, ◌%◌, inl, inr, Bool, true, false, nat_eq, cond, ◌&&◌, ◌||◌, List, [], ◌∷◌, ◌++◌, slice_get, Option, Some, None, refl, sym, ◌∙◌, ap, ap₂, eq-eqb, ne_eqb}
 use Rattle.std.specs.List.{list_any}
 use Rattle.std.proofs.lemmas.Bool.{cases_eq, eqb-true, and_parts}
-use Rattle.std.proofs.lemmas.List.Folds.{list_any-append, list_any_more}
-use Rattle.std.proofs.lemmas.List.{take_all}
+use Rattle.std.proofs.lemmas.List.Folds.{list_any-append}
 use Rattle.cs_index.specs.Keys.{mixed}
 use Rattle.cs_cong.specs.declared.congruent.Applied.{Applied}
 use Rattle.cs_cong.specs.Joined.{all_same, alike}
-use Rattle.cs_cong.specs.Rows.{Rows, row, IsWritten}
+use Rattle.cs_cong.specs.Rows.{Rows, row}
 use Rattle.cs_cong.specs.Signatures.{has, with_parts}
 use Rattle.cs_cong.specs.Used.{is_any, touches, IsUsed}
 use Rattle.cs_cong.proofs.Signatures.{key_of}
@@ -152,81 +151,3 @@ module _ (f g : ℕ → ℕ) (from to : ℕ) (apart : from ≡ to → ⊥) (move
   ]
 
 -- ---- the terms under the representatives of their parts
--- one part more
-split_and : (h e p q : Bool) → ((h || (e && p)) || (e && q)) ≡ (h || (e && (p || q)))
-split_and true e p q = refl
-split_and false true p q = refl
-split_and false false p q = refl
-
-drop_and : (e : Bool) → (e && false) ≡ false
-drop_and true = refl
-drop_and false = refl
-
-keep_and : (e : Bool) → (e && true) ≡ e
-keep_and true = refl
-keep_and false = refl
-
-pub uses_more : (f : ℕ → ℕ) (old mid new : Rows) (number : ℕ) (parts : List ℕ) (i part at : ℕ) → i < length parts → part ≡ get_or parts i 0 → at ≡ f part →
-    ((r a : ℕ) → has (row mid r) a ≡ (has (row old r) a || (nat_eq a number && is_any f (take i parts) r))) → IsWritten mid new at (row mid at ++ number ∷ []) →
-    (r a : ℕ) → has (row new r) a ≡ (has (row old r) a || (nat_eq a number && is_any f (take (i + 1) parts) r))
-uses_more f old mid new number parts i part at lt is place all w r a =
-    let one : f (get_or parts i 0) ≡ at = ap f (sym is) ∙ sym place in
-    let more : is_any f (take (i + 1) parts) r ≡ (is_any f (take i parts) r || nat_eq (f (get_or parts i 0)) r) = list_any_more (λ p. nat_eq (f p) r) parts i 0 lt in
-    let written : has (row new r) a ≡ (has (row mid r) a || (nat_eq a number && nat_eq (f (get_or parts i 0)) r)) = elim (cases_eq r at) [
-      | inl e ↦
-          ap (λ x. has (row new x) a) e ∙ ap (λ l. has l a) w.here ∙ list_any-append (nat_eq a) (row mid at) (number ∷ [])
-          ∙ ap (λ p. has (row mid at) a || p) (or_false (nat_eq a number) ∙ sym (ap (λ p. nat_eq a number && p) (eq-eqb _ _ (one ∙ sym e)) ∙ keep_and (nat_eq a number)))
-          ∙ ap (λ x. has (row mid x) a || (nat_eq a number && nat_eq (f (get_or parts i 0)) r)) (sym e)
-      | inr n ↦
-          ap (λ l. has l a) (w.others r n)
-          ∙ sym (ap (λ p. has (row mid r) a || p) (ap (λ p. nat_eq a number && p) (ne_eqb _ _ (λ h. n (sym h ∙ one))) ∙ drop_and (nat_eq a number)) ∙ or_false (has (row mid r) a))
-    ] in
-    written ∙ ap (λ p. p || (nat_eq a number && nat_eq (f (get_or parts i 0)) r)) (all r a)
-    ∙ split_and (has (row old r) a) (nat_eq a number) (is_any f (take i parts) r) (nat_eq (f (get_or parts i 0)) r)
-    ∙ ap (λ p. has (row old r) a || (nat_eq a number && p)) (sym more)
-
-pub uses_none : (f : ℕ → ℕ) (rows : Rows) (number r a : ℕ) → has (row rows r) a ≡ (has (row rows r) a || (nat_eq a number && false))
-uses_none f rows number r a = sym (ap (λ p. has (row rows r) a || p) (drop_and (nat_eq a number)) ∙ or_false (has (row rows r) a))
-
--- one term more
-here_suc : (terms : List Applied) (n : ℕ) (t : Applied) → n < length terms → t ≡ get_or terms n t → slice_get (take (suc n) terms) n ≡ Some t
-here_suc [] n t lt e = absurd (omega arith)
-here_suc (x ∷ xs) zero t lt e = ap Some (sym e)
-here_suc (x ∷ xs) (suc n) t lt e = here_suc xs n t (omega arith) e
-
-other_suc : (terms : List Applied) (n a : ℕ) → (a ≡ n → ⊥) → slice_get (take (suc n) terms) a ≡ slice_get (take n terms) a
-other_suc [] zero a o = refl
-other_suc [] (suc n) a o = refl
-other_suc (x ∷ xs) zero zero o = absurd (o refl)
-other_suc (x ∷ xs) zero (suc a) o = refl
-other_suc (x ∷ xs) (suc n) zero o = refl
-other_suc (x ∷ xs) (suc n) (suc a) o = other_suc xs n a (λ e. o (ap suc e))
-
-taken_here : (terms : List Applied) (n : ℕ) (t : Applied) → n < length terms → t ≡ get_or terms n t → slice_get (take (n + 1) terms) n ≡ Some t
-taken_here terms n t lt e = ap (λ k. slice_get (take k terms) n) (add-one n) ∙ here_suc terms n t lt e
-
-taken_other : (terms : List Applied) (n a : ℕ) → (a ≡ n → ⊥) → slice_get (take (n + 1) terms) a ≡ slice_get (take n terms) a
-taken_other terms n a o = ap (λ k. slice_get (take k terms) a) (add-one n) ∙ other_suc terms n a o
-
-taken_past : (terms : List Applied) (n : ℕ) → slice_get (take n terms) n ≡ None
-taken_past terms zero = refl
-taken_past [] (suc n) = refl
-taken_past (x ∷ xs) (suc n) = taken_past xs n
-
-pub used_more : (terms : List Applied) (f : ℕ → ℕ) (old new : Rows) (n : ℕ) (t : Applied) (parts : List ℕ) → n < length terms → t ≡ get_or terms n t → parts ≡ t.parts.items →
-    IsUsed (take n terms) f old → ((r a : ℕ) → has (row new r) a ≡ (has (row old r) a || (nat_eq a n && is_any f parts r))) → IsUsed (take (n + 1) terms) f new
-used_more terms f old new n t parts lt is ps used more r a = more r a ∙ elim (cases_eq a n) [
-  | inl e ↦
-      ap₂ (λ p q. p || (q && is_any f parts r)) (used r a ∙ ap (λ o. touches f o r) (ap (slice_get (take n terms)) e ∙ taken_past terms n)) (eq-eqb _ _ e)
-      ∙ ap (λ l. is_any f l r) ps
-      ∙ sym (ap (λ o. touches f o r) (ap (slice_get (take (n + 1) terms)) e ∙ taken_here terms n t lt is))
-  | inr o ↦
-      ap₂ (λ p q. p || (q && is_any f parts r)) (used r a) (ne_eqb _ _ o) ∙ or_false (touches f (slice_get (take n terms) a) r)
-      ∙ sym (ap (λ x. touches f x r) (taken_other terms n a o))
-]
-
-pub used_all : (terms : List Applied) (f : ℕ → ℕ) (uses : Rows) (n : ℕ) → length terms ≤ n → IsUsed (take n terms) f uses → IsUsed terms f uses
-used_all terms f uses n le used = subst (λ l. IsUsed l f uses) (take_all n terms le) used
-
-pub used_none : (terms : List Applied) (f : ℕ → ℕ) (uses : Rows) → ((s : ℕ) → row uses s ≡ []) → IsUsed (take 0 terms) f uses
-used_none terms f uses none r a = ap (λ l. has l a) (none r)
