@@ -66,17 +66,6 @@ grown_step terms old log m g why c = record {
 pub grown_more : (terms : List Applied) (old log : List Merge) (a b : ℕ) → Grown terms old log → are_congruent terms (current log) a b ≡ true → Grown terms old (with_merge log a b Congruence)
 grown_more terms old log a b g c = with_cases (Grown terms old) log a b Congruence (λ e. g) (grown_step terms old log record { left = a; right = b; reason = Congruence; moved = current log a } g refl c)
 
--- where no merge was made the two were in one class
-pub closed_more : (terms : List Applied) (old log : List Merge) (a b : ℕ) → Grown terms old log → length (with_merge log a b Congruence) ≡ length old → (length log ≡ length old) × (current old a ≡ current old b)
-closed_more terms old log a b g = with_cases (λ l. length l ≡ length old → (length log ≡ length old) × (current old a ≡ current old b)) log a b Congruence
-    (λ e long.
-    let is : log ≡ old = sym (take_all (length old) log (omega arith)) ∙ g.front in
-    (long, subst (λ l. current l a ≡ current l b) is e))
-    (λ long. absurd (let l = g.longer in let f : length (log ++ record { left = a; right = b; reason = Congruence; moved = current log a } ∷ []) ≡ length log + 1 = length-append log _ in omega arith))
-
-pub unchanged : (terms : List Applied) (old log : List Merge) → Grown terms old log → length log ≡ length old → log ≡ old
-unchanged terms old log g long = sym (take_all (length old) log (omega arith)) ∙ g.front
-
 pub grown_on : (terms : List Applied) (old mid new : List Merge) → Grown terms old mid → Grown terms mid new → Grown terms old new
 grown_on terms old mid new g h = record {
   front =
@@ -121,7 +110,3 @@ congruent_within terms f a b e = elim (cases_lt b (length terms)) [
 pub grown_merged : (terms : List Applied) (old log new : List Merge) (a b : ℕ) → Grown terms old log → are_congruent terms (current log) a b ≡ true → IsMerged log a b Congruence new → Grown terms old new
 grown_merged terms old log new a b g c (inl e) = subst (Grown terms old) (sym e) (grown_more terms old log a b g c)
 grown_merged terms old log new a b g c (inr e) = subst (Grown terms old) (sym e) (grown_more terms old log b a g (flipped (current log) (slice_get terms a) (slice_get terms b) c))
-
-pub closed_merged : (terms : List Applied) (old log new : List Merge) (a b : ℕ) → Grown terms old log → IsMerged log a b Congruence new → length new ≡ length old → current old a ≡ current old b
-closed_merged terms old log new a b g (inl e) long = (closed_more terms old log a b g (sym (ap length e) ∙ long)).1
-closed_merged terms old log new a b g (inr e) long = sym (closed_more terms old log b a g (sym (ap length e) ∙ long)).1

@@ -4,6 +4,10 @@ pub mod Same
 pub mod Grown
 pub mod Stages
 pub mod Signatures
+pub mod Written
+pub mod Queues
+pub mod Used
+pub mod Settles
 pub mod Joining
 pub mod Walks
 pub mod Steps

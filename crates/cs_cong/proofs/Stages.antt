@@ -8,7 +8,7 @@ use Rattle.cs_cong.specs.declared.congruent.Claim.{Claim}
 use Rattle.cs_cong.specs.declared.merges.Merge.{Merge}
 use Rattle.cs_cong.specs.declared.merges.Reason.{Reason}
 use Rattle.cs_cong.specs.declared.merges.Reason.TheVariants.{Claimed, Congruence}
-use Rattle.cs_cong.specs.Merged.{nothing, across, representative, current, with_merge, IsMerged}
+use Rattle.cs_cong.specs.Merged.{nothing, across, representative, current, with_merge, IsMerged, IsLonger}
 use Rattle.cs_cong.specs.Joined.{says, is_claimed, is_reason, AreJustified, IsClosed, Grown}
 use Rattle.cs_cong.specs.Stages.{IsStage, cut, IsHistory}
 use Rattle.cs_cong.proofs.Times.{front, same_later, same_across, crosses}
@@ -92,7 +92,7 @@ stage_more terms claims c old new s f le justified closed one = record {
 }
 
 -- after one merge more
-last_one : (log : List Merge) (m : Merge) (a : ℕ) → representative (log ++ m ∷ []) (suc (length log)) a ≡ across m (representative log (length log)) a
+pub last_one : (log : List Merge) (m : Merge) (a : ℕ) → representative (log ++ m ∷ []) (suc (length log)) a ≡ across m (representative log (length log)) a
 last_one log m a =
     ap (λ x. across x (representative (log ++ m ∷ []) (length log)) a) (get_or_at log m [] nothing (length log) refl)
     ∙ same_across m (representative (log ++ m ∷ []) (length log)) (representative log (length log)) a
@@ -238,32 +238,8 @@ stage_merged terms claims c old mid new e s (inl h) g closed =
 stage_merged terms claims c old mid new e s (inr h) g closed =
     stage_either terms claims c old mid new c.right c.left s h (or_right (is_claimed (claims ++ c ∷ []) (length claims) c.right c.left) _ (claimed_last claims c e)) (λ f q. sym q) g closed
 
--- the merges before, through a merge and further ones
-pub front_through : (terms : List Applied) (old mid new : List Merge) (a b : ℕ) (why : Reason) → mid ≡ with_merge old a b why → Grown terms mid new → (take (length old) new ≡ old) × (length old ≤ length new)
-front_through terms old mid new a b why e g =
-    let P : List Merge → Type 0 = λ log. (take (length old) log ≡ old) × (length old ≤ length log) in
-    let m : (take (length old) mid ≡ old) × (length old ≤ length mid) = subst P (sym e)
-    (with_cases P old a b why (λ h. (take_all (length old) old (omega arith), omega arith))
-    (take_at old (record { left = a; right = b; reason = why; moved = current old a } ∷ []) (length old) refl, (let long : length (old ++ record { left = a; right = b; reason = why; moved = current old a } ∷ []) ≡ length old + 1 = length-append old _ in omega arith))) in
-    let l = g.longer in
-    (grown_front old mid new m.0 m.1 g.front g.longer, omega (arith, l, m.1))
-
-pub front_merged : (terms : List Applied) (old mid new : List Merge) (a b : ℕ) (why : Reason) → IsMerged old a b why mid → Grown terms mid new → (take (length old) new ≡ old) × (length old ≤ length new)
-front_merged terms old mid new a b why (inl e) g = front_through terms old mid new a b why e g
-front_merged terms old mid new a b why (inr e) g = front_through terms old mid new b a why e g
-
--- what one merge joins stays so
-pub kept_merged : (old mid : List Merge) (a b : ℕ) (why : Reason) → IsMerged old a b why mid → (x y : ℕ) → current old x ≡ current old y → current mid x ≡ current mid y
-kept_merged old mid a b why h = go h
-  where
-    front_of : (a b : ℕ) (new : List Merge) → new ≡ with_merge old a b why → (take (length old) new ≡ old) × (length old ≤ length new)
-    front_of a b new e = subst (λ (log : List Merge). (take (length old) log ≡ old) × (length old ≤ length log)) (sym e)
-        (with_cases (λ log. (take (length old) log ≡ old) × (length old ≤ length log)) old a b why (λ h. (take_all (length old) old (omega arith), omega arith))
-        (take_at old (record { left = a; right = b; reason = why; moved = current old a } ∷ []) (length old) refl, (let long : length (old ++ record { left = a; right = b; reason = why; moved = current old a } ∷ []) ≡ length old + 1 = length-append old _ in omega arith)))
-
-    go : IsMerged old a b why mid → (x y : ℕ) → current old x ≡ current old y → current mid x ≡ current mid y
-    go (inl e) x y = let f = front_of a b mid e in still_merged old mid f.0 f.1 x y
-    go (inr e) x y = let f = front_of b a mid e in still_merged old mid f.0 f.1 x y
+pub longer_on : (old mid new : List Merge) → IsLonger old mid → IsLonger mid new → IsLonger old new
+longer_on old mid new g h = let l = g.longer in let k = h.longer in record { front = grown_front old mid new g.front g.longer h.front h.longer; longer = omega arith }
 
 -- a claim that two terms aren't equal merges nothing
 pub history_denied : (terms : List Applied) (claims : List Claim) (marks : List ℕ) (a b : ℕ) (log : List Merge) → IsHistory terms claims marks log → IsHistory terms (claims ++ record { left = a; right = b; equal = false } ∷ []) (marks ++ length log ∷ []) log

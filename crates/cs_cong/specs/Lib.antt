@@ -2,6 +2,10 @@ pub mod Merged
 pub mod Trees
 pub mod Joined
 pub mod Signatures
+pub mod Rows
+pub mod Waits
+pub mod Used
+pub mod Settled
 pub mod Stages
 pub mod Walks
 pub mod Explained

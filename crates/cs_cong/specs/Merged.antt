@@ -1,5 +1,5 @@
 -- The representatives of terms, by the merges in order.
-use Rattle.std.specs.Prelude.{◌≡◌, ◌⊎◌, ℕ, zero, suc, ◌<◌, nat_eq, cond, List, [], ◌∷◌, ◌++◌, length, get_or}
+use Rattle.std.specs.Prelude.{◌≡◌, ◌⊎◌, ℕ, zero, suc, ◌<◌, ◌≤◌, nat_eq, cond, List, [], ◌∷◌, ◌++◌, length, get_or, take}
 use Rattle.cs_cong.specs.declared.merges.Merge.{Merge}
 use Rattle.cs_cong.specs.declared.merges.Reason.{Reason}
 use Rattle.cs_cong.specs.declared.merges.Reason.TheVariants.{Congruence}
@@ -28,6 +28,11 @@ with_merge log a b why =
 -- one of the two classes goes to the representative of the other
 abbrev pub IsMerged : List Merge → ℕ → ℕ → Reason → List Merge → Type 0
 IsMerged old a b why new = (new ≡ with_merge old a b why) ⊎ (new ≡ with_merge old b a why)
+
+-- further merges
+pub record IsLonger (old new : List Merge) : Type 0 where
+  pub front : take (length old) new ≡ old
+  pub longer : length old ≤ length new
 
 -- the merges are of terms below n
 pub record IsWithin (n : ℕ) (m : Merge) : Type 0 where

@@ -1,34 +1,33 @@
 //! Classes of terms, and what was claimed.
-ghost use Rattle.std.specs.Prelude.{slice_get, Some, ◌≡◌, ◌<◌, ◌≤◌, ◌^◌, ◌++◌, ◌∷◌, ◌↔◌, [], ℕ, List, length, take, true, false, ◌||◌, All, MatchOption, IsTrue, IfOk, OnOk, OnErr};
-ghost use Rattle.cs_index.specs.Under.{with_number};
+ghost use Rattle.std.specs.Prelude.{Some, ◌≡◌, ◌<◌, ◌≤◌, ◌^◌, ◌++◌, ◌∷◌, ◌↔◌, [], ℕ, List, length, take, true, false, All, MatchOption, IsTrue, IfSome, IfOk, OnOk, OnErr};
 ghost use Rattle.cs_cong.specs.Joined.{Joined, AreKept, IsBroken};
-ghost use Rattle.cs_cong.specs.Merged.{current};
-ghost use Rattle.cs_cong.specs.Signatures.{has, has_parts, AreListed};
+ghost use Rattle.cs_cong.specs.Merged.{current, IsLonger};
+ghost use Rattle.cs_cong.specs.Settled.{IsSettled};
+ghost use Rattle.cs_cong.specs.declared.waiting.Waiting.{Waiting};
 ghost use Rattle.cs_cong.specs.Stages.{IsHistory, IsStage};
 
-use crate::congruent::{Applied, Claim, close};
+use crate::congruent::{Applied, Claim};
 use crate::merges::{Merges, Reason, Want};
+use crate::waiting::Waiting;
 use std::alloc::Global;
 
 /// Terms, what is claimed of them, and the classes that follow.
 #[derive(Drop)]
 pub struct Classes {
     pub(crate) terms: Vec<Applied>,
-    // the numbers of those with parts
-    applications: Vec<u32>,
     pub(crate) claims: Vec<Claim>,
     // how many merges stood before each claim
     marks: Vec<usize>,
     pub(crate) merges: Merges,
+    // none where merges were taken back since
+    waiting: Option<Waiting>,
     ghost same_terms: { length terms.items ≡ length merges.links.items },
     ghost parts: { All (λ t. All (λ p. p < length terms.items) t.parts.items) terms.items },
-    ghost numbers: { All (λ n. n < length terms.items) applications.items },
-    ghost listed: { AreListed terms.items applications.items },
     ghost few_terms: { length terms.items < 2 ^ 32 },
-    ghost few_numbers: { length applications.items < 2 ^ 32 },
     ghost few: { length claims.items < 2 ^ 32 },
     ghost named: { All (λ c. (c.left < length terms.items) × (c.right < length terms.items)) claims.items },
     ghost history: { IsHistory terms.items claims.items marks.items merges.log.items },
+    ghost settled: { (w : Waiting) → waiting ≡ Some w → IsSettled terms.items (current merges.log.items) w },
 }
 
 /// Notes a claim, and how many merges stood before it.
@@ -53,63 +52,55 @@ fn note(
     }
 }
 
-/// Whether a term has parts, or all terms are wanted.
-fn is_wanted(term: &Applied, all: bool) -> bool
-    ensures { result ≡ (all || has_parts (Some term.now)) }
+/// What is known of the signatures, or where nothing is, that all terms wait.
+fn known(
+    alloc: Global,
+    terms: &[Applied],
+    merges: &Merges,
+    waiting: Option<Waiting>,
+) -> Result<Waiting, Want>
+    requires terms { length terms.now ≡ length merges.now.links.items }
+    requires few { length terms.now < 2 ^ 32 }
+    requires parts { All (λ t. All (λ p. p < length terms.now) t.parts.items) terms.now }
+    requires settled { IfSome waiting (IsSettled terms.now (current merges.now.log.items)) }
+    ensures { IfOk result (IsSettled terms.now (current merges.now.log.items)) }
 {
-    all || !term.parts.is_empty()
-}
-
-/// A further number, where it is wanted.
-fn add_if(numbers: &mut Vec<u32>, number: u32, wanted: bool) -> Result<(), Want>
-    ensures { OnOk result (numbers.new.items ≡ with_number wanted numbers.old.items number) }
-{
-    if wanted {
-        numbers.push(number)?;
+    match waiting {
+        Some(waiting) => Ok(waiting),
+        None => Waiting::new(alloc, terms, merges),
     }
-    Ok(())
 }
 
-/// The numbers of the terms that have parts, or of all terms.
-fn numbers_of(alloc: Global, terms: &[Applied], all: bool) -> Result<Vec<u32>, Want>
-    requires { length terms.now < 2 ^ 32 }
-    ensures within { IfOk result (λ v. All (λ n. n < length terms.now) v.items) }
-    ensures few { IfOk result (λ v. length v.items ≤ length terms.now) }
-    ensures listed { IfOk result (λ v. (a : ℕ) → a < length terms.now → (all || has_parts (slice_get terms.now a)) ≡ true → has v.items a ≡ true) }
-{
-    let mut numbers = Vec::new(alloc);
-    for at in 0..terms.len() {
-        let wanted = is_wanted(&terms[at], all);
-        add_if(&mut numbers, at as u32, wanted)?;
-    }
-    Ok(numbers)
-}
-
-/// Merges two terms by a claim, and what is congruent then among the terms with parts.
+/// Merges two terms by a claim, and what is congruent then.
 fn follow(
     alloc: Global,
     terms: &[Applied],
-    numbers: &[u32],
+    waiting: Option<Waiting>,
     merges: &mut Merges,
     number: u32,
     claim: Claim,
-) -> Result<(), Want>
+) -> Result<Waiting, Want>
     requires terms { length terms.now ≡ length merges.old.links.items }
     requires few { length terms.now < 2 ^ 32 }
     requires parts { All (λ t. All (λ p. p < length terms.now) t.parts.items) terms.now }
-    requires numbers { All (λ n. n < length terms.now) numbers.now }
-    requires few_numbers { length numbers.now < 2 ^ 32 }
-    requires listed { AreListed terms.now numbers.now }
+    requires settled { IfSome waiting (IsSettled terms.now (current merges.old.log.items)) }
     requires left { claim.left < length terms.now }
     requires right { claim.right < length terms.now }
     ensures same_terms { length merges.new.links.items ≡ length merges.old.links.items }
-    ensures front { take (length merges.old.log.items) merges.new.log.items ≡ merges.old.log.items }
-    ensures longer { length merges.old.log.items ≤ length merges.new.log.items }
+    ensures longer { IsLonger merges.old.log.items merges.new.log.items }
+    ensures settled { IfOk result (IsSettled terms.now (current merges.new.log.items)) }
     ensures stage { (claims : List Claim) → number ≡ length claims → claim.equal ≡ true → IsStage terms.now claims merges.old.log.items → OnOk result (IsStage terms.now (claims ++ claim ∷ []) merges.new.log.items) }
 {
-    merges.merge(claim.left, claim.right, Reason::Claimed(number))?;
-    close(alloc, terms, numbers, merges)?;
-    Ok(())
+    let mut waiting = known(alloc, terms, merges, waiting)?;
+    waiting.join(
+        alloc,
+        merges,
+        claim.left,
+        claim.right,
+        Reason::Claimed(number),
+    )?;
+    waiting.close(alloc, terms, merges)?;
+    Ok(waiting)
 }
 
 impl Classes {
@@ -121,15 +112,14 @@ impl Classes {
         ensures claims { IfOk result (λ c. c.claims.items ≡ []) }
     {
         let mut merges = Merges::new(alloc, terms.len() as u32)?;
-        let all = numbers_of(alloc, &terms, true)?;
-        close(alloc, &terms, &all, &mut merges)?;
-        let applications = numbers_of(alloc, &terms, false)?;
+        let mut waiting = Waiting::new(alloc, &terms, &merges)?;
+        waiting.close(alloc, &terms, &mut merges)?;
         Ok(Classes {
             terms,
-            applications,
             claims: Vec::new(alloc),
             marks: Vec::new(alloc),
             merges,
+            waiting: Some(waiting),
         })
     }
 
@@ -173,16 +163,20 @@ impl Classes {
             equal: true,
         };
         note(&mut self.claims, &mut self.marks, claim, mark)?;
+        let waiting = self.waiting.take();
         let done = follow(
             alloc,
             &self.terms,
-            &self.applications,
+            waiting,
             &mut self.merges,
             number as u32,
             claim,
         );
         match done {
-            Ok(()) => Ok(()),
+            Ok(waiting) => {
+                self.waiting = Some(waiting);
+                Ok(())
+            }
             Err(want) => {
                 self.merges.back_to(mark);
                 self.claims.truncate(number);
@@ -241,6 +235,7 @@ impl Classes {
     {
         if mark < self.marks.len() {
             let cut = self.marks[mark];
+            self.waiting = None;
             self.merges.back_to(cut);
             self.claims.truncate(mark);
             self.marks.truncate(mark);

@@ -7,6 +7,9 @@ mod explain;
 mod laws;
 mod merges;
 mod paths;
+mod queue;
+mod rows;
+mod waiting;
 
 pub use classes::Classes;
 pub use congruent::{Applied, Claim};

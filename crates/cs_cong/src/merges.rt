@@ -1,6 +1,6 @@
 //! The merges of classes, in order, and a tree in which the representative at each time is found.
 ghost use Rattle.std.specs.Prelude.{◌≡◌, ◌<◌, ◌≤◌, ◌+◌, ◌-◌, ◌^◌, ◌++◌, ◌∷◌, [], length, take, IfOk, OnOk, OnErr};
-ghost use Rattle.cs_cong.specs.Merged.{representative, current, with_merge, IsMerged, AreWithin};
+ghost use Rattle.cs_cong.specs.Merged.{representative, current, with_merge, AreWithin};
 ghost use Rattle.cs_cong.specs.Trees.{IsTree, link_at};
 
 use std::alloc::{AllocError, AllocFailed, Global};
@@ -114,29 +114,14 @@ impl Merges {
     }
 
     /// How many terms are in the class of this one, as far as 32 bits count them.
-    fn size_of(&self, term: u32) -> u32
+    pub(crate) fn size_of(&self, term: u32) -> u32
         requires { term < length self.now.links.items }
     {
         self.sizes[self.now(term) as usize]
     }
 
-    /// Makes one class of the classes of two terms: the smaller one gets the representative of the larger one.
-    pub fn merge(&mut self, left: u32, right: u32, reason: Reason) -> Result<(), Want>
-        requires left { left < length self.old.links.items }
-        requires right { right < length self.old.links.items }
-        ensures log { OnOk result (IsMerged self.old.log.items left right reason self.new.log.items) }
-        ensures kept { OnErr result (self.new.log.items ≡ self.old.log.items) }
-        ensures terms { length self.new.links.items ≡ length self.old.links.items }
-    {
-        if self.size_of(left) <= self.size_of(right) {
-            self.turn(left, right, reason)
-        } else {
-            self.turn(right, left, reason)
-        }
-    }
-
     /// Gives the class of the left term the representative of the right one.
-    fn turn(&mut self, left: u32, right: u32, reason: Reason) -> Result<(), Want>
+    pub(crate) fn turn(&mut self, left: u32, right: u32, reason: Reason) -> Result<(), Want>
         requires left { left < length self.old.links.items }
         requires right { right < length self.old.links.items }
         ensures log { OnOk result (self.new.log.items ≡ with_merge self.old.log.items left right reason) }

@@ -1,5 +1,5 @@
 //! What a model makes of terms.
-ghost use Rattle.std.specs.Prelude.{◌≡◌, ◌++◌, true, not, map, IfOk, OnOk};
+ghost use Rattle.std.specs.Prelude.{◌≡◌, ◌↔◌, ◌++◌, not, map, IsTrue, IfOk, OnOk};
 ghost use Rattle.vx_terms.specs.Interpretations as clean;
 ghost use Rattle.vx_terms.specs.Interpretations.{AllTrue};
 ghost use Rattle.vx_terms.specs.Views.{term, terms};
@@ -155,7 +155,7 @@ fn evaluate_all(
 /// # Errors
 /// Those of `evaluate`.
 pub fn is_model(alloc: Global, model: &Model, assertions: &[Rc<Term>]) -> Result<bool, Stop>
-    ensures { IfOk result (λ b. b ≡ true → AllTrue (interpretation model.now.entries.items) (map (λ x. term x.value) assertions.now)) }
+    ensures { IfOk result (λ b. IsTrue b ↔ AllTrue (interpretation model.now.entries.items) (map (λ x. term x.value) assertions.now)) }
 {
     for assertion in assertions {
         if !is_true(evaluate(alloc, model, assertion)?) {

@@ -1,5 +1,5 @@
 -- What learning a clause makes of a search.
-use Rattle.std.proofs.Common.{◌≡◌, ℕ, ◌<◌, ◌⊎◌, inl, inr, List, [], ◌∷◌, ◌++◌, length, take, sym, subst}
+use Rattle.std.proofs.Common.{◌≡◌, ℕ, ◌<◌, ◌⊎◌, inl, inr, List, [], ◌∷◌, ◌++◌, length, take, sym, subst, ap}
 use Rattle.std.specs.List.{All, Contains}
 use Rattle.std.proofs.lemmas.List.Elements.{All-weaker, All-contains}
 use Rattle.cs_hints.specs.declared.Literal.{Literal}
@@ -91,8 +91,11 @@ settled_over values values' trail trail' lits lits' forced cut ev et el h =
 pub false_over : (values values' : List Value) (n : ℕ) (l : Literal) → values' ≡ values → FalseBefore values' n l → FalseBefore values n l
 false_over values values' n l e f = let P : List Value → Type 0 = λ x. FalseBefore x n l in subst P e f
 
-pub learns_same : (a b : Search) → b ≡ record a { made = b.made } → Learns a.clauses.items a.steps.items b.clauses.items b.steps.items
-learns_same a b e = let P : Search → Type 0 = λ x. Learns a.clauses.items a.steps.items x.clauses.items x.steps.items in subst P (sym e) learns_none
+pub learns_same : (a b : Search) → b.clauses ≡ a.clauses → b.steps ≡ a.steps → Learns a.clauses.items a.steps.items b.clauses.items b.steps.items
+learns_same a b ec es =
+    let P : List Clause → Type 0 = λ x. Learns a.clauses.items a.steps.items x b.steps.items in
+    let Q : List Hints → Type 0 = λ x. Learns a.clauses.items a.steps.items a.clauses.items x in
+    subst P (sym (ap (λ v. v.items) ec)) (subst Q (sym (ap (λ v. v.items) es)) learns_none)
 
 pub closed_over : (values values' : List Value) (trail trail' : List Entry) (lits lits' : List Literal) (cut : ℕ) → values' ≡ values → trail' ≡ trail → lits' ≡ lits →
     ((d : ℕ) → d < cut → IsDecision trail' d → IsClosed values' d lits') → (d : ℕ) → d < cut → IsDecision trail d → IsClosed values d lits

@@ -1,4 +1,3 @@
-pub mod Examined
 pub mod Gets
 pub mod Statuses
 pub mod Trails
@@ -14,5 +13,7 @@ pub mod Pops
 pub mod Widens
 pub mod Refuted
 pub mod Places
+pub mod Guards
 pub mod Queues
-pub mod Follows
+pub mod Choices
+pub mod Rewinds

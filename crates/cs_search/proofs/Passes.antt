@@ -1,5 +1,5 @@
 -- What a visit of one clause makes of the assignment.
-use Rattle.std.proofs.Common.{◌≡◌, ℕ, zero, suc, ◌<◌, ◌⊎◌, inl, inr, Bool, true, false, List, [], ◌∷◌, ◌++◌, length, get_or, set, Option, Some, refl, sym, ◌∙◌, subst, ap, arith}
+use Rattle.std.proofs.Common.{◌≡◌, ℕ, zero, suc, ◌<◌, inl, inr, Bool, true, false, List, [], ◌∷◌, ◌++◌, length, get_or, set, Option, Some, refl, sym, ◌∙◌, subst, ap, arith}
 use Rattle.std.specs.List.{slice_get, Contains}
 use Rattle.std.proofs.lemmas.Option.{slice_get_within, slice_get_read}
 use Rattle.std.proofs.lemmas.List.{length-set, length-append}
@@ -10,36 +10,15 @@ use Rattle.cs_search.specs.declared.Value.TheVariants.{Unset, Positive, Negative
 use Rattle.cs_search.specs.declared.Status.TheVariants.{Unassigned, True, False}
 use Rattle.cs_search.specs.declared.Entry.{Entry}
 use Rattle.cs_hints.specs.declared.Clause.{Clause}
-use Rattle.cs_search.specs.declared.examine.Found.{Found}
-use Rattle.cs_search.specs.declared.examine.Found.TheVariants.{Unit}
-use Rattle.cs_search.specs.Assignment.{negated, seen_or, status_of, valued, FalseBefore, IsTrail, IsForced, IsClosed, IsSatisfied}
-use Rattle.cs_search.specs.Found.{IsFound, IsPlacedBelow, IsUnassigned, IsOpen}
+use Rattle.cs_search.specs.Settled.{Forces}
+use Rattle.cs_search.specs.Assignment.{negated, seen_or, valued, IsTrail, IsForced, IsPlacedBelow, IsUnassigned}
 use Rattle.cs_search.specs.Extended.{is_unset, unset_count, AreKnown, IsExtended}
 use Rattle.cs_search.proofs.Gets.{get_push_old, get_push_cases}
-use Rattle.cs_search.proofs.Statuses.{true_negated, never_both}
+use Rattle.cs_search.proofs.Statuses.{true_negated}
 use Rattle.cs_search.proofs.Trails.{trail_more}
 
 pub placed_below : (clauses : List Clause) (values : List Value) (trail : List Entry) → IsTrail clauses values trail → IsPlacedBelow values (length trail)
 placed_below clauses values trail t l p is = let w = t.placed (negated l) p (true_negated values l p is) in slice_get_within trail p w.0 w.1
-
-unassigned_false : (values : List Value) (l : Literal) (k : ℕ) → IsUnassigned values l → FalseBefore values k l → ⊥
-unassigned_false values l k u (p, lt, is) = let t : Unassigned ≡ False p = sym u ∙ is in cc
-
-pub satisfied_closed : (clauses : List Clause) (values : List Value) (trail : List Entry) (c : List Literal) → IsTrail clauses values trail → IsSatisfied values c → IsClosed values (length trail) c
-satisfied_closed clauses values trail c t (l, p, in', is) u only =
-    let w = t.placed l p is in
-    elim (All-contains (λ m. (m ≡ u) ⊎ FalseBefore values (length trail) m) c l only in') [
-      | inl e ↦ (p, slice_get_within trail p w.0 w.1, (let P : Literal → Type 0 = λ x. status_of values x ≡ True p in subst P e is))
-      | inr f ↦ absurd (never_both values l p f.0 is f.2)
-    ]
-
-pub open_closed : (values : List Value) (len : ℕ) (c : List Literal) → IsOpen values c → IsClosed values len c
-open_closed values len c (a, b, ne, ia, ib, ua, ub) u only =
-    let at = λ (m : Literal) (i : Contains c m). All-contains (λ m. (m ≡ u) ⊎ FalseBefore values len m) c m only i in
-    elim (at a ia) [
-      | inl ea ↦ elim (at b ib) [ inl eb ↦ absurd (ne (ea ∙ sym eb)) | inr fb ↦ absurd (unassigned_false values b len ub fb) ]
-      | inr fa ↦ absurd (unassigned_false values a len ua fa)
-    ]
 
 seen_unset : (b : Bool) (o : Option Value) (v : Value) → o ≡ Some v → seen_or b o ≡ Unassigned → v ≡ Unset
 seen_unset b o Unset e u = refl
@@ -77,21 +56,21 @@ pub extended_itself : (clauses : List Clause) (values : List Value) (trail : Lis
 extended_itself clauses values trail t = record { sound = t; width = refl; kept = λ j e h. h; forced = λ j e h. inl h; fewer = omega arith; counted = refl }
 
 pub extended_by : (clauses : List Clause) (values values' : List Value) (trail trail' : List Entry) (i : ℕ) (c : Clause) (l : Literal) →
-    IsTrail clauses values trail → slice_get clauses i ≡ Some c → l.number < length values → IsFound values (length trail) c.literals.items (Unit l) →
+    IsTrail clauses values trail → slice_get clauses i ≡ Some c → l.number < length values → Forces values (length trail) c.literals.items l →
     values' ≡ set values l.number (valued l.positive (length trail)) → trail' ≡ trail ++ record { literal = l; reason = Some i } ∷ [] →
     IsExtended clauses values trail values' trail'
-extended_by clauses values values' trail trail' i c l t at lt (in', u, only) ev et =
+extended_by clauses values values' trail trail' i c l t at lt f ev et =
     let e : Entry = record { literal = l; reason = Some i } in
-    let forced : IsForced clauses values (length trail) e = λ r why. (c, ap (slice_get clauses) (let s : r ≡ i = cc in s) ∙ at, in', only) in
+    let forced : IsForced clauses values (length trail) e = λ r why. (c, ap (slice_get clauses) (let s : r ≡ i = cc in s) ∙ at, f.contained, f.leaves) in
     let P : List Value → Type 0 = λ v. IsExtended clauses values trail v (trail ++ e ∷ []) in
     let Q : List Entry → Type 0 = λ x. IsExtended clauses values trail values' x in
     subst Q (sym et) (subst P (sym ev) record {
-      sound = trail_more clauses values trail e t u lt forced;
+      sound = trail_more clauses values trail e t f.free lt forced;
       width = length-set values l.number (valued l.positive (length trail));
       kept = λ j x h. get_push_old trail j e x h;
       forced = λ j x h. elim (get_push_cases trail j e x h) [ inl old ↦ inl old | inr new ↦ inr (i, ap (λ y. y.reason) new.1) ];
-      fewer = let n = count_assigned values l (length trail) lt u in omega arith;
-      counted = let n = count_assigned values l (length trail) lt u in omega (arith, n, length-append trail (e ∷ []));
+      fewer = let n = count_assigned values l (length trail) lt f.free in omega arith;
+      counted = let n = count_assigned values l (length trail) lt f.free in omega (arith, n, length-append trail (e ∷ []));
     })
 
 pub extended_twice : (clauses : List Clause) (v1 v2 v3 : List Value) (t1 t2 t3 : List Entry) → IsExtended clauses v1 t1 v2 t2 → IsExtended clauses v2 t2 v3 t3 → IsExtended clauses v1 t1 v3 t3
@@ -107,30 +86,8 @@ extended_twice clauses v1 v2 v3 t1 t2 t3 a b = record {
 pub known_atom : (clauses : List Clause) (n i : ℕ) (c : Clause) (l : Literal) → AreKnown clauses n → slice_get clauses i ≡ Some c → Contains c.literals.items l → l.number < n
 known_atom clauses n i c l k at in' = All-contains (λ m. m.number < n) c.literals.items l (k i c at) in'
 
-pub found_at : (values vs : List Value) (len n : ℕ) (lits c : List Literal) (f : Found) → vs ≡ values → len ≡ n → lits ≡ c → IsFound vs len lits f → IsFound values n c f
-found_at values vs len n lits c f ev en ec h =
-    let P : List Value → Type 0 = λ v. IsFound v len lits f in
-    let Q : ℕ → Type 0 = λ k. IsFound values k lits f in
-    let R : List Literal → Type 0 = λ x. IsFound values n x f in
-    subst R ec (subst Q en (subst P ev h))
-
-pub placed_at : (values vs : List Value) (len n : ℕ) → vs ≡ values → len ≡ n → IsPlacedBelow values n → IsPlacedBelow vs len
-placed_at values vs len n ev en h =
-    let P : List Value → Type 0 = λ v. IsPlacedBelow v n in
-    let Q : ℕ → Type 0 = λ k. IsPlacedBelow vs k in
-    subst Q (sym en) (subst P (sym ev) h)
-
--- the clause at i, as it was examined
-pub examined : (clauses : List Clause) (i : ℕ) (clause : Clause) (values vs : List Value) (len m n : ℕ) (lits : List Literal) (f : Found) →
-    clause ≡ get_or clauses i clause → vs ≡ values → len ≡ m → m ≡ n → lits ≡ (get_or clauses i clause).literals.items → IsFound vs len lits f → IsFound values n clause.literals.items f
-examined clauses i clause values vs len m n lits f is ev el en ec h = found_at values vs len n lits clause.literals.items f ev (el ∙ en) (ec ∙ ap (λ c. c.literals.items) (sym is)) h
-
 pub at_index : (clauses : List Clause) (i : ℕ) (clause : Clause) → i < length clauses → clause ≡ get_or clauses i clause → slice_get clauses i ≡ Some clause
 at_index clauses i clause lt is = slice_get_read clauses (length clauses) i clause refl lt is
-
-pub the_one : (clauses : List Clause) (values : List Value) (n i : ℕ) (clause : Clause) → slice_get clauses i ≡ Some clause → IsClosed values n clause.literals.items →
-    (c : Clause) → slice_get clauses i ≡ Some c → IsClosed values n c.literals.items
-the_one clauses values n i clause at h c at' = let e : clause ≡ c = let t = sym at ∙ at' in cc in let P : Clause → Type 0 = λ x. IsClosed values n x.literals.items in subst P e h
 
 pub fewer : (values values' : List Value) (l : Literal) (p : ℕ) → l.number < length values → IsUnassigned values l → values' ≡ set values l.number (valued l.positive p) → unset_count values' < unset_count values
 fewer values values' l p lt u e =

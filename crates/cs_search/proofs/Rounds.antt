@@ -13,8 +13,7 @@ use Rattle.cs_hints.specs.declared.Clause.{Clause}
 use Rattle.cs_meter.specs.declared.Meter.{Meter}
 use Rattle.cs_meter.specs.Units.{limit}
 use Rattle.cs_search.specs.declared.search.Turn.{Turn}
-use Rattle.cs_search.specs.Assignment.{seen_or, status_of, valued, FalseBefore, IsFalse, IsTrail, IsForced, IsClosed, IsSatisfied}
-use Rattle.cs_search.specs.Found.{IsUnassigned}
+use Rattle.cs_search.specs.Assignment.{seen_or, status_of, valued, FalseBefore, IsFalse, IsTrail, IsForced, IsClosed, IsSatisfied, IsUnassigned}
 use Rattle.cs_search.specs.Extended.{AreClosed, IsExtended, unset_count}
 use Rattle.cs_search.specs.Settled.{IsLatest}
 use Rattle.cs_search.specs.Learned.{IsLastDecision}

@@ -84,7 +84,7 @@ seen_valued_is false true p q e = cc
 seen_valued_is true false p q e = cc
 seen_valued_is false false p q e = (refl, let t : q ≡ p = cc in t)
 
-literal_eq : (l m : Literal) → l.positive ≡ m.positive → l.number ≡ m.number → l ≡ m
+pub literal_eq : (l m : Literal) → l.positive ≡ m.positive → l.number ≡ m.number → l ≡ m
 literal_eq l m p a = let mk : Bool → ℕ → Literal = λ b n. record { positive = b; number = n } in ap₂ mk p a
 
 -- what is true after the write was true, or is the literal

@@ -71,3 +71,17 @@ IsClosedAtDecisions clauses values trail =
 abbrev pub valued : Bool → ℕ → Value
 valued true p = Positive p
 valued false p = Negative p
+
+abbrev pub IsUnassigned : List Value → Literal → Type 0
+IsUnassigned values l = status_of values l ≡ Unassigned
+
+abbrev pub BecameFalse : List Value → Literal → Type 0
+BecameFalse values l = (p : ℕ) × (status_of values l ≡ False p)
+
+-- the literal is unassigned or true
+abbrev pub NotFalse : List Value → Literal → Type 0
+NotFalse values l = (p : ℕ) → ¬ (status_of values l ≡ False p)
+
+-- each place is below len
+abbrev pub IsPlacedBelow : List Value → ℕ → Type 0
+IsPlacedBelow values len = (l : Literal) (p : ℕ) → status_of values l ≡ False p → p < len

@@ -1,6 +1,5 @@
 pub mod Assignment
 pub mod Propagation
-pub mod Found
 pub mod Extended
 pub mod Learned
 pub mod Settled
@@ -9,4 +8,6 @@ pub mod Top
 pub mod Widened
 pub mod Law
 pub mod Rows
+pub mod Watched
 pub mod Queued
+pub mod Chosen

@@ -1,10 +1,11 @@
 -- A search: its clauses, how the derived ones were derived, and its assignment.
-use Rattle.std.specs.Prelude.{◌≡◌, ℕ, ◌<◌, ◌+◌, ◌⊎◌, List, [], ◌∷◌, ◌++◌, length, Some, slice_get, reverse}
+use Rattle.std.specs.Prelude.{◌≡◌, ℕ, ◌<◌, ◌≤◌, ◌+◌, ◌⊎◌, List, [], ◌∷◌, ◌++◌, length, Some, slice_get, reverse}
 use Rattle.cs_hints.specs.declared.Literal.{Literal}
 use Rattle.cs_search.specs.declared.Value.{Value}
 use Rattle.cs_search.specs.declared.Entry.{Entry}
 use Rattle.cs_hints.specs.declared.Clause.{Clause}
 use Rattle.cs_search.specs.declared.search.Hints.{Hints}
+use Rattle.cs_search.specs.declared.search.Search.{Search}
 use Rattle.cs_search.specs.declared.search.Solved.{Solved}
 use Rattle.cs_search.specs.declared.search.Solved.TheVariants.{Refuted, Assigned}
 use Rattle.cs_search.specs.declared.search.Turn.{Turn}
@@ -15,6 +16,7 @@ use Rattle.cs_search.specs.declared.Value.TheVariants.{Unset}
 use Rattle.cs_search.specs.Assignment.{IsTrail, IsFalse, IsContained, IsSatisfied, IsClosedAtDecisions}
 use Rattle.cs_search.specs.Extended.{AreKnown, unset_count}
 use Rattle.cs_search.specs.Propagation.{IsDerived}
+use Rattle.cs_search.specs.Queued.{IsQueued}
 
 pub record IsSearch (clauses : List Clause) (values : List Value) (trail : List Entry) : Type 0 where
   pub sound : IsTrail clauses values trail
@@ -56,3 +58,12 @@ abbrev pub IsRound : List Clause → List Value → List Value → Meter → Met
 IsRound clauses old new before after (Ended solved) = IsSolved clauses new solved
 IsRound clauses old new before after Spent = after.spent ≡ limit
 IsRound clauses old new before after On = IsOn old new before after
+
+-- each atom from k on has a value
+abbrev pub AreSetFrom : List Value → ℕ → Type 0
+AreSetFrom values k = (i : ℕ) (v : Value) → k ≤ i → slice_get values i ≡ Some v → ¬ (v ≡ Unset)
+
+-- a search as each call leaves it
+pub record IsReady (s : Search) : Type 0 where
+  pub sound : IsSearch s.clauses.items s.made.values.items s.made.trail.items
+  pub queued : IsQueued s.clauses.items s.made.values.items s.made.trail.items s.queue

@@ -4,8 +4,7 @@ use Rattle.cs_hints.specs.declared.Literal.{Literal}
 use Rattle.cs_search.specs.declared.Value.{Value}
 use Rattle.cs_search.specs.declared.Entry.{Entry}
 use Rattle.std.specs.List.{Contains}
-use Rattle.cs_search.specs.Found.{IsUnassigned}
-use Rattle.cs_search.specs.Assignment.{FalseBefore, LeavesOnly, IsClosed}
+use Rattle.cs_search.specs.Assignment.{FalseBefore, LeavesOnly, IsClosed, IsUnassigned}
 
 abbrev pub HasReason : Entry → Type 0
 HasReason e = (r : ℕ) × (e.reason ≡ Some r)

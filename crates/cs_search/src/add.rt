@@ -1,12 +1,13 @@
-//! A clause is added, and the assignment starts anew.
-ghost use Rattle.std.specs.Prelude.{◌≡◌, ◌<◌, ◌≤◌, ◌++◌, ◌∷◌, [], List, length, OnOk};
+//! A clause is added, and the assignment goes back to its first decision.
+ghost use Rattle.std.specs.Prelude.{◌≡◌, ℕ, ◌<◌, ◌≤◌, ◌++◌, ◌∷◌, [], List, Some, length, slice_get, OnOk};
 ghost use Rattle.std.specs.List.{All};
-ghost use Rattle.cs_search.specs.Search.{IsSearch};
+ghost use Rattle.cs_search.specs.declared.Entry.{Entry};
+ghost use Rattle.cs_search.specs.Settled.{HasReason};
+ghost use Rattle.cs_search.specs.Search.{IsReady};
 ghost use Rattle.cs_search.specs.Widened.{IsWidened};
 
-use crate::assignment::take_back;
-use crate::search::Search;
-use crate::{Clause, Literal, Value};
+use crate::search::{Search, back_to};
+use crate::{Clause, Entry, Literal, Value};
 use std::alloc::AllocError;
 
 /// Makes room for the atom.
@@ -31,13 +32,41 @@ pub fn widen(values: &mut Vec<Value>, literals: &[Literal]) -> Result<(), AllocE
     Ok(())
 }
 
+/// The place of the first decision, or the trail's end.
+fn base_of(trail: &[Entry]) -> usize
+    ensures within { result ≤ length trail.now }
+    ensures forced { (j : ℕ) (e : Entry) → j < result → slice_get trail.now j ≡ Some e → HasReason e }
+{
+    for i in 0..trail.len() {
+        match trail[i].reason {
+            None => return i,
+            Some(_) => {}
+        }
+    }
+    trail.len()
+}
+
+/// Takes the assignment back to its first decision.
+fn back_to_base(search: &mut Search)
+    requires sound { IsReady search.old }
+    ensures sound { IsReady search.new }
+    ensures clauses { search.new.clauses ≡ search.old.clauses }
+    ensures forced { (j : ℕ) (e : Entry) → slice_get search.new.made.trail.items j ≡ Some e → HasReason e }
+{
+    let base = base_of(&search.made.trail);
+    if base == search.made.trail.len() {
+        return;
+    }
+    back_to(search, base);
+}
+
 /// Adds a clause.
 pub fn add(search: &mut Search, clause: Clause) -> Result<(), AllocError>
-    requires sound { IsSearch search.old.clauses.items search.old.made.values.items search.old.made.trail.items }
-    ensures sound { OnOk result (IsSearch search.new.clauses.items search.new.made.values.items search.new.made.trail.items) }
+    requires sound { IsReady search.old }
+    ensures sound { OnOk result (IsReady search.new) }
     ensures clauses { OnOk result (search.new.clauses.items ≡ search.old.clauses.items ++ clause ∷ []) }
 {
-    take_back(&mut search.made, 0, &search.clauses);
+    back_to_base(search);
     widen(&mut search.made.values, &clause.literals)?;
     search.clauses.push(clause)?;
     Ok(())

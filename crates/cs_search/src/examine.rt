@@ -1,18 +1,8 @@
-//! What a clause is under an assignment.
+//! What a literal is under an assignment.
 ghost use Rattle.std.specs.Prelude.{◌≡◌, ◌↔◌, IsTrue};
 ghost use Rattle.cs_search.specs.Assignment.{status_of, negated};
-ghost use Rattle.cs_search.specs.Found.{IsFound, IsPlacedBelow};
 
 use crate::{Literal, Status, Value};
-
-/// What a clause leaves to do.
-#[derive(Clone, Copy, PartialEq, Eq, Debug)]
-pub enum Found {
-    Satisfied,
-    Open,
-    Unit(Literal),
-    Conflict,
-}
 
 pub fn negate(literal: Literal) -> Literal
     ensures { result ≡ negated literal }
@@ -55,33 +45,4 @@ pub fn status(values: &[Value], literal: Literal) -> Status
             }
         }
     }
-}
-
-/// What the clause is under the assignment, whose places are all below `len`.
-pub fn examine(values: &[Value], len: usize, clause: &[Literal]) -> Found
-    requires { IsPlacedBelow values.now len }
-    ensures { IsFound values.now len clause.now result }
-{
-    let mut found = Found::Conflict;
-    for literal in clause {
-        match status(values, *literal) {
-            Status::True(_) => return Found::Satisfied,
-            Status::False(_) => {}
-            Status::Unassigned => {
-                found = match found {
-                    Found::Conflict => Found::Unit(*literal),
-                    Found::Unit(other) => {
-                        if same(other, *literal) {
-                            found
-                        } else {
-                            Found::Open
-                        }
-                    }
-                    Found::Open => Found::Open,
-                    Found::Satisfied => Found::Satisfied,
-                };
-            }
-        }
-    }
-    found
 }

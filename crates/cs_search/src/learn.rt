@@ -3,14 +3,14 @@ ghost use Rattle.std.specs.Prelude.{◌≡◌, [], ◌∷◌, ◌++◌, ◌<◌,
 ghost use Rattle.std.specs.List.{Contains};
 ghost use Rattle.cs_search.specs.Assignment.{IsTrail, IsFalse, IsClosed, FalseBefore, LeavesOnly};
 ghost use Rattle.cs_meter.specs.Units.{limit};
-ghost use Rattle.cs_search.specs.Search.{IsSearch, AreSatisfied, IsUncovered};
+ghost use Rattle.cs_search.specs.Search.{IsReady, AreSatisfied, IsUncovered};
 ghost use Rattle.cs_search.specs.Settled.{IsSettled, IsDecision, Forces};
 ghost use Rattle.cs_hints.specs.declared.Literal.{Literal};
 ghost use Rattle.cs_search.specs.Top.{IsTop};
 
-use crate::assignment::{Assignment, take_back};
+use crate::assignment::Assignment;
 use crate::examine::status;
-use crate::search::{Search, Undecided, spend};
+use crate::search::{Search, Undecided, back_to, spend};
 use crate::settle::settle;
 use crate::{Clause, Literal, Status};
 use cs_meter::Meter;
@@ -87,10 +87,10 @@ fn keep(clauses: &mut Vec<Clause>, clause: Clause) -> Result<(), AllocError>
 
 /// Learns a clause that is false under the assignment, and takes the assignment back until it forces a literal.
 pub fn learn(search: &mut Search, clause: Clause, meter: &mut Meter) -> Result<(), Undecided>
-    requires sound { IsSearch search.old.clauses.items search.old.made.values.items search.old.made.trail.items }
+    requires sound { IsReady search.old }
     requires all_false { IsFalse search.old.made.values.items (length search.old.made.trail.items) clause.literals.items }
     requires satisfied { AreSatisfied search.old.clauses.items search.old.made.values.items }
-    ensures sound { OnOk result (IsSearch search.new.clauses.items search.new.made.values.items search.new.made.trail.items) }
+    ensures sound { OnOk result (IsReady search.new) }
     ensures clauses { OnOk result (search.new.clauses.items ≡ search.old.clauses.items ++ clause ∷ []) }
     ensures uncovered { OnOk result (IsUncovered search.old.clauses.items clause.literals.items) }
     ensures forces { OnOk result ((clause.literals.items ≡ []) ⊎ ((forced : Literal) × Forces search.new.made.values.items (length search.new.made.trail.items) clause.literals.items forced)) }
@@ -101,7 +101,7 @@ pub fn learn(search: &mut Search, clause: Clause, meter: &mut Meter) -> Result<(
         return Err(Undecided::Budget);
     }
     let cut = cut_for(&search.made, &clause.literals, &search.clauses);
-    take_back(&mut search.made, cut, &search.clauses);
+    back_to(search, cut);
     match keep(&mut search.clauses, clause) {
         Err(e) => Err(Undecided::Want(e)),
         Ok(()) => Ok(()),

@@ -29,6 +29,7 @@ pub struct Entry {
 pub mod add;
 pub mod analyse;
 pub mod assignment;
+pub mod choose;
 pub mod examine;
 pub mod laws;
 pub mod learn;

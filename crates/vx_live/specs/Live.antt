@@ -1,14 +1,16 @@
 -- Questions that are well-sorted over declared symbols.
-use Rattle.std.specs.Prelude.{ℕ, ⊤}
-use Rattle.vx_ast.specs.Syntax.{Program, Method}
+use Rattle.std.specs.Prelude.{◌≡◌, ℕ, Some, ⊤}
+use Rattle.vx_ast.specs.Syntax.{Name, Program, Kind, Method, member_named}
 use Rattle.vx_terms.specs.Sorts.{Sort, BoolSort, OtherSort}
 use Rattle.vx_terms.specs.Interpretations.{Each}
 use Rattle.vx_terms.specs.Formed.{Formed}
 use Rattle.vx_smt_meaning.specs.Over.{IsOver}
 use Rattle.vx_smt_meaning.specs.Standard.{standard_symbols}
 use Rattle.vx_rules.specs.Trees.{Question, Tree, End, Impossible, On, Step, Ask, Probe, Fork}
-use Rattle.vx_rules.specs.Members.{method_tree}
+use Rattle.vx_rules.specs.Members.{tree, method_tree}
 use Rattle.vx_types.specs.Typing.{IsTypedMethod}
+use Rattle.vx_whole.specs.Premises.{IsTypedProgram}
+use Rattle.vx_whole.specs.Closure.{InClosure}
 
 -- one of the five sorts that every dialogue knows
 abbrev pub IsBuiltIn : Sort → Type 0
@@ -38,3 +40,9 @@ AllLive (Fork a b) = AllLive a × AllLive b
 -- for the methods of a part of the language
 abbrev pub LiveLaw : (Method → Type 0) → Type 0
 LiveLaw IsOfPart = (p : Program) (m : Method) → IsTypedMethod p m → IsOfPart m → AllLive (method_tree p m)
+
+-- For a member of a typed program that leads only to members of a part of the language: of what it calls the contract is
+-- read, which is of that part too then.
+abbrev pub LiveClosureLaw : (Kind → Type 0) → Type 0
+LiveClosureLaw IsOfPart =
+    (p : Program) (x : Name) (k : Kind) → IsTypedProgram p → member_named p x ≡ Some k → ((y : Name) (l : Kind) → InClosure p x y → member_named p y ≡ Some l → IsOfPart l) → AllLive (tree p x k)

@@ -1,4 +1,4 @@
-use Rattle.vx_live.proofs.LiveMethods.{methods_live, store_methods_live}
+use Rattle.vx_live.proofs.LiveMethods.{methods_live, store_methods_live, calling_live}
 use Rattle.vx_live.proofs.questions_are_live.Goals as goal
 
 pub returns-clause-fields : goal.returns-clause-fields
@@ -6,3 +6,6 @@ returns-clause-fields c = methods_live
 
 pub returns-clause-store : goal.returns-clause-store
 returns-clause-store c = store_methods_live
+
+pub returns-clause-calls : goal.returns-clause-calls
+returns-clause-calls c = calling_live

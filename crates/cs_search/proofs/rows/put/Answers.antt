@@ -1,5 +1,5 @@
-use Rattle.cs_search.proofs.Places.{put_in}
+use Rattle.cs_search.proofs.Places.{put_grown}
 use Rattle.cs_search.proofs.rows.put.Goals as goal
 
 pub returns : goal.returns
-returns c = put_in c.args.rows.now.items c.args.at c.args.number c.index_mut.result.now c.push.new.self c.requires c.index_mut.ensures.value c.in_ok-push.ensures.items
+returns c = put_grown c.args.rows.now.items c.reach.new.rows.items c.append.new.rows.items c.args.at c.args.number c.in_ok-reach.ensures.same c.in_ok-append.ensures

@@ -1,18 +1,17 @@
-use Rattle.std.proofs.Common.{◌≤◌, List, length, refl, sym, ap, subst, arith}
+use Rattle.std.proofs.Common.{List, [], ◌∷◌, ◌++◌, length, refl, sym, ◌∙◌, ap, subst, arith}
 use Rattle.std.proofs.lemmas.Option.{slice_get_within}
 use Rattle.cs_hints.specs.declared.Clause.{Clause}
 use Rattle.cs_search.specs.Extended.{IsConflict, AreClosed}
 use Rattle.cs_search.proofs.Analyses.{only_at}
-use Rattle.cs_search.proofs.Learns.{closed_at_start, forced_free, learned_search, learns_one, learned_over, trail_over, settled_over, false_over}
-use Rattle.cs_search.proofs.Tops.{forced_there}
-use Rattle.cs_search.proofs.Follows.{closed_after, decision_over}
+use Rattle.cs_search.proofs.Learns.{closed_at_start, forced_free, learned_search, learns_one, learned_over, settled_over, false_over}
+use Rattle.cs_search.proofs.Queues.{queued_pushed}
 use Rattle.cs_search.proofs.search.learn_conflict.Goals as goal
 
 pub analyse-requires-clause-closed : goal.analyse-requires-clause-closed
 analyse-requires-clause-closed c =
     let s = c.args.search.now in
     let P : List Clause → Type 0 = λ x. AreClosed x s.made.values.items c.args.start (length x) in
-    subst P (sym c.deref.ensures.value) (closed_at_start s.clauses.items s.made.values.items s.made.trail.items c.args.start c.requires.sound c.requires.decision)
+    subst P (sym c.deref.ensures.value) (closed_at_start s.clauses.items s.made.values.items s.made.trail.items c.args.start c.requires.sound.sound c.requires.decision)
 
 pub analyse-requires-clause-conflict : goal.analyse-requires-clause-conflict
 analyse-requires-clause-conflict c =
@@ -36,48 +35,32 @@ settle-cut-requires-clause-free c f =
     let l = c.in_ok-learned.learned in
     forced_free _ s.made.values.items c.args.start (length s.made.trail.items) l.literals.items l.hints.items l.forced c.in_ok-learned.ensures (false_over _ _ c.args.start l.forced c.deref-2.ensures.value f)
 
-pub take_back-requires-clause-room : goal.take_back-requires-clause-room
-take_back-requires-clause-room c =
+pub back_to-requires-clause-room : goal.back_to-requires-clause-room
+back_to-requires-clause-room c =
     let d = c.requires.decision.decision in
     let lt = slice_get_within c.args.search.now.made.trail.items c.args.start d.0 d.1 in
-    omega (arith, lt, c.settle-cut.ensures.within, c.args.search.now.made.trail.ok.0)
+    omega (arith, lt, c.settle-cut.ensures.within)
 
 pub returns-clause-sound : goal.returns-clause-sound
 returns-clause-sound c =
     let s = c.args.search.now in
+    let b = c.back_to.new.search in
     let l = c.in_ok-learned.learned in
     let learned = learned_over s.clauses.items _ s.made.values.items c.args.start (length s.made.trail.items) l.literals.items l.hints.items l.forced c.deref.ensures.value c.in_ok-learned.ensures in
     let settled = settled_over s.made.values.items _ s.made.trail.items _ l.literals.items _ l.forced c.settle-cut.result c.deref-2.ensures.value c.deref-3.ensures.value c.deref-4.ensures.value c.settle-cut.ensures.settled in
-    learned_search s.clauses.items _ s.made.values.items _ s.made.trail.items _ record { literals = l.literals } c.args.start (length s.made.trail.items) c.settle-cut.result l.hints.items l.forced
-    c.requires.sound learned settled (trail_over s.clauses.items _ _ _ c.deref-5.ensures.value c.take_back.ensures.sound) c.take_back.ensures.trail c.take_back.ensures.values c.in_ok-push.ensures.items
+    let clauses = c.in_ok-push.ensures.items ∙ ap (λ x. x.clauses.items ++ record { literals = l.literals } ∷ []) c.back_to.ensures.same in
+    record {
+      sound = learned_search s.clauses.items _ s.made.values.items b.made.values.items s.made.trail.items b.made.trail.items record { literals = l.literals } c.args.start (length s.made.trail.items) c.settle-cut.result l.hints.items l.forced
+          c.requires.sound.sound learned settled c.back_to.ensures.sound c.back_to.ensures.trail c.back_to.ensures.values clauses;
+      queued = queued_pushed s.clauses.items _ record { literals = l.literals } b.made.values.items b.made.trail.items b.queue clauses c.back_to.ensures.queued;
+    }
 
 pub returns-clause-learns : goal.returns-clause-learns
 returns-clause-learns c =
     let s = c.args.search.now in
     let l = c.in_ok-learned.learned in
     let learned = learned_over s.clauses.items _ s.made.values.items c.args.start (length s.made.trail.items) l.literals.items l.hints.items l.forced c.deref.ensures.value c.in_ok-learned.ensures in
+    let clauses = c.in_ok-push.ensures.items ∙ ap (λ x. x.clauses.items ++ record { literals = l.literals } ∷ []) c.back_to.ensures.same in
+    let steps = c.in_ok-push-2.ensures.items ∙ ap (λ x. x.steps.items ++ record { numbers = l.hints } ∷ []) c.back_to.ensures.same in
     learns_one s.clauses.items _ s.steps.items _ s.made.values.items s.made.trail.items record { literals = l.literals } record { numbers = l.hints } c.args.start (length s.made.trail.items) l.forced
-    c.requires.sound c.requires.decision learned c.in_ok-push.ensures.items c.in_ok-push-2.ensures.items
-
-pub returns-clause-closed : goal.returns-clause-closed
-returns-clause-closed c =
-    let s = c.args.search.now in
-    let d = c.requires.decision.decision in
-    let lt = slice_get_within s.made.trail.items c.args.start d.0 d.1 in
-    let le : c.settle-cut.result ≤ length s.made.trail.items = omega (arith, lt, c.settle-cut.ensures.within) in
-    let cut = decision_over s.made.trail.items _ c.settle-cut.result c.deref-3.ensures.value (c.settle-cut.ensures.decision (decision_over _ s.made.trail.items c.args.start (sym c.deref-3.ensures.value) d)) in
-    closed_after s.clauses.items s.made.values.items _ s.made.trail.items _ c.settle-cut.result c.requires.sound (trail_over s.clauses.items _ _ _ c.deref-5.ensures.value c.take_back.ensures.sound) c.take_back.ensures.trail le cut
-
-pub returns-clause-forces : goal.returns-clause-forces
-returns-clause-forces c =
-    let s = c.args.search.now in
-    let l = c.in_ok-learned.learned in
-    let d = c.requires.decision.decision in
-    let lt = slice_get_within s.made.trail.items c.args.start d.0 d.1 in
-    let le : c.settle-cut.result ≤ length s.made.trail.items = omega (arith, lt, c.settle-cut.ensures.within) in
-    let settled = settled_over s.made.values.items _ s.made.trail.items _ l.literals.items _ l.forced c.settle-cut.result c.deref-2.ensures.value c.deref-3.ensures.value c.deref-4.ensures.value c.settle-cut.ensures.settled in (
-      record { literals = l.literals },
-      c.in_ok-push.ensures.items,
-      forced_there s.clauses.items s.made.values.items _ s.made.trail.items _ l.literals.items l.forced c.settle-cut.result c.requires.sound.sound (trail_over s.clauses.items _ _ _ c.deref-5.ensures.value c.take_back.ensures.sound)
-          c.take_back.ensures.trail le settled c.in_ok-learned.ensures.false c.in_ok-learned.ensures.contained,
-    )
+    c.requires.sound.sound c.requires.decision learned clauses steps

@@ -4,6 +4,9 @@ use Rattle.cs_cong.specs.declared.congruent.Claim.{Claim}
 use Rattle.std.proofs.lemmas.List.Elements.{All-push}
 use Rattle.std.specs.List.{All}
 use Rattle.cs_cong.specs.Stages.{IsStage}
+use Rattle.cs_cong.specs.Merged.{current}
+use Rattle.cs_cong.specs.Settled.{IsSettled}
+use Rattle.cs_cong.proofs.Settles.{known_some}
 use Rattle.cs_cong.proofs.Stages.{history_more, history_again, stage_now}
 use Rattle.cs_cong.proofs.classes.Classes.assert_eq.Goals as goal
 
@@ -19,10 +22,15 @@ invariant_of-self-in-Ok-clause-history c =
     let stage = c.in-Ok.ensures.stage s.claims.items number refl (subst (λ (ts : List Applied). IsStage ts s.claims.items log) (sym c.deref.ensures.value) now) in
     history_again s.terms.items (s.claims.items ++ record { left = c.args.a; right = c.args.b; equal = true } ∷ []) c.note.new.claims.items (s.marks.items ++ length log ∷ []) c.note.new.marks.items new new
     c.in_ok-note.ensures.claims (c.in_ok-note.ensures.marks ∙ ap (λ m. s.marks.items ++ m ∷ []) mark) refl
-    (history_more s.terms.items s.claims.items s.marks.items record { left = c.args.a; right = c.args.b; equal = true } log new s.history c.in-Ok.ensures.front c.in-Ok.ensures.longer
+    (history_more s.terms.items s.claims.items s.marks.items record { left = c.args.a; right = c.args.b; equal = true } log new s.history c.in-Ok.ensures.longer.front c.in-Ok.ensures.longer.longer
     (subst (λ (ts : List Applied). IsStage ts (s.claims.items ++ record { left = c.args.a; right = c.args.b; equal = true } ∷ []) new) c.deref.ensures.value stage))
 
 pub invariant_of-self-in-Ok-clause-named : goal.invariant_of-self-in-Ok-clause-named
 invariant_of-self-in-Ok-clause-named c =
     let s = c.args.self.now in
     subst (All (λ (x : Claim). (x.left < length s.terms.items) × (x.right < length s.terms.items))) (sym c.in_ok-note.ensures.claims) (All-push (λ (x : Claim). (x.left < length s.terms.items) × (x.right < length s.terms.items)) s.claims.items record { left = c.args.a; right = c.args.b; equal = true } s.named (c.requires.left, c.requires.right))
+
+pub invariant_of-self-in-Ok-clause-settled : goal.invariant_of-self-in-Ok-clause-settled
+invariant_of-self-in-Ok-clause-settled c w e =
+    known_some c.args.self.now.terms.items (current c.follow-done.new.merges.log.items) c.in-Ok.waiting w e
+    (subst (λ (ts : List Applied). IsSettled ts (current c.follow-done.new.merges.log.items) c.in-Ok.waiting) c.deref.ensures.value c.in-Ok.ensures.settled)

@@ -1,0 +1,153 @@
+-- Terms with a part in the class of a representative, as classes are made one.
+use Rattle.std.proofs.Common.{◌≡◌, ℕ, ◌%◌, inl, inr, Bool, true, false, nat_eq, cond, ◌&&◌, ◌||◌, List, [], ◌∷◌, ◌++◌, slice_get, Option, Some, None, refl, sym, ◌∙◌, ap, ap₂, eq-eqb, ne_eqb}
+use Rattle.std.specs.List.{list_any}
+use Rattle.std.proofs.lemmas.Bool.{cases_eq, eqb-true, and_parts}
+use Rattle.std.proofs.lemmas.List.Folds.{list_any-append}
+use Rattle.cs_index.specs.Keys.{mixed}
+use Rattle.cs_cong.specs.declared.congruent.Applied.{Applied}
+use Rattle.cs_cong.specs.Joined.{all_same, alike}
+use Rattle.cs_cong.specs.Rows.{Rows, row}
+use Rattle.cs_cong.specs.Signatures.{has, with_parts}
+use Rattle.cs_cong.specs.Used.{is_any, touches, IsUsed}
+use Rattle.cs_cong.proofs.Signatures.{key_of}
+
+or_false : (p : Bool) → (p || false) ≡ p
+or_false true = refl
+or_false false = refl
+
+pub or_none : (p q : Bool) → (p || q) ≡ false → (p ≡ false) × (q ≡ false)
+or_none true q e = absurd (let f : true ≡ false = e in cc)
+or_none false q e = (refl, e)
+
+pub any_weaker : (p q : ℕ → Bool) → ((x : ℕ) → p x ≡ true → q x ≡ true) → (xs : List ℕ) → list_any p xs ≡ true → list_any q xs ≡ true
+any_weaker p q f [] e = absurd (let g : false ≡ true = e in cc)
+any_weaker p q f (x ∷ xs) e = go (p x) refl e (any_weaker p q f xs)
+  where
+    top : (b : Bool) → (b || true) ≡ true
+    top true = refl
+    top false = refl
+
+    go : (b : Bool) → p x ≡ b → (b || list_any p xs) ≡ true → (list_any p xs ≡ true → list_any q xs ≡ true) → (q x || list_any q xs) ≡ true
+    go true h g on = ap (λ b. b || list_any q xs) (f x h)
+    go false h g on = ap (λ b. q x || b) (on g) ∙ top (q x)
+
+any_same : (p q : ℕ → Bool) → ((x : ℕ) → p x ≡ q x) → (xs : List ℕ) → list_any p xs ≡ list_any q xs
+any_same p q e [] = refl
+any_same p q e (x ∷ xs) = ap₂ (λ a b. a || b) (e x) (any_same p q e xs)
+
+any_none : (p : ℕ → Bool) → ((x : ℕ) → p x ≡ false) → (xs : List ℕ) → list_any p xs ≡ false
+any_none p e [] = refl
+any_none p e (x ∷ xs) = ap₂ (λ a b. a || b) (e x) (any_none p e xs)
+
+shuffled : (a b c d : Bool) → ((a || b) || (c || d)) ≡ ((a || c) || (b || d))
+shuffled true b c d = refl
+shuffled false true true d = refl
+shuffled false true false d = refl
+shuffled false false true d = refl
+shuffled false false false d = refl
+
+any_two : (p q r : ℕ → Bool) → ((x : ℕ) → p x ≡ (q x || r x)) → (xs : List ℕ) → list_any p xs ≡ (list_any q xs || list_any r xs)
+any_two p q r e [] = refl
+any_two p q r e (x ∷ xs) = ap₂ (λ a b. a || b) (e x) (any_two p q r e xs) ∙ shuffled (q x) (r x) (list_any q xs) (list_any r xs)
+
+-- congruent terms have parts in the same classes
+same_any : (f : ℕ → ℕ) (r : ℕ) (xs ys : List ℕ) → all_same f xs ys ≡ true → is_any f xs r ≡ is_any f ys r
+same_any f r [] [] h = refl
+same_any f r [] (y ∷ ys) h = absurd (let g : false ≡ true = h in cc)
+same_any f r (x ∷ xs) [] h = absurd (let g : false ≡ true = h in cc)
+same_any f r (x ∷ xs) (y ∷ ys) h =
+    let p = and_parts (nat_eq (f x) (f y)) (all_same f xs ys) h in
+    ap₂ (λ a b. nat_eq a r || b) (eqb-true _ _ p.0) (same_any f r xs ys p.1)
+
+pub same_touches : (f : ℕ → ℕ) (r : ℕ) (s t : Option Applied) → alike f s t ≡ true → touches f s r ≡ touches f t r
+same_touches f r (Some s) (Some t) h = same_any f r s.parts.items t.parts.items (and_parts (nat_eq s.head t.head) (all_same f s.parts.items t.parts.items) h).1
+same_touches f r None t h = absurd (let g : false ≡ true = h in cc)
+same_touches f r (Some s) None h = absurd (let g : false ≡ true = h in cc)
+
+-- a class has the representative `to` in place of `from`
+module _ (f g : ℕ → ℕ) (from to : ℕ) (apart : from ≡ to → ⊥) (moved : (p : ℕ) → g p ≡ cond (nat_eq (f p) from) to (f p)) where
+  stays : (p : ℕ) → nat_eq (f p) from ≡ false → g p ≡ f p
+  stays p e = moved p ∙ ap (λ b. cond b to (f p)) e
+
+  goes : (p : ℕ) → nat_eq (f p) from ≡ true → g p ≡ to
+  goes p e = moved p ∙ ap (λ b. cond b to (f p)) e
+
+  pub still_one : (a b : ℕ) → f a ≡ f b → g a ≡ g b
+  still_one a b e = moved a ∙ ap (λ x. cond (nat_eq x from) to x) e ∙ sym (moved b)
+
+  -- what has no part there keeps its signature
+  parts_kept : (xs ys : List ℕ) → is_any f xs from ≡ false → is_any f ys from ≡ false → all_same g xs ys ≡ all_same f xs ys
+  parts_kept [] [] h i = refl
+  parts_kept [] (y ∷ ys) h i = refl
+  parts_kept (x ∷ xs) [] h i = refl
+  parts_kept (x ∷ xs) (y ∷ ys) h i =
+      let p = or_none (nat_eq (f x) from) (is_any f xs from) h in
+      let q = or_none (nat_eq (f y) from) (is_any f ys from) i in
+      ap (λ b. nat_eq (g x) (g y) && b) (parts_kept xs ys p.1 q.1) ∙ ap₂ (λ m n. nat_eq m n && all_same f xs ys) (stays x p.0) (stays y q.0)
+
+  pub alike_kept : (s t : Option Applied) → touches f s from ≡ false → touches f t from ≡ false → alike g s t ≡ alike f s t
+  alike_kept (Some s) (Some t) h i = ap (λ b. nat_eq s.head t.head && b) (parts_kept s.parts.items t.parts.items h i)
+  alike_kept None t h i = refl
+  alike_kept (Some s) None h i = refl
+
+  key_parts : (key : ℕ) (xs : List ℕ) → is_any f xs from ≡ false → with_parts key g xs ≡ with_parts key f xs
+  key_parts key [] h = refl
+  key_parts key (x ∷ xs) h =
+      let p = or_none (nat_eq (f x) from) (is_any f xs from) h in
+      key_parts (mixed key (g x % 65536)) xs p.1 ∙ ap (λ n. with_parts (mixed key (n % 65536)) f xs) (stays x p.0)
+
+  pub key_kept : (o : Option Applied) → touches f o from ≡ false → key_of g o ≡ key_of f o
+  key_kept (Some t) h = key_parts (t.head % 65536) t.parts.items h
+  key_kept None h = refl
+
+  one_to : (p : ℕ) → nat_eq (g p) to ≡ (nat_eq (f p) to || nat_eq (f p) from)
+  one_to p = go (nat_eq (f p) from) refl
+    where
+      top : (b : Bool) → (b || true) ≡ true
+      top true = refl
+      top false = refl
+
+      go : (b : Bool) → nat_eq (f p) from ≡ b → nat_eq (g p) to ≡ (nat_eq (f p) to || nat_eq (f p) from)
+      go true e = eq-eqb _ _ (goes p e) ∙ sym (ap (λ b. nat_eq (f p) to || b) e ∙ top (nat_eq (f p) to))
+      go false e = ap (λ n. nat_eq n to) (stays p e) ∙ sym (ap (λ b. nat_eq (f p) to || b) e ∙ or_false (nat_eq (f p) to))
+
+  one_from : (p : ℕ) → nat_eq (g p) from ≡ false
+  one_from p = go (nat_eq (f p) from) refl
+    where
+      go : (b : Bool) → nat_eq (f p) from ≡ b → nat_eq (g p) from ≡ false
+      go true e = ne_eqb _ _ (λ h. apart (sym h ∙ goes p e))
+      go false e = ap (λ n. nat_eq n from) (stays p e) ∙ e
+
+  one_other : (r : ℕ) → (r ≡ from → ⊥) → (r ≡ to → ⊥) → (p : ℕ) → nat_eq (g p) r ≡ nat_eq (f p) r
+  one_other r n m p = go (nat_eq (f p) from) refl
+    where
+      go : (b : Bool) → nat_eq (f p) from ≡ b → nat_eq (g p) r ≡ nat_eq (f p) r
+      go true e = ne_eqb _ _ (λ h. m (sym h ∙ goes p e)) ∙ sym (ne_eqb _ _ (λ h. n (sym h ∙ eqb-true _ _ e)))
+      go false e = ap (λ x. nat_eq x r) (stays p e)
+
+  touch_to : (o : Option Applied) → touches g o to ≡ (touches f o to || touches f o from)
+  touch_to (Some t) = any_two (λ p. nat_eq (g p) to) (λ p. nat_eq (f p) to) (λ p. nat_eq (f p) from) one_to t.parts.items
+  touch_to None = refl
+
+  touch_from : (o : Option Applied) → touches g o from ≡ false
+  touch_from (Some t) = any_none (λ p. nat_eq (g p) from) one_from t.parts.items
+  touch_from None = refl
+
+  touch_other : (r : ℕ) → (r ≡ from → ⊥) → (r ≡ to → ⊥) → (o : Option Applied) → touches g o r ≡ touches f o r
+  touch_other r n m (Some t) = any_same (λ p. nat_eq (g p) r) (λ p. nat_eq (f p) r) (one_other r n m) t.parts.items
+  touch_other r n m None = refl
+
+  pub used_moved : (terms : List Applied) (old new : Rows) → IsUsed terms f old → row new from ≡ [] → row new to ≡ row old to ++ row old from →
+      ((r : ℕ) → ¬ (r ≡ from) → ¬ (r ≡ to) → row new r ≡ row old r) → IsUsed terms g new
+  used_moved terms old new used emptied joined others r a = elim (cases_eq r from) [
+    | inl e ↦ ap (λ x. has (row new x) a) e ∙ ap (λ l. has l a) emptied ∙ sym (ap (touches g (slice_get terms a)) e ∙ touch_from (slice_get terms a))
+    | inr n ↦ elim (cases_eq r to) [
+      | inl e ↦
+          ap (λ x. has (row new x) a) e ∙ ap (λ l. has l a) joined ∙ list_any-append (nat_eq a) (row old to) (row old from)
+          ∙ ap₂ (λ p q. p || q) (used to a) (used from a)
+          ∙ sym (ap (touches g (slice_get terms a)) e ∙ touch_to (slice_get terms a))
+      | inr m ↦ ap (λ l. has l a) (others r n m) ∙ used r a ∙ sym (touch_other r n m (slice_get terms a))
+    ]
+  ]
+
+-- ---- the terms under the representatives of their parts

@@ -1,0 +1,13 @@
+use Rattle.std.proofs.Common.{false}
+use Rattle.cs_hints.specs.declared.Literal.{Literal}
+use Rattle.cs_search.specs.Assignment.{BecameFalse}
+use Rattle.cs_search.proofs.Added.{all_more, all_whole}
+use Rattle.cs_search.proofs.choose.free.Goals as goal
+
+pub loop-literal-preserved : goal.loop-literal-preserved
+loop-literal-preserved c =
+    let d : Literal = record { positive = false; number = 0 } in
+    all_more (BecameFalse c.args.values.now) c.args.literals.now c.loop-literal.literal-index d c.loop-literal-test.true c.loop-literal.invariant (c.is_false.ensures.yes c.if-not-is_false.false)
+
+pub returns : goal.returns
+returns c = all_whole (BecameFalse c.args.values.now) c.args.literals.now c.loop-literal.literal-index c.loop-literal-test.false c.loop-literal.invariant

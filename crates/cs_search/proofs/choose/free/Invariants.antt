@@ -1,0 +1,7 @@
+use Rattle.std.proofs.Common.{take}
+use Rattle.std.specs.List.{All}
+use Rattle.cs_search.specs.Assignment.{BecameFalse}
+use Rattle.cs_search.proofs.choose.free.Given as goal
+
+abbrev pub invariant-loop-literal : goal.invariant-loop-literal
+invariant-loop-literal l = All (BecameFalse l.values) (take l.literal-index l.literals)
