@@ -1,5 +1,7 @@
 -- A walk whose merges are known is a chain, and each step of an explanation follows.
 use Rattle.std.proofs.Common.{◌≡◌, ℕ, zero, suc, ◌<◌, ◌≤◌, ◌+◌, ◌⊎◌, inl, inr, Bool, true, false, nat_eq, ◌&&◌, ◌||◌, List, [], ◌∷◌, ◌++◌, length, get_or, slice_get, Some, None, All, refl, sym, ◌∙◌, ap, ap₂, subst, arith}
+use Rattle.std.specs.BTreeSet.{BTreeSet, IsLowerBound, Updates}
+use Rattle.std.specs.Ordering.{nat_cmp}
 use Rattle.std.specs.List.{Contains}
 use Rattle.std.proofs.lemmas.Bool.{cases_eq, eqb-true, and_parts}
 use Rattle.std.proofs.lemmas.List.Elements.{All-nil, All-cons, All-head, All-tail, All-weaker, Contains-append_left, Contains-push}
@@ -15,7 +17,9 @@ use Rattle.cs_cong.specs.Merged.{representative}
 use Rattle.cs_cong.specs.Joined.{is_claimed, all_same, alike, are_congruent, is_reason, AreJustified}
 use Rattle.cs_cong.specs.Walks.{walk, start_of, end_of, Leads, arrived, goes}
 use Rattle.cs_cong.specs.Explained.{Ends, Joins, AreJoinedBy, IsKnown, by_claim, by_step, turned, IsChain, alone, linked, AreEqual, AreCongruent, Follows, IsDerivation, Explains}
-use Rattle.cs_cong.specs.Needed.{merge_at, ends, is_marked, AreMarked, IsMergeKnown, AreKnown, KeepsSteps, HasPath, HasPart, HasFirst, HasCongruence, HasMerge, AreKnownBelow, ArePartsMarked, IsBacked, AreBacked, IsReady}
+use Rattle.cs_cong.specs.Marked.{is_marked}
+use Rattle.cs_cong.specs.Needed.{merge_at, ends, AreMarked, IsMergeKnown, AreKnown, KeepsSteps, HasPath, HasPart, HasFirst, HasCongruence, HasMerge, AreKnownBelow, AreKnownBut, ArePartsMarked, IsBacked, AreBacked, IsReady}
+use Rattle.cs_cong.proofs.Marks.{first_is, other_at}
 use Rattle.cs_cong.proofs.Walks.{walk_leads}
 use Rattle.cs_cong.proofs.Steps.{joined_more, known_more, named_more, one_step, some_same, kept_push}
 use Rattle.cs_cong.proofs.Signatures.{get_some}
@@ -174,7 +178,7 @@ merge_claimed terms claims log k i old new named same e =
     }
 
 -- what is marked is known, so what a walk needs is known
-pub marked_known : (log : List Merge) (claims : List Claim) (marks : List Bool) (named : List ℕ) (steps : List Derived) (t : ℕ) → AreKnownBelow t log claims marks named steps → (es : List Edge) → All (λ e. e.merge < t) es → AreMarked marks es → AreKnown log claims named steps es
+pub marked_known : (log : List Merge) (claims : List Claim) (marks : BTreeSet ℕ) (named : List ℕ) (steps : List Derived) (t : ℕ) → AreKnownBelow t log claims marks named steps → (es : List Edge) → All (λ e. e.merge < t) es → AreMarked marks es → AreKnown log claims named steps es
 marked_known log claims marks named steps t known es below marked k d lt = known (get_or es k d).merge (below k d lt) (marked k d lt)
 
 pub no_derivation : (terms : List Applied) (claims : List Claim) → IsDerivation terms claims [] []
@@ -186,7 +190,7 @@ walk_within log t a b le same es is =
     subst (All (λ (e : Edge). e.merge < length log)) (sym is)
     (All-weaker (λ (e : Edge). e.merge < t) (λ (e : Edge). e.merge < length log) (λ e lt. omega arith) (walk log t a b) (walk_below log t a b same))
 
-pub walk_marked : (log : List Merge) (t a b : ℕ) → representative log t a ≡ representative log t b → (marks : List Bool) (es : List Edge) → es ≡ walk log t a b → All (λ e. e.merge < t → is_marked marks e.merge ≡ true) es →
+pub walk_marked : (log : List Merge) (t a b : ℕ) → representative log t a ≡ representative log t b → (marks : BTreeSet ℕ) (es : List Edge) → es ≡ walk log t a b → All (λ e. e.merge < t → is_marked marks e.merge ≡ true) es →
     AreMarked marks (walk log t a b)
 walk_marked log t a b same marks es is all k d lt = subst (All (λ (e : Edge). e.merge < t → is_marked marks e.merge ≡ true)) is all k d lt (walk_below log t a b same k d lt)
 
@@ -204,7 +208,7 @@ pub read_term : (terms : List Applied) (a : ℕ) (t : Applied) → a < length te
 read_term terms a t lt e = get_some terms a t lt ∙ ap Some (sym e)
 
 -- the merge of this number has marked what it needs
-pub backed_at : (terms : List Applied) (log : List Merge) (marks : List Bool) (k : ℕ) (m : Merge) (one other : Applied) (xs ys : List ℕ) → m ≡ merge_at log k → slice_get terms m.left ≡ Some one → slice_get terms m.right ≡ Some other → xs ≡ one.parts.items → ys ≡ other.parts.items →
+pub backed_at : (terms : List Applied) (log : List Merge) (marks : BTreeSet ℕ) (k : ℕ) (m : Merge) (one other : Applied) (xs ys : List ℕ) → m ≡ merge_at log k → slice_get terms m.left ≡ Some one → slice_get terms m.right ≡ Some other → xs ≡ one.parts.items → ys ≡ other.parts.items →
     are_congruent terms (representative log k) (merge_at log k).left (merge_at log k).right ≡ true → (all_same (representative log k) xs ys ≡ true → ArePartsMarked log marks k xs ys) →
     IsBacked terms log marks k
 backed_at terms log marks k m one other xs ys is at bt ex ey c marked s u why at_s at_u =
@@ -217,7 +221,7 @@ backed_at terms log marks k m one other xs ys is at bt ex ey c marked s u why at
     (subst (λ (x : Applied). ArePartsMarked log marks k one.parts.items x.parts.items) (some_same other u (sym right ∙ at_u)) (mark p.1))
 
 -- what is marked below is known, so what the merge needs is known
-ready_at : (terms : List Applied) (claims : List Claim) (log : List Merge) (marks : List Bool) (named : List ℕ) (steps : List Derived) (k : ℕ) → AreJustified terms claims log → k < length log → is_marked marks k ≡ true →
+ready_at : (terms : List Applied) (claims : List Claim) (log : List Merge) (marks : BTreeSet ℕ) (named : List ℕ) (steps : List Derived) (k : ℕ) → AreJustified terms claims log → k < length log → is_marked marks k ≡ true →
     AreBacked terms log marks 0 → AreKnownBelow k log claims marks named steps → (merge_at log k).reason ≡ Congruence → IsReady terms log claims named steps k (merge_at log k).left (merge_at log k).right
 ready_at terms claims log marks named steps k all lt on backed known why s u at_s at_u j below =
     let p = parts_same terms (representative log k) (merge_at log k).left (merge_at log k).right s u (congruent_at terms claims log k all lt why) at_s at_u in
@@ -226,7 +230,7 @@ ready_at terms claims log marks named steps k all lt on backed known why s u at_
     marked_known log claims marks named steps k known (walk log k x y) (walk_below log k x y (same_at (representative log k) s.parts.items u.parts.items p.1 j below)) (backed k (omega arith) lt on s u why at_s at_u j below)
 
 -- one marked merge more is derived
-pub derive_step : (terms : List Applied) (claims : List Claim) (log : List Merge) (marks : List Bool) (k : ℕ) (old new : Chain) → AreJustified terms claims log → k < length log → is_marked marks k ≡ true → AreBacked terms log marks 0 →
+pub derive_step : (terms : List Applied) (claims : List Claim) (log : List Merge) (marks : BTreeSet ℕ) (k : ℕ) (old new : Chain) → AreJustified terms claims log → k < length log → is_marked marks k ≡ true → AreBacked terms log marks 0 →
     IsDerivation terms claims old.claims.items old.steps.items → AreKnownBelow k log claims marks old.claims.items old.steps.items → HasMerge terms claims log k old new →
     IsDerivation terms claims new.claims.items new.steps.items × AreKnownBelow (k + 1) log claims marks new.claims.items new.steps.items
 derive_step terms claims log marks k old new all lt on backed is known h = (
@@ -237,33 +241,25 @@ derive_step terms claims log marks k old new all lt on backed is known h = (
   ],
 )
 
--- one merge more, marked or not
-pub derive_step_if : (terms : List Applied) (claims : List Claim) (log : List Merge) (marks : List Bool) (k : ℕ) (old new : Chain) → AreJustified terms claims log → k < length log → AreBacked terms log marks 0 →
-    IsDerivation terms claims old.claims.items old.steps.items → AreKnownBelow k log claims marks old.claims.items old.steps.items →
-    (is_marked marks k ≡ true → HasMerge terms claims log k old new) → (is_marked marks k ≡ false → new.claims.items ≡ old.claims.items) → (is_marked marks k ≡ false → new.steps.items ≡ old.steps.items) →
-    IsDerivation terms claims new.claims.items new.steps.items × AreKnownBelow (k + 1) log claims marks new.claims.items new.steps.items
-derive_step_if terms claims log marks k old new all lt backed is known h named same = go (is_marked marks k) refl
-  where
-    go : (t : Bool) → is_marked marks k ≡ t → IsDerivation terms claims new.claims.items new.steps.items × AreKnownBelow (k + 1) log claims marks new.claims.items new.steps.items
-    go true on = derive_step terms claims log marks k old new all lt on backed is known (h on)
-    go false off =
-        let stays : (P : List ℕ → List Derived → Type 0) → P old.claims.items old.steps.items → P new.claims.items new.steps.items =
-        λ P p. subst (λ l. P new.claims.items l) (sym (same off)) (subst (λ l. P l old.steps.items) (sym (named off)) p) in (
-          stays (IsDerivation terms claims) is,
-          λ j below marked. elim (cases_eq j k) [
-            | inl e ↦ absurd (let no : false ≡ true = sym off ∙ ap (is_marked marks) (sym e) ∙ marked in cc)
-            | inr other ↦ stays (λ ns l. IsMergeKnown log claims ns l j) (known j (omega arith) marked)
-          ],
-        )
+-- the first one that wasn't derived: those before it were
+pub derive_next : (terms : List Applied) (claims : List Claim) (log : List Merge) (marks rest left : BTreeSet ℕ) (at : ℕ) (old new : Chain) → AreJustified terms claims log → at < length log → is_marked marks at ≡ true → AreBacked terms log marks 0 →
+    IsLowerBound nat_cmp rest at → Updates nat_cmp rest left at false → IsDerivation terms claims old.claims.items old.steps.items → AreKnownBut rest log claims marks old.claims.items old.steps.items → HasMerge terms claims log at old new →
+    IsDerivation terms claims new.claims.items new.steps.items × AreKnownBut left log claims marks new.claims.items new.steps.items
+derive_next terms claims log marks rest left at old new all lt on backed least taken is known h =
+    let step = derive_step terms claims log marks at old new all lt on backed is (λ j below marked. known j marked (first_is rest at j least below)) h in (
+      step.0,
+      λ k marked gone. elim (cases_eq k at) [
+        | inl same ↦ subst (IsMergeKnown log claims new.claims.items new.steps.items) (sym same) h.known
+        | inr other ↦ h.kept (merge_at log k).left (merge_at log k).right (known k marked (sym (taken.2 k (other_at at k other)) ∙ gone))
+      ],
+    )
 
 -- with the path between the two the explanation is whole
-pub explains : (terms : List Applied) (claims : List Claim) (log : List Merge) (marks ms : List Bool) (t a b : ℕ) (old new : Chain) → representative log (length log) a ≡ representative log (length log) b → AreMarked marks (walk log (length log) a b) →
-    IsDerivation terms claims old.claims.items old.steps.items → ms ≡ marks → length marks ≡ length log → AreKnownBelow (length ms) log claims ms old.claims.items old.steps.items → new.claims.items ≡ old.claims.items →
+pub explains : (terms : List Applied) (claims : List Claim) (log : List Merge) (marks : BTreeSet ℕ) (t a b : ℕ) (old new : Chain) → representative log (length log) a ≡ representative log (length log) b → AreMarked marks (walk log (length log) a b) →
+    IsDerivation terms claims old.claims.items old.steps.items → AreKnownBelow (length log) log claims marks old.claims.items old.steps.items → new.claims.items ≡ old.claims.items →
     t ≡ length log → HasPath log t a b old.steps.items new.steps.items → Explains terms claims a b new
-explains terms claims log marks ms t a b old new same marked is e long below named time path =
+explains terms claims log marks t a b old new same marked is known named time path =
     let h : HasPath log (length log) a b old.steps.items new.steps.items = subst (λ n. HasPath log n a b old.steps.items new.steps.items) time path in
-    let known : AreKnownBelow (length log) log claims marks old.claims.items old.steps.items =
-    subst (λ n. AreKnownBelow n log claims marks old.claims.items old.steps.items) long (subst (λ l. AreKnownBelow (length l) log claims l old.claims.items old.steps.items) e below) in
     record {
       derivation =
           subst (λ ns. IsDerivation terms claims ns new.steps.items) (sym named)

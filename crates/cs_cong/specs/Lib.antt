@@ -9,5 +9,6 @@ pub mod Settled
 pub mod Stages
 pub mod Walks
 pub mod Explained
+pub mod Marked
 pub mod Needed
 pub mod Laws

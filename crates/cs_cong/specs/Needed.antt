@@ -1,5 +1,6 @@
 -- What an explanation needs: the merges that are marked, and what is known of them.
-use Rattle.std.specs.Prelude.{◌≡◌, ◌⊎◌, ℕ, ◌<◌, ◌≤◌, Bool, true, false, List, [], ◌∷◌, ◌++◌, length, get_or, slice_get, Some, map, All}
+use Rattle.std.specs.Prelude.{◌≡◌, ◌⊎◌, ℕ, ◌<◌, ◌≤◌, true, false, List, [], ◌∷◌, ◌++◌, length, get_or, slice_get, Some, map, All}
+use Rattle.std.specs.BTreeSet.{BTreeSet}
 use Rattle.std.specs.List.{Contains}
 use Rattle.cs_cong.specs.declared.congruent.Applied.{Applied}
 use Rattle.cs_cong.specs.declared.congruent.Claim.{Claim}
@@ -9,6 +10,7 @@ use Rattle.cs_cong.specs.declared.merges.Merge.{Merge}
 use Rattle.cs_cong.specs.declared.merges.Reason.TheVariants.{Congruence}
 use Rattle.cs_cong.specs.declared.paths.Edge.{Edge}
 use Rattle.cs_cong.specs.Merged.{nothing}
+use Rattle.cs_cong.specs.Marked.{is_marked}
 use Rattle.cs_cong.specs.Walks.{walk, end_of}
 use Rattle.cs_cong.specs.Explained.{Joins, AreJoinedBy, IsKnown, IsDerivation}
 
@@ -19,30 +21,21 @@ merge_at log k = get_or log k nothing
 abbrev pub ends : List Merge → List Edge → List ℕ
 ends log es = map (λ e. end_of e.forward (merge_at log e.merge)) es
 
-abbrev pub is_marked : List Bool → ℕ → Bool
-is_marked marks k = get_or marks k false
-
--- more merges are marked, all of them before this time
-pub record Marked (time : ℕ) (old new : List Bool) : Type 0 where
-  pub same_length : length new ≡ length old
-  pub kept : (k : ℕ) → is_marked old k ≡ true → is_marked new k ≡ true
-  pub later : (k : ℕ) → time ≤ k → is_marked new k ≡ is_marked old k
-
-abbrev pub AreMarked : List Bool → List Edge → Type 0
+abbrev pub AreMarked : BTreeSet ℕ → List Edge → Type 0
 AreMarked marks es = All (λ e. is_marked marks e.merge ≡ true) es
 
 -- the walks between parts at this time are marked
-abbrev pub ArePartsMarked : List Merge → List Bool → ℕ → List ℕ → List ℕ → Type 0
+abbrev pub ArePartsMarked : List Merge → BTreeSet ℕ → ℕ → List ℕ → List ℕ → Type 0
 ArePartsMarked log marks time xs ys = (k : ℕ) → k < length xs → AreMarked marks (walk log time (get_or xs k 0) (get_or ys k 0))
 
 -- the merge of this number has marked what it needs
-abbrev pub IsBacked : List Applied → List Merge → List Bool → ℕ → Type 0
+abbrev pub IsBacked : List Applied → List Merge → BTreeSet ℕ → ℕ → Type 0
 IsBacked terms log marks k =
     (s t : Applied) → (merge_at log k).reason ≡ Congruence → slice_get terms (merge_at log k).left ≡ Some s → slice_get terms (merge_at log k).right ≡ Some t →
     ArePartsMarked log marks k s.parts.items t.parts.items
 
 -- so have all that are marked, from this number on
-abbrev pub AreBacked : List Applied → List Merge → List Bool → ℕ → Type 0
+abbrev pub AreBacked : List Applied → List Merge → BTreeSet ℕ → ℕ → Type 0
 AreBacked terms log marks first = (k : ℕ) → first ≤ k → k < length log → is_marked marks k ≡ true → IsBacked terms log marks k
 
 abbrev pub IsMergeKnown : List Merge → List Claim → List ℕ → List Derived → ℕ → Type 0
@@ -94,5 +87,9 @@ pub record HasMerge (terms : List Applied) (claims : List Claim) (log : List Mer
       IsDerivation terms claims old.claims.items old.steps.items → IsDerivation terms claims new.claims.items new.steps.items
 
 -- the marked merges below n are known
-abbrev pub AreKnownBelow : ℕ → List Merge → List Claim → List Bool → List ℕ → List Derived → Type 0
+abbrev pub AreKnownBelow : ℕ → List Merge → List Claim → BTreeSet ℕ → List ℕ → List Derived → Type 0
 AreKnownBelow n log claims marks named steps = (k : ℕ) → k < n → is_marked marks k ≡ true → IsMergeKnown log claims named steps k
+
+-- so are those that aren't left
+abbrev pub AreKnownBut : BTreeSet ℕ → List Merge → List Claim → BTreeSet ℕ → List ℕ → List Derived → Type 0
+AreKnownBut left log claims marks named steps = (k : ℕ) → is_marked marks k ≡ true → is_marked left k ≡ false → IsMergeKnown log claims named steps k

@@ -4,12 +4,15 @@ ghost use Rattle.cs_cong.specs.Merged.{representative, current};
 ghost use Rattle.cs_cong.specs.Joined.{Joined, all_same, are_congruent};
 ghost use Rattle.cs_cong.specs.Walks.{walk, end_of};
 ghost use Rattle.cs_cong.specs.Explained.{IsDerivation, Explains};
-ghost use Rattle.cs_cong.specs.Needed.{ends, merge_at, is_marked, Marked, AreMarked, ArePartsMarked, IsBacked, AreBacked, AreKnownBelow, HasPath, HasPart, HasFirst, HasCongruence, HasMerge};
+ghost use Rattle.cs_cong.specs.Marked.{is_marked, Marked};
+ghost use Rattle.cs_cong.specs.Needed.{ends, merge_at, AreMarked, ArePartsMarked, IsBacked, AreBacked, AreKnownBelow, HasPath, HasPart, HasFirst, HasCongruence, HasMerge};
 
 use crate::classes::Classes;
 use crate::merges::{Merges, Reason, Want};
+use crate::needs::Needs;
 use crate::paths::Edge;
 use std::alloc::Global;
+use std::collections::BTreeSet;
 
 /// A step that derives an equality of two terms.
 #[derive(Debug, Drop)]
@@ -29,25 +32,30 @@ pub struct Chain {
 }
 
 /// Marks one merge, if it is before this time.
-fn mark_one(marks: &mut Vec<bool>, time: usize, at: usize)
-    requires { time ≤ length marks.old.items }
-    ensures marks { Marked time marks.old.items marks.new.items }
-    ensures marked { at < time → is_marked marks.new.items at ≡ true }
+fn mark_one(needs: &mut Needs, time: u32, at: u32) -> Result<(), Want>
+    requires { time ≤ needs.old.time }
+    ensures time { needs.new.time ≡ needs.old.time }
+    ensures marks { OnOk result (Marked time needs.old.all needs.new.all) }
+    ensures marked { OnOk result (at < time → is_marked needs.new.all at ≡ true) }
 {
-    if at < time {
-        marks[at] = true;
+    if at >= time {
+        return Ok(());
     }
+    needs.add(at)?;
+    Ok(())
 }
 
 /// Marks the merges of a walk that are before this time.
-fn mark(marks: &mut Vec<bool>, time: usize, edges: &[Edge])
-    requires { time ≤ length marks.old.items }
-    ensures marks { Marked time marks.old.items marks.new.items }
-    ensures marked { All (λ e. e.merge < time → is_marked marks.new.items e.merge ≡ true) edges.now }
+fn mark(needs: &mut Needs, time: u32, edges: &[Edge]) -> Result<(), Want>
+    requires { time ≤ needs.old.time }
+    ensures time { needs.new.time ≡ needs.old.time }
+    ensures marks { OnOk result (Marked time needs.old.all needs.new.all) }
+    ensures marked { OnOk result (All (λ e. e.merge < time → is_marked needs.new.all e.merge ≡ true) edges.now) }
 {
     for edge in edges {
-        mark_one(marks, time, edge.merge as usize);
+        mark_one(needs, time, edge.merge)?;
     }
+    Ok(())
 }
 
 impl Merges {
@@ -58,18 +66,19 @@ impl Merges {
         time: u32,
         a: u32,
         b: u32,
-        marks: &mut Vec<bool>,
+        needs: &mut Needs,
     ) -> Result<(), Want>
         requires left { a < length self.now.links.items }
         requires right { b < length self.now.links.items }
         requires time { time ≤ length self.now.log.items }
-        requires room { time ≤ length marks.old.items }
-        ensures marks { Marked time marks.old.items marks.new.items }
-        ensures marked { OnOk result (representative self.now.log.items time a ≡ representative self.now.log.items time b → AreMarked marks.new.items (walk self.now.log.items time a b)) }
+        requires room { time ≤ needs.old.time }
+        ensures time { needs.new.time ≡ needs.old.time }
+        ensures marks { OnOk result (Marked time needs.old.all needs.new.all) }
+        ensures marked { OnOk result (representative self.now.log.items time a ≡ representative self.now.log.items time b → AreMarked needs.new.all (walk self.now.log.items time a b)) }
     {
         let mut edges = Vec::new(alloc);
         self.walk(time, a, b, &mut edges)?;
-        mark(marks, time as usize, &edges);
+        mark(needs, time, &edges)?;
         Ok(())
     }
 
@@ -80,17 +89,18 @@ impl Merges {
         time: u32,
         xs: &[u32],
         ys: &[u32],
-        marks: &mut Vec<bool>,
+        needs: &mut Needs,
     ) -> Result<(), Want>
         requires left { All (λ x. x < length self.now.links.items) xs.now }
         requires right { All (λ y. y < length self.now.links.items) ys.now }
         requires time { time ≤ length self.now.log.items }
-        requires room { time ≤ length marks.old.items }
-        ensures marks { Marked time marks.old.items marks.new.items }
-        ensures marked { OnOk result (all_same (representative self.now.log.items time) xs.now ys.now ≡ true → ArePartsMarked self.now.log.items marks.new.items time xs.now ys.now) }
+        requires room { time ≤ needs.old.time }
+        ensures time { needs.new.time ≡ needs.old.time }
+        ensures marks { OnOk result (Marked time needs.old.all needs.new.all) }
+        ensures marked { OnOk result (all_same (representative self.now.log.items time) xs.now ys.now ≡ true → ArePartsMarked self.now.log.items needs.new.all time xs.now ys.now) }
     {
         for at in 0..xs.len().min(ys.len()) {
-            self.mark_walk(alloc, time, xs[at], ys[at], marks)?;
+            self.mark_walk(alloc, time, xs[at], ys[at], needs)?;
         }
         Ok(())
     }
@@ -200,44 +210,41 @@ impl Merges {
 
 impl Classes {
     /// Marks what a merge by congruence needs.
-    fn mark_needs(&self, alloc: Global, at: usize, marks: &mut Vec<bool>) -> Result<(), Want>
+    fn mark_needs(&self, alloc: Global, at: u32, needs: &mut Needs) -> Result<(), Want>
         requires within { at < length self.now.merges.log.items }
-        requires room { length marks.old.items ≡ length self.now.merges.log.items }
-        ensures marks { Marked at marks.old.items marks.new.items }
-        ensures backed { OnOk result (IsBacked self.now.terms.items self.now.merges.log.items marks.new.items at) }
+        requires room { at ≤ needs.old.time }
+        ensures time { needs.new.time ≡ needs.old.time }
+        ensures marks { OnOk result (Marked at needs.old.all needs.new.all) }
+        ensures backed { OnOk result (IsBacked self.now.terms.items self.now.merges.log.items needs.new.all at) }
     {
-        let merge = self.merges.log[at];
+        let merge = self.merges.log[at as usize];
         match merge.reason {
             Reason::Claimed(_) => Ok(()),
             Reason::Congruence => {
                 let left = &self.terms[merge.left as usize];
                 let right = &self.terms[merge.right as usize];
                 self.merges
-                    .mark_parts(alloc, at as u32, &left.parts, &right.parts, marks)?;
+                    .mark_parts(alloc, at, &left.parts, &right.parts, needs)?;
                 Ok(())
             }
         }
     }
 
-    /// Which merges the equality of two terms needs.
-    fn needed(&self, alloc: Global, a: u32, b: u32) -> Result<Vec<bool>, Want>
+    /// The merges that the equality of two terms needs.
+    fn needed(&self, alloc: Global, a: u32, b: u32) -> Result<BTreeSet<u32>, Want>
         requires left { a < length self.now.terms.items }
         requires right { b < length self.now.terms.items }
-        ensures length { IfOk result (λ v. length v.items ≡ length self.now.merges.log.items) }
-        ensures backed { IfOk result (λ v. AreBacked self.now.terms.items self.now.merges.log.items v.items 0) }
-        ensures marked { IfOk result (λ v. current self.now.merges.log.items a ≡ current self.now.merges.log.items b → AreMarked v.items (walk self.now.merges.log.items (length self.now.merges.log.items) a b)) }
+        ensures within { IfOk result (λ found. (k : ℕ) → length self.now.merges.log.items ≤ k → is_marked found k ≡ false) }
+        ensures backed { IfOk result (λ found. AreBacked self.now.terms.items self.now.merges.log.items found 0) }
+        ensures marked { IfOk result (λ found. current self.now.merges.log.items a ≡ current self.now.merges.log.items b → AreMarked found (walk self.now.merges.log.items (length self.now.merges.log.items) a b)) }
     {
-        let len = self.merges.log.len();
-        let mut marks = vec![in alloc; false; len]?;
-        self.merges.mark_walk(alloc, len as u32, a, b, &mut marks)?;
-        let mut at = len;
-        while at > 0 {
-            at -= 1;
-            if marks[at] {
-                self.mark_needs(alloc, at, &mut marks)?;
-            }
+        let len = self.merges.log.len() as u32;
+        let mut needs = Needs::new(alloc, len);
+        self.merges.mark_walk(alloc, len, a, b, &mut needs)?;
+        'back: while let Some(at) = needs.next() {
+            self.mark_needs(alloc, at, &mut needs)?;
         }
-        Ok(marks)
+        Ok(needs.found())
     }
 
     /// Adds the congruence of two terms, and before it why their parts are equal.
@@ -281,39 +288,20 @@ impl Classes {
         }
     }
 
-    /// Adds what derives a merge, where it is wanted.
-    fn derive_if(
-        &self,
-        alloc: Global,
-        at: usize,
-        wanted: bool,
-        chain: &mut Chain,
-    ) -> Result<(), Want>
-        requires { at < length self.now.merges.log.items }
-        ensures wanted { OnOk result (wanted ≡ true → HasMerge self.now.terms.items self.now.claims.items self.now.merges.log.items at chain.old chain.new) }
-        ensures claims { wanted ≡ false → chain.new.claims.items ≡ chain.old.claims.items }
-        ensures steps { wanted ≡ false → chain.new.steps.items ≡ chain.old.steps.items }
-    {
-        if !wanted {
-            return Ok(());
-        }
-        self.derive(alloc, at, chain)?;
-        Ok(())
-    }
-
-    /// Adds what derives the merges that are marked, in order.
-    fn derive_all(&self, alloc: Global, marks: &[bool]) -> Result<Chain, Want>
-        requires length { length marks.now ≡ length self.now.merges.log.items }
-        requires backed { AreBacked self.now.terms.items self.now.merges.log.items marks.now 0 }
+    /// Adds what derives these merges, from the first one up.
+    fn derive_all(&self, alloc: Global, found: BTreeSet<u32>) -> Result<Chain, Want>
+        requires within { (k : ℕ) → length self.now.merges.log.items ≤ k → is_marked found k ≡ false }
+        requires backed { AreBacked self.now.terms.items self.now.merges.log.items found 0 }
         ensures sound { IfOk result (λ c. IsDerivation self.now.terms.items self.now.claims.items c.claims.items c.steps.items) }
-        ensures known { IfOk result (λ c. AreKnownBelow (length marks.now) self.now.merges.log.items self.now.claims.items marks.now c.claims.items c.steps.items) }
+        ensures known { IfOk result (λ c. AreKnownBelow (length self.now.merges.log.items) self.now.merges.log.items self.now.claims.items found c.claims.items c.steps.items) }
     {
         let mut chain = Chain {
             claims: Vec::new(alloc),
             steps: Vec::new(alloc),
         };
-        for at in 0..marks.len() {
-            self.derive_if(alloc, at, marks[at], &mut chain)?;
+        let mut left = found;
+        'forth: while let Some(at) = left.pop_first() {
+            self.derive(alloc, at as usize, &mut chain)?;
         }
         Ok(chain)
     }
@@ -331,8 +319,8 @@ impl Classes {
         if !self.are_equal(a, b) {
             return Ok(None);
         }
-        let marks = self.needed(alloc, a, b)?;
-        let mut chain = self.derive_all(alloc, &marks)?;
+        let found = self.needed(alloc, a, b)?;
+        let mut chain = self.derive_all(alloc, found)?;
         self.merges.add_path(alloc, self.merges.log.len() as u32, a, b, &mut chain.steps)?;
         Ok(Some(chain))
     }

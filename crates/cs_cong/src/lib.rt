@@ -6,6 +6,7 @@ mod congruent;
 mod explain;
 mod laws;
 mod merges;
+mod needs;
 mod paths;
 mod queue;
 mod rows;

@@ -19,5 +19,5 @@ returns-clause-explained c =
     let stage = stage_now s.terms.items s.claims.items s.marks.items s.merges.log.items s.history in
     let time : c.len.result ≡ length s.merges.log.items = search (rules, c.len.ensures) in
     let same = joined_are_merged s.terms.items s.claims.items s.merges.log.items stage c.args.a c.args.b (c.if-not-are_equal.ensures.0 refl) in
-    explains s.terms.items s.claims.items s.merges.log.items c.in_ok-marks.marks.items c.deref.result.now c.len.result c.args.a c.args.b c.in_ok-chain.chain _ same (c.in_ok-marks.ensures.marked same) c.in_ok-chain.ensures.sound
-    c.deref.ensures.value c.in_ok-marks.ensures.length c.in_ok-chain.ensures.known refl time c.in_ok-add_path.ensures
+    explains s.terms.items s.claims.items s.merges.log.items c.in_ok-found.found c.len.result c.args.a c.args.b c.in_ok-chain.chain _ same (c.in_ok-found.ensures.marked same) c.in_ok-chain.ensures.sound
+    c.in_ok-chain.ensures.known refl time c.in_ok-add_path.ensures

@@ -24,7 +24,7 @@ returns-in_ok-mark_parts-in-Congruence-clause-backed c =
     let r : c.index-merge.result.now.right ≡ (merge_at s.merges.log.items c.args.at).right = ap (λ (y : Merge). y.right) is in
     let left : c.index-merge.result.now.left < length s.terms.items = omega (arith, l, x_left, wide) in
     let right : c.index-merge.result.now.right < length s.terms.items = omega (arith, r, x_right, wide) in
-    backed_at s.terms.items log c.mark_parts.new.marks.items at m c.index-left.result.now c.index-right.result.now c.deref.result.now c.deref-in-Congruence.result.now is
+    backed_at s.terms.items log c.mark_parts.new.needs.all at m c.index-left.result.now c.index-right.result.now c.deref.result.now c.deref-in-Congruence.result.now is
     (read_term s.terms.items m.left c.index-left.result.now left c.index-left.ensures) (read_term s.terms.items m.right c.index-right.result.now right c.index-right.ensures)
     c.deref.ensures.value c.deref-in-Congruence.ensures.value
     (congruent_at s.terms.items s.claims.items log at stage.justified c.requires.within (ap (λ (y : Merge). y.reason) (sym is) ∙ why))

@@ -6,6 +6,6 @@ use Rattle.cs_cong.proofs.merges.Merges.mark_walk.Goals as goal
 
 pub returns-clause-marked : goal.returns-clause-marked
 returns-clause-marked c same =
-    walk_marked c.args.self.now.log.items c.args.time c.args.a c.args.b same c.mark.new.marks.items c.deref.result.now
+    walk_marked c.args.self.now.log.items c.args.time c.args.a c.args.b same c.mark.new.needs.all c.deref.result.now
     (c.deref.ensures.value ∙ c.in_ok-walk.ensures same ∙ ap (λ (es : List Edge). es ++ walk c.args.self.now.log.items c.args.time c.args.a c.args.b) c.new-edges.ensures.items)
-    c.mark.ensures.marked
+    c.in_ok-mark.ensures.marked
