@@ -7,3 +7,4 @@ pub mod Walks
 pub mod Explained
 pub mod Needed
 pub mod Laws
+pub mod Terms

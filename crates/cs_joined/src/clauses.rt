@@ -1,0 +1,179 @@
+//! The clauses of a check: of its assertions, definitions, choices and equalities in two orders.
+ghost use Rattle.std.specs.Prelude.{IfOk};
+ghost use Rattle.cs_search.specs.Search.{IsSearch};
+
+use crate::atoms::Atoms;
+use crate::numbered::Record;
+use cs_numbers::place_of;
+use cs_proof::Step;
+use cs_search::Clause;
+use cs_search::add::add;
+use cs_search::assignment::Assignment;
+use cs_search::search::Search;
+use cs_table::{Head, Literal, Stop, define, pick};
+use std::alloc::{AllocError, Global};
+use std::rc::Rc;
+use vx_terms::Term;
+
+/// Clauses for the search, each with its number in the certificate.
+#[derive(Drop)]
+pub struct Clauses {
+    pub atoms: Atoms,
+    pub clauses: Vec<Clause>,
+    pub numbers: Vec<u32>,
+}
+
+impl Clauses {
+    /// No clauses yet. The Bool terms are atoms, those with the latest numbers first: a term comes behind its parts.
+    ///
+    /// # Errors
+    /// `Want` where memory runs out.
+    pub fn new(alloc: Global, record: &Record) -> Result<Clauses, Stop> {
+        let mut atoms = Atoms::new(alloc);
+        for number in (0..record.count()?).rev() {
+            if record.is_bool(number)? {
+                atoms.add(number)?;
+            }
+        }
+        Ok(Clauses {
+            atoms,
+            clauses: Vec::new(alloc),
+            numbers: Vec::new(alloc),
+        })
+    }
+
+    /// Takes the clause of this number.
+    ///
+    /// # Errors
+    /// `Want` where memory runs out.
+    pub fn put(&mut self, alloc: Global, literals: &[Literal], number: u32) -> Result<(), Stop> {
+        let literals = self.atoms.literals(alloc, literals)?;
+        self.clauses.push(Clause { literals })?;
+        self.numbers.push(number)?;
+        Ok(())
+    }
+
+    /// The clause of each assertion.
+    ///
+    /// # Errors
+    /// `Want` where memory runs out.
+    pub fn put_inputs(
+        &mut self,
+        alloc: Global,
+        record: &mut Record,
+        assertions: &[Rc<Term>],
+    ) -> Result<(), Stop> {
+        for (at, assertion) in assertions.iter().enumerate() {
+            let root = Literal {
+                positive: true,
+                number: place_of(&record.terms, assertion)?,
+            };
+            let number = record.derive(Step::Input(at as u128))?;
+            self.put(alloc, &[root], number)?;
+        }
+        Ok(())
+    }
+
+    /// The rows of a term's table, if it has one.
+    fn put_rows(&mut self, alloc: Global, record: &mut Record, t: u32) -> Result<(), Stop> {
+        for row in 0..u32::MAX {
+            match define(alloc, &record.table, t, row) {
+                Ok(clause) => {
+                    let step = Step::Define(u128::from(t), u128::from(row));
+                    let number = record.derive(step)?;
+                    self.put(alloc, &clause, number)?;
+                }
+                Err(Stop::Miss) => return Ok(()),
+                Err(Stop::Want) => return Err(Stop::Want),
+            }
+        }
+        Ok(())
+    }
+
+    /// The definitions of the first terms.
+    ///
+    /// # Errors
+    /// `Want` where memory runs out.
+    pub fn put_definitions(
+        &mut self,
+        alloc: Global,
+        record: &mut Record,
+        count: u32,
+    ) -> Result<(), Stop> {
+        for t in 0..count {
+            self.put_rows(alloc, record, t)?;
+        }
+        Ok(())
+    }
+
+    /// A choice is one of its two sides, if the term is a choice that isn't Bool.
+    fn put_choice(&mut self, alloc: Global, record: &mut Record, t: u32) -> Result<(), Stop> {
+        let Some((left, right)) = sides_of(record, t)? else {
+            return Ok(());
+        };
+        record.equality_of(alloc, t, left)?;
+        record.equality_of(alloc, t, right)?;
+        for row in 0..2u32 {
+            let clause = pick(alloc, &record.table, t, row)?;
+            let number = record.derive(Step::Pick(u128::from(t), u128::from(row)))?;
+            self.put(alloc, &clause, number)?;
+        }
+        Ok(())
+    }
+
+    /// The choices among the first terms.
+    ///
+    /// # Errors
+    /// `Want` where memory runs out.
+    pub fn put_choices(
+        &mut self,
+        alloc: Global,
+        record: &mut Record,
+        count: u32,
+    ) -> Result<(), Stop> {
+        for t in 0..count {
+            self.put_choice(alloc, record, t)?;
+        }
+        Ok(())
+    }
+}
+
+/// The two sides of a choice that isn't Bool.
+fn sides_of(record: &Record, t: u32) -> Result<Option<(u32, u32)>, Stop> {
+    let node = record.node(t)?;
+    if !node.head.is_same(&Head::Ite) || record.is_bool(t)? {
+        return Ok(None);
+    }
+    match node.parts.as_slice() {
+        [_, left, right] => Ok(Some((*left, *right))),
+        _ => Ok(None),
+    }
+}
+
+/// A search without clauses.
+fn no_clauses(alloc: Global) -> Search
+    ensures { IsSearch result.clauses.items result.made.values.items result.made.trail.items }
+{
+    Search {
+        clauses: Vec::new(alloc),
+        steps: Vec::new(alloc),
+        made: Assignment {
+            values: Vec::new(alloc),
+            trail: Vec::new(alloc),
+        },
+    }
+}
+
+/// A search over these clauses.
+///
+/// # Errors
+/// Want of memory.
+pub fn search_of(alloc: Global, clauses: Vec<Clause>) -> Result<Search, AllocError>
+    ensures { IfOk result (λ s. IsSearch s.clauses.items s.made.values.items s.made.trail.items) }
+{
+    let mut search = no_clauses(alloc);
+    for clause in clauses {
+        add(&mut search, clause)?;
+    }
+    Ok(search)
+}
