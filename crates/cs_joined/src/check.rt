@@ -3,9 +3,11 @@ ghost use Rattle.std.specs.Prelude.{◌≡◌, IsTrue, IfOk, IfNone, length};
 ghost use Rattle.cs_search.specs.Assignment.{FalseBefore, IsFalse};
 ghost use Rattle.cs_search.specs.Search.{IsSearch, AreSatisfied};
 
+use crate::assembly::assembled;
 use crate::atoms::Atoms;
 use crate::claims::{Claim, Claims};
 use crate::clauses::{Clauses, search_of};
+use crate::forced::reasons;
 use crate::lemma::{Lemma, lemma_of};
 use crate::model::model_of;
 use crate::numbered::Record;
@@ -75,6 +77,7 @@ impl Check {
             atoms,
             clauses,
             numbers,
+            ..
         } = clauses;
         let check = Check {
             record,
@@ -120,11 +123,10 @@ impl Check {
         Ok(())
     }
 
-    /// The clauses are refuted by hints: the checker decides.
-    fn refuted(&mut self, alloc: Global, stack: &Stack, hints: &Hints) -> Result<Answer, Stop> {
-        let hints = self.mapped(alloc, hints)?;
+    /// Hints derive the empty clause: the checker decides.
+    fn refuted(&mut self, alloc: Global, stack: &Stack, hints: Vec<u128>) -> Result<Answer, Stop> {
         self.record.propagate(alloc, &[], hints)?;
-        let steps = std::mem::replace(&mut self.record.steps, Vec::new(alloc));
+        let steps = assembled(alloc, &stack.assertions, &self.record)?;
         match verdict(alloc, stack, &steps)? {
             Ok(()) => Ok(Answer::Refuted(steps)),
             Err(refusal) => Ok(Answer::Unknown(Cause::Refused(refusal))),
@@ -180,9 +182,10 @@ fn are_false(made: &Assignment, literals: &[Literal]) -> bool
     true
 }
 
-/// The search learns a lemma, which is false under its assignment.
+/// A lemma that is false before any decision refutes the clauses; else the search learns it.
 fn take_lemma(
     alloc: Global,
+    stack: &Stack,
     check: &mut Check,
     search: &mut Search,
     lemma: &Lemma,
@@ -192,6 +195,11 @@ fn take_lemma(
     ensures { IfOk result (λ found. IfNone found (IsSearch search.new.clauses.items search.new.made.values.items search.new.made.trail.items)) }
 {
     let literals = check.atoms.literals(alloc, &lemma.literals)?;
+    if let Some(reasons) = reasons(alloc, search, &literals)? {
+        let mut hints = check.mapped(alloc, &reasons)?;
+        hints.push(u128::from(lemma.number))?;
+        return Ok(Some(check.refuted(alloc, stack, hints)?));
+    }
     if !are_false(&search.made, &literals) {
         return Ok(Some(Answer::Unknown(Cause::Open)));
     }
@@ -223,7 +231,7 @@ fn assigned(
     match check.claims.broken()? {
         Some(broken) => {
             let lemma = lemma_of(alloc, &mut check.record, &check.claims, broken)?;
-            take_lemma(alloc, check, search, &lemma)
+            take_lemma(alloc, stack, check, search, &lemma)
         }
         None => Ok(Some(check.modelled(alloc, stack, &search.made.values)?)),
     }
@@ -248,7 +256,8 @@ fn turn(
         Ok(solved) => match solved {
             Solved::Refuted(hints) => {
                 check.tell(alloc, search)?;
-                Ok(Some(check.refuted(alloc, stack, &hints)?))
+                let hints = check.mapped(alloc, &hints)?;
+                Ok(Some(check.refuted(alloc, stack, hints)?))
             }
             Solved::Assigned => assigned(alloc, stack, check, search),
         },

@@ -21,6 +21,8 @@ pub struct Clauses {
     pub atoms: Atoms,
     pub clauses: Vec<Clause>,
     pub numbers: Vec<u32>,
+    // by terms: the numbers of the clauses that assert them
+    roots: Vec<Option<u32>>,
 }
 
 impl Clauses {
@@ -29,17 +31,25 @@ impl Clauses {
     /// # Errors
     /// `Want` where memory runs out.
     pub fn new(alloc: Global, record: &Record) -> Result<Clauses, Stop> {
+        let count = record.count()?;
         let mut atoms = Atoms::new(alloc);
-        for number in (0..record.count()?).rev() {
+        for number in (0..count).rev() {
             if record.is_bool(number)? {
                 atoms.add(number)?;
             }
         }
+        let roots = vec![in alloc; None; count as usize]?;
         Ok(Clauses {
             atoms,
             clauses: Vec::new(alloc),
             numbers: Vec::new(alloc),
+            roots,
         })
+    }
+
+    /// The number of the clause that asserts a term.
+    fn root(&self, term: u32) -> Option<u32> {
+        *self.roots.get(term as usize)?
     }
 
     /// Takes the clause of this number.
@@ -64,14 +74,62 @@ impl Clauses {
         assertions: &[Rc<Term>],
     ) -> Result<(), Stop> {
         for (at, assertion) in assertions.iter().enumerate() {
-            let root = Literal {
-                positive: true,
-                number: place_of(&record.terms, assertion)?,
-            };
+            let root = place_of(&record.terms, assertion)?;
             let number = record.derive(Step::Input(at as u128))?;
-            self.put(alloc, &[root], number)?;
+            if let Some(place) = self.roots.get_mut(root as usize) {
+                *place = Some(number);
+            }
+            let literal = Literal {
+                positive: true,
+                number: root,
+            };
+            self.put(alloc, &[literal], number)?;
         }
         Ok(())
+    }
+
+    /// Whether one of the literals is asserted.
+    fn is_met(&self, literals: &[Literal]) -> bool {
+        literals.iter().any(|literal| literal.positive && self.root(literal.number).is_some())
+    }
+
+    /// The literals but those whose negation is asserted. The clauses that assert these become hints.
+    fn left(
+        &self,
+        alloc: Global,
+        literals: &[Literal],
+        hints: &mut Vec<u128>,
+    ) -> Result<Vec<Literal>, Stop> {
+        let mut left = Vec::new(alloc);
+        for literal in literals {
+            match self.root(literal.number) {
+                Some(number) if !literal.positive => hints.push(u128::from(number))?,
+                _ => left.push(*literal)?,
+            }
+        }
+        Ok(left)
+    }
+
+    /// The clause of a step, without what the assertions deny; nothing where they meet it.
+    fn put_step(
+        &mut self,
+        alloc: Global,
+        record: &mut Record,
+        step: Step,
+        literals: &[Literal],
+    ) -> Result<(), Stop> {
+        if self.is_met(literals) {
+            return Ok(());
+        }
+        let number = record.derive(step)?;
+        let mut hints = Vec::new(alloc);
+        let left = self.left(alloc, literals, &mut hints)?;
+        if hints.is_empty() {
+            return self.put(alloc, literals, number);
+        }
+        hints.push(u128::from(number))?;
+        let number = record.propagate(alloc, &left, hints)?;
+        self.put(alloc, &left, number)
     }
 
     /// The rows of a term's table, if it has one.
@@ -80,8 +138,7 @@ impl Clauses {
             match define(alloc, &record.table, t, row) {
                 Ok(clause) => {
                     let step = Step::Define(u128::from(t), u128::from(row));
-                    let number = record.derive(step)?;
-                    self.put(alloc, &clause, number)?;
+                    self.put_step(alloc, record, step, &clause)?;
                 }
                 Err(Stop::Miss) => return Ok(()),
                 Err(Stop::Want) => return Err(Stop::Want),
@@ -115,8 +172,8 @@ impl Clauses {
         record.equality_of(alloc, t, right)?;
         for row in 0..2u32 {
             let clause = pick(alloc, &record.table, t, row)?;
-            let number = record.derive(Step::Pick(u128::from(t), u128::from(row)))?;
-            self.put(alloc, &clause, number)?;
+            let step = Step::Pick(u128::from(t), u128::from(row));
+            self.put_step(alloc, record, step, &clause)?;
         }
         Ok(())
     }
@@ -151,6 +208,7 @@ fn sides_of(record: &Record, t: u32) -> Result<Option<(u32, u32)>, Stop> {
 }
 
 /// A search without clauses.
+#[tactic(auto, using(crate::proofs::Empty::empty_search))]
 fn no_clauses(alloc: Global) -> Search
     ensures { IsSearch result.clauses.items result.made.values.items result.made.trail.items }
 {

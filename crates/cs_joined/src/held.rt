@@ -111,8 +111,10 @@ impl Held {
         if !are_within(&terms, count) {
             return Err(Stop::Miss);
         }
-        let classes = stop(Classes::new(alloc, terms))?;
-        Ok(Held { classes, count })
+        match Classes::new(alloc, terms) {
+            Ok(classes) => Ok(Held { classes, count }),
+            Err(_) => Err(Stop::Want),
+        }
     }
 
     /// Whether the classes know the term of this number.

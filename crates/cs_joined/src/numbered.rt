@@ -13,7 +13,6 @@ pub struct Record {
     pub terms: NumberedTerms,
     pub table: Table,
     pub steps: Vec<Step>,
-    // how many clauses the steps derive
     derived: u32,
 }
 
@@ -79,6 +78,22 @@ impl Record {
             Ok(count) => Ok(count),
             Err(_) => Err(Stop::Want),
         }
+    }
+
+    /// The steps alone. No memory.
+    pub fn into_steps(self) -> Vec<Step> {
+        let Record {
+            terms: _,
+            table: _,
+            steps,
+            derived: _,
+        } = self;
+        steps
+    }
+
+    /// How many clauses the steps derive.
+    pub fn derived(&self) -> u32 {
+        self.derived
     }
 
     /// The node of a number.
