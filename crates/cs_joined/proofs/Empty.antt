@@ -1,5 +1,5 @@
 -- A search without clauses.
-use Rattle.std.proofs.Common.{◌≡◌, ℕ, List, [], Some}
+use Rattle.std.proofs.Common.{◌≡◌, ℕ, [], Some}
 use Rattle.std.specs.List.{slice_get}
 use Rattle.cs_hints.specs.declared.Literal.{Literal}
 use Rattle.cs_search.specs.declared.Status.TheVariants.{True}
