@@ -12,3 +12,4 @@ pub mod Explained
 pub mod Marked
 pub mod Needed
 pub mod Laws
+pub mod Terms
