@@ -1,7 +1,7 @@
 //! One check of a stack without numbers.
 ghost use Rattle.std.specs.Prelude.{◌≡◌, IsTrue, IfOk, IfNone, length};
 ghost use Rattle.cs_search.specs.Assignment.{FalseBefore, IsFalse};
-ghost use Rattle.cs_search.specs.Search.{IsSearch, AreSatisfied};
+ghost use Rattle.cs_search.specs.Search.{IsReady, AreSatisfied};
 
 use crate::assembly::assembled;
 use crate::atoms::Atoms;
@@ -190,9 +190,9 @@ fn take_lemma(
     search: &mut Search,
     lemma: &Lemma,
 ) -> Result<Option<Answer>, Stop>
-    requires sound { IsSearch search.old.clauses.items search.old.made.values.items search.old.made.trail.items }
+    requires sound { IsReady search.old }
     requires satisfied { AreSatisfied search.old.clauses.items search.old.made.values.items }
-    ensures { IfOk result (λ found. IfNone found (IsSearch search.new.clauses.items search.new.made.values.items search.new.made.trail.items)) }
+    ensures { IfOk result (λ found. IfNone found (IsReady search.new)) }
 {
     let literals = check.atoms.literals(alloc, &lemma.literals)?;
     if let Some(reasons) = reasons(alloc, search, &literals)? {
@@ -220,9 +220,9 @@ fn assigned(
     check: &mut Check,
     search: &mut Search,
 ) -> Result<Option<Answer>, Stop>
-    requires sound { IsSearch search.old.clauses.items search.old.made.values.items search.old.made.trail.items }
+    requires sound { IsReady search.old }
     requires satisfied { AreSatisfied search.old.clauses.items search.old.made.values.items }
-    ensures { IfOk result (λ found. IfNone found (IsSearch search.new.clauses.items search.new.made.values.items search.new.made.trail.items)) }
+    ensures { IfOk result (λ found. IfNone found (IsReady search.new)) }
 {
     check.tell(alloc, search)?;
     check
@@ -244,8 +244,8 @@ fn turn(
     check: &mut Check,
     search: &mut Search,
 ) -> Result<Option<Answer>, Stop>
-    requires sound { IsSearch search.old.clauses.items search.old.made.values.items search.old.made.trail.items }
-    ensures { IfOk result (λ found. IfNone found (IsSearch search.new.clauses.items search.new.made.values.items search.new.made.trail.items)) }
+    requires sound { IsReady search.old }
+    ensures { IfOk result (λ found. IfNone found (IsReady search.new)) }
 {
     if search.made.values.len() >= 1 << 32 {
         return Err(Stop::Want);
@@ -266,7 +266,7 @@ fn turn(
 
 /// Turn by turn, up to an answer. Each turn that goes on has spent a unit.
 fn run(alloc: Global, stack: &Stack, check: &mut Check, search: &mut Search) -> Result<Answer, Stop>
-    requires { IsSearch search.old.clauses.items search.old.made.values.items search.old.made.trail.items }
+    requires { IsReady search.old }
 {
     for _ in 0..=LIMIT {
         if let Some(answer) = turn(alloc, stack, check, search)? {

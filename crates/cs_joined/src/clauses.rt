@@ -1,6 +1,6 @@
 //! The clauses of a check: of its assertions, definitions, choices and equalities in two orders.
 ghost use Rattle.std.specs.Prelude.{IfOk};
-ghost use Rattle.cs_search.specs.Search.{IsSearch};
+ghost use Rattle.cs_search.specs.Search.{IsReady};
 
 use crate::atoms::Atoms;
 use crate::numbered::Record;
@@ -8,7 +8,6 @@ use cs_numbers::place_of;
 use cs_proof::Step;
 use cs_search::Clause;
 use cs_search::add::add;
-use cs_search::assignment::Assignment;
 use cs_search::search::Search;
 use cs_table::{Head, Literal, Stop, define, pick};
 use std::alloc::{AllocError, Global};
@@ -207,29 +206,14 @@ fn sides_of(record: &Record, t: u32) -> Result<Option<(u32, u32)>, Stop> {
     }
 }
 
-/// A search without clauses.
-#[tactic(auto, using(crate::proofs::Empty::empty_search))]
-fn no_clauses(alloc: Global) -> Search
-    ensures { IsSearch result.clauses.items result.made.values.items result.made.trail.items }
-{
-    Search {
-        clauses: Vec::new(alloc),
-        steps: Vec::new(alloc),
-        made: Assignment {
-            values: Vec::new(alloc),
-            trail: Vec::new(alloc),
-        },
-    }
-}
-
 /// A search over these clauses.
 ///
 /// # Errors
 /// Want of memory.
 pub fn search_of(alloc: Global, clauses: Vec<Clause>) -> Result<Search, AllocError>
-    ensures { IfOk result (λ s. IsSearch s.clauses.items s.made.values.items s.made.trail.items) }
+    ensures { IfOk result IsReady }
 {
-    let mut search = no_clauses(alloc);
+    let mut search = Search::new(alloc);
     for clause in clauses {
         add(&mut search, clause)?;
     }
