@@ -12,7 +12,7 @@ use Rattle.vx_report.specs.declared.status.Status.{Status}
 use Rattle.vx_report.specs.declared.status.Status.TheVariants.{Done, NotVerified, Usage, Unread, Refused, Faulted, Unwritten, Want}
 use Rattle.vx_report.specs.Statuses.{status_among}
 use Rattle.vx_typing.specs.Programs.{IsTyped}
-use Rattle.vx_types.specs.Executed.{is_executed}
+use Rattle.vx_resolved.specs.Executed.{is_executed}
 use Rattle.vx_print.specs.Canonical.{canonical_text}
 use Rattle.vx_commands.specs.declared.reading.Parsed.{Parsed}
 use Rattle.vx_commands.specs.declared.reading.Parsed.TheVariants as parsed

@@ -1,7 +1,7 @@
 //! Which typed programs are executed.
 
 ghost use Rattle.std.specs.Prelude.{◌≡◌, true, IfErr, OnOk};
-ghost use Rattle.vx_types.specs.Executed.{is_executed};
+ghost use Rattle.vx_resolved.specs.Executed.{is_executed};
 ghost use Rattle.vx_typing.specs.Typed.{written_of};
 ghost use Rattle.vx_commands.specs.Refusals.{IsSpelledBy, IsFirstBeyond};
 

@@ -2,7 +2,7 @@
 
 ghost use Rattle.std.specs.Prelude.{◌≡◌, ◌⊎◌, [], IfOk, IfErr, Some, None, true, option_copied};
 ghost use Rattle.vx_ast.specs.Written.{written_program};
-ghost use Rattle.vx_types.specs.Executed.{is_executed};
+ghost use Rattle.vx_resolved.specs.Executed.{is_executed};
 ghost use Rattle.vx_typing.specs.Typed.{written_of, resolved_of};
 ghost use Rattle.vx_words.specs.Orders.{order_of};
 ghost use Rattle.vx_commands.specs.Refusals.{IsSpelledBy};

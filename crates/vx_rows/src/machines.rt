@@ -1,6 +1,6 @@
 //! Two machines on the first member of a program, each of which stands suspended while the other goes on.
 
-ghost use Rattle.vx_types.specs.Settled.{settled};
+ghost use Rattle.vx_settling.specs.Settled.{settled};
 ghost use Rattle.vx_machine.specs.Runs.{Follows};
 
 use crate::row::{Row, Step};
@@ -14,7 +14,7 @@ use vx_rules::Reply;
 use vx_smt_meaning::Command;
 use vx_smt_text::write;
 use vx_stack::Query;
-use vx_types::{Settled, settle};
+use vx_settling::{Settled, settle};
 
 // On, with this reply where one is awaited.
 fn on(

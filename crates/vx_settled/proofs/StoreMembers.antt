@@ -12,8 +12,8 @@ use Rattle.vx_ast.specs.Written as written
 use Rattle.vx_ast.specs.Resolve as resolve
 use Rattle.vx_ast.specs.Resolve.{Names, names_of, binary_of, expression, is_pure, assertion}
 use Rattle.vx_ast.specs.Syntax.{Member, Method, IsMethod, Expr, Pure, Implied, Chosen, Block}
-use Rattle.vx_types.specs.Executed.{is_executed_type, is_executed_operator, is_executed_expr, is_executed_right, is_executed_stmt, is_executed_other, is_executed_block, are_executed_types, are_executed_clauses, is_executed_body, is_executed_kind, is_executed}
-use Rattle.vx_types.proofs.Asserted.{executed_is_pure}
+use Rattle.vx_resolved.specs.Executed.{is_executed_type, is_executed_operator, is_executed_expr, is_executed_right, is_executed_stmt, is_executed_other, is_executed_block, are_executed_types, are_executed_clauses, is_executed_body, is_executed_kind, is_executed}
+use Rattle.vx_settling.proofs.Asserted.{executed_is_pure}
 use Rattle.vx_settled.proofs.TypedMembers.{same_method, same_member}
 use Rattle.vx_types.specs.StoreLanguage.{IsSmall, AreSmall, InStore, IsPlain, ArePlain, IsStoreStmt, IsStoreBlock, IsStoreBody, IsStoreMethod}
 

@@ -7,7 +7,7 @@ use Rattle.vx_ast.specs.Resolve.{program}
 use Rattle.vx_ast.specs.Syntax.{Name, result_name, Program, Member, Kind, Method, IsMethod}
 use Rattle.vx_typing.specs.Programs.{IsTyped}
 use Rattle.vx_types.specs.Typing.{IsTypedMethod}
-use Rattle.vx_types.specs.Executed.{is_executed}
+use Rattle.vx_resolved.specs.Executed.{is_executed}
 use Rattle.vx_rules.specs.Rules.{outer}
 use Rattle.vx_rules.specs.Members.{depth, tree_over, tree}
 use Rattle.vx_depth.specs.Apart.{KeepsApart}

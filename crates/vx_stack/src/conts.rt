@@ -13,7 +13,7 @@ ghost use Rattle.vx_rules.specs.Trees as tree;
 ghost use Rattle.vx_terms.specs.Build.{true_term};
 ghost use Rattle.vx_terms.specs.Terms.{same};
 ghost use Rattle.vx_terms.specs.Views.{term};
-ghost use Rattle.vx_types.specs.Settled.{settled};
+ghost use Rattle.vx_settling.specs.Settled.{settled};
 
 use crate::{Frame, Hole, Next, Query, Side};
 use std::alloc::{AllocError, Global};
@@ -23,7 +23,7 @@ use vx_resolved::Expr;
 use vx_rules::Code;
 use vx_states::SymState;
 use vx_terms::{Term, make};
-use vx_types::Settled;
+use vx_settling::Settled;
 
 /// The sides that are still to be walked, the next one last.
 #[derive(Drop)]

@@ -18,7 +18,7 @@ use Rattle.vx_grammar.specs.ProgramLaws.{ProgramSpelled}
 use Rattle.vx_grammar.proofs.Lists.{tokens-append_more}
 use Rattle.vx_parser.specs.Store.{opens}
 use Rattle.vx_store.proofs.Passes.{NoneBeyond}
-use Rattle.vx_types.specs.Executed.{is_executed_type, is_executed_operator, is_executed_expr, is_executed_right, is_executed_stmt, is_executed_other, is_executed_block, are_executed_types, are_executed_clauses, is_executed_body, is_executed_kind, is_executed}
+use Rattle.vx_resolved.specs.Executed.{is_executed_type, is_executed_operator, is_executed_expr, is_executed_right, is_executed_stmt, is_executed_other, is_executed_block, are_executed_types, are_executed_clauses, is_executed_body, is_executed_kind, is_executed}
 
 -- no token is beyond the store language, and the first opens no parenthesis: a name may stand in front
 pub record Clear (ts : List Token) : Type 0 where

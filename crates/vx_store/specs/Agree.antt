@@ -1,7 +1,7 @@
 -- Two ways to tell which programs are executed agree: by the tokens of a text, and by the forms of the program that it spells.
 use Rattle.std.specs.Prelude.{◌≡◌, ℕ, List, true, false, None}
 use Rattle.vx_ast.specs.Written as written
-use Rattle.vx_types.specs.Executed.{is_executed}
+use Rattle.vx_resolved.specs.Executed.{is_executed}
 use Rattle.vx_parser.specs.Spelling.{Spells}
 use Rattle.vx_parser.specs.Store.{first_beyond}
 

@@ -1,7 +1,3 @@
 pub mod Typing
-pub mod Executed
-pub mod Settled
-pub mod Refusals
-pub mod Parts
 pub mod StoreLanguage
 pub mod FieldLanguage

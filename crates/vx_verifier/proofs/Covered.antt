@@ -3,7 +3,7 @@ use Rattle.std.proofs.Common.{◌≡◌, true}
 use Rattle.vx_ast.specs.Written as written
 use Rattle.vx_ast.specs.Resolve as resolve
 use Rattle.vx_typing.specs.Programs.{IsTyped}
-use Rattle.vx_types.specs.Executed.{is_executed}
+use Rattle.vx_resolved.specs.Executed.{is_executed}
 use Rattle.vx_settled.specs.WhenSettled.{TypedWhenSettled, InStoreWhenSettled}
 use Rattle.vx_verifier.specs.Headline.{IsSupported}
 

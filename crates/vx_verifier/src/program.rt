@@ -1,14 +1,14 @@
 //! Typed programs that are executed: settled, and supported.
 
 ghost use Rattle.std.specs.Prelude.{◌≡◌, true, IfOk};
-ghost use Rattle.vx_types.specs.Executed.{is_executed};
-ghost use Rattle.vx_types.specs.Settled.{settled};
+ghost use Rattle.vx_resolved.specs.Executed.{is_executed};
+ghost use Rattle.vx_settling.specs.Settled.{settled};
 ghost use Rattle.vx_typing.specs.Typed.{written_of, resolved_of};
 ghost use Rattle.vx_verifier.specs.Headline.{IsSupported};
 
 use std::alloc::{AllocError, Global};
 use vx_settled::{executed_programs_are_of_the_store, typed_programs_settle_typed};
-use vx_types::{Settled, Unsettled, settle};
+use vx_settling::{Settled, Unsettled, settle};
 use vx_typing::Typed;
 
 /// A program that is executed, settled.

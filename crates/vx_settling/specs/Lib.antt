@@ -1,0 +1,3 @@
+pub mod Settled
+pub mod Refusals
+pub mod Parts
