@@ -1,36 +1,37 @@
--- The programs that are executed so far: methods over Int and Bool, without permissions, heap, calls or loops.
+-- The programs that are executed so far: fields, and methods without calls. No predicate, no function, nothing applied.
 use Rattle.std.specs.Prelude.{Bool, true, false, ◌&&◌, List, [], ◌∷◌, Option, Some, None}
-use Rattle.vx_ast.specs.declared.ValueType.{ValueType}
-use Rattle.vx_ast.specs.declared.ValueType.TheVariants as type
-use Rattle.vx_ast.specs.declared.BinaryOperator.{BinaryOperator}
-use Rattle.vx_ast.specs.declared.BinaryOperator.TheVariants as binary
-use Rattle.vx_ast.specs.Written.{Expr, Number, Truth, Variable, Unary, Binary, Choice, Right, Value, Declaration, Stmt, Declare, Assign, Inhale, Exhale, Assert, Assume, If, Other, NoElse, Else, Block, Done, Then, Clause, Requires, Ensures, Decreases, Method, Kind, IsMethod, Program}
+use Rattle.vx_ast.specs.Written.{Expr, Number, Truth, Null, Whole, Nothing, Result, Variable, Call, Read, Unary, Binary, Choice, Old, Access, Unfolding, Amount, All, Part, Exprs, NoMore, More, Right, Value, NewAll, New, Stmt, Declare, Assign, Write, Invoke, Inhale, Exhale, Assert, Assume, Fold, Unfold, If, While, Other, NoElse, Else, Block, Done, Then, Clause, Requires, Ensures, Decreases, Method, Kind, IsField, IsPredicate, IsFunction, IsMethod, Program}
 
-abbrev pub is_executed_type : ValueType → Bool
-is_executed_type type.Int = true
-is_executed_type type.Bool = true
-is_executed_type type.Ref = false
-is_executed_type type.Perm = false
+abbrev mutual
+  pub is_executed_expr : Expr → Bool
+  is_executed_expr (Number at n) = true
+  is_executed_expr (Truth at b) = true
+  is_executed_expr (Null at) = true
+  is_executed_expr (Whole at) = true
+  is_executed_expr (Nothing at) = true
+  is_executed_expr (Result at) = true
+  is_executed_expr (Variable at x) = true
+  is_executed_expr (Call at f es) = false
+  is_executed_expr (Read at e f) = is_executed_expr e
+  is_executed_expr (Unary at op e) = is_executed_expr e
+  is_executed_expr (Binary at op a b) = is_executed_expr a && is_executed_expr b
+  is_executed_expr (Choice at c a b) = is_executed_expr c && (is_executed_expr a && is_executed_expr b)
+  is_executed_expr (Old at e) = is_executed_expr e
+  is_executed_expr (Access at e share) = is_executed_expr e && is_executed_amount share
+  is_executed_expr (Unfolding at i es share e) = false
 
-abbrev pub is_executed_operator : BinaryOperator → Bool
-is_executed_operator binary.Divide = false
-is_executed_operator binary.Quotient = false
-is_executed_operator binary.Remainder = false
-is_executed_operator _ = true
+  pub is_executed_amount : Amount → Bool
+  is_executed_amount All = true
+  is_executed_amount (Part e) = is_executed_expr e
 
-abbrev pub is_executed_expr : Expr → Bool
-is_executed_expr (Number at n) = true
-is_executed_expr (Truth at b) = true
-is_executed_expr (Variable at x) = true
-is_executed_expr (Unary at op e) = is_executed_expr e
-is_executed_expr (Binary at op a b) = is_executed_expr a && (is_executed_expr b && is_executed_operator op)
-is_executed_expr (Choice at c a b) = is_executed_expr c && (is_executed_expr a && is_executed_expr b)
-is_executed_expr _ = false
+abbrev pub are_executed : Exprs → Bool
+are_executed NoMore = true
+are_executed (More e es) = is_executed_expr e && are_executed es
 
--- no `new`
 abbrev pub is_executed_right : Right → Bool
 is_executed_right (Value e) = is_executed_expr e
-is_executed_right _ = false
+is_executed_right (NewAll at) = true
+is_executed_right (New at fields) = true
 
 abbrev pub is_executed_value : Option Right → Bool
 is_executed_value None = true
@@ -38,14 +39,18 @@ is_executed_value (Some r) = is_executed_right r
 
 abbrev mutual
   pub is_executed_stmt : Stmt → Bool
-  is_executed_stmt (Declare at d r) = is_executed_type d.of && is_executed_value r
+  is_executed_stmt (Declare at d r) = is_executed_value r
   is_executed_stmt (Assign at x r) = is_executed_right r
+  is_executed_stmt (Write at e f e') = is_executed_expr e && is_executed_expr e'
+  is_executed_stmt (Invoke at xs m es) = false
   is_executed_stmt (Inhale at e) = is_executed_expr e
   is_executed_stmt (Exhale at e) = is_executed_expr e
   is_executed_stmt (Assert at e) = is_executed_expr e
   is_executed_stmt (Assume at e) = is_executed_expr e
+  is_executed_stmt (Fold at i es share) = false
+  is_executed_stmt (Unfold at i es share) = false
   is_executed_stmt (If at c a b) = is_executed_expr c && (is_executed_block a && is_executed_other b)
-  is_executed_stmt _ = false
+  is_executed_stmt (While at c is b) = is_executed_expr c && (are_executed is && is_executed_block b)
 
   pub is_executed_other : Other → Bool
   is_executed_other NoElse = true
@@ -54,10 +59,6 @@ abbrev mutual
   pub is_executed_block : Block → Bool
   is_executed_block Done = true
   is_executed_block (Then s b) = is_executed_stmt s && is_executed_block b
-
-abbrev pub are_executed_types : List Declaration → Bool
-are_executed_types [] = true
-are_executed_types (d ∷ ds) = is_executed_type d.of && are_executed_types ds
 
 -- a measure is not looked at: methods have none
 abbrev pub is_executed_clause : Clause → Bool
@@ -74,13 +75,14 @@ is_executed_body None = true
 is_executed_body (Some b) = is_executed_block b
 
 abbrev pub is_executed_method : Method → Bool
-is_executed_method m =
-    are_executed_types m.parameters && (are_executed_types m.returns && (are_executed_clauses m.clauses && is_executed_body m.body))
+is_executed_method m = are_executed_clauses m.clauses && is_executed_body m.body
 
--- only methods
+-- only fields and methods
 abbrev pub is_executed_kind : Kind → Bool
+is_executed_kind (IsField t) = true
+is_executed_kind (IsPredicate d) = false
+is_executed_kind (IsFunction f) = false
 is_executed_kind (IsMethod m) = is_executed_method m
-is_executed_kind _ = false
 
 abbrev pub is_executed : Program → Bool
 is_executed [] = true

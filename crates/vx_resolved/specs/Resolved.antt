@@ -4,6 +4,8 @@ use Rattle.std.specs.declared.alloc.Global.{Global}
 use Rattle.std.specs.declared.rc.Rc.{Rc}
 use Rattle.vx_resolved.specs.declared.Operator.{Operator as Operator'}
 use Rattle.vx_resolved.specs.declared.Operator.TheVariants as operator'
+use Rattle.vx_resolved.specs.declared.Division.{Division as Division'}
+use Rattle.vx_resolved.specs.declared.Division.TheVariants as division'
 use Rattle.vx_resolved.specs.declared.Connective.{Connective as Connective'}
 use Rattle.vx_resolved.specs.declared.Connective.TheVariants as connective'
 use Rattle.vx_resolved.specs.declared.Expr as expr'
@@ -15,7 +17,7 @@ use Rattle.vx_resolved.specs.declared.Method as method'
 use Rattle.vx_resolved.specs.declared.Kind.TheVariants as kind'
 use Rattle.vx_resolved.specs.declared.Member as member'
 use Rattle.vx_resolved.specs.declared.Program as program'
-use Rattle.vx_ast.specs.Syntax.{Name, Operator, Equal, Less, LessEqual, Greater, GreaterEqual, Add, Subtract, Multiply, Connective, And, Or, Implies, Expr, Number, Truth, Variable, Not, Operate, Connect, Choose, Assertion, Pure, Both, Declaration, Stmt, Declare, Assign, Inhale, Exhale, Assert, Assume, If, Block, Done, Then, Method, Kind, IsMethod, Member, Program}
+use Rattle.vx_ast.specs.Syntax.{Name, Operator, Equal, Less, LessEqual, Greater, GreaterEqual, Add, Subtract, Multiply, Division, Quotient, Remainder, Connective, And, Or, Implies, Expr, Number, Truth, Null, Part, Variable, Not, Operate, Divide, Connect, Choose, Read, Old, Assertion, Pure, Points, Both, Implied, Chosen, Declaration, Stmt, Declare, Assign, Write, New, Inhale, Exhale, Assert, Assume, If, While, Block, Done, Then, Method, Kind, IsField, IsMethod, Member, Program}
 
 abbrev pub operator : Operator' → Operator
 operator operator'.Equal = Equal
@@ -27,6 +29,10 @@ operator operator'.Add = Add
 operator operator'.Subtract = Subtract
 operator operator'.Multiply = Multiply
 
+abbrev pub division : Division' → Division
+division division'.Quotient = Quotient
+division division'.Remainder = Remainder
+
 abbrev pub connective : Connective' → Connective
 connective connective'.And = And
 connective connective'.Or = Or
@@ -35,15 +41,26 @@ connective connective'.Implies = Implies
 abbrev pub expr : expr'.Expr → Expr
 expr (expr'.Number at n) = Number at n
 expr (expr'.Truth at b) = Truth at b
+expr (expr'.Null at) = Null at
+expr (expr'.Part at n d) = Part at n d
 expr (expr'.Variable at x) = Variable at (string_bytes x.value)
 expr (expr'.Not' at p e) = Not at (expr e)
 expr (expr'.Operate' at op p a q b) = Operate at (operator op) (expr a) (expr b)
+expr (expr'.Divide' at op p a q b) = Divide at (division op) (expr a) (expr b)
 expr (expr'.Connect' at c p a q b) = Connect at (connective c) (expr a) (expr b)
 expr (expr'.Choose' at p c q a r b) = Choose at (expr c) (expr a) (expr b)
+expr (expr'.Read' at p e x) = Read at (expr e) (string_bytes x.value)
+expr (expr'.Old' at p e) = Old at (expr e)
 
 abbrev pub assertion : assertion'.Assertion → Assertion
 assertion (assertion'.Pure e) = Pure (expr e.value)
+assertion (assertion'.Points at e x share) = Points at (expr e.value) (string_bytes x.value) (expr share.value)
 assertion (assertion'.Both' p a q b) = Both (assertion a) (assertion b)
+assertion (assertion'.Implied' c p a) = Implied (expr c.value) (assertion a)
+assertion (assertion'.Chosen' c p a q b) = Chosen (expr c.value) (assertion a) (assertion b)
+
+abbrev pub assertions : List (Rc assertion'.Assertion Global) → List Assertion
+assertions as' = map (λ a. assertion a.value) as'
 
 abbrev pub declaration : declaration'.Declaration → Declaration
 declaration d = record { name = string_bytes d.name.value; of = d.of }
@@ -52,11 +69,14 @@ abbrev mutual
   pub stmt : stmt'.Stmt → Stmt
   stmt (stmt'.Declare at x t) = Declare at (string_bytes x.value) t
   stmt (stmt'.Assign at x e) = Assign at (string_bytes x.value) (expr e.value)
+  stmt (stmt'.Write at e x e') = Write at (expr e.value) (string_bytes x.value) (expr e'.value)
+  stmt (stmt'.New at x fs) = New at (string_bytes x.value) (map (λ f. string_bytes f.value) fs.value.items)
   stmt (stmt'.Inhale at a) = Inhale at (assertion a.value)
   stmt (stmt'.Exhale at a) = Exhale at (assertion a.value)
   stmt (stmt'.Assert at a) = Assert at (assertion a.value)
   stmt (stmt'.Assume at e) = Assume at (expr e.value)
   stmt (stmt'.If' at e p a q b) = If at (expr e.value) (block a) (block b)
+  stmt (stmt'.While' at e is p b) = While at (expr e.value) (assertions is.items) (block b)
 
   pub block : block'.Block → Block
   block block'.Done = Done
@@ -65,9 +85,6 @@ abbrev mutual
 abbrev pub optional_block : Option (Rc block'.Block Global) → Option Block
 optional_block None = None
 optional_block (Some b) = Some (block b.value)
-
-abbrev pub assertions : List (Rc assertion'.Assertion Global) → List Assertion
-assertions as' = map (λ a. assertion a.value) as'
 
 abbrev pub method : method'.Method → Method
 method m = record {
@@ -80,6 +97,7 @@ method m = record {
 }
 
 abbrev pub kind : kind'.the_data → Kind
+kind (kind'.Field t) = IsField t
 kind (kind'.Method m) = IsMethod (method m.value)
 
 abbrev pub member : member'.Member → Member

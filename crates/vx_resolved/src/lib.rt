@@ -19,6 +19,13 @@ pub enum Operator {
     Multiply,
 }
 
+/// `\` and `%`: the divisor is asked about.
+#[derive(Clone, Copy, Debug, PartialEq, Eq)]
+pub enum Division {
+    Quotient,
+    Remainder,
+}
+
 /// `&&`, `||`, `==>`: the right part is looked at only where it is needed.
 #[derive(Clone, Copy, Debug, PartialEq, Eq)]
 pub enum Connective {
@@ -32,11 +39,18 @@ pub enum Connective {
 pub enum Expr {
     Number(Place, u128),
     Truth(Place, bool),
+    Null(Place),
+    /// `n/d`; `write` is 1/1, `none` is 0/1.
+    Part(Place, u128, u128),
     Variable(Place, Rc<String>),
     Not(Place, Rc<Expr>),
     Operate(Place, Operator, Rc<Expr>, Rc<Expr>),
+    Divide(Place, Division, Rc<Expr>, Rc<Expr>),
     Connect(Place, Connective, Rc<Expr>, Rc<Expr>),
     Choose(Place, Rc<Expr>, Rc<Expr>, Rc<Expr>),
+    /// `e.f`.
+    Read(Place, Rc<Expr>, Rc<String>),
+    Old(Place, Rc<Expr>),
 }
 
 /// What is assumed, or shown.
@@ -44,7 +58,13 @@ pub enum Expr {
 pub enum Assertion {
     /// No permission stands in it, and no `&&` at its top.
     Pure(Rc<Expr>),
+    /// `acc(e.f, p)`.
+    Points(Place, Rc<Expr>, Rc<String>, Rc<Expr>),
     Both(Rc<Assertion>, Rc<Assertion>),
+    /// `==>` with a permission in it.
+    Implied(Rc<Expr>, Rc<Assertion>),
+    /// `?:` with a permission in it.
+    Chosen(Rc<Expr>, Rc<Assertion>, Rc<Assertion>),
 }
 
 /// A variable with its type.
@@ -60,11 +80,17 @@ pub struct Declaration {
 pub enum Stmt {
     Declare(Place, Rc<String>, ValueType),
     Assign(Place, Rc<String>, Rc<Expr>),
+    /// `e.f := e'`.
+    Write(Place, Rc<Expr>, Rc<String>, Rc<Expr>),
+    /// A new reference, with the fields that are permitted.
+    New(Place, Rc<String>, Rc<Vec<Rc<String>>>),
     Inhale(Place, Rc<Assertion>),
     Exhale(Place, Rc<Assertion>),
     Assert(Place, Rc<Assertion>),
     Assume(Place, Rc<Expr>),
     If(Place, Rc<Expr>, Rc<Block>, Rc<Block>),
+    /// The condition, the invariants and the body.
+    While(Place, Rc<Expr>, Vec<Rc<Assertion>>, Rc<Block>),
 }
 
 /// A list of statements, any end of which a suspended execution can share.
@@ -103,6 +129,7 @@ pub struct Method {
 /// What a member is.
 #[derive(Drop)]
 pub enum Kind {
+    Field(ValueType),
     Method(Rc<Method>),
 }
 
