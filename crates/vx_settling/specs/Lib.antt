@@ -1,3 +1,2 @@
-pub mod Settled
 pub mod Refusals
 pub mod Parts

@@ -5,10 +5,8 @@ mod assertions;
 mod clauses;
 mod expr;
 mod members;
-mod settled;
 mod stmt;
 mod unsettled;
 
 pub use members::settle;
-pub use settled::Settled;
 pub use unsettled::Unsettled;

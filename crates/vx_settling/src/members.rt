@@ -9,7 +9,7 @@ ghost use Rattle.vx_resolved.specs.Resolved as view;
 ghost use Rattle.vx_ast.specs.Syntax as Syntax;
 ghost use Rattle.vx_resolved.specs.Executed.{is_executed_type, are_executed_types, is_executed_body, is_executed_kind, is_executed};
 ghost use Rattle.vx_settling.specs.Refusals.{Tells};
-ghost use Rattle.vx_settling.specs.Settled.{settled};
+ghost use Rattle.vx_resolved.specs.Settled.{settled};
 
 use crate::clauses::clauses;
 use crate::expr::shared;
