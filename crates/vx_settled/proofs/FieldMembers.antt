@@ -8,7 +8,7 @@ use Rattle.vx_ast.specs.declared.BinaryOperator.{BinaryOperator}
 use Rattle.vx_ast.specs.declared.BinaryOperator.TheVariants as binary
 use Rattle.vx_ast.specs.Written as written
 use Rattle.vx_ast.specs.Resolve as resolve
-use Rattle.vx_ast.specs.Resolve.{Names, names_of, whole, part_of, binary_of, expression, amount, access, is_pure, assertion, assertions}
+use Rattle.vx_ast.specs.Resolve.{Names, names_of, part_of, binary_of, expression, amount, access, is_pure, assertion, assertions}
 use Rattle.vx_ast.specs.Syntax as syntax
 use Rattle.vx_ast.specs.Syntax.{Member, Method, IsMethod, Expr, Assertion, Block}
 use Rattle.vx_resolved.specs.Executed.{is_executed_expr, is_executed_amount, are_executed, is_executed_right, is_executed_stmt, is_executed_other, is_executed_block, are_executed_clauses, is_executed_body, is_executed_kind, is_executed}
@@ -90,10 +90,12 @@ module _ (names : Names) where
       (of_fields a k.0, of_fields b k.1)
   of_fields (written.Binary at binary.Implies c a) h =
       let k = and_parts (is_executed_expr c) (is_executed_expr a) h in
-      either (is_pure names a) _ _ (in_fields (written.Binary at binary.Implies c a) h) (in_fields c k.0, of_fields a k.1)
+      let whole = syntax.Pure (expression (written.Binary at binary.Implies c a)) in
+      either (is_pure names a) whole (syntax.Implied (expression c) (assertion names a)) (in_fields (written.Binary at binary.Implies c a) h) (in_fields c k.0, of_fields a k.1)
   of_fields (written.Choice at c a b) h =
       let k = three (is_executed_expr c) (is_executed_expr a) (is_executed_expr b) h in
-      either (is_pure names a && is_pure names b) _ _ (in_fields (written.Choice at c a b) h) (in_fields c k.0, of_fields a k.1, of_fields b k.2)
+      let whole = syntax.Pure (expression (written.Choice at c a b)) in
+      either (is_pure names a && is_pure names b) whole (syntax.Chosen (expression c) (assertion names a) (assertion names b)) (in_fields (written.Choice at c a b) h) (in_fields c k.0, of_fields a k.1, of_fields b k.2)
   of_fields e h = in_fields e h
 
   all_of_fields : (es : written.Exprs) → are_executed es ≡ true → AreOfFields (assertions names es)
