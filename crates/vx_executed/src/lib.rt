@@ -1,11 +1,11 @@
 //! Which texts spell programs that are executed: those whose tokens are all executed.
 #![tactic(auto)]
 
-mod beyond;
-
-pub use beyond::beyond;
+mod scan;
 
 ghost use Rattle.vx_executed.specs.Agree.{ExecutedIsWithin, WithinIsExecuted};
+
+pub use scan::beyond;
 
 /// A text whose tokens are all executed spells a program that is executed.
 pub fn texts_within_are_executed()

@@ -1,10 +1,10 @@
-use Rattle.std.proofs.Common.{◌∙◌, ap, sym, subst, true, arith}
+use Rattle.std.proofs.Common.{◌∙◌, ap, sym, subst, arith}
 use Rattle.vx_tokens.specs.Tokens.{token_of, tokens_in}
 use Rattle.vx_tokens.specs.Text.{unmarked}
 use Rattle.vx_parser.specs.Answers.{Unsupported, Shows, AllStandIn}
 use Rattle.vx_parser.proofs.Told.{shown_short}
 use Rattle.vx_executed.proofs.First.{first_is}
-use Rattle.vx_executed.proofs.beyond.beyond.Goals as goal
+use Rattle.vx_executed.proofs.scan.beyond.Goals as goal
 
 -- what is answered of the first token beyond
 shows : (c : goal.After-drop-lexed) → (let t = token_of c.in-Some.token.now in Shows (unmarked c.args.text.now) c.unsupported.result (Unsupported t.place t.kind))
