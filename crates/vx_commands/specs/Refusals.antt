@@ -13,7 +13,7 @@ use Rattle.vx_parser.specs.Faults as text
 use Rattle.vx_parser.specs.Spelling.{Spells}
 use Rattle.vx_parser.specs.Refusing.{IsRefusal}
 use Rattle.vx_parser.specs.Answers.{IsAnswer, answer}
-use Rattle.vx_parser.specs.Store.{first_beyond, IsFirst}
+use Rattle.vx_executed.specs.Beyond.{first_beyond, IsFirst}
 use Rattle.vx_expressions.specs.declared.fault.TypeFault.{TypeFault}
 use Rattle.vx_expressions.specs.declared.fault.TypeFault.TheVariants as untyped
 use Rattle.vx_expressions.specs.Printed as type

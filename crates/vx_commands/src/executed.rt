@@ -6,8 +6,8 @@ ghost use Rattle.vx_typing.specs.Typed.{written_of};
 ghost use Rattle.vx_commands.specs.Refusals.{IsSpelledBy, IsFirstBeyond};
 
 use std::alloc::Global;
-use vx_parser::{TextFault, beyond_store};
-use vx_store::texts_within_are_executed;
+use vx_executed::{beyond, texts_within_are_executed};
+use vx_parser::TextFault;
 use vx_typing::Typed;
 
 /// The typed program that a text spells is executed. Otherwise the first token that isn't, in text order, is unsupported.
@@ -18,7 +18,7 @@ pub fn supported(alloc: Global, text: &[u8], typed: &Typed) -> Result<(), TextFa
     ensures beyond { IfErr result (λ f. IsFirstBeyond text.now f) }
 {
     texts_within_are_executed();
-    match beyond_store(alloc, text) {
+    match beyond(alloc, text) {
         None => Ok(()),
         Some(fault) => Err(fault),
     }

@@ -1,5 +1,5 @@
 -- The token at which a fault stands, and its text.
-use Rattle.std.proofs.Common.{◌≡◌, ◌∙◌, ℕ, zero, suc, ◌-◌, List, [], ◌∷◌, ◌++◌, length, Option, Some, None, Result, Ok, Err, false, refl, sym, ap, subst, arith}
+use Rattle.std.proofs.Common.{◌≡◌, ◌∙◌, ℕ, zero, suc, ◌-◌, List, [], ◌∷◌, ◌++◌, length, Option, Some, None, Result, Ok, Err, refl, sym, ap, subst, arith}
 use Rattle.std.specs.Prelude.{option_map}
 use Rattle.std.specs.List.{slice_get}
 use Rattle.std.specs.Str.{IsUtf8}
@@ -13,8 +13,7 @@ use Rattle.vx_grammar.specs.MemberReading as members
 use Rattle.vx_ast.specs.Written.{Program}
 use Rattle.vx_parser.specs.declared.fault.TextFault as the_fault
 use Rattle.vx_parser.specs.declared.fault.TextFault.TheVariants as faults
-use Rattle.vx_parser.specs.Store.{first_beyond, IsFirst}
-use Rattle.vx_parser.specs.Answers.{Fault, Unsupported, rest_of, fault_at, IsAnswer, Shows, StandsIn, AllStandIn, EndsWith, FaultsAt, FaultsAs}
+use Rattle.vx_parser.specs.Answers.{Fault, rest_of, fault_at, IsAnswer, Shows, StandsIn, AllStandIn, EndsWith, FaultsAt, FaultsAs}
 
 -- a token's text is text
 pub is_text : (bytes : List ℕ) (t : the_token.Token) → StandsIn bytes t → IsUtf8 t.text.now
@@ -61,7 +60,3 @@ answered_short bytes f r h e = by_answer r (subst (λ x. IsAnswer bytes (Err x) 
     by_answer : (r : Result Program Fault) → IsAnswer bytes (Err faults.TooLong) r → ⊥
     by_answer (Ok p) k = k
     by_answer (Err g) k = k
-
--- the first token that the store language lacks
-pub first_is : (bytes : List ℕ) (f : the_fault.TextFault) (t : Token) (ts us : List Token) → Some t ≡ first_beyond false us → us ≡ ts → Shows bytes f (Unsupported t.place t.kind) → IsFirst bytes (Some f) (first_beyond false ts)
-first_is bytes f t ts us e same s = subst (λ l. IsFirst bytes (Some f) (first_beyond false l)) same (subst (IsFirst bytes (Some f)) e s)

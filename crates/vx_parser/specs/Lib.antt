@@ -3,6 +3,5 @@ pub mod Answers
 pub mod Halting
 pub mod Refusing
 pub mod Spelling
-pub mod Store
 pub mod StmtPart
 pub mod Views

@@ -6,8 +6,6 @@ mod member;
 mod program;
 mod stmt;
 mod stop;
-mod store;
 
 pub use fault::TextFault;
-pub use program::parse;
-pub use store::beyond_store;
+pub use program::{parse, unsupported};

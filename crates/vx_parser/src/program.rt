@@ -204,7 +204,7 @@ fn token_fault(alloc: Global, halt: Halt, token: &Token) -> TextFault
         Halt::Inside(MemberStop::Stopped(Stop::Unexpected(_))) => {
             unfit(alloc, token, is_foreign(token.kind))
         }
-        Halt::Inside(MemberStop::Stopped(Stop::Measured(_))) => unfit(alloc, token, true),
+        Halt::Inside(MemberStop::Stopped(Stop::Measured(_))) => unsupported(alloc, token),
         Halt::Inside(MemberStop::Stopped(Stop::TooDeep(_))) => TextFault::TooDeep(token.place),
         Halt::Inside(MemberStop::Bodiless(_)) => bodiless(alloc, token.place),
         Halt::Inside(MemberStop::MeasuredTwice(_)) => unfit(alloc, token, false),
@@ -223,8 +223,15 @@ fn bodiless(alloc: Global, place: Place) -> TextFault
     }
 }
 
-/// A token where no program goes on with it.
-pub fn unfit(alloc: Global, token: &Token, foreign: bool) -> TextFault
+/// A token that is refused by its text.
+pub fn unsupported(alloc: Global, token: &Token) -> TextFault
+    ensures { (bytes : List ℕ) → answers.StandsIn bytes token.now → answers.Shows bytes result (answers.Unsupported token.now.place (kind_of token.now.kind)) }
+{
+    unfit(alloc, token, true)
+}
+
+// A token where no program goes on with it.
+fn unfit(alloc: Global, token: &Token, foreign: bool) -> TextFault
     ensures { (bytes : List ℕ) → answers.StandsIn bytes token.now → answers.Shows bytes result (answers.unfit_token foreign (token_of token.now)) }
 {
     match String::from_utf8_lossy(alloc, token.text) {

@@ -15,7 +15,8 @@ use vx_edge::ChildSpawner;
 use vx_ends::{
     Bytes, Ending, MemFiles, MemSink, NamedText, Parts, Piece, Script, ScriptSpawner, Spawner,
 };
-use vx_parser::{TextFault, beyond_store, parse};
+use vx_executed::beyond;
+use vx_parser::{TextFault, parse};
 use vx_report::{Cause, MemberRun, Verdict};
 
 // The place, code, name and argument of a fault.
@@ -42,7 +43,7 @@ fn read_as(alloc: Global, text: &[u8]) -> Result<String, AllocError> {
 
 // The first token that is not executed.
 fn first_beyond(alloc: Global, text: &[u8]) -> Result<String, AllocError> {
-    match beyond_store(alloc, text) {
+    match beyond(alloc, text) {
         None => String::from_str(alloc, "none"),
         Some(fault) => fault_line(alloc, &fault),
     }

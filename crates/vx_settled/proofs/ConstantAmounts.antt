@@ -1,14 +1,13 @@
 -- An amount that is known without running has one value in every state, also when it is settled.
-use Rattle.std.proofs.Common.{◌≡◌, ◌∙◌, ◌&&◌, ℕ, Bool, true, false, pos, List, [], ◌∷◌, Some, refl, sym, ap, subst}
+use Rattle.std.proofs.Common.{◌≡◌, ◌∙◌, ◌&&◌, ℕ, Bool, true, false, pos, Some, refl, sym, ap, subst}
 use Rattle.std.specs.Prelude.{if◌then◌else◌}
 use Rattle.std.proofs.lemmas.Bool.{and_from, and_left, and_right}
 use Rattle.vx_ast.specs.declared.Place.{Place}
 use Rattle.vx_ast.specs.declared.ValueType.{ValueType}
-use Rattle.vx_ast.specs.declared.ValueType.TheVariants as type
 use Rattle.vx_ast.specs.declared.BinaryOperator.TheVariants as binary
 use Rattle.vx_ast.specs.Written as written
 use Rattle.vx_ast.specs.Resolve.{Names, whole, expression, expressions, amount, is_pure, assertion}
-use Rattle.vx_ast.specs.Syntax.{Program, Expr, Part, Operate, Add, Subtract, Multiply, Number, Pure, Instance, Implied, Chosen}
+use Rattle.vx_ast.specs.Syntax.{Program, Expr, Operate, Add, Subtract, Multiply, Number, Pure, Instance, Implied, Chosen}
 use Rattle.vx_frac.specs.Fractions.{Fraction, none, full, sum, difference, product, over, lowest, is_positive}
 use Rattle.vx_frac.specs.Fractions as number
 use Rattle.vx_amounts.proofs.Amounts.{Positive, Same, positive-le, same-refl, same-sym, same-trans, same-lowest', sum_same, difference_same, product_same}

@@ -3,7 +3,7 @@ pub mod TypedExprs
 pub mod TypedClaims
 pub mod TypedStmts
 pub mod TypedMembers
-pub mod StoreMembers
+pub mod FieldMembers
 pub mod MentionedUses
 pub mod EnteredUses
 pub mod NumberedNames

@@ -1,5 +1,5 @@
 -- A program that is typed as it is written is typed as a whole when it is settled.
-use Rattle.std.proofs.Common.{◌≡◌, ◌∙◌, ◌⊎◌, inl, inr, ◌++◌, ◌||◌, ℕ, zero, suc, Bool, true, false, List, [], ◌∷◌, Option, Some, None, map, slice_get, refl, sym, ap, subst}
+use Rattle.std.proofs.Common.{◌≡◌, ◌∙◌, inl, inr, ◌++◌, ◌||◌, ℕ, zero, suc, Bool, true, false, List, [], ◌∷◌, Option, Some, None, map, slice_get, refl, sym, ap, subst}
 use Rattle.std.specs.Prelude.{⊤, if◌then◌else◌}
 use Rattle.vx_ast.specs.declared.Place.{Place}
 use Rattle.vx_ast.specs.declared.ValueType.{ValueType}
@@ -9,24 +9,22 @@ use Rattle.vx_ast.specs.Written as written
 use Rattle.vx_ast.specs.Written.{Name}
 use Rattle.vx_ast.specs.Resolve as resolve
 use Rattle.vx_ast.specs.Resolve.{Names, assertion, expression, expressions, names_of}
-use Rattle.vx_ast.specs.Syntax.{same_name, result_name, Declaration, Assertion, Program, Member, Measure, ByNumber, ByInstance, Kind, IsField, IsPredicate, IsFunction, IsMethod, Predicate, Function, Method, member_named, predicate_in, function_in, method_in, predicate_named, function_named, method_named}
+use Rattle.vx_ast.specs.Syntax.{same_name, result_name, Assertion, Program, Member, ByNumber, ByInstance, Kind, IsField, IsPredicate, IsFunction, IsMethod, Predicate, Function, Method, member_named, predicate_in, function_in, method_in, predicate_named}
 use Rattle.vx_terms.specs.Interpretations.{Each}
 use Rattle.vx_typing.specs.declared.names.Role.TheVariants.{Input}
 use Rattle.vx_expressions.specs.Scopes as scopes
 use Rattle.vx_expressions.specs.Scopes.{named}
 use Rattle.vx_typing.specs.Roles.{takes, with_variable, with_variables}
-use Rattle.vx_expressions.specs.Settings as settings
-use Rattle.vx_expressions.specs.Settings.{Table, Setting, plainly, before_function, after_function, within_measure, within_predicate}
+use Rattle.vx_expressions.specs.Settings.{Table, plainly, before_function, after_function, within_measure, within_predicate}
 use Rattle.vx_expressions.specs.Typing as typing
 use Rattle.vx_typing.specs.Statements.{AreNew}
 use Rattle.vx_typing.specs.Members as members
 use Rattle.vx_typing.specs.Members.{table_of, AreDeclared, AreTypedClauses, IsMeasure, AreTypedMembers, IsTypedKind}
-use Rattle.vx_typing.specs.Programs.{IsTyped}
 use Rattle.vx_types.specs.Typing as settled_typing
 use Rattle.vx_types.specs.Typing.{Scope, type_in, AreOnce, HaveNoPerm, HasType, AllTyped, AreTruths, IsTypedContent, IsTypedMeasure, IsTypedPredicate, IsTypedFunction, IsTypedMethod}
-use Rattle.vx_whole.specs.Premises.{HasConstantAmounts, IsTypedProgram}
+use Rattle.vx_whole.specs.Premises.{HasConstantAmounts}
 use Rattle.vx_settled.specs.WhenSettled.{LeavesResult, LeaveResults, TypedProgramWhenSettled}
-use Rattle.vx_settled.proofs.TypedNames.{Knows, knows, same_refl, same_is, differs_back, Absent, absent, among_last}
+use Rattle.vx_settled.proofs.TypedNames.{Knows, knows, same_refl, differs_back, Absent, absent, among_last}
 use Rattle.vx_settled.proofs.TypedExprs.{Sees, typed, all_typed}
 use Rattle.vx_settled.proofs.TypedClaims.{claim}
 use Rattle.vx_settled.proofs.ConstantAmounts.{claim_amounts}

@@ -1,5 +1,5 @@
 -- What is typed as it is written is typed when it is settled, as a whole and member by member, and keeps its members apart;
--- what is executed is of the store language then.
+-- what is executed is of the language with fields then.
 use Rattle.std.specs.Prelude.{◌≡◌, ◌≤◌, ℕ, true, false, List, [], ◌∷◌, Some, map, slice_get, ⊤}
 use Rattle.vx_ast.specs.Mentions.{is_among}
 use Rattle.vx_ast.specs.Written as written
@@ -12,7 +12,7 @@ use Rattle.vx_rules.specs.Rules.{outer}
 use Rattle.vx_rules.specs.Members.{depth, tree_over, tree}
 use Rattle.vx_depth.specs.Apart.{KeepsApart}
 use Rattle.vx_whole.specs.Premises.{IsTypedProgram}
-use Rattle.vx_types.specs.StoreLanguage.{IsStoreMethod}
+use Rattle.vx_types.specs.FieldLanguage.{IsFieldMethod}
 
 -- this holds of the methods of a program
 abbrev pub OfMethods : Program → (Method → Type 0) → Type 0
@@ -22,8 +22,8 @@ OfMethods p Holds = (n : ℕ) (x : Member) (m : Method) → slice_get p n ≡ So
 abbrev pub TypedWhenSettled : Type 0
 TypedWhenSettled = (p : written.Program) → IsTyped p → OfMethods (program p) (IsTypedMethod (program p))
 
-abbrev pub InStoreWhenSettled : Type 0
-InStoreWhenSettled = (p : written.Program) → is_executed p ≡ true → OfMethods (program p) IsStoreMethod
+abbrev pub InFieldsWhenSettled : Type 0
+InFieldsWhenSettled = (p : written.Program) → is_executed p ≡ true → OfMethods (program p) IsFieldMethod
 
 -- no member is entered within itself in what is typed
 abbrev pub KeptApartWhenSettled : Type 0

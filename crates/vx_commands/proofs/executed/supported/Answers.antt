@@ -2,7 +2,7 @@ use Rattle.std.proofs.Common.{◌≡◌, ℕ, List, Option, Some, None, false, r
 use Rattle.vx_tokens.specs.Tokens.{Token}
 use Rattle.vx_tokens.specs.Text.{unmarked}
 use Rattle.vx_typing.specs.Typed.{written_of}
-use Rattle.vx_parser.specs.Store.{IsFirst, first_beyond}
+use Rattle.vx_executed.specs.Beyond.{IsFirst, first_beyond}
 use Rattle.vx_commands.proofs.executed.supported.Goals as goal
 
 none_is : (bytes : List ℕ) (o : Option Token) → IsFirst bytes None o → o ≡ None

@@ -1,8 +1,8 @@
 use Rattle.std.proofs.Common.{◌≡◌, ℕ, List, false, ◌+◌, length}
 use Rattle.vx_tokens.specs.Tokens.{tokens_in}
 use Rattle.vx_parser.specs.Answers.{AllStandIn}
-use Rattle.vx_parser.specs.Store.{first_beyond}
-use Rattle.vx_parser.proofs.store.first_beyond.Given as goal
+use Rattle.vx_executed.specs.Beyond.{first_beyond}
+use Rattle.vx_executed.proofs.scan.first_beyond.Given as goal
 
 -- what is left has the same first token beyond, as many tokens as there are turns left, and tokens of the text
 abbrev pub invariant-loop : goal.invariant-loop

@@ -1,25 +1,23 @@
-//! Texts within the store language.
+//! The first token of a text that is not executed.
 
 ghost use Rattle.std.specs.Prelude.{◌≡◌, ◌≤◌, ◌<◌, ◌↔◌, ℕ, List, length, Some, IfSome, option_map, false};
 ghost use Rattle.vx_parser.specs.Answers.{StandsIn, AllStandIn};
 ghost use Rattle.vx_tokens.specs.Text.{Scans, first_place, unmarked, Ending as End};
 ghost use Rattle.vx_tokens.specs.Tokens.{kind_of, token_of, tokens_in, Token as Tok};
-ghost use Rattle.vx_parser.specs.Store as store;
+ghost use Rattle.vx_executed.specs.Beyond as executed;
 ghost use Rattle.vx_parser.specs.declared.fault.TextFault.TheVariants as faults;
 
-use crate::fault::TextFault;
-use crate::program::unfit;
 use std::alloc::Global;
 use vx_expr_parser::same;
+use vx_parser::{TextFault, unsupported};
 use vx_tokens::{Kind, MAX_TEXT, Symbol, Token, Word, lex};
 
-/// Why a text leaves the store language: at its first token that the store language lacks, which is answered as
-/// unsupported. Memory may also run out.
-pub fn beyond_store(alloc: Global, text: &[u8]) -> Option<TextFault>
+/// Why a text is not executed: its first token that isn't, which is answered as unsupported. Memory may also run out.
+pub fn beyond(alloc: Global, text: &[u8]) -> Option<TextFault>
     // A text is too long exactly above 4,194,304 bytes.
     ensures too_long { result ≡ Some faults.TooLong ↔ (4194304 < length text.now) }
-    // The first token that the store language lacks is answered, with its text, and none where it lacks none.
-    ensures first { length text.now ≤ 4194304 → (ts : List Tok) (e : End) → Scans first_place (unmarked text.now) ts e → store.IsFirst (unmarked text.now) result (store.first_beyond false ts) }
+    // The first token that is not executed is answered, with its text, and none where all are.
+    ensures first { length text.now ≤ 4194304 → (ts : List Tok) (e : End) → Scans first_place (unmarked text.now) ts e → executed.IsFirst (unmarked text.now) result (executed.first_beyond false ts) }
 {
     if text.len() > MAX_TEXT {
         return Some(TextFault::TooLong);
@@ -27,14 +25,14 @@ pub fn beyond_store(alloc: Global, text: &[u8]) -> Option<TextFault>
     match lex(alloc, text) {
         Err(_) => Some(TextFault::Want),
         Ok(lexed) => match first_beyond(lexed.tokens.as_slice()) {
-            Some(token) => Some(unfit(alloc, token, true)),
+            Some(token) => Some(unsupported(alloc, token)),
             None => None,
         },
     }
 }
 
 fn first_beyond<'t>(tokens: &'t [Token<'t>]) -> Option<&'t Token<'t>>
-    ensures first { option_map (λ t. token_of t.now) result ≡ store.first_beyond false (tokens_in tokens.now) }
+    ensures first { option_map (λ t. token_of t.now) result ≡ executed.first_beyond false (tokens_in tokens.now) }
     ensures stands { (bytes : List ℕ) → AllStandIn bytes tokens.now → IfSome result (λ t. StandsIn bytes t.now) }
 {
     let mut rest = tokens;
@@ -52,15 +50,15 @@ fn first_beyond<'t>(tokens: &'t [Token<'t>]) -> Option<&'t Token<'t>>
     None
 }
 
-// A token that the store language lacks, or the name of a call or an application, where a method's name is due or not.
+// A word that is not executed, or the name of a call or an application, where a method's name is due or not.
 fn is_beyond(declared: bool, first: &Token, rest: &[Token]) -> bool
-    ensures { result ≡ store.is_beyond declared (token_of first.now) (tokens_in rest.now) }
+    ensures { result ≡ executed.is_beyond declared (token_of first.now) (tokens_in rest.now) }
 {
     is_beyond_kind(first.kind) || (!declared && is_name(first.kind) && opens(rest))
 }
 
 fn opens(tokens: &[Token]) -> bool
-    ensures { result ≡ store.opens (tokens_in tokens.now) }
+    ensures { result ≡ executed.opens (tokens_in tokens.now) }
 {
     match tokens.split_first() {
         None => false,
@@ -69,66 +67,44 @@ fn opens(tokens: &[Token]) -> bool
 }
 
 fn is_open(kind: Kind) -> bool
-    ensures { result ≡ store.is_open (kind_of kind.entry) }
+    ensures { result ≡ executed.is_open (kind_of kind.entry) }
 {
     matches!(kind, Kind::Symbol(Symbol::Open))
 }
 
 fn is_name(kind: Kind) -> bool
-    ensures { result ≡ store.is_name (kind_of kind.entry) }
+    ensures { result ≡ executed.is_name (kind_of kind.entry) }
 {
     matches!(kind, Kind::Name(_))
 }
 
 fn is_method(kind: Kind) -> bool
-    ensures { result ≡ store.is_method (kind_of kind.entry) }
+    ensures { result ≡ executed.is_method (kind_of kind.entry) }
 {
     matches!(kind, Kind::Word(Word::Method))
 }
 
-// A word or sign that the store language lacks.
+// A word that is not executed. All signs are.
 fn is_beyond_kind(kind: Kind) -> bool
-    ensures { result ≡ store.is_beyond_kind (kind_of kind.entry) }
+    ensures { result ≡ executed.is_beyond_kind (kind_of kind.entry) }
 {
     match kind {
         Kind::Word(word) => is_beyond_word(word),
-        Kind::Symbol(symbol) => is_beyond_symbol(symbol),
-        _ => false,
+        Kind::Symbol(_) | Kind::Name(_) | Kind::Number(_) => false,
     }
 }
 
-fn is_beyond_symbol(symbol: Symbol) -> bool
-    ensures { result ≡ store.is_beyond_symbol symbol }
-{
-    matches!(
-        symbol,
-        Symbol::Slash | Symbol::Backslash | Symbol::Percent | Symbol::Dot
-    )
-}
-
 fn is_beyond_word(word: Word) -> bool
-    ensures { result ≡ store.is_beyond_word word }
+    ensures { result ≡ executed.is_beyond_word word }
 {
     matches!(
         word,
-        Word::Field
-            | Word::Predicate
+        Word::Predicate
             | Word::Function
             | Word::Decreases
-            | Word::Ref
-            | Word::Perm
-            | Word::Null
-            | Word::Write
-            | Word::Nothing
-            | Word::Outcome
-            | Word::Old
-            | Word::Acc
-            | Word::New
             | Word::Fold
             | Word::Unfold
             | Word::Unfolding
             | Word::In
-            | Word::While
-            | Word::Invariant
     )
 }

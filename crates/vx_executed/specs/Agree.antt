@@ -3,12 +3,12 @@ use Rattle.std.specs.Prelude.{◌≡◌, ℕ, List, true, false, None}
 use Rattle.vx_ast.specs.Written as written
 use Rattle.vx_resolved.specs.Executed.{is_executed}
 use Rattle.vx_parser.specs.Spelling.{Spells}
-use Rattle.vx_parser.specs.Store.{first_beyond}
+use Rattle.vx_executed.specs.Beyond.{first_beyond}
 
--- A text without a token beyond the store language spells a program that is executed.
+-- A text without a token beyond what is executed spells a program that is executed.
 abbrev pub WithinIsExecuted : Type 0
 WithinIsExecuted = (text : List ℕ) (p : written.Program) (s : Spells text p) → first_beyond false s.tokens ≡ None → is_executed p ≡ true
 
--- A text that spells a program that is executed has no token beyond the store language.
+-- A text that spells a program that is executed has no token beyond that.
 abbrev pub ExecutedIsWithin : Type 0
 ExecutedIsWithin = (text : List ℕ) (p : written.Program) (s : Spells text p) → is_executed p ≡ true → first_beyond false s.tokens ≡ None

@@ -1,9 +1,8 @@
--- The words and signs of Viper (VMCAI 2016), as they are parsed, that the store language lacks: its programs have no heap,
--- so no fields, no references, no permissions and no predicates, no functions, no calls, and no loops.
+-- The tokens of Viper (VMCAI 2016), as they are parsed, that are not executed so far: the words of predicates, of functions
+-- and of what unfolds, and the name of a call or an application.
 use Rattle.std.specs.Prelude.{◌≡◌, ℕ, Bool, true, false, not, ◌&&◌, ◌||◌, if◌then◌else◌, List, [], ◌∷◌, Option, Some, None}
 use Rattle.vx_tokens.specs.declared.token.Word.{Word}
 use Rattle.vx_tokens.specs.declared.token.Word.TheVariants as words
-use Rattle.vx_tokens.specs.declared.token.Symbol.{Symbol}
 use Rattle.vx_tokens.specs.declared.token.Symbol.TheVariants as signs
 use Rattle.vx_tokens.specs.Tokens.{Kind, name, number, word, symbol, Token}
 use Rattle.vx_parser.specs.Answers.{Unsupported, Shows}
@@ -11,37 +10,19 @@ use Rattle.vx_parser.specs.declared.fault.TextFault as the_fault
 use Rattle.vx_parser.specs.declared.fault.TextFault.TheVariants as faults
 
 abbrev pub is_beyond_word : Word → Bool
-is_beyond_word words.Field = true
 is_beyond_word words.Predicate = true
 is_beyond_word words.Function = true
 is_beyond_word words.Decreases = true
-is_beyond_word words.Ref = true
-is_beyond_word words.Perm = true
-is_beyond_word words.Null = true
-is_beyond_word words.Write = true
-is_beyond_word words.Nothing = true
-is_beyond_word words.Outcome = true
-is_beyond_word words.Old = true
-is_beyond_word words.Acc = true
-is_beyond_word words.New = true
 is_beyond_word words.Fold = true
 is_beyond_word words.Unfold = true
 is_beyond_word words.Unfolding = true
 is_beyond_word words.In = true
-is_beyond_word words.While = true
-is_beyond_word words.Invariant = true
 is_beyond_word w = false
 
-abbrev pub is_beyond_symbol : Symbol → Bool
-is_beyond_symbol signs.Slash = true
-is_beyond_symbol signs.Backslash = true
-is_beyond_symbol signs.Percent = true
-is_beyond_symbol signs.Dot = true
-is_beyond_symbol s = false
-
+-- all signs are executed
 abbrev pub is_beyond_kind : Kind → Bool
 is_beyond_kind (word w) = is_beyond_word w
-is_beyond_kind (symbol s) = is_beyond_symbol s
+is_beyond_kind (symbol s) = false
 is_beyond_kind (name x) = false
 is_beyond_kind (number n) = false
 
@@ -67,7 +48,7 @@ opens (t ∷ ts) = is_open t.kind
 abbrev pub is_beyond : (declared : Bool) → Token → List Token → Bool
 is_beyond declared t rest = is_beyond_kind t.kind || (not declared && (is_name t.kind && opens rest))
 
--- the first token that the store language lacks, where a method's name is due or not
+-- the first token that is not executed, where a method's name is due or not
 abbrev pub first_beyond : (declared : Bool) → List Token → Option Token
 first_beyond declared [] = None
 first_beyond declared (t ∷ ts) = if is_beyond declared t ts then Some t else first_beyond (is_method t.kind) ts

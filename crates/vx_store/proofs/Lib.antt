@@ -1,2 +1,0 @@
-mod Passes
-mod Within

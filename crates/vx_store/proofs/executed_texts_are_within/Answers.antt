@@ -1,5 +1,0 @@
-use Rattle.vx_store.proofs.Within.{tokens_within}
-use Rattle.vx_store.proofs.executed_texts_are_within.Goals as goal
-
-pub returns : goal.returns
-returns c = λ text p s e. tokens_within s.tokens p s.within.spelled e
