@@ -1,3 +1,4 @@
 pub mod Settled
 pub mod Refusals
 pub mod Parts
+pub mod Fields

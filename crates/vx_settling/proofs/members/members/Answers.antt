@@ -4,6 +4,8 @@ use Rattle.vx_ast.specs.Resolve as resolve
 use Rattle.vx_resolved.specs.Resolved as view
 use Rattle.vx_ast.specs.Written.{written_member}
 use Rattle.vx_resolved.specs.Executed.{is_executed_kind, is_executed}
+use Rattle.vx_settling.specs.Parts.{over}
+use Rattle.vx_settling.specs.Fields.{names_in}
 use Rattle.vx_settling.proofs.Loops.{goes_on, ends, one_more}
 use Rattle.vx_settling.proofs.Refused.{passed}
 use Rattle.vx_settling.proofs.members.members.Goals as goal
@@ -13,9 +15,9 @@ loop-m-preserved c =
     let all = c.args.all.now in
     let m = c.in_ok-member.field-0 in
     record {
-      settled = λ names. ap (map view.member) c.in_ok-push.ensures.items
-          ∙ one_more view.member (resolve.member names) written_member c.loop-m.settled.items m all c.loop-m.m-index c.m-item.result c.loop-m-test.true c.m-item.is
-          (c.in_ok-member.ensures.settled names) (c.loop-m.invariant.settled names);
+      settled = λ p q. ap (map view.member) c.in_ok-push.ensures.items
+          ∙ one_more view.member (resolve.member (over (names_in c.args.fields.now) p q)) written_member c.loop-m.settled.items m all c.loop-m.m-index c.m-item.result c.loop-m-test.true c.m-item.is
+          (c.in_ok-member.ensures.settled p q) (c.loop-m.invariant.settled p q);
       executed = goes_on (λ ms. is_executed (map written_member ms)) (λ (x : Member). is_executed_kind (written_member x).kind) (λ _ _. refl) all c.loop-m.m-index c.m-item.result
           c.loop-m-test.true c.m-item.is c.in_ok-member.ensures.executed c.loop-m.invariant.executed;
     }
