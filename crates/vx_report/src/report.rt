@@ -94,6 +94,7 @@ fn kind_word(kind: &Kind) -> &'static str
     ensures { result.now ≡ spec.kind_word (kind_of kind.now) }
 {
     match kind {
+        Kind::Field(_) => "field",
         Kind::Method(_) => "method",
     }
 }

@@ -1,11 +1,11 @@
 -- In what is executed nothing is applied, so whether a permission stands in it can be seen from its form.
-use Rattle.std.proofs.Common.{◌≡◌, ◌∙◌, Bool, true, false, refl, sym, ap, ap₂}
+use Rattle.std.proofs.Common.{◌≡◌, ◌∙◌, true, false, refl, sym, ap, ap₂}
 use Rattle.std.proofs.lemmas.Bool.{and_parts}
 use Rattle.std.specs.Prelude.{◌&&◌, if◌then◌else◌}
 use Rattle.vx_ast.specs.declared.Place.{Place}
 use Rattle.vx_ast.specs.declared.BinaryOperator.TheVariants as binary
 use Rattle.vx_ast.specs.Written as written
-use Rattle.vx_ast.specs.Syntax.{Assertion, Pure, Implied, Chosen}
+use Rattle.vx_ast.specs.Syntax.{Pure, Implied, Chosen}
 use Rattle.vx_ast.specs.Resolve.{Names, is_pure, expression, assertion}
 use Rattle.vx_resolved.specs.Executed.{is_executed_expr}
 use Rattle.vx_settling.specs.Parts.{is_pure_form, is_alone}

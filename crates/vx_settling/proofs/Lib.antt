@@ -4,3 +4,4 @@ pub mod Loops
 pub mod Methods
 pub mod Refused
 pub mod Statements
+pub mod Tables

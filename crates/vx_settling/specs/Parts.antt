@@ -30,6 +30,9 @@ is_alone e = true
 abbrev pub listed : List (Rc (String Global) Global) → List Name
 listed xs = map (λ x. string_bytes x.value) xs
 
+abbrev pub bare : List written.Placed → List Name
+bare xs = map (λ x. x.name) xs
+
 -- the fields of a program, and any predicates and methods: these are not asked for where nothing is called
 abbrev pub over : List Name → (Name → Bool) → (Name → Bool) → Names
 over fields is_predicate is_method = record { is_predicate = is_predicate; is_method = is_method; fields = fields }

@@ -5,9 +5,11 @@ mod assertions;
 mod clauses;
 mod expr;
 mod fields;
+mod lookups;
 mod members;
 mod settled;
 mod stmt;
+mod types;
 mod unsettled;
 
 pub use members::settle;

@@ -85,11 +85,7 @@ fn method(
 }
 
 // A member, settled.
-fn member(
-    alloc: Global,
-    fields: &Fields,
-    m: &Member,
-) -> Result<vx_resolved::Member, Unsettled>
+fn member(alloc: Global, fields: &Fields, m: &Member) -> Result<vx_resolved::Member, Unsettled>
     ensures settled { IfOk result (λ r. (is_predicate is_method : Syntax.Name → Bool) → view.member r ≡ resolve.member (over (names_in fields.now) is_predicate is_method) (written_member m.now)) }
     ensures executed { Tells result (is_executed_kind (written_member m.now).kind) }
 {
@@ -133,7 +129,5 @@ pub fn settle(alloc: Global, p: &Program) -> Result<Settled, Unsettled>
 {
     let fields = all_fields(alloc, &p.members)?;
     let members = members(alloc, &fields, &p.members)?;
-    Ok(Settled {
-        program: vx_resolved::Program { members },
-    })
+    Ok(Settled::new(alloc, vx_resolved::Program { members })?)
 }

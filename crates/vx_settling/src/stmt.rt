@@ -7,7 +7,7 @@ ghost use Rattle.vx_ast.specs.Resolve as resolve;
 ghost use Rattle.vx_resolved.specs.Resolved as settled;
 ghost use Rattle.vx_ast.specs.Syntax as Syntax;
 ghost use Rattle.vx_resolved.specs.Executed.{is_executed_right, is_executed_stmt, is_executed_block, is_executed_other, is_executed_expr};
-ghost use Rattle.vx_settling.specs.Parts.{listed, onto, over, stmts};
+ghost use Rattle.vx_settling.specs.Parts.{bare, listed, onto, over, stmts};
 ghost use Rattle.vx_settling.specs.Fields.{names_in};
 ghost use Rattle.vx_settling.specs.Refusals.{Tells};
 
@@ -25,7 +25,7 @@ pub type Settled = Vec<Rc<vx_resolved::Stmt>>;
 
 // Names, each with its own copy.
 fn copied(alloc: Global, names: &[Name]) -> Result<Rc<SharedNames>, AllocError>
-    ensures { IfOk result (λ xs. listed xs.value.items ≡ resolve.names_in (map name_of names.now)) }
+    ensures { IfOk result (λ xs. listed xs.value.items ≡ bare (map name_of names.now)) }
 {
     let mut copies = Vec::new(alloc);
     for name in names {
@@ -187,7 +187,11 @@ fn write(
     let e = expression(alloc, e)?;
     let value = expression(alloc, value)?;
     let field = shared(alloc, &field.text)?;
-    put(alloc, block, vx_resolved::Stmt::Write(place, e, field, value))?;
+    put(
+        alloc,
+        block,
+        vx_resolved::Stmt::Write(place, e, field, value),
+    )?;
     Ok(())
 }
 
@@ -206,7 +210,12 @@ fn linked(alloc: Global, done: Settled) -> Result<Rc<Block>, AllocError>
 
 // The statements of a block, in order.
 #[cycle(settling)]
-fn statements(alloc: Global, fields: &Fields, all: &[Stmt], done: &mut Settled) -> Result<(), Unsettled>
+fn statements(
+    alloc: Global,
+    fields: &Fields,
+    all: &[Stmt],
+    done: &mut Settled,
+) -> Result<(), Unsettled>
     ensures settled { OnOk result ((is_predicate is_method : Syntax.Name → Bool) → onto (stmts done.new.items) Syntax.Done ≡ onto (stmts done.old.items) (resolve.block (over (names_in fields.now) is_predicate is_method) (written_list all.now))) }
     ensures executed { Tells result (is_executed_block (written_list all.now)) }
 {
@@ -229,7 +238,11 @@ pub fn block(alloc: Global, fields: &Fields, b: &vx_ast::Block) -> Result<Rc<Blo
 
 // The other side of an `if`: none is the empty block.
 #[cycle(settling)]
-fn other_block(alloc: Global, fields: &Fields, other: &Option<Rc<vx_ast::Block>>) -> Result<Rc<Block>, Unsettled>
+fn other_block(
+    alloc: Global,
+    fields: &Fields,
+    other: &Option<Rc<vx_ast::Block>>,
+) -> Result<Rc<Block>, Unsettled>
     ensures settled { IfOk result (λ r. (is_predicate is_method : Syntax.Name → Bool) → settled.block r.value ≡ resolve.other_side (over (names_in fields.now) is_predicate is_method) (optional_other other.now)) }
     ensures executed { Tells result (is_executed_other (optional_other other.now)) }
 {
@@ -248,7 +261,9 @@ fn statement(alloc: Global, fields: &Fields, s: &Stmt, done: &mut Settled) -> Re
 {
     let place = s.place;
     match &s.kind {
-        StmtKind::Declare(declared, right) => declared_by(alloc, fields, place, declared, right, done),
+        StmtKind::Declare(declared, right) => declared_by(
+            alloc, fields, place, declared, right, done,
+        ),
         StmtKind::Assign(name, right) => assigned(alloc, fields, place, name, right, done),
         StmtKind::Write(e, field, value) => write(alloc, place, e, field, value, done),
         StmtKind::Inhale(e) => inhaled(alloc, place, e, done),

@@ -243,6 +243,7 @@ fn has_line(kind: &Kind) -> bool
     ensures { result ≡ has_line (kind_of kind.now) }
 {
     match kind {
+        Kind::Field(_) => false,
         Kind::Method(_) => true,
     }
 }

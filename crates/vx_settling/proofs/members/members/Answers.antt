@@ -1,4 +1,5 @@
 use Rattle.std.proofs.Common.{◌∙◌, ap, map, refl}
+use Rattle.std.proofs.lemmas.List.{take_all}
 use Rattle.vx_ast.specs.declared.Member.{Member}
 use Rattle.vx_ast.specs.Resolve as resolve
 use Rattle.vx_resolved.specs.Resolved as view
@@ -21,6 +22,11 @@ loop-m-preserved c =
       executed = goes_on (λ ms. is_executed (map written_member ms)) (λ (x : Member). is_executed_kind (written_member x).kind) (λ _ _. refl) all c.loop-m.m-index c.m-item.result
           c.loop-m-test.true c.m-item.is c.in_ok-member.ensures.executed c.loop-m.invariant.executed;
     }
+
+pub returns-clause-settled : goal.returns-clause-settled
+returns-clause-settled c = λ p q.
+    c.loop-m.invariant.settled p q
+    ∙ ap (λ ms. map (resolve.member (over (names_in c.args.fields.now) p q)) (map written_member ms)) (take_all c.loop-m.m-index c.args.all.now c.loop-m-test.false)
 
 pub returns-in_err-member-clause-executed : goal.returns-in_err-member-clause-executed
 returns-in_err-member-clause-executed c =
