@@ -11,7 +11,7 @@ ghost use Rattle.vx_states.specs.SymStates.{state as state_of};
 ghost use Rattle.vx_rules.specs.Trees as tree;
 ghost use Rattle.vx_terms.specs.Build as built;
 ghost use Rattle.vx_terms.specs.Views.{term};
-ghost use Rattle.vx_settling.specs.Settled.{settled};
+ghost use Rattle.vx_resolved.specs.Settled.{settled};
 
 use std::alloc::{AllocError, Global};
 use std::rc::Rc;
@@ -21,7 +21,7 @@ use vx_resolved::{Assertion, Expr};
 use vx_stack::{Codes, Consumed, Consumption, Conts, Frame, Hole, Move, Next};
 use vx_states::SymState;
 use vx_terms::{Term, snapshots};
-use vx_settling::Settled;
+use vx_resolved::Settled;
 
 /// Where an expression stands.
 fn place_of(e: &Expr) -> Place

@@ -6,7 +6,7 @@ ghost use Rattle.vx_rules.specs.Members.{rules};
 ghost use Rattle.vx_rules.specs.Rules as rule;
 ghost use Rattle.vx_stack.specs.Stack.{giving, Stepped};
 ghost use Rattle.vx_states.specs.SymStates.{state as state_of};
-ghost use Rattle.vx_settling.specs.Settled.{settled};
+ghost use Rattle.vx_resolved.specs.Settled.{settled};
 
 use crate::operators::is_total;
 use std::alloc::{AllocError, Global};
@@ -15,7 +15,7 @@ use vx_resolved::Expr;
 use vx_stack::{Conts, Hole, Move, Operand};
 use vx_states::SymState;
 use vx_terms::make;
-use vx_settling::Settled;
+use vx_resolved::Settled;
 
 fn are_total(a: &Expr, b: &Expr) -> bool
     ensures { result ≡ (rule.is_total (expr a.now) && rule.is_total (expr b.now)) }

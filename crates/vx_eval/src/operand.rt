@@ -7,7 +7,7 @@ ghost use Rattle.vx_rules.specs.Rules as rule;
 ghost use Rattle.vx_stack.specs.Stack.{operand as operand_of, giving, Stepped};
 ghost use Rattle.vx_states.specs.SymStates.{state as state_of};
 ghost use Rattle.vx_terms.specs.Views.{term};
-ghost use Rattle.vx_settling.specs.Settled.{settled};
+ghost use Rattle.vx_resolved.specs.Settled.{settled};
 
 use crate::operators::{connected, operated};
 use std::alloc::{AllocError, Global};
@@ -16,7 +16,7 @@ use vx_resolved::{Connective, Expr};
 use vx_stack::{Conts, Frame, Hole, Move, Operand};
 use vx_states::SymState;
 use vx_terms::{Term, make};
-use vx_settling::Settled;
+use vx_resolved::Settled;
 
 /// The value of an operand goes on to the expression that it stands in.
 pub fn step_operand(

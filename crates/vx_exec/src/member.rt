@@ -11,7 +11,7 @@ ghost use Rattle.vx_stack.specs.Stack.{going, producing, side_tree, Stepped};
 ghost use Rattle.vx_states.specs.SymStates.{state as state_of};
 ghost use Rattle.vx_rules.specs.Trees as tree;
 ghost use Rattle.vx_terms.specs.Build.{whole_amount};
-ghost use Rattle.vx_settling.specs.Settled.{settled};
+ghost use Rattle.vx_resolved.specs.Settled.{settled};
 
 use std::alloc::{AllocError, Global};
 use std::rc::Rc;
@@ -19,7 +19,7 @@ use vx_resolved::{Assertion, Block, Method};
 use vx_rules::Code;
 use vx_stack::{Codes, Conts, Frame, Hole, Move, Next, Production, Side, joined};
 use vx_states::SymState;
-use vx_settling::Settled;
+use vx_resolved::Settled;
 
 /// The side of the postcondition by itself: what is produced, how, in which state, and its end.
 #[derive(Drop)]

@@ -11,7 +11,7 @@ ghost use Rattle.vx_states.specs.SymStates.{state as state_of};
 ghost use Rattle.vx_rules.specs.Trees.{AssertCode, PermissionCode};
 ghost use Rattle.vx_terms.specs.Build.{whole_amount};
 ghost use Rattle.vx_terms.specs.Views.{term};
-ghost use Rattle.vx_settling.specs.Settled.{settled};
+ghost use Rattle.vx_resolved.specs.Settled.{settled};
 
 use std::alloc::{AllocError, Global};
 use std::rc::Rc;
@@ -20,7 +20,7 @@ use vx_rules::Code;
 use vx_stack::{Codes, Conts, Executed, Frame, Hole, Move, Next, Production};
 use vx_states::{SymState, sort_of_value};
 use vx_terms::Term;
-use vx_settling::Settled;
+use vx_resolved::Settled;
 
 /// Consuming what is asserted or exhaled.
 fn consuming(

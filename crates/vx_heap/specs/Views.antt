@@ -8,9 +8,11 @@ use Rattle.vx_terms.specs.Terms.{Term}
 use Rattle.vx_terms.specs.Build.{zero_amount, unit}
 use Rattle.vx_terms.specs.Views.{term}
 use Rattle.vx_rules.specs.States.{Chunk, Heap}
+use Rattle.vx_rules.specs.Chunks.{Candidate}
 use Rattle.vx_heap.specs.declared.chunk.Resource.{Resource}
 use Rattle.vx_heap.specs.declared.chunk.Resource.TheVariants as resource
 use Rattle.vx_heap.specs.declared.chunk.Chunk.{Chunk as Chunk'}
+use Rattle.vx_heap.specs.declared.candidates.Candidate.{Candidate as Candidate'}
 use Rattle.vx_heap.specs.declared.heap.SymHeap.{SymHeap}
 
 abbrev pub terms_of : List (Rc Term' Global) → List Term
@@ -45,3 +47,9 @@ heap h = map shared h.chunks.items
 -- a chunk of no amount, by which others are looked for: a field's key, or an instance's
 abbrev pub key : Resource → List (Rc Term' Global) → Chunk
 key r ts = record { is_field = is_field r; resource = name r; arguments = terms_of ts; amount = zero_amount; value = unit; root = false; inner = false }
+
+abbrev pub candidate : Candidate' → Candidate
+candidate c = record { number = c.number; chunk = shared c.chunk }
+
+abbrev pub candidates_of : List Candidate' → List Candidate
+candidates_of cs = map candidate cs

@@ -20,7 +20,7 @@ pub fn is_zero(amount: &Term) -> bool
 
 /// No amount.
 #[tactic(auto, unfolding(vx_frac::specs::Fractions::lowest))]
-fn zero(alloc: Global) -> Result<Rc<Term>, AllocError>
+pub fn zero(alloc: Global) -> Result<Rc<Term>, AllocError>
     ensures { IfOk result (λ t. term t.value ≡ zero_amount) }
 {
     make::real(alloc, Frac::new(0, 1))

@@ -1,64 +1,71 @@
-//! The chunks that a probe looks at, by their numbers.
+//! The chunks that a probe looks at.
 
 ghost use Rattle.std.specs.Prelude.{◌≡◌, ◌++◌, IfOk, OnOk};
-ghost use Rattle.vx_heap.specs.Heaps.{numbers, StandIn};
-ghost use Rattle.vx_heap.specs.Views.{heap, key};
+ghost use Rattle.vx_heap.specs.Views.{candidates_of, heap, key};
 ghost use Rattle.vx_rules.specs.Chunks as chunks;
 ghost use Rattle.vx_rules.specs.Chunks.{chosen, only_inner};
 
-use crate::{Resource, SymHeap};
+use crate::{Chunk, Resource, SymHeap};
 use std::alloc::{AllocError, Global};
 use std::rc::Rc;
 use vx_terms::Term;
 
+/// A chunk, and its number in the heap.
+#[derive(Drop)]
+pub struct Candidate {
+    pub number: usize,
+    pub chunk: Rc<Chunk>,
+}
+
 impl SymHeap {
-    /// Adds the numbers of a resource's chunks with identical arguments, or of those with others.
+    /// Adds a resource's chunks with identical arguments, or those with others.
     fn add_chosen(
         &self,
         identical: bool,
         resource: &Resource,
         arguments: &[Rc<Term>],
-        found: &mut Vec<usize>,
+        found: &mut Vec<Candidate>,
     ) -> Result<(), AllocError>
-        ensures { OnOk result (found.new.items ≡ found.old.items ++ numbers (chosen identical (key resource.now arguments.now) 0 (heap self.now))) }
+        ensures { OnOk result (candidates_of found.new.items ≡ candidates_of found.old.items ++ chosen identical (key resource.now arguments.now) 0 (heap self.now)) }
     {
-        for (at, chunk) in self.chunks.iter().enumerate() {
+        for (number, chunk) in self.chunks.iter().enumerate() {
             if chunk.is_chosen(identical, resource, arguments) {
-                found.push(at)?;
+                let chunk = chunk.clone()?;
+                found.push(Candidate { number, chunk })?;
             }
         }
         Ok(())
     }
 
-    /// Adds the numbers of those that are inner.
+    /// Adds those that are inner.
     fn add_inner(
         &self,
         identical: bool,
         resource: &Resource,
         arguments: &[Rc<Term>],
-        found: &mut Vec<usize>,
+        found: &mut Vec<Candidate>,
     ) -> Result<(), AllocError>
-        ensures { OnOk result (found.new.items ≡ found.old.items ++ numbers (only_inner (chosen identical (key resource.now arguments.now) 0 (heap self.now)))) }
+        ensures { OnOk result (candidates_of found.new.items ≡ candidates_of found.old.items ++ only_inner (chosen identical (key resource.now arguments.now) 0 (heap self.now))) }
     {
-        for (at, chunk) in self.chunks.iter().enumerate() {
+        for (number, chunk) in self.chunks.iter().enumerate() {
             if chunk.is_chosen(identical, resource, arguments) {
                 if chunk.is_inner {
-                    found.push(at)?;
+                    let chunk = chunk.clone()?;
+                    found.push(Candidate { number, chunk })?;
                 }
             }
         }
         Ok(())
     }
 
-    /// The numbers of a resource's chunks, by which they stand in the heap: those with identical arguments first, then the others, each in list order.
+    /// The chunks of a resource: those with identical arguments first, then the others, each in list order.
     pub fn candidates(
         &self,
         alloc: Global,
         resource: &Resource,
         arguments: &[Rc<Term>],
-    ) -> Result<Vec<usize>, AllocError>
-        ensures numbers { IfOk result (λ found. found.items ≡ numbers (chunks.candidates (key resource.now arguments.now) (heap self.now))) }
-        ensures stand { IfOk result (λ _. StandIn (heap self.now) (chunks.candidates (key resource.now arguments.now) (heap self.now))) }
+    ) -> Result<Vec<Candidate>, AllocError>
+        ensures { IfOk result (λ found. candidates_of found.items ≡ chunks.candidates (key resource.now arguments.now) (heap self.now)) }
     {
         let mut found = Vec::new(alloc);
         self.add_chosen(true, resource, arguments, &mut found)?;
@@ -66,16 +73,14 @@ impl SymHeap {
         Ok(found)
     }
 
-    /// The numbers of the candidates that are inner, in the same order.
-    #[tactic(auto, using(crate::proofs::Heaps::inner_of_both))]
+    /// The candidates that are inner, in the same order.
     pub fn inner_candidates(
         &self,
         alloc: Global,
         resource: &Resource,
         arguments: &[Rc<Term>],
-    ) -> Result<Vec<usize>, AllocError>
-        ensures numbers { IfOk result (λ found. found.items ≡ numbers (only_inner (chunks.candidates (key resource.now arguments.now) (heap self.now)))) }
-        ensures stand { IfOk result (λ _. StandIn (heap self.now) (only_inner (chunks.candidates (key resource.now arguments.now) (heap self.now)))) }
+    ) -> Result<Vec<Candidate>, AllocError>
+        ensures { IfOk result (λ found. candidates_of found.items ≡ only_inner (chunks.candidates (key resource.now arguments.now) (heap self.now))) }
     {
         let mut found = Vec::new(alloc);
         self.add_inner(true, resource, arguments, &mut found)?;

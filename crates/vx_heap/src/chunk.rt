@@ -118,4 +118,13 @@ impl Chunk {
         other.amount = amount;
         Ok(other)
     }
+
+    /// The same chunk with another value.
+    pub fn with_value(&self, alloc: Global, value: Rc<Term>) -> Result<Chunk, AllocError>
+        ensures { IfOk result (λ other. chunk_view other ≡ record (chunk_view self.now) { value = term value.value }) }
+    {
+        let mut other = self.copy(alloc)?;
+        other.value = value;
+        Ok(other)
+    }
 }

@@ -9,7 +9,8 @@ mod facts;
 mod heap;
 mod put;
 
-pub use amounts::whole;
+pub use amounts::{whole, zero};
+pub use candidates::Candidate;
 pub use chunk::{Chunk, Resource};
 pub use conditions::{equal_arguments, holds_amount, holds_some};
 pub use facts::merged;

@@ -1,16 +1,16 @@
 //! What putting and taking an amount makes of a heap.
 
-ghost use Rattle.std.specs.Prelude.{◌≡◌, ◌<◌, [], ℕ, IfSome, IfOk, OnOk, OnErr, length, slice_get, slice_set};
+ghost use Rattle.std.specs.Prelude.{◌≡◌, ◌<◌, [], ℕ, IfOk, OnOk, OnErr, length, slice_set};
 ghost use Rattle.vx_heap.specs.Heaps.{facts_of, over, standing, Puts};
-ghost use Rattle.vx_heap.specs.Views.{chunk as chunk_view, heap, terms_of};
+ghost use Rattle.vx_heap.specs.Views.{candidate, chunk as chunk_view, heap, terms_of};
 ghost use Rattle.vx_rules.specs.Chunks as chunks;
-ghost use Rattle.vx_rules.specs.Chunks.{reduced};
+ghost use Rattle.vx_rules.specs.Chunks.{reduced, without};
 ghost use Rattle.vx_rules.specs.States.{State, with_facts};
 ghost use Rattle.vx_terms.specs.Views.{term};
 
 use crate::amounts::is_zero;
 use crate::facts::{facts_agree, facts_beside, facts_merged, merged};
-use crate::{Chunk, Resource, SymHeap};
+use crate::{Candidate, Chunk, Resource, SymHeap};
 use std::alloc::{AllocError, Global};
 use std::rc::Rc;
 use vx_terms::{Term, arithmetic};
@@ -102,29 +102,56 @@ impl SymHeap {
         }
     }
 
-    /// A chunk's amount becomes another.
-    fn set_amount(&mut self, alloc: Global, at: usize, amount: Rc<Term>) -> Result<(), AllocError>
-        requires { at < length (heap self.old) }
-        ensures ok { OnOk result (IfSome (slice_get (heap self.old) at) (λ c. heap self.new ≡ slice_set (heap self.old) at (record c { amount = term amount.value }))) }
+    /// Another chunk in the place of a candidate; nothing where there is no such place.
+    fn put_back(&mut self, number: usize, chunk: Rc<Chunk>)
+        ensures { heap self.new ≡ slice_set (heap self.old) number (chunk_view chunk.value) }
+    {
+        if number < self.len() {
+            self.replace(number, chunk);
+        }
+    }
+
+    /// A candidate is gone; nothing where there is no such place.
+    fn leave_out(&mut self, number: usize)
+        ensures { heap self.new ≡ without number (heap self.old) }
+    {
+        if number < self.len() {
+            let _gone = self.take(number);
+        }
+    }
+
+    /// Takes an amount from a candidate, which is gone where nothing is literally left.
+    pub fn reduce(
+        &mut self,
+        alloc: Global,
+        from: &Candidate,
+        amount: &Rc<Term>,
+    ) -> Result<(), AllocError>
+        ensures ok { OnOk result (heap self.new ≡ reduced (candidate from.now) (term amount.now.value) (heap self.old)) }
         ensures err { OnErr result (heap self.new ≡ heap self.old) }
     {
-        let chunk = self.chunk(at).with_amount(alloc, amount)?;
-        self.replace(at, Rc::new(alloc, chunk)?);
+        let rest = arithmetic::sub(alloc, &from.chunk.amount, amount)?;
+        if is_zero(&rest) {
+            self.leave_out(from.number);
+            return Ok(());
+        }
+        let chunk = Rc::new(alloc, from.chunk.with_amount(alloc, rest)?)?;
+        self.put_back(from.number, chunk);
         Ok(())
     }
 
-    /// Takes an amount from a chunk, which is gone where nothing is literally left.
-    pub fn reduce(&mut self, alloc: Global, at: usize, amount: &Rc<Term>) -> Result<(), AllocError>
-        requires { at < length (heap self.old) }
-        ensures ok { OnOk result (IfSome (slice_get (heap self.old) at) (λ c. heap self.new ≡ reduced (record { number = at; chunk = c }) (term amount.now.value) (heap self.old))) }
+    /// A candidate gets another value.
+    pub fn write(
+        &mut self,
+        alloc: Global,
+        to: &Candidate,
+        value: Rc<Term>,
+    ) -> Result<(), AllocError>
+        ensures ok { OnOk result (heap self.new ≡ slice_set (heap self.old) to.now.number (record (candidate to.now).chunk { value = term value.value })) }
         ensures err { OnErr result (heap self.new ≡ heap self.old) }
     {
-        let rest = arithmetic::sub(alloc, &self.chunk(at).amount, amount)?;
-        if is_zero(&rest) {
-            let _gone = self.take(at);
-            return Ok(());
-        }
-        self.set_amount(alloc, at, rest)?;
+        let chunk = Rc::new(alloc, to.chunk.with_value(alloc, value)?)?;
+        self.put_back(to.number, chunk);
         Ok(())
     }
 }

@@ -2,7 +2,7 @@
 
 ghost use Rattle.std.specs.Prelude.{◌≡◌, ◌++◌, ◌∷◌, ◌<◌, [], IfOk, OnErr, OnOk, length, false, true, cond, is_some, is_err, IfSome, IsOkAnd};
 ghost use Rattle.vx_rules.specs.Trees.{walk};
-ghost use Rattle.vx_settling.specs.Settled.{settled};
+ghost use Rattle.vx_resolved.specs.Settled.{settled};
 ghost use Rattle.vx_machine.specs.Runs.{IsAt, Within, Follows, Told, EachAnswered, Shows, outcome_of, awaits as is_awaiting, given, member_tree, option_list, is_unsat, without_other, without_last};
 
 use crate::run::run;
@@ -12,7 +12,7 @@ use vx_ast::{MemberId, Place};
 use vx_resolved::Kind;
 use vx_rules::{Code, Reply};
 use vx_stack::{Conts, Query};
-use vx_settling::Settled;
+use vx_resolved::Settled;
 
 /// Where a machine is.
 #[derive(Drop)]

@@ -6,7 +6,7 @@ ghost use Rattle.vx_rules.specs.Members.{both_sides, rules, sides};
 ghost use Rattle.vx_stack.specs.Stack.{giving, going, frame_tree, side_tree, Stepped};
 ghost use Rattle.vx_states.specs.SymStates.{state as state_of};
 ghost use Rattle.vx_terms.specs.Views.{term};
-ghost use Rattle.vx_settling.specs.Settled.{settled};
+ghost use Rattle.vx_resolved.specs.Settled.{settled};
 ghost use Rattle.vx_machine.specs.Runs.{is_over, is_finish, is_last, Turned, RunsTo};
 
 use std::alloc::{AllocError, Global};
@@ -16,7 +16,7 @@ use vx_resolved::Method;
 use vx_stack::{Conts, Frame, Hole, Move, Next, Query, Side};
 use vx_states::SymState;
 use vx_terms::Term;
-use vx_settling::Settled;
+use vx_resolved::Settled;
 
 fn has_ended(frame: &Frame) -> bool
     ensures { result ≡ is_over frame.now }

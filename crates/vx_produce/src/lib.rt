@@ -10,7 +10,7 @@ ghost use Rattle.vx_rules.specs.States.{with_fact};
 ghost use Rattle.vx_states.specs.SymStates.{optional_term, state as state_of};
 ghost use Rattle.vx_rules.specs.Trees as tree;
 ghost use Rattle.vx_terms.specs.Views.{term};
-ghost use Rattle.vx_settling.specs.Settled.{settled};
+ghost use Rattle.vx_resolved.specs.Settled.{settled};
 
 use std::alloc::{AllocError, Global};
 use std::rc::Rc;
@@ -18,7 +18,7 @@ use vx_resolved::Assertion;
 use vx_stack::{Conts, Frame, Hole, Move, Next, Production};
 use vx_states::{SymState, copy_optional, left_part, right_part};
 use vx_terms::Term;
-use vx_settling::Settled;
+use vx_resolved::Settled;
 
 /// How a left part is produced: with its part of the snapshot.
 fn of_left(alloc: Global, x: &Production) -> Result<Rc<Production>, AllocError>

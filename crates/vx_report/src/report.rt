@@ -5,14 +5,14 @@ ghost use Rattle.std.specs.Fmt.{decimal};
 ghost use Rattle.vx_resolved.specs.Resolved.{kind as kind_of};
 ghost use Rattle.vx_report.specs.Reports as spec;
 ghost use Rattle.vx_report.specs.Reports.{AreNamed};
-ghost use Rattle.vx_settling.specs.Settled.{settled};
+ghost use Rattle.vx_resolved.specs.Settled.{settled};
 
 use crate::{Cause, MemberRun, Verdict};
 use std::alloc::AllocError;
 use vx_ast::Place;
 use vx_resolved::Kind;
 use vx_rules::{Code, Reply};
-use vx_settling::Settled;
+use vx_resolved::Settled;
 
 /// The word of a code in the report.
 pub fn code_word(code: Code) -> &'static str

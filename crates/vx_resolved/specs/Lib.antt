@@ -1,2 +1,3 @@
 pub mod Resolved
+pub mod Settled
 pub mod Executed

@@ -3,6 +3,10 @@
 //! so far.
 #![tactic(auto)]
 
+mod settled;
+
+pub use settled::Settled;
+
 use std::rc::Rc;
 use vx_ast::{Place, ValueType};
 

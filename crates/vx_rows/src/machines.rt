@@ -1,6 +1,6 @@
 //! Two machines on the first member of a program, each of which stands suspended while the other goes on.
 
-ghost use Rattle.vx_settling.specs.Settled.{settled};
+ghost use Rattle.vx_resolved.specs.Settled.{settled};
 ghost use Rattle.vx_machine.specs.Runs.{Follows};
 
 use crate::row::{Row, Step};

@@ -4,4 +4,3 @@ pub mod Loops
 pub mod Methods
 pub mod Refused
 pub mod Statements
-pub mod Tables

@@ -1,5 +1,3 @@
-pub mod Settled
 pub mod Refusals
 pub mod Parts
 pub mod Fields
-pub mod Types

@@ -5,13 +5,9 @@ mod assertions;
 mod clauses;
 mod expr;
 mod fields;
-mod lookups;
 mod members;
-mod settled;
 mod stmt;
-mod types;
 mod unsettled;
 
 pub use members::settle;
-pub use settled::Settled;
 pub use unsettled::Unsettled;

@@ -9,7 +9,7 @@ ghost use Rattle.vx_resolved.specs.Resolved as view;
 ghost use Rattle.vx_ast.specs.Syntax as Syntax;
 ghost use Rattle.vx_resolved.specs.Executed.{is_executed_body, is_executed_kind, is_executed};
 ghost use Rattle.vx_settling.specs.Refusals.{Tells};
-ghost use Rattle.vx_settling.specs.Settled.{settled};
+ghost use Rattle.vx_resolved.specs.Settled.{settled};
 ghost use Rattle.vx_settling.specs.Parts.{over};
 ghost use Rattle.vx_settling.specs.Fields.{names_in};
 
@@ -17,11 +17,11 @@ use crate::clauses::clauses;
 use crate::expr::shared;
 use crate::fields::{Fields, all_fields};
 use crate::stmt::block;
-use crate::{Settled, Unsettled};
+use crate::Unsettled;
 use std::alloc::{AllocError, Global};
 use std::rc::Rc;
 use vx_ast::{Declaration, Member, MemberKind, Method, Place, Program};
-use vx_resolved::Block;
+use vx_resolved::{Block, Settled};
 
 // A variable, settled.
 fn declaration(alloc: Global, d: &Declaration) -> Result<vx_resolved::Declaration, AllocError>
@@ -129,5 +129,7 @@ pub fn settle(alloc: Global, p: &Program) -> Result<Settled, Unsettled>
 {
     let fields = all_fields(alloc, &p.members)?;
     let members = members(alloc, &fields, &p.members)?;
-    Ok(Settled::new(alloc, vx_resolved::Program { members })?)
+    Ok(Settled {
+        program: vx_resolved::Program { members },
+    })
 }

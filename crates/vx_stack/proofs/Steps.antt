@@ -3,7 +3,7 @@ use Rattle.std.proofs.Common.{◌≡◌, Bool, cond, true, false, ◌||◌, refl
 use Rattle.std.proofs.lemmas.Result.{IfOk-weaker}
 use Rattle.vx_ast.specs.declared.Place.{Place}
 use Rattle.vx_ast.specs.Syntax.{Program, Assertion}
-use Rattle.vx_stack.specs.declared.frame.Production.{Production}
+use Rattle.vx_stack.specs.declared.waiting.Production.{Production}
 use Rattle.vx_stack.specs.declared.frame.Side.{Side}
 use Rattle.vx_stack.specs.declared.question.Query.{Query}
 use Rattle.vx_stack.specs.declared.conts.Move.{Move}

@@ -1,15 +1,20 @@
 -- What the frames, the stack and the questions of src/ stand for: the tree that is still to be walked.
-use Rattle.std.specs.Prelude.{◌≡◌, Bool, true, false, List, [], ◌∷◌, ◌++◌, string_bytes}
+use Rattle.std.specs.Prelude.{◌≡◌, ℕ, Bool, true, false, List, [], ◌∷◌, ◌++◌, Option, Some, None, if◌then◌else◌, pos, drop, string_bytes}
 use Rattle.vx_stack.specs.declared.question.Query.{Query}
-use Rattle.vx_stack.specs.declared.frame.Codes.{Codes}
-use Rattle.vx_stack.specs.declared.frame.Production.{Production}
-use Rattle.vx_stack.specs.declared.frame.Consumption.{Consumption}
-use Rattle.vx_stack.specs.declared.frame.Operand.{Operand}
-use Rattle.vx_stack.specs.declared.frame.Operand.TheVariants as operand'
-use Rattle.vx_stack.specs.declared.frame.Consumed.{Consumed}
-use Rattle.vx_stack.specs.declared.frame.Consumed.TheVariants as consumed'
-use Rattle.vx_stack.specs.declared.frame.Executed.{Executed}
-use Rattle.vx_stack.specs.declared.frame.Executed.TheVariants as executed'
+use Rattle.vx_stack.specs.declared.waiting.Codes.{Codes}
+use Rattle.vx_stack.specs.declared.waiting.Production.{Production}
+use Rattle.vx_stack.specs.declared.waiting.Consumption.{Consumption}
+use Rattle.vx_stack.specs.declared.waiting.Search.{Search}
+use Rattle.vx_stack.specs.declared.waiting.Location.{Location}
+use Rattle.vx_stack.specs.declared.waiting.Loop.{Loop}
+use Rattle.vx_stack.specs.declared.waiting.Operand.{Operand}
+use Rattle.vx_stack.specs.declared.waiting.Operand.TheVariants as operand'
+use Rattle.vx_stack.specs.declared.waiting.Produced.{Produced}
+use Rattle.vx_stack.specs.declared.waiting.Produced.TheVariants as produced'
+use Rattle.vx_stack.specs.declared.waiting.Consumed.{Consumed}
+use Rattle.vx_stack.specs.declared.waiting.Consumed.TheVariants as consumed'
+use Rattle.vx_stack.specs.declared.waiting.Executed.{Executed}
+use Rattle.vx_stack.specs.declared.waiting.Executed.TheVariants as executed'
 use Rattle.vx_stack.specs.declared.frame.Next.{Next}
 use Rattle.vx_stack.specs.declared.frame.Next.TheVariants as next'
 use Rattle.vx_stack.specs.declared.frame.Hole.{Hole}
@@ -19,18 +24,22 @@ use Rattle.vx_stack.specs.declared.frame.Frame.TheVariants as frame'
 use Rattle.vx_stack.specs.declared.frame.Side.{Side}
 use Rattle.vx_stack.specs.declared.conts.Move.{Move}
 use Rattle.vx_stack.specs.declared.conts.Move.TheVariants as move'
-use Rattle.vx_ast.specs.Syntax.{Program, Assertion}
-use Rattle.vx_resolved.specs.Resolved.{operator, connective, expr, assertion, stmt, block, method}
-use Rattle.vx_terms.specs.Views.{term}
-use Rattle.vx_terms.specs.Build.{negate, ite, unit, pair}
-use Rattle.vx_heap.specs.Views.{heap}
-use Rattle.vx_rules.specs.States.{State, with_store, with_heap, assign, leave, with_fact, name_of, after_name, path_terms}
+use Rattle.vx_ast.specs.declared.Place.{Place}
+use Rattle.vx_ast.specs.Syntax.{Name, Program, Expr, Assertion, assigned_in}
+use Rattle.vx_resolved.specs.Resolved.{operator, division, connective, expr, assertion, stmt, block, method}
+use Rattle.vx_terms.specs.Sorts.{Sort}
+use Rattle.vx_terms.specs.Terms.{Term, Number}
+use Rattle.vx_terms.specs.Views.{sort, term}
+use Rattle.vx_terms.specs.Build.{negate, equals, ite, less_equal, multiply, unit, pair, wrap, zero_amount, whole_amount}
+use Rattle.vx_heap.specs.Views.{candidates_of, heap, terms_of}
+use Rattle.vx_rules.specs.States.{Chunk, Heap, State, is_quiet, with_store, with_heap, assign, leave, with_fact, with_branch, fresh, after_fresh, name_of, after_name, path_terms}
 use Rattle.vx_states.specs.Paths.{entries}
 use Rattle.vx_states.specs.SymStates.{optional_term, state}
-use Rattle.vx_rules.specs.Trees.{Question, Tree, End, Impossible, Step, Ask, Probe, Fork}
+use Rattle.vx_rules.specs.Trees.{Code, AmountCode, DivisorCode, KeptCode, Question, Tree, End, Impossible, Step, Ask, Probe, Fork}
+use Rattle.vx_rules.specs.Chunks.{field_key, Candidate, reduced, put}
 use Rattle.vx_rules.specs.Codes.{code}
-use Rattle.vx_rules.specs.Rules.{Giving, Going, Context, ask, fork, short, operated, connected, placed, with_built_pair, with_unit, eval, produce, consume}
-use Rattle.vx_rules.specs.Members.{exec, exec_all, rules, sides}
+use Rattle.vx_rules.specs.Rules.{Giving, Going, Context, ask, never, fork, short, operated, divided, connected, first_with, holds_some, holds_amount, take_chunk, read_field, written, write_field, field_sort, placed, with_built_wrap, with_built_pair, produced_value, after_value, with_unit, eval, produce, consume}
+use Rattle.vx_rules.specs.Members.{codes, forget, exec, exec_all, rules, sides}
 
 abbrev pub query : Query → Question
 query q = record { place = q.place; code = code q.code; path = path_terms (entries q.path); condition = term q.condition.value; probe = q.probe }
@@ -38,12 +47,34 @@ query q = record { place = q.place; code = code q.code; path = path_terms (entri
 abbrev pub context : Codes → Context
 context x = record { pure = code x.pure; permission = code x.permission; builds = x.builds }
 
+-- what is looked for in a chunk: some amount, or this one or more
+abbrev pub wanted_by : Option Term → List Term → Chunk → Term
+wanted_by None ts c = holds_some ts c
+wanted_by (Some a) ts c = holds_amount a ts c
+
+abbrev pub wanted : Search → Chunk → Term
+wanted x c = wanted_by (optional_term x.amount) (terms_of x.arguments.items) c
+
+-- on with the first from this candidate on that is as wanted
+abbrev pub finding : Search → ℕ → State → (Candidate → Tree) → Tree → Tree
+finding x k s on otherwise = first_with (wanted x) (drop k (candidates_of x.candidates.items)) x.place (code x.code) s on otherwise
+
+-- on with a new value, where the amount that no candidate has is 0
+abbrev pub taking_none : Term → Sort → Place → Code → State → Giving → Tree
+taking_none a of at c s on = if is_quiet s then End else ask (equals a zero_amount) at c s (λ s1. on (fresh of s1) (after_fresh s1))
+
+abbrev pub with_divisor : Place → State → Term → Going → Tree
+with_divisor at s u on = ask (negate (equals u (Number (pos 0)))) (placed s at) DivisorCode s on
+
 module _ (p : Program) where
   -- what the value of an operand leads to, before what waits for the whole
   abbrev pub operand : Operand → Giving → Giving
   operand operand'.Negate on t s = Step (on (negate t) s)
   operand (operand'.OperateRight op b) on t s = Step (eval p (rules p) (expr b.value) s (λ u s1. Step (on (operated (operator op) t u) s1)))
   operand (operand'.OperateWith op t) on u s = Step (on (operated (operator op) (term t.value) u) s)
+  operand (operand'.DivideRight at op b) on t s =
+      Step (eval p (rules p) (expr b.value) s (λ u s1. with_divisor at s1 u (on (divided (division op) t u))))
+  operand (operand'.DivideWith at op t) on u s = with_divisor at s u (on (divided (division op) (term t.value) u))
   operand (operand'.ConnectRight c b) on t s = Step (eval p (rules p) (expr b.value) s (λ u s1. Step (on (connected (connective c) t u) s1)))
   operand (operand'.ConnectWith c t) on u s = Step (on (connected (connective c) (term t.value) u) s)
   operand (operand'.ConnectSides c b) on t s = short (connective c) t s (λ s1. eval p (rules p) (expr b.value) s1 on) on
@@ -53,6 +84,8 @@ module _ (p : Program) where
   operand (operand'.ChooseWith t u) on v s = Step (on (ite (term t.value) (term u.value) v) s)
   operand (operand'.ChooseSides a b) on t s =
       fork t s (λ s1. eval p (rules p) (expr a.value) s1 on) (λ s1. eval p (rules p) (expr b.value) s1 on)
+  operand (operand'.Receiver at f) on r s = read_field (string_bytes f.value) r (placed s at) s on
+  operand (operand'.Restore h) on t s = Step (on t (with_heap (heap h.value) s))
 
   -- an assertion is produced, or consumed, in this way
   abbrev pub producing : Assertion → Production → State → Going → Tree
@@ -61,12 +94,73 @@ module _ (p : Program) where
   abbrev pub consuming : Assertion → Consumption → State → Giving → Tree
   consuming a x s on = consume p (rules p) a (context x.codes) (term x.scale.value) (heap x.start.value) s on
 
+  -- an amount of a field's location is put, where it isn't negative
+  abbrev pub with_location : Name → Term → Term → Option Term → Bool → State → State
+  with_location f r a snapshot inside s =
+      put (record (field_key f r) { amount = a; value = produced_value (field_sort p f) snapshot s; inner = inside }) (after_value (field_sort p f) snapshot s)
+
+  abbrev pub putting : Place → Name → Term → Term → Option Term → Bool → State → Going → Tree
+  putting at f r a snapshot inside s on =
+      ask (less_equal zero_amount a) (placed s at) AmountCode s (λ s1. Step (on (with_location f r a snapshot inside s1)))
+
+  -- what a value leads to, before what waits for the whole assertion
+  abbrev pub produced : Produced → Going → Giving
+  produced (produced'.Fact snapshot) on t s = Step (on (with_unit (optional_term snapshot) (with_fact t s)))
+  produced (produced'.Share at f e x inside) on r s =
+      eval p (rules p) (expr e.value) s (λ a s1.
+      putting at (string_bytes f.value) r (multiply (term x.value.scale.value) a) (optional_term x.value.snapshot) inside s1 on)
+  produced (produced'.Amount at f r x inside) on a s =
+      putting at (string_bytes f.value) (term r.value) (multiply (term x.value.scale.value) a) (optional_term x.value.snapshot) inside s on
+  produced (produced'.Implied a x) on t s =
+      fork t s (λ s1. producing (assertion a.value) x.value s1 on) (λ s1. on (with_unit (optional_term x.value.snapshot) s1))
+  produced (produced'.Chosen a b x) on t s =
+      fork t s (λ s1. producing (assertion a.value) x.value s1 on) (λ s1. producing (assertion b.value) x.value s1 on)
+
+  -- an amount of a field's location is taken from a heap, where it isn't negative
+  abbrev pub take_location : Place → Name → Term → Term → Code → Heap → State → Giving → Tree
+  take_location at f r a c h s on = take_chunk (field_key f r) a (field_sort p f) (placed s at) c (with_heap h s) (λ k s1. on k.value s1)
+
+  abbrev pub taking : Place → Name → Term → Term → Code → Heap → State → Giving → Tree
+  taking at f r a c h s on = ask (less_equal zero_amount a) (placed s at) AmountCode s (λ s1. take_location at f r a c h s1 on)
+
+  -- the value of a location that was taken, as a snapshot
+  abbrev pub wrapped : Name → Context → Giving → Giving
+  wrapped f x on v s = Step (on (wrap (field_sort p f) v) (with_built_wrap x (field_sort p f) v s))
+
   -- what a value or a snapshot leads to, before what waits for the whole snapshot
   abbrev pub consumed : Consumed → Giving → Giving
   consumed (consumed'.Ask at f h) on t s = ask t (placed s at) (code f) s (λ s1. Step (on unit (with_heap (heap h.value) s1)))
   consumed (consumed'.Right b x) on t s =
       consuming (assertion b.value) x.value s (λ u s1. Step (on (pair t u) (with_built_pair (context x.value.codes) t u s1)))
   consumed (consumed'.With t x) on u s = Step (on (pair (term t.value) u) (with_built_pair (context x) (term t.value) u s))
+  consumed (consumed'.Share at f e x h) on r s =
+      eval p (rules p) (expr e.value) s (λ a s1.
+      taking at (string_bytes f.value) r (multiply (term x.value.scale.value) a) (code x.value.codes.permission) (heap h.value) s1
+      (wrapped (string_bytes f.value) (context x.value.codes) on))
+  consumed (consumed'.Amount at f r x h) on a s =
+      taking at (string_bytes f.value) (term r.value) (multiply (term x.value.scale.value) a) (code x.value.codes.permission) (heap h.value) s
+      (wrapped (string_bytes f.value) (context x.value.codes) on)
+  consumed (consumed'.Wrap f x) on v s = wrapped (string_bytes f.value) (context x) on v s
+  consumed (consumed'.Implied a x h) on t s =
+      fork t (with_heap (heap h.value) s) (λ s1. consuming (assertion a.value) x.value s1 on) (on unit)
+  consumed (consumed'.Chosen a b x h) on t s =
+      fork t (with_heap (heap h.value) s) (λ s1. consuming (assertion a.value) x.value s1 on) (λ s1. consuming (assertion b.value) x.value s1 on)
+
+  -- a loop's iteration, from its condition on: the body, and the invariant again
+  abbrev pub iterated : Loop → ℕ → Giving
+  iterated l kept u s =
+      exec_all p (rules p) (block l.body.value) (with_branch u s) (λ s1.
+      let s2 = leave kept s1 in
+      consume p (rules p) (assertion l.invariant.value) (codes KeptCode KeptCode) whole_amount s2.heap s2 (λ v s3. End))
+
+  -- a loop's invariant is produced, and its condition evaluated
+  abbrev pub from_invariant : Loop → State → Giving → Tree
+  from_invariant l s on =
+      produce p (rules p) (assertion l.invariant.value) whole_amount None s (λ s1. eval p (rules p) (expr l.condition.value) s1 on)
+
+  -- a state that knows nothing of what a loop assigns
+  abbrev pub forgotten : Loop → State → State
+  forgotten l s = forget [] (assigned_in (block l.body.value)) s
 
   -- what a value leads to, before what waits for the statement's end
   abbrev pub executed : Executed → Going → Giving
@@ -78,6 +172,15 @@ module _ (p : Program) where
       (λ s1. exec_all p (rules p) (block b.value) s1 (λ s2. on (leave kept s2)))
   executed (executed'.Asserted h) on t s = Step (on (with_heap (heap h.value) s))
   executed executed'.Exhaled on t s = Step (on s)
+  executed (executed'.Write at f e) on r s =
+      Step (eval p (rules p) (expr e.value) s (λ t s1. write_field (string_bytes f.value) r t at s1 on))
+  executed (executed'.WriteWith at f r) on t s = write_field (string_bytes f.value) (term r.value) t at s on
+  executed (executed'.Enter l kept) on t s =
+      Fork
+      (from_invariant l.value (with_heap [] (forgotten l.value s)) (iterated l.value kept))
+      (from_invariant l.value (forgotten l.value s) (λ u s1. Step (on (with_branch (negate u) s1))))
+  executed (executed'.Iterate l kept) on u s = iterated l.value kept u s
+  executed executed'.Pass on u s = Step (on (with_branch (negate u) s))
 
   abbrev mutual
     -- what a state leads to
@@ -92,13 +195,25 @@ module _ (p : Program) where
     going (next'.ConsumeFrom' a x q h) s = consuming (assertion a.value) x.value s (giving h)
     going (next'.Unit' start q h) s = Step (giving h unit (with_heap (heap start.value) s))
     going (next'.Sides m) s = sides p (rules p) (method m.value) s
+    going (next'.Eval' e q h) s = eval p (rules p) (expr e.value) s (giving h)
+    going (next'.Put' l x inside q n) s =
+        Step (going n (with_location (string_bytes l.value.field.value) (term l.value.receiver.value) (term l.value.amount.value) (optional_term x.value.snapshot) inside s))
+    going (next'.Take' l c h q hole) s =
+        take_location l.value.place (string_bytes l.value.field.value) (term l.value.receiver.value) (term l.value.amount.value) (code c) (heap h.value) s (giving hole)
+    going (next'.ReadFrom' x k q h) s =
+        finding x.value k s (λ c. giving h c.chunk.value s) (never x.value.place (code x.value.code) s)
+    going (next'.TakeFrom' x k a of q h) s =
+        finding x.value k s (λ c. giving h c.chunk.value (with_heap (reduced c (term a.value) s.heap) s)) (taking_none (term a.value) (sort of) x.value.place (code x.value.code) s (giving h))
+    going (next'.WriteTo' x k t q n) s =
+        finding x.value k s (λ c. going n (written c (term t.value) s)) (never x.value.place (code x.value.code) s)
+    going (next'.Fresh' of q h) s = giving h (fresh (sort of) s) (after_fresh s)
 
     -- what a value and a state lead to
     pub giving : Hole → Giving
     giving hole'.Finish t s = End
     giving (hole'.Operand' v q h) t s = operand v (giving h) t s
     giving (hole'.Consumed' v q h) t s = consumed v (giving h) t s
-    giving (hole'.Produced' snapshot q n) t s = Step (going n (with_unit (optional_term snapshot) (with_fact t s)))
+    giving (hole'.Produced' v q n) t s = produced v (going n) t s
     giving (hole'.Executed' v q n) t s = executed v (going n) t s
 
   -- the tree of a side
@@ -117,6 +232,7 @@ module _ (p : Program) where
 
   -- a step from a side with this tree: what it leaves on the stack
   abbrev pub Stepped : Tree → List Side → Move → List Side → Type 0
+  Stepped t old move'.End new = (new ≡ old) × (t ≡ End)
   Stepped t old move'.Go new = (a : Side) × (new ≡ old ++ a ∷ []) × (t ≡ Step (side_tree a))
   Stepped t old move'.Fork new = (a b : Side) × (new ≡ old ++ b ∷ a ∷ []) × (t ≡ Fork (side_tree a) (side_tree b))
   Stepped t old (move'.Check q) new = Checked q.probe t old (query q) new

@@ -13,7 +13,7 @@ ghost use Rattle.vx_rules.specs.Trees as tree;
 ghost use Rattle.vx_terms.specs.Build.{true_term};
 ghost use Rattle.vx_terms.specs.Terms.{same};
 ghost use Rattle.vx_terms.specs.Views.{term};
-ghost use Rattle.vx_settling.specs.Settled.{settled};
+ghost use Rattle.vx_resolved.specs.Settled.{settled};
 
 use crate::{Frame, Hole, Next, Query, Side};
 use std::alloc::{AllocError, Global};
@@ -23,7 +23,7 @@ use vx_resolved::Expr;
 use vx_rules::Code;
 use vx_states::SymState;
 use vx_terms::{Term, make};
-use vx_settling::Settled;
+use vx_resolved::Settled;
 
 /// The sides that are still to be walked, the next one last.
 #[derive(Drop)]
@@ -34,6 +34,8 @@ pub struct Conts {
 /// What a step came to. Of a probe that is checked both candidates wait, the one where it is refuted on top.
 #[derive(Drop)]
 pub enum Move {
+    /// The side is over.
+    End,
     Go,
     Fork,
     Check(Query),
@@ -174,6 +176,28 @@ impl Conts {
         let mut state = state;
         state.add_fact(alloc, condition)?;
         self.push(frame, state)?;
+        Ok(Move::Check(query))
+    }
+
+    /// Where no candidate is left: false is asked. In a quiet state the side is over.
+    pub fn never(
+        &mut self,
+        alloc: Global,
+        program: &Settled,
+        place: Place,
+        code: Code,
+        state: SymState,
+    ) -> Result<Move, AllocError>
+        ensures { IfOk result (λ m. Stepped (settled program.now) (rule.never place (code_of code) (state_of state)) self.old.sides.items m self.new.sides.items) }
+    {
+        let _program = program;
+        if state.is_quiet() {
+            return Ok(Move::End);
+        }
+        let never = make::boolean(alloc, false)?;
+        let query = question(&never, place, code, false, &state)?;
+        let impossible = Rc::new(alloc, Next::Impossible)?;
+        self.push(Frame::Go(impossible), state)?;
         Ok(Move::Check(query))
     }
 

@@ -1,103 +1,19 @@
 //! What a side does next, and what waits for it.
 
-ghost use Rattle.std.specs.Prelude.{◌≡◌, IfOk, None};
+ghost use Rattle.std.specs.Prelude.{◌≡◌, IfOk};
 ghost use Rattle.vx_ast.specs.Syntax.{Program};
 ghost use Rattle.vx_stack.specs.Stack.{frame_tree, side_tree};
-ghost use Rattle.vx_terms.specs.Build.{whole_amount};
-ghost use Rattle.vx_terms.specs.Views.{term};
 
+use crate::waiting::{
+    Codes, Consumed, Consumption, Executed, Location, Operand, Produced, Production, Search,
+};
 use std::alloc::{AllocError, Global};
 use std::rc::Rc;
-use vx_ast::Place;
 use vx_heap::SymHeap;
-use vx_resolved::{Assertion, Block, Connective, Expr, Method, Operator, Stmt};
+use vx_resolved::{Assertion, Block, Expr, Method, Stmt};
 use vx_rules::Code;
 use vx_states::SymState;
-use vx_terms::Term;
-
-/// The codes of a consume: of a pure part, and of a permission.
-#[derive(Clone, Copy, Debug, PartialEq, Eq)]
-pub struct Codes {
-    pub pure: Code,
-    pub permission: Code,
-    /// Facts tell the parts of what it builds.
-    pub builds: bool,
-}
-
-/// How an assertion is produced.
-#[derive(Drop)]
-pub struct Production {
-    /// Each amount is multiplied by it.
-    pub scale: Rc<Term>,
-    pub snapshot: Option<Rc<Term>>,
-}
-
-/// How an assertion is consumed.
-#[derive(Drop)]
-pub struct Consumption {
-    pub codes: Codes,
-    /// Each amount is multiplied by it.
-    pub scale: Rc<Term>,
-    /// The heap of the start, in which expressions are read.
-    pub start: Rc<SymHeap>,
-}
-
-impl Production {
-    /// As it is written, without a snapshot.
-    pub fn as_written(alloc: Global) -> Result<Rc<Production>, AllocError>
-        ensures scale { IfOk result (λ x. term x.value.scale.value ≡ whole_amount) }
-        ensures snapshot { IfOk result (λ x. x.value.snapshot ≡ None) }
-    {
-        let scale = vx_heap::whole(alloc)?;
-        Ok(Rc::new(
-            alloc,
-            Production {
-                scale,
-                snapshot: None,
-            },
-        )?)
-    }
-}
-
-/// What of an expression waits for the value of an operand.
-#[derive(Drop)]
-pub enum Operand {
-    Negate,
-    OperateRight(Operator, Rc<Expr>),
-    OperateWith(Operator, Rc<Term>),
-    ConnectRight(Connective, Rc<Expr>),
-    ConnectWith(Connective, Rc<Term>),
-    /// The right part is looked at on one side alone.
-    ConnectSides(Connective, Rc<Expr>),
-    ChooseThen(Rc<Expr>, Rc<Expr>),
-    ChooseElse(Rc<Term>, Rc<Expr>),
-    ChooseWith(Rc<Term>, Rc<Term>),
-    /// Each branch on a side of its own.
-    ChooseSides(Rc<Expr>, Rc<Expr>),
-}
-
-/// What of a consume waits for a value or a snapshot.
-#[derive(Drop)]
-pub enum Consumed {
-    /// The condition to ask for, and the heap behind it.
-    Ask(Place, Code, Rc<SymHeap>),
-    /// The left snapshot, before the right part.
-    Right(Rc<Assertion>, Rc<Consumption>),
-    /// The right snapshot, after the left one.
-    With(Rc<Term>, Codes),
-}
-
-/// What of a statement waits for a value.
-#[derive(Drop)]
-pub enum Executed {
-    Assign(Rc<String>),
-    Assume,
-    /// Both blocks, and how many variables stand before them.
-    If(Rc<Block>, Rc<Block>, usize),
-    /// What was asserted stays: the heap of before.
-    Asserted(Rc<SymHeap>),
-    Exhaled,
-}
+use vx_terms::{Sort, Term};
 
 /// What waits for a state.
 #[cycle(frames)]
@@ -119,6 +35,21 @@ pub enum Next {
     Unit(Rc<SymHeap>, Rc<Hole>),
     /// The sides of a method whose precondition was produced.
     Sides(Rc<Method>),
+    /// An expression is evaluated.
+    Eval(Rc<Expr>, Rc<Hole>),
+    /// A location's amount, which isn't negative, is put; its chunk is inner or not.
+    Put(Rc<Location>, Rc<Production>, bool, Rc<Next>),
+    /// A location's amount, which isn't negative, is taken from this heap.
+    Take(Rc<Location>, Code, Rc<SymHeap>, Rc<Hole>),
+    /// The value is read in the first from this candidate on that is as wanted.
+    ReadFrom(Rc<Search>, usize, Rc<Hole>),
+    /// An amount is taken from the first from this candidate on that is as wanted; else it is 0, and a value of the
+    /// sort is new.
+    TakeFrom(Rc<Search>, usize, Rc<Term>, Sort, Rc<Hole>),
+    /// A value is written to the first from this candidate on that is as wanted.
+    WriteTo(Rc<Search>, usize, Rc<Term>, Rc<Next>),
+    /// A new value of a sort.
+    Fresh(Sort, Rc<Hole>),
 }
 
 /// What waits for a value.
@@ -128,8 +59,7 @@ pub enum Hole {
     Finish,
     Operand(Operand, Rc<Hole>),
     Consumed(Consumed, Rc<Hole>),
-    /// A pure part is produced, with this snapshot.
-    Produced(Option<Rc<Term>>, Rc<Next>),
+    Produced(Produced, Rc<Next>),
     Executed(Executed, Rc<Next>),
 }
 
@@ -149,6 +79,13 @@ impl Drop for Next {
                 Next::ConsumeFrom(_a, _x, _hole) => return,
                 Next::Unit(_start, _hole) => return,
                 Next::Sides(_m) => return,
+                Next::Eval(_e, _hole) => return,
+                Next::Put(_location, _x, _inner, rest) => rest,
+                Next::Take(_location, _code, _heap, _hole) => return,
+                Next::ReadFrom(_search, _number, _hole) => return,
+                Next::TakeFrom(_search, _number, _amount, _sort, _hole) => return,
+                Next::WriteTo(_search, _number, _value, rest) => rest,
+                Next::Fresh(_sort, _hole) => return,
             };
             match Rc::into_inner(rest) {
                 Some(next) => self = next,
@@ -166,7 +103,7 @@ impl Drop for Hole {
                 Hole::Finish => return,
                 Hole::Operand(_operand, rest) => rest,
                 Hole::Consumed(_consumed, rest) => rest,
-                Hole::Produced(_snapshot, _next) => return,
+                Hole::Produced(_produced, _next) => return,
                 Hole::Executed(_executed, _next) => return,
             };
             match Rc::into_inner(rest) {

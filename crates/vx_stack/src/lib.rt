@@ -5,10 +5,14 @@ mod clauses;
 mod conts;
 mod frame;
 mod question;
+mod search;
+mod waiting;
 
 pub use clauses::joined;
 pub use conts::{Conts, Move};
-pub use frame::{
-    Codes, Consumed, Consumption, Executed, Frame, Hole, Next, Operand, Production, Side,
-};
+pub use frame::{Frame, Hole, Next, Side};
 pub use question::Query;
+pub use search::field_sort;
+pub use waiting::{
+    Codes, Consumed, Consumption, Executed, Location, Loop, Operand, Produced, Production, Search,
+};

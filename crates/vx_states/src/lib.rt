@@ -1,6 +1,7 @@
 //! Symbolic states, with paths that are shared and indexed.
 #![tactic(auto)]
 
+mod holdings;
 mod index;
 mod indexed;
 mod key;

@@ -6,7 +6,7 @@ ghost use Rattle.vx_ends.specs.declared.piece.Ending.{Ending};
 ghost use Rattle.vx_smt_meaning.specs.Dialogues.{Check};
 ghost use Rattle.vx_dialogue.specs.Scripts.{Turn};
 ghost use Rattle.vx_resolved.specs.Resolved.{kind as kind_of};
-ghost use Rattle.vx_settling.specs.Settled.{settled};
+ghost use Rattle.vx_resolved.specs.Settled.{settled};
 ghost use Rattle.vx_report.specs.Reports.{AreNamed, is_faulted};
 ghost use Rattle.vx_machine.specs.Runs.{Follows, awaits, member_tree};
 ghost use Rattle.vx_verifier.specs.Causes.{HasCauseOf, NoCountRose};
@@ -27,7 +27,7 @@ use vx_machine::{Ask, Machine, Outcome};
 use vx_report::{MemberRun, Verdict};
 use vx_resolved::Kind;
 use vx_rules::Reply;
-use vx_settling::Settled;
+use vx_resolved::Settled;
 use vx_typing::Typed;
 
 /// What became of each member with a line, in file order.

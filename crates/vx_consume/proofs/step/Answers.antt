@@ -1,5 +1,5 @@
 use Rattle.std.proofs.Common.{refl}
-use Rattle.vx_settling.specs.Settled.{settled}
+use Rattle.vx_resolved.specs.Settled.{settled}
 use Rattle.vx_stack.proofs.Steps.{stepped_as}
 use Rattle.vx_consume.proofs.step.Goals as goal
 

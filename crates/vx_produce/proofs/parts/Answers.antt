@@ -2,7 +2,7 @@ use Rattle.std.proofs.Common.{◌≡◌, ap, ◌∙◌}
 use Rattle.vx_ast.specs.Syntax.{Assertion}
 use Rattle.vx_resolved.specs.Resolved.{assertion}
 use Rattle.vx_terms.specs.Views.{term}
-use Rattle.vx_settling.specs.Settled.{settled}
+use Rattle.vx_resolved.specs.Settled.{settled}
 use Rattle.vx_rules.specs.States.{State}
 use Rattle.vx_rules.specs.Members.{rules}
 use Rattle.vx_rules.specs.Rules.{Going, produce, left_part, right_part}

@@ -1,6 +1,6 @@
 use Rattle.std.proofs.Common.{◌≡◌, true, false, refl, ap, sym, ◌∙◌, ◌&&◌}
 use Rattle.vx_resolved.specs.Resolved.{expr}
-use Rattle.vx_settling.specs.Settled.{settled}
+use Rattle.vx_resolved.specs.Settled.{settled}
 use Rattle.vx_rules.specs.Rules.{is_total}
 use Rattle.vx_stack.proofs.Steps.{stepped_as}
 use Rattle.vx_eval.proofs.expression.step.Goals as goal

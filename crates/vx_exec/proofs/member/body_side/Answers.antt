@@ -3,7 +3,7 @@ use Rattle.vx_ast.specs.Syntax.{Assertion, joined}
 use Rattle.vx_resolved.specs.Resolved.{assertion, assertions, block}
 use Rattle.vx_terms.specs.Views.{term}
 use Rattle.vx_terms.specs.Build.{whole_amount}
-use Rattle.vx_settling.specs.Settled.{settled}
+use Rattle.vx_resolved.specs.Settled.{settled}
 use Rattle.vx_rules.specs.States.{State}
 use Rattle.vx_rules.specs.Trees.{PostCode, End}
 use Rattle.vx_rules.specs.Rules.{Giving, Going, consume}

@@ -3,7 +3,7 @@ use Rattle.vx_resolved.specs.declared.Method.{Method}
 use Rattle.vx_ast.specs.Syntax.{joined}
 use Rattle.vx_resolved.specs.Resolved.{assertion, assertions, method}
 use Rattle.vx_terms.specs.Build.{whole_amount}
-use Rattle.vx_settling.specs.Settled.{settled}
+use Rattle.vx_resolved.specs.Settled.{settled}
 use Rattle.vx_states.specs.SymStates.{optional_term}
 use Rattle.vx_rules.specs.Members.{rules, sides}
 use Rattle.vx_rules.specs.Rules.{Going}

@@ -2,7 +2,7 @@ use Rattle.std.proofs.Common.{◌≡◌, ap, ◌∙◌, None}
 use Rattle.vx_ast.specs.Syntax.{joined}
 use Rattle.vx_resolved.specs.Resolved.{method}
 use Rattle.vx_terms.specs.Build.{whole_amount}
-use Rattle.vx_settling.specs.Settled.{settled}
+use Rattle.vx_resolved.specs.Settled.{settled}
 use Rattle.vx_rules.specs.States.{State, declare_all}
 use Rattle.vx_states.specs.SymStates.{state}
 use Rattle.vx_rules.specs.Members.{blank, rules, sides}

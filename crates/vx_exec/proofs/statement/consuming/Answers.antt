@@ -2,7 +2,7 @@ use Rattle.std.proofs.Common.{◌≡◌, ap, ◌∙◌}
 use Rattle.vx_resolved.specs.Resolved.{assertion}
 use Rattle.vx_terms.specs.Views.{term}
 use Rattle.vx_terms.specs.Build.{whole_amount}
-use Rattle.vx_settling.specs.Settled.{settled}
+use Rattle.vx_resolved.specs.Settled.{settled}
 use Rattle.vx_rules.specs.Trees.{AssertCode, PermissionCode}
 use Rattle.vx_rules.specs.Rules.{Giving}
 use Rattle.vx_rules.specs.Members.{codes}

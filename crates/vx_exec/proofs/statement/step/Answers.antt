@@ -1,6 +1,6 @@
 use Rattle.std.proofs.Common.{◌≡◌, length, map, refl, sym, ◌∙◌}
 use Rattle.std.proofs.lemmas.List.{length-map}
-use Rattle.vx_settling.specs.Settled.{settled}
+use Rattle.vx_resolved.specs.Settled.{settled}
 use Rattle.vx_states.specs.SymStates.{binding}
 use Rattle.vx_stack.proofs.Steps.{stepped_as}
 use Rattle.vx_exec.proofs.statement.step.Goals as goal

@@ -1,5 +1,5 @@
 use Rattle.std.proofs.Common.{◌≡◌, ◌<◌, ◌∙◌}
-use Rattle.vx_settling.specs.Settled.{settled}
+use Rattle.vx_resolved.specs.Settled.{settled}
 use Rattle.vx_stack.specs.Stack.{side_tree}
 use Rattle.vx_rules.specs.Trees.{steps_then}
 use Rattle.vx_machine.specs.Runs.{steps_remaining}

@@ -1,6 +1,6 @@
 use Rattle.std.proofs.Common.{ap, sym}
 use Rattle.vx_resolved.specs.Resolved.{method}
-use Rattle.vx_settling.specs.Settled.{settled}
+use Rattle.vx_resolved.specs.Settled.{settled}
 use Rattle.vx_rules.specs.Members.{both_sides, rules}
 use Rattle.vx_stack.proofs.Steps.{stepped_as}
 use Rattle.vx_machine.proofs.run.step_method.Goals as goal

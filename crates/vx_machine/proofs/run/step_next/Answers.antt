@@ -1,6 +1,6 @@
 use Rattle.std.proofs.Common.{refl, ap, sym, ◌∙◌}
 use Rattle.vx_resolved.specs.Resolved.{method}
-use Rattle.vx_settling.specs.Settled.{settled}
+use Rattle.vx_resolved.specs.Settled.{settled}
 use Rattle.vx_rules.specs.Members.{rules, sides}
 use Rattle.vx_stack.specs.Stack.{going}
 use Rattle.vx_states.specs.SymStates.{state}

@@ -1,4 +1,4 @@
-use Rattle.vx_settling.specs.Settled.{settled}
+use Rattle.vx_resolved.specs.Settled.{settled}
 use Rattle.vx_machine.proofs.Walks.{turned_go, turned_fork, turned_ask}
 use Rattle.vx_machine.proofs.run.turn.Goals as goal
 

@@ -1,4 +1,4 @@
-use Rattle.vx_settling.specs.Settled.{settled}
+use Rattle.vx_resolved.specs.Settled.{settled}
 use Rattle.vx_machine.specs.Runs.{Follows}
 use Rattle.vx_rows.proofs.machines.put_steps.Given as goal
 

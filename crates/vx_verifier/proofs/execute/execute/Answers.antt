@@ -1,5 +1,5 @@
 use Rattle.std.proofs.Common.{◌≡◌, false, is_err, rules, sym}
-use Rattle.vx_settling.specs.Settled.{settled}
+use Rattle.vx_resolved.specs.Settled.{settled}
 use Rattle.vx_verifier.specs.Lanes.{is_lost}
 use Rattle.vx_verifier.proofs.Children.{if_ok_at, on_ok_of, match_ok_of}
 use Rattle.vx_verifier.proofs.Questions.{judges_at}

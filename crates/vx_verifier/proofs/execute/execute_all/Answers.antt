@@ -1,6 +1,6 @@
 use Rattle.std.proofs.Common.{◌≡◌, ◌<◌, ◌≤◌, ◌+◌, ◌++◌, ◌∷◌, [], true, false, drop, length, ap, ◌∙◌, sym, subst, rules, arith}
 use Rattle.vx_resolved.specs.Resolved.{kind, member}
-use Rattle.vx_settling.specs.Settled.{settled}
+use Rattle.vx_resolved.specs.Settled.{settled}
 use Rattle.vx_report.specs.Reports.{AreNamed}
 use Rattle.vx_verifier.specs.Headline.{members_of}
 use Rattle.vx_verifier.specs.Lines.{has_line, lines_from, lines}

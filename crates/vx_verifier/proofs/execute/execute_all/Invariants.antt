@@ -1,5 +1,5 @@
 use Rattle.std.proofs.Common.{◌≡◌, ◌+◌, ◌*◌, ◌≤◌, ◌++◌, IsTrue, drop}
-use Rattle.vx_settling.specs.Settled.{settled}
+use Rattle.vx_resolved.specs.Settled.{settled}
 use Rattle.vx_ends.specs.declared.piece.Start.{Start}
 use Rattle.vx_report.specs.Reports.{AreNamed}
 use Rattle.vx_verifier.specs.Headline.{members_of}

@@ -1,6 +1,6 @@
 use Rattle.std.proofs.Common.{◌<◌, ◌++◌, [], length, true, refl, ap, ◌∙◌, sym, subst, arith, inl, inr}
 use Rattle.std.proofs.lemmas.Result.{IfOk-weaker}
-use Rattle.vx_settling.specs.Settled.{settled}
+use Rattle.vx_resolved.specs.Settled.{settled}
 use Rattle.vx_verifier.specs.Headline.{IsRecorded}
 use Rattle.vx_stack.specs.Stack.{query}
 use Rattle.vx_verifier.specs.Lanes.{IsDue, tried_turn, turns_so_far, is_lost, is_started}

@@ -1,5 +1,5 @@
 use Rattle.std.proofs.Common.{◌≡◌, ℕ, ◌⊎◌, ◌+◌, ◌-◌, ◌≤◌, true, ◌++◌, List, [], length}
-use Rattle.vx_settling.specs.Settled.{settled}
+use Rattle.vx_resolved.specs.Settled.{settled}
 use Rattle.vx_ends.specs.declared.piece.Start.{Start}
 use Rattle.vx_ends.specs.declared.piece.Ending.{Ending}
 use Rattle.vx_smt_meaning.specs.Dialogues.{Check}

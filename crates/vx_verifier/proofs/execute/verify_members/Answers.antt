@@ -1,6 +1,6 @@
 use Rattle.std.proofs.Common.{◌≤◌, arith}
 use Rattle.std.proofs.lemmas.Result.{IfOk-weaker}
-use Rattle.vx_settling.specs.Settled.{settled}
+use Rattle.vx_resolved.specs.Settled.{settled}
 use Rattle.vx_verifier.proofs.Members.{headline}
 use Rattle.vx_verifier.specs.declared.lane.Child.TheVariants.{NotStarted}
 use Rattle.vx_verifier.proofs.Steady.{none_rose}

@@ -1,5 +1,5 @@
 use Rattle.std.proofs.Common.{List, refl}
-use Rattle.vx_settling.specs.Settled.{settled}
+use Rattle.vx_resolved.specs.Settled.{settled}
 use Rattle.vx_stack.specs.declared.frame.Side.{Side}
 use Rattle.vx_rules.specs.Trees.{Tree}
 use Rattle.vx_machine.specs.declared.machine.Phase.{Phase}

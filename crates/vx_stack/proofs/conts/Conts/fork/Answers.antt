@@ -2,7 +2,7 @@ use Rattle.std.proofs.Common.{◌≡◌, false, ap, sym, ◌∙◌}
 use Rattle.vx_terms.specs.Terms.{Term}
 use Rattle.vx_terms.specs.Views.{term}
 use Rattle.vx_terms.specs.Build.{negate}
-use Rattle.vx_settling.specs.Settled.{settled}
+use Rattle.vx_resolved.specs.Settled.{settled}
 use Rattle.vx_rules.specs.States.{State, is_known, with_branch}
 use Rattle.vx_states.specs.SymStates.{state}
 use Rattle.vx_stack.specs.Stack.{frame_tree}

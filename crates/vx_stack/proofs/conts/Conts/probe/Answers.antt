@@ -2,7 +2,7 @@ use Rattle.std.proofs.Common.{◌≡◌, ◌++◌, ◌∷◌, [], true, false, r
 use Rattle.vx_terms.specs.Terms.{Term, same}
 use Rattle.vx_terms.specs.Views.{term}
 use Rattle.vx_terms.specs.Build.{true_term, false_term}
-use Rattle.vx_settling.specs.Settled.{settled}
+use Rattle.vx_resolved.specs.Settled.{settled}
 use Rattle.vx_stack.specs.declared.frame.Frame.TheVariants as frame'
 use Rattle.vx_stack.specs.declared.frame.Side.{Side}
 use Rattle.vx_rules.specs.States.{State}

@@ -1,5 +1,5 @@
 -- The program that a settled one is.
-use Rattle.vx_settling.specs.declared.settled.Settled.{Settled}
+use Rattle.vx_resolved.specs.declared.settled.Settled.{Settled}
 use Rattle.vx_ast.specs.Syntax.{Program}
 use Rattle.vx_resolved.specs.Resolved.{program}
 

@@ -1,0 +1,8 @@
+//! Candidate by candidate: a location is read, written or taken from in the first chunk that a probe shows to be as wanted.
+#![tactic(auto)]
+
+mod probes;
+mod starts;
+
+pub use probes::{read_from, take_from, write_to};
+pub use starts::{read_field, take_location, write_field};
