@@ -7,8 +7,9 @@ ghost use Rattle.vx_typing.specs.Typed.{written_of, resolved_of};
 ghost use Rattle.vx_verifier.specs.Headline.{IsSupported};
 
 use std::alloc::{AllocError, Global};
+use vx_resolved::Settled;
 use vx_settled::{executed_programs_are_of_fields, typed_programs_settle_typed};
-use vx_settling::{Settled, Unsettled, settle};
+use vx_settling::{Unsettled, settle};
 use vx_typing::Typed;
 
 /// A program that is executed, settled.
