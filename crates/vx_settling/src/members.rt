@@ -129,7 +129,5 @@ pub fn settle(alloc: Global, p: &Program) -> Result<Settled, Unsettled>
 {
     let fields = all_fields(alloc, &p.members)?;
     let members = members(alloc, &fields, &p.members)?;
-    Ok(Settled {
-        program: vx_resolved::Program { members },
-    })
+    Ok(Settled::new(alloc, vx_resolved::Program { members })?)
 }
