@@ -13,11 +13,11 @@ ghost use Rattle.vx_resolved.specs.Settled.{settled};
 ghost use Rattle.vx_settling.specs.Parts.{over};
 ghost use Rattle.vx_settling.specs.Fields.{names_in};
 
+use crate::Unsettled;
 use crate::clauses::clauses;
 use crate::expr::shared;
 use crate::fields::{Fields, all_fields};
 use crate::stmt::block;
-use crate::Unsettled;
 use std::alloc::{AllocError, Global};
 use std::rc::Rc;
 use vx_ast::{Declaration, Member, MemberKind, Method, Place, Program};
