@@ -10,12 +10,11 @@ use vx_ast::MemberId;
 use vx_machine::{Ask, Machine, Outcome};
 use vx_parser::parse;
 use vx_report::{code_word, reply_word};
-use vx_resolved::Settled;
 use vx_rules::Reply;
 use vx_smt_meaning::Command;
-use vx_settling::settle;
 use vx_smt_text::write;
 use vx_stack::Query;
+use vx_settling::{Settled, settle};
 
 // On, with this reply where one is awaited.
 fn on(
