@@ -1,3 +1,4 @@
 pub mod Resolved
+pub mod Types
 pub mod Settled
 pub mod Executed

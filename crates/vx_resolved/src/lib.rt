@@ -3,10 +3,11 @@
 //! so far.
 #![tactic(auto)]
 
+mod lookups;
 mod settled;
+mod types;
 
 pub use settled::Settled;
-
 use std::rc::Rc;
 use vx_ast::{Place, ValueType};
 

@@ -1,4 +1,5 @@
 pub mod Asserted
+pub mod Lists
 pub mod Loops
 pub mod Methods
 pub mod Refused

@@ -27,7 +27,7 @@ pub struct Contract {
 }
 
 // One assertion more.
-#[tactic(auto, using(crate::proofs::Refused::passed, crate::proofs::Asserted::one_behind))]
+#[tactic(auto, using(crate::proofs::Refused::passed, crate::proofs::Lists::one_behind))]
 fn one_more(alloc: Global, e: &Expr, settled: &mut Assertions) -> Result<(), Unsettled>
     ensures settled { OnOk result ((names : Names) (rest : List Syntax.Assertion) → view.assertions settled.new.items ++ rest ≡ view.assertions settled.old.items ++ assertion names (written_expr e.now) ∷ rest) }
     ensures executed { Tells result (is_executed_expr (written_expr e.now)) }

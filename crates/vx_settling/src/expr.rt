@@ -1,18 +1,18 @@
 //! Expressions, settled.
 
 ghost use Rattle.std.specs.Prelude.{◌≡◌, IfOk};
-ghost use Rattle.vx_ast.specs.Written.{written_expr};
-ghost use Rattle.vx_ast.specs.Resolve.{expression, unary_of, binary_of};
-ghost use Rattle.vx_resolved.specs.Resolved.{expr, operator, connective};
+ghost use Rattle.vx_ast.specs.Written.{written_expr, written_optional};
+ghost use Rattle.vx_ast.specs.Resolve.{amount, expression, unary_of, binary_of, part_of};
+ghost use Rattle.vx_resolved.specs.Resolved.{expr, operator, division, connective};
 ghost use Rattle.vx_ast.specs.Syntax as Syntax;
-ghost use Rattle.vx_resolved.specs.Executed.{is_executed_expr, is_executed_operator};
+ghost use Rattle.vx_resolved.specs.Executed.{is_executed_expr, is_executed_amount};
 ghost use Rattle.vx_settling.specs.Refusals.{Tells};
 
 use crate::Unsettled;
 use std::alloc::{AllocError, Global};
 use std::rc::Rc;
 use vx_ast::{BinaryOperator, Expr, ExprKind, Place, UnaryOperator};
-use vx_resolved::{Connective, Operator};
+use vx_resolved::{Connective, Division, Operator};
 
 fn operate(
     alloc: Global,
@@ -48,38 +48,120 @@ fn negate(
     Ok(Rc::new(alloc, vx_resolved::Expr::Not(place, e))?)
 }
 
-// A node of two operands, which isn't a division.
+fn divide(
+    alloc: Global,
+    place: Place,
+    op: Division,
+    a: Rc<vx_resolved::Expr>,
+    b: Rc<vx_resolved::Expr>,
+) -> Result<Rc<vx_resolved::Expr>, AllocError>
+    ensures { IfOk result (λ e. expr e.value ≡ Syntax.Divide place (division op) (expr a.value) (expr b.value)) }
+{
+    Ok(Rc::new(alloc, vx_resolved::Expr::Divide(place, op, a, b))?)
+}
+
+fn null(alloc: Global, place: Place) -> Result<Rc<vx_resolved::Expr>, AllocError>
+    ensures { IfOk result (λ e. expr e.value ≡ Syntax.Null place) }
+{
+    Ok(Rc::new(alloc, vx_resolved::Expr::Null(place))?)
+}
+
+fn fraction(
+    alloc: Global,
+    place: Place,
+    numerator: u128,
+    denominator: u128,
+) -> Result<Rc<vx_resolved::Expr>, AllocError>
+    ensures { IfOk result (λ e. expr e.value ≡ Syntax.Part place numerator denominator) }
+{
+    Ok(Rc::new(
+        alloc,
+        vx_resolved::Expr::Part(place, numerator, denominator),
+    )?)
+}
+
+// A numeral over what should be another.
+fn part_over(
+    alloc: Global,
+    place: Place,
+    numerator: u128,
+    b: &vx_resolved::Expr,
+) -> Result<Rc<vx_resolved::Expr>, AllocError>
+    ensures { (at : Place) → IfOk result (λ e. expr e.value ≡ part_of place (Syntax.Number at numerator) (expr b.now)) }
+{
+    match b {
+        vx_resolved::Expr::Number(_, denominator) => {
+            fraction(alloc, place, numerator, *denominator)
+        }
+        vx_resolved::Expr::Truth(_, _)
+        | vx_resolved::Expr::Null(_)
+        | vx_resolved::Expr::Part(_, _, _)
+        | vx_resolved::Expr::Variable(_, _)
+        | vx_resolved::Expr::Not(_, _)
+        | vx_resolved::Expr::Operate(_, _, _, _)
+        | vx_resolved::Expr::Divide(_, _, _, _)
+        | vx_resolved::Expr::Connect(_, _, _, _)
+        | vx_resolved::Expr::Choose(_, _, _, _)
+        | vx_resolved::Expr::Read(_, _, _)
+        | vx_resolved::Expr::Old(_, _) => null(alloc, place),
+    }
+}
+
+// The fraction of two numerals. Other operands of `/` are typed in no program.
+fn part(
+    alloc: Global,
+    place: Place,
+    a: &vx_resolved::Expr,
+    b: &vx_resolved::Expr,
+) -> Result<Rc<vx_resolved::Expr>, AllocError>
+    ensures { IfOk result (λ e. expr e.value ≡ part_of place (expr a.now) (expr b.now)) }
+{
+    match a {
+        vx_resolved::Expr::Number(_, numerator) => part_over(alloc, place, *numerator, b),
+        vx_resolved::Expr::Truth(_, _)
+        | vx_resolved::Expr::Null(_)
+        | vx_resolved::Expr::Part(_, _, _)
+        | vx_resolved::Expr::Variable(_, _)
+        | vx_resolved::Expr::Not(_, _)
+        | vx_resolved::Expr::Operate(_, _, _, _)
+        | vx_resolved::Expr::Divide(_, _, _, _)
+        | vx_resolved::Expr::Connect(_, _, _, _)
+        | vx_resolved::Expr::Choose(_, _, _, _)
+        | vx_resolved::Expr::Read(_, _, _)
+        | vx_resolved::Expr::Old(_, _) => null(alloc, place),
+    }
+}
+
+// A node of two operands.
 fn binary(
     alloc: Global,
     place: Place,
     op: BinaryOperator,
     a: Rc<vx_resolved::Expr>,
     b: Rc<vx_resolved::Expr>,
-) -> Result<Rc<vx_resolved::Expr>, Unsettled>
-    ensures settled { IfOk result (λ e. expr e.value ≡ binary_of place op (expr a.value) (expr b.value)) }
-    ensures executed { Tells result (is_executed_operator op) }
+) -> Result<Rc<vx_resolved::Expr>, AllocError>
+    ensures { IfOk result (λ e. expr e.value ≡ binary_of place op (expr a.value) (expr b.value)) }
 {
-    let e = match op {
-        BinaryOperator::And => connect(alloc, place, Connective::And, a, b)?,
-        BinaryOperator::Or => connect(alloc, place, Connective::Or, a, b)?,
-        BinaryOperator::Implies => connect(alloc, place, Connective::Implies, a, b)?,
-        BinaryOperator::Equal => operate(alloc, place, Operator::Equal, a, b)?,
+    match op {
+        BinaryOperator::And => connect(alloc, place, Connective::And, a, b),
+        BinaryOperator::Or => connect(alloc, place, Connective::Or, a, b),
+        BinaryOperator::Implies => connect(alloc, place, Connective::Implies, a, b),
+        BinaryOperator::Equal => operate(alloc, place, Operator::Equal, a, b),
         BinaryOperator::NotEqual => {
             let same = operate(alloc, place, Operator::Equal, a, b)?;
-            negate(alloc, place, same)?
+            negate(alloc, place, same)
         }
-        BinaryOperator::Less => operate(alloc, place, Operator::Less, a, b)?,
-        BinaryOperator::LessEqual => operate(alloc, place, Operator::LessEqual, a, b)?,
-        BinaryOperator::Greater => operate(alloc, place, Operator::Greater, a, b)?,
-        BinaryOperator::GreaterEqual => operate(alloc, place, Operator::GreaterEqual, a, b)?,
-        BinaryOperator::Add => operate(alloc, place, Operator::Add, a, b)?,
-        BinaryOperator::Subtract => operate(alloc, place, Operator::Subtract, a, b)?,
-        BinaryOperator::Multiply => operate(alloc, place, Operator::Multiply, a, b)?,
-        BinaryOperator::Divide => return Err(Unsettled::NotExecuted(place, "/")),
-        BinaryOperator::Quotient => return Err(Unsettled::NotExecuted(place, "\\")),
-        BinaryOperator::Remainder => return Err(Unsettled::NotExecuted(place, "%")),
-    };
-    Ok(e)
+        BinaryOperator::Less => operate(alloc, place, Operator::Less, a, b),
+        BinaryOperator::LessEqual => operate(alloc, place, Operator::LessEqual, a, b),
+        BinaryOperator::Greater => operate(alloc, place, Operator::Greater, a, b),
+        BinaryOperator::GreaterEqual => operate(alloc, place, Operator::GreaterEqual, a, b),
+        BinaryOperator::Add => operate(alloc, place, Operator::Add, a, b),
+        BinaryOperator::Subtract => operate(alloc, place, Operator::Subtract, a, b),
+        BinaryOperator::Multiply => operate(alloc, place, Operator::Multiply, a, b),
+        BinaryOperator::Divide => part(alloc, place, &a, &b),
+        BinaryOperator::Quotient => divide(alloc, place, Division::Quotient, a, b),
+        BinaryOperator::Remainder => divide(alloc, place, Division::Remainder, a, b),
+    }
 }
 
 fn minus(
@@ -122,7 +204,42 @@ fn variable(alloc: Global, place: Place, name: &str) -> Result<Rc<vx_resolved::E
     Ok(Rc::new(alloc, vx_resolved::Expr::Variable(place, name))?)
 }
 
+fn outcome(alloc: Global, place: Place) -> Result<Rc<vx_resolved::Expr>, AllocError>
+    ensures { IfOk result (λ r. expr r.value ≡ Syntax.Variable place Syntax.result_name) }
+{
+    variable(alloc, place, "result")
+}
+
+fn read(
+    alloc: Global,
+    place: Place,
+    e: Rc<vx_resolved::Expr>,
+    field: &str,
+) -> Result<Rc<vx_resolved::Expr>, AllocError>
+    ensures { IfOk result (λ r. expr r.value ≡ Syntax.Read place (expr e.value) field.now) }
+{
+    let field = shared(alloc, field)?;
+    Ok(Rc::new(alloc, vx_resolved::Expr::Read(place, e, field))?)
+}
+
+/// How much is held, settled: all where nothing stands.
+#[cycle(expressions)]
+pub fn amount(
+    alloc: Global,
+    place: Place,
+    share: &Option<Rc<Expr>>,
+) -> Result<Rc<vx_resolved::Expr>, Unsettled>
+    ensures settled { IfOk result (λ r. expr r.value ≡ amount place (written_optional share.now)) }
+    ensures executed { Tells result (is_executed_amount (written_optional share.now)) }
+{
+    match share {
+        None => Ok(fraction(alloc, place, 1, 1)?),
+        Some(e) => expression(alloc, e),
+    }
+}
+
 /// An expression, settled. Its parts are settled from left to right, and before the node itself.
+#[cycle(expressions)]
 pub fn expression(alloc: Global, e: &Expr) -> Result<Rc<vx_resolved::Expr>, Unsettled>
     ensures settled { IfOk result (λ r. expr r.value ≡ expression (written_expr e.now)) }
     ensures executed { Tells result (is_executed_expr (written_expr e.now)) }
@@ -131,7 +248,15 @@ pub fn expression(alloc: Global, e: &Expr) -> Result<Rc<vx_resolved::Expr>, Unse
     match &e.kind {
         ExprKind::Number(n) => Ok(Rc::new(alloc, vx_resolved::Expr::Number(place, *n))?),
         ExprKind::Boolean(b) => Ok(Rc::new(alloc, vx_resolved::Expr::Truth(place, *b))?),
+        ExprKind::Null => Ok(null(alloc, place)?),
+        ExprKind::Write => Ok(fraction(alloc, place, 1, 1)?),
+        ExprKind::Nothing => Ok(fraction(alloc, place, 0, 1)?),
+        ExprKind::Outcome => Ok(outcome(alloc, place)?),
         ExprKind::Variable(name) => Ok(variable(alloc, place, name)?),
+        ExprKind::Read(a, field) => {
+            let a = expression(alloc, a)?;
+            Ok(read(alloc, place, a, &field.text)?)
+        }
         ExprKind::Unary(op, a) => {
             let a = expression(alloc, a)?;
             Ok(unary(alloc, place, *op, a)?)
@@ -139,7 +264,7 @@ pub fn expression(alloc: Global, e: &Expr) -> Result<Rc<vx_resolved::Expr>, Unse
         ExprKind::Binary(op, a, b) => {
             let a = expression(alloc, a)?;
             let b = expression(alloc, b)?;
-            binary(alloc, place, *op, a, b)
+            Ok(binary(alloc, place, *op, a, b)?)
         }
         ExprKind::Conditional(c, a, b) => {
             let c = expression(alloc, c)?;
@@ -147,14 +272,17 @@ pub fn expression(alloc: Global, e: &Expr) -> Result<Rc<vx_resolved::Expr>, Unse
             let b = expression(alloc, b)?;
             Ok(Rc::new(alloc, vx_resolved::Expr::Choose(place, c, a, b))?)
         }
-        ExprKind::Null => Err(Unsettled::NotExecuted(place, "null")),
-        ExprKind::Write => Err(Unsettled::NotExecuted(place, "write")),
-        ExprKind::Nothing => Err(Unsettled::NotExecuted(place, "none")),
-        ExprKind::Outcome => Err(Unsettled::NotExecuted(place, "result")),
+        ExprKind::Old(a) => {
+            let a = expression(alloc, a)?;
+            Ok(Rc::new(alloc, vx_resolved::Expr::Old(place, a))?)
+        }
+        // Typed as an assertion alone.
+        ExprKind::Access(a, share) => {
+            expression(alloc, a)?;
+            amount(alloc, place, share)?;
+            Ok(null(alloc, place)?)
+        }
         ExprKind::Call(_, _) => Err(Unsettled::NotExecuted(place, "(")),
-        ExprKind::Read(_, _) => Err(Unsettled::NotExecuted(place, ".")),
-        ExprKind::Old(_) => Err(Unsettled::NotExecuted(place, "old")),
-        ExprKind::Access(_, _) => Err(Unsettled::NotExecuted(place, "acc")),
         ExprKind::Unfolding(_, _, _, _) => Err(Unsettled::NotExecuted(place, "unfolding")),
     }
 }

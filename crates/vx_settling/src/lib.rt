@@ -4,6 +4,7 @@
 mod assertions;
 mod clauses;
 mod expr;
+mod fields;
 mod members;
 mod stmt;
 mod unsettled;

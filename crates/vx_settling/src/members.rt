@@ -1,31 +1,32 @@
 //! Members, settled.
 
-ghost use Rattle.std.specs.Prelude.{◌≡◌, IfOk, map};
+ghost use Rattle.std.specs.Prelude.{◌≡◌, Bool, IfOk, map};
 ghost use Rattle.vx_ast.specs.Written as written;
 ghost use Rattle.vx_ast.specs.Written.{written_declaration, written_kind, written_member, written_program, optional_block};
 ghost use Rattle.vx_ast.specs.Resolve as resolve;
 ghost use Rattle.vx_ast.specs.Resolve.{Names};
 ghost use Rattle.vx_resolved.specs.Resolved as view;
 ghost use Rattle.vx_ast.specs.Syntax as Syntax;
-ghost use Rattle.vx_resolved.specs.Executed.{is_executed_type, are_executed_types, is_executed_body, is_executed_kind, is_executed};
+ghost use Rattle.vx_resolved.specs.Executed.{is_executed_body, is_executed_kind, is_executed};
 ghost use Rattle.vx_settling.specs.Refusals.{Tells};
 ghost use Rattle.vx_resolved.specs.Settled.{settled};
+ghost use Rattle.vx_settling.specs.Parts.{over};
+ghost use Rattle.vx_settling.specs.Fields.{names_in};
 
+use crate::Unsettled;
 use crate::clauses::clauses;
 use crate::expr::shared;
-use crate::stmt::{block, executed_type};
-use crate::{Settled, Unsettled};
-use std::alloc::Global;
+use crate::fields::{Fields, all_fields};
+use crate::stmt::block;
+use std::alloc::{AllocError, Global};
 use std::rc::Rc;
 use vx_ast::{Declaration, Member, MemberKind, Method, Place, Program};
-use vx_resolved::Block;
+use vx_resolved::{Block, Settled};
 
 // A variable, settled.
-fn declaration(alloc: Global, d: &Declaration) -> Result<vx_resolved::Declaration, Unsettled>
-    ensures settled { IfOk result (λ r. (names : Names) → view.declaration r ≡ resolve.declaration names (written_declaration d.now)) }
-    ensures executed { Tells result (is_executed_type d.now.value_type) }
+fn declaration(alloc: Global, d: &Declaration) -> Result<vx_resolved::Declaration, AllocError>
+    ensures { IfOk result (λ r. (names : Names) → view.declaration r ≡ resolve.declaration names (written_declaration d.now)) }
 {
-    executed_type(d)?;
     Ok(vx_resolved::Declaration {
         name: shared(alloc, &d.name.text)?,
         of: d.value_type,
@@ -35,9 +36,8 @@ fn declaration(alloc: Global, d: &Declaration) -> Result<vx_resolved::Declaratio
 fn declarations(
     alloc: Global,
     all: &[Declaration],
-) -> Result<Vec<vx_resolved::Declaration>, Unsettled>
-    ensures settled { IfOk result (λ v. (names : Names) → map view.declaration v.items ≡ map (resolve.declaration names) (map written_declaration all.now)) }
-    ensures executed { Tells result (are_executed_types (map written_declaration all.now)) }
+) -> Result<Vec<vx_resolved::Declaration>, AllocError>
+    ensures { IfOk result (λ v. (names : Names) → map view.declaration v.items ≡ map (resolve.declaration names) (map written_declaration all.now)) }
 {
     let mut settled = Vec::new(alloc);
     for d in all {
@@ -46,25 +46,34 @@ fn declarations(
     Ok(settled)
 }
 
-fn body(alloc: Global, b: &Option<Rc<vx_ast::Block>>) -> Result<Option<Rc<Block>>, Unsettled>
-    ensures settled { IfOk result (λ r. (names : Names) → view.optional_block r ≡ resolve.optional_block names (optional_block b.now)) }
+fn body(
+    alloc: Global,
+    fields: &Fields,
+    b: &Option<Rc<vx_ast::Block>>,
+) -> Result<Option<Rc<Block>>, Unsettled>
+    ensures settled { IfOk result (λ r. (is_predicate is_method : Syntax.Name → Bool) → view.optional_block r ≡ resolve.optional_block (over (names_in fields.now) is_predicate is_method) (optional_block b.now)) }
     ensures executed { Tells result (is_executed_body (optional_block b.now)) }
 {
     match b {
         None => Ok(None),
-        Some(b) => Ok(Some(block(alloc, b)?)),
+        Some(b) => Ok(Some(block(alloc, fields, b)?)),
     }
 }
 
 // A method, settled. Its parts are settled in text order.
-fn method(alloc: Global, place: Place, m: &Method) -> Result<vx_resolved::Method, Unsettled>
-    ensures settled { IfOk result (λ r. (names : Names) → Syntax.IsMethod (view.method r) ≡ resolve.kind names place (written_kind (MemberKind.Method m.now))) }
+fn method(
+    alloc: Global,
+    fields: &Fields,
+    place: Place,
+    m: &Method,
+) -> Result<vx_resolved::Method, Unsettled>
+    ensures settled { IfOk result (λ r. (is_predicate is_method : Syntax.Name → Bool) → Syntax.IsMethod (view.method r) ≡ resolve.kind (over (names_in fields.now) is_predicate is_method) place (written_kind (MemberKind.Method m.now))) }
     ensures executed { Tells result (is_executed_kind (written_kind (MemberKind.Method m.now))) }
 {
     let parameters = declarations(alloc, &m.parameters)?;
     let returns = declarations(alloc, &m.returns)?;
     let contract = clauses(alloc, &m.clauses)?;
-    let body = body(alloc, &m.body)?;
+    let body = body(alloc, fields, &m.body)?;
     Ok(vx_resolved::Method {
         place,
         parameters,
@@ -76,32 +85,39 @@ fn method(alloc: Global, place: Place, m: &Method) -> Result<vx_resolved::Method
 }
 
 // A member, settled.
-fn member(alloc: Global, m: &Member) -> Result<vx_resolved::Member, Unsettled>
-    ensures settled { IfOk result (λ r. (names : Names) → view.member r ≡ resolve.member names (written_member m.now)) }
+fn member(alloc: Global, fields: &Fields, m: &Member) -> Result<vx_resolved::Member, Unsettled>
+    ensures settled { IfOk result (λ r. (is_predicate is_method : Syntax.Name → Bool) → view.member r ≡ resolve.member (over (names_in fields.now) is_predicate is_method) (written_member m.now)) }
     ensures executed { Tells result (is_executed_kind (written_member m.now).kind) }
 {
     let place = m.place;
     match &m.kind {
+        MemberKind::Field(of) => Ok(vx_resolved::Member {
+            name: shared(alloc, &m.name.text)?,
+            kind: vx_resolved::Kind::Field(*of),
+        }),
         MemberKind::Method(of) => {
-            let of = Rc::new(alloc, method(alloc, place, of)?)?;
+            let of = Rc::new(alloc, method(alloc, fields, place, of)?)?;
             Ok(vx_resolved::Member {
                 name: shared(alloc, &m.name.text)?,
                 kind: vx_resolved::Kind::Method(of),
             })
         }
-        MemberKind::Field(_) => Err(Unsettled::NotExecuted(place, "field")),
         MemberKind::Predicate(_) => Err(Unsettled::NotExecuted(place, "predicate")),
         MemberKind::Function(_) => Err(Unsettled::NotExecuted(place, "function")),
     }
 }
 
-fn members(alloc: Global, all: &[Member]) -> Result<Vec<vx_resolved::Member>, Unsettled>
-    ensures settled { IfOk result (λ v. (names : Names) → map view.member v.items ≡ map (resolve.member names) (map written_member all.now)) }
+fn members(
+    alloc: Global,
+    fields: &Fields,
+    all: &[Member],
+) -> Result<Vec<vx_resolved::Member>, Unsettled>
+    ensures settled { IfOk result (λ v. (is_predicate is_method : Syntax.Name → Bool) → map view.member v.items ≡ map (resolve.member (over (names_in fields.now) is_predicate is_method)) (map written_member all.now)) }
     ensures executed { Tells result (is_executed (map written_member all.now)) }
 {
     let mut settled = Vec::new(alloc);
     for m in all {
-        settled.push(member(alloc, m)?)?;
+        settled.push(member(alloc, fields, m)?)?;
     }
     Ok(settled)
 }
@@ -111,8 +127,7 @@ pub fn settle(alloc: Global, p: &Program) -> Result<Settled, Unsettled>
     ensures settled { IfOk result (λ t. settled t ≡ resolve.program (written_program p.now)) }
     ensures executed { Tells result (is_executed (written_program p.now)) }
 {
-    let members = members(alloc, &p.members)?;
-    Ok(Settled {
-        program: vx_resolved::Program { members },
-    })
+    let fields = all_fields(alloc, &p.members)?;
+    let members = members(alloc, &fields, &p.members)?;
+    Ok(Settled::new(alloc, vx_resolved::Program { members })?)
 }

@@ -12,9 +12,8 @@ use Rattle.vx_dialogue.specs.Dialogue.{pushed, check_of}
 use Rattle.vx_rules.specs.Trees.{Question, Answered, Passed, walk}
 use Rattle.vx_rules.specs.Members.{tree, method_tree}
 use Rattle.vx_machine.specs.Runs.{tree_of, member_tree}
-use Rattle.vx_sound.specs.Law.{StoreLaw, AllRight}
+use Rattle.vx_sound.specs.Law.{FieldLaw, AllRight}
 use Rattle.vx_sound.specs.Law.{IsRight as IsRightAnswer}
-use Rattle.vx_elements.proofs.Cases.{store_method}
 use Rattle.vx_sound.proofs.Passes.{cleared}
 use Rattle.vx_sound.proofs.Methods.{sound}
 use Rattle.vx_verifier.specs.Sequences.{IsIn, SameSet, IsCheckOf, AreChecksOf, reply_list, replies_to, IsRight}
@@ -84,8 +83,8 @@ all_right [] (c ∷ cs) all right = absurd all
 all_right (a ∷ as') [] all right = absurd all
 all_right (a ∷ as') (c ∷ cs) all right = (right_answer a.question a.reply c all.0.set all.0.reply right.0, all_right as' cs all.1 right.1)
 
-store_law : StoreLaw
-store_law p m replies typed plain passed right = sound (λ g es e. ⊥) p m typed (store_method m plain) (cleared (method_tree p m) replies passed right)
+field_law : FieldLaw
+field_law p m replies typed plain passed right = sound (λ g es e. ⊥) p m typed plain (cleared (method_tree p m) replies passed right)
 
 -- a walk that passed by right replies
 pub never_fails : (p : Program) (n : ℕ) (own : List Check) → AreChecksOf (walk_of p n own).answered own → (walk_of p n own).ending ≡ Passed
@@ -94,4 +93,4 @@ never_fails p n own checks passed right = λ supported m is.
     let same : member_tree p n ≡ method_tree p m = ap (tree_of p) is.1 ∙ ap (tree p is.0.name) is.2 in
     let answers = subst (λ t. AreChecksOf (walk t (replies_to own)).answered own) same checks in
     let law = supported n m is in
-    store_law p m (replies_to own) law.0 law.1 (subst (λ t. (walk t (replies_to own)).ending ≡ Passed) same passed) (all_right _ own answers right)
+    field_law p m (replies_to own) law.0 law.1 (subst (λ t. (walk t (replies_to own)).ending ≡ Passed) same passed) (all_right _ own answers right)

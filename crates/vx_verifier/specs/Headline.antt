@@ -7,7 +7,7 @@ use Rattle.vx_ast.specs.Syntax.{Program, Member, Method, IsMethod}
 use Rattle.vx_terms.specs.Interpretations.{Each}
 use Rattle.vx_types.specs.Typing.{IsTypedMethod}
 use Rattle.vx_meaning.specs.Fails.{MethodFails}
-use Rattle.vx_types.specs.StoreLanguage.{IsStoreMethod}
+use Rattle.vx_types.specs.FieldLanguage.{IsFieldMethod}
 use Rattle.vx_smt_meaning.specs.Dialogues.{Check}
 use Rattle.vx_smt_meaning.specs.WellFormed.{IsWellFormed}
 use Rattle.vx_ends.specs.declared.piece.Ending.{Ending}
@@ -30,9 +30,9 @@ use Rattle.vx_verifier.specs.Lines.{lines}
 abbrev pub IsMethodAt : Program → ℕ → Method → Type 0
 IsMethodAt p n m = (member : Member) × (slice_get p n ≡ Some member) × (member.kind ≡ IsMethod m)
 
--- each method is typed, and of the store language
+-- each method is typed, and of the language with fields, permissions and loops
 abbrev pub IsSupported : Program → Type 0
-IsSupported p = (n : ℕ) (m : Method) → IsMethodAt p n m → IsTypedMethod p m × IsStoreMethod m
+IsSupported p = (n : ℕ) (m : Method) → IsMethodAt p n m → IsTypedMethod p m × IsFieldMethod m
 
 -- in a supported program the method with this number fails at no place, in no run from any state satisfying its precondition
 abbrev pub NeverFails : Program → ℕ → Type 0

@@ -7,8 +7,9 @@ ghost use Rattle.vx_typing.specs.Typed.{written_of, resolved_of};
 ghost use Rattle.vx_verifier.specs.Headline.{IsSupported};
 
 use std::alloc::{AllocError, Global};
-use vx_settled::{executed_programs_are_of_the_store, typed_programs_settle_typed};
-use vx_settling::{Settled, Unsettled, settle};
+use vx_resolved::Settled;
+use vx_settled::{executed_programs_are_of_fields, typed_programs_settle_typed};
+use vx_settling::{Unsettled, settle};
 use vx_typing::Typed;
 
 /// A program that is executed, settled.
@@ -23,12 +24,12 @@ pub fn settled(alloc: Global, typed: &Typed) -> Result<Settled, AllocError>
     }
 }
 
-/// The methods of a program that is executed are typed, and of the store language.
+/// The methods of a program that is executed are typed, and of the language with fields.
 pub fn methods_are_supported(typed: &Typed)
     requires { is_executed (written_of typed.now) ≡ true }
     ensures { IsSupported (resolved_of typed.now) }
 {
     typed_programs_settle_typed();
-    executed_programs_are_of_the_store();
+    executed_programs_are_of_fields();
     typed.typed();
 }

@@ -1,9 +1,12 @@
 use Rattle.std.proofs.Common.{◌∙◌, ap, map, refl}
+use Rattle.std.proofs.lemmas.List.{take_all}
 use Rattle.vx_ast.specs.declared.Member.{Member}
 use Rattle.vx_ast.specs.Resolve as resolve
 use Rattle.vx_resolved.specs.Resolved as view
 use Rattle.vx_ast.specs.Written.{written_member}
 use Rattle.vx_resolved.specs.Executed.{is_executed_kind, is_executed}
+use Rattle.vx_settling.specs.Parts.{over}
+use Rattle.vx_settling.specs.Fields.{names_in}
 use Rattle.vx_settling.proofs.Loops.{goes_on, ends, one_more}
 use Rattle.vx_settling.proofs.Refused.{passed}
 use Rattle.vx_settling.proofs.members.members.Goals as goal
@@ -13,12 +16,17 @@ loop-m-preserved c =
     let all = c.args.all.now in
     let m = c.in_ok-member.field-0 in
     record {
-      settled = λ names. ap (map view.member) c.in_ok-push.ensures.items
-          ∙ one_more view.member (resolve.member names) written_member c.loop-m.settled.items m all c.loop-m.m-index c.m-item.result c.loop-m-test.true c.m-item.is
-          (c.in_ok-member.ensures.settled names) (c.loop-m.invariant.settled names);
+      settled = λ p q. ap (map view.member) c.in_ok-push.ensures.items
+          ∙ one_more view.member (resolve.member (over (names_in c.args.fields.now) p q)) written_member c.loop-m.settled.items m all c.loop-m.m-index c.m-item.result c.loop-m-test.true c.m-item.is
+          (c.in_ok-member.ensures.settled p q) (c.loop-m.invariant.settled p q);
       executed = goes_on (λ ms. is_executed (map written_member ms)) (λ (x : Member). is_executed_kind (written_member x).kind) (λ _ _. refl) all c.loop-m.m-index c.m-item.result
           c.loop-m-test.true c.m-item.is c.in_ok-member.ensures.executed c.loop-m.invariant.executed;
     }
+
+pub returns-clause-settled : goal.returns-clause-settled
+returns-clause-settled c = λ p q.
+    c.loop-m.invariant.settled p q
+    ∙ ap (λ ms. map (resolve.member (over (names_in c.args.fields.now) p q)) (map written_member ms)) (take_all c.loop-m.m-index c.args.all.now c.loop-m-test.false)
 
 pub returns-in_err-member-clause-executed : goal.returns-in_err-member-clause-executed
 returns-in_err-member-clause-executed c =

@@ -5,14 +5,16 @@ use Rattle.vx_settling.proofs.Refused.{passed}
 use Rattle.vx_ast.specs.declared.StmtKind.TheViews as tree
 use Rattle.vx_ast.specs.Resolve as resolve
 use Rattle.vx_ast.specs.Written.{If, written_stmt, written_expr, written_block}
-use Rattle.vx_settling.specs.Parts.{onto, stmts}
+use Rattle.vx_settling.specs.Parts.{onto, over, stmts}
+use Rattle.vx_settling.specs.Fields.{names_in}
 use Rattle.vx_ast.specs.Written.{optional_other, written_list}
 use Rattle.vx_ast.proofs.Rows.{rows}
 use Rattle.vx_settling.proofs.stmt.+settling.Goals as goal
 
 pub block-returns-clause-settled : goal.block-returns-clause-settled
-block-returns-clause-settled t c = λ names.
-    c.in_ok-linked.ensures ∙ c.in_ok-statements.ensures.settled names
+block-returns-clause-settled t c = λ p m.
+    let names = over (names_in c.args.fields.now) p m in
+    c.in_ok-linked.ensures ∙ c.in_ok-statements.ensures.settled p m
     ∙ ap (λ ss. onto (stmts ss) (resolve.block names (written_list c.deref.result.now))) c.new-done.ensures.items
     ∙ ap (λ l. resolve.block names (written_list l)) c.deref.ensures.value
     ∙ ap (resolve.block names) (sym (rows c.args.b.now))
