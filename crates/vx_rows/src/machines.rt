@@ -1,4 +1,4 @@
-//! Two machines on the first member of a program, each of which stands suspended while the other goes on.
+//! Two machines on one member of a program, each of which stands suspended while the other goes on.
 
 ghost use Rattle.vx_resolved.specs.Settled.{settled};
 ghost use Rattle.vx_machine.specs.Runs.{Follows};
@@ -95,23 +95,22 @@ fn take_step(
 fn put_steps(
     alloc: Global,
     program: &Settled,
-    limit: u32,
-    steps: &[Step],
+    row: &Row,
     out: &mut Vec<u8>,
 ) -> Result<(), AllocError> {
-    if program.len() < 1 {
+    if program.len() <= row.member as usize {
         return Ok(());
     }
-    let mut first = Machine::start(alloc, program, MemberId(0), limit)?;
-    let mut other = Machine::start(alloc, program, MemberId(0), limit)?;
-    for step in steps {
+    let mut first = Machine::start(alloc, program, MemberId(row.member), row.limit)?;
+    let mut other = Machine::start(alloc, program, MemberId(row.member), row.limit)?;
+    for step in &row.steps {
         let ask = take_step(alloc, &mut first, &mut other, program, *step)?;
         put_ask(alloc, *step, &ask, out)?;
     }
     Ok(())
 }
 
-/// What two machines on a row's first member ask, step by step.
+/// What two machines on a row's member ask, step by step.
 ///
 /// # Errors
 /// Want of memory.
@@ -122,5 +121,5 @@ pub fn put_machines(alloc: Global, row: &Row, out: &mut Vec<u8>) -> Result<(), A
     let Ok(program) = settle(alloc, &program) else {
         return put_line(out, "  ", "no program that is executed");
     };
-    put_steps(alloc, &program, row.limit, &row.steps, out)
+    put_steps(alloc, &program, row, out)
 }

@@ -15,7 +15,7 @@ pub enum Asks {
     Beyond,
     /// The lengths at which the beginning of the text is a program.
     Beginnings,
-    /// What two machines on the program's first member ask, and how they end.
+    /// What two machines on a member of the program ask, and how they end.
     Machines,
     /// What the words mean.
     Order,
@@ -67,7 +67,8 @@ pub struct Row {
     pub solver: Solver,
     pub replies: Vec<Bytes>,
     pub fails: Vec<u64>,
-    /// The most questions of a machine, and its steps.
+    /// The number of the machines' member, the most questions of a machine, and their steps.
+    pub member: u32,
     pub limit: u32,
     pub steps: Vec<Step>,
 }
@@ -84,6 +85,7 @@ impl Row {
             solver: Solver::Script,
             replies: Vec::new(alloc),
             fails: Vec::new(alloc),
+            member: 0,
             limit: 100_000,
             steps: Vec::new(alloc),
         }

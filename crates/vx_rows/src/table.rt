@@ -108,6 +108,7 @@ fn take_script(alloc: Global, row: &mut Row, word: &str, rest: &str) -> Result<b
         "part" => row.replies.push(Bytes::copy(alloc, rest.as_bytes())?)?,
         "process" => row.solver = Solver::Process,
         "fails" => row.fails.push(rest.parse().unwrap_or(0))?,
+        "member" => row.member = rest.parse().unwrap_or(0),
         "limit" => row.limit = rest.parse().unwrap_or(0),
         "first" => row.steps.push(Step {
             other: false,
