@@ -1,5 +1,5 @@
 -- The settled syntax in code, without its pointers.
-use Rattle.std.specs.Prelude.{List, [], ◌∷◌, Option, Some, None, string_bytes, map}
+use Rattle.std.specs.Prelude.{List, Option, Some, None, string_bytes, map}
 use Rattle.std.specs.declared.alloc.Global.{Global}
 use Rattle.std.specs.declared.rc.Rc.{Rc}
 use Rattle.vx_resolved.specs.declared.Operator.{Operator as Operator'}
@@ -17,7 +17,7 @@ use Rattle.vx_resolved.specs.declared.Method as method'
 use Rattle.vx_resolved.specs.declared.Kind.TheVariants as kind'
 use Rattle.vx_resolved.specs.declared.Member as member'
 use Rattle.vx_resolved.specs.declared.Program as program'
-use Rattle.vx_ast.specs.Syntax.{Name, Operator, Equal, Less, LessEqual, Greater, GreaterEqual, Add, Subtract, Multiply, Division, Quotient, Remainder, Connective, And, Or, Implies, Expr, Number, Truth, Null, Part, Variable, Not, Operate, Divide, Connect, Choose, Read, Old, Assertion, Pure, Points, Both, Implied, Chosen, Declaration, Stmt, Declare, Assign, Write, New, Inhale, Exhale, Assert, Assume, If, While, Block, Done, Then, Method, Kind, IsField, IsMethod, Member, Program}
+use Rattle.vx_ast.specs.Syntax.{Operator, Equal, Less, LessEqual, Greater, GreaterEqual, Add, Subtract, Multiply, Division, Quotient, Remainder, Connective, And, Or, Implies, Expr, Number, Truth, Null, Part, Variable, Not, Operate, Divide, Connect, Choose, Read, Old, Assertion, Pure, Points, Both, Implied, Chosen, Declaration, Stmt, Declare, Assign, Write, New, Inhale, Exhale, Assert, Assume, If, While, Block, Done, Then, Method, Kind, IsField, IsMethod, Member, Program}
 
 abbrev pub operator : Operator' → Operator
 operator operator'.Equal = Equal

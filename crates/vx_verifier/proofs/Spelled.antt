@@ -1,5 +1,5 @@
 -- In a supported program each question can be asked: each name in it is spelled as a symbol, and each symbol has its sorts.
-use Rattle.std.proofs.Common.{◌≡◌, ℕ, zero, suc, Bool, true, false, List, [], ◌∷◌, ◌++◌, Option, Some, None, map, slice_get, if◌then◌else◌, ap, ◌∙◌, sym, refl, subst}
+use Rattle.std.proofs.Common.{◌≡◌, ℕ, zero, suc, Bool, true, false, List, [], ◌∷◌, ◌++◌, Option, Some, None, map, slice_get, if◌then◌else◌, ap, sym, refl, subst}
 use Rattle.vx_resolved.specs.declared.Kind.TheVariants as kind'
 use Rattle.vx_resolved.specs.declared.Member as member'
 use Rattle.vx_ast.specs.Syntax.{Member}

@@ -1,4 +1,4 @@
-use Rattle.std.proofs.Common.{ℕ, ◌≤◌}
+use Rattle.std.proofs.Common.{◌≤◌}
 use Rattle.vx_resolved.specs.declared.Block.{size-Block}
 use Rattle.vx_resolved.proofs.+resolved.Given as goal
 
