@@ -33,11 +33,7 @@ fn add_unlike_stored(
 }
 
 /// Adds that a reference isn't null.
-fn add_not_null(
-    alloc: Global,
-    x: &Rc<Term>,
-    facts: &mut Vec<Rc<Term>>,
-) -> Result<(), AllocError>
+fn add_not_null(alloc: Global, x: &Rc<Term>, facts: &mut Vec<Rc<Term>>) -> Result<(), AllocError>
     ensures { OnOk result ((rest : List written.Term) → terms_of facts.new.items ++ rest ≡ terms_of facts.old.items ++ (members.unlike (term x.now.value) null ∷ rest)) }
 {
     let null = snapshots::null(alloc)?;

@@ -106,12 +106,7 @@ impl SymState {
     }
 
     /// The value that a snapshot gives a location: a name for what it wraps, and the fact that it wraps it.
-    fn value_by(
-        &mut self,
-        alloc: Global,
-        of: &Sort,
-        t: &Rc<Term>,
-    ) -> Result<Rc<Term>, AllocError>
+    fn value_by(&mut self, alloc: Global, of: &Sort, t: &Rc<Term>) -> Result<Rc<Term>, AllocError>
         ensures { IfOk result (λ v. (term v.value ≡ rules.produced_value (sort_view of.now) (Some (term t.now.value)) (state self.old)) × (state self.new ≡ rules.after_value (sort_view of.now) (Some (term t.now.value)) (state self.old))) }
     {
         let value = self.name(alloc, snapshots::unwrap(alloc, of, t)?)?;
@@ -137,12 +132,7 @@ impl SymState {
     }
 
     /// The fact that a wrapped value unwraps to itself, as it is written.
-    pub fn add_wrap(
-        &mut self,
-        alloc: Global,
-        of: &Sort,
-        value: &Rc<Term>,
-    ) -> Result<(), AllocError>
+    pub fn add_wrap(&mut self, alloc: Global, of: &Sort, value: &Rc<Term>) -> Result<(), AllocError>
         ensures { IfOk result (λ _. state self.new ≡ states.with_fact (written.Binary sort.Equal (built.written_unwrap (sort_view of.now) (built.wrap (sort_view of.now) (term value.now.value))) (term value.now.value)) (state self.old)) }
     {
         let wrapped = snapshots::wrap(alloc, of, value)?;
