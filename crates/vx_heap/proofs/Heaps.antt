@@ -1,30 +1,16 @@
 -- Heaps of src/ against those of the rules.
-use Rattle.std.proofs.Common.{◌≡◌, ◌<◌, ℕ, zero, suc, Bool, true, false, List, [], ◌∷◌, ◌++◌, map, take, drop, drop-cons, get_or, Option, Some, None, refl, sym, ap, ap₂, ◌∙◌, subst}
-use Rattle.std.specs.Prelude.{◌&&◌, if◌then◌else◌, slice_get, slice_set, length, option_map, IfSome}
+use Rattle.std.proofs.Common.{◌≡◌, ◌<◌, ℕ, suc, Bool, true, false, List, [], ◌∷◌, ◌++◌, map, take, drop, drop-cons, get_or, Option, Some, None, refl, sym, ap, ap₂, ◌∙◌, subst}
+use Rattle.std.specs.Prelude.{◌&&◌, if◌then◌else◌, slice_get, slice_set, length, option_map, filter, IfSome}
 use Rattle.std.proofs.lemmas.List.{map-append, take-map, drop-map}
 use Rattle.std.proofs.lemmas.Option.{slice_get-map, slice_get_read}
 use Rattle.vx_terms.specs.Terms.{Term, same, same_bool}
-use Rattle.vx_terms.specs.Build.{zero_amount, unit, subtract}
+use Rattle.vx_terms.specs.Build.{zero_amount, unit}
 use Rattle.vx_rules.specs.States.{Chunk, Heap, State, with_facts}
-use Rattle.vx_rules.specs.Chunks.{Candidate, is_kin, same_arguments, chosen, candidates, only_inner, without, reduced, merged, put, put_over, field_facts, instance_facts}
-use Rattle.vx_heap.specs.Heaps.{IsFirst, numbers, standing, facts_of, over, Puts, StandIn}
+use Rattle.vx_rules.specs.Chunks.{Candidate, is_kin, same_arguments, chosen, only_inner, without, merged, put, put_over, field_facts, instance_facts}
+use Rattle.vx_heap.specs.Heaps.{IsFirst, standing, facts_of, over, Puts}
 
 pub without_map : {A : Type 0} (f : A → Chunk) (n : ℕ) (xs : List A) → map f (take n xs ++ drop (suc n) xs) ≡ without n (map f xs)
 without_map f n xs = map-append f (take n xs) (drop (suc n) xs) ∙ ap₂ (λ a b. a ++ b) (sym (take-map f n xs)) (sym (drop-map f (suc n) xs))
-
-pub numbers_of_both : (a b : List Candidate) → numbers (a ++ b) ≡ numbers a ++ numbers b
-numbers_of_both a b = map-append (λ c. c.number) a b
-
-inner_step : (t : Bool) (c : Candidate) (xs ys zs : List Candidate) → xs ≡ ys ++ zs → (if t then c ∷ xs else xs) ≡ (if t then c ∷ ys else ys) ++ zs
-inner_step true c xs ys zs e = ap (λ l. c ∷ l) e
-inner_step false c xs ys zs e = e
-
-only_inner_both : (a b : List Candidate) → only_inner (a ++ b) ≡ only_inner a ++ only_inner b
-only_inner_both [] b = refl
-only_inner_both (c ∷ cs) b = inner_step c.chunk.inner c _ _ _ (only_inner_both cs b)
-
-pub inner_of_both : (a b : List Candidate) → numbers (only_inner (a ++ b)) ≡ numbers (only_inner a) ++ numbers (only_inner b)
-inner_of_both a b = ap numbers (only_inner_both a b) ∙ numbers_of_both (only_inner a) (only_inner b)
 
 step : (t : Bool) (c : Candidate) (xs ys : List Candidate) → xs ≡ ys → (if t then c ∷ xs else xs) ≡ (if t then c ∷ ys else ys)
 step t c xs ys e = ap (λ l. if t then c ∷ l else l) e
@@ -79,47 +65,13 @@ facts_of_field b cs new h e = ap (λ t. if t then field_facts b cs new h else in
 pub facts_of_instance : (b : Bool) (cs : List Candidate) (new : Chunk) (h : Heap) → new.is_field ≡ false → instance_facts cs new ≡ facts_of b cs new h
 facts_of_instance b cs new h e = ap (λ t. if t then field_facts b cs new h else instance_facts cs new) (sym e)
 
--- what is left, by whether it is literally 0
-left_by : (t : Bool) (n : ℕ) (c : Chunk) (a : Term) (h h1 : Heap) → slice_get h n ≡ Some c → same (subtract c.amount a) zero_amount ≡ t →
-    h1 ≡ (if t then without n h else slice_set h n (record c { amount = subtract c.amount a })) → IfSome (slice_get h n) (λ d. h1 ≡ reduced (record { number = n; chunk = d }) a h)
-left_by t n c a h h1 there z e =
-    subst (λ o. IfSome o (λ d. h1 ≡ reduced (record { number = n; chunk = d }) a h)) (sym there)
-    (e ∙ ap (λ b. if b then without n h else slice_set h n (record c { amount = subtract c.amount a })) (sym z))
+kept : {A : Type 0} (f : A → Candidate) (b : Bool) (x : A) (xs : List A) (ys : List Candidate) → map f xs ≡ ys → map f (if b then x ∷ xs else xs) ≡ (if b then f x ∷ ys else ys)
+kept f true x xs ys e = ap (λ l. f x ∷ l) e
+kept f false x xs ys e = e
 
-pub nothing_left : (n : ℕ) (c : Chunk) (a rest : Term) (h h1 : Heap) → slice_get h n ≡ Some c → rest ≡ subtract c.amount a → same rest zero_amount ≡ true →
-    h1 ≡ without n h → IfSome (slice_get h n) (λ d. h1 ≡ reduced (record { number = n; chunk = d }) a h)
-nothing_left n c a rest h h1 there left z e = left_by true n c a h h1 there (ap (λ u. same u zero_amount) (sym left) ∙ z) e
-
-pub some_left : (n : ℕ) (c : Chunk) (a rest : Term) (h h1 : Heap) → slice_get h n ≡ Some c → rest ≡ subtract c.amount a → same rest zero_amount ≡ false →
-    IfSome (slice_get h n) (λ d. h1 ≡ slice_set h n (record d { amount = rest })) → IfSome (slice_get h n) (λ d. h1 ≡ reduced (record { number = n; chunk = d }) a h)
-some_left n c a rest h h1 there left z m =
-    let e : h1 ≡ slice_set h n (record c { amount = rest }) = subst (λ o. IfSome o (λ d. h1 ≡ slice_set h n (record d { amount = rest }))) there m in
-    left_by false n c a h h1 there (ap (λ u. same u zero_amount) (sym left) ∙ z) (e ∙ ap (λ u. slice_set h n (record c { amount = u })) left)
-
-at_front : (h : Heap) (n : ℕ) (c : Chunk) (cs : Heap) → drop n h ≡ c ∷ cs → (slice_get h n ≡ Some c) × (drop (suc n) h ≡ cs)
-at_front [] zero c cs e = (ap (λ l. slice_get l 0) e, ap (λ l. drop 1 l) e)
-at_front [] (suc n) c cs e = (ap (λ l. slice_get l 0) e, ap (λ l. drop 1 l) e)
-at_front (x ∷ xs) zero c cs e = (ap (λ l. slice_get l 0) e, ap (λ l. drop 1 l) e)
-at_front (x ∷ xs) (suc n) c cs e = at_front xs n c cs e
-
-stand_more : (t : Bool) (h : Heap) (c : Candidate) (cs : List Candidate) → slice_get h c.number ≡ Some c.chunk → StandIn h cs → StandIn h (if t then c ∷ cs else cs)
-stand_more true h c cs e s = (e, s)
-stand_more false h c cs e s = s
-
-stand_from : (b : Bool) (k : Chunk) (h : Heap) (n : ℕ) (cs : Heap) → drop n h ≡ cs → StandIn h (chosen b k n cs)
-stand_from b k h n [] e = tt
-stand_from b k h n (c ∷ cs) e = let p = at_front h n c cs e in stand_more _ h (record { number = n; chunk = c }) _ p.0 (stand_from b k h (suc n) cs p.1)
-
-stand_both : (h : Heap) (a b : List Candidate) → StandIn h a → StandIn h b → StandIn h (a ++ b)
-stand_both h [] b s t = t
-stand_both h (c ∷ a) b s t = (s.0, stand_both h a b s.1 t)
-
-inner_stand : (h : Heap) (cs : List Candidate) → StandIn h cs → StandIn h (only_inner cs)
-inner_stand h [] s = tt
-inner_stand h (c ∷ cs) s = stand_more c.chunk.inner h c (only_inner cs) s.0 (inner_stand h cs s.1)
-
-pub candidates_stand : (k : Chunk) (h : Heap) → StandIn h (candidates k h)
-candidates_stand k h = stand_both h (chosen true k 0 h) (chosen false k 0 h) (stand_from true k h 0 h refl) (stand_from false k h 0 h refl)
-
-pub inner_candidates_stand : (k : Chunk) (h : Heap) → StandIn h (only_inner (candidates k h))
-inner_candidates_stand k h = inner_stand h (candidates k h) (candidates_stand k h)
+-- the inner ones of candidates by a test of what they are made from
+pub inner_by : {A : Type 0} (f : A → Candidate) (test : A → Bool) → ((x : A) → (f x).chunk.inner ≡ test x) → (xs : List A) → map f (filter test xs) ≡ only_inner (map f xs)
+inner_by f test e [] = refl
+inner_by f test e (x ∷ xs) =
+    kept f (test x) x (filter test xs) (only_inner (map f xs)) (inner_by f test e xs)
+    ∙ ap (λ b. if b then f x ∷ only_inner (map f xs) else only_inner (map f xs)) (sym (e x))

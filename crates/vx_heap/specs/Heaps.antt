@@ -1,5 +1,5 @@
 -- Heaps by the numbers of their chunks.
-use Rattle.std.specs.Prelude.{◌≡◌, ℕ, Bool, List, [], ◌∷◌, Option, Some, None, if◌then◌else◌, map, slice_get, IfSome}
+use Rattle.std.specs.Prelude.{◌≡◌, ℕ, Bool, List, [], ◌∷◌, Option, Some, None, if◌then◌else◌, slice_get, IfSome}
 use Rattle.vx_terms.specs.Terms.{Term}
 use Rattle.vx_rules.specs.States.{Chunk, Heap, State}
 use Rattle.vx_rules.specs.Chunks.{Candidate, field_facts, instance_facts, put_over}
@@ -9,14 +9,6 @@ abbrev pub IsFirst : Option ℕ → Heap → List Candidate → Type 0
 IsFirst None h cs = cs ≡ []
 IsFirst (Some n) h [] = ⊥
 IsFirst (Some n) h (c ∷ cs) = (c.number ≡ n) × (slice_get h n ≡ Some c.chunk)
-
-abbrev pub numbers : List Candidate → List ℕ
-numbers cs = map (λ c. c.number) cs
-
--- each candidate is the chunk of its number
-abbrev pub StandIn : Heap → List Candidate → Type 0
-StandIn h [] = Unit {0}
-StandIn h (c ∷ cs) = (slice_get h c.number ≡ Some c.chunk) × StandIn h cs
 
 -- a chunk of a number as the one candidate
 abbrev pub standing : ℕ → Chunk → List Candidate

@@ -37,27 +37,6 @@ impl SymHeap {
         Ok(())
     }
 
-    /// Adds those that are inner.
-    fn add_inner(
-        &self,
-        identical: bool,
-        resource: &Resource,
-        arguments: &[Rc<Term>],
-        found: &mut Vec<Candidate>,
-    ) -> Result<(), AllocError>
-        ensures { OnOk result (candidates_of found.new.items ≡ candidates_of found.old.items ++ only_inner (chosen identical (key resource.now arguments.now) 0 (heap self.now))) }
-    {
-        for (number, chunk) in self.chunks.iter().enumerate() {
-            if chunk.is_chosen(identical, resource, arguments) {
-                if chunk.is_inner {
-                    let chunk = chunk.clone()?;
-                    found.push(Candidate { number, chunk })?;
-                }
-            }
-        }
-        Ok(())
-    }
-
     /// The chunks of a resource: those with identical arguments first, then the others, each in list order.
     pub fn candidates(
         &self,
@@ -82,9 +61,8 @@ impl SymHeap {
     ) -> Result<Vec<Candidate>, AllocError>
         ensures { IfOk result (λ found. candidates_of found.items ≡ only_inner (chunks.candidates (key resource.now arguments.now) (heap self.now))) }
     {
-        let mut found = Vec::new(alloc);
-        self.add_inner(true, resource, arguments, &mut found)?;
-        self.add_inner(false, resource, arguments, &mut found)?;
+        let mut found = self.candidates(alloc, resource, arguments)?;
+        found.retain(|c| c.chunk.is_inner);
         Ok(found)
     }
 }

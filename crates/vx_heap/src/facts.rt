@@ -48,7 +48,7 @@ fn agree(alloc: Global, new: &Chunk, old: &Chunk) -> Result<Rc<Term>, AllocError
 }
 
 /// A chunk's first argument, which is a location's receiver.
-fn first_argument(alloc: Global, chunk: &Chunk) -> Result<Rc<Term>, AllocError>
+pub(crate) fn first_argument(alloc: Global, chunk: &Chunk) -> Result<Rc<Term>, AllocError>
     ensures { IfOk result (λ t. term t.value ≡ chunks.first_argument (chunk_view chunk.now).arguments) }
 {
     match &*chunk.arguments {

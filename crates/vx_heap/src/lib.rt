@@ -8,6 +8,7 @@ mod conditions;
 mod facts;
 mod heap;
 mod put;
+mod references;
 
 pub use amounts::{whole, zero};
 pub use candidates::Candidate;
@@ -15,3 +16,4 @@ pub use chunk::{Chunk, Resource};
 pub use conditions::{equal_arguments, holds_amount, holds_some};
 pub use facts::merged;
 pub use heap::SymHeap;
+pub use references::{add_unlike, unlike};

@@ -2,15 +2,64 @@
 
 ghost use Rattle.std.specs.Prelude.{◌≡◌, IfOk};
 ghost use Rattle.vx_resolved.specs.Settled.{settled};
-ghost use Rattle.vx_stack.specs.Stack.{going, Stepped};
+ghost use Rattle.vx_rules.specs.Codes.{code as code_of};
+ghost use Rattle.vx_rules.specs.Rules as rule;
+ghost use Rattle.vx_ast.specs.Syntax.{Program};
+ghost use Rattle.vx_stack.specs.Stack.{finding, giving, going, side_tree, taking_none, wanted, Stepped};
+ghost use Rattle.vx_heap.specs.Views.{candidate};
+ghost use Rattle.vx_rules.specs.Chunks.{reduced};
+ghost use Rattle.vx_rules.specs.States as states;
 ghost use Rattle.vx_states.specs.SymStates.{state as state_of};
+ghost use Rattle.vx_terms.specs.Views.{sort as sort_of, term};
 
 use std::alloc::{AllocError, Global};
 use std::rc::Rc;
+use vx_heap::{Candidate, zero};
 use vx_resolved::Settled;
 use vx_stack::{Conts, Frame, Hole, Move, Next, Search, Side};
 use vx_states::SymState;
-use vx_terms::{Sort, Term};
+use vx_terms::{Sort, Term, numbers};
+
+/// A probe of one candidate: on with this side where it is as wanted, with what waits for the state where it isn't.
+fn probe_one(
+    alloc: Global,
+    program: &Settled,
+    search: &Search,
+    of: &Candidate,
+    found: Side,
+    rest: Next,
+    state: SymState,
+    conts: &mut Conts,
+) -> Result<Move, AllocError>
+    ensures { IfOk result (λ m. Stepped (settled program.now) (rule.probe (wanted search.now (candidate of.now).chunk) search.now.place (code_of search.now.code) (state_of state) (side_tree (settled program.now) found) (going (settled program.now) rest (state_of state))) conts.old.sides.items m conts.new.sides.items) }
+{
+    let condition = search.condition(alloc, &of.chunk)?;
+    let frame = Frame::Go(Rc::new(alloc, rest)?);
+    let otherwise = Side { frame, state };
+    conts.probe(
+        alloc,
+        program,
+        &condition,
+        search.place,
+        search.code,
+        found,
+        otherwise,
+    )
+}
+
+/// The side of a candidate that is read.
+fn read(
+    alloc: Global,
+    from: &Candidate,
+    hole: &Rc<Hole>,
+    state: &SymState,
+) -> Result<Side, AllocError>
+    ensures { IfOk result (λ side. (p : Program) → side_tree p side ≡ giving p hole.now.value (candidate from.now).chunk.value (state_of state.now)) }
+{
+    let frame = Frame::Give(from.chunk.value.clone()?, hole.clone()?);
+    let state = state.copy(alloc)?;
+    Ok(Side { frame, state })
+}
 
 /// The value of the first candidate from a number on that is as wanted.
 pub fn read_from(
@@ -22,30 +71,128 @@ pub fn read_from(
     state: SymState,
     conts: &mut Conts,
 ) -> Result<Move, AllocError>
-    ensures { IfOk result (λ m. Stepped (settled program.now) (going (settled program.now) (Next.ReadFrom search.now number hole.now) (state_of state)) conts.old.sides.items m conts.new.sides.items) }
+    ensures { IfOk result (λ m. Stepped (settled program.now) (finding search.now.value number (state_of state) (λ c. giving (settled program.now) hole.now.value c.chunk.value (state_of state)) (rule.never search.now.value.place (code_of search.now.value.code) (state_of state))) conts.old.sides.items m conts.new.sides.items) }
 {
     match search.candidates.get(number) {
         None => conts.never(alloc, program, search.place, search.code, state),
         Some(c) => {
-            let condition = search.condition(alloc, &c.chunk)?;
-            let found = Side {
-                frame: Frame::Give(c.chunk.value.clone()?, hole.clone()?),
-                state: state.copy(alloc)?,
-            };
+            let found = read(alloc, c, hole, &state)?;
             let rest = Next::ReadFrom(search.clone()?, number + 1, hole.clone()?);
-            let otherwise = Side {
-                frame: Frame::Go(Rc::new(alloc, rest)?),
-                state,
-            };
-            conts.probe(
-                alloc,
-                program,
-                &condition,
-                search.place,
-                search.code,
-                found,
-                otherwise,
-            )
+            probe_one(alloc, program, search, c, found, rest, state, conts)
+        }
+    }
+}
+
+/// No candidate is left to take from: the amount has to be 0, and what is taken is new. In a quiet state the side is over.
+fn take_none(
+    alloc: Global,
+    program: &Settled,
+    search: &Search,
+    amount: &Rc<Term>,
+    of: &Sort,
+    hole: &Rc<Hole>,
+    state: SymState,
+    conts: &mut Conts,
+) -> Result<Move, AllocError>
+    ensures { IfOk result (λ m. Stepped (settled program.now) (taking_none (term amount.now.value) (sort_of of.now) search.now.place (code_of search.now.code) (state_of state) (giving (settled program.now) hole.now.value)) conts.old.sides.items m conts.new.sides.items) }
+{
+    if state.is_quiet() {
+        return Ok(Move::End);
+    }
+    let condition = numbers::eq(alloc, amount, &zero(alloc)?)?;
+    let next = Rc::new(alloc, Next::Fresh(of.copy()?, hole.clone()?))?;
+    conts.ask(
+        alloc,
+        program,
+        condition,
+        search.place,
+        search.code,
+        state,
+        Frame::Go(next),
+    )
+}
+
+/// The side of a candidate that an amount is taken from.
+fn taken(
+    alloc: Global,
+    from: &Candidate,
+    amount: &Rc<Term>,
+    hole: &Rc<Hole>,
+    state: &SymState,
+) -> Result<Side, AllocError>
+    ensures { IfOk result (λ side. (p : Program) → side_tree p side ≡ giving p hole.now.value (candidate from.now).chunk.value (states.with_heap (reduced (candidate from.now) (term amount.now.value) (state_of state.now).heap) (state_of state.now))) }
+{
+    let mut state = state.copy(alloc)?;
+    state.take(alloc, from, amount)?;
+    let frame = Frame::Give(from.chunk.value.clone()?, hole.clone()?);
+    Ok(Side { frame, state })
+}
+
+/// An amount is taken from the first candidate from a number on that has it.
+pub fn take_from(
+    alloc: Global,
+    program: &Settled,
+    search: &Rc<Search>,
+    number: usize,
+    amount: &Rc<Term>,
+    of: &Sort,
+    hole: &Rc<Hole>,
+    state: SymState,
+    conts: &mut Conts,
+) -> Result<Move, AllocError>
+    ensures { IfOk result (λ m. Stepped (settled program.now) (finding search.now.value number (state_of state) (λ c. giving (settled program.now) hole.now.value c.chunk.value (states.with_heap (reduced c (term amount.now.value) (state_of state).heap) (state_of state))) (taking_none (term amount.now.value) (sort_of of.now) search.now.value.place (code_of search.now.value.code) (state_of state) (giving (settled program.now) hole.now.value))) conts.old.sides.items m conts.new.sides.items) }
+{
+    match search.candidates.get(number) {
+        None => take_none(alloc, program, search, amount, of, hole, state, conts),
+        Some(c) => {
+            let found = taken(alloc, c, amount, hole, &state)?;
+            let rest = Next::TakeFrom(
+                search.clone()?,
+                number + 1,
+                amount.clone()?,
+                of.copy()?,
+                hole.clone()?,
+            );
+            probe_one(alloc, program, search, c, found, rest, state, conts)
+        }
+    }
+}
+
+/// The side of a candidate that a value is written to.
+fn with_value(
+    alloc: Global,
+    to: &Candidate,
+    value: &Rc<Term>,
+    next: &Rc<Next>,
+    state: &SymState,
+) -> Result<Side, AllocError>
+    ensures { IfOk result (λ side. (p : Program) → side_tree p side ≡ going p next.now.value (rule.written (candidate to.now) (term value.now.value) (state_of state.now))) }
+{
+    let mut state = state.copy(alloc)?;
+    state.write(alloc, to, value.clone()?)?;
+    let frame = Frame::Go(next.clone()?);
+    Ok(Side { frame, state })
+}
+
+/// A value is written to the first candidate from a number on that is as wanted.
+pub fn write_to(
+    alloc: Global,
+    program: &Settled,
+    search: &Rc<Search>,
+    number: usize,
+    value: &Rc<Term>,
+    next: &Rc<Next>,
+    state: SymState,
+    conts: &mut Conts,
+) -> Result<Move, AllocError>
+    ensures { IfOk result (λ m. Stepped (settled program.now) (finding search.now.value number (state_of state) (λ c. going (settled program.now) next.now.value (rule.written c (term value.now.value) (state_of state))) (rule.never search.now.value.place (code_of search.now.value.code) (state_of state))) conts.old.sides.items m conts.new.sides.items) }
+{
+    match search.candidates.get(number) {
+        None => conts.never(alloc, program, search.place, search.code, state),
+        Some(c) => {
+            let found = with_value(alloc, c, value, next, &state)?;
+            let rest = Next::WriteTo(search.clone()?, number + 1, value.clone()?, next.clone()?);
+            probe_one(alloc, program, search, c, found, rest, state, conts)
         }
     }
 }

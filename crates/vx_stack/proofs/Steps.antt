@@ -13,7 +13,7 @@ use Rattle.vx_terms.specs.Views.{term}
 use Rattle.vx_terms.specs.Build.{true_term, false_term, negate}
 use Rattle.vx_rules.specs.States.{State, is_quiet, is_known, with_fact, with_branch}
 use Rattle.vx_rules.specs.Trees.{Code, Question, Tree, Impossible, Step, Ask, Probe, Fork}
-use Rattle.vx_rules.specs.Rules.{Giving, Going, Context, question, ask, probe, fork, produce, consume}
+use Rattle.vx_rules.specs.Rules.{Giving, Going, Context, question, ask, never, probe, fork, produce, consume}
 use Rattle.vx_rules.specs.Members.{rules}
 use Rattle.vx_states.specs.SymStates.{optional_term}
 use Rattle.vx_stack.specs.Stack.{producing, side_tree, query, Checked, Stepped}
@@ -42,6 +42,9 @@ pub ask_false : (c : Term) (at : Place) (code : Code) (s : State) (on : Going) (
 ask_false c at code s on q e f i =
     if_false (same c true_term || is_quiet s) _ _ e ∙ ap (Ask (question false c at code s)) (if_true (same c false_term) (Impossible s) (on (with_fact c s)) f)
     ∙ ap (λ x. Ask x (Impossible s)) (sym i)
+
+pub never_asks : (at : Place) (code : Code) (s : State) (q : Question) → is_quiet s ≡ false → q ≡ question false false_term at code s → never at code s ≡ Ask q (Impossible s)
+never_asks at code s q l i = if_false (is_quiet s) _ _ l ∙ ap (λ x. Ask x (Impossible s)) (sym i)
 
 pub probe_quiet : (c : Term) (at : Place) (code : Code) (s : State) (a b : Tree) → is_quiet s ≡ true → same c true_term ≡ false → probe c at code s a b ≡ Step b
 probe_quiet c at code s a b l e = if_false (same c true_term) _ _ e ∙ if_true (is_quiet s) _ _ l

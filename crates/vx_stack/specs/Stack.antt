@@ -5,7 +5,6 @@ use Rattle.vx_stack.specs.declared.waiting.Codes.{Codes}
 use Rattle.vx_stack.specs.declared.waiting.Production.{Production}
 use Rattle.vx_stack.specs.declared.waiting.Consumption.{Consumption}
 use Rattle.vx_stack.specs.declared.waiting.Search.{Search}
-use Rattle.vx_stack.specs.declared.waiting.Location.{Location}
 use Rattle.vx_stack.specs.declared.waiting.Loop.{Loop}
 use Rattle.vx_stack.specs.declared.waiting.Operand.{Operand}
 use Rattle.vx_stack.specs.declared.waiting.Operand.TheVariants as operand'
@@ -25,7 +24,7 @@ use Rattle.vx_stack.specs.declared.frame.Side.{Side}
 use Rattle.vx_stack.specs.declared.conts.Move.{Move}
 use Rattle.vx_stack.specs.declared.conts.Move.TheVariants as move'
 use Rattle.vx_ast.specs.declared.Place.{Place}
-use Rattle.vx_ast.specs.Syntax.{Name, Program, Expr, Assertion, assigned_in}
+use Rattle.vx_ast.specs.Syntax.{Name, Program, Assertion, assigned_in}
 use Rattle.vx_resolved.specs.Resolved.{operator, division, connective, expr, assertion, stmt, block, method}
 use Rattle.vx_terms.specs.Sorts.{Sort}
 use Rattle.vx_terms.specs.Terms.{Term, Number}

@@ -1,5 +1,5 @@
 -- Paths and stores of src/ against those of the rules.
-use Rattle.std.proofs.Common.{◌≡◌, ℕ, suc, ◌<◌, Bool, true, false, cond, ◌||◌, ◌++◌, List, [], ◌∷◌, map, length, get_or, Option, Some, None, option_map, refl, sym, ap, ◌∙◌, arith, reverse, append_assoc}
+use Rattle.std.proofs.Common.{◌≡◌, ℕ, suc, ◌<◌, Bool, true, false, cond, ◌||◌, ◌++◌, List, [], ◌∷◌, map, length, get_or, Option, Some, None, option_map, refl, sym, ap, ◌∙◌, arith, reverse, append_assoc, append-nil}
 use Rattle.std.proofs.lemmas.List.{reverse-append}
 use Rattle.std.specs.Prelude.{slice_set}
 use Rattle.vx_ast.specs.Syntax.{Name, same_name}
@@ -50,3 +50,10 @@ assigned x t (b ∷ s) = go (same_name x b.0) refl (assigned x t s)
     go : (c : Bool) → same_name x b.0 ≡ c → Assigned x t s (place_in x s) → Assigned x t (b ∷ s) (cond c (Some 0) (option_map suc (place_in x s)))
     go true e h = (omega arith, λ d. rw e (ap (λ (y : Name). (y, t) ∷ s) (same_name_is x b.0 e)))
     go false e h = assigned_later x t b s (place_in x s) (rw e refl) h
+
+-- what was added, one after the other
+pub all_added : (f0 f1 f2 f3 f4 : List Term) (n : Term) (a b c : List Term) → f0 ≡ [] →
+    ((r : List Term) → f1 ++ r ≡ f0 ++ (n ∷ r)) → ((r : List Term) → f2 ++ r ≡ f1 ++ (a ++ r)) → ((r : List Term) → f3 ++ r ≡ f2 ++ (b ++ r)) → ((r : List Term) → f4 ++ r ≡ f3 ++ (c ++ r)) → f4 ≡ n ∷ ((a ++ b) ++ c)
+all_added f0 f1 f2 f3 f4 n a b c e h1 h2 h3 h4 =
+    sym (append-nil f4) ∙ h4 [] ∙ h3 (c ++ []) ∙ h2 (b ++ (c ++ [])) ∙ h1 (a ++ (b ++ (c ++ []))) ∙ ap (λ l. l ++ (n ∷ (a ++ (b ++ (c ++ []))))) e
+    ∙ ap (λ l. n ∷ l) (ap (λ l. a ++ (b ++ l)) (append-nil c) ∙ sym (append_assoc a b c))

@@ -1,16 +1,17 @@
 -- What the symbolic states of src/ stand for.
-use Rattle.std.specs.Prelude.{ℕ, suc, [], ◌∷◌, Option, Some, None, option_map, if◌then◌else◌, map, string_bytes}
+use Rattle.std.specs.Prelude.{ℕ, suc, List, [], ◌∷◌, Option, Some, None, option_map, if◌then◌else◌, map, string_bytes}
 use Rattle.std.specs.declared.alloc.Global.{Global}
 use Rattle.std.specs.declared.rc.Rc.{Rc}
+use Rattle.std.specs.declared.string.String.{String}
 use Rattle.vx_states.specs.declared.state.Binding.{Binding}
 use Rattle.vx_states.specs.declared.state.Own.{Own as Own'}
 use Rattle.vx_states.specs.declared.state.SymState.{SymState}
 use Rattle.vx_ast.specs.Syntax.{Name, same_name}
 use Rattle.vx_terms.specs.declared.term.Term.{Term as Term'}
-use Rattle.vx_terms.specs.Terms.{Term}
+use Rattle.vx_terms.specs.Terms.{Term, sort_of}
 use Rattle.vx_terms.specs.Views.{term}
 use Rattle.vx_heap.specs.Views.{heap}
-use Rattle.vx_rules.specs.States.{Own, Store, State}
+use Rattle.vx_rules.specs.States.{Own, Store, State, found, assign, with_store, fresh, after_fresh}
 use Rattle.vx_states.specs.Paths.{entries}
 
 abbrev pub binding : Binding → Name × Term
@@ -41,3 +42,10 @@ state s = record {
 abbrev pub place_in : Name → Store → Option ℕ
 place_in x [] = None
 place_in x (e ∷ rest) = if same_name x e.0 then Some 0 else option_map suc (place_in x rest)
+
+abbrev pub names : List (Rc (String Global) Global) → List Name
+names xs = map (λ x. string_bytes x.value) xs
+
+-- a variable with a new symbol of its value's sort
+abbrev pub renewed : Name → State → State
+renewed x s = with_store (assign x (fresh (sort_of (found x s.store)) s) s.store) (after_fresh s)

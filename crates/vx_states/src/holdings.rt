@@ -20,8 +20,8 @@ impl SymState {
     pub fn add_facts(&mut self, alloc: Global, facts: Vec<Rc<Term>>) -> Result<(), AllocError>
         ensures { IfOk result (λ _. state self.new ≡ states.with_facts (terms_of facts.items) (state self.old)) }
     {
-        for fact in facts {
-            self.add_fact(alloc, fact)?;
+        for fact in &facts {
+            self.add_fact(alloc, fact.clone()?)?;
         }
         Ok(())
     }

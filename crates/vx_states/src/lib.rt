@@ -1,11 +1,13 @@
 //! Symbolic states, with paths that are shared and indexed.
 #![tactic(auto)]
 
+mod forgetting;
 mod holdings;
 mod index;
 mod indexed;
 mod key;
 mod path;
+mod references;
 mod snapshots;
 mod state;
 

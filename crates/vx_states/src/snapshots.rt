@@ -1,13 +1,13 @@
 //! The snapshot that something is produced with, where there is one, and the facts on it.
 
-ghost use Rattle.std.specs.Prelude.{◌≡◌, IfOk};
+ghost use Rattle.std.specs.Prelude.{◌≡◌, Some, IfOk};
 ghost use Rattle.vx_rules.specs.Rules as rules;
 ghost use Rattle.vx_rules.specs.States as states;
 ghost use Rattle.vx_states.specs.SymStates.{optional_term, state};
 ghost use Rattle.vx_terms.specs.Build as built;
 ghost use Rattle.vx_terms.specs.Sorts as sort;
 ghost use Rattle.vx_terms.specs.Terms as written;
-ghost use Rattle.vx_terms.specs.Views.{term};
+ghost use Rattle.vx_terms.specs.Views.{sort as sort_view, term};
 
 use crate::SymState;
 use std::alloc::{AllocError, Global};
@@ -103,5 +103,41 @@ impl SymState {
         let second = equation(alloc, symbol_on(alloc, 4, &pair)?, t.clone()?)?;
         self.add_fact(alloc, first)?;
         self.add_fact(alloc, second)
+    }
+
+    /// The value that a snapshot gives a location: a name for what it wraps, and the fact that it wraps it.
+    fn value_by(&mut self, alloc: Global, of: &Sort, t: &Rc<Term>) -> Result<Rc<Term>, AllocError>
+        ensures { IfOk result (λ v. (term v.value ≡ rules.produced_value (sort_view of.now) (Some (term t.now.value)) (state self.old)) × (state self.new ≡ rules.after_value (sort_view of.now) (Some (term t.now.value)) (state self.old))) }
+    {
+        let value = self.name(alloc, snapshots::unwrap(alloc, of, t)?)?;
+        let wrapped = snapshots::wrap(alloc, of, &value)?;
+        let fact = numbers::eq(alloc, t, &wrapped)?;
+        self.add_fact(alloc, fact)?;
+        Ok(value)
+    }
+
+    /// The value of a location that is produced: new, or by the snapshot.
+    pub fn produced_value(
+        &mut self,
+        alloc: Global,
+        of: Sort,
+        snapshot: &Option<Rc<Term>>,
+    ) -> Result<Rc<Term>, AllocError>
+        ensures { IfOk result (λ t. (term t.value ≡ rules.produced_value (sort_view of) (optional_term snapshot.now) (state self.old)) × (state self.new ≡ rules.after_value (sort_view of) (optional_term snapshot.now) (state self.old))) }
+    {
+        match snapshot {
+            Some(t) => self.value_by(alloc, &of, t),
+            None => self.new_symbol(alloc, of),
+        }
+    }
+
+    /// The fact that a wrapped value unwraps to itself, as it is written.
+    pub fn add_wrap(&mut self, alloc: Global, of: &Sort, value: &Rc<Term>) -> Result<(), AllocError>
+        ensures { IfOk result (λ _. state self.new ≡ states.with_fact (written.Binary sort.Equal (built.written_unwrap (sort_view of.now) (built.wrap (sort_view of.now) (term value.now.value))) (term value.now.value)) (state self.old)) }
+    {
+        let wrapped = snapshots::wrap(alloc, of, value)?;
+        let unwrapped = snapshots::written_unwrap(alloc, of, &wrapped)?;
+        let fact = equation(alloc, unwrapped, value.clone()?)?;
+        self.add_fact(alloc, fact)
     }
 }

@@ -68,7 +68,7 @@ pub fn sort_of_value(of: ValueType) -> Sort
 }
 
 /// Whether two names are the same.
-fn is_same_name(x: &[u8], y: &[u8]) -> bool
+pub(crate) fn is_same_name(x: &[u8], y: &[u8]) -> bool
     ensures { result ≡ same_name x.now y.now }
 {
     x == y

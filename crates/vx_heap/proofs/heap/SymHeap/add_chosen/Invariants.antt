@@ -1,10 +1,9 @@
 use Rattle.std.proofs.Common.{◌≡◌, ◌++◌, map, drop}
 use Rattle.vx_rules.specs.Chunks.{chosen}
-use Rattle.vx_heap.specs.Heaps.{numbers}
-use Rattle.vx_heap.specs.Views.{heap, key, shared}
+use Rattle.vx_heap.specs.Views.{candidates_of, heap, key, shared}
 use Rattle.vx_heap.proofs.heap.SymHeap.add_chosen.Given as goal
 
-abbrev pub invariant-loop-at : goal.invariant-loop-at
-invariant-loop-at l =
+abbrev pub invariant-loop-number : goal.invariant-loop-number
+invariant-loop-number l =
     let k = key l.resource l.arguments in
-    l.found.items ++ numbers (chosen l.identical k l.at (map shared (drop l.at l.chunk-items))) ≡ l.initial.found.items ++ numbers (chosen l.identical k 0 (heap l.self))
+    candidates_of l.found.items ++ chosen l.identical k l.number (map shared (drop l.number l.chunk-items)) ≡ candidates_of l.initial.found.items ++ chosen l.identical k 0 (heap l.self)
