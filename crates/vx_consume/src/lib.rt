@@ -1,6 +1,9 @@
 //! The rules of consuming an assertion, step by step.
 #![tactic(auto)]
 
+mod locations;
+mod sides;
+
 ghost use Rattle.std.specs.Prelude.{◌≡◌, IfOk};
 ghost use Rattle.vx_resolved.specs.Resolved.{assertion, expr};
 ghost use Rattle.vx_ast.specs.Syntax as syntax;
@@ -13,6 +16,8 @@ ghost use Rattle.vx_terms.specs.Build as built;
 ghost use Rattle.vx_terms.specs.Views.{term};
 ghost use Rattle.vx_resolved.specs.Settled.{settled};
 
+use crate::locations::{step_amount, step_share, step_wrap};
+use crate::sides::{step_chosen, step_implied};
 use std::alloc::{AllocError, Global};
 use std::rc::Rc;
 use vx_ast::Place;
@@ -30,11 +35,16 @@ fn place_of(e: &Expr) -> Place
     match e {
         Expr::Number(place, _) => *place,
         Expr::Truth(place, _) => *place,
+        Expr::Null(place) => *place,
+        Expr::Part(place, _, _) => *place,
         Expr::Variable(place, _) => *place,
         Expr::Not(place, _) => *place,
         Expr::Operate(place, _, _, _) => *place,
+        Expr::Divide(place, _, _, _) => *place,
         Expr::Connect(place, _, _, _) => *place,
         Expr::Choose(place, _, _, _) => *place,
+        Expr::Read(place, _, _) => *place,
+        Expr::Old(place, _) => *place,
     }
 }
 
@@ -74,9 +84,27 @@ pub fn step(
             let asking = Consumed::Ask(place_of(e), x.codes.pure, heap);
             conts.eval(alloc, program, e, Hole::Consumed(asking, hole), state)
         }
+        Assertion::Points(place, e, field, share) => {
+            let mut state = state;
+            let heap = state.exchange_heap(x.start.clone()?);
+            let share = Consumed::Share(*place, field.clone()?, share.clone()?, x.clone()?, heap);
+            conts.eval(alloc, program, e, Hole::Consumed(share, hole), state)
+        }
         Assertion::Both(left, right) => {
             let both = parts(alloc, program, left, right, x, hole)?;
             conts.next(alloc, program, both, state)
+        }
+        Assertion::Implied(e, right) => {
+            let mut state = state;
+            let heap = state.exchange_heap(x.start.clone()?);
+            let implied = Consumed::Implied(right.clone()?, x.clone()?, heap);
+            conts.eval(alloc, program, e, Hole::Consumed(implied, hole), state)
+        }
+        Assertion::Chosen(e, first, second) => {
+            let mut state = state;
+            let heap = state.exchange_heap(x.start.clone()?);
+            let chosen = Consumed::Chosen(first.clone()?, second.clone()?, x.clone()?, heap);
+            conts.eval(alloc, program, e, Hole::Consumed(chosen, hole), state)
         }
     }
 }
@@ -149,6 +177,21 @@ pub fn step_consumed(
             let mut state = state;
             add_built_pair(alloc, *codes, first, &value, &mut state)?;
             conts.give(program, both, hole, state)
+        }
+        Consumed::Share(place, field, share, x, heap) => step_share(
+            alloc, program, value, *place, field, share, x, heap, hole, state, conts,
+        ),
+        Consumed::Amount(place, field, receiver, x, heap) => step_amount(
+            alloc, program, &value, *place, field, receiver, x, heap, hole, state, conts,
+        ),
+        Consumed::Wrap(field, codes) => {
+            step_wrap(alloc, program, &value, field, *codes, hole, state, conts)
+        }
+        Consumed::Implied(a, x, heap) => {
+            step_implied(alloc, program, value, a, x, heap, hole, state, conts)
+        }
+        Consumed::Chosen(a, b, x, heap) => {
+            step_chosen(alloc, program, value, a, b, x, heap, hole, state, conts)
         }
     }
 }

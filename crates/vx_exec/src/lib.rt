@@ -1,6 +1,8 @@
 //! The rules of statements and of members, step by step.
 #![tactic(auto)]
 
+mod fields;
+mod loops;
 mod member;
 mod statement;
 

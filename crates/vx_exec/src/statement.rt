@@ -13,6 +13,8 @@ ghost use Rattle.vx_terms.specs.Build.{whole_amount};
 ghost use Rattle.vx_terms.specs.Views.{term};
 ghost use Rattle.vx_resolved.specs.Settled.{settled};
 
+use crate::fields::step_new;
+use crate::loops::{step_enter, step_iterate, step_pass, step_while};
 use std::alloc::{AllocError, Global};
 use std::rc::Rc;
 use vx_resolved::{Assertion, Block, Stmt};
@@ -70,6 +72,17 @@ pub fn step(
                 state,
             )
         }
+        Stmt::Write(place, e, field, value) => {
+            let write = Executed::Write(*place, field.clone()?, value.clone()?);
+            conts.eval(
+                alloc,
+                program,
+                e,
+                Hole::Executed(write, next.clone()?),
+                state,
+            )
+        }
+        Stmt::New(_, x, fields) => step_new(alloc, program, x, fields, next, state, conts),
         Stmt::Inhale(_, a) => {
             let production = Production::as_written(alloc)?;
             let produce = Next::Produce(a.clone()?, production, next.clone()?);
@@ -103,6 +116,9 @@ pub fn step(
                 state,
             )
         }
+        Stmt::While(place, e, invariants, body) => step_while(
+            alloc, program, *place, e, invariants, body, next, state, conts,
+        ),
     }
 }
 
@@ -199,5 +215,25 @@ pub fn step_executed(
             conts.go(program, Frame::Go(next.clone()?), state)
         }
         Executed::Exhaled => conts.go(program, Frame::Go(next.clone()?), state),
+        Executed::Write(place, field, e) => {
+            let with = Executed::WriteWith(*place, field.clone()?, value);
+            conts.eval(alloc, program, e, Hole::Executed(with, next.clone()?), state)
+        }
+        Executed::WriteWith(place, field, receiver) => vx_probes::write_field(
+            alloc,
+            program,
+            *place,
+            field,
+            receiver.clone()?,
+            &value,
+            next,
+            state,
+            conts,
+        ),
+        Executed::Enter(it, kept) => step_enter(alloc, program, it, *kept, next, state, conts),
+        Executed::Iterate(it, kept) => {
+            step_iterate(alloc, program, value, it, *kept, state, conts)
+        }
+        Executed::Pass => step_pass(alloc, program, &value, next, state, conts),
     }
 }

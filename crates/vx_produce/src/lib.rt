@@ -1,21 +1,28 @@
 //! The rules of producing an assertion, step by step.
 #![tactic(auto)]
 
+mod locations;
+mod sides;
+
+pub use locations::step_put;
+
 ghost use Rattle.std.specs.Prelude.{◌≡◌, IfOk};
 ghost use Rattle.vx_resolved.specs.Resolved.{assertion};
 ghost use Rattle.vx_rules.specs.Members.{rules};
 ghost use Rattle.vx_rules.specs.Rules as rule;
-ghost use Rattle.vx_stack.specs.Stack.{giving, going, producing, Stepped};
+ghost use Rattle.vx_stack.specs.Stack.{going, produced as produced_of, producing, Stepped};
 ghost use Rattle.vx_rules.specs.States.{with_fact};
 ghost use Rattle.vx_states.specs.SymStates.{optional_term, state as state_of};
 ghost use Rattle.vx_rules.specs.Trees as tree;
 ghost use Rattle.vx_terms.specs.Views.{term};
 ghost use Rattle.vx_resolved.specs.Settled.{settled};
 
+use crate::locations::{step_amount, step_share};
+use crate::sides::{step_chosen, step_implied};
 use std::alloc::{AllocError, Global};
 use std::rc::Rc;
 use vx_resolved::Assertion;
-use vx_stack::{Conts, Frame, Hole, Move, Next, Production};
+use vx_stack::{Conts, Frame, Hole, Move, Next, Produced, Production};
 use vx_states::{SymState, copy_optional, left_part, right_part};
 use vx_terms::Term;
 use vx_resolved::Settled;
@@ -63,17 +70,23 @@ pub fn step(
     alloc: Global,
     program: &Settled,
     a: &Assertion,
-    x: &Production,
+    x: &Rc<Production>,
     next: &Rc<Next>,
     state: SymState,
     conts: &mut Conts,
 ) -> Result<Move, AllocError>
-    ensures { IfOk result (λ m. Stepped (settled program.now) (producing (settled program.now) (assertion a.now) x.now (state_of state) (going (settled program.now) next.now.value)) conts.old.sides.items m conts.new.sides.items) }
+    ensures { IfOk result (λ m. Stepped (settled program.now) (producing (settled program.now) (assertion a.now) x.now.value (state_of state) (going (settled program.now) next.now.value)) conts.old.sides.items m conts.new.sides.items) }
 {
     match a {
         Assertion::Pure(e) => {
-            let snapshot = copy_optional(&x.snapshot)?;
-            let hole = Hole::Produced(snapshot, next.clone()?);
+            let fact = Produced::Fact(copy_optional(&x.snapshot)?);
+            let hole = Hole::Produced(fact, next.clone()?);
+            conts.eval(alloc, program, e, hole, state)
+        }
+        Assertion::Points(place, e, field, share) => {
+            let is_inner = state.is_inner;
+            let share = Produced::Share(*place, field.clone()?, share.clone()?, x.clone()?, is_inner);
+            let hole = Hole::Produced(share, next.clone()?);
             conts.eval(alloc, program, e, hole, state)
         }
         Assertion::Both(left, right) => {
@@ -82,11 +95,21 @@ pub fn step(
             state.add_split(alloc, &x.snapshot)?;
             conts.next(alloc, program, both, state)
         }
+        Assertion::Implied(e, right) => {
+            let implied = Produced::Implied(right.clone()?, x.clone()?);
+            let hole = Hole::Produced(implied, next.clone()?);
+            conts.eval(alloc, program, e, hole, state)
+        }
+        Assertion::Chosen(e, first, second) => {
+            let chosen = Produced::Chosen(first.clone()?, second.clone()?, x.clone()?);
+            let hole = Hole::Produced(chosen, next.clone()?);
+            conts.eval(alloc, program, e, hole, state)
+        }
     }
 }
 
 /// A pure part is a fact, and its snapshot, where there is one, is unit.
-pub fn step_produced(
+fn step_fact(
     alloc: Global,
     program: &Settled,
     value: Rc<Term>,
@@ -101,4 +124,31 @@ pub fn step_produced(
     state.add_fact(alloc, value)?;
     state.add_unit(alloc, snapshot)?;
     conts.go(program, Frame::Go(next.clone()?), state)
+}
+
+/// A value goes on to the assertion that it is of.
+pub fn step_produced(
+    alloc: Global,
+    program: &Settled,
+    value: Rc<Term>,
+    produced: &Produced,
+    next: &Rc<Next>,
+    state: SymState,
+    conts: &mut Conts,
+) -> Result<Move, AllocError>
+    ensures { IfOk result (λ m. Stepped (settled program.now) (produced_of (settled program.now) produced.now (going (settled program.now) next.now.value) (term value.value) (state_of state)) conts.old.sides.items m conts.new.sides.items) }
+{
+    match produced {
+        Produced::Fact(snapshot) => step_fact(alloc, program, value, snapshot, next, state, conts),
+        Produced::Share(place, field, share, x, is_inner) => step_share(
+            alloc, program, value, *place, field, share, x, *is_inner, next, state, conts,
+        ),
+        Produced::Amount(place, field, receiver, x, is_inner) => step_amount(
+            alloc, program, &value, *place, field, receiver, x, *is_inner, next, state, conts,
+        ),
+        Produced::Implied(a, x) => step_implied(alloc, program, value, a, x, next, state, conts),
+        Produced::Chosen(a, b, x) => {
+            step_chosen(alloc, program, value, a, b, x, next, state, conts)
+        }
+    }
 }

@@ -1,7 +1,13 @@
-use Rattle.std.proofs.Common.{◌≡◌, length, map, refl, sym, ◌∙◌}
+use Rattle.std.proofs.Common.{◌≡◌, length, map, refl, sym, ap, ◌∙◌}
 use Rattle.std.proofs.lemmas.List.{length-map}
+use Rattle.vx_ast.specs.Syntax.{While}
+use Rattle.vx_resolved.specs.Resolved.{assertions, block, expr, stmt}
 use Rattle.vx_resolved.specs.Settled.{settled}
-use Rattle.vx_states.specs.SymStates.{binding}
+use Rattle.vx_rules.specs.Members.{exec, rules}
+use Rattle.vx_rules.specs.Rules.{Going}
+use Rattle.vx_rules.specs.States.{State}
+use Rattle.vx_states.specs.SymStates.{binding, state}
+use Rattle.vx_stack.specs.Stack.{going}
 use Rattle.vx_stack.proofs.Steps.{stepped_as}
 use Rattle.vx_exec.proofs.statement.step.Goals as goal
 
@@ -41,3 +47,20 @@ returns-in_ok-clone-in-If-3 c =
     let k : c.len.result ≡ length (map binding c.args.state.store.items) = c.len.ensures ∙ c.args.state.store.ok.0 ∙ sym (length-map c.args.state.store.items binding) in
     stepped_as (settled c.args.program.now) _ _ _ _ _
     (rw (c.in-If.is, k, c.in_ok-clone-in-If.ensures.cases, c.in_ok-clone-in-If-2.ensures.cases, c.in_ok-clone-in-If-3.ensures.cases) refl) c.eval-in-If.ensures
+
+pub returns-in_ok-clone-in-Write-3 : goal.returns-in_ok-clone-in-Write-3
+returns-in_ok-clone-in-Write-3 c =
+    stepped_as (settled c.args.program.now) _ _ _ _ _
+    (rw (c.in-Write.is, c.in_ok-clone-in-Write.ensures.cases, c.in_ok-clone-in-Write-2.ensures.cases, c.in_ok-clone-in-Write-3.ensures.cases) refl) c.eval-in-Write.ensures
+
+pub returns-in-New : goal.returns-in-New
+returns-in-New c = stepped_as (settled c.args.program.now) _ _ _ _ _ (rw (c.in-New.is, c.deref-in-New.ensures.value, c.deref.ensures) refl) c.step_new.ensures
+
+pub returns-in-While : goal.returns-in-While
+returns-in-While c =
+    let p = settled c.args.program.now in
+    let s : State = state c.args.state in
+    let on : Going = going p c.args.next.now.value in
+    let it = c.in-While in
+    stepped_as p _ _ _ _ _
+    (ap (λ y. exec p (rules p) (stmt y) s on) it.is ∙ sym (ap (λ l. exec p (rules p) (While it.place (expr it.e.value) (assertions l) (block it.body.value)) s on) c.deref-in-While.ensures.value)) c.step_while.ensures

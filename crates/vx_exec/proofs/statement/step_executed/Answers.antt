@@ -17,3 +17,13 @@ returns-in_ok-clone-in-Asserted-2 c =
       c.exchange_heap-rest.ensures.after,
       c.in_ok-clone-in-Asserted.ensures.cases,
     ) refl) c.go-in-Asserted.ensures
+
+pub returns-in_ok-clone-in-Write-2 : goal.returns-in_ok-clone-in-Write-2
+returns-in_ok-clone-in-Write-2 c =
+    stepped_as (settled c.args.program.now) _ _ _ _ _
+    (rw (c.in-Write.is, c.in_ok-clone-in-Write.ensures.cases, c.in_ok-clone-in-Write-2.ensures.cases) refl) c.eval.ensures
+
+pub returns-in_ok-clone-in-WriteWith : goal.returns-in_ok-clone-in-WriteWith
+returns-in_ok-clone-in-WriteWith c =
+    stepped_as (settled c.args.program.now) _ _ _ _ _
+    (rw (c.in-WriteWith.is, c.in_ok-clone-in-WriteWith.ensures.cases) refl) c.write_field.ensures

@@ -1,0 +1,137 @@
+//! The steps of an amount of a field's location that is consumed.
+
+ghost use Rattle.std.specs.Prelude.{◌≡◌, IfOk, string_bytes};
+ghost use Rattle.vx_heap.specs.Views.{heap as heap_of};
+ghost use Rattle.vx_resolved.specs.Resolved.{expr};
+ghost use Rattle.vx_resolved.specs.Settled.{settled};
+ghost use Rattle.vx_rules.specs.Codes.{code as code_of};
+ghost use Rattle.vx_rules.specs.Members.{rules};
+ghost use Rattle.vx_rules.specs.Rules as rule;
+ghost use Rattle.vx_stack.specs.Stack.{context, frame_tree, giving, Stepped, take_location, taking, wrapped};
+ghost use Rattle.vx_states.specs.SymStates.{state as state_of};
+ghost use Rattle.vx_terms.specs.Build.{less_equal, multiply, zero_amount};
+ghost use Rattle.vx_terms.specs.Views.{sort, term};
+
+use std::alloc::{AllocError, Global};
+use std::rc::Rc;
+use vx_ast::Place;
+use vx_heap::SymHeap;
+use vx_resolved::{Expr, Settled};
+use vx_rules::Code;
+use vx_stack::{
+    Codes, Consumed, Consumption, Conts, Frame, Hole, Location, Move, Next, field_sort,
+};
+use vx_states::SymState;
+use vx_terms::{Sort, Term, arithmetic, numbers, snapshots};
+
+/// That an amount isn't negative.
+fn not_negative(alloc: Global, amount: &Rc<Term>) -> Result<Rc<Term>, AllocError>
+    ensures { IfOk result (λ t. term t.value ≡ less_equal zero_amount (term amount.now.value)) }
+{
+    numbers::le(alloc, &vx_heap::zero(alloc)?, amount)
+}
+
+/// A location's share, after its receiver.
+pub fn step_share(
+    alloc: Global,
+    program: &Settled,
+    receiver: Rc<Term>,
+    place: Place,
+    field: &Rc<String>,
+    share: &Rc<Expr>,
+    x: &Rc<Consumption>,
+    heap: &Rc<SymHeap>,
+    hole: &Rc<Hole>,
+    state: SymState,
+    conts: &mut Conts,
+) -> Result<Move, AllocError>
+    ensures { IfOk result (λ m. Stepped (settled program.now) (rule.eval (settled program.now) (rules (settled program.now)) (expr share.now.value) (state_of state) (λ a s. taking (settled program.now) place (string_bytes field.now.value) (term receiver.value) (multiply (term x.now.value.scale.value) a) (code_of x.now.value.codes.permission) (heap_of heap.now.value) s (wrapped (settled program.now) (string_bytes field.now.value) (context x.now.value.codes) (giving (settled program.now) hole.now.value)))) conts.old.sides.items m conts.new.sides.items) }
+{
+    let amount = Consumed::Amount(place, field.clone()?, receiver, x.clone()?, heap.clone()?);
+    let rest = Rc::new(alloc, Hole::Consumed(amount, hole.clone()?))?;
+    vx_eval::step(alloc, program, share, rest, state, conts)
+}
+
+/// On with the amount that is taken from this heap.
+fn take_frame(
+    alloc: Global,
+    program: &Settled,
+    location: Location,
+    codes: Codes,
+    heap: &Rc<SymHeap>,
+    hole: &Rc<Hole>,
+) -> Result<Frame, AllocError>
+    ensures { IfOk result (λ f. frame_tree (settled program.now) f ≡ (λ s. take_location (settled program.now) location.place (string_bytes location.field.value) (term location.receiver.value) (term location.amount.value) (code_of codes.permission) (heap_of heap.now.value) s (wrapped (settled program.now) (string_bytes location.field.value) (context codes) (giving (settled program.now) hole.now.value)))) }
+{
+    let _program = program;
+    let wrap = Consumed::Wrap(location.field.clone()?, codes);
+    let after = Rc::new(alloc, Hole::Consumed(wrap, hole.clone()?))?;
+    let location = Rc::new(alloc, location)?;
+    let take = Next::Take(location, codes.permission, heap.clone()?, after);
+    Ok(Frame::Go(Rc::new(alloc, take)?))
+}
+
+/// A location's share, by the scale: it may not be negative, and then it is taken.
+pub fn step_amount(
+    alloc: Global,
+    program: &Settled,
+    share: &Rc<Term>,
+    place: Place,
+    field: &Rc<String>,
+    receiver: &Rc<Term>,
+    x: &Consumption,
+    heap: &Rc<SymHeap>,
+    hole: &Rc<Hole>,
+    state: SymState,
+    conts: &mut Conts,
+) -> Result<Move, AllocError>
+    ensures { IfOk result (λ m. Stepped (settled program.now) (taking (settled program.now) place (string_bytes field.now.value) (term receiver.now.value) (multiply (term x.now.scale.value) (term share.now.value)) (code_of x.now.codes.permission) (heap_of heap.now.value) (state_of state) (wrapped (settled program.now) (string_bytes field.now.value) (context x.now.codes) (giving (settled program.now) hole.now.value))) conts.old.sides.items m conts.new.sides.items) }
+{
+    let amount = arithmetic::mul(alloc, &x.scale, share)?;
+    let allowed = not_negative(alloc, &amount)?;
+    let location = Location {
+        place,
+        field: field.clone()?,
+        receiver: receiver.clone()?,
+        amount,
+    };
+    let take = take_frame(alloc, program, location, x.codes, heap, hole)?;
+    let at = state.placed(place);
+    conts.ask(alloc, program, allowed, at, Code::Amount, state, take)
+}
+
+/// The fact on a wrapped value that is built, where it is given.
+fn add_built_wrap(
+    alloc: Global,
+    codes: Codes,
+    of: &Sort,
+    value: &Rc<Term>,
+    state: &mut SymState,
+) -> Result<(), AllocError>
+    ensures { IfOk result (λ _. state_of state.new ≡ rule.with_built_wrap (context codes) (sort of.now) (term value.now.value) (state_of state.old)) }
+{
+    if codes.builds {
+        return state.add_wrap(alloc, of, value);
+    }
+    Ok(())
+}
+
+/// The value of a location that was taken, as its snapshot.
+pub fn step_wrap(
+    alloc: Global,
+    program: &Settled,
+    value: &Rc<Term>,
+    field: &Rc<String>,
+    codes: Codes,
+    hole: &Rc<Hole>,
+    state: SymState,
+    conts: &mut Conts,
+) -> Result<Move, AllocError>
+    ensures { IfOk result (λ m. Stepped (settled program.now) (wrapped (settled program.now) (string_bytes field.now.value) (context codes) (giving (settled program.now) hole.now.value) (term value.now.value) (state_of state)) conts.old.sides.items m conts.new.sides.items) }
+{
+    let of = field_sort(program, field);
+    let snapshot = snapshots::wrap(alloc, &of, value)?;
+    let mut state = state;
+    add_built_wrap(alloc, codes, &of, value, &mut state)?;
+    conts.give(program, snapshot, hole, state)
+}
