@@ -8,14 +8,14 @@ ghost use Rattle.vx_stack.specs.Stack.{giving, Stepped};
 ghost use Rattle.vx_states.specs.SymStates.{state as state_of};
 ghost use Rattle.vx_resolved.specs.Settled.{settled};
 
+use crate::divisions::part;
 use crate::operators::is_total;
 use std::alloc::{AllocError, Global};
 use std::rc::Rc;
-use vx_resolved::Expr;
+use vx_resolved::{Expr, Settled};
 use vx_stack::{Conts, Hole, Move, Operand};
 use vx_states::SymState;
-use vx_terms::make;
-use vx_resolved::Settled;
+use vx_terms::{make, snapshots};
 
 fn are_total(a: &Expr, b: &Expr) -> bool
     ensures { result ≡ (rule.is_total (expr a.now) && rule.is_total (expr b.now)) }
@@ -47,6 +47,14 @@ pub fn step(
             let value = make::boolean(alloc, *b)?;
             conts.give(program, value, &hole, state)
         }
+        Expr::Null(_) => {
+            let value = snapshots::null(alloc)?;
+            conts.give(program, value, &hole, state)
+        }
+        Expr::Part(_, n, d) => {
+            let value = part(alloc, *n, *d)?;
+            conts.give(program, value, &hole, state)
+        }
         Expr::Variable(_, x) => {
             let value = state.value_of(alloc, x)?;
             conts.give(program, value, &hole, state)
@@ -60,6 +68,10 @@ pub fn step(
         ),
         Expr::Operate(_, op, a, b) => {
             let operand = Operand::OperateRight(*op, b.clone()?);
+            conts.eval(alloc, program, a, Hole::Operand(operand, hole), state)
+        }
+        Expr::Divide(at, op, a, b) => {
+            let operand = Operand::DivideRight(*at, *op, b.clone()?);
             conts.eval(alloc, program, a, Hole::Operand(operand, hole), state)
         }
         Expr::Connect(_, op, a, b) => {
@@ -77,6 +89,22 @@ pub fn step(
             }
             let operand = Operand::ChooseSides(a.clone()?, b.clone()?);
             conts.eval(alloc, program, c, Hole::Operand(operand, hole), state)
+        }
+        Expr::Read(at, e, field) => {
+            let operand = Operand::Receiver(*at, field.clone()?);
+            conts.eval(alloc, program, e, Hole::Operand(operand, hole), state)
+        }
+        Expr::Old(_, e) => {
+            let mut state = state;
+            let old = state.old_heap.clone()?;
+            let heap = state.exchange_heap(old);
+            conts.eval(
+                alloc,
+                program,
+                e,
+                Hole::Operand(Operand::Restore(heap), hole),
+                state,
+            )
         }
     }
 }

@@ -1,6 +1,7 @@
 //! The rules of expressions, step by step.
 #![tactic(auto)]
 
+mod divisions;
 mod expression;
 mod operand;
 mod operators;

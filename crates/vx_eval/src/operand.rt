@@ -1,22 +1,25 @@
 //! A step of what waits for the value of an operand.
 
 ghost use Rattle.std.specs.Prelude.{◌≡◌, IfOk};
-ghost use Rattle.vx_resolved.specs.Resolved.{connective, expr};
+ghost use Rattle.vx_resolved.specs.Resolved.{connective, division, expr};
 ghost use Rattle.vx_rules.specs.Members.{rules};
 ghost use Rattle.vx_rules.specs.Rules as rule;
-ghost use Rattle.vx_stack.specs.Stack.{operand as operand_of, giving, Stepped};
+ghost use Rattle.vx_stack.specs.Stack.{operand as operand_of, giving, with_divisor, Stepped};
 ghost use Rattle.vx_states.specs.SymStates.{state as state_of};
 ghost use Rattle.vx_terms.specs.Views.{term};
 ghost use Rattle.vx_resolved.specs.Settled.{settled};
 
+use crate::divisions::divided;
 use crate::operators::{connected, operated};
 use std::alloc::{AllocError, Global};
 use std::rc::Rc;
-use vx_resolved::{Connective, Expr};
+use vx_ast::Place;
+use vx_probes::read_field;
+use vx_resolved::{Connective, Division, Expr, Settled};
+use vx_rules::Code;
 use vx_stack::{Conts, Frame, Hole, Move, Operand};
 use vx_states::SymState;
-use vx_terms::{Term, make};
-use vx_resolved::Settled;
+use vx_terms::{Term, make, numbers};
 
 /// The value of an operand goes on to the expression that it stands in.
 pub fn step_operand(
@@ -42,6 +45,13 @@ pub fn step_operand(
         Operand::OperateWith(op, first) => {
             let both = operated(alloc, *op, first, &value)?;
             conts.give(program, both, hole, state)
+        }
+        Operand::DivideRight(at, op, b) => {
+            let with = Operand::DivideWith(*at, *op, value);
+            conts.eval(alloc, program, b, Hole::Operand(with, hole.clone()?), state)
+        }
+        Operand::DivideWith(at, op, first) => {
+            step_divided(alloc, program, *at, *op, first, &value, hole, state, conts)
         }
         Operand::ConnectRight(op, b) => {
             let with = Operand::ConnectWith(*op, value);
@@ -71,7 +81,45 @@ pub fn step_operand(
             let right = Frame::Eval(b.clone()?, hole.clone()?);
             conts.fork(alloc, program, value, state, left, right)
         }
+        Operand::Receiver(at, field) => {
+            let place = state.placed(*at);
+            read_field(alloc, program, place, field, value, hole, state, conts)
+        }
+        Operand::Restore(heap) => {
+            let mut state = state;
+            let _inside = state.exchange_heap(heap.clone()?);
+            conts.give(program, value, hole, state)
+        }
     }
+}
+
+/// On with a quotient or a remainder, where the divisor isn't 0.
+fn step_divided(
+    alloc: Global,
+    program: &Settled,
+    at: Place,
+    op: Division,
+    first: &Rc<Term>,
+    divisor: &Rc<Term>,
+    hole: &Rc<Hole>,
+    state: SymState,
+    conts: &mut Conts,
+) -> Result<Move, AllocError>
+    ensures { IfOk result (λ m. Stepped (settled program.now) (with_divisor at (state_of state) (term divisor.now.value) (giving (settled program.now) hole.now.value (rule.divided (division op) (term first.now.value) (term divisor.now.value)))) conts.old.sides.items m conts.new.sides.items) }
+{
+    let is_zero = numbers::eq(alloc, divisor, &make::int(alloc, 0)?)?;
+    let condition = make::not(alloc, &is_zero)?;
+    let place = state.placed(at);
+    let frame = Frame::Give(divided(alloc, op, first, divisor)?, hole.clone()?);
+    conts.ask(
+        alloc,
+        program,
+        condition,
+        place,
+        Code::Divisor,
+        state,
+        frame,
+    )
 }
 
 /// The two sides of a connective: its right part, or its value without it.

@@ -15,18 +15,23 @@ use vx_frac::Frac;
 use vx_resolved::{Connective, Expr, Operator};
 use vx_terms::{Sort, Term, arithmetic, make, numbers};
 
-/// Whether there is nothing in it that can fail: all that is executed so far is total.
+/// Whether there is nothing in it that can fail.
 pub fn is_total(e: &Expr) -> bool
     ensures { result ≡ rule.is_total (expr e.now) }
 {
     match e {
         Expr::Number(_, _) => true,
         Expr::Truth(_, _) => true,
+        Expr::Null(_) => true,
+        Expr::Part(_, _, _) => true,
         Expr::Variable(_, _) => true,
         Expr::Not(_, a) => is_total(a),
         Expr::Operate(_, _, a, b) => is_total(a) && is_total(b),
+        Expr::Divide(_, _, _, _) => false,
         Expr::Connect(_, _, a, b) => is_total(a) && is_total(b),
         Expr::Choose(_, c, a, b) => is_total(c) && is_total(a) && is_total(b),
+        Expr::Read(_, _, _) => false,
+        Expr::Old(_, a) => is_total(a),
     }
 }
 

@@ -67,7 +67,15 @@ pub fn read_field(
 ) -> Result<Move, AllocError>
     ensures { IfOk result (λ m. Stepped (settled program.now) (rule.read_field (string_bytes field.now.value) (term receiver.value) place (state_of state) (giving (settled program.now) hole.now.value)) conts.old.sides.items m conts.new.sides.items) }
 {
-    let wanted = search(alloc, place, Code::Permission, field, receiver, None, &state.heap)?;
+    let wanted = search(
+        alloc,
+        place,
+        Code::Permission,
+        field,
+        receiver,
+        None,
+        &state.heap,
+    )?;
     read_from(alloc, program, &wanted, 0, hole, state, conts)
 }
 
@@ -86,7 +94,15 @@ pub fn write_field(
     ensures { IfOk result (λ m. Stepped (settled program.now) (rule.write_field (string_bytes field.now.value) (term receiver.value) (term value.now.value) place (state_of state) (going (settled program.now) next.now.value)) conts.old.sides.items m conts.new.sides.items) }
 {
     let all = Some(whole(alloc)?);
-    let wanted = search(alloc, place, Code::Permission, field, receiver, all, &state.heap)?;
+    let wanted = search(
+        alloc,
+        place,
+        Code::Permission,
+        field,
+        receiver,
+        all,
+        &state.heap,
+    )?;
     write_to(alloc, program, &wanted, 0, value, next, state, conts)
 }
 
@@ -108,7 +124,25 @@ pub fn take_location(
     let _before = state.exchange_heap(heap.clone()?);
     let receiver = location.receiver.clone()?;
     let amount = location.amount.clone()?;
-    let wanted = search(alloc, place, code, &location.field, receiver, Some(amount), heap)?;
+    let wanted = search(
+        alloc,
+        place,
+        code,
+        &location.field,
+        receiver,
+        Some(amount),
+        heap,
+    )?;
     let of = field_sort(program, &location.field);
-    take_from(alloc, program, &wanted, 0, &location.amount, &of, hole, state, conts)
+    take_from(
+        alloc,
+        program,
+        &wanted,
+        0,
+        &location.amount,
+        &of,
+        hole,
+        state,
+        conts,
+    )
 }

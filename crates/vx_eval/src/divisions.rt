@@ -1,0 +1,51 @@
+//! What `\` and `%` make of two values, and fractions.
+
+ghost use Rattle.std.specs.Prelude.{◌≡◌, pos, IfOk};
+ghost use Rattle.vx_frac.specs.Fractions.{lowest, over};
+ghost use Rattle.vx_resolved.specs.Resolved.{division};
+ghost use Rattle.vx_rules.specs.Rules as rule;
+ghost use Rattle.vx_terms.specs.Terms as written;
+ghost use Rattle.vx_terms.specs.Views.{term};
+
+use std::alloc::{AllocError, Global};
+use std::rc::Rc;
+use vx_frac::Frac;
+use vx_resolved::Division;
+use vx_terms::{Term, make, numbers};
+
+/// A division on two values.
+pub fn divided(
+    alloc: Global,
+    op: Division,
+    t: &Rc<Term>,
+    u: &Rc<Term>,
+) -> Result<Rc<Term>, AllocError>
+    ensures { IfOk result (λ r. term r.value ≡ rule.divided (division op) (term t.now.value) (term u.now.value)) }
+{
+    match op {
+        Division::Quotient => numbers::div(alloc, t, u),
+        Division::Remainder => numbers::modulo(alloc, t, u),
+    }
+}
+
+/// The number of a numeral; one past 128 bits, which no text has, is refused as for want of memory.
+fn small(n: u128) -> Result<i128, AllocError>
+    ensures { IfOk result (λ z. z ≡ pos n) }
+{
+    match i128::try_from(n) {
+        Ok(z) => Ok(z),
+        Err(_) => Err(AllocError),
+    }
+}
+
+/// `n/d` as a literal; over 0 it counts as over 1.
+pub fn part(alloc: Global, n: u128, d: u128) -> Result<Rc<Term>, AllocError>
+    ensures { IfOk result (λ t. term t.value ≡ written.Part (lowest (over n d))) }
+{
+    let above = small(n)?;
+    let below = small(d)?;
+    if below == 0 {
+        return make::real(alloc, Frac::new(above, 1));
+    }
+    make::real(alloc, Frac::new(above, below))
+}
