@@ -10,9 +10,8 @@ ghost use Rattle.vx_resolved.specs.Settled.{settled};
 use crate::{Cause, MemberRun, Verdict};
 use std::alloc::AllocError;
 use vx_ast::Place;
-use vx_resolved::Kind;
+use vx_resolved::{Kind, Settled};
 use vx_rules::{Code, Reply};
-use vx_resolved::Settled;
 
 /// The word of a code in the report.
 pub fn code_word(code: Code) -> &'static str
@@ -94,6 +93,7 @@ fn kind_word(kind: &Kind) -> &'static str
     ensures { result.now ≡ spec.kind_word (kind_of kind.now) }
 {
     match kind {
+        Kind::Field(_) => "field",
         Kind::Method(_) => "method",
     }
 }

@@ -25,9 +25,8 @@ use vx_ast::MemberId;
 use vx_ends::{Parts, Spawner, Turns};
 use vx_machine::{Ask, Machine, Outcome};
 use vx_report::{MemberRun, Verdict};
-use vx_resolved::Kind;
+use vx_resolved::{Kind, Settled};
 use vx_rules::Reply;
-use vx_resolved::Settled;
 use vx_typing::Typed;
 
 /// What became of each member with a line, in file order.
@@ -243,6 +242,7 @@ fn has_line(kind: &Kind) -> bool
     ensures { result ≡ has_line (kind_of kind.now) }
 {
     match kind {
+        Kind::Field(_) => false,
         Kind::Method(_) => true,
     }
 }
