@@ -22,11 +22,10 @@ use std::alloc::{AllocError, Global};
 use std::rc::Rc;
 use vx_ast::Place;
 use vx_heap::SymHeap;
-use vx_resolved::{Assertion, Expr};
+use vx_resolved::{Assertion, Expr, Settled};
 use vx_stack::{Codes, Consumed, Consumption, Conts, Frame, Hole, Move, Next};
 use vx_states::SymState;
 use vx_terms::{Term, snapshots};
-use vx_resolved::Settled;
 
 /// Where an expression stands.
 fn place_of(e: &Expr) -> Place

@@ -15,11 +15,10 @@ ghost use Rattle.vx_resolved.specs.Settled.{settled};
 
 use std::alloc::{AllocError, Global};
 use std::rc::Rc;
-use vx_resolved::{Assertion, Block, Method};
+use vx_resolved::{Assertion, Block, Method, Settled};
 use vx_rules::Code;
 use vx_stack::{Codes, Conts, Frame, Hole, Move, Next, Production, Side, joined};
 use vx_states::SymState;
-use vx_resolved::Settled;
 
 /// The side of the postcondition by itself: what is produced, how, in which state, and its end.
 #[derive(Drop)]

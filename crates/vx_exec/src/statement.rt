@@ -17,12 +17,11 @@ use crate::fields::step_new;
 use crate::loops::{step_enter, step_iterate, step_pass, step_while};
 use std::alloc::{AllocError, Global};
 use std::rc::Rc;
-use vx_resolved::{Assertion, Block, Stmt};
+use vx_resolved::{Assertion, Block, Settled, Stmt};
 use vx_rules::Code;
 use vx_stack::{Codes, Conts, Executed, Frame, Hole, Move, Next, Production};
 use vx_states::{SymState, sort_of_value};
 use vx_terms::Term;
-use vx_resolved::Settled;
 
 /// Consuming what is asserted or exhaled.
 fn consuming(
@@ -217,7 +216,13 @@ pub fn step_executed(
         Executed::Exhaled => conts.go(program, Frame::Go(next.clone()?), state),
         Executed::Write(place, field, e) => {
             let with = Executed::WriteWith(*place, field.clone()?, value);
-            conts.eval(alloc, program, e, Hole::Executed(with, next.clone()?), state)
+            conts.eval(
+                alloc,
+                program,
+                e,
+                Hole::Executed(with, next.clone()?),
+                state,
+            )
         }
         Executed::WriteWith(place, field, receiver) => vx_probes::write_field(
             alloc,

@@ -11,7 +11,7 @@ use Rattle.vx_smt_meaning.specs.declared.reply.Reply.{Reply}
 use Rattle.vx_smt_meaning.specs.declared.reply.Reply.TheVariants.{Unsat, Sat, Unknown}
 use Rattle.vx_rules.specs.Trees.{Question, Tree, Answered, Walked, Failed, Open, after_answer, walk, ends}
 use Rattle.vx_rules.specs.Codes.{code}
-use Rattle.vx_stack.specs.Stack.{query, side_tree}
+use Rattle.vx_stack.specs.Stack.{query}
 use Rattle.vx_machine.specs.Runs.{without_other, without_last, remaining, waiting_by, RunsTo, after_answers, coming, IsAt, Within, Follows, given, is_spent, is_unsat, member_tree, EachAnswered}
 
 after_answers-more : (as' : List Answered) (a : Answered) (w : Walked) → after_answers (as' ++ a ∷ []) w ≡ after_answers as' (after_answer a.question a.reply w)
@@ -116,10 +116,5 @@ module _ (p : Program) where
   pub given_more : (t : Tree) (phase : Phase) (sides : List Side) (old new : List Reply) (r : Reply) → new ≡ old ++ r ∷ [] → IsAt p t phase sides (old ++ r ∷ []) → IsAt p t phase sides new
   given_more t phase sides old new r e h = subst (λ l. IsAt p t phase sides l) (sym e) h
 
-  pub at_start : (t : Tree) (sides : List Side) (a : Side) (given : List Reply) → given ≡ [] → sides ≡ a ∷ [] → side_tree p a ≡ t → IsAt p t phase'.Ready sides given
-  at_start t sides a given g e f = record {
-    answered = [];
-    replies = sym g;
-    comes = λ rs.
-        ap (λ l. walk t (l ++ rs)) g ∙ ap (λ x. walk x rs) (sym f) ∙ ap (λ l. remaining p l rs) (sym e);
-  }
+  pub at_start : (t : Tree) (sides : List Side) → ((rs : List Reply) → walk t rs ≡ remaining p sides rs) → IsAt p t phase'.Ready sides []
+  at_start t sides f = record { answered = []; replies = refl; comes = f }

@@ -43,6 +43,13 @@ module _ (p : Program) where
   steps_below-two [] b a left = refl
   steps_below-two (c ∷ sides) b a left = steps_below-two sides b a (steps_then (side_tree p c) left)
 
+  -- a side that ends leaves what is below it
+  pub turned_end : (t : Tree) (old new : List Side) → Stepped p t old move'.End new → Turned p t old None new
+  turned_end t old new h =
+      let s : steps_then t (steps_remaining p old) ≡ steps_remaining p old + 1 = ap (λ x. steps_then x (steps_remaining p old)) h.1 in
+      let l : steps_remaining p new ≡ steps_remaining p old = ap (steps_remaining p) h.0 in
+      ((λ rs. ap (λ x. walk_then x (remaining p old) rs) h.1 ∙ ap (λ l. remaining p l rs) (sym h.0)), omega arith)
+
   pub turned_go : (t : Tree) (old new : List Side) → Stepped p t old move'.Go new → Turned p t old None new
   turned_go t old new h =
       let after : ℕ = steps_then (side_tree p h.0) (steps_remaining p old) in

@@ -3,8 +3,6 @@ use Rattle.std.specs.Prelude.{◌≡◌, ℕ, ◌<◌, ◌≤◌, ⊤, length, B
 use Rattle.vx_ast.specs.Syntax.{Program, Member}
 use Rattle.vx_stack.specs.declared.frame.Next.{Next}
 use Rattle.vx_stack.specs.declared.frame.Next.TheVariants as next'
-use Rattle.vx_stack.specs.declared.frame.Hole.{Hole}
-use Rattle.vx_stack.specs.declared.frame.Hole.TheVariants as hole'
 use Rattle.vx_stack.specs.declared.frame.Frame.{Frame}
 use Rattle.vx_stack.specs.declared.frame.Frame.TheVariants as frame'
 use Rattle.vx_stack.specs.declared.frame.Side.{Side}
@@ -31,20 +29,15 @@ tree_of p (Some m) = tree p m.name m.kind
 abbrev pub member_tree : Program → ℕ → Tree
 member_tree p n = tree_of p (slice_get p n)
 
-abbrev pub is_finish : Next → Bool
-is_finish next'.Finish = true
-is_finish next'.Impossible = true
-is_finish n = false
+abbrev pub is_impossible : Next → Bool
+is_impossible next'.Impossible = true
+is_impossible n = false
 
-abbrev pub is_last : Hole → Bool
-is_last hole'.Finish = true
-is_last h = false
-
--- a side that is over
+-- a side that is over since its state is impossible
 abbrev pub is_over : Frame → Bool
-is_over (frame'.Go n) = is_finish n.value
+is_over (frame'.Go n) = is_impossible n.value
 is_over (frame'.Eval e h) = false
-is_over (frame'.Give t h) = is_last h.value
+is_over (frame'.Give t h) = false
 
 -- of the two candidates of a probe, on top of the stack, one goes: the other one, or the one where it is refuted
 abbrev pub without_other : List Side → List Side

@@ -1,18 +1,19 @@
 //! The machine: it gives control back at every question.
 
-ghost use Rattle.std.specs.Prelude.{◌≡◌, ◌++◌, ◌∷◌, ◌<◌, [], IfOk, OnErr, OnOk, length, false, true, cond, is_some, is_err, IfSome, IsOkAnd};
+ghost use Rattle.std.specs.Prelude.{◌≡◌, ◌++◌, ◌∷◌, ◌<◌, [], List, IfOk, OnErr, OnOk, length, false, true, cond, is_some, is_err, IfSome, IsOkAnd};
+ghost use Rattle.vx_rules.specs.Members.{tree};
 ghost use Rattle.vx_rules.specs.Trees.{walk};
+ghost use Rattle.vx_resolved.specs.Resolved.{member as member_of};
 ghost use Rattle.vx_resolved.specs.Settled.{settled};
-ghost use Rattle.vx_machine.specs.Runs.{IsAt, Within, Follows, Told, EachAnswered, Shows, outcome_of, awaits as is_awaiting, given, member_tree, option_list, is_unsat, without_other, without_last};
+ghost use Rattle.vx_machine.specs.Runs.{IsAt, Within, Follows, Told, EachAnswered, Shows, outcome_of, awaits as is_awaiting, given, member_tree, option_list, is_unsat, remaining, without_other, without_last};
 
 use crate::run::run;
 use std::alloc::{AllocError, Global};
 use std::mem;
 use vx_ast::{MemberId, Place};
-use vx_resolved::Kind;
+use vx_resolved::{Kind, Member, Settled};
 use vx_rules::{Code, Reply};
 use vx_stack::{Conts, Query};
-use vx_resolved::Settled;
 
 /// Where a machine is.
 #[derive(Drop)]
@@ -102,6 +103,21 @@ fn is_refuted(reply: Reply) -> bool
     matches!(reply, Reply::Unsat)
 }
 
+/// The stack that a member begins with: its first side. A field has none, since there is no question.
+fn first_sides(alloc: Global, program: &Settled, member: &Member) -> Result<Conts, AllocError>
+    ensures { IfOk result (λ c. (rs : List Reply) → walk (tree (settled program.now) (member_of member.now).name (member_of member.now).kind) rs ≡ remaining (settled program.now) c.sides.items rs) }
+{
+    let mut conts = Conts::new(alloc);
+    match &member.kind {
+        Kind::Field(_) => {}
+        Kind::Method(m) => {
+            let side = vx_exec::first_side(alloc, program, m)?;
+            conts.sides.push(side)?;
+        }
+    }
+    Ok(conts)
+}
+
 impl Machine {
     /// A machine at the root of a member's tree, which asks at most this many questions.
     pub fn start(
@@ -117,11 +133,7 @@ impl Machine {
         ensures replies { IfOk result (λ m. m.replies.items ≡ []) }
         ensures ready { IfOk result (λ m. m.phase ≡ Phase.Ready) }
     {
-        let side = match &program.member(member.0 as usize).kind {
-            Kind::Method(m) => vx_exec::first_side(alloc, program, m)?,
-        };
-        let mut conts = Conts::new(alloc);
-        conts.sides.push(side)?;
+        let conts = first_sides(alloc, program, program.member(member.0 as usize))?;
         Ok(Machine {
             member,
             conts,

@@ -4,8 +4,6 @@
 mod locations;
 mod sides;
 
-pub use locations::step_put;
-
 ghost use Rattle.std.specs.Prelude.{◌≡◌, IfOk};
 ghost use Rattle.vx_resolved.specs.Resolved.{assertion};
 ghost use Rattle.vx_rules.specs.Members.{rules};
@@ -19,13 +17,13 @@ ghost use Rattle.vx_resolved.specs.Settled.{settled};
 
 use crate::locations::{step_amount, step_share};
 use crate::sides::{step_chosen, step_implied};
+pub use locations::step_put;
 use std::alloc::{AllocError, Global};
 use std::rc::Rc;
-use vx_resolved::Assertion;
+use vx_resolved::{Assertion, Settled};
 use vx_stack::{Conts, Frame, Hole, Move, Next, Produced, Production};
 use vx_states::{SymState, copy_optional, left_part, right_part};
 use vx_terms::Term;
-use vx_resolved::Settled;
 
 /// How a left part is produced: with its part of the snapshot.
 fn of_left(alloc: Global, x: &Production) -> Result<Rc<Production>, AllocError>
@@ -85,7 +83,13 @@ pub fn step(
         }
         Assertion::Points(place, e, field, share) => {
             let is_inner = state.is_inner;
-            let share = Produced::Share(*place, field.clone()?, share.clone()?, x.clone()?, is_inner);
+            let share = Produced::Share(
+                *place,
+                field.clone()?,
+                share.clone()?,
+                x.clone()?,
+                is_inner,
+            );
             let hole = Hole::Produced(share, next.clone()?);
             conts.eval(alloc, program, e, hole, state)
         }

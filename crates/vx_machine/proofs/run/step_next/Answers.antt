@@ -1,8 +1,13 @@
-use Rattle.std.proofs.Common.{refl, ap, sym, ◌∙◌}
+use Rattle.std.proofs.Common.{◌≡◌, string_bytes, refl, ap, sym, ◌∙◌}
+use Rattle.vx_heap.specs.Views.{heap}
 use Rattle.vx_resolved.specs.Resolved.{method}
 use Rattle.vx_resolved.specs.Settled.{settled}
 use Rattle.vx_rules.specs.Members.{rules, sides}
-use Rattle.vx_stack.specs.Stack.{going}
+use Rattle.vx_rules.specs.Codes.{code}
+use Rattle.vx_rules.specs.States.{State}
+use Rattle.vx_stack.specs.declared.waiting.Location.{Location}
+use Rattle.vx_stack.specs.Stack.{giving, going, take_location}
+use Rattle.vx_terms.specs.Views.{term}
 use Rattle.vx_states.specs.SymStates.{state}
 use Rattle.vx_stack.proofs.Steps.{stepped_as}
 use Rattle.vx_machine.proofs.run.step_next.Goals as goal
@@ -24,3 +29,41 @@ returns-in-Sides c =
     let p = settled c.args.program.now in
     let s = state c.args.state in
     stepped_as p _ _ _ _ _ (ap (λ n. going p n s) c.in-Sides.is ∙ ap (λ m. sides p (rules p) (method m) s) (sym c.deref-in-Sides.ensures)) c.step_method.ensures
+
+pub returns-in_ok-clone-in-Eval : goal.returns-in_ok-clone-in-Eval
+returns-in_ok-clone-in-Eval c =
+    stepped_as (settled c.args.program.now) _ _ _ _ _ (rw (c.in-Eval.is, c.deref-in-Eval.ensures, c.in_ok-clone-in-Eval.ensures.cases) refl) c.step-in-Eval.ensures
+
+pub returns-in-Put : goal.returns-in-Put
+returns-in-Put c =
+    stepped_as (settled c.args.program.now) _ _ _ _ _ (rw (c.in-Put.is, c.deref-in-Put.ensures, c.deref-in-Put-2.ensures) refl) c.step_put.ensures
+
+pub returns-in-Take : goal.returns-in-Take
+returns-in-Take c =
+    let p = settled c.args.program.now in
+    let s : State = state c.args.state in
+    let it = c.in-Take in
+    stepped_as p _ _ _ _ _
+    (ap (λ n. going p n s) it.is
+    ∙ ap (λ (l : Location). take_location p l.place (string_bytes l.field.value) (term l.receiver.value) (term l.amount.value) (code it.code) (heap it.heap.value) s (giving p it.hole.value)) (sym c.deref-in-Take.ensures)) c.take_location.ensures
+
+pub returns-in-ReadFrom : goal.returns-in-ReadFrom
+returns-in-ReadFrom c =
+    let p = settled c.args.program.now in
+    let s : State = state c.args.state in
+    stepped_as p _ _ _ _ _ (ap (λ n. going p n s) c.in-ReadFrom.is) c.read_from.ensures
+
+pub returns-in-TakeFrom : goal.returns-in-TakeFrom
+returns-in-TakeFrom c =
+    let p = settled c.args.program.now in
+    let s : State = state c.args.state in
+    stepped_as p _ _ _ _ _ (ap (λ n. going p n s) c.in-TakeFrom.is) c.take_from.ensures
+
+pub returns-in-WriteTo : goal.returns-in-WriteTo
+returns-in-WriteTo c =
+    let p = settled c.args.program.now in
+    let s : State = state c.args.state in
+    stepped_as p _ _ _ _ _ (ap (λ n. going p n s) c.in-WriteTo.is) c.write_to.ensures
+
+pub returns-in-Fresh : goal.returns-in-Fresh
+returns-in-Fresh c = stepped_as (settled c.args.program.now) _ _ _ _ _ (rw (c.in-Fresh.is, c.deref-in-Fresh.ensures) refl) c.step_fresh.ensures

@@ -1,6 +1,9 @@
 use Rattle.vx_resolved.specs.Settled.{settled}
-use Rattle.vx_machine.proofs.Walks.{turned_go, turned_fork, turned_ask}
+use Rattle.vx_machine.proofs.Walks.{turned_end, turned_go, turned_fork, turned_ask}
 use Rattle.vx_machine.proofs.run.turn.Goals as goal
+
+pub returns-in-End : goal.returns-in-End
+returns-in-End c = turned_end (settled c.args.program.now) _ _ _ (rw c.in-End.is at c.in_ok-step.ensures)
 
 pub returns-in-Go : goal.returns-in-Go
 returns-in-Go c = turned_go (settled c.args.program.now) _ _ _ (rw c.in-Go.is at c.in_ok-step.ensures)
