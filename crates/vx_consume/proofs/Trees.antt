@@ -8,13 +8,10 @@ use Rattle.vx_terms.specs.Build.{multiply}
 use Rattle.vx_rules.specs.Codes.{code}
 use Rattle.vx_rules.specs.States.{Heap, State}
 use Rattle.vx_rules.specs.Trees.{Code}
-use Rattle.vx_rules.specs.Rules.{Context, Giving, Going, ask, eval, fork}
+use Rattle.vx_rules.specs.Rules.{Context, Giving, Going, eval, fork}
 use Rattle.vx_rules.specs.Members.{rules}
 use Rattle.vx_stack.specs.declared.waiting.Consumption.{Consumption}
 use Rattle.vx_stack.specs.Stack.{consuming, context, take_location, taking, wrapped}
-
-pub asks : (c d : Term) (at place : Place) (x : Code) (s : State) (on k : Going) → c ≡ d → at ≡ place → on ≡ k → ask c at x s on ≡ ask d place x s k
-asks c d at place x s on k e f g = ap (λ y. ask y at x s on) e ∙ ap (λ y. ask d y x s on) f ∙ ap (λ (y : Going). ask d place x s y) g
 
 pub forks : (c : Term) (s z : State) (left l right r : Going) → s ≡ z → left ≡ l → right ≡ r → fork c s left right ≡ fork c z l r
 forks c s z left l right r e f g = ap (λ y. fork c y left right) e ∙ ap (λ (y : Going). fork c z y right) f ∙ ap (λ (y : Going). fork c z l y) g

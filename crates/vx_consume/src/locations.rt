@@ -9,27 +9,20 @@ ghost use Rattle.vx_rules.specs.Members.{rules};
 ghost use Rattle.vx_rules.specs.Rules as rule;
 ghost use Rattle.vx_stack.specs.Stack.{context, frame_tree, giving, Stepped, take_location, taking, wrapped};
 ghost use Rattle.vx_states.specs.SymStates.{state as state_of};
-ghost use Rattle.vx_terms.specs.Build.{less_equal, multiply, zero_amount};
+ghost use Rattle.vx_terms.specs.Build.{multiply};
 ghost use Rattle.vx_terms.specs.Views.{sort, term};
 
 use std::alloc::{AllocError, Global};
 use std::rc::Rc;
 use vx_ast::Place;
-use vx_heap::SymHeap;
+use vx_heap::{SymHeap, not_negative};
 use vx_resolved::{Expr, Settled};
 use vx_rules::Code;
 use vx_stack::{
     Codes, Consumed, Consumption, Conts, Frame, Hole, Location, Move, Next, field_sort,
 };
 use vx_states::SymState;
-use vx_terms::{Sort, Term, arithmetic, numbers, snapshots};
-
-/// That an amount isn't negative.
-fn not_negative(alloc: Global, amount: &Rc<Term>) -> Result<Rc<Term>, AllocError>
-    ensures { IfOk result (λ t. term t.value ≡ less_equal zero_amount (term amount.now.value)) }
-{
-    numbers::le(alloc, &vx_heap::zero(alloc)?, amount)
-}
+use vx_terms::{Sort, Term, arithmetic, snapshots};
 
 /// A location's share, after its receiver.
 pub fn step_share(

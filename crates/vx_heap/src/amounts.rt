@@ -41,6 +41,13 @@ pub fn positive(alloc: Global, amount: &Rc<Term>) -> Result<Rc<Term>, AllocError
     numbers::lt(alloc, &zero(alloc)?, amount)
 }
 
+/// That an amount isn't negative.
+pub fn not_negative(alloc: Global, amount: &Rc<Term>) -> Result<Rc<Term>, AllocError>
+    ensures { IfOk result (λ t. term t.value ≡ less_equal zero_amount (term amount.now.value)) }
+{
+    numbers::le(alloc, &zero(alloc)?, amount)
+}
+
 /// That an amount is at most the whole.
 pub fn at_most_whole(alloc: Global, amount: &Rc<Term>) -> Result<Rc<Term>, AllocError>
     ensures { IfOk result (λ t. term t.value ≡ less_equal (term amount.now.value) whole_amount) }

@@ -1,18 +1,14 @@
--- The rules Ask and Fork: by equal parts, and where the path says which side it is.
+-- What is put, by equal parts, and the rule Fork where the path says which side it is.
 use Rattle.std.proofs.Common.{◌≡◌, Bool, true, Option, refl, ap, ◌∙◌}
-use Rattle.vx_ast.specs.declared.Place.{Place}
 use Rattle.vx_ast.specs.Syntax.{Name, Program}
 use Rattle.vx_terms.specs.Terms.{Term}
 use Rattle.vx_rules.specs.States.{State, is_known}
-use Rattle.vx_rules.specs.Trees.{Code, Step}
-use Rattle.vx_rules.specs.Rules.{Going, ask, fork}
+use Rattle.vx_rules.specs.Trees.{Step}
+use Rattle.vx_rules.specs.Rules.{Going, fork}
 use Rattle.vx_stack.specs.Stack.{with_location}
 
 pub fork_left : (c : Term) (s : State) (left right : Going) → is_known c s ≡ true → fork c s left right ≡ Step (left s)
 fork_left c s left right e = rw e refl
-
-pub asks : (c d : Term) (at place : Place) (code : Code) (s : State) (on k : Going) → c ≡ d → at ≡ place → on ≡ k → ask c at code s on ≡ ask d place code s k
-asks c d at place code s on k e f g = ap (λ x. ask x at code s on) e ∙ ap (λ x. ask d x code s on) f ∙ ap (λ (x : Going). ask d place code s x) g
 
 pub puts : (p : Program) (f g : Name) (r q a b : Term) (snapshot : Option Term) (inner : Bool) (on : Going) → f ≡ g → r ≡ q → a ≡ b →
     ◌≡◌ {A = Going} (λ s. Step (on (with_location p f r a snapshot inner s))) (λ s. Step (on (with_location p g q b snapshot inner s)))

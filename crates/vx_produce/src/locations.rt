@@ -10,25 +10,18 @@ ghost use Rattle.vx_rules.specs.Rules as rule;
 ghost use Rattle.vx_rules.specs.Trees as tree;
 ghost use Rattle.vx_stack.specs.Stack.{frame_tree, going, putting, Stepped, with_location};
 ghost use Rattle.vx_states.specs.SymStates.{optional_term, state as state_of};
-ghost use Rattle.vx_terms.specs.Build.{less_equal, multiply, zero_amount};
+ghost use Rattle.vx_terms.specs.Build.{multiply};
 ghost use Rattle.vx_terms.specs.Views.{term};
 
 use std::alloc::{AllocError, Global};
 use std::rc::Rc;
 use vx_ast::Place;
-use vx_heap::{Chunk, Resource};
+use vx_heap::{Chunk, Resource, not_negative};
 use vx_resolved::{Expr, Settled};
 use vx_rules::Code;
 use vx_stack::{Conts, Frame, Hole, Location, Move, Next, Produced, Production, field_sort};
 use vx_states::SymState;
-use vx_terms::{Term, arithmetic, numbers};
-
-/// That an amount isn't negative.
-fn not_negative(alloc: Global, amount: &Rc<Term>) -> Result<Rc<Term>, AllocError>
-    ensures { IfOk result (λ t. term t.value ≡ less_equal zero_amount (term amount.now.value)) }
-{
-    numbers::le(alloc, &vx_heap::zero(alloc)?, amount)
-}
+use vx_terms::{Term, arithmetic};
 
 /// An amount: a share, by the scale.
 fn scaled(alloc: Global, x: &Production, share: &Rc<Term>) -> Result<Rc<Term>, AllocError>

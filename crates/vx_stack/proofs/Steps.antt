@@ -83,3 +83,7 @@ consumes p a b x t scale k on e f h =
     ap {B = Going} (λ (y : Assertion) s. consume p (rules p) y x t s.heap s k) e
     ∙ ap {B = Going} (λ (y : Term) s. consume p (rules p) b x y s.heap s k) f
     ∙ ap {B = Going} (λ (y : Giving) s. consume p (rules p) b x scale s.heap s y) h
+
+-- an ask by equal parts
+pub asks : (c d : Term) (at place : Place) (x : Code) (s : State) (on k : Going) → c ≡ d → at ≡ place → on ≡ k → ask c at x s on ≡ ask d place x s k
+asks c d at place x s on k e f g = ap (λ y. ask y at x s on) e ∙ ap (λ y. ask d y x s on) f ∙ ap (λ (y : Going). ask d place x s y) g

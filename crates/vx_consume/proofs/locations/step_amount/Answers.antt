@@ -12,8 +12,8 @@ use Rattle.vx_rules.specs.Rules.{Giving, Going, placed}
 use Rattle.vx_states.specs.SymStates.{state}
 use Rattle.vx_stack.specs.declared.waiting.Consumption.{Consumption}
 use Rattle.vx_stack.specs.Stack.{context, frame_tree, giving, take_location, wrapped}
-use Rattle.vx_stack.proofs.Steps.{stepped_as}
-use Rattle.vx_consume.proofs.Trees.{asks, takes, wraps}
+use Rattle.vx_stack.proofs.Steps.{asks, stepped_as}
+use Rattle.vx_consume.proofs.Trees.{takes, wraps}
 use Rattle.vx_consume.proofs.locations.step_amount.Goals as goal
 
 pub returns : goal.returns

@@ -9,8 +9,8 @@ use Rattle.vx_rules.specs.Trees.{DivisorCode}
 use Rattle.vx_rules.specs.Rules.{Going, divided, placed}
 use Rattle.vx_states.specs.SymStates.{state}
 use Rattle.vx_stack.specs.Stack.{frame_tree, giving}
-use Rattle.vx_stack.proofs.Steps.{stepped_as}
-use Rattle.vx_eval.proofs.Asked.{asks, gives}
+use Rattle.vx_stack.proofs.Steps.{asks, stepped_as}
+use Rattle.vx_eval.proofs.Given.{gives}
 use Rattle.vx_eval.proofs.operand.step_divided.Goals as goal
 
 pub returns : goal.returns

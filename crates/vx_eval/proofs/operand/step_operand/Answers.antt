@@ -5,7 +5,7 @@ use Rattle.vx_states.specs.SymStates.{state}
 use Rattle.vx_terms.specs.Views.{term}
 use Rattle.vx_stack.specs.Stack.{giving}
 use Rattle.vx_stack.proofs.Steps.{stepped_as}
-use Rattle.vx_eval.proofs.Asked.{reads}
+use Rattle.vx_eval.proofs.Given.{reads}
 use Rattle.vx_eval.proofs.operand.step_operand.Goals as goal
 
 pub returns-in_ok-clone-in-OperateRight : goal.returns-in_ok-clone-in-OperateRight

@@ -10,8 +10,8 @@ use Rattle.vx_rules.specs.Rules.{Going, placed}
 use Rattle.vx_states.specs.SymStates.{optional_term, state}
 use Rattle.vx_stack.specs.declared.waiting.Production.{Production}
 use Rattle.vx_stack.specs.Stack.{frame_tree, going, with_location}
-use Rattle.vx_stack.proofs.Steps.{stepped_as}
-use Rattle.vx_produce.proofs.Trees.{asks, puts}
+use Rattle.vx_stack.proofs.Steps.{asks, stepped_as}
+use Rattle.vx_produce.proofs.Trees.{puts}
 use Rattle.vx_produce.proofs.locations.step_amount.Goals as goal
 
 pub returns : goal.returns
