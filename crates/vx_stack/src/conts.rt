@@ -19,11 +19,10 @@ use crate::{Frame, Hole, Next, Query, Side};
 use std::alloc::{AllocError, Global};
 use std::rc::Rc;
 use vx_ast::Place;
-use vx_resolved::Expr;
+use vx_resolved::{Expr, Settled};
 use vx_rules::Code;
 use vx_states::SymState;
 use vx_terms::{Term, make};
-use vx_resolved::Settled;
 
 /// The sides that are still to be walked, the next one last.
 #[derive(Drop)]
