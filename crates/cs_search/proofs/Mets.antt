@@ -1,10 +1,9 @@
 -- What an analysis met.
-use Rattle.std.proofs.Common.{◌≡◌, ℕ, zero, suc, ◌+◌, ◌-◌, ◌<◌, ◌≤◌, ◌⊎◌, inl, inr, Bool, true, false, ◌&&◌, nat_le, List, [], ◌∷◌, ◌++◌, length, map, take, get_or, set, replicate, append_assoc, Vec, Global, Option, Some, None, refl, sym, ◌∙◌, subst, ap, ap₂, arith}
+use Rattle.std.proofs.Common.{◌≡◌, ℕ, zero, suc, ◌+◌, ◌<◌, ◌≤◌, ◌⊎◌, inl, inr, Bool, true, false, ◌&&◌, nat_le, List, [], ◌∷◌, ◌++◌, length, map, take, get_or, set, replicate, append_assoc, Vec, Global, Option, Some, None, refl, sym, ◌∙◌, subst, ap, ap₂, arith}
 use Rattle.std.specs.List.{slice_get, All, Contains}
 use Rattle.std.proofs.lemmas.Bool.Decides.{Decides-ltb, nat_tests}
 use Rattle.std.proofs.lemmas.List.{length-set, length-replicate, take_more}
 use Rattle.std.proofs.lemmas.List.Elements.{All-contains, All-weaker, Contains-push, Contains-push_cases, Contains-append_left, filter-append}
-use Rattle.std.proofs.lemmas.Option.{slice_get_within}
 use Rattle.cs_hints.specs.declared.Literal.{Literal}
 use Rattle.cs_hints.specs.declared.Clause.{Clause}
 use Rattle.cs_search.specs.declared.Value.{Value}
@@ -17,12 +16,12 @@ use Rattle.cs_search.specs.declared.analyse.Analysis.{Analysis}
 use Rattle.cs_search.specs.Assignment.{negated, seen_or, status_of, FalseBefore, BecameFalse, LeavesOnly, IsFalse, IsTrail}
 use Rattle.cs_search.specs.Extended.{IsConflict, AreClosed}
 use Rattle.cs_search.specs.Propagation.{IsDerived}
-use Rattle.cs_search.specs.Learned.{IsAdded, IsJoined, IsMet, IsResolved, IsReduced, IsLearned, IsLastDecision, IsWalked, IsUnwound, IsForcing, before, is_false_before, is_mark, is_met, is_late, count_below}
+use Rattle.cs_search.specs.Learned.{IsAdded, IsJoined, IsMet, IsResolved, IsReduced, IsLearned, IsWalked, IsUnwound, IsForcing, before, is_false_before, is_mark, is_met, is_late, count_below}
 use Rattle.cs_search.proofs.Gets.{get_set_same, get_set_other}
 use Rattle.cs_search.proofs.Statuses.{same_atom, false_negated, true_negated, literal_eq, place_by_atom_false, never_both, atom_within}
 use Rattle.cs_search.proofs.Added.{contains_nothing, contains_one, contains_here, contains_there, contains_split, contains_map, map_contains, all_from}
 use Rattle.cs_search.proofs.Resolution.{refutes_more, false_lower}
-use Rattle.cs_search.proofs.Analyses.{not_contained, learned_at, no_decision, resolved_on, reduced_skip, reduced_on, first_resolved, first_reduced}
+use Rattle.cs_search.proofs.Analyses.{not_contained, learned_at, resolved_on, reduced_skip, reduced_on, first_resolved, first_reduced}
 use Rattle.cs_search.proofs.Counts.{bool_cases, both_true, second_false, filter_has, filter_only, count_one, count_pass, count_no, count_same, count_flip, count_le, count_none, count_some}
 
 status_before : (k : ℕ) (s : Status) → is_false_before k s ≡ true → (p : ℕ) × (p < k) × (s ≡ False p)
@@ -209,10 +208,6 @@ counted_late clauses made start k place l a t h is lt le within off =
     (late_yes made.trail.items (set a.marks.items l.number true) start place e.0 le e.1 (ap (λ x. is_mark (slice_get (set a.marks.items l.number true) x)) n ∙ ap is_mark (get_set_same a.marks.items l.number true within)))
     (λ j ns. late_other clauses made.values.items made.trail.items a.marks.items start place j l t is ns) ∙ ap (λ x. suc x) (sym h.counted)
 
--- lists that are joined one literal at a time
-pub joined_none : (values : List Value) (old : List Literal) → IsJoined values old [] old
-joined_none values old = record { kept = λ m h. h; added = λ m h f. absurd (contains_nothing m h); only = λ m h. inl h }
-
 -- the walk passes an entry whose atom is not marked
 pub met_passed : (clauses : List Clause) (made : Assignment) (start k : ℕ) (e : Entry) (a : Analysis) → slice_get made.trail.items k ≡ Some e → is_mark (slice_get a.marks.items e.literal.number) ≡ false → IsMet made start (k + 1) a → IsMet made start k a
 met_passed clauses made start k e a at off h = record {
@@ -329,10 +324,13 @@ before_without : (clauses : List Clause) (values : List Value) (trail : List Ent
 before_without clauses values trail k e c t at = record {
   kept = λ m x. absurd (contains_nothing m x);
   added = λ m x ne. before_on clauses values trail k e c m t at ne x;
-  only = λ m x. inr (before_back values k c m x, λ s.
-    let w = (before_only values k c m x).1 in
-    let y : w.0 ≡ k = one_place values (negated e.literal) w.0 k (ap (λ z. status_of values z) (sym s) ∙ w.2) (away_false clauses values trail k e t at) in
-    let lt : w.0 < k = w.1 in omega arith);
+  only = λ m x. inr (
+    before_back values k c m x,
+    λ s.
+        let w = (before_only values k c m x).1 in
+        let y : w.0 ≡ k = one_place values (negated e.literal) w.0 k (ap (λ z. status_of values z) (sym s) ∙ w.2) (away_false clauses values trail k e t at) in
+        let lt : w.0 < k = w.1 in omega arith,
+  );
 }
 
 before_joined : (clauses : List Clause) (values : List Value) (trail : List Entry) (k r : ℕ) (e : Entry) (c : Clause) (old new : List Literal) → IsTrail clauses values trail → slice_get trail k ≡ Some e → e.reason ≡ Some r → slice_get clauses r ≡ Some c →
@@ -349,10 +347,10 @@ before_joined clauses values trail k r e c old new t at why here j =
         | inr f ↦ before_has values k new m (j.added m x (f.0, f.2)) f
       ];
       only = λ m x. (let y = before_only values k new m x in
-        elim (j.only m y.0) [
-          | inl o ↦ inl (before_has values k old m o y.1)
-          | inr n ↦ inr (n.0, λ s. never_both values m k y.1.0 (ap (λ z. status_of values z) s ∙ t.set k e at) y.1.2)
-        ]);
+          elim (j.only m y.0) [
+            | inl o ↦ inl (before_has values k old m o y.1)
+            | inr n ↦ inr (n.0, λ s. never_both values m k y.1.0 (ap (λ z. status_of values z) s ∙ t.set k e at) y.1.2)
+          ]);
     }
 
 pub walked_on : (clauses : List Clause) (made : Assignment) (start k r : ℕ) (e : Entry) (c : Clause) (a b : Analysis) → IsTrail clauses made.values.items made.trail.items → start ≤ k → slice_get made.trail.items k ≡ Some e →
@@ -455,12 +453,14 @@ met_none made start k a n en em ek el =
     unset zero i e = cc
     unset (suc n) zero e = cc
     unset (suc n) (suc i) e = unset n i e
+
     blank : (n : ℕ) (o : Option Entry) → is_met (replicate n false) o ≡ false
     blank n None = refl
     blank n (Some x) = elim (bool_cases (is_mark (slice_get (replicate n false) x.literal.number))) [
       | inl y ↦ absurd (unset n x.literal.number (mark_some (slice_get (replicate n false) x.literal.number) y))
       | inr off ↦ off
     ]
+
     nothing : (k : ℕ) → count_below (is_late made.trail.items a.marks.items start) k ≡ 0
     nothing zero = refl
     nothing (suc k) = count_no (is_late made.trail.items a.marks.items start) k (second_false (nat_le start k) (is_met a.marks.items (slice_get made.trail.items k)) (ap (λ x. is_met x (slice_get made.trail.items k)) ek ∙ blank n (slice_get made.trail.items k))) ∙ nothing k

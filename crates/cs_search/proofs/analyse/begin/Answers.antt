@@ -1,4 +1,4 @@
-use Rattle.std.proofs.Common.{◌≡◌, length, replicate, false, refl, sym, ◌∙◌, ap}
+use Rattle.std.proofs.Common.{refl, ◌∙◌}
 use Rattle.cs_search.proofs.Mets.{met_none}
 use Rattle.cs_search.proofs.analyse.begin.Goals as goal
 

@@ -1,4 +1,4 @@
-use Rattle.std.proofs.Common.{◌++◌, ◌∷◌, [], sym, ◌∙◌, ap}
+use Rattle.std.proofs.Common.{◌++◌, ◌∷◌, [], ◌∙◌, ap}
 use Rattle.cs_search.specs.Learned.{before}
 use Rattle.cs_search.proofs.Mets.{learned_clause}
 use Rattle.cs_search.proofs.analyse.finish.Goals as goal

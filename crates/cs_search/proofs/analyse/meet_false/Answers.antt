@@ -1,4 +1,4 @@
-use Rattle.std.proofs.Common.{◌≡◌, ◌<◌, suc, true, refl, sym, ◌∙◌, ap, arith}
+use Rattle.std.proofs.Common.{refl, ◌∙◌, ap, arith}
 use Rattle.std.proofs.lemmas.Option.{slice_get_read}
 use Rattle.cs_search.specs.Learned.{is_mark}
 use Rattle.cs_search.proofs.Mets.{met_more, joined_new, counted_early, counted_late, mark_within, late_fits}

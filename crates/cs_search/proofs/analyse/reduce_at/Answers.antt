@@ -1,5 +1,5 @@
-use Rattle.std.proofs.Common.{◌≡◌, length, None, Some, refl, sym, ◌∙◌, ap}
-use Rattle.std.proofs.lemmas.Option.{slice_get_read, slice_get_within}
+use Rattle.std.proofs.Common.{◌≡◌, None, Some, refl, sym, ◌∙◌}
+use Rattle.std.proofs.lemmas.Option.{slice_get_read}
 use Rattle.cs_search.proofs.Analyses.{reason_within}
 use Rattle.cs_search.proofs.Settles.{some_at}
 use Rattle.cs_search.proofs.Mets.{mark_at, unwound_passed, unwound_on}

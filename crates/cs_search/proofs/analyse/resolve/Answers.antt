@@ -1,4 +1,4 @@
-use Rattle.std.proofs.Common.{rules, ◌≡◌, ◌<◌, length, refl, sym, ◌∙◌, ap}
+use Rattle.std.proofs.Common.{rules, ◌≡◌, ◌<◌, length, sym, ◌∙◌, ap}
 use Rattle.cs_search.proofs.Passes.{at_index}
 use Rattle.cs_search.proofs.Analyses.{reason_within}
 use Rattle.cs_search.proofs.Mets.{reason_false, joined_over}

@@ -1,4 +1,4 @@
-use Rattle.std.proofs.Common.{◌≡◌, ◌+◌, refl, sym, ◌∙◌, subst, ap}
+use Rattle.std.proofs.Common.{◌+◌, refl, sym, ◌∙◌, subst}
 use Rattle.std.proofs.lemmas.Option.{slice_get_read}
 use Rattle.cs_hints.specs.declared.Literal.{Literal}
 use Rattle.cs_search.specs.Learned.{IsForcing}
