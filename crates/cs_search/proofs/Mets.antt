@@ -1,9 +1,9 @@
 -- What an analysis met.
-use Rattle.std.proofs.Common.{◌≡◌, ℕ, zero, suc, ◌+◌, ◌<◌, ◌≤◌, ◌⊎◌, inl, inr, Bool, true, false, ◌&&◌, nat_le, List, [], ◌∷◌, ◌++◌, length, map, take, get_or, set, replicate, append_assoc, Vec, Global, Option, Some, None, refl, sym, ◌∙◌, subst, ap, ap₂, arith}
+use Rattle.std.proofs.Common.{◌≡◌, ℕ, zero, suc, ◌+◌, ◌<◌, ◌≤◌, ◌⊎◌, inl, inr, Bool, true, false, ◌&&◌, nat_le, List, [], ◌∷◌, ◌++◌, length, map, take, get_or, set, replicate, Vec, Global, Option, Some, None, refl, sym, ◌∙◌, subst, ap, ap₂, arith}
 use Rattle.std.specs.List.{slice_get, All, Contains}
 use Rattle.std.proofs.lemmas.Bool.Decides.{Decides-ltb, nat_tests}
 use Rattle.std.proofs.lemmas.List.{length-set, length-replicate, take_more}
-use Rattle.std.proofs.lemmas.List.Elements.{All-contains, All-weaker, Contains-push, Contains-push_cases, Contains-append_left, filter-append}
+use Rattle.std.proofs.lemmas.List.Elements.{All-contains, All-weaker, Contains-push, Contains-push_cases, Contains-append_left}
 use Rattle.cs_hints.specs.declared.Literal.{Literal}
 use Rattle.cs_hints.specs.declared.Clause.{Clause}
 use Rattle.cs_search.specs.declared.Value.{Value}
@@ -128,14 +128,6 @@ made_by clauses values trail m p t is = t.placed (negated m) p (true_negated val
 -- what an entry made false
 pub away_false : (clauses : List Clause) (values : List Value) (trail : List Entry) (k : ℕ) (e : Entry) → IsTrail clauses values trail → slice_get trail k ≡ Some e → status_of values (negated e.literal) ≡ False k
 away_false clauses values trail k e t at = false_negated values e.literal k (t.set k e at)
-
--- an atom is marked
-pub joined_there : (made : Assignment) (start k : ℕ) (a : Analysis) (l : Literal) → IsMet made start k a → BecameFalse made.values.items l → slice_get a.marks.items l.number ≡ Some true → IsJoined made.values.items a.met.items (l ∷ []) a.met.items
-joined_there made start k a l h f on = record {
-  kept = λ m x. x;
-  added = λ m x y. let P : Literal → Type 0 = λ z. Contains a.met.items z in subst P (contains_one l m x) (h.only l f on);
-  only = λ m x. inl x;
-}
 
 pub joined_new : (values : List Value) (old new : List Literal) (l : Literal) → BecameFalse values l → new ≡ old ++ l ∷ [] → IsJoined values old (l ∷ []) new
 joined_new values old new l f e =
@@ -464,12 +456,6 @@ met_none made start k a n en em ek el =
     nothing : (k : ℕ) → count_below (is_late made.trail.items a.marks.items start) k ≡ 0
     nothing zero = refl
     nothing (suc k) = count_no (is_late made.trail.items a.marks.items start) k (second_false (nat_le start k) (is_met a.marks.items (slice_get made.trail.items k)) (ap (λ x. is_met x (slice_get made.trail.items k)) ek ∙ blank n (slice_get made.trail.items k))) ∙ nothing k
-
--- the filter, one literal at a time
-pub before_more : (values : List Value) (k : ℕ) (new mid old list : List Literal) (i : ℕ) (d : Literal) → i < length list → mid ≡ old ++ before values k (take i list) → new ≡ mid ++ before values k (get_or list i d ∷ []) → new ≡ old ++ before values k (take (i + 1) list)
-before_more values k new mid old list i d lt a b =
-    b ∙ (ap (λ x. x ++ before values k (get_or list i d ∷ [])) a ∙ (append_assoc old (before values k (take i list)) (before values k (get_or list i d ∷ [])) ∙
-    ap (λ x. old ++ x) (sym (filter-append (λ l. is_false_before k (status_of values l)) (take i list) (get_or list i d ∷ [])) ∙ ap (before values k) (sym (take_more list i d lt)))))
 
 -- the clause that is learned
 pub learned_clause : (clauses : List Clause) (made : Assignment) (start k : ℕ) (a : Analysis) (forced : Literal) (literals : List Literal) → start ≤ k → IsForcing clauses made start k a forced →

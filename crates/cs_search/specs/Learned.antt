@@ -94,7 +94,3 @@ pub record IsUnwound (clauses : List Clause) (made : Assignment) (k : ℕ) (a : 
 -- what was met forces one literal
 abbrev pub IsForcing : List Clause → Assignment → ℕ → ℕ → Analysis → Literal → Type 0
 IsForcing clauses made start k a forced = IsLearned clauses made.values.items start k (before made.values.items k a.met.items) a.hints.items forced
-
--- the entry at k, and the clause that forces it
-abbrev pub IsForcedAt : List Clause → List Entry → ℕ → ℕ → Clause → Type 0
-IsForcedAt clauses trail k r c = (e : Entry) × (slice_get trail k ≡ Some e) × (e.reason ≡ Some r) × (slice_get clauses r ≡ Some c)
