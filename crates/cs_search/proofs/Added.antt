@@ -1,10 +1,8 @@
 -- Lists of literals that grow.
-use Rattle.std.proofs.Common.{◌≡◌, ℕ, zero, suc, ◌+◌, ◌<◌, ◌≤◌, ◌⊎◌, inl, inr, List, [], ◌∷◌, ◌++◌, length, map, get_or, take, refl, sym, ◌∙◌, subst, ap, arith}
+use Rattle.std.proofs.Common.{◌≡◌, ℕ, zero, suc, ◌+◌, ◌<◌, ◌≤◌, ◌⊎◌, inl, inr, List, [], ◌∷◌, length, map, get_or, take, refl, sym, subst, ap, arith}
 use Rattle.std.specs.List.{All, Contains}
 use Rattle.std.proofs.lemmas.List.{take_more, take_all}
-use Rattle.std.proofs.lemmas.List.Elements.{Contains-get_or, Contains-push, Contains-push_cases, Contains-append_left, All-push}
-use Rattle.cs_hints.specs.declared.Literal.{Literal}
-use Rattle.cs_search.specs.Learned.{IsAdded}
+use Rattle.std.proofs.lemmas.List.Elements.{Contains-get_or, All-push}
 
 pub contains_nothing : {X : Type 0} (x : X) → Contains [] x → ⊥
 contains_nothing x (k, lt, e) = omega arith
@@ -39,42 +37,6 @@ map_contains f (z ∷ xs) y h = elim (contains_split (f z) (map f xs) y h) [
 
 pub all_from : {X : Type 0} (P : X → Type 0) (xs : List X) → ((x : X) → Contains xs x → P x) → All P xs
 all_from P xs h k d lt = h (get_or xs k d) (Contains-get_or xs k d lt)
-
-pub none_added : (old : List Literal) (except : Literal) → IsAdded old [] except old
-none_added old except = record { kept = λ m h. h; added = λ m h ne. absurd (contains_nothing m h); only = λ m h. inl h }
-
-pub left_out : (old : List Literal) (l except : Literal) → l ≡ except → IsAdded old (l ∷ []) except old
-left_out old l except e = record { kept = λ m h. h; added = λ m h ne. absurd (ne (sym (contains_one l m h) ∙ e)); only = λ m h. inl h }
-
-pub is_there : (old : List Literal) (l except : Literal) → Contains old l → IsAdded old (l ∷ []) except old
-is_there old l except t = record { kept = λ m h. h; added = λ m h ne. (let P : Literal → Type 0 = λ x. Contains old x in subst P (contains_one l m h) t); only = λ m h. inl h }
-
-pub is_new : (old new : List Literal) (l except : Literal) → ¬ (l ≡ except) → new ≡ old ++ l ∷ [] → IsAdded old (l ∷ []) except new
-is_new old new l except ne e =
-    let Q : List Literal → Type 0 = λ xs. IsAdded old (l ∷ []) except xs in
-    subst Q (sym e) record {
-      kept = λ m h. Contains-append_left old (l ∷ []) m h;
-      added = λ m h n. (let P : Literal → Type 0 = λ x. Contains (old ++ l ∷ []) x in subst P (contains_one l m h) (Contains-push old l));
-      only = λ m h. elim (Contains-push_cases old l m h) [
-        | inl t ↦ inl t
-        | inr s ↦ inr ((let P : Literal → Type 0 = λ x. Contains (l ∷ []) x in subst P s (contains_here l [])), λ x. ne (s ∙ x))
-      ];
-    }
-
-pub added_more : (old mid new list : List Literal) (k : ℕ) (d except : Literal) → k < length list → IsAdded old (take k list) except mid → IsAdded mid (get_or list k d ∷ []) except new → IsAdded old (take (k + 1) list) except new
-added_more old mid new list k d except lt a b =
-    let Q : List Literal → Type 0 = λ xs. IsAdded old xs except new in
-    subst Q (sym (take_more list k d lt)) record {
-      kept = λ m h. b.kept m (a.kept m h);
-      added = λ m h ne. elim (Contains-push_cases (take k list) (get_or list k d) m h) [
-        | inl t ↦ b.kept m (a.added m t ne)
-        | inr s ↦ b.added m ((let P : Literal → Type 0 = λ x. Contains (get_or list k d ∷ []) x in subst P s (contains_here (get_or list k d) []))) ne
-      ];
-      only = λ m h. elim (b.only m h) [
-        | inl t ↦ elim (a.only m t) [ inl o ↦ inl o | inr f ↦ inr (Contains-append_left (take k list) (get_or list k d ∷ []) m f.0, f.1) ]
-        | inr f ↦ inr ((let P : Literal → Type 0 = λ x. Contains (take k list ++ get_or list k d ∷ []) x in subst P (contains_one (get_or list k d) m f.0) (Contains-push (take k list) (get_or list k d))), f.1)
-      ];
-    }
 
 pub all_more : {X : Type 0} (P : X → Type 0) (xs : List X) (k : ℕ) (d : X) → k < length xs → All P (take k xs) → P (get_or xs k d) → All P (take (k + 1) xs)
 all_more {X = X} P xs k d lt h p = let Q : List X → Type 0 = λ ys. All P ys in subst Q (sym (take_more xs k d lt)) (All-push P (take k xs) (get_or xs k d) h p)

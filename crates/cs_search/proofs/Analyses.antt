@@ -1,5 +1,5 @@
 -- One step of conflict analysis.
-use Rattle.std.proofs.Common.{◌≡◌, ℕ, zero, suc, ◌+◌, ◌<◌, ◌≤◌, ◌⊎◌, inl, inr, Bool, true, false, List, [], ◌∷◌, ◌++◌, length, reverse, Option, Some, None, IfSome, refl, sym, ◌∙◌, subst, ap, arith}
+use Rattle.std.proofs.Common.{◌≡◌, ℕ, zero, suc, ◌+◌, ◌<◌, ◌≤◌, ◌⊎◌, inl, inr, Bool, true, false, List, [], ◌∷◌, ◌++◌, length, reverse, Some, None, refl, sym, ◌∙◌, subst, ap, arith}
 use Rattle.std.specs.List.{slice_get, Contains}
 use Rattle.std.proofs.lemmas.List.{reverse-append}
 use Rattle.std.proofs.lemmas.Option.{slice_get_within}
@@ -90,19 +90,6 @@ only_at v v' n l l' u u' ev el eu h =
     let R : Literal → Type 0 = λ x. LeavesOnly v' n l' x in
     subst R eu (subst Q el (subst P ev h))
 
-pub contains_at : (l l' : List Literal) (u u' : Literal) → l ≡ l' → u ≡ u' → Contains l u → Contains l' u'
-contains_at l l' u u' el eu h =
-    let Q : List Literal → Type 0 = λ x. Contains x u in
-    let R : Literal → Type 0 = λ x. Contains l' x in
-    subst R eu (subst Q el h)
-
-pub added_at : (o o' l l' : List Literal) (u u' : Literal) (n : List Literal) → o ≡ o' → l ≡ l' → u ≡ u' → IsAdded o l u n → IsAdded o' l' u' n
-added_at o o' l l' u u' n eo el eu h =
-    let P : List Literal → Type 0 = λ x. IsAdded x l u n in
-    let Q : List Literal → Type 0 = λ x. IsAdded o' x u n in
-    let R : Literal → Type 0 = λ x. IsAdded o' l' x n in
-    subst R eu (subst Q el (subst P eo h))
-
 pub contradicted : {b : Bool} → b ≡ false → b ≡ true → ⊥
 contradicted f t = cc
 
@@ -137,12 +124,6 @@ learned_later clauses values start m n lits hints u le h = record { false = fals
 
 pub conflict_within : (clauses : List Clause) (values : List Value) (n i : ℕ) → IsConflict clauses values n i → i < length clauses
 conflict_within clauses values n i w = slice_get_within clauses i w.0 w.1
-
-pub given_some : {X : Type 0} (P : X → Type 0) (o : Option X) (x : X) → o ≡ Some x → IfSome o P → P x
-given_some {X = X} P o x e h = let Q : Option X → Type 0 = λ y. IfSome y P in subst Q e h
-
-pub resolved_at : (clauses : List Clause) (values : List Value) (start m n : ℕ) (lits : List Literal) (hints : List ℕ) → m ≡ n → IsResolved clauses values start n lits hints → IsResolved clauses values start m lits hints
-resolved_at clauses values start m n lits hints e h = let P : ℕ → Type 0 = λ x. IsResolved clauses values start x lits hints in subst P (sym e) h
 
 pub reduced_skip : (clauses : List Clause) (values : List Value) (trail : List Entry) (k : ℕ) (e : Entry) (lits : List Literal) (hints : List ℕ) →
     IsTrail clauses values trail → slice_get trail k ≡ Some e → IsReduced clauses values (k + 1) lits hints → ¬ (Contains lits (negated e.literal)) → IsReduced clauses values k lits hints
@@ -198,6 +179,3 @@ first_reduced clauses values n i c lits hints at w el eh =
     let P : List Literal → Type 0 = λ x. IsReduced clauses values n x hints in
     let D : List ℕ → Type 0 = λ hs. IsDerived clauses c.literals.items (reverse hs) in
     subst P (sym el) record { false = subst F same w.2; derived = subst D (sym eh) (conflict_derived clauses i c at) }
-
-pub reduced_at : (clauses : List Clause) (values : List Value) (m n : ℕ) (lits : List Literal) (hints : List ℕ) → m ≡ n → IsReduced clauses values n lits hints → IsReduced clauses values m lits hints
-reduced_at clauses values m n lits hints e h = let P : ℕ → Type 0 = λ x. IsReduced clauses values x lits hints in subst P (sym e) h

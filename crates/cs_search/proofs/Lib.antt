@@ -5,6 +5,8 @@ pub mod Passes
 pub mod Added
 pub mod Resolution
 pub mod Analyses
+pub mod Counts
+pub mod Mets
 pub mod Settles
 pub mod Learns
 pub mod Rounds

@@ -25,7 +25,8 @@ pub enum Choice {
 
 /// Is the literal true?
 pub fn is_true(values: &[Value], literal: Literal) -> bool
-    ensures { result ≡ true → (p : ℕ) × (status_of values.now literal ≡ True p) }
+    ensures yes { result ≡ true → (p : ℕ) × (status_of values.now literal ≡ True p) }
+    ensures no { result ≡ false → (p : ℕ) → ¬ (status_of values.now literal ≡ True p) }
 {
     match status(values, literal) {
         Status::True(_) => true,

@@ -14,7 +14,7 @@ pub fn pop_to(search: &mut Search, mark: usize)
     ensures clauses { search.new.clauses.items ≡ take mark search.old.clauses.items }
 {
     forget(&mut search.queue);
-    search.next = 0;
+    search.order.next = 0;
     take_back(&mut search.made, 0, &search.clauses);
     search.clauses.truncate(mark);
 }

@@ -34,6 +34,7 @@ pub mod examine;
 pub mod laws;
 pub mod learn;
 pub mod levels;
+pub mod order;
 pub mod propagate;
 pub mod queue;
 pub mod rows;

@@ -13,6 +13,7 @@ ghost use Rattle.cs_search.specs.Queued.{IsQueued};
 
 use crate::analyse::{analyse, refute};
 use crate::assignment::{Assignment, assign, take_back};
+use crate::order::Order;
 use crate::propagate::propagate;
 use crate::queue::{Queue, rewind};
 use crate::settle::{last_decision, settle};
@@ -53,14 +54,14 @@ pub fn spend(meter: &mut Meter) -> bool
     }
 }
 
-/// Clauses, how the derived ones were derived, an assignment, what the clauses watch, and from where on an atom without a value is looked for.
+/// Clauses, how the derived ones were derived, an assignment, what the clauses watch, and which atom is decided next.
 #[derive(Drop)]
 pub struct Search {
     pub clauses: Vec<Clause>,
     pub steps: Vec<Hints>,
     pub made: Assignment,
     pub queue: Queue,
-    pub next: usize,
+    pub order: Order,
 }
 
 impl Search {
@@ -79,17 +80,8 @@ impl Search {
                 trail: Vec::new(alloc),
             },
             queue: Queue::new(alloc),
-            next: 0,
+            order: Order::new(alloc),
         }
-    }
-}
-
-/// The atom that was made true or false at the place.
-fn atom_at(trail: &[Entry], place: usize) -> usize {
-    if place < trail.len() {
-        trail[place].literal.number as usize
-    } else {
-        0
     }
 }
 
@@ -98,13 +90,13 @@ pub fn back_to(search: &mut Search, cut: usize)
     requires sound { IsReady search.old }
     requires room { cut ≤ length search.old.made.trail.items }
     ensures sound { IsTrail search.old.clauses.items search.new.made.values.items search.new.made.trail.items }
-    ensures same { search.new ≡ record search.old { made = search.new.made; queue = search.new.queue; next = search.new.next } }
+    ensures same { search.new ≡ record search.old { made = search.new.made; queue = search.new.queue; order = search.new.order } }
     ensures trail { search.new.made.trail.items ≡ take cut search.old.made.trail.items }
     ensures values { length search.new.made.values.items ≡ length search.old.made.values.items }
     ensures queued { IsQueued search.old.clauses.items search.new.made.values.items search.new.made.trail.items search.new.queue }
 {
     rewind(&mut search.queue, &search.made.trail, cut);
-    search.next = atom_at(&search.made.trail, search.queue.head);
+    search.order.keep_from(&search.made.trail, cut);
     take_back(&mut search.made, cut, &search.clauses);
 }
 
@@ -137,6 +129,7 @@ pub fn learn_conflict(
     search.steps.push(Hints {
         numbers: learned.hints,
     })?;
+    search.order.count(&learned.met)?;
     Ok(())
 }
 
@@ -156,15 +149,30 @@ fn unset_from(values: &[Value], from: usize) -> Option<u32>
     None
 }
 
-/// An atom without a value, looked for from this one on at first.
-pub fn find_unset(values: &[Value], from: usize) -> Option<u32>
+/// The first atom without a value.
+fn first_unset(values: &[Value], order: &mut Order) -> Option<u32>
     requires { length values.now < 2 ^ 32 }
     ensures some { IfSome result (λ atom. slice_get values.now atom ≡ Some Value.Unset) }
     ensures none { IfNone result (AreSet values.now) }
 {
-    match unset_from(values, from) {
-        Some(atom) => Some(atom),
+    match unset_from(values, order.next) {
+        Some(atom) => {
+            order.next = atom as usize;
+            Some(atom)
+        }
         None => unset_from(values, 0),
+    }
+}
+
+/// An atom without a value: the one with the highest score, or the first one where none of them has a score.
+pub fn find_unset(values: &[Value], order: &mut Order) -> Option<u32>
+    requires { length values.now < 2 ^ 32 }
+    ensures some { IfSome result (λ atom. slice_get values.now atom ≡ Some Value.Unset) }
+    ensures none { IfNone result (AreSet values.now) }
+{
+    match order.best(values) {
+        Some(atom) => Some(atom),
+        None => first_unset(values, order),
     }
 }
 
@@ -217,20 +225,20 @@ pub fn decide(search: &mut Search) -> Result<bool, AllocError>
     requires closed { AreClosed search.old.clauses.items search.old.made.values.items (length search.old.made.trail.items) (length search.old.clauses.items) }
     requires walked { search.old.queue.head ≡ length search.old.made.trail.items }
     ensures sound { OnOk result (IsReady search.new) }
-    ensures same { search.new ≡ record search.old { made = search.new.made; next = search.new.next } }
+    ensures same { search.new ≡ record search.old { made = search.new.made; order = search.new.order } }
     ensures width { OnOk result (length search.new.made.values.items ≡ length search.old.made.values.items) }
     ensures decided { IfOk result (λ b. b ≡ true → unset_count search.new.made.values.items < unset_count search.old.made.values.items) }
     ensures satisfied { IfOk result (λ b. b ≡ false → AreSatisfied search.new.clauses.items search.new.made.values.items) }
 {
-    match find_unset(&search.made.values, search.next) {
+    search.order.reach(search.made.values.len())?;
+    match find_unset(&search.made.values, &mut search.order) {
         None => Ok(false),
         Some(atom) => {
             let literal = Literal {
-                positive: false,
+                positive: search.order.sign(atom),
                 number: atom,
             };
             assign(&mut search.made, literal, None)?;
-            search.next = atom as usize + 1;
             Ok(true)
         }
     }

@@ -1,15 +1,12 @@
-use Rattle.std.proofs.Common.{◌≡◌, ◌≤◌, take, length}
-use Rattle.cs_search.specs.Learned.{IsResolved}
+use Rattle.std.proofs.Common.{◌≤◌, length}
+use Rattle.cs_search.specs.Learned.{IsWalked}
 use Rattle.cs_search.proofs.analyse.analyse.Given as goal
-
-abbrev pub invariant-loop-literal : goal.invariant-loop-literal
-invariant-loop-literal l = l.literals.items ≡ take l.literal-index l.literal-items
 
 abbrev pub invariant-loop-k : goal.invariant-loop-k
 invariant-loop-k l = record {
   above : l.start ≤ l.k;
   within : l.k ≤ length l.made.trail.items;
-  resolved : IsResolved l.clauses l.made.values.items l.start l.k l.found.literals.items l.found.hints.items;
+  walked : IsWalked l.clauses l.made l.start l.k l.found;
 }
 
 abbrev pub decreases-loop-k : goal.decreases-loop-k

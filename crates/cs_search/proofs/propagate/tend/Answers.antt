@@ -10,7 +10,7 @@ use Rattle.cs_search.proofs.propagate.tend.Goals as goal
 pub returns-then-is_true-clause-seen : goal.returns-then-is_true-clause-seen
 returns-then-is_true-clause-seen c =
     let m = c.args.made.now in
-    let w = c.is_true.ensures c.if-is_true.true in
+    let w = c.is_true.ensures.yes c.if-is_true.true in
     let is : status_of m.values.items c.args.stays ≡ True w.0 = ap (λ v. status_of v c.args.stays) (sym c.deref.ensures.value) ∙ w.1 in
     held_true c.args.clauses.now m.values.items m.values.items m.trail.items c.args.queue.now c.args.number (length m.trail.items) c.args.away c.args.stays c.requires.queued c.requires.beside
     (true_placed c.args.clauses.now m.values.items m.trail.items c.args.stays w.0 c.requires.sound is)

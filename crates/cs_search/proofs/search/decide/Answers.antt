@@ -1,4 +1,4 @@
-use Rattle.std.proofs.Common.{None, false, length}
+use Rattle.std.proofs.Common.{None, length}
 use Rattle.std.proofs.lemmas.Option.{slice_get_within}
 use Rattle.cs_hints.specs.declared.Literal.{Literal}
 use Rattle.cs_search.specs.declared.Value.TheVariants.{Unset}
@@ -12,7 +12,7 @@ pub returns-in_ok-assign-in-Some-clause-sound : goal.returns-in_ok-assign-in-Som
 returns-in_ok-assign-in-Some-clause-sound c =
     let s = c.args.search.now in
     let n = c.assign.new.made in
-    let l : Literal = record { positive = false; number = c.in-Some.atom } in
+    let l : Literal = record { positive = c.sign.result; number = c.in-Some.atom } in
     let e : Entry = record { literal = l; reason = None } in
     let at = get_over s.made.values.items _ c.in-Some.atom c.deref.ensures.value c.in-Some.ensures.some in
     let ok = c.in_ok-assign-in-Some.ensures in
@@ -25,7 +25,7 @@ returns-in_ok-assign-in-Some-clause-sound c =
 pub returns-in_ok-assign-in-Some-clause-decided : goal.returns-in_ok-assign-in-Some-clause-decided
 returns-in_ok-assign-in-Some-clause-decided c t =
     let s = c.args.search.now in
-    let l : Literal = record { positive = false; number = c.in-Some.atom } in
+    let l : Literal = record { positive = c.sign.result; number = c.in-Some.atom } in
     let at = get_over s.made.values.items _ c.in-Some.atom c.deref.ensures.value c.in-Some.ensures.some in
     fewer s.made.values.items _ l (length s.made.trail.items) (slice_get_within s.made.values.items c.in-Some.atom Unset at) (unset_unassigned s.made.values.items l at) c.in_ok-assign-in-Some.ensures.values
 
