@@ -14,15 +14,16 @@ use Rattle.vx_meaning.specs.Fits.{add, deeper}
 use Rattle.vx_terms.specs.Interpretations.{Tree, Empty}
 use Rattle.vx_amounts.proofs.Amounts.{Le, Positive, Same, same-trans, le-refl, le-trans, sum_same, none-sum, sum_comm, none-none, positive-le, not-positive, above-add, below-add, full-positive, none-full}
 use Rattle.vx_sound.proofs.Chunks.{location_same, held_directly}
+use Rattle.vx_sound_preds.specs.Bodies.{AreRigid, Rigid, IsPlainBody, GoodBodies}
 use Rattle.vx_sound_preds.specs.Snapshots.{assertion_tree, body_tree, tree_by}
 use Rattle.vx_amounts.proofs.Products.{product-full, product_comm, product_sign, product_positive, positive_le}
 use Rattle.vx_sound_preds.proofs.Fitting.{step, some_is, Agrees}
 use Rattle.vx_sound_preds.proofs.Flats.{came, flat_later, inner_more}
 use Rattle.vx_sound_preds.proofs.Totals.{weigh, weigh_none, same_is, weight, total_weighs, inner_weighs, weight_of_body, weight_sign, weigh_sign, AtLeastNone}
-use Rattle.vx_sound_preds.proofs.Grouped.{AreRigid, IsSingle, AreSingle, NoDebts, resource_is, resource_self}
-use Rattle.vx_sound_preds.proofs.Framing.{IsPlainBody, Gains, framed}
-use Rattle.vx_sound_preds.proofs.Adding.{Rigid, Sound, Grounded, Fine, AreEntries, added, weigh_added, add_adds}
-use Rattle.vx_sound_preds.proofs.Exchanging.{GoodBodies, no_negatives, opened, held_grows, bound_rigid, all_open}
+use Rattle.vx_sound_preds.proofs.Grouped.{IsSingle, AreSingle, NoDebts, resource_is, resource_self}
+use Rattle.vx_sound_preds.proofs.Framing.{above_none, Gains, framed}
+use Rattle.vx_sound_preds.proofs.Adding.{Sound, Grounded, Fine, AreEntries, added, weigh_added, add_adds}
+use Rattle.vx_sound_preds.proofs.Exchanging.{no_negatives, opened, held_grows, bound_rigid, all_open}
 
 -- what an amount that is gained does
 module _ (p : Program) (good : GoodBodies p) (q : Fraction) (scale : Positive q) where
@@ -109,11 +110,11 @@ module _ (p : Program) where
       truth_positive (is_true y.it) es y.then
   entries_positive s (Points at e f share) es k eq =
       let y = came (value p no_applications s e) (λ r. option_and_then (location_entry f r) (value p no_applications s share)) es eq in
-      location_positive f y.it k.1.amount es k.1.positive (sym (step (location_entry f y.it) (PermValue k.1.amount) (k.1.value_is s)) ∙ y.then)
+      location_positive f y.it k.1.amount es (above_none k.1) (sym (step (location_entry f y.it) (PermValue k.1.amount) (k.1.value_is s)) ∙ y.then)
   entries_positive s (syntax.Instance at i xs share) es k eq =
       let y = came (values p no_applications s xs) (λ vs. option_and_then (instance_entry i vs) (value p no_applications s share)) es eq in
       let e = sym (step (instance_entry i y.it) (PermValue k.1.amount) (k.1.value_is s)) ∙ y.then in
-      subst (AllPositive) (some_is ((Folded record { predicate = i; arguments = y.it }, k.1.amount) ∷ []) es e) (k.1.positive, tt)
+      subst (AllPositive) (some_is ((Folded record { predicate = i; arguments = y.it }, k.1.amount) ∷ []) es e) ((above_none k.1), tt)
   entries_positive s (Both a b) es k eq =
       let y = came (entries p s a) (λ xs. option_and_then (λ ys. Some (xs ++ ys)) (entries p s b)) es eq in
       let z = came (entries p s b) (λ ys. Some (y.it ++ ys)) es y.then in

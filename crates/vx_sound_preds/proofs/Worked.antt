@@ -10,15 +10,12 @@ use Rattle.vx_meaning.specs.Values.{Value, IntValue, BoolValue, RefValue, PermVa
 use Rattle.vx_meaning.specs.Evaluate.{values, read}
 use Rattle.vx_meaning.specs.Flatten.{no_applications}
 use Rattle.vx_meaning.specs.States.{State, Heap, Location, value_at, find_value, same_location, lookup}
+use Rattle.vx_sound_preds.specs.Bodies.{IsRigid, AreRigid, Rigid, IsPlainBody, GoodBodies}
 use Rattle.vx_sound_preds.specs.Examples.{here, P, f, x, cell, cell_body, cells, chain_body, chains}
 use Rattle.vx_sound_preds.proofs.Fitting.{some_is}
-use Rattle.vx_sound_preds.proofs.Grouped.{IsRigid, AreRigid}
-use Rattle.vx_sound_preds.proofs.Framing.{IsPlainBody}
-use Rattle.vx_sound_preds.proofs.Adding.{Rigid}
-use Rattle.vx_sound_preds.proofs.Exchanging.{GoodBodies}
 
 plain_cell : IsPlainBody cells Rigid cell_body
-plain_cell = ((tt, record { plain = tt; amount = full; positive = record { holds = refl }; value_is = λ s. refl }), (tt, tt))
+plain_cell = ((tt, record { plain = tt; amount = full; above = refl; value_is = λ s. refl }), (tt, tt))
 
 named : (i : Name) (d : Predicate) → predicate_named cells i ≡ Some d → cell ≡ d
 named i d e = go (same_name i f) (same_name i P) e
@@ -64,9 +61,9 @@ chain_arguments s vs e = go (lookup x s.store) e
 
 pub plain_chain : IsPlainBody chains Rigid chain_body
 plain_chain = (
-  (tt, record { plain = tt; amount = full; positive = record { holds = refl }; value_is = λ s. refl }),
+  (tt, record { plain = tt; amount = full; above = refl; value_is = λ s. refl }),
   (
     (tt, tt),
-    ((tt, tt), record { plain = tt; amount = full; positive = record { holds = refl }; value_is = λ s. refl }, λ s vs t e. chain_arguments s vs e),
+    ((tt, tt), record { plain = tt; amount = full; above = refl; value_is = λ s. refl }, λ s vs t e. chain_arguments s vs e),
   ),
 )
