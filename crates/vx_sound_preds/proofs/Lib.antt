@@ -15,6 +15,7 @@ pub mod Snaps
 pub mod Gives
 pub mod Instances
 pub mod Lowering
+pub mod Typed
 pub mod Worked
 pub mod Changes
 pub mod Giving
