@@ -24,20 +24,14 @@ abbrev pub P : Name
 P = codes "P"
 
 -- predicate P(x: Ref) { acc(x.f) && acc(P(x), none) }
+abbrev pub loop_body : Assertion
+loop_body = Both (Points here (Variable here x) f (Part here 1 1)) (Instance here P (More (Variable here x) NoMore) (Part here 0 1))
+
+abbrev pub loop : Predicate
+loop = record { place = here; parameters = record { name = x; of = type.Ref } ∷ []; body = Some loop_body }
+
 abbrev pub loops : Program
-loops =
-    record { name = f; kind = IsField type.Int }
-    ∷ record {
-      name = P;
-      kind = IsPredicate record {
-        place = here;
-        parameters = record { name = x; of = type.Ref } ∷ [];
-        body = Some (Both
-            (Points here (Variable here x) f (Part here 1 1))
-            (Instance here P (More (Variable here x) NoMore) (Part here 0 1)));
-      };
-    }
-    ∷ []
+loops = record { name = f; kind = IsField type.Int } ∷ record { name = P; kind = IsPredicate loop } ∷ []
 
 abbrev pub instance_of : ℕ → run.Instance
 instance_of r = record { predicate = P; arguments = RefValue r ∷ [] }
@@ -46,20 +40,16 @@ instance_of r = record { predicate = P; arguments = RefValue r ∷ [] }
 abbrev pub less : Expr
 less = Operate here Subtract (Part here 0 1) (Part here 1 1)
 
+abbrev pub owe_body : Assertion
+owe_body = Both
+    (Points here (Variable here x) f (Part here 1 1))
+    (Implied (Operate here Equal (Variable here x) (Null here)) (Both (Points here (Variable here x) f less) (Points here (Variable here y) f less)))
+
+abbrev pub owe : Predicate
+owe = record { place = here; parameters = record { name = x; of = type.Ref } ∷ record { name = y; of = type.Ref } ∷ []; body = Some owe_body }
+
 abbrev pub owes : Program
-owes =
-    record { name = f; kind = IsField type.Int }
-    ∷ record {
-      name = P;
-      kind = IsPredicate record {
-        place = here;
-        parameters = record { name = x; of = type.Ref } ∷ record { name = y; of = type.Ref } ∷ [];
-        body = Some (Both
-            (Points here (Variable here x) f (Part here 1 1))
-            (Implied (Operate here Equal (Variable here x) (Null here)) (Both (Points here (Variable here x) f less) (Points here (Variable here y) f less))));
-      };
-    }
-    ∷ []
+owes = record { name = f; kind = IsField type.Int } ∷ record { name = P; kind = IsPredicate owe } ∷ []
 
 -- the whole of 1.f, and the whole of P(null, 1)
 abbrev pub owing : Holdings

@@ -1,5 +1,5 @@
 //! What holds of instances of predicates: their trees, and how a state that can be is kept by giving, taking, folding and
-//! changing. The premises of the law's part on predicates stand in the proofs.
+//! changing; and which bodies of predicates are good.
 #![tactic(auto)]
 
 ghost use Rattle.std.specs.Prelude.{◌≡◌, ℕ, [], ◌∷◌, List, true, false, Some};
@@ -12,7 +12,9 @@ ghost use Rattle.vx_meaning.specs.Consistent.{total, IsSupported, IsConsistent};
 ghost use Rattle.vx_meaning.specs.Outcomes.{Ends};
 ghost use Rattle.vx_meaning.specs.Give.{give};
 ghost use Rattle.vx_sound_preds.specs.Snapshots.{tree_by, IsTree};
-ghost use Rattle.vx_sound_preds.specs.Examples.{f, instance_of, loops, owes, owing};
+ghost use Rattle.vx_whole.specs.Premises.{IsTypedProgram};
+ghost use Rattle.vx_sound_preds.specs.Bodies.{GoodBodies, BodiesSayNow};
+ghost use Rattle.vx_sound_preds.specs.Examples.{f, instance_of, cells, chains, loops, owes, owing};
 
 /// What lies inside an instance is the same for all fuel that suffices, and so is the tree of its values; where the one is
 /// known, so is the other.
@@ -35,4 +37,18 @@ pub fn refused_bodies_break_the_law()
     ensures nothing_held { (n : ℕ) (h : Heap) (l : Location) → total loops n h ((Folded (instance_of 1), full) ∷ []) l ≡ none }
     ensures hidden { is_positive (total owes 1 [] owing record { receiver = 1; field = f }) ≡ false }
     ensures null_is_fine { at_most (total owes 1 [] owing record { receiver = 0; field = f }) none ≡ true }
+{}
+
+/// In a typed program all bodies of predicates are good, if none has an `old`: they apply no function, their amounts are
+/// known without running and are above none, and no argument of an instance is an amount.
+pub fn typed_bodies_are_good()
+    ensures good { (p : Program) → IsTypedProgram p → BodiesSayNow p → GoodBodies p }
+{}
+
+/// Bodies that are good, one of them recursive, and the two refused bodies, which aren't.
+pub fn some_bodies_are_good()
+    ensures cells { GoodBodies cells }
+    ensures chains { GoodBodies chains }
+    ensures loops { GoodBodies loops → ⊥ }
+    ensures owes { GoodBodies owes → ⊥ }
 {}
