@@ -16,6 +16,7 @@ pub mod Gives
 pub mod Instances
 pub mod Lowering
 pub mod Typed
+pub mod Moving
 pub mod Worked
 pub mod Changes
 pub mod Giving
