@@ -17,6 +17,7 @@ pub mod Instances
 pub mod Lowering
 pub mod Typed
 pub mod Moving
+pub mod Loose
 pub mod Worked
 pub mod Changes
 pub mod Giving

@@ -150,6 +150,7 @@ module _ (p : Program) (o : Outer) (here h : Heap) (twins : (f : Name) (r : Term
   pub record Here (s : State) : Type 0 where
     pub heap : s.heap ≡ here
     pub awake : is_quiet s ≡ false
+    pub unbounded : s.bounded ≡ false
 
   abbrev pub Carries : Giving → Giving → Type 0
   Carries on on' = (t : Term) (s : State) → Here s → Cleared (on t s) → Cleared (on' t (with_heap h s))
@@ -161,7 +162,7 @@ module _ (p : Program) (o : Outer) (here h : Heap) (twins : (f : Name) (r : Term
   CarriesAll on on' = (ts : List Term) (s : State) → Here s → Cleared (on ts s) → Cleared (on' ts (with_heap h s))
 
   here_entry : (e : Entry) (s : State) → Here s → Here (with_entry e s)
-  here_entry e s k = record { heap = k.heap; awake = k.awake }
+  here_entry e s k = record { heap = k.heap; awake = k.awake; unbounded = k.unbounded }
 
   asked_moves : (c : Term) (at : Place) (code : Code) (s : State) (on on' : Going) → Here s → CarriesOn on on' → Cleared (ask c at code s on) → Cleared (ask c at code (with_heap h s) on')
   asked_moves c at code s on on' k carries m = go (same c true_term || is_quiet s) m
