@@ -18,6 +18,8 @@ pub mod Lowering
 pub mod Typed
 pub mod Moving
 pub mod Loose
+pub mod Reading
+pub mod Putting
 pub mod Worked
 pub mod Changes
 pub mod Giving

@@ -164,7 +164,7 @@ module _ (p : Program) (o : Outer) (here h : Heap) (twins : (f : Name) (r : Term
   here_entry : (e : Entry) (s : State) → Here s → Here (with_entry e s)
   here_entry e s k = record { heap = k.heap; awake = k.awake; unbounded = k.unbounded }
 
-  asked_moves : (c : Term) (at : Place) (code : Code) (s : State) (on on' : Going) → Here s → CarriesOn on on' → Cleared (ask c at code s on) → Cleared (ask c at code (with_heap h s) on')
+  pub asked_moves : (c : Term) (at : Place) (code : Code) (s : State) (on on' : Going) → Here s → CarriesOn on on' → Cleared (ask c at code s on) → Cleared (ask c at code (with_heap h s) on')
   asked_moves c at code s on on' k carries m = go (same c true_term || is_quiet s) m
     where
       e : Entry
@@ -183,7 +183,7 @@ module _ (p : Program) (o : Outer) (here h : Heap) (twins : (f : Name) (r : Term
       go true m = carries s k m
       go false m = (m.0, rest (same c false_term) m.1)
 
-  forked_moves : (c : Term) (s : State) (left left' right right' : Going) → Here s → CarriesOn left left' → CarriesOn right right' → Cleared (fork c s left right) → Cleared (fork c (with_heap h s) left' right')
+  pub forked_moves : (c : Term) (s : State) (left left' right right' : Going) → Here s → CarriesOn left left' → CarriesOn right right' → Cleared (fork c s left right) → Cleared (fork c (with_heap h s) left' right')
   forked_moves c s left left' right right' k on_left on_right m = go (is_known c s) m
     where
       yes : Entry
