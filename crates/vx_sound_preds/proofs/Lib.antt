@@ -20,6 +20,7 @@ pub mod Moving
 pub mod Loose
 pub mod Reading
 pub mod Putting
+pub mod Covering
 pub mod Worked
 pub mod Changes
 pub mod Giving

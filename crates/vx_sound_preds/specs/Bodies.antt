@@ -7,6 +7,8 @@ use Rattle.vx_meaning.specs.Values.{Value, PermValue}
 use Rattle.vx_meaning.specs.States.{State, Store}
 use Rattle.vx_meaning.specs.Evaluate.{value, values}
 use Rattle.vx_meaning.specs.Flatten.{no_applications}
+use Rattle.vx_types.specs.FieldLanguage.{InFields}
+use Rattle.vx_sound.specs.CallLanguage.{AreInFields}
 
 -- values that are no amounts: those of the parameters of predicates
 abbrev pub IsRigid : Value → Type 0
@@ -92,3 +94,12 @@ SaysNow (Chosen c a b) = IsOfNow c × SaysNow a × SaysNow b
 -- no body of a predicate has an `old`: typing refuses it there, and typing of the settled syntax doesn't say so
 abbrev pub BodiesSayNow : Program → Type 0
 BodiesSayNow p = (i : Name) (d : Predicate) (e : Assertion) → predicate_named p i ≡ Some d → d.body ≡ Some e → SaysNow e
+
+-- no `unfolding` in it
+abbrev pub UnfoldsNothing : Assertion → Type 0
+UnfoldsNothing (Pure e) = InFields e
+UnfoldsNothing (Points at e f share) = InFields e × InFields share
+UnfoldsNothing (syntax.Instance at i es share) = AreInFields es × InFields share
+UnfoldsNothing (Both a b) = UnfoldsNothing a × UnfoldsNothing b
+UnfoldsNothing (Implied c a) = InFields c × UnfoldsNothing a
+UnfoldsNothing (Chosen c a b) = InFields c × UnfoldsNothing a × UnfoldsNothing b

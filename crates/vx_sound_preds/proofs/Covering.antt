@@ -1,0 +1,216 @@
+-- Where the production of a body is cleared, the body can be added to what is held.
+use Rattle.std.proofs.Common.{◌≡◌, ℕ, ◌≤◌, Bool, true, false, cond, List, [], ◌∷◌, ◌++◌, Option, Some, None, refl, sym, ◌∙◌, ap, ap₂, subst, le_trans, true≢false}
+use Rattle.std.specs.Prelude.{Ok, Err, option_and_then}
+use Rattle.vx_ast.specs.declared.Place.{Place}
+use Rattle.vx_ast.specs.declared.ValueType.TheVariants.{Perm}
+use Rattle.vx_ast.specs.declared.ValueType.TheVariants as type
+use Rattle.vx_ast.specs.Syntax.{Name, Declaration, Program, place_of, Expr, Exprs, Assertion, Pure, Points, Both, Implied, Chosen}
+use Rattle.vx_ast.specs.Syntax as syntax
+use Rattle.vx_frac.specs.Fractions.{Fraction, none, full, at_most, product}
+use Rattle.vx_meaning.specs.Values.{Value, IntValue, BoolValue, RefValue, PermValue, type_of, is_true}
+use Rattle.vx_meaning.specs.States as run
+use Rattle.vx_meaning.specs.Evaluate as plain
+use Rattle.vx_meaning.specs.Flatten.{no_applications, entries, location_entry, instance_entry}
+use Rattle.vx_meaning.specs.Fits.{Checked, ◌>>=◌, or_fail, guard, choose, amount_of, Eventually, fit_by, fit_all, instance_part, deeper, add, add_part}
+use Rattle.vx_terms.specs.Sorts.{BoolSort, RealSort, RefSort, SnapSort}
+use Rattle.vx_terms.specs.Terms.{Term}
+use Rattle.vx_terms.specs.Build.{less_equal, multiply, zero_amount, whole_amount}
+use Rattle.vx_terms.specs.Interpretations.{Interpretation, as_bool, as_fraction, value, IsTrueIn}
+use Rattle.vx_rules.specs.States as rules
+use Rattle.vx_rules.specs.Trees.{AmountCode, Step}
+use Rattle.vx_rules.specs.Chunks.{field_key, instance_key, put}
+use Rattle.vx_rules.specs.Rules.{Going, Outer, ask, fork, placed, field_sort, eval, produce}
+use Rattle.vx_types.specs.Typing.{Scope, IsTyped}
+use Rattle.vx_elements.proofs.Settled.{Meaning, extends-trans, value_kept}
+use Rattle.vx_elements.proofs.Built.{Good, good_later}
+use Rattle.vx_elements.proofs.Elements.{element, bool_value_is}
+use Rattle.vx_elements.proofs.Eventually.{eventually, both_eventually}
+use Rattle.vx_elements.proofs.Truth.{good_zero, good_whole, good_at_most, good_product, multiply_is}
+use Rattle.vx_elements.proofs.Values.{ref_value_is, perm_value_is}
+use Rattle.vx_amounts.proofs.Amounts.{Le, Positive, Same, same-refl, same-trans, same-sym, same-lowest', product_same, positive-le, full-positive}
+use Rattle.vx_amounts.proofs.Products.{product_positive, positive_le}
+use Rattle.vx_sound.proofs.Passes.{Cleared}
+use Rattle.vx_sound.proofs.Stands.{next_after_fact}
+use Rattle.vx_sound.proofs.Giving.{part_fits}
+use Rattle.vx_sound.proofs.Evaluate.{bind_ok}
+use Rattle.vx_sound_preds.specs.Bodies.{Rigid, IsAmount, IsPlainBody, UnfoldsNothing}
+use Rattle.vx_sound_preds.proofs.Fitting.{step, some_is}
+use Rattle.vx_sound_preds.proofs.Framing.{above_none}
+use Rattle.vx_sound_preds.proofs.Flats.{came}
+use Rattle.vx_sound_preds.proofs.Loose.{Loose}
+use Rattle.vx_sound_preds.proofs.Reading.{LooseGoes, Valued, ValuedAll, loose_asked, loose_forked, valued, valued_all}
+use Rattle.vx_sound_preds.proofs.Putting.{loose_fact, put_field, put_instance}
+
+-- no entry is of null
+abbrev pub NoNull : run.Holdings → Type 0
+NoNull [] = Unit {0}
+NoNull ((run.At l, q) ∷ xs) = (l.receiver ≡ 0 → ⊥) × NoNull xs
+NoNull ((run.Folded j, q) ∷ xs) = NoNull xs
+
+no_null_left : (xs ys : run.Holdings) → NoNull (xs ++ ys) → NoNull xs
+no_null_left [] ys h = tt
+no_null_left ((run.At l, q) ∷ xs) ys h = (h.0, no_null_left xs ys h.1)
+no_null_left ((run.Folded j, q) ∷ xs) ys h = no_null_left xs ys h
+
+no_null_right : (xs ys : run.Holdings) → NoNull (xs ++ ys) → NoNull ys
+no_null_right [] ys h = h
+no_null_right ((run.At l, q) ∷ xs) ys h = no_null_right xs ys h.1
+no_null_right ((run.Folded j, q) ∷ xs) ys h = no_null_right xs ys h
+
+-- the parts of an instance fit
+instance_fits : (p : Program) (m : ℕ) (c : run.State) (at : Place) (i : Name) (es : Exprs) (share : Expr) (vs : List Value) (v : Value) (x : Fraction) →
+    fit_all p (deeper p m) c es ≡ Ok vs → fit_by p m c share ≡ Ok v → v ≡ PermValue x → at_most none x ≡ true → instance_part p (deeper p m) c at i es share ≡ Ok (run.Folded record { predicate = i; arguments = vs }, x)
+instance_fits p m c at i es share vs v x g h hx least =
+    bind_ok (λ vs. fit_by p m c share >>= λ v. rest vs v) vs g ∙ bind_ok (λ v. rest vs v) v h ∙ ap (rest vs) hx ∙ ap tested least
+  where
+    rest : List Value → Value → Checked (run.Resource × Fraction)
+    rest vs v = or_fail at (amount_of v) >>= λ q. guard at (at_most none q) >>= λ _. Ok (run.Folded record { predicate = i; arguments = vs }, q)
+
+    tested : Bool → Checked (run.Resource × Fraction)
+    tested b = guard at b >>= λ _. Ok (run.Folded record { predicate = i; arguments = vs }, x)
+
+module _ (means : Meaning) (p : Program) where
+  loose_after : {scope mid : Scope} {i : Interpretation} {n : ℕ} {d on : Going} {b c : run.State} (g : LooseGoes means p mid i n d b) → LooseGoes means p scope g.interp g.state.next on c → LooseGoes means p scope i n on c
+  loose_after g r = record {
+    interp = r.interp;
+    state = r.state;
+    extends = extends-trans means g.later g.extends r.extends;
+    later = le_trans g.later r.later;
+    stands = r.stands;
+    cleared = r.cleared;
+  }
+
+  -- what was added, and what follows
+  pub record Added (scope : Scope) (i : Interpretation) (n : ℕ) (on : Going) (c : run.State) (a : Assertion) : Type 0 where
+    pub result : run.State
+    pub adds : Eventually (λ m. add p (deeper p m) full a c ≡ Ok result)
+    pub store : result.store ≡ c.store
+    pub heap : result.heap ≡ c.heap
+    pub goes : LooseGoes means p scope i n on result
+
+  module _ (o : Outer) where
+    -- what is shown of a body that is produced: b has the variables and the heap, where its entries are read
+    AddGoes : Assertion → Type 0
+    AddGoes a =
+        (scope : Scope) (b c : run.State) (es : run.Holdings) → IsTyped p scope a → UnfoldsNothing a → IsPlainBody p Rigid a → b.store ≡ c.store → b.heap ≡ c.heap → entries p b a ≡ Some es → NoNull es →
+        (i : Interpretation) (s : rules.State) (on : Going) → Loose means p scope i s c → Cleared (produce p o a whole_amount None s on) → Added scope i s.next on c a
+
+    truth_is : (v : Value) → type_of v ≡ type.Bool → (es : run.Holdings) → cond (is_true v) (Some []) None ≡ Some es → as_bool (element v) ≡ true
+    truth_is v t es e = go (is_true v) refl e
+      where
+        go : (b : Bool) → is_true v ≡ b → cond b (Some []) None ≡ Some es → as_bool (element v) ≡ true
+        go true f e = sym (ap is_true (bool_value_is v t)) ∙ f
+        go false f e = cc
+
+    pure_added : (e : Expr) → AddGoes (Pure e)
+    unfolding AddGoes
+    pure_added e scope b c es t f pl x y en nn i s on st m =
+        let r = valued means p o st t f pl (λ t s1. Step (on (rules.with_fact t s1))) m in
+        let holds = ap as_bool r.value_is ∙ truth_is r.result r.typed es (sym (step (λ v. cond (is_true v) (Some []) None) r.result (r.now b x y)) ∙ en) in
+        record {
+          result = c;
+          adds = eventually r.fits (λ n k. bind_ok (λ _. Ok c) r.result k);
+          store = refl;
+          heap = refl;
+          goes = record {
+            interp = r.goes.interp;
+            state = rules.with_fact r.term r.goes.state;
+            extends = r.goes.extends;
+            later = subst (λ m. s.next ≤ m) (sym (next_after_fact means p r.term r.goes.state)) r.goes.later;
+            stands = loose_fact means p r.term r.goes.stands r.good holds;
+            cleared = r.goes.cleared;
+          };
+        }
+
+    both_added : (a b : Assertion) → AddGoes a → AddGoes b → AddGoes (Both a b)
+    unfolding AddGoes
+    both_added a b on_a on_b scope v c es t f pl x y en nn i s on st m =
+        let xs = came (entries p v a) (λ xs. option_and_then (λ ys. Some (xs ++ ys)) (entries p v b)) es en in
+        let ys = came (entries p v b) (λ ys. Some (xs.it ++ ys)) es xs.then in
+        let whole : NoNull (xs.it ++ ys.it) = subst NoNull (sym (some_is (xs.it ++ ys.it) es ys.then)) nn in
+        let after = λ (s1 : rules.State). produce p o b whole_amount None s1 on in
+        let r = on_a scope v c xs.it t.0 f.0 pl.0 x y xs.is (no_null_left xs.it ys.it whole) i s after st m in
+        let q = on_b scope v r.result ys.it t.1 f.1 pl.1 (x ∙ sym r.store) (y ∙ sym r.heap) ys.is (no_null_right xs.it ys.it whole) r.goes.interp r.goes.state on r.goes.stands r.goes.cleared in
+        record {
+          result = q.result;
+          adds = both_eventually r.adds q.adds (λ n g h. bind_ok (λ u. add p (deeper p n) full b u) r.result g ∙ h);
+          store = q.store ∙ r.store;
+          heap = q.heap ∙ r.heap;
+          goes = loose_after r.goes q.goes;
+        }
+
+    -- an amount that is known
+    record Worth (i : Interpretation) (t : Term) (v : Value) : Type 0 where
+      pub fraction : Fraction
+      pub is : v ≡ PermValue fraction
+      pub positive : Positive fraction
+      pub good_scaled : Positive (as_fraction (value i (multiply whole_amount t)))
+
+    perm_is : (a b : Fraction) → PermValue a ≡ PermValue b → a ≡ b
+    perm_is a b e = cc
+
+    worth : {n : ℕ} {i : Interpretation} {t : Term} {v : Value} {share : Expr} (k : IsAmount p share) (b : run.State) → plain.value p no_applications b share ≡ Some v → type_of v ≡ Perm → Good means n i t RealSort → value i t ≡ element v → Worth i t v
+    worth {i = i} {t = t} {v = v} k b now typed good is =
+        let x = perm_value_is v typed in
+        let same : x.0 ≡ k.amount = perm_is x.0 k.amount (sym x.1 ∙ some_is v (PermValue k.amount) (sym now ∙ k.value_is b)) in
+        let pos : Positive x.0 = subst Positive (sym same) (above_none k) in
+        let its : Same (as_fraction (value i t)) x.0 = subst (λ e. Same (as_fraction e) x.0) (sym (is ∙ ap element x.1)) (same-lowest' x.0) in
+        let scaled : Same (as_fraction (value i (multiply whole_amount t))) (product full x.0) = same-trans (multiply_is means (good_whole means) good) (product_same (same-refl full) its) in
+        record { fraction = x.0; is = x.1; positive = pos; good_scaled = positive-le (product_positive full-positive pos) scaled.back }
+
+    points_added : (at : Place) (e : Expr) (f : Name) (share : Expr) → AddGoes (Points at e f share)
+    unfolding AddGoes
+    points_added at e f share scope b c es t fl pl x y en nn i s on st m =
+        record {
+          result = run.with_holdings (run.gained (run.At l) (product full w.fraction) c.holdings) c;
+          adds = both_eventually r.fits a.fits (λ n g h. bind_ok (add_part p (deeper p n) full c) (run.At l, w.fraction) (part_fits p n c at e f share r.result a.result k.0 w.fraction g k.1 h w.is (positive_le w.positive).holds));
+          store = refl;
+          heap = refl;
+          goes = loose_after r.goes (loose_after a.goes (loose_after q placed_goes));
+        }
+      where
+        ended : Term → Term → Going
+        ended r a s3 = Step (on (put (record (field_key f r) { amount = multiply whole_amount a; value = rules.fresh (field_sort p f) s3; inner = s.inner }) (rules.after_fresh s3)))
+
+        after : Term → Term → Going
+        after r a s2 = ask (less_equal zero_amount (multiply whole_amount a)) (placed s2 at) AmountCode s2 (ended r a)
+
+        r : Valued means p scope i s.next (λ r s1. eval p o share s1 (λ a s2. after r a s2)) c e type.Ref
+        r = valued means p o st t.0 fl.0 pl.0 (λ r s1. eval p o share s1 (λ a s2. after r a s2)) m
+
+        a : Valued means p scope r.goes.interp r.goes.state.next (after r.term) c share Perm
+        a = valued means p o r.goes.stands t.2 fl.1 pl.1.plain (after r.term) r.goes.cleared
+
+        k : (n : ℕ) × (r.result ≡ RefValue n)
+        k = ref_value_is r.result r.typed
+
+        l : run.Location
+        l = record { receiver = k.0; field = f }
+
+        w : Worth a.goes.interp a.term a.result
+        w = worth pl.1 b (a.now b x y) a.typed a.good a.value_is
+
+        gm : Good means a.goes.state.next a.goes.interp (multiply whole_amount a.term) RealSort
+        gm = good_product means (good_whole means) a.good
+
+        q : LooseGoes means p scope a.goes.interp a.goes.state.next (ended r.term a.term) c
+        q = (loose_asked means p o a.goes.stands (less_equal zero_amount (multiply whole_amount a.term)) (placed a.goes.state at) AmountCode (ended r.term a.term) (good_at_most means (good_zero means) gm) a.goes.cleared).1
+
+        gr : Good means q.state.next q.interp r.term RefSort
+        gr = good_later means q.later q.extends (good_later means a.goes.later a.goes.extends r.good)
+
+        r_is : value q.interp r.term ≡ element (RefValue k.0)
+        r_is = value_kept means r.term (good_later means a.goes.later a.goes.extends r.good).settled q.extends ∙ value_kept means r.term r.good.settled a.goes.extends ∙ r.value_is ∙ ap element k.1
+
+        entry : location_entry f r.result a.result ≡ Some es
+        entry = sym (step (λ v. location_entry f r.result v) a.result (a.now b x y)) ∙ sym (step (λ r. option_and_then (location_entry f r) (plain.value p no_applications b share)) r.result (r.now b x y)) ∙ en
+
+        no_null : k.0 ≡ 0 → ⊥
+        no_null z =
+            let one : location_entry f (RefValue k.0) (PermValue w.fraction) ≡ Some es = ap₂ (location_entry f) (sym k.1) (sym w.is) ∙ entry in
+            let nn' : NoNull ((run.At l, w.fraction) ∷ []) = subst NoNull (sym (some_is ((run.At l, w.fraction) ∷ []) es one)) nn in
+            nn'.0 z
+
+        placed_goes : LooseGoes means p scope q.interp q.state.next on (run.with_holdings (run.gained (run.At l) (product full w.fraction) c.holdings) c)
+        placed_goes = put_field means p f r.term (multiply whole_amount a.term) k.0 (product full w.fraction) s.inner on q.stands gr r_is no_null
+            (good_later means q.later q.extends gm) (subst (λ e. Positive (as_fraction e)) (sym (value_kept means (multiply whole_amount a.term) gm.settled q.extends)) w.good_scaled) (product_positive full-positive w.positive) q.cleared
