@@ -1,21 +1,21 @@
 -- Where the production of a body is cleared, the body can be added to what is held.
-use Rattle.std.proofs.Common.{◌≡◌, ℕ, ◌≤◌, Bool, true, false, cond, List, [], ◌∷◌, ◌++◌, Option, Some, None, refl, sym, ◌∙◌, ap, ap₂, subst, le_trans, true≢false}
-use Rattle.std.specs.Prelude.{Ok, Err, option_and_then}
+use Rattle.std.proofs.Common.{◌≡◌, ℕ, ◌≤◌, Bool, true, false, cond, List, [], ◌∷◌, ◌++◌, Some, None, refl, sym, ◌∙◌, ap, ap₂, subst, le_trans}
+use Rattle.std.specs.Prelude.{Ok, option_and_then}
 use Rattle.vx_ast.specs.declared.Place.{Place}
 use Rattle.vx_ast.specs.declared.ValueType.TheVariants.{Perm}
 use Rattle.vx_ast.specs.declared.ValueType.TheVariants as type
 use Rattle.vx_ast.specs.Syntax.{Name, Declaration, Program, place_of, Expr, Exprs, Assertion, Pure, Points, Both, Implied, Chosen}
 use Rattle.vx_ast.specs.Syntax as syntax
 use Rattle.vx_frac.specs.Fractions.{Fraction, none, full, at_most, product}
-use Rattle.vx_meaning.specs.Values.{Value, IntValue, BoolValue, RefValue, PermValue, type_of, is_true}
+use Rattle.vx_meaning.specs.Values.{Value, BoolValue, RefValue, PermValue, type_of, is_true}
 use Rattle.vx_meaning.specs.States as run
 use Rattle.vx_meaning.specs.Evaluate as plain
-use Rattle.vx_meaning.specs.Flatten.{no_applications, entries, location_entry, instance_entry}
-use Rattle.vx_meaning.specs.Fits.{Checked, ◌>>=◌, or_fail, guard, choose, amount_of, Eventually, fit_by, fit_all, instance_part, deeper, add, add_part}
-use Rattle.vx_terms.specs.Sorts.{BoolSort, RealSort, RefSort, SnapSort}
+use Rattle.vx_meaning.specs.Flatten.{no_applications, entries, location_entry}
+use Rattle.vx_meaning.specs.Fits.{Checked, ◌>>=◌, or_fail, guard, choose, location_of, amount_of, Eventually, fit_by, fit_all, field_part, instance_part, deeper, add, add_part}
+use Rattle.vx_terms.specs.Sorts.{RealSort, RefSort, SnapSort}
 use Rattle.vx_terms.specs.Terms.{Term}
 use Rattle.vx_terms.specs.Build.{less_equal, multiply, zero_amount, whole_amount}
-use Rattle.vx_terms.specs.Interpretations.{Interpretation, as_bool, as_fraction, value, IsTrueIn}
+use Rattle.vx_terms.specs.Interpretations.{Interpretation, as_bool, as_fraction, value}
 use Rattle.vx_rules.specs.States as rules
 use Rattle.vx_rules.specs.Trees.{AmountCode, Step}
 use Rattle.vx_rules.specs.Chunks.{field_key, instance_key, put}
@@ -27,11 +27,10 @@ use Rattle.vx_elements.proofs.Elements.{element, bool_value_is}
 use Rattle.vx_elements.proofs.Eventually.{eventually, both_eventually}
 use Rattle.vx_elements.proofs.Truth.{good_zero, good_whole, good_at_most, good_product, multiply_is}
 use Rattle.vx_elements.proofs.Values.{ref_value_is, perm_value_is}
-use Rattle.vx_amounts.proofs.Amounts.{Le, Positive, Same, same-refl, same-trans, same-sym, same-lowest', product_same, positive-le, full-positive}
+use Rattle.vx_amounts.proofs.Amounts.{Positive, Same, same-refl, same-trans, same-lowest', product_same, positive-le, full-positive}
 use Rattle.vx_amounts.proofs.Products.{product_positive, positive_le}
 use Rattle.vx_sound.proofs.Passes.{Cleared}
 use Rattle.vx_sound.proofs.Stands.{next_after_fact}
-use Rattle.vx_sound.proofs.Giving.{part_fits}
 use Rattle.vx_sound.proofs.Evaluate.{bind_ok}
 use Rattle.vx_sound_preds.specs.Bodies.{Rigid, IsAmount, IsPlainBody, UnfoldsNothing}
 use Rattle.vx_sound_preds.proofs.Fitting.{step, some_is}
@@ -56,6 +55,18 @@ no_null_right : (xs ys : run.Holdings) → NoNull (xs ++ ys) → NoNull ys
 no_null_right [] ys h = h
 no_null_right ((run.At l, q) ∷ xs) ys h = no_null_right xs ys h.1
 no_null_right ((run.Folded j, q) ∷ xs) ys h = no_null_right xs ys h
+
+-- the parts of a permission fit
+field_fits : (p : Program) (m : ℕ) (c : run.State) (at : Place) (e : Expr) (f : Name) (share : Expr) (r v : Value) (k : ℕ) (x : Fraction) →
+    fit_by p m c e ≡ Ok r → r ≡ RefValue k → fit_by p m c share ≡ Ok v → v ≡ PermValue x → at_most none x ≡ true → field_part p (deeper p m) c at e f share ≡ Ok (run.At record { receiver = k; field = f }, x)
+field_fits p m c at e f share r v k x g gk h hx least =
+    bind_ok (λ r. fit_by p m c share >>= λ v. rest r v) r g ∙ bind_ok (λ v. rest r v) v h ∙ ap₂ rest gk hx ∙ ap tested least
+  where
+    rest : Value → Value → Checked (run.Resource × Fraction)
+    rest r v = or_fail at (location_of f r) >>= λ l. or_fail at (amount_of v) >>= λ q. guard at (at_most none q) >>= λ _. Ok (run.At l, q)
+
+    tested : Bool → Checked (run.Resource × Fraction)
+    tested b = guard at b >>= λ _. Ok (run.At record { receiver = k; field = f }, x)
 
 -- the parts of an instance fit
 instance_fits : (p : Program) (m : ℕ) (c : run.State) (at : Place) (i : Name) (es : Exprs) (share : Expr) (vs : List Value) (v : Value) (x : Fraction) →
@@ -163,7 +174,7 @@ module _ (means : Meaning) (p : Program) where
     points_added at e f share scope b c es t fl pl x y en nn i s on st m =
         record {
           result = run.with_holdings (run.gained (run.At l) (product full w.fraction) c.holdings) c;
-          adds = both_eventually r.fits a.fits (λ n g h. bind_ok (add_part p (deeper p n) full c) (run.At l, w.fraction) (part_fits p n c at e f share r.result a.result k.0 w.fraction g k.1 h w.is (positive_le w.positive).holds));
+          adds = both_eventually r.fits a.fits (λ n g h. bind_ok (add_part p (deeper p n) full c) (run.At l, w.fraction) (field_fits p n c at e f share r.result a.result k.0 w.fraction g k.1 h w.is (positive_le w.positive).holds));
           store = refl;
           heap = refl;
           goes = loose_after r.goes (loose_after a.goes (loose_after q placed_goes));
@@ -214,3 +225,122 @@ module _ (means : Meaning) (p : Program) where
         placed_goes : LooseGoes means p scope q.interp q.state.next on (run.with_holdings (run.gained (run.At l) (product full w.fraction) c.holdings) c)
         placed_goes = put_field means p f r.term (multiply whole_amount a.term) k.0 (product full w.fraction) s.inner on q.stands gr r_is no_null
             (good_later means q.later q.extends gm) (subst (λ e. Positive (as_fraction e)) (sym (value_kept means (multiply whole_amount a.term) gm.settled q.extends)) w.good_scaled) (product_positive full-positive w.positive) q.cleared
+
+    instance_added : (at : Place) (z : Name) (xs : Exprs) (share : Expr) → AddGoes (syntax.Instance at z xs share)
+    unfolding AddGoes
+    instance_added at z xs share scope b c es t fl pl x y en nn i s on st m =
+        record {
+          result = run.with_holdings (run.gained (run.Folded j) (product full w.fraction) c.holdings) c;
+          adds = both_eventually r.fits a.fits (λ n g h. bind_ok (add_part p (deeper p n) full c) (run.Folded j, w.fraction) (instance_fits p n c at z xs share r.results a.result w.fraction g h w.is (positive_le w.positive).holds));
+          store = refl;
+          heap = refl;
+          goes = loose_after r.goes (loose_after a.goes (loose_after q placed_goes));
+        }
+      where
+        ended : List Term → Term → Going
+        ended ts a s3 = Step (on (put (record (instance_key z ts) { amount = multiply whole_amount a; value = rules.fresh SnapSort s3; inner = s.inner }) (rules.after_fresh s3)))
+
+        after : List Term → Term → Going
+        after ts a s2 = ask (less_equal zero_amount (multiply whole_amount a)) (placed s2 at) AmountCode s2 (ended ts a)
+
+        r : ValuedAll means p scope i s.next (λ ts s1. eval p o share s1 (λ a s2. after ts a s2)) c xs t.0.0.parameters
+        r = valued_all means p o st t.0.2 fl.0 pl.0 (λ ts s1. eval p o share s1 (λ a s2. after ts a s2)) m
+
+        a : Valued means p scope r.goes.interp r.goes.state.next (after r.terms) c share Perm
+        a = valued means p o r.goes.stands t.1 fl.1 pl.1.plain (after r.terms) r.goes.cleared
+
+        j : run.Instance
+        j = record { predicate = z; arguments = r.results }
+
+        w : Worth a.goes.interp a.term a.result
+        w = worth pl.1 b (a.now b x y) a.typed a.good a.value_is
+
+        gm : Good means a.goes.state.next a.goes.interp (multiply whole_amount a.term) RealSort
+        gm = good_product means (good_whole means) a.good
+
+        q : LooseGoes means p scope a.goes.interp a.goes.state.next (ended r.terms a.term) c
+        q = (loose_asked means p o a.goes.stands (less_equal zero_amount (multiply whole_amount a.term)) (placed a.goes.state at) AmountCode (ended r.terms a.term) (good_at_most means (good_zero means) gm) a.goes.cleared).1
+
+        placed_goes : LooseGoes means p scope q.interp q.state.next on (run.with_holdings (run.gained (run.Folded j) (product full w.fraction) c.holdings) c)
+        placed_goes = put_instance means p z r.terms (multiply whole_amount a.term) j (product full w.fraction) s.inner on q.stands
+            (good_later means q.later q.extends gm) (positive_le (product_positive full-positive w.positive)) q.cleared
+
+    implied_added : (d : Expr) (a : Assertion) → AddGoes a → AddGoes (Implied d a)
+    unfolding AddGoes
+    implied_added d a on_a scope b c es t fl pl x y en nn i s on st m = go (as_bool (element r.result)) refl
+      where
+        left : Going
+        left s2 = produce p o a whole_amount None s2 on
+
+        r : Valued means p scope i s.next (λ t s1. fork t s1 left on) c d type.Bool
+        r = valued means p o st t.0 fl.0 pl.0 (λ t s1. fork t s1 left on) m
+
+        side : (z : Bool) → as_bool (element r.result) ≡ z → LooseGoes means p scope i s.next (cond z left on) c
+        side z f = loose_after r.goes (loose_forked means p o r.goes.stands r.term left on r.good r.goes.cleared z (ap as_bool r.value_is ∙ f))
+
+        result_is : (z : Bool) → as_bool (element r.result) ≡ z → r.result ≡ BoolValue z
+        result_is z f = bool_value_is r.result r.typed ∙ ap BoolValue f
+
+        entries_are : (z : Bool) → as_bool (element r.result) ≡ z → plain.choose (BoolValue z) (entries p b a) (Some []) ≡ Some es
+        entries_are z f = ap (λ v. plain.choose v (entries p b a) (Some [])) (sym (result_is z f)) ∙ sym (step (λ v. plain.choose v (entries p b a) (Some [])) r.result (r.now b x y)) ∙ en
+
+        tested : (z : Bool) → as_bool (element r.result) ≡ z → (n : ℕ) → fit_by p n c d ≡ Ok r.result → add p (deeper p n) full (Implied d a) c ≡ choose (place_of d) (BoolValue z) (add p (deeper p n) full a c) (Ok c)
+        tested z f n g = bind_ok (λ v. choose (place_of d) v (add p (deeper p n) full a c) (Ok c)) r.result g ∙ ap (λ v. choose (place_of d) v (add p (deeper p n) full a c) (Ok c)) (result_is z f)
+
+        go : (z : Bool) → as_bool (element r.result) ≡ z → Added scope i s.next on c (Implied d a)
+        go true f =
+            let g = side true f in
+            let q = on_a scope b c es t.1 fl.1 pl.1 x y (entries_are true f) nn g.interp g.state on g.stands g.cleared in
+            record { result = q.result; adds = both_eventually r.fits q.adds (λ n k h. tested true f n k ∙ h); store = q.store; heap = q.heap; goes = loose_after g q.goes }
+        go false f = record { result = c; adds = eventually r.fits (λ n k. tested false f n k); store = refl; heap = refl; goes = side false f }
+
+    chosen_added : (d : Expr) (a a' : Assertion) → AddGoes a → AddGoes a' → AddGoes (Chosen d a a')
+    unfolding AddGoes
+    chosen_added d a a' on_a on_a' scope b c es t fl pl x y en nn i s on st m = go (as_bool (element r.result)) refl
+      where
+        left : Going
+        left s2 = produce p o a whole_amount None s2 on
+
+        right : Going
+        right s2 = produce p o a' whole_amount None s2 on
+
+        r : Valued means p scope i s.next (λ t s1. fork t s1 left right) c d type.Bool
+        r = valued means p o st t.0 fl.0 pl.0 (λ t s1. fork t s1 left right) m
+
+        side : (z : Bool) → as_bool (element r.result) ≡ z → LooseGoes means p scope i s.next (cond z left right) c
+        side z f = loose_after r.goes (loose_forked means p o r.goes.stands r.term left right r.good r.goes.cleared z (ap as_bool r.value_is ∙ f))
+
+        result_is : (z : Bool) → as_bool (element r.result) ≡ z → r.result ≡ BoolValue z
+        result_is z f = bool_value_is r.result r.typed ∙ ap BoolValue f
+
+        entries_are : (z : Bool) → as_bool (element r.result) ≡ z → plain.choose (BoolValue z) (entries p b a) (entries p b a') ≡ Some es
+        entries_are z f = ap (λ v. plain.choose v (entries p b a) (entries p b a')) (sym (result_is z f)) ∙ sym (step (λ v. plain.choose v (entries p b a) (entries p b a')) r.result (r.now b x y)) ∙ en
+
+        tested : (z : Bool) → as_bool (element r.result) ≡ z → (n : ℕ) → fit_by p n c d ≡ Ok r.result → add p (deeper p n) full (Chosen d a a') c ≡ choose (place_of d) (BoolValue z) (add p (deeper p n) full a c) (add p (deeper p n) full a' c)
+        tested z f n g =
+            bind_ok (λ v. choose (place_of d) v (add p (deeper p n) full a c) (add p (deeper p n) full a' c)) r.result g
+            ∙ ap (λ v. choose (place_of d) v (add p (deeper p n) full a c) (add p (deeper p n) full a' c)) (result_is z f)
+
+        go : (z : Bool) → as_bool (element r.result) ≡ z → Added scope i s.next on c (Chosen d a a')
+        go true f =
+            let g = side true f in
+            let q = on_a scope b c es t.1 fl.1 pl.1 x y (entries_are true f) nn g.interp g.state on g.stands g.cleared in
+            record { result = q.result; adds = both_eventually r.fits q.adds (λ n k h. tested true f n k ∙ h); store = q.store; heap = q.heap; goes = loose_after g q.goes }
+        go false f =
+            let g = side false f in
+            let q = on_a' scope b c es t.2 fl.2 pl.2 x y (entries_are false f) nn g.interp g.state on g.stands g.cleared in
+            record { result = q.result; adds = both_eventually r.fits q.adds (λ n k h. tested false f n k ∙ h); store = q.store; heap = q.heap; goes = loose_after g q.goes }
+
+    adds_by : (a : Assertion) → AddGoes a
+    adds_by (Pure e) = pure_added e
+    adds_by (Points at e f share) = points_added at e f share
+    adds_by (syntax.Instance at i es share) = instance_added at i es share
+    adds_by (Both a b) = both_added a b (adds_by a) (adds_by b)
+    adds_by (Implied c a) = implied_added c a (adds_by a)
+    adds_by (Chosen c a b) = chosen_added c a b (adds_by a) (adds_by b)
+
+    -- the whole body
+    pub body_added : (a : Assertion) (scope : Scope) (b c : run.State) (es : run.Holdings) → IsTyped p scope a → UnfoldsNothing a → IsPlainBody p Rigid a → b.store ≡ c.store → b.heap ≡ c.heap → entries p b a ≡ Some es → NoNull es →
+        (i : Interpretation) (s : rules.State) (on : Going) → Loose means p scope i s c → Cleared (produce p o a whole_amount None s on) → Added scope i s.next on c a
+    unfolding AddGoes
+    body_added a = adds_by a

@@ -1,12 +1,12 @@
 -- Putting chunks of fields and of instances where nothing bounds amounts.
-use Rattle.std.proofs.Common.{◌≡◌, ℕ, suc, ◌≤◌, Bool, true, false, cond, ◌&&◌, List, [], ◌∷◌, ◌++◌, slice_set, refl, sym, ◌∙◌, ap, ap₂, subst, le_refl, le_trans, le_of_lt, lt-suc_self}
+use Rattle.std.proofs.Common.{◌≡◌, ℕ, suc, ◌≤◌, Bool, true, false, cond, ◌&&◌, List, [], ◌∷◌, refl, sym, ◌∙◌, ap, ap₂, subst, le_of_lt, lt-suc_self}
 use Rattle.vx_frac.specs.Fractions.{Fraction, none, sum}
 use Rattle.vx_ast.specs.Syntax.{Name, Program}
 use Rattle.vx_meaning.specs.Values.{Value, RefValue}
 use Rattle.vx_meaning.specs.States as run
 use Rattle.vx_terms.specs.Sorts.{BoolSort, RealSort, RefSort, SnapSort}
 use Rattle.vx_terms.specs.Terms.{Term, same, same_bool}
-use Rattle.vx_terms.specs.Build.{implies, equals, less, add, ite, null, zero_amount}
+use Rattle.vx_terms.specs.Build.{equals, less, null, zero_amount}
 use Rattle.vx_terms.specs.Interpretations.{Each, Interpretation, Element, TreeElement, Empty, IsOf, as_bool, as_fraction, value, IsTrueIn}
 use Rattle.vx_terms.proofs.Same.{term_is, and_parts, bool_is}
 use Rattle.vx_terms.proofs.Values.{value_of_sort}
