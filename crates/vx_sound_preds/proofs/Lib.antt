@@ -21,6 +21,7 @@ pub mod Loose
 pub mod Reading
 pub mod Putting
 pub mod Covering
+pub mod Types
 pub mod Worked
 pub mod Changes
 pub mod Giving
