@@ -14,6 +14,7 @@ use Rattle.vx_meaning.specs.Fits.{add, deeper}
 use Rattle.vx_terms.specs.Interpretations.{Tree, Empty}
 use Rattle.vx_amounts.proofs.Amounts.{Le, Positive, Same, same-trans, le-refl, le-trans, sum_same, none-sum, sum_comm, none-none, positive-le, not-positive, above-add, below-add, full-positive, none-full}
 use Rattle.vx_sound.proofs.Chunks.{location_same, held_directly}
+use Rattle.vx_sound_preds.specs.Covered.{AllGood, Covered}
 use Rattle.vx_sound_preds.specs.Bodies.{AreRigid, Rigid, IsPlainBody, GoodBodies}
 use Rattle.vx_sound_preds.specs.Snapshots.{assertion_tree, body_tree, tree_by}
 use Rattle.vx_amounts.proofs.Products.{product-full, product_comm, product_sign, product_positive, positive_le}
@@ -136,17 +137,6 @@ full-product a = subst (λ (x : Fraction). Same x a) (product_comm a full) (prod
 
 sum-none : (a : Fraction) → Same (sum a none) a
 sum-none a = same-trans (sum_comm a none) (none-sum a)
-
--- Premises: which instances are looked at, and that their bodies fit from left to right with what they give.
-abbrev pub AllGood : (Heap → Instance → Type 0) → Heap → Holdings → Type 0
-AllGood Good h [] = Unit {0}
-AllGood Good h ((At l, a) ∷ xs) = AllGood Good h xs
-AllGood Good h ((Folded j, a) ∷ xs) = Good h j × AllGood Good h xs
-
-pub record Covered (p : Program) (Good : Heap → Instance → Type 0) : Type 0 where
-  pub fits : (h : Heap) (i : Instance) (d : Predicate) (e : Assertion) → predicate_named p i.predicate ≡ Some d → d.body ≡ Some e → Good h i → IsGrounded p h i →
-      (m : ℕ) × (u : State) × (add p (deeper p m) full e (bare (bind d.parameters i.arguments) h) ≡ Ok u)
-  pub inside : (h : Heap) (i : Instance) (es : Holdings) → Good h i → option_and_then (λ d. body_entries p h i.arguments d) (predicate_named p i.predicate) ≡ Some es → AllGood Good h es
 
 -- the same is inside, and the tree is the same
 pub record SameAt (p : Program) (n : ℕ) (h g : Heap) (i : Instance) : Type 0 where
