@@ -1,6 +1,6 @@
 -- Frames of instances: what is inside, and the tree, look only where something is held.
 use Rattle.std.proofs.Common.{◌≡◌, ℕ, zero, suc, ◌+◌, Bool, true, false, cond, [], ◌∷◌, ◌++◌, Option, Some, None, refl, sym, ◌∙◌, ap, ap₂, subst, arith}
-use Rattle.std.specs.Prelude.{Ok, option_and_then}
+use Rattle.std.specs.Prelude.{option_and_then}
 use Rattle.vx_frac.specs.Fractions.{Fraction, none, full, at_most, sum, product}
 use Rattle.vx_ast.specs.Syntax.{Name, Program, Predicate, Declaration, Assertion, Pure, Points, Both, Implied, Chosen, predicate_named}
 use Rattle.vx_ast.specs.Syntax as syntax
@@ -8,9 +8,9 @@ use Rattle.vx_meaning.specs.Values.{Value, IntValue, BoolValue, RefValue, PermVa
 use Rattle.vx_meaning.specs.States.{State, Heap, Holdings, Location, Instance, Resource, At, Folded, same_resource, amount, gained, scaled, bind, value_at}
 use Rattle.vx_meaning.specs.Evaluate as plain
 use Rattle.vx_meaning.specs.Evaluate.{value, values}
-use Rattle.vx_meaning.specs.Flatten.{no_applications, bare, entries, location_entry, instance_entry, body_entries, with_inner, flat, IsGrounded}
+use Rattle.vx_meaning.specs.Flatten.{no_applications, bare, entries, location_entry, instance_entry, body_entries, with_inner, flat}
 use Rattle.vx_meaning.specs.Consistent.{total, IsHeld}
-use Rattle.vx_meaning.specs.Fits.{add, deeper}
+use Rattle.vx_meaning.specs.Fits.{deeper}
 use Rattle.vx_terms.specs.Interpretations.{Tree, Empty}
 use Rattle.vx_amounts.proofs.Amounts.{Le, Positive, Same, same-trans, le-refl, le-trans, sum_same, none-sum, sum_comm, none-none, positive-le, not-positive, above-add, below-add, full-positive, none-full}
 use Rattle.vx_sound.proofs.Chunks.{location_same, held_directly}
@@ -76,7 +76,7 @@ abbrev pub AllPositive : Holdings → Type 0
 AllPositive [] = Unit {0}
 AllPositive (x ∷ xs) = Positive x.1 × AllPositive xs
 
-positive_least : (p : Program) (h : Heap) (l : Location) (xs : Holdings) → AllPositive xs → AtLeastNone p h l xs
+pub positive_least : (p : Program) (h : Heap) (l : Location) (xs : Holdings) → AllPositive xs → AtLeastNone p h l xs
 positive_least p h l [] k = tt
 positive_least p h l (x ∷ xs) k = (positive_le k.0, positive_least p h l xs k.1)
 

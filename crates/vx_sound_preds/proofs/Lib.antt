@@ -22,6 +22,7 @@ pub mod Reading
 pub mod Putting
 pub mod Covering
 pub mod Types
+pub mod Walks
 pub mod Worked
 pub mod Changes
 pub mod Giving

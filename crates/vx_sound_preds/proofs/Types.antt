@@ -18,7 +18,7 @@ use Rattle.vx_sound_preds.proofs.Fitting.{some_is}
 use Rattle.vx_sound_preds.proofs.Flats.{came}
 
 -- any interpretation in which null is a reference
-pub some_interpretation : Interpretation
+unfoldable pub some_interpretation : Interpretation
 some_interpretation = record { functions = λ f a es. TreeElement (RefLeaf 0); quotients = λ z. pos 0; remainders = λ z. pos 0 }
 
 abbrev Of : ValueType → Option Value → Type 0
