@@ -1,10 +1,10 @@
 //! What holds of instances of predicates: their trees, and how a state that can be is kept by giving, taking, folding and
-//! changing; and which bodies of predicates are good.
+//! changing; which bodies of predicates are good, and which are covered by what they give.
 #![tactic(auto)]
 
 ghost use Rattle.std.specs.Prelude.{◌≡◌, ℕ, [], ◌∷◌, List, true, false, Some};
 ghost use Rattle.vx_frac.specs.Fractions.{Fraction, none, full, at_most, is_positive};
-ghost use Rattle.vx_ast.specs.Syntax.{Program, Assertion};
+ghost use Rattle.vx_ast.specs.Syntax.{Name, Program, Assertion};
 ghost use Rattle.vx_terms.specs.Interpretations.{Tree};
 ghost use Rattle.vx_meaning.specs.States.{State, Heap, Holdings, Location, Instance, Folded};
 ghost use Rattle.vx_meaning.specs.Flatten.{flat, IsGrounded};
@@ -14,7 +14,9 @@ ghost use Rattle.vx_meaning.specs.Give.{give};
 ghost use Rattle.vx_sound_preds.specs.Snapshots.{tree_by, IsTree};
 ghost use Rattle.vx_whole.specs.Premises.{IsTypedProgram};
 ghost use Rattle.vx_sound_preds.specs.Bodies.{GoodBodies, BodiesSayNow};
-ghost use Rattle.vx_sound_preds.specs.Examples.{f, instance_of, cells, chains, loops, owes, owing};
+ghost use Rattle.vx_sound_preds.specs.Examples.{f, instance_of, cells, chains, loops, owes, owing, remembers};
+ghost use Rattle.vx_sound_preds.specs.Covered.{Covered, IsProper, BodiesUnfoldNothing, PredicatesPass};
+ghost use Rattle.vx_smt_meaning.specs.declared.reply.Reply.{Reply};
 
 /// What lies inside an instance is the same for all fuel that suffices, and so is the tree of its values; where the one is
 /// known, so is the other.
@@ -40,9 +42,21 @@ pub fn refused_bodies_break_the_law()
 {}
 
 /// In a typed program all bodies of predicates are good, if none has an `old`: they apply no function, their amounts are
-/// known without running and are above none, and no argument of an instance is an amount.
+/// known without running and are above none, and no argument of an instance is an amount. That none has an `old` doesn't
+/// follow: there is a typed program with one.
 pub fn typed_bodies_are_good()
     ensures good { (p : Program) → IsTypedProgram p → BodiesSayNow p → GoodBodies p }
+    ensures remembers_typed { IsTypedProgram remembers }
+    ensures remembers_bad { GoodBodies remembers → ⊥ }
+{}
+
+/// Where the walk of each predicate passed, with right unsat replies, and no body has an `unfolding`, the body of each proper
+/// instance fits, added to nothing, and what is inside is proper too.
+pub fn passed_bodies_are_covered()
+    ensures covered { (p : Program) (replies : Name → List Reply) → IsTypedProgram p → BodiesSayNow p → BodiesUnfoldNothing p → PredicatesPass p replies → Covered p (IsProper p) }
+    ensures cells { Covered cells (IsProper cells) }
+    ensures chains { Covered chains (IsProper chains) }
+    ensures proper { IsProper chains [] (instance_of 1) }
 {}
 
 /// Bodies that are good, one of them recursive, and the two refused bodies, which aren't.
