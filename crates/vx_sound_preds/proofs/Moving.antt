@@ -295,7 +295,7 @@ module _ (p : Program) (o : Outer) (here h : Heap) (twins : (f : Name) (r : Term
       (λ m. eval_moves c f.0 pl.0 s _ _ k (λ t s1 k1 n. forked_moves t s1 (λ s2. eval p o a s2 on) (λ s2. eval p o a s2 on') (λ s2. eval p o b s2 on) (λ s2. eval p o b s2 on') k1 (λ s2 k2 n. eval_moves a f.1 pl.1 s2 on on' k2 g n) (λ s2 k2 n. eval_moves b f.2 pl.2 s2 on on' k2 g n) n) m) m
   eval_moves (Read at e x) f pl s on on' k g m =
       eval_moves e f pl s _ _ k (λ r s1 k1 n. read_moves r (placed s1 at) s1 on on' k1 g (candidates (field_key x r) here) (candidates (field_key x r) h) (twins x r)
-          (subst (λ hs. Cleared (first_with (holds_some (r ∷ [])) (candidates (field_key x r) hs) (placed s1 at) PermissionCode s1 (λ c. on c.chunk.value s1) (never (placed s1 at) PermissionCode s1))) k1.heap n)) m
+      (subst (λ hs. Cleared (first_with (holds_some (r ∷ [])) (candidates (field_key x r) hs) (placed s1 at) PermissionCode s1 (λ c. on c.chunk.value s1) (never (placed s1 at) PermissionCode s1))) k1.heap n)) m
   eval_moves (Old at e) f pl s on on' k g m = absurd pl
   eval_moves (Apply at x es) f pl s on on' k g m = absurd pl
   eval_moves (Unfolding at i es share e) f pl s on on' k g m = absurd f

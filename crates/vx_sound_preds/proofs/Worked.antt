@@ -118,13 +118,13 @@ one_positive = omega arith
 
 pub cells_typed : IsTypedProgram cells
 cells_typed = is_typed type.Int cell record {
-    names = (refl, tt);
-    parameters = ((λ e. cc), tt);
-    body = (
-      (variable here x refl, (type.Int, refl), part here 1 1 one_positive),
-      operates {op = Equal} {t = type.Int} tt (reads f refl (variable here x refl)) (number here 0),
-    );
-  } cell_body refl ((over 1 1, (λ p ap s. refl), refl), tt) refl
+  names = (refl, tt);
+  parameters = ((λ e. cc), tt);
+  body = (
+    (variable here x refl, (type.Int, refl), part here 1 1 one_positive),
+    operates {op = Equal} {t = type.Int} tt (reads f refl (variable here x refl)) (number here 0),
+  );
+} cell_body refl ((over 1 1, (λ p ap s. refl), refl), tt) refl
 
 cells_now : BodiesSayNow cells
 cells_now = each_body type.Int cell SaysNow cell_body refl ((tt, tt), (tt, tt))
@@ -140,16 +140,16 @@ cells_covered = proper_covered cells cells_typed cells_now (each_body type.Int c
 
 pub chains_typed : IsTypedProgram chains
 chains_typed = is_typed type.Ref chain record {
-    names = (refl, tt);
-    parameters = ((λ e. cc), tt);
-    body = (
-      (variable here x refl, (type.Ref, refl), part here 1 1 one_positive),
-      (
-        nots (operates {op = Equal} {t = type.Ref} tt (reads f refl (variable here x refl)) (nulls here)),
-        ((chain, refl, more (reads f refl (variable here x refl)) no_more), part here 1 1 one_positive),
-      ),
-    );
-  } chain_body refl ((over 1 1, (λ p ap s. refl), refl), (over 1 1, (λ p ap s. refl), refl)) refl
+  names = (refl, tt);
+  parameters = ((λ e. cc), tt);
+  body = (
+    (variable here x refl, (type.Ref, refl), part here 1 1 one_positive),
+    (
+      nots (operates {op = Equal} {t = type.Ref} tt (reads f refl (variable here x refl)) (nulls here)),
+      ((chain, refl, more (reads f refl (variable here x refl)) no_more), part here 1 1 one_positive),
+    ),
+  );
+} chain_body refl ((over 1 1, (λ p ap s. refl), refl), (over 1 1, (λ p ap s. refl), refl)) refl
 
 chains_now : BodiesSayNow chains
 chains_now = each_body type.Ref chain SaysNow chain_body refl ((tt, tt), ((tt, tt), ((tt, tt), tt)))
@@ -199,10 +199,10 @@ owes_are_not good =
 
 pub remembers_typed : IsTypedProgram remembers
 remembers_typed = is_typed type.Int remember record {
-    names = (refl, tt);
-    parameters = ((λ e. cc), tt);
-    body = operates {op = Equal} {t = type.Ref} tt (olds (variable here x refl)) (variable here x refl);
-  } remember_body refl tt refl
+  names = (refl, tt);
+  parameters = ((λ e. cc), tt);
+  body = operates {op = Equal} {t = type.Ref} tt (olds (variable here x refl)) (variable here x refl);
+} remember_body refl tt refl
 
 pub remembers_is_not : GoodBodies remembers → ⊥
 remembers_is_not good = (good.plain P remember remember_body refl refl).0
