@@ -23,6 +23,7 @@ pub mod Putting
 pub mod Covering
 pub mod Types
 pub mod Walks
+pub mod Kept
 pub mod Worked
 pub mod Changes
 pub mod Giving

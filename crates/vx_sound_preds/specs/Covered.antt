@@ -3,7 +3,7 @@ use Rattle.std.specs.Prelude.{◌≡◌, ℕ, true, List, [], ◌∷◌, Some, O
 use Rattle.vx_frac.specs.Fractions.{none, full, at_most}
 use Rattle.vx_ast.specs.Syntax.{Name, Program, Predicate, IsPredicate, Assertion, predicate_named}
 use Rattle.vx_smt_meaning.specs.declared.reply.Reply.{Reply}
-use Rattle.vx_meaning.specs.States.{State, Heap, Holdings, Instance, At, Folded, HaveTypes, amount, bind}
+use Rattle.vx_meaning.specs.States.{State, Heap, Holdings, Instance, Resource, At, Folded, HaveTypes, amount, bind}
 use Rattle.vx_meaning.specs.Flatten.{bare, body_entries, flat, IsGrounded}
 use Rattle.vx_meaning.specs.Fits.{add, deeper}
 use Rattle.vx_sound.specs.Law.{Passes}
@@ -33,3 +33,14 @@ BodiesUnfoldNothing p = (i : Name) (d : Predicate) (e : Assertion) → predicate
 -- the walk of each predicate over its replies passed, and its unsat replies are right
 abbrev pub PredicatesPass : Program → (Name → List Reply) → Type 0
 PredicatesPass p replies = (i : Name) (d : Predicate) → predicate_named p i ≡ Some d → Passes p i (IsPredicate d) (replies i)
+
+-- Holdings of typed instances, where nothing is owed
+
+abbrev pub TypedInstances : Program → Holdings → Type 0
+TypedInstances p [] = Unit {0}
+TypedInstances p ((At l, a) ∷ xs) = TypedInstances p xs
+TypedInstances p ((Folded i, a) ∷ xs) = ((d : Predicate) × (predicate_named p i.predicate ≡ Some d) × HaveTypes d.parameters i.arguments) × TypedInstances p xs
+
+pub record IsStocked (p : Program) (hs : Holdings) : Type 0 where
+  pub instances : TypedInstances p hs
+  pub debts : (r : Resource) → at_most none (amount hs r) ≡ true

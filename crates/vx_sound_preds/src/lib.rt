@@ -6,16 +6,16 @@ ghost use Rattle.std.specs.Prelude.{◌≡◌, ℕ, [], ◌∷◌, List, true, f
 ghost use Rattle.vx_frac.specs.Fractions.{Fraction, none, full, at_most, is_positive};
 ghost use Rattle.vx_ast.specs.Syntax.{Name, Program, Assertion};
 ghost use Rattle.vx_terms.specs.Interpretations.{Tree};
-ghost use Rattle.vx_meaning.specs.States.{State, Heap, Holdings, Location, Instance, Folded};
+ghost use Rattle.vx_meaning.specs.States.{State, Heap, Holdings, Location, Instance, Folded, amount, with_heap};
 ghost use Rattle.vx_meaning.specs.Flatten.{flat, IsGrounded};
-ghost use Rattle.vx_meaning.specs.Consistent.{total, IsSupported, IsConsistent};
+ghost use Rattle.vx_meaning.specs.Consistent.{total, Changes, IsSupported, IsConsistent};
 ghost use Rattle.vx_meaning.specs.Outcomes.{Ends};
 ghost use Rattle.vx_meaning.specs.Give.{give};
 ghost use Rattle.vx_sound_preds.specs.Snapshots.{tree_by, IsTree};
 ghost use Rattle.vx_whole.specs.Premises.{IsTypedProgram};
 ghost use Rattle.vx_sound_preds.specs.Bodies.{GoodBodies, BodiesSayNow};
 ghost use Rattle.vx_sound_preds.specs.Examples.{f, instance_of, cells, chains, loops, owes, owing, remembers};
-ghost use Rattle.vx_sound_preds.specs.Covered.{Covered, IsProper, BodiesUnfoldNothing, PredicatesPass};
+ghost use Rattle.vx_sound_preds.specs.Covered.{Covered, IsProper, BodiesUnfoldNothing, PredicatesPass, IsStocked};
 ghost use Rattle.vx_smt_meaning.specs.declared.reply.Reply.{Reply};
 
 /// What lies inside an instance is the same for all fuel that suffices, and so is the tree of its values; where the one is
@@ -65,4 +65,11 @@ pub fn some_bodies_are_good()
     ensures chains { GoodBodies chains }
     ensures loops { GoodBodies loops → ⊥ }
     ensures owes { GoodBodies owes → ⊥ }
+{}
+
+/// In such a program any change of the heap where nothing is held leaves a state that can be, and each instance that is held
+/// with its tree, if what is held is of typed instances and nothing is owed.
+pub fn changes_keep_what_is_held()
+    ensures consistent { (p : Program) (replies : Name → List Reply) → IsTypedProgram p → BodiesSayNow p → BodiesUnfoldNothing p → PredicatesPass p replies → (s : State) (g : Heap) → IsConsistent p s → IsStocked p s.holdings → Changes p s g → IsConsistent p (with_heap g s) }
+    ensures trees { (p : Program) (replies : Name → List Reply) → IsTypedProgram p → BodiesSayNow p → BodiesUnfoldNothing p → PredicatesPass p replies → (s : State) (g : Heap) → IsConsistent p s → IsStocked p s.holdings → Changes p s g → (i : Instance) (t : Tree) → is_positive (amount s.holdings (Folded i)) ≡ true → IsTree p s.heap i t → IsTree p g i t }
 {}
