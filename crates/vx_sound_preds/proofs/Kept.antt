@@ -10,6 +10,7 @@ use Rattle.vx_meaning.specs.Consistent.{Changes, IsConsistent}
 use Rattle.vx_terms.specs.Interpretations.{Tree}
 use Rattle.vx_types.specs.Typing.{HaveNoPerm}
 use Rattle.vx_whole.specs.Premises.{IsTypedProgram}
+use Rattle.vx_whole.specs.Closure.{InClosure}
 use Rattle.vx_amounts.proofs.Amounts.{Positive, le-refl, not-positive}
 use Rattle.vx_sound_preds.specs.Snapshots.{IsTree}
 use Rattle.vx_sound_preds.specs.Bodies.{IsRigid, AreRigid, BodiesSayNow}
@@ -34,40 +35,41 @@ typed_rigid (d ∷ ds) (v ∷ vs) k h = (one v (λ e. k.0 (sym h.0 ∙ e)), type
     one (RefValue z) n = tt
     one (PermValue z) n = n refl
 
-module _ (p : Program) (typed : IsTypedProgram p) where
-  single : (hs : Holdings) → TypedInstances p hs → AreSingle hs
+module _ (p : Program) (x : Name) (typed : IsTypedProgram p) where
+  single : (hs : Holdings) → TypedInstances p x hs → AreSingle hs
   single [] h = tt
   single ((At l, a) ∷ xs) h = (tt, single xs h)
-  single ((Folded i, a) ∷ xs) h = (typed_rigid h.0.0.parameters i.arguments (typed.predicates i.predicate h.0.0 h.0.1).parameters h.0.2, single xs h.1)
+  single ((Folded i, a) ∷ xs) h = (typed_rigid h.0.1.0.parameters i.arguments (typed.predicates i.predicate h.0.1.0 h.0.1.1).parameters h.0.1.2, single xs h.1)
 
   -- what is held of an instance came with arguments of their types
-  held_typed : (hs : Holdings) → TypedInstances p hs → (i : Instance) → Positive (amount hs (Folded i)) → (d : Predicate) → predicate_named p i.predicate ≡ Some d → HaveTypes d.parameters i.arguments
-  held_typed [] h i k d is = absurd (not-positive k (le-refl none))
-  held_typed ((At l, a) ∷ xs) h i k d is = held_typed xs h i k d is
-  held_typed ((Folded j, a) ∷ xs) h i k d is = go (same_resource (Folded i) (Folded j)) refl k (λ k. held_typed xs h.1 i k d is)
+  held_typed : (hs : Holdings) → TypedInstances p x hs → (i : Instance) → Positive (amount hs (Folded i)) → InClosure p x i.predicate × ((d : Predicate) → predicate_named p i.predicate ≡ Some d → HaveTypes d.parameters i.arguments)
+  held_typed [] h i k = absurd (not-positive k (le-refl none))
+  held_typed ((At l, a) ∷ xs) h i k = held_typed xs h i k
+  held_typed ((Folded j, a) ∷ xs) h i k = go (same_resource (Folded i) (Folded j)) refl k (λ k. held_typed xs h.1 i k)
     where
       same : (i j : Instance) → Folded i ≡ Folded j → j ≡ i
       same i j e = cc
 
-      here : j ≡ i → HaveTypes d.parameters i.arguments
-      here e =
-          let named : predicate_named p j.predicate ≡ Some d = subst (λ (i : Instance). predicate_named p i.predicate ≡ Some d) (sym e) is in
-          let one : HaveTypes d.parameters j.arguments = subst (λ (d : Predicate). HaveTypes d.parameters j.arguments) (some_is h.0.0 d (sym h.0.1 ∙ named)) h.0.2 in
-          subst (λ (i : Instance). HaveTypes d.parameters i.arguments) e one
+      here : InClosure p x j.predicate × ((d : Predicate) → predicate_named p j.predicate ≡ Some d → HaveTypes d.parameters j.arguments)
+      here = (h.0.0, λ d named. subst (λ (d : Predicate). HaveTypes d.parameters j.arguments) (some_is h.0.1.0 d (sym h.0.1.1 ∙ named)) h.0.1.2)
 
-      go : (b : Bool) → same_resource (Folded i) (Folded j) ≡ b → Positive (cond b (sum a (amount xs (Folded i))) (amount xs (Folded i))) → (Positive (amount xs (Folded i)) → HaveTypes d.parameters i.arguments) → HaveTypes d.parameters i.arguments
+      go : (b : Bool) → same_resource (Folded i) (Folded j) ≡ b → Positive (cond b (sum a (amount xs (Folded i))) (amount xs (Folded i))) →
+          (Positive (amount xs (Folded i)) → InClosure p x i.predicate × ((d : Predicate) → predicate_named p i.predicate ≡ Some d → HaveTypes d.parameters i.arguments)) →
+          InClosure p x i.predicate × ((d : Predicate) → predicate_named p i.predicate ≡ Some d → HaveTypes d.parameters i.arguments)
       go false e k f = f k
-      go true e k f = here (same i j (resource_is (Folded i) (Folded j) (single ((Folded j, a) ∷ []) (h.0, tt)).0 e))
+      go true e k f =
+          subst (λ (i : Instance). InClosure p x i.predicate × ((d : Predicate) → predicate_named p i.predicate ≡ Some d → HaveTypes d.parameters i.arguments))
+          (same i j (resource_is (Folded i) (Folded j) (single ((Folded j, a) ∷ []) (h.0, tt)).0 e)) here
 
-  stock : (s : State) → IsConsistent p s → IsStocked p s.holdings → Stock p s.heap s.holdings
+  stock : (s : State) → IsConsistent p s → IsStocked p x s.holdings → Stock p s.heap s.holdings
   stock s co st = record { debts = λ r sr. record { holds = st.debts r }; single = single s.holdings st.instances; grounded = λ i k. co.supported.grounded i k.holds }
 
-  module _ (now : BodiesSayNow p) (simple : BodiesUnfoldNothing p) (replies : Name → List Reply) (pass : PredicatesPass p replies) (s : State) (g : Heap) (co : IsConsistent p s) (st : IsStocked p s.holdings) (ch : Changes p s g) where
-    proper : (i : Instance) → Positive (amount s.holdings (Folded i)) → IsProper p s.heap i
-    proper i k = held_proper p (good_bodies p typed now) s co.supported (stock s co st) i k (held_typed s.holdings st.instances i k)
+  module _ (now : BodiesSayNow p) (simple : BodiesUnfoldNothing p x) (replies : Name → List Reply) (pass : PredicatesPass p x replies) (s : State) (g : Heap) (co : IsConsistent p s) (st : IsStocked p x s.holdings) (ch : Changes p s g) where
+    proper : (i : Instance) → Positive (amount s.holdings (Folded i)) → IsProper p x s.heap i
+    proper i k = let h = held_typed s.holdings st.instances i k in held_proper p x (good_bodies p typed now) s co.supported (stock s co st) i k h.0 h.1
 
     pub change_keeps : IsConsistent p (with_heap g s)
-    change_keeps = (consistent_changed p (good_bodies p typed now) (IsProper p) (proper_covered p typed now simple replies pass) s g (stock s co st) ch proper co).0
+    change_keeps = (consistent_changed p (good_bodies p typed now) (IsProper p x) (proper_covered p x typed now simple replies pass) s g (stock s co st) ch proper co).0
 
     pub trees_kept : (i : Instance) (t : Tree) → Positive (amount s.holdings (Folded i)) → IsTree p s.heap i t → IsTree p g i t
-    trees_kept i t k tr = (instance_changed p (good_bodies p typed now) (IsProper p) (proper_covered p typed now simple replies pass) s g (stock s co st) ch i k (proper i k) t tr).1
+    trees_kept i t k tr = (instance_changed p (good_bodies p typed now) (IsProper p x) (proper_covered p x typed now simple replies pass) s g (stock s co st) ch i k (proper i k) t tr).1

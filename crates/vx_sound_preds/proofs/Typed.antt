@@ -20,12 +20,12 @@ use Rattle.vx_sound_preds.proofs.Flats.{came}
 
 -- Names in lists
 
-on_left : (x : Name) (xs ys : List Name) → Stands x xs → Stands x (xs ++ ys)
+pub on_left : (x : Name) (xs ys : List Name) → Stands x xs → Stands x (xs ++ ys)
 on_left x [] ys h = absurd h
 on_left x (z ∷ xs) ys (inl e) = inl e
 on_left x (z ∷ xs) ys (inr h) = inr (on_left x xs ys h)
 
-on_right : (x : Name) (xs ys : List Name) → Stands x ys → Stands x (xs ++ ys)
+pub on_right : (x : Name) (xs ys : List Name) → Stands x ys → Stands x (xs ++ ys)
 on_right x [] ys h = h
 on_right x (z ∷ xs) ys h = inr (on_right x xs ys h)
 

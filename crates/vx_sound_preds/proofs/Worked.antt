@@ -8,6 +8,7 @@ use Rattle.vx_ast.specs.Syntax.{Name, same_name, Member, Predicate, Function, Me
 use Rattle.vx_types.specs.Typing.{IsTypedPredicate, variable, part, number, nulls, nots, operates, reads, olds, no_more, more}
 use Rattle.vx_depth.specs.Entering.{Stands, entered_by_body}
 use Rattle.vx_whole.specs.Premises.{HasConstantAmounts, IsTypedProgram}
+use Rattle.vx_whole.specs.Closure.{itself}
 use Rattle.vx_meaning.specs.Values.{PermValue, RefValue}
 use Rattle.vx_meaning.specs.States.{State, HaveTypes, At, amount}
 use Rattle.vx_meaning.specs.Flatten.{bare, flat}
@@ -108,8 +109,8 @@ module _ (t : ValueType) (d : Predicate) where
       enters_nothing y e z h st = subst (Stands z) (ap (λ (e : Predicate). entered_by_body e.body) (sym (the_predicate y e h)) ∙ enters) st
 
   -- and that passes its walk with no question
-  passes : Passes (with_field t d) P (IsPredicate d) [] → PredicatesPass (with_field t d) (λ y. [])
-  passes k y e h = subst (λ (e : Predicate). Passes (with_field t d) P (IsPredicate e) []) (the_predicate y e h) k
+  passes : Passes (with_field t d) P (IsPredicate d) [] → PredicatesPass (with_field t d) P (λ y. [])
+  passes k y e c h = subst (λ (e : Predicate). Passes (with_field t d) P (IsPredicate e) []) (the_predicate y e h) k
 
 one_positive : 0 < 1
 one_positive = omega arith
@@ -132,9 +133,9 @@ cells_now = each_body type.Int cell SaysNow cell_body refl ((tt, tt), (tt, tt))
 pub cells_are_good : GoodBodies cells
 cells_are_good = good_bodies cells cells_typed cells_now
 
-pub cells_covered : Covered cells (IsProper cells)
+pub cells_covered : Covered cells (IsProper cells P)
 unfolding lowest
-cells_covered = proper_covered cells cells_typed cells_now (each_body type.Int cell UnfoldsNothing cell_body refl ((tt, tt), (tt, tt))) (λ y. []) (passes type.Int cell (refl, tt))
+cells_covered = proper_covered cells P cells_typed cells_now (λ y d a c is body. each_body type.Int cell UnfoldsNothing cell_body refl ((tt, tt), (tt, tt)) y d a is body) (λ y. []) (passes type.Int cell (refl, tt))
 
 -- P(x: Ref) { acc(x.f) && (!(x.f == null) ==> P(x.f)) }
 
@@ -157,13 +158,14 @@ chains_now = each_body type.Ref chain SaysNow chain_body refl ((tt, tt), ((tt, t
 pub chains_are_good : GoodBodies chains
 chains_are_good = good_bodies chains chains_typed chains_now
 
-pub chains_covered : Covered chains (IsProper chains)
+pub chains_covered : Covered chains (IsProper chains P)
 unfolding lowest
-chains_covered = proper_covered chains chains_typed chains_now (each_body type.Ref chain UnfoldsNothing chain_body refl ((tt, tt), ((tt, tt), ((tt, tt), tt)))) (λ y. []) (passes type.Ref chain (refl, tt))
+chains_covered = proper_covered chains P chains_typed chains_now (λ y d a c is body. each_body type.Ref chain UnfoldsNothing chain_body refl ((tt, tt), ((tt, tt), ((tt, tt), tt))) y d a is body) (λ y. []) (passes type.Ref chain (refl, tt))
 
 -- with the empty heap 1.f is null, and the chain from 1 ends there
-pub proper_chain : IsProper chains [] (instance_of 1)
+pub proper_chain : IsProper chains P [] (instance_of 1)
 proper_chain = record {
+  seen = itself;
   typed = λ d e. subst (λ (d : Predicate). HaveTypes d.parameters (RefValue 1 ∷ [])) (the_predicate type.Ref chain P d e) (refl, tt);
   grounded = (1, _, refl);
   null = nothing;

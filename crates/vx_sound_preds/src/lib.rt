@@ -14,7 +14,7 @@ ghost use Rattle.vx_meaning.specs.Give.{give};
 ghost use Rattle.vx_sound_preds.specs.Snapshots.{tree_by, IsTree};
 ghost use Rattle.vx_whole.specs.Premises.{IsTypedProgram};
 ghost use Rattle.vx_sound_preds.specs.Bodies.{GoodBodies, BodiesSayNow};
-ghost use Rattle.vx_sound_preds.specs.Examples.{f, instance_of, cells, chains, loops, owes, owing, remembers};
+ghost use Rattle.vx_sound_preds.specs.Examples.{f, P, instance_of, cells, chains, loops, owes, owing, remembers};
 ghost use Rattle.vx_sound_preds.specs.Covered.{Covered, IsProper, BodiesUnfoldNothing, PredicatesPass, IsStocked};
 ghost use Rattle.vx_smt_meaning.specs.declared.reply.Reply.{Reply};
 
@@ -50,13 +50,13 @@ pub fn typed_bodies_are_good()
     ensures remembers_bad { GoodBodies remembers → ⊥ }
 {}
 
-/// Where the walk of each predicate passed, with right unsat replies, and no body has an `unfolding`, the body of each proper
-/// instance fits, added to nothing, and what is inside is proper too.
+/// Where the walk of each predicate that x leads to passed, with right unsat replies, and none of their bodies has an
+/// `unfolding`, the body of each proper instance fits, added to nothing, and what is inside is proper too.
 pub fn passed_bodies_are_covered()
-    ensures covered { (p : Program) (replies : Name → List Reply) → IsTypedProgram p → BodiesSayNow p → BodiesUnfoldNothing p → PredicatesPass p replies → Covered p (IsProper p) }
-    ensures cells { Covered cells (IsProper cells) }
-    ensures chains { Covered chains (IsProper chains) }
-    ensures proper { IsProper chains [] (instance_of 1) }
+    ensures covered { (p : Program) (x : Name) (replies : Name → List Reply) → IsTypedProgram p → BodiesSayNow p → BodiesUnfoldNothing p x → PredicatesPass p x replies → Covered p (IsProper p x) }
+    ensures cells { Covered cells (IsProper cells P) }
+    ensures chains { Covered chains (IsProper chains P) }
+    ensures proper { IsProper chains P [] (instance_of 1) }
 {}
 
 /// Bodies that are good, one of them recursive, and the two refused bodies, which aren't.
@@ -67,9 +67,9 @@ pub fn some_bodies_are_good()
     ensures owes { GoodBodies owes → ⊥ }
 {}
 
-/// In such a program any change of the heap where nothing is held leaves a state that can be, and each instance that is held
-/// with its tree, if what is held is of typed instances and nothing is owed.
+/// Then any change of the heap where nothing is held leaves a state that can be, and each instance that is held with its tree,
+/// if what is held is of typed instances of these predicates and nothing is owed.
 pub fn changes_keep_what_is_held()
-    ensures consistent { (p : Program) (replies : Name → List Reply) → IsTypedProgram p → BodiesSayNow p → BodiesUnfoldNothing p → PredicatesPass p replies → (s : State) (g : Heap) → IsConsistent p s → IsStocked p s.holdings → Changes p s g → IsConsistent p (with_heap g s) }
-    ensures trees { (p : Program) (replies : Name → List Reply) → IsTypedProgram p → BodiesSayNow p → BodiesUnfoldNothing p → PredicatesPass p replies → (s : State) (g : Heap) → IsConsistent p s → IsStocked p s.holdings → Changes p s g → (i : Instance) (t : Tree) → is_positive (amount s.holdings (Folded i)) ≡ true → IsTree p s.heap i t → IsTree p g i t }
+    ensures consistent { (p : Program) (x : Name) (replies : Name → List Reply) → IsTypedProgram p → BodiesSayNow p → BodiesUnfoldNothing p x → PredicatesPass p x replies → (s : State) (g : Heap) → IsConsistent p s → IsStocked p x s.holdings → Changes p s g → IsConsistent p (with_heap g s) }
+    ensures trees { (p : Program) (x : Name) (replies : Name → List Reply) → IsTypedProgram p → BodiesSayNow p → BodiesUnfoldNothing p x → PredicatesPass p x replies → (s : State) (g : Heap) → IsConsistent p s → IsStocked p x s.holdings → Changes p s g → (i : Instance) (t : Tree) → is_positive (amount s.holdings (Folded i)) ≡ true → IsTree p s.heap i t → IsTree p g i t }
 {}
