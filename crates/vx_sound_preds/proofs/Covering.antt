@@ -81,7 +81,7 @@ instance_fits p m c at i es share vs v x g h hx least =
     tested b = guard at b >>= λ _. Ok (run.Folded record { predicate = i; arguments = vs }, x)
 
 module _ (means : Meaning) (p : Program) where
-  loose_after : {scope mid : Scope} {i : Interpretation} {n : ℕ} {d on : Going} {b c : run.State} (g : LooseGoes means p mid i n d b) → LooseGoes means p scope g.interp g.state.next on c → LooseGoes means p scope i n on c
+  pub loose_after : {scope mid : Scope} {i : Interpretation} {n : ℕ} {d on : Going} {b c : run.State} (g : LooseGoes means p mid i n d b) → LooseGoes means p scope g.interp g.state.next on c → LooseGoes means p scope i n on c
   loose_after g r = record {
     interp = r.interp;
     state = r.state;
@@ -169,15 +169,27 @@ module _ (means : Meaning) (p : Program) where
         let scaled : Same (as_fraction (value i (multiply whole_amount t))) (product full x.0) = same-trans (multiply_is means (good_whole means) good) (product_same (same-refl full) its) in
         record { fraction = x.0; is = x.1; positive = pos; good_scaled = positive-le (product_positive full-positive pos) scaled.back }
 
-    points_added : (at : Place) (e : Expr) (f : Name) (share : Expr) → AddGoes (Points at e f share)
-    unfolding AddGoes
-    points_added at e f share scope b c es t fl pl x y en nn i s on st m =
+    -- a permission of a location: its parts fit, and its chunk is put where the receiver isn't null
+    pub record FieldPart (scope : Scope) (i : Interpretation) (n : ℕ) (on : Going) (c : run.State) (at : Place) (e : Expr) (f : Name) (share : Expr) : Type 0 where
+      pub reference : ℕ
+      pub fraction : Fraction
+      pub part : Eventually (λ m. field_part p (deeper p m) c at e f share ≡ Ok (run.At record { receiver = reference; field = f }, fraction))
+      pub positive : Positive fraction
+      pub entry : (b : run.State) → b.store ≡ c.store → b.heap ≡ c.heap → entries p b (Points at e f share) ≡ Some ((run.At record { receiver = reference; field = f }, fraction) ∷ [])
+      pub put_there : (reference ≡ 0 → ⊥) → LooseGoes means p scope i n on (run.with_holdings (run.gained (run.At record { receiver = reference; field = f }) (product full fraction) c.holdings) c)
+
+    pub field_part_of : (at : Place) (e : Expr) (f : Name) (share : Expr) (scope : Scope) (c : run.State) → IsTyped p scope (Points at e f share) → UnfoldsNothing (Points at e f share) → IsPlainBody p Rigid (Points at e f share) →
+        (i : Interpretation) (s : rules.State) (on : Going) → Loose means p scope i s c → Cleared (produce p o (Points at e f share) whole_amount None s on) → FieldPart scope i s.next on c at e f share
+    field_part_of at e f share scope c t fl pl i s on st m =
         record {
-          result = run.with_holdings (run.gained (run.At l) (product full w.fraction) c.holdings) c;
-          adds = both_eventually r.fits a.fits (λ n g h. bind_ok (add_part p (deeper p n) full c) (run.At l, w.fraction) (field_fits p n c at e f share r.result a.result k.0 w.fraction g k.1 h w.is (positive_le w.positive).holds));
-          store = refl;
-          heap = refl;
-          goes = loose_after r.goes (loose_after a.goes (loose_after q placed_goes));
+          reference = k.0;
+          fraction = w.fraction;
+          part = both_eventually r.fits a.fits (λ n g h. field_fits p n c at e f share r.result a.result k.0 w.fraction g k.1 h w.is (positive_le w.positive).holds);
+          positive = w.positive;
+          entry = λ b x y.
+              step (λ r. option_and_then (location_entry f r) (plain.value p no_applications b share)) r.result (r.now b x y)
+              ∙ step (λ v. location_entry f r.result v) a.result (a.now b x y) ∙ ap₂ (location_entry f) k.1 w.is;
+          put_there = λ no_null. loose_after r.goes (loose_after a.goes (loose_after q (placed_goes no_null)));
         }
       where
         ended : Term → Term → Going
@@ -195,11 +207,8 @@ module _ (means : Meaning) (p : Program) where
         k : (n : ℕ) × (r.result ≡ RefValue n)
         k = ref_value_is r.result r.typed
 
-        l : run.Location
-        l = record { receiver = k.0; field = f }
-
         w : Worth a.goes.interp a.term a.result
-        w = worth pl.1 b (a.now b x y) a.typed a.good a.value_is
+        w = worth pl.1 c (a.now c refl refl) a.typed a.good a.value_is
 
         gm : Good means a.goes.state.next a.goes.interp (multiply whole_amount a.term) RealSort
         gm = good_product means (good_whole means) a.good
@@ -213,28 +222,39 @@ module _ (means : Meaning) (p : Program) where
         r_is : value q.interp r.term ≡ element (RefValue k.0)
         r_is = value_kept means r.term (good_later means a.goes.later a.goes.extends r.good).settled q.extends ∙ value_kept means r.term r.good.settled a.goes.extends ∙ r.value_is ∙ ap element k.1
 
-        entry : location_entry f r.result a.result ≡ Some es
-        entry = sym (step (λ v. location_entry f r.result v) a.result (a.now b x y)) ∙ sym (step (λ r. option_and_then (location_entry f r) (plain.value p no_applications b share)) r.result (r.now b x y)) ∙ en
-
-        no_null : k.0 ≡ 0 → ⊥
-        no_null z =
-            let one : location_entry f (RefValue k.0) (PermValue w.fraction) ≡ Some es = ap₂ (location_entry f) (sym k.1) (sym w.is) ∙ entry in
-            let nn' : NoNull ((run.At l, w.fraction) ∷ []) = subst NoNull (sym (some_is ((run.At l, w.fraction) ∷ []) es one)) nn in
-            nn'.0 z
-
-        placed_goes : LooseGoes means p scope q.interp q.state.next on (run.with_holdings (run.gained (run.At l) (product full w.fraction) c.holdings) c)
-        placed_goes = put_field means p f r.term (multiply whole_amount a.term) k.0 (product full w.fraction) s.inner on q.stands gr r_is no_null
+        placed_goes : (k.0 ≡ 0 → ⊥) → LooseGoes means p scope q.interp q.state.next on (run.with_holdings (run.gained (run.At record { receiver = k.0; field = f }) (product full w.fraction) c.holdings) c)
+        placed_goes no_null = put_field means p f r.term (multiply whole_amount a.term) k.0 (product full w.fraction) s.inner on q.stands gr r_is no_null
             (good_later means q.later q.extends gm) (subst (λ e. Positive (as_fraction e)) (sym (value_kept means (multiply whole_amount a.term) gm.settled q.extends)) w.good_scaled) (product_positive full-positive w.positive) q.cleared
 
-    instance_added : (at : Place) (z : Name) (xs : Exprs) (share : Expr) → AddGoes (syntax.Instance at z xs share)
+    points_added : (at : Place) (e : Expr) (f : Name) (share : Expr) → AddGoes (Points at e f share)
     unfolding AddGoes
-    instance_added at z xs share scope b c es t fl pl x y en nn i s on st m =
+    points_added at e f share scope b c es t fl pl x y en nn i s on st m =
+        let k = field_part_of at e f share scope c t fl pl i s on st m in
+        let l : run.Location = record { receiver = k.reference; field = f } in
+        let nn' : NoNull ((run.At l, k.fraction) ∷ []) = subst NoNull (sym (some_is ((run.At l, k.fraction) ∷ []) es (sym (k.entry b x y) ∙ en))) nn in
         record {
-          result = run.with_holdings (run.gained (run.Folded j) (product full w.fraction) c.holdings) c;
-          adds = both_eventually r.fits a.fits (λ n g h. bind_ok (add_part p (deeper p n) full c) (run.Folded j, w.fraction) (instance_fits p n c at z xs share r.results a.result w.fraction g h w.is (positive_le w.positive).holds));
+          result = run.with_holdings (run.gained (run.At l) (product full k.fraction) c.holdings) c;
+          adds = eventually k.part (λ n g. bind_ok (add_part p (deeper p n) full c) (run.At l, k.fraction) g);
           store = refl;
           heap = refl;
-          goes = loose_after r.goes (loose_after a.goes (loose_after q placed_goes));
+          goes = k.put_there nn'.0;
+        }
+
+    -- a permission of an instance
+    pub record InstancePart (scope : Scope) (i : Interpretation) (n : ℕ) (on : Going) (c : run.State) (at : Place) (z : Name) (xs : Exprs) (share : Expr) : Type 0 where
+      pub instance : run.Instance
+      pub fraction : Fraction
+      pub part : Eventually (λ m. instance_part p (deeper p m) c at z xs share ≡ Ok (run.Folded instance, fraction))
+      pub put_there : LooseGoes means p scope i n on (run.with_holdings (run.gained (run.Folded instance) (product full fraction) c.holdings) c)
+
+    pub instance_part_of : (at : Place) (z : Name) (xs : Exprs) (share : Expr) (scope : Scope) (c : run.State) → IsTyped p scope (syntax.Instance at z xs share) → UnfoldsNothing (syntax.Instance at z xs share) → IsPlainBody p Rigid (syntax.Instance at z xs share) →
+        (i : Interpretation) (s : rules.State) (on : Going) → Loose means p scope i s c → Cleared (produce p o (syntax.Instance at z xs share) whole_amount None s on) → InstancePart scope i s.next on c at z xs share
+    instance_part_of at z xs share scope c t fl pl i s on st m =
+        record {
+          instance = j;
+          fraction = w.fraction;
+          part = both_eventually r.fits a.fits (λ n g h. instance_fits p n c at z xs share r.results a.result w.fraction g h w.is (positive_le w.positive).holds);
+          put_there = loose_after r.goes (loose_after a.goes (loose_after q placed_goes));
         }
       where
         ended : List Term → Term → Going
@@ -253,7 +273,7 @@ module _ (means : Meaning) (p : Program) where
         j = record { predicate = z; arguments = r.results }
 
         w : Worth a.goes.interp a.term a.result
-        w = worth pl.1 b (a.now b x y) a.typed a.good a.value_is
+        w = worth pl.1 c (a.now c refl refl) a.typed a.good a.value_is
 
         gm : Good means a.goes.state.next a.goes.interp (multiply whole_amount a.term) RealSort
         gm = good_product means (good_whole means) a.good
@@ -264,6 +284,18 @@ module _ (means : Meaning) (p : Program) where
         placed_goes : LooseGoes means p scope q.interp q.state.next on (run.with_holdings (run.gained (run.Folded j) (product full w.fraction) c.holdings) c)
         placed_goes = put_instance means p z r.terms (multiply whole_amount a.term) j (product full w.fraction) s.inner on q.stands
             (good_later means q.later q.extends gm) (positive_le (product_positive full-positive w.positive)) q.cleared
+
+    instance_added : (at : Place) (z : Name) (xs : Exprs) (share : Expr) → AddGoes (syntax.Instance at z xs share)
+    unfolding AddGoes
+    instance_added at z xs share scope b c es t fl pl x y en nn i s on st m =
+        let k = instance_part_of at z xs share scope c t fl pl i s on st m in
+        record {
+          result = run.with_holdings (run.gained (run.Folded k.instance) (product full k.fraction) c.holdings) c;
+          adds = eventually k.part (λ n g. bind_ok (add_part p (deeper p n) full c) (run.Folded k.instance, k.fraction) g);
+          store = refl;
+          heap = refl;
+          goes = k.put_there;
+        }
 
     implied_added : (d : Expr) (a : Assertion) → AddGoes a → AddGoes (Implied d a)
     unfolding AddGoes

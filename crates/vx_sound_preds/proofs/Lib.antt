@@ -21,6 +21,7 @@ pub mod Loose
 pub mod Reading
 pub mod Putting
 pub mod Covering
+pub mod Given
 pub mod Types
 pub mod Walks
 pub mod Kept
