@@ -17,6 +17,8 @@ use Rattle.vx_meaning.specs.Evaluate.{value, values}
 use Rattle.vx_meaning.specs.Flatten.{no_applications, bare, entries, location_entry, instance_entry, body_entries, flat}
 use Rattle.vx_meaning.specs.Consistent.{total, IsSupported}
 use Rattle.vx_meaning.specs.Fits.{add, deeper}
+use Rattle.vx_meaning.specs.Fails.{PredicateFails}
+use Rattle.vx_meaning.specs.Fails as fails
 use Rattle.vx_terms.specs.Build.{whole_amount}
 use Rattle.vx_rules.specs.States as rules
 use Rattle.vx_rules.specs.Trees.{Tree, End}
@@ -27,11 +29,12 @@ use Rattle.vx_whole.specs.Premises.{IsTypedProgram}
 use Rattle.vx_elements.proofs.Settled.{Meaning}
 use Rattle.vx_amounts.proofs.Amounts.{Le, Positive, le-refl, le-trans, le-is, none-full, not-positive, positive-le, positive-or, above-add, below-add}
 use Rattle.vx_amounts.proofs.Products.{product_sign, product_positive, product-full, positive_le}
+use Rattle.vx_sound.specs.Law.{Passes}
 use Rattle.vx_sound.proofs.Passes.{Cleared, cleared}
 use Rattle.vx_sound.proofs.Stands.{Bounded, HeapStands, Stands}
 use Rattle.vx_sound.proofs.Chunks.{location_same}
 use Rattle.vx_sound.proofs.Goes.{declared_all}
-use Rattle.vx_sound_preds.specs.Bodies.{Rigid, IsPlainBody, GoodBodies, BodiesSayNow}
+use Rattle.vx_sound_preds.specs.Bodies.{Rigid, IsPlainBody, GoodBodies, BodiesSayNow, UnfoldsNothing}
 use Rattle.vx_sound_preds.specs.Covered.{AllGood, Covered, IsProper, BodiesUnfoldNothing, PredicatesPass}
 use Rattle.vx_sound_preds.proofs.Fitting.{some_is}
 use Rattle.vx_sound_preds.proofs.Flats.{came, flat_later}
@@ -42,7 +45,8 @@ use Rattle.vx_sound_preds.proofs.Frames.{AllPositive, positive_least, entries_po
 use Rattle.vx_sound_preds.proofs.Folding.{Stock, held_inside}
 use Rattle.vx_sound_preds.proofs.Typed.{on_left, on_right, good_bodies}
 use Rattle.vx_sound_preds.proofs.Types.{some_interpretation, have_types}
-use Rattle.vx_sound_preds.proofs.Loose.{Loose}
+use Rattle.vx_sound_preds.proofs.Reading.{LooseGoes}
+use Rattle.vx_sound_preds.proofs.Given.{never_fails}
 use Rattle.vx_sound_preds.proofs.Covering.{NoNull, body_added}
 
 abbrev null_at : Name → Location
@@ -199,26 +203,58 @@ body_seen p x i d a c is body y s = further c (subst (λ (o : Option Kind). ente
     kind_is (Some (IsFunction g)) h = cc
     kind_is (Some (IsMethod m)) h = cc
 
-module _ (p : Program) (x : Name) (typed : IsTypedProgram p) (now : BodiesSayNow p) (simple : BodiesUnfoldNothing p x) (replies : Name → List Reply) (pass : PredicatesPass p x replies) where
-  good : GoodBodies p
-  good = good_bodies p typed now
+-- a body is produced with no chunk there and where nothing bounds amounts
+abbrev bare_state : rules.State → rules.State
+bare_state s = record s { heap = []; bounded = false }
 
-  -- a body is produced with no chunk there and where nothing bounds amounts
-  abbrev bare_state : rules.State → rules.State
-  bare_state s = record s { heap = []; bounded = false }
-
+module _ (p : Program) (i : Name) (d : Predicate) (a : Assertion) (body : d.body ≡ Some a) (replies : List Reply) (pass : Passes p i (IsPredicate d) replies) where
   starts : (h : Heap) → Stands means p [] some_interpretation blank (bare [] h)
   unfolding some_interpretation
   starts h =
       let nothing : HeapStands means p 0 some_interpretation [] h [] = record { each = tt; sums = λ l. le-refl none } in
       record { store = tt; path = tt; heap = nothing; old = nothing; awake = refl; null = refl; bounded = nothing_bounded; old_bounded = nothing_bounded }
 
-  walked : (i : Name) (d : Predicate) (a : Assertion) → InClosure p x i → predicate_named p i ≡ Some d → d.body ≡ Some a → Cleared (produce p (member_rules p) a whole_amount None (bare_state (rules.declare_all d.parameters blank)) ended)
-  walked i d a c is body =
-      let k = cleared (tree p i (IsPredicate d)) (replies i) (pass i d c is).0 (pass i d c is).1 in
+  walked : Cleared (produce p (member_rules p) a whole_amount None (bare_state (rules.declare_all d.parameters blank)) ended)
+  walked =
+      let k = cleared (tree p i (IsPredicate d)) replies pass.0 pass.1 in
       let e : Cleared (produce p (member_rules p) a whole_amount None (record (rules.declare_all d.parameters blank) { bounded = false }) ended) =
       subst (λ (b : Option Assertion). Cleared (elim b as (λ b. Tree) [ None ↦ End | Some body ↦ produce p (member_rules p) body whole_amount None (record (rules.declare_all d.parameters blank) { bounded = false }) ended ])) body k in
       subst (λ (z : rules.Heap). Cleared (produce p (member_rules p) a whole_amount None (record (rules.declare_all d.parameters blank) { heap = z; bounded = false }) ended)) (chunks_kept d.parameters blank) e
+
+  -- from any arguments and any heap
+  begun : (vs : List Value) → run.HaveTypes d.parameters vs → (h : Heap) → LooseGoes means p d.parameters some_interpretation 0 (λ s. produce p (member_rules p) a whole_amount None s ended) (bare (bind d.parameters vs) h)
+  begun vs tv h =
+      let g = declared_all means p d.parameters vs tv [] some_interpretation blank (bare [] h) (λ s. produce p (member_rules p) a whole_amount None (bare_state s) ended) (starts h) walked in
+      record {
+        interp = g.interp;
+        state = bare_state g.state;
+        extends = g.extends;
+        later = g.later;
+        stands = record {
+          store = g.stands.store;
+          path = g.stands.path;
+          chunks = tt;
+          old = g.stands.old;
+          awake = g.stands.awake;
+          null = g.stands.null;
+          unbounded = refl;
+          old_bounded = nothing_bounded;
+          sign = λ l. le-refl none;
+        };
+        cleared = g.cleared;
+      }
+
+-- a predicate whose walk passed doesn't fail
+pub predicate_sound : (p : Program) (i : Name) (d : Predicate) (replies : List Reply) → IsTypedProgram p → BodiesSayNow p → ((a : Assertion) → d.body ≡ Some a → UnfoldsNothing a) → predicate_named p i ≡ Some d →
+    Passes p i (IsPredicate d) replies → PredicateFails p d → ⊥
+predicate_sound p i d replies typed now simple is pass (fails.body vs h a at tv body given) =
+    let g = begun p i d a body replies pass vs tv h in
+    never_fails means p (member_rules p) a d.parameters (bare (bind d.parameters vs) h) at given (subst (IsTypedContent p d.parameters) body (typed.predicates i d is).body) (simple a body)
+    ((good_bodies p typed now).plain i d a is body) g.interp g.state ended g.stands g.cleared
+
+module _ (p : Program) (x : Name) (typed : IsTypedProgram p) (now : BodiesSayNow p) (simple : BodiesUnfoldNothing p x) (replies : Name → List Reply) (pass : PredicatesPass p x replies) where
+  good : GoodBodies p
+  good = good_bodies p typed now
 
   fits_by : (h : Heap) (i : Instance) (d : Predicate) (a : Assertion) → predicate_named p i.predicate ≡ Some d → d.body ≡ Some a → IsProper p x h i →
       (m : ℕ) × (u : run.State) × (add p (deeper p m) full a (bare (bind d.parameters i.arguments) h) ≡ Ok u)
@@ -229,21 +265,9 @@ module _ (p : Program) (x : Name) (typed : IsTypedProgram p) (now : BodiesSayNow
       let plain_body = good.plain i.predicate d a is body in
       let pos = entries_positive p (bare (bind ds vs) h) a o.entries_of plain_body o.entries_are in
       let nn = no_null p good x h (pr.grounded.0 + 0) o.entries_of pos (light p good x h i pr o.entries_of o.body_is 0) in
-      let on = λ (s : rules.State). produce p (member_rules p) a whole_amount None (bare_state s) ended in
-      let g = declared_all means p ds vs (pr.typed d is) [] some_interpretation blank (bare [] h) on (starts h) (walked i.predicate d a pr.seen is body) in
-      let st : Loose means p ds g.interp (bare_state g.state) (bare (bind ds vs) h) = record {
-        store = g.stands.store;
-        path = g.stands.path;
-        chunks = tt;
-        old = g.stands.old;
-        awake = g.stands.awake;
-        null = g.stands.null;
-        unbounded = refl;
-        old_bounded = nothing_bounded;
-        sign = λ l. le-refl none;
-      } in
+      let g = begun p i.predicate d a body (replies i.predicate) (pass i.predicate d pr.seen is) vs (pr.typed d is) h in
       let content : IsTyped p ds a = subst (IsTypedContent p ds) body (typed.predicates i.predicate d is).body in
-      let r = body_added means p (member_rules p) a ds (bare (bind ds vs) h) (bare (bind ds vs) h) o.entries_of content (simple i.predicate d a pr.seen is body) plain_body refl refl o.entries_are nn g.interp (bare_state g.state) ended st g.cleared in
+      let r = body_added means p (member_rules p) a ds (bare (bind ds vs) h) (bare (bind ds vs) h) o.entries_of content (simple i.predicate d a pr.seen is body) plain_body refl refl o.entries_are nn g.interp g.state ended g.stands g.cleared in
       (r.adds.0, r.result, r.adds.1 r.adds.0 (le_refl _))
 
   -- what is inside a proper instance is proper

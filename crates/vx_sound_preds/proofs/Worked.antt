@@ -12,12 +12,13 @@ use Rattle.vx_whole.specs.Closure.{itself}
 use Rattle.vx_meaning.specs.Values.{PermValue, RefValue}
 use Rattle.vx_meaning.specs.States.{State, HaveTypes, At, amount}
 use Rattle.vx_meaning.specs.Flatten.{bare, flat}
+use Rattle.vx_meaning.specs.Fails.{Fails}
 use Rattle.vx_sound.specs.Law.{Passes}
 use Rattle.vx_sound_preds.specs.Bodies.{GoodBodies, SaysNow, BodiesSayNow, UnfoldsNothing}
 use Rattle.vx_sound_preds.specs.Covered.{Covered, IsProper, PredicatesPass}
 use Rattle.vx_sound_preds.specs.Examples.{here, P, f, x, with_field, instance_of, cell, cell_body, cells, chain, chain_body, chains, loop, loop_body, loops, owe, owe_body, owes, remember, remember_body, remembers}
 use Rattle.vx_sound_preds.proofs.Typed.{good_bodies}
-use Rattle.vx_sound_preds.proofs.Walks.{proper_covered}
+use Rattle.vx_sound_preds.proofs.Walks.{proper_covered, predicate_sound}
 
 module _ (t : ValueType) (d : Predicate) where
   -- what a name can stand for
@@ -133,9 +134,15 @@ cells_now = each_body type.Int cell SaysNow cell_body refl ((tt, tt), (tt, tt))
 pub cells_are_good : GoodBodies cells
 cells_are_good = good_bodies cells cells_typed cells_now
 
-pub cells_covered : Covered cells (IsProper cells P)
+cell_passes : Passes cells P (IsPredicate cell) []
 unfolding lowest
-cells_covered = proper_covered cells P cells_typed cells_now (λ y d a c is body. each_body type.Int cell UnfoldsNothing cell_body refl ((tt, tt), (tt, tt)) y d a is body) (λ y. []) (passes type.Int cell (refl, tt))
+cell_passes = (refl, tt)
+
+pub cells_never_fail : Fails cells P (IsPredicate cell) → ⊥
+cells_never_fail = predicate_sound cells P cell [] cells_typed cells_now (λ a is. each_body type.Int cell UnfoldsNothing cell_body refl ((tt, tt), (tt, tt)) P cell a refl is) refl cell_passes
+
+pub cells_covered : Covered cells (IsProper cells P)
+cells_covered = proper_covered cells P cells_typed cells_now (λ y d a c is body. each_body type.Int cell UnfoldsNothing cell_body refl ((tt, tt), (tt, tt)) y d a is body) (λ y. []) (passes type.Int cell cell_passes)
 
 -- P(x: Ref) { acc(x.f) && (!(x.f == null) ==> P(x.f)) }
 
@@ -158,9 +165,15 @@ chains_now = each_body type.Ref chain SaysNow chain_body refl ((tt, tt), ((tt, t
 pub chains_are_good : GoodBodies chains
 chains_are_good = good_bodies chains chains_typed chains_now
 
-pub chains_covered : Covered chains (IsProper chains P)
+chain_passes : Passes chains P (IsPredicate chain) []
 unfolding lowest
-chains_covered = proper_covered chains P chains_typed chains_now (λ y d a c is body. each_body type.Ref chain UnfoldsNothing chain_body refl ((tt, tt), ((tt, tt), ((tt, tt), tt))) y d a is body) (λ y. []) (passes type.Ref chain (refl, tt))
+chain_passes = (refl, tt)
+
+pub chains_never_fail : Fails chains P (IsPredicate chain) → ⊥
+chains_never_fail = predicate_sound chains P chain [] chains_typed chains_now (λ a is. each_body type.Ref chain UnfoldsNothing chain_body refl ((tt, tt), ((tt, tt), ((tt, tt), tt))) P chain a refl is) refl chain_passes
+
+pub chains_covered : Covered chains (IsProper chains P)
+chains_covered = proper_covered chains P chains_typed chains_now (λ y d a c is body. each_body type.Ref chain UnfoldsNothing chain_body refl ((tt, tt), ((tt, tt), ((tt, tt), tt))) y d a is body) (λ y. []) (passes type.Ref chain chain_passes)
 
 -- with the empty heap 1.f is null, and the chain from 1 ends there
 pub proper_chain : IsProper chains P [] (instance_of 1)

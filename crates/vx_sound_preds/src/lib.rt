@@ -4,7 +4,7 @@
 
 ghost use Rattle.std.specs.Prelude.{◌≡◌, ℕ, [], ◌∷◌, List, true, false, Some};
 ghost use Rattle.vx_frac.specs.Fractions.{Fraction, none, full, at_most, is_positive};
-ghost use Rattle.vx_ast.specs.Syntax.{Name, Program, Assertion};
+ghost use Rattle.vx_ast.specs.Syntax.{Name, Program, Predicate, IsPredicate, Assertion, predicate_named};
 ghost use Rattle.vx_terms.specs.Interpretations.{Tree};
 ghost use Rattle.vx_meaning.specs.States.{State, Heap, Holdings, Location, Instance, Folded, amount, with_heap};
 ghost use Rattle.vx_meaning.specs.Flatten.{flat, IsGrounded};
@@ -13,9 +13,11 @@ ghost use Rattle.vx_meaning.specs.Outcomes.{Ends};
 ghost use Rattle.vx_meaning.specs.Give.{give};
 ghost use Rattle.vx_sound_preds.specs.Snapshots.{tree_by, IsTree};
 ghost use Rattle.vx_whole.specs.Premises.{IsTypedProgram};
-ghost use Rattle.vx_sound_preds.specs.Bodies.{GoodBodies, BodiesSayNow};
-ghost use Rattle.vx_sound_preds.specs.Examples.{f, P, instance_of, cells, chains, loops, owes, owing, remembers};
+ghost use Rattle.vx_sound_preds.specs.Bodies.{GoodBodies, BodiesSayNow, UnfoldsNothing};
+ghost use Rattle.vx_sound_preds.specs.Examples.{f, P, instance_of, cell, cells, chain, chains, loops, owes, owing, remembers};
 ghost use Rattle.vx_sound_preds.specs.Covered.{Covered, IsProper, BodiesUnfoldNothing, PredicatesPass, IsStocked};
+ghost use Rattle.vx_meaning.specs.Fails.{Fails};
+ghost use Rattle.vx_sound.specs.Law.{Passes};
 ghost use Rattle.vx_smt_meaning.specs.declared.reply.Reply.{Reply};
 
 /// What lies inside an instance is the same for all fuel that suffices, and so is the tree of its values; where the one is
@@ -48,6 +50,13 @@ pub fn typed_bodies_are_good()
     ensures good { (p : Program) → IsTypedProgram p → BodiesSayNow p → GoodBodies p }
     ensures remembers_typed { IsTypedProgram remembers }
     ensures remembers_bad { GoodBodies remembers → ⊥ }
+{}
+
+/// A predicate whose walk passed, with right unsat replies, doesn't fail, if its body has no `unfolding`.
+pub fn passed_predicates_never_fail()
+    ensures sound { (p : Program) (i : Name) (d : Predicate) (replies : List Reply) → IsTypedProgram p → BodiesSayNow p → ((a : Assertion) → d.body ≡ Some a → UnfoldsNothing a) → predicate_named p i ≡ Some d → Passes p i (IsPredicate d) replies → Fails p i (IsPredicate d) → ⊥ }
+    ensures cells { Fails cells P (IsPredicate cell) → ⊥ }
+    ensures chains { Fails chains P (IsPredicate chain) → ⊥ }
 {}
 
 /// Where the walk of each predicate that x leads to passed, with right unsat replies, and none of their bodies has an
