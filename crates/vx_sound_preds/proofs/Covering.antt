@@ -80,6 +80,10 @@ instance_fits p m c at i es share vs v x g h hx least =
     tested : Bool → Checked (run.Resource × Fraction)
     tested b = guard at b >>= λ _. Ok (run.Folded record { predicate = i; arguments = vs }, x)
 
+-- one part after the other is added
+both_add : (p : Program) (a b : Assertion) (c u v : run.State) → Eventually (λ m. add p (deeper p m) full a c ≡ Ok u) → Eventually (λ m. add p (deeper p m) full b u ≡ Ok v) → Eventually (λ m. add p (deeper p m) full (Both a b) c ≡ Ok v)
+both_add p a b c u v f g = both_eventually f g (λ n g h. bind_ok (λ u. add p (deeper p n) full b u) u g ∙ h)
+
 module _ (means : Meaning) (p : Program) where
   pub loose_after : {scope mid : Scope} {i : Interpretation} {n : ℕ} {d on : Going} {b c : run.State} (g : LooseGoes means p mid i n d b) → LooseGoes means p scope g.interp g.state.next on c → LooseGoes means p scope i n on c
   loose_after g r = record {
@@ -98,6 +102,15 @@ module _ (means : Meaning) (p : Program) where
     pub store : result.store ≡ c.store
     pub heap : result.heap ≡ c.heap
     pub goes : LooseGoes means p scope i n on result
+
+  join_added : {scope : Scope} {i : Interpretation} {n : ℕ} {after on : Going} {c : run.State} {a b : Assertion} (r : Added scope i n after c a) → Added scope r.goes.interp r.goes.state.next on r.result b → Added scope i n on c (Both a b)
+  join_added {c = c} {a = a} {b = b} r q = record {
+    result = q.result;
+    adds = both_add p a b c r.result q.result r.adds q.adds;
+    store = q.store ∙ r.store;
+    heap = q.heap ∙ r.heap;
+    goes = loose_after r.goes q.goes;
+  }
 
   module _ (o : Outer) where
     -- what is shown of a body that is produced: b has the variables and the heap, where its entries are read
@@ -142,13 +155,7 @@ module _ (means : Meaning) (p : Program) where
         let after = λ (s1 : rules.State). produce p o b whole_amount None s1 on in
         let r = on_a scope v c xs.it t.0 f.0 pl.0 x y xs.is (no_null_left xs.it ys.it whole) i s after st m in
         let q = on_b scope v r.result ys.it t.1 f.1 pl.1 (x ∙ sym r.store) (y ∙ sym r.heap) ys.is (no_null_right xs.it ys.it whole) r.goes.interp r.goes.state on r.goes.stands r.goes.cleared in
-        record {
-          result = q.result;
-          adds = both_eventually r.adds q.adds (λ n g h. bind_ok (λ u. add p (deeper p n) full b u) r.result g ∙ h);
-          store = q.store ∙ r.store;
-          heap = q.heap ∙ r.heap;
-          goes = loose_after r.goes q.goes;
-        }
+        join_added r q
 
     -- an amount that is known
     record Worth (i : Interpretation) (t : Term) (v : Value) : Type 0 where

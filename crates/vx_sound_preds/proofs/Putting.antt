@@ -237,15 +237,6 @@ module _ (means : Meaning) (p : Program) where
         sign = λ l. le-trans (st.sign l) (grows r q c.holdings l sign);
       }
 
-      matching : List Candidate
-      matching = chosen true new 0 s.heap
-
-      after : rules.State
-      after = rules.with_heap (put_over (chosen true new 0 s.heap) new s.heap) s
-
-      facts_at : Bool → List Term
-      facts_at b = cond new.is_field (field_facts b (chosen true new 0 s.heap) new s.heap) (instance_facts (chosen true new 0 s.heap) new)
-
       put_in : (b : Bool) → b ≡ false → Loose means p scope i (rules.with_facts (cond new.is_field (field_facts b (chosen true new 0 s.heap) new s.heap) (instance_facts (chosen true new 0 s.heap) new)) (rules.with_heap (put_over (chosen true new 0 s.heap) new s.heap) s)) (with_more r q c)
       put_in true e = cc
       put_in false e = loose_facts (cond new.is_field (field_facts false (chosen true new 0 s.heap) new s.heap) (instance_facts (chosen true new 0 s.heap) new)) (rules.with_heap (put_over (chosen true new 0 s.heap) new s.heap) s)
