@@ -52,6 +52,14 @@ pub fn typed_bodies_are_good()
     ensures remembers_bad { GoodBodies remembers → ⊥ }
 {}
 
+/// Bodies that are good, one of them recursive, and the two refused bodies, which aren't.
+pub fn some_bodies_are_good()
+    ensures cells { GoodBodies cells }
+    ensures chains { GoodBodies chains }
+    ensures loops { GoodBodies loops → ⊥ }
+    ensures owes { GoodBodies owes → ⊥ }
+{}
+
 /// A predicate whose walk passed, with right unsat replies, doesn't fail, if its body has no `unfolding`.
 pub fn passed_predicates_never_fail()
     ensures sound { (p : Program) (i : Name) (d : Predicate) (replies : List Reply) → IsTypedProgram p → BodiesSayNow p → ((a : Assertion) → d.body ≡ Some a → UnfoldsNothing a) → predicate_named p i ≡ Some d → Passes p i (IsPredicate d) replies → Fails p i (IsPredicate d) → ⊥ }
@@ -68,16 +76,8 @@ pub fn passed_bodies_are_covered()
     ensures proper { IsProper chains P [] (instance_of 1) }
 {}
 
-/// Bodies that are good, one of them recursive, and the two refused bodies, which aren't.
-pub fn some_bodies_are_good()
-    ensures cells { GoodBodies cells }
-    ensures chains { GoodBodies chains }
-    ensures loops { GoodBodies loops → ⊥ }
-    ensures owes { GoodBodies owes → ⊥ }
-{}
-
 /// Then any change of the heap where nothing is held leaves a state that can be, and each instance that is held with its tree,
-/// if what is held is of typed instances of these predicates and nothing is owed.
+/// if what is held is of typed instances of these predicates and nothing is owed: instances look only at what they hold.
 pub fn changes_keep_what_is_held()
     ensures consistent { (p : Program) (x : Name) (replies : Name → List Reply) → IsTypedProgram p → BodiesSayNow p → BodiesUnfoldNothing p x → PredicatesPass p x replies → (s : State) (g : Heap) → IsConsistent p s → IsStocked p x s.holdings → Changes p s g → IsConsistent p (with_heap g s) }
     ensures trees { (p : Program) (x : Name) (replies : Name → List Reply) → IsTypedProgram p → BodiesSayNow p → BodiesUnfoldNothing p x → PredicatesPass p x replies → (s : State) (g : Heap) → IsConsistent p s → IsStocked p x s.holdings → Changes p s g → (i : Instance) (t : Tree) → is_positive (amount s.holdings (Folded i)) ≡ true → IsTree p s.heap i t → IsTree p g i t }
