@@ -6,26 +6,19 @@ use Rattle.vx_frac.specs.Fractions.{Fraction, none, sum, product}
 use Rattle.vx_ast.specs.Syntax.{Name, Program, Expr, Exprs, Assertion, Pure, Points, Both, Implied, Chosen, place_of}
 use Rattle.vx_ast.specs.Syntax as syntax
 use Rattle.vx_meaning.specs.Values.{Value, IntValue, BoolValue, RefValue, PermValue, is_true}
-use Rattle.vx_meaning.specs.States.{State, Store, Heap, Holdings, Location, Instance, Resource, At, Folded, same_resource, amount, gained, with_holdings}
+use Rattle.vx_meaning.specs.States.{State, Heap, Holdings, Location, Instance, Resource, At, Folded, same_resource, amount, gained, with_holdings}
 use Rattle.vx_meaning.specs.Evaluate as plain
 use Rattle.vx_meaning.specs.Evaluate.{value, values}
 use Rattle.vx_meaning.specs.Flatten.{no_applications, entries, location_entry, instance_entry, IsGrounded}
 use Rattle.vx_meaning.specs.Fits.{Checked, Deeper, choose, location_of, amount_of, fit, fit_all, field_part, instance_part, add, add_part}
 use Rattle.vx_amounts.proofs.Amounts.{Le, Positive, Same, same-refl, same-sym, same-trans, le-trans, sum_same, none-sum, sum_comm, sum_assoc, none-none, positive-le, add-right}
 use Rattle.vx_amounts.proofs.Products.{product_sum, product_assoc, product-none, product_sign}
-use Rattle.vx_sound_preds.proofs.Fitting.{IsPlain, ArePlain, undo, step, some_is, Opens, fit_framed, fit_all_framed}
+use Rattle.vx_sound_preds.specs.Bodies.{Rigid, IsPlain, ArePlain, IsPlainBody}
+use Rattle.vx_sound_preds.proofs.Fitting.{undo, step, some_is, Opens, fit_framed, fit_all_framed}
 use Rattle.vx_sound_preds.proofs.Flats.{came}
 use Rattle.vx_sound_preds.proofs.Totals.{weigh, same_is}
-use Rattle.vx_sound_preds.proofs.Grouped.{IsRigid, IsSingle, AreSingle, NoDebts, resource_is}
-use Rattle.vx_sound_preds.proofs.Framing.{IsPlainBody, Known, field_parts, instance_parts, agrees_itself, entries_seen, ok_same, failed}
-
--- the values of the variables are no amounts
-abbrev pub RigidStore : Store → Type 0
-RigidStore [] = Unit {0}
-RigidStore (e ∷ rest) = IsRigid e.1 × RigidStore rest
-
-abbrev pub Rigid : State → Type 0
-Rigid s = RigidStore s.store
+use Rattle.vx_sound_preds.proofs.Grouped.{IsSingle, AreSingle, NoDebts, resource_is}
+use Rattle.vx_sound_preds.proofs.Framing.{Known, field_parts, instance_parts, agrees_itself, entries_seen, ok_same, failed}
 
 -- of nothing less than none is held, and no instance has an amount among its arguments
 abbrev pub Sound : State → Type 0

@@ -7,11 +7,13 @@ use Rattle.vx_meaning.specs.States.{State, Heap, Holdings, Location, Instance, R
 use Rattle.vx_meaning.specs.Flatten.{flat, IsGrounded}
 use Rattle.vx_meaning.specs.Consistent.{total, Changes, IsConsistent}
 use Rattle.vx_amounts.proofs.Amounts.{Le, Positive, Same, same-refl, same-sym, same-trans, le-refl, le-trans, le-is, sum_same, product_same, not-positive, positive-or}
+use Rattle.vx_sound_preds.specs.Covered.{Covered}
+use Rattle.vx_sound_preds.specs.Bodies.{GoodBodies}
 use Rattle.vx_sound_preds.proofs.Flats.{flat_later}
 use Rattle.vx_sound_preds.proofs.Totals.{weigh, weigh_none, weight, total_weighs, same_is}
 use Rattle.vx_sound_preds.proofs.Grouped.{IsSingle, AreSingle, NoDebts, resource_is, others, split, others_single, others_no_debts, others_amount, others_none, shorter, none-product}
-use Rattle.vx_sound_preds.proofs.Exchanging.{GoodBodies, no_negatives, grown, held_rigid}
-use Rattle.vx_sound_preds.proofs.Frames.{Covered, SameAt, framed_at}
+use Rattle.vx_sound_preds.proofs.Exchanging.{no_negatives, grown, held_rigid}
+use Rattle.vx_sound_preds.proofs.Frames.{SameAt, framed_at}
 use Rattle.vx_sound_preds.proofs.Folding.{Stock, held_inside}
 
 -- weights that are the same for all of which anything is held weigh the same

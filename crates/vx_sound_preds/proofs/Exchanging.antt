@@ -14,16 +14,13 @@ use Rattle.vx_meaning.specs.Fits.{Checked, ◌>>=◌, Deeper, to_option, has_ins
 use Rattle.vx_terms.proofs.Same.{and_parts}
 use Rattle.vx_amounts.proofs.Amounts.{Le, Positive, Same, same-refl, same-sym, same-trans, le-refl, le-trans, le-is, sum_same, product_same, none-sum, sum-minus, sum_comm, sum_assoc, positive-le, not-positive, add-below, minus_none, difference-none}
 use Rattle.vx_amounts.proofs.Products.{product_dist, product_comm, product-none, positive_le}
+use Rattle.vx_sound_preds.specs.Bodies.{AreRigid, RigidStore, Rigid, IsPlainBody, GoodBodies}
 use Rattle.vx_sound_preds.proofs.Fitting.{step, some_is, Keeps, Opens}
 use Rattle.vx_sound_preds.proofs.Flats.{came, flat_more, flat_later}
 use Rattle.vx_sound_preds.proofs.Totals.{weigh, same_is, weight, total_weighs, weight_of_body, weight_grows, AtLeastNone, NoNegatives}
-use Rattle.vx_sound_preds.proofs.Grouped.{AreRigid, IsSingle, AreSingle, NoDebts, resource_is, weigh_grows}
-use Rattle.vx_sound_preds.proofs.Framing.{IsPlainBody, entries_seen}
-use Rattle.vx_sound_preds.proofs.Adding.{RigidStore, Rigid, Sound, Grounded, Fine, IsEntry, AreEntries, added, weigh_added, add_adds}
-
--- the bodies of predicates are as typing leaves them
-pub record GoodBodies (p : Program) : Type 0 where
-  pub plain : (i : Name) (d : Predicate) (e : Assertion) → predicate_named p i ≡ Some d → d.body ≡ Some e → IsPlainBody p Rigid e
+use Rattle.vx_sound_preds.proofs.Grouped.{IsSingle, AreSingle, NoDebts, resource_is, weigh_grows}
+use Rattle.vx_sound_preds.proofs.Framing.{above_none, entries_seen}
+use Rattle.vx_sound_preds.proofs.Adding.{Sound, Grounded, Fine, IsEntry, AreEntries, added, weigh_added, add_adds}
 
 -- The amounts of a body's entries
 
@@ -62,11 +59,11 @@ module _ (p : Program) (h : Heap) (l : Location) where
       truth_least (is_true y.it) es y.then
   entries_least s (Points at e f share) es k eq =
       let y = came (value p no_applications s e) (λ r. option_and_then (location_entry f r) (value p no_applications s share)) es eq in
-      location_least f y.it k.1.amount es k.1.positive (sym (step (location_entry f y.it) (PermValue k.1.amount) (k.1.value_is s)) ∙ y.then)
+      location_least f y.it k.1.amount es (above_none k.1) (sym (step (location_entry f y.it) (PermValue k.1.amount) (k.1.value_is s)) ∙ y.then)
   entries_least s (syntax.Instance at i xs share) es k eq =
       let y = came (values p no_applications s xs) (λ vs. option_and_then (instance_entry i vs) (value p no_applications s share)) es eq in
       let e = sym (step (instance_entry i y.it) (PermValue k.1.amount) (k.1.value_is s)) ∙ y.then in
-      subst (AtLeastNone p h l) (some_is ((Folded record { predicate = i; arguments = y.it }, k.1.amount) ∷ []) es e) (positive_le k.1.positive, tt)
+      subst (AtLeastNone p h l) (some_is ((Folded record { predicate = i; arguments = y.it }, k.1.amount) ∷ []) es e) (positive_le (above_none k.1), tt)
   entries_least s (Both a b) es k eq =
       let y = came (entries p s a) (λ xs. option_and_then (λ ys. Some (xs ++ ys)) (entries p s b)) es eq in
       let z = came (entries p s b) (λ ys. Some (y.it ++ ys)) es y.then in

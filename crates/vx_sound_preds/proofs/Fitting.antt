@@ -12,24 +12,7 @@ use Rattle.vx_meaning.specs.Flatten.{no_applications}
 use Rattle.vx_meaning.specs.Consistent.{IsHeld}
 use Rattle.vx_meaning.specs.Fits.{Checked, ◌>>=◌, or_fail, guard, Deeper, choose, connected, location_of, amount_of, readable, has_instance, fit, fit_all}
 use Rattle.vx_sound.proofs.Chunks.{held_directly}
-
--- what the bodies of predicates are made of: no application, and no `old`
-abbrev mutual
-  pub IsPlain : Expr → Type 0
-  IsPlain (Not at e) = IsPlain e
-  IsPlain (Operate at op a b) = IsPlain a × IsPlain b
-  IsPlain (Divide at op a b) = IsPlain a × IsPlain b
-  IsPlain (Connect at c a b) = IsPlain a × IsPlain b
-  IsPlain (Choose at c a b) = IsPlain c × IsPlain a × IsPlain b
-  IsPlain (Read at e f) = IsPlain e
-  IsPlain (Old at e) = ⊥
-  IsPlain (Apply at f es) = ⊥
-  IsPlain (Unfolding at i es share e) = ArePlain es × IsPlain share × IsPlain e
-  IsPlain _ = Unit {0}
-
-  pub ArePlain : Exprs → Type 0
-  ArePlain NoMore = Unit {0}
-  ArePlain (More e es) = IsPlain e × ArePlain es
+use Rattle.vx_sound_preds.specs.Bodies.{IsPlain, ArePlain}
 
 -- Undoing checks
 

@@ -7,13 +7,15 @@ use Rattle.vx_meaning.specs.Flatten.{IsGrounded}
 use Rattle.vx_meaning.specs.Consistent.{total, IsHeld, Changes}
 use Rattle.vx_amounts.proofs.Amounts.{Le, Positive, le-trans, le-is, none-none, positive-le, not-positive, above-add, add-full}
 use Rattle.vx_sound.proofs.Chunks.{location_same}
+use Rattle.vx_sound_preds.specs.Covered.{Covered}
+use Rattle.vx_sound_preds.specs.Bodies.{GoodBodies}
 use Rattle.vx_sound_preds.specs.Snapshots.{tree_by, IsTree}
 use Rattle.vx_amounts.proofs.Products.{product-full, product_positive, product-none}
 use Rattle.vx_sound_preds.proofs.Flats.{flat_later, tree_later}
 use Rattle.vx_sound_preds.proofs.Totals.{weigh, weigh_none, weigh_more, weight, total_weighs, weight_sign}
 use Rattle.vx_sound_preds.proofs.Grouped.{AreSingle, NoDebts, others, split, others_single, others_no_debts, others_amount, weigh_grows}
-use Rattle.vx_sound_preds.proofs.Exchanging.{GoodBodies, no_negatives, held_rigid}
-use Rattle.vx_sound_preds.proofs.Frames.{Covered, framed_at}
+use Rattle.vx_sound_preds.proofs.Exchanging.{no_negatives, held_rigid}
+use Rattle.vx_sound_preds.proofs.Frames.{framed_at}
 
 -- what is held, where each instance held is grounded
 pub record Stock (p : Program) (h : Heap) (hs : Holdings) : Type 0 where

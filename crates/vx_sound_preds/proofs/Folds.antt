@@ -13,15 +13,16 @@ use Rattle.vx_meaning.specs.Consistent.{total, IsConsistent}
 use Rattle.vx_meaning.specs.Fits.{take, deeper}
 use Rattle.vx_terms.specs.Interpretations.{Tree, Empty, Pair}
 use Rattle.vx_amounts.proofs.Amounts.{Le, Positive, Same, same-refl, same-trans, le-trans, le-is, sum_same, product_same, none-none}
+use Rattle.vx_sound_preds.specs.Bodies.{AreRigid, Rigid, GoodBodies}
 use Rattle.vx_sound_preds.specs.Snapshots.{leaf, location_leaf, truth_leaf, assertion_tree, body_tree, tree_by}
 use Rattle.vx_amounts.proofs.Products.{positive_le}
 use Rattle.vx_sound_preds.proofs.Fitting.{step, some_is}
 use Rattle.vx_sound_preds.proofs.Flats.{came, flat_more, flat_later, inner_more}
 use Rattle.vx_sound_preds.proofs.Totals.{weigh, weigh_more, same_is, weight, total_weighs, weight_of_body}
-use Rattle.vx_sound_preds.proofs.Grouped.{AreRigid, IsSingle, resource_is}
+use Rattle.vx_sound_preds.proofs.Grouped.{IsSingle, resource_is}
 use Rattle.vx_sound_preds.proofs.Framing.{entries_seen}
-use Rattle.vx_sound_preds.proofs.Adding.{Rigid, Fine, AreEntries}
-use Rattle.vx_sound_preds.proofs.Exchanging.{GoodBodies, no_negatives, grown, entered_fine, all_open}
+use Rattle.vx_sound_preds.proofs.Adding.{Fine, AreEntries}
+use Rattle.vx_sound_preds.proofs.Exchanging.{no_negatives, grown, entered_fine, all_open}
 use Rattle.vx_sound_preds.proofs.Folding.{Stock}
 use Rattle.vx_sound_preds.proofs.Taking.{taken, weigh_taken, take_takes}
 

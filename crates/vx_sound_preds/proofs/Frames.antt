@@ -1,6 +1,6 @@
 -- Frames of instances: what is inside, and the tree, look only where something is held.
 use Rattle.std.proofs.Common.{◌≡◌, ℕ, zero, suc, ◌+◌, Bool, true, false, cond, [], ◌∷◌, ◌++◌, Option, Some, None, refl, sym, ◌∙◌, ap, ap₂, subst, arith}
-use Rattle.std.specs.Prelude.{Ok, option_and_then}
+use Rattle.std.specs.Prelude.{option_and_then}
 use Rattle.vx_frac.specs.Fractions.{Fraction, none, full, at_most, sum, product}
 use Rattle.vx_ast.specs.Syntax.{Name, Program, Predicate, Declaration, Assertion, Pure, Points, Both, Implied, Chosen, predicate_named}
 use Rattle.vx_ast.specs.Syntax as syntax
@@ -8,21 +8,23 @@ use Rattle.vx_meaning.specs.Values.{Value, IntValue, BoolValue, RefValue, PermVa
 use Rattle.vx_meaning.specs.States.{State, Heap, Holdings, Location, Instance, Resource, At, Folded, same_resource, amount, gained, scaled, bind, value_at}
 use Rattle.vx_meaning.specs.Evaluate as plain
 use Rattle.vx_meaning.specs.Evaluate.{value, values}
-use Rattle.vx_meaning.specs.Flatten.{no_applications, bare, entries, location_entry, instance_entry, body_entries, with_inner, flat, IsGrounded}
+use Rattle.vx_meaning.specs.Flatten.{no_applications, bare, entries, location_entry, instance_entry, body_entries, with_inner, flat}
 use Rattle.vx_meaning.specs.Consistent.{total, IsHeld}
-use Rattle.vx_meaning.specs.Fits.{add, deeper}
+use Rattle.vx_meaning.specs.Fits.{deeper}
 use Rattle.vx_terms.specs.Interpretations.{Tree, Empty}
 use Rattle.vx_amounts.proofs.Amounts.{Le, Positive, Same, same-trans, le-refl, le-trans, sum_same, none-sum, sum_comm, none-none, positive-le, not-positive, above-add, below-add, full-positive, none-full}
 use Rattle.vx_sound.proofs.Chunks.{location_same, held_directly}
+use Rattle.vx_sound_preds.specs.Covered.{AllGood, Covered}
+use Rattle.vx_sound_preds.specs.Bodies.{AreRigid, Rigid, IsPlainBody, GoodBodies}
 use Rattle.vx_sound_preds.specs.Snapshots.{assertion_tree, body_tree, tree_by}
 use Rattle.vx_amounts.proofs.Products.{product-full, product_comm, product_sign, product_positive, positive_le}
 use Rattle.vx_sound_preds.proofs.Fitting.{step, some_is, Agrees}
 use Rattle.vx_sound_preds.proofs.Flats.{came, flat_later, inner_more}
 use Rattle.vx_sound_preds.proofs.Totals.{weigh, weigh_none, same_is, weight, total_weighs, inner_weighs, weight_of_body, weight_sign, weigh_sign, AtLeastNone}
-use Rattle.vx_sound_preds.proofs.Grouped.{AreRigid, IsSingle, AreSingle, NoDebts, resource_is, resource_self}
-use Rattle.vx_sound_preds.proofs.Framing.{IsPlainBody, Gains, framed}
-use Rattle.vx_sound_preds.proofs.Adding.{Rigid, Sound, Grounded, Fine, AreEntries, added, weigh_added, add_adds}
-use Rattle.vx_sound_preds.proofs.Exchanging.{GoodBodies, no_negatives, opened, held_grows, bound_rigid, all_open}
+use Rattle.vx_sound_preds.proofs.Grouped.{IsSingle, AreSingle, NoDebts, resource_is, resource_self}
+use Rattle.vx_sound_preds.proofs.Framing.{above_none, Gains, framed}
+use Rattle.vx_sound_preds.proofs.Adding.{Sound, Grounded, Fine, AreEntries, added, weigh_added, add_adds}
+use Rattle.vx_sound_preds.proofs.Exchanging.{no_negatives, opened, held_grows, bound_rigid, all_open}
 
 -- what an amount that is gained does
 module _ (p : Program) (good : GoodBodies p) (q : Fraction) (scale : Positive q) where
@@ -74,7 +76,7 @@ abbrev pub AllPositive : Holdings → Type 0
 AllPositive [] = Unit {0}
 AllPositive (x ∷ xs) = Positive x.1 × AllPositive xs
 
-positive_least : (p : Program) (h : Heap) (l : Location) (xs : Holdings) → AllPositive xs → AtLeastNone p h l xs
+pub positive_least : (p : Program) (h : Heap) (l : Location) (xs : Holdings) → AllPositive xs → AtLeastNone p h l xs
 positive_least p h l [] k = tt
 positive_least p h l (x ∷ xs) k = (positive_le k.0, positive_least p h l xs k.1)
 
@@ -109,11 +111,11 @@ module _ (p : Program) where
       truth_positive (is_true y.it) es y.then
   entries_positive s (Points at e f share) es k eq =
       let y = came (value p no_applications s e) (λ r. option_and_then (location_entry f r) (value p no_applications s share)) es eq in
-      location_positive f y.it k.1.amount es k.1.positive (sym (step (location_entry f y.it) (PermValue k.1.amount) (k.1.value_is s)) ∙ y.then)
+      location_positive f y.it k.1.amount es (above_none k.1) (sym (step (location_entry f y.it) (PermValue k.1.amount) (k.1.value_is s)) ∙ y.then)
   entries_positive s (syntax.Instance at i xs share) es k eq =
       let y = came (values p no_applications s xs) (λ vs. option_and_then (instance_entry i vs) (value p no_applications s share)) es eq in
       let e = sym (step (instance_entry i y.it) (PermValue k.1.amount) (k.1.value_is s)) ∙ y.then in
-      subst (AllPositive) (some_is ((Folded record { predicate = i; arguments = y.it }, k.1.amount) ∷ []) es e) (k.1.positive, tt)
+      subst (AllPositive) (some_is ((Folded record { predicate = i; arguments = y.it }, k.1.amount) ∷ []) es e) ((above_none k.1), tt)
   entries_positive s (Both a b) es k eq =
       let y = came (entries p s a) (λ xs. option_and_then (λ ys. Some (xs ++ ys)) (entries p s b)) es eq in
       let z = came (entries p s b) (λ ys. Some (y.it ++ ys)) es y.then in
@@ -135,17 +137,6 @@ full-product a = subst (λ (x : Fraction). Same x a) (product_comm a full) (prod
 
 sum-none : (a : Fraction) → Same (sum a none) a
 sum-none a = same-trans (sum_comm a none) (none-sum a)
-
--- Premises: which instances are looked at, and that their bodies fit from left to right with what they give.
-abbrev pub AllGood : (Heap → Instance → Type 0) → Heap → Holdings → Type 0
-AllGood Good h [] = Unit {0}
-AllGood Good h ((At l, a) ∷ xs) = AllGood Good h xs
-AllGood Good h ((Folded j, a) ∷ xs) = Good h j × AllGood Good h xs
-
-pub record Covered (p : Program) (Good : Heap → Instance → Type 0) : Type 0 where
-  pub fits : (h : Heap) (i : Instance) (d : Predicate) (e : Assertion) → predicate_named p i.predicate ≡ Some d → d.body ≡ Some e → Good h i → IsGrounded p h i →
-      (m : ℕ) × (u : State) × (add p (deeper p m) full e (bare (bind d.parameters i.arguments) h) ≡ Ok u)
-  pub inside : (h : Heap) (i : Instance) (es : Holdings) → Good h i → option_and_then (λ d. body_entries p h i.arguments d) (predicate_named p i.predicate) ≡ Some es → AllGood Good h es
 
 -- the same is inside, and the tree is the same
 pub record SameAt (p : Program) (n : ℕ) (h g : Heap) (i : Instance) : Type 0 where

@@ -14,26 +14,14 @@ use Rattle.vx_meaning.specs.Consistent.{IsHeld}
 use Rattle.vx_meaning.specs.Fits.{Checked, ◌>>=◌, or_fail, guard, Deeper, choose, location_of, amount_of, fit, fit_all, field_part, instance_part, add, add_part}
 use Rattle.vx_terms.specs.Interpretations.{Tree, Empty, Pair}
 use Rattle.vx_amounts.proofs.Amounts.{Positive}
+use Rattle.vx_sound_preds.specs.Bodies.{AreRigid, IsAmount, IsPlainBody}
 use Rattle.vx_sound_preds.specs.Snapshots.{leaf, location_leaf, truth_leaf, assertion_tree}
-use Rattle.vx_sound_preds.proofs.Grouped.{AreRigid, IsSingle}
+use Rattle.vx_sound_preds.proofs.Grouped.{IsSingle}
 use Rattle.vx_sound_preds.proofs.Looks.{Sees, value_seen, values_seen}
-use Rattle.vx_sound_preds.proofs.Fitting.{IsPlain, ArePlain, undo, not_failed, guarded, step, some_is, Agrees, Opens, fit_framed, fit_all_framed}
+use Rattle.vx_sound_preds.proofs.Fitting.{undo, not_failed, guarded, step, some_is, Agrees, Opens, fit_framed, fit_all_framed}
 
--- an amount of a body: one fraction above none, whatever the state
-pub record IsAmount (p : Program) (share : Expr) : Type 0 where
-  pub plain : IsPlain share
-  pub amount : Fraction
-  pub positive : Positive amount
-  pub value_is : (s : State) → value p no_applications s share ≡ Some (PermValue amount)
-
--- the body of a predicate, where T says which states have values of their types; an instance's arguments are no amounts
-abbrev pub IsPlainBody : Program → (State → Type 0) → Assertion → Type 0
-IsPlainBody p T (Pure e) = IsPlain e
-IsPlainBody p T (Points at e f share) = IsPlain e × IsAmount p share
-IsPlainBody p T (syntax.Instance at i es share) = ArePlain es × IsAmount p share × ((s : State) (vs : List Value) → T s → values p no_applications s es ≡ Some vs → AreRigid vs)
-IsPlainBody p T (Both a b) = IsPlainBody p T a × IsPlainBody p T b
-IsPlainBody p T (Implied c a) = IsPlain c × IsPlainBody p T a
-IsPlainBody p T (Chosen c a b) = IsPlain c × IsPlainBody p T a × IsPlainBody p T b
+pub above_none : {p : Program} {share : Expr} (k : IsAmount p share) → Positive k.amount
+above_none k = record { holds = k.above }
 
 -- What is known of states: T of their values, F of what is held, which goes on with more, and B, which goes back to less.
 pub record Known (T F B : State → Type 0) (s : State) : Type 0 where
@@ -289,7 +277,7 @@ module _ (p : Program) (T F B : State → Type 0) (d : Deeper) (opens : Opens p 
         let ws = fit_framed p (Known T F B) d opens s s h (agrees_itself p s) share y.worth k.1.plain y.worth_is in
         let wt = fit_framed p (Known T F B) d opens s t h to share y.worth k.1.plain y.worth_is in
         let am = amount_same y.worth y.amount k.1.amount y.amount_is (sym ws ∙ k.1.value_is s) in
-        let positive = subst Positive (sym am) k.1.positive in
+        let positive = subst Positive (sym am) (above_none k.1) in
         let here = gains.at s y.location y.amount h.forth positive in
         let u_is = part_is s u (At y.location) y.amount b.it y.is b.then in
         let there = subst (λ (u : State). IsHeld p u.heap u.holdings y.location) u_is here in
@@ -312,7 +300,7 @@ module _ (p : Program) (T F B : State → Type 0) (d : Deeper) (opens : Opens p 
         let ws = fit_framed p (Known T F B) d opens s s h (agrees_itself p s) share y.worth k.1.plain y.worth_is in
         let wt = fit_framed p (Known T F B) d opens s t h to share y.worth k.1.plain y.worth_is in
         let am = amount_same y.worth y.amount k.1.amount y.amount_is (sym ws ∙ k.1.value_is s) in
-        let positive = subst Positive (sym am) k.1.positive in
+        let positive = subst Positive (sym am) (above_none k.1) in
         let here = gains.in_it s (inst y.arguments) y.amount h.forth (k.2 s y.arguments h.typed vs) positive in
         let u_is = part_is s u (Folded (inst y.arguments)) y.amount b.it y.is b.then in
         let there = subst (λ (u : State). Positive (amount u.holdings (Folded (inst y.arguments)))) u_is here in

@@ -11,8 +11,9 @@ use Rattle.vx_meaning.specs.Outcomes.{Ends, passes, refused, goes_on, is_over, e
 use Rattle.vx_meaning.specs.Give.{give, if_possible, when}
 use Rattle.vx_amounts.proofs.Amounts.{Le, Positive, none-none}
 use Rattle.vx_amounts.proofs.Products.{product_sign, positive_le}
+use Rattle.vx_sound_preds.specs.Bodies.{AreRigid}
 use Rattle.vx_sound_preds.proofs.Fitting.{undo}
-use Rattle.vx_sound_preds.proofs.Grouped.{AreRigid, IsSingle, NoDebts}
+use Rattle.vx_sound_preds.proofs.Grouped.{IsSingle, NoDebts}
 use Rattle.vx_sound_preds.proofs.Framing.{field_parts, instance_parts, ok_same, picked}
 use Rattle.vx_sound_preds.proofs.Adding.{Sound}
 

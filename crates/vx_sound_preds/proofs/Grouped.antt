@@ -14,16 +14,8 @@ use Rattle.vx_elements.proofs.Lists.{name_is}
 use Rattle.vx_sound.proofs.Chunks.{location_same, location_is}
 use Rattle.vx_elements.proofs.Lists.{name_same}
 use Rattle.vx_amounts.proofs.Products.{product_comm, product_dist, product_mono, product-none}
+use Rattle.vx_sound_preds.specs.Bodies.{IsRigid, AreRigid}
 use Rattle.vx_sound_preds.proofs.Totals.{weigh, weigh_none}
-
--- values that are no amounts: those of the parameters of predicates
-abbrev pub IsRigid : Value → Type 0
-IsRigid (PermValue q) = ⊥
-IsRigid _ = Unit {0}
-
-abbrev pub AreRigid : List Value → Type 0
-AreRigid [] = Unit {0}
-AreRigid (v ∷ vs) = IsRigid v × AreRigid vs
 
 abbrev pub IsSingle : Resource → Type 0
 IsSingle (At l) = Unit {0}

@@ -15,13 +15,15 @@ use Rattle.vx_elements.proofs.Elements.{element}
 use Rattle.vx_amounts.proofs.Amounts.{Le, Positive, Same, same-refl, same-sym, same-trans, sum_same, none-sum, sum_comm, sum_assoc, sum-minus, product_same}
 use Rattle.vx_sound.proofs.Stands.{amount_of}
 use Rattle.vx_sound.proofs.Chunks.{location_is}
+use Rattle.vx_sound_preds.specs.Covered.{Covered}
+use Rattle.vx_sound_preds.specs.Bodies.{GoodBodies}
 use Rattle.vx_sound_preds.specs.Snapshots.{tree_by, IsTree}
 use Rattle.vx_amounts.proofs.Products.{product-full, product-none, product_comm, product_dist}
 use Rattle.vx_sound_preds.proofs.Flats.{flat_later, tree_later, tree_single}
 use Rattle.vx_sound_preds.proofs.Totals.{weigh, weigh_more, weight, same_is}
-use Rattle.vx_sound_preds.proofs.Exchanging.{GoodBodies, held_rigid}
+use Rattle.vx_sound_preds.proofs.Exchanging.{held_rigid}
 use Rattle.vx_sound_preds.proofs.Adding.{added, weigh_added}
-use Rattle.vx_sound_preds.proofs.Frames.{Covered, framed_at}
+use Rattle.vx_sound_preds.proofs.Frames.{framed_at}
 use Rattle.vx_sound_preds.proofs.Folding.{Stock, instance_changed, owned_apart}
 use Rattle.vx_sound_preds.proofs.Taking.{taken, weigh_taken}
 use Rattle.vx_sound_preds.proofs.Folds.{tree_of_body}

@@ -15,6 +15,16 @@ pub mod Snaps
 pub mod Gives
 pub mod Instances
 pub mod Lowering
+pub mod Typed
+pub mod Moving
+pub mod Loose
+pub mod Reading
+pub mod Putting
+pub mod Covering
+pub mod Given
+pub mod Types
+pub mod Walks
+pub mod Kept
 pub mod Worked
 pub mod Changes
 pub mod Giving

@@ -6,7 +6,7 @@ use Rattle.vx_meaning.specs.Values.{Value, IntValue, BoolValue, RefValue, PermVa
 use Rattle.vx_meaning.specs.States.{State, Heap, lookup, value_at}
 use Rattle.vx_meaning.specs.Evaluate.{value, values, read, choose, connected}
 use Rattle.vx_meaning.specs.Flatten.{no_applications}
-use Rattle.vx_sound_preds.proofs.Fitting.{IsPlain, ArePlain}
+use Rattle.vx_sound_preds.specs.Bodies.{IsPlain, ArePlain}
 
 pub record Sees (s t : State) : Type 0 where
   pub store : t.store ≡ s.store

@@ -10,11 +10,11 @@ use Rattle.vx_meaning.specs.Consistent.{total, IsConsistent}
 use Rattle.vx_meaning.specs.Fits.{◌>>=◌, guard, Deeper, choose, fit, fit_all, field_part, instance_part, take, take_part}
 use Rattle.vx_amounts.proofs.Amounts.{Le, Positive, Same, same-refl, same-trans, le-refl, le-trans, le-is, add-below, sum-minus, product_same, below-add}
 use Rattle.vx_amounts.proofs.Products.{product_sign, product_dist, product_comm, product-none, positive_le}
+use Rattle.vx_sound_preds.specs.Bodies.{AreRigid, GoodBodies}
 use Rattle.vx_sound_preds.proofs.Fitting.{undo}
 use Rattle.vx_sound_preds.proofs.Totals.{weigh, weigh_more, weight, weight_sign, total_weighs, same_is}
-use Rattle.vx_sound_preds.proofs.Grouped.{AreRigid}
 use Rattle.vx_sound_preds.proofs.Framing.{field_parts, instance_parts, ok_same, picked}
-use Rattle.vx_sound_preds.proofs.Exchanging.{GoodBodies, no_negatives}
+use Rattle.vx_sound_preds.proofs.Exchanging.{no_negatives}
 use Rattle.vx_sound_preds.proofs.Folding.{Stock}
 use Rattle.vx_sound_preds.proofs.Taking.{lost_stock, part_of}
 

@@ -13,11 +13,12 @@ use Rattle.vx_meaning.specs.Flatten.{no_applications, entries, location_entry, i
 use Rattle.vx_meaning.specs.Fits.{Checked, ◌>>=◌, guard, Deeper, choose, location_of, amount_of, fit, field_part, instance_part, take, take_part}
 use Rattle.vx_amounts.proofs.Amounts.{Le, Positive, Same, same-refl, same-sym, same-trans, le-trans, sum_same, product_same, none-sum, sum-minus, sum_comm, sum_assoc, positive-le, add-below, minus_none, difference-none}
 use Rattle.vx_amounts.proofs.Products.{product_comm, product_sum, product_dist, product_assoc, product_sign, product_positive, product-none, positive_le}
+use Rattle.vx_sound_preds.specs.Bodies.{Rigid, IsPlainBody}
 use Rattle.vx_sound_preds.proofs.Fitting.{step, some_is, undo, guarded, Opens}
 use Rattle.vx_sound_preds.proofs.Totals.{weigh, same_is}
 use Rattle.vx_sound_preds.proofs.Grouped.{IsSingle, resource_is}
-use Rattle.vx_sound_preds.proofs.Framing.{IsPlainBody, field_parts, instance_parts, ok_same, amount_same, failed}
-use Rattle.vx_sound_preds.proofs.Adding.{Rigid, Fine, IsEntry, AreEntries, value_here, values_here}
+use Rattle.vx_sound_preds.proofs.Framing.{above_none, field_parts, instance_parts, ok_same, amount_same, failed}
+use Rattle.vx_sound_preds.proofs.Adding.{Fine, IsEntry, AreEntries, value_here, values_here}
 use Rattle.vx_sound_preds.proofs.Folding.{Stock}
 
 -- the entries, scaled, taken one after the other
@@ -146,7 +147,7 @@ module _ (p : Program) (q : Fraction) (scale : Positive q) where
         let part = part_of d s at hs rest (Folded j) y.amount x.it y.is x.then in
         let sign : Le none (product q y.amount) = product_sign (positive_le scale) (record { holds = y.sign }) in
         let am = amount_same y.worth y.amount k.1.amount y.amount_is (sym w ∙ k.1.value_is s) in
-        let positive : Positive (product q y.amount) = product_positive scale (subst Positive (sym am) k.1.positive) in
+        let positive : Positive (product q y.amount) = product_positive scale (subst Positive (sym am) (above_none k.1)) in
         one_taken s.heap s (syntax.Instance at i es share) hs rest (Folded j) y.amount
         (step (λ vs. option_and_then (instance_entry i vs) (value p no_applications s share)) y.arguments r ∙ step (instance_entry i y.arguments) y.worth w ∙ folded_in i y.arguments y.worth y.amount y.amount_is)
         (st.grounded j (positive-le positive part.below))

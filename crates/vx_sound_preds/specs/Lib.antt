@@ -1,2 +1,4 @@
 pub mod Snapshots
+pub mod Bodies
+pub mod Covered
 pub mod Examples
