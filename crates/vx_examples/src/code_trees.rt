@@ -18,6 +18,7 @@ ghost use Rattle.vx_ast.specs.declared.Block as block;
 ghost use Rattle.vx_ast.specs.declared.MemberKind.TheVariants as kind;
 ghost use Rattle.vx_resolved.specs.declared.Operator.TheVariants as operator';
 ghost use Rattle.vx_resolved.specs.declared.Connective.TheVariants as connective';
+ghost use Rattle.vx_resolved.specs.declared.Division.TheVariants as division';
 ghost use Rattle.vx_resolved.specs.declared.Expr as expr';
 ghost use Rattle.vx_resolved.specs.declared.Assertion as assertion';
 ghost use Rattle.vx_resolved.specs.declared.Declaration as declaration';
@@ -94,6 +95,16 @@ pub fn settled_trees()
     ensures connectives { Computes resolved.connective of_settled_connectives }
     ensures number { resolved.expr (expr'.Number (at 1 1) 3) ≡ syntax.Number (at 1 1) 3 }
     ensures truth { resolved.expr (expr'.Truth (at 1 1) true) ≡ syntax.Truth (at 1 1) true }
+    ensures null { resolved.expr (expr'.Null (at 1 1)) ≡ syntax.Null (at 1 1) }
+    ensures part { resolved.expr (expr'.Part (at 1 1) 1 2) ≡ syntax.Part (at 1 1) 1 2 }
+    ensures divided { (p q : _) (a b : expr'.Expr) → resolved.expr (expr'.Divide' (at 1 1) division'.Remainder p a q b) ≡ syntax.Divide (at 1 1) syntax.Remainder (resolved.expr a) (resolved.expr b) }
+    ensures read { (p : _) (e : expr'.Expr) (x : Rc (String Global) Global) → resolved.expr (expr'.Read' (at 1 1) p e x) ≡ syntax.Read (at 1 1) (resolved.expr e) (string_bytes x.value) }
+    ensures old { (p : _) (e : expr'.Expr) → resolved.expr (expr'.Old' (at 1 1) p e) ≡ syntax.Old (at 1 1) (resolved.expr e) }
+    ensures points { (e share : Rc expr'.Expr Global) (x : Rc (String Global) Global) → resolved.assertion (assertion'.Points (at 1 1) e x share) ≡ syntax.Points (at 1 1) (resolved.expr e.value) (string_bytes x.value) (resolved.expr share.value) }
+    ensures implied_part { (p : _) (c : Rc expr'.Expr Global) (a : assertion'.Assertion) → resolved.assertion (assertion'.Implied' c p a) ≡ syntax.Implied (resolved.expr c.value) (resolved.assertion a) }
+    ensures chosen_part { (p q : _) (c : Rc expr'.Expr Global) (a b : assertion'.Assertion) → resolved.assertion (assertion'.Chosen' c p a q b) ≡ syntax.Chosen (resolved.expr c.value) (resolved.assertion a) (resolved.assertion b) }
+    ensures written { (e v : Rc expr'.Expr Global) (x : Rc (String Global) Global) → resolved.stmt (stmt'.Write (at 1 1) e x v) ≡ syntax.Write (at 1 1) (resolved.expr e.value) (string_bytes x.value) (resolved.expr v.value) }
+    ensures looped { (p : _) (c : Rc expr'.Expr Global) (is : _) (b : block'.Block) → resolved.stmt (stmt'.While' (at 1 1) c is p b) ≡ syntax.While (at 1 1) (resolved.expr c.value) (resolved.assertions (vec_items is)) (resolved.block b) }
     ensures variable { (x : Rc (String Global) Global) → resolved.expr (expr'.Variable (at 1 1) x) ≡ syntax.Variable (at 1 1) (string_bytes x.value) }
     ensures negated { (p : _) (e : expr'.Expr) → resolved.expr (expr'.Not' (at 1 1) p e) ≡ syntax.Not (at 1 1) (resolved.expr e) }
     ensures sum { (p q : _) (a b : expr'.Expr) → resolved.expr (expr'.Operate' (at 1 1) operator'.Add p a q b) ≡ syntax.Operate (at 1 1) syntax.Add (resolved.expr a) (resolved.expr b) }

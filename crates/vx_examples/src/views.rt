@@ -24,7 +24,7 @@ ghost use Rattle.vx_states.specs.declared.state.Binding.{Binding};
 ghost use Rattle.vx_states.specs.declared.state.Own.{Own as Own'};
 ghost use Rattle.vx_states.specs.declared.state.SymState.{SymState};
 ghost use Rattle.vx_heap.specs.declared.heap.SymHeap.{SymHeap};
-ghost use Rattle.vx_heap.specs.Views.{heap};
+ghost use Rattle.vx_heap.specs.Views.{heap, terms_of};
 ghost use Rattle.vx_stack.specs.declared.question.Query.{Query};
 ghost use Rattle.vx_states.specs.declared.path.Path.{Path};
 ghost use Rattle.vx_states.specs.declared.path.Path.TheVariants as path';
@@ -37,6 +37,7 @@ ghost use Rattle.vx_states.specs.SymStates.{binding, optional_term, own, state, 
 ghost use Rattle.vx_ast.specs.Syntax as syntax;
 ghost use Rattle.vx_resolved.specs.Resolved.{expr, assertion, stmt, block, method};
 ghost use Rattle.vx_resolved.specs.declared.Operator.TheVariants as operator';
+ghost use Rattle.vx_resolved.specs.declared.Division.TheVariants as division';
 ghost use Rattle.vx_resolved.specs.declared.Connective.TheVariants as connective';
 ghost use Rattle.vx_resolved.specs.declared.Expr.{Expr as Expr'};
 ghost use Rattle.vx_resolved.specs.declared.Assertion.{Assertion as Assertion'};
@@ -50,11 +51,15 @@ ghost use Rattle.vx_rules.specs.Rules.{Giving, Going};
 ghost use Rattle.vx_rules.specs.Members as members;
 ghost use Rattle.vx_rules.specs.Trees.{CallCode, EntryCode, FoldCode, PostCode, Tree, End, Impossible, Step, Ask, Probe, Fork};
 ghost use Rattle.vx_rules.specs.declared.code.Code.TheVariants as code';
-ghost use Rattle.vx_stack.specs.declared.frame.Operand.TheVariants as operand';
-ghost use Rattle.vx_stack.specs.declared.frame.Consumption.{Consumption};
-ghost use Rattle.vx_stack.specs.declared.frame.Production.{Production};
-ghost use Rattle.vx_stack.specs.declared.frame.Consumed.TheVariants as consumed';
-ghost use Rattle.vx_stack.specs.declared.frame.Executed.TheVariants as executed';
+ghost use Rattle.vx_stack.specs.declared.waiting.Operand.TheVariants as operand';
+ghost use Rattle.vx_stack.specs.declared.waiting.Consumption.{Consumption};
+ghost use Rattle.vx_stack.specs.declared.waiting.Production.{Production};
+ghost use Rattle.vx_stack.specs.declared.waiting.Search.{Search};
+ghost use Rattle.vx_stack.specs.declared.waiting.Location.{Location};
+ghost use Rattle.vx_stack.specs.declared.waiting.Loop.{Loop};
+ghost use Rattle.vx_stack.specs.declared.waiting.Produced.TheVariants as produced';
+ghost use Rattle.vx_stack.specs.declared.waiting.Consumed.TheVariants as consumed';
+ghost use Rattle.vx_stack.specs.declared.waiting.Executed.TheVariants as executed';
 ghost use Rattle.vx_stack.specs.declared.frame.Next.{Next};
 ghost use Rattle.vx_stack.specs.declared.frame.Next.TheVariants as next';
 ghost use Rattle.vx_stack.specs.declared.frame.Hole.{Hole};
@@ -63,7 +68,7 @@ ghost use Rattle.vx_stack.specs.declared.frame.Frame.TheVariants as frame';
 ghost use Rattle.vx_stack.specs.declared.frame.Side.{Side};
 ghost use Rattle.vx_stack.specs.declared.conts.Move.TheVariants as move';
 ghost use Rattle.vx_rules.specs.Codes.{code};
-ghost use Rattle.vx_stack.specs.Stack.{query, context, operand, consumed, executed, going, giving, frame_tree, side_tree, Stepped, Checked};
+ghost use Rattle.vx_stack.specs.Stack.{query, context, wanted, finding, taking_none, operand, putting, with_location, produced, take_location, taking, wrapped, consumed, iterated, from_invariant, forgotten, executed, going, giving, frame_tree, side_tree, Stepped, Checked};
 ghost use Rattle.vx_examples.specs.Words.{Computes, at, int, bool, real, number, snap, null, unit, pair, first, plus, chosen_term, falsity, denied};
 ghost use Rattle.vx_examples.specs.Simplified.{truth};
 ghost use Rattle.vx_examples.specs.Walks.{y, f, fact, branch, scene, with_chunks, first_ask, a_probe};
@@ -118,6 +123,9 @@ pub fn operands_that_wait()
     ensures choose_else { (t : Rc Term' Global) (b : Rc Expr' Global) (on : Giving) → operand [] (operand'.ChooseElse t b) on (int 2) scene ≡ Step (rules.eval [] (rules.outer [] 4) (expr b.value) scene (λ v s. Step (on (make.ite (term t.value) (int 2) v) s))) }
     ensures choose_with { (t u : Rc Term' Global) (on : Giving) → operand [] (operand'.ChooseWith t u) on (int 2) scene ≡ Step (on (make.ite (term t.value) (term u.value) (int 2)) scene) }
     ensures choose_sides { (a b : Rc Expr' Global) (on : Giving) → operand [] (operand'.ChooseSides a b) on falsity scene ≡ Step (rules.eval [] (rules.outer [] 4) (expr b.value) scene on) }
+    ensures divide_with { (t : Rc Term' Global) (on : Giving) → operand [] (operand'.DivideWith (at 1 1) division'.Quotient t) on (number 2) scene ≡ Step (on (rules.divided syntax.Quotient (term t.value) (number 2)) scene) }
+    ensures receiver { (x : Rc (String Global) Global) (on : Giving) → operand [] (operand'.Receiver (at 1 1) x) on (int 0) scene ≡ rules.read_field (string_bytes x.value) (int 0) (at 1 1) scene on }
+    ensures restore { (h : Rc SymHeap Global) (on : Giving) → operand [] (operand'.Restore h) on (int 0) with_chunks ≡ Step (on (int 0) (record with_chunks { heap = heap h.value })) }
 {}
 
 /// What a value leads to within a consume, and within a statement.
@@ -132,10 +140,20 @@ pub fn parts_that_wait()
     ensures with_left { (t : Rc Term' Global) (on : Giving) → consumed [] (consumed'.With t (record { pure = code'.Assert; permission = code'.Permission; builds = false })) on unit scene ≡ Step (on (pair (term t.value) unit) scene) }
     ensures with_facts { (t : Rc Term' Global) (on : Giving) → consumed [] (consumed'.With t (record { pure = code'.Fold; permission = code'.Fold; builds = true })) on unit scene ≡
         Step (on (pair (term t.value) unit) (states.with_facts (rules.pair_facts (term t.value) unit) scene)) }
+    ensures wanted_some { (x : Search) (c : states.Chunk) → x.amount ≡ None → wanted x c ≡ rules.holds_some (terms_of x.arguments.items) c }
+    ensures fact { (on : Going) → produced [] (produced'.Fact None) on (bool 0) scene ≡ Step (on scene) }
+    ensures put { (x : Rc (String Global) Global) (r : Rc Term' Global) (how : Rc Production Global) (on : Going) → produced [] (produced'.Amount (at 1 1) x r how true) on (real 0) scene ≡
+        putting [] (at 1 1) (string_bytes x.value) (term r.value) (make.multiply (term how.value.scale.value) (real 0)) (optional_term how.value.snapshot) true scene on }
+    ensures produced_side { (a : Rc Assertion' Global) (how : Rc Production Global) (on : Going) → produced [] (produced'.Implied a how) on falsity scene ≡ Step (on (rules.with_unit (optional_term how.value.snapshot) scene)) }
+    ensures wraps { (x : Rc (String Global) Global) (on : Giving) → consumed [] (consumed'.Wrap x (record { pure = code'.Assert; permission = code'.Permission; builds = false })) on (int 0) scene ≡ Step (on (make.wrap (rules.field_sort [] (string_bytes x.value)) (int 0)) scene) }
+    ensures consumed_side { (a : Rc Assertion' Global) (x : Rc Consumption Global) (h : Rc SymHeap Global) (on : Giving) → consumed [] (consumed'.Implied a x h) on falsity with_chunks ≡ Step (on unit (record with_chunks { heap = heap h.value })) }
     ensures assume { (on : Going) → executed [] executed'.Assume on (bool 0) scene ≡ Step (on scene) }
     ensures asserted { (h : Rc SymHeap Global) (on : Going) → executed [] (executed'.Asserted h) on unit with_chunks ≡ Step (on (record with_chunks { heap = heap h.value })) }
     ensures exhaled { (on : Going) → executed [] executed'.Exhaled on unit with_chunks ≡ Step (on with_chunks) }
     ensures chosen { (a b : Rc Block' Global) (on : Going) → executed [] (executed'.If a b 1) on (bool 0) scene ≡ Step (members.exec_all [] (rules.outer [] 4) (block a.value) scene (λ s. on (states.leave 1 s))) }
+    ensures passes { (on : Going) → executed [] executed'.Pass on (bool 0) scene ≡ Step (on (states.with_branch (denied (bool 0)) scene)) }
+    ensures enters { (l : Rc Loop Global) (on : Going) → executed [] (executed'.Enter l 1) on unit with_chunks ≡
+        Fork (from_invariant [] l.value (states.with_heap [] (forgotten [] l.value with_chunks)) (iterated [] l.value 1)) (from_invariant [] l.value (forgotten [] l.value with_chunks) (λ u s. Step (on (states.with_branch (make.negate u) s)))) }
     ensures assigned { (x : Rc (String Global) Global) (on : Going) → executed [] (executed'.Assign x) on (number 3) scene ≡ Step (on (states.with_store (states.assign (string_bytes x.value) (number 3) scene.store) scene)) }
 {}
 
@@ -155,9 +173,15 @@ pub fn frames_that_wait()
     ensures consume_from { (q : _) (a : Rc Assertion' Global) (x : Rc Consumption Global) (h : Hole) → going [] (next'.ConsumeFrom' a x q h) with_chunks ≡
         rules.consume [] (rules.outer [] 4) (assertion a.value) (context x.value.codes) (term x.value.scale.value) (heap x.value.start.value) with_chunks (giving [] h) }
     ensures sides { (m : Rc Method' Global) → going [] (next'.Sides m) scene ≡ members.sides [] (rules.outer [] 4) (method m.value) scene }
+    ensures put { (q : _) (l : Rc Location Global) (x : Rc Production Global) (n : Next) → going [] (next'.Put' l x false q n) scene ≡
+        Step (going [] n (with_location [] (string_bytes l.value.field.value) (term l.value.receiver.value) (term l.value.amount.value) (optional_term x.value.snapshot) false scene)) }
+    ensures read { (q : _) (x : Rc Search Global) (h : Hole) → going [] (next'.ReadFrom' x 1 q h) scene ≡ finding x.value 1 scene (λ c. giving [] h c.chunk.value scene) (rules.never x.value.place (code x.value.code) scene) }
+    ensures written { (q : _) (x : Rc Search Global) (t : Rc Term' Global) (n : Next) → going [] (next'.WriteTo' x 0 t q n) scene ≡
+        finding x.value 0 scene (λ c. going [] n (rules.written c (term t.value) scene)) (rules.never x.value.place (code x.value.code) scene) }
+    ensures fresh { (q : _) (h : Hole) → going [] (next'.Fresh' sort'.Int q h) scene ≡ giving [] h (states.fresh sort.IntSort scene) (states.after_fresh scene) }
     ensures given { giving [] hole'.Finish (int 0) scene ≡ End }
-    ensures produced { (q : _) (n : Next) → giving [] (hole'.Produced' None q n) (bool 0) scene ≡ Step (going [] n scene) }
-    ensures produced_unit { (q : _) (t : Rc Term' Global) (n : Next) → giving [] (hole'.Produced' (Some t) q n) (bool 0) scene ≡ Step (going [] n (states.with_fact (make.equals (term t.value) unit) scene)) }
+    ensures produced { (q : _) (n : Next) → giving [] (hole'.Produced' (produced'.Fact None) q n) (bool 0) scene ≡ Step (going [] n scene) }
+    ensures produced_unit { (q : _) (t : Rc Term' Global) (n : Next) → giving [] (hole'.Produced' (produced'.Fact (Some t)) q n) (bool 0) scene ≡ Step (going [] n (states.with_fact (make.equals (term t.value) unit) scene)) }
     ensures operand { (q : _) (h : Hole) → giving [] (hole'.Operand' operand'.Negate q h) (bool 0) scene ≡ Step (giving [] h (denied (bool 0)) scene) }
     ensures consumed { (q : _) (t : Rc Term' Global) (h : Hole) → giving [] (hole'.Consumed' (consumed'.With t (record { pure = code'.Assert; permission = code'.Permission; builds = false })) q h) unit scene ≡ Step (giving [] h (pair (term t.value) unit) scene) }
     ensures executed { (q : _) (n : Next) → giving [] (hole'.Executed' executed'.Exhaled q n) unit scene ≡ Step (going [] n scene) }
@@ -168,6 +192,8 @@ pub fn frames_that_wait()
 
 /// A step from a side leaves one side on the stack, or two for a fork, the first on top; and a question is that of the tree.
 pub fn steps_of_stacks()
+    ensures end { (b : Side) → Stepped [] End (b ∷ []) move'.End (b ∷ []) }
+    ensures end_no_step { (a : Side) → Stepped [] (Step (side_tree [] a)) [] move'.End [] → ⊥ }
     ensures go { (a b : Side) → Stepped [] (Step (side_tree [] a)) (b ∷ []) move'.Go (b ∷ a ∷ []) }
     ensures fork { (a b : Side) → Stepped [] (Fork (side_tree [] a) (side_tree [] b)) [] move'.Fork (b ∷ a ∷ []) }
     ensures go_no_fork { (a b : Side) → Stepped [] (Fork (side_tree [] a) (side_tree [] b)) [] move'.Go (b ∷ a ∷ []) → ⊥ }
