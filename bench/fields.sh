@@ -25,16 +25,6 @@ loops() {
     echo "}"
 }
 
-measure() {
-    local what=$1
-    shift
-    before=
-    for count in "$@"; do
-        "$what" "$count" > "$folder/file.vpr"
-        timed "$count $what" "$folder/file.vpr" "$here/vsil"
-    done
-}
-
 measure fields 100 400 1600
 measure puts 100 400 1600
 measure loops 100 400 1600

@@ -24,16 +24,6 @@ paths() {
     echo "}"
 }
 
-measure() {
-    local what=$1
-    shift
-    before=
-    for count in "$@"; do
-        "$what" "$count" > "$folder/file.vpr"
-        timed "$count $what" "$folder/file.vpr" "$here/vsil"
-    done
-}
-
 measure assignments 100 400 1600 6400
 measure asserts 100 400 1600
 measure paths 4 8 12

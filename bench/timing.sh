@@ -17,3 +17,14 @@ timed() {
     echo "$label: $seconds s, ratio $ratio, peak $(($(tail -n 1 "$folder/peak") / 1024)) MB, $(tail -n 1 "$folder/out" | cut -c1-80)"
     before=$seconds
 }
+
+# measure WHAT SIZE..: what it takes to verify the file that WHAT writes, by its size
+measure() {
+    local what=$1 count
+    shift
+    before=
+    for count in "$@"; do
+        "$what" "$count" > "$folder/file.vpr"
+        timed "$count $what" "$folder/file.vpr" "$here/vsil"
+    done
+}
