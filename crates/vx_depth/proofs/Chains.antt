@@ -2,7 +2,8 @@
 use Rattle.std.proofs.Common.{◌≡◌, ◌⊎◌, inl, inr, ℕ, zero, suc, ◌≤◌, ◌<◌, Bool, true, false, cond, List, [], ◌∷◌, ◌++◌, length, map, Option, Some, None, refl, sym, ap, ◌∙◌, subst, arith, true≢false, is_some, le_refl, ap₂, eqb-true, eq-eqb, ◌&&◌}
 use Rattle.vx_ast.specs.Syntax.{Name, same_name, Program, Kind, function_in, predicate_in, member_named, function_named, predicate_named}
 use Rattle.vx_terms.specs.Interpretations.{Each}
-use Rattle.vx_depth.specs.Entering.{entered_by_function, entered_by_predicate, entered_from, IsWithin, Stands, LeadsBy, NoneWithinItself}
+use Rattle.vx_depth.specs.Entering.{entered_by_function, entered_by_predicate, entered_from, IsWithin, LeadsBy, NoneWithinItself}
+use Rattle.vx_ast.specs.Apart.{Stands}
 
 same_is : (x y : Name) → same_name x y ≡ true → x ≡ y
 same_is [] [] e = refl

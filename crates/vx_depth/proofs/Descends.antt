@@ -9,7 +9,8 @@ use Rattle.vx_terms.specs.Build.{equals, whole_amount}
 use Rattle.vx_rules.specs.States.{State, bind, with_facts}
 use Rattle.vx_rules.specs.Trees.{Left, On, leaves}
 use Rattle.vx_rules.specs.Rules.{Outer, outer, gathered, quietly, sides_of, with_body, with_promise, with_equations}
-use Rattle.vx_depth.specs.Entering.{entered_by, entered_by_measure, entered_by_body, entered_by_function, entered_by_predicate, IsWithin}
+use Rattle.vx_depth.specs.Entering.{entered_by_function, entered_by_predicate, IsWithin}
+use Rattle.vx_ast.specs.Apart.{entered_by, entered_by_measure, entered_by_body}
 use Rattle.vx_depth.specs.Depths.{EvalSame, EvalsSame, ProduceSame, ConsumeSame}
 use Rattle.vx_depth.proofs.Levels.{facts_level}
 use Rattle.vx_depth.proofs.Same.{each_left, each_right, Opens, eval_same, evals_same, produce_same, consume_same}

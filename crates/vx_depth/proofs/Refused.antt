@@ -4,8 +4,9 @@ use Rattle.std.specs.Prelude.{flat_map}
 use Rattle.vx_ast.specs.Syntax.{Name, Program, Predicate, Function, Assertion, Pure, Points, Instance, Both, Implied, Chosen, predicate_named, function_named, joined, joined_with}
 use Rattle.vx_ast.specs.Mentions.{mentioned, mentioned_by}
 use Rattle.vx_ast.specs.Mentions.{mentions_of}
-use Rattle.vx_depth.specs.Entering.{entered_by, entered_by_measure, entered_by_body, entered_by_function, entered_by_predicate, entered_from, Stands, LeadsBy, NoneWithinItself}
-use Rattle.vx_depth.specs.Apart.{mentioned_by_body, mentioned_by_predicate, mentioned_from, Reaches, KeepsApart}
+use Rattle.vx_depth.specs.Entering.{entered_by_function, entered_by_predicate, entered_from, LeadsBy, NoneWithinItself}
+use Rattle.vx_ast.specs.Apart.{entered_by, entered_by_measure, entered_by_body, Stands}
+use Rattle.vx_ast.specs.Apart.{mentioned_by_body, mentioned_by_predicate, mentioned_from, Reaches, KeepsApart}
 
 -- Names in lists
 
@@ -107,11 +108,21 @@ module _ (p : Program) where
   by_body x z d e h =
       on_right z (mentions_of (function_named p x)) (mentioned_by_predicate (predicate_named p x)) (subst (λ o. Stands z (mentioned_by_predicate o)) (sym e) (in_body z d.body h))
 
+none : (o : Option Function) → ((g : Function) → o ≡ Some g → ⊥) → o ≡ None
+none None h = refl
+none (Some g) h = absurd (h g refl)
+
 module _ (p : Program) (apart : KeepsApart p) where
+  no_measure : (f : Name) (g : Function) (x : Name) → function_named p f ≡ Some g → Stands x (entered_by_measure g.decreases) → function_named p x ≡ None
+  no_measure f g x e h = none (function_named p x) (apart.measure f g x e h)
+
+  no_body : (i : Name) (d : Predicate) (x : Name) → predicate_named p i ≡ Some d → Stands x (entered_by_body d.body) → function_named p x ≡ None
+  no_body i d x e h = none (function_named p x) (apart.body i d x e h)
+
   no_function : (x z : Name) → function_named p x ≡ None → Edge p x z → function_named p z ≡ None
   no_function x z n (of_precondition g e h) = none_is n e
   no_function x z n (of_measure g e h) = none_is n e
-  no_function x z n (of_body d e h) = apart.body x d z e h
+  no_function x z n (of_body d e h) = no_body x d z e h
 
   stays : (k : ℕ) (x z : Name) → function_named p x ≡ None → LeadsBy p k x z → function_named p z ≡ None
   stays zero x z n h = absurd h
@@ -130,13 +141,13 @@ module _ (p : Program) (apart : KeepsApart p) where
     where
       go : Edge p x z → Reaches p x z
       go (of_precondition f q h) = one_step x z (by_precondition p x z f q h)
-      go (of_measure f q h) = none_is (apart.measure x f z q h) e
-      go (of_body d q h) = none_is (apart.body x d z q h) e
+      go (of_measure f q h) = none_is (no_measure x f z q h) e
+      go (of_body d q h) = none_is (no_body x d z q h) e
   to_function (suc k) x z g e (inr (w, s, l)) = go (edge p x w s) (to_function k w z g e l)
     where
       go : Edge p x w → Reaches p w z → Reaches p x z
       go (of_precondition f q h) r = one_more_step x w z (by_precondition p x w f q h) r
-      go (of_measure f q h) r = none_is (stays k w z (apart.measure x f w q h) l) e
+      go (of_measure f q h) r = none_is (stays k w z (no_measure x f w q h) l) e
       go (of_body d q h) r = one_more_step x w z (by_body p x w d q h) r
 
   from_predicate : (k : ℕ) (x z : Name) → function_named p x ≡ None → LeadsBy p k x z → Reaches p x z
@@ -152,13 +163,13 @@ module _ (p : Program) (apart : KeepsApart p) where
       go : Edge p x w → (function_named p w ≡ None → Reaches p w z) → Reaches p x z
       go (of_precondition f q h) r = none_is n q
       go (of_measure f q h) r = none_is n q
-      go (of_body d q h) r = one_more_step x w z (by_body p x w d q h) (r (apart.body x d w q h))
+      go (of_body d q h) r = one_more_step x w z (by_body p x w d q h) (r (no_body x d w q h))
 
   -- from the first member that x enters back to x
   back_to : (x w : Name) → Edge p x w → ((g : Function) → function_named p x ≡ Some g → Reaches p w x) → (function_named p w ≡ None → Reaches p w x) → (function_named p w ≡ None → function_named p x ≡ None) → ⊥
   back_to x w (of_precondition g e h) r s t = apart.precondition x g w e h (r g e)
-  back_to x w (of_measure g e h) r s t = none_is (t (apart.measure x g w e h)) e
-  back_to x w (of_body d e h) r s t = apart.unfolding_body x d w e h (s (apart.body x d w e h))
+  back_to x w (of_measure g e h) r s t = none_is (t (no_measure x g w e h)) e
+  back_to x w (of_body d e h) r s t = apart.unfolding_body x d w e h (s (no_body x d w e h))
 
   pub none_within_itself : NoneWithinItself p
   none_within_itself zero x h = h

@@ -14,7 +14,7 @@ use Rattle.vx_rules.specs.Trees.{Code, MeasureCode, UnfoldCode, PermissionCode, 
 use Rattle.vx_rules.specs.Chunks.{Candidate, field_key, instance_key, candidates, only_inner, reduced, put}
 use Rattle.vx_rules.specs.Groups.{is_in_group, function_number}
 use Rattle.vx_rules.specs.Rules.{Giving, Going, Outer, question, unless_false, ask, never, probe, fork, short, operated, divided, connected, is_total, first_with, holds_some, holds_amount, take_chunk, written, write_field, field_sort, entered, back, placed, lesser, leads_inside, terms, left_part, right_part, with_split, with_unit, produced_value, after_value, produced_snapshot, after_snapshot, with_built_wrap, with_built_pair, with_equations, decreasing, measured, applied, unfolded, eval, evals, produce, consume}
-use Rattle.vx_depth.specs.Entering.{entered_by}
+use Rattle.vx_ast.specs.Apart.{entered_by}
 use Rattle.vx_depth.specs.Depths.{SameGiving, SameGoing, EvalSame, EvalsSame, ProduceSame, ConsumeSame}
 use Rattle.vx_depth.proofs.Levels.{fact_level, name_level, put_level, value_level, snapshot_level, split_level, unit_level, wrap_level, pair_level}
 

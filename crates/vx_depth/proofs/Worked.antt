@@ -6,8 +6,9 @@ use Rattle.vx_rules.specs.Trees.{Question, Open, steps_then, walk}
 use Rattle.vx_rules.specs.Rules.{nowhere, outer}
 use Rattle.vx_rules.specs.Members.{depth, rules, tree_over, tree}
 use Rattle.vx_ast.specs.Syntax.{IsPredicate}
-use Rattle.vx_depth.specs.Entering.{entered_by_function, entered_by_predicate, entered_from, IsWithin, Stands, LeadsBy, NoneWithinItself}
-use Rattle.vx_depth.specs.Apart.{KeepsApart}
+use Rattle.vx_depth.specs.Entering.{entered_by_function, entered_by_predicate, entered_from, IsWithin, LeadsBy, NoneWithinItself}
+use Rattle.vx_ast.specs.Apart.{Stands}
+use Rattle.vx_ast.specs.Apart.{KeepsApart}
 use Rattle.vx_depth.specs.Worked.{f, n, P, applies_itself, applies_itself_f, unfolds_itself, unfolds_itself_P, nested, nested_P, plain, plain_f}
 
 pub applies_itself_is_refused : NoneWithinItself applies_itself → ⊥
@@ -58,8 +59,8 @@ nothing_named a e = absurd (true≢false (sym (ap is_some e)))
 
 pub none_refused : KeepsApart []
 none_refused = record {
-  measure = λ f g x e. nothing_named g e;
-  body = λ i d x e. nothing_named d e;
+  measure = λ f g x e s. nothing_named g e;
+  body = λ i d x e s. nothing_named d e;
   precondition = λ f g x e. nothing_named g e;
   unfolding_body = λ i d x e. nothing_named d e;
 }

@@ -1,26 +1,8 @@
 -- Which members' parts are read while another's part is read, on one level.
 use Rattle.std.specs.Prelude.{◌≡◌, ◌⊎◌, ℕ, zero, suc, List, [], ◌∷◌, ◌++◌, Option, Some, None}
-use Rattle.vx_ast.specs.Syntax.{Name, Program, Predicate, Function, predicate_named, function_named, joined, Assertion, Pure, Points, Instance, Both, Implied, Chosen, Measure, ByNumber, ByInstance}
-use Rattle.vx_ast.specs.Mentions.{mentioned, mentioned_in}
+use Rattle.vx_ast.specs.Syntax.{Name, Program, Predicate, Function, predicate_named, function_named, joined}
+use Rattle.vx_ast.specs.Apart.{entered_by, entered_by_measure, entered_by_body, Stands}
 use Rattle.vx_terms.specs.Interpretations.{Each}
-
--- the functions applied and the predicates unfolded by what is evaluated of an assertion; not the instances held
-abbrev pub entered_by : Assertion → List Name
-entered_by (Pure e) = mentioned e
-entered_by (Points at e f share) = mentioned e ++ mentioned share
-entered_by (Instance at i es share) = mentioned_in es ++ mentioned share
-entered_by (Both a b) = entered_by a ++ entered_by b
-entered_by (Implied c a) = mentioned c ++ entered_by a
-entered_by (Chosen c a b) = mentioned c ++ entered_by a ++ entered_by b
-
-abbrev pub entered_by_measure : Option Measure → List Name
-entered_by_measure None = []
-entered_by_measure (Some (ByNumber e)) = mentioned e
-entered_by_measure (Some (ByInstance at i es)) = mentioned_in es
-
-abbrev pub entered_by_body : Option Assertion → List Name
-entered_by_body None = []
-entered_by_body (Some a) = entered_by a
 
 -- an application reads the precondition and the measure on its own level
 abbrev pub entered_by_function : Option Function → List Name
@@ -39,10 +21,6 @@ entered_from p x = entered_by_function (function_named p x) ++ entered_by_predic
 abbrev pub IsWithin : Program → ℕ → Name → Type 0
 IsWithin p zero x = (function_named p x ≡ None) × (predicate_named p x ≡ None)
 IsWithin p (suc n) x = Each (IsWithin p n) (entered_from p x)
-
-abbrev pub Stands : Name → List Name → Type 0
-Stands x [] = ⊥
-Stands x (y ∷ ys) = (x ≡ y) ⊎ Stands x ys
 
 -- y is entered from x, or from what is entered from x, .., n times at most
 abbrev pub LeadsBy : Program → ℕ → Name → Name → Type 0

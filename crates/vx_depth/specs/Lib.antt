@@ -1,4 +1,3 @@
 pub mod Entering
 pub mod Depths
 pub mod Worked
-pub mod Apart

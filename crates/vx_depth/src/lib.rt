@@ -6,7 +6,7 @@ ghost use Rattle.vx_ast.specs.Syntax.{Name, Program, Kind, IsFunction, IsPredica
 ghost use Rattle.vx_rules.specs.Trees.{Question, Open, walk};
 ghost use Rattle.vx_rules.specs.Rules.{nowhere, outer};
 ghost use Rattle.vx_rules.specs.Members.{depth, tree_over, tree};
-ghost use Rattle.vx_depth.specs.Apart.{KeepsApart};
+ghost use Rattle.vx_ast.specs.Apart.{KeepsApart};
 ghost use Rattle.vx_depth.specs.Entering.{IsWithin, NoneWithinItself};
 ghost use Rattle.vx_depth.specs.Depths.{SameRules, ReadsItself};
 ghost use Rattle.vx_depth.specs.Worked.{f, n, P, applies_itself, applies_itself_f, unfolds_itself, unfolds_itself_P, nested, plain};

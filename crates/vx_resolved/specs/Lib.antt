@@ -1,4 +1,4 @@
 pub mod Resolved
-pub mod Types
+pub mod Numbers
 pub mod Settled
 pub mod Executed

@@ -2,6 +2,7 @@
 use Rattle.std.specs.Prelude.{List, Option, Some, None, string_bytes, map}
 use Rattle.std.specs.declared.alloc.Global.{Global}
 use Rattle.std.specs.declared.rc.Rc.{Rc}
+use Rattle.std.specs.declared.string.String.{String}
 use Rattle.vx_resolved.specs.declared.Operator.{Operator as Operator'}
 use Rattle.vx_resolved.specs.declared.Operator.TheVariants as operator'
 use Rattle.vx_resolved.specs.declared.Division.{Division as Division'}
@@ -9,15 +10,17 @@ use Rattle.vx_resolved.specs.declared.Division.TheVariants as division'
 use Rattle.vx_resolved.specs.declared.Connective.{Connective as Connective'}
 use Rattle.vx_resolved.specs.declared.Connective.TheVariants as connective'
 use Rattle.vx_resolved.specs.declared.Expr as expr'
+use Rattle.vx_resolved.specs.declared.Exprs as exprs'
 use Rattle.vx_resolved.specs.declared.Assertion as assertion'
 use Rattle.vx_resolved.specs.declared.Declaration as declaration'
 use Rattle.vx_resolved.specs.declared.Stmt as stmt'
 use Rattle.vx_resolved.specs.declared.Block as block'
+use Rattle.vx_resolved.specs.declared.Predicate as predicate'
 use Rattle.vx_resolved.specs.declared.Method as method'
 use Rattle.vx_resolved.specs.declared.Kind.TheVariants as kind'
 use Rattle.vx_resolved.specs.declared.Member as member'
 use Rattle.vx_resolved.specs.declared.Program as program'
-use Rattle.vx_ast.specs.Syntax.{Operator, Equal, Less, LessEqual, Greater, GreaterEqual, Add, Subtract, Multiply, Division, Quotient, Remainder, Connective, And, Or, Implies, Expr, Number, Truth, Null, Part, Variable, Not, Operate, Divide, Connect, Choose, Read, Old, Assertion, Pure, Points, Both, Implied, Chosen, Declaration, Stmt, Declare, Assign, Write, New, Inhale, Exhale, Assert, Assume, If, While, Block, Done, Then, Method, Kind, IsField, IsMethod, Member, Program}
+use Rattle.vx_ast.specs.Syntax.{Operator, Equal, Less, LessEqual, Greater, GreaterEqual, Add, Subtract, Multiply, Division, Quotient, Remainder, Connective, And, Or, Implies, Expr, Number, Truth, Null, Part, Variable, Not, Operate, Divide, Connect, Choose, Read, Old, Apply, Unfolding, Exprs, NoMore, More, Assertion, Pure, Points, Instance, Both, Implied, Chosen, Declaration, Stmt, Declare, Assign, Write, New, Call, Inhale, Exhale, Assert, Assume, Fold, Unfold, If, While, Block, Done, Then, Predicate, Method, Kind, IsField, IsPredicate, IsMethod, Member, Name, Program}
 
 abbrev pub operator : Operator' → Operator
 operator operator'.Equal = Equal
@@ -38,23 +41,34 @@ connective connective'.And = And
 connective connective'.Or = Or
 connective connective'.Implies = Implies
 
-abbrev pub expr : expr'.Expr → Expr
-expr (expr'.Number at n) = Number at n
-expr (expr'.Truth at b) = Truth at b
-expr (expr'.Null at) = Null at
-expr (expr'.Part at n d) = Part at n d
-expr (expr'.Variable at x) = Variable at (string_bytes x.value)
-expr (expr'.Not' at p e) = Not at (expr e)
-expr (expr'.Operate' at op p a q b) = Operate at (operator op) (expr a) (expr b)
-expr (expr'.Divide' at op p a q b) = Divide at (division op) (expr a) (expr b)
-expr (expr'.Connect' at c p a q b) = Connect at (connective c) (expr a) (expr b)
-expr (expr'.Choose' at p c q a r b) = Choose at (expr c) (expr a) (expr b)
-expr (expr'.Read' at p e x) = Read at (expr e) (string_bytes x.value)
-expr (expr'.Old' at p e) = Old at (expr e)
+abbrev mutual
+  pub expr : expr'.Expr → Expr
+  expr (expr'.Number at n) = Number at n
+  expr (expr'.Truth at b) = Truth at b
+  expr (expr'.Null at) = Null at
+  expr (expr'.Part at n d) = Part at n d
+  expr (expr'.Variable at x) = Variable at (string_bytes x.value)
+  expr (expr'.Not' at p e) = Not at (expr e)
+  expr (expr'.Operate' at op p a q b) = Operate at (operator op) (expr a) (expr b)
+  expr (expr'.Divide' at op p a q b) = Divide at (division op) (expr a) (expr b)
+  expr (expr'.Connect' at c p a q b) = Connect at (connective c) (expr a) (expr b)
+  expr (expr'.Choose' at p c q a r b) = Choose at (expr c) (expr a) (expr b)
+  expr (expr'.Read' at p e x) = Read at (expr e) (string_bytes x.value)
+  expr (expr'.Old' at p e) = Old at (expr e)
+  expr (expr'.Apply' at f p es) = Apply at (string_bytes f.value) (exprs es)
+  expr (expr'.Unfolding' at i p es q share r e) = Unfolding at (string_bytes i.value) (exprs es) (expr share) (expr e)
+
+  pub exprs : exprs'.Exprs → Exprs
+  exprs exprs'.NoMore = NoMore
+  exprs (exprs'.More' p e q es) = More (expr e) (exprs es)
+
+abbrev pub names_of : List (Rc (String Global) Global) → List Name
+names_of xs = map (λ x. string_bytes x.value) xs
 
 abbrev pub assertion : assertion'.Assertion → Assertion
 assertion (assertion'.Pure e) = Pure (expr e.value)
 assertion (assertion'.Points at e x share) = Points at (expr e.value) (string_bytes x.value) (expr share.value)
+assertion (assertion'.Instance at i es share) = Instance at (string_bytes i.value) (exprs es.value) (expr share.value)
 assertion (assertion'.Both' p a q b) = Both (assertion a) (assertion b)
 assertion (assertion'.Implied' c p a) = Implied (expr c.value) (assertion a)
 assertion (assertion'.Chosen' c p a q b) = Chosen (expr c.value) (assertion a) (assertion b)
@@ -70,11 +84,14 @@ abbrev mutual
   stmt (stmt'.Declare at x t) = Declare at (string_bytes x.value) t
   stmt (stmt'.Assign at x e) = Assign at (string_bytes x.value) (expr e.value)
   stmt (stmt'.Write at e x e') = Write at (expr e.value) (string_bytes x.value) (expr e'.value)
-  stmt (stmt'.New at x fs) = New at (string_bytes x.value) (map (λ f. string_bytes f.value) fs.value.items)
+  stmt (stmt'.New at x fs) = New at (string_bytes x.value) (names_of fs.value.items)
+  stmt (stmt'.Call at xs m es) = Call at (names_of xs.value.items) (string_bytes m.value) (exprs es.value)
   stmt (stmt'.Inhale at a) = Inhale at (assertion a.value)
   stmt (stmt'.Exhale at a) = Exhale at (assertion a.value)
   stmt (stmt'.Assert at a) = Assert at (assertion a.value)
   stmt (stmt'.Assume at e) = Assume at (expr e.value)
+  stmt (stmt'.Fold at i es share) = Fold at (string_bytes i.value) (exprs es.value) (expr share.value)
+  stmt (stmt'.Unfold at i es share) = Unfold at (string_bytes i.value) (exprs es.value) (expr share.value)
   stmt (stmt'.If' at e p a q b) = If at (expr e.value) (block a) (block b)
   stmt (stmt'.While' at e is p b) = While at (expr e.value) (assertions is.items) (block b)
 
@@ -85,6 +102,13 @@ abbrev mutual
 abbrev pub optional_block : Option (Rc block'.Block Global) → Option Block
 optional_block None = None
 optional_block (Some b) = Some (block b.value)
+
+abbrev pub optional_assertion : Option (Rc assertion'.Assertion Global) → Option Assertion
+optional_assertion None = None
+optional_assertion (Some a) = Some (assertion a.value)
+
+abbrev pub predicate : predicate'.Predicate → Predicate
+predicate d = record { place = d.place; parameters = map declaration d.parameters.items; body = optional_assertion d.body }
 
 abbrev pub method : method'.Method → Method
 method m = record {
@@ -98,6 +122,7 @@ method m = record {
 
 abbrev pub kind : kind'.the_data → Kind
 kind (kind'.Field t) = IsField t
+kind (kind'.Predicate d) = IsPredicate (predicate d.value)
 kind (kind'.Method m) = IsMethod (method m.value)
 
 abbrev pub member : member'.Member → Member

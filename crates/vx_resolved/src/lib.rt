@@ -1,11 +1,11 @@
 //! The syntax that is executed, settled once: names stand for what they name, assertions stand apart from expressions,
-//! `&&` at an assertion's top is taken apart, and `var x: T := e` is two statements. It has the forms that are executed
-//! so far.
+//! `&&` at an assertion's top is taken apart, and `var x: T := e` is two statements. It has all forms but functions as
+//! members.
 #![tactic(auto)]
 
 mod lookups;
+mod numbers;
 mod settled;
-mod types;
 
 pub use settled::Settled;
 use std::rc::Rc;
@@ -40,6 +40,7 @@ pub enum Connective {
 }
 
 /// An expression; each has its place.
+#[cycle(exprs)]
 #[derive(Drop)]
 pub enum Expr {
     Number(Place, u128),
@@ -56,6 +57,32 @@ pub enum Expr {
     /// `e.f`.
     Read(Place, Rc<Expr>, Rc<String>),
     Old(Place, Rc<Expr>),
+    /// `f(es)`.
+    Apply(Place, Rc<String>, Rc<Exprs>),
+    /// `unfolding acc(P(es), p) in e`: the arguments, the amount and the expression.
+    Unfolding(Place, Rc<String>, Rc<Exprs>, Rc<Expr>, Rc<Expr>),
+}
+
+/// A list of expressions, any end of which a suspended execution can share.
+#[cycle(exprs)]
+pub enum Exprs {
+    NoMore,
+    More(Rc<Expr>, Rc<Exprs>),
+}
+
+impl Drop for Exprs {
+    #[cycle(exprs)]
+    fn drop(mut self) {
+        loop {
+            match self {
+                Exprs::NoMore => return,
+                Exprs::More(_first, rest) => match Rc::into_inner(rest) {
+                    Some(next) => self = next,
+                    None => return,
+                },
+            }
+        }
+    }
 }
 
 /// What is assumed, or shown.
@@ -65,6 +92,8 @@ pub enum Assertion {
     Pure(Rc<Expr>),
     /// `acc(e.f, p)`.
     Points(Place, Rc<Expr>, Rc<String>, Rc<Expr>),
+    /// `acc(P(es), p)`.
+    Instance(Place, Rc<String>, Rc<Exprs>, Rc<Expr>),
     Both(Rc<Assertion>, Rc<Assertion>),
     /// `==>` with a permission in it.
     Implied(Rc<Expr>, Rc<Assertion>),
@@ -89,10 +118,15 @@ pub enum Stmt {
     Write(Place, Rc<Expr>, Rc<String>, Rc<Expr>),
     /// A new reference, with the fields that are permitted.
     New(Place, Rc<String>, Rc<Vec<Rc<String>>>),
+    /// The targets, the name of the method that is called, and the arguments.
+    Call(Place, Rc<Vec<Rc<String>>>, Rc<String>, Rc<Exprs>),
     Inhale(Place, Rc<Assertion>),
     Exhale(Place, Rc<Assertion>),
     Assert(Place, Rc<Assertion>),
     Assume(Place, Rc<Expr>),
+    /// `fold acc(P(es), p)`: the arguments and the amount.
+    Fold(Place, Rc<String>, Rc<Exprs>, Rc<Expr>),
+    Unfold(Place, Rc<String>, Rc<Exprs>, Rc<Expr>),
     If(Place, Rc<Expr>, Rc<Block>, Rc<Block>),
     /// The condition, the invariants and the body.
     While(Place, Rc<Expr>, Vec<Rc<Assertion>>, Rc<Block>),
@@ -120,6 +154,14 @@ impl Drop for Block {
     }
 }
 
+/// A predicate: its place is its first token's.
+#[derive(Drop)]
+pub struct Predicate {
+    pub place: Place,
+    pub parameters: Vec<Declaration>,
+    pub body: Option<Rc<Assertion>>,
+}
+
 /// A method: its place is its first token's.
 #[derive(Drop)]
 pub struct Method {
@@ -135,6 +177,7 @@ pub struct Method {
 #[derive(Drop)]
 pub enum Kind {
     Field(ValueType),
+    Predicate(Rc<Predicate>),
     Method(Rc<Method>),
 }
 

@@ -1,15 +1,18 @@
 //! What settling gives.
 
+ghost use Rattle.vx_ast.specs.Apart.{KeepsApart};
 ghost use Rattle.vx_resolved.specs.Resolved as resolved;
-ghost use Rattle.vx_resolved.specs.Types.{AreTypes};
+ghost use Rattle.vx_resolved.specs.Numbers.{AreNumbers};
 
 use crate::Program;
-use crate::types::FieldTypes;
+use crate::numbers::Numbers;
 
-/// A settled program. Contracts see it as the list of its members, `settled`.
+/// A settled program, none of whose members is entered within itself. Contracts see it as the list of its members,
+/// `settled`.
 #[derive(Drop)]
 pub struct Settled {
     pub program: Program,
-    pub(crate) types: FieldTypes,
-    ghost are_types: { AreTypes types (resolved.program program) },
+    pub(crate) numbers: Numbers,
+    ghost are_numbers: { AreNumbers numbers 0 (resolved.program program) },
+    ghost apart: { KeepsApart (resolved.program program) },
 }

@@ -14,7 +14,7 @@ use Rattle.vx_typing.specs.Uses.{Use, calls, uses, uses_in, uses_of}
 use Rattle.vx_expressions.specs.Settings.{Setting}
 use Rattle.vx_expressions.specs.Typing as typing
 use Rattle.vx_types.specs.Typing.{Scope}
-use Rattle.vx_depth.specs.Entering.{Stands, entered_by}
+use Rattle.vx_ast.specs.Apart.{Stands, entered_by}
 use Rattle.vx_settled.proofs.TypedExprs.{Sees}
 use Rattle.vx_settled.proofs.TypedClaims.{pure_value, impure}
 use Rattle.vx_settled.proofs.MentionedUses.{on_left, on_right, either_side, IsUsed, Leads, nothing, both, fewer, Covers, value, values, share_of}

@@ -1,5 +1,5 @@
 -- What typing asks of groups, by numbers, keeps the members of the settled program apart, by names.
-use Rattle.std.proofs.Common.{◌≡◌, ◌∙◌, ◌⊎◌, inl, inr, ◌++◌, ℕ, zero, suc, Bool, true, List, [], ◌∷◌, Option, Some, None, map, refl, sym, ap, subst, append_assoc}
+use Rattle.std.proofs.Common.{◌≡◌, ◌∙◌, ◌⊎◌, inl, inr, ◌++◌, ℕ, zero, suc, Bool, true, List, [], ◌∷◌, Option, Some, None, map, refl, sym, ap, subst, append_assoc, true≢false, is_some}
 use Rattle.std.specs.Prelude.{if◌then◌else◌, flat_map}
 use Rattle.vx_ast.specs.declared.Place.{Place}
 use Rattle.vx_ast.specs.declared.ValueType.{ValueType}
@@ -22,8 +22,8 @@ use Rattle.vx_typing.specs.Uses.{Use, uses, uses_in, uses_of_body, uses_before, 
 use Rattle.vx_typing.specs.Uses as uses'
 use Rattle.vx_typing.specs.Groups.{number_of, kind_at, mentions, at_once, further, IsOwn}
 use Rattle.vx_typing.specs.Groups as groups
-use Rattle.vx_depth.specs.Entering.{Stands, entered_by, entered_by_measure, entered_by_body}
-use Rattle.vx_depth.specs.Apart.{mentioned_by_body, mentioned_by_predicate, mentioned_from, ReachesBy, Reaches, KeepsApart}
+use Rattle.vx_ast.specs.Apart.{Stands, entered_by, entered_by_measure, entered_by_body}
+use Rattle.vx_ast.specs.Apart.{mentioned_by_body, mentioned_by_predicate, mentioned_from, ReachesBy, Reaches, KeepsApart}
 use Rattle.vx_settled.proofs.TypedNames.{Knows, knows}
 use Rattle.vx_settled.proofs.TypedExprs.{Sees}
 use Rattle.vx_settled.proofs.TypedStmts.{settled, same_types}
@@ -237,6 +237,9 @@ module _ (p : written.Program) (typed : IsTyped p) where
       let k = reached n z y b h r in
       (e.number, e.named, further (e.leads k.0 k.1) k.2)
 
+  named_none : {o : Option Function} {g : Function} → o ≡ None → o ≡ Some g → ⊥
+  named_none n e = true≢false (ap is_some (sym e ∙ n))
+
   -- what is mentioned and leads back is of the own group
   own : (x y : Name) (a : ℕ) (k : written.Kind) → number_of p y ≡ Some a → kind_at p a ≡ Some k → IsUsed (IsOf x) (uses_by k []) → Reaches (program p) x y → IsOwn p a x
   own x y a k named at used r =
@@ -245,10 +248,10 @@ module _ (p : written.Program) (typed : IsTyped p) where
 
   pub kept_apart : KeepsApart (program p)
   kept_apart = record {
-    measure = λ f g x e s. in_measure x f g (function_at p typed f g e) s;
-    body = λ i d x e s.
+    measure = λ f g x e s w named. named_none (in_measure x f g (function_at p typed f g e) s) named;
+    body = λ i d x e s g named.
         let w = predicate_at p typed i d e in
-        no_function_opened x (uses_of_body w.predicate.body []) (opened_in_body x i d w s);
+        named_none (no_function_opened x (uses_of_body w.predicate.body []) (opened_in_body x i d w s)) named;
     precondition = λ f g x e s r.
         let w = function_at p typed f g e in
         let own = own x f w.number (written.IsFunction w.function) w.named w.at (used_by_contract x f g w s) r in

@@ -12,7 +12,7 @@ use Rattle.vx_ast.specs.Mentions.{mentioned, mentioned_in}
 use Rattle.vx_typing.specs.Uses.{Use, calls, unfolds_it, uses, uses_in, uses_of}
 use Rattle.vx_expressions.specs.Settings.{Setting, IsPredicate}
 use Rattle.vx_expressions.specs.Typing as typing
-use Rattle.vx_depth.specs.Entering.{Stands}
+use Rattle.vx_ast.specs.Apart.{Stands}
 
 -- ---- names in lists
 pub on_left : (x : Name) (xs ys : List Name) → Stands x xs → Stands x (xs ++ ys)

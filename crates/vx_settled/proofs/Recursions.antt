@@ -1,7 +1,7 @@
 -- A function that applies itself in its precondition isn't kept apart.
 use Rattle.std.proofs.Common.{inl, refl}
 use Rattle.vx_ast.specs.Resolve.{program}
-use Rattle.vx_depth.specs.Apart.{Reaches, KeepsApart}
+use Rattle.vx_ast.specs.Apart.{Reaches, KeepsApart}
 use Rattle.vx_settled.specs.Recursions.{f, counts_down, applies_itself_before}
 
 pub leads_back : Reaches (program counts_down) f f

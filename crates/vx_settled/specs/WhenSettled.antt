@@ -10,7 +10,7 @@ use Rattle.vx_types.specs.Typing.{IsTypedMethod}
 use Rattle.vx_resolved.specs.Executed.{is_executed}
 use Rattle.vx_rules.specs.Rules.{outer}
 use Rattle.vx_rules.specs.Members.{depth, tree_over, tree}
-use Rattle.vx_depth.specs.Apart.{KeepsApart}
+use Rattle.vx_ast.specs.Apart.{KeepsApart}
 use Rattle.vx_whole.specs.Premises.{IsTypedProgram}
 use Rattle.vx_types.specs.FieldLanguage.{IsFieldMethod}
 

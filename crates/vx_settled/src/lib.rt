@@ -3,7 +3,7 @@
 
 ghost use Rattle.vx_ast.specs.Resolve.{program};
 ghost use Rattle.vx_typing.specs.Programs.{IsTyped};
-ghost use Rattle.vx_depth.specs.Apart.{Reaches, KeepsApart};
+ghost use Rattle.vx_ast.specs.Apart.{Reaches, KeepsApart};
 ghost use Rattle.vx_settled.specs.WhenSettled.{TypedWhenSettled, InFieldsWhenSettled, KeptApartWhenSettled, DepthSufficesWhenSettled, TypedProgramWhenSettled};
 ghost use Rattle.vx_settled.specs.Recursions.{f, counts_down, applies_itself_before};
 

@@ -5,7 +5,7 @@ use Rattle.vx_ast.specs.Syntax.{Name, Program, Kind, IsField, IsPredicate, IsFun
 use Rattle.vx_ast.specs.Mentions.{mentioned, mentioned_in, mentioned_by}
 use Rattle.vx_types.specs.Typing.{Scope, HasType, number, truth, nulls, part, variable, nots, operates, scales, divides, connects, chooses, reads, olds, applies, unfoldings, IsTyped, AllTyped, IsTypedMethod}
 use Rattle.vx_types.specs.FieldLanguage.{InFields, IsOfFields, AreOfFields}
-use Rattle.vx_depth.specs.Entering.{Stands}
+use Rattle.vx_ast.specs.Apart.{Stands}
 use Rattle.vx_whole.specs.Premises.{IsTypedProgram}
 use Rattle.vx_whole.specs.Closure.{mentioned_by_all, mentioned_by_contract, mentioned_by_stmt, mentioned_by_block, mentioned_by_body, mentioned_by_kind, InClosure, itself, further}
 use Rattle.vx_sound.specs.CallLanguage.{IsCallingStmt, IsCallingBlock, IsCallingBody, IsCallingMethod, IsCallingMember}

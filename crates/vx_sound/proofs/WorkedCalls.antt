@@ -11,7 +11,7 @@ use Rattle.vx_smt_meaning.specs.declared.reply.Reply.TheVariants.{Unsat, Sat}
 use Rattle.vx_rules.specs.Trees.{CallCode, Passed, Failed, walk}
 use Rattle.vx_rules.specs.Members.{rules, method_tree}
 use Rattle.vx_types.specs.Typing.{IsTypedMethod, number, part, variable, operates, reads, no_more, more}
-use Rattle.vx_depth.specs.Entering.{Stands}
+use Rattle.vx_ast.specs.Apart.{Stands}
 use Rattle.vx_whole.specs.Premises.{IsTypedProgram}
 use Rattle.vx_whole.specs.Closure.{InClosure, itself, further, mentions}
 use Rattle.vx_sound.specs.CallLanguage.{IsCallingMethod, IsCallingMember}

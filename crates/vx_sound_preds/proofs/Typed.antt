@@ -7,7 +7,7 @@ use Rattle.vx_ast.specs.Syntax.{Name, same_name, Declaration, Program, Predicate
 use Rattle.vx_ast.specs.Syntax as syntax
 use Rattle.vx_ast.specs.Mentions.{mentioned, mentioned_in}
 use Rattle.vx_types.specs.Typing.{Scope, HaveNoPerm, gives_type, HasType, number, truth, nulls, part, variable, nots, operates, scales, divides, connects, chooses, reads, olds, applies, unfoldings, HaveTypes, no_more, more, IsTyped, IsTypedContent}
-use Rattle.vx_depth.specs.Entering.{entered_by, entered_by_body, Stands}
+use Rattle.vx_ast.specs.Apart.{entered_by, entered_by_body, Stands}
 use Rattle.vx_whole.specs.Premises.{IsConstantAmount, HasConstantAmounts, IsTypedProgram}
 use Rattle.vx_meaning.specs.Values.{Value, IntValue, BoolValue, RefValue, PermValue, type_of, negated, operated, divided, divided_ints, needs_right, without_right}
 use Rattle.vx_meaning.specs.States.{State, Store, Location, lookup, value_at, field_type, type_or_int}

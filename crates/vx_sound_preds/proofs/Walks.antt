@@ -4,8 +4,8 @@ use Rattle.std.specs.Prelude.{Ok, option_and_then, unwrap_or}
 use Rattle.vx_frac.specs.Fractions.{none, full, product}
 use Rattle.vx_ast.specs.Syntax.{Name, Kind, IsField, IsFunction, IsMethod, predicate_in, member_named, Declaration, Program, Predicate, IsPredicate, Expr, Assertion, Pure, Points, Both, Implied, Chosen, predicate_named}
 use Rattle.vx_ast.specs.Mentions.{mentioned, mentioned_by}
-use Rattle.vx_depth.specs.Entering as entering
-use Rattle.vx_depth.specs.Apart.{mentioned_by_body}
+use Rattle.vx_ast.specs.Apart as entering
+use Rattle.vx_ast.specs.Apart.{mentioned_by_body}
 use Rattle.vx_whole.specs.Closure.{mentioned_by_kind, InClosure, further}
 use Rattle.vx_ast.specs.Syntax as syntax
 use Rattle.vx_smt_meaning.specs.declared.reply.Reply.{Reply}

@@ -6,7 +6,7 @@ use Rattle.vx_ast.specs.declared.ValueType.{ValueType}
 use Rattle.vx_ast.specs.declared.ValueType.TheVariants as type
 use Rattle.vx_ast.specs.Syntax.{Name, same_name, Member, Predicate, Function, Method, Assertion, Kind, IsField, IsPredicate, Equal, member_named, predicate_in, function_in, method_in, predicate_named}
 use Rattle.vx_types.specs.Typing.{IsTypedPredicate, variable, part, number, nulls, nots, operates, reads, olds, no_more, more}
-use Rattle.vx_depth.specs.Entering.{Stands, entered_by_body}
+use Rattle.vx_ast.specs.Apart.{Stands, entered_by_body}
 use Rattle.vx_whole.specs.Premises.{HasConstantAmounts, IsTypedProgram}
 use Rattle.vx_whole.specs.Closure.{itself}
 use Rattle.vx_meaning.specs.Values.{PermValue, RefValue}

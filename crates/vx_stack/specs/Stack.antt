@@ -6,6 +6,10 @@ use Rattle.vx_stack.specs.declared.waiting.Production.{Production}
 use Rattle.vx_stack.specs.declared.waiting.Consumption.{Consumption}
 use Rattle.vx_stack.specs.declared.waiting.Search.{Search}
 use Rattle.vx_stack.specs.declared.waiting.Loop.{Loop}
+use Rattle.vx_stack.specs.declared.waiting.Instance.{Instance}
+use Rattle.vx_states.specs.declared.entering.Caller.{Caller}
+use Rattle.vx_stack.specs.declared.waiting.Called.{Called}
+use Rattle.vx_stack.specs.Values.{values}
 use Rattle.vx_stack.specs.declared.waiting.Operand.{Operand}
 use Rattle.vx_stack.specs.declared.waiting.Operand.TheVariants as operand'
 use Rattle.vx_stack.specs.declared.waiting.Produced.{Produced}
@@ -18,27 +22,32 @@ use Rattle.vx_stack.specs.declared.frame.Next.{Next}
 use Rattle.vx_stack.specs.declared.frame.Next.TheVariants as next'
 use Rattle.vx_stack.specs.declared.frame.Hole.{Hole}
 use Rattle.vx_stack.specs.declared.frame.Hole.TheVariants as hole'
+use Rattle.vx_stack.specs.declared.frame.Taken.{Taken}
+use Rattle.vx_stack.specs.declared.frame.Taken.TheVariants as taken'
+use Rattle.vx_stack.specs.declared.frame.Row.{Row}
+use Rattle.vx_stack.specs.declared.frame.Row.TheVariants as row'
 use Rattle.vx_stack.specs.declared.frame.Frame.{Frame}
 use Rattle.vx_stack.specs.declared.frame.Frame.TheVariants as frame'
 use Rattle.vx_stack.specs.declared.frame.Side.{Side}
 use Rattle.vx_stack.specs.declared.conts.Move.{Move}
 use Rattle.vx_stack.specs.declared.conts.Move.TheVariants as move'
 use Rattle.vx_ast.specs.declared.Place.{Place}
-use Rattle.vx_ast.specs.Syntax.{Name, Program, Assertion, assigned_in}
-use Rattle.vx_resolved.specs.Resolved.{operator, division, connective, expr, assertion, stmt, block, method}
-use Rattle.vx_terms.specs.Sorts.{Sort}
+use Rattle.vx_ast.specs.Syntax.{Name, Program, Assertion, assigned_in, joined, method_named, predicate_named}
+use Rattle.vx_resolved.specs.Resolved.{operator, division, connective, expr, exprs, assertion, stmt, block, method, names_of}
+use Rattle.vx_terms.specs.Sorts.{Sort, SnapSort}
 use Rattle.vx_terms.specs.Terms.{Term, Number}
 use Rattle.vx_terms.specs.Views.{sort, term}
-use Rattle.vx_terms.specs.Build.{negate, equals, ite, less_equal, multiply, unit, pair, wrap, zero_amount, whole_amount}
+use Rattle.vx_terms.specs.Build.{negate, equals, ite, less, less_equal, multiply, unit, pair, wrap, zero_amount, whole_amount}
 use Rattle.vx_heap.specs.Views.{candidates_of, heap, terms_of}
-use Rattle.vx_rules.specs.States.{Chunk, Heap, State, is_quiet, with_store, with_heap, assign, leave, with_fact, with_branch, fresh, after_fresh, name_of, after_name, path_terms}
+use Rattle.vx_rules.specs.States.{Chunk, Heap, State, is_quiet, with_store, with_heap, assign, assign_all, bind, declare_all, terms_in, leave, with_fact, with_branch, fresh, after_fresh, name_of, after_name, path_terms}
 use Rattle.vx_states.specs.Paths.{entries}
-use Rattle.vx_states.specs.SymStates.{optional_term, state}
-use Rattle.vx_rules.specs.Trees.{Code, AmountCode, DivisorCode, KeptCode, Question, Tree, End, Impossible, Step, Ask, Probe, Fork}
-use Rattle.vx_rules.specs.Chunks.{field_key, Candidate, reduced, put}
+use Rattle.vx_states.specs.SymStates.{binding, optional_term, state}
+use Rattle.vx_states.specs.Entering.{back_to}
+use Rattle.vx_rules.specs.Trees.{Code, AmountCode, CallCode, DivisorCode, KeptCode, UnfoldCode, Question, Tree, End, Impossible, Step, Ask, Probe, Fork}
+use Rattle.vx_rules.specs.Chunks.{field_key, instance_key, Candidate, reduced, put}
 use Rattle.vx_rules.specs.Codes.{code}
-use Rattle.vx_rules.specs.Rules.{Giving, Going, Context, ask, never, fork, short, operated, divided, connected, first_with, holds_some, holds_amount, take_chunk, read_field, written, write_field, field_sort, placed, with_built_wrap, with_built_pair, produced_value, after_value, with_unit, eval, produce, consume}
-use Rattle.vx_rules.specs.Members.{codes, forget, exec, exec_all, rules, sides}
+use Rattle.vx_rules.specs.Rules.{Giving, Going, GivingAll, Context, ask, never, fork, short, operated, divided, connected, first_with, holds_some, holds_amount, take_chunk, read_field, written, write_field, field_sort, placed, with_built_wrap, with_built_pair, produced_value, after_value, produced_snapshot, after_snapshot, with_unit, leads_inside, entered, back, applied, unfolded, eval, evals, produce, consume}
+use Rattle.vx_rules.specs.Members.{codes, forget, names_of as named_of, after_names, called, folded, exec, exec_all, rules, sides}
 
 abbrev pub query : Query → Question
 query q = record { place = q.place; code = code q.code; path = path_terms (entries q.path); condition = term q.condition.value; probe = q.probe }
@@ -61,6 +70,14 @@ finding x k s on otherwise = first_with (wanted x) (drop k (candidates_of x.cand
 -- on with a new value, where the amount that no candidate has is 0
 abbrev pub taking_none : Term → Sort → Place → Code → State → Giving → Tree
 taking_none a of at c s on = if is_quiet s then End else ask (equals a zero_amount) at c s (λ s1. on (fresh of s1) (after_fresh s1))
+
+-- back from a callee, its targets having these values
+abbrev pub returned : List Name → List Term → Caller → Heap → State → State
+returned xs ts c old s = with_store (assign_all xs ts (map binding c.store.items)) (record (back_to c s) { old = old })
+
+-- an instance is put for its body, with its snapshot's name
+abbrev pub with_instance : Name → List Term → Term → Term → State → State
+with_instance i ts a snapshot s = put (record (instance_key i ts) { amount = a; value = name_of snapshot s }) (after_name snapshot s)
 
 abbrev pub with_divisor : Place → State → Term → Going → Tree
 with_divisor at s u on = ask (negate (equals u (Number (pos 0)))) (placed s at) DivisorCode s on
@@ -85,6 +102,10 @@ module _ (p : Program) where
       fork t s (λ s1. eval p (rules p) (expr a.value) s1 on) (λ s1. eval p (rules p) (expr b.value) s1 on)
   operand (operand'.Receiver at f) on r s = read_field (string_bytes f.value) r (placed s at) s on
   operand (operand'.Restore h) on t s = Step (on t (with_heap (heap h.value) s))
+  operand (operand'.Unfolding at i es e h) on a s =
+      ask (less zero_amount a) (placed s at) AmountCode s (λ s1.
+      evals p (rules p) (exprs es.value) s1 (λ ts s2. unfolded p (rules p) (placed s2 at) (string_bytes i.value) ts a s2 (λ s3.
+      eval p (rules p) (expr e.value) s3 (λ t s4. Step (on t (with_heap (heap h.value) s4))))))
 
   -- an assertion is produced, or consumed, in this way
   abbrev pub producing : Assertion → Production → State → Going → Tree
@@ -102,6 +123,15 @@ module _ (p : Program) where
   putting at f r a snapshot inside s on =
       ask (less_equal zero_amount a) (placed s at) AmountCode s (λ s1. Step (on (with_location f r a snapshot inside s1)))
 
+  -- an amount of an instance is put, where it isn't negative
+  abbrev pub with_held : Name → List Term → Term → Option Term → Bool → State → State
+  with_held i ts a snapshot inside s =
+      put (record (instance_key i ts) { amount = a; value = produced_snapshot snapshot s; inner = inside }) (after_snapshot snapshot s)
+
+  abbrev pub putting_instance : Place → Name → List Term → Term → Option Term → Bool → State → Going → Tree
+  putting_instance at i ts a snapshot inside s on =
+      ask (less_equal zero_amount a) (placed s at) AmountCode s (λ s1. Step (on (with_held i ts a snapshot inside s1)))
+
   -- what a value leads to, before what waits for the whole assertion
   abbrev pub produced : Produced → Going → Giving
   produced (produced'.Fact snapshot) on t s = Step (on (with_unit (optional_term snapshot) (with_fact t s)))
@@ -110,6 +140,8 @@ module _ (p : Program) where
       putting at (string_bytes f.value) r (multiply (term x.value.scale.value) a) (optional_term x.value.snapshot) inside s1 on)
   produced (produced'.Amount at f r x inside) on a s =
       putting at (string_bytes f.value) (term r.value) (multiply (term x.value.scale.value) a) (optional_term x.value.snapshot) inside s on
+  produced (produced'.Held at i ts x inside) on a s =
+      putting_instance at (string_bytes i.value) (values ts.value) (multiply (term x.value.scale.value) a) (optional_term x.value.snapshot) inside s on
   produced (produced'.Implied a x) on t s =
       fork t s (λ s1. producing (assertion a.value) x.value s1 on) (λ s1. on (with_unit (optional_term x.value.snapshot) s1))
   produced (produced'.Chosen a b x) on t s =
@@ -121,6 +153,13 @@ module _ (p : Program) where
 
   abbrev pub taking : Place → Name → Term → Term → Code → Heap → State → Giving → Tree
   taking at f r a c h s on = ask (less_equal zero_amount a) (placed s at) AmountCode s (λ s1. take_location at f r a c h s1 on)
+
+  -- an amount of an instance is taken from a heap, where it isn't negative
+  abbrev pub take_instance : Place → Name → List Term → Term → Code → Heap → State → Giving → Tree
+  take_instance at i ts a c h s on = take_chunk (instance_key i ts) a SnapSort (placed s at) c (with_heap h s) (λ k s1. on k.value s1)
+
+  abbrev pub taking_instance : Place → Name → List Term → Term → Code → Heap → State → Giving → Tree
+  taking_instance at i ts a c h s on = ask (less_equal zero_amount a) (placed s at) AmountCode s (λ s1. take_instance at i ts a c h s1 on)
 
   -- the value of a location that was taken, as a snapshot
   abbrev pub wrapped : Name → Context → Giving → Giving
@@ -140,6 +179,10 @@ module _ (p : Program) where
       taking at (string_bytes f.value) (term r.value) (multiply (term x.value.scale.value) a) (code x.value.codes.permission) (heap h.value) s
       (wrapped (string_bytes f.value) (context x.value.codes) on)
   consumed (consumed'.Wrap f x) on v s = wrapped (string_bytes f.value) (context x) on v s
+  consumed (consumed'.Held at i ts x h) on a s =
+      taking_instance at (string_bytes i.value) (values ts.value) (multiply (term x.value.scale.value) a) (code x.value.codes.permission) (heap h.value) s
+      (λ v s1. Step (on v s1))
+  consumed consumed'.Snapshot on v s = Step (on v s)
   consumed (consumed'.Implied a x h) on t s =
       fork t (with_heap (heap h.value) s) (λ s1. consuming (assertion a.value) x.value s1 on) (on unit)
   consumed (consumed'.Chosen a b x h) on t s =
@@ -161,6 +204,29 @@ module _ (p : Program) where
   abbrev pub forgotten : Loop → State → State
   forgotten l s = forget [] (assigned_in (block l.body.value)) s
 
+  -- a call whose precondition was taken: its returns are new, and its postcondition is produced
+  abbrev pub promised : Called → Going → State → Tree
+  promised c on s =
+      let m = method c.method.value in
+      let inside = declare_all m.returns (record s { old = heap c.heap.value }) in
+      (rules p).produce (joined m.place m.ensures) whole_amount None inside (λ s1.
+      Step (on (returned (names_of c.targets.value.items) (drop c.count (terms_in inside.store)) c.caller.value (heap c.old_heap.value) s1)))
+
+  -- an instance was taken, from inside another or not: its body is produced
+  abbrev pub exchanged : Place → Name → List Term → Term → Term → Bool → State → Going → Tree
+  exchanged at i ts a snapshot inside s on =
+      elim (predicate_named p i) as (λ d. Tree) [
+        | None ↦ never at UnfoldCode s
+        | Some d ↦ elim d.body as (λ b. Tree) [
+          | None ↦ never at UnfoldCode s
+          | Some body ↦ (rules p).produce body a (Some snapshot) (record (entered (bind d.parameters ts) at s) { inner = inside }) (λ s1. on (back s s1))
+        ]
+      ]
+
+  abbrev pub body_of : Instance → Term → Bool → State → Going → Tree
+  body_of x snapshot inside s on =
+      exchanged x.place (string_bytes x.predicate.value) (values x.arguments.value) (term x.amount.value) snapshot inside s on
+
   -- what a value leads to, before what waits for the statement's end
   abbrev pub executed : Executed → Going → Giving
   executed (executed'.Assign x) on t s = let s1 = after_name t s in Step (on (with_store (assign (string_bytes x.value) (name_of t s) s1.store) s1))
@@ -180,6 +246,15 @@ module _ (p : Program) where
       (from_invariant l.value (forgotten l.value s) (λ u s1. Step (on (with_branch (negate u) s1))))
   executed (executed'.Iterate l kept) on u s = iterated l.value kept u s
   executed executed'.Pass on u s = Step (on (with_branch (negate u) s))
+  executed (executed'.Fold at i es) on a s =
+      ask (less zero_amount a) at AmountCode s (λ s1.
+      evals p (rules p) (exprs es.value) s1 (λ ts s2. folded p (rules p) at (string_bytes i.value) ts a s2 on))
+  executed (executed'.Unfold at i es) on a s =
+      ask (less zero_amount a) at AmountCode s (λ s1.
+      evals p (rules p) (exprs es.value) s1 (λ ts s2. unfolded p (rules p) at (string_bytes i.value) ts a s2 on))
+  executed (executed'.Folded x c) on snapshot s =
+      Step (on (with_instance (string_bytes x.value.predicate.value) (values x.value.arguments.value) (term x.value.amount.value) snapshot (back_to c.value s)))
+  executed (executed'.Called c) on snapshot s = promised c.value on s
 
   abbrev mutual
     -- what a state leads to
@@ -199,18 +274,55 @@ module _ (p : Program) where
         Step (going n (with_location (string_bytes l.value.field.value) (term l.value.receiver.value) (term l.value.amount.value) (optional_term x.value.snapshot) inside s))
     going (next'.Take' l c h q hole) s =
         take_location l.value.place (string_bytes l.value.field.value) (term l.value.receiver.value) (term l.value.amount.value) (code c) (heap h.value) s (giving hole)
+    going (next'.Evals' es q r) s = evals p (rules p) (exprs es.value) s (giving_all r)
+    going (next'.PutInstance' i x inside q n) s =
+        Step (going n (with_held (string_bytes i.value.predicate.value) (values i.value.arguments.value) (term i.value.amount.value) (optional_term x.value.snapshot) inside s))
+    going (next'.TakeInstance' i c h q hole) s =
+        take_instance i.value.place (string_bytes i.value.predicate.value) (values i.value.arguments.value) (term i.value.amount.value) (code c) (heap h.value) s (giving hole)
     going (next'.ReadFrom' x k q h) s =
         finding x.value k s (λ c. giving h c.chunk.value s) (never x.value.place (code x.value.code) s)
-    going (next'.TakeFrom' x k a of q h) s =
-        finding x.value k s (λ c. giving h c.chunk.value (with_heap (reduced c (term a.value) s.heap) s)) (taking_none (term a.value) (sort of) x.value.place (code x.value.code) s (giving h))
+    going (next'.TakeFrom' x k a of q w) s =
+        finding x.value k s
+        (λ c. with_taken w c.chunk.value (leads_inside c.chunk) (with_heap (reduced c (term a.value) s.heap) s))
+        (taking_none (term a.value) (sort of) x.value.place (code x.value.code) s (λ v s1. with_taken w v false s1))
     going (next'.WriteTo' x k t q n) s =
         finding x.value k s (λ c. going n (written c (term t.value) s)) (never x.value.place (code x.value.code) s)
-    going (next'.Fresh' of q h) s = giving h (fresh (sort of) s) (after_fresh s)
+    going (next'.Fresh' of q w) s = with_taken w (fresh (sort of) s) false (after_fresh s)
+    going (next'.Body' x snapshot inside q n) s = body_of x.value (term snapshot.value) inside s (going n)
+    going (next'.Back' c q n) s = going n (back_to c.value s)
+    going (next'.Return' r q n) s =
+        Step (going n (returned (names_of r.value.targets.value.items) (terms_of r.value.values.items) r.value.caller.value (heap r.value.old_heap.value) s))
+
+    -- what the value of a chunk leads to that was taken, from inside another or not
+    pub with_taken : Taken → Term → Bool → State → Tree
+    with_taken (taken'.Value' q h) v inside s = giving h v s
+    with_taken (taken'.Unfold' x q n) v inside s = body_of x.value v inside s (going n)
+
+    -- what values and a state lead to
+    pub giving_all : Row → GivingAll
+    giving_all (row'.After' t q r) ts s = Step (giving_all r (term t.value ∷ ts) s)
+    giving_all (row'.Apply' at f q h) ts s = applied p (rules p) (placed s at) (string_bytes f.value) ts s (giving h)
+    giving_all (row'.Produce' at i e x inside q n) ts s =
+        eval p (rules p) (expr e.value) s (λ a s1.
+        putting_instance at (string_bytes i.value) ts (multiply (term x.value.scale.value) a) (optional_term x.value.snapshot) inside s1 (going n))
+    giving_all (row'.Consume' at i e x h q k) ts s =
+        eval p (rules p) (expr e.value) s (λ a s1.
+        taking_instance at (string_bytes i.value) ts (multiply (term x.value.scale.value) a) (code x.value.codes.permission) (heap h.value) s1
+        (λ v s2. Step (giving k v s2)))
+    giving_all (row'.Unfolding' at i a q n) ts s = unfolded p (rules p) (placed s at) (string_bytes i.value) ts (term a.value) s (going n)
+    giving_all (row'.Unfold' at i a q n) ts s = unfolded p (rules p) at (string_bytes i.value) ts (term a.value) s (going n)
+    giving_all (row'.Fold' at i a q n) ts s = folded p (rules p) at (string_bytes i.value) ts (term a.value) s (going n)
+    giving_all (row'.Call' at xs m q n) ts s =
+        elim (method_named p (string_bytes m.value)) as (λ c. Tree) [
+          | None ↦ never at CallCode s
+          | Some c ↦ called p (rules p) at c (named_of ts s) (names_of xs.value.items) (after_names ts s) (going n)
+        ]
 
     -- what a value and a state lead to
     pub giving : Hole → Giving
     giving hole'.Finish t s = End
     giving (hole'.Operand' v q h) t s = operand v (giving h) t s
+    giving (hole'.Argument' es q r) t s = evals p (rules p) (exprs es.value) s (λ ts s1. Step (giving_all r (t ∷ ts) s1))
     giving (hole'.Consumed' v q h) t s = consumed v (giving h) t s
     giving (hole'.Produced' v q n) t s = produced v (going n) t s
     giving (hole'.Executed' v q n) t s = executed v (going n) t s
@@ -220,6 +332,7 @@ module _ (p : Program) where
   frame_tree (frame'.Go n) s = going n.value s
   frame_tree (frame'.Eval e h) s = eval p (rules p) (expr e.value) s (giving h.value)
   frame_tree (frame'.Give t h) s = giving h.value (term t.value) s
+  frame_tree (frame'.GiveAll ts r) s = giving_all r.value (values ts.value) s
 
   abbrev pub side_tree : Side → Tree
   side_tree side = frame_tree side.frame (state side.state)

@@ -5,14 +5,16 @@ ghost use Rattle.vx_ast.specs.Syntax.{Program};
 ghost use Rattle.vx_stack.specs.Stack.{frame_tree, side_tree};
 
 use crate::waiting::{
-    Codes, Consumed, Consumption, Executed, Location, Operand, Produced, Production, Search,
+    Codes, Consumed, Consumption, Executed, Instance, Location, Operand, Produced,
+    Production, Return, Search, Values,
 };
 use std::alloc::{AllocError, Global};
 use std::rc::Rc;
+use vx_ast::Place;
 use vx_heap::SymHeap;
-use vx_resolved::{Assertion, Block, Expr, Method, Stmt};
+use vx_resolved::{Assertion, Block, Expr, Exprs, Method, Stmt};
 use vx_rules::Code;
-use vx_states::SymState;
+use vx_states::{Caller, SymState};
 use vx_terms::{Sort, Term};
 
 /// What waits for a state.
@@ -37,19 +39,62 @@ pub enum Next {
     Sides(Rc<Method>),
     /// An expression is evaluated.
     Eval(Rc<Expr>, Rc<Hole>),
+    /// Expressions are evaluated in order.
+    Evals(Rc<Exprs>, Rc<Row>),
     /// A location's amount, which isn't negative, is put; its chunk is inner or not.
     Put(Rc<Location>, Rc<Production>, bool, Rc<Next>),
     /// A location's amount, which isn't negative, is taken from this heap.
     Take(Rc<Location>, Code, Rc<SymHeap>, Rc<Hole>),
+    /// An instance's amount, which isn't negative, is put; its chunk is inner or not.
+    PutInstance(Rc<Instance>, Rc<Production>, bool, Rc<Next>),
+    /// An instance's amount, which isn't negative, is taken from this heap.
+    TakeInstance(Rc<Instance>, Code, Rc<SymHeap>, Rc<Hole>),
     /// The value is read in the first from this candidate on that is as wanted.
     ReadFrom(Rc<Search>, usize, Rc<Hole>),
     /// An amount is taken from the first from this candidate on that is as wanted; else it is 0, and a value of the
     /// sort is new.
-    TakeFrom(Rc<Search>, usize, Rc<Term>, Sort, Rc<Hole>),
+    TakeFrom(Rc<Search>, usize, Rc<Term>, Sort, Rc<Taken>),
     /// A value is written to the first from this candidate on that is as wanted.
     WriteTo(Rc<Search>, usize, Rc<Term>, Rc<Next>),
-    /// A new value of a sort.
-    Fresh(Sort, Rc<Hole>),
+    /// A new value of a sort, in the place of one that was taken.
+    Fresh(Sort, Rc<Taken>),
+    /// An instance was taken, whose snapshot this is and from inside or not: its body is produced.
+    Body(Rc<Instance>, Rc<Term>, bool, Rc<Next>),
+    /// Back from the part of another member.
+    Back(Rc<Caller>, Rc<Next>),
+    /// Back from a callee.
+    Return(Rc<Return>, Rc<Next>),
+}
+
+/// What waits for a chunk that was taken.
+#[cycle(frames)]
+#[derive(Drop)]
+pub enum Taken {
+    /// Its value alone.
+    Value(Rc<Hole>),
+    /// An instance that is exchanged for its body.
+    Unfold(Rc<Instance>, Rc<Next>),
+}
+
+/// What waits for the values of a list of expressions.
+#[cycle(frames)]
+pub enum Row {
+    /// The value that stands before them.
+    After(Rc<Term>, Rc<Row>),
+    /// The arguments of an application, with the name of its function.
+    Apply(Place, Rc<String>, Rc<Hole>),
+    /// The arguments of an instance, before its share; its chunk is inner or not.
+    Produce(Place, Rc<String>, Rc<Expr>, Rc<Production>, bool, Rc<Next>),
+    /// The arguments of an instance, before its share; the heap that it is taken from.
+    Consume(Place, Rc<String>, Rc<Expr>, Rc<Consumption>, Rc<SymHeap>, Rc<Hole>),
+    /// The arguments of an `unfolding`, after its amount.
+    Unfolding(Place, Rc<String>, Rc<Term>, Rc<Next>),
+    /// The arguments of an `unfold`, after its amount.
+    Unfold(Place, Rc<String>, Rc<Term>, Rc<Next>),
+    /// The arguments of a `fold`, after its amount.
+    Fold(Place, Rc<String>, Rc<Term>, Rc<Next>),
+    /// The arguments of a call, with its targets and the name of its method.
+    Call(Place, Rc<Vec<Rc<String>>>, Rc<String>, Rc<Next>),
 }
 
 /// What waits for a value.
@@ -58,6 +103,8 @@ pub enum Hole {
     /// The side is over.
     Finish,
     Operand(Operand, Rc<Hole>),
+    /// The first of a list, before the others.
+    Argument(Rc<Exprs>, Rc<Row>),
     Consumed(Consumed, Rc<Hole>),
     Produced(Produced, Rc<Next>),
     Executed(Executed, Rc<Next>),
@@ -80,12 +127,18 @@ impl Drop for Next {
                 Next::Unit(_start, _hole) => return,
                 Next::Sides(_m) => return,
                 Next::Eval(_e, _hole) => return,
+                Next::Evals(_es, _row) => return,
                 Next::Put(_location, _x, _inner, rest) => rest,
                 Next::Take(_location, _code, _heap, _hole) => return,
+                Next::PutInstance(_instance, _x, _inner, rest) => rest,
+                Next::TakeInstance(_instance, _code, _heap, _hole) => return,
                 Next::ReadFrom(_search, _number, _hole) => return,
-                Next::TakeFrom(_search, _number, _amount, _sort, _hole) => return,
+                Next::TakeFrom(_search, _number, _amount, _sort, _taken) => return,
                 Next::WriteTo(_search, _number, _value, rest) => rest,
-                Next::Fresh(_sort, _hole) => return,
+                Next::Fresh(_sort, _taken) => return,
+                Next::Body(_instance, _snapshot, _inner, rest) => rest,
+                Next::Back(_caller, rest) => rest,
+                Next::Return(_return, rest) => rest,
             };
             match Rc::into_inner(rest) {
                 Some(next) => self = next,
@@ -102,6 +155,7 @@ impl Drop for Hole {
             let rest = match self {
                 Hole::Finish => return,
                 Hole::Operand(_operand, rest) => rest,
+                Hole::Argument(_es, _row) => return,
                 Hole::Consumed(_consumed, rest) => rest,
                 Hole::Produced(_produced, _next) => return,
                 Hole::Executed(_executed, _next) => return,
@@ -114,12 +168,35 @@ impl Drop for Hole {
     }
 }
 
+impl Drop for Row {
+    #[cycle(frames)]
+    fn drop(mut self) {
+        loop {
+            let rest = match self {
+                Row::After(_value, rest) => rest,
+                Row::Apply(_place, _name, _hole) => return,
+                Row::Produce(_place, _name, _share, _x, _inner, _next) => return,
+                Row::Consume(_place, _name, _share, _x, _heap, _hole) => return,
+                Row::Unfolding(_place, _name, _amount, _next) => return,
+                Row::Unfold(_place, _name, _amount, _next) => return,
+                Row::Fold(_place, _name, _amount, _next) => return,
+                Row::Call(_place, _targets, _name, _next) => return,
+            };
+            match Rc::into_inner(rest) {
+                Some(row) => self = row,
+                None => return,
+            }
+        }
+    }
+}
+
 /// What a side does next.
 #[derive(Drop)]
 pub enum Frame {
     Go(Rc<Next>),
     Eval(Rc<Expr>, Rc<Hole>),
     Give(Rc<Term>, Rc<Hole>),
+    GiveAll(Rc<Values>, Rc<Row>),
 }
 
 /// A side that is still to be walked.
@@ -138,6 +215,7 @@ impl Frame {
             Frame::Go(next) => Ok(Frame::Go(next.clone()?)),
             Frame::Eval(e, hole) => Ok(Frame::Eval(e.clone()?, hole.clone()?)),
             Frame::Give(value, hole) => Ok(Frame::Give(value.clone()?, hole.clone()?)),
+            Frame::GiveAll(values, row) => Ok(Frame::GiveAll(values.clone()?, row.clone()?)),
         }
     }
 }

@@ -10,9 +10,10 @@ mod waiting;
 
 pub use clauses::joined;
 pub use conts::{Conts, Move};
-pub use frame::{Frame, Hole, Next, Side};
+pub use frame::{Frame, Hole, Next, Row, Side, Taken};
 pub use question::Query;
 pub use search::field_sort;
 pub use waiting::{
-    Codes, Consumed, Consumption, Executed, Location, Loop, Operand, Produced, Production, Search,
+    Called, Codes, Consumed, Consumption, Executed, Instance, Location, Loop, Operand,
+    Produced, Production, Return, Search, Values,
 };

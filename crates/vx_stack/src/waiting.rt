@@ -2,14 +2,17 @@
 
 ghost use Rattle.std.specs.Prelude.{◌≡◌, IfOk, None};
 ghost use Rattle.vx_terms.specs.Build.{whole_amount};
+ghost use Rattle.vx_heap.specs.Views.{terms_of};
+ghost use Rattle.vx_stack.specs.Values.{values};
 ghost use Rattle.vx_terms.specs.Views.{term};
 
 use std::alloc::{AllocError, Global};
 use std::rc::Rc;
 use vx_ast::Place;
 use vx_heap::{Candidate, SymHeap};
-use vx_resolved::{Assertion, Block, Connective, Division, Expr, Operator};
+use vx_resolved::{Assertion, Block, Connective, Division, Expr, Exprs, Method, Operator};
 use vx_rules::Code;
+use vx_states::Caller;
 use vx_terms::Term;
 
 /// The codes of a consume: of a pure part, and of a permission.
@@ -75,6 +78,78 @@ pub struct Location {
     pub amount: Rc<Term>,
 }
 
+/// An amount of a predicate's instance, whose place is that of its `acc`.
+#[derive(Drop)]
+pub struct Instance {
+    pub place: Place,
+    pub predicate: Rc<String>,
+    pub arguments: Rc<Values>,
+    pub amount: Rc<Term>,
+}
+
+/// Values in order, any end of which frames can share.
+pub enum Values {
+    None,
+    More(Rc<Term>, Rc<Values>),
+}
+
+impl Values {
+    /// The same values as an array.
+    pub fn to_vec(&self, alloc: Global) -> Result<Vec<Rc<Term>>, AllocError>
+        ensures { IfOk result (λ v. terms_of v.items ≡ values self.now) }
+    {
+        let mut terms = Vec::new(alloc);
+        let mut left = self;
+        loop {
+            match left {
+                Values::None => return Ok(terms),
+                Values::More(first, rest) => {
+                    terms.push(first.clone()?)?;
+                    left = rest;
+                }
+            }
+        }
+    }
+}
+
+impl Drop for Values {
+    fn drop(mut self) {
+        loop {
+            match self {
+                Values::None => return,
+                Values::More(_first, rest) => match Rc::into_inner(rest) {
+                    Some(next) => self = next,
+                    None => return,
+                },
+            }
+        }
+    }
+}
+
+/// A call whose precondition is taken.
+#[derive(Drop)]
+pub struct Called {
+    pub method: Rc<Method>,
+    /// How many arguments it has.
+    pub count: usize,
+    pub targets: Rc<Vec<Rc<String>>>,
+    pub caller: Rc<Caller>,
+    /// The heap before the call.
+    pub heap: Rc<SymHeap>,
+    /// The caller's old heap.
+    pub old_heap: Rc<SymHeap>,
+}
+
+/// A call whose postcondition is produced: the values that go to its targets.
+#[derive(Drop)]
+pub struct Return {
+    pub targets: Rc<Vec<Rc<String>>>,
+    pub values: Vec<Rc<Term>>,
+    pub caller: Rc<Caller>,
+    /// The caller's old heap.
+    pub old_heap: Rc<SymHeap>,
+}
+
 /// A loop, its invariants joined.
 #[derive(Drop)]
 pub struct Loop {
@@ -102,8 +177,10 @@ pub enum Operand {
     ChooseSides(Rc<Expr>, Rc<Expr>),
     /// The receiver of a field that is read.
     Receiver(Place, Rc<String>),
-    /// What stands in `old`: the heap behind it.
+    /// What stands in `old` or behind an `unfolding`: the heap behind it.
     Restore(Rc<SymHeap>),
+    /// The amount of an `unfolding`, before the arguments: the predicate, these, the expression, and the heap behind it.
+    Unfolding(Place, Rc<String>, Rc<Exprs>, Rc<Expr>, Rc<SymHeap>),
 }
 
 /// What of a produce waits for a value.
@@ -115,6 +192,8 @@ pub enum Produced {
     Share(Place, Rc<String>, Rc<Expr>, Rc<Production>, bool),
     /// The share of a location, after its receiver.
     Amount(Place, Rc<String>, Rc<Term>, Rc<Production>, bool),
+    /// The share of an instance, after its arguments.
+    Held(Place, Rc<String>, Rc<Values>, Rc<Production>, bool),
     /// The condition of `==>`.
     Implied(Rc<Assertion>, Rc<Production>),
     /// The condition of `?:`.
@@ -136,6 +215,10 @@ pub enum Consumed {
     Amount(Place, Rc<String>, Rc<Term>, Rc<Consumption>, Rc<SymHeap>),
     /// The value of the location that was taken.
     Wrap(Rc<String>, Codes),
+    /// The share of an instance, after its arguments; the heap that it is taken from.
+    Held(Place, Rc<String>, Rc<Values>, Rc<Consumption>, Rc<SymHeap>),
+    /// The snapshot of the instance that was taken.
+    Snapshot,
     /// The condition of `==>`, and the heap behind it.
     Implied(Rc<Assertion>, Rc<Consumption>, Rc<SymHeap>),
     /// The condition of `?:`, and the heap behind it.
@@ -162,4 +245,12 @@ pub enum Executed {
     Iterate(Rc<Loop>, usize),
     /// A loop's condition, behind it.
     Pass,
+    /// The amount of a `fold`, before the arguments.
+    Fold(Place, Rc<String>, Rc<Exprs>),
+    /// The amount of an `unfold`, before the arguments.
+    Unfold(Place, Rc<String>, Rc<Exprs>),
+    /// A body was taken: the instance that is put for it.
+    Folded(Rc<Instance>, Rc<Caller>),
+    /// A precondition was taken.
+    Called(Rc<Called>),
 }

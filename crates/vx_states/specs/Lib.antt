@@ -2,3 +2,4 @@ pub mod Paths
 pub mod SymStates
 pub mod Keys
 pub mod Index
+pub mod Entering

@@ -2,7 +2,6 @@
 use Rattle.std.specs.Prelude.{ℕ, suc, List, [], ◌∷◌, Option, Some, None, option_map, if◌then◌else◌, map, string_bytes}
 use Rattle.std.specs.declared.alloc.Global.{Global}
 use Rattle.std.specs.declared.rc.Rc.{Rc}
-use Rattle.std.specs.declared.string.String.{String}
 use Rattle.vx_states.specs.declared.state.Binding.{Binding}
 use Rattle.vx_states.specs.declared.state.Own.{Own as Own'}
 use Rattle.vx_states.specs.declared.state.SymState.{SymState}
@@ -42,9 +41,6 @@ state s = record {
 abbrev pub place_in : Name → Store → Option ℕ
 place_in x [] = None
 place_in x (e ∷ rest) = if same_name x e.0 then Some 0 else option_map suc (place_in x rest)
-
-abbrev pub names : List (Rc (String Global) Global) → List Name
-names xs = map (λ x. string_bytes x.value) xs
 
 -- a variable with a new symbol of its value's sort
 abbrev pub renewed : Name → State → State

@@ -3,10 +3,10 @@
 ghost use Rattle.std.specs.Prelude.{◌≡◌, ◌++◌, ◌∷◌, [], List, IfOk, string_bytes};
 ghost use Rattle.vx_ast.specs.Mentions as mentions;
 ghost use Rattle.vx_ast.specs.Syntax.{Name, assigned, assigned_in};
-ghost use Rattle.vx_resolved.specs.Resolved.{block as block_view, stmt as stmt_view};
+ghost use Rattle.vx_resolved.specs.Resolved.{block as block_view, names_of, stmt as stmt_view};
 ghost use Rattle.vx_rules.specs.Members as members;
 ghost use Rattle.vx_rules.specs.States as states;
-ghost use Rattle.vx_states.specs.SymStates.{names, renewed, state};
+ghost use Rattle.vx_states.specs.SymStates.{renewed, state};
 
 use crate::SymState;
 use crate::state::is_same_name;
@@ -16,7 +16,7 @@ use vx_resolved::{Block, Stmt};
 
 /// Whether a name is one of these.
 fn is_among(name: &Rc<String>, those: &[Rc<String>]) -> bool
-    ensures { result ≡ mentions.is_among (string_bytes name.now.value) (names those.now) }
+    ensures { result ≡ mentions.is_among (string_bytes name.now.value) (names_of those.now) }
 {
     for other in those {
         if is_same_name(name.as_bytes(), other.as_bytes()) {
@@ -56,7 +56,7 @@ impl SymState {
         name: &Rc<String>,
         done: &mut Vec<Rc<String>>,
     ) -> Result<(), AllocError>
-        ensures { IfOk result (λ _. (rest : List Name) → members.forget (names done.new.items) rest (state self.new) ≡ members.forget (names done.old.items) (string_bytes name.now.value ∷ rest) (state self.old)) }
+        ensures { IfOk result (λ _. (rest : List Name) → members.forget (names_of done.new.items) rest (state self.new) ≡ members.forget (names_of done.old.items) (string_bytes name.now.value ∷ rest) (state self.old)) }
     {
         if !self.is_stored(name) {
             return Ok(());
@@ -68,6 +68,21 @@ impl SymState {
         self.renew(alloc, name)
     }
 
+    /// Variables that are known get new symbols, those that have none.
+    fn forget_each(
+        &mut self,
+        alloc: Global,
+        those: &[Rc<String>],
+        done: &mut Vec<Rc<String>>,
+    ) -> Result<(), AllocError>
+        ensures { IfOk result (λ _. (rest : List Name) → members.forget (names_of done.new.items) rest (state self.new) ≡ members.forget (names_of done.old.items) (names_of those.now ++ rest) (state self.old)) }
+    {
+        for name in those {
+            self.forget_one(alloc, name, done)?;
+        }
+        Ok(())
+    }
+
     /// What a statement assigns gets new symbols.
     #[cycle(forgetting)]
     fn forget_stmt(
@@ -76,17 +91,20 @@ impl SymState {
         stmt: &Stmt,
         done: &mut Vec<Rc<String>>,
     ) -> Result<(), AllocError>
-        ensures { IfOk result (λ _. (rest : List Name) → members.forget (names done.new.items) rest (state self.new) ≡ members.forget (names done.old.items) (assigned (stmt_view stmt.now) ++ rest) (state self.old)) }
+        ensures { IfOk result (λ _. (rest : List Name) → members.forget (names_of done.new.items) rest (state self.new) ≡ members.forget (names_of done.old.items) (assigned (stmt_view stmt.now) ++ rest) (state self.old)) }
     {
         match stmt {
             Stmt::Declare(_, _, _) => Ok(()),
             Stmt::Assign(_, x, _) => self.forget_one(alloc, x, done),
             Stmt::Write(_, _, _, _) => Ok(()),
             Stmt::New(_, x, _) => self.forget_one(alloc, x, done),
+            Stmt::Call(_, targets, _, _) => self.forget_each(alloc, targets, done),
             Stmt::Inhale(_, _) => Ok(()),
             Stmt::Exhale(_, _) => Ok(()),
             Stmt::Assert(_, _) => Ok(()),
             Stmt::Assume(_, _) => Ok(()),
+            Stmt::Fold(_, _, _, _) => Ok(()),
+            Stmt::Unfold(_, _, _, _) => Ok(()),
             Stmt::If(_, _, a, b) => {
                 self.forget_block(alloc, a, done)?;
                 self.forget_block(alloc, b, done)
@@ -103,7 +121,7 @@ impl SymState {
         block: &Block,
         done: &mut Vec<Rc<String>>,
     ) -> Result<(), AllocError>
-        ensures { IfOk result (λ _. (rest : List Name) → members.forget (names done.new.items) rest (state self.new) ≡ members.forget (names done.old.items) (assigned_in (block_view block.now) ++ rest) (state self.old)) }
+        ensures { IfOk result (λ _. (rest : List Name) → members.forget (names_of done.new.items) rest (state self.new) ≡ members.forget (names_of done.old.items) (assigned_in (block_view block.now) ++ rest) (state self.old)) }
     {
         let mut left = block;
         loop {

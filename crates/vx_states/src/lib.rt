@@ -1,6 +1,7 @@
 //! Symbolic states, with paths that are shared and indexed.
 #![tactic(auto)]
 
+mod entering;
 mod forgetting;
 mod holdings;
 mod index;
@@ -11,6 +12,7 @@ mod references;
 mod snapshots;
 mod state;
 
+pub use entering::Caller;
 pub use indexed::IndexedPath;
 pub use path::Path;
 pub use snapshots::{left_part, right_part};

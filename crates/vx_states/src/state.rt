@@ -74,7 +74,7 @@ pub(crate) fn is_same_name(x: &[u8], y: &[u8]) -> bool
     x == y
 }
 
-fn copy_store(alloc: Global, store: &[Binding]) -> Result<Vec<Binding>, AllocError>
+pub(crate) fn copy_store(alloc: Global, store: &[Binding]) -> Result<Vec<Binding>, AllocError>
     ensures { IfOk result (λ v. map binding v.items ≡ map binding store.now) }
 {
     let mut copies = Vec::new(alloc);

@@ -3,7 +3,7 @@ use Rattle.std.proofs.Common.{◌≡◌, List, [], ◌∷◌, ◌++◌, Option, 
 use Rattle.vx_ast.specs.Syntax.{Name, Program, IsMethod, Method, Expr, Number, Truth, Null, Part, Variable, Not, Operate, Divide, Connect, Choose, Read, Old, Assertion, Pure, Points, Both, Implied, Chosen, Stmt, Declare, Assign, Write, New, Inhale, Exhale, Assert, Assume, If, While, Block, Done, Then, member_named}
 use Rattle.vx_ast.specs.Mentions.{mentioned, mentioned_by}
 use Rattle.vx_types.specs.FieldLanguage.{InFields, IsOfFields, AreOfFields, IsFieldStmt, IsFieldBlock, IsFieldBody, IsFieldMethod}
-use Rattle.vx_depth.specs.Entering.{Stands}
+use Rattle.vx_ast.specs.Apart.{Stands}
 use Rattle.vx_whole.specs.Closure.{mentioned_by_all, mentioned_by_stmt, mentioned_by_block, mentioned_by_body, mentioned_by_kind, mentions, InClosure, itself, further}
 
 none_and_none : {xs ys : List Name} → xs ≡ [] → ys ≡ [] → xs ++ ys ≡ []

@@ -2,8 +2,8 @@
 use Rattle.std.specs.Prelude.{List, [], ◌∷◌, ◌++◌, Option, Some, None, flat_map}
 use Rattle.vx_ast.specs.Syntax.{Name, Program, Kind, IsField, IsPredicate, IsFunction, IsMethod, Method, Assertion, Measure, ByNumber, ByInstance, Stmt, Declare, Assign, Write, New, Call, Inhale, Exhale, Assert, Assume, Fold, Unfold, If, While, Block, Done, Then, member_named, method_named}
 use Rattle.vx_ast.specs.Mentions.{mentioned, mentioned_in, mentioned_by, mentioned_by_function}
-use Rattle.vx_depth.specs.Entering.{Stands}
-use Rattle.vx_depth.specs.Apart.{mentioned_by_predicate}
+use Rattle.vx_ast.specs.Apart.{Stands}
+use Rattle.vx_ast.specs.Apart.{mentioned_by_predicate}
 
 abbrev pub mentioned_by_all : List Assertion → List Name
 mentioned_by_all rest = flat_map mentioned_by rest

@@ -7,7 +7,7 @@ use Rattle.vx_meaning.specs.Values.{PermValue}
 use Rattle.vx_meaning.specs.States.{State}
 use Rattle.vx_meaning.specs.Evaluate.{Applications, value}
 use Rattle.vx_types.specs.Typing.{IsTypedPredicate, IsTypedFunction, IsTypedMethod}
-use Rattle.vx_depth.specs.Apart.{KeepsApart}
+use Rattle.vx_ast.specs.Apart.{KeepsApart}
 
 -- one value in every state, which is above none
 abbrev pub IsConstantAmount : Expr → Type 0

@@ -5,9 +5,9 @@ use Rattle.vx_resolved.specs.declared.Stmt.{Stmt}
 use Rattle.vx_resolved.specs.declared.Block.TheViews.{the_lemmas}
 use Rattle.vx_resolved.specs.declared.Block.{Block as Block', size-Block, Then as Then_}
 use Rattle.vx_ast.specs.Syntax.{Then, assigned, assigned_in}
-use Rattle.vx_resolved.specs.Resolved.{block, stmt}
+use Rattle.vx_resolved.specs.Resolved.{block, stmt, names_of}
 use Rattle.vx_rules.specs.Members.{forget}
-use Rattle.vx_states.specs.SymStates.{names, state}
+use Rattle.vx_states.specs.SymStates.{state}
 use Rattle.vx_states.proofs.state.SymState.+forgetting.Goals as goal
 
 under : (b : Block') (s : Rc Stmt Global) (r : Rc Block' Global) → b ≡ Then_ s r → size-Block r.value < size-Block b
@@ -15,7 +15,7 @@ under b s r e = subst (λ y. size-Block r.value < size-Block y) (sym e) (search 
 
 pub forget_block-loop-left-preserved : goal.forget_block-loop-left-preserved
 forget_block-loop-left-preserved t c =
-    let d = names c.loop-left.done.items in
+    let d = names_of c.loop-left.done.items in
     let s = state c.loop-left.self in
     let first = c.deref.result.now in
     let left = c.deref-left.result.now in
