@@ -1,5 +1,5 @@
 -- What has no token beyond what is executed is executed, phrase by phrase.
-use Rattle.std.proofs.Common.{◌≡◌, ℕ, ◌+◌, List, [], ◌∷◌, ◌++◌, Option, Some, None, Bool, true, false, if◌then◌else◌, refl, sym, subst}
+use Rattle.std.proofs.Common.{◌≡◌, ℕ, ◌+◌, List, [], ◌∷◌, ◌++◌, Option, Some, None, Bool, true, false, refl, sym, subst}
 use Rattle.std.proofs.lemmas.List.{append-nil}
 use Rattle.std.specs.Cmp.Derive.{both_true}
 use Rattle.vx_ast.specs.declared.Place.{Place}
@@ -8,17 +8,17 @@ use Rattle.vx_ast.specs.declared.ValueType.TheVariants as types
 use Rattle.vx_ast.specs.Written.{Program}
 use Rattle.vx_tokens.specs.declared.token.Symbol.TheVariants as signs
 use Rattle.vx_tokens.specs.Tokens.{Token, word, symbol}
-use Rattle.vx_grammar.specs.Grammar.{literal_word, Constant, null_word, write_word, none_word, result_word, constant_word, constant_meant, Phrase, literal, constant, numeral, named, called, dotted, grouped, past, accessed, prefixed, joined, chosen, unfolded, AmountPhrase, no_amount, amount, amount_meant, amount_marks, instance_marks, meant, operators, level_of, Mark, mark, marks, tokens_of}
+use Rattle.vx_grammar.specs.Grammar.{literal_word, Constant, null_word, write_word, none_word, result_word, constant_word, constant_meant, Phrase, literal, constant, numeral, named, called, dotted, grouped, past, accessed, prefixed, joined, chosen, unfolded, ArgumentsPhrase, no_arguments, arguments_from, arguments_meant, arguments_marks, FurtherPhrase, nothing_further, further, further_meant, further_marks, AmountPhrase, no_amount, amount, amount_meant, amount_marks, instance_marks, meant, operators, level_of, Mark, mark, marks, tokens_of}
 use Rattle.vx_grammar.specs.Statements.{type_word, Claim, inhales, exhales, asserts, assumes, claim_meant, Folding, folds, unfolds, folding_word, NamesPhrase, no_names, next_name, names_marks, FieldsPhrase, every_field, no_fields, these_fields, fields_meant, fields_marks, RightPhrase, given, allocated, right_meant, right_marks, semi_marks, InvariantsPhrase, no_invariants, invariant, invariants_meant, invariants_marks, StmtPhrase, assigned, stored, invoked, targeted, declared, initialized, claimed, folded, branched, repeated, BranchPhrase, branch, OtherPhrase, no_other, other, another, BlockPhrase, block, RowPhrase, no_more, more, stmt_meant, branch_meant, other_meant, block_meant, row_meant, stmt_marks, branch_marks, other_marks, block_marks, row_marks}
 use Rattle.vx_grammar.specs.Programs as programs
 use Rattle.vx_grammar.specs.ProgramLaws.{ProgramSpelled}
 use Rattle.vx_grammar.proofs.Lists.{tokens-append_more}
-use Rattle.vx_executed.specs.Beyond.{opens, first_beyond}
+use Rattle.vx_executed.specs.Beyond.{first_beyond}
 use Rattle.vx_resolved.specs.Executed.{is_executed_expr, is_executed_amount, are_executed, is_executed_right, is_executed_stmt, is_executed_other, is_executed_block, are_executed_clauses, is_executed_body, is_executed_kind, is_executed}
 
--- no token is beyond what is executed, where no method's name is due
+-- no token is beyond what is executed
 abbrev pub NoneBeyond : List Token → Type 0
-NoneBeyond ts = first_beyond false ts ≡ None
+NoneBeyond ts = first_beyond ts ≡ None
 
 -- what stands in front is executed, and nothing behind it is beyond
 pub record Passes (executed : Bool) (behind : List Token) : Type 0 where
@@ -28,11 +28,6 @@ pub record Passes (executed : Bool) (behind : List Token) : Type 0 where
 -- the marks of two parts, and what follows
 parts : (xs ys : List Mark) (behind : List Token) → NoneBeyond (tokens_of (xs ++ ys) ++ behind) → NoneBeyond (tokens_of xs ++ (tokens_of ys ++ behind))
 parts xs ys behind h = subst NoneBeyond (tokens-append_more xs ys behind) h
-
--- where a name is not beyond, nothing behind it is
-behind_a_name : (opened : Bool) (t : Token) (r : Option Token) → (if opened then Some t else r) ≡ None → r ≡ None
-behind_a_name true t r h = absurd cc
-behind_a_name false t r h = h
 
 -- ---- expressions
 
@@ -51,11 +46,13 @@ mutual
   phrase_passes (literal p b) n behind h = record { is = refl; rest = literal_passes b p behind h }
   phrase_passes (constant p c) n behind h = constant_passes c p behind h
   phrase_passes (numeral p m) n behind h = record { is = refl; rest = h }
-  phrase_passes (named p x) n behind h = record { is = refl; rest = behind_a_name (opens behind) _ _ h }
-  phrase_passes (called p x o es c) n behind h = absurd cc
+  phrase_passes (named p x) n behind h = record { is = refl; rest = h }
+  phrase_passes (called p x o es c) n behind h =
+      let g = arguments_pass es (n + 1) _ (parts (arguments_marks (n + 1) es) _ behind h) in
+      record { is = g.is; rest = g.rest }
   phrase_passes (dotted e p q f) n behind h =
       let g = phrase_passes e n _ (parts (marks n e) _ behind h) in
-      record { is = g.is; rest = behind_a_name (opens behind) _ _ g.rest }
+      record { is = g.is; rest = g.rest }
   phrase_passes (grouped p e q) n behind h =
       let g = phrase_passes e (n + 1) _ (parts (marks (n + 1) e) _ behind h) in
       record { is = g.is; rest = g.rest }
@@ -84,6 +81,20 @@ mutual
   amount_passes no_amount n behind h = record { is = refl; rest = h }
   amount_passes (amount p e) n behind h = phrase_passes e n behind h
 
+  arguments_pass : (es : ArgumentsPhrase) (n : ℕ) (behind : List Token) → NoneBeyond (tokens_of (arguments_marks n es) ++ behind) → Passes (are_executed (arguments_meant es)) behind
+  arguments_pass no_arguments n behind h = record { is = refl; rest = h }
+  arguments_pass (arguments_from e es) n behind h =
+      let first = phrase_passes e n _ (parts (marks n e) _ behind h) in
+      let others = further_pass es n behind first.rest in
+      record { is = both_true first.is others.is; rest = others.rest }
+
+  further_pass : (es : FurtherPhrase) (n : ℕ) (behind : List Token) → NoneBeyond (tokens_of (further_marks n es) ++ behind) → Passes (are_executed (further_meant es)) behind
+  further_pass nothing_further n behind h = record { is = refl; rest = h }
+  further_pass (further p e es) n behind h =
+      let first = phrase_passes e n _ (parts (marks n e) _ behind h) in
+      let others = further_pass es n behind first.rest in
+      record { is = both_true first.is others.is; rest = others.rest }
+
 -- ---- statements
 
 type_passes : (t : ValueType) (p : Place) (behind : List Token) → NoneBeyond (record { kind = word (type_word t); place = p } ∷ behind) → NoneBeyond behind
@@ -99,15 +110,13 @@ semi_passes (Some p) n behind h = h
 names_pass : (xs : NamesPhrase) (n : ℕ) (behind : List Token) → NoneBeyond (tokens_of (names_marks n xs) ++ behind) → NoneBeyond behind
 names_pass no_names n behind h = h
 names_pass (next_name p q x rest) n behind h =
-    let after = tokens_of (names_marks n rest) ++ behind in
-    names_pass rest n behind (behind_a_name (opens after) _ _ h)
+    names_pass rest n behind h
 
 fields_pass : (fs : FieldsPhrase) (p : Place) (n : ℕ) (behind : List Token) → NoneBeyond (tokens_of (fields_marks n fs) ++ behind) → Passes (is_executed_right (fields_meant p fs)) behind
 fields_pass (every_field q) p n behind h = record { is = refl; rest = h }
 fields_pass no_fields p n behind h = record { is = refl; rest = h }
 fields_pass (these_fields q x rest) p n behind h =
-    let after = tokens_of (names_marks n rest) ++ behind in
-    record { is = refl; rest = names_pass rest n behind (behind_a_name (opens after) _ _ h) }
+    record { is = refl; rest = names_pass rest n behind h }
 
 right_passes : (r : RightPhrase) (n : ℕ) (behind : List Token) → NoneBeyond (tokens_of (right_marks n r) ++ behind) → Passes (is_executed_right (right_meant r)) behind
 right_passes (given e) n behind h = phrase_passes e n behind h
@@ -134,6 +143,10 @@ claim_passes exhales p e n behind h = phrase_passes e n behind h
 claim_passes asserts p e n behind h = phrase_passes e n behind h
 claim_passes assumes p e n behind h = phrase_passes e n behind h
 
+-- a call is executed where its arguments are
+called_passes : (p : Place) (m : List ℕ) (o : Place) (es : ArgumentsPhrase) (c : Place) (n : ℕ) (behind : List Token) → NoneBeyond (tokens_of (marks n (called p m o es c)) ++ behind) → Passes (are_executed (arguments_meant es)) behind
+called_passes p m o es c n behind h = phrase_passes (called p m o es c) n behind h
+
 -- folding is beyond
 folding_stops : (f : Folding) (p : Place) (behind : List Token) → NoneBeyond (record { kind = word (folding_word f); place = p } ∷ behind) → ⊥
 folding_stops folds p behind h = absurd cc
@@ -146,12 +159,9 @@ mutual
       let location = phrase_passes (dotted e p q f) n _ (parts (marks n (dotted e p q f)) _ behind h) in
       let value = phrase_passes v n behind location.rest in
       record { is = both_true location.is value.is; rest = value.rest }
-  stmt_passes (invoked p m o es c) n behind h = absurd cc
+  stmt_passes (invoked p m o es c) n behind h = called_passes p m o es c n behind h
   stmt_passes (targeted p x k q y ys r s m o es c) n behind h =
-      let call = mark n r (symbol signs.Becomes) ∷ marks n (called s m o es c) in
-      let after = tokens_of (names_marks n ys ++ call) ++ behind in
-      let stops = names_pass ys n _ (parts (names_marks n ys) call behind (behind_a_name (opens after) _ _ h)) in
-      absurd cc
+      called_passes s m o es c n behind (names_pass ys n _ (parts (names_marks n ys) (mark n r (symbol signs.Becomes) ∷ marks n (called s m o es c)) behind h))
   stmt_passes (declared p d) n behind h = record { is = refl; rest = type_passes d.of d.type_at behind h }
   stmt_passes (initialized p d q r) n behind h =
       let becomes = mark n q (symbol signs.Becomes) in

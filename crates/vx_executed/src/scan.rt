@@ -1,6 +1,6 @@
 //! The first token of a text that is not executed.
 
-ghost use Rattle.std.specs.Prelude.{◌≡◌, ◌≤◌, ◌<◌, ◌↔◌, ℕ, List, length, Some, IfSome, option_map, false};
+ghost use Rattle.std.specs.Prelude.{◌≡◌, ◌≤◌, ◌<◌, ◌↔◌, ℕ, List, length, Some, IfSome, option_map};
 ghost use Rattle.vx_parser.specs.Answers.{StandsIn, AllStandIn};
 ghost use Rattle.vx_tokens.specs.Text.{Scans, first_place, unmarked, Ending as End};
 ghost use Rattle.vx_tokens.specs.Tokens.{kind_of, token_of, tokens_in, Token as Tok};
@@ -10,14 +10,14 @@ ghost use Rattle.vx_parser.specs.declared.fault.TextFault.TheVariants as faults;
 use std::alloc::Global;
 use vx_expr_parser::same;
 use vx_parser::{TextFault, unsupported};
-use vx_tokens::{Kind, MAX_TEXT, Symbol, Token, Word, lex};
+use vx_tokens::{Kind, MAX_TEXT, Token, Word, lex};
 
 /// Why a text is not executed: its first token that isn't, which is answered as unsupported. Memory may also run out.
 pub fn beyond(alloc: Global, text: &[u8]) -> Option<TextFault>
     // A text is too long exactly above 4,194,304 bytes.
     ensures too_long { result ≡ Some faults.TooLong ↔ (4194304 < length text.now) }
     // The first token that is not executed is answered, with its text, and none where all are.
-    ensures first { length text.now ≤ 4194304 → (ts : List Tok) (e : End) → Scans first_place (unmarked text.now) ts e → executed.IsFirst (unmarked text.now) result (executed.first_beyond false ts) }
+    ensures first { length text.now ≤ 4194304 → (ts : List Tok) (e : End) → Scans first_place (unmarked text.now) ts e → executed.IsFirst (unmarked text.now) result (executed.first_beyond ts) }
 {
     if text.len() > MAX_TEXT {
         return Some(TextFault::TooLong);
@@ -32,56 +32,20 @@ pub fn beyond(alloc: Global, text: &[u8]) -> Option<TextFault>
 }
 
 fn first_beyond<'t>(tokens: &'t [Token<'t>]) -> Option<&'t Token<'t>>
-    ensures first { option_map (λ t. token_of t.now) result ≡ executed.first_beyond false (tokens_in tokens.now) }
+    ensures first { option_map (λ t. token_of t.now) result ≡ executed.first_beyond (tokens_in tokens.now) }
     ensures stands { (bytes : List ℕ) → AllStandIn bytes tokens.now → IfSome result (λ t. StandsIn bytes t.now) }
 {
     let mut rest = tokens;
-    let mut declared = false;
     for _ in 0..tokens.len() {
         let Some((first, inner)) = rest.split_first() else {
             return None;
         };
-        if is_beyond(declared, first, inner) {
+        if is_beyond_kind(first.kind) {
             return Some(first);
         }
-        declared = is_method(first.kind);
         rest = same(inner);
     }
     None
-}
-
-// A word that is not executed, or the name of a call or an application, where a method's name is due or not.
-fn is_beyond(declared: bool, first: &Token, rest: &[Token]) -> bool
-    ensures { result ≡ executed.is_beyond declared (token_of first.now) (tokens_in rest.now) }
-{
-    is_beyond_kind(first.kind) || (!declared && is_name(first.kind) && opens(rest))
-}
-
-fn opens(tokens: &[Token]) -> bool
-    ensures { result ≡ executed.opens (tokens_in tokens.now) }
-{
-    match tokens.split_first() {
-        None => false,
-        Some((first, _)) => is_open(first.kind),
-    }
-}
-
-fn is_open(kind: Kind) -> bool
-    ensures { result ≡ executed.is_open (kind_of kind.entry) }
-{
-    matches!(kind, Kind::Symbol(Symbol::Open))
-}
-
-fn is_name(kind: Kind) -> bool
-    ensures { result ≡ executed.is_name (kind_of kind.entry) }
-{
-    matches!(kind, Kind::Name(_))
-}
-
-fn is_method(kind: Kind) -> bool
-    ensures { result ≡ executed.is_method (kind_of kind.entry) }
-{
-    matches!(kind, Kind::Word(Word::Method))
 }
 
 // A word that is not executed. All signs are.

@@ -10,7 +10,7 @@ use Rattle.vx_rules.specs.Trees.{AssertCode, CallCode}
 use Rattle.vx_rules.specs.Rules.{Going, GivingAll, Outer, outer, nowhere, entered, back, evals}
 use Rattle.vx_rules.specs.Members.{codes, names_of, after_names, called}
 use Rattle.vx_types.specs.Typing.{Scope, HaveTypes, no_more, more, TargetsHaveTypes}
-use Rattle.vx_sound.specs.CallLanguage.{AreInFields}
+use Rattle.vx_types.specs.CallLanguage.{AreInFields}
 use Rattle.vx_sound.proofs.Contracts.{HasFieldContract}
 use Rattle.vx_live.specs.Live.{AllLive}
 use Rattle.vx_live.proofs.Over.{Sorts, Above, stays, above, Fine, fine_later}

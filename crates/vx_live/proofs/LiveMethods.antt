@@ -17,7 +17,7 @@ use Rattle.vx_types.specs.Typing.{Scope, IsTyped, IsTypedStmt, IsTypedBlock, IsT
 use Rattle.vx_types.specs.FieldLanguage.{IsFieldMethod}
 use Rattle.vx_types.specs.StoreLanguage.{IsStoreMethod}
 use Rattle.vx_whole.specs.Closure.{itself}
-use Rattle.vx_sound.specs.CallLanguage.{IsCallingMember}
+use Rattle.vx_types.specs.CallLanguage.{IsCallingMember}
 use Rattle.vx_sound.proofs.Contracts.{SpeaksOfFields, AllSpeaks, BodySpeaks, MethodSpeaks, field_method_speaks}
 use Rattle.vx_sound.proofs.Callees.{speaks}
 use Rattle.vx_live.specs.Live.{AllLive, LiveLaw, LiveClosureLaw}

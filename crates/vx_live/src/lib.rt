@@ -3,7 +3,7 @@
 
 ghost use Rattle.vx_types.specs.StoreLanguage.{IsStoreMethod};
 ghost use Rattle.vx_types.specs.FieldLanguage.{IsFieldMethod};
-ghost use Rattle.vx_sound.specs.CallLanguage.{IsCallingMember};
+ghost use Rattle.vx_types.specs.CallLanguage.{IsCallingMember};
 ghost use Rattle.vx_live.specs.Live.{LiveLaw, LiveClosureLaw};
 
 /// Each question that a walk of a method with fields and loops can meet is well-sorted: its condition and its path are of

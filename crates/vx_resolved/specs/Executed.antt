@@ -1,4 +1,5 @@
--- The programs that are executed so far: fields, and methods without calls. No predicate, no function, nothing applied.
+-- The programs that are executed so far: fields and methods, and nothing that folds or unfolds. That an applied name is a
+-- method's then follows from typing.
 use Rattle.std.specs.Prelude.{Bool, true, false, ◌&&◌, List, [], ◌∷◌, Option, Some, None}
 use Rattle.vx_ast.specs.Written.{Expr, Number, Truth, Null, Whole, Nothing, Result, Variable, Call, Read, Unary, Binary, Choice, Old, Access, Unfolding, Amount, All, Part, Exprs, NoMore, More, Right, Value, NewAll, New, Stmt, Declare, Assign, Write, Invoke, Inhale, Exhale, Assert, Assume, Fold, Unfold, If, While, Other, NoElse, Else, Block, Done, Then, Clause, Requires, Ensures, Decreases, Method, Kind, IsField, IsPredicate, IsFunction, IsMethod, Program}
 
@@ -11,7 +12,7 @@ abbrev mutual
   is_executed_expr (Nothing at) = true
   is_executed_expr (Result at) = true
   is_executed_expr (Variable at x) = true
-  is_executed_expr (Call at f es) = false
+  is_executed_expr (Call at f es) = are_executed es
   is_executed_expr (Read at e f) = is_executed_expr e
   is_executed_expr (Unary at op e) = is_executed_expr e
   is_executed_expr (Binary at op a b) = is_executed_expr a && is_executed_expr b
@@ -24,9 +25,9 @@ abbrev mutual
   is_executed_amount All = true
   is_executed_amount (Part e) = is_executed_expr e
 
-abbrev pub are_executed : Exprs → Bool
-are_executed NoMore = true
-are_executed (More e es) = is_executed_expr e && are_executed es
+  pub are_executed : Exprs → Bool
+  are_executed NoMore = true
+  are_executed (More e es) = is_executed_expr e && are_executed es
 
 abbrev pub is_executed_right : Right → Bool
 is_executed_right (Value e) = is_executed_expr e
@@ -42,7 +43,7 @@ abbrev mutual
   is_executed_stmt (Declare at d r) = is_executed_value r
   is_executed_stmt (Assign at x r) = is_executed_right r
   is_executed_stmt (Write at e f e') = is_executed_expr e && is_executed_expr e'
-  is_executed_stmt (Invoke at xs m es) = false
+  is_executed_stmt (Invoke at xs m es) = are_executed es
   is_executed_stmt (Inhale at e) = is_executed_expr e
   is_executed_stmt (Exhale at e) = is_executed_expr e
   is_executed_stmt (Assert at e) = is_executed_expr e

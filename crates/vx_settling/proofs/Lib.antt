@@ -1,6 +1,7 @@
-pub mod Asserted
 pub mod Lists
 pub mod Loops
 pub mod Methods
 pub mod Refused
+pub mod Rows
+pub mod Sets
 pub mod Statements

@@ -6,8 +6,8 @@ use Rattle.std.specs.declared.rc.Rc.{Rc}
 use Rattle.std.specs.declared.string.String.{String}
 use Rattle.vx_resolved.specs.declared.Assertion as assertion'
 use Rattle.vx_resolved.specs.Resolved as resolved
+use Rattle.vx_resolved.specs.Resolved.{names_of as listed}
 use Rattle.vx_ast.specs.Syntax.{Assertion}
-use Rattle.vx_settling.specs.Parts.{listed}
 
 -- the items so far, and one more, in front of others
 behind : {X Y : Type 0} (view : X → Y) (done : List X) (x : X) (next : List X) (y : Y) (rest : List Y)

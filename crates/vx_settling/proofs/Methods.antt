@@ -1,7 +1,7 @@
--- A settled method, part by part.
+-- A settled method or predicate, part by part.
 use Rattle.std.proofs.Common.{◌≡◌, ◌∙◌, List, Option, ap}
 use Rattle.vx_ast.specs.declared.Place.{Place}
-use Rattle.vx_ast.specs.Syntax.{Declaration, Assertion, Block, Kind, IsMethod}
+use Rattle.vx_ast.specs.Syntax.{Declaration, Assertion, Block, Kind, IsPredicate, IsMethod}
 
 abbrev made : Place → List Declaration → List Declaration → List Assertion → List Assertion → Option Block → Kind
 made place ps rs before after b = IsMethod record { place = place; parameters = ps; returns = rs; requires = before; ensures = after; body = b }
@@ -11,3 +11,9 @@ pub same_method : (place : Place) (ps ps' rs rs' : List Declaration) (before bef
 same_method place ps ps' rs rs' before before' after after' b b' e f g h k =
     ap (λ x. made place x rs before after b) e ∙ ap (λ x. made place ps' x before after b) f ∙ ap (λ x. made place ps' rs' x after b) g
     ∙ ap (λ x. made place ps' rs' before' x b) h ∙ ap (λ x. made place ps' rs' before' after' x) k
+
+abbrev defined : Place → List Declaration → Option Assertion → Kind
+defined place ps b = IsPredicate record { place = place; parameters = ps; body = b }
+
+pub same_predicate : (place : Place) (ps ps' : List Declaration) (b b' : Option Assertion) → ps ≡ ps' → b ≡ b' → defined place ps b ≡ defined place ps' b'
+same_predicate place ps ps' b b' e f = ap (λ x. defined place x b) e ∙ ap (λ x. defined place ps' x) f

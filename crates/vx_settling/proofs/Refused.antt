@@ -25,9 +25,3 @@ first r e a b is h = passed r e (a && b) is (of_first e a b h)
 
 pub second : {X : Type 0} (r : Result X Unsettled) (e : Unsettled) (a b : Bool) → IsErrAnd r (λ f. f ≡ e) → Refuses e b → Tells r (a && b)
 second r e a b is h = passed r e (a && b) is (of_second e a b h)
-
-pub middle : {X : Type 0} (r : Result X Unsettled) (e : Unsettled) (a b d : Bool) → IsErrAnd r (λ f. f ≡ e) → Refuses e b → Tells r (a && (b && d))
-middle r e a b d is h = second r e a (b && d) is (of_first e b d h)
-
-pub third : {X : Type 0} (r : Result X Unsettled) (e : Unsettled) (a b d : Bool) → IsErrAnd r (λ f. f ≡ e) → Refuses e d → Tells r (a && (b && d))
-third r e a b d is h = second r e a (b && d) is (of_second e b d h)

@@ -1,3 +1,3 @@
 pub mod Refusals
 pub mod Parts
-pub mod Fields
+pub mod Names

@@ -1,30 +1,30 @@
 //! Assertions, settled.
 
-ghost use Rattle.std.specs.Prelude.{◌≡◌, ◌&&◌, IfOk, true};
+ghost use Rattle.std.specs.Prelude.{◌≡◌, ◌&&◌, if◌then◌else◌, IfOk};
 ghost use Rattle.vx_ast.specs.Written.{written_expr, written_optional, written_all};
-ghost use Rattle.vx_ast.specs.Resolve.{Names, access, amount, assertion, assertions, expression};
+ghost use Rattle.vx_ast.specs.Resolve as resolve;
+ghost use Rattle.vx_ast.specs.Resolve.{access, amount, assertion, assertions, expression, expressions};
 ghost use Rattle.vx_ast.specs.Syntax as Syntax;
 ghost use Rattle.vx_resolved.specs.Resolved as settled;
-ghost use Rattle.vx_resolved.specs.Executed.{is_executed_expr, is_executed_amount, are_executed};
-ghost use Rattle.vx_settling.specs.Parts.{is_pure_form, is_alone};
-ghost use Rattle.vx_settling.specs.Refusals.{Tells};
+ghost use Rattle.vx_settling.specs.Names.{names_in};
 
-use crate::Unsettled;
-use crate::expr::{amount, expression, shared};
-use std::alloc::Global;
+use crate::expr::{amount, expression, expressions, shared};
+use crate::names::Names;
+use std::alloc::{AllocError, Global};
 use std::rc::Rc;
 use vx_ast::{BinaryOperator, Expr, ExprKind, Place};
 use vx_resolved::Assertion;
 
 /// Whether no permission stands in an expression.
-fn is_pure(e: &Expr) -> bool
-    ensures { result ≡ is_pure_form (written_expr e.now) }
+fn is_pure(names: &Names, e: &Expr) -> bool
+    ensures { result ≡ resolve.is_pure (names_in names.now) (written_expr e.now) }
 {
     match &e.kind {
         ExprKind::Access(_, _) => false,
-        ExprKind::Binary(BinaryOperator::And, a, b) => is_pure(a) && is_pure(b),
-        ExprKind::Binary(BinaryOperator::Implies, _, a) => is_pure(a),
-        ExprKind::Conditional(_, a, b) => is_pure(a) && is_pure(b),
+        ExprKind::Call(name, _) => !names.is_predicate(name),
+        ExprKind::Binary(BinaryOperator::And, a, b) => is_pure(names, a) && is_pure(names, b),
+        ExprKind::Binary(BinaryOperator::Implies, _, a) => is_pure(names, a),
+        ExprKind::Conditional(_, a, b) => is_pure(names, a) && is_pure(names, b),
         ExprKind::Binary(
             BinaryOperator::Or
             | BinaryOperator::Equal
@@ -49,7 +49,6 @@ fn is_pure(e: &Expr) -> bool
         | ExprKind::Nothing
         | ExprKind::Outcome
         | ExprKind::Variable(_)
-        | ExprKind::Call(_, _)
         | ExprKind::Read(_, _)
         | ExprKind::Unary(_, _)
         | ExprKind::Old(_)
@@ -57,17 +56,15 @@ fn is_pure(e: &Expr) -> bool
     }
 }
 
-fn are_pure(a: &Expr, b: &Expr) -> bool
-    ensures { result ≡ (is_pure_form (written_expr a.now) && is_pure_form (written_expr b.now)) }
+fn are_pure(names: &Names, a: &Expr, b: &Expr) -> bool
+    ensures { result ≡ (resolve.is_pure (names_in names.now) (written_expr a.now) && resolve.is_pure (names_in names.now) (written_expr b.now)) }
 {
-    is_pure(a) && is_pure(b)
+    is_pure(names, a) && is_pure(names, b)
 }
 
 // An expression as an assertion of its own.
-#[tactic(auto, using(crate::proofs::Refused::passed, crate::proofs::Asserted::executed_alone))]
-fn pure(alloc: Global, e: &Expr) -> Result<Rc<Assertion>, Unsettled>
-    ensures settled { IfOk result (λ a. (names : Names) → is_alone (written_expr e.now) ≡ true → settled.assertion a.value ≡ assertion names (written_expr e.now)) }
-    ensures executed { Tells result (is_executed_expr (written_expr e.now)) }
+fn pure(alloc: Global, e: &Expr) -> Result<Rc<Assertion>, AllocError>
+    ensures { IfOk result (λ a. settled.assertion a.value ≡ Syntax.Pure (expression (written_expr e.now))) }
 {
     let e = expression(alloc, e)?;
     Ok(Rc::new(alloc, Assertion::Pure(e))?)
@@ -80,9 +77,8 @@ fn location(
     e: &Expr,
     field: &str,
     share: &Option<Rc<Expr>>,
-) -> Result<Rc<Assertion>, Unsettled>
-    ensures settled { IfOk result (λ a. settled.assertion a.value ≡ Syntax.Points place (expression (written_expr e.now)) field.now (amount place (written_optional share.now))) }
-    ensures executed { Tells result (is_executed_expr (written_expr e.now) && is_executed_amount (written_optional share.now)) }
+) -> Result<Rc<Assertion>, AllocError>
+    ensures { IfOk result (λ a. settled.assertion a.value ≡ Syntax.Points place (expression (written_expr e.now)) field.now (amount place (written_optional share.now))) }
 {
     let e = expression(alloc, e)?;
     let share = amount(alloc, place, share)?;
@@ -90,18 +86,29 @@ fn location(
     Ok(Rc::new(alloc, Assertion::Points(place, e, field, share))?)
 }
 
-// What is neither a location nor an instance is held in no typed program.
-fn nowhere(
+// How much of an instance is held.
+fn instance(
     alloc: Global,
     place: Place,
-    e: &Expr,
+    predicate: &str,
+    arguments: &[Rc<Expr>],
     share: &Option<Rc<Expr>>,
-) -> Result<Rc<Assertion>, Unsettled>
-    ensures settled { IfOk result (λ a. settled.assertion a.value ≡ Syntax.Pure (Syntax.Null place)) }
-    ensures executed { Tells result (is_executed_expr (written_expr e.now) && is_executed_amount (written_optional share.now)) }
+) -> Result<Rc<Assertion>, AllocError>
+    ensures { IfOk result (λ a. settled.assertion a.value ≡ Syntax.Instance place predicate.now (expressions (written_all arguments.now)) (amount place (written_optional share.now))) }
 {
-    expression(alloc, e)?;
-    amount(alloc, place, share)?;
+    let predicate = shared(alloc, predicate)?;
+    let arguments = expressions(alloc, arguments)?;
+    let share = amount(alloc, place, share)?;
+    Ok(Rc::new(
+        alloc,
+        Assertion::Instance(place, predicate, arguments, share),
+    )?)
+}
+
+// What is neither a location nor an instance is held in no typed program.
+fn nowhere(alloc: Global, place: Place) -> Result<Rc<Assertion>, AllocError>
+    ensures { IfOk result (λ a. settled.assertion a.value ≡ Syntax.Pure (Syntax.Null place)) }
+{
     let e = Rc::new(alloc, vx_resolved::Expr::Null(place))?;
     Ok(Rc::new(alloc, Assertion::Pure(e))?)
 }
@@ -112,13 +119,12 @@ fn permission(
     place: Place,
     e: &Expr,
     share: &Option<Rc<Expr>>,
-) -> Result<Rc<Assertion>, Unsettled>
-    ensures settled { IfOk result (λ a. settled.assertion a.value ≡ access place (written_expr e.now) (amount place (written_optional share.now))) }
-    ensures executed { Tells result (is_executed_expr (written_expr e.now) && is_executed_amount (written_optional share.now)) }
+) -> Result<Rc<Assertion>, AllocError>
+    ensures { IfOk result (λ a. settled.assertion a.value ≡ access place (written_expr e.now) (amount place (written_optional share.now))) }
 {
     match &e.kind {
         ExprKind::Read(of, field) => location(alloc, place, of, &field.text, share),
-        ExprKind::Call(_, _) => Err(Unsettled::NotExecuted(e.place, "(")),
+        ExprKind::Call(name, arguments) => instance(alloc, place, name, arguments, share),
         ExprKind::Number(_)
         | ExprKind::Boolean(_)
         | ExprKind::Null
@@ -131,38 +137,53 @@ fn permission(
         | ExprKind::Conditional(_, _, _)
         | ExprKind::Old(_)
         | ExprKind::Access(_, _)
-        | ExprKind::Unfolding(_, _, _, _) => nowhere(alloc, place, e, share),
+        | ExprKind::Unfolding(_, _, _, _) => nowhere(alloc, place),
     }
 }
 
+// What is applied is an instance that is held whole, or an application.
+fn applied(
+    alloc: Global,
+    names: &Names,
+    e: &Expr,
+    name: &str,
+    arguments: &[Rc<Expr>],
+) -> Result<Rc<Assertion>, AllocError>
+    ensures { IfOk result (λ a. settled.assertion a.value ≡ (if (names_in names.now).is_predicate name.now then Syntax.Instance e.now.place name.now (expressions (written_all arguments.now)) (resolve.whole e.now.place) else Syntax.Pure (expression (written_expr e.now)))) }
+{
+    if names.is_predicate(name) {
+        return instance(alloc, e.place, name, arguments, &None);
+    }
+    pure(alloc, e)
+}
+
 /// An assertion, settled: `&&` at its top is taken apart, and so is what a permission stands in.
-pub fn assertion(alloc: Global, e: &Expr) -> Result<Rc<Assertion>, Unsettled>
-    ensures settled { IfOk result (λ a. (names : Names) → settled.assertion a.value ≡ assertion names (written_expr e.now)) }
-    ensures executed { Tells result (is_executed_expr (written_expr e.now)) }
+pub fn assertion(alloc: Global, names: &Names, e: &Expr) -> Result<Rc<Assertion>, AllocError>
+    ensures { IfOk result (λ a. settled.assertion a.value ≡ assertion (names_in names.now) (written_expr e.now)) }
 {
     match &e.kind {
         ExprKind::Access(a, share) => permission(alloc, e.place, a, share),
-        ExprKind::Call(_, _) => Err(Unsettled::NotExecuted(e.place, "(")),
+        ExprKind::Call(name, arguments) => applied(alloc, names, e, name, arguments),
         ExprKind::Binary(BinaryOperator::And, a, b) => {
-            let a = assertion(alloc, a)?;
-            let b = assertion(alloc, b)?;
+            let a = assertion(alloc, names, a)?;
+            let b = assertion(alloc, names, b)?;
             Ok(Rc::new(alloc, Assertion::Both(a, b))?)
         }
         ExprKind::Binary(BinaryOperator::Implies, c, a) => {
-            if is_pure(a) {
+            if is_pure(names, a) {
                 return pure(alloc, e);
             }
             let c = expression(alloc, c)?;
-            let a = assertion(alloc, a)?;
+            let a = assertion(alloc, names, a)?;
             Ok(Rc::new(alloc, Assertion::Implied(c, a))?)
         }
         ExprKind::Conditional(c, a, b) => {
-            if are_pure(a, b) {
+            if are_pure(names, a, b) {
                 return pure(alloc, e);
             }
             let c = expression(alloc, c)?;
-            let a = assertion(alloc, a)?;
-            let b = assertion(alloc, b)?;
+            let a = assertion(alloc, names, a)?;
+            let b = assertion(alloc, names, b)?;
             Ok(Rc::new(alloc, Assertion::Chosen(c, a, b))?)
         }
         ExprKind::Binary(
@@ -197,13 +218,16 @@ pub fn assertion(alloc: Global, e: &Expr) -> Result<Rc<Assertion>, Unsettled>
 }
 
 /// Assertions, settled, in order.
-pub fn assertions(alloc: Global, all: &[Rc<Expr>]) -> Result<Vec<Rc<Assertion>>, Unsettled>
-    ensures settled { IfOk result (λ v. (names : Names) → settled.assertions v.items ≡ assertions names (written_all all.now)) }
-    ensures executed { Tells result (are_executed (written_all all.now)) }
+pub fn assertions(
+    alloc: Global,
+    names: &Names,
+    all: &[Rc<Expr>],
+) -> Result<Vec<Rc<Assertion>>, AllocError>
+    ensures { IfOk result (λ v. settled.assertions v.items ≡ assertions (names_in names.now) (written_all all.now)) }
 {
     let mut done = Vec::new(alloc);
     for e in all {
-        done.push(assertion(alloc, e)?)?;
+        done.push(assertion(alloc, names, e)?)?;
     }
     Ok(done)
 }

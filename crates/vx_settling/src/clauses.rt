@@ -3,16 +3,15 @@
 ghost use Rattle.std.specs.Prelude.{◌≡◌, ◌++◌, ◌∷◌, [], List, IfOk, OnOk, map};
 ghost use Rattle.vx_ast.specs.Written as written;
 ghost use Rattle.vx_ast.specs.Written.{written_expr, written_clause};
-ghost use Rattle.vx_ast.specs.Resolve.{Names, assertion};
+ghost use Rattle.vx_ast.specs.Resolve.{assertion};
 ghost use Rattle.vx_resolved.specs.Resolved as view;
 ghost use Rattle.vx_ast.specs.Syntax as Syntax;
-ghost use Rattle.vx_resolved.specs.Executed.{is_executed_expr, is_executed_clause, are_executed_clauses};
 ghost use Rattle.vx_settling.specs.Parts.{required, ensured};
-ghost use Rattle.vx_settling.specs.Refusals.{Tells};
+ghost use Rattle.vx_settling.specs.Names.{names_in};
 
-use crate::Unsettled;
 use crate::assertions::assertion;
-use std::alloc::Global;
+use crate::names::Names;
+use std::alloc::{AllocError, Global};
 use std::rc::Rc;
 use vx_ast::{Clause, Expr};
 use vx_resolved::Assertion;
@@ -27,40 +26,47 @@ pub struct Contract {
 }
 
 // One assertion more.
-#[tactic(auto, using(crate::proofs::Refused::passed, crate::proofs::Lists::one_behind))]
-fn one_more(alloc: Global, e: &Expr, settled: &mut Assertions) -> Result<(), Unsettled>
-    ensures settled { OnOk result ((names : Names) (rest : List Syntax.Assertion) → view.assertions settled.new.items ++ rest ≡ view.assertions settled.old.items ++ assertion names (written_expr e.now) ∷ rest) }
-    ensures executed { Tells result (is_executed_expr (written_expr e.now)) }
+#[tactic(auto, using(crate::proofs::Lists::one_behind))]
+fn one_more(
+    alloc: Global,
+    names: &Names,
+    e: &Expr,
+    settled: &mut Assertions,
+) -> Result<(), AllocError>
+    ensures { OnOk result ((rest : List Syntax.Assertion) → view.assertions settled.new.items ++ rest ≡ view.assertions settled.old.items ++ assertion (names_in names.now) (written_expr e.now) ∷ rest) }
 {
-    settled.push(assertion(alloc, e)?)?;
+    settled.push(assertion(alloc, names, e)?)?;
     Ok(())
 }
 
 // One clause more.
-fn add(alloc: Global, clause: &Clause, contract: &mut Contract) -> Result<(), Unsettled>
-    ensures requires_settled { OnOk result ((names : Names) (rest : List written.Clause) → view.assertions contract.new.preconditions.items ++ required names rest ≡ view.assertions contract.old.preconditions.items ++ required names (written_clause clause.now ∷ rest)) }
-    ensures ensures_settled { OnOk result ((names : Names) (rest : List written.Clause) → view.assertions contract.new.postconditions.items ++ ensured names rest ≡ view.assertions contract.old.postconditions.items ++ ensured names (written_clause clause.now ∷ rest)) }
-    ensures executed { Tells result (is_executed_clause (written_clause clause.now)) }
+fn add(
+    alloc: Global,
+    names: &Names,
+    clause: &Clause,
+    contract: &mut Contract,
+) -> Result<(), AllocError>
+    ensures requires_settled { OnOk result ((rest : List written.Clause) → view.assertions contract.new.preconditions.items ++ required (names_in names.now) rest ≡ view.assertions contract.old.preconditions.items ++ required (names_in names.now) (written_clause clause.now ∷ rest)) }
+    ensures ensures_settled { OnOk result ((rest : List written.Clause) → view.assertions contract.new.postconditions.items ++ ensured (names_in names.now) rest ≡ view.assertions contract.old.postconditions.items ++ ensured (names_in names.now) (written_clause clause.now ∷ rest)) }
 {
     match clause {
-        Clause::Requires(e) => one_more(alloc, e, &mut contract.preconditions),
-        Clause::Ensures(e) => one_more(alloc, e, &mut contract.postconditions),
+        Clause::Requires(e) => one_more(alloc, names, e, &mut contract.preconditions),
+        Clause::Ensures(e) => one_more(alloc, names, e, &mut contract.postconditions),
         Clause::Decreases(_) => Ok(()),
     }
 }
 
 /// The clauses of a method.
-pub fn clauses(alloc: Global, all: &[Clause]) -> Result<Contract, Unsettled>
-    ensures requires_settled { IfOk result (λ c. (names : Names) → view.assertions c.preconditions.items ≡ required names (map written_clause all.now)) }
-    ensures ensures_settled { IfOk result (λ c. (names : Names) → view.assertions c.postconditions.items ≡ ensured names (map written_clause all.now)) }
-    ensures executed { Tells result (are_executed_clauses (map written_clause all.now)) }
+pub fn clauses(alloc: Global, names: &Names, all: &[Clause]) -> Result<Contract, AllocError>
+    ensures requires_settled { IfOk result (λ c. view.assertions c.preconditions.items ≡ required (names_in names.now) (map written_clause all.now)) }
+    ensures ensures_settled { IfOk result (λ c. view.assertions c.postconditions.items ≡ ensured (names_in names.now) (map written_clause all.now)) }
 {
     let mut contract = Contract {
         preconditions: Vec::new(alloc),
         postconditions: Vec::new(alloc),
     };
     for clause in all {
-        add(alloc, clause, &mut contract)?;
+        add(alloc, names, clause, &mut contract)?;
     }
     Ok(contract)
 }

@@ -1,18 +1,15 @@
 //! Expressions, settled.
 
 ghost use Rattle.std.specs.Prelude.{◌≡◌, IfOk};
-ghost use Rattle.vx_ast.specs.Written.{written_expr, written_optional};
-ghost use Rattle.vx_ast.specs.Resolve.{amount, expression, unary_of, binary_of, part_of};
-ghost use Rattle.vx_resolved.specs.Resolved.{expr, operator, division, connective};
+ghost use Rattle.vx_ast.specs.Written.{written_all, written_expr, written_optional};
+ghost use Rattle.vx_ast.specs.Resolve.{amount, expression, expressions, unary_of, binary_of, part_of};
+ghost use Rattle.vx_resolved.specs.Resolved.{expr, exprs, operator, division, connective};
 ghost use Rattle.vx_ast.specs.Syntax as Syntax;
-ghost use Rattle.vx_resolved.specs.Executed.{is_executed_expr, is_executed_amount};
-ghost use Rattle.vx_settling.specs.Refusals.{Tells};
 
-use crate::Unsettled;
 use std::alloc::{AllocError, Global};
 use std::rc::Rc;
 use vx_ast::{BinaryOperator, Expr, ExprKind, Place, UnaryOperator};
-use vx_resolved::{Connective, Division, Operator};
+use vx_resolved::{Connective, Division, Exprs, Operator};
 
 fn operate(
     alloc: Global,
@@ -103,7 +100,9 @@ fn part_over(
         | vx_resolved::Expr::Connect(_, _, _, _)
         | vx_resolved::Expr::Choose(_, _, _, _)
         | vx_resolved::Expr::Read(_, _, _)
-        | vx_resolved::Expr::Old(_, _) => null(alloc, place),
+        | vx_resolved::Expr::Old(_, _)
+        | vx_resolved::Expr::Apply(_, _, _)
+        | vx_resolved::Expr::Unfolding(_, _, _, _, _) => null(alloc, place),
     }
 }
 
@@ -128,7 +127,9 @@ fn part(
         | vx_resolved::Expr::Connect(_, _, _, _)
         | vx_resolved::Expr::Choose(_, _, _, _)
         | vx_resolved::Expr::Read(_, _, _)
-        | vx_resolved::Expr::Old(_, _) => null(alloc, place),
+        | vx_resolved::Expr::Old(_, _)
+        | vx_resolved::Expr::Apply(_, _, _)
+        | vx_resolved::Expr::Unfolding(_, _, _, _, _) => null(alloc, place),
     }
 }
 
@@ -228,43 +229,61 @@ pub fn amount(
     alloc: Global,
     place: Place,
     share: &Option<Rc<Expr>>,
-) -> Result<Rc<vx_resolved::Expr>, Unsettled>
-    ensures settled { IfOk result (λ r. expr r.value ≡ amount place (written_optional share.now)) }
-    ensures executed { Tells result (is_executed_amount (written_optional share.now)) }
+) -> Result<Rc<vx_resolved::Expr>, AllocError>
+    ensures { IfOk result (λ r. expr r.value ≡ amount place (written_optional share.now)) }
 {
     match share {
-        None => Ok(fraction(alloc, place, 1, 1)?),
+        None => fraction(alloc, place, 1, 1),
         Some(e) => expression(alloc, e),
     }
 }
 
-/// An expression, settled. Its parts are settled from left to right, and before the node itself.
+/// Expressions, settled, in order.
 #[cycle(expressions)]
-pub fn expression(alloc: Global, e: &Expr) -> Result<Rc<vx_resolved::Expr>, Unsettled>
-    ensures settled { IfOk result (λ r. expr r.value ≡ expression (written_expr e.now)) }
-    ensures executed { Tells result (is_executed_expr (written_expr e.now)) }
+pub fn expressions(alloc: Global, all: &[Rc<Expr>]) -> Result<Rc<Exprs>, AllocError>
+    ensures { IfOk result (λ r. exprs r.value ≡ expressions (written_all all.now)) }
+{
+    let mut settled = Rc::new(alloc, Exprs::NoMore)?;
+    let mut left = all.len();
+    while left > 0 {
+        left -= 1;
+        let first = expression(alloc, &all[left])?;
+        settled = Rc::new(alloc, Exprs::More(first, settled))?;
+    }
+    Ok(settled)
+}
+
+/// An expression, settled.
+#[cycle(expressions)]
+pub fn expression(alloc: Global, e: &Expr) -> Result<Rc<vx_resolved::Expr>, AllocError>
+    ensures { IfOk result (λ r. expr r.value ≡ expression (written_expr e.now)) }
 {
     let place = e.place;
     match &e.kind {
         ExprKind::Number(n) => Ok(Rc::new(alloc, vx_resolved::Expr::Number(place, *n))?),
         ExprKind::Boolean(b) => Ok(Rc::new(alloc, vx_resolved::Expr::Truth(place, *b))?),
-        ExprKind::Null => Ok(null(alloc, place)?),
-        ExprKind::Write => Ok(fraction(alloc, place, 1, 1)?),
-        ExprKind::Nothing => Ok(fraction(alloc, place, 0, 1)?),
-        ExprKind::Outcome => Ok(outcome(alloc, place)?),
-        ExprKind::Variable(name) => Ok(variable(alloc, place, name)?),
+        ExprKind::Null => null(alloc, place),
+        ExprKind::Write => fraction(alloc, place, 1, 1),
+        ExprKind::Nothing => fraction(alloc, place, 0, 1),
+        ExprKind::Outcome => outcome(alloc, place),
+        ExprKind::Variable(name) => variable(alloc, place, name),
+        ExprKind::Call(name, arguments) => {
+            let name = shared(alloc, name)?;
+            let arguments = expressions(alloc, arguments)?;
+            Ok(Rc::new(alloc, vx_resolved::Expr::Apply(place, name, arguments))?)
+        }
         ExprKind::Read(a, field) => {
             let a = expression(alloc, a)?;
-            Ok(read(alloc, place, a, &field.text)?)
+            read(alloc, place, a, &field.text)
         }
         ExprKind::Unary(op, a) => {
             let a = expression(alloc, a)?;
-            Ok(unary(alloc, place, *op, a)?)
+            unary(alloc, place, *op, a)
         }
         ExprKind::Binary(op, a, b) => {
             let a = expression(alloc, a)?;
             let b = expression(alloc, b)?;
-            Ok(binary(alloc, place, *op, a, b)?)
+            binary(alloc, place, *op, a, b)
         }
         ExprKind::Conditional(c, a, b) => {
             let c = expression(alloc, c)?;
@@ -277,12 +296,16 @@ pub fn expression(alloc: Global, e: &Expr) -> Result<Rc<vx_resolved::Expr>, Unse
             Ok(Rc::new(alloc, vx_resolved::Expr::Old(place, a))?)
         }
         // Typed as an assertion alone.
-        ExprKind::Access(a, share) => {
-            expression(alloc, a)?;
-            amount(alloc, place, share)?;
-            Ok(null(alloc, place)?)
+        ExprKind::Access(_, _) => null(alloc, place),
+        ExprKind::Unfolding(name, arguments, share, a) => {
+            let name = shared(alloc, &name.text)?;
+            let arguments = expressions(alloc, arguments)?;
+            let share = amount(alloc, place, share)?;
+            let a = expression(alloc, a)?;
+            Ok(Rc::new(
+                alloc,
+                vx_resolved::Expr::Unfolding(place, name, arguments, share, a),
+            )?)
         }
-        ExprKind::Call(_, _) => Err(Unsettled::NotExecuted(place, "(")),
-        ExprKind::Unfolding(_, _, _, _) => Err(Unsettled::NotExecuted(place, "unfolding")),
     }
 }

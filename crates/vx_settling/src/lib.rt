@@ -1,11 +1,11 @@
 //! Settling: from a program as it is written to the settled syntax that meaning and rules speak of.
-#![tactic(auto, using(crate::proofs::Refused::passed, crate::proofs::Refused::first, crate::proofs::Refused::second, crate::proofs::Refused::middle, crate::proofs::Refused::third))]
+#![tactic(auto, using(crate::proofs::Refused::passed, crate::proofs::Refused::first, crate::proofs::Refused::second))]
 
 mod assertions;
 mod clauses;
 mod expr;
-mod fields;
 mod members;
+mod names;
 mod stmt;
 mod unsettled;
 

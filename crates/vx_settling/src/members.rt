@@ -1,31 +1,31 @@
 //! Members, settled.
 
-ghost use Rattle.std.specs.Prelude.{◌≡◌, Bool, IfOk, map};
+ghost use Rattle.std.specs.Prelude.{◌≡◌, IfOk, map};
+ghost use Rattle.vx_ast.specs.Apart.{KeepsApart};
 ghost use Rattle.vx_ast.specs.Written as written;
-ghost use Rattle.vx_ast.specs.Written.{written_declaration, written_kind, written_member, written_program, optional_block};
+ghost use Rattle.vx_ast.specs.Written.{written_declaration, written_kind, written_member, written_program, optional_block, optional_expr};
 ghost use Rattle.vx_ast.specs.Resolve as resolve;
-ghost use Rattle.vx_ast.specs.Resolve.{Names};
+ghost use Rattle.vx_ast.specs.Resolve.{Names as NamesOf};
 ghost use Rattle.vx_resolved.specs.Resolved as view;
 ghost use Rattle.vx_ast.specs.Syntax as Syntax;
-ghost use Rattle.vx_resolved.specs.Executed.{is_executed_body, is_executed_kind, is_executed};
-ghost use Rattle.vx_settling.specs.Refusals.{Tells};
+ghost use Rattle.vx_settling.specs.Refusals.{Tells, are_settled, is_settled_kind};
 ghost use Rattle.vx_resolved.specs.Settled.{settled};
-ghost use Rattle.vx_settling.specs.Parts.{over};
-ghost use Rattle.vx_settling.specs.Fields.{names_in};
+ghost use Rattle.vx_settling.specs.Names.{names_in};
 
 use crate::Unsettled;
+use crate::assertions::assertion;
 use crate::clauses::clauses;
 use crate::expr::shared;
-use crate::fields::{Fields, all_fields};
+use crate::names::{Names, all_names};
 use crate::stmt::block;
 use std::alloc::{AllocError, Global};
 use std::rc::Rc;
-use vx_ast::{Declaration, Member, MemberKind, Method, Place, Program};
-use vx_resolved::{Block, Settled};
+use vx_ast::{Declaration, Expr, Member, MemberKind, Method, Place, Predicate, Program};
+use vx_resolved::{Assertion, Block, Settled};
 
 // A variable, settled.
 fn declaration(alloc: Global, d: &Declaration) -> Result<vx_resolved::Declaration, AllocError>
-    ensures { IfOk result (λ r. (names : Names) → view.declaration r ≡ resolve.declaration names (written_declaration d.now)) }
+    ensures { IfOk result (λ r. (names : NamesOf) → view.declaration r ≡ resolve.declaration names (written_declaration d.now)) }
 {
     Ok(vx_resolved::Declaration {
         name: shared(alloc, &d.name.text)?,
@@ -37,7 +37,7 @@ fn declarations(
     alloc: Global,
     all: &[Declaration],
 ) -> Result<Vec<vx_resolved::Declaration>, AllocError>
-    ensures { IfOk result (λ v. (names : Names) → map view.declaration v.items ≡ map (resolve.declaration names) (map written_declaration all.now)) }
+    ensures { IfOk result (λ v. (names : NamesOf) → map view.declaration v.items ≡ map (resolve.declaration names) (map written_declaration all.now)) }
 {
     let mut settled = Vec::new(alloc);
     for d in all {
@@ -48,32 +48,30 @@ fn declarations(
 
 fn body(
     alloc: Global,
-    fields: &Fields,
+    names: &Names,
     b: &Option<Rc<vx_ast::Block>>,
-) -> Result<Option<Rc<Block>>, Unsettled>
-    ensures settled { IfOk result (λ r. (is_predicate is_method : Syntax.Name → Bool) → view.optional_block r ≡ resolve.optional_block (over (names_in fields.now) is_predicate is_method) (optional_block b.now)) }
-    ensures executed { Tells result (is_executed_body (optional_block b.now)) }
+) -> Result<Option<Rc<Block>>, AllocError>
+    ensures { IfOk result (λ r. view.optional_block r ≡ resolve.optional_block (names_in names.now) (optional_block b.now)) }
 {
     match b {
         None => Ok(None),
-        Some(b) => Ok(Some(block(alloc, fields, b)?)),
+        Some(b) => Ok(Some(block(alloc, names, b)?)),
     }
 }
 
-// A method, settled. Its parts are settled in text order.
+// A method, settled.
 fn method(
     alloc: Global,
-    fields: &Fields,
+    names: &Names,
     place: Place,
     m: &Method,
-) -> Result<vx_resolved::Method, Unsettled>
-    ensures settled { IfOk result (λ r. (is_predicate is_method : Syntax.Name → Bool) → Syntax.IsMethod (view.method r) ≡ resolve.kind (over (names_in fields.now) is_predicate is_method) place (written_kind (MemberKind.Method m.now))) }
-    ensures executed { Tells result (is_executed_kind (written_kind (MemberKind.Method m.now))) }
+) -> Result<vx_resolved::Method, AllocError>
+    ensures { IfOk result (λ r. Syntax.IsMethod (view.method r) ≡ resolve.kind (names_in names.now) place (written_kind (MemberKind.Method m.now))) }
 {
     let parameters = declarations(alloc, &m.parameters)?;
     let returns = declarations(alloc, &m.returns)?;
-    let contract = clauses(alloc, &m.clauses)?;
-    let body = body(alloc, fields, &m.body)?;
+    let contract = clauses(alloc, names, &m.clauses)?;
+    let body = body(alloc, names, &m.body)?;
     Ok(vx_resolved::Method {
         place,
         parameters,
@@ -84,50 +82,93 @@ fn method(
     })
 }
 
-// A member, settled.
-fn member(alloc: Global, fields: &Fields, m: &Member) -> Result<vx_resolved::Member, Unsettled>
-    ensures settled { IfOk result (λ r. (is_predicate is_method : Syntax.Name → Bool) → view.member r ≡ resolve.member (over (names_in fields.now) is_predicate is_method) (written_member m.now)) }
-    ensures executed { Tells result (is_executed_kind (written_member m.now).kind) }
+fn held(
+    alloc: Global,
+    names: &Names,
+    e: &Option<Rc<Expr>>,
+) -> Result<Option<Rc<Assertion>>, AllocError>
+    ensures { IfOk result (λ r. view.optional_assertion r ≡ resolve.optional_assertion (names_in names.now) (optional_expr e.now)) }
 {
-    let place = m.place;
-    match &m.kind {
-        MemberKind::Field(of) => Ok(vx_resolved::Member {
-            name: shared(alloc, &m.name.text)?,
-            kind: vx_resolved::Kind::Field(*of),
-        }),
-        MemberKind::Method(of) => {
-            let of = Rc::new(alloc, method(alloc, fields, place, of)?)?;
-            Ok(vx_resolved::Member {
-                name: shared(alloc, &m.name.text)?,
-                kind: vx_resolved::Kind::Method(of),
-            })
-        }
-        MemberKind::Predicate(_) => Err(Unsettled::NotExecuted(place, "predicate")),
-        MemberKind::Function(_) => Err(Unsettled::NotExecuted(place, "function")),
+    match e {
+        None => Ok(None),
+        Some(e) => Ok(Some(assertion(alloc, names, e)?)),
     }
+}
+
+// A predicate, settled.
+fn predicate(
+    alloc: Global,
+    names: &Names,
+    place: Place,
+    d: &Predicate,
+) -> Result<vx_resolved::Predicate, AllocError>
+    ensures { IfOk result (λ r. Syntax.IsPredicate (view.predicate r) ≡ resolve.kind (names_in names.now) place (written_kind (MemberKind.Predicate d.now))) }
+{
+    let parameters = declarations(alloc, &d.parameters)?;
+    let body = held(alloc, names, &d.body)?;
+    Ok(vx_resolved::Predicate {
+        place,
+        parameters,
+        body,
+    })
+}
+
+// What a member is, settled.
+fn kind(
+    alloc: Global,
+    names: &Names,
+    place: Place,
+    k: &MemberKind,
+) -> Result<vx_resolved::Kind, Unsettled>
+    ensures settled { IfOk result (λ r. view.kind r ≡ resolve.kind (names_in names.now) place (written_kind k.now)) }
+    ensures told { Tells result (is_settled_kind (written_kind k.now)) }
+{
+    match k {
+        MemberKind::Field(of) => Ok(vx_resolved::Kind::Field(*of)),
+        MemberKind::Predicate(of) => {
+            let of = Rc::new(alloc, predicate(alloc, names, place, of)?)?;
+            Ok(vx_resolved::Kind::Predicate(of))
+        }
+        MemberKind::Function(_) => Err(Unsettled::NotExecuted(place, "function")),
+        MemberKind::Method(of) => {
+            let of = Rc::new(alloc, method(alloc, names, place, of)?)?;
+            Ok(vx_resolved::Kind::Method(of))
+        }
+    }
+}
+
+// A member, settled.
+fn member(alloc: Global, names: &Names, m: &Member) -> Result<vx_resolved::Member, Unsettled>
+    ensures settled { IfOk result (λ r. view.member r ≡ resolve.member (names_in names.now) (written_member m.now)) }
+    ensures told { Tells result (is_settled_kind (written_member m.now).kind) }
+{
+    let kind = kind(alloc, names, m.place, &m.kind)?;
+    let name = shared(alloc, &m.name.text)?;
+    Ok(vx_resolved::Member { name, kind })
 }
 
 fn members(
     alloc: Global,
-    fields: &Fields,
+    names: &Names,
     all: &[Member],
 ) -> Result<Vec<vx_resolved::Member>, Unsettled>
-    ensures settled { IfOk result (λ v. (is_predicate is_method : Syntax.Name → Bool) → map view.member v.items ≡ map (resolve.member (over (names_in fields.now) is_predicate is_method)) (map written_member all.now)) }
-    ensures executed { Tells result (is_executed (map written_member all.now)) }
+    ensures settled { IfOk result (λ v. map view.member v.items ≡ map (resolve.member (names_in names.now)) (map written_member all.now)) }
+    ensures told { Tells result (are_settled (map written_member all.now)) }
 {
     let mut settled = Vec::new(alloc);
     for m in all {
-        settled.push(member(alloc, fields, m)?)?;
+        settled.push(member(alloc, names, m)?)?;
     }
     Ok(settled)
 }
 
-/// The settled program, or the first form in text order that is not executed yet.
+/// The settled program of one whose members are kept apart; a function isn't settled yet, and the first one is named.
 pub fn settle(alloc: Global, p: &Program) -> Result<Settled, Unsettled>
+    requires apart { KeepsApart (resolve.program (written_program p.now)) }
     ensures settled { IfOk result (λ t. settled t ≡ resolve.program (written_program p.now)) }
-    ensures executed { Tells result (is_executed (written_program p.now)) }
+    ensures told { Tells result (are_settled (written_program p.now)) }
 {
-    let fields = all_fields(alloc, &p.members)?;
-    let members = members(alloc, &fields, &p.members)?;
+    let names = all_names(alloc, &p.members)?;
+    let members = members(alloc, &names, &p.members)?;
     Ok(Settled::new(alloc, vx_resolved::Program { members })?)
 }

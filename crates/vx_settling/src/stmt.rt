@@ -1,63 +1,144 @@
 //! Statements, settled.
 
-ghost use Rattle.std.specs.Prelude.{◌≡◌, ◌&&◌, Bool, IfOk, OnOk, map};
+ghost use Rattle.std.specs.Prelude.{◌≡◌, ◌∷◌, [], if◌then◌else◌, IfOk, OnOk, map, string_bytes};
 ghost use Rattle.vx_ast.specs.Written as written;
-ghost use Rattle.vx_ast.specs.Written.{written_expr, written_stmt, written_block, written_right, written_declaration, written_all, written_list, optional_right, optional_other, name_of};
+ghost use Rattle.vx_ast.specs.Written.{written_expr, written_stmt, written_block, written_right, written_declaration, written_all, written_list, written_optional, optional_right, optional_other, name_of};
 ghost use Rattle.vx_ast.specs.Resolve as resolve;
 ghost use Rattle.vx_resolved.specs.Resolved as settled;
 ghost use Rattle.vx_ast.specs.Syntax as Syntax;
-ghost use Rattle.vx_resolved.specs.Executed.{is_executed_right, is_executed_stmt, is_executed_block, is_executed_other, is_executed_expr};
-ghost use Rattle.vx_settling.specs.Parts.{bare, listed, onto, over, stmts};
-ghost use Rattle.vx_settling.specs.Fields.{names_in};
-ghost use Rattle.vx_settling.specs.Refusals.{Tells};
+ghost use Rattle.vx_settling.specs.Parts.{bare, onto, stmts};
+ghost use Rattle.vx_settling.specs.Names.{names_in};
 
-use crate::Unsettled;
 use crate::assertions::{assertion, assertions};
-use crate::expr::{expression, shared};
-use crate::fields::{Fields, SharedNames, add_name};
+use crate::expr::{amount, expression, expressions, shared};
+use crate::names::{Names, SharedNames, add_name};
 use std::alloc::{AllocError, Global};
 use std::rc::Rc;
-use vx_ast::{Declaration, Expr, Name, Place, Right, Stmt, StmtKind};
+use vx_ast::{Declaration, Expr, ExprKind, Instance, Name, Place, Right, Stmt, StmtKind};
 use vx_resolved::Block;
 
 /// The settled statements of a block so far.
 pub type Settled = Vec<Rc<vx_resolved::Stmt>>;
 
 // Names, each with its own copy.
-fn copied(alloc: Global, names: &[Name]) -> Result<Rc<SharedNames>, AllocError>
-    ensures { IfOk result (λ xs. listed xs.value.items ≡ bare (map name_of names.now)) }
+fn copied(alloc: Global, those: &[Name]) -> Result<Rc<SharedNames>, AllocError>
+    ensures { IfOk result (λ xs. settled.names_of xs.value.items ≡ bare (map name_of those.now)) }
 {
     let mut copies = Vec::new(alloc);
-    for name in names {
+    for name in those {
         add_name(alloc, &name.text, &mut copies)?;
     }
     Ok(Rc::new(alloc, copies)?)
 }
 
+// One name, to be shared.
+fn alone(alloc: Global, name: Rc<String>) -> Result<Rc<SharedNames>, AllocError>
+    ensures { IfOk result (λ xs. settled.names_of xs.value.items ≡ string_bytes name.value ∷ []) }
+{
+    let mut names = Vec::new(alloc);
+    names.push(name)?;
+    Ok(Rc::new(alloc, names)?)
+}
+
+// A call whose one target is a variable.
+fn called(
+    alloc: Global,
+    place: Place,
+    target: Rc<String>,
+    method: &str,
+    arguments: &[Rc<Expr>],
+) -> Result<Rc<vx_resolved::Stmt>, AllocError>
+    ensures { IfOk result (λ s. settled.stmt s.value ≡ Syntax.Call place (string_bytes target.value ∷ []) method.now (resolve.expressions (written_all arguments.now))) }
+{
+    let targets = alone(alloc, target)?;
+    let method = shared(alloc, method)?;
+    let arguments = expressions(alloc, arguments)?;
+    Ok(Rc::new(
+        alloc,
+        vx_resolved::Stmt::Call(place, targets, method, arguments),
+    )?)
+}
+
+// A variable gets the value of an expression.
+fn valued(
+    alloc: Global,
+    place: Place,
+    target: Rc<String>,
+    e: &Expr,
+) -> Result<Rc<vx_resolved::Stmt>, AllocError>
+    ensures { IfOk result (λ s. settled.stmt s.value ≡ Syntax.Assign place (string_bytes target.value) (resolve.expression (written_expr e.now))) }
+{
+    let e = expression(alloc, e)?;
+    Ok(Rc::new(alloc, vx_resolved::Stmt::Assign(place, target, e))?)
+}
+
+// What is applied right of `:=` is a call where its name is a method's.
+fn applied(
+    alloc: Global,
+    names: &Names,
+    place: Place,
+    target: Rc<String>,
+    e: &Expr,
+    name: &str,
+    arguments: &[Rc<Expr>],
+) -> Result<Rc<vx_resolved::Stmt>, AllocError>
+    ensures { IfOk result (λ s. settled.stmt s.value ≡ (if (names_in names.now).is_method name.now then Syntax.Call place (string_bytes target.value ∷ []) name.now (resolve.expressions (written_all arguments.now)) else Syntax.Assign place (string_bytes target.value) (resolve.expression (written_expr e.now)))) }
+{
+    if names.is_method(name) {
+        return called(alloc, place, target, name, arguments);
+    }
+    valued(alloc, place, target, e)
+}
+
+// A value that is assigned.
+fn of_value(
+    alloc: Global,
+    names: &Names,
+    place: Place,
+    target: Rc<String>,
+    e: &Expr,
+) -> Result<Rc<vx_resolved::Stmt>, AllocError>
+    ensures { IfOk result (λ s. settled.stmt s.value ≡ resolve.assign (names_in names.now) place (string_bytes target.value) (written.Value (written_expr e.now))) }
+{
+    match &e.kind {
+        ExprKind::Call(name, arguments) => applied(alloc, names, place, target, e, name, arguments),
+        ExprKind::Number(_)
+        | ExprKind::Boolean(_)
+        | ExprKind::Null
+        | ExprKind::Write
+        | ExprKind::Nothing
+        | ExprKind::Outcome
+        | ExprKind::Variable(_)
+        | ExprKind::Read(_, _)
+        | ExprKind::Unary(_, _)
+        | ExprKind::Binary(_, _, _)
+        | ExprKind::Conditional(_, _, _)
+        | ExprKind::Old(_)
+        | ExprKind::Access(_, _)
+        | ExprKind::Unfolding(_, _, _, _) => valued(alloc, place, target, e),
+    }
+}
+
 // An assignment to a variable.
 fn assignment(
     alloc: Global,
-    fields: &Fields,
+    names: &Names,
     place: Place,
     name: &Name,
     right: &Right,
-) -> Result<Rc<vx_resolved::Stmt>, Unsettled>
-    ensures settled { IfOk result (λ s. (is_predicate is_method : Syntax.Name → Bool) → settled.stmt s.value ≡ resolve.assign (over (names_in fields.now) is_predicate is_method) place (name_of name.now).name (written_right right.now)) }
-    ensures executed { Tells result (is_executed_right (written_right right.now)) }
+) -> Result<Rc<vx_resolved::Stmt>, AllocError>
+    ensures { IfOk result (λ s. settled.stmt s.value ≡ resolve.assign (names_in names.now) place (name_of name.now).name (written_right right.now)) }
 {
     let target = shared(alloc, &name.text)?;
     match right {
-        Right::Value(e) => {
-            let e = expression(alloc, e)?;
-            Ok(Rc::new(alloc, vx_resolved::Stmt::Assign(place, target, e))?)
-        }
+        Right::Value(e) => of_value(alloc, names, place, target, e),
         Right::NewAll(_) => {
-            let all = fields.names()?;
+            let all = names.fields()?;
             Ok(Rc::new(alloc, vx_resolved::Stmt::New(place, target, all))?)
         }
-        Right::New(_, names) => {
-            let names = copied(alloc, names)?;
-            Ok(Rc::new(alloc, vx_resolved::Stmt::New(place, target, names))?)
+        Right::New(_, those) => {
+            let those = copied(alloc, those)?;
+            Ok(Rc::new(alloc, vx_resolved::Stmt::New(place, target, those))?)
         }
     }
 }
@@ -96,17 +177,16 @@ fn declaration(
 
 fn assigned(
     alloc: Global,
-    fields: &Fields,
+    names: &Names,
     place: Place,
     name: &Name,
     right: &Right,
     block: &mut Settled,
-) -> Result<(), Unsettled>
-    ensures settled { OnOk result ((is_predicate is_method : Syntax.Name → Bool) (rest : Syntax.Block) → onto (stmts block.new.items) rest
-        ≡ onto (stmts block.old.items) (Syntax.Then (resolve.assign (over (names_in fields.now) is_predicate is_method) place (name_of name.now).name (written_right right.now)) rest)) }
-    ensures executed { Tells result (is_executed_right (written_right right.now)) }
+) -> Result<(), AllocError>
+    ensures { OnOk result ((rest : Syntax.Block) → onto (stmts block.new.items) rest
+        ≡ onto (stmts block.old.items) (Syntax.Then (resolve.assign (names_in names.now) place (name_of name.now).name (written_right right.now)) rest)) }
 {
-    let s = assignment(alloc, fields, place, name, right)?;
+    let s = assignment(alloc, names, place, name, right)?;
     add(block, s)?;
     Ok(())
 }
@@ -114,57 +194,70 @@ fn assigned(
 // A variable's declaration, with its first value or none.
 fn declared_by(
     alloc: Global,
-    fields: &Fields,
+    names: &Names,
     place: Place,
     declared: &Declaration,
     right: &Option<Right>,
     block: &mut Settled,
-) -> Result<(), Unsettled>
-    ensures settled { OnOk result ((is_predicate is_method : Syntax.Name → Bool) (rest : Syntax.Block) → onto (stmts block.new.items) rest
-        ≡ onto (stmts block.old.items) (resolve.statement (over (names_in fields.now) is_predicate is_method) (written.Declare place (written_declaration declared.now) (optional_right right.now)) rest)) }
-    ensures executed { Tells result (is_executed_stmt (written.Declare place (written_declaration declared.now) (optional_right right.now))) }
+) -> Result<(), AllocError>
+    ensures { OnOk result ((rest : Syntax.Block) → onto (stmts block.new.items) rest
+        ≡ onto (stmts block.old.items) (resolve.statement (names_in names.now) (written.Declare place (written_declaration declared.now) (optional_right right.now)) rest)) }
 {
     declaration(alloc, place, declared, block)?;
     match right {
         None => Ok(()),
-        Some(right) => assigned(alloc, fields, place, &declared.name, right, block),
+        Some(right) => assigned(alloc, names, place, &declared.name, right, block),
     }
 }
 
-fn asserted(alloc: Global, place: Place, e: &Expr, block: &mut Settled) -> Result<(), Unsettled>
-    ensures settled { OnOk result ((names : resolve.Names) (rest : Syntax.Block) → onto (stmts block.new.items) rest
-        ≡ onto (stmts block.old.items) (Syntax.Then (Syntax.Assert place (resolve.assertion names (written_expr e.now))) rest)) }
-    ensures executed { Tells result (is_executed_expr (written_expr e.now)) }
+fn asserted(
+    alloc: Global,
+    names: &Names,
+    place: Place,
+    e: &Expr,
+    block: &mut Settled,
+) -> Result<(), AllocError>
+    ensures { OnOk result ((rest : Syntax.Block) → onto (stmts block.new.items) rest
+        ≡ onto (stmts block.old.items) (Syntax.Then (Syntax.Assert place (resolve.assertion (names_in names.now) (written_expr e.now))) rest)) }
 {
-    let a = assertion(alloc, e)?;
+    let a = assertion(alloc, names, e)?;
     put(alloc, block, vx_resolved::Stmt::Assert(place, a))?;
     Ok(())
 }
 
-fn inhaled(alloc: Global, place: Place, e: &Expr, block: &mut Settled) -> Result<(), Unsettled>
-    ensures settled { OnOk result ((names : resolve.Names) (rest : Syntax.Block) → onto (stmts block.new.items) rest
-        ≡ onto (stmts block.old.items) (Syntax.Then (Syntax.Inhale place (resolve.assertion names (written_expr e.now))) rest)) }
-    ensures executed { Tells result (is_executed_expr (written_expr e.now)) }
+fn inhaled(
+    alloc: Global,
+    names: &Names,
+    place: Place,
+    e: &Expr,
+    block: &mut Settled,
+) -> Result<(), AllocError>
+    ensures { OnOk result ((rest : Syntax.Block) → onto (stmts block.new.items) rest
+        ≡ onto (stmts block.old.items) (Syntax.Then (Syntax.Inhale place (resolve.assertion (names_in names.now) (written_expr e.now))) rest)) }
 {
-    let a = assertion(alloc, e)?;
+    let a = assertion(alloc, names, e)?;
     put(alloc, block, vx_resolved::Stmt::Inhale(place, a))?;
     Ok(())
 }
 
-fn exhaled(alloc: Global, place: Place, e: &Expr, block: &mut Settled) -> Result<(), Unsettled>
-    ensures settled { OnOk result ((names : resolve.Names) (rest : Syntax.Block) → onto (stmts block.new.items) rest
-        ≡ onto (stmts block.old.items) (Syntax.Then (Syntax.Exhale place (resolve.assertion names (written_expr e.now))) rest)) }
-    ensures executed { Tells result (is_executed_expr (written_expr e.now)) }
+fn exhaled(
+    alloc: Global,
+    names: &Names,
+    place: Place,
+    e: &Expr,
+    block: &mut Settled,
+) -> Result<(), AllocError>
+    ensures { OnOk result ((rest : Syntax.Block) → onto (stmts block.new.items) rest
+        ≡ onto (stmts block.old.items) (Syntax.Then (Syntax.Exhale place (resolve.assertion (names_in names.now) (written_expr e.now))) rest)) }
 {
-    let a = assertion(alloc, e)?;
+    let a = assertion(alloc, names, e)?;
     put(alloc, block, vx_resolved::Stmt::Exhale(place, a))?;
     Ok(())
 }
 
-fn assumed(alloc: Global, place: Place, e: &Expr, block: &mut Settled) -> Result<(), Unsettled>
-    ensures settled { OnOk result ((rest : Syntax.Block) → onto (stmts block.new.items) rest
+fn assumed(alloc: Global, place: Place, e: &Expr, block: &mut Settled) -> Result<(), AllocError>
+    ensures { OnOk result ((rest : Syntax.Block) → onto (stmts block.new.items) rest
         ≡ onto (stmts block.old.items) (Syntax.Then (Syntax.Assume place (resolve.expression (written_expr e.now))) rest)) }
-    ensures executed { Tells result (is_executed_expr (written_expr e.now)) }
 {
     let c = expression(alloc, e)?;
     put(alloc, block, vx_resolved::Stmt::Assume(place, c))?;
@@ -179,10 +272,9 @@ fn write(
     field: &Name,
     value: &Expr,
     block: &mut Settled,
-) -> Result<(), Unsettled>
-    ensures settled { OnOk result ((rest : Syntax.Block) → onto (stmts block.new.items) rest
+) -> Result<(), AllocError>
+    ensures { OnOk result ((rest : Syntax.Block) → onto (stmts block.new.items) rest
         ≡ onto (stmts block.old.items) (Syntax.Then (Syntax.Write place (resolve.expression (written_expr e.now)) (name_of field.now).name (resolve.expression (written_expr value.now))) rest)) }
-    ensures executed { Tells result (is_executed_expr (written_expr e.now) && is_executed_expr (written_expr value.now)) }
 {
     let e = expression(alloc, e)?;
     let value = expression(alloc, value)?;
@@ -191,6 +283,71 @@ fn write(
         alloc,
         block,
         vx_resolved::Stmt::Write(place, e, field, value),
+    )?;
+    Ok(())
+}
+
+// A call.
+fn call(
+    alloc: Global,
+    place: Place,
+    targets: &[Name],
+    method: &Name,
+    arguments: &[Rc<Expr>],
+    block: &mut Settled,
+) -> Result<(), AllocError>
+    ensures { OnOk result ((rest : Syntax.Block) → onto (stmts block.new.items) rest
+        ≡ onto (stmts block.old.items) (Syntax.Then (Syntax.Call place (bare (map name_of targets.now)) (name_of method.now).name (resolve.expressions (written_all arguments.now))) rest)) }
+{
+    let targets = copied(alloc, targets)?;
+    let method = shared(alloc, &method.text)?;
+    let arguments = expressions(alloc, arguments)?;
+    put(
+        alloc,
+        block,
+        vx_resolved::Stmt::Call(place, targets, method, arguments),
+    )?;
+    Ok(())
+}
+
+// A `fold`.
+fn fold(
+    alloc: Global,
+    place: Place,
+    instance: &Instance,
+    block: &mut Settled,
+) -> Result<(), AllocError>
+    ensures { OnOk result ((rest : Syntax.Block) → onto (stmts block.new.items) rest
+        ≡ onto (stmts block.old.items) (Syntax.Then (Syntax.Fold place (name_of instance.now.predicate).name (resolve.expressions (written_all instance.now.arguments.items)) (resolve.amount place (written_optional instance.now.amount))) rest)) }
+{
+    let predicate = shared(alloc, &instance.predicate.text)?;
+    let arguments = expressions(alloc, &instance.arguments)?;
+    let share = amount(alloc, place, &instance.amount)?;
+    put(
+        alloc,
+        block,
+        vx_resolved::Stmt::Fold(place, predicate, arguments, share),
+    )?;
+    Ok(())
+}
+
+// An `unfold`.
+fn unfold(
+    alloc: Global,
+    place: Place,
+    instance: &Instance,
+    block: &mut Settled,
+) -> Result<(), AllocError>
+    ensures { OnOk result ((rest : Syntax.Block) → onto (stmts block.new.items) rest
+        ≡ onto (stmts block.old.items) (Syntax.Then (Syntax.Unfold place (name_of instance.now.predicate).name (resolve.expressions (written_all instance.now.arguments.items)) (resolve.amount place (written_optional instance.now.amount))) rest)) }
+{
+    let predicate = shared(alloc, &instance.predicate.text)?;
+    let arguments = expressions(alloc, &instance.arguments)?;
+    let share = amount(alloc, place, &instance.amount)?;
+    put(
+        alloc,
+        block,
+        vx_resolved::Stmt::Unfold(place, predicate, arguments, share),
     )?;
     Ok(())
 }
@@ -212,27 +369,25 @@ fn linked(alloc: Global, done: Settled) -> Result<Rc<Block>, AllocError>
 #[cycle(settling)]
 fn statements(
     alloc: Global,
-    fields: &Fields,
+    names: &Names,
     all: &[Stmt],
     done: &mut Settled,
-) -> Result<(), Unsettled>
-    ensures settled { OnOk result ((is_predicate is_method : Syntax.Name → Bool) → onto (stmts done.new.items) Syntax.Done ≡ onto (stmts done.old.items) (resolve.block (over (names_in fields.now) is_predicate is_method) (written_list all.now))) }
-    ensures executed { Tells result (is_executed_block (written_list all.now)) }
+) -> Result<(), AllocError>
+    ensures { OnOk result (onto (stmts done.new.items) Syntax.Done ≡ onto (stmts done.old.items) (resolve.block (names_in names.now) (written_list all.now))) }
 {
     for s in all {
-        statement(alloc, fields, s, done)?;
+        statement(alloc, names, s, done)?;
     }
     Ok(())
 }
 
 /// A block, settled.
 #[cycle(settling)]
-pub fn block(alloc: Global, fields: &Fields, b: &vx_ast::Block) -> Result<Rc<Block>, Unsettled>
-    ensures settled { IfOk result (λ r. (is_predicate is_method : Syntax.Name → Bool) → settled.block r.value ≡ resolve.block (over (names_in fields.now) is_predicate is_method) (written_block b.now)) }
-    ensures executed { Tells result (is_executed_block (written_block b.now)) }
+pub fn block(alloc: Global, names: &Names, b: &vx_ast::Block) -> Result<Rc<Block>, AllocError>
+    ensures { IfOk result (λ r. settled.block r.value ≡ resolve.block (names_in names.now) (written_block b.now)) }
 {
     let mut done = Vec::new(alloc);
-    statements(alloc, fields, &b.statements, &mut done)?;
+    statements(alloc, names, &b.statements, &mut done)?;
     Ok(linked(alloc, done)?)
 }
 
@@ -240,47 +395,45 @@ pub fn block(alloc: Global, fields: &Fields, b: &vx_ast::Block) -> Result<Rc<Blo
 #[cycle(settling)]
 fn other_block(
     alloc: Global,
-    fields: &Fields,
+    names: &Names,
     other: &Option<Rc<vx_ast::Block>>,
-) -> Result<Rc<Block>, Unsettled>
-    ensures settled { IfOk result (λ r. (is_predicate is_method : Syntax.Name → Bool) → settled.block r.value ≡ resolve.other_side (over (names_in fields.now) is_predicate is_method) (optional_other other.now)) }
-    ensures executed { Tells result (is_executed_other (optional_other other.now)) }
+) -> Result<Rc<Block>, AllocError>
+    ensures { IfOk result (λ r. settled.block r.value ≡ resolve.other_side (names_in names.now) (optional_other other.now)) }
 {
     match other {
         None => Ok(Rc::new(alloc, Block::Done)?),
-        Some(b) => block(alloc, fields, b),
+        Some(b) => block(alloc, names, b),
     }
 }
 
 // A statement, added to its block.
 #[cycle(settling)]
-fn statement(alloc: Global, fields: &Fields, s: &Stmt, done: &mut Settled) -> Result<(), Unsettled>
-    ensures settled { OnOk result ((is_predicate is_method : Syntax.Name → Bool) (rest : Syntax.Block) → onto (stmts done.new.items) rest
-        ≡ onto (stmts done.old.items) (resolve.statement (over (names_in fields.now) is_predicate is_method) (written_stmt s.now.place s.now.kind) rest)) }
-    ensures executed { Tells result (is_executed_stmt (written_stmt s.now.place s.now.kind)) }
+fn statement(alloc: Global, names: &Names, s: &Stmt, done: &mut Settled) -> Result<(), AllocError>
+    ensures { OnOk result ((rest : Syntax.Block) → onto (stmts done.new.items) rest
+        ≡ onto (stmts done.old.items) (resolve.statement (names_in names.now) (written_stmt s.now.place s.now.kind) rest)) }
 {
     let place = s.place;
     match &s.kind {
         StmtKind::Declare(declared, right) => declared_by(
-            alloc, fields, place, declared, right, done,
+            alloc, names, place, declared, right, done,
         ),
-        StmtKind::Assign(name, right) => assigned(alloc, fields, place, name, right, done),
+        StmtKind::Assign(name, right) => assigned(alloc, names, place, name, right, done),
         StmtKind::Write(e, field, value) => write(alloc, place, e, field, value, done),
-        StmtKind::Inhale(e) => inhaled(alloc, place, e, done),
-        StmtKind::Exhale(e) => exhaled(alloc, place, e, done),
-        StmtKind::Assert(e) => asserted(alloc, place, e, done),
+        StmtKind::Inhale(e) => inhaled(alloc, names, place, e, done),
+        StmtKind::Exhale(e) => exhaled(alloc, names, place, e, done),
+        StmtKind::Assert(e) => asserted(alloc, names, place, e, done),
         StmtKind::Assume(e) => assumed(alloc, place, e, done),
         StmtKind::If(c, a, b) => {
             let c = expression(alloc, c)?;
-            let a = block(alloc, fields, a)?;
-            let b = other_block(alloc, fields, b)?;
+            let a = block(alloc, names, a)?;
+            let b = other_block(alloc, names, b)?;
             put(alloc, done, vx_resolved::Stmt::If(place, c, a, b))?;
             Ok(())
         }
         StmtKind::While(c, invariants, b) => {
             let c = expression(alloc, c)?;
-            let invariants = assertions(alloc, invariants)?;
-            let b = block(alloc, fields, b)?;
+            let invariants = assertions(alloc, names, invariants)?;
+            let b = block(alloc, names, b)?;
             put(
                 alloc,
                 done,
@@ -288,8 +441,10 @@ fn statement(alloc: Global, fields: &Fields, s: &Stmt, done: &mut Settled) -> Re
             )?;
             Ok(())
         }
-        StmtKind::Call(_, _, _) => Err(Unsettled::NotExecuted(place, "(")),
-        StmtKind::Fold(_) => Err(Unsettled::NotExecuted(place, "fold")),
-        StmtKind::Unfold(_) => Err(Unsettled::NotExecuted(place, "unfold")),
+        StmtKind::Call(targets, method, arguments) => {
+            call(alloc, place, targets, method, arguments, done)
+        }
+        StmtKind::Fold(instance) => fold(alloc, place, instance, done),
+        StmtKind::Unfold(instance) => unfold(alloc, place, instance, done),
     }
 }

@@ -13,7 +13,7 @@ use Rattle.vx_rules.specs.Trees.{Step}
 use Rattle.vx_rules.specs.Rules.{GivingAll, Outer, evals}
 use Rattle.vx_rules.specs.Members.{names_of, after_names}
 use Rattle.vx_types.specs.Typing.{Scope, HaveTypes, no_more, more, TargetsHaveTypes}
-use Rattle.vx_sound.specs.CallLanguage.{AreInFields}
+use Rattle.vx_types.specs.CallLanguage.{AreInFields}
 use Rattle.vx_sound.proofs.Passes.{Cleared}
 use Rattle.vx_elements.proofs.Settled.{Meaning, Extends, extends-refl, extends-trans, value_kept}
 use Rattle.vx_elements.proofs.Built.{Good, good_later}

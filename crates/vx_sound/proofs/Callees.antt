@@ -8,7 +8,7 @@ use Rattle.vx_types.specs.FieldLanguage.{InFields, IsOfFields, AreOfFields}
 use Rattle.vx_ast.specs.Apart.{Stands}
 use Rattle.vx_whole.specs.Premises.{IsTypedProgram}
 use Rattle.vx_whole.specs.Closure.{mentioned_by_all, mentioned_by_contract, mentioned_by_stmt, mentioned_by_block, mentioned_by_body, mentioned_by_kind, InClosure, itself, further}
-use Rattle.vx_sound.specs.CallLanguage.{IsCallingStmt, IsCallingBlock, IsCallingBody, IsCallingMethod, IsCallingMember}
+use Rattle.vx_types.specs.CallLanguage.{IsCallingStmt, IsCallingBlock, IsCallingBody, IsCallingMethod, IsCallingMember}
 use Rattle.vx_sound.proofs.Contracts.{HasFieldContract, SpeaksOfFields, AllSpeaks, BodySpeaks, MethodSpeaks}
 
 in_first : (y : Name) (xs ys : List Name) → Stands y xs → Stands y (xs ++ ys)

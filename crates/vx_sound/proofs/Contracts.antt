@@ -3,7 +3,7 @@ use Rattle.std.proofs.Common.{◌≡◌, ◌++◌, Option, Some, None}
 use Rattle.vx_ast.specs.Syntax.{Name, Program, Method, method_named, Stmt, Declare, Assign, Write, New, Call, Inhale, Exhale, Assert, Assume, Fold, Unfold, If, While, Block, Done, Then}
 use Rattle.vx_types.specs.Typing.{AllTyped}
 use Rattle.vx_types.specs.FieldLanguage.{InFields, AreOfFields, IsFieldStmt, IsFieldBlock, IsFieldBody, IsFieldMethod}
-use Rattle.vx_sound.specs.CallLanguage.{AreInFields}
+use Rattle.vx_types.specs.CallLanguage.{AreInFields}
 
 -- what a caller reads of a method: its contract
 pub record HasFieldContract (p : Program) (m : Method) : Type 0 where

@@ -4,7 +4,7 @@ use Rattle.vx_ast.specs.Syntax.{Kind, IsField, IsPredicate, IsFunction, IsMethod
 use Rattle.vx_rules.specs.Members.{method_tree}
 use Rattle.vx_types.specs.FieldLanguage.{IsFieldStmt, IsFieldBlock, IsFieldBody}
 use Rattle.vx_whole.specs.Closure.{itself}
-use Rattle.vx_sound.specs.CallLanguage.{IsCallingStmt, IsCallingBlock, IsCallingBody, IsCallingMember}
+use Rattle.vx_types.specs.CallLanguage.{IsCallingStmt, IsCallingBlock, IsCallingBody, IsCallingMember}
 use Rattle.vx_sound.specs.Law.{SoundLaw, IsFieldMember}
 use Rattle.vx_sound.proofs.Passes.{cleared}
 use Rattle.vx_sound.proofs.Callees.{speaks}

@@ -28,7 +28,7 @@ use Rattle.vx_rules.specs.Rules as rule
 use Rattle.vx_rules.specs.Members.{codes, forget, names_of, after_names, called, exec, exec_all}
 use Rattle.vx_types.specs.Typing.{Scope, AreOnce, IsTyped, IsTypedStmt, IsTypedBlock, scope_after, scope_after_all}
 use Rattle.vx_types.specs.FieldLanguage.{InFields, IsOfFields, AreOfFields}
-use Rattle.vx_sound.specs.CallLanguage.{AreInFields}
+use Rattle.vx_types.specs.CallLanguage.{AreInFields}
 use Rattle.vx_sound.proofs.Passes.{Cleared}
 use Rattle.vx_elements.proofs.Settled.{Meaning, Extends, extends-refl, extends-trans, value_kept}
 use Rattle.vx_elements.proofs.Built.{Good, good_later, good_negate}

@@ -14,7 +14,7 @@ use Rattle.vx_types.specs.Typing.{IsTypedMethod, number, part, variable, operate
 use Rattle.vx_ast.specs.Apart.{Stands}
 use Rattle.vx_whole.specs.Premises.{IsTypedProgram}
 use Rattle.vx_whole.specs.Closure.{InClosure, itself, further, mentions}
-use Rattle.vx_sound.specs.CallLanguage.{IsCallingMethod, IsCallingMember}
+use Rattle.vx_types.specs.CallLanguage.{IsCallingMethod, IsCallingMember}
 use Rattle.vx_sound.specs.Law.{AllRight, MethodLaw, Passes}
 use Rattle.vx_sound.specs.Examples.{on_line, x, f, m, c, fills, uses, calls, trusts, forbidden, untyped}
 use Rattle.vx_sound.proofs.Members.{calling_sound}

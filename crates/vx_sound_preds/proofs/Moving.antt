@@ -13,7 +13,7 @@ use Rattle.vx_rules.specs.Trees.{Code, Tree, End, Impossible, Step, Ask, Probe, 
 use Rattle.vx_rules.specs.Chunks.{field_key, Candidate, candidates}
 use Rattle.vx_rules.specs.Rules.{Giving, Going, GivingAll, Outer, question, ask, never, fork, short, probe, first_with, holds_some, is_total, divided, placed, eval, evals}
 use Rattle.vx_types.specs.FieldLanguage.{InFields}
-use Rattle.vx_sound.specs.CallLanguage.{AreInFields}
+use Rattle.vx_types.specs.CallLanguage.{AreInFields}
 use Rattle.vx_sound.proofs.Passes.{Refuted, Cleared}
 use Rattle.vx_sound_preds.specs.Bodies.{IsPlain, ArePlain}
 

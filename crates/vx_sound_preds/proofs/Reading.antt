@@ -27,7 +27,7 @@ use Rattle.vx_elements.proofs.Built.{Good}
 use Rattle.vx_elements.proofs.Elements.{element}
 use Rattle.vx_elements.proofs.Eventually.{eventually}
 use Rattle.vx_amounts.proofs.Amounts.{Le, Positive, le-is, le-trans, not-positive}
-use Rattle.vx_sound.specs.CallLanguage.{AreInFields}
+use Rattle.vx_types.specs.CallLanguage.{AreInFields}
 use Rattle.vx_sound.proofs.Passes.{Cleared}
 use Rattle.vx_sound.proofs.Stands.{Stands}
 use Rattle.vx_sound.proofs.Goes.{Goes, asked, forked, reached}

@@ -8,7 +8,7 @@ use Rattle.vx_meaning.specs.States.{State, Store}
 use Rattle.vx_meaning.specs.Evaluate.{value, values}
 use Rattle.vx_meaning.specs.Flatten.{no_applications}
 use Rattle.vx_types.specs.FieldLanguage.{InFields}
-use Rattle.vx_sound.specs.CallLanguage.{AreInFields}
+use Rattle.vx_types.specs.CallLanguage.{AreInFields}
 
 -- values that are no amounts: those of the parameters of predicates
 abbrev pub IsRigid : Value → Type 0

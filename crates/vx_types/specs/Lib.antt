@@ -1,3 +1,4 @@
 pub mod Typing
 pub mod StoreLanguage
 pub mod FieldLanguage
+pub mod CallLanguage

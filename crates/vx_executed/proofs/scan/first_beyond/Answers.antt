@@ -2,8 +2,8 @@ use Rattle.std.proofs.Common.{subst, rules}
 use Rattle.vx_parser.specs.Answers.{AllStandIn}
 use Rattle.vx_executed.proofs.scan.first_beyond.Goals as goal
 
-pub returns-then-is_beyond-clause-stands : goal.returns-then-is_beyond-clause-stands
-returns-then-is_beyond-clause-stands c = λ bytes all. (subst (AllStandIn bytes) c.in-Some.ensures.cases.0 (c.loop.invariant.2 bytes all)).0
+pub returns-then-is_beyond_kind-clause-stands : goal.returns-then-is_beyond_kind-clause-stands
+returns-then-is_beyond_kind-clause-stands c = λ bytes all. (subst (AllStandIn bytes) c.in-Some.ensures.cases.0 (c.loop.invariant.2 bytes all)).0
 
 pub loop-preserved : goal.loop-preserved
 loop-preserved c = (
