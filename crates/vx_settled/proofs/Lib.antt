@@ -3,7 +3,6 @@ pub mod TypedExprs
 pub mod TypedClaims
 pub mod TypedStmts
 pub mod TypedMembers
-pub mod FieldMembers
 pub mod MentionedUses
 pub mod EnteredUses
 pub mod NumberedNames
@@ -11,3 +10,4 @@ pub mod KeptApart
 pub mod Recursions
 pub mod ConstantAmounts
 pub mod TypedPrograms
+pub mod CallingMembers

@@ -1,10 +1,10 @@
 -- What is typed as it is written is typed when it is settled, as a whole and member by member, and keeps its members apart;
--- what is executed is of the language with fields then.
+-- what is executed is of the language with calls then.
 use Rattle.std.specs.Prelude.{◌≡◌, ◌≤◌, ℕ, true, false, List, [], ◌∷◌, Some, map, slice_get, ⊤}
 use Rattle.vx_ast.specs.Mentions.{is_among}
 use Rattle.vx_ast.specs.Written as written
 use Rattle.vx_ast.specs.Resolve.{program}
-use Rattle.vx_ast.specs.Syntax.{Name, result_name, Program, Member, Kind, Method, IsMethod}
+use Rattle.vx_ast.specs.Syntax.{Name, result_name, Program, Member, Kind, Method, IsMethod, member_named}
 use Rattle.vx_typing.specs.Programs.{IsTyped}
 use Rattle.vx_types.specs.Typing.{IsTypedMethod}
 use Rattle.vx_resolved.specs.Executed.{is_executed}
@@ -12,7 +12,7 @@ use Rattle.vx_rules.specs.Rules.{outer}
 use Rattle.vx_rules.specs.Members.{depth, tree_over, tree}
 use Rattle.vx_ast.specs.Apart.{KeepsApart}
 use Rattle.vx_whole.specs.Premises.{IsTypedProgram}
-use Rattle.vx_types.specs.FieldLanguage.{IsFieldMethod}
+use Rattle.vx_types.specs.CallLanguage.{IsCallingMember}
 
 -- this holds of the methods of a program
 abbrev pub OfMethods : Program → (Method → Type 0) → Type 0
@@ -22,8 +22,11 @@ OfMethods p Holds = (n : ℕ) (x : Member) (m : Method) → slice_get p n ≡ So
 abbrev pub TypedWhenSettled : Type 0
 TypedWhenSettled = (p : written.Program) → IsTyped p → OfMethods (program p) (IsTypedMethod (program p))
 
-abbrev pub InFieldsWhenSettled : Type 0
-InFieldsWhenSettled = (p : written.Program) → is_executed p ≡ true → OfMethods (program p) IsFieldMethod
+-- what is typed and executed is typed as a whole, and its members are fields, and methods with fields, loops and calls
+abbrev pub CallsWhenSettled : Type 0
+CallsWhenSettled =
+    (p : written.Program) → IsTyped p → is_executed p ≡ true →
+    IsTypedProgram (program p) × ((x : Name) (k : Kind) → member_named (program p) x ≡ Some k → IsCallingMember k)
 
 -- no member is entered within itself in what is typed
 abbrev pub KeptApartWhenSettled : Type 0

@@ -4,7 +4,7 @@
 ghost use Rattle.vx_ast.specs.Resolve.{program};
 ghost use Rattle.vx_typing.specs.Programs.{IsTyped};
 ghost use Rattle.vx_ast.specs.Apart.{Reaches, KeepsApart};
-ghost use Rattle.vx_settled.specs.WhenSettled.{TypedWhenSettled, InFieldsWhenSettled, KeptApartWhenSettled, DepthSufficesWhenSettled, TypedProgramWhenSettled};
+ghost use Rattle.vx_settled.specs.WhenSettled.{TypedWhenSettled, CallsWhenSettled, KeptApartWhenSettled, DepthSufficesWhenSettled, TypedProgramWhenSettled};
 ghost use Rattle.vx_settled.specs.Recursions.{f, counts_down, applies_itself_before};
 
 use vx_depth::groups_kept_apart;
@@ -43,8 +43,8 @@ pub fn recursions_are_told_apart()
     typed_programs_keep_apart();
 }
 
-/// The methods of an executed program are of the language with fields when it is settled: nothing in them calls or applies,
-/// and nothing is folded.
-pub fn executed_programs_are_of_fields()
-    ensures { InFieldsWhenSettled }
+/// A typed program that is executed is typed as a whole when it is settled, and its members are fields, and methods with
+/// fields, loops and calls: nothing is applied in it, since no function is a member, and nothing is folded.
+pub fn executed_programs_call()
+    ensures { CallsWhenSettled }
 {}
