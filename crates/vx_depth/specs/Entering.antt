@@ -1,7 +1,7 @@
 -- Which members' parts are read while another's part is read, on one level.
 use Rattle.std.specs.Prelude.{◌≡◌, ◌⊎◌, ℕ, zero, suc, List, [], ◌∷◌, ◌++◌, Option, Some, None}
 use Rattle.vx_ast.specs.Syntax.{Name, Program, Predicate, Function, predicate_named, function_named, joined, Assertion, Pure, Points, Instance, Both, Implied, Chosen, Measure, ByNumber, ByInstance}
-use Rattle.vx_ast.specs.Mentions.{mentioned, mentioned_in}
+use Rattle.vx_ast.specs.Mentions.{mentioned, mentioned_in, ReachesBy}
 use Rattle.vx_terms.specs.Interpretations.{Each}
 
 -- the functions applied and the predicates unfolded by what is evaluated of an assertion; not the instances held
@@ -44,10 +44,12 @@ abbrev pub Stands : Name → List Name → Type 0
 Stands x [] = ⊥
 Stands x (y ∷ ys) = (x ≡ y) ⊎ Stands x ys
 
+abbrev pub Enters : Program → Name → Name → Type 0
+Enters p x y = Stands y (entered_from p x)
+
 -- y is entered from x, or from what is entered from x, .., n times at most
 abbrev pub LeadsBy : Program → ℕ → Name → Name → Type 0
-LeadsBy p zero x y = ⊥
-LeadsBy p (suc n) x y = Stands y (entered_from p x) ⊎ ((z : Name) × Stands z (entered_from p x) × LeadsBy p n z y)
+LeadsBy p n x y = ReachesBy (Enters p) n x y
 
 -- no function's precondition or measure applies the function again, nor does a predicate's body unfold the predicate,
 -- also by way of others; Viper asks the same of preconditions, and here typing has to refuse the others too
