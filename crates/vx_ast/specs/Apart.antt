@@ -1,8 +1,9 @@
 -- What typing refuses as E28: an application in a predicate's body or a measure, an application of its own group in a
 -- function's precondition, an unfolding of its own group in a predicate's body. Source: the Silicon thesis, on which parts
 -- of other members are read where.
-use Rattle.std.specs.Prelude.{◌≡◌, ◌⊎◌, ℕ, zero, suc, List, [], ◌∷◌, ◌++◌, Option, Some, None}
+use Rattle.std.specs.Prelude.{◌≡◌, ◌⊎◌, ℕ, List, [], ◌∷◌, ◌++◌, Option, Some, None}
 use Rattle.vx_ast.specs.Syntax.{Name, Program, Predicate, Function, Assertion, Pure, Points, Instance, Both, Implied, Chosen, Measure, ByNumber, ByInstance, predicate_named, function_named, joined}
+use Rattle.vx_ast.specs.Mentions as mentions
 use Rattle.vx_ast.specs.Mentions.{mentioned, mentioned_in, mentioned_by, mentions_of}
 
 abbrev pub Stands : Name → List Name → Type 0
@@ -39,13 +40,15 @@ mentioned_by_predicate (Some d) = mentioned_by_body d.body
 abbrev pub mentioned_from : Program → Name → List Name
 mentioned_from p x = mentions_of (function_named p x) ++ mentioned_by_predicate (predicate_named p x)
 
+abbrev pub Mentions : Program → Name → Name → Type 0
+Mentions p x y = Stands y (mentioned_from p x)
+
 -- x mentions y, or what it mentions does, .., n times at most
 abbrev pub ReachesBy : Program → ℕ → Name → Name → Type 0
-ReachesBy p zero x y = ⊥
-ReachesBy p (suc n) x y = Stands y (mentioned_from p x) ⊎ ((z : Name) × Stands z (mentioned_from p x) × ReachesBy p n z y)
+ReachesBy p n x y = mentions.ReachesBy (Mentions p) n x y
 
 abbrev pub Reaches : Program → Name → Name → Type 0
-Reaches p x y = (n : ℕ) × ReachesBy p n x y
+Reaches p x y = mentions.Reaches (Mentions p) x y
 
 abbrev pub IsNoFunction : Program → Name → Type 0
 IsNoFunction p x = (g : Function) → function_named p x ≡ Some g → ⊥

@@ -2,6 +2,7 @@
 use Rattle.std.specs.Prelude.{◌≡◌, ◌⊎◌, ℕ, zero, suc, List, [], ◌∷◌, ◌++◌, Option, Some, None}
 use Rattle.vx_ast.specs.Syntax.{Name, Program, Predicate, Function, predicate_named, function_named, joined}
 use Rattle.vx_ast.specs.Apart.{entered_by, entered_by_measure, entered_by_body, Stands}
+use Rattle.vx_ast.specs.Mentions.{ReachesBy}
 use Rattle.vx_terms.specs.Interpretations.{Each}
 
 -- an application reads the precondition and the measure on its own level
@@ -22,10 +23,12 @@ abbrev pub IsWithin : Program → ℕ → Name → Type 0
 IsWithin p zero x = (function_named p x ≡ None) × (predicate_named p x ≡ None)
 IsWithin p (suc n) x = Each (IsWithin p n) (entered_from p x)
 
+abbrev pub Enters : Program → Name → Name → Type 0
+Enters p x y = Stands y (entered_from p x)
+
 -- y is entered from x, or from what is entered from x, .., n times at most
 abbrev pub LeadsBy : Program → ℕ → Name → Name → Type 0
-LeadsBy p zero x y = ⊥
-LeadsBy p (suc n) x y = Stands y (entered_from p x) ⊎ ((z : Name) × Stands z (entered_from p x) × LeadsBy p n z y)
+LeadsBy p n x y = ReachesBy (Enters p) n x y
 
 -- no function's precondition or measure applies the function again, nor does a predicate's body unfold the predicate,
 -- also by way of others; Viper asks the same of preconditions, and here typing has to refuse the others too

@@ -3,6 +3,7 @@ pub mod Items
 pub mod Hears
 pub mod Stops
 pub mod Symbols
+pub mod Pending
 pub mod Preamble
 pub mod Scripts
 pub mod Dialogue

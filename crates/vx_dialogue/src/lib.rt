@@ -5,6 +5,7 @@ mod batch;
 mod dialogue;
 mod item;
 mod laws;
+mod pending;
 mod preamble;
 mod question;
 mod symbols;

@@ -1,10 +1,13 @@
 // The symbols v that terms use.
-ghost use Rattle.std.specs.Prelude.{◌≡◌, [], OnOk, map};
+ghost use Rattle.std.specs.Prelude.{◌≡◌, ◌<◌, ◌+◌, [], OnOk, map};
+ghost use Rattle.vx_terms.specs.Parts.{parts};
 ghost use Rattle.vx_terms.specs.Views.{sort, symbol, term, terms};
 ghost use Rattle.vx_smt_meaning.specs.Views.{declared_symbol};
 ghost use Rattle.vx_dialogue.specs.Dialogue.{shared};
 ghost use Rattle.vx_dialogue.specs.Symbols.{variable, with_variable, with_symbol, with_variables, with_all_variables, with_listed};
+ghost use Rattle.vx_dialogue.specs.Pending.{with_one, with_pending, load_of, load};
 
+use crate::pending::{Pending, put_off};
 use std::alloc::{AllocError, Global};
 use std::collections::BTreeSet;
 use std::marker::Model;
@@ -74,10 +77,15 @@ impl Variables {
         Ok(())
     }
 
-    /// Adds those of a term.
-    #[cycle(variables)]
-    pub fn add_term(&mut self, alloc: Global, t: &Term) -> Result<(), AllocError>
-        ensures { OnOk result (self.new ≡ with_variables self.old (term t.now)) }
+    /// Adds a term's own symbol, and puts off its parts.
+    fn add_node<'t>(
+        &mut self,
+        alloc: Global,
+        pending: &mut Vec<Pending<'t>>,
+        t: &'t Term,
+    ) -> Result<(), AllocError>
+        ensures adds { OnOk result (with_pending self.new pending.new.items ≡ with_pending (with_variables self.old (term t.now)) pending.old.items) }
+        ensures load { OnOk result (load pending.new.items < parts (term t.now) + load pending.old.items) }
     {
         match t {
             Term::Truth(_) | Term::Number(_) | Term::Part(_) => Ok(()),
@@ -85,33 +93,54 @@ impl Variables {
             Term::Constant(Symbol::Standard(_), _) => Ok(()),
             Term::Constant(Symbol::Function(_), _) => Ok(()),
             Term::Constant(Symbol::Named(_), _) => Ok(()),
-            Term::Apply(_, _, parts) | Term::AllOf(parts) | Term::SomeOf(parts) => {
-                self.add_parts(alloc, parts)
+            Term::Apply(_, _, all) | Term::AllOf(all) | Term::SomeOf(all) => {
+                put_off(pending, Pending::Parts(all))
             }
-            Term::Not(part) => self.add_term(alloc, part),
+            Term::Not(part) => put_off(pending, Pending::Term(part)),
             Term::Binary(_, left, right) => {
-                self.add_term(alloc, left)?;
-                self.add_term(alloc, right)
+                put_off(pending, Pending::Term(right))?;
+                put_off(pending, Pending::Term(left))
             }
             Term::Ite(condition, left, right) => {
-                self.add_term(alloc, condition)?;
-                self.add_term(alloc, left)?;
-                self.add_term(alloc, right)
+                put_off(pending, Pending::Term(right))?;
+                put_off(pending, Pending::Term(left))?;
+                put_off(pending, Pending::Term(condition))
             }
         }
     }
 
-    #[cycle(variables)]
-    fn add_parts(&mut self, alloc: Global, parts: &Terms) -> Result<(), AllocError>
-        ensures { OnOk result (self.new ≡ with_all_variables self.old (terms parts.now)) }
+    /// Adds the symbols of what was put off last, as far as they are its own, and puts off the rest of it.
+    fn add_next<'t>(
+        &mut self,
+        alloc: Global,
+        pending: &mut Vec<Pending<'t>>,
+        next: Pending<'t>,
+    ) -> Result<(), AllocError>
+        ensures adds { OnOk result (with_pending self.new pending.new.items ≡ with_pending (with_one self.old next.entry) pending.old.items) }
+        ensures load { OnOk result (load pending.new.items < load_of next.entry + load pending.old.items) }
     {
-        match parts {
-            Terms::None => Ok(()),
-            Terms::More(part, rest) => {
-                self.add_term(alloc, part)?;
-                self.add_parts(alloc, rest)
-            }
+        match next {
+            Pending::Term(t) => self.add_node(alloc, pending, t),
+            Pending::Parts(all) => match all {
+                Terms::None => Ok(()),
+                Terms::More(t, rest) => {
+                    put_off(pending, Pending::Parts(rest))?;
+                    put_off(pending, Pending::Term(t))
+                }
+            },
         }
+    }
+
+    /// Adds those of a term.
+    pub fn add_term(&mut self, alloc: Global, t: &Term) -> Result<(), AllocError>
+        ensures { OnOk result (self.new ≡ with_variables self.old (term t.now)) }
+    {
+        let mut pending = Vec::new(alloc);
+        put_off(&mut pending, Pending::Term(t))?;
+        while let Some(next) = pending.pop() {
+            self.add_next(alloc, &mut pending, next)?;
+        }
+        Ok(())
     }
 
     /// Adds those of each of these terms.

@@ -2,6 +2,7 @@
 #![tactic(auto)]
 
 mod laws;
+mod terms;
 mod text;
 
 pub use laws::{spells_once, written_spells};

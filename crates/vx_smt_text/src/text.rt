@@ -7,12 +7,13 @@ ghost use Rattle.vx_smt_meaning.specs.Views.{command, declared_symbol};
 ghost use Rattle.vx_smt_meaning.specs.Words.{digits, numeral, decimal, sort_word, symbol_word, operator_word, truth_word};
 ghost use Rattle.vx_terms.specs.Sorts as Written;
 ghost use Rattle.vx_smt_text.specs.Unique.{IsReadable, SpellsOnly};
-ghost use Rattle.vx_smt_text.specs.Text.{quotient_text, signed_text, term_text, terms_text, sorts_text, more_sorts, front_text, command_text, set_option_head, set_logic_head, declare_sort_head, declare_fun_head};
+ghost use Rattle.vx_smt_text.specs.Text.{quotient_text, signed_text, sorts_text, more_sorts, front_text, command_text, set_option_head, set_logic_head, declare_sort_head, declare_fun_head};
 
+use crate::terms::put_term;
 use std::alloc::{AllocError, Global};
 use vx_frac::Frac;
 use vx_smt_meaning::{Command, Declared};
-use vx_terms::{Operator, Sort, Symbol, Term, Terms};
+use vx_terms::{Operator, Sort, Symbol};
 
 #[tactic(auto, using(crate::proofs::Digits::digits_none, crate::proofs::Digits::digits_more))]
 fn put_digits(text: &mut Vec<u8>, n: u128) -> Result<(), AllocError>
@@ -67,7 +68,7 @@ fn put_lettered(text: &mut Vec<u8>, letter: u8, n: u64) -> Result<(), AllocError
     put_numeral(text, u128::from(n))
 }
 
-fn put_symbol(text: &mut Vec<u8>, f: &Symbol) -> Result<(), AllocError>
+pub(crate) fn put_symbol(text: &mut Vec<u8>, f: &Symbol) -> Result<(), AllocError>
     ensures { OnOk result (text.new.items ≡ text.old.items ++ symbol_word (symbol f.now)) }
 {
     match f {
@@ -81,7 +82,7 @@ fn put_symbol(text: &mut Vec<u8>, f: &Symbol) -> Result<(), AllocError>
     }
 }
 
-fn put_operator(text: &mut Vec<u8>, o: Operator) -> Result<(), AllocError>
+pub(crate) fn put_operator(text: &mut Vec<u8>, o: Operator) -> Result<(), AllocError>
     ensures { OnOk result (text.new.items ≡ text.old.items ++ operator_word (operator o)) }
 {
     match o {
@@ -116,7 +117,7 @@ fn put_quotient(text: &mut Vec<u8>, p: u128, below: u128) -> Result<(), AllocErr
     }
 }
 
-fn put_number(text: &mut Vec<u8>, z: i128) -> Result<(), AllocError>
+pub(crate) fn put_number(text: &mut Vec<u8>, z: i128) -> Result<(), AllocError>
     ensures { OnOk result (text.new.items ≡ text.old.items ++ signed_text z numeral) }
 {
     if z < 0 {
@@ -129,7 +130,7 @@ fn put_number(text: &mut Vec<u8>, z: i128) -> Result<(), AllocError>
     }
 }
 
-fn put_part(text: &mut Vec<u8>, part: Frac) -> Result<(), AllocError>
+pub(crate) fn put_part(text: &mut Vec<u8>, part: Frac) -> Result<(), AllocError>
     ensures { OnOk result (text.new.items ≡ text.old.items ++ signed_text part.num (λ p. quotient_text p (fraction part).below)) }
 {
     let below = part.den().unsigned_abs() - 1;
@@ -141,74 +142,6 @@ fn put_part(text: &mut Vec<u8>, part: Frac) -> Result<(), AllocError>
     } else {
         put_quotient(text, part.num().unsigned_abs(), below)
     }
-}
-
-#[cycle(terms_text)]
-fn put_term(text: &mut Vec<u8>, t: &Term) -> Result<(), AllocError>
-    ensures { OnOk result (text.new.items ≡ text.old.items ++ term_text (term t.now)) }
-{
-    match t {
-        Term::Truth(true) => text.extend_from_slice(b"true")?,
-        Term::Truth(false) => text.extend_from_slice(b"false")?,
-        Term::Number(z) => put_number(text, *z)?,
-        Term::Part(part) => put_part(text, *part)?,
-        Term::Constant(f, _) => put_symbol(text, f)?,
-        Term::Apply(f, _, args) => {
-            text.push(b'(')?;
-            put_symbol(text, f)?;
-            put_args(text, args)?;
-            text.push(b')')?;
-        }
-        Term::Not(t) => {
-            text.extend_from_slice(b"(not ")?;
-            put_term(text, t)?;
-            text.push(b')')?;
-        }
-        Term::Binary(o, t, u) => {
-            text.push(b'(')?;
-            put_operator(text, *o)?;
-            text.push(b' ')?;
-            put_term(text, t)?;
-            text.push(b' ')?;
-            put_term(text, u)?;
-            text.push(b')')?;
-        }
-        Term::Ite(c, t, u) => {
-            text.extend_from_slice(b"(ite ")?;
-            put_term(text, c)?;
-            text.push(b' ')?;
-            put_term(text, t)?;
-            text.push(b' ')?;
-            put_term(text, u)?;
-            text.push(b')')?;
-        }
-        Term::AllOf(parts) => {
-            text.extend_from_slice(b"(and")?;
-            put_args(text, parts)?;
-            text.push(b')')?;
-        }
-        Term::SomeOf(parts) => {
-            text.extend_from_slice(b"(or")?;
-            put_args(text, parts)?;
-            text.push(b')')?;
-        }
-    }
-    Ok(())
-}
-
-#[cycle(terms_text)]
-fn put_args(text: &mut Vec<u8>, args: &Terms) -> Result<(), AllocError>
-    ensures { OnOk result (text.new.items ≡ text.old.items ++ terms_text (terms args.now)) }
-{
-    match args {
-        Terms::None => {}
-        Terms::More(t, rest) => {
-            text.push(b' ')?;
-            put_term(text, t)?;
-            put_args(text, rest)?;
-        }
-    }
-    Ok(())
 }
 
 fn put_more_sorts(text: &mut Vec<u8>, sorts: &[Sort]) -> Result<(), AllocError>
@@ -304,7 +237,7 @@ fn put_declare_fun(text: &mut Vec<u8>, d: &Declared) -> Result<(), AllocError>
     put_sort(text, &d.gives)
 }
 
-fn put_front(text: &mut Vec<u8>, c: &Command) -> Result<(), AllocError>
+fn put_front(alloc: Global, text: &mut Vec<u8>, c: &Command) -> Result<(), AllocError>
     ensures { OnOk result (text.new.items ≡ text.old.items ++ front_text (command c.now)) }
 {
     match c {
@@ -314,7 +247,7 @@ fn put_front(text: &mut Vec<u8>, c: &Command) -> Result<(), AllocError>
         Command::DeclareFun(d) => put_declare_fun(text, d)?,
         Command::Assert(t) => {
             text.extend_from_slice(b"(assert ")?;
-            put_term(text, t)?;
+            put_term(alloc, text, t)?;
         }
         Command::Push(n) => {
             text.extend_from_slice(b"(push ")?;
@@ -340,7 +273,7 @@ pub fn write(alloc: Global, c: &Command, out: &mut Vec<u8>) -> Result<(), AllocE
     ensures err { OnErr result (out.new.items ≡ out.old.items) }
 {
     let mut text = Vec::new(alloc);
-    put_front(&mut text, c)?;
+    put_front(alloc, &mut text, c)?;
     text.extend_from_slice(b")\n")?;
     out.extend_from_slice(&text)
 }

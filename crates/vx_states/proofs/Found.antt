@@ -1,6 +1,6 @@
 -- Terms are found again by their keys.
-use Rattle.std.proofs.Common.{◌≡◌, ℕ, zero, suc, ◌%◌, ◌/◌, Bool, true, false, List, ◌&&◌, ◌||◌, refl, sym, ap, ◌∙◌, nat_eq, eqb-true}
-use Rattle.vx_terms.specs.Terms.{Term, Truth, Number, Part, Constant, Apply, Not, Binary, Ite, AllOf, SomeOf, same, same_bool}
+use Rattle.std.proofs.Common.{◌≡◌, ℕ, zero, suc, ◌%◌, ◌/◌, Bool, true, false, List, ◌&&◌, ◌||◌, refl, sym, ap, ◌∙◌, eqb-true}
+use Rattle.vx_terms.specs.Terms.{Term, same, same_bool}
 use Rattle.vx_states.specs.Keys.{key_of}
 use Rattle.std.specs.Prelude.{if◌then◌else◌}
 use Rattle.vx_states.specs.declared.index.Index.{Index}
@@ -10,18 +10,6 @@ use Rattle.vx_rules.specs.States.{Entry, in_path}
 use Rattle.vx_states.specs.Paths.{extended}
 use Rattle.vx_states.proofs.Stores.{in_path_extended}
 use Rattle.vx_terms.proofs.Same.{term_is}
-
-pub no_depth : (t : Term) (n : ℕ) → nat_eq n 0 ≡ true → 0 ≡ key_of t n
-no_depth (Truth b) n e = refl
-no_depth (Number z) n e = rw e refl
-no_depth (Part a) n e = refl
-no_depth (Constant f a) n e = rw e refl
-no_depth (Apply f a ts) n e = rw e refl
-no_depth (Not t) n e = rw e refl
-no_depth (Binary o t u) n e = rw e refl
-no_depth (Ite c t u) n e = rw e refl
-no_depth (AllOf ts) n e = refl
-no_depth (SomeOf ts) n e = refl
 
 same_truth : (b : Bool) → same_bool b b ≡ true
 same_truth true = refl

@@ -1,7 +1,8 @@
 -- Keys of terms, by which a path's terms are found again: any numbers would do that depend on the term alone.
 use Rattle.std.specs.Prelude.{ℕ, ◌+◌, ◌*◌, ◌-◌, ◌%◌, if◌then◌else◌, nat_eq, nat_abs}
+use Rattle.vx_frac.specs.Fractions.{Fraction}
 use Rattle.vx_terms.specs.Sorts.{Symbol, Standard, Function, Variable, Named, Operator, And, Or, Implies, Equal, Less, LessEqual, Add, Subtract, Multiply, Div, Mod}
-use Rattle.vx_terms.specs.Terms.{Term, Number, Constant, Apply, Not, Binary, Ite}
+use Rattle.vx_terms.specs.Terms.{Term, Truth, Number, Part, Constant, Apply, Not, Binary, Ite, AllOf, SomeOf, Terms, NoTerms, MoreTerms}
 
 abbrev pub mixed : ℕ → ℕ → ℕ
 mixed a b = (a * 31 + b) % 65536
@@ -25,12 +26,27 @@ operator_key Multiply = 9
 operator_key Div = 10
 operator_key Mod = 11
 
--- by the symbols and operators down to this depth
-abbrev pub key_of : Term → ℕ → ℕ
-key_of (Number z) n = if nat_eq n 0 then 0 else nat_abs z % 65536
-key_of (Constant f a) n = if nat_eq n 0 then 0 else symbol_key f
-key_of (Apply f a ts) n = if nat_eq n 0 then 0 else symbol_key f
-key_of (Not u) n = if nat_eq n 0 then 0 else mixed 12 (key_of u (n - 1))
-key_of (Binary o u v) n = if nat_eq n 0 then 0 else mixed (mixed (operator_key o) (key_of u (n - 1))) (key_of v (n - 1))
-key_of (Ite c u v) n = if nat_eq n 0 then 0 else mixed (mixed (key_of c (n - 1)) (key_of u (n - 1))) (key_of v (n - 1))
-key_of t n = 0
+abbrev pub fraction_key : Fraction → ℕ
+fraction_key a = mixed (nat_abs a.numerator % 65536) (a.below % 65536)
+
+-- a part's key, or 0 where no depth is left
+abbrev pub within : ℕ → ℕ → ℕ
+within n key = if nat_eq n 0 then 0 else key
+
+-- by the symbols, numbers and operators down to this depth; of a list by as many of its terms
+abbrev mutual
+  pub key_of : Term → ℕ → ℕ
+  key_of (Truth b) n = if b then 1 else 0
+  key_of (Number z) n = nat_abs z % 65536
+  key_of (Part a) n = fraction_key a
+  key_of (Constant f a) n = symbol_key f
+  key_of (Apply f a ts) n = mixed (symbol_key f) (keys_of ts n)
+  key_of (Not u) n = mixed 12 (within n (key_of u (n - 1)))
+  key_of (Binary o u v) n = mixed (mixed (operator_key o) (within n (key_of u (n - 1)))) (within n (key_of v (n - 1)))
+  key_of (Ite c u v) n = mixed (mixed (within n (key_of c (n - 1))) (within n (key_of u (n - 1)))) (within n (key_of v (n - 1)))
+  key_of (AllOf ts) n = mixed 13 (keys_of ts n)
+  key_of (SomeOf ts) n = mixed 14 (keys_of ts n)
+
+  pub keys_of : Terms → ℕ → ℕ
+  keys_of NoTerms n = 0
+  keys_of (MoreTerms t ts) n = mixed (within n (key_of t (n - 1))) (within n (keys_of ts (n - 1)))

@@ -75,6 +75,13 @@ fn is_same_text(x: &[u8], y: &[u8]) -> bool
     x == y
 }
 
+/// Whether two operators are the same.
+fn is_same_operator(o: Operator, p: Operator) -> bool
+    ensures { result ≡ same_operator (operator o) (operator p) }
+{
+    o == p
+}
+
 /// Whether two fractions are the same.
 fn is_same_fraction(a: Frac, b: Frac) -> bool
     ensures { result ≡ identical (fraction a) (fraction b) }
@@ -101,29 +108,67 @@ impl Term {
         }
     }
 
-    /// Whether two terms are one and the same.
+    /// Whether two terms are one and the same. First parts are compared by a loop: they may be as deep as a member is long.
     #[cycle(same)]
+    #[tactic(auto, using(crate::proofs::Firsts::and_false))]
     pub fn is_same(&self, other: &Term) -> bool
         ensures { result ≡ same (term self.now) (term other.now) }
     {
-        match (self, other) {
-            (Term::Truth(a), Term::Truth(b)) => *a == *b,
-            (Term::Number(m), Term::Number(n)) => *m == *n,
-            (Term::Part(a), Term::Part(b)) => is_same_fraction(*a, *b),
-            (Term::Constant(f, a), Term::Constant(g, b)) => f.is_same(g) && a.is_same(b),
-            (Term::Apply(f, a, ts), Term::Apply(g, b, us)) => {
-                f.is_same(g) && (a.is_same(b) && ts.is_same(us))
+        let mut left = self;
+        let mut right = other;
+        loop {
+            match (left, right) {
+                (Term::Truth(a), Term::Truth(b)) => return *a == *b,
+                (Term::Number(m), Term::Number(n)) => return *m == *n,
+                (Term::Part(a), Term::Part(b)) => return is_same_fraction(*a, *b),
+                (Term::Constant(f, a), Term::Constant(g, b)) => {
+                    return f.is_same(g) && a.is_same(b);
+                }
+                (Term::Apply(f, a, ts), Term::Apply(g, b, us)) => match (&**ts, &**us) {
+                    (Terms::More(t, others), Terms::More(u, those)) => {
+                        if !f.is_same(g) {
+                            return false;
+                        }
+                        if !a.is_same(b) {
+                            return false;
+                        }
+                        if !others.is_same(those) {
+                            return false;
+                        }
+                        left = t;
+                        right = u;
+                    }
+                    (Terms::None, Terms::None) => return f.is_same(g) && a.is_same(b),
+                    _ => return false,
+                },
+                (Term::Not(t), Term::Not(u)) => {
+                    left = t;
+                    right = u;
+                }
+                (Term::Binary(o, t, second), Term::Binary(p, u, other_second)) => {
+                    if !is_same_operator(*o, *p) {
+                        return false;
+                    }
+                    if !second.is_same(other_second) {
+                        return false;
+                    }
+                    left = t;
+                    right = u;
+                }
+                (Term::Ite(c, t, v), Term::Ite(d, u, w)) => {
+                    if !c.is_same(d) {
+                        return false;
+                    }
+                    if !v.is_same(w) {
+                        return false;
+                    }
+                    left = t;
+                    right = u;
+                }
+                (Term::AllOf(ts), Term::AllOf(us)) => return ts.is_same(us),
+                (Term::SomeOf(ts), Term::SomeOf(us)) => return ts.is_same(us),
+                _ => return false,
             }
-            (Term::Not(t), Term::Not(u)) => t.is_same(u),
-            (Term::Binary(o, t, u), Term::Binary(p, v, w)) => {
-                *o == *p && (t.is_same(v) && u.is_same(w))
-            }
-            (Term::Ite(c, t, u), Term::Ite(d, v, w)) => {
-                c.is_same(d) && (t.is_same(v) && u.is_same(w))
-            }
-            (Term::AllOf(ts), Term::AllOf(us)) => ts.is_same(us),
-            (Term::SomeOf(ts), Term::SomeOf(us)) => ts.is_same(us),
-            _ => false,
         }
     }
 }
@@ -134,10 +179,20 @@ impl Terms {
     pub fn is_same(&self, other: &Terms) -> bool
         ensures { result ≡ same_all (terms self.now) (terms other.now) }
     {
-        match (self, other) {
-            (Terms::None, Terms::None) => true,
-            (Terms::More(t, ts), Terms::More(u, us)) => t.is_same(u) && ts.is_same(us),
-            _ => false,
+        let mut left = self;
+        let mut right = other;
+        loop {
+            match (left, right) {
+                (Terms::None, Terms::None) => return true,
+                (Terms::More(t, ts), Terms::More(u, us)) => {
+                    if !t.is_same(u) {
+                        return false;
+                    }
+                    left = ts;
+                    right = us;
+                }
+                _ => return false,
+            }
         }
     }
 }

@@ -157,25 +157,28 @@ impl Term {
     pub fn sort(&self) -> Result<Sort, AllocError>
         ensures { IfOk result (λ a. sort_view a ≡ sort_of_term (term self.now)) }
     {
-        match self {
-            Term::Truth(_) => Ok(Sort::Bool),
-            Term::Number(_) => Ok(Sort::Int),
-            Term::Part(_) => Ok(Sort::Real),
-            Term::Constant(_, a) => a.copy(),
-            Term::Apply(_, a, _) => a.copy(),
-            Term::Not(_) => Ok(Sort::Bool),
-            Term::Binary(op, s, _) => match op {
-                Operator::Add | Operator::Subtract | Operator::Multiply => s.sort(),
-                Operator::Div | Operator::Mod => Ok(Sort::Int),
-                Operator::And
-                | Operator::Or
-                | Operator::Implies
-                | Operator::Equal
-                | Operator::Less
-                | Operator::LessEqual => Ok(Sort::Bool),
-            },
-            Term::Ite(_, s, _) => s.sort(),
-            Term::AllOf(_) | Term::SomeOf(_) => Ok(Sort::Bool),
+        let mut part = self;
+        loop {
+            match part {
+                Term::Truth(_) => return Ok(Sort::Bool),
+                Term::Number(_) => return Ok(Sort::Int),
+                Term::Part(_) => return Ok(Sort::Real),
+                Term::Constant(_, a) => return a.copy(),
+                Term::Apply(_, a, _) => return a.copy(),
+                Term::Not(_) => return Ok(Sort::Bool),
+                Term::Binary(op, s, _) => match op {
+                    Operator::Add | Operator::Subtract | Operator::Multiply => part = s,
+                    Operator::Div | Operator::Mod => return Ok(Sort::Int),
+                    Operator::And
+                    | Operator::Or
+                    | Operator::Implies
+                    | Operator::Equal
+                    | Operator::Less
+                    | Operator::LessEqual => return Ok(Sort::Bool),
+                },
+                Term::Ite(_, s, _) => part = s,
+                Term::AllOf(_) | Term::SomeOf(_) => return Ok(Sort::Bool),
+            }
         }
     }
 }

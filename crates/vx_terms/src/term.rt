@@ -48,7 +48,8 @@ pub enum Term {
     SomeOf(Rc<Terms>),
 }
 
-/// The first parts are let go one after the other: a snapshot of many clauses is deep there.
+/// The first parts are let go one after the other: an amount that many statements changed is deep there, and of a choice
+/// the value that many merges made is deep in its first branch.
 impl Drop for Term {
     #[cycle(terms)]
     fn drop(mut self) {
@@ -66,7 +67,7 @@ impl Drop for Term {
                 },
                 Term::Not(first) => first,
                 Term::Binary(_, first, _second) => first,
-                Term::Ite(first, _second, _third) => first,
+                Term::Ite(_condition, first, _second) => first,
             };
             match Rc::into_inner(first) {
                 Some(next) => self = next,

@@ -1,0 +1,37 @@
+use Rattle.std.proofs.Common.{sym, ap, ap₂, ◌∙◌, arith}
+use Rattle.vx_terms.specs.declared.term.Term.{size-Term}
+use Rattle.vx_terms.specs.Terms.{same, same_all}
+use Rattle.vx_terms.specs.Views.{term, terms}
+use Rattle.vx_terms.proofs.Firsts.{below_apply, below_binary, below_ite, apply_on, binary_on, ite_on}
+use Rattle.vx_terms.proofs.term.+same.Goals as goal
+
+pub Term::is_same-loop-left-preserved-in-Apply-right-5 : goal.Term::is_same-loop-left-preserved-in-Apply-right-5
+Term::is_same-loop-left-preserved-in-Apply-right-5 t c =
+    let ts = sym c.deref.ensures ∙ c.in-More-More.is-0 in
+    let us = sym c.deref-in-Apply-Apply.ensures ∙ c.in-More-More.is-1 in
+    let others = ap₂ (λ x y. same_all (terms x) (terms y)) (sym c.deref-in-More-More.ensures) (sym c.deref-in-More-More-2.ensures) ∙ sym c.is_same-in-More-More-3.ensures ∙ c.if-not-is_same-3.false in (
+      omega (arith, ap size-Term c.deref-left.ensures, below_apply _ _ _ _ _ _ c.in-Apply-Apply.is-0 ts, c.loop-left.invariant.0),
+      ap₂ (λ x y. same (term x) (term y)) c.deref-left.ensures c.deref-right.ensures
+          ∙ apply_on _ _ _ _ _ _ _ _ _ _ _ _ c.in-Apply-Apply.is-0 c.in-Apply-Apply.is-1 ts us
+          (sym c.is_same-in-More-More.ensures ∙ c.if-not-is_same.false) (sym c.is_same-in-More-More-2.ensures ∙ c.if-not-is_same-2.false) others
+          ∙ c.loop-left.invariant.1,
+    )
+
+pub Term::is_same-loop-left-preserved-in-Binary-right-7 : goal.Term::is_same-loop-left-preserved-in-Binary-right-7
+Term::is_same-loop-left-preserved-in-Binary-right-7 t c =
+    let seconds = ap₂ (λ x y. same (term x) (term y)) (sym c.deref-in-Binary-Binary.ensures) (sym c.deref-in-Binary-Binary-2.ensures) ∙ sym c.is_same-in-Binary-Binary.ensures ∙ c.if-not-is_same-4.false in (
+      omega (arith, ap size-Term c.deref-left-in-Binary-Binary.ensures, below_binary _ _ _ _ c.in-Binary-Binary.is-0, c.loop-left.invariant.0),
+      ap₂ (λ x y. same (term x) (term y)) c.deref-left-in-Binary-Binary.ensures c.deref-right-in-Binary-Binary.ensures
+          ∙ binary_on _ _ _ _ _ _ _ _ c.in-Binary-Binary.is-0 c.in-Binary-Binary.is-1 (sym c.is_same_operator.ensures ∙ c.if-not-is_same_operator.false) seconds
+          ∙ c.loop-left.invariant.1,
+    )
+
+pub Term::is_same-loop-left-preserved : goal.Term::is_same-loop-left-preserved
+Term::is_same-loop-left-preserved t c =
+    let conditions = ap₂ (λ x y. same (term x) (term y)) (sym c.deref-in-Ite-Ite.ensures) (sym c.deref-in-Ite-Ite-2.ensures) ∙ sym c.is_same-in-Ite-Ite.ensures ∙ c.if-not-is_same-5.false in
+    let others = ap₂ (λ x y. same (term x) (term y)) (sym c.deref-in-Ite-Ite-3.ensures) (sym c.deref-in-Ite-Ite-4.ensures) ∙ sym c.is_same-in-Ite-Ite-2.ensures ∙ c.if-not-is_same-6.false in (
+      omega (arith, ap size-Term c.deref-left-in-Ite-Ite.ensures, below_ite _ _ _ _ c.in-Ite-Ite.is-0, c.loop-left.invariant.0),
+      ap₂ (λ x y. same (term x) (term y)) c.deref-left-in-Ite-Ite.ensures c.deref-right-in-Ite-Ite.ensures
+          ∙ ite_on _ _ _ _ _ _ _ _ c.in-Ite-Ite.is-0 c.in-Ite-Ite.is-1 conditions others
+          ∙ c.loop-left.invariant.1,
+    )
