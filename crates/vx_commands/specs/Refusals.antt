@@ -74,7 +74,7 @@ pub record IsTypeFault (p : written.Program) (f : TypeFault) : Type 0 where
 
 -- the first token of the text that is not executed, unless memory ran out
 abbrev pub IsFirstBeyond : List ℕ → TextFault → Type 0
-IsFirstBeyond bytes f = (ts : List Token) (e : Ending) → Scans first_place (unmarked bytes) ts e → IsFirst (unmarked bytes) (Some f) (first_beyond false ts)
+IsFirstBeyond bytes f = (ts : List Token) (e : Ending) → Scans first_place (unmarked bytes) ts e → IsFirst (unmarked bytes) (Some f) (first_beyond ts)
 
 -- the line of a text that spells no program
 abbrev pub RefusesText : List ℕ → List ℕ → Type 0

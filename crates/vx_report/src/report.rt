@@ -94,6 +94,7 @@ fn kind_word(kind: &Kind) -> &'static str
 {
     match kind {
         Kind::Field(_) => "field",
+        Kind::Predicate(_) => "predicate",
         Kind::Method(_) => "method",
     }
 }

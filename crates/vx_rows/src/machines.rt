@@ -12,10 +12,12 @@ use vx_parser::parse;
 use vx_report::{code_word, reply_word};
 use vx_resolved::Settled;
 use vx_rules::Reply;
-use vx_settling::settle;
+use vx_settled::typed_programs_keep_apart;
+use vx_settling::{Unsettled, settle};
 use vx_smt_meaning::Command;
 use vx_smt_text::write;
 use vx_stack::Query;
+use vx_typing::{Typed, check};
 
 // On, with this reply where one is awaited.
 fn on(
@@ -92,6 +94,13 @@ fn take_step(
     on(alloc, first, program, step.reply)
 }
 
+// A typed program, settled: typing keeps its members apart.
+fn settled_from(alloc: Global, typed: &Typed) -> Result<Settled, Unsettled> {
+    typed_programs_keep_apart();
+    typed.typed();
+    settle(alloc, typed.program())
+}
+
 // The steps of both machines.
 fn put_steps(
     alloc: Global,
@@ -119,8 +128,11 @@ pub fn put_machines(alloc: Global, row: &Row, out: &mut Vec<u8>) -> Result<(), A
     let Ok(program) = parse(alloc, &row.text) else {
         return put_line(out, "  ", "no program");
     };
-    let Ok(program) = settle(alloc, &program) else {
-        return put_line(out, "  ", "no program that is executed");
+    let Ok(typed) = check(alloc, &program) else {
+        return put_line(out, "  ", "no typed program");
+    };
+    let Ok(program) = settled_from(alloc, &typed) else {
+        return put_line(out, "  ", "no program that is settled");
     };
     put_steps(alloc, &program, row, out)
 }

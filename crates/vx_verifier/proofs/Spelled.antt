@@ -1,9 +1,6 @@
 -- In a supported program each question can be asked: each name in it is spelled as a symbol, and each symbol has its sorts.
 use Rattle.std.proofs.Common.{◌≡◌, ℕ, zero, suc, Bool, true, false, List, [], ◌∷◌, ◌++◌, Option, Some, None, map, slice_get, if◌then◌else◌, ap, sym, refl, subst}
-use Rattle.vx_resolved.specs.declared.Kind.TheVariants as kind'
-use Rattle.vx_resolved.specs.declared.Member as member'
-use Rattle.vx_ast.specs.Syntax.{Member}
-use Rattle.vx_resolved.specs.Resolved.{kind, member, method}
+use Rattle.vx_ast.specs.Syntax.{Program, Member}
 use Rattle.vx_terms.specs.Sorts.{Sort, IntSort, BoolSort, RealSort, RefSort, SnapSort, OtherSort, Symbol, Standard, Function, Variable, Named}
 use Rattle.vx_terms.specs.Terms.{Term, Truth, Number, Part, Constant, Apply, Not, Binary, Ite, AllOf, SomeOf, Terms, NoTerms, MoreTerms}
 use Rattle.vx_terms.specs.Build.{negate}
@@ -20,7 +17,7 @@ use Rattle.vx_machine.specs.Runs.{tree_of, member_tree}
 use Rattle.vx_live.specs.Live.{IsBuiltIn, IsLive, AllLive}
 use Rattle.vx_live.proofs.Nameless.{IsNumbered, IsNameless, AreNameless, negate_nameless, condition_nameless, path_nameless}
 use Rattle.vx_live.proofs.Bools.{path_bool, negated_bool}
-use Rattle.vx_live.proofs.LiveMethods.{methods_live}
+use Rattle.vx_live.proofs.LiveMethods.{calling_live}
 use Rattle.vx_dialogue.specs.Askable.{IsOfFive, IsAskable}
 use Rattle.vx_verifier.proofs.Askable.{AllAskable}
 use Rattle.vx_verifier.specs.Headline.{IsSupported}
@@ -148,34 +145,16 @@ all_askable (Ask q t) live = (askable q live.0, all_askable t live.1)
 all_askable (Probe q a b) live = (askable q live.0, all_askable a live.1, all_askable b live.2)
 all_askable (Fork a b) live = (all_askable a live.0, all_askable b live.1)
 
-some_same : {A : Type 0} (a b : A) → Some a ≡ Some b → a ≡ b
-some_same a b e = cc
-
--- a member in code is a field or a method
-in_code : (ms : List member'.Member) (n : ℕ) (x : Member) → slice_get (map member ms) n ≡ Some x → (k : kind'.the_data) × (x.kind ≡ kind k)
-in_code [] n x at = cc
-in_code (y ∷ ms) zero x at = (y.kind, ap (λ (z : Member). z.kind) (sym (some_same (member y) x at)))
-in_code (y ∷ ms) (suc n) x at = in_code ms n x at
-
 -- each question of the members is live
-supported_live : (ms : List member'.Member) → IsSupported (map member ms) → (n : ℕ) → AllLive (member_tree (map member ms) n)
-supported_live ms supported n = by_member (slice_get (map member ms) n) refl
+supported_live : (p : Program) → IsSupported p → (n : ℕ) → AllLive (member_tree p n)
+supported_live p supported n = by_member (slice_get p n) refl
   where
-    by_kind : (x : Member) → slice_get (map member ms) n ≡ Some x → (k : kind'.the_data) → x.kind ≡ kind k → AllLive (tree (map member ms) x.name x.kind)
-    by_kind x at (kind'.Field t) is = subst (λ k. AllLive (tree (map member ms) x.name k)) (sym is) tt
-    by_kind x at (kind'.Method m) is =
-        let p = map member ms in
-        let law = supported n (method m.value) (x, at, is) in
-        subst (λ k. AllLive (tree p x.name k)) (sym is) (methods_live p (method m.value) law.0 law.1)
-
-    by_member : (o : Option Member) → slice_get (map member ms) n ≡ o → AllLive (tree_of (map member ms) o)
+    by_member : (o : Option Member) → slice_get p n ≡ o → AllLive (tree_of p o)
     by_member None at = tt
-    by_member (Some x) at =
-        let k = in_code ms n x at in
-        by_kind x at k.0 k.1
+    by_member (Some x) at = calling_live p x.name x.kind supported.typed (supported.typed.names n x at) (λ y l c e. supported.members y l e)
 
-pub supported_spelled : (ms : List member'.Member) → IsSupported (map member ms) → AsksSpelled (map member ms)
-supported_spelled ms supported n = all_spelled (member_tree (map member ms) n) (supported_live ms supported n)
+pub supported_spelled : (p : Program) → IsSupported p → AsksSpelled p
+supported_spelled p supported n = all_spelled (member_tree p n) (supported_live p supported n)
 
-pub supported_askable : (ms : List member'.Member) → IsSupported (map member ms) → (n : ℕ) → AllAskable (member_tree (map member ms) n)
-supported_askable ms supported n = all_askable (member_tree (map member ms) n) (supported_live ms supported n)
+pub supported_askable : (p : Program) → IsSupported p → (n : ℕ) → AllAskable (member_tree p n)
+supported_askable p supported n = all_askable (member_tree p n) (supported_live p supported n)

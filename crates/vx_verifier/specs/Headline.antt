@@ -3,11 +3,11 @@
 use Rattle.std.specs.Prelude.{◌≡◌, ◌⊎◌, ℕ, ◌+◌, ◌<◌, ◌||◌, ⊤, Bool, true, false, List, [], ◌∷◌, ◌++◌, Some, length, map, take, drop, slice_get, if◌then◌else◌}
 use Rattle.std.specs.List.{list_any}
 use Rattle.vx_ast.specs.declared.Place.{Place}
-use Rattle.vx_ast.specs.Syntax.{Program, Member, Method, IsMethod}
+use Rattle.vx_ast.specs.Syntax.{Name, Program, Member, Kind, Method, IsMethod, member_named}
 use Rattle.vx_terms.specs.Interpretations.{Each}
-use Rattle.vx_types.specs.Typing.{IsTypedMethod}
 use Rattle.vx_meaning.specs.Fails.{MethodFails}
-use Rattle.vx_types.specs.FieldLanguage.{IsFieldMethod}
+use Rattle.vx_types.specs.CallLanguage.{IsCallingMember}
+use Rattle.vx_whole.specs.Premises.{IsTypedProgram}
 use Rattle.vx_smt_meaning.specs.Dialogues.{Check}
 use Rattle.vx_smt_meaning.specs.WellFormed.{IsWellFormed}
 use Rattle.vx_ends.specs.declared.piece.Ending.{Ending}
@@ -30,9 +30,10 @@ use Rattle.vx_verifier.specs.Lines.{lines}
 abbrev pub IsMethodAt : Program → ℕ → Method → Type 0
 IsMethodAt p n m = (member : Member) × (slice_get p n ≡ Some member) × (member.kind ≡ IsMethod m)
 
--- each method is typed, and of the language with fields, permissions and loops
-abbrev pub IsSupported : Program → Type 0
-IsSupported p = (n : ℕ) (m : Method) → IsMethodAt p n m → IsTypedMethod p m × IsFieldMethod m
+-- the program is typed as a whole, and its members are fields, and methods with fields, permissions, loops and calls
+pub record IsSupported (p : Program) : Type 0 where
+  pub typed : IsTypedProgram p
+  pub members : (x : Name) (k : Kind) → member_named p x ≡ Some k → IsCallingMember k
 
 -- in a supported program the method with this number fails at no place, in no run from any state satisfying its precondition
 abbrev pub NeverFails : Program → ℕ → Type 0

@@ -19,7 +19,7 @@ ghost use Rattle.vx_verifier.specs.Lanes as spec;
 ghost use Rattle.vx_verifier.specs.Lanes.{IsHeld, IsRunning, links, is_lost, is_started, Hears, Starts, StartsWhere, Later, Judges, Executes, IsFaultOf};
 
 use crate::lane::{Child, LANE, Trouble, ask, end, leave};
-use crate::program::{methods_are_supported, settled};
+use crate::program::{programs_are_supported, settled};
 use std::alloc::{AllocError, Global};
 use vx_ast::MemberId;
 use vx_ends::{Parts, Spawner, Turns};
@@ -243,6 +243,7 @@ fn has_line(kind: &Kind) -> bool
 {
     match kind {
         Kind::Field(_) => false,
+        Kind::Predicate(_) => true,
         Kind::Method(_) => true,
     }
 }
@@ -348,7 +349,7 @@ pub fn verify<W: Spawner, N: Turns>(
     ensures supported { IsSupported (resolved_of typed.now) }
 {
     let _ = (jobs, certify);
-    methods_are_supported(typed);
+    programs_are_supported(typed);
     let program = settled(alloc, typed)?;
     verify_members(alloc, &program, command, spawner, turns)
 }

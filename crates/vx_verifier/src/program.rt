@@ -8,7 +8,7 @@ ghost use Rattle.vx_verifier.specs.Headline.{IsSupported};
 
 use std::alloc::{AllocError, Global};
 use vx_resolved::Settled;
-use vx_settled::{executed_programs_are_of_fields, typed_programs_settle_typed};
+use vx_settled::{executed_programs_call, typed_programs_keep_apart};
 use vx_settling::{Unsettled, settle};
 use vx_typing::Typed;
 
@@ -17,6 +17,8 @@ pub fn settled(alloc: Global, typed: &Typed) -> Result<Settled, AllocError>
     requires { is_executed (written_of typed.now) ≡ true }
     ensures { IfOk result (λ s. settled s ≡ resolved_of typed.now) }
 {
+    typed_programs_keep_apart();
+    typed.typed();
     match settle(alloc, typed.program()) {
         Ok(settled) => Ok(settled),
         Err(Unsettled::NotExecuted(_, _)) => unreachable!(),
@@ -24,12 +26,11 @@ pub fn settled(alloc: Global, typed: &Typed) -> Result<Settled, AllocError>
     }
 }
 
-/// The methods of a program that is executed are typed, and of the language with fields.
-pub fn methods_are_supported(typed: &Typed)
+/// A program that is executed is typed as a whole, and its members are fields, and methods with fields, loops and calls.
+pub fn programs_are_supported(typed: &Typed)
     requires { is_executed (written_of typed.now) ≡ true }
     ensures { IsSupported (resolved_of typed.now) }
 {
-    typed_programs_settle_typed();
-    executed_programs_are_of_fields();
+    executed_programs_call();
     typed.typed();
 }

@@ -13,4 +13,4 @@ pub returns-in-None-clause-executed : goal.returns-in-None-clause-executed
 returns-in-None-clause-executed c =
     let s = c.requires.spelled in
     c.texts_within_are_executed.ensures c.args.text.now (written_of c.args.typed.now) s
-    (none_is (unmarked c.args.text.now) (first_beyond false s.tokens) (c.in-None.ensures.first s.short s.tokens _ s.scans))
+    (none_is (unmarked c.args.text.now) (first_beyond s.tokens) (c.in-None.ensures.first s.short s.tokens _ s.scans))

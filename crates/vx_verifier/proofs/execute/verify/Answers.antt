@@ -14,4 +14,4 @@ returns-in_err-program-clause-steady g c = λ steady room.
     (record { spawner = steady; starts = refl; since = []; ended = sym (append_none ended); links = tt; child_is = tt })
 
 pub verify_members-requires : goal.verify_members-requires
-verify_members-requires g c = record { supported = subst IsSupported (sym c.in_ok-program.ensures) c.methods_are_supported.ensures }
+verify_members-requires g c = record { supported = subst IsSupported (sym c.in_ok-program.ensures) c.programs_are_supported.ensures }

@@ -8,7 +8,7 @@ use Rattle.vx_verifier.proofs.Spelled.{supported_spelled, supported_askable}
 use Rattle.vx_verifier.proofs.execute.verify_members.Goals as goal
 
 pub execute_all-lane-requires : goal.execute_all-lane-requires
-execute_all-lane-requires g c = record { spelled = supported_spelled c.args.program.now.program.members.items c.requires.supported }
+execute_all-lane-requires g c = record { spelled = supported_spelled (settled c.args.program.now) c.requires.supported }
 
 pub returns-clause-headline : goal.returns-clause-headline
 returns-clause-headline g c =
@@ -19,7 +19,7 @@ returns-clause-headline g c =
     headline g.W.Link.Link.dialogue (settled c.args.program.now) before (g.W.Spawner.ended c.execute_all-lane.new.spawner) (g.W.Spawner.ended c.end.new.spawner)
     (g.W.Spawner.faults c.args.spawner.now) (g.W.Spawner.faults c.execute_all-lane.new.spawner) (g.W.Spawner.faults c.end.new.spawner)
     c.execute_all-lane.result.0.child c.execute_all-lane.result.0.checks runs.items told.0 told.1 (λ turns checks. c.end.ensures.told before turns checks) c.end.ensures.later after
-    (supported_askable c.args.program.now.program.members.items c.requires.supported))
+    (supported_askable (settled c.args.program.now) c.requires.supported))
     c.execute_all-lane.ensures.told
 
 pub returns-clause-steady : goal.returns-clause-steady
