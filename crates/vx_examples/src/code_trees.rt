@@ -20,6 +20,7 @@ ghost use Rattle.vx_resolved.specs.declared.Operator.TheVariants as operator';
 ghost use Rattle.vx_resolved.specs.declared.Connective.TheVariants as connective';
 ghost use Rattle.vx_resolved.specs.declared.Division.TheVariants as division';
 ghost use Rattle.vx_resolved.specs.declared.Expr as expr';
+ghost use Rattle.vx_resolved.specs.declared.Exprs as exprs';
 ghost use Rattle.vx_resolved.specs.declared.Assertion as assertion';
 ghost use Rattle.vx_resolved.specs.declared.Declaration as declaration';
 ghost use Rattle.vx_resolved.specs.declared.Method as method';
@@ -100,6 +101,9 @@ pub fn settled_trees()
     ensures divided { (p q : _) (a b : expr'.Expr) → resolved.expr (expr'.Divide' (at 1 1) division'.Remainder p a q b) ≡ syntax.Divide (at 1 1) syntax.Remainder (resolved.expr a) (resolved.expr b) }
     ensures read { (p : _) (e : expr'.Expr) (x : Rc (String Global) Global) → resolved.expr (expr'.Read' (at 1 1) p e x) ≡ syntax.Read (at 1 1) (resolved.expr e) (string_bytes x.value) }
     ensures old { (p : _) (e : expr'.Expr) → resolved.expr (expr'.Old' (at 1 1) p e) ≡ syntax.Old (at 1 1) (resolved.expr e) }
+    ensures applied { (p : _) (f : Rc (String Global) Global) (es : exprs'.Exprs) → resolved.expr (expr'.Apply' (at 1 1) f p es) ≡ syntax.Apply (at 1 1) (string_bytes f.value) (resolved.exprs es) }
+    ensures no_arguments { resolved.exprs exprs'.NoMore ≡ syntax.NoMore }
+    ensures called { (xs : _) (m : Rc (String Global) Global) (es : _) → resolved.stmt (stmt'.Call (at 1 1) xs m es) ≡ syntax.Call (at 1 1) (resolved.names_of xs.value.items) (string_bytes m.value) (resolved.exprs es.value) }
     ensures points { (e share : Rc expr'.Expr Global) (x : Rc (String Global) Global) → resolved.assertion (assertion'.Points (at 1 1) e x share) ≡ syntax.Points (at 1 1) (resolved.expr e.value) (string_bytes x.value) (resolved.expr share.value) }
     ensures implied_part { (p : _) (c : Rc expr'.Expr Global) (a : assertion'.Assertion) → resolved.assertion (assertion'.Implied' c p a) ≡ syntax.Implied (resolved.expr c.value) (resolved.assertion a) }
     ensures chosen_part { (p q : _) (c : Rc expr'.Expr Global) (a b : assertion'.Assertion) → resolved.assertion (assertion'.Chosen' c p a q b) ≡ syntax.Chosen (resolved.expr c.value) (resolved.assertion a) (resolved.assertion b) }

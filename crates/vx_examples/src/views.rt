@@ -35,11 +35,12 @@ ghost use Rattle.vx_states.specs.Index.{is_even, finds, meets, IsAlike, IsExtend
 ghost use Rattle.vx_states.specs.Paths.{extended, entries};
 ghost use Rattle.vx_states.specs.SymStates.{binding, optional_term, own, state, place_in};
 ghost use Rattle.vx_ast.specs.Syntax as syntax;
-ghost use Rattle.vx_resolved.specs.Resolved.{expr, assertion, stmt, block, method};
+ghost use Rattle.vx_resolved.specs.Resolved.{expr, exprs, assertion, stmt, block, method};
 ghost use Rattle.vx_resolved.specs.declared.Operator.TheVariants as operator';
 ghost use Rattle.vx_resolved.specs.declared.Division.TheVariants as division';
 ghost use Rattle.vx_resolved.specs.declared.Connective.TheVariants as connective';
 ghost use Rattle.vx_resolved.specs.declared.Expr.{Expr as Expr'};
+ghost use Rattle.vx_resolved.specs.declared.Exprs.{Exprs as Exprs'};
 ghost use Rattle.vx_resolved.specs.declared.Assertion.{Assertion as Assertion'};
 ghost use Rattle.vx_resolved.specs.declared.Stmt.{Stmt as Stmt'};
 ghost use Rattle.vx_resolved.specs.declared.Block.{Block as Block'};
@@ -63,12 +64,18 @@ ghost use Rattle.vx_stack.specs.declared.waiting.Executed.TheVariants as execute
 ghost use Rattle.vx_stack.specs.declared.frame.Next.{Next};
 ghost use Rattle.vx_stack.specs.declared.frame.Next.TheVariants as next';
 ghost use Rattle.vx_stack.specs.declared.frame.Hole.{Hole};
+ghost use Rattle.vx_stack.specs.declared.frame.Taken.{Taken};
+ghost use Rattle.vx_stack.specs.declared.frame.Taken.TheVariants as taken';
+ghost use Rattle.vx_stack.specs.declared.frame.Row.{Row};
+ghost use Rattle.vx_stack.specs.declared.frame.Row.TheVariants as row';
+ghost use Rattle.vx_states.specs.declared.entering.Caller.{Caller};
+ghost use Rattle.vx_states.specs.Entering.{back_to};
 ghost use Rattle.vx_stack.specs.declared.frame.Hole.TheVariants as hole';
 ghost use Rattle.vx_stack.specs.declared.frame.Frame.TheVariants as frame';
 ghost use Rattle.vx_stack.specs.declared.frame.Side.{Side};
 ghost use Rattle.vx_stack.specs.declared.conts.Move.TheVariants as move';
 ghost use Rattle.vx_rules.specs.Codes.{code};
-ghost use Rattle.vx_stack.specs.Stack.{query, context, wanted, finding, taking_none, operand, putting, with_location, produced, take_location, taking, wrapped, consumed, iterated, from_invariant, forgotten, executed, going, giving, frame_tree, side_tree, Stepped, Checked};
+ghost use Rattle.vx_stack.specs.Stack.{query, context, wanted, finding, taking_none, operand, putting, with_location, produced, take_location, taking, wrapped, consumed, iterated, from_invariant, forgotten, executed, going, giving, frame_tree, side_tree, Stepped, Checked, giving_all, with_taken};
 ghost use Rattle.vx_examples.specs.Words.{Computes, at, int, bool, real, number, snap, null, unit, pair, first, plus, chosen_term, falsity, denied};
 ghost use Rattle.vx_examples.specs.Simplified.{truth};
 ghost use Rattle.vx_examples.specs.Walks.{y, f, fact, branch, scene, with_chunks, first_ask, a_probe};
@@ -178,7 +185,11 @@ pub fn frames_that_wait()
     ensures read { (q : _) (x : Rc Search Global) (h : Hole) → going [] (next'.ReadFrom' x 1 q h) scene ≡ finding x.value 1 scene (λ c. giving [] h c.chunk.value scene) (rules.never x.value.place (code x.value.code) scene) }
     ensures written { (q : _) (x : Rc Search Global) (t : Rc Term' Global) (n : Next) → going [] (next'.WriteTo' x 0 t q n) scene ≡
         finding x.value 0 scene (λ c. going [] n (rules.written c (term t.value) scene)) (rules.never x.value.place (code x.value.code) scene) }
-    ensures fresh { (q : _) (h : Hole) → going [] (next'.Fresh' sort'.Int q h) scene ≡ giving [] h (states.fresh sort.IntSort scene) (states.after_fresh scene) }
+    ensures fresh { (q : _) (w : Taken) → going [] (next'.Fresh' sort'.Int q w) scene ≡ with_taken [] w (states.fresh sort.IntSort scene) false (states.after_fresh scene) }
+    ensures evals { (q : _) (es : Rc Exprs' Global) (r : Row) → going [] (next'.Evals' es q r) scene ≡ rules.evals [] (rules.outer [] 4) (exprs es.value) scene (giving_all [] r) }
+    ensures back { (q : _) (c : Rc Caller Global) (n : Next) → going [] (next'.Back' c q n) with_chunks ≡ going [] n (back_to c.value with_chunks) }
+    ensures values { (q : _) (t : Rc Term' Global) (r : Row) → giving_all [] (row'.After' t q r) (int 0 ∷ []) scene ≡ Step (giving_all [] r (term t.value ∷ int 0 ∷ []) scene) }
+    ensures taken { (q : _) (h : Hole) → with_taken [] (taken'.Value' q h) (int 0) true scene ≡ giving [] h (int 0) scene }
     ensures given { giving [] hole'.Finish (int 0) scene ≡ End }
     ensures produced { (q : _) (n : Next) → giving [] (hole'.Produced' (produced'.Fact None) q n) (bool 0) scene ≡ Step (going [] n scene) }
     ensures produced_unit { (q : _) (t : Rc Term' Global) (n : Next) → giving [] (hole'.Produced' (produced'.Fact (Some t)) q n) (bool 0) scene ≡ Step (going [] n (states.with_fact (make.equals (term t.value) unit) scene)) }
