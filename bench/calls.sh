@@ -1,0 +1,27 @@
+#!/usr/bin/env bash
+# Writes files with calls, and prints what it takes to verify each: one method of 100, 400 and 1600 calls in a row, and as
+# many methods with one call and one question each.
+set -eu
+. "$(dirname "${BASH_SOURCE[0]}")/timing.sh"
+"$here/vsil" < /dev/null > /dev/null
+
+callee() {
+    echo "field f: Int method inc(x: Ref) requires acc(x.f) ensures acc(x.f) && x.f == old(x.f) + 1"
+}
+
+calls() {
+    callee
+    echo "method m(x: Ref) requires acc(x.f) {"
+    for ((i = 0; i < $1; i++)); do echo "inc(x)"; done
+    echo "}"
+}
+
+callers() {
+    callee
+    for ((i = 0; i < $1; i++)); do
+        echo "method m$i(x: Ref) requires acc(x.f) ensures acc(x.f) && x.f == old(x.f) + 1 { inc(x) }"
+    done
+}
+
+measure calls 100 400 1600
+measure callers 100 400 1600
