@@ -1,8 +1,7 @@
-use Rattle.std.proofs.Common.{◌≡◌, ◌∙◌, ap, sym, refl, Option, Some, None}
+use Rattle.std.proofs.Common.{ap, sym}
 use Rattle.std.specs.Prelude.{string_bytes}
-use Rattle.vx_ast.specs.Syntax.{Function}
 use Rattle.vx_resolved.specs.Settled.{settled}
-use Rattle.vx_rules.specs.Rules.{never, placed}
+use Rattle.vx_rules.specs.Rules.{never}
 use Rattle.vx_rules.specs.Trees.{FunctionCode}
 use Rattle.vx_states.specs.SymStates.{state}
 use Rattle.vx_stack.proofs.Steps.{stepped_as}

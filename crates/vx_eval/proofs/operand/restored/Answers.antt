@@ -1,10 +1,7 @@
-use Rattle.std.proofs.Common.{◌≡◌, ◌∙◌, ap}
-use Rattle.vx_heap.specs.Views.{heap}
+use Rattle.std.proofs.Common.{◌∙◌, ap}
 use Rattle.vx_resolved.specs.Resolved.{expr}
 use Rattle.vx_rules.specs.Members.{rules}
 use Rattle.vx_rules.specs.Rules.{Going, eval}
-use Rattle.vx_rules.specs.States.{with_heap}
-use Rattle.vx_rules.specs.Trees.{Step}
 use Rattle.vx_stack.specs.declared.frame.Hole.{Hole}
 use Rattle.vx_stack.specs.Stack.{giving, going}
 use Rattle.vx_eval.proofs.Unfolded.{within}
