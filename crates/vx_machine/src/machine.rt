@@ -103,13 +103,20 @@ fn is_refuted(reply: Reply) -> bool
     matches!(reply, Reply::Unsat)
 }
 
-/// The stack that a member begins with: its first side. A field has none, since there is no question.
+/// The stack that a member begins with: its first side. A field has none, since there is no question,
+/// nor has a predicate without a body.
 fn first_sides(alloc: Global, program: &Settled, member: &Member) -> Result<Conts, AllocError>
     ensures { IfOk result (λ c. (rs : List Reply) → walk (tree (settled program.now) (member_of member.now).name (member_of member.now).kind) rs ≡ remaining (settled program.now) c.sides.items rs) }
 {
     let mut conts = Conts::new(alloc);
     match &member.kind {
         Kind::Field(_) => {}
+        Kind::Predicate(d) => {
+            if let Some(body) = &d.body {
+                let side = vx_exec::predicate_side(alloc, program, &d.parameters, body)?;
+                conts.sides.push(side)?;
+            }
+        }
         Kind::Method(m) => {
             let side = vx_exec::first_side(alloc, program, m)?;
             conts.sides.push(side)?;
