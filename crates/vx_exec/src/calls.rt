@@ -1,18 +1,19 @@
 //! The steps of a call.
 
-ghost use Rattle.std.specs.Prelude.{◌≡◌, IfOk, Some, None, drop, length, string_bytes};
+ghost use Rattle.std.specs.Prelude.{◌≡◌, IfOk, drop};
 ghost use Rattle.vx_ast.specs.Syntax.{joined as joined_of};
 ghost use Rattle.vx_heap.specs.Views.{heap as heap_of, terms_of};
 ghost use Rattle.vx_resolved.specs.Resolved.{method as method_of, names_of};
 ghost use Rattle.vx_resolved.specs.Settled.{settled};
 ghost use Rattle.vx_rules.specs.Members as rule;
 ghost use Rattle.vx_rules.specs.Members.{rules};
-ghost use Rattle.vx_rules.specs.Rules.{consume};
-ghost use Rattle.vx_rules.specs.States.{declare_all, terms_in};
+ghost use Rattle.vx_rules.specs.Rules.{back, consume};
+ghost use Rattle.vx_rules.specs.States.{State, declare_all, terms_in};
 ghost use Rattle.vx_rules.specs.Trees as tree;
 ghost use Rattle.vx_rules.specs.Trees.{CallCode};
 ghost use Rattle.vx_stack.specs.Stack.{executed as executed_of, giving_all, going, promised, returned, Stepped};
 ghost use Rattle.vx_stack.specs.Values.{values};
+ghost use Rattle.vx_states.specs.Entering.{back_to};
 ghost use Rattle.vx_states.specs.SymStates.{state as state_of};
 ghost use Rattle.vx_terms.specs.Build.{whole_amount};
 ghost use Rattle.vx_terms.specs.Views.{term};
@@ -40,11 +41,12 @@ fn called_from(
     ensures method { IfOk result (λ c. method_of c.value.method.value ≡ method_of method.now.value) }
     ensures count { IfOk result (λ c. c.value.count ≡ count) }
     ensures targets { IfOk result (λ c. names_of c.value.targets.value.items ≡ names_of targets.now.value.items) }
-    ensures caller { IfOk result (λ c. (s : Rattle.vx_rules.specs.States.State) → Rattle.vx_states.specs.Entering.back_to c.value.caller.value s ≡ Rattle.vx_rules.specs.Rules.back (state_of state.now) s) }
+    ensures caller { IfOk result (λ c. (s : State) → back_to c.value.caller.value s ≡ back (state_of state.now) s) }
     ensures heap { IfOk result (λ c. heap_of c.value.heap.value ≡ (state_of state.now).heap) }
     ensures old { IfOk result (λ c. heap_of c.value.old_heap.value ≡ (state_of state.now).old) }
 {
-    let caller = Rc::new(alloc, state.caller(alloc)?)?;
+    let caller = state.caller(alloc)?;
+    let caller = Rc::new(alloc, caller)?;
     let called = Called {
         method: method.clone()?,
         count,

@@ -5,11 +5,11 @@ ghost use Rattle.vx_resolved.specs.Resolved.{assertion, exprs, predicate as pred
 ghost use Rattle.vx_resolved.specs.Settled.{settled};
 ghost use Rattle.vx_rules.specs.Members as rule;
 ghost use Rattle.vx_rules.specs.Members.{rules};
-ghost use Rattle.vx_rules.specs.Rules.{entered, evals, unfolded, ask};
+ghost use Rattle.vx_rules.specs.Rules.{ask, back, consume, entered, evals, unfolded};
 ghost use Rattle.vx_rules.specs.States.{bind};
 ghost use Rattle.vx_rules.specs.Trees as tree;
 ghost use Rattle.vx_rules.specs.Trees.{AmountCode, FoldCode};
-ghost use Rattle.vx_stack.specs.Stack.{executed as executed_of, going, Stepped, with_instance};
+ghost use Rattle.vx_stack.specs.Stack.{executed as executed_of, giving_all, going, Stepped, with_instance};
 ghost use Rattle.vx_stack.specs.Values.{values};
 ghost use Rattle.vx_states.specs.Entering.{back_to};
 ghost use Rattle.vx_states.specs.SymStates.{state as state_of};
@@ -26,11 +26,30 @@ use vx_stack::{Codes, Conts, Executed, Frame, Hole, Instance, Move, Next, Row, V
 use vx_states::{Caller, SymState};
 use vx_terms::Term;
 
+/// An amount is above none, and then the arguments are evaluated.
+fn step_above_none(
+    alloc: Global,
+    program: &Settled,
+    amount: &Rc<Term>,
+    place: Place,
+    arguments: &Rc<Exprs>,
+    row: Row,
+    state: SymState,
+    conts: &mut Conts,
+) -> Result<Move, AllocError>
+    ensures { IfOk result (λ m. Stepped (settled program.now) (ask (less zero_amount (term amount.now.value)) place AmountCode (state_of state) (λ s. evals (settled program.now) (rules (settled program.now)) (exprs arguments.now.value) s (giving_all (settled program.now) row))) conts.old.sides.items m conts.new.sides.items) }
+{
+    let allowed = positive(alloc, amount)?;
+    let row = Rc::new(alloc, row)?;
+    let rest = Rc::new(alloc, Next::Evals(arguments.clone()?, row))?;
+    conts.ask(alloc, program, allowed, place, Code::Amount, state, Frame::Go(rest))
+}
+
 /// The amount of a `fold`: it is above none, and then the arguments are evaluated.
 pub fn step_fold_amount(
     alloc: Global,
     program: &Settled,
-    amount: Rc<Term>,
+    amount: &Rc<Term>,
     place: Place,
     predicate: &Rc<String>,
     arguments: &Rc<Exprs>,
@@ -38,20 +57,17 @@ pub fn step_fold_amount(
     state: SymState,
     conts: &mut Conts,
 ) -> Result<Move, AllocError>
-    ensures { IfOk result (λ m. Stepped (settled program.now) (ask (less zero_amount (term amount.value)) place AmountCode (state_of state) (λ s. evals (settled program.now) (rules (settled program.now)) (exprs arguments.now.value) s (λ ts s1. rule.folded (settled program.now) (rules (settled program.now)) place (string_bytes predicate.now.value) ts (term amount.value) s1 (going (settled program.now) next.now.value)))) conts.old.sides.items m conts.new.sides.items) }
+    ensures { IfOk result (λ m. Stepped (settled program.now) (ask (less zero_amount (term amount.now.value)) place AmountCode (state_of state) (λ s. evals (settled program.now) (rules (settled program.now)) (exprs arguments.now.value) s (λ ts s1. rule.folded (settled program.now) (rules (settled program.now)) place (string_bytes predicate.now.value) ts (term amount.now.value) s1 (going (settled program.now) next.now.value)))) conts.old.sides.items m conts.new.sides.items) }
 {
-    let allowed = positive(alloc, &amount)?;
-    let row = Row::Fold(place, predicate.clone()?, amount, next.clone()?);
-    let row = Rc::new(alloc, row)?;
-    let rest = Rc::new(alloc, Next::Evals(arguments.clone()?, row))?;
-    conts.ask(alloc, program, allowed, place, Code::Amount, state, Frame::Go(rest))
+    let row = Row::Fold(place, predicate.clone()?, amount.clone()?, next.clone()?);
+    step_above_none(alloc, program, amount, place, arguments, row, state, conts)
 }
 
 /// The amount of an `unfold`: it is above none, and then the arguments are evaluated.
 pub fn step_unfold_amount(
     alloc: Global,
     program: &Settled,
-    amount: Rc<Term>,
+    amount: &Rc<Term>,
     place: Place,
     predicate: &Rc<String>,
     arguments: &Rc<Exprs>,
@@ -59,13 +75,10 @@ pub fn step_unfold_amount(
     state: SymState,
     conts: &mut Conts,
 ) -> Result<Move, AllocError>
-    ensures { IfOk result (λ m. Stepped (settled program.now) (ask (less zero_amount (term amount.value)) place AmountCode (state_of state) (λ s. evals (settled program.now) (rules (settled program.now)) (exprs arguments.now.value) s (λ ts s1. unfolded (settled program.now) (rules (settled program.now)) place (string_bytes predicate.now.value) ts (term amount.value) s1 (going (settled program.now) next.now.value)))) conts.old.sides.items m conts.new.sides.items) }
+    ensures { IfOk result (λ m. Stepped (settled program.now) (ask (less zero_amount (term amount.now.value)) place AmountCode (state_of state) (λ s. evals (settled program.now) (rules (settled program.now)) (exprs arguments.now.value) s (λ ts s1. unfolded (settled program.now) (rules (settled program.now)) place (string_bytes predicate.now.value) ts (term amount.now.value) s1 (going (settled program.now) next.now.value)))) conts.old.sides.items m conts.new.sides.items) }
 {
-    let allowed = positive(alloc, &amount)?;
-    let row = Row::Unfold(place, predicate.clone()?, amount, next.clone()?);
-    let row = Rc::new(alloc, row)?;
-    let rest = Rc::new(alloc, Next::Evals(arguments.clone()?, row))?;
-    conts.ask(alloc, program, allowed, place, Code::Amount, state, Frame::Go(rest))
+    let row = Row::Unfold(place, predicate.clone()?, amount.clone()?, next.clone()?);
+    step_above_none(alloc, program, amount, place, arguments, row, state, conts)
 }
 
 /// Consuming a predicate's body, for which an instance is put then.
@@ -77,7 +90,7 @@ fn taking_body(
     caller: Rc<Caller>,
     next: &Rc<Next>,
 ) -> Result<Next, AllocError>
-    ensures { IfOk result (λ n. going (settled program.now) n ≡ (λ s. Rattle.vx_rules.specs.Rules.consume (settled program.now) (rules (settled program.now)) (assertion body.now.value) (record { pure = FoldCode; permission = FoldCode; builds = true }) (term instance.now.value.amount.value) s.heap s (executed_of (settled program.now) (Executed.Folded instance.now caller) (going (settled program.now) next.now.value)))) }
+    ensures { IfOk result (λ n. going (settled program.now) n ≡ (λ s. consume (settled program.now) (rules (settled program.now)) (assertion body.now.value) (record { pure = FoldCode; permission = FoldCode; builds = true }) (term instance.now.value.amount.value) s.heap s (executed_of (settled program.now) (Executed.Folded instance.now caller) (going (settled program.now) next.now.value)))) }
 {
     let _program = program;
     let folded = Executed::Folded(instance.clone()?, caller);
@@ -87,7 +100,8 @@ fn taking_body(
         permission: Code::Fold,
         builds: true,
     };
-    Ok(Next::Consume(body.clone()?, codes, instance.amount.clone()?, hole))
+    let amount = instance.amount.clone()?;
+    Ok(Next::Consume(body.clone()?, codes, amount, hole))
 }
 
 /// A predicate's body is taken, in its part of the program.
@@ -101,11 +115,12 @@ fn step_taking(
     state: SymState,
     conts: &mut Conts,
 ) -> Result<Move, AllocError>
-    ensures { IfOk result (λ m. Stepped (settled program.now) (tree.Step ((rules (settled program.now)).consume (assertion body.now.value) (record { pure = FoldCode; permission = FoldCode; builds = true }) (term instance.now.value.amount.value) (state_of state).heap (entered (bind (predicate_of d.now).parameters (values instance.now.value.arguments.value)) instance.now.value.place (state_of state)) (λ t s. tree.Step (going (settled program.now) next.now.value (with_instance (string_bytes instance.now.value.predicate.value) (values instance.now.value.arguments.value) (term instance.now.value.amount.value) t (Rattle.vx_rules.specs.Rules.back (state_of state) s)))))) conts.old.sides.items m conts.new.sides.items) }
+    ensures { IfOk result (λ m. Stepped (settled program.now) (tree.Step ((rules (settled program.now)).consume (assertion body.now.value) (record { pure = FoldCode; permission = FoldCode; builds = true }) (term instance.now.value.amount.value) (state_of state).heap (entered (bind (predicate_of d.now).parameters (values instance.now.value.arguments.value)) instance.now.value.place (state_of state)) (λ t s. tree.Step (going (settled program.now) next.now.value (with_instance (string_bytes instance.now.value.predicate.value) (values instance.now.value.arguments.value) (term instance.now.value.amount.value) t (back (state_of state) s)))))) conts.old.sides.items m conts.new.sides.items) }
 {
     program.keeps_apart();
     vx_depth::rules_read_parts_by_themselves();
-    let caller = Rc::new(alloc, state.caller(alloc)?)?;
+    let caller = state.caller(alloc)?;
+    let caller = Rc::new(alloc, caller)?;
     let take = taking_body(alloc, program, body, instance, caller, next)?;
     let arguments = instance.arguments.to_vec(alloc)?;
     let mut state = state;

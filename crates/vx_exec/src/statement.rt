@@ -267,10 +267,10 @@ pub fn step_executed(
         }
         Executed::Pass => step_pass(alloc, program, &value, next, state, conts),
         Executed::Fold(place, predicate, arguments) => step_fold_amount(
-            alloc, program, value, *place, predicate, arguments, next, state, conts,
+            alloc, program, &value, *place, predicate, arguments, next, state, conts,
         ),
         Executed::Unfold(place, predicate, arguments) => step_unfold_amount(
-            alloc, program, value, *place, predicate, arguments, next, state, conts,
+            alloc, program, &value, *place, predicate, arguments, next, state, conts,
         ),
         Executed::Folded(instance, caller) => {
             step_folded(alloc, program, value, instance, caller, next, state, conts)

@@ -189,7 +189,8 @@ fn step_exchanged(
 {
     program.keeps_apart();
     vx_depth::rules_read_parts_by_themselves();
-    let caller = Rc::new(alloc, state.caller(alloc)?)?;
+    let caller = state.caller(alloc)?;
+    let caller = Rc::new(alloc, caller)?;
     let after = Rc::new(alloc, Next::Back(caller, next.clone()?))?;
     let production = exchanged(alloc, instance, snapshot)?;
     let state = within(alloc, d, instance, is_inner, state)?;

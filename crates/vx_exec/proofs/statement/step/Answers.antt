@@ -64,3 +64,18 @@ returns-in-While c =
     let it = c.in-While in
     stepped_as p _ _ _ _ _
     (ap (λ y. exec p (rules p) (stmt y) s on) it.is ∙ sym (ap (λ l. exec p (rules p) (While it.place (expr it.e.value) (assertions l) (block it.body.value)) s on) c.deref-in-While.ensures.value)) c.step_while.ensures
+
+pub returns-in_ok-clone-in-Call-3 : goal.returns-in_ok-clone-in-Call-3
+returns-in_ok-clone-in-Call-3 c =
+    stepped_as (settled c.args.program.now) _ _ _ _ _
+    (rw (c.in-Call.is, c.in_ok-clone-in-Call.ensures.cases, c.in_ok-clone-in-Call-2.ensures.cases, c.in_ok-clone-in-Call-3.ensures.cases) refl) c.evals.ensures
+
+pub returns-in_ok-clone-in-Fold-3 : goal.returns-in_ok-clone-in-Fold-3
+returns-in_ok-clone-in-Fold-3 c =
+    stepped_as (settled c.args.program.now) _ _ _ _ _
+    (rw (c.in-Fold.is, c.in_ok-clone-in-Fold.ensures.cases, c.in_ok-clone-in-Fold-2.ensures.cases, c.in_ok-clone-in-Fold-3.ensures.cases) refl) c.eval-in-Fold.ensures
+
+pub returns-in_ok-clone-in-Unfold-3 : goal.returns-in_ok-clone-in-Unfold-3
+returns-in_ok-clone-in-Unfold-3 c =
+    stepped_as (settled c.args.program.now) _ _ _ _ _
+    (rw (c.in-Unfold.is, c.in_ok-clone-in-Unfold.ensures.cases, c.in_ok-clone-in-Unfold-2.ensures.cases, c.in_ok-clone-in-Unfold-3.ensures.cases) refl) c.eval-in-Unfold.ensures
