@@ -1,17 +1,17 @@
 -- What stands in another member is consumed as by the rules over themselves, and the way back from a callee, by its parts.
-use Rattle.std.proofs.Common.{◌≡◌, ℕ, Bool, List, Option, None, refl, sym, ap, ◌∙◌, drop}
+use Rattle.std.proofs.Common.{◌≡◌, ℕ, Bool, true, List, Option, Some, None, refl, sym, ap, ◌∙◌, drop}
 use Rattle.vx_ast.specs.declared.Place.{Place}
-use Rattle.vx_ast.specs.Syntax.{Name, Program, Assertion, Method, joined}
+use Rattle.vx_ast.specs.Syntax.{Name, Program, Assertion, Predicate, Method, joined, method_named, predicate_named}
 use Rattle.vx_depth.specs.Depths.{ReadsItself}
 use Rattle.vx_terms.specs.Terms.{Term}
 use Rattle.vx_terms.specs.Build.{whole_amount}
-use Rattle.vx_rules.specs.States.{Heap, State, Store, assign_all, declare_all, terms_in, with_store}
-use Rattle.vx_rules.specs.Trees.{Tree, Step}
-use Rattle.vx_rules.specs.Rules.{Context, Giving, Going, back, consume}
-use Rattle.vx_rules.specs.Members.{blank, rules}
+use Rattle.vx_rules.specs.States.{Heap, State, Store, assign_all, bind, declare_all, terms_in, with_store}
+use Rattle.vx_rules.specs.Trees.{CallCode, FoldCode, Tree, Step}
+use Rattle.vx_rules.specs.Rules.{Context, Giving, Going, back, consume, entered, never}
+use Rattle.vx_rules.specs.Members.{blank, folded, rules}
 use Rattle.vx_states.specs.declared.entering.Caller.{Caller}
 use Rattle.vx_states.specs.Entering.{back_to}
-use Rattle.vx_stack.specs.Stack.{returned}
+use Rattle.vx_stack.specs.Stack.{returned, with_instance}
 
 pub part_consumed : (p : Program) (a : Assertion) (x : Context) (scale : Term) (z y : State) (take : Going) (on other : Giving) → ReadsItself p z.level →
     take ≡ (λ w. consume p (rules p) a x scale w.heap w other) → y ≡ z → ((t : Term) (w : State) → on t w ≡ other t w) → (rules p).consume a x scale z.heap z on ≡ take y
@@ -46,3 +46,15 @@ promises p m n xs ys j k c s h i old on w a b d e f g =
     ∙ ap (λ (y : Heap). promising p n y (λ inside z. Step (on (returned xs (drop j (terms_in inside.store)) c old z))) w) f
     ∙ ap (λ (y : ℕ). promising p n i (λ inside z. Step (on (returned xs (drop y (terms_in inside.store)) c old z))) w) d
     ∙ ap (λ (y : Going). (rules p).produce (joined n.place n.ensures) whole_amount None inside y) (returns_to xs ys (drop k (terms_in inside.store)) c s old on b e g)
+
+-- a fold by what its name stands for
+pub folded_none : (p : Program) (at : Place) (i : Name) (ts : List Term) (a : Term) (s : State) (on : Going) → predicate_named p i ≡ None → folded p (rules p) at i ts a s on ≡ never at FoldCode s
+folded_none p at i ts a s on e = rw e refl
+
+pub folded_bare : (p : Program) (at : Place) (i : Name) (ts : List Term) (a : Term) (s : State) (on : Going) (d : Predicate) → predicate_named p i ≡ Some d → d.body ≡ None → folded p (rules p) at i ts a s on ≡ never at FoldCode s
+folded_bare p at i ts a s on d e f = rw (e, f) refl
+
+pub folded_by : (p : Program) (at : Place) (i : Name) (ts : List Term) (a : Term) (s : State) (on : Going) (d : Predicate) (body : Assertion) → predicate_named p i ≡ Some d → d.body ≡ Some body →
+    folded p (rules p) at i ts a s on
+    ≡ Step ((rules p).consume body (record { pure = FoldCode; permission = FoldCode; builds = true }) a s.heap (entered (bind d.parameters ts) at s) (λ t w. Step (on (with_instance i ts a t (back s w)))))
+folded_by p at i ts a s on d body e f = rw (e, f) refl

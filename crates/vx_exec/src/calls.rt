@@ -43,7 +43,7 @@ fn called_from(
     ensures targets { IfOk result (λ c. names_of c.value.targets.value.items ≡ names_of targets.now.value.items) }
     ensures caller { IfOk result (λ c. (s : State) → back_to c.value.caller.value s ≡ back (state_of state.now) s) }
     ensures heap { IfOk result (λ c. heap_of c.value.heap.value ≡ (state_of state.now).heap) }
-    ensures old { IfOk result (λ c. heap_of c.value.old_heap.value ≡ (state_of state.now).old) }
+    ensures before { IfOk result (λ c. heap_of c.value.old_heap.value ≡ (state_of state.now).old) }
 {
     let caller = state.caller(alloc)?;
     let caller = Rc::new(alloc, caller)?;

@@ -1,2 +1,2 @@
 mod Trees
-pub mod Parts
+pub mod Others

@@ -38,4 +38,4 @@ returns c =
     stepped_as p _ _ _ _ _
     (ap Step (part_consumed p (joined m.place m.requires) (codes CallCode CallCode) whole_amount z (state c.enter.new.self) (going p c.in_ok-take.take) _ other
     (c.rules_read_parts_by_themselves.ensures p z.level c.keeps_apart.ensures) take c.in_ok-enter.ensures
-    (λ t w. sym (promises p (method it.method.value) m (names_of it.targets.value.items) xs it.count (length ts) it.caller.value s (heap it.heap.value) s.heap (heap it.old_heap.value) n w is.method is.targets count is.caller is.heap is.old)))) c.next.ensures
+    (λ t w. sym (promises p (method it.method.value) m (names_of it.targets.value.items) xs it.count (length ts) it.caller.value s (heap it.heap.value) s.heap (heap it.old_heap.value) n w is.method is.targets count is.caller is.heap is.before)))) c.next.ensures

@@ -11,7 +11,7 @@ use Rattle.vx_states.specs.SymStates.{optional_term, state}
 use Rattle.vx_stack.specs.declared.waiting.Called.{Called}
 use Rattle.vx_stack.specs.Stack.{going, returned}
 use Rattle.vx_stack.proofs.Steps.{stepped_as}
-use Rattle.vx_produce.proofs.Parts.{part_produced}
+use Rattle.vx_produce.proofs.Others.{part_produced}
 use Rattle.vx_exec.proofs.calls.step_promised.Goals as goal
 
 pub returns : goal.returns

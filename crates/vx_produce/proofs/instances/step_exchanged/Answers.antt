@@ -12,7 +12,7 @@ use Rattle.vx_stack.specs.declared.waiting.Instance.{Instance}
 use Rattle.vx_stack.specs.Stack.{going}
 use Rattle.vx_stack.specs.Values.{values}
 use Rattle.vx_stack.proofs.Steps.{stepped_as}
-use Rattle.vx_produce.proofs.Parts.{part_produced}
+use Rattle.vx_produce.proofs.Others.{part_produced}
 use Rattle.vx_produce.proofs.instances.step_exchanged.Goals as goal
 
 pub returns : goal.returns
