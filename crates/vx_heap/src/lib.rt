@@ -10,7 +10,7 @@ mod heap;
 mod put;
 mod references;
 
-pub use amounts::{not_negative, whole, zero};
+pub use amounts::{not_negative, positive, whole, zero};
 pub use candidates::Candidate;
 pub use chunk::{Chunk, Resource};
 pub use conditions::{equal_arguments, holds_amount, holds_some};

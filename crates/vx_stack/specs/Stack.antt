@@ -1,5 +1,5 @@
 -- What the frames, the stack and the questions of src/ stand for: the tree that is still to be walked.
-use Rattle.std.specs.Prelude.{◌≡◌, ℕ, Bool, true, false, List, [], ◌∷◌, ◌++◌, Option, Some, None, if◌then◌else◌, pos, drop, string_bytes}
+use Rattle.std.specs.Prelude.{◌≡◌, ℕ, Bool, true, false, List, [], ◌∷◌, ◌++◌, Option, Some, None, if◌then◌else◌, pos, drop, map, string_bytes}
 use Rattle.vx_stack.specs.declared.question.Query.{Query}
 use Rattle.vx_stack.specs.declared.waiting.Codes.{Codes}
 use Rattle.vx_stack.specs.declared.waiting.Production.{Production}

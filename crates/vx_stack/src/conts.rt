@@ -1,13 +1,14 @@
 //! The stack of sides, and the steps that the rules are made of.
 
 ghost use Rattle.std.specs.Prelude.{◌≡◌, ◌++◌, ◌∷◌, ◌||◌, [], IfOk, map};
-ghost use Rattle.vx_resolved.specs.Resolved.{expr};
+ghost use Rattle.vx_resolved.specs.Resolved.{expr, exprs};
 ghost use Rattle.vx_ast.specs.Syntax.{Program};
 ghost use Rattle.vx_rules.specs.Members.{rules};
 ghost use Rattle.vx_rules.specs.Rules as rule;
 ghost use Rattle.vx_rules.specs.Codes.{code as code_of};
 ghost use Rattle.vx_rules.specs.States.{is_quiet};
-ghost use Rattle.vx_stack.specs.Stack.{going, giving, frame_tree, side_tree, Stepped};
+ghost use Rattle.vx_stack.specs.Stack.{going, giving, giving_all, frame_tree, side_tree, Stepped};
+ghost use Rattle.vx_stack.specs.Values.{values as values_of};
 ghost use Rattle.vx_states.specs.SymStates.{state as state_of};
 ghost use Rattle.vx_rules.specs.Trees as tree;
 ghost use Rattle.vx_terms.specs.Build.{true_term};
@@ -15,11 +16,11 @@ ghost use Rattle.vx_terms.specs.Terms.{same};
 ghost use Rattle.vx_terms.specs.Views.{term};
 ghost use Rattle.vx_resolved.specs.Settled.{settled};
 
-use crate::{Frame, Hole, Next, Query, Side};
+use crate::{Frame, Hole, Next, Query, Row, Side, Values};
 use std::alloc::{AllocError, Global};
 use std::rc::Rc;
 use vx_ast::Place;
-use vx_resolved::{Expr, Settled};
+use vx_resolved::{Expr, Exprs, Settled};
 use vx_rules::Code;
 use vx_states::SymState;
 use vx_terms::{Term, make};
@@ -121,6 +122,34 @@ impl Conts {
     {
         let hole = Rc::new(alloc, hole)?;
         self.go(program, Frame::Eval(e.clone()?, hole), state)
+    }
+
+    /// On with the values of expressions, in order.
+    pub fn evals(
+        &mut self,
+        alloc: Global,
+        program: &Settled,
+        es: &Rc<Exprs>,
+        row: Row,
+        state: SymState,
+    ) -> Result<Move, AllocError>
+        ensures { IfOk result (λ m. Stepped (settled program.now) (tree.Step (rule.evals (settled program.now) (rules (settled program.now)) (exprs es.now.value) (state_of state) (giving_all (settled program.now) row))) self.old.sides.items m self.new.sides.items) }
+    {
+        let row = Rc::new(alloc, row)?;
+        self.next(alloc, program, Next::Evals(es.clone()?, row), state)
+    }
+
+    /// On with values.
+    pub fn give_all(
+        &mut self,
+        program: &Settled,
+        values: Rc<Values>,
+        row: &Rc<Row>,
+        state: SymState,
+    ) -> Result<Move, AllocError>
+        ensures { IfOk result (λ m. Stepped (settled program.now) (tree.Step (giving_all (settled program.now) row.now.value (values_of values.value) (state_of state))) self.old.sides.items m self.new.sides.items) }
+    {
+        self.go(program, Frame::GiveAll(values, row.clone()?), state)
     }
 
     /// On with a value.

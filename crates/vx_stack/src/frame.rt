@@ -5,8 +5,8 @@ ghost use Rattle.vx_ast.specs.Syntax.{Program};
 ghost use Rattle.vx_stack.specs.Stack.{frame_tree, side_tree};
 
 use crate::waiting::{
-    Codes, Consumed, Consumption, Executed, Instance, Location, Operand, Produced,
-    Production, Return, Search, Values,
+    Codes, Consumed, Consumption, Executed, Instance, Location, Operand, Produced, Production,
+    Return, Search, Values,
 };
 use std::alloc::{AllocError, Global};
 use std::rc::Rc;

@@ -14,6 +14,6 @@ pub use frame::{Frame, Hole, Next, Row, Side, Taken};
 pub use question::Query;
 pub use search::field_sort;
 pub use waiting::{
-    Called, Codes, Consumed, Consumption, Executed, Instance, Location, Loop, Operand,
-    Produced, Production, Return, Search, Values,
+    Called, Codes, Consumed, Consumption, Executed, Instance, Location, Loop, Operand, Produced,
+    Production, Return, Search, Values,
 };

@@ -1,3 +1,4 @@
 pub mod Stores
 pub mod Found
+mod Pairs
 pub mod Done

@@ -8,10 +8,10 @@ ghost use Rattle.vx_rules.specs.Rules as rules;
 ghost use Rattle.vx_rules.specs.States as states;
 ghost use Rattle.vx_rules.specs.States.{State};
 ghost use Rattle.vx_states.specs.Entering.{back_to};
-ghost use Rattle.vx_states.specs.SymStates.{state};
+ghost use Rattle.vx_states.specs.SymStates.{binding, state};
 
-use crate::state::{Binding, copy_store};
 use crate::SymState;
+use crate::state::{Binding, copy_store};
 use std::alloc::{AllocError, Global};
 use std::rc::Rc;
 use vx_ast::Place;
@@ -33,7 +33,7 @@ fn bound(
     parameters: &[Declaration],
     arguments: &[Rc<Term>],
 ) -> Result<Vec<Binding>, AllocError>
-    ensures { IfOk result (λ v. map Rattle.vx_states.specs.SymStates.binding v.items ≡ states.bind (map declaration parameters.now) (terms_of arguments.now)) }
+    ensures { IfOk result (λ v. map binding v.items ≡ states.bind (map declaration parameters.now) (terms_of arguments.now)) }
 {
     let mut store = Vec::new(alloc);
     for (parameter, argument) in parameters.iter().zip(arguments) {
@@ -43,6 +43,17 @@ fn bound(
         })?;
     }
     Ok(store)
+}
+
+/// The values of variables, in order.
+fn values_in(alloc: Global, store: &[Binding]) -> Result<Vec<Rc<Term>>, AllocError>
+    ensures { IfOk result (λ v. terms_of v.items ≡ states.terms_in (map binding store.now)) }
+{
+    let mut values = Vec::new(alloc);
+    for variable in store {
+        values.push(variable.value.clone()?)?;
+    }
+    Ok(values)
 }
 
 impl SymState {
@@ -99,7 +110,11 @@ impl SymState {
     }
 
     /// Variables get values, in order, as long as there are both.
-    pub fn assign_all(&mut self, names: &[Rc<String>], values: &[Rc<Term>]) -> Result<(), AllocError>
+    pub fn assign_all(
+        &mut self,
+        names: &[Rc<String>],
+        values: &[Rc<Term>],
+    ) -> Result<(), AllocError>
         ensures { IfOk result (λ _. state self.new ≡ states.with_store (states.assign_all (names_of names.now) (terms_of values.now) (state self.old).store) (state self.old)) }
     {
         for (name, value) in names.iter().zip(values) {
@@ -112,10 +127,9 @@ impl SymState {
     pub fn values_from(&self, alloc: Global, first: usize) -> Result<Vec<Rc<Term>>, AllocError>
         ensures { IfOk result (λ v. terms_of v.items ≡ drop first (states.terms_in (state self.now).store)) }
     {
-        let mut values = Vec::new(alloc);
-        for binding in self.store.iter().skip(first) {
-            values.push(binding.value.clone()?)?;
+        if first < self.store.len() {
+            return values_in(alloc, &self.store[first..]);
         }
-        Ok(values)
+        Ok(Vec::new(alloc))
     }
 }

@@ -131,6 +131,20 @@ impl SymState {
         }
     }
 
+    /// The snapshot of an instance that is produced: new, or a name for the one that is given.
+    pub fn produced_snapshot(
+        &mut self,
+        alloc: Global,
+        snapshot: &Option<Rc<Term>>,
+    ) -> Result<Rc<Term>, AllocError>
+        ensures { IfOk result (λ t. (term t.value ≡ rules.produced_snapshot (optional_term snapshot.now) (state self.old)) × (state self.new ≡ rules.after_snapshot (optional_term snapshot.now) (state self.old))) }
+    {
+        match snapshot {
+            Some(t) => self.name(alloc, t.clone()?),
+            None => self.new_symbol(alloc, Sort::Snap),
+        }
+    }
+
     /// The fact that a wrapped value unwraps to itself, as it is written.
     pub fn add_wrap(&mut self, alloc: Global, of: &Sort, value: &Rc<Term>) -> Result<(), AllocError>
         ensures { IfOk result (λ _. state self.new ≡ states.with_fact (written.Binary sort.Equal (built.written_unwrap (sort_view of.now) (built.wrap (sort_view of.now) (term value.now.value))) (term value.now.value)) (state self.old)) }
