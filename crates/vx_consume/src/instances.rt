@@ -20,9 +20,7 @@ use vx_ast::Place;
 use vx_heap::{SymHeap, not_negative};
 use vx_resolved::{Expr, Settled};
 use vx_rules::Code;
-use vx_stack::{
-    Consumed, Consumption, Conts, Frame, Hole, Instance, Move, Next, Values,
-};
+use vx_stack::{Consumed, Consumption, Conts, Frame, Hole, Instance, Move, Next, Values};
 use vx_states::SymState;
 use vx_terms::{Term, arithmetic};
 

@@ -1,14 +1,14 @@
 -- What stands in another member is consumed as by the rules over themselves, and the way back from a callee, by its parts.
 use Rattle.std.proofs.Common.{◌≡◌, ℕ, Bool, true, List, Option, Some, None, refl, sym, ap, ◌∙◌, drop}
 use Rattle.vx_ast.specs.declared.Place.{Place}
-use Rattle.vx_ast.specs.Syntax.{Name, Program, Assertion, Predicate, Method, joined, method_named, predicate_named}
+use Rattle.vx_ast.specs.Syntax.{Name, Program, Assertion, Predicate, Method, joined, predicate_named}
 use Rattle.vx_depth.specs.Depths.{ReadsItself}
 use Rattle.vx_terms.specs.Terms.{Term}
 use Rattle.vx_terms.specs.Build.{whole_amount}
 use Rattle.vx_rules.specs.States.{Heap, State, Store, assign_all, bind, declare_all, terms_in, with_store}
 use Rattle.vx_rules.specs.Trees.{CallCode, FoldCode, Tree, Step}
 use Rattle.vx_rules.specs.Rules.{Context, Giving, Going, back, consume, entered, never}
-use Rattle.vx_rules.specs.Members.{blank, folded, rules}
+use Rattle.vx_rules.specs.Members.{after_names, blank, called, folded, names_of, rules}
 use Rattle.vx_states.specs.declared.entering.Caller.{Caller}
 use Rattle.vx_states.specs.Entering.{back_to}
 use Rattle.vx_stack.specs.Stack.{returned, with_instance}
@@ -47,14 +47,39 @@ promises p m n xs ys j k c s h i old on w a b d e f g =
     ∙ ap (λ (y : ℕ). promising p n i (λ inside z. Step (on (returned xs (drop y (terms_in inside.store)) c old z))) w) d
     ∙ ap (λ (y : Going). (rules p).produce (joined n.place n.ensures) whole_amount None inside y) (returns_to xs ys (drop k (terms_in inside.store)) c s old on b e g)
 
--- a fold by what its name stands for
-pub folded_none : (p : Program) (at : Place) (i : Name) (ts : List Term) (a : Term) (s : State) (on : Going) → predicate_named p i ≡ None → folded p (rules p) at i ts a s on ≡ never at FoldCode s
-folded_none p at i ts a s on e = rw e refl
+-- a fold takes a body
+abbrev pub folding : Program → Place → Name → List Term → Term → State → Going → Predicate → Assertion → Tree
+folding p at i ts a s on d body =
+    Step ((rules p).consume body (record { pure = FoldCode; permission = FoldCode; builds = true }) a s.heap (entered (bind d.parameters ts) at s) (λ t w. Step (on (with_instance i ts a t (back s w)))))
 
-pub folded_bare : (p : Program) (at : Place) (i : Name) (ts : List Term) (a : Term) (s : State) (on : Going) (d : Predicate) → predicate_named p i ≡ Some d → d.body ≡ None → folded p (rules p) at i ts a s on ≡ never at FoldCode s
-folded_bare p at i ts a s on d e f = rw (e, f) refl
+abbrev fold_by : Program → Place → Name → List Term → Term → State → Going → Predicate → Option Assertion → Tree
+fold_by p at i ts a s on d b =
+    elim b as (λ x. Tree) [
+      | None ↦ never at FoldCode s
+      | Some body ↦ folding p at i ts a s on d body
+    ]
+
+abbrev fold_of : Program → Place → Name → List Term → Term → State → Going → Option Predicate → Tree
+fold_of p at i ts a s on o =
+    elim o as (λ x. Tree) [
+      | None ↦ never at FoldCode s
+      | Some d ↦ fold_by p at i ts a s on d d.body
+    ]
 
 pub folded_by : (p : Program) (at : Place) (i : Name) (ts : List Term) (a : Term) (s : State) (on : Going) (d : Predicate) (body : Assertion) → predicate_named p i ≡ Some d → d.body ≡ Some body →
-    folded p (rules p) at i ts a s on
-    ≡ Step ((rules p).consume body (record { pure = FoldCode; permission = FoldCode; builds = true }) a s.heap (entered (bind d.parameters ts) at s) (λ t w. Step (on (with_instance i ts a t (back s w)))))
-folded_by p at i ts a s on d body e f = rw (e, f) refl
+    folded p (rules p) at i ts a s on ≡ folding p at i ts a s on d body
+folded_by p at i ts a s on d body e f = ap (fold_of p at i ts a s on) e ∙ ap (fold_by p at i ts a s on d) f
+
+pub folds : (p : Program) (at place : Place) (i j : Name) (ts us : List Term) (a b : Term) (s : State) (on : Going) (d e : Predicate) (body : Assertion) → at ≡ place → i ≡ j → ts ≡ us → a ≡ b → d ≡ e →
+    folding p at i ts a s on d body ≡ folding p place j us b s on e body
+folds p at place i j ts us a b s on d e body f g h k l =
+    ap (λ y. folding p y i ts a s on d body) f ∙ ap (λ y. folding p place y ts a s on d body) g ∙ ap (λ y. folding p place j y a s on d body) h
+    ∙ ap (λ y. folding p place j us y s on d body) k ∙ ap (λ y. folding p place j us b s on y body) l
+
+-- a call by what its name stands for
+abbrev pub call_of : Program → Place → List Term → List Name → State → Going → Option Method → Tree
+call_of p at ts xs s on o =
+    elim o as (λ x. Tree) [
+      | None ↦ never at CallCode s
+      | Some m ↦ called p (rules p) at m (names_of ts s) xs (after_names ts s) on
+    ]

@@ -7,8 +7,8 @@ ghost use Rattle.vx_resolved.specs.Resolved.{method as method_of, names_of};
 ghost use Rattle.vx_resolved.specs.Settled.{settled};
 ghost use Rattle.vx_rules.specs.Members as rule;
 ghost use Rattle.vx_rules.specs.Members.{rules};
-ghost use Rattle.vx_rules.specs.Rules.{back, consume};
-ghost use Rattle.vx_rules.specs.States.{State, declare_all, terms_in};
+ghost use Rattle.vx_rules.specs.Rules.{back, consume, entered};
+ghost use Rattle.vx_rules.specs.States.{State, bind, declare_all, terms_in};
 ghost use Rattle.vx_rules.specs.Trees as tree;
 ghost use Rattle.vx_rules.specs.Trees.{CallCode};
 ghost use Rattle.vx_stack.specs.Stack.{executed as executed_of, giving_all, going, promised, returned, Stepped};
@@ -62,14 +62,17 @@ fn called_from(
 fn taking_precondition(
     alloc: Global,
     program: &Settled,
-    method: &Method,
+    method: &Rc<Method>,
     called: Rc<Called>,
     next: &Rc<Next>,
 ) -> Result<Next, AllocError>
-    ensures { IfOk result (λ n. going (settled program.now) n ≡ (λ s. consume (settled program.now) (rules (settled program.now)) (joined_of (method_of method.now).place (method_of method.now).requires) (rule.codes CallCode CallCode) whole_amount s.heap s (executed_of (settled program.now) (Executed.Called called) (going (settled program.now) next.now.value)))) }
+    ensures { IfOk result (λ n. going (settled program.now) n ≡ (λ s. consume (settled program.now) (rules (settled program.now)) (joined_of (method_of method.now.value).place (method_of method.now.value).requires) (rule.codes CallCode CallCode) whole_amount s.heap s (executed_of (settled program.now) (Executed.Called called) (going (settled program.now) next.now.value)))) }
 {
     let _program = program;
-    let hole = Rc::new(alloc, Hole::Executed(Executed::Called(called), next.clone()?))?;
+    let hole = Rc::new(
+        alloc,
+        Hole::Executed(Executed::Called(called), next.clone()?),
+    )?;
     let all = joined(alloc, method.place, &method.preconditions)?;
     let codes = Codes {
         pure: Code::Call,
@@ -78,6 +81,21 @@ fn taking_precondition(
     };
     let whole = vx_heap::whole(alloc)?;
     Ok(Next::Consume(all, codes, whole, hole))
+}
+
+/// In a callee, whose parameters have these values, brought in by the call's place.
+fn in_callee(
+    alloc: Global,
+    method: &Method,
+    arguments: &[Rc<Term>],
+    place: Place,
+    state: SymState,
+) -> Result<SymState, AllocError>
+    ensures { IfOk result (λ s. state_of s ≡ entered (bind (method_of method.now).parameters (terms_of arguments.now)) place (state_of state)) }
+{
+    let mut state = state;
+    state.enter(alloc, &method.parameters, arguments, place)?;
+    Ok(state)
 }
 
 /// A call whose arguments are named: the precondition is taken, over the parameters with these names.
@@ -98,8 +116,7 @@ fn step_named(
     vx_depth::rules_read_parts_by_themselves();
     let called = called_from(alloc, method, names.len(), targets, &state)?;
     let take = taking_precondition(alloc, program, method, called, next)?;
-    let mut state = state;
-    state.enter(alloc, &method.parameters, names, place)?;
+    let state = in_callee(alloc, method, names, place, state)?;
     conts.next(alloc, program, take, state)
 }
 

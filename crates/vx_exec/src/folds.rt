@@ -42,7 +42,15 @@ fn step_above_none(
     let allowed = positive(alloc, amount)?;
     let row = Rc::new(alloc, row)?;
     let rest = Rc::new(alloc, Next::Evals(arguments.clone()?, row))?;
-    conts.ask(alloc, program, allowed, place, Code::Amount, state, Frame::Go(rest))
+    conts.ask(
+        alloc,
+        program,
+        allowed,
+        place,
+        Code::Amount,
+        state,
+        Frame::Go(rest),
+    )
 }
 
 /// The amount of a `fold`: it is above none, and then the arguments are evaluated.
@@ -104,6 +112,21 @@ fn taking_body(
     Ok(Next::Consume(body.clone()?, codes, amount, hole))
 }
 
+/// In a predicate's body, whose parameters are an instance's arguments.
+fn in_body(
+    alloc: Global,
+    d: &Predicate,
+    instance: &Instance,
+    state: SymState,
+) -> Result<SymState, AllocError>
+    ensures { IfOk result (λ s. state_of s ≡ entered (bind (predicate_of d.now).parameters (values instance.now.arguments.value)) instance.now.place (state_of state)) }
+{
+    let arguments = instance.arguments.to_vec(alloc)?;
+    let mut state = state;
+    state.enter(alloc, &d.parameters, &arguments, instance.place)?;
+    Ok(state)
+}
+
 /// A predicate's body is taken, in its part of the program.
 fn step_taking(
     alloc: Global,
@@ -122,9 +145,7 @@ fn step_taking(
     let caller = state.caller(alloc)?;
     let caller = Rc::new(alloc, caller)?;
     let take = taking_body(alloc, program, body, instance, caller, next)?;
-    let arguments = instance.arguments.to_vec(alloc)?;
-    let mut state = state;
-    state.enter(alloc, &d.parameters, &arguments, instance.place)?;
+    let state = in_body(alloc, d, instance, state)?;
     conts.next(alloc, program, take, state)
 }
 

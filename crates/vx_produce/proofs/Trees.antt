@@ -4,7 +4,7 @@ use Rattle.vx_ast.specs.declared.Place.{Place}
 use Rattle.vx_ast.specs.Syntax.{Name, Program, Assertion, Predicate, predicate_named}
 use Rattle.vx_terms.specs.Terms.{Term}
 use Rattle.vx_rules.specs.States.{State, bind, is_known}
-use Rattle.vx_rules.specs.Trees.{UnfoldCode, Step}
+use Rattle.vx_rules.specs.Trees.{Tree, UnfoldCode, Step}
 use Rattle.vx_rules.specs.Rules.{Going, back, entered, fork, never}
 use Rattle.vx_rules.specs.Members.{rules}
 use Rattle.vx_stack.specs.Stack.{exchanged, with_held, with_location}
@@ -27,13 +27,20 @@ holds p f g ts us a b snapshot inner on e h i =
     ∙ ap {B = Going} (λ (y : Term) s. Step (on (with_held p g us y snapshot inner s))) i
 
 -- an exchange by what its name stands for
-pub exchanged_none : (p : Program) (at : Place) (i : Name) (ts : List Term) (a t : Term) (inside : Bool) (s : State) (on : Going) → predicate_named p i ≡ None → exchanged p at i ts a t inside s on ≡ never at UnfoldCode s
-exchanged_none p at i ts a t inside s on e = rw e refl
+abbrev exchange_by : Program → Place → List Term → (a t : Term) → Bool → State → Going → Predicate → Option Assertion → Tree
+exchange_by p at ts a t inside s on d b =
+    elim b as (λ x. Tree) [
+      | None ↦ never at UnfoldCode s
+      | Some body ↦ (rules p).produce body a (Some t) (record (entered (bind d.parameters ts) at s) { inner = inside }) (λ w. on (back s w))
+    ]
 
-pub exchanged_bare : (p : Program) (at : Place) (i : Name) (ts : List Term) (a t : Term) (inside : Bool) (s : State) (on : Going) (d : Predicate) → predicate_named p i ≡ Some d → d.body ≡ None →
-    exchanged p at i ts a t inside s on ≡ never at UnfoldCode s
-exchanged_bare p at i ts a t inside s on d e f = rw (e, f) refl
+abbrev exchange_of : Program → Place → List Term → (a t : Term) → Bool → State → Going → Option Predicate → Tree
+exchange_of p at ts a t inside s on o =
+    elim o as (λ x. Tree) [
+      | None ↦ never at UnfoldCode s
+      | Some d ↦ exchange_by p at ts a t inside s on d d.body
+    ]
 
 pub exchanged_by : (p : Program) (at : Place) (i : Name) (ts : List Term) (a t : Term) (inside : Bool) (s : State) (on : Going) (d : Predicate) (body : Assertion) → predicate_named p i ≡ Some d → d.body ≡ Some body →
     exchanged p at i ts a t inside s on ≡ (rules p).produce body a (Some t) (record (entered (bind d.parameters ts) at s) { inner = inside }) (λ w. on (back s w))
-exchanged_by p at i ts a t inside s on d body e f = rw (e, f) refl
+exchanged_by p at i ts a t inside s on d body e f = ap (exchange_of p at ts a t inside s on) e ∙ ap (exchange_by p at ts a t inside s on d) f

@@ -33,9 +33,10 @@ returns c =
     let other : Giving = λ t w. promised p it n w in
     let count : it.count ≡ length ts = is.count ∙ c.len.ensures ∙ sym (length-map c.args.names.now (λ t. term t.value)) in
     let take : going p c.in_ok-take.take ≡ (λ w. consume p (rules p) (joined m.place m.requires) (codes CallCode CallCode) whole_amount w.heap w other) =
-    c.in_ok-take.ensures
-    ∙ ap {B = Going} (λ (y : method'.Method) w. consume p (rules p) (joined (method y).place (method y).requires) (codes CallCode CallCode) whole_amount w.heap w other) c.deref.ensures in
+    c.in_ok-take.ensures in
+    let entered_z : state c.in_ok-state.state ≡ z =
+    c.in_ok-state.ensures ∙ ap (λ (y : method'.Method). entered (bind (method y).parameters ts) c.args.place s) c.deref.ensures in
     stepped_as p _ _ _ _ _
-    (ap Step (part_consumed p (joined m.place m.requires) (codes CallCode CallCode) whole_amount z (state c.enter.new.self) (going p c.in_ok-take.take) _ other
-    (c.rules_read_parts_by_themselves.ensures p z.level c.keeps_apart.ensures) take c.in_ok-enter.ensures
+    (ap Step (part_consumed p (joined m.place m.requires) (codes CallCode CallCode) whole_amount z (state c.in_ok-state.state) (going p c.in_ok-take.take) _ other
+    (c.rules_read_parts_by_themselves.ensures p z.level c.keeps_apart.ensures) take entered_z
     (λ t w. sym (promises p (method it.method.value) m (names_of it.targets.value.items) xs it.count (length ts) it.caller.value s (heap it.heap.value) s.heap (heap it.old_heap.value) n w is.method is.targets count is.caller is.heap is.before)))) c.next.ensures

@@ -29,6 +29,8 @@ returns c =
     let folding : Context = record { pure = FoldCode; permission = FoldCode; builds = true } in
     let other : Giving = λ t w. Step (n (with_instance i ts a t (back_to c.in_ok-caller-2.caller.value w))) in
     let same = λ (t : Term) (w : State). ap (λ y. Step (n (with_instance i ts a t y))) (sym (c.in_ok-caller.ensures w) ∙ ap (λ y. back_to y w) (sym c.in_ok-caller-2.ensures.ok)) in
+    let entered_z : state c.in_ok-state.state ≡ z =
+    c.in_ok-state.ensures ∙ ap (λ (y : Instance). entered (bind (predicate c.args.d.now).parameters (values y.arguments.value)) y.place s) c.deref.ensures in
     stepped_as p _ _ _ _ _
-    (ap Step (part_consumed p (assertion c.args.body.now.value) folding a z (state c.enter.new.self) (going p c.in_ok-take.take) _ other
-    (c.rules_read_parts_by_themselves.ensures p z.level c.keeps_apart.ensures) c.in_ok-take.ensures c.in_ok-enter.ensures same)) c.next.ensures
+    (ap Step (part_consumed p (assertion c.args.body.now.value) folding a z (state c.in_ok-state.state) (going p c.in_ok-take.take) _ other
+    (c.rules_read_parts_by_themselves.ensures p z.level c.keeps_apart.ensures) c.in_ok-take.ensures entered_z same)) c.next.ensures

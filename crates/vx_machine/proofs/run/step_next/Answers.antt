@@ -6,7 +6,10 @@ use Rattle.vx_rules.specs.Members.{rules, sides}
 use Rattle.vx_rules.specs.Codes.{code}
 use Rattle.vx_rules.specs.States.{State}
 use Rattle.vx_stack.specs.declared.waiting.Location.{Location}
-use Rattle.vx_stack.specs.Stack.{giving, going, take_location}
+use Rattle.vx_states.specs.Entering.{back_to}
+use Rattle.vx_stack.specs.declared.waiting.Instance.{Instance}
+use Rattle.vx_stack.specs.Stack.{giving, going, take_instance, take_location}
+use Rattle.vx_stack.specs.Values.{values}
 use Rattle.vx_terms.specs.Views.{term}
 use Rattle.vx_states.specs.SymStates.{state}
 use Rattle.vx_stack.proofs.Steps.{stepped_as}
@@ -67,3 +70,38 @@ returns-in-WriteTo c =
 
 pub returns-in-Fresh : goal.returns-in-Fresh
 returns-in-Fresh c = stepped_as (settled c.args.program.now) _ _ _ _ _ (rw (c.in-Fresh.is, c.deref-in-Fresh.ensures) refl) c.step_fresh.ensures
+
+pub returns-in-Evals : goal.returns-in-Evals
+returns-in-Evals c = stepped_as (settled c.args.program.now) _ _ _ _ _ (rw (c.in-Evals.is, c.deref-in-Evals.ensures) refl) c.step_all.ensures
+
+pub returns-in-PutInstance : goal.returns-in-PutInstance
+returns-in-PutInstance c =
+    stepped_as (settled c.args.program.now) _ _ _ _ _ (rw (c.in-PutInstance.is, c.deref-in-PutInstance.ensures, c.deref-in-PutInstance-2.ensures) refl) c.step_put_instance.ensures
+
+pub returns-in-TakeInstance : goal.returns-in-TakeInstance
+returns-in-TakeInstance c =
+    let p = settled c.args.program.now in
+    let s : State = state c.args.state in
+    let it = c.in-TakeInstance in
+    stepped_as p _ _ _ _ _
+    (ap (λ n. going p n s) it.is
+    ∙ ap (λ (l : Instance). take_instance p l.place (string_bytes l.predicate.value) (values l.arguments.value) (term l.amount.value) (code it.code) (heap it.heap.value) s (giving p it.hole.value)) (sym c.deref-in-TakeInstance.ensures)) c.take_instance.ensures
+
+pub returns-in-Body : goal.returns-in-Body
+returns-in-Body c =
+    let p = settled c.args.program.now in
+    let s : State = state c.args.state in
+    stepped_as p _ _ _ _ _ (ap (λ n. going p n s) c.in-Body.is) c.step_body.ensures
+
+pub returns-in_ok-back-in-Back : goal.returns-in_ok-back-in-Back
+returns-in_ok-back-in-Back c =
+    let p = settled c.args.program.now in
+    let s : State = state c.args.state in
+    let it = c.in-Back in
+    stepped_as p _ _ _ _ _
+    (ap (λ n. going p n s) it.is
+    ∙ sym (ap (λ n. going p n (state c.back.new.self)) c.deref-in-Back-2.ensures
+    ∙ ap (going p it.next.value) (c.in_ok-back-in-Back.ensures ∙ ap (λ y. back_to y s) c.deref-in-Back.ensures))) c.step_next.ensures
+
+pub returns-in-Return : goal.returns-in-Return
+returns-in-Return c = stepped_as (settled c.args.program.now) _ _ _ _ _ (rw (c.in-Return.is, c.deref-in-Return.ensures) refl) c.step_return.ensures
