@@ -3,7 +3,7 @@
 ghost use Rattle.std.specs.Prelude.{◌≡◌, IfOk, drop};
 ghost use Rattle.vx_ast.specs.Syntax.{joined as joined_of};
 ghost use Rattle.vx_heap.specs.Views.{heap as heap_of, terms_of};
-ghost use Rattle.vx_resolved.specs.Resolved.{method as method_of, names_of};
+ghost use Rattle.vx_resolved.specs.Resolved.{assertion, method as method_of, names_of};
 ghost use Rattle.vx_resolved.specs.Settled.{settled};
 ghost use Rattle.vx_rules.specs.Members as rule;
 ghost use Rattle.vx_rules.specs.Members.{rules};
@@ -21,7 +21,7 @@ ghost use Rattle.vx_terms.specs.Views.{term};
 use std::alloc::{AllocError, Global};
 use std::rc::Rc;
 use vx_ast::Place;
-use vx_resolved::{Method, Settled};
+use vx_resolved::{Assertion, Method, Settled};
 use vx_rules::Code;
 use vx_stack::{
     Called, Codes, Conts, Executed, Frame, Hole, Move, Next, Production, Return, Row, Values,
@@ -58,6 +58,20 @@ fn called_from(
     Ok(Rc::new(alloc, called)?)
 }
 
+/// A method's preconditions, joined.
+fn precondition(alloc: Global, m: &Method) -> Result<Rc<Assertion>, AllocError>
+    ensures { IfOk result (λ a. assertion a.value ≡ joined_of (method_of m.now).place (method_of m.now).requires) }
+{
+    joined(alloc, m.place, &m.preconditions)
+}
+
+/// A method's postconditions, joined.
+fn postcondition(alloc: Global, m: &Method) -> Result<Rc<Assertion>, AllocError>
+    ensures { IfOk result (λ a. assertion a.value ≡ joined_of (method_of m.now).place (method_of m.now).ensures) }
+{
+    joined(alloc, m.place, &m.postconditions)
+}
+
 /// Consuming a callee's precondition.
 fn taking_precondition(
     alloc: Global,
@@ -73,7 +87,7 @@ fn taking_precondition(
         alloc,
         Hole::Executed(Executed::Called(called), next.clone()?),
     )?;
-    let all = joined(alloc, method.place, &method.preconditions)?;
+    let all = precondition(alloc, method)?;
     let codes = Codes {
         pure: Code::Call,
         permission: Code::Call,
@@ -192,8 +206,7 @@ pub fn step_promised(
     vx_depth::rules_read_parts_by_themselves();
     let state = at_returns(alloc, called, state)?;
     let way = way_back(alloc, program, called, &state, next)?;
-    let method = &called.method;
-    let all = joined(alloc, method.place, &method.postconditions)?;
+    let all = postcondition(alloc, &called.method)?;
     let production = Production::as_written(alloc)?;
     vx_produce::step(alloc, program, &all, &production, &way, state, conts)
 }

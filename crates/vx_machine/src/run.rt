@@ -29,7 +29,27 @@ fn ends_impossible(next: &Next) -> bool
     match next {
         Next::Impossible => true,
         Next::Back(_, next) => ends_impossible(next),
-        _ => false,
+        Next::Finish => false,
+        Next::Exec(_, _) => false,
+        Next::Block(_, _) => false,
+        Next::Inner(_, _, _) => false,
+        Next::Produce(_, _, _) => false,
+        Next::Consume(_, _, _, _) => false,
+        Next::ConsumeFrom(_, _, _) => false,
+        Next::Unit(_, _) => false,
+        Next::Sides(_) => false,
+        Next::Eval(_, _) => false,
+        Next::Evals(_, _) => false,
+        Next::Put(_, _, _, _) => false,
+        Next::Take(_, _, _, _) => false,
+        Next::PutInstance(_, _, _, _) => false,
+        Next::TakeInstance(_, _, _, _) => false,
+        Next::ReadFrom(_, _, _) => false,
+        Next::TakeFrom(_, _, _, _, _) => false,
+        Next::WriteTo(_, _, _, _) => false,
+        Next::Fresh(_, _) => false,
+        Next::Body(_, _, _, _) => false,
+        Next::Return(_, _) => false,
     }
 }
 

@@ -1,6 +1,7 @@
 use Rattle.std.proofs.Common.{◌≡◌, None, refl, sym, ap, ◌∙◌, drop}
 use Rattle.vx_ast.specs.Syntax.{Method, joined}
 use Rattle.vx_heap.specs.Views.{heap}
+use Rattle.vx_resolved.specs.declared.Method as method'
 use Rattle.vx_resolved.specs.Resolved.{assertion, method, names_of}
 use Rattle.vx_resolved.specs.Settled.{settled}
 use Rattle.vx_terms.specs.Build.{whole_amount}
@@ -24,6 +25,8 @@ returns c =
     let on = λ (inside w : State). Step (n (returned (names_of it.targets.value.items) (drop it.count (terms_in inside.store)) it.caller.value (heap it.old_heap.value) w)) in
     let way : Going = going p c.in_ok-way.way.value in
     let same = λ (w : State). ap (λ (y : State). on y w) (sym c.in_ok-state.ensures) ∙ ap (λ (y : Going). y w) (sym c.in_ok-way.ensures) in
+    let all : assertion c.deref-2.result.now ≡ joined m.place m.ensures =
+    ap assertion c.deref-2.ensures ∙ c.in_ok-all.ensures ∙ ap (λ (y : method'.Method). joined (method y).place (method y).ensures) c.deref.ensures in
     stepped_as p _ _ _ _ _
-    (part_produced p (joined m.place m.ensures) (assertion c.in_ok-all.all.value) whole_amount None z (state c.in_ok-state.state) c.in_ok-production.production.value (on z) way
-    (c.rules_read_parts_by_themselves.ensures p z.level c.keeps_apart.ensures) c.in_ok-all.ensures c.in_ok-production.ensures.scale (ap optional_term c.in_ok-production.ensures.snapshot) c.in_ok-state.ensures same) c.step.ensures
+    (part_produced p (joined m.place m.ensures) (assertion c.deref-2.result.now) whole_amount None z (state c.in_ok-state.state) c.in_ok-production.production.value (on z) way
+    (c.rules_read_parts_by_themselves.ensures p z.level c.keeps_apart.ensures) all c.in_ok-production.ensures.scale (ap optional_term c.in_ok-production.ensures.snapshot) c.in_ok-state.ensures same) c.step.ensures
