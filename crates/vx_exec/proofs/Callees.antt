@@ -1,14 +1,14 @@
 -- What stands in another member is consumed as by the rules over themselves, and the way back from a callee, by its parts.
 use Rattle.std.proofs.Common.{◌≡◌, ℕ, Bool, true, List, Option, Some, None, refl, sym, ap, ◌∙◌, drop}
 use Rattle.vx_ast.specs.declared.Place.{Place}
-use Rattle.vx_ast.specs.Syntax.{Name, Program, Assertion, Predicate, Method, joined, predicate_named}
+use Rattle.vx_ast.specs.Syntax.{Name, Program, Assertion, Block, Predicate, Method, joined, predicate_named}
 use Rattle.vx_depth.specs.Depths.{ReadsItself}
 use Rattle.vx_terms.specs.Terms.{Term}
 use Rattle.vx_terms.specs.Build.{whole_amount}
-use Rattle.vx_rules.specs.States.{Heap, State, Store, assign_all, bind, declare_all, terms_in, with_store}
+use Rattle.vx_rules.specs.States.{Heap, State, Store, assign_all, bind, declare_all, leave, terms_in, with_store}
 use Rattle.vx_rules.specs.Trees.{CallCode, FoldCode, Tree, Step}
-use Rattle.vx_rules.specs.Rules.{Context, Giving, Going, back, consume, entered, never}
-use Rattle.vx_rules.specs.Members.{after_names, blank, called, folded, names_of, rules}
+use Rattle.vx_rules.specs.Rules.{Context, Giving, Going, back, consume, entered, fork, never}
+use Rattle.vx_rules.specs.Members.{after_names, blank, called, exec_all, folded, names_of, rules}
 use Rattle.vx_states.specs.declared.entering.Caller.{Caller}
 use Rattle.vx_states.specs.Entering.{back_to}
 use Rattle.vx_stack.specs.Stack.{returned, with_instance}
@@ -83,3 +83,13 @@ call_of p at ts xs s on o =
       | None ↦ never at CallCode s
       | Some m ↦ called p (rules p) at m (names_of ts s) xs (after_names ts s) on
     ]
+
+-- both blocks of an if, and what is behind it
+abbrev pub branched : Program → Block → Block → ℕ → Going → Giving
+branched p a b kept on t s =
+    fork t s (λ s1. exec_all p (rules p) a s1 (λ s2. on (leave kept s2))) (λ s1. exec_all p (rules p) b s1 (λ s2. on (leave kept s2)))
+
+pub branches : (p : Program) (a b d e : Block) (j k : ℕ) (n on : Going) → a ≡ d → b ≡ e → j ≡ k → n ≡ on → ◌≡◌ {A = Giving} (branched p a b j n) (branched p d e k on)
+branches p a b d e j k n on f g h i =
+    ap {B = Giving} (λ (y : Block). branched p y b j n) f ∙ ap {B = Giving} (λ (y : Block). branched p d y j n) g
+    ∙ ap {B = Giving} (λ (y : ℕ). branched p d e y n) h ∙ ap {B = Giving} (λ (y : Going). branched p d e k y) i
