@@ -1,2 +1,4 @@
 pub mod Given
 pub mod Wholes
+pub mod Functions
+mod Unfolded

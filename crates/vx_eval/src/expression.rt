@@ -13,7 +13,7 @@ use crate::operators::is_total;
 use std::alloc::{AllocError, Global};
 use std::rc::Rc;
 use vx_resolved::{Expr, Settled};
-use vx_stack::{Conts, Hole, Move, Operand};
+use vx_stack::{Conts, Hole, Move, Operand, Row};
 use vx_states::SymState;
 use vx_terms::{make, snapshots};
 
@@ -105,6 +105,15 @@ pub fn step(
                 Hole::Operand(Operand::Restore(heap), hole),
                 state,
             )
+        }
+        Expr::Apply(at, f, es) => {
+            let row = Row::Apply(*at, f.clone()?, hole);
+            conts.evals(alloc, program, es, row, state)
+        }
+        Expr::Unfolding(at, i, es, share, e) => {
+            let heap = state.heap.clone()?;
+            let operand = Operand::Unfolding(*at, i.clone()?, es.clone()?, e.clone()?, heap);
+            conts.eval(alloc, program, share, Hole::Operand(operand, hole), state)
         }
     }
 }

@@ -1,11 +1,16 @@
 //! A step of what waits for the value of an operand.
 
 ghost use Rattle.std.specs.Prelude.{◌≡◌, IfOk};
-ghost use Rattle.vx_resolved.specs.Resolved.{connective, division, expr};
+ghost use Rattle.vx_ast.specs.Syntax.{Program};
+ghost use Rattle.vx_heap.specs.Views.{heap as heap_of};
+ghost use Rattle.vx_resolved.specs.Resolved.{connective, division, expr, exprs};
 ghost use Rattle.vx_rules.specs.Members.{rules};
 ghost use Rattle.vx_rules.specs.Rules as rule;
-ghost use Rattle.vx_stack.specs.Stack.{operand as operand_of, giving, with_divisor, Stepped};
+ghost use Rattle.vx_rules.specs.States as states;
+ghost use Rattle.vx_rules.specs.Trees.{AmountCode, Step};
+ghost use Rattle.vx_stack.specs.Stack.{operand as operand_of, giving, giving_all, going, with_divisor, Stepped};
 ghost use Rattle.vx_states.specs.SymStates.{state as state_of};
+ghost use Rattle.vx_terms.specs.Build.{less, zero_amount};
 ghost use Rattle.vx_terms.specs.Views.{term};
 ghost use Rattle.vx_resolved.specs.Settled.{settled};
 
@@ -14,10 +19,11 @@ use crate::operators::{connected, operated};
 use std::alloc::{AllocError, Global};
 use std::rc::Rc;
 use vx_ast::Place;
+use vx_heap::{SymHeap, positive};
 use vx_probes::read_field;
-use vx_resolved::{Connective, Division, Expr, Settled};
+use vx_resolved::{Connective, Division, Expr, Exprs, Settled};
 use vx_rules::Code;
-use vx_stack::{Conts, Frame, Hole, Move, Operand};
+use vx_stack::{Conts, Frame, Hole, Move, Next, Operand, Row};
 use vx_states::SymState;
 use vx_terms::{Term, make, numbers};
 
@@ -90,7 +96,48 @@ pub fn step_operand(
             let _inside = state.exchange_heap(heap.clone()?);
             conts.give(program, value, hole, state)
         }
+        Operand::Unfolding(at, i, es, e, heap) => {
+            let inside = restored(alloc, e, heap, hole)?;
+            let row = Row::Unfolding(*at, i.clone()?, value.clone()?, inside);
+            step_share(alloc, program, *at, &value, es, row, state, conts)
+        }
     }
+}
+
+/// The expression of an `unfolding` is evaluated, and the heap behind it is the one of before.
+fn restored(
+    alloc: Global,
+    e: &Rc<Expr>,
+    heap: &Rc<SymHeap>,
+    hole: &Rc<Hole>,
+) -> Result<Rc<Next>, AllocError>
+    ensures { IfOk result (λ next. (p : Program) → ◌≡◌ {A = rule.Going} (going p next.value) (λ s. rule.eval p (rules p) (expr e.now.value) s (λ t s1. Step (giving p hole.now.value t (states.with_heap (heap_of heap.now.value) s1))))) }
+{
+    let restore = Hole::Operand(Operand::Restore(heap.clone()?), hole.clone()?);
+    let behind = Rc::new(alloc, restore)?;
+    let next = Rc::new(alloc, Next::Eval(e.clone()?, behind))?;
+    Ok(next)
+}
+
+/// On with the arguments behind an amount, where that is positive.
+fn step_share(
+    alloc: Global,
+    program: &Settled,
+    at: Place,
+    amount: &Rc<Term>,
+    es: &Rc<Exprs>,
+    row: Row,
+    state: SymState,
+    conts: &mut Conts,
+) -> Result<Move, AllocError>
+    ensures { IfOk result (λ m. Stepped (settled program.now) (rule.ask (less zero_amount (term amount.now.value)) (rule.placed (state_of state) at) AmountCode (state_of state) (λ s. rule.evals (settled program.now) (rules (settled program.now)) (exprs es.now.value) s (giving_all (settled program.now) row))) conts.old.sides.items m conts.new.sides.items) }
+{
+    let condition = positive(alloc, amount)?;
+    let place = state.placed(at);
+    let row = Rc::new(alloc, row)?;
+    let next = Rc::new(alloc, Next::Evals(es.clone()?, row))?;
+    let frame = Frame::Go(next);
+    conts.ask(alloc, program, condition, place, Code::Amount, state, frame)
 }
 
 /// On with a quotient or a remainder, where the divisor isn't 0.

@@ -32,6 +32,8 @@ pub fn is_total(e: &Expr) -> bool
         Expr::Choose(_, c, a, b) => is_total(c) && is_total(a) && is_total(b),
         Expr::Read(_, _, _) => false,
         Expr::Old(_, a) => is_total(a),
+        Expr::Apply(_, _, _) => false,
+        Expr::Unfolding(_, _, _, _, _) => false,
     }
 }
 

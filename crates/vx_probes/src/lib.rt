@@ -5,4 +5,4 @@ mod probes;
 mod starts;
 
 pub use probes::{read_from, take_from, write_to};
-pub use starts::{read_field, take_location, write_field};
+pub use starts::{read_field, take_instance, take_location, unfold, write_field};

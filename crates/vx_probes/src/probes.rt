@@ -1,22 +1,23 @@
 //! A probe of one candidate, with those behind it on the other side.
 
-ghost use Rattle.std.specs.Prelude.{◌≡◌, IfOk};
+ghost use Rattle.std.specs.Prelude.{◌≡◌, false, IfOk};
 ghost use Rattle.vx_resolved.specs.Settled.{settled};
 ghost use Rattle.vx_rules.specs.Codes.{code as code_of};
 ghost use Rattle.vx_rules.specs.Rules as rule;
 ghost use Rattle.vx_ast.specs.Syntax.{Program};
-ghost use Rattle.vx_stack.specs.Stack.{finding, giving, going, side_tree, taking_none, wanted, Stepped};
-ghost use Rattle.vx_heap.specs.Views.{candidate};
+ghost use Rattle.vx_stack.specs.Stack.{finding, frame_tree, giving, going, side_tree, taking_none, wanted, with_taken, Stepped};
+ghost use Rattle.vx_heap.specs.Views.{candidate, chunk as chunk_view};
 ghost use Rattle.vx_rules.specs.Chunks.{reduced};
 ghost use Rattle.vx_rules.specs.States as states;
+ghost use Rattle.vx_rules.specs.States.{State};
 ghost use Rattle.vx_states.specs.SymStates.{state as state_of};
 ghost use Rattle.vx_terms.specs.Views.{sort as sort_of, term};
 
 use std::alloc::{AllocError, Global};
 use std::rc::Rc;
-use vx_heap::{Candidate, zero};
+use vx_heap::{Candidate, Chunk, zero};
 use vx_resolved::Settled;
-use vx_stack::{Conts, Frame, Hole, Move, Next, Search, Side};
+use vx_stack::{Conts, Frame, Hole, Move, Next, Search, Side, Taken};
 use vx_states::SymState;
 use vx_terms::{Sort, Term, numbers};
 
@@ -90,17 +91,17 @@ fn take_none(
     search: &Search,
     amount: &Rc<Term>,
     of: &Sort,
-    hole: &Rc<Hole>,
+    after: &Rc<Taken>,
     state: SymState,
     conts: &mut Conts,
 ) -> Result<Move, AllocError>
-    ensures { IfOk result (λ m. Stepped (settled program.now) (taking_none (term amount.now.value) (sort_of of.now) search.now.place (code_of search.now.code) (state_of state) (giving (settled program.now) hole.now.value)) conts.old.sides.items m conts.new.sides.items) }
+    ensures { IfOk result (λ m. Stepped (settled program.now) (taking_none (term amount.now.value) (sort_of of.now) search.now.place (code_of search.now.code) (state_of state) (λ v s. with_taken (settled program.now) after.now.value v false s)) conts.old.sides.items m conts.new.sides.items) }
 {
     if state.is_quiet() {
         return Ok(Move::End);
     }
     let condition = numbers::eq(alloc, amount, &zero(alloc)?)?;
-    let next = Rc::new(alloc, Next::Fresh(of.copy()?, hole.clone()?))?;
+    let next = Rc::new(alloc, Next::Fresh(of.copy()?, after.clone()?))?;
     conts.ask(
         alloc,
         program,
@@ -112,19 +113,40 @@ fn take_none(
     )
 }
 
+/// Whether what is unfolded from a chunk is inner.
+fn leads_inside(chunk: &Chunk) -> bool
+    ensures { result ≡ rule.leads_inside (chunk_view chunk.now) }
+{
+    chunk.is_root || chunk.is_inner
+}
+
+/// What a side does next whose chunk was taken.
+fn after_taken(alloc: Global, chunk: &Chunk, after: &Taken) -> Result<Frame, AllocError>
+    ensures { IfOk result (λ frame. (p : Program) (s : State) → frame_tree p frame s ≡ with_taken p after.now (chunk_view chunk.now).value (rule.leads_inside (chunk_view chunk.now)) s) }
+{
+    let value = chunk.value.clone()?;
+    match after {
+        Taken::Value(hole) => Ok(Frame::Give(value, hole.clone()?)),
+        Taken::Unfold(instance, next) => {
+            let body = Next::Body(instance.clone()?, value, leads_inside(chunk), next.clone()?);
+            Ok(Frame::Go(Rc::new(alloc, body)?))
+        }
+    }
+}
+
 /// The side of a candidate that an amount is taken from.
 fn taken(
     alloc: Global,
     from: &Candidate,
     amount: &Rc<Term>,
-    hole: &Rc<Hole>,
+    after: &Rc<Taken>,
     state: &SymState,
 ) -> Result<Side, AllocError>
-    ensures { IfOk result (λ side. (p : Program) → side_tree p side ≡ giving p hole.now.value (candidate from.now).chunk.value (states.with_heap (reduced (candidate from.now) (term amount.now.value) (state_of state.now).heap) (state_of state.now))) }
+    ensures { IfOk result (λ side. (p : Program) → side_tree p side ≡ with_taken p after.now.value (candidate from.now).chunk.value (rule.leads_inside (candidate from.now).chunk) (states.with_heap (reduced (candidate from.now) (term amount.now.value) (state_of state.now).heap) (state_of state.now))) }
 {
     let mut state = state.copy(alloc)?;
     state.take(alloc, from, amount)?;
-    let frame = Frame::Give(from.chunk.value.clone()?, hole.clone()?);
+    let frame = after_taken(alloc, &from.chunk, after)?;
     Ok(Side { frame, state })
 }
 
@@ -136,22 +158,22 @@ pub fn take_from(
     number: usize,
     amount: &Rc<Term>,
     of: &Sort,
-    hole: &Rc<Hole>,
+    after: &Rc<Taken>,
     state: SymState,
     conts: &mut Conts,
 ) -> Result<Move, AllocError>
-    ensures { IfOk result (λ m. Stepped (settled program.now) (finding search.now.value number (state_of state) (λ c. giving (settled program.now) hole.now.value c.chunk.value (states.with_heap (reduced c (term amount.now.value) (state_of state).heap) (state_of state))) (taking_none (term amount.now.value) (sort_of of.now) search.now.value.place (code_of search.now.value.code) (state_of state) (giving (settled program.now) hole.now.value))) conts.old.sides.items m conts.new.sides.items) }
+    ensures { IfOk result (λ m. Stepped (settled program.now) (finding search.now.value number (state_of state) (λ c. with_taken (settled program.now) after.now.value c.chunk.value (rule.leads_inside c.chunk) (states.with_heap (reduced c (term amount.now.value) (state_of state).heap) (state_of state))) (taking_none (term amount.now.value) (sort_of of.now) search.now.value.place (code_of search.now.value.code) (state_of state) (λ v s. with_taken (settled program.now) after.now.value v false s))) conts.old.sides.items m conts.new.sides.items) }
 {
     match search.candidates.get(number) {
-        None => take_none(alloc, program, search, amount, of, hole, state, conts),
+        None => take_none(alloc, program, search, amount, of, after, state, conts),
         Some(c) => {
-            let found = taken(alloc, c, amount, hole, &state)?;
+            let found = taken(alloc, c, amount, after, &state)?;
             let rest = Next::TakeFrom(
                 search.clone()?,
                 number + 1,
                 amount.clone()?,
                 of.copy()?,
-                hole.clone()?,
+                after.clone()?,
             );
             probe_one(alloc, program, search, c, found, rest, state, conts)
         }

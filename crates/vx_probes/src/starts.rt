@@ -1,15 +1,18 @@
 //! The first probe of a location: its candidates are those of the heap as it is.
 
 ghost use Rattle.std.specs.Prelude.{◌≡◌, [], ◌∷◌, Some, None, Option, IfOk, string_bytes};
-ghost use Rattle.vx_heap.specs.Views.{candidates_of, heap as heap_of, terms_of};
+ghost use Rattle.vx_heap.specs.Views.{candidates_of, heap as heap_of, key, terms_of};
 ghost use Rattle.vx_resolved.specs.Settled.{settled};
 ghost use Rattle.vx_rules.specs.Chunks as chunks;
 ghost use Rattle.vx_rules.specs.Chunks.{field_key};
 ghost use Rattle.vx_rules.specs.Codes.{code as code_of};
+ghost use Rattle.vx_rules.specs.Members.{rules};
 ghost use Rattle.vx_rules.specs.Rules as rule;
-ghost use Rattle.vx_stack.specs.Stack.{giving, going, take_location as taking_location, Stepped};
+ghost use Rattle.vx_rules.specs.Trees.{PermissionCode};
+ghost use Rattle.vx_stack.specs.Stack.{giving, going, take_instance as taking_instance, take_location as taking_location, with_taken, Stepped};
+ghost use Rattle.vx_stack.specs.Values.{values};
 ghost use Rattle.vx_states.specs.SymStates.{optional_term, state as state_of};
-ghost use Rattle.vx_terms.specs.Views.{term};
+ghost use Rattle.vx_terms.specs.Views.{sort as sort_of, term};
 
 use crate::probes::{read_from, take_from, write_to};
 use std::alloc::{AllocError, Global};
@@ -18,30 +21,27 @@ use vx_ast::Place;
 use vx_heap::{Resource, SymHeap, whole};
 use vx_resolved::Settled;
 use vx_rules::Code;
-use vx_stack::{Conts, Hole, Location, Move, Next, Search, field_sort};
+use vx_stack::{Conts, Hole, Instance, Location, Move, Next, Search, Taken, field_sort};
 use vx_states::SymState;
-use vx_terms::Term;
+use vx_terms::{Sort, Term};
 
-/// What is looked for at a location: some amount, or this one.
+/// What is looked for in a heap: some amount of a location or an instance, or this one.
 fn search(
     alloc: Global,
     place: Place,
     code: Code,
-    field: &Rc<String>,
-    receiver: Rc<Term>,
+    resource: &Resource,
+    arguments: Vec<Rc<Term>>,
     amount: Option<Rc<Term>>,
     heap: &SymHeap,
 ) -> Result<Rc<Search>, AllocError>
     ensures place { IfOk result (λ s. s.value.place ≡ place) }
     ensures code { IfOk result (λ s. s.value.code ≡ code) }
-    ensures arguments { IfOk result (λ s. terms_of s.value.arguments.items ≡ term receiver.value ∷ []) }
+    ensures arguments { IfOk result (λ s. terms_of s.value.arguments.items ≡ terms_of arguments.items) }
     ensures amount { IfOk result (λ s. optional_term s.value.amount ≡ optional_term amount) }
-    ensures candidates { IfOk result (λ s. candidates_of s.value.candidates.items ≡ chunks.candidates (field_key (string_bytes field.now.value) (term receiver.value)) (heap_of heap.now)) }
+    ensures candidates { IfOk result (λ s. candidates_of s.value.candidates.items ≡ chunks.candidates (key resource.now arguments.items) (heap_of heap.now)) }
 {
-    let mut arguments = Vec::new(alloc);
-    arguments.push(receiver)?;
-    let resource = Resource::Field(field.clone()?);
-    let candidates = heap.candidates(alloc, &resource, &arguments)?;
+    let candidates = heap.candidates(alloc, resource, &arguments)?;
     Ok(Rc::new(
         alloc,
         Search {
@@ -52,6 +52,35 @@ fn search(
             candidates,
         },
     )?)
+}
+
+/// What is looked for at a location: some amount, or this one.
+fn search_field(
+    alloc: Global,
+    place: Place,
+    field: &Rc<String>,
+    receiver: Rc<Term>,
+    amount: Option<Rc<Term>>,
+    heap: &SymHeap,
+) -> Result<Rc<Search>, AllocError>
+    ensures place { IfOk result (λ s. s.value.place ≡ place) }
+    ensures code { IfOk result (λ s. code_of s.value.code ≡ PermissionCode) }
+    ensures arguments { IfOk result (λ s. terms_of s.value.arguments.items ≡ term receiver.value ∷ []) }
+    ensures amount { IfOk result (λ s. optional_term s.value.amount ≡ optional_term amount) }
+    ensures candidates { IfOk result (λ s. candidates_of s.value.candidates.items ≡ chunks.candidates (field_key (string_bytes field.now.value) (term receiver.value)) (heap_of heap.now)) }
+{
+    let mut arguments = Vec::new(alloc);
+    arguments.push(receiver)?;
+    let resource = Resource::Field(field.clone()?);
+    search(
+        alloc,
+        place,
+        Code::Permission,
+        &resource,
+        arguments,
+        amount,
+        heap,
+    )
 }
 
 /// A location is read.
@@ -67,15 +96,7 @@ pub fn read_field(
 ) -> Result<Move, AllocError>
     ensures { IfOk result (λ m. Stepped (settled program.now) (rule.read_field (string_bytes field.now.value) (term receiver.value) place (state_of state) (giving (settled program.now) hole.now.value)) conts.old.sides.items m conts.new.sides.items) }
 {
-    let wanted = search(
-        alloc,
-        place,
-        Code::Permission,
-        field,
-        receiver,
-        None,
-        &state.heap,
-    )?;
+    let wanted = search_field(alloc, place, field, receiver, None, &state.heap)?;
     read_from(alloc, program, &wanted, 0, hole, state, conts)
 }
 
@@ -94,16 +115,30 @@ pub fn write_field(
     ensures { IfOk result (λ m. Stepped (settled program.now) (rule.write_field (string_bytes field.now.value) (term receiver.value) (term value.now.value) place (state_of state) (going (settled program.now) next.now.value)) conts.old.sides.items m conts.new.sides.items) }
 {
     let all = Some(whole(alloc)?);
-    let wanted = search(
-        alloc,
-        place,
-        Code::Permission,
-        field,
-        receiver,
-        all,
-        &state.heap,
-    )?;
+    let wanted = search_field(alloc, place, field, receiver, all, &state.heap)?;
     write_to(alloc, program, &wanted, 0, value, next, state, conts)
+}
+
+/// An amount of a location or an instance is taken from the heap.
+fn take(
+    alloc: Global,
+    program: &Settled,
+    place: Place,
+    code: Code,
+    resource: &Resource,
+    arguments: Vec<Rc<Term>>,
+    amount: &Rc<Term>,
+    of: &Sort,
+    after: Taken,
+    state: SymState,
+    conts: &mut Conts,
+) -> Result<Move, AllocError>
+    ensures { IfOk result (λ m. Stepped (settled program.now) (rule.take_chunk (key resource.now arguments.items) (term amount.now.value) (sort_of of.now) place (code_of code) (state_of state) (λ k s. with_taken (settled program.now) after k.value (rule.leads_inside k) s)) conts.old.sides.items m conts.new.sides.items) }
+{
+    let all = Some(amount.clone()?);
+    let wanted = search(alloc, place, code, resource, arguments, all, &state.heap)?;
+    let after = Rc::new(alloc, after)?;
+    take_from(alloc, program, &wanted, 0, amount, of, &after, state, conts)
 }
 
 /// An amount of a location is taken from a heap.
@@ -122,26 +157,86 @@ pub fn take_location(
     let place = state.placed(location.place);
     let mut state = state;
     let _before = state.exchange_heap(heap.clone()?);
-    let receiver = location.receiver.clone()?;
-    let amount = location.amount.clone()?;
-    let wanted = search(
-        alloc,
-        place,
-        code,
-        &location.field,
-        receiver,
-        Some(amount),
-        heap,
-    )?;
+    let mut arguments = Vec::new(alloc);
+    arguments.push(location.receiver.clone()?)?;
+    let resource = Resource::Field(location.field.clone()?);
     let of = field_sort(program, &location.field);
-    take_from(
+    let after = Taken::Value(hole.clone()?);
+    take(
         alloc,
         program,
-        &wanted,
-        0,
+        place,
+        code,
+        &resource,
+        arguments,
         &location.amount,
         &of,
-        hole,
+        after,
+        state,
+        conts,
+    )
+}
+
+/// An amount of an instance is taken from a heap.
+pub fn take_instance(
+    alloc: Global,
+    program: &Settled,
+    instance: &Instance,
+    code: Code,
+    heap: &Rc<SymHeap>,
+    hole: &Rc<Hole>,
+    state: SymState,
+    conts: &mut Conts,
+) -> Result<Move, AllocError>
+    ensures { IfOk result (λ m. Stepped (settled program.now) (taking_instance (settled program.now) instance.now.place (string_bytes instance.now.predicate.value) (values instance.now.arguments.value) (term instance.now.amount.value) (code_of code) (heap_of heap.now.value) (state_of state) (giving (settled program.now) hole.now.value)) conts.old.sides.items m conts.new.sides.items) }
+{
+    let place = state.placed(instance.place);
+    let mut state = state;
+    let _before = state.exchange_heap(heap.clone()?);
+    let arguments = instance.arguments.to_vec(alloc)?;
+    let resource = Resource::Predicate(instance.predicate.clone()?);
+    let after = Taken::Value(hole.clone()?);
+    take(
+        alloc,
+        program,
+        place,
+        code,
+        &resource,
+        arguments,
+        &instance.amount,
+        &Sort::Snap,
+        after,
+        state,
+        conts,
+    )
+}
+
+/// An instance is exchanged for its body.
+pub fn unfold(
+    alloc: Global,
+    program: &Settled,
+    instance: Rc<Instance>,
+    next: &Rc<Next>,
+    state: SymState,
+    conts: &mut Conts,
+) -> Result<Move, AllocError>
+    ensures { IfOk result (λ m. Stepped (settled program.now) (rule.unfolded (settled program.now) (rules (settled program.now)) instance.value.place (string_bytes instance.value.predicate.value) (values instance.value.arguments.value) (term instance.value.amount.value) (state_of state) (going (settled program.now) next.now.value)) conts.old.sides.items m conts.new.sides.items) }
+{
+    let place = instance.place;
+    let arguments = instance.arguments.to_vec(alloc)?;
+    let resource = Resource::Predicate(instance.predicate.clone()?);
+    let amount = instance.amount.clone()?;
+    let after = Taken::Unfold(instance, next.clone()?);
+    take(
+        alloc,
+        program,
+        place,
+        Code::Unfold,
+        &resource,
+        arguments,
+        &amount,
+        &Sort::Snap,
+        after,
         state,
         conts,
     )

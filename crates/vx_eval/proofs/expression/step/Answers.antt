@@ -1,8 +1,13 @@
 use Rattle.std.proofs.Common.{◌≡◌, true, false, refl, ap, sym, ◌∙◌, ◌&&◌}
 use Rattle.vx_resolved.specs.Resolved.{expr}
 use Rattle.vx_resolved.specs.Settled.{settled}
-use Rattle.vx_rules.specs.Rules.{is_total}
+use Rattle.vx_rules.specs.Members.{rules}
+use Rattle.vx_rules.specs.Rules.{Giving, eval, is_total}
+use Rattle.vx_rules.specs.Trees.{Step}
+use Rattle.vx_states.specs.SymStates.{state}
+use Rattle.vx_stack.specs.Stack.{giving}
 use Rattle.vx_stack.proofs.Steps.{stepped_as}
+use Rattle.vx_eval.proofs.Unfolded.{opens}
 use Rattle.vx_eval.proofs.expression.step.Goals as goal
 
 pub returns-in-Operate : goal.returns-in-Operate
@@ -36,7 +41,22 @@ returns-in-Divide c = stepped_as (settled c.args.program.now) _ _ _ _ _ (rw (c.i
 pub returns-in-Read : goal.returns-in-Read
 returns-in-Read c = stepped_as (settled c.args.program.now) _ _ _ _ _ (rw (c.in-Read.is, c.in_ok-clone-in-Read.ensures.cases) refl) c.eval-in-Read.ensures
 
-pub returns : goal.returns
-returns c =
+pub returns-in-Old : goal.returns-in-Old
+returns-in-Old c =
     stepped_as (settled c.args.program.now) _ _ _ _ _
     (rw (c.in-Old.is, ← c.exchange_heap-heap.ensures.before, c.exchange_heap-heap.ensures.after, c.in_ok-old-in-Old.ensures.cases) refl) c.eval-in-Old.ensures
+
+pub returns-in-Apply : goal.returns-in-Apply
+returns-in-Apply c = stepped_as (settled c.args.program.now) _ _ _ _ _ (rw (c.in-Apply.is, c.in_ok-clone-in-Apply.ensures.cases) refl) c.evals.ensures
+
+pub returns : goal.returns
+returns c =
+    let p = settled c.args.program.now in
+    let s = state c.args.state in
+    let x = c.in-Unfolding in
+    stepped_as p _ _ _ _ _
+    (rw x.is
+    (ap (λ (y : Giving). Step (eval p (rules p) (expr x.share.value) s y))
+    (sym (opens p x.at c.in_ok-clone-in-Unfolding.field-0.value x.i.value c.in_ok-clone-in-Unfolding-2.field-0.value x.es.value c.in_ok-clone-in-Unfolding-3.field-0.value x.e.value c.in_ok-heap-in-Unfolding.heap.value c.args.state.heap.value (giving p c.args.hole.value)
+    c.in_ok-clone-in-Unfolding.ensures.cases c.in_ok-clone-in-Unfolding-2.ensures.cases c.in_ok-clone-in-Unfolding-3.ensures.cases c.in_ok-heap-in-Unfolding.ensures.cases))))
+    c.eval-in-Unfolding.ensures

@@ -1,4 +1,4 @@
-use Rattle.std.proofs.Common.{◌≡◌, pos, refl, ap, sym, ◌∙◌}
+use Rattle.std.proofs.Common.{◌≡◌, pos, ap, sym, ◌∙◌}
 use Rattle.vx_resolved.specs.Settled.{settled}
 use Rattle.vx_resolved.specs.Resolved.{division}
 use Rattle.vx_terms.specs.Terms.{Term, Number}
@@ -8,7 +8,7 @@ use Rattle.vx_rules.specs.States.{State}
 use Rattle.vx_rules.specs.Trees.{DivisorCode}
 use Rattle.vx_rules.specs.Rules.{Going, divided, placed}
 use Rattle.vx_states.specs.SymStates.{state}
-use Rattle.vx_stack.specs.Stack.{frame_tree, giving}
+use Rattle.vx_stack.specs.Stack.{giving}
 use Rattle.vx_stack.proofs.Steps.{asks, stepped_as}
 use Rattle.vx_eval.proofs.Given.{gives}
 use Rattle.vx_eval.proofs.operand.step_divided.Goals as goal

@@ -1,15 +1,19 @@
 use Rattle.std.proofs.Common.{◌≡◌, ◌∙◌, ◌+◌, ap, sym, refl, Some}
 use Rattle.std.proofs.lemmas.Option.{slice_get_read}
-use Rattle.std.specs.Prelude.{length, slice_get}
+use Rattle.std.specs.Prelude.{false, length, slice_get}
 use Rattle.vx_resolved.specs.Settled.{settled}
 use Rattle.vx_heap.specs.Views.{candidate}
 use Rattle.vx_rules.specs.Codes.{code}
 use Rattle.vx_rules.specs.Trees.{Tree}
 use Rattle.vx_rules.specs.Chunks.{Candidate, reduced}
-use Rattle.vx_rules.specs.Rules.{probe}
+use Rattle.vx_rules.specs.Rules.{leads_inside, probe}
 use Rattle.vx_states.specs.SymStates.{state}
-use Rattle.vx_rules.specs.States.{with_heap}
-use Rattle.vx_stack.specs.Stack.{finding, giving, side_tree, taking_none, wanted}
+use Rattle.vx_rules.specs.States.{State, with_heap}
+use Rattle.vx_terms.specs.Sorts.{Sort}
+use Rattle.vx_terms.specs.Terms.{Term}
+use Rattle.vx_stack.specs.declared.frame.Taken.{Taken}
+use Rattle.vx_stack.specs.declared.waiting.Search.{Search}
+use Rattle.vx_stack.specs.Stack.{finding, side_tree, taking_none, wanted, with_taken}
 use Rattle.vx_terms.specs.Views.{sort, term}
 use Rattle.vx_probes.proofs.Firsts.{one_left, stepped_by}
 use Rattle.vx_probes.proofs.probes.take_from.Goals as goal
@@ -25,12 +29,20 @@ returns-in_ok-clone-in-Some-3 c =
     let found = side_tree p c.in_ok-found-in-Some.found in
     let there : slice_get x.candidates.items c.args.number ≡ Some k =
     ap (λ y. slice_get y.candidates.items c.args.number) (sym c.deref.ensures) ∙ ap (λ y. slice_get y c.args.number) (sym c.deref-2.ensures.value) ∙ slice_get_read c.deref-2.result.now (length c.deref-2.result.now) c.args.number k refl c.in-Some.ensures.lookup.3.0 c.in-Some.ensures.lookup.1 in
-    let rest : Tree = finding x1 n s (λ (i : Candidate). giving p c.in_ok-clone-in-Some-3.field-0.value i.chunk.value (with_heap (reduced i (term c.in_ok-clone-in-Some-2.field-0.value) s.heap) s)) (taking_none (term c.in_ok-clone-in-Some-2.field-0.value) (sort c.in_ok-copy-in-Some.field-0) x1.place (code x1.code) s (giving p c.in_ok-clone-in-Some-3.field-0.value)) in
-    let others : rest ≡ finding x n s (λ (i : Candidate). giving p c.args.hole.now.value i.chunk.value (with_heap (reduced i (term c.args.amount.now.value) s.heap) s)) (taking_none (term c.args.amount.now.value) (sort c.args.of.now) x.place (code x.code) s (giving p c.args.hole.now.value)) =
-    ap (λ y. finding y n s (λ (i : Candidate). giving p c.in_ok-clone-in-Some-3.field-0.value i.chunk.value (with_heap (reduced i (term c.in_ok-clone-in-Some-2.field-0.value) s.heap) s)) (taking_none (term c.in_ok-clone-in-Some-2.field-0.value) (sort c.in_ok-copy-in-Some.field-0) y.place (code y.code) s (giving p c.in_ok-clone-in-Some-3.field-0.value))) c.in_ok-clone-in-Some.ensures.cases
-    ∙ ap (λ y. finding x n s (λ (i : Candidate). giving p c.in_ok-clone-in-Some-3.field-0.value i.chunk.value (with_heap (reduced i (term y) s.heap) s)) (taking_none (term y) (sort c.in_ok-copy-in-Some.field-0) x.place (code x.code) s (giving p c.in_ok-clone-in-Some-3.field-0.value))) c.in_ok-clone-in-Some-2.ensures.cases
-    ∙ ap (λ y. finding x n s (λ (i : Candidate). giving p c.in_ok-clone-in-Some-3.field-0.value i.chunk.value (with_heap (reduced i (term c.args.amount.now.value) s.heap) s)) (taking_none (term c.args.amount.now.value) (y) x.place (code x.code) s (giving p c.in_ok-clone-in-Some-3.field-0.value))) c.in_ok-copy-in-Some.ensures
-    ∙ ap (λ y. finding x n s (λ (i : Candidate). giving p y i.chunk.value (with_heap (reduced i (term c.args.amount.now.value) s.heap) s)) (taking_none (term c.args.amount.now.value) (sort c.args.of.now) x.place (code x.code) s (giving p y))) c.in_ok-clone-in-Some-3.ensures.cases in
+    let on = λ (w : Taken) (t : Term) (i : Candidate). with_taken p w i.chunk.value (leads_inside i.chunk) (with_heap (reduced i t s.heap) s) in
+    let others = λ (x : Search) (t : Term) (o : Sort) (w : Taken). finding x n s (on w t) (taking_none t o x.place (code x.code) s (λ (v : Term) (s1 : State). with_taken p w v false s1)) in
+    let a1 = term c.in_ok-clone-in-Some-2.field-0.value in
+    let a = term c.args.amount.now.value in
+    let o1 = sort c.in_ok-copy-in-Some.field-0 in
+    let o = sort c.args.of.now in
+    let w1 = c.in_ok-clone-in-Some-3.field-0.value in
+    let w = c.args.after.now.value in
+    let rest : Tree = others x1 a1 o1 w1 in
+    let same : rest ≡ others x a o w =
+    ap (λ y. others y a1 o1 w1) c.in_ok-clone-in-Some.ensures.cases
+    ∙ ap (λ y. others x (term y) o1 w1) c.in_ok-clone-in-Some-2.ensures.cases
+    ∙ ap (λ y. others x a y w1) c.in_ok-copy-in-Some.ensures
+    ∙ ap (λ y. others x a o y) c.in_ok-clone-in-Some-3.ensures.cases in
     stepped_by p c.probe_one.result _ _ _ c.probe_one.ensures _
-    (one_left candidate x.candidates.items c.args.number k (wanted x) x.place (code x.code) s (λ (i : Candidate). giving p c.args.hole.now.value i.chunk.value (with_heap (reduced i (term c.args.amount.now.value) s.heap) s)) (taking_none (term c.args.amount.now.value) (sort c.args.of.now) x.place (code x.code) s (giving p c.args.hole.now.value)) found rest there (c.in_ok-found-in-Some.ensures p) others
+    (one_left candidate x.candidates.items c.args.number k (wanted x) x.place (code x.code) s (on w a) (taking_none a o x.place (code x.code) s (λ (v : Term) (s1 : State). with_taken p w v false s1)) found rest there (c.in_ok-found-in-Some.ensures p) same
     ∙ ap (λ y. probe (wanted y (candidate k).chunk) y.place (code y.code) s found rest) (sym c.deref-in-Some.ensures))

@@ -1,16 +1,19 @@
-use Rattle.std.proofs.Common.{◌≡◌, ◌∙◌, ap, sym, Some, [], ◌∷◌}
+use Rattle.std.proofs.Common.{◌≡◌, ◌∙◌, ◌++◌, ap, sym, refl, [], ◌∷◌}
 use Rattle.std.specs.Prelude.{string_bytes}
 use Rattle.vx_resolved.specs.Settled.{settled}
-use Rattle.vx_heap.specs.Views.{heap}
+use Rattle.vx_heap.specs.declared.chunk.Resource.TheVariants as resource
+use Rattle.vx_heap.specs.Views.{heap, key, terms_of}
+use Rattle.vx_rules.specs.Chunks.{field_key}
 use Rattle.vx_rules.specs.Codes.{code}
-use Rattle.vx_rules.specs.Chunks.{Candidate, field_key, candidates, reduced}
-use Rattle.vx_rules.specs.Rules.{field_sort}
-use Rattle.vx_rules.specs.States.{State, with_heap}
+use Rattle.vx_rules.specs.Rules.{field_sort, placed}
+use Rattle.vx_rules.specs.States.{Chunk, State, with_heap}
+use Rattle.vx_rules.specs.Trees.{Tree}
 use Rattle.vx_states.specs.SymStates.{state}
-use Rattle.vx_stack.specs.Stack.{finding, giving, taking_none}
-use Rattle.vx_terms.specs.Sorts.{Sort}
+use Rattle.vx_stack.specs.declared.frame.Hole.{Hole}
+use Rattle.vx_stack.specs.Stack.{giving}
 use Rattle.vx_terms.specs.Views.{sort, term}
-use Rattle.vx_probes.proofs.Firsts.{searched, stepped_by}
+use Rattle.vx_probes.proofs.Firsts.{stepped_by}
+use Rattle.vx_probes.proofs.Takes.{key_of_field, takes}
 use Rattle.vx_probes.proofs.starts.take_location.Goals as goal
 
 pub returns : goal.returns
@@ -19,18 +22,15 @@ returns c =
     let l = c.args.location.now in
     let f = string_bytes l.field.value in
     let a = term l.amount.value in
-    let key = field_key f (term l.receiver.value) in
+    let r = term l.receiver.value in
     let before = state c.args.state in
     let s = with_heap (heap c.args.heap.now.value) before in
-    let x = c.in_ok-wanted.wanted.value in
-    let found = c.in_ok-wanted.ensures in
+    let items = c.push.new.self.items in
     let there : state c.exchange_heap-before.new.self ≡ s = c.exchange_heap-before.ensures.after ∙ ap (λ y. with_heap (heap y) before) c.in_ok-clone.ensures.cases in
-    stepped_by p c.take_from.result _ _ _ c.take_from.ensures _
-    (searched x _ (code c.args.code) (Some a) (term l.receiver.value ∷ []) (candidates key s.heap) s
-    (λ (i : Candidate). giving p c.args.hole.now.value i.chunk.value (with_heap (reduced i a s.heap) s))
-    (λ at y. taking_none a (field_sort p f) at y s (giving p c.args.hole.now.value))
-    (found.place ∙ c.placed-place.ensures) (ap code found.code) (found.arguments ∙ ap (λ y. term y ∷ []) c.in_ok-receiver.ensures.cases)
-    (found.amount ∙ ap (λ y. Some (term y)) c.in_ok-amount.ensures.cases)
-    (found.candidates ∙ ap (λ y. candidates (field_key f (term y)) (heap c.deref.result.now)) c.in_ok-receiver.ensures.cases ∙ ap (λ y. candidates key (heap y)) c.deref.ensures)
-    ∙ ap (λ (o : Sort). finding x 0 s (λ (i : Candidate). giving p c.args.hole.now.value i.chunk.value (with_heap (reduced i a s.heap) s)) (taking_none a o x.place (code x.code) s (giving p c.args.hole.now.value))) (sym c.field_sort-of.ensures)
-    ∙ ap (λ (y : State). finding x 0 y (λ (i : Candidate). giving p c.args.hole.now.value i.chunk.value (with_heap (reduced i a y.heap) y)) (taking_none a (sort c.field_sort-of.result) x.place (code x.code) y (giving p c.args.hole.now.value))) (sym there))
+    let receiver : terms_of items ≡ r ∷ [] = ap terms_of c.in_ok-push.ensures.items ∙ ap (λ ts. terms_of (ts ++ c.in_ok-clone-2.field-0 ∷ [])) c.new-arguments.ensures.items ∙ ap (λ y. term y ∷ []) c.in_ok-clone-2.ensures.cases in
+    let on = λ (h : Hole) (k : Chunk) (s1 : State). giving p h k.value s1 in
+    stepped_by p c.take.result _ _ _ c.take.ensures _
+    (sym (takes (key (resource.Field c.in_ok-clone-3.field-0) items) (field_key f r) a a (sort c.field_sort-of.result) (field_sort p f) c.placed-place.result (placed before l.place) (code c.args.code) (state c.exchange_heap-before.new.self) s
+    (on c.in_ok-clone-4.field-0.value) (on c.args.hole.now.value)
+    (key_of_field c.in_ok-clone-3.field-0 l.field items r c.in_ok-clone-3.ensures.cases receiver) refl c.field_sort-of.ensures c.placed-place.ensures there
+    (ap {B = Chunk → State → Tree} on c.in_ok-clone-4.ensures.cases)))

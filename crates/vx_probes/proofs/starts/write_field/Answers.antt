@@ -2,7 +2,6 @@ use Rattle.std.proofs.Common.{◌∙◌, ap, Some}
 use Rattle.std.specs.Prelude.{string_bytes}
 use Rattle.vx_resolved.specs.Settled.{settled}
 use Rattle.vx_heap.specs.Views.{heap}
-use Rattle.vx_rules.specs.Codes.{code}
 use Rattle.vx_rules.specs.Chunks.{field_key, candidates}
 use Rattle.vx_rules.specs.Rules.{never, written}
 use Rattle.vx_states.specs.SymStates.{state}
@@ -19,4 +18,4 @@ returns c =
     let key = field_key (string_bytes c.args.field.now.value) (term c.args.receiver.value) in
     stepped_by p c.write_to.result _ _ _ c.write_to.ensures _
     (searched c.in_ok-wanted.wanted.value c.args.place _ _ _ (candidates key s.heap) s (λ k. going p c.args.next.now.value (written k (term c.args.value.now.value) s)) (λ at y. never at y s)
-    found.place (ap code found.code) found.arguments (found.amount ∙ ap Some c.in_ok-whole.ensures) (found.candidates ∙ ap (λ y. candidates key (heap y)) c.deref.ensures))
+    found.place found.code found.arguments (found.amount ∙ ap Some c.in_ok-whole.ensures) (found.candidates ∙ ap (λ y. candidates key (heap y)) c.deref.ensures))
