@@ -31,7 +31,7 @@ returns c =
     let is = c.in_ok-called.ensures in
     let z : State = entered (bind m.parameters ts) c.args.place s in
     let other : Giving = λ t w. promised p it n w in
-    let count : it.count ≡ length ts = is.count ∙ c.len.ensures ∙ sym (length-map c.args.names.now (λ t. term t.value)) in
+    let count : it.count ≡ length ts = is.count ∙ sym (length-map c.args.names.now (λ t. term t.value)) in
     let take : going p c.in_ok-take.take ≡ (λ w. consume p (rules p) (joined m.place m.requires) (codes CallCode CallCode) whole_amount w.heap w other) =
     c.in_ok-take.ensures in
     let entered_z : state c.in_ok-state.state ≡ z =
