@@ -1,6 +1,7 @@
 //! The rules of consuming an assertion, step by step.
 #![tactic(auto)]
 
+mod instances;
 mod locations;
 mod sides;
 
@@ -16,14 +17,16 @@ ghost use Rattle.vx_terms.specs.Build as built;
 ghost use Rattle.vx_terms.specs.Views.{term};
 ghost use Rattle.vx_resolved.specs.Settled.{settled};
 
+use crate::instances::step_held;
 use crate::locations::{step_amount, step_share, step_wrap};
 use crate::sides::{step_chosen, step_implied};
+pub use instances::step_arguments;
 use std::alloc::{AllocError, Global};
 use std::rc::Rc;
 use vx_ast::Place;
 use vx_heap::SymHeap;
 use vx_resolved::{Assertion, Expr, Settled};
-use vx_stack::{Codes, Consumed, Consumption, Conts, Frame, Hole, Move, Next};
+use vx_stack::{Codes, Consumed, Consumption, Conts, Frame, Hole, Move, Next, Row};
 use vx_states::SymState;
 use vx_terms::{Term, snapshots};
 
@@ -44,6 +47,8 @@ fn place_of(e: &Expr) -> Place
         Expr::Choose(place, _, _, _) => *place,
         Expr::Read(place, _, _) => *place,
         Expr::Old(place, _) => *place,
+        Expr::Apply(place, _, _) => *place,
+        Expr::Unfolding(place, _, _, _, _) => *place,
     }
 }
 
@@ -88,6 +93,19 @@ pub fn step(
             let heap = state.exchange_heap(x.start.clone()?);
             let share = Consumed::Share(*place, field.clone()?, share.clone()?, x.clone()?, heap);
             conts.eval(alloc, program, e, Hole::Consumed(share, hole), state)
+        }
+        Assertion::Instance(place, predicate, arguments, share) => {
+            let mut state = state;
+            let heap = state.exchange_heap(x.start.clone()?);
+            let row = Row::Consume(
+                *place,
+                predicate.clone()?,
+                share.clone()?,
+                x.clone()?,
+                heap,
+                hole,
+            );
+            conts.evals(alloc, program, arguments, row, state)
         }
         Assertion::Both(left, right) => {
             let both = parts(alloc, program, left, right, x, hole)?;
@@ -186,6 +204,10 @@ pub fn step_consumed(
         Consumed::Wrap(field, codes) => {
             step_wrap(alloc, program, &value, field, *codes, hole, state, conts)
         }
+        Consumed::Held(place, predicate, arguments, x, heap) => step_held(
+            alloc, program, &value, *place, predicate, arguments, x, heap, hole, state, conts,
+        ),
+        Consumed::Snapshot => conts.give(program, value, hole, state),
         Consumed::Implied(a, x, heap) => {
             step_implied(alloc, program, value, a, x, heap, hole, state, conts)
         }

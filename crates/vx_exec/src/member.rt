@@ -1,7 +1,7 @@
-//! The sides of a method.
+//! The sides of a method, and the side of a predicate.
 
-ghost use Rattle.std.specs.Prelude.{◌≡◌, [], None, IfOk};
-ghost use Rattle.vx_resolved.specs.Resolved.{assertion, block, method};
+ghost use Rattle.std.specs.Prelude.{◌≡◌, [], None, IfOk, false, map};
+ghost use Rattle.vx_resolved.specs.Resolved.{assertion, block, declaration, method};
 ghost use Rattle.vx_ast.specs.Syntax.{joined as joined_of};
 ghost use Rattle.vx_rules.specs.Members as rule;
 ghost use Rattle.vx_rules.specs.Members.{rules};
@@ -15,7 +15,7 @@ ghost use Rattle.vx_resolved.specs.Settled.{settled};
 
 use std::alloc::{AllocError, Global};
 use std::rc::Rc;
-use vx_resolved::{Assertion, Block, Method, Settled};
+use vx_resolved::{Assertion, Block, Declaration, Method, Settled};
 use vx_rules::Code;
 use vx_stack::{Codes, Conts, Frame, Hole, Move, Next, Production, Side, joined};
 use vx_states::SymState;
@@ -157,6 +157,36 @@ pub fn first_side(alloc: Global, program: &Settled, m: &Rc<Method>) -> Result<Si
     let _program = program;
     let next = first_part(alloc, program, m)?;
     let state = first_state(alloc, m)?;
+    Ok(Side {
+        frame: Frame::Go(next),
+        state,
+    })
+}
+
+/// Fresh parameters, where no amount is bounded.
+fn unbounded_state(alloc: Global, parameters: &[Declaration]) -> Result<SymState, AllocError>
+    ensures { IfOk result (λ s. state_of s ≡ record (declare_all (map declaration parameters.now) rule.blank) { bounded = false }) }
+{
+    let mut state = SymState::new(alloc)?;
+    state.declare_all(alloc, parameters)?;
+    state.is_bounded = false;
+    Ok(state)
+}
+
+/// The side of a predicate: its body by itself, over fresh parameters, where no amount is bounded.
+pub fn predicate_side(
+    alloc: Global,
+    program: &Settled,
+    parameters: &[Declaration],
+    body: &Rc<Assertion>,
+) -> Result<Side, AllocError>
+    ensures { IfOk result (λ side. side_tree (settled program.now) side ≡ produce (settled program.now) (rules (settled program.now)) (assertion body.now.value) whole_amount None (record (declare_all (map declaration parameters.now) rule.blank) { bounded = false }) rule.ended) }
+{
+    let _program = program;
+    let finish = Rc::new(alloc, Next::Finish)?;
+    let production = Production::as_written(alloc)?;
+    let next = Rc::new(alloc, Next::Produce(body.clone()?, production, finish))?;
+    let state = unbounded_state(alloc, parameters)?;
     Ok(Side {
         frame: Frame::Go(next),
         state,

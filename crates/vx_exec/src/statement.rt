@@ -13,13 +13,15 @@ ghost use Rattle.vx_terms.specs.Build.{whole_amount};
 ghost use Rattle.vx_terms.specs.Views.{term};
 ghost use Rattle.vx_resolved.specs.Settled.{settled};
 
+use crate::calls::step_promised;
 use crate::fields::step_new;
+use crate::folds::{step_fold_amount, step_folded, step_unfold_amount};
 use crate::loops::{step_enter, step_iterate, step_pass, step_while};
 use std::alloc::{AllocError, Global};
 use std::rc::Rc;
 use vx_resolved::{Assertion, Block, Settled, Stmt};
 use vx_rules::Code;
-use vx_stack::{Codes, Conts, Executed, Frame, Hole, Move, Next, Production};
+use vx_stack::{Codes, Conts, Executed, Frame, Hole, Move, Next, Production, Row};
 use vx_states::{SymState, sort_of_value};
 use vx_terms::Term;
 
@@ -82,6 +84,10 @@ pub fn step(
             )
         }
         Stmt::New(_, x, fields) => step_new(alloc, program, x, fields, next, state, conts),
+        Stmt::Call(place, targets, method, arguments) => {
+            let call = Row::Call(*place, targets.clone()?, method.clone()?, next.clone()?);
+            conts.evals(alloc, program, arguments, call, state)
+        }
         Stmt::Inhale(_, a) => {
             let production = Production::as_written(alloc)?;
             let produce = Next::Produce(a.clone()?, production, next.clone()?);
@@ -102,6 +108,26 @@ pub fn step(
                 program,
                 e,
                 Hole::Executed(Executed::Assume, next.clone()?),
+                state,
+            )
+        }
+        Stmt::Fold(place, predicate, arguments, share) => {
+            let fold = Executed::Fold(*place, predicate.clone()?, arguments.clone()?);
+            conts.eval(
+                alloc,
+                program,
+                share,
+                Hole::Executed(fold, next.clone()?),
+                state,
+            )
+        }
+        Stmt::Unfold(place, predicate, arguments, share) => {
+            let unfold = Executed::Unfold(*place, predicate.clone()?, arguments.clone()?);
+            conts.eval(
+                alloc,
+                program,
+                share,
+                Hole::Executed(unfold, next.clone()?),
                 state,
             )
         }
@@ -240,5 +266,15 @@ pub fn step_executed(
             step_iterate(alloc, program, value, it, *kept, state, conts)
         }
         Executed::Pass => step_pass(alloc, program, &value, next, state, conts),
+        Executed::Fold(place, predicate, arguments) => step_fold_amount(
+            alloc, program, &value, *place, predicate, arguments, next, state, conts,
+        ),
+        Executed::Unfold(place, predicate, arguments) => step_unfold_amount(
+            alloc, program, &value, *place, predicate, arguments, next, state, conts,
+        ),
+        Executed::Folded(instance, caller) => {
+            step_folded(alloc, program, value, instance, caller, next, state, conts)
+        }
+        Executed::Called(called) => step_promised(alloc, program, called, next, state, conts),
     }
 }

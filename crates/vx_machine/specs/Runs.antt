@@ -29,8 +29,10 @@ tree_of p (Some m) = tree p m.name m.kind
 abbrev pub member_tree : Program → ℕ → Tree
 member_tree p n = tree_of p (slice_get p n)
 
+-- back from the parts of other members, what waits is the end of an impossible state
 abbrev pub is_impossible : Next → Bool
 is_impossible next'.Impossible = true
+is_impossible (next'.Back' c q n) = is_impossible n
 is_impossible n = false
 
 -- a side that is over since its state is impossible
@@ -38,6 +40,7 @@ abbrev pub is_over : Frame → Bool
 is_over (frame'.Go n) = is_impossible n.value
 is_over (frame'.Eval e h) = false
 is_over (frame'.Give t h) = false
+is_over (frame'.GiveAll ts r) = false
 
 -- of the two candidates of a probe, on top of the stack, one goes: the other one, or the one where it is refuted
 abbrev pub without_other : List Side → List Side

@@ -1,9 +1,9 @@
 //! The machine: it gives control back at every question.
 
 ghost use Rattle.std.specs.Prelude.{◌≡◌, ◌++◌, ◌∷◌, ◌<◌, [], List, IfOk, OnErr, OnOk, length, false, true, cond, is_some, is_err, IfSome, IsOkAnd};
-ghost use Rattle.vx_rules.specs.Members.{tree};
+ghost use Rattle.vx_rules.specs.Members.{predicate_over, rules, tree};
 ghost use Rattle.vx_rules.specs.Trees.{walk};
-ghost use Rattle.vx_resolved.specs.Resolved.{member as member_of};
+ghost use Rattle.vx_resolved.specs.Resolved.{member as member_of, predicate};
 ghost use Rattle.vx_resolved.specs.Settled.{settled};
 ghost use Rattle.vx_machine.specs.Runs.{IsAt, Within, Follows, Told, EachAnswered, Shows, outcome_of, awaits as is_awaiting, given, member_tree, option_list, is_unsat, remaining, without_other, without_last};
 
@@ -11,7 +11,7 @@ use crate::run::run;
 use std::alloc::{AllocError, Global};
 use std::mem;
 use vx_ast::{MemberId, Place};
-use vx_resolved::{Kind, Member, Settled};
+use vx_resolved::{Kind, Member, Predicate, Settled};
 use vx_rules::{Code, Reply};
 use vx_stack::{Conts, Query};
 
@@ -103,19 +103,36 @@ fn is_refuted(reply: Reply) -> bool
     matches!(reply, Reply::Unsat)
 }
 
-/// The stack that a member begins with: its first side. A field has none, since there is no question.
+/// The stack that a predicate begins with: the side of its body, where it has one.
+fn predicate_sides(alloc: Global, program: &Settled, d: &Predicate) -> Result<Conts, AllocError>
+    ensures { IfOk result (λ c. (rs : List Reply) → walk (predicate_over (settled program.now) (rules (settled program.now)) (predicate d.now)) rs ≡ remaining (settled program.now) c.sides.items rs) }
+{
+    let mut conts = Conts::new(alloc);
+    match &d.body {
+        Some(body) => {
+            let side = vx_exec::predicate_side(alloc, program, &d.parameters, body)?;
+            conts.sides.push(side)?;
+            Ok(conts)
+        }
+        None => Ok(conts),
+    }
+}
+
+/// The stack that a member begins with: its first side. A field has none, since there is no question, nor has a
+/// predicate without a body.
 fn first_sides(alloc: Global, program: &Settled, member: &Member) -> Result<Conts, AllocError>
     ensures { IfOk result (λ c. (rs : List Reply) → walk (tree (settled program.now) (member_of member.now).name (member_of member.now).kind) rs ≡ remaining (settled program.now) c.sides.items rs) }
 {
-    let mut conts = Conts::new(alloc);
     match &member.kind {
-        Kind::Field(_) => {}
+        Kind::Field(_) => Ok(Conts::new(alloc)),
+        Kind::Predicate(d) => predicate_sides(alloc, program, d),
         Kind::Method(m) => {
+            let mut conts = Conts::new(alloc);
             let side = vx_exec::first_side(alloc, program, m)?;
             conts.sides.push(side)?;
+            Ok(conts)
         }
     }
-    Ok(conts)
 }
 
 impl Machine {

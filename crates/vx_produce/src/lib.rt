@@ -1,6 +1,7 @@
 //! The rules of producing an assertion, step by step.
 #![tactic(auto)]
 
+mod instances;
 mod locations;
 mod sides;
 
@@ -15,13 +16,15 @@ ghost use Rattle.vx_rules.specs.Trees as tree;
 ghost use Rattle.vx_terms.specs.Views.{term};
 ghost use Rattle.vx_resolved.specs.Settled.{settled};
 
+use crate::instances::step_held;
 use crate::locations::{step_amount, step_share};
 use crate::sides::{step_chosen, step_implied};
+pub use instances::{chunk_of, step_arguments, step_body, step_put_instance};
 pub use locations::step_put;
 use std::alloc::{AllocError, Global};
 use std::rc::Rc;
 use vx_resolved::{Assertion, Settled};
-use vx_stack::{Conts, Frame, Hole, Move, Next, Produced, Production};
+use vx_stack::{Conts, Frame, Hole, Move, Next, Produced, Production, Row};
 use vx_states::{SymState, copy_optional, left_part, right_part};
 use vx_terms::Term;
 
@@ -93,6 +96,18 @@ pub fn step(
             let hole = Hole::Produced(share, next.clone()?);
             conts.eval(alloc, program, e, hole, state)
         }
+        Assertion::Instance(place, predicate, arguments, share) => {
+            let is_inner = state.is_inner;
+            let row = Row::Produce(
+                *place,
+                predicate.clone()?,
+                share.clone()?,
+                x.clone()?,
+                is_inner,
+                next.clone()?,
+            );
+            conts.evals(alloc, program, arguments, row, state)
+        }
         Assertion::Both(left, right) => {
             let both = parts(alloc, program, left, right, x, next)?;
             let mut state = state;
@@ -149,6 +164,9 @@ pub fn step_produced(
         ),
         Produced::Amount(place, field, receiver, x, is_inner) => step_amount(
             alloc, program, &value, *place, field, receiver, x, *is_inner, next, state, conts,
+        ),
+        Produced::Held(place, predicate, arguments, x, is_inner) => step_held(
+            alloc, program, &value, *place, predicate, arguments, x, *is_inner, next, state, conts,
         ),
         Produced::Implied(a, x) => step_implied(alloc, program, value, a, x, next, state, conts),
         Produced::Chosen(a, b, x) => {

@@ -24,7 +24,7 @@ use vx_states::SymState;
 use vx_terms::{Term, arithmetic};
 
 /// An amount: a share, by the scale.
-fn scaled(alloc: Global, x: &Production, share: &Rc<Term>) -> Result<Rc<Term>, AllocError>
+pub fn scaled(alloc: Global, x: &Production, share: &Rc<Term>) -> Result<Rc<Term>, AllocError>
     ensures { IfOk result (λ t. term t.value ≡ multiply (term x.now.scale.value) (term share.now.value)) }
 {
     arithmetic::mul(alloc, &x.scale, share)

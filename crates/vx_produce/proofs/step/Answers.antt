@@ -27,3 +27,8 @@ pub returns-in_ok-clone-in-Chosen-4 : goal.returns-in_ok-clone-in-Chosen-4
 returns-in_ok-clone-in-Chosen-4 c =
     stepped_as (settled c.args.program.now) _ _ _ _ _
     (rw (c.in-Chosen.is, c.in_ok-clone-in-Chosen.ensures.cases, c.in_ok-clone-in-Chosen-2.ensures.cases, c.in_ok-clone-in-Chosen-3.ensures.cases, c.in_ok-clone-in-Chosen-4.ensures.cases) refl) c.eval-in-Chosen.ensures
+
+pub returns-in_ok-clone-in-Instance-4 : goal.returns-in_ok-clone-in-Instance-4
+returns-in_ok-clone-in-Instance-4 c =
+    stepped_as (settled c.args.program.now) _ _ _ _ _
+    (rw (c.in-Instance.is, c.in_ok-clone-in-Instance.ensures.cases, c.in_ok-clone-in-Instance-2.ensures.cases, c.in_ok-clone-in-Instance-3.ensures.cases, c.in_ok-clone-in-Instance-4.ensures.cases) refl) c.evals.ensures

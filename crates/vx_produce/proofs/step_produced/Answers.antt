@@ -8,3 +8,6 @@ returns-in-Share c = stepped_as (settled c.args.program.now) _ _ _ _ _ (rw c.in-
 
 pub returns-in-Amount : goal.returns-in-Amount
 returns-in-Amount c = stepped_as (settled c.args.program.now) _ _ _ _ _ (rw c.in-Amount.is refl) c.step_amount.ensures
+
+pub returns-in-Held : goal.returns-in-Held
+returns-in-Held c = stepped_as (settled c.args.program.now) _ _ _ _ _ (rw c.in-Held.is refl) c.step_held.ensures

@@ -11,3 +11,6 @@ returns-in-Consumed c = stepped_as (settled c.args.program.now) _ _ _ _ _ (rw c.
 
 pub returns-in-Produced : goal.returns-in-Produced
 returns-in-Produced c = stepped_as (settled c.args.program.now) _ _ _ _ _ (rw c.in-Produced.is refl) c.step_produced.ensures
+
+pub returns-in-Argument : goal.returns-in-Argument
+returns-in-Argument c = stepped_as (settled c.args.program.now) _ _ _ _ _ (rw c.in-Argument.is refl) c.step_argument.ensures

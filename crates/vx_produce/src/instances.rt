@@ -1,0 +1,222 @@
+//! The steps of an amount of a predicate's instance that is produced, and of a body that is produced for its instance.
+
+ghost use Rattle.std.specs.Prelude.{◌≡◌, IfOk, Some, string_bytes};
+ghost use Rattle.vx_heap.specs.Views.{chunk as chunk_view};
+ghost use Rattle.vx_resolved.specs.Resolved.{assertion, expr, predicate};
+ghost use Rattle.vx_resolved.specs.Settled.{settled};
+ghost use Rattle.vx_rules.specs.Chunks.{instance_key};
+ghost use Rattle.vx_rules.specs.Members.{rules};
+ghost use Rattle.vx_rules.specs.Rules as rule;
+ghost use Rattle.vx_rules.specs.States as states;
+ghost use Rattle.vx_rules.specs.Trees as tree;
+ghost use Rattle.vx_stack.specs.Stack.{body_of, frame_tree, going, putting_instance, Stepped, with_held};
+ghost use Rattle.vx_stack.specs.Values.{values};
+ghost use Rattle.vx_states.specs.SymStates.{optional_term, state as state_of};
+ghost use Rattle.vx_terms.specs.Build.{multiply};
+ghost use Rattle.vx_terms.specs.Views.{term};
+
+use crate::locations::scaled;
+use crate::step;
+use std::alloc::{AllocError, Global};
+use std::rc::Rc;
+use vx_ast::Place;
+use vx_heap::{Chunk, Resource, not_negative};
+use vx_resolved::{Assertion, Expr, Predicate, Settled};
+use vx_rules::Code;
+use vx_stack::{Conts, Frame, Hole, Instance, Move, Next, Produced, Production, Values};
+use vx_states::SymState;
+use vx_terms::Term;
+
+/// An instance's share, after its arguments.
+pub fn step_arguments(
+    alloc: Global,
+    program: &Settled,
+    place: Place,
+    predicate: &Rc<String>,
+    share: &Rc<Expr>,
+    x: &Rc<Production>,
+    is_inner: bool,
+    arguments: &Rc<Values>,
+    next: &Rc<Next>,
+    state: SymState,
+    conts: &mut Conts,
+) -> Result<Move, AllocError>
+    ensures { IfOk result (λ m. Stepped (settled program.now) (rule.eval (settled program.now) (rules (settled program.now)) (expr share.now.value) (state_of state) (λ a s. putting_instance (settled program.now) place (string_bytes predicate.now.value) (values arguments.now.value) (multiply (term x.now.value.scale.value) a) (optional_term x.now.value.snapshot) is_inner s (going (settled program.now) next.now.value))) conts.old.sides.items m conts.new.sides.items) }
+{
+    let held = Produced::Held(
+        place,
+        predicate.clone()?,
+        arguments.clone()?,
+        x.clone()?,
+        is_inner,
+    );
+    let hole = Rc::new(alloc, Hole::Produced(held, next.clone()?))?;
+    vx_eval::step(alloc, program, share, hole, state, conts)
+}
+
+/// On with the amount that is put.
+fn put_frame(
+    alloc: Global,
+    program: &Settled,
+    instance: Instance,
+    x: &Rc<Production>,
+    is_inner: bool,
+    next: &Rc<Next>,
+) -> Result<Frame, AllocError>
+    ensures { IfOk result (λ f. frame_tree (settled program.now) f ≡ (λ s. tree.Step (going (settled program.now) next.now.value (with_held (settled program.now) (string_bytes instance.predicate.value) (values instance.arguments.value) (term instance.amount.value) (optional_term x.now.value.snapshot) is_inner s)))) }
+{
+    let _program = program;
+    let instance = Rc::new(alloc, instance)?;
+    let put = Next::PutInstance(instance, x.clone()?, is_inner, next.clone()?);
+    Ok(Frame::Go(Rc::new(alloc, put)?))
+}
+
+/// An instance's share, by the scale: it may not be negative, and then it is put.
+pub fn step_held(
+    alloc: Global,
+    program: &Settled,
+    share: &Rc<Term>,
+    place: Place,
+    predicate: &Rc<String>,
+    arguments: &Rc<Values>,
+    x: &Rc<Production>,
+    is_inner: bool,
+    next: &Rc<Next>,
+    state: SymState,
+    conts: &mut Conts,
+) -> Result<Move, AllocError>
+    ensures { IfOk result (λ m. Stepped (settled program.now) (putting_instance (settled program.now) place (string_bytes predicate.now.value) (values arguments.now.value) (multiply (term x.now.value.scale.value) (term share.now.value)) (optional_term x.now.value.snapshot) is_inner (state_of state) (going (settled program.now) next.now.value)) conts.old.sides.items m conts.new.sides.items) }
+{
+    let amount = scaled(alloc, x, share)?;
+    let allowed = not_negative(alloc, &amount)?;
+    let instance = Instance {
+        place,
+        predicate: predicate.clone()?,
+        arguments: arguments.clone()?,
+        amount,
+    };
+    let put = put_frame(alloc, program, instance, x, is_inner, next)?;
+    let at = state.placed(place);
+    conts.ask(alloc, program, allowed, at, Code::Amount, state, put)
+}
+
+/// The chunk of an instance with this snapshot.
+pub fn chunk_of(
+    alloc: Global,
+    instance: &Instance,
+    snapshot: Rc<Term>,
+    is_inner: bool,
+) -> Result<Chunk, AllocError>
+    ensures { IfOk result (λ c. chunk_view c ≡ record (instance_key (string_bytes instance.now.predicate.value) (values instance.now.arguments.value)) { amount = term instance.now.amount.value; value = term snapshot.value; inner = is_inner }) }
+{
+    Ok(Chunk {
+        resource: Resource::Predicate(instance.predicate.clone()?),
+        arguments: instance.arguments.to_vec(alloc)?,
+        amount: instance.amount.clone()?,
+        value: snapshot,
+        is_root: false,
+        is_inner,
+    })
+}
+
+/// An instance's amount is put, with a snapshot that is new or the name of the one that is given.
+pub fn step_put_instance(
+    alloc: Global,
+    program: &Settled,
+    instance: &Instance,
+    x: &Production,
+    is_inner: bool,
+    next: &Rc<Next>,
+    state: SymState,
+    conts: &mut Conts,
+) -> Result<Move, AllocError>
+    ensures { IfOk result (λ m. Stepped (settled program.now) (tree.Step (going (settled program.now) next.now.value (with_held (settled program.now) (string_bytes instance.now.predicate.value) (values instance.now.arguments.value) (term instance.now.amount.value) (optional_term x.now.snapshot) is_inner (state_of state)))) conts.old.sides.items m conts.new.sides.items) }
+{
+    let mut state = state;
+    let snapshot = state.produced_snapshot(alloc, &x.snapshot)?;
+    let chunk = chunk_of(alloc, instance, snapshot, is_inner)?;
+    state.put(alloc, chunk)?;
+    conts.go(program, Frame::Go(next.clone()?), state)
+}
+
+/// In a predicate's body, whose parameters are an instance's arguments.
+fn within(
+    alloc: Global,
+    d: &Predicate,
+    instance: &Instance,
+    is_inner: bool,
+    state: SymState,
+) -> Result<SymState, AllocError>
+    ensures { IfOk result (λ s. state_of s ≡ record (rule.entered (states.bind (predicate d.now).parameters (values instance.now.arguments.value)) instance.now.place (state_of state)) { inner = is_inner }) }
+{
+    let arguments = instance.arguments.to_vec(alloc)?;
+    let mut state = state;
+    state.enter(alloc, &d.parameters, &arguments, instance.place)?;
+    state.is_inner = is_inner;
+    Ok(state)
+}
+
+/// How a body is produced: by the amount of its instance, with its snapshot.
+fn exchanged(
+    alloc: Global,
+    instance: &Instance,
+    snapshot: &Rc<Term>,
+) -> Result<Rc<Production>, AllocError>
+    ensures scale { IfOk result (λ x. term x.value.scale.value ≡ term instance.now.amount.value) }
+    ensures snapshot { IfOk result (λ x. optional_term x.value.snapshot ≡ Some (term snapshot.now.value)) }
+{
+    let production = Production {
+        scale: instance.amount.clone()?,
+        snapshot: Some(snapshot.clone()?),
+    };
+    Ok(Rc::new(alloc, production)?)
+}
+
+/// A predicate's body is produced for an instance that was taken.
+fn step_exchanged(
+    alloc: Global,
+    program: &Settled,
+    d: &Predicate,
+    body: &Assertion,
+    instance: &Instance,
+    snapshot: &Rc<Term>,
+    is_inner: bool,
+    next: &Rc<Next>,
+    state: SymState,
+    conts: &mut Conts,
+) -> Result<Move, AllocError>
+    ensures { IfOk result (λ m. Stepped (settled program.now) ((rules (settled program.now)).produce (assertion body.now) (term instance.now.amount.value) (Some (term snapshot.now.value)) (record (rule.entered (states.bind (predicate d.now).parameters (values instance.now.arguments.value)) instance.now.place (state_of state)) { inner = is_inner }) (λ s. going (settled program.now) next.now.value (rule.back (state_of state) s))) conts.old.sides.items m conts.new.sides.items) }
+{
+    program.keeps_apart();
+    vx_depth::rules_read_parts_by_themselves();
+    let caller = state.caller(alloc)?;
+    let caller = Rc::new(alloc, caller)?;
+    let after = Rc::new(alloc, Next::Back(caller, next.clone()?))?;
+    let production = exchanged(alloc, instance, snapshot)?;
+    let state = within(alloc, d, instance, is_inner, state)?;
+    step(alloc, program, body, &production, &after, state, conts)
+}
+
+/// An instance was taken, from inside another or not: its body is produced.
+pub fn step_body(
+    alloc: Global,
+    program: &Settled,
+    instance: &Rc<Instance>,
+    snapshot: &Rc<Term>,
+    is_inner: bool,
+    next: &Rc<Next>,
+    state: SymState,
+    conts: &mut Conts,
+) -> Result<Move, AllocError>
+    ensures { IfOk result (λ m. Stepped (settled program.now) (body_of (settled program.now) instance.now.value (term snapshot.now.value) is_inner (state_of state) (going (settled program.now) next.now.value)) conts.old.sides.items m conts.new.sides.items) }
+{
+    let Some(d) = program.predicate(&instance.predicate)? else {
+        return conts.never(alloc, program, instance.place, Code::Unfold, state);
+    };
+    match &d.body {
+        None => conts.never(alloc, program, instance.place, Code::Unfold, state),
+        Some(body) => step_exchanged(
+            alloc, program, &d, body, instance, snapshot, is_inner, next, state, conts,
+        ),
+    }
+}
