@@ -9,7 +9,7 @@ use Rattle.vx_amounts.proofs.Amounts.{Le, Positive, le-trans, le-is, none-none, 
 use Rattle.vx_sound.proofs.Chunks.{location_same}
 use Rattle.vx_sound_preds.specs.Covered.{Covered}
 use Rattle.vx_sound_preds.specs.Bodies.{GoodBodies}
-use Rattle.vx_sound_preds.specs.Snapshots.{tree_by, IsTree}
+use Rattle.vx_sound.specs.Snapshots.{tree_by, IsTree}
 use Rattle.vx_amounts.proofs.Products.{product-full, product_positive, product-none}
 use Rattle.vx_sound_preds.proofs.Flats.{flat_later, tree_later}
 use Rattle.vx_sound_preds.proofs.Totals.{weigh, weigh_none, weigh_more, weight, total_weighs, weight_sign}

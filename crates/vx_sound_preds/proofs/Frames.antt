@@ -16,7 +16,7 @@ use Rattle.vx_amounts.proofs.Amounts.{Le, Positive, Same, same-trans, le-refl, l
 use Rattle.vx_sound.proofs.Chunks.{location_same, held_directly}
 use Rattle.vx_sound_preds.specs.Covered.{AllGood, Covered}
 use Rattle.vx_sound_preds.specs.Bodies.{AreRigid, Rigid, IsPlainBody, GoodBodies}
-use Rattle.vx_sound_preds.specs.Snapshots.{assertion_tree, body_tree, tree_by}
+use Rattle.vx_sound.specs.Snapshots.{assertion_tree, body_tree, tree_by}
 use Rattle.vx_amounts.proofs.Products.{product-full, product_comm, product_sign, product_positive, positive_le}
 use Rattle.vx_sound_preds.proofs.Fitting.{step, some_is, Agrees}
 use Rattle.vx_sound_preds.proofs.Flats.{came, flat_later, inner_more}

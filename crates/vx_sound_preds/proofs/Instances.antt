@@ -17,7 +17,7 @@ use Rattle.vx_sound.proofs.Stands.{amount_of}
 use Rattle.vx_sound.proofs.Chunks.{location_is}
 use Rattle.vx_sound_preds.specs.Covered.{Covered}
 use Rattle.vx_sound_preds.specs.Bodies.{GoodBodies}
-use Rattle.vx_sound_preds.specs.Snapshots.{tree_by, IsTree}
+use Rattle.vx_sound.specs.Snapshots.{tree_by, IsTree}
 use Rattle.vx_amounts.proofs.Products.{product-full, product-none, product_comm, product_dist}
 use Rattle.vx_sound_preds.proofs.Flats.{flat_later, tree_later, tree_single}
 use Rattle.vx_sound_preds.proofs.Totals.{weigh, weigh_more, weight, same_is}

@@ -12,7 +12,7 @@ use Rattle.vx_types.specs.Typing.{HaveNoPerm}
 use Rattle.vx_whole.specs.Premises.{IsTypedProgram}
 use Rattle.vx_whole.specs.Closure.{InClosure}
 use Rattle.vx_amounts.proofs.Amounts.{Positive, le-refl, not-positive}
-use Rattle.vx_sound_preds.specs.Snapshots.{IsTree}
+use Rattle.vx_sound.specs.Snapshots.{IsTree}
 use Rattle.vx_sound_preds.specs.Bodies.{IsRigid, AreRigid, BodiesSayNow}
 use Rattle.vx_sound_preds.specs.Covered.{IsProper, BodiesUnfoldNothing, PredicatesPass, TypedInstances, IsStocked}
 use Rattle.vx_sound_preds.proofs.Fitting.{some_is}

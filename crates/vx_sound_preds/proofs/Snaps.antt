@@ -16,7 +16,7 @@ use Rattle.vx_terms.specs.Interpretations as terms
 use Rattle.vx_terms.specs.Interpretations.{Element, Interpretation, Tree, TreeElement, Empty, Pair, as_sort}
 use Rattle.vx_rules.specs.States.{sort_of_type}
 use Rattle.vx_elements.proofs.Elements.{element}
-use Rattle.vx_sound_preds.specs.Snapshots.{leaf, location_leaf, truth_leaf, assertion_tree}
+use Rattle.vx_sound.specs.Snapshots.{leaf, location_leaf, truth_leaf, assertion_tree}
 use Rattle.vx_sound_preds.proofs.Fitting.{step, some_is}
 use Rattle.vx_sound_preds.proofs.Flats.{came}
 

@@ -1,4 +1,3 @@
-pub mod Snapshots
 pub mod Bodies
 pub mod Covered
 pub mod Examples

@@ -11,7 +11,7 @@ ghost use Rattle.vx_meaning.specs.Flatten.{flat, IsGrounded};
 ghost use Rattle.vx_meaning.specs.Consistent.{total, Changes, IsSupported, IsConsistent};
 ghost use Rattle.vx_meaning.specs.Outcomes.{Ends};
 ghost use Rattle.vx_meaning.specs.Give.{give};
-ghost use Rattle.vx_sound_preds.specs.Snapshots.{tree_by, IsTree};
+ghost use Rattle.vx_sound.specs.Snapshots.{tree_by, IsTree};
 ghost use Rattle.vx_whole.specs.Premises.{IsTypedProgram};
 ghost use Rattle.vx_sound_preds.specs.Bodies.{GoodBodies, BodiesSayNow, UnfoldsNothing};
 ghost use Rattle.vx_sound_preds.specs.Examples.{f, P, instance_of, cell, cells, chain, chains, loops, owes, owing, remembers};
