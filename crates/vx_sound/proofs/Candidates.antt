@@ -78,7 +78,7 @@ module _ (means : Meaning) (world : World) where
     of_field : (f : Name) (r : Term) (k : ℕ) → Good means n i r RefSort → value i r ≡ element (RefValue k) → Keys n i (field_key f r) (run.At (at_field k f)) (field_sort p f)
     of_instance : (x : Name) (ts : List Term) (vs : List Value) → InstanceTerms n i x ts vs → Keys n i (instance_key x ts) (run.Folded record { predicate = x; arguments = vs }) SnapSort
 
-  instance_terms_later : {m n : ℕ} {i j : Interpretation} {x : Name} {ts : List Term} {vs : List Value} → m ≤ n → Extends means m i j → InstanceTerms m i x ts vs → InstanceTerms n j x ts vs
+  pub instance_terms_later : {m n : ℕ} {i j : Interpretation} {x : Name} {ts : List Term} {vs : List Value} → m ≤ n → Extends means m i j → InstanceTerms m i x ts vs → InstanceTerms n j x ts vs
   instance_terms_later {ts = ts} {vs = vs} le x k = record { held = k.held; predicate = k.predicate; named = k.named; no_perm = k.no_perm; each = terms_later means world le x k.predicate.parameters ts vs k.each }
 
   pub keys_later : {m n : ℕ} {i j : Interpretation} {key : rules.Chunk} {r : run.Resource} {a : Sort} → m ≤ n → Extends means m i j → Keys m i key r a → Keys n j key r a

@@ -61,6 +61,10 @@ instance_fits p m c at i es share vs v x g h hx least =
     tested : Bool → Checked (run.Resource × Fraction)
     tested b = guard at b >>= λ _. Ok (run.Folded record { predicate = i; arguments = vs }, x)
 
+abbrev pub IsInstance : run.Resource → Type 0
+IsInstance (run.At l) = ⊥
+IsInstance (run.Folded k) = Unit {0}
+
 module _ (means : Meaning) (world : World) where
   abbrev p : Program
   p = world.program
@@ -327,7 +331,7 @@ module _ (means : Meaning) (world : World) where
     pub stands : Stands means world scope interp state (run.with_holdings (run.lost r q c.holdings) c)
     pub enough : Le q (run.amount c.holdings r)
     pub good : Good means state.next interp chunk.value b
-    pub written : chunk.is_field ≡ false → IsWritten chunk.value
+    pub written : IsInstance r → IsWritten chunk.value
     pub there : Positive q → IsThere p c.heap r (value interp chunk.value)
     pub cleared : Cleared (on chunk state)
 
@@ -400,11 +404,15 @@ module _ (means : Meaning) (world : World) where
                 (world.taken c.heap c.holdings r q (keys_typed means world keys) (le-trans sign same_q.there) enough st.holds);
             enough = enough;
             good = sort_is keys d.chunk m.place.kind m.place.resource apart.chunk.content;
-            written = apart.chunk.written;
+            written = λ e. apart.chunk.written (m.place.kind ∙ kind_is keys e);
             there = λ k. subst (λ x. IsThere p c.heap x (value i d.chunk.value)) taken.0 (apart.chunk.content_is (positive-le k (le-trans same_q.back taken.1)));
             cleared = m.cleared;
           }
         where
+          kind_is : {key : rules.Chunk} {r : run.Resource} {b : Sort} → Keys means world s.next i key r b → IsInstance r → key.is_field ≡ false
+          kind_is (of_field f r k g e) h = absurd h
+          kind_is (of_instance x ts vs k) h = refl
+
           sort_is : {key : rules.Chunk} {r : run.Resource} {b : Sort} → Keys means world s.next i key r b → (d : rules.Chunk) → d.is_field ≡ key.is_field → d.resource ≡ key.resource → Good means s.next i d.value (content_sort p d.is_field d.resource) → Good means s.next i d.value b
           sort_is (of_field f r k g e) d kind resource h = subst (λ x. Good means s.next i d.value (field_sort p x)) resource (subst (λ b. Good means s.next i d.value (content_sort p b d.resource)) kind h)
           sort_is (of_instance x ts vs k) d kind resource h = subst (λ b. Good means s.next i d.value (content_sort p b d.resource)) kind h

@@ -132,10 +132,10 @@ unfolding added
 added_single q [] h k = (tt, k)
 added_single q (x ∷ xs) h k = let r = added_single q xs (gained x.0 (product q x.1) h) k in ((r.1.0, r.0), r.1.1)
 
-full-product : (a : Fraction) → Same (product full a) a
+pub full-product : (a : Fraction) → Same (product full a) a
 full-product a = subst (λ (x : Fraction). Same x a) (product_comm a full) (product-full a)
 
-sum-none : (a : Fraction) → Same (sum a none) a
+pub sum-none : (a : Fraction) → Same (sum a none) a
 sum-none a = same-trans (sum_comm a none) (none-sum a)
 
 -- the same is inside, and the tree is the same

@@ -36,7 +36,7 @@ module _ (p : Program) (good : GoodBodies p) (q : Fraction) (scale : Positive q)
   HasRigid (Implied c a) = HasRigid a
   HasRigid (Chosen c a b) = HasRigid a × HasRigid b
 
-  lost_less : (h : Heap) (hs : Holdings) (r : Resource) (x : Fraction) → Le none x → (n : ℕ) (l : Location) → Le (total p n h (lost r x hs) l) (total p n h hs l)
+  pub lost_less : (h : Heap) (hs : Holdings) (r : Resource) (x : Fraction) → Le none x → (n : ℕ) (l : Location) → Le (total p n h (lost r x hs) l) (total p n h hs l)
   lost_less h hs r x sign n l =
       let w = weight p h l n in
       let up = weight_sign p h l (no_negatives p h l good) n r in

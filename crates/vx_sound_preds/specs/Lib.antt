@@ -1,3 +1,4 @@
+pub mod InstanceLanguage
 pub mod Bodies
 pub mod Covered
 pub mod Examples
