@@ -10,4 +10,5 @@ pub mod NumberedNames
 pub mod KeptApart
 pub mod Recursions
 pub mod ConstantAmounts
+pub mod SaidNow
 pub mod TypedPrograms

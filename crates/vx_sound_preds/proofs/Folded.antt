@@ -10,7 +10,7 @@ use Rattle.vx_meaning.specs.States as run
 use Rattle.vx_meaning.specs.States.{bind}
 use Rattle.vx_meaning.specs.Evaluate as plain
 use Rattle.vx_meaning.specs.Flatten.{no_applications, bare}
-use Rattle.vx_meaning.specs.Fits.{placed, Eventually, Fits, take_by}
+use Rattle.vx_meaning.specs.Fits.{placed, Eventually, take_by}
 use Rattle.vx_meaning.specs.Outcomes.{Outcome, Outcomes, ends, checked, passes, refused}
 use Rattle.vx_meaning.specs.Run as meaning
 use Rattle.vx_terms.specs.Sorts.{RealSort, SnapSort}
@@ -21,7 +21,7 @@ use Rattle.vx_rules.specs.States as rules
 use Rattle.vx_rules.specs.States.{sort_of_type}
 use Rattle.vx_rules.specs.Trees.{FoldCode, AssertCode, Step, Tree as Questions}
 use Rattle.vx_rules.specs.Chunks.{instance_key, put}
-use Rattle.vx_rules.specs.Rules.{Giving, Going, Context, Outer, outer, nowhere, never, entered, back, field_sort, consume}
+use Rattle.vx_rules.specs.Rules.{Giving, Going, Context, Outer, outer, nowhere, never, entered, back}
 use Rattle.vx_rules.specs.Members.{folded}
 use Rattle.vx_types.specs.Typing.{Scope, HaveNoPerm, IsTyped}
 use Rattle.vx_elements.proofs.Settled.{Meaning, extends-trans, value_kept}
@@ -41,7 +41,6 @@ use Rattle.vx_sound.proofs.Candidates.{InstanceTerms, instance_terms_later, of_i
 use Rattle.vx_sound.proofs.Goes.{Goes, stuck, Named, named}
 use Rattle.vx_sound.proofs.Arguments.{bound}
 use Rattle.vx_sound.proofs.Evaluate.{UnfoldsGo}
-use Rattle.vx_sound.proofs.Giving.{ScaleStands}
 use Rattle.vx_sound.proofs.Assertions.{Leaves, ends_leaves, refused_leaves, Builds, built_pure, built_field, built_instance, built_both, built_implied, built_nothing, built_left, built_right, Consumes, consumed}
 use Rattle.vx_sound.proofs.Steps.{FoldsGo}
 use Rattle.vx_sound_preds.specs.Bodies.{Rigid, IsAmount, IsPlainBody, GoodBodies}

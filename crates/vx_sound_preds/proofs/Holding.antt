@@ -1,5 +1,5 @@
 -- What is known of what is held where instances of predicates are, as the simulation asks of it.
-use Rattle.std.proofs.Common.{◌≡◌, ℕ, ◌+◌, Bool, true, false, cond, List, [], ◌∷◌, ◌++◌, Some, refl, sym, ◌∙◌, ap, subst, arith}
+use Rattle.std.proofs.Common.{◌≡◌, ℕ, ◌+◌, Bool, true, false, cond, List, [], ◌∷◌, Some, refl, sym, ◌∙◌, subst, arith}
 use Rattle.std.specs.Prelude.{option_and_then}
 use Rattle.vx_frac.specs.Fractions.{Fraction, none, full, sum, product}
 use Rattle.vx_ast.specs.declared.ValueType.TheVariants.{Perm}
@@ -8,11 +8,11 @@ use Rattle.vx_meaning.specs.Values.{Value, IntValue, BoolValue, RefValue, PermVa
 use Rattle.vx_meaning.specs.States as run
 use Rattle.vx_meaning.specs.States.{Heap, Holdings, Location, Instance, Resource, At, Folded, HaveTypes, same_resource, amount, gained, lost, with_holdings}
 use Rattle.vx_meaning.specs.Flatten.{bare, body_entries, flat, IsGrounded}
-use Rattle.vx_meaning.specs.Consistent.{total, IsSupported, IsConsistent}
+use Rattle.vx_meaning.specs.Consistent.{total, IsConsistent}
 use Rattle.vx_meaning.specs.Fits.{deeper}
 use Rattle.vx_terms.specs.Interpretations.{Tree}
 use Rattle.vx_types.specs.Typing.{HaveNoPerm}
-use Rattle.vx_amounts.proofs.Amounts.{Le, Positive, Same, le-refl, le-trans, le-is, none-none, none-full, full-positive, positive-le, not-positive, below-add, add-below, minus_none}
+use Rattle.vx_amounts.proofs.Amounts.{Le, Positive, le-refl, le-trans, none-none, none-full, full-positive, positive-le, not-positive, below-add}
 use Rattle.vx_amounts.proofs.Products.{product_sign, positive_le}
 use Rattle.vx_sound.specs.Snapshots.{IsTree}
 use Rattle.vx_sound.proofs.World.{at_field, Limited, IsTypedInstance, IsTypedResource, CanBe, World}

@@ -22,7 +22,10 @@ pub mod Produced
 pub mod Entries
 pub mod Unfolds
 pub mod Folded
+pub mod Speaking
 pub mod Mentioning
 pub mod Walks
 pub mod Keeping
+pub mod Kept
 pub mod Soundness
+pub mod Worked

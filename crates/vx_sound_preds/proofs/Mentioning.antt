@@ -1,30 +1,22 @@
 -- Where x leads to no function, what it leads to speaks of instances of predicates that x leads to.
-use Rattle.std.proofs.Common.{◌≡◌, true, inl, inr, List, [], ◌∷◌, ◌++◌, Option, Some, None, refl, sym, ap, subst}
+use Rattle.std.proofs.Common.{◌≡◌, true, inl, List, [], ◌∷◌, ◌++◌, Option, Some, None, refl, sym, ap, subst}
 use Rattle.vx_ast.specs.declared.ValueType.{ValueType}
-use Rattle.vx_ast.specs.Syntax.{Name, Declaration, Program, Kind, IsField, IsPredicate, IsFunction, IsMethod, Predicate, Function, Method, member_named, predicate_in, predicate_named, function_in, function_named, method_in, method_named, Expr, Exprs, Assertion, Pure, Points, Instance, Both, Implied, Chosen, Stmt, Declare, Assign, Write, New, Call, Inhale, Exhale, Assert, Assume, Fold, Unfold, If, While, Block, Done, Then}
+use Rattle.vx_ast.specs.Syntax.{Name, Declaration, Program, Kind, IsField, IsPredicate, IsFunction, IsMethod, Predicate, Function, Method, member_named, predicate_named, function_in, function_named, method_named, Expr, Exprs, Assertion, Pure, Points, Instance, Both, Implied, Chosen, Stmt, Declare, Assign, Write, New, Call, Inhale, Exhale, Assert, Assume, Fold, Unfold, If, While, Block, Done, Then}
 use Rattle.vx_ast.specs.Mentions.{mentioned, mentioned_in, mentioned_by}
 use Rattle.vx_types.specs.Typing.{Scope, HaveNoPerm, HasType, number, truth, nulls, part, variable, nots, operates, scales, divides, connects, chooses, reads, olds, applies, unfoldings, HaveTypes, no_more, more, IsTyped, AllTyped, IsTypedStmt, IsTypedBlock, IsTypedBody, IsTypedMethod, scope_after}
 use Rattle.vx_depth.specs.Entering.{Stands}
-use Rattle.vx_depth.specs.Apart.{mentioned_by_body}
 use Rattle.vx_whole.specs.Premises.{IsTypedProgram}
 use Rattle.vx_whole.specs.Closure.{mentioned_by_all, mentioned_by_contract, mentioned_by_stmt, mentioned_by_block, mentioned_by_body as mentioned_by_statements, mentioned_by_kind, InClosure, itself, further}
 use Rattle.vx_sound.proofs.World.{World}
 use Rattle.vx_sound.proofs.Speaks.{Speaks, AllSpeak, SpeaksOf, AllSpeakOf}
 use Rattle.vx_sound.proofs.Says.{HasContract, Says, AllSay, BodySays, MethodSays}
 use Rattle.vx_sound_preds.specs.Bodies.{GoodBodies}
-use Rattle.vx_sound_preds.proofs.Typed.{on_left, on_right}
 use Rattle.vx_sound_preds.proofs.Holding.{instances_world}
+use Rattle.vx_sound_preds.proofs.Speaking.{AllSeen as Seen, lefts as lefts_of, rights as rights_of}
 
--- the member of a predicate, a function and a method
+-- the member of a function
 same_some : {A : Type 0} (a b : A) → Some a ≡ Some b → a ≡ b
 same_some a b e = cc
-
-pub predicate_member : (o : Option Kind) (d : Predicate) → predicate_in o ≡ Some d → o ≡ Some (IsPredicate d)
-predicate_member (Some (IsPredicate e)) d h = ap (λ (d : Predicate). Some (IsPredicate d)) (same_some e d h)
-predicate_member None d h = cc
-predicate_member (Some (IsField t)) d h = cc
-predicate_member (Some (IsFunction g)) d h = cc
-predicate_member (Some (IsMethod m)) d h = cc
 
 pub function_member : (o : Option Kind) (g : Function) → function_in o ≡ Some g → o ≡ Some (IsFunction g)
 function_member (Some (IsFunction e)) g h = ap (λ (g : Function). Some (IsFunction g)) (same_some e g h)
@@ -34,19 +26,14 @@ function_member (Some (IsPredicate d)) g h = cc
 function_member (Some (IsMethod m)) g h = cc
 
 module _ (p : Program) (x : Name) where
-  -- x leads to all of these
-  abbrev pub AllSeen : List Name → Type 0
-  AllSeen ys = (y : Name) → Stands y ys → InClosure p x y
+  abbrev AllSeen : List Name → Type 0
+  AllSeen = Seen p x
 
-  lefts : (ys zs : List Name) → AllSeen (ys ++ zs) → AllSeen ys
-  lefts ys zs k y s = k y (on_left y ys zs s)
+  lefts : (ys zs : List Name) → Seen p x (ys ++ zs) → Seen p x ys
+  lefts = lefts_of p x
 
-  rights : (ys zs : List Name) → AllSeen (ys ++ zs) → AllSeen zs
-  rights ys zs k y s = k y (on_right y ys zs s)
-
-  -- a predicate's body mentions only what it leads to
-  pub body_seen : (i : Name) (d : Predicate) (a : Assertion) → InClosure p x i → predicate_named p i ≡ Some d → d.body ≡ Some a → AllSeen (mentioned_by a)
-  body_seen i d a c is body y s = further c (subst (λ (o : Option Kind). Stands y (mentioned_by_kind p o)) (sym (predicate_member (member_named p i) d is)) (subst (λ (b : Option Assertion). Stands y (mentioned_by_body b)) (sym body) s))
+  rights : (ys zs : List Name) → Seen p x (ys ++ zs) → Seen p x zs
+  rights = rights_of p x
 
   -- x leads to no function
   abbrev pub NoFunction : Type 0

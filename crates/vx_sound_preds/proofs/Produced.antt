@@ -1,6 +1,6 @@
 -- A body that is produced, with a snapshot or without one: where its entries are known, they are added to what is held, and
 -- what follows is cleared there. Giving it ends there too, if it ends.
-use Rattle.std.proofs.Common.{◌≡◌, ℕ, ◌≤◌, Bool, true, false, cond, List, [], ◌∷◌, ◌++◌, Option, Some, None, inl, inr, refl, sym, ◌∙◌, ap, ap₂, subst, le_refl, le_trans}
+use Rattle.std.proofs.Common.{◌≡◌, ℕ, ◌≤◌, Bool, true, false, cond, List, [], ◌∷◌, ◌++◌, Option, Some, None, inl, inr, refl, sym, ◌∙◌, ap, subst, le_refl, le_trans}
 use Rattle.std.specs.Prelude.{Ok, option_and_then}
 use Rattle.vx_frac.specs.Fractions.{Fraction, none, full, product}
 use Rattle.vx_ast.specs.declared.Place.{Place}
@@ -12,13 +12,13 @@ use Rattle.vx_meaning.specs.Values.{Value, BoolValue, RefValue, PermValue, type_
 use Rattle.vx_meaning.specs.States as run
 use Rattle.vx_meaning.specs.Evaluate as plain
 use Rattle.vx_meaning.specs.Flatten.{no_applications, entries, location_entry, instance_entry}
-use Rattle.vx_meaning.specs.Fits.{Checked, ◌>>=◌, Eventually, Fits, choose, fit_by, fit_all, field_part, instance_part, deeper, add, add_part}
-use Rattle.vx_meaning.specs.Outcomes.{Outcome, Ends, FailsAt, Stops, ends, stops, checked, passes, refused, IsOver, and_then, goes_on, is_over}
+use Rattle.vx_meaning.specs.Fits.{Checked, Eventually, Fits, choose, fit_by, fit_all, field_part, instance_part, deeper, add, add_part}
+use Rattle.vx_meaning.specs.Outcomes.{Outcome, Ends, FailsAt, Stops, ends, stops, checked, passes, refused, IsOver, goes_on, is_over}
 use Rattle.vx_meaning.specs.Give.{when, side, give, give_part}
-use Rattle.vx_terms.specs.Sorts.{Sort, BoolSort, RealSort, SnapSort}
+use Rattle.vx_terms.specs.Sorts.{Sort, RealSort, SnapSort}
 use Rattle.vx_terms.specs.Terms.{Term}
-use Rattle.vx_terms.specs.Build.{equals, unit, pair, wrap, first, second, unwrap, written_first, written_second}
-use Rattle.vx_terms.specs.Interpretations.{Interpretation, TreeElement, Tree, Empty, Pair, IsOf, as_bool, as_fraction, value, IsTrueIn}
+use Rattle.vx_terms.specs.Build.{equals, unit, pair, wrap, first, second, unwrap}
+use Rattle.vx_terms.specs.Interpretations.{Interpretation, TreeElement, Tree, Empty, Pair, IsOf, as_bool, as_fraction, value}
 use Rattle.vx_rules.specs.States as rules
 use Rattle.vx_rules.specs.States.{sort_of_type}
 use Rattle.vx_rules.specs.Trees.{Step}
@@ -31,10 +31,10 @@ use Rattle.vx_elements.proofs.Elements.{element, element_is, bool_value_is}
 use Rattle.vx_elements.proofs.Eventually.{always, eventually, both_eventually, one_answer, no_refusal}
 use Rattle.vx_elements.proofs.Truth.{is_equal}
 use Rattle.vx_elements.proofs.Values.{value_typed, sort_of_field}
-use Rattle.vx_amounts.proofs.Amounts.{Le, Positive, Same, le-trans, none-full}
+use Rattle.vx_amounts.proofs.Amounts.{Le, Same, none-full}
 use Rattle.vx_sound.specs.Snapshots.{leaf, location_leaf, truth_leaf, assertion_tree, tree_by}
 use Rattle.vx_sound.proofs.World.{at_field, World}
-use Rattle.vx_sound.proofs.Standard.{IsStandard, IsWritten, leaf_of, leaf_is, unit_value, pair_value, first_value, second_value, wrap_value, unwrap_value, first_written, second_written, name_written, good_unit, good_pair, good_first, good_second, good_wrap, good_unwrap}
+use Rattle.vx_sound.proofs.Standard.{IsWritten, leaf_of, leaf_is, unit_value, pair_value, first_value, second_value, wrap_value, unwrap_value, first_written, second_written, name_written, good_unit, good_pair, good_first, good_second, good_wrap, good_unwrap}
 use Rattle.vx_sound.proofs.Speaks.{Speaks, SpeaksOf}
 use Rattle.vx_sound.proofs.Passes.{Cleared}
 use Rattle.vx_sound.proofs.Stands.{IsThere, StoreStands, Stands, stands_fact, next_after_fact}
@@ -43,7 +43,6 @@ use Rattle.vx_sound.proofs.Puts.{put_stands}
 use Rattle.vx_sound.proofs.Goes.{Goes, Evaluates, goes_after, reached, forked, Named, named}
 use Rattle.vx_sound.proofs.Evaluate.{UnfoldsGo, bind_ok, eval_goes}
 use Rattle.vx_sound.proofs.Giving.{next_after_put, ScaleStands, scale_later, put_fresh, Located, located, InstanceLocated, instance_located}
-use Rattle.vx_sound.proofs.Assertions.{by_side}
 use Rattle.vx_sound_preds.specs.Bodies.{RigidStore, Rigid, IsPlain, ArePlain, IsPlainBody, GoodBodies}
 use Rattle.vx_sound_preds.proofs.Fitting.{step, some_is}
 use Rattle.vx_sound_preds.proofs.Flats.{After, came}

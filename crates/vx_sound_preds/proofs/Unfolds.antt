@@ -1,15 +1,15 @@
 -- An instance that is exchanged for its body: at every depth an `unfolding` goes, and so does an unfold.
-use Rattle.std.proofs.Common.{◌≡◌, ℕ, zero, suc, ◌≤◌, Bool, true, false, cond, ◌&&◌, List, [], ◌∷◌, Option, Some, None, refl, sym, ◌∙◌, ap, subst, arith, le_refl, le_trans}
-use Rattle.std.specs.Prelude.{Ok, Err}
-use Rattle.vx_frac.specs.Fractions.{Fraction, none, at_most, is_positive}
+use Rattle.std.proofs.Common.{◌≡◌, ℕ, zero, suc, ◌≤◌, Bool, true, false, ◌&&◌, List, Option, Some, None, refl, sym, ◌∙◌, ap, subst, arith, le_trans}
+use Rattle.std.specs.Prelude.{Ok}
+use Rattle.vx_frac.specs.Fractions.{Fraction}
 use Rattle.vx_ast.specs.declared.Place.{Place}
 use Rattle.vx_ast.specs.Syntax.{Name, Program, Predicate, predicate_named, Assertion}
 use Rattle.vx_meaning.specs.Values.{Value}
 use Rattle.vx_meaning.specs.States as run
 use Rattle.vx_meaning.specs.States.{bind}
-use Rattle.vx_meaning.specs.Flatten.{bare, entries, IsGrounded}
+use Rattle.vx_meaning.specs.Flatten.{bare, IsGrounded}
 use Rattle.vx_meaning.specs.Consistent.{IsConsistent}
-use Rattle.vx_meaning.specs.Fits.{Checked, ◌>>=◌, guard, to_option, has_instance, Eventually, exchange, add, deeper}
+use Rattle.vx_meaning.specs.Fits.{◌>>=◌, guard, to_option, has_instance, Eventually, exchange, add, deeper}
 use Rattle.vx_meaning.specs.Outcomes.{Outcome, Ends, FailsAt, Stops, Outcomes, ends, checked, passes, refused, IsOver, and_then, goes_on, is_over, failing_at}
 use Rattle.vx_meaning.specs.Give.{give}
 use Rattle.vx_meaning.specs.Run as meaning
@@ -18,15 +18,14 @@ use Rattle.vx_terms.specs.Terms.{Term}
 use Rattle.vx_terms.specs.Interpretations.{Interpretation, TreeElement, Tree, as_fraction, value}
 use Rattle.vx_rules.specs.States as rules
 use Rattle.vx_rules.specs.Trees.{UnfoldCode, AssertCode, Tree as Questions}
-use Rattle.vx_rules.specs.Chunks.{instance_key}
-use Rattle.vx_rules.specs.Rules.{Going, Outer, outer, nowhere, never, entered, back, leads_inside, unfolded, produce}
+use Rattle.vx_rules.specs.Rules.{Going, outer, nowhere, never, entered, back, leads_inside, unfolded, produce}
 use Rattle.vx_types.specs.Typing.{Scope, HaveNoPerm, IsTyped}
 use Rattle.vx_elements.proofs.Settled.{Meaning, extends-trans, value_kept}
 use Rattle.vx_elements.proofs.Built.{Good, good_later}
-use Rattle.vx_elements.proofs.Eventually.{always, one_answer, no_refusal}
+use Rattle.vx_elements.proofs.Eventually.{always, no_refusal}
 use Rattle.vx_amounts.proofs.Amounts.{Le, Positive, Same, le-trans, positive-le}
 use Rattle.vx_amounts.proofs.Products.{positive_le}
-use Rattle.vx_sound.specs.Snapshots.{assertion_tree, tree_by, IsTree}
+use Rattle.vx_sound.specs.Snapshots.{tree_by, IsTree}
 use Rattle.vx_sound.proofs.World.{World}
 use Rattle.vx_sound.proofs.Standard.{IsWritten}
 use Rattle.vx_sound.proofs.Speaks.{SpeaksOf}
@@ -35,9 +34,9 @@ use Rattle.vx_sound.proofs.Stands.{Stands, store_later, terms_later}
 use Rattle.vx_sound.proofs.Candidates.{InstanceTerms, of_instance, values_typed}
 use Rattle.vx_sound.proofs.Goes.{Goes, stuck}
 use Rattle.vx_sound.proofs.Arguments.{bound}
-use Rattle.vx_sound.proofs.Evaluate.{Opens, UnfoldsGo}
+use Rattle.vx_sound.proofs.Evaluate.{UnfoldsGo}
 use Rattle.vx_sound.proofs.Giving.{ScaleStands, Taken, take_one}
-use Rattle.vx_sound.proofs.Assertions.{Leaves, leaves_after, ends_leaves}
+use Rattle.vx_sound.proofs.Assertions.{Leaves, ends_leaves}
 use Rattle.vx_sound.proofs.Steps.{UnfoldGo}
 use Rattle.vx_sound_preds.specs.Bodies.{Rigid, GoodBodies}
 use Rattle.vx_sound_preds.proofs.Looks.{Sees}

@@ -1,5 +1,5 @@
 -- Where the walks of all predicates passed, proper instances are covered, and a predicate whose walk passed doesn't fail.
-use Rattle.std.proofs.Common.{◌≡◌, ℕ, suc, ◌+◌, true, false, List, [], ◌∷◌, Option, Some, None, refl, sym, ◌∙◌, ap, subst, arith, le_refl}
+use Rattle.std.proofs.Common.{◌≡◌, ℕ, suc, ◌+◌, false, List, [], ◌∷◌, Option, Some, None, refl, sym, ◌∙◌, ap, subst, arith, le_refl}
 use Rattle.std.specs.Prelude.{Ok, option_and_then, unwrap_or}
 use Rattle.vx_frac.specs.Fractions.{none, full, product}
 use Rattle.vx_ast.specs.Syntax.{Name, Declaration, Program, Predicate, IsPredicate, Assertion, predicate_named}
@@ -16,10 +16,9 @@ use Rattle.vx_meaning.specs.Fails as fails
 use Rattle.vx_terms.specs.Build.{whole_amount}
 use Rattle.vx_rules.specs.States as rules
 use Rattle.vx_rules.specs.Trees.{Tree, End}
-use Rattle.vx_rules.specs.Rules.{outer, produce}
+use Rattle.vx_rules.specs.Rules.{produce}
 use Rattle.vx_rules.specs.Members.{depth, rules as member_rules, blank, ended, tree}
-use Rattle.vx_types.specs.Typing.{HaveNoPerm, IsTyped, IsTypedContent}
-use Rattle.vx_whole.specs.Premises.{IsTypedProgram}
+use Rattle.vx_types.specs.Typing.{HaveNoPerm}
 use Rattle.vx_whole.specs.Closure.{InClosure}
 use Rattle.vx_elements.proofs.Settled.{Meaning}
 use Rattle.vx_amounts.proofs.Amounts.{Le, Positive, le-refl, le-trans, le-is, not-positive, positive-or, above-add, below-add, sum_same, full-positive}
@@ -33,7 +32,7 @@ use Rattle.vx_sound.proofs.Goes.{Goes, declared_all}
 use Rattle.vx_sound.proofs.Evaluate.{UnfoldsGo}
 use Rattle.vx_sound.proofs.Giving.{whole_scale}
 use Rattle.vx_sound.proofs.Assertions.{give_goes}
-use Rattle.vx_sound_preds.specs.Bodies.{IsPlainBody, Rigid, GoodBodies}
+use Rattle.vx_sound_preds.specs.Bodies.{GoodBodies}
 use Rattle.vx_sound_preds.specs.Covered.{AllGood, Covered, IsProper, PredicatesPass}
 use Rattle.vx_sound_preds.proofs.Fitting.{some_is}
 use Rattle.vx_sound_preds.proofs.Flats.{came, flat_later}
