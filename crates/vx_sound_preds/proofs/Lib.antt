@@ -29,3 +29,5 @@ pub mod Keeping
 pub mod Kept
 pub mod Soundness
 pub mod Worked
+pub mod WorkedFolds
+pub mod FailingFold

@@ -2,3 +2,4 @@ pub mod InstanceLanguage
 pub mod Bodies
 pub mod Covered
 pub mod Examples
+pub mod FoldExamples

@@ -4,7 +4,7 @@
 
 ghost use Rattle.std.specs.Prelude.{◌≡◌, ℕ, [], ◌∷◌, List, true, false, Some};
 ghost use Rattle.vx_frac.specs.Fractions.{Fraction, none, full, at_most, is_positive};
-ghost use Rattle.vx_ast.specs.Syntax.{Name, Program, Predicate, IsPredicate, Assertion, predicate_named};
+ghost use Rattle.vx_ast.specs.Syntax.{Name, Program, Predicate, IsPredicate, IsMethod, Assertion, predicate_named};
 ghost use Rattle.vx_terms.specs.Interpretations.{Tree};
 ghost use Rattle.vx_meaning.specs.States.{State, Heap, Holdings, Location, Instance, Folded, amount, with_heap};
 ghost use Rattle.vx_meaning.specs.Flatten.{flat, IsGrounded};
@@ -16,10 +16,15 @@ ghost use Rattle.vx_whole.specs.Premises.{IsTypedProgram};
 ghost use Rattle.vx_sound_preds.specs.Bodies.{GoodBodies};
 ghost use Rattle.vx_sound_preds.specs.Examples.{f, P, instance_of, cell, cells, chain, chains, loops, owes, owing, remembers};
 ghost use Rattle.vx_sound_preds.specs.Covered.{Covered, IsProper, PredicatesPass, IsStocked};
-ghost use Rattle.vx_meaning.specs.Fails.{Fails};
+ghost use Rattle.vx_sound_preds.specs.FoldExamples.{m, renews, renewed, spoils, spoilt};
+ghost use Rattle.vx_meaning.specs.Fails.{Fails, MethodFails};
+ghost use Rattle.vx_rules.specs.Trees.{FoldCode, Failed, walk};
+ghost use Rattle.vx_rules.specs.Members.{method_tree};
+ghost use Rattle.vx_sound.specs.Examples.{on_line};
 ghost use Rattle.vx_sound.specs.Law.{Passes, SoundLaw};
 ghost use Rattle.vx_sound_preds.specs.InstanceLanguage.{IsInstanceMember};
 ghost use Rattle.vx_smt_meaning.specs.declared.reply.Reply.{Reply};
+ghost use Rattle.vx_smt_meaning.specs.declared.reply.Reply.TheVariants.{Unsat, Sat};
 
 /// What lies inside an instance is the same for all fuel that suffices, and so is the tree of its values; where the one is
 /// known, so is the other.
@@ -88,4 +93,19 @@ pub fn changes_keep_what_is_held()
 /// members that one leads to passed, with right unsat replies, it doesn't fail.
 pub fn instance_members_are_sound()
     ensures { SoundLaw IsInstanceMember }
+{}
+
+/// A method that unfolds an instance, writes within it and folds it again is of a typed program, and its walk and the predicate's
+/// pass; so it never fails.
+pub fn a_method_that_folds_never_fails()
+    ensures typed { IsTypedProgram renewed }
+    ensures passes { Passes renewed m (IsMethod renews) (Unsat ∷ []) }
+    ensures predicate { Passes renewed P (IsPredicate cell) (Unsat ∷ []) }
+    ensures fine { Fails renewed m (IsMethod renews) → ⊥ }
+{}
+
+/// One that writes what the predicate doesn't allow fails where it folds, and there its walk stops.
+pub fn a_fold_fails()
+    ensures fails { MethodFails spoilt spoils (on_line 5) }
+    ensures stops { (walk (method_tree spoilt spoils) (Sat ∷ [])).ending ≡ Failed (on_line 5) FoldCode Sat }
 {}
