@@ -31,3 +31,4 @@ pub mod Soundness
 pub mod Worked
 pub mod WorkedFolds
 pub mod FailingFold
+pub mod WorkedNested

@@ -1,8 +1,10 @@
 -- A method that unfolds an instance and folds it again, and one that can't fold it.
-use Rattle.std.specs.Prelude.{codes, [], ◌∷◌, Some}
+use Rattle.std.specs.Prelude.{codes, ℕ, [], ◌∷◌, Some}
 use Rattle.vx_ast.specs.declared.ValueType.TheVariants.{Int}
 use Rattle.vx_ast.specs.declared.ValueType.TheVariants as type
-use Rattle.vx_ast.specs.Syntax.{Name, Program, IsField, IsPredicate, IsMethod, Method, Expr, Number, Part, Variable, Operate, Equal, Read, Unfolding, Exprs, NoMore, More, Assertion, Pure, Instance, Write, Assert, Fold, Unfold, Block, Done, Then}
+use Rattle.vx_ast.specs.Syntax.{Name, Program, IsField, IsPredicate, IsMethod, Predicate, Method, Expr, Number, Part, Variable, Operate, Equal, Read, Unfolding, Exprs, NoMore, More, Assertion, Pure, Instance, Both, Write, Assert, Fold, Unfold, Block, Done, Then}
+use Rattle.vx_meaning.specs.Values.{RefValue}
+use Rattle.vx_meaning.specs.States as run
 use Rattle.vx_sound.specs.Examples.{on_line}
 use Rattle.vx_sound_preds.specs.Examples.{x, f, P, cell}
 
@@ -65,3 +67,21 @@ spoils = record {
 -- the same program with m as `spoils`
 abbrev pub spoilt : Program
 spoilt = record { name = f; kind = IsField Int } ∷ record { name = P; kind = IsPredicate cell } ∷ record { name = m; kind = IsMethod spoils } ∷ []
+
+abbrev pub Q : Name
+Q = codes "Q"
+
+-- predicate Q(x: Ref) { P(x) && unfolding acc(P(x), write) in x.f == 0 }
+abbrev pub holder_body : Assertion
+holder_body = Both a_cell (Pure inside_zero)
+
+abbrev pub holder : Predicate
+holder = record { place = on_line 3; parameters = record { name = x; of = type.Ref } ∷ []; body = Some holder_body }
+
+-- field f: Int, the predicate P of cells of zero, and Q
+abbrev pub nested : Program
+nested = record { name = f; kind = IsField Int } ∷ record { name = P; kind = IsPredicate cell } ∷ record { name = Q; kind = IsPredicate holder } ∷ []
+
+-- Q(r)
+abbrev pub its_instance : ℕ → run.Instance
+its_instance r = record { predicate = Q; arguments = RefValue r ∷ [] }

@@ -16,7 +16,7 @@ ghost use Rattle.vx_whole.specs.Premises.{IsTypedProgram};
 ghost use Rattle.vx_sound_preds.specs.Bodies.{GoodBodies};
 ghost use Rattle.vx_sound_preds.specs.Examples.{f, P, instance_of, cell, cells, chain, chains, loops, owes, owing, remembers};
 ghost use Rattle.vx_sound_preds.specs.Covered.{Covered, IsProper, PredicatesPass, IsStocked};
-ghost use Rattle.vx_sound_preds.specs.FoldExamples.{m, renews, renewed, spoils, spoilt};
+ghost use Rattle.vx_sound_preds.specs.FoldExamples.{m, renews, renewed, spoils, spoilt, Q, holder, nested, its_instance};
 ghost use Rattle.vx_meaning.specs.Fails.{Fails, MethodFails};
 ghost use Rattle.vx_rules.specs.Trees.{FoldCode, Failed, walk};
 ghost use Rattle.vx_rules.specs.Members.{method_tree};
@@ -108,4 +108,13 @@ pub fn a_method_that_folds_never_fails()
 pub fn a_fold_fails()
     ensures fails { MethodFails spoilt spoils (on_line 5) }
     ensures stops { (walk (method_tree spoilt spoils) (Sat ∷ [])).ending ≡ Failed (on_line 5) FoldCode Sat }
+{}
+
+/// A predicate with an `unfolding` in its body: its walk passes, so it never fails, and its proper instances are covered.
+pub fn a_body_that_unfolds_is_covered()
+    ensures typed { IsTypedProgram nested }
+    ensures passes { Passes nested Q (IsPredicate holder) [] }
+    ensures fine { Fails nested Q (IsPredicate holder) → ⊥ }
+    ensures covered { Covered nested (IsProper nested Q) }
+    ensures proper { IsProper nested Q [] (its_instance 1) }
 {}
