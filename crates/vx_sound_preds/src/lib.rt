@@ -1,5 +1,5 @@
-//! What holds of instances of predicates: their trees, and how a state that can be is kept by giving, taking, folding and
-//! changing; which bodies of predicates are good, and which are covered by what they give.
+//! The soundness law with predicates, and what it stands on: the trees of instances, how a state that can be is kept by giving,
+//! taking, folding and changing, which bodies of predicates are good, and that they are covered by what they give.
 #![tactic(auto)]
 
 ghost use Rattle.std.specs.Prelude.{◌≡◌, ℕ, [], ◌∷◌, List, true, false, Some};
