@@ -354,7 +354,7 @@ module _ (means : Meaning) (p : Program) (good : GoodBodies p) (Held : Name → 
             let a_kept = value_kept means l.amount l.amount_good.settled m.extends in
             let g = put_known (keys_later means world m.later m.extends l.keys) l.amount (produced_value (field_sort p f) (Some t) l.state) (product q l.fraction) s.inner on m.stands (good_later means m.later m.extends l.amount_good)
             (subst (λ e. Same (as_fraction e) (product q l.fraction)) (sym a_kept) l.amount_is) (subst (λ e. Le none (as_fraction e)) (sym a_kept) l.sign) m.good_value (λ e. absurd (not_both e)) m.value_is there h in
-            record { interp = g.interp; state = g.state; extends = extends-trans means m.later m.extends g.extends; later = le_trans m.later g.later; stands = g.stands; cleared = g.cleared }
+            record { interp = g.interp; state = g.state; extends = extends-trans means {k = g.interp} m.later m.extends g.extends; later = le_trans {k = g.state.next} m.later g.later; stands = g.stands; cleared = g.cleared }
           where
             not_both : ◌≡◌ {A = Bool} true false → ⊥
             not_both e = cc
@@ -405,7 +405,7 @@ module _ (means : Meaning) (p : Program) (good : GoodBodies p) (Held : Name → 
             let a_kept = value_kept means l.amount l.amount_good.settled m.extends in
             let g = put_known (keys_later means world m.later m.extends keys) l.amount (rules.name_of t l.state) (product q l.fraction) s.inner on m.stands (good_later means m.later m.extends l.amount_good)
             (subst (λ e. Same (as_fraction e) (product q l.fraction)) (sym a_kept) l.amount_is) (subst (λ e. Le none (as_fraction e)) (sym a_kept) l.sign) m.good (λ e. name_written t l.state l.stands.awake) (sn.tree, (sn.fuel, tree_is), m.value_is ∙ sn.value_is) there h in
-            record { interp = g.interp; state = g.state; extends = extends-trans means m.later m.extends g.extends; later = le_trans m.later g.later; stands = g.stands; cleared = g.cleared }
+            record { interp = g.interp; state = g.state; extends = extends-trans means {k = g.interp} m.later m.extends g.extends; later = le_trans {k = g.state.next} m.later g.later; stands = g.stands; cleared = g.cleared }
 
     -- one part after the other
     both_adds : (q : Fraction) (a b : Assertion) (c u v : run.State) → Eventually (λ n. add p (deeper p n) q a c ≡ Ok u) → Eventually (λ n. add p (deeper p n) q b u ≡ Ok v) → Eventually (λ n. add p (deeper p n) q (Both a b) c ≡ Ok v)
