@@ -9,7 +9,7 @@ use Rattle.vx_terms.specs.Interpretations.{Element, IntElement, BoolElement, Rea
 abbrev pub Meaning : Type 1
 Meaning = ℕ → List Element → Element → Type 0
 
-as_sort_same : (a : Sort) (e : Element) → IsOf a e → as_sort a e ≡ e
+pub as_sort_same : (a : Sort) (e : Element) → IsOf a e → as_sort a e ≡ e
 as_sort_same IntSort (IntElement z) h = refl
 as_sort_same BoolSort (BoolElement b) h = refl
 as_sort_same RealSort (RealElement x) h = ap RealElement h

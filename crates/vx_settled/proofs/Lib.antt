@@ -9,5 +9,6 @@ pub mod NumberedNames
 pub mod KeptApart
 pub mod Recursions
 pub mod ConstantAmounts
+pub mod SaidNow
 pub mod TypedPrograms
 pub mod CallingMembers

@@ -22,12 +22,14 @@ use Rattle.vx_typing.specs.Members as members
 use Rattle.vx_typing.specs.Members.{table_of, AreDeclared, AreTypedClauses, IsMeasure, AreTypedMembers, IsTypedKind}
 use Rattle.vx_types.specs.Typing as settled_typing
 use Rattle.vx_types.specs.Typing.{Scope, type_in, AreOnce, HaveNoPerm, HasType, AllTyped, AreTruths, IsTypedContent, IsTypedMeasure, IsTypedPredicate, IsTypedFunction, IsTypedMethod}
+use Rattle.vx_whole.specs.Now.{SaysNow}
 use Rattle.vx_whole.specs.Premises.{HasConstantAmounts}
 use Rattle.vx_settled.specs.WhenSettled.{LeavesResult, LeaveResults, TypedProgramWhenSettled}
 use Rattle.vx_settled.proofs.TypedNames.{Knows, knows, same_refl, differs_back, Absent, absent, among_last}
 use Rattle.vx_settled.proofs.TypedExprs.{Sees, typed, all_typed}
 use Rattle.vx_settled.proofs.TypedClaims.{claim}
 use Rattle.vx_settled.proofs.ConstantAmounts.{claim_amounts}
+use Rattle.vx_settled.proofs.SaidNow.{claim_now}
 use Rattle.vx_settled.proofs.TypedStmts.{settled, same_types, declared_once}
 use Rattle.vx_settled.proofs.TypedMembers.{all_more, method}
 use Rattle.vx_settled.proofs.KeptApart.{kept_apart}
@@ -99,6 +101,11 @@ module _ (table : Table) (names : Names) (p : Program) (knows : Knows (named tab
   content_amounts : (ds : List written.Declaration) (body : Option written.Expr) → members.IsTypedBody table (inputs ds) body → (a : Assertion) → resolve.optional_assertion names body ≡ Some a → HasConstantAmounts a
   content_amounts ds None h a is = (cc)
   content_amounts ds (Some e) h a is = subst HasConstantAmounts (same_assertion (assertion names e) a is) (claim_amounts (within_predicate table (inputs ds)) (parameters ds) names p (predicate_sees ds) refl h)
+
+  -- and it has no `old`
+  content_now : (ds : List written.Declaration) (body : Option written.Expr) → members.IsTypedBody table (inputs ds) body → (a : Assertion) → resolve.optional_assertion names body ≡ Some a → SaysNow a
+  content_now ds None h a is = (cc)
+  content_now ds (Some e) h a is = subst SaysNow (same_assertion (assertion names e) a is) (claim_now (within_predicate table (inputs ds)) refl names h)
 
   -- ---- functions
 
@@ -198,13 +205,13 @@ module _ (table : Table) (names : Names) (p : Program) (knows : Knows (named tab
 
   abbrev TypedKind : Kind → Type 0
   TypedKind (IsField t) = ⊤
-  TypedKind (IsPredicate d) = IsTypedPredicate p d × ((a : Assertion) → d.body ≡ Some a → HasConstantAmounts a)
+  TypedKind (IsPredicate d) = IsTypedPredicate p d × ((a : Assertion) → d.body ≡ Some a → HasConstantAmounts a) × ((a : Assertion) → d.body ≡ Some a → SaysNow a)
   TypedKind (IsFunction g) = IsTypedFunction p g × Each HasConstantAmounts g.requires
   TypedKind (IsMethod m) = IsTypedMethod p m
 
   kind : (at : Place) (k : written.Kind) → IsTypedKind table k → LeavesResult k → TypedKind (resolve.kind names at k)
   kind at (written.IsField t) h away = tt
-  kind at (written.IsPredicate d) h away = (predicate at d h, content_amounts d.parameters d.body h.body)
+  kind at (written.IsPredicate d) h away = (predicate at d h, content_amounts d.parameters d.body h.body, content_now d.parameters d.body h.body)
   kind at (written.IsFunction f) h away = (function at f h away _ refl, required_amounts f.parameters f.of f.clauses h.clauses)
   kind at (written.IsMethod m) h away = method table names p knows (written.IsMethod m) at _ h refl
 
@@ -278,6 +285,7 @@ typed_program_when_settled w h away =
       functions = λ x g e. (all x (IsFunction g) (function_found (member_named p x) g e)).0;
       methods = λ x m e. all x (IsMethod m) (method_found (member_named p x) m e);
       bodies = λ x d a e is. (all x (IsPredicate d) (predicate_found (member_named p x) d e)).1 a is;
+      now = λ x d a e is. (all x (IsPredicate d) (predicate_found (member_named p x) d e)).2 a is;
       preconditions = λ x g e. (all x (IsFunction g) (function_found (member_named p x) g e)).1;
       apart = kept_apart w h;
     }

@@ -16,6 +16,7 @@ use Rattle.vx_rules.specs.States.{sort_of_type}
 use Rattle.vx_rules.specs.Rules.{Going}
 use Rattle.vx_rules.specs.Members.{forget}
 use Rattle.vx_types.specs.Typing.{Scope, type_in, AreOnce}
+use Rattle.vx_sound.proofs.World.{World}
 use Rattle.vx_sound.proofs.Passes.{Cleared}
 use Rattle.vx_elements.proofs.Settled.{Meaning, Extends, extends-trans, with_symbol, symbol_extends, fresh_value}
 use Rattle.vx_elements.proofs.Built.{Good}
@@ -128,9 +129,12 @@ assigned done xs x v (a ∷ w) (b ∷ y) once l h =
 assigned done xs x v [] (b ∷ y) once l h = absurd h
 assigned done xs x v (a ∷ w) [] once l h = absurd h
 
-module _ (means : Meaning) (p : Program) where
+module _ (means : Meaning) (world : World) where
+  abbrev p : Program
+  p = world.program
+
   module _ (n : ℕ) (i : Interpretation) where
-    absent : (x : Name) (scope : Scope) (xs : rules.Store) (w : Store) → StoreStands means p n i scope xs w → rules.is_stored x xs ≡ false → lookup x w ≡ None
+    absent : (x : Name) (scope : Scope) (xs : rules.Store) (w : Store) → StoreStands means world n i scope xs w → rules.is_stored x xs ≡ false → lookup x w ≡ None
     absent x [] [] [] h e = refl
     absent x (d ∷ ds) (a ∷ xs) (b ∷ w) h e =
         subst (λ z. cond (same_name x z) (Some b.1) (lookup x w) ≡ None) (h.0.symbolic_name ∙ sym h.0.name) (go (same_name x a.0) e (absent x ds xs w h.1))
@@ -150,7 +154,7 @@ module _ (means : Meaning) (p : Program) where
       pub is : lookup x y ≡ Some target
       pub typed : type_of target ≡ of
 
-    known : (done zs : List Name) (x : Name) (scope : Scope) (xs : rules.Store) (w y : Store) → StoreStands means p n i scope xs w → Toward done zs w y → rules.is_stored x xs ≡ true → Known x scope y
+    known : (done zs : List Name) (x : Name) (scope : Scope) (xs : rules.Store) (w y : Store) → StoreStands means world n i scope xs w → Toward done zs w y → rules.is_stored x xs ≡ true → Known x scope y
     known done zs x [] [] [] y h t e = cc
     known done zs x (d ∷ ds) (a ∷ xs) (b ∷ w) (c ∷ y) h t e = go (same_name x a.0) refl e (λ m. known done zs x ds xs w y h.1 t.3 m)
       where
@@ -178,21 +182,21 @@ module _ (means : Meaning) (p : Program) where
     known done zs x (d ∷ ds) (a ∷ xs) [] y h t e = absurd h
 
   -- the store that a loop leaves
-  pub forget_goes : (done xs : List Name) (y : Store) {scope : Scope} {i : Interpretation} {s : rules.State} {c : run.State} (on : Going) → AreOnce scope → Stands means p scope i s c → Toward done xs c.store y →
-      Cleared (on (forget done xs s)) → Goes means p scope i s.next on (run.with_store y c)
-  forget_goes done [] y {scope = scope} {i = i} {s = s} {c = c} on once st t h = subst (λ z. Goes means p scope i s.next on (run.with_store z c)) (toward_end done c.store y t) (here means p on st h)
+  pub forget_goes : (done xs : List Name) (y : Store) {scope : Scope} {i : Interpretation} {s : rules.State} {c : run.State} (on : Going) → AreOnce scope → Stands means world scope i s c → Toward done xs c.store y →
+      Cleared (on (forget done xs s)) → Goes means world scope i s.next on (run.with_store y c)
+  forget_goes done [] y {scope = scope} {i = i} {s = s} {c = c} on once st t h = subst (λ z. Goes means world scope i s.next on (run.with_store z c)) (toward_end done c.store y t) (here means world on st h)
   forget_goes done (x ∷ xs) y {scope = scope} {i = i} {s = s} {c = c} on once st t h =
       go (rules.is_stored x s.store) refl (is_among x done) refl h (λ m. forget_goes done xs y on once st m) (λ j s1 c1 st1 m. forget_goes (x ∷ done) xs y on once st1 m)
     where
       go : (a : Bool) → rules.is_stored x s.store ≡ a → (b : Bool) → is_among x done ≡ b →
           Cleared (on (cond (a && not b) (forget (x ∷ done) xs (rules.with_store (rules.assign x (rules.fresh (sort_of (rules.found x s.store)) s) s.store) (rules.after_fresh s))) (forget done xs s))) →
-          (Toward done xs c.store y → Cleared (on (forget done xs s)) → Goes means p scope i s.next on (run.with_store y c)) →
-          ((j : Interpretation) (s1 : rules.State) (c1 : run.State) → Stands means p scope j s1 c1 → Toward (x ∷ done) xs c1.store y → Cleared (on (forget (x ∷ done) xs s1)) → Goes means p scope j s1.next on (run.with_store y c1)) →
-          Goes means p scope i s.next on (run.with_store y c)
+          (Toward done xs c.store y → Cleared (on (forget done xs s)) → Goes means world scope i s.next on (run.with_store y c)) →
+          ((j : Interpretation) (s1 : rules.State) (c1 : run.State) → Stands means world scope j s1 c1 → Toward (x ∷ done) xs c1.store y → Cleared (on (forget (x ∷ done) xs s1)) → Goes means world scope j s1.next on (run.with_store y c1)) →
+          Goes means world scope i s.next on (run.with_store y c)
       go false e b f h skip step = skip (skip_absent done xs x c.store y (absent s.next i x scope s.store c.store st.store e) t) h
       go true e true f h skip step = skip (skip_done done xs x c.store y f t) h
       go true e false f h skip step =
-          let g = step j (rules.with_store (rules.assign x u s.store) (rules.after_fresh s)) (run.with_store (run.assign x k.target c.store) c) st2 (assigned done xs x k.target c.store y (names_once means p s.next i scope s.store c.store once st.store) k.is t) h in
+          let g = step j (rules.with_store (rules.assign x u s.store) (rules.after_fresh s)) (run.with_store (run.assign x k.target c.store) c) st2 (assigned done xs x k.target c.store y (names_once means world s.next i scope s.store c.store once st.store) k.is t) h in
           record { interp = g.interp; state = g.state; extends = extends-trans means le ext g.extends; later = le_trans le g.later; stands = g.stands; cleared = g.cleared }
         where
           k : Known s.next i x scope y
@@ -211,17 +215,17 @@ module _ (means : Meaning) (p : Program) where
           le = le_of_lt (lt-suc_self s.next)
 
           sort_is : sort_of (rules.found x s.store) ≡ sort_of_type k.of
-          sort_is = sort_of_formed (found_stands means p x k.of scope s.store c.store st.store k.declared).good.formed
+          sort_is = sort_of_formed (found_stands means world x k.of scope s.store c.store st.store k.declared).good.formed
 
-          st1 : Stands means p scope j (rules.after_fresh s) c
-          st1 = stands_later means p (suc s.next) le ext st
+          st1 : Stands means world scope j (rules.after_fresh s) c
+          st1 = stands_later means world (suc s.next) le ext st
 
           of_sort : IsOf (sort_of (rules.found x s.store)) (element k.target)
           of_sort = subst (λ a. IsOf a (element k.target)) (ap sort_of_type k.typed ∙ sym sort_is) (element_is k.target)
 
           good : Good means (suc s.next) j (rules.fresh (sort_of (rules.found x s.store)) s) (sort_of_type k.of)
-          good = subst (λ a. Good means (suc s.next) j (rules.fresh (sort_of (rules.found x s.store)) s) a) sort_is (good_fresh means p i s.next (element k.target) (sort_of (rules.found x s.store)))
+          good = subst (λ a. Good means (suc s.next) j (rules.fresh (sort_of (rules.found x s.store)) s) a) sort_is (good_fresh means world i s.next (element k.target) (sort_of (rules.found x s.store)))
 
-          st2 : Stands means p scope j (rules.with_store (rules.assign x (rules.fresh (sort_of (rules.found x s.store)) s) s.store) (rules.after_fresh s)) (run.with_store (run.assign x k.target c.store) c)
-          st2 = stands_with_store means p scope (rules.assign x u s.store) (run.assign x k.target c.store) st1
-              (store_assign means p x k.of u k.target scope s.store c.store st1.store k.declared k.typed good (fresh_value means i s.next (element k.target) (sort_of (rules.found x s.store)) of_sort))
+          st2 : Stands means world scope j (rules.with_store (rules.assign x (rules.fresh (sort_of (rules.found x s.store)) s) s.store) (rules.after_fresh s)) (run.with_store (run.assign x k.target c.store) c)
+          st2 = stands_with_store means world scope (rules.assign x u s.store) (run.assign x k.target c.store) st1
+              (store_assign means world x k.of u k.target scope s.store c.store st1.store k.declared k.typed good (fresh_value means i s.next (element k.target) (sort_of (rules.found x s.store)) of_sort))

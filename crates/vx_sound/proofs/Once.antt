@@ -1,12 +1,13 @@
 -- Names of variables that stand once.
 use Rattle.std.proofs.Common.{subst, true≢false, ◌≡◌, ◌≢◌, ℕ, Bool, true, false, cond, [], ◌∷◌, ◌++◌, Some, None, refl, sym, ◌∙◌, ap}
-use Rattle.vx_ast.specs.Syntax.{Name, same_name, Declaration, Program}
+use Rattle.vx_ast.specs.Syntax.{Name, same_name, Declaration}
 use Rattle.vx_meaning.specs.Values.{RefValue}
 use Rattle.vx_meaning.specs.States.{Store, lookup}
 use Rattle.vx_rules.specs.States as rules
 use Rattle.vx_terms.specs.Interpretations.{Interpretation}
 use Rattle.vx_types.specs.Typing.{Scope, type_in, AreOnce}
 use Rattle.vx_elements.proofs.Settled.{Meaning}
+use Rattle.vx_sound.proofs.World.{World}
 use Rattle.vx_sound.proofs.Stands.{StoreStands}
 use Rattle.vx_elements.proofs.Lists.{name_is, name_same}
 
@@ -31,26 +32,26 @@ not_stored r (a ∷ rest) u h = ((λ e. h a.0 (ap (λ b. cond b (Some a.1) (look
         none e = cc
     go x false m e = e
 
-not_found : (means : Meaning) (p : Program) (n : ℕ) (i : Interpretation) (x : Name) (scope : Scope) (xs : rules.Store) (ys : Store) → StoreStands means p n i scope xs ys → type_in x scope ≡ None → lookup x ys ≡ None
-not_found means p n i x [] [] [] h e = refl
-not_found means p n i x (d ∷ ds) (a ∷ xs) (b ∷ ys) h e = subst (λ y. cond (same_name x y) (Some b.1) (lookup x ys) ≡ None) (sym h.0.name) (go (same_name x d.name) e (not_found means p n i x ds xs ys h.1))
+not_found : (means : Meaning) (world : World) (n : ℕ) (i : Interpretation) (x : Name) (scope : Scope) (xs : rules.Store) (ys : Store) → StoreStands means world n i scope xs ys → type_in x scope ≡ None → lookup x ys ≡ None
+not_found means world n i x [] [] [] h e = refl
+not_found means world n i x (d ∷ ds) (a ∷ xs) (b ∷ ys) h e = subst (λ y. cond (same_name x y) (Some b.1) (lookup x ys) ≡ None) (sym h.0.name) (go (same_name x d.name) e (not_found means world n i x ds xs ys h.1))
   where
     go : (q : Bool) → cond q (Some d.of) (type_in x ds) ≡ None → (type_in x ds ≡ None → lookup x ys ≡ None) → cond q (Some b.1) (lookup x ys) ≡ None
     go true e next = cc
     go false e next = next e
-not_found means p n i x [] [] (b ∷ ys) h e = absurd h
-not_found means p n i x [] (a ∷ xs) ys h e = absurd h
-not_found means p n i x (d ∷ ds) [] ys h e = absurd h
-not_found means p n i x (d ∷ ds) (a ∷ xs) [] h e = absurd h
+not_found means world n i x [] [] (b ∷ ys) h e = absurd h
+not_found means world n i x [] (a ∷ xs) ys h e = absurd h
+not_found means world n i x (d ∷ ds) [] ys h e = absurd h
+not_found means world n i x (d ∷ ds) (a ∷ xs) [] h e = absurd h
 
-pub names_once : (means : Meaning) (p : Program) (n : ℕ) (i : Interpretation) (scope : Scope) (xs : rules.Store) (ys : Store) → AreOnce scope → StoreStands means p n i scope xs ys → NamesOnce ys
-names_once means p n i [] [] [] once h = tt
-names_once means p n i (d ∷ ds) (a ∷ xs) (b ∷ ys) once h =
-    (subst (λ y. lookup y ys ≡ None) (sym h.0.name) (not_found means p n i d.name ds xs ys h.1 once.0), names_once means p n i ds xs ys once.1 h.1)
-names_once means p n i [] [] (b ∷ ys) once h = absurd h
-names_once means p n i [] (a ∷ xs) ys once h = absurd h
-names_once means p n i (d ∷ ds) [] ys once h = absurd h
-names_once means p n i (d ∷ ds) (a ∷ xs) [] once h = absurd h
+pub names_once : (means : Meaning) (world : World) (n : ℕ) (i : Interpretation) (scope : Scope) (xs : rules.Store) (ys : Store) → AreOnce scope → StoreStands means world n i scope xs ys → NamesOnce ys
+names_once means world n i [] [] [] once h = tt
+names_once means world n i (d ∷ ds) (a ∷ xs) (b ∷ ys) once h =
+    (subst (λ y. lookup y ys ≡ None) (sym h.0.name) (not_found means world n i d.name ds xs ys h.1 once.0), names_once means world n i ds xs ys once.1 h.1)
+names_once means world n i [] [] (b ∷ ys) once h = absurd h
+names_once means world n i [] (a ∷ xs) ys once h = absurd h
+names_once means world n i (d ∷ ds) [] ys once h = absurd h
+names_once means world n i (d ∷ ds) (a ∷ xs) [] once h = absurd h
 
 -- a further variable with a name of its own
 pub once_more : (scope : Scope) (d : Declaration) → AreOnce scope → type_in d.name scope ≡ None → AreOnce (scope ++ d ∷ [])

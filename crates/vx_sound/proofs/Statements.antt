@@ -1,5 +1,5 @@
 -- No run of a cleared statement fails, and what follows one that ends is cleared at its state.
-use Rattle.std.proofs.Common.{◌≡◌, ℕ, Bool, true, false, not, cond, ◌⊎◌, inl, inr, List, [], ◌∷◌, ◌++◌, length, take, slice_set, Some, None, refl, sym, ◌∙◌, ap, ap₂, subst, le_refl, le_trans}
+use Rattle.std.proofs.Common.{◌≡◌, ℕ, Bool, true, false, not, cond, ◌⊎◌, inl, inr, List, [], ◌∷◌, ◌++◌, length, take, slice_set, Some, None, sym, ◌∙◌, ap, subst, le_refl, le_trans}
 use Rattle.std.specs.Prelude.{Ok}
 use Rattle.std.proofs.Math.Seq.{take-append_seam}
 use Rattle.vx_frac.specs.Fractions.{none, full, at_most}
@@ -18,41 +18,41 @@ use Rattle.vx_terms.specs.Sorts.{RealSort, RefSort}
 use Rattle.vx_terms.specs.Terms.{Term}
 use Rattle.vx_terms.specs.Build.{negate, whole_amount}
 use Rattle.vx_terms.proofs.Build.{negate_value}
-use Rattle.vx_terms.specs.Interpretations.{Interpretation, as_bool, as_fraction, value}
+use Rattle.vx_terms.specs.Interpretations.{Interpretation, as_bool, value}
 use Rattle.vx_rules.specs.States as rules
 use Rattle.vx_rules.specs.States.{sort_of_type}
 use Rattle.vx_rules.specs.Trees.{AssertCode, PermissionCode, CallCode, EntryCode, KeptCode, Tree, End, Step, Fork}
-use Rattle.vx_rules.specs.Chunks.{field_key, Candidate, first_argument}
-use Rattle.vx_rules.specs.Rules.{Giving, GivingAll, Going, Outer, never, fork, holds_amount, write_field, field_sort, eval, produce, consume}
+use Rattle.vx_rules.specs.Chunks.{field_key, Candidate}
+use Rattle.vx_rules.specs.Rules.{Giving, GivingAll, Going, Outer, never, fork, holds_amount, write_field, field_sort, eval, produce, consume, unfolded}
 use Rattle.vx_rules.specs.Rules as rule
-use Rattle.vx_rules.specs.Members.{codes, forget, names_of, after_names, called, exec, exec_all}
+use Rattle.vx_rules.specs.Members.{codes, forget, names_of, after_names, called, folded, exec, exec_all}
 use Rattle.vx_types.specs.Typing.{Scope, AreOnce, IsTyped, IsTypedStmt, IsTypedBlock, scope_after, scope_after_all}
-use Rattle.vx_types.specs.FieldLanguage.{InFields, IsOfFields, AreOfFields}
-use Rattle.vx_types.specs.CallLanguage.{AreInFields}
+use Rattle.vx_sound.proofs.World.{at_field, CanBe, World, Changing}
+use Rattle.vx_sound.proofs.Speaks.{Speaks, AllSpeak, SpeaksOf, AllSpeakOf, joined_speaks}
+use Rattle.vx_sound.proofs.Says.{IsCalled, Says, AllSay}
+use Rattle.vx_sound.proofs.Steps.{StepsGo, InstanceAt, instance_at}
 use Rattle.vx_sound.proofs.Passes.{Cleared}
 use Rattle.vx_elements.proofs.Settled.{Meaning, Extends, extends-refl, extends-trans, value_kept}
 use Rattle.vx_elements.proofs.Built.{Good, good_later, good_negate}
 use Rattle.vx_elements.proofs.Elements.{element}
 use Rattle.vx_elements.proofs.Eventually.{both_eventually, one_answer}
-use Rattle.vx_amounts.proofs.Amounts.{Le, le-refl, le-trans, none-full}
+use Rattle.vx_amounts.proofs.Amounts.{Le, le-refl, le-trans}
 use Rattle.vx_elements.proofs.Truth.{good_whole}
-use Rattle.vx_sound.proofs.Stands.{ref_of, location_of, amount_of, StoreStands, HeapStands, Stands, stands_with_store, heap_later, store_take, store_lengths, store_assign, stands_entry}
+use Rattle.vx_sound.proofs.Stands.{location_of, resource_of, amount_of, resource_kept, amount_kept, StoreStands, HeapStands, Stands, stands_with_store, heap_later, store_take, store_lengths, store_assign, stands_entry}
 use Rattle.vx_elements.proofs.Values.{ref_value_is, sort_of_field, field_type_is}
 use Rattle.vx_elements.proofs.Places.{IsPlace}
-use Rattle.vx_sound.proofs.Chunks.{Apart, taken_apart, chunk_held}
+use Rattle.vx_sound.proofs.Chunks.{field_resource, Apart, taken_apart, chunk_held}
 use Rattle.vx_sound.proofs.Puts.{heap_changed, written_stands}
-use Rattle.vx_sound.proofs.Candidates.{FirstWith, first_one, good_amount, amount_is}
+use Rattle.vx_sound.proofs.Candidates.{FirstWith, first_one, of_field, good_amount, amount_is}
 use Rattle.vx_sound.proofs.Goes.{Goes, Evaluates, here, goes_after, reached, stuck, forked, declared, Named, named}
-use Rattle.vx_sound.proofs.Evaluate.{bind_ok, eval_goes}
-use Rattle.vx_sound.proofs.Giving.{at_field, whole_scale}
+use Rattle.vx_sound.proofs.Evaluate.{UnfoldsGo, bind_ok, eval_goes, EvaluatesAll, evals_goes}
+use Rattle.vx_sound.proofs.Giving.{whole_scale}
 use Rattle.vx_sound.proofs.Assertions.{by_side, Leaves, leaves_after, ends_leaves, stops_leaves, then_leaves, refused_leaves, stands_at, pure_goes, is_true_of, give_goes, Consumes, consumed}
-use Rattle.vx_sound.proofs.Contracts.{IsCallable, SpeaksOfFields, AllSpeaks}
-use Rattle.vx_sound.proofs.Arguments.{EvaluatesAll, evals_goes, NamedAll, named_all}
-use Rattle.vx_sound.proofs.Calls.{CallsGo}
+use Rattle.vx_sound.proofs.Arguments.{NamedAll, named_all}
 use Rattle.vx_sound.proofs.Forget.{toward_start, forget_goes}
 use Rattle.vx_sound.proofs.Once.{once_more}
 use Rattle.vx_sound.proofs.Fresh.{new_goes}
-use Rattle.vx_elements.proofs.Scopes.{scope_more, joined_typed, joined_plain}
+use Rattle.vx_elements.proofs.Scopes.{scope_more, joined_typed}
 
 module _ (p : Program) where
   pub still_once : (st : Stmt) (scope : Scope) → IsTypedStmt p scope st → AreOnce scope → AreOnce (scope_after p st scope)
@@ -70,21 +70,30 @@ module _ (p : Program) where
   still_once (If at e a b) scope k u = u
   still_once (While at e is b) scope k u = u
 
-module _ (means : Meaning) (p : Program) where
-  module _ (o : Outer) (calls : CallsGo means p o) where
+module _ (means : Meaning) (world : World) where
+  abbrev p : Program
+  p = world.program
+
+  module _ (o : Outer) (changing : Changing world) (steps : StepsGo means world o) where
+    abbrev opens : UnfoldsGo means world o
+    opens = steps.opens
+
+    possible : (c : run.State) → IsConsistent p c → CanBe p world.bounded c
+    possible c k = subst (λ b. CanBe p b c) (sym changing.bounded) k
+
     -- back from a block
     leave_goes : {mid scope : Scope} {i : Interpretation} {n : ℕ} {d : run.State} (on : Going) (k l : ℕ) → k ≡ length scope → l ≡ length scope → take (length scope) mid ≡ scope →
-        Goes means p mid i n (λ s1. on (rules.leave k s1)) d → Goes means p scope i n on (run.leave l d)
+        Goes means world mid i n (λ s1. on (rules.leave k s1)) d → Goes means world scope i n on (run.leave l d)
     leave_goes {mid = mid} {scope = scope} {d = d} on k l e f t g = record {
       interp = g.interp;
       state = rules.leave k g.state;
       extends = g.extends;
       later = g.later;
-      stands = stands_with_store means p scope (take k g.state.store) (take l d.store) g.stands
-          (subst (λ z. StoreStands means p g.state.next g.interp z (take k g.state.store) (take l d.store)) t
-          (subst (λ m. StoreStands means p g.state.next g.interp (take (length scope) mid) (take m g.state.store) (take l d.store)) (sym e)
-          (subst (λ m. StoreStands means p g.state.next g.interp (take (length scope) mid) (take (length scope) g.state.store) (take m d.store)) (sym f)
-          (store_take means p g.state.next g.interp (length scope) mid g.state.store d.store g.stands.store))));
+      stands = stands_with_store means world scope (take k g.state.store) (take l d.store) g.stands
+          (subst (λ z. StoreStands means world g.state.next g.interp z (take k g.state.store) (take l d.store)) t
+          (subst (λ m. StoreStands means world g.state.next g.interp (take (length scope) mid) (take m g.state.store) (take l d.store)) (sym e)
+          (subst (λ m. StoreStands means world g.state.next g.interp (take (length scope) mid) (take (length scope) g.state.store) (take m d.store)) (sym f)
+          (store_take means world g.state.next g.interp (length scope) mid g.state.store d.store g.stands.store))));
       cleared = g.cleared;
     }
 
@@ -93,100 +102,100 @@ module _ (means : Meaning) (p : Program) where
 
     -- a side of a condition, whose block's variables are forgotten
     scoped_leaves : (scope : Scope) (i : Interpretation) (n : ℕ) (c : run.State) (b : Block) (on : Going) (k : ℕ) (outcome : Outcome) → k ≡ length scope → length c.store ≡ length scope →
-        meaning.scoped p (meaning.run_all p b) c outcome → ((other : Outcome) → meaning.run_all p b c other → Leaves means p (scope_after_all p b scope) i n (λ s1. on (rules.leave k s1)) other) → Leaves means p scope i n on outcome
+        meaning.scoped p (meaning.run_all p b) c outcome → ((other : Outcome) → meaning.run_all p b c other → Leaves means world (scope_after_all p b scope) i n (λ s1. on (rules.leave k s1)) other) → Leaves means world scope i n on outcome
     scoped_leaves scope i n c b on k outcome e f h then =
-        then_leaves means p (scope_after_all p b scope) scope i n (meaning.run_all p b c) (λ t. ends (run.leave (length c.store) t)) (λ s1. on (rules.leave k s1)) on outcome h then
-        (λ d g r. ends_leaves means p scope g.interp g.state.next on (run.leave (length c.store) d) outcome r
+        then_leaves means world (scope_after_all p b scope) scope i n (meaning.run_all p b c) (λ t. ends (run.leave (length c.store) t)) (λ s1. on (rules.leave k s1)) on outcome h then
+        (λ d g r. ends_leaves means world scope g.interp g.state.next on (run.leave (length c.store) d) outcome r
         (leave_goes on k (length c.store) e f (back_in b scope) record { interp = g.interp; state = g.state; extends = extends-refl means g.state.next g.interp; later = le_refl _; stands = g.stands; cleared = g.cleared }))
 
     -- what is shown of a statement, and of a block
     ExecGoes : Stmt → Type 0
     ExecGoes st =
         (scope : Scope) (c : run.State) (outcome : Outcome) → meaning.run p st c outcome → IsTypedStmt p scope st → AreOnce scope → (i : Interpretation) (s : rules.State) (on : Going) →
-        Stands means p scope i s c → Cleared (exec p o st s on) → Leaves means p (scope_after p st scope) i s.next on outcome
+        Stands means world scope i s c → Cleared (exec p o st s on) → Leaves means world (scope_after p st scope) i s.next on outcome
 
     ExecAllGoes : Block → Type 0
     ExecAllGoes b =
         (scope : Scope) (c : run.State) (outcome : Outcome) → meaning.run_all p b c outcome → IsTypedBlock p scope b → AreOnce scope → (i : Interpretation) (s : rules.State) (on : Going) →
-        Stands means p scope i s c → Cleared (exec_all p o b s on) → Leaves means p (scope_after_all p b scope) i s.next on outcome
+        Stands means world scope i s c → Cleared (exec_all p o b s on) → Leaves means world (scope_after_all p b scope) i s.next on outcome
 
     declare_goes : (at : Place) (x : Name) (t : ValueType) → ExecGoes (Declare at x t)
     unfolding ExecGoes
     declare_goes at x t scope c outcome h k u i s on st w =
-        ends_leaves means p (scope ++ record { name = x; of = t } ∷ []) i s.next on (run.declare x h.0 c) outcome h.1.1 (declared means p x t h.0 on h.1.0 st w)
+        ends_leaves means world (scope ++ record { name = x; of = t } ∷ []) i s.next on (run.declare x h.0 c) outcome h.1.1 (declared means world x t h.0 on h.1.0 st w)
 
-    assign_goes : (at : Place) (x : Name) (e : Expr) → InFields e → ExecGoes (Assign at x e)
+    assign_goes : (at : Place) (x : Name) (e : Expr) → Speaks world.Held e → ExecGoes (Assign at x e)
     unfolding ExecGoes
     assign_goes at x e j scope c outcome (passes v h rest) k u i s on st w =
-        ends_leaves means p scope i s.next on (run.with_store (run.assign x r.result c.store) c) outcome (subst (λ y. ends (run.with_store (run.assign x y c.store) c) outcome) (one_answer v r.result h r.fits) rest) assigned
+        ends_leaves means world scope i s.next on (run.with_store (run.assign x r.result c.store) c) outcome (subst (λ y. ends (run.with_store (run.assign x y c.store) c) outcome) (one_answer v r.result h r.fits) rest) assigned
       where
         after : Giving
         after t s1 = let s2 = rules.after_name t s1 in Step (on (rules.with_store (rules.assign x (rules.name_of t s1) s2.store) s2))
 
-        r : Evaluates means p scope i s.next after c e k.0
-        r = eval_goes means p o k.2 j after st w
+        r : Evaluates means world scope i s.next after c e k.0
+        r = eval_goes means world o opens k.2 j after st w
 
-        n : Named means p scope r.interp r.state.next c (sort_of_type k.0) (value r.interp r.term) (rules.name_of r.term r.state) (rules.after_name r.term r.state)
-        n = named means p r.term (sort_of_type k.0) r.stands r.good
+        n : Named means world scope r.interp r.state.next c (sort_of_type k.0) (value r.interp r.term) (rules.name_of r.term r.state) (rules.after_name r.term r.state)
+        n = named means world r.term (sort_of_type k.0) r.stands r.good
 
         x1 : Extends means s.next i n.interp
         x1 = extends-trans means r.later r.extends n.extends
 
-        assigned : Goes means p scope i s.next on (run.with_store (run.assign x r.result c.store) c)
+        assigned : Goes means world scope i s.next on (run.with_store (run.assign x r.result c.store) c)
         assigned = record {
           interp = n.interp;
           state = rules.with_store (rules.assign x (rules.name_of r.term r.state) (rules.after_name r.term r.state).store) (rules.after_name r.term r.state);
           extends = x1;
           later = le_trans r.later n.later;
-          stands = stands_with_store means p scope _ _ n.stands (store_assign means p x k.0 (rules.name_of r.term r.state) r.result scope _ _ n.stands.store k.1 r.typed n.good (n.value_is ∙ r.value_is));
+          stands = stands_with_store means world scope _ _ n.stands (store_assign means world x k.0 (rules.name_of r.term r.state) r.result scope _ _ n.stands.store k.1 r.typed n.good (n.value_is ∙ r.value_is));
           cleared = r.cleared;
         }
     assign_goes at x e j scope c outcome (refused place h f) k u i s on st w =
         let after : Giving = λ t s1. let s2 = rules.after_name t s1 in Step (on (rules.with_store (rules.assign x (rules.name_of t s1) s2.store) s2)) in
-        let r = eval_goes means p o k.2 j after st w in
-        refused_leaves means p scope i s.next on outcome r.result place r.fits h
+        let r = eval_goes means world o opens k.2 j after st w in
+        refused_leaves means world scope i s.next on outcome r.result place r.fits h
 
-    inhale_goes : (at : Place) (a : Assertion) → IsOfFields a → ExecGoes (Inhale at a)
+    inhale_goes : (at : Place) (a : Assertion) → SpeaksOf world.Held a → ExecGoes (Inhale at a)
     unfolding ExecGoes
-    inhale_goes at a j scope c outcome h k u i s on st w = give_goes means p o outcome a full h k j whole_amount on (whole_scale means p s.next i) st w
+    inhale_goes at a j scope c outcome h k u i s on st w = give_goes means world o opens (IsConsistent p) possible outcome a full h k j whole_amount on (whole_scale means world s.next i) st w
 
-    assume_goes : (at : Place) (e : Expr) → InFields e → ExecGoes (Assume at e)
+    assume_goes : (at : Place) (e : Expr) → Speaks world.Held e → ExecGoes (Assume at e)
     unfolding ExecGoes
-    assume_goes at e j scope c outcome h k u i s on st w = pure_goes means p o outcome (IsConsistent p) full h k j on st w
+    assume_goes at e j scope c outcome h k u i s on st w = pure_goes means world o opens outcome (IsConsistent p) full h k j on st w
 
-    assert_goes : (at : Place) (a : Assertion) → IsOfFields a → ExecGoes (Assert at a)
+    assert_goes : (at : Place) (a : Assertion) → SpeaksOf world.Held a → ExecGoes (Assert at a)
     unfolding ExecGoes
     assert_goes at a j scope c outcome h k u i s on st w = go h
       where
         after : Giving
         after t s1 = Step (on (rules.with_heap s.heap s1))
 
-        r : Consumes means p o scope i s.next after c a full c.holdings
-        r = consumed means p o a full k j (codes AssertCode PermissionCode) whole_amount after refl (whole_scale means p s.next i) st w
+        r : Consumes means world o opens scope i s.next after c a full c.holdings
+        r = consumed means world o opens a full k j (codes AssertCode PermissionCode) whole_amount after (whole_scale means world s.next i) st w
 
-        go : checked (λ n. take_by p n c full a c.holdings) (λ _. ends c) outcome → Leaves means p scope i s.next on outcome
-        go (passes v h rest) = ends_leaves means p scope i s.next on c outcome rest record {
+        go : checked (λ n. take_by p n c full a c.holdings) (λ _. ends c) outcome → Leaves means world scope i s.next on outcome
+        go (passes v h rest) = ends_leaves means world scope i s.next on c outcome rest record {
           interp = r.goes.interp;
           state = rules.with_heap s.heap r.goes.state;
           extends = r.goes.extends;
           later = r.goes.later;
-          stands = stands_at means p c s.heap r.goes.stands (heap_later means p r.goes.later r.goes.extends s.heap c.heap c.holdings st.heap) st.bounded;
+          stands = stands_at means world c s.heap r.goes.stands (heap_later means world r.goes.later r.goes.extends s.heap c.heap c.holdings st.heap) st.holds;
           cleared = r.goes.cleared;
         }
-        go (refused place h f) = refused_leaves means p scope i s.next on outcome r.left place r.takes h
+        go (refused place h f) = refused_leaves means world scope i s.next on outcome r.left place r.takes h
 
     -- what is left keeps its values, whatever else changes
-    exhale_goes : (at : Place) (a : Assertion) → IsOfFields a → ExecGoes (Exhale at a)
+    exhale_goes : (at : Place) (a : Assertion) → SpeaksOf world.Held a → ExecGoes (Exhale at a)
     unfolding ExecGoes
     exhale_goes at a j scope c outcome h k u i s on st w = go h
       where
         after : Giving
         after t s1 = Step (on s1)
 
-        r : Consumes means p o scope i s.next after c a full c.holdings
-        r = consumed means p o a full k j (codes AssertCode PermissionCode) whole_amount after refl (whole_scale means p s.next i) st w
+        r : Consumes means world o opens scope i s.next after c a full c.holdings
+        r = consumed means world o opens a full k j (codes AssertCode PermissionCode) whole_amount after (whole_scale means world s.next i) st w
 
-        changed : (heap : run.Heap) → Changes p (run.with_holdings r.left c) heap → Goes means p scope i s.next on (run.with_heap heap (run.with_holdings r.left c))
+        changed : (heap : run.Heap) → Changes p (run.with_holdings r.left c) heap → Goes means world scope i s.next on (run.with_heap heap (run.with_holdings r.left c))
         changed heap same = record {
           interp = r.goes.interp;
           state = r.goes.state;
@@ -195,45 +204,51 @@ module _ (means : Meaning) (p : Program) where
           stands = record {
             store = r.goes.stands.store;
             path = r.goes.stands.path;
-            heap = heap_changed means p r.goes.state.next r.goes.interp r.goes.state.heap (run.with_holdings r.left c) heap r.goes.stands.heap same;
+            heap = heap_changed means world changing r.goes.state.next r.goes.interp r.goes.state.heap (run.with_holdings r.left c) heap r.goes.stands.heap r.goes.stands.holds same;
             old = r.goes.stands.old;
             awake = r.goes.stands.awake;
-            null = r.goes.stands.null;
             bounded = r.goes.stands.bounded;
-            old_bounded = r.goes.stands.old_bounded;
+            null = r.goes.stands.null;
+            standard = r.goes.stands.standard;
+            holds = changing.changed (run.with_holdings r.left c) heap same r.goes.stands.holds;
+            old_holds = r.goes.stands.old_holds;
           };
           cleared = r.goes.cleared;
         }
 
-        go : checked (λ n. take_by p n c full a c.holdings) (λ left. meaning.after_change p (run.with_holdings left c) ends) outcome → Leaves means p scope i s.next on outcome
+        go : checked (λ n. take_by p n c full a c.holdings) (λ left. meaning.after_change p (run.with_holdings left c) ends) outcome → Leaves means world scope i s.next on outcome
         go (passes v h rest) =
             let f = subst (λ y. meaning.after_change p (run.with_holdings y c) ends outcome) (one_answer v r.left h r.takes) rest in
-            ends_leaves means p scope i s.next on (run.with_heap f.0 (run.with_holdings r.left c)) outcome f.1.1 (changed f.0 f.1.0)
-        go (refused place h f) = refused_leaves means p scope i s.next on outcome r.left place r.takes h
+            ends_leaves means world scope i s.next on (run.with_heap f.0 (run.with_holdings r.left c)) outcome f.1.1 (changed f.0 f.1.0)
+        go (refused place h f) = refused_leaves means world scope i s.next on outcome r.left place r.takes h
 
     -- Writing
 
-    record WroteAt (key : rules.Chunk) (r : Term) (t : Term) (i : Interpretation) (s : rules.State) (on : Going) : Type 0 where
+    record WroteAt (f : Name) (k : ℕ) (r : Term) (t : Term) (i : Interpretation) (s : rules.State) (on : Going) : Type 0 where
       pub candidate : Candidate
-      pub place : IsPlace key s.heap candidate
-      pub receiver_is : value i (first_argument candidate.chunk.arguments) ≡ value i r
+      pub place : IsPlace (field_key f r) s.heap candidate
+      pub location_is : location_of i candidate.chunk ≡ at_field k f
       pub whole : Le full (amount_of i candidate.chunk)
       pub cleared : Cleared (on (rule.written candidate t s))
 
-    write_one : {scope : Scope} {i : Interpretation} {s : rules.State} {c : run.State} (f : Name) (r t : Term) (at : Place) (on : Going) →
-        Stands means p scope i s c → Good means s.next i r RefSort → Cleared (write_field f r t at s on) → WroteAt (field_key f r) r t i s on
-    write_one {i = i} {s = s} {c = c} f r t at on st g h =
-        go (first_one means p (field_key f r) (holds_amount whole_amount (r ∷ [])) at PermissionCode (λ d. on (rule.written d t s)) (never at PermissionCode s) st (λ d k. good_amount means p d k g gw) h)
+    write_one : {scope : Scope} {i : Interpretation} {s : rules.State} {c : run.State} (f : Name) (r t : Term) (k : ℕ) (at : Place) (on : Going) →
+        Stands means world scope i s c → Good means s.next i r RefSort → value i r ≡ element (RefValue k) → Cleared (write_field f r t at s on) → WroteAt f k r t i s on
+    write_one {i = i} {s = s} {c = c} f r t k at on st g e h =
+        go (first_one means world (field_key f r) (holds_amount whole_amount (r ∷ [])) at PermissionCode (λ d. on (rule.written d t s)) (never at PermissionCode s) st (λ d kind resource m. good_amount means world (of_field f r k g e) d kind resource m gw) h)
       where
         gw : Good means s.next i whole_amount RealSort
         gw = good_whole means
 
-        go : FirstWith means p (field_key f r) (holds_amount whole_amount (r ∷ [])) i s (λ d. on (rule.written d t s)) ⊎ Cleared (never at PermissionCode s) → WroteAt (field_key f r) r t i s on
-        go (inr k) = stuck means p at PermissionCode st k
-        go (inl k) =
-            let a = taken_apart means p s.next i c.heap k.place st.heap in
-            let held = amount_is means p k.candidate.chunk a.chunk g gw k.as_wanted in
-            record { candidate = k.candidate; place = k.place; receiver_is = held.0; whole = held.1; cleared = k.cleared }
+        location : (l m : run.Location) → run.At l ≡ run.At m → l ≡ m
+        location l m e = cc
+
+        go : FirstWith means world (field_key f r) (holds_amount whole_amount (r ∷ [])) i s (λ d. on (rule.written d t s)) ⊎ Cleared (never at PermissionCode s) → WroteAt f k r t i s on
+        go (inr m) = stuck means world at PermissionCode st m
+        go (inl m) =
+            let d = m.candidate.chunk in
+            let a = taken_apart means world s.next i c.heap m.place st.heap in
+            let held = amount_is means world (of_field f r k g e) d m.place.kind m.place.resource a.chunk gw m.as_wanted in
+            record { candidate = m.candidate; place = m.place; location_is = location (location_of i d) (at_field k f) (sym (field_resource i d m.place.kind) ∙ held.0); whole = held.1; cleared = m.cleared }
 
     abbrev owned_value : run.State → Place → Name → Value → Value → Checked (run.Location × Value)
     owned_value c at f r v = meaning.owned c at f r >>= λ l. Ok (l, v)
@@ -246,42 +261,45 @@ module _ (means : Meaning) (p : Program) where
         tested : Bool → Checked (run.Location × Value)
         tested b = (guard at b >>= λ _. Ok (at_field k f)) >>= λ l. Ok (l, v)
 
-    write_goes : (at : Place) (e : Expr) (f : Name) (e' : Expr) → InFields e → InFields e' → ExecGoes (Write at e f e')
+    write_goes : (at : Place) (e : Expr) (f : Name) (e' : Expr) → Speaks world.Held e → Speaks world.Held e' → ExecGoes (Write at e f e')
     unfolding ExecGoes
     write_goes at e f e' j j' scope c outcome h k u i s on st w = go h
       where
         second : Term → Giving
         second r t s2 = write_field f r t at s2 on
 
-        r : Evaluates means p scope i s.next (λ r s1. Step (eval p o e' s1 (second r))) c e type.Ref
-        r = eval_goes means p o k.2 j (λ r s1. Step (eval p o e' s1 (second r))) st w
+        r : Evaluates means world scope i s.next (λ r s1. Step (eval p o e' s1 (second r))) c e type.Ref
+        r = eval_goes means world o opens k.2 j (λ r s1. Step (eval p o e' s1 (second r))) st w
 
-        q : Evaluates means p scope r.interp r.state.next (second r.term) c e' k.0
-        q = eval_goes means p o k.3 j' (second r.term) r.stands r.cleared
-
-        x : WroteAt (field_key f r.term) r.term q.term q.interp q.state on
-        x = write_one f r.term q.term at on q.stands (good_later means q.later q.extends r.good) q.cleared
-
-        d : rules.Chunk
-        d = x.candidate.chunk
-
-        a : Apart means p q.state.next q.interp c.heap x.place.front x.candidate.chunk x.place.back c.holdings
-        a = taken_apart means p q.state.next q.interp c.heap x.place q.stands.heap
-
-        n : Named means p scope q.interp q.state.next c (sort_of_type k.0) (value q.interp q.term) (rules.name_of q.term q.state) (rules.after_name q.term q.state)
-        n = named means p q.term (sort_of_type k.0) q.stands q.good
+        q : Evaluates means world scope r.interp r.state.next (second r.term) c e' k.0
+        q = eval_goes means world o opens k.3 j' (second r.term) r.stands r.cleared
 
         reference : (m : ℕ) × (r.result ≡ RefValue m)
         reference = ref_value_is r.result r.typed
 
-        at_is : location_of q.interp x.candidate.chunk ≡ at_field reference.0 f
-        at_is = ap₂ (λ (m : ℕ) (g : Name). at_field m g) (ap ref_of (x.receiver_is ∙ value_kept means r.term r.good.settled q.extends ∙ r.value_is ∙ ap element reference.1)) x.place.resource
+        x : WroteAt f reference.0 r.term q.term q.interp q.state on
+        x = write_one f r.term q.term reference.0 at on q.stands (good_later means q.later q.extends r.good) (value_kept means r.term r.good.settled q.extends ∙ r.value_is ∙ ap element reference.1) q.cleared
+
+        d : rules.Chunk
+        d = x.candidate.chunk
+
+        a : Apart means world q.state.next q.interp c.heap x.place.front x.candidate.chunk x.place.back c.holdings
+        a = taken_apart means world q.state.next q.interp c.heap x.place q.stands.heap
+
+        n : Named means world scope q.interp q.state.next c (sort_of_type k.0) (value q.interp q.term) (rules.name_of q.term q.state) (rules.after_name q.term q.state)
+        n = named means world q.term (sort_of_type k.0) q.stands q.good
+
+        resource_is' : resource_of n.interp x.candidate.chunk ≡ resource_of q.interp x.candidate.chunk
+        resource_is' = resource_kept means world n.later n.extends d c.heap a.chunk
+
+        location : (l m : run.Location) → run.At l ≡ run.At m → l ≡ m
+        location l m e = cc
 
         at_is' : location_of n.interp x.candidate.chunk ≡ at_field reference.0 f
-        at_is' = ap (λ e. at_field (ref_of e) d.resource) (value_kept means (first_argument d.arguments) a.chunk.receiver.settled n.extends) ∙ at_is
+        at_is' = location (location_of n.interp d) (at_field reference.0 f) (sym (field_resource n.interp d x.place.kind) ∙ resource_is' ∙ field_resource q.interp d x.place.kind ∙ ap run.At x.location_is)
 
         whole' : Le full (amount_of n.interp x.candidate.chunk)
-        whole' = subst (λ e. Le full (as_fraction e)) (sym (value_kept means d.amount a.chunk.amount.settled n.extends)) x.whole
+        whole' = subst (λ e. Le full e) (sym (amount_kept means world n.later n.extends d c.heap a.chunk)) x.whole
 
         sort_is : sort_of_type k.0 ≡ field_sort p x.candidate.chunk.resource
         sort_is = sym (ap (field_sort p) x.place.resource ∙ sort_of_field p f ∙ ap sort_of_type (field_type_is p f k.1))
@@ -289,13 +307,16 @@ module _ (means : Meaning) (p : Program) where
         type_is : type_of q.result ≡ run.field_type p x.candidate.chunk.resource
         type_is = q.typed ∙ sym (ap (run.field_type p) x.place.resource ∙ field_type_is p f k.1)
 
-        heap_is : HeapStands means p (rules.after_name q.term q.state).next n.interp (slice_set q.state.heap x.candidate.number (record x.candidate.chunk { value = rules.name_of q.term q.state })) ((at_field reference.0 f, q.result) ∷ c.heap) c.holdings
+        heap_is : HeapStands means world (rules.after_name q.term q.state).next n.interp (slice_set q.state.heap x.candidate.number (record x.candidate.chunk { value = rules.name_of q.term q.state })) ((at_field reference.0 f, q.result) ∷ c.heap) c.holdings
         heap_is =
-            subst (λ l. HeapStands means p (rules.after_name q.term q.state).next n.interp (slice_set q.state.heap x.candidate.number (record x.candidate.chunk { value = rules.name_of q.term q.state })) ((l, q.result) ∷ c.heap) c.holdings) at_is'
-            (written_stands means p (rules.after_name q.term q.state).next n.interp c.heap x.place (heap_later means p n.later n.extends q.state.heap c.heap c.holdings q.stands.heap) st.bounded whole' (rules.name_of q.term q.state) q.result
+            subst (λ l. HeapStands means world (rules.after_name q.term q.state).next n.interp (slice_set q.state.heap x.candidate.number (record x.candidate.chunk { value = rules.name_of q.term q.state })) ((l, q.result) ∷ c.heap) c.holdings) at_is'
+            (written_stands means world changing (rules.after_name q.term q.state).next n.interp c.heap x.place x.place.kind (heap_later means world n.later n.extends q.state.heap c.heap c.holdings q.stands.heap) st.holds whole' (rules.name_of q.term q.state) q.result
             (subst (λ z. Good means (rules.after_name q.term q.state).next n.interp (rules.name_of q.term q.state) z) sort_is n.good) (n.value_is ∙ q.value_is) type_is)
 
-        written : Goes means p scope i s.next on (run.with_heap ((at_field reference.0 f, q.result) ∷ c.heap) c)
+        enough : Le full (run.amount c.holdings (run.At (at_field reference.0 f)))
+        enough = subst (λ y. Le full (run.amount c.holdings y)) (field_resource q.interp d x.place.kind ∙ ap run.At x.location_is) (le-trans x.whole (chunk_held means world q.state.next q.interp c.heap x.place q.stands.heap))
+
+        written : Goes means world scope i s.next on (run.with_heap ((at_field reference.0 f, q.result) ∷ c.heap) c)
         written = record {
           interp = n.interp;
           state = rule.written x.candidate q.term q.state;
@@ -307,32 +328,31 @@ module _ (means : Meaning) (p : Program) where
             heap = heap_is;
             old = n.stands.old;
             awake = n.stands.awake;
-            null = n.stands.null;
             bounded = n.stands.bounded;
-            old_bounded = n.stands.old_bounded;
+            null = n.stands.null;
+            standard = n.stands.standard;
+            holds = changing.written c.heap c.holdings (at_field reference.0 f) q.result st.holds enough;
+            old_holds = n.stands.old_holds;
           };
           cleared = x.cleared;
         }
 
-        enough : Le full (run.amount c.holdings (run.At (at_field reference.0 f)))
-        enough = subst (λ l. Le full (run.amount c.holdings (run.At l))) at_is (le-trans x.whole (chunk_held means p q.state.next q.interp c.heap x.place q.stands.heap))
-
         allowed : Eventually (λ n. (fit_by p n c e >>= λ r. fit_by p n c e' >>= λ v. owned_value c at f r v) ≡ Ok (at_field reference.0 f, q.result))
         allowed = both_eventually r.fits q.fits (λ m g l. write_fits m c at e f e' r.result q.result reference.0 g reference.1 l enough.holds)
 
-        go : checked (λ n. fit_by p n c e >>= λ r. fit_by p n c e' >>= λ v. owned_value c at f r v) (λ (l, v). ends (run.with_heap ((l, v) ∷ c.heap) c)) outcome → Leaves means p scope i s.next on outcome
+        go : checked (λ n. fit_by p n c e >>= λ r. fit_by p n c e' >>= λ v. owned_value c at f r v) (λ (l, v). ends (run.with_heap ((l, v) ∷ c.heap) c)) outcome → Leaves means world scope i s.next on outcome
         go (passes y h rest) =
-            ends_leaves means p scope i s.next on (run.with_heap ((at_field reference.0 f, q.result) ∷ c.heap) c) outcome
+            ends_leaves means world scope i s.next on (run.with_heap ((at_field reference.0 f, q.result) ∷ c.heap) c) outcome
             (subst (λ (y : run.Location × Value). ends (run.with_heap ((y.0, y.1) ∷ c.heap) c) outcome) (one_answer y (at_field reference.0 f, q.result) h allowed) rest) written
-        go (refused place h y) = refused_leaves means p scope i s.next on outcome (at_field reference.0 f, q.result) place allowed h
+        go (refused place h y) = refused_leaves means world scope i s.next on outcome (at_field reference.0 f, q.result) place allowed h
 
     new_leaves : (at : Place) (x : Name) (fs : List Name) → ExecGoes (New at x fs)
     unfolding ExecGoes
     new_leaves at x fs scope c outcome (heap, (same, (r, (fresh, e)))) k u i s on st w =
-        ends_leaves means p scope i s.next on (run.with_holdings (meaning.new_fields r fs c.holdings) (run.with_store (run.assign x (RefValue r) c.store) (run.with_heap heap c))) outcome e
-        (new_goes means p x fs heap r on u k.0 k.2 same fresh st w)
+        ends_leaves means world scope i s.next on (run.with_holdings (meaning.new_fields r fs c.holdings) (run.with_store (run.assign x (RefValue r) c.store) (run.with_heap heap c))) outcome e
+        (new_goes means world changing x fs heap r on u k.0 k.2 same fresh st w)
 
-    if_goes : (at : Place) (e : Expr) (a b : Block) → InFields e → ExecAllGoes a → ExecAllGoes b → ExecGoes (If at e a b)
+    if_goes : (at : Place) (e : Expr) (a b : Block) → Speaks world.Held e → ExecAllGoes a → ExecAllGoes b → ExecGoes (If at e a b)
     unfolding ExecGoes ExecAllGoes
     if_goes at e a b j on_a on_b scope c outcome h k u i s on st w = go h
       where
@@ -345,36 +365,36 @@ module _ (means : Meaning) (p : Program) where
         right : Going
         right s2 = exec_all p o b s2 leaving
 
-        r : Evaluates means p scope i s.next (λ t s1. fork t s1 left right) c e type.Bool
-        r = eval_goes means p o k.0 j (λ t s1. fork t s1 left right) st w
+        r : Evaluates means world scope i s.next (λ t s1. fork t s1 left right) c e type.Bool
+        r = eval_goes means world o opens k.0 j (λ t s1. fork t s1 left right) st w
 
         lengths : (length s.store ≡ length scope) × (length c.store ≡ length scope)
-        lengths = store_lengths means p s.next i scope s.store c.store st.store
+        lengths = store_lengths means world s.next i scope s.store c.store st.store
 
-        side_goes : (x : Bool) → as_bool (element r.result) ≡ x → Goes means p scope i s.next (cond x left right) c
-        side_goes x f = goes_after means p (reached means p r) (forked means p r.term left right r.stands r.good r.cleared x (ap as_bool r.value_is ∙ f))
+        side_goes : (x : Bool) → as_bool (element r.result) ≡ x → Goes means world scope i s.next (cond x left right) c
+        side_goes x f = goes_after means world (reached means world r) (forked means world r.term left right r.stands r.good r.cleared x (ap as_bool r.value_is ∙ f))
 
-        on_left : as_bool (element r.result) ≡ true → meaning.scoped p (meaning.run_all p a) c outcome → Leaves means p scope i s.next on outcome
+        on_left : as_bool (element r.result) ≡ true → meaning.scoped p (meaning.run_all p a) c outcome → Leaves means world scope i s.next on outcome
         on_left f h =
             let g = side_goes true f in
-            leaves_after means p scope on outcome g (scoped_leaves scope g.interp g.state.next c a on (length s.store) outcome lengths.0 lengths.1 h
+            leaves_after means world scope on outcome g (scoped_leaves scope g.interp g.state.next c a on (length s.store) outcome lengths.0 lengths.1 h
             (λ other f. on_a scope c other f k.1 u g.interp g.state leaving g.stands g.cleared))
 
-        on_right : as_bool (element r.result) ≡ false → meaning.scoped p (meaning.run_all p b) c outcome → Leaves means p scope i s.next on outcome
+        on_right : as_bool (element r.result) ≡ false → meaning.scoped p (meaning.run_all p b) c outcome → Leaves means world scope i s.next on outcome
         on_right f h =
             let g = side_goes false f in
-            leaves_after means p scope on outcome g (scoped_leaves scope g.interp g.state.next c b on (length s.store) outcome lengths.0 lengths.1 h
+            leaves_after means world scope on outcome g (scoped_leaves scope g.interp g.state.next c b on (length s.store) outcome lengths.0 lengths.1 h
             (λ other f. on_b scope c other f k.2 u g.interp g.state leaving g.stands g.cleared))
 
-        go : checked (λ n. fit_by p n c e) (λ v. side v (meaning.scoped p (meaning.run_all p a) c) (meaning.scoped p (meaning.run_all p b) c)) outcome → Leaves means p scope i s.next on outcome
+        go : checked (λ n. fit_by p n c e) (λ v. side v (meaning.scoped p (meaning.run_all p a) c) (meaning.scoped p (meaning.run_all p b) c)) outcome → Leaves means world scope i s.next on outcome
         go (passes v h rest) =
             by_side (as_bool (element r.result)) (meaning.scoped p (meaning.run_all p a) c) (meaning.scoped p (meaning.run_all p b) c) outcome
-            (subst (λ x. when x (meaning.scoped p (meaning.run_all p a) c) (meaning.scoped p (meaning.run_all p b) c) outcome) (ap is_true (one_answer v r.result h r.fits) ∙ is_true_of means p o r.result r.typed) rest)
+            (subst (λ x. when x (meaning.scoped p (meaning.run_all p a) c) (meaning.scoped p (meaning.run_all p b) c) outcome) (ap is_true (one_answer v r.result h r.fits) ∙ is_true_of means world o opens r.result r.typed) rest)
             on_left on_right
-        go (refused place h f) = refused_leaves means p scope i s.next on outcome r.result place r.fits h
+        go (refused place h f) = refused_leaves means world scope i s.next on outcome r.result place r.fits h
 
     -- a call, once its arguments are evaluated and named
-    call_goes : (at : Place) (xs : List Name) (f : Name) (es : Exprs) → AreInFields es → IsCallable p f → ExecGoes (Call at xs f es)
+    call_goes : (at : Place) (xs : List Name) (f : Name) (es : Exprs) → AllSpeak world.Held es → IsCalled world f → ExecGoes (Call at xs f es)
     unfolding ExecGoes
     call_goes at xs f es j contract scope c outcome h k u i s on st w = go h
       where
@@ -384,11 +404,11 @@ module _ (means : Meaning) (p : Program) where
           | Some m ↦ called p o at m (names_of ts s1) xs (after_names ts s1) on
         ]
 
-        r : EvaluatesAll means p scope i s.next after c es (k.0).parameters
-        r = evals_goes means p o k.2 j after st w
+        r : EvaluatesAll means world o opens scope i s.next after c es (k.0).parameters
+        r = evals_goes means world o opens k.2 j after st w
 
-        n : NamedAll means p scope r.interp r.state.next c (k.0).parameters (names_of r.terms r.state) r.results (after_names r.terms r.state)
-        n = named_all means p (k.0).parameters r.terms r.results r.each r.stands
+        n : NamedAll means world scope r.interp r.state.next c (k.0).parameters (names_of r.terms r.state) r.results (after_names r.terms r.state)
+        n = named_all means world (k.0).parameters r.terms r.results r.each r.stands
 
         entered : Cleared (called p o at k.0 (names_of r.terms r.state) xs (after_names r.terms r.state) on)
         entered = subst (λ m. Cleared (elim m as (λ c. Tree) [
@@ -396,7 +416,7 @@ module _ (means : Meaning) (p : Program) where
           | Some m ↦ called p o at m (names_of r.terms r.state) xs (after_names r.terms r.state) on
         ])) k.1 r.cleared
 
-        named : Goes means p scope i s.next (λ s1. called p o at k.0 (names_of r.terms r.state) xs s1 on) c
+        named : Goes means world scope i s.next (λ s1. called p o at k.0 (names_of r.terms r.state) xs s1 on) c
         named = record {
           interp = n.interp;
           state = after_names r.terms r.state;
@@ -410,17 +430,17 @@ module _ (means : Meaning) (p : Program) where
             checked (λ n. placed at (take_by p n (run.with_store (run.bind (k.0).parameters r.results) c) full (joined (k.0).place (k.0).requires) c.holdings)) (meaning.return_from p c at xs k.0 r.results) outcome
         calling h = rw k.1 at h
 
-        go : checked (λ n. fit_all p (deeper p n) c es) (meaning.call p c at xs f) outcome → Leaves means p scope i s.next on outcome
+        go : checked (λ n. fit_all p (deeper p n) c es) (meaning.call p c at xs f) outcome → Leaves means world scope i s.next on outcome
         go (passes vs h rest) =
-            leaves_after means p scope on outcome named
-            (calls k.0 (contract k.0 k.1) scope n.interp (after_names r.terms r.state) c at xs (names_of r.terms r.state) r.results on k.3 n.each n.stands entered outcome
+            leaves_after means world scope on outcome named
+            (steps.calls k.0 (contract k.0 k.1) scope n.interp (after_names r.terms r.state) c at xs (names_of r.terms r.state) r.results on k.3 n.each n.stands entered outcome
             (calling (subst (λ z. meaning.call p c at xs f z outcome) (one_answer vs r.results h r.fits) rest)))
-        go (refused place h z) = refused_leaves means p scope i s.next on outcome r.results place r.fits h
+        go (refused place h z) = refused_leaves means world scope i s.next on outcome r.results place r.fits h
 
     -- Loops
 
     -- an arbitrary iteration, and what is behind
-    while_goes : (at : Place) (e : Expr) (is : List Assertion) (b : Block) → InFields e → AreOfFields is → ExecAllGoes b → ExecGoes (While at e is b)
+    while_goes : (at : Place) (e : Expr) (is : List Assertion) (b : Block) → Speaks world.Held e → AllSpeakOf world.Held is → ExecAllGoes b → ExecGoes (While at e is b)
     unfolding ExecGoes ExecAllGoes
     while_goes at e is b je ji on_b scope c outcome h k u i s on st w = go h
       where
@@ -433,8 +453,8 @@ module _ (means : Meaning) (p : Program) where
         inv_typed : IsTyped p scope (joined at is)
         inv_typed = joined_typed p scope at is k.1
 
-        inv_plain : IsOfFields (joined at is)
-        inv_plain = joined_plain at is ji
+        inv_plain : SpeaksOf world.Held (joined at is)
+        inv_plain = joined_speaks world.Held at is ji
 
         kept : Going
         kept s5 = consume p o (joined at is) (codes KeptCode KeptCode) whole_amount s5.heap s5 (λ v s6. End)
@@ -454,137 +474,183 @@ module _ (means : Meaning) (p : Program) where
         after : Giving
         after t s1 = Fork (first (forget [] (assigned_in b) s1)) (second (forget [] (assigned_in b) s1))
 
-        r : Consumes means p o scope i s.next after c (joined at is) full c.holdings
-        r = consumed means p o (joined at is) full inv_typed inv_plain (codes EntryCode EntryCode) whole_amount after refl (whole_scale means p s.next i) st w
+        r : Consumes means world o opens scope i s.next after c (joined at is) full c.holdings
+        r = consumed means world o opens (joined at is) full inv_typed inv_plain (codes EntryCode EntryCode) whole_amount after (whole_scale means world s.next i) st w
 
         lengths : length s.store ≡ length scope
-        lengths = (store_lengths means p s.next i scope s.store c.store st.store).0
+        lengths = (store_lengths means world s.next i scope s.store c.store st.store).0
 
-        iterates : (t : run.State) (j : Interpretation) (n : ℕ) (g : Goes means p scope j n inside t) →
+        iterates : (t : run.State) (j : Interpretation) (n : ℕ) (g : Goes means world scope j n inside t) →
             checked (λ n. fit_by p n t e) (λ v. side v (and_then (meaning.scoped p (meaning.run_all p b) t) (λ v. checked (λ n. take_by p n v full (joined at is) v.holdings) (λ _. stops))) stops) outcome →
-            Leaves means p scope g.interp g.state.next on outcome
+            Leaves means world scope g.interp g.state.next on outcome
         iterates t j n g q = end q
           where
             body : run.State → Outcomes
             body t = and_then (meaning.scoped p (meaning.run_all p b) t) (λ v. checked (λ n. take_by p n v full (joined at is) v.holdings) (λ _. stops))
 
-            ev : Evaluates means p scope g.interp g.state.next (λ a s3. exec_all p o b (rules.with_branch a s3) (λ s4. kept (rules.leave (length s.store) s4))) t e type.Bool
-            ev = eval_goes means p o k.0 je (λ a s3. exec_all p o b (rules.with_branch a s3) (λ s4. kept (rules.leave (length s.store) s4))) g.stands g.cleared
+            ev : Evaluates means world scope g.interp g.state.next (λ a s3. exec_all p o b (rules.with_branch a s3) (λ s4. kept (rules.leave (length s.store) s4))) t e type.Bool
+            ev = eval_goes means world o opens k.0 je (λ a s3. exec_all p o b (rules.with_branch a s3) (λ s4. kept (rules.leave (length s.store) s4))) g.stands g.cleared
 
-            end_of : (v : run.State) (g1 : Goes means p scope ev.interp ev.state.next kept v) → checked (λ n. take_by p n v full (joined at is) v.holdings) (λ _. stops) outcome → Leaves means p scope g1.interp g1.state.next on outcome
+            end_of : (v : run.State) (g1 : Goes means world scope ev.interp ev.state.next kept v) → checked (λ n. take_by p n v full (joined at is) v.holdings) (λ _. stops) outcome → Leaves means world scope g1.interp g1.state.next on outcome
             end_of v g1 q = end q
               where
-                z : Consumes means p o scope g1.interp g1.state.next (λ a s6. End) v (joined at is) full v.holdings
-                z = consumed means p o (joined at is) full inv_typed inv_plain (codes KeptCode KeptCode) whole_amount (λ a s6. End) refl (whole_scale means p g1.state.next g1.interp) g1.stands g1.cleared
+                z : Consumes means world o opens scope g1.interp g1.state.next (λ a s6. End) v (joined at is) full v.holdings
+                z = consumed means world o opens (joined at is) full inv_typed inv_plain (codes KeptCode KeptCode) whole_amount (λ a s6. End) (whole_scale means world g1.state.next g1.interp) g1.stands g1.cleared
 
-                end : checked (λ n. take_by p n v full (joined at is) v.holdings) (λ _. stops) outcome → Leaves means p scope g1.interp g1.state.next on outcome
-                end (passes a h rest) = stops_leaves means p scope g1.interp g1.state.next on outcome rest
-                end (refused place h f) = refused_leaves means p scope g1.interp g1.state.next on outcome z.left place z.takes h
+                end : checked (λ n. take_by p n v full (joined at is) v.holdings) (λ _. stops) outcome → Leaves means world scope g1.interp g1.state.next on outcome
+                end (passes a h rest) = stops_leaves means world scope g1.interp g1.state.next on outcome rest
+                end (refused place h f) = refused_leaves means world scope g1.interp g1.state.next on outcome z.left place z.takes h
 
-            on_true : as_bool (element ev.result) ≡ true → body t outcome → Leaves means p scope g.interp g.state.next on outcome
+            on_true : as_bool (element ev.result) ≡ true → body t outcome → Leaves means world scope g.interp g.state.next on outcome
             on_true f q =
-                let branch = stands_entry means p ev.term true ev.stands ev.good (ap as_bool ev.value_is ∙ f) in
-                leaves_after means p scope on outcome (reached means p ev)
-                (then_leaves means p scope scope ev.interp ev.state.next (meaning.scoped p (meaning.run_all p b) t) (λ v. checked (λ n. take_by p n v full (joined at is) v.holdings) (λ _. stops)) kept on outcome q
-                (λ other m. scoped_leaves scope ev.interp ev.state.next t b kept (length s.store) other lengths (store_lengths means p ev.state.next ev.interp scope ev.state.store t.store ev.stands.store).1 m
+                let branch = stands_entry means world ev.term true ev.stands ev.good (ap as_bool ev.value_is ∙ f) in
+                leaves_after means world scope on outcome (reached means world ev)
+                (then_leaves means world scope scope ev.interp ev.state.next (meaning.scoped p (meaning.run_all p b) t) (λ v. checked (λ n. take_by p n v full (joined at is) v.holdings) (λ _. stops)) kept on outcome q
+                (λ other m. scoped_leaves scope ev.interp ev.state.next t b kept (length s.store) other lengths (store_lengths means world ev.state.next ev.interp scope ev.state.store t.store ev.stands.store).1 m
                 (λ other m. on_b scope t other m k.2 u ev.interp (rules.with_branch ev.term ev.state) (λ s4. kept (rules.leave (length s.store) s4)) branch ev.cleared))
                 end_of)
 
-            end : checked (λ n. fit_by p n t e) (λ v. side v (body t) stops) outcome → Leaves means p scope g.interp g.state.next on outcome
+            end : checked (λ n. fit_by p n t e) (λ v. side v (body t) stops) outcome → Leaves means world scope g.interp g.state.next on outcome
             end (passes v h rest) =
-                by_side (as_bool (element ev.result)) (body t) stops outcome (subst (λ x. when x (body t) stops outcome) (ap is_true (one_answer v ev.result h ev.fits) ∙ is_true_of means p o ev.result ev.typed) rest)
-                on_true (λ f q. stops_leaves means p scope g.interp g.state.next on outcome q)
-            end (refused place h f) = refused_leaves means p scope g.interp g.state.next on outcome ev.result place ev.fits h
+                by_side (as_bool (element ev.result)) (body t) stops outcome (subst (λ x. when x (body t) stops outcome) (ap is_true (one_answer v ev.result h ev.fits) ∙ is_true_of means world o opens ev.result ev.typed) rest)
+                on_true (λ f q. stops_leaves means world scope g.interp g.state.next on outcome q)
+            end (refused place h f) = refused_leaves means world scope g.interp g.state.next on outcome ev.result place ev.fits h
 
-        iteration : meaning.iteration p c (assigned_in b) e (joined at is) (meaning.scoped p (meaning.run_all p b)) outcome → Leaves means p scope i s.next on outcome
+        iteration : meaning.iteration p c (assigned_in b) e (joined at is) (meaning.scoped p (meaning.run_all p b)) outcome → Leaves means world scope i s.next on outcome
         iteration (heap, (y, (differs, q))) =
-            let f = forget_goes means p [] (assigned_in b) y first u r.goes.stands (toward_start (assigned_in b) c.store y differs) r.goes.cleared.0 in
+            let f = forget_goes means world [] (assigned_in b) y first u r.goes.stands (toward_start (assigned_in b) c.store y differs) r.goes.cleared.0 in
             let t0 = let t : run.State = record { store = y; heap = heap; holdings = []; old_heap = c.old_heap; old_holdings = c.old_holdings } in t in
-            let empty : Stands means p scope f.interp (rules.with_heap [] f.state) t0 = record {
+            let empty : Stands means world scope f.interp (rules.with_heap [] f.state) t0 = record {
               store = f.stands.store;
               path = f.stands.path;
               heap = record { each = tt; sums = λ l. le-refl none };
               old = f.stands.old;
               awake = f.stands.awake;
+              bounded = f.stands.bounded;
               null = f.stands.null;
-              bounded = record { most = λ l. none-full; null = λ g. le-refl none };
-              old_bounded = f.stands.old_bounded;
+              standard = f.stands.standard;
+              holds = world.nothing heap;
+              old_holds = f.stands.old_holds;
             } in
-            leaves_after means p scope on outcome r.goes
-            (leaves_after means p {mid = scope} scope on outcome f
-            (then_leaves means p scope scope f.interp f.state.next (give p (IsConsistent p) full (joined at is) t0)
+            leaves_after means world scope on outcome r.goes
+            (leaves_after means world {mid = scope} scope on outcome f
+            (then_leaves means world scope scope f.interp f.state.next (give p (IsConsistent p) full (joined at is) t0)
             (λ t. checked (λ n. fit_by p n t e) (λ v. side v (and_then (meaning.scoped p (meaning.run_all p b) t) (λ v. checked (λ n. take_by p n v full (joined at is) v.holdings) (λ _. stops))) stops)) inside on outcome q
-            (λ other m. give_goes means p o other (joined at is) full m inv_typed inv_plain {s = rules.with_heap [] f.state} whole_amount inside (whole_scale means p f.state.next f.interp) empty f.cleared)
+            (λ other m. give_goes means world o opens (IsConsistent p) possible other (joined at is) full m inv_typed inv_plain {s = rules.with_heap [] f.state} whole_amount inside (whole_scale means world f.state.next f.interp) empty f.cleared)
             (λ t g m. iterates t f.interp f.state.next g m)))
 
-        leaves_on : (t : run.State) (j : Interpretation) (n : ℕ) (g : Goes means p scope j n outside t) → checked (λ n. fit_by p n t e) (λ v. side v stops (ends t)) outcome → Leaves means p scope g.interp g.state.next on outcome
+        leaves_on : (t : run.State) (j : Interpretation) (n : ℕ) (g : Goes means world scope j n outside t) → checked (λ n. fit_by p n t e) (λ v. side v stops (ends t)) outcome → Leaves means world scope g.interp g.state.next on outcome
         leaves_on t j n g q = end q
           where
-            ev : Evaluates means p scope g.interp g.state.next (λ a s3. Step (on (rules.with_branch (negate a) s3))) t e type.Bool
-            ev = eval_goes means p o k.0 je (λ a s3. Step (on (rules.with_branch (negate a) s3))) g.stands g.cleared
+            ev : Evaluates means world scope g.interp g.state.next (λ a s3. Step (on (rules.with_branch (negate a) s3))) t e type.Bool
+            ev = eval_goes means world o opens k.0 je (λ a s3. Step (on (rules.with_branch (negate a) s3))) g.stands g.cleared
 
-            on_false : as_bool (element ev.result) ≡ false → ends t outcome → Leaves means p scope g.interp g.state.next on outcome
-            on_false f q = ends_leaves means p scope g.interp g.state.next on t outcome q record {
+            on_false : as_bool (element ev.result) ≡ false → ends t outcome → Leaves means world scope g.interp g.state.next on outcome
+            on_false f q = ends_leaves means world scope g.interp g.state.next on t outcome q record {
               interp = ev.interp;
               state = rules.with_branch (negate ev.term) ev.state;
               extends = ev.extends;
               later = ev.later;
-              stands = stands_entry means p (negate ev.term) true ev.stands (good_negate means ev.good) (ap as_bool (negate_value ev.interp ev.good.formed) ∙ ap not (ap as_bool ev.value_is ∙ f));
+              stands = stands_entry means world (negate ev.term) true ev.stands (good_negate means ev.good) (ap as_bool (negate_value ev.interp ev.good.formed) ∙ ap not (ap as_bool ev.value_is ∙ f));
               cleared = ev.cleared;
             }
 
-            end : checked (λ n. fit_by p n t e) (λ v. side v stops (ends t)) outcome → Leaves means p scope g.interp g.state.next on outcome
+            end : checked (λ n. fit_by p n t e) (λ v. side v stops (ends t)) outcome → Leaves means world scope g.interp g.state.next on outcome
             end (passes v h rest) =
-                by_side (as_bool (element ev.result)) stops (ends t) outcome (subst (λ x. when x stops (ends t) outcome) (ap is_true (one_answer v ev.result h ev.fits) ∙ is_true_of means p o ev.result ev.typed) rest)
-                (λ f q. stops_leaves means p scope g.interp g.state.next on outcome q) on_false
-            end (refused place h f) = refused_leaves means p scope g.interp g.state.next on outcome ev.result place ev.fits h
+                by_side (as_bool (element ev.result)) stops (ends t) outcome (subst (λ x. when x stops (ends t) outcome) (ap is_true (one_answer v ev.result h ev.fits) ∙ is_true_of means world o opens ev.result ev.typed) rest)
+                (λ f q. stops_leaves means world scope g.interp g.state.next on outcome q) on_false
+            end (refused place h f) = refused_leaves means world scope g.interp g.state.next on outcome ev.result place ev.fits h
 
-        behind : meaning.behind p (run.with_holdings r.left c) (assigned_in b) e (joined at is) outcome → Leaves means p scope i s.next on outcome
+        behind : meaning.behind p (run.with_holdings r.left c) (assigned_in b) e (joined at is) outcome → Leaves means world scope i s.next on outcome
         behind (heap, (same, (y, (differs, q)))) =
             let d = r.goes.stands in
-            let changed : Stands means p scope r.goes.interp r.goes.state (run.with_heap heap (run.with_holdings r.left c)) = record {
+            let changed : Stands means world scope r.goes.interp r.goes.state (run.with_heap heap (run.with_holdings r.left c)) = record {
               store = d.store;
               path = d.path;
-              heap = heap_changed means p r.goes.state.next r.goes.interp r.goes.state.heap (run.with_holdings r.left c) heap d.heap same;
+              heap = heap_changed means world changing r.goes.state.next r.goes.interp r.goes.state.heap (run.with_holdings r.left c) heap d.heap d.holds same;
               old = d.old;
               awake = d.awake;
-              null = d.null;
               bounded = d.bounded;
-              old_bounded = d.old_bounded;
+              null = d.null;
+              standard = d.standard;
+              holds = changing.changed (run.with_holdings r.left c) heap same d.holds;
+              old_holds = d.old_holds;
             } in
-            let f = forget_goes means p [] (assigned_in b) y second u changed (toward_start (assigned_in b) c.store y differs) r.goes.cleared.1 in
-            leaves_after means p scope on outcome r.goes
-            (leaves_after means p {mid = scope} scope on outcome f
-            (then_leaves means p scope scope f.interp f.state.next (give p (IsConsistent p) full (joined at is) (run.with_store y (run.with_heap heap (run.with_holdings r.left c))))
+            let f = forget_goes means world [] (assigned_in b) y second u changed (toward_start (assigned_in b) c.store y differs) r.goes.cleared.1 in
+            leaves_after means world scope on outcome r.goes
+            (leaves_after means world {mid = scope} scope on outcome f
+            (then_leaves means world scope scope f.interp f.state.next (give p (IsConsistent p) full (joined at is) (run.with_store y (run.with_heap heap (run.with_holdings r.left c))))
             (λ t. checked (λ n. fit_by p n t e) (λ v. side v stops (ends t))) outside on outcome q
-            (λ other m. give_goes means p o other (joined at is) full m inv_typed inv_plain {s = f.state} whole_amount outside (whole_scale means p f.state.next f.interp) f.stands f.cleared)
+            (λ other m. give_goes means world o opens (IsConsistent p) possible other (joined at is) full m inv_typed inv_plain {s = f.state} whole_amount outside (whole_scale means world f.state.next f.interp) f.stands f.cleared)
             (λ t g m. leaves_on t f.interp f.state.next g m)))
 
-        either_side : meaning.iteration p c (assigned_in b) e (joined at is) (meaning.scoped p (meaning.run_all p b)) outcome ⊎ meaning.behind p (run.with_holdings r.left c) (assigned_in b) e (joined at is) outcome → Leaves means p scope i s.next on outcome
+        either_side : meaning.iteration p c (assigned_in b) e (joined at is) (meaning.scoped p (meaning.run_all p b)) outcome ⊎ meaning.behind p (run.with_holdings r.left c) (assigned_in b) e (joined at is) outcome → Leaves means world scope i s.next on outcome
         either_side (inl q) = iteration q
         either_side (inr q) = behind q
 
         go : checked (λ n. take_by p n c full (joined at is) c.holdings)
             (λ left. either (meaning.iteration p c (assigned_in b) e (joined at is) (meaning.scoped p (meaning.run_all p b))) (meaning.behind p (run.with_holdings left c) (assigned_in b) e (joined at is))) outcome →
-            Leaves means p scope i s.next on outcome
+            Leaves means world scope i s.next on outcome
         go (passes v h rest) = either_side
             (subst (λ left. meaning.iteration p c (assigned_in b) e (joined at is) (meaning.scoped p (meaning.run_all p b)) outcome ⊎ meaning.behind p (run.with_holdings left c) (assigned_in b) e (joined at is) outcome) (one_answer v r.left h r.takes) rest)
-        go (refused place h f) = refused_leaves means p scope i s.next on outcome r.left place r.takes h
+        go (refused place h f) = refused_leaves means world scope i s.next on outcome r.left place r.takes h
+
+    -- Instances
+
+    fold_goes : (at : Place) (x : Name) (es : Exprs) (share : Expr) → world.Held x → AllSpeak world.Held es → Speaks world.Held share → ExecGoes (Fold at x es share)
+    unfolding ExecGoes
+    fold_goes at x es share held je js scope c outcome h k u i s on st w = go h
+      where
+        after : List Term → Term → Going
+        after ts a s3 = folded p o at x ts a s3 on
+
+        l : InstanceAt means world o opens scope i s.next after c at x es share
+        l = instance_at means world o opens at x k.0.0 after held k.0.1 k.0.2 je k.1 js st w
+
+        reached' : Goes means world scope i s.next (λ s3. folded p o at x l.terms l.term s3 on) c
+        reached' = record { interp = l.interp; state = l.state; extends = l.extends; later = l.later; stands = l.stands; cleared = l.cleared }
+
+        go : checked (λ n. meaning.instance_at p n c at x es share) (meaning.fold p c at) outcome → Leaves means world scope i s.next on outcome
+        go (passes v h rest) =
+            leaves_after means world scope on outcome reached'
+            (steps.folds scope l.interp l.state c at x l.terms l.results l.term l.fraction on l.keys l.good l.is l.positive l.stands l.cleared outcome
+            (subst (λ y. meaning.fold p c at y outcome) (one_answer v (record { predicate = x; arguments = l.results }, l.fraction) h l.allowed) rest))
+        go (refused place h f) = refused_leaves means world scope i s.next on outcome (record { predicate = x; arguments = l.results }, l.fraction) place l.allowed h
+
+    unfold_goes : (at : Place) (x : Name) (es : Exprs) (share : Expr) → world.Held x → AllSpeak world.Held es → Speaks world.Held share → ExecGoes (Unfold at x es share)
+    unfolding ExecGoes
+    unfold_goes at x es share held je js scope c outcome h k u i s on st w = go h
+      where
+        after : List Term → Term → Going
+        after ts a s3 = unfolded p o at x ts a s3 on
+
+        l : InstanceAt means world o opens scope i s.next after c at x es share
+        l = instance_at means world o opens at x k.0.0 after held k.0.1 k.0.2 je k.1 js st w
+
+        reached' : Goes means world scope i s.next (λ s3. unfolded p o at x l.terms l.term s3 on) c
+        reached' = record { interp = l.interp; state = l.state; extends = l.extends; later = l.later; stands = l.stands; cleared = l.cleared }
+
+        go : checked (λ n. meaning.instance_at p n c at x es share) (meaning.unfold_it p c at) outcome → Leaves means world scope i s.next on outcome
+        go (passes v h rest) =
+            leaves_after means world scope on outcome reached'
+            (steps.unfolds scope l.interp l.state c at x l.terms l.results l.term l.fraction on l.keys l.good l.is l.positive l.stands l.cleared outcome
+            (subst (λ y. meaning.unfold_it p c at y outcome) (one_answer v (record { predicate = x; arguments = l.results }, l.fraction) h l.allowed) rest))
+        go (refused place h f) = refused_leaves means world scope i s.next on outcome (record { predicate = x; arguments = l.results }, l.fraction) place l.allowed h
 
     done_goes : ExecAllGoes Done
     unfolding ExecAllGoes
-    done_goes scope c outcome h k u i s on st w = ends_leaves means p scope i s.next on c outcome h (here means p on st w)
+    done_goes scope c outcome h k u i s on st w = ends_leaves means world scope i s.next on c outcome h (here means world on st w)
 
-    then_goes : (st : Stmt) (b : Block) → SpeaksOfFields p st → ExecGoes st → ExecAllGoes b → ExecAllGoes (Then st b)
+    then_goes : (st : Stmt) (b : Block) → Says world st → ExecGoes st → ExecAllGoes b → ExecAllGoes (Then st b)
     unfolding ExecGoes ExecAllGoes
     then_goes st b j on_st on_b scope c outcome h k u i s on sta w =
         let after = λ (s1 : rules.State). exec_all p o b s1 on in
-        then_leaves means p (scope_after p st scope) (scope_after_all p b (scope_after p st scope)) i s.next (meaning.run p st c) (meaning.run_all p b) after on outcome h
+        then_leaves means world (scope_after p st scope) (scope_after_all p b (scope_after p st scope)) i s.next (meaning.run p st c) (meaning.run_all p b) after on outcome h
         (λ other f. on_st scope c other f k.0 u i s after sta w)
         (λ e g r. on_b (scope_after p st scope) e outcome r k.1 (still_once p st scope k.0 u) g.interp g.state on g.stands g.cleared)
 
     mutual
-      exec_goes : (st : Stmt) → SpeaksOfFields p st → ExecGoes st
+      exec_goes : (st : Stmt) → Says world st → ExecGoes st
       exec_goes (Declare at x t) j = declare_goes at x t
       exec_goes (Assign at x e) j = assign_goes at x e j
       exec_goes (Inhale at a) j = inhale_goes at a j
@@ -595,15 +661,15 @@ module _ (means : Meaning) (p : Program) where
       exec_goes (Write at e f e') j = write_goes at e f e' j.0 j.1
       exec_goes (New at x fs) j = new_leaves at x fs
       exec_goes (Call at xs f es) j = call_goes at xs f es j.0 j.1
-      exec_goes (Fold at i es share) j = absurd j
-      exec_goes (Unfold at i es share) j = absurd j
+      exec_goes (Fold at i es share) j = fold_goes at i es share j.0 j.1 j.2
+      exec_goes (Unfold at i es share) j = unfold_goes at i es share j.0 j.1 j.2
       exec_goes (While at e is b) j = while_goes at e is b j.0 j.1 (exec_all_goes b j.2)
 
-      exec_all_goes : (b : Block) → AllSpeaks p b → ExecAllGoes b
+      exec_all_goes : (b : Block) → AllSay world b → ExecAllGoes b
       exec_all_goes Done j = done_goes
       exec_all_goes (Then st b) j = then_goes st b j.0 (exec_goes st j.0) (exec_all_goes b j.1)
 
-    pub block_goes : {scope : Scope} {c : run.State} (outcome : Outcome) (b : Block) → meaning.run_all p b c outcome → IsTypedBlock p scope b → AllSpeaks p b → AreOnce scope → {i : Interpretation} {s : rules.State} (on : Going) →
-        Stands means p scope i s c → Cleared (exec_all p o b s on) → Leaves means p (scope_after_all p b scope) i s.next on outcome
+    pub block_goes : {scope : Scope} {c : run.State} (outcome : Outcome) (b : Block) → meaning.run_all p b c outcome → IsTypedBlock p scope b → AllSay world b → AreOnce scope → {i : Interpretation} {s : rules.State} (on : Going) →
+        Stands means world scope i s c → Cleared (exec_all p o b s on) → Leaves means world (scope_after_all p b scope) i s.next on outcome
     unfolding ExecAllGoes
     block_goes {scope = scope} {c = c} outcome b h k j u {i = i} {s = s} on st w = exec_all_goes b j scope c outcome h k u i s on st w

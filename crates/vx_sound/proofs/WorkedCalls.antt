@@ -80,6 +80,7 @@ calls_typed = record {
   functions = λ y g e. absurd (no_function y g e);
   methods = typed_method;
   bodies = λ y d a e is. absurd (no_predicate y d e);
+  now = λ y d a e is. absurd (no_predicate y d e);
   preconditions = λ y g e. absurd (no_function y g e);
   apart = record {
     measure = λ y g z e st. absurd (no_function y g e);

@@ -97,6 +97,7 @@ writes_typed = record {
   functions = λ y g e. absurd (no_function (member_named writes y) g (named y) e);
   methods = λ y n e. subst (IsTypedMethod writes) (the_method (member_named writes y) n (named y) e) sets_typed;
   bodies = λ y d a e is. absurd (no_predicate (member_named writes y) d (named y) e);
+  now = λ y d a e is. absurd (no_predicate (member_named writes y) d (named y) e);
   preconditions = λ y g e. absurd (no_function (member_named writes y) g (named y) e);
   apart = record {
     measure = λ y g z e st. absurd (no_function (member_named writes y) g (named y) e);

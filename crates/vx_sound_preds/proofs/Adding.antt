@@ -53,7 +53,7 @@ unfoldable pub added : Fraction → Holdings → Holdings → Holdings
 added q [] h = h
 added q (x ∷ xs) h = added q xs (gained x.0 (product q x.1) h)
 
-added_append : (q : Fraction) (xs ys h : Holdings) → added q (xs ++ ys) h ≡ added q ys (added q xs h)
+pub added_append : (q : Fraction) (xs ys h : Holdings) → added q (xs ++ ys) h ≡ added q ys (added q xs h)
 unfolding added
 added_append q [] ys h = refl
 added_append q (x ∷ xs) ys h = added_append q xs ys (gained x.0 (product q x.1) h)

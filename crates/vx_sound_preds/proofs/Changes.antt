@@ -1,20 +1,25 @@
--- A change of the heap where nothing is held leaves a state that can be.
-use Rattle.std.proofs.Common.{◌≡◌, ℕ, zero, suc, ◌+◌, ◌≤◌, Bool, true, false, cond, [], ◌∷◌, length, Option, Some, refl, sym, ◌∙◌, ap, subst, arith, true≢false}
+-- A change of the heap where nothing is held, and a write of what is wholly held, leave a state that can be, and trees.
+use Rattle.std.proofs.Common.{◌≡◌, ℕ, zero, suc, ◌+◌, ◌≤◌, Bool, true, false, cond, ◌&&◌, [], ◌∷◌, length, Option, Some, refl, sym, ◌∙◌, ap, subst, arith, true≢false}
 use Rattle.std.specs.Prelude.{unwrap_or}
 use Rattle.vx_frac.specs.Fractions.{Fraction, none, full, sum, product}
 use Rattle.vx_ast.specs.Syntax.{Program}
-use Rattle.vx_meaning.specs.States.{State, Heap, Holdings, Location, Instance, Resource, At, Folded, same_resource, amount, with_heap}
+use Rattle.vx_ast.specs.Types.{same_type}
+use Rattle.vx_meaning.specs.Values.{Value, type_of}
+use Rattle.vx_terms.specs.Interpretations.{Tree}
+use Rattle.vx_sound.specs.Snapshots.{tree_by, IsTree}
+use Rattle.vx_sound.proofs.Chunks.{location_is}
+use Rattle.vx_meaning.specs.States.{State, Heap, Holdings, Location, Instance, Resource, At, Folded, same_location, same_resource, amount, value_at, find_value, field_type, with_heap}
 use Rattle.vx_meaning.specs.Flatten.{flat, IsGrounded}
 use Rattle.vx_meaning.specs.Consistent.{total, Changes, IsConsistent}
 use Rattle.vx_amounts.proofs.Amounts.{Le, Positive, Same, same-refl, same-sym, same-trans, le-refl, le-trans, le-is, sum_same, product_same, not-positive, positive-or}
 use Rattle.vx_sound_preds.specs.Covered.{Covered}
 use Rattle.vx_sound_preds.specs.Bodies.{GoodBodies}
-use Rattle.vx_sound_preds.proofs.Flats.{flat_later}
+use Rattle.vx_sound_preds.proofs.Flats.{flat_later, tree_later}
 use Rattle.vx_sound_preds.proofs.Totals.{weigh, weigh_none, weight, total_weighs, same_is}
 use Rattle.vx_sound_preds.proofs.Grouped.{IsSingle, AreSingle, NoDebts, resource_is, others, split, others_single, others_no_debts, others_amount, others_none, shorter, none-product}
 use Rattle.vx_sound_preds.proofs.Exchanging.{no_negatives, grown, held_rigid}
 use Rattle.vx_sound_preds.proofs.Frames.{SameAt, framed_at}
-use Rattle.vx_sound_preds.proofs.Folding.{Stock, held_inside}
+use Rattle.vx_sound_preds.proofs.Folding.{Stock, held_inside, owned_apart}
 
 -- weights that are the same for all of which anything is held weigh the same
 alike_by : (w v : Resource → Fraction) (k : ℕ) (xs : Holdings) → length xs ≤ k → AreSingle xs → NoDebts xs → ((r : Resource) → IsSingle r → Positive (amount xs r) → w r ≡ v r) → Same (weigh w xs) (weigh v xs)
@@ -101,10 +106,43 @@ enough p h hs st (x ∷ xs) si = go x.0 refl si.0 (enough p h hs st xs si.1)
               (λ n. en.suffices i k (rest i n z));
         })
 
-module _ (p : Program) (good : GoodBodies p) (Good : Heap → Instance → Type 0) (covered : Covered p Good) where
-  pub consistent_changed : (s : State) (g : Heap) → Stock p s.heap s.holdings → Changes p s g → ((i : Instance) → Positive (amount s.holdings (Folded i)) → Good s.heap i) → IsConsistent p s →
-      IsConsistent p (with_heap g s) × Stock p g s.holdings
-  consistent_changed s g st ch gd co = (
+-- another heap in which all that is held has the same inside, and the same tree
+module _ (p : Program) (good : GoodBodies p) (s : State) (g : Heap) (st : Stock p s.heap s.holdings) (same : (n : ℕ) (i : Instance) → Positive (amount s.holdings (Folded i)) → (x : Holdings) → flat p n s.heap i ≡ Some x → SameAt p n s.heap g i) where
+  all : Enough p s.heap s.holdings s.holdings
+  all = enough p s.heap s.holdings st s.holdings st.single
+
+  grounded : (i : Instance) → Positive (amount s.holdings (Folded i)) → IsGrounded p g i
+  grounded i k = let f = st.grounded i k in (f.0, f.1, (same f.0 i k f.1 f.2).inside ∙ f.2)
+
+  weights : (n : ℕ) (l : Location) (r : Resource) → IsSingle r → Positive (amount s.holdings r) → weight p g l (n + all.fuel) r ≡ weight p s.heap l (n + all.fuel) r
+  weights n l (At m) sr k = refl
+  weights n l (Folded i) sr k =
+      let x = more_suffices p s.heap n all.fuel i (all.suffices i k k) in
+      ap (λ (o : Option Holdings). amount (unwrap_or o []) (At l)) (same (n + all.fuel) i k x.0 x.1).inside
+
+  below : (n : ℕ) (l : Location) → Le (total p n g s.holdings l) (total p (n + all.fuel) s.heap s.holdings l)
+  below n l =
+      let hs = s.holdings in
+      let z : all.fuel + n ≡ n + all.fuel = omega arith in
+      le-trans (total_weighs p g l n hs).there
+      (le-trans (grown p g l (no_negatives p g l good) hs st.single st.debts all.fuel n)
+      (le-trans (le-is (ap (λ (m : ℕ). weigh (weight p g l m) hs) z))
+      (le-trans (weigh_alike (weight p g l (n + all.fuel)) (weight p s.heap l (n + all.fuel)) hs st.single st.debts (weights n l)).there
+      (total_weighs p s.heap l (n + all.fuel) hs).back)))
+
+  pub total_kept : (n : ℕ) (l : Location) → (m : ℕ) × Le (total p n g s.holdings l) (total p m s.heap s.holdings l)
+  total_kept n l = (n + all.fuel, below n l)
+
+  pub tree_kept : (i : Instance) → Positive (amount s.holdings (Folded i)) → (t : Tree) → IsTree p s.heap i t → IsTree p g i t
+  tree_kept i k t tr =
+      let f = st.grounded i k in
+      let z : tr.0 + f.0 ≡ f.0 + tr.0 = omega arith in
+      let at = flat_later p tr.0 f.0 s.heap i f.1 f.2 in
+      let tree : tree_by p (tr.0 + f.0) s.heap i ≡ Some t = ap (λ (m : ℕ). tree_by p m s.heap i) z ∙ tree_later p f.0 tr.0 s.heap i t tr.1 in
+      (tr.0 + f.0, (same (tr.0 + f.0) i k f.1 at).tree ∙ tree)
+
+  pub consistent_kept : IsConsistent p s → IsConsistent p (with_heap g s) × Stock p g s.holdings
+  consistent_kept co = (
     record {
       supported = record {
         grounded = λ i k. grounded i (record { holds = k });
@@ -114,26 +152,23 @@ module _ (p : Program) (good : GoodBodies p) (Good : Heap → Instance → Type 
     },
     record { debts = st.debts; single = st.single; grounded = grounded },
   )
+
+module _ (p : Program) (good : GoodBodies p) (Good : Heap → Instance → Type 0) (covered : Covered p Good) where
+  -- a change of the heap where nothing is held
+  pub same_changed : (s : State) (g : Heap) → Stock p s.heap s.holdings → Changes p s g → ((i : Instance) → Positive (amount s.holdings (Folded i)) → Good s.heap i) →
+      (n : ℕ) (i : Instance) → Positive (amount s.holdings (Folded i)) → (x : Holdings) → flat p n s.heap i ≡ Some x → SameAt p n s.heap g i
+  same_changed s g st ch gd n i k x e = framed_at p good Good covered s.heap g n i x (gd i k) (held_rigid i s.holdings st.single k) e (λ l y. ch l (held_inside p good s.heap s.holdings st i k n l y))
+
+  write_elsewhere : (h : Heap) (l m : Location) (v : Value) → (same_location m l ≡ true → ⊥) → value_at p ((l, v) ∷ h) m ≡ value_at p h m
+  write_elsewhere h l m v n = go (same_location m l) n
     where
-      all : Enough p s.heap s.holdings s.holdings
-      all = enough p s.heap s.holdings st s.holdings st.single
+      go : (b : Bool) → (b ≡ true → ⊥) → cond (b && same_type (type_of v) (field_type p m.field)) v (find_value (field_type p m.field) h m) ≡ find_value (field_type p m.field) h m
+      go true n = absurd (n refl)
+      go false n = refl
 
-      same : (n : ℕ) (i : Instance) → Positive (amount s.holdings (Folded i)) → Suffices p s.heap n i → SameAt p n s.heap g i
-      same n i k x = framed_at p good Good covered s.heap g n i x.0 (gd i k) (held_rigid i s.holdings st.single k) x.1 (λ l y. ch l (held_inside p good s.heap s.holdings st i k n l y))
-
-      grounded : (i : Instance) → Positive (amount s.holdings (Folded i)) → IsGrounded p g i
-      grounded i k = let f = st.grounded i k in (f.0, f.1, (same f.0 i k (f.1, f.2)).inside ∙ f.2)
-
-      weights : (n : ℕ) (l : Location) (r : Resource) → IsSingle r → Positive (amount s.holdings r) → weight p g l (n + all.fuel) r ≡ weight p s.heap l (n + all.fuel) r
-      weights n l (At m) sr k = refl
-      weights n l (Folded i) sr k = ap (λ (o : Option Holdings). amount (unwrap_or o []) (At l)) (same (n + all.fuel) i k (more_suffices p s.heap n all.fuel i (all.suffices i k k))).inside
-
-      below : (n : ℕ) (l : Location) → Le (total p n g s.holdings l) (total p (n + all.fuel) s.heap s.holdings l)
-      below n l =
-          let hs = s.holdings in
-          let z : all.fuel + n ≡ n + all.fuel = omega arith in
-          le-trans (total_weighs p g l n hs).there
-          (le-trans (grown p g l (no_negatives p g l good) hs st.single st.debts all.fuel n)
-          (le-trans (le-is (ap (λ (m : ℕ). weigh (weight p g l m) hs) z))
-          (le-trans (weigh_alike (weight p g l (n + all.fuel)) (weight p s.heap l (n + all.fuel)) hs st.single st.debts (weights n l)).there
-          (total_weighs p s.heap l (n + all.fuel) hs).back)))
+  -- a write of a location that is wholly held
+  pub same_written : (s : State) (l : Location) (v : Value) → Stock p s.heap s.holdings → IsConsistent p s → Le full (amount s.holdings (At l)) → ((i : Instance) → Positive (amount s.holdings (Folded i)) → Good s.heap i) →
+      (n : ℕ) (i : Instance) → Positive (amount s.holdings (Folded i)) → (x : Holdings) → flat p n s.heap i ≡ Some x → SameAt p n s.heap ((l, v) ∷ s.heap) i
+  same_written s l v st co own gd n i k x e = framed_at p good Good covered s.heap ((l, v) ∷ s.heap) n i x (gd i k) (held_rigid i s.holdings st.single k) e
+      (λ m w. write_elsewhere s.heap l m v (λ same.
+      owned_apart p good Good covered s.heap s.holdings st l own n (record { holds = co.bounded n l }) i k (subst (λ (m : Location). Positive (weight p s.heap m n (Folded i))) (location_is m l same) w)))

@@ -1,7 +1,7 @@
 -- An exchange of an instance for its body keeps every total, and so what is held.
 use Rattle.std.proofs.Common.{◌≡◌, ℕ, zero, suc, ◌+◌, Bool, true, false, cond, List, [], ◌∷◌, ◌++◌, Option, Some, None, refl, sym, ◌∙◌, ap, subst, arith}
 use Rattle.std.specs.Prelude.{Ok, Err, option_and_then, unwrap_or}
-use Rattle.vx_frac.specs.Fractions.{Fraction, none, at_most, is_positive, sum, minus, product}
+use Rattle.vx_frac.specs.Fractions.{Fraction, none, sum, minus, product}
 use Rattle.vx_ast.specs.Syntax.{Name, Program, Predicate, Declaration, Assertion, Pure, Points, Both, Implied, Chosen, predicate_named}
 use Rattle.vx_ast.specs.Syntax as syntax
 use Rattle.vx_meaning.specs.Values.{Value, IntValue, BoolValue, RefValue, PermValue, is_true}
@@ -89,9 +89,6 @@ module _ (p : Program) (h : Heap) (l : Location) where
       go d e (Some a) f g = entries_least (bare (bind d.parameters i.arguments) h) a es (good.plain i.predicate d a e f) (sym (ap (side d) f) ∙ g)
 
   -- Totals
-
-  pub IsBodyOf : Instance → Holdings → Type 0
-  IsBodyOf i es = option_and_then (λ d. body_entries p h i.arguments d) (predicate_named p i.predicate) ≡ Some es
 
   scaled_back : (q w : Fraction) → Same (sum (product q w) (product (minus q) w)) none
   scaled_back q w =
@@ -240,9 +237,6 @@ pub record Exchanged (p : Program) (d : Deeper) (i : Instance) (q : Fraction) (s
   pub fine : Fine p u
 
 module _ (p : Program) (good : GoodBodies p) where
-  less_positive : (q a : Fraction) → is_positive q ≡ true → at_most q a ≡ true → Positive a
-  less_positive q a k h = positive-le {a = q} (record { holds = k }) (record { holds = h })
-
   -- a body added in the place of its instance
   body_added : (d : Deeper) → Opens p (Fine p) d → (i : Instance) (q : Fraction) (s v : State) (b : Predicate) (e : Assertion) → predicate_named p i.predicate ≡ Some b → b.body ≡ Some e →
       Fine p s → has_instance s i q ≡ true →

@@ -9,7 +9,7 @@ use Rattle.vx_meaning.specs.States.{State, Heap, Holdings, Instance, Resource, A
 use Rattle.vx_meaning.specs.Evaluate.{choose, value, values}
 use Rattle.vx_meaning.specs.Flatten.{no_applications, bare, body_entries, within, with_inner, flat}
 use Rattle.vx_terms.specs.Interpretations.{Tree, Empty, Pair}
-use Rattle.vx_sound_preds.specs.Snapshots.{assertion_tree, body_tree, tree_by, IsTree}
+use Rattle.vx_sound.specs.Snapshots.{assertion_tree, body_tree, tree_by, IsTree}
 use Rattle.vx_sound_preds.proofs.Fitting.{step, some_is}
 
 -- Undoing options

@@ -1,21 +1,18 @@
 -- What taking a body does, and that a fold keeps the state one that can be.
-use Rattle.std.proofs.Common.{◌≡◌, ℕ, ◌+◌, Bool, cond, [], ◌∷◌, Some, sym, ◌∙◌, ap, subst, arith, true≢false}
+use Rattle.std.proofs.Common.{◌≡◌, ℕ, Bool, cond, [], ◌∷◌, sym, ap, subst, true≢false}
 use Rattle.vx_frac.specs.Fractions.{Fraction, none, full, product}
 use Rattle.vx_ast.specs.Syntax.{Program}
-use Rattle.vx_meaning.specs.States.{State, Heap, Holdings, Location, Instance, Resource, At, Folded, amount}
+use Rattle.vx_meaning.specs.States.{Heap, Holdings, Location, Instance, Resource, At, Folded, amount}
 use Rattle.vx_meaning.specs.Flatten.{IsGrounded}
-use Rattle.vx_meaning.specs.Consistent.{total, IsHeld, Changes}
+use Rattle.vx_meaning.specs.Consistent.{total, IsHeld}
 use Rattle.vx_amounts.proofs.Amounts.{Le, Positive, le-trans, le-is, none-none, positive-le, not-positive, above-add, add-full}
 use Rattle.vx_sound.proofs.Chunks.{location_same}
 use Rattle.vx_sound_preds.specs.Covered.{Covered}
 use Rattle.vx_sound_preds.specs.Bodies.{GoodBodies}
-use Rattle.vx_sound_preds.specs.Snapshots.{tree_by, IsTree}
 use Rattle.vx_amounts.proofs.Products.{product-full, product_positive, product-none}
-use Rattle.vx_sound_preds.proofs.Flats.{flat_later, tree_later}
 use Rattle.vx_sound_preds.proofs.Totals.{weigh, weigh_none, weigh_more, weight, total_weighs, weight_sign}
 use Rattle.vx_sound_preds.proofs.Grouped.{AreSingle, NoDebts, others, split, others_single, others_no_debts, others_amount, weigh_grows}
-use Rattle.vx_sound_preds.proofs.Exchanging.{no_negatives, held_rigid}
-use Rattle.vx_sound_preds.proofs.Frames.{framed_at}
+use Rattle.vx_sound_preds.proofs.Exchanging.{no_negatives}
 
 -- what is held, where each instance held is grounded
 pub record Stock (p : Program) (h : Heap) (hs : Holdings) : Type 0 where
@@ -44,19 +41,7 @@ held_inside p good h hs st i k n l z =
     let y = positive-le (product_positive k z) (le-trans (weighs_at_least (weight p h l n) up hs st.single st.debts (Folded i)) (total_weighs p h l n hs).back) in
     (n, y.holds)
 
--- A change of the heap where nothing is held leaves each instance that is held grounded, with its tree.
 module _ (p : Program) (good : GoodBodies p) (Good : Heap → Instance → Type 0) (covered : Covered p Good) where
-  pub instance_changed : (s : State) (g : Heap) → Stock p s.heap s.holdings → Changes p s g → (i : Instance) → Positive (amount s.holdings (Folded i)) → Good s.heap i →
-      (t : _) → IsTree p s.heap i t → IsGrounded p g i × IsTree p g i t
-  instance_changed s g st ch i k gd t tr =
-      let f = st.grounded i k in
-      let n = tr.0 + f.0 in
-      let z : tr.0 + f.0 ≡ f.0 + tr.0 = omega arith in
-      let at = flat_later p tr.0 f.0 s.heap i f.1 f.2 in
-      let tree : tree_by p (tr.0 + f.0) s.heap i ≡ Some t = ap (λ (m : ℕ). tree_by p m s.heap i) z ∙ tree_later p f.0 tr.0 s.heap i t tr.1 in
-      let same = framed_at p good Good covered s.heap g (tr.0 + f.0) i f.1 gd (held_rigid i s.holdings st.single k) at (λ l y. ch l (held_inside p good s.heap s.holdings st i k (tr.0 + f.0) l y)) in
-      ((tr.0 + f.0, f.1, same.inside ∙ at), (tr.0 + f.0, same.tree ∙ tree))
-
   -- of a location that is wholly held directly, nothing is in an instance that is held; so a write leaves its tree
   pub owned_apart : (h : Heap) (hs : Holdings) → Stock p h hs → (l : Location) → Le full (amount hs (At l)) → (n : ℕ) → Le (total p n h hs l) full → (i : Instance) → Positive (amount hs (Folded i)) → Positive (weight p h l n (Folded i)) → ⊥
   owned_apart h hs st l own n most i k z =

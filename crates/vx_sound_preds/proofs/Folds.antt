@@ -14,7 +14,7 @@ use Rattle.vx_meaning.specs.Fits.{take, deeper}
 use Rattle.vx_terms.specs.Interpretations.{Tree, Empty, Pair}
 use Rattle.vx_amounts.proofs.Amounts.{Le, Positive, Same, same-refl, same-trans, le-trans, le-is, sum_same, product_same, none-none}
 use Rattle.vx_sound_preds.specs.Bodies.{AreRigid, Rigid, GoodBodies}
-use Rattle.vx_sound_preds.specs.Snapshots.{leaf, location_leaf, truth_leaf, assertion_tree, body_tree, tree_by}
+use Rattle.vx_sound.specs.Snapshots.{leaf, location_leaf, truth_leaf, assertion_tree, body_tree, tree_by}
 use Rattle.vx_amounts.proofs.Products.{positive_le}
 use Rattle.vx_sound_preds.proofs.Fitting.{step, some_is}
 use Rattle.vx_sound_preds.proofs.Flats.{came, flat_more, flat_later, inner_more}

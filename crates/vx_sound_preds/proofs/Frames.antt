@@ -16,7 +16,7 @@ use Rattle.vx_amounts.proofs.Amounts.{Le, Positive, Same, same-trans, le-refl, l
 use Rattle.vx_sound.proofs.Chunks.{location_same, held_directly}
 use Rattle.vx_sound_preds.specs.Covered.{AllGood, Covered}
 use Rattle.vx_sound_preds.specs.Bodies.{AreRigid, Rigid, IsPlainBody, GoodBodies}
-use Rattle.vx_sound_preds.specs.Snapshots.{assertion_tree, body_tree, tree_by}
+use Rattle.vx_sound.specs.Snapshots.{assertion_tree, body_tree, tree_by}
 use Rattle.vx_amounts.proofs.Products.{product-full, product_comm, product_sign, product_positive, positive_le}
 use Rattle.vx_sound_preds.proofs.Fitting.{step, some_is, Agrees}
 use Rattle.vx_sound_preds.proofs.Flats.{came, flat_later, inner_more}
@@ -132,10 +132,10 @@ unfolding added
 added_single q [] h k = (tt, k)
 added_single q (x ∷ xs) h k = let r = added_single q xs (gained x.0 (product q x.1) h) k in ((r.1.0, r.0), r.1.1)
 
-full-product : (a : Fraction) → Same (product full a) a
+pub full-product : (a : Fraction) → Same (product full a) a
 full-product a = subst (λ (x : Fraction). Same x a) (product_comm a full) (product-full a)
 
-sum-none : (a : Fraction) → Same (sum a none) a
+pub sum-none : (a : Fraction) → Same (sum a none) a
 sum-none a = same-trans (sum_comm a none) (none-sum a)
 
 -- the same is inside, and the tree is the same

@@ -15,7 +15,7 @@ use Rattle.vx_meaning.specs.Fits.{Checked, ◌>>=◌, or_fail, guard, Deeper, ch
 use Rattle.vx_terms.specs.Interpretations.{Tree, Empty, Pair}
 use Rattle.vx_amounts.proofs.Amounts.{Positive}
 use Rattle.vx_sound_preds.specs.Bodies.{AreRigid, IsAmount, IsPlainBody}
-use Rattle.vx_sound_preds.specs.Snapshots.{leaf, location_leaf, truth_leaf, assertion_tree}
+use Rattle.vx_sound.specs.Snapshots.{leaf, location_leaf, truth_leaf, assertion_tree}
 use Rattle.vx_sound_preds.proofs.Grouped.{IsSingle}
 use Rattle.vx_sound_preds.proofs.Looks.{Sees, value_seen, values_seen}
 use Rattle.vx_sound_preds.proofs.Fitting.{undo, not_failed, guarded, step, some_is, Agrees, Opens, fit_framed, fit_all_framed}

@@ -6,7 +6,7 @@ use Rattle.vx_ast.specs.Syntax.{Name, Program, Expr, Assertion, Pure, Points, Bo
 use Rattle.vx_ast.specs.Syntax as syntax
 use Rattle.vx_meaning.specs.Values.{Value, IntValue, BoolValue, RefValue, PermValue, is_true}
 use Rattle.vx_meaning.specs.States.{State, Holdings, Resource, gained, with_holdings}
-use Rattle.vx_meaning.specs.Fits.{Checked, ◌>>=◌, Eventually, choose, fit_by, deeper, add, add_part}
+use Rattle.vx_meaning.specs.Fits.{Checked, ◌>>=◌, choose, fit_by, deeper, add, add_part}
 use Rattle.vx_meaning.specs.Outcomes.{Ends, passes, refused, goes_on, is_over, ends, stops}
 use Rattle.vx_meaning.specs.Give.{give, if_possible, side, when}
 
@@ -39,9 +39,6 @@ module _ (p : Program) (Possible : State → Type 0) (q : Fraction) (T : State �
   possible : (u t : State) → if_possible p Possible q u (Ends t) → t ≡ u
   possible u t (inl h) = h.1
   possible u t (inr h) = absurd h.1
-
-  on_check : {A : Type 0} (f : A → Checked State) (check : ℕ → Checked A) (a : A) (t : State) → Eventually (λ n. check n ≡ Ok a) → f a ≡ Ok t → (k : ℕ) × ((n : ℕ) → k ≤ n → (check n >>= f) ≡ Ok t)
-  on_check f check a t (k, h) e = (k, λ n le. ap (λ (x : Checked _). x >>= f) (h n le) ∙ e)
 
   pub give_adds : (a : Assertion) (s t : State) → HasBools p T a → T s → give p Possible q a s (Ends t) → Gave a s t
   give_adds (Pure e) s t k ts (passes v ev r) = go (is_true v) r

@@ -1,75 +1,43 @@
 -- Where the walks of all predicates passed, a change of the heap keeps what can be, and the trees of what is held.
-use Rattle.std.proofs.Common.{◌≡◌, Bool, true, false, cond, List, [], ◌∷◌, Some, refl, sym, ◌∙◌, subst}
-use Rattle.vx_frac.specs.Fractions.{none, sum}
-use Rattle.vx_ast.specs.declared.ValueType.TheVariants.{Perm}
-use Rattle.vx_ast.specs.Syntax.{Name, Declaration, Program, Predicate, predicate_named}
+use Rattle.std.proofs.Common.{true, List, [], ◌∷◌, refl}
+use Rattle.vx_ast.specs.Syntax.{Name, Program}
 use Rattle.vx_smt_meaning.specs.declared.reply.Reply.{Reply}
-use Rattle.vx_meaning.specs.Values.{Value, IntValue, BoolValue, RefValue, PermValue, type_of}
-use Rattle.vx_meaning.specs.States.{State, Heap, Holdings, Instance, At, Folded, HaveTypes, same_resource, amount, with_heap}
+use Rattle.vx_meaning.specs.States.{State, Heap, Holdings, Instance, At, Folded, amount, with_heap}
 use Rattle.vx_meaning.specs.Consistent.{Changes, IsConsistent}
 use Rattle.vx_terms.specs.Interpretations.{Tree}
-use Rattle.vx_types.specs.Typing.{HaveNoPerm}
 use Rattle.vx_whole.specs.Premises.{IsTypedProgram}
 use Rattle.vx_whole.specs.Closure.{InClosure}
-use Rattle.vx_amounts.proofs.Amounts.{Positive, le-refl, not-positive}
-use Rattle.vx_sound_preds.specs.Snapshots.{IsTree}
-use Rattle.vx_sound_preds.specs.Bodies.{IsRigid, AreRigid, BodiesSayNow}
-use Rattle.vx_sound_preds.specs.Covered.{IsProper, BodiesUnfoldNothing, PredicatesPass, TypedInstances, IsStocked}
-use Rattle.vx_sound_preds.proofs.Fitting.{some_is}
-use Rattle.vx_sound_preds.proofs.Grouped.{AreSingle, resource_is}
-use Rattle.vx_sound_preds.proofs.Folding.{Stock, instance_changed}
-use Rattle.vx_sound_preds.proofs.Changes.{consistent_changed}
-use Rattle.vx_sound_preds.proofs.Typed.{good_bodies}
-use Rattle.vx_sound_preds.proofs.Walks.{proper_covered, held_proper}
+use Rattle.vx_amounts.proofs.Amounts.{Positive}
+use Rattle.vx_sound.specs.Snapshots.{IsTree}
+use Rattle.vx_sound.proofs.World.{Changing}
+use Rattle.vx_sound_preds.specs.Covered.{Covered, IsProper, PredicatesPass, TypedInstances, IsStocked}
+use Rattle.vx_sound_preds.proofs.Holding.{TypedAll, HoldsInstances, of_possible, consistent, instances_world}
+use Rattle.vx_sound_preds.proofs.Walks.{proper_covered}
+use Rattle.vx_sound_preds.proofs.Keeping.{held_typed, instances_changing}
+use Rattle.vx_sound_preds.proofs.Speaking.{good, no_perm, speak}
 
--- values of parameters are no amounts
-typed_rigid : (ds : List Declaration) (vs : List Value) → HaveNoPerm ds → HaveTypes ds vs → AreRigid vs
-typed_rigid [] [] k h = tt
-typed_rigid [] (v ∷ vs) k h = absurd h
-typed_rigid (d ∷ ds) [] k h = absurd h
-typed_rigid (d ∷ ds) (v ∷ vs) k h = (one v (λ e. k.0 (sym h.0 ∙ e)), typed_rigid ds vs k.1 h.1)
-  where
-    one : (v : Value) → ((type_of v ≡ Perm) → ⊥) → IsRigid v
-    one (IntValue z) n = tt
-    one (BoolValue z) n = tt
-    one (RefValue z) n = tt
-    one (PermValue z) n = n refl
+-- the walks of all predicates that x leads to
+pub bodies_covered : (p : Program) (x : Name) (replies : Name → List Reply) → IsTypedProgram p → PredicatesPass p x replies → Covered p (IsProper p x)
+bodies_covered p x replies typed pass = proper_covered p (good p x typed) x (no_perm p x typed) (speak p x typed) replies pass
 
-module _ (p : Program) (x : Name) (typed : IsTypedProgram p) where
-  single : (hs : Holdings) → TypedInstances p x hs → AreSingle hs
-  single [] h = tt
-  single ((At l, a) ∷ xs) h = (tt, single xs h)
-  single ((Folded i, a) ∷ xs) h = (typed_rigid h.0.1.0.parameters i.arguments (typed.predicates i.predicate h.0.1.0 h.0.1.1).parameters h.0.1.2, single xs h.1)
+module _ (p : Program) (x : Name) (replies : Name → List Reply) (typed : IsTypedProgram p) (pass : PredicatesPass p x replies) where
+  abbrev Held : Name → Type 0
+  Held = InClosure p x
 
-  -- what is held of an instance came with arguments of their types
-  held_typed : (hs : Holdings) → TypedInstances p x hs → (i : Instance) → Positive (amount hs (Folded i)) → InClosure p x i.predicate × ((d : Predicate) → predicate_named p i.predicate ≡ Some d → HaveTypes d.parameters i.arguments)
-  held_typed [] h i k = absurd (not-positive k (le-refl none))
-  held_typed ((At l, a) ∷ xs) h i k = held_typed xs h i k
-  held_typed ((Folded j, a) ∷ xs) h i k = go (same_resource (Folded i) (Folded j)) refl k (λ k. held_typed xs h.1 i k)
-    where
-      same : (i j : Instance) → Folded i ≡ Folded j → j ≡ i
-      same i j e = cc
+  typed_all : (hs : Holdings) → TypedInstances p x hs → TypedAll p Held hs
+  typed_all [] h = tt
+  typed_all ((At l, a) ∷ xs) h = (tt, typed_all xs h)
+  typed_all ((Folded i, a) ∷ xs) h = ((h.0.0, (h.0.1.0, h.0.1.1, (typed.predicates i.predicate h.0.1.0 h.0.1.1).parameters, h.0.1.2)), typed_all xs h.1)
 
-      here : InClosure p x j.predicate × ((d : Predicate) → predicate_named p j.predicate ≡ Some d → HaveTypes d.parameters j.arguments)
-      here = (h.0.0, λ d named. subst (λ (d : Predicate). HaveTypes d.parameters j.arguments) (some_is h.0.1.0 d (sym h.0.1.1 ∙ named)) h.0.1.2)
+  changing : Changing (instances_world p (good p x typed) (InClosure p x) (no_perm p x typed) true)
+  changing = instances_changing p (good p x typed) x (no_perm p x typed) (bodies_covered p x replies typed pass)
 
-      go : (b : Bool) → same_resource (Folded i) (Folded j) ≡ b → Positive (cond b (sum a (amount xs (Folded i))) (amount xs (Folded i))) →
-          (Positive (amount xs (Folded i)) → InClosure p x i.predicate × ((d : Predicate) → predicate_named p i.predicate ≡ Some d → HaveTypes d.parameters i.arguments)) →
-          InClosure p x i.predicate × ((d : Predicate) → predicate_named p i.predicate ≡ Some d → HaveTypes d.parameters i.arguments)
-      go false e k f = f k
-      go true e k f =
-          subst (λ (i : Instance). InClosure p x i.predicate × ((d : Predicate) → predicate_named p i.predicate ≡ Some d → HaveTypes d.parameters i.arguments))
-          (same i j (resource_is (Folded i) (Folded j) (single ((Folded j, a) ∷ []) (h.0, tt)).0 e)) here
-
-  stock : (s : State) → IsConsistent p s → IsStocked p x s.holdings → Stock p s.heap s.holdings
-  stock s co st = record { debts = λ r sr. record { holds = st.debts r }; single = single s.holdings st.instances; grounded = λ i k. co.supported.grounded i k.holds }
-
-  module _ (now : BodiesSayNow p) (simple : BodiesUnfoldNothing p x) (replies : Name → List Reply) (pass : PredicatesPass p x replies) (s : State) (g : Heap) (co : IsConsistent p s) (st : IsStocked p x s.holdings) (ch : Changes p s g) where
-    proper : (i : Instance) → Positive (amount s.holdings (Folded i)) → IsProper p x s.heap i
-    proper i k = let h = held_typed s.holdings st.instances i k in held_proper p x (good_bodies p typed now) s co.supported (stock s co st) i k h.0 h.1
+  module _ (s : State) (g : Heap) (co : IsConsistent p s) (st : IsStocked p x s.holdings) (ch : Changes p s g) where
+    holds : HoldsInstances p (InClosure p x) true s.heap s.holdings
+    holds = of_possible p (good p x typed) Held true s co (typed_all s.holdings st.instances) (λ r k. record { holds = st.debts r })
 
     pub change_keeps : IsConsistent p (with_heap g s)
-    change_keeps = (consistent_changed p (good_bodies p typed now) (IsProper p x) (proper_covered p x typed now simple replies pass) s g (stock s co st) ch proper co).0
+    change_keeps = consistent p (good p x typed) Held true (with_heap g s) refl (changing.changed s g ch holds)
 
     pub trees_kept : (i : Instance) (t : Tree) → Positive (amount s.holdings (Folded i)) → IsTree p s.heap i t → IsTree p g i t
-    trees_kept i t k tr = (instance_changed p (good_bodies p typed now) (IsProper p x) (proper_covered p x typed now simple replies pass) s g (stock s co st) ch i k (proper i k) t tr).1
+    trees_kept i t k tr = changing.changed_tree s g ch holds i (held_typed p Held s.holdings (typed_all s.holdings st.instances) i k) k t tr

@@ -1,12 +1,12 @@
 -- Whatever an assertion of a method takes, a state that can be stays one.
 use Rattle.std.proofs.Common.{◌≡◌, ℕ, List, refl, subst}
 use Rattle.std.specs.Prelude.{Ok}
-use Rattle.vx_frac.specs.Fractions.{Fraction, none, full, sum, minus, product}
+use Rattle.vx_frac.specs.Fractions.{Fraction, none, sum, minus, product}
 use Rattle.vx_ast.specs.Syntax.{Name, Program, Expr, Exprs, Assertion, Pure, Points, Both, Implied, Chosen, place_of}
 use Rattle.vx_ast.specs.Syntax as syntax
 use Rattle.vx_meaning.specs.Values.{Value, is_true}
-use Rattle.vx_meaning.specs.States.{State, Heap, Holdings, Location, Resource, At, Folded, lost, with_holdings}
-use Rattle.vx_meaning.specs.Consistent.{total, IsConsistent}
+use Rattle.vx_meaning.specs.States.{State, Heap, Holdings, Location, Resource, At, Folded, lost}
+use Rattle.vx_meaning.specs.Consistent.{total}
 use Rattle.vx_meaning.specs.Fits.{◌>>=◌, guard, Deeper, choose, fit, fit_all, field_part, instance_part, take, take_part}
 use Rattle.vx_amounts.proofs.Amounts.{Le, Positive, Same, same-refl, same-trans, le-refl, le-trans, le-is, add-below, sum-minus, product_same, below-add}
 use Rattle.vx_amounts.proofs.Products.{product_sign, product_dist, product_comm, product-none, positive_le}
@@ -36,7 +36,7 @@ module _ (p : Program) (good : GoodBodies p) (q : Fraction) (scale : Positive q)
   HasRigid (Implied c a) = HasRigid a
   HasRigid (Chosen c a b) = HasRigid a × HasRigid b
 
-  lost_less : (h : Heap) (hs : Holdings) (r : Resource) (x : Fraction) → Le none x → (n : ℕ) (l : Location) → Le (total p n h (lost r x hs) l) (total p n h hs l)
+  pub lost_less : (h : Heap) (hs : Holdings) (r : Resource) (x : Fraction) → Le none x → (n : ℕ) (l : Location) → Le (total p n h (lost r x hs) l) (total p n h hs l)
   lost_less h hs r x sign n l =
       let w = weight p h l n in
       let up = weight_sign p h l (no_negatives p h l good) n r in
@@ -79,13 +79,3 @@ module _ (p : Program) (good : GoodBodies p) (q : Fraction) (scale : Positive q)
   take_lowers (Chosen c a b) hs rest k st eq =
       let x = undo (fit p d s c) (λ v. choose (place_of c) v (take p d s q a hs) (take p d s q b hs)) rest eq in
       picked {R = Lowers p s.heap hs rest} (place_of c) x.it (take p d s q a hs) (take p d s q b hs) rest (λ e. take_lowers a hs rest k.0 st e) (λ e. take_lowers b hs rest k.1 st e) x.then
-
--- a state that can be, with less held
-pub consistent_lowered : (p : Program) (s : State) (rest : Holdings) → IsConsistent p s → Lowers p s.heap s.holdings rest → IsConsistent p (with_holdings rest s)
-consistent_lowered p s rest co lo = record {
-  supported = record {
-    grounded = λ i k. lo.stock.grounded i (record { holds = k });
-    null = λ n f. (le-trans {c = none} (lo.less n record { receiver = 0; field = f }) (record { holds = co.supported.null n f })).holds;
-  };
-  bounded = λ n l. (le-trans {c = full} (lo.less n l) (record { holds = co.bounded n l })).holds;
-}

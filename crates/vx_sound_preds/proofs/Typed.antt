@@ -1,4 +1,4 @@
--- A typed program whose predicates' bodies have no `old` has good bodies.
+-- A typed program has good bodies of predicates.
 use Rattle.std.proofs.Common.{◌≡◌, inl, inr, zero, suc, pos, negsuc, Bool, true, false, cond, List, [], ◌∷◌, ◌++◌, Option, Some, None, refl, sym, ◌∙◌, ap, subst}
 use Rattle.std.specs.Prelude.{ℤ, option_and_then}
 use Rattle.vx_ast.specs.declared.ValueType.{ValueType}
@@ -8,13 +8,14 @@ use Rattle.vx_ast.specs.Syntax as syntax
 use Rattle.vx_ast.specs.Mentions.{mentioned, mentioned_in}
 use Rattle.vx_types.specs.Typing.{Scope, HaveNoPerm, gives_type, HasType, number, truth, nulls, part, variable, nots, operates, scales, divides, connects, chooses, reads, olds, applies, unfoldings, HaveTypes, no_more, more, IsTyped, IsTypedContent}
 use Rattle.vx_ast.specs.Apart.{entered_by, entered_by_body, Stands}
+use Rattle.vx_whole.specs.Now.{IsOfNow, AreOfNow, SaysNow}
 use Rattle.vx_whole.specs.Premises.{IsConstantAmount, HasConstantAmounts, IsTypedProgram}
 use Rattle.vx_meaning.specs.Values.{Value, IntValue, BoolValue, RefValue, PermValue, type_of, negated, operated, divided, divided_ints, needs_right, without_right}
 use Rattle.vx_meaning.specs.States.{State, Store, Location, lookup, value_at, field_type, type_or_int}
 use Rattle.vx_meaning.specs.Evaluate.{choose, connected, read, value, values}
 use Rattle.vx_meaning.specs.Flatten.{no_applications}
 use Rattle.vx_elements.proofs.Values.{value_typed}
-use Rattle.vx_sound_preds.specs.Bodies.{IsRigid, AreRigid, RigidStore, Rigid, IsPlain, ArePlain, IsAmount, IsPlainBody, GoodBodies, IsOfNow, AreOfNow, SaysNow, BodiesSayNow}
+use Rattle.vx_sound_preds.specs.Bodies.{IsRigid, AreRigid, RigidStore, Rigid, IsPlain, ArePlain, IsAmount, IsPlainBody, GoodBodies}
 use Rattle.vx_sound_preds.proofs.Fitting.{some_is}
 use Rattle.vx_sound_preds.proofs.Flats.{came}
 
@@ -241,8 +242,8 @@ module _ (p : Program) where
           body_is scope b t.2 c.1 k.2 (rights (mentioned e ++ entered_by a) (entered_by b) f),
         )
 
-    pub good_bodies : BodiesSayNow p → GoodBodies p
-    good_bodies now = record {
-      plain = λ i d a is body. body_is d.parameters a (subst (IsTypedContent p d.parameters) body (typed.predicates i d is).body) (typed.bodies i d a is body) (now i d a is body)
+    pub good_bodies : GoodBodies p
+    good_bodies = record {
+      plain = λ i d a is body. body_is d.parameters a (subst (IsTypedContent p d.parameters) body (typed.predicates i d is).body) (typed.bodies i d a is body) (typed.now i d a is body)
           (λ x h. typed.apart.body i d x is (subst (λ b. Stands x (entered_by_body b)) (sym body) h));
     }

@@ -1,21 +1,15 @@
--- Where the walks of all predicates passed, proper instances are covered.
-use Rattle.std.proofs.Common.{◌≡◌, inl, ℕ, suc, ◌+◌, Bool, true, false, cond, List, [], ◌∷◌, ◌++◌, Option, Some, None, refl, sym, ◌∙◌, ap, subst, arith, le_refl}
+-- Where the walks of all predicates passed, proper instances are covered, and a predicate whose walk passed doesn't fail.
+use Rattle.std.proofs.Common.{◌≡◌, ℕ, suc, ◌+◌, false, List, [], ◌∷◌, Option, Some, None, refl, sym, ◌∙◌, ap, subst, arith, le_refl}
 use Rattle.std.specs.Prelude.{Ok, option_and_then, unwrap_or}
 use Rattle.vx_frac.specs.Fractions.{none, full, product}
-use Rattle.vx_ast.specs.Syntax.{Name, Kind, IsField, IsFunction, IsMethod, predicate_in, member_named, Declaration, Program, Predicate, IsPredicate, Expr, Assertion, Pure, Points, Both, Implied, Chosen, predicate_named}
-use Rattle.vx_ast.specs.Mentions.{mentioned, mentioned_by}
-use Rattle.vx_ast.specs.Apart as entering
-use Rattle.vx_ast.specs.Apart.{mentioned_by_body}
-use Rattle.vx_whole.specs.Closure.{mentioned_by_kind, InClosure, further}
-use Rattle.vx_ast.specs.Syntax as syntax
+use Rattle.vx_ast.specs.Syntax.{Name, Declaration, Program, Predicate, IsPredicate, Assertion, predicate_named}
 use Rattle.vx_smt_meaning.specs.declared.reply.Reply.{Reply}
-use Rattle.vx_meaning.specs.Values.{Value, IntValue, BoolValue, RefValue, PermValue, is_true}
+use Rattle.vx_meaning.specs.Values.{Value}
 use Rattle.vx_meaning.specs.States as run
 use Rattle.vx_meaning.specs.States.{Heap, Holdings, Location, Instance, Resource, At, Folded, amount, bind}
-use Rattle.vx_meaning.specs.Evaluate as plain
-use Rattle.vx_meaning.specs.Evaluate.{value, values}
-use Rattle.vx_meaning.specs.Flatten.{no_applications, bare, entries, location_entry, instance_entry, body_entries, flat}
+use Rattle.vx_meaning.specs.Flatten.{bare, entries, body_entries, flat}
 use Rattle.vx_meaning.specs.Consistent.{total, IsSupported}
+use Rattle.vx_meaning.specs.Outcomes.{FailsAt}
 use Rattle.vx_meaning.specs.Fits.{add, deeper}
 use Rattle.vx_meaning.specs.Fails.{PredicateFails}
 use Rattle.vx_meaning.specs.Fails as fails
@@ -23,53 +17,40 @@ use Rattle.vx_terms.specs.Build.{whole_amount}
 use Rattle.vx_rules.specs.States as rules
 use Rattle.vx_rules.specs.Trees.{Tree, End}
 use Rattle.vx_rules.specs.Rules.{produce}
-use Rattle.vx_rules.specs.Members.{rules as member_rules, blank, ended, tree}
-use Rattle.vx_types.specs.Typing.{IsTyped, IsTypedContent}
-use Rattle.vx_whole.specs.Premises.{IsTypedProgram}
+use Rattle.vx_rules.specs.Members.{depth, rules as member_rules, blank, ended, tree}
+use Rattle.vx_types.specs.Typing.{HaveNoPerm}
+use Rattle.vx_whole.specs.Closure.{InClosure}
 use Rattle.vx_elements.proofs.Settled.{Meaning}
-use Rattle.vx_amounts.proofs.Amounts.{Le, Positive, le-refl, le-trans, le-is, none-full, not-positive, positive-le, positive-or, above-add, below-add}
-use Rattle.vx_amounts.proofs.Products.{product_sign, product_positive, product-full, positive_le}
+use Rattle.vx_amounts.proofs.Amounts.{Le, Positive, le-refl, le-trans, le-is, not-positive, positive-or, above-add, below-add, sum_same, full-positive}
+use Rattle.vx_amounts.proofs.Products.{product_sign, product_positive, positive_le}
 use Rattle.vx_sound.specs.Law.{Passes}
+use Rattle.vx_sound.proofs.World.{World}
+use Rattle.vx_sound.proofs.Standard.{start as start_interpretation, start_null, start_standard}
 use Rattle.vx_sound.proofs.Passes.{Cleared, cleared}
-use Rattle.vx_sound.proofs.Stands.{Bounded, HeapStands, Stands}
-use Rattle.vx_sound.proofs.Chunks.{location_same}
-use Rattle.vx_sound.proofs.Goes.{declared_all}
-use Rattle.vx_sound_preds.specs.Bodies.{Rigid, IsPlainBody, GoodBodies, BodiesSayNow, UnfoldsNothing}
-use Rattle.vx_sound_preds.specs.Covered.{AllGood, Covered, IsProper, BodiesUnfoldNothing, PredicatesPass}
+use Rattle.vx_sound.proofs.Stands.{Stands}
+use Rattle.vx_sound.proofs.Goes.{Goes, declared_all}
+use Rattle.vx_sound.proofs.Evaluate.{UnfoldsGo}
+use Rattle.vx_sound.proofs.Giving.{whole_scale}
+use Rattle.vx_sound.proofs.Assertions.{give_goes}
+use Rattle.vx_sound_preds.specs.Bodies.{GoodBodies}
+use Rattle.vx_sound_preds.specs.Covered.{AllGood, Covered, IsProper, PredicatesPass}
 use Rattle.vx_sound_preds.proofs.Fitting.{some_is}
 use Rattle.vx_sound_preds.proofs.Flats.{came, flat_later}
-use Rattle.vx_sound_preds.proofs.Totals.{weigh, weight, weight_sign, weight_of_body, weigh_sign}
-use Rattle.vx_sound_preds.proofs.Adding.{AreEntries}
-use Rattle.vx_sound_preds.proofs.Exchanging.{no_negatives, opened}
-use Rattle.vx_sound_preds.proofs.Frames.{AllPositive, positive_least, entries_positive}
+use Rattle.vx_sound_preds.proofs.Totals.{weigh, weigh_none, weight, weight_sign, weight_of_body, weigh_sign, total_weighs, same_is}
+use Rattle.vx_sound_preds.proofs.Grouped.{AreSingle, NoDebts}
+use Rattle.vx_sound_preds.proofs.Adding.{AreEntries, added, weigh_added}
+use Rattle.vx_sound_preds.proofs.Exchanging.{no_negatives, opened, grown}
+use Rattle.vx_sound_preds.proofs.Frames.{AllPositive, positive_least, entries_positive, full-product, sum-none}
 use Rattle.vx_sound_preds.proofs.Folding.{Stock, held_inside}
-use Rattle.vx_sound_preds.proofs.Typed.{on_left, on_right, good_bodies}
-use Rattle.vx_sound_preds.proofs.Types.{some_interpretation, have_types}
-use Rattle.vx_sound_preds.proofs.Reading.{LooseGoes}
-use Rattle.vx_sound_preds.proofs.Given.{never_fails}
-use Rattle.vx_sound_preds.proofs.Covering.{NoNull, body_added}
+use Rattle.vx_sound_preds.proofs.Holding.{TypedAll, typed_added, all_single, added_debts, of_entries, nothing, instances_world}
+use Rattle.vx_sound_preds.proofs.Entries.{entries_typed}
+use Rattle.vx_sound_preds.proofs.Produced.{produced}
+use Rattle.vx_sound_preds.proofs.Unfolds.{BodiesSpeak, unfolds_go}
 
 abbrev null_at : Name → Location
 null_at f = record { receiver = 0; field = f }
 
 module _ (p : Program) (good : GoodBodies p) (x : Name) (h : Heap) where
-  -- Entries that weigh nothing at null
-
-  no_null : (n : ℕ) (es : Holdings) → AllPositive es → ((f : Name) → Le (weigh (weight p h (null_at f) n) es) none) → NoNull es
-  unfolding weigh
-  no_null n [] pos le = tt
-  no_null n ((At l, q) ∷ xs) pos le = (here, no_null n xs pos.1 (λ f. le-trans (below-add (weigh (weight p h (null_at f) n) xs) (product_sign (positive_le pos.0) (weight_sign p h (null_at f) (no_negatives p h (null_at f) good) n (At l)))) (le f)))
-    where
-      here : l.receiver ≡ 0 → ⊥
-      here z =
-          let k = null_at l.field in
-          let is : l ≡ null_at l.field = ap (λ (r : ℕ). let m : Location = record { receiver = r; field = l.field } in m) z in
-          let full_is : weight p h (null_at l.field) n (At l) ≡ full = ap (λ (b : Bool). cond b full none) (subst (λ (m : Location). run.same_location m l ≡ true) is (location_same l)) in
-          let some : Positive (product q (weight p h (null_at l.field) n (At l))) = subst (λ w. Positive (product q w)) (sym full_is) (positive-le pos.0 (product-full q).back) in
-          let up : Le none (weigh (weight p h (null_at l.field) n) xs) = weigh_sign p h k (weight p h k n) (weight_sign p h k (no_negatives p h k good) n) xs (positive_least p h k xs pos.1) in
-          not-positive some (le-trans (above-add (product q (weight p h (null_at l.field) n (At l))) (weigh (weight p h (null_at l.field) n) xs) up) (le l.field))
-  no_null n ((Folded j, q) ∷ xs) pos le = no_null n xs pos.1 (λ f. le-trans (below-add (weigh (weight p h (null_at f) n) xs) (product_sign (positive_le pos.0) (weight_sign p h (null_at f) (no_negatives p h (null_at f) good) n (Folded j)))) (le f))
-
   -- what is inside an instance weighs nothing where the instance does
   abbrev Lighter : ℕ → Location → Holdings → Type 0
   Lighter n l [] = Unit {0}
@@ -104,157 +85,75 @@ module _ (p : Program) (good : GoodBodies p) (x : Name) (h : Heap) where
       let e : flat p (suc (g.0 + n)) h i ≡ Some g.1 = subst (λ (m : ℕ). flat p m h i ≡ Some g.1) z (flat_later p (suc n) g.0 h i g.1 g.2) in
       le-trans (weight_of_body p h (null_at f) (g.0 + n) i g.1 e es body).back (record { holds = pr.null (suc (g.0 + n)) f })
 
--- The instances among a typed body's entries are of what x leads to, and have arguments of their types.
-
-abbrev TypedEntries : Program → Name → Holdings → Type 0
-TypedEntries p x [] = Unit {0}
-TypedEntries p x ((At l, q) ∷ xs) = TypedEntries p x xs
-TypedEntries p x ((Folded j, q) ∷ xs) = (InClosure p x j.predicate × ((d : Predicate) → predicate_named p j.predicate ≡ Some d → run.HaveTypes d.parameters j.arguments)) × TypedEntries p x xs
-
-module _ (p : Program) (x : Name) where
-  -- x leads to all of these
-  abbrev AllSeen : List Name → Type 0
-  AllSeen ys = (y : Name) → entering.Stands y ys → InClosure p x y
-
-  lefts : (ys zs : List Name) → AllSeen (ys ++ zs) → AllSeen ys
-  lefts ys zs k y s = k y (on_left y ys zs s)
-
-  rights : (ys zs : List Name) → AllSeen (ys ++ zs) → AllSeen zs
-  rights ys zs k y s = k y (on_right y ys zs s)
-
-  append_typed : (xs ys : Holdings) → TypedEntries p x xs → TypedEntries p x ys → TypedEntries p x (xs ++ ys)
-  append_typed [] ys a b = b
-  append_typed ((At l, q) ∷ xs) ys a b = append_typed xs ys a b
-  append_typed ((Folded j, q) ∷ xs) ys a b = (a.0, append_typed xs ys a.1 b)
-
-  chosen_typed : (v : Value) (first second : Option Holdings) (es : Holdings) → (first ≡ Some es → TypedEntries p x es) → (second ≡ Some es → TypedEntries p x es) → plain.choose v first second ≡ Some es → TypedEntries p x es
-  chosen_typed (BoolValue true) first second es a b e = a e
-  chosen_typed (BoolValue false) first second es a b e = b e
-  chosen_typed (IntValue z) first second es a b e = cc
-  chosen_typed (RefValue z) first second es a b e = cc
-  chosen_typed (PermValue z) first second es a b e = cc
-
-  empty_typed : (es : Holdings) → Some [] ≡ Some es → TypedEntries p x es
-  empty_typed es e = subst (TypedEntries p x) (some_is [] es e) tt
-
-  truth_typed : (b : Bool) (es : Holdings) → cond b (Some []) None ≡ Some es → TypedEntries p x es
-  truth_typed true es e = empty_typed es e
-  truth_typed false es e = cc
-
-  location_typed : (f : Name) (r v : Value) (es : Holdings) → location_entry f r v ≡ Some es → TypedEntries p x es
-  location_typed f (RefValue r) (PermValue q) es e = subst (TypedEntries p x) (some_is ((At record { receiver = r; field = f }, q) ∷ []) es e) tt
-  location_typed f (RefValue r) (IntValue q) es e = cc
-  location_typed f (RefValue r) (BoolValue q) es e = cc
-  location_typed f (RefValue r) (RefValue q) es e = cc
-  location_typed f (IntValue r) v es e = cc
-  location_typed f (BoolValue r) v es e = cc
-  location_typed f (PermValue r) v es e = cc
-
-  instance_typed : (i : Name) (vs : List Value) (v : Value) (es : Holdings) → InClosure p x i → ((d : Predicate) → predicate_named p i ≡ Some d → run.HaveTypes d.parameters vs) → instance_entry i vs v ≡ Some es → TypedEntries p x es
-  instance_typed i vs (PermValue q) es s h e = subst (TypedEntries p x) (some_is ((Folded record { predicate = i; arguments = vs }, q) ∷ []) es e) ((s, h), tt)
-  instance_typed i vs (IntValue q) es s h e = cc
-  instance_typed i vs (BoolValue q) es s h e = cc
-  instance_typed i vs (RefValue q) es s h e = cc
-
-  entries_typed : (ds : List Declaration) (vs : List Value) (tv : run.HaveTypes ds vs) (h : Heap) (a : Assertion) (es : Holdings) → IsTyped p ds a → IsPlainBody p Rigid a → AllSeen (mentioned_by a) → entries p (bare (bind ds vs) h) a ≡ Some es → TypedEntries p x es
-  entries_typed ds vs tv h (Pure e) es t k sn eq =
-      let y = came (value p no_applications (bare (bind ds vs) h) e) (λ v. cond (is_true v) (Some []) None) es eq in
-      truth_typed (is_true y.it) es y.then
-  entries_typed ds vs tv h (Points at e f share) es t k sn eq =
-      let y = came (value p no_applications (bare (bind ds vs) h) e) (λ r. option_and_then (location_entry f r) (value p no_applications (bare (bind ds vs) h) share)) es eq in
-      let z = came (value p no_applications (bare (bind ds vs) h) share) (location_entry f y.it) es y.then in
-      location_typed f y.it z.it es z.then
-  entries_typed ds vs tv h (syntax.Instance at i xs share) es t k sn eq =
-      let y = came (values p no_applications (bare (bind ds vs) h) xs) (λ ws. option_and_then (instance_entry i ws) (value p no_applications (bare (bind ds vs) h) share)) es eq in
-      let z = came (value p no_applications (bare (bind ds vs) h) share) (instance_entry i y.it) es y.then in
-      let its = have_types p ds vs tv h t.0.2 k.0 y.it y.is in
-      instance_typed i y.it z.it es (sn i (inl refl)) (λ d e. subst (λ (d : Predicate). run.HaveTypes d.parameters y.it) (some_is t.0.0 d (sym t.0.1 ∙ e)) its) z.then
-  entries_typed ds vs tv h (Both a b) es t k sn eq =
-      let y = came (entries p (bare (bind ds vs) h) a) (λ xs. option_and_then (λ ys. Some (xs ++ ys)) (entries p (bare (bind ds vs) h) b)) es eq in
-      let z = came (entries p (bare (bind ds vs) h) b) (λ ys. Some (y.it ++ ys)) es y.then in
-      subst (TypedEntries p x) (some_is (y.it ++ z.it) es z.then) (append_typed y.it z.it (entries_typed ds vs tv h a y.it t.0 k.0 (lefts (mentioned_by a) (mentioned_by b) sn) y.is) (entries_typed ds vs tv h b z.it t.1 k.1 (rights (mentioned_by a) (mentioned_by b) sn) z.is))
-  entries_typed ds vs tv h (Implied c a) es t k sn eq =
-      let y = came (value p no_applications (bare (bind ds vs) h) c) (λ v. plain.choose v (entries p (bare (bind ds vs) h) a) (Some [])) es eq in
-      chosen_typed y.it (entries p (bare (bind ds vs) h) a) (Some []) es (entries_typed ds vs tv h a es t.1 k.1 (rights (mentioned c) (mentioned_by a) sn)) (empty_typed es) y.then
-  entries_typed ds vs tv h (Chosen c a b) es t k sn eq =
-      let y = came (value p no_applications (bare (bind ds vs) h) c) (λ v. plain.choose v (entries p (bare (bind ds vs) h) a) (entries p (bare (bind ds vs) h) b)) es eq in
-      chosen_typed y.it (entries p (bare (bind ds vs) h) a) (entries p (bare (bind ds vs) h) b) es (entries_typed ds vs tv h a es t.1 k.1 (rights (mentioned c) (mentioned_by a) (lefts (mentioned c ++ mentioned_by a) (mentioned_by b) sn))) (entries_typed ds vs tv h b es t.2 k.2 (rights (mentioned c ++ mentioned_by a) (mentioned_by b) sn)) y.then
+-- no function's symbol means anything
+abbrev pub no_function : Meaning
+no_function = λ g es e. ⊥
 
 -- The walk of a body
 
-means : Meaning
-means g es e = ⊥
+-- where amounts are bounded or not, the same is declared
+declared_loose : (ds : List Declaration) (s : rules.State) → record (rules.declare_all ds s) { bounded = false } ≡ rules.declare_all ds (record s { bounded = false })
+declared_loose [] s = refl
+declared_loose (d ∷ ds) s = declared_loose ds (rules.declare_fresh d.name (rules.sort_of_type d.of) s)
 
-chunks_kept : (ds : List Declaration) (s : rules.State) → (rules.declare_all ds s).heap ≡ s.heap
-chunks_kept [] s = refl
-chunks_kept (d ∷ ds) s = chunks_kept ds (rules.declare_fresh d.name (rules.sort_of_type d.of) s)
+module _ (means : Meaning) (p : Program) (good : GoodBodies p) (Held : Name → Type 0) (no_perm : (x : Name) (d : Predicate) → predicate_named p x ≡ Some d → HaveNoPerm d.parameters) (speak : BodiesSpeak p Held) where
+  -- nothing bounds the amounts of a predicate's own walk
+  abbrev loose : World
+  loose = instances_world p good Held no_perm false
 
-nothing_bounded : Bounded []
-nothing_bounded = record { most = λ l. none-full; null = λ f. le-refl none }
+  opens : UnfoldsGo means loose (member_rules p)
+  unfolding member_rules
+  opens = unfolds_go means p good Held no_perm false speak (depth p)
 
--- a predicate's body mentions only what it leads to
-body_seen : (p : Program) (x i : Name) (d : Predicate) (a : Assertion) → InClosure p x i → predicate_named p i ≡ Some d → d.body ≡ Some a → AllSeen p x (mentioned_by a)
-body_seen p x i d a c is body y s = further c (subst (λ (o : Option Kind). entering.Stands y (mentioned_by_kind p o)) (sym (kind_is (member_named p i) is)) (subst (λ (b : Option Assertion). entering.Stands y (mentioned_by_body b)) (sym body) s))
-  where
-    kind_is : (o : Option Kind) → predicate_in o ≡ Some d → o ≡ Some (IsPredicate d)
-    kind_is (Some (IsPredicate e)) h = ap (λ (d : Predicate). Some (IsPredicate d)) (some_is e d h)
-    kind_is None h = cc
-    kind_is (Some (IsField t)) h = cc
-    kind_is (Some (IsFunction g)) h = cc
-    kind_is (Some (IsMethod m)) h = cc
+  module _ (i : Name) (d : Predicate) (a : Assertion) (body : d.body ≡ Some a) (replies : List Reply) (pass : Passes p i (IsPredicate d) replies) where
+    abbrev blank_loose : rules.State
+    blank_loose = record blank { bounded = false }
 
--- a body is produced with no chunk there and where nothing bounds amounts
-abbrev bare_state : rules.State → rules.State
-bare_state s = record s { heap = []; bounded = false }
+    walked : Cleared (produce p (member_rules p) a whole_amount None (rules.declare_all d.parameters (record blank { bounded = false })) ended)
+    walked =
+        let k = cleared (tree p i (IsPredicate d)) replies pass.0 pass.1 in
+        let e : Cleared (produce p (member_rules p) a whole_amount None (record (rules.declare_all d.parameters blank) { bounded = false }) ended) =
+        subst (λ (b : Option Assertion). Cleared (elim b as (λ b. Tree) [ None ↦ End | Some body ↦ produce p (member_rules p) body whole_amount None (record (rules.declare_all d.parameters blank) { bounded = false }) ended ])) body k in
+        subst (λ s. Cleared (produce p (member_rules p) a whole_amount None s ended)) (declared_loose d.parameters blank) e
 
-module _ (p : Program) (i : Name) (d : Predicate) (a : Assertion) (body : d.body ≡ Some a) (replies : List Reply) (pass : Passes p i (IsPredicate d) replies) where
-  starts : (h : Heap) → Stands means p [] some_interpretation blank (bare [] h)
-  unfolding some_interpretation
-  starts h =
-      let nothing : HeapStands means p 0 some_interpretation [] h [] = record { each = tt; sums = λ l. le-refl none } in
-      record { store = tt; path = tt; heap = nothing; old = nothing; awake = refl; null = refl; bounded = nothing_bounded; old_bounded = nothing_bounded }
+    starts : (h : Heap) → Stands means loose [] start_interpretation (record blank { bounded = false }) (bare [] h)
+    starts h = record {
+      store = tt;
+      path = tt;
+      heap = record { each = tt; sums = λ r. le-refl none };
+      old = record { each = tt; sums = λ r. le-refl none };
+      awake = refl;
+      bounded = refl;
+      null = start_null;
+      standard = start_standard;
+      holds = nothing p good Held false h;
+      old_holds = nothing p good Held false h;
+    }
 
-  walked : Cleared (produce p (member_rules p) a whole_amount None (bare_state (rules.declare_all d.parameters blank)) ended)
-  walked =
-      let k = cleared (tree p i (IsPredicate d)) replies pass.0 pass.1 in
-      let e : Cleared (produce p (member_rules p) a whole_amount None (record (rules.declare_all d.parameters blank) { bounded = false }) ended) =
-      subst (λ (b : Option Assertion). Cleared (elim b as (λ b. Tree) [ None ↦ End | Some body ↦ produce p (member_rules p) body whole_amount None (record (rules.declare_all d.parameters blank) { bounded = false }) ended ])) body k in
-      subst (λ (z : rules.Heap). Cleared (produce p (member_rules p) a whole_amount None (record (rules.declare_all d.parameters blank) { heap = z; bounded = false }) ended)) (chunks_kept d.parameters blank) e
-
-  -- from any arguments and any heap
-  begun : (vs : List Value) → run.HaveTypes d.parameters vs → (h : Heap) → LooseGoes means p d.parameters some_interpretation 0 (λ s. produce p (member_rules p) a whole_amount None s ended) (bare (bind d.parameters vs) h)
-  begun vs tv h =
-      let g = declared_all means p d.parameters vs tv [] some_interpretation blank (bare [] h) (λ s. produce p (member_rules p) a whole_amount None (bare_state s) ended) (starts h) walked in
-      record {
-        interp = g.interp;
-        state = bare_state g.state;
-        extends = g.extends;
-        later = g.later;
-        stands = record {
-          store = g.stands.store;
-          path = g.stands.path;
-          chunks = tt;
-          old = g.stands.old;
-          awake = g.stands.awake;
-          null = g.stands.null;
-          unbounded = refl;
-          old_bounded = nothing_bounded;
-          sign = λ l. le-refl none;
-        };
-        cleared = g.cleared;
-      }
+    -- from any arguments and any heap
+    begun : (vs : List Value) → run.HaveTypes d.parameters vs → (h : Heap) → Goes means loose d.parameters start_interpretation 0 (λ s. produce p (member_rules p) a whole_amount None s ended) (bare (bind d.parameters vs) h)
+    begun vs tv h = declared_all means loose d.parameters vs tv [] start_interpretation blank_loose (bare [] h) (λ s. produce p (member_rules p) a whole_amount None s ended) (starts h) walked
 
 -- a predicate whose walk passed doesn't fail
-pub predicate_sound : (p : Program) (i : Name) (d : Predicate) (replies : List Reply) → IsTypedProgram p → BodiesSayNow p → ((a : Assertion) → d.body ≡ Some a → UnfoldsNothing a) → predicate_named p i ≡ Some d →
-    Passes p i (IsPredicate d) replies → PredicateFails p d → ⊥
-predicate_sound p i d replies typed now simple is pass (fails.body vs h a at tv body given) =
-    let g = begun p i d a body replies pass vs tv h in
-    never_fails means p (member_rules p) a d.parameters (bare (bind d.parameters vs) h) at given (subst (IsTypedContent p d.parameters) body (typed.predicates i d is).body) (simple a body)
-    ((good_bodies p typed now).plain i d a is body) g.interp g.state ended g.stands g.cleared
+pub predicate_sound : (p : Program) (good : GoodBodies p) (Held : Name → Type 0) (no_perm : (x : Name) (d : Predicate) → predicate_named p x ≡ Some d → HaveNoPerm d.parameters) (speak : BodiesSpeak p Held) (i : Name) (d : Predicate) (replies : List Reply) →
+    Held i → predicate_named p i ≡ Some d → Passes p i (IsPredicate d) replies → PredicateFails p d → ⊥
+predicate_sound p good Held no_perm speak i d replies held is pass (fails.body vs h a at tv body given) =
+    let b = speak i d a held is body in
+    let g = begun no_function p good Held no_perm speak i d a body replies pass vs tv h in
+    give_goes no_function (instances_world p good Held no_perm false) (member_rules p) (opens no_function p good Held no_perm speak) (IsSupported p) (λ c k. k) (FailsAt at) a full given b.0 b.1 whole_amount ended (whole_scale no_function (instances_world p good Held no_perm false) g.state.next g.interp) g.stands g.cleared
 
-module _ (p : Program) (x : Name) (typed : IsTypedProgram p) (now : BodiesSayNow p) (simple : BodiesUnfoldNothing p x) (replies : Name → List Reply) (pass : PredicatesPass p x replies) where
-  good : GoodBodies p
-  good = good_bodies p typed now
+module _ (p : Program) (good : GoodBodies p) (x : Name) (no_perm : (x : Name) (d : Predicate) → predicate_named p x ≡ Some d → HaveNoPerm d.parameters) (speak : BodiesSpeak p (InClosure p x)) (replies : Name → List Reply) (pass : PredicatesPass p x replies) where
+  abbrev Held : Name → Type 0
+  Held = InClosure p x
+
+  abbrev means : Meaning
+  means = no_function
+
+  -- the entries of a proper instance's body
+  body_typed : (h : Heap) (i : Instance) (d : Predicate) (a : Assertion) (es : Holdings) → predicate_named p i.predicate ≡ Some d → d.body ≡ Some a → IsProper p x h i → entries p (bare (bind d.parameters i.arguments) h) a ≡ Some es → TypedAll p (InClosure p x) es
+  body_typed h i d a es is body pr en =
+      let b = speak i.predicate d a pr.seen is body in
+      entries_typed p Held no_perm d.parameters i.arguments (pr.typed d is) h a es b.0 (good.plain i.predicate d a is body) b.1 en
 
   fits_by : (h : Heap) (i : Instance) (d : Predicate) (a : Assertion) → predicate_named p i.predicate ≡ Some d → d.body ≡ Some a → IsProper p x h i →
       (m : ℕ) × (u : run.State) × (add p (deeper p m) full a (bare (bind d.parameters i.arguments) h) ≡ Ok u)
@@ -263,19 +162,41 @@ module _ (p : Program) (x : Name) (typed : IsTypedProgram p) (now : BodiesSayNow
       let ds = d.parameters in
       let vs = i.arguments in
       let plain_body = good.plain i.predicate d a is body in
-      let pos = entries_positive p (bare (bind ds vs) h) a o.entries_of plain_body o.entries_are in
-      let nn = no_null p good x h (pr.grounded.0 + 0) o.entries_of pos (light p good x h i pr o.entries_of o.body_is 0) in
-      let g = begun p i.predicate d a body (replies i.predicate) (pass i.predicate d pr.seen is) vs (pr.typed d is) h in
-      let content : IsTyped p ds a = subst (IsTypedContent p ds) body (typed.predicates i.predicate d is).body in
-      let r = body_added means p (member_rules p) a ds (bare (bind ds vs) h) (bare (bind ds vs) h) o.entries_of content (simple i.predicate d a pr.seen is body) plain_body refl refl o.entries_are nn g.interp g.state ended g.stands g.cleared in
-      (r.adds.0, r.result, r.adds.1 r.adds.0 (le_refl _))
+      let ps = entries_positive p (bare (bind ds vs) h) a o.entries_of plain_body o.entries_are in
+      let types = body_typed h i d a o.entries_of is body pr o.entries_are in
+      let b = speak i.predicate d a pr.seen is body in
+      let g = begun means p good Held no_perm speak i.predicate d a body (replies i.predicate) (pass i.predicate d pr.seen is) vs (pr.typed d is) h in
+      let holds = of_entries p good Held false h o.entries_of types o.can ps (at_null h i pr o.entries_of o.body_is types ps) refl in
+      let r = produced means p good Held no_perm false (member_rules p) (opens means p good Held no_perm speak) (λ (u : run.State). Unit {0}) full a ds (bare (bind ds vs) h) o.entries_of (no_perm i.predicate d is) b.0 b.1 plain_body o.entries_are holds
+      g.interp g.state whole_amount None ended tt (whole_scale means (instances_world p good Held no_perm false) g.state.next g.interp) g.stands g.cleared in
+      (r.adds.0, run.with_holdings (added full o.entries_of []) (bare (bind ds vs) h), r.adds.1 r.adds.0 (le_refl _))
+    where
+      at_null : (h : Heap) (i : Instance) (pr : IsProper p x h i) (es : Holdings) → option_and_then (λ d. body_entries p h i.arguments d) (predicate_named p i.predicate) ≡ Some es → TypedAll p (InClosure p x) es → AllPositive es →
+          (n : ℕ) (f : Name) → Le (total p n h (added full es []) (null_at f)) none
+      at_null h i pr es e types ps n f =
+          let hs = added full es [] in
+          let l = null_at f in
+          let k = pr.grounded.0 in
+          let w = weight p h l (k + n) in
+          let single : AreSingle hs = all_single p Held hs (typed_added p Held full es [] types tt) in
+          let debts : NoDebts hs = added_debts p good Held false full es [] full-positive ps (λ r s. le-refl none) in
+          le-trans (total_weighs p h l n hs).there
+          (le-trans (grown p h l (no_negatives p h l good) hs single debts k n)
+          (le-trans (weigh_added w full es []).there
+          (le-trans (sum_same (full-product (weigh w es)) (same_is (weigh_none w))).there
+          (le-trans (sum-none (weigh w es)).there (light p good x h i pr es e n f)))))
 
   -- what is inside a proper instance is proper
-  all_proper : (h : Heap) (es : Holdings) → TypedEntries p x es → AreEntries p h es → ((n : ℕ) (f : Name) → (k : ℕ) × Lighter p good x h (k + n) (null_at f) es) → AllGood (IsProper p x) h es
+  all_proper : (h : Heap) (es : Holdings) → TypedAll p (InClosure p x) es → AreEntries p h es → ((n : ℕ) (f : Name) → (k : ℕ) × Lighter p good x h (k + n) (null_at f) es) → AllGood (IsProper p x) h es
   all_proper h [] t g l = tt
-  all_proper h ((At k, q) ∷ xs) t g l = all_proper h xs t g.1 l
+  all_proper h ((At k, q) ∷ xs) t g l = all_proper h xs t.1 g.1 l
   all_proper h ((Folded j, q) ∷ xs) t g l = (
-    record { seen = t.0.0; typed = t.0.1; grounded = g.0; null = λ n f. (less_fuel p good x h (l n f).0 n (null_at f) j (l n f).1.0).holds },
+    record {
+      seen = t.0.0;
+      typed = λ d e. subst (λ (d : Predicate). run.HaveTypes d.parameters j.arguments) (some_is t.0.1.0 d (sym t.0.1.1 ∙ e)) t.0.1.3;
+      grounded = g.0;
+      null = λ n f. (less_fuel p good x h (l n f).0 n (null_at f) j (l n f).1.0).holds;
+    },
     all_proper h xs t.1 g.1 (λ n f. ((l n f).0, (l n f).1.1)),
   )
 
@@ -294,11 +215,9 @@ module _ (p : Program) (x : Name) (typed : IsTypedProgram p) (now : BodiesSayNow
           let of : entries p (bare (bind d.parameters i.arguments) h) a ≡ Some es = sym (ap (side d) body) ∙ f in
           let o = opened p h i d a is body pr.grounded in
           let one : o.entries_of ≡ es = some_is o.entries_of es (sym o.entries_are ∙ of) in
-          let plain_body = good.plain i.predicate d a is body in
-          let pos = entries_positive p (bare (bind d.parameters i.arguments) h) a es plain_body of in
-          let content : IsTyped p d.parameters a = subst (IsTypedContent p d.parameters) body (typed.predicates i.predicate d is).body in
-          all_proper h es (entries_typed p x d.parameters i.arguments (pr.typed d is) h a es content plain_body (body_seen p x i.predicate d a pr.seen is body) of) (subst (AreEntries p h) one o.can)
-          (λ n f. (pr.grounded.0, lighter p good x h (pr.grounded.0 + n) (null_at f) es pos (light p good x h i pr es e n f)))
+          let ps = entries_positive p (bare (bind d.parameters i.arguments) h) a es (good.plain i.predicate d a is body) of in
+          all_proper h es (body_typed h i d a es is body pr of) (subst (AreEntries p h) one o.can)
+          (λ n f. (pr.grounded.0, lighter p good x h (pr.grounded.0 + n) (null_at f) es ps (light p good x h i pr es e n f)))
 
   pub proper_covered : Covered p (IsProper p x)
   proper_covered = record { fits = λ h i d a is body pr g. fits_by h i d a is body pr; inside = inside_by }

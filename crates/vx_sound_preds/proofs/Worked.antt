@@ -5,8 +5,9 @@ use Rattle.vx_frac.specs.Fractions.{Fraction, none, at_most, lowest, is_positive
 use Rattle.vx_ast.specs.declared.ValueType.{ValueType}
 use Rattle.vx_ast.specs.declared.ValueType.TheVariants as type
 use Rattle.vx_ast.specs.Syntax.{Name, same_name, Member, Predicate, Function, Method, Assertion, Kind, IsField, IsPredicate, Equal, member_named, predicate_in, function_in, method_in, predicate_named}
-use Rattle.vx_types.specs.Typing.{IsTypedPredicate, variable, part, number, nulls, nots, operates, reads, olds, no_more, more}
+use Rattle.vx_types.specs.Typing.{IsTypedPredicate, variable, part, number, nulls, nots, operates, reads, no_more, more}
 use Rattle.vx_ast.specs.Apart.{Stands, entered_by_body}
+use Rattle.vx_whole.specs.Now.{SaysNow}
 use Rattle.vx_whole.specs.Premises.{HasConstantAmounts, IsTypedProgram}
 use Rattle.vx_whole.specs.Closure.{itself}
 use Rattle.vx_meaning.specs.Values.{PermValue, RefValue}
@@ -14,11 +15,12 @@ use Rattle.vx_meaning.specs.States.{State, HaveTypes, At, amount}
 use Rattle.vx_meaning.specs.Flatten.{bare, flat}
 use Rattle.vx_meaning.specs.Fails.{Fails}
 use Rattle.vx_sound.specs.Law.{Passes}
-use Rattle.vx_sound_preds.specs.Bodies.{GoodBodies, SaysNow, BodiesSayNow, UnfoldsNothing}
+use Rattle.vx_sound_preds.specs.Bodies.{GoodBodies}
 use Rattle.vx_sound_preds.specs.Covered.{Covered, IsProper, PredicatesPass}
 use Rattle.vx_sound_preds.specs.Examples.{here, P, f, x, with_field, instance_of, cell, cell_body, cells, chain, chain_body, chains, loop, loop_body, loops, owe, owe_body, owes, remember, remember_body, remembers}
 use Rattle.vx_sound_preds.proofs.Typed.{good_bodies}
-use Rattle.vx_sound_preds.proofs.Walks.{proper_covered, predicate_sound}
+use Rattle.vx_sound_preds.proofs.Kept.{bodies_covered}
+use Rattle.vx_sound_preds.proofs.Soundness.{typed_predicate_sound}
 
 module _ (t : ValueType) (d : Predicate) where
   -- what a name can stand for
@@ -90,13 +92,14 @@ module _ (t : ValueType) (d : Predicate) where
       same a b h = cc
 
   -- a predicate with a body that enters nothing
-  is_typed : IsTypedPredicate (with_field t d) d → (a : Assertion) → d.body ≡ Some a → HasConstantAmounts a → entered_by_body d.body ≡ [] → IsTypedProgram (with_field t d)
-  is_typed typed a is amounts enters = record {
+  is_typed : IsTypedPredicate (with_field t d) d → (a : Assertion) → d.body ≡ Some a → HasConstantAmounts a → SaysNow a → entered_by_body d.body ≡ [] → IsTypedProgram (with_field t d)
+  is_typed typed a is amounts now enters = record {
     names = found;
     predicates = λ y e h. subst (IsTypedPredicate (with_field t d)) (the_predicate y e h) typed;
     functions = λ y g e. absurd (no_function y g e);
     methods = λ y m e. absurd (no_method y m e);
     bodies = λ y e b h body. each_body HasConstantAmounts a is amounts y e b h body;
+    now = λ y e b h body. each_body SaysNow a is now y e b h body;
     preconditions = λ y g e. absurd (no_function y g e);
     apart = record {
       measure = λ y g z e st. absurd (no_function y g e);
@@ -126,23 +129,20 @@ cells_typed = is_typed type.Int cell record {
     (variable here x refl, (type.Int, refl), part here 1 1 one_positive),
     operates {op = Equal} {t = type.Int} tt (reads f refl (variable here x refl)) (number here 0),
   );
-} cell_body refl ((over 1 1, (λ p ap s. refl), refl), tt) refl
-
-cells_now : BodiesSayNow cells
-cells_now = each_body type.Int cell SaysNow cell_body refl ((tt, tt), (tt, tt))
+} cell_body refl ((over 1 1, (λ p ap s. refl), refl), tt) ((tt, tt), (tt, tt)) refl
 
 pub cells_are_good : GoodBodies cells
-cells_are_good = good_bodies cells cells_typed cells_now
+cells_are_good = good_bodies cells cells_typed
 
 cell_passes : Passes cells P (IsPredicate cell) []
 unfolding lowest
 cell_passes = (refl, tt)
 
 pub cells_never_fail : Fails cells P (IsPredicate cell) → ⊥
-cells_never_fail = predicate_sound cells P cell [] cells_typed cells_now (λ a is. each_body type.Int cell UnfoldsNothing cell_body refl ((tt, tt), (tt, tt)) P cell a refl is) refl cell_passes
+cells_never_fail = typed_predicate_sound cells P cell [] cells_typed refl cell_passes
 
 pub cells_covered : Covered cells (IsProper cells P)
-cells_covered = proper_covered cells P cells_typed cells_now (λ y d a c is body. each_body type.Int cell UnfoldsNothing cell_body refl ((tt, tt), (tt, tt)) y d a is body) (λ y. []) (passes type.Int cell cell_passes)
+cells_covered = bodies_covered cells P (λ y. []) cells_typed (passes type.Int cell cell_passes)
 
 -- P(x: Ref) { acc(x.f) && (!(x.f == null) ==> P(x.f)) }
 
@@ -157,23 +157,20 @@ chains_typed = is_typed type.Ref chain record {
       ((chain, refl, more (reads f refl (variable here x refl)) no_more), part here 1 1 one_positive),
     ),
   );
-} chain_body refl ((over 1 1, (λ p ap s. refl), refl), (over 1 1, (λ p ap s. refl), refl)) refl
-
-chains_now : BodiesSayNow chains
-chains_now = each_body type.Ref chain SaysNow chain_body refl ((tt, tt), ((tt, tt), ((tt, tt), tt)))
+} chain_body refl ((over 1 1, (λ p ap s. refl), refl), (over 1 1, (λ p ap s. refl), refl)) ((tt, tt), ((tt, tt), ((tt, tt), tt))) refl
 
 pub chains_are_good : GoodBodies chains
-chains_are_good = good_bodies chains chains_typed chains_now
+chains_are_good = good_bodies chains chains_typed
 
 chain_passes : Passes chains P (IsPredicate chain) []
 unfolding lowest
 chain_passes = (refl, tt)
 
 pub chains_never_fail : Fails chains P (IsPredicate chain) → ⊥
-chains_never_fail = predicate_sound chains P chain [] chains_typed chains_now (λ a is. each_body type.Ref chain UnfoldsNothing chain_body refl ((tt, tt), ((tt, tt), ((tt, tt), tt))) P chain a refl is) refl chain_passes
+chains_never_fail = typed_predicate_sound chains P chain [] chains_typed refl chain_passes
 
 pub chains_covered : Covered chains (IsProper chains P)
-chains_covered = proper_covered chains P chains_typed chains_now (λ y d a c is body. each_body type.Ref chain UnfoldsNothing chain_body refl ((tt, tt), ((tt, tt), ((tt, tt), tt))) y d a is body) (λ y. []) (passes type.Ref chain chain_passes)
+chains_covered = bodies_covered chains P (λ y. []) chains_typed (passes type.Ref chain chain_passes)
 
 -- with the empty heap 1.f is null, and the chain from 1 ends there
 pub proper_chain : IsProper chains P [] (instance_of 1)
@@ -211,13 +208,6 @@ owes_are_not good =
     true≢false (sym (amount_is (difference (over 0 1) (over 1 1)) share.amount (share.value_is anywhere) share.above))
 
 -- P(x: Ref) { old(x) == x }
-
-pub remembers_typed : IsTypedProgram remembers
-remembers_typed = is_typed type.Int remember record {
-  names = (refl, tt);
-  parameters = ((λ e. cc), tt);
-  body = operates {op = Equal} {t = type.Ref} tt (olds (variable here x refl)) (variable here x refl);
-} remember_body refl tt refl
 
 pub remembers_is_not : GoodBodies remembers → ⊥
 remembers_is_not good = (good.plain P remember remember_body refl refl).0

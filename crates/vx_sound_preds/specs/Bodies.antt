@@ -1,5 +1,5 @@
 -- What is asked of the bodies of predicates.
-use Rattle.std.specs.Prelude.{◌≡◌, true, List, [], ◌∷◌, Some, ⊤}
+use Rattle.std.specs.Prelude.{◌≡◌, true, List, [], ◌∷◌, Some}
 use Rattle.vx_frac.specs.Fractions.{Fraction, is_positive}
 use Rattle.vx_ast.specs.Syntax.{Name, Program, Predicate, predicate_named, Expr, Not, Operate, Divide, Connect, Choose, Read, Old, Apply, Unfolding, Exprs, NoMore, More, Assertion, Pure, Points, Both, Implied, Chosen}
 use Rattle.vx_ast.specs.Syntax as syntax
@@ -7,8 +7,6 @@ use Rattle.vx_meaning.specs.Values.{Value, PermValue}
 use Rattle.vx_meaning.specs.States.{State, Store}
 use Rattle.vx_meaning.specs.Evaluate.{value, values}
 use Rattle.vx_meaning.specs.Flatten.{no_applications}
-use Rattle.vx_types.specs.FieldLanguage.{InFields}
-use Rattle.vx_types.specs.CallLanguage.{AreInFields}
 
 -- values that are no amounts: those of the parameters of predicates
 abbrev pub IsRigid : Value → Type 0
@@ -64,42 +62,3 @@ IsPlainBody p T (Chosen c a b) = IsPlain c × IsPlainBody p T a × IsPlainBody p
 -- the bodies of predicates are as typing leaves them
 pub record GoodBodies (p : Program) : Type 0 where
   pub plain : (i : Name) (d : Predicate) (e : Assertion) → predicate_named p i ≡ Some d → d.body ≡ Some e → IsPlainBody p Rigid e
-
--- no `old` in it
-abbrev mutual
-  pub IsOfNow : Expr → Type 0
-  IsOfNow (Not at e) = IsOfNow e
-  IsOfNow (Operate at op a b) = IsOfNow a × IsOfNow b
-  IsOfNow (Divide at op a b) = IsOfNow a × IsOfNow b
-  IsOfNow (Connect at c a b) = IsOfNow a × IsOfNow b
-  IsOfNow (Choose at c a b) = IsOfNow c × IsOfNow a × IsOfNow b
-  IsOfNow (Read at e f) = IsOfNow e
-  IsOfNow (Old at e) = ⊥
-  IsOfNow (Apply at f es) = AreOfNow es
-  IsOfNow (Unfolding at i es share e) = AreOfNow es × IsOfNow share × IsOfNow e
-  IsOfNow _ = ⊤
-
-  pub AreOfNow : Exprs → Type 0
-  AreOfNow NoMore = ⊤
-  AreOfNow (More e es) = IsOfNow e × AreOfNow es
-
-abbrev pub SaysNow : Assertion → Type 0
-SaysNow (Pure e) = IsOfNow e
-SaysNow (Points at e f share) = IsOfNow e × IsOfNow share
-SaysNow (syntax.Instance at i es share) = AreOfNow es × IsOfNow share
-SaysNow (Both a b) = SaysNow a × SaysNow b
-SaysNow (Implied c a) = IsOfNow c × SaysNow a
-SaysNow (Chosen c a b) = IsOfNow c × SaysNow a × SaysNow b
-
--- no body of a predicate has an `old`: typing refuses it there, and typing of the settled syntax doesn't say so
-abbrev pub BodiesSayNow : Program → Type 0
-BodiesSayNow p = (i : Name) (d : Predicate) (e : Assertion) → predicate_named p i ≡ Some d → d.body ≡ Some e → SaysNow e
-
--- no `unfolding` in it
-abbrev pub UnfoldsNothing : Assertion → Type 0
-UnfoldsNothing (Pure e) = InFields e
-UnfoldsNothing (Points at e f share) = InFields e × InFields share
-UnfoldsNothing (syntax.Instance at i es share) = AreInFields es × InFields share
-UnfoldsNothing (Both a b) = UnfoldsNothing a × UnfoldsNothing b
-UnfoldsNothing (Implied c a) = InFields c × UnfoldsNothing a
-UnfoldsNothing (Chosen c a b) = InFields c × UnfoldsNothing a × UnfoldsNothing b

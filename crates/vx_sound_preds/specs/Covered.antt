@@ -8,7 +8,6 @@ use Rattle.vx_meaning.specs.Flatten.{bare, body_entries, flat, IsGrounded}
 use Rattle.vx_meaning.specs.Fits.{add, deeper}
 use Rattle.vx_whole.specs.Closure.{InClosure}
 use Rattle.vx_sound.specs.Law.{Passes}
-use Rattle.vx_sound_preds.specs.Bodies.{UnfoldsNothing}
 
 abbrev pub AllGood : (Heap → Instance → Type 0) → Heap → Holdings → Type 0
 AllGood Good h [] = Unit {0}
@@ -29,11 +28,7 @@ pub record IsProper (p : Program) (x : Name) (h : Heap) (i : Instance) : Type 0 
   pub grounded : IsGrounded p h i
   pub null : (n : ℕ) (f : Name) → at_most (amount (unwrap_or (flat p n h i) []) (At record { receiver = 0; field = f })) none ≡ true
 
--- of the predicates that x leads to: no body has an `unfolding`
-abbrev pub BodiesUnfoldNothing : Program → Name → Type 0
-BodiesUnfoldNothing p x = (i : Name) (d : Predicate) (e : Assertion) → InClosure p x i → predicate_named p i ≡ Some d → d.body ≡ Some e → UnfoldsNothing e
-
--- and the walk of each over its replies passed, and its unsat replies are right
+-- of the predicates that x leads to: the walk of each over its replies passed, and its unsat replies are right
 abbrev pub PredicatesPass : Program → Name → (Name → List Reply) → Type 0
 PredicatesPass p x replies = (i : Name) (d : Predicate) → InClosure p x i → predicate_named p i ≡ Some d → Passes p i (IsPredicate d) (replies i)
 

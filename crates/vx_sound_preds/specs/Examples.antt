@@ -85,7 +85,7 @@ chain = record { place = here; parameters = record { name = x; of = type.Ref } â
 abbrev pub chains : Program
 chains = with_field type.Ref chain
 
--- predicate P(x: Ref) { old(x) == x }: not in a text that is typed, but nothing says so of the settled syntax
+-- predicate P(x: Ref) { old(x) == x }, which typing refuses
 abbrev pub remember_body : Assertion
 remember_body = Pure (Operate here Equal (Old here (Variable here x)) (Variable here x))
 

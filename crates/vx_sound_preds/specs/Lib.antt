@@ -1,4 +1,5 @@
-pub mod Snapshots
+pub mod InstanceLanguage
 pub mod Bodies
 pub mod Covered
 pub mod Examples
+pub mod FoldExamples

@@ -1,2 +1,3 @@
+pub mod Now
 pub mod Premises
 pub mod Closure

@@ -8,6 +8,7 @@ use Rattle.vx_meaning.specs.States.{State}
 use Rattle.vx_meaning.specs.Evaluate.{Applications, value}
 use Rattle.vx_types.specs.Typing.{IsTypedPredicate, IsTypedFunction, IsTypedMethod}
 use Rattle.vx_ast.specs.Apart.{KeepsApart}
+use Rattle.vx_whole.specs.Now.{SaysNow}
 
 -- one value in every state, which is above none
 abbrev pub IsConstantAmount : Expr → Type 0
@@ -22,12 +23,13 @@ HasConstantAmounts (Implied c a) = HasConstantAmounts a
 HasConstantAmounts (Chosen c a b) = HasConstantAmounts a × HasConstantAmounts b
 
 -- Each member is found by its name, and typed; amounts in predicates and in preconditions of functions are known without
--- running; and no member is entered within itself.
+-- running; predicates say nothing of an earlier state; and no member is entered within itself.
 pub record IsTypedProgram (p : Program) : Type 0 where
   pub names : (n : ℕ) (m : Member) → slice_get p n ≡ Some m → member_named p m.name ≡ Some m.kind
   pub predicates : (x : Name) (d : Predicate) → predicate_named p x ≡ Some d → IsTypedPredicate p d
   pub functions : (x : Name) (g : Function) → function_named p x ≡ Some g → IsTypedFunction p g
   pub methods : (x : Name) (m : Method) → method_named p x ≡ Some m → IsTypedMethod p m
   pub bodies : (x : Name) (d : Predicate) (a : Assertion) → predicate_named p x ≡ Some d → d.body ≡ Some a → HasConstantAmounts a
+  pub now : (x : Name) (d : Predicate) (a : Assertion) → predicate_named p x ≡ Some d → d.body ≡ Some a → SaysNow a
   pub preconditions : (x : Name) (g : Function) → function_named p x ≡ Some g → Each HasConstantAmounts g.requires
   pub apart : KeepsApart p

@@ -1,9 +1,9 @@
-use Rattle.vx_sound_preds.proofs.Walks.{proper_covered}
+use Rattle.vx_sound_preds.proofs.Kept.{bodies_covered}
 use Rattle.vx_sound_preds.proofs.Worked.{cells_covered, chains_covered, proper_chain}
 use Rattle.vx_sound_preds.proofs.passed_bodies_are_covered.Goals as goal
 
 pub returns-clause-covered : goal.returns-clause-covered
-returns-clause-covered c p x replies typed now simple pass = proper_covered p x typed now simple replies pass
+returns-clause-covered c = bodies_covered
 
 pub returns-clause-cells : goal.returns-clause-cells
 returns-clause-cells c = cells_covered
