@@ -30,6 +30,10 @@ pub on_right : (x : Name) (xs ys : List Name) → Stands x ys → Stands x (xs +
 on_right x [] ys h = h
 on_right x (z ∷ xs) ys h = inr (on_right x xs ys h)
 
+none_of : {A : Type 0} (o : Option A) → ((a : A) → o ≡ Some a → ⊥) → o ≡ None
+none_of None h = refl
+none_of (Some a) h = absurd (h a refl)
+
 module _ (p : Program) where
   -- none of these names is a function
   abbrev NoFunctions : List Name → Type 0
@@ -245,5 +249,5 @@ module _ (p : Program) where
     pub good_bodies : GoodBodies p
     good_bodies = record {
       plain = λ i d a is body. body_is d.parameters a (subst (IsTypedContent p d.parameters) body (typed.predicates i d is).body) (typed.bodies i d a is body) (typed.now i d a is body)
-          (λ x h. typed.apart.body i d x is (subst (λ b. Stands x (entered_by_body b)) (sym body) h));
+          (λ x h. none_of (function_named p x) (typed.apart.body i d x is (subst (λ b. Stands x (entered_by_body b)) (sym body) h)));
     }

@@ -105,7 +105,7 @@ nested_typed = record {
   preconditions = λ y g e. absurd (no_function y g e);
   apart = record {
     measure = λ y g z e st. absurd (no_function y g e);
-    body = λ y d z e st. subst (λ (z : Name). function_named nested z ≡ None) (sym (entered y d z e st)) refl;
+    body = λ y d z e st g is. absurd (no_function z g is);
     precondition = λ y g z e st r. absurd (no_function y g e);
     unfolding_body = λ y d z e st r. leads_nowhere r.0 y (subst (λ (z : Name). ReachesBy nested r.0 z y) (entered y d z e st) r.1);
   };
