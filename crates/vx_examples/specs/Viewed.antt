@@ -36,15 +36,19 @@ of_operators =
 -- by three layers; a fourth counts as 0
 abbrev pub of_keys : List (Term × ℕ)
 of_keys =
-    (number 5, 5) ∷ (term.Number (negsuc 4), 5) ∷ (number 65537, 1) ∷ (int 7, 7) ∷ (first (snap 7), 3) ∷ (truth, 0) ∷ (half, 0) ∷ (term.AllOf NoTerms, 0)
+    (number 5, 5) ∷ (term.Number (negsuc 4), 5) ∷ (number 65537, 1) ∷ (int 7, 7) ∷ (truth, 1)
+    -- 31 * 3 + (31 * 7 + 0)
+    ∷ (first (snap 7), 310)
+    -- 31 * 1 + 1, and 31 * 13 + 0
+    ∷ (half, 32) ∷ (term.AllOf NoTerms, 403)
     -- 31 * 12 + 7
     ∷ (denied (bool 7), 379)
     -- 31 * (31 * 7 + 2) + 5
     ∷ (plus (int 2) (number 5), 6794)
     -- 31 * (31 * 1 + 2) + 3
     ∷ (chosen_term (bool 1) (int 2) (int 3), 1026)
-    -- 31 * 12 + (31 * 12 + (31 * 12 + 0))
-    ∷ (denied (denied (denied (bool 7))), 1116) ∷ []
+    -- 31 * 12 + (31 * 12 + (31 * 12 + 7)), and one deeper, where what is denied isn't seen: 31 * 12 four times
+    ∷ (denied (denied (denied (bool 7))), 1123) ∷ (denied (denied (denied (denied (bool 7)))), 1488) ∷ []
 
 abbrev pub of_sorts : List (Sort' × Sort)
 of_sorts = (sort'.Int, IntSort) ∷ (sort'.Bool, BoolSort) ∷ (sort'.Real, RealSort) ∷ (sort'.Ref, RefSort) ∷ (sort'.Snap, SnapSort) ∷ []

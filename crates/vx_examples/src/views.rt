@@ -30,7 +30,7 @@ ghost use Rattle.vx_states.specs.declared.path.Path.{Path};
 ghost use Rattle.vx_states.specs.declared.path.Path.TheVariants as path';
 ghost use Rattle.vx_states.specs.declared.index.Index.{Index};
 ghost use Rattle.vx_states.specs.declared.index.Index.TheVariants as index';
-ghost use Rattle.vx_states.specs.Keys.{mixed, symbol_key, operator_key, key_of};
+ghost use Rattle.vx_states.specs.Keys.{mixed, symbol_key, operator_key, within, key_of};
 ghost use Rattle.vx_states.specs.Index.{is_even, finds, meets, IsAlike, IsExtended, IsIndexed};
 ghost use Rattle.vx_states.specs.Paths.{extended, entries};
 ghost use Rattle.vx_states.specs.SymStates.{binding, optional_term, own, state, place_in};
@@ -87,7 +87,7 @@ pub fn codes_and_keys()
     ensures symbols { Computes symbol_key of_symbols }
     ensures operators { Computes operator_key of_operators }
     ensures keys { Computes (λ t. key_of t 3) of_keys }
-    ensures no_depth { key_of (number 5) 0 ≡ 0 }
+    ensures no_depth { within 0 7 ≡ 0 }
     ensures mixed { mixed 2114 7 ≡ 5 }
     ensures even { is_even 6 ≡ true }
     ensures odd { is_even 7 ≡ false }
