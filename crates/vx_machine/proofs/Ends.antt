@@ -1,5 +1,5 @@
 -- What is over since its state is impossible ends there.
-use Rattle.std.proofs.Common.{◌≡◌, ℕ, ◌+◌, Bool, true, false, List, None, refl, absurd, ap, arith}
+use Rattle.std.proofs.Common.{◌≡◌, ℕ, ◌+◌, Bool, true, false, List, None, refl, ap, arith}
 use Rattle.vx_ast.specs.Syntax.{Program}
 use Rattle.vx_stack.specs.declared.frame.Next.{Next}
 use Rattle.vx_stack.specs.declared.frame.Next.TheVariants as next'
@@ -15,7 +15,7 @@ use Rattle.vx_stack.specs.Stack.{frame_tree, going, side_tree}
 use Rattle.vx_machine.specs.Runs.{is_impossible, is_over, remaining, steps_remaining, Turned}
 
 module _ (p : Program) where
-  is_end : Tree → Type 0
+  abbrev is_end : Tree → Type 0
   is_end t = (z : State) × (t ≡ Impossible z)
 
   ends : (n : Next) (s : State) → is_impossible n ≡ true → is_end (going p n s)

@@ -5,7 +5,7 @@ use Rattle.vx_machine.proofs.Walks.{turned_end, turned_go, turned_fork, turned_a
 use Rattle.vx_machine.proofs.run.turn.Goals as goal
 
 pub returns-then-has_ended : goal.returns-then-has_ended
-returns-then-has_ended c = turned_over (settled c.args.program.now) c.args.side _ (sym c.has_ended.ensures ∙ c.if-has_ended.true)
+returns-then-has_ended c = turned_over (settled c.args.program.now) c.args.side c.args.conts.now.sides.items (sym c.has_ended.ensures ∙ c.if-has_ended.true)
 
 pub returns-in-End : goal.returns-in-End
 returns-in-End c = turned_end (settled c.args.program.now) _ _ _ (rw c.in-End.is at c.in_ok-step.ensures)
