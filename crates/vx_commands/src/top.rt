@@ -20,7 +20,7 @@ use vx_companion::Builtin;
 use vx_ends::{Files, Parts, PutFault, RoundRobin, Sink, Spawner, put_all};
 use vx_report::{Status, status_of, write_report};
 use vx_typing::Typed;
-use vx_verifier::{Runs, methods_are_supported, settled, verify};
+use vx_verifier::{Runs, programs_are_supported, settled, verify};
 use vx_words::{Order, Text, WordsFault, read_words};
 
 /// How the program ended: its status, and what became of each member with a line, in file order. There are no runs
@@ -143,7 +143,7 @@ fn verify_typed<K: Sink, W: Spawner>(
     typed.typed();
     match supported(alloc, text, typed) {
         Ok(()) => {
-            methods_are_supported(typed);
+            programs_are_supported(typed);
             report_by(alloc, typed, solver, out, spawner, builtin)
         }
         Err(fault) => Ok(say(

@@ -7,4 +7,4 @@ mod lane;
 mod program;
 
 pub use execute::{Runs, verify};
-pub use program::{methods_are_supported, settled};
+pub use program::{programs_are_supported, settled};
