@@ -17,7 +17,7 @@ returns-in-Field c =
     let x = string_bytes c.args.name.now.value in
     let found = found_at c.args.self.now.program.members.items x c.in_ok-number.number (sym c.in_ok-number.ensures) in
     let named : member_named (settled c.args.self.now) x ≡ Some (resolved.kind c.index.result.now.kind) =
-        found.1 c.index.result.now ∙ ap (λ m. Some (resolved.kind m.kind)) (sym c.index.ensures) in
+    found.1 c.index.result.now ∙ ap (λ m. Some (resolved.kind m.kind)) (sym c.index.ensures) in
     sym (ap field_in (named ∙ ap (λ k. Some (resolved.kind k)) c.in-Field.is))
 
 pub returns-in-Predicate : goal.returns-in-Predicate
@@ -25,7 +25,7 @@ returns-in-Predicate c =
     let x = string_bytes c.args.name.now.value in
     let found = found_at c.args.self.now.program.members.items x c.in_ok-number.number (sym c.in_ok-number.ensures) in
     let named : member_named (settled c.args.self.now) x ≡ Some (resolved.kind c.index.result.now.kind) =
-        found.1 c.index.result.now ∙ ap (λ m. Some (resolved.kind m.kind)) (sym c.index.ensures) in
+    found.1 c.index.result.now ∙ ap (λ m. Some (resolved.kind m.kind)) (sym c.index.ensures) in
     sym (ap field_in (named ∙ ap (λ k. Some (resolved.kind k)) c.in-Predicate.is))
 
 pub returns-in-Method : goal.returns-in-Method
@@ -33,5 +33,5 @@ returns-in-Method c =
     let x = string_bytes c.args.name.now.value in
     let found = found_at c.args.self.now.program.members.items x c.in_ok-number.number (sym c.in_ok-number.ensures) in
     let named : member_named (settled c.args.self.now) x ≡ Some (resolved.kind c.index.result.now.kind) =
-        found.1 c.index.result.now ∙ ap (λ m. Some (resolved.kind m.kind)) (sym c.index.ensures) in
+    found.1 c.index.result.now ∙ ap (λ m. Some (resolved.kind m.kind)) (sym c.index.ensures) in
     sym (ap field_in (named ∙ ap (λ k. Some (resolved.kind k)) c.in-Method.is))

@@ -16,7 +16,7 @@ returns-in-Field c =
     let x = string_bytes c.args.name.now.value in
     let found = found_at c.args.self.now.program.members.items x c.in-Some.number (sym c.in-Some.ensures) in
     let named : member_named (settled c.args.self.now) x ≡ Some (resolved.kind c.index.result.now.kind) =
-        found.1 c.index.result.now ∙ ap (λ m. Some (resolved.kind m.kind)) (sym c.index.ensures) in
+    found.1 c.index.result.now ∙ ap (λ m. Some (resolved.kind m.kind)) (sym c.index.ensures) in
     sym (ap method_in (named ∙ ap (λ k. Some (resolved.kind k)) c.in-Field.is))
 
 pub returns-in-Predicate : goal.returns-in-Predicate
@@ -24,7 +24,7 @@ returns-in-Predicate c =
     let x = string_bytes c.args.name.now.value in
     let found = found_at c.args.self.now.program.members.items x c.in-Some.number (sym c.in-Some.ensures) in
     let named : member_named (settled c.args.self.now) x ≡ Some (resolved.kind c.index.result.now.kind) =
-        found.1 c.index.result.now ∙ ap (λ m. Some (resolved.kind m.kind)) (sym c.index.ensures) in
+    found.1 c.index.result.now ∙ ap (λ m. Some (resolved.kind m.kind)) (sym c.index.ensures) in
     sym (ap method_in (named ∙ ap (λ k. Some (resolved.kind k)) c.in-Predicate.is))
 
 pub returns-in_ok-clone-in-Method : goal.returns-in_ok-clone-in-Method
@@ -32,6 +32,6 @@ returns-in_ok-clone-in-Method c =
     let x = string_bytes c.args.name.now.value in
     let found = found_at c.args.self.now.program.members.items x c.in-Some.number (sym c.in-Some.ensures) in
     let named : member_named (settled c.args.self.now) x ≡ Some (resolved.kind c.index.result.now.kind) =
-        found.1 c.index.result.now ∙ ap (λ m. Some (resolved.kind m.kind)) (sym c.index.ensures) in
+    found.1 c.index.result.now ∙ ap (λ m. Some (resolved.kind m.kind)) (sym c.index.ensures) in
     let is = sym (ap method_in (named ∙ ap (λ k. Some (resolved.kind k)) c.in-Method.is)) in
     ap (λ y. Some (resolved.method y)) c.in_ok-clone-in-Method.ensures.cases ∙ is

@@ -16,7 +16,7 @@ returns-in-Field c =
     let x = string_bytes c.args.name.now.value in
     let found = found_at c.args.self.now.program.members.items x c.in-Some.number (sym c.in-Some.ensures) in
     let named : member_named (settled c.args.self.now) x ≡ Some (resolved.kind c.index.result.now.kind) =
-        found.1 c.index.result.now ∙ ap (λ m. Some (resolved.kind m.kind)) (sym c.index.ensures) in
+    found.1 c.index.result.now ∙ ap (λ m. Some (resolved.kind m.kind)) (sym c.index.ensures) in
     sym (ap predicate_in (named ∙ ap (λ k. Some (resolved.kind k)) c.in-Field.is))
 
 pub returns-in_ok-clone-in-Predicate : goal.returns-in_ok-clone-in-Predicate
@@ -24,7 +24,7 @@ returns-in_ok-clone-in-Predicate c =
     let x = string_bytes c.args.name.now.value in
     let found = found_at c.args.self.now.program.members.items x c.in-Some.number (sym c.in-Some.ensures) in
     let named : member_named (settled c.args.self.now) x ≡ Some (resolved.kind c.index.result.now.kind) =
-        found.1 c.index.result.now ∙ ap (λ m. Some (resolved.kind m.kind)) (sym c.index.ensures) in
+    found.1 c.index.result.now ∙ ap (λ m. Some (resolved.kind m.kind)) (sym c.index.ensures) in
     let is = sym (ap predicate_in (named ∙ ap (λ k. Some (resolved.kind k)) c.in-Predicate.is)) in
     ap (λ y. Some (resolved.predicate y)) c.in_ok-clone-in-Predicate.ensures.cases ∙ is
 
@@ -33,5 +33,5 @@ returns-in-Method c =
     let x = string_bytes c.args.name.now.value in
     let found = found_at c.args.self.now.program.members.items x c.in-Some.number (sym c.in-Some.ensures) in
     let named : member_named (settled c.args.self.now) x ≡ Some (resolved.kind c.index.result.now.kind) =
-        found.1 c.index.result.now ∙ ap (λ m. Some (resolved.kind m.kind)) (sym c.index.ensures) in
+    found.1 c.index.result.now ∙ ap (λ m. Some (resolved.kind m.kind)) (sym c.index.ensures) in
     sym (ap predicate_in (named ∙ ap (λ k. Some (resolved.kind k)) c.in-Method.is))
