@@ -1,3 +1,3 @@
-pub mod Passes
-pub mod Within
+pub mod Phrases
+pub mod Programs
 pub mod First

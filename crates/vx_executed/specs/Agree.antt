@@ -1,4 +1,4 @@
--- Two ways to tell which programs are executed agree: by the tokens of a text, and by the forms of the program that it spells.
+-- Two ways to tell which programs are executed agree: by the tokens of a text, and by the members of the program that it spells.
 use Rattle.std.specs.Prelude.{◌≡◌, ℕ, List, true, None}
 use Rattle.vx_ast.specs.Written as written
 use Rattle.vx_resolved.specs.Executed.{is_executed}

@@ -1,5 +1,4 @@
--- The tokens of Viper (VMCAI 2016), as they are parsed, that are not executed so far: the words of predicates, of functions
--- and of what folds and unfolds.
+-- The token of Viper (VMCAI 2016), as it is parsed, that is not executed so far: the word of a function.
 use Rattle.std.specs.Prelude.{◌≡◌, ℕ, Bool, true, false, if◌then◌else◌, List, [], ◌∷◌, Option, Some, None}
 use Rattle.vx_tokens.specs.declared.token.Word.{Word}
 use Rattle.vx_tokens.specs.declared.token.Word.TheVariants as words
@@ -9,13 +8,7 @@ use Rattle.vx_parser.specs.declared.fault.TextFault as the_fault
 use Rattle.vx_parser.specs.declared.fault.TextFault.TheVariants as faults
 
 abbrev pub is_beyond_word : Word → Bool
-is_beyond_word words.Predicate = true
 is_beyond_word words.Function = true
-is_beyond_word words.Decreases = true
-is_beyond_word words.Fold = true
-is_beyond_word words.Unfold = true
-is_beyond_word words.Unfolding = true
-is_beyond_word words.In = true
 is_beyond_word w = false
 
 -- all signs are executed

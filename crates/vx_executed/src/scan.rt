@@ -61,14 +61,5 @@ fn is_beyond_kind(kind: Kind) -> bool
 fn is_beyond_word(word: Word) -> bool
     ensures { result ≡ executed.is_beyond_word word }
 {
-    matches!(
-        word,
-        Word::Predicate
-            | Word::Function
-            | Word::Decreases
-            | Word::Fold
-            | Word::Unfold
-            | Word::Unfolding
-            | Word::In
-    )
+    matches!(word, Word::Function)
 }

@@ -50,8 +50,8 @@ impl Settled {
         &self.program.members[number]
     }
 
-    /// The number of the first member of a name.
-    fn number_of(&self, name: &Rc<String>) -> Option<usize>
+    /// The number of the first member of a name, in file order.
+    pub fn number_of(&self, name: &Rc<String>) -> Option<usize>
         ensures { result ≡ number_named 0 (settled self.now) (string_bytes name.now.value) }
     {
         self.numbers.get(name).copied()

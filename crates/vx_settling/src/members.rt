@@ -8,7 +8,8 @@ ghost use Rattle.vx_ast.specs.Resolve as resolve;
 ghost use Rattle.vx_ast.specs.Resolve.{Names as NamesOf};
 ghost use Rattle.vx_resolved.specs.Resolved as view;
 ghost use Rattle.vx_ast.specs.Syntax as Syntax;
-ghost use Rattle.vx_settling.specs.Refusals.{Tells, are_settled, is_settled_kind};
+ghost use Rattle.vx_resolved.specs.Executed.{is_executed, is_executed_kind};
+ghost use Rattle.vx_settling.specs.Refusals.{Tells};
 ghost use Rattle.vx_resolved.specs.Settled.{settled};
 ghost use Rattle.vx_settling.specs.Names.{names_in};
 
@@ -121,7 +122,7 @@ fn kind(
     k: &MemberKind,
 ) -> Result<vx_resolved::Kind, Unsettled>
     ensures settled { IfOk result (λ r. view.kind r ≡ resolve.kind (names_in names.now) place (written_kind k.now)) }
-    ensures told { Tells result (is_settled_kind (written_kind k.now)) }
+    ensures told { Tells result (is_executed_kind (written_kind k.now)) }
 {
     match k {
         MemberKind::Field(of) => Ok(vx_resolved::Kind::Field(*of)),
@@ -140,7 +141,7 @@ fn kind(
 // A member, settled.
 fn member(alloc: Global, names: &Names, m: &Member) -> Result<vx_resolved::Member, Unsettled>
     ensures settled { IfOk result (λ r. view.member r ≡ resolve.member (names_in names.now) (written_member m.now)) }
-    ensures told { Tells result (is_settled_kind (written_member m.now).kind) }
+    ensures told { Tells result (is_executed_kind (written_member m.now).kind) }
 {
     let kind = kind(alloc, names, m.place, &m.kind)?;
     let name = shared(alloc, &m.name.text)?;
@@ -153,7 +154,7 @@ fn members(
     all: &[Member],
 ) -> Result<Vec<vx_resolved::Member>, Unsettled>
     ensures settled { IfOk result (λ v. map view.member v.items ≡ map (resolve.member (names_in names.now)) (map written_member all.now)) }
-    ensures told { Tells result (are_settled (map written_member all.now)) }
+    ensures told { Tells result (is_executed (map written_member all.now)) }
 {
     let mut settled = Vec::new(alloc);
     for m in all {
@@ -166,7 +167,7 @@ fn members(
 pub fn settle(alloc: Global, p: &Program) -> Result<Settled, Unsettled>
     requires apart { KeepsApart (resolve.program (written_program p.now)) }
     ensures settled { IfOk result (λ t. settled t ≡ resolve.program (written_program p.now)) }
-    ensures told { Tells result (are_settled (written_program p.now)) }
+    ensures told { Tells result (is_executed (written_program p.now)) }
 {
     let names = all_names(alloc, &p.members)?;
     let members = members(alloc, &names, &p.members)?;

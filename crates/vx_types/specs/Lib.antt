@@ -2,3 +2,4 @@ pub mod Typing
 pub mod StoreLanguage
 pub mod FieldLanguage
 pub mod CallLanguage
+pub mod InstanceLanguage

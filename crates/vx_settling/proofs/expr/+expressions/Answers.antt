@@ -1,9 +1,7 @@
-use Rattle.std.proofs.Common.{rules, ◌≡◌, ◌∙◌, ap, ap₂, sym, string_bytes}
+use Rattle.std.proofs.Common.{rules, ◌≡◌, string_bytes}
 use Rattle.vx_ast.specs.declared.ExprKind.TheViews as tree
 use Rattle.vx_ast.specs.Written as written
 use Rattle.vx_ast.specs.Written.{written_expr, written_all, written_optional, name_of}
-use Rattle.vx_ast.specs.Resolve.{amount, expression, expressions}
-use Rattle.vx_resolved.specs.Resolved.{expr, exprs}
 use Rattle.vx_settling.proofs.Rows.{call_row}
 use Rattle.vx_settling.proofs.expr.+expressions.Goals as goal
 

@@ -1,6 +1,6 @@
 use Rattle.std.proofs.Common.{◌∙◌, ap, map}
 use Rattle.vx_ast.specs.Resolve as resolve
-use Rattle.vx_ast.specs.Written.{optional_expr, written_declaration}
+use Rattle.vx_ast.specs.Written.{written_declaration}
 use Rattle.vx_settling.specs.Names.{names_in}
 use Rattle.vx_settling.proofs.Methods.{same_predicate}
 use Rattle.vx_settling.proofs.members.predicate.Goals as goal

@@ -1,9 +1,8 @@
-use Rattle.std.proofs.Common.{◌≡◌, ◌∙◌, ap, map}
+use Rattle.std.proofs.Common.{◌∙◌, ap, map}
 use Rattle.vx_ast.specs.Resolve as resolve
 use Rattle.vx_ast.specs.Syntax.{Name}
 use Rattle.std.specs.Prelude.{Bool, List}
 use Rattle.vx_ast.specs.Written.{written_member}
-use Rattle.vx_resolved.specs.Resolved.{names_of as listed}
 use Rattle.vx_settling.specs.Names.{has_name}
 use Rattle.vx_settling.proofs.Sets.{agree}
 use Rattle.vx_settling.proofs.names.all_names.Goals as goal

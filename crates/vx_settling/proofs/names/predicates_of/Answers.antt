@@ -1,4 +1,4 @@
-use Rattle.std.proofs.Common.{◌≡◌, ◌∙◌, ◌||◌, ◌+◌, ap, sym, drop, map}
+use Rattle.std.proofs.Common.{◌∙◌, ◌||◌, ◌+◌, ap, sym, drop, map}
 use Rattle.std.proofs.lemmas.List.{drop_all}
 use Rattle.vx_ast.specs.Resolve.{has_member, is_predicate}
 use Rattle.vx_ast.specs.Written.{written_member}
