@@ -11,4 +11,5 @@ pub mod Recursions
 pub mod ConstantAmounts
 pub mod SaidNow
 pub mod TypedPrograms
-pub mod CallingMembers
+pub mod InstanceMembers
+pub mod DistinctNames

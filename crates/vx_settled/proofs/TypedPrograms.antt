@@ -229,7 +229,7 @@ module _ (table : Table) (names : Names) (p : Program) (knows : Knows (named tab
 
 -- ---- each member is found by its name
 
-found_later : (names : Names) (x : Name) (ms : List written.Member) → Absent x ms → (n : ℕ) (m : Member) → slice_get (map (resolve.member names) ms) n ≡ Some m → same_name m.name x ≡ false
+pub found_later : (names : Names) (x : Name) (ms : List written.Member) → Absent x ms → (n : ℕ) (m : Member) → slice_get (map (resolve.member names) ms) n ≡ Some m → same_name m.name x ≡ false
 found_later names x [] away n m at = (cc)
 found_later names x (w ∷ ms) away zero m at = subst (λ (y : Member). same_name y.name x ≡ false) (same_member (resolve.member names w) m at) (differs_back x w.name.name away.0)
   where

@@ -1,5 +1,5 @@
 -- What is typed as it is written is typed when it is settled, as a whole and member by member, and keeps its members apart;
--- what is executed is of the language with calls then.
+-- what is executed is of the language with predicates then.
 use Rattle.std.specs.Prelude.{◌≡◌, ◌≤◌, ℕ, true, false, List, [], ◌∷◌, Some, map, slice_get, ⊤}
 use Rattle.vx_ast.specs.Mentions.{is_among}
 use Rattle.vx_ast.specs.Written as written
@@ -12,7 +12,8 @@ use Rattle.vx_rules.specs.Rules.{outer}
 use Rattle.vx_rules.specs.Members.{depth, tree_over, tree}
 use Rattle.vx_ast.specs.Apart.{KeepsApart}
 use Rattle.vx_whole.specs.Premises.{IsTypedProgram}
-use Rattle.vx_types.specs.CallLanguage.{IsCallingMember}
+use Rattle.vx_types.specs.InstanceLanguage.{IsInstanceMember}
+use Rattle.vx_resolved.specs.Numbers.{number_named}
 
 -- this holds of the methods of a program
 abbrev pub OfMethods : Program → (Method → Type 0) → Type 0
@@ -22,11 +23,15 @@ OfMethods p Holds = (n : ℕ) (x : Member) (m : Method) → slice_get p n ≡ So
 abbrev pub TypedWhenSettled : Type 0
 TypedWhenSettled = (p : written.Program) → IsTyped p → OfMethods (program p) (IsTypedMethod (program p))
 
--- what is typed and executed is typed as a whole, and its members are fields, and methods with fields, loops and calls
-abbrev pub CallsWhenSettled : Type 0
-CallsWhenSettled =
+-- what is typed and executed is typed as a whole, and its members are fields, predicates and methods
+abbrev pub InstancesWhenSettled : Type 0
+InstancesWhenSettled =
     (p : written.Program) → IsTyped p → is_executed p ≡ true →
-    IsTypedProgram (program p) × ((x : Name) (k : Kind) → member_named (program p) x ≡ Some k → IsCallingMember k)
+    IsTypedProgram (program p) × ((x : Name) (k : Kind) → member_named (program p) x ≡ Some k → IsInstanceMember k)
+
+-- no two members have one name in what is typed
+abbrev pub DistinctWhenSettled : Type 0
+DistinctWhenSettled = (p : written.Program) → IsTyped p → (n : ℕ) (m : Member) → slice_get (program p) n ≡ Some m → number_named 0 (program p) m.name ≡ Some n
 
 -- no member is entered within itself in what is typed
 abbrev pub KeptApartWhenSettled : Type 0

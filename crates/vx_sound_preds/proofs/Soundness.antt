@@ -9,7 +9,7 @@ use Rattle.vx_meaning.specs.Fails.{Fails}
 use Rattle.vx_sound.specs.Law.{Passes, SoundLaw}
 use Rattle.vx_sound.proofs.Passes.{cleared}
 use Rattle.vx_sound.proofs.Methods.{method_goes}
-use Rattle.vx_sound_preds.specs.InstanceLanguage.{IsInstanceMember}
+use Rattle.vx_types.specs.InstanceLanguage.{IsInstanceMember}
 use Rattle.vx_sound_preds.proofs.Holding.{instances_world}
 use Rattle.vx_sound_preds.proofs.Speaking.{predicate_member, good, no_perm, speak}
 use Rattle.vx_sound_preds.proofs.Mentioning.{function_member, NoFunction, method_says}

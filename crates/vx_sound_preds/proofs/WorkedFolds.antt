@@ -17,7 +17,7 @@ use Rattle.vx_sound.specs.Law.{Passes}
 use Rattle.vx_sound.specs.Examples.{on_line}
 use Rattle.vx_sound_preds.specs.Examples.{here, P, f, x, cell, cell_body}
 use Rattle.vx_sound_preds.specs.FoldExamples.{m, its_x, renews, renewed}
-use Rattle.vx_sound_preds.specs.InstanceLanguage.{IsInstanceMember}
+use Rattle.vx_types.specs.InstanceLanguage.{IsInstanceMember}
 use Rattle.vx_sound_preds.proofs.Soundness.{instance_members_sound}
 
 one_positive : 0 < 1

@@ -1,4 +1,3 @@
-pub mod InstanceLanguage
 pub mod Bodies
 pub mod Covered
 pub mod Examples

@@ -22,7 +22,7 @@ ghost use Rattle.vx_rules.specs.Trees.{FoldCode, Failed, walk};
 ghost use Rattle.vx_rules.specs.Members.{method_tree};
 ghost use Rattle.vx_sound.specs.Examples.{on_line};
 ghost use Rattle.vx_sound.specs.Law.{Passes, SoundLaw};
-ghost use Rattle.vx_sound_preds.specs.InstanceLanguage.{IsInstanceMember};
+ghost use Rattle.vx_types.specs.InstanceLanguage.{IsInstanceMember};
 ghost use Rattle.vx_smt_meaning.specs.declared.reply.Reply.{Reply};
 ghost use Rattle.vx_smt_meaning.specs.declared.reply.Reply.TheVariants.{Unsat, Sat};
 
