@@ -1,0 +1,4 @@
+pub mod Numbers
+pub mod Additions
+pub mod Turns
+pub mod Leading
