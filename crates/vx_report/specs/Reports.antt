@@ -1,5 +1,5 @@
 -- The text of the report: a line for each member that has one, in the order of the runs, and the total line.
-use Rattle.std.specs.Prelude.{ℕ, ◌+◌, Bool, true, false, List, [], ◌∷◌, ◌++◌, Option, Some, None, codes, slice_get, ◌<◌, length}
+use Rattle.std.specs.Prelude.{ℕ, ◌+◌, Bool, true, false, List, [], ◌∷◌, ◌++◌, Option, Some, None, codes, slice_get, ◌<◌, length, ⊤}
 use Rattle.std.specs.List.{All}
 use Rattle.std.specs.Fmt.{decimal}
 use Rattle.vx_ast.specs.declared.Place.{Place}
@@ -43,12 +43,6 @@ cause_word (cause.Reply kept) = codes "reply"
 abbrev pub place_text : Place → List ℕ
 place_text p = decimal p.line ++ codes ":" ++ decimal p.column
 
-abbrev pub verdict_text : Verdict → List ℕ
-verdict_text verdict.Verified = codes "verified"
-verdict_text (verdict.Failed p c r) = codes "failed at " ++ place_text p ++ codes " " ++ code_word c ++ codes " (" ++ reply_word r ++ codes ")"
-verdict_text verdict.Limit = codes "limit of 100000 checks"
-verdict_text (verdict.Fault c) = codes "fault " ++ cause_word c
-
 abbrev pub kind_word : Kind → List ℕ
 kind_word (IsField t) = codes "field"
 kind_word (IsPredicate p) = codes "predicate"
@@ -59,9 +53,16 @@ abbrev pub title_of : Option Member → List ℕ
 title_of (Some m) = kind_word m.kind ++ codes " " ++ m.name
 title_of None = []
 
+abbrev pub verdict_text : Program → Verdict → List ℕ
+verdict_text p verdict.Verified = codes "verified"
+verdict_text p (verdict.Failed at c r) = codes "failed at " ++ place_text at ++ codes " " ++ code_word c ++ codes " (" ++ reply_word r ++ codes ")"
+verdict_text p (verdict.Rests m) = codes "rests on " ++ title_of (slice_get p m.0)
+verdict_text p verdict.Limit = codes "limit of 100000 checks"
+verdict_text p (verdict.Fault c) = codes "fault " ++ cause_word c
+
 -- `KIND name: VERDICT`
 abbrev pub line_of : Program → MemberRun → List ℕ
-line_of p r = title_of (slice_get p r.member.0) ++ codes ": " ++ verdict_text r.verdict ++ 10 ∷ []
+line_of p r = title_of (slice_get p r.member.0) ++ codes ": " ++ verdict_text p r.verdict ++ 10 ∷ []
 
 abbrev pub lines_of : Program → List MemberRun → List ℕ
 lines_of p [] = []
@@ -85,6 +86,10 @@ abbrev pub is_failed : Verdict → Bool
 is_failed (verdict.Failed p c r) = true
 is_failed _ = false
 
+abbrev pub is_resting : Verdict → Bool
+is_resting (verdict.Rests m) = true
+is_resting _ = false
+
 abbrev pub is_limited : Verdict → Bool
 is_limited verdict.Limit = true
 is_limited _ = false
@@ -94,16 +99,30 @@ is_faulted (verdict.Fault c) = true
 is_faulted _ = false
 
 abbrev pub decided_text : ℕ → ℕ → List ℕ
-decided_text verified failed = (decimal verified ++ codes " verified, ") ++ (decimal failed ++ codes " failed, 0 resting, ")
+decided_text verified failed = (decimal verified ++ codes " verified, ") ++ (decimal failed ++ codes " failed, ")
+
+abbrev pub resting_text : ℕ → List ℕ
+resting_text resting = decimal resting ++ codes " resting, "
 
 abbrev pub others_text : ℕ → ℕ → List ℕ
 others_text limited faulted = (decimal limited ++ codes " limited, ") ++ (decimal faulted ++ codes " faults\n")
 
 abbrev pub total_of : List MemberRun → List ℕ
-total_of rs = decided_text (count_of is_verified rs) (count_of is_failed rs) ++ others_text (count_of is_limited rs) (count_of is_faulted rs)
+total_of rs = decided_text (count_of is_verified rs) (count_of is_failed rs) ++ (resting_text (count_of is_resting rs) ++ others_text (count_of is_limited rs) (count_of is_faulted rs))
 
 abbrev pub report_of : Program → List MemberRun → List ℕ
 report_of p rs = lines_of p rs ++ total_of rs
+
+-- what it rests on is one of the program's members
+abbrev pub RestsWithin : Program → Verdict → Type 0
+RestsWithin p (verdict.Rests m) = m.0 < length p
+RestsWithin p verdict.Verified = ⊤
+RestsWithin p (verdict.Failed at c r) = ⊤
+RestsWithin p verdict.Limit = ⊤
+RestsWithin p (verdict.Fault c) = ⊤
+
+abbrev pub RestWithin : Program → List MemberRun → Type 0
+RestWithin p rs = All (λ r. RestsWithin p r.verdict) rs
 
 -- each run's member is one of the program's
 abbrev pub AreNamed : Program → List MemberRun → Type 0

@@ -20,6 +20,7 @@ pub enum Cause {
 /// A member's verdict.
 #[derive(Drop)]
 pub enum Verdict {
+    /// Its walk passed, and the walks of all members that it leads to.
     Verified,
     /// The condition at the place was asked and not refuted.
     Failed {
@@ -27,6 +28,8 @@ pub enum Verdict {
         code: Code,
         reply: Reply,
     },
+    /// Its walk passed; of the members that it leads to, this is the first in file order whose walk didn't.
+    Rests(MemberId),
     /// 100,000 checks were answered, and a further one was due.
     Limit,
     Fault(Cause),

@@ -52,7 +52,9 @@ pub fn status_of(runs: &[MemberRun]) -> Status
     for run in runs {
         match run.verdict {
             Verdict::Verified => {}
-            Verdict::Failed { .. } | Verdict::Limit => status = Status::NotVerified,
+            Verdict::Failed { .. } | Verdict::Rests(_) | Verdict::Limit => {
+                status = Status::NotVerified;
+            }
             Verdict::Fault(_) => return Status::Faulted,
         }
     }

@@ -1,0 +1,3 @@
+pub mod Example
+pub mod Firsts
+pub mod Later
