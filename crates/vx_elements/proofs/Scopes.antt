@@ -4,9 +4,8 @@ use Rattle.vx_ast.specs.declared.Place.{Place}
 use Rattle.vx_ast.specs.declared.ValueType.{ValueType}
 use Rattle.vx_ast.specs.Syntax.{Name, same_name, Declaration, Program, Expr, Exprs, Assertion, Pure, Points, Instance, Both, Implied, Chosen, Declare, Block, Done, Then, joined_with, joined}
 use Rattle.vx_types.specs.Typing.{Scope, type_in, HasType, number, truth, nulls, part, variable, nots, operates, scales, divides, connects, chooses, reads, olds, applies, unfoldings, HaveTypes, no_more, more, IsTyped, AllTyped, scope_after_all}
-use Rattle.vx_types.specs.FieldLanguage.{IsOfFields, AreOfFields}
 
--- Clauses that are joined are typed, and of the language, where each is.
+-- Clauses that are joined are typed where each is.
 
 joined_with_typed : (p : Program) (scope : Scope) (a : Assertion) (rest : List Assertion) → IsTyped p scope a → AllTyped p scope rest → IsTyped p scope (joined_with a rest)
 joined_with_typed p scope a [] t ts = t
@@ -15,14 +14,6 @@ joined_with_typed p scope a (b ∷ rest) t ts = joined_with_typed p scope (Both 
 pub joined_typed : (p : Program) (scope : Scope) (at : Place) (rest : List Assertion) → AllTyped p scope rest → IsTyped p scope (joined at rest)
 joined_typed p scope at [] t = truth
 joined_typed p scope at (a ∷ rest) t = joined_with_typed p scope a rest t.0 t.1
-
-joined_with_plain : (a : Assertion) (rest : List Assertion) → IsOfFields a → AreOfFields rest → IsOfFields (joined_with a rest)
-joined_with_plain a [] t ts = t
-joined_with_plain a (b ∷ rest) t ts = joined_with_plain (Both a b) rest (t, ts.0) ts.1
-
-pub joined_plain : (at : Place) (rest : List Assertion) → AreOfFields rest → IsOfFields (joined at rest)
-joined_plain at [] t = tt
-joined_plain at (a ∷ rest) t = joined_with_plain a rest t.0 t.1
 
 -- What is typed stays so in a longer scope.
 

@@ -1,7 +1,13 @@
 pub mod Over
+pub mod Snapshots
 pub mod Nameless
-pub mod Live
-pub mod LiveAssertions
-pub mod LiveCalls
-pub mod LiveMethods
 pub mod Bools
+pub mod Shapes
+pub mod LiveSteps
+pub mod LiveChunks
+pub mod LiveEvaluate
+pub mod LiveAssertions
+pub mod LiveBodies
+pub mod LiveCalls
+pub mod LiveStatements
+pub mod LiveMethods

@@ -1,5 +1,5 @@
 -- No symbol or sort in a live question has a name of its own.
-use Rattle.std.proofs.Common.{inl, inr, List, [], ◌∷◌, sym, subst}
+use Rattle.std.proofs.Common.{sym, subst}
 use Rattle.std.specs.Prelude.{⊤}
 use Rattle.vx_terms.specs.Sorts.{Sort, Symbol, Standard, Function, Variable, Named}
 use Rattle.vx_terms.specs.Terms.{Term, Truth, Number, Part, Constant, Apply, Not, Binary, Ite, AllOf, SomeOf, Terms, NoTerms, MoreTerms}
@@ -11,7 +11,7 @@ use Rattle.vx_smt_meaning.specs.Over.{AreOver}
 use Rattle.vx_smt_meaning.specs.Standard.{standard_symbols}
 use Rattle.vx_rules.specs.Trees.{Question}
 use Rattle.vx_live.specs.Live.{IsBuiltIn, IsLive}
-use Rattle.vx_live.proofs.Over.{Over, Sorts, standard_given}
+use Rattle.vx_live.proofs.Over.{Over, Sorts, declared_one, standard_given}
 use Rattle.vx_elements.proofs.Lists.{each_map}
 
 -- s, f or v with its number
@@ -49,13 +49,8 @@ negate_nameless (Ite c t u) h = h
 negate_nameless (AllOf ts) h = h
 negate_nameless (SomeOf ts) h = h
 
-declared_numbered : (ds : List Declared) (e : Declared) → Each (λ (c : Declared). IsNumbered c.symbol) ds → Declares ds e → IsNumbered e.symbol
-declared_numbered [] e h k = absurd k
-declared_numbered (c ∷ ds) e h (inl same) = subst (λ (c : Declared). IsNumbered c.symbol) same h.0
-declared_numbered (c ∷ ds) e h (inr k) = declared_numbered ds e h.1 k
-
 standard_numbered : (e : Declared) → Declares standard_symbols e → IsNumbered e.symbol
-standard_numbered e k = declared_numbered standard_symbols e (tt, (tt, (tt, (tt, (tt, (tt, (tt, (tt, (tt, (tt, (tt, (tt, (tt, tt))))))))))))) k
+standard_numbered e k = declared_one (λ (c : Declared). IsNumbered c.symbol) standard_symbols e (tt, (tt, (tt, (tt, (tt, (tt, (tt, (tt, (tt, (tt, (tt, (tt, (tt, tt))))))))))))) k
 
 constant_nameless : (d : Sorts) (f : Symbol) (a : Sort) → Over d.of (Constant f a) → IsNumbered f × IsBuiltIn a
 constant_nameless d (Standard n) a h = (tt, standard_given _ h)

@@ -2,11 +2,11 @@
 use Rattle.std.proofs.Common.{◌≡◌, ◌∙◌, inl, inr, refl, sym, ap, subst, nat_eq, ne_eqb, eq-eqb, le_refl, le_trans, lt_of_lt_of_le, lt_irrefl, le_of_lt, lt-suc_self, List, [], ◌∷◌, ℕ, zero, suc, ◌<◌, ◌≤◌, Bool, true, false, cond, ℤ, pos, negsuc, ◌+ℤ◌, ◌-ℤ◌, ◌*ℤ◌, Option, Some, None}
 use Rattle.vx_ast.specs.declared.ValueType.{ValueType}
 use Rattle.vx_ast.specs.declared.ValueType.TheVariants as type
-use Rattle.vx_frac.specs.Fractions.{Fraction, sum, difference, product, lowest, sum_fits, difference_fits, product_fits}
-use Rattle.vx_terms.specs.Sorts.{Sort, IntSort, BoolSort, Symbol, Standard, Function, Variable, Named, Operator, And, Or, Implies, Equal, Less, LessEqual, Add, Subtract, Multiply, Div, Mod, Takes, gives}
+use Rattle.vx_frac.specs.Fractions.{Fraction, none, full, sum, difference, product, lowest, sum_fits, difference_fits, product_fits}
+use Rattle.vx_terms.specs.Sorts.{Sort, IntSort, BoolSort, RealSort, RefSort, Symbol, Standard, Function, Variable, Named, Operator, And, Or, Implies, Equal, Less, LessEqual, Add, Subtract, Multiply, Div, Mod, Takes, gives}
 use Rattle.vx_terms.specs.Terms.{Term, Truth, Number, Part, Constant, Apply, Not, Binary, Ite, AllOf, SomeOf, Terms, same, sort_of}
 use Rattle.vx_terms.specs.Build as build
-use Rattle.vx_terms.specs.Build.{Literals, Numbers, Parts, Truths, Neither, truth_of, literals_of, negate, and, or, implies, equals, ite, less, less_equal, add, subtract, multiply, div, modulo, variable}
+use Rattle.vx_terms.specs.Build.{Literals, Numbers, Parts, Truths, Neither, truth_of, literals_of, negate, and, or, implies, equals, ite, less, less_equal, add, subtract, multiply, div, modulo, variable, null, zero_amount, whole_amount}
 use Rattle.vx_terms.specs.Formed.{IsKnown, Formed, truth, number, part, constant, applies, nots, binary, ites, all_of, some_of, FormedAll, no_terms, more_terms, FormedBools, no_bools, more_bools}
 use Rattle.vx_terms.proofs.Values.{formed_le}
 use Rattle.vx_terms.proofs.Build.{negate_formed, and_formed, or_formed, implies_formed, equals_formed, ite_formed, less_formed, less_equal_formed, add_formed, subtract_formed, multiply_formed, div_formed, modulo_formed}
@@ -136,16 +136,14 @@ built_gives Multiply a h = h
 built_gives Div a h = tt
 built_gives Mod a h = tt
 
-given : (a b : Declared) → a ≡ b → IsBuiltIn a.gives → IsBuiltIn b.gives
-given a b e h = subst (λ (c : Declared). IsBuiltIn c.gives) e h
-
-declared_given : (ds : List Declared) (e : Declared) → Each (λ (c : Declared). IsBuiltIn c.gives) ds → Declares ds e → IsBuiltIn e.gives
-declared_given [] e h k = absurd k
-declared_given (c ∷ ds) e h (inl same) = given c e same h.0
-declared_given (c ∷ ds) e h (inr k) = declared_given ds e h.1 k
+-- what holds of each of some declarations holds of one of them
+pub declared_one : (P : Declared → Type 0) (ds : List Declared) (e : Declared) → Each P ds → Declares ds e → P e
+declared_one P [] e h k = absurd k
+declared_one P (c ∷ ds) e h (inl same) = subst P same h.0
+declared_one P (c ∷ ds) e h (inr k) = declared_one P ds e h.1 k
 
 pub standard_given : (e : Declared) → Declares standard_symbols e → IsBuiltIn e.gives
-standard_given e k = declared_given standard_symbols e (tt, (tt, (tt, (tt, (tt, (tt, (tt, (tt, (tt, (tt, (tt, (tt, (tt, tt))))))))))))) k
+standard_given e k = declared_one (λ (c : Declared). IsBuiltIn c.gives) standard_symbols e (tt, (tt, (tt, (tt, (tt, (tt, (tt, (tt, (tt, (tt, (tt, (tt, (tt, tt))))))))))))) k
 
 -- sorts of v that are all built in
 pub record Sorts : Type 0 where
@@ -289,3 +287,28 @@ module _ {d : Sorts} {n : ℕ} where
 
   pub modulo_fine : {s t : Term} → Fine d n s IntSort → Fine d n t IntSort → Fine d n (modulo s t) IntSort
   modulo_fine {s = s} {t = t} f g = record { formed = modulo_formed f.formed g.formed; over = mod_over d.of (literals_of s t) s t f.over g.over }
+
+-- null, and amounts
+
+pub null_fine : {d : Sorts} {n : ℕ} → Fine d n null RefSort
+null_fine = record { formed = constant (Standard 0) RefSort tt; over = inl refl }
+
+pub part_fine : {d : Sorts} {n : ℕ} (a : Fraction) → lowest a ≡ a → Fine d n (Part a) RealSort
+part_fine a e = record { formed = part a e; over = tt }
+
+pub zero_fine : {d : Sorts} {n : ℕ} → Fine d n zero_amount RealSort
+unfolding lowest
+zero_fine = part_fine none refl
+
+pub whole_fine : {d : Sorts} {n : ℕ} → Fine d n whole_amount RealSort
+unfolding lowest
+whole_fine = part_fine full refl
+
+pub positive_fine : {d : Sorts} {n : ℕ} {t : Term} → Fine d n t RealSort → Fine d n (less zero_amount t) BoolSort
+positive_fine f = less_fine (inr refl) zero_fine f
+
+pub sign_fine : {d : Sorts} {n : ℕ} {t : Term} → Fine d n t RealSort → Fine d n (less_equal zero_amount t) BoolSort
+sign_fine f = less_equal_fine (inr refl) zero_fine f
+
+pub most_fine : {d : Sorts} {n : ℕ} {t : Term} → Fine d n t RealSort → Fine d n (less_equal t whole_amount) BoolSort
+most_fine f = less_equal_fine (inr refl) f whole_fine

@@ -1,4 +1,4 @@
-use Rattle.vx_live.proofs.LiveMethods.{methods_live, store_methods_live, calling_live}
+use Rattle.vx_live.proofs.LiveMethods.{methods_live, store_methods_live, calling_live, instances_live}
 use Rattle.vx_live.proofs.questions_are_live.Goals as goal
 
 pub returns-clause-fields : goal.returns-clause-fields
@@ -9,3 +9,6 @@ returns-clause-store c = store_methods_live
 
 pub returns-clause-calls : goal.returns-clause-calls
 returns-clause-calls c = calling_live
+
+pub returns-clause-instances : goal.returns-clause-instances
+returns-clause-instances c = instances_live
