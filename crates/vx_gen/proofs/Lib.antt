@@ -1,0 +1,7 @@
+mod Numbers
+mod Parts
+mod Scanned
+mod Lines
+mod Texts
+mod Spelled
+mod Typed
