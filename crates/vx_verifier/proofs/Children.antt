@@ -181,6 +181,10 @@ lost_hears dialogue before now (Talking d) turns checks lost heard = cc
 pub if_ok_at : {T E : Type 0} (r : Result T E) (P : T → Type 0) (x : T) → IfOk r P → r ≡ Ok x → P x
 if_ok_at r P x h is = subst (λ y. IfOk y P) is h
 
+pub if_ok_both : {T E : Type 0} (r : Result T E) (P Q R : T → Type 0) → ((x : T) → P x → Q x → R x) → IfOk r P → IfOk r Q → IfOk r R
+if_ok_both (Ok x) P Q R join p q = join x p q
+if_ok_both (Err e) P Q R join p q = p
+
 pub if_err_at : {T E : Type 0} (r : Result T E) (P : E → Type 0) (x : E) → IfErr r P → r ≡ Err x → P x
 if_err_at r P x h is = subst (λ y. IfErr y P) is h
 

@@ -1,5 +1,5 @@
 -- What follows where no count rose, all replies were lawful, or all were unsat.
-use Rattle.std.proofs.Common.{◌≡◌, ℕ, ◌+◌, ◌<◌, ◌||◌, Bool, false, ◌++◌, ◌∷◌, [], List, length, take, drop, refl, ap, ◌∙◌, sym, subst, append_assoc, length-append, arith}
+use Rattle.std.proofs.Common.{◌≡◌, ℕ, zero, suc, ◌+◌, ◌<◌, ◌||◌, Bool, true, false, Some, slice_get, ◌++◌, ◌∷◌, [], List, length, refl, ap, ◌∙◌, sym, subst, append_assoc, length-append, arith}
 use Rattle.vx_ast.specs.declared.Place.{Place}
 use Rattle.vx_ast.specs.Syntax.{Program}
 use Rattle.vx_terms.specs.Interpretations.{Each}
@@ -18,8 +18,16 @@ use Rattle.vx_rules.specs.Codes.{code}
 use Rattle.vx_machine.specs.Runs.{member_tree}
 use Rattle.vx_verifier.specs.Sequences.{AllUnsat, replies_to}
 use Rattle.vx_verifier.specs.Causes.{SomeEnding, EachEnding, HasCauseOf, NoCountRose, AllLawful}
-use Rattle.vx_verifier.proofs.Runs.{take_front, drop_front}
-use Rattle.vx_verifier.specs.Headline.{IsVerdictOf, AreTold, HasNoFault, HasNoLimit, IsComplete, sequence_of, walk_of}
+use Rattle.vx_report.specs.Reports.{AreNamed}
+use Rattle.vx_ast.specs.Syntax.{Member}
+use Rattle.vx_ast.specs.declared.MemberId.{MemberId}
+use Rattle.vx_whole.specs.Closure.{itself}
+use Rattle.vx_closure.specs.Leads.{LeadsTo}
+use Rattle.vx_resting.specs.Resting.{has_passed, HoldsUp, IsHeldUpAs, AreRested}
+use Rattle.vx_verifier.specs.Sequences.{IsIn}
+use Rattle.vx_verifier.proofs.Sequences.{each_in, in_each}
+use Rattle.vx_verifier.proofs.Closures.{own_sequence, first_is}
+use Rattle.vx_verifier.specs.Headline.{IsVerdictOf, AreTold, HasNoFault, HasNoLimit, IsComplete, Under, sequence_of, walk_of}
 
 -- ---- no cause of a fault
 
@@ -38,6 +46,7 @@ no_cause before now f g calm lawful (cause.Reply kept) has = no_such before now 
 not_faulted : (C : Cause → Type 0) → ((x : Cause) → C x → ⊥) → (e : Ends) (asked : ℕ) (v : Verdict) → IsVerdictOf C e asked v → is_faulted v ≡ false
 not_faulted C none e asked verdict.Verified has = refl
 not_faulted C none e asked (verdict.Failed place c r) has = refl
+not_faulted C none e asked (verdict.Rests m) has = refl
 not_faulted C none e asked verdict.Limit has = refl
 not_faulted C none e asked (verdict.Fault x) has = absurd (none x has.0)
 
@@ -89,38 +98,76 @@ unsat_replies [] all = tt
 unsat_replies (c ∷ cs) all = rw all.0 (refl, unsat_replies cs all.1)
 
 by_unsat : (C : Cause → Type 0) (e : Ends) (asked : ℕ) (v : Verdict) → IsVerdictOf C e asked v → ((place : Place) (c : Code) (r : Reply) → e ≡ Failed place c r → ⊥)
-    → is_faulted v ≡ false → (v ≡ verdict.Limit → ⊥) → v ≡ verdict.Verified
+    → is_faulted v ≡ false → (v ≡ verdict.Limit → ⊥) → has_passed v ≡ true
 by_unsat C e asked verdict.Verified has never fine below = refl
 by_unsat C e asked (verdict.Failed place c r) has never fine below = absurd (never place (code c) r has)
+by_unsat C e asked (verdict.Rests m) has never fine below = refl
 by_unsat C e asked verdict.Limit has never fine below = absurd (below refl)
 by_unsat C e asked (verdict.Fault x) has never fine below = cc
 
--- ---- the checks of a run among all
-
-own_sequence : (r : MemberRun) (done own rest : List Check) → r.first ≡ length done → length own ≡ r.checks → sequence_of r (done ++ (own ++ rest)) ≡ own
-own_sequence r done own rest first count =
-    ap (λ k. take k (drop r.first (done ++ (own ++ rest)))) (sym count)
-    ∙ (ap (λ k. take (length own) (drop k (done ++ (own ++ rest)))) first ∙ (ap (take (length own)) (drop_front done (own ++ rest)) ∙ take_front own rest))
+-- ---- a run whose checks were all answered unsat passed
 
 module _ (p : Program) (before now : List Ending) (f g : ℕ) (all : List Check) where
-  are_verified : (lost : Bool) (first : ℕ) (runs : List MemberRun) (done checks : List Check) → all ≡ done ++ checks → first ≡ length done
+  have_passed : (lost : Bool) (first : ℕ) (runs : List MemberRun) (done checks : List Check) → all ≡ done ++ checks → first ≡ length done
       → AreTold p before now f g lost first runs checks → HasNoFault runs → HasNoLimit runs
-      → Each (λ (r : MemberRun). AllUnsat (sequence_of r all) → r.verdict ≡ verdict.Verified) runs
-  are_verified lost first [] done checks is place told fine below = tt
-  are_verified lost first (r ∷ runs) done checks is place told fine below =
+      → Each (λ (r : MemberRun). AllUnsat (sequence_of r all) → has_passed r.verdict ≡ true) runs
+  have_passed lost first [] done checks is place told fine below = tt
+  have_passed lost first (r ∷ runs) done checks is place told fine below =
       let own = told.3 in
       let whole : all ≡ done ++ (own ++ told.4) = is ∙ ap (λ x. done ++ x) told.5 in
       let mine : sequence_of r all ≡ own = ap (sequence_of r) whole ∙ own_sequence r done own told.4 (told.2 ∙ place) told.6 in
       let longer = length-append done own in (
         λ unsat. by_unsat (HasCauseOf before now f g lost) (walk_of p r.member.0 own).ending (length own) r.verdict told.7.verdict
             (through (member_tree p r.member.0) passed passed_never (replies_to own) (unsat_replies own (subst AllUnsat mine unsat))) fine.0 below.0,
-        are_verified (lost || is_faulted r.verdict) (first + length own) runs (done ++ own) told.4
+        have_passed (lost || is_faulted r.verdict) (first + length own) runs (done ++ own) told.4
             (whole ∙ sym (append_assoc done own told.4)) (omega arith) told.9 fine.1 below.1,
       )
 
+-- ---- where nothing holds a member up, it is verified
+
+verified_by : (v : Verdict) → has_passed v ≡ true → ((m : MemberId) → v ≡ verdict.Rests m → ⊥) → v ≡ verdict.Verified
+verified_by verdict.Verified passed none = refl
+verified_by (verdict.Failed place c r) passed none = cc
+verified_by (verdict.Rests m) passed none = absurd (none m refl)
+verified_by verdict.Limit passed none = cc
+verified_by (verdict.Fault x) passed none = cc
+
+not_both : (v : Verdict) → has_passed v ≡ true → has_passed v ≡ false → ⊥
+not_both v passed not = cc
+
+-- each member leads to itself
+leads_to_itself : (p : Program) (n : ℕ) (x : Member) → slice_get p n ≡ Some x → LeadsTo p n n
+leads_to_itself p n x at = (x, x, at, at, itself)
+
+member_at : (p : Program) (n : ℕ) → n < length p → (x : Member) × (slice_get p n ≡ Some x)
+member_at [] n below = absurd (omega arith)
+member_at (m ∷ p) zero below = (m, refl)
+member_at (m ∷ p) (suc n) below = member_at p n (omega arith)
+
+named_each : (p : Program) (runs : List MemberRun) → AreNamed p runs → Each (λ (r : MemberRun). r.member.0 < length p) runs
+named_each p [] named = tt
+named_each p (r ∷ runs) named = (named zero r (omega arith), named_each p runs (λ n d below. named (suc n) d (let k = below in omega arith)))
+
+module _ (p : Program) (all : List Check) (runs : List MemberRun) (rested : AreRested p runs) (named : AreNamed p runs)
+    (passing : Each (λ (r : MemberRun). AllUnsat (sequence_of r all) → has_passed r.verdict ≡ true) runs) where
+  passes : (n : ℕ) → Under AllUnsat p n runs all → (q : MemberRun) → IsIn q runs → LeadsTo p n q.member.0 → has_passed q.verdict ≡ true
+  passes n unsat q inside leads =
+      each_in (λ (r : MemberRun). AllUnsat (sequence_of r all) → has_passed r.verdict ≡ true) runs q passing inside
+      (each_in (λ (r : MemberRun). LeadsTo p n r.member.0 → AllUnsat (sequence_of r all)) runs q unsat inside leads)
+
+  is_verified : (r : MemberRun) → IsIn r runs → Under AllUnsat p r.member.0 runs all → r.verdict ≡ verdict.Verified
+  is_verified r inside unsat =
+      let n = r.member.0 in
+      let here = member_at p n (each_in (λ (q : MemberRun). q.member.0 < length p) runs r (named_each p runs named) inside) in
+      verified_by r.verdict (passes n unsat r inside (leads_to_itself p n here.0 here.1)) (λ m rests.
+      let held = subst (IsHeldUpAs p n runs) rests (each_in (λ (q : MemberRun). IsHeldUpAs p q.member.0 runs q.verdict) runs r rested inside) in
+      let found = first_is (HoldsUp p n) runs m held in
+      not_both found.0.verdict (passes n unsat found.0 found.1 found.2.0) found.2.1)
+
 pub complete : (p : Program) (before now : List Ending) (f g : ℕ) (runs : List MemberRun) (checks : List Check)
-    → AreTold p before now f g false 0 runs checks → IsComplete before now f g runs checks
-complete p before now f g runs checks told = record {
+    → AreTold p before now f g false 0 runs checks → AreRested p runs → AreNamed p runs → IsComplete p before now f g runs checks
+complete p before now f g runs checks told rested named = record {
   no_fault = λ calm lawful. none_faulted p before now f g calm lawful 0 runs checks told;
-  verified = λ fine below. are_verified p before now f g checks false 0 runs [] checks refl refl told fine below;
+  verified = λ fine below. in_each (λ (r : MemberRun). Under AllUnsat p r.member.0 runs checks → r.verdict ≡ verdict.Verified) runs
+      (λ r inside unsat. is_verified p checks runs rested named (have_passed p before now f g checks false 0 runs [] checks refl refl told fine below) r inside unsat);
 }

@@ -2,6 +2,8 @@ mod Walks
 mod Sequences
 mod Runs
 mod Children
+mod Rested
+mod Closures
 mod Complete
 mod Members
 mod Lines

@@ -6,13 +6,13 @@ use Rattle.std.specs.List.{All}
 use Rattle.std.proofs.lemmas.List.Elements.{All-append}
 use Rattle.vx_ast.specs.Syntax.{Program}
 use Rattle.vx_smt_meaning.specs.Dialogues.{Check}
-use Rattle.vx_dialogue.specs.Scripts.{Turn}
+use Rattle.vx_dialogue.specs.Scripts.{Turn, script}
 use Rattle.vx_dialogue.proofs.Fit.{well_formed}
 use Rattle.vx_machine.specs.Runs.{member_tree}
 use Rattle.vx_ends.specs.declared.piece.Piece.{Piece}
 use Rattle.vx_ends.specs.declared.piece.Ending.{Ending}
 use Rattle.vx_report.specs.declared.run.MemberRun.{MemberRun}
-use Rattle.vx_report.specs.Reports.{AreNamed, is_faulted}
+use Rattle.vx_report.specs.Reports.{AreNamed, is_faulted, is_resting}
 use Rattle.vx_verifier.specs.declared.lane.Child.{Child}
 use Rattle.vx_verifier.specs.Causes.{HasCauseOf}
 use Rattle.vx_verifier.specs.Headline.{IsTold, AreTold, IsRecorded, IsSpentAfter, member_turns, turns_of, members_of, Headline, has_question, some_ask, lost_after}
@@ -21,6 +21,10 @@ use Rattle.vx_verifier.specs.Lanes.{Hears, Later, Judges, Executes, is_lost, is_
 use Rattle.vx_verifier.proofs.Children.{handed_itself, cause_earlier}
 use Rattle.vx_verifier.proofs.Runs.{told_later, runs_later, runs_more, turns_more}
 use Rattle.vx_verifier.proofs.Complete.{complete}
+use Rattle.vx_verifier.proofs.Closures.{are_walked, sound}
+use Rattle.vx_verifier.proofs.Rested.{all_told, turns_rest, lost_rests, members_rest, named_rest}
+use Rattle.vx_resting.specs.Resting.{AreLater, AreRested, NoneRests}
+use Rattle.vx_smt_meaning.specs.WellFormed.{IsWellFormed}
 use Rattle.vx_verifier.proofs.Askable.{AllAskable, turns_askable}
 
 lost_more : (lost : Bool) (runs : List MemberRun) (r : MemberRun) → lost_after lost (runs ++ r ∷ []) ≡ (lost_after lost runs || is_faulted r.verdict)
@@ -49,6 +53,10 @@ named_more p runs r named below = All-append (λ (x : MemberRun). x.member.0 < l
     one : All (λ (x : MemberRun). x.member.0 < length p) (r ∷ [])
     one zero d h = below
     one (suc n) d h = absurd (omega arith)
+
+pub none_more : (runs : List MemberRun) (r : MemberRun) → NoneRests runs → is_resting r.verdict ≡ false → NoneRests (runs ++ r ∷ [])
+none_more [] r none this = (this, tt)
+none_more (s ∷ runs) r none this = (none.0, none_more runs r none.1 this)
 
 module _ {L : Type 0} (dialogue : L → List Piece) (p : Program) (before : List Ending) where
   pub executes_none : (f : ℕ) (child : Child L) → Hears dialogue before before child [] [] → is_lost child ≡ false → is_started child ≡ false → Executes dialogue p before before f f child 0 []
@@ -91,20 +99,27 @@ module _ {L : Type 0} (dialogue : L → List Piece) (p : Program) (before : List
       }
 
   -- the child is handed back
-  pub headline : (mid new : List Ending) (f g h : ℕ) (child : Child L) (asked : ℕ) (runs : List MemberRun) → members_of runs ≡ lines p
-      → Executes dialogue p before mid f g child asked runs
+  pub headline : (mid new : List Ending) (f g h : ℕ) (child : Child L) (asked : ℕ) (own runs : List MemberRun) → members_of own ≡ lines p → AreNamed p own
+      → AreLater own runs → AreRested p runs → Executes dialogue p before mid f g child asked own
       → ((turns : List Turn) (checks : List Check) → Hears dialogue before mid child turns checks → IsRecorded (is_lost child) before new turns checks)
       → Later mid new → g ≤ h → ((k : ℕ) → AllAskable (member_tree p k)) → Headline p before new f h runs
-  headline mid new f g h child asked runs each so_far end later after askable =
+  headline mid new f g h child asked own runs each named rest rested so_far end later after askable =
       let handed = later mid (handed_itself mid) in
-      let turns = turns_of false p runs so_far.checks in
-      let told = subst (λ x. AreTold p before x f h false 0 runs so_far.checks) (sym handed.is)
-      (runs_later p before mid handed.more f g h after false 0 runs so_far.checks so_far.told) in
+      let checks = so_far.checks in
+      let turns = turns_of false p own checks in
+      let own_told = subst (λ x. AreTold p before x f h false 0 own checks) (sym handed.is) (runs_later p before mid handed.more f g h after false 0 own checks so_far.told) in
+      let told = all_told p before new f h false 0 own runs checks rest own_told in
+      let same = turns_rest false p own runs checks rest in
+      let each_rested = members_rest own runs rest ∙ each in
+      let walked = are_walked p before new f h checks false 0 runs [] checks refl refl told in
       record {
-        checks = so_far.checks;
-        recorded = subst (λ b. IsRecorded b before new turns so_far.checks) so_far.lost (end turns so_far.checks so_far.heard);
-        well_formed = well_formed false turns (turns_askable p before new f h askable false 0 runs so_far.checks told);
-        each = each;
+        checks = checks;
+        recorded = subst (λ ts. IsRecorded (lost_after false runs) before new ts checks) (sym same)
+            (subst (λ b. IsRecorded b before new turns checks) (so_far.lost ∙ sym (lost_rests false own runs rest)) (end turns checks so_far.heard));
+        well_formed = subst (λ ts. IsWellFormed (script false [] ts)) (sym same) (well_formed false turns (turns_askable p before new f h askable false 0 own checks own_told));
+        each = each_rested;
         told = told;
-        complete = complete p before new f h runs so_far.checks told;
+        rested = rested;
+        sound = sound p checks runs walked each_rested rested;
+        complete = complete p before new f h runs checks told rested (named_rest p own runs rest named);
       }

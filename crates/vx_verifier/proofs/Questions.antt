@@ -7,7 +7,7 @@ use Rattle.vx_report.specs.declared.run.Verdict.{Verdict}
 use Rattle.vx_report.specs.declared.run.Verdict.TheVariants as verdict
 use Rattle.vx_stack.specs.declared.question.Query.{Query}
 use Rattle.vx_smt_meaning.specs.declared.reply.Reply.{Reply}
-use Rattle.vx_rules.specs.Trees.{Question, Answered, Passed, Open, Ending, Walked, walk}
+use Rattle.vx_rules.specs.Trees.{Question, Answered, Open, Ending, Walked, walk}
 use Rattle.vx_stack.specs.Stack.{query}
 use Rattle.vx_machine.specs.declared.machine.Machine.{Machine}
 use Rattle.vx_machine.specs.declared.machine.Ask.TheVariants.{Check as Due, Done}
@@ -27,11 +27,11 @@ use Rattle.vx_verifier.specs.declared.lane.Trouble.TheVariants as trouble
 use Rattle.vx_verifier.specs.Lanes.{AreAsked, turns_so_far, tried_turn, IsDue, is_lost, is_started, verdict_of, Hears, HearsOf, IsRunning, IsFaultOf, IsCausedBy, Judges}
 use Rattle.vx_verifier.specs.Steady.{IsSpelled, AllSpelled}
 use Rattle.vx_dialogue.specs.Scripts.{Turn, Asks}
-use Rattle.vx_report.specs.Reports.{is_faulted}
+use Rattle.vx_report.specs.Reports.{is_faulted, is_resting}
 use Rattle.vx_verifier.proofs.Children.{faulted_by}
 use Rattle.vx_verifier.proofs.Walks.{walk_extends}
 use Rattle.vx_verifier.proofs.Steady.{open_spelled}
-use Rattle.vx_verifier.proofs.Sequences.{checks_more, replies_more, never_fails}
+use Rattle.vx_verifier.proofs.Sequences.{checks_more, replies_more}
 
 map_length : {A B : Type 0} (f : A → B) (xs : List A) → length (map f xs) ≡ length xs
 map_length f [] = refl
@@ -66,6 +66,16 @@ not_faulted : (o : Outcome) → is_faulted (verdict_of o) ≡ false
 not_faulted outcome.Passed = refl
 not_faulted (outcome.Failed place c r) = refl
 not_faulted (outcome.Limit n) = refl
+
+-- none rests yet
+pub alone : (o : Outcome) → is_resting (verdict_of o) ≡ false
+alone outcome.Passed = refl
+alone (outcome.Failed place c r) = refl
+alone (outcome.Limit n) = refl
+
+pub faulted_alone : (t : Trouble) (v : Verdict) → IsFaultOf t v → is_resting v ≡ false
+faulted_alone (trouble.Fault x) v is = ap is_resting is
+faulted_alone trouble.Want v is = absurd is
 
 -- where nothing failed, no turn more
 none_failed : (lost : Bool) (e : Ending) (v : Verdict) → is_faulted v ≡ false → failed_turn lost e v ≡ []
@@ -119,20 +129,13 @@ at_end HasCause outcome.Passed w checks asked told is = told
 at_end HasCause (outcome.Failed place c r) w checks asked told is = told
 at_end HasCause (outcome.Limit n) w checks asked told is = (is ∙ sym told.1, told.2.0, told.2.1)
 
-passed_of : (HasCause : Cause → Type 0) (e : Ending) (asked : ℕ) (v : Verdict) → IsVerdictOf HasCause e asked v → v ≡ verdict.Verified → e ≡ Passed
-passed_of HasCause e asked v has is = subst (λ x. IsVerdictOf HasCause e asked x) is has
-
 pub judged : (p : Program) (n : ℕ) (m : Machine) (own : List Check) (HasCause : Cause → Type 0) (v : Verdict) → m.member.0 ≡ n → AreAsked p m own
     → IsVerdictOf HasCause (walk (member_tree p n) (given m)).ending (length own) v → IsTold p n HasCause own v
 judged p n m own HasCause v member so_far has =
     let here = subst (λ k. AreChecksOf (walk (member_tree p k) (given m)).answered own) member so_far.checks in
     let checks = subst (λ rs. AreChecksOf (walk (member_tree p n) rs).answered own) (sym so_far.replies) here in
     let verdict_is = subst (λ rs. IsVerdictOf HasCause (walk (member_tree p n) rs).ending (length own) v) (sym so_far.replies) has in
-    record {
-      checks = checks;
-      verdict = verdict_is;
-      sound = λ is right. never_fails p n own checks (passed_of HasCause _ (length own) v verdict_is is) right;
-    }
+    record { checks = checks; verdict = verdict_is }
 
 -- behind a fault of the lane
 none_own : (own : List Check) → length own ≡ 0 → own ≡ []
@@ -142,6 +145,7 @@ none_own (c ∷ cs) none = absurd (omega arith)
 spent_verdict : (before now : List Ended) (f g : ℕ) (e : Ending) (v : Verdict) → IsVerdictOf (HasCauseOf before now f g true) e 0 v → is_open e ≡ true → v ≡ verdict.Fault cause.Spent
 spent_verdict before now f g e verdict.Verified has asks = let h = ap is_open has in cc
 spent_verdict before now f g e (verdict.Failed place c r) has asks = let h = ap is_open has in cc
+spent_verdict before now f g e (verdict.Rests m) has asks = let h = ap is_open has in cc
 spent_verdict before now f g e verdict.Limit has asks = let h = has.0 in absurd (omega arith)
 spent_verdict before now f g e (verdict.Fault cause.Pipe) has asks = let h = has.0.0 in cc
 spent_verdict before now f g e (verdict.Fault cause.Start) has asks = let h = has.0.0 in cc

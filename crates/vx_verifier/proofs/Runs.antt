@@ -33,6 +33,7 @@ cause_later before now more f g h later lost (cause.Reply kept) has = (has.0, so
 verdict_later : (P Q : Cause → Type 0) → ((x : Cause) → P x → Q x) → (e : Ends) (asked : ℕ) (v : Verdict) → IsVerdictOf P e asked v → IsVerdictOf Q e asked v
 verdict_later P Q on e asked verdict.Verified has = has
 verdict_later P Q on e asked (verdict.Failed place c r) has = has
+verdict_later P Q on e asked (verdict.Rests m) has = has
 verdict_later P Q on e asked verdict.Limit has = has
 verdict_later P Q on e asked (verdict.Fault x) has = (on x has.0, has.1, has.2, has.3)
 
@@ -40,7 +41,6 @@ pub told_later : (p : Program) (n : ℕ) (P Q : Cause → Type 0) → ((x : Caus
 told_later p n P Q on own v told = record {
   checks = told.checks;
   verdict = verdict_later P Q on (walk_of p n own).ending (length own) v told.verdict;
-  sound = told.sound;
 }
 
 pub runs_later : (p : Program) (before now more : List Ending) (f g h : ℕ) → g ≤ h → (lost : Bool) (first : ℕ) (runs : List MemberRun) (checks : List Check)

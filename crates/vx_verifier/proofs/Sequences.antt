@@ -1,6 +1,5 @@
--- A member's checks grow one by one, along the walk; and what follows where their replies are right.
-use Rattle.std.proofs.Common.{◌≡◌, ◌⊎◌, ℕ, ◌++◌, ◌∷◌, [], List, Some, append_assoc, refl, ap, ◌∙◌, sym, subst, inl, inr}
-use Rattle.vx_ast.specs.Syntax.{Name, Program, Kind, Method, IsMethod, member_named}
+-- A member's checks grow one by one, along the walk; where they are right, the answers of the walk are.
+use Rattle.std.proofs.Common.{◌≡◌, ◌⊎◌, ◌++◌, ◌∷◌, [], List, Some, append_assoc, refl, ap, ◌∙◌, sym, subst, inl, inr}
 use Rattle.vx_terms.specs.Terms.{Term}
 use Rattle.vx_terms.specs.Build.{negate}
 use Rattle.vx_terms.specs.Interpretations.{Each, IsTrueIn, IsUnsatisfiable}
@@ -9,17 +8,10 @@ use Rattle.vx_smt_meaning.specs.Dialogues.{Check}
 use Rattle.vx_smt_meaning.specs.declared.reply.Reply.{Reply}
 use Rattle.vx_smt_meaning.specs.declared.reply.Reply.TheVariants.{Unsat, Sat, Unknown}
 use Rattle.vx_dialogue.specs.Dialogue.{pushed, check_of}
-use Rattle.vx_rules.specs.Trees.{Question, Answered, Passed, walk}
-use Rattle.vx_rules.specs.Members.{tree, method_tree}
-use Rattle.vx_machine.specs.Runs.{tree_of, member_tree}
-use Rattle.vx_sound.specs.Law.{AllRight, Passes}
+use Rattle.vx_rules.specs.Trees.{Question, Answered}
+use Rattle.vx_sound.specs.Law.{AllRight}
 use Rattle.vx_sound.specs.Law.{IsRight as IsRightAnswer}
-use Rattle.vx_sound.proofs.Members.{calling_sound}
-use Rattle.vx_types.specs.CallLanguage.{IsCallingMember}
-use Rattle.vx_whole.specs.Closure.{InClosure}
-use Rattle.vx_whole.proofs.Alone.{calling_alone}
 use Rattle.vx_verifier.specs.Sequences.{IsIn, SameSet, IsCheckOf, AreChecksOf, reply_list, replies_to, IsRight}
-use Rattle.vx_verifier.specs.Headline.{IsSupported, NeverFails, walk_of}
 
 -- a path that was put on a list
 of_pushed : (t : Term) (xs ys : List Term) → IsIn t (pushed xs ys) → IsIn t xs ⊎ IsIn t ys
@@ -62,12 +54,12 @@ replies_more (c' ∷ cs) c r is =
     ap (λ l. reply_list c'.reply ++ l) (replies_more cs c r is) ∙ sym (append_assoc (reply_list c'.reply) (replies_to cs) (r ∷ []))
 
 -- what holds of each, holds of all that are in the list
-each_in : {A : Type 0} (P : A → Type 0) (xs : List A) (x : A) → Each P xs → IsIn x xs → P x
+pub each_in : {A : Type 0} (P : A → Type 0) (xs : List A) (x : A) → Each P xs → IsIn x xs → P x
 each_in P [] x all h = absurd h
 each_in P (y ∷ ys) x all (inl e) = subst P (sym e) all.0
 each_in P (y ∷ ys) x all (inr e) = each_in P ys x all.1 e
 
-in_each : {A : Type 0} (P : A → Type 0) (xs : List A) → ((x : A) → IsIn x xs → P x) → Each P xs
+pub in_each : {A : Type 0} (P : A → Type 0) (xs : List A) → ((x : A) → IsIn x xs → P x) → Each P xs
 in_each P [] all = tt
 in_each P (x ∷ xs) all = (all x (inl refl), in_each P xs (λ y h. all y (inr h)))
 
@@ -79,33 +71,8 @@ right_answer q Unsat c set is right = unsatisfiable c.assertions (negate q.condi
 right_answer q Sat c set is right = tt
 right_answer q Unknown c set is right = tt
 
-all_right : (as' : List Answered) (cs : List Check) → AreChecksOf as' cs → Each IsRight cs → AllRight as'
+pub all_right : (as' : List Answered) (cs : List Check) → AreChecksOf as' cs → Each IsRight cs → AllRight as'
 all_right [] [] all right = tt
 all_right [] (c ∷ cs) all right = absurd all
 all_right (a ∷ as') [] all right = absurd all
 all_right (a ∷ as') (c ∷ cs) all right = (right_answer a.question a.reply c all.0.set all.0.reply right.0, all_right as' cs all.1 right.1)
-
--- a member that leads to itself alone
-alone : (p : Program) (x : Name) (m : Method) (replies : List Reply) → member_named p x ≡ Some (IsMethod m) → IsSupported p → Passes p x (IsMethod m) replies
-    → (y : Name) (l : Kind) → InClosure p x y → member_named p y ≡ Some l → IsCallingMember l × Passes p y l replies
-alone p x m replies named supported passes y l closed e =
-    let itself : y ≡ x = calling_alone p supported.members x y closed in
-    let same : IsMethod m ≡ l = some_same (sym named ∙ ap (member_named p) (sym itself) ∙ e) in (
-      supported.members y l e,
-      subst (λ (k : Kind). Passes p y k replies) same (subst (λ (z : Name). Passes p z (IsMethod m) replies) (sym itself) passes),
-    )
-  where
-    some_same : {a b : Kind} → Some a ≡ Some b → a ≡ b
-    some_same e = cc
-
--- a walk that passed by right replies
-pub never_fails : (p : Program) (n : ℕ) (own : List Check) → AreChecksOf (walk_of p n own).answered own → (walk_of p n own).ending ≡ Passed
-    → Each IsRight own → NeverFails p n
-never_fails p n own checks passed right = λ supported m is at fails.
-    let x = is.0.name in
-    let rs = replies_to own in
-    let named : member_named p x ≡ Some (IsMethod m) = supported.typed.names n is.0 is.1 ∙ ap Some is.2 in
-    let same : member_tree p n ≡ method_tree p m = ap (tree_of p) is.1 ∙ ap (tree p x) is.2 in
-    let answers = subst (λ t. AreChecksOf (walk t rs).answered own) same checks in
-    let passes : Passes p x (IsMethod m) rs = (subst (λ t. (walk t rs).ending ≡ Passed) same passed, all_right _ own answers right) in
-    calling_sound p x (IsMethod m) (λ y. rs) supported.typed named (alone p x m rs named supported passes) (at, fails)

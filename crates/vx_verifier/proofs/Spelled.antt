@@ -1,5 +1,5 @@
 -- In a supported program each question can be asked: each name in it is spelled as a symbol, and each symbol has its sorts.
-use Rattle.std.proofs.Common.{◌≡◌, ℕ, zero, suc, Bool, true, false, List, [], ◌∷◌, ◌++◌, Option, Some, None, map, slice_get, if◌then◌else◌, ap, sym, refl, subst}
+use Rattle.std.proofs.Common.{◌≡◌, ℕ, Bool, true, false, List, [], ◌∷◌, ◌++◌, Option, Some, None, slice_get, if◌then◌else◌, refl}
 use Rattle.vx_ast.specs.Syntax.{Program, Member}
 use Rattle.vx_terms.specs.Sorts.{Sort, IntSort, BoolSort, RealSort, RefSort, SnapSort, OtherSort, Symbol, Standard, Function, Variable, Named}
 use Rattle.vx_terms.specs.Terms.{Term, Truth, Number, Part, Constant, Apply, Not, Binary, Ite, AllOf, SomeOf, Terms, NoTerms, MoreTerms}
@@ -12,12 +12,11 @@ use Rattle.vx_dialogue.specs.Scripts.{assertions, symbols_of}
 use Rattle.vx_dialogue.specs.Symbols.{variable, declares, with_variable, with_symbol, with_variables, with_all_variables, with_listed}
 use Rattle.vx_dialogue.proofs.Steady.{commands_join}
 use Rattle.vx_rules.specs.Trees.{Question, Tree, End, Impossible, On, Step, Ask, Probe, Fork}
-use Rattle.vx_rules.specs.Members.{tree}
 use Rattle.vx_machine.specs.Runs.{tree_of, member_tree}
 use Rattle.vx_live.specs.Live.{IsBuiltIn, IsLive, AllLive}
 use Rattle.vx_live.proofs.Nameless.{IsNumbered, IsNameless, AreNameless, negate_nameless, condition_nameless, path_nameless}
 use Rattle.vx_live.proofs.Bools.{path_bool, negated_bool}
-use Rattle.vx_live.proofs.LiveMethods.{calling_live}
+use Rattle.vx_live.proofs.LiveMethods.{instances_live}
 use Rattle.vx_dialogue.specs.Askable.{IsOfFive, IsAskable}
 use Rattle.vx_verifier.proofs.Askable.{AllAskable}
 use Rattle.vx_verifier.specs.Headline.{IsSupported}
@@ -151,7 +150,7 @@ supported_live p supported n = by_member (slice_get p n) refl
   where
     by_member : (o : Option Member) → slice_get p n ≡ o → AllLive (tree_of p o)
     by_member None at = tt
-    by_member (Some x) at = calling_live p x.name x.kind supported.typed (supported.typed.names n x at) (λ y l c e. supported.members y l e)
+    by_member (Some x) at = instances_live p x.name x.kind supported.typed (supported.typed.names n x at) (λ y l c e. supported.members y l e)
 
 pub supported_spelled : (p : Program) → IsSupported p → AsksSpelled p
 supported_spelled p supported n = all_spelled (member_tree p n) (supported_live p supported n)

@@ -1,12 +1,12 @@
 -- What the runs of a program's members promise: each verdict is that of the walk over the replies that the record of
--- the child's link tells, and a member that is verified by right replies fails at no place.
+-- the child's link tells, and a member that is verified by right replies, its own and those of the members that it leads to,
+-- fails at no place.
 use Rattle.std.specs.Prelude.{◌≡◌, ◌⊎◌, ℕ, ◌+◌, ◌<◌, ◌||◌, ⊤, Bool, true, false, List, [], ◌∷◌, ◌++◌, Some, length, map, take, drop, slice_get, if◌then◌else◌}
 use Rattle.std.specs.List.{list_any}
-use Rattle.vx_ast.specs.declared.Place.{Place}
-use Rattle.vx_ast.specs.Syntax.{Name, Program, Member, Kind, Method, IsMethod, member_named}
+use Rattle.vx_ast.specs.Syntax.{Name, Program, Member, Kind, member_named}
 use Rattle.vx_terms.specs.Interpretations.{Each}
-use Rattle.vx_meaning.specs.Fails.{MethodFails}
-use Rattle.vx_types.specs.CallLanguage.{IsCallingMember}
+use Rattle.vx_meaning.specs.Fails.{Fails}
+use Rattle.vx_types.specs.InstanceLanguage.{IsInstanceMember}
 use Rattle.vx_whole.specs.Premises.{IsTypedProgram}
 use Rattle.vx_smt_meaning.specs.Dialogues.{Check}
 use Rattle.vx_smt_meaning.specs.WellFormed.{IsWellFormed}
@@ -22,27 +22,28 @@ use Rattle.vx_report.specs.declared.run.Verdict.{Verdict}
 use Rattle.vx_report.specs.declared.run.Verdict.TheVariants as verdict'
 use Rattle.vx_report.specs.declared.run.MemberRun.{MemberRun}
 use Rattle.vx_report.specs.Reports.{is_faulted}
+use Rattle.vx_closure.specs.Leads.{LeadsTo, HasDistinctNames}
+use Rattle.vx_resting.specs.Resting.{AreRested}
 use Rattle.vx_verifier.specs.Sequences.{AreChecksOf, replies_to, IsRight, AllUnsat}
 use Rattle.vx_verifier.specs.Causes.{HasCauseOf, NoCountRose, AllLawful}
 use Rattle.vx_verifier.specs.Lines.{lines}
 
--- the member with this number is this method
-abbrev pub IsMethodAt : Program → ℕ → Method → Type 0
-IsMethodAt p n m = (member : Member) × (slice_get p n ≡ Some member) × (member.kind ≡ IsMethod m)
-
--- the program is typed as a whole, and its members are fields, and methods with fields, permissions, loops and calls
+-- the program is typed as a whole, no two of its members have one name, and none is a function
 pub record IsSupported (p : Program) : Type 0 where
   pub typed : IsTypedProgram p
-  pub members : (x : Name) (k : Kind) → member_named p x ≡ Some k → IsCallingMember k
+  pub distinct : HasDistinctNames p
+  pub members : (x : Name) (k : Kind) → member_named p x ≡ Some k → IsInstanceMember k
 
--- in a supported program the method with this number fails at no place, in no run from any state satisfying its precondition
+-- In a supported program the member with this number doesn't fail: a method at no place, in no run from any state satisfying
+-- its precondition; the body of a predicate at no place where it is given to what holds nothing.
 abbrev pub NeverFails : Program → ℕ → Type 0
-NeverFails p n = IsSupported p → (m : Method) → IsMethodAt p n m → (at : Place) → MethodFails p m at → ⊥
+NeverFails p n = IsSupported p → (m : Member) → slice_get p n ≡ Some m → Fails p m.name m.kind → ⊥
 
--- The verdict is that of the walk, which asked so many questions. The limit comes at 100,000 of them with one more due; a fault below it, in place of an answer.
+-- The verdict is that of the walk, which asked so many questions; one that rests on another passed by itself. The limit comes at 100,000 of them with one more due; a fault below it, in place of an answer.
 abbrev pub IsVerdictOf : (Cause → Type 0) → Ends → (asked : ℕ) → Verdict → Type 0
 IsVerdictOf HasCause ending asked verdict'.Verified = ending ≡ Passed
 IsVerdictOf HasCause ending asked (verdict'.Failed place c r) = ending ≡ Failed place (code c) r
+IsVerdictOf HasCause ending asked (verdict'.Rests m) = ending ≡ Passed
 IsVerdictOf HasCause ending asked verdict'.Limit = (asked ≡ 100000) × (q : Question) × (ending ≡ Open q)
 IsVerdictOf HasCause ending asked (verdict'.Fault cause) = HasCause cause × (asked < 100000) × (q : Question) × (ending ≡ Open q)
 
@@ -73,8 +74,6 @@ pub record IsTold (p : Program) (n : ℕ) (HasCause : Cause → Type 0) (own : L
   -- its checks are the questions of the walk over their replies, in order
   pub checks : AreChecksOf (walk_of p n own).answered own
   pub verdict : IsVerdictOf HasCause (walk_of p n own).ending (length own) v
-  -- the headline
-  pub sound : v ≡ verdict'.Verified → Each IsRight own → NeverFails p n
 
 module _ (p : Program) (before now : List Ending) (faults_then faults_now : ℕ) where
   -- Each run tells what became of its member; their checks follow one another, from number `first` on.
@@ -143,16 +142,26 @@ HasNoFault runs = Each (λ (r : MemberRun). is_faulted r.verdict ≡ false) runs
 abbrev pub HasNoLimit : List MemberRun → Type 0
 HasNoLimit runs = Each (λ (r : MemberRun). r.verdict ≡ verdict'.Limit → ⊥) runs
 
--- Where no count rose and all replies were lawful, no verdict is a fault. Where none is a limit either, each member whose checks were all answered unsat is verified.
-pub record IsComplete (before now : List Ending) (faults_then faults_now : ℕ) (runs : List MemberRun) (checks : List Check) : Type 0 where
+-- this holds of the checks of each member that member n leads to, itself among them
+abbrev pub Under : (List Check → Type 0) → Program → ℕ → List MemberRun → List Check → Type 0
+Under Holds p n runs checks = Each (λ (r : MemberRun). LeadsTo p n r.member.0 → Holds (sequence_of r checks)) runs
+
+-- The headline: a member that is verified doesn't fail, where the checks of all that it leads to are right.
+abbrev pub AreSound : Program → List MemberRun → List Check → Type 0
+AreSound p runs checks = Each (λ (r : MemberRun). r.verdict ≡ verdict'.Verified → Under (λ own. Each IsRight own) p r.member.0 runs checks → NeverFails p r.member.0) runs
+
+-- Where no count rose and all replies were lawful, no verdict is a fault. Where none is a limit either, each member is verified
+-- if the checks of all that it leads to were answered unsat.
+pub record IsComplete (p : Program) (before now : List Ending) (faults_then faults_now : ℕ) (runs : List MemberRun) (checks : List Check) : Type 0 where
   pub no_fault : NoCountRose before now faults_then faults_now → AllLawful before now → HasNoFault runs
-  pub verified : HasNoFault runs → HasNoLimit runs → Each (λ (r : MemberRun). AllUnsat (sequence_of r checks) → r.verdict ≡ verdict'.Verified) runs
+  pub verified : HasNoFault runs → HasNoLimit runs → Each (λ (r : MemberRun). Under AllUnsat p r.member.0 runs checks → r.verdict ≡ verdict'.Verified) runs
 
 -- the numbers of the members, in the order of their runs
 abbrev pub members_of : List MemberRun → List ℕ
 members_of runs = map (λ r. r.member.0) runs
 
--- The promise: a run for each member that has a line, in file order, by the replies that the record of the one child tells, which was asked exactly the questions of the members' walks.
+-- The promise: a run for each member that has a line, in file order, by the replies that the record of the one child tells, which was asked exactly the questions of the members' walks;
+-- a member whose walk passed is verified, or rests on the first that it leads to whose walk didn't.
 pub record Headline (p : Program) (before now : List Ending) (faults_then faults_now : ℕ) (runs : List MemberRun) : Type 0 where
   pub checks : List Check
   pub recorded : IsRecorded (lost_after false runs) before now (turns_of false p runs checks) checks
@@ -160,4 +169,6 @@ pub record Headline (p : Program) (before now : List Ending) (faults_then faults
   pub well_formed : IsWellFormed (script false [] (turns_of false p runs checks))
   pub each : members_of runs ≡ lines p
   pub told : AreTold p before now faults_then faults_now false 0 runs checks
-  pub complete : IsComplete before now faults_then faults_now runs checks
+  pub rested : AreRested p runs
+  pub sound : AreSound p runs checks
+  pub complete : IsComplete p before now faults_then faults_now runs checks

@@ -7,7 +7,8 @@ ghost use Rattle.vx_smt_meaning.specs.Dialogues.{Check};
 ghost use Rattle.vx_dialogue.specs.Scripts.{Turn};
 ghost use Rattle.vx_resolved.specs.Resolved.{kind as kind_of};
 ghost use Rattle.vx_resolved.specs.Settled.{settled};
-ghost use Rattle.vx_report.specs.Reports.{AreNamed, is_faulted};
+ghost use Rattle.vx_report.specs.Reports.{AreNamed, RestWithin, is_faulted, is_resting};
+ghost use Rattle.vx_resting.specs.Resting.{NoneRests};
 ghost use Rattle.vx_machine.specs.Runs.{Follows, awaits, member_tree};
 ghost use Rattle.vx_verifier.specs.Causes.{HasCauseOf, NoCountRose};
 ghost use Rattle.vx_verifier.specs.Steady.{AllSpelled, AsksSpelled, IsCalmLane};
@@ -26,6 +27,7 @@ use vx_ends::{Parts, Spawner, Turns};
 use vx_machine::{Ask, Machine, Outcome};
 use vx_report::{MemberRun, Verdict};
 use vx_resolved::{Kind, Settled};
+use vx_resting::rest;
 use vx_rules::Reply;
 use vx_typing::Typed;
 
@@ -128,6 +130,7 @@ fn judge<W: Spawner, N: Turns>(
     ensures lost { IfOk result.1 (λ judged. is_lost result.0 ≡ (is_lost child || is_faulted judged.verdict)) }
     ensures started { IfOk result.1 (λ _. is_started result.0 ≡ (is_started child || has_question (settled program.now) member.0)) }
     ensures few { IfOk result.1 (λ judged. judged.checks ≤ LIMIT) }
+    ensures alone { IfOk result.1 (λ judged. is_resting judged.verdict ≡ false) }
     ensures starts { (before : List Start) → let start : Start = record { lane = LANE; command = command.now } in Starts before (W.starts spawner.old) start child → Starts before (W.starts spawner.new) start result.0 }
     ensures faults { W.faults spawner.old ≤ W.faults spawner.new }
     ensures later { Later (W.ended spawner.old) (W.ended spawner.new) }
@@ -184,6 +187,7 @@ fn execute<W: Spawner, N: Turns>(
     requires room { lane.checks + LIMIT < 2 ^ 64 }
     ensures held { IsHeld result.0.child (W.owed spawner.new LANE) }
     ensures owed { W.owed spawner.new LANE + links lane.child ≡ W.owed spawner.old LANE + links result.0.child }
+    ensures alone { IfOk result.1 (λ run. is_resting run.verdict ≡ false) }
     ensures numbers { IfOk result.1 (λ run. (run.member ≡ member) × (run.lane ≡ LANE) × (run.child ≡ 0) × (run.first ≡ lane.checks)) }
     ensures told { IfOk result.1 (λ run. (before : List Ending) (turns : List Turn) (checks : List Check) → Hears W.Link.dialogue before (W.ended spawner.old) lane.child turns checks
         → Judges W.Link.dialogue (settled program.now) member.0 before (W.ended spawner.new) (HasCauseOf before (W.ended spawner.new) (W.faults spawner.old) (W.faults spawner.new) (is_lost lane.child)) (is_lost lane.child)
@@ -260,6 +264,7 @@ fn execute_all<W: Spawner, N: Turns>(
     ensures held { IsHeld result.0.child (W.owed spawner.new LANE) }
     ensures owed { W.owed spawner.new LANE ≡ W.owed spawner.old LANE + links result.0.child }
     ensures named { IfOk result.1 (λ runs. AreNamed (settled program.now) runs.items) }
+    ensures alone { IfOk result.1 (λ runs. NoneRests runs.items) }
     ensures told { IfOk result.1 (λ runs. (members_of runs.items ≡ lines (settled program.now)) × Executes W.Link.dialogue (settled program.now) (W.ended spawner.old) (W.ended spawner.new) (W.faults spawner.old) (W.faults spawner.new)
         result.0.child result.0.checks runs.items) }
     ensures starts { let start : Start = record { lane = LANE; command = command.now } in Starts (W.starts spawner.old) (W.starts spawner.new) start result.0.child }
@@ -295,7 +300,8 @@ fn execute_all<W: Spawner, N: Turns>(
     (lane, Ok(runs))
 }
 
-// Verifies the members with a line in file order, by one child, which is handed back at the end.
+// Verifies the members with a line in file order, by one child, which is handed back at the end. Which of them rest on others is
+// known then.
 fn verify_members<W: Spawner, N: Turns>(
     alloc: Global,
     program: &Settled,
@@ -305,6 +311,7 @@ fn verify_members<W: Spawner, N: Turns>(
 ) -> Result<Runs, AllocError>
     requires supported { IsSupported (settled program.now) }
     ensures named { IfOk result (λ runs. AreNamed (settled program.now) runs.items) }
+    ensures rests { IfOk result (λ runs. RestWithin (settled program.now) runs.items) }
     ensures headline { IfOk result (λ runs. Headline (settled program.now) (W.ended spawner.old) (W.ended spawner.new) (W.faults spawner.old) (W.faults spawner.new) runs.items) }
     ensures starts { let start : Start = record { lane = LANE; command = command.now } in (W.starts spawner.new ≡ W.starts spawner.old) ⊎ (W.starts spawner.new ≡ W.starts spawner.old ++ start ∷ []) }
     ensures started { IfOk result (λ _. let start : Start = record { lane = LANE; command = command.now } in
@@ -318,7 +325,11 @@ fn verify_members<W: Spawner, N: Turns>(
     let (lane, runs) = execute_all(alloc, program, command, spawner, turns);
     let Lane { child, checks: _ } = lane;
     end(spawner, child);
-    runs
+    let own = match runs {
+        Ok(own) => own,
+        Err(error) => return Err(error),
+    };
+    rest(alloc, program, own)
 }
 
 /// Verifies the members of a program that have a line, in file order, by one child, which is started at the first question, if there is any,
@@ -337,6 +348,7 @@ pub fn verify<W: Spawner, N: Turns>(
     requires certify { certify ≡ false }
     requires executed { is_executed (written_of typed.now) ≡ true }
     ensures named { IfOk result (λ runs. AreNamed (resolved_of typed.now) runs.items) }
+    ensures rests { IfOk result (λ runs. RestWithin (resolved_of typed.now) runs.items) }
     ensures headline { IfOk result (λ runs. Headline (resolved_of typed.now) (W.ended spawner.old) (W.ended spawner.new) (W.faults spawner.old) (W.faults spawner.new) runs.items) }
     ensures starts { let start : Start = record { lane = LANE; command = command.now } in (W.starts spawner.new ≡ W.starts spawner.old) ⊎ (W.starts spawner.new ≡ W.starts spawner.old ++ start ∷ []) }
     ensures started { IfOk result (λ _. let start : Start = record { lane = LANE; command = command.now } in

@@ -8,7 +8,9 @@ ghost use Rattle.vx_verifier.specs.Headline.{IsSupported};
 
 use std::alloc::{AllocError, Global};
 use vx_resolved::Settled;
-use vx_settled::{executed_programs_call, typed_programs_keep_apart};
+use vx_settled::{
+    executed_programs_hold_instances, typed_programs_keep_apart, typed_programs_name_apart,
+};
 use vx_settling::{Unsettled, settle};
 use vx_typing::Typed;
 
@@ -26,11 +28,12 @@ pub fn settled(alloc: Global, typed: &Typed) -> Result<Settled, AllocError>
     }
 }
 
-/// A program that is executed is typed as a whole, and its members are fields, and methods with fields, loops and calls.
+/// A program that is executed is typed as a whole, no two of its members have one name, and none is a function.
 pub fn programs_are_supported(typed: &Typed)
     requires { is_executed (written_of typed.now) ≡ true }
     ensures { IsSupported (resolved_of typed.now) }
 {
-    executed_programs_call();
+    executed_programs_hold_instances();
+    typed_programs_name_apart();
     typed.typed();
 }

@@ -2,11 +2,12 @@ use Rattle.std.proofs.Common.{◌≡◌, ◌<◌, ◌≤◌, ◌+◌, ◌++◌, 
 use Rattle.vx_resolved.specs.Resolved.{kind, member}
 use Rattle.vx_resolved.specs.Settled.{settled}
 use Rattle.vx_report.specs.Reports.{AreNamed}
+use Rattle.vx_resting.specs.Resting.{NoneRests}
 use Rattle.vx_verifier.specs.Headline.{members_of}
 use Rattle.vx_verifier.specs.Lines.{has_line, lines_from, lines}
 use Rattle.vx_verifier.specs.Lanes.{Executes}
 use Rattle.vx_verifier.proofs.Children.{if_ok_at}
-use Rattle.vx_verifier.proofs.Members.{executes_more, named_more}
+use Rattle.vx_verifier.proofs.Members.{executes_more, named_more, none_more}
 use Rattle.vx_verifier.proofs.Lines.{passes_by, goes_on, all_run}
 use Rattle.vx_verifier.proofs.execute.execute_all.Goals as goal
 
@@ -29,6 +30,7 @@ loop-number-preserved g c =
     let lost = if_ok_at c.execute-kept.result.1 _ run c.execute-kept.ensures.lost c.in-Ok-run.is in
     let told = if_ok_at c.execute-kept.result.1 _ run c.execute-kept.ensures.told c.in-Ok-run.is in
     let started = if_ok_at c.execute-kept.result.1 _ run c.execute-kept.ensures.started c.in-Ok-run.is in
+    let alone = if_ok_at c.execute-kept.result.1 _ run c.execute-kept.ensures.alone c.in-Ok-run.is in
     let place : c.in-Ok.number ≡ c.loop-number.number = search rules in
     let inside : c.in-Ok.number < length (settled c.args.program.now) = search rules in
     let member_is = ap (λ m. m.0) numbers.0 in
@@ -44,6 +46,7 @@ loop-number-preserved g c =
     record {
       held = c.execute-kept.ensures.held;
       owed = omega arith;
+      alone = subst NoneRests (sym pushed) (none_more runs run so_far.alone alone);
       named = subst (AreNamed (settled c.args.program.now)) (sym pushed) (named_more (settled c.args.program.now) runs run so_far.named below);
       each = subst (λ x. members_of x ++ lines_from (n + 1) (drop (n + 1) p) ≡ lines p) (sym pushed)
           (goes_on p n (member c.member.result.now) runs run c.member.ensures one (member_is ∙ place) so_far.each);
@@ -75,6 +78,7 @@ loop-number-preserved-then-not-has_line g c =
     record {
       held = so_far.held;
       owed = so_far.owed;
+      alone = so_far.alone;
       named = so_far.named;
       each = passes_by (settled c.args.program.now) c.loop-number.number (member c.member.result.now) (members_of c.loop-number.runs.items) c.member.ensures none so_far.each;
       few = omega arith;

@@ -2,6 +2,7 @@ use Rattle.std.proofs.Common.{◌≡◌, ◌+◌, ◌*◌, ◌≤◌, ◌++◌, 
 use Rattle.vx_resolved.specs.Settled.{settled}
 use Rattle.vx_ends.specs.declared.piece.Start.{Start}
 use Rattle.vx_report.specs.Reports.{AreNamed}
+use Rattle.vx_resting.specs.Resting.{NoneRests}
 use Rattle.vx_verifier.specs.Headline.{members_of}
 use Rattle.vx_verifier.specs.Lines.{lines, lines_from}
 use Rattle.vx_verifier.specs.Lanes.{IsHeld, links, Starts, Later, Executes}
@@ -15,6 +16,7 @@ invariant-loop-number g l =
     record {
       held : IsHeld l.lane.child (w.owed l.spawner 0);
       owed : w.owed l.spawner 0 ≡ w.owed l.fn.spawner 0 + links l.lane.child;
+      alone : NoneRests l.runs.items;
       named : AreNamed (settled l.program) l.runs.items;
       each : members_of l.runs.items ++ lines_from l.number (drop l.number (settled l.program)) ≡ lines (settled l.program);
       few : l.lane.checks ≤ 100000 * l.number;

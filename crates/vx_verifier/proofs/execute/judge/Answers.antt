@@ -1,11 +1,12 @@
-use Rattle.std.proofs.Common.{◌<◌, ◌++◌, [], length, true, refl, ap, ◌∙◌, sym, subst, arith, inl, inr}
+use Rattle.std.proofs.Common.{◌≡◌, ◌<◌, ◌++◌, [], length, true, false, refl, ap, ◌∙◌, sym, subst, arith, inl, inr}
 use Rattle.std.proofs.lemmas.Result.{IfOk-weaker}
 use Rattle.vx_resolved.specs.Settled.{settled}
 use Rattle.vx_verifier.specs.Headline.{IsRecorded}
 use Rattle.vx_stack.specs.Stack.{query}
 use Rattle.vx_verifier.specs.Lanes.{IsDue, tried_turn, turns_so_far, is_lost, is_started}
 use Rattle.vx_verifier.proofs.Children.{caused_earlier, lost_hears, lost_started, gone_by, faulted_by, match_ok_at, if_ok_at, if_err_at}
-use Rattle.vx_verifier.proofs.Questions.{none_asked, no_turns, hears_none, at_done, at_fault, goes_on, still_running, one_longer, asked_by, started_done, started_fault, due_spelled}
+use Rattle.vx_verifier.proofs.Questions.{none_asked, no_turns, hears_none, at_done, at_fault, goes_on, still_running, one_longer, asked_by, started_done, started_fault, due_spelled, alone, faulted_alone}
+use Rattle.vx_report.specs.Reports.{is_resting}
 use Rattle.vx_verifier.proofs.execute.judge.Goals as goal
 
 pub questions-init : goal.questions-init
@@ -60,6 +61,12 @@ returns-in-Err-reply-clause-told g c = IfOk-weaker c.faulted.result _ _ (λ judg
     at_fault dialogue (settled c.args.program.now) c.args.member.0 before (g.W.Spawner.ended c.ask-kept.new.spawner) (g.W.Spawner.faults c.args.spawner.now) (g.W.Spawner.faults c.ask-kept.new.spawner) (is_lost c.args.child) c.ask-kept.result.0 checks told.0
     c.questions.running.machine c.questions.running.ask c.in-Check.query c.in-Err-reply.trouble judged.verdict judged.checks so_far.running c.in-Check.is fault.1 caused
     (fault.0 ∙ so_far.checks) so_far.silent turns (lost_hears dialogue before _ c.ask-kept.result.0 said (checks ++ told.0) gone recorded) told.2) c.faulted.ensures
+
+pub returns-in-Done-clause-alone : goal.returns-in-Done-clause-alone
+returns-in-Done-clause-alone g c = subst (λ v. is_resting v ≡ false) (sym c.verdict_of-verdict.ensures) (alone c.in-Done.outcome)
+
+pub returns-in-Err-reply-clause-alone : goal.returns-in-Err-reply-clause-alone
+returns-in-Err-reply-clause-alone g c = IfOk-weaker c.faulted.result _ _ (λ judged fault. faulted_alone c.in-Err-reply.trouble judged.verdict fault.1) c.faulted.ensures
 
 pub returns-in-Err-reply-clause-starts : goal.returns-in-Err-reply-clause-starts
 returns-in-Err-reply-clause-starts g c = λ before starts. c.ask-kept.ensures.starts before (c.questions.invariant.starts before starts)

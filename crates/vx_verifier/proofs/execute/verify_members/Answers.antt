@@ -2,6 +2,8 @@ use Rattle.std.proofs.Common.{◌≤◌, arith}
 use Rattle.std.proofs.lemmas.Result.{IfOk-weaker}
 use Rattle.vx_resolved.specs.Settled.{settled}
 use Rattle.vx_verifier.proofs.Members.{headline}
+use Rattle.vx_verifier.proofs.Children.{if_ok_at, if_ok_both}
+use Rattle.vx_verifier.proofs.Rested.{named_rest}
 use Rattle.vx_verifier.specs.declared.lane.Child.TheVariants.{NotStarted}
 use Rattle.vx_verifier.proofs.Steady.{none_rose}
 use Rattle.vx_verifier.proofs.Spelled.{supported_spelled, supported_askable}
@@ -12,15 +14,29 @@ execute_all-lane-requires g c = record { spelled = supported_spelled (settled c.
 
 pub returns-clause-headline : goal.returns-clause-headline
 returns-clause-headline g c =
+    let p = settled c.args.program.now in
     let before = g.W.Spawner.ended c.args.spawner.now in
     let same = c.end.ensures.faults in
     let after : g.W.Spawner.faults c.execute_all-lane.new.spawner ≤ g.W.Spawner.faults c.end.new.spawner = omega arith in
-    IfOk-weaker c.execute_all-lane.result.1 _ _ (λ runs told.
-    headline g.W.Link.Link.dialogue (settled c.args.program.now) before (g.W.Spawner.ended c.execute_all-lane.new.spawner) (g.W.Spawner.ended c.end.new.spawner)
+    let own = c.in-Ok.own in
+    let told = if_ok_at c.execute_all-lane.result.1 _ own c.execute_all-lane.ensures.told c.in-Ok.is in
+    let named = if_ok_at c.execute_all-lane.result.1 _ own c.execute_all-lane.ensures.named c.in-Ok.is in
+    if_ok_both c.rest.result _ _ _ (λ runs later rested.
+    headline g.W.Link.Link.dialogue p before (g.W.Spawner.ended c.execute_all-lane.new.spawner) (g.W.Spawner.ended c.end.new.spawner)
     (g.W.Spawner.faults c.args.spawner.now) (g.W.Spawner.faults c.execute_all-lane.new.spawner) (g.W.Spawner.faults c.end.new.spawner)
-    c.execute_all-lane.result.0.child c.execute_all-lane.result.0.checks runs.items told.0 told.1 (λ turns checks. c.end.ensures.told before turns checks) c.end.ensures.later after
-    (supported_askable (settled c.args.program.now) c.requires.supported))
-    c.execute_all-lane.ensures.told
+    c.execute_all-lane.result.0.child c.execute_all-lane.result.0.checks own.items runs.items told.0 named later rested told.1 (λ turns checks. c.end.ensures.told before turns checks)
+    c.end.ensures.later after (supported_askable p c.requires.supported))
+    c.rest.ensures.later c.rest.ensures.rested
+
+pub returns-in-Err-clause-steady : goal.returns-in-Err-clause-steady
+returns-in-Err-clause-steady g c = λ steady room.
+    let w = g.W.Spawner in
+    let l = g.W.Link.Link in
+    none_rose l.dialogue l.steady l.faults (w.ended c.args.spawner.now) (w.faults c.args.spawner.now) (w.ended c.end.new.spawner) (w.steady c.end.new.spawner) (w.faults c.end.new.spawner) NotStarted room
+    (c.end.ensures.calm (w.ended c.args.spawner.now) (w.faults c.args.spawner.now) (c.execute_all-lane.ensures.calm steady))
+
+pub returns-clause-named : goal.returns-clause-named
+returns-clause-named g c = IfOk-weaker c.rest.result _ _ (λ rested later. named_rest (settled c.args.program.now) c.in-Ok.own.items rested.items later (if_ok_at c.execute_all-lane.result.1 _ c.in-Ok.own c.execute_all-lane.ensures.named c.in-Ok.is)) c.rest.ensures.later
 
 pub returns-clause-steady : goal.returns-clause-steady
 returns-clause-steady g c = λ steady room.
