@@ -1,5 +1,5 @@
 -- Where the companion answered each link, all replies were lawful.
-use Rattle.std.proofs.Common.{◌≡◌, inl, inr, ◌++◌, ℕ, suc, List, [], ◌∷◌, sym, subst, append_assoc, arith}
+use Rattle.std.proofs.Common.{inl, inr, ◌++◌, suc, List, [], ◌∷◌, sym, subst, append_assoc, arith}
 use Rattle.std.specs.List.{All}
 use Rattle.vx_terms.specs.Interpretations.{Each}
 use Rattle.vx_ends.specs.declared.piece.Piece.{Piece}

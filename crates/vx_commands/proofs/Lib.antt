@@ -1,3 +1,4 @@
 mod Statuses
 pub mod Lawful
 mod Faultless
+mod Untouched

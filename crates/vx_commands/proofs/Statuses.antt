@@ -8,7 +8,7 @@ use Rattle.vx_report.specs.declared.status.Status.TheVariants.{Done, NotVerified
 use Rattle.vx_report.specs.Statuses.{status_among}
 use Rattle.vx_report.specs.Reports.{is_verified, is_faulted}
 use Rattle.vx_words.specs.declared.order.Order.{Order}
-use Rattle.vx_words.specs.declared.order.Order.TheVariants.{Verify, Check, Print}
+use Rattle.vx_words.specs.declared.order.Order.TheVariants.{Verify, Check, Print, Gen}
 use Rattle.vx_commands.specs.declared.saying.Saying.TheVariants as saying
 use Rattle.vx_commands.specs.declared.top.Ended.{Ended}
 use Rattle.vx_commands.specs.Outside.{Change, Texts, Taken, Children, HasFailedToRead, IsTooLong}
@@ -84,6 +84,7 @@ of_told None files sink runs due bytes told none = subst (λ x. IsStatusOf None 
 of_told (Some (Verify file solver)) files sink runs due bytes told none = of_file (Some (Verify file solver)) files sink runs SaysRefused only_refused file (λ u. u) due bytes told none
 of_told (Some (Check file)) files sink runs due bytes told none = of_file (Some (Check file)) files sink runs (Says saying.Typed) only_checked file (λ u. u) due bytes told none
 of_told (Some (Print file)) files sink runs due bytes told none = of_file (Some (Print file)) files sink runs (Says saying.Canonical) only_printed file (λ u. u) due bytes told none
+of_told (Some (Gen methods)) files sink runs due bytes told none = subst (λ x. IsStatusOf (Some (Gen methods)) files sink runs x) (sym told.done) (ap status_among none)
 
 by_either : (b : Bool) (A B C : Type 0) → (A → C) → (B → C) → ByWhom b A B → C
 by_either true A B C f g h = f h
@@ -99,6 +100,7 @@ status_told order files companion handed sink ended (inr (inl alone)) =
 status_told None files companion handed sink ended (inr (inr report)) = absurd report
 status_told (Some (Check file)) files companion handed sink ended (inr (inr report)) = absurd report
 status_told (Some (Print file)) files companion handed sink ended (inr (inr report)) = absurd report
+status_told (Some (Gen methods)) files companion handed sink ended (inr (inr report)) = absurd report
 status_told (Some (Verify file solver)) files companion handed sink ended (inr (inr report)) =
     let order = Some (Verify file solver) in
     let runs = ended.runs.items in

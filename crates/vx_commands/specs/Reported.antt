@@ -6,7 +6,7 @@ use Rattle.vx_ast.specs.Written as written
 use Rattle.vx_ast.specs.Resolve as resolve
 use Rattle.vx_parser.specs.Spelling.{Spells}
 use Rattle.vx_words.specs.declared.order.Order.{Order}
-use Rattle.vx_words.specs.declared.order.Order.TheVariants.{Verify, Check, Print}
+use Rattle.vx_words.specs.declared.order.Order.TheVariants.{Verify, Check, Print, Gen}
 use Rattle.vx_report.specs.declared.run.MemberRun.{MemberRun}
 use Rattle.vx_report.specs.declared.status.Status.{Status}
 use Rattle.vx_report.specs.declared.status.Status.TheVariants.{Done, NotVerified, Usage, Unread, Refused, Faulted, Unwritten, Want}
@@ -14,6 +14,7 @@ use Rattle.vx_report.specs.Statuses.{status_among}
 use Rattle.vx_typing.specs.Programs.{IsTyped}
 use Rattle.vx_resolved.specs.Executed.{is_executed}
 use Rattle.vx_print.specs.Canonical.{canonical_text}
+use Rattle.vx_gen.specs.Generated.{generated}
 use Rattle.vx_commands.specs.declared.reading.Parsed.{Parsed}
 use Rattle.vx_commands.specs.declared.reading.Parsed.TheVariants as parsed
 use Rattle.vx_commands.specs.declared.reading.Checked.{Checked}
@@ -83,6 +84,7 @@ AsksFileOf None files = files.after.asked ≡ files.before.asked
 AsksFileOf (Some (Verify file solver)) files = AsksOnly file files
 AsksFileOf (Some (Check file)) files = AsksOnly file files
 AsksFileOf (Some (Print file)) files = AsksOnly file files
+AsksFileOf (Some (Gen methods)) files = files.after.asked ≡ files.before.asked
 
 -- ---- spawners
 
@@ -97,6 +99,7 @@ StartsSolverOf None companion handed = IsUnchanged companion × IsUnchanged hand
 StartsSolverOf (Some (Verify file solver)) companion handed = StartsBy solver companion handed
 StartsSolverOf (Some (Check file)) companion handed = IsUnchanged companion × IsUnchanged handed
 StartsSolverOf (Some (Print file)) companion handed = IsUnchanged companion × IsUnchanged handed
+StartsSolverOf (Some (Gen methods)) companion handed = IsUnchanged companion × IsUnchanged handed
 
 -- ---- what is put
 
@@ -146,12 +149,18 @@ IsToldOf Says name files s bytes = (text : List ℕ) × IfSome (files.before.hol
 abbrev pub usage : List ℕ
 usage = codes "usage: vsil [verify [FILE] [--solver TEXT] [--jobs N] [--certify] | check [FILE] | print [FILE] | gen N | work N [--jobs J]]\n"
 
+-- the text of so many generated methods
+pub record IsGenerated (methods : ℕ) (s : Status) (bytes : List ℕ) : Type 0 where
+  pub done : s ≡ Done
+  pub text : bytes ≡ generated methods
+
 -- what is put for an order that has no report
 abbrev pub IsTold : Option Order → Change Texts → Status → List ℕ → Type 0
 IsTold None files s bytes = (s ≡ Usage) × (bytes ≡ usage)
 IsTold (Some (Verify file solver)) files s bytes = IsToldOf SaysRefused file files s bytes
 IsTold (Some (Check file)) files s bytes = IsToldOf (Says saying.Typed) file files s bytes
 IsTold (Some (Print file)) files s bytes = IsToldOf (Says saying.Canonical) file files s bytes
+IsTold (Some (Gen methods)) files s bytes = IsGenerated methods s bytes
 
 -- This text, due with this status, is put, or a beginning of it where the sink failed; there are no runs.
 pub record IsSaid (due : Status) (bytes : List ℕ) (sink : Change Taken) (ended : Ended) : Type 0 where
@@ -201,6 +210,7 @@ IsReportOf (Some (Verify file solver)) files companion handed sink ended =
     (text : List ℕ) × IfSome (files.before.holds file) (λ known. text ≡ known) × IsReportFor text solver companion handed sink ended
 IsReportOf (Some (Check file)) files companion handed sink ended = ⊥
 IsReportOf (Some (Print file)) files companion handed sink ended = ⊥
+IsReportOf (Some (Gen methods)) files companion handed sink ended = ⊥
 IsReportOf None files companion handed sink ended = ⊥
 
 -- ---- answers
@@ -226,6 +236,7 @@ IsUnread None files = ⊥
 IsUnread (Some (Verify file solver)) files = HasFailedToRead files ⊎ IsTooLong file files
 IsUnread (Some (Check file)) files = HasFailedToRead files ⊎ IsTooLong file files
 IsUnread (Some (Print file)) files = HasFailedToRead files ⊎ IsTooLong file files
+IsUnread (Some (Gen methods)) files = ⊥
 
 -- What a status says. One with a report is that of its runs; the others have no runs, and each its cause.
 abbrev pub IsStatusOf : Option Order → Change Texts → Change Taken → List MemberRun → Status → Type 0

@@ -1,14 +1,14 @@
 //! The top call: from the words of the command line to what is put, and the exit status.
 
-ghost use Rattle.std.specs.Prelude.{◌≡◌, ◌⊎◌, [], IfOk, IfErr, Some, None, true, option_copied};
+ghost use Rattle.std.specs.Prelude.{◌≡◌, ◌⊎◌, ◌≤◌, [], IfOk, IfErr, Some, None, true, option_copied};
 ghost use Rattle.vx_ast.specs.Written.{written_program};
 ghost use Rattle.vx_resolved.specs.Executed.{is_executed};
 ghost use Rattle.vx_typing.specs.Typed.{written_of, resolved_of};
-ghost use Rattle.vx_words.specs.Orders.{order_of};
+ghost use Rattle.vx_words.specs.Orders.{order_of, IsWithinLimit};
 ghost use Rattle.vx_commands.specs.Refusals.{IsSpelledBy};
 ghost use Rattle.vx_commands.specs.Reported as spec;
 ghost use Rattle.vx_commands.specs.Outside.{change, texts, taken, children, companions, AsksOnly, StartsOnly};
-ghost use Rattle.vx_commands.specs.Reported.{IsPut, IsStatus, IsSaid, Puts, IsToldOf, IsReport, IsCompanionReport, IsReportBy, IsVerified, IsAnswer, IsStatusOf, AsksFileOf, StartsBy, StartsSolverOf};
+ghost use Rattle.vx_commands.specs.Reported.{IsPut, IsStatus, IsSaid, Puts, IsToldOf, IsReport, IsCompanionReport, IsReportBy, IsGenerated, IsVerified, IsAnswer, IsStatusOf, AsksFileOf, StartsBy, StartsSolverOf};
 
 use crate::answers::{TOO_LONG, UNREAD, USAGE, text_refusal};
 use crate::executed::supported;
@@ -18,6 +18,7 @@ use std::alloc::{AllocError, Global};
 use vx_ast::Program;
 use vx_companion::Builtin;
 use vx_ends::{Files, Parts, PutFault, RoundRobin, Sink, Spawner, put_all};
+use vx_gen::{GenFault, generate};
 use vx_report::{Status, status_of, write_report};
 use vx_typing::Typed;
 use vx_verifier::{Runs, programs_are_supported, settled, verify};
@@ -241,6 +242,19 @@ fn say_file<F: Files, K: Sink>(
     }
 }
 
+// Puts the text of so many generated methods.
+fn put_generated<K: Sink>(alloc: Global, methods: u32, out: &mut K) -> Result<Ended, AllocError>
+    requires { methods ≤ 2000 }
+    ensures said { IfOk result (Puts (IsGenerated methods) (change (taken K.taken K.faults) out.old out.new)) }
+    ensures nothing { IfErr result (λ _. K.taken out.new ≡ K.taken out.old) }
+{
+    match generate(alloc, methods) {
+        Ok(text) => Ok(say(alloc, out, text.as_bytes(), Status::Done)),
+        Err(GenFault::TooLarge) => unreachable!(),
+        Err(GenFault::Want) => Err(AllocError),
+    }
+}
+
 // Does what is ordered.
 fn obey<F: Files, K: Sink, W: Spawner>(
     alloc: Global,
@@ -250,6 +264,7 @@ fn obey<F: Files, K: Sink, W: Spawner>(
     spawner: &mut W,
     builtin: &mut Builtin,
 ) -> Result<Ended, AllocError>
+    requires { IsWithinLimit order.now }
     ensures answered { IfOk result (IsAnswer (Some order.now) (change (texts F.holds F.asked F.faults) files.old files.new) (change companions builtin.old builtin.new) (change (children W.starts W.ended W.faults W.steady) spawner.old spawner.new) (change (taken K.taken K.faults) out.old out.new)) }
     ensures asked { AsksFileOf (Some order.now) (change (texts F.holds F.asked F.faults) files.old files.new) }
     ensures starts { StartsSolverOf (Some order.now) (change companions builtin.old builtin.new) (change (children W.starts W.ended W.faults W.steady) spawner.old spawner.new) }
@@ -261,6 +276,7 @@ fn obey<F: Files, K: Sink, W: Spawner>(
         }
         Order::Check { file } => say_file(alloc, Saying::Typed, file, files, out),
         Order::Print { file } => say_file(alloc, Saying::Canonical, file, files, out),
+        Order::Gen { methods } => put_generated(alloc, *methods, out),
     }
 }
 

@@ -1,1 +1,2 @@
 mod Simple
+mod Numerals

@@ -26,6 +26,10 @@ verify_shape = command (codes "verify") (plain_rule (codes "file") ∷ option_ru
 abbrev pub file_shape : Text → Shape
 file_shape name = command name (plain_rule (codes "file") ∷ [])
 
+-- the command that takes how many methods to generate
+abbrev pub gen_shape : Shape
+gen_shape = command (codes "gen") (plain_rule (codes "methods") ∷ [])
+
 -- the program: a command is wanted, and there is no help and no version
 abbrev pub top_app : App
 top_app = record (new_app (codes "vsil")) {
@@ -33,4 +37,5 @@ top_app = record (new_app (codes "vsil")) {
 }
 
 unfoldable pub vsil_app : App
-vsil_app = with_subcommand (with_subcommand (with_subcommand top_app verify_shape) (file_shape (codes "check"))) (file_shape (codes "print"))
+vsil_app =
+    with_subcommand (with_subcommand (with_subcommand (with_subcommand top_app verify_shape) (file_shape (codes "check"))) (file_shape (codes "print"))) gen_shape

@@ -2,6 +2,7 @@
 #![tactic(auto)]
 
 mod command_table;
+mod methods;
 mod order;
 mod reading;
 mod solver;

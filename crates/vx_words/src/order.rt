@@ -15,6 +15,8 @@ pub enum Order {
     Check { file: Option<Text> },
     /// Write the canonical text of a file, or of standard input.
     Print { file: Option<Text> },
+    /// Write the text of so many generated methods, at most 2000.
+    Gen { methods: u32 },
 }
 
 /// Why the words give no order.

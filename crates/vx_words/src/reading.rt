@@ -1,8 +1,9 @@
 // The order that the matches of a subcommand give.
 ghost use Rattle.std.specs.Prelude.{◌≡◌, option_map, IfOk, codes};
 ghost use Rattle.clap.specs.Words.{rows_of, found_of, first_of};
-ghost use Rattle.vx_words.specs.Orders.{verify_in, order_from, ReadsAs};
+ghost use Rattle.vx_words.specs.Orders.{verify_in, gen_in, order_from, ReadsAs, IsWithinLimit};
 
+use crate::methods::methods_of;
 use crate::solver::parts_of;
 use crate::{Order, Text, WordsFault};
 use clap::ArgMatches;
@@ -25,7 +26,8 @@ fn file_of(alloc: Global, matches: &ArgMatches) -> Result<Option<Text>, AllocErr
 }
 
 fn verify_of(alloc: Global, matches: &ArgMatches) -> Result<Order, WordsFault>
-    ensures { ReadsAs (verify_in (rows_of (found_of matches.now))) result }
+    ensures meaning { ReadsAs (verify_in (rows_of (found_of matches.now))) result }
+    ensures limit { IfOk result IsWithinLimit }
 {
     let solver = parts_of(alloc, text_of(matches, "solver").unwrap_or("builtin"))?;
     if solver.len() == 0 {
@@ -35,12 +37,29 @@ fn verify_of(alloc: Global, matches: &ArgMatches) -> Result<Order, WordsFault>
     Ok(Order::Verify { file, solver })
 }
 
+fn gen_of(matches: &ArgMatches) -> Result<Order, WordsFault>
+    ensures meaning { ReadsAs (gen_in (rows_of (found_of matches.now))) result }
+    ensures limit { IfOk result IsWithinLimit }
+{
+    match text_of(matches, "methods") {
+        Some(text) => match methods_of(text) {
+            Some(methods) => Ok(Order::Gen { methods }),
+            None => Err(WordsFault::Usage),
+        },
+        None => Err(WordsFault::Usage),
+    }
+}
+
 /// The order of a subcommand, by its name and its matches.
 pub fn order_of(alloc: Global, name: &str, matches: &ArgMatches) -> Result<Order, WordsFault>
-    ensures { ReadsAs (order_from name.now (rows_of (found_of matches.now))) result }
+    ensures meaning { ReadsAs (order_from name.now (rows_of (found_of matches.now))) result }
+    ensures limit { IfOk result IsWithinLimit }
 {
     if name == "verify" {
         return verify_of(alloc, matches);
+    }
+    if name == "gen" {
+        return gen_of(matches);
     }
     let file = file_of(alloc, matches)?;
     if name == "check" {

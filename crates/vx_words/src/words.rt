@@ -1,6 +1,6 @@
 // The order that the words give.
 ghost use Rattle.std.specs.Prelude.{◌≡◌, ◌⊎◌, IfOk, map, string_bytes};
-ghost use Rattle.vx_words.specs.Orders.{default_words, order_of_words, order_of as meaning_of, ReadsAs};
+ghost use Rattle.vx_words.specs.Orders.{default_words, order_of_words, order_of as meaning_of, ReadsAs, IsWithinLimit};
 ghost use Rattle.vx_words.specs.Parses.{Parses};
 ghost use Rattle.clap.specs.Words.{kind_of};
 
@@ -48,7 +48,8 @@ fn parse<'a>(alloc: Global, words: &'a [String]) -> Result<ArgMatches<'a>, Words
 
 // The order of words that name a command.
 fn read_texts(alloc: Global, words: &[String]) -> Result<Order, WordsFault>
-    ensures { ReadsAs (order_of_words (map string_bytes words.now)) result }
+    ensures meaning { ReadsAs (order_of_words (map string_bytes words.now)) result }
+    ensures limit { IfOk result IsWithinLimit }
 {
     let matches = parse(alloc, words)?;
     match matches.subcommand() {
@@ -59,7 +60,8 @@ fn read_texts(alloc: Global, words: &[String]) -> Result<Order, WordsFault>
 
 /// What the words of the command line mean; the first is the program's name.
 pub fn read_words(alloc: Global, words: &Parts) -> Result<Order, WordsFault>
-    ensures { ReadsAs (meaning_of words.now) result }
+    ensures meaning { ReadsAs (meaning_of words.now) result }
+    ensures limit { IfOk result IsWithinLimit }
 {
     let filled = with_default(alloc, words)?;
     read_texts(alloc, filled.texts())

@@ -1,4 +1,4 @@
-use Rattle.std.proofs.Common.{◌≡◌, ℕ, List, Option, Some, None, false, refl}
+use Rattle.std.proofs.Common.{◌≡◌, ℕ, List, Option, Some, None, refl}
 use Rattle.vx_tokens.specs.Tokens.{Token}
 use Rattle.vx_tokens.specs.Text.{unmarked}
 use Rattle.vx_typing.specs.Typed.{written_of}
