@@ -30,6 +30,7 @@ fn order_of(alloc: Global, order: &Order) -> Result<String, AllocError> {
         ),
         Order::Check { file } => format!(in alloc; "check {}", file_of(file)),
         Order::Print { file } => format!(in alloc; "print {}", file_of(file)),
+        Order::Gen { methods } => format!(in alloc; "gen {methods}"),
     }
 }
 
