@@ -3,6 +3,7 @@ pub mod Endings
 pub mod Compounds
 pub mod Members
 pub mod Nested
+pub mod Looping
 pub mod Truth
 pub mod Programs
 pub mod Stated

@@ -1,5 +1,5 @@
 -- Stores that differ, references that are not new, and groups of functions.
-use Rattle.std.proofs.Common.{◌≡◌, ℕ, zero, suc, pos, true, false, IsTrue, List, [], ◌∷◌, ◌++◌, refl, sym, subst, inl, inr, ◌⊎◌, arith, Some, Option}
+use Rattle.std.proofs.Common.{◌≡◌, ℕ, zero, suc, pos, true, false, IsTrue, [], ◌∷◌, refl, sym, subst, inl, inr, ◌⊎◌, arith, Some, Option}
 use Rattle.std.specs.Prelude.{Contains}
 use Rattle.vx_ast.specs.declared.ValueType.TheVariants.{Int}
 use Rattle.vx_ast.specs.declared.ValueType.TheVariants as type

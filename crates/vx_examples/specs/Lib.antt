@@ -29,4 +29,5 @@ pub mod Identical
 pub mod Unreached
 pub mod Sorting
 pub mod Untyped
+pub mod Refused
 pub mod Viewed

@@ -22,6 +22,7 @@ pub mod loops;
 pub mod operators;
 pub mod outcomes;
 pub mod predicates;
+pub mod refused;
 pub mod rule_branches;
 pub mod runs;
 pub mod settling;
