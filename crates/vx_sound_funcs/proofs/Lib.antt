@@ -1,0 +1,15 @@
+pub mod Likes
+pub mod Sees
+pub mod Bodies
+pub mod Heaps
+pub mod States
+pub mod Alike
+pub mod Firm
+pub mod Values
+pub mod Fuel
+pub mod Agree
+pub mod Starts
+pub mod Laws
+pub mod TypedFunctions
+pub mod Worked
+pub mod WorkedTyped

@@ -1,0 +1,4 @@
+pub mod Told
+pub mod Firm
+pub mod Laws
+pub mod Examples
