@@ -1,0 +1,12 @@
+pub mod Places
+pub mod Texts
+pub mod Stacks
+pub mod Leaves
+pub mod Openings
+pub mod Numerals
+pub mod Spellings
+pub mod Placing
+pub mod Literals
+pub mod Declarations
+pub mod WrittenTerms
+pub mod WrittenCommands

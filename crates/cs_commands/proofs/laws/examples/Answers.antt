@@ -1,0 +1,23 @@
+use Rattle.std.proofs.Common.{refl, codes}
+use Rattle.vx_sexp.specs.Characters.{is_digit, is_symbol_byte}
+use Rattle.cs_commands.proofs.Spellings.{symbol_text}
+use Rattle.cs_commands.proofs.laws.examples.Goals as goal
+
+pub returns : goal.returns
+unfolding is_digit is_symbol_byte
+returns c = record {
+  push = refl;
+  conjunction = refl;
+  equation = rw (symbol_text (codes "a") refl) refl;
+  no_bool = refl;
+  unknown_name = rw (symbol_text (codes "zz") refl) refl;
+  unknown_operator = rw (symbol_text (codes "xor") refl) refl;
+  wide = refl;
+  name_before_sort = rw (symbol_text (codes "zz") refl) refl;
+  sort_before_name = refl;
+  nothing_asserted = refl;
+  taken_sort = rw (symbol_text (codes "Int") refl) refl;
+  sort_of_arity = rw (symbol_text (codes "S") refl) refl;
+  levels = refl;
+  other_command = refl;
+}

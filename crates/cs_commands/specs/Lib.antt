@@ -1,0 +1,12 @@
+pub mod Outcomes
+pub mod Words
+pub mod Names
+pub mod Live
+pub mod Heads
+pub mod Building
+pub mod Terms
+pub mod Commands
+pub mod Views
+pub mod Understanding
+pub mod Laws
+pub mod Examples

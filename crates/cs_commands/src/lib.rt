@@ -1,0 +1,19 @@
+//! Which command an s-expression is, over what is declared.
+#![tactic(auto)]
+
+mod build;
+mod command;
+mod fault;
+mod head;
+mod laws;
+mod live;
+mod name;
+mod number;
+mod reading;
+mod term;
+mod word;
+
+pub use fault::{CommandFault, Fault};
+pub use laws::{examples, written_is_understood};
+pub use live::Live;
+pub use reading::understand;
