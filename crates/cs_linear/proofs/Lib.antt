@@ -1,0 +1,13 @@
+pub mod Added
+pub mod Arithmetic
+pub mod Tightest
+pub mod Judged
+pub mod Carried
+pub mod Conflicts
+pub mod Lists
+pub mod Moves
+pub mod Orders
+pub mod Pivots
+pub mod Reciprocals
+pub mod Sums
+pub mod Turned

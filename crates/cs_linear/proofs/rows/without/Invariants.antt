@@ -1,0 +1,6 @@
+use Rattle.std.proofs.Common.{◌≡◌, ◌++◌, drop}
+use Rattle.cs_linear.specs.Merged.{rest_of}
+use Rattle.cs_linear.proofs.rows.without.Given as goal
+
+abbrev pub invariant-loop-entry : goal.invariant-loop-entry
+invariant-loop-entry l = l.rest.items ++ rest_of (drop l.entry-index l.entries) l.column ≡ rest_of l.entries l.column

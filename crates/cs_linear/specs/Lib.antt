@@ -1,0 +1,12 @@
+pub mod Numbers
+pub mod Rows
+pub mod Merged
+pub mod Pivots
+pub mod Values
+pub mod Added
+pub mod Amounts
+pub mod Contradictions
+pub mod Views
+pub mod Limits
+pub mod Checks
+pub mod Results

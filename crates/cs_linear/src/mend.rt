@@ -1,0 +1,234 @@
+//! One broken bound is mended, or there is a contradiction; and the check, which goes on until none is broken.
+ghost use Rattle.std.specs.Prelude.{◌≡◌, ◌<◌, ◌≤◌, length, List, All, IfOk, IfErr, IfSome, OnOk, slice_get, Some, true, pos, ℕ, ◌-◌};
+ghost use Rattle.vx_frac.specs.Fraction.{fraction};
+ghost use Rattle.cs_meter.specs.Units.{limit};
+ghost use Rattle.cs_linear.specs.Numbers.{IsCause};
+ghost use Rattle.cs_linear.specs.Rows.{IsFree};
+ghost use Rattle.cs_linear.specs.Values.{values};
+ghost use Rattle.cs_linear.specs.Contradictions.{IsAmong, is_broken, IsContradiction};
+ghost use Rattle.cs_linear.specs.Checks.{AreLimits};
+ghost use Rattle.cs_linear.specs.Views.{width_of, rows_of, bounds_of};
+ghost use Rattle.cs_linear.specs.Results.{IsChecked, IsUndecided, IsStep, IsEntryOf};
+
+use crate::bounds::{Bound, Part, Value};
+use crate::check::{Way, examine, own, toward};
+use crate::limits::{Limits, first_broken};
+use crate::numbers::{Stop, reciprocal, times};
+use crate::rows::Entry;
+use crate::tableau::Tableau;
+use cs_meter::{Budget, Meter};
+use std::alloc::Global;
+use vx_frac::{Frac, Over};
+
+/// Asserted bounds that contradict one another over the rows, each with its multiplier.
+#[derive(Drop)]
+pub struct Conflict {
+    pub parts: Vec<Part>,
+}
+
+/// The answer of a check: the values meet all bounds, or no values do.
+#[derive(Drop)]
+pub enum Checked {
+    Feasible,
+    Conflict(Conflict),
+}
+
+/// Why a check is undecided.
+#[derive(Clone, Copy, PartialEq, Eq, Debug)]
+pub enum Undecided {
+    Budget,
+    Over(Over),
+    Want,
+}
+
+/// Whether a check has its answer.
+#[derive(Drop)]
+enum Step {
+    Ended(Checked),
+    On,
+}
+
+fn cause_of(stop: Stop) -> Undecided
+    requires { IsCause stop }
+    ensures { (spent : ℕ) → IsUndecided spent result }
+{
+    match stop {
+        Stop::Over(over) => Undecided::Over(over),
+        Stop::Want => Undecided::Want,
+    }
+}
+
+/// From a value to a limit.
+fn difference(limit: Frac, value: Frac) -> Result<Frac, Stop>
+    ensures { IfErr result IsCause }
+{
+    match limit.sub(value) {
+        Ok(difference) => Ok(difference),
+        Err(over) => Err(Stop::Over(over)),
+    }
+}
+
+impl Tableau {
+    ghost use Rattle.std.specs.Prelude.{ℕ};
+
+    /// Moves a free column to the limit of its bound.
+    fn move_to(&mut self, alloc: Global, bound: Bound) -> Result<(), Stop>
+        requires { IsFree self.old.homes.items bound.column }
+        ensures rows { self.new.originals ≡ self.old.originals }
+        ensures homes { self.new.homes ≡ self.old.homes }
+        ensures bounds { self.new.bounds ≡ self.old.bounds }
+        ensures cause { IfErr result IsCause }
+    {
+        let value = self.value(bound.column);
+        let main = difference(bound.limit.main, value.main)?;
+        let delta = difference(bound.limit.delta, value.delta)?;
+        self.move_free(alloc, bound.column, main, delta)
+    }
+
+    /// Moves a column so that a basic one comes to its limit, and lets them change places.
+    fn exchange(&mut self, alloc: Global, bound: Bound, at: usize, entry: Entry) -> Result<(), Stop>
+        requires known { bound.column < length self.old.homes.items }
+        requires row { at < length self.old.rows.items }
+        requires entry { IsEntryOf self.old.rows.items at entry }
+        requires some { ¬ ((fraction entry.factor).numerator ≡ pos 0) }
+        ensures rows { self.new.originals ≡ self.old.originals }
+        ensures width { length self.new.homes.items ≡ length self.old.homes.items }
+        ensures bounds { self.new.bounds ≡ self.old.bounds }
+        ensures cause { IfErr result IsCause }
+    {
+        let value = self.value(bound.column);
+        let inverse = reciprocal(entry.factor)?;
+        let main = difference(bound.limit.main, value.main)?;
+        let delta = difference(bound.limit.delta, value.delta)?;
+        let main = times(main, inverse)?;
+        let delta = times(delta, inverse)?;
+        self.move_free(alloc, entry.column, main, delta)?;
+        self.pivot(alloc, at, entry.column, entry.factor)
+    }
+
+    /// Mends a broken bound of a basic column, or tells the contradiction.
+    fn mend_basic(
+        &mut self,
+        alloc: Global,
+        bound: Bound,
+        limits: &Limits,
+        at: usize,
+    ) -> Result<Option<Conflict>, Stop>
+        requires home { slice_get self.old.homes.items bound.column ≡ Some (Some at) }
+        requires among { IsAmong bound self.old.bounds.items }
+        requires broken { is_broken (values self.old.mains.items) (values self.old.deltas.items) bound ≡ true }
+        requires limits { AreLimits self.old.bounds.items limits.now }
+        requires lower { length limits.now.lower.items ≡ length self.old.homes.items }
+        requires upper { length limits.now.upper.items ≡ length self.old.homes.items }
+        ensures rows { self.new.originals ≡ self.old.originals }
+        ensures width { length self.new.homes.items ≡ length self.old.homes.items }
+        ensures bounds { self.new.bounds ≡ self.old.bounds }
+        ensures conflict { IfOk result (λ o. IfSome o (λ c. IsContradiction self.old.originals.items self.old.bounds.items c.parts.items)) }
+        ensures cause { IfErr result IsCause }
+    {
+        let toward = toward(bound.side);
+        match examine(
+            alloc,
+            &self.rows[at].entries,
+            toward,
+            limits,
+            &self.mains,
+            &self.deltas,
+        )? {
+            Way::Moves(entry) => {
+                self.exchange(alloc, bound, at, entry)?;
+                Ok(None)
+            }
+            Way::Stuck(parts) => {
+                let mut parts = parts;
+                parts.push(Part {
+                    bound,
+                    multiplier: own(bound.side),
+                })?;
+                Ok(Some(Conflict { parts }))
+            }
+        }
+    }
+
+    /// Mends a broken bound, or tells the contradiction.
+    fn mend(
+        &mut self,
+        alloc: Global,
+        bound: Bound,
+        limits: &Limits,
+    ) -> Result<Option<Conflict>, Stop>
+        requires known { bound.column < length self.old.homes.items }
+        requires among { IsAmong bound self.old.bounds.items }
+        requires broken { is_broken (values self.old.mains.items) (values self.old.deltas.items) bound ≡ true }
+        requires limits { AreLimits self.old.bounds.items limits.now }
+        requires lower { length limits.now.lower.items ≡ length self.old.homes.items }
+        requires upper { length limits.now.upper.items ≡ length self.old.homes.items }
+        ensures rows { self.new.originals ≡ self.old.originals }
+        ensures width { length self.new.homes.items ≡ length self.old.homes.items }
+        ensures bounds { self.new.bounds ≡ self.old.bounds }
+        ensures conflict { IfOk result (λ o. IfSome o (λ c. IsContradiction self.old.originals.items self.old.bounds.items c.parts.items)) }
+        ensures cause { IfErr result IsCause }
+    {
+        match self.homes[bound.column as usize] {
+            None => {
+                self.move_to(alloc, bound)?;
+                Ok(None)
+            }
+            Some(at) => self.mend_basic(alloc, bound, limits, at),
+        }
+    }
+
+    /// Spends a unit on the first broken bound, if one is.
+    fn turn(&mut self, alloc: Global, meter: &mut Meter, limits: &Limits) -> Result<Step, Undecided>
+        requires limits { AreLimits self.old.bounds.items limits.now }
+        requires lower { length limits.now.lower.items ≡ length self.old.homes.items }
+        requires upper { length limits.now.upper.items ≡ length self.old.homes.items }
+        ensures rows { self.new.originals ≡ self.old.originals }
+        ensures width { length self.new.homes.items ≡ length self.old.homes.items }
+        ensures bounds { self.new.bounds ≡ self.old.bounds }
+        ensures turn { IfOk result (IsStep self.new meter.old.spent meter.new.spent) }
+        ensures spent { meter.old.spent ≤ meter.new.spent }
+        ensures undecided { IfErr result (IsUndecided meter.new.spent) }
+    {
+        match first_broken(&self.bounds, &self.mains, &self.deltas) {
+            None => Ok(Step::Ended(Checked::Feasible)),
+            Some(bound) => {
+                match meter.spend() {
+                    Ok(()) => {}
+                    Err(Budget) => return Err(Undecided::Budget),
+                }
+                match self.mend(alloc, bound, limits) {
+                    Ok(None) => Ok(Step::On),
+                    Ok(Some(conflict)) => Ok(Step::Ended(Checked::Conflict(conflict))),
+                    Err(stop) => Err(cause_of(stop)),
+                }
+            }
+        }
+    }
+
+    /// Whether values meet all bounds over the rows: `Feasible` where those of the columns do now, or a conflict.
+    /// One unit is spent for each bound that is mended.
+    ///
+    /// # Errors
+    /// `Budget` only where all units are spent, `Over` with a call that leaves 128 bits, or `Want`. The rows and bounds are
+    /// the same then, and the values solve the rows.
+    pub fn check(&mut self, alloc: Global, meter: &mut Meter) -> Result<Checked, Undecided>
+        ensures rows { rows_of self.new ≡ rows_of self.old }
+        ensures width { width_of self.new ≡ width_of self.old }
+        ensures bounds { bounds_of self.new ≡ bounds_of self.old }
+        ensures checked { IfOk result (IsChecked self.new) }
+        ensures spent { meter.old.spent ≤ meter.new.spent }
+        ensures undecided { IfErr result (IsUndecided meter.new.spent) }
+    {
+        let limits = match Limits::new(alloc, &self.bounds, self.homes.len()) {
+            Ok(limits) => limits,
+            Err(stop) => return Err(cause_of(stop)),
+        };
+        loop {
+            match self.turn(alloc, meter, &limits)? {
+                Step::Ended(checked) => return Ok(checked),
+                Step::On => {}
+            }
+        }
+    }
+}
