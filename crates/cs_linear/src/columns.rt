@@ -1,5 +1,5 @@
 //! Columns, rows and bounds of a tableau, one more or taken back; and a pivot and a move, which keep what it stands for.
-ghost use Rattle.std.specs.Prelude.{◌≡◌, ◌<◌, ◌≤◌, ◌+◌, ◌^◌, ◌++◌, ◌∷◌, [], length, take, All, IfOk, IfErr, OnOk, OnErr, IfSome, Some, None, slice_get, pos};
+ghost use Rattle.std.specs.Prelude.{◌≡◌, ℕ, ◌<◌, ◌≤◌, ◌+◌, ◌^◌, ◌++◌, ◌∷◌, [], length, take, All, IfOk, IfErr, OnOk, OnErr, IfSome, Some, None, slice_get, pos};
 ghost use Rattle.vx_frac.specs.Fraction.{fraction};
 ghost use Rattle.cs_linear.specs.Numbers.{IsCause};
 ghost use Rattle.cs_linear.specs.Rows.{IsTableau, IsFree, AreAlike, Solves, factor_at};
@@ -206,6 +206,7 @@ impl Tableau {
         ensures rows { rows_of self.new ≡ rows_of self.old }
         ensures width { width_of self.new ≡ width_of self.old }
         ensures cause { IfErr result IsCause }
+        ensures values { (k : ℕ) → value_of self.new k ≡ value_of self.old k }
     {
         self.bounds.push(bound)?;
         Ok(())
@@ -224,6 +225,7 @@ impl Tableau {
         ensures bounds { bounds_of self.new ≡ take mark (bounds_of self.old) }
         ensures rows { rows_of self.new ≡ rows_of self.old }
         ensures width { width_of self.new ≡ width_of self.old }
+        ensures values { (k : ℕ) → value_of self.new k ≡ value_of self.old k }
     {
         self.bounds.truncate(mark);
     }
