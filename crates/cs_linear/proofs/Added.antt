@@ -170,3 +170,10 @@ none_total (e ∷ es) = ap₂ plus (times_none _) (none_total es) ∙ none_plus 
 -- nothing everywhere solves all rows
 pub none_solves : (rows : List Row) → Solves rows (λ k. none)
 none_solves rows i r er = lowest_none ∙ sym (none_total r.entries.items)
+
+-- a column of value 0 more leaves all values: behind the last one they are 0 too
+pub zero_more : (vs : List Frac) (x : Frac) (k : ℕ) → fraction x ≡ none → values (vs ++ x ∷ []) k ≡ values vs k
+zero_more [] x zero is = is
+zero_more [] x (suc k) is = refl
+zero_more (v ∷ vs) x zero is = refl
+zero_more (v ∷ vs) x (suc k) is = zero_more vs x k is

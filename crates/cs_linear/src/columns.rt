@@ -135,6 +135,7 @@ impl Tableau {
         ensures rows { rows_of self.new ≡ rows_of self.old }
         ensures bounds { bounds_of self.new ≡ bounds_of self.old }
         ensures cause { IfErr result IsCause }
+        ensures values { OnOk result ((k : ℕ) → value_of self.new k ≡ value_of self.old k) }
     {
         self.homes.reserve(1)?;
         self.mains.reserve(1)?;

@@ -1,9 +1,11 @@
-use Rattle.std.proofs.Common.{◌<◌, List, Option, ℕ, [], ◌∷◌, ◌++◌, None, length, sym, ap, ◌∙◌, subst, refl}
+use Rattle.std.proofs.Common.{◌<◌, List, Option, ℕ, [], ◌∷◌, ◌++◌, None, length, sym, ap, ◌∙◌, subst, refl, ap₂}
 use Rattle.std.proofs.lemmas.List.Elements.{All-weaker}
 use Rattle.vx_frac.specs.declared.Frac.{Frac}
 use Rattle.cs_linear.specs.declared.bounds.Bound.{Bound}
 use Rattle.cs_linear.proofs.Lists.{one_longer, few_more, below_longer}
-use Rattle.cs_linear.proofs.Added.{wide_tableau, wide_solves, same_tableau, same_solves}
+use Rattle.cs_linear.proofs.Added.{wide_tableau, wide_solves, same_tableau, same_solves, zero_more}
+use Rattle.cs_linear.specs.Amounts.{pair}
+use Rattle.cs_linear.specs.Values.{values}
 use Rattle.cs_linear.proofs.tableau.Tableau.add_column.Goals as goal
 
 pub invariant_of-self-2 : goal.invariant_of-self-2
@@ -22,3 +24,10 @@ invariant_of-self-2 c =
       deltas_solve = same_solves refl deltas (wide_solves s.rows.items s.homes.items s.deltas.items c.zero-2.result s.tableau s.same_deltas s.deltas_solve);
       known = All-weaker (λ (b : Bound). b.column < length s.homes.items) (λ (b : Bound). b.column < length c.put.new.list.items) (λ b lt. subst (λ (hs : List (Option ℕ)). b.column < length hs) (sym homes) (below_longer s.homes.items None b.column lt)) s.bounds.items s.known;
     }
+
+pub returns-clause-values : goal.returns-clause-values
+returns-clause-values c = λ k.
+    let s = c.args.self.now in
+    let mains = c.put-2.ensures ∙ ap (λ (vs : List Frac). vs ++ c.zero.result ∷ []) c.reserve-2.ensures.items in
+    let deltas = c.put-3.ensures ∙ ap (λ (vs : List Frac). vs ++ c.zero-2.result ∷ []) c.reserve-3.ensures.items in
+    ap₂ pair (ap (λ vs. values vs k) mains ∙ zero_more s.mains.items c.zero.result k c.zero.ensures) (ap (λ vs. values vs k) deltas ∙ zero_more s.deltas.items c.zero-2.result k c.zero-2.ensures)
