@@ -1,5 +1,9 @@
 //! Terms, shared by counts.
 
+ghost use Rattle.std.specs.Prelude.{◌<◌, IfSome};
+ghost use Rattle.vx_terms.specs.declared.term.Term.{size-Term};
+ghost use Rattle.vx_terms.specs.declared.term.Terms.{size-Terms};
+
 use crate::Sort;
 use std::rc::Rc;
 use vx_frac::Frac;
@@ -57,13 +61,13 @@ impl Drop for Term {
             let first = match self {
                 Term::Truth(_) | Term::Number(_) | Term::Part(_) => return,
                 Term::Constant(_f, _a) => return,
-                Term::Apply(_f, _a, parts) => match Rc::into_inner(parts) {
-                    Some(Terms::More(first, _rest)) => first,
-                    Some(Terms::None) | None => return,
+                Term::Apply(_f, _a, parts) => match first_of(parts) {
+                    Some(first) => first,
+                    None => return,
                 },
-                Term::AllOf(parts) | Term::SomeOf(parts) => match Rc::into_inner(parts) {
-                    Some(Terms::More(first, _rest)) => first,
-                    Some(Terms::None) | None => return,
+                Term::AllOf(parts) | Term::SomeOf(parts) => match first_of(parts) {
+                    Some(first) => first,
+                    None => return,
                 },
                 Term::Not(first) => first,
                 Term::Binary(_, first, _second) => first,
@@ -79,8 +83,48 @@ impl Drop for Term {
 
 /// A list of terms.
 #[cycle(terms)]
-#[derive(Debug, Drop)]
+#[derive(Debug)]
 pub enum Terms {
     None,
     More(Rc<Term>, Rc<Terms>),
+}
+
+impl Terms {
+    /// The first one; the others are let go.
+    #[cycle(terms)]
+    fn into_first(self) -> Option<Rc<Term>>
+        ensures { IfSome result (λ t. size-Term t.value < size-Terms self) }
+    {
+        match self {
+            Terms::None => None,
+            Terms::More(first, _rest) => Some(first),
+        }
+    }
+}
+
+/// The first of some terms that nobody else holds; the others are let go.
+#[cycle(terms)]
+fn first_of(parts: Rc<Terms>) -> Option<Rc<Term>>
+    ensures { IfSome result (λ t. size-Term t.value < size-Terms parts.value) }
+{
+    match Rc::into_inner(parts) {
+        Some(parts) => parts.into_first(),
+        None => None,
+    }
+}
+
+/// The terms are let go one after the other: a list is as long as the input makes it.
+impl Drop for Terms {
+    #[cycle(terms)]
+    fn drop(mut self) {
+        loop {
+            match self {
+                Terms::None => return,
+                Terms::More(_first, rest) => match Rc::into_inner(rest) {
+                    Some(next) => self = next,
+                    None => return,
+                },
+            }
+        }
+    }
 }
