@@ -1,9 +1,9 @@
 -- Small methods: some that never fail, some that can, and some that no typed text has.
-use Rattle.std.specs.Prelude.{ℕ, false, codes, [], ◌∷◌, Some, None}
+use Rattle.std.specs.Prelude.{ℕ, true, false, codes, [], ◌∷◌, Some, None}
 use Rattle.vx_ast.specs.declared.Place.{Place}
 use Rattle.vx_ast.specs.declared.ValueType.TheVariants.{Int}
 use Rattle.vx_ast.specs.declared.ValueType.TheVariants as type
-use Rattle.vx_ast.specs.Syntax.{Name, Program, IsField, IsMethod, Method, Equal, Greater, Add, Number, Truth, Part, Variable, Read, Operate, Pure, Points, NoMore, More, Assign, Write, New, Call, Assert, Done, Then}
+use Rattle.vx_ast.specs.Syntax.{Name, Program, Block, IsField, IsMethod, Method, Equal, Greater, Add, Number, Truth, Part, Variable, Read, Operate, Not, Pure, Points, NoMore, More, Assign, Write, New, Call, Assert, While, Done, Then}
 
 abbrev pub on_line : ℕ → Place
 on_line n = record { line = n; column = 1 }
@@ -52,6 +52,35 @@ sets = record {
   requires = Points (on_line 2) (Variable (on_line 2) x) f (Part (on_line 2) 1 1) ∷ [];
   ensures = [];
   body = Some (Then (Write (on_line 3) (Variable (on_line 3) x) f (Number (on_line 3) 1)) (Then (Assert (on_line 4) (Pure (Operate (on_line 4) Equal (Read (on_line 4) (Variable (on_line 4) x) f) (Number (on_line 4) 1)))) Done));
+}
+
+-- method repeats(x: Ref) requires acc(x.f, 1/1) { while (!(x.f == 1)) invariant acc(x.f, 1/1) { x.f := 1 } assert x.f == 1 }
+abbrev pub repeats : Method
+repeats = record {
+  place = on_line 1;
+  parameters = record { name = x; of = type.Ref } ∷ [];
+  returns = [];
+  requires = Points (on_line 2) (Variable (on_line 2) x) f (Part (on_line 2) 1 1) ∷ [];
+  ensures = [];
+  body = Some (Then (While (on_line 3) (Not (on_line 3) (Operate (on_line 3) Equal (Read (on_line 3) (Variable (on_line 3) x) f) (Number (on_line 3) 1)))
+      (Points (on_line 4) (Variable (on_line 4) x) f (Part (on_line 4) 1 1) ∷ [])
+      (Then (Write (on_line 5) (Variable (on_line 5) x) f (Number (on_line 5) 1)) Done))
+      (Then (Assert (on_line 6) (Pure (Operate (on_line 6) Equal (Read (on_line 6) (Variable (on_line 6) x) f) (Number (on_line 6) 1)))) Done));
+}
+
+-- while (true) { x.f := 1 }
+abbrev pub endless : Block
+endless = Then (While (on_line 3) (Truth (on_line 3) true) [] (Then (Write (on_line 4) (Variable (on_line 4) x) f (Number (on_line 4) 1)) Done)) Done
+
+-- method reaches(x: Ref) requires acc(x.f, 1/1), with `endless` as its body
+abbrev pub reaches : Method
+reaches = record {
+  place = on_line 1;
+  parameters = record { name = x; of = type.Ref } ∷ [];
+  returns = [];
+  requires = Points (on_line 2) (Variable (on_line 2) x) f (Part (on_line 2) 1 1) ∷ [];
+  ensures = [];
+  body = Some endless;
 }
 
 abbrev pub m : Name
