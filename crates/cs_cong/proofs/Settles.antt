@@ -1,10 +1,10 @@
 -- What is known of the terms that don't wait, as terms are looked at and classes are made one.
-use Rattle.std.proofs.Common.{◌≡◌, ℕ, zero, suc, ◌<◌, ◌%◌, inl, inr, Bool, true, false, not, nat_eq, cond, ◌&&◌, ◌||◌, List, [], ◌∷◌, ◌++◌, length, slice_get, Some, refl, sym, ◌∙◌, ap, ap₂, subst, arith, add-one, eq-eqb, ne_eqb}
+use Rattle.std.proofs.Common.{◌≡◌, ℕ, zero, suc, ◌<◌, inl, inr, Bool, true, false, not, nat_eq, cond, ◌&&◌, ◌||◌, List, [], ◌∷◌, ◌++◌, length, slice_get, Some, refl, sym, ◌∙◌, ap, ap₂, subst, arith, add-one, eq-eqb, ne_eqb}
 use Rattle.std.specs.List.{list_any}
 use Rattle.std.proofs.lemmas.Bool.{cases_eq, and_parts}
 use Rattle.std.proofs.lemmas.List.{length-append}
 use Rattle.std.proofs.lemmas.List.Folds.{list_any-append}
-use Rattle.cs_index.specs.Under.{meets, under, with_number}
+use Rattle.cs_index.specs.Under.{under, with_number}
 use Rattle.cs_cong.specs.declared.congruent.Applied.{Applied}
 use Rattle.cs_cong.specs.declared.merges.Merge.{Merge}
 use Rattle.cs_cong.specs.declared.merges.Reason.{Reason}
@@ -96,7 +96,7 @@ module _ (terms : List Applied) (f : ℕ → ℕ) (old new : Waiting) (a : ℕ) 
       (λ c wc h. sym e ∙ s.closed n c (not_true (waits old.queue n) p.0) wc (linked terms f n a c p.1 h))
 
   -- it has none, and is entered
-  pub settled_entered : new.uses.items ≡ old.uses.items → a < length terms → (key : ℕ) → key ≡ key_at terms f a → ((k : ℕ) → under new.index k ≡ with_number (meets old.index key k) (under old.index k) a) →
+  pub settled_entered : new.uses.items ≡ old.uses.items → a < length terms → (key : ℕ) → key ≡ key_at terms f a → ((k : ℕ) → under new.index k ≡ with_number (nat_eq key k) (under old.index k) a) →
       has_partner terms f old.queue old.index a ≡ false → IsSettled terms f new
   settled_entered same lt key is added none = settled_done same more here cross
     where
@@ -105,7 +105,7 @@ module _ (terms : List Applied) (f : ℕ → ℕ) (old new : Waiting) (a : ℕ) 
       kept false p ns h = h
 
       more : (p : ℕ → Bool) (k : ℕ) → list_any p (under old.index k) ≡ true → list_any p (under new.index k) ≡ true
-      more p k h = ap (list_any p) (added k) ∙ kept (meets old.index key k) p (under old.index k) h
+      more p k h = ap (list_any p) (added k) ∙ kept (nat_eq key k) p (under old.index k) h
 
       last : (p : ℕ → Bool) (ns : List ℕ) → p a ≡ true → list_any p (ns ++ a ∷ []) ≡ true
       last p ns h = list_any-append p ns (a ∷ []) ∙ ap (λ x. list_any p ns || (x || false)) h ∙ top (list_any p ns)
@@ -116,7 +116,7 @@ module _ (terms : List Applied) (f : ℕ → ℕ) (old new : Waiting) (a : ℕ) 
 
       here : has_partner terms f new.queue new.index a ≡ true
       here =
-          ap (list_any (λ n. is_partner terms f new.queue n a)) (added (key_at terms f a) ∙ ap (λ b. with_number b (under old.index (key_at terms f a)) a) (eq-eqb _ _ (ap (λ k. k % length old.index.buckets.items) is)))
+          ap (list_any (λ n. is_partner terms f new.queue n a)) (added (key_at terms f a) ∙ ap (λ b. with_number b (under old.index (key_at terms f a)) a) (eq-eqb _ _ is))
           ∙ last (λ n. is_partner terms f new.queue n a) (under old.index (key_at terms f a)) (ap₂ (λ x y. not x && y) d.here (itself terms f a lt))
 
       cross : (c : ℕ) → waits old.queue c ≡ false → are_congruent terms f a c ≡ true → f a ≡ f c

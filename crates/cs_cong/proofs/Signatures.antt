@@ -1,5 +1,5 @@
 -- Congruent terms have one key, and congruence is an equivalence.
-use Rattle.std.proofs.Common.{◌≡◌, ℕ, zero, suc, ◌<◌, ◌%◌, true, false, nat_eq, ◌&&◌, List, [], ◌∷◌, length, get_or, slice_get, Option, Some, None, refl, sym, ◌∙◌, ap, ap₂, arith, eq-eqb}
+use Rattle.std.proofs.Common.{◌≡◌, ℕ, zero, suc, ◌<◌, true, false, nat_eq, ◌&&◌, List, [], ◌∷◌, length, get_or, slice_get, Option, Some, None, refl, sym, ◌∙◌, ap, ap₂, arith, eq-eqb}
 use Rattle.std.proofs.lemmas.Bool.{eqb-true, and_parts}
 use Rattle.cs_index.specs.Keys.{mixed}
 use Rattle.cs_cong.specs.declared.congruent.Applied.{Applied}
@@ -14,7 +14,7 @@ same_parts f k l e [] (y ∷ ys) h = absurd (let g : false ≡ true = h in cc)
 same_parts f k l e (x ∷ xs) [] h = absurd (let g : false ≡ true = h in cc)
 same_parts f k l e (x ∷ xs) (y ∷ ys) h =
     let p = and_parts (nat_eq (f x) (f y)) (all_same f xs ys) h in
-    same_parts f (mixed k (f x % 65536)) (mixed l (f y % 65536)) (ap₂ (λ m n. mixed m (n % 65536)) e (eqb-true _ _ p.0)) xs ys p.1
+    same_parts f (mixed k (f x)) (mixed l (f y)) (ap₂ mixed e (eqb-true _ _ p.0)) xs ys p.1
 
 abbrev pub key_of : (ℕ → ℕ) → Option Applied → ℕ
 key_of f o = elim o [ Some t ↦ signature_key f t | None ↦ 0 ]
@@ -22,7 +22,7 @@ key_of f o = elim o [ Some t ↦ signature_key f t | None ↦ 0 ]
 pub same_key : (f : ℕ → ℕ) (s t : Option Applied) → alike f s t ≡ true → key_of f s ≡ key_of f t
 same_key f (Some s) (Some t) h =
     let p = and_parts (nat_eq s.head t.head) (all_same f s.parts.items t.parts.items) h in
-    same_parts f (s.head % 65536) (t.head % 65536) (ap (λ n. n % 65536) (eqb-true _ _ p.0)) s.parts.items t.parts.items p.1
+    same_parts f s.head t.head (eqb-true _ _ p.0) s.parts.items t.parts.items p.1
 same_key f None t h = absurd (let g : false ≡ true = h in cc)
 same_key f (Some s) None h = absurd (let g : false ≡ true = h in cc)
 

@@ -1,5 +1,5 @@
 -- Terms with a part in the class of a representative, as classes are made one.
-use Rattle.std.proofs.Common.{◌≡◌, ℕ, ◌%◌, inl, inr, Bool, true, false, nat_eq, cond, ◌&&◌, ◌||◌, List, [], ◌∷◌, ◌++◌, slice_get, Option, Some, None, refl, sym, ◌∙◌, ap, ap₂, eq-eqb, ne_eqb}
+use Rattle.std.proofs.Common.{◌≡◌, ℕ, inl, inr, Bool, true, false, nat_eq, cond, ◌&&◌, ◌||◌, List, [], ◌∷◌, ◌++◌, slice_get, Option, Some, None, refl, sym, ◌∙◌, ap, ap₂, eq-eqb, ne_eqb}
 use Rattle.std.specs.List.{list_any}
 use Rattle.std.proofs.lemmas.Bool.{cases_eq, eqb-true, and_parts}
 use Rattle.std.proofs.lemmas.List.Folds.{list_any-append}
@@ -94,10 +94,10 @@ module _ (f g : ℕ → ℕ) (from to : ℕ) (apart : from ≡ to → ⊥) (move
   key_parts key [] h = refl
   key_parts key (x ∷ xs) h =
       let p = or_none (nat_eq (f x) from) (is_any f xs from) h in
-      key_parts (mixed key (g x % 65536)) xs p.1 ∙ ap (λ n. with_parts (mixed key (n % 65536)) f xs) (stays x p.0)
+      key_parts (mixed key (g x)) xs p.1 ∙ ap (λ n. with_parts (mixed key n) f xs) (stays x p.0)
 
   pub key_kept : (o : Option Applied) → touches f o from ≡ false → key_of g o ≡ key_of f o
-  key_kept (Some t) h = key_parts (t.head % 65536) t.parts.items h
+  key_kept (Some t) h = key_parts t.head t.parts.items h
   key_kept None h = refl
 
   one_to : (p : ℕ) → nat_eq (g p) to ≡ (nat_eq (f p) to || nat_eq (f p) from)

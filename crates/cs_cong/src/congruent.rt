@@ -57,13 +57,13 @@ pub fn is_alike(terms: &[Applied], merges: &Merges, left: usize, right: usize) -
 }
 
 /// A key of the signature of a term: of its head and the representatives of its parts.
-pub fn key_of(merges: &Merges, term: &Applied) -> u16
+pub fn key_of(merges: &Merges, term: &Applied) -> u64
     requires { All (λ p. p < length merges.now.links.items) term.now.parts.items }
     ensures { result ≡ signature_key (current merges.now.log.items) term.now }
 {
-    let mut key = (term.head % 65536) as u16;
+    let mut key = u64::from(term.head);
     for part in &term.parts {
-        key = mix(key, (merges.now(*part) % 65536) as u16);
+        key = mix(key, u64::from(merges.now(*part)));
     }
     key
 }

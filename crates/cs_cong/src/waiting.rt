@@ -75,9 +75,12 @@ impl Waiting {
         ensures { IfOk result (IsSettled terms.now (current merges.now.log.items)) }
     {
         let uses = uses_of(alloc, terms, merges)?;
-        let index = Index::new(alloc)?;
         let queue = Queue::all(alloc, terms.len())?;
-        Ok(Waiting { uses, index, queue })
+        Ok(Waiting {
+            uses,
+            index: Index::new(alloc),
+            queue,
+        })
     }
 
     /// Whether the first term doesn't wait and is congruent to the second.

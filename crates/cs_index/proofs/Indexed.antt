@@ -1,9 +1,9 @@
 -- An index over one item more.
-use Rattle.std.proofs.Common.{◌≡◌, ℕ, zero, suc, ◌<◌, Bool, true, false, List, [], ◌∷◌, ◌++◌, length, slice_get, All, Option, Some, None, refl, sym, ◌∙◌, ap, ap₂, subst, arith, get_or, drop, drop-cons}
+use Rattle.std.proofs.Common.{◌≡◌, ℕ, zero, suc, ◌<◌, Bool, true, false, List, [], ◌∷◌, ◌++◌, length, slice_get, All, Option, Some, None, refl, sym, ◌∙◌, ap, ap₂, subst, arith, get_or, drop, drop-cons, nat_eq, eq-eqb}
 use Rattle.std.specs.Prelude.{if◌then◌else◌}
 use Rattle.std.specs.Option.{option_map}
 use Rattle.cs_index.specs.declared.index.Index.{Index}
-use Rattle.cs_index.specs.Under.{meets, under, with_number}
+use Rattle.cs_index.specs.Under.{under, with_number}
 use Rattle.cs_index.specs.Found.{first, passes_at, found, IsIndexed}
 
 abbrev or_else : Option ℕ → Option ℕ → Option ℕ
@@ -86,30 +86,30 @@ length_more [] x = refl
 length_more (y ∷ xs) x = ap suc (length_more xs x)
 
 -- the place of a further item, under its key
-pub indexed_more : {A : Type 0} (key : A → ℕ) (xs : List A) (x : A) (i j : Index) → IsIndexed key xs i → ((k : ℕ) → under j k ≡ with_number (meets i (key x) k) (under i k) (length xs)) →
-    ((a b : ℕ) → meets j a b ≡ meets i a b) → IsIndexed key (xs ++ x ∷ []) j
-indexed_more {A} key xs x i j is more same = record {
-  finds = λ passes k p. finds passes k p (meets i (key x) k) refl;
-  within = λ k. below_all (length (xs ++ x ∷ [])) (under j k) (within k (meets i (key x) k) refl);
+pub indexed_more : {A : Type 0} (key : A → ℕ) (xs : List A) (x : A) (i j : Index) → IsIndexed key xs i → ((k : ℕ) → under j k ≡ with_number (nat_eq (key x) k) (under i k) (length xs)) →
+    IsIndexed key (xs ++ x ∷ []) j
+indexed_more {A} key xs x i j is more = record {
+  finds = λ passes k p. finds passes k p (nat_eq (key x) k) refl;
+  within = λ k. below_all (length (xs ++ x ∷ [])) (under j k) (within k (nat_eq (key x) k) refl);
 }
   where
-    finds : (passes : A → Bool) (k : ℕ) → ((y : A) → passes y ≡ true → meets j (key y) k ≡ true) → (b : Bool) → meets i (key x) k ≡ b → found passes (xs ++ x ∷ []) (under j k) ≡ first passes (xs ++ x ∷ [])
+    finds : (passes : A → Bool) (k : ℕ) → ((y : A) → passes y ≡ true → key y ≡ k) → (b : Bool) → nat_eq (key x) k ≡ b → found passes (xs ++ x ∷ []) (under j k) ≡ first passes (xs ++ x ∷ [])
     finds passes k p true e =
         ap (found passes (xs ++ x ∷ [])) (more k ∙ ap (λ b. with_number b (under i k) (length xs)) e)
         ∙ found_more passes xs x (under i k) (below_from (length xs) (under i k) (is.within k))
-        ∙ ap (λ o. or_else o (if passes x then Some (length xs) else None)) (is.finds passes k (λ y f. sym (same (key y) k) ∙ p y f))
+        ∙ ap (λ o. or_else o (if passes x then Some (length xs) else None)) (is.finds passes k p)
         ∙ sym (first_more passes xs x)
     finds passes k p false e = go (passes x) refl
       where
         go : (b : Bool) → passes x ≡ b → found passes (xs ++ x ∷ []) (under j k) ≡ first passes (xs ++ x ∷ [])
-        go true f = absurd (let g : true ≡ false = sym (p x f) ∙ same (key x) k ∙ e in cc)
+        go true f = absurd (let g : true ≡ false = sym (eq-eqb _ _ (p x f)) ∙ e in cc)
         go false f =
             ap (found passes (xs ++ x ∷ [])) (more k ∙ ap (λ b. with_number b (under i k) (length xs)) e)
             ∙ found_front passes xs x (under i k) (below_from (length xs) (under i k) (is.within k))
-            ∙ is.finds passes k (λ y f. sym (same (key y) k) ∙ p y f)
+            ∙ is.finds passes k p
             ∙ sym (first_more passes xs x ∙ ap (λ b. or_else (first passes xs) (if b then Some (length xs) else None)) f ∙ or_none (first passes xs))
 
-    within : (k : ℕ) (b : Bool) → meets i (key x) k ≡ b → AreBelow (length (xs ++ x ∷ [])) (under j k)
+    within : (k : ℕ) (b : Bool) → nat_eq (key x) k ≡ b → AreBelow (length (xs ++ x ∷ [])) (under j k)
     within k true e =
         subst (λ n. AreBelow n (under j k)) (sym (length_more xs x))
         (subst (AreBelow (suc (length xs))) (sym (more k ∙ ap (λ b. with_number b (under i k) (length xs)) e)) (within_last (length xs) (under i k) (below_from (length xs) (under i k) (is.within k))))
@@ -118,9 +118,9 @@ indexed_more {A} key xs x i j is more same = record {
         (subst (AreBelow (suc (length xs))) (sym (more k ∙ ap (λ b. with_number b (under i k) (length xs)) e)) (within_more (length xs) (under i k) (below_from (length xs) (under i k) (is.within k))))
 
 -- an index with the same numbers
-pub indexed_same : {A : Type 0} (key : A → ℕ) (xs : List A) (i j : Index) → IsIndexed key xs i → ((k : ℕ) → under j k ≡ under i k) → ((a b : ℕ) → meets j a b ≡ meets i a b) → IsIndexed key xs j
-indexed_same key xs i j is kept same = record {
-  finds = λ passes k p. ap (found passes xs) (kept k) ∙ is.finds passes k (λ y f. sym (same (key y) k) ∙ p y f);
+pub indexed_same : {A : Type 0} (key : A → ℕ) (xs : List A) (i j : Index) → IsIndexed key xs i → ((k : ℕ) → under j k ≡ under i k) → IsIndexed key xs j
+indexed_same key xs i j is kept = record {
+  finds = λ passes k p. ap (found passes xs) (kept k) ∙ is.finds passes k p;
   within = λ k. below_all (length xs) (under j k) (subst (AreBelow (length xs)) (sym (kept k)) (below_from (length xs) (under i k) (is.within k)));
 }
 

@@ -5,4 +5,4 @@ mod index;
 mod key;
 
 pub use index::Index;
-pub use key::mix;
+pub use key::{mix, mix_bytes, mix_numbers, mix_wide};

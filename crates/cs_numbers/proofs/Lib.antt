@@ -4,3 +4,4 @@ pub mod Walks
 pub mod Numbered
 pub mod Tables
 pub mod Looked
+pub mod Arguments

@@ -1,27 +1,28 @@
 -- Keys of terms: any numbers would do that depend on the term alone.
-use Rattle.std.specs.Prelude.{ℕ, ◌-◌, ◌%◌, if◌then◌else◌, nat_eq, nat_abs, true, false}
+use Rattle.std.specs.Prelude.{ℕ, nat_abs, true, false}
 use Rattle.vx_terms.specs.Terms.{Term, Truth, Number, Part, Constant, Apply, Not, Binary, Ite, AllOf, SomeOf, Terms, NoTerms, MoreTerms}
 use Rattle.cs_index.specs.Keys.{mixed}
-use Rattle.cs_table.specs.Keys.{symbol_key, operator_key}
+use Rattle.cs_table.specs.Keys.{symbol_key, operator_key, part_key}
 
--- by what stands in the term down to this depth
+-- a key with all that stands in a term, its first part last
 abbrev mutual
-  pub key_of : Term → ℕ → ℕ
-  key_of (Truth true) n = 12
-  key_of (Truth false) n = 13
-  key_of (Number z) n = mixed 14 (nat_abs z % 65536)
-  key_of (Part a) n = mixed 15 (nat_abs a.numerator % 65536)
-  key_of (Constant f a) n = symbol_key f
-  key_of (Apply f a ts) n = if nat_eq n 0 then 0 else with_keys (mixed 16 (symbol_key f)) ts (n - 1)
-  key_of (Not t) n = if nat_eq n 0 then 0 else mixed 17 (key_of t (n - 1))
-  key_of (Binary o t u) n = if nat_eq n 0 then 0 else mixed (mixed (operator_key o) (key_of t (n - 1))) (key_of u (n - 1))
-  key_of (Ite c t u) n = if nat_eq n 0 then 0 else mixed (mixed (mixed 18 (key_of c (n - 1))) (key_of t (n - 1))) (key_of u (n - 1))
-  key_of (AllOf ts) n = 19
-  key_of (SomeOf ts) n = 20
+  pub with_term : ℕ → Term → ℕ
+  with_term key (Truth true) = mixed key 12
+  with_term key (Truth false) = mixed key 13
+  with_term key (Number z) = mixed (mixed key 14) (nat_abs z)
+  with_term key (Part a) = mixed key (part_key a)
+  with_term key (Constant f a) = mixed key (symbol_key f)
+  with_term key (Apply f a NoTerms) = mixed (mixed key 16) (symbol_key f)
+  with_term key (Apply f a (MoreTerms t ts)) = with_term (with_terms (mixed (mixed key 16) (symbol_key f)) ts) t
+  with_term key (Not t) = with_term (mixed key 17) t
+  with_term key (Binary o t u) = with_term (with_term (mixed key (operator_key o)) u) t
+  with_term key (Ite c t u) = with_term (with_term (with_term (mixed key 18) c) u) t
+  with_term key (AllOf ts) = with_terms (mixed key 19) ts
+  with_term key (SomeOf ts) = with_terms (mixed key 20) ts
 
-  pub with_keys : ℕ → Terms → ℕ → ℕ
-  with_keys key NoTerms n = key
-  with_keys key (MoreTerms t ts) n = with_keys (mixed key (key_of t n)) ts n
+  pub with_terms : ℕ → Terms → ℕ
+  with_terms key NoTerms = mixed key 21
+  with_terms key (MoreTerms t ts) = with_terms (with_term key t) ts
 
 abbrev pub term_key : Term → ℕ
-term_key t = key_of t 8
+term_key t = with_term 0 t

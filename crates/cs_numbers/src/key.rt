@@ -3,75 +3,70 @@ ghost use Rattle.std.specs.Prelude.{◌≡◌};
 ghost use Rattle.vx_terms.specs.Views.{term, terms};
 ghost use Rattle.cs_numbers.specs.Keys as clean;
 
-use cs_index::mix;
-use cs_table::{key_of_operator, key_of_symbol};
+use cs_index::{mix, mix_wide};
+use cs_table::{key_of_operator, key_of_part, key_of_symbol};
 use vx_terms::{Term, Terms};
 
-/// So far down a term is looked at.
-const DEPTH: u8 = 8;
-
+/// A key and all that stands in a term. First parts are gone down by a loop: they may be as deep as a member is long.
 #[cycle(keys)]
-fn key_down(t: &Term, depth: u8) -> u16
-    ensures { result ≡ clean.key_of (term t.now) depth }
+fn with_term(key: u64, t: &Term) -> u64
+    ensures { result ≡ clean.with_term key (term t.now) }
 {
-    match t {
-        Term::Truth(true) => 12,
-        Term::Truth(false) => 13,
-        Term::Number(number) => mix(14, (number.unsigned_abs() % 65536) as u16),
-        Term::Part(part) => mix(15, (part.num().unsigned_abs() % 65536) as u16),
-        Term::Constant(f, _) => key_of_symbol(f),
-        Term::AllOf(_) => 19,
-        Term::SomeOf(_) => 20,
-        Term::Apply(f, _, parts) => {
-            if depth == 0 {
-                0
-            } else {
-                with_keys(mix(16, key_of_symbol(f)), parts, depth - 1)
+    let mut all = key;
+    let mut left = t;
+    loop {
+        match left {
+            Term::Truth(true) => return mix(all, 12),
+            Term::Truth(false) => return mix(all, 13),
+            Term::Number(number) => return mix_wide(mix(all, 14), number.unsigned_abs()),
+            Term::Part(part) => return mix(all, key_of_part(*part)),
+            Term::Constant(f, _) => return mix(all, key_of_symbol(f)),
+            Term::Apply(f, _, parts) => match &**parts {
+                Terms::None => return mix(mix(all, 16), key_of_symbol(f)),
+                Terms::More(first, others) => {
+                    all = with_terms(mix(mix(all, 16), key_of_symbol(f)), others);
+                    left = first;
+                }
+            },
+            Term::Not(a) => {
+                all = mix(all, 17);
+                left = a;
             }
-        }
-        Term::Not(a) => {
-            if depth == 0 {
-                0
-            } else {
-                mix(17, key_down(a, depth - 1))
+            Term::Binary(of, a, b) => {
+                all = with_term(mix(all, key_of_operator(*of)), b);
+                left = a;
             }
-        }
-        Term::Binary(of, a, b) => {
-            if depth == 0 {
-                0
-            } else {
-                mix(
-                    mix(key_of_operator(*of), key_down(a, depth - 1)),
-                    key_down(b, depth - 1),
-                )
+            Term::Ite(c, a, b) => {
+                all = with_term(with_term(mix(all, 18), c), b);
+                left = a;
             }
-        }
-        Term::Ite(c, a, b) => {
-            if depth == 0 {
-                0
-            } else {
-                mix(
-                    mix(mix(18, key_down(c, depth - 1)), key_down(a, depth - 1)),
-                    key_down(b, depth - 1),
-                )
-            }
+            Term::AllOf(parts) => return with_terms(mix(all, 19), parts),
+            Term::SomeOf(parts) => return with_terms(mix(all, 20), parts),
         }
     }
 }
 
+/// A key and all that stands in a list of terms.
 #[cycle(keys)]
-fn with_keys(key: u16, parts: &Terms, depth: u8) -> u16
-    ensures { result ≡ clean.with_keys key (terms parts.now) depth }
+fn with_terms(key: u64, parts: &Terms) -> u64
+    ensures { result ≡ clean.with_terms key (terms parts.now) }
 {
-    match parts {
-        Terms::None => key,
-        Terms::More(t, rest) => with_keys(mix(key, key_down(t, depth)), rest, depth),
+    let mut all = key;
+    let mut left = parts;
+    loop {
+        match left {
+            Terms::None => return mix(all, 21),
+            Terms::More(t, rest) => {
+                all = with_term(all, t);
+                left = rest;
+            }
+        }
     }
 }
 
 /// The key of a term; one and the same term has one key.
-pub fn key(t: &Term) -> u16
+pub fn key(t: &Term) -> u64
     ensures { result ≡ clean.term_key (term t.now) }
 {
-    key_down(t, DEPTH)
+    with_term(0, t)
 }

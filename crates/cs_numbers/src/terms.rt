@@ -29,10 +29,9 @@ impl NumberedTerms {
     pub fn new(alloc: Global) -> Result<NumberedTerms, AllocError>
         ensures { IfOk result (λ n. n.terms.items ≡ []) }
     {
-        let index = Index::new(alloc)?;
         Ok(NumberedTerms {
             terms: Vec::new(alloc),
-            index,
+            index: Index::new(alloc),
         })
     }
 

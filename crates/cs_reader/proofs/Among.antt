@@ -1,12 +1,12 @@
 -- A word has the key of each symbol that it spells.
-use Rattle.std.proofs.Common.{◌≡◌, ℕ, ◌%◌, Bool, true, false, nat_eq, List, [], ◌∷◌, Option, Some, None, refl, sym, ◌∙◌, ap, ap₂, eq-eqb, eqb-true}
+use Rattle.std.proofs.Common.{◌≡◌, ℕ, Bool, true, false, nat_eq, List, [], ◌∷◌, Option, Some, None, refl, sym, ◌∙◌, ap, ap₂, eqb-true}
 use Rattle.std.specs.Prelude.{if◌then◌else◌}
 use Rattle.vx_terms.specs.Sorts.{Symbol, Standard, Function, Variable, Named, same_text}
 use Rattle.vx_terms.proofs.Same.{and_parts}
 use Rattle.vx_smt_meaning.specs.Commands.{Declared}
 use Rattle.cs_index.specs.declared.index.Index.{Index}
 use Rattle.cs_index.specs.Keys.{mixed}
-use Rattle.cs_index.specs.Under.{under, meets}
+use Rattle.cs_index.specs.Under.{under}
 use Rattle.cs_index.specs.Found.{first, found, IsIndexed}
 use Rattle.cs_reader.specs.Marks.{numeral}
 use Rattle.cs_reader.specs.Keys.{lettered_key, word_key, symbol_key, declared_key}
@@ -18,15 +18,15 @@ text_is (a ∷ x) (b ∷ y) e = let p = and_parts _ _ e in ap₂ (λ c z. c ∷ 
 text_is [] (b ∷ y) e = cc
 text_is (a ∷ x) [] e = cc
 
-lettered : (letter n : ℕ) (text : List ℕ) → is_lettered letter n text ≡ true → word_key text ≡ mixed letter (n % 65536)
+lettered : (letter n : ℕ) (text : List ℕ) → is_lettered letter n text ≡ true → word_key text ≡ mixed letter n
 lettered letter n [] e = cc
 lettered letter n (b ∷ bs) e = on_letter (nat_eq b letter) refl e
   where
-    on_number : b ≡ letter → (o : Option ℕ) → is_number n o ≡ true → lettered_key b bs o ≡ mixed letter (n % 65536)
+    on_number : b ≡ letter → (o : Option ℕ) → is_number n o ≡ true → lettered_key b bs o ≡ mixed letter n
     on_number is None f = cc
-    on_number is (Some m) f = ap₂ (λ x y. mixed x (y % 65536)) is (eqb-true m n f)
+    on_number is (Some m) f = ap₂ mixed is (eqb-true m n f)
 
-    on_letter : (t : Bool) → nat_eq b letter ≡ t → (if t then is_number n (numeral bs) else false) ≡ true → lettered_key b bs (numeral bs) ≡ mixed letter (n % 65536)
+    on_letter : (t : Bool) → nat_eq b letter ≡ t → (if t then is_number n (numeral bs) else false) ≡ true → lettered_key b bs (numeral bs) ≡ mixed letter n
     on_letter true f g = on_number (eqb-true b letter f) (numeral bs) g
     on_letter false f g = cc
 
@@ -37,4 +37,4 @@ spelled_key text (Variable n) e = lettered 118 n text e
 spelled_key text (Named x) e = ap word_key (text_is text x e)
 
 pub looked_up : (ds : List Declared) (i : Index) (text : List ℕ) → IsIndexed declared_key ds i → found (spelled_by text) ds (under i (word_key text)) ≡ first (spelled_by text) ds
-looked_up ds i text is = is.finds (spelled_by text) (word_key text) (λ d e. ap (λ k. meets i k (word_key text)) (sym (spelled_key text d.symbol e)) ∙ eq-eqb _ _ refl)
+looked_up ds i text is = is.finds (spelled_by text) (word_key text) (λ d e. sym (spelled_key text d.symbol e))

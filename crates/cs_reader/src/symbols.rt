@@ -3,35 +3,25 @@ ghost use Rattle.std.specs.Prelude.{◌≡◌, map, IfOk};
 ghost use Rattle.vx_terms.specs.Views.{symbol};
 ghost use Rattle.vx_smt_meaning.specs.Views.{declared_symbol};
 ghost use Rattle.cs_index.specs.Found.{IsIndexed};
-ghost use Rattle.cs_reader.specs.Keys.{with_bytes, lettered_key, word_key, symbol_key, declared_key};
+ghost use Rattle.cs_reader.specs.Keys.{lettered_key, word_key, symbol_key, declared_key};
 
 use crate::mark::numeral_of;
-use cs_index::{Index, mix};
+use cs_index::{Index, mix, mix_bytes, mix_wide};
 use std::alloc::{AllocError, Global};
 use vx_smt_meaning::Declared;
 use vx_terms::Symbol;
 
-fn with_bytes(key: u16, bytes: &[u8]) -> u16
-    ensures { result ≡ with_bytes key bytes.now }
-{
-    let mut all = key;
-    for byte in bytes {
-        all = mix(all, u16::from(*byte));
-    }
-    all
-}
-
-fn lettered_key(letter: u8, rest: &[u8], number: Option<u128>) -> u16
+fn lettered_key(letter: u8, rest: &[u8], number: Option<u128>) -> u64
     ensures { result ≡ lettered_key letter rest.now number }
 {
     match number {
-        Some(number) => mix(u16::from(letter), (number % 65536) as u16),
-        None => with_bytes(u16::from(letter), rest),
+        Some(number) => mix_wide(u64::from(letter), number),
+        None => mix_bytes(u64::from(letter), rest),
     }
 }
 
 /// The key of a word.
-pub fn word_key(text: &[u8]) -> u16
+pub fn word_key(text: &[u8]) -> u64
     ensures { result ≡ word_key text.now }
 {
     match text.split_first() {
@@ -41,13 +31,13 @@ pub fn word_key(text: &[u8]) -> u16
 }
 
 /// The key of a symbol, which is that of its word.
-pub fn symbol_key(of: &Symbol) -> u16
+pub fn symbol_key(of: &Symbol) -> u64
     ensures { result ≡ symbol_key (symbol of.now) }
 {
     match of {
-        Symbol::Standard(number) => mix(115, (*number % 65536) as u16),
-        Symbol::Function(number) => mix(102, (*number % 65536) as u16),
-        Symbol::Variable(number) => mix(118, (*number % 65536) as u16),
+        Symbol::Standard(number) => mix(115, u64::from(*number)),
+        Symbol::Function(number) => mix(102, u64::from(*number)),
+        Symbol::Variable(number) => mix(118, *number),
         Symbol::Named(name) => word_key(name.as_bytes()),
     }
 }
@@ -64,7 +54,7 @@ pub struct Symbols<'s> {
 fn index_of(alloc: Global, declared: &[Declared]) -> Result<Index, AllocError>
     ensures { IfOk result (λ i. IsIndexed declared_key (map declared_symbol declared.now) i) }
 {
-    let mut index = Index::new(alloc)?;
+    let mut index = Index::new(alloc);
     if declared.len() > u32::MAX as usize {
         return Err(AllocError);
     }
@@ -86,8 +76,8 @@ impl<'s> Symbols<'s> {
         Ok(Symbols { declared, index })
     }
 
-    /// The places of some symbols, among them all of this key.
-    pub fn under(&self, key: u16) -> &[u32]
+    /// The places of the symbols of this key.
+    pub fn under(&self, key: u64) -> &[u32]
         ensures { result.now ≡ under self.now.index key }
     {
         self.index.under(key)

@@ -30,14 +30,13 @@ impl Row {
     /// # Errors
     /// Want of memory.
     pub fn new(alloc: Global) -> Result<Row, AllocError> {
-        let index = Index::new(alloc)?;
         Ok(Row {
             stack: Stack {
                 assertions: Vec::new(alloc),
                 symbols: Vec::new(alloc),
             },
             known: Vec::new(alloc),
-            index,
+            index: Index::new(alloc),
             meter: Meter::new(),
             outside: Outside::new(alloc),
         })

@@ -1,19 +1,19 @@
 -- A declaration has the key of its symbol.
-use Rattle.std.proofs.Common.{◌≡◌, ℕ, suc, Bool, true, false, ◌||◌, is_some, List, [], ◌∷◌, Option, Some, None, refl, sym, ◌∙◌, ap, eq-eqb}
+use Rattle.std.proofs.Common.{◌≡◌, ℕ, suc, Bool, true, false, ◌||◌, is_some, List, [], ◌∷◌, Option, Some, None, refl, sym, ◌∙◌, ap}
 use Rattle.std.specs.Prelude.{if◌then◌else◌}
 use Rattle.std.specs.Option.{option_map}
 use Rattle.vx_terms.specs.Sorts.{Sort, Symbol}
 use Rattle.vx_terms.proofs.Same.{and_parts, symbol_is}
 use Rattle.vx_smt_meaning.specs.Commands.{Declared}
 use Rattle.cs_index.specs.declared.index.Index.{Index}
-use Rattle.cs_index.specs.Under.{under, meets}
+use Rattle.cs_index.specs.Under.{under}
 use Rattle.cs_index.specs.Found.{first, found, IsIndexed}
 use Rattle.cs_reader.specs.Keys.{symbol_key, declared_key}
 use Rattle.cs_sorts.specs.Sorting.{is_declaration, declares}
 
 pub looked_up : (ds : List Declared) (i : Index) (f : Symbol) (ss : List Sort) (a : Sort) → IsIndexed declared_key ds i → found (is_declaration f ss a) ds (under i (symbol_key f)) ≡ first (is_declaration f ss a) ds
 looked_up ds i f ss a is =
-    is.finds (is_declaration f ss a) (symbol_key f) (λ d e. ap (λ x. meets i (symbol_key x) (symbol_key f)) (sym (symbol_is f d.symbol (and_parts _ _ e).0)) ∙ eq-eqb _ _ refl)
+    is.finds (is_declaration f ss a) (symbol_key f) (λ d e. ap symbol_key (sym (symbol_is f d.symbol (and_parts _ _ e).0)))
 
 pub declared_first : (ds : List Declared) (f : Symbol) (ss : List Sort) (a : Sort) → is_some (first (is_declaration f ss a) ds) ≡ declares ds f ss a
 declared_first [] f ss a = refl

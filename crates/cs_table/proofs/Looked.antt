@@ -1,10 +1,10 @@
 -- What the index of a table finds is what a walk over it finds.
-use Rattle.std.proofs.Common.{◌≡◌, ℕ, suc, true, List, [], ◌∷◌, refl, sym, ◌∙◌, ap, ap₂, eq-eqb, Some}
+use Rattle.std.proofs.Common.{◌≡◌, ℕ, suc, true, List, [], ◌∷◌, refl, sym, ◌∙◌, ap, ap₂, Some}
 use Rattle.std.specs.Prelude.{if◌then◌else◌}
 use Rattle.std.specs.Option.{option_map}
 use Rattle.vx_terms.proofs.Same.{and_parts}
 use Rattle.cs_index.specs.declared.index.Index.{Index}
-use Rattle.cs_index.specs.Under.{under, meets}
+use Rattle.cs_index.specs.Under.{under}
 use Rattle.cs_index.specs.Found.{first, found, IsIndexed}
 use Rattle.cs_certificate.specs.Terms.{Head}
 use Rattle.cs_nodes.specs.Nodes.{Node, is_node, number_of}
@@ -20,4 +20,4 @@ same_key h ps n e = let p = and_parts _ _ e in ap₂ key_over (sym (head_is h n.
 
 pub looked_up : (ns : List Node) (i : Index) (h : Head) (ps : List ℕ) → IsIndexed node_key ns i → found (is_node h ps) ns (under i (key_over h ps)) ≡ number_of ns h ps
 looked_up ns i h ps is =
-    is.finds (is_node h ps) (key_over h ps) (λ n e. ap (λ k. meets i k (key_over h ps)) (same_key h ps n e) ∙ eq-eqb _ _ refl) ∙ first_is ns h ps
+    is.finds (is_node h ps) (key_over h ps) (same_key h ps) ∙ first_is ns h ps

@@ -8,7 +8,7 @@ mod numbers;
 mod steps;
 mod table;
 
-pub use key::{key_of_operator, key_of_symbol};
+pub use key::{key_of_operator, key_of_part, key_of_symbol};
 pub use look::{equality, number_of};
 pub use node::{Head, Node};
 pub use numbers::{divide, split};

@@ -24,10 +24,9 @@ impl Table {
     pub fn new(alloc: Global) -> Result<Table, Stop>
         ensures { IfOk result (λ t. t.nodes.items ≡ []) }
     {
-        let index = Index::new(alloc)?;
         Ok(Table {
             nodes: Vec::new(alloc),
-            index,
+            index: Index::new(alloc),
         })
     }
 

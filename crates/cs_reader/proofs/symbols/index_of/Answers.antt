@@ -1,7 +1,7 @@
-use Rattle.std.proofs.Common.{◌≡◌, ◌+◌, [], ◌∷◌, ◌++◌, length, map, take, sym, ◌∙◌, ap, ap₂, subst}
+use Rattle.std.proofs.Common.{◌≡◌, ◌+◌, [], ◌∷◌, ◌++◌, length, map, nat_eq, take, sym, ◌∙◌, ap, ap₂, subst}
 use Rattle.std.proofs.lemmas.List.{map-append, length-map}
 use Rattle.vx_smt_meaning.specs.Views.{declared_symbol}
-use Rattle.cs_index.specs.Under.{meets, under, with_number}
+use Rattle.cs_index.specs.Under.{under, with_number}
 use Rattle.cs_index.specs.Found.{IsIndexed}
 use Rattle.cs_index.proofs.Indexed.{indexed_more}
 use Rattle.cs_reader.specs.Keys.{declared_key}
@@ -17,5 +17,4 @@ loop-at-preserved c =
     let number : c.loop-at.at ≡ length (map declared_symbol front) = sym (length-map front declared_symbol ∙ front_long c.args.declared.now c.loop-at.at c.loop-at-test.true) in
     subst (λ ds. IsIndexed declared_key ds c.add.new.self) (sym whole)
     (indexed_more declared_key (map declared_symbol front) (declared_symbol one) c.loop-at.index c.add.new.self c.loop-at.invariant
-    (λ k. c.in_ok-add.ensures.added k ∙ ap₂ (λ key n. with_number (meets c.loop-at.index key k) (under c.loop-at.index k) n) c.symbol_key.ensures number)
-    c.in_ok-add.ensures.same)
+    (λ k. c.in_ok-add.ensures.added k ∙ ap₂ (λ key n. with_number (nat_eq key k) (under c.loop-at.index k) n) c.symbol_key.ensures number))

@@ -1,8 +1,8 @@
-use Rattle.std.proofs.Common.{◌≡◌, rules, List, [], ◌∷◌, ◌++◌, length, map, All, refl, sym, ◌∙◌, ap, ap₂, subst}
+use Rattle.std.proofs.Common.{◌≡◌, rules, List, [], ◌∷◌, ◌++◌, length, map, nat_eq, All, refl, sym, ◌∙◌, ap, ap₂, subst}
 use Rattle.std.proofs.lemmas.List.Elements.{All-push}
 use Rattle.std.proofs.lemmas.List.{map-append, length-map}
 use Rattle.vx_terms.specs.Views.{term}
-use Rattle.cs_index.specs.Under.{meets, under, with_number}
+use Rattle.cs_index.specs.Under.{under, with_number}
 use Rattle.cs_index.specs.Found.{IsIndexed}
 use Rattle.cs_index.proofs.Indexed.{indexed_more}
 use Rattle.cs_numbers.specs.Keys.{term_key}
@@ -19,8 +19,7 @@ invariant_of-self-in-Ok-clause-indexed c =
     let key : c.key-key.result ≡ term_key (term c.args.t.value) = search rules in
     subst (λ ts. IsIndexed term_key ts c.add.new.self) (sym whole)
     (indexed_more term_key (terms_in old) (term c.args.t.value) old.index c.add.new.self old.indexed
-    (λ k. c.in-Ok.ensures.added k ∙ ap₂ (λ key n. with_number (meets old.index key k) (under old.index k) n) key number)
-    c.in-Ok.ensures.same)
+    (λ k. c.in-Ok.ensures.added k ∙ ap₂ (λ key n. with_number (nat_eq key k) (under old.index k) n) key number))
 
 pub invariant_of-self-in-Ok-clause-few_parts : goal.invariant_of-self-in-Ok-clause-few_parts
 invariant_of-self-in-Ok-clause-few_parts c =

@@ -1,6 +1,6 @@
-use Rattle.std.proofs.Common.{◌≡◌, rules, [], ◌∷◌, ◌++◌, Vec, Global, vec_len, length, sym, ◌∙◌, ap, ap₂, subst}
+use Rattle.std.proofs.Common.{◌≡◌, rules, [], ◌∷◌, ◌++◌, Vec, Global, vec_len, length, nat_eq, sym, ◌∙◌, ap, ap₂, subst}
 use Rattle.std.proofs.lemmas.List.{map-append, length-map}
-use Rattle.cs_index.specs.Under.{meets, under, with_number}
+use Rattle.cs_index.specs.Under.{under, with_number}
 use Rattle.cs_index.specs.Found.{IsIndexed}
 use Rattle.cs_index.proofs.Indexed.{indexed_more}
 use Rattle.cs_table.specs.Keys.{node_key}
@@ -20,5 +20,4 @@ invariant_of-self-in-Ok-clause-indexed c =
     let key : c.key_over-key.result ≡ node_key (node c.args.node) = search rules in
     subst (λ ns. IsIndexed node_key ns c.add.new.self) (sym whole)
     (indexed_more node_key (nodes old.nodes.items) (node c.args.node) old.index c.add.new.self old.indexed
-    (λ k. c.in-Ok.ensures.added k ∙ ap₂ (λ key n. with_number (meets old.index key k) (under old.index k) n) key number)
-    c.in-Ok.ensures.same)
+    (λ k. c.in-Ok.ensures.added k ∙ ap₂ (λ key n. with_number (nat_eq key k) (under old.index k) n) key number))
