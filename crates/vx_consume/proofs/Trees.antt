@@ -3,7 +3,7 @@ use Rattle.std.proofs.Common.{◌≡◌, List, refl, ap, ◌∙◌}
 use Rattle.vx_ast.specs.declared.Place.{Place}
 use Rattle.vx_ast.specs.Syntax.{Name, Program, Expr, Assertion}
 use Rattle.vx_terms.specs.Terms.{Term}
-use Rattle.vx_terms.specs.Views.{term}
+use Rattle.vx_heap.specs.Views.{held_term}
 use Rattle.vx_terms.specs.Build.{multiply}
 use Rattle.vx_rules.specs.Codes.{code}
 use Rattle.vx_rules.specs.States.{Heap, State}
@@ -33,7 +33,7 @@ takes p at f g r q a b c h j k on e i l m n =
 
 -- a share's value is taken
 abbrev pub shared : Program → Place → Name → Term → Consumption → Heap → Giving → Giving
-shared p at f r x h on a s = taking p at f r (multiply (term x.scale.value) a) (code x.codes.permission) h s (wrapped p f (context x.codes) on)
+shared p at f r x h on a s = taking p at f r (multiply (held_term x.scale) a) (code x.codes.permission) h s (wrapped p f (context x.codes) on)
 
 pub shares : (p : Program) (at : Place) (f g : Name) (r : Term) (x y : Consumption) (h j : Heap) (k on : Giving) → f ≡ g → x ≡ y → h ≡ j → k ≡ on → ◌≡◌ {A = Giving} (shared p at f r x h k) (shared p at g r y j on)
 shares p at f g r x y h j k on e i l m =
@@ -58,7 +58,7 @@ takes_held p at f g ts us a b c h j k on e i l m n =
 
 -- an instance's share's value is taken
 abbrev pub shared_held : Program → Place → Name → List Term → Consumption → Heap → Giving → Giving
-shared_held p at f ts x h on a s = taking_instance p at f ts (multiply (term x.scale.value) a) (code x.codes.permission) h s (λ v s1. Step (on v s1))
+shared_held p at f ts x h on a s = taking_instance p at f ts (multiply (held_term x.scale) a) (code x.codes.permission) h s (λ v s1. Step (on v s1))
 
 pub shares_held : (p : Program) (at : Place) (f g : Name) (ts us : List Term) (x y : Consumption) (h j : Heap) (k on : Giving) → f ≡ g → ts ≡ us → x ≡ y → h ≡ j → k ≡ on →
     ◌≡◌ {A = Giving} (shared_held p at f ts x h k) (shared_held p at g us y j on)

@@ -1,7 +1,7 @@
 //! The steps of an amount of a predicate's instance that is consumed.
 
 ghost use Rattle.std.specs.Prelude.{◌≡◌, IfOk, string_bytes};
-ghost use Rattle.vx_heap.specs.Views.{heap as heap_of};
+ghost use Rattle.vx_heap.specs.Views.{heap as heap_of, held_term};
 ghost use Rattle.vx_resolved.specs.Resolved.{expr};
 ghost use Rattle.vx_resolved.specs.Settled.{settled};
 ghost use Rattle.vx_rules.specs.Codes.{code as code_of};
@@ -12,7 +12,6 @@ ghost use Rattle.vx_stack.specs.Stack.{frame_tree, giving, Stepped, take_instanc
 ghost use Rattle.vx_stack.specs.Values.{values};
 ghost use Rattle.vx_states.specs.SymStates.{state as state_of};
 ghost use Rattle.vx_terms.specs.Build.{multiply};
-ghost use Rattle.vx_terms.specs.Views.{term};
 
 use std::alloc::{AllocError, Global};
 use std::rc::Rc;
@@ -38,7 +37,7 @@ pub fn step_arguments(
     state: SymState,
     conts: &mut Conts,
 ) -> Result<Move, AllocError>
-    ensures { IfOk result (λ m. Stepped (settled program.now) (rule.eval (settled program.now) (rules (settled program.now)) (expr share.now.value) (state_of state) (λ a s. taking_instance (settled program.now) place (string_bytes predicate.now.value) (values arguments.now.value) (multiply (term x.now.value.scale.value) a) (code_of x.now.value.codes.permission) (heap_of heap.now.value) s (λ v s1. tree.Step (giving (settled program.now) hole.now.value v s1)))) conts.old.sides.items m conts.new.sides.items) }
+    ensures { IfOk result (λ m. Stepped (settled program.now) (rule.eval (settled program.now) (rules (settled program.now)) (expr share.now.value) (state_of state) (λ a s. taking_instance (settled program.now) place (string_bytes predicate.now.value) (values arguments.now.value) (multiply (held_term x.now.value.scale) a) (code_of x.now.value.codes.permission) (heap_of heap.now.value) s (λ v s1. tree.Step (giving (settled program.now) hole.now.value v s1)))) conts.old.sides.items m conts.new.sides.items) }
 {
     let held = Consumed::Held(
         place,
@@ -60,7 +59,7 @@ fn take_frame(
     heap: &Rc<SymHeap>,
     hole: &Rc<Hole>,
 ) -> Result<Frame, AllocError>
-    ensures { IfOk result (λ f. frame_tree (settled program.now) f ≡ (λ s. take_instance (settled program.now) instance.place (string_bytes instance.predicate.value) (values instance.arguments.value) (term instance.amount.value) (code_of code) (heap_of heap.now.value) s (λ v s1. tree.Step (giving (settled program.now) hole.now.value v s1)))) }
+    ensures { IfOk result (λ f. frame_tree (settled program.now) f ≡ (λ s. take_instance (settled program.now) instance.place (string_bytes instance.predicate.value) (values instance.arguments.value) (held_term instance.amount) (code_of code) (heap_of heap.now.value) s (λ v s1. tree.Step (giving (settled program.now) hole.now.value v s1)))) }
 {
     let _program = program;
     let after = Rc::new(alloc, Hole::Consumed(Consumed::Snapshot, hole.clone()?))?;
@@ -83,7 +82,7 @@ pub fn step_held(
     state: SymState,
     conts: &mut Conts,
 ) -> Result<Move, AllocError>
-    ensures { IfOk result (λ m. Stepped (settled program.now) (taking_instance (settled program.now) place (string_bytes predicate.now.value) (values arguments.now.value) (multiply (term x.now.scale.value) (term share.now.value)) (code_of x.now.codes.permission) (heap_of heap.now.value) (state_of state) (λ v s. tree.Step (giving (settled program.now) hole.now.value v s))) conts.old.sides.items m conts.new.sides.items) }
+    ensures { IfOk result (λ m. Stepped (settled program.now) (taking_instance (settled program.now) place (string_bytes predicate.now.value) (values arguments.now.value) (multiply (held_term x.now.scale) (held_term share.now)) (code_of x.now.codes.permission) (heap_of heap.now.value) (state_of state) (λ v s. tree.Step (giving (settled program.now) hole.now.value v s))) conts.old.sides.items m conts.new.sides.items) }
 {
     let amount = arithmetic::mul(alloc, &x.scale, share)?;
     let allowed = not_negative(alloc, &amount)?;

@@ -14,7 +14,7 @@ ghost use Rattle.vx_stack.specs.Stack.{consumed as consumed_of, consuming, conte
 ghost use Rattle.vx_states.specs.SymStates.{state as state_of};
 ghost use Rattle.vx_rules.specs.Trees as tree;
 ghost use Rattle.vx_terms.specs.Build as built;
-ghost use Rattle.vx_terms.specs.Views.{term};
+ghost use Rattle.vx_heap.specs.Views.{held_term};
 ghost use Rattle.vx_resolved.specs.Settled.{settled};
 
 use crate::instances::step_held;
@@ -137,7 +137,7 @@ pub fn step_here(
     state: SymState,
     conts: &mut Conts,
 ) -> Result<Move, AllocError>
-    ensures { IfOk result (λ m. Stepped (settled program.now) (rule.consume (settled program.now) (rules (settled program.now)) (assertion a.now) (context codes) (term scale.now.value) (state_of state).heap (state_of state) (giving (settled program.now) hole.now.value)) conts.old.sides.items m conts.new.sides.items) }
+    ensures { IfOk result (λ m. Stepped (settled program.now) (rule.consume (settled program.now) (rules (settled program.now)) (assertion a.now) (context codes) (held_term scale.now) (state_of state).heap (state_of state) (giving (settled program.now) hole.now.value)) conts.old.sides.items m conts.new.sides.items) }
 {
     let scale = scale.clone()?;
     let start = state.heap.clone()?;
@@ -158,7 +158,7 @@ fn add_built_pair(
     second: &Rc<Term>,
     state: &mut SymState,
 ) -> Result<(), AllocError>
-    ensures { IfOk result (λ _. state_of state.new ≡ rule.with_built_pair (context codes) (term first.now.value) (term second.now.value) (state_of state.old)) }
+    ensures { IfOk result (λ _. state_of state.new ≡ rule.with_built_pair (context codes) (held_term first.now) (held_term second.now) (state_of state.old)) }
 {
     if codes.builds {
         return state.add_pair(alloc, first, second);
@@ -176,7 +176,7 @@ pub fn step_consumed(
     state: SymState,
     conts: &mut Conts,
 ) -> Result<Move, AllocError>
-    ensures { IfOk result (λ m. Stepped (settled program.now) (consumed_of (settled program.now) consumed.now (giving (settled program.now) hole.now.value) (term value.value) (state_of state)) conts.old.sides.items m conts.new.sides.items) }
+    ensures { IfOk result (λ m. Stepped (settled program.now) (consumed_of (settled program.now) consumed.now (giving (settled program.now) hole.now.value) (held_term value) (state_of state)) conts.old.sides.items m conts.new.sides.items) }
 {
     match consumed {
         Consumed::Ask(place, code, heap) => {

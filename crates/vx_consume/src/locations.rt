@@ -1,7 +1,7 @@
 //! The steps of an amount of a field's location that is consumed.
 
 ghost use Rattle.std.specs.Prelude.{◌≡◌, IfOk, string_bytes};
-ghost use Rattle.vx_heap.specs.Views.{heap as heap_of};
+ghost use Rattle.vx_heap.specs.Views.{heap as heap_of, held_term};
 ghost use Rattle.vx_resolved.specs.Resolved.{expr};
 ghost use Rattle.vx_resolved.specs.Settled.{settled};
 ghost use Rattle.vx_rules.specs.Codes.{code as code_of};
@@ -10,7 +10,7 @@ ghost use Rattle.vx_rules.specs.Rules as rule;
 ghost use Rattle.vx_stack.specs.Stack.{context, frame_tree, giving, Stepped, take_location, taking, wrapped};
 ghost use Rattle.vx_states.specs.SymStates.{state as state_of};
 ghost use Rattle.vx_terms.specs.Build.{multiply};
-ghost use Rattle.vx_terms.specs.Views.{sort, term};
+ghost use Rattle.vx_terms.specs.Views.{sort};
 
 use std::alloc::{AllocError, Global};
 use std::rc::Rc;
@@ -38,7 +38,7 @@ pub fn step_share(
     state: SymState,
     conts: &mut Conts,
 ) -> Result<Move, AllocError>
-    ensures { IfOk result (λ m. Stepped (settled program.now) (rule.eval (settled program.now) (rules (settled program.now)) (expr share.now.value) (state_of state) (λ a s. taking (settled program.now) place (string_bytes field.now.value) (term receiver.value) (multiply (term x.now.value.scale.value) a) (code_of x.now.value.codes.permission) (heap_of heap.now.value) s (wrapped (settled program.now) (string_bytes field.now.value) (context x.now.value.codes) (giving (settled program.now) hole.now.value)))) conts.old.sides.items m conts.new.sides.items) }
+    ensures { IfOk result (λ m. Stepped (settled program.now) (rule.eval (settled program.now) (rules (settled program.now)) (expr share.now.value) (state_of state) (λ a s. taking (settled program.now) place (string_bytes field.now.value) (held_term receiver) (multiply (held_term x.now.value.scale) a) (code_of x.now.value.codes.permission) (heap_of heap.now.value) s (wrapped (settled program.now) (string_bytes field.now.value) (context x.now.value.codes) (giving (settled program.now) hole.now.value)))) conts.old.sides.items m conts.new.sides.items) }
 {
     let amount = Consumed::Amount(place, field.clone()?, receiver, x.clone()?, heap.clone()?);
     let rest = Rc::new(alloc, Hole::Consumed(amount, hole.clone()?))?;
@@ -54,7 +54,7 @@ fn take_frame(
     heap: &Rc<SymHeap>,
     hole: &Rc<Hole>,
 ) -> Result<Frame, AllocError>
-    ensures { IfOk result (λ f. frame_tree (settled program.now) f ≡ (λ s. take_location (settled program.now) location.place (string_bytes location.field.value) (term location.receiver.value) (term location.amount.value) (code_of codes.permission) (heap_of heap.now.value) s (wrapped (settled program.now) (string_bytes location.field.value) (context codes) (giving (settled program.now) hole.now.value)))) }
+    ensures { IfOk result (λ f. frame_tree (settled program.now) f ≡ (λ s. take_location (settled program.now) location.place (string_bytes location.field.value) (held_term location.receiver) (held_term location.amount) (code_of codes.permission) (heap_of heap.now.value) s (wrapped (settled program.now) (string_bytes location.field.value) (context codes) (giving (settled program.now) hole.now.value)))) }
 {
     let _program = program;
     let wrap = Consumed::Wrap(location.field.clone()?, codes);
@@ -78,7 +78,7 @@ pub fn step_amount(
     state: SymState,
     conts: &mut Conts,
 ) -> Result<Move, AllocError>
-    ensures { IfOk result (λ m. Stepped (settled program.now) (taking (settled program.now) place (string_bytes field.now.value) (term receiver.now.value) (multiply (term x.now.scale.value) (term share.now.value)) (code_of x.now.codes.permission) (heap_of heap.now.value) (state_of state) (wrapped (settled program.now) (string_bytes field.now.value) (context x.now.codes) (giving (settled program.now) hole.now.value))) conts.old.sides.items m conts.new.sides.items) }
+    ensures { IfOk result (λ m. Stepped (settled program.now) (taking (settled program.now) place (string_bytes field.now.value) (held_term receiver.now) (multiply (held_term x.now.scale) (held_term share.now)) (code_of x.now.codes.permission) (heap_of heap.now.value) (state_of state) (wrapped (settled program.now) (string_bytes field.now.value) (context x.now.codes) (giving (settled program.now) hole.now.value))) conts.old.sides.items m conts.new.sides.items) }
 {
     let amount = arithmetic::mul(alloc, &x.scale, share)?;
     let allowed = not_negative(alloc, &amount)?;
@@ -101,7 +101,7 @@ fn add_built_wrap(
     value: &Rc<Term>,
     state: &mut SymState,
 ) -> Result<(), AllocError>
-    ensures { IfOk result (λ _. state_of state.new ≡ rule.with_built_wrap (context codes) (sort of.now) (term value.now.value) (state_of state.old)) }
+    ensures { IfOk result (λ _. state_of state.new ≡ rule.with_built_wrap (context codes) (sort of.now) (held_term value.now) (state_of state.old)) }
 {
     if codes.builds {
         return state.add_wrap(alloc, of, value);
@@ -120,7 +120,7 @@ pub fn step_wrap(
     state: SymState,
     conts: &mut Conts,
 ) -> Result<Move, AllocError>
-    ensures { IfOk result (λ m. Stepped (settled program.now) (wrapped (settled program.now) (string_bytes field.now.value) (context codes) (giving (settled program.now) hole.now.value) (term value.now.value) (state_of state)) conts.old.sides.items m conts.new.sides.items) }
+    ensures { IfOk result (λ m. Stepped (settled program.now) (wrapped (settled program.now) (string_bytes field.now.value) (context codes) (giving (settled program.now) hole.now.value) (held_term value.now) (state_of state)) conts.old.sides.items m conts.new.sides.items) }
 {
     let of = field_sort(program, field);
     let snapshot = snapshots::wrap(alloc, &of, value)?;

@@ -1,7 +1,7 @@
 //! The steps of `==>` and `?:` that are consumed, after their condition.
 
 ghost use Rattle.std.specs.Prelude.{◌≡◌, IfOk};
-ghost use Rattle.vx_heap.specs.Views.{heap as heap_of};
+ghost use Rattle.vx_heap.specs.Views.{heap as heap_of, held_term};
 ghost use Rattle.vx_resolved.specs.Resolved.{assertion};
 ghost use Rattle.vx_resolved.specs.Settled.{settled};
 ghost use Rattle.vx_rules.specs.Rules as rule;
@@ -9,7 +9,6 @@ ghost use Rattle.vx_rules.specs.States.{with_heap};
 ghost use Rattle.vx_stack.specs.Stack.{consuming, frame_tree, giving, Stepped};
 ghost use Rattle.vx_states.specs.SymStates.{state as state_of};
 ghost use Rattle.vx_terms.specs.Build as built;
-ghost use Rattle.vx_terms.specs.Views.{term};
 
 use std::alloc::{AllocError, Global};
 use std::rc::Rc;
@@ -46,7 +45,7 @@ pub fn step_implied(
     state: SymState,
     conts: &mut Conts,
 ) -> Result<Move, AllocError>
-    ensures { IfOk result (λ m. Stepped (settled program.now) (rule.fork (term condition.value) (with_heap (heap_of heap.now.value) (state_of state)) (λ s. consuming (settled program.now) (assertion a.now.value) x.now.value s (giving (settled program.now) hole.now.value)) (giving (settled program.now) hole.now.value built.unit)) conts.old.sides.items m conts.new.sides.items) }
+    ensures { IfOk result (λ m. Stepped (settled program.now) (rule.fork (held_term condition) (with_heap (heap_of heap.now.value) (state_of state)) (λ s. consuming (settled program.now) (assertion a.now.value) x.now.value s (giving (settled program.now) hole.now.value)) (giving (settled program.now) hole.now.value built.unit)) conts.old.sides.items m conts.new.sides.items) }
 {
     let left = frame_of(alloc, program, a, x, hole)?;
     let unit = snapshots::unit(alloc)?;
@@ -69,7 +68,7 @@ pub fn step_chosen(
     state: SymState,
     conts: &mut Conts,
 ) -> Result<Move, AllocError>
-    ensures { IfOk result (λ m. Stepped (settled program.now) (rule.fork (term condition.value) (with_heap (heap_of heap.now.value) (state_of state)) (λ s. consuming (settled program.now) (assertion a.now.value) x.now.value s (giving (settled program.now) hole.now.value)) (λ s. consuming (settled program.now) (assertion b.now.value) x.now.value s (giving (settled program.now) hole.now.value))) conts.old.sides.items m conts.new.sides.items) }
+    ensures { IfOk result (λ m. Stepped (settled program.now) (rule.fork (held_term condition) (with_heap (heap_of heap.now.value) (state_of state)) (λ s. consuming (settled program.now) (assertion a.now.value) x.now.value s (giving (settled program.now) hole.now.value)) (λ s. consuming (settled program.now) (assertion b.now.value) x.now.value s (giving (settled program.now) hole.now.value))) conts.old.sides.items m conts.new.sides.items) }
 {
     let left = frame_of(alloc, program, a, x, hole)?;
     let right = frame_of(alloc, program, b, x, hole)?;

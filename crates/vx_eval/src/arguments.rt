@@ -9,7 +9,7 @@ ghost use Rattle.vx_rules.specs.Trees.{Step};
 ghost use Rattle.vx_stack.specs.Stack.{giving, giving_all, Stepped};
 ghost use Rattle.vx_stack.specs.Values.{values as values_of};
 ghost use Rattle.vx_states.specs.SymStates.{state as state_of};
-ghost use Rattle.vx_terms.specs.Views.{term};
+ghost use Rattle.vx_heap.specs.Views.{held_term};
 
 use std::alloc::{AllocError, Global};
 use std::rc::Rc;
@@ -53,7 +53,7 @@ pub fn step_argument(
     state: SymState,
     conts: &mut Conts,
 ) -> Result<Move, AllocError>
-    ensures { IfOk result (λ m. Stepped (settled program.now) (rule.evals (settled program.now) (rules (settled program.now)) (exprs es.now.value) (state_of state) (λ ts s. Step (giving_all (settled program.now) row.now.value (term value.value ∷ ts) s))) conts.old.sides.items m conts.new.sides.items) }
+    ensures { IfOk result (λ m. Stepped (settled program.now) (rule.evals (settled program.now) (rules (settled program.now)) (exprs es.now.value) (state_of state) (λ ts s. Step (giving_all (settled program.now) row.now.value (held_term value ∷ ts) s))) conts.old.sides.items m conts.new.sides.items) }
 {
     let row = Rc::new(alloc, Row::After(value, row.clone()?))?;
     step_all(alloc, program, es, &row, state, conts)

@@ -5,7 +5,7 @@ ghost use Rattle.vx_frac.specs.Fractions.{lowest, over};
 ghost use Rattle.vx_resolved.specs.Resolved.{division};
 ghost use Rattle.vx_rules.specs.Rules as rule;
 ghost use Rattle.vx_terms.specs.Terms as written;
-ghost use Rattle.vx_terms.specs.Views.{term};
+ghost use Rattle.vx_heap.specs.Views.{held_term};
 
 use std::alloc::{AllocError, Global};
 use std::rc::Rc;
@@ -20,7 +20,7 @@ pub fn divided(
     t: &Rc<Term>,
     u: &Rc<Term>,
 ) -> Result<Rc<Term>, AllocError>
-    ensures { IfOk result (λ r. term r.value ≡ rule.divided (division op) (term t.now.value) (term u.now.value)) }
+    ensures { IfOk result (λ r. held_term r ≡ rule.divided (division op) (held_term t.now) (held_term u.now)) }
 {
     match op {
         Division::Quotient => numbers::div(alloc, t, u),
@@ -40,7 +40,7 @@ fn small(n: u128) -> Result<i128, AllocError>
 
 /// `n/d` as a literal; over 0 it counts as over 1.
 pub fn part(alloc: Global, n: u128, d: u128) -> Result<Rc<Term>, AllocError>
-    ensures { IfOk result (λ t. term t.value ≡ written.Part (lowest (over n d))) }
+    ensures { IfOk result (λ t. held_term t ≡ written.Part (lowest (over n d))) }
 {
     let above = small(n)?;
     let below = small(d)?;

@@ -2,7 +2,7 @@
 
 ghost use Rattle.std.specs.Prelude.{◌≡◌, IfOk};
 ghost use Rattle.vx_ast.specs.Syntax.{Program};
-ghost use Rattle.vx_heap.specs.Views.{heap as heap_of};
+ghost use Rattle.vx_heap.specs.Views.{heap as heap_of, held_term};
 ghost use Rattle.vx_resolved.specs.Resolved.{connective, division, expr, exprs};
 ghost use Rattle.vx_rules.specs.Members.{rules};
 ghost use Rattle.vx_rules.specs.Rules as rule;
@@ -11,7 +11,6 @@ ghost use Rattle.vx_rules.specs.Trees.{AmountCode, Step};
 ghost use Rattle.vx_stack.specs.Stack.{operand as operand_of, giving, giving_all, going, with_divisor, Stepped};
 ghost use Rattle.vx_states.specs.SymStates.{state as state_of};
 ghost use Rattle.vx_terms.specs.Build.{less, zero_amount};
-ghost use Rattle.vx_terms.specs.Views.{term};
 ghost use Rattle.vx_resolved.specs.Settled.{settled};
 
 use crate::divisions::divided;
@@ -37,7 +36,7 @@ pub fn step_operand(
     state: SymState,
     conts: &mut Conts,
 ) -> Result<Move, AllocError>
-    ensures { IfOk result (λ m. Stepped (settled program.now) (operand_of (settled program.now) operand.now (giving (settled program.now) hole.now.value) (term value.value) (state_of state)) conts.old.sides.items m conts.new.sides.items) }
+    ensures { IfOk result (λ m. Stepped (settled program.now) (operand_of (settled program.now) operand.now (giving (settled program.now) hole.now.value) (held_term value) (state_of state)) conts.old.sides.items m conts.new.sides.items) }
 {
     match operand {
         Operand::Negate => {
@@ -130,7 +129,7 @@ fn step_share(
     state: SymState,
     conts: &mut Conts,
 ) -> Result<Move, AllocError>
-    ensures { IfOk result (λ m. Stepped (settled program.now) (rule.ask (less zero_amount (term amount.now.value)) (rule.placed (state_of state) at) AmountCode (state_of state) (λ s. rule.evals (settled program.now) (rules (settled program.now)) (exprs es.now.value) s (giving_all (settled program.now) row))) conts.old.sides.items m conts.new.sides.items) }
+    ensures { IfOk result (λ m. Stepped (settled program.now) (rule.ask (less zero_amount (held_term amount.now)) (rule.placed (state_of state) at) AmountCode (state_of state) (λ s. rule.evals (settled program.now) (rules (settled program.now)) (exprs es.now.value) s (giving_all (settled program.now) row))) conts.old.sides.items m conts.new.sides.items) }
 {
     let condition = positive(alloc, amount)?;
     let place = state.placed(at);
@@ -152,7 +151,7 @@ fn step_divided(
     state: SymState,
     conts: &mut Conts,
 ) -> Result<Move, AllocError>
-    ensures { IfOk result (λ m. Stepped (settled program.now) (with_divisor at (state_of state) (term divisor.now.value) (giving (settled program.now) hole.now.value (rule.divided (division op) (term first.now.value) (term divisor.now.value)))) conts.old.sides.items m conts.new.sides.items) }
+    ensures { IfOk result (λ m. Stepped (settled program.now) (with_divisor at (state_of state) (held_term divisor.now) (giving (settled program.now) hole.now.value (rule.divided (division op) (held_term first.now) (held_term divisor.now)))) conts.old.sides.items m conts.new.sides.items) }
 {
     let is_zero = numbers::eq(alloc, divisor, &make::int(alloc, 0)?)?;
     let condition = make::not(alloc, &is_zero)?;
@@ -180,7 +179,7 @@ fn step_short(
     state: SymState,
     conts: &mut Conts,
 ) -> Result<Move, AllocError>
-    ensures { IfOk result (λ m. Stepped (settled program.now) (rule.short (connective op) (term value.value) (state_of state) (λ s. rule.eval (settled program.now) (rules (settled program.now)) (expr right.now.value) s (giving (settled program.now) hole.now.value)) (giving (settled program.now) hole.now.value)) conts.old.sides.items m conts.new.sides.items) }
+    ensures { IfOk result (λ m. Stepped (settled program.now) (rule.short (connective op) (held_term value) (state_of state) (λ s. rule.eval (settled program.now) (rules (settled program.now)) (expr right.now.value) s (giving (settled program.now) hole.now.value)) (giving (settled program.now) hole.now.value)) conts.old.sides.items m conts.new.sides.items) }
 {
     let more = Frame::Eval(right.clone()?, hole.clone()?);
     match op {

@@ -7,6 +7,7 @@ ghost use Rattle.vx_terms.specs.Sorts.{RealSort, same_sort};
 ghost use Rattle.vx_frac.specs.Fractions.{whole};
 ghost use Rattle.vx_terms.specs.Terms as written;
 ghost use Rattle.vx_terms.specs.Terms.{sort_of};
+ghost use Rattle.vx_heap.specs.Views.{held_term};
 ghost use Rattle.vx_terms.specs.Views.{term};
 
 use std::alloc::{AllocError, Global};
@@ -47,14 +48,14 @@ fn is_real(t: &Term) -> Result<bool, AllocError>
 
 /// A whole number as a literal of Real.
 fn whole_part(alloc: Global, n: i128) -> Result<Rc<Term>, AllocError>
-    ensures { IfOk result (λ t. term t.value ≡ written.Part (whole n)) }
+    ensures { IfOk result (λ t. held_term t ≡ written.Part (whole n)) }
 {
     make::real(alloc, Frac::new(n, 1))
 }
 
 /// A numeral before a Perm is a Real.
 fn as_amount(alloc: Global, t: &Rc<Term>, u: &Rc<Term>) -> Result<Rc<Term>, AllocError>
-    ensures { IfOk result (λ r. term r.value ≡ rule.as_amount (term t.now.value) (term u.now.value)) }
+    ensures { IfOk result (λ r. held_term r ≡ rule.as_amount (held_term t.now) (held_term u.now)) }
 {
     match &**t {
         Term::Number(n) => {
@@ -74,7 +75,7 @@ pub fn operated(
     t: &Rc<Term>,
     u: &Rc<Term>,
 ) -> Result<Rc<Term>, AllocError>
-    ensures { IfOk result (λ r. term r.value ≡ rule.operated (operator op) (term t.now.value) (term u.now.value)) }
+    ensures { IfOk result (λ r. held_term r ≡ rule.operated (operator op) (held_term t.now) (held_term u.now)) }
 {
     match op {
         Operator::Equal => numbers::eq(alloc, t, u),
@@ -98,7 +99,7 @@ pub fn connected(
     t: &Rc<Term>,
     u: &Rc<Term>,
 ) -> Result<Rc<Term>, AllocError>
-    ensures { IfOk result (λ r. term r.value ≡ rule.connected (connective op) (term t.now.value) (term u.now.value)) }
+    ensures { IfOk result (λ r. held_term r ≡ rule.connected (connective op) (held_term t.now) (held_term u.now)) }
 {
     match op {
         Connective::And => make::and(alloc, t, u),

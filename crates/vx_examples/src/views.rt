@@ -24,7 +24,7 @@ ghost use Rattle.vx_states.specs.declared.state.Binding.{Binding};
 ghost use Rattle.vx_states.specs.declared.state.Own.{Own as Own'};
 ghost use Rattle.vx_states.specs.declared.state.SymState.{SymState};
 ghost use Rattle.vx_heap.specs.declared.heap.SymHeap.{SymHeap};
-ghost use Rattle.vx_heap.specs.Views.{heap, terms_of};
+ghost use Rattle.vx_heap.specs.Views.{heap, terms_of, held_term};
 ghost use Rattle.vx_stack.specs.declared.question.Query.{Query};
 ghost use Rattle.vx_states.specs.declared.path.Path.{Path};
 ghost use Rattle.vx_states.specs.declared.path.Path.TheVariants as path';
@@ -101,18 +101,18 @@ pub fn codes_and_keys()
 /// A path's entries, the oldest first, and the terms that stand in an index.
 pub fn paths_and_indices()
     ensures empty { entries path'.Empty ≡ [] }
-    ensures fact { (q : _) (before : Path) (t : Rc Term' Global) → entries (path'.Fact' q before t) ≡ entries before ++ fact (term t.value) ∷ [] }
-    ensures branch { (q : _) (before : Path) (t : Rc Term' Global) → entries (path'.Branch' q before t) ≡ entries before ++ branch (term t.value) ∷ [] }
+    ensures fact { (q : _) (before : Path) (t : Rc Term' Global) → entries (path'.Fact' q before t) ≡ entries before ++ fact (held_term t) ∷ [] }
+    ensures branch { (q : _) (before : Path) (t : Rc Term' Global) → entries (path'.Branch' q before t) ≡ entries before ++ branch (held_term t) ∷ [] }
     ensures extended { extended (branch (bool 0) ∷ []) (bool 1) false ≡ branch (bool 0) ∷ fact (bool 1) ∷ [] }
     ensures none { (k : ℕ) (t : Term) → finds index'.Nothing k t ≡ false }
-    ensures held { (q : _) (u : Rc Term' Global) (more : Index) → finds (index'.Holds' u q more) 5 (bool 1) ≡ (terms.same (bool 1) (term u.value) || finds more 5 (bool 1)) }
+    ensures held { (q : _) (u : Rc Term' Global) (more : Index) → finds (index'.Holds' u q more) 5 (bool 1) ≡ (terms.same (bool 1) (held_term u) || finds more 5 (bool 1)) }
     ensures even_side { (p q : _) (even odd : Index) → finds (index'.Branch' p even q odd) 6 (bool 1) ≡ finds even 3 (bool 1) }
     ensures odd_side { (p q : _) (even odd : Index) → finds (index'.Branch' p even q odd) 7 (bool 1) ≡ finds odd 3 (bool 1) }
     ensures alike { IsAlike index'.Nothing index'.Nothing }
-    ensures not_alike { (q : _) (u : Rc Term' Global) → term u.value ≡ bool 1 → IsAlike (index'.Holds' u q index'.Nothing) index'.Nothing → ⊥ }
+    ensures not_alike { (q : _) (u : Rc Term' Global) → held_term u ≡ bool 1 → IsAlike (index'.Holds' u q index'.Nothing) index'.Nothing → ⊥ }
     ensures indexed { IsIndexed [] index'.Nothing }
     ensures not_indexed { IsIndexed (fact (bool 1) ∷ []) index'.Nothing → ⊥ }
-    ensures extended_index { (q : _) (u : Rc Term' Global) → IsExtended index'.Nothing (index'.Holds' u q index'.Nothing) 0 5 (term u.value) }
+    ensures extended_index { (q : _) (u : Rc Term' Global) → IsExtended index'.Nothing (index'.Holds' u q index'.Nothing) 0 5 (held_term u) }
     ensures not_extended { IsExtended index'.Nothing index'.Nothing 0 5 (bool 1) → ⊥ }
 {}
 
@@ -121,16 +121,16 @@ pub fn paths_and_indices()
 pub fn operands_that_wait()
     ensures negate { (on : Giving) → operand [] operand'.Negate on (bool 0) scene ≡ Step (on (denied (bool 0)) scene) }
     ensures operate_right { (b : Rc Expr' Global) (on : Giving) → operand [] (operand'.OperateRight operator'.Greater b) on (int 0) scene ≡ Step (rules.eval [] (rules.outer [] 4) (expr b.value) scene (λ u s. Step (on (rules.operated syntax.Greater (int 0) u) s))) }
-    ensures operate_with { (t : Rc Term' Global) (on : Giving) → operand [] (operand'.OperateWith operator'.Subtract t) on (number 0) scene ≡ Step (on (term t.value) scene) }
+    ensures operate_with { (t : Rc Term' Global) (on : Giving) → operand [] (operand'.OperateWith operator'.Subtract t) on (number 0) scene ≡ Step (on (held_term t) scene) }
     ensures connect_right { (b : Rc Expr' Global) (on : Giving) → operand [] (operand'.ConnectRight connective'.Or b) on (bool 0) scene ≡ Step (rules.eval [] (rules.outer [] 4) (expr b.value) scene (λ u s. Step (on (rules.connected syntax.Or (bool 0) u) s))) }
-    ensures connect_with { (t : Rc Term' Global) (on : Giving) → operand [] (operand'.ConnectWith connective'.Implies t) on truth scene ≡ Step (on (rules.connected syntax.Implies (term t.value) truth) scene) }
+    ensures connect_with { (t : Rc Term' Global) (on : Giving) → operand [] (operand'.ConnectWith connective'.Implies t) on truth scene ≡ Step (on (rules.connected syntax.Implies (held_term t) truth) scene) }
     ensures connect_sides { (b : Rc Expr' Global) (on : Giving) → operand [] (operand'.ConnectSides connective'.And b) on falsity scene ≡ Step (on falsity scene) }
     ensures connect_needed { (b : Rc Expr' Global) (on : Giving) → operand [] (operand'.ConnectSides connective'.And b) on (bool 0) scene ≡ Step (rules.eval [] (rules.outer [] 4) (expr b.value) scene on) }
     ensures choose_then { (a b : Rc Expr' Global) (on : Giving) → operand [] (operand'.ChooseThen a b) on (bool 0) scene ≡ Step (rules.eval [] (rules.outer [] 4) (expr a.value) scene (λ u s. Step (rules.eval [] (rules.outer [] 4) (expr b.value) s (λ v s1. Step (on (make.ite (bool 0) u v) s1))))) }
-    ensures choose_else { (t : Rc Term' Global) (b : Rc Expr' Global) (on : Giving) → operand [] (operand'.ChooseElse t b) on (int 2) scene ≡ Step (rules.eval [] (rules.outer [] 4) (expr b.value) scene (λ v s. Step (on (make.ite (term t.value) (int 2) v) s))) }
-    ensures choose_with { (t u : Rc Term' Global) (on : Giving) → operand [] (operand'.ChooseWith t u) on (int 2) scene ≡ Step (on (make.ite (term t.value) (term u.value) (int 2)) scene) }
+    ensures choose_else { (t : Rc Term' Global) (b : Rc Expr' Global) (on : Giving) → operand [] (operand'.ChooseElse t b) on (int 2) scene ≡ Step (rules.eval [] (rules.outer [] 4) (expr b.value) scene (λ v s. Step (on (make.ite (held_term t) (int 2) v) s))) }
+    ensures choose_with { (t u : Rc Term' Global) (on : Giving) → operand [] (operand'.ChooseWith t u) on (int 2) scene ≡ Step (on (make.ite (held_term t) (held_term u) (int 2)) scene) }
     ensures choose_sides { (a b : Rc Expr' Global) (on : Giving) → operand [] (operand'.ChooseSides a b) on falsity scene ≡ Step (rules.eval [] (rules.outer [] 4) (expr b.value) scene on) }
-    ensures divide_with { (t : Rc Term' Global) (on : Giving) → operand [] (operand'.DivideWith (at 1 1) division'.Quotient t) on (number 2) scene ≡ Step (on (rules.divided syntax.Quotient (term t.value) (number 2)) scene) }
+    ensures divide_with { (t : Rc Term' Global) (on : Giving) → operand [] (operand'.DivideWith (at 1 1) division'.Quotient t) on (number 2) scene ≡ Step (on (rules.divided syntax.Quotient (held_term t) (number 2)) scene) }
     ensures receiver { (x : Rc (String Global) Global) (on : Giving) → operand [] (operand'.Receiver (at 1 1) x) on (int 0) scene ≡ rules.read_field (string_bytes x.value) (int 0) (at 1 1) scene on }
     ensures restore { (h : Rc SymHeap Global) (on : Giving) → operand [] (operand'.Restore h) on (int 0) with_chunks ≡ Step (on (int 0) (record with_chunks { heap = heap h.value })) }
 {}
@@ -142,15 +142,15 @@ pub fn parts_that_wait()
     ensures building { context (record { pure = code'.Fold; permission = code'.Fold; builds = true }) ≡ record { pure = FoldCode; permission = FoldCode; builds = true } }
     ensures asked { (h : Rc SymHeap Global) (on : Giving) → consumed [] (consumed'.Ask (at 1 1) code'.Assert h) on truth with_chunks ≡ Step (Step (on unit (record with_chunks { heap = heap h.value }))) }
     ensures right { (b : Rc Assertion' Global) (x : Rc Consumption Global) (on : Giving) → consumed [] (consumed'.Right b x) on (snap 1) scene ≡
-        rules.consume [] (rules.outer [] 4) (assertion b.value) (context x.value.codes) (term x.value.scale.value) (heap x.value.start.value) scene
+        rules.consume [] (rules.outer [] 4) (assertion b.value) (context x.value.codes) (held_term x.value.scale) (heap x.value.start.value) scene
         (λ u s. Step (on (pair (snap 1) u) (rules.with_built_pair (context x.value.codes) (snap 1) u s))) }
-    ensures with_left { (t : Rc Term' Global) (on : Giving) → consumed [] (consumed'.With t (record { pure = code'.Assert; permission = code'.Permission; builds = false })) on unit scene ≡ Step (on (pair (term t.value) unit) scene) }
+    ensures with_left { (t : Rc Term' Global) (on : Giving) → consumed [] (consumed'.With t (record { pure = code'.Assert; permission = code'.Permission; builds = false })) on unit scene ≡ Step (on (pair (held_term t) unit) scene) }
     ensures with_facts { (t : Rc Term' Global) (on : Giving) → consumed [] (consumed'.With t (record { pure = code'.Fold; permission = code'.Fold; builds = true })) on unit scene ≡
-        Step (on (pair (term t.value) unit) (states.with_facts (rules.pair_facts (term t.value) unit) scene)) }
+        Step (on (pair (held_term t) unit) (states.with_facts (rules.pair_facts (held_term t) unit) scene)) }
     ensures wanted_some { (x : Search) (c : states.Chunk) → x.amount ≡ None → wanted x c ≡ rules.holds_some (terms_of x.arguments.items) c }
     ensures fact { (on : Going) → produced [] (produced'.Fact None) on (bool 0) scene ≡ Step (on scene) }
     ensures put { (x : Rc (String Global) Global) (r : Rc Term' Global) (how : Rc Production Global) (on : Going) → produced [] (produced'.Amount (at 1 1) x r how true) on (real 0) scene ≡
-        putting [] (at 1 1) (string_bytes x.value) (term r.value) (make.multiply (term how.value.scale.value) (real 0)) (optional_term how.value.snapshot) true scene on }
+        putting [] (at 1 1) (string_bytes x.value) (held_term r) (make.multiply (held_term how.value.scale) (real 0)) (optional_term how.value.snapshot) true scene on }
     ensures produced_side { (a : Rc Assertion' Global) (how : Rc Production Global) (on : Going) → produced [] (produced'.Implied a how) on falsity scene ≡ Step (on (rules.with_unit (optional_term how.value.snapshot) scene)) }
     ensures wraps { (x : Rc (String Global) Global) (on : Giving) → consumed [] (consumed'.Wrap x (record { pure = code'.Assert; permission = code'.Permission; builds = false })) on (int 0) scene ≡ Step (on (make.wrap (rules.field_sort [] (string_bytes x.value)) (int 0)) scene) }
     ensures consumed_side { (a : Rc Assertion' Global) (x : Rc Consumption Global) (h : Rc SymHeap Global) (on : Giving) → consumed [] (consumed'.Implied a x h) on falsity with_chunks ≡ Step (on unit (record with_chunks { heap = heap h.value })) }
@@ -173,32 +173,32 @@ pub fn frames_that_wait()
     ensures block { (q : _) (b : Rc Block' Global) (n : Next) → going [] (next'.Block' b q n) scene ≡ members.exec_all [] (rules.outer [] 4) (block b.value) scene (going [] n) }
     ensures inner { (q : _) (b : Rc Block' Global) (n : Next) → going [] (next'.Inner' b 1 q n) scene ≡ members.exec_all [] (rules.outer [] 4) (block b.value) scene (λ s. going [] n (states.leave 1 s)) }
     ensures produce { (q : _) (a : Rc Assertion' Global) (x : Rc Production Global) (n : Next) → going [] (next'.Produce' a x q n) scene ≡
-        rules.produce [] (rules.outer [] 4) (assertion a.value) (term x.value.scale.value) (optional_term x.value.snapshot) scene (going [] n) }
+        rules.produce [] (rules.outer [] 4) (assertion a.value) (held_term x.value.scale) (optional_term x.value.snapshot) scene (going [] n) }
     ensures unit { (q : _) (start : Rc SymHeap Global) (h : Hole) → going [] (next'.Unit' start q h) with_chunks ≡ Step (giving [] h unit (record with_chunks { heap = heap start.value })) }
     ensures consume { (q : _) (a : Rc Assertion' Global) (t : Rc Term' Global) (h : Hole) → going [] (next'.Consume' a (record { pure = code'.Entry; permission = code'.Entry; builds = false }) t q h) with_chunks ≡
-        rules.consume [] (rules.outer [] 4) (assertion a.value) (members.codes EntryCode EntryCode) (term t.value) with_chunks.heap with_chunks (giving [] h) }
+        rules.consume [] (rules.outer [] 4) (assertion a.value) (members.codes EntryCode EntryCode) (held_term t) with_chunks.heap with_chunks (giving [] h) }
     ensures consume_from { (q : _) (a : Rc Assertion' Global) (x : Rc Consumption Global) (h : Hole) → going [] (next'.ConsumeFrom' a x q h) with_chunks ≡
-        rules.consume [] (rules.outer [] 4) (assertion a.value) (context x.value.codes) (term x.value.scale.value) (heap x.value.start.value) with_chunks (giving [] h) }
+        rules.consume [] (rules.outer [] 4) (assertion a.value) (context x.value.codes) (held_term x.value.scale) (heap x.value.start.value) with_chunks (giving [] h) }
     ensures sides { (m : Rc Method' Global) → going [] (next'.Sides m) scene ≡ members.sides [] (rules.outer [] 4) (method m.value) scene }
     ensures put { (q : _) (l : Rc Location Global) (x : Rc Production Global) (n : Next) → going [] (next'.Put' l x false q n) scene ≡
-        Step (going [] n (with_location [] (string_bytes l.value.field.value) (term l.value.receiver.value) (term l.value.amount.value) (optional_term x.value.snapshot) false scene)) }
+        Step (going [] n (with_location [] (string_bytes l.value.field.value) (held_term l.value.receiver) (held_term l.value.amount) (optional_term x.value.snapshot) false scene)) }
     ensures read { (q : _) (x : Rc Search Global) (h : Hole) → going [] (next'.ReadFrom' x 1 q h) scene ≡ finding x.value 1 scene (λ c. giving [] h c.chunk.value scene) (rules.never x.value.place (code x.value.code) scene) }
     ensures written { (q : _) (x : Rc Search Global) (t : Rc Term' Global) (n : Next) → going [] (next'.WriteTo' x 0 t q n) scene ≡
-        finding x.value 0 scene (λ c. going [] n (rules.written c (term t.value) scene)) (rules.never x.value.place (code x.value.code) scene) }
+        finding x.value 0 scene (λ c. going [] n (rules.written c (held_term t) scene)) (rules.never x.value.place (code x.value.code) scene) }
     ensures fresh { (q : _) (w : Taken) → going [] (next'.Fresh' sort'.Int q w) scene ≡ with_taken [] w (states.fresh sort.IntSort scene) false (states.after_fresh scene) }
     ensures evals { (q : _) (es : Rc Exprs' Global) (r : Row) → going [] (next'.Evals' es q r) scene ≡ rules.evals [] (rules.outer [] 4) (exprs es.value) scene (giving_all [] r) }
     ensures back { (q : _) (c : Rc Caller Global) (n : Next) → going [] (next'.Back' c q n) with_chunks ≡ going [] n (back_to c.value with_chunks) }
-    ensures values { (q : _) (t : Rc Term' Global) (r : Row) → giving_all [] (row'.After' t q r) (int 0 ∷ []) scene ≡ Step (giving_all [] r (term t.value ∷ int 0 ∷ []) scene) }
+    ensures values { (q : _) (t : Rc Term' Global) (r : Row) → giving_all [] (row'.After' t q r) (int 0 ∷ []) scene ≡ Step (giving_all [] r (held_term t ∷ int 0 ∷ []) scene) }
     ensures taken { (q : _) (h : Hole) → with_taken [] (taken'.Value' q h) (int 0) true scene ≡ giving [] h (int 0) scene }
     ensures given { giving [] hole'.Finish (int 0) scene ≡ End }
     ensures produced { (q : _) (n : Next) → giving [] (hole'.Produced' (produced'.Fact None) q n) (bool 0) scene ≡ Step (going [] n scene) }
-    ensures produced_unit { (q : _) (t : Rc Term' Global) (n : Next) → giving [] (hole'.Produced' (produced'.Fact (Some t)) q n) (bool 0) scene ≡ Step (going [] n (states.with_fact (make.equals (term t.value) unit) scene)) }
+    ensures produced_unit { (q : _) (t : Rc Term' Global) (n : Next) → giving [] (hole'.Produced' (produced'.Fact (Some t)) q n) (bool 0) scene ≡ Step (going [] n (states.with_fact (make.equals (held_term t) unit) scene)) }
     ensures operand { (q : _) (h : Hole) → giving [] (hole'.Operand' operand'.Negate q h) (bool 0) scene ≡ Step (giving [] h (denied (bool 0)) scene) }
-    ensures consumed { (q : _) (t : Rc Term' Global) (h : Hole) → giving [] (hole'.Consumed' (consumed'.With t (record { pure = code'.Assert; permission = code'.Permission; builds = false })) q h) unit scene ≡ Step (giving [] h (pair (term t.value) unit) scene) }
+    ensures consumed { (q : _) (t : Rc Term' Global) (h : Hole) → giving [] (hole'.Consumed' (consumed'.With t (record { pure = code'.Assert; permission = code'.Permission; builds = false })) q h) unit scene ≡ Step (giving [] h (pair (held_term t) unit) scene) }
     ensures executed { (q : _) (n : Next) → giving [] (hole'.Executed' executed'.Exhaled q n) unit scene ≡ Step (going [] n scene) }
     ensures go { (n : Rc Next Global) → frame_tree [] (frame'.Go n) scene ≡ going [] n.value scene }
     ensures eval { (e : Rc Expr' Global) (h : Rc Hole Global) → frame_tree [] (frame'.Eval e h) scene ≡ rules.eval [] (rules.outer [] 4) (expr e.value) scene (giving [] h.value) }
-    ensures give { (t : Rc Term' Global) (h : Rc Hole Global) → frame_tree [] (frame'.Give t h) scene ≡ giving [] h.value (term t.value) scene }
+    ensures give { (t : Rc Term' Global) (h : Rc Hole Global) → frame_tree [] (frame'.Give t h) scene ≡ giving [] h.value (held_term t) scene }
 {}
 
 /// A step from a side leaves one side on the stack, or two for a fork, the first on top; and a question is that of the tree.
@@ -248,7 +248,7 @@ pub fn views_of_terms()
 
 /// What a state, a binding and a question of the code stand for.
 pub fn views_of_states()
-    ensures binding { (b : Binding) → binding b ≡ (string_bytes b.name.value, term b.value.value) }
+    ensures binding { (b : Binding) → binding b ≡ (string_bytes b.name.value, held_term b.value) }
     ensures store { (s : SymState) → (state s).store ≡ map binding s.store.items }
     ensures path { (s : SymState) → (state s).path ≡ entries s.path.path }
     ensures next { (s : SymState) → (state s).next ≡ s.next }
@@ -260,8 +260,8 @@ pub fn views_of_states()
     ensures measured { (s : SymState) → (state s).own ≡ option_map own s.own }
     ensures place { (s : SymState) → (state s).at ≡ s.at }
     ensures own { (o : Own') → own o ≡ record { function = string_bytes o.function.value; measure = optional_term o.measure } }
-    ensures term { (t : Rc Term' Global) → optional_term (Some t) ≡ Some (term t.value) }
+    ensures term { (t : Rc Term' Global) → optional_term (Some t) ≡ Some (held_term t) }
     ensures no_term { optional_term None ≡ None }
     ensures question { (q : Query) → (query q).path ≡ states.path_terms (entries q.path) }
-    ensures condition { (q : Query) → (query q).condition ≡ term q.condition.value }
+    ensures condition { (q : Query) → (query q).condition ≡ held_term q.condition }
 {}

@@ -1,7 +1,7 @@
 //! The steps of `new` and of a field that is written.
 
 ghost use Rattle.std.specs.Prelude.{◌≡◌, IfOk, map, string_bytes};
-ghost use Rattle.vx_heap.specs.Views.{chunk as chunk_view};
+ghost use Rattle.vx_heap.specs.Views.{chunk as chunk_view, held_term};
 ghost use Rattle.vx_resolved.specs.Settled.{settled};
 ghost use Rattle.vx_rules.specs.Chunks as chunks;
 ghost use Rattle.vx_rules.specs.Chunks.{field_key};
@@ -13,7 +13,6 @@ ghost use Rattle.vx_stack.specs.Stack.{going, Stepped};
 ghost use Rattle.vx_states.specs.SymStates.{state as state_of};
 ghost use Rattle.vx_terms.specs.Build.{whole_amount};
 ghost use Rattle.vx_terms.specs.Sorts.{RefSort};
-ghost use Rattle.vx_terms.specs.Views.{term};
 
 use std::alloc::{AllocError, Global};
 use std::rc::Rc;
@@ -30,7 +29,7 @@ fn whole_chunk(
     receiver: &Rc<Term>,
     value: Rc<Term>,
 ) -> Result<Chunk, AllocError>
-    ensures { IfOk result (λ c. chunk_view c ≡ record (field_key (string_bytes field.now.value) (term receiver.now.value)) { amount = whole_amount; value = term value.value }) }
+    ensures { IfOk result (λ c. chunk_view c ≡ record (field_key (string_bytes field.now.value) (held_term receiver.now)) { amount = whole_amount; value = held_term value }) }
 {
     let mut arguments = Vec::new(alloc);
     arguments.push(receiver.clone()?)?;
@@ -52,7 +51,7 @@ fn put_field(
     reference: &Rc<Term>,
     state: &mut SymState,
 ) -> Result<(), AllocError>
-    ensures { IfOk result (λ _. state_of state.new ≡ chunks.put (record (field_key (string_bytes field.now.value) (term reference.now.value)) { amount = whole_amount; value = states.fresh (field_sort_of (settled program.now) (string_bytes field.now.value)) (state_of state.old) }) (states.after_fresh (state_of state.old))) }
+    ensures { IfOk result (λ _. state_of state.new ≡ chunks.put (record (field_key (string_bytes field.now.value) (held_term reference.now)) { amount = whole_amount; value = states.fresh (field_sort_of (settled program.now) (string_bytes field.now.value)) (state_of state.old) }) (states.after_fresh (state_of state.old))) }
 {
     let value = state.new_symbol(alloc, field_sort(program, field))?;
     let chunk = whole_chunk(alloc, field, reference, value)?;
@@ -67,7 +66,7 @@ fn put_fields(
     reference: &Rc<Term>,
     state: &mut SymState,
 ) -> Result<(), AllocError>
-    ensures { IfOk result (λ _. state_of state.new ≡ rule.put_fields (settled program.now) (map (λ f. string_bytes f.value) fields.now) (term reference.now.value) (state_of state.old)) }
+    ensures { IfOk result (λ _. state_of state.new ≡ rule.put_fields (settled program.now) (map (λ f. string_bytes f.value) fields.now) (held_term reference.now) (state_of state.old)) }
 {
     for field in fields {
         put_field(alloc, program, field, reference, state)?;

@@ -14,7 +14,7 @@ ghost use Rattle.vx_stack.specs.Values.{values};
 ghost use Rattle.vx_states.specs.Entering.{back_to};
 ghost use Rattle.vx_states.specs.SymStates.{state as state_of};
 ghost use Rattle.vx_terms.specs.Build.{less, zero_amount};
-ghost use Rattle.vx_terms.specs.Views.{term};
+ghost use Rattle.vx_heap.specs.Views.{held_term};
 
 use std::alloc::{AllocError, Global};
 use std::rc::Rc;
@@ -37,7 +37,7 @@ fn step_above_none(
     state: SymState,
     conts: &mut Conts,
 ) -> Result<Move, AllocError>
-    ensures { IfOk result (λ m. Stepped (settled program.now) (ask (less zero_amount (term amount.now.value)) place AmountCode (state_of state) (λ s. evals (settled program.now) (rules (settled program.now)) (exprs arguments.now.value) s (giving_all (settled program.now) row))) conts.old.sides.items m conts.new.sides.items) }
+    ensures { IfOk result (λ m. Stepped (settled program.now) (ask (less zero_amount (held_term amount.now)) place AmountCode (state_of state) (λ s. evals (settled program.now) (rules (settled program.now)) (exprs arguments.now.value) s (giving_all (settled program.now) row))) conts.old.sides.items m conts.new.sides.items) }
 {
     let allowed = positive(alloc, amount)?;
     let row = Rc::new(alloc, row)?;
@@ -65,7 +65,7 @@ pub fn step_fold_amount(
     state: SymState,
     conts: &mut Conts,
 ) -> Result<Move, AllocError>
-    ensures { IfOk result (λ m. Stepped (settled program.now) (ask (less zero_amount (term amount.now.value)) place AmountCode (state_of state) (λ s. evals (settled program.now) (rules (settled program.now)) (exprs arguments.now.value) s (λ ts s1. rule.folded (settled program.now) (rules (settled program.now)) place (string_bytes predicate.now.value) ts (term amount.now.value) s1 (going (settled program.now) next.now.value)))) conts.old.sides.items m conts.new.sides.items) }
+    ensures { IfOk result (λ m. Stepped (settled program.now) (ask (less zero_amount (held_term amount.now)) place AmountCode (state_of state) (λ s. evals (settled program.now) (rules (settled program.now)) (exprs arguments.now.value) s (λ ts s1. rule.folded (settled program.now) (rules (settled program.now)) place (string_bytes predicate.now.value) ts (held_term amount.now) s1 (going (settled program.now) next.now.value)))) conts.old.sides.items m conts.new.sides.items) }
 {
     let row = Row::Fold(place, predicate.clone()?, amount.clone()?, next.clone()?);
     step_above_none(alloc, program, amount, place, arguments, row, state, conts)
@@ -83,7 +83,7 @@ pub fn step_unfold_amount(
     state: SymState,
     conts: &mut Conts,
 ) -> Result<Move, AllocError>
-    ensures { IfOk result (λ m. Stepped (settled program.now) (ask (less zero_amount (term amount.now.value)) place AmountCode (state_of state) (λ s. evals (settled program.now) (rules (settled program.now)) (exprs arguments.now.value) s (λ ts s1. unfolded (settled program.now) (rules (settled program.now)) place (string_bytes predicate.now.value) ts (term amount.now.value) s1 (going (settled program.now) next.now.value)))) conts.old.sides.items m conts.new.sides.items) }
+    ensures { IfOk result (λ m. Stepped (settled program.now) (ask (less zero_amount (held_term amount.now)) place AmountCode (state_of state) (λ s. evals (settled program.now) (rules (settled program.now)) (exprs arguments.now.value) s (λ ts s1. unfolded (settled program.now) (rules (settled program.now)) place (string_bytes predicate.now.value) ts (held_term amount.now) s1 (going (settled program.now) next.now.value)))) conts.old.sides.items m conts.new.sides.items) }
 {
     let row = Row::Unfold(place, predicate.clone()?, amount.clone()?, next.clone()?);
     step_above_none(alloc, program, amount, place, arguments, row, state, conts)
@@ -98,7 +98,7 @@ fn taking_body(
     caller: Rc<Caller>,
     next: &Rc<Next>,
 ) -> Result<Next, AllocError>
-    ensures { IfOk result (λ n. going (settled program.now) n ≡ (λ s. consume (settled program.now) (rules (settled program.now)) (assertion body.now.value) (record { pure = FoldCode; permission = FoldCode; builds = true }) (term instance.now.value.amount.value) s.heap s (executed_of (settled program.now) (Executed.Folded instance.now caller) (going (settled program.now) next.now.value)))) }
+    ensures { IfOk result (λ n. going (settled program.now) n ≡ (λ s. consume (settled program.now) (rules (settled program.now)) (assertion body.now.value) (record { pure = FoldCode; permission = FoldCode; builds = true }) (held_term instance.now.value.amount) s.heap s (executed_of (settled program.now) (Executed.Folded instance.now caller) (going (settled program.now) next.now.value)))) }
 {
     let _program = program;
     let folded = Executed::Folded(instance.clone()?, caller);
@@ -138,7 +138,7 @@ fn step_taking(
     state: SymState,
     conts: &mut Conts,
 ) -> Result<Move, AllocError>
-    ensures { IfOk result (λ m. Stepped (settled program.now) (tree.Step ((rules (settled program.now)).consume (assertion body.now.value) (record { pure = FoldCode; permission = FoldCode; builds = true }) (term instance.now.value.amount.value) (state_of state).heap (entered (bind (predicate_of d.now).parameters (values instance.now.value.arguments.value)) instance.now.value.place (state_of state)) (λ t s. tree.Step (going (settled program.now) next.now.value (with_instance (string_bytes instance.now.value.predicate.value) (values instance.now.value.arguments.value) (term instance.now.value.amount.value) t (back (state_of state) s)))))) conts.old.sides.items m conts.new.sides.items) }
+    ensures { IfOk result (λ m. Stepped (settled program.now) (tree.Step ((rules (settled program.now)).consume (assertion body.now.value) (record { pure = FoldCode; permission = FoldCode; builds = true }) (held_term instance.now.value.amount) (state_of state).heap (entered (bind (predicate_of d.now).parameters (values instance.now.value.arguments.value)) instance.now.value.place (state_of state)) (λ t s. tree.Step (going (settled program.now) next.now.value (with_instance (string_bytes instance.now.value.predicate.value) (values instance.now.value.arguments.value) (held_term instance.now.value.amount) t (back (state_of state) s)))))) conts.old.sides.items m conts.new.sides.items) }
 {
     program.keeps_apart();
     vx_depth::rules_read_parts_by_themselves();
@@ -161,7 +161,7 @@ pub fn step_fold(
     state: SymState,
     conts: &mut Conts,
 ) -> Result<Move, AllocError>
-    ensures { IfOk result (λ m. Stepped (settled program.now) (rule.folded (settled program.now) (rules (settled program.now)) place (string_bytes predicate.now.value) (values arguments.now.value) (term amount.now.value) (state_of state) (going (settled program.now) next.now.value)) conts.old.sides.items m conts.new.sides.items) }
+    ensures { IfOk result (λ m. Stepped (settled program.now) (rule.folded (settled program.now) (rules (settled program.now)) place (string_bytes predicate.now.value) (values arguments.now.value) (held_term amount.now) (state_of state) (going (settled program.now) next.now.value)) conts.old.sides.items m conts.new.sides.items) }
 {
     let Some(d) = program.predicate(predicate)? else {
         return conts.never(alloc, program, place, Code::Fold, state);
@@ -186,7 +186,7 @@ pub fn instance_of(
     ensures place { IfOk result (λ x. x.value.place ≡ place) }
     ensures predicate { IfOk result (λ x. string_bytes x.value.predicate.value ≡ string_bytes predicate.now.value) }
     ensures arguments { IfOk result (λ x. values x.value.arguments.value ≡ values arguments.now.value) }
-    ensures amount { IfOk result (λ x. term x.value.amount.value ≡ term amount.now.value) }
+    ensures amount { IfOk result (λ x. held_term x.value.amount ≡ held_term amount.now) }
 {
     let instance = Instance {
         place,
@@ -208,7 +208,7 @@ pub fn step_folded(
     state: SymState,
     conts: &mut Conts,
 ) -> Result<Move, AllocError>
-    ensures { IfOk result (λ m. Stepped (settled program.now) (tree.Step (going (settled program.now) next.now.value (with_instance (string_bytes instance.now.predicate.value) (values instance.now.arguments.value) (term instance.now.amount.value) (term snapshot.value) (back_to caller.now (state_of state))))) conts.old.sides.items m conts.new.sides.items) }
+    ensures { IfOk result (λ m. Stepped (settled program.now) (tree.Step (going (settled program.now) next.now.value (with_instance (string_bytes instance.now.predicate.value) (values instance.now.arguments.value) (held_term instance.now.amount) (held_term snapshot) (back_to caller.now (state_of state))))) conts.old.sides.items m conts.new.sides.items) }
 {
     let mut state = state;
     state.back(alloc, caller)?;

@@ -13,7 +13,7 @@ ghost use Rattle.vx_rules.specs.Trees.{EntryCode, KeptCode};
 ghost use Rattle.vx_stack.specs.Stack.{executed as executed_of, forgotten, frame_tree, from_invariant as from_invariant_of, going, iterated, Stepped};
 ghost use Rattle.vx_states.specs.SymStates.{state as state_of};
 ghost use Rattle.vx_terms.specs.Build.{negate, whole_amount};
-ghost use Rattle.vx_terms.specs.Views.{term};
+ghost use Rattle.vx_heap.specs.Views.{held_term};
 
 use crate::statement::step_inner;
 use std::alloc::{AllocError, Global};
@@ -166,7 +166,7 @@ pub fn step_iterate(
     state: SymState,
     conts: &mut Conts,
 ) -> Result<Move, AllocError>
-    ensures { IfOk result (λ m. Stepped (settled program.now) (iterated (settled program.now) it.now kept (term value.value) (state_of state)) conts.old.sides.items m conts.new.sides.items) }
+    ensures { IfOk result (λ m. Stepped (settled program.now) (iterated (settled program.now) it.now kept (held_term value) (state_of state)) conts.old.sides.items m conts.new.sides.items) }
 {
     let again = kept_again(alloc, program, it)?;
     let mut state = state;
@@ -183,7 +183,7 @@ pub fn step_pass(
     state: SymState,
     conts: &mut Conts,
 ) -> Result<Move, AllocError>
-    ensures { IfOk result (λ m. Stepped (settled program.now) (tree.Step (going (settled program.now) next.now.value (with_branch (negate (term value.now.value)) (state_of state)))) conts.old.sides.items m conts.new.sides.items) }
+    ensures { IfOk result (λ m. Stepped (settled program.now) (tree.Step (going (settled program.now) next.now.value (with_branch (negate (held_term value.now)) (state_of state)))) conts.old.sides.items m conts.new.sides.items) }
 {
     let negated = make::not(alloc, value)?;
     let mut state = state;

@@ -10,7 +10,7 @@ ghost use Rattle.vx_rules.specs.States.{leave};
 ghost use Rattle.vx_states.specs.SymStates.{state as state_of};
 ghost use Rattle.vx_rules.specs.Trees.{AssertCode, PermissionCode};
 ghost use Rattle.vx_terms.specs.Build.{whole_amount};
-ghost use Rattle.vx_terms.specs.Views.{term};
+ghost use Rattle.vx_heap.specs.Views.{held_term};
 ghost use Rattle.vx_resolved.specs.Settled.{settled};
 
 use crate::calls::step_promised;
@@ -217,7 +217,7 @@ pub fn step_executed(
     state: SymState,
     conts: &mut Conts,
 ) -> Result<Move, AllocError>
-    ensures { IfOk result (λ m. Stepped (settled program.now) (executed_of (settled program.now) executed.now (going (settled program.now) next.now.value) (term value.value) (state_of state)) conts.old.sides.items m conts.new.sides.items) }
+    ensures { IfOk result (λ m. Stepped (settled program.now) (executed_of (settled program.now) executed.now (going (settled program.now) next.now.value) (held_term value) (state_of state)) conts.old.sides.items m conts.new.sides.items) }
 {
     let mut state = state;
     match executed {

@@ -1,1 +1,6 @@
 pub mod Heaps
+pub mod InRows
+pub mod Listed
+pub mod Picked
+pub mod Places
+pub mod Tests

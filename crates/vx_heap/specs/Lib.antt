@@ -1,2 +1,5 @@
+pub mod Names
+pub mod Places
 pub mod Views
+pub mod Picked
 pub mod Heaps

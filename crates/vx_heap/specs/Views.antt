@@ -1,8 +1,7 @@
 -- What the types of src/ stand for.
-use Rattle.std.specs.Prelude.{Bool, true, false, List, map, string_bytes}
+use Rattle.std.specs.Prelude.{false, List, map}
 use Rattle.std.specs.declared.alloc.Global.{Global}
 use Rattle.std.specs.declared.rc.Rc.{Rc}
-use Rattle.vx_ast.specs.Syntax.{Name}
 use Rattle.vx_terms.specs.declared.term.Term.{Term as Term'}
 use Rattle.vx_terms.specs.Terms.{Term}
 use Rattle.vx_terms.specs.Build.{zero_amount, unit}
@@ -10,29 +9,25 @@ use Rattle.vx_terms.specs.Views.{term}
 use Rattle.vx_rules.specs.States.{Chunk, Heap}
 use Rattle.vx_rules.specs.Chunks.{Candidate}
 use Rattle.vx_heap.specs.declared.chunk.Resource.{Resource}
-use Rattle.vx_heap.specs.declared.chunk.Resource.TheVariants as resource
 use Rattle.vx_heap.specs.declared.chunk.Chunk.{Chunk as Chunk'}
 use Rattle.vx_heap.specs.declared.candidates.Candidate.{Candidate as Candidate'}
 use Rattle.vx_heap.specs.declared.heap.SymHeap.{SymHeap}
+pub use Rattle.vx_heap.specs.Names.{is_field, name}
+
+-- a term that others may hold too
+abbrev pub held_term : Rc Term' Global → Term
+held_term t = term t.value
 
 abbrev pub terms_of : List (Rc Term' Global) → List Term
-terms_of ts = map (λ t. term t.value) ts
-
-abbrev pub is_field : Resource → Bool
-is_field (resource.Field x) = true
-is_field (resource.Predicate x) = false
-
-abbrev pub name : Resource → Name
-name (resource.Field x) = string_bytes x.value
-name (resource.Predicate x) = string_bytes x.value
+terms_of ts = map held_term ts
 
 abbrev pub chunk : Chunk' → Chunk
 chunk c = record {
   is_field = is_field c.resource;
   resource = name c.resource;
   arguments = terms_of c.arguments.items;
-  amount = term c.amount.value;
-  value = term c.value.value;
+  amount = held_term c.amount;
+  value = held_term c.value;
   root = c.is_root;
   inner = c.is_inner;
 }

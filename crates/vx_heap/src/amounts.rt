@@ -3,6 +3,7 @@
 ghost use Rattle.std.specs.Prelude.{◌≡◌, IfOk};
 ghost use Rattle.vx_terms.specs.Build.{less, less_equal, whole_amount, zero_amount};
 ghost use Rattle.vx_terms.specs.Terms.{same};
+ghost use Rattle.vx_heap.specs.Views.{held_term};
 ghost use Rattle.vx_terms.specs.Views.{term};
 
 use std::alloc::{AllocError, Global};
@@ -21,7 +22,7 @@ pub fn is_zero(amount: &Term) -> bool
 /// No amount.
 #[tactic(auto, unfolding(vx_frac::specs::Fractions::lowest))]
 pub fn zero(alloc: Global) -> Result<Rc<Term>, AllocError>
-    ensures { IfOk result (λ t. term t.value ≡ zero_amount) }
+    ensures { IfOk result (λ t. held_term t ≡ zero_amount) }
 {
     make::real(alloc, Frac::new(0, 1))
 }
@@ -29,28 +30,28 @@ pub fn zero(alloc: Global) -> Result<Rc<Term>, AllocError>
 /// All of a location or instance.
 #[tactic(auto, unfolding(vx_frac::specs::Fractions::lowest))]
 pub fn whole(alloc: Global) -> Result<Rc<Term>, AllocError>
-    ensures { IfOk result (λ t. term t.value ≡ whole_amount) }
+    ensures { IfOk result (λ t. held_term t ≡ whole_amount) }
 {
     make::real(alloc, Frac::new(1, 1))
 }
 
 /// That an amount is above 0.
 pub fn positive(alloc: Global, amount: &Rc<Term>) -> Result<Rc<Term>, AllocError>
-    ensures { IfOk result (λ t. term t.value ≡ less zero_amount (term amount.now.value)) }
+    ensures { IfOk result (λ t. held_term t ≡ less zero_amount (held_term amount.now)) }
 {
     numbers::lt(alloc, &zero(alloc)?, amount)
 }
 
 /// That an amount isn't negative.
 pub fn not_negative(alloc: Global, amount: &Rc<Term>) -> Result<Rc<Term>, AllocError>
-    ensures { IfOk result (λ t. term t.value ≡ less_equal zero_amount (term amount.now.value)) }
+    ensures { IfOk result (λ t. held_term t ≡ less_equal zero_amount (held_term amount.now)) }
 {
     numbers::le(alloc, &zero(alloc)?, amount)
 }
 
 /// That an amount is at most the whole.
 pub fn at_most_whole(alloc: Global, amount: &Rc<Term>) -> Result<Rc<Term>, AllocError>
-    ensures { IfOk result (λ t. term t.value ≡ less_equal (term amount.now.value) whole_amount) }
+    ensures { IfOk result (λ t. held_term t ≡ less_equal (held_term amount.now) whole_amount) }
 {
     numbers::le(alloc, amount, &whole(alloc)?)
 }

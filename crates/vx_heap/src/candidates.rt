@@ -1,6 +1,7 @@
 //! The chunks that a probe looks at.
 
-ghost use Rattle.std.specs.Prelude.{◌≡◌, ◌++◌, IfOk, OnOk};
+ghost use Rattle.std.specs.Prelude.{◌≡◌, ◌++◌, ◌∷◌, ℕ, List, IfOk, OnOk};
+ghost use Rattle.vx_heap.specs.Picked.{picked};
 ghost use Rattle.vx_heap.specs.Views.{candidates_of, heap, key};
 ghost use Rattle.vx_rules.specs.Chunks as chunks;
 ghost use Rattle.vx_rules.specs.Chunks.{chosen, only_inner};
@@ -18,8 +19,32 @@ pub struct Candidate {
 }
 
 impl SymHeap {
+    /// Adds the chunk at a place, if it is of a resource and has identical arguments, or others.
+    fn add_at(
+        &self,
+        identical: bool,
+        resource: &Resource,
+        arguments: &[Rc<Term>],
+        number: usize,
+        found: &mut Vec<Candidate>,
+    ) -> Result<(), AllocError>
+        ensures { OnOk result ((rest : List ℕ) → candidates_of found.new.items ++ picked identical (key resource.now arguments.now) (heap self.now) rest ≡ candidates_of found.old.items ++ picked identical (key resource.now arguments.now) (heap self.now) (number ∷ rest)) }
+    {
+        match self.chunks.get(number) {
+            Some(chunk) => {
+                if !chunk.is_chosen(identical, resource, arguments) {
+                    return Ok(());
+                }
+                let chunk = chunk.clone()?;
+                found.push(Candidate { number, chunk })?;
+                Ok(())
+            }
+            None => Ok(()),
+        }
+    }
+
     /// Adds a resource's chunks with identical arguments, or those with others.
-    fn add_chosen(
+    pub(crate) fn add_chosen(
         &self,
         identical: bool,
         resource: &Resource,
@@ -28,11 +53,8 @@ impl SymHeap {
     ) -> Result<(), AllocError>
         ensures { OnOk result (candidates_of found.new.items ≡ candidates_of found.old.items ++ chosen identical (key resource.now arguments.now) 0 (heap self.now)) }
     {
-        for (number, chunk) in self.chunks.iter().enumerate() {
-            if chunk.is_chosen(identical, resource, arguments) {
-                let chunk = chunk.clone()?;
-                found.push(Candidate { number, chunk })?;
-            }
+        for number in self.rows.under(resource.row()) {
+            self.add_at(identical, resource, arguments, *number, found)?;
         }
         Ok(())
     }

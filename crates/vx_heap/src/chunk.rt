@@ -2,11 +2,12 @@
 
 ghost use Rattle.std.specs.Prelude.{◌≡◌, ◌&&◌, IfOk};
 ghost use Rattle.vx_ast.specs.Syntax.{same_name};
-ghost use Rattle.vx_heap.specs.Views.{chunk as chunk_view, is_field, key, name, terms_of};
+ghost use Rattle.vx_heap.specs.Places.{row_of};
+ghost use Rattle.vx_heap.specs.Views.{chunk as chunk_view, is_field, key, name, terms_of, held_term};
 ghost use Rattle.vx_rules.specs.Chunks.{is_kin, same_arguments};
 ghost use Rattle.vx_terms.specs.Terms.{same_bool};
-ghost use Rattle.vx_terms.specs.Views.{term};
 
+use crate::rows;
 use std::alloc::{AllocError, Global};
 use std::rc::Rc;
 use vx_terms::Term;
@@ -63,6 +64,16 @@ impl Resource {
         })
     }
 
+    /// The row in which its chunks are found.
+    pub(crate) fn row(&self) -> usize
+        ensures { result ≡ row_of (name self.now) }
+    {
+        match self {
+            Resource::Field(x) => rows::row_of(x.as_bytes()),
+            Resource::Predicate(x) => rows::row_of(x.as_bytes()),
+        }
+    }
+
     /// Whether it is the same field or predicate.
     pub fn is_same(&self, other: &Resource) -> bool
         ensures { result ≡ (same_bool (is_field self.now) (is_field other.now) && same_name (name self.now) (name other.now)) }
@@ -112,7 +123,7 @@ impl Chunk {
 
     /// The same chunk with another amount.
     pub fn with_amount(&self, alloc: Global, amount: Rc<Term>) -> Result<Chunk, AllocError>
-        ensures { IfOk result (λ other. chunk_view other ≡ record (chunk_view self.now) { amount = term amount.value }) }
+        ensures { IfOk result (λ other. chunk_view other ≡ record (chunk_view self.now) { amount = held_term amount }) }
     {
         let mut other = self.copy(alloc)?;
         other.amount = amount;
@@ -121,7 +132,7 @@ impl Chunk {
 
     /// The same chunk with another value.
     pub fn with_value(&self, alloc: Global, value: Rc<Term>) -> Result<Chunk, AllocError>
-        ensures { IfOk result (λ other. chunk_view other ≡ record (chunk_view self.now) { value = term value.value }) }
+        ensures { IfOk result (λ other. chunk_view other ≡ record (chunk_view self.now) { value = held_term value }) }
     {
         let mut other = self.copy(alloc)?;
         other.value = value;

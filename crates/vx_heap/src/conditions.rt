@@ -1,10 +1,9 @@
 //! What is wanted of a candidate, as a condition.
 
 ghost use Rattle.std.specs.Prelude.{◌≡◌, IfOk};
-ghost use Rattle.vx_heap.specs.Views.{chunk as chunk_view, terms_of};
+ghost use Rattle.vx_heap.specs.Views.{chunk as chunk_view, terms_of, held_term};
 ghost use Rattle.vx_rules.specs.Chunks as chunks;
 ghost use Rattle.vx_rules.specs.Rules as rules;
-ghost use Rattle.vx_terms.specs.Views.{term};
 
 use crate::Chunk;
 use crate::amounts::positive;
@@ -19,7 +18,7 @@ fn equal_onto(
     ss: &[Rc<Term>],
     ts: &[Rc<Term>],
 ) -> Result<Rc<Term>, AllocError>
-    ensures { IfOk result (λ t. term t.value ≡ chunks.equal_onto (term condition.now.value) (terms_of ss.now) (terms_of ts.now)) }
+    ensures { IfOk result (λ t. held_term t ≡ chunks.equal_onto (held_term condition.now) (terms_of ss.now) (terms_of ts.now)) }
 {
     match ss {
         [] => condition.clone(),
@@ -39,7 +38,7 @@ pub fn equal_arguments(
     ss: &[Rc<Term>],
     ts: &[Rc<Term>],
 ) -> Result<Rc<Term>, AllocError>
-    ensures { IfOk result (λ t. term t.value ≡ chunks.equal_arguments (terms_of ss.now) (terms_of ts.now)) }
+    ensures { IfOk result (λ t. held_term t ≡ chunks.equal_arguments (terms_of ss.now) (terms_of ts.now)) }
 {
     match ss {
         [] => make::boolean(alloc, true),
@@ -56,7 +55,7 @@ pub fn holds_some(
     arguments: &[Rc<Term>],
     chunk: &Chunk,
 ) -> Result<Rc<Term>, AllocError>
-    ensures { IfOk result (λ t. term t.value ≡ rules.holds_some (terms_of arguments.now) (chunk_view chunk.now)) }
+    ensures { IfOk result (λ t. held_term t ≡ rules.holds_some (terms_of arguments.now) (chunk_view chunk.now)) }
 {
     let same = equal_arguments(alloc, &chunk.arguments, arguments)?;
     make::and(alloc, &same, &positive(alloc, &chunk.amount)?)
@@ -69,7 +68,7 @@ pub fn holds_amount(
     arguments: &[Rc<Term>],
     chunk: &Chunk,
 ) -> Result<Rc<Term>, AllocError>
-    ensures { IfOk result (λ t. term t.value ≡ rules.holds_amount (term amount.now.value) (terms_of arguments.now) (chunk_view chunk.now)) }
+    ensures { IfOk result (λ t. held_term t ≡ rules.holds_amount (held_term amount.now) (terms_of arguments.now) (chunk_view chunk.now)) }
 {
     let same = equal_arguments(alloc, &chunk.arguments, arguments)?;
     make::and(alloc, &same, &numbers::le(alloc, amount, &chunk.amount)?)

@@ -1,12 +1,11 @@
 //! The facts that the put of a chunk gives.
 
 ghost use Rattle.std.specs.Prelude.{◌≡◌, ◌++◌, ◌∷◌, [], ℕ, IfOk, OnOk};
-ghost use Rattle.vx_heap.specs.Views.{chunk as chunk_view, heap, terms_of};
+ghost use Rattle.vx_heap.specs.Views.{chunk as chunk_view, heap, terms_of, held_term};
 ghost use Rattle.vx_rules.specs.Chunks as chunks;
 ghost use Rattle.vx_rules.specs.Chunks.{apart, bounding};
 ghost use Rattle.vx_terms.specs.Build as built;
 ghost use Rattle.vx_terms.specs.Build.{whole_amount};
-ghost use Rattle.vx_terms.specs.Views.{term};
 
 use crate::amounts::{at_most_whole, positive};
 use crate::{Chunk, SymHeap};
@@ -16,7 +15,7 @@ use vx_terms::{Term, arithmetic, make, numbers, snapshots};
 
 /// The value of two chunks that are merged.
 fn merged_value(alloc: Global, new: &Chunk, old: &Chunk) -> Result<Rc<Term>, AllocError>
-    ensures { IfOk result (λ t. term t.value ≡ (chunks.merged (chunk_view new.now) (chunk_view old.now)).value) }
+    ensures { IfOk result (λ t. held_term t ≡ (chunks.merged (chunk_view new.now) (chunk_view old.now)).value) }
 {
     make::ite(
         alloc,
@@ -40,7 +39,7 @@ pub fn merged(alloc: Global, new: &Chunk, old: &Chunk) -> Result<Chunk, AllocErr
 
 /// That two chunks of positive amounts have one value.
 fn agree(alloc: Global, new: &Chunk, old: &Chunk) -> Result<Rc<Term>, AllocError>
-    ensures { IfOk result (λ t. term t.value ≡ chunks.agree (chunk_view new.now) (chunk_view old.now)) }
+    ensures { IfOk result (λ t. held_term t ≡ chunks.agree (chunk_view new.now) (chunk_view old.now)) }
 {
     let held = positive(alloc, &old.amount)?;
     let both = make::and(alloc, &held, &positive(alloc, &new.amount)?)?;
@@ -49,7 +48,7 @@ fn agree(alloc: Global, new: &Chunk, old: &Chunk) -> Result<Rc<Term>, AllocError
 
 /// A chunk's first argument, which is a location's receiver.
 pub(crate) fn first_argument(alloc: Global, chunk: &Chunk) -> Result<Rc<Term>, AllocError>
-    ensures { IfOk result (λ t. term t.value ≡ chunks.first_argument (chunk_view chunk.now).arguments) }
+    ensures { IfOk result (λ t. held_term t ≡ chunks.first_argument (chunk_view chunk.now).arguments) }
 {
     match &*chunk.arguments {
         [t, ..] => t.clone(),
@@ -59,7 +58,7 @@ pub(crate) fn first_argument(alloc: Global, chunk: &Chunk) -> Result<Rc<Term>, A
 
 /// That the receiver of a positive amount isn't null.
 fn is_not_null(alloc: Global, new: &Chunk) -> Result<Rc<Term>, AllocError>
-    ensures { IfOk result (λ t. term t.value ≡ chunks.is_not_null (chunk_view new.now)) }
+    ensures { IfOk result (λ t. held_term t ≡ chunks.is_not_null (chunk_view new.now)) }
 {
     let receiver = first_argument(alloc, new)?;
     let is_null = numbers::eq(alloc, &receiver, &snapshots::null(alloc)?)?;
@@ -69,7 +68,7 @@ fn is_not_null(alloc: Global, new: &Chunk) -> Result<Rc<Term>, AllocError>
 
 /// That two chunks of one receiver are the whole at most.
 fn apart_from(alloc: Global, whole: &Chunk, other: &Chunk) -> Result<Rc<Term>, AllocError>
-    ensures { IfOk result (λ t. term t.value ≡ built.implies (built.equals (chunks.first_argument (chunk_view other.now).arguments) (chunks.first_argument (chunk_view whole.now).arguments)) (built.less_equal (built.add (term whole.now.amount.value) (term other.now.amount.value)) whole_amount)) }
+    ensures { IfOk result (λ t. held_term t ≡ built.implies (built.equals (chunks.first_argument (chunk_view other.now).arguments) (chunks.first_argument (chunk_view whole.now).arguments)) (built.less_equal (built.add (held_term whole.now.amount) (held_term other.now.amount)) whole_amount)) }
 {
     let receiver = first_argument(alloc, other)?;
     let same = numbers::eq(alloc, &receiver, &first_argument(alloc, whole)?)?;
@@ -86,17 +85,17 @@ fn add_apart(
 ) -> Result<(), AllocError>
     ensures { OnOk result (terms_of facts.new.items ≡ terms_of facts.old.items ++ apart (chunk_view whole.now) (heap held.now)) }
 {
-    for other in &held.chunks {
-        if other.is_chosen(false, &whole.resource, &whole.arguments) {
-            facts.push(apart_from(alloc, whole, other)?)?;
-        }
+    let mut others = Vec::new(alloc);
+    held.add_chosen(false, &whole.resource, &whole.arguments, &mut others)?;
+    for other in &others {
+        facts.push(apart_from(alloc, whole, &other.chunk)?)?;
     }
     Ok(())
 }
 
 /// What a put of a field's chunk gives first, of its own amount alone.
 fn own_facts(alloc: Global, bounded: bool, new: &Chunk) -> Result<Vec<Rc<Term>>, AllocError>
-    ensures { IfOk result (λ facts. terms_of facts.items ≡ chunks.is_not_null (chunk_view new.now) ∷ bounding bounded (built.less_equal (term new.now.amount.value) whole_amount ∷ [])) }
+    ensures { IfOk result (λ facts. terms_of facts.items ≡ chunks.is_not_null (chunk_view new.now) ∷ bounding bounded (built.less_equal (held_term new.now.amount) whole_amount ∷ [])) }
 {
     let mut facts = Vec::new(alloc);
     facts.push(is_not_null(alloc, new)?)?;

@@ -7,8 +7,10 @@ mod chunk;
 mod conditions;
 mod facts;
 mod heap;
+mod held;
 mod put;
 mod references;
+mod rows;
 
 pub use amounts::{not_negative, positive, whole, zero};
 pub use candidates::Candidate;

@@ -2,11 +2,10 @@
 
 ghost use Rattle.std.specs.Prelude.{◌≡◌, ◌<◌, [], ℕ, IfOk, OnOk, OnErr, length, slice_set};
 ghost use Rattle.vx_heap.specs.Heaps.{facts_of, over, standing, Puts};
-ghost use Rattle.vx_heap.specs.Views.{candidate, chunk as chunk_view, heap, terms_of};
+ghost use Rattle.vx_heap.specs.Views.{candidate, chunk as chunk_view, heap, terms_of, held_term};
 ghost use Rattle.vx_rules.specs.Chunks as chunks;
 ghost use Rattle.vx_rules.specs.Chunks.{reduced, without};
 ghost use Rattle.vx_rules.specs.States.{State, with_facts};
-ghost use Rattle.vx_terms.specs.Views.{term};
 
 use crate::amounts::is_zero;
 use crate::facts::{facts_agree, facts_beside, facts_merged, merged};
@@ -79,7 +78,7 @@ impl SymHeap {
         let old = self.chunk(at);
         let whole = merged(alloc, &new, old)?;
         let facts = merging(alloc, bounded, &new, old, &whole, self)?;
-        self.replace(at, Rc::new(alloc, whole)?);
+        self.replace(alloc, at, Rc::new(alloc, whole)?)?;
         Ok(facts)
     }
 
@@ -103,12 +102,14 @@ impl SymHeap {
     }
 
     /// Another chunk in the place of a candidate; nothing where there is no such place.
-    fn put_back(&mut self, number: usize, chunk: Rc<Chunk>)
-        ensures { heap self.new ≡ slice_set (heap self.old) number (chunk_view chunk.value) }
+    fn put_back(&mut self, alloc: Global, number: usize, chunk: Rc<Chunk>) -> Result<(), AllocError>
+        ensures ok { OnOk result (heap self.new ≡ slice_set (heap self.old) number (chunk_view chunk.value)) }
+        ensures err { OnErr result (heap self.new ≡ heap self.old) }
     {
         if number < self.len() {
-            self.replace(number, chunk);
+            return self.replace(alloc, number, chunk);
         }
+        Ok(())
     }
 
     /// A candidate is gone; nothing where there is no such place.
@@ -127,7 +128,7 @@ impl SymHeap {
         from: &Candidate,
         amount: &Rc<Term>,
     ) -> Result<(), AllocError>
-        ensures ok { OnOk result (heap self.new ≡ reduced (candidate from.now) (term amount.now.value) (heap self.old)) }
+        ensures ok { OnOk result (heap self.new ≡ reduced (candidate from.now) (held_term amount.now) (heap self.old)) }
         ensures err { OnErr result (heap self.new ≡ heap self.old) }
     {
         let rest = arithmetic::sub(alloc, &from.chunk.amount, amount)?;
@@ -136,8 +137,7 @@ impl SymHeap {
             return Ok(());
         }
         let chunk = Rc::new(alloc, from.chunk.with_amount(alloc, rest)?)?;
-        self.put_back(from.number, chunk);
-        Ok(())
+        self.put_back(alloc, from.number, chunk)
     }
 
     /// A candidate gets another value.
@@ -147,11 +147,10 @@ impl SymHeap {
         to: &Candidate,
         value: Rc<Term>,
     ) -> Result<(), AllocError>
-        ensures ok { OnOk result (heap self.new ≡ slice_set (heap self.old) to.now.number (record (candidate to.now).chunk { value = term value.value })) }
+        ensures ok { OnOk result (heap self.new ≡ slice_set (heap self.old) to.now.number (record (candidate to.now).chunk { value = held_term value })) }
         ensures err { OnErr result (heap self.new ≡ heap self.old) }
     {
         let chunk = Rc::new(alloc, to.chunk.with_value(alloc, value)?)?;
-        self.put_back(to.number, chunk);
-        Ok(())
+        self.put_back(alloc, to.number, chunk)
     }
 }

@@ -1,7 +1,7 @@
 //! What a reference that is new differs from.
 
 ghost use Rattle.std.specs.Prelude.{◌≡◌, ◌++◌, ◌∷◌, [], if◌then◌else◌, List, IfOk, OnOk};
-ghost use Rattle.vx_heap.specs.Views.{chunk as chunk_view, heap, terms_of};
+ghost use Rattle.vx_heap.specs.Views.{chunk as chunk_view, heap, terms_of, held_term};
 ghost use Rattle.vx_rules.specs.Chunks as chunks;
 ghost use Rattle.vx_rules.specs.Members as members;
 ghost use Rattle.vx_terms.specs.Build as built;
@@ -26,7 +26,7 @@ fn is_ref(t: &Term) -> Result<bool, AllocError>
 
 /// That a reference isn't another one.
 pub fn unlike(alloc: Global, x: &Rc<Term>, t: &Rc<Term>) -> Result<Rc<Term>, AllocError>
-    ensures { IfOk result (λ r. term r.value ≡ members.unlike (term x.now.value) (term t.now.value)) }
+    ensures { IfOk result (λ r. held_term r ≡ members.unlike (held_term x.now) (held_term t.now)) }
 {
     let same = numbers::eq(alloc, x, t)?;
     make::not(alloc, &same)
@@ -39,7 +39,7 @@ pub fn add_unlike(
     t: &Rc<Term>,
     facts: &mut Vec<Rc<Term>>,
 ) -> Result<(), AllocError>
-    ensures { OnOk result ((rest : List written.Term) → terms_of facts.new.items ++ rest ≡ terms_of facts.old.items ++ (if members.is_ref (term t.now.value) then members.unlike (term x.now.value) (term t.now.value) ∷ rest else rest)) }
+    ensures { OnOk result ((rest : List written.Term) → terms_of facts.new.items ++ rest ≡ terms_of facts.old.items ++ (if members.is_ref (held_term t.now) then members.unlike (held_term x.now) (held_term t.now) ∷ rest else rest)) }
 {
     if !is_ref(t)? {
         return Ok(());
@@ -55,7 +55,7 @@ fn unlike_receiver(
     held: &Rc<Term>,
     chunk: &Chunk,
 ) -> Result<Rc<Term>, AllocError>
-    ensures { IfOk result (λ r. term r.value ≡ built.implies (term held.now.value) (members.unlike (term x.now.value) (chunks.first_argument (chunk_view chunk.now).arguments))) }
+    ensures { IfOk result (λ r. held_term r ≡ built.implies (held_term held.now) (members.unlike (held_term x.now) (chunks.first_argument (chunk_view chunk.now).arguments))) }
 {
     let receiver = first_argument(alloc, chunk)?;
     make::implies(alloc, held, &unlike(alloc, x, &receiver)?)
@@ -69,7 +69,7 @@ fn add_unlike_value(
     t: &Rc<Term>,
     facts: &mut Vec<Rc<Term>>,
 ) -> Result<(), AllocError>
-    ensures { OnOk result ((rest : List written.Term) → terms_of facts.new.items ++ rest ≡ terms_of facts.old.items ++ ((if members.is_ref (term t.now.value) then built.implies (term held.now.value) (members.unlike (term x.now.value) (term t.now.value)) ∷ [] else []) ++ rest)) }
+    ensures { OnOk result ((rest : List written.Term) → terms_of facts.new.items ++ rest ≡ terms_of facts.old.items ++ ((if members.is_ref (held_term t.now) then built.implies (held_term held.now) (members.unlike (held_term x.now) (held_term t.now)) ∷ [] else []) ++ rest)) }
 {
     if !is_ref(t)? {
         return Ok(());
@@ -86,7 +86,7 @@ fn add_unlike_chunk(
     chunk: &Chunk,
     facts: &mut Vec<Rc<Term>>,
 ) -> Result<(), AllocError>
-    ensures { OnOk result ((rest : List written.Term) → terms_of facts.new.items ++ rest ≡ terms_of facts.old.items ++ (members.unlike_chunk (term x.now.value) (chunk_view chunk.now) ++ rest)) }
+    ensures { OnOk result ((rest : List written.Term) → terms_of facts.new.items ++ rest ≡ terms_of facts.old.items ++ (members.unlike_chunk (held_term x.now) (chunk_view chunk.now) ++ rest)) }
 {
     let held = positive(alloc, &chunk.amount)?;
     facts.push(unlike_receiver(alloc, x, &held, chunk)?)?;
@@ -100,7 +100,7 @@ fn add_unlike_held(
     chunk: &Chunk,
     facts: &mut Vec<Rc<Term>>,
 ) -> Result<(), AllocError>
-    ensures { OnOk result ((rest : List written.Term) → terms_of facts.new.items ++ rest ≡ terms_of facts.old.items ++ (if (chunk_view chunk.now).is_field then members.unlike_chunk (term x.now.value) (chunk_view chunk.now) ++ rest else rest)) }
+    ensures { OnOk result ((rest : List written.Term) → terms_of facts.new.items ++ rest ≡ terms_of facts.old.items ++ (if (chunk_view chunk.now).is_field then members.unlike_chunk (held_term x.now) (chunk_view chunk.now) ++ rest else rest)) }
 {
     match &chunk.resource {
         Resource::Field(_) => add_unlike_chunk(alloc, x, chunk, facts),
@@ -116,7 +116,7 @@ impl SymHeap {
         x: &Rc<Term>,
         facts: &mut Vec<Rc<Term>>,
     ) -> Result<(), AllocError>
-        ensures { OnOk result ((rest : List written.Term) → terms_of facts.new.items ++ rest ≡ terms_of facts.old.items ++ (members.unlike_held (term x.now.value) (heap self.now) ++ rest)) }
+        ensures { OnOk result ((rest : List written.Term) → terms_of facts.new.items ++ rest ≡ terms_of facts.old.items ++ (members.unlike_held (held_term x.now) (heap self.now) ++ rest)) }
     {
         for chunk in &self.chunks {
             add_unlike_held(alloc, x, chunk, facts)?;

@@ -9,7 +9,8 @@ ghost use Rattle.vx_rules.specs.Trees as tree;
 ghost use Rattle.vx_stack.specs.Stack.{giving, giving_all, going, frame_tree, side_tree, Stepped, with_taken};
 ghost use Rattle.vx_stack.specs.Values.{values as values_of};
 ghost use Rattle.vx_states.specs.SymStates.{state as state_of};
-ghost use Rattle.vx_terms.specs.Views.{sort as sort_view, term};
+ghost use Rattle.vx_heap.specs.Views.{held_term};
+ghost use Rattle.vx_terms.specs.Views.{sort as sort_view};
 ghost use Rattle.vx_resolved.specs.Settled.{settled};
 ghost use Rattle.vx_machine.specs.Runs.{is_impossible, is_over, Turned, RunsTo};
 
@@ -112,7 +113,7 @@ fn step_hole(
     state: SymState,
     conts: &mut Conts,
 ) -> Result<Move, AllocError>
-    ensures { IfOk result (λ m. Stepped (settled program.now) (giving (settled program.now) hole.now (term value.value) (state_of state)) conts.old.sides.items m conts.new.sides.items) }
+    ensures { IfOk result (λ m. Stepped (settled program.now) (giving (settled program.now) hole.now (held_term value) (state_of state)) conts.old.sides.items m conts.new.sides.items) }
 {
     match hole {
         Hole::Finish => Ok(Move::End),
@@ -143,7 +144,7 @@ fn step_taken(
     state: SymState,
     conts: &mut Conts,
 ) -> Result<Move, AllocError>
-    ensures { IfOk result (λ m. Stepped (settled program.now) (with_taken (settled program.now) taken.now (term value.value) false (state_of state)) conts.old.sides.items m conts.new.sides.items) }
+    ensures { IfOk result (λ m. Stepped (settled program.now) (with_taken (settled program.now) taken.now (held_term value) false (state_of state)) conts.old.sides.items m conts.new.sides.items) }
 {
     match taken {
         Taken::Value(hole) => step_hole(alloc, program, value, hole, state, conts),
@@ -179,7 +180,7 @@ fn step_after(
     state: SymState,
     conts: &mut Conts,
 ) -> Result<Move, AllocError>
-    ensures { IfOk result (λ m. Stepped (settled program.now) (tree.Step (giving_all (settled program.now) row.now.value (term first.now.value ∷ values_of values.value) (state_of state))) conts.old.sides.items m conts.new.sides.items) }
+    ensures { IfOk result (λ m. Stepped (settled program.now) (tree.Step (giving_all (settled program.now) row.now.value (held_term first.now ∷ values_of values.value) (state_of state))) conts.old.sides.items m conts.new.sides.items) }
 {
     let all = Rc::new(alloc, Values::More(first.clone()?, values))?;
     conts.give_all(program, all, row, state)
@@ -197,7 +198,7 @@ fn step_unfold(
     state: SymState,
     conts: &mut Conts,
 ) -> Result<Move, AllocError>
-    ensures { IfOk result (λ m. Stepped (settled program.now) (unfolded (settled program.now) (rules (settled program.now)) place (string_bytes predicate.now.value) (values_of arguments.now.value) (term amount.now.value) (state_of state) (going (settled program.now) next.now.value)) conts.old.sides.items m conts.new.sides.items) }
+    ensures { IfOk result (λ m. Stepped (settled program.now) (unfolded (settled program.now) (rules (settled program.now)) place (string_bytes predicate.now.value) (values_of arguments.now.value) (held_term amount.now) (state_of state) (going (settled program.now) next.now.value)) conts.old.sides.items m conts.new.sides.items) }
 {
     let instance = vx_exec::instance_of(alloc, place, predicate, amount, arguments)?;
     vx_probes::unfold(alloc, program, instance, next, state, conts)

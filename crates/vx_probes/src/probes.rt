@@ -6,12 +6,12 @@ ghost use Rattle.vx_rules.specs.Codes.{code as code_of};
 ghost use Rattle.vx_rules.specs.Rules as rule;
 ghost use Rattle.vx_ast.specs.Syntax.{Program};
 ghost use Rattle.vx_stack.specs.Stack.{finding, frame_tree, giving, going, side_tree, taking_none, wanted, with_taken, Stepped};
-ghost use Rattle.vx_heap.specs.Views.{candidate, chunk as chunk_view};
+ghost use Rattle.vx_heap.specs.Views.{candidate, chunk as chunk_view, held_term};
 ghost use Rattle.vx_rules.specs.Chunks.{reduced};
 ghost use Rattle.vx_rules.specs.States as states;
 ghost use Rattle.vx_rules.specs.States.{State};
 ghost use Rattle.vx_states.specs.SymStates.{state as state_of};
-ghost use Rattle.vx_terms.specs.Views.{sort as sort_of, term};
+ghost use Rattle.vx_terms.specs.Views.{sort as sort_of};
 
 use std::alloc::{AllocError, Global};
 use std::rc::Rc;
@@ -95,7 +95,7 @@ fn take_none(
     state: SymState,
     conts: &mut Conts,
 ) -> Result<Move, AllocError>
-    ensures { IfOk result (λ m. Stepped (settled program.now) (taking_none (term amount.now.value) (sort_of of.now) search.now.place (code_of search.now.code) (state_of state) (λ v s. with_taken (settled program.now) after.now.value v false s)) conts.old.sides.items m conts.new.sides.items) }
+    ensures { IfOk result (λ m. Stepped (settled program.now) (taking_none (held_term amount.now) (sort_of of.now) search.now.place (code_of search.now.code) (state_of state) (λ v s. with_taken (settled program.now) after.now.value v false s)) conts.old.sides.items m conts.new.sides.items) }
 {
     if state.is_quiet() {
         return Ok(Move::End);
@@ -142,7 +142,7 @@ fn taken(
     after: &Rc<Taken>,
     state: &SymState,
 ) -> Result<Side, AllocError>
-    ensures { IfOk result (λ side. (p : Program) → side_tree p side ≡ with_taken p after.now.value (candidate from.now).chunk.value (rule.leads_inside (candidate from.now).chunk) (states.with_heap (reduced (candidate from.now) (term amount.now.value) (state_of state.now).heap) (state_of state.now))) }
+    ensures { IfOk result (λ side. (p : Program) → side_tree p side ≡ with_taken p after.now.value (candidate from.now).chunk.value (rule.leads_inside (candidate from.now).chunk) (states.with_heap (reduced (candidate from.now) (held_term amount.now) (state_of state.now).heap) (state_of state.now))) }
 {
     let mut state = state.copy(alloc)?;
     state.take(alloc, from, amount)?;
@@ -162,7 +162,7 @@ pub fn take_from(
     state: SymState,
     conts: &mut Conts,
 ) -> Result<Move, AllocError>
-    ensures { IfOk result (λ m. Stepped (settled program.now) (finding search.now.value number (state_of state) (λ c. with_taken (settled program.now) after.now.value c.chunk.value (rule.leads_inside c.chunk) (states.with_heap (reduced c (term amount.now.value) (state_of state).heap) (state_of state))) (taking_none (term amount.now.value) (sort_of of.now) search.now.value.place (code_of search.now.value.code) (state_of state) (λ v s. with_taken (settled program.now) after.now.value v false s))) conts.old.sides.items m conts.new.sides.items) }
+    ensures { IfOk result (λ m. Stepped (settled program.now) (finding search.now.value number (state_of state) (λ c. with_taken (settled program.now) after.now.value c.chunk.value (rule.leads_inside c.chunk) (states.with_heap (reduced c (held_term amount.now) (state_of state).heap) (state_of state))) (taking_none (held_term amount.now) (sort_of of.now) search.now.value.place (code_of search.now.value.code) (state_of state) (λ v s. with_taken (settled program.now) after.now.value v false s))) conts.old.sides.items m conts.new.sides.items) }
 {
     match search.candidates.get(number) {
         None => take_none(alloc, program, search, amount, of, after, state, conts),
@@ -188,7 +188,7 @@ fn with_value(
     next: &Rc<Next>,
     state: &SymState,
 ) -> Result<Side, AllocError>
-    ensures { IfOk result (λ side. (p : Program) → side_tree p side ≡ going p next.now.value (rule.written (candidate to.now) (term value.now.value) (state_of state.now))) }
+    ensures { IfOk result (λ side. (p : Program) → side_tree p side ≡ going p next.now.value (rule.written (candidate to.now) (held_term value.now) (state_of state.now))) }
 {
     let mut state = state.copy(alloc)?;
     state.write(alloc, to, value.clone()?)?;
@@ -207,7 +207,7 @@ pub fn write_to(
     state: SymState,
     conts: &mut Conts,
 ) -> Result<Move, AllocError>
-    ensures { IfOk result (λ m. Stepped (settled program.now) (finding search.now.value number (state_of state) (λ c. going (settled program.now) next.now.value (rule.written c (term value.now.value) (state_of state))) (rule.never search.now.value.place (code_of search.now.value.code) (state_of state))) conts.old.sides.items m conts.new.sides.items) }
+    ensures { IfOk result (λ m. Stepped (settled program.now) (finding search.now.value number (state_of state) (λ c. going (settled program.now) next.now.value (rule.written c (held_term value.now) (state_of state))) (rule.never search.now.value.place (code_of search.now.value.code) (state_of state))) conts.old.sides.items m conts.new.sides.items) }
 {
     match search.candidates.get(number) {
         None => conts.never(alloc, program, search.place, search.code, state),

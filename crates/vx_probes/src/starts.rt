@@ -1,7 +1,7 @@
 //! The first probe of a location: its candidates are those of the heap as it is.
 
 ghost use Rattle.std.specs.Prelude.{◌≡◌, [], ◌∷◌, Some, None, Option, IfOk, string_bytes};
-ghost use Rattle.vx_heap.specs.Views.{candidates_of, heap as heap_of, key, terms_of};
+ghost use Rattle.vx_heap.specs.Views.{candidates_of, heap as heap_of, key, terms_of, held_term};
 ghost use Rattle.vx_resolved.specs.Settled.{settled};
 ghost use Rattle.vx_rules.specs.Chunks as chunks;
 ghost use Rattle.vx_rules.specs.Chunks.{field_key};
@@ -12,7 +12,7 @@ ghost use Rattle.vx_rules.specs.Trees.{PermissionCode};
 ghost use Rattle.vx_stack.specs.Stack.{giving, going, take_instance as taking_instance, take_location as taking_location, with_taken, Stepped};
 ghost use Rattle.vx_stack.specs.Values.{values};
 ghost use Rattle.vx_states.specs.SymStates.{optional_term, state as state_of};
-ghost use Rattle.vx_terms.specs.Views.{sort as sort_of, term};
+ghost use Rattle.vx_terms.specs.Views.{sort as sort_of};
 
 use crate::probes::{read_from, take_from, write_to};
 use std::alloc::{AllocError, Global};
@@ -65,9 +65,9 @@ fn search_field(
 ) -> Result<Rc<Search>, AllocError>
     ensures place { IfOk result (λ s. s.value.place ≡ place) }
     ensures code { IfOk result (λ s. code_of s.value.code ≡ PermissionCode) }
-    ensures arguments { IfOk result (λ s. terms_of s.value.arguments.items ≡ term receiver.value ∷ []) }
+    ensures arguments { IfOk result (λ s. terms_of s.value.arguments.items ≡ held_term receiver ∷ []) }
     ensures amount { IfOk result (λ s. optional_term s.value.amount ≡ optional_term amount) }
-    ensures candidates { IfOk result (λ s. candidates_of s.value.candidates.items ≡ chunks.candidates (field_key (string_bytes field.now.value) (term receiver.value)) (heap_of heap.now)) }
+    ensures candidates { IfOk result (λ s. candidates_of s.value.candidates.items ≡ chunks.candidates (field_key (string_bytes field.now.value) (held_term receiver)) (heap_of heap.now)) }
 {
     let mut arguments = Vec::new(alloc);
     arguments.push(receiver)?;
@@ -94,7 +94,7 @@ pub fn read_field(
     state: SymState,
     conts: &mut Conts,
 ) -> Result<Move, AllocError>
-    ensures { IfOk result (λ m. Stepped (settled program.now) (rule.read_field (string_bytes field.now.value) (term receiver.value) place (state_of state) (giving (settled program.now) hole.now.value)) conts.old.sides.items m conts.new.sides.items) }
+    ensures { IfOk result (λ m. Stepped (settled program.now) (rule.read_field (string_bytes field.now.value) (held_term receiver) place (state_of state) (giving (settled program.now) hole.now.value)) conts.old.sides.items m conts.new.sides.items) }
 {
     let wanted = search_field(alloc, place, field, receiver, None, &state.heap)?;
     read_from(alloc, program, &wanted, 0, hole, state, conts)
@@ -112,7 +112,7 @@ pub fn write_field(
     state: SymState,
     conts: &mut Conts,
 ) -> Result<Move, AllocError>
-    ensures { IfOk result (λ m. Stepped (settled program.now) (rule.write_field (string_bytes field.now.value) (term receiver.value) (term value.now.value) place (state_of state) (going (settled program.now) next.now.value)) conts.old.sides.items m conts.new.sides.items) }
+    ensures { IfOk result (λ m. Stepped (settled program.now) (rule.write_field (string_bytes field.now.value) (held_term receiver) (held_term value.now) place (state_of state) (going (settled program.now) next.now.value)) conts.old.sides.items m conts.new.sides.items) }
 {
     let all = Some(whole(alloc)?);
     let wanted = search_field(alloc, place, field, receiver, all, &state.heap)?;
@@ -133,7 +133,7 @@ fn take(
     state: SymState,
     conts: &mut Conts,
 ) -> Result<Move, AllocError>
-    ensures { IfOk result (λ m. Stepped (settled program.now) (rule.take_chunk (key resource.now arguments.items) (term amount.now.value) (sort_of of.now) place (code_of code) (state_of state) (λ k s. with_taken (settled program.now) after k.value (rule.leads_inside k) s)) conts.old.sides.items m conts.new.sides.items) }
+    ensures { IfOk result (λ m. Stepped (settled program.now) (rule.take_chunk (key resource.now arguments.items) (held_term amount.now) (sort_of of.now) place (code_of code) (state_of state) (λ k s. with_taken (settled program.now) after k.value (rule.leads_inside k) s)) conts.old.sides.items m conts.new.sides.items) }
 {
     let all = Some(amount.clone()?);
     let wanted = search(alloc, place, code, resource, arguments, all, &state.heap)?;
@@ -152,7 +152,7 @@ pub fn take_location(
     state: SymState,
     conts: &mut Conts,
 ) -> Result<Move, AllocError>
-    ensures { IfOk result (λ m. Stepped (settled program.now) (taking_location (settled program.now) location.now.place (string_bytes location.now.field.value) (term location.now.receiver.value) (term location.now.amount.value) (code_of code) (heap_of heap.now.value) (state_of state) (giving (settled program.now) hole.now.value)) conts.old.sides.items m conts.new.sides.items) }
+    ensures { IfOk result (λ m. Stepped (settled program.now) (taking_location (settled program.now) location.now.place (string_bytes location.now.field.value) (held_term location.now.receiver) (held_term location.now.amount) (code_of code) (heap_of heap.now.value) (state_of state) (giving (settled program.now) hole.now.value)) conts.old.sides.items m conts.new.sides.items) }
 {
     let place = state.placed(location.place);
     let mut state = state;
@@ -188,7 +188,7 @@ pub fn take_instance(
     state: SymState,
     conts: &mut Conts,
 ) -> Result<Move, AllocError>
-    ensures { IfOk result (λ m. Stepped (settled program.now) (taking_instance (settled program.now) instance.now.place (string_bytes instance.now.predicate.value) (values instance.now.arguments.value) (term instance.now.amount.value) (code_of code) (heap_of heap.now.value) (state_of state) (giving (settled program.now) hole.now.value)) conts.old.sides.items m conts.new.sides.items) }
+    ensures { IfOk result (λ m. Stepped (settled program.now) (taking_instance (settled program.now) instance.now.place (string_bytes instance.now.predicate.value) (values instance.now.arguments.value) (held_term instance.now.amount) (code_of code) (heap_of heap.now.value) (state_of state) (giving (settled program.now) hole.now.value)) conts.old.sides.items m conts.new.sides.items) }
 {
     let place = state.placed(instance.place);
     let mut state = state;
@@ -220,7 +220,7 @@ pub fn unfold(
     state: SymState,
     conts: &mut Conts,
 ) -> Result<Move, AllocError>
-    ensures { IfOk result (λ m. Stepped (settled program.now) (rule.unfolded (settled program.now) (rules (settled program.now)) instance.value.place (string_bytes instance.value.predicate.value) (values instance.value.arguments.value) (term instance.value.amount.value) (state_of state) (going (settled program.now) next.now.value)) conts.old.sides.items m conts.new.sides.items) }
+    ensures { IfOk result (λ m. Stepped (settled program.now) (rule.unfolded (settled program.now) (rules (settled program.now)) instance.value.place (string_bytes instance.value.predicate.value) (values instance.value.arguments.value) (held_term instance.value.amount) (state_of state) (going (settled program.now) next.now.value)) conts.old.sides.items m conts.new.sides.items) }
 {
     let place = instance.place;
     let arguments = instance.arguments.to_vec(alloc)?;

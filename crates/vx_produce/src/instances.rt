@@ -1,7 +1,7 @@
 //! The steps of an amount of a predicate's instance that is produced, and of a body that is produced for its instance.
 
 ghost use Rattle.std.specs.Prelude.{◌≡◌, IfOk, Some, string_bytes};
-ghost use Rattle.vx_heap.specs.Views.{chunk as chunk_view};
+ghost use Rattle.vx_heap.specs.Views.{chunk as chunk_view, held_term};
 ghost use Rattle.vx_resolved.specs.Resolved.{assertion, expr, predicate};
 ghost use Rattle.vx_resolved.specs.Settled.{settled};
 ghost use Rattle.vx_rules.specs.Chunks.{instance_key};
@@ -13,7 +13,6 @@ ghost use Rattle.vx_stack.specs.Stack.{body_of, frame_tree, going, putting_insta
 ghost use Rattle.vx_stack.specs.Values.{values};
 ghost use Rattle.vx_states.specs.SymStates.{optional_term, state as state_of};
 ghost use Rattle.vx_terms.specs.Build.{multiply};
-ghost use Rattle.vx_terms.specs.Views.{term};
 
 use crate::locations::scaled;
 use crate::step;
@@ -41,7 +40,7 @@ pub fn step_arguments(
     state: SymState,
     conts: &mut Conts,
 ) -> Result<Move, AllocError>
-    ensures { IfOk result (λ m. Stepped (settled program.now) (rule.eval (settled program.now) (rules (settled program.now)) (expr share.now.value) (state_of state) (λ a s. putting_instance (settled program.now) place (string_bytes predicate.now.value) (values arguments.now.value) (multiply (term x.now.value.scale.value) a) (optional_term x.now.value.snapshot) is_inner s (going (settled program.now) next.now.value))) conts.old.sides.items m conts.new.sides.items) }
+    ensures { IfOk result (λ m. Stepped (settled program.now) (rule.eval (settled program.now) (rules (settled program.now)) (expr share.now.value) (state_of state) (λ a s. putting_instance (settled program.now) place (string_bytes predicate.now.value) (values arguments.now.value) (multiply (held_term x.now.value.scale) a) (optional_term x.now.value.snapshot) is_inner s (going (settled program.now) next.now.value))) conts.old.sides.items m conts.new.sides.items) }
 {
     let held = Produced::Held(
         place,
@@ -63,7 +62,7 @@ fn put_frame(
     is_inner: bool,
     next: &Rc<Next>,
 ) -> Result<Frame, AllocError>
-    ensures { IfOk result (λ f. frame_tree (settled program.now) f ≡ (λ s. tree.Step (going (settled program.now) next.now.value (with_held (settled program.now) (string_bytes instance.predicate.value) (values instance.arguments.value) (term instance.amount.value) (optional_term x.now.value.snapshot) is_inner s)))) }
+    ensures { IfOk result (λ f. frame_tree (settled program.now) f ≡ (λ s. tree.Step (going (settled program.now) next.now.value (with_held (settled program.now) (string_bytes instance.predicate.value) (values instance.arguments.value) (held_term instance.amount) (optional_term x.now.value.snapshot) is_inner s)))) }
 {
     let _program = program;
     let instance = Rc::new(alloc, instance)?;
@@ -85,7 +84,7 @@ pub fn step_held(
     state: SymState,
     conts: &mut Conts,
 ) -> Result<Move, AllocError>
-    ensures { IfOk result (λ m. Stepped (settled program.now) (putting_instance (settled program.now) place (string_bytes predicate.now.value) (values arguments.now.value) (multiply (term x.now.value.scale.value) (term share.now.value)) (optional_term x.now.value.snapshot) is_inner (state_of state) (going (settled program.now) next.now.value)) conts.old.sides.items m conts.new.sides.items) }
+    ensures { IfOk result (λ m. Stepped (settled program.now) (putting_instance (settled program.now) place (string_bytes predicate.now.value) (values arguments.now.value) (multiply (held_term x.now.value.scale) (held_term share.now)) (optional_term x.now.value.snapshot) is_inner (state_of state) (going (settled program.now) next.now.value)) conts.old.sides.items m conts.new.sides.items) }
 {
     let amount = scaled(alloc, x, share)?;
     let allowed = not_negative(alloc, &amount)?;
@@ -107,7 +106,7 @@ pub fn chunk_of(
     snapshot: Rc<Term>,
     is_inner: bool,
 ) -> Result<Chunk, AllocError>
-    ensures { IfOk result (λ c. chunk_view c ≡ record (instance_key (string_bytes instance.now.predicate.value) (values instance.now.arguments.value)) { amount = term instance.now.amount.value; value = term snapshot.value; inner = is_inner }) }
+    ensures { IfOk result (λ c. chunk_view c ≡ record (instance_key (string_bytes instance.now.predicate.value) (values instance.now.arguments.value)) { amount = held_term instance.now.amount; value = held_term snapshot; inner = is_inner }) }
 {
     Ok(Chunk {
         resource: Resource::Predicate(instance.predicate.clone()?),
@@ -130,7 +129,7 @@ pub fn step_put_instance(
     state: SymState,
     conts: &mut Conts,
 ) -> Result<Move, AllocError>
-    ensures { IfOk result (λ m. Stepped (settled program.now) (tree.Step (going (settled program.now) next.now.value (with_held (settled program.now) (string_bytes instance.now.predicate.value) (values instance.now.arguments.value) (term instance.now.amount.value) (optional_term x.now.snapshot) is_inner (state_of state)))) conts.old.sides.items m conts.new.sides.items) }
+    ensures { IfOk result (λ m. Stepped (settled program.now) (tree.Step (going (settled program.now) next.now.value (with_held (settled program.now) (string_bytes instance.now.predicate.value) (values instance.now.arguments.value) (held_term instance.now.amount) (optional_term x.now.snapshot) is_inner (state_of state)))) conts.old.sides.items m conts.new.sides.items) }
 {
     let mut state = state;
     let snapshot = state.produced_snapshot(alloc, &x.snapshot)?;
@@ -162,8 +161,8 @@ fn exchanged(
     instance: &Instance,
     snapshot: &Rc<Term>,
 ) -> Result<Rc<Production>, AllocError>
-    ensures scale { IfOk result (λ x. term x.value.scale.value ≡ term instance.now.amount.value) }
-    ensures snapshot { IfOk result (λ x. optional_term x.value.snapshot ≡ Some (term snapshot.now.value)) }
+    ensures scale { IfOk result (λ x. held_term x.value.scale ≡ held_term instance.now.amount) }
+    ensures snapshot { IfOk result (λ x. optional_term x.value.snapshot ≡ Some (held_term snapshot.now)) }
 {
     let production = Production {
         scale: instance.amount.clone()?,
@@ -185,7 +184,7 @@ fn step_exchanged(
     state: SymState,
     conts: &mut Conts,
 ) -> Result<Move, AllocError>
-    ensures { IfOk result (λ m. Stepped (settled program.now) ((rules (settled program.now)).produce (assertion body.now) (term instance.now.amount.value) (Some (term snapshot.now.value)) (record (rule.entered (states.bind (predicate d.now).parameters (values instance.now.arguments.value)) instance.now.place (state_of state)) { inner = is_inner }) (λ s. going (settled program.now) next.now.value (rule.back (state_of state) s))) conts.old.sides.items m conts.new.sides.items) }
+    ensures { IfOk result (λ m. Stepped (settled program.now) ((rules (settled program.now)).produce (assertion body.now) (held_term instance.now.amount) (Some (held_term snapshot.now)) (record (rule.entered (states.bind (predicate d.now).parameters (values instance.now.arguments.value)) instance.now.place (state_of state)) { inner = is_inner }) (λ s. going (settled program.now) next.now.value (rule.back (state_of state) s))) conts.old.sides.items m conts.new.sides.items) }
 {
     program.keeps_apart();
     vx_depth::rules_read_parts_by_themselves();
@@ -208,7 +207,7 @@ pub fn step_body(
     state: SymState,
     conts: &mut Conts,
 ) -> Result<Move, AllocError>
-    ensures { IfOk result (λ m. Stepped (settled program.now) (body_of (settled program.now) instance.now.value (term snapshot.now.value) is_inner (state_of state) (going (settled program.now) next.now.value)) conts.old.sides.items m conts.new.sides.items) }
+    ensures { IfOk result (λ m. Stepped (settled program.now) (body_of (settled program.now) instance.now.value (held_term snapshot.now) is_inner (state_of state) (going (settled program.now) next.now.value)) conts.old.sides.items m conts.new.sides.items) }
 {
     let Some(d) = program.predicate(&instance.predicate)? else {
         return conts.never(alloc, program, instance.place, Code::Unfold, state);

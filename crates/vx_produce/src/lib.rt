@@ -13,7 +13,7 @@ ghost use Rattle.vx_stack.specs.Stack.{going, produced as produced_of, producing
 ghost use Rattle.vx_rules.specs.States.{with_fact};
 ghost use Rattle.vx_states.specs.SymStates.{optional_term, state as state_of};
 ghost use Rattle.vx_rules.specs.Trees as tree;
-ghost use Rattle.vx_terms.specs.Views.{term};
+ghost use Rattle.vx_heap.specs.Views.{held_term};
 ghost use Rattle.vx_resolved.specs.Settled.{settled};
 
 use crate::instances::step_held;
@@ -30,7 +30,7 @@ use vx_terms::Term;
 
 /// How a left part is produced: with its part of the snapshot.
 fn of_left(alloc: Global, x: &Production) -> Result<Rc<Production>, AllocError>
-    ensures scale { IfOk result (λ r. term r.value.scale.value ≡ term x.now.scale.value) }
+    ensures scale { IfOk result (λ r. held_term r.value.scale ≡ held_term x.now.scale) }
     ensures snapshot { IfOk result (λ r. optional_term r.value.snapshot ≡ rule.left_part (optional_term x.now.snapshot)) }
 {
     let snapshot = left_part(alloc, &x.snapshot)?;
@@ -40,7 +40,7 @@ fn of_left(alloc: Global, x: &Production) -> Result<Rc<Production>, AllocError>
 
 /// How a right part is produced: with its part of the snapshot.
 fn of_right(alloc: Global, x: &Production) -> Result<Rc<Production>, AllocError>
-    ensures scale { IfOk result (λ r. term r.value.scale.value ≡ term x.now.scale.value) }
+    ensures scale { IfOk result (λ r. held_term r.value.scale ≡ held_term x.now.scale) }
     ensures snapshot { IfOk result (λ r. optional_term r.value.snapshot ≡ rule.right_part (optional_term x.now.snapshot)) }
 {
     let snapshot = right_part(alloc, &x.snapshot)?;
@@ -57,7 +57,7 @@ fn parts(
     x: &Production,
     next: &Rc<Next>,
 ) -> Result<Next, AllocError>
-    ensures { IfOk result (λ n. going (settled program.now) n ≡ (λ s. rule.produce (settled program.now) (rules (settled program.now)) (assertion left.now.value) (term x.now.scale.value) (rule.left_part (optional_term x.now.snapshot)) s (λ s1. rule.produce (settled program.now) (rules (settled program.now)) (assertion right.now.value) (term x.now.scale.value) (rule.right_part (optional_term x.now.snapshot)) s1 (going (settled program.now) next.now.value)))) }
+    ensures { IfOk result (λ n. going (settled program.now) n ≡ (λ s. rule.produce (settled program.now) (rules (settled program.now)) (assertion left.now.value) (held_term x.now.scale) (rule.left_part (optional_term x.now.snapshot)) s (λ s1. rule.produce (settled program.now) (rules (settled program.now)) (assertion right.now.value) (held_term x.now.scale) (rule.right_part (optional_term x.now.snapshot)) s1 (going (settled program.now) next.now.value)))) }
 {
     let _program = program;
     let later = of_right(alloc, x)?;
@@ -137,7 +137,7 @@ fn step_fact(
     state: SymState,
     conts: &mut Conts,
 ) -> Result<Move, AllocError>
-    ensures { IfOk result (λ m. Stepped (settled program.now) (tree.Step (going (settled program.now) next.now.value (rule.with_unit (optional_term snapshot.now) (with_fact (term value.value) (state_of state))))) conts.old.sides.items m conts.new.sides.items) }
+    ensures { IfOk result (λ m. Stepped (settled program.now) (tree.Step (going (settled program.now) next.now.value (rule.with_unit (optional_term snapshot.now) (with_fact (held_term value) (state_of state))))) conts.old.sides.items m conts.new.sides.items) }
 {
     let mut state = state;
     state.add_fact(alloc, value)?;
@@ -155,7 +155,7 @@ pub fn step_produced(
     state: SymState,
     conts: &mut Conts,
 ) -> Result<Move, AllocError>
-    ensures { IfOk result (λ m. Stepped (settled program.now) (produced_of (settled program.now) produced.now (going (settled program.now) next.now.value) (term value.value) (state_of state)) conts.old.sides.items m conts.new.sides.items) }
+    ensures { IfOk result (λ m. Stepped (settled program.now) (produced_of (settled program.now) produced.now (going (settled program.now) next.now.value) (held_term value) (state_of state)) conts.old.sides.items m conts.new.sides.items) }
 {
     match produced {
         Produced::Fact(snapshot) => step_fact(alloc, program, value, snapshot, next, state, conts),

@@ -1,7 +1,7 @@
 //! The steps of an amount of a field's location that is produced.
 
 ghost use Rattle.std.specs.Prelude.{◌≡◌, IfOk, string_bytes};
-ghost use Rattle.vx_heap.specs.Views.{chunk as chunk_view};
+ghost use Rattle.vx_heap.specs.Views.{chunk as chunk_view, held_term};
 ghost use Rattle.vx_resolved.specs.Resolved.{expr};
 ghost use Rattle.vx_resolved.specs.Settled.{settled};
 ghost use Rattle.vx_rules.specs.Chunks.{field_key};
@@ -11,7 +11,6 @@ ghost use Rattle.vx_rules.specs.Trees as tree;
 ghost use Rattle.vx_stack.specs.Stack.{frame_tree, going, putting, Stepped, with_location};
 ghost use Rattle.vx_states.specs.SymStates.{optional_term, state as state_of};
 ghost use Rattle.vx_terms.specs.Build.{multiply};
-ghost use Rattle.vx_terms.specs.Views.{term};
 
 use std::alloc::{AllocError, Global};
 use std::rc::Rc;
@@ -25,7 +24,7 @@ use vx_terms::{Term, arithmetic};
 
 /// An amount: a share, by the scale.
 pub fn scaled(alloc: Global, x: &Production, share: &Rc<Term>) -> Result<Rc<Term>, AllocError>
-    ensures { IfOk result (λ t. term t.value ≡ multiply (term x.now.scale.value) (term share.now.value)) }
+    ensures { IfOk result (λ t. held_term t ≡ multiply (held_term x.now.scale) (held_term share.now)) }
 {
     arithmetic::mul(alloc, &x.scale, share)
 }
@@ -44,7 +43,7 @@ pub fn step_share(
     state: SymState,
     conts: &mut Conts,
 ) -> Result<Move, AllocError>
-    ensures { IfOk result (λ m. Stepped (settled program.now) (rule.eval (settled program.now) (rules (settled program.now)) (expr share.now.value) (state_of state) (λ a s. putting (settled program.now) place (string_bytes field.now.value) (term receiver.value) (multiply (term x.now.value.scale.value) a) (optional_term x.now.value.snapshot) is_inner s (going (settled program.now) next.now.value))) conts.old.sides.items m conts.new.sides.items) }
+    ensures { IfOk result (λ m. Stepped (settled program.now) (rule.eval (settled program.now) (rules (settled program.now)) (expr share.now.value) (state_of state) (λ a s. putting (settled program.now) place (string_bytes field.now.value) (held_term receiver) (multiply (held_term x.now.value.scale) a) (optional_term x.now.value.snapshot) is_inner s (going (settled program.now) next.now.value))) conts.old.sides.items m conts.new.sides.items) }
 {
     let amount = Produced::Amount(place, field.clone()?, receiver, x.clone()?, is_inner);
     let hole = Rc::new(alloc, Hole::Produced(amount, next.clone()?))?;
@@ -60,7 +59,7 @@ fn put_frame(
     is_inner: bool,
     next: &Rc<Next>,
 ) -> Result<Frame, AllocError>
-    ensures { IfOk result (λ f. frame_tree (settled program.now) f ≡ (λ s. tree.Step (going (settled program.now) next.now.value (with_location (settled program.now) (string_bytes location.field.value) (term location.receiver.value) (term location.amount.value) (optional_term x.now.value.snapshot) is_inner s)))) }
+    ensures { IfOk result (λ f. frame_tree (settled program.now) f ≡ (λ s. tree.Step (going (settled program.now) next.now.value (with_location (settled program.now) (string_bytes location.field.value) (held_term location.receiver) (held_term location.amount) (optional_term x.now.value.snapshot) is_inner s)))) }
 {
     let _program = program;
     let location = Rc::new(alloc, location)?;
@@ -82,7 +81,7 @@ pub fn step_amount(
     state: SymState,
     conts: &mut Conts,
 ) -> Result<Move, AllocError>
-    ensures { IfOk result (λ m. Stepped (settled program.now) (putting (settled program.now) place (string_bytes field.now.value) (term receiver.now.value) (multiply (term x.now.value.scale.value) (term share.now.value)) (optional_term x.now.value.snapshot) is_inner (state_of state) (going (settled program.now) next.now.value)) conts.old.sides.items m conts.new.sides.items) }
+    ensures { IfOk result (λ m. Stepped (settled program.now) (putting (settled program.now) place (string_bytes field.now.value) (held_term receiver.now) (multiply (held_term x.now.value.scale) (held_term share.now)) (optional_term x.now.value.snapshot) is_inner (state_of state) (going (settled program.now) next.now.value)) conts.old.sides.items m conts.new.sides.items) }
 {
     let amount = scaled(alloc, x, share)?;
     let allowed = not_negative(alloc, &amount)?;
@@ -104,7 +103,7 @@ fn chunk_of(
     value: Rc<Term>,
     is_inner: bool,
 ) -> Result<Chunk, AllocError>
-    ensures { IfOk result (λ c. chunk_view c ≡ record (field_key (string_bytes location.now.field.value) (term location.now.receiver.value)) { amount = term location.now.amount.value; value = term value.value; inner = is_inner }) }
+    ensures { IfOk result (λ c. chunk_view c ≡ record (field_key (string_bytes location.now.field.value) (held_term location.now.receiver)) { amount = held_term location.now.amount; value = held_term value; inner = is_inner }) }
 {
     let mut arguments = Vec::new(alloc);
     arguments.push(location.receiver.clone()?)?;
@@ -129,7 +128,7 @@ pub fn step_put(
     state: SymState,
     conts: &mut Conts,
 ) -> Result<Move, AllocError>
-    ensures { IfOk result (λ m. Stepped (settled program.now) (tree.Step (going (settled program.now) next.now.value (with_location (settled program.now) (string_bytes location.now.field.value) (term location.now.receiver.value) (term location.now.amount.value) (optional_term x.now.snapshot) is_inner (state_of state)))) conts.old.sides.items m conts.new.sides.items) }
+    ensures { IfOk result (λ m. Stepped (settled program.now) (tree.Step (going (settled program.now) next.now.value (with_location (settled program.now) (string_bytes location.now.field.value) (held_term location.now.receiver) (held_term location.now.amount) (optional_term x.now.snapshot) is_inner (state_of state)))) conts.old.sides.items m conts.new.sides.items) }
 {
     let mut state = state;
     let of = field_sort(program, &location.field);

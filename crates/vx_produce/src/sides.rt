@@ -8,7 +8,7 @@ ghost use Rattle.vx_rules.specs.States.{with_branch};
 ghost use Rattle.vx_rules.specs.Trees as tree;
 ghost use Rattle.vx_stack.specs.Stack.{frame_tree, going, producing, Stepped};
 ghost use Rattle.vx_states.specs.SymStates.{optional_term, state as state_of};
-ghost use Rattle.vx_terms.specs.Views.{term};
+ghost use Rattle.vx_heap.specs.Views.{held_term};
 
 use std::alloc::{AllocError, Global};
 use std::rc::Rc;
@@ -60,7 +60,7 @@ fn go_both(
     state: SymState,
     conts: &mut Conts,
 ) -> Result<Move, AllocError>
-    ensures { IfOk result (λ m. Stepped (settled program.now) (tree.Fork (frame_tree (settled program.now) left (with_branch (term condition.value) (state_of state))) (going (settled program.now) next.now.value (rule.with_unit (optional_term x.now.snapshot) (with_branch (term negated.value) (state_of state))))) conts.old.sides.items m conts.new.sides.items) }
+    ensures { IfOk result (λ m. Stepped (settled program.now) (tree.Fork (frame_tree (settled program.now) left (with_branch (held_term condition) (state_of state))) (going (settled program.now) next.now.value (rule.with_unit (optional_term x.now.snapshot) (with_branch (held_term negated) (state_of state))))) conts.old.sides.items m conts.new.sides.items) }
 {
     let mut first = state.copy(alloc)?;
     let mut second = state;
@@ -81,7 +81,7 @@ pub fn step_implied(
     state: SymState,
     conts: &mut Conts,
 ) -> Result<Move, AllocError>
-    ensures { IfOk result (λ m. Stepped (settled program.now) (rule.fork (term condition.value) (state_of state) (λ s. producing (settled program.now) (assertion a.now.value) x.now.value s (going (settled program.now) next.now.value)) (λ s. going (settled program.now) next.now.value (rule.with_unit (optional_term x.now.value.snapshot) s))) conts.old.sides.items m conts.new.sides.items) }
+    ensures { IfOk result (λ m. Stepped (settled program.now) (rule.fork (held_term condition) (state_of state) (λ s. producing (settled program.now) (assertion a.now.value) x.now.value s (going (settled program.now) next.now.value)) (λ s. going (settled program.now) next.now.value (rule.with_unit (optional_term x.now.value.snapshot) s))) conts.old.sides.items m conts.new.sides.items) }
 {
     let left = frame_of(alloc, program, a, x, next)?;
     if state.is_known(&condition) {
@@ -108,7 +108,7 @@ pub fn step_chosen(
     state: SymState,
     conts: &mut Conts,
 ) -> Result<Move, AllocError>
-    ensures { IfOk result (λ m. Stepped (settled program.now) (rule.fork (term condition.value) (state_of state) (λ s. producing (settled program.now) (assertion a.now.value) x.now.value s (going (settled program.now) next.now.value)) (λ s. producing (settled program.now) (assertion b.now.value) x.now.value s (going (settled program.now) next.now.value))) conts.old.sides.items m conts.new.sides.items) }
+    ensures { IfOk result (λ m. Stepped (settled program.now) (rule.fork (held_term condition) (state_of state) (λ s. producing (settled program.now) (assertion a.now.value) x.now.value s (going (settled program.now) next.now.value)) (λ s. producing (settled program.now) (assertion b.now.value) x.now.value s (going (settled program.now) next.now.value))) conts.old.sides.items m conts.new.sides.items) }
 {
     let left = frame_of(alloc, program, a, x, next)?;
     let right = frame_of(alloc, program, b, x, next)?;

@@ -9,7 +9,7 @@ use Rattle.vx_stack.specs.declared.question.Query.{Query}
 use Rattle.vx_stack.specs.declared.conts.Move.{Move}
 use Rattle.vx_stack.specs.declared.conts.Move.TheVariants as move'
 use Rattle.vx_terms.specs.Terms.{Term, same}
-use Rattle.vx_terms.specs.Views.{term}
+use Rattle.vx_heap.specs.Views.{held_term}
 use Rattle.vx_terms.specs.Build.{true_term, false_term, negate}
 use Rattle.vx_rules.specs.States.{State, is_quiet, is_known, with_fact, with_branch}
 use Rattle.vx_rules.specs.Trees.{Code, Question, Tree, Impossible, Step, Ask, Probe, Fork}
@@ -69,10 +69,10 @@ checked_probe p q t old new a b e n h = subst (λ x. Checked p x t old (query q)
 pub stepped_as : {E : Type 0} (p : Program) (r : Result Move E) (t u : Tree) (old new : List Side) → t ≡ u → IfOk r (λ m. Stepped p u old m new) → IfOk r (λ m. Stepped p t old m new)
 stepped_as p r t u old new e h = IfOk-weaker r (λ m. Stepped p u old m new) (λ m. Stepped p t old m new) (λ m. subst (λ x. Stepped p x old m new) (sym e)) h
 
-pub produces : (p : Program) (a b : Assertion) (x : Production) (scale : Term) (snapshot : Option Term) (k on : Going) → a ≡ b → term x.scale.value ≡ scale → optional_term x.snapshot ≡ snapshot → k ≡ on →
+pub produces : (p : Program) (a b : Assertion) (x : Production) (scale : Term) (snapshot : Option Term) (k on : Going) → a ≡ b → held_term x.scale ≡ scale → optional_term x.snapshot ≡ snapshot → k ≡ on →
     ◌≡◌ {A = Going} (λ s. producing p a x s k) (λ s. produce p (rules p) b scale snapshot s on)
 produces p a b x scale snapshot k on e f g h =
-    ap {B = Going} (λ (y : Assertion) s. produce p (rules p) y (term x.scale.value) (optional_term x.snapshot) s k) e
+    ap {B = Going} (λ (y : Assertion) s. produce p (rules p) y (held_term x.scale) (optional_term x.snapshot) s k) e
     ∙ ap {B = Going} (λ (y : Term) s. produce p (rules p) b y (optional_term x.snapshot) s k) f
     ∙ ap {B = Going} (λ (y : Option Term) s. produce p (rules p) b scale y s k) g
     ∙ ap {B = Going} (λ (y : Going) s. produce p (rules p) b scale snapshot s y) h

@@ -36,9 +36,9 @@ use Rattle.vx_ast.specs.Syntax.{Name, Program, Assertion, assigned_in, joined, m
 use Rattle.vx_resolved.specs.Resolved.{operator, division, connective, expr, exprs, assertion, stmt, block, method, names_of}
 use Rattle.vx_terms.specs.Sorts.{Sort, SnapSort}
 use Rattle.vx_terms.specs.Terms.{Term, Number}
-use Rattle.vx_terms.specs.Views.{sort, term}
+use Rattle.vx_terms.specs.Views.{sort}
 use Rattle.vx_terms.specs.Build.{negate, equals, ite, less, less_equal, multiply, unit, pair, wrap, zero_amount, whole_amount}
-use Rattle.vx_heap.specs.Views.{candidates_of, heap, terms_of}
+use Rattle.vx_heap.specs.Views.{candidates_of, heap, terms_of, held_term}
 use Rattle.vx_rules.specs.States.{Chunk, Heap, State, is_quiet, with_store, with_heap, assign, assign_all, bind, declare_all, terms_in, leave, with_fact, with_branch, fresh, after_fresh, name_of, after_name, path_terms}
 use Rattle.vx_states.specs.Paths.{entries}
 use Rattle.vx_states.specs.SymStates.{binding, optional_term, state}
@@ -50,7 +50,7 @@ use Rattle.vx_rules.specs.Rules.{Giving, Going, GivingAll, Context, ask, never, 
 use Rattle.vx_rules.specs.Members.{codes, forget, names_of as named_of, after_names, called, folded, exec, exec_all, rules, sides}
 
 abbrev pub query : Query → Question
-query q = record { place = q.place; code = code q.code; path = path_terms (entries q.path); condition = term q.condition.value; probe = q.probe }
+query q = record { place = q.place; code = code q.code; path = path_terms (entries q.path); condition = held_term q.condition; probe = q.probe }
 
 abbrev pub context : Codes → Context
 context x = record { pure = code x.pure; permission = code x.permission; builds = x.builds }
@@ -87,17 +87,17 @@ module _ (p : Program) where
   abbrev pub operand : Operand → Giving → Giving
   operand operand'.Negate on t s = Step (on (negate t) s)
   operand (operand'.OperateRight op b) on t s = Step (eval p (rules p) (expr b.value) s (λ u s1. Step (on (operated (operator op) t u) s1)))
-  operand (operand'.OperateWith op t) on u s = Step (on (operated (operator op) (term t.value) u) s)
+  operand (operand'.OperateWith op t) on u s = Step (on (operated (operator op) (held_term t) u) s)
   operand (operand'.DivideRight at op b) on t s =
       Step (eval p (rules p) (expr b.value) s (λ u s1. with_divisor at s1 u (on (divided (division op) t u))))
-  operand (operand'.DivideWith at op t) on u s = with_divisor at s u (on (divided (division op) (term t.value) u))
+  operand (operand'.DivideWith at op t) on u s = with_divisor at s u (on (divided (division op) (held_term t) u))
   operand (operand'.ConnectRight c b) on t s = Step (eval p (rules p) (expr b.value) s (λ u s1. Step (on (connected (connective c) t u) s1)))
-  operand (operand'.ConnectWith c t) on u s = Step (on (connected (connective c) (term t.value) u) s)
+  operand (operand'.ConnectWith c t) on u s = Step (on (connected (connective c) (held_term t) u) s)
   operand (operand'.ConnectSides c b) on t s = short (connective c) t s (λ s1. eval p (rules p) (expr b.value) s1 on) on
   operand (operand'.ChooseThen a b) on t s =
       Step (eval p (rules p) (expr a.value) s (λ u s1. Step (eval p (rules p) (expr b.value) s1 (λ v s2. Step (on (ite t u v) s2)))))
-  operand (operand'.ChooseElse t b) on u s = Step (eval p (rules p) (expr b.value) s (λ v s1. Step (on (ite (term t.value) u v) s1)))
-  operand (operand'.ChooseWith t u) on v s = Step (on (ite (term t.value) (term u.value) v) s)
+  operand (operand'.ChooseElse t b) on u s = Step (eval p (rules p) (expr b.value) s (λ v s1. Step (on (ite (held_term t) u v) s1)))
+  operand (operand'.ChooseWith t u) on v s = Step (on (ite (held_term t) (held_term u) v) s)
   operand (operand'.ChooseSides a b) on t s =
       fork t s (λ s1. eval p (rules p) (expr a.value) s1 on) (λ s1. eval p (rules p) (expr b.value) s1 on)
   operand (operand'.Receiver at f) on r s = read_field (string_bytes f.value) r (placed s at) s on
@@ -109,10 +109,10 @@ module _ (p : Program) where
 
   -- an assertion is produced, or consumed, in this way
   abbrev pub producing : Assertion → Production → State → Going → Tree
-  producing a x s on = produce p (rules p) a (term x.scale.value) (optional_term x.snapshot) s on
+  producing a x s on = produce p (rules p) a (held_term x.scale) (optional_term x.snapshot) s on
 
   abbrev pub consuming : Assertion → Consumption → State → Giving → Tree
-  consuming a x s on = consume p (rules p) a (context x.codes) (term x.scale.value) (heap x.start.value) s on
+  consuming a x s on = consume p (rules p) a (context x.codes) (held_term x.scale) (heap x.start.value) s on
 
   -- an amount of a field's location is put, where it isn't negative
   abbrev pub with_location : Name → Term → Term → Option Term → Bool → State → State
@@ -137,11 +137,11 @@ module _ (p : Program) where
   produced (produced'.Fact snapshot) on t s = Step (on (with_unit (optional_term snapshot) (with_fact t s)))
   produced (produced'.Share at f e x inside) on r s =
       eval p (rules p) (expr e.value) s (λ a s1.
-      putting at (string_bytes f.value) r (multiply (term x.value.scale.value) a) (optional_term x.value.snapshot) inside s1 on)
+      putting at (string_bytes f.value) r (multiply (held_term x.value.scale) a) (optional_term x.value.snapshot) inside s1 on)
   produced (produced'.Amount at f r x inside) on a s =
-      putting at (string_bytes f.value) (term r.value) (multiply (term x.value.scale.value) a) (optional_term x.value.snapshot) inside s on
+      putting at (string_bytes f.value) (held_term r) (multiply (held_term x.value.scale) a) (optional_term x.value.snapshot) inside s on
   produced (produced'.Held at i ts x inside) on a s =
-      putting_instance at (string_bytes i.value) (values ts.value) (multiply (term x.value.scale.value) a) (optional_term x.value.snapshot) inside s on
+      putting_instance at (string_bytes i.value) (values ts.value) (multiply (held_term x.value.scale) a) (optional_term x.value.snapshot) inside s on
   produced (produced'.Implied a x) on t s =
       fork t s (λ s1. producing (assertion a.value) x.value s1 on) (λ s1. on (with_unit (optional_term x.value.snapshot) s1))
   produced (produced'.Chosen a b x) on t s =
@@ -170,17 +170,17 @@ module _ (p : Program) where
   consumed (consumed'.Ask at f h) on t s = ask t (placed s at) (code f) s (λ s1. Step (on unit (with_heap (heap h.value) s1)))
   consumed (consumed'.Right b x) on t s =
       consuming (assertion b.value) x.value s (λ u s1. Step (on (pair t u) (with_built_pair (context x.value.codes) t u s1)))
-  consumed (consumed'.With t x) on u s = Step (on (pair (term t.value) u) (with_built_pair (context x) (term t.value) u s))
+  consumed (consumed'.With t x) on u s = Step (on (pair (held_term t) u) (with_built_pair (context x) (held_term t) u s))
   consumed (consumed'.Share at f e x h) on r s =
       eval p (rules p) (expr e.value) s (λ a s1.
-      taking at (string_bytes f.value) r (multiply (term x.value.scale.value) a) (code x.value.codes.permission) (heap h.value) s1
+      taking at (string_bytes f.value) r (multiply (held_term x.value.scale) a) (code x.value.codes.permission) (heap h.value) s1
       (wrapped (string_bytes f.value) (context x.value.codes) on))
   consumed (consumed'.Amount at f r x h) on a s =
-      taking at (string_bytes f.value) (term r.value) (multiply (term x.value.scale.value) a) (code x.value.codes.permission) (heap h.value) s
+      taking at (string_bytes f.value) (held_term r) (multiply (held_term x.value.scale) a) (code x.value.codes.permission) (heap h.value) s
       (wrapped (string_bytes f.value) (context x.value.codes) on)
   consumed (consumed'.Wrap f x) on v s = wrapped (string_bytes f.value) (context x) on v s
   consumed (consumed'.Held at i ts x h) on a s =
-      taking_instance at (string_bytes i.value) (values ts.value) (multiply (term x.value.scale.value) a) (code x.value.codes.permission) (heap h.value) s
+      taking_instance at (string_bytes i.value) (values ts.value) (multiply (held_term x.value.scale) a) (code x.value.codes.permission) (heap h.value) s
       (λ v s1. Step (on v s1))
   consumed consumed'.Snapshot on v s = Step (on v s)
   consumed (consumed'.Implied a x h) on t s =
@@ -225,7 +225,7 @@ module _ (p : Program) where
 
   abbrev pub body_of : Instance → Term → Bool → State → Going → Tree
   body_of x snapshot inside s on =
-      exchanged x.place (string_bytes x.predicate.value) (values x.arguments.value) (term x.amount.value) snapshot inside s on
+      exchanged x.place (string_bytes x.predicate.value) (values x.arguments.value) (held_term x.amount) snapshot inside s on
 
   -- what a value leads to, before what waits for the statement's end
   abbrev pub executed : Executed → Going → Giving
@@ -239,7 +239,7 @@ module _ (p : Program) where
   executed executed'.Exhaled on t s = Step (on s)
   executed (executed'.Write at f e) on r s =
       Step (eval p (rules p) (expr e.value) s (λ t s1. write_field (string_bytes f.value) r t at s1 on))
-  executed (executed'.WriteWith at f r) on t s = write_field (string_bytes f.value) (term r.value) t at s on
+  executed (executed'.WriteWith at f r) on t s = write_field (string_bytes f.value) (held_term r) t at s on
   executed (executed'.Enter l kept) on t s =
       Fork
       (from_invariant l.value (with_heap [] (forgotten l.value s)) (iterated l.value kept))
@@ -253,7 +253,7 @@ module _ (p : Program) where
       ask (less zero_amount a) at AmountCode s (λ s1.
       evals p (rules p) (exprs es.value) s1 (λ ts s2. unfolded p (rules p) at (string_bytes i.value) ts a s2 on))
   executed (executed'.Folded x c) on snapshot s =
-      Step (on (with_instance (string_bytes x.value.predicate.value) (values x.value.arguments.value) (term x.value.amount.value) snapshot (back_to c.value s)))
+      Step (on (with_instance (string_bytes x.value.predicate.value) (values x.value.arguments.value) (held_term x.value.amount) snapshot (back_to c.value s)))
   executed (executed'.Called c) on snapshot s = promised c.value on s
 
   abbrev mutual
@@ -265,30 +265,30 @@ module _ (p : Program) where
     going (next'.Block' b q n) s = exec_all p (rules p) (block b.value) s (going n)
     going (next'.Inner' b kept q n) s = exec_all p (rules p) (block b.value) s (λ s1. going n (leave kept s1))
     going (next'.Produce' a x q n) s = producing (assertion a.value) x.value s (going n)
-    going (next'.Consume' a x t q h) s = consume p (rules p) (assertion a.value) (context x) (term t.value) s.heap s (giving h)
+    going (next'.Consume' a x t q h) s = consume p (rules p) (assertion a.value) (context x) (held_term t) s.heap s (giving h)
     going (next'.ConsumeFrom' a x q h) s = consuming (assertion a.value) x.value s (giving h)
     going (next'.Unit' start q h) s = Step (giving h unit (with_heap (heap start.value) s))
     going (next'.Sides m) s = sides p (rules p) (method m.value) s
     going (next'.Eval' e q h) s = eval p (rules p) (expr e.value) s (giving h)
     going (next'.Put' l x inside q n) s =
-        Step (going n (with_location (string_bytes l.value.field.value) (term l.value.receiver.value) (term l.value.amount.value) (optional_term x.value.snapshot) inside s))
+        Step (going n (with_location (string_bytes l.value.field.value) (held_term l.value.receiver) (held_term l.value.amount) (optional_term x.value.snapshot) inside s))
     going (next'.Take' l c h q hole) s =
-        take_location l.value.place (string_bytes l.value.field.value) (term l.value.receiver.value) (term l.value.amount.value) (code c) (heap h.value) s (giving hole)
+        take_location l.value.place (string_bytes l.value.field.value) (held_term l.value.receiver) (held_term l.value.amount) (code c) (heap h.value) s (giving hole)
     going (next'.Evals' es q r) s = evals p (rules p) (exprs es.value) s (giving_all r)
     going (next'.PutInstance' i x inside q n) s =
-        Step (going n (with_held (string_bytes i.value.predicate.value) (values i.value.arguments.value) (term i.value.amount.value) (optional_term x.value.snapshot) inside s))
+        Step (going n (with_held (string_bytes i.value.predicate.value) (values i.value.arguments.value) (held_term i.value.amount) (optional_term x.value.snapshot) inside s))
     going (next'.TakeInstance' i c h q hole) s =
-        take_instance i.value.place (string_bytes i.value.predicate.value) (values i.value.arguments.value) (term i.value.amount.value) (code c) (heap h.value) s (giving hole)
+        take_instance i.value.place (string_bytes i.value.predicate.value) (values i.value.arguments.value) (held_term i.value.amount) (code c) (heap h.value) s (giving hole)
     going (next'.ReadFrom' x k q h) s =
         finding x.value k s (λ c. giving h c.chunk.value s) (never x.value.place (code x.value.code) s)
     going (next'.TakeFrom' x k a of q w) s =
         finding x.value k s
-        (λ c. with_taken w c.chunk.value (leads_inside c.chunk) (with_heap (reduced c (term a.value) s.heap) s))
-        (taking_none (term a.value) (sort of) x.value.place (code x.value.code) s (λ v s1. with_taken w v false s1))
+        (λ c. with_taken w c.chunk.value (leads_inside c.chunk) (with_heap (reduced c (held_term a) s.heap) s))
+        (taking_none (held_term a) (sort of) x.value.place (code x.value.code) s (λ v s1. with_taken w v false s1))
     going (next'.WriteTo' x k t q n) s =
-        finding x.value k s (λ c. going n (written c (term t.value) s)) (never x.value.place (code x.value.code) s)
+        finding x.value k s (λ c. going n (written c (held_term t) s)) (never x.value.place (code x.value.code) s)
     going (next'.Fresh' of q w) s = with_taken w (fresh (sort of) s) false (after_fresh s)
-    going (next'.Body' x snapshot inside q n) s = body_of x.value (term snapshot.value) inside s (going n)
+    going (next'.Body' x snapshot inside q n) s = body_of x.value (held_term snapshot) inside s (going n)
     going (next'.Back' c q n) s = going n (back_to c.value s)
     going (next'.Return' r q n) s =
         Step (going n (returned (names_of r.value.targets.value.items) (terms_of r.value.values.items) r.value.caller.value (heap r.value.old_heap.value) s))
@@ -300,18 +300,18 @@ module _ (p : Program) where
 
     -- what values and a state lead to
     pub giving_all : Row → GivingAll
-    giving_all (row'.After' t q r) ts s = Step (giving_all r (term t.value ∷ ts) s)
+    giving_all (row'.After' t q r) ts s = Step (giving_all r (held_term t ∷ ts) s)
     giving_all (row'.Apply' at f q h) ts s = applied p (rules p) (placed s at) (string_bytes f.value) ts s (giving h)
     giving_all (row'.Produce' at i e x inside q n) ts s =
         eval p (rules p) (expr e.value) s (λ a s1.
-        putting_instance at (string_bytes i.value) ts (multiply (term x.value.scale.value) a) (optional_term x.value.snapshot) inside s1 (going n))
+        putting_instance at (string_bytes i.value) ts (multiply (held_term x.value.scale) a) (optional_term x.value.snapshot) inside s1 (going n))
     giving_all (row'.Consume' at i e x h q k) ts s =
         eval p (rules p) (expr e.value) s (λ a s1.
-        taking_instance at (string_bytes i.value) ts (multiply (term x.value.scale.value) a) (code x.value.codes.permission) (heap h.value) s1
+        taking_instance at (string_bytes i.value) ts (multiply (held_term x.value.scale) a) (code x.value.codes.permission) (heap h.value) s1
         (λ v s2. Step (giving k v s2)))
-    giving_all (row'.Unfolding' at i a q n) ts s = unfolded p (rules p) (placed s at) (string_bytes i.value) ts (term a.value) s (going n)
-    giving_all (row'.Unfold' at i a q n) ts s = unfolded p (rules p) at (string_bytes i.value) ts (term a.value) s (going n)
-    giving_all (row'.Fold' at i a q n) ts s = folded p (rules p) at (string_bytes i.value) ts (term a.value) s (going n)
+    giving_all (row'.Unfolding' at i a q n) ts s = unfolded p (rules p) (placed s at) (string_bytes i.value) ts (held_term a) s (going n)
+    giving_all (row'.Unfold' at i a q n) ts s = unfolded p (rules p) at (string_bytes i.value) ts (held_term a) s (going n)
+    giving_all (row'.Fold' at i a q n) ts s = folded p (rules p) at (string_bytes i.value) ts (held_term a) s (going n)
     giving_all (row'.Call' at xs m q n) ts s =
         elim (method_named p (string_bytes m.value)) as (λ c. Tree) [
           | None ↦ never at CallCode s
@@ -331,7 +331,7 @@ module _ (p : Program) where
   abbrev pub frame_tree : Frame → State → Tree
   frame_tree (frame'.Go n) s = going n.value s
   frame_tree (frame'.Eval e h) s = eval p (rules p) (expr e.value) s (giving h.value)
-  frame_tree (frame'.Give t h) s = giving h.value (term t.value) s
+  frame_tree (frame'.Give t h) s = giving h.value (held_term t) s
   frame_tree (frame'.GiveAll ts r) s = giving_all r.value (values ts.value) s
 
   abbrev pub side_tree : Side → Tree

@@ -13,6 +13,7 @@ ghost use Rattle.vx_states.specs.SymStates.{state as state_of};
 ghost use Rattle.vx_rules.specs.Trees as tree;
 ghost use Rattle.vx_terms.specs.Build.{true_term};
 ghost use Rattle.vx_terms.specs.Terms.{same};
+ghost use Rattle.vx_heap.specs.Views.{held_term};
 ghost use Rattle.vx_terms.specs.Views.{term};
 ghost use Rattle.vx_resolved.specs.Settled.{settled};
 
@@ -49,7 +50,7 @@ fn question(
     probe: bool,
     state: &SymState,
 ) -> Result<Query, AllocError>
-    ensures question { IfOk result (λ q. Rattle.vx_stack.specs.Stack.query q ≡ rule.question probe (term condition.now.value) place (code_of code) (state_of state.now)) }
+    ensures question { IfOk result (λ q. Rattle.vx_stack.specs.Stack.query q ≡ rule.question probe (held_term condition.now) place (code_of code) (state_of state.now)) }
     ensures probe { IfOk result (λ q. q.probe ≡ probe) }
 {
     Ok(Query {
@@ -160,7 +161,7 @@ impl Conts {
         hole: &Rc<Hole>,
         state: SymState,
     ) -> Result<Move, AllocError>
-        ensures { IfOk result (λ m. Stepped (settled program.now) (tree.Step (giving (settled program.now) hole.now.value (term value.value) (state_of state))) self.old.sides.items m self.new.sides.items) }
+        ensures { IfOk result (λ m. Stepped (settled program.now) (tree.Step (giving (settled program.now) hole.now.value (held_term value) (state_of state))) self.old.sides.items m self.new.sides.items) }
     {
         self.go(program, Frame::Give(value, hole.clone()?), state)
     }
@@ -190,7 +191,7 @@ impl Conts {
         state: SymState,
         frame: Frame,
     ) -> Result<Move, AllocError>
-        ensures { IfOk result (λ m. Stepped (settled program.now) (rule.ask (term condition.value) place (code_of code) (state_of state) (frame_tree (settled program.now) frame)) self.old.sides.items m self.new.sides.items) }
+        ensures { IfOk result (λ m. Stepped (settled program.now) (rule.ask (held_term condition) place (code_of code) (state_of state) (frame_tree (settled program.now) frame)) self.old.sides.items m self.new.sides.items) }
     {
         if passes(&condition, &state) {
             return self.go(program, frame, state);
@@ -241,7 +242,7 @@ impl Conts {
         refuted: Side,
         otherwise: Side,
     ) -> Result<Move, AllocError>
-        ensures { IfOk result (λ m. Stepped (settled program.now) (rule.probe (term condition.now.value) place (code_of code) (state_of otherwise.state) (side_tree (settled program.now) refuted) (side_tree (settled program.now) otherwise)) self.old.sides.items m self.new.sides.items) }
+        ensures { IfOk result (λ m. Stepped (settled program.now) (rule.probe (held_term condition.now) place (code_of code) (state_of otherwise.state) (side_tree (settled program.now) refuted) (side_tree (settled program.now) otherwise)) self.old.sides.items m self.new.sides.items) }
     {
         if condition.is_same(&Term::Truth(true)) {
             return self.go(program, refuted.frame, refuted.state);
@@ -272,7 +273,7 @@ impl Conts {
         left: Frame,
         right: Frame,
     ) -> Result<Move, AllocError>
-        ensures { IfOk result (λ m. Stepped (settled program.now) (rule.fork (term condition.value) (state_of state) (frame_tree (settled program.now) left) (frame_tree (settled program.now) right)) self.old.sides.items m self.new.sides.items) }
+        ensures { IfOk result (λ m. Stepped (settled program.now) (rule.fork (held_term condition) (state_of state) (frame_tree (settled program.now) left) (frame_tree (settled program.now) right)) self.old.sides.items m self.new.sides.items) }
     {
         if state.is_known(&condition) {
             return self.go(program, left, state);

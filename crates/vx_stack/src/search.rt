@@ -1,11 +1,11 @@
 //! What is looked for in a heap.
 
 ghost use Rattle.std.specs.Prelude.{◌≡◌, IfOk, string_bytes};
-ghost use Rattle.vx_heap.specs.Views.{chunk as chunk_view};
+ghost use Rattle.vx_heap.specs.Views.{chunk as chunk_view, held_term};
 ghost use Rattle.vx_rules.specs.Rules as rule;
 ghost use Rattle.vx_resolved.specs.Settled.{settled};
 ghost use Rattle.vx_stack.specs.Stack.{wanted};
-ghost use Rattle.vx_terms.specs.Views.{sort, term};
+ghost use Rattle.vx_terms.specs.Views.{sort};
 
 use crate::Search;
 use std::alloc::{AllocError, Global};
@@ -18,7 +18,7 @@ use vx_terms::{Sort, Term};
 impl Search {
     /// That a chunk is as wanted.
     pub fn condition(&self, alloc: Global, chunk: &Chunk) -> Result<Rc<Term>, AllocError>
-        ensures { IfOk result (λ t. term t.value ≡ wanted self.now (chunk_view chunk.now)) }
+        ensures { IfOk result (λ t. held_term t ≡ wanted self.now (chunk_view chunk.now)) }
     {
         match &self.amount {
             Some(amount) => holds_amount(alloc, amount, &self.arguments, chunk),

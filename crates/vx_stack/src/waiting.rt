@@ -2,9 +2,8 @@
 
 ghost use Rattle.std.specs.Prelude.{◌≡◌, IfOk, None};
 ghost use Rattle.vx_terms.specs.Build.{whole_amount};
-ghost use Rattle.vx_heap.specs.Views.{terms_of};
+ghost use Rattle.vx_heap.specs.Views.{terms_of, held_term};
 ghost use Rattle.vx_stack.specs.Values.{values};
-ghost use Rattle.vx_terms.specs.Views.{term};
 
 use std::alloc::{AllocError, Global};
 use std::rc::Rc;
@@ -45,7 +44,7 @@ pub struct Consumption {
 impl Production {
     /// As it is written, without a snapshot.
     pub fn as_written(alloc: Global) -> Result<Rc<Production>, AllocError>
-        ensures scale { IfOk result (λ x. term x.value.scale.value ≡ whole_amount) }
+        ensures scale { IfOk result (λ x. held_term x.value.scale ≡ whole_amount) }
         ensures snapshot { IfOk result (λ x. x.value.snapshot ≡ None) }
     {
         let scale = vx_heap::whole(alloc)?;

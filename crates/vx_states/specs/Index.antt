@@ -1,7 +1,7 @@
 -- Which terms stand in an index.
 use Rattle.std.specs.Prelude.{◌≡◌, ℕ, zero, suc, ◌/◌, ◌%◌, Bool, true, false, List, ◌&&◌, ◌||◌, if◌then◌else◌, nat_eq}
 use Rattle.vx_terms.specs.Terms.{Term, same, same_bool}
-use Rattle.vx_terms.specs.Views.{term}
+use Rattle.vx_heap.specs.Views.{held_term}
 use Rattle.vx_rules.specs.States.{Entry, in_path}
 use Rattle.vx_states.specs.Keys.{key_of}
 use Rattle.vx_states.specs.declared.index.Index.{Index}
@@ -13,7 +13,7 @@ is_even k = nat_eq (k % 2) 0
 -- a term stands in it under a key
 abbrev pub finds : Index → ℕ → Term → Bool
 finds index'.Nothing k t = false
-finds (index'.Holds' u q more) k t = same t (term u.value) || finds more k t
+finds (index'.Holds' u q more) k t = same t (held_term u) || finds more k t
 finds (index'.Branch' p even q odd) k t = if is_even k then finds even (k / 2) t else finds odd (k / 2) t
 
 -- two keys have so many of their lowest bits in common

@@ -1,6 +1,7 @@
 -- What the paths of src/ stand for.
 use Rattle.std.specs.Prelude.{Bool, true, false, List, [], ◌∷◌, ◌++◌}
 use Rattle.vx_terms.specs.Terms.{Term}
+use Rattle.vx_heap.specs.Views.{held_term}
 use Rattle.vx_terms.specs.Views.{term}
 use Rattle.vx_states.specs.declared.path.Path.{Path}
 use Rattle.vx_states.specs.declared.path.Path.TheVariants as path'
@@ -13,5 +14,5 @@ extended es t branch = es ++ record { term = t; branch = branch } ∷ []
 -- the entries of a path, the oldest first
 abbrev pub entries : Path → List Entry
 entries path'.Empty = []
-entries (path'.Branch' q before t) = extended (entries before) (term t.value) true
-entries (path'.Fact' q before t) = extended (entries before) (term t.value) false
+entries (path'.Branch' q before t) = extended (entries before) (held_term t) true
+entries (path'.Fact' q before t) = extended (entries before) (held_term t) false

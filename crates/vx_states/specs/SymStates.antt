@@ -8,17 +8,16 @@ use Rattle.vx_states.specs.declared.state.SymState.{SymState}
 use Rattle.vx_ast.specs.Syntax.{Name, same_name}
 use Rattle.vx_terms.specs.declared.term.Term.{Term as Term'}
 use Rattle.vx_terms.specs.Terms.{Term, sort_of}
-use Rattle.vx_terms.specs.Views.{term}
-use Rattle.vx_heap.specs.Views.{heap}
+use Rattle.vx_heap.specs.Views.{heap, held_term}
 use Rattle.vx_rules.specs.States.{Own, Store, State, found, assign, with_store, fresh, after_fresh}
 use Rattle.vx_states.specs.Paths.{entries}
 
 abbrev pub binding : Binding → Name × Term
-binding b = (string_bytes b.name.value, term b.value.value)
+binding b = (string_bytes b.name.value, held_term b.value)
 
 -- a term, where there is one
 abbrev pub optional_term : Option (Rc Term' Global) → Option Term
-optional_term o = option_map (λ t. term t.value) o
+optional_term o = option_map (λ t. held_term t) o
 
 abbrev pub own : Own' → Own
 own o = record { function = string_bytes o.function.value; measure = optional_term o.measure }

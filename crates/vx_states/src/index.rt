@@ -2,6 +2,7 @@
 
 ghost use Rattle.std.specs.Prelude.{◌≡◌, IfOk};
 ghost use Rattle.vx_states.specs.Index.{finds, IsAlike, IsExtended};
+ghost use Rattle.vx_heap.specs.Views.{held_term};
 ghost use Rattle.vx_terms.specs.Views.{term};
 
 use std::alloc::{AllocError, Global};
@@ -74,7 +75,7 @@ impl Index {
 
 // The index of one term, of whose key so many bits are told apart.
 fn alone(alloc: Global, bits: u8, key: u16, t: &Rc<Term>) -> Result<Index, AllocError>
-    ensures { IfOk result (λ r. IsExtended Index.Nothing r bits key (term t.now.value)) }
+    ensures { IfOk result (λ r. IsExtended Index.Nothing r bits key (held_term t.now)) }
 {
     let nothing = Rc::new(alloc, Index::Nothing)?;
     if bits == 0 {
@@ -96,7 +97,7 @@ pub fn with_term(
     key: u16,
     t: &Rc<Term>,
 ) -> Result<Index, AllocError>
-    ensures { IfOk result (λ r. IsExtended index.now r bits key (term t.now.value)) }
+    ensures { IfOk result (λ r. IsExtended index.now r bits key (held_term t.now)) }
 {
     if bits == 0 {
         return Ok(Index::Holds(t.clone()?, Rc::new(alloc, index.copy()?)?));

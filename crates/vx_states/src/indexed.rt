@@ -4,6 +4,7 @@ ghost use Rattle.std.specs.Prelude.{◌≡◌, [], IfOk, true, false};
 ghost use Rattle.vx_states.specs.Index.{IsIndexed};
 ghost use Rattle.vx_rules.specs.States.{in_path};
 ghost use Rattle.vx_states.specs.Paths.{entries, extended};
+ghost use Rattle.vx_heap.specs.Views.{held_term};
 ghost use Rattle.vx_terms.specs.Views.{term};
 
 use crate::Path;
@@ -51,7 +52,7 @@ impl IndexedPath {
 
     /// A fact after the others.
     pub fn add_fact(self, alloc: Global, t: Rc<Term>) -> Result<IndexedPath, AllocError>
-        ensures { IfOk result (λ more. entries more.path ≡ extended (entries self.path) (term t.value) false) }
+        ensures { IfOk result (λ more. entries more.path ≡ extended (entries self.path) (held_term t) false) }
     {
         let IndexedPath { path, index } = self;
         let index = with_term(alloc, &index, BITS, key(&t), &t)?;
@@ -61,7 +62,7 @@ impl IndexedPath {
 
     /// A branch's condition after the others.
     pub fn add_branch(self, alloc: Global, t: Rc<Term>) -> Result<IndexedPath, AllocError>
-        ensures { IfOk result (λ more. entries more.path ≡ extended (entries self.path) (term t.value) true) }
+        ensures { IfOk result (λ more. entries more.path ≡ extended (entries self.path) (held_term t) true) }
     {
         let IndexedPath { path, index } = self;
         let index = with_term(alloc, &index, BITS, key(&t), &t)?;

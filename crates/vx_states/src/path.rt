@@ -3,6 +3,7 @@
 ghost use Rattle.std.specs.Prelude.{◌≡◌, IfOk, map};
 ghost use Rattle.vx_rules.specs.States.{path_terms};
 ghost use Rattle.vx_states.specs.Paths.{entries};
+ghost use Rattle.vx_heap.specs.Views.{held_term};
 ghost use Rattle.vx_terms.specs.Views.{term};
 
 use std::alloc::{AllocError, Global};
@@ -48,7 +49,7 @@ impl Path {
     /// The terms in order, the oldest first.
     #[tactic(auto, using(crate::proofs::Stores::taken_over))]
     pub fn terms(&self, alloc: Global) -> Result<Vec<Rc<Term>>, AllocError>
-        ensures { IfOk result (λ v. map (λ t. term t.value) v.items ≡ path_terms (entries self.now)) }
+        ensures { IfOk result (λ v. map (λ t. held_term t) v.items ≡ path_terms (entries self.now)) }
     {
         let mut terms = Vec::new(alloc);
         let mut rest = self;

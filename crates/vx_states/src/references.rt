@@ -1,7 +1,7 @@
 //! New references.
 
 ghost use Rattle.std.specs.Prelude.{◌≡◌, ◌++◌, ◌∷◌, List, IfOk, OnOk, map};
-ghost use Rattle.vx_heap.specs.Views.{terms_of};
+ghost use Rattle.vx_heap.specs.Views.{terms_of, held_term};
 ghost use Rattle.vx_rules.specs.Members as members;
 ghost use Rattle.vx_rules.specs.States as states;
 ghost use Rattle.vx_rules.specs.States.{terms_in};
@@ -9,7 +9,6 @@ ghost use Rattle.vx_states.specs.SymStates.{binding, state};
 ghost use Rattle.vx_terms.specs.Build.{null};
 ghost use Rattle.vx_terms.specs.Sorts.{RefSort};
 ghost use Rattle.vx_terms.specs.Terms as written;
-ghost use Rattle.vx_terms.specs.Views.{term};
 
 use crate::{Binding, SymState};
 use std::alloc::{AllocError, Global};
@@ -24,7 +23,7 @@ fn add_unlike_stored(
     store: &[Binding],
     facts: &mut Vec<Rc<Term>>,
 ) -> Result<(), AllocError>
-    ensures { OnOk result ((rest : List written.Term) → terms_of facts.new.items ++ rest ≡ terms_of facts.old.items ++ (members.unlike_stored (term x.now.value) (terms_in (map binding store.now)) ++ rest)) }
+    ensures { OnOk result ((rest : List written.Term) → terms_of facts.new.items ++ rest ≡ terms_of facts.old.items ++ (members.unlike_stored (held_term x.now) (terms_in (map binding store.now)) ++ rest)) }
 {
     for b in store {
         add_unlike(alloc, x, &b.value, facts)?;
@@ -34,7 +33,7 @@ fn add_unlike_stored(
 
 /// Adds that a reference isn't null.
 fn add_not_null(alloc: Global, x: &Rc<Term>, facts: &mut Vec<Rc<Term>>) -> Result<(), AllocError>
-    ensures { OnOk result ((rest : List written.Term) → terms_of facts.new.items ++ rest ≡ terms_of facts.old.items ++ (members.unlike (term x.now.value) null ∷ rest)) }
+    ensures { OnOk result ((rest : List written.Term) → terms_of facts.new.items ++ rest ≡ terms_of facts.old.items ++ (members.unlike (held_term x.now) null ∷ rest)) }
 {
     let null = snapshots::null(alloc)?;
     facts.push(unlike(alloc, x, &null)?)?;
@@ -44,7 +43,7 @@ fn add_not_null(alloc: Global, x: &Rc<Term>, facts: &mut Vec<Rc<Term>>) -> Resul
 impl SymState {
     /// What a new reference differs from: null, the references of the store, and those of what is held.
     fn distinct(&self, alloc: Global, x: &Rc<Term>) -> Result<Vec<Rc<Term>>, AllocError>
-        ensures { IfOk result (λ facts. terms_of facts.items ≡ members.distinct (term x.now.value) (state self.now)) }
+        ensures { IfOk result (λ facts. terms_of facts.items ≡ members.distinct (held_term x.now) (state self.now)) }
     {
         let mut facts = Vec::new(alloc);
         add_not_null(alloc, x, &mut facts)?;
@@ -56,7 +55,7 @@ impl SymState {
 
     /// A new reference, which differs from null and from what is known.
     pub fn new_reference(&mut self, alloc: Global) -> Result<Rc<Term>, AllocError>
-        ensures { IfOk result (λ t. (term t.value ≡ states.fresh RefSort (state self.old)) × (state self.new ≡ states.with_facts (members.distinct (states.fresh RefSort (state self.old)) (state self.old)) (states.after_fresh (state self.old)))) }
+        ensures { IfOk result (λ t. (held_term t ≡ states.fresh RefSort (state self.old)) × (state self.new ≡ states.with_facts (members.distinct (states.fresh RefSort (state self.old)) (state self.old)) (states.after_fresh (state self.old)))) }
     {
         let x = self.new_symbol(alloc, Sort::Ref)?;
         let facts = self.distinct(alloc, &x)?;

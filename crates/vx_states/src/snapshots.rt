@@ -7,7 +7,8 @@ ghost use Rattle.vx_states.specs.SymStates.{optional_term, state};
 ghost use Rattle.vx_terms.specs.Build as built;
 ghost use Rattle.vx_terms.specs.Sorts as sort;
 ghost use Rattle.vx_terms.specs.Terms as written;
-ghost use Rattle.vx_terms.specs.Views.{sort as sort_view, term};
+ghost use Rattle.vx_heap.specs.Views.{held_term};
+ghost use Rattle.vx_terms.specs.Views.{sort as sort_view};
 
 use crate::SymState;
 use std::alloc::{AllocError, Global};
@@ -39,7 +40,7 @@ pub fn right_part(
 
 /// That a snapshot is the pair of its parts.
 fn is_pair(alloc: Global, t: &Rc<Term>) -> Result<Rc<Term>, AllocError>
-    ensures { IfOk result (λ r. term r.value ≡ built.equals (term t.now.value) (built.pair (built.first (term t.now.value)) (built.second (term t.now.value)))) }
+    ensures { IfOk result (λ r. held_term r ≡ built.equals (held_term t.now) (built.pair (built.first (held_term t.now)) (built.second (held_term t.now)))) }
 {
     let first = snapshots::first(alloc, t)?;
     let pair = snapshots::pair(alloc, &first, &snapshots::second(alloc, t)?)?;
@@ -48,14 +49,14 @@ fn is_pair(alloc: Global, t: &Rc<Term>) -> Result<Rc<Term>, AllocError>
 
 /// That a snapshot is unit.
 fn is_unit(alloc: Global, t: &Rc<Term>) -> Result<Rc<Term>, AllocError>
-    ensures { IfOk result (λ r. term r.value ≡ built.equals (term t.now.value) built.unit) }
+    ensures { IfOk result (λ r. held_term r ≡ built.equals (held_term t.now) built.unit) }
 {
     numbers::eq(alloc, t, &snapshots::unit(alloc)?)
 }
 
 /// A symbol of one argument, as it is written.
 fn symbol_on(alloc: Global, number: u32, t: &Rc<Term>) -> Result<Rc<Term>, AllocError>
-    ensures { IfOk result (λ r. term r.value ≡ written.Apply (sort.Standard number) sort.SnapSort (built.one (term t.now.value))) }
+    ensures { IfOk result (λ r. held_term r ≡ written.Apply (sort.Standard number) sort.SnapSort (built.one (held_term t.now))) }
 {
     let none = Rc::new(alloc, Terms::None)?;
     let argument = Rc::new(alloc, Terms::More(t.clone()?, none))?;
@@ -64,7 +65,7 @@ fn symbol_on(alloc: Global, number: u32, t: &Rc<Term>) -> Result<Rc<Term>, Alloc
 
 /// An equation as it is written.
 fn equation(alloc: Global, s: Rc<Term>, t: Rc<Term>) -> Result<Rc<Term>, AllocError>
-    ensures { IfOk result (λ r. term r.value ≡ written.Binary sort.Equal (term s.value) (term t.value)) }
+    ensures { IfOk result (λ r. held_term r ≡ written.Binary sort.Equal (held_term s) (held_term t)) }
 {
     Ok(Rc::new(alloc, Term::Binary(Operator::Equal, s, t))?)
 }
@@ -96,7 +97,7 @@ impl SymState {
 
     /// The facts that the parts of a pair are its first and its second, as they are written.
     pub fn add_pair(&mut self, alloc: Global, s: &Rc<Term>, t: &Rc<Term>) -> Result<(), AllocError>
-        ensures { IfOk result (λ _. state self.new ≡ states.with_facts (rules.pair_facts (term s.now.value) (term t.now.value)) (state self.old)) }
+        ensures { IfOk result (λ _. state self.new ≡ states.with_facts (rules.pair_facts (held_term s.now) (held_term t.now)) (state self.old)) }
     {
         let pair = snapshots::pair(alloc, s, t)?;
         let first = equation(alloc, symbol_on(alloc, 3, &pair)?, s.clone()?)?;
@@ -107,7 +108,7 @@ impl SymState {
 
     /// The value that a snapshot gives a location: a name for what it wraps, and the fact that it wraps it.
     fn value_by(&mut self, alloc: Global, of: &Sort, t: &Rc<Term>) -> Result<Rc<Term>, AllocError>
-        ensures { IfOk result (λ v. (term v.value ≡ rules.produced_value (sort_view of.now) (Some (term t.now.value)) (state self.old)) × (state self.new ≡ rules.after_value (sort_view of.now) (Some (term t.now.value)) (state self.old))) }
+        ensures { IfOk result (λ v. (held_term v ≡ rules.produced_value (sort_view of.now) (Some (held_term t.now)) (state self.old)) × (state self.new ≡ rules.after_value (sort_view of.now) (Some (held_term t.now)) (state self.old))) }
     {
         let value = self.name(alloc, snapshots::unwrap(alloc, of, t)?)?;
         let wrapped = snapshots::wrap(alloc, of, &value)?;
@@ -123,7 +124,7 @@ impl SymState {
         of: Sort,
         snapshot: &Option<Rc<Term>>,
     ) -> Result<Rc<Term>, AllocError>
-        ensures { IfOk result (λ t. (term t.value ≡ rules.produced_value (sort_view of) (optional_term snapshot.now) (state self.old)) × (state self.new ≡ rules.after_value (sort_view of) (optional_term snapshot.now) (state self.old))) }
+        ensures { IfOk result (λ t. (held_term t ≡ rules.produced_value (sort_view of) (optional_term snapshot.now) (state self.old)) × (state self.new ≡ rules.after_value (sort_view of) (optional_term snapshot.now) (state self.old))) }
     {
         match snapshot {
             Some(t) => self.value_by(alloc, &of, t),
@@ -137,7 +138,7 @@ impl SymState {
         alloc: Global,
         snapshot: &Option<Rc<Term>>,
     ) -> Result<Rc<Term>, AllocError>
-        ensures { IfOk result (λ t. (term t.value ≡ rules.produced_snapshot (optional_term snapshot.now) (state self.old)) × (state self.new ≡ rules.after_snapshot (optional_term snapshot.now) (state self.old))) }
+        ensures { IfOk result (λ t. (held_term t ≡ rules.produced_snapshot (optional_term snapshot.now) (state self.old)) × (state self.new ≡ rules.after_snapshot (optional_term snapshot.now) (state self.old))) }
     {
         match snapshot {
             Some(t) => self.name(alloc, t.clone()?),
@@ -147,7 +148,7 @@ impl SymState {
 
     /// The fact that a wrapped value unwraps to itself, as it is written.
     pub fn add_wrap(&mut self, alloc: Global, of: &Sort, value: &Rc<Term>) -> Result<(), AllocError>
-        ensures { IfOk result (λ _. state self.new ≡ states.with_fact (written.Binary sort.Equal (built.written_unwrap (sort_view of.now) (built.wrap (sort_view of.now) (term value.now.value))) (term value.now.value)) (state self.old)) }
+        ensures { IfOk result (λ _. state self.new ≡ states.with_fact (written.Binary sort.Equal (built.written_unwrap (sort_view of.now) (built.wrap (sort_view of.now) (held_term value.now))) (held_term value.now)) (state self.old)) }
     {
         let wrapped = snapshots::wrap(alloc, of, value)?;
         let unwrapped = snapshots::written_unwrap(alloc, of, &wrapped)?;

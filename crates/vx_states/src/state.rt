@@ -3,7 +3,7 @@
 ghost use Rattle.std.specs.Prelude.{◌≡◌, IfOk, [], map, option_map, string_bytes};
 ghost use Rattle.vx_resolved.specs.Resolved.{declaration};
 ghost use Rattle.vx_ast.specs.Syntax.{same_name};
-ghost use Rattle.vx_heap.specs.Views.{heap};
+ghost use Rattle.vx_heap.specs.Views.{heap, held_term};
 ghost use Rattle.vx_rules.specs.Members.{blank};
 ghost use Rattle.vx_rules.specs.Rules as rules;
 ghost use Rattle.vx_rules.specs.States as states;
@@ -207,7 +207,7 @@ impl SymState {
 
     /// The value of a variable.
     pub fn value_of(&self, alloc: Global, name: &Rc<String>) -> Result<Rc<Term>, AllocError>
-        ensures { IfOk result (λ t. term t.value ≡ states.found (string_bytes name.now.value) (state self.now).store) }
+        ensures { IfOk result (λ t. held_term t ≡ states.found (string_bytes name.now.value) (state self.now).store) }
     {
         for b in &self.store {
             if is_same_name(name.as_bytes(), b.name.as_bytes()) {
@@ -231,7 +231,7 @@ impl SymState {
 
     /// A variable gets a value.
     pub fn assign(&mut self, name: &Rc<String>, t: Rc<Term>)
-        ensures { state self.new ≡ states.with_store (states.assign (string_bytes name.now.value) (term t.value) (state self.old).store) (state self.old) }
+        ensures { state self.new ≡ states.with_store (states.assign (string_bytes name.now.value) (held_term t) (state self.old).store) (state self.old) }
     {
         match self.find(name) {
             Some(k) => self.store[k].value = t,
@@ -241,7 +241,7 @@ impl SymState {
 
     /// A further variable.
     fn declare(&mut self, name: &Rc<String>, t: Rc<Term>) -> Result<(), AllocError>
-        ensures { IfOk result (λ _. state self.new ≡ states.declare (string_bytes name.now.value) (term t.value) (state self.old)) }
+        ensures { IfOk result (λ _. state self.new ≡ states.declare (string_bytes name.now.value) (held_term t) (state self.old)) }
     {
         self.store.push(Binding {
             name: name.clone()?,
@@ -266,7 +266,7 @@ impl SymState {
 
     /// A fact that isn't known is added.
     pub fn add_fact(&mut self, alloc: Global, t: Rc<Term>) -> Result<(), AllocError>
-        ensures { IfOk result (λ _. state self.new ≡ states.with_fact (term t.value) (state self.old)) }
+        ensures { IfOk result (λ _. state self.new ≡ states.with_fact (held_term t) (state self.old)) }
     {
         if !self.is_known(&t) {
             let path = mem::replace(&mut self.path, IndexedPath::new());
@@ -277,7 +277,7 @@ impl SymState {
 
     /// A branch's condition is added.
     pub fn add_branch(&mut self, alloc: Global, t: Rc<Term>) -> Result<(), AllocError>
-        ensures { IfOk result (λ _. state self.new ≡ states.with_branch (term t.value) (state self.old)) }
+        ensures { IfOk result (λ _. state self.new ≡ states.with_branch (held_term t) (state self.old)) }
     {
         let path = mem::replace(&mut self.path, IndexedPath::new());
         self.path = path.add_branch(alloc, t)?;
@@ -286,7 +286,7 @@ impl SymState {
 
     /// A symbol that stands nowhere yet.
     pub fn new_symbol(&mut self, alloc: Global, of: Sort) -> Result<Rc<Term>, AllocError>
-        ensures { IfOk result (λ t. (term t.value ≡ states.fresh (sort of) (state self.old)) × (state self.new ≡ states.after_fresh (state self.old))) }
+        ensures { IfOk result (λ t. (held_term t ≡ states.fresh (sort of) (state self.old)) × (state self.new ≡ states.after_fresh (state self.old))) }
     {
         let number = self.next;
         if number == u64::MAX {
@@ -305,7 +305,7 @@ impl SymState {
 
     /// A name for a value: itself, or a new symbol that equals it.
     pub fn name(&mut self, alloc: Global, t: Rc<Term>) -> Result<Rc<Term>, AllocError>
-        ensures { IfOk result (λ r. (term r.value ≡ states.name_of (term t.value) (state self.old)) × (state self.new ≡ states.after_name (term t.value) (state self.old))) }
+        ensures { IfOk result (λ r. (held_term r ≡ states.name_of (held_term t) (state self.old)) × (state self.new ≡ states.after_name (held_term t) (state self.old))) }
     {
         if self.is_named(&t) {
             return Ok(t);

@@ -1,7 +1,7 @@
 use Rattle.std.proofs.Common.{◌≡◌, ap, ◌∙◌}
 use Rattle.vx_ast.specs.Syntax.{Assertion}
 use Rattle.vx_resolved.specs.Resolved.{assertion}
-use Rattle.vx_terms.specs.Views.{term}
+use Rattle.vx_heap.specs.Views.{held_term}
 use Rattle.vx_resolved.specs.Settled.{settled}
 use Rattle.vx_rules.specs.States.{State}
 use Rattle.vx_rules.specs.Members.{rules}
@@ -14,7 +14,7 @@ use Rattle.vx_produce.proofs.parts.Goals as goal
 pub returns : goal.returns
 returns c =
     let p = settled c.args.program.now in
-    let scale = term c.args.x.now.scale.value in
+    let scale = held_term c.args.x.now.scale in
     let snapshot = optional_term c.args.x.now.snapshot in
     let left : Assertion = assertion c.args.left.now.value in
     let right : Assertion = assertion c.args.right.now.value in

@@ -1,7 +1,6 @@
 use Rattle.std.proofs.Common.{◌≡◌, string_bytes, refl, ap, ◌∙◌}
-use Rattle.vx_heap.specs.Views.{heap}
+use Rattle.vx_heap.specs.Views.{heap, held_term}
 use Rattle.vx_resolved.specs.Settled.{settled}
-use Rattle.vx_terms.specs.Views.{term}
 use Rattle.vx_rules.specs.Codes.{code}
 use Rattle.vx_rules.specs.Rules.{Giving, Going}
 use Rattle.vx_rules.specs.Trees.{Step}
@@ -19,6 +18,6 @@ returns c =
     let on : Giving = λ v s. Step (giving p c.args.hole.now.value v s) in
     let k : giving p c.in_ok-after.after.value ≡ on = ap (giving p) c.in_ok-after.ensures.ok ∙ ap {B = Giving} (λ (h : Hole) v s. Step (giving p h v s)) c.in_ok-clone.ensures.cases in
     ap (going p) c.in_ok-new.ensures.ok
-    ∙ ap {B = Going} (λ (y : Instance) s. take_instance p y.place (string_bytes y.predicate.value) (values y.arguments.value) (term y.amount.value) (code c.args.code) (heap c.in_ok-clone-2.field-0.value) s (giving p c.in_ok-after.after.value)) c.in_ok-instance.ensures.ok
-    ∙ takes_held p l.place (string_bytes l.predicate.value) (string_bytes l.predicate.value) (values l.arguments.value) (values l.arguments.value) (term l.amount.value) (term l.amount.value) (code c.args.code)
+    ∙ ap {B = Going} (λ (y : Instance) s. take_instance p y.place (string_bytes y.predicate.value) (values y.arguments.value) (held_term y.amount) (code c.args.code) (heap c.in_ok-clone-2.field-0.value) s (giving p c.in_ok-after.after.value)) c.in_ok-instance.ensures.ok
+    ∙ takes_held p l.place (string_bytes l.predicate.value) (string_bytes l.predicate.value) (values l.arguments.value) (values l.arguments.value) (held_term l.amount) (held_term l.amount) (code c.args.code)
     (heap c.in_ok-clone-2.field-0.value) (heap c.args.heap.now.value) (giving p c.in_ok-after.after.value) on refl refl refl (ap heap c.in_ok-clone-2.ensures.cases) k

@@ -1,7 +1,6 @@
 use Rattle.std.proofs.Common.{◌≡◌, string_bytes, refl, ap, ◌∙◌}
-use Rattle.vx_heap.specs.Views.{heap}
+use Rattle.vx_heap.specs.Views.{heap, held_term}
 use Rattle.vx_resolved.specs.Settled.{settled}
-use Rattle.vx_terms.specs.Views.{term}
 use Rattle.vx_rules.specs.Codes.{code}
 use Rattle.vx_rules.specs.Rules.{Giving, Going}
 use Rattle.vx_stack.specs.declared.waiting.Location.{Location}
@@ -19,6 +18,6 @@ returns c =
     ∙ wraps p (string_bytes c.in_ok-clone.field-0.value) (string_bytes l.field.value) (context c.args.codes) (giving p c.in_ok-clone-2.field-0.value) (giving p c.args.hole.now.value)
     (ap string_bytes c.in_ok-clone.ensures.cases) (ap (giving p) c.in_ok-clone-2.ensures.cases) in
     ap (going p) c.in_ok-new.ensures.ok
-    ∙ ap {B = Going} (λ (y : Location) s. take_location p y.place (string_bytes y.field.value) (term y.receiver.value) (term y.amount.value) (code c.args.codes.permission) (heap c.in_ok-clone-3.field-0.value) s (giving p c.in_ok-after.after.value)) c.in_ok-location.ensures.ok
-    ∙ takes p l.place (string_bytes l.field.value) (string_bytes l.field.value) (term l.receiver.value) (term l.receiver.value) (term l.amount.value) (term l.amount.value) (code c.args.codes.permission)
+    ∙ ap {B = Going} (λ (y : Location) s. take_location p y.place (string_bytes y.field.value) (held_term y.receiver) (held_term y.amount) (code c.args.codes.permission) (heap c.in_ok-clone-3.field-0.value) s (giving p c.in_ok-after.after.value)) c.in_ok-location.ensures.ok
+    ∙ takes p l.place (string_bytes l.field.value) (string_bytes l.field.value) (held_term l.receiver) (held_term l.receiver) (held_term l.amount) (held_term l.amount) (code c.args.codes.permission)
     (heap c.in_ok-clone-3.field-0.value) (heap c.args.heap.now.value) (giving p c.in_ok-after.after.value) on refl refl refl (ap heap c.in_ok-clone-3.ensures.cases) k

@@ -1,8 +1,7 @@
 use Rattle.std.proofs.Common.{◌≡◌, sym, ap, ◌∙◌}
-use Rattle.vx_heap.specs.Views.{heap}
+use Rattle.vx_heap.specs.Views.{heap, held_term}
 use Rattle.vx_resolved.specs.Resolved.{assertion}
 use Rattle.vx_resolved.specs.Settled.{settled}
-use Rattle.vx_terms.specs.Views.{term}
 use Rattle.vx_rules.specs.States.{State, with_heap}
 use Rattle.vx_rules.specs.Rules.{Giving}
 use Rattle.vx_states.specs.SymStates.{state}
@@ -18,6 +17,6 @@ returns c =
     let on : Giving = giving p c.args.hole.now.value in
     let e : state c.exchange_heap-start.new.self ≡ with_heap (heap c.args.heap.now.value) s = c.exchange_heap-start.ensures.after ∙ ap (λ h. with_heap (heap h) s) c.in_ok-clone.ensures.cases in
     stepped_as p _ _ _ _ _
-    (sym (forks (term c.args.condition.value) (state c.exchange_heap-start.new.self) (with_heap (heap c.args.heap.now.value) s)
+    (sym (forks (held_term c.args.condition) (state c.exchange_heap-start.new.self) (with_heap (heap c.args.heap.now.value) s)
     (frame_tree p c.in_ok-left.left) (λ z. consuming p (assertion c.args.a.now.value) c.args.x.now.value z on)
     (frame_tree p c.in_ok-right.right) (λ z. consuming p (assertion c.args.b.now.value) c.args.x.now.value z on) e c.in_ok-left.ensures c.in_ok-right.ensures)) c.fork.ensures

@@ -8,14 +8,14 @@ use Rattle.vx_states.specs.SymStates.{state}
 use Rattle.vx_stack.specs.declared.frame.Row.{Row}
 use Rattle.vx_stack.specs.Stack.{giving_all}
 use Rattle.vx_stack.proofs.Steps.{stepped_as}
-use Rattle.vx_terms.specs.Views.{term}
+use Rattle.vx_heap.specs.Views.{held_term}
 use Rattle.vx_eval.proofs.arguments.step_argument.Goals as goal
 
 pub returns : goal.returns
 returns c =
     let p = settled c.args.program.now in
     let s = state c.args.state in
-    let t = term c.args.value.value in
+    let t = held_term c.args.value in
     let row = c.in_ok-row.row.value in
     stepped_as p _ _ _ _ _
     (sym (ap (λ y. evals p (rules p) (exprs y) s (giving_all p row)) c.deref.ensures

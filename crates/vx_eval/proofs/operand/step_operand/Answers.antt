@@ -2,6 +2,7 @@ use Rattle.std.proofs.Common.{◌∙◌, ap, refl, sym, string_bytes}
 use Rattle.vx_resolved.specs.Settled.{settled}
 use Rattle.vx_rules.specs.Rules.{placed}
 use Rattle.vx_states.specs.SymStates.{state}
+use Rattle.vx_heap.specs.Views.{held_term}
 use Rattle.vx_terms.specs.Views.{term}
 use Rattle.vx_resolved.specs.Resolved.{exprs}
 use Rattle.vx_rules.specs.Members.{rules}
@@ -33,7 +34,7 @@ pub returns-in-Receiver : goal.returns-in-Receiver
 returns-in-Receiver c =
     let p = settled c.args.program.now in
     stepped_as p _ _ _ _ _
-    (rw c.in-Receiver.is (sym (reads (string_bytes c.in-Receiver.field.value) (term c.args.value.value) c.placed-place.result (placed (state c.args.state) c.in-Receiver.at) (state c.args.state) (giving p c.args.hole.now.value) c.placed-place.ensures)))
+    (rw c.in-Receiver.is (sym (reads (string_bytes c.in-Receiver.field.value) (held_term c.args.value) c.placed-place.result (placed (state c.args.state) c.in-Receiver.at) (state c.args.state) (giving p c.args.hole.now.value) c.placed-place.ensures)))
     c.read_field.ensures
 
 pub returns-in_ok-clone-in-Unfolding-2 : goal.returns-in_ok-clone-in-Unfolding-2
@@ -41,7 +42,7 @@ returns-in_ok-clone-in-Unfolding-2 c =
     let p = settled c.args.program.now in
     let s = state c.args.state in
     let x = c.in-Unfolding in
-    let a = term c.args.value.value in
+    let a = held_term c.args.value in
     let value = c.in_ok-clone-in-Unfolding-2.field-0.value in
     let inside = c.in_ok-inside-in-Unfolding.inside.value in
     let rest : Going = within p x.e.value x.heap.value (giving p c.args.hole.now.value) in

@@ -9,7 +9,7 @@ use Rattle.vx_stack.specs.declared.frame.Row.{Row}
 use Rattle.vx_stack.specs.Stack.{giving_all, going}
 use Rattle.vx_stack.proofs.Steps.{asks, stepped_as}
 use Rattle.vx_terms.specs.Build.{less, zero_amount}
-use Rattle.vx_terms.specs.Views.{term}
+use Rattle.vx_heap.specs.Views.{held_term}
 use Rattle.vx_eval.proofs.operand.step_share.Goals as goal
 
 pub returns : goal.returns
@@ -24,5 +24,5 @@ returns c =
     ∙ ap {B = Going} (λ y s1. evals p (rules p) (exprs y) s1 (giving_all p row)) c.in_ok-clone.ensures.cases
     ∙ ap {B = Going} (λ (y : Row) s1. evals p (rules p) (exprs c.args.es.now.value) s1 (giving_all p y)) c.in_ok-row.ensures.ok in
     stepped_as p _ _ _ _ _
-    (sym (asks (term c.in_ok-condition.condition.value) (less zero_amount (term c.args.amount.now.value)) c.placed-place.result (placed s c.args.at) AmountCode s (going p c.in_ok-next.next.value) arguments c.in_ok-condition.ensures c.placed-place.ensures on))
+    (sym (asks (held_term c.in_ok-condition.condition) (less zero_amount (held_term c.args.amount.now)) c.placed-place.result (placed s c.args.at) AmountCode s (going p c.in_ok-next.next.value) arguments c.in_ok-condition.ensures c.placed-place.ensures on))
     c.ask.ensures

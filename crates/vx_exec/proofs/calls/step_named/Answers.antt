@@ -1,13 +1,12 @@
 use Rattle.std.proofs.Common.{◌≡◌, List, length, refl, sym, ap, ◌∙◌}
 use Rattle.std.proofs.lemmas.List.{length-map}
 use Rattle.vx_ast.specs.Syntax.{Name, Method, joined}
-use Rattle.vx_heap.specs.Views.{heap, terms_of}
+use Rattle.vx_heap.specs.Views.{heap, terms_of, held_term}
 use Rattle.vx_resolved.specs.declared.Method as method'
 use Rattle.vx_resolved.specs.Resolved.{method, names_of}
 use Rattle.vx_resolved.specs.Settled.{settled}
 use Rattle.vx_terms.specs.Build.{whole_amount}
 use Rattle.vx_terms.specs.Terms.{Term}
-use Rattle.vx_terms.specs.Views.{term}
 use Rattle.vx_rules.specs.States.{State, bind}
 use Rattle.vx_rules.specs.Trees.{CallCode, Step}
 use Rattle.vx_rules.specs.Rules.{Giving, Going, consume, entered}
@@ -31,7 +30,7 @@ returns c =
     let is = c.in_ok-called.ensures in
     let z : State = entered (bind m.parameters ts) c.args.place s in
     let other : Giving = λ t w. promised p it n w in
-    let count : it.count ≡ length ts = is.count ∙ sym (length-map c.args.names.now (λ t. term t.value)) in
+    let count : it.count ≡ length ts = is.count ∙ sym (length-map c.args.names.now (λ t. held_term t)) in
     let take : going p c.in_ok-take.take ≡ (λ w. consume p (rules p) (joined m.place m.requires) (codes CallCode CallCode) whole_amount w.heap w other) =
     c.in_ok-take.ensures in
     let entered_z : state c.in_ok-state.state ≡ z =

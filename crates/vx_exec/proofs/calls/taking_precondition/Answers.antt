@@ -3,7 +3,7 @@ use Rattle.vx_ast.specs.Syntax.{joined}
 use Rattle.vx_resolved.specs.declared.Method as method'
 use Rattle.vx_resolved.specs.Resolved.{assertion, method}
 use Rattle.vx_resolved.specs.Settled.{settled}
-use Rattle.vx_terms.specs.Views.{term}
+use Rattle.vx_heap.specs.Views.{held_term}
 use Rattle.vx_terms.specs.Build.{whole_amount}
 use Rattle.vx_rules.specs.Trees.{CallCode}
 use Rattle.vx_rules.specs.Rules.{Giving}
@@ -23,5 +23,5 @@ returns c =
     ap (giving p) c.in_ok-hole.ensures.ok ∙ ap (λ (n : Next). executed p (executed'.Called c.args.called) (going p n)) c.in_ok-clone.ensures.cases in
     let all : assertion c.in_ok-all.all.value ≡ joined m.place m.requires =
     c.in_ok-all.ensures ∙ ap (λ (y : method'.Method). joined (method y).place (method y).requires) c.deref.ensures in
-    consumes p (assertion c.in_ok-all.all.value) (joined m.place m.requires) (codes CallCode CallCode) (term c.in_ok-whole.whole.value) whole_amount (giving p c.in_ok-hole.hole.value) on
+    consumes p (assertion c.in_ok-all.all.value) (joined m.place m.requires) (codes CallCode CallCode) (held_term c.in_ok-whole.whole) whole_amount (giving p c.in_ok-hole.hole.value) on
     all c.in_ok-whole.ensures k

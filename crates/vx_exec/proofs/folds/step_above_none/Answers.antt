@@ -2,7 +2,7 @@ use Rattle.std.proofs.Common.{◌≡◌, refl, sym, ap, ◌∙◌}
 use Rattle.vx_resolved.specs.declared.Exprs as exprs'
 use Rattle.vx_resolved.specs.Resolved.{exprs}
 use Rattle.vx_resolved.specs.Settled.{settled}
-use Rattle.vx_terms.specs.Views.{term}
+use Rattle.vx_heap.specs.Views.{held_term}
 use Rattle.vx_terms.specs.Build.{less, zero_amount}
 use Rattle.vx_rules.specs.States.{State}
 use Rattle.vx_rules.specs.Trees.{AmountCode}
@@ -24,4 +24,4 @@ returns c =
     ∙ ap {B = Going} (λ (y : exprs'.Exprs) z. evals p (rules p) (exprs y) z (giving_all p c.in_ok-row.row.value)) c.in_ok-clone.ensures.cases
     ∙ ap {B = Going} (λ (y : Row) z. evals p (rules p) (exprs c.args.arguments.now.value) z (giving_all p y)) c.in_ok-row.ensures.ok in
     stepped_as p _ _ _ _ _
-    (sym (asks (term c.in_ok-allowed.allowed.value) (less zero_amount (term c.args.amount.now.value)) c.args.place c.args.place AmountCode s (going p c.in_ok-rest.rest.value) on c.in_ok-allowed.ensures refl rest)) c.ask.ensures
+    (sym (asks (held_term c.in_ok-allowed.allowed) (less zero_amount (held_term c.args.amount.now)) c.args.place c.args.place AmountCode s (going p c.in_ok-rest.rest.value) on c.in_ok-allowed.ensures refl rest)) c.ask.ensures

@@ -5,7 +5,7 @@ use Rattle.vx_resolved.specs.declared.Predicate as predicate'
 use Rattle.vx_resolved.specs.Resolved.{assertion, optional_assertion, predicate}
 use Rattle.vx_resolved.specs.Settled.{settled, optional_predicate}
 use Rattle.vx_terms.specs.Terms.{Term}
-use Rattle.vx_terms.specs.Views.{term}
+use Rattle.vx_heap.specs.Views.{held_term}
 use Rattle.vx_rules.specs.States.{State}
 use Rattle.vx_rules.specs.Rules.{Going}
 use Rattle.vx_states.specs.SymStates.{state}
@@ -22,7 +22,7 @@ returns c =
     let s : State = state c.args.state in
     let i : Name = string_bytes c.args.predicate.now.value in
     let ts : List Term = values c.args.arguments.now.value in
-    let a : Term = term c.args.amount.now.value in
+    let a : Term = held_term c.args.amount.now in
     let on : Going = going p c.args.next.now.value in
     let d : predicate'.Predicate = c.in-Some.d.value in
     let b : assertion'.Assertion = c.in-Some-body.body.value in
@@ -33,5 +33,5 @@ returns c =
     ap (λ (y : predicate'.Predicate). optional_assertion y.body) (sym c.deref.ensures) ∙ ap optional_assertion c.in-Some-body.is in
     stepped_as p _ _ _ _ _
     (folded_by p c.args.place i ts a s on (predicate d) (assertion b) named body
-    ∙ sym (folds p x.place c.args.place (string_bytes x.predicate.value) i (values x.arguments.value) ts (term x.amount.value) a s on (predicate c.deref-in-Some-body.result.now) (predicate d) (assertion b)
+    ∙ sym (folds p x.place c.args.place (string_bytes x.predicate.value) i (values x.arguments.value) ts (held_term x.amount) a s on (predicate c.deref-in-Some-body.result.now) (predicate d) (assertion b)
     is.place is.predicate is.arguments is.amount (ap predicate c.deref-in-Some-body.ensures))) c.step_taking.ensures

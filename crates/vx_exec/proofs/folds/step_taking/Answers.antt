@@ -3,7 +3,7 @@ use Rattle.vx_ast.specs.Syntax.{Name, Assertion}
 use Rattle.vx_resolved.specs.Resolved.{assertion, predicate}
 use Rattle.vx_resolved.specs.Settled.{settled}
 use Rattle.vx_terms.specs.Terms.{Term}
-use Rattle.vx_terms.specs.Views.{term}
+use Rattle.vx_heap.specs.Views.{held_term}
 use Rattle.vx_rules.specs.States.{State, bind}
 use Rattle.vx_rules.specs.Trees.{FoldCode, Step}
 use Rattle.vx_rules.specs.Rules.{Context, Giving, Going, entered}
@@ -23,7 +23,7 @@ returns c =
     let x : Instance = c.args.instance.now.value in
     let i : Name = string_bytes x.predicate.value in
     let ts : List Term = values x.arguments.value in
-    let a : Term = term x.amount.value in
+    let a : Term = held_term x.amount in
     let n : Going = going p c.args.next.now.value in
     let z : State = entered (bind (predicate c.args.d.now).parameters ts) x.place s in
     let folding : Context = record { pure = FoldCode; permission = FoldCode; builds = true } in

@@ -1,7 +1,7 @@
 use Rattle.std.proofs.Common.{◌≡◌, ap, ◌∙◌}
 use Rattle.vx_resolved.specs.Resolved.{assertion}
 use Rattle.vx_resolved.specs.Settled.{settled}
-use Rattle.vx_terms.specs.Views.{term}
+use Rattle.vx_heap.specs.Views.{held_term}
 use Rattle.vx_terms.specs.Build.{whole_amount}
 use Rattle.vx_rules.specs.Trees.{KeptCode, End}
 use Rattle.vx_rules.specs.Rules.{Giving}
@@ -16,5 +16,5 @@ returns c =
     let end : Giving = λ t s. End in
     let f : giving p c.in_ok-hole.hole.value ≡ end = ap (giving p) c.in_ok-hole.ensures.ok in
     ap (going p) c.in_ok-new.ensures.ok
-    ∙ consumes p (assertion c.in_ok-clone.field-0.value) (assertion c.args.it.now.invariant.value) (codes KeptCode KeptCode) (term c.in_ok-whole.whole.value) whole_amount (giving p c.in_ok-hole.hole.value) end
+    ∙ consumes p (assertion c.in_ok-clone.field-0.value) (assertion c.args.it.now.invariant.value) (codes KeptCode KeptCode) (held_term c.in_ok-whole.whole) whole_amount (giving p c.in_ok-hole.hole.value) end
     (ap assertion c.in_ok-clone.ensures.cases) c.in_ok-whole.ensures f

@@ -1,7 +1,7 @@
 use Rattle.std.proofs.Common.{◌≡◌, ap, ◌∙◌}
 use Rattle.vx_ast.specs.Syntax.{Assertion, joined}
 use Rattle.vx_resolved.specs.Resolved.{assertion, assertions, block}
-use Rattle.vx_terms.specs.Views.{term}
+use Rattle.vx_heap.specs.Views.{held_term}
 use Rattle.vx_terms.specs.Build.{whole_amount}
 use Rattle.vx_resolved.specs.Settled.{settled}
 use Rattle.vx_rules.specs.States.{State}
@@ -25,7 +25,7 @@ returns c =
     let after : Going = λ (s1 : State). consume p (rules p) all (codes PostCode PostCode) whole_amount s1.heap s1 end in
     let k : going p c.in_ok-after.after.value ≡ after =
     ap (going p) c.in_ok-after.ensures.ok
-    ∙ consumes p (assertion c.in_ok-all.all.value) all (codes PostCode PostCode) (term c.in_ok-whole.whole.value) whole_amount (giving p c.in_ok-finish.finish.value) end a c.in_ok-whole.ensures f in
+    ∙ consumes p (assertion c.in_ok-all.all.value) all (codes PostCode PostCode) (held_term c.in_ok-whole.whole) whole_amount (giving p c.in_ok-finish.finish.value) end a c.in_ok-whole.ensures f in
     ap (λ n. going p n s) c.in_ok-next.ensures.ok
     ∙ ap (λ b. exec_all p (rules p) (block b) s (going p c.in_ok-after.after.value)) c.in_ok-clone.ensures.cases
     ∙ ap (exec_all p (rules p) (block c.args.body.now.value) s) k

@@ -1,5 +1,5 @@
 use Rattle.std.proofs.Common.{◌≡◌, string_bytes, refl, ap, sym, ◌∙◌}
-use Rattle.vx_heap.specs.Views.{heap}
+use Rattle.vx_heap.specs.Views.{heap, held_term}
 use Rattle.vx_resolved.specs.Resolved.{method}
 use Rattle.vx_resolved.specs.Settled.{settled}
 use Rattle.vx_rules.specs.Members.{rules, sides}
@@ -10,7 +10,6 @@ use Rattle.vx_states.specs.Entering.{back_to}
 use Rattle.vx_stack.specs.declared.waiting.Instance.{Instance}
 use Rattle.vx_stack.specs.Stack.{giving, going, take_instance, take_location}
 use Rattle.vx_stack.specs.Values.{values}
-use Rattle.vx_terms.specs.Views.{term}
 use Rattle.vx_states.specs.SymStates.{state}
 use Rattle.vx_stack.proofs.Steps.{stepped_as}
 use Rattle.vx_machine.proofs.run.+step_next.Goals as goal
@@ -48,7 +47,7 @@ returns-in-Take t c =
     let it = c.in-Take in
     stepped_as p _ _ _ _ _
     (ap (λ n. going p n s) it.is
-    ∙ ap (λ (l : Location). take_location p l.place (string_bytes l.field.value) (term l.receiver.value) (term l.amount.value) (code it.code) (heap it.heap.value) s (giving p it.hole.value)) (sym c.deref-in-Take.ensures)) c.take_location.ensures
+    ∙ ap (λ (l : Location). take_location p l.place (string_bytes l.field.value) (held_term l.receiver) (held_term l.amount) (code it.code) (heap it.heap.value) s (giving p it.hole.value)) (sym c.deref-in-Take.ensures)) c.take_location.ensures
 
 pub returns-in-ReadFrom : goal.returns-in-ReadFrom
 returns-in-ReadFrom t c =
@@ -85,7 +84,7 @@ returns-in-TakeInstance t c =
     let it = c.in-TakeInstance in
     stepped_as p _ _ _ _ _
     (ap (λ n. going p n s) it.is
-    ∙ ap (λ (l : Instance). take_instance p l.place (string_bytes l.predicate.value) (values l.arguments.value) (term l.amount.value) (code it.code) (heap it.heap.value) s (giving p it.hole.value)) (sym c.deref-in-TakeInstance.ensures)) c.take_instance.ensures
+    ∙ ap (λ (l : Instance). take_instance p l.place (string_bytes l.predicate.value) (values l.arguments.value) (held_term l.amount) (code it.code) (heap it.heap.value) s (giving p it.hole.value)) (sym c.deref-in-TakeInstance.ensures)) c.take_instance.ensures
 
 pub returns-in-Body : goal.returns-in-Body
 returns-in-Body t c =

@@ -1,7 +1,7 @@
 use Rattle.std.proofs.Common.{◌≡◌, List, string_bytes, refl, sym, ap, ◌∙◌}
 use Rattle.vx_ast.specs.declared.Place.{Place}
 use Rattle.vx_terms.specs.Terms.{Term}
-use Rattle.vx_terms.specs.Views.{term}
+use Rattle.vx_heap.specs.Views.{held_term}
 use Rattle.vx_rules.specs.States.{State}
 use Rattle.vx_rules.specs.Rules.{unfolded}
 use Rattle.vx_rules.specs.Members.{rules}
@@ -35,7 +35,7 @@ returns-in-Unfolding c =
     let ts : List Term = values c.args.values.value in
     stepped_as p _ _ _ _ _
     (ap (λ (r : Row). giving_all p r ts s) it.is
-    ∙ ap (λ (y : Place). unfolded p (rules p) y (string_bytes it.predicate.value) ts (term it.amount.value) s (going p it.next.value)) (sym c.placed-place.ensures)) c.step_unfold.ensures
+    ∙ ap (λ (y : Place). unfolded p (rules p) y (string_bytes it.predicate.value) ts (held_term it.amount) s (going p it.next.value)) (sym c.placed-place.ensures)) c.step_unfold.ensures
 
 pub returns-in-Unfold : goal.returns-in-Unfold
 returns-in-Unfold c = stepped_as (settled c.args.program.now) _ _ _ _ _ (rw c.in-Unfold.is refl) c.step_unfold-in-Unfold.ensures

@@ -3,7 +3,7 @@ use Rattle.vx_ast.specs.declared.Place.{Place}
 use Rattle.vx_ast.specs.Syntax.{Name}
 use Rattle.vx_resolved.specs.Settled.{settled}
 use Rattle.vx_terms.specs.Terms.{Term}
-use Rattle.vx_terms.specs.Views.{term}
+use Rattle.vx_heap.specs.Views.{held_term}
 use Rattle.vx_rules.specs.States.{State}
 use Rattle.vx_rules.specs.Rules.{Going, unfolded}
 use Rattle.vx_rules.specs.Members.{rules}
@@ -24,7 +24,7 @@ returns c =
     let i : Name = string_bytes c.args.predicate.now.value in
     let ts : List Term = values c.args.arguments.now.value in
     stepped_as p _ _ _ _ _
-    (sym (ap (λ (y : Place). unfolded p (rules p) y (string_bytes x.predicate.value) (values x.arguments.value) (term x.amount.value) s on) is.place
-    ∙ ap (λ (y : Name). unfolded p (rules p) c.args.place y (values x.arguments.value) (term x.amount.value) s on) is.predicate
-    ∙ ap (λ (y : List Term). unfolded p (rules p) c.args.place i y (term x.amount.value) s on) is.arguments
+    (sym (ap (λ (y : Place). unfolded p (rules p) y (string_bytes x.predicate.value) (values x.arguments.value) (held_term x.amount) s on) is.place
+    ∙ ap (λ (y : Name). unfolded p (rules p) c.args.place y (values x.arguments.value) (held_term x.amount) s on) is.predicate
+    ∙ ap (λ (y : List Term). unfolded p (rules p) c.args.place i y (held_term x.amount) s on) is.arguments
     ∙ ap (λ (y : Term). unfolded p (rules p) c.args.place i ts y s on) is.amount)) c.unfold.ensures

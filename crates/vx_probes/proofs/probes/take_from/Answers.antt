@@ -2,7 +2,7 @@ use Rattle.std.proofs.Common.{◌≡◌, ◌∙◌, ◌+◌, ap, sym, refl, Some
 use Rattle.std.proofs.lemmas.Option.{slice_get_read}
 use Rattle.std.specs.Prelude.{false, length, slice_get}
 use Rattle.vx_resolved.specs.Settled.{settled}
-use Rattle.vx_heap.specs.Views.{candidate}
+use Rattle.vx_heap.specs.Views.{candidate, held_term}
 use Rattle.vx_rules.specs.Codes.{code}
 use Rattle.vx_rules.specs.Trees.{Tree}
 use Rattle.vx_rules.specs.Chunks.{Candidate, reduced}
@@ -31,8 +31,8 @@ returns-in_ok-clone-in-Some-3 c =
     ap (λ y. slice_get y.candidates.items c.args.number) (sym c.deref.ensures) ∙ ap (λ y. slice_get y c.args.number) (sym c.deref-2.ensures.value) ∙ slice_get_read c.deref-2.result.now (length c.deref-2.result.now) c.args.number k refl c.in-Some.ensures.lookup.3.0 c.in-Some.ensures.lookup.1 in
     let on = λ (w : Taken) (t : Term) (i : Candidate). with_taken p w i.chunk.value (leads_inside i.chunk) (with_heap (reduced i t s.heap) s) in
     let others = λ (x : Search) (t : Term) (o : Sort) (w : Taken). finding x n s (on w t) (taking_none t o x.place (code x.code) s (λ (v : Term) (s1 : State). with_taken p w v false s1)) in
-    let a1 = term c.in_ok-clone-in-Some-2.field-0.value in
-    let a = term c.args.amount.now.value in
+    let a1 = held_term c.in_ok-clone-in-Some-2.field-0 in
+    let a = held_term c.args.amount.now in
     let o1 = sort c.in_ok-copy-in-Some.field-0 in
     let o = sort c.args.of.now in
     let w1 = c.in_ok-clone-in-Some-3.field-0.value in

@@ -1,6 +1,6 @@
 use Rattle.std.proofs.Common.{◌≡◌, ◌∙◌, ap, sym, Some, false}
 use Rattle.vx_resolved.specs.Settled.{settled}
-use Rattle.vx_heap.specs.Views.{heap, key, terms_of}
+use Rattle.vx_heap.specs.Views.{heap, key, terms_of, held_term}
 use Rattle.vx_rules.specs.Codes.{code}
 use Rattle.vx_rules.specs.Chunks.{Candidate, candidates, reduced}
 use Rattle.vx_rules.specs.Rules.{leads_inside}
@@ -16,7 +16,7 @@ use Rattle.vx_probes.proofs.starts.take.Goals as goal
 pub returns : goal.returns
 returns c =
     let p = settled c.args.program.now in
-    let a = term c.args.amount.now.value in
+    let a = held_term c.args.amount.now in
     let o = sort c.args.of.now in
     let k = key c.args.resource.now c.args.arguments.items in
     let s = state c.args.state in

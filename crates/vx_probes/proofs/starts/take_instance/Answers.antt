@@ -2,7 +2,7 @@ use Rattle.std.proofs.Common.{◌≡◌, ◌∙◌, ap, sym, refl}
 use Rattle.std.specs.Prelude.{string_bytes}
 use Rattle.vx_resolved.specs.Settled.{settled}
 use Rattle.vx_heap.specs.declared.chunk.Resource.TheVariants as resource
-use Rattle.vx_heap.specs.Views.{heap, key, terms_of}
+use Rattle.vx_heap.specs.Views.{heap, key, terms_of, held_term}
 use Rattle.vx_rules.specs.Chunks.{instance_key}
 use Rattle.vx_rules.specs.Codes.{code}
 use Rattle.vx_rules.specs.Rules.{placed}
@@ -13,7 +13,6 @@ use Rattle.vx_stack.specs.declared.frame.Hole.{Hole}
 use Rattle.vx_stack.specs.Stack.{giving}
 use Rattle.vx_stack.specs.Values.{values}
 use Rattle.vx_terms.specs.Sorts.{SnapSort}
-use Rattle.vx_terms.specs.Views.{term}
 use Rattle.vx_probes.proofs.Firsts.{stepped_by}
 use Rattle.vx_probes.proofs.Takes.{key_of_instance, takes}
 use Rattle.vx_probes.proofs.starts.take_instance.Goals as goal
@@ -22,7 +21,7 @@ pub returns : goal.returns
 returns c =
     let p = settled c.args.program.now in
     let x = c.args.instance.now in
-    let a = term x.amount.value in
+    let a = held_term x.amount in
     let us = values x.arguments.value in
     let before = state c.args.state in
     let s = with_heap (heap c.args.heap.now.value) before in

@@ -2,7 +2,7 @@ use Rattle.std.proofs.Common.{◌≡◌, ◌∙◌, ◌++◌, ap, sym, refl, [],
 use Rattle.std.specs.Prelude.{string_bytes}
 use Rattle.vx_resolved.specs.Settled.{settled}
 use Rattle.vx_heap.specs.declared.chunk.Resource.TheVariants as resource
-use Rattle.vx_heap.specs.Views.{heap, key, terms_of}
+use Rattle.vx_heap.specs.Views.{heap, key, terms_of, held_term}
 use Rattle.vx_rules.specs.Chunks.{field_key}
 use Rattle.vx_rules.specs.Codes.{code}
 use Rattle.vx_rules.specs.Rules.{field_sort, placed}
@@ -21,8 +21,8 @@ returns c =
     let p = settled c.args.program.now in
     let l = c.args.location.now in
     let f = string_bytes l.field.value in
-    let a = term l.amount.value in
-    let r = term l.receiver.value in
+    let a = held_term l.amount in
+    let r = held_term l.receiver in
     let before = state c.args.state in
     let s = with_heap (heap c.args.heap.now.value) before in
     let items = c.push.new.self.items in

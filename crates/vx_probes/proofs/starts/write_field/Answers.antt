@@ -1,12 +1,11 @@
 use Rattle.std.proofs.Common.{◌∙◌, ap, Some}
 use Rattle.std.specs.Prelude.{string_bytes}
 use Rattle.vx_resolved.specs.Settled.{settled}
-use Rattle.vx_heap.specs.Views.{heap}
+use Rattle.vx_heap.specs.Views.{heap, held_term}
 use Rattle.vx_rules.specs.Chunks.{field_key, candidates}
 use Rattle.vx_rules.specs.Rules.{never, written}
 use Rattle.vx_states.specs.SymStates.{state}
 use Rattle.vx_stack.specs.Stack.{going}
-use Rattle.vx_terms.specs.Views.{term}
 use Rattle.vx_probes.proofs.Firsts.{searched, stepped_by}
 use Rattle.vx_probes.proofs.starts.write_field.Goals as goal
 
@@ -15,7 +14,7 @@ returns c =
     let p = settled c.args.program.now in
     let s = state c.args.state in
     let found = c.in_ok-wanted.ensures in
-    let key = field_key (string_bytes c.args.field.now.value) (term c.args.receiver.value) in
+    let key = field_key (string_bytes c.args.field.now.value) (held_term c.args.receiver) in
     stepped_by p c.write_to.result _ _ _ c.write_to.ensures _
-    (searched c.in_ok-wanted.wanted.value c.args.place _ _ _ (candidates key s.heap) s (λ k. going p c.args.next.now.value (written k (term c.args.value.now.value) s)) (λ at y. never at y s)
+    (searched c.in_ok-wanted.wanted.value c.args.place _ _ _ (candidates key s.heap) s (λ k. going p c.args.next.now.value (written k (held_term c.args.value.now) s)) (λ at y. never at y s)
     found.place found.code found.arguments (found.amount ∙ ap Some c.in_ok-whole.ensures) (found.candidates ∙ ap (λ y. candidates key (heap y)) c.deref.ensures))

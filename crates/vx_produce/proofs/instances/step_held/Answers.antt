@@ -2,7 +2,7 @@ use Rattle.std.proofs.Common.{◌≡◌, List, string_bytes, ap, sym, ◌∙◌}
 use Rattle.vx_resolved.specs.Settled.{settled}
 use Rattle.vx_ast.specs.Syntax.{Name}
 use Rattle.vx_terms.specs.Terms.{Term}
-use Rattle.vx_terms.specs.Views.{term}
+use Rattle.vx_heap.specs.Views.{held_term}
 use Rattle.vx_terms.specs.Build.{less_equal, multiply, zero_amount}
 use Rattle.vx_rules.specs.States.{State}
 use Rattle.vx_rules.specs.Trees.{AmountCode, Step}
@@ -22,14 +22,14 @@ returns c =
     let x : Production = c.args.x.now.value in
     let i : Name = string_bytes c.args.predicate.now.value in
     let ts : List Term = values c.args.arguments.now.value in
-    let a : Term = multiply (term x.scale.value) (term c.args.share.now.value) in
+    let a : Term = multiply (held_term x.scale) (held_term c.args.share.now) in
     let next : Going = going p c.args.next.now.value in
     let on : Going = λ s1. Step (next (with_held p i ts a (optional_term x.snapshot) c.args.is_inner s1)) in
-    let amount : term c.in_ok-amount.amount.value ≡ a = c.in_ok-amount.ensures ∙ ap (λ (y : Production). multiply (term y.scale.value) (term c.args.share.now.value)) c.deref.ensures in
-    let allowed : term c.in_ok-allowed.allowed.value ≡ less_equal zero_amount a = c.in_ok-allowed.ensures ∙ ap (less_equal zero_amount) amount in
+    let amount : held_term c.in_ok-amount.amount ≡ a = c.in_ok-amount.ensures ∙ ap (λ (y : Production). multiply (held_term y.scale) (held_term c.args.share.now)) c.deref.ensures in
+    let allowed : held_term c.in_ok-allowed.allowed ≡ less_equal zero_amount a = c.in_ok-allowed.ensures ∙ ap (less_equal zero_amount) amount in
     let put : frame_tree p c.in_ok-put.put ≡ on =
     c.in_ok-put.ensures
-    ∙ holds p (string_bytes c.in_ok-clone.field-0.value) i (values c.in_ok-clone-2.field-0.value) ts (term c.in_ok-amount.amount.value) a (optional_term x.snapshot) c.args.is_inner next
+    ∙ holds p (string_bytes c.in_ok-clone.field-0.value) i (values c.in_ok-clone-2.field-0.value) ts (held_term c.in_ok-amount.amount) a (optional_term x.snapshot) c.args.is_inner next
     (ap string_bytes c.in_ok-clone.ensures.cases) (ap values c.in_ok-clone-2.ensures.cases) amount in
     stepped_as p _ _ _ _ _
-    (sym (asks (term c.in_ok-allowed.allowed.value) (less_equal zero_amount a) c.placed-at.result (placed s c.args.place) AmountCode s (frame_tree p c.in_ok-put.put) on allowed c.placed-at.ensures put)) c.ask.ensures
+    (sym (asks (held_term c.in_ok-allowed.allowed) (less_equal zero_amount a) c.placed-at.result (placed s c.args.place) AmountCode s (frame_tree p c.in_ok-put.put) on allowed c.placed-at.ensures put)) c.ask.ensures

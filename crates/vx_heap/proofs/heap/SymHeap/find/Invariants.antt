@@ -1,8 +1,10 @@
-use Rattle.std.proofs.Common.{◌≡◌, map, drop}
-use Rattle.std.specs.Prelude.{true}
+use Rattle.std.proofs.Common.{◌≡◌, drop, true}
 use Rattle.vx_rules.specs.Chunks.{chosen}
-use Rattle.vx_heap.specs.Views.{heap, key, shared}
+use Rattle.vx_heap.specs.Picked.{picked}
+use Rattle.vx_heap.specs.Views.{heap, key}
 use Rattle.vx_heap.proofs.heap.SymHeap.find.Given as goal
 
 abbrev pub invariant-loop-at : goal.invariant-loop-at
-invariant-loop-at l = chosen true (key l.resource l.arguments) 0 (heap l.self) ≡ chosen true (key l.resource l.arguments) l.at (map shared (drop l.at l.chunk-items))
+invariant-loop-at l =
+    let k = key l.resource l.arguments in
+    picked true k (heap l.self) (drop l.at-index l.at-items) ≡ chosen true k 0 (heap l.self)

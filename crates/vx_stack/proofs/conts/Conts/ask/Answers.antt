@@ -1,5 +1,6 @@
 use Rattle.std.proofs.Common.{◌≡◌, true, false, ◌||◌, ap, sym, ◌∙◌}
 use Rattle.vx_terms.specs.Terms.{Term, same}
+use Rattle.vx_heap.specs.Views.{held_term}
 use Rattle.vx_terms.specs.Views.{term}
 use Rattle.vx_terms.specs.Build.{true_term, false_term}
 use Rattle.vx_resolved.specs.Settled.{settled}
@@ -14,7 +15,7 @@ use Rattle.vx_stack.proofs.conts.Conts.ask.Goals as goal
 pub returns-then-passes : goal.returns-then-passes
 returns-then-passes c =
     let p = settled c.args.program.now in
-    let c' : Term = term c.args.condition.value in
+    let c' : Term = held_term c.args.condition in
     let s' : State = state c.args.state in
     let e : (same c' true_term || is_quiet s') ≡ true = ap (λ t. same (term t) true_term || is_quiet s') (sym c.deref.ensures) ∙ sym c.passes.ensures ∙ c.if-passes.true in
     stepped_as p c.go.result _ _ _ c.go.new.self.sides.items (ask_passes c' c.args.place (code c.args.code) s' (frame_tree p c.args.frame) e) c.go.ensures
@@ -22,7 +23,7 @@ returns-then-passes c =
 pub returns-then-is_same : goal.returns-then-is_same
 returns-then-is_same c =
     let p = settled c.args.program.now in
-    let c' : Term = term c.args.condition.value in
+    let c' : Term = held_term c.args.condition in
     let s' : State = state c.args.state in
     let q = c.in_ok-query.query in
     let e1 : (same c' true_term || is_quiet s') ≡ false = ap (λ t. same (term t) true_term || is_quiet s') (sym c.deref.ensures) ∙ sym c.passes.ensures ∙ c.if-passes.false in
@@ -34,7 +35,7 @@ returns-then-is_same c =
 pub returns : goal.returns
 returns c =
     let p = settled c.args.program.now in
-    let c' : Term = term c.args.condition.value in
+    let c' : Term = held_term c.args.condition in
     let s' : State = state c.args.state in
     let q = c.in_ok-query.query in
     let e1 : (same c' true_term || is_quiet s') ≡ false = ap (λ t. same (term t) true_term || is_quiet s') (sym c.deref.ensures) ∙ sym c.passes.ensures ∙ c.if-passes.false in

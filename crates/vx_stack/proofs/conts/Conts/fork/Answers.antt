@@ -1,5 +1,6 @@
 use Rattle.std.proofs.Common.{◌≡◌, false, ap, sym, ◌∙◌}
 use Rattle.vx_terms.specs.Terms.{Term}
+use Rattle.vx_heap.specs.Views.{held_term}
 use Rattle.vx_terms.specs.Views.{term}
 use Rattle.vx_terms.specs.Build.{negate}
 use Rattle.vx_resolved.specs.Settled.{settled}
@@ -12,8 +13,8 @@ use Rattle.vx_stack.proofs.conts.Conts.fork.Goals as goal
 pub returns : goal.returns
 returns c =
     let p = settled c.args.program.now in
-    let c' : Term = term c.args.condition.value in
-    let d' : Term = term c.in_ok-negated.negated.value in
+    let c' : Term = held_term c.args.condition in
+    let d' : Term = held_term c.in_ok-negated.negated in
     let s' : State = state c.args.state in
     let e1 : is_known c' s' ≡ false = ap (λ x. is_known (term x) s') (sym c.deref.ensures) ∙ sym c.is_known.ensures ∙ c.if-is_known.false in
     let e2 : d' ≡ negate c' = c.in_ok-negated.ensures in

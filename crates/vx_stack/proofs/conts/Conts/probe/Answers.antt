@@ -1,5 +1,6 @@
 use Rattle.std.proofs.Common.{◌≡◌, ◌++◌, ◌∷◌, [], true, false, refl, ap, sym, ◌∙◌, append_assoc}
 use Rattle.vx_terms.specs.Terms.{Term, same}
+use Rattle.vx_heap.specs.Views.{held_term}
 use Rattle.vx_terms.specs.Views.{term}
 use Rattle.vx_terms.specs.Build.{true_term, false_term}
 use Rattle.vx_resolved.specs.Settled.{settled}
@@ -16,7 +17,7 @@ use Rattle.vx_stack.proofs.conts.Conts.probe.Goals as goal
 pub returns-then-is_quiet : goal.returns-then-is_quiet
 returns-then-is_quiet c =
     let p = settled c.args.program.now in
-    let c' : Term = term c.args.condition.now.value in
+    let c' : Term = held_term c.args.condition.now in
     let s' : State = state c.args.otherwise.state in
     let e1 : same c' true_term ≡ false = ap (λ t. same (term t) true_term) (sym c.deref.ensures) ∙ sym c.is_same.ensures ∙ c.if-is_same.false in
     stepped_as p c.go-then-is_quiet.result _ _ _ c.go-then-is_quiet.new.self.sides.items
@@ -25,7 +26,7 @@ returns-then-is_quiet c =
 pub returns-then-is_same-2 : goal.returns-then-is_same-2
 returns-then-is_same-2 c =
     let p = settled c.args.program.now in
-    let c' : Term = term c.args.condition.now.value in
+    let c' : Term = held_term c.args.condition.now in
     let s' : State = state c.args.otherwise.state in
     let q = c.in_ok-query.query in
     let e1 : same c' true_term ≡ false = ap (λ t. same (term t) true_term) (sym c.deref.ensures) ∙ sym c.is_same.ensures ∙ c.if-is_same.false in
@@ -40,7 +41,7 @@ returns-then-is_same-2 c =
 pub returns : goal.returns
 returns c =
     let p = settled c.args.program.now in
-    let c' : Term = term c.args.condition.now.value in
+    let c' : Term = held_term c.args.condition.now in
     let s' : State = state c.args.otherwise.state in
     let q = c.in_ok-query.query in
     let e1 : same c' true_term ≡ false = ap (λ t. same (term t) true_term) (sym c.deref.ensures) ∙ sym c.is_same.ensures ∙ c.if-is_same.false in

@@ -5,7 +5,7 @@ use Rattle.vx_ast.specs.Syntax.{Name}
 use Rattle.vx_terms.specs.Terms.{Term}
 use Rattle.vx_states.specs.declared.state.Binding.{Binding}
 use Rattle.std.proofs.lemmas.List.{map-set, length-map}
-use Rattle.vx_terms.specs.Views.{term}
+use Rattle.vx_heap.specs.Views.{held_term}
 use Rattle.vx_rules.specs.States.{Store, assign, with_store}
 use Rattle.vx_states.specs.SymStates.{binding, state}
 use Rattle.vx_states.proofs.Stores.{Assigned, assigned}
@@ -14,7 +14,7 @@ use Rattle.vx_states.proofs.state.SymState.assign.Goals as goal
 pub index_mut-requires : goal.index_mut-requires
 index_mut-requires c =
     let x = string_bytes c.args.name.now.value in
-    let t = term c.args.t.value in
+    let t = held_term c.args.t in
     let s : Store = map binding c.args.self.now.store.items in
     let h : Assigned x t s (Some c.in-Some.k) = subst (Assigned x t s) (sym c.find.ensures ∙ c.in-Some.is) (assigned x t s) in
     omega (arith, h.0, length-map c.args.self.now.store.items binding, c.args.self.now.store.ok.0)
@@ -22,7 +22,7 @@ index_mut-requires c =
 pub returns-in-Some : goal.returns-in-Some
 returns-in-Some c =
     let x = string_bytes c.args.name.now.value in
-    let t = term c.args.t.value in
+    let t = held_term c.args.t in
     let s : Store = map binding c.args.self.now.store.items in
     let h : Assigned x t s (Some c.in-Some.k) = subst (Assigned x t s) (sym c.find.ensures ∙ c.in-Some.is) (assigned x t s) in
     let items = c.args.self.now.store.items in
@@ -36,7 +36,7 @@ returns-in-Some c =
 pub returns-in-None : goal.returns-in-None
 returns-in-None c =
     let x = string_bytes c.args.name.now.value in
-    let t = term c.args.t.value in
+    let t = held_term c.args.t in
     let s : Store = map binding c.args.self.now.store.items in
     let h : Assigned x t s None = subst (Assigned x t s) (sym c.find.ensures ∙ c.in-None.is) (assigned x t s) in
     rw h refl
