@@ -40,7 +40,7 @@ sort_same RefSort = refl
 sort_same SnapSort = refl
 sort_same (OtherSort x) = text_same x
 
-other_way : (f g : Symbol) → same_symbol g f ≡ false → same_symbol f g ≡ false
+pub other_way : (f g : Symbol) → same_symbol g f ≡ false → same_symbol f g ≡ false
 other_way f g e = go (same_symbol f g) refl
   where
     go : (b : Bool) → same_symbol f g ≡ b → same_symbol f g ≡ false
@@ -53,10 +53,10 @@ later : (e : Declared) (es : List Declared) (o : Option ℕ) → option_and_then
 later e es None = refl
 later e es (Some n) = refl
 
-first_is : (e : Declared) (es : List Declared) (f : Symbol) → same_symbol f e.symbol ≡ true → live.declared_as (e ∷ es) f ≡ Some e
+pub first_is : (e : Declared) (es : List Declared) (f : Symbol) → same_symbol f e.symbol ≡ true → live.declared_as (e ∷ es) f ≡ Some e
 first_is e es f h = ap (λ b. option_and_then (slice_get (e ∷ es)) (if b then Some 0 else option_map suc (first (λ d. same_symbol f d.symbol) es))) h
 
-first_later : (e : Declared) (es : List Declared) (f : Symbol) → same_symbol f e.symbol ≡ false → live.declared_as (e ∷ es) f ≡ live.declared_as es f
+pub first_later : (e : Declared) (es : List Declared) (f : Symbol) → same_symbol f e.symbol ≡ false → live.declared_as (e ∷ es) f ≡ live.declared_as es f
 first_later e es f h =
     ap (λ b. option_and_then (slice_get (e ∷ es)) (if b then Some 0 else option_map suc (first (λ d. same_symbol f d.symbol) es))) h
     ∙ later e es (first (λ d. same_symbol f d.symbol) es)

@@ -10,3 +10,11 @@ pub mod Literals
 pub mod Declarations
 pub mod WrittenTerms
 pub mod WrittenCommands
+pub mod Passed
+pub mod ReadTerms
+pub mod ReadCommands
+pub mod Following
+pub mod Sorted
+pub mod Alike
+pub mod InOrder
+pub mod Apart

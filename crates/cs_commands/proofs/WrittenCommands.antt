@@ -63,7 +63,7 @@ sorts_read scope (a ∷ as') rest names known =
     before : Sort → Result (List Sort × List Token) CommandFault
     before b = with_front (b ∷ []) (reading.sorts_at scope (sorts_tokens as' ++ Close ∷ rest))
 
-named_word : (x : List ℕ) → sort_word (sort_named x) ≡ x
+pub named_word : (x : List ℕ) → sort_word (sort_named x) ≡ x
 named_word x = on_int (bytes_eq x (codes "Int")) refl
   where
     on_snap : (b : Bool) → bytes_eq x (codes "Snap") ≡ b → sort_word (if b then SnapSort else OtherSort x) ≡ x

@@ -9,4 +9,5 @@ pub mod Commands
 pub mod Views
 pub mod Understanding
 pub mod Laws
+pub mod Following
 pub mod Examples

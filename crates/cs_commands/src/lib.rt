@@ -14,6 +14,9 @@ mod term;
 mod word;
 
 pub use fault::{CommandFault, Fault};
-pub use laws::{examples, written_is_understood};
+pub use laws::{
+    examples, stays_apart, understood_in_any_order, understood_is_sorted, understood_may_follow,
+    written_is_understood,
+};
 pub use live::Live;
 pub use reading::understand;
