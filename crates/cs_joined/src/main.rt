@@ -2,18 +2,7 @@
 //! joined, and writes what its checks are answered. `docs/ROWS.md` tells what a script is made of.
 #![tactic(auto)]
 
-mod assembly;
-mod atoms;
-mod check;
-mod claims;
-mod clauses;
-mod forced;
-mod held;
-mod lemma;
-mod model;
 mod names;
-mod numbered;
-mod orders;
 mod reading;
 mod row;
 

@@ -1,6 +1,6 @@
 //! Declared sorts and symbols.
 
-use cs_index::{Index, mix};
+use cs_index::{Index, mix_bytes};
 use std::alloc::{AllocError, Global};
 use std::rc::Rc;
 use vx_smt_meaning::Declared;
@@ -14,12 +14,8 @@ pub struct Names {
     index: Index,
 }
 
-fn key_of(name: &str) -> u16 {
-    let mut key = 0;
-    for byte in name.as_bytes() {
-        key = mix(key, u16::from(*byte));
-    }
-    key
+fn key_of(name: &str) -> u64 {
+    mix_bytes(0, name.as_bytes())
 }
 
 fn is_named(declared: &Declared, name: &str) -> bool {
@@ -35,11 +31,10 @@ impl Names {
     /// # Errors
     /// Want of memory.
     pub fn new(alloc: Global) -> Result<Names, AllocError> {
-        let index = Index::new(alloc)?;
         Ok(Names {
             sorts: Vec::new(alloc),
             symbols: Vec::new(alloc),
-            index,
+            index: Index::new(alloc),
         })
     }
 

@@ -1,8 +1,8 @@
 //! A row: a script of commands, and what its checks are answered.
 
-use crate::check::{Answer, Cause, decide};
 use crate::names::Names;
 use crate::reading::{term_of, word_of};
+use cs_decide::{Answer, Cause, decide};
 use cs_proof::Stack;
 use cs_reader::{Refusal, Stop};
 use std::alloc::{AllocError, Global};

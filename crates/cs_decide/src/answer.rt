@@ -1,0 +1,29 @@
+//! What a check is answered.
+
+use cs_model::Model;
+use cs_proof::Step;
+use cs_reader::Refusal;
+
+/// The answer to a check.
+#[derive(Drop)]
+pub enum Answer {
+    /// No interpretation makes all assertions true: the checker has finished these steps.
+    Refuted(Vec<Step>),
+    /// The model makes all assertions true.
+    Satisfied(Model),
+    /// The check is undecided.
+    Unknown(Cause),
+}
+
+/// Why a check is undecided.
+#[derive(Clone, Copy)]
+pub enum Cause {
+    /// All units are spent.
+    Budget,
+    /// The checker refuses the steps.
+    Refused(Refusal),
+    /// What was found is no model: a lemma isn't false under it, or an assertion isn't true in it.
+    Open,
+    /// A step misses its rule.
+    Miss,
+}

@@ -1,0 +1,310 @@
+//! The turns of a check, and its answer.
+ghost use Rattle.std.specs.Prelude.{IsTrue, IfOk, IfSome, IfNone, length};
+ghost use Rattle.vx_terms.specs.Interpretations.{Each};
+ghost use Rattle.cs_numbers.specs.Laws.{IsSorted};
+ghost use Rattle.cs_proof.specs.Fits.{seen};
+ghost use Rattle.cs_search.specs.Assignment.{FalseBefore, IsFalse};
+ghost use Rattle.cs_search.specs.Search.{IsReady, AreSatisfied};
+ghost use Rattle.cs_decide.specs.Answers.{IsRefutation, IsSatisfaction, IsRight};
+
+use crate::answer::{Answer, Cause};
+use crate::assembly::assembled;
+use crate::atoms::Atoms;
+use crate::claims::Claims;
+use crate::clauses::{Clauses, search_of};
+use crate::forced::reasons;
+use crate::judging::{certified, evaluated};
+use crate::lemma::{Lemma, lemma_of};
+use crate::model::model_of;
+use crate::numbered::Record;
+use crate::orders::put_orders;
+use cs_meter::{LIMIT, Meter};
+use cs_proof::{Stack, Want};
+use cs_search::assignment::Assignment;
+use cs_search::examine::status;
+use cs_search::learn::learn;
+use cs_search::search::{Hints, Search, Solved, Undecided, solve};
+use cs_search::{Clause, Literal, Status, Value};
+use cs_table::Stop;
+use std::alloc::Global;
+use std::rc::Rc;
+use vx_terms::Term;
+
+/// A check under way, but for its search.
+#[derive(Drop)]
+struct Check {
+    record: Record,
+    atoms: Atoms,
+    // the numbers of the search's clauses in the certificate
+    numbers: Vec<u32>,
+    // how many of the clauses that the search derived have their steps
+    told: usize,
+    claims: Claims,
+    meter: Meter,
+    // how many terms are those of the assertions
+    live: u32,
+}
+
+/// The clauses of the assertions, and of the first terms.
+fn put_all(
+    alloc: Global,
+    clauses: &mut Clauses,
+    record: &mut Record,
+    assertions: &[Rc<Term>],
+    live: u32,
+) -> Result<(), Stop> {
+    clauses.put_inputs(alloc, record, assertions)?;
+    clauses.put_definitions(alloc, record, live)?;
+    clauses.put_choices(alloc, record, live)?;
+    put_orders(alloc, clauses, record, live)
+}
+
+impl Check {
+    /// A check over these clauses, and what the search is given of them.
+    fn over(
+        alloc: Global,
+        mut record: Record,
+        clauses: Clauses,
+        live: u32,
+    ) -> Result<(Check, Vec<Clause>), Stop> {
+        let claims = Claims::new(alloc, &mut record, &clauses.atoms)?;
+        let Clauses {
+            atoms,
+            clauses,
+            numbers,
+            ..
+        } = clauses;
+        let check = Check {
+            record,
+            atoms,
+            numbers,
+            told: 0,
+            claims,
+            meter: Meter::new(),
+            live,
+        };
+        Ok((check, clauses))
+    }
+
+    /// The clauses of a stack, and a check that has them.
+    fn new(alloc: Global, stack: &Stack) -> Result<(Check, Vec<Clause>), Stop> {
+        let mut record = Record::new(alloc, &stack.assertions)?;
+        let live = record.count()?;
+        let mut clauses = Clauses::new(alloc, &record)?;
+        put_all(alloc, &mut clauses, &mut record, &stack.assertions, live)?;
+        Check::over(alloc, record, clauses, live)
+    }
+
+    /// The numbers of clauses in the certificate, from the last one to the first.
+    fn mapped(&self, alloc: Global, hints: &Hints) -> Result<Vec<u128>, Stop> {
+        let mut all = Vec::new(alloc);
+        for hint in hints.numbers.iter().rev() {
+            let Some(number) = self.numbers.get(*hint) else {
+                return Err(Stop::Miss);
+            };
+            all.push(u128::from(*number))?;
+        }
+        Ok(all)
+    }
+
+    /// The step of the next clause that the search derived.
+    fn tell_next(&mut self, alloc: Global, clause: &Clause, hints: &Hints) -> Result<(), Stop> {
+        let hints = self.mapped(alloc, hints)?;
+        let literals = self.atoms.terms(alloc, &clause.literals)?;
+        let number = self.record.propagate(alloc, &literals, hints)?;
+        self.numbers.push(number)?;
+        Ok(())
+    }
+
+    /// The steps of the clauses that the search has derived since.
+    fn tell(&mut self, alloc: Global, search: &Search) -> Result<(), Stop> {
+        let clauses = search.clauses.get(self.numbers.len()..).unwrap_or(&[]);
+        let steps = search.steps.get(self.told..).unwrap_or(&[]);
+        for (clause, hints) in clauses.iter().zip(steps) {
+            self.tell_next(alloc, clause, hints)?;
+        }
+        self.told = search.steps.len();
+        Ok(())
+    }
+
+    /// Hints derive the empty clause: the checker decides.
+    fn refuted(&mut self, alloc: Global, stack: &Stack, hints: Vec<u128>) -> Result<Answer, Stop>
+        ensures { IfOk result (IsRight (seen stack.now)) }
+    {
+        self.record.propagate(alloc, &[], hints)?;
+        let steps = assembled(alloc, &stack.assertions, &self.record)?;
+        certified(alloc, stack, steps)
+    }
+
+    /// A lemma refutes the clauses behind the reasons that make it false.
+    fn refuted_by(
+        &mut self,
+        alloc: Global,
+        stack: &Stack,
+        reasons: &Hints,
+        lemma: u32,
+    ) -> Result<Answer, Stop>
+        ensures { IfOk result (IsRight (seen stack.now)) }
+    {
+        let mut hints = self.mapped(alloc, reasons)?;
+        hints.push(u128::from(lemma))?;
+        self.refuted(alloc, stack, hints)
+    }
+
+    /// No claim is broken: the model decides.
+    fn modelled(&self, alloc: Global, stack: &Stack, values: &[Value]) -> Result<Answer, Stop>
+        ensures { IfOk result (IsRight (seen stack.now)) }
+    {
+        let Check {
+            record,
+            atoms,
+            claims,
+            ..
+        } = self;
+        let model = model_of(alloc, record, atoms, values, claims, self.live)?;
+        evaluated(alloc, stack, model)
+    }
+}
+
+fn is_false(made: &Assignment, literal: Literal) -> bool
+    ensures { IsTrue result → FalseBefore made.now.values.items (length made.now.trail.items) literal }
+{
+    match status(&made.values, literal) {
+        Status::False(place) => place < made.trail.len(),
+        Status::True(_) | Status::Unassigned => false,
+    }
+}
+
+/// Whether all the literals are false.
+fn are_false(made: &Assignment, literals: &[Literal]) -> bool
+    ensures { IsTrue result → IsFalse made.now.values.items (length made.now.trail.items) literals.now }
+{
+    for literal in literals {
+        if !is_false(made, *literal) {
+            return false;
+        }
+    }
+    true
+}
+
+/// A lemma that is false before any decision refutes the clauses; else the search learns it.
+fn take_lemma(
+    alloc: Global,
+    stack: &Stack,
+    check: &mut Check,
+    search: &mut Search,
+    lemma: &Lemma,
+) -> Result<Option<Answer>, Stop>
+    requires sound { IsReady search.old }
+    requires satisfied { AreSatisfied search.old.clauses.items search.old.made.values.items }
+    ensures answered { IfOk result (λ found. IfSome found (IsRight (seen stack.now))) }
+    ensures ready { IfOk result (λ found. IfNone found (IsReady search.new)) }
+{
+    let literals = check.atoms.literals(alloc, &lemma.literals)?;
+    if let Some(reasons) = reasons(alloc, search, &literals)? {
+        return Ok(Some(check.refuted_by(alloc, stack, &reasons, lemma.number)?));
+    }
+    if !are_false(&search.made, &literals) {
+        return Ok(Some(Answer::Unknown(Cause::Open)));
+    }
+    match learn(search, Clause { literals }, &mut check.meter) {
+        Ok(()) => {
+            check.numbers.push(lemma.number)?;
+            Ok(None)
+        }
+        Err(Undecided::Budget) => Ok(Some(Answer::Unknown(Cause::Budget))),
+        Err(Undecided::Want(_)) => Err(Stop::Want),
+    }
+}
+
+/// The search has an assignment: a broken claim teaches a lemma, and without one there is a model.
+fn assigned(
+    alloc: Global,
+    stack: &Stack,
+    check: &mut Check,
+    search: &mut Search,
+) -> Result<Option<Answer>, Stop>
+    requires sound { IsReady search.old }
+    requires satisfied { AreSatisfied search.old.clauses.items search.old.made.values.items }
+    ensures answered { IfOk result (λ found. IfSome found (IsRight (seen stack.now))) }
+    ensures ready { IfOk result (λ found. IfNone found (IsReady search.new)) }
+{
+    check.tell(alloc, search)?;
+    check
+        .claims
+        .make(alloc, &check.record, &check.atoms, &search.made.values)?;
+    match check.claims.broken()? {
+        Some(broken) => {
+            let lemma = lemma_of(alloc, &mut check.record, &check.claims, broken)?;
+            take_lemma(alloc, stack, check, search, &lemma)
+        }
+        None => Ok(Some(check.modelled(alloc, stack, &search.made.values)?)),
+    }
+}
+
+/// One turn: the search, and what its answer leads to.
+fn turn(
+    alloc: Global,
+    stack: &Stack,
+    check: &mut Check,
+    search: &mut Search,
+) -> Result<Option<Answer>, Stop>
+    requires sound { IsReady search.old }
+    ensures answered { IfOk result (λ found. IfSome found (IsRight (seen stack.now))) }
+    ensures ready { IfOk result (λ found. IfNone found (IsReady search.new)) }
+{
+    if search.made.values.len() >= 1 << 32 {
+        return Err(Stop::Want);
+    }
+    match solve(alloc, search, &mut check.meter) {
+        Err(Undecided::Budget) => Ok(Some(Answer::Unknown(Cause::Budget))),
+        Err(Undecided::Want(_)) => Err(Stop::Want),
+        Ok(solved) => match solved {
+            Solved::Refuted(hints) => {
+                check.tell(alloc, search)?;
+                let hints = check.mapped(alloc, &hints)?;
+                Ok(Some(check.refuted(alloc, stack, hints)?))
+            }
+            Solved::Assigned => assigned(alloc, stack, check, search),
+        },
+    }
+}
+
+/// Turn by turn, up to an answer. Each turn that goes on has spent a unit.
+fn run(alloc: Global, stack: &Stack, check: &mut Check, search: &mut Search) -> Result<Answer, Stop>
+    requires { IsReady search.old }
+    ensures { IfOk result (IsRight (seen stack.now)) }
+{
+    for _ in 0..=LIMIT {
+        if let Some(answer) = turn(alloc, stack, check, search)? {
+            return Ok(answer);
+        }
+    }
+    Ok(Answer::Unknown(Cause::Budget))
+}
+
+/// Decides the assertions of a stack, or stops.
+fn decided(alloc: Global, stack: &Stack) -> Result<Answer, Stop>
+    ensures { IfOk result (IsRight (seen stack.now)) }
+{
+    let (mut check, clauses) = Check::new(alloc, stack)?;
+    let mut search = search_of(alloc, clauses)?;
+    run(alloc, stack, &mut check, &mut search)
+}
+
+/// Decides the assertions of a stack. Terms of sorts Int and Real have no rules of their own here: a sum, a product and
+/// a comparison are terms as any others, so what hangs on their meaning is left unknown. What is answered is right.
+///
+/// # Errors
+/// `Want` where memory runs out.
+pub fn decide(alloc: Global, stack: &Stack) -> Result<Answer, Want>
+    // over well-sorted assertions
+    ensures refuted { Each IsSorted (seen stack.now).assertions → IfOk result (IsRefutation (seen stack.now)) }
+    ensures satisfied { IfOk result (IsSatisfaction (seen stack.now)) }
+{
+    match decided(alloc, stack) {
+        Ok(answer) => Ok(answer),
+        Err(Stop::Miss) => Ok(Answer::Unknown(Cause::Miss)),
+        Err(Stop::Want) => Err(Want),
+    }
+}
