@@ -1,0 +1,58 @@
+-- What holds of each item, and lists with the newest item first.
+use Rattle.std.proofs.Common.{◌≡◌, ℕ, zero, suc, Bool, true, false, leb, ◌-◌, ◌≤◌, List, [], ◌∷◌, ◌++◌, length, map, reverse, take, drop, refl, sym, ap, subst, arith, ◌∙◌, length-drop}
+use Rattle.std.proofs.Math.Nat.{le_of_lt}
+use Rattle.std.proofs.lemmas.Bool.{leb-true, leb-false}
+use Rattle.std.proofs.lemmas.List.{map-append, reverse-append, length-reverse, length-map, take-append-drop, take-map}
+use Rattle.std.proofs.Math.Seq.{drop-append_seam}
+use Rattle.std.proofs.Math.ListN.{drop_of_length-le}
+use Rattle.vx_terms.specs.Interpretations.{Each}
+
+-- ---- each
+
+pub each_take : {A : Type 0} (P : A → Type 0) (n : ℕ) (xs : List A) → Each P xs → Each P (take n xs)
+each_take P zero xs h = tt
+each_take P (suc n) [] h = tt
+each_take P (suc n) (x ∷ xs) h = (h.0, each_take P n xs h.1)
+
+pub each_push : {A : Type 0} (P : A → Type 0) (xs : List A) (x : A) → Each P xs → P x → Each P (xs ++ x ∷ [])
+each_push P [] x h p = (p, tt)
+each_push P (y ∷ ys) x h p = (h.0, each_push P ys x h.1 p)
+
+pub each_reverse : {A : Type 0} (P : A → Type 0) (xs : List A) → Each P xs → Each P (reverse xs)
+each_reverse P [] h = tt
+each_reverse P (x ∷ xs) h = subst (Each P) (sym (reverse-append (x ∷ []) xs)) (each_push P (reverse xs) x (each_reverse P xs h.1) h.0)
+
+-- ---- one more, and fewer
+
+pub newer : {A B : Type 0} (f : A → B) (xs : List A) (x : A) → reverse (map f (xs ++ x ∷ [])) ≡ f x ∷ reverse (map f xs)
+newer f xs x = ap reverse (map-append f xs (x ∷ [])) ∙ reverse-append (map f xs) (f x ∷ [])
+
+-- the first k and so many behind them, the other way round
+parted : {A : Type 0} (k n : ℕ) (xs : List A) → length (drop k xs) ≡ n → drop n (reverse xs) ≡ reverse (take k xs)
+parted k n xs e =
+    let whole : reverse xs ≡ reverse (drop k xs) ++ reverse (take k xs) = ap reverse (sym (take-append-drop k xs)) ∙ reverse-append (take k xs) (drop k xs) in
+    let long : length (reverse (drop k xs)) ≡ n = length-reverse (drop k xs) ∙ e in
+    ap (drop n) whole ∙ (ap (λ m. drop m (reverse (drop k xs) ++ reverse (take k xs))) (sym long) ∙ drop-append_seam (reverse (drop k xs)) (reverse (take k xs)))
+
+within : {A : Type 0} (n : ℕ) (xs : List A) → n ≤ length xs → reverse (take (length xs - n) xs) ≡ drop n (reverse xs)
+within n xs h =
+    let e : length (drop (length xs - n) xs) ≡ n = length-drop (length xs - n) xs ∙ omega arith in
+    sym (parted (length xs - n) n xs e)
+
+beyond : {A : Type 0} (n : ℕ) (xs : List A) → length xs ≤ n → reverse (take (length xs - n) xs) ≡ drop n (reverse xs)
+beyond n xs h =
+    let none : length xs - n ≡ 0 = omega arith in
+    let few : length (reverse xs) ≤ n = rw (length-reverse xs) h in
+    ap (λ k. reverse (take k xs)) none ∙ sym (drop_of_length-le (reverse xs) few)
+
+by_size : {A : Type 0} (n : ℕ) (xs : List A) (b : Bool) → leb n (length xs) ≡ b → reverse (take (length xs - n) xs) ≡ drop n (reverse xs)
+by_size n xs true e = within n xs (leb-true n (length xs) e)
+by_size n xs false e = beyond n xs (le_of_lt (leb-false n (length xs) e))
+
+pub left_out : {A : Type 0} (n : ℕ) (xs : List A) → reverse (take (length xs - n) xs) ≡ drop n (reverse xs)
+left_out n xs = by_size n xs (leb n (length xs)) refl
+
+-- of what the items stand for
+pub fewer : {A B : Type 0} (f : A → B) (n : ℕ) (xs : List A) → reverse (map f (take (length xs - n) xs)) ≡ drop n (reverse (map f xs))
+fewer f n xs =
+    ap reverse (sym (take-map f (length xs - n) xs)) ∙ (ap (λ k. reverse (take (k - n) (map f xs))) (sym (length-map xs f)) ∙ left_out n (map f xs))

@@ -1,0 +1,43 @@
+-- What an answer to the stack says of the levels.
+use Rattle.std.proofs.Common.{◌≡◌, map, subst}
+use Rattle.std.proofs.Math.Logic.{∥∥₁_map, ∥∥₁_elim}
+use Rattle.std.proofs.lemmas.List.{reverse-reverse}
+use Rattle.std.specs.Prelude.{List}
+use Rattle.std.specs.Global.{Vec}
+use Rattle.vx_terms.specs.Interpretations.{Each, IsTrueIn, AllTrue, IsSatisfiable, IsUnsatisfiable}
+use Rattle.vx_smt_meaning.specs.Commands.{Level, assertions_of}
+use Rattle.cs_numbers.specs.Laws.{IsSorted}
+use Rattle.cs_certificate.specs.Certificate.{Stack}
+use Rattle.cs_model.specs.Models.{interpretation}
+use Rattle.cs_model.specs.declared.tables.Model.{Model}
+use Rattle.cs_proof.specs.declared.step.Step.{Step}
+use Rattle.cs_proof.specs.Views.{written}
+use Rattle.cs_proof.specs.Checking.{Finished}
+use Rattle.cs_proof.specs.Answers.{Answers}
+use Rattle.cs_decide.specs.declared.answer.Answer.{Answer}
+use Rattle.cs_decide.specs.declared.answer.Answer.TheVariants.{Refuted, Satisfied}
+use Rattle.cs_decide.specs.Answers.{IsRefutation, IsSatisfaction}
+use Rattle.cs_session.specs.Views.{standing}
+use Rattle.cs_session.proofs.Lists.{each_reverse}
+
+no_two : IsProp ⊥
+no_two x y = absurd x
+
+refutes_standing : (levels : List Level) (steps : Vec Step) → ∥ Each IsSorted (standing levels).assertions ∥₁ → (Each IsSorted (standing levels).assertions → IsRefutation (standing levels) (Refuted steps))
+    → ∥ Answers (standing levels) (map written steps.items) Finished ∥₁ × IsUnsatisfiable (assertions_of levels)
+refutes_standing levels steps sorted told =
+    (∥∥₁_map sorted (λ h. (told h).0), λ i all. ∥∥₁_elim sorted no_two (λ h. (told h).1 i (each_reverse (IsTrueIn i) (assertions_of levels) all)))
+
+pub refutes : (levels : List Level) (stack : Stack) (answer : Answer) (steps : Vec Step) → stack ≡ standing levels → answer ≡ Refuted steps
+    → ∥ Each IsSorted stack.assertions ∥₁ → (Each IsSorted stack.assertions → IsRefutation stack answer)
+    → ∥ Answers (standing levels) (map written steps.items) Finished ∥₁ × IsUnsatisfiable (assertions_of levels)
+refutes levels stack answer steps e is sorted told =
+    refutes_standing levels steps (subst (λ (s : Stack). ∥ Each IsSorted s.assertions ∥₁) e sorted)
+    (subst (λ (a : Answer). Each IsSorted (standing levels).assertions → IsRefutation (standing levels) a) is
+    (subst (λ (s : Stack). Each IsSorted s.assertions → IsRefutation s answer) e told))
+
+pub satisfies : (levels : List Level) (stack : Stack) (answer : Answer) (m : Model) → stack ≡ standing levels → answer ≡ Satisfied m → IsSatisfaction stack answer → IsSatisfiable (assertions_of levels)
+satisfies levels stack answer m e is told =
+    let all : AllTrue (interpretation m.entries.items) (standing levels).assertions =
+    subst (λ (a : Answer). IsSatisfaction (standing levels) a) is (subst (λ (s : Stack). IsSatisfaction s answer) e told) in
+    (interpretation m.entries.items, subst (AllTrue (interpretation m.entries.items)) (reverse-reverse (assertions_of levels)) (each_reverse (IsTrueIn (interpretation m.entries.items)) (standing levels).assertions all))

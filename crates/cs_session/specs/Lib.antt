@@ -1,0 +1,6 @@
+pub mod Counts
+pub mod Apart
+pub mod Adding
+pub mod Views
+pub mod Replies
+pub mod Texts
