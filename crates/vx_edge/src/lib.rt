@@ -5,7 +5,9 @@
 mod child;
 mod disk;
 mod sink;
+mod source;
 
 pub use child::{ChildLink, ChildSpawner};
 pub use disk::DiskFiles;
 pub use sink::StdSink;
+pub use source::StdSource;

@@ -1,0 +1,3 @@
+pub mod Nexts
+pub mod Fronts
+pub mod Steps

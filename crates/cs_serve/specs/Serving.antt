@@ -1,0 +1,72 @@
+-- What a solver answers to a stream of commands, and how that ends.
+use Rattle.std.specs.Prelude.{◌≡◌, ⊤, ℕ, Bool, true, false, List, [], ◌∷◌, ◌++◌, length, drop, Option, Some}
+use Rattle.vx_sexp.specs.Beginnings.{GoesOn, IsBeginning}
+use Rattle.vx_sexp.specs.Tokens.{is_space}
+use Rattle.vx_smt_meaning.specs.Commands.{empty_level}
+use Rattle.cs_session.specs.declared.reply.Reply.{Reply}
+use Rattle.cs_session.specs.declared.reply.Reply.TheVariants.{Success, Unsupported, Failed, Sat, Unsat, Undecided, Closed}
+use Rattle.cs_session.specs.declared.session.Last.TheVariants.{Nothing}
+use Rattle.cs_session.specs.Views.{State}
+use Rattle.cs_session.specs.Texts.{reply_text}
+use Rattle.cs_session.specs.Replies.{Replies}
+use Rattle.cs_serve.specs.declared.ending.Ending.{Ending}
+use Rattle.cs_serve.specs.declared.ending.Ending.TheVariants as endings
+use Rattle.cs_serve.specs.Endings.{farewell}
+use Rattle.cs_serve.specs.Next.{EndsAt}
+
+-- nothing is declared, and nothing was checked
+abbrev pub start : State
+start = record { levels = empty_level ∷ []; last = Nothing }
+
+-- the reply to `exit`
+abbrev pub is_last : Reply → Bool
+is_last Success = false
+is_last Unsupported = false
+is_last (Failed c) = false
+is_last Sat = false
+is_last Unsat = false
+is_last Undecided = false
+is_last Closed = true
+
+-- How far a solver is: the bytes that it was given, the text that it has answered, the bytes that are left, its session, and
+-- whether it was told to exit. Each answer is to the first s-expression of what was left then.
+pub data Serves : List ℕ → List ℕ → List ℕ → State → Bool → Type 0 where
+  begun : Serves [] [] [] start false
+  given : {all text left : List ℕ} {s : State} (piece : List ℕ) → Serves all text left s false → Serves (all ++ piece) text (left ++ piece) s false
+  answered : {all text left : List ℕ} {s u : State} (n : ℕ) (r : Reply) →
+      Serves all text left s false → EndsAt n left → Replies left s r u → Serves all (text ++ reply_text r) (drop n left) u (is_last r)
+
+-- the most bytes that are read
+abbrev pub most : ℕ
+most = 1073741824
+
+-- Why it ends, by what was read, what is left, whether it was told to exit, and whether the input is at its end. Where the
+-- input failed or is too long, each command that was finished is answered.
+abbrev pub IsDue : Ending → List ℕ → List ℕ → Bool → Bool → Type 0
+IsDue endings.Exited all left over at_end = over ≡ true
+IsDue endings.Exhausted all left over at_end = (over ≡ false) × (at_end ≡ true) × (is_space left ≡ true)
+IsDue endings.BadToken all left over at_end = (over ≡ false) × (GoesOn left → ⊥)
+IsDue endings.Unfinished all left over at_end = (over ≡ false) × (at_end ≡ true) × (is_space left ≡ false) × IsBeginning left
+IsDue endings.SourceFailed all left over at_end = (over ≡ false) × IsBeginning left
+IsDue endings.TooLong all left over at_end = (over ≡ false) × IsBeginning left × (length all ≡ most)
+IsDue endings.SinkFailed all left over at_end = ⊤
+IsDue endings.Want all left over at_end = ⊤
+
+-- The answers and the farewell are put or, where the sink failed, a beginning of the answers and of a farewell that was due.
+abbrev pub Puts : Ending → List ℕ → List ℕ → (Ending → Type 0) → Type 0
+Puts endings.SinkFailed text put due = (e : Ending) × due e × (rest : List ℕ) × (put ++ rest ≡ text ++ farewell e)
+Puts e text put due = put ≡ text ++ farewell e
+
+-- How it has ended: what was read in all, the answers to it, what was put behind what the sink had taken before, and what is left.
+pub record HasEnded (e : Ending) (before : List ℕ) (given taken : Option (List ℕ)) (at_end : Bool) : Type 0 where
+  pub all : List ℕ
+  pub text : List ℕ
+  pub put : List ℕ
+  pub left : List ℕ
+  pub state : State
+  pub over : Bool
+  pub is_given : given ≡ Some all
+  pub is_taken : taken ≡ Some (before ++ put)
+  pub serves : Serves all text left state over
+  pub ends : IsDue e all left over at_end
+  pub puts : Puts e text put (λ d. IsDue d all left over at_end)
