@@ -1,6 +1,6 @@
 #!/usr/bin/env bash
-# Times the joined parts of the companion solver: chains of 1,000 and 10,000 equations between whose ends there is a
-# difference; 1,000 and 4,000 congruent applications that a difference needs; and random clauses of three literals, 4.26
+# Times the joined parts of the companion solver: chains of 1,000, 10,000 and 40,000 equations between whose ends there is a
+# difference; 1,000, 4,000 and 16,000 congruent applications that a difference needs; and random clauses of three literals, 4.26
 # for each atom. z3 is timed on the same text, where it is there. A chain's certificate has some six steps more than there
 # are equations.
 set -eu
@@ -53,12 +53,12 @@ clauses() {
     }'
 }
 
-for n in 1000 10000; do
+for n in 1000 10000 40000; do
     chain "$n" > "$folder/text"
     decided "chain of $n" "$folder/text"
 done
 before=
-for n in 1000 4000; do
+for n in 1000 4000 16000; do
     applications "$n" > "$folder/text"
     decided "$n congruent applications" "$folder/text"
 done
