@@ -39,7 +39,7 @@ same_digits n (d ∷ ds) = more (with_digit (2 ^ 127) n d) (λ m. same_digits m 
     more None f = refl
     more (Some m) f = f m
 
-same_numeral : (x : List ℕ) → marks.numeral x ≡ number_below (2 ^ 127) x
+pub same_numeral : (x : List ℕ) → marks.numeral x ≡ number_below (2 ^ 127) x
 same_numeral [] = refl
 same_numeral (d ∷ ds) = ap (λ o. if nat_eq d 48 && nat_lt 0 (length ds) then None else o) (same_digits 0 (d ∷ ds))
 

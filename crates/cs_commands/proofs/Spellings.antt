@@ -131,7 +131,7 @@ symbol_is_name f e = no_meaning (written.symbol_word f) (symbol_plain f e)
 -- ---- symbols
 
 -- a letter behind which no numeral stands
-no_number : (make : ℕ → Symbol) (b letter limit : ℕ) (bs : List ℕ) → b ≡ letter → ((n : ℕ) → b ∷ bs ≡ letter ∷ written.numeral n → ⊥) → numbered make (b ∷ bs) (number_below limit bs) ≡ Named (b ∷ bs)
+pub no_number : (make : ℕ → Symbol) (b letter limit : ℕ) (bs : List ℕ) → b ≡ letter → ((n : ℕ) → b ∷ bs ≡ letter ∷ written.numeral n → ⊥) → numbered make (b ∷ bs) (number_below limit bs) ≡ Named (b ∷ bs)
 no_number make b letter limit bs is free = go (number_below limit bs) refl
   where
     go : (o : Option ℕ) → number_below limit bs ≡ o → numbered make (b ∷ bs) o ≡ Named (b ∷ bs)

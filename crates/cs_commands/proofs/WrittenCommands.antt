@@ -50,11 +50,11 @@ count_read n rest h =
 
 -- ---- sorts
 
-sort_read : (scope : Scope) (a : Sort) → IsSortName a → knows_sort scope.sorts a ≡ true → sort_at scope (sort_word a) ≡ Ok a
+pub sort_read : (scope : Scope) (a : Sort) → IsSortName a → knows_sort scope.sorts a ≡ true → sort_at scope (sort_word a) ≡ Ok a
 sort_read scope a name known =
     rw (symbol_text (sort_word a) (written.sort_is a name), sort_back a name, known) refl
 
-sorts_read : (scope : Scope) (as' : List Sort) (rest : List Token) → AreSortNames as' → Each (λ (a : Sort). knows_sort scope.sorts a ≡ true) as' → reading.sorts_at scope (sorts_tokens as' ++ Close ∷ rest) ≡ Ok (as', rest)
+pub sorts_read : (scope : Scope) (as' : List Sort) (rest : List Token) → AreSortNames as' → Each (λ (a : Sort). knows_sort scope.sorts a ≡ true) as' → reading.sorts_at scope (sorts_tokens as' ++ Close ∷ rest) ≡ Ok (as', rest)
 sorts_read scope [] rest names known = refl
 sorts_read scope (a ∷ as') rest names known =
     ap (λ o. o >>= before) (sort_read scope a names.0 known.0)
@@ -123,7 +123,7 @@ symbol_new : (scope : Scope) (d : Declared) → IsCommand (DeclareFun d) → IsS
 symbol_new scope d name small new =
     rw (symbol_text (symbol_word d.symbol) (written.symbol_is d.symbol name.0), symbol_is_name d.symbol name.0, symbol_back d.symbol name.0 small, not_declared scope.symbols d.symbol new) refl
 
-behind_sorts : (xs : List Token) (t u : Token) → ((xs ++ Close ∷ []) ++ t ∷ []) ++ u ∷ [] ≡ xs ++ Close ∷ t ∷ u ∷ []
+pub behind_sorts : (xs : List Token) (t u : Token) → ((xs ++ Close ∷ []) ++ t ∷ []) ++ u ∷ [] ≡ xs ++ Close ∷ t ∷ u ∷ []
 behind_sorts xs t u = append_assoc (xs ++ Close ∷ []) (t ∷ []) (u ∷ []) ∙ append_assoc xs (Close ∷ []) (t ∷ u ∷ [])
 
 fun_command : (scope : Scope) (d : Declared) → IsCommand (DeclareFun d) → IsSmallSymbol d.symbol → names scope.symbols d.symbol ≡ false

@@ -70,7 +70,7 @@ taken Mod a h = ap (λ x. same_sort x IntSort) h
 
 -- ---- heads
 
-abbrev head_for : Operator → Head
+abbrev pub head_for : Operator → Head
 head_for Subtract = MinusHead
 head_for And = OperatorHead And
 head_for Or = OperatorHead Or
@@ -83,7 +83,7 @@ head_for Multiply = OperatorHead Multiply
 head_for Div = OperatorHead Div
 head_for Mod = OperatorHead Mod
 
-operator_before : (scope : Scope) (o : Operator) → head_at scope (word (operator_word o)) ≡ Ok (head_for o)
+pub operator_before : (scope : Scope) (o : Operator) → head_at scope (word (operator_word o)) ≡ Ok (head_for o)
 operator_before scope And = refl
 operator_before scope Or = refl
 operator_before scope Implies = refl
@@ -96,7 +96,7 @@ operator_before scope Multiply = refl
 operator_before scope Div = refl
 operator_before scope Mod = refl
 
-built_two : (o : Operator) (t u : Term) → built (head_for o) (t ∷ u ∷ []) ≡ operation_of_two o t u
+pub built_two : (o : Operator) (t u : Term) → built (head_for o) (t ∷ u ∷ []) ≡ operation_of_two o t u
 built_two And t u = refl
 built_two Or t u = refl
 built_two Implies t u = refl

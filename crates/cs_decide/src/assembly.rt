@@ -1,11 +1,13 @@
 //! The steps of a refutation that are needed, with numbers of their own.
 
+use crate::cases::{name_division, name_order, name_split};
 use crate::numbered::Record;
 use cs_proof::Step;
 use cs_reader::Literal;
 use cs_table::{Stop, equality};
 use std::alloc::Global;
 use std::rc::Rc;
+use vx_frac::Frac;
 use vx_terms::Term;
 
 /// Whether a step derives a clause.
@@ -151,13 +153,8 @@ impl Assembly<'_> {
         Ok(Step::Pick(t, row))
     }
 
-    /// A clause that hints derive.
-    fn propagate(
-        &mut self,
-        alloc: Global,
-        literals: &[Literal],
-        hints: &[u128],
-    ) -> Result<Step, Stop> {
+    /// Literals by new numbers.
+    fn literals(&mut self, alloc: Global, literals: &[Literal]) -> Result<Vec<Literal>, Stop> {
         let mut moved = Vec::new(alloc);
         for literal in literals {
             moved.push(Literal {
@@ -165,7 +162,53 @@ impl Assembly<'_> {
                 number: self.term(alloc, literal.number)?,
             })?;
         }
+        Ok(moved)
+    }
+
+    /// A clause that hints derive.
+    fn propagate(
+        &mut self,
+        alloc: Global,
+        literals: &[Literal],
+        hints: &[u128],
+    ) -> Result<Step, Stop> {
+        let moved = self.literals(alloc, literals)?;
         Ok(Step::Propagate(moved, self.hints(alloc, hints)?))
+    }
+
+    /// Constraints that contradict one another.
+    fn farkas(
+        &mut self,
+        alloc: Global,
+        literals: &[Literal],
+        multipliers: &[Frac],
+    ) -> Result<Step, Stop> {
+        let moved = self.literals(alloc, literals)?;
+        Ok(Step::Farkas(moved, multipliers.to_vec(alloc)?))
+    }
+
+    /// The orders of two terms, with the comparisons that it names.
+    fn order(&mut self, alloc: Global, a: u128, b: u128) -> Result<Step, Stop> {
+        self.equality(alloc, a, b)?;
+        let a = self.term(alloc, a)?;
+        let b = self.term(alloc, b)?;
+        name_order(alloc, &mut self.into, narrow(a)?, narrow(b)?)?;
+        Ok(Step::Trichotomy(a, b))
+    }
+
+    /// A split, with the comparisons that it names.
+    fn split(&mut self, alloc: Global, t: u128, number: i128) -> Result<Step, Stop> {
+        let t = self.term(alloc, t)?;
+        name_split(alloc, &mut self.into, narrow(t)?, number)?;
+        Ok(Step::Split(t, number))
+    }
+
+    /// A row of a division, with what it names.
+    fn division(&mut self, alloc: Global, a: u128, d: u128, row: u128) -> Result<Step, Stop> {
+        let a = self.term(alloc, a)?;
+        let d = self.term(alloc, d)?;
+        name_division(alloc, &mut self.into, narrow(a)?, narrow(d)?, row)?;
+        Ok(Step::Divide(a, d, row))
     }
 
     /// The new numbers of clauses.
@@ -188,8 +231,12 @@ impl Assembly<'_> {
             Step::Pick(t, row) => self.pick(alloc, *t, *row),
             Step::Chain(terms) => self.chain(alloc, terms),
             Step::Congruence(s, t) => self.congruence(alloc, *s, *t),
+            Step::Farkas(literals, multipliers) => self.farkas(alloc, literals, multipliers),
+            Step::Split(t, number) => self.split(alloc, *t, *number),
+            Step::Trichotomy(a, b) => self.order(alloc, *a, *b),
+            Step::Divide(a, d, row) => self.division(alloc, *a, *d, *row),
             Step::Propagate(literals, hints) => self.propagate(alloc, literals, hints),
-            _ => Err(Stop::Miss),
+            Step::Term(_) | Step::NoTerm => Err(Stop::Miss),
         }
     }
 

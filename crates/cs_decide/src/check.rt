@@ -1,5 +1,5 @@
 //! The turns of a check, and its answer.
-ghost use Rattle.std.specs.Prelude.{IsTrue, IfOk, IfSome, IfNone, length};
+ghost use Rattle.std.specs.Prelude.{IsTrue, IfOk, IfSome, IfNone, OnOk, length};
 ghost use Rattle.vx_terms.specs.Interpretations.{Each};
 ghost use Rattle.cs_numbers.specs.Laws.{IsSorted};
 ghost use Rattle.cs_proof.specs.Fits.{seen};
@@ -12,20 +12,25 @@ use crate::assembly::assembled;
 use crate::atoms::Atoms;
 use crate::claims::Claims;
 use crate::clauses::{Clauses, search_of};
+use crate::elements::Sources;
+use crate::figures::{Cases, Figures, Found};
 use crate::forced::reasons;
 use crate::judging::{certified, evaluated};
 use crate::lemma::{Lemma, lemma_of};
 use crate::model::model_of;
+use crate::nonlinear::misread;
 use crate::numbered::Record;
 use crate::orders::put_orders;
 use cs_meter::{LIMIT, Meter};
 use cs_proof::{Stack, Want};
+use cs_search::add::add;
 use cs_search::assignment::Assignment;
 use cs_search::examine::status;
 use cs_search::learn::learn;
+use cs_search::order::Order;
 use cs_search::search::{Hints, Search, Solved, Undecided, solve};
 use cs_search::{Clause, Literal, Status, Value};
-use cs_table::Stop;
+use cs_sums::Stop;
 use std::alloc::Global;
 use std::rc::Rc;
 use vx_terms::Term;
@@ -40,6 +45,7 @@ struct Check {
     // how many of the clauses that the search derived have their steps
     told: usize,
     claims: Claims,
+    figures: Figures,
     meter: Meter,
     // how many terms are those of the assertions
     live: u32,
@@ -56,7 +62,8 @@ fn put_all(
     clauses.put_inputs(alloc, record, assertions)?;
     clauses.put_definitions(alloc, record, live)?;
     clauses.put_choices(alloc, record, live)?;
-    put_orders(alloc, clauses, record, live)
+    clauses.put_divisions(alloc, record, live)?;
+    Ok(put_orders(alloc, clauses, record, live)?)
 }
 
 impl Check {
@@ -68,6 +75,7 @@ impl Check {
         live: u32,
     ) -> Result<(Check, Vec<Clause>), Stop> {
         let claims = Claims::new(alloc, &mut record, &clauses.atoms)?;
+        let figures = Figures::new(alloc, &record, &clauses.atoms)?;
         let Clauses {
             atoms,
             clauses,
@@ -80,6 +88,7 @@ impl Check {
             numbers,
             told: 0,
             claims,
+            figures,
             meter: Meter::new(),
             live,
         };
@@ -133,7 +142,7 @@ impl Check {
     {
         self.record.propagate(alloc, &[], hints)?;
         let steps = assembled(alloc, &stack.assertions, &self.record)?;
-        certified(alloc, stack, steps)
+        Ok(certified(alloc, stack, steps)?)
     }
 
     /// A lemma refutes the clauses behind the reasons that make it false.
@@ -151,18 +160,51 @@ impl Check {
         self.refuted(alloc, stack, hints)
     }
 
-    /// No claim is broken: the model decides.
+    /// What elements are told by.
+    fn sources<'s>(&'s self, values: &'s [Value]) -> Sources<'s> {
+        Sources {
+            record: &self.record,
+            atoms: &self.atoms,
+            values,
+            claims: &self.claims,
+            figures: &self.figures,
+        }
+    }
+
+    /// No claim is broken: the model decides. Where it is none, a term whose meaning was needed may be the cause.
     fn modelled(&self, alloc: Global, stack: &Stack, values: &[Value]) -> Result<Answer, Stop>
         ensures { IfOk result (IsRight (seen stack.now)) }
     {
-        let Check {
-            record,
-            atoms,
-            claims,
-            ..
-        } = self;
-        let model = model_of(alloc, record, atoms, values, claims, self.live)?;
-        evaluated(alloc, stack, model)
+        let sources = self.sources(values);
+        let model = model_of(alloc, &sources, self.live)?;
+        let cause = match misread(alloc, &sources, &model, self.live)? {
+            Some(term) => Cause::Nonlinear(term),
+            None => Cause::Open,
+        };
+        Ok(evaluated(alloc, stack, model, cause)?)
+    }
+
+    /// What the numbers lead to.
+    fn examine(&mut self, alloc: Global, values: &[Value]) -> Result<Found, Stop> {
+        self.figures.examine(
+            alloc,
+            &mut self.record,
+            &self.atoms,
+            values,
+            &self.claims,
+            &mut self.meter,
+        )
+    }
+
+    /// The atoms of a clause of cases are compared and claimed from now on.
+    fn meet(&mut self, alloc: Global, cases: &Cases) -> Result<Vec<Literal>, Stop> {
+        let literals = self.atoms.literals(alloc, &cases.lemma.literals)?;
+        for literal in &cases.lemma.literals {
+            self.figures
+                .add(alloc, &self.record, literal.number, cases.of_split)?;
+            self.claims.add(&self.record, literal.number)?;
+        }
+        Ok(literals)
     }
 }
 
@@ -217,7 +259,57 @@ fn take_lemma(
     }
 }
 
-/// The search has an assignment: a broken claim teaches a lemma, and without one there is a model.
+/// The sign with which an atom is decided first.
+fn prefer(order: &mut Order, atom: u32, sign: bool) -> Result<(), Stop> {
+    order.reach((atom as usize).saturating_add(1))?;
+    if let Some(place) = order.signs.get_mut(atom as usize) {
+        *place = sign;
+    }
+    Ok(())
+}
+
+/// The search gets a clause of cases, of which the first one is tried first, or another one.
+fn take_cases(
+    alloc: Global,
+    check: &mut Check,
+    search: &mut Search,
+    cases: &Cases,
+) -> Result<(), Stop>
+    requires { IsReady search.old }
+    ensures { OnOk result (IsReady search.new) }
+{
+    let literals = check.meet(alloc, cases)?;
+    if let Some(literal) = literals.first() {
+        prefer(&mut search.order, literal.number, cases.first)?;
+    }
+    check.numbers.push(cases.lemma.number)?;
+    add(search, Clause { literals })?;
+    Ok(())
+}
+
+/// The classes have no broken claim: numbers lead to a lemma or to cases, and without them there is a model.
+fn figured(
+    alloc: Global,
+    stack: &Stack,
+    check: &mut Check,
+    search: &mut Search,
+) -> Result<Option<Answer>, Stop>
+    requires sound { IsReady search.old }
+    requires satisfied { AreSatisfied search.old.clauses.items search.old.made.values.items }
+    ensures answered { IfOk result (λ found. IfSome found (IsRight (seen stack.now))) }
+    ensures ready { IfOk result (λ found. IfNone found (IsReady search.new)) }
+{
+    match check.examine(alloc, &search.made.values)? {
+        Found::Lemma(lemma) => take_lemma(alloc, stack, check, search, &lemma),
+        Found::Cases(cases) => {
+            take_cases(alloc, check, search, &cases)?;
+            Ok(None)
+        }
+        Found::Values => Ok(Some(check.modelled(alloc, stack, &search.made.values)?)),
+    }
+}
+
+/// The search has an assignment: a broken claim teaches a lemma, and without one numbers go on.
 fn assigned(
     alloc: Global,
     stack: &Stack,
@@ -238,7 +330,7 @@ fn assigned(
             let lemma = lemma_of(alloc, &mut check.record, &check.claims, broken)?;
             take_lemma(alloc, stack, check, search, &lemma)
         }
-        None => Ok(Some(check.modelled(alloc, stack, &search.made.values)?)),
+        None => figured(alloc, stack, check, search),
     }
 }
 
@@ -292,8 +384,8 @@ fn decided(alloc: Global, stack: &Stack) -> Result<Answer, Stop>
     run(alloc, stack, &mut check, &mut search)
 }
 
-/// Decides the assertions of a stack. Terms of sorts Int and Real have no rules of their own here: a sum, a product and
-/// a comparison are terms as any others, so what hangs on their meaning is left unknown. What is answered is right.
+/// Decides the assertions of a stack. Numbers have the rules of linear arithmetic; a product of two terms that aren't literals, and
+/// a quotient or a remainder by such a term, is a term as any other. What is answered is right.
 ///
 /// # Errors
 /// `Want` where memory runs out.
@@ -304,6 +396,8 @@ pub fn decide(alloc: Global, stack: &Stack) -> Result<Answer, Want>
 {
     match decided(alloc, stack) {
         Ok(answer) => Ok(answer),
+        Err(Stop::Budget) => Ok(Answer::Unknown(Cause::Budget)),
+        Err(Stop::Over(over)) => Ok(Answer::Unknown(Cause::Over(over))),
         Err(Stop::Miss) => Ok(Answer::Unknown(Cause::Miss)),
         Err(Stop::Want) => Err(Want),
     }

@@ -180,6 +180,17 @@ impl Claims {
         })
     }
 
+    /// Claims the equality of this number too, if it is one that isn't claimed yet.
+    ///
+    /// # Errors
+    /// `Miss` where no term has the number; `Want` where memory runs out.
+    pub fn add(&mut self, record: &Record, number: u32) -> Result<(), Stop> {
+        if record.sides(number)?.is_some() && !self.equalities.contains(&number) {
+            self.equalities.push(number)?;
+        }
+        Ok(())
+    }
+
     /// The two terms that a claim is of.
     ///
     /// # Errors

@@ -3,6 +3,7 @@ ghost use Rattle.std.specs.Prelude.{IfOk};
 ghost use Rattle.cs_search.specs.Search.{IsReady};
 
 use crate::atoms::Atoms;
+use crate::cases::divided;
 use crate::numbered::Record;
 use cs_numbers::place_of;
 use cs_proof::Step;
@@ -12,7 +13,7 @@ use cs_search::search::Search;
 use cs_table::{Head, Literal, Stop, define, pick};
 use std::alloc::{AllocError, Global};
 use std::rc::Rc;
-use vx_terms::Term;
+use vx_terms::{Operator, Term};
 
 /// Clauses for the search, each with its number in the certificate.
 #[derive(Drop)]
@@ -192,6 +193,66 @@ impl Clauses {
         }
         Ok(())
     }
+
+    /// What the quotient and the remainder of a term by a literal are.
+    fn put_division(
+        &mut self,
+        alloc: Global,
+        record: &mut Record,
+        a: u32,
+        d: u32,
+    ) -> Result<(), Stop> {
+        for row in 0..3u32 {
+            let lemma = divided(alloc, record, a, d, row)?;
+            self.put(alloc, &lemma.literals, lemma.number)?;
+        }
+        Ok(())
+    }
+
+    /// The quotients and remainders by literals among the first terms.
+    ///
+    /// # Errors
+    /// `Want` where memory runs out.
+    pub fn put_divisions(
+        &mut self,
+        alloc: Global,
+        record: &mut Record,
+        count: u32,
+    ) -> Result<(), Stop> {
+        let mut done = Vec::new(alloc);
+        for t in 0..count {
+            if let Some(sides) = division_of(record, t)? {
+                if !done.contains(&sides) {
+                    done.push(sides)?;
+                    self.put_division(alloc, record, sides.0, sides.1)?;
+                }
+            }
+        }
+        Ok(())
+    }
+}
+
+/// Whether the term is a whole number other than 0.
+fn is_divisor(record: &Record, d: u32) -> Result<bool, Stop> {
+    match &record.node(d)?.head {
+        Head::Number(number) => Ok(*number != 0 && *number != i128::MIN),
+        _ => Ok(false),
+    }
+}
+
+/// The two sides of a quotient or a remainder by a literal other than 0.
+fn division_of(record: &Record, t: u32) -> Result<Option<(u32, u32)>, Stop> {
+    let node = record.node(t)?;
+    let Head::Binary(Operator::Div | Operator::Mod) = &node.head else {
+        return Ok(None);
+    };
+    let [a, d] = node.parts.as_slice() else {
+        return Ok(None);
+    };
+    if !is_divisor(record, *d)? {
+        return Ok(None);
+    }
+    Ok(Some((*a, *d)))
 }
 
 /// The two sides of a choice that isn't Bool.

@@ -14,6 +14,7 @@ use cs_proof::{Checker, Stack, Step, finished_refutes};
 use cs_reader::{Refusal, Symbols};
 use cs_table::Stop;
 use std::alloc::Global;
+use vx_frac::Over;
 
 /// What the checker says of a certificate's steps.
 fn verdict(alloc: Global, stack: &Stack, steps: &[Step]) -> Result<Result<(), Refusal>, Stop>
@@ -33,18 +34,19 @@ pub fn certified(alloc: Global, stack: &Stack, steps: Vec<Step>) -> Result<Answe
     finished_refutes();
     match verdict(alloc, stack, &steps)? {
         Ok(()) => Ok(Answer::Refuted(steps)),
+        Err(Refusal::Over(_, op, a, b)) => Ok(Answer::Unknown(Cause::Over(Over { op, a, b }))),
         Err(refusal) => Ok(Answer::Unknown(Cause::Refused(refusal))),
     }
 }
 
-/// The model satisfies the assertions where each is true in it.
-pub fn evaluated(alloc: Global, stack: &Stack, model: Model) -> Result<Answer, Stop>
+/// The model satisfies the assertions where each is true in it; else they are undecided by this cause.
+pub fn evaluated(alloc: Global, stack: &Stack, model: Model, cause: Cause) -> Result<Answer, Stop>
     ensures { IfOk result (IsRight (seen stack.now)) }
 {
     match is_model(alloc, &model, &stack.assertions) {
         Ok(true) => Ok(Answer::Satisfied(model)),
-        Ok(false) => Ok(Answer::Unknown(Cause::Open)),
-        Err(cs_model::Stop::Over(_)) => Ok(Answer::Unknown(Cause::Open)),
+        Ok(false) => Ok(Answer::Unknown(cause)),
+        Err(cs_model::Stop::Over(over)) => Ok(Answer::Unknown(Cause::Over(over))),
         Err(cs_model::Stop::Want) => Err(Stop::Want),
     }
 }

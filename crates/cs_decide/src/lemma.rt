@@ -16,15 +16,29 @@ pub struct Lemma {
 
 /// A lemma as it is written: its literals, and the numbers of the clauses that derive it.
 #[derive(Drop)]
-struct Draft {
-    literals: Vec<Literal>,
-    hints: Vec<u128>,
+pub struct Draft {
+    pub literals: Vec<Literal>,
+    pub hints: Vec<u128>,
 }
 
 impl Draft {
-    /// A literal more.
-    fn add(&mut self, positive: bool, number: u32) -> Result<(), Stop> {
-        self.literals.push(Literal { positive, number })?;
+    /// Nothing is written yet.
+    pub fn new(alloc: Global) -> Draft {
+        Draft {
+            literals: Vec::new(alloc),
+            hints: Vec::new(alloc),
+        }
+    }
+
+    /// A literal more, unless it stands there.
+    ///
+    /// # Errors
+    /// `Want` where memory runs out.
+    pub fn add(&mut self, positive: bool, number: u32) -> Result<(), Stop> {
+        let literal = Literal { positive, number };
+        if !self.literals.contains(&literal) {
+            self.literals.push(literal)?;
+        }
         Ok(())
     }
 
@@ -147,18 +161,24 @@ impl Draft {
         Ok(())
     }
 
-    /// What an explanation says, and the claim that it breaks.
-    fn add_all(
+    /// Why two terms are equal.
+    ///
+    /// # Errors
+    /// `Miss` where they aren't; `Want` where memory runs out.
+    pub fn add_equal(
         &mut self,
         alloc: Global,
         record: &mut Record,
         claims: &Claims,
-        chain: &Chain,
-        broken: Claim,
+        a: u32,
+        b: u32,
     ) -> Result<(), Stop> {
-        self.add_claims(alloc, record, claims, &chain.claims)?;
-        self.add_steps(alloc, record, &chain.steps)?;
-        self.add_broken(alloc, record, claims.truths, broken)
+        let Chain {
+            claims: used,
+            steps,
+        } = claims.held.explain(alloc, a, b)?;
+        self.add_claims(alloc, record, claims, &used)?;
+        self.add_steps(alloc, record, &steps)
     }
 }
 
@@ -174,12 +194,9 @@ pub fn lemma_of(
     broken: Claim,
 ) -> Result<Lemma, Stop> {
     let (a, b) = claims.ends(record, broken)?;
-    let chain = claims.held.explain(alloc, a, b)?;
-    let mut draft = Draft {
-        literals: Vec::new(alloc),
-        hints: Vec::new(alloc),
-    };
-    draft.add_all(alloc, record, claims, &chain, broken)?;
+    let mut draft = Draft::new(alloc);
+    draft.add_equal(alloc, record, claims, a, b)?;
+    draft.add_broken(alloc, record, claims.truths, broken)?;
     let Draft { literals, hints } = draft;
     let number = record.propagate(alloc, &literals, hints)?;
     Ok(Lemma { literals, number })

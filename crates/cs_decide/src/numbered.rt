@@ -29,7 +29,10 @@ pub fn wide(alloc: Global, numbers: &[u32]) -> Result<Vec<u128>, AllocError> {
 }
 
 /// Literals, as steps name them.
-fn written(alloc: Global, literals: &[Literal]) -> Result<Vec<cs_reader::Literal>, AllocError> {
+///
+/// # Errors
+/// Want of memory.
+pub fn written(alloc: Global, literals: &[Literal]) -> Result<Vec<cs_reader::Literal>, AllocError> {
     let mut all = Vec::new(alloc);
     for literal in literals {
         all.push(cs_reader::Literal {
@@ -205,15 +208,38 @@ impl Record {
         self.name(alloc, &term)
     }
 
+    /// The number of a whole number, which gets one if it has none.
+    ///
+    /// # Errors
+    /// `Want` where memory runs out.
+    pub fn whole(&mut self, alloc: Global, number: i128) -> Result<u32, Stop> {
+        let term = Rc::new(alloc, Term::Number(number))?;
+        self.name(alloc, &term)
+    }
+
+    /// The number of an operator over two terms, which gets one if it has none.
+    ///
+    /// # Errors
+    /// `Miss` where a side has no number; `Want` where memory runs out.
+    pub fn binary(
+        &mut self,
+        alloc: Global,
+        operator: Operator,
+        a: u32,
+        b: u32,
+    ) -> Result<u32, Stop> {
+        let left = self.term(a)?;
+        let right = self.term(b)?;
+        let term = Rc::new(alloc, Term::Binary(operator, left, right))?;
+        self.name(alloc, &term)
+    }
+
     /// The number of an equality in this order, which gets one if it has none.
     ///
     /// # Errors
     /// `Miss` where a side has no number; `Want` where memory runs out.
     pub fn equality_as(&mut self, alloc: Global, a: u32, b: u32) -> Result<u32, Stop> {
-        let left = self.term(a)?;
-        let right = self.term(b)?;
-        let term = Rc::new(alloc, Term::Binary(Operator::Equal, left, right))?;
-        self.name(alloc, &term)
+        self.binary(alloc, Operator::Equal, a, b)
     }
 
     /// The number of an equality: that of its order that is numbered first. It gets one if neither has one.

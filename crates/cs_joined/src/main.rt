@@ -1,8 +1,9 @@
-//! Runs a script of commands without numbers, which is read from standard input, by the parts of the companion solver
+//! Runs a script of commands, which is read from standard input, by the parts of the companion solver
 //! joined, and writes what its checks are answered. `docs/ROWS.md` tells what a script is made of.
 #![tactic(auto)]
 
 mod names;
+mod numbers;
 mod reading;
 mod row;
 

@@ -55,13 +55,16 @@ impl Names {
         None
     }
 
-    /// The sort of this name: Bool, or one that is declared.
+    /// The sort of this name: Bool, Int, Real, or one that is declared.
     ///
     /// # Errors
     /// Want of memory.
     pub fn sort(&self, name: &str) -> Result<Option<Sort>, AllocError> {
-        if name == "Bool" {
-            return Ok(Some(Sort::Bool));
+        match name {
+            "Bool" => return Ok(Some(Sort::Bool)),
+            "Int" => return Ok(Some(Sort::Int)),
+            "Real" => return Ok(Some(Sort::Real)),
+            _ => {}
         }
         for own in &self.sorts {
             if own.as_bytes() == name.as_bytes() {

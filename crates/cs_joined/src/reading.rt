@@ -1,6 +1,7 @@
-//! Terms from tokens: the core theory, equality and declared symbols.
+//! Terms from tokens: the core theory, equality, numbers and declared symbols.
 
 use crate::names::Names;
+use crate::numbers::{decimal, difference, numeral, operations, pair, quotient, turned};
 use cs_reader::Stop;
 use std::alloc::{AllocError, Global};
 use std::rc::Rc;
@@ -15,17 +16,22 @@ struct Frame<'t> {
     parts: Vec<Rc<Term>>,
 }
 
+/// The characters of a token.
+fn text_of(bytes: &[u8]) -> Result<&str, Stop> {
+    match std::str::from_utf8(bytes) {
+        Ok(text) => Ok(text),
+        Err(_) => Err(Stop::Form),
+    }
+}
+
 /// The word of a token that is a symbol.
 ///
 /// # Errors
 /// `Form` at any other token.
 pub fn word_of(token: &Token) -> Result<&str, Stop> {
-    let Token::Atom(Kind::Symbol, text) = token else {
-        return Err(Stop::Form);
-    };
-    match std::str::from_utf8(text.as_slice()) {
-        Ok(word) => Ok(word),
-        Err(_) => Err(Stop::Form),
+    match token {
+        Token::Atom(Kind::Symbol, text) => text_of(text.as_slice()),
+        _ => Err(Stop::Form),
     }
 }
 
@@ -199,6 +205,16 @@ fn made(alloc: Global, names: &Names, word: &str, parts: &[Rc<Term>]) -> Result<
         "=" => equal(alloc, parts),
         "distinct" => distinct(alloc, parts),
         "ite" => chosen(alloc, parts),
+        "+" => operations(alloc, Operator::Add, parts),
+        "*" => operations(alloc, Operator::Multiply, parts),
+        "-" => difference(alloc, parts),
+        "/" => quotient(alloc, parts),
+        "<" => pair(alloc, Operator::Less, parts),
+        "<=" => pair(alloc, Operator::LessEqual, parts),
+        ">" => turned(alloc, Operator::Less, parts),
+        ">=" => turned(alloc, Operator::LessEqual, parts),
+        "div" => pair(alloc, Operator::Div, parts),
+        "mod" => pair(alloc, Operator::Mod, parts),
         _ => {
             must(!parts.is_empty())?;
             applied(alloc, names, word, parts)
@@ -269,6 +285,11 @@ fn take_token<'t>(
             Ok(())
         }
         Token::Close => close(alloc, names, open),
+        Token::Atom(Kind::Numeral, digits) => put(
+            open,
+            numeral(alloc, text_of(digits.as_slice())?)?,
+        ),
+        Token::Atom(Kind::Decimal, text) => put(open, decimal(alloc, text_of(text.as_slice())?)?),
         Token::Atom(_, _) => put_word(alloc, names, open, word_of(token)?),
     }
 }

@@ -180,6 +180,8 @@ fn refusal_text(alloc: Global, refusal: Refusal) -> Result<String, AllocError> {
 fn cause_text(alloc: Global, cause: Cause) -> Result<String, AllocError> {
     match cause {
         Cause::Budget => String::from_str(alloc, "unknown, all units are spent"),
+        Cause::Over(_) => String::from_str(alloc, "unknown, a fraction leaves 128 bits"),
+        Cause::Nonlinear(term) => format!(in alloc; "unknown, term {term} is not linear"),
         Cause::Refused(refusal) => {
             format!(in alloc;
                 "unknown, the checker refuses: {}",

@@ -9,7 +9,8 @@ use Rattle.vx_sexp.specs.Pieces.{Reached}
 use Rattle.vx_sexp.proofs.Firsts.{shorter}
 use Rattle.cs_serve.specs.declared.next.Next.{Next}
 use Rattle.cs_serve.specs.declared.next.Next.TheVariants.{Ends, Waits, Bad}
-use Rattle.cs_serve.specs.Next.{EndsAt, IsReady}
+use Rattle.cs_session.specs.Answering.{EndsAt}
+use Rattle.cs_serve.specs.Next.{IsReady}
 
 lexes_shorter : (bytes : List ℕ) (ts : List Token) (rest : List ℕ) → Lexes bytes ts rest → length rest ≤ length bytes
 lexes_shorter bytes [] rest e = omega (arith, ap length e)

@@ -9,8 +9,9 @@ use Rattle.cs_session.specs.Replies.{Replies}
 use Rattle.cs_serve.specs.declared.ending.Ending.{Ending}
 use Rattle.cs_serve.specs.declared.ending.Ending.TheVariants as endings
 use Rattle.cs_serve.specs.Endings.{status, farewell}
-use Rattle.cs_serve.specs.Next.{EndsAt}
-use Rattle.cs_serve.specs.Serving.{begun, given, answered, start, is_last, IsDue, Puts, HasEnded}
+use Rattle.cs_session.specs.Answering.{EndsAt}
+use Rattle.cs_session.specs.Answering.{start}
+use Rattle.cs_serve.specs.Serving.{begun, given, answered, is_last, IsDue, Puts, HasEnded}
 use Rattle.cs_serve.specs.Working.{IsAt, PutsAnswers, Stops}
 
 pub append_none : (xs : List ℕ) → xs ++ [] ≡ xs

@@ -1,16 +1,11 @@
 -- Where the first s-expression of some bytes ends.
-use Rattle.std.specs.Prelude.{ℕ, ◌≤◌, List, ◌++◌, length, drop}
-use Rattle.vx_sexp.specs.declared.token.Token.{Token}
+use Rattle.std.specs.Prelude.{ℕ, List, ◌++◌}
 use Rattle.vx_sexp.specs.declared.reading.Reading.{Reading}
-use Rattle.vx_sexp.specs.First.{IsFirst}
 use Rattle.vx_sexp.specs.Beginnings.{GoesOn, IsBeginning}
 use Rattle.vx_sexp.specs.Pieces.{Reached}
+use Rattle.cs_session.specs.Answering.{EndsAt}
 use Rattle.cs_serve.specs.declared.next.Next.{Next}
 use Rattle.cs_serve.specs.declared.next.Next.TheVariants.{Ends, Waits, Bad}
-
--- it takes so many bytes, with what stands before it, at any depth
-abbrev pub EndsAt : ℕ → List ℕ → Type 0
-EndsAt n bytes = (n ≤ length bytes) × (tokens : List Token) × IsFirst bytes tokens (drop n bytes)
 
 abbrev pub IsNext : Next → List ℕ → Type 0
 IsNext (Ends n) bytes = EndsAt n bytes

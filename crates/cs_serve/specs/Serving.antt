@@ -2,21 +2,15 @@
 use Rattle.std.specs.Prelude.{◌≡◌, ⊤, ℕ, Bool, true, false, List, [], ◌∷◌, ◌++◌, length, drop, Option, Some}
 use Rattle.vx_sexp.specs.Beginnings.{GoesOn, IsBeginning}
 use Rattle.vx_sexp.specs.Tokens.{is_space}
-use Rattle.vx_smt_meaning.specs.Commands.{empty_level}
 use Rattle.cs_session.specs.declared.reply.Reply.{Reply}
 use Rattle.cs_session.specs.declared.reply.Reply.TheVariants.{Success, Unsupported, Failed, Sat, Unsat, Undecided, Closed}
-use Rattle.cs_session.specs.declared.session.Last.TheVariants.{Nothing}
 use Rattle.cs_session.specs.Views.{State}
 use Rattle.cs_session.specs.Texts.{reply_text}
 use Rattle.cs_session.specs.Replies.{Replies}
+use Rattle.cs_session.specs.Answering.{start, EndsAt}
 use Rattle.cs_serve.specs.declared.ending.Ending.{Ending}
 use Rattle.cs_serve.specs.declared.ending.Ending.TheVariants as endings
 use Rattle.cs_serve.specs.Endings.{farewell}
-use Rattle.cs_serve.specs.Next.{EndsAt}
-
--- nothing is declared, and nothing was checked
-abbrev pub start : State
-start = record { levels = empty_level ∷ []; last = Nothing }
 
 -- the reply to `exit`
 abbrev pub is_last : Reply → Bool

@@ -5,7 +5,7 @@ ghost use Rattle.vx_sexp.specs.Pieces.{Reached};
 ghost use Rattle.vx_ends.specs.Calls.{PutsSome};
 ghost use Rattle.vx_ends.specs.Causes.{HasCause};
 ghost use Rattle.cs_session.specs.Views.{state};
-ghost use Rattle.cs_serve.specs.Next.{EndsAt};
+ghost use Rattle.cs_session.specs.Answering.{EndsAt};
 ghost use Rattle.cs_serve.specs.Serving.{is_last};
 ghost use Rattle.cs_serve.specs.Working.{IsAt, Stops};
 

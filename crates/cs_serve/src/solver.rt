@@ -6,7 +6,8 @@ ghost use Rattle.vx_ends.specs.Causes.{HasCause, Rose};
 ghost use Rattle.cs_session.specs.Views.{state};
 ghost use Rattle.cs_serve.specs.declared.ending.Ending.{Ending};
 ghost use Rattle.cs_serve.specs.Endings.{status};
-ghost use Rattle.cs_serve.specs.Serving.{start, most, IsDue, HasEnded};
+ghost use Rattle.cs_session.specs.Answering.{start};
+ghost use Rattle.cs_serve.specs.Serving.{most, IsDue, HasEnded};
 ghost use Rattle.cs_serve.specs.Working.{Stands, Stops, IsCaused};
 
 use crate::Ending;

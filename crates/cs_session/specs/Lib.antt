@@ -4,3 +4,4 @@ pub mod Adding
 pub mod Views
 pub mod Replies
 pub mod Texts
+pub mod Answering

@@ -1,19 +1,21 @@
 //! A walk over a member, which is added to the rows of those that its parts mention.
 
-ghost use Rattle.std.specs.Prelude.{◌≡◌, ◌∷◌, [], ◌||◌, ℕ, true, OnOk, Some, length, nat_eq, string_bytes};
+ghost use Rattle.std.specs.Prelude.{◌≡◌, ◌∷◌, [], ◌||◌, ℕ, true, OnOk, Some, flat_map, length, nat_eq, string_bytes};
 ghost use Rattle.vx_ast.specs.Apart.{mentioned_by_predicate};
-ghost use Rattle.vx_ast.specs.Mentions.{mentioned, mentioned_in, mentioned_by};
-ghost use Rattle.vx_ast.specs.Syntax.{IsMethod, method_named};
+ghost use Rattle.vx_ast.specs.Mentions.{mentioned, mentioned_in, mentioned_by, mentioned_by_function};
+ghost use Rattle.vx_ast.specs.Syntax.{IsFunction, IsMethod, method_named};
 ghost use Rattle.vx_closure.specs.Known.{Adds};
 ghost use Rattle.vx_graph.specs.Listed.{is_in};
 ghost use Rattle.vx_resolved.specs.Resolved as resolved;
 ghost use Rattle.vx_resolved.specs.Settled.{settled};
-ghost use Rattle.vx_whole.specs.Closure.{mentioned_by_all, mentioned_by_contract, mentioned_by_stmt, mentioned_by_block, mentioned_by_body, mentioned_by_kind};
+ghost use Rattle.vx_whole.specs.Closure.{mentioned_by_all, mentioned_by_contract, mentioned_by_stmt, mentioned_by_block, mentioned_by_body, mentioned_by_kind, mentioned_by_measure};
 
 use std::alloc::AllocError;
 use std::rc::Rc;
 use vx_ast::MemberId;
-use vx_resolved::{Assertion, Block, Expr, Exprs, Kind, Method, Predicate, Settled, Stmt};
+use vx_resolved::{
+    Assertion, Block, Expr, Exprs, Function, Kind, Measure, Method, Predicate, Settled, Stmt,
+};
 
 /// For each member, in file order, those that are known to mention it, each once.
 pub(crate) type Mentioners = Vec<Vec<MemberId>>;
@@ -328,6 +330,75 @@ fn add_method(
     add_body(rows, program, by, &m.body)
 }
 
+// What expressions mention.
+fn add_all(
+    rows: &mut Mentioners,
+    program: &Settled,
+    by: MemberId,
+    those: &[Rc<Expr>],
+) -> Result<(), AllocError>
+    requires { length rows.old.items ≡ length (settled program.now) }
+    ensures members { OnOk result (length rows.new.items ≡ length rows.old.items) }
+    ensures added { OnOk result (Adds (settled program.now) by.0 (flat_map mentioned (resolved.expressions those.now)) rows.old.items rows.new.items) }
+{
+    for e in those {
+        add_expr(rows, program, by, e)?;
+    }
+    Ok(())
+}
+
+// What a measure mentions.
+fn add_measure(
+    rows: &mut Mentioners,
+    program: &Settled,
+    by: MemberId,
+    measure: &Option<Measure>,
+) -> Result<(), AllocError>
+    requires { length rows.old.items ≡ length (settled program.now) }
+    ensures members { OnOk result (length rows.new.items ≡ length rows.old.items) }
+    ensures added { OnOk result (Adds (settled program.now) by.0 (mentioned_by_measure (resolved.optional_measure measure.now)) rows.old.items rows.new.items) }
+{
+    match measure {
+        None => Ok(()),
+        Some(Measure::Number(e)) => add_expr(rows, program, by, e),
+        Some(Measure::Instance(_, i, es)) => {
+            add_name(rows, program, by, i)?;
+            add_exprs(rows, program, by, es)
+        }
+    }
+}
+
+// What a function mentions in its body and its contract.
+fn add_parts(
+    rows: &mut Mentioners,
+    program: &Settled,
+    by: MemberId,
+    f: &Function,
+) -> Result<(), AllocError>
+    requires { length rows.old.items ≡ length (settled program.now) }
+    ensures members { OnOk result (length rows.new.items ≡ length rows.old.items) }
+    ensures added { OnOk result (Adds (settled program.now) by.0 (mentioned_by_function (resolved.function f.now)) rows.old.items rows.new.items) }
+{
+    add_expr(rows, program, by, &f.body)?;
+    add_assertions(rows, program, by, &f.preconditions)?;
+    add_all(rows, program, by, &f.postconditions)
+}
+
+// What a function mentions, its measure too.
+fn add_function(
+    rows: &mut Mentioners,
+    program: &Settled,
+    by: MemberId,
+    f: &Function,
+) -> Result<(), AllocError>
+    requires { length rows.old.items ≡ length (settled program.now) }
+    ensures members { OnOk result (length rows.new.items ≡ length rows.old.items) }
+    ensures added { OnOk result (Adds (settled program.now) by.0 (mentioned_by_kind (settled program.now) (Some (IsFunction (resolved.function f.now)))) rows.old.items rows.new.items) }
+{
+    add_parts(rows, program, by, f)?;
+    add_measure(rows, program, by, &f.measure)
+}
+
 // What a predicate's body mentions.
 fn add_predicate(
     rows: &mut Mentioners,
@@ -359,6 +430,7 @@ pub(crate) fn add_kind(
     match kind {
         Kind::Field(_) => Ok(()),
         Kind::Predicate(d) => add_predicate(rows, program, by, d),
+        Kind::Function(f) => add_function(rows, program, by, f),
         Kind::Method(m) => add_method(rows, program, by, m),
     }
 }

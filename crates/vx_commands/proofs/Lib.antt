@@ -1,4 +1,4 @@
 mod Statuses
-pub mod Lawful
-mod Faultless
+mod Scripts
+mod Companions
 mod Untouched

@@ -1,4 +1,3 @@
-pub mod Lawful
 pub mod Outside
 pub mod Refusals
 pub mod Reported

@@ -7,7 +7,10 @@ use Rattle.vx_ast.specs.Resolve as resolve
 use Rattle.vx_parser.specs.Spelling.{Spells}
 use Rattle.vx_words.specs.declared.order.Order.{Order}
 use Rattle.vx_words.specs.declared.order.Order.TheVariants.{Verify, Check, Print, Gen}
+use Rattle.vx_terms.specs.Interpretations.{Each}
+use Rattle.vx_dialogue.specs.Scripts.{script}
 use Rattle.vx_report.specs.declared.run.MemberRun.{MemberRun}
+use Rattle.vx_report.specs.declared.run.Verdict.TheVariants as verdict
 use Rattle.vx_report.specs.declared.status.Status.{Status}
 use Rattle.vx_report.specs.declared.status.Status.TheVariants.{Done, NotVerified, Usage, Unread, Refused, Faulted, Unwritten, Want}
 use Rattle.vx_report.specs.Statuses.{status_among}
@@ -31,9 +34,10 @@ use Rattle.vx_typing.specs.Typed.{written_of}
 use Rattle.vx_commands.specs.Refusals.{RefusesText, RefusesTyping, RefusesExecution, IsSpelledBy}
 use Rattle.vx_verifier.specs.Causes.{NoCountRose}
 use Rattle.vx_companion.specs.Companion.{AllByCompanion}
+use Rattle.vx_companion.specs.Lawful.{IsTaken}
 use Rattle.vx_commands.specs.Outside.{Change, Texts, Taken, Children, IsUnchanged, AsksOnly, HasFailedToRead, IsTooLong, HasFailedToPut, StartsOnly}
 use Rattle.vx_verifier.specs.Lanes.{StartsWhere}
-use Rattle.vx_verifier.specs.Headline.{IsSupported, Headline, HasNoFault, some_ask}
+use Rattle.vx_verifier.specs.Headline.{IsSupported, Headline, HasNoFault, NeverFails, some_ask, turns_of}
 use Rattle.vx_verifier.specs.Lines.{lines}
 
 -- the text spells the program, which is typed and executed
@@ -190,10 +194,16 @@ pub record IsReport (p : Program) (command : List (List ℕ)) (spawner : Change 
   pub calm : IsTrue spawner.before.steady → spawner.before.faults < 2 ^ 64 - 1
       → NoCountRose spawner.before.ended spawner.after.ended spawner.before.faults spawner.after.faults
 
--- A report by the companion: no member is faulted, and each command had the reply that the companion has for it.
+-- a member that is verified never fails
+abbrev pub AllNeverFail : Program → List MemberRun → Type 0
+AllNeverFail p runs = Each (λ (r : MemberRun). r.verdict ≡ verdict.Verified → NeverFails p r.member.0) runs
+
+-- A report by the companion. Whatever it answered, no member that is verified fails; and where it takes each command that it was sent, none is faulted.
 pub record IsCompanionReport (p : Program) (command : List (List ℕ)) (spawner : Change Children) (sink : Change Taken) (ended : Ended) : Type 0 where
   pub report : IsReport p command spawner sink ended
-  pub no_fault : HasNoFault ended.runs.items
+  pub sound : AllNeverFail p ended.runs.items
+  pub no_fault : Each IsTaken (script false [] (turns_of false p ended.runs.items report.headline.checks)) → HasNoFault ended.runs.items
+  -- each command had the reply that the companion has for it
   pub replies : AllByCompanion spawner.after.ended
 
 -- by the spawner that the solver names

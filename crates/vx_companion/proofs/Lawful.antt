@@ -1,62 +1,172 @@
--- What replies to all that was sent is lawful.
-use Rattle.std.proofs.Common.{◌≡◌, inl, inr, ◌++◌, ◌≤◌, ◌<◌, ℕ, Bool, true, false, List, [], ◌∷◌, length, refl, ap, ◌∙◌, sym, subst, append_assoc, arith}
+-- What the companion replies is lawful, where it takes each command.
+use Rattle.std.proofs.Common.{◌≡◌, inl, inr, ◌++◌, ◌≤◌, ◌<◌, ℕ, Bool, true, false, if◌then◌else◌, List, [], ◌∷◌, codes, length, refl, ap, ◌∙◌, sym, subst, append_assoc, arith}
 use Rattle.std.proofs.Math.Logic.{∥∥₁_elim}
+use Rattle.std.specs.Str.{bytes_eq}
+use Rattle.std.specs.Prelude.{not}
 use Rattle.vx_sexp.specs.declared.token.Token.{Token}
+use Rattle.vx_sexp.specs.declared.token.Token.TheVariants.{Open, Atom}
 use Rattle.vx_sexp.specs.declared.reader.SexpFault.TheVariants as fault
 use Rattle.vx_sexp.specs.First.{IsFirst, Faults, deepest}
+use Rattle.vx_sexp.specs.Finished.{finished}
 use Rattle.vx_sexp.proofs.Exact.{first_is_one, fault_excludes}
 use Rattle.vx_sexp.proofs.Goes.{bad_goes_nowhere, deep_goes_deep}
-use Rattle.vx_smt_meaning.specs.Commands.{Command, empty_level}
-use Rattle.vx_smt_meaning.specs.Replies.{Items, is_refusal}
-use Rattle.vx_smt_meaning.specs.Dialogues.{is_lawful_to, Answers}
+use Rattle.vx_terms.specs.Interpretations.{Each}
+use Rattle.vx_smt_meaning.specs.Commands.{Command, SetOption, SetLogic, DeclareSort, DeclareFun, Assert, Push, Pop, CheckSat, GetProof, Exit, Level, empty_level, stack_after, declared_in}
+use Rattle.vx_smt_meaning.specs.Names.{AreCommands}
+use Rattle.vx_smt_meaning.specs.WellFormed.{MayFollow, AllMayFollow, IsWellFormed}
+use Rattle.vx_smt_meaning.specs.Words.{command_tokens}
+use Rattle.vx_smt_meaning.specs.Replies.{Items, is_refusal, is_word_item, answer_of, is_given}
+use Rattle.vx_smt_meaning.specs.Dialogues.{is_lawful_to, Answers, Check}
+use Rattle.vx_smt_text.specs.Text.{command_text, commands_text}
 use Rattle.vx_ends.specs.declared.piece.Piece.{Piece}
-use Rattle.vx_ends.specs.Dialogue.{got}
+use Rattle.vx_ends.specs.Dialogue.{sent, got}
 use Rattle.vx_dialogue.specs.declared.item.Wanted.{Wanted}
 use Rattle.vx_dialogue.specs.Items.{longest, is_lawful, IsNoItem, IsGarbled, IsRefused}
 use Rattle.vx_dialogue.specs.Stops.{Stops, wanted_by}
-use Rattle.vx_dialogue.proofs.Joined.{first_longer}
-use Rattle.vx_companion.specs.declared.session.Said.{Said}
-use Rattle.vx_companion.specs.Companion.{said_text, item_of, texts_of, items_of, replies_of, RepliesByCompanion, RepliesAreLawful}
-use Rattle.vx_companion.proofs.Levels.{replies_lawful}
-use Rattle.vx_companion.proofs.Hearing.{fed, first_fed, said_first, said_short, said_shallow, wanted_lawful, lawful_given}
+use Rattle.vx_dialogue.specs.History.{Tells}
+use Rattle.vx_dialogue.proofs.Joined.{append_none, first_longer}
+use Rattle.vx_dialogue.proofs.Counts.{finished_first}
+use Rattle.cs_commands.specs.Laws.{AreApart}
+use Rattle.cs_session.specs.declared.reply.Reply.{Reply}
+use Rattle.cs_session.specs.declared.reply.Reply.TheVariants.{Success, Unsupported, Failed, Sat, Unsat, Undecided, Closed}
+use Rattle.cs_session.specs.Views.{State}
+use Rattle.cs_session.specs.Texts.{reply_text}
+use Rattle.cs_session.specs.Answering.{start}
+use Rattle.vx_companion.specs.Companion.{IsByCompanion, RepliesByCompanion}
+use Rattle.vx_companion.specs.Right.{IsSorted}
+use Rattle.vx_companion.specs.Lawful.{IsTaken, FitsOver, AllFit, CompanionIsLawful}
+use Rattle.vx_companion.proofs.Lines.{fed, item_of, first_fed, reply_first, reply_short, reply_shallow, complaint_unlawful, unsupported_unlawful}
+use Rattle.vx_companion.proofs.Answered.{IsAnswer, AreAnswers, texts_of, answers_of}
+use Rattle.vx_companion.proofs.Taken.{IsDone, done_by}
+use Rattle.vx_companion.proofs.Rightly.{command_first, nothing_read}
+
+-- ---- what is lawful goes by the tokens
+
+abbrev verb_in : List Token → List ℕ
+verb_in (Open ∷ Atom kind x ∷ ts) = x
+verb_in ts = []
+
+abbrev lawful_by : List ℕ → List Token → Bool
+lawful_by x item = if bytes_eq x (codes "check-sat") then is_given (answer_of item) else (if bytes_eq x (codes "get-proof") then not (is_refusal item) else is_word_item (codes "success") item)
+
+by_verb : (c : Command) (item : List Token) → is_lawful_to c item ≡ lawful_by (verb_in (command_tokens c)) item
+by_verb (SetOption x b) item = refl
+by_verb (SetLogic x) item = refl
+by_verb (DeclareSort x) item = refl
+by_verb (DeclareFun d) item = refl
+by_verb (Assert t) item = refl
+by_verb (Push n) item = refl
+by_verb (Pop n) item = refl
+by_verb CheckSat item = refl
+by_verb GetProof item = refl
+by_verb Exit item = refl
+
+same_lawful : (c d : Command) (item : List Token) → command_tokens c ≡ command_tokens d → is_lawful_to c item ≡ is_lawful_to d item
+same_lawful c d item same = by_verb c item ∙ ap (λ ts. lawful_by (verb_in ts) item) same ∙ sym (by_verb d item)
+
+wanted_lawful : (c : Command) (item : List Token) → is_lawful (wanted_by c) item ≡ is_lawful_to c item
+unfolding is_lawful
+wanted_lawful (SetOption x b) item = refl
+wanted_lawful (SetLogic x) item = refl
+wanted_lawful (DeclareSort x) item = refl
+wanted_lawful (DeclareFun d) item = refl
+wanted_lawful (Assert t) item = refl
+wanted_lawful (Push n) item = refl
+wanted_lawful (Pop n) item = refl
+wanted_lawful CheckSat item = refl
+wanted_lawful GetProof item = refl
+wanted_lawful Exit item = refl
+
+not_both : (b : Bool) → b ≡ true → b ≡ false → ⊥
+not_both b e f = cc
+
+-- what is lawful is no refusal
+lawful_given : (c : Command) (r : Reply) → is_lawful_to c (item_of r) ≡ true → is_refusal (item_of r) ≡ false
+unfolding is_refusal
+lawful_given c Success e = refl
+lawful_given c Unsupported e = absurd (not_both (is_lawful_to c (item_of Unsupported)) e (unsupported_unlawful c))
+lawful_given c (Failed x) e = absurd (not_both (is_lawful_to c (item_of (Failed x))) e (complaint_unlawful c x))
+lawful_given c Sat e = refl
+lawful_given c Unsat e = refl
+lawful_given c Undecided e = refl
+lawful_given c Closed e = refl
 
 -- ---- the reply to one command among those that are got
 
 -- What comes next begins with a lawful reply to this command, perhaps behind a line feed, once some more is got.
 record Next (c : Command) (next ungot : List ℕ) : Type 0 where
   feed : Bool
-  said : Said
+  reply : Reply
   rest : List ℕ
-  is : next ++ ungot ≡ fed feed (said_text said ++ rest)
-  lawful : is_lawful_to c (item_of said) ≡ true
+  is : next ++ ungot ≡ fed feed (reply_text reply ++ rest)
+  lawful : is_lawful_to c (item_of reply) ≡ true
 
-next_of : (before : List Command) (c : Command) (b : Bool) (all : List Said) (items : List (List Token)) (bytes next ungot rest : List ℕ)
-    → bytes ++ ungot ≡ fed b (texts_of all ++ rest) → Items bytes items next → Answers before items → Answers (before ++ c ∷ []) (items_of all) → Next c next ungot
-next_of [] c b [] items bytes next ungot rest is heard lawful answers = absurd answers
-next_of [] c b (s ∷ all) [] bytes next ungot rest is heard lawful answers = record {
-  feed = b;
-  said = s;
-  rest = texts_of all ++ rest;
-  is = ap (λ x. x ++ ungot) heard ∙ (is ∙ ap (fed b) (append_assoc (said_text s) (texts_of all) rest));
-  lawful = answers.0;
-}
-next_of [] c b all (item ∷ items) bytes next ungot rest is heard lawful answers = absurd lawful
-next_of (a ∷ before) c b all [] bytes next ungot rest is heard lawful answers = absurd lawful
-next_of (a ∷ before) c b [] (item ∷ items) bytes next ungot rest is heard lawful answers = absurd answers
-next_of (a ∷ before) c b (s ∷ all) (item ∷ items) bytes next ungot rest is heard lawful answers =
-    let behind = texts_of all ++ rest in
-    let whole : bytes ++ ungot ≡ fed b (said_text s ++ behind) = is ∙ ap (fed b) (append_assoc (said_text s) (texts_of all) rest) in
-    let first : IsFirst (bytes ++ ungot) (item_of s) (10 ∷ behind) =
-    subst (λ x. IsFirst x (item_of s) (10 ∷ behind)) (sym whole) (first_fed b (said_text s ++ behind) (item_of s) (10 ∷ behind) (said_first s behind)) in
-    let longer = first_longer bytes ungot item heard.0 heard.1 in
-    let same : heard.0 ++ ungot ≡ 10 ∷ behind = (first_is_one (bytes ++ ungot) item (item_of s) (heard.0 ++ ungot) (10 ∷ behind) longer first).1 in
-    next_of before c true all items heard.0 next ungot rest same heard.2 lawful.1 answers.1
+-- bytes that begin with a command, of which a script goes on
+-- the first command of the bytes
+sent_first : (b : Bool) (c : Command) (cs : List Command) (more bytes between : List ℕ) (tokens : List Token) → AreCommands (c ∷ cs) → bytes ≡ fed b (commands_text (c ∷ cs) ++ more)
+    → IsFirst bytes tokens between → (tokens ≡ command_tokens c) × (between ≡ 10 ∷ (commands_text cs ++ more))
+sent_first b c cs more bytes between tokens named is first =
+    let behind = commands_text cs ++ more in
+    let whole : bytes ≡ fed b (command_text c ++ behind) = is ∙ ap (fed b) (append_assoc (command_text c) (commands_text cs) more) in
+    first_is_one bytes tokens (command_tokens c) between (10 ∷ behind) first (subst (λ x. IsFirst x (command_tokens c) (10 ∷ behind)) (sym whole) (command_first b c behind named.0))
 
-first_next : {c : Command} {next ungot : List ℕ} (n : Next c next ungot) → IsFirst (next ++ ungot) (item_of n.said) (10 ∷ n.rest)
-first_next n =
-    subst (λ x. IsFirst x (item_of n.said) (10 ∷ n.rest)) (sym n.is) (first_fed n.feed (said_text n.said ++ n.rest) (item_of n.said) (10 ∷ n.rest) (said_first n.said n.rest))
+-- there is one, as long as there are bytes of commands
+some_left : (b : Bool) (c : Command) (cs : List Command) (more bytes : List ℕ) → AreCommands (c ∷ cs) → bytes ≡ fed b (commands_text (c ∷ cs) ++ more) → finished bytes ≡ 0 → ⊥
+some_left b c cs more bytes named is none =
+    let behind = commands_text cs ++ more in
+    let whole : bytes ≡ fed b (command_text c ++ behind) = is ∙ ap (fed b) (append_assoc (command_text c) (commands_text cs) more) in
+    let first = command_first b c behind named.0 in
+    let some = finished_first (fed b (command_text c ++ behind)) (command_tokens c) (10 ∷ behind) first.lexed first.one in
+    let same = ap finished whole in
+    omega arith
+
+next_of : (before : List Command) (c : Command) (cs : List Command) (items : List (List Token)) (rs : List Reply) (b e : Bool) (s end : State) (levels : List Level)
+    (bytes left sent_later unsent gotten ungot next : List ℕ)
+    → s.levels ≡ levels → AreApart (declared_in levels) → AreCommands cs → AllMayFollow levels cs → Each IsSorted cs → Each IsTaken cs → AllFit levels cs
+    → AreCommands (before ++ c ∷ []) → AreAnswers s bytes rs left end → finished left ≡ 0
+    → bytes ≡ fed b (commands_text (before ++ c ∷ []) ++ sent_later) → bytes ++ unsent ≡ fed b (commands_text cs)
+    → Items gotten items next → gotten ++ ungot ≡ fed e (texts_of rs) → Answers before items → Next c next ungot
+next_of [] c cs (item ∷ items) rs b e s end levels bytes left later unsent gotten ungot next at apart named follow sorted taken fits own answers none is whole heard got_is lawful = absurd lawful
+next_of (a ∷ before) c cs [] rs b e s end levels bytes left later unsent gotten ungot next at apart named follow sorted taken fits own answers none is whole heard got_is lawful = absurd lawful
+next_of [] c cs [] [] b e s end levels bytes left later unsent gotten ungot next at apart named follow sorted taken fits own answers none is whole heard got_is lawful =
+    absurd (some_left b c [] later bytes own is (ap finished (sym answers.0) ∙ none))
+next_of (a ∷ before) c cs (item ∷ items) [] b e s end levels bytes left later unsent gotten ungot next at apart named follow sorted taken fits own answers none is whole heard got_is lawful =
+    absurd (nothing_read e gotten ungot heard.0 item got_is heard.1)
+next_of [] c [] [] (r ∷ rs) b e s end levels bytes left later unsent gotten ungot next at apart named follow sorted taken fits own answers none is whole heard got_is lawful =
+    absurd (nothing_read b bytes unsent answers.1 answers.2 whole answers.3)
+next_of (a ∷ before) c [] (item ∷ items) (r ∷ rs) b e s end levels bytes left later unsent gotten ungot next at apart named follow sorted taken fits own answers none is whole heard got_is lawful =
+    absurd (nothing_read b bytes unsent answers.1 answers.2 whole answers.3)
+next_of [] c (d ∷ cs) [] (r ∷ rs) b e s end levels bytes left later unsent gotten ungot next at apart named follow sorted taken fits own answers none is whole heard got_is lawful =
+    let sent_so = sent_first b c [] later bytes answers.1 answers.2 own is answers.3 in
+    let scripted = sent_first b d cs [] (bytes ++ unsent) (answers.1 ++ unsent) answers.2 named (whole ∙ ap (fed b) (sym (append_none (commands_text (d ∷ cs))))) (first_longer bytes unsent answers.2 answers.1 answers.3) in
+    let done : IsDone d s.levels answers.0 r =
+    done_by d s answers.0 r (subst (λ ls. AreApart (declared_in ls)) (sym at) apart) named.0 (subst (λ ls. MayFollow ls d) (sym at) follow.0) sorted.0 taken.0 (subst (λ ls. FitsOver ls d) (sym at) fits.0)
+    (subst (λ ts. IsAnswer ts s r answers.0) scripted.0 answers.4) in
+    record {
+      feed = e;
+      reply = r;
+      rest = texts_of rs;
+      is = ap (λ x. x ++ ungot) heard ∙ got_is;
+      lawful = same_lawful c d (item_of r) (sym sent_so.0 ∙ scripted.0) ∙ done.lawful;
+    }
+next_of (a ∷ before) c (d ∷ cs) (item ∷ items) (r ∷ rs) b e s end levels bytes left later unsent gotten ungot next at apart named follow sorted taken fits own answers none is whole heard got_is lawful =
+    let sent_so = sent_first b a (before ++ c ∷ []) later bytes answers.1 answers.2 own is answers.3 in
+    let scripted = sent_first b d cs [] (bytes ++ unsent) (answers.1 ++ unsent) answers.2 named (whole ∙ ap (fed b) (sym (append_none (commands_text (d ∷ cs))))) (first_longer bytes unsent answers.2 answers.1 answers.3) in
+    let done : IsDone d s.levels answers.0 r =
+    done_by d s answers.0 r (subst (λ ls. AreApart (declared_in ls)) (sym at) apart) named.0 (subst (λ ls. MayFollow ls d) (sym at) follow.0) sorted.0 taken.0 (subst (λ ls. FitsOver ls d) (sym at) fits.0)
+    (subst (λ ts. IsAnswer ts s r answers.0) scripted.0 answers.4) in
+    let reply : IsFirst (gotten ++ ungot) (item_of r) (10 ∷ texts_of rs) =
+    subst (λ x. IsFirst x (item_of r) (10 ∷ texts_of rs)) (sym got_is) (first_fed e (reply_text r ++ texts_of rs) (item_of r) (10 ∷ texts_of rs) (reply_first r (texts_of rs))) in
+    let same = first_is_one (gotten ++ ungot) item (item_of r) (heard.0 ++ ungot) (10 ∷ texts_of rs) (first_longer gotten ungot item heard.0 heard.1) reply in
+    next_of before c cs items rs true true answers.0 end (stack_after d levels) answers.1 left later unsent heard.0 ungot next
+    (done.levels_are ∙ ap (stack_after d) at) (subst (λ ls. AreApart (declared_in (stack_after d ls))) at done.apart) named.1 follow.1 sorted.1 taken.1 fits.1 own.1 answers.5 none
+    sent_so.1 (scripted.1 ∙ ap (λ x. 10 ∷ x) (append_none (commands_text cs))) heard.2 same.1 lawful.1
 
 -- ---- so what comes next is not unlawful
+
+first_next : {c : Command} {next ungot : List ℕ} (n : Next c next ungot) → IsFirst (next ++ ungot) (item_of n.reply) (10 ∷ n.rest)
+first_next n =
+    subst (λ x. IsFirst x (item_of n.reply) (10 ∷ n.rest)) (sym n.is) (first_fed n.feed (reply_text n.reply ++ n.rest) (item_of n.reply) (10 ∷ n.rest) (reply_first n.reply n.rest))
 
 -- a longer beginning goes on where a shorter one ends
 goes_on : (xs ys us vs : List ℕ) → xs ++ ys ≡ us ++ vs → length us ≤ length xs → (more : List ℕ) × (xs ≡ us ++ more)
@@ -75,29 +185,26 @@ fed_joined true xs ys = refl
 -- a reply is not so long
 not_long : {c : Command} {next ungot : List ℕ} (n : Next c next ungot) → longest < length next → (at : ℕ) → Faults (fault.Unfinished at) next → ⊥
 not_long {next = next} {ungot = ungot} n long at unfinished =
-    let short = said_short n.feed n.said in
-    let more = goes_on next ungot (fed n.feed (said_text n.said)) n.rest (n.is ∙ fed_joined n.feed (said_text n.said) n.rest) (omega arith) in
-    let first : IsFirst next (item_of n.said) (10 ∷ more.0) =
-    subst (λ x. IsFirst x (item_of n.said) (10 ∷ more.0)) (sym (more.1 ∙ sym (fed_joined n.feed (said_text n.said) more.0)))
-    (first_fed n.feed (said_text n.said ++ more.0) (item_of n.said) (10 ∷ more.0) (said_first n.said more.0)) in
-    fault_excludes (fault.Unfinished at) next (item_of n.said) (10 ∷ more.0) unfinished first
+    let short = reply_short n.feed n.reply in
+    let more = goes_on next ungot (fed n.feed (reply_text n.reply)) n.rest (n.is ∙ fed_joined n.feed (reply_text n.reply) n.rest) (omega arith) in
+    let first : IsFirst next (item_of n.reply) (10 ∷ more.0) =
+    subst (λ x. IsFirst x (item_of n.reply) (10 ∷ more.0)) (sym (more.1 ∙ sym (fed_joined n.feed (reply_text n.reply) more.0)))
+    (first_fed n.feed (reply_text n.reply ++ more.0) (item_of n.reply) (10 ∷ more.0) (reply_first n.reply more.0)) in
+    fault_excludes (fault.Unfinished at) next (item_of n.reply) (10 ∷ more.0) unfinished first
 
 not_shallow : (n : ℕ) → 4096 < n → n ≤ 4096 → ⊥
 not_shallow n deep shallow = omega arith
 
 is_item : {c : Command} {next ungot : List ℕ} → Next c next ungot → IsNoItem next → ⊥
-is_item {next = next} {ungot = ungot} n (inl bad) = bad_goes_nowhere bad.0 next ungot (item_of n.said) (10 ∷ n.rest) bad.1 (first_next n)
+is_item {next = next} {ungot = ungot} n (inl bad) = bad_goes_nowhere bad.0 next ungot (item_of n.reply) (10 ∷ n.rest) bad.1 (first_next n)
 is_item {next = next} {ungot = ungot} n (inr (inl deep)) =
-    not_shallow (deepest 0 (item_of n.said)) (deep_goes_deep deep.0 next deep.1 ungot (item_of n.said) (10 ∷ n.rest) (first_next n)) (said_shallow n.said)
+    not_shallow (deepest 0 (item_of n.reply)) (deep_goes_deep deep.0 next deep.1 ungot (item_of n.reply) (10 ∷ n.rest) (first_next n)) (reply_shallow n.reply)
 is_item n (inr (inr long)) = not_long n long.0 long.1 long.2
 
--- the item that is got is the one that was said
-same_item : {c : Command} {next ungot : List ℕ} (n : Next c next ungot) (item : List Token) (rest : List ℕ) → IsFirst next item rest → item ≡ item_of n.said
+-- the item that is got is the one that was answered
+same_item : {c : Command} {next ungot : List ℕ} (n : Next c next ungot) (item : List Token) (rest : List ℕ) → IsFirst next item rest → item ≡ item_of n.reply
 same_item {next = next} {ungot = ungot} n item rest first =
-    (first_is_one (next ++ ungot) item (item_of n.said) (rest ++ ungot) (10 ∷ n.rest) (first_longer next ungot item rest first) (first_next n)).0
-
-not_both : (b : Bool) → b ≡ true → b ≡ false → ⊥
-not_both b e f = cc
+    (first_is_one (next ++ ungot) item (item_of n.reply) (rest ++ ungot) (10 ∷ n.rest) (first_longer next ungot item rest first) (first_next n)).0
 
 not_garbled : {c : Command} {next ungot : List ℕ} → Next c next ungot → (kept : List ℕ) → IsGarbled (wanted_by c) next kept → ⊥
 not_garbled n kept (inl none) = is_item n none.0
@@ -111,25 +218,38 @@ not_refused : {c : Command} {next ungot : List ℕ} → Next c next ungot → (k
 not_refused {c = c} n kept refused =
     let begins = refused.1 in
     let same = same_item n begins.0 begins.1 begins.2 in
-    not_both (is_refusal begins.0) begins.4 (ap is_refusal same ∙ lawful_given c n.said n.lawful)
+    not_both (is_refusal begins.0) begins.4 (ap is_refusal same ∙ lawful_given c n.reply n.lawful)
 
 -- ---- the record of a link
 
 no_two : IsProp ⊥
 no_two x y = absurd x
 
--- Where all that was sent is replied to, no reply is unlawful.
-never_stops : (pieces : List Piece) (Told : Wanted → List ℕ → Type 0) → ((c : Command) (next ungot : List ℕ) → Next c next ungot → Told (wanted_by c) next → ⊥)
-    → RepliesByCompanion pieces → Stops pieces Told → ⊥
-never_stops pieces Told excludes right s =
-    ∥∥₁_elim right no_two (λ r.
-    ∥∥₁_elim (r.1 (s.before ++ s.command ∷ []) s.sent_later s.spelled s.sent_is) no_two (λ t.
-    excludes s.command s.next r.0
-    (next_of s.before s.command false (replies_of (s.before ++ s.command ∷ [])) s.items (got pieces) s.next r.0 t.0 t.1 s.heard s.lawful
-    (replies_lawful (empty_level ∷ []) (s.before ++ s.command ∷ []))) s.told))
+texts_joined : (front behind : List Command) → commands_text (front ++ behind) ≡ commands_text front ++ commands_text behind
+texts_joined [] behind = refl
+texts_joined (c ∷ front) behind = ap (λ x. command_text c ++ x) (texts_joined front behind) ∙ sym (append_assoc (command_text c) (commands_text front) (commands_text behind))
 
-pub replies_are_lawful : RepliesAreLawful
-replies_are_lawful pieces kept right = (
-  never_stops pieces _ (λ c next ungot n told. not_garbled n kept told) right,
-  never_stops pieces _ (λ c next ungot n told. not_refused n kept told) right,
+module _ (failed : Bool) (script : List Command) (pieces : List Piece) (checks : List Check) (well : IsWellFormed script) (sorted : Each IsSorted script) (taken : Each IsTaken script)
+    (fits : AllFit (empty_level ∷ []) script) (tells : Tells failed script pieces checks) where
+  -- all that was sent begins the script's text
+  sent_begins : sent pieces ++ tells.unsent ≡ commands_text script
+  sent_begins =
+      ap (λ x. x ++ tells.unsent) tells.sent_is ∙ append_assoc (commands_text tells.answered) tells.begun tells.unsent
+      ∙ ap (λ x. commands_text tells.answered ++ x) tells.begun_is ∙ sym (texts_joined tells.answered tells.behind) ∙ ap commands_text (sym tells.all)
+
+  next_by : IsByCompanion pieces → {Told : Wanted → List ℕ → Type 0} (s : Stops pieces Told) → (ungot : List ℕ) × Next s.command s.next ungot
+  next_by by s =
+      let answers = answers_of by.replied.answering in (
+        by.ungot,
+        next_of s.before s.command script s.items answers.replies false false start by.state (empty_level ∷ []) (sent pieces) by.left s.sent_later tells.unsent (got pieces) by.ungot s.next
+            refl tt well.spelled well.in_order sorted taken fits s.spelled answers.are by.replied.none_left s.sent_is sent_begins s.heard answers.text_is s.lawful,
+      )
+
+  never_stops : RepliesByCompanion pieces → (Told : Wanted → List ℕ → Type 0) → ((c : Command) (next ungot : List ℕ) → Next c next ungot → Told (wanted_by c) next → ⊥) → Stops pieces Told → ⊥
+  never_stops by Told excludes s = ∥∥₁_elim by no_two (λ h. let n = next_by h s in excludes s.command s.next n.0 n.1 s.told)
+
+pub companion_lawful : CompanionIsLawful
+companion_lawful failed script pieces checks well sorted taken fits tells by kept = (
+  never_stops failed script pieces checks well sorted taken fits tells by _ (λ c next ungot n told. not_garbled n kept told),
+  never_stops failed script pieces checks well sorted taken fits tells by _ (λ c next ungot n told. not_refused n kept told),
 )

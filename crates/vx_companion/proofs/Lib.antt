@@ -1,5 +1,11 @@
 mod Replies
-mod Levels
-mod Hearing
-mod Replied
+mod Lines
+mod Originals
+mod Likes
+mod ReadTerms
+mod Mirrors
+mod ReadCommands
+mod Answered
+pub mod Rightly
+mod Taken
 pub mod Lawful

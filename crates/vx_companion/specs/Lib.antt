@@ -1,1 +1,3 @@
 pub mod Companion
+pub mod Right
+pub mod Lawful

@@ -1,13 +1,35 @@
 // The companion's link and its spawner.
-ghost use Rattle.std.specs.Prelude.{◌≡◌, ℕ, ◌+◌, ◌≤◌, ◌==◌, ◌++◌, [], vec_len, vec_capacity, count_by, List, IfOk, true, false};
+ghost use Rattle.std.specs.Prelude.{◌≡◌, ℕ, ◌+◌, ◌≤◌, ◌==◌, ◌++◌, [], vec_len, vec_capacity, count_by, List, IfOk, OnOk, true, false};
 ghost use Rattle.vx_ends.specs.Dialogue.{sent, got};
 ghost use Rattle.vx_sexp.specs.Finished.{finished};
-ghost use Rattle.vx_companion.specs.Companion.{HasAnswered, HasSaid, AllReplied, AllByCompanion};
+ghost use Rattle.cs_session.specs.declared.reply.Reply.{Reply};
+ghost use Rattle.cs_session.specs.Answering.{Answering};
+ghost use Rattle.cs_session.specs.Replies.{Replies};
+ghost use Rattle.cs_session.specs.Texts.{reply_text};
+ghost use Rattle.cs_session.specs.Views.{state};
+ghost use Rattle.vx_companion.specs.Companion.{KeepsUp, HasReplied, RepliesByCompanion, AllByCompanion};
 
-use crate::session::Session;
+use cs_session::Session;
 use std::alloc::{AllocError, Global};
 use vx_ends::{Ending, Link, LinkFault, Parts, Record, Spawner, Start, StartFault, remove_once};
 use vx_sexp::cut;
+
+// Replies to the first command of some bytes.
+fn reply(
+    alloc: Global,
+    session: &mut Session,
+    replies: &mut Vec<u8>,
+    bytes: &[u8],
+) -> Result<(), AllocError>
+    ensures { OnOk result ((r : Reply) × Replies bytes.now (state session.old) r (state session.new) × (replies.new.items ≡ replies.old.items ++ reply_text r)) }
+{
+    let Ok(reply) = session.command(alloc, bytes) else {
+        return Err(AllocError);
+    };
+    let line = reply.text();
+    replies.extend_from_slice(line.as_bytes())?;
+    Ok(())
+}
 
 // Replies to each finished command that the bytes begin with, and gives what is left of them.
 fn reply_all<'a>(
@@ -16,11 +38,9 @@ fn reply_all<'a>(
     replies: &mut Vec<u8>,
     bytes: &'a [u8],
 ) -> Result<&'a [u8], AllocError>
-    ensures answered { IfOk result (λ rest. (all_sent front : List ℕ) → HasAnswered all_sent bytes.now (front ++ replies.old.items) → HasAnswered all_sent rest.now (front ++ replies.new.items)) }
-    ensures said { IfOk result (λ rest. (all_sent front : List ℕ) → HasSaid all_sent bytes.now (front ++ replies.old.items) session.old → HasSaid all_sent rest.now (front ++ replies.new.items) session.new) }
+    ensures answering { IfOk result (λ rest. (all front : List ℕ) → Answering all (front ++ replies.old.items) bytes.now (state session.old) → Answering all (front ++ replies.new.items) rest.now (state session.new)) }
+    ensures keeps_up { IfOk result (λ rest. (all front : List ℕ) → KeepsUp all bytes.now (front ++ replies.old.items) → KeepsUp all rest.now (front ++ replies.new.items)) }
     ensures none_left { IfOk result (λ rest. finished rest.now ≡ 0) }
-    ensures more { (n : ℕ) (front : List ℕ) → n ≤ finished (front ++ replies.old.items) → n ≤ finished (front ++ replies.new.items) }
-    ensures replied { (all_sent front : List ℕ) → AllReplied all_sent (front ++ replies.old.items) → AllReplied all_sent (front ++ replies.new.items) }
 {
     let mut rest = bytes;
     'commands: loop {
@@ -28,15 +48,14 @@ fn reply_all<'a>(
             Ok(taken) => taken,
             Err(_fault) => return Ok(rest),
         };
-        let (command, more) = rest.split_at(taken);
-        let said = session.command(alloc, command)?;
-        let reply = said.text();
-        replies.extend_from_slice(reply.as_bytes())?;
+        reply(alloc, session, replies, rest)?;
+        let (_command, more) = rest.split_at(taken);
         rest = more;
     }
 }
 
-/// The link to a companion: it answers each finished command of what is sent.
+/// The link to a companion: its session answers each finished command of what is sent. After want of memory all is
+/// want of memory.
 #[derive(Drop)]
 pub struct CompanionLink {
     session: Session,
@@ -48,26 +67,25 @@ pub struct CompanionLink {
     faults: u64,
     // memory ran out in the midst of a command
     is_spent: bool,
-    ghost owed: { finished (sent pieces) ≤ finished (got pieces ++ replies.items) },
-    ghost answered: { is_spent ≡ false → HasAnswered (sent pieces) unread.items (got pieces ++ replies.items) },
-    ghost said: { is_spent ≡ false → ∥ HasSaid (sent pieces) unread.items (got pieces ++ replies.items) session ∥₁ },
-    ghost replied: { AllReplied (sent pieces) (got pieces ++ replies.items) },
+    ghost owed: { is_spent ≡ false → finished (sent pieces) ≤ finished (got pieces ++ replies.items) },
+    ghost keeps_up: { is_spent ≡ false → KeepsUp (sent pieces) unread.items (got pieces ++ replies.items) },
+    ghost replied: { is_spent ≡ false → ∥ HasReplied pieces replies.items unread.items (state session) ∥₁ },
+    ghost right: { RepliesByCompanion pieces },
 }
 
 impl CompanionLink {
-    fn new(alloc: Global) -> Result<CompanionLink, AllocError>
-        ensures dialogue { IfOk result (λ link. link.pieces ≡ []) }
-        ensures faults { IfOk result (λ link. link.faults ≡ 0) }
+    fn new(alloc: Global) -> CompanionLink
+        ensures dialogue { result.pieces ≡ [] }
+        ensures faults { result.faults ≡ 0 }
     {
-        let session = Session::new(alloc)?;
-        Ok(CompanionLink {
-            session,
+        CompanionLink {
+            session: Session::new(alloc),
             unread: Vec::new(alloc),
             replies: Vec::new(alloc),
             pieces: Record::new(alloc),
             faults: 0,
             is_spent: false,
-        })
+        }
     }
 }
 
@@ -96,8 +114,15 @@ impl Link for CompanionLink {
     }
 
     fn receive(&mut self, alloc: Global, max: usize) -> Result<Vec<u8>, LinkFault> {
-        if self.faults > 0 || self.replies.is_empty() {
+        if self.faults > 0 {
             self.faults = self.faults.saturating_add(1);
+            return Err(LinkFault::Failed);
+        }
+        if self.is_spent {
+            return Err(LinkFault::Want);
+        }
+        if self.replies.is_empty() {
+            self.faults = 1;
             return Err(LinkFault::Failed);
         }
         let count = self.replies.len().min(max);
@@ -154,7 +179,6 @@ impl Spawner for Builtin {
         lane: u32,
         command: &Parts,
     ) -> Result<CompanionLink, StartFault> {
-        let link = CompanionLink::new(alloc)?;
         let kept = command.copy(alloc)?;
         self.lanes_out.reserve(1)?;
         let room = self.lanes_out.len() + 1;
@@ -164,7 +188,7 @@ impl Spawner for Builtin {
             command: kept,
         })?;
         match self.lanes_out.push(lane) {
-            Ok(()) => Ok(link),
+            Ok(()) => Ok(CompanionLink::new(alloc)),
             Err(_) => unreachable!(),
         }
     }

@@ -1,8 +1,8 @@
-//! The companion solver in process. It is thin: it refutes what holds `false`, or a term and its negation.
+//! The companion solver in process: a session that is spoken to by a link.
 #![tactic(auto)]
 
 mod builtin;
-mod session;
+mod laws;
 
 pub use builtin::{Builtin, CompanionLink};
-pub use session::{Said, Session};
+pub use laws::{replies_are_lawful, unsat_is_right};

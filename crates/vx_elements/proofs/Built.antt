@@ -22,7 +22,7 @@ module _ (means : Meaning) where
   good_later {t = t} le x g = record { formed = formed_le le g.formed; settled = settles_later means t le x g.settled }
 
   module _ (n : ℕ) (i : Interpretation) where
-    abbrev Settled : Term → Type 0
+    abbrev pub Settled : Term → Type 0
     Settled t = Settles means n i t
 
     either : (b : Bool) (s t : Term) → Settled s → Settled t → Settled (cond b s t)
@@ -41,7 +41,7 @@ module _ (means : Meaning) where
     negate_settled (AllOf ts) s = s
     negate_settled (SomeOf ts) s = s
 
-    and_settled : (s t : Term) → Settled s → (as_bool (value i s) ≡ true → Settled t) → Settled (and s t)
+    pub and_settled : (s t : Term) → Settled s → (as_bool (value i s) ≡ true → Settled t) → Settled (and s t)
     and_settled s t f g = go (truth_of s) (truth_of t) refl
       where
         on_left : (b : Bool) → as_bool (value i s) ≡ b → Settled (cond b t (Truth false))
@@ -65,7 +65,7 @@ module _ (means : Meaning) where
         go None (Some b) e = either b (Truth true) s tt f
         go None None e = (f, g)
 
-    implies_settled : (s t : Term) → Settled s → (as_bool (value i s) ≡ true → Settled t) → Settled (implies s t)
+    pub implies_settled : (s t : Term) → Settled s → (as_bool (value i s) ≡ true → Settled t) → Settled (implies s t)
     implies_settled s t f g = go (truth_of s) (truth_of t) refl
       where
         on_left : (b : Bool) → as_bool (value i s) ≡ b → Settled (cond b t (Truth true))
@@ -77,7 +77,7 @@ module _ (means : Meaning) where
         go None (Some b) e = either b (Truth true) (negate s) tt (negate_settled s f)
         go None None e = (f, g)
 
-    equals_settled : (s t : Term) → Settled s → Settled t → Settled (equals s t)
+    pub equals_settled : (s t : Term) → Settled s → Settled t → Settled (equals s t)
     equals_settled s t f g = either (same s t) (Truth true) _ tt (go (literals_of s t))
       where
         go : (l : Literals) → Settled (equals_by l s t)

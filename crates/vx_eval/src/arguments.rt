@@ -1,21 +1,18 @@
 //! A step of a list of expressions, and of what waits for their values.
 
-ghost use Rattle.std.specs.Prelude.{◌≡◌, ◌∷◌, IfOk, string_bytes};
+ghost use Rattle.std.specs.Prelude.{◌≡◌, ◌∷◌, IfOk};
 ghost use Rattle.vx_resolved.specs.Resolved.{exprs};
 ghost use Rattle.vx_resolved.specs.Settled.{settled};
 ghost use Rattle.vx_rules.specs.Members.{rules};
 ghost use Rattle.vx_rules.specs.Rules as rule;
 ghost use Rattle.vx_rules.specs.Trees.{Step};
-ghost use Rattle.vx_stack.specs.Stack.{giving, giving_all, Stepped};
-ghost use Rattle.vx_stack.specs.Values.{values as values_of};
+ghost use Rattle.vx_stack.specs.Stack.{giving_all, Stepped};
 ghost use Rattle.vx_states.specs.SymStates.{state as state_of};
 ghost use Rattle.vx_heap.specs.Views.{held_term};
 
 use std::alloc::{AllocError, Global};
 use std::rc::Rc;
-use vx_ast::Place;
 use vx_resolved::{Exprs, Settled};
-use vx_rules::Code;
 use vx_stack::{Conts, Hole, Move, Row, Values};
 use vx_states::SymState;
 use vx_terms::Term;
@@ -57,23 +54,4 @@ pub fn step_argument(
 {
     let row = Rc::new(alloc, Row::After(value, row.clone()?))?;
     step_all(alloc, program, es, &row, state, conts)
-}
-
-/// An application, after its arguments: no member that is executed is a function, so that it is never reached.
-pub fn step_apply(
-    alloc: Global,
-    program: &Settled,
-    place: Place,
-    name: &Rc<String>,
-    arguments: &Values,
-    hole: &Rc<Hole>,
-    state: SymState,
-    conts: &mut Conts,
-) -> Result<Move, AllocError>
-    ensures { IfOk result (λ m. Stepped (settled program.now) (rule.applied (settled program.now) (rules (settled program.now)) (rule.placed (state_of state) place) (string_bytes name.now.value) (values_of arguments.now) (state_of state) (giving (settled program.now) hole.now.value)) conts.old.sides.items m conts.new.sides.items) }
-{
-    let _arguments = arguments;
-    let _hole = hole;
-    let place = state.placed(place);
-    conts.never(alloc, program, place, Code::Function, state)
 }

@@ -7,6 +7,6 @@ mod expression;
 mod operand;
 mod operators;
 
-pub use arguments::{step_all, step_apply, step_argument};
+pub use arguments::{step_all, step_argument};
 pub use expression::step;
 pub use operand::step_operand;

@@ -18,6 +18,7 @@ use crate::operators::{connected, operated};
 use std::alloc::{AllocError, Global};
 use std::rc::Rc;
 use vx_ast::Place;
+use vx_funcs::{step_applied, step_measured};
 use vx_heap::{SymHeap, positive};
 use vx_probes::read_field;
 use vx_resolved::{Connective, Division, Expr, Exprs, Settled};
@@ -100,6 +101,12 @@ pub fn step_operand(
             let row = Row::Unfolding(*at, i.clone()?, value.clone()?, inside);
             step_share(alloc, program, *at, &value, es, row, state, conts)
         }
+        Operand::Applied(x, caller, heap) => step_applied(
+            alloc, program, value, x, caller, heap, hole, state, conts,
+        ),
+        Operand::Measured(x, own, caller) => step_measured(
+            alloc, program, &value, x, own, caller, hole, state, conts,
+        ),
     }
 }
 

@@ -1,6 +1,6 @@
 //! Chunks, and which of them are of one location or instance.
 
-ghost use Rattle.std.specs.Prelude.{◌≡◌, ◌&&◌, IfOk};
+ghost use Rattle.std.specs.Prelude.{◌≡◌, ◌&&◌, IfOk, true};
 ghost use Rattle.vx_ast.specs.Syntax.{same_name};
 ghost use Rattle.vx_heap.specs.Places.{row_of};
 ghost use Rattle.vx_heap.specs.Views.{chunk as chunk_view, is_field, key, name, terms_of, held_term};
@@ -136,6 +136,15 @@ impl Chunk {
     {
         let mut other = self.copy(alloc)?;
         other.value = value;
+        Ok(other)
+    }
+
+    /// The same chunk as the root.
+    pub fn as_root(&self, alloc: Global) -> Result<Chunk, AllocError>
+        ensures { IfOk result (λ other. chunk_view other ≡ record (chunk_view self.now) { root = true }) }
+    {
+        let mut other = self.copy(alloc)?;
+        other.is_root = true;
         Ok(other)
     }
 }

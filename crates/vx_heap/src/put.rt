@@ -1,6 +1,6 @@
 //! What putting and taking an amount makes of a heap.
 
-ghost use Rattle.std.specs.Prelude.{◌≡◌, ◌<◌, [], ℕ, IfOk, OnOk, OnErr, length, slice_set};
+ghost use Rattle.std.specs.Prelude.{◌≡◌, ◌<◌, [], ℕ, IfOk, OnOk, OnErr, length, slice_set, true};
 ghost use Rattle.vx_heap.specs.Heaps.{facts_of, over, standing, Puts};
 ghost use Rattle.vx_heap.specs.Views.{candidate, chunk as chunk_view, heap, terms_of, held_term};
 ghost use Rattle.vx_rules.specs.Chunks as chunks;
@@ -152,5 +152,14 @@ impl SymHeap {
     {
         let chunk = Rc::new(alloc, to.chunk.with_value(alloc, value)?)?;
         self.put_back(alloc, to.number, chunk)
+    }
+
+    /// A candidate becomes the root.
+    pub fn mark_root(&mut self, alloc: Global, at: &Candidate) -> Result<(), AllocError>
+        ensures ok { OnOk result (heap self.new ≡ slice_set (heap self.old) at.now.number (record (candidate at.now).chunk { root = true })) }
+        ensures err { OnErr result (heap self.new ≡ heap self.old) }
+    {
+        let chunk = Rc::new(alloc, at.chunk.as_root(alloc)?)?;
+        self.put_back(alloc, at.number, chunk)
     }
 }

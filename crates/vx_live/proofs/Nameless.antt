@@ -1,6 +1,6 @@
 -- No symbol or sort in a live question has a name of its own.
 use Rattle.std.proofs.Common.{sym, subst}
-use Rattle.std.specs.Prelude.{⊤}
+use Rattle.std.specs.Prelude.{⊤, List, [], ◌∷◌, ◌++◌}
 use Rattle.vx_terms.specs.Sorts.{Sort, Symbol, Standard, Function, Variable, Named}
 use Rattle.vx_terms.specs.Terms.{Term, Truth, Number, Part, Constant, Apply, Not, Binary, Ite, AllOf, SomeOf, Terms, NoTerms, MoreTerms}
 use Rattle.vx_terms.specs.Build.{negate}
@@ -11,7 +11,7 @@ use Rattle.vx_smt_meaning.specs.Over.{AreOver}
 use Rattle.vx_smt_meaning.specs.Standard.{standard_symbols}
 use Rattle.vx_rules.specs.Trees.{Question}
 use Rattle.vx_live.specs.Live.{IsBuiltIn, IsLive}
-use Rattle.vx_live.proofs.Over.{Over, Sorts, declared_one, standard_given}
+use Rattle.vx_live.proofs.Over.{Over, IsF, IsOfFunction, Sorts, declared_one, symbol_given}
 use Rattle.vx_elements.proofs.Lists.{each_map}
 
 -- s, f or v with its number
@@ -49,37 +49,49 @@ negate_nameless (Ite c t u) h = h
 negate_nameless (AllOf ts) h = h
 negate_nameless (SomeOf ts) h = h
 
-standard_numbered : (e : Declared) → Declares standard_symbols e → IsNumbered e.symbol
-standard_numbered e k = declared_one (λ (c : Declared). IsNumbered c.symbol) standard_symbols e (tt, (tt, (tt, (tt, (tt, (tt, (tt, (tt, (tt, (tt, (tt, (tt, (tt, tt))))))))))))) k
+f_numbered : (f : Symbol) → IsF f → IsNumbered f
+f_numbered (Standard n) h = tt
+f_numbered (Function n) h = tt
+f_numbered (Variable n) h = tt
+f_numbered (Named x) h = h
 
-constant_nameless : (d : Sorts) (f : Symbol) (a : Sort) → Over d.of (Constant f a) → IsNumbered f × IsBuiltIn a
-constant_nameless d (Standard n) a h = (tt, standard_given _ h)
-constant_nameless d (Function n) a h = (tt, standard_given _ h)
+functions_numbered : (fs : List Declared) → Each IsOfFunction fs → Each (λ (c : Declared). IsNumbered c.symbol) fs
+functions_numbered [] h = tt
+functions_numbered (c ∷ fs) h = (f_numbered c.symbol h.0.symbol, functions_numbered fs h.1)
+
+symbol_numbered : (fs : List Declared) → Each IsOfFunction fs → (e : Declared) → Declares (standard_symbols ++ fs) e → IsNumbered e.symbol
+symbol_numbered fs g e k = declared_one (λ (c : Declared). IsNumbered c.symbol) (standard_symbols ++ fs) e (tt, (tt, (tt, (tt, (tt, (tt, (tt, (tt, (tt, (tt, (tt, (tt, (tt, functions_numbered fs g))))))))))))) k
+
+constant_nameless : {fs : List Declared} (d : Sorts fs) (f : Symbol) (a : Sort) → Over fs d.of (Constant f a) → IsNumbered f × IsBuiltIn a
+constant_nameless {fs = fs} d (Standard n) a h = (tt, symbol_given fs d.functions _ h)
+constant_nameless {fs = fs} d (Function n) a h = (tt, symbol_given fs d.functions _ h)
 constant_nameless d (Variable n) a h = (tt, subst IsBuiltIn (sym h) (d.built_in n))
-constant_nameless d (Named x) a h = (standard_numbered _ h, standard_given _ h)
+constant_nameless {fs = fs} d (Named x) a h = (symbol_numbered fs d.functions _ h, symbol_given fs d.functions _ h)
 
 mutual
-  over_nameless : (d : Sorts) (t : Term) → Over d.of t → IsNameless t
+  over_nameless : {fs : List Declared} (d : Sorts fs) (t : Term) → Over fs d.of t → IsNameless t
   over_nameless d (Truth b) h = tt
   over_nameless d (Number z) h = tt
   over_nameless d (Part a) h = tt
   over_nameless d (Constant f a) h = constant_nameless d f a h
-  over_nameless d (Apply f a ts) h = (standard_numbered _ h.0, standard_given _ h.0, all_nameless d ts h.1)
+  over_nameless {fs = fs} d (Apply f a ts) h = (symbol_numbered fs d.functions _ h.0, symbol_given fs d.functions _ h.0, all_nameless d ts h.1)
   over_nameless d (Not t) h = over_nameless d t h
   over_nameless d (Binary o t u) h = (over_nameless d t h.0, over_nameless d u h.1)
   over_nameless d (Ite c t u) h = (over_nameless d c h.0, over_nameless d t h.1, over_nameless d u h.2)
   over_nameless d (AllOf ts) h = all_nameless d ts h
   over_nameless d (SomeOf ts) h = all_nameless d ts h
 
-  all_nameless : (d : Sorts) (ts : Terms) → AreOver standard_symbols d.of ts → AreNameless ts
+  all_nameless : {fs : List Declared} (d : Sorts fs) (ts : Terms) → AreOver (standard_symbols ++ fs) d.of ts → AreNameless ts
   all_nameless d NoTerms h = tt
   all_nameless d (MoreTerms t ts) h = (over_nameless d t h.0, all_nameless d ts h.1)
 
-abbrev sorts_of : {q : Question} → IsLive q → Sorts
-sorts_of live = record { of = live.sorts; built_in = live.built_in }
+-- where the symbols beside the standard ones are those of functions
+module _ (fs : List Declared) (functions : Each IsOfFunction fs) where
+  abbrev sorts_of : {q : Question} → IsLive fs q → Sorts fs
+  sorts_of live = record { of = live.sorts; built_in = live.built_in; functions = functions }
 
-pub condition_nameless : (q : Question) → IsLive q → IsNameless q.condition
-condition_nameless q live = over_nameless (sorts_of live) q.condition live.condition_over
+  pub condition_nameless : (q : Question) → IsLive fs q → IsNameless q.condition
+  condition_nameless q live = over_nameless (sorts_of live) q.condition live.condition_over
 
-pub path_nameless : (q : Question) → IsLive q → Each IsNameless q.path
-path_nameless q live = each_map (Over live.sorts) IsNameless (over_nameless (sorts_of live)) q.path live.path_over
+  pub path_nameless : (q : Question) → IsLive fs q → Each IsNameless q.path
+  path_nameless q live = each_map (Over fs live.sorts) IsNameless (over_nameless (sorts_of live)) q.path live.path_over

@@ -1,8 +1,8 @@
 -- What the constructors of snapshots build is well-sorted, and over the standard symbols, where its parts are.
-use Rattle.std.proofs.Common.{◌≡◌, ◌⊎◌, ◌∙◌, inl, inr, refl, sym, subst, List, [], ◌∷◌, ℕ, suc, zero, ◌+◌, Bool, true, false, cond}
+use Rattle.std.proofs.Common.{◌≡◌, ◌⊎◌, ◌∙◌, inl, inr, refl, sym, subst, List, [], ◌∷◌, ◌++◌, ℕ, suc, zero, ◌+◌, Bool, true, false, cond}
 use Rattle.vx_ast.specs.declared.ValueType.{ValueType}
 use Rattle.vx_ast.specs.declared.ValueType.TheVariants as type
-use Rattle.vx_terms.specs.Sorts.{Sort, BoolSort, SnapSort, Symbol, Standard, Equal, same_symbol}
+use Rattle.vx_terms.specs.Sorts.{Sort, BoolSort, SnapSort, Symbol, Standard, Function, Variable, Named, Equal, same_symbol}
 use Rattle.vx_terms.specs.Terms.{Term, Binary, Apply, Terms, NoTerms, MoreTerms, same, sort_of}
 use Rattle.vx_terms.specs.Build.{unit, one, two, pair, written_first, written_second, first, second, wrap, wrap_number, written_unwrap, unwrap}
 use Rattle.vx_terms.specs.Formed.{Formed, constant, applies, binary, FormedAll, no_terms, more_terms}
@@ -12,7 +12,8 @@ use Rattle.vx_smt_meaning.specs.Commands.{Declared}
 use Rattle.vx_smt_meaning.specs.Symbols.{declaration, Declares}
 use Rattle.vx_smt_meaning.specs.Standard.{standard, standard_symbols}
 use Rattle.vx_rules.specs.States.{sort_of_type}
-use Rattle.vx_live.proofs.Over.{Sorts, Fine, declared_one}
+use Rattle.vx_terms.specs.Interpretations.{Each}
+use Rattle.vx_live.proofs.Over.{IsF, IsOfFunction, Sorts, Fine, declared_one}
 
 -- What is taken apart
 
@@ -21,9 +22,26 @@ abbrev takes_in : List Declared → Symbol → List Sort
 takes_in [] f = []
 takes_in (d ∷ ds) f = cond (same_symbol d.symbol f) d.takes (takes_in ds f)
 
-standard_takes : (e : Declared) → Declares standard_symbols e → e.takes ≡ takes_in standard_symbols e.symbol
-standard_takes e k =
-    declared_one (λ (c : Declared). c.takes ≡ takes_in standard_symbols c.symbol) standard_symbols e (refl, (refl, (refl, (refl, (refl, (refl, (refl, (refl, (refl, (refl, (refl, (refl, (refl, tt))))))))))))) k
+abbrev IsS : Symbol → Type 0
+IsS (Standard n) = Unit {0}
+IsS _ = ⊥
+
+f_is_no_s : (f : Symbol) → IsF f → IsS f → ⊥
+f_is_no_s (Standard n) h k = h
+f_is_no_s (Function n) h k = k
+f_is_no_s (Variable n) h k = k
+f_is_no_s (Named x) h k = k
+
+abbrev TakesItsOwn : Declared → Type 0
+TakesItsOwn c = IsS c.symbol → c.takes ≡ takes_in standard_symbols c.symbol
+
+functions_take : (fs : List Declared) → Each IsOfFunction fs → Each TakesItsOwn fs
+functions_take [] h = tt
+functions_take (c ∷ fs) h = (λ k. absurd (f_is_no_s c.symbol h.0.symbol k), functions_take fs h.1)
+
+standard_takes : (fs : List Declared) → Each IsOfFunction fs → (e : Declared) → Declares (standard_symbols ++ fs) e → IsS e.symbol → e.takes ≡ takes_in standard_symbols e.symbol
+standard_takes fs g e k =
+    declared_one TakesItsOwn (standard_symbols ++ fs) e (λ s. refl, (λ s. refl, (λ s. refl, (λ s. refl, (λ s. refl, (λ s. refl, (λ s. refl, (λ s. refl, (λ s. refl, (λ s. refl, (λ s. refl, (λ s. refl, (λ s. refl, functions_take fs g))))))))))))) k
 
 one_sort : (a b : Sort) → a ∷ [] ≡ b ∷ [] → a ≡ b
 one_sort a b e = cc
@@ -56,17 +74,17 @@ by_parts t = inr (refl, refl)
 
 -- The wraps, and what takes them apart
 
-wraps : (t : ValueType) → Declares standard_symbols (standard (5 + wrap_number (sort_of_type t)) (sort_of_type t ∷ []) SnapSort)
-wraps type.Int = inr (inr (inr (inr (inr (inl refl)))))
-wraps type.Bool = inr (inr (inr (inr (inr (inr (inl refl))))))
-wraps type.Perm = inr (inr (inr (inr (inr (inr (inr (inl refl)))))))
-wraps type.Ref = inr (inr (inr (inr (inr (inr (inr (inr (inl refl))))))))
+wraps : (fs : List Declared) (t : ValueType) → Declares (standard_symbols ++ fs) (standard (5 + wrap_number (sort_of_type t)) (sort_of_type t ∷ []) SnapSort)
+wraps fs type.Int = inr (inr (inr (inr (inr (inl refl)))))
+wraps fs type.Bool = inr (inr (inr (inr (inr (inr (inl refl))))))
+wraps fs type.Perm = inr (inr (inr (inr (inr (inr (inr (inl refl)))))))
+wraps fs type.Ref = inr (inr (inr (inr (inr (inr (inr (inr (inl refl))))))))
 
-unwraps : (t : ValueType) → Declares standard_symbols (standard (9 + wrap_number (sort_of_type t)) (SnapSort ∷ []) (sort_of_type t))
-unwraps type.Int = inr (inr (inr (inr (inr (inr (inr (inr (inr (inl refl)))))))))
-unwraps type.Bool = inr (inr (inr (inr (inr (inr (inr (inr (inr (inr (inl refl))))))))))
-unwraps type.Perm = inr (inr (inr (inr (inr (inr (inr (inr (inr (inr (inr (inl refl)))))))))))
-unwraps type.Ref = inr (inr (inr (inr (inr (inr (inr (inr (inr (inr (inr (inr (inl refl))))))))))))
+unwraps : (fs : List Declared) (t : ValueType) → Declares (standard_symbols ++ fs) (standard (9 + wrap_number (sort_of_type t)) (SnapSort ∷ []) (sort_of_type t))
+unwraps fs type.Int = inr (inr (inr (inr (inr (inr (inr (inr (inr (inl refl)))))))))
+unwraps fs type.Bool = inr (inr (inr (inr (inr (inr (inr (inr (inr (inr (inl refl))))))))))
+unwraps fs type.Perm = inr (inr (inr (inr (inr (inr (inr (inr (inr (inr (inr (inl refl)))))))))))
+unwraps fs type.Ref = inr (inr (inr (inr (inr (inr (inr (inr (inr (inr (inr (inr (inl refl))))))))))))
 
 wrapped_takes : (t : ValueType) → takes_in standard_symbols (Standard (5 + wrap_number (sort_of_type t))) ≡ sort_of_type t ∷ []
 wrapped_takes type.Int = refl
@@ -74,7 +92,7 @@ wrapped_takes type.Bool = refl
 wrapped_takes type.Perm = refl
 wrapped_takes type.Ref = refl
 
-module _ {d : Sorts} {n : ℕ} where
+module _ {fs : List Declared} {d : Sorts fs} {n : ℕ} where
   pub unit_fine : Fine d n unit SnapSort
   unit_fine = record { formed = constant (Standard 1) SnapSort tt; over = inr (inl refl) }
 
@@ -83,18 +101,18 @@ module _ {d : Sorts} {n : ℕ} where
   written_equal_fine f g = record { formed = binary tt f.formed g.formed; over = (f.over, g.over) }
 
   -- a standard symbol of one term
-  of_one : (k : ℕ) (a b : Sort) {t : Term} → Declares standard_symbols (standard k (a ∷ []) b) → Fine d n t a → Fine d n (Apply (Standard k) b (one t)) b
+  of_one : (k : ℕ) (a b : Sort) {t : Term} → Declares (standard_symbols ++ fs) (standard k (a ∷ []) b) → Fine d n t a → Fine d n (Apply (Standard k) b (one t)) b
   of_one k a b declared f = record {
     formed = applies (Standard k) b tt (more_terms a f.formed no_terms);
-    over = (subst (λ s. Declares standard_symbols (declaration (Standard k) (s ∷ []) b)) (sym (sort_of_formed f.formed)) declared, (f.over, tt));
+    over = (subst (λ s. Declares (standard_symbols ++ fs) (declaration (Standard k) (s ∷ []) b)) (sym (sort_of_formed f.formed)) declared, (f.over, tt));
   }
 
   pub pair_fine : {t u : Term} → Fine d n t SnapSort → Fine d n u SnapSort → Fine d n (pair t u) SnapSort
   pair_fine {t = t} {u = u} f g = record {
     formed = applies (Standard 2) SnapSort tt (more_terms SnapSort f.formed (more_terms SnapSort g.formed no_terms));
     over = (
-      subst (λ s. Declares standard_symbols (declaration (Standard 2) (s ∷ sort_of u ∷ []) SnapSort)) (sym (sort_of_formed f.formed))
-          (subst (λ s. Declares standard_symbols (declaration (Standard 2) (SnapSort ∷ s ∷ []) SnapSort)) (sym (sort_of_formed g.formed)) (inr (inr (inl refl)))),
+      subst (λ s. Declares (standard_symbols ++ fs) (declaration (Standard 2) (s ∷ sort_of u ∷ []) SnapSort)) (sym (sort_of_formed f.formed))
+          (subst (λ s. Declares (standard_symbols ++ fs) (declaration (Standard 2) (SnapSort ∷ s ∷ []) SnapSort)) (sym (sort_of_formed g.formed)) (inr (inr (inl refl)))),
       (f.over, (g.over, tt)),
     );
   }
@@ -108,7 +126,7 @@ module _ {d : Sorts} {n : ℕ} where
   -- Both parts of a pair are snapshots.
   parts_fine : {s t : Term} {a b : Sort} → Fine d n (Apply (Standard 2) a (two s t)) b → Fine d n s SnapSort × Fine d n t SnapSort
   parts_fine {s = s} {t = t} {a = a} f =
-      let sorts = two_sorts (sort_of s) (sort_of t) SnapSort SnapSort (standard_takes (declaration (Standard 2) (sort_of s ∷ sort_of t ∷ []) a) f.over.0) in
+      let sorts = two_sorts (sort_of s) (sort_of t) SnapSort SnapSort (standard_takes fs d.functions (declaration (Standard 2) (sort_of s ∷ sort_of t ∷ []) a) f.over.0 tt) in
       let all = applied f.formed in (
         record { formed = subst (λ b. Formed n s b) sorts.0 (head_formed all); over = f.over.1.0 },
         record { formed = subst (λ b. Formed n t b) sorts.1 (head_formed (rest_formed all)); over = f.over.1.1.0 },
@@ -131,15 +149,15 @@ module _ {d : Sorts} {n : ℕ} where
   -- Values as snapshots, and back
 
   pub wrap_fine : (t : ValueType) {u : Term} → Fine d n u (sort_of_type t) → Fine d n (wrap (sort_of_type t) u) SnapSort
-  wrap_fine t f = of_one (5 + wrap_number (sort_of_type t)) (sort_of_type t) SnapSort (wraps t) f
+  wrap_fine t f = of_one (5 + wrap_number (sort_of_type t)) (sort_of_type t) SnapSort (wraps fs t) f
 
   pub written_unwrap_fine : (t : ValueType) {u : Term} → Fine d n u SnapSort → Fine d n (written_unwrap (sort_of_type t) u) (sort_of_type t)
-  written_unwrap_fine t f = of_one (9 + wrap_number (sort_of_type t)) SnapSort (sort_of_type t) (unwraps t) f
+  written_unwrap_fine t f = of_one (9 + wrap_number (sort_of_type t)) SnapSort (sort_of_type t) (unwraps fs t) f
 
   -- What is wrapped is of the type.
   wrapped_fine : (t : ValueType) {u : Term} {b : Sort} → Fine d n (wrap (sort_of_type t) u) b → Fine d n u (sort_of_type t)
   wrapped_fine t {u = u} f =
-      let e = standard_takes (declaration (Standard (5 + wrap_number (sort_of_type t))) (sort_of u ∷ []) SnapSort) f.over.0 ∙ wrapped_takes t in
+      let e = standard_takes fs d.functions (declaration (Standard (5 + wrap_number (sort_of_type t))) (sort_of u ∷ []) SnapSort) f.over.0 tt ∙ wrapped_takes t in
       record { formed = subst (λ b. Formed n u b) (one_sort (sort_of u) (sort_of_type t) e) (head_formed (applied f.formed)); over = f.over.1.0 }
 
   pub unwrap_fine : (t : ValueType) (u : Term) → Fine d n u SnapSort → Fine d n (unwrap (sort_of_type t) u) (sort_of_type t)

@@ -1,1 +1,3 @@
+pub mod Functions
 pub mod Live
+pub mod Quiet

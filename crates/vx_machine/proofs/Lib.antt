@@ -1,3 +1,4 @@
 pub mod Walks
 pub mod Follow
-mod Ends
+mod Gathers
+mod Quiet

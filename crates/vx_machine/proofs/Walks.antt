@@ -3,9 +3,11 @@ use Rattle.std.proofs.Common.{◌≡◌, ℕ, ◌+◌, Bool, true, false, List, 
 use Rattle.vx_ast.specs.Syntax.{Program}
 use Rattle.vx_stack.specs.declared.frame.Side.{Side}
 use Rattle.vx_stack.specs.declared.question.Query.{Query}
+use Rattle.vx_stack.specs.declared.conts.Left.{Left as Left'}
 use Rattle.vx_stack.specs.declared.conts.Move.TheVariants as move'
 use Rattle.vx_smt_meaning.specs.declared.reply.Reply.{Reply}
-use Rattle.vx_rules.specs.Trees.{Question, Tree, Ask, Probe, Walked, walk_then, passed, steps_then}
+use Rattle.vx_rules.specs.States.{State}
+use Rattle.vx_rules.specs.Trees.{Question, Tree, Impossible, Ask, Probe, Walked, walk_then, passed, steps_then}
 use Rattle.vx_stack.specs.Stack.{side_tree, query, Checked, Stepped}
 use Rattle.vx_machine.specs.Runs.{without_other, without_last, asking, probing, below, remaining, steps_below, steps_remaining, waiting_by, Turned}
 
@@ -42,6 +44,19 @@ module _ (p : Program) where
   steps_below-two : (sides : List Side) (b a : Side) (left : ℕ) → steps_below p (sides ++ b ∷ a ∷ []) left ≡ steps_then (side_tree p a) (steps_then (side_tree p b) (steps_below p sides left))
   steps_below-two [] b a left = refl
   steps_below-two (c ∷ sides) b a left = steps_below-two sides b a (steps_then (side_tree p c) left)
+
+  -- a side that can't be leaves what is below it
+  pub turned_impossible : (t : Tree) (old : List Side) (z : State) → t ≡ Impossible z → Turned p t old None old
+  turned_impossible t old z h =
+      let s : steps_then t (steps_remaining p old) ≡ steps_remaining p old + 1 = ap (λ x. steps_then x (steps_remaining p old)) h in
+      ((λ rs. ap (λ x. walk_then x (remaining p old) rs) h), omega arith)
+
+  -- so does one that ends with a value
+  pub turned_leave : (t : Tree) (old new : List Side) (l : Left') → Stepped p t old (move'.Leave l) new → Turned p t old None new
+  turned_leave t old new l h =
+      let s : steps_then t (steps_remaining p old) ≡ steps_remaining p old + 1 = ap (λ x. steps_then x (steps_remaining p old)) h.1 in
+      let l : steps_remaining p new ≡ steps_remaining p old = ap (steps_remaining p) h.0 in
+      ((λ rs. ap (λ x. walk_then x (remaining p old) rs) h.1 ∙ ap (λ l. remaining p l rs) (sym h.0)), omega arith)
 
   -- a side that ends leaves what is below it
   pub turned_end : (t : Tree) (old new : List Side) → Stepped p t old move'.End new → Turned p t old None new

@@ -1,10 +1,6 @@
 -- What a machine has still to do, against the walk through its member's tree.
 use Rattle.std.specs.Prelude.{◌≡◌, ℕ, ◌<◌, ◌≤◌, ⊤, length, Bool, true, false, List, [], ◌∷◌, ◌++◌, map, Option, Some, None, slice_get}
 use Rattle.vx_ast.specs.Syntax.{Program, Member}
-use Rattle.vx_stack.specs.declared.frame.Next.{Next}
-use Rattle.vx_stack.specs.declared.frame.Next.TheVariants as next'
-use Rattle.vx_stack.specs.declared.frame.Frame.{Frame}
-use Rattle.vx_stack.specs.declared.frame.Frame.TheVariants as frame'
 use Rattle.vx_stack.specs.declared.frame.Side.{Side}
 use Rattle.vx_stack.specs.declared.question.Query.{Query}
 use Rattle.vx_machine.specs.declared.machine.Phase.{Phase}
@@ -28,19 +24,6 @@ tree_of p (Some m) = tree p m.name m.kind
 
 abbrev pub member_tree : Program → ℕ → Tree
 member_tree p n = tree_of p (slice_get p n)
-
--- back from the parts of other members, what waits is the end of an impossible state
-abbrev pub is_impossible : Next → Bool
-is_impossible next'.Impossible = true
-is_impossible (next'.Back' c q n) = is_impossible n
-is_impossible n = false
-
--- a side that is over since its state is impossible
-abbrev pub is_over : Frame → Bool
-is_over (frame'.Go n) = is_impossible n.value
-is_over (frame'.Eval e h) = false
-is_over (frame'.Give t h) = false
-is_over (frame'.GiveAll ts r) = false
 
 -- of the two candidates of a probe, on top of the stack, one goes: the other one, or the one where it is refuted
 abbrev pub without_other : List Side → List Side

@@ -2,6 +2,8 @@
 #![tactic(auto)]
 
 mod machine;
+mod ready;
 mod run;
+mod tells;
 
 pub use machine::{Ask, Machine, Outcome};

@@ -126,6 +126,12 @@ fn first_sides(alloc: Global, program: &Settled, member: &Member) -> Result<Cont
     match &member.kind {
         Kind::Field(_) => Ok(Conts::new(alloc)),
         Kind::Predicate(d) => predicate_sides(alloc, program, d),
+        Kind::Function(f) => {
+            let mut conts = Conts::new(alloc);
+            let side = vx_funcs::verified_side(alloc, program, &member.name, f)?;
+            conts.sides.push(side)?;
+            Ok(conts)
+        }
         Kind::Method(m) => {
             let mut conts = Conts::new(alloc);
             let side = vx_exec::first_side(alloc, program, m)?;

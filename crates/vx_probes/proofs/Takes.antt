@@ -8,7 +8,7 @@ use Rattle.vx_ast.specs.declared.Place.{Place}
 use Rattle.vx_ast.specs.Syntax.{Name, Program, Predicate, Assertion, predicate_named}
 use Rattle.vx_heap.specs.declared.chunk.Resource.TheVariants as resource
 use Rattle.vx_heap.specs.Views.{key, terms_of}
-use Rattle.vx_rules.specs.Chunks.{Candidate, candidates, field_key, instance_key, reduced}
+use Rattle.vx_rules.specs.Chunks.{candidates, field_key, instance_key, reduced}
 use Rattle.vx_rules.specs.Members.{rules}
 use Rattle.vx_rules.specs.Rules.{Going, back, entered, first_with, holds_amount, leads_inside, never, question, take_chunk, take_fresh, unfolded, unless_false}
 use Rattle.vx_rules.specs.States.{Chunk, State, after_fresh, bind, fresh, is_known, is_quiet, with_entry, with_heap}

@@ -22,7 +22,7 @@ use vx_states::SymState;
 use vx_terms::{Sort, Term, numbers};
 
 /// A probe of one candidate: on with this side where it is as wanted, with what waits for the state where it isn't.
-fn probe_one(
+pub(crate) fn probe_one(
     alloc: Global,
     program: &Settled,
     search: &Search,

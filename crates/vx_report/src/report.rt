@@ -88,6 +88,7 @@ fn kind_word(kind: &Kind) -> &'static str
     match kind {
         Kind::Field(_) => "field",
         Kind::Predicate(_) => "predicate",
+        Kind::Function(_) => "function",
         Kind::Method(_) => "method",
     }
 }

@@ -1,5 +1,5 @@
 -- The settled syntax in code, without its pointers.
-use Rattle.std.specs.Prelude.{List, Option, Some, None, string_bytes, map}
+use Rattle.std.specs.Prelude.{List, Option, Some, None, option_map, string_bytes, map}
 use Rattle.std.specs.declared.alloc.Global.{Global}
 use Rattle.std.specs.declared.rc.Rc.{Rc}
 use Rattle.std.specs.declared.string.String.{String}
@@ -16,11 +16,14 @@ use Rattle.vx_resolved.specs.declared.Declaration as declaration'
 use Rattle.vx_resolved.specs.declared.Stmt as stmt'
 use Rattle.vx_resolved.specs.declared.Block as block'
 use Rattle.vx_resolved.specs.declared.Predicate as predicate'
+use Rattle.vx_resolved.specs.declared.Measure.{Measure as Measure'}
+use Rattle.vx_resolved.specs.declared.Measure.TheVariants as measure'
+use Rattle.vx_resolved.specs.declared.Function as function'
 use Rattle.vx_resolved.specs.declared.Method as method'
 use Rattle.vx_resolved.specs.declared.Kind.TheVariants as kind'
 use Rattle.vx_resolved.specs.declared.Member as member'
 use Rattle.vx_resolved.specs.declared.Program as program'
-use Rattle.vx_ast.specs.Syntax.{Operator, Equal, Less, LessEqual, Greater, GreaterEqual, Add, Subtract, Multiply, Division, Quotient, Remainder, Connective, And, Or, Implies, Expr, Number, Truth, Null, Part, Variable, Not, Operate, Divide, Connect, Choose, Read, Old, Apply, Unfolding, Exprs, NoMore, More, Assertion, Pure, Points, Instance, Both, Implied, Chosen, Declaration, Stmt, Declare, Assign, Write, New, Call, Inhale, Exhale, Assert, Assume, Fold, Unfold, If, While, Block, Done, Then, Predicate, Method, Kind, IsField, IsPredicate, IsMethod, Member, Name, Program}
+use Rattle.vx_ast.specs.Syntax.{Operator, Equal, Less, LessEqual, Greater, GreaterEqual, Add, Subtract, Multiply, Division, Quotient, Remainder, Connective, And, Or, Implies, Expr, Number, Truth, Null, Part, Variable, Not, Operate, Divide, Connect, Choose, Read, Old, Apply, Unfolding, Exprs, NoMore, More, Assertion, Pure, Points, Instance, Both, Implied, Chosen, Declaration, Stmt, Declare, Assign, Write, New, Call, Inhale, Exhale, Assert, Assume, Fold, Unfold, If, While, Block, Done, Then, Measure, ByNumber, ByInstance, Predicate, Function, Method, Kind, IsField, IsPredicate, IsFunction, IsMethod, Member, Name, Program}
 
 abbrev pub operator : Operator' → Operator
 operator operator'.Equal = Equal
@@ -110,6 +113,27 @@ optional_assertion (Some a) = Some (assertion a.value)
 abbrev pub predicate : predicate'.Predicate → Predicate
 predicate d = record { place = d.place; parameters = map declaration d.parameters.items; body = optional_assertion d.body }
 
+abbrev pub measure : Measure' → Measure
+measure (measure'.Number e) = ByNumber (expr e.value)
+measure (measure'.Instance at i es) = ByInstance at (string_bytes i.value) (exprs es.value)
+
+abbrev pub optional_measure : Option Measure' → Option Measure
+optional_measure o = option_map measure o
+
+abbrev pub expressions : List (Rc expr'.Expr Global) → List Expr
+expressions es = map (λ e. expr e.value) es
+
+abbrev pub function : function'.Function → Function
+function f = record {
+  place = f.place;
+  parameters = map declaration f.parameters.items;
+  of = f.of;
+  requires = assertions f.preconditions.items;
+  ensures = expressions f.postconditions.items;
+  decreases = optional_measure f.measure;
+  body = expr f.body.value;
+}
+
 abbrev pub method : method'.Method → Method
 method m = record {
   place = m.place;
@@ -123,6 +147,7 @@ method m = record {
 abbrev pub kind : kind'.the_data → Kind
 kind (kind'.Field t) = IsField t
 kind (kind'.Predicate d) = IsPredicate (predicate d.value)
+kind (kind'.Function f) = IsFunction (function f.value)
 kind (kind'.Method m) = IsMethod (method m.value)
 
 abbrev pub member : member'.Member → Member

@@ -1,12 +1,13 @@
 //! The syntax that is executed, settled once: names stand for what they name, assertions stand apart from expressions,
-//! `&&` at an assertion's top is taken apart, and `var x: T := e` is two statements. It has all forms but functions as
-//! members.
+//! `&&` at an assertion's top is taken apart, and `var x: T := e` is two statements.
 #![tactic(auto)]
 
+mod functions;
 mod lookups;
 mod numbers;
 mod settled;
 
+pub use numbers::{Numbers, member_numbers};
 pub use settled::Settled;
 use std::rc::Rc;
 use vx_ast::{Place, ValueType};
@@ -162,6 +163,26 @@ pub struct Predicate {
     pub body: Option<Rc<Assertion>>,
 }
 
+/// What the applications within a function's own group are measured by.
+#[derive(Drop)]
+pub enum Measure {
+    Number(Rc<Expr>),
+    /// An instance of a predicate, with its place.
+    Instance(Place, Rc<String>, Rc<Exprs>),
+}
+
+/// A function: its place is its first token's.
+#[derive(Drop)]
+pub struct Function {
+    pub place: Place,
+    pub parameters: Vec<Declaration>,
+    pub of: ValueType,
+    pub preconditions: Vec<Rc<Assertion>>,
+    pub postconditions: Vec<Rc<Expr>>,
+    pub measure: Option<Measure>,
+    pub body: Rc<Expr>,
+}
+
 /// A method: its place is its first token's.
 #[derive(Drop)]
 pub struct Method {
@@ -178,6 +199,7 @@ pub struct Method {
 pub enum Kind {
     Field(ValueType),
     Predicate(Rc<Predicate>),
+    Function(Rc<Function>),
     Method(Rc<Method>),
 }
 

@@ -1,27 +1,41 @@
 //! What is asked of a settled program.
 
-ghost use Rattle.std.specs.Prelude.{◌≡◌, ◌<◌, length, slice_get, nat_eq, string_bytes, IfOk, Some};
+ghost use Rattle.std.specs.Prelude.{◌≡◌, ◌<◌, ◌^◌, length, slice_get, nat_eq, string_bytes, option_map, IfOk, Some};
 ghost use Rattle.vx_ast.specs.Apart.{KeepsApart};
-ghost use Rattle.vx_ast.specs.Syntax.{field_named, method_named, predicate_named};
-ghost use Rattle.vx_resolved.specs.Numbers.{number_named};
+ghost use Rattle.vx_ast.specs.Syntax.{member_named, field_named, function_named, method_named, predicate_named};
+ghost use Rattle.vx_graph.specs.Groups.{roots};
+ghost use Rattle.vx_resolved.specs.Numbers.{number_named, AreGroups};
 ghost use Rattle.vx_resolved.specs.Resolved as resolved;
-ghost use Rattle.vx_resolved.specs.Resolved.{member};
-ghost use Rattle.vx_resolved.specs.Settled.{settled, optional_method, optional_predicate};
+ghost use Rattle.vx_resolved.specs.Resolved.{kind, member};
+ghost use Rattle.vx_resolved.specs.Settled.{settled, optional_function, optional_method, optional_predicate};
 
+use crate::functions::function_ranks;
 use crate::numbers::member_numbers;
-use crate::{Kind, Member, Method, Predicate, Program, Settled};
+use crate::{Function, Kind, Member, Method, Predicate, Program, Settled};
 use std::alloc::{AllocError, Global};
 use std::rc::Rc;
 use vx_ast::ValueType;
+use vx_graph::Groups;
 
 impl Settled {
-    /// With a table of its members' names.
-    pub fn new(alloc: Global, program: Program) -> Result<Settled, AllocError>
+    /// With tables of its members' names and of its functions.
+    ///
+    /// # Errors
+    /// Memory runs out.
+    pub fn new(alloc: Global, program: Program, groups: Groups) -> Result<Settled, AllocError>
+        requires few { length program.members.items < 2 ^ 32 }
+        requires groups { AreGroups (roots groups) (resolved.program program) }
         requires apart { KeepsApart (resolved.program program) }
         ensures { IfOk result (λ s. settled s ≡ resolved.program program) }
     {
         let numbers = member_numbers(alloc, &program.members)?;
-        Ok(Settled { program, numbers })
+        let ranks = function_ranks(alloc, &program.members)?;
+        Ok(Settled {
+            program,
+            numbers,
+            ranks,
+            groups,
+        })
     }
 
     /// No member is entered within itself.
@@ -57,15 +71,24 @@ impl Settled {
         self.numbers.get(name).copied()
     }
 
+    /// What the first member of a name is.
+    fn kind_named(&self, name: &Rc<String>) -> Option<&Kind>
+        ensures { option_map (λ k. kind k.now) result ≡ member_named (settled self.now) (string_bytes name.now.value) }
+    {
+        let number = self.number_of(name)?;
+        Some(&self.program.members[number].kind)
+    }
+
     /// The type of a field, where the first member of this name is one.
     pub fn field_type(&self, name: &Rc<String>) -> Option<ValueType>
         ensures { result ≡ field_named (settled self.now) (string_bytes name.now.value) }
     {
-        let number = self.number_of(name)?;
-        match &self.program.members[number].kind {
-            Kind::Field(of) => Some(*of),
-            Kind::Predicate(_) => None,
-            Kind::Method(_) => None,
+        match self.kind_named(name) {
+            Some(Kind::Field(of)) => Some(*of),
+            Some(Kind::Predicate(_)) => None,
+            Some(Kind::Function(_)) => None,
+            Some(Kind::Method(_)) => None,
+            None => None,
         }
     }
 
@@ -73,13 +96,25 @@ impl Settled {
     pub fn predicate(&self, name: &Rc<String>) -> Result<Option<Rc<Predicate>>, AllocError>
         ensures { IfOk result (λ o. optional_predicate o ≡ predicate_named (settled self.now) (string_bytes name.now.value)) }
     {
-        let Some(number) = self.number_of(name) else {
-            return Ok(None);
-        };
-        match &self.program.members[number].kind {
-            Kind::Field(_) => Ok(None),
-            Kind::Predicate(d) => Ok(Some(d.clone()?)),
-            Kind::Method(_) => Ok(None),
+        match self.kind_named(name) {
+            Some(Kind::Field(_)) => Ok(None),
+            Some(Kind::Predicate(d)) => Ok(Some(d.clone()?)),
+            Some(Kind::Function(_)) => Ok(None),
+            Some(Kind::Method(_)) => Ok(None),
+            None => Ok(None),
+        }
+    }
+
+    /// A function, where the first member of this name is one.
+    pub fn function(&self, name: &Rc<String>) -> Result<Option<Rc<Function>>, AllocError>
+        ensures { IfOk result (λ o. optional_function o ≡ function_named (settled self.now) (string_bytes name.now.value)) }
+    {
+        match self.kind_named(name) {
+            Some(Kind::Field(_)) => Ok(None),
+            Some(Kind::Predicate(_)) => Ok(None),
+            Some(Kind::Function(f)) => Ok(Some(f.clone()?)),
+            Some(Kind::Method(_)) => Ok(None),
+            None => Ok(None),
         }
     }
 
@@ -87,13 +122,12 @@ impl Settled {
     pub fn method(&self, name: &Rc<String>) -> Result<Option<Rc<Method>>, AllocError>
         ensures { IfOk result (λ o. optional_method o ≡ method_named (settled self.now) (string_bytes name.now.value)) }
     {
-        let Some(number) = self.number_of(name) else {
-            return Ok(None);
-        };
-        match &self.program.members[number].kind {
-            Kind::Field(_) => Ok(None),
-            Kind::Predicate(_) => Ok(None),
-            Kind::Method(m) => Ok(Some(m.clone()?)),
+        match self.kind_named(name) {
+            Some(Kind::Field(_)) => Ok(None),
+            Some(Kind::Predicate(_)) => Ok(None),
+            Some(Kind::Function(_)) => Ok(None),
+            Some(Kind::Method(m)) => Ok(Some(m.clone()?)),
+            None => Ok(None),
         }
     }
 }

@@ -13,7 +13,7 @@ use vx_report::{code_word, reply_word};
 use vx_resolved::Settled;
 use vx_rules::Reply;
 use vx_settled::typed_programs_keep_apart;
-use vx_settling::{Unsettled, settle};
+use vx_settling::settle;
 use vx_smt_meaning::Command;
 use vx_smt_text::write;
 use vx_stack::Query;
@@ -95,7 +95,7 @@ fn take_step(
 }
 
 // A typed program, settled: typing keeps its members apart.
-fn settled_from(alloc: Global, typed: &Typed) -> Result<Settled, Unsettled> {
+fn settled_from(alloc: Global, typed: &Typed) -> Result<Settled, AllocError> {
     typed_programs_keep_apart();
     typed.typed();
     settle(alloc, typed.program())

@@ -1,7 +1,6 @@
 pub mod Lists
 pub mod Loops
 pub mod Methods
-pub mod Refused
 pub mod Rows
 pub mod Sets
 pub mod Statements

@@ -3,25 +3,10 @@ use Rattle.std.proofs.Common.{◌≡◌, ◌∙◌, ◌++◌, ap, ap₂, sym, su
 use Rattle.std.specs.Prelude.{◌&&◌}
 use Rattle.std.proofs.Math.Seq.{drop-cons}
 use Rattle.std.proofs.lemmas.List.{map-append, take_more}
-use Rattle.vx_settling.specs.declared.unsettled.Unsettled.{Unsettled}
-use Rattle.vx_settling.specs.Refusals.{Refuses}
-use Rattle.vx_settling.proofs.Refused.{of_first}
 
 -- what is left, one item of it and the others
 pub left : {X : Type 0} (xs : List X) (i : ℕ) (x : X) → i < length xs → x ≡ get_or xs i x → drop i xs ≡ x ∷ drop (i + 1) xs
 left xs i x within is = drop-cons xs i x within ∙ ap (λ y. y ∷ drop (suc i) xs) (sym is) ∙ ap (λ k. x ∷ drop k xs) (sym (add-one i))
-
-module _ {X : Type 0} (all : List X → Bool) (one : X → Bool) (step : (x : X) (xs : List X) → all (x ∷ xs) ≡ (one x && all xs)) where
-  at_item : (xs : List X) (i : ℕ) (x : X) → i < length xs → x ≡ get_or xs i x → all (drop i xs) ≡ (one x && all (drop (i + 1) xs))
-  at_item xs i x within is = ap all (left xs i x within is) ∙ step x (drop (i + 1) xs)
-
-  -- an item is executed, and the walk goes on behind it
-  pub goes_on : (xs : List X) (i : ℕ) (x : X) → i < length xs → x ≡ get_or xs i x → one x ≡ true → all xs ≡ all (drop i xs) → all xs ≡ all (drop (i + 1) xs)
-  goes_on xs i x within is executed before = before ∙ at_item xs i x within is ∙ ap (λ b. b && all (drop (i + 1) xs)) executed
-
-  -- an item is refused, and so is the list
-  pub ends : (xs : List X) (i : ℕ) (x : X) (e : Unsettled) → i < length xs → x ≡ get_or xs i x → Refuses e (one x) → all xs ≡ all (drop i xs) → Refuses e (all xs)
-  ends xs i x e within is refused before = subst (Refuses e) (sym (before ∙ at_item xs i x within is)) (of_first e (one x) (all (drop (i + 1) xs)) refused)
 
 twice : {X Y Z : Type 0} (f : Y → Z) (g : X → Y) (xs : List X) → map f (map g xs) ≡ map (λ x. f (g x)) xs
 twice f g [] = refl

@@ -1,7 +1,8 @@
--- A settled method or predicate, part by part.
+-- A settled method, predicate or function, part by part.
 use Rattle.std.proofs.Common.{◌≡◌, ◌∙◌, List, Option, ap}
 use Rattle.vx_ast.specs.declared.Place.{Place}
-use Rattle.vx_ast.specs.Syntax.{Declaration, Assertion, Block, Kind, IsPredicate, IsMethod}
+use Rattle.vx_ast.specs.declared.ValueType.{ValueType}
+use Rattle.vx_ast.specs.Syntax.{Declaration, Assertion, Block, Expr, Kind, IsPredicate, IsFunction, IsMethod, Measure}
 
 abbrev made : Place → List Declaration → List Declaration → List Assertion → List Assertion → Option Block → Kind
 made place ps rs before after b = IsMethod record { place = place; parameters = ps; returns = rs; requires = before; ensures = after; body = b }
@@ -17,3 +18,12 @@ defined place ps b = IsPredicate record { place = place; parameters = ps; body =
 
 pub same_predicate : (place : Place) (ps ps' : List Declaration) (b b' : Option Assertion) → ps ≡ ps' → b ≡ b' → defined place ps b ≡ defined place ps' b'
 same_predicate place ps ps' b b' e f = ap (λ x. defined place x b) e ∙ ap (λ x. defined place ps' x) f
+
+abbrev valued : Place → List Declaration → ValueType → List Assertion → List Expr → Option Measure → Expr → Kind
+valued place ps of before after m e = IsFunction record { place = place; parameters = ps; of = of; requires = before; ensures = after; decreases = m; body = e }
+
+pub same_function : (place : Place) (of : ValueType) (ps ps' : List Declaration) (before before' : List Assertion) (after after' : List Expr) (m m' : Option Measure) (e e' : Expr)
+    → ps ≡ ps' → before ≡ before' → after ≡ after' → m ≡ m' → e ≡ e' → valued place ps of before after m e ≡ valued place ps' of before' after' m' e'
+same_function place of ps ps' before before' after after' m m' e e' f g h k l =
+    ap (λ x. valued place x of before after m e) f ∙ ap (λ x. valued place ps' of x after m e) g ∙ ap (λ x. valued place ps' of before' x m e) h
+    ∙ ap (λ x. valued place ps' of before' after' x e) k ∙ ap (λ x. valued place ps' of before' after' m' x) l

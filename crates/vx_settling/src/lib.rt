@@ -1,13 +1,12 @@
 //! Settling: from a program as it is written to the settled syntax that meaning and rules speak of.
-#![tactic(auto, using(crate::proofs::Refused::passed, crate::proofs::Refused::first, crate::proofs::Refused::second))]
+#![tactic(auto)]
 
 mod assertions;
 mod clauses;
 mod expr;
+mod functions;
 mod members;
 mod names;
 mod stmt;
-mod unsettled;
 
 pub use members::settle;
-pub use unsettled::Unsettled;

@@ -8,20 +8,19 @@ ghost use Rattle.vx_ast.specs.Resolve as resolve;
 ghost use Rattle.vx_ast.specs.Resolve.{Names as NamesOf};
 ghost use Rattle.vx_resolved.specs.Resolved as view;
 ghost use Rattle.vx_ast.specs.Syntax as Syntax;
-ghost use Rattle.vx_resolved.specs.Executed.{is_executed, is_executed_kind};
-ghost use Rattle.vx_settling.specs.Refusals.{Tells};
 ghost use Rattle.vx_resolved.specs.Settled.{settled};
 ghost use Rattle.vx_settling.specs.Names.{names_in};
 
-use crate::Unsettled;
 use crate::assertions::assertion;
 use crate::clauses::clauses;
 use crate::expr::shared;
+use crate::functions::function;
 use crate::names::{Names, all_names};
 use crate::stmt::block;
 use std::alloc::{AllocError, Global};
 use std::rc::Rc;
 use vx_ast::{Declaration, Expr, Member, MemberKind, Method, Place, Predicate, Program};
+use vx_groups::groups_of;
 use vx_resolved::{Assertion, Block, Settled};
 
 // A variable, settled.
@@ -34,7 +33,7 @@ fn declaration(alloc: Global, d: &Declaration) -> Result<vx_resolved::Declaratio
     })
 }
 
-fn declarations(
+pub(crate) fn declarations(
     alloc: Global,
     all: &[Declaration],
 ) -> Result<Vec<vx_resolved::Declaration>, AllocError>
@@ -120,9 +119,8 @@ fn kind(
     names: &Names,
     place: Place,
     k: &MemberKind,
-) -> Result<vx_resolved::Kind, Unsettled>
-    ensures settled { IfOk result (λ r. view.kind r ≡ resolve.kind (names_in names.now) place (written_kind k.now)) }
-    ensures told { Tells result (is_executed_kind (written_kind k.now)) }
+) -> Result<vx_resolved::Kind, AllocError>
+    ensures { IfOk result (λ r. view.kind r ≡ resolve.kind (names_in names.now) place (written_kind k.now)) }
 {
     match k {
         MemberKind::Field(of) => Ok(vx_resolved::Kind::Field(*of)),
@@ -130,7 +128,10 @@ fn kind(
             let of = Rc::new(alloc, predicate(alloc, names, place, of)?)?;
             Ok(vx_resolved::Kind::Predicate(of))
         }
-        MemberKind::Function(_) => Err(Unsettled::NotExecuted(place, "function")),
+        MemberKind::Function(of) => {
+            let of = Rc::new(alloc, function(alloc, names, place, of)?)?;
+            Ok(vx_resolved::Kind::Function(of))
+        }
         MemberKind::Method(of) => {
             let of = Rc::new(alloc, method(alloc, names, place, of)?)?;
             Ok(vx_resolved::Kind::Method(of))
@@ -139,9 +140,8 @@ fn kind(
 }
 
 // A member, settled.
-fn member(alloc: Global, names: &Names, m: &Member) -> Result<vx_resolved::Member, Unsettled>
-    ensures settled { IfOk result (λ r. view.member r ≡ resolve.member (names_in names.now) (written_member m.now)) }
-    ensures told { Tells result (is_executed_kind (written_member m.now).kind) }
+fn member(alloc: Global, names: &Names, m: &Member) -> Result<vx_resolved::Member, AllocError>
+    ensures { IfOk result (λ r. view.member r ≡ resolve.member (names_in names.now) (written_member m.now)) }
 {
     let kind = kind(alloc, names, m.place, &m.kind)?;
     let name = shared(alloc, &m.name.text)?;
@@ -152,9 +152,8 @@ fn members(
     alloc: Global,
     names: &Names,
     all: &[Member],
-) -> Result<Vec<vx_resolved::Member>, Unsettled>
-    ensures settled { IfOk result (λ v. map view.member v.items ≡ map (resolve.member (names_in names.now)) (map written_member all.now)) }
-    ensures told { Tells result (is_executed (map written_member all.now)) }
+) -> Result<Vec<vx_resolved::Member>, AllocError>
+    ensures { IfOk result (λ v. map view.member v.items ≡ map (resolve.member (names_in names.now)) (map written_member all.now)) }
 {
     let mut settled = Vec::new(alloc);
     for m in all {
@@ -163,13 +162,23 @@ fn members(
     Ok(settled)
 }
 
-/// The settled program of one whose members are kept apart; a function isn't settled yet, and the first one is named.
-pub fn settle(alloc: Global, p: &Program) -> Result<Settled, Unsettled>
+/// So many members have numbers of 32 bits.
+const MOST: usize = u32::MAX as usize;
+
+/// The settled program of one whose members are kept apart.
+///
+/// # Errors
+/// Memory runs out; so does what members' numbers can hold.
+pub fn settle(alloc: Global, p: &Program) -> Result<Settled, AllocError>
     requires apart { KeepsApart (resolve.program (written_program p.now)) }
-    ensures settled { IfOk result (λ t. settled t ≡ resolve.program (written_program p.now)) }
-    ensures told { Tells result (is_executed (written_program p.now)) }
+    ensures { IfOk result (λ t. settled t ≡ resolve.program (written_program p.now)) }
 {
     let names = all_names(alloc, &p.members)?;
     let members = members(alloc, &names, &p.members)?;
-    Ok(Settled::new(alloc, vx_resolved::Program { members })?)
+    if members.len() > MOST {
+        return Err(AllocError);
+    }
+    let program = vx_resolved::Program { members };
+    let groups = groups_of(alloc, &program)?;
+    Ok(Settled::new(alloc, program, groups)?)
 }

@@ -52,7 +52,7 @@ amount_weighs r (x ∷ xs) = go (same_resource r x.0) (amount_weighs r xs)
         record { there = le-trans k.there nil.back; back = le-trans nil.there k.back }
 
 -- what is taken of a resource was held
-taken_amount : (p : Program) (h : Heap) (es hs rest : Holdings) (r : Resource) → IsSingle r → rest ≡ taken full es hs → Stock p h rest → Le (amount (added full es []) r) (amount hs r)
+pub taken_amount : (p : Program) (h : Heap) (es hs rest : Holdings) (r : Resource) → IsSingle r → rest ≡ taken full es hs → Stock p h rest → Le (amount (added full es []) r) (amount hs r)
 unfolding weigh
 taken_amount p h es hs rest r sr is st =
     let w = only r in

@@ -6,7 +6,7 @@ use Rattle.vx_ast.specs.Syntax.{Name, Program, Function, function_named, Expr}
 use Rattle.vx_meaning.specs.Values.{Value}
 use Rattle.vx_meaning.specs.States.{State, Store, Heap, Holdings, Location, At, bind, with_store, value_at}
 use Rattle.vx_meaning.specs.Evaluate.{applications, value}
-use Rattle.vx_meaning.specs.Flatten.{bare}
+use Rattle.vx_meaning.specs.Flatten.{bare, entries}
 use Rattle.vx_meaning.specs.Consistent.{total, IsHeld}
 use Rattle.vx_meaning.specs.Fits.{Checked, ◌>>=◌, to_option, fit, take}
 use Rattle.vx_amounts.proofs.Amounts.{Le, Positive, Same, le-refl, le-trans, add-left, not-positive, positive-le, none-full, full-positive}
@@ -16,7 +16,7 @@ use Rattle.vx_sound_preds.proofs.Fitting.{undo, step, some_is}
 use Rattle.vx_sound_preds.proofs.Looks.{Sees}
 use Rattle.vx_sound_preds.proofs.Totals.{weigh, weight, total_weighs, weight_sign}
 use Rattle.vx_sound_preds.proofs.Framing.{entries_seen}
-use Rattle.vx_sound_preds.proofs.Adding.{Fine, Adds, added, weigh_added, add_adds}
+use Rattle.vx_sound_preds.proofs.Adding.{Fine, AreEntries, Adds, added, weigh_added, add_adds}
 use Rattle.vx_sound_preds.proofs.Exchanging.{no_negatives, bound_rigid, entered_fine}
 use Rattle.vx_sound_preds.proofs.Folding.{Stock, weighs_at_least}
 use Rattle.vx_sound_preds.proofs.Taking.{taken, weigh_taken, take_takes}
@@ -37,17 +37,21 @@ all_like_rigid (v ∷ vs) (w ∷ ws) h k = ap₂ (λ (x : Value) (xs : List Valu
 all_like_rigid [] (w ∷ ws) h k = absurd k
 all_like_rigid (v ∷ vs) [] h k = absurd k
 
--- what is taken was held
-taken_held : (p : Program) → GoodBodies p → (h : Heap) (es hs rest : Holdings) (l : Location) → rest ≡ taken full es hs → Stock p h rest → IsHeld p h (added full es []) l → IsHeld p h hs l
+-- what was taken was held, in total
+pub taken_total : (p : Program) → GoodBodies p → (h : Heap) (es hs rest : Holdings) (n : ℕ) (l : Location) → rest ≡ taken full es hs → Stock p h rest → Le (total p n h (added full es []) l) (total p n h hs l)
 unfolding weigh
-taken_held p good h es hs rest l is st (n, z) =
+taken_total p good h es hs rest n l is st =
     let w = weight p h l n in
     let up = weight_sign p h l (no_negatives p h l good) n in
     let left : Le none (weigh w rest) = le-trans (product_sign (st.debts (At l) tt) (up (At l))) (weighs_at_least w up rest st.single st.debts (At l)) in
     let whole = subst (λ (r : Holdings). Same (sum (product full (weigh w es)) (weigh w r)) (weigh w hs)) (sym is) (weigh_taken w full es hs) in
     let more : Le (weigh w (added full es [])) (weigh w hs) =
     le-trans (weigh_added w full es []).there (le-trans (add-left (product full (weigh w es)) left) whole.there) in
-    let r : Positive (total p n h hs l) = positive-le (record { holds = z }) (le-trans (total_weighs p h l n (added full es [])).there (le-trans more (total_weighs p h l n hs).back)) in
+    le-trans (total_weighs p h l n (added full es [])).there (le-trans more (total_weighs p h l n hs).back)
+
+taken_held : (p : Program) → GoodBodies p → (h : Heap) (es hs rest : Holdings) (l : Location) → rest ≡ taken full es hs → Stock p h rest → IsHeld p h (added full es []) l → IsHeld p h hs l
+taken_held p good h es hs rest l is st (n, z) =
+    let r : Positive (total p n h hs l) = positive-le (record { holds = z }) (taken_total p good h es hs rest n l is st) in
     (n, r.holds)
 
 -- the steps of a firm application
@@ -73,6 +77,8 @@ module _ (p : Program) (good : GoodBodies p) (functions : GoodFunctions p) where
   -- where a callee starts it holds what it took, and nothing else
   pub record Begun (n : ℕ) (g : Function) (vs : List Value) (s u : State) (rest : Holdings) : Type 0 where
     pub entries_of : Holdings
+    pub entries_are : entries p (bare (bind g.parameters vs) s.heap) (precondition_of g) ≡ Some entries_of
+    pub can : AreEntries p s.heap entries_of
     pub rest_is : rest ≡ taken full entries_of s.holdings
     pub stock : Stock p s.heap rest
     pub adds : Adds p full entries_of (bare (bind g.parameters vs) s.heap) u
@@ -89,6 +95,8 @@ module _ (p : Program) (good : GoodBodies p) (functions : GoodFunctions p) where
       let sees : Sees callee empty = record { store = refl; heap = refl } in
       record {
         entries_of = tk.entries_of;
+        entries_are = entries_seen p Rigid callee empty sees pre plain ∙ tk.entries_are;
+        can = tk.can;
         rest_is = tk.rest_is;
         stock = tk.stock;
         adds = add_adds p full none-full (firmly p n) (firm_open p good n) pre empty k.start tk.entries_of plain fine_empty (entries_seen p Rigid callee empty sees pre plain ∙ tk.entries_are) tk.can k.starts;

@@ -7,6 +7,7 @@ pub mod Alike
 pub mod Firm
 pub mod Values
 pub mod Fuel
+pub mod Fits
 pub mod Agree
 pub mod Starts
 pub mod Laws

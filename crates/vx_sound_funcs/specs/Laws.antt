@@ -1,7 +1,7 @@
 -- The laws of what trees tell.
 use Rattle.std.specs.Prelude.{◌≡◌, ℕ, true, List, Some}
 use Rattle.vx_frac.specs.Fractions.{is_positive}
-use Rattle.vx_ast.specs.Syntax.{Name, Program, Function, function_named, Assertion}
+use Rattle.vx_ast.specs.Syntax.{Name, Program, Function, function_named, Expr, Assertion}
 use Rattle.vx_terms.specs.Interpretations.{Tree}
 use Rattle.vx_meaning.specs.Values.{Value}
 use Rattle.vx_meaning.specs.States.{State, Heap, Holdings, Location, Instance, At, amount, HaveTypes, value_at, bind, with_store}
@@ -10,11 +10,20 @@ use Rattle.vx_meaning.specs.Consistent.{IsConsistent}
 use Rattle.vx_meaning.specs.Fits.{Fits}
 use Rattle.vx_meaning.specs.Fails.{FunctionStarts}
 use Rattle.vx_whole.specs.Closure.{InClosure}
+use Rattle.vx_whole.specs.Now.{IsOfNow}
 use Rattle.vx_sound.specs.Snapshots.{IsTree}
 use Rattle.vx_sound_preds.specs.Bodies.{AreRigid, Rigid, IsPlain, IsPlainBody}
 use Rattle.vx_sound_preds.specs.Covered.{IsProper, IsStocked}
 use Rattle.vx_sound_funcs.specs.Firm.{firm_application, firmly, FitsFirmly}
 use Rattle.vx_sound_funcs.specs.Told.{LooksLike, IsTreeOf, HoldsJust, IsLike, precondition_of, IsValueOf}
+
+-- no body of a function has an `old`
+abbrev pub SpeakNow : Program → Type 0
+SpeakNow p = (f : Name) (g : Function) → function_named p f ≡ Some g → IsOfNow g.body
+
+-- What fits firmly fits.
+abbrev pub FirmlyIsMore : Program → Type 0
+FirmlyIsMore p = (s : State) (e : Expr) (v : Value) → FitsFirmly p s e v → Fits p s e v
 
 -- Two heaps that give an instance one tree have the same inside it, and values that look the same where something is inside it.
 abbrev pub TreesTellTheHeap : Program → (Heap → Instance → Type 0) → Type 0

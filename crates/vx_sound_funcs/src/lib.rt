@@ -20,7 +20,7 @@ ghost use Rattle.vx_sound_preds.specs.Examples.{here, P, instance_of};
 ghost use Rattle.vx_sound_funcs.specs.Told.{IsTreeOf, HoldsJust, precondition_of, IsValueOf};
 ghost use Rattle.vx_sound_funcs.specs.Firm.{firm_application, firmly, FitsFirmly, GoodFunctions, PlainContracts};
 ghost use Rattle.vx_sound_funcs.specs.Examples.{getter, get, doubler, twice, peeker, peek, boxes, x_is_one, holding, bereft, g, looses, leads_to};
-ghost use Rattle.vx_sound_funcs.specs.Laws.{TreesTellTheHeap, TreesTellWhatIsHeld, TreesTellHoldings, TreesTellValues, TreesTellFirmValues, StartsHoldJust, ApplicationsAgree};
+ghost use Rattle.vx_sound_funcs.specs.Laws.{TreesTellTheHeap, TreesTellWhatIsHeld, TreesTellHoldings, TreesTellValues, TreesTellFirmValues, StartsHoldJust, ApplicationsAgree, SpeakNow, FirmlyIsMore};
 
 /// The tree of an instance tells what is inside it, and the values there, where bodies are good and fit with what they give; so
 /// it does in a typed program where the walks of the predicates passed.
@@ -61,6 +61,12 @@ pub fn typed_functions_are_good()
 /// What applies no function fits firmly where it fits.
 pub fn plain_parts_fit_firmly()
     ensures { (p : Program) → GoodBodies p → (s : State) (e : Expr) (v : Value) → IsPlain e → Fits p s e v → FitsFirmly p s e v }
+{}
+
+/// What fits firmly fits, where no body of a function has an `old`: a body that fits where it starts has its value in the state of
+/// its caller too. So what is shown of firm fitting tells of what the meaning asks for.
+pub fn what_fits_firmly_fits()
+    ensures { (p : Program) → SpeakNow p → FirmlyIsMore p }
 {}
 
 /// So two applications at the same arguments, where the precondition has one tree, have values that look the same, if one of

@@ -75,7 +75,7 @@ module _ (p : Program) (x : Name) where
     all_plain NoMore k s = tt
     all_plain (More e es) k s = (plain e k.0 (lefts (mentioned e) (mentioned_in es) s), all_plain es k.1 (rights (mentioned e) (mentioned_in es) s))
 
-  plain_body : (a : Assertion) → IsPlainBody p Rigid a → AllSeen (mentioned_by a) → SpeaksOf Held a
+  pub plain_body : (a : Assertion) → IsPlainBody p Rigid a → AllSeen (mentioned_by a) → SpeaksOf Held a
   plain_body (Pure e) k s = plain e k s
   plain_body (Points at e f share) k s = (plain e k.0 (lefts (mentioned e) (mentioned share) s), plain share k.1.plain (rights (mentioned e) (mentioned share) s))
   plain_body (Instance at i es share) k s =

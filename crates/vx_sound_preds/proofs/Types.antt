@@ -21,14 +21,14 @@ use Rattle.vx_sound_preds.proofs.Flats.{came}
 unfoldable pub some_interpretation : Interpretation
 some_interpretation = record { functions = λ f a es. TreeElement (RefLeaf 0); quotients = λ z. pos 0; remainders = λ z. pos 0 }
 
-abbrev Of : ValueType → Option Value → Type 0
+abbrev pub Of : ValueType → Option Value → Type 0
 Of t None = Unit {0}
 Of t (Some v) = type_of v ≡ t
 
-of_is : (t : ValueType) (o : Option Value) (v : Value) → Of t o → o ≡ Some v → type_of v ≡ t
+pub of_is : (t : ValueType) (o : Option Value) (v : Value) → Of t o → o ≡ Some v → type_of v ≡ t
 of_is t o v h e = subst (Of t) e h
 
-negated_type : (v : Value) → Of type.Bool (negated v)
+pub negated_type : (v : Value) → Of type.Bool (negated v)
 negated_type (BoolValue b) = refl
 negated_type (IntValue b) = tt
 negated_type (RefValue b) = tt
@@ -41,7 +41,7 @@ divided_ints_type Remainder a (pos (suc n)) = refl
 divided_ints_type Quotient a (negsuc n) = refl
 divided_ints_type Remainder a (negsuc n) = refl
 
-divided_type : (op : Division) (v w : Value) → Of Int (divided op v w)
+pub divided_type : (op : Division) (v w : Value) → Of Int (divided op v w)
 divided_type op (IntValue a) (IntValue b) = divided_ints_type op a b
 divided_type op (IntValue a) (BoolValue b) = tt
 divided_type op (IntValue a) (RefValue b) = tt
@@ -50,7 +50,7 @@ divided_type op (BoolValue a) w = tt
 divided_type op (RefValue a) w = tt
 divided_type op (PermValue a) w = tt
 
-connected_type : (c : Connective) (v : Value) (o : Option Value) (w : Value) → (o ≡ Some w → type_of w ≡ type.Bool) → connected c v o ≡ Some w → type_of w ≡ type.Bool
+pub connected_type : (c : Connective) (v : Value) (o : Option Value) (w : Value) → (o ≡ Some w → type_of w ≡ type.Bool) → connected c v o ≡ Some w → type_of w ≡ type.Bool
 connected_type c (BoolValue a) o w h e = go (needs_right c a) e
   where
     go : (b : Bool) → cond b o (Some (BoolValue (without_right c))) ≡ Some w → type_of w ≡ type.Bool
@@ -60,14 +60,14 @@ connected_type c (IntValue a) o w h e = cc
 connected_type c (RefValue a) o w h e = cc
 connected_type c (PermValue a) o w h e = cc
 
-picked_type : (t : ValueType) (v : Value) (x y : Option Value) (w : Value) → (x ≡ Some w → type_of w ≡ t) → (y ≡ Some w → type_of w ≡ t) → choose v x y ≡ Some w → type_of w ≡ t
+pub picked_type : (t : ValueType) (v : Value) (x y : Option Value) (w : Value) → (x ≡ Some w → type_of w ≡ t) → (y ≡ Some w → type_of w ≡ t) → choose v x y ≡ Some w → type_of w ≡ t
 picked_type t (BoolValue true) x y w h k e = h e
 picked_type t (BoolValue false) x y w h k e = k e
 picked_type t (IntValue z) x y w h k e = cc
 picked_type t (RefValue z) x y w h k e = cc
 picked_type t (PermValue z) x y w h k e = cc
 
-found_type : (x : Name) (t : ValueType) (ds : List Declaration) (vs : List Value) (v : Value) → run.HaveTypes ds vs → type_in x ds ≡ Some t → lookup x (bind ds vs) ≡ Some v → type_of v ≡ t
+pub found_type : (x : Name) (t : ValueType) (ds : List Declaration) (vs : List Value) (v : Value) → run.HaveTypes ds vs → type_in x ds ≡ Some t → lookup x (bind ds vs) ≡ Some v → type_of v ≡ t
 found_type x t [] vs v h e f = cc
 found_type x t (d ∷ ds) [] v h e f = absurd h
 found_type x t (d ∷ ds) (w ∷ vs) v h e f = go (same_name x d.name) e f (found_type x t ds vs v h.1)

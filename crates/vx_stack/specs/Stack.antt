@@ -9,6 +9,9 @@ use Rattle.vx_stack.specs.declared.waiting.Loop.{Loop}
 use Rattle.vx_stack.specs.declared.waiting.Instance.{Instance}
 use Rattle.vx_states.specs.declared.entering.Caller.{Caller}
 use Rattle.vx_stack.specs.declared.waiting.Called.{Called}
+use Rattle.vx_stack.specs.declared.waiting.Application.{Application}
+use Rattle.vx_stack.specs.declared.waiting.Applied.{Applied}
+use Rattle.vx_stack.specs.declared.waiting.Verified.{Verified}
 use Rattle.vx_stack.specs.Values.{values}
 use Rattle.vx_stack.specs.declared.waiting.Operand.{Operand}
 use Rattle.vx_stack.specs.declared.waiting.Operand.TheVariants as operand'
@@ -32,22 +35,23 @@ use Rattle.vx_stack.specs.declared.frame.Side.{Side}
 use Rattle.vx_stack.specs.declared.conts.Move.{Move}
 use Rattle.vx_stack.specs.declared.conts.Move.TheVariants as move'
 use Rattle.vx_ast.specs.declared.Place.{Place}
-use Rattle.vx_ast.specs.Syntax.{Name, Program, Assertion, assigned_in, joined, method_named, predicate_named}
-use Rattle.vx_resolved.specs.Resolved.{operator, division, connective, expr, exprs, assertion, stmt, block, method, names_of}
+use Rattle.vx_ast.specs.Syntax.{Name, Program, Assertion, as_assertion, assigned_in, conjoined, joined, method_named, predicate_named, result_name}
+use Rattle.vx_resolved.specs.Resolved.{operator, division, connective, expr, exprs, assertion, stmt, block, function, method, names_of}
 use Rattle.vx_terms.specs.Sorts.{Sort, SnapSort}
 use Rattle.vx_terms.specs.Terms.{Term, Number}
 use Rattle.vx_terms.specs.Views.{sort}
-use Rattle.vx_terms.specs.Build.{negate, equals, ite, less, less_equal, multiply, unit, pair, wrap, zero_amount, whole_amount}
+use Rattle.vx_terms.specs.Build.{negate, equals, ite, less, less_equal, multiply, unit, pair, wrap, application, zero_amount, whole_amount}
 use Rattle.vx_heap.specs.Views.{candidates_of, heap, terms_of, held_term}
-use Rattle.vx_rules.specs.States.{Chunk, Heap, State, is_quiet, with_store, with_heap, assign, assign_all, bind, declare_all, terms_in, leave, with_fact, with_branch, fresh, after_fresh, name_of, after_name, path_terms}
+use Rattle.vx_rules.specs.States.{Chunk, Heap, State, is_quiet, with_store, with_heap, assign, assign_all, bind, declare, declare_all, sort_of_type, terms_in, leave, with_fact, with_branch, fresh, after_fresh, name_of, after_name, path_terms}
 use Rattle.vx_states.specs.Paths.{entries}
 use Rattle.vx_states.specs.SymStates.{binding, optional_term, state}
 use Rattle.vx_states.specs.Entering.{back_to}
-use Rattle.vx_rules.specs.Trees.{Code, AmountCode, CallCode, DivisorCode, KeptCode, UnfoldCode, Question, Tree, End, Impossible, Step, Ask, Probe, Fork}
-use Rattle.vx_rules.specs.Chunks.{field_key, instance_key, Candidate, reduced, put}
+use Rattle.vx_rules.specs.Trees.{Code, AmountCode, CallCode, DivisorCode, KeptCode, MeasureCode, PostCode, UnfoldCode, Question, Tree, End, Impossible, On, Step, Ask, Probe, Fork}
+use Rattle.vx_rules.specs.Chunks.{field_key, instance_key, Candidate, candidates, only_inner, reduced, put}
+use Rattle.vx_rules.specs.Groups.{function_number}
 use Rattle.vx_rules.specs.Codes.{code}
-use Rattle.vx_rules.specs.Rules.{Giving, Going, GivingAll, Context, ask, never, fork, short, operated, divided, connected, first_with, holds_some, holds_amount, take_chunk, read_field, written, write_field, field_sort, placed, with_built_wrap, with_built_pair, produced_value, after_value, produced_snapshot, after_snapshot, with_unit, leads_inside, entered, back, applied, unfolded, eval, evals, produce, consume}
-use Rattle.vx_rules.specs.Members.{codes, forget, names_of as named_of, after_names, called, folded, exec, exec_all, rules, sides}
+use Rattle.vx_rules.specs.Rules.{Giving, Going, GivingAll, Context, ask, never, fork, short, operated, divided, connected, first_with, holds_some, holds_amount, take_chunk, read_field, written, write_field, field_sort, placed, with_built_wrap, with_built_pair, produced_value, after_value, produced_snapshot, after_snapshot, with_unit, leads_inside, entered, back, applied, lesser, measured, terms, with_equations, unfolded, eval, evals, produce, consume}
+use Rattle.vx_rules.specs.Members.{codes, forget, names_of as named_of, after_names, called, folded, exec, exec_all, from_measure, function_body, rooted, rules, sides}
 
 abbrev pub query : Query → Question
 query q = record { place = q.place; code = code q.code; path = path_terms (entries q.path); condition = held_term q.condition; probe = q.probe }
@@ -83,6 +87,42 @@ abbrev pub with_divisor : Place → State → Term → Going → Tree
 with_divisor at s u on = ask (negate (equals u (Number (pos 0)))) (placed s at) DivisorCode s on
 
 module _ (p : Program) where
+  -- what an application tells, with its snapshot's name, and its value
+  abbrev pub telling : Application → Term → Giving → Going
+  telling x snapshot on s =
+      let g = function x.function.value in
+      let ts = values x.arguments.value in
+      let t = application (function_number p (string_bytes x.name.value)) (sort_of_type g.of) snapshot (terms ts) in
+      Step (on t (with_equations p (rules p) g ts snapshot t s))
+
+  abbrev pub told : Applied → Giving → Going
+  told x on s = telling x.application.value (held_term x.snapshot) on s
+
+  -- an application whose precondition was taken: its measure, where it is within the group
+  abbrev pub measuring : Application → Term → Giving → Going
+  measuring x snapshot on s =
+      let g = function x.function.value in
+      measured p (rules p) (string_bytes x.name.value) g (bind g.parameters (values x.arguments.value)) x.place s (telling x snapshot on)
+
+  -- the arguments of the instance that measures it
+  abbrev pub measured_by : Applied → Name → List Term → State → Giving → Tree
+  measured_by x i us s on =
+      first_with (holds_some us) (only_inner (candidates (instance_key i us) s.heap)) x.application.value.place MeasureCode s (λ c. told x on s)
+      (never x.application.value.place MeasureCode s)
+
+  -- a function that is verified
+  abbrev pub verified_body : Verified → Option Term → Going
+  verified_body x measure s = function_body p (rules p) (string_bytes x.name.value) (function x.function.value) measure s
+
+  abbrev pub rooted_at : Verified → Place → Name → List Term → Going
+  rooted_at x at i ts s =
+      first_with (holds_some ts) (candidates (instance_key i ts) s.heap) at MeasureCode s (λ c. verified_body x None (rooted c s)) (never at MeasureCode s)
+
+  abbrev pub concluding : Verified → Term → Going
+  concluding x w s =
+      let g = function x.function.value in
+      consume p (rules p) (as_assertion (conjoined g.place g.ensures)) (codes PostCode PostCode) whole_amount s.heap (declare result_name w s) (λ t s1. End)
+
   -- what the value of an operand leads to, before what waits for the whole
   abbrev pub operand : Operand → Giving → Giving
   operand operand'.Negate on t s = Step (on (negate t) s)
@@ -106,6 +146,11 @@ module _ (p : Program) where
       ask (less zero_amount a) (placed s at) AmountCode s (λ s1.
       evals p (rules p) (exprs es.value) s1 (λ ts s2. unfolded p (rules p) (placed s2 at) (string_bytes i.value) ts a s2 (λ s3.
       eval p (rules p) (expr e.value) s3 (λ t s4. Step (on t (with_heap (heap h.value) s4))))))
+  operand (operand'.Applied x c h) on snapshot s =
+      let s1 = with_heap (heap h.value) (back_to c.value s) in
+      measuring x.value (name_of snapshot s1) on (after_name snapshot s1)
+  operand (operand'.Measured x own c) on m s =
+      ask (lesser p (rules p) (optional_term own) m) x.value.application.value.place MeasureCode (back_to c.value s) (told x.value on)
 
   -- an assertion is produced, or consumed, in this way
   abbrev pub producing : Assertion → Production → State → Going → Tree
@@ -292,6 +337,13 @@ module _ (p : Program) where
     going (next'.Back' c q n) s = going n (back_to c.value s)
     going (next'.Return' r q n) s =
         Step (going n (returned (names_of r.value.targets.value.items) (terms_of r.value.values.items) r.value.caller.value (heap r.value.old_heap.value) s))
+    going (next'.MeasureFrom' x k a q h) s =
+        finding x.value k s (λ c. told a.value (giving h) s) (never x.value.place (code x.value.code) s)
+    going (next'.Tell' a q h) s = told a.value (giving h) s
+    going (next'.Measure v) s = from_measure p (rules p) (string_bytes v.value.name.value) (function v.value.function.value) (function v.value.function.value).decreases s
+    going (next'.RootFrom x k v) s =
+        finding x.value k s (λ c. verified_body v.value None (rooted c s)) (never x.value.place (code x.value.code) s)
+    going (next'.Run v) s = verified_body v.value None s
 
     -- what the value of a chunk leads to that was taken, from inside another or not
     pub with_taken : Taken → Term → Bool → State → Tree
@@ -317,10 +369,15 @@ module _ (p : Program) where
           | None ↦ never at CallCode s
           | Some c ↦ called p (rules p) at c (named_of ts s) (names_of xs.value.items) (after_names ts s) (going n)
         ]
+    giving_all (row'.Measured' x i c q h) us s = measured_by x.value (string_bytes i.value) us (back_to c.value s) (giving h)
+    giving_all (row'.Root v at i) ts s = rooted_at v.value at (string_bytes i.value) ts s
 
     -- what a value and a state lead to
     pub giving : Hole → Giving
     giving hole'.Finish t s = End
+    giving hole'.Leave t s = On t s
+    giving (hole'.Entry v) t s = verified_body v.value (Some t) s
+    giving (hole'.Outcome v) t s = concluding v.value t s
     giving (hole'.Operand' v q h) t s = operand v (giving h) t s
     giving (hole'.Argument' es q r) t s = evals p (rules p) (exprs es.value) s (λ ts s1. Step (giving_all r (t ∷ ts) s1))
     giving (hole'.Consumed' v q h) t s = consumed v (giving h) t s
@@ -345,6 +402,7 @@ module _ (p : Program) where
   -- a step from a side with this tree: what it leaves on the stack
   abbrev pub Stepped : Tree → List Side → Move → List Side → Type 0
   Stepped t old move'.End new = (new ≡ old) × (t ≡ End)
+  Stepped t old (move'.Leave l) new = (new ≡ old) × (t ≡ On (held_term l.value) (state l.state))
   Stepped t old move'.Go new = (a : Side) × (new ≡ old ++ a ∷ []) × (t ≡ Step (side_tree a))
   Stepped t old move'.Fork new = (a b : Side) × (new ≡ old ++ b ∷ a ∷ []) × (t ≡ Fork (side_tree a) (side_tree b))
   Stepped t old (move'.Check q) new = Checked q.probe t old (query q) new

@@ -32,11 +32,20 @@ pub struct Conts {
     pub sides: Vec<Side>,
 }
 
+/// The value and the state that an evaluation leaves on a side.
+#[derive(Drop)]
+pub struct Left {
+    pub value: Rc<Term>,
+    pub state: SymState,
+}
+
 /// What a step came to. Of a probe that is checked both candidates wait, the one where it is refuted on top.
 #[derive(Drop)]
 pub enum Move {
     /// The side is over.
     End,
+    /// The side is over, and an evaluation leaves this.
+    Leave(Left),
     Go,
     Fork,
     Check(Query),

@@ -5,8 +5,8 @@ ghost use Rattle.vx_ast.specs.Syntax.{Program};
 ghost use Rattle.vx_stack.specs.Stack.{frame_tree, side_tree};
 
 use crate::waiting::{
-    Codes, Consumed, Consumption, Executed, Instance, Location, Operand, Produced, Production,
-    Return, Search, Values,
+    Applied, Codes, Consumed, Consumption, Executed, Instance, Location, Operand, Produced,
+    Production, Return, Search, Values, Verified,
 };
 use std::alloc::{AllocError, Global};
 use std::rc::Rc;
@@ -64,6 +64,16 @@ pub enum Next {
     Back(Rc<Caller>, Rc<Next>),
     /// Back from a callee.
     Return(Rc<Return>, Rc<Next>),
+    /// The instance that measures an application is the first from this candidate on that is as wanted.
+    MeasureFrom(Rc<Search>, usize, Rc<Applied>, Rc<Hole>),
+    /// What an application tells, and then its value.
+    Tell(Rc<Applied>, Rc<Hole>),
+    /// The measure of a function whose precondition was produced.
+    Measure(Rc<Verified>),
+    /// The instance that a function's measure names is the first from this candidate on that is as wanted.
+    RootFrom(Rc<Search>, usize, Rc<Verified>),
+    /// The body of a function whose measure is no number.
+    Run(Rc<Verified>),
 }
 
 /// What waits for a chunk that was taken.
@@ -95,6 +105,10 @@ pub enum Row {
     Fold(Place, Rc<String>, Rc<Term>, Rc<Next>),
     /// The arguments of a call, with its targets and the name of its method.
     Call(Place, Rc<Vec<Rc<String>>>, Rc<String>, Rc<Next>),
+    /// The arguments of the instance that measures an application, with the name of its predicate.
+    Measured(Rc<Applied>, Rc<String>, Rc<Caller>, Rc<Hole>),
+    /// The arguments of the instance that measures a function, with the name of its predicate.
+    Root(Rc<Verified>, Place, Rc<String>),
 }
 
 /// What waits for a value.
@@ -102,6 +116,12 @@ pub enum Row {
 pub enum Hole {
     /// The side is over.
     Finish,
+    /// The value is what the evaluation leaves.
+    Leave,
+    /// The measure of a function, at its entry.
+    Entry(Rc<Verified>),
+    /// The value of a function's body.
+    Outcome(Rc<Verified>),
     Operand(Operand, Rc<Hole>),
     /// The first of a list, before the others.
     Argument(Rc<Exprs>, Rc<Row>),
@@ -139,6 +159,11 @@ impl Drop for Next {
                 Next::Body(_instance, _snapshot, _inner, rest) => rest,
                 Next::Back(_caller, rest) => rest,
                 Next::Return(_return, rest) => rest,
+                Next::MeasureFrom(_search, _number, _applied, _hole) => return,
+                Next::Tell(_applied, _hole) => return,
+                Next::Measure(_verified) => return,
+                Next::RootFrom(_search, _number, _verified) => return,
+                Next::Run(_verified) => return,
             };
             match Rc::into_inner(rest) {
                 Some(next) => self = next,
@@ -154,6 +179,9 @@ impl Drop for Hole {
         loop {
             let rest = match self {
                 Hole::Finish => return,
+                Hole::Leave => return,
+                Hole::Entry(_verified) => return,
+                Hole::Outcome(_verified) => return,
                 Hole::Operand(_operand, rest) => rest,
                 Hole::Argument(_es, _row) => return,
                 Hole::Consumed(_consumed, rest) => rest,
@@ -181,6 +209,8 @@ impl Drop for Row {
                 Row::Unfold(_place, _name, _amount, _next) => return,
                 Row::Fold(_place, _name, _amount, _next) => return,
                 Row::Call(_place, _targets, _name, _next) => return,
+                Row::Measured(_applied, _name, _caller, _hole) => return,
+                Row::Root(_verified, _place, _name) => return,
             };
             match Rc::into_inner(rest) {
                 Some(row) => self = row,

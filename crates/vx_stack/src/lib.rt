@@ -8,12 +8,12 @@ mod question;
 mod search;
 mod waiting;
 
-pub use clauses::joined;
-pub use conts::{Conts, Move};
+pub use clauses::{as_assertion, conjoined, joined, place_of};
+pub use conts::{Conts, Left, Move};
 pub use frame::{Frame, Hole, Next, Row, Side, Taken};
 pub use question::Query;
 pub use search::field_sort;
 pub use waiting::{
-    Called, Codes, Consumed, Consumption, Executed, Instance, Location, Loop, Operand, Produced,
-    Production, Return, Search, Values,
+    Application, Applied, Called, Codes, Consumed, Consumption, Executed, Instance, Location, Loop,
+    Operand, Produced, Production, Return, Search, Values, Verified,
 };

@@ -9,7 +9,9 @@ use std::alloc::{AllocError, Global};
 use std::rc::Rc;
 use vx_ast::Place;
 use vx_heap::{Candidate, SymHeap};
-use vx_resolved::{Assertion, Block, Connective, Division, Expr, Exprs, Method, Operator};
+use vx_resolved::{
+    Assertion, Block, Connective, Division, Expr, Exprs, Function, Method, Operator,
+};
 use vx_rules::Code;
 use vx_states::Caller;
 use vx_terms::Term;
@@ -149,6 +151,29 @@ pub struct Return {
     pub old_heap: Rc<SymHeap>,
 }
 
+/// An application, after its arguments.
+#[derive(Drop)]
+pub struct Application {
+    pub place: Place,
+    pub name: Rc<String>,
+    pub function: Rc<Function>,
+    pub arguments: Rc<Values>,
+}
+
+/// An application whose precondition was taken: the name of its snapshot.
+#[derive(Drop)]
+pub struct Applied {
+    pub application: Rc<Application>,
+    pub snapshot: Rc<Term>,
+}
+
+/// A function that is verified, with its name.
+#[derive(Drop)]
+pub struct Verified {
+    pub name: Rc<String>,
+    pub function: Rc<Function>,
+}
+
 /// A loop, its invariants joined.
 #[derive(Drop)]
 pub struct Loop {
@@ -180,6 +205,10 @@ pub enum Operand {
     Restore(Rc<SymHeap>),
     /// The amount of an `unfolding`, before the arguments: the predicate, these, the expression, and the heap behind it.
     Unfolding(Place, Rc<String>, Rc<Exprs>, Rc<Expr>, Rc<SymHeap>),
+    /// The snapshot of an application's precondition: what it goes back to, and the heap behind it.
+    Applied(Rc<Application>, Rc<Caller>, Rc<SymHeap>),
+    /// The measure of an application within the group, against that of the function that is verified.
+    Measured(Rc<Applied>, Option<Rc<Term>>, Rc<Caller>),
 }
 
 /// What of a produce waits for a value.

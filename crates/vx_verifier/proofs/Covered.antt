@@ -1,5 +1,5 @@
--- A program that is typed and executed is supported, and settling it refuses nothing.
-use Rattle.std.proofs.Common.{◌≡◌, true, false, sym, ◌∙◌, true≢false}
+-- A program that is typed and executed is supported.
+use Rattle.std.proofs.Common.{◌≡◌, true}
 use Rattle.vx_ast.specs.Written as written
 use Rattle.vx_ast.specs.Resolve as resolve
 use Rattle.vx_typing.specs.Programs.{IsTyped}
@@ -9,6 +9,3 @@ use Rattle.vx_verifier.specs.Headline.{IsSupported}
 
 pub supported : (p : written.Program) → IsTyped p → is_executed p ≡ true → InstancesWhenSettled → DistinctWhenSettled → IsSupported (resolve.program p)
 supported p t e law distinct = let both = law p t e in record { typed = both.0; distinct = distinct p t; members = both.1 }
-
-pub not_refused : (p : written.Program) → is_executed p ≡ true → is_executed p ≡ false → ⊥
-not_refused p e refused = true≢false (sym e ∙ refused)

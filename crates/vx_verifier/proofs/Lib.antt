@@ -11,4 +11,5 @@ mod Questions
 mod Covered
 mod Steady
 mod Spelled
-mod Askable
+pub mod Askable
+mod Sorted

@@ -5,6 +5,7 @@ use Rattle.std.proofs.lemmas.List.Folds.{list_any-append}
 use Rattle.std.specs.List.{All}
 use Rattle.std.proofs.lemmas.List.Elements.{All-append}
 use Rattle.vx_ast.specs.Syntax.{Program}
+use Rattle.vx_terms.specs.Interpretations.{Each}
 use Rattle.vx_smt_meaning.specs.Dialogues.{Check}
 use Rattle.vx_dialogue.specs.Scripts.{Turn, script}
 use Rattle.vx_dialogue.proofs.Fit.{well_formed}
@@ -15,7 +16,7 @@ use Rattle.vx_report.specs.declared.run.MemberRun.{MemberRun}
 use Rattle.vx_report.specs.Reports.{AreNamed, is_faulted, is_resting}
 use Rattle.vx_verifier.specs.declared.lane.Child.{Child}
 use Rattle.vx_verifier.specs.Causes.{HasCauseOf}
-use Rattle.vx_verifier.specs.Headline.{IsTold, AreTold, IsRecorded, IsSpentAfter, member_turns, turns_of, members_of, Headline, has_question, some_ask, lost_after}
+use Rattle.vx_verifier.specs.Headline.{IsTold, AreTold, IsRecorded, IsSpentAfter, member_turns, turns_of, members_of, IsWellSorted, Headline, has_question, some_ask, lost_after}
 use Rattle.vx_verifier.specs.Lines.{lines}
 use Rattle.vx_verifier.specs.Lanes.{Hears, Later, Judges, Executes, is_lost, is_started}
 use Rattle.vx_verifier.proofs.Children.{handed_itself, cause_earlier}
@@ -25,7 +26,8 @@ use Rattle.vx_verifier.proofs.Closures.{are_walked, sound}
 use Rattle.vx_verifier.proofs.Rested.{all_told, turns_rest, lost_rests, members_rest, named_rest}
 use Rattle.vx_resting.specs.Resting.{AreLater, AreRested, NoneRests}
 use Rattle.vx_smt_meaning.specs.WellFormed.{IsWellFormed}
-use Rattle.vx_verifier.proofs.Askable.{AllAskable, turns_askable}
+use Rattle.vx_verifier.proofs.Askable.{AllAsk, AreTurns, turns_ask}
+use Rattle.vx_verifier.proofs.Sorted.{IsFine, fine_askable, script_sorted}
 
 lost_more : (lost : Bool) (runs : List MemberRun) (r : MemberRun) → lost_after lost (runs ++ r ∷ []) ≡ (lost_after lost runs || is_faulted r.verdict)
 lost_more lost [] r = refl
@@ -102,8 +104,8 @@ module _ {L : Type 0} (dialogue : L → List Piece) (p : Program) (before : List
   pub headline : (mid new : List Ending) (f g h : ℕ) (child : Child L) (asked : ℕ) (own runs : List MemberRun) → members_of own ≡ lines p → AreNamed p own
       → AreLater own runs → AreRested p runs → Executes dialogue p before mid f g child asked own
       → ((turns : List Turn) (checks : List Check) → Hears dialogue before mid child turns checks → IsRecorded (is_lost child) before new turns checks)
-      → Later mid new → g ≤ h → ((k : ℕ) → AllAskable (member_tree p k)) → Headline p before new f h runs
-  headline mid new f g h child asked own runs each named rest rested so_far end later after askable =
+      → Later mid new → g ≤ h → ((k : ℕ) → AllAsk IsFine (member_tree p k)) → Headline p before new f h runs
+  headline mid new f g h child asked own runs each named rest rested so_far end later after fine =
       let handed = later mid (handed_itself mid) in
       let checks = so_far.checks in
       let turns = turns_of false p own checks in
@@ -111,12 +113,14 @@ module _ {L : Type 0} (dialogue : L → List Piece) (p : Program) (before : List
       let told = all_told p before new f h false 0 own runs checks rest own_told in
       let same = turns_rest false p own runs checks rest in
       let each_rested = members_rest own runs rest ∙ each in
+      let asked : AreTurns IsFine turns = turns_ask IsFine p before new f h fine false 0 own checks own_told in
       let walked = are_walked p before new f h checks false 0 runs [] checks refl refl told in
       record {
         checks = checks;
         recorded = subst (λ ts. IsRecorded (lost_after false runs) before new ts checks) (sym same)
             (subst (λ b. IsRecorded b before new turns checks) (so_far.lost ∙ sym (lost_rests false own runs rest)) (end turns checks so_far.heard));
-        well_formed = subst (λ ts. IsWellFormed (script false [] ts)) (sym same) (well_formed false turns (turns_askable p before new f h askable false 0 own checks own_told));
+        well_formed = subst (λ ts. IsWellFormed (script false [] ts)) (sym same) (well_formed false turns (fine_askable turns asked));
+        sorted = subst (λ ts. Each IsWellSorted (script false [] ts)) (sym same) (script_sorted turns asked);
         each = each_rested;
         told = told;
         rested = rested;

@@ -4,7 +4,10 @@ use Rattle.vx_ast.specs.Syntax.{Program, Member}
 use Rattle.vx_terms.specs.Sorts.{Sort, IntSort, BoolSort, RealSort, RefSort, SnapSort, OtherSort, Symbol, Standard, Function, Variable, Named}
 use Rattle.vx_terms.specs.Terms.{Term, Truth, Number, Part, Constant, Apply, Not, Binary, Ite, AllOf, SomeOf, Terms, NoTerms, MoreTerms}
 use Rattle.vx_terms.specs.Build.{negate}
+use Rattle.vx_terms.specs.Formed.{Formed}
 use Rattle.vx_terms.specs.Interpretations.{Each}
+use Rattle.vx_terms.proofs.Build.{negate_formed}
+use Rattle.vx_elements.proofs.Lists.{each_map}
 use Rattle.vx_smt_meaning.specs.Commands.{Declared, Assert, Push}
 use Rattle.vx_smt_meaning.specs.Names.{IsName, IsSortName, AreNames, AllAreNames, AreCommands}
 use Rattle.vx_dialogue.specs.Preamble.{declarations}
@@ -16,9 +19,10 @@ use Rattle.vx_machine.specs.Runs.{tree_of, member_tree}
 use Rattle.vx_live.specs.Live.{IsBuiltIn, IsLive, AllLive}
 use Rattle.vx_live.proofs.Nameless.{IsNumbered, IsNameless, AreNameless, negate_nameless, condition_nameless, path_nameless}
 use Rattle.vx_live.proofs.Bools.{path_bool, negated_bool}
-use Rattle.vx_live.proofs.LiveMethods.{instances_live}
+use Rattle.vx_live.proofs.LiveMembers.{instances_live}
 use Rattle.vx_dialogue.specs.Askable.{IsOfFive, IsAskable}
-use Rattle.vx_verifier.proofs.Askable.{AllAskable}
+use Rattle.vx_verifier.proofs.Askable.{AllAsk}
+use Rattle.vx_verifier.proofs.Sorted.{IsSorted, IsFine}
 use Rattle.vx_verifier.specs.Headline.{IsSupported}
 use Rattle.vx_verifier.specs.Steady.{IsSpelled, AllSpelled, AsksSpelled}
 
@@ -97,18 +101,18 @@ asserted_path : (path : List Term) → Each IsNameless path → AreCommands (ass
 asserted_path [] n = tt
 asserted_path (t ∷ path) n = (nameless_names t n.0, asserted_path path n.1)
 
-live_spelled : (q : Question) → IsLive q → IsSpelled q
+live_spelled : (q : Question) → IsLive [] q → IsSpelled q
 live_spelled q live =
-    let negated = negate_nameless q.condition (condition_nameless q live) in
-    let declared : AreCommands (declarations (symbols_of q.path (negate q.condition))) = declared_term (negate q.condition) (with_listed [] q.path) negated (declared_path q.path [] (path_nameless q live) tt) in
+    let negated = negate_nameless q.condition (condition_nameless [] tt q live) in
+    let declared : AreCommands (declarations (symbols_of q.path (negate q.condition))) = declared_term (negate q.condition) (with_listed [] q.path) negated (declared_path q.path [] (path_nameless [] tt q live) tt) in
     let opened = commands_join (Push 1 ∷ Push 1 ∷ []) (declarations (symbols_of q.path (negate q.condition))) (tt, (tt, tt)) declared in
-    let asserted = commands_join ((Push 1 ∷ Push 1 ∷ []) ++ declarations (symbols_of q.path (negate q.condition))) (assertions q.path) opened (asserted_path q.path (path_nameless q live)) in
+    let asserted = commands_join ((Push 1 ∷ Push 1 ∷ []) ++ declarations (symbols_of q.path (negate q.condition))) (assertions q.path) opened (asserted_path q.path (path_nameless [] tt q live)) in
     commands_join (((Push 1 ∷ Push 1 ∷ []) ++ declarations (symbols_of q.path (negate q.condition))) ++ assertions q.path) (Assert (negate q.condition) ∷ []) asserted
     (nameless_names (negate q.condition) negated, tt)
 
 -- ---- trees and members
 
-all_spelled : (t : Tree) → AllLive t → AllSpelled t
+all_spelled : (t : Tree) → AllLive [] t → AllSpelled t
 all_spelled End live = tt
 all_spelled (Impossible s) live = tt
 all_spelled (On t s) live = tt
@@ -125,35 +129,44 @@ five RefSort h = tt
 five SnapSort h = tt
 five (OtherSort x) h = h
 
-askable : (q : Question) → IsLive q → IsAskable q.path q.condition
+askable : (q : Question) → IsLive [] q → IsAskable q.path q.condition
 askable q live = record {
   sorts = live.sorts;
   five = λ n. five (live.sorts n) (live.built_in n);
   path_over = live.path_over;
   over = live.condition_over;
-  path_bool = path_bool q live;
-  bool = negated_bool q live;
+  path_bool = path_bool [] q live;
+  bool = negated_bool [] q live;
 }
 
-all_askable : (t : Tree) → AllLive t → AllAskable t
-all_askable End live = tt
-all_askable (Impossible s) live = tt
-all_askable (On t s) live = tt
-all_askable (Step t) live = all_askable t live
-all_askable (Ask q t) live = (askable q live.0, all_askable t live.1)
-all_askable (Probe q a b) live = (askable q live.0, all_askable a live.1, all_askable b live.2)
-all_askable (Fork a b) live = (all_askable a live.0, all_askable b live.1)
+sorted : (q : Question) → IsLive [] q → IsSorted q.path q.condition
+sorted q live = record {
+  along = each_map (λ (t : Term). Formed live.next t BoolSort) (λ (t : Term). (n : ℕ) × Formed n t BoolSort) (λ t f. (live.next, f)) q.path live.path;
+  negated = (live.next, negate_formed live.condition);
+}
+
+fine : (q : Question) → IsLive [] q → IsFine q.path q.condition
+fine q live = (askable q live, sorted q live)
+
+all_fine : (t : Tree) → AllLive [] t → AllAsk IsFine t
+all_fine End live = tt
+all_fine (Impossible s) live = tt
+all_fine (On t s) live = tt
+all_fine (Step t) live = all_fine t live
+all_fine (Ask q t) live = (fine q live.0, all_fine t live.1)
+all_fine (Probe q a b) live = (fine q live.0, all_fine a live.1, all_fine b live.2)
+all_fine (Fork a b) live = (all_fine a live.0, all_fine b live.1)
 
 -- each question of the members is live
-supported_live : (p : Program) → IsSupported p → (n : ℕ) → AllLive (member_tree p n)
+supported_live : (p : Program) → IsSupported p → (n : ℕ) → AllLive [] (member_tree p n)
 supported_live p supported n = by_member (slice_get p n) refl
   where
-    by_member : (o : Option Member) → slice_get p n ≡ o → AllLive (tree_of p o)
+    by_member : (o : Option Member) → slice_get p n ≡ o → AllLive [] (tree_of p o)
     by_member None at = tt
     by_member (Some x) at = instances_live p x.name x.kind supported.typed (supported.typed.names n x at) (λ y l c e. supported.members y l e)
 
 pub supported_spelled : (p : Program) → IsSupported p → AsksSpelled p
 supported_spelled p supported n = all_spelled (member_tree p n) (supported_live p supported n)
 
-pub supported_askable : (p : Program) → IsSupported p → (n : ℕ) → AllAskable (member_tree p n)
-supported_askable p supported n = all_askable (member_tree p n) (supported_live p supported n)
+pub supported_fine : (p : Program) → IsSupported p → (n : ℕ) → AllAsk IsFine (member_tree p n)
+supported_fine p supported n = all_fine (member_tree p n) (supported_live p supported n)

@@ -4,10 +4,13 @@
 use Rattle.std.specs.Prelude.{◌≡◌, ◌⊎◌, ℕ, ◌+◌, ◌<◌, ◌||◌, ⊤, Bool, true, false, List, [], ◌∷◌, ◌++◌, Some, length, map, take, drop, slice_get, if◌then◌else◌}
 use Rattle.std.specs.List.{list_any}
 use Rattle.vx_ast.specs.Syntax.{Name, Program, Member, Kind, member_named}
+use Rattle.vx_terms.specs.Sorts.{BoolSort}
+use Rattle.vx_terms.specs.Formed.{Formed}
 use Rattle.vx_terms.specs.Interpretations.{Each}
 use Rattle.vx_meaning.specs.Fails.{Fails}
 use Rattle.vx_types.specs.InstanceLanguage.{IsInstanceMember}
 use Rattle.vx_whole.specs.Premises.{IsTypedProgram}
+use Rattle.vx_smt_meaning.specs.Commands.{Command, Assert}
 use Rattle.vx_smt_meaning.specs.Dialogues.{Check}
 use Rattle.vx_smt_meaning.specs.WellFormed.{IsWellFormed}
 use Rattle.vx_ends.specs.declared.piece.Ending.{Ending}
@@ -160,6 +163,11 @@ pub record IsComplete (p : Program) (before now : List Ending) (faults_then faul
 abbrev pub members_of : List MemberRun → List ℕ
 members_of runs = map (λ r. r.member.0) runs
 
+-- an assertion is well-sorted
+abbrev pub IsWellSorted : Command → Type 0
+IsWellSorted (Assert t) = (n : ℕ) × Formed n t BoolSort
+IsWellSorted c = ⊤
+
 -- The promise: a run for each member that has a line, in file order, by the replies that the record of the one child tells, which was asked exactly the questions of the members' walks;
 -- a member whose walk passed is verified, or rests on the first that it leads to whose walk didn't.
 pub record Headline (p : Program) (before now : List Ending) (faults_then faults_now : ℕ) (runs : List MemberRun) : Type 0 where
@@ -167,6 +175,7 @@ pub record Headline (p : Program) (before now : List Ending) (faults_then faults
   pub recorded : IsRecorded (lost_after false runs) before now (turns_of false p runs checks) checks
   -- names are spelled, each symbol is declared before it is used, with its sorts, and no live one again; what is asserted is of sort Bool
   pub well_formed : IsWellFormed (script false [] (turns_of false p runs checks))
+  pub sorted : Each IsWellSorted (script false [] (turns_of false p runs checks))
   pub each : members_of runs ≡ lines p
   pub told : AreTold p before now faults_then faults_now false 0 runs checks
   pub rested : AreRested p runs

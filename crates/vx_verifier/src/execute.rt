@@ -248,6 +248,7 @@ fn has_line(kind: &Kind) -> bool
     match kind {
         Kind::Field(_) => false,
         Kind::Predicate(_) => true,
+        Kind::Function(_) => true,
         Kind::Method(_) => true,
     }
 }

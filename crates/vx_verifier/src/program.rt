@@ -11,21 +11,16 @@ use vx_resolved::Settled;
 use vx_settled::{
     executed_programs_hold_instances, typed_programs_keep_apart, typed_programs_name_apart,
 };
-use vx_settling::{Unsettled, settle};
+use vx_settling::settle;
 use vx_typing::Typed;
 
-/// A program that is executed, settled.
+/// A typed program, settled.
 pub fn settled(alloc: Global, typed: &Typed) -> Result<Settled, AllocError>
-    requires { is_executed (written_of typed.now) ≡ true }
     ensures { IfOk result (λ s. settled s ≡ resolved_of typed.now) }
 {
     typed_programs_keep_apart();
     typed.typed();
-    match settle(alloc, typed.program()) {
-        Ok(settled) => Ok(settled),
-        Err(Unsettled::NotExecuted(_, _)) => unreachable!(),
-        Err(Unsettled::Want) => Err(AllocError),
-    }
+    settle(alloc, typed.program())
 }
 
 /// A program that is executed is typed as a whole, no two of its members have one name, and none is a function.

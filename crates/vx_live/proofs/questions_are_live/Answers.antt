@@ -1,4 +1,4 @@
-use Rattle.vx_live.proofs.LiveMethods.{methods_live, store_methods_live, calling_live, instances_live}
+use Rattle.vx_live.proofs.LiveMembers.{methods_live, store_methods_live, calling_live, instances_live, members_live}
 use Rattle.vx_live.proofs.questions_are_live.Goals as goal
 
 pub returns-clause-fields : goal.returns-clause-fields
@@ -12,3 +12,6 @@ returns-clause-calls c = calling_live
 
 pub returns-clause-instances : goal.returns-clause-instances
 returns-clause-instances c = instances_live
+
+pub returns-clause-members : goal.returns-clause-members
+returns-clause-members c = members_live

@@ -4,7 +4,7 @@ use Rattle.std.proofs.lemmas.Result.{err_from_is_err_and}
 use Rattle.vx_sexp.specs.Beginnings.{GoesOn}
 use Rattle.cs_session.specs.Views.{state}
 use Rattle.cs_serve.specs.declared.ending.Ending.TheVariants.{Exited, BadToken}
-use Rattle.cs_serve.specs.Next.{EndsAt}
+use Rattle.cs_session.specs.Answering.{EndsAt}
 use Rattle.cs_serve.specs.Working.{IsAt}
 use Rattle.cs_serve.proofs.Nexts.{ends_later}
 use Rattle.cs_serve.proofs.Steps.{stops_at}

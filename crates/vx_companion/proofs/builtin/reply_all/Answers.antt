@@ -1,9 +1,10 @@
 use Rattle.std.proofs.Common.{rules, ◌≡◌, ◌<◌, ◌++◌, drop, length, subst, append_assoc}
-use Rattle.std.proofs.lemmas.List.{take-append-drop}
-use Rattle.vx_companion.specs.Companion.{said_text, HasAnswered, HasSaid, AllReplied}
-use Rattle.vx_companion.proofs.Replies.{answered_one, more_replies, shorter}
-use Rattle.vx_companion.proofs.Hearing.{said_one}
-use Rattle.vx_companion.proofs.Replied.{said_next, replied_more}
+use Rattle.cs_session.specs.Texts.{reply_text}
+use Rattle.cs_session.specs.Answering.{Answering, answered}
+use Rattle.cs_session.specs.Views.{state}
+use Rattle.vx_companion.specs.Companion.{KeepsUp}
+use Rattle.vx_companion.proofs.Replies.{answered_one, shorter}
+use Rattle.vx_companion.proofs.Lines.{reply_one}
 use Rattle.vx_dialogue.proofs.Counts.{finished_fault}
 use Rattle.vx_companion.proofs.builtin.reply_all.Goals as goal
 
@@ -11,26 +12,19 @@ pub commands-preserved : goal.commands-preserved
 commands-preserved c =
     let so_far = c.commands.invariant in
     let replies = c.commands.replies.items in
-    let said = c.in_ok-said.said in
-    let reply = said_text said in
     let rest = c.commands.rest.now in
-    let first = c.in-Ok.ensures.first in
-    let command = c.split_at.result.0.now in
+    let one = c.in_ok-reply.ensures in
+    let ends = c.in-Ok.ensures.first in
     let left = drop c.in-Ok.taken rest in
-    let text : c.text-reply.result.now ≡ reply = search rules in
-    let items : c.extend_from_slice.new.self.items ≡ replies ++ reply = search rules in
+    let line = reply_text one.0 in
     let back : c.split_at.result.1.now ≡ left = search rules in
-    let whole : rest ≡ command ++ left = search (rules, take-append-drop) in
     record {
-      answered = λ all_sent front h.
-          rw (items, back) (subst (λ x. HasAnswered all_sent left x) (append_assoc front replies reply)
-          (answered_one all_sent rest left (front ++ replies) reply first.1 first.2 (said_one said) (so_far.answered all_sent front h)));
-      said = λ all_sent front h.
-          rw (items, back) (subst (λ x. HasSaid all_sent left x c.command.new.self) (append_assoc front replies reply)
-          (said_next all_sent rest left (front ++ replies) command first.1 c.commands.session c.command.new.self said whole first.2 c.in_ok-said.ensures.fits (so_far.said all_sent front h)));
-      more = λ n front h. rw items (more_replies n front replies reply (so_far.more n front h));
-      replied = λ all_sent front h.
-          rw items (subst (λ x. AllReplied all_sent x) (append_assoc front replies reply) (replied_more all_sent (front ++ replies) reply (so_far.replied all_sent front h)));
+      answering = λ all front h.
+          rw (one.2, back) (subst (λ x. Answering all x left (state c.reply.new.session)) (append_assoc front replies line)
+          (answered c.in-Ok.taken one.0 (so_far.answering all front h) ends one.1));
+      keeps_up = λ all front h.
+          rw (one.2, back) (subst (λ x. KeepsUp all left x) (append_assoc front replies line)
+          (answered_one all rest left (front ++ replies) line ends.1 ends.2 (reply_one one.0) (so_far.keeps_up all front h)));
     }
 
 pub returns-in-Err-clause-none_left : goal.returns-in-Err-clause-none_left
@@ -41,8 +35,3 @@ commands-smaller c =
     let back : c.split_at.result.1.now ≡ drop c.in-Ok.taken c.commands.rest.now = search rules in
     let less : length c.split_at.result.1.now < length c.commands.rest.now = rw back (shorter c.commands.rest.now c.in-Ok.taken c.in-Ok.ensures.first.1 c.in-Ok.ensures.first.0 c.in-Ok.ensures.first.2) in
     less
-
-pub returns-in_err-extend_from_slice-clause-replied : goal.returns-in_err-extend_from_slice-clause-replied
-returns-in_err-extend_from_slice-clause-replied c =
-    let same : c.extend_from_slice.new.self.items ≡ c.commands.replies.items = search rules in
-    λ all_sent front h. rw same (c.commands.invariant.replied all_sent front h)

@@ -10,6 +10,9 @@ use Rattle.vx_stack.proofs.Steps.{stepped_as}
 use Rattle.vx_eval.proofs.Unfolded.{opens}
 use Rattle.vx_eval.proofs.expression.step.Goals as goal
 
+pub returns-in-Not : goal.returns-in-Not
+returns-in-Not c = stepped_as (settled c.args.program.now) _ _ _ _ _ (rw c.in-Not.is refl) c.eval.ensures
+
 pub returns-in-Operate : goal.returns-in-Operate
 returns-in-Operate c = stepped_as (settled c.args.program.now) _ _ _ _ _ (rw (c.in-Operate.is, c.in_ok-clone-in-Operate.ensures.cases) refl) c.eval-in-Operate.ensures
 

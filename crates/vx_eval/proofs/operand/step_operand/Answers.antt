@@ -2,13 +2,16 @@ use Rattle.std.proofs.Common.{◌∙◌, ap, refl, sym, string_bytes}
 use Rattle.vx_resolved.specs.Settled.{settled}
 use Rattle.vx_rules.specs.Rules.{placed}
 use Rattle.vx_states.specs.SymStates.{state}
-use Rattle.vx_heap.specs.Views.{held_term}
+use Rattle.vx_heap.specs.Views.{heap, held_term}
 use Rattle.vx_terms.specs.Views.{term}
 use Rattle.vx_resolved.specs.Resolved.{exprs}
 use Rattle.vx_rules.specs.Members.{rules}
-use Rattle.vx_rules.specs.Rules.{Going, GivingAll, ask, evals}
+use Rattle.vx_rules.specs.Rules.{Giving, Going, GivingAll, ask, evals}
+use Rattle.vx_rules.specs.States.{State, after_name, name_of, with_heap}
+use Rattle.vx_states.specs.declared.entering.Caller.{Caller}
+use Rattle.vx_states.specs.Entering.{back_to}
 use Rattle.vx_rules.specs.Trees.{AmountCode}
-use Rattle.vx_stack.specs.Stack.{giving, going}
+use Rattle.vx_stack.specs.Stack.{giving, going, measuring, operand}
 use Rattle.vx_terms.specs.Build.{less, zero_amount}
 use Rattle.vx_stack.proofs.Steps.{stepped_as}
 use Rattle.vx_eval.proofs.Given.{reads}
@@ -53,3 +56,14 @@ returns-in_ok-clone-in-Unfolding-2 c =
     ∙ ap {B = GivingAll} (λ y. after_arguments p x.at x.i.value (term y) (going p inside)) c.in_ok-clone-in-Unfolding-2.ensures.cases
     ∙ ap {B = GivingAll} (λ (y : Going). after_arguments p x.at x.i.value a y) (c.in_ok-inside-in-Unfolding.ensures p)))))
     c.step_share.ensures
+
+pub returns-in-Applied : goal.returns-in-Applied
+returns-in-Applied c =
+    let p = settled c.args.program.now in
+    let s : State = state c.args.state in
+    let t = held_term c.args.value in
+    let it = c.in-Applied in
+    let on : Giving = giving p c.args.hole.now.value in
+    stepped_as p _ _ _ _ _
+    (ap (λ o. operand p o on t s) it.is
+    ∙ ap (λ (y : Caller). measuring p it.x.value (name_of t (with_heap (heap it.heap.value) (back_to y s))) on (after_name t (with_heap (heap it.heap.value) (back_to y s)))) (sym c.deref.ensures)) c.step_applied.ensures

@@ -1,20 +1,27 @@
-use Rattle.std.proofs.Common.{sym, ◌∙◌}
+use Rattle.std.proofs.Common.{sym, subst}
 use Rattle.vx_resolved.specs.Settled.{settled}
-use Rattle.vx_machine.proofs.Ends.{turned_over}
-use Rattle.vx_machine.proofs.Walks.{turned_end, turned_go, turned_fork, turned_ask}
+use Rattle.vx_stack.specs.Stack.{side_tree}
+use Rattle.vx_machine.specs.Runs.{Turned}
+use Rattle.vx_machine.proofs.Walks.{turned_impossible}
 use Rattle.vx_machine.proofs.run.turn.Goals as goal
 
-pub returns-then-has_ended : goal.returns-then-has_ended
-returns-then-has_ended c = turned_over (settled c.args.program.now) c.args.side c.args.conts.now.sides.items (sym c.has_ended.ensures ∙ c.if-has_ended.true)
+pub returns-in-Over : goal.returns-in-Over
+returns-in-Over c =
+    let p = settled c.args.program.now in
+    let is = rw c.in-Over.is at c.in_ok-come_back.ensures p in
+    turned_impossible p (side_tree p c.args.side) c.args.conts.now.sides.items is.0 is.1
 
-pub returns-in-End : goal.returns-in-End
-returns-in-End c = turned_end (settled c.args.program.now) _ _ _ (rw c.in-End.is at c.in_ok-step.ensures)
+pub returns-in_ok-moved-in-Telling : goal.returns-in_ok-moved-in-Telling
+returns-in_ok-moved-in-Telling c =
+    let p = settled c.args.program.now in
+    let is = rw c.in-Telling.is at c.in_ok-come_back.ensures p in
+    subst (λ t. Turned p t c.args.conts.now.sides.items c.question.result c.tell.new.conts.sides.items) (sym is) (c.question.ensures p _ _ _ c.in_ok-moved-in-Telling.ensures)
 
-pub returns-in-Go : goal.returns-in-Go
-returns-in-Go c = turned_go (settled c.args.program.now) _ _ _ (rw c.in-Go.is at c.in_ok-step.ensures)
+pub step-requires : goal.step-requires
+step-requires c = let is = rw c.in-Plain.is at c.in_ok-come_back.ensures (settled c.args.program.now) in is.1
 
-pub returns-in-Fork : goal.returns-in-Fork
-returns-in-Fork c = turned_fork (settled c.args.program.now) _ _ _ (rw c.in-Fork.is at c.in_ok-step.ensures)
-
-pub returns-in-Check : goal.returns-in-Check
-returns-in-Check c = turned_ask (settled c.args.program.now) _ _ _ c.in-Check.query (rw c.in-Check.is at c.in_ok-step.ensures)
+pub returns-in_ok-moved-in-Plain : goal.returns-in_ok-moved-in-Plain
+returns-in_ok-moved-in-Plain c =
+    let p = settled c.args.program.now in
+    let is = rw c.in-Plain.is at c.in_ok-come_back.ensures p in
+    subst (λ t. Turned p t c.args.conts.now.sides.items c.question-in-Plain.result c.step.new.conts.sides.items) (sym is.0) (c.question-in-Plain.ensures p _ _ _ c.in_ok-moved-in-Plain.ensures)

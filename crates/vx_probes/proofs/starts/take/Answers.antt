@@ -1,4 +1,4 @@
-use Rattle.std.proofs.Common.{◌≡◌, ◌∙◌, ap, sym, Some, false}
+use Rattle.std.proofs.Common.{◌∙◌, ap, sym, Some, false}
 use Rattle.vx_resolved.specs.Settled.{settled}
 use Rattle.vx_heap.specs.Views.{heap, key, terms_of, held_term}
 use Rattle.vx_rules.specs.Codes.{code}

@@ -1,4 +1,4 @@
-use Rattle.std.proofs.Common.{rules, ◌≡◌, refl, string_bytes}
+use Rattle.std.proofs.Common.{rules, ◌≡◌, string_bytes}
 use Rattle.vx_resolved.specs.Resolved.{member}
 use Rattle.vx_resolved.proofs.Tables.{entered}
 use Rattle.vx_resolved.proofs.numbers.add_first.Goals as goal

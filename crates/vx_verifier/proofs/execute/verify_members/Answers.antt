@@ -6,7 +6,7 @@ use Rattle.vx_verifier.proofs.Children.{if_ok_at, if_ok_both}
 use Rattle.vx_verifier.proofs.Rested.{named_rest}
 use Rattle.vx_verifier.specs.declared.lane.Child.TheVariants.{NotStarted}
 use Rattle.vx_verifier.proofs.Steady.{none_rose}
-use Rattle.vx_verifier.proofs.Spelled.{supported_spelled, supported_askable}
+use Rattle.vx_verifier.proofs.Spelled.{supported_spelled, supported_fine}
 use Rattle.vx_verifier.proofs.execute.verify_members.Goals as goal
 
 pub execute_all-lane-requires : goal.execute_all-lane-requires
@@ -25,7 +25,7 @@ returns-clause-headline g c =
     headline g.W.Link.Link.dialogue p before (g.W.Spawner.ended c.execute_all-lane.new.spawner) (g.W.Spawner.ended c.end.new.spawner)
     (g.W.Spawner.faults c.args.spawner.now) (g.W.Spawner.faults c.execute_all-lane.new.spawner) (g.W.Spawner.faults c.end.new.spawner)
     c.execute_all-lane.result.0.child c.execute_all-lane.result.0.checks own.items runs.items told.0 named later rested told.1 (λ turns checks. c.end.ensures.told before turns checks)
-    c.end.ensures.later after (supported_askable p c.requires.supported))
+    c.end.ensures.later after (supported_fine p c.requires.supported))
     c.rest.ensures.later c.rest.ensures.rested
 
 pub returns-in-Err-clause-steady : goal.returns-in-Err-clause-steady

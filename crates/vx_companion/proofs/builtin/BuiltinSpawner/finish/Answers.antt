@@ -10,5 +10,4 @@ invariant_of-self-clause-right c =
     let old = c.args.self.now.ended.items in
     let ending : Ending = record { lane = c.args.lane; dialogue = link.pieces; faults = link.faults } in
     let items : c.push.new.self.items ≡ old ++ ending ∷ [] = search rules in
-    let right : RepliesByCompanion link.pieces = ∣ (link.replies.items, link.replied) ∣₁ in
-    subst AllByCompanion (sym items) (All-push (λ (e : Ending). RepliesByCompanion e.dialogue) old ending c.args.self.now.right right)
+    subst AllByCompanion (sym items) (All-push (λ (e : Ending). RepliesByCompanion e.dialogue) old ending c.args.self.now.right link.right)

@@ -1,0 +1,111 @@
+#!/usr/bin/env bash
+# Compares the companion solver with z3, where it is there, on random stacks of linear arithmetic: of each seed a stack of a few
+# assertions over Int or Real, with small numbers, choices, functions, quotients and remainders. Says how many of the stacks both
+# answered alike, how many the companion left unknown, and which they answered otherwise; of these there must be none. Then times chains
+# of differences and sums of n numbers, beside z3.
+# Words: the first seed, and how many.
+set -eu
+. "$(dirname "${BASH_SOURCE[0]}")/timing.sh"
+program=$here/crates/cs_joined/out/cs_joined
+[ -x "$program" ] || (cd "$here/crates/cs_joined" && rt run < stdin > /dev/null)
+
+# The numbers are those of x, 16807 x, .. modulo 2^31 - 1.
+stacks() {
+    awk -v from="$1" -v count="$2" '
+    function below(m) { x = (16807 * x) % 2147483647; return int(x / 2147483647 * m) }
+    function number(m,  k) {
+        k = below(2 * m + 1) - m
+        if (kind == "Int") return k < 0 ? "(- " (-k) ")" : k ""
+        s = below(3) ? (k < 0 ? -k : k) ".0" : "(/ " (k < 0 ? -k : k) ".0 3.0)"
+        return k < 0 ? "(- " s ")" : s
+    }
+    function constant() { return "x" below(4) }
+    function term(depth,  c) {
+        c = below(100)
+        if (depth == 0 || c < 25) return c % 6 == 5 ? number(9) : constant()
+        if (c < 50) return "(+ " term(depth - 1) " " term(depth - 1) ")"
+        if (c < 60) return "(- " term(depth - 1) " " term(depth - 1) ")"
+        if (c < 80) return "(* " number(4) " " term(depth - 1) ")"
+        if (c < 88) return "(f " term(0) ")"
+        if (c < 94) return "(ite " atom(0) " " term(0) " " term(0) ")"
+        if (kind == "Real") return number(9)
+        return "(" (below(2) ? "div" : "mod") " " term(0) " " (below(2) ? 3 : "(- 2)") ")"
+    }
+    function atom(depth,  c) {
+        c = below(10)
+        if (c == 0) return "p" below(2)
+        if (c == 1) return "(q " term(0) ")"
+        return "(" (c < 4 ? "=" : c < 6 ? "<" : c < 8 ? "<=" : c == 8 ? ">" : ">=") " " term(depth) " " term(depth) ")"
+    }
+    function formula(depth,  c) {
+        c = below(10)
+        if (depth == 0 || c < 4) return atom(2)
+        if (c < 6) return "(not " formula(depth - 1) ")"
+        if (c < 8) return "(or " formula(depth - 1) " " formula(depth - 1) ")"
+        if (c == 8) return "(and " formula(depth - 1) " " formula(depth - 1) ")"
+        return "(=> " formula(depth - 1) " " formula(depth - 1) ")"
+    }
+    BEGIN {
+        for (seed = from; seed < from + count; seed++) {
+            x = (48271 * seed + 11) % 2147483647
+            for (i = 0; i < 10; i++) below(2)
+            kind = below(3) ? "Int" : "Real"
+            print "(reset)\n(echo \"seed " seed "\")"
+            for (i = 0; i < 4; i++) print "(declare-const x" i " " kind ")"
+            print "(declare-const p0 Bool)\n(declare-const p1 Bool)"
+            print "(declare-fun f (" kind ") " kind ")\n(declare-fun q (" kind ") Bool)"
+            for (i = 2 + below(8); i > 0; i--) print "(assert " formula(2) ")"
+            print "(check-sat)"
+        }
+    }'
+}
+
+# An answer a line, as solvers write it.
+answers() { sed -n 's/^ *refuted.*/unsat/p; s/^ *model, true/sat/p; s/^ *unknown.*/unknown/p; /^unsat$/p; /^sat$/p; /^seed/p'; }
+
+compare() {
+    local from=$1 count=$2
+    stacks "$from" "$count" > "$folder/stacks"
+    timed "$count stacks from seed $from" "$folder/stacks" timeout 1200 "$program"
+    answers < "$folder/out" > "$folder/own"
+    before= timed "z3, the same" "$folder/stacks" timeout 1200 z3 -in
+    answers < "$folder/out" > "$folder/theirs"
+    paste -d' ' "$folder/own" "$folder/theirs" | awk '
+        /^seed/ { seed = $2; next }
+        $1 == "unknown" { unknown++; next }
+        $1 == $2 { alike++; next }
+        { other++; print "seed " seed ": " $1 ", and " $2 }
+        END { print alike + 0 " alike, " unknown + 0 " unknown, " other + 0 " otherwise"; exit other > 0 }'
+}
+
+# Each number is at most 1 above the one before, and the last one more than n above the first.
+differences() {
+    awk -v n="$1" -v more="$2" 'BEGIN {
+        for (i = 0; i <= n; i++) print "(declare-const x" i " Int)"
+        for (i = 0; i < n; i++) print "(assert (<= (- x" i + 1 " x" i ") 1))"
+        print "(assert (<= " n + more " (- x" n " x0)))\n(check-sat)"
+    }'
+}
+
+# n numbers of at most 1 each, whose sum is n, or more.
+sums() {
+    awk -v n="$1" -v more="$2" 'BEGIN {
+        for (i = 0; i < n; i++) {
+            print "(declare-const x" i " Real)\n(assert (<= x" i " 1.0))"
+            sum = i ? "(+ " sum " x" i ")" : "x0"
+        }
+        print "(assert (<= " n + more ".0 " sum "))\n(check-sat)"
+    }'
+}
+
+if command -v z3 > /dev/null; then compare "${1:-1}" "${2:-2000}"; fi
+for what in differences sums; do
+    for more in 0 1; do
+        before=
+        for n in 10 30 100; do
+            "$what" "$n" "$more" > "$folder/text"
+            timed "$what of $n, $more above" "$folder/text" timeout 120 "$program"
+            if command -v z3 > /dev/null; then before= timed "z3, the same" "$folder/text" timeout 120 z3 -in; fi
+        done
+    done
+done

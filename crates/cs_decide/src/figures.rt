@@ -1,0 +1,318 @@
+//! What an assignment claims of numbers: whether it can be, and the values that meet it.
+
+use crate::atoms::Atoms;
+use crate::cases::{order, parted};
+use crate::claims::{Claims, value_of};
+use crate::clashes::clash;
+use crate::elements::Sources;
+use crate::farkas::refutation_of;
+use crate::lemma::Lemma;
+use crate::numbered::Record;
+use cs_meter::{Budget, Meter};
+use cs_search::Value;
+use cs_sums::{Arithmetic, Contradiction, Share, Split, Stop, numbers_of};
+use std::alloc::Global;
+use vx_frac::Frac;
+
+/// The numbers among the terms, and what is claimed of them.
+#[derive(Drop)]
+pub struct Figures {
+    pub arithmetic: Arithmetic,
+    // the comparisons of numbers that are atoms
+    comparisons: Vec<u32>,
+    // how many terms the classes know
+    count: u32,
+    // those of them that are of Int and Real
+    terms: Vec<u32>,
+    // how many clauses of cases there were
+    told: u32,
+}
+
+/// A clause that tells cases, whether its first one is to be tried first, and whether it is a split.
+#[derive(Drop)]
+pub struct Cases {
+    pub lemma: Lemma,
+    pub first: bool,
+    pub of_split: bool,
+}
+
+/// What the numbers lead to.
+#[derive(Drop)]
+pub enum Found {
+    /// The clause is false under the assignment.
+    Lemma(Lemma),
+    /// The clause tells cases.
+    Cases(Cases),
+    /// There are values that meet all claims.
+    Values,
+}
+
+/// What the classes add to the constraints.
+#[derive(Drop)]
+enum Joined {
+    Nothing,
+    More,
+    Refuted(Vec<Share>),
+}
+
+fn numbers_among(alloc: Global, record: &Record, count: u32) -> Result<Vec<u32>, Stop> {
+    let mut terms = Vec::new(alloc);
+    for number in 0..count {
+        if numbers_of(&record.node(number)?.sort).is_some() {
+            terms.push(number)?;
+        }
+    }
+    Ok(terms)
+}
+
+impl Figures {
+    /// The numbers of a record, with the comparisons that are atoms.
+    ///
+    /// # Errors
+    /// `Over` where a fraction leaves 128 bits; `Want` where memory runs out.
+    pub fn new(alloc: Global, record: &Record, atoms: &Atoms) -> Result<Figures, Stop> {
+        let count = record.count()?;
+        let mut figures = Figures {
+            arithmetic: Arithmetic::new(alloc),
+            comparisons: Vec::new(alloc),
+            count,
+            terms: numbers_among(alloc, record, count)?,
+            told: 0,
+        };
+        for number in 0..count {
+            if atoms.find(number).is_some() {
+                figures.add(alloc, record, number, false)?;
+            }
+        }
+        Ok(figures)
+    }
+
+    /// Takes an atom, if it compares numbers and isn't taken yet. It may come from a split.
+    ///
+    /// # Errors
+    /// `Over` where a fraction leaves 128 bits; `Want` where memory runs out.
+    pub fn add(
+        &mut self,
+        alloc: Global,
+        record: &Record,
+        number: u32,
+        of_split: bool,
+    ) -> Result<(), Stop> {
+        if self.arithmetic.has(number) {
+            return Ok(());
+        }
+        if self
+            .arithmetic
+            .add(alloc, &record.table.nodes, number, of_split)?
+        {
+            self.comparisons.push(number)?;
+        }
+        Ok(())
+    }
+
+    /// The value of a term of Int or Real, as the last check left it.
+    ///
+    /// # Errors
+    /// `Over` where a fraction leaves 128 bits; `Miss` where no term has the number.
+    pub fn value(&self, record: &Record, term: u32) -> Result<Frac, Stop> {
+        self.arithmetic.value(&record.table.nodes, term)
+    }
+
+    /// Claims what an assignment says of the comparisons. Two that contradict each other are given back.
+    fn claim(
+        &mut self,
+        alloc: Global,
+        atoms: &Atoms,
+        values: &[Value],
+    ) -> Result<Option<Vec<Share>>, Stop> {
+        self.arithmetic.forget();
+        for number in &self.comparisons {
+            if let Some(holds) = value_of(values, atoms.find(*number)) {
+                if let Some(shares) = self.arithmetic.claim(alloc, *number, holds)? {
+                    return Ok(Some(shares));
+                }
+            }
+        }
+        Ok(None)
+    }
+
+    /// Whether a term and the one that stands for its class have other values.
+    fn is_apart(&self, record: &Record, term: u32, class: u32) -> Result<bool, Stop> {
+        Ok(term != class && self.value(record, term)? != self.value(record, class)?)
+    }
+
+    /// Claims that terms of one class with other values are equal.
+    fn join(&mut self, alloc: Global, record: &Record, claims: &Claims) -> Result<Joined, Stop> {
+        let mut joined = Joined::Nothing;
+        for at in 0..self.terms.len() {
+            let Some(term) = self.terms.get(at) else {
+                return Err(Stop::Miss);
+            };
+            let (term, class) = (*term, claims.held.class_of(*term)?);
+            if self.is_apart(record, term, class)? {
+                let nodes = &record.table.nodes;
+                if let Some(shares) = self.arithmetic.claim_same(alloc, nodes, term, class)? {
+                    return Ok(Joined::Refuted(shares));
+                }
+                joined = Joined::More;
+            }
+        }
+        Ok(joined)
+    }
+
+    /// Values that meet the claims and the classes, or a contradiction.
+    fn settle(
+        &mut self,
+        alloc: Global,
+        record: &Record,
+        claims: &Claims,
+        meter: &mut Meter,
+    ) -> Result<Option<Contradiction>, Stop> {
+        for _ in 0..=self.terms.len() {
+            if let Some(found) = self.arithmetic.check(alloc, meter)? {
+                return Ok(Some(found));
+            }
+            match self.join(alloc, record, claims)? {
+                Joined::Nothing => return Ok(None),
+                Joined::More => {}
+                Joined::Refuted(shares) => {
+                    return Ok(Some(Contradiction { shares, cut: None }));
+                }
+            }
+        }
+        Err(Stop::Miss)
+    }
+
+    /// The sides of an equality that is denied, though their values are equal.
+    fn tie(
+        &self,
+        record: &Record,
+        atoms: &Atoms,
+        values: &[Value],
+    ) -> Result<Option<(u32, u32)>, Stop> {
+        for number in &self.comparisons {
+            if value_of(values, atoms.find(*number)) == Some(false) {
+                if let Some((a, b)) = record.sides(*number)? {
+                    if self.value(record, a)? == self.value(record, b)? {
+                        return Ok(Some((a, b)));
+                    }
+                }
+            }
+        }
+        Ok(None)
+    }
+
+    /// A clause of cases that the values want: a sum of Int terms has no whole value, or two terms have one value.
+    fn cases(
+        &self,
+        alloc: Global,
+        record: &mut Record,
+        atoms: &Atoms,
+        values: &[Value],
+        claims: &Claims,
+    ) -> Result<Option<Cases>, Stop> {
+        if let Some(split) = self.arithmetic.fractional(alloc)? {
+            return Ok(Some(split_by(alloc, record, &split)?));
+        }
+        if let Some((a, b)) = self.tie(record, atoms, values)? {
+            return Ok(Some(told_apart(alloc, record, a, b)?));
+        }
+        let sources = Sources {
+            record,
+            atoms,
+            values,
+            claims,
+            figures: self,
+        };
+        match clash(alloc, &sources, self.count)? {
+            Some((a, b)) => Ok(Some(told_apart(alloc, record, a, b)?)),
+            None => Ok(None),
+        }
+    }
+
+    /// What an assignment and the classes over it lead to. Cases take a unit, and one more for each sixteen before them.
+    ///
+    /// # Errors
+    /// `Budget` where all units are spent; `Over` where a fraction leaves 128 bits; `Want` where memory runs out.
+    pub fn examine(
+        &mut self,
+        alloc: Global,
+        record: &mut Record,
+        atoms: &Atoms,
+        values: &[Value],
+        claims: &Claims,
+        meter: &mut Meter,
+    ) -> Result<Found, Stop> {
+        if let Some(shares) = self.claim(alloc, atoms, values)? {
+            let lemma = refutation_of(alloc, record, claims, &shares)?;
+            return Ok(Found::Lemma(lemma));
+        }
+        if let Some(found) = self.settle(alloc, record, claims, meter)? {
+            return self.refuted(alloc, record, atoms, claims, meter, &found);
+        }
+        match self.cases(alloc, record, atoms, values, claims)? {
+            Some(cases) => self.tell(meter, cases),
+            None => Ok(Found::Values),
+        }
+    }
+
+    /// Spends the units of a clause of cases.
+    fn tell(&mut self, meter: &mut Meter, cases: Cases) -> Result<Found, Stop> {
+        spend(meter, self.told / 16)?;
+        self.told = self.told.saturating_add(1);
+        Ok(Found::Cases(cases))
+    }
+
+    /// A contradiction leads to its cut, if that is a new one, and else to a lemma.
+    fn refuted(
+        &mut self,
+        alloc: Global,
+        record: &mut Record,
+        atoms: &Atoms,
+        claims: &Claims,
+        meter: &mut Meter,
+        found: &Contradiction,
+    ) -> Result<Found, Stop> {
+        if let Some(split) = &found.cut {
+            let cases = split_by(alloc, record, split)?;
+            if cases
+                .lemma
+                .literals
+                .iter()
+                .all(|literal| atoms.find(literal.number).is_none())
+            {
+                return self.tell(meter, cases);
+            }
+        }
+        let lemma = refutation_of(alloc, record, claims, &found.shares)?;
+        Ok(Found::Lemma(lemma))
+    }
+}
+
+/// The cases of a split.
+fn split_by(alloc: Global, record: &mut Record, split: &Split) -> Result<Cases, Stop> {
+    Ok(Cases {
+        lemma: parted(alloc, record, &split.parts, split.floor)?,
+        first: split.low,
+        of_split: true,
+    })
+}
+
+/// The cases of two terms.
+fn told_apart(alloc: Global, record: &mut Record, a: u32, b: u32) -> Result<Cases, Stop> {
+    Ok(Cases {
+        lemma: order(alloc, record, a, b)?,
+        first: false,
+        of_split: false,
+    })
+}
+
+/// Spends a unit and so many more.
+fn spend(meter: &mut Meter, more: u32) -> Result<(), Stop> {
+    for _ in 0..=more {
+        if let Err(Budget) = meter.spend() {
+            return Err(Stop::Budget);
+        }
+    }
+    Ok(())
+}

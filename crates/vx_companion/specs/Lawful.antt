@@ -1,0 +1,41 @@
+-- That the companion refuses no command that it takes.
+use Rattle.std.specs.Prelude.{⊤, ℕ, ◌+◌, ◌≤◌, Bool, List, [], ◌∷◌}
+use Rattle.vx_terms.specs.Interpretations.{Each}
+use Rattle.vx_sexp.specs.First.{deepest}
+use Rattle.vx_smt_meaning.specs.Commands.{Command, DeclareFun, Assert, Push, GetProof, Level, empty_level, stack_after}
+use Rattle.vx_smt_meaning.specs.Dialogues.{Check}
+use Rattle.vx_smt_meaning.specs.WellFormed.{IsWellFormed}
+use Rattle.vx_smt_meaning.specs.Words.{command_tokens}
+use Rattle.vx_ends.specs.declared.piece.Piece.{Piece}
+use Rattle.vx_dialogue.specs.Items.{IsGarbled, IsRefused}
+use Rattle.vx_dialogue.specs.Stops.{Stops}
+use Rattle.vx_dialogue.specs.History.{Tells}
+use Rattle.cs_commands.specs.Laws.{IsSmallSymbol, IsReadable}
+use Rattle.cs_session.specs.Views.{depth}
+use Rattle.vx_companion.specs.Companion.{RepliesByCompanion}
+use Rattle.vx_companion.specs.Right.{IsSorted}
+
+-- It takes assertions of at most 4096 lists within one another, whose numbers stay below 2^127; the numbers of symbols stay below 2^32, of variables below 2^64.
+abbrev pub IsTaken : Command → Type 0
+IsTaken (DeclareFun d) = IsSmallSymbol d.symbol
+IsTaken (Assert t) = IsReadable t × (deepest 0 (command_tokens (Assert t)) ≤ 4096)
+IsTaken c = ⊤
+
+-- at most 256 levels are open beyond the base level, and no proof is asked for
+abbrev pub FitsOver : List Level → Command → Type 0
+FitsOver levels (Push n) = depth levels + n ≤ 256
+FitsOver levels GetProof = ⊥
+FitsOver levels c = ⊤
+
+abbrev pub AllFit : List Level → List Command → Type 0
+AllFit levels [] = ⊤
+AllFit levels (c ∷ cs) = FitsOver levels c × AllFit (stack_after c levels) cs
+
+-- no reply in the record of a link is garbled, and none a refusal
+abbrev pub HasLawfulReplies : List Piece → Type 0
+HasLawfulReplies pieces = (kept : List ℕ) → (Stops pieces (λ w bytes. IsGarbled w bytes kept) → ⊥) × (Stops pieces (λ w bytes. IsRefused bytes kept) → ⊥)
+
+-- The law of its replies: where it takes each command of a script, none is garbled, and none a refusal.
+abbrev pub CompanionIsLawful : Type 0
+CompanionIsLawful = (failed : Bool) (script : List Command) (pieces : List Piece) (checks : List Check) → IsWellFormed script → Each IsSorted script → Each IsTaken script
+    → AllFit (empty_level ∷ []) script → Tells failed script pieces checks → RepliesByCompanion pieces → HasLawfulReplies pieces

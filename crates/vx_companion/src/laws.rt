@@ -1,0 +1,13 @@
+// Laws of what the link has answered.
+ghost use Rattle.vx_companion.specs.Right.{CompanionIsRight};
+ghost use Rattle.vx_companion.specs.Lawful.{CompanionIsLawful};
+
+/// Each unsat that a record of the link tells is right.
+pub fn unsat_is_right()
+    ensures { CompanionIsRight }
+{}
+
+/// Where it takes each command of a script, no reply is garbled, and none a refusal.
+pub fn replies_are_lawful()
+    ensures { CompanionIsLawful }
+{}

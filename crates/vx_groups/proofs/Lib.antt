@@ -1,0 +1,5 @@
+mod Numbers
+mod Additions
+mod Told
+mod Bounded
+mod Ways

@@ -1,0 +1,3 @@
+pub mod Mentioned
+pub mod Tables
+pub mod Found

@@ -1,0 +1,16 @@
+//! What an application tells of its function is true.
+#![tactic(auto)]
+
+ghost use Rattle.std.specs.Prelude.{List};
+ghost use Rattle.vx_ast.specs.Syntax.{Name, Program};
+ghost use Rattle.vx_smt_meaning.specs.declared.reply.Reply.{Reply};
+ghost use Rattle.vx_whole.specs.Premises.{IsTypedProgram};
+ghost use Rattle.vx_sound_preds.specs.Covered.{PredicatesPass};
+ghost use Rattle.vx_sound_funcs.specs.Firm.{GoodFunctions};
+ghost use Rattle.vx_told.specs.Means.{SymbolsMeanOne};
+
+/// In a typed program where the walks of predicates passed, the symbol of a function means one element at most, at a tree of its
+/// precondition and at its arguments: so an interpretation that knows some applications can know one more.
+pub fn symbols_mean_one()
+    ensures { (p : Program) (x : Name) (replies : Name → List Reply) → IsTypedProgram p → GoodFunctions p → PredicatesPass p x replies → SymbolsMeanOne p x }
+{}
