@@ -24,6 +24,7 @@ use Rattle.vx_verifier.specs.Causes.{IsLawful, AllLawful}
 use Rattle.vx_verifier.specs.Headline.{Headline, NeverFails, Under, IsRecorded, turns_of, lost_after}
 use Rattle.vx_verifier.proofs.Askable.{AllAsk, AreTurns, turns_ask}
 use Rattle.vx_commands.specs.declared.top.Ended.{Ended}
+use Rattle.vx_commands.specs.declared.reports.Telling.{Telling}
 use Rattle.vx_commands.specs.Outside.{Change, Taken, change, companions}
 use Rattle.vx_commands.specs.Reported.{IsReport, IsCompanionReport, AllNeverFail}
 use Rattle.vx_commands.proofs.Scripts.{script_sorted, script_fits}
@@ -111,9 +112,9 @@ module _ (p : Program) (before now : List Ending) (f g : ℕ) (runs : List Membe
       subst (Each (λ (e : Ending). IsLawful e.dialogue)) (same_since before (told.0 ∷ []) since (sym told.1 ∙ is)) (is_lawful told.0.dialogue (lawful_by taken told.0 told.1 told.3), tt)
 
 -- where the companion takes what is asserted, no member is faulted
-pub companion_reports : (p : Program) (command : List (List ℕ)) (old new : Builtin) (sink : Change Taken) (ended : Ended) → IsReport p command (change companions old new) sink ended
-    → AllByCompanion new.ended.items → IsCompanionReport p command (change companions old new) sink ended
-companion_reports p command old new sink ended h replies = record {
+pub companion_reports : (telling : Telling) (p : Program) (command : List (List ℕ)) (old new : Builtin) (sink : Change Taken) (ended : Ended) → IsReport telling p command (change companions old new) sink ended
+    → AllByCompanion new.ended.items → IsCompanionReport telling p command (change companions old new) sink ended
+companion_reports telling p command old new sink ended h replies = record {
   report = h;
   sound = verified_sound p old.ended.items new.ended.items 0 0 ended.runs.items h.headline replies;
   no_fault = λ taken. h.headline.complete.no_fault (h.calm refl (omega arith)) (all_lawful p old.ended.items new.ended.items 0 0 ended.runs.items h.headline replies taken h.headline.recorded);

@@ -8,9 +8,10 @@ use Rattle.vx_report.specs.declared.status.Status.TheVariants.{Done, NotVerified
 use Rattle.vx_report.specs.Statuses.{status_among}
 use Rattle.vx_report.specs.Reports.{is_verified, is_faulted}
 use Rattle.vx_words.specs.declared.order.Order.{Order}
-use Rattle.vx_words.specs.declared.order.Order.TheVariants.{Verify, Check, Print, Gen}
+use Rattle.vx_words.specs.declared.order.Order.TheVariants.{Verify, Check, Print, Gen, Work}
 use Rattle.vx_commands.specs.declared.saying.Saying.TheVariants as saying
 use Rattle.vx_commands.specs.declared.top.Ended.{Ended}
+use Rattle.vx_commands.specs.declared.reports.Telling.TheVariants.{Lines}
 use Rattle.vx_commands.specs.Outside.{Change, Texts, Taken, Children, HasFailedToRead, IsTooLong}
 use Rattle.vx_commands.specs.Reported.{is_companion, ByWhom, IsUnread, IsStatus, IsStatusOf, IsToldOf, IsTold, Says, SaysRefused, IsReport, IsCompanionReport, IsAnswer}
 
@@ -85,6 +86,7 @@ of_told (Some (Verify file solver)) files sink runs due bytes told none = of_fil
 of_told (Some (Check file)) files sink runs due bytes told none = of_file (Some (Check file)) files sink runs (Says saying.Typed) only_checked file (λ u. u) due bytes told none
 of_told (Some (Print file)) files sink runs due bytes told none = of_file (Some (Print file)) files sink runs (Says saying.Canonical) only_printed file (λ u. u) due bytes told none
 of_told (Some (Gen methods)) files sink runs due bytes told none = subst (λ x. IsStatusOf (Some (Gen methods)) files sink runs x) (sym told.done) (ap status_among none)
+of_told (Some (Work methods)) files sink runs due bytes told none = absurd told
 
 by_either : (b : Bool) (A B C : Type 0) → (A → C) → (B → C) → ByWhom b A B → C
 by_either true A B C f g h = f h
@@ -101,11 +103,13 @@ status_told None files companion handed sink ended (inr (inr report)) = absurd r
 status_told (Some (Check file)) files companion handed sink ended (inr (inr report)) = absurd report
 status_told (Some (Print file)) files companion handed sink ended (inr (inr report)) = absurd report
 status_told (Some (Gen methods)) files companion handed sink ended (inr (inr report)) = absurd report
+status_told (Some (Work methods)) files companion handed sink ended (inr (inr report)) =
+    of_status (Some (Work methods)) files sink ended.runs.items (status_among ended.runs.items) ended.status (of_runs (Some (Work methods)) files sink ended.runs.items) report.0.2.report.status
 status_told (Some (Verify file solver)) files companion handed sink ended (inr (inr report)) =
     let order = Some (Verify file solver) in
     let runs = ended.runs.items in
     let p = report.2.0 in
-    by_either (is_companion solver) (IsCompanionReport p solver companion sink ended) (IsReport p solver handed sink ended) _
+    by_either (is_companion solver) (IsCompanionReport Lines p solver companion sink ended) (IsReport Lines p solver handed sink ended) _
     (λ h. of_status order files sink runs (status_among runs) ended.status (of_runs order files sink runs) h.report.status)
     (λ h. of_status order files sink runs (status_among runs) ended.status (of_runs order files sink runs) h.status) report.2.2
 

@@ -1,7 +1,7 @@
 -- Whatever is ordered, a call may ask for no file and start nothing.
 use Rattle.std.proofs.Common.{◌≡◌, inl, Bool, true, false, List, ℕ, Option, Some, None, ap}
 use Rattle.vx_words.specs.declared.order.Order.{Order}
-use Rattle.vx_words.specs.declared.order.Order.TheVariants.{Verify, Check, Print, Gen}
+use Rattle.vx_words.specs.declared.order.Order.TheVariants.{Verify, Check, Print, Gen, Work}
 use Rattle.vx_commands.specs.Outside.{Change, Texts, Children, IsUnchanged, StartsOnly}
 use Rattle.vx_commands.specs.Reported.{is_companion, ByWhom, AsksFileOf, StartsSolverOf}
 
@@ -11,6 +11,7 @@ asks_nothing (Some (Verify file solver)) files same = inl same
 asks_nothing (Some (Check file)) files same = inl same
 asks_nothing (Some (Print file)) files same = inl same
 asks_nothing (Some (Gen methods)) files same = same
+asks_nothing (Some (Work methods)) files same = same
 
 module _ (companion handed : Change Children) (companion_rests : IsUnchanged companion) (handed_rests : IsUnchanged handed) where
   by_either : (b : Bool) (solver : List (List ℕ)) → ByWhom b (StartsOnly solver companion × IsUnchanged handed) (IsUnchanged companion × StartsOnly solver handed)
@@ -23,3 +24,4 @@ module _ (companion handed : Change Children) (companion_rests : IsUnchanged com
   starts_nothing (Some (Check file)) = (companion_rests, handed_rests)
   starts_nothing (Some (Print file)) = (companion_rests, handed_rests)
   starts_nothing (Some (Gen methods)) = (companion_rests, handed_rests)
+  starts_nothing (Some (Work methods)) = (inl (ap (λ (s : Children). s.starts) companion_rests), handed_rests)

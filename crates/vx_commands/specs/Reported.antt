@@ -6,7 +6,7 @@ use Rattle.vx_ast.specs.Written as written
 use Rattle.vx_ast.specs.Resolve as resolve
 use Rattle.vx_parser.specs.Spelling.{Spells}
 use Rattle.vx_words.specs.declared.order.Order.{Order}
-use Rattle.vx_words.specs.declared.order.Order.TheVariants.{Verify, Check, Print, Gen}
+use Rattle.vx_words.specs.declared.order.Order.TheVariants.{Verify, Check, Print, Gen, Work}
 use Rattle.vx_terms.specs.Interpretations.{Each}
 use Rattle.vx_dialogue.specs.Scripts.{script}
 use Rattle.vx_report.specs.declared.run.MemberRun.{MemberRun}
@@ -29,7 +29,9 @@ use Rattle.vx_commands.specs.declared.saying.Saying.TheVariants as saying
 use Rattle.vx_commands.specs.declared.reading.Loaded.{Loaded}
 use Rattle.vx_commands.specs.declared.reading.Loaded.TheVariants as loaded
 use Rattle.vx_commands.specs.declared.top.Ended.{Ended}
-use Rattle.vx_report.specs.Reports.{report_of}
+use Rattle.vx_commands.specs.declared.reports.Telling.{Telling}
+use Rattle.vx_commands.specs.declared.reports.Telling.TheVariants.{Lines, Totals}
+use Rattle.vx_report.specs.Reports.{report_of, total_of}
 use Rattle.vx_typing.specs.Typed.{written_of}
 use Rattle.vx_commands.specs.Refusals.{RefusesText, RefusesTyping, RefusesExecution, IsSpelledBy}
 use Rattle.vx_verifier.specs.Causes.{NoCountRose}
@@ -89,8 +91,13 @@ AsksFileOf (Some (Verify file solver)) files = AsksOnly file files
 AsksFileOf (Some (Check file)) files = AsksOnly file files
 AsksFileOf (Some (Print file)) files = AsksOnly file files
 AsksFileOf (Some (Gen methods)) files = files.after.asked ≡ files.before.asked
+AsksFileOf (Some (Work methods)) files = files.after.asked ≡ files.before.asked
 
 -- ---- spawners
+
+-- the name of the companion, as a command
+abbrev pub companion_alone : List (List ℕ)
+companion_alone = codes "builtin" ∷ []
 
 -- The spawner that the solver names starts it once at most; the other shows what it showed.
 abbrev pub StartsBy : (solver : List (List ℕ)) → (companion handed : Change Children) → Type 0
@@ -104,6 +111,7 @@ StartsSolverOf (Some (Verify file solver)) companion handed = StartsBy solver co
 StartsSolverOf (Some (Check file)) companion handed = IsUnchanged companion × IsUnchanged handed
 StartsSolverOf (Some (Print file)) companion handed = IsUnchanged companion × IsUnchanged handed
 StartsSolverOf (Some (Gen methods)) companion handed = IsUnchanged companion × IsUnchanged handed
+StartsSolverOf (Some (Work methods)) companion handed = StartsOnly companion_alone companion × IsUnchanged handed
 
 -- ---- what is put
 
@@ -165,6 +173,7 @@ IsTold (Some (Verify file solver)) files s bytes = IsToldOf SaysRefused file fil
 IsTold (Some (Check file)) files s bytes = IsToldOf (Says saying.Typed) file files s bytes
 IsTold (Some (Print file)) files s bytes = IsToldOf (Says saying.Canonical) file files s bytes
 IsTold (Some (Gen methods)) files s bytes = IsGenerated methods s bytes
+IsTold (Some (Work methods)) files s bytes = ⊥
 
 -- This text, due with this status, is put, or a beginning of it where the sink failed; there are no runs.
 pub record IsSaid (due : Status) (bytes : List ℕ) (sink : Change Taken) (ended : Ended) : Type 0 where
@@ -184,11 +193,16 @@ pub record PutsNothing (sink : Change Taken) (ended : Ended) : Type 0 where
 
 -- ---- reports
 
+-- the text of a report: each member's line and the totals, or the totals alone
+abbrev pub text_of : Telling → Program → List MemberRun → List ℕ
+text_of Lines p runs = report_of p runs
+text_of Totals p runs = total_of runs
+
 -- What a report says of a program, by what the spawner that was asked shows: the headline, exactly the report's bytes, and the status of the runs. The
 -- command is started exactly where a member has a question, and over a steady spawner no count of faults rises.
-pub record IsReport (p : Program) (command : List (List ℕ)) (spawner : Change Children) (sink : Change Taken) (ended : Ended) : Type 0 where
+pub record IsReport (telling : Telling) (p : Program) (command : List (List ℕ)) (spawner : Change Children) (sink : Change Taken) (ended : Ended) : Type 0 where
   pub headline : Headline p spawner.before.ended spawner.after.ended spawner.before.faults spawner.after.faults ended.runs.items
-  pub put : IsPut sink ended.status (report_of p ended.runs.items)
+  pub put : IsPut sink ended.status (text_of telling p ended.runs.items)
   pub status : IsStatus (status_among ended.runs.items) sink ended.status
   pub started : StartsWhere (some_ask p (lines p)) spawner.before.starts spawner.after.starts record { lane = 0; command = command }
   pub calm : IsTrue spawner.before.steady → spawner.before.faults < 2 ^ 64 - 1
@@ -199,8 +213,8 @@ abbrev pub AllNeverFail : Program → List MemberRun → Type 0
 AllNeverFail p runs = Each (λ (r : MemberRun). r.verdict ≡ verdict.Verified → NeverFails p r.member.0) runs
 
 -- A report by the companion. Whatever it answered, no member that is verified fails; and where it takes each command that it was sent, none is faulted.
-pub record IsCompanionReport (p : Program) (command : List (List ℕ)) (spawner : Change Children) (sink : Change Taken) (ended : Ended) : Type 0 where
-  pub report : IsReport p command spawner sink ended
+pub record IsCompanionReport (telling : Telling) (p : Program) (command : List (List ℕ)) (spawner : Change Children) (sink : Change Taken) (ended : Ended) : Type 0 where
+  pub report : IsReport telling p command spawner sink ended
   pub sound : AllNeverFail p ended.runs.items
   pub no_fault : Each IsTaken (script false [] (turns_of false p ended.runs.items report.headline.checks)) → HasNoFault ended.runs.items
   -- each command had the reply that the companion has for it
@@ -208,19 +222,24 @@ pub record IsCompanionReport (p : Program) (command : List (List ℕ)) (spawner 
 
 -- by the spawner that the solver names
 abbrev pub IsReportBy : (solver : List (List ℕ)) → Program → (companion handed : Change Children) → Change Taken → Ended → Type 0
-IsReportBy solver p companion handed sink ended = ByWhom (is_companion solver) (IsCompanionReport p solver companion sink ended) (IsReport p solver handed sink ended)
+IsReportBy solver p companion handed sink ended = ByWhom (is_companion solver) (IsCompanionReport Lines p solver companion sink ended) (IsReport Lines p solver handed sink ended)
 
 -- the program of a text is reported
 abbrev pub IsReportFor : (text : List ℕ) → (solver : List (List ℕ)) → (companion handed : Change Children) → Change Taken → Ended → Type 0
 IsReportFor text solver companion handed sink ended = (p : Program) × IsProgramOf text p × IsReportBy solver p companion handed sink ended
 
--- so it is with the text of the file that the words name
+-- the companion's report of the program that so many generated methods spell; only the totals are told
+abbrev pub IsWork : (methods : ℕ) → (companion : Change Children) → Change Taken → Ended → Type 0
+IsWork methods companion sink ended = (p : Program) × IsProgramOf (generated methods) p × IsCompanionReport Totals p companion_alone companion sink ended
+
+-- so it is with the text of the file that the words name, and with what they say is to be generated
 abbrev pub IsReportOf : Option Order → Change Texts → (companion handed : Change Children) → Change Taken → Ended → Type 0
 IsReportOf (Some (Verify file solver)) files companion handed sink ended =
     (text : List ℕ) × IfSome (files.before.holds file) (λ known. text ≡ known) × IsReportFor text solver companion handed sink ended
 IsReportOf (Some (Check file)) files companion handed sink ended = ⊥
 IsReportOf (Some (Print file)) files companion handed sink ended = ⊥
 IsReportOf (Some (Gen methods)) files companion handed sink ended = ⊥
+IsReportOf (Some (Work methods)) files companion handed sink ended = IsWork methods companion sink ended × IsUnchanged handed
 IsReportOf None files companion handed sink ended = ⊥
 
 -- ---- answers
@@ -247,6 +266,7 @@ IsUnread (Some (Verify file solver)) files = HasFailedToRead files ⊎ IsTooLong
 IsUnread (Some (Check file)) files = HasFailedToRead files ⊎ IsTooLong file files
 IsUnread (Some (Print file)) files = HasFailedToRead files ⊎ IsTooLong file files
 IsUnread (Some (Gen methods)) files = ⊥
+IsUnread (Some (Work methods)) files = ⊥
 
 -- What a status says. One with a report is that of its runs; the others have no runs, and each its cause.
 abbrev pub IsStatusOf : Option Order → Change Texts → Change Taken → List MemberRun → Status → Type 0

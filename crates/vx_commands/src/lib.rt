@@ -3,9 +3,12 @@
 
 mod answers;
 mod executed;
+mod generated;
 mod reading;
+mod reports;
 mod saying;
 mod top;
 
 pub use executed::supported;
+pub use reports::Telling;
 pub use top::{Ended, run};

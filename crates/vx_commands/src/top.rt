@@ -2,26 +2,26 @@
 
 ghost use Rattle.std.specs.Prelude.{◌≡◌, ◌⊎◌, ◌≤◌, [], IfOk, IfErr, Some, None, true, option_copied};
 ghost use Rattle.vx_ast.specs.Written.{written_program};
-ghost use Rattle.vx_resolved.specs.Executed.{is_executed};
-ghost use Rattle.vx_typing.specs.Typed.{written_of, resolved_of};
+ghost use Rattle.vx_typing.specs.Typed.{written_of};
 ghost use Rattle.vx_words.specs.Orders.{order_of, IsWithinLimit};
 ghost use Rattle.vx_commands.specs.Refusals.{IsSpelledBy};
 ghost use Rattle.vx_commands.specs.Reported as spec;
 ghost use Rattle.vx_commands.specs.Outside.{change, texts, taken, children, companions, AsksOnly, StartsOnly};
-ghost use Rattle.vx_commands.specs.Reported.{IsPut, IsStatus, IsSaid, Puts, IsToldOf, IsReport, IsCompanionReport, IsReportBy, IsGenerated, IsVerified, IsAnswer, IsStatusOf, AsksFileOf, StartsBy, StartsSolverOf};
+ghost use Rattle.vx_commands.specs.Reported.{Puts, IsToldOf, IsGenerated, IsVerified, IsAnswer, IsStatusOf, AsksFileOf, StartsBy, StartsSolverOf};
 
 use crate::answers::{TOO_LONG, UNREAD, USAGE, text_refusal};
 use crate::executed::supported;
+use crate::generated::{text_of, work};
 use crate::reading::{Checked, Loaded, Parsed, load, read, type_of};
+use crate::reports::{report_by, say};
 use crate::saying::{Said, Saying};
 use std::alloc::{AllocError, Global};
 use vx_ast::Program;
 use vx_companion::Builtin;
-use vx_ends::{Files, Parts, PutFault, RoundRobin, Sink, Spawner, put_all};
-use vx_gen::{GenFault, generate};
-use vx_report::{Status, status_of, write_report};
+use vx_ends::{Files, Parts, Sink, Spawner};
+use vx_report::Status;
 use vx_typing::Typed;
-use vx_verifier::{Runs, programs_are_supported, settled, verify};
+use vx_verifier::{Runs, programs_are_supported};
 use vx_words::{Order, Text, WordsFault, read_words};
 
 /// How the program ended: its status, and what became of each member with a line, in file order. There are no runs
@@ -32,98 +32,11 @@ pub struct Ended {
     pub runs: Runs,
 }
 
-// Puts these bytes; where the sink fails, that is the status.
-fn put<K: Sink>(out: &mut K, bytes: &[u8], status: Status, runs: Runs) -> Ended
-    ensures runs { result.runs ≡ runs }
-    ensures taken { IsPut (change (taken K.taken K.faults) out.old out.new) result.status bytes.now }
-    ensures status { IsStatus status (change (taken K.taken K.faults) out.old out.new) result.status }
-{
-    match put_all(out, bytes) {
-        Ok(()) => Ended { status, runs },
-        Err(PutFault::Failed) => Ended {
-            status: Status::Unwritten,
-            runs,
-        },
-    }
-}
-
-// Verifies a program, and puts the report.
-fn report<K: Sink, W: Spawner>(
-    alloc: Global,
-    typed: &Typed,
-    out: &mut K,
-    solver: &Parts,
-    spawner: &mut W,
-) -> Result<Ended, AllocError>
-    requires { is_executed (written_of typed.now) ≡ true }
-    ensures report { IfOk result (IsReport (resolved_of typed.now) solver.now (change (children W.starts W.ended W.faults W.steady) spawner.old spawner.new) (change (taken K.taken K.faults) out.old out.new)) }
-    ensures starts { StartsOnly solver.now (change (children W.starts W.ended W.faults W.steady) spawner.old spawner.new) }
-    ensures nothing { IfErr result (λ _. K.taken out.new ≡ K.taken out.old) }
-{
-    let mut turns = RoundRobin::new();
-    let runs = verify(alloc, typed, 1, solver, false, spawner, &mut turns)?;
-    let mut text = String::new(alloc);
-    write_report(&mut text, &settled(alloc, typed)?, &runs)?;
-    let status = status_of(&runs);
-    Ok(put(out, text.as_bytes(), status, runs))
-}
-
-// The companion is asked, and no child process.
-fn is_companion(solver: &Parts) -> bool
-    ensures { result ≡ spec.is_companion solver.now }
-{
-    solver.len() == 1 && solver.part(0) == "builtin"
-}
-
-// Verifies a program by the companion, and puts the report. No member is faulted.
-fn report_by_companion<K: Sink>(
-    alloc: Global,
-    typed: &Typed,
-    solver: &Parts,
-    out: &mut K,
-    builtin: &mut Builtin,
-) -> Result<Ended, AllocError>
-    requires { is_executed (written_of typed.now) ≡ true }
-    ensures report { IfOk result (IsCompanionReport (resolved_of typed.now) solver.now (change companions builtin.old builtin.new) (change (taken K.taken K.faults) out.old out.new)) }
-    ensures starts { StartsOnly solver.now (change companions builtin.old builtin.new) }
-    ensures nothing { IfErr result (λ _. K.taken out.new ≡ K.taken out.old) }
-{
-    report(alloc, typed, out, solver, builtin)
-}
-
-// Verifies a program by the companion, or by the spawner, as the solver says, and puts the report.
-fn report_by<K: Sink, W: Spawner>(
-    alloc: Global,
-    typed: &Typed,
-    solver: &Parts,
-    out: &mut K,
-    spawner: &mut W,
-    builtin: &mut Builtin,
-) -> Result<Ended, AllocError>
-    requires { is_executed (written_of typed.now) ≡ true }
-    ensures report { IfOk result (IsReportBy solver.now (resolved_of typed.now) (change companions builtin.old builtin.new) (change (children W.starts W.ended W.faults W.steady) spawner.old spawner.new) (change (taken K.taken K.faults) out.old out.new)) }
-    ensures starts { StartsBy solver.now (change companions builtin.old builtin.new) (change (children W.starts W.ended W.faults W.steady) spawner.old spawner.new) }
-    ensures nothing { IfErr result (λ _. K.taken out.new ≡ K.taken out.old) }
-{
-    if is_companion(solver) {
-        report_by_companion(alloc, typed, solver, out, builtin)
-    } else {
-        report(alloc, typed, out, solver, spawner)
-    }
-}
-
 // The name of a file, or none.
 fn name_of(file: &Option<Text>) -> Option<&str>
     ensures { option_copied result ≡ file.now }
 {
     file.as_ref().map(|name| name.as_str())
-}
-
-// An end without a report.
-fn say<K: Sink>(alloc: Global, out: &mut K, bytes: &[u8], status: Status) -> Ended
-    ensures { IsSaid status bytes.now (change (taken K.taken K.faults) out.old out.new) result }
-{
-    put(out, bytes, status, Vec::new(alloc))
 }
 
 // Verifies a typed program of a text, if it is executed.
@@ -248,11 +161,8 @@ fn put_generated<K: Sink>(alloc: Global, methods: u32, out: &mut K) -> Result<En
     ensures said { IfOk result (Puts (IsGenerated methods) (change (taken K.taken K.faults) out.old out.new)) }
     ensures nothing { IfErr result (λ _. K.taken out.new ≡ K.taken out.old) }
 {
-    match generate(alloc, methods) {
-        Ok(text) => Ok(say(alloc, out, text.as_bytes(), Status::Done)),
-        Err(GenFault::TooLarge) => unreachable!(),
-        Err(GenFault::Want) => Err(AllocError),
-    }
+    let text = text_of(alloc, methods)?;
+    Ok(say(alloc, out, text.as_bytes(), Status::Done))
 }
 
 // Does what is ordered.
@@ -277,6 +187,7 @@ fn obey<F: Files, K: Sink, W: Spawner>(
         Order::Check { file } => say_file(alloc, Saying::Typed, file, files, out),
         Order::Print { file } => say_file(alloc, Saying::Canonical, file, files, out),
         Order::Gen { methods } => put_generated(alloc, *methods, out),
+        Order::Work { methods } => work(alloc, *methods, out, builtin),
     }
 }
 

@@ -5,6 +5,6 @@ mod report;
 mod run;
 mod status;
 
-pub use report::{code_word, reply_word, write_place, write_report};
+pub use report::{code_word, reply_word, write_place, write_report, write_total};
 pub use run::{Cause, MemberRun, Verdict};
 pub use status::{Status, status_of};

@@ -200,7 +200,8 @@ fn write_others(out: &mut String, limited: u64, faulted: u64) -> Result<(), Allo
     write_count(out, faulted, " faults\n")
 }
 
-fn write_total(out: &mut String, runs: &[MemberRun]) -> Result<(), AllocError>
+/// Writes the total line.
+pub fn write_total(out: &mut String, runs: &[MemberRun]) -> Result<(), AllocError>
     ensures { OnOk result (string_bytes out.new ≡ string_bytes out.old ++ spec.total_of runs.now) }
 {
     let totals = totals_of(runs);

@@ -1,13 +1,6 @@
 //! What a row is answered.
 
 use crate::ends::{put_child_answer, put_companion_answer, put_file};
-use crate::fractions::put_fraction;
-use crate::graphs::put_graph;
-use crate::machines::put_machines;
-use crate::names::{put_names, put_order};
-use crate::row::{Asks, Row, Solver};
-use crate::sexps::put_sexp;
-use crate::told::{put_line, put_text};
 use std::alloc::{AllocError, Global};
 use vx_commands::{Ended, run};
 use vx_companion::Builtin;
@@ -15,51 +8,8 @@ use vx_edge::ChildSpawner;
 use vx_ends::{
     Bytes, Ending, MemFiles, MemSink, NamedText, Parts, Piece, Script, ScriptSpawner, Spawner,
 };
-use vx_executed::beyond;
-use vx_parser::{TextFault, parse};
 use vx_report::{Cause, MemberRun, Verdict};
-
-// The place, code, name and argument of a fault.
-fn fault_line(alloc: Global, fault: &TextFault) -> Result<String, AllocError> {
-    let place = fault.place();
-    let code = fault.code();
-    let name = fault.name();
-    match fault.argument() {
-        Some(argument) => format!(in alloc;
-            "{}:{} {code} {name} {argument}",
-            place.line, place.column
-        ),
-        None => format!(in alloc; "{}:{} {code} {name}", place.line, place.column),
-    }
-}
-
-// How a text is read: `ok`, or its fault.
-fn read_as(alloc: Global, text: &[u8]) -> Result<String, AllocError> {
-    match parse(alloc, text) {
-        Ok(_) => String::from_str(alloc, "ok"),
-        Err(fault) => fault_line(alloc, &fault),
-    }
-}
-
-// The first token that is not executed.
-fn first_beyond(alloc: Global, text: &[u8]) -> Result<String, AllocError> {
-    match beyond(alloc, text) {
-        None => String::from_str(alloc, "none"),
-        Some(fault) => fault_line(alloc, &fault),
-    }
-}
-
-// The lengths at which the beginning of a text is a program.
-fn beginnings(alloc: Global, text: &[u8]) -> Result<String, AllocError> {
-    let mut all = String::from_str(alloc, "beginnings of")?;
-    for length in 0..=text.len() {
-        if parse(alloc, &text[..length]).is_ok() {
-            write!(all, " {length}")?;
-        }
-    }
-    all.push_str(" bytes")?;
-    Ok(all)
-}
+use vx_table::{Asks, Row, Solver, put_line, put_text};
 
 fn input(alloc: Global, row: &Row) -> Result<MemFiles, AllocError> {
     let mut texts = Vec::new(alloc);
@@ -83,21 +33,6 @@ fn solver(alloc: Global, row: &Row) -> Result<ScriptSpawner, AllocError> {
         fails: row.fails.clone()?,
     })?;
     Ok(ScriptSpawner::new(alloc, scripts, Vec::new(alloc)))
-}
-
-/// The words of the command line, the program's name first.
-///
-/// # Errors
-/// Want of memory.
-pub fn words(alloc: Global, row: &Row) -> Result<Parts, AllocError> {
-    let mut words = Parts::new(alloc);
-    if row.has_name {
-        words.push(alloc, "vsil")?;
-    }
-    for word in row.words.texts() {
-        words.push(alloc, word)?;
-    }
-    Ok(words)
 }
 
 // How many checks are in the bytes that were sent.
@@ -140,7 +75,7 @@ fn put_run_by<W: Spawner>(
     spawner: &mut W,
     out: &mut Vec<u8>,
 ) -> Result<(), AllocError> {
-    let words = words(alloc, row)?;
+    let words = row.command(alloc)?;
     let mut files = input(alloc, row)?;
     let mut sink = MemSink::new(alloc, row.room)?;
     let mut builtin = Builtin::new(alloc);
@@ -168,9 +103,20 @@ fn put_run(
     }
 }
 
-// The row's text; what is no character is another one.
-fn text_in(alloc: Global, row: &Row) -> Result<String, AllocError> {
-    String::from_utf8_lossy(alloc, &row.text)
+// How many questions the members of the program have, of which each is asked of the companion.
+fn put_checks(alloc: Global, row: &Row, out: &mut Vec<u8>) -> Result<(), AllocError> {
+    let words = row.command(alloc)?;
+    let mut files = input(alloc, row)?;
+    let mut sink = MemSink::new(alloc, row.room)?;
+    let mut spawner = solver(alloc, row)?;
+    let mut builtin = Builtin::new(alloc);
+    let ended = run(alloc, &words, &mut files, &mut sink, &mut spawner, &mut builtin);
+    let mut checks = 0u64;
+    for member in &ended.runs {
+        checks = checks.saturating_add(u64::from(member.checks));
+    }
+    let line = format!(in alloc; "{checks} checks of {} members", ended.runs.len())?;
+    put_line(out, "  ", &line)
 }
 
 /// What a row is answered.
@@ -185,17 +131,10 @@ pub fn answer(
 ) -> Result<(), AllocError> {
     match row.asks {
         Asks::Run => put_run(rt, alloc, row, out),
-        Asks::Parse => put_line(out, "  ", &read_as(alloc, &row.text)?),
-        Asks::Beyond => put_line(out, "  ", &first_beyond(alloc, &row.text)?),
-        Asks::Beginnings => put_line(out, "  ", &beginnings(alloc, &row.text)?),
-        Asks::Machines => put_machines(alloc, row, out),
-        Asks::Order => put_order(alloc, row, out),
-        Asks::Names => put_names(alloc, row, out),
+        Asks::Checks => put_checks(alloc, row, out),
         Asks::File => put_file(rt, alloc, row, out),
         Asks::Child => put_child_answer(alloc, &mut ChildSpawner::new(alloc, rt), row, out),
         Asks::Companion => put_companion_answer(alloc, row, out),
-        Asks::Graph => put_graph(alloc, &text_in(alloc, row)?, out),
-        Asks::Fraction => put_fraction(alloc, &text_in(alloc, row)?, out),
-        Asks::Sexp => put_sexp(alloc, &row.text, out),
+        _ => put_line(out, "  ", "this row asks something of a part"),
     }
 }

@@ -1,7 +1,7 @@
 //! What the ends of the program give: files of the disk, child processes, and the companion.
 
-use crate::row::Row;
-use crate::told::{put_line, put_text};
+use vx_table::Row;
+use vx_table::{put_line, put_text};
 use std::alloc::{AllocError, Global};
 use vx_companion::Builtin;
 use vx_edge::DiskFiles;

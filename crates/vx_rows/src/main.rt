@@ -1,28 +1,33 @@
-//! Runs the rows of a table, which is read from standard input, and writes what came of each. `docs/ROWS.md` tells what a
+//! Runs the rows of the whole program in a table, which is read from standard input, and writes what came of each. `docs/ROWS.md` tells what a
 //! table is made of.
 #![tactic(auto)]
 
 mod answers;
 mod ends;
-mod fractions;
-mod graphs;
-mod machines;
-mod names;
-mod row;
-mod sexps;
-mod table;
-mod told;
 
+use crate::answers::answer;
 use std::alloc::{AllocError, Global};
 use std::io::Read;
 use std::process::ExitCode;
 use vx_edge::StdSink;
 use vx_ends::put_all;
+use vx_table::{Answers, Row, run_all};
+
+// Rows are answered with the runtime, which child processes and files need.
+struct Program<'a> {
+    rt: &'a HostRuntime,
+}
+
+impl Answers for Program<'_> {
+    fn answer(&mut self, alloc: Global, row: &Row, out: &mut Vec<u8>) -> Result<(), AllocError> {
+        answer(self.rt, alloc, row, out)
+    }
+}
 
 // What came of the rows of a table.
 fn told_of(rt: &HostRuntime, alloc: Global, table: &str) -> Result<Vec<u8>, AllocError> {
     let mut out = Vec::new(alloc);
-    table::run_all(rt, alloc, table, &mut out)?;
+    run_all(alloc, table, &mut Program { rt }, &mut out)?;
     Ok(out)
 }
 

@@ -1,12 +1,12 @@
 -- What the words of the command line mean.
-use Rattle.std.specs.Prelude.{◌≡◌, ◌==◌, List, [], ◌∷◌, length, Option, Some, None, Result, Ok, Err, codes, option_and_then, option_map, unwrap_or, nat_le, ◌≤◌, if◌then◌else◌}
+use Rattle.std.specs.Prelude.{◌≡◌, ◌==◌, List, [], ◌∷◌, length, ℕ, Option, Some, None, Result, Ok, Err, codes, option_and_then, option_map, unwrap_or, nat_le, ◌≤◌, if◌then◌else◌}
 use Rattle.std.specs.Str.{bytes_eq}
 use Rattle.clap.specs.Words.{Row, Text, first_of, fault_of, subcommand_of}
 use Rattle.vx_words.specs.Table.{vsil_app}
 use Rattle.vx_words.specs.Solvers.{parts_in}
 use Rattle.vx_words.specs.Methods.{methods_in}
 use Rattle.vx_words.specs.declared.order.Order.{Order}
-use Rattle.vx_words.specs.declared.order.Order.TheVariants.{Verify, Check, Print, Gen}
+use Rattle.vx_words.specs.declared.order.Order.TheVariants.{Verify, Check, Print, Gen, Work}
 use Rattle.vx_words.specs.declared.order.WordsFault.{WordsFault}
 use Rattle.vx_words.specs.declared.order.WordsFault.TheVariants.{Usage, Want}
 
@@ -21,16 +21,17 @@ verify_in rows =
     if length solver == 0 then None else Some (Verify (first_of (codes "file") rows) solver)
 
 -- N, which must be there
-abbrev pub gen_in : List Row → Option Order
-gen_in rows = option_map Gen (option_and_then methods_in (first_of (codes "methods") rows))
+abbrev pub count_in : List Row → Option ℕ
+count_in rows = option_and_then methods_in (first_of (codes "methods") rows)
 
 -- the order of a subcommand, by its name and its matches
 abbrev pub order_from : Text → List Row → Option Order
 order_from name rows =
     if bytes_eq name (codes "verify") then verify_in rows
-    else (if bytes_eq name (codes "gen") then gen_in rows
+    else (if bytes_eq name (codes "gen") then option_map Gen (count_in rows)
+    else (if bytes_eq name (codes "work") then option_map Work (count_in rows)
     else (if bytes_eq name (codes "check") then Some (Check (first_of (codes "file") rows))
-    else (if bytes_eq name (codes "print") then Some (Print (first_of (codes "file") rows)) else None)))
+    else (if bytes_eq name (codes "print") then Some (Print (first_of (codes "file") rows)) else None))))
 
 -- what the words mean, if the table takes them
 abbrev pub order_of_words : List Text → Option Order
@@ -53,3 +54,4 @@ IsWithinLimit (Verify file solver) = Unit {0}
 IsWithinLimit (Check file) = Unit {0}
 IsWithinLimit (Print file) = Unit {0}
 IsWithinLimit (Gen methods) = methods ≤ 2000
+IsWithinLimit (Work methods) = methods ≤ 2000

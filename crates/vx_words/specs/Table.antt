@@ -26,9 +26,9 @@ verify_shape = command (codes "verify") (plain_rule (codes "file") ∷ option_ru
 abbrev pub file_shape : Text → Shape
 file_shape name = command name (plain_rule (codes "file") ∷ [])
 
--- the command that takes how many methods to generate
-abbrev pub gen_shape : Shape
-gen_shape = command (codes "gen") (plain_rule (codes "methods") ∷ [])
+-- a command that takes how many methods to generate
+abbrev pub count_shape : Text → Shape
+count_shape name = command name (plain_rule (codes "methods") ∷ [])
 
 -- the program: a command is wanted, and there is no help and no version
 abbrev pub top_app : App
@@ -36,6 +36,8 @@ top_app = record (new_app (codes "vsil")) {
   top = record (new_app (codes "vsil")).top { disable_help_flag = true; disable_help_subcommand = true; disable_version_flag = true; subcommand_required = true };
 }
 
+abbrev pub file_app : App
+file_app = with_subcommand (with_subcommand (with_subcommand top_app verify_shape) (file_shape (codes "check"))) (file_shape (codes "print"))
+
 unfoldable pub vsil_app : App
-vsil_app =
-    with_subcommand (with_subcommand (with_subcommand (with_subcommand top_app verify_shape) (file_shape (codes "check"))) (file_shape (codes "print"))) gen_shape
+vsil_app = with_subcommand (with_subcommand file_app (count_shape (codes "gen"))) (count_shape (codes "work"))

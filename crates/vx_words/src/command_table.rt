@@ -2,7 +2,7 @@
 ghost use Rattle.std.specs.Prelude.{◌≡◌, IfOk, false, codes};
 ghost use Rattle.clap.specs.Words.{rule_of, app_of, shape_of, with_subcommand};
 ghost use Rattle.clap.specs.declared.builder.command.Command.TheViews.{out-Command as fields_of};
-ghost use Rattle.vx_words.specs.Table.{plain_rule, option_rule, verify_shape, file_shape, gen_shape, top_app, vsil_app};
+ghost use Rattle.vx_words.specs.Table.{plain_rule, option_rule, verify_shape, file_shape, count_shape, top_app, vsil_app};
 
 use clap::{Arg, ArgAction, Command};
 use std::alloc::{AllocError, Global};
@@ -36,11 +36,11 @@ fn of_a_file<'a>(alloc: Global, name: &'a str) -> Result<Command<'a>, AllocError
     Command::new(alloc, name).arg(plain(alloc, "file"))
 }
 
-// The command that takes how many methods to generate.
-fn generates<'a>(alloc: Global) -> Result<Command<'a>, AllocError>
-    ensures { IfOk result (λ c. (shape_of c ≡ gen_shape) × ((fields_of c).has_globals ≡ false)) }
+// A command that takes how many methods to generate.
+fn of_a_count<'a>(alloc: Global, name: &'a str) -> Result<Command<'a>, AllocError>
+    ensures { IfOk result (λ c. (shape_of c ≡ count_shape name.entry.now) × ((fields_of c).has_globals ≡ false)) }
 {
-    Command::new(alloc, "gen").arg(plain(alloc, "methods"))
+    Command::new(alloc, name).arg(plain(alloc, "methods"))
 }
 
 // The program without its commands.
@@ -69,5 +69,6 @@ pub fn table<'a>(alloc: Global) -> Result<Command<'a>, AllocError>
     let verifies = with(top(alloc), verify(alloc)?)?;
     let checks = with(verifies, of_a_file(alloc, "check")?)?;
     let prints = with(checks, of_a_file(alloc, "print")?)?;
-    with(prints, generates(alloc)?)
+    let generates = with(prints, of_a_count(alloc, "gen")?)?;
+    with(generates, of_a_count(alloc, "work")?)
 }

@@ -17,6 +17,8 @@ pub enum Order {
     Print { file: Option<Text> },
     /// Write the text of so many generated methods, at most 2000.
     Gen { methods: u32 },
+    /// Verify so many generated methods, at most 2000, by the companion, and write the totals alone.
+    Work { methods: u32 },
 }
 
 /// Why the words give no order.

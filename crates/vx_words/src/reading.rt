@@ -1,7 +1,8 @@
 // The order that the matches of a subcommand give.
-ghost use Rattle.std.specs.Prelude.{◌≡◌, option_map, IfOk, codes};
+ghost use Rattle.std.specs.Prelude.{◌≡◌, ◌≤◌, option_map, IfOk, IfSome, codes};
 ghost use Rattle.clap.specs.Words.{rows_of, found_of, first_of};
-ghost use Rattle.vx_words.specs.Orders.{verify_in, gen_in, order_from, ReadsAs, IsWithinLimit};
+ghost use Rattle.vx_words.specs.Orders.{verify_in, count_in, order_from, ReadsAs, IsWithinLimit};
+ghost use Rattle.vx_words.specs.declared.order.Order.TheVariants as TheOrders;
 
 use crate::methods::methods_of;
 use crate::solver::parts_of;
@@ -37,15 +38,34 @@ fn verify_of(alloc: Global, matches: &ArgMatches) -> Result<Order, WordsFault>
     Ok(Order::Verify { file, solver })
 }
 
-fn gen_of(matches: &ArgMatches) -> Result<Order, WordsFault>
-    ensures meaning { ReadsAs (gen_in (rows_of (found_of matches.now))) result }
-    ensures limit { IfOk result IsWithinLimit }
+// How many methods are to be generated.
+fn count_of(matches: &ArgMatches) -> Option<u32>
+    ensures number { result ≡ count_in (rows_of (found_of matches.now)) }
+    ensures limit { IfSome result (λ methods. methods ≤ 2000) }
 {
     match text_of(matches, "methods") {
-        Some(text) => match methods_of(text) {
-            Some(methods) => Ok(Order::Gen { methods }),
-            None => Err(WordsFault::Usage),
-        },
+        Some(text) => methods_of(text),
+        None => None,
+    }
+}
+
+// The order to generate methods, and to verify them.
+fn gen_of(matches: &ArgMatches) -> Result<Order, WordsFault>
+    ensures meaning { ReadsAs (option_map TheOrders.Gen (count_in (rows_of (found_of matches.now)))) result }
+    ensures limit { IfOk result IsWithinLimit }
+{
+    match count_of(matches) {
+        Some(methods) => Ok(Order::Gen { methods }),
+        None => Err(WordsFault::Usage),
+    }
+}
+
+fn work_of(matches: &ArgMatches) -> Result<Order, WordsFault>
+    ensures meaning { ReadsAs (option_map TheOrders.Work (count_in (rows_of (found_of matches.now)))) result }
+    ensures limit { IfOk result IsWithinLimit }
+{
+    match count_of(matches) {
+        Some(methods) => Ok(Order::Work { methods }),
         None => Err(WordsFault::Usage),
     }
 }
@@ -60,6 +80,9 @@ pub fn order_of(alloc: Global, name: &str, matches: &ArgMatches) -> Result<Order
     }
     if name == "gen" {
         return gen_of(matches);
+    }
+    if name == "work" {
+        return work_of(matches);
     }
     let file = file_of(alloc, matches)?;
     if name == "check" {

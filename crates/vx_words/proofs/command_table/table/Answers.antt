@@ -10,4 +10,5 @@ returns c =
     let verifies = c.in_ok-verifies.ensures ∙ ap₂ with_subcommand c.top.ensures c.in_ok-verify.ensures.0 in
     let checks = c.in_ok-checks.ensures ∙ ap₂ with_subcommand verifies c.in_ok-of_a_file.ensures.0 in
     let prints = c.in_ok-prints.ensures ∙ ap₂ with_subcommand checks c.in_ok-of_a_file-2.ensures.0 in
-    IfOk-weaker c.with-4.result _ _ (λ m h. h ∙ ap₂ with_subcommand prints c.in_ok-generates.ensures.0) c.with-4.ensures
+    let generates = c.in_ok-generates.ensures ∙ ap₂ with_subcommand prints c.in_ok-of_a_count.ensures.0 in
+    IfOk-weaker c.with-5.result _ _ (λ m h. h ∙ ap₂ with_subcommand generates c.in_ok-of_a_count-2.ensures.0) c.with-5.ensures

@@ -1,6 +1,5 @@
 //! The lines of a table. A line is a word and what stands behind it; a row ends before the next `row`.
 
-use crate::answers::answer;
 use crate::row::{Asks, Row, Solver, Step};
 use crate::told::put_line;
 use std::alloc::{AllocError, Global};
@@ -68,6 +67,7 @@ fn asks_of(word: &str) -> Asks {
         "parse" => Asks::Parse,
         "beyond" => Asks::Beyond,
         "beginnings" => Asks::Beginnings,
+        "checks" => Asks::Checks,
         "machines" => Asks::Machines,
         "order" => Asks::Order,
         "names" => Asks::Names,
@@ -157,15 +157,24 @@ fn of_one_line(alloc: Global, word: &str, text: &str) -> Result<Option<Row>, All
     Ok(Some(row))
 }
 
+/// What a program answers to rows.
+pub trait Answers {
+    /// Writes what a row is answered.
+    ///
+    /// # Errors
+    /// Want of memory.
+    fn answer(&mut self, alloc: Global, row: &Row, out: &mut Vec<u8>) -> Result<(), AllocError>;
+}
+
 // Ends the row before, if there is one.
-fn end(
-    rt: &HostRuntime,
+fn end<A: Answers>(
     alloc: Global,
+    answers: &mut A,
     row: &mut Option<Row>,
     out: &mut Vec<u8>,
 ) -> Result<(), AllocError> {
     match row.take() {
-        Some(row) => answer(rt, alloc, &row, out),
+        Some(row) => answers.answer(alloc, &row, out),
         None => Ok(()),
     }
 }
@@ -180,9 +189,9 @@ fn take(alloc: Global, row: &mut Row, word: &str, rest: &str) -> Result<bool, Al
 }
 
 // Takes a line of the table; a line that means nothing is told.
-fn take_line(
-    rt: &HostRuntime,
+fn take_line<A: Answers>(
     alloc: Global,
+    answers: &mut A,
     row: &mut Option<Row>,
     line: &str,
     out: &mut Vec<u8>,
@@ -192,15 +201,15 @@ fn take_line(
         return Ok(());
     }
     if word == "row" {
-        end(rt, alloc, row, out)?;
+        end(alloc, answers, row, out)?;
         put_line(out, "", rest)?;
         *row = Some(Row::new(alloc));
         return Ok(());
     }
     if let Some(only) = of_one_line(alloc, word, rest)? {
-        end(rt, alloc, row, out)?;
+        end(alloc, answers, row, out)?;
         put_line(out, "", rest)?;
-        return answer(rt, alloc, &only, out);
+        return answers.answer(alloc, &only, out);
     }
     let is_taken = match row {
         Some(row) => take(alloc, row, word, rest)?,
@@ -216,15 +225,15 @@ fn take_line(
 ///
 /// # Errors
 /// Want of memory.
-pub fn run_all(
-    rt: &HostRuntime,
+pub fn run_all<A: Answers>(
     alloc: Global,
     table: &str,
+    answers: &mut A,
     out: &mut Vec<u8>,
 ) -> Result<(), AllocError> {
     let mut row = None;
     for line in table.split('\n') {
-        take_line(rt, alloc, &mut row, line, out)?;
+        take_line(alloc, answers, &mut row, line, out)?;
     }
-    end(rt, alloc, &mut row, out)
+    end(alloc, answers, &mut row, out)
 }

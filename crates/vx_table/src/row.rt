@@ -9,6 +9,8 @@ use vx_rules::Reply;
 pub enum Asks {
     /// What the program puts, and how it ends.
     Run,
+    /// How many questions the program asks.
+    Checks,
     /// How the text is read.
     Parse,
     /// Which token of the text is the first that is not executed.
@@ -89,6 +91,21 @@ impl Row {
             limit: 100_000,
             steps: Vec::new(alloc),
         }
+    }
+
+    /// The words of the command line, the program's name first.
+    ///
+    /// # Errors
+    /// Want of memory.
+    pub fn command(&self, alloc: Global) -> Result<Parts, AllocError> {
+        let mut words = Parts::new(alloc);
+        if self.has_name {
+            words.push(alloc, "vsil")?;
+        }
+        for word in self.words.texts() {
+            words.push(alloc, word)?;
+        }
+        Ok(words)
     }
 
     /// A row that asks this of a text.

@@ -1,6 +1,6 @@
 //! The first s-expression of some bytes: at once, and as they come one by one.
 
-use crate::told::put_line;
+use vx_table::put_line;
 use std::alloc::{AllocError, Global};
 use vx_sexp::{Bytes, Kind, Reading, SexpFault, Token, count_finished, cut, read};
 

@@ -1,7 +1,7 @@
 use Rattle.std.proofs.Common.{rules, subst, sym}
 use Rattle.vx_typing.specs.Typed.{resolved_of}
 use Rattle.vx_verifier.specs.Headline.{Headline}
-use Rattle.vx_commands.proofs.top.report.Goals as goal
+use Rattle.vx_commands.proofs.reports.report.Goals as goal
 
 pub returns-clause-report : goal.returns-clause-report
 returns-clause-report g c = record {

@@ -1,7 +1,7 @@
 use Rattle.std.proofs.Common.{◌∙◌, ap, Err, sym, subst}
 use Rattle.vx_sexp.specs.Pieces.{Reached}
 use Rattle.vx_sexp.proofs.Pieces.{grown}
-use Rattle.vx_rows.proofs.sexps.by_bytes.Goals as goal
+use Rattle.vx_part_rows.proofs.sexps.by_bytes.Goals as goal
 
 pub loop-end-init : goal.loop-end-init
 loop-end-init c = c.new-reading.ensures _

@@ -1,6 +1,6 @@
 //! Fractions, and what is reckoned with them.
 
-use crate::told::put_line;
+use vx_table::put_line;
 use std::alloc::{AllocError, Global};
 use vx_frac::{Frac, Over};
 

@@ -4,7 +4,7 @@ ghost use Rattle.std.specs.Prelude.{◌≡◌, ◌<◌, length};
 ghost use Rattle.vx_graph.specs.Groups.{roots};
 ghost use Rattle.vx_graph.specs.Views.{rows};
 
-use crate::told::put_line;
+use vx_table::put_line;
 use std::alloc::{AllocError, Global};
 use vx_ast::MemberId;
 use vx_graph::{Edges, Groups, all_groups, are_in_range, group, reaches, rests};

@@ -3,8 +3,6 @@
 ghost use Rattle.vx_resolved.specs.Settled.{settled};
 ghost use Rattle.vx_machine.specs.Runs.{Follows};
 
-use crate::row::{Row, Step};
-use crate::told::put_line;
 use std::alloc::{AllocError, Global};
 use vx_ast::MemberId;
 use vx_machine::{Ask, Machine, Outcome};
@@ -17,6 +15,7 @@ use vx_settling::settle;
 use vx_smt_meaning::Command;
 use vx_smt_text::write;
 use vx_stack::Query;
+use vx_table::{Row, Step, put_line};
 use vx_typing::{Typed, check};
 
 // On, with this reply where one is awaited.

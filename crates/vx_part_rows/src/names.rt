@@ -1,11 +1,9 @@
 //! What words mean, and what names stand for.
 
-use crate::answers::words;
-use crate::row::Row;
-use crate::told::put_line;
 use std::alloc::{AllocError, Global};
 use vx_ends::Parts;
 use vx_parser::parse;
+use vx_table::{Row, put_line};
 use vx_typing::{Signature, Typed, check};
 use vx_words::{Order, Text, WordsFault, read_words};
 
@@ -31,6 +29,7 @@ fn order_of(alloc: Global, order: &Order) -> Result<String, AllocError> {
         Order::Check { file } => format!(in alloc; "check {}", file_of(file)),
         Order::Print { file } => format!(in alloc; "print {}", file_of(file)),
         Order::Gen { methods } => format!(in alloc; "gen {methods}"),
+        Order::Work { methods } => format!(in alloc; "work {methods}"),
     }
 }
 
@@ -39,7 +38,7 @@ fn order_of(alloc: Global, order: &Order) -> Result<String, AllocError> {
 /// # Errors
 /// Want of memory.
 pub fn put_order(alloc: Global, row: &Row, out: &mut Vec<u8>) -> Result<(), AllocError> {
-    let words = words(alloc, row)?;
+    let words = row.command(alloc)?;
     match read_words(alloc, &words) {
         Ok(order) => put_line(out, "  ", &order_of(alloc, &order)?),
         Err(WordsFault::Usage) => put_line(out, "  ", "usage"),
