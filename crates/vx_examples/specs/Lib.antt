@@ -6,6 +6,7 @@ pub mod Calls
 pub mod Predicates
 pub mod Functions
 pub mod Told
+pub mod Chained
 pub mod Cells
 pub mod Blocks
 pub mod Mentioned

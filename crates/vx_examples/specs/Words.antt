@@ -95,11 +95,17 @@ second t = applied 4 SnapSort (MoreTerms t NoTerms)
 abbrev pub wrapped_int : Term → Term
 wrapped_int t = applied 5 SnapSort (MoreTerms t NoTerms)
 
+abbrev pub wrapped_real : Term → Term
+wrapped_real t = applied 7 SnapSort (MoreTerms t NoTerms)
+
 abbrev pub wrapped_ref : Term → Term
 wrapped_ref t = applied 8 SnapSort (MoreTerms t NoTerms)
 
 abbrev pub as_int : Term → Term
 as_int t = applied 9 IntSort (MoreTerms t NoTerms)
+
+abbrev pub as_real : Term → Term
+as_real t = applied 11 RealSort (MoreTerms t NoTerms)
 
 abbrev pub as_ref : Term → Term
 as_ref t = applied 12 RefSort (MoreTerms t NoTerms)
