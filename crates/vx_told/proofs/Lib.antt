@@ -10,6 +10,7 @@ pub mod Facts
 pub mod Sides
 pub mod Longer
 pub mod Symbols
+pub mod Promises
 pub mod Applied
 pub mod Depths
 pub mod TypedValues

@@ -2,13 +2,14 @@
 use Rattle.std.proofs.Common.{◌≡◌, ℕ, suc, ◌≤◌, true, List, [], Some, refl, le_of_lt, lt-suc_self, le_refl, ◌∙◌}
 use Rattle.std.specs.Prelude.{Ok}
 use Rattle.vx_frac.specs.Fractions.{none, full}
-use Rattle.vx_ast.specs.Syntax.{Name, Program, Predicate, Function, IsFunction, predicate_named, function_named}
+use Rattle.vx_ast.specs.Syntax.{Name, Program, Predicate, Function, IsFunction, predicate_named, function_named, conjoined}
 use Rattle.vx_smt_meaning.specs.declared.reply.Reply.{Reply}
-use Rattle.vx_meaning.specs.Values.{Value}
+use Rattle.vx_meaning.specs.Values.{Value, BoolValue}
 use Rattle.vx_meaning.specs.States as run
 use Rattle.vx_meaning.specs.States.{bind}
 use Rattle.vx_meaning.specs.Flatten.{bare, entries}
 use Rattle.vx_meaning.specs.Fits.{fit, take, deeper}
+use Rattle.vx_meaning.specs.Fails.{with_result}
 use Rattle.vx_terms.specs.Sorts.{SnapSort}
 use Rattle.vx_terms.specs.Build.{whole_amount}
 use Rattle.vx_terms.specs.Interpretations.{Interpretation, TreeElement, Tree}
@@ -102,9 +103,9 @@ module _ (means : Meaning) (p : Program) (good : GoodBodies p) (Held : Name → 
         let adds = k.start.adds in
         (adds.0, add_alike p (firmly p adds.0) (deeper p adds.0) (firm_exchange p good adds.0) full (precondition_of g) (bare (bind g.parameters vs) h) plain ∙ adds.1 adds.0 (le_refl adds.0))
 
-    -- so an application has its value firmly, where its precondition can be taken and its body fits firmly there
-    pub applied_firmly : function_named p f ≡ Some g → (vs : List Value) (c : run.State) (es rest : run.Holdings) (v : Value) (a b : ℕ) → Started vs c.heap es → take p (firmly p a) (run.with_store (bind g.parameters vs) c) full (precondition_of g) c.holdings ≡ Ok rest →
-        fit p (firmly p b) (start_at vs c.heap es) g.body ≡ Ok v → (m : ℕ) × (firm_application p (firmly p m) f vs c ≡ Some v)
-    applied_firmly named vs c es rest v a b k takes fits =
+    -- so an application has its value firmly, where its precondition can be taken, and there its body fits firmly and its promise is kept
+    pub applied_firmly : function_named p f ≡ Some g → (vs : List Value) (c : run.State) (es rest : run.Holdings) (v : Value) (a b e : ℕ) → Started vs c.heap es → take p (firmly p a) (run.with_store (run.bind g.parameters vs) c) full (precondition_of g) c.holdings ≡ Ok rest →
+        fit p (firmly p b) (start_at vs c.heap es) g.body ≡ Ok v → fit p (firmly p e) (with_result v (start_at vs c.heap es)) (conjoined g.place g.ensures) ≡ Ok (BoolValue true) → (m : ℕ) × (firm_application p (firmly p m) f vs c ≡ Some v)
+    applied_firmly named vs c es rest v a b e k takes fits keeps =
         let s = started_firmly vs c.heap es k in
-        applies_firmly p f g named vs c rest (start_at vs c.heap es) v a s.0 b takes s.1 fits
+        applies_firmly p f g named vs c rest (start_at vs c.heap es) v a s.0 b e takes s.1 fits keeps

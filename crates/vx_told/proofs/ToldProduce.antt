@@ -12,17 +12,17 @@ use Rattle.vx_meaning.specs.Values.{Value, IntValue, BoolValue, RefValue, PermVa
 use Rattle.vx_meaning.specs.States as run
 use Rattle.vx_meaning.specs.Evaluate as plain
 use Rattle.vx_meaning.specs.Flatten.{no_applications, entries, location_entry, instance_entry}
-use Rattle.vx_meaning.specs.Fits.{Checked, ◌>>=◌, Deeper, amount_of, choose, fit, fit_all, field_part, instance_part, add, add_part}
+use Rattle.vx_meaning.specs.Fits.{Checked, Deeper, amount_of, choose, fit, field_part, instance_part, add, add_part}
 use Rattle.vx_terms.specs.Sorts.{RealSort, RefSort, SnapSort}
 use Rattle.vx_terms.specs.Terms.{Term, sort_of, is_name}
 use Rattle.vx_terms.specs.Build.{equals, less_equal, multiply, unit, pair, wrap, first, second, unwrap, zero_amount}
 use Rattle.vx_terms.specs.Interpretations.{Interpretation, TreeElement, Tree, Empty, IsOf, as_bool, as_fraction, value}
 use Rattle.vx_rules.specs.States as rules
-use Rattle.vx_rules.specs.States.{State, sort_of_type, with_fact, is_named, name_of}
+use Rattle.vx_rules.specs.States.{State, sort_of_type, with_fact, is_named}
 use Rattle.vx_rules.specs.Trees.{Step, AmountCode}
 use Rattle.vx_rules.specs.Chunks.{field_key, instance_key, put}
 use Rattle.vx_rules.specs.Rules as rule
-use Rattle.vx_rules.specs.Rules.{Going, Outer, ask, placed, field_sort, produced_value, after_value, produced_snapshot, after_snapshot, with_split, with_unit, eval, evals, produce}
+use Rattle.vx_rules.specs.Rules.{Going, Outer, ask, placed, field_sort, produced_value, after_value, produced_snapshot, after_snapshot, with_split, with_unit, eval, produce}
 use Rattle.vx_types.specs.Typing.{Scope, HaveNoPerm, HasType, IsTyped}
 use Rattle.vx_amounts.proofs.Amounts.{Le, Same, same-lowest', same-trans, product_same, none-full, le-trans}
 use Rattle.vx_amounts.proofs.Products.{product_sign, positive_le}

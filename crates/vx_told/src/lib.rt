@@ -7,10 +7,16 @@ ghost use Rattle.vx_smt_meaning.specs.declared.reply.Reply.{Reply};
 ghost use Rattle.vx_whole.specs.Premises.{IsTypedProgram};
 ghost use Rattle.vx_sound_preds.specs.Covered.{PredicatesPass};
 ghost use Rattle.vx_sound_funcs.specs.Firm.{GoodFunctions};
-ghost use Rattle.vx_told.specs.Means.{SymbolsMeanOne};
+ghost use Rattle.vx_told.specs.Means.{SymbolsMeanOne, PromisesKept};
 
 /// In a typed program where the walks of predicates passed, the symbol of a function means one element at most, at a tree of its
 /// precondition and at its arguments: so an interpretation that knows some applications can know one more.
 pub fn symbols_mean_one()
     ensures { (p : Program) (x : Name) (replies : Name → List Reply) → IsTypedProgram p → GoodFunctions p → PredicatesPass p x replies → SymbolsMeanOne p x }
+{}
+
+/// In a typed program each application that is allowed firmly keeps its promise: the postcondition fits firmly and is true, where just
+/// the precondition is held and `result` is the value.
+pub fn promises_are_kept()
+    ensures { (p : Program) (x : Name) → IsTypedProgram p → GoodFunctions p → PromisesKept p x }
 {}
