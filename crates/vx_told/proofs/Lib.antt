@@ -19,3 +19,6 @@ pub mod Programs
 pub mod Awake
 pub mod Started
 pub mod Grows
+pub mod Trees
+pub mod Gives
+pub mod Allowed
