@@ -32,11 +32,12 @@ CanBe p true c = IsConsistent p c
 CanBe p false c = IsSupported p c
 
 -- What the laws on expressions and assertions need to know of a heap and of what is held there: `Holds`, which says that it
--- is limited and that each instance of which something is held has its tree, and what keeps it.
+-- is limited and that each instance of which something is held has its tree, and what keeps it; and which functions may be applied.
 pub record World : Type 1 where
   pub program : Program
   pub bounded : Bool
   pub Held : Name → Type 0
+  pub Applied : Name → Type 0
   pub proper : (x : Name) (d : Predicate) → Held x → predicate_named program x ≡ Some d → HaveNoPerm d.parameters
   pub Holds : run.Heap → run.Holdings → Type 0
   pub limited : (h : run.Heap) (hs : run.Holdings) → Holds h hs → Limited bounded hs

@@ -225,12 +225,20 @@ module _ (p : Program) (good : GoodBodies p) (Held : Name → Type 0) (bounded :
           clash : ◌≡◌ {A = Bool} true false → ⊥
           clash z = cc
 
--- The world of a typed program, where the instances of some predicates are held.
-abbrev pub instances_world : (p : Program) → GoodBodies p → (Held : Name → Type 0) → ((x : Name) (d : Predicate) → predicate_named p x ≡ Some d → HaveNoPerm d.parameters) → Bool → World
-instances_world p good Held no_perm bounded = record {
+-- what may be applied
+pub record Applying : Type 1 where
+  pub Applied : Name → Type 0
+
+abbrev pub nothing_applied : Applying
+nothing_applied = record { Applied = λ f. ⊥ }
+
+-- The world of a typed program, where the instances of some predicates are held and some functions may be applied.
+abbrev pub functions_world : (p : Program) → GoodBodies p → (Held : Name → Type 0) → ((x : Name) (d : Predicate) → predicate_named p x ≡ Some d → HaveNoPerm d.parameters) → Bool → Applying → World
+functions_world p good Held no_perm bounded applying = record {
   program = p;
   bounded = bounded;
   Held = Held;
+  Applied = applying.Applied;
   proper = λ x d h e. no_perm x d e;
   Holds = HoldsInstances p Held bounded;
   limited = limited p good Held bounded;
@@ -240,3 +248,7 @@ instances_world p good Held no_perm bounded = record {
   tree = tree p good Held bounded;
   single = λ h k t u typed a b. tree_single p h k t u a b;
 }
+
+-- and where none may be
+abbrev pub instances_world : (p : Program) → GoodBodies p → (Held : Name → Type 0) → ((x : Name) (d : Predicate) → predicate_named p x ≡ Some d → HaveNoPerm d.parameters) → Bool → World
+instances_world p good Held no_perm bounded = functions_world p good Held no_perm bounded nothing_applied

@@ -44,7 +44,7 @@ module _ (p : Program) (x : Name) where
 
   module _ (none : NoFunction) where
     mutual
-      expression : {scope : Scope} {e : Expr} {t : ValueType} → HasType p scope e t → AllSeen (mentioned e) → Speaks Held e
+      expression : {scope : Scope} {e : Expr} {t : ValueType} → HasType p scope e t → AllSeen (mentioned e) → Speaks Held (λ f. ⊥) e
       expression (number at n) s = tt
       expression (truth) s = tt
       expression (nulls at) s = tt
@@ -73,11 +73,11 @@ module _ (p : Program) (x : Name) where
             expression h (rights (mentioned_in es ++ mentioned share) (mentioned e) rest),
           )
 
-      expressions : {scope : Scope} {es : Exprs} {ds : List Declaration} → HaveTypes p scope es ds → AllSeen (mentioned_in es) → AllSpeak Held es
+      expressions : {scope : Scope} {es : Exprs} {ds : List Declaration} → HaveTypes p scope es ds → AllSeen (mentioned_in es) → AllSpeak Held (λ f. ⊥) es
       expressions no_more s = tt
       expressions (more {e = e} {es = es} h hs) s = (expression h (lefts (mentioned e) (mentioned_in es) s), expressions hs (rights (mentioned e) (mentioned_in es) s))
 
-    pub assertion : (scope : Scope) (a : Assertion) → IsTyped p scope a → AllSeen (mentioned_by a) → SpeaksOf Held a
+    pub assertion : (scope : Scope) (a : Assertion) → IsTyped p scope a → AllSeen (mentioned_by a) → SpeaksOf Held (λ f. ⊥) a
     assertion scope (Pure e) t s = expression t s
     assertion scope (Points at e f share) t s = (expression t.0 (lefts (mentioned e) (mentioned share) s), expression t.2 (rights (mentioned e) (mentioned share) s))
     assertion scope (Instance at i es share) t s =
@@ -92,7 +92,7 @@ module _ (p : Program) (x : Name) where
           assertion scope b t.2 (rights (mentioned c ++ mentioned_by a) (mentioned_by b) s),
         )
 
-    assertions : (scope : Scope) (rest : List Assertion) → AllTyped p scope rest → AllSeen (mentioned_by_all rest) → AllSpeakOf Held rest
+    assertions : (scope : Scope) (rest : List Assertion) → AllTyped p scope rest → AllSeen (mentioned_by_all rest) → AllSpeakOf Held (λ f. ⊥) rest
     assertions scope [] t s = tt
     assertions scope (a ∷ rest) t s = (assertion scope a t.0 (lefts (mentioned_by a) (mentioned_by_all rest) s), assertions scope rest t.1 (rights (mentioned_by a) (mentioned_by_all rest) s))
 

@@ -10,13 +10,13 @@ use Rattle.vx_sound.specs.Law.{Passes, SoundLaw}
 use Rattle.vx_sound.proofs.Passes.{cleared}
 use Rattle.vx_sound.proofs.Methods.{method_goes}
 use Rattle.vx_types.specs.InstanceLanguage.{IsInstanceMember}
-use Rattle.vx_sound_preds.proofs.Holding.{instances_world}
+use Rattle.vx_sound_preds.proofs.Holding.{nothing_applied, instances_world}
 use Rattle.vx_sound_preds.proofs.Speaking.{predicate_member, good, no_perm, speak}
 use Rattle.vx_sound_preds.proofs.Mentioning.{function_member, NoFunction, method_says}
-use Rattle.vx_sound_preds.proofs.Unfolds.{unfolds_go, unfold_goes}
+use Rattle.vx_sound_preds.proofs.Unfolds.{instances_go, unfold_goes}
 use Rattle.vx_sound_preds.proofs.Folded.{folds_go}
 use Rattle.vx_sound_preds.proofs.Walks.{no_function, predicate_sound, proper_covered}
-use Rattle.vx_sound_preds.proofs.Keeping.{instances_changing}
+use Rattle.vx_sound_preds.proofs.Keeping.{functions_changing}
 
 -- a predicate of a typed program
 pub typed_predicate_sound : (p : Program) (i : Name) (d : Predicate) (replies : List Reply) → IsTypedProgram p → predicate_named p i ≡ Some d → Passes p i (IsPredicate d) replies → Fails p i (IsPredicate d) → ⊥
@@ -37,8 +37,9 @@ member_sound p x (IsMethod m) replies typed named all fails =
     let own = (all x (IsMethod m) itself named).1 in
     let t = typed.methods x m (ap method_in named) in
     let covered = proper_covered p gb x np sp replies (λ i d c e. (all i (IsPredicate d) c (predicate_member (member_named p i) d e)).1) in
-    method_goes no_function (instances_world p gb (InClosure p x) np true) (instances_changing p gb x np covered) (unfolds_go no_function p gb (InClosure p x) np true sp) (folds_go no_function p gb (InClosure p x) np sp)
-    (unfold_goes no_function p gb (InClosure p x) np true sp) m t (method_says p x none typed gb np m named t) (cleared (method_tree p m) (replies x) own.0 own.1) fails.0 fails.1
+    let parts = instances_go no_function p gb (InClosure p x) np true sp in
+    method_goes no_function (instances_world p gb (InClosure p x) np true) (functions_changing p gb x np covered nothing_applied) parts (folds_go no_function p gb (InClosure p x) np nothing_applied sp parts)
+    (unfold_goes no_function p gb (InClosure p x) np true nothing_applied sp parts) m t (method_says p x none typed gb np m named t) (cleared (method_tree p m) (replies x) own.0 own.1) fails.0 fails.1
 
 pub instance_members_sound : SoundLaw IsInstanceMember
 instance_members_sound p x k replies = member_sound p x k replies
