@@ -42,7 +42,7 @@ use Rattle.vx_sound_preds.proofs.Frames.{entries_positive}
 use Rattle.vx_sound_preds.proofs.Entries.{entries_typed}
 use Rattle.vx_sound_preds.proofs.Exchanging.{held_rigid}
 use Rattle.vx_sound_preds.proofs.Produced.{fine_state}
-use Rattle.vx_sound_preds.proofs.Holding.{HoldsInstances, TypedAll, all_single, typed_rigid, typed_added, added_debts, stock, lower, nothing, instances_world}
+use Rattle.vx_sound_preds.proofs.Holding.{HoldsInstances, TypedAll, all_single, typed_rigid, typed_added, added_debts, stock, lower, nothing, nothing_applied, instances_world}
 use Rattle.vx_sound_funcs.specs.Told.{IsTreeOf, precondition_of}
 use Rattle.vx_sound_funcs.specs.Firm.{start_of, firm_application, firmly, GoodFunctions}
 use Rattle.vx_sound_funcs.proofs.Alike.{firm_open}
@@ -67,7 +67,7 @@ use Rattle.vx_told.proofs.Worth.{Worth, worth_later, worth_seen, worth_snap}
 pub record Spoken (p : Program) (Held : Name → Type 0) (g : Function) : Type 0 where
   pub typed : IsTypedFunction p g
   pub requires : SpeaksOf Held (precondition_of g)
-  pub instances : instances.SpeaksOf Held (precondition_of g)
+  pub instances : instances.SpeaksOf Held (λ f. ⊥) (precondition_of g)
   pub body : Speaks Held g.body
   pub ensures : Speaks Held (conjoined g.place g.ensures)
   pub result : (g.of ≡ Perm) → ⊥
@@ -264,7 +264,7 @@ module _ (means : Meaning) (p : Program) (good : GoodBodies p) (functions : Good
             (record { symbolic_name = refl; name = refl; typed = a.typed; good = a.good_term; value_is = a.is }))
 
         adds : Adds p full a.begun.entries_of (bare (run.bind g.parameters vs ++ (result_name, v) ∷ []) c.heap) a.promised.state
-        adds = add_adds p full none-full (firmly p a.promised.fuel) (firm_open p good a.promised.fuel) (precondition_of g) inside a.promised.state b.entries_of plain (fine_state means p good Held no_perm true np stands.stands) listed b.can a.promised.adds
+        adds = add_adds p full none-full (firmly p a.promised.fuel) (firm_open p good a.promised.fuel) (precondition_of g) inside a.promised.state b.entries_of plain (fine_state means p good Held no_perm true nothing_applied np stands.stands) listed b.can a.promised.adds
 
     -- what is told of the function is added
     pub record Grown (scope : Scope) (i : Interpretation) (s : State) (c : run.State) : Type 0 where
