@@ -98,7 +98,7 @@ module _ (means : Meaning) (world : World) where
   -- with the holdings and chunks of another state
   pub stands_at : {scope : Scope} {i : Interpretation} {s : rules.State} {rest : run.Holdings} (c : run.State) (chunks : rules.Heap) → Stands means world scope i s (run.with_holdings rest c) → HeapStands means world s.next i chunks c.heap c.holdings → world.Holds c.heap c.holdings →
       Stands means world scope i (rules.with_heap chunks s) c
-  stands_at c chunks st h b = record { store = st.store; path = st.path; heap = h; old = st.old; awake = st.awake; bounded = st.bounded; null = st.null; standard = st.standard; holds = b; old_holds = st.old_holds }
+  stands_at c chunks st h b = record { store = st.store; path = st.path; heap = h; old = st.old; awake = st.awake; bounded = st.bounded; null = st.null; standard = st.standard; owned = st.owned; holds = b; old_holds = st.old_holds }
 
   module _ (o : Outer) (parts : PartsGo means world o) where
     with_fact_goes : {scope : Scope} {i : Interpretation} {n : ℕ} {c : run.State} {e : Expr} (on : Going) (r : Evaluates means world scope i n (λ t s1. Step (on (rules.with_fact t s1))) c e type.Bool) →

@@ -56,6 +56,7 @@ module _ (means : Meaning) (world : World) (m : Method) (contract : HasContract 
     bounded = st.bounded;
     null = st.null;
     standard = st.standard;
+    owned = st.owned;
     holds = st.holds;
     old_holds = st.old_holds;
   }
@@ -86,6 +87,7 @@ module _ (means : Meaning) (world : World) (m : Method) (contract : HasContract 
           bounded = r.goes.stands.bounded;
           null = r.goes.stands.null;
           standard = r.goes.stands.standard;
+          owned = r.goes.stands.owned;
           holds = changing.changed (run.with_holdings r.left c) heap same r.goes.stands.holds;
           old_holds = st.holds;
         }
@@ -137,6 +139,7 @@ module _ (means : Meaning) (world : World) (m : Method) (contract : HasContract 
                 bounded = q.stands.bounded;
                 null = q.stands.null;
                 standard = q.stands.standard;
+                owned = q.stands.owned;
                 holds = q.stands.holds;
                 old_holds = st.old_holds;
               };

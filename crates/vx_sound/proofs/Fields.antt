@@ -1,5 +1,5 @@
 -- Where no instance can be held: at most the whole of each location is, and nothing of null.
-use Rattle.std.proofs.Common.{◌≡◌, ℕ, Bool, true, false, cond, [], ◌∷◌, refl, sym, ◌∙◌, ap, subst}
+use Rattle.std.proofs.Common.{◌≡◌, ℕ, Bool, true, false, cond, [], ◌∷◌, None, refl, sym, ◌∙◌, ap, subst}
 use Rattle.vx_frac.specs.Fractions.{Fraction, none, full, sum, minus}
 use Rattle.vx_ast.specs.Syntax.{Name, Program}
 use Rattle.vx_meaning.specs.States as run
@@ -62,6 +62,7 @@ fields_world p = record {
   bounded = true;
   Held = λ x. ⊥;
   Applied = λ f. ⊥;
+  own = None;
   proper = λ x d h e. absurd h;
   Holds = λ h hs. HoldsFields hs;
   limited = λ h hs k. k.limited;
@@ -83,6 +84,7 @@ fields_world p = record {
 pub fields_changing : (p : Program) → Changing (fields_world p)
 fields_changing p = record {
   bounded = refl;
+  of_no_function = refl;
   changed = λ c g same k. k;
   changed_tree = λ c g same k o typed pos t tr. absurd typed.0;
   changed_total = λ c g same k n l. (n, le-is (ap (λ (hs : run.Holdings). run.amount hs (run.At l)) (spread_only p n g c.holdings k.only ∙ sym (spread_only p n c.heap c.holdings k.only))));

@@ -210,6 +210,7 @@ module _ (means : Meaning) (world : World) where
             bounded = r.goes.stands.bounded;
             null = r.goes.stands.null;
             standard = r.goes.stands.standard;
+            owned = r.goes.stands.owned;
             holds = changing.changed (run.with_holdings r.left c) heap same r.goes.stands.holds;
             old_holds = r.goes.stands.old_holds;
           };
@@ -331,6 +332,7 @@ module _ (means : Meaning) (world : World) where
             bounded = n.stands.bounded;
             null = n.stands.null;
             standard = n.stands.standard;
+            owned = n.stands.owned;
             holds = changing.written c.heap c.holdings (at_field reference.0 f) q.result st.holds enough;
             old_holds = n.stands.old_holds;
           };
@@ -529,6 +531,7 @@ module _ (means : Meaning) (world : World) where
               bounded = f.stands.bounded;
               null = f.stands.null;
               standard = f.stands.standard;
+              owned = f.stands.owned;
               holds = world.nothing heap;
               old_holds = f.stands.old_holds;
             } in
@@ -573,6 +576,7 @@ module _ (means : Meaning) (world : World) where
               bounded = d.bounded;
               null = d.null;
               standard = d.standard;
+              owned = d.owned;
               holds = changing.changed (run.with_holdings r.left c) heap same d.holds;
               old_holds = d.old_holds;
             } in

@@ -147,6 +147,7 @@ module _ (means : Meaning) (p : Program) (good : GoodBodies p) (Held : Name → 
       bounded = st.bounded;
       null = st.null;
       standard = st.standard;
+      owned = st.owned;
       holds = st.holds;
       old_holds = st.old_holds;
     }
@@ -179,6 +180,7 @@ module _ (means : Meaning) (p : Program) (good : GoodBodies p) (Held : Name → 
           bounded = r.goes.stands.bounded;
           null = r.goes.stands.null;
           standard = r.goes.stands.standard;
+          owned = r.goes.stands.owned;
           holds = r.goes.stands.holds;
           old_holds = r.goes.stands.old_holds;
         }

@@ -1,5 +1,5 @@
 -- Where bodies are covered, changes of what isn't held, writes and new locations keep what is known of what is held.
-use Rattle.std.proofs.Common.{◌≡◌, ℕ, Bool, true, false, cond, [], ◌∷◌, Some, refl, sym, ◌∙◌, ap, subst}
+use Rattle.std.proofs.Common.{◌≡◌, ℕ, Bool, true, false, cond, [], ◌∷◌, Some, None, refl, sym, ◌∙◌, ap, subst}
 use Rattle.vx_frac.specs.Fractions.{none, full, sum}
 use Rattle.vx_ast.specs.Syntax.{Name, Program, Predicate, predicate_named}
 use Rattle.vx_meaning.specs.Values.{Value}
@@ -84,9 +84,10 @@ module _ (p : Program) (good : GoodBodies p) (x : Name) (no_perm : (x : Name) (d
       high n m true e = le-trans (add-left full (subst (λ k. Le (total p n h hs k) none) (sym (location_is m l e)) (z n))) (le-trans (sum_comm full none).there (none-sum full).there)
       high n m false e = st.most refl n m
 
-  pub functions_changing : Changing world
-  functions_changing = record {
+  pub functions_changing : applying.own ≡ None → Changing world
+  functions_changing none = record {
     bounded = refl;
+    of_no_function = none;
     changed = λ c g ch st. kept c st g (by_change c st g ch);
     changed_tree = λ c g ch st k typed pos t tr. tree_kept p good c g (stocked c st) (by_change c st g ch) k pos t tr;
     changed_total = λ c g ch st n l. total_kept p good c g (stocked c st) (by_change c st g ch) n l;

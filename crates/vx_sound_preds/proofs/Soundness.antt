@@ -1,5 +1,5 @@
 -- The law of the part with predicates: where the walks of all that a member leads to passed, it doesn't fail.
-use Rattle.std.proofs.Common.{◌≡◌, true, List, Some, ap}
+use Rattle.std.proofs.Common.{◌≡◌, true, List, Some, refl, ap}
 use Rattle.vx_ast.specs.Syntax.{Name, Program, Kind, IsField, IsPredicate, IsFunction, IsMethod, Predicate, member_named, predicate_named, method_in, predicate_in}
 use Rattle.vx_smt_meaning.specs.declared.reply.Reply.{Reply}
 use Rattle.vx_rules.specs.Members.{method_tree}
@@ -38,7 +38,7 @@ member_sound p x (IsMethod m) replies typed named all fails =
     let t = typed.methods x m (ap method_in named) in
     let covered = proper_covered p gb x np sp replies (λ i d c e. (all i (IsPredicate d) c (predicate_member (member_named p i) d e)).1) in
     let parts = instances_go no_function p gb (InClosure p x) np true sp in
-    method_goes no_function (instances_world p gb (InClosure p x) np true) (functions_changing p gb x np covered nothing_applied) parts (folds_go no_function p gb (InClosure p x) np nothing_applied sp parts)
+    method_goes no_function (instances_world p gb (InClosure p x) np true) (functions_changing p gb x np covered nothing_applied refl) parts (folds_go no_function p gb (InClosure p x) np nothing_applied sp parts)
     (unfold_goes no_function p gb (InClosure p x) np true nothing_applied sp parts) m t (method_says p x none typed gb np m named t) (cleared (method_tree p m) (replies x) own.0 own.1) fails.0 fails.1
 
 pub instance_members_sound : SoundLaw IsInstanceMember

@@ -86,6 +86,7 @@ module _ (means : Meaning) (p : Program) (good : GoodBodies p) (Held : Name → 
         bounded = t.stands.bounded;
         null = t.stands.null;
         standard = t.stands.standard;
+        owned = t.stands.owned;
         holds = t.stands.holds;
         old_holds = t.stands.old_holds;
       }
@@ -117,6 +118,7 @@ module _ (means : Meaning) (p : Program) (good : GoodBodies p) (Held : Name → 
           bounded = r.goes.stands.bounded;
           null = r.goes.stands.null;
           standard = r.goes.stands.standard;
+          owned = r.goes.stands.owned;
           holds = r.goes.stands.holds;
           old_holds = r.goes.stands.old_holds;
         };

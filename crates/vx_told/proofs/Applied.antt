@@ -169,6 +169,7 @@ module _ (means : Meaning) (p : Program) (good : GoodBodies p) (functions : Good
             bounded = z.bounded;
             null = z.null;
             standard = z.standard;
+            owned = z.owned;
             holds = nothing p good Held true c.heap;
             old_holds = nothing p good Held true c.heap;
           };
@@ -375,6 +376,7 @@ module _ (means : Meaning) (p : Program) (good : GoodBodies p) (functions : Good
               bounded = z.bounded;
               null = z.null;
               standard = z.standard;
+              owned = z.owned;
               holds = y.holds;
               old_holds = z.old_holds;
             });
@@ -472,7 +474,7 @@ module _ (means : Meaning) (p : Program) (good : GoodBodies p) (functions : Good
           still = (let z = here.still in record { next = z.next; level = z.level; path = z.path });
           quietly = record {
             stands = (let z = here.quietly.stands in
-                record { store = bound means world n i g.parameters ts vs each; path = z.path; heap = z.heap; old = z.old; awake = z.awake; bounded = z.bounded; null = z.null; standard = z.standard; holds = z.holds; old_holds = z.old_holds });
+                record { store = bound means world n i g.parameters ts vs each; path = z.path; heap = z.heap; old = z.old; awake = z.awake; bounded = z.bounded; null = z.null; standard = z.standard; owned = z.owned; holds = z.holds; old_holds = z.old_holds });
           };
         }
 

@@ -188,7 +188,7 @@ module _ (means : Meaning) (p : Program) (good : GoodBodies p) (Held : Name → 
             let st = t.on.quietly.stands in
             let on1 : On means world n w keys.predicate.parameters i (record (entered (rules.bind keys.predicate.parameters ts) at s1) { inner = leads_inside ch }) (start c record { predicate = x; arguments = vs } keys.predicate q) = record {
               still = (let z = t.on.still in record { next = z.next; level = z.level; path = z.path });
-              quietly = record { stands = record { store = bound means world n i pd.parameters ts vs keys.each; path = st.path; heap = st.heap; old = st.old; awake = st.awake; bounded = st.bounded; null = st.null; standard = st.standard; holds = st.holds; old_holds = st.old_holds } };
+              quietly = record { stands = record { store = bound means world n i pd.parameters ts vs keys.each; path = st.path; heap = st.heap; old = st.old; awake = st.awake; bounded = st.bounded; null = st.null; standard = st.standard; owned = st.owned; holds = st.holds; old_holds = st.old_holds } };
             } in
             gives q steps.body pd.parameters inner steps.given opening.entries_of keys.no_perm parts.0 parts.1 plain listed opening.can (holds st.holds) steps.adds i (record (entered (rules.bind pd.parameters ts) at s1) { inner = leads_inside ch }) a ch.value wo.0 (λ s2. on (back s s2)) wo.1
             (record { good = ga; is = same; positive = pos }) on1
@@ -198,7 +198,7 @@ module _ (means : Meaning) (p : Program) (good : GoodBodies p) (Held : Name → 
               still = (let y = on2.still in record { next = y.next; level = y.level; path = y.path });
               quietly = record {
                 stands = subst (λ c'. Stands means world scope j (woken n (back s s2)) c') (given_is keys.no_perm on1)
-                    (record { store = store_later means world (le_refl n) ext scope s.store c.store here.quietly.stands.store; path = z.path; heap = z.heap; old = z.old; awake = z.awake; bounded = z.bounded; null = z.null; standard = z.standard; holds = z.holds; old_holds = z.old_holds });
+                    (record { store = store_later means world (le_refl n) ext scope s.store c.store here.quietly.stands.store; path = z.path; heap = z.heap; old = z.old; awake = z.awake; bounded = z.bounded; null = z.null; standard = z.standard; owned = z.owned; holds = z.holds; old_holds = z.old_holds });
               };
             }))
             (λ j s2 f. off j (back s s2) (off_still means world n w f (record { next = refl; level = refl; path = ([], append_nil s2.path) })))
