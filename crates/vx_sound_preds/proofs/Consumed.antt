@@ -22,7 +22,7 @@ use Rattle.vx_sound.proofs.Speaks.{SpeaksOf}
 use Rattle.vx_sound.proofs.Passes.{Cleared}
 use Rattle.vx_sound.proofs.Stands.{TermsStand, Stands, store_later, heap_later}
 use Rattle.vx_sound.proofs.Goes.{stuck, Named, named}
-use Rattle.vx_sound.proofs.Arguments.{bound}
+use Rattle.vx_sound.proofs.Arguments.{stands_entered}
 use Rattle.vx_sound.proofs.Evaluate.{PartsGo}
 use Rattle.vx_sound.proofs.Giving.{whole_scale}
 use Rattle.vx_sound.proofs.Assertions.{Consumes, consumed}
@@ -58,19 +58,7 @@ module _ (means : Meaning) (p : Program) (good : GoodBodies p) (Held : Name → 
     inside = run.with_store (run.bind ds vs) c
 
     inner_stands : Stands means world ds i (entered (rules.bind ds ts) at s) (run.with_store (run.bind ds vs) c)
-    inner_stands = record {
-      store = bound means world s.next i ds ts vs each;
-      path = st.path;
-      heap = st.heap;
-      old = st.old;
-      awake = st.awake;
-      bounded = st.bounded;
-      null = st.null;
-      standard = st.standard;
-      owned = st.owned;
-      holds = st.holds;
-      old_holds = st.old_holds;
-    }
+    inner_stands = stands_entered means world at ds ts vs each st
 
     -- over the rules for parts, which go
     consumed_by : (n : ℕ) (parts : PartsGo means world (outer p n)) → Cleared ((outer p (suc n)).consume a x whole_amount s.heap (entered (rules.bind ds ts) at s) (put_back s on)) → Consumed scope i s.next on c inside a

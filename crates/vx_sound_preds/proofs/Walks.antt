@@ -27,7 +27,7 @@ use Rattle.vx_sound.specs.Law.{Passes}
 use Rattle.vx_sound.proofs.World.{World}
 use Rattle.vx_sound.proofs.Standard.{start as start_interpretation, start_null, start_standard}
 use Rattle.vx_sound.proofs.Passes.{Cleared, cleared}
-use Rattle.vx_sound.proofs.Stands.{Stands, of_none}
+use Rattle.vx_sound.proofs.Stands.{Stands}
 use Rattle.vx_sound.proofs.Goes.{Goes, declared_all}
 use Rattle.vx_sound.proofs.Evaluate.{PartsGo}
 use Rattle.vx_sound.proofs.Giving.{whole_scale}
@@ -126,7 +126,7 @@ module _ (means : Meaning) (p : Program) (good : GoodBodies p) (Held : Name → 
       bounded = refl;
       null = start_null;
       standard = start_standard;
-      owned = of_none means loose refl;
+      owned = tt;
       holds = nothing p good Held false h;
       old_holds = nothing p good Held false h;
     }

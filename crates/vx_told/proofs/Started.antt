@@ -23,7 +23,7 @@ use Rattle.vx_sound.specs.Law.{Passes}
 use Rattle.vx_sound.proofs.World.{World}
 use Rattle.vx_sound.proofs.Standard.{start as start_interpretation, start_null, start_standard, variable_written}
 use Rattle.vx_sound.proofs.Passes.{Cleared, cleared}
-use Rattle.vx_sound.proofs.Stands.{Stands, of_none, stands_later}
+use Rattle.vx_sound.proofs.Stands.{Stands, stands_later}
 use Rattle.vx_sound.proofs.Goes.{Goes, declared_all, good_fresh}
 use Rattle.vx_sound.proofs.Evaluate.{PartsGo}
 use Rattle.vx_sound.proofs.Giving.{whole_scale}
@@ -57,7 +57,7 @@ module _ (means : Meaning) (p : Program) (good : GoodBodies p) (Held : Name → 
     bounded = refl;
     null = start_null;
     standard = start_standard;
-    owned = of_none means world refl;
+    owned = tt;
     holds = nothing p good Held true h;
     old_holds = nothing p good Held true h;
   }
