@@ -24,6 +24,7 @@ pub mod Unfolds
 pub mod Trees
 pub mod Folded
 pub mod Consumed
+pub mod Applied
 pub mod Speaking
 pub mod Mentioning
 pub mod Walks

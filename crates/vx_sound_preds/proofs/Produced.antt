@@ -94,7 +94,7 @@ module _ (means : Meaning) (p : Program) (good : GoodBodies p) (Held : Name → 
   IsSnapshotOf n i c a None = Unit {0}
   IsSnapshotOf n i c a (Some t) = SnapshotOf n i c a t
 
-  snapshot_later : (m n : ℕ) (i j : Interpretation) (c : run.State) (a : Assertion) (snapshot : Option Term) → m ≤ n → Extends means m i j → IsSnapshotOf m i c a snapshot → IsSnapshotOf n j c a snapshot
+  pub snapshot_later : (m n : ℕ) (i j : Interpretation) (c : run.State) (a : Assertion) (snapshot : Option Term) → m ≤ n → Extends means m i j → IsSnapshotOf m i c a snapshot → IsSnapshotOf n j c a snapshot
   snapshot_later m n i j c a None le x k = tt
   snapshot_later m n i j c a (Some t) le x k = record { good_term = good_later means le x k.good_term; written = k.written; fuel = k.fuel; tree = k.tree; is = k.is; value_is = value_kept means t k.good_term.settled x ∙ k.value_is }
 
