@@ -19,7 +19,7 @@ use Rattle.vx_elements.proofs.Cases.{store_method}
 use Rattle.vx_sound.proofs.Says.{method_says as fields_say}
 use Rattle.vx_sound.proofs.Contracts.{field_method_speaks}
 use Rattle.vx_sound.proofs.Fields.{fields_world}
-use Rattle.vx_sound_preds.proofs.Holding.{instances_world}
+use Rattle.vx_sound_preds.proofs.Holding.{nothing_applied, instances_world}
 use Rattle.vx_sound_preds.proofs.Speaking.{good, no_perm, speak}
 use Rattle.vx_sound_preds.proofs.Mentioning.{function_member, NoFunction, method_says}
 use Rattle.vx_live.specs.Functions.{function_symbol, symbols_from, with_kind, function_symbols}
@@ -72,7 +72,7 @@ instances_live p x k typed named all = go k named
         let gb = good p x typed in
         let np = no_perm p x typed in
         let t = typed.methods x m (ap method_in named) in
-        method_live tt p (InClosure p x) spoken m t (method (instances_world p gb (InClosure p x) np true) (λ f k. absurd k) m (method_says p x none typed gb np m named t))
+        method_live tt p (InClosure p x) spoken m t (method (instances_world p gb (InClosure p x) np true) (λ f k. absurd k) m (method_says p x nothing_applied none typed gb np m named t))
 
 is_instance : (k : Kind) → IsCallingMember k → IsInstanceMember k
 is_instance (IsField t) c = tt
