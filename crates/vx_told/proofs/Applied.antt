@@ -42,7 +42,7 @@ use Rattle.vx_sound_preds.proofs.Frames.{entries_positive}
 use Rattle.vx_sound_preds.proofs.Entries.{entries_typed}
 use Rattle.vx_sound_preds.proofs.Exchanging.{held_rigid}
 use Rattle.vx_sound_preds.proofs.Produced.{fine_state}
-use Rattle.vx_sound_preds.proofs.Holding.{HoldsInstances, TypedAll, all_single, typed_rigid, typed_added, added_debts, stock, lower, nothing, instances_world}
+use Rattle.vx_sound_preds.proofs.Holding.{HoldsInstances, TypedAll, all_single, typed_rigid, typed_added, added_debts, stock, lower, nothing, nothing_applied, instances_world}
 use Rattle.vx_sound_funcs.specs.Told.{IsTreeOf, precondition_of}
 use Rattle.vx_sound_funcs.specs.Firm.{firm_application, firmly, GoodFunctions}
 use Rattle.vx_sound_funcs.proofs.Alike.{firm_open}
@@ -69,7 +69,7 @@ use Rattle.vx_told.proofs.Worth.{Worth, worth_later, worth_seen, worth_snap}
 pub record Spoken (p : Program) (Held : Name → Type 0) (g : Function) : Type 0 where
   pub typed : IsTypedFunction p g
   pub requires : SpeaksOf Held (precondition_of g)
-  pub instances : instances.SpeaksOf Held (precondition_of g)
+  pub instances : instances.SpeaksOf Held (λ f. ⊥) (precondition_of g)
   pub body : Speaks Held g.body
   pub ensures : Speaks Held (conjoined g.place g.ensures)
   pub result : (g.of ≡ Perm) → ⊥
@@ -155,6 +155,7 @@ module _ (means : Meaning) (p : Program) (good : GoodBodies p) (functions : Good
             bounded = z.bounded;
             null = z.null;
             standard = z.standard;
+            owned = z.owned;
             holds = nothing p good Held true c.heap;
             old_holds = nothing p good Held true c.heap;
           };
@@ -250,7 +251,7 @@ module _ (means : Meaning) (p : Program) (good : GoodBodies p) (functions : Good
             (record { symbolic_name = refl; name = refl; typed = a.typed; good = a.good_term; value_is = a.is }))
 
         adds : Adds p full a.begun.entries_of (bare (run.bind g.parameters vs ++ (result_name, v) ∷ []) c.heap) a.promised.state
-        adds = add_adds p full none-full (firmly p a.promised.fuel) (firm_open p good a.promised.fuel) (precondition_of g) inside a.promised.state b.entries_of plain (fine_state means p good Held no_perm true np stands.stands) listed b.can a.promised.adds
+        adds = add_adds p full none-full (firmly p a.promised.fuel) (firm_open p good a.promised.fuel) (precondition_of g) inside a.promised.state b.entries_of plain (fine_state means p good Held no_perm true nothing_applied np stands.stands) listed b.can a.promised.adds
 
     -- what is told of the function is added
     pub record Grown (scope : Scope) (i : Interpretation) (s : State) (c : run.State) : Type 0 where
@@ -361,6 +362,7 @@ module _ (means : Meaning) (p : Program) (good : GoodBodies p) (functions : Good
               bounded = z.bounded;
               null = z.null;
               standard = z.standard;
+              owned = z.owned;
               holds = y.holds;
               old_holds = z.old_holds;
             });
@@ -458,7 +460,7 @@ module _ (means : Meaning) (p : Program) (good : GoodBodies p) (functions : Good
           still = (let z = here.still in record { next = z.next; level = z.level; path = z.path });
           quietly = record {
             stands = (let z = here.quietly.stands in
-                record { store = bound means world n i g.parameters ts vs each; path = z.path; heap = z.heap; old = z.old; awake = z.awake; bounded = z.bounded; null = z.null; standard = z.standard; holds = z.holds; old_holds = z.old_holds });
+                record { store = bound means world n i g.parameters ts vs each; path = z.path; heap = z.heap; old = z.old; awake = z.awake; bounded = z.bounded; null = z.null; standard = z.standard; owned = z.owned; holds = z.holds; old_holds = z.old_holds });
           };
         }
 

@@ -75,7 +75,7 @@ module _ (p : Program) (x : Name) where
   parts_seen f g held named y s = further held (subst (λ (o : Option Kind). Stands y (mentioned_by_kind p o)) (sym (function_member (member_named p f) g named)) (on_left y (mentioned_by_function g) (mentioned_by_measure g.decreases) s))
 
   module _ (functions : GoodFunctions p) where
-    pub asked : (f : Name) (g : Function) → InClosure p x f → function_named p f ≡ Some g → instances.SpeaksOf (InClosure p x) (precondition_of g)
+    pub asked : (f : Name) (g : Function) → InClosure p x f → function_named p f ≡ Some g → instances.SpeaksOf (InClosure p x) (λ f. ⊥) (precondition_of g)
     asked f g held named =
         let parts = parts_seen f g held named in
         plain_body p x (precondition_of g) (functions.asks f g named)
@@ -87,7 +87,7 @@ module _ (p : Program) (x : Name) where
         let parts = parts_seen f g held named in
         record {
           typed = typed.functions f g named;
-          requires = assertion (InClosure p x) (precondition_of g) (asked functions f g held named);
+          requires = assertion (InClosure p x) (λ f. ⊥) (λ f k. absurd k) (precondition_of g) (asked functions f g held named);
           instances = asked functions f g held named;
           body = speaks g.body (lefts p x (mentioned g.body) (flat_map mentioned_by g.requires) (lefts p x (mentioned g.body ++ flat_map mentioned_by g.requires) (flat_map mentioned g.ensures) parts));
           ensures = conjoined_speaks (InClosure p x) g.place g.ensures (each_speaks g.ensures (rights p x (mentioned g.body ++ flat_map mentioned_by g.requires) (flat_map mentioned g.ensures) parts));
@@ -103,8 +103,8 @@ module _ (p : Program) (x : Name) where
       }
 
       -- what a predicate's body mentions, too
-      bodies : (i : Name) (d : Predicate) (e : Assertion) → InClosure p x i → predicate_named p i ≡ Some d → d.body ≡ Some e → IsTyped p d.parameters e × SpeaksOf (InClosure p x) e × instances.SpeaksOf (InClosure p x) e
-      bodies i d e held named body = let k = speak p x typed i d e held named body in (k.0, assertion (InClosure p x) e k.1, k.1)
+      bodies : (i : Name) (d : Predicate) (e : Assertion) → InClosure p x i → predicate_named p i ≡ Some d → d.body ≡ Some e → IsTyped p d.parameters e × SpeaksOf (InClosure p x) e × instances.SpeaksOf (InClosure p x) (λ f. ⊥) e
+      bodies i d e held named body = let k = speak p x typed i d e held named body in (k.0, assertion (InClosure p x) (λ f. ⊥) (λ f k. absurd k) e k.1, k.1)
 
       pub closure_told : (n k m : ℕ) → AllTold (Means p x) p (good p x typed) (InClosure p x) (no_perm p x typed) n (outer p k) (firmly p m)
       closure_told n k m = all_told (Means p x) p (good p x typed) functions (InClosure p x) (no_perm p x typed) n bodies spoken knows k m

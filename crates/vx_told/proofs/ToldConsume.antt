@@ -82,7 +82,7 @@ module _ (means : Meaning) (p : Program) (good : GoodBodies p) (Held : Name → 
   reading : {scope : Scope} {i : Interpretation} {s : State} {c : run.State} {hs : run.Holdings} {h : rules.Heap} → Here scope i s (run.with_holdings hs c) → Reads i h c → Here scope i (with_heap h s) c
   reading here r = record {
     still = (let z = here.still in record { next = z.next; level = z.level; path = z.path });
-    quietly = record { stands = (let st = here.quietly.stands in record { store = st.store; path = st.path; heap = r.heap; old = st.old; awake = st.awake; bounded = st.bounded; null = st.null; standard = st.standard; holds = r.holds; old_holds = st.old_holds }) };
+    quietly = record { stands = (let st = here.quietly.stands in record { store = st.store; path = st.path; heap = r.heap; old = st.old; awake = st.awake; bounded = st.bounded; null = st.null; standard = st.standard; owned = st.owned; holds = r.holds; old_holds = st.old_holds }) };
   }
 
   switched : {scope : Scope} {i j : Interpretation} {s s1 : State} {c : run.State} {hs : run.Holdings} → Extends means n i j → Here scope i s (run.with_holdings hs c) → Here scope j s1 c → Here scope j (with_heap s.heap s1) (run.with_holdings hs c)
@@ -98,6 +98,7 @@ module _ (means : Meaning) (p : Program) (good : GoodBodies p) (Held : Name → 
         bounded = st.bounded;
         null = st.null;
         standard = st.standard;
+        owned = st.owned;
         holds = here.quietly.stands.holds;
         old_holds = st.old_holds;
       });

@@ -44,7 +44,7 @@ use Rattle.vx_sound_preds.proofs.Looks.{Sees}
 use Rattle.vx_sound_preds.proofs.Framing.{FieldParts, InstanceParts, field_parts, instance_parts, entries_seen}
 use Rattle.vx_sound_preds.proofs.Adding.{Fine, AreEntries, Adds, added, added_append, value_here, values_here, add_adds}
 use Rattle.vx_sound_preds.proofs.Frames.{entries_positive}
-use Rattle.vx_sound_preds.proofs.Holding.{HoldsInstances, added_debts, fewer, instances_world}
+use Rattle.vx_sound_preds.proofs.Holding.{HoldsInstances, added_debts, fewer, nothing_applied, instances_world}
 use Rattle.vx_sound_preds.proofs.Produced.{fine_state}
 use Rattle.vx_live.proofs.Speaks.{Speaks, SpeaksOf}
 use Rattle.vx_live.proofs.Quiet.{Quiet, OuterLeft, after, ask_left, amount_left, produce_left, fact_still, put_still, value_still, name_still, unit_still, split_still, fork_left}
@@ -103,7 +103,7 @@ module _ (means : Meaning) (p : Program) (good : GoodBodies p) (Held : Name → 
     Here scope i s c = On means world n w scope i s c
 
     pub fine_here : {scope : Scope} {i : Interpretation} {s : State} {c : run.State} → HaveNoPerm scope → Here scope i s c → Fine p c
-    fine_here np here = fine_state means p good Held no_perm true np here.quietly.stands
+    fine_here np here = fine_state means p good Held no_perm true nothing_applied np here.quietly.stands
 
     -- what fits has its value without looking at what is held
     pub now : (c : run.State) (e : Expr) (v : Value) → Fine p c → IsPlain e → fit p d c e ≡ Ok v → plain.value p no_applications c e ≡ Some v
