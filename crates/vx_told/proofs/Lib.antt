@@ -22,3 +22,5 @@ pub mod Grows
 pub mod Trees
 pub mod Gives
 pub mod Allowed
+pub mod Stripped
+pub mod Measures

@@ -9,6 +9,7 @@ ghost use Rattle.vx_sound_preds.specs.Covered.{PredicatesPass};
 ghost use Rattle.vx_sound_funcs.specs.Firm.{GoodFunctions};
 ghost use Rattle.vx_told.specs.Allowed.{TakenIsAllowed};
 ghost use Rattle.vx_told.specs.Means.{SymbolsMeanOne, PromisesKept};
+ghost use Rattle.vx_told.specs.Measures.{MeasuresEnd};
 ghost use Rattle.vx_told.specs.Walks.{FunctionsPass};
 
 /// In a typed program where the walks of predicates passed, the symbol of a function means one element at most, at a tree of its
@@ -27,4 +28,10 @@ pub fn promises_are_kept()
 /// can be; and if it keeps its promise there, the application is allowed, firmly and as the meaning has it.
 pub fn what_is_taken_is_allowed()
     ensures { (p : Program) (x : Name) (replies : Name → List Reply) → IsTypedProgram p → GoodFunctions p → FunctionsPass p x replies → TakenIsAllowed p x }
+{}
+
+/// In a typed program going down from application to application ends, in one heap: to functions that don't lead back, or within a group
+/// to lesser measures.
+pub fn measures_end()
+    ensures { (p : Program) → IsTypedProgram p → MeasuresEnd p }
 {}
