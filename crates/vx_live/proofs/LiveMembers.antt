@@ -19,7 +19,7 @@ use Rattle.vx_elements.proofs.Cases.{store_method}
 use Rattle.vx_sound.proofs.Says.{method_says as fields_say}
 use Rattle.vx_sound.proofs.Contracts.{field_method_speaks}
 use Rattle.vx_sound.proofs.Fields.{fields_world}
-use Rattle.vx_sound_preds.proofs.Holding.{instances_world}
+use Rattle.vx_sound_preds.proofs.Holding.{nothing_applied, instances_world}
 use Rattle.vx_sound_preds.proofs.Speaking.{good, no_perm, speak}
 use Rattle.vx_sound_preds.proofs.Mentioning.{function_member, NoFunction, method_says}
 use Rattle.vx_live.specs.Functions.{function_symbol, symbols_from, with_kind, function_symbols}
@@ -62,7 +62,7 @@ instances_live p x k typed named all = go k named
     none f g c e = all f (IsFunction g) c (function_member (member_named p f) g e)
 
     spoken : Spoken (InClosure p x) p []
-    spoken = record { bodies = λ i d e held is body. let b = speak p x typed i d e held is body in (b.0, assertion (InClosure p x) e b.1); functions = λ f g c e. absurd (none f g c e) }
+    spoken = record { bodies = λ i d e held is body. let b = speak p x typed i d e held is body in (b.0, assertion (InClosure p x) (λ f. ⊥) (λ f k. absurd k) e b.1); functions = λ f g c e. absurd (none f g c e) }
 
     go : (k : Kind) → member_named p x ≡ Some k → AllLive [] (tree p x k)
     go (IsField t) named = tt
@@ -72,7 +72,7 @@ instances_live p x k typed named all = go k named
         let gb = good p x typed in
         let np = no_perm p x typed in
         let t = typed.methods x m (ap method_in named) in
-        method_live tt p (InClosure p x) spoken m t (method (instances_world p gb (InClosure p x) np true) m (method_says p x none typed gb np m named t))
+        method_live tt p (InClosure p x) spoken m t (method (instances_world p gb (InClosure p x) np true) (λ f k. absurd k) m (method_says p x nothing_applied none typed gb np m named t))
 
 is_instance : (k : Kind) → IsCallingMember k → IsInstanceMember k
 is_instance (IsField t) c = tt
@@ -84,7 +84,7 @@ pub calling_live : LiveClosureLaw IsCallingMember
 calling_live p x k typed named all = instances_live p x k typed named (λ y l c e. is_instance l (all y l c e))
 
 pub methods_live : LiveLaw IsFieldMethod
-methods_live p m t k = method_live tt p none spoken m t (method (fields_world p) m (fields_say (fields_world p) m (field_method_speaks p m k)))
+methods_live p m t k = method_live tt p none spoken m t (method (fields_world p) (λ f k. absurd k) m (fields_say (fields_world p) m (field_method_speaks p m k)))
   where
     none : Name → Type 0
     none x = ⊥

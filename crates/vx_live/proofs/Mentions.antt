@@ -8,9 +8,9 @@ use Rattle.vx_sound.proofs.Speaks as instances
 use Rattle.vx_sound.proofs.Says as instances_say
 use Rattle.vx_live.proofs.Speaks.{Speaks, AllSpeak, SpeaksOf, AllSpeakOf, EachSpeaks, MeasureSpeaks, HasContract, Says, AllSay, BodySays, MethodSays}
 
-module _ (Held : Name → Type 0) where
+module _ (Held Applied : Name → Type 0) (heard : (f : Name) → Applied f → Held f) where
   mutual
-    pub expression : (e : Expr) → instances.Speaks Held e → Speaks Held e
+    pub expression : (e : Expr) → instances.Speaks Held Applied e → Speaks Held e
     expression (Number at n) k = tt
     expression (Truth at b) k = tt
     expression (Null at) k = tt
@@ -23,14 +23,14 @@ module _ (Held : Name → Type 0) where
     expression (Choose at c a b) k = (expression c k.0, expression a k.1, expression b k.2)
     expression (Read at e f) k = expression e k
     expression (Old at e) k = expression e k
-    expression (Apply at f es) k = absurd k
+    expression (Apply at f es) k = (heard f k.0, expressions es k.1)
     expression (Unfolding at i es share e) k = (k.0, expressions es k.1, expression share k.2, expression e k.3)
 
-    expressions : (es : Exprs) → instances.AllSpeak Held es → AllSpeak Held es
+    expressions : (es : Exprs) → instances.AllSpeak Held Applied es → AllSpeak Held es
     expressions NoMore k = tt
     expressions (More e es) k = (expression e k.0, expressions es k.1)
 
-  pub assertion : (a : Assertion) → instances.SpeaksOf Held a → SpeaksOf Held a
+  pub assertion : (a : Assertion) → instances.SpeaksOf Held Applied a → SpeaksOf Held a
   assertion (Pure e) k = expression e k
   assertion (Points at e f share) k = (expression e k.0, expression share k.1)
   assertion (Instance at i es share) k = (k.0, expressions es k.1, expression share k.2)
@@ -38,11 +38,11 @@ module _ (Held : Name → Type 0) where
   assertion (Implied c a) k = (expression c k.0, assertion a k.1)
   assertion (Chosen c a b) k = (expression c k.0, assertion a k.1, assertion b k.2)
 
-  assertions : (rest : List Assertion) → instances.AllSpeakOf Held rest → AllSpeakOf Held rest
+  assertions : (rest : List Assertion) → instances.AllSpeakOf Held Applied rest → AllSpeakOf Held rest
   assertions [] k = tt
   assertions (a ∷ rest) k = (assertion a k.0, assertions rest k.1)
 
-module _ (world : World) where
+module _ (world : World) (heard : (f : Name) → world.Applied f → world.Held f) where
   abbrev Held : Name → Type 0
   Held = world.Held
 
@@ -50,23 +50,23 @@ module _ (world : World) where
   p = world.program
 
   contract : (m : Method) → instances_say.HasContract world m → HasContract Held p m
-  contract m k = record { typed_requires = k.typed_requires; typed_ensures = k.typed_ensures; requires = assertions Held m.requires k.requires; ensures = assertions Held m.ensures k.ensures }
+  contract m k = record { typed_requires = k.typed_requires; typed_ensures = k.typed_ensures; requires = assertions Held world.Applied heard m.requires k.requires; ensures = assertions Held world.Applied heard m.ensures k.ensures }
 
   mutual
     statement : (st : Stmt) → instances_say.Says world st → Says Held p st
     statement (Declare at x t) k = tt
-    statement (Assign at x e) k = expression Held e k
-    statement (Write at e f e') k = (expression Held e k.0, expression Held e' k.1)
+    statement (Assign at x e) k = expression Held world.Applied heard e k
+    statement (Write at e f e') k = (expression Held world.Applied heard e k.0, expression Held world.Applied heard e' k.1)
     statement (New at x fs) k = tt
-    statement (Call at xs f es) k = (expressions Held es k.0, λ m e. contract m (k.1 m e))
-    statement (Inhale at a) k = assertion Held a k
-    statement (Exhale at a) k = assertion Held a k
-    statement (Assert at a) k = assertion Held a k
-    statement (Assume at e) k = expression Held e k
-    statement (Fold at i es share) k = (k.0, expressions Held es k.1, expression Held share k.2)
-    statement (Unfold at i es share) k = (k.0, expressions Held es k.1, expression Held share k.2)
-    statement (If at c a b) k = (expression Held c k.0, block a k.1, block b k.2)
-    statement (While at c is b) k = (expression Held c k.0, assertions Held is k.1, block b k.2)
+    statement (Call at xs f es) k = (expressions Held world.Applied heard es k.0, λ m e. contract m (k.1 m e))
+    statement (Inhale at a) k = assertion Held world.Applied heard a k
+    statement (Exhale at a) k = assertion Held world.Applied heard a k
+    statement (Assert at a) k = assertion Held world.Applied heard a k
+    statement (Assume at e) k = expression Held world.Applied heard e k
+    statement (Fold at i es share) k = (k.0, expressions Held world.Applied heard es k.1, expression Held world.Applied heard share k.2)
+    statement (Unfold at i es share) k = (k.0, expressions Held world.Applied heard es k.1, expression Held world.Applied heard share k.2)
+    statement (If at c a b) k = (expression Held world.Applied heard c k.0, block a k.1, block b k.2)
+    statement (While at c is b) k = (expression Held world.Applied heard c k.0, assertions Held world.Applied heard is k.1, block b k.2)
 
     block : (b : Block) → instances_say.AllSay world b → AllSay Held p b
     block Done k = tt
@@ -77,7 +77,7 @@ module _ (world : World) where
   body (Some b) k = block b k
 
   pub method : (m : Method) → instances_say.MethodSays world m → MethodSays Held p m
-  method m k = record { requires = assertions Held m.requires k.requires; ensures = assertions Held m.ensures k.ensures; body = body m.body k.body }
+  method m k = record { requires = assertions Held world.Applied heard m.requires k.requires; ensures = assertions Held world.Applied heard m.ensures k.ensures; body = body m.body k.body }
 
 -- Where all may be mentioned
 

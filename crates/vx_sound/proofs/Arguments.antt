@@ -1,5 +1,6 @@
 -- Arguments of a call: named, and bound to parameters.
 use Rattle.std.proofs.Common.{ℕ, ◌≤◌, List, [], ◌∷◌, ◌++◌, length, drop, refl, ◌∙◌, le_refl, le_trans}
+use Rattle.vx_ast.specs.declared.Place.{Place}
 use Rattle.vx_ast.specs.Syntax.{Name, Declaration, Program}
 use Rattle.vx_meaning.specs.Values.{Value}
 use Rattle.vx_meaning.specs.States as run
@@ -7,11 +8,12 @@ use Rattle.vx_terms.specs.Terms.{Term}
 use Rattle.vx_terms.specs.Interpretations.{Interpretation}
 use Rattle.vx_rules.specs.States as rules
 use Rattle.vx_rules.specs.States.{sort_of_type}
+use Rattle.vx_rules.specs.Rules.{entered, back}
 use Rattle.vx_rules.specs.Members.{names_of, after_names}
 use Rattle.vx_types.specs.Typing.{Scope, TargetsHaveTypes}
 use Rattle.vx_sound.proofs.World.{World}
 use Rattle.vx_elements.proofs.Settled.{Meaning, Extends, extends-refl, extends-trans}
-use Rattle.vx_sound.proofs.Stands.{StoreStands, TermsStand, term_later, terms_later, Stands, store_assign}
+use Rattle.vx_sound.proofs.Stands.{StoreStands, TermsStand, term_later, terms_later, Stands, store_later, store_assign}
 use Rattle.vx_sound.proofs.Goes.{named}
 
 module _ (means : Meaning) (world : World) where
@@ -51,6 +53,39 @@ module _ (means : Meaning) (world : World) where
   bound n i [] (t ∷ ts) vs h = absurd h
   bound n i (d ∷ ds) [] vs h = absurd h
   bound n i (d ∷ ds) (t ∷ ts) [] h = absurd h
+
+  -- in the part of another member, whose parameters stand for arguments
+  pub stands_entered : {scope : Scope} {i : Interpretation} {s : rules.State} {c : run.State} (at : Place) (ds : List Declaration) (ts : List Term) (vs : List Value) → TermsStand means world s.next i ds ts vs → Stands means world scope i s c →
+      Stands means world ds i (entered (rules.bind ds ts) at s) (run.with_store (run.bind ds vs) c)
+  stands_entered {i = i} {s = s} at ds ts vs h st = record {
+    store = bound s.next i ds ts vs h;
+    path = st.path;
+    heap = st.heap;
+    old = st.old;
+    awake = st.awake;
+    bounded = st.bounded;
+    null = st.null;
+    standard = st.standard;
+    owned = st.owned;
+    holds = st.holds;
+    old_holds = st.old_holds;
+  }
+
+  -- and back from it
+  pub stands_back : {scope mid : Scope} {i j : Interpretation} {s t : rules.State} {c : run.State} (ys : run.Store) → s.next ≤ t.next → Extends means s.next i j → Stands means world scope i s c → Stands means world mid j t (run.with_store ys c) → Stands means world scope j (back s t) c
+  stands_back {scope = scope} {s = s} {c = c} ys le x before st = record {
+    store = store_later means world le x scope s.store c.store before.store;
+    path = st.path;
+    heap = st.heap;
+    old = st.old;
+    awake = st.awake;
+    bounded = st.bounded;
+    null = st.null;
+    standard = st.standard;
+    owned = st.owned;
+    holds = st.holds;
+    old_holds = st.old_holds;
+  }
 
   -- the terms of returns, behind as many parameters as there are arguments
   all_terms : (n : ℕ) (i : Interpretation) (es : List Declaration) (ws : List Value) → run.HaveTypes es ws → (xs : rules.Store) → StoreStands means world n i es xs (run.bind es ws) → TermsStand means world n i es (rules.terms_in xs) ws

@@ -39,7 +39,7 @@ use Rattle.vx_sound.proofs.Stands.{IsThere, HeapStands, Stands, heap_later, stan
 use Rattle.vx_sound.proofs.Candidates.{Keys, of_instance, keys_typed}
 use Rattle.vx_sound.proofs.Puts.{stands_with_holdings}
 use Rattle.vx_sound.proofs.Goes.{Goes, Evaluates, goes_after, reached, asked, forked}
-use Rattle.vx_sound.proofs.Evaluate.{UnfoldsGo, bind_ok, eval_goes}
+use Rattle.vx_sound.proofs.Evaluate.{PartsGo, bind_ok, eval_goes}
 use Rattle.vx_sound.proofs.Giving.{ScaleStands, scale_later, put_fresh, Located, located, InstanceLocated, instance_located, Taken, take_one}
 
 pub by_side : {R : Type 0} (x : Bool) (a b : Outcomes) (outcome : Outcome) → when x a b outcome → (x ≡ true → a outcome → R) → (x ≡ false → b outcome → R) → R
@@ -98,9 +98,9 @@ module _ (means : Meaning) (world : World) where
   -- with the holdings and chunks of another state
   pub stands_at : {scope : Scope} {i : Interpretation} {s : rules.State} {rest : run.Holdings} (c : run.State) (chunks : rules.Heap) → Stands means world scope i s (run.with_holdings rest c) → HeapStands means world s.next i chunks c.heap c.holdings → world.Holds c.heap c.holdings →
       Stands means world scope i (rules.with_heap chunks s) c
-  stands_at c chunks st h b = record { store = st.store; path = st.path; heap = h; old = st.old; awake = st.awake; bounded = st.bounded; null = st.null; standard = st.standard; holds = b; old_holds = st.old_holds }
+  stands_at c chunks st h b = record { store = st.store; path = st.path; heap = h; old = st.old; awake = st.awake; bounded = st.bounded; null = st.null; standard = st.standard; owned = st.owned; holds = b; old_holds = st.old_holds }
 
-  module _ (o : Outer) (opens : UnfoldsGo means world o) where
+  module _ (o : Outer) (parts : PartsGo means world o) where
     with_fact_goes : {scope : Scope} {i : Interpretation} {n : ℕ} {c : run.State} {e : Expr} (on : Going) (r : Evaluates means world scope i n (λ t s1. Step (on (rules.with_fact t s1))) c e type.Bool) →
         as_bool (element r.result) ≡ true → Goes means world scope i n on c
     with_fact_goes {n = n} on r h = record {
@@ -116,19 +116,19 @@ module _ (means : Meaning) (world : World) where
     is_true_of v e = ap is_true (bool_value_is v e)
 
     pub pure_goes : {scope : Scope} {e : Expr} {c : run.State} (outcome : Outcome) (Possible : run.State → Type 0) (q : Fraction) → give_pure p Possible q e c outcome →
-        HasType p scope e type.Bool → Speaks world.Held e → {i : Interpretation} {s : rules.State} (on : Going) → Stands means world scope i s c →
+        HasType p scope e type.Bool → Speaks world.Held world.Applied e → {i : Interpretation} {s : rules.State} (on : Going) → Stands means world scope i s c →
         Cleared (eval p o e s (λ t s1. Step (on (rules.with_fact t s1)))) → Leaves scope i s.next on outcome
     pure_goes {scope = scope} {e = e} {c = c} outcome Possible q (passes v h rest) t k {i = i} {s = s} on st w =
         go (as_bool (element r.result)) refl (subst (λ x. when x (ends c) stops outcome) (ap is_true (one_answer v r.result h r.fits) ∙ is_true_of r.result r.typed) rest)
       where
         r : Evaluates means world scope i s.next (λ t s1. Step (on (rules.with_fact t s1))) c e type.Bool
-        r = eval_goes means world o opens t k (λ t s1. Step (on (rules.with_fact t s1))) st w
+        r = eval_goes means world o parts t k (λ t s1. Step (on (rules.with_fact t s1))) st w
 
         go : (x : Bool) → as_bool (element r.result) ≡ x → when x (ends c) stops outcome → Leaves scope i s.next on outcome
         go true f rest = ends_leaves scope i s.next on c outcome rest (with_fact_goes on r f)
         go false f rest = stops_leaves scope i s.next on outcome rest
     pure_goes {scope = scope} outcome Possible q (refused at h f) t k {i = i} {s = s} on st w =
-        let r = eval_goes means world o opens t k (λ t s1. Step (on (rules.with_fact t s1))) st w in
+        let r = eval_goes means world o parts t k (λ t s1. Step (on (rules.with_fact t s1))) st w in
         refused_leaves scope i s.next on outcome r.result at r.fits h
 
     -- where what is possible can be
@@ -136,7 +136,7 @@ module _ (means : Meaning) (world : World) where
       -- what is shown of an assertion that is given
       GiveGoes : Fraction → Assertion → Type 0
       GiveGoes q a =
-          (scope : Scope) (c : run.State) (outcome : Outcome) → give p Possible q a c outcome → IsTyped p scope a → SpeaksOf world.Held a → (i : Interpretation) (s : rules.State) (scale : Term) (on : Going) →
+          (scope : Scope) (c : run.State) (outcome : Outcome) → give p Possible q a c outcome → IsTyped p scope a → SpeaksOf world.Held world.Applied a → (i : Interpretation) (s : rules.State) (scale : Term) (on : Going) →
           ScaleStands means world s.next i scale q → Stands means world scope i s c → Cleared (produce p o a scale None s on) → Leaves scope i s.next on outcome
 
       pure_given : (q : Fraction) (e : Expr) → GiveGoes q (Pure e)
@@ -158,8 +158,8 @@ module _ (means : Meaning) (world : World) where
           after : Term → Term → Going
           after r a s3 = Step (on (put (record (field_key f r) { amount = a; value = rules.fresh (field_sort p f) s3; inner = s.inner }) (rules.after_fresh s3)))
 
-          l : Located means world o opens scope i s.next after c at e f share q
-          l = located means world o opens at f scale q after t.0 k.0 t.2 k.1 sc st w
+          l : Located means world o parts scope i s.next after c at e f share q
+          l = located means world o parts at f scale q after t.0 k.0 t.2 k.1 sc st w
 
           given_here : Possible (run.with_holdings (run.gained (run.At (at_field l.reference f)) (product q l.fraction) c.holdings) c) →
               Goes means world scope i s.next on (run.with_holdings (run.gained (run.At (at_field l.reference f)) (product q l.fraction) c.holdings) c)
@@ -184,8 +184,8 @@ module _ (means : Meaning) (world : World) where
           after : List Term → Term → Going
           after ts a s3 = Step (on (put (record (instance_key x ts) { amount = a; value = rules.fresh SnapSort s3; inner = s.inner }) (rules.after_fresh s3)))
 
-          l : InstanceLocated means world o opens scope i s.next after c at x es share q
-          l = instance_located means world o opens at x t.0.0 scale q after k.0 t.0.1 t.0.2 k.1 t.1 k.2 sc st w
+          l : InstanceLocated means world o parts scope i s.next after c at x es share q
+          l = instance_located means world o parts at x t.0.0 scale q after k.0 t.0.1 t.0.2 k.1 t.1 k.2 sc st w
 
           target : run.Instance
           target = record { predicate = x; arguments = l.results }
@@ -218,7 +218,7 @@ module _ (means : Meaning) (world : World) where
           left s2 = produce p o a scale None s2 on
 
           r : Evaluates means world scope i s.next (λ t s1. fork t s1 left on) c d type.Bool
-          r = eval_goes means world o opens t.0 k.0 (λ t s1. fork t s1 left on) st w
+          r = eval_goes means world o parts t.0 k.0 (λ t s1. fork t s1 left on) st w
 
           side_goes : (x : Bool) → as_bool (element r.result) ≡ x → Goes means world scope i s.next (cond x left on) c
           side_goes x f = goes_after means world (reached means world r) (forked means world r.term left on r.stands r.good r.cleared x (ap as_bool r.value_is ∙ f))
@@ -242,7 +242,7 @@ module _ (means : Meaning) (world : World) where
           right s2 = produce p o b scale None s2 on
 
           r : Evaluates means world scope i s.next (λ t s1. fork t s1 left right) c d type.Bool
-          r = eval_goes means world o opens t.0 k.0 (λ t s1. fork t s1 left right) st w
+          r = eval_goes means world o parts t.0 k.0 (λ t s1. fork t s1 left right) st w
 
           side_goes : (x : Bool) → as_bool (element r.result) ≡ x → Goes means world scope i s.next (cond x left right) c
           side_goes x f = goes_after means world (reached means world r) (forked means world r.term left right r.stands r.good r.cleared x (ap as_bool r.value_is ∙ f))
@@ -255,7 +255,7 @@ module _ (means : Meaning) (world : World) where
               (λ f h. let g = side_goes false f in leaves_after scope on outcome g (on_b scope c outcome h t.2 k.2 g.interp g.state scale on (scale_later means world g.later g.extends sc) g.stands g.cleared))
           go (refused place h e) = refused_leaves scope i s.next on outcome r.result place r.fits h
 
-      given : (q : Fraction) (a : Assertion) → SpeaksOf world.Held a → GiveGoes q a
+      given : (q : Fraction) (a : Assertion) → SpeaksOf world.Held world.Applied a → GiveGoes q a
       given q (Pure e) k = pure_given q e
       given q (Both a b) k = both_given q a b (given q a k.0) (given q b k.1)
       given q (Points at e f share) k = points_given q at e f share
@@ -264,7 +264,7 @@ module _ (means : Meaning) (world : World) where
       given q (Chosen c a b) k = chosen_given q c a b (given q a k.1) (given q b k.2)
 
       pub give_goes : {scope : Scope} {c : run.State} (outcome : Outcome) (a : Assertion) (q : Fraction) → give p Possible q a c outcome →
-          IsTyped p scope a → SpeaksOf world.Held a → {i : Interpretation} {s : rules.State} (scale : Term) (on : Going) → ScaleStands means world s.next i scale q → Stands means world scope i s c →
+          IsTyped p scope a → SpeaksOf world.Held world.Applied a → {i : Interpretation} {s : rules.State} (scale : Term) (on : Going) → ScaleStands means world s.next i scale q → Stands means world scope i s c →
           Cleared (produce p o a scale None s on) → Leaves scope i s.next on outcome
       unfolding GiveGoes
       give_goes {scope = scope} {c = c} outcome a q g t k {i = i} {s = s} scale on sc st w = given q a k scope c outcome g t k i s scale on sc st w
@@ -343,7 +343,7 @@ module _ (means : Meaning) (world : World) where
     -- what is shown of an assertion that is consumed
     ConsumeGoes : Fraction → Assertion → Type 0
     ConsumeGoes q a =
-        (scope : Scope) (c : run.State) (rest : run.Holdings) → IsTyped p scope a → SpeaksOf world.Held a → (i : Interpretation) (s : rules.State) (x : Context) (scale : Term) (h : rules.Heap) (on : Giving) →
+        (scope : Scope) (c : run.State) (rest : run.Holdings) → IsTyped p scope a → SpeaksOf world.Held world.Applied a → (i : Interpretation) (s : rules.State) (x : Context) (scale : Term) (h : rules.Heap) (on : Giving) →
         ScaleStands means world s.next i scale q → HeapStands means world s.next i h c.heap c.holdings → world.Holds c.heap c.holdings → Stands means world scope i s (run.with_holdings rest c) →
         Cleared (consume p o a x scale h s on) → Consumes scope i s.next on c a q rest
 
@@ -351,7 +351,7 @@ module _ (means : Meaning) (world : World) where
     unfolding ConsumeGoes
     pure_consumed q e scope c rest t k i s x scale h on sc hs hb st w =
         let after = λ (s2 : rules.State). Step (on unit (rules.with_heap s.heap s2)) in
-        let r = eval_goes means world o opens t k (λ t s1. ask t (placed s1 (place_of e)) x.pure s1 after) (stands_at c h st hs hb) w in
+        let r = eval_goes means world o parts t k (λ t s1. ask t (placed s1 (place_of e)) x.pure s1 after) (stands_at c h st hs hb) w in
         let a = asked means world r.term (placed r.state (place_of e)) x.pure after r.stands r.good r.cleared in
         let g = goes_after means world (reached means world r) a.1 in
         let yes : r.result ≡ BoolValue true = bool_value_is r.result r.typed ∙ ap BoolValue (sym (ap as_bool r.value_is) ∙ a.0) in
@@ -403,8 +403,8 @@ module _ (means : Meaning) (world : World) where
         after : Term → Term → Going
         after r a s3 = take_chunk (field_key f r) a (field_sort p f) (placed s3 at) x.permission (rules.with_heap s.heap s3) end
 
-        l : Located means world o opens scope i s.next after c at e f share q
-        l = located means world o opens at f scale q after t.0 k.0 t.2 k.1 sc (stands_at c h st hs hb) w
+        l : Located means world o parts scope i s.next after c at e f share q
+        l = located means world o parts at f scale q after t.0 k.0 t.2 k.1 sc (stands_at c h st hs hb) w
 
         d : Taken means world scope l.interp l.state.next end (run.with_holdings rest c) (run.At (at_field l.reference f)) (field_sort p f) (product q l.fraction)
         d = take_one means world l.keys l.amount (product q l.fraction) (placed l.state at) x.permission end
@@ -445,8 +445,8 @@ module _ (means : Meaning) (world : World) where
         after : List Term → Term → Going
         after ts a s3 = take_chunk (instance_key y ts) a SnapSort (placed s3 at) x.permission (rules.with_heap s.heap s3) end
 
-        l : InstanceLocated means world o opens scope i s.next after c at y es share q
-        l = instance_located means world o opens at y t.0.0 scale q after k.0 t.0.1 t.0.2 k.1 t.1 k.2 sc (stands_at c h st hs hb) w
+        l : InstanceLocated means world o parts scope i s.next after c at y es share q
+        l = instance_located means world o parts at y t.0.0 scale q after k.0 t.0.1 t.0.2 k.1 t.1 k.2 sc (stands_at c h st hs hb) w
 
         d : Taken means world scope l.interp l.state.next end (run.with_holdings rest c) (run.Folded record { predicate = y; arguments = l.results }) SnapSort (product q l.fraction)
         d = take_one means world (of_instance y l.terms l.results l.keys) l.amount (product q l.fraction) (placed l.state at) x.permission end
@@ -482,11 +482,11 @@ module _ (means : Meaning) (world : World) where
       pub goes : Goes means world scope i s.next (cond test left right) (run.with_holdings rest c)
       pub fits : Eventually (λ n. fit_by p n c d ≡ Ok (BoolValue test))
 
-    tested : (scope : Scope) (c : run.State) (rest : run.Holdings) (d : Expr) → HasType p scope d type.Bool → Speaks world.Held d → (i : Interpretation) (s : rules.State) (h : rules.Heap) (left right : Going) →
+    tested : (scope : Scope) (c : run.State) (rest : run.Holdings) (d : Expr) → HasType p scope d type.Bool → Speaks world.Held world.Applied d → (i : Interpretation) (s : rules.State) (h : rules.Heap) (left right : Going) →
         HeapStands means world s.next i h c.heap c.holdings → world.Holds c.heap c.holdings → Stands means world scope i s (run.with_holdings rest c) →
         Cleared (eval p o d (rules.with_heap h s) (λ t s1. fork t (rules.with_heap s.heap s1) left right)) → Tested scope i s left right c d rest
     tested scope c rest d t k i s h left right hs hb st w =
-        let r = eval_goes means world o opens t k (λ t s1. fork t (rules.with_heap s.heap s1) left right) (stands_at c h st hs hb) w in
+        let r = eval_goes means world o parts t k (λ t s1. fork t (rules.with_heap s.heap s1) left right) (stands_at c h st hs hb) w in
         let back : Stands means world scope r.interp (rules.with_heap s.heap r.state) (run.with_holdings rest c) =
         stands_with_holdings means world s.heap rest r.stands (heap_later means world r.later r.extends s.heap c.heap rest st.heap) st.holds in
         let x = as_bool (element r.result) in
@@ -534,7 +534,7 @@ module _ (means : Meaning) (world : World) where
             let z = on_b scope c rest t.2 k.2 g.interp g.state x scale h on (scale_later means world g.later g.extends sc) (heap_later means world g.later g.extends h c.heap c.holdings hs) hb g.stands g.cleared in
             consumes_after g z (both_eventually f z.takes (λ n u v. ap (λ y. y >>= λ y. fits.choose (place_of d) y (take_by p n c q a rest) (take_by p n c q b rest)) u ∙ v)) (built_right f z.built)
 
-    consumption : (q : Fraction) (a : Assertion) → SpeaksOf world.Held a → ConsumeGoes q a
+    consumption : (q : Fraction) (a : Assertion) → SpeaksOf world.Held world.Applied a → ConsumeGoes q a
     consumption q (Pure e) k = pure_consumed q e
     consumption q (Both a b) k = both_consumed q a b (consumption q a k.0) (consumption q b k.1)
     consumption q (Points at e f share) k = points_consumed q at e f share
@@ -542,7 +542,7 @@ module _ (means : Meaning) (world : World) where
     consumption q (Implied c a) k = implied_consumed q c a (consumption q a k.1)
     consumption q (Chosen c a b) k = chosen_consumed q c a b (consumption q a k.1) (consumption q b k.2)
 
-    pub consumed : {scope : Scope} {c : run.State} (a : Assertion) (q : Fraction) → IsTyped p scope a → SpeaksOf world.Held a → {i : Interpretation} {s : rules.State} (x : Context) (scale : Term) (on : Giving) →
+    pub consumed : {scope : Scope} {c : run.State} (a : Assertion) (q : Fraction) → IsTyped p scope a → SpeaksOf world.Held world.Applied a → {i : Interpretation} {s : rules.State} (x : Context) (scale : Term) (on : Giving) →
         ScaleStands means world s.next i scale q → Stands means world scope i s c → Cleared (consume p o a x scale s.heap s on) → Consumes scope i s.next on c a q c.holdings
     unfolding ConsumeGoes
     consumed {scope = scope} {c = c} a q t k {i = i} {s = s} x scale on sc st w = consumption q a k scope c c.holdings t k i s x scale s.heap on sc st.heap st.holds st w

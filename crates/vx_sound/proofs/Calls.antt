@@ -21,7 +21,7 @@ use Rattle.vx_rules.specs.Members.{codes, called}
 use Rattle.vx_types.specs.Typing.{Scope, IsTyped, TargetsHaveTypes}
 use Rattle.vx_sound.proofs.World.{CanBe, World, Changing}
 use Rattle.vx_sound.proofs.Speaks.{SpeaksOf, joined_speaks}
-use Rattle.vx_sound.proofs.Evaluate.{UnfoldsGo}
+use Rattle.vx_sound.proofs.Evaluate.{PartsGo}
 use Rattle.vx_sound.proofs.Passes.{Cleared}
 use Rattle.vx_elements.proofs.Settled.{Meaning, extends-refl, extends-trans}
 use Rattle.vx_elements.proofs.Eventually.{eventually, one_answer}
@@ -34,7 +34,7 @@ use Rattle.vx_elements.proofs.Scopes.{joined_typed}
 use Rattle.vx_sound.proofs.Says.{HasContract}
 use Rattle.vx_sound.proofs.Arguments.{bound, returned_terms, assigned_all}
 
-module _ (means : Meaning) (world : World) (m : Method) (contract : HasContract world m) (changing : Changing world) (opens : (d : ℕ) → UnfoldsGo means world (outer world.program d)) where
+module _ (means : Meaning) (world : World) (m : Method) (contract : HasContract world m) (changing : Changing world) (parts : (d : ℕ) → PartsGo means world (outer world.program d)) where
   abbrev p : Program
   p = world.program
 
@@ -56,6 +56,7 @@ module _ (means : Meaning) (world : World) (m : Method) (contract : HasContract 
     bounded = st.bounded;
     null = st.null;
     standard = st.standard;
+    owned = st.owned;
     holds = st.holds;
     old_holds = st.old_holds;
   }
@@ -73,7 +74,7 @@ module _ (means : Meaning) (world : World) (m : Method) (contract : HasContract 
         (λ s2. Step (on (rules.with_store (rules.assign_all xs (drop (length ts) (rules.terms_in (rules.declare_all m.returns (record s1 { old = s.heap })).store)) s.store) (record (back s s2) { old = s.old }))))
 
     -- what a callee may leave
-    returns : (r : Consumes means world (outer p d) (opens d) m.parameters i s.next after start pre full c.holdings) (outcome : Outcome) → meaning.return_from p c at xs m vs r.left outcome → Leaves means world scope i s.next on outcome
+    returns : (r : Consumes means world (outer p d) (parts d) m.parameters i s.next after start pre full c.holdings) (outcome : Outcome) → meaning.return_from p c at xs m vs r.left outcome → Leaves means world scope i s.next on outcome
     returns r outcome (heap, (same, (ws, (tw, ran)))) = leaves_after means world scope on outcome r.goes (leaves_after means world scope on outcome g ended)
       where
         inside : Stands means world m.parameters r.goes.interp (record r.goes.state { old = s.heap }) (record { store = run.bind m.parameters vs; heap = heap; holdings = r.left; old_heap = c.heap; old_holdings = c.holdings })
@@ -86,6 +87,7 @@ module _ (means : Meaning) (world : World) (m : Method) (contract : HasContract 
           bounded = r.goes.stands.bounded;
           null = r.goes.stands.null;
           standard = r.goes.stands.standard;
+          owned = r.goes.stands.owned;
           holds = changing.changed (run.with_holdings r.left c) heap same r.goes.stands.holds;
           old_holds = st.holds;
         }
@@ -98,15 +100,15 @@ module _ (means : Meaning) (world : World) (m : Method) (contract : HasContract 
         post_typed : IsTyped p (m.parameters ++ m.returns) (joined m.place m.ensures)
         post_typed = joined_typed p (m.parameters ++ m.returns) m.place m.ensures contract.typed_ensures
 
-        post_plain : SpeaksOf world.Held (joined m.place m.ensures)
-        post_plain = joined_speaks world.Held m.place m.ensures contract.ensures
+        post_plain : SpeaksOf world.Held world.Applied (joined m.place m.ensures)
+        post_plain = joined_speaks world.Held world.Applied m.place m.ensures contract.ensures
 
         last : Going
         last s2 = Step (on (rules.with_store (rules.assign_all xs (drop (length ts) (rules.terms_in g.state.store)) s.store) (record (back s s2) { old = s.old })))
 
         given : (other : Outcome) → give p (IsConsistent p) full (joined m.place m.ensures) (record { store = run.bind m.parameters vs ++ run.bind m.returns ws; heap = heap; holdings = r.left; old_heap = c.heap; old_holdings = c.holdings }) other →
             Leaves means world (m.parameters ++ m.returns) g.interp g.state.next last other
-        given other h = give_goes means world (outer p d) (opens d) (IsConsistent p) (λ c k. subst (λ b. CanBe p b c) (sym changing.bounded) k) other (joined m.place m.ensures) full h post_typed post_plain whole_amount last (whole_scale means world g.state.next g.interp) g.stands g.cleared
+        given other h = give_goes means world (outer p d) (parts d) (IsConsistent p) (λ c k. subst (λ b. CanBe p b c) (sym changing.bounded) k) other (joined m.place m.ensures) full h post_typed post_plain whole_amount last (whole_scale means world g.state.next g.interp) g.stands g.cleared
 
         first : (other : Outcome) → failing_at at (give p (IsConsistent p) full (joined m.place m.ensures) (record { store = run.bind m.parameters vs ++ run.bind m.returns ws; heap = heap; holdings = r.left; old_heap = c.heap; old_holdings = c.holdings })) other →
             Leaves means world (m.parameters ++ m.returns) g.interp g.state.next last other
@@ -137,6 +139,7 @@ module _ (means : Meaning) (world : World) (m : Method) (contract : HasContract 
                 bounded = q.stands.bounded;
                 null = q.stands.null;
                 standard = q.stands.standard;
+                owned = q.stands.owned;
                 holds = q.stands.holds;
                 old_holds = st.old_holds;
               };
@@ -157,8 +160,8 @@ module _ (means : Meaning) (world : World) (m : Method) (contract : HasContract 
   called_goes zero scope i s c at xs ts vs on targets each st w outcome h = stuck means world nowhere AssertCode (enters at ts vs each st) w
   called_goes (suc d) scope i s c at xs ts vs on targets each st w outcome h = go h
     where
-      r : Consumes means world (outer p d) (opens d) m.parameters i s.next (after d scope i s c at xs ts vs on targets each st) (run.with_store (run.bind m.parameters vs) c) (joined m.place m.requires) full c.holdings
-      r = consumed means world (outer p d) (opens d) (joined m.place m.requires) full (joined_typed p m.parameters m.place m.requires contract.typed_requires) (joined_speaks world.Held m.place m.requires contract.requires)
+      r : Consumes means world (outer p d) (parts d) m.parameters i s.next (after d scope i s c at xs ts vs on targets each st) (run.with_store (run.bind m.parameters vs) c) (joined m.place m.requires) full c.holdings
+      r = consumed means world (outer p d) (parts d) (joined m.place m.requires) full (joined_typed p m.parameters m.place m.requires contract.typed_requires) (joined_speaks world.Held world.Applied m.place m.requires contract.requires)
           (codes CallCode CallCode) whole_amount (after d scope i s c at xs ts vs on targets each st) (whole_scale means world s.next i) (enters at ts vs each st) w
 
       takes : Eventually (λ n. placed at (take_by p n (run.with_store (run.bind m.parameters vs) c) full (joined m.place m.requires) c.holdings) ≡ Ok r.left)
@@ -177,5 +180,5 @@ CallsGo means world o =
     Leaves means world scope i s.next on outcome
 
 -- at every depth
-pub calls_go : (means : Meaning) (world : World) → Changing world → ((d : ℕ) → UnfoldsGo means world (outer world.program d)) → (d : ℕ) → CallsGo means world (outer world.program d)
-calls_go means world changing opens d m contract = called_goes means world m contract changing opens d
+pub calls_go : (means : Meaning) (world : World) → Changing world → ((d : ℕ) → PartsGo means world (outer world.program d)) → (d : ℕ) → CallsGo means world (outer world.program d)
+calls_go means world changing parts d m contract = called_goes means world m contract changing parts d

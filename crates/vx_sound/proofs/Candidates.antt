@@ -1,5 +1,5 @@
 -- What a cleared search through the candidates leads to: the first chunk that is as wanted, or what follows where none is.
-use Rattle.std.proofs.Common.{◌≡◌, ℕ, ◌≤◌, Bool, true, false, ◌⊎◌, inl, inr, List, [], ◌∷◌, Some, refl, sym, ◌∙◌, ap, ap₂, subst, true≢false}
+use Rattle.std.proofs.Common.{◌≡◌, ℕ, ◌≤◌, Bool, true, false, ◌⊎◌, inl, inr, List, [], ◌∷◌, Some, refl, sym, ◌∙◌, ap, ap₂, subst, true≢false, cond}
 use Rattle.vx_frac.specs.Fractions.{none}
 use Rattle.vx_ast.specs.declared.Place.{Place}
 use Rattle.vx_ast.specs.Syntax.{Name, Declaration, Program, Predicate, predicate_named}
@@ -12,7 +12,7 @@ use Rattle.vx_terms.specs.Interpretations.{Each, Interpretation, Element, as_fra
 use Rattle.vx_terms.specs.Formed.{truth}
 use Rattle.vx_rules.specs.States as rules
 use Rattle.vx_rules.specs.Trees.{Code, Tree}
-use Rattle.vx_rules.specs.Chunks.{Candidate, candidates, equal_onto, equal_arguments, first_argument, field_key, instance_key}
+use Rattle.vx_rules.specs.Chunks.{Candidate, candidates, equal_onto, equal_arguments, first_argument, field_key, instance_key, only_inner}
 use Rattle.vx_rules.specs.Rules.{first_with, field_sort, holds_some, holds_amount}
 use Rattle.vx_types.specs.Typing.{Scope, HaveNoPerm}
 use Rattle.vx_ast.specs.declared.ValueType.TheVariants.{Perm}
@@ -64,6 +64,35 @@ module _ (means : Meaning) (world : World) where
       Cleared (first_with wanted (candidates key s.heap) at code s on otherwise) → FirstWith key wanted i s on ⊎ Cleared otherwise
   first_one {i = i} {s = s} {c = c} key wanted at code on otherwise st g h =
       first_of key wanted (candidates key s.heap) at code on otherwise (candidates_places key s.heap) st (λ d pl. g d.chunk pl.kind pl.resource (taken_apart means world s.next i c.heap pl st.heap).chunk) h
+
+  -- of those from inside the instance that a function's measure names
+  pub record FirstInner (key : rules.Chunk) (wanted : rules.Chunk → Term) (i : Interpretation) (s : rules.State) (on : Candidate → Tree) : Type 0 where
+    pub first : FirstWith key wanted i s on
+    pub inner : first.candidate.chunk.inner ≡ true
+
+  inner_of : {scope : Scope} {i : Interpretation} {s : rules.State} {c : run.State} (key : rules.Chunk) (wanted : rules.Chunk → Term) (cs : List Candidate) (at : Place) (code : Code) (on : Candidate → Tree) (otherwise : Tree) → Each (IsPlace key s.heap) cs →
+      Stands means world scope i s c → ((d : Candidate) → IsPlace key s.heap d → Good means s.next i (wanted d.chunk) BoolSort) → Cleared (first_with wanted (only_inner cs) at code s on otherwise) → FirstInner key wanted i s on ⊎ Cleared otherwise
+  inner_of key wanted [] at code on otherwise pl st g h = inr h
+  inner_of {i = i} {s = s} key wanted (d ∷ ds) at code on otherwise pl st g h = by_side d.chunk.inner refl h (inner_of key wanted ds at code on otherwise pl.1 st g)
+    where
+      rest : Tree
+      rest = first_with wanted (only_inner ds) at code s on otherwise
+
+      go : d.chunk.inner ≡ true → (IsTrueIn i (wanted d.chunk) × Cleared (on d)) ⊎ Cleared (first_with wanted (only_inner ds) at code s on otherwise) →
+          (Cleared (first_with wanted (only_inner ds) at code s on otherwise) → FirstInner key wanted i s on ⊎ Cleared otherwise) → FirstInner key wanted i s on ⊎ Cleared otherwise
+      go e (inl k) next = inl record { first = record { candidate = d; place = pl.0; as_wanted = k.0; cleared = k.1 }; inner = e }
+      go e (inr k) next = next k
+
+      by_side : (b : Bool) → d.chunk.inner ≡ b → Cleared (first_with wanted (cond b (d ∷ only_inner ds) (only_inner ds)) at code s on otherwise) →
+          (Cleared (first_with wanted (only_inner ds) at code s on otherwise) → FirstInner key wanted i s on ⊎ Cleared otherwise) → FirstInner key wanted i s on ⊎ Cleared otherwise
+      by_side true e h next = go e (probed means world (wanted d.chunk) at code (on d) rest st (g d pl.0) h) next
+      by_side false e h next = next h
+
+  pub first_inner : {scope : Scope} {i : Interpretation} {s : rules.State} {c : run.State} (key : rules.Chunk) (wanted : rules.Chunk → Term) (at : Place) (code : Code) (on : Candidate → Tree) (otherwise : Tree) →
+      Stands means world scope i s c → ((d : rules.Chunk) → d.is_field ≡ key.is_field → d.resource ≡ key.resource → ChunkStands means world s.next i c.heap d → Good means s.next i (wanted d) BoolSort) →
+      Cleared (first_with wanted (only_inner (candidates key s.heap)) at code s on otherwise) → FirstInner key wanted i s on ⊎ Cleared otherwise
+  first_inner {i = i} {s = s} {c = c} key wanted at code on otherwise st g h =
+      inner_of key wanted (candidates key s.heap) at code on otherwise (candidates_places key s.heap) st (λ d pl. g d.chunk pl.kind pl.resource (taken_apart means world s.next i c.heap pl st.heap).chunk) h
 
   -- Terms that stand for a location or for an instance that can be held
 

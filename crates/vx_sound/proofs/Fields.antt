@@ -1,5 +1,5 @@
 -- Where no instance can be held: at most the whole of each location is, and nothing of null.
-use Rattle.std.proofs.Common.{◌≡◌, ℕ, Bool, true, false, cond, [], ◌∷◌, refl, sym, ◌∙◌, ap, subst}
+use Rattle.std.proofs.Common.{◌≡◌, ℕ, Bool, true, false, cond, [], ◌∷◌, None, refl, sym, ◌∙◌, ap, subst}
 use Rattle.vx_frac.specs.Fractions.{Fraction, none, full, sum, minus}
 use Rattle.vx_ast.specs.Syntax.{Name, Program}
 use Rattle.vx_meaning.specs.States as run
@@ -9,7 +9,7 @@ use Rattle.vx_elements.proofs.Settled.{Meaning}
 use Rattle.vx_amounts.proofs.Amounts.{Le, le-refl, le-trans, le-is, add-below, add-left, minus_none, none-full, none-sum, sum_comm}
 use Rattle.vx_sound.proofs.World.{at_field, Limited, IsTypedResource, World, Changing}
 use Rattle.vx_sound.proofs.Chunks.{location_is, spread_bare}
-use Rattle.vx_sound.proofs.Evaluate.{UnfoldsGo}
+use Rattle.vx_sound.proofs.Evaluate.{PartsGo}
 use Rattle.vx_sound.proofs.Steps.{FoldsGo, UnfoldGo}
 
 abbrev pub OnlyLocations : run.Holdings → Type 0
@@ -61,6 +61,8 @@ fields_world p = record {
   program = p;
   bounded = true;
   Held = λ x. ⊥;
+  Applied = λ f. ⊥;
+  own = None;
   proper = λ x d h e. absurd h;
   Holds = λ h hs. HoldsFields hs;
   limited = λ h hs k. k.limited;
@@ -82,6 +84,7 @@ fields_world p = record {
 pub fields_changing : (p : Program) → Changing (fields_world p)
 fields_changing p = record {
   bounded = refl;
+  of_no_function = refl;
   changed = λ c g same k. k;
   changed_tree = λ c g same k o typed pos t tr. absurd typed.0;
   changed_total = λ c g same k n l. (n, le-is (ap (λ (hs : run.Holdings). run.amount hs (run.At l)) (spread_only p n g c.holdings k.only ∙ sym (spread_only p n c.heap c.holdings k.only))));
@@ -90,9 +93,12 @@ fields_changing p = record {
   created = λ h hs l k apart z. record { limited = new_limited l hs apart (subst (λ r. Le (run.amount r (run.At l)) none) (spread_only p 0 h hs k.only) (z 0)) k.limited; only = k.only };
 }
 
--- no instance is exchanged, taken or given
-pub fields_open : (means : Meaning) (p : Program) (d : ℕ) → UnfoldsGo means (fields_world p) (outer p d)
-fields_open means p d scope i s c at x ts vs a q on keys ga is pos st h = absurd keys.held
+-- no instance is exchanged, taken or given, and no function applied
+pub fields_parts : (means : Meaning) (p : Program) (d : ℕ) → PartsGo means (fields_world p) (outer p d)
+fields_parts means p d = record {
+  unfolds = λ scope i s c at x ts vs a q on keys ga is pos st h. absurd keys.held;
+  applies = λ scope i s c at f g ts vs on allowed named each st h. absurd allowed;
+}
 
 pub fields_fold : (means : Meaning) (p : Program) (d : ℕ) → FoldsGo means (fields_world p) (outer p d)
 fields_fold means p d scope i s c at x ts vs a q on keys ga is pos st h outcome ran = absurd keys.held

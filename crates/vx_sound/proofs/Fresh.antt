@@ -211,6 +211,7 @@ module _ (means : Meaning) (world : World) where
             bounded = m.stands.bounded;
             null = m.stands.null;
             standard = m.stands.standard;
+            owned = m.stands.owned;
             holds = holds_fields fs r fresh.not_null d heap c.holdings changed.holds unheld;
             old_holds = m.stands.old_holds;
           };
@@ -249,6 +250,7 @@ module _ (means : Meaning) (world : World) where
           bounded = before.bounded;
           null = before.null;
           standard = before.standard;
+          owned = before.owned;
           holds = changing.changed c heap kept before.holds;
           old_holds = before.old_holds;
         }

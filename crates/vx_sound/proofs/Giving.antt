@@ -35,7 +35,7 @@ use Rattle.vx_sound.proofs.Chunks.{resource_same, held_sign, taken_apart, chunk_
 use Rattle.vx_sound.proofs.Candidates.{FirstWith, first_one, InstanceTerms, Keys, of_field, of_instance, keys_later, keys_typed, Keyed, keyed, good_amount, amount_is}
 use Rattle.vx_sound.proofs.Puts.{stands_with_holdings, put_stands}
 use Rattle.vx_sound.proofs.Goes.{cleared_case, Goes, Evaluates, asked, good_fresh}
-use Rattle.vx_sound.proofs.Evaluate.{UnfoldsGo, bind_ok, eval_goes, evals_goes}
+use Rattle.vx_sound.proofs.Evaluate.{PartsGo, bind_ok, eval_goes, evals_goes}
 
 -- the parts of a permission fit
 part_fits : (p : Program) (m : ℕ) (c : run.State) (at : Place) (e : Expr) (f : Name) (share : Expr) (r v : Value) (k : ℕ) (x : Fraction) →
@@ -156,7 +156,7 @@ module _ (means : Meaning) (world : World) where
           (λ e. variable_written s.next b)
           (λ k. subst (IsThere p c.heap r) (sym (fresh_value means i s.next f.element b f.of_sort)) (f.there (subst (λ e. Positive (as_fraction e)) a_kept k)))
 
-  module _ (o : Outer) (opens : UnfoldsGo means world o) where
+  module _ (o : Outer) (parts : PartsGo means world o) where
     -- the amount of a permission, scaled, which is at least none
     record Scaled (scope : Scope) (i : Interpretation) (n : ℕ) (scale : Term) (on : Term → Going) (c : run.State) (share : Expr) (q : Fraction) : Type 0 where
       pub interp : Interpretation
@@ -174,7 +174,7 @@ module _ (means : Meaning) (world : World) where
       pub cleared : Cleared (on (multiply scale term) state)
 
     scaled : {scope : Scope} {share : Expr} {i : Interpretation} {s : rules.State} {c : run.State} (at : Place) (scale : Term) (q : Fraction) (on : Term → Going) →
-        HasType p scope share Perm → Speaks world.Held share → ScaleStands s.next i scale q → Stands means world scope i s c →
+        HasType p scope share Perm → Speaks world.Held world.Applied share → ScaleStands s.next i scale q → Stands means world scope i s c →
         Cleared (eval p o share s (λ a s2. ask (less_equal zero_amount (multiply scale a)) (placed s2 at) AmountCode s2 (on (multiply scale a)))) → Scaled scope i s.next scale on c share q
     scaled {scope = scope} {share = share} {i = i} {s = s} {c = c} at scale q on ts ks sc st h =
         record {
@@ -194,7 +194,7 @@ module _ (means : Meaning) (world : World) where
         }
       where
         a : Evaluates means world scope i s.next (λ a s2. ask (less_equal zero_amount (multiply scale a)) (placed s2 at) AmountCode s2 (on (multiply scale a))) c share Perm
-        a = eval_goes means world o opens ts ks (λ a s2. ask (less_equal zero_amount (multiply scale a)) (placed s2 at) AmountCode s2 (on (multiply scale a))) st h
+        a = eval_goes means world o parts ts ks (λ a s2. ask (less_equal zero_amount (multiply scale a)) (placed s2 at) AmountCode s2 (on (multiply scale a))) st h
 
         sc' : ScaleStands a.state.next a.interp scale q
         sc' = scale_later a.later a.extends sc
@@ -244,12 +244,12 @@ module _ (means : Meaning) (world : World) where
       pub cleared : Cleared (on receiver amount state)
 
     pub located : {scope : Scope} {e : Expr} {share : Expr} {i : Interpretation} {s : rules.State} {c : run.State} (at : Place) (f : Name) (scale : Term) (q : Fraction) (on : Term → Term → Going) →
-        HasType p scope e type.Ref → Speaks world.Held e → HasType p scope share Perm → Speaks world.Held share → ScaleStands s.next i scale q → Stands means world scope i s c →
+        HasType p scope e type.Ref → Speaks world.Held world.Applied e → HasType p scope share Perm → Speaks world.Held world.Applied share → ScaleStands s.next i scale q → Stands means world scope i s c →
         Cleared (eval p o e s (λ r s1. eval p o share s1 (λ a s2. ask (less_equal zero_amount (multiply scale a)) (placed s2 at) AmountCode s2 (λ s3. on r (multiply scale a) s3)))) →
         Located scope i s.next on c at e f share q
     located {scope = scope} {e = e} {share = share} {i = i} {s = s} {c = c} at f scale q on te ke ts ks sc st h =
         let after = λ (r a : Term) (s2 : rules.State). ask (less_equal zero_amount (multiply scale a)) (placed s2 at) AmountCode s2 (on r (multiply scale a)) in
-        let r = eval_goes means world o opens te ke (λ r s1. eval p o share s1 (after r)) st h in
+        let r = eval_goes means world o parts te ke (λ r s1. eval p o share s1 (after r)) st h in
         let k = ref_value_is r.result r.typed in
         let m = scaled at scale q (on r.term) ts ks (scale_later r.later r.extends sc) r.stands r.cleared in
         record {
@@ -293,12 +293,12 @@ module _ (means : Meaning) (world : World) where
       pub cleared : Cleared (on terms amount state)
 
     pub instance_located : {scope : Scope} {es : Exprs} {share : Expr} {i : Interpretation} {s : rules.State} {c : run.State} (at : Place) (x : Name) (d : Predicate) (scale : Term) (q : Fraction) (on : List Term → Term → Going) →
-        world.Held x → predicate_named p x ≡ Some d → HaveTypes p scope es d.parameters → AllSpeak world.Held es → HasType p scope share Perm → Speaks world.Held share → ScaleStands s.next i scale q → Stands means world scope i s c →
+        world.Held x → predicate_named p x ≡ Some d → HaveTypes p scope es d.parameters → AllSpeak world.Held world.Applied es → HasType p scope share Perm → Speaks world.Held world.Applied share → ScaleStands s.next i scale q → Stands means world scope i s c →
         Cleared (evals p o es s (λ ts s1. eval p o share s1 (λ a s2. ask (less_equal zero_amount (multiply scale a)) (placed s2 at) AmountCode s2 (λ s3. on ts (multiply scale a) s3)))) →
         InstanceLocated scope i s.next on c at x es share q
     instance_located {scope = scope} {es = es} {share = share} {i = i} {s = s} {c = c} at x d scale q on held named te ke ts ks sc st h =
         let after = λ (us : List Term) (a : Term) (s2 : rules.State). ask (less_equal zero_amount (multiply scale a)) (placed s2 at) AmountCode s2 (on us (multiply scale a)) in
-        let r = evals_goes means world o opens te ke (λ us s1. eval p o share s1 (after us)) st h in
+        let r = evals_goes means world o parts te ke (λ us s1. eval p o share s1 (after us)) st h in
         let m = scaled at scale q (on r.terms) ts ks (scale_later r.later r.extends sc) r.stands r.cleared in
         record {
           interp = m.interp;

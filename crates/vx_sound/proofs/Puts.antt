@@ -401,7 +401,7 @@ module _ (means : Meaning) (world : World) where
   -- the whole state
   pub stands_with_holdings : {scope : Scope} {i : Interpretation} {s : rules.State} {c : run.State} (chunks : rules.Heap) (holdings : run.Holdings) → Stands means world scope i s c → HeapStands means world s.next i chunks c.heap holdings →
       world.Holds c.heap holdings → Stands means world scope i (rules.with_heap chunks s) (run.with_holdings holdings c)
-  stands_with_holdings chunks holdings st h b = record { store = st.store; path = st.path; heap = h; old = st.old; awake = st.awake; bounded = st.bounded; null = st.null; standard = st.standard; holds = b; old_holds = st.old_holds }
+  stands_with_holdings chunks holdings st h b = record { store = st.store; path = st.path; heap = h; old = st.old; awake = st.awake; bounded = st.bounded; null = st.null; standard = st.standard; owned = st.owned; holds = b; old_holds = st.old_holds }
 
   pub put_stands : {scope : Scope} {i : Interpretation} {s : rules.State} {c : run.State} (new : rules.Chunk) (r : run.Resource) (q : Fraction) → Stands means world scope i s c → Keyed means world s.next i c.heap r new →
       Same (amount_of i new) q → world.Holds c.heap (run.gained r q c.holdings) →

@@ -1,11 +1,11 @@
--- What speaks of fields, and of instances of predicates of which instances can be held.
+-- What speaks of fields, of instances of predicates of which instances can be held, and of functions that may be applied.
 use Rattle.std.proofs.Common.{List, [], ◌∷◌}
 use Rattle.vx_ast.specs.Syntax.{Name, joined, joined_with, Expr, Number, Truth, Null, Part, Variable, Not, Operate, Divide, Connect, Choose, Read, Old, Apply, Unfolding, Exprs, NoMore, More, Assertion, Pure, Points, Instance, Both, Implied, Chosen}
 use Rattle.vx_ast.specs.declared.Place.{Place}
 use Rattle.vx_types.specs.FieldLanguage.{InFields, IsOfFields, AreOfFields}
 use Rattle.vx_types.specs.CallLanguage.{AreInFields}
 
-module _ (Held : Name → Type 0) where
+module _ (Held Applied : Name → Type 0) where
   abbrev mutual
     pub Speaks : Expr → Type 0
     Speaks (Number at n) = Unit {0}
@@ -20,7 +20,7 @@ module _ (Held : Name → Type 0) where
     Speaks (Choose at c a b) = Speaks c × Speaks a × Speaks b
     Speaks (Read at e f) = Speaks e
     Speaks (Old at e) = Speaks e
-    Speaks (Apply at f es) = ⊥
+    Speaks (Apply at f es) = Applied f × AllSpeak es
     Speaks (Unfolding at i es share e) = Held i × AllSpeak es × Speaks share × Speaks e
 
     pub AllSpeak : Exprs → Type 0
@@ -80,3 +80,34 @@ module _ (Held : Name → Type 0) where
   pub are_of_fields_speak : (rest : List Assertion) → AreOfFields rest → AllSpeakOf rest
   are_of_fields_speak [] k = tt
   are_of_fields_speak (a ∷ rest) k = (of_fields_speaks a k.0, are_of_fields_speak rest k.1)
+
+-- What applies nothing speaks of any applications.
+module _ (Held Applied : Name → Type 0) where
+  mutual
+    speaks_anyway : (e : Expr) → Speaks Held (λ f. ⊥) e → Speaks Held Applied e
+    speaks_anyway (Number at n) k = tt
+    speaks_anyway (Truth at b) k = tt
+    speaks_anyway (Null at) k = tt
+    speaks_anyway (Part at n d) k = tt
+    speaks_anyway (Variable at x) k = tt
+    speaks_anyway (Not at e) k = speaks_anyway e k
+    speaks_anyway (Operate at op a b) k = (speaks_anyway a k.0, speaks_anyway b k.1)
+    speaks_anyway (Divide at op a b) k = (speaks_anyway a k.0, speaks_anyway b k.1)
+    speaks_anyway (Connect at c a b) k = (speaks_anyway a k.0, speaks_anyway b k.1)
+    speaks_anyway (Choose at c a b) k = (speaks_anyway c k.0, speaks_anyway a k.1, speaks_anyway b k.2)
+    speaks_anyway (Read at e f) k = speaks_anyway e k
+    speaks_anyway (Old at e) k = speaks_anyway e k
+    speaks_anyway (Apply at f es) k = absurd k.0
+    speaks_anyway (Unfolding at i es share e) k = (k.0, all_speak_anyway es k.1, speaks_anyway share k.2, speaks_anyway e k.3)
+
+    all_speak_anyway : (es : Exprs) → AllSpeak Held (λ f. ⊥) es → AllSpeak Held Applied es
+    all_speak_anyway NoMore k = tt
+    all_speak_anyway (More e es) k = (speaks_anyway e k.0, all_speak_anyway es k.1)
+
+  pub body_speaks : (a : Assertion) → SpeaksOf Held (λ f. ⊥) a → SpeaksOf Held Applied a
+  body_speaks (Pure e) k = speaks_anyway e k
+  body_speaks (Points at e f share) k = (speaks_anyway e k.0, speaks_anyway share k.1)
+  body_speaks (Instance at i es share) k = (k.0, all_speak_anyway es k.1, speaks_anyway share k.2)
+  body_speaks (Both a b) k = (body_speaks a k.0, body_speaks b k.1)
+  body_speaks (Implied c a) k = (speaks_anyway c k.0, body_speaks a k.1)
+  body_speaks (Chosen c a b) k = (speaks_anyway c k.0, body_speaks a k.1, body_speaks b k.2)

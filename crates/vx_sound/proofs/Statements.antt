@@ -45,7 +45,7 @@ use Rattle.vx_sound.proofs.Chunks.{field_resource, Apart, taken_apart, chunk_hel
 use Rattle.vx_sound.proofs.Puts.{heap_changed, written_stands}
 use Rattle.vx_sound.proofs.Candidates.{FirstWith, first_one, of_field, good_amount, amount_is}
 use Rattle.vx_sound.proofs.Goes.{Goes, Evaluates, here, goes_after, reached, stuck, forked, declared, Named, named}
-use Rattle.vx_sound.proofs.Evaluate.{UnfoldsGo, bind_ok, eval_goes, EvaluatesAll, evals_goes}
+use Rattle.vx_sound.proofs.Evaluate.{PartsGo, bind_ok, eval_goes, EvaluatesAll, evals_goes}
 use Rattle.vx_sound.proofs.Giving.{whole_scale}
 use Rattle.vx_sound.proofs.Assertions.{by_side, Leaves, leaves_after, ends_leaves, stops_leaves, then_leaves, refused_leaves, stands_at, pure_goes, is_true_of, give_goes, Consumes, consumed}
 use Rattle.vx_sound.proofs.Arguments.{NamedAll, named_all}
@@ -75,8 +75,8 @@ module _ (means : Meaning) (world : World) where
   p = world.program
 
   module _ (o : Outer) (changing : Changing world) (steps : StepsGo means world o) where
-    abbrev opens : UnfoldsGo means world o
-    opens = steps.opens
+    abbrev parts : PartsGo means world o
+    parts = steps.parts
 
     possible : (c : run.State) → IsConsistent p c → CanBe p world.bounded c
     possible c k = subst (λ b. CanBe p b c) (sym changing.bounded) k
@@ -124,7 +124,7 @@ module _ (means : Meaning) (world : World) where
     declare_goes at x t scope c outcome h k u i s on st w =
         ends_leaves means world (scope ++ record { name = x; of = t } ∷ []) i s.next on (run.declare x h.0 c) outcome h.1.1 (declared means world x t h.0 on h.1.0 st w)
 
-    assign_goes : (at : Place) (x : Name) (e : Expr) → Speaks world.Held e → ExecGoes (Assign at x e)
+    assign_goes : (at : Place) (x : Name) (e : Expr) → Speaks world.Held world.Applied e → ExecGoes (Assign at x e)
     unfolding ExecGoes
     assign_goes at x e j scope c outcome (passes v h rest) k u i s on st w =
         ends_leaves means world scope i s.next on (run.with_store (run.assign x r.result c.store) c) outcome (subst (λ y. ends (run.with_store (run.assign x y c.store) c) outcome) (one_answer v r.result h r.fits) rest) assigned
@@ -133,7 +133,7 @@ module _ (means : Meaning) (world : World) where
         after t s1 = let s2 = rules.after_name t s1 in Step (on (rules.with_store (rules.assign x (rules.name_of t s1) s2.store) s2))
 
         r : Evaluates means world scope i s.next after c e k.0
-        r = eval_goes means world o opens k.2 j after st w
+        r = eval_goes means world o parts k.2 j after st w
 
         n : Named means world scope r.interp r.state.next c (sort_of_type k.0) (value r.interp r.term) (rules.name_of r.term r.state) (rules.after_name r.term r.state)
         n = named means world r.term (sort_of_type k.0) r.stands r.good
@@ -152,26 +152,26 @@ module _ (means : Meaning) (world : World) where
         }
     assign_goes at x e j scope c outcome (refused place h f) k u i s on st w =
         let after : Giving = λ t s1. let s2 = rules.after_name t s1 in Step (on (rules.with_store (rules.assign x (rules.name_of t s1) s2.store) s2)) in
-        let r = eval_goes means world o opens k.2 j after st w in
+        let r = eval_goes means world o parts k.2 j after st w in
         refused_leaves means world scope i s.next on outcome r.result place r.fits h
 
-    inhale_goes : (at : Place) (a : Assertion) → SpeaksOf world.Held a → ExecGoes (Inhale at a)
+    inhale_goes : (at : Place) (a : Assertion) → SpeaksOf world.Held world.Applied a → ExecGoes (Inhale at a)
     unfolding ExecGoes
-    inhale_goes at a j scope c outcome h k u i s on st w = give_goes means world o opens (IsConsistent p) possible outcome a full h k j whole_amount on (whole_scale means world s.next i) st w
+    inhale_goes at a j scope c outcome h k u i s on st w = give_goes means world o parts (IsConsistent p) possible outcome a full h k j whole_amount on (whole_scale means world s.next i) st w
 
-    assume_goes : (at : Place) (e : Expr) → Speaks world.Held e → ExecGoes (Assume at e)
+    assume_goes : (at : Place) (e : Expr) → Speaks world.Held world.Applied e → ExecGoes (Assume at e)
     unfolding ExecGoes
-    assume_goes at e j scope c outcome h k u i s on st w = pure_goes means world o opens outcome (IsConsistent p) full h k j on st w
+    assume_goes at e j scope c outcome h k u i s on st w = pure_goes means world o parts outcome (IsConsistent p) full h k j on st w
 
-    assert_goes : (at : Place) (a : Assertion) → SpeaksOf world.Held a → ExecGoes (Assert at a)
+    assert_goes : (at : Place) (a : Assertion) → SpeaksOf world.Held world.Applied a → ExecGoes (Assert at a)
     unfolding ExecGoes
     assert_goes at a j scope c outcome h k u i s on st w = go h
       where
         after : Giving
         after t s1 = Step (on (rules.with_heap s.heap s1))
 
-        r : Consumes means world o opens scope i s.next after c a full c.holdings
-        r = consumed means world o opens a full k j (codes AssertCode PermissionCode) whole_amount after (whole_scale means world s.next i) st w
+        r : Consumes means world o parts scope i s.next after c a full c.holdings
+        r = consumed means world o parts a full k j (codes AssertCode PermissionCode) whole_amount after (whole_scale means world s.next i) st w
 
         go : checked (λ n. take_by p n c full a c.holdings) (λ _. ends c) outcome → Leaves means world scope i s.next on outcome
         go (passes v h rest) = ends_leaves means world scope i s.next on c outcome rest record {
@@ -185,15 +185,15 @@ module _ (means : Meaning) (world : World) where
         go (refused place h f) = refused_leaves means world scope i s.next on outcome r.left place r.takes h
 
     -- what is left keeps its values, whatever else changes
-    exhale_goes : (at : Place) (a : Assertion) → SpeaksOf world.Held a → ExecGoes (Exhale at a)
+    exhale_goes : (at : Place) (a : Assertion) → SpeaksOf world.Held world.Applied a → ExecGoes (Exhale at a)
     unfolding ExecGoes
     exhale_goes at a j scope c outcome h k u i s on st w = go h
       where
         after : Giving
         after t s1 = Step (on s1)
 
-        r : Consumes means world o opens scope i s.next after c a full c.holdings
-        r = consumed means world o opens a full k j (codes AssertCode PermissionCode) whole_amount after (whole_scale means world s.next i) st w
+        r : Consumes means world o parts scope i s.next after c a full c.holdings
+        r = consumed means world o parts a full k j (codes AssertCode PermissionCode) whole_amount after (whole_scale means world s.next i) st w
 
         changed : (heap : run.Heap) → Changes p (run.with_holdings r.left c) heap → Goes means world scope i s.next on (run.with_heap heap (run.with_holdings r.left c))
         changed heap same = record {
@@ -210,6 +210,7 @@ module _ (means : Meaning) (world : World) where
             bounded = r.goes.stands.bounded;
             null = r.goes.stands.null;
             standard = r.goes.stands.standard;
+            owned = r.goes.stands.owned;
             holds = changing.changed (run.with_holdings r.left c) heap same r.goes.stands.holds;
             old_holds = r.goes.stands.old_holds;
           };
@@ -261,7 +262,7 @@ module _ (means : Meaning) (world : World) where
         tested : Bool → Checked (run.Location × Value)
         tested b = (guard at b >>= λ _. Ok (at_field k f)) >>= λ l. Ok (l, v)
 
-    write_goes : (at : Place) (e : Expr) (f : Name) (e' : Expr) → Speaks world.Held e → Speaks world.Held e' → ExecGoes (Write at e f e')
+    write_goes : (at : Place) (e : Expr) (f : Name) (e' : Expr) → Speaks world.Held world.Applied e → Speaks world.Held world.Applied e' → ExecGoes (Write at e f e')
     unfolding ExecGoes
     write_goes at e f e' j j' scope c outcome h k u i s on st w = go h
       where
@@ -269,10 +270,10 @@ module _ (means : Meaning) (world : World) where
         second r t s2 = write_field f r t at s2 on
 
         r : Evaluates means world scope i s.next (λ r s1. Step (eval p o e' s1 (second r))) c e type.Ref
-        r = eval_goes means world o opens k.2 j (λ r s1. Step (eval p o e' s1 (second r))) st w
+        r = eval_goes means world o parts k.2 j (λ r s1. Step (eval p o e' s1 (second r))) st w
 
         q : Evaluates means world scope r.interp r.state.next (second r.term) c e' k.0
-        q = eval_goes means world o opens k.3 j' (second r.term) r.stands r.cleared
+        q = eval_goes means world o parts k.3 j' (second r.term) r.stands r.cleared
 
         reference : (m : ℕ) × (r.result ≡ RefValue m)
         reference = ref_value_is r.result r.typed
@@ -331,6 +332,7 @@ module _ (means : Meaning) (world : World) where
             bounded = n.stands.bounded;
             null = n.stands.null;
             standard = n.stands.standard;
+            owned = n.stands.owned;
             holds = changing.written c.heap c.holdings (at_field reference.0 f) q.result st.holds enough;
             old_holds = n.stands.old_holds;
           };
@@ -352,7 +354,7 @@ module _ (means : Meaning) (world : World) where
         ends_leaves means world scope i s.next on (run.with_holdings (meaning.new_fields r fs c.holdings) (run.with_store (run.assign x (RefValue r) c.store) (run.with_heap heap c))) outcome e
         (new_goes means world changing x fs heap r on u k.0 k.2 same fresh st w)
 
-    if_goes : (at : Place) (e : Expr) (a b : Block) → Speaks world.Held e → ExecAllGoes a → ExecAllGoes b → ExecGoes (If at e a b)
+    if_goes : (at : Place) (e : Expr) (a b : Block) → Speaks world.Held world.Applied e → ExecAllGoes a → ExecAllGoes b → ExecGoes (If at e a b)
     unfolding ExecGoes ExecAllGoes
     if_goes at e a b j on_a on_b scope c outcome h k u i s on st w = go h
       where
@@ -366,7 +368,7 @@ module _ (means : Meaning) (world : World) where
         right s2 = exec_all p o b s2 leaving
 
         r : Evaluates means world scope i s.next (λ t s1. fork t s1 left right) c e type.Bool
-        r = eval_goes means world o opens k.0 j (λ t s1. fork t s1 left right) st w
+        r = eval_goes means world o parts k.0 j (λ t s1. fork t s1 left right) st w
 
         lengths : (length s.store ≡ length scope) × (length c.store ≡ length scope)
         lengths = store_lengths means world s.next i scope s.store c.store st.store
@@ -389,12 +391,12 @@ module _ (means : Meaning) (world : World) where
         go : checked (λ n. fit_by p n c e) (λ v. side v (meaning.scoped p (meaning.run_all p a) c) (meaning.scoped p (meaning.run_all p b) c)) outcome → Leaves means world scope i s.next on outcome
         go (passes v h rest) =
             by_side (as_bool (element r.result)) (meaning.scoped p (meaning.run_all p a) c) (meaning.scoped p (meaning.run_all p b) c) outcome
-            (subst (λ x. when x (meaning.scoped p (meaning.run_all p a) c) (meaning.scoped p (meaning.run_all p b) c) outcome) (ap is_true (one_answer v r.result h r.fits) ∙ is_true_of means world o opens r.result r.typed) rest)
+            (subst (λ x. when x (meaning.scoped p (meaning.run_all p a) c) (meaning.scoped p (meaning.run_all p b) c) outcome) (ap is_true (one_answer v r.result h r.fits) ∙ is_true_of means world o parts r.result r.typed) rest)
             on_left on_right
         go (refused place h f) = refused_leaves means world scope i s.next on outcome r.result place r.fits h
 
     -- a call, once its arguments are evaluated and named
-    call_goes : (at : Place) (xs : List Name) (f : Name) (es : Exprs) → AllSpeak world.Held es → IsCalled world f → ExecGoes (Call at xs f es)
+    call_goes : (at : Place) (xs : List Name) (f : Name) (es : Exprs) → AllSpeak world.Held world.Applied es → IsCalled world f → ExecGoes (Call at xs f es)
     unfolding ExecGoes
     call_goes at xs f es j contract scope c outcome h k u i s on st w = go h
       where
@@ -404,8 +406,8 @@ module _ (means : Meaning) (world : World) where
           | Some m ↦ called p o at m (names_of ts s1) xs (after_names ts s1) on
         ]
 
-        r : EvaluatesAll means world o opens scope i s.next after c es (k.0).parameters
-        r = evals_goes means world o opens k.2 j after st w
+        r : EvaluatesAll means world o parts scope i s.next after c es (k.0).parameters
+        r = evals_goes means world o parts k.2 j after st w
 
         n : NamedAll means world scope r.interp r.state.next c (k.0).parameters (names_of r.terms r.state) r.results (after_names r.terms r.state)
         n = named_all means world (k.0).parameters r.terms r.results r.each r.stands
@@ -440,7 +442,7 @@ module _ (means : Meaning) (world : World) where
     -- Loops
 
     -- an arbitrary iteration, and what is behind
-    while_goes : (at : Place) (e : Expr) (is : List Assertion) (b : Block) → Speaks world.Held e → AllSpeakOf world.Held is → ExecAllGoes b → ExecGoes (While at e is b)
+    while_goes : (at : Place) (e : Expr) (is : List Assertion) (b : Block) → Speaks world.Held world.Applied e → AllSpeakOf world.Held world.Applied is → ExecAllGoes b → ExecGoes (While at e is b)
     unfolding ExecGoes ExecAllGoes
     while_goes at e is b je ji on_b scope c outcome h k u i s on st w = go h
       where
@@ -453,8 +455,8 @@ module _ (means : Meaning) (world : World) where
         inv_typed : IsTyped p scope (joined at is)
         inv_typed = joined_typed p scope at is k.1
 
-        inv_plain : SpeaksOf world.Held (joined at is)
-        inv_plain = joined_speaks world.Held at is ji
+        inv_plain : SpeaksOf world.Held world.Applied (joined at is)
+        inv_plain = joined_speaks world.Held world.Applied at is ji
 
         kept : Going
         kept s5 = consume p o (joined at is) (codes KeptCode KeptCode) whole_amount s5.heap s5 (λ v s6. End)
@@ -474,8 +476,8 @@ module _ (means : Meaning) (world : World) where
         after : Giving
         after t s1 = Fork (first (forget [] (assigned_in b) s1)) (second (forget [] (assigned_in b) s1))
 
-        r : Consumes means world o opens scope i s.next after c (joined at is) full c.holdings
-        r = consumed means world o opens (joined at is) full inv_typed inv_plain (codes EntryCode EntryCode) whole_amount after (whole_scale means world s.next i) st w
+        r : Consumes means world o parts scope i s.next after c (joined at is) full c.holdings
+        r = consumed means world o parts (joined at is) full inv_typed inv_plain (codes EntryCode EntryCode) whole_amount after (whole_scale means world s.next i) st w
 
         lengths : length s.store ≡ length scope
         lengths = (store_lengths means world s.next i scope s.store c.store st.store).0
@@ -489,13 +491,13 @@ module _ (means : Meaning) (world : World) where
             body t = and_then (meaning.scoped p (meaning.run_all p b) t) (λ v. checked (λ n. take_by p n v full (joined at is) v.holdings) (λ _. stops))
 
             ev : Evaluates means world scope g.interp g.state.next (λ a s3. exec_all p o b (rules.with_branch a s3) (λ s4. kept (rules.leave (length s.store) s4))) t e type.Bool
-            ev = eval_goes means world o opens k.0 je (λ a s3. exec_all p o b (rules.with_branch a s3) (λ s4. kept (rules.leave (length s.store) s4))) g.stands g.cleared
+            ev = eval_goes means world o parts k.0 je (λ a s3. exec_all p o b (rules.with_branch a s3) (λ s4. kept (rules.leave (length s.store) s4))) g.stands g.cleared
 
             end_of : (v : run.State) (g1 : Goes means world scope ev.interp ev.state.next kept v) → checked (λ n. take_by p n v full (joined at is) v.holdings) (λ _. stops) outcome → Leaves means world scope g1.interp g1.state.next on outcome
             end_of v g1 q = end q
               where
-                z : Consumes means world o opens scope g1.interp g1.state.next (λ a s6. End) v (joined at is) full v.holdings
-                z = consumed means world o opens (joined at is) full inv_typed inv_plain (codes KeptCode KeptCode) whole_amount (λ a s6. End) (whole_scale means world g1.state.next g1.interp) g1.stands g1.cleared
+                z : Consumes means world o parts scope g1.interp g1.state.next (λ a s6. End) v (joined at is) full v.holdings
+                z = consumed means world o parts (joined at is) full inv_typed inv_plain (codes KeptCode KeptCode) whole_amount (λ a s6. End) (whole_scale means world g1.state.next g1.interp) g1.stands g1.cleared
 
                 end : checked (λ n. take_by p n v full (joined at is) v.holdings) (λ _. stops) outcome → Leaves means world scope g1.interp g1.state.next on outcome
                 end (passes a h rest) = stops_leaves means world scope g1.interp g1.state.next on outcome rest
@@ -512,7 +514,7 @@ module _ (means : Meaning) (world : World) where
 
             end : checked (λ n. fit_by p n t e) (λ v. side v (body t) stops) outcome → Leaves means world scope g.interp g.state.next on outcome
             end (passes v h rest) =
-                by_side (as_bool (element ev.result)) (body t) stops outcome (subst (λ x. when x (body t) stops outcome) (ap is_true (one_answer v ev.result h ev.fits) ∙ is_true_of means world o opens ev.result ev.typed) rest)
+                by_side (as_bool (element ev.result)) (body t) stops outcome (subst (λ x. when x (body t) stops outcome) (ap is_true (one_answer v ev.result h ev.fits) ∙ is_true_of means world o parts ev.result ev.typed) rest)
                 on_true (λ f q. stops_leaves means world scope g.interp g.state.next on outcome q)
             end (refused place h f) = refused_leaves means world scope g.interp g.state.next on outcome ev.result place ev.fits h
 
@@ -529,6 +531,7 @@ module _ (means : Meaning) (world : World) where
               bounded = f.stands.bounded;
               null = f.stands.null;
               standard = f.stands.standard;
+              owned = f.stands.owned;
               holds = world.nothing heap;
               old_holds = f.stands.old_holds;
             } in
@@ -536,14 +539,14 @@ module _ (means : Meaning) (world : World) where
             (leaves_after means world {mid = scope} scope on outcome f
             (then_leaves means world scope scope f.interp f.state.next (give p (IsConsistent p) full (joined at is) t0)
             (λ t. checked (λ n. fit_by p n t e) (λ v. side v (and_then (meaning.scoped p (meaning.run_all p b) t) (λ v. checked (λ n. take_by p n v full (joined at is) v.holdings) (λ _. stops))) stops)) inside on outcome q
-            (λ other m. give_goes means world o opens (IsConsistent p) possible other (joined at is) full m inv_typed inv_plain {s = rules.with_heap [] f.state} whole_amount inside (whole_scale means world f.state.next f.interp) empty f.cleared)
+            (λ other m. give_goes means world o parts (IsConsistent p) possible other (joined at is) full m inv_typed inv_plain {s = rules.with_heap [] f.state} whole_amount inside (whole_scale means world f.state.next f.interp) empty f.cleared)
             (λ t g m. iterates t f.interp f.state.next g m)))
 
         leaves_on : (t : run.State) (j : Interpretation) (n : ℕ) (g : Goes means world scope j n outside t) → checked (λ n. fit_by p n t e) (λ v. side v stops (ends t)) outcome → Leaves means world scope g.interp g.state.next on outcome
         leaves_on t j n g q = end q
           where
             ev : Evaluates means world scope g.interp g.state.next (λ a s3. Step (on (rules.with_branch (negate a) s3))) t e type.Bool
-            ev = eval_goes means world o opens k.0 je (λ a s3. Step (on (rules.with_branch (negate a) s3))) g.stands g.cleared
+            ev = eval_goes means world o parts k.0 je (λ a s3. Step (on (rules.with_branch (negate a) s3))) g.stands g.cleared
 
             on_false : as_bool (element ev.result) ≡ false → ends t outcome → Leaves means world scope g.interp g.state.next on outcome
             on_false f q = ends_leaves means world scope g.interp g.state.next on t outcome q record {
@@ -557,7 +560,7 @@ module _ (means : Meaning) (world : World) where
 
             end : checked (λ n. fit_by p n t e) (λ v. side v stops (ends t)) outcome → Leaves means world scope g.interp g.state.next on outcome
             end (passes v h rest) =
-                by_side (as_bool (element ev.result)) stops (ends t) outcome (subst (λ x. when x stops (ends t) outcome) (ap is_true (one_answer v ev.result h ev.fits) ∙ is_true_of means world o opens ev.result ev.typed) rest)
+                by_side (as_bool (element ev.result)) stops (ends t) outcome (subst (λ x. when x stops (ends t) outcome) (ap is_true (one_answer v ev.result h ev.fits) ∙ is_true_of means world o parts ev.result ev.typed) rest)
                 (λ f q. stops_leaves means world scope g.interp g.state.next on outcome q) on_false
             end (refused place h f) = refused_leaves means world scope g.interp g.state.next on outcome ev.result place ev.fits h
 
@@ -573,6 +576,7 @@ module _ (means : Meaning) (world : World) where
               bounded = d.bounded;
               null = d.null;
               standard = d.standard;
+              owned = d.owned;
               holds = changing.changed (run.with_holdings r.left c) heap same d.holds;
               old_holds = d.old_holds;
             } in
@@ -581,7 +585,7 @@ module _ (means : Meaning) (world : World) where
             (leaves_after means world {mid = scope} scope on outcome f
             (then_leaves means world scope scope f.interp f.state.next (give p (IsConsistent p) full (joined at is) (run.with_store y (run.with_heap heap (run.with_holdings r.left c))))
             (λ t. checked (λ n. fit_by p n t e) (λ v. side v stops (ends t))) outside on outcome q
-            (λ other m. give_goes means world o opens (IsConsistent p) possible other (joined at is) full m inv_typed inv_plain {s = f.state} whole_amount outside (whole_scale means world f.state.next f.interp) f.stands f.cleared)
+            (λ other m. give_goes means world o parts (IsConsistent p) possible other (joined at is) full m inv_typed inv_plain {s = f.state} whole_amount outside (whole_scale means world f.state.next f.interp) f.stands f.cleared)
             (λ t g m. leaves_on t f.interp f.state.next g m)))
 
         either_side : meaning.iteration p c (assigned_in b) e (joined at is) (meaning.scoped p (meaning.run_all p b)) outcome ⊎ meaning.behind p (run.with_holdings r.left c) (assigned_in b) e (joined at is) outcome → Leaves means world scope i s.next on outcome
@@ -597,15 +601,15 @@ module _ (means : Meaning) (world : World) where
 
     -- Instances
 
-    fold_goes : (at : Place) (x : Name) (es : Exprs) (share : Expr) → world.Held x → AllSpeak world.Held es → Speaks world.Held share → ExecGoes (Fold at x es share)
+    fold_goes : (at : Place) (x : Name) (es : Exprs) (share : Expr) → world.Held x → AllSpeak world.Held world.Applied es → Speaks world.Held world.Applied share → ExecGoes (Fold at x es share)
     unfolding ExecGoes
     fold_goes at x es share held je js scope c outcome h k u i s on st w = go h
       where
         after : List Term → Term → Going
         after ts a s3 = folded p o at x ts a s3 on
 
-        l : InstanceAt means world o opens scope i s.next after c at x es share
-        l = instance_at means world o opens at x k.0.0 after held k.0.1 k.0.2 je k.1 js st w
+        l : InstanceAt means world o parts scope i s.next after c at x es share
+        l = instance_at means world o parts at x k.0.0 after held k.0.1 k.0.2 je k.1 js st w
 
         reached' : Goes means world scope i s.next (λ s3. folded p o at x l.terms l.term s3 on) c
         reached' = record { interp = l.interp; state = l.state; extends = l.extends; later = l.later; stands = l.stands; cleared = l.cleared }
@@ -617,15 +621,15 @@ module _ (means : Meaning) (world : World) where
             (subst (λ y. meaning.fold p c at y outcome) (one_answer v (record { predicate = x; arguments = l.results }, l.fraction) h l.allowed) rest))
         go (refused place h f) = refused_leaves means world scope i s.next on outcome (record { predicate = x; arguments = l.results }, l.fraction) place l.allowed h
 
-    unfold_goes : (at : Place) (x : Name) (es : Exprs) (share : Expr) → world.Held x → AllSpeak world.Held es → Speaks world.Held share → ExecGoes (Unfold at x es share)
+    unfold_goes : (at : Place) (x : Name) (es : Exprs) (share : Expr) → world.Held x → AllSpeak world.Held world.Applied es → Speaks world.Held world.Applied share → ExecGoes (Unfold at x es share)
     unfolding ExecGoes
     unfold_goes at x es share held je js scope c outcome h k u i s on st w = go h
       where
         after : List Term → Term → Going
         after ts a s3 = unfolded p o at x ts a s3 on
 
-        l : InstanceAt means world o opens scope i s.next after c at x es share
-        l = instance_at means world o opens at x k.0.0 after held k.0.1 k.0.2 je k.1 js st w
+        l : InstanceAt means world o parts scope i s.next after c at x es share
+        l = instance_at means world o parts at x k.0.0 after held k.0.1 k.0.2 je k.1 js st w
 
         reached' : Goes means world scope i s.next (λ s3. unfolded p o at x l.terms l.term s3 on) c
         reached' = record { interp = l.interp; state = l.state; extends = l.extends; later = l.later; stands = l.stands; cleared = l.cleared }

@@ -31,7 +31,7 @@ use Rattle.vx_sound.proofs.Passes.{Cleared}
 use Rattle.vx_sound.proofs.Stands.{Stands}
 use Rattle.vx_sound.proofs.Candidates.{InstanceTerms}
 use Rattle.vx_sound.proofs.Goes.{asked}
-use Rattle.vx_sound.proofs.Evaluate.{UnfoldsGo, bind_ok, eval_goes, evals_goes, amount_known, amount_later}
+use Rattle.vx_sound.proofs.Evaluate.{PartsGo, bind_ok, eval_goes, evals_goes, amount_known, amount_later}
 use Rattle.vx_sound.proofs.Assertions.{Leaves}
 use Rattle.vx_sound.proofs.Calls.{CallsGo}
 
@@ -49,7 +49,7 @@ UnfoldGo means world o =
     Cleared (unfolded world.program o at x ts a s on) → (outcome : Outcome) → meaning.unfold_it world.program c at (record { predicate = x; arguments = vs }, q) outcome → Leaves means world scope i s.next on outcome
 
 pub record StepsGo (means : Meaning) (world : World) (o : Outer) : Type 0 where
-  pub opens : UnfoldsGo means world o
+  pub parts : PartsGo means world o
   pub calls : CallsGo means world o
   pub folds : FoldsGo means world o
   pub unfolds : UnfoldGo means world o
@@ -68,7 +68,7 @@ instance_fits p n c at x es share v q vs f is above g = bind_ok amounts v f ∙ 
     amounts : Value → Checked (run.Instance × Fraction)
     amounts v = or_fail at (fits.amount_of v) >>= λ q. guard at (is_positive q) >>= λ _. fit_all p (deeper p n) c es >>= paired q
 
-module _ (means : Meaning) (world : World) (o : Outer) (opens : UnfoldsGo means world o) where
+module _ (means : Meaning) (world : World) (o : Outer) (parts : PartsGo means world o) where
   abbrev p : Program
   p = world.program
 
@@ -91,15 +91,15 @@ module _ (means : Meaning) (world : World) (o : Outer) (opens : UnfoldsGo means 
     pub cleared : Cleared (on terms term state)
 
   pub instance_at : {scope : Scope} {es : Exprs} {share : Expr} {i : Interpretation} {s : rules.State} {c : run.State} (at : Place) (x : Name) (d : Predicate) (on : List Term → Term → Going) →
-      world.Held x → predicate_named p x ≡ Some d → HaveTypes p scope es d.parameters → AllSpeak world.Held es → HasType p scope share Perm → Speaks world.Held share → Stands means world scope i s c →
+      world.Held x → predicate_named p x ≡ Some d → HaveTypes p scope es d.parameters → AllSpeak world.Held world.Applied es → HasType p scope share Perm → Speaks world.Held world.Applied share → Stands means world scope i s c →
       Cleared (eval p o share s (λ a s1. ask (less zero_amount a) at AmountCode s1 (λ s2. evals p o es s2 (λ ts s3. on ts a s3)))) → InstanceAt scope i s.next on c at x es share
   instance_at {es = es} {share = share} {c = c} at x d on held named te ke ts ks st h =
       let args = λ (a : Term) (s2 : rules.State). evals p o es s2 (λ us s3. on us a s3) in
-      let r = eval_goes means world o opens ts ks (λ a s1. ask (less zero_amount a) at AmountCode s1 (args a)) st h in
+      let r = eval_goes means world o parts ts ks (λ a s1. ask (less zero_amount a) at AmountCode s1 (args a)) st h in
       let g = asked means world (less zero_amount r.term) at AmountCode (args r.term) r.stands (good_positive means r.good) r.cleared in
-      let q = evals_goes means world o opens te ke (λ us s3. on us r.term s3) g.1.stands g.1.cleared in
-      let m = amount_known means world o opens r g.0 g.1 in
-      let last = amount_later means world o opens q.later q.extends m.1 in
+      let q = evals_goes means world o parts te ke (λ us s3. on us r.term s3) g.1.stands g.1.cleared in
+      let m = amount_known means world o parts r g.0 g.1 in
+      let last = amount_later means world o parts q.later q.extends m.1 in
       record {
         interp = q.interp;
         state = q.state;

@@ -1,5 +1,5 @@
 -- What is known of what is held, and of which predicates instances can be held.
-use Rattle.std.proofs.Common.{◌≡◌, ℕ, Bool, true, false, [], ◌∷◌, Some}
+use Rattle.std.proofs.Common.{◌≡◌, ℕ, ℤ, Bool, true, false, [], ◌∷◌, Option, Some, None}
 use Rattle.vx_frac.specs.Fractions.{Fraction, none, full}
 use Rattle.vx_ast.specs.Syntax.{Name, Program, Predicate, predicate_named}
 use Rattle.vx_meaning.specs.Values.{Value}
@@ -31,12 +31,20 @@ abbrev pub CanBe : Program → Bool → run.State → Type 0
 CanBe p true c = IsConsistent p c
 CanBe p false c = IsSupported p c
 
+-- the function whose body is walked, and the number that its measure has where it is entered, if that is a number
+pub record Walked : Type 0 where
+  pub function : Name
+  pub measure : Option ℤ
+
 -- What the laws on expressions and assertions need to know of a heap and of what is held there: `Holds`, which says that it
--- is limited and that each instance of which something is held has its tree, and what keeps it.
+-- is limited and that each instance of which something is held has its tree, and what keeps it; which functions may be
+-- applied; and the function whose body is walked, if it is one.
 pub record World : Type 1 where
   pub program : Program
   pub bounded : Bool
   pub Held : Name → Type 0
+  pub Applied : Name → Type 0
+  pub own : Option Walked
   pub proper : (x : Name) (d : Predicate) → Held x → predicate_named program x ≡ Some d → HaveNoPerm d.parameters
   pub Holds : run.Heap → run.Holdings → Type 0
   pub limited : (h : run.Heap) (hs : run.Holdings) → Holds h hs → Limited bounded hs
@@ -48,9 +56,10 @@ pub record World : Type 1 where
   pub single : (h : run.Heap) (k : run.Instance) (t u : Tree) → IsTypedInstance program Held k → IsTree program h k t → IsTree program h k u → t ≡ u
 
 -- What the laws on statements need besides: changes of what isn't held, writes of what is held whole, and new locations keep
--- what is known, and the trees of the instances that are held.
+-- what is known, and the trees of the instances that are held. No function has statements.
 pub record Changing (w : World) : Type 0 where
   pub bounded : w.bounded ≡ true
+  pub of_no_function : w.own ≡ None
   pub changed : (c : run.State) (g : run.Heap) → Changes w.program c g → w.Holds c.heap c.holdings → w.Holds g c.holdings
   pub changed_tree : (c : run.State) (g : run.Heap) → Changes w.program c g → w.Holds c.heap c.holdings → (k : run.Instance) → IsTypedInstance w.program w.Held k → Positive (run.amount c.holdings (run.Folded k)) →
       (t : Tree) → IsTree w.program c.heap k t → IsTree w.program g k t

@@ -1,14 +1,14 @@
 -- Applications of a function at the same arguments, with the same tree of its precondition, have values that look the same.
-use Rattle.std.proofs.Common.{◌≡◌, ℕ, zero, suc, Bool, true, false, cond, List, [], ◌∷◌, Option, Some, None, refl, sym, ◌∙◌, ap, ap₂, subst}
+use Rattle.std.proofs.Common.{◌≡◌, ℕ, zero, suc, Bool, true, false, cond, List, [], ◌∷◌, Some, None, refl, sym, ◌∙◌, ap, ap₂, subst}
 use Rattle.vx_frac.specs.Fractions.{Fraction, none, full, sum, product}
 use Rattle.vx_ast.specs.Syntax.{Name, Program, Predicate, Function, function_named}
 use Rattle.vx_meaning.specs.Values.{Value}
 use Rattle.vx_meaning.specs.States as run
-use Rattle.vx_meaning.specs.States.{State, Store, Heap, Holdings, Instance, Resource, At, Folded, same_resource, amount, bind, with_store}
+use Rattle.vx_meaning.specs.States.{State, Heap, Holdings, Instance, Resource, At, Folded, same_resource, amount, bind, with_store}
 use Rattle.vx_meaning.specs.Evaluate.{applications}
 use Rattle.vx_meaning.specs.Flatten.{bare, IsGrounded}
 use Rattle.vx_meaning.specs.Consistent.{IsConsistent}
-use Rattle.vx_meaning.specs.Fits.{◌>>=◌, to_option, fit, take, add, deeper}
+use Rattle.vx_meaning.specs.Fits.{add, deeper}
 use Rattle.vx_terms.specs.Interpretations.{Tree}
 use Rattle.vx_whole.specs.Premises.{IsTypedProgram}
 use Rattle.vx_whole.specs.Closure.{InClosure}
@@ -26,13 +26,14 @@ use Rattle.vx_sound_preds.proofs.Adding.{added, weigh_added}
 use Rattle.vx_sound_preds.proofs.Exchanging.{held_rigid}
 use Rattle.vx_sound_preds.proofs.Folding.{Stock}
 use Rattle.vx_sound_preds.proofs.Taking.{taken, weigh_taken}
-use Rattle.vx_sound_preds.proofs.Holding.{TypedAll, stock, of_possible}
+use Rattle.vx_sound_preds.proofs.Holding.{HoldsInstances, TypedAll, stock, of_possible}
 use Rattle.vx_sound_preds.proofs.Keeping.{held_typed}
 use Rattle.vx_sound_preds.proofs.Walks.{held_proper}
 use Rattle.vx_sound_funcs.specs.Told.{LooksLike, IsTreeOf, HoldsJust, precondition_of, IsValueOf}
-use Rattle.vx_sound_funcs.specs.Firm.{start_of, firm_application, firmly, GoodFunctions}
+use Rattle.vx_sound_funcs.specs.Firm.{firm_application, firmly, GoodFunctions}
 use Rattle.vx_sound_funcs.proofs.Alike.{firm_exchange, add_alike}
-use Rattle.vx_sound_funcs.proofs.Firm.{Steps, steps, Begun, begun}
+use Rattle.vx_sound_funcs.proofs.Steps.{Steps, steps_of}
+use Rattle.vx_sound_funcs.proofs.Firm.{Begun, begun}
 use Rattle.vx_sound_funcs.proofs.Values.{firmly_determined}
 
 -- An amount is a sum by weights.
@@ -62,25 +63,29 @@ taken_amount p h es hs rest r sr is st =
     le-trans (amount_weighs r (added full es [])).there (le-trans (weigh_added w full es []).there (le-trans nil.there
     (le-trans (above-add (product full (weigh w es)) (weigh w rest) left) (le-trans whole.there (amount_weighs r hs).back))))
 
-module _ (p : Program) (x : Name) (good : GoodBodies p) (functions : GoodFunctions p) (covered : Covered p (IsProper p x)) (typed : IsTypedProgram p) where
-  typed_all : (hs : Holdings) → TypedInstances p x hs → TypedAll p (InClosure p x) hs
-  typed_all [] h = tt
-  typed_all ((At l, a) ∷ xs) h = (tt, typed_all xs h)
-  typed_all ((Folded i, a) ∷ xs) h = ((h.0.0, (h.0.1.0, h.0.1.1, (typed.predicates i.predicate h.0.1.0 h.0.1.1).parameters, h.0.1.2)), typed_all xs h.1)
+-- what is held in a state that can be
+pub typed_all : (p : Program) (x : Name) → IsTypedProgram p → (hs : Holdings) → TypedInstances p x hs → TypedAll p (InClosure p x) hs
+typed_all p x typed [] h = tt
+typed_all p x typed ((At l, a) ∷ xs) h = (tt, typed_all p x typed xs h)
+typed_all p x typed ((Folded i, a) ∷ xs) h = ((h.0.0, (h.0.1.0, h.0.1.1, (typed.predicates i.predicate h.0.1.0 h.0.1.1).parameters, h.0.1.2)), typed_all p x typed xs h.1)
 
+pub holds_possible : (p : Program) (x : Name) (good : GoodBodies p) → IsTypedProgram p → (s : State) → IsConsistent p s → IsStocked p x s.holdings → HoldsInstances p (InClosure p x) true s.heap s.holdings
+holds_possible p x good typed s co st = of_possible p good (InClosure p x) true s co (typed_all p x typed s.holdings st.instances) (λ r k. record { holds = st.debts r })
+
+module _ (p : Program) (x : Name) (good : GoodBodies p) (functions : GoodFunctions p) (covered : Covered p (IsProper p x)) (typed : IsTypedProgram p) where
   -- what is held in a state that can be
   module _ (s : State) (co : IsConsistent p s) (st : IsStocked p x s.holdings) where
     stocked : Stock p s.heap s.holdings
-    stocked = stock p good (InClosure p x) true s.heap s.holdings (of_possible p good (InClosure p x) true s co (typed_all s.holdings st.instances) (λ r k. record { holds = st.debts r }))
+    stocked = stock p good (InClosure p x) true s.heap s.holdings (holds_possible p x good typed s co st)
 
     proper : (i : Instance) → Positive (amount s.holdings (Folded i)) → IsProper p x s.heap i
     proper i k =
-        let h = held_typed p (InClosure p x) s.holdings (typed_all s.holdings st.instances) i k in
+        let h = held_typed p (InClosure p x) s.holdings (typed_all p x typed s.holdings st.instances) i k in
         held_proper p x good s co.supported stocked i k h.0 (λ d e. subst (λ (d : Predicate). run.HaveTypes d.parameters i.arguments) (some_is h.1.0 d (sym h.1.1 ∙ e)) h.1.3)
 
   module _ (f : Name) (g : Function) (named : function_named p f ≡ Some g) (vs : List Value) (ri : AreRigid vs) where
     -- where the function starts just its precondition is held, of instances that the caller holds
-    start_holds : (n : ℕ) (s : State) (v : Value) → IsConsistent p s → IsStocked p x s.holdings → (k : Steps p n g vs s v) → Begun p good functions n g vs s k.start k.rest → HoldsJust p (IsProper p x) (precondition_of g) k.start
+    start_holds : (n : ℕ) (s : State) (v : Value) → IsConsistent p s → IsStocked p x s.holdings → (k : Steps p (firmly p n) g vs s v) → Begun p good functions n g vs s k.start k.rest → HoldsJust p (IsProper p x) (precondition_of g) k.start
     start_holds n s v co st k b = record {
       given = (n, k.start, ap (add p (deeper p n) full (precondition_of g)) same ∙ sym (add_alike p (firmly p n) (deeper p n) (firm_exchange p good n) full (precondition_of g) (bare (bind g.parameters vs) s.heap) (functions.asks f g named)) ∙ k.starts, refl);
       rigid = b.adds.fine.typed;
@@ -97,7 +102,7 @@ module _ (p : Program) (x : Name) (good : GoodBodies p) (functions : GoodFunctio
             (proper s co st i there, co.supported.grounded i there.holds)
 
     -- the tree of the precondition there is that where the caller takes it
-    start_tree : (n : ℕ) (s : State) (v : Value) (tree : Tree) → (k : Steps p n g vs s v) → Begun p good functions n g vs s k.start k.rest → IsTreeOf p (with_store (bind g.parameters vs) s) (precondition_of g) tree → IsTreeOf p k.start (precondition_of g) tree
+    start_tree : (n : ℕ) (s : State) (v : Value) (tree : Tree) → (k : Steps p (firmly p n) g vs s v) → Begun p good functions n g vs s k.start k.rest → IsTreeOf p (with_store (bind g.parameters vs) s) (precondition_of g) tree → IsTreeOf p k.start (precondition_of g) tree
     start_tree n s v tree k b tr =
         let sees : Sees (with_store (bind g.parameters vs) s) k.start = record { store = b.adds.store; heap = b.adds.heap } in (
           tr.0,
@@ -112,24 +117,10 @@ module _ (p : Program) (x : Name) (good : GoodBodies p) (functions : GoodFunctio
         nothing e = cc
     own_store (suc n) t w e = e
 
-    steps_of : (n : ℕ) (s : State) (v : Value) → firm_application p (firmly p n) f vs s ≡ Some v → Steps p n g vs s v
-    steps_of n s v e = go (function_named p f) named e
-      where
-        side : Option Function → Option Value
-        side None = None
-        side (Some g) = to_option (take p (firmly p n) (with_store (bind g.parameters vs) s) full (precondition_of g) s.holdings >>= λ _. start_of p (firmly p n) g vs s.heap >>= λ u. fit p (firmly p n) u g.body)
-
-        go : (o : Option Function) → o ≡ Some g → side o ≡ Some v → Steps p n g vs s v
-        go None is e = nothing is
-          where
-            nothing : None ≡ Some g → Steps p n g vs s v
-            nothing is = cc
-        go (Some h) is e = steps p n g vs s v (ap (λ (o : Option Function). side o) (sym is) ∙ e)
-
     pub applications_agree : (n : ℕ) (s t : State) (v : Value) (tree : Tree) → IsConsistent p s → IsStocked p x s.holdings → firm_application p (firmly p n) f vs s ≡ Some v →
         IsTreeOf p (with_store (bind g.parameters vs) s) (precondition_of g) tree → IsTreeOf p (with_store (bind g.parameters vs) t) (precondition_of g) tree → (w : Value) × IsValueOf p f vs t w × LooksLike v w
     applications_agree n s t v tree co st e here there =
-        let k = steps_of n s v e in
+        let k = steps_of p (firmly p n) f g vs s v named e in
         let b = begun p good functions n f g vs s v named ri (stocked s co st) k in
         let r = firmly_determined p (IsProper p x) good covered f g named functions vs k.start (with_store (bind g.parameters vs) t) v tree (start_holds n s v co st k b) b.adds.store (sym b.adds.store) (start_tree n s v tree k b here) there (n, k.fits) in
         (r.0, (r.1.0, own_store r.1.0 t r.0 r.1.1), r.2)

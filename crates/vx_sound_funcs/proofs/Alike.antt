@@ -2,11 +2,11 @@
 use Rattle.std.proofs.Common.{◌≡◌, ℕ, zero, suc, ◌≤◌, ◌∷◌, Option, Some, None, refl, sym, ◌∙◌, ap, arith}
 use Rattle.std.specs.Prelude.{Ok}
 use Rattle.vx_frac.specs.Fractions.{Fraction, none, at_most, is_positive}
-use Rattle.vx_ast.specs.Syntax.{Name, Program, Predicate, Expr, Number, Truth, Null, Part, Variable, Not, Operate, Divide, Connect, Choose, Read, Old, Apply, Unfolding, Exprs, NoMore, More, Assertion, Pure, Points, Both, Implied, Chosen, place_of, predicate_named}
+use Rattle.vx_ast.specs.Syntax.{Program, Predicate, Expr, Number, Truth, Null, Part, Variable, Not, Operate, Divide, Connect, Choose, Read, Old, Apply, Unfolding, Exprs, NoMore, More, Assertion, Pure, Points, Both, Implied, Chosen, place_of, predicate_named}
 use Rattle.vx_ast.specs.Syntax as syntax
-use Rattle.vx_meaning.specs.Values.{Value, negated, operated, divided}
-use Rattle.vx_meaning.specs.States.{State, Instance, At, Folded, lost, bind, with_store, with_holdings}
-use Rattle.vx_meaning.specs.Fits.{Checked, ◌>>=◌, or_fail, guard, to_option, Deeper, choose, connected, location_of, amount_of, readable, has_instance, fit, fit_all, add, add_part, exchange, deeper, Fits}
+use Rattle.vx_meaning.specs.Values.{Value, is_true, negated, operated, divided}
+use Rattle.vx_meaning.specs.States.{State, Holdings, Instance, At, Folded, lost, bind, with_store, with_holdings}
+use Rattle.vx_meaning.specs.Fits.{Checked, ◌>>=◌, or_fail, guard, to_option, Deeper, choose, connected, location_of, amount_of, readable, has_instance, fit, fit_all, take, take_part, add, add_part, exchange, deeper, Fits}
 use Rattle.vx_sound_preds.specs.Bodies.{Rigid, IsPlain, ArePlain, IsPlainBody, GoodBodies}
 use Rattle.vx_sound_preds.proofs.Adding.{Fine}
 use Rattle.vx_sound_preds.proofs.Fitting.{Opens}
@@ -48,6 +48,16 @@ module _ (p : Program) (d d' : Deeper) (same : (j : Instance) (q : Fraction) (s 
   add_alike q (Both a b) s k = λ i. add_alike q a s k.0 i >>= λ t. add_alike q b t k.1 i
   add_alike q (Implied c a) s k = λ i. fit_alike s c k.0 i >>= λ v. choose (place_of c) v (add_alike q a s k.1 i) (Ok s)
   add_alike q (Chosen c a b) s k = λ i. fit_alike s c k.0 i >>= λ v. choose (place_of c) v (add_alike q a s k.1 i) (add_alike q b s k.2 i)
+
+  pub take_alike : (s : State) (q : Fraction) (a : Assertion) (h : Holdings) → IsPlainBody p Rigid a → take p d s q a h ≡ take p d' s q a h
+  take_alike s q (Pure e) h k = λ i. fit_alike s e k i >>= λ v. guard (place_of e) (is_true v) >>= λ _. Ok h
+  take_alike s q (Points at e f share) h k = λ i.
+      (fit_alike s e k.0 i >>= λ r. fit_alike s share k.1.plain i >>= λ v. or_fail at (location_of f r) >>= λ l. or_fail at (amount_of v) >>= λ a. guard at (at_most none a) >>= λ _. Ok (At l, a)) >>= take_part p d s q at h
+  take_alike s q (syntax.Instance at j es share) h k = λ i.
+      (all_fit_alike s es k.0 i >>= λ vs. fit_alike s share k.1.plain i >>= λ v. or_fail at (amount_of v) >>= λ a. guard at (at_most none a) >>= λ _. Ok (Folded record { predicate = j; arguments = vs }, a)) >>= take_part p d s q at h
+  take_alike s q (Both a b) h k = λ i. take_alike s q a h k.0 i >>= λ r. take_alike s q b r k.1 i
+  take_alike s q (Implied c a) h k = λ i. fit_alike s c k.0 i >>= λ v. choose (place_of c) v (take_alike s q a h k.1 i) (Ok h)
+  take_alike s q (Chosen c a b) h k = λ i. fit_alike s c k.0 i >>= λ v. choose (place_of c) v (take_alike s q a h k.1 i) (take_alike s q b h k.2 i)
 
   -- an exchange for a good body
   exchange_alike : GoodBodies p → (j : Instance) (q : Fraction) (s : State) → exchange p d j q s ≡ exchange p d' j q s

@@ -1,6 +1,6 @@
 -- What fits firmly has like values in two states that are alike where something is held.
 use Rattle.std.proofs.Common.{◌≡◌, ℕ, zero, suc, [], ◌∷◌, List, Option, Some, None, refl, sym, ◌∙◌, ap, ap₂, subst}
-use Rattle.std.specs.Prelude.{Ok, Err}
+use Rattle.std.specs.Prelude.{Ok}
 use Rattle.vx_frac.specs.Fractions.{none, full, sum, product}
 use Rattle.vx_ast.specs.Syntax.{Name, Program, Function, function_named, Expr}
 use Rattle.vx_meaning.specs.Values.{Value}
@@ -8,11 +8,11 @@ use Rattle.vx_meaning.specs.States.{State, Store, Heap, Holdings, Location, At, 
 use Rattle.vx_meaning.specs.Evaluate.{applications, value}
 use Rattle.vx_meaning.specs.Flatten.{bare, entries}
 use Rattle.vx_meaning.specs.Consistent.{total, IsHeld}
-use Rattle.vx_meaning.specs.Fits.{Checked, ◌>>=◌, to_option, fit, take}
+use Rattle.vx_meaning.specs.Fits.{to_option, fit}
 use Rattle.vx_amounts.proofs.Amounts.{Le, Positive, Same, le-refl, le-trans, add-left, not-positive, positive-le, none-full, full-positive}
 use Rattle.vx_amounts.proofs.Products.{product_sign}
 use Rattle.vx_sound_preds.specs.Bodies.{IsRigid, AreRigid, RigidStore, Rigid, GoodBodies}
-use Rattle.vx_sound_preds.proofs.Fitting.{undo, step, some_is}
+use Rattle.vx_sound_preds.proofs.Fitting.{step}
 use Rattle.vx_sound_preds.proofs.Looks.{Sees}
 use Rattle.vx_sound_preds.proofs.Totals.{weigh, weight, total_weighs, weight_sign}
 use Rattle.vx_sound_preds.proofs.Framing.{entries_seen}
@@ -21,10 +21,11 @@ use Rattle.vx_sound_preds.proofs.Exchanging.{no_negatives, bound_rigid, entered_
 use Rattle.vx_sound_preds.proofs.Folding.{Stock, weighs_at_least}
 use Rattle.vx_sound_preds.proofs.Taking.{taken, weigh_taken, take_takes}
 use Rattle.vx_sound_funcs.specs.Told.{precondition_of, Says}
-use Rattle.vx_sound_funcs.specs.Firm.{start_of, firmly, HasRigidArguments, GoodFunctions}
+use Rattle.vx_sound_funcs.specs.Firm.{firm_value, firmly, HasRigidArguments, GoodFunctions}
 use Rattle.vx_sound_funcs.proofs.Likes.{Likes, itself, rewritten, AllLike, Found}
 use Rattle.vx_sound_funcs.proofs.Sees.{Matches, AppliesAlike, see}
 use Rattle.vx_sound_funcs.proofs.Alike.{firm_open}
+use Rattle.vx_sound_funcs.proofs.Steps.{Steps, steps}
 
 like_rigid : (v w : Value) → IsRigid w → Likes v w → w ≡ v
 like_rigid v w h (itself x) = refl
@@ -54,25 +55,6 @@ taken_held p good h es hs rest l is st (n, z) =
     let r : Positive (total p n h hs l) = positive-le (record { holds = z }) (taken_total p good h es hs rest n l is st) in
     (n, r.holds)
 
--- the steps of a firm application
-pub record Steps (p : Program) (n : ℕ) (g : Function) (vs : List Value) (s : State) (v : Value) : Type 0 where
-  pub rest : Holdings
-  pub takes : take p (firmly p n) (with_store (bind g.parameters vs) s) full (precondition_of g) s.holdings ≡ Ok rest
-  pub start : State
-  pub starts : start_of p (firmly p n) g vs s.heap ≡ Ok start
-  pub fits : fit p (firmly p n) start g.body ≡ Ok v
-
-pub steps : (p : Program) (n : ℕ) (g : Function) (vs : List Value) (s : State) (v : Value) →
-    to_option (take p (firmly p n) (with_store (bind g.parameters vs) s) full (precondition_of g) s.holdings >>= λ _. start_of p (firmly p n) g vs s.heap >>= λ u. fit p (firmly p n) u g.body) ≡ Some v → Steps p n g vs s v
-steps p n g vs s v e =
-    let x = undo (take p (firmly p n) (with_store (bind g.parameters vs) s) full (precondition_of g) s.holdings) (λ _. start_of p (firmly p n) g vs s.heap >>= λ u. fit p (firmly p n) u g.body) v (told _ e) in
-    let y = undo (start_of p (firmly p n) g vs s.heap) (λ u. fit p (firmly p n) u g.body) v x.then in
-    record { rest = x.it; takes = x.is; start = y.it; starts = y.is; fits = y.then }
-  where
-    told : (x : Checked Value) → to_option x ≡ Some v → x ≡ Ok v
-    told (Ok w) e = ap Ok (some_is w v e)
-    told (Err at) e = cc
-
 module _ (p : Program) (good : GoodBodies p) (functions : GoodFunctions p) where
   -- where a callee starts it holds what it took, and nothing else
   pub record Begun (n : ℕ) (g : Function) (vs : List Value) (s u : State) (rest : Holdings) : Type 0 where
@@ -83,7 +65,7 @@ module _ (p : Program) (good : GoodBodies p) (functions : GoodFunctions p) where
     pub stock : Stock p s.heap rest
     pub adds : Adds p full entries_of (bare (bind g.parameters vs) s.heap) u
 
-  pub begun : (n : ℕ) (f : Name) (g : Function) (vs : List Value) (s : State) (v : Value) → function_named p f ≡ Some g → AreRigid vs → Stock p s.heap s.holdings → (k : Steps p n g vs s v) → Begun n g vs s k.start k.rest
+  pub begun : (n : ℕ) (f : Name) (g : Function) (vs : List Value) (s : State) (v : Value) → function_named p f ≡ Some g → AreRigid vs → Stock p s.heap s.holdings → (k : Steps p (firmly p n) g vs s v) → Begun n g vs s k.start k.rest
   begun n f g vs s v named ri stock k =
       let pre = precondition_of g in
       let plain = functions.asks f g named in
@@ -124,12 +106,12 @@ module _ (p : Program) (good : GoodBodies p) (functions : GoodFunctions p) where
 
       side : Option Function → Option Value
       side None = None
-      side (Some g) = to_option (take p (firmly p n) (with_store (bind g.parameters vs) s) full (precondition_of g) s.holdings >>= λ _. start_of p (firmly p n) g vs s.heap >>= λ u. fit p (firmly p n) u g.body)
+      side (Some g) = to_option (firm_value p (firmly p n) g vs s)
 
       same : ws ≡ vs
       same = all_like_rigid vs ws rigid like
 
-      known : AppliesAlike p (Fine p) (firmly p n) (applications p n) (HasRigidArguments p) → (g : Function) → function_named p f ≡ Some g → Steps p n g vs s v → Found (applications p (suc n) f ws t) v
+      known : AppliesAlike p (Fine p) (firmly p n) (applications p n) (HasRigidArguments p) → (g : Function) → function_named p f ≡ Some g → Steps p (firmly p n) g vs s v → Found (applications p (suc n) f ws t) v
       known ih g named st =
           let b = begun n f g vs s v named (subst AreRigid same rigid) (record { debts = h.forth.0; single = h.forth.1; grounded = h.back }) st in
           let r = see p (Fine p) (firmly p n) (firm_open p good n) (applications p n) (HasRigidArguments p) ih st.start (with_store (bind g.parameters vs) t) b.adds.fine (entered n g vs s t st.start st.rest m b) g.body v (functions.says f g named) st.fits in
@@ -144,7 +126,7 @@ module _ (p : Program) (good : GoodBodies p) (functions : GoodFunctions p) where
         where
           nothing : None ≡ Some v → Found (applications p (suc n) f ws t) v
           nothing e = cc
-      go ih (Some g) named e = known ih g named (steps p n g vs s v e)
+      go ih (Some g) named e = known ih g named (steps p (firmly p n) g vs s v e)
 
   -- an expression that fits firmly in s has a like value in each state that matches, by the same fuel
   pub see_firmly : (n : ℕ) (s t : State) → Fine p s → Matches p s t → (e : Expr) (v : Value) → Says (HasRigidArguments p) e → fit p (firmly p n) s e ≡ Ok v → Found (value p (applications p n) t e) v

@@ -4,7 +4,7 @@ use Rattle.std.proofs.Common.{◌≡◌, ℕ, zero, suc, ◌+◌, ◌-◌, ◌�
 use Rattle.std.specs.Prelude.{Ok, Err, option_and_then, pos}
 use Rattle.vx_frac.specs.Fractions.{Fraction, full, none, is_positive, at_most, over, product}
 use Rattle.vx_ast.specs.declared.Place.{Place}
-use Rattle.vx_ast.specs.Syntax.{Name, Program, Predicate, Function, function_named, predicate_named, Connective, place_of, Expr, Number, Truth, Null, Part, Variable, Not, Operate, Divide, Connect, Choose, Read, Old, Apply, Unfolding, Exprs, NoMore, More, Assertion, Pure, Points, Both, Implied, Chosen}
+use Rattle.vx_ast.specs.Syntax.{Name, Program, Predicate, Function, predicate_named, Connective, place_of, Expr, Number, Truth, Null, Part, Variable, Not, Operate, Divide, Connect, Choose, Read, Old, Apply, Unfolding, Exprs, NoMore, More, Assertion, Pure, Points, Both, Implied, Chosen}
 use Rattle.vx_ast.specs.Syntax as syntax
 use Rattle.vx_meaning.specs.Values.{Value, IntValue, BoolValue, RefValue, PermValue, is_true, negated, operated, divided, needs_right, without_right}
 use Rattle.vx_meaning.specs.States.{State, Holdings, Heap, Instance, Resource, At, Folded, amount, gained, lost, lookup, bind, at_old, value_at, with_store, with_holdings}
@@ -13,25 +13,26 @@ use Rattle.vx_meaning.specs.Evaluate.{applications, value, values, value_by}
 use Rattle.vx_meaning.specs.Flatten.{bare}
 use Rattle.vx_meaning.specs.Fits.{Checked, ◌>>=◌, or_fail, guard, to_option, Deeper, choose, connected, location_of, amount_of, readable, has_instance, fit, fit_all, field_part, instance_part, take, take_part, add, add_part, application, exchange, deeper, Fits}
 use Rattle.vx_whole.specs.Now.{IsOfNow, AreOfNow}
-use Rattle.vx_sound_preds.proofs.Fitting.{undo, not_failed, step, some_is}
+use Rattle.vx_sound_preds.proofs.Fitting.{undo, not_failed, step}
 use Rattle.vx_sound_preds.proofs.Framing.{ok_same, picked}
 use Rattle.vx_sound_funcs.specs.Told.{precondition_of}
-use Rattle.vx_sound_funcs.specs.Firm.{start_of, firm_application, firmly, FitsFirmly}
+use Rattle.vx_sound_funcs.specs.Firm.{firm_application, firmly, FitsFirmly}
 use Rattle.vx_sound_funcs.specs.Laws.{SpeakNow}
 use Rattle.vx_sound_funcs.proofs.Fuel.{value_more, applications_later}
+use Rattle.vx_sound_funcs.proofs.Steps.{nothing_some, some_of, found}
 
 -- where the first allows something, the second allows it too, with the same outcome
 pub record Allows (d more : Deeper) : Type 0 where
   pub applied : (f : Name) (vs : List Value) (s : State) (v : Value) → d.applied f vs s ≡ Some v → more.applied f vs s ≡ Some v
   pub opened : (i : Instance) (q : Fraction) (s u : State) → d.opened i q s ≡ Some u → more.opened i q s ≡ Some u
 
-next : {A B : Type 0} (f : A → Checked B) {x : Checked A} (a : A) → x ≡ Ok a → (x >>= f) ≡ f a
+pub next : {A B : Type 0} (f : A → Checked B) {x : Checked A} (a : A) → x ≡ Ok a → (x >>= f) ≡ f a
 next f a e = ap (λ y. y >>= f) e
 
-or_more : {A : Type 0} (at : Place) (o m : Option A) (a : A) → (o ≡ Some a → m ≡ Some a) → or_fail at o ≡ Ok a → or_fail at m ≡ Ok a
+pub or_more : {A : Type 0} (at : Place) (o m : Option A) (a : A) → (o ≡ Some a → m ≡ Some a) → or_fail at o ≡ Ok a → or_fail at m ≡ Ok a
 or_more at o m a h e = ap (or_fail at) (h (not_failed at o a e))
 
-connected_more : (at : Place) (c : Connective) (v : Value) (x y : Checked Value) (w : Value) → (x ≡ Ok w → y ≡ Ok w) → connected at c v x ≡ Ok w → connected at c v y ≡ Ok w
+pub connected_more : (at : Place) (c : Connective) (v : Value) (x y : Checked Value) (w : Value) → (x ≡ Ok w → y ≡ Ok w) → connected at c v x ≡ Ok w → connected at c v y ≡ Ok w
 connected_more at c (BoolValue b) x y w h e = go (needs_right c b) e
   where
     go : (n : Bool) → cond n x (Ok (BoolValue (without_right c))) ≡ Ok w → cond n y (Ok (BoolValue (without_right c))) ≡ Ok w
@@ -41,7 +42,7 @@ connected_more at c (IntValue z) x y w h e = e
 connected_more at c (RefValue z) x y w h e = e
 connected_more at c (PermValue z) x y w h e = e
 
-chosen_more : {A : Type 0} (at : Place) (v : Value) (x y x' y' : Checked A) (w : A) → (x ≡ Ok w → x' ≡ Ok w) → (y ≡ Ok w → y' ≡ Ok w) → choose at v x y ≡ Ok w → choose at v x' y' ≡ Ok w
+pub chosen_more : {A : Type 0} (at : Place) (v : Value) (x y x' y' : Checked A) (w : A) → (x ≡ Ok w → x' ≡ Ok w) → (y ≡ Ok w → y' ≡ Ok w) → choose at v x y ≡ Ok w → choose at v x' y' ≡ Ok w
 chosen_more at (BoolValue true) x y x' y' w h k e = h e
 chosen_more at (BoolValue false) x y x' y' w h k e = k e
 chosen_more at (IntValue z) x y x' y' w h k e = e
@@ -194,10 +195,6 @@ module _ (p : Program) (d : Deeper) (q : Fraction) where
       let x = undo (fit p d s c) (λ v. choose (place_of c) v (add p d q a s) (add p d q b s)) u eq in
       picked {R = Stays s u} (place_of c) x.it (add p d q a s) (add p d q b s) u (λ e. add_stays a s u e) (λ e. add_stays b s u e) x.then
 
-some_of : {A : Type 0} (x : Checked A) (a : A) → to_option x ≡ Some a → x ≡ Ok a
-some_of (Ok b) a e = ap Ok (some_is b a e)
-some_of (Err at) a e = cc
-
 -- an exchange keeps them too
 pub exchange_stays : (p : Program) (d : Deeper) (i : Instance) (q : Fraction) (s u : State) → exchange p d i q s ≡ Some u → Stays s u
 exchange_stays p d i q s u e = by_predicate (predicate_named p i.predicate) e
@@ -341,45 +338,18 @@ module _ (p : Program) (n : ℕ) (have : HaveValues p n) (opens : (i : Instance)
         step (λ v. option_and_then (λ vs. Some (v ∷ vs)) (values p (applications p n) t es)) x.it (value_of s t k a x.it w.0 x.is)
         ∙ step (λ vs. Some (x.it ∷ vs)) y.it (values_of s t k es y.it w.1 y.is) ∙ ap Some (ok_same (x.it ∷ y.it) vs y.then)
 
-nothing_some : {A : Type 0} (a : A) → None ≡ Some a → ⊥
-nothing_some a e = cc
-
 module _ (p : Program) (now : SpeakNow p) where
   firm_opens : (n : ℕ) (i : Instance) (q : Fraction) (s u : State) → (firmly p n).opened i q s ≡ Some u → Stays s u
-  firm_opens zero i q s u e = absurd (nothing_some u e)
+  firm_opens zero i q s u e = nothing_some u e
   firm_opens (suc n) i q s u e = exchange_stays p (firmly p n) i q s u e
 
-  -- the steps of a firm application, and what they tell
-  record Stepped (n : ℕ) (f : Name) (vs : List Value) (s : State) (v : Value) : Type 0 where
-    g : Function
-    named : function_named p f ≡ Some g
-    rest : Holdings
-    takes : take p (firmly p n) (with_store (bind g.parameters vs) s) full (precondition_of g) s.holdings ≡ Ok rest
-    start : State
-    starts : start_of p (firmly p n) g vs s.heap ≡ Ok start
-    fits : fit p (firmly p n) start g.body ≡ Ok v
-
-  stepped : (n : ℕ) (f : Name) (vs : List Value) (s : State) (v : Value) → firm_application p (firmly p n) f vs s ≡ Some v → Stepped n f vs s v
-  stepped n f vs s v e = go (function_named p f) refl e
-    where
-      side : Option Function → Option Value
-      side None = None
-      side (Some g) = to_option (take p (firmly p n) (with_store (bind g.parameters vs) s) full (precondition_of g) s.holdings >>= λ _. start_of p (firmly p n) g vs s.heap >>= λ u. fit p (firmly p n) u g.body)
-
-      go : (o : Option Function) → function_named p f ≡ o → side o ≡ Some v → Stepped n f vs s v
-      go None is e = absurd (nothing_some v e)
-      go (Some g) is e =
-          let x = undo (take p (firmly p n) (with_store (bind g.parameters vs) s) full (precondition_of g) s.holdings) (λ _. start_of p (firmly p n) g vs s.heap >>= λ u. fit p (firmly p n) u g.body) v (some_of _ v e) in
-          let y = undo (start_of p (firmly p n) g vs s.heap) (λ u. fit p (firmly p n) u g.body) v x.then in
-          record { g = g; named = is; rest = x.it; takes = x.is; start = y.it; starts = y.is; fits = y.then }
-
   have_values : (n : ℕ) → HaveValues p n
-  have_values zero f vs s t v heap e = absurd (nothing_some v e)
+  have_values zero f vs s t v heap e = nothing_some v e
   have_values (suc n) f vs s t v heap e =
-      let k = stepped n f vs s v e in
-      let begun = add_stays p (firmly p n) full (precondition_of k.g) (bare (bind k.g.parameters vs) s.heap) k.start k.starts in
+      let k = found p (firmly p n) f vs s v e in
+      let begun = add_stays p (firmly p n) full (precondition_of k.g) (bare (bind k.g.parameters vs) s.heap) k.steps.start k.steps.starts in
       step (λ g. value p (applications p n) (with_store (bind g.parameters vs) t) g.body) k.g k.named
-      ∙ value_of p n (have_values n) (firm_opens n) k.start (with_store (bind k.g.parameters vs) t) (record { store = sym begun.store; heap = heap ∙ sym begun.heap }) k.g.body v (now f k.g k.named) k.fits
+      ∙ value_of p n (have_values n) (firm_opens n) k.steps.start (with_store (bind k.g.parameters vs) t) (record { store = sym begun.store; heap = heap ∙ sym begun.heap }) k.g.body v (now f k.g k.named) k.steps.fits
 
   no_smaller : (n : ℕ) → suc n ≤ zero → ⊥
   no_smaller n le = omega arith
@@ -392,11 +362,11 @@ module _ (p : Program) (now : SpeakNow p) where
 
   applies_more : (n m : ℕ) → n ≤ m → Allows (firmly p n) (deeper p m) → (f : Name) (vs : List Value) (s : State) (v : Value) → firm_application p (firmly p n) f vs s ≡ Some v → application p m (deeper p m) f vs s ≡ Some v
   applies_more n m le below f vs s v e =
-      let k = stepped n f vs s v e in
+      let k = found p (firmly p n) f vs s v e in
       let callee = with_store (bind k.g.parameters vs) s in
-      let begun = add_stays p (firmly p n) full (precondition_of k.g) (bare (bind k.g.parameters vs) s.heap) k.start k.starts in
-      let taken = take_more p (firmly p n) (deeper p m) below callee full (precondition_of k.g) s.holdings k.rest k.takes in
-      let worth = value_of p n (have_values n) (firm_opens n) k.start callee (record { store = sym begun.store; heap = sym begun.heap }) k.g.body v (now f k.g k.named) k.fits in
+      let begun = add_stays p (firmly p n) full (precondition_of k.g) (bare (bind k.g.parameters vs) s.heap) k.steps.start k.steps.starts in
+      let taken = take_more p (firmly p n) (deeper p m) below callee full (precondition_of k.g) s.holdings k.steps.rest k.steps.takes in
+      let worth = value_of p n (have_values n) (firm_opens n) k.steps.start callee (record { store = sym begun.store; heap = sym begun.heap }) k.g.body v (now f k.g k.named) k.steps.fits in
       let later = more_by n m le in
       let more = value_more p (applications p n) (applications p (later.0 + n)) (applications_later p later.0 n) callee k.g.body v worth in
       ap side k.named ∙ ap (after k.g) taken ∙ subst (λ (j : ℕ). value p (applications p j) callee k.g.body ≡ Some v) later.1 more
@@ -408,8 +378,9 @@ module _ (p : Program) (now : SpeakNow p) where
       side None = None
       side (Some g) = after g (take p (deeper p m) (with_store (bind g.parameters vs) s) full (precondition_of g) s.holdings)
 
-  firm_allows : (n m : ℕ) → n ≤ m → Allows (firmly p n) (deeper p m)
-  firm_allows zero m le = record { applied = λ f vs s v e. absurd (nothing_some v e); opened = λ i q s u e. absurd (nothing_some u e) }
+  -- what is allowed firmly is allowed by as much fuel
+  pub firm_allows : (n m : ℕ) → n ≤ m → Allows (firmly p n) (deeper p m)
+  firm_allows zero m le = record { applied = λ f vs s v e. nothing_some v e; opened = λ i q s u e. nothing_some u e }
   firm_allows (suc n) zero le = absurd (no_smaller n le)
   firm_allows (suc n) (suc m) le =
       let below = firm_allows n m (smaller n m le) in

@@ -4,10 +4,12 @@ pub mod Bodies
 pub mod Heaps
 pub mod States
 pub mod Alike
+pub mod Steps
 pub mod Firm
 pub mod Values
 pub mod Fuel
 pub mod Fits
+pub mod Further
 pub mod Agree
 pub mod Starts
 pub mod Laws

@@ -3,7 +3,7 @@ use Rattle.std.proofs.Common.{◌≡◌, inl, inr, ℕ, ◌+◌, ◌≤◌, Bool
 use Rattle.std.specs.Prelude.{Ok, flat_map}
 use Rattle.vx_frac.specs.Fractions.{Fraction, none, full, is_positive, product}
 use Rattle.vx_ast.specs.declared.ValueType.TheVariants as type
-use Rattle.vx_ast.specs.Syntax.{Name, Declaration, Program, Kind, IsField, IsPredicate, IsFunction, IsMethod, Predicate, Function, member_named, function_in, predicate_named, function_named, Expr, Exprs, Assertion, Pure, Points, Both, Implied, Chosen, joined, joined_with, place_of}
+use Rattle.vx_ast.specs.Syntax.{Name, Declaration, Program, Kind, Predicate, Function, member_named, predicate_named, function_named, Expr, Assertion, Pure, Points, Both, Implied, Chosen, joined, joined_with, place_of}
 use Rattle.vx_ast.specs.Syntax as syntax
 use Rattle.vx_ast.specs.Mentions.{mentioned, mentioned_by, mentioned_by_function}
 use Rattle.vx_ast.specs.Apart.{Stands}
@@ -12,7 +12,7 @@ use Rattle.vx_whole.specs.Premises.{IsTypedProgram}
 use Rattle.vx_whole.specs.Closure.{mentioned_by_measure, mentioned_by_kind, InClosure, further}
 use Rattle.vx_meaning.specs.Values.{Value, IntValue, BoolValue, RefValue, PermValue, type_of, is_true}
 use Rattle.vx_meaning.specs.States as run
-use Rattle.vx_meaning.specs.States.{State, Store, Heap, Holdings, Instance, Resource, At, Folded, amount, gained, bind, from_now, with_holdings}
+use Rattle.vx_meaning.specs.States.{State, Heap, Instance, Resource, At, Folded, amount, gained, bind, from_now, with_holdings}
 use Rattle.vx_meaning.specs.Flatten.{bare, IsGrounded}
 use Rattle.vx_meaning.specs.Consistent.{IsConsistent}
 use Rattle.vx_meaning.specs.Fits.{Checked, ◌>>=◌, choose, fit_by, deeper, add, add_part}

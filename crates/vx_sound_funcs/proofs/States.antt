@@ -2,12 +2,12 @@
 use Rattle.std.proofs.Common.{◌≡◌, ℕ, ◌+◌, Bool, true, false, cond, [], ◌++◌, Option, Some, None, refl, sym, ◌∙◌, ap, subst, arith}
 use Rattle.std.specs.Prelude.{Ok, option_and_then}
 use Rattle.vx_frac.specs.Fractions.{Fraction, none, full, is_positive, product}
-use Rattle.vx_ast.specs.Syntax.{Name, Program, Function, function_named, Expr, Assertion, Pure, Points, Both, Implied, Chosen, place_of}
+use Rattle.vx_ast.specs.Syntax.{Name, Program, Assertion, Pure, Points, Both, Implied, Chosen, place_of}
 use Rattle.vx_ast.specs.Syntax as syntax
 use Rattle.vx_meaning.specs.Values.{Value, IntValue, BoolValue, RefValue, PermValue, is_true}
 use Rattle.vx_meaning.specs.States.{State, Heap, Holdings, Instance, Folded, amount, gained, value_at, with_holdings}
 use Rattle.vx_meaning.specs.Evaluate as plain
-use Rattle.vx_meaning.specs.Evaluate.{Applications, applications, value, values, HasValue}
+use Rattle.vx_meaning.specs.Evaluate.{value, values}
 use Rattle.vx_meaning.specs.Flatten.{no_applications, bare, entries, location_entry, instance_entry, flat, IsGrounded}
 use Rattle.vx_meaning.specs.Consistent.{IsHeld}
 use Rattle.vx_meaning.specs.Fits.{Deeper, choose, fit, field_part, instance_part, add, add_part, deeper}

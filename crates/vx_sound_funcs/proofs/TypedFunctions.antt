@@ -287,4 +287,5 @@ module _ (p : Program) where
     good_functions k = record {
       asks = λ f g named. body_is g.parameters (precondition_of g) (joined_typed p g.parameters g.place g.requires (typed.functions f g named).requires) (joined_constant g.place g.requires (typed.preconditions f g named)) (k.asks_now f g named) (k.asks_plainly f g named);
       says = λ f g named. says (typed.functions f g named).body (k.says_now f g named);
+      promises_now = k.promises_now;
     }

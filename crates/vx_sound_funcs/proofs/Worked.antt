@@ -2,25 +2,27 @@
 use Rattle.std.proofs.Common.{◌≡◌, ℕ, zero, suc, ◌≤◌, ℤ, pos, Bool, true, false, cond, List, [], ◌∷◌, Option, Some, None, refl, sym, ◌∙◌, ap, subst, arith}
 use Rattle.std.specs.Prelude.{unwrap_or, nat_eq, ◌&&◌, Ok, option_and_then, ◌+ℤ◌}
 use Rattle.vx_frac.specs.Fractions.{none, full, at_most, is_positive, over, sum}
-use Rattle.vx_ast.specs.Syntax.{Name, same_name, Predicate, Function, Assertion, Kind, IsField, IsPredicate, IsFunction, predicate_in, function_in, predicate_named, function_named}
+use Rattle.vx_ast.specs.Syntax.{Name, same_name, conjoined, Predicate, Function, Assertion, Kind, IsField, IsPredicate, IsFunction, predicate_in, function_in, predicate_named, function_named}
 use Rattle.vx_ast.specs.declared.ValueType.TheVariants.{Int}
 use Rattle.vx_ast.specs.declared.ValueType.TheVariants as type
 use Rattle.vx_meaning.specs.Values.{Value, IntValue, BoolValue, RefValue, PermValue}
 use Rattle.vx_meaning.specs.States.{State, Heap, Holdings, Instance, Resource, At, Folded, Store, HaveTypes, lookup, bind, same_resource, amount}
 use Rattle.vx_meaning.specs.Evaluate.{Applications, applications, values}
 use Rattle.vx_meaning.specs.Flatten.{no_applications, bare, flat, body_entries, IsGrounded}
-use Rattle.vx_meaning.specs.Fits.{Fits, fit_by, add, deeper}
+use Rattle.vx_meaning.specs.Fits.{◌>>=◌, guard, to_option, Fits, fit_by, add, deeper}
 use Rattle.vx_terms.specs.Interpretations.{IntLeaf}
+use Rattle.vx_terms.proofs.Same.{int_same}
 use Rattle.vx_sound.specs.Snapshots.{leaf, IsTree}
 use Rattle.vx_whole.specs.Closure.{itself}
+use Rattle.vx_whole.specs.Now.{IsOfNow}
 use Rattle.vx_sound_preds.specs.Bodies.{IsRigid, AreRigid, RigidStore, Rigid, IsAmount, GoodBodies, IsPlainBody}
 use Rattle.vx_sound_preds.specs.Covered.{AllGood, Covered, IsProper}
-use Rattle.vx_sound_preds.specs.Examples.{P, f, x, instance_of}
+use Rattle.vx_sound_preds.specs.Examples.{here, P, f, x, instance_of}
 use Rattle.vx_sound_preds.proofs.Fitting.{some_is}
 use Rattle.vx_sound_preds.proofs.Flats.{came}
 use Rattle.vx_sound_preds.proofs.Grouped.{resource_is}
 use Rattle.vx_sound_funcs.specs.Told.{LooksLike, IsTreeOf, HoldsJust, precondition_of, IsValueOf, Says}
-use Rattle.vx_sound_funcs.specs.Firm.{FitsFirmly, HasRigidArguments, GoodFunctions}
+use Rattle.vx_sound_funcs.specs.Firm.{firm_application, firmly, FitsFirmly, HasRigidArguments, GoodFunctions}
 use Rattle.vx_sound_funcs.specs.Examples.{its_x, all, box, box_body, get, getter, twice, doubler, peek, peeker, boxes, field_of, x_is_one, holding, bereft, looses, leads_to}
 use Rattle.vx_sound_funcs.proofs.Values.{determined, firmly_determined}
 
@@ -99,11 +101,15 @@ boxes_are_good = record {
 asks_for_a_box : IsPlainBody boxes Rigid (precondition_of getter)
 asks_for_a_box = ((tt, tt), whole_amount, λ s vs h e. x_is_rigid no_applications s vs h e)
 
+pub promises_of_now : (y : Name) (h : Function) → function_named boxes y ≡ Some h → IsOfNow (conjoined h.place h.ensures)
+promises_of_now = each_function (λ h. IsOfNow (conjoined h.place h.ensures)) tt (tt, ((tt, tt), (tt, tt))) tt
+
 pub functions_are_good : GoodFunctions boxes
 functions_are_good = record {
   asks = each_function (λ h. IsPlainBody boxes Rigid (precondition_of h)) asks_for_a_box asks_for_a_box tt;
   says = each_function (λ h. Says (HasRigidArguments boxes) h.body) ((tt, tt), tt, tt)
       (((λ n s vs h e. x_is_rigid (applications boxes n) s vs h e), (tt, tt)), ((λ n s vs h e. x_is_rigid (applications boxes n) s vs h e), (tt, tt))) tt;
+  promises_now = promises_of_now;
 }
 
 -- What is covered
@@ -208,6 +214,10 @@ get_is_determined z t store there =
 
 pub twice_fits : (z : ℤ) → FitsFirmly boxes (holding z) doubler.body (IntValue (z +ℤ z))
 twice_fits z = (2, refl)
+
+-- its promise is kept, so it may be applied
+pub twice_is_allowed : (z : ℤ) → firm_application boxes (firmly boxes 3) twice (RefValue 1 ∷ []) (holding z) ≡ Some (IntValue (z +ℤ z))
+twice_is_allowed z = ap (λ (b : Bool). to_option (guard here b >>= λ _. Ok (IntValue (z +ℤ z)))) (int_same (z +ℤ z))
 
 pub twice_is_determined : (z : ℤ) (t : State) → t.store ≡ x_is_one → IsTreeOf boxes t (precondition_of doubler) (IntLeaf z) → IsValueOf boxes twice (RefValue 1 ∷ []) t (IntValue (z +ℤ z))
 twice_is_determined z t store there =

@@ -2,7 +2,7 @@
 use Rattle.std.proofs.Common.{◌≡◌, inl, ◌<◌, ℕ, zero, suc, ℤ, Bool, true, false, cond, [], ◌∷◌, Option, Some, None, slice_get, refl, sym, ◌∙◌, ap, subst, arith}
 use Rattle.vx_frac.specs.Fractions.{none, full, at_most, over, sum, product, lowest}
 use Rattle.vx_ast.specs.declared.ValueType.TheVariants.{Int}
-use Rattle.vx_ast.specs.Syntax.{Name, same_name, Member, Predicate, Method, Assertion, Kind, IsField, IsPredicate, IsFunction, Add, member_named, predicate_named, method_in, method_named, joined}
+use Rattle.vx_ast.specs.Syntax.{Name, same_name, result_name, Member, Predicate, Method, Assertion, Kind, IsField, IsPredicate, IsFunction, Equal, Add, member_named, predicate_named, method_in, method_named, joined}
 use Rattle.vx_ast.specs.Apart.{Stands, entered_by, entered_by_body, entered_by_measure}
 use Rattle.vx_types.specs.Typing.{IsTypedPredicate, IsTypedFunction, variable, part, operates, reads, applies, unfoldings, no_more, more}
 use Rattle.vx_terms.specs.Interpretations.{Each, IntLeaf}
@@ -19,7 +19,7 @@ use Rattle.vx_sound_preds.specs.Examples.{here, x, f, P, instance_of}
 use Rattle.vx_sound_funcs.specs.Told.{IsTreeOf, precondition_of, IsValueOf}
 use Rattle.vx_sound_funcs.specs.Firm.{PlainContracts}
 use Rattle.vx_sound_funcs.specs.Examples.{box, box_body, get, getter, twice, doubler, peek, peeker, boxes, field_of, x_is_one, holding}
-use Rattle.vx_sound_funcs.proofs.Worked.{the_predicate, each_function, same_assertion, only_box, functions_are_good, its_tree, whole_number}
+use Rattle.vx_sound_funcs.proofs.Worked.{the_predicate, each_function, same_assertion, only_box, promises_of_now, functions_are_good, its_tree, whole_number}
 use Rattle.vx_sound_funcs.proofs.Laws.{agree}
 
 same_member : (a b : Member) → Some a ≡ Some b → a ≡ b
@@ -78,7 +78,7 @@ doubler_typed = record {
   names = (refl, tt);
   parameters = ((λ e. cc), tt);
   requires = (((box, refl, more (variable here x refl) no_more), part here 1 1 one_positive), tt);
-  ensures = tt;
+  ensures = (operates {op = Equal} {t = Int} tt (variable here result_name refl) (operates {op = Add} {t = Int} (inl refl) (applies get getter refl (more (variable here x refl) no_more)) (applies get getter refl (more (variable here x refl) no_more))), tt);
   measure = tt;
   body = operates {op = Add} {t = Int} (inl refl) (applies get getter refl (more (variable here x refl) no_more)) (applies get getter refl (more (variable here x refl) no_more));
 }
@@ -160,6 +160,7 @@ get_agrees z t there =
 pub boxes_plain : PlainContracts boxes
 boxes_plain = record {
   says_now = each_function (λ g. IsOfNow g.body) ((tt, tt), tt, tt) ((tt, tt), (tt, tt)) tt;
+  promises_now = promises_of_now;
   asks_now = each_function (λ g. SaysNow (precondition_of g)) ((tt, tt), tt) ((tt, tt), tt) tt;
   asks_plainly = λ y g e z st. absurd (each_function (λ g. Stands z (entered_by (precondition_of g)) → ⊥) (λ s. s) (λ s. s) (λ s. s) y g e st);
 }

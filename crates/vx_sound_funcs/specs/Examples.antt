@@ -2,7 +2,7 @@
 use Rattle.std.specs.Prelude.{codes, ℕ, ℤ, List, [], ◌∷◌, Some, None}
 use Rattle.vx_ast.specs.declared.ValueType.TheVariants.{Int}
 use Rattle.vx_ast.specs.declared.ValueType.TheVariants as type
-use Rattle.vx_ast.specs.Syntax.{Name, Program, Declaration, IsField, IsPredicate, IsFunction, Predicate, Function, Expr, Part, Variable, Operate, Add, Read, Apply, Unfolding, Exprs, NoMore, More, Assertion, Points, Instance}
+use Rattle.vx_ast.specs.Syntax.{Name, result_name, Program, Declaration, IsField, IsPredicate, IsFunction, Predicate, Function, Expr, Part, Variable, Operate, Equal, Add, Read, Apply, Unfolding, Exprs, NoMore, More, Assertion, Points, Instance}
 use Rattle.vx_frac.specs.Fractions.{full}
 use Rattle.vx_meaning.specs.Values.{IntValue, RefValue}
 use Rattle.vx_meaning.specs.States.{State, Heap, Store, Location, Folded}
@@ -39,7 +39,7 @@ getter = record {
   body = Unfolding here P its_x all (Read here (Variable here x) f);
 }
 
--- function twice(x: Ref): Int requires P(x) { get(x) + get(x) }
+-- function twice(x: Ref): Int requires P(x) ensures result == get(x) + get(x) { get(x) + get(x) }
 abbrev pub twice : Name
 twice = codes "twice"
 
@@ -49,7 +49,7 @@ doubler = record {
   parameters = x_is_a_reference;
   of = Int;
   requires = Instance here P its_x all ∷ [];
-  ensures = [];
+  ensures = Operate here Equal (Variable here result_name) (Operate here Add (Apply here get its_x) (Apply here get its_x)) ∷ [];
   decreases = None;
   body = Operate here Add (Apply here get its_x) (Apply here get its_x);
 }

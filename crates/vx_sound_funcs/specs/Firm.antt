@@ -1,14 +1,16 @@
--- What fits firmly: where a function is applied, its body fits too, with just its precondition held, and so does what it applies.
+-- What fits firmly: where a function is applied, its body fits too, with just its precondition held, and its postcondition holds there;
+-- and so it is with what these apply.
 use Rattle.std.specs.Prelude.{◌≡◌, ℕ, zero, suc, List, Option, Some, None, Ok}
 use Rattle.vx_frac.specs.Fractions.{full}
-use Rattle.vx_ast.specs.Syntax.{Name, Program, Function, function_named, Expr, Exprs}
+use Rattle.vx_ast.specs.Syntax.{Name, Program, Function, function_named, conjoined, Expr, Exprs}
 use Rattle.vx_ast.specs.Apart.{Stands, entered_by}
 use Rattle.vx_whole.specs.Now.{IsOfNow, SaysNow}
-use Rattle.vx_meaning.specs.Values.{Value}
+use Rattle.vx_meaning.specs.Values.{Value, is_true}
 use Rattle.vx_meaning.specs.States.{State, Heap, bind, with_store}
 use Rattle.vx_meaning.specs.Evaluate.{applications, values}
 use Rattle.vx_meaning.specs.Flatten.{bare}
-use Rattle.vx_meaning.specs.Fits.{Checked, ◌>>=◌, to_option, Deeper, fit, take, add, exchange}
+use Rattle.vx_meaning.specs.Fits.{Checked, ◌>>=◌, guard, to_option, Deeper, fit, take, add, exchange}
+use Rattle.vx_meaning.specs.Fails.{with_result}
 use Rattle.vx_sound_preds.specs.Bodies.{Rigid, AreRigid, IsPlainBody}
 use Rattle.vx_sound_funcs.specs.Told.{Says, precondition_of}
 
@@ -16,13 +18,21 @@ use Rattle.vx_sound_funcs.specs.Told.{Says, precondition_of}
 abbrev pub start_of : Program → Deeper → Function → List Value → Heap → Checked State
 start_of p d g vs h = add p d full (precondition_of g) (bare (bind g.parameters vs) h)
 
--- a function's value at its arguments, where its precondition can be taken: the value with which its body fits where it starts
+-- a value whose promise is kept: with it as `result` the postcondition fits and is true
+abbrev pub promised : Program → Deeper → Function → State → Value → Checked Value
+promised p d g u v = fit p d (with_result v u) (conjoined g.place g.ensures) >>= λ w. guard g.place (is_true w) >>= λ _. Ok v
+
+-- the precondition can be taken, and where the function starts its body fits and its promise is kept
+abbrev pub firm_value : Program → Deeper → Function → List Value → State → Checked Value
+firm_value p d g vs s =
+    take p d (with_store (bind g.parameters vs) s) full (precondition_of g) s.holdings >>= λ _. start_of p d g vs s.heap >>= λ u. fit p d u g.body >>= λ v. promised p d g u v
+
+-- an application that is allowed firmly, with its value: its precondition can be taken, its body fits, and its promise is kept
 abbrev pub firm_application : Program → Deeper → Name → List Value → State → Option Value
 firm_application p d f vs s = value_of (function_named p f) where
   value_of : Option Function → Option Value
   value_of None = None
-  value_of (Some g) =
-      to_option (take p d (with_store (bind g.parameters vs) s) full (precondition_of g) s.holdings >>= λ _. start_of p d g vs s.heap >>= λ u. fit p d u g.body)
+  value_of (Some g) = to_option (firm_value p d g vs s)
 
 abbrev pub firmly : Program → ℕ → Deeper
 firmly p zero = record { applied = λ f vs s. None; opened = λ i q s. None }
@@ -36,13 +46,15 @@ FitsFirmly p s e v = (n : ℕ) × (fit p (firmly p n) s e ≡ Ok v)
 abbrev pub HasRigidArguments : Program → Name → Exprs → Type 0
 HasRigidArguments p f es = (n : ℕ) (s : State) (vs : List Value) → Rigid s → values p (applications p n) s es ≡ Some vs → AreRigid vs
 
--- what is asked of functions: no `old`, arguments that are no amounts, and preconditions that apply no function
+-- what is asked of functions: no `old`, in postconditions either, arguments that are no amounts, and preconditions that apply no function
 pub record GoodFunctions (p : Program) : Type 0 where
   pub asks : (f : Name) (g : Function) → function_named p f ≡ Some g → IsPlainBody p Rigid (precondition_of g)
   pub says : (f : Name) (g : Function) → function_named p f ≡ Some g → Says (HasRigidArguments p) g.body
+  pub promises_now : (f : Name) (g : Function) → function_named p f ≡ Some g → IsOfNow (conjoined g.place g.ensures)
 
 -- what `IsTypedProgram` leaves to be said of functions: they speak of no earlier state, and their preconditions apply none
 pub record PlainContracts (p : Program) : Type 0 where
   pub says_now : (f : Name) (g : Function) → function_named p f ≡ Some g → IsOfNow g.body
+  pub promises_now : (f : Name) (g : Function) → function_named p f ≡ Some g → IsOfNow (conjoined g.place g.ensures)
   pub asks_now : (f : Name) (g : Function) → function_named p f ≡ Some g → SaysNow (precondition_of g)
   pub asks_plainly : (f : Name) (g : Function) → function_named p f ≡ Some g → (x : Name) → Stands x (entered_by (precondition_of g)) → function_named p x ≡ None

@@ -109,8 +109,10 @@ pub fn get_is_determined()
     ensures agrees { (z : ℤ) (t : State) → IsTreeOf boxes (with_store x_is_one t) (precondition_of getter) (IntLeaf z) → IsValueOf boxes get (RefValue 1 ∷ []) t (IntValue z) }
 {}
 
-/// `twice(x)` applies `get` two times: its body fits firmly, and its value is the double.
+/// `twice(x)` applies `get` two times, and promises that its value is the sum: its body fits firmly, its promise is kept where P(1) is
+/// held, so it may be applied there, and its value is the double.
 pub fn twice_is_determined()
+    ensures allowed { (z : ℤ) → firm_application boxes (firmly boxes 3) twice (RefValue 1 ∷ []) (holding z) ≡ Some (IntValue (z +ℤ z)) }
     ensures fits { (z : ℤ) → FitsFirmly boxes (holding z) doubler.body (IntValue (z +ℤ z)) }
     ensures determined { (z : ℤ) (t : State) → t.store ≡ x_is_one → IsTreeOf boxes t (precondition_of doubler) (IntLeaf z) → IsValueOf boxes twice (RefValue 1 ∷ []) t (IntValue (z +ℤ z)) }
 {}

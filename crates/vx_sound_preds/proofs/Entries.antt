@@ -52,7 +52,7 @@ module _ (p : Program) (Held : Name → Type 0) (no_perm : (x : Name) (d : Predi
   instance_typed i vs (BoolValue q) es t e = cc
   instance_typed i vs (RefValue q) es t e = cc
 
-  pub entries_typed : (ds : List Declaration) (vs : List Value) (tv : run.HaveTypes ds vs) (h : Heap) (a : Assertion) (es : Holdings) → IsTyped p ds a → IsPlainBody p Rigid a → SpeaksOf Held a → entries p (bare (bind ds vs) h) a ≡ Some es → TypedAll p Held es
+  pub entries_typed : (ds : List Declaration) (vs : List Value) (tv : run.HaveTypes ds vs) (h : Heap) (a : Assertion) (es : Holdings) → IsTyped p ds a → IsPlainBody p Rigid a → SpeaksOf Held (λ f. ⊥) a → entries p (bare (bind ds vs) h) a ≡ Some es → TypedAll p Held es
   entries_typed ds vs tv h (Pure e) es t k sp eq =
       let y = came (value p no_applications (bare (bind ds vs) h) e) (λ v. cond (is_true v) (Some []) None) es eq in
       truth_typed (is_true y.it) es y.then

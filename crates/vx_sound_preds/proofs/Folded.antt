@@ -1,22 +1,19 @@
 -- A fold: the body is taken, and the instance's chunk has a snapshot that stands for the tree of its values.
-use Rattle.std.proofs.Common.{◌≡◌, ℕ, zero, suc, ◌+◌, true, false, List, Option, Some, None, refl, sym, ◌∙◌, ap, ap₂, subst, arith, le_refl, le_trans}
-use Rattle.std.specs.Prelude.{Ok, option_and_then}
+use Rattle.std.proofs.Common.{◌≡◌, ℕ, zero, suc, true, false, List, Option, Some, None, refl, sym, ◌∙◌, ap, subst, le_refl, le_trans}
+use Rattle.std.specs.Prelude.{Ok}
 use Rattle.vx_frac.specs.Fractions.{Fraction}
 use Rattle.vx_ast.specs.declared.Place.{Place}
-use Rattle.vx_ast.specs.Syntax.{Name, Program, Predicate, predicate_named, Expr, Assertion, Pure, Points, Both, Implied, Chosen}
-use Rattle.vx_ast.specs.Syntax as syntax
-use Rattle.vx_meaning.specs.Values.{Value, BoolValue, RefValue, PermValue}
+use Rattle.vx_ast.specs.Syntax.{Name, Program, Predicate, predicate_named, Assertion}
+use Rattle.vx_meaning.specs.Values.{Value}
 use Rattle.vx_meaning.specs.States as run
 use Rattle.vx_meaning.specs.States.{bind}
-use Rattle.vx_meaning.specs.Evaluate as plain
-use Rattle.vx_meaning.specs.Flatten.{no_applications, bare}
+use Rattle.vx_meaning.specs.Flatten.{bare}
 use Rattle.vx_meaning.specs.Fits.{placed, Eventually, take_by}
 use Rattle.vx_meaning.specs.Outcomes.{Outcome, Outcomes, ends, checked, passes, refused}
 use Rattle.vx_meaning.specs.Run as meaning
 use Rattle.vx_terms.specs.Sorts.{RealSort, SnapSort}
 use Rattle.vx_terms.specs.Terms.{Term}
-use Rattle.vx_terms.specs.Build.{wrap}
-use Rattle.vx_terms.specs.Interpretations.{Interpretation, TreeElement, Tree, Empty, Pair, IsOf, as_fraction, value}
+use Rattle.vx_terms.specs.Interpretations.{Interpretation, as_fraction, value}
 use Rattle.vx_rules.specs.States as rules
 use Rattle.vx_rules.specs.States.{sort_of_type}
 use Rattle.vx_rules.specs.Trees.{FoldCode, AssertCode, Step, Tree as Questions}
@@ -26,104 +23,35 @@ use Rattle.vx_rules.specs.Members.{folded}
 use Rattle.vx_types.specs.Typing.{Scope, HaveNoPerm, IsTyped}
 use Rattle.vx_elements.proofs.Settled.{Meaning, extends-trans, value_kept}
 use Rattle.vx_elements.proofs.Built.{Good, good_later}
-use Rattle.vx_elements.proofs.Elements.{element, element_is}
 use Rattle.vx_elements.proofs.Eventually.{eventually, one_answer}
-use Rattle.vx_elements.proofs.Values.{value_typed, sort_of_field}
 use Rattle.vx_amounts.proofs.Amounts.{Le, Positive, Same, le-trans}
 use Rattle.vx_amounts.proofs.Products.{positive_le}
-use Rattle.vx_sound.specs.Snapshots.{leaf, location_leaf, truth_leaf, assertion_tree, tree_by, IsTree}
-use Rattle.vx_sound.proofs.World.{at_field, World}
-use Rattle.vx_sound.proofs.Standard.{IsStandard, leaf_of, leaf_is, unit_value, pair_value, wrap_value, name_written}
-use Rattle.vx_sound.proofs.Speaks.{SpeaksOf}
+use Rattle.vx_sound.specs.Snapshots.{tree_by, IsTree}
+use Rattle.vx_sound.proofs.World.{World}
+use Rattle.vx_sound.proofs.Standard.{name_written}
+use Rattle.vx_sound.proofs.Speaks.{SpeaksOf, body_speaks}
 use Rattle.vx_sound.proofs.Passes.{Cleared}
 use Rattle.vx_sound.proofs.Stands.{Stands, store_later}
 use Rattle.vx_sound.proofs.Candidates.{InstanceTerms, instance_terms_later, of_instance, keys_typed}
 use Rattle.vx_sound.proofs.Goes.{Goes, stuck, Named, named}
 use Rattle.vx_sound.proofs.Arguments.{bound}
-use Rattle.vx_sound.proofs.Evaluate.{UnfoldsGo}
-use Rattle.vx_sound.proofs.Assertions.{Leaves, ends_leaves, refused_leaves, Builds, built_pure, built_field, built_instance, built_both, built_implied, built_nothing, built_left, built_right, Consumes, consumed}
+use Rattle.vx_sound.proofs.Evaluate.{PartsGo}
+use Rattle.vx_sound.proofs.Assertions.{Leaves, ends_leaves, refused_leaves, Consumes, consumed}
 use Rattle.vx_sound.proofs.Steps.{FoldsGo}
-use Rattle.vx_sound_preds.specs.Bodies.{Rigid, IsAmount, IsPlainBody, GoodBodies}
-use Rattle.vx_sound_preds.proofs.Fitting.{step, some_is}
-use Rattle.vx_sound_preds.proofs.Flats.{assertion_more, tree_later}
+use Rattle.vx_sound_preds.specs.Bodies.{Rigid, IsPlainBody, GoodBodies}
 use Rattle.vx_sound_preds.proofs.Looks.{Sees}
-use Rattle.vx_sound_preds.proofs.Framing.{above_none, tree_seen}
-use Rattle.vx_sound_preds.proofs.Adding.{Fine}
+use Rattle.vx_sound_preds.proofs.Framing.{tree_seen}
 use Rattle.vx_sound_preds.proofs.Folds.{IsFolded, fold_keeps, tree_of_body}
-use Rattle.vx_sound_preds.proofs.Holding.{HoldsInstances, instance_rigid, stock, consistent, of_possible, instances_world}
-use Rattle.vx_sound_preds.proofs.Produced.{fine_state, now, all_now, put_known}
-use Rattle.vx_sound_preds.proofs.Unfolds.{BodiesSpeak, unfolds_go}
+use Rattle.vx_sound_preds.proofs.Holding.{HoldsInstances, instance_rigid, stock, consistent, of_possible, Applying, functions_world}
+use Rattle.vx_sound_preds.proofs.Produced.{fine_state, put_known}
+use Rattle.vx_sound_preds.proofs.Unfolds.{BodiesSpeak}
+use Rattle.vx_sound_preds.proofs.Trees.{TreeOf, builds_tree}
 
-module _ (means : Meaning) (p : Program) (good : GoodBodies p) (Held : Name → Type 0) (no_perm : (x : Name) (d : Predicate) → predicate_named p x ≡ Some d → HaveNoPerm d.parameters) (speak : BodiesSpeak p Held) where
+module _ (means : Meaning) (p : Program) (good : GoodBodies p) (Held : Name → Type 0) (no_perm : (x : Name) (d : Predicate) → predicate_named p x ≡ Some d → HaveNoPerm d.parameters) (applying : Applying) (speak : BodiesSpeak p Held) where
   abbrev world : World
-  world = instances_world p good Held no_perm true
+  world = functions_world p good Held no_perm true applying
 
-  -- What was built stands for the tree of the assertion's values.
-
-  record TreeOf (i : Interpretation) (c : run.State) (a : Assertion) (t : Term) : Type 0 where
-    pub fuel : ℕ
-    pub tree : Tree
-    pub is : assertion_tree p (tree_by p fuel c.heap) c a ≡ Some tree
-    pub value_is : value i t ≡ TreeElement tree
-
-  -- amounts of bodies are above none
-  amount_positive : (c : run.State) (share : Expr) (a : Fraction) (k : IsAmount p share) → plain.value p no_applications c share ≡ Some (PermValue a) → Positive a
-  amount_positive c share a k e = subst Positive (sym (amounts a k.amount (some_is (PermValue a) (PermValue k.amount) (sym e ∙ k.value_is c)))) (above_none k)
-    where
-      amounts : (a b : Fraction) → PermValue a ≡ PermValue b → a ≡ b
-      amounts a b e = cc
-
-  -- the tree of a side
-  as_side : {i : Interpretation} {c : run.State} (a b : Assertion) (t : Term) → ((f : run.Instance → Option Tree) → assertion_tree p f c b ≡ assertion_tree p f c a) → TreeOf i c a t → TreeOf i c b t
-  as_side {c = c} a b t e k = record { fuel = k.fuel; tree = k.tree; is = e (tree_by p k.fuel c.heap) ∙ k.is; value_is = k.value_is }
-
-  module _ (o : Outer) (opens : UnfoldsGo means world o) (n : ℕ) (i : Interpretation) (st : IsStandard i) (c : run.State) (fine : Fine p c) where
-    builds_tree : (a : Assertion) (t : Term) → IsPlainBody p Rigid a → Builds means world o opens n i c a t → TreeOf i c a t
-    builds_tree (Pure e) t k (built_pure f) = record { fuel = 0; tree = Empty; is = step truth_leaf (BoolValue true) (now means p good Held no_perm true c e (BoolValue true) fine k f); value_is = unit_value i st }
-    builds_tree (Points at e f share) t k (built_field g r a u fe fs gu there) =
-        let pos = amount_positive c share a k.1 (now means p good Held no_perm true c share (PermValue a) fine k.1.plain fs) in
-        let v = run.value_at p c.heap (at_field r f) in
-        let is : value i u ≡ element v = there pos in
-        let of_sort : IsOf (sort_of_type (run.field_type p f)) (element v) = subst (λ y. IsOf (sort_of_type y) (element v)) (value_typed p c.heap (at_field r f)) (element_is v) in
-        record {
-          fuel = 0;
-          tree = leaf v;
-          is = step (location_leaf p c.heap f) (RefValue r) (now means p good Held no_perm true c e (RefValue r) fine k.0 fe);
-          value_is = subst (λ z. value i (wrap z u) ≡ TreeElement (leaf v)) (sym (sort_of_field p f))
-              (wrap_value i st (run.field_type p f) u (subst (IsOf (sort_of_type (run.field_type p f))) (sym is) of_sort) ∙ ap (λ e. TreeElement (leaf_of e)) is ∙ ap TreeElement (leaf_is v));
-        }
-    builds_tree (syntax.Instance at x es share) t k (built_instance y vs a u fe fs gu there) =
-        let pos = amount_positive c share a k.1 (now means p good Held no_perm true c share (PermValue a) fine k.1.plain fs) in
-        let is = there pos in
-        record { fuel = is.1.0; tree = is.0; is = step (λ vs. tree_by p is.1.0 c.heap record { predicate = x; arguments = vs }) vs (all_now means p good Held no_perm true c es vs fine k.0 fe) ∙ is.1.1; value_is = is.2 }
-    builds_tree (Both a b) t k (built_both {t = u} {u = v} l r) =
-        let x = builds_tree a u k.0 l in
-        let y = builds_tree b v k.1 r in
-        let z : y.fuel + x.fuel ≡ x.fuel + y.fuel = omega arith in
-        let left : assertion_tree p (tree_by p (y.fuel + x.fuel) c.heap) c a ≡ Some x.tree = assertion_more p (tree_by p x.fuel c.heap) (tree_by p (y.fuel + x.fuel) c.heap) (tree_later p y.fuel x.fuel c.heap) c a x.tree x.is in
-        let right : assertion_tree p (tree_by p (x.fuel + y.fuel) c.heap) c b ≡ Some y.tree = assertion_more p (tree_by p y.fuel c.heap) (tree_by p (x.fuel + y.fuel) c.heap) (tree_later p x.fuel y.fuel c.heap) c b y.tree y.is in
-        record {
-          fuel = x.fuel + y.fuel;
-          tree = Pair x.tree y.tree;
-          is = ap₂ (λ (o m : Option Tree). option_and_then (λ t. option_and_then (λ u. Some (Pair t u)) m) o) (subst (λ m. assertion_tree p (tree_by p m c.heap) c a ≡ Some x.tree) z left) right;
-          value_is = pair_value i st u v x.tree y.tree x.value_is y.value_is;
-        }
-    builds_tree (Implied d a) t k (built_implied f l) =
-        as_side a (Implied d a) t (λ g. step (λ v. plain.choose v (assertion_tree p g c a) (Some Empty)) (BoolValue true) (now means p good Held no_perm true c d (BoolValue true) fine k.0 f)) (builds_tree a t k.1 l)
-    builds_tree (Implied d a) t k (built_nothing f) = record {
-      fuel = 0;
-      tree = Empty;
-      is = step (λ v. plain.choose v (assertion_tree p (tree_by p 0 c.heap) c a) (Some Empty)) (BoolValue false) (now means p good Held no_perm true c d (BoolValue false) fine k.0 f);
-      value_is = unit_value i st;
-    }
-    builds_tree (Chosen d a b) t k (built_left f l) =
-        as_side a (Chosen d a b) t (λ g. step (λ v. plain.choose v (assertion_tree p g c a) (assertion_tree p g c b)) (BoolValue true) (now means p good Held no_perm true c d (BoolValue true) fine k.0 f)) (builds_tree a t k.1 l)
-    builds_tree (Chosen d a b) t k (built_right f l) =
-        as_side b (Chosen d a b) t (λ g. step (λ v. plain.choose v (assertion_tree p g c a) (assertion_tree p g c b)) (BoolValue false) (now means p good Held no_perm true c d (BoolValue false) fine k.0 f)) (builds_tree b t k.2 l)
-
-  -- Folding
-
-  module _ (m : ℕ) (scope : Scope) (i : Interpretation) (s : rules.State) (c : run.State) (at : Place) (x : Name) (ts : List Term) (vs : List Value) (a : Term) (q : Fraction) (on : Going)
+  module _ (parts_at : (n : ℕ) → PartsGo means world (outer p n)) (m : ℕ) (scope : Scope) (i : Interpretation) (s : rules.State) (c : run.State) (at : Place) (x : Name) (ts : List Term) (vs : List Value) (a : Term) (q : Fraction) (on : Going)
       (keys : InstanceTerms means world s.next i x ts vs) (ga : Good means s.next i a RealSort) (same : Same (as_fraction (value i a)) q) (pos : Positive q) (st : Stands means world scope i s c) where
     abbrev k : run.Instance
     k = record { predicate = x; arguments = vs }
@@ -147,14 +75,15 @@ module _ (means : Meaning) (p : Program) (good : GoodBodies p) (Held : Name → 
       bounded = st.bounded;
       null = st.null;
       standard = st.standard;
+      owned = st.owned;
       holds = st.holds;
       old_holds = st.old_holds;
     }
 
     -- once the body was taken
-    folded_by : (o : Outer) (opens : UnfoldsGo means world o) (e : Assertion) → keys.predicate.body ≡ Some e → (r : Consumes means world o opens keys.predicate.parameters i s.next after inside e q c.holdings) →
+    folded_by : (o : Outer) (parts : PartsGo means world o) (e : Assertion) → keys.predicate.body ≡ Some e → (r : Consumes means world o parts keys.predicate.parameters i s.next after inside e q c.holdings) →
         Goes means world scope i s.next on (run.with_holdings (run.gained (run.Folded k) q r.left) c)
-    folded_by o opens e body r = record {
+    folded_by o parts e body r = record {
       interp = g.interp;
       state = g.state;
       extends = extends-trans means (le_trans r.goes.later n.later) (extends-trans means r.goes.later r.goes.extends n.extends) g.extends;
@@ -179,6 +108,7 @@ module _ (means : Meaning) (p : Program) (good : GoodBodies p) (Held : Name → 
           bounded = r.goes.stands.bounded;
           null = r.goes.stands.null;
           standard = r.goes.stands.standard;
+          owned = r.goes.stands.owned;
           holds = r.goes.stands.holds;
           old_holds = r.goes.stands.old_holds;
         }
@@ -186,8 +116,8 @@ module _ (means : Meaning) (p : Program) (good : GoodBodies p) (Held : Name → 
         n : Named means world scope r.goes.interp r.goes.state.next (run.with_holdings r.left c) SnapSort (value r.goes.interp r.snapshot) (rules.name_of r.snapshot (back s r.goes.state)) (rules.after_name r.snapshot (back s r.goes.state))
         n = named means world r.snapshot SnapSort back_stands r.good
 
-        tree : TreeOf r.goes.interp inside e r.snapshot
-        tree = builds_tree o opens r.goes.state.next r.goes.interp r.goes.stands.standard inside (fine_state means p good Held no_perm true keys.no_perm inner_stands) e r.snapshot plain_body r.built
+        tree : TreeOf means p good Held no_perm applying r.goes.interp inside e r.snapshot
+        tree = builds_tree means p good Held no_perm applying o parts r.goes.state.next r.goes.interp r.goes.stands.standard inside (fine_state means p good Held no_perm true applying keys.no_perm inner_stands) e r.snapshot plain_body r.built
 
         seen : Sees (bare (bind keys.predicate.parameters vs) c.heap) inside
         seen = record { store = refl; heap = refl }
@@ -206,7 +136,7 @@ module _ (means : Meaning) (p : Program) (good : GoodBodies p) (Held : Name → 
         a_kept = value_kept means a (good_later means r.goes.later r.goes.extends ga).settled n.extends ∙ value_kept means a ga.settled r.goes.extends
 
         g : Goes means world scope n.interp (rules.after_name r.snapshot (back s r.goes.state)).next on (run.with_holdings (run.gained (run.Folded k) q r.left) c)
-        g = put_known means p good Held no_perm true (of_instance x ts vs later_keys) a (rules.name_of r.snapshot (back s r.goes.state)) q false on n.stands
+        g = put_known means p good Held no_perm true applying (of_instance x ts vs later_keys) a (rules.name_of r.snapshot (back s r.goes.state)) q false on n.stands
             (good_later means n.later n.extends (good_later means r.goes.later r.goes.extends ga)) (subst (λ z. Same (as_fraction z) q) (sym a_kept) same) (le-trans (positive_le pos) (subst (λ z. Le q (as_fraction z)) (sym a_kept) same.back))
             n.good (λ e. name_written r.snapshot (back s r.goes.state) back_stands.awake) (tree.tree, is_tree, n.value_is ∙ tree.value_is) holds r.goes.cleared
           where
@@ -235,18 +165,18 @@ module _ (means : Meaning) (p : Program) (good : GoodBodies p) (Held : Name → 
     body_goes e body zero is h outcome ran = stuck means world nowhere AssertCode inner_stands h
     body_goes e body (suc n) is h outcome ran = go ran
       where
-        both : IsTyped p keys.predicate.parameters e × SpeaksOf Held e
+        both : IsTyped p keys.predicate.parameters e × SpeaksOf Held (λ f. ⊥) e
         both = speak x keys.predicate e keys.held keys.named body
 
-        r : Consumes means world (outer p n) (unfolds_go means p good Held no_perm true speak n) keys.predicate.parameters i s.next after inside e q c.holdings
-        r = consumed means world (outer p n) (unfolds_go means p good Held no_perm true speak n) e q both.0 both.1 context a after (record { good = ga; is = same; positive = pos }) inner_stands h
+        r : Consumes means world (outer p n) (parts_at n) keys.predicate.parameters i s.next after inside e q c.holdings
+        r = consumed means world (outer p n) (parts_at n) e q both.0 (body_speaks Held applying.Applied e both.1) context a after (record { good = ga; is = same; positive = pos }) inner_stands h
 
         takes : Eventually (λ n. placed at (take_by p n inside q e c.holdings) ≡ Ok r.left)
         takes = eventually r.takes (λ n u. ap (placed at) u)
 
         go : body_run keys.predicate e outcome → Leaves means world scope i s.next on outcome
         go (passes left f rest) = ends_leaves means world scope i s.next on (run.with_holdings (run.gained (run.Folded k) q r.left) c) outcome (subst (λ z. ends (run.with_holdings (run.gained (run.Folded k) q z) c) outcome) (one_answer left r.left f takes) rest)
-            (folded_by (outer p n) (unfolds_go means p good Held no_perm true speak n) e body r)
+            (folded_by (outer p n) (parts_at n) e body r)
         go (refused place f z) = refused_leaves means world scope i s.next on outcome r.left place takes f
 
     fold_by : (b : Option Assertion) → keys.predicate.body ≡ b → Cleared (tree_of_option s keys.predicate b) → (outcome : Outcome) → of_body keys.predicate b outcome → Leaves means world scope i s.next on outcome
@@ -263,5 +193,5 @@ module _ (means : Meaning) (p : Program) (good : GoodBodies p) (Held : Name → 
           | Some d ↦ tree_of_option s d d.body
         ])) keys.named h) outcome (subst (λ z. of_predicate z outcome) keys.named ran)
 
-  pub folds_go : (m : ℕ) → FoldsGo means world (outer p m)
-  folds_go m scope i s c at x ts vs a q on keys ga same pos st w outcome ran = fold_all m scope i s c at x ts vs a q on keys ga same pos st w outcome ran
+  pub folds_go : ((n : ℕ) → PartsGo means world (outer p n)) → (m : ℕ) → FoldsGo means world (outer p m)
+  folds_go parts_at m scope i s c at x ts vs a q on keys ga same pos st w outcome ran = fold_all parts_at m scope i s c at x ts vs a q on keys ga same pos st w outcome ran

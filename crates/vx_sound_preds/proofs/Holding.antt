@@ -1,5 +1,5 @@
 -- What is known of what is held where instances of predicates are, as the simulation asks of it.
-use Rattle.std.proofs.Common.{◌≡◌, ℕ, ◌+◌, Bool, true, false, cond, List, [], ◌∷◌, Some, refl, sym, ◌∙◌, subst, arith}
+use Rattle.std.proofs.Common.{◌≡◌, ℕ, ◌+◌, Bool, true, false, cond, List, [], ◌∷◌, Option, Some, None, refl, sym, ◌∙◌, subst, arith}
 use Rattle.std.specs.Prelude.{option_and_then}
 use Rattle.vx_frac.specs.Fractions.{Fraction, none, full, sum, product}
 use Rattle.vx_ast.specs.declared.ValueType.TheVariants.{Perm}
@@ -15,7 +15,7 @@ use Rattle.vx_types.specs.Typing.{HaveNoPerm}
 use Rattle.vx_amounts.proofs.Amounts.{Le, Positive, le-refl, le-trans, none-none, none-full, full-positive, positive-le, not-positive, below-add}
 use Rattle.vx_amounts.proofs.Products.{product_sign, positive_le}
 use Rattle.vx_sound.specs.Snapshots.{IsTree}
-use Rattle.vx_sound.proofs.World.{at_field, Limited, IsTypedInstance, IsTypedResource, CanBe, World}
+use Rattle.vx_sound.proofs.World.{at_field, Limited, IsTypedInstance, IsTypedResource, CanBe, Walked, World}
 use Rattle.vx_sound.proofs.Chunks.{spread_bare}
 use Rattle.vx_sound_preds.specs.Bodies.{IsRigid, AreRigid, GoodBodies}
 use Rattle.vx_sound_preds.proofs.Flats.{flat_later, tree_single}
@@ -225,12 +225,22 @@ module _ (p : Program) (good : GoodBodies p) (Held : Name → Type 0) (bounded :
           clash : ◌≡◌ {A = Bool} true false → ⊥
           clash z = cc
 
--- The world of a typed program, where the instances of some predicates are held.
-abbrev pub instances_world : (p : Program) → GoodBodies p → (Held : Name → Type 0) → ((x : Name) (d : Predicate) → predicate_named p x ≡ Some d → HaveNoPerm d.parameters) → Bool → World
-instances_world p good Held no_perm bounded = record {
+-- what may be applied, and the function whose body is walked, if it is one
+pub record Applying : Type 1 where
+  pub Applied : Name → Type 0
+  pub own : Option Walked
+
+abbrev pub nothing_applied : Applying
+nothing_applied = record { Applied = λ f. ⊥; own = None }
+
+-- The world of a typed program, where the instances of some predicates are held and some functions may be applied.
+abbrev pub functions_world : (p : Program) → GoodBodies p → (Held : Name → Type 0) → ((x : Name) (d : Predicate) → predicate_named p x ≡ Some d → HaveNoPerm d.parameters) → Bool → Applying → World
+functions_world p good Held no_perm bounded applying = record {
   program = p;
   bounded = bounded;
   Held = Held;
+  Applied = applying.Applied;
+  own = applying.own;
   proper = λ x d h e. no_perm x d e;
   Holds = HoldsInstances p Held bounded;
   limited = limited p good Held bounded;
@@ -240,3 +250,7 @@ instances_world p good Held no_perm bounded = record {
   tree = tree p good Held bounded;
   single = λ h k t u typed a b. tree_single p h k t u a b;
 }
+
+-- and where none may be
+abbrev pub instances_world : (p : Program) → GoodBodies p → (Held : Name → Type 0) → ((x : Name) (d : Predicate) → predicate_named p x ≡ Some d → HaveNoPerm d.parameters) → Bool → World
+instances_world p good Held no_perm bounded = functions_world p good Held no_perm bounded nothing_applied

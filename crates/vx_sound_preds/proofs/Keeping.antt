@@ -1,5 +1,5 @@
 -- Where bodies are covered, changes of what isn't held, writes and new locations keep what is known of what is held.
-use Rattle.std.proofs.Common.{◌≡◌, ℕ, Bool, true, false, cond, [], ◌∷◌, Some, refl, sym, ◌∙◌, ap, subst}
+use Rattle.std.proofs.Common.{◌≡◌, ℕ, Bool, true, false, cond, [], ◌∷◌, Some, None, refl, sym, ◌∙◌, ap, subst}
 use Rattle.vx_frac.specs.Fractions.{none, full, sum}
 use Rattle.vx_ast.specs.Syntax.{Name, Program, Predicate, predicate_named}
 use Rattle.vx_meaning.specs.Values.{Value}
@@ -19,7 +19,7 @@ use Rattle.vx_sound_preds.proofs.Grouped.{resource_is}
 use Rattle.vx_sound_preds.proofs.Frames.{SameAt}
 use Rattle.vx_sound_preds.proofs.Folding.{Stock}
 use Rattle.vx_sound_preds.proofs.Changes.{total_kept, tree_kept, consistent_kept, same_changed, same_written}
-use Rattle.vx_sound_preds.proofs.Holding.{instance_rigid, TypedAll, HoldsInstances, stock, consistent, of_possible, gained_debts, instances_world}
+use Rattle.vx_sound_preds.proofs.Holding.{instance_rigid, TypedAll, HoldsInstances, stock, consistent, of_possible, gained_debts, Applying, functions_world}
 use Rattle.vx_sound_preds.proofs.Walks.{held_proper}
 
 -- what is held of an instance came with arguments of their types
@@ -35,12 +35,12 @@ held_typed p Held ((Folded j, a) ∷ xs) h i k = go (same_resource (Folded i) (F
     go false e k f = f k
     go true e k f = subst (IsTypedInstance p Held) (same i j (resource_is (Folded i) (Folded j) (instance_rigid p Held j h.0) e)) h.0
 
-module _ (p : Program) (good : GoodBodies p) (x : Name) (no_perm : (x : Name) (d : Predicate) → predicate_named p x ≡ Some d → HaveNoPerm d.parameters) (covered : Covered p (IsProper p x)) where
+module _ (p : Program) (good : GoodBodies p) (x : Name) (no_perm : (x : Name) (d : Predicate) → predicate_named p x ≡ Some d → HaveNoPerm d.parameters) (covered : Covered p (IsProper p x)) (applying : Applying) where
   abbrev Held : Name → Type 0
   Held = InClosure p x
 
   abbrev world : World
-  world = instances_world p good Held no_perm true
+  world = functions_world p good Held no_perm true applying
 
   module _ (c : run.State) (st : HoldsInstances p (InClosure p x) true c.heap c.holdings) where
     can : IsConsistent p c
@@ -84,9 +84,10 @@ module _ (p : Program) (good : GoodBodies p) (x : Name) (no_perm : (x : Name) (d
       high n m true e = le-trans (add-left full (subst (λ k. Le (total p n h hs k) none) (sym (location_is m l e)) (z n))) (le-trans (sum_comm full none).there (none-sum full).there)
       high n m false e = st.most refl n m
 
-  pub instances_changing : Changing world
-  instances_changing = record {
+  pub functions_changing : applying.own ≡ None → Changing world
+  functions_changing none = record {
     bounded = refl;
+    of_no_function = none;
     changed = λ c g ch st. kept c st g (by_change c st g ch);
     changed_tree = λ c g ch st k typed pos t tr. tree_kept p good c g (stocked c st) (by_change c st g ch) k pos t tr;
     changed_total = λ c g ch st n l. total_kept p good c g (stocked c st) (by_change c st g ch) n l;

@@ -11,9 +11,9 @@ use Rattle.vx_amounts.proofs.Amounts.{Positive}
 use Rattle.vx_sound.specs.Snapshots.{IsTree}
 use Rattle.vx_sound.proofs.World.{Changing}
 use Rattle.vx_sound_preds.specs.Covered.{Covered, IsProper, PredicatesPass, TypedInstances, IsStocked}
-use Rattle.vx_sound_preds.proofs.Holding.{TypedAll, HoldsInstances, of_possible, consistent, instances_world}
+use Rattle.vx_sound_preds.proofs.Holding.{TypedAll, HoldsInstances, of_possible, consistent, nothing_applied, instances_world}
 use Rattle.vx_sound_preds.proofs.Walks.{proper_covered}
-use Rattle.vx_sound_preds.proofs.Keeping.{held_typed, instances_changing}
+use Rattle.vx_sound_preds.proofs.Keeping.{held_typed, functions_changing}
 use Rattle.vx_sound_preds.proofs.Speaking.{good, no_perm, speak}
 
 -- the walks of all predicates that x leads to
@@ -30,7 +30,7 @@ module _ (p : Program) (x : Name) (replies : Name → List Reply) (typed : IsTyp
   typed_all ((Folded i, a) ∷ xs) h = ((h.0.0, (h.0.1.0, h.0.1.1, (typed.predicates i.predicate h.0.1.0 h.0.1.1).parameters, h.0.1.2)), typed_all xs h.1)
 
   changing : Changing (instances_world p (good p x typed) (InClosure p x) (no_perm p x typed) true)
-  changing = instances_changing p (good p x typed) x (no_perm p x typed) (bodies_covered p x replies typed pass)
+  changing = functions_changing p (good p x typed) x (no_perm p x typed) (bodies_covered p x replies typed pass) nothing_applied refl
 
   module _ (s : State) (g : Heap) (co : IsConsistent p s) (st : IsStocked p x s.holdings) (ch : Changes p s g) where
     holds : HoldsInstances p (InClosure p x) true s.heap s.holdings

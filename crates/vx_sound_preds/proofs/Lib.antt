@@ -21,7 +21,10 @@ pub mod Holding
 pub mod Produced
 pub mod Entries
 pub mod Unfolds
+pub mod Trees
 pub mod Folded
+pub mod Consumed
+pub mod Applied
 pub mod Speaking
 pub mod Mentioning
 pub mod Walks

@@ -1,4 +1,4 @@
--- Where x leads to no function, what it leads to speaks of instances of predicates that x leads to.
+-- What x leads to speaks of instances of predicates, and of functions, that x leads to.
 use Rattle.std.proofs.Common.{◌≡◌, true, inl, List, [], ◌∷◌, ◌++◌, Option, Some, None, refl, sym, ap, subst}
 use Rattle.vx_ast.specs.declared.ValueType.{ValueType}
 use Rattle.vx_ast.specs.Syntax.{Name, Declaration, Program, Kind, IsField, IsPredicate, IsFunction, IsMethod, Predicate, Function, Method, member_named, predicate_named, function_in, function_named, method_named, Expr, Exprs, Assertion, Pure, Points, Instance, Both, Implied, Chosen, Stmt, Declare, Assign, Write, New, Call, Inhale, Exhale, Assert, Assume, Fold, Unfold, If, While, Block, Done, Then}
@@ -11,7 +11,7 @@ use Rattle.vx_sound.proofs.World.{World}
 use Rattle.vx_sound.proofs.Speaks.{Speaks, AllSpeak, SpeaksOf, AllSpeakOf}
 use Rattle.vx_sound.proofs.Says.{HasContract, Says, AllSay, BodySays, MethodSays}
 use Rattle.vx_sound_preds.specs.Bodies.{GoodBodies}
-use Rattle.vx_sound_preds.proofs.Holding.{instances_world}
+use Rattle.vx_sound_preds.proofs.Holding.{Applying, functions_world}
 use Rattle.vx_sound_preds.proofs.Speaking.{AllSeen as Seen, lefts as lefts_of, rights as rights_of}
 
 -- the member of a function
@@ -42,9 +42,13 @@ module _ (p : Program) (x : Name) where
   abbrev pub Held : Name → Type 0
   Held = InClosure p x
 
-  module _ (none : NoFunction) where
+  -- the functions that x leads to may be applied
+  abbrev pub MayApply : (Name → Type 0) → Type 0
+  MayApply Applied = (f : Name) (g : Function) → InClosure p x f → function_named p f ≡ Some g → Applied f
+
+  module _ (applying : Applying) (may : MayApply applying.Applied) where
     mutual
-      expression : {scope : Scope} {e : Expr} {t : ValueType} → HasType p scope e t → AllSeen (mentioned e) → Speaks Held e
+      expression : {scope : Scope} {e : Expr} {t : ValueType} → HasType p scope e t → AllSeen (mentioned e) → Speaks Held applying.Applied e
       expression (number at n) s = tt
       expression (truth) s = tt
       expression (nulls at) s = tt
@@ -63,7 +67,7 @@ module _ (p : Program) (x : Name) where
           )
       expression (reads f e h) s = expression h s
       expression (olds h) s = expression h s
-      expression (applies f g e hs) s = absurd (none f g (s f (inl refl)) e)
+      expression (applies f {es = es} g e hs) s = (may f g (s f (inl refl)) e, expressions hs (rights (f ∷ []) (mentioned_in es) s))
       expression (unfoldings i {es = es} {share = share} {e = e} d is hs hq h) s =
           let rest = rights (i ∷ []) (mentioned_in es ++ mentioned share ++ mentioned e) s in
           let first = lefts (mentioned_in es ++ mentioned share) (mentioned e) rest in (
@@ -73,11 +77,11 @@ module _ (p : Program) (x : Name) where
             expression h (rights (mentioned_in es ++ mentioned share) (mentioned e) rest),
           )
 
-      expressions : {scope : Scope} {es : Exprs} {ds : List Declaration} → HaveTypes p scope es ds → AllSeen (mentioned_in es) → AllSpeak Held es
+      expressions : {scope : Scope} {es : Exprs} {ds : List Declaration} → HaveTypes p scope es ds → AllSeen (mentioned_in es) → AllSpeak Held applying.Applied es
       expressions no_more s = tt
       expressions (more {e = e} {es = es} h hs) s = (expression h (lefts (mentioned e) (mentioned_in es) s), expressions hs (rights (mentioned e) (mentioned_in es) s))
 
-    pub assertion : (scope : Scope) (a : Assertion) → IsTyped p scope a → AllSeen (mentioned_by a) → SpeaksOf Held a
+    pub assertion : (scope : Scope) (a : Assertion) → IsTyped p scope a → AllSeen (mentioned_by a) → SpeaksOf Held applying.Applied a
     assertion scope (Pure e) t s = expression t s
     assertion scope (Points at e f share) t s = (expression t.0 (lefts (mentioned e) (mentioned share) s), expression t.2 (rights (mentioned e) (mentioned share) s))
     assertion scope (Instance at i es share) t s =
@@ -92,7 +96,7 @@ module _ (p : Program) (x : Name) where
           assertion scope b t.2 (rights (mentioned c ++ mentioned_by a) (mentioned_by b) s),
         )
 
-    assertions : (scope : Scope) (rest : List Assertion) → AllTyped p scope rest → AllSeen (mentioned_by_all rest) → AllSpeakOf Held rest
+    assertions : (scope : Scope) (rest : List Assertion) → AllTyped p scope rest → AllSeen (mentioned_by_all rest) → AllSpeakOf Held applying.Applied rest
     assertions scope [] t s = tt
     assertions scope (a ∷ rest) t s = (assertion scope a t.0 (lefts (mentioned_by a) (mentioned_by_all rest) s), assertions scope rest t.1 (rights (mentioned_by a) (mentioned_by_all rest) s))
 
@@ -100,7 +104,7 @@ module _ (p : Program) (x : Name) where
 
     module _ (typed : IsTypedProgram p) (good : GoodBodies p) (no_perm : (x : Name) (d : Predicate) → predicate_named p x ≡ Some d → HaveNoPerm d.parameters) where
       abbrev world : World
-      world = instances_world p good Held no_perm true
+      world = functions_world p good Held no_perm true applying
 
       contract : (f : Name) (m : Method) → method_named p f ≡ Some m → AllSeen (mentioned_by_contract (method_named p f)) → HasContract world m
       contract f m e s =

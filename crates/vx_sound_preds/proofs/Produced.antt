@@ -41,7 +41,7 @@ use Rattle.vx_sound.proofs.Stands.{IsThere, StoreStands, Stands, stands_fact, ne
 use Rattle.vx_sound.proofs.Candidates.{Keys, of_instance, keys_later, keyed}
 use Rattle.vx_sound.proofs.Puts.{put_stands}
 use Rattle.vx_sound.proofs.Goes.{Goes, Evaluates, goes_after, reached, forked, Named, named}
-use Rattle.vx_sound.proofs.Evaluate.{UnfoldsGo, bind_ok, eval_goes}
+use Rattle.vx_sound.proofs.Evaluate.{PartsGo, bind_ok, eval_goes}
 use Rattle.vx_sound.proofs.Giving.{next_after_put, ScaleStands, scale_later, put_fresh, Located, located, InstanceLocated, instance_located}
 use Rattle.vx_sound_preds.specs.Bodies.{RigidStore, Rigid, IsPlain, ArePlain, IsPlainBody, GoodBodies}
 use Rattle.vx_sound_preds.proofs.Fitting.{step, some_is}
@@ -51,7 +51,7 @@ use Rattle.vx_sound_preds.proofs.Framing.{entries_seen, tree_seen}
 use Rattle.vx_sound_preds.proofs.Adding.{Fine, added, added_append, value_here, values_here}
 use Rattle.vx_sound_preds.proofs.Exchanging.{all_open}
 use Rattle.vx_sound_preds.proofs.Frames.{entries_positive}
-use Rattle.vx_sound_preds.proofs.Holding.{rigid_value, all_single, HoldsInstances, added_debts, fewer, instances_world}
+use Rattle.vx_sound_preds.proofs.Holding.{rigid_value, all_single, HoldsInstances, added_debts, fewer, Applying, functions_world}
 
 -- an outcome that ends, ends here
 abbrev pub EndsAt : run.State → Outcome → Type 0
@@ -59,9 +59,9 @@ EndsAt u (Ends t) = t ≡ u
 EndsAt u (FailsAt at) = ⊥
 EndsAt u Stops = Unit {0}
 
-module _ (means : Meaning) (p : Program) (good : GoodBodies p) (Held : Name → Type 0) (no_perm : (x : Name) (d : Predicate) → predicate_named p x ≡ Some d → HaveNoPerm d.parameters) (bounded : Bool) where
+module _ (means : Meaning) (p : Program) (good : GoodBodies p) (Held : Name → Type 0) (no_perm : (x : Name) (d : Predicate) → predicate_named p x ≡ Some d → HaveNoPerm d.parameters) (bounded : Bool) (applying : Applying) where
   abbrev pub world : World
-  world = instances_world p good Held no_perm bounded
+  world = functions_world p good Held no_perm bounded applying
 
   rigid_store : (n : ℕ) (i : Interpretation) (scope : Scope) (xs : rules.Store) (ys : run.Store) → HaveNoPerm scope → StoreStands means world n i scope xs ys → RigidStore ys
   rigid_store n i [] [] [] np h = tt
@@ -94,7 +94,7 @@ module _ (means : Meaning) (p : Program) (good : GoodBodies p) (Held : Name → 
   IsSnapshotOf n i c a None = Unit {0}
   IsSnapshotOf n i c a (Some t) = SnapshotOf n i c a t
 
-  snapshot_later : (m n : ℕ) (i j : Interpretation) (c : run.State) (a : Assertion) (snapshot : Option Term) → m ≤ n → Extends means m i j → IsSnapshotOf m i c a snapshot → IsSnapshotOf n j c a snapshot
+  pub snapshot_later : (m n : ℕ) (i j : Interpretation) (c : run.State) (a : Assertion) (snapshot : Option Term) → m ≤ n → Extends means m i j → IsSnapshotOf m i c a snapshot → IsSnapshotOf n j c a snapshot
   snapshot_later m n i j c a None le x k = tt
   snapshot_later m n i j c a (Some t) le x k = record { good_term = good_later means le x k.good_term; written = k.written; fuel = k.fuel; tree = k.tree; is = k.is; value_is = value_kept means t k.good_term.settled x ∙ k.value_is }
 
@@ -220,7 +220,7 @@ module _ (means : Meaning) (p : Program) (good : GoodBodies p) (Held : Name → 
       next_is : (rules.with_fact (equals t (wrap (field_sort p f) (rules.name_of (unwrap (field_sort p f) t) s))) (rules.after_name (unwrap (field_sort p f) t) s)).next ≡ (rules.after_name (unwrap (field_sort p f) t) s).next
       next_is = next_after_fact means world fact (rules.after_name (unwrap (field_sort p f) t) s)
 
-  module _ (o : Outer) (opens : UnfoldsGo means world o) (Possible : run.State → Type 0) where
+  module _ (o : Outer) (parts : PartsGo means world o) (Possible : run.State → Type 0) where
     -- the entries were added, and giving ends there
     pub record Produced (scope : Scope) (i : Interpretation) (n : ℕ) (on : Going) (c : run.State) (a : Assertion) (q : Fraction) (es : run.Holdings) : Type 0 where
       pub adds : Eventually (λ n. add p (deeper p n) q a c ≡ Ok (run.with_holdings (added q es c.holdings) c))
@@ -230,7 +230,7 @@ module _ (means : Meaning) (p : Program) (good : GoodBodies p) (Held : Name → 
     -- what is shown of a body
     ProducedGoes : Fraction → Assertion → Type 0
     ProducedGoes q a =
-        (scope : Scope) (c : run.State) (es : run.Holdings) → HaveNoPerm scope → IsTyped p scope a → SpeaksOf Held a → IsPlainBody p Rigid a → entries p c a ≡ Some es → HoldsInstances p Held bounded c.heap (added q es c.holdings) →
+        (scope : Scope) (c : run.State) (es : run.Holdings) → HaveNoPerm scope → IsTyped p scope a → SpeaksOf Held applying.Applied a → IsPlainBody p Rigid a → entries p c a ≡ Some es → HoldsInstances p Held bounded c.heap (added q es c.holdings) →
         (i : Interpretation) (s : rules.State) (scale : Term) (snapshot : Option Term) (on : Going) → IsSnapshotOf s.next i c a snapshot → ScaleStands means world s.next i scale q → Stands means world scope i s c →
         Cleared (produce p o a scale snapshot s on) → Produced scope i s.next on c a q es
 
@@ -283,7 +283,7 @@ module _ (means : Meaning) (p : Program) (good : GoodBodies p) (Held : Name → 
         after t s1 = Step (on (with_unit snapshot (rules.with_fact t s1)))
 
         r : Evaluates means world scope i s.next (λ t s1. Step (on (with_unit snapshot (rules.with_fact t s1)))) c e type.Bool
-        r = eval_goes means world o opens t k (λ t s1. Step (on (with_unit snapshot (rules.with_fact t s1)))) st w
+        r = eval_goes means world o parts t k (λ t s1. Step (on (with_unit snapshot (rules.with_fact t s1)))) st w
 
         v : plain.value p no_applications c e ≡ Some r.result
         v = now c e r.result (fine_state np st) pl r.fits
@@ -321,8 +321,8 @@ module _ (means : Meaning) (p : Program) (good : GoodBodies p) (Held : Name → 
         after : Term → Term → Going
         after r a s3 = Step (on (put (record (field_key f r) { amount = a; value = produced_value (field_sort p f) snapshot s3; inner = s.inner }) (after_value (field_sort p f) snapshot s3)))
 
-        l : Located means world o opens scope i s.next after c at e f share q
-        l = located means world o opens at f scale q after t.0 k.0 t.2 k.1 sc st w
+        l : Located means world o parts scope i s.next after c at e f share q
+        l = located means world o parts at f scale q after t.0 k.0 t.2 k.1 sc st w
 
         fine : Fine p c
         fine = fine_state np st
@@ -370,8 +370,8 @@ module _ (means : Meaning) (p : Program) (good : GoodBodies p) (Held : Name → 
         after : List Term → Term → Going
         after ts a s3 = Step (on (put (record (instance_key x ts) { amount = a; value = produced_snapshot snapshot s3; inner = s.inner }) (after_snapshot snapshot s3)))
 
-        l : InstanceLocated means world o opens scope i s.next after c at x xs share q
-        l = instance_located means world o opens at x t.0.0 scale q after k.0 t.0.1 t.0.2 k.1 t.1 k.2 sc st w
+        l : InstanceLocated means world o parts scope i s.next after c at x xs share q
+        l = instance_located means world o parts at x t.0.0 scale q after k.0 t.0.1 t.0.2 k.1 t.1 k.2 sc st w
 
         fine : Fine p c
         fine = fine_state np st
@@ -488,10 +488,10 @@ module _ (means : Meaning) (p : Program) (good : GoodBodies p) (Held : Name → 
       pub fits : Eventually (λ n. fit_by p n c d ≡ Ok (BoolValue test))
       pub now_is : plain.value p no_applications c d ≡ Some (BoolValue test)
 
-    picked : {scope : Scope} {i : Interpretation} {s : rules.State} {c : run.State} (d : Expr) (left right : Going) → HaveNoPerm scope → HasType p scope d type.Bool → Speaks Held d → IsPlain d → Stands means world scope i s c →
+    picked : {scope : Scope} {i : Interpretation} {s : rules.State} {c : run.State} (d : Expr) (left right : Going) → HaveNoPerm scope → HasType p scope d type.Bool → Speaks Held applying.Applied d → IsPlain d → Stands means world scope i s c →
         Cleared (eval p o d s (λ t s1. fork t s1 left right)) → Picked scope i s left right c d
     picked {c = c} d left right np t k pl st w =
-        let r = eval_goes means world o opens t k (λ t s1. fork t s1 left right) st w in
+        let r = eval_goes means world o parts t k (λ t s1. fork t s1 left right) st w in
         let b = as_bool (element r.result) in
         let is : r.result ≡ BoolValue b = bool_value_is r.result r.typed in
         record {
@@ -596,7 +596,7 @@ module _ (means : Meaning) (p : Program) (good : GoodBodies p) (Held : Name → 
     produces q (Chosen d a b) = chosen_produced q d a b (produces q a) (produces q b)
 
     -- the whole body
-    pub produced : (q : Fraction) (a : Assertion) (scope : Scope) (c : run.State) (es : run.Holdings) → HaveNoPerm scope → IsTyped p scope a → SpeaksOf Held a → IsPlainBody p Rigid a → entries p c a ≡ Some es → HoldsInstances p Held bounded c.heap (added q es c.holdings) →
+    pub produced : (q : Fraction) (a : Assertion) (scope : Scope) (c : run.State) (es : run.Holdings) → HaveNoPerm scope → IsTyped p scope a → SpeaksOf Held applying.Applied a → IsPlainBody p Rigid a → entries p c a ≡ Some es → HoldsInstances p Held bounded c.heap (added q es c.holdings) →
         (i : Interpretation) (s : rules.State) (scale : Term) (snapshot : Option Term) (on : Going) → IsSnapshotOf s.next i c a snapshot → ScaleStands means world s.next i scale q → Stands means world scope i s c →
         Cleared (produce p o a scale snapshot s on) → Produced scope i s.next on c a q es
     unfolding ProducedGoes

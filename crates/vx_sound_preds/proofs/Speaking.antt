@@ -43,7 +43,7 @@ module _ (p : Program) (x : Name) where
   Held = InClosure p x
 
   mutual
-    plain : (e : Expr) → IsPlain e → AllSeen (mentioned e) → Speaks Held e
+    plain : (e : Expr) → IsPlain e → AllSeen (mentioned e) → Speaks Held (λ f. ⊥) e
     plain (Number at n) k s = tt
     plain (Truth at b) k s = tt
     plain (Null at) k s = tt
@@ -71,11 +71,11 @@ module _ (p : Program) (x : Name) where
           plain e k.2 (rights (mentioned_in es ++ mentioned share) (mentioned e) rest),
         )
 
-    all_plain : (es : Exprs) → ArePlain es → AllSeen (mentioned_in es) → AllSpeak Held es
+    all_plain : (es : Exprs) → ArePlain es → AllSeen (mentioned_in es) → AllSpeak Held (λ f. ⊥) es
     all_plain NoMore k s = tt
     all_plain (More e es) k s = (plain e k.0 (lefts (mentioned e) (mentioned_in es) s), all_plain es k.1 (rights (mentioned e) (mentioned_in es) s))
 
-  pub plain_body : (a : Assertion) → IsPlainBody p Rigid a → AllSeen (mentioned_by a) → SpeaksOf Held a
+  pub plain_body : (a : Assertion) → IsPlainBody p Rigid a → AllSeen (mentioned_by a) → SpeaksOf Held (λ f. ⊥) a
   plain_body (Pure e) k s = plain e k s
   plain_body (Points at e f share) k s = (plain e k.0 (lefts (mentioned e) (mentioned share) s), plain share k.1.plain (rights (mentioned e) (mentioned share) s))
   plain_body (Instance at i es share) k s =

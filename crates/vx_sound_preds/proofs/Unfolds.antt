@@ -28,13 +28,13 @@ use Rattle.vx_amounts.proofs.Products.{positive_le}
 use Rattle.vx_sound.specs.Snapshots.{tree_by, IsTree}
 use Rattle.vx_sound.proofs.World.{World}
 use Rattle.vx_sound.proofs.Standard.{IsWritten}
-use Rattle.vx_sound.proofs.Speaks.{SpeaksOf}
+use Rattle.vx_sound.proofs.Speaks.{SpeaksOf, body_speaks}
 use Rattle.vx_sound.proofs.Passes.{Cleared}
 use Rattle.vx_sound.proofs.Stands.{Stands, store_later, terms_later}
 use Rattle.vx_sound.proofs.Candidates.{InstanceTerms, of_instance, values_typed}
 use Rattle.vx_sound.proofs.Goes.{Goes, stuck}
 use Rattle.vx_sound.proofs.Arguments.{bound}
-use Rattle.vx_sound.proofs.Evaluate.{UnfoldsGo}
+use Rattle.vx_sound.proofs.Evaluate.{UnfoldsGo, AppliesGo, PartsGo}
 use Rattle.vx_sound.proofs.Giving.{ScaleStands, Taken, take_one}
 use Rattle.vx_sound.proofs.Assertions.{Leaves, ends_leaves}
 use Rattle.vx_sound.proofs.Steps.{UnfoldGo}
@@ -45,17 +45,17 @@ use Rattle.vx_sound_preds.proofs.Adding.{added}
 use Rattle.vx_sound_preds.proofs.Exchanging.{IsOpen, opened}
 use Rattle.vx_sound_preds.proofs.Frames.{entries_positive}
 use Rattle.vx_sound_preds.proofs.Folds.{tree_of_body}
-use Rattle.vx_sound_preds.proofs.Holding.{HoldsInstances, exchanged, instances_world}
+use Rattle.vx_sound_preds.proofs.Holding.{HoldsInstances, exchanged, Applying, nothing_applied, functions_world, instances_world}
 use Rattle.vx_sound_preds.proofs.Entries.{entries_typed}
 use Rattle.vx_sound_preds.proofs.Produced.{EndsAt, SnapshotOf, Produced, produced}
 
 -- bodies of what can be held are typed, and speak of what can be held
 abbrev pub BodiesSpeak : Program → (Name → Type 0) → Type 0
-BodiesSpeak p Held = (x : Name) (d : Predicate) (e : Assertion) → Held x → predicate_named p x ≡ Some d → d.body ≡ Some e → IsTyped p d.parameters e × SpeaksOf Held e
+BodiesSpeak p Held = (x : Name) (d : Predicate) (e : Assertion) → Held x → predicate_named p x ≡ Some d → d.body ≡ Some e → IsTyped p d.parameters e × SpeaksOf Held (λ f. ⊥) e
 
-module _ (means : Meaning) (p : Program) (good : GoodBodies p) (Held : Name → Type 0) (no_perm : (x : Name) (d : Predicate) → predicate_named p x ≡ Some d → HaveNoPerm d.parameters) (bounded : Bool) (speak : BodiesSpeak p Held) where
+module _ (means : Meaning) (p : Program) (good : GoodBodies p) (Held : Name → Type 0) (no_perm : (x : Name) (d : Predicate) → predicate_named p x ≡ Some d → HaveNoPerm d.parameters) (bounded : Bool) (applying : Applying) (speak : BodiesSpeak p Held) where
   abbrev world : World
-  world = instances_world p good Held no_perm bounded
+  world = functions_world p good Held no_perm bounded applying
 
   -- an instance that was taken, and the state in which its body is given
   abbrev start : run.State → run.Instance → Predicate → Fraction → run.State
@@ -86,11 +86,12 @@ module _ (means : Meaning) (p : Program) (good : GoodBodies p) (Held : Name → 
         bounded = t.stands.bounded;
         null = t.stands.null;
         standard = t.stands.standard;
+        owned = t.stands.owned;
         holds = t.stands.holds;
         old_holds = t.stands.old_holds;
       }
 
-  module _ (n : ℕ) (opens : UnfoldsGo means world (outer p n)) (Possible : run.State → Type 0) where
+  module _ (n : ℕ) (parts : PartsGo means world (outer p n)) (Possible : run.State → Type 0) where
     body_exchanged : {scope : Scope} {i : Interpretation} {s : rules.State} {c : run.State} (at : Place) (x : Name) (ts : List Term) (vs : List Value) (a : Term) (q : Fraction) (after : rules.Chunk → Going) (on : Going) →
         Stands means world scope i s c → (keys : InstanceTerms means world s.next i x ts vs) → Good means s.next i a RealSort → Same (as_fraction (value i a)) q → Positive q →
         (t : Taken means world scope i s.next after c (run.Folded record { predicate = x; arguments = vs }) SnapSort q) → IsWritten t.chunk.value → (e : Assertion) → keys.predicate.body ≡ Some e →
@@ -117,6 +118,7 @@ module _ (means : Meaning) (p : Program) (good : GoodBodies p) (Held : Name → 
           bounded = r.goes.stands.bounded;
           null = r.goes.stands.null;
           standard = r.goes.stands.standard;
+          owned = r.goes.stands.owned;
           holds = r.goes.stands.holds;
           old_holds = r.goes.stands.old_holds;
         };
@@ -136,7 +138,7 @@ module _ (means : Meaning) (p : Program) (good : GoodBodies p) (Held : Name → 
         opening : IsOpen p c.heap (record { predicate = x; arguments = vs }) keys.predicate e
         opening = opened p c.heap k d e keys.named body grounded
 
-        speaks : IsTyped p d.parameters e × SpeaksOf Held e
+        speaks : IsTyped p d.parameters e × SpeaksOf Held (λ f. ⊥) e
         speaks = speak x d e keys.held keys.named body
 
         inside : run.State
@@ -154,14 +156,14 @@ module _ (means : Meaning) (p : Program) (good : GoodBodies p) (Held : Name → 
         there : (u : Tree) × IsTree p c.heap (record { predicate = x; arguments = vs }) u × (value t.interp t.chunk.value ≡ TreeElement u)
         there = t.there pos
 
-        snapshot : SnapshotOf means p good Held no_perm bounded t.state.next t.interp (start c (record { predicate = x; arguments = vs }) keys.predicate q) e t.chunk.value
+        snapshot : SnapshotOf means p good Held no_perm bounded applying t.state.next t.interp (start c (record { predicate = x; arguments = vs }) keys.predicate q) e t.chunk.value
         snapshot = by_fuel there.1.0 there.1.1
           where
             nothing : None ≡ Some there.0 → ⊥
             nothing e = cc
 
             by_fuel : (m : ℕ) → tree_by p m c.heap (record { predicate = x; arguments = vs }) ≡ Some there.0 →
-                SnapshotOf means p good Held no_perm bounded t.state.next t.interp (start c (record { predicate = x; arguments = vs }) keys.predicate q) e t.chunk.value
+                SnapshotOf means p good Held no_perm bounded applying t.state.next t.interp (start c (record { predicate = x; arguments = vs }) keys.predicate q) e t.chunk.value
             by_fuel zero f = absurd (nothing f)
             by_fuel (suc m) f = record {
               good_term = t.good;
@@ -180,15 +182,15 @@ module _ (means : Meaning) (p : Program) (good : GoodBodies p) (Held : Name → 
         scale : ScaleStands means world t.state.next t.interp a q
         scale = record { good = good_later means t.later t.extends ga; is = subst (λ z. Same (as_fraction z) q) (sym (value_kept means a ga.settled t.extends)) same; positive = pos }
 
-        r : Produced means p good Held no_perm bounded (outer p n) opens Possible keys.predicate.parameters t.interp t.state.next (λ s2. on (back s s2)) (start c (record { predicate = x; arguments = vs }) keys.predicate q) e q opening.entries_of
-        r = produced means p good Held no_perm bounded (outer p n) opens Possible q e d.parameters inside opening.entries_of keys.no_perm speaks.0 speaks.1 (good.plain x d e keys.named body)
+        r : Produced means p good Held no_perm bounded applying (outer p n) parts Possible keys.predicate.parameters t.interp t.state.next (λ s2. on (back s s2)) (start c (record { predicate = x; arguments = vs }) keys.predicate q) e q opening.entries_of
+        r = produced means p good Held no_perm bounded applying (outer p n) parts Possible q e d.parameters inside opening.entries_of keys.no_perm speaks.0 (body_speaks Held applying.Applied e speaks.1) (good.plain x d e keys.named body)
             (entries_seen p Rigid (bare (bind d.parameters vs) c.heap) inside seen e (good.plain x d e keys.named body) ∙ opening.entries_are) holds t.interp entered_state a (Some t.chunk.value) (λ s2. on (back s s2)) snapshot scale inner_stands h
 
   -- at every depth, by what holds one depth below
-  exchange_at : (m : ℕ) → ((n : ℕ) → m ≡ suc n → UnfoldsGo means world (outer p n)) → (Possible : run.State → Type 0) → {scope : Scope} {i : Interpretation} {s : rules.State} {c : run.State} (at : Place) (x : Name) (ts : List Term) (vs : List Value) (a : Term) (q : Fraction) (on : Going) →
+  exchange_at : (m : ℕ) → ((n : ℕ) → m ≡ suc n → PartsGo means world (outer p n)) → (Possible : run.State → Type 0) → {scope : Scope} {i : Interpretation} {s : rules.State} {c : run.State} (at : Place) (x : Name) (ts : List Term) (vs : List Value) (a : Term) (q : Fraction) (on : Going) →
       (keys : InstanceTerms means world s.next i x ts vs) → Good means s.next i a RealSort → Same (as_fraction (value i a)) q → Positive q → Stands means world scope i s c → Cleared (unfolded p (outer p m) at x ts a s on) →
       Exchange scope i s.next on c (record { predicate = x; arguments = vs }) keys.predicate q Possible
-  exchange_at m opens Possible {scope = scope} {i = i} {s = s} {c = c} at x ts vs a q on keys ga same pos st w = by_body keys.predicate.body refl with_predicate
+  exchange_at m parts Possible {scope = scope} {i = i} {s = s} {c = c} at x ts vs a q on keys ga same pos st w = by_body keys.predicate.body refl with_predicate
     where
       of_body : Predicate → rules.Chunk → rules.State → Option Assertion → Questions
       of_body d c s1 b = elim b as (λ b. Questions) [
@@ -218,7 +220,7 @@ module _ (means : Meaning) (p : Program) (good : GoodBodies p) (Held : Name → 
       by_depth : (e : Assertion) → keys.predicate.body ≡ Some e → (j : ℕ) → m ≡ j → Cleared ((outer p j).produce e a (Some t.chunk.value) (record (entered (rules.bind keys.predicate.parameters ts) at t.state) { inner = leads_inside t.chunk }) (λ s2. on (back s s2))) →
           Exchange scope i s.next on c (record { predicate = x; arguments = vs }) keys.predicate q Possible
       by_depth e body zero is h = stuck means world nowhere AssertCode (entered_stands at x ts vs keys t (leads_inside t.chunk)) h
-      by_depth e body (suc n) is h = body_exchanged n (opens n is) Possible at x ts vs a q after on st keys ga same pos t (t.written tt) e body h
+      by_depth e body (suc n) is h = body_exchanged n (parts n is) Possible at x ts vs a q after on st keys ga same pos t (t.written tt) e body h
 
       by_body : (b : Option Assertion) → keys.predicate.body ≡ b → Cleared (of_body keys.predicate t.chunk t.state keys.predicate.body) → Exchange scope i s.next on c (record { predicate = x; arguments = vs }) keys.predicate q Possible
       by_body None body h = stuck means world at UnfoldCode t.stands (subst (λ b. Cleared (of_body keys.predicate t.chunk t.state b)) body h)
@@ -226,8 +228,8 @@ module _ (means : Meaning) (p : Program) (good : GoodBodies p) (Held : Name → 
 
   -- Unfolding
 
-  opens_by : (m : ℕ) → ((n : ℕ) → m ≡ suc n → UnfoldsGo means world (outer p n)) → UnfoldsGo means world (outer p m)
-  opens_by m below scope i s c at x ts vs a q on keys ga same pos st w =
+  pub unfolds_by : (m : ℕ) → ((n : ℕ) → m ≡ suc n → PartsGo means world (outer p n)) → UnfoldsGo means world (outer p m)
+  unfolds_by m below scope i s c at x ts vs a q on keys ga same pos st w =
       let e = exchange_at m below (λ (u : run.State). Unit {0}) at x ts vs a q on keys ga same pos st w in
       record {
         more = e.more;
@@ -267,38 +269,39 @@ module _ (means : Meaning) (p : Program) (good : GoodBodies p) (Held : Name → 
           of_predicate None = None
           of_predicate (Some d) = of_body d d.body
 
-  record UnfoldsAt (m : ℕ) : Type 0 where
-    pub goes : UnfoldsGo means world (outer p m)
+  -- what is shown of an application at a depth, by what holds one depth below
+  abbrev pub AppliesBy : Type 0
+  AppliesBy = (m : ℕ) → ((n : ℕ) → m ≡ suc n → PartsGo means world (outer p n)) → AppliesGo means world (outer p m)
 
-  below_one : (m : ℕ) → UnfoldsAt m → (n : ℕ) → suc m ≡ suc n → UnfoldsGo means world (outer p n)
-  below_one m k n e = (subst UnfoldsAt (one m n e) k).goes
+  below_one : (m : ℕ) → PartsGo means world (outer p m) → (n : ℕ) → suc m ≡ suc n → PartsGo means world (outer p n)
+  below_one m k n e = subst (λ n. PartsGo means world (outer p n)) (one m n e) k
     where
       one : (m n : ℕ) → suc m ≡ suc n → m ≡ n
       one m n e = cc
 
-  none_below : (n : ℕ) → zero ≡ suc n → UnfoldsGo means world (outer p n)
+  none_below : (n : ℕ) → zero ≡ suc n → PartsGo means world (outer p n)
   none_below n e = absurd (nothing e)
     where
       nothing : zero ≡ suc n → ⊥
       nothing e = cc
 
-  unfolds_at : (m : ℕ) → UnfoldsAt m
-  unfolds_at zero = record { goes = opens_by zero none_below }
-  unfolds_at (suc m) = record { goes = opens_by (suc m) (below_one m (unfolds_at m)) }
-
-  pub unfolds_go : (m : ℕ) → UnfoldsGo means world (outer p m)
-  unfolds_go m = (unfolds_at m).goes
+  -- so the parts go at every depth
+  pub parts_go : AppliesBy → (m : ℕ) → PartsGo means world (outer p m)
+  parts_go applies zero = record { unfolds = unfolds_by zero none_below; applies = applies zero none_below }
+  parts_go applies (suc m) =
+      let below = below_one m (parts_go applies m) in
+      record { unfolds = unfolds_by (suc m) below; applies = applies (suc m) below }
 
   -- An unfold: what is given in the place of the instance ends here
 
-  pub unfold_goes : (m : ℕ) → UnfoldGo means world (outer p m)
-  unfold_goes m scope i s c at x ts vs a q on keys ga same pos st w outcome ran = by_check (rw_body ran)
+  pub unfold_goes : ((n : ℕ) → PartsGo means world (outer p n)) → (m : ℕ) → UnfoldGo means world (outer p m)
+  unfold_goes parts m scope i s c at x ts vs a q on keys ga same pos st w outcome ran = by_check (rw_body ran)
     where
       k : run.Instance
       k = record { predicate = x; arguments = vs }
 
       e : Exchange scope i s.next on c (record { predicate = x; arguments = vs }) keys.predicate q (IsConsistent p)
-      e = exchange_at m (λ n is. unfolds_go n) (IsConsistent p) at x ts vs a q on keys ga same pos st w
+      e = exchange_at m (λ n is. parts n) (IsConsistent p) at x ts vs a q on keys ga same pos st w
 
       body_run : Predicate → Assertion → Outcomes
       body_run d b = checked (λ n. guard at (has_instance c (record { predicate = x; arguments = vs }) q)) (λ _.
@@ -343,3 +346,8 @@ module _ (means : Meaning) (p : Program) (good : GoodBodies p) (Held : Name → 
       by_check : body_run keys.predicate e.body outcome → Leaves means world scope i s.next on outcome
       by_check (passes u h rest) = leaves rest
       by_check (refused place h f) = no_refusal tt place allowed h
+
+-- Where no function may be applied
+module _ (means : Meaning) (p : Program) (good : GoodBodies p) (Held : Name → Type 0) (no_perm : (x : Name) (d : Predicate) → predicate_named p x ≡ Some d → HaveNoPerm d.parameters) (bounded : Bool) (speak : BodiesSpeak p Held) where
+  pub instances_go : (m : ℕ) → PartsGo means (instances_world p good Held no_perm bounded) (outer p m)
+  instances_go = parts_go means p good Held no_perm bounded nothing_applied speak (λ m below scope i s c at f g ts vs on allowed named each st h. absurd allowed)

@@ -29,7 +29,7 @@ use Rattle.vx_sound.proofs.Standard.{start as start_interpretation, start_null, 
 use Rattle.vx_sound.proofs.Passes.{Cleared, cleared}
 use Rattle.vx_sound.proofs.Stands.{Stands}
 use Rattle.vx_sound.proofs.Goes.{Goes, declared_all}
-use Rattle.vx_sound.proofs.Evaluate.{UnfoldsGo}
+use Rattle.vx_sound.proofs.Evaluate.{PartsGo}
 use Rattle.vx_sound.proofs.Giving.{whole_scale}
 use Rattle.vx_sound.proofs.Assertions.{give_goes}
 use Rattle.vx_sound_preds.specs.Bodies.{GoodBodies}
@@ -42,10 +42,10 @@ use Rattle.vx_sound_preds.proofs.Adding.{AreEntries, added, weigh_added}
 use Rattle.vx_sound_preds.proofs.Exchanging.{no_negatives, opened, grown}
 use Rattle.vx_sound_preds.proofs.Frames.{AllPositive, positive_least, entries_positive, full-product, sum-none}
 use Rattle.vx_sound_preds.proofs.Folding.{Stock, held_inside}
-use Rattle.vx_sound_preds.proofs.Holding.{TypedAll, typed_added, all_single, added_debts, of_entries, nothing, instances_world}
+use Rattle.vx_sound_preds.proofs.Holding.{TypedAll, typed_added, all_single, added_debts, of_entries, nothing, instances_world, nothing_applied}
 use Rattle.vx_sound_preds.proofs.Entries.{entries_typed}
 use Rattle.vx_sound_preds.proofs.Produced.{produced}
-use Rattle.vx_sound_preds.proofs.Unfolds.{BodiesSpeak, unfolds_go}
+use Rattle.vx_sound_preds.proofs.Unfolds.{BodiesSpeak, instances_go}
 
 abbrev null_at : Name → Location
 null_at f = record { receiver = 0; field = f }
@@ -101,9 +101,9 @@ module _ (means : Meaning) (p : Program) (good : GoodBodies p) (Held : Name → 
   abbrev loose : World
   loose = instances_world p good Held no_perm false
 
-  opens : UnfoldsGo means loose (member_rules p)
+  parts : PartsGo means loose (member_rules p)
   unfolding member_rules
-  opens = unfolds_go means p good Held no_perm false speak (depth p)
+  parts = instances_go means p good Held no_perm false speak (depth p)
 
   module _ (i : Name) (d : Predicate) (a : Assertion) (body : d.body ≡ Some a) (replies : List Reply) (pass : Passes p i (IsPredicate d) replies) where
     abbrev blank_loose : rules.State
@@ -126,6 +126,7 @@ module _ (means : Meaning) (p : Program) (good : GoodBodies p) (Held : Name → 
       bounded = refl;
       null = start_null;
       standard = start_standard;
+      owned = tt;
       holds = nothing p good Held false h;
       old_holds = nothing p good Held false h;
     }
@@ -140,7 +141,7 @@ pub predicate_sound : (p : Program) (good : GoodBodies p) (Held : Name → Type 
 predicate_sound p good Held no_perm speak i d replies held is pass (fails.body vs h a at tv body given) =
     let b = speak i d a held is body in
     let g = begun no_function p good Held no_perm speak i d a body replies pass vs tv h in
-    give_goes no_function (instances_world p good Held no_perm false) (member_rules p) (opens no_function p good Held no_perm speak) (IsSupported p) (λ c k. k) (FailsAt at) a full given b.0 b.1 whole_amount ended (whole_scale no_function (instances_world p good Held no_perm false) g.state.next g.interp) g.stands g.cleared
+    give_goes no_function (instances_world p good Held no_perm false) (member_rules p) (parts no_function p good Held no_perm speak) (IsSupported p) (λ c k. k) (FailsAt at) a full given b.0 b.1 whole_amount ended (whole_scale no_function (instances_world p good Held no_perm false) g.state.next g.interp) g.stands g.cleared
 
 module _ (p : Program) (good : GoodBodies p) (x : Name) (no_perm : (x : Name) (d : Predicate) → predicate_named p x ≡ Some d → HaveNoPerm d.parameters) (speak : BodiesSpeak p (InClosure p x)) (replies : Name → List Reply) (pass : PredicatesPass p x replies) where
   abbrev Held : Name → Type 0
@@ -167,7 +168,7 @@ module _ (p : Program) (good : GoodBodies p) (x : Name) (no_perm : (x : Name) (d
       let b = speak i.predicate d a pr.seen is body in
       let g = begun means p good Held no_perm speak i.predicate d a body (replies i.predicate) (pass i.predicate d pr.seen is) vs (pr.typed d is) h in
       let holds = of_entries p good Held false h o.entries_of types o.can ps (at_null h i pr o.entries_of o.body_is types ps) refl in
-      let r = produced means p good Held no_perm false (member_rules p) (opens means p good Held no_perm speak) (λ (u : run.State). Unit {0}) full a ds (bare (bind ds vs) h) o.entries_of (no_perm i.predicate d is) b.0 b.1 plain_body o.entries_are holds
+      let r = produced means p good Held no_perm false nothing_applied (member_rules p) (parts means p good Held no_perm speak) (λ (u : run.State). Unit {0}) full a ds (bare (bind ds vs) h) o.entries_of (no_perm i.predicate d is) b.0 b.1 plain_body o.entries_are holds
       g.interp g.state whole_amount None ended tt (whole_scale means (instances_world p good Held no_perm false) g.state.next g.interp) g.stands g.cleared in
       (r.adds.0, run.with_holdings (added full o.entries_of []) (bare (bind ds vs) h), r.adds.1 r.adds.0 (le_refl _))
     where

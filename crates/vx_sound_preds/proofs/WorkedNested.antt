@@ -1,5 +1,5 @@
 -- A predicate whose body unfolds an instance within it: its walk passes, and its proper instances are covered.
-use Rattle.std.proofs.Common.{◌≡◌, ◌<◌, inl, inr, ℕ, zero, suc, Bool, true, false, [], ◌∷◌, Option, Some, None, slice_get, refl, sym, subst, arith}
+use Rattle.std.proofs.Common.{◌≡◌, ◌<◌, inl, inr, ℕ, zero, suc, Bool, true, false, [], ◌∷◌, Option, Some, None, slice_get, refl, subst, arith}
 use Rattle.std.specs.Prelude.{unwrap_or}
 use Rattle.vx_frac.specs.Fractions.{lowest, over, none, at_most}
 use Rattle.vx_ast.specs.declared.ValueType.TheVariants.{Int}

@@ -10,7 +10,7 @@ use Rattle.vx_ast.specs.Syntax.{Name, result_name, Declaration, Program, Predica
 use Rattle.vx_meaning.specs.Values.{Value, BoolValue, type_of}
 use Rattle.vx_meaning.specs.States as run
 use Rattle.vx_meaning.specs.Flatten.{bare, entries}
-use Rattle.vx_meaning.specs.Fits.{◌>>=◌, to_option, fit, take}
+use Rattle.vx_meaning.specs.Fits.{fit}
 use Rattle.vx_terms.specs.Terms.{Term, sort_of}
 use Rattle.vx_terms.specs.Build.{equals, application, whole_amount}
 use Rattle.vx_terms.specs.Interpretations.{Each, Element, TreeElement, Interpretation, Tree, as_bool, value}
@@ -42,11 +42,12 @@ use Rattle.vx_sound_preds.proofs.Frames.{entries_positive}
 use Rattle.vx_sound_preds.proofs.Entries.{entries_typed}
 use Rattle.vx_sound_preds.proofs.Exchanging.{held_rigid}
 use Rattle.vx_sound_preds.proofs.Produced.{fine_state}
-use Rattle.vx_sound_preds.proofs.Holding.{HoldsInstances, TypedAll, all_single, typed_rigid, typed_added, added_debts, stock, lower, nothing, instances_world}
+use Rattle.vx_sound_preds.proofs.Holding.{HoldsInstances, TypedAll, all_single, typed_rigid, typed_added, added_debts, stock, lower, nothing, nothing_applied, instances_world}
 use Rattle.vx_sound_funcs.specs.Told.{IsTreeOf, precondition_of}
-use Rattle.vx_sound_funcs.specs.Firm.{start_of, firm_application, firmly, GoodFunctions}
+use Rattle.vx_sound_funcs.specs.Firm.{firm_application, firmly, GoodFunctions}
 use Rattle.vx_sound_funcs.proofs.Alike.{firm_open}
-use Rattle.vx_sound_funcs.proofs.Firm.{taken_total, Steps, steps, Begun, begun}
+use Rattle.vx_sound_funcs.proofs.Steps.{Steps, steps_of}
+use Rattle.vx_sound_funcs.proofs.Firm.{taken_total, Begun, begun}
 use Rattle.vx_sound_funcs.proofs.Agree.{taken_amount}
 use Rattle.vx_live.specs.Quiet.{Still}
 use Rattle.vx_live.proofs.Speaks.{Speaks, SpeaksOf}
@@ -61,13 +62,14 @@ use Rattle.vx_told.proofs.Facts.{Stated}
 use Rattle.vx_told.proofs.Longer.{Longer, found_longer, entries_longer, worth_longer, worth_tree}
 use Rattle.vx_told.proofs.Sides.{AllTold, FactsStated, sides_stated}
 use Rattle.vx_told.proofs.Symbols.{elements, known}
+use Rattle.vx_told.proofs.Promises.{promise_of}
 use Rattle.vx_told.proofs.Worth.{Worth, worth_later, worth_seen, worth_snap}
 
 -- what is asked of a function that may be applied
 pub record Spoken (p : Program) (Held : Name → Type 0) (g : Function) : Type 0 where
   pub typed : IsTypedFunction p g
   pub requires : SpeaksOf Held (precondition_of g)
-  pub instances : instances.SpeaksOf Held (precondition_of g)
+  pub instances : instances.SpeaksOf Held (λ f. ⊥) (precondition_of g)
   pub body : Speaks Held g.body
   pub ensures : Speaks Held (conjoined g.place g.ensures)
   pub result : (g.of ≡ Perm) → ⊥
@@ -81,13 +83,11 @@ pub record Allowed (p : Program) (Held : Name → Type 0) (f : Name) (g : Functi
   pub fuel : ℕ
   pub is : firm_application p (firmly p fuel) f vs c ≡ Some v
 
--- What is known of such applications: the symbol of the function means the value, and nothing else; the value has its type, and the
--- postcondition is kept.
+-- What is known of such applications: the symbol of the function means the value, and nothing else; and the value has its type.
 pub record Knows (means : Meaning) (p : Program) (Held : Name → Type 0) : Type 0 where
   pub made : (f : Name) (g : Function) (vs : List Value) (v : Value) (c : run.State) (tree : Tree) → Allowed p Held f g vs v c → IsTreeOf p (run.with_store (run.bind g.parameters vs) c) (precondition_of g) tree → means (function_number p f) (TreeElement tree ∷ elements vs) (element v)
   pub single : (k : ℕ) (es : List Element) (d e : Element) → means k es d → means k es e → d ≡ e
   pub typed : (f : Name) (g : Function) (vs : List Value) (v : Value) (c : run.State) (tree : Tree) → Allowed p Held f g vs v c → IsTreeOf p (run.with_store (run.bind g.parameters vs) c) (precondition_of g) tree → type_of v ≡ g.of
-  pub promised : (f : Name) (g : Function) (vs : List Value) (v : Value) (c : run.State) (tree : Tree) → Allowed p Held f g vs v c → IsTreeOf p (run.with_store (run.bind g.parameters vs) c) (precondition_of g) tree → Promise p g vs v c.heap
 
 no_perm_append : (ds : Scope) (d : Declaration) → HaveNoPerm ds → ((d.of ≡ Perm) → ⊥) → HaveNoPerm (ds ++ d ∷ [])
 no_perm_append [] d k h = (h, tt)
@@ -126,20 +126,6 @@ module _ (means : Meaning) (p : Program) (good : GoodBodies p) (functions : Good
       typed : TypedAll p Held (added full b.entries_of [])
       typed = typed_added p Held full b.entries_of [] (entries_typed p Held no_perm g.parameters vs types c.heap (precondition_of g) b.entries_of (joined_typed p g.parameters g.place g.requires says.typed.requires) plain says.instances b.entries_are) tt
 
-  steps_of : (f : Name) (g : Function) (vs : List Value) (m : ℕ) (c : run.State) (v : Value) → function_named p f ≡ Some g → firm_application p (firmly p m) f vs c ≡ Some v → Steps p m g vs c v
-  steps_of f g vs m c v named e = go (function_named p f) named e
-    where
-      side : Option Function → Option Value
-      side None = None
-      side (Some g) = to_option (take p (firmly p m) (run.with_store (run.bind g.parameters vs) c) full (precondition_of g) c.holdings >>= λ _. start_of p (firmly p m) g vs c.heap >>= λ u. fit p (firmly p m) u g.body)
-
-      nothing_is : None ≡ Some g → Steps p m g vs c v
-      nothing_is is = cc
-
-      go : (o : Option Function) → o ≡ Some g → side o ≡ Some v → Steps p m g vs c v
-      go None is e = nothing_is is
-      go (Some h) is e = steps p m g vs c v (ap (λ (o : Option Function). side o) (sym is) ∙ e)
-
   -- facts that are true are added
   stated_here : {scope : Scope} {i : Interpretation} {s : State} {c : run.State} (t : Term) → Quietly means world n scope i s c → Stated means n i t → Quietly means world n scope i (with_fact t s) c
   stated_here {scope = scope} {i = i} {s = s} {c = c} t here k = record { stands = subst (λ z. Stands means world scope i z c) (fact_woken n t s) (settled_fact means world t here.stands k.settled k.holds) }
@@ -169,6 +155,7 @@ module _ (means : Meaning) (p : Program) (good : GoodBodies p) (functions : Good
             bounded = z.bounded;
             null = z.null;
             standard = z.standard;
+            owned = z.owned;
             holds = nothing p good Held true c.heap;
             old_holds = nothing p good Held true c.heap;
           };
@@ -181,7 +168,7 @@ module _ (means : Meaning) (p : Program) (good : GoodBodies p) (functions : Good
       named : function_named p f ≡ Some g
       each : TermsStand means world n i g.parameters ts vs
       types : run.HaveTypes g.parameters vs
-      steps : Steps p m g vs c v
+      steps : Steps p (firmly p m) g vs c v
       begun : Begun p good functions m g vs c steps.start steps.rest
       holds : HoldsInstances p Held true c.heap (added full begun.entries_of [])
       worth : Worth means p n i (bare (run.bind g.parameters vs) c.heap) (precondition_of g) tree snapshot
@@ -264,7 +251,7 @@ module _ (means : Meaning) (p : Program) (good : GoodBodies p) (functions : Good
             (record { symbolic_name = refl; name = refl; typed = a.typed; good = a.good_term; value_is = a.is }))
 
         adds : Adds p full a.begun.entries_of (bare (run.bind g.parameters vs ++ (result_name, v) ∷ []) c.heap) a.promised.state
-        adds = add_adds p full none-full (firmly p a.promised.fuel) (firm_open p good a.promised.fuel) (precondition_of g) inside a.promised.state b.entries_of plain (fine_state means p good Held no_perm true np stands.stands) listed b.can a.promised.adds
+        adds = add_adds p full none-full (firmly p a.promised.fuel) (firm_open p good a.promised.fuel) (precondition_of g) inside a.promised.state b.entries_of plain (fine_state means p good Held no_perm true nothing_applied np stands.stands) listed b.can a.promised.adds
 
     -- what is told of the function is added
     pub record Grown (scope : Scope) (i : Interpretation) (s : State) (c : run.State) : Type 0 where
@@ -319,7 +306,7 @@ module _ (means : Meaning) (p : Program) (good : GoodBodies p) (functions : Good
           good_term = kn.good;
           is = kn.is;
           typed = value_type;
-          promised = knows.promised f g vs v c tree allowed there;
+          promised = promise_of p good functions m f g vs c v named st;
         }) in
         record {
           interp = grown.interp;
@@ -336,8 +323,8 @@ module _ (means : Meaning) (p : Program) (good : GoodBodies p) (functions : Good
         says : Spoken p Held g
         says = spoken f g held named
 
-        st : Steps p m g vs c v
-        st = steps_of f g vs m c v named is
+        st : Steps p (firmly p m) g vs c v
+        st = steps_of p (firmly p m) f g vs c v named is
 
         types : run.HaveTypes g.parameters vs
         types = values_typed means world n i g.parameters ts vs each
@@ -375,6 +362,7 @@ module _ (means : Meaning) (p : Program) (good : GoodBodies p) (functions : Good
               bounded = z.bounded;
               null = z.null;
               standard = z.standard;
+              owned = z.owned;
               holds = y.holds;
               old_holds = z.old_holds;
             });
@@ -412,8 +400,8 @@ module _ (means : Meaning) (p : Program) (good : GoodBodies p) (functions : Good
         plain : IsPlainBody p Rigid (precondition_of g)
         plain = functions.asks f g named
 
-        st : Steps p m g vs c v
-        st = steps_of f g vs m c v named is
+        st : Steps p (firmly p m) g vs c v
+        st = steps_of p (firmly p m) f g vs c v named is
 
         holds : HoldsInstances p Held true c.heap c.holdings
         holds = here.quietly.stands.holds
@@ -472,7 +460,7 @@ module _ (means : Meaning) (p : Program) (good : GoodBodies p) (functions : Good
           still = (let z = here.still in record { next = z.next; level = z.level; path = z.path });
           quietly = record {
             stands = (let z = here.quietly.stands in
-                record { store = bound means world n i g.parameters ts vs each; path = z.path; heap = z.heap; old = z.old; awake = z.awake; bounded = z.bounded; null = z.null; standard = z.standard; holds = z.holds; old_holds = z.old_holds });
+                record { store = bound means world n i g.parameters ts vs each; path = z.path; heap = z.heap; old = z.old; awake = z.awake; bounded = z.bounded; null = z.null; standard = z.standard; owned = z.owned; holds = z.holds; old_holds = z.old_holds });
           };
         }
 

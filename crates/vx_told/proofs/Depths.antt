@@ -3,7 +3,7 @@ use Rattle.std.proofs.Common.{◌≡◌, ℕ, zero, suc, true, false, Option, So
 use Rattle.std.specs.Prelude.{Ok, Err}
 use Rattle.vx_frac.specs.Fractions.{Fraction}
 use Rattle.vx_ast.specs.declared.Place.{Place}
-use Rattle.vx_ast.specs.Syntax.{Name, Program, Predicate, Function, predicate_named, function_named, Expr, Assertion, Pure, Points, Both, Implied, Chosen, place_of}
+use Rattle.vx_ast.specs.Syntax.{Name, Program, Predicate, Function, predicate_named, function_named, Assertion, Pure, Points, Both, Implied, Chosen, place_of}
 use Rattle.vx_ast.specs.Syntax as syntax
 use Rattle.vx_meaning.specs.Values.{Value, IntValue, BoolValue, RefValue, PermValue}
 use Rattle.vx_meaning.specs.States as run
@@ -100,7 +100,7 @@ opened_kept p zero k q c u e = cc
 opened_kept p (suc m) k q c u e = exchange_kept p (firmly p m) k q c u e
 
 module _ (means : Meaning) (p : Program) (good : GoodBodies p) (functions : GoodFunctions p) (Held : Name → Type 0) (no_perm : (x : Name) (d : Predicate) → predicate_named p x ≡ Some d → HaveNoPerm d.parameters) (n : ℕ)
-    (bodies : (x : Name) (d : Predicate) (e : Assertion) → Held x → predicate_named p x ≡ Some d → d.body ≡ Some e → IsTyped p d.parameters e × SpeaksOf Held e × instances.SpeaksOf Held e) (spoken : (f : Name) (g : Function) → Held f → function_named p f ≡ Some g → Spoken p Held g) (knows : Knows means p Held) where
+    (bodies : (x : Name) (d : Predicate) (e : Assertion) → Held x → predicate_named p x ≡ Some d → d.body ≡ Some e → IsTyped p d.parameters e × SpeaksOf Held e × instances.SpeaksOf Held (λ f. ⊥) e) (spoken : (f : Name) (g : Function) → Held f → function_named p f ≡ Some g → Spoken p Held g) (knows : Knows means p Held) where
   abbrev pub world : World
   world = instances_world p good Held no_perm true
 

@@ -10,6 +10,7 @@ pub mod Facts
 pub mod Sides
 pub mod Longer
 pub mod Symbols
+pub mod Promises
 pub mod Applied
 pub mod Depths
 pub mod TypedValues
@@ -18,3 +19,8 @@ pub mod Programs
 pub mod Awake
 pub mod Started
 pub mod Grows
+pub mod Trees
+pub mod Gives
+pub mod Allowed
+pub mod Stripped
+pub mod Measures

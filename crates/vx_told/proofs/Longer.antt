@@ -6,7 +6,7 @@ use Rattle.vx_ast.specs.Syntax.{Name, same_name, Program, Connective, Expr, Numb
 use Rattle.vx_ast.specs.Syntax as syntax
 use Rattle.vx_meaning.specs.Values.{Value, IntValue, BoolValue, RefValue, PermValue, is_true, negated, operated, divided, needs_right, without_right}
 use Rattle.vx_meaning.specs.States as run
-use Rattle.vx_meaning.specs.States.{Instance, lookup}
+use Rattle.vx_meaning.specs.States.{lookup}
 use Rattle.vx_meaning.specs.Evaluate.{choose, connected, read, value, values}
 use Rattle.vx_meaning.specs.Flatten.{no_applications, entries, location_entry, instance_entry}
 use Rattle.vx_terms.specs.Terms.{Term}

@@ -1,4 +1,4 @@
--- In a typed program whose functions keep their promises, the parts of what a member leads to lead on along quiet walks.
+-- In a typed program the parts of what a member leads to lead on along quiet walks.
 use Rattle.std.proofs.Common.{◌≡◌, inl, inr, ℕ, List, [], ◌∷◌, ◌++◌, Option, Some, refl, sym, subst}
 use Rattle.std.specs.Prelude.{flat_map}
 use Rattle.vx_ast.specs.declared.Place.{Place}
@@ -18,7 +18,7 @@ use Rattle.vx_sound_funcs.specs.Firm.{firmly, GoodFunctions}
 use Rattle.vx_sound_funcs.specs.Laws.{ApplicationsAgree}
 use Rattle.vx_live.proofs.Speaks.{Speaks, AllSpeak, SpeaksOf, EachSpeaks, conjoined_speaks}
 use Rattle.vx_live.proofs.Mentions.{assertion}
-use Rattle.vx_told.specs.Means.{Means, PromisesKept, NoAmounts}
+use Rattle.vx_told.specs.Means.{Means, NoAmounts}
 use Rattle.vx_told.proofs.Applied.{Spoken, Knows}
 use Rattle.vx_told.proofs.Meanings.{made, is_applied, one_meaning, one_type}
 use Rattle.vx_told.proofs.Sides.{AllTold}
@@ -70,37 +70,41 @@ module _ (p : Program) (x : Name) where
   joined_seen at [] k y s = absurd s
   joined_seen at (a ∷ rest) k y s = joined_with_seen a rest (lefts p x (mentioned_by a) (flat_map mentioned_by rest) k) (rights p x (mentioned_by a) (flat_map mentioned_by rest) k) y s
 
+  -- a function that x leads to mentions only what x leads to
+  parts_seen : (f : Name) (g : Function) → InClosure p x f → function_named p f ≡ Some g → AllSeen p x (mentioned_by_function g)
+  parts_seen f g held named y s = further held (subst (λ (o : Option Kind). Stands y (mentioned_by_kind p o)) (sym (function_member (member_named p f) g named)) (on_left y (mentioned_by_function g) (mentioned_by_measure g.decreases) s))
+
+  module _ (functions : GoodFunctions p) where
+    pub asked : (f : Name) (g : Function) → InClosure p x f → function_named p f ≡ Some g → instances.SpeaksOf (InClosure p x) (λ f. ⊥) (precondition_of g)
+    asked f g held named =
+        let parts = parts_seen f g held named in
+        plain_body p x (precondition_of g) (functions.asks f g named)
+        (joined_seen g.place g.requires (rights p x (mentioned g.body) (flat_map mentioned_by g.requires) (lefts p x (mentioned g.body ++ flat_map mentioned_by g.requires) (flat_map mentioned g.ensures) parts)))
+
   module _ (typed : IsTypedProgram p) (functions : GoodFunctions p) (amounts : NoAmounts p) where
-    -- a function that x leads to mentions only what x leads to
     pub spoken : (f : Name) (g : Function) → InClosure p x f → function_named p f ≡ Some g → Spoken p (InClosure p x) g
-    spoken f g held named = record {
-      typed = typed.functions f g named;
-      requires = assertion (InClosure p x) (precondition_of g) asked;
-      instances = asked;
-      body = speaks g.body (lefts p x (mentioned g.body) (flat_map mentioned_by g.requires) (lefts p x (mentioned g.body ++ flat_map mentioned_by g.requires) (flat_map mentioned g.ensures) parts));
-      ensures = conjoined_speaks (InClosure p x) g.place g.ensures (each_speaks g.ensures (rights p x (mentioned g.body ++ flat_map mentioned_by g.requires) (flat_map mentioned g.ensures) parts));
-      result = amounts f g named;
-    }
-      where
-        parts : AllSeen p x (mentioned_by_function g)
-        parts y s = further held (subst (λ (o : Option Kind). Stands y (mentioned_by_kind p o)) (sym (function_member (member_named p f) g named)) (on_left y (mentioned_by_function g) (mentioned_by_measure g.decreases) s))
+    spoken f g held named =
+        let parts = parts_seen f g held named in
+        record {
+          typed = typed.functions f g named;
+          requires = assertion (InClosure p x) (λ f. ⊥) (λ f k. absurd k) (precondition_of g) (asked functions f g held named);
+          instances = asked functions f g held named;
+          body = speaks g.body (lefts p x (mentioned g.body) (flat_map mentioned_by g.requires) (lefts p x (mentioned g.body ++ flat_map mentioned_by g.requires) (flat_map mentioned g.ensures) parts));
+          ensures = conjoined_speaks (InClosure p x) g.place g.ensures (each_speaks g.ensures (rights p x (mentioned g.body ++ flat_map mentioned_by g.requires) (flat_map mentioned g.ensures) parts));
+          result = amounts f g named;
+        }
 
-        asked : instances.SpeaksOf (InClosure p x) (precondition_of g)
-        asked = plain_body p x (precondition_of g) (functions.asks f g named)
-            (joined_seen g.place g.requires (rights p x (mentioned g.body) (flat_map mentioned_by g.requires) (lefts p x (mentioned g.body ++ flat_map mentioned_by g.requires) (flat_map mentioned g.ensures) parts)))
-
-    module _ (agree : ApplicationsAgree p x) (promises : PromisesKept p x) where
+    module _ (agree : ApplicationsAgree p x) where
       pub knows : Knows (Means p x) p (InClosure p x)
       knows = record {
         made = λ f g vs v c tree a there. made p x typed agree (good p x typed) f g vs v c tree a there;
         single = λ k es d e a b. one_meaning p x typed agree k es d e a b;
         typed = λ f g vs v c tree a there. one_type p x typed agree f g vs c tree v (is_applied p x typed agree (good p x typed) f g vs v c tree a there);
-        promised = λ f g vs v c tree a there. promises f g vs c tree v (is_applied p x typed agree (good p x typed) f g vs v c tree a there);
       }
 
       -- what a predicate's body mentions, too
-      bodies : (i : Name) (d : Predicate) (e : Assertion) → InClosure p x i → predicate_named p i ≡ Some d → d.body ≡ Some e → IsTyped p d.parameters e × SpeaksOf (InClosure p x) e × instances.SpeaksOf (InClosure p x) e
-      bodies i d e held named body = let k = speak p x typed i d e held named body in (k.0, assertion (InClosure p x) e k.1, k.1)
+      bodies : (i : Name) (d : Predicate) (e : Assertion) → InClosure p x i → predicate_named p i ≡ Some d → d.body ≡ Some e → IsTyped p d.parameters e × SpeaksOf (InClosure p x) e × instances.SpeaksOf (InClosure p x) (λ f. ⊥) e
+      bodies i d e held named body = let k = speak p x typed i d e held named body in (k.0, assertion (InClosure p x) (λ f. ⊥) (λ f k. absurd k) e k.1, k.1)
 
       pub closure_told : (n k m : ℕ) → AllTold (Means p x) p (good p x typed) (InClosure p x) (no_perm p x typed) n (outer p k) (firmly p m)
       closure_told n k m = all_told (Means p x) p (good p x typed) functions (InClosure p x) (no_perm p x typed) n bodies spoken knows k m

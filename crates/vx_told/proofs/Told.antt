@@ -11,7 +11,7 @@ use Rattle.vx_terms.specs.Build.{true_term, negate}
 use Rattle.vx_terms.specs.Interpretations.{Each, Interpretation, as_bool, value, IsTrueIn}
 use Rattle.vx_terms.proofs.Same.{term_is}
 use Rattle.vx_terms.proofs.Build.{negate_value}
-use Rattle.vx_rules.specs.States.{State, Entry, sort_of_type, is_quiet, is_known, with_branch, with_heap}
+use Rattle.vx_rules.specs.States.{State, Entry, sort_of_type, is_quiet, is_known, with_branch}
 use Rattle.vx_rules.specs.Trees.{Code, Tree, End, Impossible, Step, Ask, Probe, Fork}
 use Rattle.vx_rules.specs.Trees as trees
 use Rattle.vx_rules.specs.Chunks.{Candidate}

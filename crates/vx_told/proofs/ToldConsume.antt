@@ -11,9 +11,9 @@ use Rattle.vx_meaning.specs.States as run
 use Rattle.vx_meaning.specs.Evaluate as plain
 use Rattle.vx_meaning.specs.Flatten.{no_applications}
 use Rattle.vx_meaning.specs.Fits as fits
-use Rattle.vx_meaning.specs.Fits.{Checked, ◌>>=◌, guard, Deeper, choose, fit, fit_all, field_part, instance_part, take, take_part}
+use Rattle.vx_meaning.specs.Fits.{◌>>=◌, guard, Deeper, choose, fit, field_part, instance_part, take, take_part}
 use Rattle.vx_terms.specs.Sorts as sort
-use Rattle.vx_terms.specs.Sorts.{RealSort, RefSort, SnapSort}
+use Rattle.vx_terms.specs.Sorts.{SnapSort}
 use Rattle.vx_terms.specs.Terms as term
 use Rattle.vx_terms.specs.Terms.{Term, same}
 use Rattle.vx_terms.specs.Build.{less_equal, multiply, unit, pair, wrap, unwrap, written_unwrap, written_first, written_second, zero_amount}
@@ -24,7 +24,7 @@ use Rattle.vx_rules.specs.States.{State, sort_of_type, with_heap, with_fact, wit
 use Rattle.vx_rules.specs.Trees.{Step, AmountCode}
 use Rattle.vx_rules.specs.Chunks.{field_key, instance_key}
 use Rattle.vx_rules.specs.Rules as rule
-use Rattle.vx_rules.specs.Rules.{Giving, Going, Context, Outer, ask, placed, field_sort, with_built_wrap, with_built_pair, pair_facts, take_chunk, eval, evals, consume}
+use Rattle.vx_rules.specs.Rules.{Giving, Going, Context, Outer, ask, placed, field_sort, with_built_wrap, with_built_pair, pair_facts, take_chunk, eval, consume}
 use Rattle.vx_types.specs.Typing.{Scope, HaveNoPerm, IsTyped}
 use Rattle.vx_amounts.proofs.Amounts.{Positive, none-full}
 use Rattle.vx_amounts.proofs.Products.{product_positive}
@@ -82,7 +82,7 @@ module _ (means : Meaning) (p : Program) (good : GoodBodies p) (Held : Name → 
   reading : {scope : Scope} {i : Interpretation} {s : State} {c : run.State} {hs : run.Holdings} {h : rules.Heap} → Here scope i s (run.with_holdings hs c) → Reads i h c → Here scope i (with_heap h s) c
   reading here r = record {
     still = (let z = here.still in record { next = z.next; level = z.level; path = z.path });
-    quietly = record { stands = (let st = here.quietly.stands in record { store = st.store; path = st.path; heap = r.heap; old = st.old; awake = st.awake; bounded = st.bounded; null = st.null; standard = st.standard; holds = r.holds; old_holds = st.old_holds }) };
+    quietly = record { stands = (let st = here.quietly.stands in record { store = st.store; path = st.path; heap = r.heap; old = st.old; awake = st.awake; bounded = st.bounded; null = st.null; standard = st.standard; owned = st.owned; holds = r.holds; old_holds = st.old_holds }) };
   }
 
   switched : {scope : Scope} {i j : Interpretation} {s s1 : State} {c : run.State} {hs : run.Holdings} → Extends means n i j → Here scope i s (run.with_holdings hs c) → Here scope j s1 c → Here scope j (with_heap s.heap s1) (run.with_holdings hs c)
@@ -98,6 +98,7 @@ module _ (means : Meaning) (p : Program) (good : GoodBodies p) (Held : Name → 
         bounded = st.bounded;
         null = st.null;
         standard = st.standard;
+        owned = st.owned;
         holds = here.quietly.stands.holds;
         old_holds = st.old_holds;
       });

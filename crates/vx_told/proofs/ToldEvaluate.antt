@@ -5,7 +5,7 @@ use Rattle.vx_frac.specs.Fractions.{Fraction, is_positive, whole, over, product,
 use Rattle.vx_frac.proofs.Lowest.{lowest-lowest}
 use Rattle.vx_ast.specs.declared.Place.{Place}
 use Rattle.vx_ast.specs.declared.ValueType.{ValueType}
-use Rattle.vx_ast.specs.declared.ValueType.TheVariants.{Int, Perm}
+use Rattle.vx_ast.specs.declared.ValueType.TheVariants.{Int}
 use Rattle.vx_ast.specs.declared.ValueType.TheVariants as type
 use Rattle.vx_ast.specs.Syntax.{Name, Declaration, Program, Function, function_named, Multiply, Division, Connective, And, Or, Implies, Expr, Exprs}
 use Rattle.vx_meaning.specs.Values.{Value, IntValue, BoolValue, RefValue, PermValue, type_of, negated, operated, divided, needs_right, without_right}
@@ -13,7 +13,7 @@ use Rattle.vx_meaning.specs.States as run
 use Rattle.vx_meaning.specs.Fits as fits
 use Rattle.vx_meaning.specs.Fits.{Checked, ◌>>=◌, or_fail, guard, Deeper, location_of, amount_of, readable, has_instance, fit, fit_all}
 use Rattle.vx_terms.specs.Sorts as sort
-use Rattle.vx_terms.specs.Sorts.{IntSort, BoolSort, RealSort, same_sort}
+use Rattle.vx_terms.specs.Sorts.{BoolSort, RealSort, same_sort}
 use Rattle.vx_terms.specs.Terms.{Term}
 use Rattle.vx_terms.specs.Terms as term
 use Rattle.vx_terms.specs.Build.{negate, equals, less, multiply, ite, true_term, false_term, null, zero_amount}
@@ -26,7 +26,7 @@ use Rattle.vx_rules.specs.States as rules
 use Rattle.vx_rules.specs.Trees.{Tree, Step, DivisorCode, AmountCode}
 use Rattle.vx_rules.specs.Rules as rule
 use Rattle.vx_rules.specs.Rules.{Giving, Going, GivingAll, Outer, placed, short, is_total, read_field, applied, unfolded, eval, evals}
-use Rattle.vx_types.specs.Typing.{Scope, TakesType, HasType, HaveTypes, nulls, part, variable, nots, operates, scales, divides, connects, chooses, reads, olds, applies, unfoldings}
+use Rattle.vx_types.specs.Typing.{Scope, HasType, HaveTypes, nulls, part, variable, nots, operates, scales, divides, connects, chooses, reads, olds, applies, unfoldings}
 use Rattle.vx_types.specs.Typing as typed
 use Rattle.vx_amounts.proofs.Amounts.{Positive, Same, same-refl, same-lowest', lowest_is, product_same}
 use Rattle.vx_elements.proofs.Settled.{Meaning, Extends, extends-refl, extends-trans, value_kept}
@@ -256,7 +256,7 @@ module _ (means : Meaning) (world : World) (n : ℕ) (w : Walk means n) where
     awake_old : {scope : Scope} {i : Interpretation} {s : State} {c : run.State} → Here scope i s c → Here scope i (with_heap s.old s) (run.at_old c)
     awake_old here = record {
       still = (let k = here.still in record { next = k.next; level = k.level; path = k.path });
-      quietly = record { stands = (let st = here.quietly.stands in record { store = st.store; path = st.path; heap = st.old; old = st.old; awake = st.awake; bounded = st.bounded; null = st.null; standard = st.standard; holds = st.old_holds; old_holds = st.old_holds }) };
+      quietly = record { stands = (let st = here.quietly.stands in record { store = st.store; path = st.path; heap = st.old; old = st.old; awake = st.awake; bounded = st.bounded; null = st.null; standard = st.standard; owned = st.owned; holds = st.old_holds; old_holds = st.old_holds }) };
     }
 
     -- back from the old heap
@@ -273,6 +273,7 @@ module _ (means : Meaning) (world : World) (n : ℕ) (w : Walk means n) where
           bounded = st.bounded;
           null = st.null;
           standard = st.standard;
+          owned = st.owned;
           holds = here.quietly.stands.holds;
           old_holds = st.old_holds;
         });
@@ -293,6 +294,7 @@ module _ (means : Meaning) (world : World) (n : ℕ) (w : Walk means n) where
           bounded = st.bounded;
           null = st.null;
           standard = st.standard;
+          owned = st.owned;
           holds = here.quietly.stands.holds;
           old_holds = subst (λ (h : run.Heap). world.Holds h c.old_holdings) old_heap (subst (λ (hs : run.Holdings). world.Holds u.old_heap hs) old_holdings st.old_holds);
         });

@@ -12,17 +12,17 @@ use Rattle.vx_meaning.specs.Values.{Value, IntValue, BoolValue, RefValue, PermVa
 use Rattle.vx_meaning.specs.States as run
 use Rattle.vx_meaning.specs.Evaluate as plain
 use Rattle.vx_meaning.specs.Flatten.{no_applications, entries, location_entry, instance_entry}
-use Rattle.vx_meaning.specs.Fits.{Checked, ◌>>=◌, Deeper, amount_of, choose, fit, fit_all, field_part, instance_part, add, add_part}
+use Rattle.vx_meaning.specs.Fits.{Checked, Deeper, amount_of, choose, fit, field_part, instance_part, add, add_part}
 use Rattle.vx_terms.specs.Sorts.{RealSort, RefSort, SnapSort}
 use Rattle.vx_terms.specs.Terms.{Term, sort_of, is_name}
 use Rattle.vx_terms.specs.Build.{equals, less_equal, multiply, unit, pair, wrap, first, second, unwrap, zero_amount}
 use Rattle.vx_terms.specs.Interpretations.{Interpretation, TreeElement, Tree, Empty, IsOf, as_bool, as_fraction, value}
 use Rattle.vx_rules.specs.States as rules
-use Rattle.vx_rules.specs.States.{State, sort_of_type, with_fact, is_named, name_of}
+use Rattle.vx_rules.specs.States.{State, sort_of_type, with_fact, is_named}
 use Rattle.vx_rules.specs.Trees.{Step, AmountCode}
 use Rattle.vx_rules.specs.Chunks.{field_key, instance_key, put}
 use Rattle.vx_rules.specs.Rules as rule
-use Rattle.vx_rules.specs.Rules.{Going, Outer, ask, placed, field_sort, produced_value, after_value, produced_snapshot, after_snapshot, with_split, with_unit, eval, evals, produce}
+use Rattle.vx_rules.specs.Rules.{Going, Outer, ask, placed, field_sort, produced_value, after_value, produced_snapshot, after_snapshot, with_split, with_unit, eval, produce}
 use Rattle.vx_types.specs.Typing.{Scope, HaveNoPerm, HasType, IsTyped}
 use Rattle.vx_amounts.proofs.Amounts.{Le, Same, same-lowest', same-trans, product_same, none-full, le-trans}
 use Rattle.vx_amounts.proofs.Products.{product_sign, positive_le}
@@ -44,7 +44,7 @@ use Rattle.vx_sound_preds.proofs.Looks.{Sees}
 use Rattle.vx_sound_preds.proofs.Framing.{FieldParts, InstanceParts, field_parts, instance_parts, entries_seen}
 use Rattle.vx_sound_preds.proofs.Adding.{Fine, AreEntries, Adds, added, added_append, value_here, values_here, add_adds}
 use Rattle.vx_sound_preds.proofs.Frames.{entries_positive}
-use Rattle.vx_sound_preds.proofs.Holding.{HoldsInstances, added_debts, fewer, instances_world}
+use Rattle.vx_sound_preds.proofs.Holding.{HoldsInstances, added_debts, fewer, nothing_applied, instances_world}
 use Rattle.vx_sound_preds.proofs.Produced.{fine_state}
 use Rattle.vx_live.proofs.Speaks.{Speaks, SpeaksOf}
 use Rattle.vx_live.proofs.Quiet.{Quiet, OuterLeft, after, ask_left, amount_left, produce_left, fact_still, put_still, value_still, name_still, unit_still, split_still, fork_left}
@@ -103,7 +103,7 @@ module _ (means : Meaning) (p : Program) (good : GoodBodies p) (Held : Name → 
     Here scope i s c = On means world n w scope i s c
 
     pub fine_here : {scope : Scope} {i : Interpretation} {s : State} {c : run.State} → HaveNoPerm scope → Here scope i s c → Fine p c
-    fine_here np here = fine_state means p good Held no_perm true np here.quietly.stands
+    fine_here np here = fine_state means p good Held no_perm true nothing_applied np here.quietly.stands
 
     -- what fits has its value without looking at what is held
     pub now : (c : run.State) (e : Expr) (v : Value) → Fine p c → IsPlain e → fit p d c e ≡ Ok v → plain.value p no_applications c e ≡ Some v

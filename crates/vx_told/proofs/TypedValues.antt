@@ -3,7 +3,7 @@
 use Rattle.std.proofs.Common.{◌≡◌, ℕ, zero, suc, pos, List, [], ◌∷◌, Option, Some, None, sym, ◌∙◌, ap, subst}
 use Rattle.std.specs.Prelude.{option_and_then}
 use Rattle.vx_ast.specs.declared.ValueType.{ValueType}
-use Rattle.vx_ast.specs.declared.ValueType.TheVariants.{Int, Perm}
+use Rattle.vx_ast.specs.declared.ValueType.TheVariants.{Int}
 use Rattle.vx_ast.specs.declared.ValueType.TheVariants as type
 use Rattle.vx_ast.specs.Syntax.{Name, Declaration, Program, Function, function_named, Multiply, Expr, Exprs}
 use Rattle.vx_types.specs.Typing.{Scope, type_in, HasType, number, truth, nulls, part, variable, nots, operates, scales, divides, connects, chooses, reads, olds, applies, unfoldings, HaveTypes, no_more, more, IsTypedFunction}
@@ -78,7 +78,7 @@ module _ (p : Program) (typed : (f : Name) (g : Function) → function_named p f
           below f g x.it s v is (have_types s k hs x.it x.is) x.then
       has_type s k (unfoldings i d is hs hq h) v e = has_type s k h v e
 
-      have_types : (s : State) {ds : Scope} → AreTyped ds s.store → {es : Exprs} {fs : List Declaration} → HaveTypes p ds es fs → (ws : List Value) → values p (applications p n) s es ≡ Some ws → run.HaveTypes fs ws
+      pub have_types : (s : State) {ds : Scope} → AreTyped ds s.store → {es : Exprs} {fs : List Declaration} → HaveTypes p ds es fs → (ws : List Value) → values p (applications p n) s es ≡ Some ws → run.HaveTypes fs ws
       have_types s k no_more ws e = subst (run.HaveTypes []) (some_is [] ws e) tt
       have_types s k (more {e = a} {es = es} {d = d} {ds = fs} h hs) ws e =
           let x = came (At s a) (λ v. option_and_then (λ vs. Some (v ∷ vs)) (values p (applications p n) s es)) ws e in

@@ -1,2 +1,4 @@
 pub mod Means
 pub mod Walks
+pub mod Allowed
+pub mod Measures

@@ -58,7 +58,7 @@ pub record Promise (p : Program) (g : Function) (vs : List Value) (v : Value) (h
   pub adds : add p (firmly p fuel) full (precondition_of g) (bare (bind g.parameters vs ++ (result_name, v) ∷ []) h) ≡ Ok state
   pub fits : fit p (firmly p fuel) state (conjoined g.place g.ensures) ≡ Ok (BoolValue true)
 
--- each application of what x leads to keeps its promise, as the walks of functions show
+-- each application of what x leads to that is allowed firmly keeps its promise
 abbrev pub PromisesKept : Program → Name → Type 0
 PromisesKept p x = (f : Name) (g : Function) (vs : List Value) (s : State) (t : Tree) (v : Value) → IsApplied p x f g vs s t v → Promise p g vs v s.heap
 

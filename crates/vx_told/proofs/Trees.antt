@@ -1,0 +1,98 @@
+-- An assertion whose entries are grounded has a tree.
+use Rattle.std.proofs.Common.{◌≡◌, ℕ, ◌+◌, Bool, true, false, cond, List, [], ◌∷◌, ◌++◌, Some, None, refl, sym, ◌∙◌, subst, arith}
+use Rattle.std.specs.Prelude.{option_and_then}
+use Rattle.vx_ast.specs.Syntax.{Name, Program, Assertion, Pure, Points, Both, Implied, Chosen}
+use Rattle.vx_ast.specs.Syntax as syntax
+use Rattle.vx_meaning.specs.Values.{Value, IntValue, BoolValue, RefValue, PermValue, is_true}
+use Rattle.vx_meaning.specs.States.{State, Heap, Holdings, Folded, value_at}
+use Rattle.vx_meaning.specs.Evaluate.{choose, value, values}
+use Rattle.vx_meaning.specs.Flatten.{no_applications, entries, location_entry, instance_entry, IsGrounded}
+use Rattle.vx_terms.specs.Interpretations.{Tree, Empty, Pair}
+use Rattle.vx_sound.specs.Snapshots.{leaf, truth_leaf, location_leaf, assertion_tree, tree_by}
+use Rattle.vx_sound_preds.proofs.Fitting.{step, some_is}
+use Rattle.vx_sound_preds.proofs.Flats.{came, assertion_more, tree_later}
+use Rattle.vx_sound_preds.proofs.Folds.{flat_has_tree}
+use Rattle.vx_sound_preds.proofs.Adding.{AreEntries}
+use Rattle.vx_sound_funcs.specs.Told.{IsTreeOf}
+use Rattle.vx_sound_funcs.proofs.Steps.{nothing_some}
+
+pub entries_left : (p : Program) (h : Heap) (xs ys : Holdings) → AreEntries p h (xs ++ ys) → AreEntries p h xs
+entries_left p h [] ys k = tt
+entries_left p h (x ∷ xs) ys k = (k.0, entries_left p h xs ys k.1)
+
+pub entries_right : (p : Program) (h : Heap) (xs ys : Holdings) → AreEntries p h (xs ++ ys) → AreEntries p h ys
+entries_right p h [] ys k = k
+entries_right p h (x ∷ xs) ys k = entries_right p h xs ys k.1
+
+module _ (p : Program) (s : State) where
+  pub record HasTree (a : Assertion) : Type 0 where
+    pub tree : Tree
+    pub is : IsTreeOf p s a tree
+
+  truth_there : (b : Bool) (es : Holdings) → cond b (Some []) None ≡ Some es → cond b (Some Empty) None ≡ Some Empty
+  truth_there true es e = refl
+  truth_there false es e = nothing_some es e
+
+  location_there : (f : Name) (r w : Value) (es : Holdings) → location_entry f r w ≡ Some es → (t : Tree) × (location_leaf p s.heap f r ≡ Some t)
+  location_there f (RefValue r) w es e = (leaf (value_at p s.heap record { receiver = r; field = f }), refl)
+  location_there f (IntValue r) w es e = nothing_some es e
+  location_there f (BoolValue r) w es e = nothing_some es e
+  location_there f (PermValue r) w es e = nothing_some es e
+
+  grounded_there : (i : Name) (vs : List Value) (w : Value) (es : Holdings) → instance_entry i vs w ≡ Some es → AreEntries p s.heap es → IsGrounded p s.heap record { predicate = i; arguments = vs }
+  grounded_there i vs (PermValue a) es e k = (subst (AreEntries p s.heap) (sym (some_is ((Folded record { predicate = i; arguments = vs }, a) ∷ []) es e)) k).0
+  grounded_there i vs (IntValue a) es e k = nothing_some es e
+  grounded_there i vs (BoolValue a) es e k = nothing_some es e
+  grounded_there i vs (RefValue a) es e k = nothing_some es e
+
+  by_more : (k n : ℕ) (a : Assertion) (t : Tree) → assertion_tree p (tree_by p n s.heap) s a ≡ Some t → assertion_tree p (tree_by p (k + n) s.heap) s a ≡ Some t
+  by_more k n a t e = assertion_more p (tree_by p n s.heap) (tree_by p (k + n) s.heap) (tree_later p k n s.heap) s a t e
+
+  pub has_tree : (a : Assertion) (es : Holdings) → entries p s a ≡ Some es → AreEntries p s.heap es → HasTree a
+  has_tree (Pure e) es eq k =
+      let x = came (value p no_applications s e) (λ v. cond (is_true v) (Some []) None) es eq in
+      record { tree = Empty; is = (0, step truth_leaf x.it x.is ∙ truth_there (is_true x.it) es x.then) }
+  has_tree (Points at e f share) es eq k =
+      let x = came (value p no_applications s e) (λ r. option_and_then (location_entry f r) (value p no_applications s share)) es eq in
+      let y = came (value p no_applications s share) (location_entry f x.it) es x.then in
+      let t = location_there f x.it y.it es y.then in
+      record { tree = t.0; is = (0, step (location_leaf p s.heap f) x.it x.is ∙ t.1) }
+  has_tree (syntax.Instance at i xs share) es eq k =
+      let x = came (values p no_applications s xs) (λ vs. option_and_then (instance_entry i vs) (value p no_applications s share)) es eq in
+      let y = came (value p no_applications s share) (instance_entry i x.it) es x.then in
+      let g = grounded_there i x.it y.it es y.then k in
+      let t = flat_has_tree p s.heap g.0 record { predicate = i; arguments = x.it } g.1 g.2 in
+      record { tree = t.0; is = (g.0, step (λ vs. tree_by p g.0 s.heap record { predicate = i; arguments = vs }) x.it x.is ∙ t.1) }
+  has_tree (Both a b) es eq k =
+      let x = came (entries p s a) (λ xs. option_and_then (λ ys. Some (xs ++ ys)) (entries p s b)) es eq in
+      let y = came (entries p s b) (λ ys. Some (x.it ++ ys)) es x.then in
+      let all = subst (AreEntries p s.heap) (sym (some_is (x.it ++ y.it) es y.then)) k in
+      let one = has_tree a x.it x.is (entries_left p s.heap x.it y.it all) in
+      let two = has_tree b y.it y.is (entries_right p s.heap x.it y.it all) in
+      let comm : two.is.0 + one.is.0 ≡ one.is.0 + two.is.0 = omega arith in
+      let left = subst (λ m. assertion_tree p (tree_by p m s.heap) s a ≡ Some one.tree) comm (by_more two.is.0 one.is.0 a one.tree one.is.1) in
+      let right = by_more one.is.0 two.is.0 b two.tree two.is.1 in
+      record {
+        tree = Pair one.tree two.tree;
+        is = (one.is.0 + two.is.0, step (λ t. option_and_then (λ u. Some (Pair t u)) (assertion_tree p (tree_by p (one.is.0 + two.is.0) s.heap) s b)) one.tree left ∙ step (λ u. Some (Pair one.tree u)) two.tree right);
+      }
+  has_tree (Implied c a) es eq k =
+      let x = came (value p no_applications s c) (λ v. choose v (entries p s a) (Some [])) es eq in
+      go x.it x.is x.then (λ e. has_tree a es e k)
+    where
+      go : (v : Value) → value p no_applications s c ≡ Some v → choose v (entries p s a) (Some []) ≡ Some es → (entries p s a ≡ Some es → HasTree a) → HasTree (Implied c a)
+      go (BoolValue true) v e f = let r = f e in record { tree = r.tree; is = (r.is.0, step (λ v. choose v (assertion_tree p (tree_by p r.is.0 s.heap) s a) (Some Empty)) (BoolValue true) v ∙ r.is.1) }
+      go (BoolValue false) v e f = record { tree = Empty; is = (0, step (λ v. choose v (assertion_tree p (tree_by p 0 s.heap) s a) (Some Empty)) (BoolValue false) v) }
+      go (IntValue z) v e f = nothing_some es e
+      go (RefValue z) v e f = nothing_some es e
+      go (PermValue z) v e f = nothing_some es e
+  has_tree (Chosen c a b) es eq k =
+      let x = came (value p no_applications s c) (λ v. choose v (entries p s a) (entries p s b)) es eq in
+      go x.it x.is x.then (λ e. has_tree a es e k) (λ e. has_tree b es e k)
+    where
+      go : (v : Value) → value p no_applications s c ≡ Some v → choose v (entries p s a) (entries p s b) ≡ Some es → (entries p s a ≡ Some es → HasTree a) → (entries p s b ≡ Some es → HasTree b) → HasTree (Chosen c a b)
+      go (BoolValue true) v e f g = let r = f e in record { tree = r.tree; is = (r.is.0, step (λ v. choose v (assertion_tree p (tree_by p r.is.0 s.heap) s a) (assertion_tree p (tree_by p r.is.0 s.heap) s b)) (BoolValue true) v ∙ r.is.1) }
+      go (BoolValue false) v e f g = let r = g e in record { tree = r.tree; is = (r.is.0, step (λ v. choose v (assertion_tree p (tree_by p r.is.0 s.heap) s a) (assertion_tree p (tree_by p r.is.0 s.heap) s b)) (BoolValue false) v ∙ r.is.1) }
+      go (IntValue z) v e f g = nothing_some es e
+      go (RefValue z) v e f g = nothing_some es e
+      go (PermValue z) v e f g = nothing_some es e
