@@ -6,8 +6,8 @@
 # with its precondition's question. All questions are answered unsat.
 set -eu
 . "$(dirname "${BASH_SOURCE[0]}")/timing.sh"
-program=$here/crates/vx_rows/out/vx_rows
-[ -x "$program" ] || (cd "$here/crates/vx_rows" && rt run < stdin > /dev/null)
+program=$here/crates/vx_part_rows/out/vx_part_rows
+[ -x "$program" ] || (cd "$here/crates/vx_part_rows" && rt run < stdin > /dev/null)
 
 # a row's head: the number of its member
 row() { printf 'row %s\nasks machines\nmember %s\n' "$1" "$2"; }
