@@ -23,4 +23,6 @@ pub mod Trees
 pub mod Gives
 pub mod Allowed
 pub mod Stripped
+pub mod Names
 pub mod Measures
+pub mod Groups

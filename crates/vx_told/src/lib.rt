@@ -9,7 +9,7 @@ ghost use Rattle.vx_sound_preds.specs.Covered.{PredicatesPass};
 ghost use Rattle.vx_sound_funcs.specs.Firm.{GoodFunctions};
 ghost use Rattle.vx_told.specs.Allowed.{TakenIsAllowed};
 ghost use Rattle.vx_told.specs.Means.{SymbolsMeanOne, PromisesKept};
-ghost use Rattle.vx_told.specs.Measures.{MeasuresEnd};
+ghost use Rattle.vx_told.specs.Measures.{MeasuresEnd, GroupsAgree};
 ghost use Rattle.vx_told.specs.Walks.{FunctionsPass};
 
 /// In a typed program where the walks of predicates passed, the symbol of a function means one element at most, at a tree of its
@@ -31,7 +31,8 @@ pub fn what_is_taken_is_allowed()
 {}
 
 /// In a typed program going down from application to application ends, in one heap: to functions that don't lead back, or within a group
-/// to lesser measures.
+/// to lesser measures. The groups are those that the rules decide.
 pub fn measures_end()
-    ensures { (p : Program) → IsTypedProgram p → MeasuresEnd p }
+    ensures ends { (p : Program) → IsTypedProgram p → MeasuresEnd p }
+    ensures groups { (p : Program) → GroupsAgree p }
 {}
