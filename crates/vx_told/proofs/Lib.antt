@@ -26,3 +26,4 @@ pub mod Stripped
 pub mod Names
 pub mod Measures
 pub mod Groups
+pub mod Keeping

@@ -9,8 +9,8 @@ ghost use Rattle.vx_sound_preds.specs.Covered.{PredicatesPass};
 ghost use Rattle.vx_sound_funcs.specs.Firm.{GoodFunctions};
 ghost use Rattle.vx_told.specs.Allowed.{TakenIsAllowed};
 ghost use Rattle.vx_told.specs.Means.{SymbolsMeanOne, PromisesKept};
-ghost use Rattle.vx_told.specs.Measures.{MeasuresEnd, GroupsAgree};
-ghost use Rattle.vx_told.specs.Walks.{FunctionsPass};
+ghost use Rattle.vx_told.specs.Measures.{MeasuresEnd, GroupsAgree, KeepsFromBelow};
+ghost use Rattle.vx_told.specs.Walks.{FunctionsPass, FunctionsKeep};
 
 /// In a typed program where the walks of predicates passed, the symbol of a function means one element at most, at a tree of its
 /// precondition and at its arguments: so an interpretation that knows some applications can know one more.
@@ -35,4 +35,10 @@ pub fn what_is_taken_is_allowed()
 pub fn measures_end()
     ensures ends { (p : Program) → IsTypedProgram p → MeasuresEnd p }
     ensures groups { (p : Program) → GroupsAgree p }
+{}
+
+/// So in a typed program all functions that a member leads to keep their promises, wherever they start, if each application does where
+/// all below it do.
+pub fn functions_keep()
+    ensures { (p : Program) (x : Name) → IsTypedProgram p → GoodFunctions p → KeepsFromBelow p x → FunctionsKeep p x }
 {}
