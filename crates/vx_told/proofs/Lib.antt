@@ -27,3 +27,4 @@ pub mod Names
 pub mod Measures
 pub mod Groups
 pub mod Keeping
+pub mod Eager
