@@ -22,6 +22,7 @@ pub mod Grows
 pub mod Trees
 pub mod Gives
 pub mod Allowed
+pub mod Begins
 pub mod Stripped
 pub mod Names
 pub mod Measures
