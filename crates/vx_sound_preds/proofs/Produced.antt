@@ -59,7 +59,7 @@ EndsAt u (Ends t) = t ≡ u
 EndsAt u (FailsAt at) = ⊥
 EndsAt u Stops = Unit {0}
 
-module _ (means : Meaning) (p : Program) (good : GoodBodies p) (Held : Name → Type 0) (no_perm : (x : Name) (d : Predicate) → predicate_named p x ≡ Some d → HaveNoPerm d.parameters) (bounded : Bool) (applying : Applying) where
+module _ (means : Meaning) (p : Program) (good : GoodBodies p) (Held : Name → Type 0) (no_perm : (x : Name) (d : Predicate) → predicate_named p x ≡ Some d → HaveNoPerm d.parameters) (bounded : Bool) (applying : Applying p) where
   abbrev pub world : World
   world = functions_world p good Held no_perm bounded applying
 

@@ -32,7 +32,7 @@ use Rattle.vx_sound_preds.proofs.Adding.{Fine}
 use Rattle.vx_sound_preds.proofs.Holding.{Applying, functions_world}
 use Rattle.vx_sound_preds.proofs.Produced.{now, all_now}
 
-module _ (means : Meaning) (p : Program) (good : GoodBodies p) (Held : Name → Type 0) (no_perm : (x : Name) (d : Predicate) → predicate_named p x ≡ Some d → HaveNoPerm d.parameters) (applying : Applying) where
+module _ (means : Meaning) (p : Program) (good : GoodBodies p) (Held : Name → Type 0) (no_perm : (x : Name) (d : Predicate) → predicate_named p x ≡ Some d → HaveNoPerm d.parameters) (applying : Applying p) where
   abbrev world : World
   world = functions_world p good Held no_perm true applying
 

@@ -251,7 +251,7 @@ module _ (means : Meaning) (p : Program) (good : GoodBodies p) (functions : Good
             (record { symbolic_name = refl; name = refl; typed = a.typed; good = a.good_term; value_is = a.is }))
 
         adds : Adds p full a.begun.entries_of (bare (run.bind g.parameters vs ++ (result_name, v) ∷ []) c.heap) a.promised.state
-        adds = add_adds p full none-full (firmly p a.promised.fuel) (firm_open p good a.promised.fuel) (precondition_of g) inside a.promised.state b.entries_of plain (fine_state means p good Held no_perm true nothing_applied np stands.stands) listed b.can a.promised.adds
+        adds = add_adds p full none-full (firmly p a.promised.fuel) (firm_open p good a.promised.fuel) (precondition_of g) inside a.promised.state b.entries_of plain (fine_state means p good Held no_perm true (nothing_applied p) np stands.stands) listed b.can a.promised.adds
 
     -- what is told of the function is added
     pub record Grown (scope : Scope) (i : Interpretation) (s : State) (c : run.State) : Type 0 where

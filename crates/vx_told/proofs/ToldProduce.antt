@@ -103,7 +103,7 @@ module _ (means : Meaning) (p : Program) (good : GoodBodies p) (Held : Name → 
     Here scope i s c = On means world n w scope i s c
 
     pub fine_here : {scope : Scope} {i : Interpretation} {s : State} {c : run.State} → HaveNoPerm scope → Here scope i s c → Fine p c
-    fine_here np here = fine_state means p good Held no_perm true nothing_applied np here.quietly.stands
+    fine_here np here = fine_state means p good Held no_perm true (nothing_applied p) np here.quietly.stands
 
     -- what fits has its value without looking at what is held
     pub now : (c : run.State) (e : Expr) (v : Value) → Fine p c → IsPlain e → fit p d c e ≡ Ok v → plain.value p no_applications c e ≡ Some v

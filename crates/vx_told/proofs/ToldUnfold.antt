@@ -178,7 +178,7 @@ module _ (means : Meaning) (p : Program) (good : GoodBodies p) (Held : Name → 
         given_is : {scope' : Scope} {s' : State} → HaveNoPerm scope' → On means world n w scope' i s' (start c record { predicate = x; arguments = vs } keys.predicate q) →
             run.with_holdings (added q opening.entries_of (run.lost (run.Folded record { predicate = x; arguments = vs }) q c.holdings)) c ≡ u
         given_is np on1 =
-            let k' = add_adds p q (positive_le pos) d opens steps.body inner steps.given opening.entries_of plain (fine_state means p good Held no_perm true nothing_applied np on1.quietly.stands) listed opening.can steps.adds in
+            let k' = add_adds p q (positive_le pos) d opens steps.body inner steps.given opening.entries_of plain (fine_state means p good Held no_perm true (nothing_applied p) np on1.quietly.stands) listed opening.can steps.adds in
             state_same _ (run.with_store c.store steps.given) refl (sym k'.heap) (sym k'.holdings) (sym k'.old_heap) (sym k'.old_holdings) ∙ steps.u_is
 
         inside : (ch : rules.Chunk) (s1 : State) → TakenOf means world n w scope i c (run.Folded record { predicate = x; arguments = vs }) SnapSort q ch s1 →
