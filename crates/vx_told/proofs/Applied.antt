@@ -20,7 +20,7 @@ use Rattle.vx_rules.specs.Trees.{FunctionCode, Step}
 use Rattle.vx_rules.specs.Groups.{is_in_group, function_number}
 use Rattle.vx_rules.specs.Rules.{Giving, Going, Context, Outer, outer, never, entered, back, gathered, terms, quietly, sides_of, with_body, with_promise, with_equations, decreasing, measured, applied}
 use Rattle.vx_types.specs.Typing.{Scope, HaveNoPerm, IsTypedFunction}
-use Rattle.vx_amounts.proofs.Amounts.{le-refl, positive-le, full-positive, none-full}
+use Rattle.vx_amounts.proofs.Amounts.{le-refl, positive-le, full-positive}
 use Rattle.vx_elements.proofs.Settled.{Meaning, Extends, extends-refl, extends-trans, value_kept}
 use Rattle.vx_elements.proofs.Built.{Good, good_later, good_equals}
 use Rattle.vx_elements.proofs.Elements.{element}
@@ -40,7 +40,7 @@ use Rattle.vx_sound_preds.proofs.Adding.{added}
 use Rattle.vx_sound_preds.proofs.Frames.{entries_positive}
 use Rattle.vx_sound_preds.proofs.Entries.{entries_typed}
 use Rattle.vx_sound_preds.proofs.Exchanging.{held_rigid}
-use Rattle.vx_sound_preds.proofs.Holding.{HoldsInstances, TypedAll, all_single, typed_rigid, typed_added, added_debts, stock, lower, nothing, nothing_applied, instances_world}
+use Rattle.vx_sound_preds.proofs.Holding.{HoldsInstances, TypedAll, all_single, typed_rigid, typed_added, added_debts, stock, lower, nothing, instances_world}
 use Rattle.vx_sound_funcs.specs.Told.{IsTreeOf, precondition_of}
 use Rattle.vx_sound_funcs.specs.Firm.{firm_application, firmly, GoodFunctions}
 use Rattle.vx_sound_funcs.proofs.Steps.{Steps, steps_of}
@@ -195,7 +195,7 @@ module _ (means : Meaning) (p : Program) (good : GoodBodies p) (functions : Good
         let says = spoken f g a.held a.named in
         let b = a.begun in
         sides_stated means p good Held no_perm n (outer p k) (firmly p m) (below m) (λ P. outer_left P p k) (precondition_of g) g.body g.parameters g.of (λ y. equals t y) (quietly p (outer p k) (rules.bind g.parameters ts) s) (level_more s.level) i
-        (bare (run.bind g.parameters vs) c.heap) a.steps.start b.entries_of v snapshot tree (joined_typed p g.parameters g.place g.requires says.typed.requires) says.requires (functions.asks f g a.named) b.entries_are b.can a.holds a.steps.starts
+        (bare (run.bind g.parameters vs) c.heap) a.steps.start b.entries_of v snapshot tree (joined_typed p g.parameters g.place g.requires says.typed.requires) says.requires (functions.asks f g a.named) b.entries_are a.holds a.steps.starts
         says.typed.body says.body (subst (λ z. fit p (firmly p m) z g.body ≡ Ok v) (sym (state_same _ a.steps.start (sym b.adds.store) (sym b.adds.heap) (sym b.adds.holdings) (sym b.adds.old_heap) (sym b.adds.old_holdings))) a.steps.fits)
         (begins (rules.bind g.parameters ts) (run.bind g.parameters vs) a.here (bound means world n i g.parameters ts vs a.each)) a.worth
         (λ j y x gy is ty. record { settled = (good_equals means (good_later means (le_refl n) x a.good_term) gy).settled; holds = is_equal j t y (value_kept means t a.good_term.settled x ∙ a.is ∙ sym is) })
@@ -211,7 +211,7 @@ module _ (means : Meaning) (p : Program) (good : GoodBodies p) (functions : Good
         let kept = a.promised in
         sides_stated means p good Held no_perm n (outer p k) (firmly p kept.fuel) (below kept.fuel) (λ P. outer_left P p k) (precondition_of g) (conjoined g.place g.ensures) (g.parameters ++ result_of g ∷ []) type.Bool (λ y. y)
         (quietly p (outer p k) (rules.bind g.parameters ts ++ (result_name, t) ∷ []) s) (level_more s.level) i inside kept.state b.entries_of (BoolValue true) snapshot tree
-        (typed_longer p g.parameters (result_of g ∷ []) (precondition_of g) (joined_typed p g.parameters g.place g.requires says.typed.requires)) says.requires plain listed b.can a.holds kept.adds
+        (typed_longer p g.parameters (result_of g ∷ []) (precondition_of g) (joined_typed p g.parameters g.place g.requires says.typed.requires)) says.requires plain listed a.holds kept.adds
         (conjoined_typed p (g.parameters ++ result_of g ∷ []) g.place g.ensures says.typed.ensures) says.ensures
         (subst (λ z. fit p (firmly p kept.fuel) z (conjoined g.place g.ensures) ≡ Ok (BoolValue true)) state_is kept.fits)
         stands (worth_longer p (bare (run.bind g.parameters vs) c.heap) inside longer means n i (precondition_of g) plain tree snapshot a.worth)

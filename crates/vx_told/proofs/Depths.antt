@@ -120,7 +120,7 @@ module _ (means : Meaning) (p : Program) (good : GoodBodies p) (functions : Good
   pub all_told : (k m : ℕ) → AllTold means p good Held no_perm n (outer p k) (firmly p m)
   unfolding Produced Consumed
   all_told zero m w = record {
-    produces = λ q a scope c u es ta ka pl listed can holds adds i s scale t tree on wo sc here h off. never_told means world n w i s nowhere AssertCode (on_quiet means world n w here);
+    produces = λ q a scope c u es ta ka pl listed holds adds i s scale t tree on wo sc here h off. never_told means world n w i s nowhere AssertCode (on_quiet means world n w here);
     consumes = λ q a scope c hs rest ta ka pl e i s x scale h on sc here r f off. never_told means world n w i s nowhere AssertCode (on_quiet means world n w here);
     evals = λ scope e t te ke i s c v on here fits h off. never_told means world n w i s nowhere AssertCode (on_quiet means world n w here);
   }

@@ -1,5 +1,6 @@
--- What is held can be known whatever the variables are, amounts too: what fits has its value there, and what is added is told.
-use Rattle.std.proofs.Common.{◌≡◌, ℕ, zero, suc, true, false, cond, List, [], ◌∷◌, ◌++◌, Option, Some, None, refl, sym, ◌∙◌, ap, subst}
+-- What is known of what is held leaves the variables out of account, so they may be amounts: what fits has its value, and what is
+-- added is told by the entries.
+use Rattle.std.proofs.Common.{◌≡◌, ℕ, zero, suc, Bool, true, false, cond, List, [], ◌++◌, Option, Some, None, refl, sym, ◌∙◌, ap, subst}
 use Rattle.std.specs.Prelude.{Ok, Err, option_and_then}
 use Rattle.vx_frac.specs.Fractions.{Fraction, product}
 use Rattle.vx_ast.specs.declared.Place.{Place}
@@ -44,7 +45,7 @@ side at (PermValue n) x y z w u b h k e f = cc
 no_entries : (v : Value) (es : Holdings) → cond (is_true v) (Some []) None ≡ Some es → es ≡ []
 no_entries v es e = go (is_true v) e
   where
-    go : (b : _) → cond b (Some []) None ≡ Some es → es ≡ []
+    go : (b : Bool) → cond b (Some []) None ≡ Some es → es ≡ []
     go true e = sym (some_is [] es e)
     go false e = cc
 

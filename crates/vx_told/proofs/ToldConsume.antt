@@ -26,7 +26,7 @@ use Rattle.vx_rules.specs.Chunks.{field_key, instance_key}
 use Rattle.vx_rules.specs.Rules as rule
 use Rattle.vx_rules.specs.Rules.{Giving, Going, Context, Outer, ask, placed, field_sort, with_built_wrap, with_built_pair, pair_facts, take_chunk, eval, consume}
 use Rattle.vx_types.specs.Typing.{Scope, HaveNoPerm, IsTyped}
-use Rattle.vx_amounts.proofs.Amounts.{Positive, none-full}
+use Rattle.vx_amounts.proofs.Amounts.{Positive}
 use Rattle.vx_amounts.proofs.Products.{product_positive}
 use Rattle.vx_elements.proofs.Settled.{Meaning, Extends, extends-trans, value_kept}
 use Rattle.vx_elements.proofs.Built.{Good, good_later}

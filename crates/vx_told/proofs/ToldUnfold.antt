@@ -33,7 +33,7 @@ use Rattle.vx_sound_preds.specs.Bodies.{Rigid, IsPlainBody, GoodBodies}
 use Rattle.vx_sound_preds.proofs.Fitting.{Opens, undo, some_is}
 use Rattle.vx_sound_preds.proofs.Looks.{Sees}
 use Rattle.vx_sound_preds.proofs.Framing.{ok_same, entries_seen, tree_seen}
-use Rattle.vx_sound_preds.proofs.Adding.{AreEntries, added}
+use Rattle.vx_sound_preds.proofs.Adding.{added}
 use Rattle.vx_sound_preds.proofs.Exchanging.{IsOpen, opened}
 use Rattle.vx_sound_preds.proofs.Frames.{entries_positive}
 use Rattle.vx_sound_preds.proofs.Folds.{tree_of_body}
@@ -69,7 +69,7 @@ module _ (means : Meaning) (p : Program) (good : GoodBodies p) (Held : Name → 
   -- what is shown of what an assertion gives, by rules for the parts of others
   abbrev pub GivesTold : Outer → Deeper → Type 0
   GivesTold o d =
-      (q : Fraction) (a : Assertion) (scope : Scope) (c u : run.State) (es : run.Holdings) → IsTyped p scope a → SpeaksOf Held a → IsPlainBody p Rigid a → entries p c a ≡ Some es → AreEntries p c.heap es → HoldsInstances p Held true c.heap (added q es c.holdings) → add p d q a c ≡ Ok u →
+      (q : Fraction) (a : Assertion) (scope : Scope) (c u : run.State) (es : run.Holdings) → IsTyped p scope a → SpeaksOf Held a → IsPlainBody p Rigid a → entries p c a ≡ Some es → HoldsInstances p Held true c.heap (added q es c.holdings) → add p d q a c ≡ Ok u →
       (i : Interpretation) (s : State) (scale t : Term) (tree : Tree) (on : Going) → Worth means p n i c a tree t → ScaleStands means world n i scale q → On means world n w scope i s c →
       Follows means world n w scope i (run.with_holdings (added q es c.holdings) c) on → OffGoing means world n w on → Told means world n w i (o.produce a scale (Some t) s on)
 
@@ -187,7 +187,7 @@ module _ (means : Meaning) (p : Program) (good : GoodBodies p) (Held : Name → 
               still = (let z = t.on.still in record { next = z.next; level = z.level; path = z.path });
               quietly = record { stands = record { store = bound means world n i pd.parameters ts vs keys.each; path = st.path; heap = st.heap; old = st.old; awake = st.awake; bounded = st.bounded; null = st.null; standard = st.standard; owned = st.owned; holds = st.holds; old_holds = st.old_holds } };
             } in
-            gives q steps.body pd.parameters inner steps.given opening.entries_of parts.0 parts.1 plain listed opening.can (holds st.holds) steps.adds i (record (entered (rules.bind pd.parameters ts) at s1) { inner = leads_inside ch }) a ch.value wo.0 (λ s2. on (back s s2)) wo.1
+            gives q steps.body pd.parameters inner steps.given opening.entries_of parts.0 parts.1 plain listed (holds st.holds) steps.adds i (record (entered (rules.bind pd.parameters ts) at s1) { inner = leads_inside ch }) a ch.value wo.0 (λ s2. on (back s s2)) wo.1
             (record { good = ga; is = same; positive = pos }) on1
             (λ j s2 ext on2.
             let z = on2.quietly.stands in
