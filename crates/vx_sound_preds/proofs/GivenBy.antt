@@ -61,30 +61,37 @@ either_side : {R : Type 0} (d : run.State) (x : Bool) (a b : Outcomes) → (a (E
 either_side d true a b f g h = f h
 either_side d false a b f g h = g h
 
-same_sees : (c d : run.State) → d ≡ c → Sees c d
-same_sees c d e = record { store = ap (λ (z : run.State). z.store) e; heap = ap (λ (z : run.State). z.heap) e }
+-- all but what is held is as it was
+pub record Stays (c d : run.State) : Type 0 where
+  pub store : d.store ≡ c.store
+  pub heap : d.heap ≡ c.heap
+  pub old_heap : d.old_heap ≡ c.old_heap
+  pub old_holdings : d.old_holdings ≡ c.old_holdings
 
-more_sees : (c d : run.State) (hs : run.Holdings) → d ≡ run.with_holdings hs c → Sees c d
-more_sees c d hs e = record { store = ap (λ (z : run.State). z.store) e; heap = ap (λ (z : run.State). z.heap) e }
+more_stays : (c d : run.State) (hs : run.Holdings) → d ≡ run.with_holdings hs c → Stays c d
+more_stays c d hs e = record { store = ap (λ (z : run.State). z.store) e; heap = ap (λ (z : run.State). z.heap) e; old_heap = ap (λ (z : run.State). z.old_heap) e; old_holdings = ap (λ (z : run.State). z.old_holdings) e }
 
-pub give_sees : (p : Program) (Possible : run.State → Type 0) (q : Fraction) (a : Assertion) (c d : run.State) → give p Possible q a c (Ends d) → Sees c d
-give_sees p Possible q (Pure e) c d (passes v h rest) = either_side d (is_true v) (ends c) stops (λ e. same_sees c d e) (λ e. absurd e) rest
-give_sees p Possible q (Pure e) c d (refused at h f) = absurd f
-give_sees p Possible q (Both a b) c d (goes_on s h r) =
-    let x = give_sees p Possible q a c s h in
-    let y = give_sees p Possible q b s d r in
-    record { store = y.store ∙ x.store; heap = y.heap ∙ x.heap }
-give_sees p Possible q (Both a b) c d (is_over over h) = absurd over
-give_sees p Possible q (Points at e f share) c d (passes given h (inl (can, e'))) = more_sees c d (run.gained given.0 (product q given.1) c.holdings) e'
-give_sees p Possible q (Points at e f share) c d (passes given h (inr (never, e'))) = absurd e'
-give_sees p Possible q (Points at e f share) c d (refused place h e') = absurd e'
-give_sees p Possible q (syntax.Instance at i es share) c d (passes given h (inl (can, e'))) = more_sees c d (run.gained given.0 (product q given.1) c.holdings) e'
-give_sees p Possible q (syntax.Instance at i es share) c d (passes given h (inr (never, e'))) = absurd e'
-give_sees p Possible q (syntax.Instance at i es share) c d (refused place h e') = absurd e'
-give_sees p Possible q (Implied e a) c d (passes v h rest) = either_side d (is_true v) (give p Possible q a c) (ends c) (λ g. give_sees p Possible q a c d g) (λ e. same_sees c d e) rest
-give_sees p Possible q (Implied e a) c d (refused at h f) = absurd f
-give_sees p Possible q (Chosen e a b) c d (passes v h rest) = either_side d (is_true v) (give p Possible q a c) (give p Possible q b c) (λ g. give_sees p Possible q a c d g) (λ g. give_sees p Possible q b c d g) rest
-give_sees p Possible q (Chosen e a b) c d (refused at h f) = absurd f
+same_stays : (c d : run.State) → d ≡ c → Stays c d
+same_stays c d e = more_stays c d c.holdings e
+
+pub give_stays : (p : Program) (Possible : run.State → Type 0) (q : Fraction) (a : Assertion) (c d : run.State) → give p Possible q a c (Ends d) → Stays c d
+give_stays p Possible q (Pure e) c d (passes v h rest) = either_side d (is_true v) (ends c) stops (λ e. same_stays c d e) (λ e. absurd e) rest
+give_stays p Possible q (Pure e) c d (refused at h f) = absurd f
+give_stays p Possible q (Both a b) c d (goes_on s h r) =
+    let x = give_stays p Possible q a c s h in
+    let y = give_stays p Possible q b s d r in
+    record { store = y.store ∙ x.store; heap = y.heap ∙ x.heap; old_heap = y.old_heap ∙ x.old_heap; old_holdings = y.old_holdings ∙ x.old_holdings }
+give_stays p Possible q (Both a b) c d (is_over over h) = absurd over
+give_stays p Possible q (Points at e f share) c d (passes given h (inl (can, e'))) = more_stays c d (run.gained given.0 (product q given.1) c.holdings) e'
+give_stays p Possible q (Points at e f share) c d (passes given h (inr (never, e'))) = absurd e'
+give_stays p Possible q (Points at e f share) c d (refused place h e') = absurd e'
+give_stays p Possible q (syntax.Instance at i es share) c d (passes given h (inl (can, e'))) = more_stays c d (run.gained given.0 (product q given.1) c.holdings) e'
+give_stays p Possible q (syntax.Instance at i es share) c d (passes given h (inr (never, e'))) = absurd e'
+give_stays p Possible q (syntax.Instance at i es share) c d (refused place h e') = absurd e'
+give_stays p Possible q (Implied e a) c d (passes v h rest) = either_side d (is_true v) (give p Possible q a c) (ends c) (λ g. give_stays p Possible q a c d g) (λ e. same_stays c d e) rest
+give_stays p Possible q (Implied e a) c d (refused at h f) = absurd f
+give_stays p Possible q (Chosen e a b) c d (passes v h rest) = either_side d (is_true v) (give p Possible q a c) (give p Possible q b c) (λ g. give_stays p Possible q a c d g) (λ g. give_stays p Possible q b c d g) rest
+give_stays p Possible q (Chosen e a b) c d (refused at h f) = absurd f
 
 -- by what a condition's value is
 by_truth : {R : Type 0} (o : Option Value) → (o ≡ Some (BoolValue true) → R) → (o ≡ Some (BoolValue false) → R) → (((x : Bool) → o ≡ Some (BoolValue x) → ⊥) → R) → R
@@ -254,8 +261,9 @@ module _ (means : Meaning) (p : Program) (good : GoodBodies p) (Held : Name → 
         go (goes_on e h r) =
             let z : Goes means world scope i s.next (λ s1. produce p o b scale (Some (second t)) s1 on) e = first_leaves (Ends e) h in
             let right = agreeing_later (second t) z.later z.extends m.right in
+            let as_was = give_stays p Possible q a c e h in
             leaves_after means world scope on outcome z
-            (on_b scope e outcome r np ty.1 k.1 pl.1 z.interp z.state scale (second t) on (agreeing_as (second t) right (agrees_seen p c e (give_sees p Possible q a c e h) b right.tree pl.1 right.agrees)) (scale_later means world z.later z.extends sc) z.stands z.cleared)
+            (on_b scope e outcome r np ty.1 k.1 pl.1 z.interp z.state scale (second t) on (agreeing_as (second t) right (agrees_seen p c e (record { store = as_was.store; heap = as_was.heap }) b right.tree pl.1 right.agrees)) (scale_later means world z.later z.extends sc) z.stands z.cleared)
         go (is_over over h) = over_leaves means world scope scope i s.next after on outcome over (first_leaves outcome h)
 
     points_given : (q : Fraction) (at : Place) (e : Expr) (f : Name) (share : Expr) → GivenGoes q (Points at e f share)
