@@ -1,5 +1,5 @@
 -- A state that stands in one world stands in another where other functions may be applied, and where a function's body is entered.
-use Rattle.std.proofs.Common.{ℕ, List, [], ◌∷◌, Option}
+use Rattle.std.proofs.Common.{ℕ, ℤ, List, [], ◌∷◌, Option, Some, None}
 use Rattle.vx_ast.specs.Syntax.{Name, Declaration}
 use Rattle.vx_meaning.specs.Values.{Value}
 use Rattle.vx_meaning.specs.States as run
@@ -10,7 +10,7 @@ use Rattle.vx_types.specs.Typing.{Scope}
 use Rattle.vx_elements.proofs.Settled.{Meaning}
 use Rattle.vx_elements.proofs.Lists.{each_map}
 use Rattle.vx_sound.proofs.World.{Walked, World}
-use Rattle.vx_sound.proofs.Stands.{values_of, StoreStands, FactStands, TermsStand, InstanceKey, ChunkStands, HeapStands, OwnStands, Stands}
+use Rattle.vx_sound.proofs.Stands.{values_of, StoreStands, FactStands, TermsStand, InstanceKey, ChunkStands, HeapStands, MeasureStands, OwnStands, Stands}
 
 module _ (means : Meaning) (world : World) (Applied : Name → Type 0) (own : Option Walked) where
   -- the world in which these may be applied, and the body of this function is walked
@@ -53,6 +53,12 @@ module _ (means : Meaning) (world : World) (Applied : Name → Type 0) (own : Op
 
   heap_there : (n : ℕ) (i : Interpretation) (chunks : rules.Heap) (heap : run.Heap) (holdings : run.Holdings) → HeapStands means world n i chunks heap holdings → HeapStands means there n i chunks heap holdings
   heap_there n i chunks heap holdings h = record { each = each_map (ChunkStands means world n i heap) (ChunkStands means there n i heap) (chunk_there n i heap) chunks h.each; sums = h.sums }
+
+  pub measure_there : (n : ℕ) (i : Interpretation) (t : Option Term) (z : Option ℤ) → MeasureStands means world n i t z → MeasureStands means there n i t z
+  measure_there n i None None h = tt
+  measure_there n i (Some t) (Some z) h = h
+  measure_there n i None (Some z) h = absurd h
+  measure_there n i (Some t) None h = absurd h
 
   pub stands_there : {scope : Scope} {i : Interpretation} {s : rules.State} {c : run.State} (entered : Option rules.Own) → OwnStands means there s.next i entered own → Stands means world scope i s c → Stands means there scope i (record s { own = entered }) c
   stands_there {scope = scope} {i = i} {s = s} {c = c} entered k st = record {

@@ -3,6 +3,7 @@ use Rattle.std.proofs.Common.{◌≡◌, ℕ, Bool, true, false, cond, [], ◌�
 use Rattle.vx_frac.specs.Fractions.{Fraction, none, full, sum, minus}
 use Rattle.vx_ast.specs.Syntax.{Name, Program}
 use Rattle.vx_meaning.specs.States as run
+use Rattle.vx_meaning.specs.Fits.{deeper}
 use Rattle.vx_meaning.specs.Consistent.{spread, IsConsistent}
 use Rattle.vx_rules.specs.Rules.{outer}
 use Rattle.vx_elements.proofs.Settled.{Meaning}
@@ -63,6 +64,8 @@ fields_world p = record {
   Held = λ x. ⊥;
   Applied = λ f. ⊥;
   own = None;
+  firmly = deeper p;
+  unfolds_alike = λ n k q c. refl;
   proper = λ x d h e. absurd h;
   Holds = λ h hs. HoldsFields hs;
   limited = λ h hs k. k.limited;

@@ -4,6 +4,7 @@ use Rattle.vx_frac.specs.Fractions.{Fraction, none, full}
 use Rattle.vx_ast.specs.Syntax.{Name, Program, Predicate, predicate_named}
 use Rattle.vx_meaning.specs.Values.{Value}
 use Rattle.vx_meaning.specs.States as run
+use Rattle.vx_meaning.specs.Fits.{Deeper, deeper}
 use Rattle.vx_meaning.specs.Consistent.{total, Changes, IsSupported, IsConsistent}
 use Rattle.vx_terms.specs.Interpretations.{Tree}
 use Rattle.vx_types.specs.Typing.{HaveNoPerm}
@@ -38,13 +39,15 @@ pub record Walked : Type 0 where
 
 -- What the laws on expressions and assertions need to know of a heap and of what is held there: `Holds`, which says that it
 -- is limited and that each instance of which something is held has its tree, and what keeps it; which functions may be
--- applied; and the function whose body is walked, if it is one.
+-- applied, and when that is allowed firmly; and the function whose body is walked, if it is one.
 pub record World : Type 1 where
   pub program : Program
   pub bounded : Bool
   pub Held : Name → Type 0
   pub Applied : Name → Type 0
   pub own : Option Walked
+  pub firmly : ℕ → Deeper
+  pub unfolds_alike : (n : ℕ) (k : run.Instance) (q : Fraction) (c : run.State) → (firmly n).opened k q c ≡ (deeper program n).opened k q c
   pub proper : (x : Name) (d : Predicate) → Held x → predicate_named program x ≡ Some d → HaveNoPerm d.parameters
   pub Holds : run.Heap → run.Holdings → Type 0
   pub limited : (h : run.Heap) (hs : run.Holdings) → Holds h hs → Limited bounded hs

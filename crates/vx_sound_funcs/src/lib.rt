@@ -1,7 +1,7 @@
 //! What a snapshot tells of the heap, and that it determines the value of a function.
 #![tactic(auto)]
 
-ghost use Rattle.std.specs.Prelude.{◌≡◌, ℕ, ℤ, pos, ◌+ℤ◌, List, [], ◌∷◌, Some};
+ghost use Rattle.std.specs.Prelude.{◌≡◌, ◌+◌, ℕ, ℤ, pos, ◌+ℤ◌, List, [], ◌∷◌, Some, None};
 ghost use Rattle.vx_ast.specs.Syntax.{Name, Program, Expr};
 ghost use Rattle.vx_frac.specs.Fractions.{over};
 ghost use Rattle.vx_terms.specs.Interpretations.{Empty, IntLeaf};
@@ -10,7 +10,7 @@ ghost use Rattle.vx_meaning.specs.States.{State, At, with_store};
 ghost use Rattle.vx_meaning.specs.Evaluate.{HasValue};
 ghost use Rattle.vx_meaning.specs.Flatten.{flat};
 ghost use Rattle.vx_meaning.specs.Consistent.{IsConsistent};
-ghost use Rattle.vx_meaning.specs.Fits.{Fits, FailsToFit};
+ghost use Rattle.vx_meaning.specs.Fits.{deeper, Fits, FailsToFit};
 ghost use Rattle.vx_sound.specs.Snapshots.{IsTree};
 ghost use Rattle.vx_smt_meaning.specs.declared.reply.Reply.{Reply};
 ghost use Rattle.vx_whole.specs.Premises.{IsTypedProgram};
@@ -19,7 +19,7 @@ ghost use Rattle.vx_sound_preds.specs.Covered.{Covered, IsProper, PredicatesPass
 ghost use Rattle.vx_sound_preds.specs.Examples.{here, P, instance_of};
 ghost use Rattle.vx_sound_funcs.specs.Told.{IsTreeOf, HoldsJust, precondition_of, IsValueOf};
 ghost use Rattle.vx_sound_funcs.specs.Firm.{firm_application, firmly, FitsFirmly, GoodFunctions, PlainContracts};
-ghost use Rattle.vx_sound_funcs.specs.Examples.{getter, get, doubler, twice, peeker, peek, boxes, x_is_one, holding, bereft, g, looses, leads_to};
+ghost use Rattle.vx_sound_funcs.specs.Examples.{getter, get, doubler, twice, peeker, peek, boxes, x_is_one, holding, bereft, boast, boaster, boasts, g, looses, leads_to};
 ghost use Rattle.vx_sound_funcs.specs.Laws.{TreesTellTheHeap, TreesTellWhatIsHeld, TreesTellHoldings, TreesTellValues, TreesTellFirmValues, StartsHoldJust, ApplicationsAgree, SpeakNow, FirmlyIsMore};
 
 /// The tree of an instance tells what is inside it, and the values there, where bodies are good and fit with what they give; so
@@ -51,9 +51,10 @@ pub fn trees_tell_firm_values()
     ensures passed { (p : Program) (x : Name) (replies : Name → List Reply) → IsTypedProgram p → GoodFunctions p → PredicatesPass p x replies → TreesTellFirmValues p (IsProper p x) }
 {}
 
-/// In a typed program functions are good where they speak of no earlier state and their preconditions apply none: the arguments
+/// In a typed program functions are good where their preconditions apply none: they speak of no earlier state, and the arguments
 /// of what they apply are no amounts.
 pub fn typed_functions_are_good()
+    ensures now { (p : Program) → IsTypedProgram p → SpeakNow p }
     ensures good { (p : Program) → IsTypedProgram p → PlainContracts p → GoodFunctions p }
     ensures boxes { PlainContracts boxes }
 {}
@@ -64,9 +65,10 @@ pub fn plain_parts_fit_firmly()
 {}
 
 /// What fits firmly fits, where no body of a function has an `old`: a body that fits where it starts has its value in the state of
-/// its caller too. So what is shown of firm fitting tells of what the meaning asks for.
+/// its caller too. So what is shown of firm fitting tells of what the meaning asks for, in each typed program.
 pub fn what_fits_firmly_fits()
-    ensures { (p : Program) → SpeakNow p → FirmlyIsMore p }
+    ensures more { (p : Program) → SpeakNow p → FirmlyIsMore p }
+    ensures typed { (p : Program) → IsTypedProgram p → FirmlyIsMore p }
 {}
 
 /// So two applications at the same arguments, where the precondition has one tree, have values that look the same, if one of
@@ -123,6 +125,13 @@ pub fn what_does_not_fit_is_not_determined()
     ensures fails { (z : ℤ) → FailsToFit boxes (bereft z) peeker.body here }
     ensures tree { (z : ℤ) → IsTreeOf boxes (bereft z) (precondition_of peeker) Empty }
     ensures values { (z : ℤ) → IsValueOf boxes peek (RefValue 1 ∷ []) (bereft z) (IntValue z) }
+{}
+
+/// `boast()` promises what isn't true: its body fits firmly and the meaning has its value, but it is never allowed firmly.
+pub fn a_broken_promise_is_not_allowed()
+    ensures fits { (s : State) → FitsFirmly boasts s boaster.body (IntValue (pos 0)) }
+    ensures meant { (n : ℕ) (s : State) → (deeper boasts (n + 1)).applied boast [] s ≡ Some (IntValue (pos 0)) }
+    ensures refused { (n : ℕ) (s : State) → firm_application boasts (firmly boasts n) boast [] s ≡ None }
 {}
 
 /// A predicate whose body reads what it doesn't give, as acc(x.f.g), has one tree with other locations inside.

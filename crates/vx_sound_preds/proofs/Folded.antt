@@ -47,7 +47,7 @@ use Rattle.vx_sound_preds.proofs.Produced.{fine_state, put_known}
 use Rattle.vx_sound_preds.proofs.Unfolds.{BodiesSpeak}
 use Rattle.vx_sound_preds.proofs.Trees.{TreeOf, builds_tree}
 
-module _ (means : Meaning) (p : Program) (good : GoodBodies p) (Held : Name → Type 0) (no_perm : (x : Name) (d : Predicate) → predicate_named p x ≡ Some d → HaveNoPerm d.parameters) (applying : Applying) (speak : BodiesSpeak p Held) where
+module _ (means : Meaning) (p : Program) (good : GoodBodies p) (Held : Name → Type 0) (no_perm : (x : Name) (d : Predicate) → predicate_named p x ≡ Some d → HaveNoPerm d.parameters) (applying : Applying p) (speak : BodiesSpeak p Held) where
   abbrev world : World
   world = functions_world p good Held no_perm true applying
 

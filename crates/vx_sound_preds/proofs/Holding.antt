@@ -9,7 +9,7 @@ use Rattle.vx_meaning.specs.States as run
 use Rattle.vx_meaning.specs.States.{Heap, Holdings, Location, Instance, Resource, At, Folded, HaveTypes, same_resource, amount, gained, lost, with_holdings}
 use Rattle.vx_meaning.specs.Flatten.{bare, body_entries, flat, IsGrounded}
 use Rattle.vx_meaning.specs.Consistent.{total, IsConsistent}
-use Rattle.vx_meaning.specs.Fits.{deeper}
+use Rattle.vx_meaning.specs.Fits.{Deeper, deeper}
 use Rattle.vx_terms.specs.Interpretations.{Tree}
 use Rattle.vx_types.specs.Typing.{HaveNoPerm}
 use Rattle.vx_amounts.proofs.Amounts.{Le, Positive, le-refl, le-trans, none-none, none-full, full-positive, positive-le, not-positive, below-add}
@@ -225,22 +225,26 @@ module _ (p : Program) (good : GoodBodies p) (Held : Name → Type 0) (bounded :
           clash : ◌≡◌ {A = Bool} true false → ⊥
           clash z = cc
 
--- what may be applied, and the function whose body is walked, if it is one
-pub record Applying : Type 1 where
+-- what may be applied, and when that is allowed firmly; and the function whose body is walked, if it is one
+pub record Applying (p : Program) : Type 1 where
   pub Applied : Name → Type 0
   pub own : Option Walked
+  pub firmly : ℕ → Deeper
+  pub unfolds_alike : (n : ℕ) (k : Instance) (q : Fraction) (c : run.State) → (firmly n).opened k q c ≡ (deeper p n).opened k q c
 
-abbrev pub nothing_applied : Applying
-nothing_applied = record { Applied = λ f. ⊥; own = None }
+abbrev pub nothing_applied : (p : Program) → Applying p
+nothing_applied p = record { Applied = λ f. ⊥; own = None; firmly = deeper p; unfolds_alike = λ n k q c. refl }
 
 -- The world of a typed program, where the instances of some predicates are held and some functions may be applied.
-abbrev pub functions_world : (p : Program) → GoodBodies p → (Held : Name → Type 0) → ((x : Name) (d : Predicate) → predicate_named p x ≡ Some d → HaveNoPerm d.parameters) → Bool → Applying → World
+abbrev pub functions_world : (p : Program) → GoodBodies p → (Held : Name → Type 0) → ((x : Name) (d : Predicate) → predicate_named p x ≡ Some d → HaveNoPerm d.parameters) → Bool → Applying p → World
 functions_world p good Held no_perm bounded applying = record {
   program = p;
   bounded = bounded;
   Held = Held;
   Applied = applying.Applied;
   own = applying.own;
+  firmly = applying.firmly;
+  unfolds_alike = applying.unfolds_alike;
   proper = λ x d h e. no_perm x d e;
   Holds = HoldsInstances p Held bounded;
   limited = limited p good Held bounded;
@@ -253,4 +257,4 @@ functions_world p good Held no_perm bounded applying = record {
 
 -- and where none may be
 abbrev pub instances_world : (p : Program) → GoodBodies p → (Held : Name → Type 0) → ((x : Name) (d : Predicate) → predicate_named p x ≡ Some d → HaveNoPerm d.parameters) → Bool → World
-instances_world p good Held no_perm bounded = functions_world p good Held no_perm bounded nothing_applied
+instances_world p good Held no_perm bounded = functions_world p good Held no_perm bounded (nothing_applied p)

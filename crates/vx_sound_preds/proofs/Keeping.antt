@@ -35,7 +35,7 @@ held_typed p Held ((Folded j, a) ∷ xs) h i k = go (same_resource (Folded i) (F
     go false e k f = f k
     go true e k f = subst (IsTypedInstance p Held) (same i j (resource_is (Folded i) (Folded j) (instance_rigid p Held j h.0) e)) h.0
 
-module _ (p : Program) (good : GoodBodies p) (x : Name) (no_perm : (x : Name) (d : Predicate) → predicate_named p x ≡ Some d → HaveNoPerm d.parameters) (covered : Covered p (IsProper p x)) (applying : Applying) where
+module _ (p : Program) (good : GoodBodies p) (x : Name) (no_perm : (x : Name) (d : Predicate) → predicate_named p x ≡ Some d → HaveNoPerm d.parameters) (covered : Covered p (IsProper p x)) (applying : Applying p) where
   abbrev Held : Name → Type 0
   Held = InClosure p x
 

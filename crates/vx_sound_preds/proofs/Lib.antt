@@ -25,6 +25,8 @@ pub mod Trees
 pub mod Folded
 pub mod Consumed
 pub mod Applied
+pub mod GivenBy
+pub mod Begins
 pub mod Speaking
 pub mod Mentioning
 pub mod Walks

@@ -46,7 +46,7 @@ module _ (p : Program) (x : Name) where
   abbrev pub MayApply : (Name → Type 0) → Type 0
   MayApply Applied = (f : Name) (g : Function) → InClosure p x f → function_named p f ≡ Some g → Applied f
 
-  module _ (applying : Applying) (may : MayApply applying.Applied) where
+  module _ (applying : Applying p) (may : MayApply applying.Applied) where
     mutual
       expression : {scope : Scope} {e : Expr} {t : ValueType} → HasType p scope e t → AllSeen (mentioned e) → Speaks Held applying.Applied e
       expression (number at n) s = tt

@@ -59,7 +59,7 @@ EndsAt u (Ends t) = t ≡ u
 EndsAt u (FailsAt at) = ⊥
 EndsAt u Stops = Unit {0}
 
-module _ (means : Meaning) (p : Program) (good : GoodBodies p) (Held : Name → Type 0) (no_perm : (x : Name) (d : Predicate) → predicate_named p x ≡ Some d → HaveNoPerm d.parameters) (bounded : Bool) (applying : Applying) where
+module _ (means : Meaning) (p : Program) (good : GoodBodies p) (Held : Name → Type 0) (no_perm : (x : Name) (d : Predicate) → predicate_named p x ≡ Some d → HaveNoPerm d.parameters) (bounded : Bool) (applying : Applying p) where
   abbrev pub world : World
   world = functions_world p good Held no_perm bounded applying
 
@@ -105,7 +105,7 @@ module _ (means : Meaning) (p : Program) (good : GoodBodies p) (Held : Name → 
 
   -- Units
 
-  next_unit : (snapshot : Option Term) (s : rules.State) → (with_unit snapshot s).next ≡ s.next
+  pub next_unit : (snapshot : Option Term) (s : rules.State) → (with_unit snapshot s).next ≡ s.next
   next_unit None s = refl
   next_unit (Some t) s = next_after_fact means world (equals t unit) s
 
@@ -160,7 +160,7 @@ module _ (means : Meaning) (p : Program) (good : GoodBodies p) (Held : Name → 
   }
 
   -- the value of a location by a snapshot, named
-  record ValueNamed (scope : Scope) (i : Interpretation) (s : rules.State) (c : run.State) (f : Name) (r : ℕ) (snapshot : Option Term) (t : Term) : Type 0 where
+  pub record ValueNamed (scope : Scope) (i : Interpretation) (s : rules.State) (c : run.State) (f : Name) (r : ℕ) (snapshot : Option Term) (t : Term) : Type 0 where
     pub interp : Interpretation
     pub extends : Extends means s.next i interp
     pub later : s.next ≤ (after_value (field_sort p f) snapshot s).next
@@ -168,7 +168,7 @@ module _ (means : Meaning) (p : Program) (good : GoodBodies p) (Held : Name → 
     pub good_value : Good means (after_value (field_sort p f) snapshot s).next interp (produced_value (field_sort p f) snapshot s) (field_sort p f)
     pub value_is : value interp (produced_value (field_sort p f) snapshot s) ≡ element (run.value_at p c.heap (at_field r f))
 
-  value_named : {scope : Scope} {i : Interpretation} {s : rules.State} {c : run.State} (f : Name) (r : ℕ) (t : Term) → Stands means world scope i s c → Good means s.next i t SnapSort → IsWritten t → value i t ≡ TreeElement (leaf (run.value_at p c.heap (at_field r f))) →
+  pub value_named : {scope : Scope} {i : Interpretation} {s : rules.State} {c : run.State} (f : Name) (r : ℕ) (t : Term) → Stands means world scope i s c → Good means s.next i t SnapSort → IsWritten t → value i t ≡ TreeElement (leaf (run.value_at p c.heap (at_field r f))) →
       ValueNamed scope i s c f r (Some t) t
   value_named {scope = scope} {i = i} {s = s} {c = c} f r t st g written is = record {
     interp = n.interp;

@@ -28,7 +28,7 @@ typed_predicate_sound p i d replies typed is pass fails = predicate_sound p (goo
 -- A method of a typed program, where what is shown of the applications of the functions that it leads to is given, and the walks
 -- of all predicates that it leads to passed.
 pub method_sound_by : (means : Meaning) (p : Program) (x : Name) (m : Method) (replies : Name → List Reply) (typed : IsTypedProgram p) → member_named p x ≡ Some (IsMethod m) →
-    (applying : Applying) → applying.own ≡ None → MayApply p x applying.Applied → AppliesBy means p (good p x typed) (InClosure p x) (no_perm p x typed) true applying (speak p x typed) →
+    (applying : Applying p) → applying.own ≡ None → MayApply p x applying.Applied → AppliesBy means p (good p x typed) (InClosure p x) (no_perm p x typed) true applying (speak p x typed) →
     PredicatesPass p x replies → Passes p x (IsMethod m) (replies x) → (at : Place) → MethodFails p m at → ⊥
 method_sound_by means p x m replies typed named applying none may applies pass own at fails =
     let gb = good p x typed in
@@ -49,9 +49,9 @@ member_sound p x (IsPredicate d) replies typed named all fails =
     predicate_sound p (good p x typed) (InClosure p x) (no_perm p x typed) (speak p x typed) x d (replies x) itself (ap predicate_in named) (all x (IsPredicate d) itself named).1 fails
 member_sound p x (IsMethod m) replies typed named all fails =
     let none : NoFunction p x = λ f g c e. (all f (IsFunction g) c (function_member (member_named p f) g e)).0 in
-    method_sound_by no_function p x m replies typed named nothing_applied refl none none_apply (λ i d c e. (all i (IsPredicate d) c (predicate_member (member_named p i) d e)).1) (all x (IsMethod m) itself named).1 fails.0 fails.1
+    method_sound_by no_function p x m replies typed named (nothing_applied p) refl none none_apply (λ i d c e. (all i (IsPredicate d) c (predicate_member (member_named p i) d e)).1) (all x (IsMethod m) itself named).1 fails.0 fails.1
   where
-    none_apply : AppliesBy no_function p (good p x typed) (InClosure p x) (no_perm p x typed) true nothing_applied (speak p x typed)
+    none_apply : AppliesBy no_function p (good p x typed) (InClosure p x) (no_perm p x typed) true (nothing_applied p) (speak p x typed)
     none_apply d below scope i s c at f g ts vs on allowed is each st h = absurd allowed
 
 pub instance_members_sound : SoundLaw IsInstanceMember

@@ -53,7 +53,7 @@ use Rattle.vx_sound_preds.proofs.Produced.{EndsAt, SnapshotOf, Produced, produce
 abbrev pub BodiesSpeak : Program → (Name → Type 0) → Type 0
 BodiesSpeak p Held = (x : Name) (d : Predicate) (e : Assertion) → Held x → predicate_named p x ≡ Some d → d.body ≡ Some e → IsTyped p d.parameters e × SpeaksOf Held (λ f. ⊥) e
 
-module _ (means : Meaning) (p : Program) (good : GoodBodies p) (Held : Name → Type 0) (no_perm : (x : Name) (d : Predicate) → predicate_named p x ≡ Some d → HaveNoPerm d.parameters) (bounded : Bool) (applying : Applying) (speak : BodiesSpeak p Held) where
+module _ (means : Meaning) (p : Program) (good : GoodBodies p) (Held : Name → Type 0) (no_perm : (x : Name) (d : Predicate) → predicate_named p x ≡ Some d → HaveNoPerm d.parameters) (bounded : Bool) (applying : Applying p) (speak : BodiesSpeak p Held) where
   abbrev world : World
   world = functions_world p good Held no_perm bounded applying
 
@@ -350,4 +350,4 @@ module _ (means : Meaning) (p : Program) (good : GoodBodies p) (Held : Name → 
 -- Where no function may be applied
 module _ (means : Meaning) (p : Program) (good : GoodBodies p) (Held : Name → Type 0) (no_perm : (x : Name) (d : Predicate) → predicate_named p x ≡ Some d → HaveNoPerm d.parameters) (bounded : Bool) (speak : BodiesSpeak p Held) where
   pub instances_go : (m : ℕ) → PartsGo means (instances_world p good Held no_perm bounded) (outer p m)
-  instances_go = parts_go means p good Held no_perm bounded nothing_applied speak (λ m below scope i s c at f g ts vs on allowed named each st h. absurd allowed)
+  instances_go = parts_go means p good Held no_perm bounded (nothing_applied p) speak (λ m below scope i s c at f g ts vs on allowed named each st h. absurd allowed)

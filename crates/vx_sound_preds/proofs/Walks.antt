@@ -168,7 +168,7 @@ module _ (p : Program) (good : GoodBodies p) (x : Name) (no_perm : (x : Name) (d
       let b = speak i.predicate d a pr.seen is body in
       let g = begun means p good Held no_perm speak i.predicate d a body (replies i.predicate) (pass i.predicate d pr.seen is) vs (pr.typed d is) h in
       let holds = of_entries p good Held false h o.entries_of types o.can ps (at_null h i pr o.entries_of o.body_is types ps) refl in
-      let r = produced means p good Held no_perm false nothing_applied (member_rules p) (parts means p good Held no_perm speak) (λ (u : run.State). Unit {0}) full a ds (bare (bind ds vs) h) o.entries_of (no_perm i.predicate d is) b.0 b.1 plain_body o.entries_are holds
+      let r = produced means p good Held no_perm false (nothing_applied p) (member_rules p) (parts means p good Held no_perm speak) (λ (u : run.State). Unit {0}) full a ds (bare (bind ds vs) h) o.entries_of (no_perm i.predicate d is) b.0 b.1 plain_body o.entries_are holds
       g.interp g.state whole_amount None ended tt (whole_scale means (instances_world p good Held no_perm false) g.state.next g.interp) g.stands g.cleared in
       (r.adds.0, run.with_holdings (added full o.entries_of []) (bare (bind ds vs) h), r.adds.1 r.adds.0 (le_refl _))
     where

@@ -2,6 +2,7 @@ pub mod Woken
 pub mod Told
 pub mod ToldChunks
 pub mod ToldEvaluate
+pub mod HeldFine
 pub mod Worth
 pub mod ToldProduce
 pub mod ToldUnfold
@@ -22,5 +23,10 @@ pub mod Grows
 pub mod Trees
 pub mod Gives
 pub mod Allowed
+pub mod Begins
 pub mod Stripped
+pub mod Names
 pub mod Measures
+pub mod Groups
+pub mod Keeping
+pub mod Eager
