@@ -12,6 +12,7 @@ use Rattle.vx_dialogue.specs.Scripts.{script}
 use Rattle.vx_dialogue.specs.History.{Tells}
 use Rattle.vx_rules.specs.Trees.{Tree, End, Impossible, On, Step, Ask, Probe, Fork}
 use Rattle.vx_machine.specs.Runs.{member_tree}
+use Rattle.vx_live.specs.Functions.{function_symbols}
 use Rattle.vx_report.specs.declared.run.MemberRun.{MemberRun}
 use Rattle.vx_report.specs.declared.run.Verdict.TheVariants.{Verified}
 use Rattle.vx_companion.specs.declared.builtin.Builtin.{Builtin}
@@ -86,10 +87,10 @@ is_lawful pieces lawful kept (inl garbled) = (lawful kept).0 garbled
 is_lawful pieces lawful kept (inr refused) = (lawful kept).1 refused
 
 module _ (p : Program) (before now : List Ending) (f g : ℕ) (runs : List MemberRun) (h : Headline p before now f g runs) (all : AllByCompanion now) where
-  rights : IsRecorded (lost_after false runs) before now (turns_of false p runs h.checks) h.checks → Each IsRight h.checks
+  rights : IsRecorded (function_symbols p) (lost_after false runs) before now (turns_of false p runs h.checks) h.checks → Each IsRight h.checks
   rights (inl none) = subst (λ cs. Each IsRight cs) (sym none.1) tt
   rights (inr told) =
-      companion_right (lost_after false runs) (script false [] (turns_of false p runs h.checks)) told.0.dialogue h.checks h.well_formed (script_sorted (turns_of false p runs h.checks) h.sorted) told.3
+      companion_right (lost_after false runs) (script false (function_symbols p) (turns_of false p runs h.checks)) told.0.dialogue h.checks h.well_formed (script_sorted (function_symbols p) (turns_of false p runs h.checks) h.sorted) told.3
       (by_companion before now told.0 told.1 all)
 
   -- a member that is verified never fails
@@ -99,13 +100,13 @@ module _ (p : Program) (before now : List Ending) (f g : ℕ) (runs : List Membe
   asked : AreTurns Any (turns_of false p runs h.checks)
   asked = turns_ask Any p before now f g (λ k. any_asks (member_tree p k)) false 0 runs h.checks h.told
 
-  lawful_by : (taken : Each IsTaken (script false [] (turns_of false p runs h.checks))) (e : Ending) → now ≡ before ++ e ∷ []
-      → Tells (lost_after false runs) (script false [] (turns_of false p runs h.checks)) e.dialogue h.checks → HasLawfulReplies e.dialogue
+  lawful_by : (taken : Each IsTaken (script false (function_symbols p) (turns_of false p runs h.checks))) (e : Ending) → now ≡ before ++ e ∷ []
+      → Tells (lost_after false runs) (script false (function_symbols p) (turns_of false p runs h.checks)) e.dialogue h.checks → HasLawfulReplies e.dialogue
   lawful_by taken e is tells =
-      companion_lawful (lost_after false runs) (script false [] (turns_of false p runs h.checks)) e.dialogue h.checks h.well_formed (script_sorted (turns_of false p runs h.checks) h.sorted) taken
-      (script_fits (turns_of false p runs h.checks) asked) tells (by_companion before now e is all)
+      companion_lawful (lost_after false runs) (script false (function_symbols p) (turns_of false p runs h.checks)) e.dialogue h.checks h.well_formed (script_sorted (function_symbols p) (turns_of false p runs h.checks) h.sorted) taken
+      (script_fits (function_symbols p) (turns_of false p runs h.checks) asked) tells (by_companion before now e is all)
 
-  all_lawful : Each IsTaken (script false [] (turns_of false p runs h.checks)) → IsRecorded (lost_after false runs) before now (turns_of false p runs h.checks) h.checks → AllLawful before now
+  all_lawful : Each IsTaken (script false (function_symbols p) (turns_of false p runs h.checks)) → IsRecorded (function_symbols p) (lost_after false runs) before now (turns_of false p runs h.checks) h.checks → AllLawful before now
   all_lawful taken (inl none) since is =
       subst (Each (λ (e : Ending). IsLawful e.dialogue)) (sym (none_since before since (sym none.0 ∙ is))) tt
   all_lawful taken (inr told) since is =

@@ -60,8 +60,9 @@ said_other b (Asks path condition ∷ turns) =
 said_other b (Posts path condition ∷ turns) = joined (posted b path condition) (said_by true turns) (posted_other b path condition) (said_other true turns)
 said_other b (Leaves ∷ turns) = joined (closing b) (said_by false turns) (closed_other b) (said_other false turns)
 
-begun_other : Each IsOther (preamble false [])
-begun_other = joined (front false) [] (joined (options false ++ logic) (declarations standard_symbols) (tt, (tt, (refl, (refl, tt)))) (declared_other standard_symbols)) tt
+begun_other : (functions : List Declared) → Each IsOther (preamble false functions)
+begun_other functions =
+    joined (front false) (declarations functions) (joined (options false ++ logic) (declarations standard_symbols) (tt, (tt, (refl, (refl, tt)))) (declared_other standard_symbols)) (declared_other functions)
 
 sorted_by : (c : Command) → IsWellSorted c → IsOther c → IsSorted c
 sorted_by (SetOption x b) h o = o
@@ -79,8 +80,8 @@ all_sorted : (cs : List Command) → Each IsWellSorted cs → Each IsOther cs �
 all_sorted [] h o = tt
 all_sorted (c ∷ cs) h o = (sorted_by c h.0 o.0, all_sorted cs h.1 o.1)
 
-pub script_sorted : (turns : List Turn) → Each IsWellSorted (script false [] turns) → Each IsSorted (script false [] turns)
-script_sorted turns h = all_sorted (script false [] turns) h (joined (preamble false []) (said_by false turns) begun_other (said_other false turns))
+pub script_sorted : (functions : List Declared) (turns : List Turn) → Each IsWellSorted (script false functions turns) → Each IsSorted (script false functions turns)
+script_sorted functions turns h = all_sorted (script false functions turns) h (joined (preamble false functions) (said_by false turns) (begun_other functions) (said_other false turns))
 
 -- ---- levels
 
@@ -176,11 +177,11 @@ runs_logic : Runs 1 (options false ++ logic) 1
 runs_logic [] is = absurd (omega arith)
 runs_logic (l ∷ ls) is = ((tt, (tt, (tt, (tt, tt)))), is)
 
-runs_begun : Runs 1 (preamble false []) 1
-runs_begun =
-    runs_joined 1 1 1 (front false) [] (runs_joined 1 1 1 (options false ++ logic) (declarations standard_symbols) runs_logic (runs_declared 1 standard_symbols)) (runs_none 1)
+runs_begun : (functions : List Declared) → Runs 1 (preamble false functions) 1
+runs_begun functions =
+    runs_joined 1 1 1 (front false) (declarations functions) (runs_joined 1 1 1 (options false ++ logic) (declarations standard_symbols) runs_logic (runs_declared 1 standard_symbols)) (runs_declared 1 functions)
 
-pub script_fits : (turns : List Turn) → AreTurns Any turns → AllFit (empty_level ∷ []) (script false [] turns)
-script_fits turns h =
-    let begun = runs_begun (empty_level ∷ []) refl in
-    fit_joined (preamble false []) (said_by false turns) (empty_level ∷ []) begun.0 (said_fits false turns h (stack_from (empty_level ∷ []) (preamble false [])) begun.1)
+pub script_fits : (functions : List Declared) (turns : List Turn) → AreTurns Any turns → AllFit (empty_level ∷ []) (script false functions turns)
+script_fits functions turns h =
+    let begun = runs_begun functions (empty_level ∷ []) refl in
+    fit_joined (preamble false functions) (said_by false turns) (empty_level ∷ []) begun.0 (said_fits false turns h (stack_from (empty_level ∷ []) (preamble false functions)) begun.1)

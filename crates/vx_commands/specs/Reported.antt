@@ -9,6 +9,7 @@ use Rattle.vx_words.specs.declared.order.Order.{Order}
 use Rattle.vx_words.specs.declared.order.Order.TheVariants.{Verify, Check, Print, Gen, Work}
 use Rattle.vx_terms.specs.Interpretations.{Each}
 use Rattle.vx_dialogue.specs.Scripts.{script}
+use Rattle.vx_live.specs.Functions.{function_symbols}
 use Rattle.vx_report.specs.declared.run.MemberRun.{MemberRun}
 use Rattle.vx_report.specs.declared.run.Verdict.TheVariants as verdict
 use Rattle.vx_report.specs.declared.status.Status.{Status}
@@ -216,7 +217,7 @@ AllNeverFail p runs = Each (λ (r : MemberRun). r.verdict ≡ verdict.Verified �
 pub record IsCompanionReport (telling : Telling) (p : Program) (command : List (List ℕ)) (spawner : Change Children) (sink : Change Taken) (ended : Ended) : Type 0 where
   pub report : IsReport telling p command spawner sink ended
   pub sound : AllNeverFail p ended.runs.items
-  pub no_fault : Each IsTaken (script false [] (turns_of false p ended.runs.items report.headline.checks)) → HasNoFault ended.runs.items
+  pub no_fault : Each IsTaken (script false (function_symbols p) (turns_of false p ended.runs.items report.headline.checks)) → HasNoFault ended.runs.items
   -- each command had the reply that the companion has for it
   pub replies : AllByCompanion spawner.after.ended
 

@@ -54,82 +54,82 @@ later_by_one old new e is = λ front handed. record {
 pub above_none : (f g : ℕ) → Rose f g → 0 < g
 above_none f g rose = omega arith
 
-module _ {L : Type 0} (dialogue : L → List Piece) (before : List Ending) where
+module _ {L : Type 0} (dialogue : L → List Piece) (functions : List Declared) (before : List Ending) where
   -- the child is started, and its preamble is said
-  pub talks : (old new : List Ending) (d : Dialogue L) (turns : List Turn) (checks : List Check) → Stands dialogue false [] [] d [] → AreCommands (preamble false [])
-      → new ≡ old → Hears dialogue before old NotStarted turns checks → Hears dialogue before new (Talking d) turns checks
+  pub talks : (old new : List Ending) (d : Dialogue L) (turns : List Turn) (checks : List Check) → Stands dialogue false functions [] d [] → AreCommands (preamble false functions)
+      → new ≡ old → Hears dialogue functions before old NotStarted turns checks → Hears dialogue functions before new (Talking d) turns checks
   talks old new d turns checks stands named same heard =
       let silent = heard.2 in (
         same ∙ heard.0,
         record {
-          told = subst (λ x. Gathers dialogue d x checks) (sym silent.none) (subst (λ x. Gathers dialogue d (script false [] []) x) (sym heard.1) stands.told);
+          told = subst (λ x. Gathers dialogue d x checks) (sym silent.none) (subst (λ x. Gathers dialogue d (script false functions []) x) (sym heard.1) stands.told);
           inside = stands.inside ∙ sym silent.outside;
           levels = ap stack_of silent.none ∙ stands.levels;
         },
-        subst AreCommands (sym (silent.none ∙ script_none false [])) named,
+        subst AreCommands (sym (silent.none ∙ script_none false functions)) named,
       )
 
   -- a question is answered
   pub answered : (old new : List Ending) (d d' : Dialogue L) (q : Question) (path : List Term) (r : Reply) → path ≡ q.path
-      → ((turns : List Turn) → AreCommands (script false [] turns) → AreCommands (script false [] (turns ++ Asks path q.condition ∷ [])))
+      → ((turns : List Turn) → AreCommands (script false functions turns) → AreCommands (script false functions (turns ++ Asks path q.condition ∷ [])))
       → ((certify : Bool) (functions : List Declared) (turns : List Turn) (checks : List Check) → Stands dialogue certify functions turns d checks
       → Stands dialogue certify functions (turns ++ Asks path q.condition ∷ []) d' (checks ++ check_of (base_of certify functions) path q.condition r ∷ []))
-      → new ≡ old → (turns : List Turn) (checks : List Check) → Hears dialogue before old (Talking d) turns checks → HearsOf dialogue before new (Talking d') turns checks q r
+      → new ≡ old → (turns : List Turn) (checks : List Check) → Hears dialogue functions before old (Talking d) turns checks → HearsOf dialogue functions before new (Talking d') turns checks q r
   answered old new d d' q path r is named step same turns checks heard = (
-    check_of (base_of false []) path q.condition r,
-    subst (λ x. Hears dialogue before new (Talking d') (turns ++ Asks x q.condition ∷ []) (checks ++ check_of (base_of false []) path q.condition r ∷ [])) is
-        (same ∙ heard.0, step false [] turns checks heard.1, named turns heard.2),
-    subst (λ x. IsCheckOf (record { question = q; reply = r }) (check_of (base_of false []) x q.condition r)) (sym is) (check_is (base_of false []) q r),
+    check_of (base_of false functions) path q.condition r,
+    subst (λ x. Hears dialogue functions before new (Talking d') (turns ++ Asks x q.condition ∷ []) (checks ++ check_of (base_of false functions) path q.condition r ∷ [])) is
+        (same ∙ heard.0, step false functions turns checks heard.1, named turns heard.2),
+    subst (λ x. IsCheckOf (record { question = q; reply = r }) (check_of (base_of false functions) x q.condition r)) (sym is) (check_is (base_of false functions) q r),
   )
 
   -- the member is left
   pub left : (old new : List Ending) (child : Child L) (d d' : Dialogue L) → child ≡ Talking d
-      → ((turns : List Turn) → AreCommands (script false [] turns) → AreCommands (script false [] (turns ++ Leaves ∷ [])))
+      → ((turns : List Turn) → AreCommands (script false functions turns) → AreCommands (script false functions (turns ++ Leaves ∷ [])))
       → ((certify : Bool) (functions : List Declared) (turns : List Turn) (checks : List Check) → Stands dialogue certify functions turns d checks
       → Stands dialogue certify functions (turns ++ Leaves ∷ []) d' checks)
-      → new ≡ old → (turns : List Turn) (checks : List Check) → Hears dialogue before old child turns checks → Hears dialogue before new (Talking d') (turns ++ left_turn (is_lost child)) checks
+      → new ≡ old → (turns : List Turn) (checks : List Check) → Hears dialogue functions before old child turns checks → Hears dialogue functions before new (Talking d') (turns ++ left_turn (is_lost child)) checks
   left old new child d d' is named step same turns checks heard =
-      let h = subst (λ (x : Child L). Hears dialogue before old x turns checks) is heard in
+      let h = subst (λ (x : Child L). Hears dialogue functions before old x turns checks) is heard in
       let lost : left_turn (is_lost child) ≡ Leaves ∷ [] = ap (λ (x : Child L). left_turn (is_lost x)) is in
-      subst (λ x. Hears dialogue before new (Talking d') (turns ++ x) checks) (sym lost) (same ∙ h.0, step false [] turns checks h.1, named turns h.2)
+      subst (λ x. Hears dialogue functions before new (Talking d') (turns ++ x) checks) (sym lost) (same ∙ h.0, step false functions turns checks h.1, named turns h.2)
 
   -- where no child talks, nothing is said
   pub left_otherwise : (now : List Ending) (child other : Child L) → child ≡ other → is_talking other ≡ false
-      → (turns : List Turn) (checks : List Check) → Hears dialogue before now child turns checks → Hears dialogue before now other (turns ++ left_turn (is_lost child)) checks
+      → (turns : List Turn) (checks : List Check) → Hears dialogue functions before now child turns checks → Hears dialogue functions before now other (turns ++ left_turn (is_lost child)) checks
   left_otherwise now child other is quiet turns checks heard =
-      subst (λ (x : Child L). Hears dialogue before now other (turns ++ left_turn (is_lost x)) checks) (sym is)
-      (by_child other quiet (subst (λ (x : Child L). Hears dialogue before now x turns checks) is heard))
+      subst (λ (x : Child L). Hears dialogue functions before now other (turns ++ left_turn (is_lost x)) checks) (sym is)
+      (by_child other quiet (subst (λ (x : Child L). Hears dialogue functions before now x turns checks) is heard))
     where
-      by_child : (x : Child L) → is_talking x ≡ false → Hears dialogue before now x turns checks → Hears dialogue before now x (turns ++ left_turn (is_lost x)) checks
+      by_child : (x : Child L) → is_talking x ≡ false → Hears dialogue functions before now x turns checks → Hears dialogue functions before now x (turns ++ left_turn (is_lost x)) checks
       by_child NotStarted quiet heard = (
         heard.0,
         heard.1,
         record {
-          none = script_more false [] turns Leaves ∙ (ap (λ x. script false [] turns ++ closing x) heard.2.outside ∙ (append_none (script false [] turns) ∙ heard.2.none));
+          none = script_more false functions turns Leaves ∙ (ap (λ x. script false functions turns ++ closing x) heard.2.outside ∙ (append_none (script false functions turns) ∙ heard.2.none));
           outside = inside_behind turns Leaves;
         },
       )
-      by_child Lost quiet heard = subst (λ x. IsRecorded true before now x checks) (sym (append_none turns)) heard
+      by_child Lost quiet heard = subst (λ x. IsRecorded functions true before now x checks) (sym (append_none turns)) heard
       by_child (Talking d) quiet heard = absurd (cc)
 
   -- behind a fault no question is asked
-  pub spent_lost : (now : List Ending) (child : Child L) (f : ℕ) → child ≡ Lost → (turns : List Turn) (checks : List Check) (q : Question) → Hears dialogue before now child turns checks
-      → Loses before now f f (is_lost child) turns checks q (trouble.Fault cause.Spent)
+  pub spent_lost : (now : List Ending) (child : Child L) (f : ℕ) → child ≡ Lost → (turns : List Turn) (checks : List Check) (q : Question) → Hears dialogue functions before now child turns checks
+      → Loses functions before now f f (is_lost child) turns checks q (trouble.Fault cause.Spent)
   spent_lost now child f is turns checks q heard =
       let lost : is_lost child ≡ true = ap (λ (x : Child L). is_lost x) is in
-      let told = subst (λ (x : Child L). Hears dialogue before now x turns checks) is heard in
+      let told = subst (λ (x : Child L). Hears dialogue functions before now x turns checks) is heard in
       let same : turns ++ tried_turn (is_lost child) q ≡ turns = ap (λ b. turns ++ tried_turn b q) lost ∙ append_none turns in
-      (subst (λ x. IsRecorded true before now x checks) (sym same) told, lost)
+      (subst (λ x. IsRecorded functions true before now x checks) (sym same) told, lost)
 
   -- a link is handed back
   pub recorded : (old new : List Ending) (d : Dialogue L) (e : Ending) (turns : List Turn) (checks : List Check) → new ≡ old ++ e ∷ [] → e.lane ≡ 0
-      → e.dialogue ≡ dialogue (link_of d) → Hears dialogue before old (Talking d) turns checks → IsRecorded false before new turns checks
+      → e.dialogue ≡ dialogue (link_of d) → Hears dialogue functions before old (Talking d) turns checks → IsRecorded functions false before new turns checks
   recorded old new d e turns checks is lane same heard =
       inr (
         e,
         is ∙ ap (λ x. x ++ e ∷ []) heard.0,
         lane,
-        subst (λ x. Tells false (script false [] turns) x checks) (sym same) (standing_tells dialogue false [] turns d checks heard.1),
+        subst (λ x. Tells false (script false functions turns) x checks) (sym same) (standing_tells dialogue false functions turns d checks heard.1),
       )
 
   -- why no reply came
@@ -143,40 +143,40 @@ module _ {L : Type 0} (dialogue : L → List Piece) (before : List Ending) where
 
   -- a call gives no reply, and the link is handed back
   pub lost_by : (old new : List Ending) (f g : ℕ) (e : Ending) (t : Talk) (turns : List Turn) (q : Question) (checks : List Check) → old ≡ before → new ≡ old ++ e ∷ [] → e.lane ≡ 0
-      → Breaks t (script false [] (turns ++ Posts q.path q.condition ∷ [])) e.dialogue checks → (t ≡ talk.Pipe → 0 < e.faults) → (t ≡ talk.Closed → ⊥)
-      → Loses before new f g false turns checks q (trouble_of t)
+      → Breaks t (script false functions (turns ++ Posts q.path q.condition ∷ [])) e.dialogue checks → (t ≡ talk.Pipe → 0 < e.faults) → (t ≡ talk.Closed → ⊥)
+      → Loses functions before new f g false turns checks q (trouble_of t)
   lost_by old new f g e t turns q checks first is lane broken rose shut =
       let here = is ∙ ap (λ x. x ++ e ∷ []) first in
       (inr (e, here, lane, broken.told), talk_causes new f g t e here broken.explained rose shut)
 
-  pub at_child : (old : List Ending) (a b : Child L) → a ≡ b → (turns : List Turn) (checks : List Check) → Hears dialogue before old a turns checks → Hears dialogue before old b turns checks
-  at_child old a b same turns checks heard = subst (λ (x : Child L). Hears dialogue before old x turns checks) same heard
+  pub at_child : (old : List Ending) (a b : Child L) → a ≡ b → (turns : List Turn) (checks : List Check) → Hears dialogue functions before old a turns checks → Hears dialogue functions before old b turns checks
+  at_child old a b same turns checks heard = subst (λ (x : Child L). Hears dialogue functions before old x turns checks) same heard
 
 -- where a child failed, more may be said
-pub recorded_longer : (before now : List Ending) (failed : Bool) (turns : List Turn) (t : Turn) (checks : List Check) → IsRecorded failed before now turns checks → IsRecorded true before now (turns ++ t ∷ []) checks
-recorded_longer before now failed turns t checks (inl none) = inl none
-recorded_longer before now failed turns t checks (inr some) =
+pub recorded_longer : (functions : List Declared) (before now : List Ending) (failed : Bool) (turns : List Turn) (t : Turn) (checks : List Check) → IsRecorded functions failed before now turns checks → IsRecorded functions true before now (turns ++ t ∷ []) checks
+recorded_longer functions before now failed turns t checks (inl none) = inl none
+recorded_longer functions before now failed turns t checks (inr some) =
     inr (
       some.0,
       some.1,
       some.2,
-      subst (λ x. Tells true x some.0.dialogue checks) (sym (script_more false [] turns t))
-          (tells_longer failed (script false [] turns) (said_of (is_inside_after turns) t) some.0.dialogue checks some.3),
+      subst (λ x. Tells true x some.0.dialogue checks) (sym (script_more false functions turns t))
+          (tells_longer failed (script false functions turns) (said_of (is_inside_after turns) t) some.0.dialogue checks some.3),
     )
 
 -- a started child whose preamble broke off
-pub preamble_breaks : (t : Talk) (turns : List Turn) (q : Question) (pieces : List Piece) (checks : List Check) → AreSilent turns → Breaks t (preamble false []) pieces checks
-    → Breaks t (script false [] (turns ++ Posts q.path q.condition ∷ [])) pieces checks
-preamble_breaks t turns q pieces checks silent broken =
-    subst (λ x. Breaks t x pieces checks) (sym (script_more false [] turns (Posts q.path q.condition)))
-    (breaks_longer t (script false [] turns) (posted (is_inside_after turns) q.path q.condition) pieces checks
-    (subst (λ x. Breaks t x pieces checks) (sym (silent.none ∙ script_none false [])) broken))
+pub preamble_breaks : (functions : List Declared) (t : Talk) (turns : List Turn) (q : Question) (pieces : List Piece) (checks : List Check) → AreSilent functions turns → Breaks t (preamble false functions) pieces checks
+    → Breaks t (script false functions (turns ++ Posts q.path q.condition ∷ [])) pieces checks
+preamble_breaks functions t turns q pieces checks silent broken =
+    subst (λ x. Breaks t x pieces checks) (sym (script_more false functions turns (Posts q.path q.condition)))
+    (breaks_longer t (script false functions turns) (posted (is_inside_after turns) q.path q.condition) pieces checks
+    (subst (λ x. Breaks t x pieces checks) (sym (silent.none ∙ script_none false functions)) broken))
 
-pub lost_hears : {L : Type 0} (dialogue : L → List Piece) (before now : List Ending) (child : Child L) (turns : List Turn) (checks : List Check) → is_lost child ≡ true
-    → IsRecorded true before now turns checks → Hears dialogue before now child turns checks
-lost_hears dialogue before now Lost turns checks lost heard = heard
-lost_hears dialogue before now NotStarted turns checks lost heard = cc
-lost_hears dialogue before now (Talking d) turns checks lost heard = cc
+pub lost_hears : {L : Type 0} (dialogue : L → List Piece) (functions : List Declared) (before now : List Ending) (child : Child L) (turns : List Turn) (checks : List Check) → is_lost child ≡ true
+    → IsRecorded functions true before now turns checks → Hears dialogue functions before now child turns checks
+lost_hears dialogue functions before now Lost turns checks lost heard = heard
+lost_hears dialogue functions before now NotStarted turns checks lost heard = cc
+lost_hears dialogue functions before now (Talking d) turns checks lost heard = cc
 
 pub if_ok_at : {T E : Type 0} (r : Result T E) (P : T → Type 0) (x : T) → IfOk r P → r ≡ Ok x → P x
 if_ok_at r P x h is = subst (λ y. IfOk y P) is h
@@ -224,9 +224,9 @@ caused_earlier before now f g h earlier lost other same (trouble.Fault x) has = 
 caused_earlier before now f g h earlier lost other same trouble.Want has = has
 
 -- where a child failed, all may be answered as well
-pub lost_recorded : (before now : List Ending) (turns : List Turn) (checks : List Check) → IsRecorded false before now turns checks → IsRecorded true before now turns checks
-lost_recorded before now turns checks (inl none) = inl none
-lost_recorded before now turns checks (inr some) = inr (some.0, some.1, some.2, tells_failed (script false [] turns) some.0.dialogue checks some.3)
+pub lost_recorded : (functions : List Declared) (before now : List Ending) (turns : List Turn) (checks : List Check) → IsRecorded functions false before now turns checks → IsRecorded functions true before now turns checks
+lost_recorded functions before now turns checks (inl none) = inl none
+lost_recorded functions before now turns checks (inr some) = inr (some.0, some.1, some.2, tells_failed (script false functions turns) some.0.dialogue checks some.3)
 
 -- a lost child was started
 pub lost_started : {L : Type 0} (child : Child L) → is_lost child ≡ true → is_started child ≡ true

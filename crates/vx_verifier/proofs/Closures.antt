@@ -16,7 +16,6 @@ use Rattle.vx_report.specs.Reports.{is_faulted}
 use Rattle.vx_rules.specs.Trees.{Ending as Ends, Passed, walk}
 use Rattle.vx_rules.specs.Members.{tree}
 use Rattle.vx_machine.specs.Runs.{tree_of, member_tree}
-use Rattle.vx_types.specs.InstanceLanguage.{IsInstanceMember}
 use Rattle.vx_whole.specs.Closure.{InClosure}
 use Rattle.vx_sound.specs.Law.{Passes}
 use Rattle.vx_sound_preds.proofs.Soundness.{instance_members_sound}
@@ -26,7 +25,7 @@ use Rattle.vx_resting.specs.Resting.{has_passed, HoldsUp, IsFirst, IsHeldUpAs, A
 use Rattle.vx_verifier.specs.Sequences.{IsIn, AreChecksOf, replies_to, IsRight}
 use Rattle.vx_verifier.specs.Causes.{HasCauseOf}
 use Rattle.vx_verifier.specs.Lines.{has_line, lines_from, lines}
-use Rattle.vx_verifier.specs.Headline.{IsSupported, NeverFails, IsVerdictOf, IsTold, AreTold, Under, AreSound, members_of, sequence_of, walk_of}
+use Rattle.vx_verifier.specs.Headline.{NeverFails, IsVerdictOf, IsTold, AreTold, Under, AreSound, members_of, sequence_of, walk_of}
 use Rattle.vx_verifier.proofs.Runs.{take_front, drop_front}
 use Rattle.vx_verifier.proofs.Sequences.{each_in, in_each, all_right}
 
@@ -185,7 +184,7 @@ passed_or_not v not = go (has_passed v) not
     go true not = refl
     go false not = absurd (not refl)
 
-module _ (p : Program) (supported : IsSupported p) (all : List Check) (runs : List MemberRun) (walked : Each (IsWalked p all) runs) (each : members_of runs ≡ lines p) where
+module _ (p : Program) (all : List Check) (runs : List MemberRun) (walked : Each (IsWalked p all) runs) (each : members_of runs ≡ lines p) where
   -- a run of a member that the one with number n leads to
   led_passes : (n : ℕ) → IsFirst (HoldsUp p n) runs None → Under (λ own. Each IsRight own) p n runs all
       → (x : Member) → slice_get p n ≡ Some x → (y : Name) (l : Kind) → InClosure p x.name y → member_named p y ≡ Some l → has_line l ≡ true → Passes p y l (replies_by p runs all y)
@@ -212,17 +211,19 @@ module _ (p : Program) (supported : IsSupported p) (all : List Check) (runs : Li
       ap (λ (o : Option ℕ). elim o as (λ o. List Reply) [ None ↦ [] | Some b ↦ replies_at runs all b ]) (m.found ∙ ap (λ (j : ℕ). Some j) zero_on) ∙ run.replies in
       subst (Passes p y l) (sym same) here
 
-  led_all : (n : ℕ) → IsFirst (HoldsUp p n) runs None → Under (λ own. Each IsRight own) p n runs all → (x : Member) → slice_get p n ≡ Some x
-      → (y : Name) (l : Kind) → InClosure p x.name y → member_named p y ≡ Some l → IsInstanceMember l × Passes p y l (replies_by p runs all y)
-  led_all n held right x at y (IsField t) closed named = (tt, (refl, tt))
-  led_all n held right x at y (IsPredicate d) closed named = (tt, led_passes n held right x at y (IsPredicate d) closed named refl)
-  led_all n held right x at y (IsFunction h) closed named = absurd (supported.members y (IsFunction h) named)
-  led_all n held right x at y (IsMethod m) closed named = (tt, led_passes n held right x at y (IsMethod m) closed named refl)
+  -- of whatever kind it is: a field has no question
+  led_each : (n : ℕ) → IsFirst (HoldsUp p n) runs None → Under (λ own. Each IsRight own) p n runs all → (x : Member) → slice_get p n ≡ Some x
+      → (y : Name) (l : Kind) → InClosure p x.name y → member_named p y ≡ Some l → Passes p y l (replies_by p runs all y)
+  led_each n held right x at y (IsField t) closed named = (refl, tt)
+  led_each n held right x at y (IsPredicate d) closed named = led_passes n held right x at y (IsPredicate d) closed named refl
+  led_each n held right x at y (IsFunction h) closed named = led_passes n held right x at y (IsFunction h) closed named refl
+  led_each n held right x at y (IsMethod m) closed named = led_passes n held right x at y (IsMethod m) closed named refl
 
 never_fails : (p : Program) (all : List Check) (runs : List MemberRun) → Each (IsWalked p all) runs → members_of runs ≡ lines p
     → (n : ℕ) → IsFirst (HoldsUp p n) runs None → Under (λ own. Each IsRight own) p n runs all → NeverFails p n
 never_fails p all runs walked each n held right supported x at fails =
-    instance_members_sound p x.name x.kind (replies_by p runs all) supported.typed (supported.typed.names n x at) (led_all p supported all runs walked each n held right x at) fails
+    instance_members_sound p x.name x.kind (replies_by p runs all) supported.typed (supported.typed.names n x at)
+    (λ y l closed named. (supported.members y l named, led_each p all runs walked each n held right x at y l closed named)) fails
 
 pub sound : (p : Program) (all : List Check) (runs : List MemberRun) → Each (IsWalked p all) runs → members_of runs ≡ lines p → AreRested p runs → AreSound p runs all
 sound p all runs walked each rested = in_each (λ (r : MemberRun). r.verdict ≡ verdict.Verified → Under (λ own. Each IsRight own) p r.member.0 runs all → NeverFails p r.member.0) runs (λ r inside is right.

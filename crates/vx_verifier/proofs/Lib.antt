@@ -13,3 +13,6 @@ mod Steady
 mod Spelled
 pub mod Askable
 mod Sorted
+mod FunctionSymbols
+mod Declared
+mod Fit

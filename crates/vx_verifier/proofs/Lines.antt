@@ -1,17 +1,12 @@
 -- The members with a line, as one member more is looked at.
-use Rattle.std.proofs.Common.{◌≡◌, ℕ, suc, ◌+◌, ◌≤◌, Bool, true, false, ◌++◌, ◌∷◌, [], List, Some, drop, length, slice_get, ap, ◌∙◌, sym, add-one, append_assoc, append-nil, if◌then◌else◌}
-use Rattle.std.proofs.Math.Seq.{drop-cons}
+use Rattle.std.proofs.Common.{◌≡◌, ℕ, ◌+◌, ◌≤◌, Bool, true, false, ◌++◌, ◌∷◌, [], List, Some, drop, length, slice_get, ap, ◌∙◌, sym, append_assoc, append-nil, if◌then◌else◌}
 use Rattle.std.proofs.Math.ListN.{drop_of_length-le}
-use Rattle.std.proofs.lemmas.Option.{get_or_from_slice_get, slice_get_within}
 use Rattle.vx_ast.specs.Syntax.{Program, Member}
 use Rattle.vx_report.specs.declared.run.MemberRun.{MemberRun}
 use Rattle.vx_verifier.specs.Lines.{has_line, lines_from, lines}
 use Rattle.vx_verifier.specs.Headline.{members_of}
 use Rattle.vx_verifier.proofs.Members.{members_more}
-
-rest_at : (p : Program) (n : ℕ) (m : Member) → slice_get p n ≡ Some m → drop n p ≡ m ∷ drop (n + 1) p
-rest_at p n m is =
-    drop-cons p n m (slice_get_within p n m is) ∙ (ap (λ x. x ∷ drop (suc n) p) (get_or_from_slice_get p n m m is) ∙ ap (λ k. m ∷ drop k p) (sym (add-one n)))
+use Rattle.vx_verifier.proofs.FunctionSymbols.{rest_at}
 
 by_line : (b c : Bool) (n : ℕ) (ns : List ℕ) → b ≡ c → (if b then n ∷ ns else ns) ≡ (if c then n ∷ ns else ns)
 by_line b c n ns is = ap (λ x. if x then n ∷ ns else ns) is

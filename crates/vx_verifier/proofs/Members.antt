@@ -6,10 +6,11 @@ use Rattle.std.specs.List.{All}
 use Rattle.std.proofs.lemmas.List.Elements.{All-append}
 use Rattle.vx_ast.specs.Syntax.{Program}
 use Rattle.vx_terms.specs.Interpretations.{Each}
+use Rattle.vx_smt_meaning.specs.Commands.{Declared}
 use Rattle.vx_smt_meaning.specs.Dialogues.{Check}
 use Rattle.vx_dialogue.specs.Scripts.{Turn, script}
-use Rattle.vx_dialogue.proofs.Fit.{well_formed}
 use Rattle.vx_machine.specs.Runs.{member_tree}
+use Rattle.vx_live.specs.Functions.{function_symbols}
 use Rattle.vx_ends.specs.declared.piece.Piece.{Piece}
 use Rattle.vx_ends.specs.declared.piece.Ending.{Ending}
 use Rattle.vx_report.specs.declared.run.MemberRun.{MemberRun}
@@ -27,7 +28,9 @@ use Rattle.vx_verifier.proofs.Rested.{all_told, turns_rest, lost_rests, members_
 use Rattle.vx_resting.specs.Resting.{AreLater, AreRested, NoneRests}
 use Rattle.vx_smt_meaning.specs.WellFormed.{IsWellFormed}
 use Rattle.vx_verifier.proofs.Askable.{AllAsk, AreTurns, turns_ask}
-use Rattle.vx_verifier.proofs.Sorted.{IsFine, fine_askable, script_sorted}
+use Rattle.vx_verifier.proofs.Sorted.{IsFine, script_sorted}
+use Rattle.vx_verifier.proofs.FunctionSymbols.{are_symbols}
+use Rattle.vx_verifier.proofs.Fit.{well_formed}
 
 lost_more : (lost : Bool) (runs : List MemberRun) (r : MemberRun) → lost_after lost (runs ++ r ∷ []) ≡ (lost_after lost runs || is_faulted r.verdict)
 lost_more lost [] r = refl
@@ -60,18 +63,18 @@ pub none_more : (runs : List MemberRun) (r : MemberRun) → NoneRests runs → i
 none_more [] r none this = (this, tt)
 none_more (s ∷ runs) r none this = (none.0, none_more runs r none.1 this)
 
-module _ {L : Type 0} (dialogue : L → List Piece) (p : Program) (before : List Ending) where
-  pub executes_none : (f : ℕ) (child : Child L) → Hears dialogue before before child [] [] → is_lost child ≡ false → is_started child ≡ false → Executes dialogue p before before f f child 0 []
+module _ {L : Type 0} (dialogue : L → List Piece) (functions : List Declared) (p : Program) (before : List Ending) where
+  pub executes_none : (f : ℕ) (child : Child L) → Hears dialogue functions before before child [] [] → is_lost child ≡ false → is_started child ≡ false → Executes dialogue functions p before before f f child 0 []
   executes_none f child heard lost started = record { checks = []; heard = heard; count = refl; told = refl; lost = lost; started = started }
 
   pub executes_more : (mid new : List Ending) (f g h : ℕ) (child child' : Child L) (asked asked' : ℕ) (runs : List MemberRun) (r : MemberRun) (n : ℕ)
-      → Executes dialogue p before mid f g child asked runs
-      → ((first : List Ending) (turns : List Turn) (checks : List Check) → Hears dialogue first mid child turns checks
-      → Judges dialogue p n first new (HasCauseOf first new g h (is_lost child)) (is_lost child) child' turns (λ x. member_turns (is_lost child) p n x r.verdict) checks r.checks r.verdict)
+      → Executes dialogue functions p before mid f g child asked runs
+      → ((first : List Ending) (turns : List Turn) (checks : List Check) → Hears dialogue functions first mid child turns checks
+      → Judges dialogue functions p n first new (HasCauseOf first new g h (is_lost child)) (is_lost child) child' turns (λ x. member_turns (is_lost child) p n x r.verdict) checks r.checks r.verdict)
       → Later mid new → f ≤ g → g ≤ h
       → r.member.0 ≡ n → r.lane ≡ 0 → r.child ≡ 0 → r.first ≡ asked → asked' ≡ asked + r.checks
       → is_lost child' ≡ (is_lost child || is_faulted r.verdict) → is_started child' ≡ (is_started child || has_question p n)
-      → Executes dialogue p before new f h child' asked' (runs ++ r ∷ [])
+      → Executes dialogue functions p before new f h child' asked' (runs ++ r ∷ [])
   executes_more mid new f g h child child' asked asked' runs r n so_far judge later earlier after member lane number is count lost started =
       let turns = turns_of false p runs so_far.checks in
       let judged = judge before turns so_far.checks so_far.heard in
@@ -93,37 +96,38 @@ module _ {L : Type 0} (dialogue : L → List Piece) (p : Program) (before : List
       ∙ (ap (λ k. turns ++ member_turns (lost_after false runs) p k judged.own r.verdict) member ∙ ap (λ b. turns ++ member_turns b p n judged.own r.verdict) (sym so_far.lost)) in
       record {
         checks = so_far.checks ++ judged.own;
-        heard = subst (λ x. Hears dialogue before new child' x (so_far.checks ++ judged.own)) (sym all_turns) judged.heard;
+        heard = subst (λ x. Hears dialogue functions before new child' x (so_far.checks ++ judged.own)) (sym all_turns) judged.heard;
         count = length_is ∙ omega arith;
         told = runs_more p before new f h false 0 runs so_far.checks r judged.own told lane number (is ∙ omega arith) own_count this spent;
         lost = lost ∙ (ap (λ x. x || is_faulted r.verdict) so_far.lost ∙ sym (lost_more false runs r));
         started = started ∙ (ap (λ x. x || has_question p n) so_far.started ∙ (ap (λ k. some_ask p (members_of runs) || has_question p k) (sym member) ∙ sym (ask_more p runs r)));
       }
 
-  -- the child is handed back
-  pub headline : (mid new : List Ending) (f g h : ℕ) (child : Child L) (asked : ℕ) (own runs : List MemberRun) → members_of own ≡ lines p → AreNamed p own
-      → AreLater own runs → AreRested p runs → Executes dialogue p before mid f g child asked own
-      → ((turns : List Turn) (checks : List Check) → Hears dialogue before mid child turns checks → IsRecorded (is_lost child) before new turns checks)
-      → Later mid new → g ≤ h → ((k : ℕ) → AllAsk IsFine (member_tree p k)) → Headline p before new f h runs
-  headline mid new f g h child asked own runs each named rest rested so_far end later after fine =
-      let handed = later mid (handed_itself mid) in
-      let checks = so_far.checks in
-      let turns = turns_of false p own checks in
-      let own_told = subst (λ x. AreTold p before x f h false 0 own checks) (sym handed.is) (runs_later p before mid handed.more f g h after false 0 own checks so_far.told) in
-      let told = all_told p before new f h false 0 own runs checks rest own_told in
-      let same = turns_rest false p own runs checks rest in
-      let each_rested = members_rest own runs rest ∙ each in
-      let asked : AreTurns IsFine turns = turns_ask IsFine p before new f h fine false 0 own checks own_told in
-      let walked = are_walked p before new f h checks false 0 runs [] checks refl refl told in
-      record {
-        checks = checks;
-        recorded = subst (λ ts. IsRecorded (lost_after false runs) before new ts checks) (sym same)
-            (subst (λ b. IsRecorded b before new turns checks) (so_far.lost ∙ sym (lost_rests false own runs rest)) (end turns checks so_far.heard));
-        well_formed = subst (λ ts. IsWellFormed (script false [] ts)) (sym same) (well_formed false turns (fine_askable turns asked));
-        sorted = subst (λ ts. Each IsWellSorted (script false [] ts)) (sym same) (script_sorted turns asked);
-        each = each_rested;
-        told = told;
-        rested = rested;
-        sound = sound p checks runs walked each_rested rested;
-        complete = complete p before new f h runs checks told rested (named_rest p own runs rest named);
-      }
+-- the child is handed back
+pub headline : {L : Type 0} (dialogue : L → List Piece) (p : Program) (before mid new : List Ending) (f g h : ℕ) (child : Child L) (asked : ℕ) (own runs : List MemberRun) → members_of own ≡ lines p → AreNamed p own
+    → AreLater own runs → AreRested p runs → Executes dialogue (function_symbols p) p before mid f g child asked own
+    → ((turns : List Turn) (checks : List Check) → Hears dialogue (function_symbols p) before mid child turns checks → IsRecorded (function_symbols p) (is_lost child) before new turns checks)
+    → Later mid new → g ≤ h → ((k : ℕ) → AllAsk (IsFine (function_symbols p)) (member_tree p k)) → Headline p before new f h runs
+headline dialogue p before mid new f g h child asked own runs each named rest rested so_far end later after fine =
+    let functions = function_symbols p in
+    let handed = later mid (handed_itself mid) in
+    let checks = so_far.checks in
+    let turns = turns_of false p own checks in
+    let own_told = subst (λ x. AreTold p before x f h false 0 own checks) (sym handed.is) (runs_later p before mid handed.more f g h after false 0 own checks so_far.told) in
+    let told = all_told p before new f h false 0 own runs checks rest own_told in
+    let same = turns_rest false p own runs checks rest in
+    let each_rested = members_rest own runs rest ∙ each in
+    let asked : AreTurns (IsFine functions) turns = turns_ask (IsFine functions) p before new f h fine false 0 own checks own_told in
+    let walked = are_walked p before new f h checks false 0 runs [] checks refl refl told in
+    record {
+      checks = checks;
+      recorded = subst (λ ts. IsRecorded functions (lost_after false runs) before new ts checks) (sym same)
+          (subst (λ b. IsRecorded functions b before new turns checks) (so_far.lost ∙ sym (lost_rests false own runs rest)) (end turns checks so_far.heard));
+      well_formed = subst (λ ts. IsWellFormed (script false functions ts)) (sym same) (well_formed functions turns (are_symbols p) asked);
+      sorted = subst (λ ts. Each IsWellSorted (script false functions ts)) (sym same) (script_sorted functions turns asked);
+      each = each_rested;
+      told = told;
+      rested = rested;
+      sound = sound p checks runs walked each_rested rested;
+      complete = complete p before new f h runs checks told rested (named_rest p own runs rest named);
+    }

@@ -1,6 +1,7 @@
 -- A member's questions, one by one, and its verdict at the end.
 use Rattle.std.proofs.Common.{◌≡◌, ℕ, ◌+◌, ◌<◌, ◌||◌, ◌⊎◌, inl, inr, Bool, true, false, ◌++◌, ◌∷◌, [], List, length, map, refl, ap, ◌∙◌, sym, subst, append_assoc, append-nil, arith}
 use Rattle.vx_ast.specs.Syntax.{Program}
+use Rattle.vx_smt_meaning.specs.Commands.{Declared}
 use Rattle.vx_smt_meaning.specs.Dialogues.{Check}
 use Rattle.vx_report.specs.declared.run.Cause.{Cause}
 use Rattle.vx_report.specs.declared.run.Verdict.{Verdict}
@@ -210,7 +211,7 @@ due_spelled p n m ask q running is spelled =
     open_spelled (member_tree p n) (given m) (query q) spelled due.0
 
 -- A member's execution, between two questions.
-module _ {L : Type 0} (dialogue : L → List Piece) (p : Program) (n : ℕ) (before : List Ended) where
+module _ {L : Type 0} (dialogue : L → List Piece) (functions : List Declared) (p : Program) (n : ℕ) (before : List Ended) where
   told_count : (m : Machine) (ask : Ask) (own : List Check) → IsRunning p n m ask → AreAsked p m own → length own ≡ length m.replies.items
   told_count m ask own running so_far =
       asked_count p m own so_far (subst (λ k. EachAnswered (walk (member_tree p k) (given m)) (given m)) (sym running.member) running.answered)
@@ -218,8 +219,8 @@ module _ {L : Type 0} (dialogue : L → List Piece) (p : Program) (n : ℕ) (bef
   pub at_done : (now : List Ended) (f g : ℕ) (lost : Bool) (child : Child L) (checks own : List Check) (m : Machine) (ask : Ask) (o : Outcome) (v : Verdict) (asked : ℕ)
       → IsRunning p n m ask → ask ≡ Done o → v ≡ verdict_of o → asked ≡ length m.replies.items
       → (lost ≡ true → m.replies.items ≡ [])
-      → (turns : List Turn) → Hears dialogue before now child (turns ++ turns_so_far p m) (checks ++ own) → AreAsked p m own
-      → Judges dialogue p n before now (HasCauseOf before now f g lost) lost child turns (λ x. asked_turns lost p n x v) checks asked v
+      → (turns : List Turn) → Hears dialogue functions before now child (turns ++ turns_so_far p m) (checks ++ own) → AreAsked p m own
+      → Judges dialogue functions p n before now (HasCauseOf before now f g lost) lost child turns (λ x. asked_turns lost p n x v) checks asked v
   at_done now f g lost child checks own m ask o v asked running is verdict_is asked_is silent turns heard so_far =
       let HasCause : Cause → Type 0 = HasCauseOf before now f g lost in
       let done = subst (λ a. Told a (walk (member_tree p n) (given m)) 100000 (length m.replies.items)) is running.told in
@@ -233,7 +234,7 @@ module _ {L : Type 0} (dialogue : L → List Piece) (p : Program) (n : ℕ) (bef
       turns_are p n m own running.member so_far ∙ (sym (append-nil (asks_of w.answered)) ∙ ap (λ x. asks_of w.answered ++ x) (sym none)) in
       record {
         own = own;
-        heard = subst (λ x. Hears dialogue before now child (turns ++ x) (checks ++ own)) all heard;
+        heard = subst (λ x. Hears dialogue functions before now child (turns ++ x) (checks ++ own)) all heard;
         count = count ∙ sym asked_is;
         told = told;
         spent = spent_after p n before now f g lost own v told (λ h. count ∙ ap length (silent h));
@@ -245,8 +246,8 @@ module _ {L : Type 0} (dialogue : L → List Piece) (p : Program) (n : ℕ) (bef
 
   pub at_fault : (now : List Ended) (f g : ℕ) (lost : Bool) (child : Child L) (checks own : List Check) (m : Machine) (ask : Ask) (q : Query) (t : Trouble) (v : Verdict) (asked : ℕ)
       → IsRunning p n m ask → ask ≡ Due q → IsFaultOf t v → IsCausedBy (HasCauseOf before now f g lost) t → asked ≡ length m.replies.items → (lost ≡ true → m.replies.items ≡ [])
-      → (turns : List Turn) → Hears dialogue before now child ((turns ++ turns_so_far p m) ++ tried_turn lost (query q)) (checks ++ own) → AreAsked p m own
-      → Judges dialogue p n before now (HasCauseOf before now f g lost) lost child turns (λ x. asked_turns lost p n x v) checks asked v
+      → (turns : List Turn) → Hears dialogue functions before now child ((turns ++ turns_so_far p m) ++ tried_turn lost (query q)) (checks ++ own) → AreAsked p m own
+      → Judges dialogue functions p n before now (HasCauseOf before now f g lost) lost child turns (λ x. asked_turns lost p n x v) checks asked v
   at_fault now f g lost child checks own m ask q t v asked running is fault caused asked_is silent turns heard so_far =
       let HasCause : Cause → Type 0 = HasCauseOf before now f g lost in
       let due = subst (λ a. Told a (walk (member_tree p n) (given m)) 100000 (length m.replies.items)) is running.told in
@@ -264,7 +265,7 @@ module _ {L : Type 0} (dialogue : L → List Piece) (p : Program) (n : ℕ) (bef
       ∙ ap (λ x. turns ++ x) (ap (λ x. x ++ tried_turn lost (query q)) (turns_are p n m own running.member so_far) ∙ ap (λ x. asks_of w.answered ++ x) (sym last)) in
       record {
         own = own;
-        heard = subst (λ x. Hears dialogue before now child x (checks ++ own)) all heard;
+        heard = subst (λ x. Hears dialogue functions before now child x (checks ++ own)) all heard;
         count = count ∙ sym asked_is;
         told = told;
         spent = spent_after p n before now f g lost own v told (λ h. count ∙ ap length (silent h));
@@ -272,55 +273,55 @@ module _ {L : Type 0} (dialogue : L → List Piece) (p : Program) (n : ℕ) (bef
 
   pub goes_on : (now : List Ended) (child : Child L) (checks own : List Check) (m m' : Machine) (ask ask' : Ask) (q : Query) (r : Reply)
       → IsRunning p n m ask → ask ≡ Due q → IsRunning p m.member.0 m' ask' → m'.replies.items ≡ m.replies.items ++ r ∷ [] → AreAsked p m own
-      → (turns : List Turn) → HearsOf dialogue before now child (turns ++ turns_so_far p m) (checks ++ own) (query q) r
-      → (own' : List Check) × Hears dialogue before now child (turns ++ turns_so_far p m') (checks ++ own') × AreAsked p m' own'
+      → (turns : List Turn) → HearsOf dialogue functions before now child (turns ++ turns_so_far p m) (checks ++ own) (query q) r
+      → (own' : List Check) × Hears dialogue functions before now child (turns ++ turns_so_far p m') (checks ++ own') × AreAsked p m' own'
   goes_on now child checks own m m' ask ask' q r running is next replies so_far turns more =
       let due = subst (λ a. Told a (walk (member_tree p n) (given m)) 100000 (length m.replies.items)) is running.told in
       let ending = subst (λ k. (walk (member_tree p k) (given m)).ending ≡ Open (query q)) (sym running.member) due.0 in
       let asked : (turns ++ turns_so_far p m) ++ Asks (query q).path (query q).condition ∷ [] ≡ turns ++ turns_so_far p m' =
       append_assoc turns (turns_so_far p m) (Asks (query q).path (query q).condition ∷ []) ∙ ap (λ x. turns ++ x) (sym (one_turn p m m' q r next.member replies ending)) in (
         own ++ more.0 ∷ [],
-        subst (λ x. Hears dialogue before now child (turns ++ turns_so_far p m') x) (append_assoc checks own (more.0 ∷ []))
-            (subst (λ x. Hears dialogue before now child x ((checks ++ own) ++ more.0 ∷ [])) asked more.1),
+        subst (λ x. Hears dialogue functions before now child (turns ++ turns_so_far p m') x) (append_assoc checks own (more.0 ∷ []))
+            (subst (λ x. Hears dialogue functions before now child x ((checks ++ own) ++ more.0 ∷ [])) asked more.1),
         one_asked p m m' q r own more.0 next.member replies ending so_far more.2,
       )
 
   -- the member is left
   pub leaves : (now : List Ended) (HasCause : Cause → Type 0) (lost : Bool) (child child' : Child L) (turns : List Turn) (checks : List Check) (asked : ℕ) (v : Verdict)
-      → Judges dialogue p n before now HasCause lost child turns (λ x. asked_turns lost p n x v) checks asked v → is_lost child ≡ (lost || is_faulted v)
-      → ((turns : List Turn) (checks : List Check) → Hears dialogue before now child turns checks → Hears dialogue before now child' (turns ++ left_turn (is_lost child)) checks)
-      → Judges dialogue p n before now HasCause lost child' turns (λ x. member_turns lost p n x v) checks asked v
+      → Judges dialogue functions p n before now HasCause lost child turns (λ x. asked_turns lost p n x v) checks asked v → is_lost child ≡ (lost || is_faulted v)
+      → ((turns : List Turn) (checks : List Check) → Hears dialogue functions before now child turns checks → Hears dialogue functions before now child' (turns ++ left_turn (is_lost child)) checks)
+      → Judges dialogue functions p n before now HasCause lost child' turns (λ x. member_turns lost p n x v) checks asked v
   leaves now HasCause lost child child' turns checks asked v judged gone left =
       let said = asked_turns lost p n judged.own v in
       let all : (turns ++ said) ++ left_turn (is_lost child) ≡ turns ++ member_turns lost p n judged.own v =
       append_assoc turns said (left_turn (is_lost child)) ∙ ap (λ b. turns ++ (said ++ left_turn b)) gone in
       record {
         own = judged.own;
-        heard = subst (λ x. Hears dialogue before now child' x (checks ++ judged.own)) all (left (turns ++ said) (checks ++ judged.own) judged.heard);
+        heard = subst (λ x. Hears dialogue functions before now child' x (checks ++ judged.own)) all (left (turns ++ said) (checks ++ judged.own) judged.heard);
         count = judged.count;
         told = judged.told;
         spent = judged.spent;
       }
 
   pub judges_at : (now later : List Ended) (f g h : ℕ) (lost : Bool) (child child' : Child L) (turns : List Turn) (checks : List Check) (asked : ℕ) (v : Verdict) → now ≡ later → g ≡ h
-      → Judges dialogue p n before now (HasCauseOf before now f g lost) lost child turns (λ x. asked_turns lost p n x v) checks asked v → is_lost child ≡ (lost || is_faulted v)
-      → ((turns : List Turn) (checks : List Check) → Hears dialogue before now child turns checks → Hears dialogue before later child' (turns ++ left_turn (is_lost child)) checks)
-      → Judges dialogue p n before later (HasCauseOf before later f h lost) lost child' turns (λ x. member_turns lost p n x v) checks asked v
+      → Judges dialogue functions p n before now (HasCauseOf before now f g lost) lost child turns (λ x. asked_turns lost p n x v) checks asked v → is_lost child ≡ (lost || is_faulted v)
+      → ((turns : List Turn) (checks : List Check) → Hears dialogue functions before now child turns checks → Hears dialogue functions before later child' (turns ++ left_turn (is_lost child)) checks)
+      → Judges dialogue functions p n before later (HasCauseOf before later f h lost) lost child' turns (λ x. member_turns lost p n x v) checks asked v
   judges_at now later f g h lost child child' turns checks asked v same faults judged gone left =
-      subst (λ k. Judges dialogue p n before later (HasCauseOf before later f k lost) lost child' turns (λ x. member_turns lost p n x v) checks asked v) faults
-      (subst (λ e. Judges dialogue p n before e (HasCauseOf before e f g lost) lost child' turns (λ x. member_turns lost p n x v) checks asked v) same
+      subst (λ k. Judges dialogue functions p n before later (HasCauseOf before later f k lost) lost child' turns (λ x. member_turns lost p n x v) checks asked v) faults
+      (subst (λ e. Judges dialogue functions p n before e (HasCauseOf before e f g lost) lost child' turns (λ x. member_turns lost p n x v) checks asked v) same
       (leaves now (HasCauseOf before now f g lost) lost child child' turns checks asked v judged gone
-      (λ turns checks heard. subst (λ e. Hears dialogue before e child' (turns ++ left_turn (is_lost child)) checks) (sym same) (left turns checks heard))))
+      (λ turns checks heard. subst (λ e. Hears dialogue functions before e child' (turns ++ left_turn (is_lost child)) checks) (sym same) (left turns checks heard))))
 
   pub still_running : (m m' : Machine) (ask ask' : Ask) → IsRunning p n m ask → IsRunning p m.member.0 m' ask' → IsRunning p n m' ask'
   still_running m m' ask ask' running next = subst (λ k. IsRunning p k m' ask') running.member next
 
 -- before its first question
-pub hears_none : {L : Type 0} (dialogue : L → List Piece) (before now : List Ended) (child : Child L) (turns : List Turn) (checks : List Check) (more : List Turn) → more ≡ []
-    → Hears dialogue before now child turns checks → Hears dialogue before now child (turns ++ more) (checks ++ [])
-hears_none dialogue before now child turns checks more none heard =
-    subst (λ x. Hears dialogue before now child x (checks ++ [])) (sym (ap (λ x. turns ++ x) none ∙ append-nil turns))
-    (subst (λ x. Hears dialogue before now child turns x) (sym (append-nil checks)) heard)
+pub hears_none : {L : Type 0} (dialogue : L → List Piece) (functions : List Declared) (before now : List Ended) (child : Child L) (turns : List Turn) (checks : List Check) (more : List Turn) → more ≡ []
+    → Hears dialogue functions before now child turns checks → Hears dialogue functions before now child (turns ++ more) (checks ++ [])
+hears_none dialogue functions before now child turns checks more none heard =
+    subst (λ x. Hears dialogue functions before now child x (checks ++ [])) (sym (ap (λ x. turns ++ x) none ∙ append-nil turns))
+    (subst (λ x. Hears dialogue functions before now child turns x) (sym (append-nil checks)) heard)
 
 pub one_longer : {A : Type 0} (xs : List A) (x : A) → length (xs ++ x ∷ []) ≡ length xs + 1
 one_longer [] x = refl

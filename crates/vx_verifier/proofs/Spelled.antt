@@ -1,7 +1,7 @@
--- In a supported program each question can be asked: each name in it is spelled as a symbol, and each symbol has its sorts.
+-- In a typed program each question can be asked: each name in it is spelled as a symbol, and each symbol has its sorts.
 use Rattle.std.proofs.Common.{◌≡◌, ℕ, Bool, true, false, List, [], ◌∷◌, ◌++◌, Option, Some, None, slice_get, if◌then◌else◌, refl}
 use Rattle.vx_ast.specs.Syntax.{Program, Member}
-use Rattle.vx_terms.specs.Sorts.{Sort, IntSort, BoolSort, RealSort, RefSort, SnapSort, OtherSort, Symbol, Standard, Function, Variable, Named}
+use Rattle.vx_terms.specs.Sorts.{Sort, BoolSort, Symbol, Standard, Function, Variable, Named}
 use Rattle.vx_terms.specs.Terms.{Term, Truth, Number, Part, Constant, Apply, Not, Binary, Ite, AllOf, SomeOf, Terms, NoTerms, MoreTerms}
 use Rattle.vx_terms.specs.Build.{negate}
 use Rattle.vx_terms.specs.Formed.{Formed}
@@ -9,21 +9,23 @@ use Rattle.vx_terms.specs.Interpretations.{Each}
 use Rattle.vx_terms.proofs.Build.{negate_formed}
 use Rattle.vx_elements.proofs.Lists.{each_map}
 use Rattle.vx_smt_meaning.specs.Commands.{Declared, Assert, Push}
-use Rattle.vx_smt_meaning.specs.Names.{IsName, IsSortName, AreNames, AllAreNames, AreCommands}
+use Rattle.vx_smt_meaning.specs.Names.{IsName, AreNames, AllAreNames, AreCommands}
 use Rattle.vx_dialogue.specs.Preamble.{declarations}
 use Rattle.vx_dialogue.specs.Scripts.{assertions, symbols_of}
 use Rattle.vx_dialogue.specs.Symbols.{variable, declares, with_variable, with_symbol, with_variables, with_all_variables, with_listed}
 use Rattle.vx_dialogue.proofs.Steady.{commands_join}
 use Rattle.vx_rules.specs.Trees.{Question, Tree, End, Impossible, On, Step, Ask, Probe, Fork}
 use Rattle.vx_machine.specs.Runs.{tree_of, member_tree}
+use Rattle.vx_whole.specs.Premises.{IsTypedProgram}
+use Rattle.vx_live.specs.Functions.{function_symbols}
 use Rattle.vx_live.specs.Live.{IsBuiltIn, IsLive, AllLive}
 use Rattle.vx_live.proofs.Nameless.{IsNumbered, IsNameless, AreNameless, negate_nameless, condition_nameless, path_nameless}
 use Rattle.vx_live.proofs.Bools.{path_bool, negated_bool}
-use Rattle.vx_live.proofs.LiveMembers.{instances_live}
-use Rattle.vx_dialogue.specs.Askable.{IsOfFive, IsAskable}
+use Rattle.vx_live.proofs.Over.{IsOfFunction}
+use Rattle.vx_live.proofs.LiveMembers.{functions_only, members_live}
 use Rattle.vx_verifier.proofs.Askable.{AllAsk}
-use Rattle.vx_verifier.proofs.Sorted.{IsSorted, IsFine}
-use Rattle.vx_verifier.specs.Headline.{IsSupported}
+use Rattle.vx_verifier.proofs.Sorted.{IsFine}
+use Rattle.vx_verifier.proofs.FunctionSymbols.{built_name}
 use Rattle.vx_verifier.specs.Steady.{IsSpelled, AllSpelled, AsksSpelled}
 
 numbered_name : (f : Symbol) → IsNumbered f → IsName f
@@ -31,14 +33,6 @@ numbered_name (Standard n) h = tt
 numbered_name (Function n) h = tt
 numbered_name (Variable n) h = tt
 numbered_name (Named x) h = absurd h
-
-built_name : (a : Sort) → IsBuiltIn a → IsSortName a
-built_name IntSort h = tt
-built_name BoolSort h = tt
-built_name RealSort h = tt
-built_name RefSort h = tt
-built_name SnapSort h = tt
-built_name (OtherSort x) h = absurd h
 
 mutual
   nameless_names : (t : Term) → IsNameless t → AreNames t
@@ -101,72 +95,61 @@ asserted_path : (path : List Term) → Each IsNameless path → AreCommands (ass
 asserted_path [] n = tt
 asserted_path (t ∷ path) n = (nameless_names t n.0, asserted_path path n.1)
 
-live_spelled : (q : Question) → IsLive [] q → IsSpelled q
-live_spelled q live =
-    let negated = negate_nameless q.condition (condition_nameless [] tt q live) in
-    let declared : AreCommands (declarations (symbols_of q.path (negate q.condition))) = declared_term (negate q.condition) (with_listed [] q.path) negated (declared_path q.path [] (path_nameless [] tt q live) tt) in
-    let opened = commands_join (Push 1 ∷ Push 1 ∷ []) (declarations (symbols_of q.path (negate q.condition))) (tt, (tt, tt)) declared in
-    let asserted = commands_join ((Push 1 ∷ Push 1 ∷ []) ++ declarations (symbols_of q.path (negate q.condition))) (assertions q.path) opened (asserted_path q.path (path_nameless [] tt q live)) in
-    commands_join (((Push 1 ∷ Push 1 ∷ []) ++ declarations (symbols_of q.path (negate q.condition))) ++ assertions q.path) (Assert (negate q.condition) ∷ []) asserted
-    (nameless_names (negate q.condition) negated, tt)
+-- where the symbols beside the standard ones are those of functions
+module _ (functions : List Declared) (of_functions : Each IsOfFunction functions) where
+  live_spelled : (q : Question) → IsLive functions q → IsSpelled q
+  live_spelled q live =
+      let negated = negate_nameless q.condition (condition_nameless functions of_functions q live) in
+      let along = path_nameless functions of_functions q live in
+      let declared : AreCommands (declarations (symbols_of q.path (negate q.condition))) = declared_term (negate q.condition) (with_listed [] q.path) negated (declared_path q.path [] along tt) in
+      let opened = commands_join (Push 1 ∷ Push 1 ∷ []) (declarations (symbols_of q.path (negate q.condition))) (tt, (tt, tt)) declared in
+      let asserted = commands_join ((Push 1 ∷ Push 1 ∷ []) ++ declarations (symbols_of q.path (negate q.condition))) (assertions q.path) opened (asserted_path q.path along) in
+      commands_join (((Push 1 ∷ Push 1 ∷ []) ++ declarations (symbols_of q.path (negate q.condition))) ++ assertions q.path) (Assert (negate q.condition) ∷ []) asserted
+      (nameless_names (negate q.condition) negated, tt)
 
--- ---- trees and members
+  -- ---- trees and members
 
-all_spelled : (t : Tree) → AllLive [] t → AllSpelled t
-all_spelled End live = tt
-all_spelled (Impossible s) live = tt
-all_spelled (On t s) live = tt
-all_spelled (Step t) live = all_spelled t live
-all_spelled (Ask q t) live = (live_spelled q live.0, all_spelled t live.1)
-all_spelled (Probe q a b) live = (live_spelled q live.0, all_spelled a live.1, all_spelled b live.2)
-all_spelled (Fork a b) live = (all_spelled a live.0, all_spelled b live.1)
+  all_spelled : (t : Tree) → AllLive functions t → AllSpelled t
+  all_spelled End live = tt
+  all_spelled (Impossible s) live = tt
+  all_spelled (On t s) live = tt
+  all_spelled (Step t) live = all_spelled t live
+  all_spelled (Ask q t) live = (live_spelled q live.0, all_spelled t live.1)
+  all_spelled (Probe q a b) live = (live_spelled q live.0, all_spelled a live.1, all_spelled b live.2)
+  all_spelled (Fork a b) live = (all_spelled a live.0, all_spelled b live.1)
 
-five : (a : Sort) → IsBuiltIn a → IsOfFive a
-five IntSort h = tt
-five BoolSort h = tt
-five RealSort h = tt
-five RefSort h = tt
-five SnapSort h = tt
-five (OtherSort x) h = h
+  fine : (q : Question) → IsLive functions q → IsFine functions q.path q.condition
+  fine q live = record {
+    sorts = live.sorts;
+    built_in = live.built_in;
+    path_over = live.path_over;
+    over = live.condition_over;
+    spelled = live_spelled q live;
+    path_bool = path_bool functions q live;
+    bool = negated_bool functions q live;
+    along = each_map (λ (t : Term). Formed live.next t BoolSort) (λ (t : Term). (n : ℕ) × Formed n t BoolSort) (λ t f. (live.next, f)) q.path live.path;
+    negated = (live.next, negate_formed live.condition);
+  }
 
-askable : (q : Question) → IsLive [] q → IsAskable q.path q.condition
-askable q live = record {
-  sorts = live.sorts;
-  five = λ n. five (live.sorts n) (live.built_in n);
-  path_over = live.path_over;
-  over = live.condition_over;
-  path_bool = path_bool [] q live;
-  bool = negated_bool [] q live;
-}
-
-sorted : (q : Question) → IsLive [] q → IsSorted q.path q.condition
-sorted q live = record {
-  along = each_map (λ (t : Term). Formed live.next t BoolSort) (λ (t : Term). (n : ℕ) × Formed n t BoolSort) (λ t f. (live.next, f)) q.path live.path;
-  negated = (live.next, negate_formed live.condition);
-}
-
-fine : (q : Question) → IsLive [] q → IsFine q.path q.condition
-fine q live = (askable q live, sorted q live)
-
-all_fine : (t : Tree) → AllLive [] t → AllAsk IsFine t
-all_fine End live = tt
-all_fine (Impossible s) live = tt
-all_fine (On t s) live = tt
-all_fine (Step t) live = all_fine t live
-all_fine (Ask q t) live = (fine q live.0, all_fine t live.1)
-all_fine (Probe q a b) live = (fine q live.0, all_fine a live.1, all_fine b live.2)
-all_fine (Fork a b) live = (all_fine a live.0, all_fine b live.1)
+  all_fine : (t : Tree) → AllLive functions t → AllAsk (IsFine functions) t
+  all_fine End live = tt
+  all_fine (Impossible s) live = tt
+  all_fine (On t s) live = tt
+  all_fine (Step t) live = all_fine t live
+  all_fine (Ask q t) live = (fine q live.0, all_fine t live.1)
+  all_fine (Probe q a b) live = (fine q live.0, all_fine a live.1, all_fine b live.2)
+  all_fine (Fork a b) live = (all_fine a live.0, all_fine b live.1)
 
 -- each question of the members is live
-supported_live : (p : Program) → IsSupported p → (n : ℕ) → AllLive [] (member_tree p n)
-supported_live p supported n = by_member (slice_get p n) refl
+trees_live : (p : Program) → IsTypedProgram p → (n : ℕ) → AllLive (function_symbols p) (member_tree p n)
+trees_live p typed n = by_member (slice_get p n) refl
   where
-    by_member : (o : Option Member) → slice_get p n ≡ o → AllLive [] (tree_of p o)
+    by_member : (o : Option Member) → slice_get p n ≡ o → AllLive (function_symbols p) (tree_of p o)
     by_member None at = tt
-    by_member (Some x) at = instances_live p x.name x.kind supported.typed (supported.typed.names n x at) (λ y l c e. supported.members y l e)
+    by_member (Some x) at = members_live p x.name x.kind typed (typed.names n x at)
 
-pub supported_spelled : (p : Program) → IsSupported p → AsksSpelled p
-supported_spelled p supported n = all_spelled (member_tree p n) (supported_live p supported n)
+pub typed_spelled : (p : Program) → IsTypedProgram p → AsksSpelled p
+typed_spelled p typed n = all_spelled (function_symbols p) (functions_only p) (member_tree p n) (trees_live p typed n)
 
-pub supported_fine : (p : Program) → IsSupported p → (n : ℕ) → AllAsk IsFine (member_tree p n)
-supported_fine p supported n = all_fine (member_tree p n) (supported_live p supported n)
+pub typed_fine : (p : Program) → IsTypedProgram p → (n : ℕ) → AllAsk (IsFine (function_symbols p)) (member_tree p n)
+typed_fine p typed n = all_fine (function_symbols p) (functions_only p) (member_tree p n) (trees_live p typed n)

@@ -11,7 +11,8 @@ use Rattle.vx_smt_meaning.specs.Names.{AreCommands}
 use Rattle.vx_smt_meaning.specs.declared.reply.Reply.{Reply}
 use Rattle.vx_smt_meaning.specs.declared.reply.Reply.TheVariants.{Unsat, Sat, Unknown}
 use Rattle.vx_dialogue.specs.declared.dialogue.Dialogue.{Dialogue}
-use Rattle.vx_dialogue.specs.Scripts.{Turn, Asks, Posts, Leaves, question, posted, closing, script, is_inside_after}
+use Rattle.vx_dialogue.specs.Preamble.{declarations, front}
+use Rattle.vx_dialogue.specs.Scripts.{Turn, Asks, Posts, Leaves, preamble, question, posted, closing, script, is_inside_after}
 use Rattle.vx_dialogue.specs.Dialogue.{Stands, link_of, base_of, check_of}
 use Rattle.vx_dialogue.specs.Steady.{IsSteady}
 use Rattle.vx_dialogue.proofs.Joined.{append_none}
@@ -21,33 +22,37 @@ use Rattle.vx_rules.specs.Trees.{Question, Tree, End, Impossible, On, Step, Ask,
 use Rattle.vx_verifier.specs.declared.lane.Child.{Child}
 use Rattle.vx_verifier.specs.declared.lane.Child.TheVariants.{NotStarted, Talking}
 use Rattle.vx_verifier.specs.Causes.{NoCountRose}
-use Rattle.vx_verifier.specs.Steady.{IsSpelled, AllSpelled, IsSteadyChild, IsCalmLane}
+use Rattle.vx_verifier.specs.Steady.{AreSpelled, IsSpelled, AllSpelled, IsSteadyChild, IsCalmLane}
 
 each_more : (P : Ending → Type 0) (xs : List Ending) (e : Ending) → Each P xs → P e → Each P (xs ++ e ∷ [])
 each_more P [] e all one = (one, tt)
 each_more P (x ∷ xs) e all one = (all.0, each_more P xs e all.1 one)
 
+-- the names in what is said first
+pub begun_named : (functions : List Declared) → AreSpelled functions → AreCommands (preamble false functions)
+begun_named functions spelled = commands_join (front false) (declarations functions) preamble_named spelled
+
 -- the names in what was said, and a question more
-pub said_named : (turns : List Turn) (path : List Term) (q : Question) → path ≡ q.path → IsSpelled q → AreCommands (script false [] turns)
-    → AreCommands (script false [] (turns ++ Posts path q.condition ∷ []))
-said_named turns path q is spelled named =
+pub said_named : (functions : List Declared) (turns : List Turn) (path : List Term) (q : Question) → path ≡ q.path → IsSpelled q → AreCommands (script false functions turns)
+    → AreCommands (script false functions (turns ++ Posts path q.condition ∷ []))
+said_named functions turns path q is spelled named =
     let inside = is_inside_after turns in
     let asked = question_named inside path q.condition (subst (λ x. AreCommands (question false x q.condition)) (sym is) spelled) in
-    subst AreCommands (sym (script_more false [] turns (Posts path q.condition)))
-    (commands_join (script false [] turns) (posted inside path q.condition) named (commands_join (question inside path q.condition) (CheckSat ∷ []) asked (tt, tt)))
+    subst AreCommands (sym (script_more false functions turns (Posts path q.condition)))
+    (commands_join (script false functions turns) (posted inside path q.condition) named (commands_join (question inside path q.condition) (CheckSat ∷ []) asked (tt, tt)))
 
 -- and it is asked
-pub asked_named : (turns : List Turn) (path : List Term) (q : Question) → path ≡ q.path → IsSpelled q → AreCommands (script false [] turns)
-    → AreCommands (script false [] (turns ++ Asks path q.condition ∷ []))
-asked_named turns path q is spelled named =
-    subst AreCommands (sym (script_asked false [] turns path q.condition))
-    (commands_join (script false [] (turns ++ Posts path q.condition ∷ [])) (Pop 1 ∷ []) (said_named turns path q is spelled named) (tt, tt))
+pub asked_named : (functions : List Declared) (turns : List Turn) (path : List Term) (q : Question) → path ≡ q.path → IsSpelled q → AreCommands (script false functions turns)
+    → AreCommands (script false functions (turns ++ Asks path q.condition ∷ []))
+asked_named functions turns path q is spelled named =
+    subst AreCommands (sym (script_asked false functions turns path q.condition))
+    (commands_join (script false functions (turns ++ Posts path q.condition ∷ [])) (Pop 1 ∷ []) (said_named functions turns path q is spelled named) (tt, tt))
 
 -- the member is left
-pub left_named : (turns : List Turn) → AreCommands (script false [] turns) → AreCommands (script false [] (turns ++ Leaves ∷ []))
-left_named turns named =
-    subst AreCommands (sym (script_more false [] turns Leaves))
-    (commands_join (script false [] turns) (closing (is_inside_after turns)) named (closing_named (is_inside_after turns)))
+pub left_named : (functions : List Declared) (turns : List Turn) → AreCommands (script false functions turns) → AreCommands (script false functions (turns ++ Leaves ∷ []))
+left_named functions turns named =
+    subst AreCommands (sym (script_more false functions turns Leaves))
+    (commands_join (script false functions turns) (closing (is_inside_after turns)) named (closing_named (is_inside_after turns)))
 
 module _ {L : Type 0} (dialogue : L → List Piece) (steady_link : L → Bool) (faults_of : L → ℕ) (before : List Ending) (count : ℕ) where
   abbrev Calm : (now : List Ending) (steady : Bool) (faults : ℕ) → Child L → Type 0
@@ -81,16 +86,16 @@ module _ {L : Type 0} (dialogue : L → List Piece) (steady_link : L → Bool) (
   calm_at now s f a b is calm = subst (λ (x : Child L). Calm now s f x) is calm
 
   -- a child talks, with its preamble said
-  pub opened : (d : Dialogue L) → IsSteady steady_link faults_of (link_of d) → Stands dialogue false [] [] d []
+  pub opened : (functions : List Declared) (d : Dialogue L) → AreSpelled functions → IsSteady steady_link faults_of (link_of d) → Stands dialogue false functions [] d []
       → IsSteadyChild dialogue steady_link faults_of (Talking d)
-  opened d steady stands = (steady, [], [], stands, subst AreCommands (sym (script_none false [])) preamble_named)
+  opened functions d spelled steady stands = (steady, functions, [], [], stands, subst AreCommands (sym (script_none false functions)) (begun_named functions spelled))
 
   -- a question keeps its link steady
   pub asks_steady : (d : Dialogue L) (link : L) (q : Question) (path : List Term) → path ≡ q.path → IsSpelled q
       → (IsSteady steady_link faults_of (link_of d) → (certify : Bool) (functions : List Declared) (turns : List Turn) (checks : List Check) → Stands dialogue certify functions turns d checks
       → AreCommands (script certify functions (turns ++ Posts path q.condition ∷ [])) → IsSteady steady_link faults_of link)
       → IsSteadyChild dialogue steady_link faults_of (Talking d) → IsSteady steady_link faults_of link
-  asks_steady d link q path is spelled on child = on child.0 false [] child.1 child.2 child.3 (said_named child.1 path q is spelled child.4)
+  asks_steady d link q path is spelled on child = on child.0 false child.1 child.2 child.3 child.4 (said_named child.1 child.2 path q is spelled child.5)
 
   -- and is answered
   pub asked_steady : (d d' : Dialogue L) (q : Question) (path : List Term) (r : Reply) → path ≡ q.path → IsSpelled q
@@ -100,11 +105,12 @@ module _ {L : Type 0} (dialogue : L → List Piece) (steady_link : L → Bool) (
       → Stands dialogue certify functions (turns ++ Asks path q.condition ∷ []) d' (checks ++ check_of (base_of certify functions) path q.condition r ∷ []))
       → IsSteadyChild dialogue steady_link faults_of (Talking d) → IsSteadyChild dialogue steady_link faults_of (Talking d')
   asked_steady d d' q path r is spelled on answer child = (
-    on child.0 false [] child.1 child.2 child.3 (said_named child.1 path q is spelled child.4),
-    child.1 ++ Asks path q.condition ∷ [],
-    child.2 ++ check_of (base_of false []) path q.condition r ∷ [],
-    answer false [] child.1 child.2 child.3,
-    asked_named child.1 path q is spelled child.4,
+    on child.0 false child.1 child.2 child.3 child.4 (said_named child.1 child.2 path q is spelled child.5),
+    child.1,
+    child.2 ++ Asks path q.condition ∷ [],
+    child.3 ++ check_of (base_of false child.1) path q.condition r ∷ [],
+    answer false child.1 child.2 child.3 child.4,
+    asked_named child.1 child.2 path q is spelled child.5,
   )
 
   -- the member is left
@@ -114,10 +120,11 @@ module _ {L : Type 0} (dialogue : L → List Piece) (steady_link : L → Bool) (
       → IsSteadyChild dialogue steady_link faults_of (Talking d) → IsSteadyChild dialogue steady_link faults_of (Talking d')
   left_steady d d' same on child = (
     subst (IsSteady steady_link faults_of) (sym same) child.0,
-    child.1 ++ Leaves ∷ [],
-    child.2,
-    on false [] child.1 child.2 child.3,
-    left_named child.1 child.4,
+    child.1,
+    child.2 ++ Leaves ∷ [],
+    child.3,
+    on false child.1 child.2 child.3 child.4,
+    left_named child.1 child.2 child.5,
   )
 
   -- the spawner is steady at first

@@ -10,7 +10,7 @@ use Rattle.vx_terms.specs.Interpretations.{Each}
 use Rattle.vx_meaning.specs.Fails.{Fails}
 use Rattle.vx_types.specs.InstanceLanguage.{IsInstanceMember}
 use Rattle.vx_whole.specs.Premises.{IsTypedProgram}
-use Rattle.vx_smt_meaning.specs.Commands.{Command, Assert}
+use Rattle.vx_smt_meaning.specs.Commands.{Command, Declared, Assert}
 use Rattle.vx_smt_meaning.specs.Dialogues.{Check}
 use Rattle.vx_smt_meaning.specs.WellFormed.{IsWellFormed}
 use Rattle.vx_ends.specs.declared.piece.Ending.{Ending}
@@ -19,6 +19,7 @@ use Rattle.vx_dialogue.specs.Scripts.{Turn, Asks, Posts, Leaves, script}
 use Rattle.vx_rules.specs.Trees.{Question, Answered, Ending as Ends, Passed, Failed, Open, Walked, walk}
 use Rattle.vx_rules.specs.Codes.{code}
 use Rattle.vx_machine.specs.Runs.{member_tree}
+use Rattle.vx_live.specs.Functions.{function_symbols}
 use Rattle.vx_report.specs.declared.run.Cause.{Cause}
 use Rattle.vx_report.specs.declared.run.Cause.TheVariants as cause
 use Rattle.vx_report.specs.declared.run.Verdict.{Verdict}
@@ -130,10 +131,10 @@ lost_after lost [] = lost
 lost_after lost (r ∷ runs) = lost_after (lost || is_faulted r.verdict) runs
 
 -- The links that were handed back since tell of these turns and checks: there is none, where there are no checks; else the one of lane 0. What was sent there is the text
--- of exactly these turns, with no proof asked for and no symbol f; where it failed, a beginning of it.
-abbrev pub IsRecorded : (failed : Bool) → (before now : List Ending) → List Turn → List Check → Type 0
-IsRecorded failed before now turns checks =
-    ((now ≡ before) × (checks ≡ [])) ⊎ ((ending : Ending) × (now ≡ before ++ ending ∷ []) × (ending.lane ≡ 0) × Tells failed (script false [] turns) ending.dialogue checks)
+-- of exactly these turns, with no proof asked for, behind the declarations of these symbols f; where it failed, a beginning of it.
+abbrev pub IsRecorded : (functions : List Declared) → (failed : Bool) → (before now : List Ending) → List Turn → List Check → Type 0
+IsRecorded functions failed before now turns checks =
+    ((now ≡ before) × (checks ≡ [])) ⊎ ((ending : Ending) × (now ≡ before ++ ending ∷ []) × (ending.lane ≡ 0) × Tells failed (script false functions turns) ending.dialogue checks)
 
 -- the checks of a run: so many, from its first on
 abbrev pub sequence_of : MemberRun → List Check → List Check
@@ -168,14 +169,14 @@ abbrev pub IsWellSorted : Command → Type 0
 IsWellSorted (Assert t) = (n : ℕ) × Formed n t BoolSort
 IsWellSorted c = ⊤
 
--- The promise: a run for each member that has a line, in file order, by the replies that the record of the one child tells, which was asked exactly the questions of the members' walks;
--- a member whose walk passed is verified, or rests on the first that it leads to whose walk didn't.
+-- The promise: a run for each member that has a line, in file order, by the replies that the record of the one child tells, which was told the symbols of the program's functions, and asked
+-- exactly the questions of the members' walks; a member whose walk passed is verified, or rests on the first that it leads to whose walk didn't.
 pub record Headline (p : Program) (before now : List Ending) (faults_then faults_now : ℕ) (runs : List MemberRun) : Type 0 where
   pub checks : List Check
-  pub recorded : IsRecorded (lost_after false runs) before now (turns_of false p runs checks) checks
+  pub recorded : IsRecorded (function_symbols p) (lost_after false runs) before now (turns_of false p runs checks) checks
   -- names are spelled, each symbol is declared before it is used, with its sorts, and no live one again; what is asserted is of sort Bool
-  pub well_formed : IsWellFormed (script false [] (turns_of false p runs checks))
-  pub sorted : Each IsWellSorted (script false [] (turns_of false p runs checks))
+  pub well_formed : IsWellFormed (script false (function_symbols p) (turns_of false p runs checks))
+  pub sorted : Each IsWellSorted (script false (function_symbols p) (turns_of false p runs checks))
   pub each : members_of runs ≡ lines p
   pub told : AreTold p before now faults_then faults_now false 0 runs checks
   pub rested : AreRested p runs

@@ -1,6 +1,7 @@
 -- What holds of a lane between two questions.
 use Rattle.std.specs.Prelude.{◌≡◌, ℕ, ◌<◌, ⊤, Bool, true, false, List, [], ◌∷◌, ◌++◌, length}
 use Rattle.vx_ast.specs.Syntax.{Program}
+use Rattle.vx_smt_meaning.specs.Commands.{Declared}
 use Rattle.vx_smt_meaning.specs.Dialogues.{Check}
 use Rattle.vx_smt_meaning.specs.Names.{AreCommands}
 use Rattle.vx_ends.specs.declared.piece.Piece.{Piece}
@@ -55,20 +56,21 @@ is_started (Talking d) = true
 is_started Lost = true
 
 -- These turns say nothing, as long as no child is started.
-pub record AreSilent (turns : List Turn) : Type 0 where
-  pub none : script false [] turns ≡ script false [] []
+pub record AreSilent (functions : List Declared) (turns : List Turn) : Type 0 where
+  pub none : script false functions turns ≡ script false functions []
   pub outside : is_inside_after turns ≡ false
 
--- These are the turns and the checks of the lane's child so far, with the links that were handed back before and by now. The names in what was said to a child that talks are spelled.
-abbrev pub Hears : {L : Type 0} → (L → List Piece) → (before now : List Ending) → Child L → List Turn → List Check → Type 0
-Hears dialogue before now NotStarted turns checks = (now ≡ before) × (checks ≡ []) × AreSilent turns
-Hears dialogue before now (Talking d) turns checks = (now ≡ before) × Stands dialogue false [] turns d checks × AreCommands (script false [] turns)
-Hears dialogue before now Lost turns checks = IsRecorded true before now turns checks
+-- These are the turns and the checks of the lane's child so far, which is told these symbols of functions first, with the links that were handed back before and by now. The names in what was said
+-- to a child that talks are spelled.
+abbrev pub Hears : {L : Type 0} → (L → List Piece) → (functions : List Declared) → (before now : List Ending) → Child L → List Turn → List Check → Type 0
+Hears dialogue functions before now NotStarted turns checks = (now ≡ before) × (checks ≡ []) × AreSilent functions turns
+Hears dialogue functions before now (Talking d) turns checks = (now ≡ before) × Stands dialogue false functions turns d checks × AreCommands (script false functions turns)
+Hears dialogue functions before now Lost turns checks = IsRecorded functions true before now turns checks
 
 -- one turn and one check more, of this question with this reply
-abbrev pub HearsOf : {L : Type 0} → (L → List Piece) → (before now : List Ending) → Child L → List Turn → List Check → Question → Reply → Type 0
-HearsOf dialogue before now child turns checks q r =
-    (check : Check) × Hears dialogue before now child (turns ++ Asks q.path q.condition ∷ []) (checks ++ check ∷ []) × IsCheckOf (record { question = q; reply = r }) check
+abbrev pub HearsOf : {L : Type 0} → (L → List Piece) → (functions : List Declared) → (before now : List Ending) → Child L → List Turn → List Check → Question → Reply → Type 0
+HearsOf dialogue functions before now child turns checks q r =
+    (check : Check) × Hears dialogue functions before now child (turns ++ Asks q.path q.condition ∷ []) (checks ++ check ∷ []) × IsCheckOf (record { question = q; reply = r }) check
 
 -- the command is started, once, or not
 abbrev pub StartsWhere : Bool → (before now : List Start) → Start → Type 0
@@ -100,9 +102,9 @@ tried_turn true q = []
 tried_turn false q = Posts q.path q.condition ∷ []
 
 -- No reply came to this question: the links handed back tell of the turns and checks before; and there is a cause.
-abbrev pub Loses : (before now : List Ending) → (faults_then faults_now : ℕ) → (lost : Bool) → List Turn → List Check → Question → Trouble → Type 0
-Loses before now faults_then faults_now lost turns checks q t =
-    IsRecorded true before now (turns ++ tried_turn lost q) checks × IsCausedBy (HasCauseOf before now faults_then faults_now lost) t
+abbrev pub Loses : (functions : List Declared) → (before now : List Ending) → (faults_then faults_now : ℕ) → (lost : Bool) → List Turn → List Check → Question → Trouble → Type 0
+Loses functions before now faults_then faults_now lost turns checks q t =
+    IsRecorded functions true before now (turns ++ tried_turn lost q) checks × IsCausedBy (HasCauseOf before now faults_then faults_now lost) t
 
 -- a fault is the member's verdict, with its cause
 abbrev pub IsFaultOf : Trouble → Verdict → Type 0
@@ -139,10 +141,10 @@ pub record AreAsked (p : Program) (machine : Machine) (own : List Check) : Type 
   pub checks : AreChecksOf (walk (member_tree p machine.member.0) (given machine)).answered own
 
 -- A member's execution came to this verdict after so many checks of its own, and these turns more.
-pub record Judges {L : Type 0} (dialogue : L → List Piece) (p : Program) (n : ℕ) (before now : List Ending) (HasCause : Cause → Type 0) (lost : Bool) (child : Child L)
+pub record Judges {L : Type 0} (dialogue : L → List Piece) (functions : List Declared) (p : Program) (n : ℕ) (before now : List Ending) (HasCause : Cause → Type 0) (lost : Bool) (child : Child L)
     (turns : List Turn) (more : List Check → List Turn) (checks : List Check) (asked : ℕ) (v : Verdict) : Type 0 where
   pub own : List Check
-  pub heard : Hears dialogue before now child (turns ++ more own) (checks ++ own)
+  pub heard : Hears dialogue functions before now child (turns ++ more own) (checks ++ own)
   pub count : length own ≡ asked
   pub told : IsTold p n HasCause own v
   pub spent : IsSpentAfter lost p n own v
@@ -156,10 +158,10 @@ abbrev pub Later : List Ending → List Ending → Type 0
 Later old new = (front : List Ending) → Handed front old → Handed front new
 
 -- The members so far: their checks are those of the lane's child, so many, and each is told by its own.
-pub record Executes {L : Type 0} (dialogue : L → List Piece) (p : Program) (before now : List Ending) (faults_then faults_now : ℕ) (child : Child L) (asked : ℕ)
+pub record Executes {L : Type 0} (dialogue : L → List Piece) (functions : List Declared) (p : Program) (before now : List Ending) (faults_then faults_now : ℕ) (child : Child L) (asked : ℕ)
     (runs : List MemberRun) : Type 0 where
   pub checks : List Check
-  pub heard : Hears dialogue before now child (turns_of false p runs checks) checks
+  pub heard : Hears dialogue functions before now child (turns_of false p runs checks) checks
   pub count : length checks ≡ asked
   pub told : AreTold p before now faults_then faults_now false 0 runs checks
   pub lost : is_lost child ≡ lost_after false runs

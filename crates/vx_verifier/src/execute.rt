@@ -1,17 +1,19 @@
 //! The members of a program, each executed by the machine and its questions asked of the lane's child.
 
-ghost use Rattle.std.specs.Prelude.{◌≡◌, ℕ, ◌+◌, ◌-◌, ◌*◌, ◌<◌, ◌≤◌, ◌^◌, ◌||◌, IsTrue, ◌++◌, ◌∷◌, ◌⊎◌, [], List, IfOk, length, true, false};
+ghost use Rattle.std.specs.Prelude.{◌≡◌, ℕ, ◌+◌, ◌-◌, ◌*◌, ◌<◌, ◌≤◌, ◌^◌, ◌||◌, IsTrue, ◌++◌, ◌∷◌, ◌⊎◌, [], List, IfOk, length, map, true, false};
 ghost use Rattle.vx_ends.specs.declared.piece.Start.{Start};
 ghost use Rattle.vx_ends.specs.declared.piece.Ending.{Ending};
 ghost use Rattle.vx_smt_meaning.specs.Dialogues.{Check};
+ghost use Rattle.vx_smt_meaning.specs.Views.{declared_symbol};
 ghost use Rattle.vx_dialogue.specs.Scripts.{Turn};
 ghost use Rattle.vx_resolved.specs.Resolved.{kind as kind_of};
 ghost use Rattle.vx_resolved.specs.Settled.{settled};
 ghost use Rattle.vx_report.specs.Reports.{AreNamed, RestWithin, is_faulted, is_resting};
 ghost use Rattle.vx_resting.specs.Resting.{NoneRests};
 ghost use Rattle.vx_machine.specs.Runs.{Follows, awaits, member_tree};
+ghost use Rattle.vx_live.specs.Functions.{function_symbols};
 ghost use Rattle.vx_verifier.specs.Causes.{HasCauseOf, NoCountRose};
-ghost use Rattle.vx_verifier.specs.Steady.{AllSpelled, AsksSpelled, IsCalmLane};
+ghost use Rattle.vx_verifier.specs.Steady.{AreSpelled, AllSpelled, AsksSpelled, IsCalmLane};
 ghost use Rattle.vx_resolved.specs.Executed.{is_executed};
 ghost use Rattle.vx_typing.specs.Typed.{written_of, resolved_of};
 ghost use Rattle.vx_verifier.specs.Headline.{Headline, IsSupported, asked_turns, member_turns, members_of, has_question, some_ask};
@@ -21,6 +23,7 @@ ghost use Rattle.vx_verifier.specs.Lanes.{IsHeld, IsRunning, links, is_lost, is_
 
 use crate::lane::{Child, LANE, Trouble, ask, end, leave};
 use crate::program::{programs_are_supported, settled};
+use crate::symbols::function_symbols;
 use std::alloc::{AllocError, Global};
 use vx_ast::MemberId;
 use vx_ends::{Parts, Spawner, Turns};
@@ -29,6 +32,7 @@ use vx_report::{MemberRun, Verdict};
 use vx_resolved::{Kind, Settled};
 use vx_resting::rest;
 use vx_rules::Reply;
+use vx_smt_meaning::Declared;
 use vx_typing::Typed;
 
 /// What became of each member with a line, in file order.
@@ -113,6 +117,7 @@ fn faulted(trouble: Trouble, checks: u32) -> Result<Judged, AllocError>
 fn judge<W: Spawner, N: Turns>(
     alloc: Global,
     program: &Settled,
+    functions: &[Declared],
     command: &Parts,
     spawner: &mut W,
     turns: &mut N,
@@ -121,11 +126,12 @@ fn judge<W: Spawner, N: Turns>(
 ) -> (Child<W::Link>, Result<Judged, AllocError>)
     requires member { member.0 < length (settled program.now) }
     requires held { IsHeld child (W.owed spawner.old LANE) }
+    requires named { AreSpelled (map declared_symbol functions.now) }
     requires spelled { AllSpelled (member_tree (settled program.now) member.0) }
     ensures held { IsHeld result.0 (W.owed spawner.new LANE) }
     ensures owed { W.owed spawner.new LANE + links child ≡ W.owed spawner.old LANE + links result.0 }
-    ensures told { IfOk result.1 (λ judged. (before : List Ending) (turns : List Turn) (checks : List Check) → Hears W.Link.dialogue before (W.ended spawner.old) child turns checks
-        → Judges W.Link.dialogue (settled program.now) member.0 before (W.ended spawner.new) (HasCauseOf before (W.ended spawner.new) (W.faults spawner.old) (W.faults spawner.new) (is_lost child)) (is_lost child)
+    ensures told { IfOk result.1 (λ judged. (before : List Ending) (turns : List Turn) (checks : List Check) → Hears W.Link.dialogue (map declared_symbol functions.now) before (W.ended spawner.old) child turns checks
+        → Judges W.Link.dialogue (map declared_symbol functions.now) (settled program.now) member.0 before (W.ended spawner.new) (HasCauseOf before (W.ended spawner.new) (W.faults spawner.old) (W.faults spawner.new) (is_lost child)) (is_lost child)
         result.0 turns (λ own. asked_turns (is_lost child) (settled program.now) member.0 own judged.verdict) checks judged.checks judged.verdict) }
     ensures lost { IfOk result.1 (λ judged. is_lost result.0 ≡ (is_lost child || is_faulted judged.verdict)) }
     ensures started { IfOk result.1 (λ _. is_started result.0 ≡ (is_started child || has_question (settled program.now) member.0)) }
@@ -157,7 +163,7 @@ fn judge<W: Spawner, N: Turns>(
         };
         // One child waits, so any turn is its own.
         let _turn = turns.pick(1);
-        let (kept, reply) = ask(alloc, spawner, command, child, &query);
+        let (kept, reply) = ask(alloc, spawner, command, functions, child, &query);
         child = kept;
         let reply = match reply {
             Ok(reply) => reply,
@@ -175,6 +181,7 @@ fn judge<W: Spawner, N: Turns>(
 fn execute<W: Spawner, N: Turns>(
     alloc: Global,
     program: &Settled,
+    functions: &[Declared],
     command: &Parts,
     spawner: &mut W,
     turns: &mut N,
@@ -183,14 +190,15 @@ fn execute<W: Spawner, N: Turns>(
 ) -> (Lane<W::Link>, Result<MemberRun, AllocError>)
     requires member { member.0 < length (settled program.now) }
     requires held { IsHeld lane.child (W.owed spawner.old LANE) }
+    requires named { AreSpelled (map declared_symbol functions.now) }
     requires spelled { AllSpelled (member_tree (settled program.now) member.0) }
     requires room { lane.checks + LIMIT < 2 ^ 64 }
     ensures held { IsHeld result.0.child (W.owed spawner.new LANE) }
     ensures owed { W.owed spawner.new LANE + links lane.child ≡ W.owed spawner.old LANE + links result.0.child }
     ensures alone { IfOk result.1 (λ run. is_resting run.verdict ≡ false) }
     ensures numbers { IfOk result.1 (λ run. (run.member ≡ member) × (run.lane ≡ LANE) × (run.child ≡ 0) × (run.first ≡ lane.checks)) }
-    ensures told { IfOk result.1 (λ run. (before : List Ending) (turns : List Turn) (checks : List Check) → Hears W.Link.dialogue before (W.ended spawner.old) lane.child turns checks
-        → Judges W.Link.dialogue (settled program.now) member.0 before (W.ended spawner.new) (HasCauseOf before (W.ended spawner.new) (W.faults spawner.old) (W.faults spawner.new) (is_lost lane.child)) (is_lost lane.child)
+    ensures told { IfOk result.1 (λ run. (before : List Ending) (turns : List Turn) (checks : List Check) → Hears W.Link.dialogue (map declared_symbol functions.now) before (W.ended spawner.old) lane.child turns checks
+        → Judges W.Link.dialogue (map declared_symbol functions.now) (settled program.now) member.0 before (W.ended spawner.new) (HasCauseOf before (W.ended spawner.new) (W.faults spawner.old) (W.faults spawner.new) (is_lost lane.child)) (is_lost lane.child)
         result.0.child turns (λ own. member_turns (is_lost lane.child) (settled program.now) member.0 own run.verdict) checks run.checks run.verdict) }
     ensures lost { IfOk result.1 (λ run. is_lost result.0.child ≡ (is_lost lane.child || is_faulted run.verdict)) }
     ensures started { IfOk result.1 (λ _. is_started result.0.child ≡ (is_started lane.child || has_question (settled program.now) member.0)) }
@@ -205,7 +213,9 @@ fn execute<W: Spawner, N: Turns>(
         child,
         checks: first,
     } = lane;
-    let (child, judged) = judge(alloc, program, command, spawner, turns, child, member);
+    let (child, judged) = judge(
+        alloc, program, functions, command, spawner, turns, child, member,
+    );
     let (child, left) = leave(alloc, spawner, child);
     let judged = match judged {
         Ok(judged) => judged,
@@ -257,16 +267,18 @@ fn has_line(kind: &Kind) -> bool
 fn execute_all<W: Spawner, N: Turns>(
     alloc: Global,
     program: &Settled,
+    functions: &[Declared],
     command: &Parts,
     spawner: &mut W,
     turns: &mut N,
 ) -> (Lane<W::Link>, Result<Vec<MemberRun>, AllocError>)
+    requires named { AreSpelled (map declared_symbol functions.now) }
     requires spelled { AsksSpelled (settled program.now) }
     ensures held { IsHeld result.0.child (W.owed spawner.new LANE) }
     ensures owed { W.owed spawner.new LANE ≡ W.owed spawner.old LANE + links result.0.child }
     ensures named { IfOk result.1 (λ runs. AreNamed (settled program.now) runs.items) }
     ensures alone { IfOk result.1 (λ runs. NoneRests runs.items) }
-    ensures told { IfOk result.1 (λ runs. (members_of runs.items ≡ lines (settled program.now)) × Executes W.Link.dialogue (settled program.now) (W.ended spawner.old) (W.ended spawner.new) (W.faults spawner.old) (W.faults spawner.new)
+    ensures told { IfOk result.1 (λ runs. (members_of runs.items ≡ lines (settled program.now)) × Executes W.Link.dialogue (map declared_symbol functions.now) (settled program.now) (W.ended spawner.old) (W.ended spawner.new) (W.faults spawner.old) (W.faults spawner.new)
         result.0.child result.0.checks runs.items) }
     ensures starts { let start : Start = record { lane = LANE; command = command.now } in Starts (W.starts spawner.old) (W.starts spawner.new) start result.0.child }
     ensures faults { W.faults spawner.old ≤ W.faults spawner.new }
@@ -288,7 +300,9 @@ fn execute_all<W: Spawner, N: Turns>(
             return (lane, Err(AllocError));
         };
         let member = MemberId(number);
-        let (kept, run) = execute(alloc, program, command, spawner, turns, lane, member);
+        let (kept, run) = execute(
+            alloc, program, functions, command, spawner, turns, lane, member,
+        );
         lane = kept;
         let run = match run {
             Ok(run) => run,
@@ -323,7 +337,8 @@ fn verify_members<W: Spawner, N: Turns>(
     ensures steady { IsTrue (W.steady spawner.old) → W.faults spawner.old < 2 ^ 64 - 1
         → NoCountRose (W.ended spawner.old) (W.ended spawner.new) (W.faults spawner.old) (W.faults spawner.new) }
 {
-    let (lane, runs) = execute_all(alloc, program, command, spawner, turns);
+    let functions = function_symbols(alloc, program)?;
+    let (lane, runs) = execute_all(alloc, program, &functions, command, spawner, turns);
     let Lane { child, checks: _ } = lane;
     end(spawner, child);
     let own = match runs {

@@ -1,14 +1,16 @@
 //! A lane: its child, which is started at the lane's first question.
 
-ghost use Rattle.std.specs.Prelude.{◌≡◌, ◌<◌, ◌≤◌, ◌+◌, ◌++◌, ℕ, List, IfOk, OnOk, IfErr, MatchResult, if◌then◌else◌, is_ok, is_err, true, false};
+ghost use Rattle.std.specs.Prelude.{◌≡◌, ◌<◌, ◌≤◌, ◌+◌, ◌++◌, ℕ, List, IfOk, OnOk, IfErr, MatchResult, if◌then◌else◌, is_ok, is_err, map, true, false};
 ghost use Rattle.vx_ends.specs.declared.piece.Start.{Start};
 ghost use Rattle.vx_ends.specs.declared.piece.Ending.{Ending};
+ghost use Rattle.vx_smt_meaning.specs.Commands as smt;
 ghost use Rattle.vx_smt_meaning.specs.Dialogues.{Check};
+ghost use Rattle.vx_smt_meaning.specs.Views.{declared_symbol};
 ghost use Rattle.vx_dialogue.specs.Scripts.{Turn};
 ghost use Rattle.vx_rules.specs.Trees.{Question};
 ghost use Rattle.vx_stack.specs.Stack as rules;
 ghost use Rattle.vx_verifier.specs.Headline.{IsRecorded, left_turn};
-ghost use Rattle.vx_verifier.specs.Steady.{IsSpelled, IsCalmLane};
+ghost use Rattle.vx_verifier.specs.Steady.{AreSpelled, IsSpelled, IsCalmLane};
 ghost use Rattle.vx_verifier.specs.Lanes as spec;
 ghost use Rattle.vx_verifier.specs.Lanes.{IsHeld, links, is_fault, is_lost, is_started, Hears, HearsOf, Loses, Starts, Later};
 
@@ -17,6 +19,7 @@ use vx_dialogue::{Dialogue, Talk};
 use vx_ends::{Parts, Spawner, StartFault};
 use vx_report::Cause;
 use vx_rules::Reply;
+use vx_smt_meaning::Declared;
 use vx_stack::Query;
 
 /// The child of a lane.
@@ -53,14 +56,16 @@ fn start<W: Spawner>(
     alloc: Global,
     spawner: &mut W,
     command: &Parts,
+    functions: &[Declared],
 ) -> Result<Dialogue<W::Link>, (Child<W::Link>, Trouble)>
+    requires { AreSpelled (map declared_symbol functions.now) }
     ensures held { MatchResult result (λ d. IsHeld (Child.Talking d) (W.owed spawner.new LANE)) (λ lost. IsHeld lost.0 (W.owed spawner.new LANE)) }
     ensures owed { W.owed spawner.new LANE ≡ W.owed spawner.old LANE + (if is_ok result then 1 else 0) }
     ensures links { IfErr result (λ lost. links lost.0 ≡ 0) }
     ensures child { IfErr result (λ lost. is_fault lost.1 ≡ true → is_lost lost.0 ≡ true) }
-    ensures told { (before : List Ending) (turns : List Turn) (checks : List Check) → Hears W.Link.dialogue before (W.ended spawner.old) Child.NotStarted turns checks
-        → MatchResult result (λ d. Hears W.Link.dialogue before (W.ended spawner.new) (Child.Talking d) turns checks)
-        (λ lost. (q : Question) → Loses before (W.ended spawner.new) (W.faults spawner.old) (W.faults spawner.new) false turns checks q lost.1) }
+    ensures told { (before : List Ending) (turns : List Turn) (checks : List Check) → Hears W.Link.dialogue (map declared_symbol functions.now) before (W.ended spawner.old) Child.NotStarted turns checks
+        → MatchResult result (λ d. Hears W.Link.dialogue (map declared_symbol functions.now) before (W.ended spawner.new) (Child.Talking d) turns checks)
+        (λ lost. (q : Question) → Loses (map declared_symbol functions.now) before (W.ended spawner.new) (W.faults spawner.old) (W.faults spawner.new) false turns checks q lost.1) }
     ensures starts { (before : List Start) → let start : Start = record { lane = LANE; command = command.now } in Starts {L = W.Link} before (W.starts spawner.old) start Child.NotStarted
         → MatchResult result (λ d. Starts before (W.starts spawner.new) start (Child.Talking d)) (λ lost. Starts before (W.starts spawner.new) start lost.0) }
     ensures faults { W.faults spawner.old ≤ W.faults spawner.new }
@@ -74,7 +79,7 @@ fn start<W: Spawner>(
         Err(StartFault::Failed) => return Err((Child::Lost, Trouble::Fault(Cause::Start))),
         Err(StartFault::Want) => return Err((Child::NotStarted, Trouble::Want)),
     };
-    match Dialogue::open(alloc, link, &[], false) {
+    match Dialogue::open(alloc, link, functions, false) {
         Ok(dialogue) => Ok(dialogue),
         Err((link, talk)) => {
             spawner.finish(LANE, link);
@@ -94,10 +99,10 @@ fn talk<W: Spawner>(
     requires spelled { IsSpelled (rules.query query.now) }
     ensures held { IsHeld result.0 (W.owed spawner.new LANE) }
     ensures owed { W.owed spawner.new LANE + 1 ≡ W.owed spawner.old LANE + links result.0 }
-    ensures told { IfOk result.1 (λ reply. (before : List Ending) (turns : List Turn) (checks : List Check) → Hears W.Link.dialogue before (W.ended spawner.old) (Child.Talking dialogue) turns checks
-        → HearsOf W.Link.dialogue before (W.ended spawner.new) result.0 turns checks (rules.query query.now) reply) }
-    ensures lost { IfErr result.1 (λ trouble. (before : List Ending) (turns : List Turn) (checks : List Check) → Hears W.Link.dialogue before (W.ended spawner.old) (Child.Talking dialogue) turns checks
-        → Loses before (W.ended spawner.new) (W.faults spawner.old) (W.faults spawner.new) false turns checks (rules.query query.now) trouble) }
+    ensures told { IfOk result.1 (λ reply. (functions : List smt.Declared) (before : List Ending) (turns : List Turn) (checks : List Check) → Hears W.Link.dialogue functions before (W.ended spawner.old) (Child.Talking dialogue) turns checks
+        → HearsOf W.Link.dialogue functions before (W.ended spawner.new) result.0 turns checks (rules.query query.now) reply) }
+    ensures lost { IfErr result.1 (λ trouble. (functions : List smt.Declared) (before : List Ending) (turns : List Turn) (checks : List Check) → Hears W.Link.dialogue functions before (W.ended spawner.old) (Child.Talking dialogue) turns checks
+        → Loses functions before (W.ended spawner.new) (W.faults spawner.old) (W.faults spawner.new) false turns checks (rules.query query.now) trouble) }
     ensures child { (is_started result.0 ≡ true) × (is_lost result.0 ≡ is_err result.1) }
     ensures starts { (before : List Start) (start : Start) → Starts before (W.starts spawner.old) start (Child.Talking dialogue) → Starts before (W.starts spawner.new) start result.0 }
     ensures faults { W.faults spawner.new ≡ W.faults spawner.old }
@@ -127,17 +132,19 @@ pub fn ask<W: Spawner>(
     alloc: Global,
     spawner: &mut W,
     command: &Parts,
+    functions: &[Declared],
     child: Child<W::Link>,
     query: &Query,
 ) -> (Child<W::Link>, Result<Reply, Trouble>)
     requires held { IsHeld child (W.owed spawner.old LANE) }
+    requires named { AreSpelled (map declared_symbol functions.now) }
     requires spelled { IsSpelled (rules.query query.now) }
     ensures held { IsHeld result.0 (W.owed spawner.new LANE) }
     ensures owed { W.owed spawner.new LANE + links child ≡ W.owed spawner.old LANE + links result.0 }
-    ensures told { IfOk result.1 (λ reply. (before : List Ending) (turns : List Turn) (checks : List Check) → Hears W.Link.dialogue before (W.ended spawner.old) child turns checks
-        → HearsOf W.Link.dialogue before (W.ended spawner.new) result.0 turns checks (rules.query query.now) reply) }
-    ensures lost { IfErr result.1 (λ trouble. (before : List Ending) (turns : List Turn) (checks : List Check) → Hears W.Link.dialogue before (W.ended spawner.old) child turns checks
-        → Loses before (W.ended spawner.new) (W.faults spawner.old) (W.faults spawner.new) (is_lost child) turns checks (rules.query query.now) trouble) }
+    ensures told { IfOk result.1 (λ reply. (before : List Ending) (turns : List Turn) (checks : List Check) → Hears W.Link.dialogue (map declared_symbol functions.now) before (W.ended spawner.old) child turns checks
+        → HearsOf W.Link.dialogue (map declared_symbol functions.now) before (W.ended spawner.new) result.0 turns checks (rules.query query.now) reply) }
+    ensures lost { IfErr result.1 (λ trouble. (before : List Ending) (turns : List Turn) (checks : List Check) → Hears W.Link.dialogue (map declared_symbol functions.now) before (W.ended spawner.old) child turns checks
+        → Loses (map declared_symbol functions.now) before (W.ended spawner.new) (W.faults spawner.old) (W.faults spawner.new) (is_lost child) turns checks (rules.query query.now) trouble) }
     ensures child { MatchResult result.1 (λ _. (is_started result.0 ≡ true) × (is_lost result.0 ≡ false)) (λ trouble. is_fault trouble ≡ true → is_lost result.0 ≡ true) }
     ensures before { IfOk result.1 (λ _. is_lost child ≡ false) }
     ensures starts { (before : List Start) → let start : Start = record { lane = LANE; command = command.now } in Starts before (W.starts spawner.old) start child → Starts before (W.starts spawner.new) start result.0 }
@@ -147,7 +154,7 @@ pub fn ask<W: Spawner>(
         → IsCalmLane W.Link.dialogue W.Link.steady W.Link.faults before (W.ended spawner.new) (W.steady spawner.new) count (W.faults spawner.new) result.0 }
 {
     match child {
-        Child::NotStarted => match start(alloc, spawner, command) {
+        Child::NotStarted => match start(alloc, spawner, command, functions) {
             Ok(dialogue) => talk(alloc, spawner, dialogue, query),
             Err((child, trouble)) => (child, Err(trouble)),
         },
@@ -165,8 +172,8 @@ pub fn leave<W: Spawner>(
     requires { IsHeld child (W.owed spawner.old LANE) }
     ensures held { IsHeld result.0 (W.owed spawner.new LANE) }
     ensures owed { W.owed spawner.new LANE + links child ≡ W.owed spawner.old LANE + links result.0 }
-    ensures told { (before : List Ending) (turns : List Turn) (checks : List Check) → Hears W.Link.dialogue before (W.ended spawner.old) child turns checks
-        → MatchResult result.1 (λ _. Hears W.Link.dialogue before (W.ended spawner.new) result.0 (turns ++ left_turn (is_lost child)) checks) (λ _. Hears W.Link.dialogue before (W.ended spawner.new) result.0 turns checks) }
+    ensures told { (functions : List smt.Declared) (before : List Ending) (turns : List Turn) (checks : List Check) → Hears W.Link.dialogue functions before (W.ended spawner.old) child turns checks
+        → MatchResult result.1 (λ _. Hears W.Link.dialogue functions before (W.ended spawner.new) result.0 (turns ++ left_turn (is_lost child)) checks) (λ _. Hears W.Link.dialogue functions before (W.ended spawner.new) result.0 turns checks) }
     ensures lost { OnOk result.1 (is_lost result.0 ≡ is_lost child) }
     ensures started { is_started result.0 ≡ is_started child }
     ensures same { OnOk result.1 (W.ended spawner.new ≡ W.ended spawner.old) }
@@ -197,7 +204,7 @@ pub fn leave<W: Spawner>(
 pub fn end<W: Spawner>(spawner: &mut W, child: Child<W::Link>)
     requires { IsHeld child (W.owed spawner.old LANE) }
     ensures owed { W.owed spawner.new LANE + links child ≡ W.owed spawner.old LANE }
-    ensures told { (before : List Ending) (turns : List Turn) (checks : List Check) → Hears W.Link.dialogue before (W.ended spawner.old) child turns checks → IsRecorded (is_lost child) before (W.ended spawner.new) turns checks }
+    ensures told { (functions : List smt.Declared) (before : List Ending) (turns : List Turn) (checks : List Check) → Hears W.Link.dialogue functions before (W.ended spawner.old) child turns checks → IsRecorded functions (is_lost child) before (W.ended spawner.new) turns checks }
     ensures starts { W.starts spawner.new ≡ W.starts spawner.old }
     ensures faults { W.faults spawner.new ≡ W.faults spawner.old }
     ensures later { Later (W.ended spawner.old) (W.ended spawner.new) }

@@ -5,6 +5,7 @@
 mod execute;
 mod lane;
 mod program;
+mod symbols;
 
 pub use execute::{Runs, verify};
 pub use program::{programs_are_supported, settled};

@@ -1,5 +1,6 @@
-use Rattle.std.proofs.Common.{◌≡◌, false, is_err, rules, sym}
+use Rattle.std.proofs.Common.{◌≡◌, false, map, is_err, rules, sym}
 use Rattle.vx_resolved.specs.Settled.{settled}
+use Rattle.vx_smt_meaning.specs.Views.{declared_symbol}
 use Rattle.vx_verifier.specs.Lanes.{is_lost}
 use Rattle.vx_verifier.proofs.Children.{if_ok_at, on_ok_of, match_ok_of}
 use Rattle.vx_verifier.proofs.Questions.{judges_at}
@@ -26,6 +27,7 @@ returns-clause-calm g c = λ before count calm. c.leave-child.ensures.calm befor
 pub returns-clause-told : goal.returns-clause-told
 returns-clause-told g c = λ before turns checks heard.
     let dialogue = g.W.Link.Link.dialogue in
+    let fs = map declared_symbol c.args.functions.now in
     let w = g.W.Spawner in
     let p = settled c.args.program.now in
     let lost = is_lost c.args.lane.child in
@@ -34,7 +36,7 @@ returns-clause-told g c = λ before turns checks heard.
     let ended = on_ok_of c.leave-child.result.1 _ fine c.leave-child.ensures.same in
     let told = if_ok_at c.judge-child.result.1 _ judged c.judge-child.ensures.told c.in-Ok.is before turns checks heard in
     let gone = if_ok_at c.judge-child.result.1 _ judged c.judge-child.ensures.lost c.in-Ok.is in
-    judges_at dialogue p c.args.member.0 before (w.ended c.judge-child.new.spawner) (w.ended c.leave-child.new.spawner) (w.faults c.args.spawner.now)
+    judges_at dialogue fs p c.args.member.0 before (w.ended c.judge-child.new.spawner) (w.ended c.leave-child.new.spawner) (w.faults c.args.spawner.now)
     (w.faults c.judge-child.new.spawner) (w.faults c.leave-child.new.spawner) lost c.judge-child.result.0 c.leave-child.result.0 turns checks judged.checks judged.verdict
     (sym ended) (sym c.leave-child.ensures.faults) told gone
-    (λ turns checks heard. match_ok_of c.leave-child.result.1 _ _ fine (c.leave-child.ensures.told before turns checks heard))
+    (λ turns checks heard. match_ok_of c.leave-child.result.1 _ _ fine (c.leave-child.ensures.told fs before turns checks heard))

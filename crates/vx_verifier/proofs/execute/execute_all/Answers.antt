@@ -1,6 +1,7 @@
-use Rattle.std.proofs.Common.{◌≡◌, ◌<◌, ◌≤◌, ◌+◌, ◌++◌, ◌∷◌, [], true, false, drop, length, ap, ◌∙◌, sym, subst, rules, arith}
+use Rattle.std.proofs.Common.{◌≡◌, ◌<◌, ◌≤◌, ◌+◌, ◌++◌, ◌∷◌, [], true, false, drop, length, map, ap, ◌∙◌, sym, subst, rules, arith}
 use Rattle.vx_resolved.specs.Resolved.{kind, member}
 use Rattle.vx_resolved.specs.Settled.{settled}
+use Rattle.vx_smt_meaning.specs.Views.{declared_symbol}
 use Rattle.vx_report.specs.Reports.{AreNamed}
 use Rattle.vx_resting.specs.Resting.{NoneRests}
 use Rattle.vx_verifier.specs.Headline.{members_of}
@@ -51,9 +52,9 @@ loop-number-preserved g c =
       each = subst (λ x. members_of x ++ lines_from (n + 1) (drop (n + 1) p) ≡ lines p) (sym pushed)
           (goes_on p n (member c.member.result.now) runs run c.member.ensures one (member_is ∙ place) so_far.each);
       few = omega arith;
-      told = subst (λ x. Executes g.W.Link.Link.dialogue (settled c.args.program.now) (g.W.Spawner.ended c.args.spawner.now) (g.W.Spawner.ended c.execute-kept.new.spawner)
+      told = subst (λ x. Executes g.W.Link.Link.dialogue (map declared_symbol c.args.functions.now) (settled c.args.program.now) (g.W.Spawner.ended c.args.spawner.now) (g.W.Spawner.ended c.execute-kept.new.spawner)
           (g.W.Spawner.faults c.args.spawner.now) (g.W.Spawner.faults c.execute-kept.new.spawner) c.execute-kept.result.0.child c.execute-kept.result.0.checks x) (sym pushed)
-          (executes_more g.W.Link.Link.dialogue (settled c.args.program.now) (g.W.Spawner.ended c.args.spawner.now) (g.W.Spawner.ended c.loop-number.spawner) (g.W.Spawner.ended c.execute-kept.new.spawner)
+          (executes_more g.W.Link.Link.dialogue (map declared_symbol c.args.functions.now) (settled c.args.program.now) (g.W.Spawner.ended c.args.spawner.now) (g.W.Spawner.ended c.loop-number.spawner) (g.W.Spawner.ended c.execute-kept.new.spawner)
           (g.W.Spawner.faults c.args.spawner.now) (g.W.Spawner.faults c.loop-number.spawner) (g.W.Spawner.faults c.execute-kept.new.spawner)
           c.loop-number.lane.child c.execute-kept.result.0.child c.loop-number.lane.checks c.execute-kept.result.0.checks runs run c.in-Ok.number
           so_far.told told c.execute-kept.ensures.later so_far.faults c.execute-kept.ensures.faults

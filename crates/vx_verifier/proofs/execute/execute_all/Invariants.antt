@@ -1,5 +1,6 @@
-use Rattle.std.proofs.Common.{◌≡◌, ◌+◌, ◌*◌, ◌≤◌, ◌++◌, IsTrue, drop}
+use Rattle.std.proofs.Common.{◌≡◌, ◌+◌, ◌*◌, ◌≤◌, ◌++◌, IsTrue, drop, map}
 use Rattle.vx_resolved.specs.Settled.{settled}
+use Rattle.vx_smt_meaning.specs.Views.{declared_symbol}
 use Rattle.vx_ends.specs.declared.piece.Start.{Start}
 use Rattle.vx_report.specs.Reports.{AreNamed}
 use Rattle.vx_resting.specs.Resting.{NoneRests}
@@ -20,7 +21,7 @@ invariant-loop-number g l =
       named : AreNamed (settled l.program) l.runs.items;
       each : members_of l.runs.items ++ lines_from l.number (drop l.number (settled l.program)) ≡ lines (settled l.program);
       few : l.lane.checks ≤ 100000 * l.number;
-      told : Executes g.W.Link.Link.dialogue (settled l.program) (w.ended l.fn.spawner) (w.ended l.spawner) (w.faults l.fn.spawner) (w.faults l.spawner)
+      told : Executes g.W.Link.Link.dialogue (map declared_symbol l.functions) (settled l.program) (w.ended l.fn.spawner) (w.ended l.spawner) (w.faults l.fn.spawner) (w.faults l.spawner)
           l.lane.child l.lane.checks l.runs.items;
       starts : Starts (w.starts l.fn.spawner) (w.starts l.spawner) start l.lane.child;
       calm : IsTrue (w.steady l.fn.spawner)

@@ -1,6 +1,7 @@
-use Rattle.std.proofs.Common.{◌≡◌, ◌<◌, ◌++◌, [], length, true, false, refl, ap, ◌∙◌, sym, subst, arith, inl, inr}
+use Rattle.std.proofs.Common.{◌≡◌, ◌<◌, ◌++◌, [], length, map, true, false, refl, ap, ◌∙◌, sym, subst, arith, inl, inr}
 use Rattle.std.proofs.lemmas.Result.{IfOk-weaker}
 use Rattle.vx_resolved.specs.Settled.{settled}
+use Rattle.vx_smt_meaning.specs.Views.{declared_symbol}
 use Rattle.vx_verifier.specs.Headline.{IsRecorded}
 use Rattle.vx_stack.specs.Stack.{query}
 use Rattle.vx_verifier.specs.Lanes.{IsDue, tried_turn, turns_so_far, is_lost, is_started}
@@ -20,7 +21,7 @@ questions-init g c =
       few = omega arith;
       told = λ before turns checks heard. (
         [],
-        hears_none g.W.Link.Link.dialogue before (g.W.Spawner.ended c.args.spawner.now) c.args.child turns checks (turns_so_far (settled c.args.program.now) c.in-Ok.running.machine)
+        hears_none g.W.Link.Link.dialogue (map declared_symbol c.args.functions.now) before (g.W.Spawner.ended c.args.spawner.now) c.args.child turns checks (turns_so_far (settled c.args.program.now) c.in-Ok.running.machine)
             (no_turns (settled c.args.program.now) c.in-Ok.running.machine begins.none) heard,
         none_asked (settled c.args.program.now) c.in-Ok.running.machine begins.none,
       );
@@ -41,7 +42,7 @@ pub returns-in-Done-clause-told : goal.returns-in-Done-clause-told
 returns-in-Done-clause-told g c = λ before turns checks heard.
     let so_far = c.questions.invariant in
     let told = so_far.told before turns checks heard in
-    at_done g.W.Link.Link.dialogue (settled c.args.program.now) c.args.member.0 before _ (g.W.Spawner.faults c.args.spawner.now) _ (is_lost c.args.child) c.questions.child checks told.0 c.questions.running.machine c.questions.running.ask
+    at_done g.W.Link.Link.dialogue (map declared_symbol c.args.functions.now) (settled c.args.program.now) c.args.member.0 before _ (g.W.Spawner.faults c.args.spawner.now) _ (is_lost c.args.child) c.questions.child checks told.0 c.questions.running.machine c.questions.running.ask
     c.in-Done.outcome c.verdict_of-verdict.result c.questions.checks so_far.running c.in-Done.is c.verdict_of-verdict.ensures so_far.checks so_far.silent turns told.1 told.2
 
 pub returns-in-Err-reply-clause-told : goal.returns-in-Err-reply-clause-told
@@ -53,14 +54,14 @@ returns-in-Err-reply-clause-told g c = IfOk-weaker c.faulted.result _ _ (λ judg
     let q = query c.in-Check.query in
     let lost = if_err_at c.ask-kept.result.1 _ c.in-Err-reply.trouble c.ask-kept.ensures.lost c.in-Err-reply.is before (turns ++ so) (checks ++ told.0) told.1 in
     let said = (turns ++ so) ++ tried_turn (is_lost c.args.child) q in
-    let recorded : IsRecorded true before (g.W.Spawner.ended c.ask-kept.new.spawner) said (checks ++ told.0) =
-    subst (λ b. IsRecorded true before (g.W.Spawner.ended c.ask-kept.new.spawner) ((turns ++ so) ++ tried_turn b q) (checks ++ told.0)) so_far.lost lost.0 in
+    let recorded : IsRecorded (map declared_symbol c.args.functions.now) true before (g.W.Spawner.ended c.ask-kept.new.spawner) said (checks ++ told.0) =
+    subst (λ b. IsRecorded (map declared_symbol c.args.functions.now) true before (g.W.Spawner.ended c.ask-kept.new.spawner) ((turns ++ so) ++ tried_turn b q) (checks ++ told.0)) so_far.lost lost.0 in
     let gone = gone_by c.ask-kept.result.0 c.ask-kept.result.1 c.in-Err-reply.trouble judged.verdict c.ask-kept.ensures.child c.in-Err-reply.is fault.1 in
     let caused = caused_earlier before (g.W.Spawner.ended c.ask-kept.new.spawner) (g.W.Spawner.faults c.args.spawner.now) (g.W.Spawner.faults c.questions.spawner)
     (g.W.Spawner.faults c.ask-kept.new.spawner) so_far.faults (is_lost c.questions.child) (is_lost c.args.child) so_far.lost c.in-Err-reply.trouble lost.1 in
-    at_fault dialogue (settled c.args.program.now) c.args.member.0 before (g.W.Spawner.ended c.ask-kept.new.spawner) (g.W.Spawner.faults c.args.spawner.now) (g.W.Spawner.faults c.ask-kept.new.spawner) (is_lost c.args.child) c.ask-kept.result.0 checks told.0
+    at_fault dialogue (map declared_symbol c.args.functions.now) (settled c.args.program.now) c.args.member.0 before (g.W.Spawner.ended c.ask-kept.new.spawner) (g.W.Spawner.faults c.args.spawner.now) (g.W.Spawner.faults c.ask-kept.new.spawner) (is_lost c.args.child) c.ask-kept.result.0 checks told.0
     c.questions.running.machine c.questions.running.ask c.in-Check.query c.in-Err-reply.trouble judged.verdict judged.checks so_far.running c.in-Check.is fault.1 caused
-    (fault.0 ∙ so_far.checks) so_far.silent turns (lost_hears dialogue before _ c.ask-kept.result.0 said (checks ++ told.0) gone recorded) told.2) c.faulted.ensures
+    (fault.0 ∙ so_far.checks) so_far.silent turns (lost_hears dialogue (map declared_symbol c.args.functions.now) before _ c.ask-kept.result.0 said (checks ++ told.0) gone recorded) told.2) c.faulted.ensures
 
 pub returns-in-Done-clause-alone : goal.returns-in-Done-clause-alone
 returns-in-Done-clause-alone g c = subst (λ v. is_resting v ≡ false) (sym c.verdict_of-verdict.ensures) (alone c.in-Done.outcome)
@@ -92,13 +93,13 @@ questions-preserved g c =
     record {
       held = c.ask-kept.ensures.held;
       owed = omega arith;
-      running = still_running g.W.Link.Link.dialogue (settled c.args.program.now) c.args.member.0 [] machine next c.questions.running.ask c.in-Ok-go_on.next.ask so_far.running more.running;
+      running = still_running g.W.Link.Link.dialogue [] (settled c.args.program.now) c.args.member.0 [] machine next c.questions.running.ask c.in-Ok-go_on.next.ask so_far.running more.running;
       checks = omega arith;
       few = omega arith;
       told = λ before turns checks heard.
           let told = so_far.told before turns checks heard in
           let hears = if_ok_at c.ask-kept.result.1 _ c.in-Ok-reply.reply c.ask-kept.ensures.told c.in-Ok-reply.is before (turns ++ turns_so_far (settled c.args.program.now) machine) (checks ++ told.0) told.1 in
-          goes_on g.W.Link.Link.dialogue (settled c.args.program.now) c.args.member.0 before _ c.ask-kept.result.0 checks told.0 machine next
+          goes_on g.W.Link.Link.dialogue (map declared_symbol c.args.functions.now) (settled c.args.program.now) c.args.member.0 before _ c.ask-kept.result.0 checks told.0 machine next
           c.questions.running.ask c.in-Ok-go_on.next.ask c.in-Check.query c.in-Ok-reply.reply so_far.running c.in-Check.is more.running more.one_more told.2 turns hears;
       lost =
           let before = if_ok_at c.ask-kept.result.1 _ c.in-Ok-reply.reply c.ask-kept.ensures.before c.in-Ok-reply.is in

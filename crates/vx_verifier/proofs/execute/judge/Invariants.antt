@@ -1,8 +1,9 @@
-use Rattle.std.proofs.Common.{◌≡◌, ℕ, ◌⊎◌, ◌+◌, ◌-◌, ◌≤◌, true, ◌++◌, List, [], length}
+use Rattle.std.proofs.Common.{◌≡◌, ℕ, ◌⊎◌, ◌+◌, ◌-◌, ◌≤◌, true, ◌++◌, List, [], length, map}
 use Rattle.vx_resolved.specs.Settled.{settled}
 use Rattle.vx_ends.specs.declared.piece.Start.{Start}
 use Rattle.vx_ends.specs.declared.piece.Ending.{Ending}
 use Rattle.vx_smt_meaning.specs.Dialogues.{Check}
+use Rattle.vx_smt_meaning.specs.Views.{declared_symbol}
 use Rattle.vx_dialogue.specs.Scripts.{Turn}
 use Rattle.vx_verifier.specs.Lanes.{IsHeld, IsRunning, links, is_lost, is_started, Hears, Starts, Later, turns_so_far, AreAsked}
 use Rattle.vx_verifier.specs.Steady.{IsCalmLane}
@@ -20,8 +21,8 @@ invariant-questions g l =
       running : IsRunning (settled l.program) l.fn.member.0 l.running.machine l.running.ask;
       checks : l.checks ≡ length l.running.machine.replies.items;
       few : l.checks ≤ 100000;
-      told : (before : List Ending) (turns : List Turn) (checks : List Check) → Hears dialogue before (w.ended l.fn.spawner) l.fn.child turns checks
-          → (own : List Check) × Hears dialogue before (w.ended l.spawner) l.child (turns ++ turns_so_far (settled l.program) l.running.machine) (checks ++ own) × AreAsked (settled l.program) l.running.machine own;
+      told : (before : List Ending) (turns : List Turn) (checks : List Check) → Hears dialogue (map declared_symbol l.functions) before (w.ended l.fn.spawner) l.fn.child turns checks
+          → (own : List Check) × Hears dialogue (map declared_symbol l.functions) before (w.ended l.spawner) l.child (turns ++ turns_so_far (settled l.program) l.running.machine) (checks ++ own) × AreAsked (settled l.program) l.running.machine own;
       lost : is_lost l.child ≡ is_lost l.fn.child;
       silent : is_lost l.fn.child ≡ true → l.running.machine.replies.items ≡ [];
       asks : ((l.running.machine.replies.items ≡ []) × (is_started l.child ≡ is_started l.fn.child))

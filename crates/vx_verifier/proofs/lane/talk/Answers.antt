@@ -13,43 +13,43 @@ use Rattle.vx_verifier.proofs.Steady.{calm_on, calm_handed, said_named, asked_na
 use Rattle.vx_verifier.proofs.lane.talk.Goals as goal
 
 pub returns-in-Ok-ask-clause-told : goal.returns-in-Ok-ask-clause-told
-returns-in-Ok-ask-clause-told g c = λ before turns checks heard.
+returns-in-Ok-ask-clause-told g c = λ functions before turns checks heard.
     let ended = g.W.Spawner.ended c.args.spawner.now in
     let path = ap (λ x. map shared x) c.deref.ensures.value ∙ c.in-Ok.ensures in
-    answered g.W.Link.Link.dialogue before ended ended c.args.dialogue c.ask.new.self (query c.args.query.now) (map shared c.deref.result.now) c.in-Ok-ask.reply
+    answered g.W.Link.Link.dialogue functions before ended ended c.args.dialogue c.ask.new.self (query c.args.query.now) (map shared c.deref.result.now) c.in-Ok-ask.reply
     path
-    (λ turns. asked_named turns (map shared c.deref.result.now) (query c.args.query.now) path c.requires.spelled)
+    (λ turns. asked_named functions turns (map shared c.deref.result.now) (query c.args.query.now) path c.requires.spelled)
     c.in-Ok-ask.ensures.reply refl turns checks heard
 
 pub returns-in-Err-clause-lost : goal.returns-in-Err-clause-lost
-returns-in-Err-clause-lost g c = λ before turns checks heard.
+returns-in-Err-clause-lost g c = λ functions before turns checks heard.
     let dialogue = g.W.Link.Link.dialogue in
     let e : Ending = record { lane = 0; dialogue = dialogue c.close.result; faults = g.W.Link.Link.faults c.close.result } in (
-      recorded_longer before _ false turns (Posts (query c.args.query.now).path (query c.args.query.now).condition) checks
-          (recorded dialogue before (g.W.Spawner.ended c.args.spawner.now) (g.W.Spawner.ended c.finish.new.self) c.args.dialogue e turns checks c.finish.ensures.ended refl
+      recorded_longer functions before _ false turns (Posts (query c.args.query.now).path (query c.args.query.now).condition) checks
+          (recorded dialogue functions before (g.W.Spawner.ended c.args.spawner.now) (g.W.Spawner.ended c.finish.new.self) c.args.dialogue e turns checks c.finish.ensures.ended refl
           (ap dialogue c.close.ensures) heard),
       tt,
     )
 
 pub returns-clause-lost : goal.returns-clause-lost
-returns-clause-lost g c = λ before turns checks heard.
+returns-clause-lost g c = λ functions before turns checks heard.
     let dialogue = g.W.Link.Link.dialogue in
     let faults = g.W.Link.Link.faults in
     let link = c.close-in-Err-ask.result in
     let free = c.requires.held.1 in
     let path = ap (λ x. map shared x) c.deref.ensures.value ∙ c.in-Ok.ensures in
     let q = query c.args.query.now in
-    let named = said_named turns (map shared c.deref.result.now) q path c.requires.spelled heard.2 in
+    let named = said_named functions turns (map shared c.deref.result.now) q path c.requires.spelled heard.2 in
     let shut : c.in-Err-ask.talk ≡ talk.Closed → ⊥ = λ h. let failed = c.ask.ensures.closed.0 (c.in-Err-ask.is ∙ ap Err h) in cc (free, failed) in
     let e : Ending = record { lane = 0; dialogue = dialogue link; faults = faults link } in
-    let broken : Breaks c.in-Err-ask.talk (script false [] (turns ++ Posts q.path q.condition ∷ [])) (dialogue link) checks =
-    subst (λ x. Breaks c.in-Err-ask.talk (script false [] (turns ++ Posts q.path q.condition ∷ [])) (dialogue x) checks) (sym c.close-in-Err-ask.ensures)
-    (subst (λ x. Breaks c.in-Err-ask.talk (script false [] (turns ++ Posts x q.condition ∷ [])) (dialogue (link_of c.ask.new.self)) checks) path
-    (c.in-Err-ask.ensures.fault false [] turns checks heard.1 named)) in
+    let broken : Breaks c.in-Err-ask.talk (script false functions (turns ++ Posts q.path q.condition ∷ [])) (dialogue link) checks =
+    subst (λ x. Breaks c.in-Err-ask.talk (script false functions (turns ++ Posts q.path q.condition ∷ [])) (dialogue x) checks) (sym c.close-in-Err-ask.ensures)
+    (subst (λ x. Breaks c.in-Err-ask.talk (script false functions (turns ++ Posts x q.condition ∷ [])) (dialogue (link_of c.ask.new.self)) checks) path
+    (c.in-Err-ask.ensures.fault false functions turns checks heard.1 named)) in
     let rose : c.in-Err-ask.talk ≡ talk.Pipe → 0 < faults link =
     λ h. subst (λ x. 0 < faults x) (sym c.close-in-Err-ask.ensures) (above_none _ _ (c.ask.ensures.cause.rose (c.in-Err-ask.is ∙ ap Err h))) in
-    subst (λ t. Loses before (g.W.Spawner.ended c.finish-in-Err-ask.new.self) (g.W.Spawner.faults c.args.spawner.now) (g.W.Spawner.faults c.finish-in-Err-ask.new.self) false turns checks q t) (sym c.trouble_of.ensures)
-    (lost_by dialogue before _ (g.W.Spawner.ended c.finish-in-Err-ask.new.self) (g.W.Spawner.faults c.args.spawner.now) (g.W.Spawner.faults c.finish-in-Err-ask.new.self) e c.in-Err-ask.talk turns q checks
+    subst (λ t. Loses functions before (g.W.Spawner.ended c.finish-in-Err-ask.new.self) (g.W.Spawner.faults c.args.spawner.now) (g.W.Spawner.faults c.finish-in-Err-ask.new.self) false turns checks q t) (sym c.trouble_of.ensures)
+    (lost_by dialogue functions before _ (g.W.Spawner.ended c.finish-in-Err-ask.new.self) (g.W.Spawner.faults c.args.spawner.now) (g.W.Spawner.faults c.finish-in-Err-ask.new.self) e c.in-Err-ask.talk turns q checks
     heard.0 c.finish-in-Err-ask.ensures.ended refl broken rose shut)
 
 pub returns-in-Ok-ask-clause-calm : goal.returns-in-Ok-ask-clause-calm
