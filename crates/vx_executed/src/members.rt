@@ -37,6 +37,7 @@ fn are_plain_assertions(program: &Settled, those: &[Rc<Assertion>]) -> bool
 }
 
 // Whether what is evaluated of a function's precondition applies no function.
+#[tactic(auto, using(crate::proofs::Names::entered_by_all))]
 fn is_plain_precondition(program: &Settled, f: &Function) -> bool
     ensures { result ≡ are_no_functions (settled program.now) (entered_by (joined f.now.place (resolved.assertions f.now.preconditions.items))) }
 {
