@@ -1,3 +1,3 @@
-pub mod Phrases
-pub mod Programs
-pub mod First
+pub mod Names
+pub mod Laws
+pub mod Assertions

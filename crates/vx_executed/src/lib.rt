@@ -1,18 +1,22 @@
-//! Which texts spell programs that are executed: those whose tokens are all executed.
-#![tactic(auto)]
+//! Which settled programs are executed, and the first function of one that isn't.
+#![tactic(auto, using(crate::proofs::Names::both_no_functions))]
 
-mod scan;
+mod members;
+mod walk;
 
-ghost use Rattle.vx_executed.specs.Agree.{ExecutedIsWithin, WithinIsExecuted};
+ghost use Rattle.std.specs.Prelude.{◌≡◌, true};
+ghost use Rattle.vx_ast.specs.Syntax.{Program};
+ghost use Rattle.vx_executed.specs.Plain.{AreFound, ArePlain};
+ghost use Rattle.vx_whole.specs.Executed.{is_executed};
 
-pub use scan::beyond;
+pub use members::beyond;
 
-/// A text whose tokens are all executed spells a program that is executed.
-pub fn texts_within_are_executed()
-    ensures { WithinIsExecuted }
+/// In a program that is executed no function has the type Perm, and none is applied by what a function's precondition evaluates.
+pub fn executed_functions_are_plain()
+    ensures { (p : Program) → is_executed p ≡ true → ArePlain p }
 {}
 
-/// A text that spells a program that is executed has only tokens that are.
-pub fn executed_texts_are_within()
-    ensures { ExecutedIsWithin }
+/// And so each program without such functions is executed.
+pub fn plain_programs_are_executed()
+    ensures { (p : Program) → AreFound p → ArePlain p → is_executed p ≡ true }
 {}

@@ -1,8 +1,8 @@
 //! Fractions, and what is reckoned with them.
 
-use vx_table::put_line;
 use std::alloc::{AllocError, Global};
 use vx_frac::{Frac, Over};
+use vx_table::put_line;
 
 // A numerator, with a denominator where it isn't 1; None: the word is none, or the denominator isn't above 0.
 fn fraction_of(word: &str) -> Option<Frac> {

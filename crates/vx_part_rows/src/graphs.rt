@@ -4,10 +4,10 @@ ghost use Rattle.std.specs.Prelude.{◌≡◌, ◌<◌, length};
 ghost use Rattle.vx_graph.specs.Groups.{roots};
 ghost use Rattle.vx_graph.specs.Views.{rows};
 
-use vx_table::put_line;
 use std::alloc::{AllocError, Global};
 use vx_ast::MemberId;
 use vx_graph::{Edges, Groups, all_groups, are_in_range, group, reaches, rests};
+use vx_table::put_line;
 
 // The edges that are written as `a>b`, of so many members; None: one isn't, or leads out of the members.
 fn edges_of(alloc: Global, members: u32, text: &str) -> Result<Option<Edges>, AllocError> {

@@ -93,8 +93,11 @@ fn take_step(
     on(alloc, first, program, step.reply)
 }
 
-// A typed program, settled: typing keeps its members apart.
-fn settled_from(alloc: Global, typed: &Typed) -> Result<Settled, AllocError> {
+/// A typed program, settled: typing keeps its members apart.
+///
+/// # Errors
+/// Want of memory.
+pub fn settled_from(alloc: Global, typed: &Typed) -> Result<Settled, AllocError> {
     typed_programs_keep_apart();
     typed.typed();
     settle(alloc, typed.program())

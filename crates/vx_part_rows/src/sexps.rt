@@ -1,8 +1,8 @@
 //! The first s-expression of some bytes: at once, and as they come one by one.
 
-use vx_table::put_line;
 use std::alloc::{AllocError, Global};
 use vx_sexp::{Bytes, Kind, Reading, SexpFault, Token, count_finished, cut, read};
+use vx_table::put_line;
 
 // How many bytes were taken, or why none.
 fn end_text(alloc: Global, end: Result<usize, SexpFault>) -> Result<String, AllocError> {

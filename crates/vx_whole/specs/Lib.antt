@@ -1,3 +1,4 @@
 pub mod Now
 pub mod Premises
 pub mod Closure
+pub mod Executed

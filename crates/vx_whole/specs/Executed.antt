@@ -1,0 +1,45 @@
+-- The programs that are executed so far: all but those with a function whose type is Perm, or whose precondition applies a function.
+-- Bodies and postconditions of functions may apply them, and so may all parts of methods.
+use Rattle.std.specs.Prelude.{Bool, true, false, ◌&&◌, if◌then◌else◌, List, [], ◌∷◌, Option, Some, None}
+use Rattle.std.specs.Option.{is_none, option_or}
+use Rattle.vx_ast.specs.declared.Place.{Place}
+use Rattle.vx_ast.specs.declared.ValueType.{ValueType}
+use Rattle.vx_ast.specs.declared.ValueType.TheVariants as type
+use Rattle.vx_ast.specs.Apart.{entered_by}
+use Rattle.vx_ast.specs.Syntax.{Name, Program, Member, Kind, IsField, IsPredicate, IsFunction, IsMethod, Function, function_named, joined}
+
+-- a function may have any type but Perm
+abbrev pub is_executed_type : ValueType → Bool
+is_executed_type type.Int = true
+is_executed_type type.Bool = true
+is_executed_type type.Ref = true
+is_executed_type type.Perm = false
+
+-- no function has one of these names
+abbrev pub are_no_functions : Program → List Name → Bool
+are_no_functions p [] = true
+are_no_functions p (x ∷ xs) = is_none (function_named p x) && are_no_functions p xs
+
+-- its type isn't Perm, and nothing that its precondition evaluates is a function
+abbrev pub is_executed_function : Program → Function → Bool
+is_executed_function p g = is_executed_type g.of && are_no_functions p (entered_by (joined g.place g.requires))
+
+-- where a member stands that is a function and isn't executed
+abbrev pub beyond_at : Program → Kind → Option Place
+beyond_at p (IsField t) = None
+beyond_at p (IsPredicate d) = None
+beyond_at p (IsFunction g) = if is_executed_function p g then None else Some g.place
+beyond_at p (IsMethod m) = None
+
+-- the first of these members that isn't executed
+abbrev pub first_beyond_of : Program → List Member → Option Place
+first_beyond_of p [] = None
+first_beyond_of p (m ∷ ms) = option_or (beyond_at p m.kind) (first_beyond_of p ms)
+
+-- the place of the first function in file order that isn't executed; none where all are
+abbrev pub first_beyond : Program → Option Place
+first_beyond p = first_beyond_of p p
+
+-- each function is executed
+abbrev pub is_executed : Program → Bool
+is_executed p = is_none (first_beyond p)
