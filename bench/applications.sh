@@ -2,8 +2,9 @@
 # Writes tables of rows (docs/ROWS.md) that execute programs with functions, as the program itself refuses these yet, and prints what it
 # takes to answer each: 100, 400 and 1600 programs of one method that applies a function once; one program of as many such methods, of
 # which the last is executed; one method of as many applications of a function that reads a field, each of which has a snapshot of its
-# own; one of as many applications of the length of a list, which tell three levels; and one of as many asserts of an application, each
-# with its precondition's question. All questions are answered unsat.
+# own; one of as many applications of the length of one list, which tell three levels; one of as many lists after one another, of each of
+# which the length is taken; and one of as many asserts of an application, each with its precondition's question. All questions are
+# answered unsat.
 set -eu
 . "$(dirname "${BASH_SOURCE[0]}")/timing.sh"
 program=$here/crates/vx_part_rows/out/vx_part_rows
@@ -45,15 +46,20 @@ applications() {
     replies 1
 }
 
-lengths() {
-    row "lengths" 3
+# lengths of lists: STATEMENTS SIZE, the statements being run so often
+lists_by() {
+    row "lists" 3
     echo 'line field next: Ref'
     echo 'line predicate list(x: Ref) { acc(x.next) && (x.next != null ==> list(x.next)) }'
     echo 'line function length(x: Ref): Int requires list(x) ensures result > 0 decreases list(x)'
     echo 'line { unfolding list(x) in x.next == null ? 1 : 1 + length(x.next) }'
-    printf 'line method m(x: Ref) requires list(x)\nline {\nline var a: Int\nlines %s a := length(x)\nline assert a > 0\nline }\n' "$1"
+    printf 'line method m(x: Ref) requires list(x)\nline {\nline var a: Int\nlines %s %s\nline assert a > 0\nline }\n' "$2" "$1"
     replies 1
 }
+
+lengths() { lists_by 'a := length(x)' "$1"; }
+
+lists() { lists_by 'exhale list(x) inhale list(x) a := length(x)' "$1"; }
 
 asserts() {
     row "asserts" 1
@@ -73,4 +79,4 @@ answered() {
     done
 }
 
-for what in programs methods applications lengths asserts; do answered "$what" 100 400 1600; done
+for what in programs methods applications lengths lists asserts; do answered "$what" 100 400 1600; done
