@@ -4,11 +4,9 @@ use Rattle.std.specs.Prelude.{slice_get}
 use Rattle.std.specs.Option.{is_none, option_or}
 use Rattle.std.proofs.lemmas.Bool.{false≢true}
 use Rattle.vx_ast.specs.declared.Place.{Place}
-use Rattle.vx_ast.specs.declared.ValueType.{ValueType}
-use Rattle.vx_ast.specs.declared.ValueType.TheVariants as type
 use Rattle.vx_ast.specs.Apart.{Stands, entered_by}
 use Rattle.vx_ast.specs.Syntax.{Name, Program, Member, Kind, IsField, IsPredicate, IsFunction, IsMethod, Function, same_name, joined, member_named, function_in, function_named}
-use Rattle.vx_whole.specs.Executed.{is_executed_type, are_no_functions, is_executed_function, beyond_at, first_beyond_of, is_executed}
+use Rattle.vx_whole.specs.Executed.{are_no_functions, is_executed_function, beyond_at, first_beyond_of, is_executed}
 use Rattle.vx_executed.specs.Plain.{IsPlain, ArePlain, AreFound}
 
 both : (a b : Bool) → (a && b) ≡ true → (a ≡ true) × (b ≡ true)
@@ -36,24 +34,11 @@ no_functions p (x ∷ xs) h = ap (λ o. is_none o && are_no_functions p xs) (h x
 
 -- ---- functions
 
-not_perm : (t : ValueType) → is_executed_type t ≡ true → (t ≡ type.Perm) → ⊥
-not_perm t e is = false≢true (sym (ap is_executed_type is) ∙ e)
-
-executed_type : (t : ValueType) → ((t ≡ type.Perm) → ⊥) → is_executed_type t ≡ true
-executed_type type.Int h = refl
-executed_type type.Bool h = refl
-executed_type type.Ref h = refl
-executed_type type.Perm h = absurd (h refl)
-
 plain : (p : Program) (g : Function) → is_executed_function p g ≡ true → IsPlain p g
-plain p g e =
-    let parts = both (is_executed_type g.of) (are_no_functions p (entered_by (joined g.place g.requires))) e in
-    (not_perm g.of parts.0, none_among p (entered_by (joined g.place g.requires)) parts.1)
+plain p g e = none_among p (entered_by (joined g.place g.requires)) e
 
 executed : (p : Program) (g : Function) → IsPlain p g → is_executed_function p g ≡ true
-executed p g h =
-    ap (λ b. b && are_no_functions p (entered_by (joined g.place g.requires))) (executed_type g.of h.0)
-    ∙ no_functions p (entered_by (joined g.place g.requires)) h.1
+executed p g h = no_functions p (entered_by (joined g.place g.requires)) h
 
 -- ---- members
 

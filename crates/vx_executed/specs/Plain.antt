@@ -1,12 +1,11 @@
 -- What is known of a function that is executed, and of a program all of whose functions are.
 use Rattle.std.specs.Prelude.{◌≡◌, ℕ, Some, None, slice_get}
-use Rattle.vx_ast.specs.declared.ValueType.TheVariants as type
 use Rattle.vx_ast.specs.Apart.{Stands, entered_by}
 use Rattle.vx_ast.specs.Syntax.{Name, Program, Member, Function, joined, member_named, function_named}
 
--- its type isn't Perm, and no function is applied by what its precondition evaluates
+-- no function is applied by what its precondition evaluates
 abbrev pub IsPlain : Program → Function → Type 0
-IsPlain p g = ((g.of ≡ type.Perm) → ⊥) × ((x : Name) → Stands x (entered_by (joined g.place g.requires)) → function_named p x ≡ None)
+IsPlain p g = (x : Name) → Stands x (entered_by (joined g.place g.requires)) → function_named p x ≡ None
 
 abbrev pub ArePlain : Program → Type 0
 ArePlain p = (f : Name) (g : Function) → function_named p f ≡ Some g → IsPlain p g

@@ -11,7 +11,7 @@ ghost use Rattle.vx_whole.specs.Executed.{is_executed};
 
 pub use members::beyond;
 
-/// In a program that is executed no function has the type Perm, and none is applied by what a function's precondition evaluates.
+/// In a program that is executed no function is applied by what a function's precondition evaluates.
 pub fn executed_functions_are_plain()
     ensures { (p : Program) → is_executed p ≡ true → ArePlain p }
 {}

@@ -2,27 +2,14 @@
 
 ghost use Rattle.std.specs.Prelude.{◌≡◌, flat_map};
 ghost use Rattle.vx_ast.specs.Apart.{entered_by};
-ghost use Rattle.vx_ast.specs.Syntax.{joined};
 ghost use Rattle.vx_resolved.specs.Resolved as resolved;
 ghost use Rattle.vx_resolved.specs.Settled.{settled};
-ghost use Rattle.vx_whole.specs.Executed.{are_no_functions, is_executed_type, is_executed_function, beyond_at, first_beyond};
+ghost use Rattle.vx_whole.specs.Executed.{are_no_functions, is_executed_function, beyond_at, first_beyond};
 
 use crate::walk::is_plain_assertion;
 use std::rc::Rc;
-use vx_ast::{Place, ValueType};
+use vx_ast::Place;
 use vx_resolved::{Assertion, Function, Kind, Settled};
-
-// All types of a function are executed but Perm.
-fn is_executed_type(of: ValueType) -> bool
-    ensures { result ≡ is_executed_type of }
-{
-    match of {
-        ValueType::Int => true,
-        ValueType::Bool => true,
-        ValueType::Ref => true,
-        ValueType::Perm => false,
-    }
-}
 
 // Whether what is evaluated of assertions applies no function.
 fn are_plain_assertions(program: &Settled, those: &[Rc<Assertion>]) -> bool
@@ -36,19 +23,12 @@ fn are_plain_assertions(program: &Settled, those: &[Rc<Assertion>]) -> bool
     true
 }
 
-// Whether what is evaluated of a function's precondition applies no function.
+// Whether a function is executed: what is evaluated of its precondition applies no function.
 #[tactic(auto, using(crate::proofs::Names::entered_by_all))]
-fn is_plain_precondition(program: &Settled, f: &Function) -> bool
-    ensures { result ≡ are_no_functions (settled program.now) (entered_by (joined f.now.place (resolved.assertions f.now.preconditions.items))) }
-{
-    are_plain_assertions(program, &f.preconditions)
-}
-
-// Whether a function is executed.
 fn is_executed_function(program: &Settled, f: &Function) -> bool
     ensures { result ≡ is_executed_function (settled program.now) (resolved.function f.now) }
 {
-    is_executed_type(f.of) && is_plain_precondition(program, f)
+    are_plain_assertions(program, &f.preconditions)
 }
 
 // Where a member stands, if it is a function that isn't executed.
@@ -69,7 +49,7 @@ fn beyond_at(program: &Settled, kind: &Kind) -> Option<Place>
     }
 }
 
-/// The place of the first function in file order that isn't executed: its type is Perm, or its precondition applies a function.
+/// The place of the first function in file order that isn't executed: its precondition applies a function.
 pub fn beyond(program: &Settled) -> Option<Place>
     ensures { result ≡ first_beyond (settled program.now) }
 {

@@ -1,28 +1,19 @@
--- The programs that are executed so far: all but those with a function whose type is Perm, or whose precondition applies a function.
+-- The programs that are executed so far: all but those with a function whose precondition applies a function.
 -- Bodies and postconditions of functions may apply them, and so may all parts of methods.
-use Rattle.std.specs.Prelude.{Bool, true, false, ◌&&◌, if◌then◌else◌, List, [], ◌∷◌, Option, Some, None}
+use Rattle.std.specs.Prelude.{Bool, true, ◌&&◌, if◌then◌else◌, List, [], ◌∷◌, Option, Some, None}
 use Rattle.std.specs.Option.{is_none, option_or}
 use Rattle.vx_ast.specs.declared.Place.{Place}
-use Rattle.vx_ast.specs.declared.ValueType.{ValueType}
-use Rattle.vx_ast.specs.declared.ValueType.TheVariants as type
 use Rattle.vx_ast.specs.Apart.{entered_by}
 use Rattle.vx_ast.specs.Syntax.{Name, Program, Member, Kind, IsField, IsPredicate, IsFunction, IsMethod, Function, function_named, joined}
-
--- a function may have any type but Perm
-abbrev pub is_executed_type : ValueType → Bool
-is_executed_type type.Int = true
-is_executed_type type.Bool = true
-is_executed_type type.Ref = true
-is_executed_type type.Perm = false
 
 -- no function has one of these names
 abbrev pub are_no_functions : Program → List Name → Bool
 are_no_functions p [] = true
 are_no_functions p (x ∷ xs) = is_none (function_named p x) && are_no_functions p xs
 
--- its type isn't Perm, and nothing that its precondition evaluates is a function
+-- nothing that its precondition evaluates is a function
 abbrev pub is_executed_function : Program → Function → Bool
-is_executed_function p g = is_executed_type g.of && are_no_functions p (entered_by (joined g.place g.requires))
+is_executed_function p g = are_no_functions p (entered_by (joined g.place g.requires))
 
 -- where a member stands that is a function and isn't executed
 abbrev pub beyond_at : Program → Kind → Option Place
