@@ -4,6 +4,7 @@ use Rattle.std.specs.Fmt.{decimal}
 use Rattle.std.specs.Str.{IsUtf8}
 use Rattle.std.specs.Str.Lossy.{utf8_valid_len}
 use Rattle.vx_ast.specs.declared.Place.{Place}
+use Rattle.vx_ast.specs.Syntax.{Program}
 use Rattle.vx_ast.specs.Written as written
 use Rattle.vx_tokens.specs.Tokens.{Token}
 use Rattle.vx_tokens.specs.Text.{Scans, Ending, first_place, unmarked, after}
@@ -13,7 +14,7 @@ use Rattle.vx_parser.specs.Faults as text
 use Rattle.vx_parser.specs.Spelling.{Spells}
 use Rattle.vx_parser.specs.Refusing.{IsRefusal}
 use Rattle.vx_parser.specs.Answers.{IsAnswer, answer}
-use Rattle.vx_executed.specs.Beyond.{first_beyond, IsFirst}
+use Rattle.vx_whole.specs.Executed.{first_beyond, is_executed}
 use Rattle.vx_expressions.specs.declared.fault.TypeFault.{TypeFault}
 use Rattle.vx_expressions.specs.declared.fault.TypeFault.TheVariants as untyped
 use Rattle.vx_expressions.specs.Printed as type
@@ -72,10 +73,6 @@ pub record IsTypeFault (p : written.Program) (f : TypeFault) : Type 0 where
   pub told : f ≡ untyped.Want → ⊥
   pub first : IfSome (told_of f) (λ g. program p ≡ Err g)
 
--- the first token of the text that is not executed, unless memory ran out
-abbrev pub IsFirstBeyond : List ℕ → TextFault → Type 0
-IsFirstBeyond bytes f = (ts : List Token) (e : Ending) → Scans first_place (unmarked bytes) ts e → IsFirst (unmarked bytes) (Some f) (first_beyond ts)
-
 -- the line of a text that spells no program
 abbrev pub RefusesText : List ℕ → List ℕ → Type 0
 RefusesText bytes said = (f : TextFault) × IsTextFault bytes f × (said ≡ text_line f)
@@ -84,9 +81,18 @@ RefusesText bytes said = (f : TextFault) × IsTextFault bytes f × (said ≡ tex
 abbrev pub RefusesTyping : written.Program → List ℕ → Type 0
 RefusesTyping p said = (f : TypeFault) × IsTypeFault p f × (said ≡ type_line f)
 
--- the line of a typed program that is not executed yet
-abbrev pub RefusesExecution : List ℕ → List ℕ → Type 0
-RefusesExecution bytes said = (f : TextFault) × (f ≡ unspelled.Want → ⊥) × IsFirstBeyond bytes f × (said ≡ text_line f)
+-- the line of a function that is not executed yet, at its place
+abbrev pub beyond_line : Place → List ℕ
+beyond_line at = line at (codes "E09") (codes "Unsupported") (codes "function" ∷ [])
+
+-- the line of a typed program that is not executed yet: of the first function in file order that isn't
+abbrev pub RefusesExecution : Program → List ℕ → Type 0
+RefusesExecution p said = (at : Place) × (first_beyond p ≡ Some at) × (said ≡ beyond_line at)
+
+-- no line, where the program is executed; else that line
+abbrev pub IsJudged : Program → Option String → Type 0
+IsJudged p None = is_executed p ≡ true
+IsJudged p (Some said) = RefusesExecution p (string_bytes said)
 
 -- the text spells this program, and no other
 pub record IsSpelledBy (bytes : List ℕ) (p : written.Program) : Type 0 where

@@ -16,7 +16,7 @@ use Rattle.vx_report.specs.declared.status.Status.{Status}
 use Rattle.vx_report.specs.declared.status.Status.TheVariants.{Done, NotVerified, Usage, Unread, Refused, Faulted, Unwritten, Want}
 use Rattle.vx_report.specs.Statuses.{status_among}
 use Rattle.vx_typing.specs.Programs.{IsTyped}
-use Rattle.vx_resolved.specs.Executed.{is_executed}
+use Rattle.vx_whole.specs.Executed.{is_executed}
 use Rattle.vx_print.specs.Canonical.{canonical_text}
 use Rattle.vx_gen.specs.Generated.{generated}
 use Rattle.vx_commands.specs.declared.reading.Parsed.{Parsed}
@@ -47,7 +47,7 @@ use Rattle.vx_verifier.specs.Lines.{lines}
 pub record IsExecuted (text : List ℕ) (p : written.Program) : Type 0 where
   pub spelled : Spells text p
   pub typed : IsTyped p
-  pub executed : is_executed p ≡ true
+  pub executed : is_executed (resolve.program p) ≡ true
 
 -- the program that a text spells, with its names settled; it is supported
 pub record IsProgramOf (text : List ℕ) (p : Program) : Type 0 where
@@ -140,7 +140,7 @@ SaysChecked text s bytes = ⊥
 -- the same of `verify`, where there is no report: the program is typed, and not executed yet
 abbrev pub SaysRefused : (text : List ℕ) → Status → List ℕ → Type 0
 SaysRefused text Refused bytes =
-    RefusesText text bytes ⊎ ((p : written.Program) × IsSpelledBy text p × (RefusesTyping p bytes ⊎ (IsTyped p × RefusesExecution text bytes)))
+    RefusesText text bytes ⊎ ((p : written.Program) × IsSpelledBy text p × (RefusesTyping p bytes ⊎ (IsTyped p × RefusesExecution (resolve.program p) bytes)))
 SaysRefused text s bytes = ⊥
 
 -- what a command says of a text, with its status

@@ -1,25 +1,23 @@
 //! Which typed programs are executed.
 
-ghost use Rattle.std.specs.Prelude.{◌≡◌, true, IfErr, OnOk};
-ghost use Rattle.vx_resolved.specs.Executed.{is_executed};
-ghost use Rattle.vx_typing.specs.Typed.{written_of};
-ghost use Rattle.vx_commands.specs.Refusals.{IsSpelledBy, IsFirstBeyond};
+ghost use Rattle.std.specs.Prelude.{IfOk};
+ghost use Rattle.vx_typing.specs.Typed.{resolved_of};
+ghost use Rattle.vx_commands.specs.Refusals.{IsJudged};
 
-use std::alloc::Global;
-use vx_executed::{beyond, texts_within_are_executed};
-use vx_parser::TextFault;
+use crate::answers::beyond_line;
+use std::alloc::{AllocError, Global};
+use vx_executed::beyond;
 use vx_typing::Typed;
+use vx_verifier::settled;
 
-/// The typed program that a text spells is executed. Otherwise the first token that isn't, in text order, is unsupported.
-/// Memory may also run out.
-pub fn supported(alloc: Global, text: &[u8], typed: &Typed) -> Result<(), TextFault>
-    requires { IsSpelledBy text.now (written_of typed.now) }
-    ensures executed { OnOk result (is_executed (written_of typed.now) ≡ true) }
-    ensures beyond { IfErr result (λ f. IsFirstBeyond text.now f) }
+/// The line of a typed program that isn't executed yet, which tells its first function that isn't. There is none where the
+/// program is executed.
+pub fn unsupported(alloc: Global, typed: &Typed) -> Result<Option<String>, AllocError>
+    ensures { IfOk result (IsJudged (resolved_of typed.now)) }
 {
-    texts_within_are_executed();
-    match beyond(alloc, text) {
-        None => Ok(()),
-        Some(fault) => Err(fault),
+    let program = settled(alloc, typed)?;
+    match beyond(&program) {
+        None => Ok(None),
+        Some(place) => Ok(Some(beyond_line(alloc, place)?)),
     }
 }

@@ -2,7 +2,6 @@
 
 ghost use Rattle.std.specs.Prelude.{◌≡◌, ◌≤◌, IfOk, IfErr, true, string_bytes};
 ghost use Rattle.vx_ast.specs.Written.{written_program};
-ghost use Rattle.vx_resolved.specs.Executed.{is_executed};
 ghost use Rattle.vx_typing.specs.Typed.{written_of};
 ghost use Rattle.vx_gen.specs.Generated.{generated};
 ghost use Rattle.vx_gen.specs.Programs as gen;

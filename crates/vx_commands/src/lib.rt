@@ -9,6 +9,5 @@ mod reports;
 mod saying;
 mod top;
 
-pub use executed::supported;
 pub use reports::Telling;
 pub use top::{Ended, run};

@@ -1,9 +1,9 @@
 //! Reports: what the runs of a program's members say, and how it is put.
 
 ghost use Rattle.std.specs.Prelude.{◌≡◌, ◌++◌, [], IfOk, IfErr, OnOk, true, string_bytes};
-ghost use Rattle.vx_resolved.specs.Executed.{is_executed};
+ghost use Rattle.vx_whole.specs.Executed.{is_executed};
 ghost use Rattle.vx_report.specs.Reports.{AreNamed, RestWithin};
-ghost use Rattle.vx_typing.specs.Typed.{written_of, resolved_of};
+ghost use Rattle.vx_typing.specs.Typed.{resolved_of};
 ghost use Rattle.vx_commands.specs.Reported as spec;
 ghost use Rattle.vx_commands.specs.Outside.{change, taken, children, companions, StartsOnly};
 ghost use Rattle.vx_commands.specs.Reported.{IsPut, IsStatus, IsSaid, IsReport, IsCompanionReport, IsReportBy, StartsBy};
@@ -74,7 +74,7 @@ fn report<K: Sink, W: Spawner>(
     solver: &Parts,
     spawner: &mut W,
 ) -> Result<Ended, AllocError>
-    requires { is_executed (written_of typed.now) ≡ true }
+    requires { is_executed (resolved_of typed.now) ≡ true }
     ensures report { IfOk result (IsReport telling (resolved_of typed.now) solver.now (change (children W.starts W.ended W.faults W.steady) spawner.old spawner.new) (change (taken K.taken K.faults) out.old out.new)) }
     ensures starts { StartsOnly solver.now (change (children W.starts W.ended W.faults W.steady) spawner.old spawner.new) }
     ensures nothing { IfErr result (λ _. K.taken out.new ≡ K.taken out.old) }
@@ -103,7 +103,7 @@ pub fn report_by_companion<K: Sink>(
     out: &mut K,
     builtin: &mut Builtin,
 ) -> Result<Ended, AllocError>
-    requires { is_executed (written_of typed.now) ≡ true }
+    requires { is_executed (resolved_of typed.now) ≡ true }
     ensures report { IfOk result (IsCompanionReport telling (resolved_of typed.now) solver.now (change companions builtin.old builtin.new) (change (taken K.taken K.faults) out.old out.new)) }
     ensures starts { StartsOnly solver.now (change companions builtin.old builtin.new) }
     ensures nothing { IfErr result (λ _. K.taken out.new ≡ K.taken out.old) }
@@ -120,7 +120,7 @@ pub fn report_by<K: Sink, W: Spawner>(
     spawner: &mut W,
     builtin: &mut Builtin,
 ) -> Result<Ended, AllocError>
-    requires { is_executed (written_of typed.now) ≡ true }
+    requires { is_executed (resolved_of typed.now) ≡ true }
     ensures report { IfOk result (IsReportBy solver.now (resolved_of typed.now) (change companions builtin.old builtin.new) (change (children W.starts W.ended W.faults W.steady) spawner.old spawner.new) (change (taken K.taken K.faults) out.old out.new)) }
     ensures starts { StartsBy solver.now (change companions builtin.old builtin.new) (change (children W.starts W.ended W.faults W.steady) spawner.old spawner.new) }
     ensures nothing { IfErr result (λ _. K.taken out.new ≡ K.taken out.old) }

@@ -9,8 +9,8 @@ ghost use Rattle.vx_commands.specs.Reported as spec;
 ghost use Rattle.vx_commands.specs.Outside.{change, texts, taken, children, companions, AsksOnly, StartsOnly};
 ghost use Rattle.vx_commands.specs.Reported.{Puts, IsToldOf, IsGenerated, IsVerified, IsAnswer, IsStatusOf, AsksFileOf, StartsBy, StartsSolverOf};
 
-use crate::answers::{TOO_LONG, UNREAD, USAGE, text_refusal};
-use crate::executed::supported;
+use crate::answers::{TOO_LONG, UNREAD, USAGE};
+use crate::executed::unsupported;
 use crate::generated::{text_of, work};
 use crate::reading::{Checked, Loaded, Parsed, load, read, type_of};
 use crate::reports::{report_by, say};
@@ -55,17 +55,12 @@ fn verify_typed<K: Sink, W: Spawner>(
     ensures nothing { IfErr result (λ _. K.taken out.new ≡ K.taken out.old) }
 {
     typed.typed();
-    match supported(alloc, text, typed) {
-        Ok(()) => {
+    match unsupported(alloc, typed)? {
+        None => {
             programs_are_supported(typed);
             report_by(alloc, typed, solver, out, spawner, builtin)
         }
-        Err(fault) => Ok(say(
-            alloc,
-            out,
-            text_refusal(alloc, &fault)?.as_bytes(),
-            Status::Refused,
-        )),
+        Some(line) => Ok(say(alloc, out, line.as_bytes(), Status::Refused)),
     }
 }
 

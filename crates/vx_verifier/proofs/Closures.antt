@@ -18,7 +18,9 @@ use Rattle.vx_rules.specs.Members.{tree}
 use Rattle.vx_machine.specs.Runs.{tree_of, member_tree}
 use Rattle.vx_whole.specs.Closure.{InClosure}
 use Rattle.vx_sound.specs.Law.{Passes}
-use Rattle.vx_sound_preds.proofs.Soundness.{instance_members_sound}
+use Rattle.vx_whole.specs.Executed.{is_executed}
+use Rattle.vx_sound_funcs.specs.Firm.{PlainContracts}
+use Rattle.vx_law.specs.Law.{MembersAreSound}
 use Rattle.vx_settled.proofs.TypedNames.{same_is}
 use Rattle.vx_closure.specs.Leads.{LeadsTo}
 use Rattle.vx_resting.specs.Resting.{has_passed, HoldsUp, IsFirst, IsHeldUpAs, AreRested}
@@ -219,13 +221,18 @@ module _ (p : Program) (all : List Check) (runs : List MemberRun) (walked : Each
   led_each n held right x at y (IsFunction h) closed named = led_passes n held right x at y (IsFunction h) closed named refl
   led_each n held right x at y (IsMethod m) closed named = led_passes n held right x at y (IsMethod m) closed named refl
 
-never_fails : (p : Program) (all : List Check) (runs : List MemberRun) → Each (IsWalked p all) runs → members_of runs ≡ lines p
-    → (n : ℕ) → IsFirst (HoldsUp p n) runs None → Under (λ own. Each IsRight own) p n runs all → NeverFails p n
-never_fails p all runs walked each n held right supported x at fails =
-    instance_members_sound p x.name x.kind (replies_by p runs all) supported.typed (supported.typed.names n x at)
-    (λ y l closed named. (supported.members y l named, led_each p all runs walked each n held right x at y l closed named)) fails
+-- what the law for the whole language asks and says
+pub record Law : Type 0 where
+  pub sound : MembersAreSound
+  pub plain : (p : Program) → is_executed p ≡ true → PlainContracts p
 
-pub sound : (p : Program) (all : List Check) (runs : List MemberRun) → Each (IsWalked p all) runs → members_of runs ≡ lines p → AreRested p runs → AreSound p runs all
-sound p all runs walked each rested = in_each (λ (r : MemberRun). r.verdict ≡ verdict.Verified → Under (λ own. Each IsRight own) p r.member.0 runs all → NeverFails p r.member.0) runs (λ r inside is right.
+never_fails : Law → (p : Program) (all : List Check) (runs : List MemberRun) → Each (IsWalked p all) runs → members_of runs ≡ lines p
+    → (n : ℕ) → IsFirst (HoldsUp p n) runs None → Under (λ own. Each IsRight own) p n runs all → NeverFails p n
+never_fails law p all runs walked each n held right supported x at fails =
+    law.sound p x.name x.kind (replies_by p runs all) supported.typed (law.plain p supported.executed) (supported.typed.names n x at)
+    (λ y l closed named. led_each p all runs walked each n held right x at y l closed named) fails
+
+pub sound : Law → (p : Program) (all : List Check) (runs : List MemberRun) → Each (IsWalked p all) runs → members_of runs ≡ lines p → AreRested p runs → AreSound p runs all
+sound law p all runs walked each rested = in_each (λ (r : MemberRun). r.verdict ≡ verdict.Verified → Under (λ own. Each IsRight own) p r.member.0 runs all → NeverFails p r.member.0) runs (λ r inside is right.
     let held : IsFirst (HoldsUp p r.member.0) runs None = subst (IsHeldUpAs p r.member.0 runs) is (each_in (λ (q : MemberRun). IsHeldUpAs p q.member.0 runs q.verdict) runs r rested inside) in
-    never_fails p all runs walked each r.member.0 held right)
+    never_fails law p all runs walked each r.member.0 held right)

@@ -3,13 +3,13 @@
 -- fails at no place.
 use Rattle.std.specs.Prelude.{◌≡◌, ◌⊎◌, ℕ, ◌+◌, ◌<◌, ◌||◌, ⊤, Bool, true, false, List, [], ◌∷◌, ◌++◌, Some, length, map, take, drop, slice_get, if◌then◌else◌}
 use Rattle.std.specs.List.{list_any}
-use Rattle.vx_ast.specs.Syntax.{Name, Program, Member, Kind, member_named}
+use Rattle.vx_ast.specs.Syntax.{Program, Member}
 use Rattle.vx_terms.specs.Sorts.{BoolSort}
 use Rattle.vx_terms.specs.Formed.{Formed}
 use Rattle.vx_terms.specs.Interpretations.{Each}
 use Rattle.vx_meaning.specs.Fails.{Fails}
-use Rattle.vx_types.specs.InstanceLanguage.{IsInstanceMember}
 use Rattle.vx_whole.specs.Premises.{IsTypedProgram}
+use Rattle.vx_whole.specs.Executed.{is_executed}
 use Rattle.vx_smt_meaning.specs.Commands.{Command, Declared, Assert}
 use Rattle.vx_smt_meaning.specs.Dialogues.{Check}
 use Rattle.vx_smt_meaning.specs.WellFormed.{IsWellFormed}
@@ -32,14 +32,15 @@ use Rattle.vx_verifier.specs.Sequences.{AreChecksOf, replies_to, IsRight, AllUns
 use Rattle.vx_verifier.specs.Causes.{HasCauseOf, NoCountRose, AllLawful}
 use Rattle.vx_verifier.specs.Lines.{lines}
 
--- the program is typed as a whole, no two of its members have one name, and none is a function
+-- the program is typed as a whole, no two of its members have one name, and it is executed: no precondition of a function applies one
 pub record IsSupported (p : Program) : Type 0 where
   pub typed : IsTypedProgram p
   pub distinct : HasDistinctNames p
-  pub members : (x : Name) (k : Kind) → member_named p x ≡ Some k → IsInstanceMember k
+  pub executed : is_executed p ≡ true
 
 -- In a supported program the member with this number doesn't fail: a method at no place, in no run from any state satisfying
--- its precondition; the body of a predicate at no place where it is given to what holds nothing.
+-- its precondition; the body of a predicate at no place where it is given to what holds nothing; a function in none of the ways that
+-- `FunctionFails` tells, from any state satisfying its precondition.
 abbrev pub NeverFails : Program → ℕ → Type 0
 NeverFails p n = IsSupported p → (m : Member) → slice_get p n ≡ Some m → Fails p m.name m.kind → ⊥
 

@@ -14,8 +14,8 @@ ghost use Rattle.vx_machine.specs.Runs.{Follows, awaits, member_tree};
 ghost use Rattle.vx_live.specs.Functions.{function_symbols};
 ghost use Rattle.vx_verifier.specs.Causes.{HasCauseOf, NoCountRose};
 ghost use Rattle.vx_verifier.specs.Steady.{AreSpelled, AllSpelled, AsksSpelled, IsCalmLane};
-ghost use Rattle.vx_resolved.specs.Executed.{is_executed};
-ghost use Rattle.vx_typing.specs.Typed.{written_of, resolved_of};
+ghost use Rattle.vx_whole.specs.Executed.{is_executed};
+ghost use Rattle.vx_typing.specs.Typed.{resolved_of};
 ghost use Rattle.vx_verifier.specs.Headline.{Headline, IsSupported, asked_turns, member_turns, members_of, has_question, some_ask};
 ghost use Rattle.vx_verifier.specs.Lines.{has_line, lines};
 ghost use Rattle.vx_verifier.specs.Lanes as spec;
@@ -27,6 +27,8 @@ use crate::symbols::function_symbols;
 use std::alloc::{AllocError, Global};
 use vx_ast::MemberId;
 use vx_ends::{Parts, Spawner, Turns};
+use vx_executed::executed_functions_are_plain;
+use vx_law::members_are_sound;
 use vx_machine::{Ask, Machine, Outcome};
 use vx_report::{MemberRun, Verdict};
 use vx_resolved::{Kind, Settled};
@@ -338,6 +340,8 @@ fn verify_members<W: Spawner, N: Turns>(
         → NoCountRose (W.ended spawner.old) (W.ended spawner.new) (W.faults spawner.old) (W.faults spawner.new) }
 {
     let functions = function_symbols(alloc, program)?;
+    members_are_sound();
+    executed_functions_are_plain();
     let (lane, runs) = execute_all(alloc, program, &functions, command, spawner, turns);
     let Lane { child, checks: _ } = lane;
     end(spawner, child);
@@ -362,7 +366,7 @@ pub fn verify<W: Spawner, N: Turns>(
 ) -> Result<Runs, AllocError>
     requires jobs { jobs ≡ 1 }
     requires certify { certify ≡ false }
-    requires executed { is_executed (written_of typed.now) ≡ true }
+    requires executed { is_executed (resolved_of typed.now) ≡ true }
     ensures named { IfOk result (λ runs. AreNamed (resolved_of typed.now) runs.items) }
     ensures rests { IfOk result (λ runs. RestWithin (resolved_of typed.now) runs.items) }
     ensures headline { IfOk result (λ runs. Headline (resolved_of typed.now) (W.ended spawner.old) (W.ended spawner.new) (W.faults spawner.old) (W.faults spawner.new) runs.items) }

@@ -1,15 +1,15 @@
 //! Typed programs that are executed: settled, and supported.
 
 ghost use Rattle.std.specs.Prelude.{◌≡◌, true, IfOk};
-ghost use Rattle.vx_resolved.specs.Executed.{is_executed};
 ghost use Rattle.vx_resolved.specs.Settled.{settled};
-ghost use Rattle.vx_typing.specs.Typed.{written_of, resolved_of};
+ghost use Rattle.vx_typing.specs.Typed.{resolved_of};
+ghost use Rattle.vx_whole.specs.Executed.{is_executed};
 ghost use Rattle.vx_verifier.specs.Headline.{IsSupported};
 
 use std::alloc::{AllocError, Global};
 use vx_resolved::Settled;
 use vx_settled::{
-    executed_programs_hold_instances, typed_programs_keep_apart, typed_programs_name_apart,
+    executed_programs_settle_whole, typed_programs_keep_apart, typed_programs_name_apart,
 };
 use vx_settling::settle;
 use vx_typing::Typed;
@@ -23,12 +23,12 @@ pub fn settled(alloc: Global, typed: &Typed) -> Result<Settled, AllocError>
     settle(alloc, typed.program())
 }
 
-/// A program that is executed is typed as a whole, no two of its members have one name, and none is a function.
+/// A typed program that is executed is typed as a whole, and no two of its members have one name.
 pub fn programs_are_supported(typed: &Typed)
-    requires { is_executed (written_of typed.now) ≡ true }
+    requires { is_executed (resolved_of typed.now) ≡ true }
     ensures { IsSupported (resolved_of typed.now) }
 {
-    executed_programs_hold_instances();
+    executed_programs_settle_whole();
     typed_programs_name_apart();
     typed.typed();
 }
