@@ -6,8 +6,8 @@ use Rattle.std.proofs.lemmas.Bool.{false≢true}
 use Rattle.vx_ast.specs.declared.Place.{Place}
 use Rattle.vx_ast.specs.Apart.{Stands, entered_by}
 use Rattle.vx_ast.specs.Syntax.{Name, Program, Member, Kind, IsField, IsPredicate, IsFunction, IsMethod, Function, same_name, joined, member_named, function_in, function_named}
-use Rattle.vx_whole.specs.Executed.{are_no_functions, is_executed_function, beyond_at, first_beyond_of, is_executed}
-use Rattle.vx_executed.specs.Plain.{IsPlain, ArePlain, AreFound}
+use Rattle.vx_whole.specs.Executed.{are_no_functions, leaves_result, is_executed_function, beyond_at, first_beyond_of, is_executed}
+use Rattle.vx_executed.specs.Plain.{IsPlain, ArePlain, LeaveResults, AreFound}
 
 both : (a b : Bool) → (a && b) ≡ true → (a ≡ true) × (b ≡ true)
 both true b e = (refl, e)
@@ -35,10 +35,13 @@ no_functions p (x ∷ xs) h = ap (λ o. is_none o && are_no_functions p xs) (h x
 -- ---- functions
 
 plain : (p : Program) (g : Function) → is_executed_function p g ≡ true → IsPlain p g
-plain p g e = none_among p (entered_by (joined g.place g.requires)) e
+plain p g e = none_among p (entered_by (joined g.place g.requires)) (both (are_no_functions p (entered_by (joined g.place g.requires))) (leaves_result g) e).0
 
-executed : (p : Program) (g : Function) → IsPlain p g → is_executed_function p g ≡ true
-executed p g h = no_functions p (entered_by (joined g.place g.requires)) h
+leaving : (p : Program) (g : Function) → is_executed_function p g ≡ true → leaves_result g ≡ true
+leaving p g e = (both (are_no_functions p (entered_by (joined g.place g.requires))) (leaves_result g) e).1
+
+executed : (p : Program) (g : Function) → IsPlain p g → leaves_result g ≡ true → is_executed_function p g ≡ true
+executed p g h away = ap (λ b. b && leaves_result g) (no_functions p (entered_by (joined g.place g.requires)) h) ∙ away
 
 -- ---- members
 
@@ -64,24 +67,31 @@ is_function (Some (IsPredicate d)) g e = cc
 is_function (Some (IsFunction f)) g e = cc
 is_function (Some (IsMethod m)) g e = cc
 
--- in a program that is executed each function is plain
+-- in a program that is executed each function is
+each_executed : (p : Program) → is_executed p ≡ true → (f : Name) (g : Function) → function_named p f ≡ Some g → is_executed_function p g ≡ true
+each_executed p e f g named = told (is_executed_function p g) g.place (none_beyond p p f (IsFunction g) e (is_function (member_named p f) g named))
+
+-- so each is plain
 pub are_plain : (p : Program) → is_executed p ≡ true → ArePlain p
-are_plain p e f g named =
-    plain p g (told (is_executed_function p g) g.place (none_beyond p p f (IsFunction g) e (is_function (member_named p f) g named)))
+are_plain p e f g named = plain p g (each_executed p e f g named)
+
+-- and its parameters leave its result
+pub leave_results : (p : Program) → is_executed p ≡ true → LeaveResults p
+leave_results p e f g named = leaving p g (each_executed p e f g named)
 
 -- ---- back
 
-executed_kind : (p : Program) → ArePlain p → (x : Name) (k : Kind) → member_named p x ≡ Some k → is_none (beyond_at p k) ≡ true
-executed_kind p h x (IsField t) e = refl
-executed_kind p h x (IsPredicate d) e = refl
-executed_kind p h x (IsFunction g) e = ap (λ b. is_none (cond b None (Some g.place))) (executed p g (h x g (ap function_in e)))
-executed_kind p h x (IsMethod m) e = refl
+executed_kind : (p : Program) → ArePlain p → LeaveResults p → (x : Name) (k : Kind) → member_named p x ≡ Some k → is_none (beyond_at p k) ≡ true
+executed_kind p h away x (IsField t) e = refl
+executed_kind p h away x (IsPredicate d) e = refl
+executed_kind p h away x (IsFunction g) e = ap (λ b. is_none (cond b None (Some g.place))) (executed p g (h x g (ap function_in e)) (away x g (ap function_in e)))
+executed_kind p h away x (IsMethod m) e = refl
 
 none_of : (p : Program) (ms : List Member) → ((n : ℕ) (m : Member) → slice_get ms n ≡ Some m → is_none (beyond_at p m.kind) ≡ true) → is_none (first_beyond_of p ms) ≡ true
 none_of p [] h = refl
 none_of p (m ∷ ms) h =
     ap (λ o. is_none (option_or o (first_beyond_of p ms))) (none_there (beyond_at p m.kind) (h zero m refl)) ∙ none_of p ms (λ n. h (suc n))
 
--- where each function is plain, the program is executed
-pub are_executed : (p : Program) → AreFound p → ArePlain p → is_executed p ≡ true
-are_executed p found h = none_of p p (λ n m is. executed_kind p h m.name m.kind (found n m is))
+-- where each function is plain and leaves its result, the program is executed
+pub are_executed : (p : Program) → AreFound p → ArePlain p → LeaveResults p → is_executed p ≡ true
+are_executed p found h away = none_of p p (λ n m is. executed_kind p h away m.name m.kind (found n m is))

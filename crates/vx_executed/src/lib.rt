@@ -6,7 +6,7 @@ mod walk;
 
 ghost use Rattle.std.specs.Prelude.{◌≡◌, true};
 ghost use Rattle.vx_ast.specs.Syntax.{Program};
-ghost use Rattle.vx_executed.specs.Plain.{AreFound, ArePlain};
+ghost use Rattle.vx_executed.specs.Plain.{AreFound, ArePlain, LeaveResults};
 ghost use Rattle.vx_whole.specs.Executed.{is_executed};
 
 pub use members::beyond;
@@ -16,7 +16,12 @@ pub fn executed_functions_are_plain()
     ensures { (p : Program) → is_executed p ≡ true → ArePlain p }
 {}
 
-/// And so each program without such functions is executed.
+/// And no parameter has the name of the result of its function.
+pub fn executed_functions_leave_results()
+    ensures { (p : Program) → is_executed p ≡ true → LeaveResults p }
+{}
+
+/// And so each program of such functions alone is executed.
 pub fn plain_programs_are_executed()
-    ensures { (p : Program) → AreFound p → ArePlain p → is_executed p ≡ true }
+    ensures { (p : Program) → AreFound p → ArePlain p → LeaveResults p → is_executed p ≡ true }
 {}

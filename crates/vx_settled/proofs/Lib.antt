@@ -11,5 +11,5 @@ pub mod Recursions
 pub mod ConstantAmounts
 pub mod SaidNow
 pub mod TypedPrograms
-pub mod InstanceMembers
+pub mod ExecutedPrograms
 pub mod DistinctNames

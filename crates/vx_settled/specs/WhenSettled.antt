@@ -1,18 +1,17 @@
--- What is typed as it is written is typed when it is settled, as a whole and member by member, and keeps its members apart;
--- what is executed is of the language with predicates then.
+-- What is typed as it is written is typed when it is settled, member by member and, where it is executed, as a whole, and
+-- keeps its members apart.
 use Rattle.std.specs.Prelude.{◌≡◌, ◌≤◌, ℕ, true, false, List, [], ◌∷◌, Some, map, slice_get, ⊤}
 use Rattle.vx_ast.specs.Mentions.{is_among}
 use Rattle.vx_ast.specs.Written as written
 use Rattle.vx_ast.specs.Resolve.{program}
-use Rattle.vx_ast.specs.Syntax.{Name, result_name, Program, Member, Kind, Method, IsMethod, member_named}
+use Rattle.vx_ast.specs.Syntax.{Name, result_name, Program, Member, Kind, Method, IsMethod}
 use Rattle.vx_typing.specs.Programs.{IsTyped}
 use Rattle.vx_types.specs.Typing.{IsTypedMethod}
-use Rattle.vx_resolved.specs.Executed.{is_executed}
 use Rattle.vx_rules.specs.Rules.{outer}
 use Rattle.vx_rules.specs.Members.{depth, tree_over, tree}
 use Rattle.vx_ast.specs.Apart.{KeepsApart}
 use Rattle.vx_whole.specs.Premises.{IsTypedProgram}
-use Rattle.vx_types.specs.InstanceLanguage.{IsInstanceMember}
+use Rattle.vx_whole.specs.Executed.{is_executed}
 use Rattle.vx_resolved.specs.Numbers.{number_named}
 
 -- this holds of the methods of a program
@@ -22,12 +21,6 @@ OfMethods p Holds = (n : ℕ) (x : Member) (m : Method) → slice_get p n ≡ So
 -- for the whole language
 abbrev pub TypedWhenSettled : Type 0
 TypedWhenSettled = (p : written.Program) → IsTyped p → OfMethods (program p) (IsTypedMethod (program p))
-
--- what is typed and executed is typed as a whole, and its members are fields, predicates and methods
-abbrev pub InstancesWhenSettled : Type 0
-InstancesWhenSettled =
-    (p : written.Program) → IsTyped p → is_executed p ≡ true →
-    IsTypedProgram (program p) × ((x : Name) (k : Kind) → member_named (program p) x ≡ Some k → IsInstanceMember k)
 
 -- no two members have one name in what is typed
 abbrev pub DistinctWhenSettled : Type 0
@@ -55,3 +48,7 @@ LeaveResults (m ∷ ms) = LeavesResult m.kind × LeaveResults ms
 -- for the whole language
 abbrev pub TypedProgramWhenSettled : Type 0
 TypedProgramWhenSettled = (p : written.Program) → IsTyped p → LeaveResults p → IsTypedProgram (program p)
+
+-- what is typed, and executed when it is settled, is typed as a whole then
+abbrev pub ExecutedWhenSettled : Type 0
+ExecutedWhenSettled = (p : written.Program) → IsTyped p → is_executed (program p) ≡ true → IsTypedProgram (program p)
