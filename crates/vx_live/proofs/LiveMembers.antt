@@ -72,7 +72,7 @@ instances_live p x k typed named all = go k named
         let gb = good p x typed in
         let np = no_perm p x typed in
         let t = typed.methods x m (ap method_in named) in
-        method_live tt p (InClosure p x) spoken m t (method (instances_world p gb (InClosure p x) np true) (λ f k. absurd k) m (method_says p x (nothing_applied p) none typed gb np m named t))
+        method_live tt p (InClosure p x) spoken m t (method (instances_world p gb (InClosure p x) np true) (λ f k. absurd k) m (method_says p x nothing_applied none typed gb np m named t))
 
 is_instance : (k : Kind) → IsCallingMember k → IsInstanceMember k
 is_instance (IsField t) c = tt

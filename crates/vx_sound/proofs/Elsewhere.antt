@@ -1,5 +1,5 @@
 -- A state that stands in one world stands in another where other functions may be applied, and where a function's body is entered.
-use Rattle.std.proofs.Common.{ℕ, ℤ, List, [], ◌∷◌, Option, Some, None}
+use Rattle.std.proofs.Common.{ℕ, List, [], ◌∷◌, Option}
 use Rattle.vx_ast.specs.Syntax.{Name, Declaration}
 use Rattle.vx_meaning.specs.Values.{Value}
 use Rattle.vx_meaning.specs.States as run
@@ -10,12 +10,12 @@ use Rattle.vx_types.specs.Typing.{Scope}
 use Rattle.vx_elements.proofs.Settled.{Meaning}
 use Rattle.vx_elements.proofs.Lists.{each_map}
 use Rattle.vx_sound.proofs.World.{Walked, World}
-use Rattle.vx_sound.proofs.Stands.{values_of, StoreStands, FactStands, TermsStand, InstanceKey, ChunkStands, HeapStands, MeasureStands, OwnStands, Stands}
+use Rattle.vx_sound.proofs.Stands.{values_of, StoreStands, FactStands, TermsStand, InstanceKey, ChunkStands, HeapStands, OwnStands, Stands}
 
-module _ (means : Meaning) (world : World) (Applied : Name → Type 0) (own : Option Walked) where
-  -- the world in which these may be applied, and the body of this function is walked
+module _ (means : Meaning) (world : World) (Applied : Name → Type 0) (own : Option Walked) (Measured : run.Heap → Name → List Value → Type 0) where
+  -- the world in which these may be applied, and the body of this function is walked, where this is shown of applications
   abbrev pub there : World
-  there = record world { Applied = Applied; own = own }
+  there = record world { Applied = Applied; own = own; Measured = Measured }
 
   store_there : (n : ℕ) (i : Interpretation) (scope : Scope) (xs : rules.Store) (ys : run.Store) → StoreStands means world n i scope xs ys → StoreStands means there n i scope xs ys
   store_there n i [] [] [] h = tt
@@ -49,18 +49,14 @@ module _ (means : Meaning) (world : World) (Applied : Name → Type 0) (own : Op
     sign = k.sign;
     content = k.content;
     content_is = k.content_is;
+    is_root = k.is_root;
+    is_inner = k.is_inner;
   }
 
   heap_there : (n : ℕ) (i : Interpretation) (chunks : rules.Heap) (heap : run.Heap) (holdings : run.Holdings) → HeapStands means world n i chunks heap holdings → HeapStands means there n i chunks heap holdings
   heap_there n i chunks heap holdings h = record { each = each_map (ChunkStands means world n i heap) (ChunkStands means there n i heap) (chunk_there n i heap) chunks h.each; sums = h.sums }
 
-  pub measure_there : (n : ℕ) (i : Interpretation) (t : Option Term) (z : Option ℤ) → MeasureStands means world n i t z → MeasureStands means there n i t z
-  measure_there n i None None h = tt
-  measure_there n i (Some t) (Some z) h = h
-  measure_there n i None (Some z) h = absurd h
-  measure_there n i (Some t) None h = absurd h
-
-  pub stands_there : {scope : Scope} {i : Interpretation} {s : rules.State} {c : run.State} (entered : Option rules.Own) → OwnStands means there s.next i entered own → Stands means world scope i s c → Stands means there scope i (record s { own = entered }) c
+  pub stands_there : {scope : Scope} {i : Interpretation} {s : rules.State} {c : run.State} (entered : Option rules.Own) → OwnStands means there s.next i c.heap c.old_heap entered own → Stands means world scope i s c → Stands means there scope i (record s { own = entered }) c
   stands_there {scope = scope} {i = i} {s = s} {c = c} entered k st = record {
     store = store_there s.next i scope s.store c.store st.store;
     path = each_map (FactStands means world s.next i) (FactStands means there s.next i) (fact_there s.next i) s.path st.path;
@@ -71,6 +67,7 @@ module _ (means : Meaning) (world : World) (Applied : Name → Type 0) (own : Op
     null = st.null;
     standard = st.standard;
     owned = k;
+    marked = st.marked;
     holds = st.holds;
     old_holds = st.old_holds;
   }

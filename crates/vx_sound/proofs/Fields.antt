@@ -3,11 +3,11 @@ use Rattle.std.proofs.Common.{◌≡◌, ℕ, Bool, true, false, cond, [], ◌�
 use Rattle.vx_frac.specs.Fractions.{Fraction, none, full, sum, minus}
 use Rattle.vx_ast.specs.Syntax.{Name, Program}
 use Rattle.vx_meaning.specs.States as run
-use Rattle.vx_meaning.specs.Fits.{deeper}
 use Rattle.vx_meaning.specs.Consistent.{spread, IsConsistent}
 use Rattle.vx_rules.specs.Rules.{outer}
 use Rattle.vx_elements.proofs.Settled.{Meaning}
 use Rattle.vx_amounts.proofs.Amounts.{Le, le-refl, le-trans, le-is, add-below, add-left, minus_none, none-full, none-sum, sum_comm}
+use Rattle.vx_sound.proofs.Marks.{Unmarked}
 use Rattle.vx_sound.proofs.World.{at_field, Limited, IsTypedResource, World, Changing}
 use Rattle.vx_sound.proofs.Chunks.{location_is, spread_bare}
 use Rattle.vx_sound.proofs.Evaluate.{PartsGo}
@@ -60,12 +60,12 @@ new_limited m h n z b = record { most = λ e l. go e l (run.same_location l m) r
 abbrev pub fields_world : Program → World
 fields_world p = record {
   program = p;
+  marks = Unmarked;
   bounded = true;
   Held = λ x. ⊥;
   Applied = λ f. ⊥;
   own = None;
-  firmly = deeper p;
-  unfolds_alike = λ n k q c. refl;
+  Measured = λ h f vs. Unit {0};
   proper = λ x d h e. absurd h;
   Holds = λ h hs. HoldsFields hs;
   limited = λ h hs k. k.limited;
@@ -86,6 +86,7 @@ fields_world p = record {
 
 pub fields_changing : (p : Program) → Changing (fields_world p)
 fields_changing p = record {
+  unmarked = refl;
   bounded = refl;
   of_no_function = refl;
   changed = λ c g same k. k;

@@ -33,7 +33,7 @@ use Rattle.vx_sound_preds.proofs.Consumed.{put_back, Consumed, consumed_at}
 abbrev pub precondition_of : Function → Assertion
 precondition_of g = joined g.place g.requires
 
-module _ (means : Meaning) (p : Program) (good : GoodBodies p) (Held : Name → Type 0) (no_perm : (x : Name) (d : Predicate) → predicate_named p x ≡ Some d → HaveNoPerm d.parameters) (applying : Applying p) where
+module _ (means : Meaning) (p : Program) (good : GoodBodies p) (Held : Name → Type 0) (no_perm : (x : Name) (d : Predicate) → predicate_named p x ≡ Some d → HaveNoPerm d.parameters) (applying : Applying) where
   abbrev world : World
   world = functions_world p good Held no_perm true applying
 
@@ -86,7 +86,7 @@ module _ (means : Meaning) (p : Program) (good : GoodBodies p) (Held : Name → 
       value_is = r.value_is;
       typed = r.typed;
       applied = r.applied;
-      firm = r.firm;
+      measured = r.measured;
       cleared = r.cleared;
     }
       where

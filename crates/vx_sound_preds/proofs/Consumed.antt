@@ -35,7 +35,7 @@ use Rattle.vx_sound_preds.proofs.Trees.{TreeOf, builds_tree}
 abbrev pub put_back : rules.State → (Term → Going) → Giving
 put_back s on snapshot s1 = let s2 = rules.with_heap s.heap (back s s1) in on (rules.name_of snapshot s2) (rules.after_name snapshot s2)
 
-module _ (means : Meaning) (p : Program) (good : GoodBodies p) (Held : Name → Type 0) (no_perm : (x : Name) (d : Predicate) → predicate_named p x ≡ Some d → HaveNoPerm d.parameters) (applying : Applying p) where
+module _ (means : Meaning) (p : Program) (good : GoodBodies p) (Held : Name → Type 0) (no_perm : (x : Name) (d : Predicate) → predicate_named p x ≡ Some d → HaveNoPerm d.parameters) (applying : Applying) where
   abbrev world : World
   world = functions_world p good Held no_perm true applying
 
@@ -99,6 +99,7 @@ module _ (means : Meaning) (p : Program) (good : GoodBodies p) (Held : Name → 
           null = r.goes.stands.null;
           standard = r.goes.stands.standard;
           owned = r.goes.stands.owned;
+          marked = st.marked;
           holds = st.holds;
           old_holds = r.goes.stands.old_holds;
         }

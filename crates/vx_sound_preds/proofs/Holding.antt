@@ -9,12 +9,13 @@ use Rattle.vx_meaning.specs.States as run
 use Rattle.vx_meaning.specs.States.{Heap, Holdings, Location, Instance, Resource, At, Folded, HaveTypes, same_resource, amount, gained, lost, with_holdings}
 use Rattle.vx_meaning.specs.Flatten.{bare, body_entries, flat, IsGrounded}
 use Rattle.vx_meaning.specs.Consistent.{total, IsConsistent}
-use Rattle.vx_meaning.specs.Fits.{Deeper, deeper}
+use Rattle.vx_meaning.specs.Fits.{deeper}
 use Rattle.vx_terms.specs.Interpretations.{Tree}
 use Rattle.vx_types.specs.Typing.{HaveNoPerm}
 use Rattle.vx_amounts.proofs.Amounts.{Le, Positive, le-refl, le-trans, none-none, none-full, full-positive, positive-le, not-positive, below-add}
 use Rattle.vx_amounts.proofs.Products.{product_sign, positive_le}
 use Rattle.vx_sound.specs.Snapshots.{IsTree}
+use Rattle.vx_sound.proofs.Marks.{Marks, Unmarked, Unsaid}
 use Rattle.vx_sound.proofs.World.{at_field, Limited, IsTypedInstance, IsTypedResource, CanBe, Walked, World}
 use Rattle.vx_sound.proofs.Chunks.{spread_bare}
 use Rattle.vx_sound_preds.specs.Bodies.{IsRigid, AreRigid, GoodBodies}
@@ -169,7 +170,7 @@ module _ (p : Program) (good : GoodBodies p) (Held : Name → Type 0) (bounded :
       go j true e z = at x.0 j (resource_is (Folded j) x.0 si.0 e) k.0
       go j false e z = g j z
 
-  amount_grows : (q : Fraction) (es hs : Holdings) (r : Resource) → Positive q → AllPositive es → Le (amount hs r) (amount (added q es hs) r)
+  pub amount_grows : (q : Fraction) (es hs : Holdings) (r : Resource) → Positive q → AllPositive es → Le (amount hs r) (amount (added q es hs) r)
   unfolding added
   amount_grows q [] hs r pos k = le-refl (amount hs r)
   amount_grows q (x ∷ xs) hs r pos k = le-trans (go (same_resource r x.0)) (amount_grows q xs (gained x.0 (product q x.1) hs) r pos k.1)
@@ -225,26 +226,28 @@ module _ (p : Program) (good : GoodBodies p) (Held : Name → Type 0) (bounded :
           clash : ◌≡◌ {A = Bool} true false → ⊥
           clash z = cc
 
--- what may be applied, and when that is allowed firmly; and the function whose body is walked, if it is one
-pub record Applying (p : Program) : Type 1 where
+-- what may be applied, the function whose body is walked, if it is one, and what its walk shows of the applications that are
+-- evaluated
+pub record Applying : Type 1 where
+  -- what the marks of chunks stand for
+  pub marks : Marks
   pub Applied : Name → Type 0
   pub own : Option Walked
-  pub firmly : ℕ → Deeper
-  pub unfolds_alike : (n : ℕ) (k : Instance) (q : Fraction) (c : run.State) → (firmly n).opened k q c ≡ (deeper p n).opened k q c
+  pub Measured : Heap → Name → List Value → Type 0
 
-abbrev pub nothing_applied : (p : Program) → Applying p
-nothing_applied p = record { Applied = λ f. ⊥; own = None; firmly = deeper p; unfolds_alike = λ n k q c. refl }
+abbrev pub nothing_applied : Applying
+nothing_applied = record { marks = Unmarked; Applied = λ f. ⊥; own = None; Measured = λ h f vs. Unit {0} }
 
 -- The world of a typed program, where the instances of some predicates are held and some functions may be applied.
-abbrev pub functions_world : (p : Program) → GoodBodies p → (Held : Name → Type 0) → ((x : Name) (d : Predicate) → predicate_named p x ≡ Some d → HaveNoPerm d.parameters) → Bool → Applying p → World
+abbrev pub functions_world : (p : Program) → GoodBodies p → (Held : Name → Type 0) → ((x : Name) (d : Predicate) → predicate_named p x ≡ Some d → HaveNoPerm d.parameters) → Bool → Applying → World
 functions_world p good Held no_perm bounded applying = record {
   program = p;
+  marks = applying.marks;
   bounded = bounded;
   Held = Held;
   Applied = applying.Applied;
   own = applying.own;
-  firmly = applying.firmly;
-  unfolds_alike = applying.unfolds_alike;
+  Measured = applying.Measured;
   proper = λ x d h e. no_perm x d e;
   Holds = HoldsInstances p Held bounded;
   limited = limited p good Held bounded;
@@ -257,4 +260,11 @@ functions_world p good Held no_perm bounded applying = record {
 
 -- and where none may be
 abbrev pub instances_world : (p : Program) → GoodBodies p → (Held : Name → Type 0) → ((x : Name) (d : Predicate) → predicate_named p x ≡ Some d → HaveNoPerm d.parameters) → Bool → World
-instances_world p good Held no_perm bounded = functions_world p good Held no_perm bounded (nothing_applied p)
+instances_world p good Held no_perm bounded = functions_world p good Held no_perm bounded nothing_applied
+
+-- Where what an application tells is gathered, none may be applied, and nothing is said of marks.
+abbrev pub nothing_said : Applying
+nothing_said = record { marks = Unsaid; Applied = λ f. ⊥; own = None; Measured = λ h f vs. Unit {0} }
+
+abbrev pub quiet_world : (p : Program) → GoodBodies p → (Held : Name → Type 0) → ((x : Name) (d : Predicate) → predicate_named p x ≡ Some d → HaveNoPerm d.parameters) → Bool → World
+quiet_world p good Held no_perm bounded = functions_world p good Held no_perm bounded nothing_said

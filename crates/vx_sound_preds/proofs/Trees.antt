@@ -32,7 +32,7 @@ use Rattle.vx_sound_preds.proofs.Adding.{Fine}
 use Rattle.vx_sound_preds.proofs.Holding.{Applying, functions_world}
 use Rattle.vx_sound_preds.proofs.Produced.{now, all_now}
 
-module _ (means : Meaning) (p : Program) (good : GoodBodies p) (Held : Name → Type 0) (no_perm : (x : Name) (d : Predicate) → predicate_named p x ≡ Some d → HaveNoPerm d.parameters) (applying : Applying p) where
+module _ (means : Meaning) (p : Program) (good : GoodBodies p) (Held : Name → Type 0) (no_perm : (x : Name) (d : Predicate) → predicate_named p x ≡ Some d → HaveNoPerm d.parameters) (applying : Applying) where
   abbrev world : World
   world = functions_world p good Held no_perm true applying
 
@@ -44,7 +44,7 @@ module _ (means : Meaning) (p : Program) (good : GoodBodies p) (Held : Name → 
     pub value_is : value i t ≡ TreeElement tree
 
   -- amounts of bodies are above none
-  pub amount_positive : (c : run.State) (share : Expr) (a : Fraction) (k : IsAmount p share) → plain.value p no_applications c share ≡ Some (PermValue a) → Positive a
+  amount_positive : (c : run.State) (share : Expr) (a : Fraction) (k : IsAmount p share) → plain.value p no_applications c share ≡ Some (PermValue a) → Positive a
   amount_positive c share a k e = subst Positive (sym (amounts a k.amount (some_is (PermValue a) (PermValue k.amount) (sym e ∙ k.value_is c)))) (above_none k)
     where
       amounts : (a b : Fraction) → PermValue a ≡ PermValue b → a ≡ b

@@ -1,5 +1,5 @@
 -- Where the walk of a function passed, its precondition can be added where it starts, and the walk goes on from there.
-use Rattle.std.proofs.Common.{◌≡◌, ℕ, suc, ◌≤◌, true, List, [], Some, refl, le_of_lt, lt-suc_self, le_refl, ◌∙◌}
+use Rattle.std.proofs.Common.{◌≡◌, ℕ, suc, ◌≤◌, true, List, [], Some, refl, sym, le_of_lt, lt-suc_self, le_refl, ◌∙◌, true≢false}
 use Rattle.std.specs.Prelude.{Ok}
 use Rattle.vx_frac.specs.Fractions.{none, full}
 use Rattle.vx_ast.specs.Syntax.{Name, Program, Predicate, Function, IsFunction, predicate_named, function_named, conjoined}
@@ -34,6 +34,7 @@ use Rattle.vx_sound_preds.proofs.Adding.{added}
 use Rattle.vx_sound_preds.proofs.Holding.{HoldsInstances, nothing, nothing_applied, instances_world}
 use Rattle.vx_sound_preds.proofs.Produced.{produced, Produced, SnapshotOf}
 use Rattle.vx_sound_preds.proofs.Unfolds.{BodiesSpeak, instances_go}
+use Rattle.vx_sound_preds.proofs.Walks.{bodies}
 use Rattle.vx_sound_funcs.specs.Told.{IsTreeOf, precondition_of}
 use Rattle.vx_sound_funcs.specs.Firm.{start_of, firm_application, firmly}
 use Rattle.vx_sound_funcs.proofs.Alike.{firm_exchange, add_alike}
@@ -59,6 +60,7 @@ module _ (means : Meaning) (p : Program) (good : GoodBodies p) (Held : Name → 
     null = start_null;
     standard = start_standard;
     owned = tt;
+    marked = λ e. absurd (true≢false (sym e));
     holds = nothing p good Held true h;
     old_holds = nothing p good Held true h;
   }
@@ -75,7 +77,7 @@ module _ (means : Meaning) (p : Program) (good : GoodBodies p) (Held : Name → 
     pub record Started (vs : List Value) (h : run.Heap) (es : run.Holdings) : Type 0 where
       pub interp : Interpretation
       pub next : ℕ
-      pub start : Produced means p good Held no_perm true (nothing_applied p) (member_rules p) opens (λ (u : run.State). Unit {0}) g.parameters interp next (from_measure p (member_rules p) f g g.decreases) (bare (bind g.parameters vs) h) (precondition_of g) full es
+      pub start : Produced means p good Held no_perm true nothing_applied (member_rules p) opens (λ (u : run.State). Unit {0}) g.parameters interp next (from_measure p (member_rules p) f g g.decreases) (bare (bind g.parameters vs) h) (precondition_of g) full es
 
     pub started : (vs : List Value) → run.HaveTypes g.parameters vs → (h : run.Heap) (es : run.Holdings) (t : Tree) → entries p (bare (bind g.parameters vs) h) (precondition_of g) ≡ Some es → HoldsInstances p Held true h (added full es []) →
         IsTreeOf p (bare (bind g.parameters vs) h) (precondition_of g) t → Started vs h es
@@ -86,13 +88,13 @@ module _ (means : Meaning) (p : Program) (good : GoodBodies p) (Held : Name → 
         let j = with_symbol means b.interp s.next (TreeElement t) in
         let le : s.next ≤ suc s.next = le_of_lt (lt-suc_self s.next) in
         let st : Stands means world g.parameters j (rules.after_fresh s) (bare (bind g.parameters vs) h) = stands_later means world (suc s.next) le (symbol_extends means b.interp s.next (TreeElement t)) b.stands in
-        let snap : SnapshotOf means p good Held no_perm true (nothing_applied p) (suc s.next) j (bare (bind g.parameters vs) h) (precondition_of g) (rules.fresh SnapSort s) =
+        let snap : SnapshotOf means p good Held no_perm true nothing_applied (suc s.next) j (bare (bind g.parameters vs) h) (precondition_of g) (rules.fresh SnapSort s) =
         record { good_term = good_fresh means world b.interp s.next (TreeElement t) SnapSort; written = variable_written s.next SnapSort; fuel = m; tree = t; is = is; value_is = fresh_value means b.interp s.next (TreeElement t) SnapSort tt } in
         record {
           interp = j;
           next = suc s.next;
-          start = produced means p good Held no_perm true (nothing_applied p) (member_rules p) opens (λ (u : run.State). Unit {0}) full (precondition_of g) g.parameters (bare (bind g.parameters vs) h) es typed.parameters (joined_typed p g.parameters g.place g.requires typed.requires) asked plain listed holds
-              j (rules.after_fresh s) whole_amount (Some (rules.fresh SnapSort s)) (from_measure p (member_rules p) f g g.decreases) snap (whole_scale means world (suc s.next) j) st b.cleared;
+          start = produced means p good Held no_perm true nothing_applied (member_rules p) opens (λ (u : run.State). Unit {0}) (bodies p good) full (precondition_of g) g.parameters (bare (bind g.parameters vs) h) es typed.parameters (joined_typed p g.parameters g.place g.requires typed.requires) asked plain listed holds
+              j (rules.after_fresh s) whole_amount (Some (rules.fresh SnapSort s)) (from_measure p (member_rules p) f g g.decreases) snap (whole_scale means world (suc s.next) j) st (λ e. absurd (st.marked e)) b.cleared;
         }
 
     -- there, just the precondition is held

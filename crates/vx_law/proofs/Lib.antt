@@ -1,0 +1,14 @@
+pub mod Own
+pub mod Stocked
+pub mod Tells
+pub mod Methods
+pub mod Deeper
+pub mod Evaluated
+pub mod Opened
+pub mod Firmly
+pub mod Starting
+pub mod Promised
+pub mod FromBelow
+pub mod Measured
+pub mod Walks
+pub mod Members
