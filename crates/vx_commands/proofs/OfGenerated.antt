@@ -9,13 +9,13 @@ use Rattle.vx_ast.specs.Resolve.{Names}
 use Rattle.vx_whole.specs.Executed.{beyond_at, first_beyond_of, is_executed}
 use Rattle.vx_gen.specs.Programs.{Columns, first_members, method_by, method_on, methods, program_of}
 
-is_no_function : written.Kind → Bool
+abbrev is_no_function : written.Kind → Bool
 is_no_function (written.IsFunction f) = false
 is_no_function (written.IsField t) = true
 is_no_function (written.IsPredicate d) = true
 is_no_function (written.IsMethod m) = true
 
-has_none : written.Program → Bool
+abbrev has_none : written.Program → Bool
 has_none [] = true
 has_none (m ∷ ms) = is_no_function m.kind && has_none ms
 

@@ -28,6 +28,7 @@ fn text_in(alloc: Global, row: &Row) -> Result<String, AllocError> {
 }
 
 // What is asked of the parts.
+#[derive(Drop)]
 struct Parts;
 
 impl Answers for Parts {

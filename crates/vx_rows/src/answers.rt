@@ -110,7 +110,14 @@ fn put_checks(alloc: Global, row: &Row, out: &mut Vec<u8>) -> Result<(), AllocEr
     let mut sink = MemSink::new(alloc, row.room)?;
     let mut spawner = solver(alloc, row)?;
     let mut builtin = Builtin::new(alloc);
-    let ended = run(alloc, &words, &mut files, &mut sink, &mut spawner, &mut builtin);
+    let ended = run(
+        alloc,
+        &words,
+        &mut files,
+        &mut sink,
+        &mut spawner,
+        &mut builtin,
+    );
     let mut checks = 0u64;
     for member in &ended.runs {
         checks = checks.saturating_add(u64::from(member.checks));

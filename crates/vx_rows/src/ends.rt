@@ -1,11 +1,10 @@
 //! What the ends of the program give: files of the disk, child processes, and the companion.
 
-use vx_table::Row;
-use vx_table::{put_line, put_text};
 use std::alloc::{AllocError, Global};
 use vx_companion::Builtin;
 use vx_edge::DiskFiles;
 use vx_ends::{Files, Link, LinkFault, LoadFault, Parts, Spawner, StartFault};
+use vx_table::{Row, put_line, put_text};
 
 /// How much the file holds that the words name.
 ///

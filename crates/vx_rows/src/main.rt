@@ -14,6 +14,7 @@ use vx_ends::put_all;
 use vx_table::{Answers, Row, run_all};
 
 // Rows are answered with the runtime, which child processes and files need.
+#[derive(Drop)]
 struct Program<'a> {
     rt: &'a HostRuntime,
 }
