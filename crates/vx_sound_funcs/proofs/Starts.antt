@@ -59,7 +59,7 @@ right_fuel m n k h = omega arith
 self : (n : ℕ) → n ≤ n
 self n = omega arith
 
-bool_is : (v : Value) → type_of v ≡ type.Bool → (b : Bool) × (v ≡ BoolValue b)
+pub bool_is : (v : Value) → type_of v ≡ type.Bool → (b : Bool) × (v ≡ BoolValue b)
 bool_is (BoolValue b) e = (b, refl)
 bool_is (IntValue z) e = cc
 bool_is (RefValue r) e = cc
@@ -67,25 +67,25 @@ bool_is (PermValue q) e = cc
 
 module _ (p : Program) (good : GoodBodies p) (Held : Name → Type 0) (no_perm : (x : Name) (d : Predicate) → predicate_named p x ≡ Some d → HaveNoPerm d.parameters) (ds : List Declaration) (vs : List Value) (typed : run.HaveTypes ds vs) (h : Heap) where
   -- what is known on the way
-  record Given (s : State) : Type 0 where
-    store : s.store ≡ bind ds vs
-    heap : s.heap ≡ h
-    fine : Fine p s
-    held : TypedAll p Held s.holdings
+  pub record Given (s : State) : Type 0 where
+    pub store : s.store ≡ bind ds vs
+    pub heap : s.heap ≡ h
+    pub fine : Fine p s
+    pub held : TypedAll p Held s.holdings
 
   -- the same is given by an addition
-  record Gave (a : Assertion) (s t : State) : Type 0 where
-    fuel : ℕ
-    adds : (n : ℕ) → fuel ≤ n → add p (deeper p n) full a s ≡ Ok t
-    given : Given t
+  pub record Gave (a : Assertion) (s t : State) : Type 0 where
+    pub fuel : ℕ
+    pub adds : (n : ℕ) → fuel ≤ n → add p (deeper p n) full a s ≡ Ok t
+    pub given : Given t
 
   seen : (s : State) → Given s → Sees (bare (bind ds vs) h) s
   seen s k = record { store = k.store; heap = k.heap }
 
-  value_typed : (s : State) → Given s → (n : ℕ) (e : Expr) (v : Value) {t : _} → HasType p ds e t → IsPlain e → fit_by p n s e ≡ Ok v → type_of v ≡ t
+  pub value_typed : (s : State) → Given s → (n : ℕ) (e : Expr) (v : Value) {t : _} → HasType p ds e t → IsPlain e → fit_by p n s e ≡ Ok v → type_of v ≡ t
   value_typed s k n e v ty pl eq = has_type p ds vs typed h ty pl v (sym (value_seen p (bare (bind ds vs) h) s (seen s k) e pl) ∙ value_here p good n s e v k.fine pl eq)
 
-  possible : (part : Resource × Fraction) (s t : State) → if_possible p (IsConsistent p) full (with_holdings (gained part.0 (product full part.1) s.holdings) s) (Ends t) →
+  pub possible : (part : Resource × Fraction) (s t : State) → if_possible p (IsConsistent p) full (with_holdings (gained part.0 (product full part.1) s.holdings) s) (Ends t) →
       IsConsistent p (with_holdings (gained part.0 (product full part.1) s.holdings) s) × (t ≡ with_holdings (gained part.0 (product full part.1) s.holdings) s)
   possible part s t (inl x) = x
   possible part s t (inr x) = absurd x.1
@@ -93,7 +93,7 @@ module _ (p : Program) (good : GoodBodies p) (Held : Name → Type 0) (no_perm :
   nothing_given : (a : Assertion) (s t : State) → Given s → t ≡ s → (n : ℕ) → ((m : ℕ) → n ≤ m → add p (deeper p m) full a s ≡ Ok s) → Gave a s t
   nothing_given a s t k e n f = record { fuel = n; adds = λ m le. f m le ∙ ap Ok (sym e); given = subst Given (sym e) k }
 
-  given_by : (a : Assertion) (s t : State) → IsTyped p ds a → IsPlainBody p Rigid a → AsksFor Held a → Given s → give p (IsConsistent p) full a s (Ends t) → Gave a s t
+  pub given_by : (a : Assertion) (s t : State) → IsTyped p ds a → IsPlainBody p Rigid a → AsksFor Held a → Given s → give p (IsConsistent p) full a s (Ends t) → Gave a s t
   given_by (Pure e) s t ty pl asks k (passes v ev r) = go (is_true v) r
     where
       go : (b : Bool) → when b (ends s) stops (Ends t) → Gave (Pure e) s t
@@ -199,14 +199,14 @@ module _ (Held : Name → Type 0) where
 
 module _ (p : Program) (x : Name) (typed : IsTypedProgram p) (f : Name) (g : Function) (named : function_named p f ≡ Some g) where
   -- what the precondition names
-  precondition_seen : InClosure p x f → AsksFor (InClosure p x) (precondition_of g)
+  pub precondition_seen : InClosure p x f → AsksFor (InClosure p x) (precondition_of g)
   precondition_seen c = joined_asks (InClosure p x) g.place g.requires (λ y s. further c (mentions y (on_left y (mentioned_by_function g) (mentioned_by_measure g.decreases) (on_left y (mentioned g.body ++ flat_map mentioned_by g.requires) (flat_map mentioned g.ensures) (on_right y (mentioned g.body) (flat_map mentioned_by g.requires) s)))))
     where
       mentions : (y : Name) → Stands y (mentioned_by_function g ++ mentioned_by_measure g.decreases) → Stands y (mentioned_by_kind p (member_named p f))
       mentions y s = subst (λ (o : Option Kind). Stands y (mentioned_by_kind p o)) (sym (function_member (member_named p f) g named)) s
 
   module _ (c : InClosure p x f) (pl : IsPlainBody p Rigid (precondition_of g)) (vs : List Value) (types : run.HaveTypes g.parameters vs) (h : Heap) (t : State) (ends_at : give p (IsConsistent p) full (precondition_of g) (bare (bind g.parameters vs) h) (Ends t)) where
-    empty : Given p (good p x typed) (InClosure p x) (no_perm p x typed) g.parameters vs types h (bare (bind g.parameters vs) h)
+    pub empty : Given p (good p x typed) (InClosure p x) (no_perm p x typed) g.parameters vs types h (bare (bind g.parameters vs) h)
     empty = record {
       store = refl;
       heap = refl;
@@ -218,7 +218,7 @@ module _ (p : Program) (x : Name) (typed : IsTypedProgram p) (f : Name) (g : Fun
       held = tt;
     }
 
-    gave : Gave p (good p x typed) (InClosure p x) (no_perm p x typed) g.parameters vs types h (precondition_of g) (bare (bind g.parameters vs) h) t
+    pub gave : Gave p (good p x typed) (InClosure p x) (no_perm p x typed) g.parameters vs types h (precondition_of g) (bare (bind g.parameters vs) h) t
     gave = given_by p (good p x typed) (InClosure p x) (no_perm p x typed) g.parameters vs types h (precondition_of g) (bare (bind g.parameters vs) h) t
         (joined_typed p g.parameters g.place g.requires (typed.functions f g named).requires) pl (precondition_seen c) empty ends_at
 
@@ -226,7 +226,7 @@ module _ (p : Program) (x : Name) (typed : IsTypedProgram p) (f : Name) (g : Fun
     nothing_can_be : IsConsistent p (bare (bind g.parameters vs) h)
     nothing_can_be = record { supported = record { grounded = λ i z. absurd (not-positive (record { holds = z }) (le-refl none)); null = λ n f. refl }; bounded = λ n l. refl }
 
-    can_be : IsConsistent p t
+    pub can_be : IsConsistent p t
     can_be = give_possible p (IsConsistent p) full (precondition_of g) (bare (bind g.parameters vs) h) t nothing_can_be ends_at
 
     good_at : (i : Instance) → is_positive (amount t.holdings (Folded i)) ≡ true → IsProper p x t.heap i × IsGrounded p t.heap i

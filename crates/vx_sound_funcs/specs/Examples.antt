@@ -1,8 +1,8 @@
 -- Functions that read a field under an instance, one whose body doesn't fit, and a predicate whose body doesn't.
-use Rattle.std.specs.Prelude.{codes, ℕ, ℤ, List, [], ◌∷◌, Some, None}
+use Rattle.std.specs.Prelude.{codes, ℕ, ℤ, false, List, [], ◌∷◌, Some, None}
 use Rattle.vx_ast.specs.declared.ValueType.TheVariants.{Int}
 use Rattle.vx_ast.specs.declared.ValueType.TheVariants as type
-use Rattle.vx_ast.specs.Syntax.{Name, result_name, Program, Declaration, IsField, IsPredicate, IsFunction, Predicate, Function, Expr, Part, Variable, Operate, Equal, Add, Read, Apply, Unfolding, Exprs, NoMore, More, Assertion, Points, Instance}
+use Rattle.vx_ast.specs.Syntax.{Name, result_name, Program, Declaration, IsField, IsPredicate, IsFunction, Predicate, Function, Expr, Number, Truth, Part, Variable, Operate, Equal, Add, Read, Apply, Unfolding, Exprs, NoMore, More, Assertion, Points, Instance}
 use Rattle.vx_frac.specs.Fractions.{full}
 use Rattle.vx_meaning.specs.Values.{IntValue, RefValue}
 use Rattle.vx_meaning.specs.States.{State, Heap, Store, Location, Folded}
@@ -89,6 +89,16 @@ holding z = record { store = x_is_one; heap = with_value z; holdings = (Folded (
 -- nothing is held
 abbrev pub bereft : ℤ → State
 bereft z = record { store = x_is_one; heap = with_value z; holdings = []; old_heap = with_value z; old_holdings = [] }
+
+-- function boast(): Int ensures false { 0 }
+abbrev pub boast : Name
+boast = codes "boast"
+
+abbrev pub boaster : Function
+boaster = record { place = here; parameters = []; of = Int; requires = []; ensures = Truth here false ∷ []; decreases = None; body = Number here 0 }
+
+abbrev pub boasts : Program
+boasts = record { name = boast; kind = IsFunction boaster } ∷ []
 
 -- field f: Ref, field g: Int, predicate P(x: Ref) { acc(x.f.g) }
 abbrev pub g : Name

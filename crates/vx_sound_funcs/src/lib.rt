@@ -1,7 +1,7 @@
 //! What a snapshot tells of the heap, and that it determines the value of a function.
 #![tactic(auto)]
 
-ghost use Rattle.std.specs.Prelude.{◌≡◌, ℕ, ℤ, pos, ◌+ℤ◌, List, [], ◌∷◌, Some};
+ghost use Rattle.std.specs.Prelude.{◌≡◌, ◌+◌, ℕ, ℤ, pos, ◌+ℤ◌, List, [], ◌∷◌, Some, None};
 ghost use Rattle.vx_ast.specs.Syntax.{Name, Program, Expr};
 ghost use Rattle.vx_frac.specs.Fractions.{over};
 ghost use Rattle.vx_terms.specs.Interpretations.{Empty, IntLeaf};
@@ -10,7 +10,7 @@ ghost use Rattle.vx_meaning.specs.States.{State, At, with_store};
 ghost use Rattle.vx_meaning.specs.Evaluate.{HasValue};
 ghost use Rattle.vx_meaning.specs.Flatten.{flat};
 ghost use Rattle.vx_meaning.specs.Consistent.{IsConsistent};
-ghost use Rattle.vx_meaning.specs.Fits.{Fits, FailsToFit};
+ghost use Rattle.vx_meaning.specs.Fits.{deeper, Fits, FailsToFit};
 ghost use Rattle.vx_sound.specs.Snapshots.{IsTree};
 ghost use Rattle.vx_smt_meaning.specs.declared.reply.Reply.{Reply};
 ghost use Rattle.vx_whole.specs.Premises.{IsTypedProgram};
@@ -19,7 +19,7 @@ ghost use Rattle.vx_sound_preds.specs.Covered.{Covered, IsProper, PredicatesPass
 ghost use Rattle.vx_sound_preds.specs.Examples.{here, P, instance_of};
 ghost use Rattle.vx_sound_funcs.specs.Told.{IsTreeOf, HoldsJust, precondition_of, IsValueOf};
 ghost use Rattle.vx_sound_funcs.specs.Firm.{firm_application, firmly, FitsFirmly, GoodFunctions, PlainContracts};
-ghost use Rattle.vx_sound_funcs.specs.Examples.{getter, get, doubler, twice, peeker, peek, boxes, x_is_one, holding, bereft, g, looses, leads_to};
+ghost use Rattle.vx_sound_funcs.specs.Examples.{getter, get, doubler, twice, peeker, peek, boxes, x_is_one, holding, bereft, boast, boaster, boasts, g, looses, leads_to};
 ghost use Rattle.vx_sound_funcs.specs.Laws.{TreesTellTheHeap, TreesTellWhatIsHeld, TreesTellHoldings, TreesTellValues, TreesTellFirmValues, StartsHoldJust, ApplicationsAgree, SpeakNow, FirmlyIsMore};
 
 /// The tree of an instance tells what is inside it, and the values there, where bodies are good and fit with what they give; so
@@ -123,6 +123,13 @@ pub fn what_does_not_fit_is_not_determined()
     ensures fails { (z : ℤ) → FailsToFit boxes (bereft z) peeker.body here }
     ensures tree { (z : ℤ) → IsTreeOf boxes (bereft z) (precondition_of peeker) Empty }
     ensures values { (z : ℤ) → IsValueOf boxes peek (RefValue 1 ∷ []) (bereft z) (IntValue z) }
+{}
+
+/// `boast()` promises what isn't true: its body fits firmly and the meaning has its value, but it is never allowed firmly.
+pub fn a_broken_promise_is_not_allowed()
+    ensures fits { (s : State) → FitsFirmly boasts s boaster.body (IntValue (pos 0)) }
+    ensures meant { (n : ℕ) (s : State) → (deeper boasts (n + 1)).applied boast [] s ≡ Some (IntValue (pos 0)) }
+    ensures refused { (n : ℕ) (s : State) → firm_application boasts (firmly boasts n) boast [] s ≡ None }
 {}
 
 /// A predicate whose body reads what it doesn't give, as acc(x.f.g), has one tree with other locations inside.

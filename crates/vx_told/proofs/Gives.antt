@@ -44,7 +44,7 @@ module _ (p : Program) (good : GoodBodies p) (Held : Name → Type 0) where
   at_now n s e v f k eq = value_here p full none-full (deeper p n) (all_open p good n) s e v f k eq
 
   -- an addition leads to the state with the entries
-  led : (n : ℕ) (a : Assertion) (s u : State) (es : Holdings) → IsPlainBody p Rigid a → Fine p s → entries p s a ≡ Some es → AreEntries p s.heap es → add p (deeper p n) full a s ≡ Ok u → u ≡ with_added es s
+  pub led : (n : ℕ) (a : Assertion) (s u : State) (es : Holdings) → IsPlainBody p Rigid a → Fine p s → entries p s a ≡ Some es → AreEntries p s.heap es → add p (deeper p n) full a s ≡ Ok u → u ≡ with_added es s
   led n a s u es k f listed can e =
       let x = add_adds p full none-full (deeper p n) (all_open p good n) a s u es k f listed can e in
       state_same u (with_added es s) x.store x.heap x.holdings x.old_heap x.old_holdings

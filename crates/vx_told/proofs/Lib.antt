@@ -22,5 +22,10 @@ pub mod Grows
 pub mod Trees
 pub mod Gives
 pub mod Allowed
+pub mod Begins
 pub mod Stripped
+pub mod Names
 pub mod Measures
+pub mod Groups
+pub mod Keeping
+pub mod Eager

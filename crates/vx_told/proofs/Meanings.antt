@@ -17,9 +17,10 @@ use Rattle.vx_elements.proofs.Elements.{element}
 use Rattle.vx_elements.proofs.Lists.{name_is}
 use Rattle.vx_sound.specs.Snapshots.{leaf}
 use Rattle.vx_sound_preds.specs.Bodies.{GoodBodies}
-use Rattle.vx_sound_preds.specs.Covered.{TypedInstances}
+use Rattle.vx_meaning.specs.Consistent.{IsConsistent}
+use Rattle.vx_sound_preds.specs.Covered.{TypedInstances, IsStocked}
 use Rattle.vx_sound_preds.proofs.Grouped.{IsSingle, AreSingle, NoDebts, resource_is}
-use Rattle.vx_sound_preds.proofs.Holding.{TypedAll, all_single, typed_rigid, consistent}
+use Rattle.vx_sound_preds.proofs.Holding.{HoldsInstances, TypedAll, all_single, typed_rigid, consistent}
 use Rattle.vx_sound_funcs.specs.Told.{IsTreeOf, precondition_of}
 use Rattle.vx_sound_funcs.specs.Laws.{ApplicationsAgree}
 use Rattle.vx_sound_funcs.proofs.Fuel.{one_application}
@@ -199,14 +200,20 @@ module _ (p : Program) (x : Name) (typed : IsTypedProgram p) (agree : Applicatio
       go (inl s) = d r s
       go (inr e) = subst (λ q. Le none q) (sym e) (le-refl none)
 
+  pub stocked_with : (good : GoodBodies p) (c : run.State) → HoldsInstances p (InClosure p x) true c.heap c.holdings → IsConsistent p c × IsStocked p x c.holdings
+  stocked_with good c k = (
+    consistent p good (InClosure p x) true c refl k,
+    record { instances = typed_instances c.holdings k.typed; debts = λ r. let y = no_debts c.holdings (all_single p (InClosure p x) c.holdings k.typed) k.debts r in y.holds },
+  )
+
   module _ (good : GoodBodies p) (f : Name) (g : Function) (vs : List Value) (v : Value) (c : run.State) (tree : Tree) (a : Allowed p (InClosure p x) f g vs v c) (there : IsTreeOf p (run.with_store (run.bind g.parameters vs) c) (precondition_of g) tree) where
     pub is_applied : IsApplied p x f g vs c tree v
     is_applied = record {
       leads = a.held;
       named = a.named;
       types = a.types;
-      consistent = consistent p good (InClosure p x) true c refl a.holds;
-      stocked = record { instances = typed_instances c.holdings a.holds.typed; debts = λ r. let y = no_debts c.holdings (all_single p (InClosure p x) c.holdings a.holds.typed) a.holds.debts r in y.holds };
+      consistent = (stocked_with good c a.holds).0;
+      stocked = (stocked_with good c a.holds).1;
       tree = there;
       fuel = a.fuel;
       value = a.is;

@@ -2,3 +2,4 @@ pub mod Means
 pub mod Walks
 pub mod Allowed
 pub mod Measures
+pub mod Examples

@@ -1,11 +1,14 @@
 -- From an application to those below it, in one heap: to functions that it leads to and that don't lead back, and within its group to
 -- those with a lesser measure. This ends, so what holds of an application where it holds of all below it holds of all.
-use Rattle.std.specs.Prelude.{◌≡◌, List, Some}
+use Rattle.std.specs.Prelude.{◌≡◌, true, List, Some}
 use Rattle.vx_ast.specs.Syntax.{Name, Program, Function, Measure, function_named}
 use Rattle.vx_meaning.specs.Values.{Value}
 use Rattle.vx_meaning.specs.States.{Heap, HaveTypes}
 use Rattle.vx_meaning.specs.Fails.{LowersMeasure}
 use Rattle.vx_meaning.specs.Group.{Reaches, InGroup}
+use Rattle.vx_rules.specs.Groups.{is_in_group}
+use Rattle.vx_whole.specs.Closure.{InClosure}
+use Rattle.vx_told.specs.Walks.{KeepsAt}
 use Rattle.vx_told.specs.Allowed.{StartsAt}
 
 -- f' has a lesser measure at vs' than f has at vs, where it starts in this heap
@@ -47,3 +50,13 @@ pub data GoesDown (p : Program) (h : Heap) : Name → List Value → Type 0 wher
 
 abbrev pub MeasuresEnd : Program → Type 0
 MeasuresEnd p = (h : Heap) → HoldsOfAll p (λ f g vs. GoesDown p h f vs)
+
+-- the groups that the rules decide are these groups
+abbrev pub GroupsAgree : Program → Type 0
+GroupsAgree p = (f g : Name) → (is_in_group p f g ≡ true → InGroup p f g) × (InGroup p f g → is_in_group p f g ≡ true)
+
+-- What the walks of functions are to show, of the functions that x leads to: an application keeps its promise where all below it do.
+abbrev pub KeepsFromBelow : Program → Name → Type 0
+KeepsFromBelow p x =
+    (f : Name) (g : Function) → InClosure p x f → function_named p f ≡ Some g → (vs : List Value) → HaveTypes g.parameters vs → (h : Heap) →
+    ((f' : Name) (g' : Function) → InClosure p x f' → function_named p f' ≡ Some g' → (vs' : List Value) → HaveTypes g'.parameters vs' → IsBelow p h f vs f' vs' → KeepsAt p f' g' vs' h) → KeepsAt p f g vs h
