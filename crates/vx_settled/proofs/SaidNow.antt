@@ -34,7 +34,7 @@ either false x y h k = k
 
 module _ (s : Setting) (no_old : s.has_old ≡ false) where
   mutual
-    now : {e : written.Expr} {t : ValueType} → typing.HasType s e t → IsOfNow (expression e)
+    pub now : {e : written.Expr} {t : ValueType} → typing.HasType s e t → IsOfNow (expression e)
     now (typing.number at n) = tt
     now (typing.truth at b) = tt
     now (typing.nulls at) = tt
@@ -56,7 +56,7 @@ module _ (s : Setting) (no_old : s.has_old ≡ false) where
         not_both e = cc
     now (typing.unfoldings at i m h k g) = (all_now h, share_now at k, now g)
 
-    all_now : {es : written.Exprs} {ts : List ValueType} → typing.HaveTypes s es ts → AreOfNow (expressions es)
+    pub all_now : {es : written.Exprs} {ts : List ValueType} → typing.HaveTypes s es ts → AreOfNow (expressions es)
     all_now typing.no_more = tt
     all_now (typing.more h k) = (now h, all_now k)
 

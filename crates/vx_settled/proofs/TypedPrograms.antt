@@ -22,14 +22,14 @@ use Rattle.vx_typing.specs.Members as members
 use Rattle.vx_typing.specs.Members.{table_of, AreDeclared, AreTypedClauses, IsMeasure, AreTypedMembers, IsTypedKind}
 use Rattle.vx_types.specs.Typing as settled_typing
 use Rattle.vx_types.specs.Typing.{Scope, type_in, AreOnce, HaveNoPerm, HasType, AllTyped, AreTruths, IsTypedContent, IsTypedMeasure, IsTypedPredicate, IsTypedFunction, IsTypedMethod}
-use Rattle.vx_whole.specs.Now.{SaysNow}
+use Rattle.vx_whole.specs.Now.{IsOfNow, AreOfNow, SaysNow, IsMeasuredNow, SpeaksOfNow}
 use Rattle.vx_whole.specs.Premises.{HasConstantAmounts}
 use Rattle.vx_settled.specs.WhenSettled.{LeavesResult, LeaveResults, TypedProgramWhenSettled}
 use Rattle.vx_settled.proofs.TypedNames.{Knows, knows, same_refl, differs_back, Absent, absent, among_last}
 use Rattle.vx_settled.proofs.TypedExprs.{Sees, typed, all_typed}
 use Rattle.vx_settled.proofs.TypedClaims.{claim}
 use Rattle.vx_settled.proofs.ConstantAmounts.{claim_amounts}
-use Rattle.vx_settled.proofs.SaidNow.{claim_now}
+use Rattle.vx_settled.proofs.SaidNow.{now, all_now, claim_now}
 use Rattle.vx_settled.proofs.TypedStmts.{settled, same_types, declared_once}
 use Rattle.vx_settled.proofs.TypedMembers.{all_more, method}
 use Rattle.vx_settled.proofs.KeptApart.{kept_apart}
@@ -68,6 +68,9 @@ same_type t u e = (cc)
 
 same_assertion : (a b : Assertion) → Some a ≡ Some b → a ≡ b
 same_assertion a b e = (cc)
+
+same_function : (a b : Function) → IsFunction a ≡ IsFunction b → a ≡ b
+same_function a b e = (cc)
 
 module _ (table : Table) (names : Names) (p : Program) (knows : Knows (named table) names p) where
   abbrev parameters : List written.Declaration → Scope
@@ -197,22 +200,74 @@ module _ (table : Table) (names : Names) (p : Program) (knows : Knows (named tab
     measure = decreasing f.parameters f.of f.clauses h.clauses;
     body = typed (plainly table (inputs f.parameters)) (parameters f.parameters) names p (plainly_sees f.parameters) h.body;
   }
+
+  -- and none of its parts has an `old`
+  required_now : (ds : List written.Declaration) (of : ValueType) (cs : List written.Clause) → AreTypedClauses table (inputs ds) of cs → Each SaysNow (map (assertion names) (written.requires_of cs))
+  required_now ds of [] h = tt
+  required_now ds of (written.Requires e ∷ cs) h = (claim_now (before_function table (inputs ds)) refl names h.0, required_now ds of cs h.1)
+  required_now ds of (written.Ensures e ∷ cs) h = required_now ds of cs h.1
+  required_now ds of (written.Decreases e ∷ cs) h = required_now ds of cs h.1
+
+  ensured_now : (ds : List written.Declaration) (of : ValueType) (cs : List written.Clause) → AreTypedClauses table (inputs ds) of cs → Each IsOfNow (map expression (written.ensures_of cs))
+  ensured_now ds of [] h = tt
+  ensured_now ds of (written.Requires e ∷ cs) h = ensured_now ds of cs h.1
+  ensured_now ds of (written.Ensures e ∷ cs) h = (now (after_function table (inputs ds) of) refl h.0, ensured_now ds of cs h.1)
+  ensured_now ds of (written.Decreases e ∷ cs) h = ensured_now ds of cs h.1
+
+  number_now : (ds : List written.Declaration) {e : written.Expr} → typing.HasType (within_measure table (inputs ds)) e type.Int → IsOfNow (expression e)
+  number_now ds h = now (within_measure table (inputs ds)) refl h
+
+  arguments_now : (ds : List written.Declaration) {at : Place} {i : Name} {es : written.Exprs} → IsMeasure (within_measure table (inputs ds)) (written.Call at i es) → AreOfNow (expressions es)
+  arguments_now ds (inl (typing.applies at i m a h)) = all_now (within_measure table (inputs ds)) refl h
+  arguments_now ds (inr (typing.instance at i m h)) = all_now (within_measure table (inputs ds)) refl h
+
+  measured_now : (ds : List written.Declaration) (e : written.Expr) → IsMeasure (within_measure table (inputs ds)) e → IsMeasuredNow (Some (resolve.measure names e))
+  measured_now ds (written.Call at i es) h = go (names.is_predicate i)
     where
-      same_function : (a b : Function) → IsFunction a ≡ IsFunction b → a ≡ b
-      same_function a b e = (cc)
+      go : (b : Bool) → IsMeasuredNow (Some (if b then ByInstance at i (expressions es) else ByNumber (expression (written.Call at i es))))
+      go true = arguments_now ds h
+      go false = arguments_now ds h
+  measured_now ds (written.Number at n) h = number_now ds h
+  measured_now ds (written.Truth at b) h = number_now ds h
+  measured_now ds (written.Null at) h = number_now ds h
+  measured_now ds (written.Whole at) h = number_now ds h
+  measured_now ds (written.Nothing at) h = number_now ds h
+  measured_now ds (written.Result at) h = number_now ds h
+  measured_now ds (written.Variable at x) h = number_now ds h
+  measured_now ds (written.Read at e f) h = number_now ds h
+  measured_now ds (written.Unary at o e) h = number_now ds h
+  measured_now ds (written.Binary at o a b) h = number_now ds h
+  measured_now ds (written.Choice at c a b) h = number_now ds h
+  measured_now ds (written.Old at e) h = number_now ds h
+  measured_now ds (written.Access at e share) h = number_now ds h
+  measured_now ds (written.Unfolding at i es share e) h = number_now ds h
+
+  decreasing_now : (ds : List written.Declaration) (of : ValueType) (cs : List written.Clause) → AreTypedClauses table (inputs ds) of cs → IsMeasuredNow (resolve.optional_measure names (written.measure_of cs))
+  decreasing_now ds of [] h = tt
+  decreasing_now ds of (written.Requires e ∷ cs) h = decreasing_now ds of cs h.1
+  decreasing_now ds of (written.Ensures e ∷ cs) h = decreasing_now ds of cs h.1
+  decreasing_now ds of (written.Decreases e ∷ cs) h = measured_now ds e h.0
+
+  function_now : (at : Place) (f : written.Function) → members.IsTypedFunction table f → (g : Function) → IsFunction g ≡ resolve.kind names at (written.IsFunction f) → SpeaksOfNow g
+  function_now at f h g is = subst SpeaksOfNow (sym (same_function _ _ is)) record {
+    requires = required_now f.parameters f.of f.clauses h.clauses;
+    ensures = ensured_now f.parameters f.of f.clauses h.clauses;
+    measure = decreasing_now f.parameters f.of f.clauses h.clauses;
+    body = now (plainly table (inputs f.parameters)) refl h.body;
+  }
 
   -- ---- members by name
 
   abbrev TypedKind : Kind → Type 0
   TypedKind (IsField t) = ⊤
   TypedKind (IsPredicate d) = IsTypedPredicate p d × ((a : Assertion) → d.body ≡ Some a → HasConstantAmounts a) × ((a : Assertion) → d.body ≡ Some a → SaysNow a)
-  TypedKind (IsFunction g) = IsTypedFunction p g × Each HasConstantAmounts g.requires
+  TypedKind (IsFunction g) = IsTypedFunction p g × Each HasConstantAmounts g.requires × SpeaksOfNow g
   TypedKind (IsMethod m) = IsTypedMethod p m
 
   kind : (at : Place) (k : written.Kind) → IsTypedKind table k → LeavesResult k → TypedKind (resolve.kind names at k)
   kind at (written.IsField t) h away = tt
   kind at (written.IsPredicate d) h away = (predicate at d h, content_amounts d.parameters d.body h.body, content_now d.parameters d.body h.body)
-  kind at (written.IsFunction f) h away = (function at f h away _ refl, required_amounts f.parameters f.of f.clauses h.clauses)
+  kind at (written.IsFunction f) h away = (function at f h away _ refl, required_amounts f.parameters f.of f.clauses h.clauses, function_now at f h _ refl)
   kind at (written.IsMethod m) h away = method table names p knows (written.IsMethod m) at _ h refl
 
   same_kind : (a b : Kind) → Some a ≡ Some b → a ≡ b
@@ -287,5 +342,6 @@ typed_program_when_settled w h away =
       bodies = λ x d a e is. (all x (IsPredicate d) (predicate_found (member_named p x) d e)).1 a is;
       now = λ x d a e is. (all x (IsPredicate d) (predicate_found (member_named p x) d e)).2 a is;
       preconditions = λ x g e. (all x (IsFunction g) (function_found (member_named p x) g e)).1;
+      functions_now = λ x g e. (all x (IsFunction g) (function_found (member_named p x) g e)).2;
       apart = kept_apart w h;
     }

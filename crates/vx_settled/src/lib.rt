@@ -16,8 +16,8 @@ pub fn typed_programs_settle_typed()
 {}
 
 /// A typed program is typed as a whole when it is settled: each member is found by its name, and is typed as its kind asks,
-/// amounts in predicates and in preconditions of functions are known, predicates say nothing of an earlier state, and no member
-/// is entered within itself.
+/// amounts in predicates and in preconditions of functions are known, predicates and functions say nothing of an earlier state,
+/// and no member is entered within itself.
 pub fn typed_programs_settle_whole()
     ensures { TypedProgramWhenSettled }
 {}

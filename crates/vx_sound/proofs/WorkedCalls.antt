@@ -82,6 +82,7 @@ calls_typed = record {
   bodies = λ y d a e is. absurd (no_predicate y d e);
   now = λ y d a e is. absurd (no_predicate y d e);
   preconditions = λ y g e. absurd (no_function y g e);
+  functions_now = λ y g e. absurd (no_function y g e);
   apart = record {
     measure = λ y g z e st. absurd (no_function y g e);
     body = λ y d z e st. absurd (no_predicate y d e);

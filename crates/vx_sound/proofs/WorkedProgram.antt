@@ -99,6 +99,7 @@ writes_typed = record {
   bodies = λ y d a e is. absurd (no_predicate (member_named writes y) d (named y) e);
   now = λ y d a e is. absurd (no_predicate (member_named writes y) d (named y) e);
   preconditions = λ y g e. absurd (no_function (member_named writes y) g (named y) e);
+  functions_now = λ y g e. absurd (no_function (member_named writes y) g (named y) e);
   apart = record {
     measure = λ y g z e st. absurd (no_function (member_named writes y) g (named y) e);
     body = λ y d z e st. absurd (no_predicate (member_named writes y) d (named y) e);

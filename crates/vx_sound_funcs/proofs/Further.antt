@@ -13,7 +13,7 @@ use Rattle.vx_whole.specs.Now.{IsOfNow, AreOfNow, SaysNow}
 use Rattle.vx_sound_preds.specs.Bodies.{Rigid, IsPlain, ArePlain, IsPlainBody, GoodBodies}
 use Rattle.vx_sound_preds.proofs.Fitting.{undo, not_failed}
 use Rattle.vx_sound_preds.proofs.Framing.{ok_same}
-use Rattle.vx_sound_funcs.specs.Told.{Says, AllSay, precondition_of}
+use Rattle.vx_sound_funcs.specs.Told.{precondition_of}
 use Rattle.vx_sound_funcs.specs.Firm.{start_of, firm_application, firmly, GoodFunctions}
 use Rattle.vx_sound_funcs.proofs.Fits.{next, or_more, connected_more, chosen_more}
 use Rattle.vx_sound_funcs.proofs.Steps.{nothing_some, some_of, found, allowed}
@@ -24,7 +24,7 @@ pub record Further (s t : State) : Type 0 where
   pub heap : t.heap ≡ s.heap
   pub holdings : t.holdings ≡ s.holdings
 
--- What is plain, and what says something, has no `old`
+-- What is plain has no `old`
 
 mutual
   plain_now : (e : Expr) → IsPlain e → IsOfNow e
@@ -54,28 +54,6 @@ body_now p (syntax.Instance at i es share) k = (all_plain_now es k.0, plain_now 
 body_now p (Both a b) k = (body_now p a k.0, body_now p b k.1)
 body_now p (Implied c a) k = (plain_now c k.0, body_now p a k.1)
 body_now p (Chosen c a b) k = (plain_now c k.0, body_now p a k.1, body_now p b k.2)
-
-module _ (May : Name → Exprs → Type 0) where
-  mutual
-    pub said_now : (e : Expr) → Says May e → IsOfNow e
-    said_now (Number at n) k = tt
-    said_now (Truth at b) k = tt
-    said_now (Null at) k = tt
-    said_now (Part at n m) k = tt
-    said_now (Variable at x) k = tt
-    said_now (Not at e) k = said_now e k
-    said_now (Operate at op a b) k = (said_now a k.0, said_now b k.1)
-    said_now (Divide at op a b) k = (said_now a k.0, said_now b k.1)
-    said_now (Connect at c a b) k = (said_now a k.0, said_now b k.1)
-    said_now (Choose at c a b) k = (said_now c k.0, said_now a k.1, said_now b k.2)
-    said_now (Read at e f) k = said_now e k
-    said_now (Old at e) k = k
-    said_now (Apply at f es) k = all_said_now es k.1
-    said_now (Unfolding at i es share e) k = (all_said_now es k.0, said_now share k.1, said_now e k.2)
-
-    all_said_now : (es : Exprs) → AllSay May es → AreOfNow es
-    all_said_now NoMore k = tt
-    all_said_now (More e es) k = (said_now e k.0, all_said_now es k.1)
 
 readable_same : (p : Program) (s t : State) (l : Location) → Further s t → readable p s l ≡ readable p t l
 readable_same p s t l f = ap₂ (λ (h : Heap) (hs : Holdings). cond (is_positive (amount hs (At l))) (Some (value_at p h l)) None) (sym f.heap) (sym f.holdings)

@@ -1,9 +1,10 @@
--- In a typed program the functions are good, if they say nothing of an earlier state and their preconditions apply none.
+-- In a typed program functions speak of no earlier state, and they are good if their preconditions apply none.
 use Rattle.std.proofs.Common.{◌≡◌, inl, ℕ, zero, suc, ℤ, pos, negsuc, Bool, true, false, cond, List, [], ◌∷◌, ◌++◌, Option, Some, None, refl, sym, ◌∙◌, ap, subst}
 use Rattle.std.specs.Prelude.{option_and_then}
+use Rattle.vx_ast.specs.declared.Place.{Place}
 use Rattle.vx_ast.specs.declared.ValueType.{ValueType}
 use Rattle.vx_ast.specs.declared.ValueType.TheVariants.{Perm}
-use Rattle.vx_ast.specs.Syntax.{Name, same_name, Declaration, Program, Function, function_named, Connective, Operator, Equal, Less, LessEqual, Greater, GreaterEqual, Add, Subtract, Multiply, Division, Quotient, Remainder, Expr, Exprs, Assertion, Pure, Points, Both, Implied, Chosen, joined, joined_with}
+use Rattle.vx_ast.specs.Syntax.{Name, same_name, Declaration, Program, Function, function_named, Connective, And, Operator, Equal, Less, LessEqual, Greater, GreaterEqual, Add, Subtract, Multiply, Division, Quotient, Remainder, Expr, Connect, Exprs, Assertion, Pure, Points, Both, Implied, Chosen, joined, joined_with, conjoined, conjoined_with, place_of}
 use Rattle.vx_ast.specs.Syntax as syntax
 use Rattle.vx_ast.specs.Mentions.{mentioned, mentioned_in}
 use Rattle.vx_ast.specs.Apart.{Stands, entered_by}
@@ -25,6 +26,7 @@ use Rattle.vx_sound_preds.proofs.Typed.{on_left, on_right}
 use Rattle.vx_sound_preds.proofs.Holding.{rigid_value}
 use Rattle.vx_sound_funcs.specs.Told.{Says, AllSay, precondition_of}
 use Rattle.vx_sound_funcs.specs.Firm.{HasRigidArguments, GoodFunctions, PlainContracts}
+use Rattle.vx_sound_funcs.specs.Laws.{SpeakNow}
 
 -- What isn't a Perm has no amount as its value, where no variable has one.
 
@@ -283,9 +285,35 @@ module _ (p : Program) where
     joined_constant at [] k = tt
     joined_constant at (a ∷ rest) k = joined_with_constant a rest k.0 k.1
 
+    joined_with_now : (a : Assertion) (rest : List Assertion) → SaysNow a → Each SaysNow rest → SaysNow (joined_with a rest)
+    joined_with_now a [] k ks = k
+    joined_with_now a (b ∷ rest) k ks = joined_with_now (Both a b) rest (k, ks.0) ks.1
+
+    joined_now : (at : Place) (rest : List Assertion) → Each SaysNow rest → SaysNow (joined at rest)
+    joined_now at [] k = tt
+    joined_now at (a ∷ rest) k = joined_with_now a rest k.0 k.1
+
+    conjoined_with_now : (a : Expr) (rest : List Expr) → IsOfNow a → Each IsOfNow rest → IsOfNow (conjoined_with a rest)
+    conjoined_with_now a [] k ks = k
+    conjoined_with_now a (b ∷ rest) k ks = conjoined_with_now (Connect (place_of a) And a b) rest (k, ks.0) ks.1
+
+    conjoined_now : (at : Place) (rest : List Expr) → Each IsOfNow rest → IsOfNow (conjoined at rest)
+    conjoined_now at [] k = tt
+    conjoined_now at (a ∷ rest) k = conjoined_with_now a rest k.0 k.1
+
+    -- a function's body, its precondition and its promise have no `old`
+    pub functions_speak_now : SpeakNow p
+    functions_speak_now f g named = (typed.functions_now f g named).body
+
+    pub requirements_now : (f : Name) (g : Function) → function_named p f ≡ Some g → SaysNow (precondition_of g)
+    requirements_now f g named = joined_now g.place g.requires (typed.functions_now f g named).requires
+
+    pub promises_now : (f : Name) (g : Function) → function_named p f ≡ Some g → IsOfNow (conjoined g.place g.ensures)
+    promises_now f g named = conjoined_now g.place g.ensures (typed.functions_now f g named).ensures
+
     pub good_functions : PlainContracts p → GoodFunctions p
-    good_functions k = record {
-      asks = λ f g named. body_is g.parameters (precondition_of g) (joined_typed p g.parameters g.place g.requires (typed.functions f g named).requires) (joined_constant g.place g.requires (typed.preconditions f g named)) (k.asks_now f g named) (k.asks_plainly f g named);
-      says = λ f g named. says (typed.functions f g named).body (k.says_now f g named);
-      promises_now = k.promises_now;
+    good_functions plainly = record {
+      asks = λ f g named. body_is g.parameters (precondition_of g) (joined_typed p g.parameters g.place g.requires (typed.functions f g named).requires) (joined_constant g.place g.requires (typed.preconditions f g named)) (requirements_now f g named) (plainly f g named);
+      says = λ f g named. says (typed.functions f g named).body (functions_speak_now f g named);
+      promises_now = promises_now;
     }

@@ -101,7 +101,7 @@ boxes_are_good = record {
 asks_for_a_box : IsPlainBody boxes Rigid (precondition_of getter)
 asks_for_a_box = ((tt, tt), whole_amount, λ s vs h e. x_is_rigid no_applications s vs h e)
 
-pub promises_of_now : (y : Name) (h : Function) → function_named boxes y ≡ Some h → IsOfNow (conjoined h.place h.ensures)
+promises_of_now : (y : Name) (h : Function) → function_named boxes y ≡ Some h → IsOfNow (conjoined h.place h.ensures)
 promises_of_now = each_function (λ h. IsOfNow (conjoined h.place h.ensures)) tt (tt, ((tt, tt), (tt, tt))) tt
 
 pub functions_are_good : GoodFunctions boxes

@@ -6,7 +6,7 @@ use Rattle.vx_ast.specs.Syntax.{Name, same_name, result_name, Member, Predicate,
 use Rattle.vx_ast.specs.Apart.{Stands, entered_by, entered_by_body, entered_by_measure}
 use Rattle.vx_types.specs.Typing.{IsTypedPredicate, IsTypedFunction, variable, part, operates, reads, applies, unfoldings, no_more, more}
 use Rattle.vx_terms.specs.Interpretations.{Each, IntLeaf}
-use Rattle.vx_whole.specs.Now.{IsOfNow, SaysNow}
+use Rattle.vx_whole.specs.Now.{SaysNow, SpeaksOfNow}
 use Rattle.vx_whole.specs.Premises.{HasConstantAmounts, IsTypedProgram}
 use Rattle.vx_whole.specs.Closure.{itself}
 use Rattle.vx_meaning.specs.States.{State, Location, Folded, same_location, same_resource, with_store}
@@ -19,7 +19,7 @@ use Rattle.vx_sound_preds.specs.Examples.{here, x, f, P, instance_of}
 use Rattle.vx_sound_funcs.specs.Told.{IsTreeOf, precondition_of, IsValueOf}
 use Rattle.vx_sound_funcs.specs.Firm.{PlainContracts}
 use Rattle.vx_sound_funcs.specs.Examples.{box, box_body, get, getter, twice, doubler, peek, peeker, boxes, field_of, x_is_one, holding}
-use Rattle.vx_sound_funcs.proofs.Worked.{the_predicate, each_function, same_assertion, only_box, promises_of_now, functions_are_good, its_tree, whole_number}
+use Rattle.vx_sound_funcs.proofs.Worked.{the_predicate, each_function, same_assertion, only_box, functions_are_good, its_tree, whole_number}
 use Rattle.vx_sound_funcs.proofs.Laws.{agree}
 
 same_member : (a b : Member) → Some a ≡ Some b → a ≡ b
@@ -106,6 +106,10 @@ boxes_typed = record {
   bodies = each_body HasConstantAmounts (over 1 1, (λ p ap s. refl), refl);
   now = each_body SaysNow (tt, tt);
   preconditions = each_function (λ g. Each HasConstantAmounts g.requires) ((over 1 1, (λ p ap s. refl), refl), tt) ((over 1 1, (λ p ap s. refl), refl), tt) tt;
+  functions_now = each_function SpeaksOfNow
+      record { requires = (((tt, tt), tt), tt); ensures = tt; measure = tt; body = ((tt, tt), tt, tt) }
+      record { requires = (((tt, tt), tt), tt); ensures = ((tt, ((tt, tt), (tt, tt))), tt); measure = tt; body = ((tt, tt), (tt, tt)) }
+      record { requires = tt; ensures = tt; measure = tt; body = tt };
   apart = record {
     measure = λ y g z e st. absurd (each_function (λ g. Stands z (entered_by_measure g.decreases) → ⊥) (λ s. s) (λ s. s) (λ s. s) y g e st);
     body = λ y d z e st. absurd (enters_nothing y d z e st);
@@ -158,9 +162,4 @@ get_agrees z t there =
     subst (IsValueOf boxes get (RefValue 1 ∷ []) t) (sym (whole_number z r.0 r.2)) r.1
 
 pub boxes_plain : PlainContracts boxes
-boxes_plain = record {
-  says_now = each_function (λ g. IsOfNow g.body) ((tt, tt), tt, tt) ((tt, tt), (tt, tt)) tt;
-  promises_now = promises_of_now;
-  asks_now = each_function (λ g. SaysNow (precondition_of g)) ((tt, tt), tt) ((tt, tt), tt) tt;
-  asks_plainly = λ y g e z st. absurd (each_function (λ g. Stands z (entered_by (precondition_of g)) → ⊥) (λ s. s) (λ s. s) (λ s. s) y g e st);
-}
+boxes_plain y g e z st = absurd (each_function (λ g. Stands z (entered_by (precondition_of g)) → ⊥) (λ s. s) (λ s. s) (λ s. s) y g e st)

@@ -4,7 +4,7 @@ use Rattle.std.specs.Prelude.{◌≡◌, ℕ, zero, suc, List, Option, Some, Non
 use Rattle.vx_frac.specs.Fractions.{full}
 use Rattle.vx_ast.specs.Syntax.{Name, Program, Function, function_named, conjoined, Expr, Exprs}
 use Rattle.vx_ast.specs.Apart.{Stands, entered_by}
-use Rattle.vx_whole.specs.Now.{IsOfNow, SaysNow}
+use Rattle.vx_whole.specs.Now.{IsOfNow}
 use Rattle.vx_meaning.specs.Values.{Value, is_true}
 use Rattle.vx_meaning.specs.States.{State, Heap, bind, with_store}
 use Rattle.vx_meaning.specs.Evaluate.{applications, values}
@@ -52,9 +52,6 @@ pub record GoodFunctions (p : Program) : Type 0 where
   pub says : (f : Name) (g : Function) → function_named p f ≡ Some g → Says (HasRigidArguments p) g.body
   pub promises_now : (f : Name) (g : Function) → function_named p f ≡ Some g → IsOfNow (conjoined g.place g.ensures)
 
--- what `IsTypedProgram` leaves to be said of functions: they speak of no earlier state, and their preconditions apply none
-pub record PlainContracts (p : Program) : Type 0 where
-  pub says_now : (f : Name) (g : Function) → function_named p f ≡ Some g → IsOfNow g.body
-  pub promises_now : (f : Name) (g : Function) → function_named p f ≡ Some g → IsOfNow (conjoined g.place g.ensures)
-  pub asks_now : (f : Name) (g : Function) → function_named p f ≡ Some g → SaysNow (precondition_of g)
-  pub asks_plainly : (f : Name) (g : Function) → function_named p f ≡ Some g → (x : Name) → Stands x (entered_by (precondition_of g)) → function_named p x ≡ None
+-- what `IsTypedProgram` leaves to be said of functions: their preconditions apply none
+abbrev pub PlainContracts : Program → Type 0
+PlainContracts p = (f : Name) (g : Function) → function_named p f ≡ Some g → (x : Name) → Stands x (entered_by (precondition_of g)) → function_named p x ≡ None

@@ -51,9 +51,10 @@ pub fn trees_tell_firm_values()
     ensures passed { (p : Program) (x : Name) (replies : Name → List Reply) → IsTypedProgram p → GoodFunctions p → PredicatesPass p x replies → TreesTellFirmValues p (IsProper p x) }
 {}
 
-/// In a typed program functions are good where they speak of no earlier state and their preconditions apply none: the arguments
+/// In a typed program functions are good where their preconditions apply none: they speak of no earlier state, and the arguments
 /// of what they apply are no amounts.
 pub fn typed_functions_are_good()
+    ensures now { (p : Program) → IsTypedProgram p → SpeakNow p }
     ensures good { (p : Program) → IsTypedProgram p → PlainContracts p → GoodFunctions p }
     ensures boxes { PlainContracts boxes }
 {}
@@ -64,9 +65,10 @@ pub fn plain_parts_fit_firmly()
 {}
 
 /// What fits firmly fits, where no body of a function has an `old`: a body that fits where it starts has its value in the state of
-/// its caller too. So what is shown of firm fitting tells of what the meaning asks for.
+/// its caller too. So what is shown of firm fitting tells of what the meaning asks for, in each typed program.
 pub fn what_fits_firmly_fits()
-    ensures { (p : Program) → SpeakNow p → FirmlyIsMore p }
+    ensures more { (p : Program) → SpeakNow p → FirmlyIsMore p }
+    ensures typed { (p : Program) → IsTypedProgram p → FirmlyIsMore p }
 {}
 
 /// So two applications at the same arguments, where the precondition has one tree, have values that look the same, if one of

@@ -101,6 +101,7 @@ module _ (t : ValueType) (d : Predicate) where
     bodies = λ y e b h body. each_body HasConstantAmounts a is amounts y e b h body;
     now = λ y e b h body. each_body SaysNow a is now y e b h body;
     preconditions = λ y g e. absurd (no_function y g e);
+    functions_now = λ y g e. absurd (no_function y g e);
     apart = record {
       measure = λ y g z e st. absurd (no_function y g e);
       body = λ y e z h st. absurd (enters_nothing y e z h st);

@@ -99,6 +99,7 @@ renewed_typed = record {
   bodies = each_body HasConstantAmounts ((over 1 1, (λ p ap s. refl), refl), tt);
   now = each_body SaysNow ((tt, tt), (tt, tt));
   preconditions = λ y g e. absurd (no_function y g e);
+  functions_now = λ y g e. absurd (no_function y g e);
   apart = record {
     measure = λ y g z e st. absurd (no_function y g e);
     body = λ y d z e st. absurd (enters_nothing y d z e st);

@@ -32,11 +32,12 @@ use Rattle.vx_sound_preds.proofs.Taking.{take_takes}
 use Rattle.vx_sound_preds.proofs.Holding.{HoldsInstances, TypedAll, all_single, typed_rigid, typed_added, added_debts, stock, lower}
 use Rattle.vx_sound_preds.proofs.Speaking.{good, no_perm, speak}
 use Rattle.vx_sound_funcs.specs.Told.{precondition_of}
-use Rattle.vx_sound_funcs.specs.Firm.{firmly, HasRigidArguments, GoodFunctions}
+use Rattle.vx_sound_funcs.specs.Firm.{firmly, GoodFunctions}
 use Rattle.vx_sound_funcs.specs.Laws.{SpeakNow}
 use Rattle.vx_sound_funcs.proofs.Alike.{firm_exchange, take_alike}
 use Rattle.vx_sound_funcs.proofs.Fits.{firm_allows}
-use Rattle.vx_sound_funcs.proofs.Further.{Further, said_now, firm_further}
+use Rattle.vx_sound_funcs.proofs.Further.{Further, firm_further}
+use Rattle.vx_sound_funcs.proofs.TypedFunctions.{functions_speak_now}
 use Rattle.vx_sound_funcs.proofs.Firm.{taken_total}
 use Rattle.vx_sound_funcs.proofs.Agree.{taken_amount, holds_possible}
 use Rattle.vx_told.specs.Means.{Means}
@@ -49,7 +50,7 @@ use Rattle.vx_told.proofs.Started.{Started, started, applied_firmly}
 
 module _ (p : Program) (x : Name) (replies : Name → List Reply) (typed : IsTypedProgram p) (functions : GoodFunctions p) (pass : FunctionsPass p x replies) where
   speak_now : SpeakNow p
-  speak_now f g named = said_now (HasRigidArguments p) g.body (functions.says f g named)
+  speak_now = functions_speak_now p typed
 
   module _ (f : Name) (g : Function) (leads : InClosure p x f) (named : function_named p f ≡ Some g) (vs : List Value) (types : run.HaveTypes g.parameters vs) (c : State) (can : IsConsistent p c) (stocked : IsStocked p x c.holdings)
       (rest : Holdings) (takes : Takes p (with_store (bind g.parameters vs) c) (precondition_of g) full rest) where

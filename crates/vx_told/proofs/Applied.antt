@@ -4,7 +4,6 @@ use Rattle.std.specs.Prelude.{nat_lt, Ok}
 use Rattle.std.proofs.lemmas.Bool.{lt-ltb}
 use Rattle.vx_frac.specs.Fractions.{none, full}
 use Rattle.vx_ast.specs.declared.Place.{Place}
-use Rattle.vx_ast.specs.declared.ValueType.TheVariants.{Perm}
 use Rattle.vx_ast.specs.declared.ValueType.TheVariants as type
 use Rattle.vx_ast.specs.Syntax.{Name, result_name, Declaration, Program, Predicate, Function, predicate_named, function_named, joined, conjoined}
 use Rattle.vx_meaning.specs.Values.{Value, BoolValue, type_of}
@@ -21,7 +20,7 @@ use Rattle.vx_rules.specs.Trees.{FunctionCode, Step}
 use Rattle.vx_rules.specs.Groups.{is_in_group, function_number}
 use Rattle.vx_rules.specs.Rules.{Giving, Going, Context, Outer, outer, never, entered, back, gathered, terms, quietly, sides_of, with_body, with_promise, with_equations, decreasing, measured, applied}
 use Rattle.vx_types.specs.Typing.{Scope, HaveNoPerm, IsTypedFunction}
-use Rattle.vx_amounts.proofs.Amounts.{le-refl, positive-le, full-positive, none-full}
+use Rattle.vx_amounts.proofs.Amounts.{le-refl, positive-le, full-positive}
 use Rattle.vx_elements.proofs.Settled.{Meaning, Extends, extends-refl, extends-trans, value_kept}
 use Rattle.vx_elements.proofs.Built.{Good, good_later, good_equals}
 use Rattle.vx_elements.proofs.Elements.{element}
@@ -37,15 +36,13 @@ use Rattle.vx_sound.proofs.Speaks as instances
 use Rattle.vx_sound_preds.specs.Bodies.{Rigid, IsPlainBody, GoodBodies}
 use Rattle.vx_sound_preds.proofs.Looks.{Sees}
 use Rattle.vx_sound_preds.proofs.Framing.{tree_seen}
-use Rattle.vx_sound_preds.proofs.Adding.{Adds, added, add_adds}
+use Rattle.vx_sound_preds.proofs.Adding.{added}
 use Rattle.vx_sound_preds.proofs.Frames.{entries_positive}
 use Rattle.vx_sound_preds.proofs.Entries.{entries_typed}
 use Rattle.vx_sound_preds.proofs.Exchanging.{held_rigid}
-use Rattle.vx_sound_preds.proofs.Produced.{fine_state}
-use Rattle.vx_sound_preds.proofs.Holding.{HoldsInstances, TypedAll, all_single, typed_rigid, typed_added, added_debts, stock, lower, nothing, nothing_applied, instances_world}
+use Rattle.vx_sound_preds.proofs.Holding.{HoldsInstances, TypedAll, all_single, typed_rigid, typed_added, added_debts, stock, lower, nothing, instances_world}
 use Rattle.vx_sound_funcs.specs.Told.{IsTreeOf, precondition_of}
 use Rattle.vx_sound_funcs.specs.Firm.{firm_application, firmly, GoodFunctions}
-use Rattle.vx_sound_funcs.proofs.Alike.{firm_open}
 use Rattle.vx_sound_funcs.proofs.Steps.{Steps, steps_of}
 use Rattle.vx_sound_funcs.proofs.Firm.{taken_total, Begun, begun}
 use Rattle.vx_sound_funcs.proofs.Agree.{taken_amount}
@@ -56,6 +53,7 @@ use Rattle.vx_live.proofs.Quiet.{Quiet, after, outer_left, measured_left, equati
 use Rattle.vx_told.specs.Means.{Promise}
 use Rattle.vx_told.proofs.Woken.{woken, fact_woken, Quietly}
 use Rattle.vx_told.proofs.Told.{Walk, On, off_still, Told, told_after, FollowsWith, OffGiving, on_quiet, off_quiet, step_told}
+use Rattle.vx_told.proofs.HeldFine.{firm_holds, added_is}
 use Rattle.vx_told.proofs.ToldProduce.{named_quietly, state_same}
 use Rattle.vx_told.proofs.ToldConsume.{Reads}
 use Rattle.vx_told.proofs.Facts.{Stated}
@@ -72,7 +70,6 @@ pub record Spoken (p : Program) (Held : Name → Type 0) (g : Function) : Type 0
   pub instances : instances.SpeaksOf Held (λ f. ⊥) (precondition_of g)
   pub body : Speaks Held g.body
   pub ensures : Speaks Held (conjoined g.place g.ensures)
-  pub result : (g.of ≡ Perm) → ⊥
 
 -- an application that is allowed firmly, in a state that can be
 pub record Allowed (p : Program) (Held : Name → Type 0) (f : Name) (g : Function) (vs : List Value) (v : Value) (c : run.State) : Type 0 where
@@ -88,10 +85,6 @@ pub record Knows (means : Meaning) (p : Program) (Held : Name → Type 0) : Type
   pub made : (f : Name) (g : Function) (vs : List Value) (v : Value) (c : run.State) (tree : Tree) → Allowed p Held f g vs v c → IsTreeOf p (run.with_store (run.bind g.parameters vs) c) (precondition_of g) tree → means (function_number p f) (TreeElement tree ∷ elements vs) (element v)
   pub single : (k : ℕ) (es : List Element) (d e : Element) → means k es d → means k es e → d ≡ e
   pub typed : (f : Name) (g : Function) (vs : List Value) (v : Value) (c : run.State) (tree : Tree) → Allowed p Held f g vs v c → IsTreeOf p (run.with_store (run.bind g.parameters vs) c) (precondition_of g) tree → type_of v ≡ g.of
-
-no_perm_append : (ds : Scope) (d : Declaration) → HaveNoPerm ds → ((d.of ≡ Perm) → ⊥) → HaveNoPerm (ds ++ d ∷ [])
-no_perm_append [] d k h = (h, tt)
-no_perm_append (e ∷ ds) d k h = (k.0, no_perm_append ds d k.1 h)
 
 append_nil : {A : Type 0} (xs : List A) → xs ≡ xs ++ []
 append_nil [] = refl
@@ -202,7 +195,7 @@ module _ (means : Meaning) (p : Program) (good : GoodBodies p) (functions : Good
         let says = spoken f g a.held a.named in
         let b = a.begun in
         sides_stated means p good Held no_perm n (outer p k) (firmly p m) (below m) (λ P. outer_left P p k) (precondition_of g) g.body g.parameters g.of (λ y. equals t y) (quietly p (outer p k) (rules.bind g.parameters ts) s) (level_more s.level) i
-        (bare (run.bind g.parameters vs) c.heap) a.steps.start b.entries_of v snapshot tree says.typed.parameters (joined_typed p g.parameters g.place g.requires says.typed.requires) says.requires (functions.asks f g a.named) b.entries_are b.can a.holds a.steps.starts
+        (bare (run.bind g.parameters vs) c.heap) a.steps.start b.entries_of v snapshot tree (joined_typed p g.parameters g.place g.requires says.typed.requires) says.requires (functions.asks f g a.named) b.entries_are a.holds a.steps.starts
         says.typed.body says.body (subst (λ z. fit p (firmly p m) z g.body ≡ Ok v) (sym (state_same _ a.steps.start (sym b.adds.store) (sym b.adds.heap) (sym b.adds.holdings) (sym b.adds.old_heap) (sym b.adds.old_holdings))) a.steps.fits)
         (begins (rules.bind g.parameters ts) (run.bind g.parameters vs) a.here (bound means world n i g.parameters ts vs a.each)) a.worth
         (λ j y x gy is ty. record { settled = (good_equals means (good_later means (le_refl n) x a.good_term) gy).settled; holds = is_equal j t y (value_kept means t a.good_term.settled x ∙ a.is ∙ sym is) })
@@ -217,10 +210,10 @@ module _ (means : Meaning) (p : Program) (good : GoodBodies p) (functions : Good
     promise_stated scope i s c f g ts vs v m snapshot t tree a =
         let kept = a.promised in
         sides_stated means p good Held no_perm n (outer p k) (firmly p kept.fuel) (below kept.fuel) (λ P. outer_left P p k) (precondition_of g) (conjoined g.place g.ensures) (g.parameters ++ result_of g ∷ []) type.Bool (λ y. y)
-        (quietly p (outer p k) (rules.bind g.parameters ts ++ (result_name, t) ∷ []) s) (level_more s.level) i inside kept.state b.entries_of (BoolValue true) snapshot tree np
-        (typed_longer p g.parameters (result_of g ∷ []) (precondition_of g) (joined_typed p g.parameters g.place g.requires says.typed.requires)) says.requires plain listed b.can a.holds kept.adds
+        (quietly p (outer p k) (rules.bind g.parameters ts ++ (result_name, t) ∷ []) s) (level_more s.level) i inside kept.state b.entries_of (BoolValue true) snapshot tree
+        (typed_longer p g.parameters (result_of g ∷ []) (precondition_of g) (joined_typed p g.parameters g.place g.requires says.typed.requires)) says.requires plain listed a.holds kept.adds
         (conjoined_typed p (g.parameters ++ result_of g ∷ []) g.place g.ensures says.typed.ensures) says.ensures
-        (subst (λ z. fit p (firmly p kept.fuel) z (conjoined g.place g.ensures) ≡ Ok (BoolValue true)) (sym (state_same _ kept.state (sym adds.store) (sym adds.heap) (sym adds.holdings) (sym adds.old_heap) (sym adds.old_holdings))) kept.fits)
+        (subst (λ z. fit p (firmly p kept.fuel) z (conjoined g.place g.ensures) ≡ Ok (BoolValue true)) state_is kept.fits)
         stands (worth_longer p (bare (run.bind g.parameters vs) c.heap) inside longer means n i (precondition_of g) plain tree snapshot a.worth)
         (λ j y x gy is ty. record { settled = gy.settled; holds = ap as_bool is })
       where
@@ -236,9 +229,6 @@ module _ (means : Meaning) (p : Program) (good : GoodBodies p) (functions : Good
         inside : run.State
         inside = bare (run.bind g.parameters vs ++ (result_name, v) ∷ []) c.heap
 
-        np : HaveNoPerm (g.parameters ++ result_of g ∷ [])
-        np = no_perm_append g.parameters (result_of g) says.typed.parameters says.result
-
         longer : Longer (bare (run.bind g.parameters vs) c.heap) (bare (run.bind g.parameters vs ++ (result_name, v) ∷ []) c.heap)
         longer = record { variables = found_longer (run.bind g.parameters vs) ((result_name, v) ∷ []); heap = refl }
 
@@ -250,8 +240,8 @@ module _ (means : Meaning) (p : Program) (good : GoodBodies p) (functions : Good
             (store_append means world g.parameters (rules.bind g.parameters ts) (run.bind g.parameters vs) (result_of g) (result_name, t) (result_name, v) (bound means world n i g.parameters ts vs a.each)
             (record { symbolic_name = refl; name = refl; typed = a.typed; good = a.good_term; value_is = a.is }))
 
-        adds : Adds p full a.begun.entries_of (bare (run.bind g.parameters vs ++ (result_name, v) ∷ []) c.heap) a.promised.state
-        adds = add_adds p full none-full (firmly p a.promised.fuel) (firm_open p good a.promised.fuel) (precondition_of g) inside a.promised.state b.entries_of plain (fine_state means p good Held no_perm true nothing_applied np stands.stands) listed b.can a.promised.adds
+        state_is : a.promised.state ≡ run.with_holdings (added full a.begun.entries_of []) (bare (run.bind g.parameters vs ++ (result_name, v) ∷ []) c.heap)
+        state_is = added_is p good Held (firmly p a.promised.fuel) (firm_holds p good a.promised.fuel) full full-positive (precondition_of g) inside a.promised.state b.entries_of plain stands.stands.holds listed a.holds a.promised.adds
 
     -- what is told of the function is added
     pub record Grown (scope : Scope) (i : Interpretation) (s : State) (c : run.State) : Type 0 where
@@ -470,6 +460,6 @@ module _ (means : Meaning) (p : Program) (good : GoodBodies p) (functions : Good
         walked : Told means world n w i (o.consume (joined g.place g.requires) (record { pure = FunctionCode; permission = FunctionCode; builds = true }) whole_amount s.heap (entered (rules.bind g.parameters ts) at s) (taken g))
         walked =
             let shown = below m w in
-            shown.consumes full (precondition_of g) g.parameters callee c.holdings st.rest says.typed.parameters (joined_typed p g.parameters g.place g.requires says.typed.requires) says.requires plain st.takes i
+            shown.consumes full (precondition_of g) g.parameters callee c.holdings st.rest (joined_typed p g.parameters g.place g.requires says.typed.requires) says.requires plain st.takes i
             (entered (rules.bind g.parameters ts) at s) context whole_amount s.heap (taken g) (whole_scale means world n i) entering reads
             (λ j snapshot s1 tree x on1 wo. by_name j snapshot (with_heap s.heap (back s s1)) tree x (returned w x here on1) wo) off_taken

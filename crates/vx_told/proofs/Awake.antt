@@ -29,7 +29,7 @@ use Rattle.vx_sound_funcs.specs.Firm.{firm_application, firmly, GoodFunctions}
 use Rattle.vx_sound_funcs.specs.Laws.{ApplicationsAgree}
 use Rattle.vx_live.specs.Quiet.{Still}
 use Rattle.vx_live.proofs.Quiet.{outer_left, equations_still}
-use Rattle.vx_told.specs.Means.{Means, NoAmounts}
+use Rattle.vx_told.specs.Means.{Means}
 use Rattle.vx_told.proofs.Woken.{woken}
 use Rattle.vx_told.proofs.Applied.{Tells, application_told}
 use Rattle.vx_told.proofs.Programs.{spoken, knows, closure_told}
@@ -43,7 +43,7 @@ level_none (suc l) e = absurd (true≢false (sym (lt-ltb 0 (suc l) (omega arith)
 awake_same : (n : ℕ) (s : State) → s.level ≡ 0 → s.next ≡ n → woken n s ≡ s
 awake_same n s a b = λ i. record s { level = (sym a) i; next = (sym b) i }
 
-module _ (p : Program) (x : Name) (typed : IsTypedProgram p) (functions : GoodFunctions p) (amounts : NoAmounts p) (agree : ApplicationsAgree p x) where
+module _ (p : Program) (x : Name) (typed : IsTypedProgram p) (functions : GoodFunctions p) (agree : ApplicationsAgree p x) where
   abbrev pub world : World
   world = instances_world p (good p x typed) (InClosure p x) (no_perm p x typed) true
 
@@ -79,8 +79,8 @@ module _ (p : Program) (x : Name) (typed : IsTypedProgram p) (functions : GoodFu
       after : State
       after = with_equations p (outer p k) g ts snapshot (application (function_number p f) (sort_of_type g.of) snapshot (terms ts)) s
 
-      tells : Tells (Means p x) p (good p x typed) functions (InClosure p x) (no_perm p x typed) s.next (spoken p x typed functions amounts) (knows p x typed functions amounts agree) k (λ l. closure_told p x typed functions amounts agree s.next k l) scope i s c f g ts v snapshot
-      tells = application_told (Means p x) p (good p x typed) functions (InClosure p x) (no_perm p x typed) s.next (spoken p x typed functions amounts) (knows p x typed functions amounts agree) k (λ l. closure_told p x typed functions amounts agree s.next k l)
+      tells : Tells (Means p x) p (good p x typed) functions (InClosure p x) (no_perm p x typed) s.next (spoken p x typed functions) (knows p x typed functions agree) k (λ l. closure_told p x typed functions agree s.next k l) scope i s c f g ts v snapshot
+      tells = application_told (Means p x) p (good p x typed) functions (InClosure p x) (no_perm p x typed) s.next (spoken p x typed functions) (knows p x typed functions agree) k (λ l. closure_told p x typed functions agree s.next k l)
           scope i s c f g ts vs v m snapshot tree leads named each (record { stands = subst (λ z. Stands (Means p x) world scope i z c) (sym (awake_same s.next s level refl)) st }) is wo
 
       still : Still s (with_equations p (outer p k) g ts snapshot (application (function_number p f) (sort_of_type g.of) snapshot (terms ts)) s)

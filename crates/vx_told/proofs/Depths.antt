@@ -21,11 +21,11 @@ use Rattle.vx_sound_preds.proofs.Fitting.{undo, some_is}
 use Rattle.vx_sound_preds.proofs.Framing.{ok_same}
 use Rattle.vx_sound_preds.proofs.Holding.{instances_world}
 use Rattle.vx_sound_funcs.specs.Firm.{firmly, GoodFunctions}
-use Rattle.vx_sound_funcs.proofs.Alike.{firm_open}
 use Rattle.vx_live.proofs.Speaks.{SpeaksOf}
 use Rattle.vx_live.proofs.Quiet.{outer_left}
 use Rattle.vx_told.proofs.Told.{Walk, never_told, on_quiet}
 use Rattle.vx_told.proofs.ToldEvaluate.{Kept, PartsTold, eval_told}
+use Rattle.vx_told.proofs.HeldFine.{firm_holds}
 use Rattle.vx_told.proofs.ToldProduce.{produce_told, Produced}
 use Rattle.vx_told.proofs.ToldUnfold.{unfolded_told}
 use Rattle.vx_told.proofs.ToldConsume.{consume_told, Consumed}
@@ -113,22 +113,22 @@ module _ (means : Meaning) (p : Program) (good : GoodBodies p) (functions : Good
     applies = λ scope i s c at f g ts vs v on held named each here e h off. none_fits v e;
   }
   parts_told k (suc m) below w = record {
-    unfolds = unfolded_told means p good Held no_perm n w (outer p k) (firmly p m) (let z = below m w in z.produces) (firm_open p good m) bodies;
+    unfolds = unfolded_told means p good Held no_perm n w (outer p k) (firmly p m) (let z = below m w in z.produces) (firm_holds p good m) bodies;
     applies = λ scope i s c at f g ts vs v on held named each here e h off. applied_told means p good functions Held no_perm n spoken knows k below w m scope i s c at f g ts vs v on held named each here e h off;
   }
 
   pub all_told : (k m : ℕ) → AllTold means p good Held no_perm n (outer p k) (firmly p m)
   unfolding Produced Consumed
   all_told zero m w = record {
-    produces = λ q a scope c u es np ta ka pl listed can holds adds i s scale t tree on wo sc here h off. never_told means world n w i s nowhere AssertCode (on_quiet means world n w here);
-    consumes = λ q a scope c hs rest np ta ka pl e i s x scale h on sc here r f off. never_told means world n w i s nowhere AssertCode (on_quiet means world n w here);
+    produces = λ q a scope c u es ta ka pl listed holds adds i s scale t tree on wo sc here h off. never_told means world n w i s nowhere AssertCode (on_quiet means world n w here);
+    consumes = λ q a scope c hs rest ta ka pl e i s x scale h on sc here r f off. never_told means world n w i s nowhere AssertCode (on_quiet means world n w here);
     evals = λ scope e t te ke i s c v on here fits h off. never_told means world n w i s nowhere AssertCode (on_quiet means world n w here);
   }
   all_told (suc k) m w =
       let parts = parts_told k m (λ l. all_told k l) w in
       let left = λ (j : Interpretation). outer_left (w.Tells j) p k in
       record {
-        produces = λ q a. produce_told means p good Held no_perm n w (outer p k) (firmly p m) left parts (opened_kept p m) (firm_open p good m) q a;
-        consumes = λ q a. consume_told means p good Held no_perm n w (outer p k) (firmly p m) left parts (opened_kept p m) (firm_open p good m) q a;
+        produces = λ q a. produce_told means p good Held no_perm n w (outer p k) (firmly p m) left parts (opened_kept p m) (firm_holds p good m) q a;
+        consumes = λ q a. consume_told means p good Held no_perm n w (outer p k) (firmly p m) left parts (opened_kept p m) (firm_holds p good m) q a;
         evals = λ scope e t te ke i s c v on here fits h off. eval_told means world n w (outer p k) (firmly p m) left parts (opened_kept p m) te ke on here fits h off;
       }

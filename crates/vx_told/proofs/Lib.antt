@@ -2,6 +2,7 @@ pub mod Woken
 pub mod Told
 pub mod ToldChunks
 pub mod ToldEvaluate
+pub mod HeldFine
 pub mod Worth
 pub mod ToldProduce
 pub mod ToldUnfold

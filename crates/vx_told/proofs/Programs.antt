@@ -18,7 +18,7 @@ use Rattle.vx_sound_funcs.specs.Firm.{firmly, GoodFunctions}
 use Rattle.vx_sound_funcs.specs.Laws.{ApplicationsAgree}
 use Rattle.vx_live.proofs.Speaks.{Speaks, AllSpeak, SpeaksOf, EachSpeaks, conjoined_speaks}
 use Rattle.vx_live.proofs.Mentions.{assertion}
-use Rattle.vx_told.specs.Means.{Means, NoAmounts}
+use Rattle.vx_told.specs.Means.{Means}
 use Rattle.vx_told.proofs.Applied.{Spoken, Knows}
 use Rattle.vx_told.proofs.Meanings.{made, is_applied, one_meaning, one_type}
 use Rattle.vx_told.proofs.Sides.{AllTold}
@@ -81,7 +81,7 @@ module _ (p : Program) (x : Name) where
         plain_body p x (precondition_of g) (functions.asks f g named)
         (joined_seen g.place g.requires (rights p x (mentioned g.body) (flat_map mentioned_by g.requires) (lefts p x (mentioned g.body ++ flat_map mentioned_by g.requires) (flat_map mentioned g.ensures) parts)))
 
-  module _ (typed : IsTypedProgram p) (functions : GoodFunctions p) (amounts : NoAmounts p) where
+  module _ (typed : IsTypedProgram p) (functions : GoodFunctions p) where
     pub spoken : (f : Name) (g : Function) → InClosure p x f → function_named p f ≡ Some g → Spoken p (InClosure p x) g
     spoken f g held named =
         let parts = parts_seen f g held named in
@@ -91,7 +91,6 @@ module _ (p : Program) (x : Name) where
           instances = asked functions f g held named;
           body = speaks g.body (lefts p x (mentioned g.body) (flat_map mentioned_by g.requires) (lefts p x (mentioned g.body ++ flat_map mentioned_by g.requires) (flat_map mentioned g.ensures) parts));
           ensures = conjoined_speaks (InClosure p x) g.place g.ensures (each_speaks g.ensures (rights p x (mentioned g.body ++ flat_map mentioned_by g.requires) (flat_map mentioned g.ensures) parts));
-          result = amounts f g named;
         }
 
     module _ (agree : ApplicationsAgree p x) where

@@ -26,7 +26,7 @@ use Rattle.vx_rules.specs.Chunks.{field_key, instance_key}
 use Rattle.vx_rules.specs.Rules as rule
 use Rattle.vx_rules.specs.Rules.{Giving, Going, Context, Outer, ask, placed, field_sort, with_built_wrap, with_built_pair, pair_facts, take_chunk, eval, consume}
 use Rattle.vx_types.specs.Typing.{Scope, HaveNoPerm, IsTyped}
-use Rattle.vx_amounts.proofs.Amounts.{Positive, none-full}
+use Rattle.vx_amounts.proofs.Amounts.{Positive}
 use Rattle.vx_amounts.proofs.Products.{product_positive}
 use Rattle.vx_elements.proofs.Settled.{Meaning, Extends, extends-trans, value_kept}
 use Rattle.vx_elements.proofs.Built.{Good, good_later}
@@ -41,7 +41,6 @@ use Rattle.vx_sound.proofs.Giving.{ScaleStands, scale_later}
 use Rattle.vx_sound_preds.specs.Bodies.{Rigid, IsPlain, IsAmount, IsPlainBody, GoodBodies}
 use Rattle.vx_sound_preds.proofs.Fitting.{Opens, Before, undo, some_is}
 use Rattle.vx_sound_preds.proofs.Framing.{FieldParts, InstanceParts, field_parts, instance_parts, ok_same, above_none}
-use Rattle.vx_sound_preds.proofs.Adding.{Fine, values_here}
 use Rattle.vx_sound_preds.proofs.Holding.{HoldsInstances, instances_world}
 use Rattle.vx_live.proofs.Speaks.{SpeaksOf}
 use Rattle.vx_live.proofs.Quiet.{OuterLeft, after, ask_left, amount_left, consume_left, take_left, fact_still, built_wrap_still, built_pair_still, fork_left}
@@ -49,6 +48,7 @@ use Rattle.vx_told.proofs.Woken.{with_truth}
 use Rattle.vx_told.proofs.Told.{Walk, On, off_still, Told, OffGoing, OffGiving, on_quiet, off_quiet, step_told, ask_told, fork_told}
 use Rattle.vx_told.proofs.ToldChunks.{take_told}
 use Rattle.vx_told.proofs.ToldEvaluate.{Kept, PartsTold, bool_is, heap_still, eval_told, evals_told}
+use Rattle.vx_told.proofs.HeldFine.{HoldsFine, all_fit_now}
 use Rattle.vx_told.proofs.ToldProduce.{side_is, side_yes, side_no, fine_here, now, amount_told, amount_value}
 use Rattle.vx_told.proofs.Worth.{OnSide, Snap, OfField, Worth, worth_later, worth_snap}
 
@@ -166,7 +166,7 @@ module _ (means : Meaning) (p : Program) (good : GoodBodies p) (Held : Name → 
       amounts : (a b : Fraction) → PermValue a ≡ PermValue b → a ≡ b
       amounts a b e = cc
 
-  module _ (o : Outer) (d : Deeper) (left : (j : Interpretation) → OuterLeft (w.Tells j) o) (parts : PartsTold means world n w o d) (keeps : (k : run.Instance) (q : Fraction) (c u : run.State) → d.opened k q c ≡ Some u → Kept c u) (opens : Opens p (Fine p) d) where
+  module _ (o : Outer) (d : Deeper) (left : (j : Interpretation) → OuterLeft (w.Tells j) o) (parts : PartsTold means world n w o d) (keeps : (k : run.Instance) (q : Fraction) (c u : run.State) → d.opened k q c ≡ Some u → Kept c u) (opens : Opens p (HoldsFine p) d) where
     -- what follows, with a snapshot that is worth the tree of the assertion
     abbrev pub FollowsTaken : Scope → Interpretation → run.State → Assertion → run.Holdings → Giving → Type 0
     FollowsTaken scope i c a rest on = (j : Interpretation) (t : Term) (s : State) (u : Tree) → Extends means n i j → Here scope j s (run.with_holdings rest c) → Worth means p n j c a u t → Told means world n w j (on t s)
@@ -174,7 +174,7 @@ module _ (means : Meaning) (p : Program) (good : GoodBodies p) (Held : Name → 
     -- what is taken leads on
     unfoldable pub Consumed : Fraction → Assertion → Type 0
     Consumed q a =
-        (scope : Scope) (c : run.State) (hs rest : run.Holdings) → HaveNoPerm scope → IsTyped p scope a → SpeaksOf Held a → IsPlainBody p Rigid a → take p d c q a hs ≡ Ok rest →
+        (scope : Scope) (c : run.State) (hs rest : run.Holdings) → IsTyped p scope a → SpeaksOf Held a → IsPlainBody p Rigid a → take p d c q a hs ≡ Ok rest →
         (i : Interpretation) (s : State) (x : Context) (scale : Term) (h : rules.Heap) (on : Giving) → ScaleStands means world n i scale q → Here scope i s (run.with_holdings hs c) → Reads i h c → FollowsTaken scope i c a rest on → OffGiving means world n w on →
         Told means world n w i (consume p o a x scale h s on)
 
@@ -182,10 +182,10 @@ module _ (means : Meaning) (p : Program) (good : GoodBodies p) (Held : Name → 
     off_consume a x scale h on off j s z = consume_left (w.Tells j) p o (left j) a x scale h s on (off_quiet means world n w z) (λ t s1 st. off j t s1 (off_still means world n w z st))
 
     -- what is known of the state that is read in
-    read_fine : {scope : Scope} {i : Interpretation} {s : State} {c : run.State} {hs : run.Holdings} {h : rules.Heap} → HaveNoPerm scope → Here scope i s (run.with_holdings hs c) → Reads i h c → Fine p c
-    read_fine np here r = fine_here means p good Held no_perm n w o d left parts keeps opens np (reading here r)
+    read_fine : {scope : Scope} {i : Interpretation} {s : State} {c : run.State} {hs : run.Holdings} {h : rules.Heap} → Here scope i s (run.with_holdings hs c) → Reads i h c → HoldsFine p c
+    read_fine here r = fine_here means p good Held no_perm n w o d left parts keeps opens (reading here r)
 
-    reads_now : (c : run.State) (e : Expr) (v : Value) → Fine p c → IsPlain e → fit p d c e ≡ Ok v → plain.value p no_applications c e ≡ Some v
+    reads_now : (c : run.State) (e : Expr) (v : Value) → HoldsFine p c → IsPlain e → fit p d c e ≡ Ok v → plain.value p no_applications c e ≡ Some v
     reads_now c e v f k z = now means p good Held no_perm n w o d left parts keeps opens c e v f k z
 
     truth : (v : Value) → type_of v ≡ type.Bool → is_true v ≡ true → v ≡ BoolValue true
@@ -210,7 +210,7 @@ module _ (means : Meaning) (p : Program) (good : GoodBodies p) (Held : Name → 
 
     pure_taken : (q : Fraction) (e : Expr) → Consumed q (Pure e)
     unfolding Consumed
-    pure_taken q e scope c hs rest np t' k' pl eq i s x scale h on sc here r f off =
+    pure_taken q e scope c hs rest t' k' pl eq i s x scale h on sc here r f off =
         step_told means world n w _ (eval_told means world n w o d left parts keeps t' k' asking (reading here r) v.is (λ j t s1 ext on1 g is ty.
         ask_told means world n w s1 t (placed s1 (place_of e)) x.pure (λ s2. Step (on unit (with_heap s.heap s2))) (on_quiet means world n w on1)
         (step_told means world n w _ (f j unit (with_heap s.heap s1) Empty ext (subst (λ z. Here scope j (with_heap s.heap s1) (run.with_holdings z c)) v.rest_is (switched ext here on1)) (record { good = good_unit means; is = unit_value j on1.quietly.stands.standard }, refl))))
@@ -227,7 +227,7 @@ module _ (means : Meaning) (p : Program) (good : GoodBodies p) (Held : Name → 
 
     points_taken : (q : Fraction) (at : Place) (e : Expr) (f : Name) (share : Expr) → Consumed q (Points at e f share)
     unfolding Consumed
-    points_taken q at e f share scope c hs rest np t' k' pl eq i s x scale h on sc here r g' off =
+    points_taken q at e f share scope c hs rest t' k' pl eq i s x scale h on sc here r g' off =
         step_told means world n w _ (eval_told means world n w o d left parts keeps t'.0 k'.0 (λ v s1. eval p o share s1 (λ a s2. ask (less_equal zero_amount (multiply scale a)) (placed s2 at) AmountCode s2 (taking v (multiply scale a)))) (reading here r) y.receiver_is (λ j v s1 ext on1 g is ty.
         let m = ref_value_is y.receiver ty in
         amount_told means p good Held no_perm n w o d left parts keeps opens at scale q y.worth y.amount (taking v) t'.2 k'.1 (scale_later means world (le_refl n) ext sc) on1 y.worth_is y.amount_is (record { holds = y.sign }) (λ j2 a s2 ext2 on2 ga a_is sign.
@@ -236,7 +236,7 @@ module _ (means : Meaning) (p : Program) (good : GoodBodies p) (Held : Name → 
         take_told means world n w (let z : Keys means world n j2 (field_key f v) (run.At (at_field m.0 f)) (field_sort p f) = of_field f v m.0 (good_later means (le_refl n) ext2 g) (value_kept means v g.settled ext2 ∙ is ∙ ap element m.1) in z) a (product q y.amount) (placed s2 at) x.permission last back ga a_is sign
         (λ ch s4 t.
         let there = t.there (product_positive sc.positive above) in
-        let receiver_now = reads_now c e y.receiver (read_fine np here r) pl.0 y.receiver_is ∙ ap Some m.1 in
+        let receiver_now = reads_now c e y.receiver (read_fine here r) pl.0 y.receiver_is ∙ ap Some m.1 in
         step_told means world n w _ (g' j2 (wrap (field_sort p f) ch.value) (with_built_wrap x (field_sort p f) ch.value s4) (leaf (run.value_at p c.heap (at_field m.0 f))) all
         (subst (λ z. Here scope j2 (with_built_wrap x (field_sort p f) ch.value s4) (run.with_holdings z c)) (left_is m.0 m.1) (wrap_built x f ch.value t.on t.good))
         (field_worth e f m.0 ch.value t.on receiver_now t.good there))))
@@ -250,7 +250,7 @@ module _ (means : Meaning) (p : Program) (good : GoodBodies p) (Held : Name → 
         y = field_parts p d c at e f share b.it b.is
 
         above : Positive y.amount
-        above = amount_above c share y.amount pl.1 (reads_now c share y.worth (read_fine np here r) pl.1.plain y.worth_is ∙ ap Some (amount_value means p good Held no_perm n w o d left parts keeps opens y.worth y.amount y.amount_is))
+        above = amount_above c share y.amount pl.1 (reads_now c share y.worth (read_fine here r) pl.1.plain y.worth_is ∙ ap Some (amount_value means p good Held no_perm n w o d left parts keeps opens y.worth y.amount y.amount_is))
 
         last : rules.Chunk → Going
         last ch s4 = Step (on (wrap (field_sort p f) ch.value) (with_built_wrap x (field_sort p f) ch.value s4))
@@ -273,7 +273,7 @@ module _ (means : Meaning) (p : Program) (good : GoodBodies p) (Held : Name → 
 
     instance_taken : (q : Fraction) (at : Place) (y' : Name) (xs : Exprs) (share : Expr) → Consumed q (syntax.Instance at y' xs share)
     unfolding Consumed
-    instance_taken q at y' xs share scope c hs rest np t' k' pl eq i s x scale h on sc here r g' off =
+    instance_taken q at y' xs share scope c hs rest t' k' pl eq i s x scale h on sc here r g' off =
         step_told means world n w _ (evals_told means world n w o d left parts keeps t'.0.2 k'.1 (λ vs s1. eval p o share s1 (λ a s2. ask (less_equal zero_amount (multiply scale a)) (placed s2 at) AmountCode s2 (taking vs (multiply scale a)))) (reading here r) y.arguments_are (λ j vs s1 ext on1 each.
         amount_told means p good Held no_perm n w o d left parts keeps opens at scale q y.worth y.amount (taking vs) t'.1 k'.2 (scale_later means world (le_refl n) ext sc) on1 y.worth_is y.amount_is (record { holds = y.sign }) (λ j2 a s2 ext2 on2 ga a_is sign.
         let all = also ext ext2 in
@@ -297,10 +297,10 @@ module _ (means : Meaning) (p : Program) (good : GoodBodies p) (Held : Name → 
         target = record { predicate = y'; arguments = y.arguments }
 
         arguments_now : plain.values p no_applications c xs ≡ Some y.arguments
-        arguments_now = values_here p full none-full d opens c xs y.arguments (read_fine np here r) pl.0 y.arguments_are
+        arguments_now = all_fit_now p good Held d opens c xs y.arguments (read_fine here r) pl.0 y.arguments_are
 
         above : Positive y.amount
-        above = amount_above c share y.amount pl.1 (reads_now c share y.worth (read_fine np here r) pl.1.plain y.worth_is ∙ ap Some (amount_value means p good Held no_perm n w o d left parts keeps opens y.worth y.amount y.amount_is))
+        above = amount_above c share y.amount pl.1 (reads_now c share y.worth (read_fine here r) pl.1.plain y.worth_is ∙ ap Some (amount_value means p good Held no_perm n w o d left parts keeps opens y.worth y.amount y.amount_is))
 
         last : rules.Chunk → Going
         last ch s4 = Step (on ch.value s4)
@@ -321,10 +321,10 @@ module _ (means : Meaning) (p : Program) (good : GoodBodies p) (Held : Name → 
 
     both_taken : (q : Fraction) (a b : Assertion) → Consumed q a → Consumed q b → Consumed q (Both a b)
     unfolding Consumed
-    both_taken q a b on_a on_b scope c hs rest np t' k' pl eq i s x scale h on sc here r g' off =
-        step_told means world n w _ (on_a scope c hs m.it np t'.0 k'.0 pl.0 m.is i s x scale h after_a sc here r
+    both_taken q a b on_a on_b scope c hs rest t' k' pl eq i s x scale h on sc here r g' off =
+        step_told means world n w _ (on_a scope c hs m.it t'.0 k'.0 pl.0 m.is i s x scale h after_a sc here r
         (λ j t s1 u ext on1 wo.
-        on_b scope c m.it rest np t'.1 k'.1 pl.1 m.then j s1 x scale h (after_b t) (scale_later means world (le_refl n) ext sc) on1 (reads_later ext r)
+        on_b scope c m.it rest t'.1 k'.1 pl.1 m.then j s1 x scale h (after_b t) (scale_later means world (le_refl n) ext sc) on1 (reads_later ext r)
         (λ j2 t2 s2 u2 ext2 on2 wo2.
         let wo' = worth_later means p n ext2 c a u t wo in
         let one = worth_snap means p n j2 c a u t wo' in
@@ -348,13 +348,13 @@ module _ (means : Meaning) (p : Program) (good : GoodBodies p) (Held : Name → 
 
     implied_taken : (q : Fraction) (e : Expr) (a : Assertion) → Consumed q a → Consumed q (Implied e a)
     unfolding Consumed
-    implied_taken q e a on_a scope c hs rest np t' k' pl eq i s x scale h on sc here r g' off =
+    implied_taken q e a on_a scope c hs rest t' k' pl eq i s x scale h on sc here r g' off =
         step_told means world n w _ (eval_told means world n w o d left parts keeps t'.0 k'.0 forks (reading here r) m.is (λ j v s1 ext on1 g is ty.
         let b = bool_is means world n w m.it ty in
-        let told = reads_now c e m.it (read_fine np here r) pl.0 m.is ∙ ap Some b.1 in
+        let told = reads_now c e m.it (read_fine here r) pl.0 m.is ∙ ap Some b.1 in
         let outcome = side_is (place_of e) b.0 (take p d c q a hs) (Ok hs) rest (sym (ap (λ v. choose (place_of e) v (take p d c q a hs) (Ok hs)) b.1) ∙ m.then) in
         fork_told means world n w v left_on right_on (switched ext here on1) g b.0 (ap as_bool is)
-        (λ z j2 s2 ext2 on2. on_a scope c hs rest np t'.1 k'.1 pl.1 (side_yes b.0 z _ _ outcome) j2 s2 x scale h on (scale_later means world (le_refl n) (also ext ext2) sc) on2 (reads_later (also ext ext2) r)
+        (λ z j2 s2 ext2 on2. on_a scope c hs rest t'.1 k'.1 pl.1 (side_yes b.0 z _ _ outcome) j2 s2 x scale h on (scale_later means world (le_refl n) (also ext ext2) sc) on2 (reads_later (also ext ext2) r)
         (λ j3 t s3 u ext3 on3 wo. g' j3 t s3 u (also ext (also ext2 ext3)) on3 (b.0, told, on_side_of b.0 _ _ (λ y. wo) (λ y. absurd (not_both b.0 z y)))) off)
         (λ z j2 s2 ext2 on2. g' j2 unit s2 Empty (also ext ext2) (subst (λ y. Here scope j2 s2 (run.with_holdings y c)) (ok_same hs rest (side_no b.0 z _ _ outcome)) on2)
         (b.0, told, on_side_of b.0 _ _ (λ y. absurd (not_both b.0 y z)) (λ y. (record { good = good_unit means; is = unit_value j2 on2.quietly.stands.standard }, refl))))
@@ -384,15 +384,15 @@ module _ (means : Meaning) (p : Program) (good : GoodBodies p) (Held : Name → 
 
     chosen_taken : (q : Fraction) (e : Expr) (a b : Assertion) → Consumed q a → Consumed q b → Consumed q (Chosen e a b)
     unfolding Consumed
-    chosen_taken q e a b on_a on_b scope c hs rest np t' k' pl eq i s x scale h on sc here r g' off =
+    chosen_taken q e a b on_a on_b scope c hs rest t' k' pl eq i s x scale h on sc here r g' off =
         step_told means world n w _ (eval_told means world n w o d left parts keeps t'.0 k'.0 forks (reading here r) m.is (λ j v s1 ext on1 g is ty.
         let y' = bool_is means world n w m.it ty in
-        let told = reads_now c e m.it (read_fine np here r) pl.0 m.is ∙ ap Some y'.1 in
+        let told = reads_now c e m.it (read_fine here r) pl.0 m.is ∙ ap Some y'.1 in
         let outcome = side_is (place_of e) y'.0 (take p d c q a hs) (take p d c q b hs) rest (sym (ap (λ v. choose (place_of e) v (take p d c q a hs) (take p d c q b hs)) y'.1) ∙ m.then) in
         fork_told means world n w v left_on right_on (switched ext here on1) g y'.0 (ap as_bool is)
-        (λ z j2 s2 ext2 on2. on_a scope c hs rest np t'.1 k'.1 pl.1 (side_yes y'.0 z _ _ outcome) j2 s2 x scale h on (scale_later means world (le_refl n) (also ext ext2) sc) on2 (reads_later (also ext ext2) r)
+        (λ z j2 s2 ext2 on2. on_a scope c hs rest t'.1 k'.1 pl.1 (side_yes y'.0 z _ _ outcome) j2 s2 x scale h on (scale_later means world (le_refl n) (also ext ext2) sc) on2 (reads_later (also ext ext2) r)
         (λ j3 t s3 u ext3 on3 wo. g' j3 t s3 u (also ext (also ext2 ext3)) on3 (y'.0, told, on_side_of y'.0 _ _ (λ y. wo) (λ y. absurd (not_both y'.0 z y)))) off)
-        (λ z j2 s2 ext2 on2. on_b scope c hs rest np t'.2 k'.2 pl.2 (side_no y'.0 z _ _ outcome) j2 s2 x scale h on (scale_later means world (le_refl n) (also ext ext2) sc) on2 (reads_later (also ext ext2) r)
+        (λ z j2 s2 ext2 on2. on_b scope c hs rest t'.2 k'.2 pl.2 (side_no y'.0 z _ _ outcome) j2 s2 x scale h on (scale_later means world (le_refl n) (also ext ext2) sc) on2 (reads_later (also ext ext2) r)
         (λ j3 t s3 u ext3 on3 wo. g' j3 t s3 u (also ext (also ext2 ext3)) on3 (y'.0, told, on_side_of y'.0 _ _ (λ y. absurd (not_both y'.0 y z)) (λ y. wo))) off)
         off_left off_right)
         (λ j v s1 z. off_forks j v s1 z))

@@ -1,7 +1,7 @@
 -- An assertion that is given leads on along the way of a quiet walk, with a snapshot that is worth its tree.
 use Rattle.std.proofs.Common.{◌≡◌, ℕ, Bool, true, false, cond, ◌||◌, List, [], ◌∷◌, ◌++◌, Option, Some, None, refl, sym, ◌∙◌, ap, subst, le_refl, true≢false}
 use Rattle.std.specs.Prelude.{Ok, option_and_then}
-use Rattle.vx_frac.specs.Fractions.{Fraction, none, full, product}
+use Rattle.vx_frac.specs.Fractions.{Fraction, none, product}
 use Rattle.vx_ast.specs.declared.Place.{Place}
 use Rattle.vx_ast.specs.declared.ValueType.TheVariants.{Perm}
 use Rattle.vx_ast.specs.declared.ValueType.TheVariants as type
@@ -24,7 +24,7 @@ use Rattle.vx_rules.specs.Chunks.{field_key, instance_key, put}
 use Rattle.vx_rules.specs.Rules as rule
 use Rattle.vx_rules.specs.Rules.{Going, Outer, ask, placed, field_sort, produced_value, after_value, produced_snapshot, after_snapshot, with_split, with_unit, eval, produce}
 use Rattle.vx_types.specs.Typing.{Scope, HaveNoPerm, HasType, IsTyped}
-use Rattle.vx_amounts.proofs.Amounts.{Le, Same, same-lowest', same-trans, product_same, none-full, le-trans}
+use Rattle.vx_amounts.proofs.Amounts.{Le, Same, same-lowest', same-trans, product_same, le-trans}
 use Rattle.vx_amounts.proofs.Products.{product_sign, positive_le}
 use Rattle.vx_elements.proofs.Settled.{Meaning, Extends, extends-refl, extends-trans, value_kept}
 use Rattle.vx_elements.proofs.Built.{Good, good_later, good_equals}
@@ -42,15 +42,15 @@ use Rattle.vx_sound_preds.proofs.Fitting.{Opens, Before, undo, step, some_is}
 use Rattle.vx_sound_preds.proofs.Flats.{After, came}
 use Rattle.vx_sound_preds.proofs.Looks.{Sees}
 use Rattle.vx_sound_preds.proofs.Framing.{FieldParts, InstanceParts, field_parts, instance_parts, entries_seen}
-use Rattle.vx_sound_preds.proofs.Adding.{Fine, AreEntries, Adds, added, added_append, value_here, values_here, add_adds}
+use Rattle.vx_sound_preds.proofs.Adding.{added, added_append}
 use Rattle.vx_sound_preds.proofs.Frames.{entries_positive}
-use Rattle.vx_sound_preds.proofs.Holding.{HoldsInstances, added_debts, fewer, nothing_applied, instances_world}
-use Rattle.vx_sound_preds.proofs.Produced.{fine_state}
+use Rattle.vx_sound_preds.proofs.Holding.{HoldsInstances, added_debts, fewer, instances_world}
 use Rattle.vx_live.proofs.Speaks.{Speaks, SpeaksOf}
 use Rattle.vx_live.proofs.Quiet.{Quiet, OuterLeft, after, ask_left, amount_left, produce_left, fact_still, put_still, value_still, name_still, unit_still, split_still, fork_left}
 use Rattle.vx_told.proofs.Woken.{with_truth, with_chunk}
 use Rattle.vx_told.proofs.Told.{Walk, On, off_still, Told, Follows, OffGoing, on_quiet, off_quiet, step_told, ask_told, fork_told}
 use Rattle.vx_told.proofs.ToldEvaluate.{Kept, PartsTold, bool_is, amount_outcome, eval_told, evals_told}
+use Rattle.vx_told.proofs.HeldFine.{HoldsFine, holds_fine, fits_now, all_fit_now, added_is}
 use Rattle.vx_told.proofs.Worth.{OnSide, Snap, snap_later, OfField, OfInstance, Worth, worth_later, worth_seen, worth_snap}
 
 -- above level 0 each term names itself
@@ -98,16 +98,16 @@ module _ (means : Meaning) (p : Program) (good : GoodBodies p) (Held : Name → 
   abbrev pub world : World
   world = instances_world p good Held no_perm true
 
-  module _ (o : Outer) (d : Deeper) (left : (j : Interpretation) → OuterLeft (w.Tells j) o) (parts : PartsTold means world n w o d) (keeps : (k : run.Instance) (q : Fraction) (c u : run.State) → d.opened k q c ≡ Some u → Kept c u) (opens : Opens p (Fine p) d) where
+  module _ (o : Outer) (d : Deeper) (left : (j : Interpretation) → OuterLeft (w.Tells j) o) (parts : PartsTold means world n w o d) (keeps : (k : run.Instance) (q : Fraction) (c u : run.State) → d.opened k q c ≡ Some u → Kept c u) (opens : Opens p (HoldsFine p) d) where
     abbrev Here : Scope → Interpretation → State → run.State → Type 0
     Here scope i s c = On means world n w scope i s c
 
-    pub fine_here : {scope : Scope} {i : Interpretation} {s : State} {c : run.State} → HaveNoPerm scope → Here scope i s c → Fine p c
-    fine_here np here = fine_state means p good Held no_perm true nothing_applied np here.quietly.stands
+    pub fine_here : {scope : Scope} {i : Interpretation} {s : State} {c : run.State} → Here scope i s c → HoldsFine p c
+    fine_here {c = c} here = holds_fine p good Held c here.quietly.stands.holds
 
     -- what fits has its value without looking at what is held
-    pub now : (c : run.State) (e : Expr) (v : Value) → Fine p c → IsPlain e → fit p d c e ≡ Ok v → plain.value p no_applications c e ≡ Some v
-    now c e v f k fits = value_here p full none-full d opens c e v f k fits
+    pub now : (c : run.State) (e : Expr) (v : Value) → HoldsFine p c → IsPlain e → fit p d c e ≡ Ok v → plain.value p no_applications c e ≡ Some v
+    now c e v f k fits = fits_now p good Held d opens c e v f k fits
 
     -- an amount, by a scale
     pub amount_told : {scope : Scope} {share : Expr} {i : Interpretation} {s : State} {c : run.State} (at : Place) (scale : Term) (q : Fraction) (v : Value) (y : Fraction) (on : Term → Going) → HasType p scope share Perm → Speaks Held share → ScaleStands means world n i scale q → Here scope i s c →
@@ -129,7 +129,7 @@ module _ (means : Meaning) (p : Program) (good : GoodBodies p) (Held : Name → 
     -- what an assertion gives leads on
     unfoldable pub Produced : Fraction → Assertion → Type 0
     Produced q a =
-        (scope : Scope) (c u : run.State) (es : run.Holdings) → HaveNoPerm scope → IsTyped p scope a → SpeaksOf Held a → IsPlainBody p Rigid a → entries p c a ≡ Some es → AreEntries p c.heap es → HoldsInstances p Held true c.heap (added q es c.holdings) → add p d q a c ≡ Ok u →
+        (scope : Scope) (c u : run.State) (es : run.Holdings) → IsTyped p scope a → SpeaksOf Held a → IsPlainBody p Rigid a → entries p c a ≡ Some es → HoldsInstances p Held true c.heap (added q es c.holdings) → add p d q a c ≡ Ok u →
         (i : Interpretation) (s : State) (scale t : Term) (tree : Tree) (on : Going) → Worth means p n i c a tree t → ScaleStands means world n i scale q → Here scope i s c → Follows means world n w scope i (run.with_holdings (added q es c.holdings) c) on → OffGoing means world n w on →
         Told means world n w i (produce p o a scale (Some t) s on)
 
@@ -151,7 +151,7 @@ module _ (means : Meaning) (p : Program) (good : GoodBodies p) (Held : Name → 
 
     pure_told : (q : Fraction) (e : Expr) → Produced q (Pure e)
     unfolding Produced added
-    pure_told q e scope c u es np te ke pl en ok holds eq i s scale t tree on wo sc here h off =
+    pure_told q e scope c u es te ke pl en holds eq i s scale t tree on wo sc here h off =
         step_told means world n w _ (eval_told means world n w o d left parts keeps te ke (λ v s1. Step (on (with_unit (Some t) (with_fact v s1)))) here x.is (λ j v s1 ext on1 g is ty.
         let yes : as_bool (element x.it) ≡ true = sym (same_values x.it ty) ∙ holds_true in
         let on2 : Here scope j (with_fact v s1) c = record { still = after on1.still (fact_still v s1); quietly = with_truth means world n v on1.quietly g (ap as_bool is ∙ yes) } in
@@ -163,7 +163,7 @@ module _ (means : Meaning) (p : Program) (good : GoodBodies p) (Held : Name → 
         x = undo (fit p d c e) (λ _. Ok c) u eq
 
         worth : plain.value p no_applications c e ≡ Some x.it
-        worth = now c e x.it (fine_here np here) pl x.is
+        worth = now c e x.it (fine_here here) pl x.is
 
         en' : cond (is_true x.it) (Some []) None ≡ Some es
         en' = sym (step (λ v. cond (is_true v) (Some []) None) x.it worth) ∙ en
@@ -244,11 +244,11 @@ module _ (means : Meaning) (p : Program) (good : GoodBodies p) (Held : Name → 
 
     points_told : (q : Fraction) (at : Place) (e : Expr) (f : Name) (share : Expr) → Produced q (Points at e f share)
     unfolding Produced added
-    points_told q at e f share scope c u es np t' k' pl en ok holds eq i s scale t tree on wo sc here h off =
+    points_told q at e f share scope c u es t' k' pl en holds eq i s scale t tree on wo sc here h off =
         step_told means world n w _ (eval_told means world n w o d left parts keeps t'.0 k'.0 (λ r s1. eval p o share s1 (λ a s2. ask (less_equal zero_amount (multiply scale a)) (placed s2 at) AmountCode s2 (last r (multiply scale a)))) here y.receiver_is (λ j r s1 ext on1 g is ty.
         let m = ref_value_is y.receiver ty in
-        let here_now = now c e y.receiver (fine_here np here) pl.0 y.receiver_is in
-        let entry = one_entry m.0 (here_now ∙ ap Some m.1) (now c share y.worth (fine_here np here) pl.1.plain y.worth_is ∙ ap Some (amount_value y.worth y.amount y.amount_is)) in
+        let here_now = now c e y.receiver (fine_here here) pl.0 y.receiver_is in
+        let entry = one_entry m.0 (here_now ∙ ap Some m.1) (now c share y.worth (fine_here here) pl.1.plain y.worth_is ∙ ap Some (amount_value y.worth y.amount y.amount_is)) in
         amount_told at scale q y.worth y.amount (last r) t'.2 k'.1 (scale_later means world (le_refl n) ext sc) on1 y.worth_is y.amount_is (record { holds = y.sign }) (λ j2 a s2 ext2 on2 ga a_is sign.
         let all = also ext ext2 in
         let o2 = worth_later means p n all c (Points at e f share) tree t wo in
@@ -283,7 +283,7 @@ module _ (means : Meaning) (p : Program) (good : GoodBodies p) (Held : Name → 
 
     instance_told : (q : Fraction) (at : Place) (x : Name) (xs : Exprs) (share : Expr) → Produced q (syntax.Instance at x xs share)
     unfolding Produced added
-    instance_told q at x xs share scope c u es np t' k' pl en ok holds eq i s scale t tree on wo sc here h off =
+    instance_told q at x xs share scope c u es t' k' pl en holds eq i s scale t tree on wo sc here h off =
         step_told means world n w _ (evals_told means world n w o d left parts keeps t'.0.2 k'.1 (λ ts s1. eval p o share s1 (λ a s2. ask (less_equal zero_amount (multiply scale a)) (placed s2 at) AmountCode s2 (last ts (multiply scale a)))) here y.arguments_are (λ j ts s1 ext on1 each.
         amount_told at scale q y.worth y.amount (last ts) t'.1 k'.2 (scale_later means world (le_refl n) ext sc) on1 y.worth_is y.amount_is (record { holds = y.sign }) (λ j2 a s2 ext2 on2 ga a_is sign.
         let all = also ext ext2 in
@@ -314,10 +314,10 @@ module _ (means : Meaning) (p : Program) (good : GoodBodies p) (Held : Name → 
         off_amount ts j s1 z = amount_left (w.Tells j) p o (left j) at share s1 scale (last ts) (off_quiet means world n w z) (λ a s2 st. off_put a ts j s2 (off_still means world n w z st))
 
         arguments_now : plain.values p no_applications c xs ≡ Some y.arguments
-        arguments_now = values_here p full none-full d opens c xs y.arguments (fine_here np here) pl.0 y.arguments_are
+        arguments_now = all_fit_now p good Held d opens c xs y.arguments (fine_here here) pl.0 y.arguments_are
 
         share_now : plain.value p no_applications c share ≡ Some (PermValue y.amount)
-        share_now = now c share y.worth (fine_here np here) pl.1.plain y.worth_is ∙ ap Some (amount_value y.worth y.amount y.amount_is)
+        share_now = now c share y.worth (fine_here here) pl.1.plain y.worth_is ∙ ap Some (amount_value y.worth y.amount y.amount_is)
 
         entry : (run.Folded record { predicate = x; arguments = y.arguments }, y.amount) ∷ [] ≡ es
         entry = some_is ((run.Folded target, y.amount) ∷ []) es
@@ -342,20 +342,12 @@ module _ (means : Meaning) (p : Program) (good : GoodBodies p) (Held : Name → 
                 h' j (put new s3) (extends-refl means n j) (record { still = after on3.still (put_still new s3); quietly = with_chunk means world n new (run.Folded target) (product q y.amount) on3.quietly made a_is there })
             go false z = cc
 
-    front_entries : (h : run.Heap) (xs ys : run.Holdings) → AreEntries p h (xs ++ ys) → AreEntries p h xs
-    front_entries h [] ys k = tt
-    front_entries h (x ∷ xs) ys k = (k.0, front_entries h xs ys k.1)
-
-    back_entries : (h : run.Heap) (xs ys : run.Holdings) → AreEntries p h (xs ++ ys) → AreEntries p h ys
-    back_entries h [] ys k = k
-    back_entries h (x ∷ xs) ys k = back_entries h xs ys k.1
-
     both_told : (q : Fraction) (a b : Assertion) → Produced q a → Produced q b → Produced q (Both a b)
     unfolding Produced
-    both_told q a b on_a on_b scope c u es np t' k' pl en ok holds eq i s scale t tree on wo sc here h off =
-        step_told means world n w _ (on_a scope c x.it xs.it np t'.0 k'.0 pl.0 xs.is (front_entries c.heap xs.it ys.it entries_all) half x.is i (with_split (Some t) s) scale (first t) wo.0 after_a wo.4 sc split_here
+    both_told q a b on_a on_b scope c u es t' k' pl en holds eq i s scale t tree on wo sc here h off =
+        step_told means world n w _ (on_a scope c x.it xs.it t'.0 k'.0 pl.0 xs.is half x.is i (with_split (Some t) s) scale (first t) wo.0 after_a wo.4 sc split_here
         (λ j s1 ext on1.
-        on_b scope middle u ys.it np t'.1 k'.1 pl.1 (entries_seen p Rigid c middle seen b pl.1 ∙ ys.is) (back_entries c.heap xs.it ys.it entries_all) all_there (subst (λ z. add p d q b z ≡ Ok u) middle_is x.then) j s1 scale (second t) wo.1 on
+        on_b scope middle u ys.it t'.1 k'.1 pl.1 (entries_seen p Rigid c middle seen b pl.1 ∙ ys.is) all_there (subst (λ z. add p d q b z ≡ Ok u) middle_is x.then) j s1 scale (second t) wo.1 on
         (worth_seen means p n j c middle seen b pl.1 wo.1 (second t) (worth_later means p n ext c b wo.1 (second t) wo.5)) (scale_later means world (le_refl n) ext sc) on1
         (λ j2 s2 ext2 on2. h j2 s2 (also ext ext2) (subst (λ hs. Here scope j2 s2 (run.with_holdings hs c)) whole on2)) off)
         (off_produce b scale (second t) on off))
@@ -372,9 +364,6 @@ module _ (means : Meaning) (p : Program) (good : GoodBodies p) (Held : Name → 
         joined : xs.it ++ ys.it ≡ es
         joined = some_is (xs.it ++ ys.it) es ys.then
 
-        entries_all : AreEntries p c.heap (xs.it ++ ys.it)
-        entries_all = subst (AreEntries p c.heap) (sym joined) ok
-
         after_a : Going
         after_a s1 = produce p o b scale (Some (second t)) s1 on
 
@@ -383,12 +372,6 @@ module _ (means : Meaning) (p : Program) (good : GoodBodies p) (Held : Name → 
 
         seen : Sees c (run.with_holdings (added q xs.it c.holdings) c)
         seen = record { store = refl; heap = refl }
-
-        adds : Adds p q xs.it c x.it
-        adds = add_adds p q (positive_le sc.positive) d opens a c x.it xs.it pl.0 (fine_here np here) xs.is (front_entries c.heap xs.it ys.it entries_all) x.is
-
-        middle_is : x.it ≡ run.with_holdings (added q xs.it c.holdings) c
-        middle_is = state_same x.it middle adds.store adds.heap adds.holdings adds.old_heap adds.old_holdings
 
         whole : added q ys.it (added q xs.it c.holdings) ≡ added q es c.holdings
         whole = sym (added_append q xs.it ys.it c.holdings) ∙ ap (λ zs. added q zs c.holdings) joined
@@ -399,6 +382,9 @@ module _ (means : Meaning) (p : Program) (good : GoodBodies p) (Held : Name → 
         half : HoldsInstances p Held true c.heap (added q xs.it c.holdings)
         half = fewer p good Held true c.heap q ys.it (added q xs.it c.holdings) sc.positive (entries_positive p c b ys.it pl.1 ys.is)
             (added_debts p good Held true q xs.it c.holdings sc.positive (entries_positive p c a xs.it pl.0 xs.is) here.quietly.stands.holds.debts) all_there
+
+        middle_is : x.it ≡ run.with_holdings (added q xs.it c.holdings) c
+        middle_is = added_is p good Held d opens q sc.positive a c x.it xs.it pl.0 here.quietly.stands.holds xs.is half x.is
 
         fact : Term
         fact = equals t (pair (first t) (second t))
@@ -417,14 +403,14 @@ module _ (means : Meaning) (p : Program) (good : GoodBodies p) (Held : Name → 
     -- a condition, and the side that it picks
     implied_told : (q : Fraction) (e : Expr) (a : Assertion) → Produced q a → Produced q (Implied e a)
     unfolding Produced added
-    implied_told q e a on_a scope c u es np t' k' pl en ok holds eq i s scale t tree on wo sc here h off =
+    implied_told q e a on_a scope c u es t' k' pl en holds eq i s scale t tree on wo sc here h off =
         step_told means world n w _ (eval_told means world n w o d left parts keeps t'.0 k'.0 (λ v s1. rule.fork v s1 left_on right_on) here x.is (λ j v s1 ext on1 g is ty.
         let b = bool_is means world n w x.it ty in
-        let told = now c e x.it (fine_here np here) pl.0 x.is ∙ ap Some b.1 in
+        let told = now c e x.it (fine_here here) pl.0 x.is ∙ ap Some b.1 in
         let outcome = side_is (place_of e) b.0 (add p d q a c) (Ok c) u (sym (ap (λ v. choose (place_of e) v (add p d q a c) (Ok c)) b.1) ∙ x.then) in
         let listed = sym (step (λ v. plain.choose v (entries p c a) (Some [])) (BoolValue b.0) told) ∙ en in
         fork_told means world n w v left_on right_on on1 g b.0 (ap as_bool is)
-        (λ z j2 s2 ext2 on2. on_a scope c u es np t'.1 k'.1 pl.1 (on_yes b.0 z (entries p c a) (Some []) es listed) ok holds (side_yes b.0 z _ _ outcome) j2 s2 scale t tree on
+        (λ z j2 s2 ext2 on2. on_a scope c u es t'.1 k'.1 pl.1 (on_yes b.0 z (entries p c a) (Some []) es listed) holds (side_yes b.0 z _ _ outcome) j2 s2 scale t tree on
         (worth_later means p n (also ext ext2) c a tree t (worth_yes b.0 wo.0 z (bools_same b.0 wo.0 (sym told ∙ wo.1)) _ _ wo.2)) (scale_later means world (le_refl n) (also ext ext2) sc) on2 (λ j3 s3 ext3 on3. h j3 s3 (also ext (also ext2 ext3)) on3) off)
         (λ z j2 s2 ext2 on2.
         let k = worth_no b.0 wo.0 z (bools_same b.0 wo.0 (sym told ∙ wo.1)) _ _ wo.2 in
@@ -449,16 +435,16 @@ module _ (means : Meaning) (p : Program) (good : GoodBodies p) (Held : Name → 
 
     chosen_told : (q : Fraction) (e : Expr) (a b : Assertion) → Produced q a → Produced q b → Produced q (Chosen e a b)
     unfolding Produced added
-    chosen_told q e a b on_a on_b scope c u es np t' k' pl en ok holds eq i s scale t tree on wo sc here h off =
+    chosen_told q e a b on_a on_b scope c u es t' k' pl en holds eq i s scale t tree on wo sc here h off =
         step_told means world n w _ (eval_told means world n w o d left parts keeps t'.0 k'.0 (λ v s1. rule.fork v s1 left_on right_on) here x.is (λ j v s1 ext on1 g is ty.
         let y = bool_is means world n w x.it ty in
-        let told = now c e x.it (fine_here np here) pl.0 x.is ∙ ap Some y.1 in
+        let told = now c e x.it (fine_here here) pl.0 x.is ∙ ap Some y.1 in
         let outcome = side_is (place_of e) y.0 (add p d q a c) (add p d q b c) u (sym (ap (λ v. choose (place_of e) v (add p d q a c) (add p d q b c)) y.1) ∙ x.then) in
         let listed = sym (step (λ v. plain.choose v (entries p c a) (entries p c b)) (BoolValue y.0) told) ∙ en in
         fork_told means world n w v left_on right_on on1 g y.0 (ap as_bool is)
-        (λ z j2 s2 ext2 on2. on_a scope c u es np t'.1 k'.1 pl.1 (on_yes y.0 z (entries p c a) (entries p c b) es listed) ok holds (side_yes y.0 z _ _ outcome) j2 s2 scale t tree on
+        (λ z j2 s2 ext2 on2. on_a scope c u es t'.1 k'.1 pl.1 (on_yes y.0 z (entries p c a) (entries p c b) es listed) holds (side_yes y.0 z _ _ outcome) j2 s2 scale t tree on
         (worth_later means p n (also ext ext2) c a tree t (worth_yes y.0 wo.0 z (bools_same y.0 wo.0 (sym told ∙ wo.1)) _ _ wo.2)) (scale_later means world (le_refl n) (also ext ext2) sc) on2 (λ j3 s3 ext3 on3. h j3 s3 (also ext (also ext2 ext3)) on3) off)
-        (λ z j2 s2 ext2 on2. on_b scope c u es np t'.2 k'.2 pl.2 (on_no y.0 z (entries p c a) (entries p c b) es listed) ok holds (side_no y.0 z _ _ outcome) j2 s2 scale t tree on
+        (λ z j2 s2 ext2 on2. on_b scope c u es t'.2 k'.2 pl.2 (on_no y.0 z (entries p c a) (entries p c b) es listed) holds (side_no y.0 z _ _ outcome) j2 s2 scale t tree on
         (worth_later means p n (also ext ext2) c b tree t (worth_no y.0 wo.0 z (bools_same y.0 wo.0 (sym told ∙ wo.1)) _ _ wo.2)) (scale_later means world (le_refl n) (also ext ext2) sc) on2 (λ j3 s3 ext3 on3. h j3 s3 (also ext (also ext2 ext3)) on3) off)
         off_left off_right)
         (λ j v s1 f. fork_left (w.Tells j) s1 v left_on right_on (λ s2 st. off_left j s2 (off_still means world n w f st)) (λ s2 st. off_right j s2 (off_still means world n w f st))))

@@ -33,19 +33,18 @@ use Rattle.vx_sound_preds.specs.Bodies.{Rigid, IsPlainBody, GoodBodies}
 use Rattle.vx_sound_preds.proofs.Fitting.{Opens, undo, some_is}
 use Rattle.vx_sound_preds.proofs.Looks.{Sees}
 use Rattle.vx_sound_preds.proofs.Framing.{ok_same, entries_seen, tree_seen}
-use Rattle.vx_sound_preds.proofs.Adding.{Fine, AreEntries, added, add_adds}
+use Rattle.vx_sound_preds.proofs.Adding.{added}
 use Rattle.vx_sound_preds.proofs.Exchanging.{IsOpen, opened}
 use Rattle.vx_sound_preds.proofs.Frames.{entries_positive}
 use Rattle.vx_sound_preds.proofs.Folds.{tree_of_body}
-use Rattle.vx_sound_preds.proofs.Holding.{HoldsInstances, exchanged, nothing_applied, instances_world}
+use Rattle.vx_sound_preds.proofs.Holding.{HoldsInstances, exchanged, instances_world}
 use Rattle.vx_sound_preds.proofs.Entries.{entries_typed}
-use Rattle.vx_sound_preds.proofs.Produced.{fine_state}
 use Rattle.vx_sound.proofs.Speaks as instances
 use Rattle.vx_live.proofs.Speaks.{SpeaksOf}
 use Rattle.vx_told.proofs.Woken.{woken}
 use Rattle.vx_told.proofs.Told.{Walk, On, Told, Follows, OffGoing, off_still}
 use Rattle.vx_told.proofs.ToldChunks.{TakenOf, take_told}
-use Rattle.vx_told.proofs.ToldProduce.{state_same}
+use Rattle.vx_told.proofs.HeldFine.{HoldsFine, added_is}
 use Rattle.vx_told.proofs.Worth.{Worth, written_worth}
 
 none_some : {A : Type 0} (a : A) → None ≡ Some a → ⊥
@@ -70,7 +69,7 @@ module _ (means : Meaning) (p : Program) (good : GoodBodies p) (Held : Name → 
   -- what is shown of what an assertion gives, by rules for the parts of others
   abbrev pub GivesTold : Outer → Deeper → Type 0
   GivesTold o d =
-      (q : Fraction) (a : Assertion) (scope : Scope) (c u : run.State) (es : run.Holdings) → HaveNoPerm scope → IsTyped p scope a → SpeaksOf Held a → IsPlainBody p Rigid a → entries p c a ≡ Some es → AreEntries p c.heap es → HoldsInstances p Held true c.heap (added q es c.holdings) → add p d q a c ≡ Ok u →
+      (q : Fraction) (a : Assertion) (scope : Scope) (c u : run.State) (es : run.Holdings) → IsTyped p scope a → SpeaksOf Held a → IsPlainBody p Rigid a → entries p c a ≡ Some es → HoldsInstances p Held true c.heap (added q es c.holdings) → add p d q a c ≡ Ok u →
       (i : Interpretation) (s : State) (scale t : Term) (tree : Tree) (on : Going) → Worth means p n i c a tree t → ScaleStands means world n i scale q → On means world n w scope i s c →
       Follows means world n w scope i (run.with_holdings (added q es c.holdings) c) on → OffGoing means world n w on → Told means world n w i (o.produce a scale (Some t) s on)
 
@@ -107,7 +106,7 @@ module _ (means : Meaning) (p : Program) (good : GoodBodies p) (Held : Name → 
           let x = undo (add p d q a (start c k pd q)) (λ v. Ok (run.with_store c.store v)) u (some_of _ u (sym (ap (of_body pd) is) ∙ e)) in
           record { body = a; body_is = is; given = x.it; adds = x.is; u_is = ok_same (run.with_store c.store x.it) u x.then }
 
-  module _ (o : Outer) (d : Deeper) (gives : GivesTold o d) (opens : Opens p (Fine p) d) (bodies : Bodies) where
+  module _ (o : Outer) (d : Deeper) (gives : GivesTold o d) (opens : Opens p (HoldsFine p) d) (bodies : Bodies) where
     pub unfolded_told : (scope : Scope) (i : Interpretation) (s : State) (c u : run.State) (at : Place) (x : Name) (ts : List Term) (vs : List Value) (a : Term) (q : Fraction) (on : Going) → InstanceTerms means world n i x ts vs →
         Good means n i a RealSort → Same (as_fraction (value i a)) q → Positive q → On means world n w scope i s c → has_instance c record { predicate = x; arguments = vs } q ≡ true → exchange p d record { predicate = x; arguments = vs } q c ≡ Some u →
         Follows means world n w scope i u on → OffGoing means world n w on → Told means world n w i (unfolded p o at x ts a s on)
@@ -175,11 +174,9 @@ module _ (means : Meaning) (p : Program) (good : GoodBodies p) (Held : Name → 
                 (tree_seen p Rigid (bare (bind pd.parameters vs) c.heap) inner seen (tree_by p m c.heap) steps.body plain ∙ sym (tree_of_body p c.heap k pd steps.body m keys.named steps.body_is) ∙ f)
                 (record { good = g; is = is }) written
 
-        given_is : {scope' : Scope} {s' : State} → HaveNoPerm scope' → On means world n w scope' i s' (start c record { predicate = x; arguments = vs } keys.predicate q) →
+        given_is : HoldsInstances p Held true c.heap (run.lost (run.Folded record { predicate = x; arguments = vs }) q c.holdings) →
             run.with_holdings (added q opening.entries_of (run.lost (run.Folded record { predicate = x; arguments = vs }) q c.holdings)) c ≡ u
-        given_is np on1 =
-            let k' = add_adds p q (positive_le pos) d opens steps.body inner steps.given opening.entries_of plain (fine_state means p good Held no_perm true nothing_applied np on1.quietly.stands) listed opening.can steps.adds in
-            state_same _ (run.with_store c.store steps.given) refl (sym k'.heap) (sym k'.holdings) (sym k'.old_heap) (sym k'.old_holdings) ∙ steps.u_is
+        given_is less = ap (run.with_store c.store) (sym (added_is p good Held d opens q pos steps.body inner steps.given opening.entries_of plain less listed (holds less) steps.adds)) ∙ steps.u_is
 
         inside : (ch : rules.Chunk) (s1 : State) → TakenOf means world n w scope i c (run.Folded record { predicate = x; arguments = vs }) SnapSort q ch s1 →
             Told means world n w i (o.produce steps.body a (Some ch.value) (record (entered (rules.bind keys.predicate.parameters ts) at s1) { inner = leads_inside ch }) (λ s2. on (back s s2)))
@@ -190,14 +187,14 @@ module _ (means : Meaning) (p : Program) (good : GoodBodies p) (Held : Name → 
               still = (let z = t.on.still in record { next = z.next; level = z.level; path = z.path });
               quietly = record { stands = record { store = bound means world n i pd.parameters ts vs keys.each; path = st.path; heap = st.heap; old = st.old; awake = st.awake; bounded = st.bounded; null = st.null; standard = st.standard; owned = st.owned; holds = st.holds; old_holds = st.old_holds } };
             } in
-            gives q steps.body pd.parameters inner steps.given opening.entries_of keys.no_perm parts.0 parts.1 plain listed opening.can (holds st.holds) steps.adds i (record (entered (rules.bind pd.parameters ts) at s1) { inner = leads_inside ch }) a ch.value wo.0 (λ s2. on (back s s2)) wo.1
+            gives q steps.body pd.parameters inner steps.given opening.entries_of parts.0 parts.1 plain listed (holds st.holds) steps.adds i (record (entered (rules.bind pd.parameters ts) at s1) { inner = leads_inside ch }) a ch.value wo.0 (λ s2. on (back s s2)) wo.1
             (record { good = ga; is = same; positive = pos }) on1
             (λ j s2 ext on2.
             let z = on2.quietly.stands in
             h j (back s s2) ext (record {
               still = (let y = on2.still in record { next = y.next; level = y.level; path = y.path });
               quietly = record {
-                stands = subst (λ c'. Stands means world scope j (woken n (back s s2)) c') (given_is keys.no_perm on1)
+                stands = subst (λ c'. Stands means world scope j (woken n (back s s2)) c') (given_is st.holds)
                     (record { store = store_later means world (le_refl n) ext scope s.store c.store here.quietly.stands.store; path = z.path; heap = z.heap; old = z.old; awake = z.awake; bounded = z.bounded; null = z.null; standard = z.standard; owned = z.owned; holds = z.holds; old_holds = z.old_holds });
               };
             }))

@@ -1,7 +1,6 @@
 -- What the symbol of a function means: at the tree of its precondition and at its arguments it has the function's value, where the
 -- function can be applied.
 use Rattle.std.specs.Prelude.{◌≡◌, ℕ, true, List, [], ◌∷◌, ◌++◌, Some, Ok}
-use Rattle.vx_ast.specs.declared.ValueType.TheVariants.{Perm}
 use Rattle.vx_ast.specs.Syntax.{Name, result_name, Program, Function, function_named, conjoined}
 use Rattle.vx_frac.specs.Fractions.{full, lowest}
 use Rattle.vx_terms.specs.Interpretations.{Element, IntElement, BoolElement, RealElement, TreeElement, Tree, RefLeaf}
@@ -61,10 +60,6 @@ pub record Promise (p : Program) (g : Function) (vs : List Value) (v : Value) (h
 -- each application of what x leads to that is allowed firmly keeps its promise
 abbrev pub PromisesKept : Program → Name → Type 0
 PromisesKept p x = (f : Name) (g : Function) (vs : List Value) (s : State) (t : Tree) (v : Value) → IsApplied p x f g vs s t v → Promise p g vs v s.heap
-
--- no function's value is an amount
-abbrev pub NoAmounts : Program → Type 0
-NoAmounts p = (f : Name) (g : Function) → function_named p f ≡ Some g → (g.of ≡ Perm) → ⊥
 
 -- A symbol means one element.
 abbrev pub SymbolsMeanOne : Program → Name → Type 0

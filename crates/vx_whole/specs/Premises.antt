@@ -8,7 +8,7 @@ use Rattle.vx_meaning.specs.States.{State}
 use Rattle.vx_meaning.specs.Evaluate.{Applications, value}
 use Rattle.vx_types.specs.Typing.{IsTypedPredicate, IsTypedFunction, IsTypedMethod}
 use Rattle.vx_ast.specs.Apart.{KeepsApart}
-use Rattle.vx_whole.specs.Now.{SaysNow}
+use Rattle.vx_whole.specs.Now.{SaysNow, SpeaksOfNow}
 
 -- one value in every state, which is above none
 abbrev pub IsConstantAmount : Expr → Type 0
@@ -23,7 +23,7 @@ HasConstantAmounts (Implied c a) = HasConstantAmounts a
 HasConstantAmounts (Chosen c a b) = HasConstantAmounts a × HasConstantAmounts b
 
 -- Each member is found by its name, and typed; amounts in predicates and in preconditions of functions are known without
--- running; predicates say nothing of an earlier state; and no member is entered within itself.
+-- running; predicates and functions say nothing of an earlier state; and no member is entered within itself.
 pub record IsTypedProgram (p : Program) : Type 0 where
   pub names : (n : ℕ) (m : Member) → slice_get p n ≡ Some m → member_named p m.name ≡ Some m.kind
   pub predicates : (x : Name) (d : Predicate) → predicate_named p x ≡ Some d → IsTypedPredicate p d
@@ -32,4 +32,5 @@ pub record IsTypedProgram (p : Program) : Type 0 where
   pub bodies : (x : Name) (d : Predicate) (a : Assertion) → predicate_named p x ≡ Some d → d.body ≡ Some a → HasConstantAmounts a
   pub now : (x : Name) (d : Predicate) (a : Assertion) → predicate_named p x ≡ Some d → d.body ≡ Some a → SaysNow a
   pub preconditions : (x : Name) (g : Function) → function_named p x ≡ Some g → Each HasConstantAmounts g.requires
+  pub functions_now : (x : Name) (g : Function) → function_named p x ≡ Some g → SpeaksOfNow g
   pub apart : KeepsApart p
