@@ -18,6 +18,7 @@ pub mod Types
 pub mod Changes
 pub mod Giving
 pub mod Holding
+pub mod Given
 pub mod Produced
 pub mod Entries
 pub mod Unfolds
