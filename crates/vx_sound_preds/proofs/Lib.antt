@@ -20,6 +20,7 @@ pub mod Giving
 pub mod Holding
 pub mod Given
 pub mod Produced
+pub mod Refusing
 pub mod Entries
 pub mod Unfolds
 pub mod Trees
