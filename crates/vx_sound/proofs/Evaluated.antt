@@ -1,6 +1,6 @@
 -- What holds of each application that is evaluated with the parts of an expression, holds of each that is evaluated with it.
-use Rattle.std.proofs.Common.{◌≡◌, ℕ, inl, inr, Bool, true, false, cond, List, [], Option, Some, None, refl, sym, ◌∙◌, ap, subst, le_refl, true≢false}
-use Rattle.std.specs.Prelude.{Ok}
+use Rattle.std.proofs.Common.{◌≡◌, ℕ, zero, suc, ◌≤◌, length, arith, inl, inr, Bool, true, false, cond, List, [], ◌∷◌, Option, Some, None, refl, sym, ◌∙◌, ap, subst, le_refl, true≢false}
+use Rattle.std.specs.Prelude.{Ok, Contains}
 use Rattle.vx_ast.specs.Syntax.{Name, Program, Connective, And, Or, Implies, as_assertion, Expr, Exprs, Number, Truth, Null, Part, Variable, Not, Operate, Divide, Connect, Choose, Read, Old, Apply, Unfolding, Assertion, Pure, Both}
 use Rattle.vx_meaning.specs.Values.{Value, IntValue, BoolValue, RefValue, PermValue, needs_right}
 use Rattle.vx_meaning.specs.States as run
@@ -65,6 +65,18 @@ module _ (P : Application → Type 0) where
   pub applied_each : (f : Name) (o : Option (List Value)) (vs : List Value) → ((ws : List Value) → o ≡ Some ws → ws ≡ vs) → P (f, vs) → Each P (applied_to f o)
   applied_each f None vs h k = tt
   applied_each f (Some ws) vs h k = (subst (λ (ws : List Value). P (f, ws)) (sym (h ws refl)) k, tt)
+
+-- so of any one of them
+pub of_each : {A : Type 0} (P : A → Type 0) (xs : List A) (a : A) → Each P xs → Contains xs a → P a
+of_each P [] a h (n, le, is) = absurd (none le)
+  where
+    none : suc n ≤ 0 → ⊥
+    none le = omega arith
+of_each P (x ∷ xs) a h (zero, le, is) = subst P is h.0
+of_each P (x ∷ xs) a h (suc n, le, is) = of_each P xs a h.1 (n, less le, is)
+  where
+    less : suc (suc n) ≤ suc (length xs) → suc n ≤ length xs
+    less le = omega arith
 
 -- what is evaluated in the old part of a state
 pub old_measured : (w : World) (c : run.State) (xs : List Application) → AllMeasured w (run.at_old c) xs → AllMeasured w c xs

@@ -169,7 +169,7 @@ module _ (p : Program) (good : GoodBodies p) (Held : Name → Type 0) (bounded :
       go j true e z = at x.0 j (resource_is (Folded j) x.0 si.0 e) k.0
       go j false e z = g j z
 
-  amount_grows : (q : Fraction) (es hs : Holdings) (r : Resource) → Positive q → AllPositive es → Le (amount hs r) (amount (added q es hs) r)
+  pub amount_grows : (q : Fraction) (es hs : Holdings) (r : Resource) → Positive q → AllPositive es → Le (amount hs r) (amount (added q es hs) r)
   unfolding added
   amount_grows q [] hs r pos k = le-refl (amount hs r)
   amount_grows q (x ∷ xs) hs r pos k = le-trans (go (same_resource r x.0)) (amount_grows q xs (gained x.0 (product q x.1) hs) r pos k.1)

@@ -27,6 +27,7 @@ pub mod Trees
 pub mod Folded
 pub mod Consumed
 pub mod Applied
+pub mod Functions
 pub mod Speaking
 pub mod Mentioning
 pub mod Walks
