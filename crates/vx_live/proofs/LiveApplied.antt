@@ -31,6 +31,7 @@ use Rattle.vx_elements.proofs.Scopes.{joined_typed, typed_longer}
 use Rattle.vx_live.specs.Functions.{sorts_of_types, function_symbol}
 use Rattle.vx_live.proofs.Over.{Sorts, Above, stays, above, Fine, fine_later, truth_fine, number_fine, whole_fine, and_fine, implies_fine, equals_fine, less_fine, less_equal_fine}
 use Rattle.vx_live.proofs.Shapes.{AllFine, all_fine_later, bound_shape, shape_append, path_le, MeasureFine, measure_le, OwnFine, IsFact, Shaped, Later, facts_later, with_chunks, named, entered_shape, back_shape}
+use Rattle.vx_sound.proofs.Conjoined.{conjoined_typed}
 use Rattle.vx_live.proofs.Speaks.{Speaks, SpeaksOf, joined_speaks, conjoined_speaks, FunctionSays, Spoken, MeasureSpeaks}
 use Rattle.vx_live.proofs.LiveSteps.{Saying, LiveBy, left_live, Follows, live_case, ask_live, never_live, first_inner_live}
 use Rattle.vx_live.proofs.LiveChunks.{some_fine, found_shape}
@@ -39,16 +40,6 @@ use Rattle.vx_live.proofs.LiveAssertions.{instance_arguments, produce_live, cons
 use Rattle.vx_live.proofs.LiveParts.{OuterLive, unfolded_live}
 use Rattle.vx_live.specs.Quiet.{Still}
 use Rattle.vx_live.proofs.Quiet.{Quiet, OuterLeft, outer_left, each_left, LeftBy, still_quiet, after}
-
--- The postconditions are typed where each is
-
-conjoined_with_typed : (p : Program) (scope : Scope) (e : Expr) (rest : List Expr) → HasType p scope e type.Bool → AreTruths p scope rest → HasType p scope (conjoined_with e rest) type.Bool
-conjoined_with_typed p scope e [] t ts = t
-conjoined_with_typed p scope e (b ∷ rest) t ts = conjoined_with_typed p scope (Connect (place_of e) And e b) rest (typed.connects t ts.0) ts.1
-
-pub conjoined_typed : (p : Program) (scope : Scope) (at : Place) (rest : List Expr) → AreTruths p scope rest → HasType p scope (conjoined at rest) type.Bool
-conjoined_typed p scope at [] t = typed.truth
-conjoined_typed p scope at (e ∷ rest) t = conjoined_with_typed p scope e rest t.0 t.1
 
 -- Applications
 

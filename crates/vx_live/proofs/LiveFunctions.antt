@@ -15,6 +15,7 @@ use Rattle.vx_rules.specs.Members.{codes, blank, rooted, function_body, from_mea
 use Rattle.vx_types.specs.Typing.{Scope, HasType, IsTyped, IsTypedMeasure}
 use Rattle.vx_types.specs.Typing as typed
 use Rattle.vx_elements.proofs.Scopes.{joined_typed}
+use Rattle.vx_sound.proofs.Conjoined.{conjoined_typed, assertion_typed}
 use Rattle.vx_live.proofs.Over.{IsOfFunction, Sorts, whole_fine}
 use Rattle.vx_live.proofs.Shapes.{MeasureFine, Shaped, shape_append, fresh_later}
 use Rattle.vx_live.proofs.Speaks.{joined_speaks, conjoined_speaks, assertion_speaks, MeasureSpeaks, FunctionSays}
@@ -22,26 +23,7 @@ use Rattle.vx_live.proofs.LiveSteps.{Saying, LiveBy, first_live, never_live}
 use Rattle.vx_live.proofs.LiveChunks.{found_shape, some_fine, place_shape, set_shape}
 use Rattle.vx_live.proofs.LiveEvaluate.{PartsLive, eval_live, evals_live}
 use Rattle.vx_live.proofs.LiveAssertions.{instance_arguments, produce_live, consume_live}
-use Rattle.vx_live.proofs.LiveApplied.{conjoined_typed}
 use Rattle.vx_live.proofs.LiveMethods.{begun}
-
-assertion_typed : (p : Program) (scope : Scope) (e : Expr) → HasType p scope e type.Bool → IsTyped p scope (as_assertion e)
-assertion_typed p scope (Connect at And a b) (typed.connects ta tb) = (assertion_typed p scope a ta, assertion_typed p scope b tb)
-assertion_typed p scope (Connect at Or a b) t = t
-assertion_typed p scope (Connect at Implies a b) t = t
-assertion_typed p scope (Number at n) t = t
-assertion_typed p scope (Truth at b) t = t
-assertion_typed p scope (Null at) t = t
-assertion_typed p scope (Part at n d) t = t
-assertion_typed p scope (Variable at x) t = t
-assertion_typed p scope (Not at e) t = t
-assertion_typed p scope (Operate at op a b) t = t
-assertion_typed p scope (Divide at op a b) t = t
-assertion_typed p scope (Choose at c a b) t = t
-assertion_typed p scope (Read at e f) t = t
-assertion_typed p scope (Old at e) t = t
-assertion_typed p scope (Apply at f es) t = t
-assertion_typed p scope (Unfolding at i es share e) t = t
 
 module _ {fs : List Declared} (functions : Each IsOfFunction fs) (P : Saying) (p : Program) (Held : Name → Type 0) (o : Outer) (parts : PartsLive fs P p Held o) (f : Name) (g : Function) (says : FunctionSays Held p fs f g) where
   abbrev result : Declaration

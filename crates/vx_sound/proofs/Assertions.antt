@@ -32,6 +32,7 @@ use Rattle.vx_elements.proofs.Eventually.{eventually, both_eventually, one_answe
 use Rattle.vx_amounts.proofs.Amounts.{Le, Positive, le-trans}
 use Rattle.vx_amounts.proofs.Products.{product_positive}
 use Rattle.vx_sound.proofs.World.{at_field, CanBe, World}
+use Rattle.vx_sound.proofs.Evaluated.{PartsMeasured}
 use Rattle.vx_sound.proofs.Standard.{IsStandard, pair_value, first_value, second_value, wrapped_back, good_unit, good_pair, good_first, good_second, good_wrap, good_unwrap, written_equal}
 use Rattle.vx_sound.proofs.Speaks.{Speaks, SpeaksOf}
 use Rattle.vx_sound.proofs.Passes.{Cleared}
@@ -327,6 +328,7 @@ module _ (means : Meaning) (world : World) where
       pub left : run.Holdings
       pub goes : Goes means world scope i n (on snapshot) (run.with_holdings left c)
       pub takes : Eventually (λ n. take_by p n c q a rest ≡ Ok left)
+      pub measured : PartsMeasured world c a
       pub good : Good means goes.state.next goes.interp snapshot SnapSort
       pub built : Builds goes.state.next goes.interp c a snapshot
 
@@ -367,6 +369,7 @@ module _ (means : Meaning) (world : World) where
             cleared = g.cleared;
           };
           takes = eventually r.fits (λ n f. ap (λ y. y >>= λ v. guard (place_of e) (is_true v) >>= λ _. Ok rest) (f ∙ ap Ok yes));
+          measured = r.measured;
           good = good_unit means;
           built = built_pure (eventually r.fits (λ n f. f ∙ ap Ok yes));
         }
@@ -387,6 +390,7 @@ module _ (means : Meaning) (world : World) where
           left = run.lost (run.At (at_field l.reference f)) (product q l.fraction) rest;
           goes = g.goes;
           takes = eventually l.part (λ n m. part_taken c q at rest (run.At (at_field l.reference f)) l.fraction n (field_part p (deeper p n) c at e f share) m d.enough);
+          measured = tt;
           good = good_later means g.later g.extends (good_wrap means d.good);
           built = builds_later g.later g.extends (built_field f l.reference l.fraction d.chunk.value l.receiver_fits l.share_fits d.good (λ z. d.there (product_positive sc.positive z)));
         }
@@ -435,6 +439,7 @@ module _ (means : Meaning) (world : World) where
             cleared = d.cleared;
           };
           takes = eventually l.part (λ n m. part_taken c q at rest (run.Folded record { predicate = y; arguments = l.results }) l.fraction n (instance_part p (deeper p n) c at y es share) m d.enough);
+          measured = tt;
           good = d.good;
           built = built_instance y l.results l.fraction d.chunk.value l.arguments_fit l.share_fits d.good (λ z. d.there (product_positive sc.positive z));
         }
@@ -454,8 +459,8 @@ module _ (means : Meaning) (world : World) where
             l.amount_good l.amount_is l.sign l.cleared
 
     consumes_after : {mid scope : Scope} {i : Interpretation} {n : ℕ} {before : Going} {b : run.State} {on : Giving} {c : run.State} {a d : Assertion} {q : Fraction} {rest : run.Holdings} (g : Goes means world mid i n before b) →
-        (r : Consumes scope g.interp g.state.next on c a q rest) → Eventually (λ n. take_by p n c q d rest ≡ Ok r.left) → Builds r.goes.state.next r.goes.interp c d r.snapshot → Consumes scope i n on c d q rest
-    consumes_after g r takes built = record { snapshot = r.snapshot; left = r.left; goes = goes_after means world g r.goes; takes = takes; good = r.good; built = built }
+        (r : Consumes scope g.interp g.state.next on c a q rest) → Eventually (λ n. take_by p n c q d rest ≡ Ok r.left) → PartsMeasured world c d → Builds r.goes.state.next r.goes.interp c d r.snapshot → Consumes scope i n on c d q rest
+    consumes_after g r takes measured built = record { snapshot = r.snapshot; left = r.left; goes = goes_after means world g r.goes; takes = takes; measured = measured; good = r.good; built = built }
 
     both_consumed : (q : Fraction) (a b : Assertion) → ConsumeGoes q a → ConsumeGoes q b → ConsumeGoes q (Both a b)
     unfolding ConsumeGoes
@@ -472,6 +477,7 @@ module _ (means : Meaning) (world : World) where
           left = z.left;
           goes = m.goes;
           takes = both_eventually r.takes z.takes (λ n u v. ap (λ y. y >>= λ h'. take_by p n c q b h') u ∙ v);
+          measured = (r.measured, z.measured);
           good = good_later means m.later m.extends (good_pair means first z.good);
           built = builds_later m.later m.extends (built_both (builds_later z.goes.later z.goes.extends r.built) z.built);
         }
@@ -510,8 +516,8 @@ module _ (means : Meaning) (world : World) where
         go : (b : Bool) → Goes means world scope i s.next (cond b left (on unit)) (run.with_holdings rest c) → Eventually (λ n. fit_by p n c d ≡ Ok (BoolValue b)) → Consumes scope i s.next on c (Implied d a) q rest
         go true g f =
             let z = on_a scope c rest t.1 k.1 g.interp g.state x scale h on (scale_later means world g.later g.extends sc) (heap_later means world g.later g.extends h c.heap c.holdings hs) hb g.stands g.cleared in
-            consumes_after g z (both_eventually f z.takes (λ n u v. ap (λ y. y >>= λ b. fits.choose (place_of d) b (take_by p n c q a rest) (Ok rest)) u ∙ v)) (built_implied f z.built)
-        go false g f = record { snapshot = unit; left = rest; goes = g; takes = eventually f (λ n u. ap (λ y. y >>= λ b. fits.choose (place_of d) b (take_by p n c q a rest) (Ok rest)) u); good = good_unit means; built = built_nothing f }
+            consumes_after g z (both_eventually f z.takes (λ n u v. ap (λ y. y >>= λ b. fits.choose (place_of d) b (take_by p n c q a rest) (Ok rest)) u ∙ v)) tt (built_implied f z.built)
+        go false g f = record { snapshot = unit; left = rest; goes = g; takes = eventually f (λ n u. ap (λ y. y >>= λ b. fits.choose (place_of d) b (take_by p n c q a rest) (Ok rest)) u); measured = tt; good = good_unit means; built = built_nothing f }
 
     chosen_consumed : (q : Fraction) (d : Expr) (a b : Assertion) → ConsumeGoes q a → ConsumeGoes q b → ConsumeGoes q (Chosen d a b)
     unfolding ConsumeGoes
@@ -529,10 +535,10 @@ module _ (means : Meaning) (world : World) where
         go : (y : Bool) → Goes means world scope i s.next (cond y left right) (run.with_holdings rest c) → Eventually (λ n. fit_by p n c d ≡ Ok (BoolValue y)) → Consumes scope i s.next on c (Chosen d a b) q rest
         go true g f =
             let z = on_a scope c rest t.1 k.1 g.interp g.state x scale h on (scale_later means world g.later g.extends sc) (heap_later means world g.later g.extends h c.heap c.holdings hs) hb g.stands g.cleared in
-            consumes_after g z (both_eventually f z.takes (λ n u v. ap (λ y. y >>= λ y. fits.choose (place_of d) y (take_by p n c q a rest) (take_by p n c q b rest)) u ∙ v)) (built_left f z.built)
+            consumes_after g z (both_eventually f z.takes (λ n u v. ap (λ y. y >>= λ y. fits.choose (place_of d) y (take_by p n c q a rest) (take_by p n c q b rest)) u ∙ v)) tt (built_left f z.built)
         go false g f =
             let z = on_b scope c rest t.2 k.2 g.interp g.state x scale h on (scale_later means world g.later g.extends sc) (heap_later means world g.later g.extends h c.heap c.holdings hs) hb g.stands g.cleared in
-            consumes_after g z (both_eventually f z.takes (λ n u v. ap (λ y. y >>= λ y. fits.choose (place_of d) y (take_by p n c q a rest) (take_by p n c q b rest)) u ∙ v)) (built_right f z.built)
+            consumes_after g z (both_eventually f z.takes (λ n u v. ap (λ y. y >>= λ y. fits.choose (place_of d) y (take_by p n c q a rest) (take_by p n c q b rest)) u ∙ v)) tt (built_right f z.built)
 
     consumption : (q : Fraction) (a : Assertion) → SpeaksOf world.Held world.Applied a → ConsumeGoes q a
     consumption q (Pure e) k = pure_consumed q e

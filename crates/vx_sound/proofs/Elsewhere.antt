@@ -12,10 +12,10 @@ use Rattle.vx_elements.proofs.Lists.{each_map}
 use Rattle.vx_sound.proofs.World.{Walked, World}
 use Rattle.vx_sound.proofs.Stands.{values_of, StoreStands, FactStands, TermsStand, InstanceKey, ChunkStands, HeapStands, OwnStands, Stands}
 
-module _ (means : Meaning) (world : World) (Applied : Name → Type 0) (own : Option Walked) where
-  -- the world in which these may be applied, and the body of this function is walked
+module _ (means : Meaning) (world : World) (Applied : Name → Type 0) (own : Option Walked) (Measured : run.Heap → Name → List Value → Type 0) where
+  -- the world in which these may be applied, and the body of this function is walked, where this is shown of applications
   abbrev pub there : World
-  there = record world { Applied = Applied; own = own }
+  there = record world { Applied = Applied; own = own; Measured = Measured }
 
   store_there : (n : ℕ) (i : Interpretation) (scope : Scope) (xs : rules.Store) (ys : run.Store) → StoreStands means world n i scope xs ys → StoreStands means there n i scope xs ys
   store_there n i [] [] [] h = tt

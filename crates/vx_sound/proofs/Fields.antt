@@ -63,6 +63,7 @@ fields_world p = record {
   Held = λ x. ⊥;
   Applied = λ f. ⊥;
   own = None;
+  Measured = λ h f vs. Unit {0};
   proper = λ x d h e. absurd h;
   Holds = λ h hs. HoldsFields hs;
   limited = λ h hs k. k.limited;

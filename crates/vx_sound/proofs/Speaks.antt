@@ -84,7 +84,7 @@ module _ (Held Applied : Name → Type 0) where
 -- What applies nothing speaks of any applications.
 module _ (Held Applied : Name → Type 0) where
   mutual
-    speaks_anyway : (e : Expr) → Speaks Held (λ f. ⊥) e → Speaks Held Applied e
+    pub speaks_anyway : (e : Expr) → Speaks Held (λ f. ⊥) e → Speaks Held Applied e
     speaks_anyway (Number at n) k = tt
     speaks_anyway (Truth at b) k = tt
     speaks_anyway (Null at) k = tt
@@ -100,7 +100,7 @@ module _ (Held Applied : Name → Type 0) where
     speaks_anyway (Apply at f es) k = absurd k.0
     speaks_anyway (Unfolding at i es share e) k = (k.0, all_speak_anyway es k.1, speaks_anyway share k.2, speaks_anyway e k.3)
 
-    all_speak_anyway : (es : Exprs) → AllSpeak Held (λ f. ⊥) es → AllSpeak Held Applied es
+    pub all_speak_anyway : (es : Exprs) → AllSpeak Held (λ f. ⊥) es → AllSpeak Held Applied es
     all_speak_anyway NoMore k = tt
     all_speak_anyway (More e es) k = (speaks_anyway e k.0, all_speak_anyway es k.1)
 

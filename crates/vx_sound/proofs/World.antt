@@ -1,11 +1,12 @@
 -- What is known of what is held, and of which predicates instances can be held.
-use Rattle.std.proofs.Common.{◌≡◌, ℕ, ℤ, Bool, true, false, [], ◌∷◌, Option, Some, None}
+use Rattle.std.proofs.Common.{◌≡◌, ◌⊎◌, ℕ, ℤ, List, Bool, true, false, [], ◌∷◌, Option, Some, None}
 use Rattle.vx_frac.specs.Fractions.{Fraction, none, full}
 use Rattle.vx_ast.specs.Syntax.{Name, Program, Predicate, predicate_named}
 use Rattle.vx_meaning.specs.Values.{Value}
 use Rattle.vx_meaning.specs.States as run
 use Rattle.vx_meaning.specs.Consistent.{total, Changes, IsSupported, IsConsistent}
-use Rattle.vx_terms.specs.Interpretations.{Tree}
+use Rattle.vx_meaning.specs.Fails.{Application}
+use Rattle.vx_terms.specs.Interpretations.{Each, Tree}
 use Rattle.vx_types.specs.Typing.{HaveNoPerm}
 use Rattle.vx_amounts.proofs.Amounts.{Le, Positive}
 use Rattle.vx_sound.specs.Snapshots.{IsTree}
@@ -38,13 +39,15 @@ pub record Walked : Type 0 where
 
 -- What the laws on expressions and assertions need to know of a heap and of what is held there: `Holds`, which says that it
 -- is limited and that each instance of which something is held has its tree, and what keeps it; which functions may be
--- applied; and the function whose body is walked, if it is one.
+-- applied; the function whose body is walked, if it is one; and what its walk shows of the applications that are evaluated, as of
+-- their measures.
 pub record World : Type 1 where
   pub program : Program
   pub bounded : Bool
   pub Held : Name → Type 0
   pub Applied : Name → Type 0
   pub own : Option Walked
+  pub Measured : run.Heap → Name → List Value → Type 0
   pub proper : (x : Name) (d : Predicate) → Held x → predicate_named program x ≡ Some d → HaveNoPerm d.parameters
   pub Holds : run.Heap → run.Holdings → Type 0
   pub limited : (h : run.Heap) (hs : run.Holdings) → Holds h hs → Limited bounded hs
@@ -54,6 +57,13 @@ pub record World : Type 1 where
       CanBe program bounded (run.with_holdings (run.gained r q c.holdings) c) → Holds c.heap (run.gained r q c.holdings)
   pub tree : (h : run.Heap) (hs : run.Holdings) (k : run.Instance) → Holds h hs → IsTypedInstance program Held k → Positive (run.amount hs (run.Folded k)) → (t : Tree) × IsTree program h k t
   pub single : (h : run.Heap) (k : run.Instance) (t u : Tree) → IsTypedInstance program Held k → IsTree program h k t → IsTree program h k u → t ≡ u
+
+-- what is shown of an application that is evaluated in a state: of its heap, or of the old one
+abbrev pub IsMeasured : World → run.State → Application → Type 0
+IsMeasured w c a = w.Measured c.heap a.0 a.1 ⊎ w.Measured c.old_heap a.0 a.1
+
+abbrev pub AllMeasured : World → run.State → List Application → Type 0
+AllMeasured w c xs = Each (IsMeasured w c) xs
 
 -- What the laws on statements need besides: changes of what isn't held, writes of what is held whole, and new locations keep
 -- what is known, and the trees of the instances that are held. No function has statements.

@@ -86,6 +86,7 @@ module _ (means : Meaning) (p : Program) (good : GoodBodies p) (Held : Name → 
       value_is = r.value_is;
       typed = r.typed;
       applied = r.applied;
+      measured = r.measured;
       cleared = r.cleared;
     }
       where

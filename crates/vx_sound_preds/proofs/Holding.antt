@@ -169,7 +169,7 @@ module _ (p : Program) (good : GoodBodies p) (Held : Name → Type 0) (bounded :
       go j true e z = at x.0 j (resource_is (Folded j) x.0 si.0 e) k.0
       go j false e z = g j z
 
-  amount_grows : (q : Fraction) (es hs : Holdings) (r : Resource) → Positive q → AllPositive es → Le (amount hs r) (amount (added q es hs) r)
+  pub amount_grows : (q : Fraction) (es hs : Holdings) (r : Resource) → Positive q → AllPositive es → Le (amount hs r) (amount (added q es hs) r)
   unfolding added
   amount_grows q [] hs r pos k = le-refl (amount hs r)
   amount_grows q (x ∷ xs) hs r pos k = le-trans (go (same_resource r x.0)) (amount_grows q xs (gained x.0 (product q x.1) hs) r pos k.1)
@@ -225,13 +225,15 @@ module _ (p : Program) (good : GoodBodies p) (Held : Name → Type 0) (bounded :
           clash : ◌≡◌ {A = Bool} true false → ⊥
           clash z = cc
 
--- what may be applied, and the function whose body is walked, if it is one
+-- what may be applied, the function whose body is walked, if it is one, and what its walk shows of the applications that are
+-- evaluated
 pub record Applying : Type 1 where
   pub Applied : Name → Type 0
   pub own : Option Walked
+  pub Measured : Heap → Name → List Value → Type 0
 
 abbrev pub nothing_applied : Applying
-nothing_applied = record { Applied = λ f. ⊥; own = None }
+nothing_applied = record { Applied = λ f. ⊥; own = None; Measured = λ h f vs. Unit {0} }
 
 -- The world of a typed program, where the instances of some predicates are held and some functions may be applied.
 abbrev pub functions_world : (p : Program) → GoodBodies p → (Held : Name → Type 0) → ((x : Name) (d : Predicate) → predicate_named p x ≡ Some d → HaveNoPerm d.parameters) → Bool → Applying → World
@@ -241,6 +243,7 @@ functions_world p good Held no_perm bounded applying = record {
   Held = Held;
   Applied = applying.Applied;
   own = applying.own;
+  Measured = applying.Measured;
   proper = λ x d h e. no_perm x d e;
   Holds = HoldsInstances p Held bounded;
   limited = limited p good Held bounded;

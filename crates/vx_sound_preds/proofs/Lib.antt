@@ -18,13 +18,16 @@ pub mod Types
 pub mod Changes
 pub mod Giving
 pub mod Holding
+pub mod Given
 pub mod Produced
+pub mod Refusing
 pub mod Entries
 pub mod Unfolds
 pub mod Trees
 pub mod Folded
 pub mod Consumed
 pub mod Applied
+pub mod Functions
 pub mod Speaking
 pub mod Mentioning
 pub mod Walks

@@ -124,6 +124,37 @@ module _ (means : Meaning) (p : Program) (good : GoodBodies p) (Held : Name → 
     pub left : IsSnapshotOf s.next i c a (left_part snapshot)
     pub right : IsSnapshotOf s.next i c b (right_part snapshot)
 
+  -- the parts of a term that stands for a pair
+  pub record PartsOf (scope : Scope) (i : Interpretation) (s : rules.State) (c : run.State) (t : Term) (x y : Tree) : Type 0 where
+    pub stands : Stands means world scope i (with_split (Some t) s) c
+    pub next_is : (with_split (Some t) s).next ≡ s.next
+    pub first_good : Good means s.next i (first t) SnapSort
+    pub first_written : IsWritten (first t)
+    pub first_is : value i (first t) ≡ TreeElement x
+    pub second_good : Good means s.next i (second t) SnapSort
+    pub second_written : IsWritten (second t)
+    pub second_is : value i (second t) ≡ TreeElement y
+
+  pub parts_of : {scope : Scope} {i : Interpretation} {s : rules.State} {c : run.State} (t : Term) (x y : Tree) → Stands means world scope i s c → Good means s.next i t SnapSort → IsWritten t → value i t ≡ TreeElement (Pair x y) → PartsOf scope i s c t x y
+  parts_of {i = i} {s = s} t x y st good written whole =
+      let one = first_value i st.standard t x y whole in
+      let two = second_value i st.standard t x y whole in
+      let first_good : Good means s.next i (first t) SnapSort = subst (λ u. Good means s.next i u SnapSort) (sym written.first_is) (good_first means good) in
+      let second_good : Good means s.next i (second t) SnapSort = subst (λ u. Good means s.next i u SnapSort) (sym written.second_is) (good_second means good) in
+      let first_is : value i (first t) ≡ TreeElement x = ap (value i) written.first_is ∙ one in
+      let second_is : value i (second t) ≡ TreeElement y = ap (value i) written.second_is ∙ two in
+      let fact = equals t (pair (first t) (second t)) in
+      record {
+        stands = stands_fact means world fact st (good_equals means good (good_pair means first_good second_good)) (is_equal i t (pair (first t) (second t)) (whole ∙ sym (pair_value i st.standard (first t) (second t) x y first_is second_is)));
+        next_is = next_after_fact means world fact s;
+        first_good = first_good;
+        first_written = subst IsWritten (sym written.first_is) (first_written t);
+        first_is = first_is;
+        second_good = second_good;
+        second_written = subst IsWritten (sym written.second_is) (second_written t);
+        second_is = second_is;
+      }
+
   split : {scope : Scope} {i : Interpretation} {s : rules.State} {c : run.State} (a b : Assertion) (snapshot : Option Term) → Stands means world scope i s c → IsSnapshotOf s.next i c (Both a b) snapshot → Split scope i s c a b snapshot
   split a b None st k = record { stands = st; next_is = refl; left = tt; right = tt }
   split {i = i} {s = s} {c = c} a b (Some t) st k =
@@ -131,18 +162,12 @@ module _ (means : Meaning) (p : Program) (good : GoodBodies p) (Held : Name → 
       let x = came (assertion_tree p f c a) (λ t. option_and_then (λ u. Some (Pair t u)) (assertion_tree p f c b)) k.tree k.is in
       let y = came (assertion_tree p f c b) (λ u. Some (Pair x.it u)) k.tree x.then in
       let whole : value i t ≡ TreeElement (Pair x.it y.it) = k.value_is ∙ ap TreeElement (sym (some_is (Pair x.it y.it) k.tree y.then)) in
-      let one = first_value i st.standard t x.it y.it whole in
-      let two = second_value i st.standard t x.it y.it whole in
-      let first_good : Good means s.next i (first t) SnapSort = subst (λ u. Good means s.next i u SnapSort) (sym k.written.first_is) (good_first means k.good_term) in
-      let second_good : Good means s.next i (second t) SnapSort = subst (λ u. Good means s.next i u SnapSort) (sym k.written.second_is) (good_second means k.good_term) in
-      let first_is : value i (first t) ≡ TreeElement x.it = ap (value i) k.written.first_is ∙ one in
-      let second_is : value i (second t) ≡ TreeElement y.it = ap (value i) k.written.second_is ∙ two in
-      let fact = equals t (pair (first t) (second t)) in
+      let m = parts_of t x.it y.it st k.good_term k.written whole in
       record {
-        stands = stands_fact means world fact st (good_equals means k.good_term (good_pair means first_good second_good)) (is_equal i t (pair (first t) (second t)) (whole ∙ sym (pair_value i st.standard (first t) (second t) x.it y.it first_is second_is)));
-        next_is = next_after_fact means world fact s;
-        left = record { good_term = first_good; written = subst IsWritten (sym k.written.first_is) (first_written t); fuel = k.fuel; tree = x.it; is = x.is; value_is = first_is };
-        right = record { good_term = second_good; written = subst IsWritten (sym k.written.second_is) (second_written t); fuel = k.fuel; tree = y.it; is = y.is; value_is = second_is };
+        stands = m.stands;
+        next_is = m.next_is;
+        left = record { good_term = m.first_good; written = m.first_written; fuel = k.fuel; tree = x.it; is = x.is; value_is = m.first_is };
+        right = record { good_term = m.second_good; written = m.second_written; fuel = k.fuel; tree = y.it; is = y.is; value_is = m.second_is };
       }
 
   -- A chunk whose value is known
@@ -482,13 +507,13 @@ module _ (means : Meaning) (p : Program) (good : GoodBodies p) (Held : Name → 
             (scale_later means world first.later first.extends sc) first.stands first.cleared
 
     -- the side that a condition picks
-    record Picked (scope : Scope) (i : Interpretation) (s : rules.State) (left right : Going) (c : run.State) (d : Expr) : Type 0 where
+    pub record Picked (scope : Scope) (i : Interpretation) (s : rules.State) (left right : Going) (c : run.State) (d : Expr) : Type 0 where
       pub test : Bool
       pub goes : Goes means world scope i s.next (cond test left right) c
       pub fits : Eventually (λ n. fit_by p n c d ≡ Ok (BoolValue test))
       pub now_is : plain.value p no_applications c d ≡ Some (BoolValue test)
 
-    picked : {scope : Scope} {i : Interpretation} {s : rules.State} {c : run.State} (d : Expr) (left right : Going) → HaveNoPerm scope → HasType p scope d type.Bool → Speaks Held applying.Applied d → IsPlain d → Stands means world scope i s c →
+    pub picked : {scope : Scope} {i : Interpretation} {s : rules.State} {c : run.State} (d : Expr) (left right : Going) → HaveNoPerm scope → HasType p scope d type.Bool → Speaks Held applying.Applied d → IsPlain d → Stands means world scope i s c →
         Cleared (eval p o d s (λ t s1. fork t s1 left right)) → Picked scope i s left right c d
     picked {c = c} d left right np t k pl st w =
         let r = eval_goes means world o parts t k (λ t s1. fork t s1 left right) st w in

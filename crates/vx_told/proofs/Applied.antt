@@ -48,7 +48,7 @@ use Rattle.vx_sound_funcs.proofs.Firm.{taken_total, Begun, begun}
 use Rattle.vx_sound_funcs.proofs.Agree.{taken_amount}
 use Rattle.vx_live.specs.Quiet.{Still}
 use Rattle.vx_live.proofs.Speaks.{Speaks, SpeaksOf}
-use Rattle.vx_live.proofs.LiveApplied.{conjoined_typed}
+use Rattle.vx_sound.proofs.Conjoined.{conjoined_typed}
 use Rattle.vx_live.proofs.Quiet.{Quiet, after, outer_left, measured_left, equations_still, name_still, still_quiet}
 use Rattle.vx_told.specs.Means.{Promise}
 use Rattle.vx_told.proofs.Woken.{woken, fact_woken, Quietly}

@@ -27,7 +27,8 @@ use Rattle.vx_sound_preds.proofs.Types.{found_type}
 use Rattle.vx_sound_funcs.proofs.Steps.{nothing_some}
 use Rattle.vx_told.specs.Measures.{IsLesser, IsBelow, lower_group, lesser_measure, Claim, HoldsFromBelow, HoldsOfAll, MeasuresInduce, GoesDown, MeasuresEnd}
 use Rattle.vx_told.specs.Measures as down
-use Rattle.vx_told.proofs.Stripped.{stripped, measure_stripped, one_measure}
+use Rattle.vx_sound.proofs.Stripped.{stripped}
+use Rattle.vx_told.proofs.Stripped.{measure_stripped, one_measure}
 use Rattle.vx_told.proofs.Names.{names_of, named_stands, without, stays_in, fewer_names}
 use Rattle.vx_told.proofs.ToldProduce.{state_same}
 use Rattle.vx_told.proofs.TypedValues.{have_types, applications_typed}

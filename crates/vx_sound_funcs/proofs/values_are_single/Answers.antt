@@ -1,4 +1,5 @@
-use Rattle.vx_sound_funcs.proofs.Fuel.{one_value, one_application}
+use Rattle.vx_sound.proofs.Fuel.{one_value}
+use Rattle.vx_sound_funcs.proofs.Fuel.{one_application}
 use Rattle.vx_sound_funcs.proofs.values_are_single.Goals as goal
 
 pub returns-clause-expressions : goal.returns-clause-expressions
