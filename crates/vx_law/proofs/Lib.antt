@@ -1,0 +1,5 @@
+pub mod Own
+pub mod Stocked
+pub mod Asks
+pub mod Tells
+pub mod Methods

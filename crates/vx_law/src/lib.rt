@@ -1,0 +1,2 @@
+//! The soundness law for the whole language.
+#![tactic(auto)]
