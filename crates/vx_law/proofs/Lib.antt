@@ -7,3 +7,5 @@ pub mod Deeper
 pub mod Evaluated
 pub mod Opened
 pub mod Firmly
+pub mod Starting
+pub mod Promised
