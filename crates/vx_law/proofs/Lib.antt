@@ -9,3 +9,4 @@ pub mod Opened
 pub mod Firmly
 pub mod Starting
 pub mod Promised
+pub mod FromBelow

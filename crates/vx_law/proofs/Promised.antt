@@ -31,7 +31,7 @@ use Rattle.vx_law.proofs.Deeper.{fits_value}
 use Rattle.vx_law.proofs.Firmly.{AreTyped, fits_firmly}
 use Rattle.vx_law.proofs.Starting.{StartKnown, start_known}
 
-abbrev result_of : Function → Declaration
+abbrev pub result_of : Function → Declaration
 result_of g = record { name = result_name; of = g.of }
 
 -- parameters with a result
@@ -69,17 +69,24 @@ module _ (p : Program) (x : Name) (replies : Name → List Reply) (typed : IsTyp
         let types = have_types p typed.functions n (applications_typed p typed.functions n) s (bound_typed g.parameters known.arguments s.store known.types known.store) {fs = result_of g ∷ []} (more t.body no_more) (v ∷ []) both in
         types.0
 
+    -- the variables have values of their types, there and with the result
+    pub store_typed : AreTyped g.parameters s.store
+    store_typed = bound_typed g.parameters known.arguments s.store known.types known.store
+
+    pub result_typed : AreTyped (g.parameters ++ result_of g ∷ []) (s.store ++ (result_name, v) ∷ [])
+    result_typed =
+        let longer = bound_more g.parameters known.arguments (result_of g) v known.types value_typed in
+        bound_typed (g.parameters ++ result_of g ∷ []) (known.arguments ++ v ∷ []) (s.store ++ (result_name, v) ∷ []) longer.1 (ap (λ (xs : Store). xs ++ (result_name, v) ∷ []) known.store ∙ longer.0)
+
     pub keeps_where_fits : EvaluatedKeep s g.body → Fits p (with_result v s) (conjoined g.place g.ensures) (BoolValue true) → EvaluatedKeep (with_result v s) (conjoined g.place g.ensures) → Keeps p g s
     keeps_where_fits body promise ensures =
         let t = typed.functions f g named in
         let sp = spoken p x typed functions amounts f g leads named in
-        let longer = bound_more g.parameters known.arguments (result_of g) v known.types value_typed in
         let scope : Scope = g.parameters ++ result_of g ∷ [] in
         record {
           value = v;
-          fits = fits_firmly p x replies typed functions pass g.parameters s (bound_typed g.parameters known.arguments s.store known.types known.store) can stock g.body g.of t.body (said_now (HasRigidArguments p) g.body (functions.says f g named)) sp.body v fits body;
-          promise = fits_firmly p x replies typed functions pass scope (with_result v s)
-              (bound_typed scope (known.arguments ++ v ∷ []) (s.store ++ (result_name, v) ∷ []) longer.1 (ap (λ (xs : Store). xs ++ (result_name, v) ∷ []) known.store ∙ longer.0)) can_with stock (conjoined g.place g.ensures) type.Bool
+          fits = fits_firmly p x replies typed functions pass g.parameters s store_typed can stock g.body g.of t.body (said_now (HasRigidArguments p) g.body (functions.says f g named)) sp.body v fits body;
+          promise = fits_firmly p x replies typed functions pass scope (with_result v s) result_typed can_with stock (conjoined g.place g.ensures) type.Bool
               (conjoined_typed p scope g.place g.ensures t.ensures) (functions.promises_now f g named) sp.ensures (BoolValue true) promise ensures;
         }
       where
