@@ -3,3 +3,10 @@ pub mod Stocked
 pub mod Asks
 pub mod Tells
 pub mod Methods
+pub mod Deeper
+pub mod Evaluated
+pub mod Opened
+pub mod Firmly
+pub mod Starting
+pub mod Promised
+pub mod FromBelow
