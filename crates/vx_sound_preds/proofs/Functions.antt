@@ -1,7 +1,7 @@
 -- A function's own walk: where its tree is cleared, giving its precondition fails nowhere; and from where it starts, its measure is
 -- allowed, its body fits, and its postcondition is true of the value. What the walk shows of applications holds of all that are
 -- evaluated with either.
-use Rattle.std.proofs.Common.{◌≡◌, ◌⊎◌, inl, inr, ℕ, zero, suc, ℤ, ◌≤◌, Bool, true, false, List, [], ◌∷◌, ◌++◌, Option, Some, None, refl, sym, ◌∙◌, ap, subst, le_of_lt, lt-suc_self, le_refl}
+use Rattle.std.proofs.Common.{◌≡◌, ◌⊎◌, inl, inr, ℕ, suc, ℤ, ◌≤◌, true, false, List, [], ◌∷◌, ◌++◌, Option, Some, None, refl, sym, ◌∙◌, ap, subst, le_of_lt, lt-suc_self}
 use Rattle.std.specs.Prelude.{Ok, Err, IsTrue}
 use Rattle.vx_frac.specs.Fractions.{Fraction, none, full, is_positive}
 use Rattle.vx_ast.specs.declared.Place.{Place}
@@ -15,7 +15,7 @@ use Rattle.vx_meaning.specs.Evaluate.{values, applications}
 use Rattle.vx_meaning.specs.Fits.{Checked, ◌>>=◌, guard, connected, Deeper, Eventually, Fits, FailsToFit, FailsToTake, Takes, fit, fit_all, take, deeper}
 use Rattle.vx_meaning.specs.Fails.{StartFails, FunctionStarts, MeasureFails, DoesNotLower, Application, evaluated, with_result, FunctionFails}
 use Rattle.vx_meaning.specs.Fails as fails
-use Rattle.vx_terms.specs.Sorts.{IntSort, SnapSort}
+use Rattle.vx_terms.specs.Sorts.{SnapSort}
 use Rattle.vx_terms.specs.Terms.{Term}
 use Rattle.vx_terms.specs.Build.{whole_amount}
 use Rattle.vx_terms.specs.Interpretations.{Interpretation, TreeElement, Tree, value}
@@ -32,27 +32,27 @@ use Rattle.vx_elements.proofs.Elements.{element, int_value_is}
 use Rattle.vx_elements.proofs.Eventually.{eventually, one_answer, no_refusal}
 use Rattle.vx_elements.proofs.Places.{IsPlace}
 use Rattle.vx_elements.proofs.Scopes.{joined_typed}
-use Rattle.vx_sound.proofs.World.{Walked, World, IsMeasured, AllMeasured}
+use Rattle.vx_sound.proofs.World.{World, IsMeasured}
 use Rattle.vx_sound.proofs.Standard.{start as start_interpretation, start_null, start_standard, IsWritten, variable_written}
 use Rattle.vx_sound.proofs.Speaks.{Speaks, AllSpeak, SpeaksOf, body_speaks}
 use Rattle.vx_sound.proofs.Conjoined.{conjoined_typed, assertion_typed, assertion_speaks}
 use Rattle.vx_sound.proofs.Passes.{Cleared}
-use Rattle.vx_sound.proofs.Stands.{ChunkStands, HeapStands, MeasureStands, OwnStands, Stands, stands_later, stands_with_store, store_append}
+use Rattle.vx_sound.proofs.Stands.{ChunkStands, HeapStands, MeasureStands, Stands, stands_later, stands_with_store, store_append}
 use Rattle.vx_sound.proofs.Elsewhere.{stands_there}
-use Rattle.vx_sound.proofs.Goes.{Evaluates, Goes, declared_all, good_fresh, stuck}
-use Rattle.vx_sound.proofs.Chunks.{Apart, taken_apart, put_together, chunk_held}
+use Rattle.vx_sound.proofs.Goes.{Goes, declared_all, good_fresh, stuck}
+use Rattle.vx_sound.proofs.Chunks.{taken_apart, put_together, chunk_held}
 use Rattle.vx_sound.proofs.Candidates.{InstanceTerms, Keys, of_instance, FirstWith, first_one, good_some, some_is}
 use Rattle.vx_sound.proofs.Evaluated.{all_known, parts_measured, of_each}
 use Rattle.vx_sound.proofs.Evaluate.{PartsGo, EvaluatesAll, eval_goes, evals_goes}
 use Rattle.vx_sound.proofs.Giving.{whole_scale}
-use Rattle.vx_sound.proofs.Assertions.{Consumes, consumed}
+use Rattle.vx_sound.proofs.Assertions.{consumed}
 use Rattle.vx_sound_preds.specs.Bodies.{Rigid, IsPlainBody, GoodBodies}
 use Rattle.vx_sound_preds.proofs.Fitting.{undo}
 use Rattle.vx_sound_preds.proofs.Frames.{entries_positive}
 use Rattle.vx_sound_preds.proofs.Adding.{added}
-use Rattle.vx_sound_preds.proofs.Holding.{HoldsInstances, nothing, amount_grows, Applying, functions_world}
-use Rattle.vx_sound_preds.proofs.Given.{holding, Gave, gave}
-use Rattle.vx_sound_preds.proofs.Produced.{SnapshotOf, Produced, produced}
+use Rattle.vx_sound_preds.proofs.Holding.{nothing, amount_grows, Applying, functions_world}
+use Rattle.vx_sound_preds.proofs.Given.{gave}
+use Rattle.vx_sound_preds.proofs.Produced.{SnapshotOf, produced}
 use Rattle.vx_sound_preds.proofs.Refusing.{refuses}
 use Rattle.vx_sound_preds.proofs.Applied.{precondition_of}
 
@@ -227,7 +227,7 @@ module _ (means : Meaning) (p : Program) (good : GoodBodies p) (Held : Name → 
         let snap : SnapshotOf means p good Held no_perm true (before_body Applied) b.state.next b.interp base (precondition_of g) b.snapshot =
         record { good_term = b.good_snapshot; written = b.written; fuel = k.there.fuel; tree = k.there.tree; is = k.there.is; value_is = b.worth } in
         let r = produced means p good Held no_perm true (before_body Applied) o parts (IsConsistent p) full (precondition_of g) g.parameters base k.entries_of says.typed.parameters pre_typed (body_speaks Held Applied (precondition_of g) says.asks) says.plain k.entries_are k.holds
-            b.interp b.state whole_amount (Some b.snapshot) (from_measure p o f g g.decreases) snap (whole_scale means outside b.state.next b.interp) b.stands b.cleared in
+        b.interp b.state whole_amount (Some b.snapshot) (from_measure p o f g g.decreases) snap (whole_scale means outside b.state.next b.interp) b.stands b.cleared in
         let least = λ (r : run.Resource). amount_grows p good Held true full k.entries_of [] r full-positive (entries_positive p base (precondition_of g) k.entries_of says.plain k.entries_are) in
         let same = is ∙ ap run.from_now k.is in
         record {
@@ -386,9 +386,9 @@ module _ (means : Meaning) (p : Program) (good : GoodBodies p) (Held : Name → 
           let r = eval_goes means (inside f z Measured) o inner says.typed.body says.body after st en.cleared in
           let with_value : Stands means (inside f z Measured) scope r.interp (rules.declare result_name r.term r.state) (with_result r.result s) =
           stands_with_store means (inside f z Measured) scope (r.state.store ++ (result_name, r.term) ∷ []) (s.store ++ (result_name, r.result) ∷ []) r.stands
-              (store_append means (inside f z Measured) g.parameters r.state.store s.store result (result_name, r.term) (result_name, r.result) r.stands.store (record { symbolic_name = refl; name = refl; typed = r.typed; good = r.good; value_is = r.value_is })) in
+          (store_append means (inside f z Measured) g.parameters r.state.store s.store result (result_name, r.term) (result_name, r.result) r.stands.store (record { symbolic_name = refl; name = refl; typed = r.typed; good = r.good; value_is = r.value_is })) in
           let c = consumed means (inside f z Measured) o inner promise full (assertion_typed p scope (conjoined g.place g.ensures) (conjoined_typed p scope g.place g.ensures says.typed.ensures)) (assertion_speaks Held Applied (conjoined g.place g.ensures) says.ensures)
-              (codes PostCode PostCode) whole_amount (λ t s2. End) (whole_scale means (inside f z Measured) r.state.next r.interp) with_value r.cleared in
+          (codes PostCode PostCode) whole_amount (λ t s2. End) (whole_scale means (inside f z Measured) r.state.next r.interp) with_value r.cleared in
           record {
             result = r.result;
             typed = r.typed;

@@ -33,6 +33,7 @@ pub mod Mentioning
 pub mod Walks
 pub mod Keeping
 pub mod Kept
+pub mod FunctionWalks
 pub mod Soundness
 pub mod Worked
 pub mod WorkedFolds
