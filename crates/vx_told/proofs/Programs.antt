@@ -1,8 +1,7 @@
 -- In a typed program the parts of what a member leads to lead on along quiet walks.
 use Rattle.std.proofs.Common.{◌≡◌, inl, inr, ℕ, List, [], ◌∷◌, ◌++◌, Option, Some, refl, sym, subst}
 use Rattle.std.specs.Prelude.{flat_map}
-use Rattle.vx_ast.specs.declared.Place.{Place}
-use Rattle.vx_ast.specs.Syntax.{Name, Program, Kind, Function, Predicate, function_named, predicate_named, member_named, Expr, Number, Truth, Null, Part, Variable, Not, Operate, Divide, Connect, Choose, Read, Old, Apply, Unfolding, Exprs, NoMore, More, Assertion, Both, joined, joined_with}
+use Rattle.vx_ast.specs.Syntax.{Name, Program, Kind, Function, Predicate, function_named, predicate_named, member_named, Expr, Number, Truth, Null, Part, Variable, Not, Operate, Divide, Connect, Choose, Read, Old, Apply, Unfolding, Exprs, NoMore, More, Assertion}
 use Rattle.vx_ast.specs.Mentions.{mentioned, mentioned_in, mentioned_by, mentioned_by_function}
 use Rattle.vx_ast.specs.Apart.{Stands}
 use Rattle.vx_types.specs.Typing.{IsTyped}
