@@ -28,6 +28,7 @@ pub mod Folded
 pub mod Consumed
 pub mod Applied
 pub mod Functions
+pub mod Lowered
 pub mod Speaking
 pub mod Mentioning
 pub mod Walks
