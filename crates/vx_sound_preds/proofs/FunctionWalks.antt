@@ -15,15 +15,17 @@ use Rattle.vx_whole.specs.Premises.{IsTypedProgram}
 use Rattle.vx_whole.specs.Closure.{mentioned_by_measure, mentioned_by_kind, InClosure, further}
 use Rattle.vx_elements.proofs.Settled.{Meaning}
 use Rattle.vx_sound.specs.Law.{Passes}
+use Rattle.vx_sound.proofs.World.{World}
+use Rattle.vx_sound.proofs.Measures.{MeasureSpeaks}
 use Rattle.vx_sound.proofs.Conjoined.{conjoined_typed}
 use Rattle.vx_sound.proofs.Passes.{cleared}
 use Rattle.vx_sound.proofs.Evaluate.{PartsGo}
 use Rattle.vx_sound_preds.specs.Bodies.{Rigid, IsPlainBody}
 use Rattle.vx_sound_preds.proofs.Speaking.{AllSeen, lefts, rights, joined_seen, conjoined_seen, plain_body, good, no_perm, speak}
 use Rattle.vx_sound_preds.proofs.Mentioning.{function_member, MayApply, expression, expressions}
-use Rattle.vx_sound_preds.proofs.Holding.{Applying}
+use Rattle.vx_sound_preds.proofs.Holding.{Applying, functions_world}
 use Rattle.vx_sound_preds.proofs.Unfolds.{AppliesBy, parts_go}
-use Rattle.vx_sound_preds.proofs.Applied.{precondition_of}
+use Rattle.vx_sound_preds.proofs.Applied.{precondition_of, AllAsk}
 use Rattle.vx_sound_preds.proofs.Functions.{IsNumberOf, OwnWalk, before_body, in_body_of, MeasureSays, IsWalkable, outside, inside, own_walks, never_fails}
 
 module _ (p : Program) (x : Name) (typed : IsTypedProgram p) (f : Name) (g : Function) (held : InClosure p x f) (named : function_named p f ≡ Some g) (plain : IsPlainBody p Rigid (precondition_of g)) (Applied : Name → Type 0) (may : MayApply p x Applied) where
@@ -76,3 +78,17 @@ module _ (p : Program) (x : Name) (typed : IsTypedProgram p) (f : Name) (g : Fun
       -- so it doesn't fail, where this refutes applications that don't lower its measure
       pub function_sound_by : ((s : run.State) → FunctionStarts p g s → (a : Application) → Measured s s.heap a.0 a.1 → DoesNotLower p f g.decreases s a → ⊥) → FunctionFails p f g → ⊥
       function_sound_by = never_fails means p (good p x typed) (InClosure p x) (no_perm p x typed) Applied (member_rules p) parts f g walkable (cleared (tree p f (IsFunction g)) replies pass.0 pass.1) Measured inner
+
+-- what is asked of the functions that may be applied, where they are among those that x leads to
+module _ (means : Meaning) (p : Program) (x : Name) (typed : IsTypedProgram p) (plain : (f : Name) (g : Function) → InClosure p x f → function_named p f ≡ Some g → IsPlainBody p Rigid (precondition_of g))
+    (applying : Applying) (seen : (f : Name) → applying.Applied f → InClosure p x f) (may : MayApply p x applying.Applied) where
+  measure_speaks : (w : World) (m : Option Measure) → MeasureSays w.Held w.Applied m → MeasureSpeaks means w m
+  measure_speaks w None k = tt
+  measure_speaks w (Some (ByNumber e)) k = k
+  measure_speaks w (Some (ByInstance at i es)) k = k
+
+  pub all_ask : AllAsk means p (good p x typed) (InClosure p x) (no_perm p x typed) applying
+  all_ask f g allowed named =
+      let held = seen f allowed in
+      let k = walkable p x typed f g held named (plain f g held named) applying.Applied may in
+      record { typed = k.typed; speaks = k.asks; plain = k.plain; measure = measure_speaks (functions_world p (good p x typed) (InClosure p x) (no_perm p x typed) true applying) g.decreases k.measure }
