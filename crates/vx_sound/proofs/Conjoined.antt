@@ -1,5 +1,5 @@
 -- Postconditions that are joined, and taken apart again: they are typed, and speak of what each speaks of.
-use Rattle.std.proofs.Common.{true, List, [], ◌∷◌}
+use Rattle.std.proofs.Common.{List, [], ◌∷◌}
 use Rattle.vx_ast.specs.declared.Place.{Place}
 use Rattle.vx_ast.specs.declared.ValueType.TheVariants as type
 use Rattle.vx_ast.specs.Syntax.{Name, Program, conjoined, conjoined_with, as_assertion, place_of, And, Or, Implies, Expr, Number, Truth, Null, Part, Variable, Not, Operate, Divide, Connect, Choose, Read, Old, Apply, Unfolding}

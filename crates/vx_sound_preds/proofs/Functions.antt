@@ -1,21 +1,21 @@
 -- A function's own walk: where its tree is cleared, giving its precondition fails nowhere; and from where it starts, its measure is
 -- allowed, its body fits, and its postcondition is true of the value. What the walk shows of applications holds of all that are
 -- evaluated with either.
-use Rattle.std.proofs.Common.{◌≡◌, ◌⊎◌, inl, inr, ℕ, zero, suc, ℤ, ◌≤◌, Bool, true, List, [], ◌∷◌, ◌++◌, Option, Some, None, refl, sym, ◌∙◌, ap, subst, le_of_lt, lt-suc_self, le_refl}
+use Rattle.std.proofs.Common.{◌≡◌, ◌⊎◌, inl, inr, ℕ, suc, ℤ, ◌≤◌, true, false, List, [], ◌∷◌, ◌++◌, Option, Some, None, refl, sym, ◌∙◌, ap, subst, le_of_lt, lt-suc_self}
 use Rattle.std.specs.Prelude.{Ok, Err, IsTrue}
-use Rattle.vx_frac.specs.Fractions.{none, full, is_positive}
+use Rattle.vx_frac.specs.Fractions.{Fraction, none, full, is_positive}
 use Rattle.vx_ast.specs.declared.Place.{Place}
-use Rattle.vx_ast.specs.Syntax.{Name, result_name, Declaration, Program, Predicate, Function, predicate_named, conjoined, as_assertion, Expr, Exprs, Assertion, Measure, ByNumber, ByInstance}
-use Rattle.vx_meaning.specs.Values.{Value, IntValue, type_of}
+use Rattle.vx_ast.specs.Syntax.{Name, result_name, Declaration, Program, Predicate, Function, predicate_named, conjoined, as_assertion, And, Or, Implies, Expr, Exprs, Number, Truth, Null, Part, Variable, Not, Operate, Divide, Connect, Choose, Read, Old, Apply, Unfolding, Assertion, Measure, ByNumber, ByInstance}
+use Rattle.vx_meaning.specs.Values.{Value, IntValue, BoolValue, RefValue, PermValue, type_of, is_true}
 use Rattle.vx_meaning.specs.States as run
 use Rattle.vx_meaning.specs.States.{bind}
 use Rattle.vx_meaning.specs.Flatten.{bare}
 use Rattle.vx_meaning.specs.Consistent.{IsConsistent}
 use Rattle.vx_meaning.specs.Evaluate.{values, applications}
-use Rattle.vx_meaning.specs.Fits.{Eventually, Fits, FailsToFit, FailsToTake, Takes, fit_all, deeper}
+use Rattle.vx_meaning.specs.Fits.{Checked, ◌>>=◌, guard, connected, Deeper, Eventually, Fits, FailsToFit, FailsToTake, Takes, fit, fit_all, take, deeper}
 use Rattle.vx_meaning.specs.Fails.{StartFails, FunctionStarts, MeasureFails, DoesNotLower, Application, evaluated, with_result, FunctionFails}
 use Rattle.vx_meaning.specs.Fails as fails
-use Rattle.vx_terms.specs.Sorts.{IntSort, SnapSort}
+use Rattle.vx_terms.specs.Sorts.{SnapSort}
 use Rattle.vx_terms.specs.Terms.{Term}
 use Rattle.vx_terms.specs.Build.{whole_amount}
 use Rattle.vx_terms.specs.Interpretations.{Interpretation, TreeElement, Tree, value}
@@ -32,28 +32,59 @@ use Rattle.vx_elements.proofs.Elements.{element, int_value_is}
 use Rattle.vx_elements.proofs.Eventually.{eventually, one_answer, no_refusal}
 use Rattle.vx_elements.proofs.Places.{IsPlace}
 use Rattle.vx_elements.proofs.Scopes.{joined_typed}
-use Rattle.vx_sound.proofs.World.{Walked, World, IsMeasured, AllMeasured}
+use Rattle.vx_sound.proofs.World.{World, IsMeasured}
 use Rattle.vx_sound.proofs.Standard.{start as start_interpretation, start_null, start_standard, IsWritten, variable_written}
 use Rattle.vx_sound.proofs.Speaks.{Speaks, AllSpeak, SpeaksOf, body_speaks}
 use Rattle.vx_sound.proofs.Conjoined.{conjoined_typed, assertion_typed, assertion_speaks}
 use Rattle.vx_sound.proofs.Passes.{Cleared}
-use Rattle.vx_sound.proofs.Stands.{ChunkStands, HeapStands, MeasureStands, OwnStands, Stands, stands_later, stands_with_store, store_append}
+use Rattle.vx_sound.proofs.Stands.{ChunkStands, HeapStands, MeasureStands, Stands, stands_later, stands_with_store, store_append}
 use Rattle.vx_sound.proofs.Elsewhere.{stands_there}
-use Rattle.vx_sound.proofs.Goes.{Evaluates, Goes, declared_all, good_fresh, stuck}
-use Rattle.vx_sound.proofs.Chunks.{Apart, taken_apart, put_together, chunk_held}
+use Rattle.vx_sound.proofs.Goes.{Goes, declared_all, good_fresh, stuck}
+use Rattle.vx_sound.proofs.Chunks.{taken_apart, put_together, chunk_held}
 use Rattle.vx_sound.proofs.Candidates.{InstanceTerms, Keys, of_instance, FirstWith, first_one, good_some, some_is}
 use Rattle.vx_sound.proofs.Evaluated.{all_known, parts_measured, of_each}
 use Rattle.vx_sound.proofs.Evaluate.{PartsGo, EvaluatesAll, eval_goes, evals_goes}
 use Rattle.vx_sound.proofs.Giving.{whole_scale}
-use Rattle.vx_sound.proofs.Assertions.{Consumes, consumed}
+use Rattle.vx_sound.proofs.Assertions.{consumed}
 use Rattle.vx_sound_preds.specs.Bodies.{Rigid, IsPlainBody, GoodBodies}
+use Rattle.vx_sound_preds.proofs.Fitting.{undo}
 use Rattle.vx_sound_preds.proofs.Frames.{entries_positive}
 use Rattle.vx_sound_preds.proofs.Adding.{added}
-use Rattle.vx_sound_preds.proofs.Holding.{HoldsInstances, nothing, amount_grows, Applying, functions_world}
-use Rattle.vx_sound_preds.proofs.Given.{holding, Gave, gave}
-use Rattle.vx_sound_preds.proofs.Produced.{SnapshotOf, Produced, produced}
+use Rattle.vx_sound_preds.proofs.Holding.{nothing, amount_grows, Applying, functions_world}
+use Rattle.vx_sound_preds.proofs.Given.{gave}
+use Rattle.vx_sound_preds.proofs.Produced.{SnapshotOf, produced}
 use Rattle.vx_sound_preds.proofs.Refusing.{refuses}
 use Rattle.vx_sound_preds.proofs.Applied.{precondition_of}
+
+-- what is taken of a pure assertion, however it is taken apart, is true
+pure_true : (at : Place) (h left : run.Holdings) (x : Checked Value) → (x >>= λ v. guard at (is_true v) >>= λ _. Ok h) ≡ Ok left → x ≡ Ok (BoolValue true)
+pure_true at h left (Ok (BoolValue true)) e = refl
+pure_true at h left (Ok (BoolValue false)) e = cc
+pure_true at h left (Ok (IntValue z)) e = cc
+pure_true at h left (Ok (RefValue r)) e = cc
+pure_true at h left (Ok (PermValue q)) e = cc
+pure_true at h left (Err place) e = cc
+
+module _ (p : Program) (d : Deeper) (s : run.State) (q : Fraction) where
+  pub taken_true : (e : Expr) (h left : run.Holdings) → take p d s q (as_assertion e) h ≡ Ok left → fit p d s e ≡ Ok (BoolValue true)
+  taken_true (Connect at And a b) h left k =
+      let x = undo (take p d s q (as_assertion a) h) (λ rest. take p d s q (as_assertion b) rest) left k in
+      ap (λ (y : Checked Value). y >>= λ v. connected at And v (fit p d s b)) (taken_true a h x.it x.is) ∙ taken_true b x.it left x.then
+  taken_true (Connect at Or a b) h left k = pure_true at h left (fit p d s (Connect at Or a b)) k
+  taken_true (Connect at Implies a b) h left k = pure_true at h left (fit p d s (Connect at Implies a b)) k
+  taken_true (Number at n) h left k = pure_true at h left (fit p d s (Number at n)) k
+  taken_true (Truth at b) h left k = pure_true at h left (fit p d s (Truth at b)) k
+  taken_true (Null at) h left k = pure_true at h left (fit p d s (Null at)) k
+  taken_true (Part at n m) h left k = pure_true at h left (fit p d s (Part at n m)) k
+  taken_true (Variable at x) h left k = pure_true at h left (fit p d s (Variable at x)) k
+  taken_true (Not at e) h left k = pure_true at h left (fit p d s (Not at e)) k
+  taken_true (Operate at op a b) h left k = pure_true at h left (fit p d s (Operate at op a b)) k
+  taken_true (Divide at op a b) h left k = pure_true at h left (fit p d s (Divide at op a b)) k
+  taken_true (Choose at c a b) h left k = pure_true at h left (fit p d s (Choose at c a b)) k
+  taken_true (Read at e f) h left k = pure_true at h left (fit p d s (Read at e f)) k
+  taken_true (Old at e) h left k = pure_true at h left (fit p d s (Old at e)) k
+  taken_true (Apply at f es) h left k = pure_true at h left (fit p d s (Apply at f es)) k
+  taken_true (Unfolding at i es share e) h left k = pure_true at h left (fit p d s (Unfolding at i es share e)) k
 
 -- the number of a measure where a function starts, if it is one
 abbrev pub IsNumberOf : Program → run.State → Option Measure → Option ℤ → Type 0
@@ -69,6 +100,7 @@ pub record OwnWalk (p : Program) (g : Function) (Measured : Name → List Value 
   pub fits : Fits p s g.body result
   pub left : run.Holdings
   pub takes : Takes p (with_result result s) (as_assertion (conjoined g.place g.ensures)) full left
+  pub kept : Fits p (with_result result s) (conjoined g.place g.ensures) (BoolValue true)
   pub in_body : (a : Application) → fails.Evaluates p s g.body a → Measured a.0 a.1
   pub in_postcondition : (a : Application) → fails.Evaluates p (with_result result s) (conjoined g.place g.ensures) a → Measured a.0 a.1
 
@@ -195,7 +227,7 @@ module _ (means : Meaning) (p : Program) (good : GoodBodies p) (Held : Name → 
         let snap : SnapshotOf means p good Held no_perm true (before_body Applied) b.state.next b.interp base (precondition_of g) b.snapshot =
         record { good_term = b.good_snapshot; written = b.written; fuel = k.there.fuel; tree = k.there.tree; is = k.there.is; value_is = b.worth } in
         let r = produced means p good Held no_perm true (before_body Applied) o parts (IsConsistent p) full (precondition_of g) g.parameters base k.entries_of says.typed.parameters pre_typed (body_speaks Held Applied (precondition_of g) says.asks) says.plain k.entries_are k.holds
-            b.interp b.state whole_amount (Some b.snapshot) (from_measure p o f g g.decreases) snap (whole_scale means outside b.state.next b.interp) b.stands b.cleared in
+        b.interp b.state whole_amount (Some b.snapshot) (from_measure p o f g g.decreases) snap (whole_scale means outside b.state.next b.interp) b.stands b.cleared in
         let least = λ (r : run.Resource). amount_grows p good Held true full k.entries_of [] r full-positive (entries_positive p base (precondition_of g) k.entries_of says.plain k.entries_are) in
         let same = is ∙ ap run.from_now k.is in
         record {
@@ -354,16 +386,35 @@ module _ (means : Meaning) (p : Program) (good : GoodBodies p) (Held : Name → 
           let r = eval_goes means (inside f z Measured) o inner says.typed.body says.body after st en.cleared in
           let with_value : Stands means (inside f z Measured) scope r.interp (rules.declare result_name r.term r.state) (with_result r.result s) =
           stands_with_store means (inside f z Measured) scope (r.state.store ++ (result_name, r.term) ∷ []) (s.store ++ (result_name, r.result) ∷ []) r.stands
-              (store_append means (inside f z Measured) g.parameters r.state.store s.store result (result_name, r.term) (result_name, r.result) r.stands.store (record { symbolic_name = refl; name = refl; typed = r.typed; good = r.good; value_is = r.value_is })) in
+          (store_append means (inside f z Measured) g.parameters r.state.store s.store result (result_name, r.term) (result_name, r.result) r.stands.store (record { symbolic_name = refl; name = refl; typed = r.typed; good = r.good; value_is = r.value_is })) in
           let c = consumed means (inside f z Measured) o inner promise full (assertion_typed p scope (conjoined g.place g.ensures) (conjoined_typed p scope g.place g.ensures says.typed.ensures)) (assertion_speaks Held Applied (conjoined g.place g.ensures) says.ensures)
-              (codes PostCode PostCode) whole_amount (λ t s2. End) (whole_scale means (inside f z Measured) r.state.next r.interp) with_value r.cleared in
+          (codes PostCode PostCode) whole_amount (λ t s2. End) (whole_scale means (inside f z Measured) r.state.next r.interp) with_value r.cleared in
           record {
             result = r.result;
             typed = r.typed;
             fits = r.fits;
             left = c.left;
             takes = c.takes;
+            kept = eventually c.takes (λ n k. taken_true p (deeper p n) (with_result r.result s) full (conjoined g.place g.ensures) s.holdings c.left k);
             in_body = λ a ev. in_one s same a (of_each (IsMeasured (inside f z Measured) s) (evaluated p ev.0 s g.body) a (r.measured ev.0) ev.1);
             in_postcondition = λ a ev. in_one (with_result r.result s) same a
                 (of_each (IsMeasured (inside f z Measured) (with_result r.result s)) (evaluated p ev.0 (with_result r.result s) (conjoined g.place g.ensures)) a (parts_measured (inside f z Measured) (with_result r.result s) (conjoined g.place g.ensures) c.measured ev.0) ev.1);
           }
+
+    -- The function as a whole, where what is shown of the parts is given for each start
+
+    module _ (Measured : run.State → run.Heap → Name → List Value → Type 0) (inner : (s : run.State) → FunctionStarts p g s → (z : Option ℤ) → IsNumberOf p s g.decreases z → PartsGo means (inside f z (Measured s)) o) where
+      pub own_walks : (s : run.State) → FunctionStarts p g s → OwnWalk p g (Measured s s.heap) s
+      own_walks s starts = let m = at_measure s starts in own_walk m.number (Measured s) (inner s starts m.number m.is) s (at_start s starts).old_is m.entered
+
+      pub never_fails : ((s : run.State) → FunctionStarts p g s → (a : Application) → Measured s s.heap a.0 a.1 → DoesNotLower p f g.decreases s a → ⊥) → FunctionFails p f g → ⊥
+      never_fails lowers (fails.precondition vs at types k) = no_start_fails vs at types k
+      never_fails lowers (fails.body s at starts k) = let w = own_walks s starts in no_refusal w.result at w.fits k
+      never_fails lowers (fails.postcondition s v at starts fits k) =
+          let w = own_walks s starts in
+          no_refusal w.left at w.takes (subst (λ (v : Value). FailsToTake p (with_result v s) (as_assertion (conjoined g.place g.ensures)) full at) (one_answer v w.result fits w.fits) k)
+      never_fails lowers (fails.measure s e starts is k) = (at_measure s starts).allowed e is k
+      never_fails lowers (fails.application_in_body s a starts k less) = lowers s starts a ((own_walks s starts).in_body a k) less
+      never_fails lowers (fails.application_in_postcondition s v a starts fits k less) =
+          let w = own_walks s starts in
+          lowers s starts a (w.in_postcondition a (subst (λ (v : Value). fails.Evaluates p (with_result v s) (conjoined g.place g.ensures) a) (one_answer v w.result fits w.fits) k)) less

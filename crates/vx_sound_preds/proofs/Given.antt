@@ -12,7 +12,7 @@ use Rattle.vx_meaning.specs.Evaluate as plain
 use Rattle.vx_meaning.specs.Evaluate.{value, values}
 use Rattle.vx_meaning.specs.Flatten.{no_applications, bare, entries, location_entry, instance_entry}
 use Rattle.vx_meaning.specs.Consistent.{IsConsistent}
-use Rattle.vx_meaning.specs.Fits.{Checked, location_of, amount_of, fit_by, fit_all, deeper}
+use Rattle.vx_meaning.specs.Fits.{location_of, amount_of, fit_by, deeper}
 use Rattle.vx_meaning.specs.Outcomes.{Ends, passes, refused, goes_on, is_over, ends, stops}
 use Rattle.vx_meaning.specs.Give.{give, give_part, when, side}
 use Rattle.vx_terms.specs.Interpretations.{Tree, Empty, Pair}
@@ -22,7 +22,7 @@ use Rattle.vx_amounts.proofs.Products.{product_sign, positive_le}
 use Rattle.vx_sound.specs.Snapshots.{leaf, location_leaf, truth_leaf, assertion_tree, tree_by}
 use Rattle.vx_sound.proofs.World.{IsTypedInstance, IsTypedResource}
 use Rattle.vx_sound.proofs.Speaks.{SpeaksOf}
-use Rattle.vx_sound_preds.specs.Bodies.{AreRigid, Rigid, IsPlain, ArePlain, IsPlainBody, GoodBodies}
+use Rattle.vx_sound_preds.specs.Bodies.{Rigid, IsPlain, IsPlainBody, GoodBodies}
 use Rattle.vx_sound_preds.proofs.Fitting.{step, some_is}
 use Rattle.vx_sound_preds.proofs.Flats.{assertion_more, tree_later}
 use Rattle.vx_sound_preds.proofs.Looks.{Sees, value_seen, values_seen}

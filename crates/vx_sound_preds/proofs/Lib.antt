@@ -28,11 +28,13 @@ pub mod Folded
 pub mod Consumed
 pub mod Applied
 pub mod Functions
+pub mod Lowered
 pub mod Speaking
 pub mod Mentioning
 pub mod Walks
 pub mod Keeping
 pub mod Kept
+pub mod FunctionWalks
 pub mod Soundness
 pub mod Worked
 pub mod WorkedFolds

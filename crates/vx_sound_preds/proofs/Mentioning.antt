@@ -48,7 +48,7 @@ module _ (p : Program) (x : Name) where
 
   module _ (applying : Applying) (may : MayApply applying.Applied) where
     mutual
-      expression : {scope : Scope} {e : Expr} {t : ValueType} → HasType p scope e t → AllSeen (mentioned e) → Speaks Held applying.Applied e
+      pub expression : {scope : Scope} {e : Expr} {t : ValueType} → HasType p scope e t → AllSeen (mentioned e) → Speaks Held applying.Applied e
       expression (number at n) s = tt
       expression (truth) s = tt
       expression (nulls at) s = tt
@@ -77,7 +77,7 @@ module _ (p : Program) (x : Name) where
             expression h (rights (mentioned_in es ++ mentioned share) (mentioned e) rest),
           )
 
-      expressions : {scope : Scope} {es : Exprs} {ds : List Declaration} → HaveTypes p scope es ds → AllSeen (mentioned_in es) → AllSpeak Held applying.Applied es
+      pub expressions : {scope : Scope} {es : Exprs} {ds : List Declaration} → HaveTypes p scope es ds → AllSeen (mentioned_in es) → AllSpeak Held applying.Applied es
       expressions no_more s = tt
       expressions (more {e = e} {es = es} h hs) s = (expression h (lefts (mentioned e) (mentioned_in es) s), expressions hs (rights (mentioned e) (mentioned_in es) s))
 

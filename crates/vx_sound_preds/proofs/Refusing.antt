@@ -1,6 +1,6 @@
 -- Where giving an assertion fails, no walk that produces it is cleared, also with a snapshot: its term may be worth a tree that
 -- is right up to the part that fails.
-use Rattle.std.proofs.Common.{◌≡◌, inl, inr, ℕ, Bool, true, false, cond, List, ◌∷◌, Some, refl, sym, ◌∙◌, ap, subst, true≢false}
+use Rattle.std.proofs.Common.{◌≡◌, inl, inr, Bool, true, false, cond, List, Some, refl, sym, ◌∙◌, ap, subst}
 use Rattle.vx_frac.specs.Fractions.{full}
 use Rattle.vx_ast.specs.declared.Place.{Place}
 use Rattle.vx_ast.specs.Syntax.{Name, Declaration, Program, Predicate, predicate_named, Expr, Assertion, Pure, Points, Both, Implied, Chosen}
@@ -9,8 +9,7 @@ use Rattle.vx_meaning.specs.Values.{Value, BoolValue, is_true}
 use Rattle.vx_meaning.specs.States as run
 use Rattle.vx_meaning.specs.States.{Heap, Holdings, At, Folded}
 use Rattle.vx_meaning.specs.Consistent.{IsConsistent}
-use Rattle.vx_meaning.specs.Fits.{Eventually, Fits}
-use Rattle.vx_meaning.specs.Outcomes.{FailsAt, Ends, passes, refused, goes_on, is_over, ends, stops}
+use Rattle.vx_meaning.specs.Outcomes.{FailsAt, passes, refused, goes_on, is_over, ends, stops}
 use Rattle.vx_meaning.specs.Give.{give, when}
 use Rattle.vx_terms.specs.Sorts.{SnapSort}
 use Rattle.vx_terms.specs.Terms.{Term}
@@ -21,7 +20,7 @@ use Rattle.vx_rules.specs.Trees.{Step}
 use Rattle.vx_rules.specs.Chunks.{field_key, instance_key, put}
 use Rattle.vx_rules.specs.Rules.{Going, Outer, field_sort, produced_value, after_value, produced_snapshot, after_snapshot, with_split, with_unit, produce}
 use Rattle.vx_types.specs.Typing.{HaveNoPerm, IsTyped}
-use Rattle.vx_elements.proofs.Settled.{Meaning, Extends, value_kept}
+use Rattle.vx_elements.proofs.Settled.{Meaning, value_kept}
 use Rattle.vx_elements.proofs.Built.{Good, good_later}
 use Rattle.vx_elements.proofs.Eventually.{one_answer, no_refusal}
 use Rattle.vx_sound.proofs.World.{World}
@@ -36,7 +35,7 @@ use Rattle.vx_sound_preds.specs.Bodies.{Rigid, IsPlainBody, GoodBodies}
 use Rattle.vx_sound_preds.proofs.Adding.{added}
 use Rattle.vx_sound_preds.proofs.Holding.{HoldsInstances, Applying, functions_world}
 use Rattle.vx_sound_preds.proofs.Given.{holding, gave}
-use Rattle.vx_sound_preds.proofs.Produced.{SnapshotOf, PartsOf, parts_of, Produced, produced, picked}
+use Rattle.vx_sound_preds.proofs.Produced.{SnapshotOf, parts_of, produced, picked}
 
 module _ (means : Meaning) (p : Program) (good : GoodBodies p) (Held : Name → Type 0) (no_perm : (x : Name) (d : Predicate) → predicate_named p x ≡ Some d → HaveNoPerm d.parameters) (applying : Applying)
     (o : Outer) (parts : PartsGo means (functions_world p good Held no_perm true applying) o)
@@ -59,68 +58,91 @@ module _ (means : Meaning) (p : Program) (good : GoodBodies p) (Held : Name → 
       never : (b : Bool) → when b (ends (at_holdings hs)) stops (FailsAt place) → ⊥
       never true r = r
       never false r = r
-  refuses (Pure e) hs place ty pl sp k (refused at ev r) = (Empty, λ i s scale t on gt wt is sc st w.
-      let z = eval_goes means world o parts ty (speaks_anyway Held applying.Applied e sp) (λ u s1. Step (on (with_unit (Some t) (rules.with_fact u s1)))) st w in
-      no_refusal z.result at z.fits ev)
+  refuses (Pure e) hs place ty pl sp k (refused at ev r) = (
+    Empty,
+    λ i s scale t on gt wt is sc st w.
+        let z = eval_goes means world o parts ty (speaks_anyway Held applying.Applied e sp) (λ u s1. Step (on (with_unit (Some t) (rules.with_fact u s1)))) st w in
+        no_refusal z.result at z.fits ev,
+  )
   refuses (Points at e f share) hs place ty pl sp k (passes part ev (inl r)) = absurd r.1
   refuses (Points at e f share) hs place ty pl sp k (passes part ev (inr r)) = absurd r.1
-  refuses (Points at e f share) hs place ty pl sp k (refused other ev r) = (Empty, λ i s scale t on gt wt is sc st w.
-      let after = λ (r a : Term) (s3 : rules.State). Step (on (put (record (field_key f r) { amount = a; value = produced_value (field_sort p f) (Some t) s3; inner = s.inner }) (after_value (field_sort p f) (Some t) s3))) in
-      let l = located means world o parts at f scale full after ty.0 (speaks_anyway Held applying.Applied e sp.0) ty.2 (speaks_anyway Held applying.Applied share sp.1) sc st w in
-      no_refusal (At record { receiver = l.reference; field = f }, l.fraction) other l.part ev)
+  refuses (Points at e f share) hs place ty pl sp k (refused other ev r) = (
+    Empty,
+    λ i s scale t on gt wt is sc st w.
+        let after = λ (r a : Term) (s3 : rules.State). Step (on (put (record (field_key f r) { amount = a; value = produced_value (field_sort p f) (Some t) s3; inner = s.inner }) (after_value (field_sort p f) (Some t) s3))) in
+        let l = located means world o parts at f scale full after ty.0 (speaks_anyway Held applying.Applied e sp.0) ty.2 (speaks_anyway Held applying.Applied share sp.1) sc st w in
+        no_refusal (At record { receiver = l.reference; field = f }, l.fraction) other l.part ev,
+  )
   refuses (syntax.Instance at x es share) hs place ty pl sp k (passes part ev (inl r)) = absurd r.1
   refuses (syntax.Instance at x es share) hs place ty pl sp k (passes part ev (inr r)) = absurd r.1
-  refuses (syntax.Instance at x es share) hs place ty pl sp k (refused other ev r) = (Empty, λ i s scale t on gt wt is sc st w.
-      let after = λ (ts : List Term) (a : Term) (s3 : rules.State). Step (on (put (record (instance_key x ts) { amount = a; value = produced_snapshot (Some t) s3; inner = s.inner }) (after_snapshot (Some t) s3))) in
-      let l = instance_located means world o parts at x ty.0.0 scale full after sp.0 ty.0.1 ty.0.2 (all_speak_anyway Held applying.Applied es sp.1) ty.1 (speaks_anyway Held applying.Applied share sp.2) sc st w in
-      no_refusal (Folded record { predicate = x; arguments = l.results }, l.fraction) other l.part ev)
+  refuses (syntax.Instance at x es share) hs place ty pl sp k (refused other ev r) = (
+    Empty,
+    λ i s scale t on gt wt is sc st w.
+        let after = λ (ts : List Term) (a : Term) (s3 : rules.State). Step (on (put (record (instance_key x ts) { amount = a; value = produced_snapshot (Some t) s3; inner = s.inner }) (after_snapshot (Some t) s3))) in
+        let l = instance_located means world o parts at x ty.0.0 scale full after sp.0 ty.0.1 ty.0.2 (all_speak_anyway Held applying.Applied es sp.1) ty.1 (speaks_anyway Held applying.Applied share sp.2) sc st w in
+        no_refusal (Folded record { predicate = x; arguments = l.results }, l.fraction) other l.part ev,
+  )
   refuses (Both a b) hs place ty pl sp k (is_over over x) =
-      let r = refuses a hs place ty.0 pl.0 sp.0 k x in
-      (Pair r.0 Empty, λ i s scale t on gt wt is sc st w.
-      let m = parts_of means p good Held no_perm true applying t r.0 Empty st gt wt is in
-      r.1 i (with_split (Some t) s) scale (first t) (λ s1. produce p o b scale (Some (second t)) s1 on) (subst (λ n. Good means n i (first t) SnapSort) (sym m.next_is) m.first_good) m.first_written m.first_is
-          (subst (λ n. ScaleStands means world n i scale full) (sym m.next_is) sc) m.stands w)
+      let r = refuses a hs place ty.0 pl.0 sp.0 k x in (
+        Pair r.0 Empty,
+        λ i s scale t on gt wt is sc st w.
+            let m = parts_of means p good Held no_perm true applying t r.0 Empty st gt wt is in
+            r.1 i (with_split (Some t) s) scale (first t) (λ s1. produce p o b scale (Some (second t)) s1 on) (subst (λ n. Good means n i (first t) SnapSort) (sym m.next_is) m.first_good) m.first_written m.first_is
+            (subst (λ n. ScaleStands means world n i scale full) (sym m.next_is) sc) m.stands w,
+      )
   refuses (Both a b) hs place ty pl sp k (goes_on mid x y) =
       let one = gave p good Held no_perm ds vs types np h a hs mid ty.0 pl.0 sp.0 k x in
-      let r = refuses b (added full one.entries_of hs) place ty.1 pl.1 sp.1 one.holds (subst (λ m. give p (IsConsistent p) full b m (FailsAt place)) one.is y) in
-      (Pair one.there.tree r.0, λ i s scale t on gt wt is sc st w.
-      let m = parts_of means p good Held no_perm true applying t one.there.tree r.0 st gt wt is in
-      let after : Going = λ s1. produce p o b scale (Some (second t)) s1 on in
-      let left : SnapshotOf means p good Held no_perm true applying (with_split (Some t) s).next i (at_holdings hs) a (first t) =
-      record { good_term = subst (λ n. Good means n i (first t) SnapSort) (sym m.next_is) m.first_good; written = m.first_written; fuel = one.there.fuel; tree = one.there.tree; is = one.there.is; value_is = m.first_is } in
-      let z = produced means p good Held no_perm true applying o parts (IsConsistent p) full a ds (at_holdings hs) one.entries_of np ty.0 (body_speaks Held applying.Applied a sp.0) pl.0 one.entries_are one.holds
-          i (with_split (Some t) s) scale (Some (first t)) after left (subst (λ n. ScaleStands means world n i scale full) (sym m.next_is) sc) m.stands w in
-      let g : Goes means world ds i s.next after (at_holdings (added full one.entries_of hs)) = subst (λ n. Goes means world ds i n after (at_holdings (added full one.entries_of hs))) m.next_is z.goes in
-      r.1 g.interp g.state scale (second t) on (good_later means g.later g.extends m.second_good) m.second_written (value_kept means (second t) m.second_good.settled g.extends ∙ m.second_is) (scale_later means world g.later g.extends sc) g.stands g.cleared)
-  refuses (Implied c a) hs place ty pl sp k (refused other ev r) = (Empty, λ i s scale t on gt wt is sc st w.
-      let m = picked means p good Held no_perm true applying o parts (IsConsistent p) c (λ s2. produce p o a scale (Some t) s2 on) (λ s2. on (with_unit (Some t) s2)) np ty.0 (speaks_anyway Held applying.Applied c sp.0) pl.0 st w in
-      no_refusal (BoolValue m.test) other m.fits ev)
+      let r = refuses b (added full one.entries_of hs) place ty.1 pl.1 sp.1 one.holds (subst (λ m. give p (IsConsistent p) full b m (FailsAt place)) one.is y) in (
+        Pair one.there.tree r.0,
+        λ i s scale t on gt wt is sc st w.
+            let m = parts_of means p good Held no_perm true applying t one.there.tree r.0 st gt wt is in
+            let after : Going = λ s1. produce p o b scale (Some (second t)) s1 on in
+            let left : SnapshotOf means p good Held no_perm true applying (with_split (Some t) s).next i (at_holdings hs) a (first t) =
+            record { good_term = subst (λ n. Good means n i (first t) SnapSort) (sym m.next_is) m.first_good; written = m.first_written; fuel = one.there.fuel; tree = one.there.tree; is = one.there.is; value_is = m.first_is } in
+            let z = produced means p good Held no_perm true applying o parts (IsConsistent p) full a ds (at_holdings hs) one.entries_of np ty.0 (body_speaks Held applying.Applied a sp.0) pl.0 one.entries_are one.holds
+            i (with_split (Some t) s) scale (Some (first t)) after left (subst (λ n. ScaleStands means world n i scale full) (sym m.next_is) sc) m.stands w in
+            let g : Goes means world ds i s.next after (at_holdings (added full one.entries_of hs)) = subst (λ n. Goes means world ds i n after (at_holdings (added full one.entries_of hs))) m.next_is z.goes in
+            r.1 g.interp g.state scale (second t) on (good_later means g.later g.extends m.second_good) m.second_written (value_kept means (second t) m.second_good.settled g.extends ∙ m.second_is) (scale_later means world g.later g.extends sc) g.stands g.cleared,
+      )
+  refuses (Implied c a) hs place ty pl sp k (refused other ev r) = (
+    Empty,
+    λ i s scale t on gt wt is sc st w.
+        let m = picked means p good Held no_perm true applying o parts (IsConsistent p) c (λ s2. produce p o a scale (Some t) s2 on) (λ s2. on (with_unit (Some t) s2)) np ty.0 (speaks_anyway Held applying.Applied c sp.0) pl.0 st w in
+        no_refusal (BoolValue m.test) other m.fits ev,
+  )
   refuses (Implied c a) hs place ty pl sp k (passes v ev r) = go (is_true v) refl r (λ g. refuses a hs place ty.1 pl.1 sp.1 k g)
     where
       go : (b : Bool) → is_true v ≡ b → when b (give p (IsConsistent p) full a (at_holdings hs)) (ends (at_holdings hs)) (FailsAt place) → (give p (IsConsistent p) full a (at_holdings hs) (FailsAt place) → (u : Tree) × Refutes a hs u) → (u : Tree) × Refutes (Implied c a) hs u
       go true e r f =
-          let z = f r in
-          (z.0, λ i s scale t on gt wt is sc st w.
-          let left : Going = λ s2. produce p o a scale (Some t) s2 on in
-          let right : Going = λ s2. on (with_unit (Some t) s2) in
-          let m = picked means p good Held no_perm true applying o parts (IsConsistent p) c left right np ty.0 (speaks_anyway Held applying.Applied c sp.0) pl.0 st w in
-          let g : Goes means world ds i s.next left (at_holdings hs) = subst (λ (b : Bool). Goes means world ds i s.next (cond b left right) (at_holdings hs)) (sym (ap is_true (one_answer v (BoolValue m.test) ev m.fits)) ∙ e) m.goes in
-          z.1 g.interp g.state scale t on (good_later means g.later g.extends gt) wt (value_kept means t gt.settled g.extends ∙ is) (scale_later means world g.later g.extends sc) g.stands g.cleared)
+          let z = f r in (
+            z.0,
+            λ i s scale t on gt wt is sc st w.
+                let left : Going = λ s2. produce p o a scale (Some t) s2 on in
+                let right : Going = λ s2. on (with_unit (Some t) s2) in
+                let m = picked means p good Held no_perm true applying o parts (IsConsistent p) c left right np ty.0 (speaks_anyway Held applying.Applied c sp.0) pl.0 st w in
+                let g : Goes means world ds i s.next left (at_holdings hs) = subst (λ (b : Bool). Goes means world ds i s.next (cond b left right) (at_holdings hs)) (sym (ap is_true (one_answer v (BoolValue m.test) ev m.fits)) ∙ e) m.goes in
+                z.1 g.interp g.state scale t on (good_later means g.later g.extends gt) wt (value_kept means t gt.settled g.extends ∙ is) (scale_later means world g.later g.extends sc) g.stands g.cleared,
+          )
       go false e r f = absurd r
-  refuses (Chosen c a b) hs place ty pl sp k (refused other ev r) = (Empty, λ i s scale t on gt wt is sc st w.
-      let m = picked means p good Held no_perm true applying o parts (IsConsistent p) c (λ s2. produce p o a scale (Some t) s2 on) (λ s2. produce p o b scale (Some t) s2 on) np ty.0 (speaks_anyway Held applying.Applied c sp.0) pl.0 st w in
-      no_refusal (BoolValue m.test) other m.fits ev)
+  refuses (Chosen c a b) hs place ty pl sp k (refused other ev r) = (
+    Empty,
+    λ i s scale t on gt wt is sc st w.
+        let m = picked means p good Held no_perm true applying o parts (IsConsistent p) c (λ s2. produce p o a scale (Some t) s2 on) (λ s2. produce p o b scale (Some t) s2 on) np ty.0 (speaks_anyway Held applying.Applied c sp.0) pl.0 st w in
+        no_refusal (BoolValue m.test) other m.fits ev,
+  )
   refuses (Chosen c a b) hs place ty pl sp k (passes v ev r) = go (is_true v) refl r (λ g. refuses a hs place ty.1 pl.1 sp.1 k g) (λ g. refuses b hs place ty.2 pl.2 sp.2 k g)
     where
       taken : (x : Bool) (d : Assertion) → is_true v ≡ x → ((scale t : Term) (on : Going) → (let f : Going = cond x (λ s2. produce p o a scale (Some t) s2 on) (λ s2. produce p o b scale (Some t) s2 on) in f) ≡ (λ s2. produce p o d scale (Some t) s2 on)) → (u : Tree) × Refutes d hs u → (u : Tree) × Refutes (Chosen c a b) hs u
-      taken x d e same z =
-          (z.0, λ i s scale t on gt wt is sc st w.
-          let left : Going = λ s2. produce p o a scale (Some t) s2 on in
-          let right : Going = λ s2. produce p o b scale (Some t) s2 on in
-          let m = picked means p good Held no_perm true applying o parts (IsConsistent p) c left right np ty.0 (speaks_anyway Held applying.Applied c sp.0) pl.0 st w in
-          let g : Goes means world ds i s.next (cond x left right) (at_holdings hs) = subst (λ (b : Bool). Goes means world ds i s.next (cond b left right) (at_holdings hs)) (sym (ap is_true (one_answer v (BoolValue m.test) ev m.fits)) ∙ e) m.goes in
-          let g' : Goes means world ds i s.next (λ s2. produce p o d scale (Some t) s2 on) (at_holdings hs) = subst (λ (f : Going). Goes means world ds i s.next f (at_holdings hs)) (same scale t on) g in
-          z.1 g'.interp g'.state scale t on (good_later means g'.later g'.extends gt) wt (value_kept means t gt.settled g'.extends ∙ is) (scale_later means world g'.later g'.extends sc) g'.stands g'.cleared)
+      taken x d e same z = (
+        z.0,
+        λ i s scale t on gt wt is sc st w.
+            let left : Going = λ s2. produce p o a scale (Some t) s2 on in
+            let right : Going = λ s2. produce p o b scale (Some t) s2 on in
+            let m = picked means p good Held no_perm true applying o parts (IsConsistent p) c left right np ty.0 (speaks_anyway Held applying.Applied c sp.0) pl.0 st w in
+            let g : Goes means world ds i s.next (cond x left right) (at_holdings hs) = subst (λ (b : Bool). Goes means world ds i s.next (cond b left right) (at_holdings hs)) (sym (ap is_true (one_answer v (BoolValue m.test) ev m.fits)) ∙ e) m.goes in
+            let g' : Goes means world ds i s.next (λ s2. produce p o d scale (Some t) s2 on) (at_holdings hs) = subst (λ (f : Going). Goes means world ds i s.next f (at_holdings hs)) (same scale t on) g in
+            z.1 g'.interp g'.state scale t on (good_later means g'.later g'.extends gt) wt (value_kept means t gt.settled g'.extends ∙ is) (scale_later means world g'.later g'.extends sc) g'.stands g'.cleared,
+      )
 
       go : (x : Bool) → is_true v ≡ x → when x (give p (IsConsistent p) full a (at_holdings hs)) (give p (IsConsistent p) full b (at_holdings hs)) (FailsAt place) → (give p (IsConsistent p) full a (at_holdings hs) (FailsAt place) → (u : Tree) × Refutes a hs u) →
           (give p (IsConsistent p) full b (at_holdings hs) (FailsAt place) → (u : Tree) × Refutes b hs u) → (u : Tree) × Refutes (Chosen c a b) hs u

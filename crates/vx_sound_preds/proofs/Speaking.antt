@@ -1,6 +1,8 @@
 -- In a typed program the bodies of predicates are good, and speak of instances of predicates that they lead to.
-use Rattle.std.proofs.Common.{◌≡◌, inl, List, [], ◌∷◌, ◌++◌, Option, Some, None, refl, sym, ap, subst}
-use Rattle.vx_ast.specs.Syntax.{Name, Program, Kind, IsField, IsPredicate, IsFunction, IsMethod, Predicate, member_named, predicate_in, predicate_named, Expr, Number, Truth, Null, Part, Variable, Not, Operate, Divide, Connect, Choose, Read, Old, Apply, Unfolding, Exprs, NoMore, More, Assertion, Pure, Points, Instance, Both, Implied, Chosen}
+use Rattle.std.proofs.Common.{◌≡◌, inl, inr, List, [], ◌∷◌, ◌++◌, Option, Some, None, refl, sym, ap, subst}
+use Rattle.std.specs.Prelude.{flat_map}
+use Rattle.vx_ast.specs.declared.Place.{Place}
+use Rattle.vx_ast.specs.Syntax.{Name, joined, joined_with, conjoined, conjoined_with, place_of, And, Program, Kind, IsField, IsPredicate, IsFunction, IsMethod, Predicate, member_named, predicate_in, predicate_named, Expr, Number, Truth, Null, Part, Variable, Not, Operate, Divide, Connect, Choose, Read, Old, Apply, Unfolding, Exprs, NoMore, More, Assertion, Pure, Points, Instance, Both, Implied, Chosen}
 use Rattle.vx_ast.specs.Mentions.{mentioned, mentioned_in, mentioned_by}
 use Rattle.vx_types.specs.Typing.{HaveNoPerm, IsTypedContent}
 use Rattle.vx_ast.specs.Apart.{Stands}
@@ -33,6 +35,30 @@ module _ (p : Program) (x : Name) where
 
   pub rights : (ys zs : List Name) → AllSeen (ys ++ zs) → AllSeen zs
   rights ys zs k y s = k y (on_right y ys zs s)
+
+  pub both_seen : (ys zs : List Name) → AllSeen ys → AllSeen zs → AllSeen (ys ++ zs)
+  both_seen [] zs k l z s = l z s
+  both_seen (y ∷ ys) zs k l z (inl e) = k z (inl e)
+  both_seen (y ∷ ys) zs k l z (inr s) = both_seen ys zs (λ w t. k w (inr t)) l z s
+
+  joined_with_seen : (a : Assertion) (rest : List Assertion) → AllSeen (mentioned_by a) → AllSeen (flat_map mentioned_by rest) → AllSeen (mentioned_by (joined_with a rest))
+  joined_with_seen a [] k l = k
+  joined_with_seen a (b ∷ rest) k l =
+      joined_with_seen (Both a b) rest (both_seen (mentioned_by a) (mentioned_by b) k (lefts (mentioned_by b) (flat_map mentioned_by rest) l)) (rights (mentioned_by b) (flat_map mentioned_by rest) l)
+
+  -- clauses that are joined mention what each mentions
+  pub joined_seen : (at : Place) (rest : List Assertion) → AllSeen (flat_map mentioned_by rest) → AllSeen (mentioned_by (joined at rest))
+  joined_seen at [] k y s = absurd s
+  joined_seen at (a ∷ rest) k y s = joined_with_seen a rest (lefts (mentioned_by a) (flat_map mentioned_by rest) k) (rights (mentioned_by a) (flat_map mentioned_by rest) k) y s
+
+  conjoined_with_seen : (e : Expr) (rest : List Expr) → AllSeen (mentioned e) → AllSeen (flat_map mentioned rest) → AllSeen (mentioned (conjoined_with e rest))
+  conjoined_with_seen e [] k l = k
+  conjoined_with_seen e (b ∷ rest) k l =
+      conjoined_with_seen (Connect (place_of e) And e b) rest (both_seen (mentioned e) (mentioned b) k (lefts (mentioned b) (flat_map mentioned rest) l)) (rights (mentioned b) (flat_map mentioned rest) l)
+
+  pub conjoined_seen : (at : Place) (rest : List Expr) → AllSeen (flat_map mentioned rest) → AllSeen (mentioned (conjoined at rest))
+  conjoined_seen at [] k y s = absurd s
+  conjoined_seen at (e ∷ rest) k y s = conjoined_with_seen e rest (lefts (mentioned e) (flat_map mentioned rest) k) (rights (mentioned e) (flat_map mentioned rest) k) y s
 
   -- a predicate's body mentions only what it leads to
   body_seen : (i : Name) (d : Predicate) (a : Assertion) → InClosure p x i → predicate_named p i ≡ Some d → d.body ≡ Some a → AllSeen (mentioned_by a)

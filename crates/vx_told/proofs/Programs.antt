@@ -1,8 +1,7 @@
 -- In a typed program the parts of what a member leads to lead on along quiet walks.
 use Rattle.std.proofs.Common.{◌≡◌, inl, inr, ℕ, List, [], ◌∷◌, ◌++◌, Option, Some, refl, sym, subst}
 use Rattle.std.specs.Prelude.{flat_map}
-use Rattle.vx_ast.specs.declared.Place.{Place}
-use Rattle.vx_ast.specs.Syntax.{Name, Program, Kind, Function, Predicate, function_named, predicate_named, member_named, Expr, Number, Truth, Null, Part, Variable, Not, Operate, Divide, Connect, Choose, Read, Old, Apply, Unfolding, Exprs, NoMore, More, Assertion, Both, joined, joined_with}
+use Rattle.vx_ast.specs.Syntax.{Name, Program, Kind, Function, Predicate, function_named, predicate_named, member_named, Expr, Number, Truth, Null, Part, Variable, Not, Operate, Divide, Connect, Choose, Read, Old, Apply, Unfolding, Exprs, NoMore, More, Assertion}
 use Rattle.vx_ast.specs.Mentions.{mentioned, mentioned_in, mentioned_by, mentioned_by_function}
 use Rattle.vx_ast.specs.Apart.{Stands}
 use Rattle.vx_types.specs.Typing.{IsTyped}
@@ -12,7 +11,7 @@ use Rattle.vx_rules.specs.Rules.{outer}
 use Rattle.vx_sound.proofs.Speaks as instances
 use Rattle.vx_sound_preds.proofs.Typed.{on_left}
 use Rattle.vx_sound_preds.proofs.Mentioning.{function_member}
-use Rattle.vx_sound_preds.proofs.Speaking.{AllSeen, lefts, rights, plain_body, good, no_perm, speak}
+use Rattle.vx_sound_preds.proofs.Speaking.{AllSeen, lefts, rights, joined_seen, plain_body, good, no_perm, speak}
 use Rattle.vx_sound_funcs.specs.Told.{precondition_of}
 use Rattle.vx_sound_funcs.specs.Firm.{firmly, GoodFunctions}
 use Rattle.vx_sound_funcs.specs.Laws.{ApplicationsAgree}
@@ -56,20 +55,6 @@ module _ (p : Program) (x : Name) where
   each_speaks [] k = tt
   each_speaks (e ∷ es) k = (speaks e (lefts p x (mentioned e) (flat_map mentioned es) k), each_speaks es (rights p x (mentioned e) (flat_map mentioned es) k))
 
-  both_seen : (ys zs : List Name) → AllSeen p x ys → AllSeen p x zs → AllSeen p x (ys ++ zs)
-  both_seen [] zs k l z s = l z s
-  both_seen (y ∷ ys) zs k l z (inl e) = k z (inl e)
-  both_seen (y ∷ ys) zs k l z (inr s) = both_seen ys zs (λ w t. k w (inr t)) l z s
-
-  joined_with_seen : (a : Assertion) (rest : List Assertion) → AllSeen p x (mentioned_by a) → AllSeen p x (flat_map mentioned_by rest) → AllSeen p x (mentioned_by (joined_with a rest))
-  joined_with_seen a [] k l = k
-  joined_with_seen a (b ∷ rest) k l =
-      joined_with_seen (Both a b) rest (both_seen (mentioned_by a) (mentioned_by b) k (lefts p x (mentioned_by b) (flat_map mentioned_by rest) l)) (rights p x (mentioned_by b) (flat_map mentioned_by rest) l)
-
-  joined_seen : (at : Place) (rest : List Assertion) → AllSeen p x (flat_map mentioned_by rest) → AllSeen p x (mentioned_by (joined at rest))
-  joined_seen at [] k y s = absurd s
-  joined_seen at (a ∷ rest) k y s = joined_with_seen a rest (lefts p x (mentioned_by a) (flat_map mentioned_by rest) k) (rights p x (mentioned_by a) (flat_map mentioned_by rest) k) y s
-
   -- a function that x leads to mentions only what x leads to
   parts_seen : (f : Name) (g : Function) → InClosure p x f → function_named p f ≡ Some g → AllSeen p x (mentioned_by_function g)
   parts_seen f g held named y s = further held (subst (λ (o : Option Kind). Stands y (mentioned_by_kind p o)) (sym (function_member (member_named p f) g named)) (on_left y (mentioned_by_function g) (mentioned_by_measure g.decreases) s))
@@ -79,7 +64,7 @@ module _ (p : Program) (x : Name) where
     asked f g held named =
         let parts = parts_seen f g held named in
         plain_body p x (precondition_of g) (functions.asks f g named)
-        (joined_seen g.place g.requires (rights p x (mentioned g.body) (flat_map mentioned_by g.requires) (lefts p x (mentioned g.body ++ flat_map mentioned_by g.requires) (flat_map mentioned g.ensures) parts)))
+        (joined_seen p x g.place g.requires (rights p x (mentioned g.body) (flat_map mentioned_by g.requires) (lefts p x (mentioned g.body ++ flat_map mentioned_by g.requires) (flat_map mentioned g.ensures) parts)))
 
   module _ (typed : IsTypedProgram p) (functions : GoodFunctions p) where
     pub spoken : (f : Name) (g : Function) → InClosure p x f → function_named p f ≡ Some g → Spoken p (InClosure p x) g
