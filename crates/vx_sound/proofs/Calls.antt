@@ -19,7 +19,7 @@ use Rattle.vx_rules.specs.Trees.{AssertCode, CallCode, Step}
 use Rattle.vx_rules.specs.Rules.{Giving, Going, Outer, nowhere, outer, entered, back, produce}
 use Rattle.vx_rules.specs.Members.{codes, called}
 use Rattle.vx_types.specs.Typing.{Scope, IsTyped, TargetsHaveTypes}
-use Rattle.vx_sound.proofs.World.{CanBe, World, Changing}
+use Rattle.vx_sound.proofs.World.{CanBe, World, Changing, unrooted}
 use Rattle.vx_sound.proofs.Speaks.{SpeaksOf, joined_speaks}
 use Rattle.vx_sound.proofs.Evaluate.{PartsGo}
 use Rattle.vx_sound.proofs.Passes.{Cleared}
@@ -57,6 +57,7 @@ module _ (means : Meaning) (world : World) (m : Method) (contract : HasContract 
     null = st.null;
     standard = st.standard;
     owned = st.owned;
+    marked = st.marked;
     holds = st.holds;
     old_holds = st.old_holds;
   }
@@ -88,6 +89,7 @@ module _ (means : Meaning) (world : World) (m : Method) (contract : HasContract 
           null = r.goes.stands.null;
           standard = r.goes.stands.standard;
           owned = r.goes.stands.owned;
+          marked = r.goes.stands.marked;
           holds = changing.changed (run.with_holdings r.left c) heap same r.goes.stands.holds;
           old_holds = st.holds;
         }
@@ -108,7 +110,7 @@ module _ (means : Meaning) (world : World) (m : Method) (contract : HasContract 
 
         given : (other : Outcome) → give p (IsConsistent p) full (joined m.place m.ensures) (record { store = run.bind m.parameters vs ++ run.bind m.returns ws; heap = heap; holdings = r.left; old_heap = c.heap; old_holdings = c.holdings }) other →
             Leaves means world (m.parameters ++ m.returns) g.interp g.state.next last other
-        given other h = give_goes means world (outer p d) (parts d) (IsConsistent p) (λ c k. subst (λ b. CanBe p b c) (sym changing.bounded) k) other (joined m.place m.ensures) full h post_typed post_plain whole_amount last (whole_scale means world g.state.next g.interp) g.stands g.cleared
+        given other h = give_goes means world (outer p d) (parts d) (IsConsistent p) (λ c k. subst (λ b. CanBe p b c) (sym changing.bounded) k) (unrooted changing.unmarked) other (joined m.place m.ensures) full h post_typed post_plain whole_amount last (whole_scale means world g.state.next g.interp) g.stands g.cleared
 
         first : (other : Outcome) → failing_at at (give p (IsConsistent p) full (joined m.place m.ensures) (record { store = run.bind m.parameters vs ++ run.bind m.returns ws; heap = heap; holdings = r.left; old_heap = c.heap; old_holdings = c.holdings })) other →
             Leaves means world (m.parameters ++ m.returns) g.interp g.state.next last other
@@ -140,6 +142,7 @@ module _ (means : Meaning) (world : World) (m : Method) (contract : HasContract 
                 null = q.stands.null;
                 standard = q.stands.standard;
                 owned = q.stands.owned;
+                marked = st.marked;
                 holds = q.stands.holds;
                 old_holds = st.old_holds;
               };

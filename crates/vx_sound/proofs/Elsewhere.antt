@@ -49,6 +49,8 @@ module _ (means : Meaning) (world : World) (Applied : Name → Type 0) (own : Op
     sign = k.sign;
     content = k.content;
     content_is = k.content_is;
+    is_root = k.is_root;
+    is_inner = k.is_inner;
   }
 
   heap_there : (n : ℕ) (i : Interpretation) (chunks : rules.Heap) (heap : run.Heap) (holdings : run.Holdings) → HeapStands means world n i chunks heap holdings → HeapStands means there n i chunks heap holdings
@@ -65,6 +67,7 @@ module _ (means : Meaning) (world : World) (Applied : Name → Type 0) (own : Op
     null = st.null;
     standard = st.standard;
     owned = k;
+    marked = st.marked;
     holds = st.holds;
     old_holds = st.old_holds;
   }

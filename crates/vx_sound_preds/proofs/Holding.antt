@@ -15,7 +15,7 @@ use Rattle.vx_types.specs.Typing.{HaveNoPerm}
 use Rattle.vx_amounts.proofs.Amounts.{Le, Positive, le-refl, le-trans, none-none, none-full, full-positive, positive-le, not-positive, below-add}
 use Rattle.vx_amounts.proofs.Products.{product_sign, positive_le}
 use Rattle.vx_sound.specs.Snapshots.{IsTree}
-use Rattle.vx_sound.proofs.World.{at_field, Limited, IsTypedInstance, IsTypedResource, CanBe, Walked, World}
+use Rattle.vx_sound.proofs.World.{at_field, Limited, IsTypedInstance, IsTypedResource, CanBe, Walked, Marks, Unmarked, Unsaid, World}
 use Rattle.vx_sound.proofs.Chunks.{spread_bare}
 use Rattle.vx_sound_preds.specs.Bodies.{IsRigid, AreRigid, GoodBodies}
 use Rattle.vx_sound_preds.proofs.Flats.{flat_later, tree_single}
@@ -225,13 +225,14 @@ module _ (p : Program) (good : GoodBodies p) (Held : Name → Type 0) (bounded :
           clash : ◌≡◌ {A = Bool} true false → ⊥
           clash z = cc
 
--- what may be applied, and the function whose body is walked, if it is one
+-- what may be applied, the function whose body is walked, if it is one, and what marks stand for
 pub record Applying : Type 1 where
   pub Applied : Name → Type 0
   pub own : Option Walked
+  pub marks : Marks
 
 abbrev pub nothing_applied : Applying
-nothing_applied = record { Applied = λ f. ⊥; own = None }
+nothing_applied = record { Applied = λ f. ⊥; own = None; marks = Unmarked }
 
 -- The world of a typed program, where the instances of some predicates are held and some functions may be applied.
 abbrev pub functions_world : (p : Program) → GoodBodies p → (Held : Name → Type 0) → ((x : Name) (d : Predicate) → predicate_named p x ≡ Some d → HaveNoPerm d.parameters) → Bool → Applying → World
@@ -241,6 +242,7 @@ functions_world p good Held no_perm bounded applying = record {
   Held = Held;
   Applied = applying.Applied;
   own = applying.own;
+  marks = applying.marks;
   proper = λ x d h e. no_perm x d e;
   Holds = HoldsInstances p Held bounded;
   limited = limited p good Held bounded;
@@ -254,3 +256,10 @@ functions_world p good Held no_perm bounded applying = record {
 -- and where none may be
 abbrev pub instances_world : (p : Program) → GoodBodies p → (Held : Name → Type 0) → ((x : Name) (d : Predicate) → predicate_named p x ≡ Some d → HaveNoPerm d.parameters) → Bool → World
 instances_world p good Held no_perm bounded = functions_world p good Held no_perm bounded nothing_applied
+
+-- Where what an application tells is gathered, none may be applied, and nothing is said of marks.
+abbrev pub nothing_said : Applying
+nothing_said = record { Applied = λ f. ⊥; own = None; marks = Unsaid }
+
+abbrev pub quiet_world : (p : Program) → GoodBodies p → (Held : Name → Type 0) → ((x : Name) (d : Predicate) → predicate_named p x ≡ Some d → HaveNoPerm d.parameters) → Bool → World
+quiet_world p good Held no_perm bounded = functions_world p good Held no_perm bounded nothing_said

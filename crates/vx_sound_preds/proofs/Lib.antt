@@ -18,6 +18,8 @@ pub mod Types
 pub mod Changes
 pub mod Giving
 pub mod Holding
+pub mod Marking
+pub mod Inside
 pub mod Produced
 pub mod Entries
 pub mod Unfolds

@@ -42,7 +42,7 @@ use Rattle.vx_sound_preds.proofs.Frames.{entries_positive}
 use Rattle.vx_sound_preds.proofs.Entries.{entries_typed}
 use Rattle.vx_sound_preds.proofs.Exchanging.{held_rigid}
 use Rattle.vx_sound_preds.proofs.Produced.{fine_state}
-use Rattle.vx_sound_preds.proofs.Holding.{HoldsInstances, TypedAll, all_single, typed_rigid, typed_added, added_debts, stock, lower, nothing, nothing_applied, instances_world}
+use Rattle.vx_sound_preds.proofs.Holding.{HoldsInstances, TypedAll, all_single, typed_rigid, typed_added, added_debts, stock, lower, nothing, nothing_said, quiet_world}
 use Rattle.vx_sound_funcs.specs.Told.{IsTreeOf, precondition_of}
 use Rattle.vx_sound_funcs.specs.Firm.{firm_application, firmly, GoodFunctions}
 use Rattle.vx_sound_funcs.proofs.Alike.{firm_open}
@@ -103,7 +103,7 @@ level_more l = lt-ltb 0 (l + 1) (omega arith)
 module _ (means : Meaning) (p : Program) (good : GoodBodies p) (functions : GoodFunctions p) (Held : Name → Type 0) (no_perm : (x : Name) (d : Predicate) → predicate_named p x ≡ Some d → HaveNoPerm d.parameters) (n : ℕ)
     (spoken : (f : Name) (g : Function) → Held f → function_named p f ≡ Some g → Spoken p Held g) (knows : Knows means p Held) where
   abbrev pub world : World
-  world = instances_world p good Held no_perm true
+  world = quiet_world p good Held no_perm true
 
   also : {i j k : Interpretation} → Extends means n i j → Extends means n j k → Extends means n i k
   also x y = extends-trans means (le_refl n) x y
@@ -156,6 +156,7 @@ module _ (means : Meaning) (p : Program) (good : GoodBodies p) (functions : Good
             null = z.null;
             standard = z.standard;
             owned = z.owned;
+            marked = λ e. tt;
             holds = nothing p good Held true c.heap;
             old_holds = nothing p good Held true c.heap;
           };
@@ -251,7 +252,7 @@ module _ (means : Meaning) (p : Program) (good : GoodBodies p) (functions : Good
             (record { symbolic_name = refl; name = refl; typed = a.typed; good = a.good_term; value_is = a.is }))
 
         adds : Adds p full a.begun.entries_of (bare (run.bind g.parameters vs ++ (result_name, v) ∷ []) c.heap) a.promised.state
-        adds = add_adds p full none-full (firmly p a.promised.fuel) (firm_open p good a.promised.fuel) (precondition_of g) inside a.promised.state b.entries_of plain (fine_state means p good Held no_perm true nothing_applied np stands.stands) listed b.can a.promised.adds
+        adds = add_adds p full none-full (firmly p a.promised.fuel) (firm_open p good a.promised.fuel) (precondition_of g) inside a.promised.state b.entries_of plain (fine_state means p good Held no_perm true nothing_said np stands.stands) listed b.can a.promised.adds
 
     -- what is told of the function is added
     pub record Grown (scope : Scope) (i : Interpretation) (s : State) (c : run.State) : Type 0 where
@@ -363,6 +364,7 @@ module _ (means : Meaning) (p : Program) (good : GoodBodies p) (functions : Good
               null = z.null;
               standard = z.standard;
               owned = z.owned;
+              marked = λ e. tt;
               holds = y.holds;
               old_holds = z.old_holds;
             });
@@ -460,7 +462,7 @@ module _ (means : Meaning) (p : Program) (good : GoodBodies p) (functions : Good
           still = (let z = here.still in record { next = z.next; level = z.level; path = z.path });
           quietly = record {
             stands = (let z = here.quietly.stands in
-                record { store = bound means world n i g.parameters ts vs each; path = z.path; heap = z.heap; old = z.old; awake = z.awake; bounded = z.bounded; null = z.null; standard = z.standard; owned = z.owned; holds = z.holds; old_holds = z.old_holds });
+                record { store = bound means world n i g.parameters ts vs each; path = z.path; heap = z.heap; old = z.old; awake = z.awake; bounded = z.bounded; null = z.null; standard = z.standard; owned = z.owned; marked = λ e. tt; holds = z.holds; old_holds = z.old_holds });
           };
         }
 
