@@ -1,26 +1,28 @@
 -- A state that stands in one world stands in another where its marks stand for as much, or for nothing; and where no instance was
 -- marked, the instance that a function's measure names becomes the root.
-use Rattle.std.proofs.Common.{◌≡◌, ℕ, ℤ, Bool, true, false, cond, ◌⊎◌, inl, inr, List, [], ◌∷◌, Option, Some, None, sym, subst, le_refl, true≢false}
+use Rattle.std.proofs.Common.{◌≡◌, ℕ, ℤ, Bool, true, false, cond, ◌⊎◌, inl, inr, List, [], ◌∷◌, ◌++◌, Option, Some, None, refl, sym, ◌∙◌, ap, subst, le_refl, true≢false}
+use Rattle.std.specs.Prelude.{nat_lt}
 use Rattle.vx_ast.specs.declared.Place.{Place}
-use Rattle.vx_ast.specs.Syntax.{Name, Declaration, Program}
+use Rattle.vx_ast.specs.Syntax.{Name, result_name, Declaration, Program, Function, conjoined}
 use Rattle.vx_meaning.specs.Values.{Value}
 use Rattle.vx_meaning.specs.States as run
 use Rattle.vx_terms.specs.Sorts.{SnapSort}
 use Rattle.vx_terms.specs.Terms.{Term}
+use Rattle.vx_terms.specs.Build.{equals}
 use Rattle.vx_terms.specs.Interpretations.{Interpretation}
 use Rattle.vx_rules.specs.States as rules
 use Rattle.vx_rules.specs.Trees.{MeasureCode}
 use Rattle.vx_rules.specs.Chunks.{Candidate, candidates, instance_key}
-use Rattle.vx_rules.specs.Rules.{Going, never, first_with, holds_some}
+use Rattle.vx_rules.specs.Rules.{Going, Outer, never, first_with, holds_some, gathered, quietly, sides_of, with_body, with_promise, with_equations}
 use Rattle.vx_rules.specs.Members.{rooted}
 use Rattle.vx_types.specs.Typing.{Scope}
 use Rattle.vx_amounts.proofs.Amounts.{Positive, positive-le}
-use Rattle.vx_elements.proofs.Settled.{Meaning, extends-refl}
+use Rattle.vx_elements.proofs.Settled.{Meaning, Extends, extends-refl}
 use Rattle.vx_elements.proofs.Lists.{each_map}
 use Rattle.vx_elements.proofs.Places.{IsPlace}
 use Rattle.vx_sound.proofs.World.{Walked, Marks, Unmarked, Rooted, Unsaid, MayMark, IsRoot, IsInner, World}
 use Rattle.vx_sound.proofs.Passes.{Cleared}
-use Rattle.vx_sound.proofs.Stands.{values_of, location_of, instance_of, resource_of, StoreStands, FactStands, MeasureStands, OwnStands, TermsStand, InstanceKey, ChunkStands, HeapStands, Stands}
+use Rattle.vx_sound.proofs.Stands.{values_of, location_of, instance_of, resource_of, StoreStands, FactStands, PathStands, MeasureStands, OwnStands, TermsStand, InstanceKey, ChunkStands, HeapStands, Stands, stands_later}
 use Rattle.vx_sound.proofs.Chunks.{Apart, taken_apart, put_together, chunk_held}
 use Rattle.vx_sound.proofs.Candidates.{InstanceTerms, Keys, of_instance, good_some, some_is, FirstWith, first_one}
 use Rattle.vx_sound.proofs.Goes.{Goes, stuck}
@@ -107,6 +109,52 @@ module _ (means : Meaning) (world : World) (marks : Marks) where
         own_marked (Some own) (Some walked) h = (h.0, measure_marked own.measure walked.measure h.1)
         own_marked None (Some walked) h = absurd h
         own_marked (Some own) None h = absurd h
+
+-- Facts add to the path alone.
+
+fact_path : (t : Term) (s : rules.State) → rules.with_fact t s ≡ record s { path = (rules.with_fact t s).path }
+fact_path t s = go (rules.is_known t s)
+  where
+    go : (b : Bool) → (let r : rules.State = cond b s (rules.with_entry record { term = t; branch = false } s) in r ≡ record s { path = r.path })
+    go true = refl
+    go false = refl
+
+pub facts_path : (ts : List Term) (s : rules.State) → rules.with_facts ts s ≡ record s { path = (rules.with_facts ts s).path }
+facts_path [] s = refl
+facts_path (t ∷ ts) s = facts_path ts (rules.with_fact t s) ∙ ap (λ (z : rules.State). record z { path = (rules.with_facts ts (rules.with_fact t s)).path }) (fact_path t s)
+
+-- so does what an application tells
+pub equations_path : (p : Program) (o : Outer) (g : Function) (ts : List Term) (snapshot t : Term) (s : rules.State) → with_equations p o g ts snapshot t s ≡ record s { path = (with_equations p o g ts snapshot t s).path }
+equations_path p o g ts snapshot t s = go (nat_lt s.level 3)
+  where
+    go : (b : Bool) → (let r : rules.State = cond b (with_promise p o g ts snapshot t (with_body p o g ts snapshot t s)) s in r ≡ record s { path = r.path })
+    go true =
+        let mid = with_body p o g ts snapshot t s in
+        let inside = quietly p o (rules.bind g.parameters ts ++ (result_name, t) ∷ []) mid in
+        facts_path (gathered inside (λ w. w) (sides_of p o g (conjoined g.place g.ensures) snapshot inside)) mid
+        ∙ ap (λ (z : rules.State). record z { path = (with_promise p o g ts snapshot t (with_body p o g ts snapshot t s)).path }) (facts_path (gathered (quietly p o (rules.bind g.parameters ts) s) (λ w. equals t w) (sides_of p o g g.body snapshot (quietly p o (rules.bind g.parameters ts) s))) s)
+    go false = refl
+
+module _ (means : Meaning) (world : World) (marks : Marks) where
+  -- what was told where marks stand for something else is true where they stand for this
+  pub stands_told : {scope : Scope} {i j : Interpretation} {s t : rules.State} {c : run.State} → Stands means world scope i s c → Extends means s.next i j → t ≡ record s { path = t.path } → Stands means (marked means world marks) scope j t c → Stands means world scope j t c
+  stands_told {scope = scope} {i = i} {j = j} {s = s} {t = t} {c = c} st x e there = subst (λ (z : rules.State). Stands means world scope j z c) (sym e) record {
+    store = later.store;
+    path = subst (λ n. PathStands means world n j t.path) (ap (λ (z : rules.State). z.next) e) (each_map (FactStands means (marked means world marks) t.next j) (FactStands means world t.next j) (λ e h. record { settled = h.settled; holds = h.holds }) t.path there.path);
+    heap = later.heap;
+    old = later.old;
+    awake = later.awake;
+    bounded = later.bounded;
+    null = later.null;
+    standard = later.standard;
+    owned = later.owned;
+    marked = later.marked;
+    holds = later.holds;
+    old_holds = later.old_holds;
+  }
+    where
+      later : Stands means world scope j (record s { next = s.next }) c
+      later = stands_later means world s.next (le_refl s.next) x st
 
 module _ (means : Meaning) (world : World) (none : world.marks ≡ Unmarked) where
   -- the instance of a chunk becomes the root
