@@ -31,7 +31,8 @@ use Rattle.vx_elements.proofs.Values.{sort_of_field}
 use Rattle.vx_elements.proofs.Eventually.{eventually, both_eventually, one_answer, no_refusal}
 use Rattle.vx_amounts.proofs.Amounts.{Le, Positive, le-trans}
 use Rattle.vx_amounts.proofs.Products.{product_positive}
-use Rattle.vx_sound.proofs.World.{at_field, CanBe, Unrooted, World, inner_anywhere}
+use Rattle.vx_sound.proofs.Marks.{Unrooted, inner_anywhere}
+use Rattle.vx_sound.proofs.World.{at_field, CanBe, World}
 use Rattle.vx_sound.proofs.Standard.{IsStandard, pair_value, first_value, second_value, wrapped_back, good_unit, good_pair, good_first, good_second, good_wrap, good_unwrap, written_equal}
 use Rattle.vx_sound.proofs.Speaks.{Speaks, SpeaksOf}
 use Rattle.vx_sound.proofs.Passes.{Cleared}

@@ -19,7 +19,8 @@ use Rattle.vx_rules.specs.Trees.{AssertCode, CallCode, Step}
 use Rattle.vx_rules.specs.Rules.{Giving, Going, Outer, nowhere, outer, entered, back, produce}
 use Rattle.vx_rules.specs.Members.{codes, called}
 use Rattle.vx_types.specs.Typing.{Scope, IsTyped, TargetsHaveTypes}
-use Rattle.vx_sound.proofs.World.{CanBe, World, Changing, unrooted}
+use Rattle.vx_sound.proofs.Marks.{unrooted}
+use Rattle.vx_sound.proofs.World.{CanBe, World, Changing}
 use Rattle.vx_sound.proofs.Speaks.{SpeaksOf, joined_speaks}
 use Rattle.vx_sound.proofs.Evaluate.{PartsGo}
 use Rattle.vx_sound.proofs.Passes.{Cleared}

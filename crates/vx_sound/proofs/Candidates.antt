@@ -22,7 +22,8 @@ use Rattle.vx_elements.proofs.Built.{Good, good_later, good_and, good_equals}
 use Rattle.vx_elements.proofs.Elements.{element}
 use Rattle.vx_elements.proofs.Truth.{equal_is, both_true, true_le, true_positive, good_positive, good_at_most}
 use Rattle.vx_elements.proofs.Places.{IsPlace, candidates_places}
-use Rattle.vx_sound.proofs.World.{at_field, IsTypedResource, IsInner, InnerAt, World}
+use Rattle.vx_sound.proofs.Marks.{IsInner, InnerAt}
+use Rattle.vx_sound.proofs.World.{at_field, IsTypedResource, World}
 use Rattle.vx_sound.proofs.Standard.{IsWritten}
 use Rattle.vx_sound.proofs.Passes.{Cleared}
 use Rattle.vx_sound.proofs.Stands.{ref_of, value_of, values_of, location_of, resource_of, amount_of, IsThere, TermsStand, terms_later, ChunkStands, Stands}

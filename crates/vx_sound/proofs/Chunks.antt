@@ -17,7 +17,8 @@ use Rattle.vx_elements.proofs.Settled.{Meaning}
 use Rattle.vx_elements.proofs.Built.{Good}
 use Rattle.vx_amounts.proofs.Amounts.{Le, Positive, Same, same_is as fractions_same, le-refl, le-trans, le-is, same-trans, same-refl, positive-le, difference_same, add-right, add-left, add-swap, above-add, below-add, none-none, none_minus, difference-none, difference-below, difference-move}
 use Rattle.vx_elements.proofs.Truth.{subtract_is, good_difference}
-use Rattle.vx_sound.proofs.World.{InnerAt, LeadsAt, World}
+use Rattle.vx_sound.proofs.Marks.{InnerAt, LeadsAt}
+use Rattle.vx_sound.proofs.World.{World}
 use Rattle.vx_sound.proofs.Stands.{location_of, instance_of, resource_of, amount_of, own, held, ChunkStands, HeapStands}
 use Rattle.vx_elements.proofs.Places.{IsPlace}
 use Rattle.vx_elements.proofs.Lists.{name_is, each_in, each_out, each_both, name_same}

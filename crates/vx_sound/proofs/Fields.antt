@@ -7,7 +7,8 @@ use Rattle.vx_meaning.specs.Consistent.{spread, IsConsistent}
 use Rattle.vx_rules.specs.Rules.{outer}
 use Rattle.vx_elements.proofs.Settled.{Meaning}
 use Rattle.vx_amounts.proofs.Amounts.{Le, le-refl, le-trans, le-is, add-below, add-left, minus_none, none-full, none-sum, sum_comm}
-use Rattle.vx_sound.proofs.World.{at_field, Limited, IsTypedResource, Unmarked, World, Changing}
+use Rattle.vx_sound.proofs.Marks.{Unmarked}
+use Rattle.vx_sound.proofs.World.{at_field, Limited, IsTypedResource, World, Changing}
 use Rattle.vx_sound.proofs.Chunks.{location_is, spread_bare}
 use Rattle.vx_sound.proofs.Evaluate.{PartsGo}
 use Rattle.vx_sound.proofs.Steps.{FoldsGo, UnfoldGo}
@@ -59,11 +60,11 @@ new_limited m h n z b = record { most = λ e l. go e l (run.same_location l m) r
 abbrev pub fields_world : Program → World
 fields_world p = record {
   program = p;
+  marks = Unmarked;
   bounded = true;
   Held = λ x. ⊥;
   Applied = λ f. ⊥;
   own = None;
-  marks = Unmarked;
   proper = λ x d h e. absurd h;
   Holds = λ h hs. HoldsFields hs;
   limited = λ h hs k. k.limited;
@@ -84,9 +85,9 @@ fields_world p = record {
 
 pub fields_changing : (p : Program) → Changing (fields_world p)
 fields_changing p = record {
+  unmarked = refl;
   bounded = refl;
   of_no_function = refl;
-  unmarked = refl;
   changed = λ c g same k. k;
   changed_tree = λ c g same k o typed pos t tr. absurd typed.0;
   changed_total = λ c g same k n l. (n, le-is (ap (λ (hs : run.Holdings). run.amount hs (run.At l)) (spread_only p n g c.holdings k.only ∙ sym (spread_only p n c.heap c.holdings k.only))));

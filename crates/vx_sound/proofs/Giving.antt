@@ -19,7 +19,8 @@ use Rattle.vx_rules.specs.Trees.{Code, Tree, AmountCode}
 use Rattle.vx_rules.specs.Chunks.{field_key, Candidate, chosen, reduced, field_facts, instance_facts, put_over, put}
 use Rattle.vx_rules.specs.Rules.{Going, Outer, ask, placed, eval, evals, field_sort, holds_amount, leads_inside, take_fresh, take_chunk}
 use Rattle.vx_types.specs.Typing.{Scope, HasType, HaveTypes}
-use Rattle.vx_sound.proofs.World.{at_field, InnerAt, LeadsAt, World}
+use Rattle.vx_sound.proofs.Marks.{InnerAt, LeadsAt}
+use Rattle.vx_sound.proofs.World.{at_field, World}
 use Rattle.vx_sound.proofs.Standard.{IsWritten, variable_written}
 use Rattle.vx_sound.proofs.Speaks.{Speaks, AllSpeak}
 use Rattle.vx_sound.proofs.Passes.{Cleared}

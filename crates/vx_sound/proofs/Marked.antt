@@ -20,7 +20,8 @@ use Rattle.vx_amounts.proofs.Amounts.{Positive, positive-le}
 use Rattle.vx_elements.proofs.Settled.{Meaning, Extends, extends-refl}
 use Rattle.vx_elements.proofs.Lists.{each_map}
 use Rattle.vx_elements.proofs.Places.{IsPlace}
-use Rattle.vx_sound.proofs.World.{Walked, Marks, Unmarked, Rooted, Unsaid, MayMark, IsRoot, IsInner, World}
+use Rattle.vx_sound.proofs.Marks.{Marks, Unmarked, Rooted, Unsaid, MayMark, IsRoot, IsInner}
+use Rattle.vx_sound.proofs.World.{Walked, World}
 use Rattle.vx_sound.proofs.Passes.{Cleared}
 use Rattle.vx_sound.proofs.Stands.{values_of, location_of, instance_of, resource_of, StoreStands, FactStands, PathStands, MeasureStands, OwnStands, TermsStand, InstanceKey, ChunkStands, HeapStands, Stands, stands_later}
 use Rattle.vx_sound.proofs.Chunks.{Apart, taken_apart, put_together, chunk_held}

@@ -28,7 +28,8 @@ use Rattle.vx_elements.proofs.Elements.{element, int_value_is}
 use Rattle.vx_elements.proofs.Eventually.{eventually}
 use Rattle.vx_elements.proofs.Truth.{both_true}
 use Rattle.vx_amounts.proofs.Amounts.{Positive}
-use Rattle.vx_sound.proofs.World.{Walked, Rooted, IsInner, InnerAt, World}
+use Rattle.vx_sound.proofs.Marks.{Rooted, IsInner, InnerAt}
+use Rattle.vx_sound.proofs.World.{Walked, World}
 use Rattle.vx_sound.proofs.Speaks.{Speaks, AllSpeak}
 use Rattle.vx_sound.proofs.Passes.{Cleared}
 use Rattle.vx_sound.proofs.Stands.{resource_of, amount_of, TermsStand, MeasureStands, OwnStands, Stands, measure_later}

@@ -25,7 +25,8 @@ use Rattle.vx_amounts.proofs.Amounts.{Le, Positive, Same, le-refl, le-trans, le-
 use Rattle.vx_elements.proofs.Truth.{equal_is, is_equal, both_true, if_true, denied, le_true, true_positive, positive_true, good_whole, good_null, good_positive, good_at_most, add_is, good_sum}
 use Rattle.vx_elements.proofs.Places.{IsPlace, matching_places, matching_same}
 use Rattle.vx_elements.proofs.Lists.{name_is, each_append, each_in, each_both}
-use Rattle.vx_sound.proofs.World.{at_field, Limited, IsTypedResource, Unmarked, IsRoot, IsInner, World, Changing, none_inner}
+use Rattle.vx_sound.proofs.Marks.{Unmarked, IsRoot, IsInner, none_inner}
+use Rattle.vx_sound.proofs.World.{at_field, Limited, IsTypedResource, World, Changing}
 use Rattle.vx_sound.proofs.Standard.{ite_written}
 use Rattle.vx_sound.proofs.Stands.{ref_of, values_of, location_of, instance_of, resource_of, amount_of, own, held, IsThere, content_sort, ChunkStands, HeapStands, Stands, chunk_typed, facts_stand}
 use Rattle.vx_sound.proofs.Chunks.{location_same, location_is, held_directly, resource_same, field_resource, own_itself, own_sign, held_sign, each_own, Apart, taken_apart, put_together}

@@ -27,7 +27,8 @@ use Rattle.vx_rules.specs.Rules.{Giving, GivingAll, Going, Outer, never, fork, h
 use Rattle.vx_rules.specs.Rules as rule
 use Rattle.vx_rules.specs.Members.{codes, forget, names_of, after_names, called, folded, exec, exec_all}
 use Rattle.vx_types.specs.Typing.{Scope, AreOnce, IsTyped, IsTypedStmt, IsTypedBlock, scope_after, scope_after_all}
-use Rattle.vx_sound.proofs.World.{at_field, CanBe, World, Changing, unrooted}
+use Rattle.vx_sound.proofs.Marks.{unrooted}
+use Rattle.vx_sound.proofs.World.{at_field, CanBe, World, Changing}
 use Rattle.vx_sound.proofs.Speaks.{Speaks, AllSpeak, SpeaksOf, AllSpeakOf, joined_speaks}
 use Rattle.vx_sound.proofs.Says.{IsCalled, Says, AllSay}
 use Rattle.vx_sound.proofs.Steps.{StepsGo, InstanceAt, instance_at}

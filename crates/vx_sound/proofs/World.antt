@@ -1,15 +1,15 @@
 -- What is known of what is held, and of which predicates instances can be held.
-use Rattle.std.proofs.Common.{◌≡◌, ◌⊎◌, inl, inr, ℕ, ℤ, Bool, true, false, [], ◌∷◌, Option, Some, None, sym, subst}
+use Rattle.std.proofs.Common.{◌≡◌, ℕ, ℤ, Bool, true, false, [], ◌∷◌, Option, Some, None}
 use Rattle.vx_frac.specs.Fractions.{Fraction, none, full}
 use Rattle.vx_ast.specs.Syntax.{Name, Program, Predicate, predicate_named}
 use Rattle.vx_meaning.specs.Values.{Value}
 use Rattle.vx_meaning.specs.States as run
-use Rattle.vx_meaning.specs.Flatten.{IsInside}
 use Rattle.vx_meaning.specs.Consistent.{total, Changes, IsSupported, IsConsistent}
 use Rattle.vx_terms.specs.Interpretations.{Tree}
 use Rattle.vx_types.specs.Typing.{HaveNoPerm}
 use Rattle.vx_amounts.proofs.Amounts.{Le, Positive}
 use Rattle.vx_sound.specs.Snapshots.{IsTree}
+use Rattle.vx_sound.proofs.Marks.{Marks, Unmarked}
 
 abbrev pub at_field : ℕ → Name → run.Location
 at_field r f = record { receiver = r; field = f }
@@ -37,55 +37,17 @@ pub record Walked : Type 0 where
   pub function : Name
   pub measure : Option ℤ
 
--- What the marks of chunks stand for: no instance may be marked; this one is the root, and those inside it are inner; or nothing
--- is said of them.
-pub data Marks : Type 0 where
-  Unmarked : Marks
-  Rooted : run.Instance → Marks
-  Unsaid : Marks
-
-abbrev pub MayMark : Marks → Type 0
-MayMark Unmarked = ⊥
-MayMark (Rooted root) = Unit {0}
-MayMark Unsaid = Unit {0}
-
--- an instance that is marked as the root, and one that is marked as inner
-abbrev pub IsRoot : Marks → run.Instance → Type 0
-IsRoot Unmarked k = ⊥
-IsRoot (Rooted root) k = k ≡ root
-IsRoot Unsaid k = Unit {0}
-
-abbrev pub IsInner : Program → Marks → run.Heap → run.Instance → Type 0
-IsInner p Unmarked h k = ⊥
-IsInner p (Rooted root) h k = IsInside p h k root
-IsInner p Unsaid h k = Unit {0}
-
--- of locations nothing is said
-abbrev pub InnerAt : Program → Marks → run.Heap → run.Resource → Type 0
-InnerAt p m h (run.At l) = Unit {0}
-InnerAt p m h (run.Folded k) = IsInner p m h k
-
--- what is unfolded from it is inner
-abbrev pub LeadsAt : Program → Marks → run.Heap → run.Resource → Type 0
-LeadsAt p m h (run.At l) = Unit {0}
-LeadsAt p m h (run.Folded k) = IsRoot m k ⊎ IsInner p m h k
-
--- no instance is the root
-abbrev pub Unrooted : Marks → Type 0
-Unrooted Unmarked = Unit {0}
-Unrooted (Rooted root) = ⊥
-Unrooted Unsaid = Unit {0}
-
 -- What the laws on expressions and assertions need to know of a heap and of what is held there: `Holds`, which says that it
 -- is limited and that each instance of which something is held has its tree, and what keeps it; which functions may be
--- applied; the function whose body is walked, if it is one; and what marks stand for.
+-- applied; and the function whose body is walked, if it is one.
 pub record World : Type 1 where
   pub program : Program
+  -- what the marks of chunks stand for
+  pub marks : Marks
   pub bounded : Bool
   pub Held : Name → Type 0
   pub Applied : Name → Type 0
   pub own : Option Walked
-  pub marks : Marks
   pub proper : (x : Name) (d : Predicate) → Held x → predicate_named program x ≡ Some d → HaveNoPerm d.parameters
   pub Holds : run.Heap → run.Holdings → Type 0
   pub limited : (h : run.Heap) (hs : run.Holdings) → Holds h hs → Limited bounded hs
@@ -99,9 +61,9 @@ pub record World : Type 1 where
 -- What the laws on statements need besides: changes of what isn't held, writes of what is held whole, and new locations keep
 -- what is known, and the trees of the instances that are held. No function has statements, and no instance is marked.
 pub record Changing (w : World) : Type 0 where
+  pub unmarked : w.marks ≡ Unmarked
   pub bounded : w.bounded ≡ true
   pub of_no_function : w.own ≡ None
-  pub unmarked : w.marks ≡ Unmarked
   pub changed : (c : run.State) (g : run.Heap) → Changes w.program c g → w.Holds c.heap c.holdings → w.Holds g c.holdings
   pub changed_tree : (c : run.State) (g : run.Heap) → Changes w.program c g → w.Holds c.heap c.holdings → (k : run.Instance) → IsTypedInstance w.program w.Held k → Positive (run.amount c.holdings (run.Folded k)) →
       (t : Tree) → IsTree w.program c.heap k t → IsTree w.program g k t
@@ -111,23 +73,3 @@ pub record Changing (w : World) : Type 0 where
   pub written_tree : (h : run.Heap) (hs : run.Holdings) (l : run.Location) (v : Value) → w.Holds h hs → Le full (run.amount hs (run.At l)) → (k : run.Instance) → IsTypedInstance w.program w.Held k → Positive (run.amount hs (run.Folded k)) →
       (t : Tree) → IsTree w.program h k t → IsTree w.program ((l, v) ∷ h) k t
   pub created : (h : run.Heap) (hs : run.Holdings) (l : run.Location) → w.Holds h hs → (l.receiver ≡ 0 → ⊥) → ((n : ℕ) → Le (total w.program n h hs l) none) → w.Holds h (run.gained (run.At l) full hs)
-
--- where no instance is the root, one that may be marked may be marked anywhere
-pub inner_anywhere : (p : Program) (m : Marks) → Unrooted m → MayMark m → (h : run.Heap) (r : run.Resource) → InnerAt p m h r
-inner_anywhere p m free may h (run.At l) = tt
-inner_anywhere p Unmarked free may h (run.Folded k) = absurd may
-inner_anywhere p (Rooted root) free may h (run.Folded k) = absurd free
-inner_anywhere p Unsaid free may h (run.Folded k) = tt
-
--- what leads inside may mark
-pub leads_marks : (p : Program) (m : Marks) (h : run.Heap) (k : run.Instance) → LeadsAt p m h (run.Folded k) → MayMark m
-leads_marks p Unmarked h k (inl l) = absurd l
-leads_marks p Unmarked h k (inr l) = absurd l
-leads_marks p (Rooted root) h k l = tt
-leads_marks p Unsaid h k l = tt
-
-pub unrooted : {m : Marks} → m ≡ Unmarked → Unrooted m
-unrooted e = subst Unrooted (sym e) tt
-
-pub none_inner : {m : Marks} (p : Program) (h : run.Heap) (k : run.Instance) → m ≡ Unmarked → IsInner p m h k → ⊥
-none_inner p h k e i = subst (λ m. IsInner p m h k) e i

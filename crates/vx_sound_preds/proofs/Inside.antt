@@ -9,7 +9,7 @@ use Rattle.vx_meaning.specs.Flatten.{bare, entries, body_entries, within, with_i
 use Rattle.vx_terms.proofs.Same.{and_parts}
 use Rattle.vx_amounts.proofs.Amounts.{Le, Positive, le-refl, none-none, positive-le, not-positive, above-add}
 use Rattle.vx_amounts.proofs.Products.{product_positive, positive_le}
-use Rattle.vx_sound.proofs.World.{Marks, Unmarked, Rooted, Unsaid, InnerAt, LeadsAt}
+use Rattle.vx_sound.proofs.Marks.{Marks, Unmarked, Rooted, Unsaid, InnerAt, LeadsAt}
 use Rattle.vx_sound.proofs.Chunks.{resource_same}
 use Rattle.vx_sound_preds.specs.Bodies.{IsRigid, AreRigid, GoodBodies}
 use Rattle.vx_sound_preds.proofs.Fitting.{some_is}

@@ -10,7 +10,8 @@ use Rattle.vx_meaning.specs.Consistent.{total, Changes, IsConsistent}
 use Rattle.vx_types.specs.Typing.{HaveNoPerm}
 use Rattle.vx_whole.specs.Closure.{InClosure}
 use Rattle.vx_amounts.proofs.Amounts.{Le, Positive, le-refl, le-trans, add-left, none-full, none-sum, sum_comm, not-positive}
-use Rattle.vx_sound.proofs.World.{at_field, IsTypedInstance, Unmarked, World, Changing}
+use Rattle.vx_sound.proofs.Marks.{Unmarked}
+use Rattle.vx_sound.proofs.World.{at_field, IsTypedInstance, World, Changing}
 use Rattle.vx_sound.proofs.Chunks.{location_is}
 use Rattle.vx_sound_preds.specs.Bodies.{GoodBodies}
 use Rattle.vx_sound_preds.specs.Covered.{Covered, IsProper}
@@ -86,9 +87,9 @@ module _ (p : Program) (good : GoodBodies p) (x : Name) (no_perm : (x : Name) (d
 
   pub functions_changing : applying.own ≡ None → applying.marks ≡ Unmarked → Changing world
   functions_changing none unmarked = record {
+    unmarked = unmarked;
     bounded = refl;
     of_no_function = none;
-    unmarked = unmarked;
     changed = λ c g ch st. kept c st g (by_change c st g ch);
     changed_tree = λ c g ch st k typed pos t tr. tree_kept p good c g (stocked c st) (by_change c st g ch) k pos t tr;
     changed_total = λ c g ch st n l. total_kept p good c g (stocked c st) (by_change c st g ch) n l;

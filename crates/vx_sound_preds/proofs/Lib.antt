@@ -4,6 +4,8 @@ pub mod Looks
 pub mod Framing
 pub mod Totals
 pub mod Grouped
+pub mod Marking
+pub mod Inside
 pub mod Adding
 pub mod Exchanging
 pub mod Frames
@@ -18,8 +20,6 @@ pub mod Types
 pub mod Changes
 pub mod Giving
 pub mod Holding
-pub mod Marking
-pub mod Inside
 pub mod Produced
 pub mod Entries
 pub mod Unfolds

@@ -33,7 +33,8 @@ use Rattle.vx_elements.proofs.Truth.{is_equal}
 use Rattle.vx_elements.proofs.Values.{value_typed, sort_of_field}
 use Rattle.vx_amounts.proofs.Amounts.{Le, Same, none-full}
 use Rattle.vx_sound.specs.Snapshots.{leaf, location_leaf, truth_leaf, assertion_tree, tree_by}
-use Rattle.vx_sound.proofs.World.{InnerAt, at_field, World}
+use Rattle.vx_sound.proofs.Marks.{InnerAt}
+use Rattle.vx_sound.proofs.World.{at_field, World}
 use Rattle.vx_sound.proofs.Standard.{IsWritten, leaf_of, leaf_is, unit_value, pair_value, first_value, second_value, wrap_value, unwrap_value, first_written, second_written, name_written, good_unit, good_pair, good_first, good_second, good_wrap, good_unwrap}
 use Rattle.vx_sound.proofs.Speaks.{Speaks, SpeaksOf}
 use Rattle.vx_sound.proofs.Passes.{Cleared}

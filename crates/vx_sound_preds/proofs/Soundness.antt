@@ -9,7 +9,7 @@ use Rattle.vx_whole.specs.Closure.{InClosure, itself}
 use Rattle.vx_meaning.specs.Fails.{MethodFails, Fails}
 use Rattle.vx_elements.proofs.Settled.{Meaning}
 use Rattle.vx_sound.specs.Law.{Passes, SoundLaw}
-use Rattle.vx_sound.proofs.World.{Unmarked}
+use Rattle.vx_sound.proofs.Marks.{Unmarked}
 use Rattle.vx_sound.proofs.Passes.{cleared}
 use Rattle.vx_sound.proofs.Methods.{method_goes}
 use Rattle.vx_types.specs.InstanceLanguage.{IsInstanceMember}

@@ -26,7 +26,8 @@ use Rattle.vx_elements.proofs.Eventually.{always, no_refusal}
 use Rattle.vx_amounts.proofs.Amounts.{Le, Positive, Same, le-trans, positive-le}
 use Rattle.vx_amounts.proofs.Products.{positive_le}
 use Rattle.vx_sound.specs.Snapshots.{tree_by, IsTree}
-use Rattle.vx_sound.proofs.World.{MayMark, World, leads_marks}
+use Rattle.vx_sound.proofs.Marks.{MayMark, leads_marks}
+use Rattle.vx_sound.proofs.World.{World}
 use Rattle.vx_sound.proofs.Standard.{IsWritten}
 use Rattle.vx_sound.proofs.Speaks.{SpeaksOf, body_speaks}
 use Rattle.vx_sound.proofs.Passes.{Cleared}
