@@ -67,6 +67,7 @@ module _ (means : Meaning) (world : World) where
     null = st.null;
     standard = st.standard;
     owned = st.owned;
+    marked = st.marked;
     holds = st.holds;
     old_holds = st.old_holds;
   }
@@ -83,6 +84,7 @@ module _ (means : Meaning) (world : World) where
     null = st.null;
     standard = st.standard;
     owned = st.owned;
+    marked = before.marked;
     holds = st.holds;
     old_holds = st.old_holds;
   }

@@ -31,6 +31,7 @@ use Rattle.vx_elements.proofs.Values.{sort_of_field}
 use Rattle.vx_elements.proofs.Eventually.{eventually, both_eventually, one_answer, no_refusal}
 use Rattle.vx_amounts.proofs.Amounts.{Le, Positive, le-trans}
 use Rattle.vx_amounts.proofs.Products.{product_positive}
+use Rattle.vx_sound.proofs.Marks.{Unrooted, inner_anywhere}
 use Rattle.vx_sound.proofs.World.{at_field, CanBe, World}
 use Rattle.vx_sound.proofs.Evaluated.{PartsMeasured}
 use Rattle.vx_sound.proofs.Standard.{IsStandard, pair_value, first_value, second_value, wrapped_back, good_unit, good_pair, good_first, good_second, good_wrap, good_unwrap, written_equal}
@@ -99,7 +100,7 @@ module _ (means : Meaning) (world : World) where
   -- with the holdings and chunks of another state
   pub stands_at : {scope : Scope} {i : Interpretation} {s : rules.State} {rest : run.Holdings} (c : run.State) (chunks : rules.Heap) → Stands means world scope i s (run.with_holdings rest c) → HeapStands means world s.next i chunks c.heap c.holdings → world.Holds c.heap c.holdings →
       Stands means world scope i (rules.with_heap chunks s) c
-  stands_at c chunks st h b = record { store = st.store; path = st.path; heap = h; old = st.old; awake = st.awake; bounded = st.bounded; null = st.null; standard = st.standard; owned = st.owned; holds = b; old_holds = st.old_holds }
+  stands_at c chunks st h b = record { store = st.store; path = st.path; heap = h; old = st.old; awake = st.awake; bounded = st.bounded; null = st.null; standard = st.standard; owned = st.owned; marked = st.marked; holds = b; old_holds = st.old_holds }
 
   module _ (o : Outer) (parts : PartsGo means world o) where
     with_fact_goes : {scope : Scope} {i : Interpretation} {n : ℕ} {c : run.State} {e : Expr} (on : Going) (r : Evaluates means world scope i n (λ t s1. Step (on (rules.with_fact t s1))) c e type.Bool) →
@@ -133,7 +134,7 @@ module _ (means : Meaning) (world : World) where
         refused_leaves scope i s.next on outcome r.result at r.fits h
 
     -- where what is possible can be
-    module _ (Possible : run.State → Type 0) (possible : (c : run.State) → Possible c → CanBe p world.bounded c) where
+    module _ (Possible : run.State → Type 0) (possible : (c : run.State) → Possible c → CanBe p world.bounded c) (free : Unrooted world.marks) where
       -- what is shown of an assertion that is given
       GiveGoes : Fraction → Assertion → Type 0
       GiveGoes q a =
@@ -167,7 +168,7 @@ module _ (means : Meaning) (world : World) where
           given_here can =
               let r = run.At (at_field l.reference f) in
               let holds = world.given c r (product q l.fraction) tt (le-trans l.sign l.amount_is.there) l.stands.holds (possible (run.with_holdings (run.gained r (product q l.fraction) c.holdings) c) can) in
-              let g : Goes means world scope l.interp l.state.next on (run.with_holdings (run.gained r (product q l.fraction) c.holdings) c) = put_fresh means world l.keys l.amount (product q l.fraction) s.inner on l.stands l.amount_good l.amount_is l.sign holds l.cleared in
+              let g : Goes means world scope l.interp l.state.next on (run.with_holdings (run.gained r (product q l.fraction) c.holdings) c) = put_fresh means world l.keys l.amount (product q l.fraction) s.inner on l.stands l.amount_good l.amount_is l.sign holds (λ e. inner_anywhere p world.marks free (st.marked e) c.heap r) l.cleared in
               record { interp = g.interp; state = g.state; extends = extends-trans means l.later l.extends g.extends; later = le_trans l.later g.later; stands = g.stands; cleared = g.cleared }
 
           decided : give_part p Possible q c (run.At (at_field l.reference f), l.fraction) outcome → Leaves scope i s.next on outcome
@@ -199,7 +200,7 @@ module _ (means : Meaning) (world : World) where
           given_here can =
               let r = run.Folded record { predicate = x; arguments = l.results } in
               let holds = world.given c r (product q l.fraction) (keys_typed means world keys) (le-trans l.sign l.amount_is.there) l.stands.holds (possible (run.with_holdings (run.gained r (product q l.fraction) c.holdings) c) can) in
-              let g : Goes means world scope l.interp l.state.next on (run.with_holdings (run.gained r (product q l.fraction) c.holdings) c) = put_fresh means world keys l.amount (product q l.fraction) s.inner on l.stands l.amount_good l.amount_is l.sign holds l.cleared in
+              let g : Goes means world scope l.interp l.state.next on (run.with_holdings (run.gained r (product q l.fraction) c.holdings) c) = put_fresh means world keys l.amount (product q l.fraction) s.inner on l.stands l.amount_good l.amount_is l.sign holds (λ e. inner_anywhere p world.marks free (st.marked e) c.heap r) l.cleared in
               record { interp = g.interp; state = g.state; extends = extends-trans means l.later l.extends g.extends; later = le_trans l.later g.later; stands = g.stands; cleared = g.cleared }
 
           decided : give_part p Possible q c (run.Folded record { predicate = x; arguments = l.results }, l.fraction) outcome → Leaves scope i s.next on outcome

@@ -19,13 +19,14 @@ use Rattle.vx_rules.specs.Trees.{AssertCode, CallCode, Step}
 use Rattle.vx_rules.specs.Rules.{Giving, Going, Outer, nowhere, outer, entered, back, produce}
 use Rattle.vx_rules.specs.Members.{codes, called}
 use Rattle.vx_types.specs.Typing.{Scope, IsTyped, TargetsHaveTypes}
+use Rattle.vx_sound.proofs.Marks.{unrooted}
 use Rattle.vx_sound.proofs.World.{CanBe, World, Changing}
 use Rattle.vx_sound.proofs.Speaks.{SpeaksOf, joined_speaks}
 use Rattle.vx_sound.proofs.Evaluate.{PartsGo}
 use Rattle.vx_sound.proofs.Passes.{Cleared}
 use Rattle.vx_elements.proofs.Settled.{Meaning, extends-refl, extends-trans}
 use Rattle.vx_elements.proofs.Eventually.{eventually, one_answer}
-use Rattle.vx_sound.proofs.Stands.{TermsStand, terms_later, Stands, store_later, heap_later}
+use Rattle.vx_sound.proofs.Stands.{TermsStand, terms_later, Stands, store_later, heap_later, unowned}
 use Rattle.vx_sound.proofs.Puts.{heap_changed}
 use Rattle.vx_sound.proofs.Goes.{Goes, stuck, declared_all}
 use Rattle.vx_sound.proofs.Giving.{whole_scale}
@@ -57,6 +58,7 @@ module _ (means : Meaning) (world : World) (m : Method) (contract : HasContract 
     null = st.null;
     standard = st.standard;
     owned = st.owned;
+    marked = st.marked;
     holds = st.holds;
     old_holds = st.old_holds;
   }
@@ -87,7 +89,8 @@ module _ (means : Meaning) (world : World) (m : Method) (contract : HasContract 
           bounded = r.goes.stands.bounded;
           null = r.goes.stands.null;
           standard = r.goes.stands.standard;
-          owned = r.goes.stands.owned;
+          owned = unowned means world _ _ _ _ _ _ _ world.own changing.of_no_function r.goes.stands.owned;
+          marked = r.goes.stands.marked;
           holds = changing.changed (run.with_holdings r.left c) heap same r.goes.stands.holds;
           old_holds = st.holds;
         }
@@ -108,7 +111,7 @@ module _ (means : Meaning) (world : World) (m : Method) (contract : HasContract 
 
         given : (other : Outcome) → give p (IsConsistent p) full (joined m.place m.ensures) (record { store = run.bind m.parameters vs ++ run.bind m.returns ws; heap = heap; holdings = r.left; old_heap = c.heap; old_holdings = c.holdings }) other →
             Leaves means world (m.parameters ++ m.returns) g.interp g.state.next last other
-        given other h = give_goes means world (outer p d) (parts d) (IsConsistent p) (λ c k. subst (λ b. CanBe p b c) (sym changing.bounded) k) other (joined m.place m.ensures) full h post_typed post_plain whole_amount last (whole_scale means world g.state.next g.interp) g.stands g.cleared
+        given other h = give_goes means world (outer p d) (parts d) (IsConsistent p) (λ c k. subst (λ b. CanBe p b c) (sym changing.bounded) k) (unrooted changing.unmarked) other (joined m.place m.ensures) full h post_typed post_plain whole_amount last (whole_scale means world g.state.next g.interp) g.stands g.cleared
 
         first : (other : Outcome) → failing_at at (give p (IsConsistent p) full (joined m.place m.ensures) (record { store = run.bind m.parameters vs ++ run.bind m.returns ws; heap = heap; holdings = r.left; old_heap = c.heap; old_holdings = c.holdings })) other →
             Leaves means world (m.parameters ++ m.returns) g.interp g.state.next last other
@@ -139,7 +142,8 @@ module _ (means : Meaning) (world : World) (m : Method) (contract : HasContract 
                 bounded = q.stands.bounded;
                 null = q.stands.null;
                 standard = q.stands.standard;
-                owned = q.stands.owned;
+                owned = unowned means world _ _ _ _ _ _ _ world.own changing.of_no_function q.stands.owned;
+                marked = st.marked;
                 holds = q.stands.holds;
                 old_holds = st.old_holds;
               };

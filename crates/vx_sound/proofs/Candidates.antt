@@ -22,6 +22,7 @@ use Rattle.vx_elements.proofs.Built.{Good, good_later, good_and, good_equals}
 use Rattle.vx_elements.proofs.Elements.{element}
 use Rattle.vx_elements.proofs.Truth.{equal_is, both_true, true_le, true_positive, good_positive, good_at_most}
 use Rattle.vx_elements.proofs.Places.{IsPlace, candidates_places}
+use Rattle.vx_sound.proofs.Marks.{IsInner, InnerAt}
 use Rattle.vx_sound.proofs.World.{at_field, IsTypedResource, World}
 use Rattle.vx_sound.proofs.Standard.{IsWritten}
 use Rattle.vx_sound.proofs.Passes.{Cleared}
@@ -141,8 +142,8 @@ module _ (means : Meaning) (world : World) where
     pub resource : resource_of i new ≡ r
 
   pub keyed : {n : ℕ} {i : Interpretation} {heap : run.Heap} {key : rules.Chunk} {r : run.Resource} {b : Sort} → Keys n i key r b → (a t : Term) (inner : Bool) → Good means n i a RealSort → Le none (as_fraction (value i a)) → Good means n i t b →
-      (key.is_field ≡ false → IsWritten t) → (Positive (as_fraction (value i a)) → IsThere p heap r (value i t)) → Keyed n i heap r (record key { amount = a; value = t; inner = inner })
-  keyed {n = n} {i = i} {heap = heap} (of_field f r k g e) a t inner ga sign gt written there = record {
+      (key.is_field ≡ false → IsWritten t) → (Positive (as_fraction (value i a)) → IsThere p heap r (value i t)) → (inner ≡ true → InnerAt p world.marks heap r) → Keyed n i heap r (record key { amount = a; value = t; inner = inner })
+  keyed {n = n} {i = i} {heap = heap} (of_field f r k g e) a t inner ga sign gt written there marked = record {
     chunk = record {
       field = λ e. record { single = refl; receiver = g };
       instance = λ e. absurd (true≢false e);
@@ -151,13 +152,15 @@ module _ (means : Meaning) (world : World) where
       sign = sign;
       content = gt;
       content_is = λ h. subst (λ (l : run.Location). IsThere p heap (run.At l) (value i t)) (sym at) (there h);
+      is_root = λ e m. absurd (true≢false e);
+      is_inner = λ e m. absurd (true≢false e);
     };
     resource = ap run.At at;
   }
     where
       at : location_of i (field_key f r) ≡ at_field k f
       at = ap (λ e. at_field (ref_of e) f) e
-  keyed {n = n} {i = i} {heap = heap} (of_instance x ts vs k) a t inner ga sign gt written there = record {
+  keyed {n = n} {i = i} {heap = heap} (of_instance x ts vs k) a t inner ga sign gt written there marked = record {
     chunk = record {
       field = λ e. absurd (true≢false (sym e));
       instance = λ e. record { held = k.held; predicate = k.predicate; named = k.named; no_perm = k.no_perm; each = subst (λ us. TermsStand means world n i k.predicate.parameters ts us) (sym back) k.each };
@@ -166,6 +169,8 @@ module _ (means : Meaning) (world : World) where
       sign = sign;
       content = gt;
       content_is = λ h. subst (λ (us : List Value). IsThere p heap (run.Folded record { predicate = x; arguments = us }) (value i t)) (sym back) (there h);
+      is_root = λ e m. absurd (true≢false (sym m));
+      is_inner = λ e m. subst (λ (us : List Value). IsInner p world.marks heap record { predicate = x; arguments = us }) (sym back) (marked m);
     };
     resource = ap (λ (us : List Value). let o : run.Instance = record { predicate = x; arguments = us } in run.Folded o) back;
   }

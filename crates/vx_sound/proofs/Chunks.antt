@@ -1,5 +1,5 @@
 -- What taking, putting and writing do to the chunks, and which facts then hold.
-use Rattle.std.proofs.Common.{◌≡◌, ℕ, Bool, true, false, cond, ◌&&◌, List, [], ◌∷◌, ◌++◌, slice_set, refl, sym, ap, ap₂, subst, eq-eqb, eqb-true, true≢false}
+use Rattle.std.proofs.Common.{◌≡◌, ℕ, Bool, true, false, cond, ◌&&◌, ◌||◌, inl, inr, List, [], ◌∷◌, ◌++◌, slice_set, refl, sym, ap, ap₂, subst, eq-eqb, eqb-true, true≢false}
 use Rattle.vx_frac.specs.Fractions.{Fraction, none, is_positive, sum, minus, difference}
 use Rattle.vx_ast.specs.Syntax.{Name, same_name, Program}
 use Rattle.vx_meaning.specs.States as run
@@ -12,10 +12,12 @@ use Rattle.vx_terms.specs.Interpretations.{Each, Interpretation, as_fraction, va
 use Rattle.vx_terms.proofs.Same.{and_parts, int_same}
 use Rattle.vx_rules.specs.States as rules
 use Rattle.vx_rules.specs.Chunks.{Candidate, without, reduced}
+use Rattle.vx_rules.specs.Rules.{leads_inside}
 use Rattle.vx_elements.proofs.Settled.{Meaning}
 use Rattle.vx_elements.proofs.Built.{Good}
 use Rattle.vx_amounts.proofs.Amounts.{Le, Positive, Same, same_is as fractions_same, le-refl, le-trans, le-is, same-trans, same-refl, positive-le, difference_same, add-right, add-left, add-swap, above-add, below-add, none-none, none_minus, difference-none, difference-below, difference-move}
 use Rattle.vx_elements.proofs.Truth.{subtract_is, good_difference}
+use Rattle.vx_sound.proofs.Marks.{InnerAt, LeadsAt}
 use Rattle.vx_sound.proofs.World.{World}
 use Rattle.vx_sound.proofs.Stands.{location_of, instance_of, resource_of, amount_of, own, held, ChunkStands, HeapStands}
 use Rattle.vx_elements.proofs.Places.{IsPlace}
@@ -91,6 +93,26 @@ module _ (means : Meaning) (world : World) where
   abbrev p : Program
   p = world.program
 
+  -- what the marks of a chunk tell
+  pub inner_at : {n : ℕ} {i : Interpretation} {heap : run.Heap} (d : rules.Chunk) → ChunkStands means world n i heap d → d.inner ≡ true → InnerAt p world.marks heap (resource_of i d)
+  inner_at {i = i} {heap = heap} d k e = go d.is_field refl
+    where
+      go : (b : Bool) → d.is_field ≡ b → InnerAt p world.marks heap (cond b (run.At (location_of i d)) (run.Folded (instance_of i d)))
+      go true f = tt
+      go false f = k.is_inner f e
+
+  pub leads_at : {n : ℕ} {i : Interpretation} {heap : run.Heap} (d : rules.Chunk) → ChunkStands means world n i heap d → leads_inside d ≡ true → LeadsAt p world.marks heap (resource_of i d)
+  leads_at {i = i} {heap = heap} d k e = by_kind d.is_field refl
+    where
+      by_mark : d.is_field ≡ false → (a b : Bool) → d.root ≡ a → d.inner ≡ b → (a || b) ≡ true → LeadsAt p world.marks heap (run.Folded (instance_of i d))
+      by_mark f true b r m e = inl (k.is_root f r)
+      by_mark f false true r m e = inr (k.is_inner f m)
+      by_mark f false false r m e = absurd (true≢false (sym e))
+
+      by_kind : (b : Bool) → d.is_field ≡ b → LeadsAt p world.marks heap (cond b (run.At (location_of i d)) (run.Folded (instance_of i d)))
+      by_kind true f = tt
+      by_kind false f = by_mark f d.root d.inner refl refl e
+
   module _ (n : ℕ) (i : Interpretation) (heap : run.Heap) where
     pub held_sign : (cs : rules.Heap) (l : run.Resource) → Each (ChunkStands means world n i heap) cs → Le none (held i cs l)
     held_sign [] l h = le-refl none
@@ -165,6 +187,8 @@ module _ (means : Meaning) (world : World) where
           sign = le-trans (difference-none enough) amount_is.back;
           content = k.chunk.content;
           content_is = λ e. k.chunk.content_is (positive-le e (le-trans amount_is.there (difference-below (amount_of i c.chunk) (as_fraction (value i a)) sign)));
+          is_root = k.chunk.is_root;
+          is_inner = k.chunk.is_inner;
         }
 
         sums : (l : run.Resource) → Le (sum (own i (record c.chunk { amount = subtract c.chunk.amount a }) l) (held i (pl.front ++ pl.back) l)) (run.amount (run.lost (resource_of i c.chunk) q holdings) l)

@@ -49,12 +49,14 @@ module _ (means : Meaning) (world : World) (Applied : Name → Type 0) (own : Op
     sign = k.sign;
     content = k.content;
     content_is = k.content_is;
+    is_root = k.is_root;
+    is_inner = k.is_inner;
   }
 
   heap_there : (n : ℕ) (i : Interpretation) (chunks : rules.Heap) (heap : run.Heap) (holdings : run.Holdings) → HeapStands means world n i chunks heap holdings → HeapStands means there n i chunks heap holdings
   heap_there n i chunks heap holdings h = record { each = each_map (ChunkStands means world n i heap) (ChunkStands means there n i heap) (chunk_there n i heap) chunks h.each; sums = h.sums }
 
-  pub stands_there : {scope : Scope} {i : Interpretation} {s : rules.State} {c : run.State} (entered : Option rules.Own) → OwnStands means there s.next i entered own → Stands means world scope i s c → Stands means there scope i (record s { own = entered }) c
+  pub stands_there : {scope : Scope} {i : Interpretation} {s : rules.State} {c : run.State} (entered : Option rules.Own) → OwnStands means there s.next i c.heap c.old_heap entered own → Stands means world scope i s c → Stands means there scope i (record s { own = entered }) c
   stands_there {scope = scope} {i = i} {s = s} {c = c} entered k st = record {
     store = store_there s.next i scope s.store c.store st.store;
     path = each_map (FactStands means world s.next i) (FactStands means there s.next i) (fact_there s.next i) s.path st.path;
@@ -65,6 +67,7 @@ module _ (means : Meaning) (world : World) (Applied : Name → Type 0) (own : Op
     null = st.null;
     standard = st.standard;
     owned = k;
+    marked = st.marked;
     holds = st.holds;
     old_holds = st.old_holds;
   }

@@ -27,7 +27,7 @@ use Rattle.vx_elements.proofs.Built.{Good, good_later, good_negate, good_implies
 use Rattle.vx_elements.proofs.Elements.{element}
 use Rattle.vx_amounts.proofs.Amounts.{Le, Positive, Same, le-trans, same-refl, same-trans, sum_same, none-full, positive-or, positive-le}
 use Rattle.vx_elements.proofs.Truth.{equal_is, denied, if_true, true_positive, good_positive, good_null, good_whole}
-use Rattle.vx_sound.proofs.Stands.{ref_of, location_of, resource_of, amount_of, IsThere, StoreStands, ChunkStands, Stands, stands_later, store_assign, facts_stand, next_after_facts}
+use Rattle.vx_sound.proofs.Stands.{ref_of, location_of, resource_of, amount_of, IsThere, StoreStands, ChunkStands, Stands, stands_later, store_assign, facts_stand, next_after_facts, unowned}
 use Rattle.vx_sound.proofs.Chunks.{location_is, held_directly, field_resource}
 use Rattle.vx_sound.proofs.Puts.{all_held, heap_changed}
 use Rattle.vx_sound.proofs.Goes.{Goes, here, goes_after, good_fresh}
@@ -181,7 +181,7 @@ module _ (means : Meaning) (world : World) where
     put_all (f ∷ fs) x r n d {scope = scope} {c = c} on st g is z h =
         let next = λ (s1 : rules.State). on (put_fields p fs x s1) in
         let holds = changing.created c.heap c.holdings (at_field r f) st.holds n (z f (among_first f fs)) in
-        let m = put_fresh means world (of_field f x r g is) whole_amount full false next st (good_whole means) (same-refl full) none-full holds h in
+        let m = put_fresh means world (of_field f x r g is) whole_amount full false next st (good_whole means) (same-refl full) none-full holds (λ e. absurd (true≢false (sym e))) h in
         goes_after means world {on = on} m (put_all fs x r n d.1 on m.stands (good_later means m.later m.extends g) (value_kept means x g.settled m.extends ∙ is)
         (λ k e n. still_none p c.heap n r f k fs c.holdings d.0 e (z k (among_more f k fs e) n)) m.cleared)
 
@@ -211,7 +211,8 @@ module _ (means : Meaning) (world : World) where
             bounded = m.stands.bounded;
             null = m.stands.null;
             standard = m.stands.standard;
-            owned = m.stands.owned;
+            owned = unowned means world _ _ _ _ _ _ _ world.own changing.of_no_function m.stands.owned;
+            marked = m.stands.marked;
             holds = holds_fields fs r fresh.not_null d heap c.holdings changed.holds unheld;
             old_holds = m.stands.old_holds;
           };
@@ -250,7 +251,8 @@ module _ (means : Meaning) (world : World) where
           bounded = before.bounded;
           null = before.null;
           standard = before.standard;
-          owned = before.owned;
+          owned = unowned means world _ _ _ _ _ _ _ world.own changing.of_no_function before.owned;
+          marked = before.marked;
           holds = changing.changed c heap kept before.holds;
           old_holds = before.old_holds;
         }

@@ -17,8 +17,9 @@ use Rattle.vx_terms.specs.Interpretations.{Interpretation, Element, IntElement, 
 use Rattle.vx_rules.specs.States as rules
 use Rattle.vx_rules.specs.Trees.{Code, Tree, AmountCode}
 use Rattle.vx_rules.specs.Chunks.{field_key, Candidate, chosen, reduced, field_facts, instance_facts, put_over, put}
-use Rattle.vx_rules.specs.Rules.{Going, Outer, ask, placed, eval, evals, field_sort, holds_amount, take_fresh, take_chunk}
+use Rattle.vx_rules.specs.Rules.{Going, Outer, ask, placed, eval, evals, field_sort, holds_amount, leads_inside, take_fresh, take_chunk}
 use Rattle.vx_types.specs.Typing.{Scope, HasType, HaveTypes}
+use Rattle.vx_sound.proofs.Marks.{InnerAt, LeadsAt}
 use Rattle.vx_sound.proofs.World.{at_field, World}
 use Rattle.vx_sound.proofs.Standard.{IsWritten, variable_written}
 use Rattle.vx_sound.proofs.Speaks.{Speaks, AllSpeak}
@@ -31,7 +32,7 @@ use Rattle.vx_amounts.proofs.Amounts.{Le, Positive, Same, same-refl, full-positi
 use Rattle.vx_elements.proofs.Truth.{equal_is, true_le, good_zero, good_whole, good_at_most, good_product, multiply_is}
 use Rattle.vx_sound.proofs.Stands.{amount_of, IsThere, content_sort, HeapStands, terms_later, Stands, stands_later, next_after_facts}
 use Rattle.vx_elements.proofs.Values.{ref_value_is, perm_value_is, value_typed, sort_of_field}
-use Rattle.vx_sound.proofs.Chunks.{resource_same, held_sign, taken_apart, chunk_held, reduced_stands, lowered_by_none}
+use Rattle.vx_sound.proofs.Chunks.{leads_at, resource_same, held_sign, taken_apart, chunk_held, reduced_stands, lowered_by_none}
 use Rattle.vx_sound.proofs.Candidates.{FirstWith, first_one, InstanceTerms, Keys, of_field, of_instance, keys_later, keys_typed, Keyed, keyed, good_amount, amount_is}
 use Rattle.vx_sound.proofs.Puts.{stands_with_holdings, put_stands}
 use Rattle.vx_sound.proofs.Goes.{cleared_case, Goes, Evaluates, asked, good_fresh}
@@ -120,10 +121,10 @@ module _ (means : Meaning) (world : World) where
 
   -- a chunk with a fresh value
   pub put_fresh : {scope : Scope} {i : Interpretation} {s : rules.State} {c : run.State} {key : rules.Chunk} {r : run.Resource} {b : Sort} (keys : Keys means world s.next i key r b) (a : Term) (q : Fraction) (inner : Bool) (on : Going) →
-      Stands means world scope i s c → Good means s.next i a RealSort → Same (as_fraction (value i a)) q → Le none (as_fraction (value i a)) → world.Holds c.heap (run.gained r q c.holdings) →
+      Stands means world scope i s c → Good means s.next i a RealSort → Same (as_fraction (value i a)) q → Le none (as_fraction (value i a)) → world.Holds c.heap (run.gained r q c.holdings) → (inner ≡ true → InnerAt p world.marks c.heap r) →
       Cleared (on (put (record key { amount = a; value = rules.fresh b s; inner = inner }) (rules.after_fresh s))) →
       Goes means world scope i s.next on (run.with_holdings (run.gained r q c.holdings) c)
-  put_fresh {scope = scope} {i = i} {s = s} {c = c} {key = key} {r = r} {b = b} keys a q inner on st ga same_q sign holds h =
+  put_fresh {scope = scope} {i = i} {s = s} {c = c} {key = key} {r = r} {b = b} keys a q inner on st ga same_q sign holds marked h =
       record {
         interp = j;
         state = put new (rules.after_fresh s);
@@ -155,6 +156,7 @@ module _ (means : Meaning) (world : World) where
       made = keyed means world (keys_later means world le ext keys) a (rules.fresh b s) inner (good_later means le ext ga) (subst (λ e. Le none (as_fraction e)) (sym a_kept) sign) (good_fresh means world i s.next f.element b)
           (λ e. variable_written s.next b)
           (λ k. subst (IsThere p c.heap r) (sym (fresh_value means i s.next f.element b f.of_sort)) (f.there (subst (λ e. Positive (as_fraction e)) a_kept k)))
+          marked
 
   module _ (o : Outer) (parts : PartsGo means world o) where
     -- the amount of a permission, scaled, which is at least none
@@ -333,6 +335,7 @@ module _ (means : Meaning) (world : World) where
     pub good : Good means state.next interp chunk.value b
     pub written : IsInstance r → IsWritten chunk.value
     pub there : Positive q → IsThere p c.heap r (value interp chunk.value)
+    pub leads : leads_inside chunk ≡ true → LeadsAt p world.marks c.heap r
     pub cleared : Cleared (on chunk state)
 
   nothing_taken : {scope : Scope} {i : Interpretation} {s : rules.State} {c : run.State} {key : rules.Chunk} {r : run.Resource} {b : Sort} (keys : Keys means world s.next i key r b) (a : Term) (q : Fraction) (at : Place) (code : Code) (on : rules.Chunk → Going) →
@@ -353,6 +356,7 @@ module _ (means : Meaning) (world : World) where
         good = good_fresh means world g.interp g.state.next (IntElement (pos 0)) b;
         written = λ e. variable_written g.state.next b;
         there = λ k. absurd (not-positive k zero);
+        leads = unmarked keys;
         cleared = g.cleared;
       }
     where
@@ -361,6 +365,10 @@ module _ (means : Meaning) (world : World) where
 
       g : Goes means world scope i s.next (λ s1. on (record key { amount = a; value = rules.fresh b s1 }) (rules.after_fresh s1)) c
       g = w.1
+
+      unmarked : {key : rules.Chunk} {r : run.Resource} {b : Sort} → Keys means world s.next i key r b → leads_inside key ≡ true → LeadsAt p world.marks c.heap r
+      unmarked (of_field f r k g e) h = tt
+      unmarked (of_instance x ts vs k) h = absurd (true≢false (sym h))
 
       zero : Le q none
       zero = subst (λ e. Le q (as_fraction e)) (equal_is i a zero_amount w.0) same_q.back
@@ -406,6 +414,7 @@ module _ (means : Meaning) (world : World) where
             good = sort_is keys d.chunk m.place.kind m.place.resource apart.chunk.content;
             written = λ e. apart.chunk.written (m.place.kind ∙ kind_is keys e);
             there = λ k. subst (λ x. IsThere p c.heap x (value i d.chunk.value)) taken.0 (apart.chunk.content_is (positive-le k (le-trans same_q.back taken.1)));
+            leads = λ e. subst (LeadsAt p world.marks c.heap) taken.0 (leads_at means world d.chunk apart.chunk e);
             cleared = m.cleared;
           }
         where

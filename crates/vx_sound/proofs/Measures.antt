@@ -7,6 +7,7 @@ use Rattle.vx_ast.specs.declared.Place.{Place}
 use Rattle.vx_ast.specs.Syntax.{Name, Program, Function, Expr, Exprs, Measure, ByNumber, ByInstance}
 use Rattle.vx_meaning.specs.Values.{Value, IntValue}
 use Rattle.vx_meaning.specs.States as run
+use Rattle.vx_meaning.specs.Flatten.{IsInside}
 use Rattle.vx_meaning.specs.Fits.{Eventually, Fits, fit_all, deeper}
 use Rattle.vx_terms.specs.Sorts.{IntSort, SnapSort, Less, LessEqual}
 use Rattle.vx_terms.specs.Terms.{Term}
@@ -27,13 +28,14 @@ use Rattle.vx_elements.proofs.Elements.{element, int_value_is}
 use Rattle.vx_elements.proofs.Eventually.{eventually}
 use Rattle.vx_elements.proofs.Truth.{both_true}
 use Rattle.vx_amounts.proofs.Amounts.{Positive}
+use Rattle.vx_sound.proofs.Marks.{Rooted, IsInner, InnerAt}
 use Rattle.vx_sound.proofs.World.{Walked, World}
 use Rattle.vx_sound.proofs.Speaks.{Speaks, AllSpeak}
 use Rattle.vx_sound.proofs.Passes.{Cleared}
 use Rattle.vx_sound.proofs.Stands.{resource_of, amount_of, TermsStand, MeasureStands, OwnStands, Stands, measure_later}
 use Rattle.vx_sound.proofs.Goes.{cleared_case, Goes, here, goes_after, reached, stuck, asked}
 use Rattle.vx_elements.proofs.Places.{IsPlace}
-use Rattle.vx_sound.proofs.Chunks.{taken_apart}
+use Rattle.vx_sound.proofs.Chunks.{taken_apart, inner_at}
 use Rattle.vx_sound.proofs.Candidates.{InstanceTerms, Keys, of_instance, good_some, some_is, FirstInner, first_inner}
 use Rattle.vx_sound.proofs.Arguments.{stands_entered, stands_back}
 use Rattle.vx_sound.proofs.Evaluate.{PartsGo, EvaluatesAll, eval_goes, evals_goes}
@@ -75,19 +77,24 @@ module _ (means : Meaning) (world : World) where
   lesser_asked o (Some t) None m y at code on st h gm e w = absurd h
 
   -- something of an instance is held from inside the one that the function's measure names
-  pub record HeldInside (i : Interpretation) (heap : rules.Heap) (k : run.Instance) : Type 0 where
+  pub record HeldInside (i : Interpretation) (heap : rules.Heap) (concrete : run.Heap) (k : run.Instance) : Type 0 where
     pub key : rules.Chunk
     pub candidate : Candidate
     pub place : IsPlace key heap candidate
     pub inner : candidate.chunk.inner ≡ true
     pub resource : resource_of i candidate.chunk ≡ run.Folded k
     pub positive : Positive (amount_of i candidate.chunk)
+    pub inside : IsInner p world.marks concrete k
+
+  -- where that one is the root, it is inside it
+  pub is_inside : {i : Interpretation} {heap : rules.Heap} {concrete : run.Heap} {k : run.Instance} (root : run.Instance) → world.marks ≡ Rooted root → HeldInside i heap concrete k → IsInside p concrete k root
+  is_inside {concrete = concrete} {k = k} root e h = subst (λ m. IsInner p m concrete k) e h.inside
 
   -- a callee's measure is less than that of the function that is walked
   pub data Lowers (walked : Walked) (g : Function) (vs : List Value) (c : run.State) (i : Interpretation) (heap : rules.Heap) : Type 0 where
     by_number : (e : Expr) (y : ℤ) → g.decreases ≡ Some (ByNumber e) → Fits p (run.with_store (run.bind g.parameters vs) c) e (IntValue y) → Lowered walked.measure y → Lowers walked g vs c i heap
     by_instance : (at : Place) (x : Name) (es : Exprs) (ws : List Value) → g.decreases ≡ Some (ByInstance at x es) → Eventually (λ n. fit_all p (deeper p n) (run.with_store (run.bind g.parameters vs) c) es ≡ Ok ws) →
-        HeldInside i heap (record { predicate = x; arguments = ws }) → Lowers walked g vs c i heap
+        HeldInside i heap c.heap (record { predicate = x; arguments = ws }) → Lowers walked g vs c i heap
 
   abbrev pub MeasureSpeaks : Option Measure → Type 0
   MeasureSpeaks None = Unit {0}
@@ -154,7 +161,7 @@ module _ (means : Meaning) (world : World) where
             let is' = some_is means world keys d m.first.place.kind m.first.place.resource a.chunk m.first.as_wanted in
             record {
               goes = record { interp = r.interp; state = back s r.state; extends = r.extends; later = r.later; stands = st'; cleared = m.first.cleared };
-              lowers = by_instance place y es r.results is r.fits (record { key = instance_key y r.terms; candidate = m.first.candidate; place = m.first.place; inner = m.inner; resource = is'.0; positive = is'.1 });
+              lowers = by_instance place y es r.results is r.fits (record { key = instance_key y r.terms; candidate = m.first.candidate; place = m.first.place; inner = m.inner; resource = is'.0; positive = is'.1; inside = subst (InnerAt p world.marks c.heap) is'.0 (inner_at means world d a.chunk m.inner) });
             }
 
     decreases_by : (d : ℕ) → ((n : ℕ) → d ≡ suc n → PartsGo means world (outer p n)) → (own : rules.Own) (walked : Walked) → MeasureStands means world s.next i own.measure walked.measure → (m : Option Measure) → g.decreases ≡ m →
@@ -178,7 +185,7 @@ module _ (means : Meaning) (world : World) where
           | Some own ↦ cond (rules.is_quiet s) (Step (on s)) (cond (is_in_group p own.function f) (decreasing p (outer p d) own g.decreases x at s on) (Step (on s)))
         ]
 
-        by_own : (o : Option rules.Own) → s.own ≡ o → (w : Option Walked) → world.own ≡ w → OwnStands means world s.next i o w →
+        by_own : (o : Option rules.Own) → s.own ≡ o → (w : Option Walked) → world.own ≡ w → OwnStands means world s.next i c.heap c.old_heap o w →
             Cleared (elim o as (λ o. Tree) [
               | None ↦ Step (on s)
               | Some own ↦ cond (rules.is_quiet s) (Step (on s)) (cond (is_in_group p own.function f) (decreasing p (outer p d) own g.decreases x at s on) (Step (on s)))

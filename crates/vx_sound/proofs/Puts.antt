@@ -1,5 +1,5 @@
 -- Writing and putting chunks, the facts that then hold, and what a change of the heap leaves.
-use Rattle.std.proofs.Common.{◌≡◌, ℕ, Bool, true, false, not, cond, ◌&&◌, List, [], ◌∷◌, ◌++◌, slice_set, refl, sym, ◌∙◌, ap, ap₂, subst, true≢false}
+use Rattle.std.proofs.Common.{◌≡◌, ℕ, Bool, true, false, not, cond, ◌&&◌, ◌||◌, ◌⊎◌, inl, inr, List, [], ◌∷◌, ◌++◌, slice_set, refl, sym, ◌∙◌, ap, ap₂, subst, true≢false}
 use Rattle.vx_frac.specs.Fractions.{Fraction, none, full, sum}
 use Rattle.vx_ast.specs.declared.ValueType.{ValueType}
 use Rattle.vx_ast.specs.declared.ValueType.TheVariants as type
@@ -25,9 +25,10 @@ use Rattle.vx_amounts.proofs.Amounts.{Le, Positive, Same, le-refl, le-trans, le-
 use Rattle.vx_elements.proofs.Truth.{equal_is, is_equal, both_true, if_true, denied, le_true, true_positive, positive_true, good_whole, good_null, good_positive, good_at_most, add_is, good_sum}
 use Rattle.vx_elements.proofs.Places.{IsPlace, matching_places, matching_same}
 use Rattle.vx_elements.proofs.Lists.{name_is, each_append, each_in, each_both}
+use Rattle.vx_sound.proofs.Marks.{Unmarked, IsRoot, IsInner, none_inner}
 use Rattle.vx_sound.proofs.World.{at_field, Limited, IsTypedResource, World, Changing}
 use Rattle.vx_sound.proofs.Standard.{ite_written}
-use Rattle.vx_sound.proofs.Stands.{ref_of, values_of, location_of, resource_of, amount_of, own, held, IsThere, content_sort, ChunkStands, HeapStands, Stands, chunk_typed, facts_stand}
+use Rattle.vx_sound.proofs.Stands.{ref_of, values_of, location_of, instance_of, resource_of, amount_of, own, held, IsThere, content_sort, ChunkStands, HeapStands, Stands, chunk_typed, facts_stand}
 use Rattle.vx_sound.proofs.Chunks.{location_same, location_is, held_directly, resource_same, field_resource, own_itself, own_sign, held_sign, each_own, Apart, taken_apart, put_together}
 use Rattle.vx_sound.proofs.Candidates.{Keyed}
 
@@ -44,6 +45,10 @@ append_nil (x ∷ xs) = ap (λ ys. x ∷ ys) (append_nil xs)
 both_are : {a b : Bool} → a ≡ true → b ≡ true → (a && b) ≡ true
 both_are {a = true} e f = f
 both_are {a = false} e f = e
+
+either : (a b : Bool) → (a || b) ≡ true → (a ≡ true) ⊎ (b ≡ true)
+either true b e = inl refl
+either false b e = inr e
 
 not_false : (b : Bool) → not b ≡ true → b ≡ false
 not_false true e = sym e
@@ -75,9 +80,19 @@ module _ (means : Meaning) (world : World) where
   same_there heap (run.Folded o) typed d e h k = h.2 ∙ ap TreeElement (world.single heap o h.0 k.0 typed h.1 k.1) ∙ sym k.2
 
   -- with another heap, where what is there stays there
-  recontent : {n : ℕ} {i : Interpretation} {heap new : run.Heap} {c : rules.Chunk} → ChunkStands means world n i heap c →
+  recontent : {n : ℕ} {i : Interpretation} {heap new : run.Heap} {c : rules.Chunk} → world.marks ≡ Unmarked → ChunkStands means world n i heap c →
       (Positive (amount_of i c) → IsThere p heap (resource_of i c) (value i c.value) → IsThere p new (resource_of i c) (value i c.value)) → ChunkStands means world n i new c
-  recontent k e = record { field = k.field; instance = k.instance; written = k.written; amount = k.amount; sign = k.sign; content = k.content; content_is = λ h. e h (k.content_is h) }
+  recontent {i = i} {heap = heap} {c = c} none k e = record {
+    field = k.field;
+    instance = k.instance;
+    written = k.written;
+    amount = k.amount;
+    sign = k.sign;
+    content = k.content;
+    content_is = λ h. e h (k.content_is h);
+    is_root = k.is_root;
+    is_inner = λ f g. absurd (none_inner p heap (instance_of i c) none (k.is_inner f g));
+  }
 
   -- each chunk's amount is held
   pub all_held : (n : ℕ) (i : Interpretation) (heap : run.Heap) (holdings : run.Holdings) (chunks : rules.Heap) → HeapStands means world n i chunks heap holdings → Each (λ (d : rules.Chunk). Le (amount_of i d) (run.amount holdings (resource_of i d))) chunks
@@ -94,7 +109,7 @@ module _ (means : Meaning) (world : World) where
       HeapStands means world n i chunks new c.holdings
   heap_changed changing n i chunks c new st holds kept = record {
     each = each_both (ChunkStands means world n i c.heap) (λ (d : rules.Chunk). Le (amount_of i d) (run.amount c.holdings (resource_of i d))) (ChunkStands means world n i new)
-        (λ d k m. recontent k (λ h. stays (resource_of i d) (value i d.value) (chunk_typed means world k) (positive-le h m))) chunks st.each (all_held n i c.heap c.holdings chunks st);
+        (λ d k m. recontent changing.unmarked k (λ h. stays (resource_of i d) (value i d.value) (chunk_typed means world k) (positive-le h m))) chunks st.each (all_held n i c.heap c.holdings chunks st);
     sums = st.sums;
   }
     where
@@ -117,9 +132,11 @@ module _ (means : Meaning) (world : World) where
           sign = k.chunk.sign;
           content = subst (λ b. Good means n i t (content_sort p b c.chunk.resource)) (sym kind) g;
           content_is = λ q. subst (λ r. IsThere p ((location_of i c.chunk, v) ∷ heap) r (value i t)) (sym (field_resource i c.chunk kind)) (e ∙ ap element (sym (read_written p (location_of i c.chunk) v heap f)));
+          is_root = k.chunk.is_root;
+          is_inner = λ q. absurd (true≢false (sym kind ∙ q));
         };
         others = each_both (ChunkStands means world n i heap) Among (ChunkStands means world n i ((location_of i c.chunk, v) ∷ heap))
-            (λ d m q. recontent m (λ pos. elsewhere d q.0 q.1 pos (chunk_typed means world m) (resource_of i d) refl)) (pl.front ++ pl.back) k.others (owned (pl.front ++ pl.back) k.others (λ r. le-refl (held i (pl.front ++ pl.back) r)));
+            (λ d m q. recontent changing.unmarked m (λ pos. elsewhere d q.0 q.1 pos (chunk_typed means world m) (resource_of i d) refl)) (pl.front ++ pl.back) k.others (owned (pl.front ++ pl.back) k.others (λ r. le-refl (held i (pl.front ++ pl.back) r)));
         sums = k.sums;
       })
     where
@@ -249,8 +266,14 @@ module _ (means : Meaning) (world : World) where
           sign = le-trans (none-none m.sign k.sign) (add_is means m.amount k.amount).back;
           content = good_ite means (good_positive means m.amount) m.content content';
           content_is = λ h. subst (IsThere p heap (resource_of i c)) (sym (ite_value i (less zero_amount c.amount) c.value new.value)) (go h (as_bool (value i (less zero_amount c.amount))) refl);
+          is_root = λ f g. elim (either c.root new.root g) [ inl h ↦ m.is_root f h | inr h ↦ subst (IsRoot world.marks) instances (k.is_root (sym kind ∙ f) h) ];
+          is_inner = λ f g. elim (either c.inner new.inner g) [ inl h ↦ m.is_inner f h | inr h ↦ subst (IsInner p world.marks heap) instances (k.is_inner (sym kind ∙ f) h) ];
         }
           where
+            instances : instance_of i new ≡ instance_of i c
+            instances =
+                ap₂ (λ (x : Name) (ts : List Term). let o : run.Instance = record { predicate = x; arguments = values_of i ts } in o) (sym resource) (arguments_are new.arguments c.arguments same_args)
+
             rest_positive : Positive (amount_of i (merged new c)) → as_bool (value i (less zero_amount c.amount)) ≡ false → Positive (amount_of i new)
             rest_positive h e =
                 let small : Le (amount_of i c) none = positive-or (amount_of i c) (λ pos. absurd (true≢false (sym (positive_true means m.amount pos) ∙ e))) (λ z. z) in
@@ -401,7 +424,7 @@ module _ (means : Meaning) (world : World) where
   -- the whole state
   pub stands_with_holdings : {scope : Scope} {i : Interpretation} {s : rules.State} {c : run.State} (chunks : rules.Heap) (holdings : run.Holdings) → Stands means world scope i s c → HeapStands means world s.next i chunks c.heap holdings →
       world.Holds c.heap holdings → Stands means world scope i (rules.with_heap chunks s) (run.with_holdings holdings c)
-  stands_with_holdings chunks holdings st h b = record { store = st.store; path = st.path; heap = h; old = st.old; awake = st.awake; bounded = st.bounded; null = st.null; standard = st.standard; owned = st.owned; holds = b; old_holds = st.old_holds }
+  stands_with_holdings chunks holdings st h b = record { store = st.store; path = st.path; heap = h; old = st.old; awake = st.awake; bounded = st.bounded; null = st.null; standard = st.standard; owned = st.owned; marked = st.marked; holds = b; old_holds = st.old_holds }
 
   pub put_stands : {scope : Scope} {i : Interpretation} {s : rules.State} {c : run.State} (new : rules.Chunk) (r : run.Resource) (q : Fraction) → Stands means world scope i s c → Keyed means world s.next i c.heap r new →
       Same (amount_of i new) q → world.Holds c.heap (run.gained r q c.holdings) →

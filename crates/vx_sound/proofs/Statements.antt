@@ -27,6 +27,7 @@ use Rattle.vx_rules.specs.Rules.{Giving, GivingAll, Going, Outer, never, fork, h
 use Rattle.vx_rules.specs.Rules as rule
 use Rattle.vx_rules.specs.Members.{codes, forget, names_of, after_names, called, folded, exec, exec_all}
 use Rattle.vx_types.specs.Typing.{Scope, AreOnce, IsTyped, IsTypedStmt, IsTypedBlock, scope_after, scope_after_all}
+use Rattle.vx_sound.proofs.Marks.{unrooted}
 use Rattle.vx_sound.proofs.World.{at_field, CanBe, World, Changing}
 use Rattle.vx_sound.proofs.Speaks.{Speaks, AllSpeak, SpeaksOf, AllSpeakOf, joined_speaks}
 use Rattle.vx_sound.proofs.Says.{IsCalled, Says, AllSay}
@@ -38,7 +39,7 @@ use Rattle.vx_elements.proofs.Elements.{element}
 use Rattle.vx_elements.proofs.Eventually.{both_eventually, one_answer}
 use Rattle.vx_amounts.proofs.Amounts.{Le, le-refl, le-trans}
 use Rattle.vx_elements.proofs.Truth.{good_whole}
-use Rattle.vx_sound.proofs.Stands.{location_of, resource_of, amount_of, resource_kept, amount_kept, StoreStands, HeapStands, Stands, stands_with_store, heap_later, store_take, store_lengths, store_assign, stands_entry}
+use Rattle.vx_sound.proofs.Stands.{location_of, resource_of, amount_of, resource_kept, amount_kept, StoreStands, HeapStands, Stands, stands_with_store, heap_later, store_take, store_lengths, store_assign, stands_entry, unowned}
 use Rattle.vx_elements.proofs.Values.{ref_value_is, sort_of_field, field_type_is}
 use Rattle.vx_elements.proofs.Places.{IsPlace}
 use Rattle.vx_sound.proofs.Chunks.{field_resource, Apart, taken_apart, chunk_held}
@@ -157,7 +158,7 @@ module _ (means : Meaning) (world : World) where
 
     inhale_goes : (at : Place) (a : Assertion) → SpeaksOf world.Held world.Applied a → ExecGoes (Inhale at a)
     unfolding ExecGoes
-    inhale_goes at a j scope c outcome h k u i s on st w = give_goes means world o parts (IsConsistent p) possible outcome a full h k j whole_amount on (whole_scale means world s.next i) st w
+    inhale_goes at a j scope c outcome h k u i s on st w = give_goes means world o parts (IsConsistent p) possible (unrooted changing.unmarked) outcome a full h k j whole_amount on (whole_scale means world s.next i) st w
 
     assume_goes : (at : Place) (e : Expr) → Speaks world.Held world.Applied e → ExecGoes (Assume at e)
     unfolding ExecGoes
@@ -210,7 +211,8 @@ module _ (means : Meaning) (world : World) where
             bounded = r.goes.stands.bounded;
             null = r.goes.stands.null;
             standard = r.goes.stands.standard;
-            owned = r.goes.stands.owned;
+            owned = unowned means world _ _ _ _ _ _ _ world.own changing.of_no_function r.goes.stands.owned;
+            marked = r.goes.stands.marked;
             holds = changing.changed (run.with_holdings r.left c) heap same r.goes.stands.holds;
             old_holds = r.goes.stands.old_holds;
           };
@@ -332,7 +334,8 @@ module _ (means : Meaning) (world : World) where
             bounded = n.stands.bounded;
             null = n.stands.null;
             standard = n.stands.standard;
-            owned = n.stands.owned;
+            owned = unowned means world _ _ _ _ _ _ _ world.own changing.of_no_function n.stands.owned;
+            marked = n.stands.marked;
             holds = changing.written c.heap c.holdings (at_field reference.0 f) q.result st.holds enough;
             old_holds = n.stands.old_holds;
           };
@@ -531,7 +534,8 @@ module _ (means : Meaning) (world : World) where
               bounded = f.stands.bounded;
               null = f.stands.null;
               standard = f.stands.standard;
-              owned = f.stands.owned;
+              owned = unowned means world _ _ _ _ _ _ _ world.own changing.of_no_function f.stands.owned;
+              marked = f.stands.marked;
               holds = world.nothing heap;
               old_holds = f.stands.old_holds;
             } in
@@ -539,7 +543,7 @@ module _ (means : Meaning) (world : World) where
             (leaves_after means world {mid = scope} scope on outcome f
             (then_leaves means world scope scope f.interp f.state.next (give p (IsConsistent p) full (joined at is) t0)
             (λ t. checked (λ n. fit_by p n t e) (λ v. side v (and_then (meaning.scoped p (meaning.run_all p b) t) (λ v. checked (λ n. take_by p n v full (joined at is) v.holdings) (λ _. stops))) stops)) inside on outcome q
-            (λ other m. give_goes means world o parts (IsConsistent p) possible other (joined at is) full m inv_typed inv_plain {s = rules.with_heap [] f.state} whole_amount inside (whole_scale means world f.state.next f.interp) empty f.cleared)
+            (λ other m. give_goes means world o parts (IsConsistent p) possible (unrooted changing.unmarked) other (joined at is) full m inv_typed inv_plain {s = rules.with_heap [] f.state} whole_amount inside (whole_scale means world f.state.next f.interp) empty f.cleared)
             (λ t g m. iterates t f.interp f.state.next g m)))
 
         leaves_on : (t : run.State) (j : Interpretation) (n : ℕ) (g : Goes means world scope j n outside t) → checked (λ n. fit_by p n t e) (λ v. side v stops (ends t)) outcome → Leaves means world scope g.interp g.state.next on outcome
@@ -576,7 +580,8 @@ module _ (means : Meaning) (world : World) where
               bounded = d.bounded;
               null = d.null;
               standard = d.standard;
-              owned = d.owned;
+              owned = unowned means world _ _ _ _ _ _ _ world.own changing.of_no_function d.owned;
+              marked = d.marked;
               holds = changing.changed (run.with_holdings r.left c) heap same d.holds;
               old_holds = d.old_holds;
             } in
@@ -585,7 +590,7 @@ module _ (means : Meaning) (world : World) where
             (leaves_after means world {mid = scope} scope on outcome f
             (then_leaves means world scope scope f.interp f.state.next (give p (IsConsistent p) full (joined at is) (run.with_store y (run.with_heap heap (run.with_holdings r.left c))))
             (λ t. checked (λ n. fit_by p n t e) (λ v. side v stops (ends t))) outside on outcome q
-            (λ other m. give_goes means world o parts (IsConsistent p) possible other (joined at is) full m inv_typed inv_plain {s = f.state} whole_amount outside (whole_scale means world f.state.next f.interp) f.stands f.cleared)
+            (λ other m. give_goes means world o parts (IsConsistent p) possible (unrooted changing.unmarked) other (joined at is) full m inv_typed inv_plain {s = f.state} whole_amount outside (whole_scale means world f.state.next f.interp) f.stands f.cleared)
             (λ t g m. leaves_on t f.interp f.state.next g m)))
 
         either_side : meaning.iteration p c (assigned_in b) e (joined at is) (meaning.scoped p (meaning.run_all p b)) outcome ⊎ meaning.behind p (run.with_holdings r.left c) (assigned_in b) e (joined at is) outcome → Leaves means world scope i s.next on outcome

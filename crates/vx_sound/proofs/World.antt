@@ -10,6 +10,7 @@ use Rattle.vx_terms.specs.Interpretations.{Each, Tree}
 use Rattle.vx_types.specs.Typing.{HaveNoPerm}
 use Rattle.vx_amounts.proofs.Amounts.{Le, Positive}
 use Rattle.vx_sound.specs.Snapshots.{IsTree}
+use Rattle.vx_sound.proofs.Marks.{Marks, Unmarked}
 
 abbrev pub at_field : ℕ → Name → run.Location
 at_field r f = record { receiver = r; field = f }
@@ -32,10 +33,11 @@ abbrev pub CanBe : Program → Bool → run.State → Type 0
 CanBe p true c = IsConsistent p c
 CanBe p false c = IsSupported p c
 
--- the function whose body is walked, and the number that its measure has where it is entered, if that is a number
+-- the function whose body is walked, the number that its measure has where it is entered, if that is a number, and the heap there
 pub record Walked : Type 0 where
   pub function : Name
   pub measure : Option ℤ
+  pub heap : run.Heap
 
 -- What the laws on expressions and assertions need to know of a heap and of what is held there: `Holds`, which says that it
 -- is limited and that each instance of which something is held has its tree, and what keeps it; which functions may be
@@ -43,6 +45,8 @@ pub record Walked : Type 0 where
 -- their measures.
 pub record World : Type 1 where
   pub program : Program
+  -- what the marks of chunks stand for
+  pub marks : Marks
   pub bounded : Bool
   pub Held : Name → Type 0
   pub Applied : Name → Type 0
@@ -66,8 +70,9 @@ abbrev pub AllMeasured : World → run.State → List Application → Type 0
 AllMeasured w c xs = Each (IsMeasured w c) xs
 
 -- What the laws on statements need besides: changes of what isn't held, writes of what is held whole, and new locations keep
--- what is known, and the trees of the instances that are held. No function has statements.
+-- what is known, and the trees of the instances that are held. No function has statements, and no instance is marked.
 pub record Changing (w : World) : Type 0 where
+  pub unmarked : w.marks ≡ Unmarked
   pub bounded : w.bounded ≡ true
   pub of_no_function : w.own ≡ None
   pub changed : (c : run.State) (g : run.Heap) → Changes w.program c g → w.Holds c.heap c.holdings → w.Holds g c.holdings

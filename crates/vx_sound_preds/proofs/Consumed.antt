@@ -99,6 +99,7 @@ module _ (means : Meaning) (p : Program) (good : GoodBodies p) (Held : Name → 
           null = r.goes.stands.null;
           standard = r.goes.stands.standard;
           owned = r.goes.stands.owned;
+          marked = st.marked;
           holds = st.holds;
           old_holds = r.goes.stands.old_holds;
         }

@@ -1,5 +1,5 @@
 -- A fold: the body is taken, and the instance's chunk has a snapshot that stands for the tree of its values.
-use Rattle.std.proofs.Common.{◌≡◌, ℕ, zero, suc, true, false, List, Option, Some, None, refl, sym, ◌∙◌, ap, subst, le_refl, le_trans}
+use Rattle.std.proofs.Common.{◌≡◌, ℕ, zero, suc, true, false, List, Option, Some, None, refl, sym, ◌∙◌, ap, subst, le_refl, le_trans, true≢false}
 use Rattle.std.specs.Prelude.{Ok}
 use Rattle.vx_frac.specs.Fractions.{Fraction}
 use Rattle.vx_ast.specs.declared.Place.{Place}
@@ -76,6 +76,7 @@ module _ (means : Meaning) (p : Program) (good : GoodBodies p) (Held : Name → 
       null = st.null;
       standard = st.standard;
       owned = st.owned;
+      marked = st.marked;
       holds = st.holds;
       old_holds = st.old_holds;
     }
@@ -109,6 +110,7 @@ module _ (means : Meaning) (p : Program) (good : GoodBodies p) (Held : Name → 
           null = r.goes.stands.null;
           standard = r.goes.stands.standard;
           owned = r.goes.stands.owned;
+          marked = st.marked;
           holds = r.goes.stands.holds;
           old_holds = r.goes.stands.old_holds;
         }
@@ -138,7 +140,7 @@ module _ (means : Meaning) (p : Program) (good : GoodBodies p) (Held : Name → 
         g : Goes means world scope n.interp (rules.after_name r.snapshot (back s r.goes.state)).next on (run.with_holdings (run.gained (run.Folded k) q r.left) c)
         g = put_known means p good Held no_perm true applying (of_instance x ts vs later_keys) a (rules.name_of r.snapshot (back s r.goes.state)) q false on n.stands
             (good_later means n.later n.extends (good_later means r.goes.later r.goes.extends ga)) (subst (λ z. Same (as_fraction z) q) (sym a_kept) same) (le-trans (positive_le pos) (subst (λ z. Le q (as_fraction z)) (sym a_kept) same.back))
-            n.good (λ e. name_written r.snapshot (back s r.goes.state) back_stands.awake) (tree.tree, is_tree, n.value_is ∙ tree.value_is) holds r.goes.cleared
+            n.good (λ e. name_written r.snapshot (back s r.goes.state) back_stands.awake) (tree.tree, is_tree, n.value_is ∙ tree.value_is) holds (λ e. absurd (true≢false (sym e))) r.goes.cleared
           where
             later_keys : InstanceTerms means world (rules.after_name r.snapshot (back s r.goes.state)).next n.interp x ts vs
             later_keys = instance_terms_later means world n.later n.extends (instance_terms_later means world r.goes.later r.goes.extends keys)

@@ -15,6 +15,7 @@ use Rattle.vx_whole.specs.Premises.{IsTypedProgram}
 use Rattle.vx_whole.specs.Closure.{mentioned_by_measure, mentioned_by_kind, InClosure, further}
 use Rattle.vx_elements.proofs.Settled.{Meaning}
 use Rattle.vx_sound.specs.Law.{Passes}
+use Rattle.vx_sound.proofs.Marks.{Marks}
 use Rattle.vx_sound.proofs.World.{World}
 use Rattle.vx_sound.proofs.Measures.{MeasureSpeaks}
 use Rattle.vx_sound.proofs.Conjoined.{conjoined_typed}
@@ -26,7 +27,8 @@ use Rattle.vx_sound_preds.proofs.Mentioning.{function_member, MayApply, expressi
 use Rattle.vx_sound_preds.proofs.Holding.{Applying, functions_world}
 use Rattle.vx_sound_preds.proofs.Unfolds.{AppliesBy, parts_go}
 use Rattle.vx_sound_preds.proofs.Applied.{precondition_of, AllAsk}
-use Rattle.vx_sound_preds.proofs.Functions.{IsNumberOf, OwnWalk, before_body, in_body_of, MeasureSays, IsWalkable, outside, inside, own_walks, never_fails}
+use Rattle.vx_sound_preds.proofs.Walks.{bodies}
+use Rattle.vx_sound_preds.proofs.Functions.{IsMeasureOf, OwnWalk, before_body, in_body_of, MeasureSays, IsWalkable, outside, inside, own_walks, never_fails}
 
 module _ (p : Program) (x : Name) (typed : IsTypedProgram p) (f : Name) (g : Function) (held : InClosure p x f) (named : function_named p f ≡ Some g) (plain : IsPlainBody p Rigid (precondition_of g)) (Applied : Name → Type 0) (may : MayApply p x Applied) where
   -- what it mentions
@@ -61,23 +63,23 @@ module _ (p : Program) (x : Name) (typed : IsTypedProgram p) (f : Name) (g : Fun
 
     module _ (replies : List Reply) (pass : Passes p f (IsFunction g) replies) (before : AppliesBy means p (good p x typed) (InClosure p x) (no_perm p x typed) true (before_body Applied) (speak p x typed))
         (Measured : run.State → run.Heap → Name → List Value → Type 0)
-        (within : (s : run.State) → FunctionStarts p g s → (z : Option ℤ) → IsNumberOf p s g.decreases z → AppliesBy means p (good p x typed) (InClosure p x) (no_perm p x typed) true (in_body_of Applied f z (Measured s)) (speak p x typed)) where
+        (within : (s : run.State) → FunctionStarts p g s → (z : Option ℤ) (marks : Marks) → IsMeasureOf p s g.decreases z marks → AppliesBy means p (good p x typed) (InClosure p x) (no_perm p x typed) true (in_body_of Applied f z marks s.heap (Measured s)) (speak p x typed)) where
       parts : PartsGo means (outside means p (good p x typed) (InClosure p x) (no_perm p x typed) Applied) (member_rules p)
       unfolding member_rules
       parts = parts_go means p (good p x typed) (InClosure p x) (no_perm p x typed) true (before_body Applied) (speak p x typed) before (depth p)
 
-      inner : (s : run.State) → FunctionStarts p g s → (z : Option ℤ) → IsNumberOf p s g.decreases z → PartsGo means (inside means p (good p x typed) (InClosure p x) (no_perm p x typed) Applied f z (Measured s)) (member_rules p)
+      inner : (s : run.State) → FunctionStarts p g s → (z : Option ℤ) (marks : Marks) → IsMeasureOf p s g.decreases z marks → PartsGo means (inside means p (good p x typed) (InClosure p x) (no_perm p x typed) Applied f z marks s.heap (Measured s)) (member_rules p)
       unfolding member_rules
-      inner s starts z is = parts_go means p (good p x typed) (InClosure p x) (no_perm p x typed) true (in_body_of Applied f z (Measured s)) (speak p x typed) (within s starts z is) (depth p)
+      inner s starts z marks is = parts_go means p (good p x typed) (InClosure p x) (no_perm p x typed) true (in_body_of Applied f z marks s.heap (Measured s)) (speak p x typed) (within s starts z marks is) (depth p)
 
       -- from each start its body fits, its postcondition is true of the value, and what is shown of applications holds of all that are
       -- evaluated
       pub function_walks : (s : run.State) → FunctionStarts p g s → OwnWalk p g (Measured s s.heap) s
-      function_walks = own_walks means p (good p x typed) (InClosure p x) (no_perm p x typed) Applied (member_rules p) parts f g walkable (cleared (tree p f (IsFunction g)) replies pass.0 pass.1) Measured inner
+      function_walks = own_walks means p (good p x typed) (InClosure p x) (no_perm p x typed) Applied (member_rules p) parts (bodies p (good p x typed)) f g walkable (cleared (tree p f (IsFunction g)) replies pass.0 pass.1) Measured inner
 
       -- so it doesn't fail, where this refutes applications that don't lower its measure
       pub function_sound_by : ((s : run.State) → FunctionStarts p g s → (a : Application) → Measured s s.heap a.0 a.1 → DoesNotLower p f g.decreases s a → ⊥) → FunctionFails p f g → ⊥
-      function_sound_by = never_fails means p (good p x typed) (InClosure p x) (no_perm p x typed) Applied (member_rules p) parts f g walkable (cleared (tree p f (IsFunction g)) replies pass.0 pass.1) Measured inner
+      function_sound_by = never_fails means p (good p x typed) (InClosure p x) (no_perm p x typed) Applied (member_rules p) parts (bodies p (good p x typed)) f g walkable (cleared (tree p f (IsFunction g)) replies pass.0 pass.1) Measured inner
 
 -- what is asked of the functions that may be applied, where they are among those that x leads to
 module _ (means : Meaning) (p : Program) (x : Name) (typed : IsTypedProgram p) (plain : (f : Name) (g : Function) → InClosure p x f → function_named p f ≡ Some g → IsPlainBody p Rigid (precondition_of g))

@@ -1,7 +1,7 @@
 -- A function's own walk: where its tree is cleared, giving its precondition fails nowhere; and from where it starts, its measure is
 -- allowed, its body fits, and its postcondition is true of the value. What the walk shows of applications holds of all that are
 -- evaluated with either.
-use Rattle.std.proofs.Common.{◌≡◌, ◌⊎◌, inl, inr, ℕ, suc, ℤ, ◌≤◌, true, false, List, [], ◌∷◌, ◌++◌, Option, Some, None, refl, sym, ◌∙◌, ap, subst, le_of_lt, lt-suc_self}
+use Rattle.std.proofs.Common.{◌≡◌, ◌⊎◌, inl, inr, ℕ, suc, ℤ, ◌≤◌, true, false, List, [], ◌∷◌, ◌++◌, Option, Some, None, refl, sym, ◌∙◌, ap, subst, le_of_lt, lt-suc_self, true≢false}
 use Rattle.std.specs.Prelude.{Ok, Err, IsTrue}
 use Rattle.vx_frac.specs.Fractions.{Fraction, none, full, is_positive}
 use Rattle.vx_ast.specs.declared.Place.{Place}
@@ -21,27 +21,26 @@ use Rattle.vx_terms.specs.Build.{whole_amount}
 use Rattle.vx_terms.specs.Interpretations.{Interpretation, TreeElement, Tree, value}
 use Rattle.vx_rules.specs.States as rules
 use Rattle.vx_rules.specs.Trees.{MeasureCode, PostCode, End}
-use Rattle.vx_rules.specs.Chunks.{Candidate, candidates, instance_key}
+use Rattle.vx_rules.specs.Chunks.{candidates, instance_key}
 use Rattle.vx_rules.specs.Rules.{Giving, GivingAll, Going, Outer, first_with, holds_some, never, produce, consume}
 use Rattle.vx_rules.specs.Members.{codes, blank, rooted, function_body, from_measure, function_over}
 use Rattle.vx_types.specs.Typing.{HaveNoPerm, IsTyped, IsTypedMeasure, IsTypedFunction}
-use Rattle.vx_amounts.proofs.Amounts.{Le, Positive, le-refl, le-trans, full-positive, positive-le}
+use Rattle.vx_amounts.proofs.Amounts.{Le, Positive, le-refl, le-trans, full-positive}
 use Rattle.vx_elements.proofs.Settled.{Meaning, with_symbol, symbol_extends, fresh_value}
 use Rattle.vx_elements.proofs.Built.{Good}
 use Rattle.vx_elements.proofs.Elements.{element, int_value_is}
 use Rattle.vx_elements.proofs.Eventually.{eventually, one_answer, no_refusal}
-use Rattle.vx_elements.proofs.Places.{IsPlace}
 use Rattle.vx_elements.proofs.Scopes.{joined_typed}
+use Rattle.vx_sound.proofs.Marks.{Marks, Unmarked, Rooted}
+use Rattle.vx_sound.proofs.Marked.{marked, Enters, root_entered}
 use Rattle.vx_sound.proofs.World.{World, IsMeasured}
 use Rattle.vx_sound.proofs.Standard.{start as start_interpretation, start_null, start_standard, IsWritten, variable_written}
 use Rattle.vx_sound.proofs.Speaks.{Speaks, AllSpeak, SpeaksOf, body_speaks}
 use Rattle.vx_sound.proofs.Conjoined.{conjoined_typed, assertion_typed, assertion_speaks}
 use Rattle.vx_sound.proofs.Passes.{Cleared}
-use Rattle.vx_sound.proofs.Stands.{ChunkStands, HeapStands, MeasureStands, Stands, stands_later, stands_with_store, store_append}
+use Rattle.vx_sound.proofs.Stands.{MeasureStands, Stands, stands_later, stands_with_store, store_append}
 use Rattle.vx_sound.proofs.Elsewhere.{stands_there}
-use Rattle.vx_sound.proofs.Goes.{Goes, declared_all, good_fresh, stuck}
-use Rattle.vx_sound.proofs.Chunks.{taken_apart, put_together, chunk_held}
-use Rattle.vx_sound.proofs.Candidates.{InstanceTerms, Keys, of_instance, FirstWith, first_one, good_some, some_is}
+use Rattle.vx_sound.proofs.Goes.{Goes, declared_all, good_fresh}
 use Rattle.vx_sound.proofs.Evaluated.{all_known, parts_measured, of_each}
 use Rattle.vx_sound.proofs.Evaluate.{PartsGo, EvaluatesAll, eval_goes, evals_goes}
 use Rattle.vx_sound.proofs.Giving.{whole_scale}
@@ -52,6 +51,7 @@ use Rattle.vx_sound_preds.proofs.Frames.{entries_positive}
 use Rattle.vx_sound_preds.proofs.Adding.{added}
 use Rattle.vx_sound_preds.proofs.Holding.{nothing, amount_grows, Applying, functions_world}
 use Rattle.vx_sound_preds.proofs.Given.{gave}
+use Rattle.vx_sound_preds.proofs.Marking.{BodiesKeep}
 use Rattle.vx_sound_preds.proofs.Produced.{SnapshotOf, produced}
 use Rattle.vx_sound_preds.proofs.Refusing.{refuses}
 use Rattle.vx_sound_preds.proofs.Applied.{precondition_of}
@@ -86,12 +86,17 @@ module _ (p : Program) (d : Deeper) (s : run.State) (q : Fraction) where
   taken_true (Apply at f es) h left k = pure_true at h left (fit p d s (Apply at f es)) k
   taken_true (Unfolding at i es share e) h left k = pure_true at h left (fit p d s (Unfolding at i es share e)) k
 
--- the number of a measure where a function starts, if it is one
-abbrev pub IsNumberOf : Program → run.State → Option Measure → Option ℤ → Type 0
-IsNumberOf p s None None = Unit {0}
-IsNumberOf p s (Some (ByNumber e)) (Some z) = Fits p s e (IntValue z)
-IsNumberOf p s (Some (ByInstance at i es)) None = Unit {0}
-IsNumberOf p s _ _ = ⊥
+-- the instance that a measure names
+abbrev pub IsNamed : Program → run.State → Name → Exprs → run.Instance → Type 0
+IsNamed p s x es root = (vs : List Value) × Eventually (λ n. fit_all p (deeper p n) s es ≡ Ok vs) × (root ≡ record { predicate = x; arguments = vs })
+
+-- The measure of a function where it starts, if that is a number; and what marks of chunks stand for from there on, which is the instance
+-- that the measure names, if it names one.
+abbrev pub IsMeasureOf : Program → run.State → Option Measure → Option ℤ → Marks → Type 0
+IsMeasureOf p s None None Unmarked = Unit {0}
+IsMeasureOf p s (Some (ByNumber e)) (Some z) Unmarked = Fits p s e (IntValue z)
+IsMeasureOf p s (Some (ByInstance at i es)) None (Rooted root) = IsNamed p s i es root
+IsMeasureOf p s _ _ _ = ⊥
 
 -- what the walk of a function shows of a start
 pub record OwnWalk (p : Program) (g : Function) (Measured : Name → List Value → Type 0) (s : run.State) : Type 0 where
@@ -106,10 +111,10 @@ pub record OwnWalk (p : Program) (g : Function) (Measured : Name → List Value 
 
 -- before the body is entered nothing is asked of applications
 abbrev pub before_body : (Name → Type 0) → Applying
-before_body Applied = record { Applied = Applied; own = None; Measured = λ h f vs. Unit {0} }
+before_body Applied = record { marks = Unmarked; Applied = Applied; own = None; Measured = λ h f vs. Unit {0} }
 
-abbrev pub in_body_of : (Name → Type 0) → Name → Option ℤ → (run.Heap → Name → List Value → Type 0) → Applying
-in_body_of Applied f z Measured = record { Applied = Applied; own = Some record { function = f; measure = z }; Measured = Measured }
+abbrev pub in_body_of : (Name → Type 0) → Name → Option ℤ → Marks → run.Heap → (run.Heap → Name → List Value → Type 0) → Applying
+in_body_of Applied f z marks h Measured = record { marks = marks; Applied = Applied; own = Some record { function = f; measure = z; heap = h }; Measured = Measured }
 
 -- what a function's measure speaks of
 abbrev pub MeasureSays : (Held Applied : Name → Type 0) → Option Measure → Type 0
@@ -130,10 +135,10 @@ module _ (means : Meaning) (p : Program) (good : GoodBodies p) (Held : Name → 
   abbrev pub outside : World
   outside = functions_world p good Held no_perm true (before_body Applied)
 
-  abbrev pub inside : Name → Option ℤ → (run.Heap → Name → List Value → Type 0) → World
-  inside f z Measured = functions_world p good Held no_perm true (in_body_of Applied f z Measured)
+  abbrev pub inside : Name → Option ℤ → Marks → run.Heap → (run.Heap → Name → List Value → Type 0) → World
+  inside f z marks h Measured = functions_world p good Held no_perm true (in_body_of Applied f z marks h Measured)
 
-  module _ (o : Outer) (parts : PartsGo means (functions_world p good Held no_perm true (before_body Applied)) o) (f : Name) (g : Function) (says : IsWalkable p Held Applied g) (walked : Cleared (function_over p o f g)) where
+  module _ (o : Outer) (parts : PartsGo means (functions_world p good Held no_perm true (before_body Applied)) o) (keeps : BodiesKeep p good o) (f : Name) (g : Function) (says : IsWalkable p Held Applied g) (walked : Cleared (function_over p o f g)) where
     abbrev pre : Assertion
     pre = precondition_of g
 
@@ -155,6 +160,7 @@ module _ (means : Meaning) (p : Program) (good : GoodBodies p) (Held : Name → 
       null = start_null;
       standard = start_standard;
       owned = tt;
+      marked = λ e. absurd (true≢false (sym e));
       holds = nothing p good Held true h;
       old_holds = nothing p good Held true h;
     }
@@ -190,7 +196,7 @@ module _ (means : Meaning) (p : Program) (good : GoodBodies p) (Held : Name → 
     -- giving the precondition fails nowhere
     pub no_start_fails : (vs : List Value) (place : Place) → run.HaveTypes g.parameters vs → StartFails p (bind g.parameters vs) (precondition_of g) place → ⊥
     no_start_fails vs place types (h, fails_at) =
-        let r = refuses means p good Held no_perm (before_body Applied) o parts g.parameters vs types says.typed.parameters h (precondition_of g) [] place pre_typed says.plain says.asks (nothing p good Held true h) fails_at in
+        let r = refuses means p good Held no_perm (before_body Applied) o parts keeps refl g.parameters vs types says.typed.parameters h (precondition_of g) [] place pre_typed says.plain says.asks (nothing p good Held true h) fails_at in
         let b = begun vs types h r.0 in
         r.1 b.interp b.state whole_amount b.snapshot (from_measure p o f g g.decreases) b.good_snapshot b.written b.worth (whole_scale means outside b.state.next b.interp) b.stands b.cleared
 
@@ -215,6 +221,7 @@ module _ (means : Meaning) (p : Program) (good : GoodBodies p) (Held : Name → 
       null = st.null;
       standard = st.standard;
       owned = st.owned;
+      marked = st.marked;
       holds = st.holds;
       old_holds = st.holds;
     }
@@ -226,8 +233,8 @@ module _ (means : Meaning) (p : Program) (good : GoodBodies p) (Held : Name → 
         let b = begun vs types h k.there.tree in
         let snap : SnapshotOf means p good Held no_perm true (before_body Applied) b.state.next b.interp base (precondition_of g) b.snapshot =
         record { good_term = b.good_snapshot; written = b.written; fuel = k.there.fuel; tree = k.there.tree; is = k.there.is; value_is = b.worth } in
-        let r = produced means p good Held no_perm true (before_body Applied) o parts (IsConsistent p) full (precondition_of g) g.parameters base k.entries_of says.typed.parameters pre_typed (body_speaks Held Applied (precondition_of g) says.asks) says.plain k.entries_are k.holds
-        b.interp b.state whole_amount (Some b.snapshot) (from_measure p o f g g.decreases) snap (whole_scale means outside b.state.next b.interp) b.stands b.cleared in
+        let r = produced means p good Held no_perm true (before_body Applied) o parts (IsConsistent p) keeps full (precondition_of g) g.parameters base k.entries_of says.typed.parameters pre_typed (body_speaks Held Applied (precondition_of g) says.asks) says.plain k.entries_are k.holds
+        b.interp b.state whole_amount (Some b.snapshot) (from_measure p o f g g.decreases) snap (whole_scale means outside b.state.next b.interp) b.stands (λ e. absurd (b.stands.marked e)) b.cleared in
         let least = λ (r : run.Resource). amount_grows p good Held true full k.entries_of [] r full-positive (entries_positive p base (precondition_of g) k.entries_of says.plain k.entries_are) in
         let same = is ∙ ap run.from_now k.is in
         record {
@@ -241,40 +248,20 @@ module _ (means : Meaning) (p : Program) (good : GoodBodies p) (Held : Name → 
     -- The measure
 
     -- the body is entered from a state that stands for the start
-    pub record Entered (s : run.State) (z : Option ℤ) : Type 0 where
+    pub record Entered (s : run.State) (z : Option ℤ) (marks : Marks) : Type 0 where
       pub interp : Interpretation
       pub state : rules.State
       pub measure : Option Term
       pub measure_is : MeasureStands means outside state.next interp measure z
-      pub stands : Stands means outside g.parameters interp state s
+      pub stands : Stands means (marked means outside marks) g.parameters interp state s
       pub cleared : Cleared (function_body p o f g measure state)
 
     pub record AtMeasure (s : run.State) (m : Option Measure) : Type 0 where
       pub number : Option ℤ
-      pub is : IsNumberOf p s m number
-      pub entered : Entered s number
+      pub marks : Marks
+      pub is : IsMeasureOf p s m number marks
+      pub entered : Entered s number marks
       pub allowed : (e : Measure) → m ≡ Some e → MeasureFails p s e → ⊥
-
-    -- the chunk that becomes the root stands as it did
-    rooted_stands : {i : Interpretation} {s : rules.State} {c : run.State} {key : rules.Chunk} (d : Candidate) → IsPlace key s.heap d → Stands means outside g.parameters i s c → Stands means outside g.parameters i (rooted d s) c
-    rooted_stands {i = i} {s = s} {c = c} d pl st =
-        let a = taken_apart means outside s.next i c.heap pl st.heap in
-        let chunk : ChunkStands means outside s.next i c.heap (record d.chunk { root = true }) =
-        record { field = a.chunk.field; instance = a.chunk.instance; written = a.chunk.written; amount = a.chunk.amount; sign = a.chunk.sign; content = a.chunk.content; content_is = a.chunk.content_is } in
-        record {
-          store = st.store;
-          path = st.path;
-          heap = subst (λ x. HeapStands means outside s.next i x c.heap c.holdings) (sym (pl.set_is (record d.chunk { root = true })))
-              (put_together means outside s.next i c.heap pl.front (record d.chunk { root = true }) pl.back record { chunk = chunk; others = a.others; sums = a.sums });
-          old = st.old;
-          awake = st.awake;
-          bounded = st.bounded;
-          null = st.null;
-          standard = st.standard;
-          owned = st.owned;
-          holds = st.holds;
-          old_holds = st.old_holds;
-        }
 
     by_number : (s : run.State) (i : Interpretation) (t : rules.State) (e : Expr) → IsTypedMeasure p g.parameters (Some (ByNumber e)) → Speaks Held Applied e → Stands means outside g.parameters i t s → Cleared (from_measure p o f g (Some (ByNumber e)) t) → AtMeasure s (Some (ByNumber e))
     by_number s i t e typed speaks st h =
@@ -282,6 +269,7 @@ module _ (means : Meaning) (p : Program) (good : GoodBodies p) (Held : Name → 
         let is_int = int_value_is r.result r.typed in
         record {
           number = Some _;
+          marks = Unmarked;
           is = eventually r.fits (λ n k. k ∙ ap Ok is_int);
           entered = record { interp = r.interp; state = r.state; measure = Some r.term; measure_is = (r.good, r.value_is ∙ ap element is_int); stands = r.stands; cleared = r.cleared };
           allowed = λ m same k. fits_so r.result r.fits m same k;
@@ -296,8 +284,13 @@ module _ (means : Meaning) (p : Program) (good : GoodBodies p) (Held : Name → 
 
     by_instance : (s : run.State) (i : Interpretation) (t : rules.State) (at : Place) (x : Name) (es : Exprs) → IsTypedMeasure p g.parameters (Some (ByInstance at x es)) → Held x × AllSpeak Held Applied es → Stands means outside g.parameters i t s →
         Cleared (from_measure p o f g (Some (ByInstance at x es)) t) → AtMeasure s (Some (ByInstance at x es))
-    by_instance s i t at x es typed speaks st h = by_first (first_one means outside (instance_key x r.terms) (holds_some r.terms) at MeasureCode (λ c. function_body p o f g None (rooted c r.state)) (never at MeasureCode r.state) r.stands
-        (λ d kind resource m. good_some means outside keys d kind resource m) r.cleared)
+    by_instance s i t at x es typed speaks st h = record {
+      number = None;
+      marks = Rooted record { predicate = x; arguments = r.results };
+      is = (r.results, r.fits, refl);
+      entered = record { interp = en.goes.interp; state = en.goes.state; measure = None; measure_is = tt; stands = en.goes.stands; cleared = en.goes.cleared };
+      allowed = held_so en.held;
+    }
       where
         after : GivingAll
         after ts s1 = first_with (holds_some ts) (candidates (instance_key x ts) s1.heap) at MeasureCode s1 (λ c. function_body p o f g None (rooted c s1)) (never at MeasureCode s1)
@@ -305,8 +298,8 @@ module _ (means : Meaning) (p : Program) (good : GoodBodies p) (Held : Name → 
         r : EvaluatesAll means outside o parts g.parameters i t.next after s es typed.0.parameters
         r = evals_goes means outside o parts typed.2 speaks.1 after st h
 
-        keys : Keys means outside r.state.next r.interp (instance_key x r.terms) (run.Folded record { predicate = x; arguments = r.results }) SnapSort
-        keys = of_instance x r.terms r.results (let z : InstanceTerms means outside r.state.next r.interp x r.terms r.results = record { held = speaks.0; predicate = typed.0; named = typed.1; no_perm = no_perm x typed.0 typed.1; each = r.each } in z)
+        en : Enters means outside refl g.parameters r.interp r.state.next (λ s1. function_body p o f g None s1) s (record { predicate = x; arguments = r.results })
+        en = root_entered means outside refl at x r.terms r.results (λ s1. function_body p o f g None s1) (record { held = speaks.0; predicate = typed.0; named = typed.1; no_perm = no_perm x typed.0 typed.1; each = r.each }) r.stands r.cleared
 
         held_so : Positive (run.amount s.holdings (run.Folded record { predicate = x; arguments = r.results })) → (m : Measure) → Some (ByInstance at x es) ≡ Some m → MeasureFails p s m → ⊥
         held_so pos (ByNumber d) same k = cc
@@ -330,24 +323,11 @@ module _ (means : Meaning) (p : Program) (good : GoodBodies p) (Held : Name → 
             go : (at' : Place) (y : Name) (ys : Exprs) → Some (ByInstance at x es) ≡ Some (ByInstance at' y ys) → Failing y ys → ⊥
             go at' y ys same k = mine (subst (λ (zs : Exprs). Failing x zs) (sym (arguments_are at' y ys same)) (subst (λ (z : Name). Failing z ys) (sym (name_is at' y ys same)) k))
 
-        by_first : FirstWith means outside (instance_key x r.terms) (holds_some r.terms) r.interp r.state (λ c. function_body p o f g None (rooted c r.state)) ⊎ Cleared (never at MeasureCode r.state) → AtMeasure s (Some (ByInstance at x es))
-        by_first (inr m) = stuck means outside at MeasureCode r.stands m
-        by_first (inl m) =
-            let d = m.candidate.chunk in
-            let a = taken_apart means outside r.state.next r.interp s.heap m.place r.stands.heap in
-            let is = some_is means outside keys d m.place.kind m.place.resource a.chunk m.as_wanted in
-            record {
-              number = None;
-              is = tt;
-              entered = record { interp = r.interp; state = rooted m.candidate r.state; measure = None; measure_is = tt; stands = rooted_stands m.candidate m.place r.stands; cleared = m.cleared };
-              allowed = held_so (subst (λ (q : run.Resource). Positive (run.amount s.holdings q)) is.0 (positive-le is.1 (chunk_held means outside r.state.next r.interp s.heap m.place r.stands.heap)));
-            }
-
     pub at_measure : (s : run.State) → FunctionStarts p g s → AtMeasure s g.decreases
     at_measure s starts = let a = at_start s starts in go s a.interp a.state g.decreases says.typed.measure says.measure a.stands a.cleared
       where
         go : (s : run.State) (i : Interpretation) (t : rules.State) (m : Option Measure) → IsTypedMeasure p g.parameters m → MeasureSays Held Applied m → Stands means outside g.parameters i t s → Cleared (from_measure p o f g m t) → AtMeasure s m
-        go s i t None typed speaks st h = record { number = None; is = tt; entered = record { interp = i; state = t; measure = None; measure_is = tt; stands = st; cleared = h }; allowed = λ m same k. absurd (nothing_some m same) }
+        go s i t None typed speaks st h = record { number = None; marks = Unmarked; is = tt; entered = record { interp = i; state = t; measure = None; measure_is = tt; stands = st; cleared = h }; allowed = λ m same k. absurd (nothing_some m same) }
           where
             nothing_some : (m : Measure) → None ≡ Some m → ⊥
             nothing_some m e = cc
@@ -356,7 +336,7 @@ module _ (means : Meaning) (p : Program) (good : GoodBodies p) (Held : Name → 
 
     -- The body, and the postcondition
 
-    module _ (z : Option ℤ) (Measured : run.Heap → Name → List Value → Type 0) (inner : PartsGo means (inside f z Measured) o) where
+    module _ (z : Option ℤ) (marks : Marks) (there : run.Heap) (Measured : run.Heap → Name → List Value → Type 0) (inner : PartsGo means (inside f z marks there Measured) o) where
       abbrev result : Declaration
       result = record { name = result_name; of = g.of }
 
@@ -373,22 +353,22 @@ module _ (means : Meaning) (p : Program) (good : GoodBodies p) (Held : Name → 
       measure_there n i (Some t) None w h = absurd h
 
       -- what holds in the heap or in the old one, where they are one
-      in_one : (s : run.State) → s.old_heap ≡ s.heap → (a : Application) → IsMeasured (inside f z Measured) s a → Measured s.heap a.0 a.1
+      in_one : (s : run.State) → s.old_heap ≡ s.heap → (a : Application) → IsMeasured (inside f z marks there Measured) s a → Measured s.heap a.0 a.1
       in_one s e a (inl m) = m
       in_one s e a (inr m) = subst (λ (h : run.Heap). Measured h a.0 a.1) e m
 
-      pub own_walk : (s : run.State) → s.old_heap ≡ s.heap → Entered s z → OwnWalk p g (Measured s.heap) s
-      own_walk s same en =
+      pub own_walk : (s : run.State) → s.heap ≡ there → s.old_heap ≡ s.heap → Entered s z marks → OwnWalk p g (Measured s.heap) s
+      own_walk s here same en =
           let own : Option rules.Own = Some (record { function = f; measure = en.measure }) in
-          let st : Stands means (inside f z Measured) g.parameters en.interp (record en.state { own = own }) s =
-          stands_there means outside Applied (Some record { function = f; measure = z }) Measured own (refl, measure_there en.state.next en.interp en.measure z (inside f z Measured) en.measure_is) en.stands in
+          let st : Stands means (inside f z marks there Measured) g.parameters en.interp (record en.state { own = own }) s =
+          stands_there means (marked means outside marks) Applied (Some record { function = f; measure = z; heap = there }) Measured own (refl, measure_there en.state.next en.interp en.measure z (inside f z marks there Measured) en.measure_is, here, same ∙ here) en.stands in
           let after : Giving = λ w s1. consume p o promise (codes PostCode PostCode) whole_amount s1.heap (rules.declare result_name w s1) (λ t s2. End) in
-          let r = eval_goes means (inside f z Measured) o inner says.typed.body says.body after st en.cleared in
-          let with_value : Stands means (inside f z Measured) scope r.interp (rules.declare result_name r.term r.state) (with_result r.result s) =
-          stands_with_store means (inside f z Measured) scope (r.state.store ++ (result_name, r.term) ∷ []) (s.store ++ (result_name, r.result) ∷ []) r.stands
-          (store_append means (inside f z Measured) g.parameters r.state.store s.store result (result_name, r.term) (result_name, r.result) r.stands.store (record { symbolic_name = refl; name = refl; typed = r.typed; good = r.good; value_is = r.value_is })) in
-          let c = consumed means (inside f z Measured) o inner promise full (assertion_typed p scope (conjoined g.place g.ensures) (conjoined_typed p scope g.place g.ensures says.typed.ensures)) (assertion_speaks Held Applied (conjoined g.place g.ensures) says.ensures)
-          (codes PostCode PostCode) whole_amount (λ t s2. End) (whole_scale means (inside f z Measured) r.state.next r.interp) with_value r.cleared in
+          let r = eval_goes means (inside f z marks there Measured) o inner says.typed.body says.body after st en.cleared in
+          let with_value : Stands means (inside f z marks there Measured) scope r.interp (rules.declare result_name r.term r.state) (with_result r.result s) =
+          stands_with_store means (inside f z marks there Measured) scope (r.state.store ++ (result_name, r.term) ∷ []) (s.store ++ (result_name, r.result) ∷ []) r.stands
+          (store_append means (inside f z marks there Measured) g.parameters r.state.store s.store result (result_name, r.term) (result_name, r.result) r.stands.store (record { symbolic_name = refl; name = refl; typed = r.typed; good = r.good; value_is = r.value_is })) in
+          let c = consumed means (inside f z marks there Measured) o inner promise full (assertion_typed p scope (conjoined g.place g.ensures) (conjoined_typed p scope g.place g.ensures says.typed.ensures)) (assertion_speaks Held Applied (conjoined g.place g.ensures) says.ensures)
+          (codes PostCode PostCode) whole_amount (λ t s2. End) (whole_scale means (inside f z marks there Measured) r.state.next r.interp) with_value r.cleared in
           record {
             result = r.result;
             typed = r.typed;
@@ -396,16 +376,16 @@ module _ (means : Meaning) (p : Program) (good : GoodBodies p) (Held : Name → 
             left = c.left;
             takes = c.takes;
             kept = eventually c.takes (λ n k. taken_true p (deeper p n) (with_result r.result s) full (conjoined g.place g.ensures) s.holdings c.left k);
-            in_body = λ a ev. in_one s same a (of_each (IsMeasured (inside f z Measured) s) (evaluated p ev.0 s g.body) a (r.measured ev.0) ev.1);
+            in_body = λ a ev. in_one s same a (of_each (IsMeasured (inside f z marks there Measured) s) (evaluated p ev.0 s g.body) a (r.measured ev.0) ev.1);
             in_postcondition = λ a ev. in_one (with_result r.result s) same a
-                (of_each (IsMeasured (inside f z Measured) (with_result r.result s)) (evaluated p ev.0 (with_result r.result s) (conjoined g.place g.ensures)) a (parts_measured (inside f z Measured) (with_result r.result s) (conjoined g.place g.ensures) c.measured ev.0) ev.1);
+                (of_each (IsMeasured (inside f z marks there Measured) (with_result r.result s)) (evaluated p ev.0 (with_result r.result s) (conjoined g.place g.ensures)) a (parts_measured (inside f z marks there Measured) (with_result r.result s) (conjoined g.place g.ensures) c.measured ev.0) ev.1);
           }
 
     -- The function as a whole, where what is shown of the parts is given for each start
 
-    module _ (Measured : run.State → run.Heap → Name → List Value → Type 0) (inner : (s : run.State) → FunctionStarts p g s → (z : Option ℤ) → IsNumberOf p s g.decreases z → PartsGo means (inside f z (Measured s)) o) where
+    module _ (Measured : run.State → run.Heap → Name → List Value → Type 0) (inner : (s : run.State) → FunctionStarts p g s → (z : Option ℤ) (marks : Marks) → IsMeasureOf p s g.decreases z marks → PartsGo means (inside f z marks s.heap (Measured s)) o) where
       pub own_walks : (s : run.State) → FunctionStarts p g s → OwnWalk p g (Measured s s.heap) s
-      own_walks s starts = let m = at_measure s starts in own_walk m.number (Measured s) (inner s starts m.number m.is) s (at_start s starts).old_is m.entered
+      own_walks s starts = let m = at_measure s starts in own_walk m.number m.marks s.heap (Measured s) (inner s starts m.number m.marks m.is) s refl (at_start s starts).old_is m.entered
 
       pub never_fails : ((s : run.State) → FunctionStarts p g s → (a : Application) → Measured s s.heap a.0 a.1 → DoesNotLower p f g.decreases s a → ⊥) → FunctionFails p f g → ⊥
       never_fails lowers (fails.precondition vs at types k) = no_start_fails vs at types k

@@ -15,6 +15,7 @@ use Rattle.vx_types.specs.Typing.{HaveNoPerm}
 use Rattle.vx_amounts.proofs.Amounts.{Le, Positive, le-refl, le-trans, none-none, none-full, full-positive, positive-le, not-positive, below-add}
 use Rattle.vx_amounts.proofs.Products.{product_sign, positive_le}
 use Rattle.vx_sound.specs.Snapshots.{IsTree}
+use Rattle.vx_sound.proofs.Marks.{Marks, Unmarked, Unsaid}
 use Rattle.vx_sound.proofs.World.{at_field, Limited, IsTypedInstance, IsTypedResource, CanBe, Walked, World}
 use Rattle.vx_sound.proofs.Chunks.{spread_bare}
 use Rattle.vx_sound_preds.specs.Bodies.{IsRigid, AreRigid, GoodBodies}
@@ -228,17 +229,20 @@ module _ (p : Program) (good : GoodBodies p) (Held : Name → Type 0) (bounded :
 -- what may be applied, the function whose body is walked, if it is one, and what its walk shows of the applications that are
 -- evaluated
 pub record Applying : Type 1 where
+  -- what the marks of chunks stand for
+  pub marks : Marks
   pub Applied : Name → Type 0
   pub own : Option Walked
   pub Measured : Heap → Name → List Value → Type 0
 
 abbrev pub nothing_applied : Applying
-nothing_applied = record { Applied = λ f. ⊥; own = None; Measured = λ h f vs. Unit {0} }
+nothing_applied = record { marks = Unmarked; Applied = λ f. ⊥; own = None; Measured = λ h f vs. Unit {0} }
 
 -- The world of a typed program, where the instances of some predicates are held and some functions may be applied.
 abbrev pub functions_world : (p : Program) → GoodBodies p → (Held : Name → Type 0) → ((x : Name) (d : Predicate) → predicate_named p x ≡ Some d → HaveNoPerm d.parameters) → Bool → Applying → World
 functions_world p good Held no_perm bounded applying = record {
   program = p;
+  marks = applying.marks;
   bounded = bounded;
   Held = Held;
   Applied = applying.Applied;
@@ -257,3 +261,10 @@ functions_world p good Held no_perm bounded applying = record {
 -- and where none may be
 abbrev pub instances_world : (p : Program) → GoodBodies p → (Held : Name → Type 0) → ((x : Name) (d : Predicate) → predicate_named p x ≡ Some d → HaveNoPerm d.parameters) → Bool → World
 instances_world p good Held no_perm bounded = functions_world p good Held no_perm bounded nothing_applied
+
+-- Where what an application tells is gathered, none may be applied, and nothing is said of marks.
+abbrev pub nothing_said : Applying
+nothing_said = record { marks = Unsaid; Applied = λ f. ⊥; own = None; Measured = λ h f vs. Unit {0} }
+
+abbrev pub quiet_world : (p : Program) → GoodBodies p → (Held : Name → Type 0) → ((x : Name) (d : Predicate) → predicate_named p x ≡ Some d → HaveNoPerm d.parameters) → Bool → World
+quiet_world p good Held no_perm bounded = functions_world p good Held no_perm bounded nothing_said

@@ -10,6 +10,7 @@ use Rattle.vx_meaning.specs.Consistent.{total, Changes, IsConsistent}
 use Rattle.vx_types.specs.Typing.{HaveNoPerm}
 use Rattle.vx_whole.specs.Closure.{InClosure}
 use Rattle.vx_amounts.proofs.Amounts.{Le, Positive, le-refl, le-trans, add-left, none-full, none-sum, sum_comm, not-positive}
+use Rattle.vx_sound.proofs.Marks.{Unmarked}
 use Rattle.vx_sound.proofs.World.{at_field, IsTypedInstance, World, Changing}
 use Rattle.vx_sound.proofs.Chunks.{location_is}
 use Rattle.vx_sound_preds.specs.Bodies.{GoodBodies}
@@ -84,8 +85,9 @@ module _ (p : Program) (good : GoodBodies p) (x : Name) (no_perm : (x : Name) (d
       high n m true e = le-trans (add-left full (subst (λ k. Le (total p n h hs k) none) (sym (location_is m l e)) (z n))) (le-trans (sum_comm full none).there (none-sum full).there)
       high n m false e = st.most refl n m
 
-  pub functions_changing : applying.own ≡ None → Changing world
-  functions_changing none = record {
+  pub functions_changing : applying.own ≡ None → applying.marks ≡ Unmarked → Changing world
+  functions_changing none unmarked = record {
+    unmarked = unmarked;
     bounded = refl;
     of_no_function = none;
     changed = λ c g ch st. kept c st g (by_change c st g ch);

@@ -30,7 +30,7 @@ module _ (p : Program) (x : Name) (replies : Name → List Reply) (typed : IsTyp
   typed_all ((Folded i, a) ∷ xs) h = ((h.0.0, (h.0.1.0, h.0.1.1, (typed.predicates i.predicate h.0.1.0 h.0.1.1).parameters, h.0.1.2)), typed_all xs h.1)
 
   changing : Changing (instances_world p (good p x typed) (InClosure p x) (no_perm p x typed) true)
-  changing = functions_changing p (good p x typed) x (no_perm p x typed) (bodies_covered p x replies typed pass) nothing_applied refl
+  changing = functions_changing p (good p x typed) x (no_perm p x typed) (bodies_covered p x replies typed pass) nothing_applied refl refl
 
   module _ (s : State) (g : Heap) (co : IsConsistent p s) (st : IsStocked p x s.holdings) (ch : Changes p s g) where
     holds : HoldsInstances p (InClosure p x) true s.heap s.holdings

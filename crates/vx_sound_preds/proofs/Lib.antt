@@ -4,6 +4,8 @@ pub mod Looks
 pub mod Framing
 pub mod Totals
 pub mod Grouped
+pub mod Marking
+pub mod Inside
 pub mod Adding
 pub mod Exchanging
 pub mod Frames

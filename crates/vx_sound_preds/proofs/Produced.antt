@@ -33,6 +33,7 @@ use Rattle.vx_elements.proofs.Truth.{is_equal}
 use Rattle.vx_elements.proofs.Values.{value_typed, sort_of_field}
 use Rattle.vx_amounts.proofs.Amounts.{Le, Same, none-full}
 use Rattle.vx_sound.specs.Snapshots.{leaf, location_leaf, truth_leaf, assertion_tree, tree_by}
+use Rattle.vx_sound.proofs.Marks.{InnerAt}
 use Rattle.vx_sound.proofs.World.{at_field, World}
 use Rattle.vx_sound.proofs.Standard.{IsWritten, leaf_of, leaf_is, unit_value, pair_value, first_value, second_value, wrap_value, unwrap_value, first_written, second_written, name_written, good_unit, good_pair, good_first, good_second, good_wrap, good_unwrap}
 use Rattle.vx_sound.proofs.Speaks.{Speaks, SpeaksOf}
@@ -51,6 +52,8 @@ use Rattle.vx_sound_preds.proofs.Framing.{entries_seen, tree_seen}
 use Rattle.vx_sound_preds.proofs.Adding.{Fine, added, added_append, value_here, values_here}
 use Rattle.vx_sound_preds.proofs.Exchanging.{all_open}
 use Rattle.vx_sound_preds.proofs.Frames.{entries_positive}
+use Rattle.vx_sound_preds.proofs.Marking.{BodiesKeep, produce_kept, left_kept, split_marks, as_marked, marked_on, marked_back}
+use Rattle.vx_sound_preds.proofs.Inside.{AllInner, inner_parts}
 use Rattle.vx_sound_preds.proofs.Holding.{rigid_value, all_single, HoldsInstances, added_debts, fewer, Applying, functions_world}
 
 -- an outcome that ends, ends here
@@ -174,13 +177,13 @@ module _ (means : Meaning) (p : Program) (good : GoodBodies p) (Held : Name → 
 
   pub put_known : {scope : Scope} {i : Interpretation} {s : rules.State} {c : run.State} {key : rules.Chunk} {r : run.Resource} {b : Sort} (keys : Keys means world s.next i key r b) (a u : Term) (q : Fraction) (inner : Bool) (on : Going) → Stands means world scope i s c →
       Good means s.next i a RealSort → Same (as_fraction (value i a)) q → Le none (as_fraction (value i a)) → Good means s.next i u b → (key.is_field ≡ false → IsWritten u) → IsThere p c.heap r (value i u) →
-      HoldsInstances p Held bounded c.heap (run.gained r q c.holdings) → Cleared (on (put (record key { amount = a; value = u; inner = inner }) s)) → Goes means world scope i s.next on (run.with_holdings (run.gained r q c.holdings) c)
-  put_known {i = i} {s = s} {key = key} {r = r} keys a u q inner on st ga same_q sign gu written there holds h = record {
+      HoldsInstances p Held bounded c.heap (run.gained r q c.holdings) → (inner ≡ true → InnerAt p applying.marks c.heap r) → Cleared (on (put (record key { amount = a; value = u; inner = inner }) s)) → Goes means world scope i s.next on (run.with_holdings (run.gained r q c.holdings) c)
+  put_known {i = i} {s = s} {key = key} {r = r} keys a u q inner on st ga same_q sign gu written there holds marked h = record {
     interp = i;
     state = put (record key { amount = a; value = u; inner = inner }) s;
     extends = extends-refl means s.next i;
     later = subst (λ m. s.next ≤ m) (sym (next_after_put means world (record key { amount = a; value = u; inner = inner }) s)) (le_refl _);
-    stands = put_stands means world (record key { amount = a; value = u; inner = inner }) r q st (keyed means world keys a u inner ga sign gu written (λ k. there)) same_q holds;
+    stands = put_stands means world (record key { amount = a; value = u; inner = inner }) r q st (keyed means world keys a u inner ga sign gu written (λ k. there) marked) same_q holds;
     cleared = h;
   }
 
@@ -252,11 +255,15 @@ module _ (means : Meaning) (p : Program) (good : GoodBodies p) (Held : Name → 
       pub gives : (outcome : Outcome) → give p Possible q a c outcome → EndsAt (run.with_holdings (added q es c.holdings) c) outcome
       pub goes : Goes means world scope i n on (run.with_holdings (added q es c.holdings) c)
 
+    -- bodies keep what marks are put
+    abbrev Keeps : Type 0
+    Keeps = BodiesKeep p good o
+
     -- what is shown of a body
     ProducedGoes : Fraction → Assertion → Type 0
     ProducedGoes q a =
         (scope : Scope) (c : run.State) (es : run.Holdings) → HaveNoPerm scope → IsTyped p scope a → SpeaksOf Held applying.Applied a → IsPlainBody p Rigid a → entries p c a ≡ Some es → HoldsInstances p Held bounded c.heap (added q es c.holdings) →
-        (i : Interpretation) (s : rules.State) (scale : Term) (snapshot : Option Term) (on : Going) → IsSnapshotOf s.next i c a snapshot → ScaleStands means world s.next i scale q → Stands means world scope i s c →
+        (i : Interpretation) (s : rules.State) (scale : Term) (snapshot : Option Term) (on : Going) → IsSnapshotOf s.next i c a snapshot → ScaleStands means world s.next i scale q → Stands means world scope i s c → (s.inner ≡ true → AllInner p good c.heap applying.marks es) →
         Cleared (produce p o a scale snapshot s on) → Produced scope i s.next on c a q es
 
     ends_at : (u : run.State) (outcome : Outcome) → ends u outcome → EndsAt u outcome
@@ -302,7 +309,7 @@ module _ (means : Meaning) (p : Program) (good : GoodBodies p) (Held : Name → 
 
     pure_produced : (q : Fraction) (e : Expr) → ProducedGoes q (Pure e)
     unfolding ProducedGoes
-    pure_produced q e scope c es np t k pl en holds i s scale snapshot on sn sc st w = go (is_true r.result) refl (sym (step (λ v. cond (is_true v) (Some []) None) r.result v) ∙ en)
+    pure_produced q e scope c es np t k pl en holds i s scale snapshot on sn sc st mk w = go (is_true r.result) refl (sym (step (λ v. cond (is_true v) (Some []) None) r.result v) ∙ en)
       where
         after : Term → Going
         after t s1 = Step (on (with_unit snapshot (rules.with_fact t s1)))
@@ -337,7 +344,7 @@ module _ (means : Meaning) (p : Program) (good : GoodBodies p) (Held : Name → 
 
     points_produced : (q : Fraction) (at : Place) (e : Expr) (f : Name) (share : Expr) → ProducedGoes q (Points at e f share)
     unfolding ProducedGoes
-    points_produced q at e f share scope c es np t k pl en holds i s scale snapshot on sn sc st w =
+    points_produced q at e f share scope c es np t k pl en holds i s scale snapshot on sn sc st mk w =
         one_produced c (Points at e f share) q (run.At (at_field l.reference f)) l.fraction es entry_is
         (eventually l.part (λ n m. bind_ok (add_part p (deeper p n) q c) (run.At (at_field l.reference f), l.fraction) m))
         (λ outcome g. checked_gives c q (run.At (at_field l.reference f)) l.fraction outcome (λ n. field_part p (deeper p n) c at e f share) l.part g)
@@ -362,6 +369,9 @@ module _ (means : Meaning) (p : Program) (good : GoodBodies p) (Held : Name → 
         entry_is = some_is ((run.At (at_field l.reference f), l.fraction) ∷ []) es
             (sym (step (location_entry f (RefValue l.reference)) (PermValue l.fraction) share_now) ∙ sym (step (λ r. option_and_then (location_entry f r) (plain.value p no_applications c share)) (RefValue l.reference) receiver_now) ∙ en)
 
+        marked : s.inner ≡ true → InnerAt p applying.marks c.heap (run.At (at_field l.reference f))
+        marked e = tt
+
         there : HoldsInstances p Held bounded c.heap (run.gained (run.At (at_field l.reference f)) (product q l.fraction) c.holdings)
         there = one_holds c q (run.At (at_field l.reference f)) l.fraction es entry_is holds
 
@@ -371,14 +381,14 @@ module _ (means : Meaning) (p : Program) (good : GoodBodies p) (Held : Name → 
         put_there : (snapshot : Option Term) → IsSnapshotOf l.state.next l.interp c (Points at e f share) snapshot →
             Cleared (on (put (record (field_key f l.receiver) { amount = l.amount; value = produced_value (field_sort p f) snapshot l.state; inner = s.inner }) (after_value (field_sort p f) snapshot l.state))) →
             Goes means world scope l.interp l.state.next on (run.with_holdings (run.gained (run.At (at_field l.reference f)) (product q l.fraction) c.holdings) c)
-        put_there None sn h = put_fresh means world l.keys l.amount (product q l.fraction) s.inner on l.stands l.amount_good l.amount_is l.sign there h
+        put_there None sn h = put_fresh means world l.keys l.amount (product q l.fraction) s.inner on l.stands l.amount_good l.amount_is l.sign there marked h
         put_there (Some t) sn h =
             let tree_is : sn.tree ≡ leaf (run.value_at p c.heap (at_field l.reference f)) =
             some_is sn.tree (leaf (run.value_at p c.heap (at_field l.reference f))) (sym sn.is ∙ step (location_leaf p c.heap f) (RefValue l.reference) receiver_now) in
             let m = value_named f l.reference t l.stands sn.good_term sn.written (sn.value_is ∙ ap TreeElement tree_is) in
             let a_kept = value_kept means l.amount l.amount_good.settled m.extends in
             let g = put_known (keys_later means world m.later m.extends l.keys) l.amount (produced_value (field_sort p f) (Some t) l.state) (product q l.fraction) s.inner on m.stands (good_later means m.later m.extends l.amount_good)
-            (subst (λ e. Same (as_fraction e) (product q l.fraction)) (sym a_kept) l.amount_is) (subst (λ e. Le none (as_fraction e)) (sym a_kept) l.sign) m.good_value (λ e. absurd (not_both e)) m.value_is there h in
+            (subst (λ e. Same (as_fraction e) (product q l.fraction)) (sym a_kept) l.amount_is) (subst (λ e. Le none (as_fraction e)) (sym a_kept) l.sign) m.good_value (λ e. absurd (not_both e)) m.value_is there marked h in
             record { interp = g.interp; state = g.state; extends = extends-trans means {k = g.interp} m.later m.extends g.extends; later = le_trans {k = g.state.next} m.later g.later; stands = g.stands; cleared = g.cleared }
           where
             not_both : ◌≡◌ {A = Bool} true false → ⊥
@@ -386,7 +396,7 @@ module _ (means : Meaning) (p : Program) (good : GoodBodies p) (Held : Name → 
 
     instance_produced : (q : Fraction) (at : Place) (x : Name) (xs : Exprs) (share : Expr) → ProducedGoes q (syntax.Instance at x xs share)
     unfolding ProducedGoes
-    instance_produced q at x xs share scope c es np t k pl en holds i s scale snapshot on sn sc st w =
+    instance_produced q at x xs share scope c es np t k pl en holds i s scale snapshot on sn sc st mk w =
         one_produced c (syntax.Instance at x xs share) q (run.Folded record { predicate = x; arguments = l.results }) l.fraction es entry_is
         (eventually l.part (λ n m. bind_ok (add_part p (deeper p n) q c) (run.Folded record { predicate = x; arguments = l.results }, l.fraction) m))
         (λ outcome g. checked_gives c q (run.Folded record { predicate = x; arguments = l.results }) l.fraction outcome (λ n. instance_part p (deeper p n) c at x xs share) l.part g)
@@ -411,6 +421,9 @@ module _ (means : Meaning) (p : Program) (good : GoodBodies p) (Held : Name → 
         entry_is = some_is ((run.Folded record { predicate = x; arguments = l.results }, l.fraction) ∷ []) es
             (sym (step (instance_entry x l.results) (PermValue l.fraction) share_now) ∙ sym (step (λ vs. option_and_then (instance_entry x vs) (plain.value p no_applications c share)) l.results arguments_now) ∙ en)
 
+        marked : s.inner ≡ true → InnerAt p applying.marks c.heap (run.Folded record { predicate = x; arguments = l.results })
+        marked e = (subst (AllInner p good c.heap applying.marks) (sym entry_is) (mk e)).0
+
         there : HoldsInstances p Held bounded c.heap (run.gained (run.Folded record { predicate = x; arguments = l.results }) (product q l.fraction) c.holdings)
         there = one_holds c q (run.Folded record { predicate = x; arguments = l.results }) l.fraction es entry_is holds
 
@@ -423,13 +436,13 @@ module _ (means : Meaning) (p : Program) (good : GoodBodies p) (Held : Name → 
         put_there : (snapshot : Option Term) → IsSnapshotOf l.state.next l.interp c (syntax.Instance at x xs share) snapshot →
             Cleared (on (put (record (instance_key x l.terms) { amount = l.amount; value = produced_snapshot snapshot l.state; inner = s.inner }) (after_snapshot snapshot l.state))) →
             Goes means world scope l.interp l.state.next on (run.with_holdings (run.gained (run.Folded record { predicate = x; arguments = l.results }) (product q l.fraction) c.holdings) c)
-        put_there None sn h = put_fresh means world keys l.amount (product q l.fraction) s.inner on l.stands l.amount_good l.amount_is l.sign there h
+        put_there None sn h = put_fresh means world keys l.amount (product q l.fraction) s.inner on l.stands l.amount_good l.amount_is l.sign there marked h
         put_there (Some t) sn h =
             let tree_is = sym (step (λ vs. tree_by p sn.fuel c.heap record { predicate = x; arguments = vs }) l.results arguments_now) ∙ sn.is in
             let m = named means world t SnapSort l.stands sn.good_term in
             let a_kept = value_kept means l.amount l.amount_good.settled m.extends in
             let g = put_known (keys_later means world m.later m.extends keys) l.amount (rules.name_of t l.state) (product q l.fraction) s.inner on m.stands (good_later means m.later m.extends l.amount_good)
-            (subst (λ e. Same (as_fraction e) (product q l.fraction)) (sym a_kept) l.amount_is) (subst (λ e. Le none (as_fraction e)) (sym a_kept) l.sign) m.good (λ e. name_written t l.state l.stands.awake) (sn.tree, (sn.fuel, tree_is), m.value_is ∙ sn.value_is) there h in
+            (subst (λ e. Same (as_fraction e) (product q l.fraction)) (sym a_kept) l.amount_is) (subst (λ e. Le none (as_fraction e)) (sym a_kept) l.sign) m.good (λ e. name_written t l.state l.stands.awake) (sn.tree, (sn.fuel, tree_is), m.value_is ∙ sn.value_is) there marked h in
             record { interp = g.interp; state = g.state; extends = extends-trans means {k = g.interp} m.later m.extends g.extends; later = le_trans {k = g.state.next} m.later g.later; stands = g.stands; cleared = g.cleared }
 
     -- one part after the other
@@ -457,9 +470,9 @@ module _ (means : Meaning) (p : Program) (good : GoodBodies p) (Held : Name → 
           goes = subst (λ hs. Goes means world scope i n on (run.with_holdings hs c)) same h;
         }
 
-    both_produced : (q : Fraction) (a b : Assertion) → ProducedGoes q a → ProducedGoes q b → ProducedGoes q (Both a b)
+    both_produced : Keeps → (q : Fraction) (a b : Assertion) → ProducedGoes q a → ProducedGoes q b → ProducedGoes q (Both a b)
     unfolding ProducedGoes
-    both_produced q a b on_a on_b scope c es np t k pl en holds i s scale snapshot on sn sc st w =
+    both_produced keeps q a b on_a on_b scope c es np t k pl en holds i s scale snapshot on sn sc st mk w =
         whole_produced c (Both a b) q x.it y.it es whole
         (both_adds q a b c middle (run.with_holdings (added q y.it (added q x.it c.holdings)) c) r.adds z.adds)
         (λ outcome g. both_gives q a b c middle (run.with_holdings (added q y.it (added q x.it c.holdings)) c) outcome r.gives z.gives g)
@@ -490,12 +503,22 @@ module _ (means : Meaning) (p : Program) (good : GoodBodies p) (Held : Name → 
         after : Going
         after s1 = produce p o b scale (right_part snapshot) s1 on
 
-        r : Produced scope i (with_split snapshot s).next (λ s1. produce p o b scale (right_part snapshot) s1 on) c a q x.it
-        r = on_a scope c x.it np t.0 k.0 pl.0 x.is half i (with_split snapshot s) scale (left_part snapshot) after (subst (λ n. IsSnapshotOf n i c a (left_part snapshot)) (sym m.next_is) m.left)
-            (subst (λ n. ScaleStands means world n i scale q) (sym m.next_is) sc) m.stands w
+        inner : s.inner ≡ true → AllInner p good c.heap applying.marks x.it × AllInner p good c.heap applying.marks y.it
+        inner e = inner_parts p good c.heap applying.marks x.it y.it (subst (AllInner p good c.heap applying.marks) (sym whole) (mk e))
 
-        first : Goes means world scope i s.next (λ s1. produce p o b scale (right_part snapshot) s1 on) (run.with_holdings (added q x.it c.holdings) c)
-        first = subst (λ n. Goes means world scope i n after (run.with_holdings (added q x.it c.holdings) c)) m.next_is r.goes
+        split_is : (with_split snapshot s).inner ≡ s.inner
+        split_is = split_marks snapshot s
+
+        r : Produced scope i (with_split snapshot s).next (as_marked (with_split snapshot s) (λ s1. produce p o b scale (right_part snapshot) s1 on)) c a q x.it
+        r = on_a scope c x.it np t.0 k.0 pl.0 x.is half i (with_split snapshot s) scale (left_part snapshot) (as_marked (with_split snapshot s) after) (subst (λ n. IsSnapshotOf n i c a (left_part snapshot)) (sym m.next_is) m.left)
+            (subst (λ n. ScaleStands means world n i scale q) (sym m.next_is) sc) m.stands (λ e. (inner (sym split_is ∙ e)).0)
+            (produce_kept p good o keeps a pl.0 scale (left_part snapshot) (with_split snapshot s) after (as_marked (with_split snapshot s) after) (marked_on (with_split snapshot s) after) w)
+
+        first : Goes means world scope i s.next (as_marked (with_split snapshot s) (λ s1. produce p o b scale (right_part snapshot) s1 on)) (run.with_holdings (added q x.it c.holdings) c)
+        first = subst (λ n. Goes means world scope i n (as_marked (with_split snapshot s) after) (run.with_holdings (added q x.it c.holdings) c)) m.next_is r.goes
+
+        then : (first.state.inner ≡ (with_split snapshot s).inner) × Cleared (produce p o b scale (right_part snapshot) first.state on)
+        then = marked_back (with_split snapshot s) after first.state first.cleared
 
         seen : Sees c (run.with_holdings (added q x.it c.holdings) c)
         seen = record { store = refl; heap = refl }
@@ -504,7 +527,7 @@ module _ (means : Meaning) (p : Program) (good : GoodBodies p) (Held : Name → 
         z = on_b scope (run.with_holdings (added q x.it c.holdings) c) y.it np t.1 k.1 pl.1 (entries_seen p Rigid c middle seen b pl.1 ∙ y.is) all_there first.interp first.state scale (right_part snapshot) on
             (snapshot_as first.state.next first.interp c (added q x.it c.holdings) b b (right_part snapshot) (λ f. tree_seen p Rigid c middle seen f b pl.1)
             (snapshot_later s.next first.state.next i first.interp c b (right_part snapshot) first.later first.extends m.right))
-            (scale_later means world first.later first.extends sc) first.stands first.cleared
+            (scale_later means world first.later first.extends sc) first.stands (λ e. (inner (sym (then.0 ∙ split_is) ∙ e)).1) then.1
 
     -- the side that a condition picks
     pub record Picked (scope : Scope) (i : Interpretation) (s : rules.State) (left right : Going) (c : run.State) (d : Expr) : Type 0 where
@@ -526,9 +549,9 @@ module _ (means : Meaning) (p : Program) (good : GoodBodies p) (Held : Name → 
           now_is = now c d r.result (fine_state np st) pl r.fits ∙ ap Some is;
         }
 
-    implied_produced : (q : Fraction) (d : Expr) (a : Assertion) → ProducedGoes q a → ProducedGoes q (Implied d a)
+    implied_produced : Keeps → (q : Fraction) (d : Expr) (a : Assertion) → ProducedGoes q a → ProducedGoes q (Implied d a)
     unfolding ProducedGoes
-    implied_produced q d a on_a scope c es np t k pl en holds i s scale snapshot on sn sc st w = go m.test m.goes m.fits m.now_is
+    implied_produced keeps q d a on_a scope c es np t k pl en holds i s scale snapshot on sn sc st mk w = go m.test m.goes m.fits m.now_is
       where
         left : Going
         left s2 = produce p o a scale snapshot s2 on
@@ -536,8 +559,8 @@ module _ (means : Meaning) (p : Program) (good : GoodBodies p) (Held : Name → 
         right : Going
         right s2 = on (with_unit snapshot s2)
 
-        m : Picked scope i s left right c d
-        m = picked d left right np t.0 k.0 pl.0 st w
+        m : Picked scope i s (as_marked s left) right c d
+        m = picked d (as_marked s left) right np t.0 k.0 pl.0 st (left_kept p good o keeps d pl.0 s left right (as_marked s left) right (marked_on s left) (λ t e w. w) w)
 
         entries_are : (b : Bool) → plain.value p no_applications c d ≡ Some (BoolValue b) → plain.choose (BoolValue b) (entries p c a) (Some []) ≡ Some es
         entries_are b e = sym (step (λ v. plain.choose v (entries p c a) (Some [])) (BoolValue b) e) ∙ en
@@ -552,9 +575,10 @@ module _ (means : Meaning) (p : Program) (good : GoodBodies p) (Held : Name → 
         gives_by b u f outcome g (passes x h rest) = g (subst (λ v. side v (give p Possible q a c) (ends c) outcome) (one_answer x (BoolValue b) h f) rest)
         gives_by b u f outcome g (refused at h e) = no_refusal (BoolValue b) at f h
 
-        go : (b : Bool) → Goes means world scope i s.next (cond b left right) c → Eventually (λ n. fit_by p n c d ≡ Ok (BoolValue b)) → plain.value p no_applications c d ≡ Some (BoolValue b) → Produced scope i s.next on c (Implied d a) q es
+        go : (b : Bool) → Goes means world scope i s.next (cond b (as_marked s left) right) c → Eventually (λ n. fit_by p n c d ≡ Ok (BoolValue b)) → plain.value p no_applications c d ≡ Some (BoolValue b) → Produced scope i s.next on c (Implied d a) q es
         go true g f e =
-            let r = on_a scope c es np t.1 k.1 pl.1 (entries_are true e) holds g.interp g.state scale snapshot on (snapshot_as g.state.next g.interp c c.holdings (Implied d a) a snapshot (λ f. sym (tree_is true e f)) (snapshot_later s.next g.state.next i g.interp c (Implied d a) snapshot g.later g.extends sn)) (scale_later means world g.later g.extends sc) g.stands g.cleared in
+            let z = marked_back s left g.state g.cleared in
+            let r = on_a scope c es np t.1 k.1 pl.1 (entries_are true e) holds g.interp g.state scale snapshot on (snapshot_as g.state.next g.interp c c.holdings (Implied d a) a snapshot (λ f. sym (tree_is true e f)) (snapshot_later s.next g.state.next i g.interp c (Implied d a) snapshot g.later g.extends sn)) (scale_later means world g.later g.extends sc) g.stands (λ e. mk (sym z.0 ∙ e)) z.1 in
             record {
               adds = adds_by true (run.with_holdings (added q es c.holdings) c) f r.adds;
               gives = λ outcome h. gives_by true (run.with_holdings (added q es c.holdings) c) f outcome (r.gives outcome) h;
@@ -570,9 +594,9 @@ module _ (means : Meaning) (p : Program) (good : GoodBodies p) (Held : Name → 
               cleared = g.cleared;
             }
 
-    chosen_produced : (q : Fraction) (d : Expr) (a b : Assertion) → ProducedGoes q a → ProducedGoes q b → ProducedGoes q (Chosen d a b)
+    chosen_produced : Keeps → (q : Fraction) (d : Expr) (a b : Assertion) → ProducedGoes q a → ProducedGoes q b → ProducedGoes q (Chosen d a b)
     unfolding ProducedGoes
-    chosen_produced q d a b on_a on_b scope c es np t k pl en holds i s scale snapshot on sn sc st w = go m.test m.goes m.fits m.now_is
+    chosen_produced keeps q d a b on_a on_b scope c es np t k pl en holds i s scale snapshot on sn sc st mk w = go m.test m.goes m.fits m.now_is
       where
         left : Going
         left s2 = produce p o a scale snapshot s2 on
@@ -580,8 +604,8 @@ module _ (means : Meaning) (p : Program) (good : GoodBodies p) (Held : Name → 
         right : Going
         right s2 = produce p o b scale snapshot s2 on
 
-        m : Picked scope i s left right c d
-        m = picked d left right np t.0 k.0 pl.0 st w
+        m : Picked scope i s (as_marked s left) (as_marked s right) c d
+        m = picked d (as_marked s left) (as_marked s right) np t.0 k.0 pl.0 st (left_kept p good o keeps d pl.0 s left right (as_marked s left) (as_marked s right) (marked_on s left) (marked_on s right) w)
 
         entries_are : (z : Bool) → plain.value p no_applications c d ≡ Some (BoolValue z) → plain.choose (BoolValue z) (entries p c a) (entries p c b) ≡ Some es
         entries_are z e = sym (step (λ v. plain.choose v (entries p c a) (entries p c b)) (BoolValue z) e) ∙ en
@@ -596,33 +620,35 @@ module _ (means : Meaning) (p : Program) (good : GoodBodies p) (Held : Name → 
         gives_by z u f outcome g (passes x h rest) = g (subst (λ v. side v (give p Possible q a c) (give p Possible q b c) outcome) (one_answer x (BoolValue z) h f) rest)
         gives_by z u f outcome g (refused at h e) = no_refusal (BoolValue z) at f h
 
-        go : (z : Bool) → Goes means world scope i s.next (cond z left right) c → Eventually (λ n. fit_by p n c d ≡ Ok (BoolValue z)) → plain.value p no_applications c d ≡ Some (BoolValue z) → Produced scope i s.next on c (Chosen d a b) q es
+        go : (z : Bool) → Goes means world scope i s.next (cond z (as_marked s left) (as_marked s right)) c → Eventually (λ n. fit_by p n c d ≡ Ok (BoolValue z)) → plain.value p no_applications c d ≡ Some (BoolValue z) → Produced scope i s.next on c (Chosen d a b) q es
         go true g f e =
-            let r = on_a scope c es np t.1 k.1 pl.1 (entries_are true e) holds g.interp g.state scale snapshot on (snapshot_as g.state.next g.interp c c.holdings (Chosen d a b) a snapshot (λ f. sym (tree_is true e f)) (snapshot_later s.next g.state.next i g.interp c (Chosen d a b) snapshot g.later g.extends sn)) (scale_later means world g.later g.extends sc) g.stands g.cleared in
+            let y = marked_back s left g.state g.cleared in
+            let r = on_a scope c es np t.1 k.1 pl.1 (entries_are true e) holds g.interp g.state scale snapshot on (snapshot_as g.state.next g.interp c c.holdings (Chosen d a b) a snapshot (λ f. sym (tree_is true e f)) (snapshot_later s.next g.state.next i g.interp c (Chosen d a b) snapshot g.later g.extends sn)) (scale_later means world g.later g.extends sc) g.stands (λ e. mk (sym y.0 ∙ e)) y.1 in
             record {
               adds = adds_by true (run.with_holdings (added q es c.holdings) c) f r.adds;
               gives = λ outcome h. gives_by true (run.with_holdings (added q es c.holdings) c) f outcome (r.gives outcome) h;
               goes = goes_after means world g r.goes;
             }
         go false g f e =
-            let r = on_b scope c es np t.2 k.2 pl.2 (entries_are false e) holds g.interp g.state scale snapshot on (snapshot_as g.state.next g.interp c c.holdings (Chosen d a b) b snapshot (λ f. sym (tree_is false e f)) (snapshot_later s.next g.state.next i g.interp c (Chosen d a b) snapshot g.later g.extends sn)) (scale_later means world g.later g.extends sc) g.stands g.cleared in
+            let y = marked_back s right g.state g.cleared in
+            let r = on_b scope c es np t.2 k.2 pl.2 (entries_are false e) holds g.interp g.state scale snapshot on (snapshot_as g.state.next g.interp c c.holdings (Chosen d a b) b snapshot (λ f. sym (tree_is false e f)) (snapshot_later s.next g.state.next i g.interp c (Chosen d a b) snapshot g.later g.extends sn)) (scale_later means world g.later g.extends sc) g.stands (λ e. mk (sym y.0 ∙ e)) y.1 in
             record {
               adds = adds_by false (run.with_holdings (added q es c.holdings) c) f r.adds;
               gives = λ outcome h. gives_by false (run.with_holdings (added q es c.holdings) c) f outcome (r.gives outcome) h;
               goes = goes_after means world g r.goes;
             }
 
-    produces : (q : Fraction) (a : Assertion) → ProducedGoes q a
-    produces q (Pure e) = pure_produced q e
-    produces q (Points at e f share) = points_produced q at e f share
-    produces q (syntax.Instance at x es share) = instance_produced q at x es share
-    produces q (Both a b) = both_produced q a b (produces q a) (produces q b)
-    produces q (Implied d a) = implied_produced q d a (produces q a)
-    produces q (Chosen d a b) = chosen_produced q d a b (produces q a) (produces q b)
+    produces : Keeps → (q : Fraction) (a : Assertion) → ProducedGoes q a
+    produces keeps q (Pure e) = pure_produced q e
+    produces keeps q (Points at e f share) = points_produced q at e f share
+    produces keeps q (syntax.Instance at x es share) = instance_produced q at x es share
+    produces keeps q (Both a b) = both_produced keeps q a b (produces keeps q a) (produces keeps q b)
+    produces keeps q (Implied d a) = implied_produced keeps q d a (produces keeps q a)
+    produces keeps q (Chosen d a b) = chosen_produced keeps q d a b (produces keeps q a) (produces keeps q b)
 
     -- the whole body
-    pub produced : (q : Fraction) (a : Assertion) (scope : Scope) (c : run.State) (es : run.Holdings) → HaveNoPerm scope → IsTyped p scope a → SpeaksOf Held applying.Applied a → IsPlainBody p Rigid a → entries p c a ≡ Some es → HoldsInstances p Held bounded c.heap (added q es c.holdings) →
-        (i : Interpretation) (s : rules.State) (scale : Term) (snapshot : Option Term) (on : Going) → IsSnapshotOf s.next i c a snapshot → ScaleStands means world s.next i scale q → Stands means world scope i s c →
+    pub produced : Keeps → (q : Fraction) (a : Assertion) (scope : Scope) (c : run.State) (es : run.Holdings) → HaveNoPerm scope → IsTyped p scope a → SpeaksOf Held applying.Applied a → IsPlainBody p Rigid a → entries p c a ≡ Some es → HoldsInstances p Held bounded c.heap (added q es c.holdings) →
+        (i : Interpretation) (s : rules.State) (scale : Term) (snapshot : Option Term) (on : Going) → IsSnapshotOf s.next i c a snapshot → ScaleStands means world s.next i scale q → Stands means world scope i s c → (s.inner ≡ true → AllInner p good c.heap applying.marks es) →
         Cleared (produce p o a scale snapshot s on) → Produced scope i s.next on c a q es
     unfolding ProducedGoes
-    produced q a = produces q a
+    produced keeps q a = produces keeps q a

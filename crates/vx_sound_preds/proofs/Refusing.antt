@@ -23,6 +23,7 @@ use Rattle.vx_types.specs.Typing.{HaveNoPerm, IsTyped}
 use Rattle.vx_elements.proofs.Settled.{Meaning, value_kept}
 use Rattle.vx_elements.proofs.Built.{Good, good_later}
 use Rattle.vx_elements.proofs.Eventually.{one_answer, no_refusal}
+use Rattle.vx_sound.proofs.Marks.{Unmarked, MayMark}
 use Rattle.vx_sound.proofs.World.{World}
 use Rattle.vx_sound.proofs.Standard.{IsWritten}
 use Rattle.vx_sound.proofs.Speaks.{SpeaksOf, body_speaks, speaks_anyway, all_speak_anyway}
@@ -35,10 +36,11 @@ use Rattle.vx_sound_preds.specs.Bodies.{Rigid, IsPlainBody, GoodBodies}
 use Rattle.vx_sound_preds.proofs.Adding.{added}
 use Rattle.vx_sound_preds.proofs.Holding.{HoldsInstances, Applying, functions_world}
 use Rattle.vx_sound_preds.proofs.Given.{holding, gave}
+use Rattle.vx_sound_preds.proofs.Marking.{BodiesKeep}
 use Rattle.vx_sound_preds.proofs.Produced.{SnapshotOf, parts_of, produced, picked}
 
 module _ (means : Meaning) (p : Program) (good : GoodBodies p) (Held : Name → Type 0) (no_perm : (x : Name) (d : Predicate) → predicate_named p x ≡ Some d → HaveNoPerm d.parameters) (applying : Applying)
-    (o : Outer) (parts : PartsGo means (functions_world p good Held no_perm true applying) o)
+    (o : Outer) (parts : PartsGo means (functions_world p good Held no_perm true applying) o) (keeps : BodiesKeep p good o) (unmarked : applying.marks ≡ Unmarked)
     (ds : List Declaration) (vs : List Value) (types : run.HaveTypes ds vs) (np : HaveNoPerm ds) (h : Heap) where
   abbrev world : World
   world = functions_world p good Held no_perm true applying
@@ -99,8 +101,8 @@ module _ (means : Meaning) (p : Program) (good : GoodBodies p) (Held : Name → 
             let after : Going = λ s1. produce p o b scale (Some (second t)) s1 on in
             let left : SnapshotOf means p good Held no_perm true applying (with_split (Some t) s).next i (at_holdings hs) a (first t) =
             record { good_term = subst (λ n. Good means n i (first t) SnapSort) (sym m.next_is) m.first_good; written = m.first_written; fuel = one.there.fuel; tree = one.there.tree; is = one.there.is; value_is = m.first_is } in
-            let z = produced means p good Held no_perm true applying o parts (IsConsistent p) full a ds (at_holdings hs) one.entries_of np ty.0 (body_speaks Held applying.Applied a sp.0) pl.0 one.entries_are one.holds
-            i (with_split (Some t) s) scale (Some (first t)) after left (subst (λ n. ScaleStands means world n i scale full) (sym m.next_is) sc) m.stands w in
+            let z = produced means p good Held no_perm true applying o parts (IsConsistent p) keeps full a ds (at_holdings hs) one.entries_of np ty.0 (body_speaks Held applying.Applied a sp.0) pl.0 one.entries_are one.holds
+            i (with_split (Some t) s) scale (Some (first t)) after left (subst (λ n. ScaleStands means world n i scale full) (sym m.next_is) sc) m.stands (λ e. absurd (subst MayMark unmarked (m.stands.marked e))) w in
             let g : Goes means world ds i s.next after (at_holdings (added full one.entries_of hs)) = subst (λ n. Goes means world ds i n after (at_holdings (added full one.entries_of hs))) m.next_is z.goes in
             r.1 g.interp g.state scale (second t) on (good_later means g.later g.extends m.second_good) m.second_written (value_kept means (second t) m.second_good.settled g.extends ∙ m.second_is) (scale_later means world g.later g.extends sc) g.stands g.cleared,
       )

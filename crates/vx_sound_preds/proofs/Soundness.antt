@@ -9,6 +9,7 @@ use Rattle.vx_whole.specs.Closure.{InClosure, itself}
 use Rattle.vx_meaning.specs.Fails.{MethodFails, Fails}
 use Rattle.vx_elements.proofs.Settled.{Meaning}
 use Rattle.vx_sound.specs.Law.{Passes, SoundLaw}
+use Rattle.vx_sound.proofs.Marks.{Unmarked}
 use Rattle.vx_sound.proofs.Passes.{cleared}
 use Rattle.vx_sound.proofs.Methods.{method_goes}
 use Rattle.vx_types.specs.InstanceLanguage.{IsInstanceMember}
@@ -28,16 +29,16 @@ typed_predicate_sound p i d replies typed is pass fails = predicate_sound p (goo
 -- A method of a typed program, where what is shown of the applications of the functions that it leads to is given, and the walks
 -- of all predicates that it leads to passed.
 pub method_sound_by : (means : Meaning) (p : Program) (x : Name) (m : Method) (replies : Name → List Reply) (typed : IsTypedProgram p) → member_named p x ≡ Some (IsMethod m) →
-    (applying : Applying) → applying.own ≡ None → MayApply p x applying.Applied → AppliesBy means p (good p x typed) (InClosure p x) (no_perm p x typed) true applying (speak p x typed) →
+    (applying : Applying) → applying.own ≡ None → applying.marks ≡ Unmarked → MayApply p x applying.Applied → AppliesBy means p (good p x typed) (InClosure p x) (no_perm p x typed) true applying (speak p x typed) →
     PredicatesPass p x replies → Passes p x (IsMethod m) (replies x) → (at : Place) → MethodFails p m at → ⊥
-method_sound_by means p x m replies typed named applying none may applies pass own at fails =
+method_sound_by means p x m replies typed named applying none unmarked may applies pass own at fails =
     let gb = good p x typed in
     let np = no_perm p x typed in
     let sp = speak p x typed in
     let t = typed.methods x m (ap method_in named) in
     let covered = proper_covered p gb x np sp replies pass in
     let parts = parts_go means p gb (InClosure p x) np true applying sp applies in
-    method_goes means (functions_world p gb (InClosure p x) np true applying) (functions_changing p gb x np covered applying none) parts (folds_go means p gb (InClosure p x) np applying sp parts)
+    method_goes means (functions_world p gb (InClosure p x) np true applying) (functions_changing p gb x np covered applying none unmarked) parts (folds_go means p gb (InClosure p x) np applying sp parts)
     (unfold_goes means p gb (InClosure p x) np true applying sp parts) m t (method_says p x applying may typed gb np m named t) (cleared (method_tree p m) (replies x) own.0 own.1) at fails
 
 -- a member of a typed program that leads to no function
@@ -49,7 +50,7 @@ member_sound p x (IsPredicate d) replies typed named all fails =
     predicate_sound p (good p x typed) (InClosure p x) (no_perm p x typed) (speak p x typed) x d (replies x) itself (ap predicate_in named) (all x (IsPredicate d) itself named).1 fails
 member_sound p x (IsMethod m) replies typed named all fails =
     let none : NoFunction p x = λ f g c e. (all f (IsFunction g) c (function_member (member_named p f) g e)).0 in
-    method_sound_by no_function p x m replies typed named nothing_applied refl none none_apply (λ i d c e. (all i (IsPredicate d) c (predicate_member (member_named p i) d e)).1) (all x (IsMethod m) itself named).1 fails.0 fails.1
+    method_sound_by no_function p x m replies typed named nothing_applied refl refl none none_apply (λ i d c e. (all i (IsPredicate d) c (predicate_member (member_named p i) d e)).1) (all x (IsMethod m) itself named).1 fails.0 fails.1
   where
     none_apply : AppliesBy no_function p (good p x typed) (InClosure p x) (no_perm p x typed) true nothing_applied (speak p x typed)
     none_apply d below scope i s c at f g ts vs on allowed is each st h = absurd allowed

@@ -26,6 +26,7 @@ use Rattle.vx_elements.proofs.Eventually.{always, no_refusal}
 use Rattle.vx_amounts.proofs.Amounts.{Le, Positive, Same, le-trans, positive-le}
 use Rattle.vx_amounts.proofs.Products.{positive_le}
 use Rattle.vx_sound.specs.Snapshots.{tree_by, IsTree}
+use Rattle.vx_sound.proofs.Marks.{MayMark, leads_marks}
 use Rattle.vx_sound.proofs.World.{World}
 use Rattle.vx_sound.proofs.Standard.{IsWritten}
 use Rattle.vx_sound.proofs.Speaks.{SpeaksOf, body_speaks}
@@ -38,14 +39,16 @@ use Rattle.vx_sound.proofs.Evaluate.{UnfoldsGo, AppliesGo, PartsGo}
 use Rattle.vx_sound.proofs.Giving.{ScaleStands, Taken, take_one}
 use Rattle.vx_sound.proofs.Assertions.{Leaves, ends_leaves}
 use Rattle.vx_sound.proofs.Steps.{UnfoldGo}
-use Rattle.vx_sound_preds.specs.Bodies.{Rigid, GoodBodies}
+use Rattle.vx_sound_preds.specs.Bodies.{AreRigid, Rigid, GoodBodies}
 use Rattle.vx_sound_preds.proofs.Looks.{Sees}
 use Rattle.vx_sound_preds.proofs.Framing.{entries_seen, tree_seen}
 use Rattle.vx_sound_preds.proofs.Adding.{added}
 use Rattle.vx_sound_preds.proofs.Exchanging.{IsOpen, opened}
 use Rattle.vx_sound_preds.proofs.Frames.{entries_positive}
 use Rattle.vx_sound_preds.proofs.Folds.{tree_of_body}
-use Rattle.vx_sound_preds.proofs.Holding.{HoldsInstances, exchanged, Applying, nothing_applied, functions_world, instances_world}
+use Rattle.vx_sound_preds.proofs.Holding.{typed_rigid, HoldsInstances, exchanged, Applying, nothing_applied, functions_world, instances_world}
+use Rattle.vx_sound_preds.proofs.Inside.{AllInner, entries_inner}
+use Rattle.vx_sound_preds.proofs.Marking.{bodies_keep}
 use Rattle.vx_sound_preds.proofs.Entries.{entries_typed}
 use Rattle.vx_sound_preds.proofs.Produced.{EndsAt, SnapshotOf, Produced, produced}
 
@@ -73,9 +76,9 @@ module _ (means : Meaning) (p : Program) (good : GoodBodies p) (Held : Name → 
 
   -- in the body of what was taken, with its parameters
   entered_stands : {scope : Scope} {i : Interpretation} {n : ℕ} {c : run.State} {after : rules.Chunk → Going} {q : Fraction} (at : Place) (x : Name) (ts : List Term) (vs : List Value) → (keys : InstanceTerms means world n i x ts vs) →
-      (t : Taken means world scope i n after c (run.Folded record { predicate = x; arguments = vs }) SnapSort q) → (inner : Bool) →
+      (t : Taken means world scope i n after c (run.Folded record { predicate = x; arguments = vs }) SnapSort q) → (inner : Bool) → (inner ≡ true → MayMark applying.marks) →
       Stands means world keys.predicate.parameters t.interp (record (entered (rules.bind keys.predicate.parameters ts) at t.state) { inner = inner }) (start c (record { predicate = x; arguments = vs }) keys.predicate q)
-  entered_stands at x ts vs keys t inner =
+  entered_stands at x ts vs keys t inner marked =
       let d = keys.predicate in
       record {
         store = bound means world t.state.next t.interp d.parameters ts vs (terms_later means world t.later t.extends d.parameters ts vs keys.each);
@@ -87,6 +90,7 @@ module _ (means : Meaning) (p : Program) (good : GoodBodies p) (Held : Name → 
         null = t.stands.null;
         standard = t.stands.standard;
         owned = t.stands.owned;
+        marked = marked;
         holds = t.stands.holds;
         old_holds = t.stands.old_holds;
       }
@@ -119,6 +123,7 @@ module _ (means : Meaning) (p : Program) (good : GoodBodies p) (Held : Name → 
           null = r.goes.stands.null;
           standard = r.goes.stands.standard;
           owned = r.goes.stands.owned;
+          marked = st.marked;
           holds = r.goes.stands.holds;
           old_holds = r.goes.stands.old_holds;
         };
@@ -151,7 +156,7 @@ module _ (means : Meaning) (p : Program) (good : GoodBodies p) (Held : Name → 
         entered_state = record (entered (rules.bind keys.predicate.parameters ts) at t.state) { inner = leads_inside t.chunk }
 
         inner_stands : Stands means world keys.predicate.parameters t.interp (record (entered (rules.bind keys.predicate.parameters ts) at t.state) { inner = leads_inside t.chunk }) (start c (record { predicate = x; arguments = vs }) keys.predicate q)
-        inner_stands = entered_stands at x ts vs keys t (leads_inside t.chunk)
+        inner_stands = entered_stands at x ts vs keys t (leads_inside t.chunk) (λ e. leads_marks p applying.marks c.heap k (t.leads e))
 
         there : (u : Tree) × IsTree p c.heap (record { predicate = x; arguments = vs }) u × (value t.interp t.chunk.value ≡ TreeElement u)
         there = t.there pos
@@ -179,12 +184,18 @@ module _ (means : Meaning) (p : Program) (good : GoodBodies p) (Held : Name → 
             (entries_typed p Held no_perm d.parameters vs (values_typed means world s.next i d.parameters ts vs keys.each) c.heap e opening.entries_of speaks.0 (good.plain x d e keys.named body) speaks.1 opening.entries_are) opening.can
             (entries_positive p (bare (bind d.parameters vs) c.heap) e opening.entries_of (good.plain x d e keys.named body) opening.entries_are)
 
+        rigid : AreRigid vs
+        rigid = typed_rigid d.parameters vs keys.no_perm (values_typed means world s.next i d.parameters ts vs keys.each)
+
+        inner : leads_inside t.chunk ≡ true → AllInner p good c.heap applying.marks opening.entries_of
+        inner e = entries_inner p good c.heap applying.marks k rigid (t.leads e) opening.fuel opening.inner opening.flat_is opening.entries_of opening.body_is
+
         scale : ScaleStands means world t.state.next t.interp a q
         scale = record { good = good_later means t.later t.extends ga; is = subst (λ z. Same (as_fraction z) q) (sym (value_kept means a ga.settled t.extends)) same; positive = pos }
 
         r : Produced means p good Held no_perm bounded applying (outer p n) parts Possible keys.predicate.parameters t.interp t.state.next (λ s2. on (back s s2)) (start c (record { predicate = x; arguments = vs }) keys.predicate q) e q opening.entries_of
-        r = produced means p good Held no_perm bounded applying (outer p n) parts Possible q e d.parameters inside opening.entries_of keys.no_perm speaks.0 (body_speaks Held applying.Applied e speaks.1) (good.plain x d e keys.named body)
-            (entries_seen p Rigid (bare (bind d.parameters vs) c.heap) inside seen e (good.plain x d e keys.named body) ∙ opening.entries_are) holds t.interp entered_state a (Some t.chunk.value) (λ s2. on (back s s2)) snapshot scale inner_stands h
+        r = produced means p good Held no_perm bounded applying (outer p n) parts Possible (bodies_keep p good n) q e d.parameters inside opening.entries_of keys.no_perm speaks.0 (body_speaks Held applying.Applied e speaks.1) (good.plain x d e keys.named body)
+            (entries_seen p Rigid (bare (bind d.parameters vs) c.heap) inside seen e (good.plain x d e keys.named body) ∙ opening.entries_are) holds t.interp entered_state a (Some t.chunk.value) (λ s2. on (back s s2)) snapshot scale inner_stands inner h
 
   -- at every depth, by what holds one depth below
   exchange_at : (m : ℕ) → ((n : ℕ) → m ≡ suc n → PartsGo means world (outer p n)) → (Possible : run.State → Type 0) → {scope : Scope} {i : Interpretation} {s : rules.State} {c : run.State} (at : Place) (x : Name) (ts : List Term) (vs : List Value) (a : Term) (q : Fraction) (on : Going) →
@@ -219,7 +230,7 @@ module _ (means : Meaning) (p : Program) (good : GoodBodies p) (Held : Name → 
       -- no rule leads on past the depth
       by_depth : (e : Assertion) → keys.predicate.body ≡ Some e → (j : ℕ) → m ≡ j → Cleared ((outer p j).produce e a (Some t.chunk.value) (record (entered (rules.bind keys.predicate.parameters ts) at t.state) { inner = leads_inside t.chunk }) (λ s2. on (back s s2))) →
           Exchange scope i s.next on c (record { predicate = x; arguments = vs }) keys.predicate q Possible
-      by_depth e body zero is h = stuck means world nowhere AssertCode (entered_stands at x ts vs keys t (leads_inside t.chunk)) h
+      by_depth e body zero is h = stuck means world nowhere AssertCode (entered_stands at x ts vs keys t (leads_inside t.chunk) (λ e. leads_marks p applying.marks c.heap (record { predicate = x; arguments = vs }) (t.leads e))) h
       by_depth e body (suc n) is h = body_exchanged n (parts n is) Possible at x ts vs a q after on st keys ga same pos t (t.written tt) e body h
 
       by_body : (b : Option Assertion) → keys.predicate.body ≡ b → Cleared (of_body keys.predicate t.chunk t.state keys.predicate.body) → Exchange scope i s.next on c (record { predicate = x; arguments = vs }) keys.predicate q Possible

@@ -1,5 +1,5 @@
 -- Where the walks of all predicates passed, proper instances are covered, and a predicate whose walk passed doesn't fail.
-use Rattle.std.proofs.Common.{◌≡◌, ℕ, suc, ◌+◌, false, List, [], ◌∷◌, Option, Some, None, refl, sym, ◌∙◌, ap, subst, arith, le_refl}
+use Rattle.std.proofs.Common.{◌≡◌, ℕ, suc, ◌+◌, false, List, [], ◌∷◌, Option, Some, None, refl, sym, ◌∙◌, ap, subst, arith, le_refl, true≢false}
 use Rattle.std.specs.Prelude.{Ok, option_and_then, unwrap_or}
 use Rattle.vx_frac.specs.Fractions.{none, full, product}
 use Rattle.vx_ast.specs.Syntax.{Name, Declaration, Program, Predicate, IsPredicate, Assertion, predicate_named}
@@ -43,6 +43,7 @@ use Rattle.vx_sound_preds.proofs.Exchanging.{no_negatives, opened, grown}
 use Rattle.vx_sound_preds.proofs.Frames.{AllPositive, positive_least, entries_positive, full-product, sum-none}
 use Rattle.vx_sound_preds.proofs.Folding.{Stock, held_inside}
 use Rattle.vx_sound_preds.proofs.Holding.{TypedAll, typed_added, all_single, added_debts, of_entries, nothing, instances_world, nothing_applied}
+use Rattle.vx_sound_preds.proofs.Marking.{BodiesKeep, bodies_keep}
 use Rattle.vx_sound_preds.proofs.Entries.{entries_typed}
 use Rattle.vx_sound_preds.proofs.Produced.{produced}
 use Rattle.vx_sound_preds.proofs.Unfolds.{BodiesSpeak, instances_go}
@@ -84,6 +85,11 @@ module _ (p : Program) (good : GoodBodies p) (x : Name) (h : Heap) where
       let z : suc n + g.0 ≡ suc (g.0 + n) = omega arith in
       let e : flat p (suc (g.0 + n)) h i ≡ Some g.1 = subst (λ (m : ℕ). flat p m h i ≡ Some g.1) z (flat_later p (suc n) g.0 h i g.1 g.2) in
       le-trans (weight_of_body p h (null_at f) (g.0 + n) i g.1 e es body).back (record { holds = pr.null (suc (g.0 + n)) f })
+
+-- at the depth of a program
+pub bodies : (p : Program) (good : GoodBodies p) → BodiesKeep p good (member_rules p)
+unfolding member_rules
+bodies p good = bodies_keep p good (depth p)
 
 -- no function's symbol means anything
 abbrev pub no_function : Meaning
@@ -127,6 +133,7 @@ module _ (means : Meaning) (p : Program) (good : GoodBodies p) (Held : Name → 
       null = start_null;
       standard = start_standard;
       owned = tt;
+      marked = λ e. absurd (true≢false (sym e));
       holds = nothing p good Held false h;
       old_holds = nothing p good Held false h;
     }
@@ -141,7 +148,7 @@ pub predicate_sound : (p : Program) (good : GoodBodies p) (Held : Name → Type 
 predicate_sound p good Held no_perm speak i d replies held is pass (fails.body vs h a at tv body given) =
     let b = speak i d a held is body in
     let g = begun no_function p good Held no_perm speak i d a body replies pass vs tv h in
-    give_goes no_function (instances_world p good Held no_perm false) (member_rules p) (parts no_function p good Held no_perm speak) (IsSupported p) (λ c k. k) (FailsAt at) a full given b.0 b.1 whole_amount ended (whole_scale no_function (instances_world p good Held no_perm false) g.state.next g.interp) g.stands g.cleared
+    give_goes no_function (instances_world p good Held no_perm false) (member_rules p) (parts no_function p good Held no_perm speak) (IsSupported p) (λ c k. k) tt (FailsAt at) a full given b.0 b.1 whole_amount ended (whole_scale no_function (instances_world p good Held no_perm false) g.state.next g.interp) g.stands g.cleared
 
 module _ (p : Program) (good : GoodBodies p) (x : Name) (no_perm : (x : Name) (d : Predicate) → predicate_named p x ≡ Some d → HaveNoPerm d.parameters) (speak : BodiesSpeak p (InClosure p x)) (replies : Name → List Reply) (pass : PredicatesPass p x replies) where
   abbrev Held : Name → Type 0
@@ -168,8 +175,8 @@ module _ (p : Program) (good : GoodBodies p) (x : Name) (no_perm : (x : Name) (d
       let b = speak i.predicate d a pr.seen is body in
       let g = begun means p good Held no_perm speak i.predicate d a body (replies i.predicate) (pass i.predicate d pr.seen is) vs (pr.typed d is) h in
       let holds = of_entries p good Held false h o.entries_of types o.can ps (at_null h i pr o.entries_of o.body_is types ps) refl in
-      let r = produced means p good Held no_perm false nothing_applied (member_rules p) (parts means p good Held no_perm speak) (λ (u : run.State). Unit {0}) full a ds (bare (bind ds vs) h) o.entries_of (no_perm i.predicate d is) b.0 b.1 plain_body o.entries_are holds
-      g.interp g.state whole_amount None ended tt (whole_scale means (instances_world p good Held no_perm false) g.state.next g.interp) g.stands g.cleared in
+      let r = produced means p good Held no_perm false nothing_applied (member_rules p) (parts means p good Held no_perm speak) (λ (u : run.State). Unit {0}) (bodies p good) full a ds (bare (bind ds vs) h) o.entries_of (no_perm i.predicate d is) b.0 b.1 plain_body o.entries_are holds
+      g.interp g.state whole_amount None ended tt (whole_scale means (instances_world p good Held no_perm false) g.state.next g.interp) g.stands (λ e. absurd (g.stands.marked e)) g.cleared in
       (r.adds.0, run.with_holdings (added full o.entries_of []) (bare (bind ds vs) h), r.adds.1 r.adds.0 (le_refl _))
     where
       at_null : (h : Heap) (i : Instance) (pr : IsProper p x h i) (es : Holdings) → option_and_then (λ d. body_entries p h i.arguments d) (predicate_named p i.predicate) ≡ Some es → TypedAll p (InClosure p x) es → AllPositive es →

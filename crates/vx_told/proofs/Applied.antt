@@ -40,7 +40,7 @@ use Rattle.vx_sound_preds.proofs.Adding.{added}
 use Rattle.vx_sound_preds.proofs.Frames.{entries_positive}
 use Rattle.vx_sound_preds.proofs.Entries.{entries_typed}
 use Rattle.vx_sound_preds.proofs.Exchanging.{held_rigid}
-use Rattle.vx_sound_preds.proofs.Holding.{HoldsInstances, TypedAll, all_single, typed_rigid, typed_added, added_debts, stock, lower, nothing, instances_world}
+use Rattle.vx_sound_preds.proofs.Holding.{HoldsInstances, TypedAll, all_single, typed_rigid, typed_added, added_debts, stock, lower, nothing, quiet_world}
 use Rattle.vx_sound_funcs.specs.Told.{IsTreeOf, precondition_of}
 use Rattle.vx_sound_funcs.specs.Firm.{firm_application, firmly, GoodFunctions}
 use Rattle.vx_sound_funcs.proofs.Steps.{Steps, steps_of}
@@ -96,7 +96,7 @@ level_more l = lt-ltb 0 (l + 1) (omega arith)
 module _ (means : Meaning) (p : Program) (good : GoodBodies p) (functions : GoodFunctions p) (Held : Name → Type 0) (no_perm : (x : Name) (d : Predicate) → predicate_named p x ≡ Some d → HaveNoPerm d.parameters) (n : ℕ)
     (spoken : (f : Name) (g : Function) → Held f → function_named p f ≡ Some g → Spoken p Held g) (knows : Knows means p Held) where
   abbrev pub world : World
-  world = instances_world p good Held no_perm true
+  world = quiet_world p good Held no_perm true
 
   also : {i j k : Interpretation} → Extends means n i j → Extends means n j k → Extends means n i k
   also x y = extends-trans means (le_refl n) x y
@@ -149,6 +149,7 @@ module _ (means : Meaning) (p : Program) (good : GoodBodies p) (functions : Good
             null = z.null;
             standard = z.standard;
             owned = z.owned;
+            marked = λ e. tt;
             holds = nothing p good Held true c.heap;
             old_holds = nothing p good Held true c.heap;
           };
@@ -353,6 +354,7 @@ module _ (means : Meaning) (p : Program) (good : GoodBodies p) (functions : Good
               null = z.null;
               standard = z.standard;
               owned = z.owned;
+              marked = λ e. tt;
               holds = y.holds;
               old_holds = z.old_holds;
             });
@@ -450,7 +452,7 @@ module _ (means : Meaning) (p : Program) (good : GoodBodies p) (functions : Good
           still = (let z = here.still in record { next = z.next; level = z.level; path = z.path });
           quietly = record {
             stands = (let z = here.quietly.stands in
-                record { store = bound means world n i g.parameters ts vs each; path = z.path; heap = z.heap; old = z.old; awake = z.awake; bounded = z.bounded; null = z.null; standard = z.standard; owned = z.owned; holds = z.holds; old_holds = z.old_holds });
+                record { store = bound means world n i g.parameters ts vs each; path = z.path; heap = z.heap; old = z.old; awake = z.awake; bounded = z.bounded; null = z.null; standard = z.standard; owned = z.owned; marked = λ e. tt; holds = z.holds; old_holds = z.old_holds });
           };
         }
 

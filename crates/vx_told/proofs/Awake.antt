@@ -22,7 +22,7 @@ use Rattle.vx_sound.proofs.World.{World}
 use Rattle.vx_sound.proofs.Standard.{name_written}
 use Rattle.vx_sound.proofs.Stands.{Stands, TermsStand, terms_later}
 use Rattle.vx_sound.proofs.Goes.{named as naming}
-use Rattle.vx_sound_preds.proofs.Holding.{instances_world}
+use Rattle.vx_sound_preds.proofs.Holding.{quiet_world}
 use Rattle.vx_sound_preds.proofs.Speaking.{good, no_perm}
 use Rattle.vx_sound_funcs.specs.Told.{IsTreeOf, precondition_of}
 use Rattle.vx_sound_funcs.specs.Firm.{firm_application, firmly, GoodFunctions}
@@ -45,7 +45,7 @@ awake_same n s a b = λ i. record s { level = (sym a) i; next = (sym b) i }
 
 module _ (p : Program) (x : Name) (typed : IsTypedProgram p) (functions : GoodFunctions p) (agree : ApplicationsAgree p x) where
   abbrev pub world : World
-  world = instances_world p (good p x typed) (InClosure p x) (no_perm p x typed) true
+  world = quiet_world p (good p x typed) (InClosure p x) (no_perm p x typed) true
 
   -- what follows an application: its term has the value, and the state stands with what is told
   pub record Follows (k : ℕ) (scope : Scope) (i : Interpretation) (s : State) (c : run.State) (g : Function) (ts : List Term) (v : Value) (snapshot t : Term) : Type 0 where

@@ -19,7 +19,7 @@ use Rattle.vx_sound.proofs.Speaks as instances
 use Rattle.vx_sound_preds.specs.Bodies.{GoodBodies}
 use Rattle.vx_sound_preds.proofs.Fitting.{undo, some_is}
 use Rattle.vx_sound_preds.proofs.Framing.{ok_same}
-use Rattle.vx_sound_preds.proofs.Holding.{instances_world}
+use Rattle.vx_sound_preds.proofs.Holding.{quiet_world}
 use Rattle.vx_sound_funcs.specs.Firm.{firmly, GoodFunctions}
 use Rattle.vx_live.proofs.Speaks.{SpeaksOf}
 use Rattle.vx_live.proofs.Quiet.{outer_left}
@@ -102,7 +102,7 @@ opened_kept p (suc m) k q c u e = exchange_kept p (firmly p m) k q c u e
 module _ (means : Meaning) (p : Program) (good : GoodBodies p) (functions : GoodFunctions p) (Held : Name → Type 0) (no_perm : (x : Name) (d : Predicate) → predicate_named p x ≡ Some d → HaveNoPerm d.parameters) (n : ℕ)
     (bodies : (x : Name) (d : Predicate) (e : Assertion) → Held x → predicate_named p x ≡ Some d → d.body ≡ Some e → IsTyped p d.parameters e × SpeaksOf Held e × instances.SpeaksOf Held (λ f. ⊥) e) (spoken : (f : Name) (g : Function) → Held f → function_named p f ≡ Some g → Spoken p Held g) (knows : Knows means p Held) where
   abbrev pub world : World
-  world = instances_world p good Held no_perm true
+  world = quiet_world p good Held no_perm true
 
   none_fits : {A : Type 0} {B : Type 0} (a : A) → ◌≡◌ {A = Option A} None (Some a) → B
   none_fits a e = cc

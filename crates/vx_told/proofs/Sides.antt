@@ -25,7 +25,7 @@ use Rattle.vx_sound.proofs.World.{World}
 use Rattle.vx_sound.proofs.Giving.{ScaleStands, whole_scale}
 use Rattle.vx_sound_preds.specs.Bodies.{Rigid, IsPlainBody, GoodBodies}
 use Rattle.vx_sound_preds.proofs.Adding.{added}
-use Rattle.vx_sound_preds.proofs.Holding.{HoldsInstances, instances_world}
+use Rattle.vx_sound_preds.proofs.Holding.{HoldsInstances, quiet_world}
 use Rattle.vx_live.proofs.Speaks.{Speaks, SpeaksOf}
 use Rattle.vx_live.proofs.Quiet.{Quiet, OuterLeft, stays}
 use Rattle.vx_told.proofs.Woken.{Quietly}
@@ -37,7 +37,7 @@ use Rattle.vx_told.proofs.Worth.{Worth}
 
 module _ (means : Meaning) (p : Program) (good : GoodBodies p) (Held : Name → Type 0) (no_perm : (x : Name) (d : Predicate) → predicate_named p x ≡ Some d → HaveNoPerm d.parameters) (n : ℕ) where
   abbrev pub world : World
-  world = instances_world p good Held no_perm true
+  world = quiet_world p good Held no_perm true
 
   -- what is shown of the parts of others
   abbrev pub TakesTold : Walk means n → Outer → Deeper → Type 0

@@ -1,5 +1,5 @@
 -- Where the walk of a function passed, its precondition can be added where it starts, and the walk goes on from there.
-use Rattle.std.proofs.Common.{◌≡◌, ℕ, suc, ◌≤◌, true, List, [], Some, refl, le_of_lt, lt-suc_self, le_refl, ◌∙◌}
+use Rattle.std.proofs.Common.{◌≡◌, ℕ, suc, ◌≤◌, true, List, [], Some, refl, sym, le_of_lt, lt-suc_self, le_refl, ◌∙◌, true≢false}
 use Rattle.std.specs.Prelude.{Ok}
 use Rattle.vx_frac.specs.Fractions.{none, full}
 use Rattle.vx_ast.specs.Syntax.{Name, Program, Predicate, Function, IsFunction, predicate_named, function_named, conjoined}
@@ -34,6 +34,7 @@ use Rattle.vx_sound_preds.proofs.Adding.{added}
 use Rattle.vx_sound_preds.proofs.Holding.{HoldsInstances, nothing, nothing_applied, instances_world}
 use Rattle.vx_sound_preds.proofs.Produced.{produced, Produced, SnapshotOf}
 use Rattle.vx_sound_preds.proofs.Unfolds.{BodiesSpeak, instances_go}
+use Rattle.vx_sound_preds.proofs.Walks.{bodies}
 use Rattle.vx_sound_funcs.specs.Told.{IsTreeOf, precondition_of}
 use Rattle.vx_sound_funcs.specs.Firm.{start_of, firm_application, firmly}
 use Rattle.vx_sound_funcs.proofs.Alike.{firm_exchange, add_alike}
@@ -59,6 +60,7 @@ module _ (means : Meaning) (p : Program) (good : GoodBodies p) (Held : Name → 
     null = start_null;
     standard = start_standard;
     owned = tt;
+    marked = λ e. absurd (true≢false (sym e));
     holds = nothing p good Held true h;
     old_holds = nothing p good Held true h;
   }
@@ -91,8 +93,8 @@ module _ (means : Meaning) (p : Program) (good : GoodBodies p) (Held : Name → 
         record {
           interp = j;
           next = suc s.next;
-          start = produced means p good Held no_perm true nothing_applied (member_rules p) opens (λ (u : run.State). Unit {0}) full (precondition_of g) g.parameters (bare (bind g.parameters vs) h) es typed.parameters (joined_typed p g.parameters g.place g.requires typed.requires) asked plain listed holds
-              j (rules.after_fresh s) whole_amount (Some (rules.fresh SnapSort s)) (from_measure p (member_rules p) f g g.decreases) snap (whole_scale means world (suc s.next) j) st b.cleared;
+          start = produced means p good Held no_perm true nothing_applied (member_rules p) opens (λ (u : run.State). Unit {0}) (bodies p good) full (precondition_of g) g.parameters (bare (bind g.parameters vs) h) es typed.parameters (joined_typed p g.parameters g.place g.requires typed.requires) asked plain listed holds
+              j (rules.after_fresh s) whole_amount (Some (rules.fresh SnapSort s)) (from_measure p (member_rules p) f g g.decreases) snap (whole_scale means world (suc s.next) j) st (λ e. absurd (st.marked e)) b.cleared;
         }
 
     -- there, just the precondition is held

@@ -41,7 +41,7 @@ use Rattle.vx_sound.proofs.Giving.{ScaleStands, scale_later}
 use Rattle.vx_sound_preds.specs.Bodies.{Rigid, IsPlain, IsAmount, IsPlainBody, GoodBodies}
 use Rattle.vx_sound_preds.proofs.Fitting.{Opens, Before, undo, some_is}
 use Rattle.vx_sound_preds.proofs.Framing.{FieldParts, InstanceParts, field_parts, instance_parts, ok_same, above_none}
-use Rattle.vx_sound_preds.proofs.Holding.{HoldsInstances, instances_world}
+use Rattle.vx_sound_preds.proofs.Holding.{HoldsInstances, quiet_world}
 use Rattle.vx_live.proofs.Speaks.{SpeaksOf}
 use Rattle.vx_live.proofs.Quiet.{OuterLeft, after, ask_left, amount_left, consume_left, take_left, fact_still, built_wrap_still, built_pair_still, fork_left}
 use Rattle.vx_told.proofs.Woken.{with_truth}
@@ -62,7 +62,7 @@ on_side_of false A B f g = g refl
 
 module _ (means : Meaning) (p : Program) (good : GoodBodies p) (Held : Name → Type 0) (no_perm : (x : Name) (d : Predicate) → predicate_named p x ≡ Some d → HaveNoPerm d.parameters) (n : ℕ) (w : Walk means n) where
   abbrev pub world : World
-  world = instances_world p good Held no_perm true
+  world = quiet_world p good Held no_perm true
 
   abbrev Here : Scope → Interpretation → State → run.State → Type 0
   Here scope i s c = On means world n w scope i s c
@@ -82,7 +82,7 @@ module _ (means : Meaning) (p : Program) (good : GoodBodies p) (Held : Name → 
   reading : {scope : Scope} {i : Interpretation} {s : State} {c : run.State} {hs : run.Holdings} {h : rules.Heap} → Here scope i s (run.with_holdings hs c) → Reads i h c → Here scope i (with_heap h s) c
   reading here r = record {
     still = (let z = here.still in record { next = z.next; level = z.level; path = z.path });
-    quietly = record { stands = (let st = here.quietly.stands in record { store = st.store; path = st.path; heap = r.heap; old = st.old; awake = st.awake; bounded = st.bounded; null = st.null; standard = st.standard; owned = st.owned; holds = r.holds; old_holds = st.old_holds }) };
+    quietly = record { stands = (let st = here.quietly.stands in record { store = st.store; path = st.path; heap = r.heap; old = st.old; awake = st.awake; bounded = st.bounded; null = st.null; standard = st.standard; owned = st.owned; marked = st.marked; holds = r.holds; old_holds = st.old_holds }) };
   }
 
   switched : {scope : Scope} {i j : Interpretation} {s s1 : State} {c : run.State} {hs : run.Holdings} → Extends means n i j → Here scope i s (run.with_holdings hs c) → Here scope j s1 c → Here scope j (with_heap s.heap s1) (run.with_holdings hs c)
@@ -99,6 +99,7 @@ module _ (means : Meaning) (p : Program) (good : GoodBodies p) (Held : Name → 
         null = st.null;
         standard = st.standard;
         owned = st.owned;
+        marked = st.marked;
         holds = here.quietly.stands.holds;
         old_holds = st.old_holds;
       });

@@ -256,7 +256,7 @@ module _ (means : Meaning) (world : World) (n : ℕ) (w : Walk means n) where
     awake_old : {scope : Scope} {i : Interpretation} {s : State} {c : run.State} → Here scope i s c → Here scope i (with_heap s.old s) (run.at_old c)
     awake_old here = record {
       still = (let k = here.still in record { next = k.next; level = k.level; path = k.path });
-      quietly = record { stands = (let st = here.quietly.stands in record { store = st.store; path = st.path; heap = st.old; old = st.old; awake = st.awake; bounded = st.bounded; null = st.null; standard = st.standard; owned = st.owned; holds = st.old_holds; old_holds = st.old_holds }) };
+      quietly = record { stands = (let st = here.quietly.stands in record { store = st.store; path = st.path; heap = st.old; old = st.old; awake = st.awake; bounded = st.bounded; null = st.null; standard = st.standard; owned = st.owned; marked = st.marked; holds = st.old_holds; old_holds = st.old_holds }) };
     }
 
     -- back from the old heap
@@ -274,6 +274,7 @@ module _ (means : Meaning) (world : World) (n : ℕ) (w : Walk means n) where
           null = st.null;
           standard = st.standard;
           owned = st.owned;
+          marked = st.marked;
           holds = here.quietly.stands.holds;
           old_holds = st.old_holds;
         });
@@ -295,6 +296,7 @@ module _ (means : Meaning) (world : World) (n : ℕ) (w : Walk means n) where
           null = st.null;
           standard = st.standard;
           owned = st.owned;
+          marked = st.marked;
           holds = here.quietly.stands.holds;
           old_holds = subst (λ (h : run.Heap). world.Holds h c.old_holdings) old_heap (subst (λ (hs : run.Holdings). world.Holds u.old_heap hs) old_holdings st.old_holds);
         });

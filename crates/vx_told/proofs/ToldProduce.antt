@@ -44,7 +44,7 @@ use Rattle.vx_sound_preds.proofs.Looks.{Sees}
 use Rattle.vx_sound_preds.proofs.Framing.{FieldParts, InstanceParts, field_parts, instance_parts, entries_seen}
 use Rattle.vx_sound_preds.proofs.Adding.{added, added_append}
 use Rattle.vx_sound_preds.proofs.Frames.{entries_positive}
-use Rattle.vx_sound_preds.proofs.Holding.{HoldsInstances, added_debts, fewer, instances_world}
+use Rattle.vx_sound_preds.proofs.Holding.{HoldsInstances, added_debts, fewer, quiet_world}
 use Rattle.vx_live.proofs.Speaks.{Speaks, SpeaksOf}
 use Rattle.vx_live.proofs.Quiet.{Quiet, OuterLeft, after, ask_left, amount_left, produce_left, fact_still, put_still, value_still, name_still, unit_still, split_still, fork_left}
 use Rattle.vx_told.proofs.Woken.{with_truth, with_chunk}
@@ -96,7 +96,7 @@ bools_same a b e = cc
 
 module _ (means : Meaning) (p : Program) (good : GoodBodies p) (Held : Name → Type 0) (no_perm : (x : Name) (d : Predicate) → predicate_named p x ≡ Some d → HaveNoPerm d.parameters) (n : ℕ) (w : Walk means n) where
   abbrev pub world : World
-  world = instances_world p good Held no_perm true
+  world = quiet_world p good Held no_perm true
 
   module _ (o : Outer) (d : Deeper) (left : (j : Interpretation) → OuterLeft (w.Tells j) o) (parts : PartsTold means world n w o d) (keeps : (k : run.Instance) (q : Fraction) (c u : run.State) → d.opened k q c ≡ Some u → Kept c u) (opens : Opens p (HoldsFine p) d) where
     abbrev Here : Scope → Interpretation → State → run.State → Type 0
@@ -226,7 +226,7 @@ module _ (means : Meaning) (p : Program) (good : GoodBodies p) (Held : Name → 
             (cond b s3 (with_fact (equals (rules.fresh (sort_of (unwrap (field_sort p f) t)) s3) (unwrap (field_sort p f) t)) (rules.after_fresh s3))))))
         go true z =
             let keys = (let z : Keys means world n j (field_key f r) (run.At (at_field k f)) (field_sort p f) = of_field f r k gr is in z) in
-            let made = keyed means world keys a (unwrap (field_sort p f) t) inner ga sign of.good (λ e. absurd (true≢false e)) (λ pos. worth) in
+            let made = keyed means world keys a (unwrap (field_sort p f) t) inner ga sign of.good (λ e. absurd (true≢false e)) (λ pos. worth) (λ e. tt) in
             h j (put new (with_fact fact s3)) (extends-refl means n j) (record { still = after told_there.still (put_still new (with_fact fact s3)); quietly = with_chunk means world n new (run.At (at_field k f)) y told_there.quietly made a_is holds })
         go false z = cc
 
@@ -337,7 +337,7 @@ module _ (means : Meaning) (p : Program) (good : GoodBodies p) (Held : Name → 
                 let new = record (instance_key x ts) { amount = a; value = t; inner = s.inner } in
                 let key = (let z : Keys means world n j (instance_key x ts) (run.Folded target) SnapSort = of_instance x ts y.arguments keys in z) in
                 let is_tree = subst (λ vs. IsTree p c.heap record { predicate = x; arguments = vs } tree) (same_arguments of.arguments y.arguments (sym of.arguments_are ∙ arguments_now)) of.tree in
-                let made = keyed means world key a t s.inner ga sign of.snap.good (λ e. of.written) (λ pos. (tree, is_tree, of.snap.is)) in
+                let made = keyed means world key a t s.inner ga sign of.snap.good (λ e. of.written) (λ pos. (tree, is_tree, of.snap.is)) (λ e. tt) in
                 let there = subst (λ hs. HoldsInstances p Held true c.heap (added q hs c.holdings)) (sym entry) holds in
                 h' j (put new s3) (extends-refl means n j) (record { still = after on3.still (put_still new s3); quietly = with_chunk means world n new (run.Folded target) (product q y.amount) on3.quietly made a_is there })
             go false z = cc

@@ -37,7 +37,7 @@ use Rattle.vx_sound_preds.proofs.Adding.{added}
 use Rattle.vx_sound_preds.proofs.Exchanging.{IsOpen, opened}
 use Rattle.vx_sound_preds.proofs.Frames.{entries_positive}
 use Rattle.vx_sound_preds.proofs.Folds.{tree_of_body}
-use Rattle.vx_sound_preds.proofs.Holding.{HoldsInstances, exchanged, instances_world}
+use Rattle.vx_sound_preds.proofs.Holding.{HoldsInstances, exchanged, quiet_world}
 use Rattle.vx_sound_preds.proofs.Entries.{entries_typed}
 use Rattle.vx_sound.proofs.Speaks as instances
 use Rattle.vx_live.proofs.Speaks.{SpeaksOf}
@@ -64,7 +64,7 @@ both_true false b e = cc
 
 module _ (means : Meaning) (p : Program) (good : GoodBodies p) (Held : Name → Type 0) (no_perm : (x : Name) (d : Predicate) → predicate_named p x ≡ Some d → HaveNoPerm d.parameters) (n : ℕ) (w : Walk means n) where
   abbrev pub world : World
-  world = instances_world p good Held no_perm true
+  world = quiet_world p good Held no_perm true
 
   -- what is shown of what an assertion gives, by rules for the parts of others
   abbrev pub GivesTold : Outer → Deeper → Type 0
@@ -185,7 +185,7 @@ module _ (means : Meaning) (p : Program) (good : GoodBodies p) (Held : Name → 
             let st = t.on.quietly.stands in
             let on1 : On means world n w keys.predicate.parameters i (record (entered (rules.bind keys.predicate.parameters ts) at s1) { inner = leads_inside ch }) (start c record { predicate = x; arguments = vs } keys.predicate q) = record {
               still = (let z = t.on.still in record { next = z.next; level = z.level; path = z.path });
-              quietly = record { stands = record { store = bound means world n i pd.parameters ts vs keys.each; path = st.path; heap = st.heap; old = st.old; awake = st.awake; bounded = st.bounded; null = st.null; standard = st.standard; owned = st.owned; holds = st.holds; old_holds = st.old_holds } };
+              quietly = record { stands = record { store = bound means world n i pd.parameters ts vs keys.each; path = st.path; heap = st.heap; old = st.old; awake = st.awake; bounded = st.bounded; null = st.null; standard = st.standard; owned = st.owned; marked = λ e. tt; holds = st.holds; old_holds = st.old_holds } };
             } in
             gives q steps.body pd.parameters inner steps.given opening.entries_of parts.0 parts.1 plain listed (holds st.holds) steps.adds i (record (entered (rules.bind pd.parameters ts) at s1) { inner = leads_inside ch }) a ch.value wo.0 (λ s2. on (back s s2)) wo.1
             (record { good = ga; is = same; positive = pos }) on1
@@ -195,7 +195,7 @@ module _ (means : Meaning) (p : Program) (good : GoodBodies p) (Held : Name → 
               still = (let y = on2.still in record { next = y.next; level = y.level; path = y.path });
               quietly = record {
                 stands = subst (λ c'. Stands means world scope j (woken n (back s s2)) c') (given_is st.holds)
-                    (record { store = store_later means world (le_refl n) ext scope s.store c.store here.quietly.stands.store; path = z.path; heap = z.heap; old = z.old; awake = z.awake; bounded = z.bounded; null = z.null; standard = z.standard; owned = z.owned; holds = z.holds; old_holds = z.old_holds });
+                    (record { store = store_later means world (le_refl n) ext scope s.store c.store here.quietly.stands.store; path = z.path; heap = z.heap; old = z.old; awake = z.awake; bounded = z.bounded; null = z.null; standard = z.standard; owned = z.owned; marked = λ e. tt; holds = z.holds; old_holds = z.old_holds });
               };
             }))
             (λ j s2 f. off j (back s s2) (off_still means world n w f (record { next = refl; level = refl; path = ([], append_nil s2.path) })))
