@@ -28,7 +28,7 @@ use Rattle.vx_elements.proofs.Truth.{is_equal}
 use Rattle.vx_elements.proofs.Scopes.{joined_typed, typed_longer}
 use Rattle.vx_sound.specs.Snapshots.{tree_by}
 use Rattle.vx_sound.proofs.World.{World}
-use Rattle.vx_sound.proofs.Stands.{StoreStands, HeapStands, TermsStand, Stands, stands_later, store_append, store_later, terms_later, heap_later, settled_fact}
+use Rattle.vx_sound.proofs.Stands.{unowned, StoreStands, HeapStands, TermsStand, Stands, stands_later, store_append, store_later, terms_later, heap_later, settled_fact}
 use Rattle.vx_sound.proofs.Candidates.{values_typed}
 use Rattle.vx_sound.proofs.Arguments.{bound}
 use Rattle.vx_sound.proofs.Giving.{whole_scale}
@@ -148,7 +148,7 @@ module _ (means : Meaning) (p : Program) (good : GoodBodies p) (functions : Good
             bounded = z.bounded;
             null = z.null;
             standard = z.standard;
-            owned = z.owned;
+            owned = unowned means world _ _ _ _ _ _ _ None refl z.owned;
             marked = λ e. tt;
             holds = nothing p good Held true c.heap;
             old_holds = nothing p good Held true c.heap;

@@ -8,8 +8,8 @@ use Rattle.vx_ast.specs.Syntax.{Name, same_name, Member, Predicate, Function, Me
 use Rattle.vx_ast.specs.Apart.{Stands, entered_by, entered_by_measure}
 use Rattle.vx_types.specs.Typing.{IsTypedFunction, number, variable, part, operates, reads}
 use Rattle.vx_terms.specs.Interpretations.{Each}
-use Rattle.vx_whole.specs.Now.{IsOfNow}
 use Rattle.vx_whole.specs.Premises.{HasConstantAmounts, IsTypedProgram}
+use Rattle.vx_whole.specs.Now.{IsOfNow, SpeaksOfNow}
 use Rattle.vx_whole.specs.Closure.{itself}
 use Rattle.vx_meaning.specs.Values.{Value, IntValue, BoolValue, RefValue, PermValue}
 use Rattle.vx_meaning.specs.States.{State, Heap, At, HaveTypes, same_location, same_resource, bind, lost, with_store}
@@ -86,6 +86,7 @@ eagers_typed = record {
   bodies = λ y d a e body. no_predicate y d e;
   now = λ y d a e body. no_predicate y d e;
   preconditions = each_function (λ g. Each HasConstantAmounts g.requires) (tt, ((over 1 1, (λ p ap s. refl), refl), tt));
+  functions_now = each_function SpeaksOfNow record { requires = ((tt, tt), ((tt, tt), tt)); ensures = tt; measure = tt; body = tt };
   apart = record {
     measure = λ y g z e st. absurd (each_function (λ g. Stands z (entered_by_measure g.decreases) → ⊥) (λ s. s) y g e st);
     body = λ y d z e st. no_predicate y d e;

@@ -12,9 +12,10 @@ use Rattle.vx_meaning.specs.Group.{Mentions, ReachesBy}
 use Rattle.vx_sound_preds.specs.Bodies.{GoodBodies}
 use Rattle.vx_sound_preds.proofs.Typed.{on_left}
 use Rattle.vx_sound_preds.proofs.Mentioning.{function_member}
-use Rattle.vx_sound_funcs.specs.Firm.{FitsFirmly, HasRigidArguments, GoodFunctions}
+use Rattle.vx_sound_funcs.specs.Firm.{FitsFirmly, GoodFunctions}
 use Rattle.vx_sound_funcs.proofs.Starts.{starts_hold_just}
-use Rattle.vx_sound_funcs.proofs.Further.{Further, said_now, firm_further}
+use Rattle.vx_sound_funcs.proofs.Further.{Further, firm_further}
+use Rattle.vx_sound_funcs.proofs.TypedFunctions.{functions_speak_now}
 use Rattle.vx_told.specs.Walks.{Keeps, FunctionsKeep, KeepsAt}
 use Rattle.vx_told.specs.Measures.{IsBelow, lower_group, lesser_measure, KeepsFromBelow}
 use Rattle.vx_told.proofs.Groups.{contained}
@@ -43,12 +44,12 @@ module _ (p : Program) (x : Name) where
       f g k.1.0 named k.1.1 c named s starts k.1.2 refl
 
 -- what is shown without an old part, as a function's walk begins, holds where the function starts
-pub keeps_from_now : (p : Program) → GoodBodies p → GoodFunctions p → (f : Name) (g : Function) → function_named p f ≡ Some g → (u : State) (v : Value) → FitsFirmly p u g.body v → FitsFirmly p (with_result v u) (conjoined g.place g.ensures) (BoolValue true) → Keeps p g (from_now u)
-keeps_from_now p bodies functions f g named u v fits promise =
+pub keeps_from_now : (p : Program) → IsTypedProgram p → GoodBodies p → GoodFunctions p → (f : Name) (g : Function) → function_named p f ≡ Some g → (u : State) (v : Value) → FitsFirmly p u g.body v → FitsFirmly p (with_result v u) (conjoined g.place g.ensures) (BoolValue true) → Keeps p g (from_now u)
+keeps_from_now p typed bodies functions f g named u v fits promise =
     let now : Further u (from_now u) = record { variables = λ y w e. e; heap = refl; holdings = refl } in
     let now_with : Further (with_result v u) (with_result v (from_now u)) = record { variables = λ y w e. e; heap = refl; holdings = refl } in
     record {
       value = v;
-      fits = (fits.0, firm_further p bodies functions fits.0 u (from_now u) now g.body v (said_now (HasRigidArguments p) g.body (functions.says f g named)) fits.1);
+      fits = (fits.0, firm_further p bodies functions fits.0 u (from_now u) now g.body v (functions_speak_now p typed f g named) fits.1);
       promise = (promise.0, firm_further p bodies functions promise.0 (with_result v u) (with_result v (from_now u)) now_with (conjoined g.place g.ensures) (BoolValue true) (functions.promises_now f g named) promise.1);
     }

@@ -35,7 +35,7 @@ use Rattle.vx_elements.proofs.Elements.{element, bool_value_is, int_value_is, op
 use Rattle.vx_elements.proofs.Truth.{good_null, good_product}
 use Rattle.vx_elements.proofs.Values.{ref_value_is, perm_value_is, operated_is, lowest-whole}
 use Rattle.vx_sound.proofs.World.{at_field, World}
-use Rattle.vx_sound.proofs.Stands.{StoreStands, HeapStands, TermsStand, found_stands, term_later, heap_later}
+use Rattle.vx_sound.proofs.Stands.{OwnStands, owned_old, owned_back, StoreStands, HeapStands, TermsStand, found_stands, term_later, heap_later}
 use Rattle.vx_sound.proofs.Candidates.{InstanceTerms}
 use Rattle.vx_sound_preds.proofs.Fitting.{undo, not_failed, guarded, some_is}
 use Rattle.vx_sound_preds.proofs.Framing.{ok_same}
@@ -256,7 +256,7 @@ module _ (means : Meaning) (world : World) (n : ℕ) (w : Walk means n) where
     awake_old : {scope : Scope} {i : Interpretation} {s : State} {c : run.State} → Here scope i s c → Here scope i (with_heap s.old s) (run.at_old c)
     awake_old here = record {
       still = (let k = here.still in record { next = k.next; level = k.level; path = k.path });
-      quietly = record { stands = (let st = here.quietly.stands in record { store = st.store; path = st.path; heap = st.old; old = st.old; awake = st.awake; bounded = st.bounded; null = st.null; standard = st.standard; owned = st.owned; marked = st.marked; holds = st.old_holds; old_holds = st.old_holds }) };
+      quietly = record { stands = (let st = here.quietly.stands in record { store = st.store; path = st.path; heap = st.old; old = st.old; awake = st.awake; bounded = st.bounded; null = st.null; standard = st.standard; owned = owned_old means world _ _ _ _ _ world.own st.owned; marked = st.marked; holds = st.old_holds; old_holds = st.old_holds }) };
     }
 
     -- back from the old heap
@@ -273,7 +273,7 @@ module _ (means : Meaning) (world : World) (n : ℕ) (w : Walk means n) where
           bounded = st.bounded;
           null = st.null;
           standard = st.standard;
-          owned = st.owned;
+          owned = owned_back means world _ _ _ _ _ _ _ _ world.own st.owned here.quietly.stands.owned;
           marked = st.marked;
           holds = here.quietly.stands.holds;
           old_holds = st.old_holds;
@@ -295,7 +295,7 @@ module _ (means : Meaning) (world : World) (n : ℕ) (w : Walk means n) where
           bounded = st.bounded;
           null = st.null;
           standard = st.standard;
-          owned = st.owned;
+          owned = subst (λ (h : run.Heap). OwnStands means world n j h c.old_heap s1.own world.own) heap (subst (λ (h : run.Heap). OwnStands means world n j u.heap h s1.own world.own) old_heap st.owned);
           marked = st.marked;
           holds = here.quietly.stands.holds;
           old_holds = subst (λ (h : run.Heap). world.Holds h c.old_holdings) old_heap (subst (λ (hs : run.Holdings). world.Holds u.old_heap hs) old_holdings st.old_holds);
