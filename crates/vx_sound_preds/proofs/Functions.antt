@@ -49,7 +49,7 @@ use Rattle.vx_sound_preds.specs.Bodies.{Rigid, IsPlainBody, GoodBodies}
 use Rattle.vx_sound_preds.proofs.Fitting.{undo}
 use Rattle.vx_sound_preds.proofs.Frames.{entries_positive}
 use Rattle.vx_sound_preds.proofs.Adding.{added}
-use Rattle.vx_sound_preds.proofs.Holding.{nothing, amount_grows, Applying, functions_world}
+use Rattle.vx_sound_preds.proofs.Holding.{nothing, amount_grows, Applying, nothing_applied, functions_world}
 use Rattle.vx_sound_preds.proofs.Given.{gave}
 use Rattle.vx_sound_preds.proofs.Marking.{BodiesKeep}
 use Rattle.vx_sound_preds.proofs.Produced.{SnapshotOf, produced}
@@ -109,36 +109,32 @@ pub record OwnWalk (p : Program) (g : Function) (Measured : Name → List Value 
   pub in_body : (a : Application) → fails.Evaluates p s g.body a → Measured a.0 a.1
   pub in_postcondition : (a : Application) → fails.Evaluates p (with_result result s) (conjoined g.place g.ensures) a → Measured a.0 a.1
 
--- before the body is entered nothing is asked of applications
-abbrev pub before_body : (Name → Type 0) → Applying
-before_body Applied = record { marks = Unmarked; Applied = Applied; own = None; Measured = λ h f vs. Unit {0} }
-
 abbrev pub in_body_of : (Name → Type 0) → Name → Option ℤ → Marks → run.Heap → (run.Heap → Name → List Value → Type 0) → Applying
 in_body_of Applied f z marks h Measured = record { marks = marks; Applied = Applied; own = Some record { function = f; measure = z; heap = h }; Measured = Measured }
 
--- what a function's measure speaks of
-abbrev pub MeasureSays : (Held Applied : Name → Type 0) → Option Measure → Type 0
-MeasureSays Held Applied None = Unit {0}
-MeasureSays Held Applied (Some (ByNumber e)) = Speaks Held Applied e
-MeasureSays Held Applied (Some (ByInstance at i es)) = Held i × AllSpeak Held Applied es
+-- what a function's measure speaks of, which applies nothing
+abbrev pub MeasureSays : (Held : Name → Type 0) → Option Measure → Type 0
+MeasureSays Held None = Unit {0}
+MeasureSays Held (Some (ByNumber e)) = Speaks Held (λ f. ⊥) e
+MeasureSays Held (Some (ByInstance at i es)) = Held i × AllSpeak Held (λ f. ⊥) es
 
 -- what is asked of a function whose walk is looked at
 pub record IsWalkable (p : Program) (Held Applied : Name → Type 0) (g : Function) : Type 0 where
   pub typed : IsTypedFunction p g
   pub asks : SpeaksOf Held (λ f. ⊥) (precondition_of g)
   pub plain : IsPlainBody p Rigid (precondition_of g)
-  pub measure : MeasureSays Held Applied g.decreases
+  pub measure : MeasureSays Held g.decreases
   pub body : Speaks Held Applied g.body
   pub ensures : Speaks Held Applied (conjoined g.place g.ensures)
 
 module _ (means : Meaning) (p : Program) (good : GoodBodies p) (Held : Name → Type 0) (no_perm : (x : Name) (d : Predicate) → predicate_named p x ≡ Some d → HaveNoPerm d.parameters) (Applied : Name → Type 0) where
   abbrev pub outside : World
-  outside = functions_world p good Held no_perm true (before_body Applied)
+  outside = functions_world p good Held no_perm true nothing_applied
 
   abbrev pub inside : Name → Option ℤ → Marks → run.Heap → (run.Heap → Name → List Value → Type 0) → World
   inside f z marks h Measured = functions_world p good Held no_perm true (in_body_of Applied f z marks h Measured)
 
-  module _ (o : Outer) (parts : PartsGo means (functions_world p good Held no_perm true (before_body Applied)) o) (keeps : BodiesKeep p good o) (f : Name) (g : Function) (says : IsWalkable p Held Applied g) (walked : Cleared (function_over p o f g)) where
+  module _ (o : Outer) (parts : PartsGo means (functions_world p good Held no_perm true nothing_applied) o) (keeps : BodiesKeep p good o) (f : Name) (g : Function) (says : IsWalkable p Held Applied g) (walked : Cleared (function_over p o f g)) where
     abbrev pre : Assertion
     pre = precondition_of g
 
@@ -196,7 +192,7 @@ module _ (means : Meaning) (p : Program) (good : GoodBodies p) (Held : Name → 
     -- giving the precondition fails nowhere
     pub no_start_fails : (vs : List Value) (place : Place) → run.HaveTypes g.parameters vs → StartFails p (bind g.parameters vs) (precondition_of g) place → ⊥
     no_start_fails vs place types (h, fails_at) =
-        let r = refuses means p good Held no_perm (before_body Applied) o parts keeps refl g.parameters vs types says.typed.parameters h (precondition_of g) [] place pre_typed says.plain says.asks (nothing p good Held true h) fails_at in
+        let r = refuses means p good Held no_perm nothing_applied o parts keeps refl g.parameters vs types says.typed.parameters h (precondition_of g) [] place pre_typed says.plain says.asks (nothing p good Held true h) fails_at in
         let b = begun vs types h r.0 in
         r.1 b.interp b.state whole_amount b.snapshot (from_measure p o f g g.decreases) b.good_snapshot b.written b.worth (whole_scale means outside b.state.next b.interp) b.stands b.cleared
 
@@ -231,9 +227,9 @@ module _ (means : Meaning) (p : Program) (good : GoodBodies p) (Held : Name → 
         let k = gave p good Held no_perm g.parameters vs types says.typed.parameters h (precondition_of g) [] t pre_typed says.plain says.asks (nothing p good Held true h) ends_at in
         let base = bare (bind g.parameters vs) h in
         let b = begun vs types h k.there.tree in
-        let snap : SnapshotOf means p good Held no_perm true (before_body Applied) b.state.next b.interp base (precondition_of g) b.snapshot =
+        let snap : SnapshotOf means p good Held no_perm true nothing_applied b.state.next b.interp base (precondition_of g) b.snapshot =
         record { good_term = b.good_snapshot; written = b.written; fuel = k.there.fuel; tree = k.there.tree; is = k.there.is; value_is = b.worth } in
-        let r = produced means p good Held no_perm true (before_body Applied) o parts (IsConsistent p) keeps full (precondition_of g) g.parameters base k.entries_of says.typed.parameters pre_typed (body_speaks Held Applied (precondition_of g) says.asks) says.plain k.entries_are k.holds
+        let r = produced means p good Held no_perm true nothing_applied o parts (IsConsistent p) keeps full (precondition_of g) g.parameters base k.entries_of says.typed.parameters pre_typed (body_speaks Held (λ f. ⊥) (precondition_of g) says.asks) says.plain k.entries_are k.holds
         b.interp b.state whole_amount (Some b.snapshot) (from_measure p o f g g.decreases) snap (whole_scale means outside b.state.next b.interp) b.stands (λ e. absurd (b.stands.marked e)) b.cleared in
         let least = λ (r : run.Resource). amount_grows p good Held true full k.entries_of [] r full-positive (entries_positive p base (precondition_of g) k.entries_of says.plain k.entries_are) in
         let same = is ∙ ap run.from_now k.is in
@@ -263,7 +259,7 @@ module _ (means : Meaning) (p : Program) (good : GoodBodies p) (Held : Name → 
       pub entered : Entered s number marks
       pub allowed : (e : Measure) → m ≡ Some e → MeasureFails p s e → ⊥
 
-    by_number : (s : run.State) (i : Interpretation) (t : rules.State) (e : Expr) → IsTypedMeasure p g.parameters (Some (ByNumber e)) → Speaks Held Applied e → Stands means outside g.parameters i t s → Cleared (from_measure p o f g (Some (ByNumber e)) t) → AtMeasure s (Some (ByNumber e))
+    by_number : (s : run.State) (i : Interpretation) (t : rules.State) (e : Expr) → IsTypedMeasure p g.parameters (Some (ByNumber e)) → Speaks Held (λ f. ⊥) e → Stands means outside g.parameters i t s → Cleared (from_measure p o f g (Some (ByNumber e)) t) → AtMeasure s (Some (ByNumber e))
     by_number s i t e typed speaks st h =
         let r = eval_goes means outside o parts typed speaks (λ m s1. function_body p o f g (Some m) s1) st h in
         let is_int = int_value_is r.result r.typed in
@@ -282,7 +278,7 @@ module _ (means : Meaning) (p : Program) (good : GoodBodies p) (Held : Name → 
             one d same = cc
         fits_so v fits (ByInstance at x es) same k = cc
 
-    by_instance : (s : run.State) (i : Interpretation) (t : rules.State) (at : Place) (x : Name) (es : Exprs) → IsTypedMeasure p g.parameters (Some (ByInstance at x es)) → Held x × AllSpeak Held Applied es → Stands means outside g.parameters i t s →
+    by_instance : (s : run.State) (i : Interpretation) (t : rules.State) (at : Place) (x : Name) (es : Exprs) → IsTypedMeasure p g.parameters (Some (ByInstance at x es)) → Held x × AllSpeak Held (λ f. ⊥) es → Stands means outside g.parameters i t s →
         Cleared (from_measure p o f g (Some (ByInstance at x es)) t) → AtMeasure s (Some (ByInstance at x es))
     by_instance s i t at x es typed speaks st h = record {
       number = None;
@@ -326,7 +322,7 @@ module _ (means : Meaning) (p : Program) (good : GoodBodies p) (Held : Name → 
     pub at_measure : (s : run.State) → FunctionStarts p g s → AtMeasure s g.decreases
     at_measure s starts = let a = at_start s starts in go s a.interp a.state g.decreases says.typed.measure says.measure a.stands a.cleared
       where
-        go : (s : run.State) (i : Interpretation) (t : rules.State) (m : Option Measure) → IsTypedMeasure p g.parameters m → MeasureSays Held Applied m → Stands means outside g.parameters i t s → Cleared (from_measure p o f g m t) → AtMeasure s m
+        go : (s : run.State) (i : Interpretation) (t : rules.State) (m : Option Measure) → IsTypedMeasure p g.parameters m → MeasureSays Held m → Stands means outside g.parameters i t s → Cleared (from_measure p o f g m t) → AtMeasure s m
         go s i t None typed speaks st h = record { number = None; marks = Unmarked; is = tt; entered = record { interp = i; state = t; measure = None; measure_is = tt; stands = st; cleared = h }; allowed = λ m same k. absurd (nothing_some m same) }
           where
             nothing_some : (m : Measure) → None ≡ Some m → ⊥
