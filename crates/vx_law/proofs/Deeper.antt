@@ -15,7 +15,7 @@ use Rattle.vx_sound_preds.proofs.Framing.{ok_same, picked}
 use Rattle.vx_sound_funcs.specs.Told.{precondition_of}
 use Rattle.vx_sound_funcs.specs.Firm.{firmly}
 use Rattle.vx_sound_funcs.proofs.Steps.{nothing_some, some_of}
-use Rattle.vx_sound_funcs.proofs.Fuel.{value_more, applications_later}
+use Rattle.vx_sound.proofs.Fuel.{value_more, applications_later}
 use Rattle.vx_sound_funcs.proofs.Fits.{Allows, take_more, exchange_more}
 use Rattle.vx_told.proofs.Grows.{firm_more}
 

@@ -6,7 +6,7 @@ use Rattle.vx_meaning.specs.Values.{Value, IntValue, BoolValue, RefValue, PermVa
 use Rattle.vx_meaning.specs.States.{State, Holdings, at_old, with_holdings}
 use Rattle.vx_meaning.specs.Evaluate.{applications, values, value_by}
 use Rattle.vx_meaning.specs.Fails.{Application, applied_to, of_right, chosen, evaluated, evaluated_in}
-use Rattle.vx_sound_funcs.proofs.Fuel.{value_more, values_more, applications_later}
+use Rattle.vx_sound.proofs.Fuel.{value_more, values_more, applications_later}
 use Rattle.vx_law.proofs.Deeper.{value_held, values_held}
 
 -- a stands in the list

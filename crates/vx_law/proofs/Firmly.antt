@@ -24,7 +24,7 @@ use Rattle.vx_sound_funcs.specs.Firm.{firmly, FitsFirmly, GoodFunctions}
 use Rattle.vx_sound_funcs.proofs.Agree.{holds_possible}
 use Rattle.vx_sound_funcs.proofs.Alike.{firm_exchange}
 use Rattle.vx_sound_funcs.proofs.Fits.{next, fit_more, fit_all_more}
-use Rattle.vx_sound_funcs.proofs.Fuel.{value_more, applications_later}
+use Rattle.vx_sound.proofs.Fuel.{value_more, applications_later}
 use Rattle.vx_sound_funcs.proofs.Steps.{nothing_some}
 use Rattle.vx_live.proofs.Speaks.{Speaks, AllSpeak}
 use Rattle.vx_told.specs.Walks.{FunctionsPass, KeepsAt}

@@ -2,10 +2,9 @@
 -- below that one keep their promises.
 use Rattle.std.proofs.Common.{◌≡◌, ◌⊎◌, inl, inr, ℕ, zero, suc, ◌<◌, Bool, true, false, ◌||◌, List, [], ◌∷◌, ◌++◌, length, Option, Some, None, refl, sym, ◌∙◌, ap, subst, arith, true≢false}
 use Rattle.std.specs.Prelude.{Contains, flat_map}
-use Rattle.vx_ast.specs.declared.Place.{Place}
 use Rattle.vx_ast.specs.declared.ValueType.{ValueType}
 use Rattle.vx_ast.specs.declared.ValueType.TheVariants as type
-use Rattle.vx_ast.specs.Syntax.{Name, same_name, Declaration, Program, Kind, Function, Measure, Connective, And, function_named, member_named, place_of, Expr, Number, Truth, Null, Part, Variable, Not, Operate, Divide, Connect, Choose, Read, Old, Apply, Unfolding, Exprs, NoMore, More, conjoined, conjoined_with}
+use Rattle.vx_ast.specs.Syntax.{Name, same_name, Declaration, Program, Kind, Function, Measure, Connective, function_named, member_named, Expr, Number, Truth, Null, Part, Variable, Not, Operate, Divide, Connect, Choose, Read, Old, Apply, Unfolding, Exprs, NoMore, More, conjoined}
 use Rattle.vx_ast.specs.Mentions.{mentioned, mentioned_in, mentioned_by, mentioned_by_function, mentions_of}
 use Rattle.vx_ast.specs.Apart.{Stands}
 use Rattle.vx_smt_meaning.specs.declared.reply.Reply.{Reply}
@@ -26,8 +25,8 @@ use Rattle.vx_sound_preds.proofs.Fitting.{some_is}
 use Rattle.vx_sound_preds.proofs.Typed.{on_left, on_right}
 use Rattle.vx_sound_preds.proofs.Mentioning.{function_member}
 use Rattle.vx_sound_funcs.specs.Firm.{GoodFunctions}
-use Rattle.vx_live.proofs.LiveApplied.{conjoined_typed}
-use Rattle.vx_told.specs.Means.{NoAmounts}
+use Rattle.vx_sound.proofs.Conjoined.{conjoined_typed}
+use Rattle.vx_sound_preds.proofs.FunctionWalks.{conjoined_mentions}
 use Rattle.vx_told.specs.Walks.{FunctionsPass, FunctionsKeep, Keeps, KeepsAt}
 use Rattle.vx_told.specs.Measures.{IsBelow, lower_group, lesser_measure}
 use Rattle.vx_told.proofs.Measures.{measures_induce}
@@ -47,7 +46,7 @@ in_contained [] a (k, l, e) = absurd (none_below k l)
 in_contained (x ∷ xs) a (zero, l, e) = inl e
 in_contained (x ∷ xs) a (suc k, l, e) = inr (in_contained xs a (k, omega (arith, l), e))
 
-contains_name : (xs : List Name) (y : Name) → Stands y xs → Contains xs y
+pub contains_name : (xs : List Name) (y : Name) → Stands y xs → Contains xs y
 contains_name [] y s = absurd s
 contains_name (x ∷ xs) y (inl e) = (0, omega arith, sym e)
 contains_name (x ∷ xs) y (inr s) = let k = contains_name xs y s in (suc k.0, omega (arith, k.1), k.2)
@@ -196,25 +195,10 @@ reached_by p (suc n) f g e = go (function_named p f) refl e (λ x. reached_by p 
         by_case x c (inl s) = inl (d, is, subst (Contains (mentioned_by_function d)) (sym s) c)
         by_case x c (inr r) = inr (x, (d, is, c), below x r)
 
-grouped : (p : Program) (f g : Name) → is_in_group p f g ≡ true → InGroup p f g
+pub grouped : (p : Program) (f g : Name) → is_in_group p f g ≡ true → InGroup p f g
 grouped p f g e =
     let k = and_parts (reaches_by p (length p) f g) (reaches_by p (length p) g f) e in
     ((length p, reached_by p (length p) f g k.0), (length p, reached_by p (length p) g f k.1))
-
--- What postconditions that are joined mention
-
-joined_with_mentions : (y : Name) (a : Expr) (rest : List Expr) → Stands y (mentioned (conjoined_with a rest)) → Stands y (mentioned a ++ flat_map mentioned rest)
-joined_with_mentions y a [] s = on_left y (mentioned a) [] s
-joined_with_mentions y a (b ∷ rest) s = again (mentioned a) (mentioned b) (flat_map mentioned rest) (joined_with_mentions y (Connect (place_of a) And a b) rest s)
-  where
-    again : (xs ys zs : List Name) → Stands y ((xs ++ ys) ++ zs) → Stands y (xs ++ (ys ++ zs))
-    again [] ys zs s = s
-    again (x ∷ xs) ys zs (inl e) = inl e
-    again (x ∷ xs) ys zs (inr t) = inr (again xs ys zs t)
-
-joined_mentions : (y : Name) (at : Place) (rest : List Expr) → Stands y (mentioned (conjoined at rest)) → Stands y (flat_map mentioned rest)
-joined_mentions y at [] s = s
-joined_mentions y at (a ∷ rest) s = joined_with_mentions y a rest s
 
 -- The group of each function is told as it is decided.
 abbrev pub GroupsTold : Program → Type 0
@@ -241,7 +225,7 @@ abbrev pub WalksGive : Program → Name → Type 0
 WalksGive p x =
     (f : Name) (g : Function) → InClosure p x f → function_named p f ≡ Some g → (vs : List Value) → run.HaveTypes g.parameters vs → (s : State) → FunctionStarts p g s → s.store ≡ bind g.parameters vs → BelowKeep p x s.heap f vs → Gives p f g s
 
-module _ (p : Program) (x : Name) (replies : Name → List Reply) (typed : IsTypedProgram p) (functions : GoodFunctions p) (amounts : NoAmounts p) (pass : FunctionsPass p x replies) (groups : GroupsTold p) where
+module _ (p : Program) (x : Name) (replies : Name → List Reply) (typed : IsTypedProgram p) (functions : GoodFunctions p) (pass : FunctionsPass p x replies) (groups : GroupsTold p) where
   module _ (f : Name) (g : Function) (leads : InClosure p x f) (named : function_named p f ≡ Some g) (vs : List Value) (s : State) (starts : FunctionStarts p g s) (store : s.store ≡ bind g.parameters vs) where
     -- an application that f mentions
     is_below : (a : Application) → Stands a.0 (mentioned_by_function g) → Lowers p f g s a → IsBelow p s.heap f vs a.0 a.1
@@ -262,7 +246,7 @@ module _ (p : Program) (x : Name) (replies : Name → List Reply) (typed : IsTyp
 
     -- what is evaluated keeps its promise, where all below does
     evaluated_keeps : BelowKeep p x s.heap f vs → (u : State) → u.heap ≡ s.heap → (scope : Scope) → AreTyped scope u.store → (e : Expr) (t : ValueType) → HasType p scope e t → ((y : Name) → Stands y (mentioned e) → Stands y (mentioned_by_function g)) →
-        ((a : Application) → Evaluates p u e a → Lowers p f g s a) → EvaluatedKeep p x replies typed functions amounts pass u e
+        ((a : Application) → Evaluates p u e a → Lowers p f g s a) → EvaluatedKeep p x replies typed functions pass u e
     evaluated_keeps below u heap scope ty e t k seen lowers a (n, c) g' named' =
         let there = in_contained (evaluated p n u e) a c in
         let stands = seen a.0 (evaluated_mentioned p n u e a there) in
@@ -272,12 +256,12 @@ module _ (p : Program) (x : Name) (replies : Name → List Reply) (typed : IsTyp
     keeps_from_below below gives =
         let t = typed.functions f g named in
         let scope = g.parameters ++ result_of g ∷ [] in
-        keeps_where_fits p x replies typed functions amounts pass f g leads named s starts gives.value gives.fits
-        (evaluated_keeps below s refl g.parameters (store_typed p x replies typed functions amounts pass f g leads named s starts gives.value gives.fits) g.body g.of t.body
+        keeps_where_fits p x replies typed functions pass f g leads named s starts gives.value gives.fits
+        (evaluated_keeps below s refl g.parameters (store_typed p x replies typed functions pass f g leads named s starts gives.value gives.fits) g.body g.of t.body
         (λ y h. on_left y (mentioned g.body ++ flat_map mentioned_by g.requires) (flat_map mentioned g.ensures) (on_left y (mentioned g.body) (flat_map mentioned_by g.requires) h)) gives.body_lowers)
         gives.promise
-        (evaluated_keeps below (with_result gives.value s) refl scope (result_typed p x replies typed functions amounts pass f g leads named s starts gives.value gives.fits) (conjoined g.place g.ensures) type.Bool (conjoined_typed p scope g.place g.ensures t.ensures)
-        (λ y h. on_right y (mentioned g.body ++ flat_map mentioned_by g.requires) (flat_map mentioned g.ensures) (joined_mentions y g.place g.ensures h)) gives.promise_lowers)
+        (evaluated_keeps below (with_result gives.value s) refl scope (result_typed p x replies typed functions pass f g leads named s starts gives.value gives.fits) (conjoined g.place g.ensures) type.Bool (conjoined_typed p scope g.place g.ensures t.ensures)
+        (λ y h. on_right y (mentioned g.body ++ flat_map mentioned_by g.requires) (flat_map mentioned g.ensures) (conjoined_mentions y g.place g.ensures h)) gives.promise_lowers)
 
   abbrev ClosureKeeps : Heap → Name → Function → List Value → Type 0
   ClosureKeeps h f g vs = InClosure p x f → KeepsAt p f g vs h

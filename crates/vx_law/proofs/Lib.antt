@@ -1,6 +1,5 @@
 pub mod Own
 pub mod Stocked
-pub mod Asks
 pub mod Tells
 pub mod Methods
 pub mod Deeper
@@ -10,3 +9,6 @@ pub mod Firmly
 pub mod Starting
 pub mod Promised
 pub mod FromBelow
+pub mod Measured
+pub mod Walks
+pub mod Members

@@ -8,21 +8,22 @@ use Rattle.vx_meaning.specs.Fails.{MethodFails}
 use Rattle.vx_whole.specs.Premises.{IsTypedProgram}
 use Rattle.vx_whole.specs.Closure.{InClosure}
 use Rattle.vx_sound.specs.Law.{Passes}
+use Rattle.vx_sound.proofs.Marks.{Unmarked}
 use Rattle.vx_sound_preds.specs.Covered.{PredicatesPass}
 use Rattle.vx_sound_preds.proofs.Holding.{Applying}
 use Rattle.vx_sound_preds.proofs.Soundness.{method_sound_by}
 use Rattle.vx_sound_funcs.specs.Firm.{GoodFunctions}
-use Rattle.vx_told.specs.Means.{Means, NoAmounts}
+use Rattle.vx_told.specs.Means.{Means}
 use Rattle.vx_told.specs.Walks.{FunctionsPass, FunctionsKeep}
 use Rattle.vx_law.proofs.Tells.{applies_go}
 
 -- all functions that x leads to may be applied, and none is walked
 abbrev pub all_applied : Program → Name → Applying
-all_applied p x = record { Applied = InClosure p x; own = None }
+all_applied p x = record { marks = Unmarked; Applied = InClosure p x; own = None; Measured = λ h f vs. Unit {0} }
 
-pub method_sound : (p : Program) (x : Name) (m : Method) (replies : Name → List Reply) → IsTypedProgram p → GoodFunctions p → NoAmounts p → PredicatesPass p x replies → FunctionsPass p x replies → FunctionsKeep p x →
+pub method_sound : (p : Program) (x : Name) (m : Method) (replies : Name → List Reply) → IsTypedProgram p → GoodFunctions p → PredicatesPass p x replies → FunctionsPass p x replies → FunctionsKeep p x →
     member_named p x ≡ Some (IsMethod m) → Passes p x (IsMethod m) (replies x) → (at : Place) → MethodFails p m at → ⊥
-method_sound p x m replies typed functions amounts predicates pass keep named own at fails =
-    method_sound_by (Means p x) p x m replies typed named (all_applied p x) refl (λ f g leads is. leads)
-    (applies_go p x replies typed functions amounts predicates pass (all_applied p x) (λ f leads. leads) (λ scope i s c f g ts vs snapshot a is start starts store heap. keep f g a.applied is start starts) (λ f g leads is. leads))
+method_sound p x m replies typed functions predicates pass keep named own at fails =
+    method_sound_by (Means p x) p x m replies typed named (all_applied p x) refl refl (λ f g leads is. leads)
+    (applies_go p x replies typed functions predicates pass (all_applied p x) (λ f leads. leads) (λ scope i s c f g ts vs snapshot a is start starts store heap. keep f g a.applied is start starts) (λ scope i s c f g ts vs snapshot a. tt))
     predicates own at fails

@@ -19,10 +19,9 @@ use Rattle.vx_sound_preds.proofs.Fitting.{step}
 use Rattle.vx_sound_preds.proofs.Types.{found_type}
 use Rattle.vx_sound_preds.proofs.Holding.{consistent}
 use Rattle.vx_sound_preds.proofs.Speaking.{good}
-use Rattle.vx_sound_funcs.specs.Firm.{HasRigidArguments, GoodFunctions}
-use Rattle.vx_sound_funcs.proofs.Further.{said_now}
-use Rattle.vx_live.proofs.LiveApplied.{conjoined_typed}
-use Rattle.vx_told.specs.Means.{NoAmounts}
+use Rattle.vx_sound_funcs.specs.Firm.{GoodFunctions}
+use Rattle.vx_sound_funcs.proofs.TypedFunctions.{functions_speak_now}
+use Rattle.vx_sound.proofs.Conjoined.{conjoined_typed}
 use Rattle.vx_told.specs.Walks.{FunctionsPass, Keeps, KeepsAt}
 use Rattle.vx_told.proofs.Programs.{spoken}
 use Rattle.vx_told.proofs.TypedValues.{have_types, applications_typed}
@@ -44,7 +43,7 @@ bound_more (a ∷ ds) [] d v h e = absurd h
 bound_typed : (ds : List Declaration) (vs : List Value) (xs : Store) → run.HaveTypes ds vs → xs ≡ bind ds vs → AreTyped ds xs
 bound_typed ds vs xs types is = subst (AreTyped ds) (sym is) (λ y t v a b. found_type y t ds vs v types a b)
 
-module _ (p : Program) (x : Name) (replies : Name → List Reply) (typed : IsTypedProgram p) (functions : GoodFunctions p) (amounts : NoAmounts p) (pass : FunctionsPass p x replies) where
+module _ (p : Program) (x : Name) (replies : Name → List Reply) (typed : IsTypedProgram p) (functions : GoodFunctions p) (pass : FunctionsPass p x replies) where
   -- each application that is evaluated with e keeps its promise
   abbrev pub EvaluatedKeep : State → Expr → Type 0
   EvaluatedKeep s e = (a : Application) → Evaluates p s e a → (g : Function) → function_named p a.0 ≡ Some g → KeepsAt p a.0 g a.1 s.heap
@@ -81,11 +80,11 @@ module _ (p : Program) (x : Name) (replies : Name → List Reply) (typed : IsTyp
     pub keeps_where_fits : EvaluatedKeep s g.body → Fits p (with_result v s) (conjoined g.place g.ensures) (BoolValue true) → EvaluatedKeep (with_result v s) (conjoined g.place g.ensures) → Keeps p g s
     keeps_where_fits body promise ensures =
         let t = typed.functions f g named in
-        let sp = spoken p x typed functions amounts f g leads named in
+        let sp = spoken p x typed functions f g leads named in
         let scope : Scope = g.parameters ++ result_of g ∷ [] in
         record {
           value = v;
-          fits = fits_firmly p x replies typed functions pass g.parameters s store_typed can stock g.body g.of t.body (said_now (HasRigidArguments p) g.body (functions.says f g named)) sp.body v fits body;
+          fits = fits_firmly p x replies typed functions pass g.parameters s store_typed can stock g.body g.of t.body (functions_speak_now p typed f g named) sp.body v fits body;
           promise = fits_firmly p x replies typed functions pass scope (with_result v s) result_typed can_with stock (conjoined g.place g.ensures) type.Bool
               (conjoined_typed p scope g.place g.ensures t.ensures) (functions.promises_now f g named) sp.ensures (BoolValue true) promise ensures;
         }

@@ -17,31 +17,32 @@ use Rattle.vx_elements.proofs.Built.{Good}
 use Rattle.vx_sound.proofs.World.{World}
 use Rattle.vx_sound.proofs.Passes.{Cleared}
 use Rattle.vx_sound.proofs.Stands.{OwnStands, Stands, stands_later}
-use Rattle.vx_sound.proofs.Elsewhere.{stands_there, terms_there}
+use Rattle.vx_sound.proofs.Marks.{Unsaid}
+use Rattle.vx_sound.proofs.Elsewhere.{there, stands_there, terms_there}
+use Rattle.vx_sound.proofs.Marked.{terms_marked, stands_marked, to_unsaid, stands_told, equations_path}
 use Rattle.vx_sound.proofs.Candidates.{values_typed}
 use Rattle.vx_sound.proofs.Evaluate.{Applies}
 use Rattle.vx_sound_preds.specs.Covered.{PredicatesPass}
-use Rattle.vx_sound_preds.proofs.Holding.{HoldsInstances, consistent, Applying, functions_world, instances_world}
+use Rattle.vx_sound_preds.proofs.Holding.{HoldsInstances, consistent, Applying, functions_world}
 use Rattle.vx_sound_preds.proofs.Speaking.{good, no_perm, speak}
 use Rattle.vx_sound_preds.proofs.Applied as applications
 use Rattle.vx_sound_preds.proofs.Applied.{term_of, TellsBy, applies_by}
-use Rattle.vx_sound_preds.proofs.Mentioning.{MayApply}
+use Rattle.vx_sound_preds.proofs.FunctionWalks.{all_ask}
 use Rattle.vx_sound_preds.proofs.Unfolds.{AppliesBy}
 use Rattle.vx_sound_funcs.specs.Told.{precondition_of}
 use Rattle.vx_sound_funcs.specs.Firm.{GoodFunctions}
 use Rattle.vx_sound_funcs.specs.Laws.{ApplicationsAgree}
 use Rattle.vx_sound_funcs.proofs.Laws.{agree}
-use Rattle.vx_told.specs.Means.{Means, NoAmounts}
+use Rattle.vx_told.specs.Means.{Means}
 use Rattle.vx_told.specs.Walks.{FunctionsPass, KeepsAt}
 use Rattle.vx_told.specs.Allowed as allowing
 use Rattle.vx_told.proofs.Allowed.{taken_is_allowed}
 use Rattle.vx_told.proofs.Worth.{Worth, written_worth}
 use Rattle.vx_told.proofs.Awake.{Follows, awake_told}
-use Rattle.vx_law.proofs.Asks.{all_ask}
 use Rattle.vx_law.proofs.Own.{told_there}
 use Rattle.vx_law.proofs.Stocked.{stocked}
 
-module _ (p : Program) (x : Name) (replies : Name → List Reply) (typed : IsTypedProgram p) (functions : GoodFunctions p) (amounts : NoAmounts p) (predicates : PredicatesPass p x replies) (pass : FunctionsPass p x replies) (applying : Applying) where
+module _ (p : Program) (x : Name) (replies : Name → List Reply) (typed : IsTypedProgram p) (functions : GoodFunctions p) (predicates : PredicatesPass p x replies) (pass : FunctionsPass p x replies) (applying : Applying) where
   abbrev Held : Name → Type 0
   Held = InClosure p x
 
@@ -50,7 +51,7 @@ module _ (p : Program) (x : Name) (replies : Name → List Reply) (typed : IsTyp
 
   -- where no function may be applied, and none is walked
   abbrev plainly : World
-  plainly = instances_world p (good p x typed) Held (no_perm p x typed) true
+  plainly = there (Means p x) world (λ f. ⊥) None (λ h f vs. Unit {0})
 
   abbrev pub IsAllowed : Scope → Interpretation → rules.State → run.State → Name → Function → List Term → List Value → Term → Type 0
   IsAllowed = applications.IsAllowed (Means p x) p (good p x typed) (InClosure p x) (no_perm p x typed) applying
@@ -60,7 +61,12 @@ module _ (p : Program) (x : Name) (replies : Name → List Reply) (typed : IsTyp
   AllowedKeep =
       (scope : Scope) (i : Interpretation) (s : rules.State) (c : run.State) (f : Name) (g : Function) (ts : List Term) (vs : List Value) (named : Term) → IsAllowed scope i s c f g ts vs named → KeepsAt p f g vs c.heap
 
-  module _ (leads : (f : Name) → applying.Applied f → InClosure p x f) (keeps : AllowedKeep) where
+  -- and what the walk is to show of it holds
+  abbrev pub AllowedMeasured : Type 0
+  AllowedMeasured =
+      (scope : Scope) (i : Interpretation) (s : rules.State) (c : run.State) (f : Name) (g : Function) (ts : List Term) (vs : List Value) (named : Term) → IsAllowed scope i s c f g ts vs named → applying.Measured c.heap f vs
+
+  module _ (leads : (f : Name) → applying.Applied f → InClosure p x f) (keeps : AllowedKeep) (measured : AllowedMeasured) where
     agreeing : ApplicationsAgree p x
     agreeing = agree p x replies typed predicates functions
 
@@ -86,22 +92,29 @@ module _ (p : Program) (x : Name) (replies : Name → List Reply) (typed : IsTyp
           written_worth (Means p x) p s.next i a.stands.standard a.snapshot.fuel (run.with_store (run.bind g.parameters vs) c) (precondition_of g) a.snapshot.tree named a.snapshot.is
           (record { good = a.snapshot.good_term; is = a.snapshot.value_is }) a.snapshot.written
 
-      told : Follows p x typed functions amounts agreeing m scope i unowned c g ts firm.value named t
+      -- where nothing is said of marks
+      alone : Stands (Means p x) plainly scope i (record s { own = None }) c
+      alone = stands_there (Means p x) world (λ f. ⊥) None (λ h f vs. Unit {0}) None tt a.stands
+
+      told : Follows p x typed functions agreeing m scope i unowned c g ts firm.value named t
       told =
-          awake_told p x typed functions amounts agreeing m firm.fuel scope i unowned c f g ts vs firm.value named a.snapshot.tree (leads f a.applied) a.is (terms_there (Means p x) world (λ f. ⊥) None s.next i g.parameters ts vs a.each)
-          (stands_there (Means p x) world (λ f. ⊥) None None tt a.stands) firm.firm worth
+          awake_told p x typed functions agreeing m firm.fuel scope i unowned c f g ts vs firm.value named a.snapshot.tree (leads f a.applied) a.is (terms_marked (Means p x) plainly Unsaid s.next i g.parameters ts vs (terms_there (Means p x) world (λ f. ⊥) None (λ h f vs. Unit {0}) s.next i g.parameters ts vs a.each))
+          (stands_marked (Means p x) plainly Unsaid (to_unsaid p applying.marks) alone) firm.firm worth
 
       -- what is told is told here too
       same_state : with_equations p (outer p m) g ts named t s ≡ record (with_equations p (outer p m) g ts named t unowned) { own = s.own }
       same_state = told_there s.own p m g ts named t unowned
 
-      owned : OwnStands (Means p x) world s.next told.interp s.own applying.own
+      owned : OwnStands (Means p x) world s.next told.interp c.heap c.old_heap s.own applying.own
       owned = let later = stands_later (Means p x) world s.next (le_refl s.next) told.extends a.stands in later.owned
+
+      told_alone : Stands (Means p x) plainly scope told.interp (with_equations p (outer p m) g ts named t unowned) c
+      told_alone = stands_told (Means p x) plainly Unsaid alone told.extends (equations_path p (outer p m) g ts named t unowned) told.stands
 
       here : Stands (Means p x) world scope told.interp (with_equations p (outer p m) g ts named t s) c
       here =
           subst (λ (u : rules.State). Stands (Means p x) world scope told.interp u c) (sym same_state)
-          (stands_there (Means p x) plainly applying.Applied applying.own s.own (subst (λ n. OwnStands (Means p x) world n told.interp s.own applying.own) (sym told.next) owned) told.stands)
+          (stands_there (Means p x) plainly applying.Applied applying.own applying.Measured s.own (subst (λ n. OwnStands (Means p x) world n told.interp c.heap c.old_heap s.own applying.own) (sym told.next) owned) told_alone)
 
       next : (with_equations p (outer p m) g ts named t s).next ≡ s.next
       next = subst (λ (u : rules.State). u.next ≡ s.next) (sym same_state) told.next
@@ -119,6 +132,7 @@ module _ (p : Program) (x : Name) (replies : Name → List Reply) (typed : IsTyp
         value_is = told.is;
         typed = told.value_type;
         applied = firm.applied;
+        measured = measured scope i s c f g ts vs named a;
         cleared = h;
       }
 
@@ -126,5 +140,5 @@ module _ (p : Program) (x : Name) (replies : Name → List Reply) (typed : IsTyp
     tells_by m below scope i s c f g ts vs named on a h = applies m scope i s c f g ts vs named a on h
 
     -- so applications go at every depth, where all functions that x leads to may be applied
-    pub applies_go : MayApply p x applying.Applied → AppliesBy (Means p x) p (good p x typed) (InClosure p x) (no_perm p x typed) true applying (speak p x typed)
-    applies_go may = applies_by (Means p x) p (good p x typed) (InClosure p x) (no_perm p x typed) applying (speak p x typed) (all_ask (Means p x) p x typed functions applying leads may) tells_by
+    pub applies_go : AppliesBy (Means p x) p (good p x typed) (InClosure p x) (no_perm p x typed) true applying (speak p x typed)
+    applies_go = applies_by (Means p x) p (good p x typed) (InClosure p x) (no_perm p x typed) applying (speak p x typed) (all_ask (Means p x) p x typed (λ f g leads is. functions.asks f g is) applying leads) tells_by
