@@ -12,3 +12,4 @@ pub mod FromBelow
 pub mod Measured
 pub mod Walks
 pub mod Members
+pub mod Worked
