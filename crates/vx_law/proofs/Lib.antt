@@ -13,3 +13,4 @@ pub mod Measured
 pub mod Walks
 pub mod Members
 pub mod Worked
+pub mod WorkedBoxes
