@@ -12,3 +12,5 @@ pub mod FromBelow
 pub mod Measured
 pub mod Walks
 pub mod Members
+pub mod Worked
+pub mod WorkedBoxes

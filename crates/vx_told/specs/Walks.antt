@@ -1,5 +1,4 @@
--- What the walks of functions are to show: where a function starts its body fits firmly, and its promise is kept. The law's part on
--- functions asks for this; it isn't proved yet.
+-- What the walks of functions show: where a function starts its body fits firmly, and its promise is kept.
 use Rattle.std.specs.Prelude.{◌≡◌, true, List, Some}
 use Rattle.vx_ast.specs.Syntax.{Name, Program, Function, IsFunction, function_named, conjoined}
 use Rattle.vx_smt_meaning.specs.declared.reply.Reply.{Reply}
