@@ -14,3 +14,4 @@ pub mod Walks
 pub mod Members
 pub mod Worked
 pub mod WorkedBoxes
+pub mod WorkedDescent

@@ -1,7 +1,7 @@
--- A function with a postcondition, and a method that applies it.
+-- A function with a postcondition, a method that applies it, and a function that applies itself.
 use Rattle.std.specs.Prelude.{codes, List, [], ◌∷◌, Some, None}
 use Rattle.vx_ast.specs.declared.ValueType.TheVariants.{Int}
-use Rattle.vx_ast.specs.Syntax.{Name, result_name, Program, Declaration, IsFunction, IsMethod, Function, Method, Number, Variable, Operate, Equal, Add, Apply, NoMore, More, Pure, Assert, Done, Then}
+use Rattle.vx_ast.specs.Syntax.{Name, result_name, Program, Declaration, IsFunction, IsMethod, Function, Method, ByNumber, Number, Variable, Operate, Equal, LessEqual, Add, Subtract, Choose, Apply, NoMore, More, Pure, Assert, Done, Then}
 use Rattle.vx_sound.specs.Examples.{on_line, x, m}
 
 abbrev pub x_is_a_number : List Declaration
@@ -36,3 +36,21 @@ relies = record {
 -- both
 abbrev pub counts : Program
 counts = record { name = next; kind = IsFunction adder } ∷ record { name = m; kind = IsMethod relies } ∷ []
+
+-- function down(x: Int): Int decreases x { x <= 0 ? 0 : down(x - 1) }
+abbrev pub down : Name
+down = codes "down"
+
+abbrev pub descender : Function
+descender = record {
+  place = on_line 1;
+  parameters = x_is_a_number;
+  of = Int;
+  requires = [];
+  ensures = [];
+  decreases = Some (ByNumber (Variable (on_line 3) x));
+  body = Choose (on_line 4) (Operate (on_line 4) LessEqual (Variable (on_line 4) x) (Number (on_line 4) 0)) (Number (on_line 4) 0) (Apply (on_line 4) down (More (Operate (on_line 4) Subtract (Variable (on_line 4) x) (Number (on_line 4) 1)) NoMore));
+}
+
+abbrev pub descends : Program
+descends = record { name = down; kind = IsFunction descender } ∷ []
