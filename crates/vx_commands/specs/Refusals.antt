@@ -1,5 +1,5 @@
 -- The line that is put for a text that is refused: `error at L:C: CODE NAME ARGUMENTS`.
-use Rattle.std.specs.Prelude.{◌≡◌, ◌↔◌, ℕ, ◌<◌, ◌≤◌, List, [], ◌∷◌, ◌++◌, Option, Some, None, IfSome, Err, codes, length, take, string_bytes, String, true}
+use Rattle.std.specs.Prelude.{◌≡◌, ◌↔◌, ℕ, ◌<◌, ◌≤◌, List, [], ◌∷◌, ◌++◌, Option, Some, None, IfSome, Err, codes, length, take, string_bytes, true}
 use Rattle.std.specs.Fmt.{decimal}
 use Rattle.std.specs.Str.{IsUtf8}
 use Rattle.std.specs.Str.Lossy.{utf8_valid_len}
@@ -90,9 +90,9 @@ abbrev pub RefusesExecution : Program → List ℕ → Type 0
 RefusesExecution p said = (at : Place) × (first_beyond p ≡ Some at) × (said ≡ beyond_line at)
 
 -- no line, where the program is executed; else that line
-abbrev pub IsJudged : Program → Option String → Type 0
+abbrev pub IsJudged : Program → Option (List ℕ) → Type 0
 IsJudged p None = is_executed p ≡ true
-IsJudged p (Some said) = RefusesExecution p (string_bytes said)
+IsJudged p (Some said) = RefusesExecution p said
 
 -- the text spells this program, and no other
 pub record IsSpelledBy (bytes : List ℕ) (p : written.Program) : Type 0 where

@@ -1,6 +1,6 @@
 //! Which typed programs are executed.
 
-ghost use Rattle.std.specs.Prelude.{IfOk};
+ghost use Rattle.std.specs.Prelude.{IfOk, option_map, string_bytes};
 ghost use Rattle.vx_typing.specs.Typed.{resolved_of};
 ghost use Rattle.vx_commands.specs.Refusals.{IsJudged};
 
@@ -13,7 +13,7 @@ use vx_verifier::settled;
 /// The line of a typed program that isn't executed yet, which tells its first function that isn't. There is none where the
 /// program is executed.
 pub fn unsupported(alloc: Global, typed: &Typed) -> Result<Option<String>, AllocError>
-    ensures { IfOk result (IsJudged (resolved_of typed.now)) }
+    ensures { IfOk result (λ line. IsJudged (resolved_of typed.now) (option_map string_bytes line)) }
 {
     let program = settled(alloc, typed)?;
     match beyond(&program) {

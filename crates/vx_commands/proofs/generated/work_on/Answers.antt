@@ -7,6 +7,7 @@ use Rattle.vx_typing.specs.Typed.{written_of, resolved_of}
 use Rattle.vx_whole.specs.Executed.{is_executed}
 use Rattle.vx_gen.specs.Generated.{generated}
 use Rattle.vx_commands.specs.declared.reports.Telling.TheVariants.{Totals}
+use Rattle.vx_commands.specs.Outside.{change, taken, companions}
 use Rattle.vx_commands.specs.Reported.{IsCompanionReport, IsProgramOf}
 use Rattle.vx_commands.proofs.OfGenerated.{generated_executed}
 use Rattle.vx_commands.proofs.generated.work_on.Goals as goal
@@ -28,4 +29,4 @@ returns-clause-report g c =
       settled = refl;
       supported = c.programs_are_supported.ensures;
     } in
-    IfOk-weaker c.report_by_companion.result _ _ (λ ended h. (p, is, subst (λ command. IsCompanionReport Totals p command _ _ ended) c.in_ok-solver.ensures h)) c.report_by_companion.ensures.report
+    IfOk-weaker c.report_by_companion.result _ _ (λ ended h. (p, is, subst (λ command. IsCompanionReport Totals p command (change companions c.args.builtin.now c.report_by_companion.new.builtin) (change (taken g.K.Sink.taken g.K.Sink.faults) c.args.out.now c.report_by_companion.new.out) ended) c.in_ok-solver.ensures h)) c.report_by_companion.ensures.report
