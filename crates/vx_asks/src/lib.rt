@@ -1,0 +1,2 @@
+//! What preconditions that apply functions tell.
+#![tactic(auto)]
