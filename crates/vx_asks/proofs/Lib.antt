@@ -1,0 +1,6 @@
+pub mod Same
+pub mod Taking
+pub mod Entering
+pub mod Told
+pub mod Holding
+pub mod Agree

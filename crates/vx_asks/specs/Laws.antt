@@ -1,0 +1,51 @@
+-- The laws of what asking trees tell.
+use Rattle.std.specs.Prelude.{◌≡◌, ℕ, List, Option, Some}
+use Rattle.vx_ast.specs.Syntax.{Name, Program, Function, function_named, Assertion}
+use Rattle.vx_terms.specs.Interpretations.{Tree}
+use Rattle.vx_meaning.specs.Values.{Value}
+use Rattle.vx_meaning.specs.States.{State, Heap, Instance, bind, with_store}
+use Rattle.vx_meaning.specs.Evaluate.{Applications}
+use Rattle.vx_meaning.specs.Consistent.{IsConsistent}
+use Rattle.vx_meaning.specs.Flatten.{entries}
+use Rattle.vx_sound.specs.Snapshots.{assertion_tree}
+use Rattle.vx_sound_preds.specs.Bodies.{AreRigid, Rigid, IsPlainBody}
+use Rattle.vx_sound_preds.specs.Covered.{IsStocked}
+use Rattle.vx_sound_funcs.specs.Firm.{firm_application, firmly, FitsFirmly}
+use Rattle.vx_sound_funcs.specs.Told.{LooksLike, IsTreeOf, IsLike, precondition_of, IsValueOf}
+use Rattle.vx_asks.specs.Asking.{asking_tree, asking_entries, IsAskingTreeOf, IsAsking, HoldsFirmly}
+
+-- What applies nothing is asking, and both trees are the same, and both lists of entries, whatever is applied.
+abbrev pub PlainIsAsking : Program → Type 0
+PlainIsAsking p =
+    (a : Assertion) → IsPlainBody p Rigid a →
+    IsAsking p a × ((f : Instance → Option Tree) (s : State) (ap : Applications) → (asking_tree p ap f s a ≡ assertion_tree p f s a) × (asking_entries p ap s a ≡ entries p s a)) ×
+    ((s : State) (t : Tree) → (IsTreeOf p s a t → IsAskingTreeOf p s a t) × (IsAskingTreeOf p s a t → IsTreeOf p s a t))
+
+-- An assertion has one asking tree at most.
+abbrev pub AskingTreesAreSingle : Program → Type 0
+AskingTreesAreSingle p = (a : Assertion) (s : State) (t u : Tree) → IsAskingTreeOf p s a t → IsAskingTreeOf p s a u → t ≡ u
+
+-- A state that holds just what an assertion gives firmly is like each state with the same variables and the same asking tree of it.
+abbrev pub AskingTreesTellWhatIsHeld : Program → (Heap → Instance → Type 0) → Type 0
+AskingTreesTellWhatIsHeld p Good =
+    (a : Assertion) → IsAsking p a → (s t : State) (tree : Tree) → HoldsFirmly p Good a s → t.store ≡ s.store → IsAskingTreeOf p s a tree → IsAskingTreeOf p t a tree → IsLike p s t
+
+-- Two such states hold the same.
+abbrev pub AskingTreesTellHoldings : Program → (Heap → Instance → Type 0) → Type 0
+AskingTreesTellHoldings p Good =
+    (a : Assertion) → IsAsking p a → (s t : State) (tree : Tree) → HoldsFirmly p Good a s → HoldsFirmly p Good a t → t.store ≡ s.store → IsAskingTreeOf p s a tree → IsAskingTreeOf p t a tree → t.holdings ≡ s.holdings
+
+-- A function whose body fits firmly where just its precondition is held: at the same arguments its value looks the same in each state
+-- with the same asking tree of the precondition.
+abbrev pub AskingTreesTellFirmValues : Program → (Heap → Instance → Type 0) → Type 0
+AskingTreesTellFirmValues p Good =
+    (f : Name) (g : Function) → function_named p f ≡ Some g → (vs : List Value) (s t : State) (v : Value) (tree : Tree) → HoldsFirmly p Good (precondition_of g) s → s.store ≡ bind g.parameters vs → t.store ≡ s.store →
+    IsAskingTreeOf p s (precondition_of g) tree → IsAskingTreeOf p t (precondition_of g) tree → FitsFirmly p s g.body v → (w : Value) × IsValueOf p f vs t w × LooksLike v w
+
+-- Two applications at the same arguments, where the precondition has one asking tree: if the first is allowed firmly in a state that can
+-- be, the second's value looks the same.
+abbrev pub AskingApplicationsAgree : Program → Name → Type 0
+AskingApplicationsAgree p x =
+    (f : Name) (g : Function) → function_named p f ≡ Some g → (vs : List Value) → AreRigid vs → (n : ℕ) (s t : State) (v : Value) (tree : Tree) → IsConsistent p s → IsStocked p x s.holdings →
+    firm_application p (firmly p n) f vs s ≡ Some v → IsAskingTreeOf p (with_store (bind g.parameters vs) s) (precondition_of g) tree → IsAskingTreeOf p (with_store (bind g.parameters vs) t) (precondition_of g) tree →
+    (w : Value) × IsValueOf p f vs t w × LooksLike v w
