@@ -34,6 +34,7 @@ use Rattle.vx_sound_funcs.proofs.Agree.{taken_amount, typed_all, holds_possible}
 use Rattle.vx_asks.specs.Asking.{IsAskingTreeOf, AskingFunctions, HoldsFirmly}
 use Rattle.vx_asks.specs.Laws.{AskingTreesTellWhatIsHeld, AskingTreesTellHoldings, AskingTreesTellFirmValues, AskingApplicationsAgree}
 use Rattle.vx_asks.proofs.Entering.{alike, Begun, begun, see_firmly}
+use Rattle.vx_asks.proofs.Typed.{asking_functions}
 use Rattle.vx_asks.proofs.Holding.{fine, matches, like, same_holdings}
 
 itself : (s : State) → Sees s s
@@ -111,7 +112,10 @@ module _ (p : Program) (x : Name) (good : GoodBodies p) (functions : AskingFunct
   pub firm_told : AskingTreesTellFirmValues p (IsProper p x)
   firm_told f g named vs s t v tree k args store here there fi = determined p (IsProper p x) good functions covered f g named vs s s t v tree (itself s) k args store here there fi
 
-module _ (p : Program) (x : Name) (replies : Name → List Reply) (typed : IsTypedProgram p) (functions : AskingFunctions p) (pass : PredicatesPass p x replies) where
+module _ (p : Program) (x : Name) (replies : Name → List Reply) (typed : IsTypedProgram p) (pass : PredicatesPass p x replies) where
+  functions : AskingFunctions p
+  functions = asking_functions p typed
+
   pub passed_held : AskingTreesTellWhatIsHeld p (IsProper p x)
   passed_held = held_told p x (good p x typed) functions (bodies_covered p x replies typed pass)
 

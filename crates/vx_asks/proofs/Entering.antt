@@ -2,7 +2,9 @@
 use Rattle.std.proofs.Common.{◌≡◌, ℕ, zero, suc, ◌≤◌, [], List, Some, refl, sym, ◌∙◌, ap, subst, arith}
 use Rattle.std.specs.Prelude.{Ok}
 use Rattle.vx_frac.specs.Fractions.{none, full}
-use Rattle.vx_ast.specs.Syntax.{Name, Program, Function, function_named, Expr}
+use Rattle.vx_ast.specs.Syntax.{Name, Program, Function, function_named, Expr, Exprs}
+use Rattle.vx_ast.specs.Syntax as syntax
+use Rattle.vx_whole.specs.Now.{IsOfNow, AreOfNow}
 use Rattle.vx_meaning.specs.Values.{Value}
 use Rattle.vx_meaning.specs.States.{State, Store, Heap, Holdings, Location, bind, with_store, value_at}
 use Rattle.vx_meaning.specs.Evaluate.{applications, value}
@@ -16,8 +18,9 @@ use Rattle.vx_sound_preds.proofs.Adding.{Fine, AreEntries, Adds, added}
 use Rattle.vx_sound_preds.proofs.Exchanging.{bound_rigid, entered_fine}
 use Rattle.vx_sound_preds.proofs.Folding.{Stock}
 use Rattle.vx_sound_preds.proofs.Taking.{taken}
-use Rattle.vx_sound_funcs.specs.Told.{precondition_of, Says}
+use Rattle.vx_sound_funcs.specs.Told.{precondition_of, Says, AllSay}
 use Rattle.vx_sound_funcs.specs.Firm.{firmly, HasRigidArguments}
+use Rattle.vx_sound_funcs.specs.Laws.{SpeakNow}
 use Rattle.vx_sound_funcs.proofs.Likes.{Likes, Found}
 use Rattle.vx_sound_funcs.proofs.Sees.{Matches, AppliesAlike, see}
 use Rattle.vx_sound_funcs.proofs.Alike.{firm_open}
@@ -34,6 +37,32 @@ taken_held : (p : Program) → GoodBodies p → (h : Heap) (es hs rest : Holding
 taken_held p good h es hs rest l is st (n, z) =
     let r : Positive (total p n h hs l) = positive-le (record { holds = z }) (taken_total p good h es hs rest n l is st) in
     (n, r.holds)
+
+-- what may be said has no `old`
+module _ (May : Name → Exprs → Type 0) where
+  mutual
+    says_now : (e : Expr) → Says May e → IsOfNow e
+    says_now (syntax.Number at n) k = tt
+    says_now (syntax.Truth at b) k = tt
+    says_now (syntax.Null at) k = tt
+    says_now (syntax.Part at n m) k = tt
+    says_now (syntax.Variable at x) k = tt
+    says_now (syntax.Not at e) k = says_now e k
+    says_now (syntax.Operate at op a b) k = (says_now a k.0, says_now b k.1)
+    says_now (syntax.Divide at op a b) k = (says_now a k.0, says_now b k.1)
+    says_now (syntax.Connect at c a b) k = (says_now a k.0, says_now b k.1)
+    says_now (syntax.Choose at c a b) k = (says_now c k.0, says_now a k.1, says_now b k.2)
+    says_now (syntax.Read at e f) k = says_now e k
+    says_now (syntax.Old at e) k = absurd k
+    says_now (syntax.Apply at f es) k = all_say_now es k.1
+    says_now (syntax.Unfolding at i es share e) k = (all_say_now es k.0, says_now share k.1, says_now e k.2)
+
+    all_say_now : (es : Exprs) → AllSay May es → AreOfNow es
+    all_say_now syntax.NoMore k = tt
+    all_say_now (syntax.More e es) k = (says_now e k.0, all_say_now es k.1)
+
+pub speak_now : (p : Program) → AskingFunctions p → SpeakNow p
+speak_now p functions f g named = says_now (HasRigidArguments p) g.body (functions.says f g named)
 
 module _ (p : Program) (good : GoodBodies p) (functions : AskingFunctions p) where
   -- where a callee starts it holds what it took, and nothing else
@@ -53,14 +82,14 @@ module _ (p : Program) (good : GoodBodies p) (functions : AskingFunctions p) whe
       let empty = bare (bind g.parameters vs) s.heap in
       let fine_callee : Fine p callee = entered_fine p g.parameters vs s ri (stock.debts, stock.single) stock.grounded in
       let fine_empty : Fine p empty = record { typed = bound_rigid g.parameters vs ri; forth = ((λ r sc. le-refl none), tt); back = λ i z. absurd (not-positive z (le-refl none)) } in
-      let tk = take_asks p good n m alike callee empty fine_callee (matches_seen p callee empty record { store = refl; heap = refl }) pre s.holdings k.rest asks stock k.takes in
+      let tk = take_asks p good (speak_now p functions) n m alike callee empty fine_callee (matches_seen p callee empty record { store = refl; heap = refl }) pre s.holdings k.rest asks stock k.takes in
       record {
         entries_of = tk.entries_of;
         entries_are = tk.entries_are;
         can = tk.can;
         rest_is = tk.rest_is;
         stock = tk.stock;
-        adds = add_asks p good n m alike empty pre empty k.start tk.entries_of asks fine_empty (record { store = refl; heap = refl }) tk.entries_are tk.can k.starts;
+        adds = add_asks p good (speak_now p functions) n m alike empty pre empty k.start tk.entries_of asks fine_empty (record { store = refl; heap = refl }) tk.entries_are tk.can k.starts;
       }
 
   -- so a state that matches the caller's matches it

@@ -33,7 +33,7 @@ use Rattle.vx_sound_funcs.proofs.Fits.{Stays, add_stays}
 use Rattle.vx_asks.specs.Asking.{asking_tree, asking_entries, IsAskingTreeOf, IsAsking, AskingFunctions, HoldsFirmly}
 use Rattle.vx_asks.proofs.Same.{asking_later, one_named}
 use Rattle.vx_asks.proofs.Taking.{add_later_asks}
-use Rattle.vx_asks.proofs.Entering.{Alike, alike}
+use Rattle.vx_asks.proofs.Entering.{Alike, alike, speak_now}
 use Rattle.vx_asks.proofs.Told.{TreesTell, Told, told}
 
 -- What has a tree names something.
@@ -72,13 +72,13 @@ module _ (p : Program) (ap' : Applications) (f : Instance → Option Tree) (s : 
       named_by (step (λ v. cond (is_true v) (Some []) None) v.it v.is) (truth_named v.it t v.then)
   tree_names (Points at e x share) t k eq =
       let v = came (value p ap' s e) (location_leaf p s.heap x) t eq in
-      named_by (step (λ r. option_and_then (location_entry x r) (value p no_applications s share)) v.it v.is ∙ step (location_entry x v.it) (PermValue k.1.amount) (k.1.value_is s))
+      named_by (step (λ r. option_and_then (location_entry x r) (value p no_applications s share)) v.it v.is ∙ step (location_entry x v.it) (PermValue k.1.amount) (k.1.value_is no_applications s))
       (location_named x v.it k.1.amount t v.then)
   tree_names (syntax.Instance at i es share) t k eq =
       let vs = came (values p ap' s es) (λ vs. f record { predicate = i; arguments = vs }) t eq in
       record {
         entries_of = _;
-        are = step (λ vs. option_and_then (instance_entry i vs) (value p no_applications s share)) vs.it vs.is ∙ step (instance_entry i vs.it) (PermValue k.1.amount) (k.1.value_is s);
+        are = step (λ vs. option_and_then (instance_entry i vs) (value p no_applications s share)) vs.it vs.is ∙ step (instance_entry i vs.it) (PermValue k.1.amount) (k.1.value_is no_applications s);
       }
   tree_names (Both a b) t k eq =
       let x = came (asking_tree p ap' f s a) (λ q. option_and_then (λ z. Some (Pair q z)) (asking_tree p ap' f s b)) t eq in
@@ -125,7 +125,7 @@ module _ (p : Program) (good : GoodBodies p) (functions : AskingFunctions p) (Go
   self n = omega arith
 
   later : Later p Rigid Sound (bare s.store s.heap) k.given.1
-  later = add_later_asks p good k.given.0 k.given.0 (alike p good functions k.given.0 k.given.0 (self k.given.0)) a (bare s.store s.heap) k.given.1 body fine_before grounded_end k.given.2
+  later = add_later_asks p good (speak_now p functions) k.given.0 k.given.0 (alike p good functions k.given.0 k.given.0 (self k.given.0)) a (bare s.store s.heap) k.given.1 body fine_before grounded_end k.given.2
 
   sound : NoDebts s.holdings × AreSingle s.holdings
   sound = subst (λ (hs : Holdings). NoDebts hs × AreSingle hs) k.given.3 later.forth
@@ -158,17 +158,17 @@ module _ (p : Program) (good : GoodBodies p) (functions : AskingFunctions p) (Go
         let e'' = subst (λ (h : Heap). tree_by p all h i ≡ Some tree) sees.heap e in
         tell p good Good covered s.heap t.heap n i x tree (k.good i z.holds).0 (held_rigid i s.holdings sound.1 z) fl (all, e'') (all, e')
 
-    trees_tell : TreesTell p good k.given.0 all alike_all (tree_by p all o.heap) (tree_by p all t.heap) o t k.given.1
+    trees_tell : TreesTell p good (speak_now p functions) k.given.0 all alike_all (tree_by p all o.heap) (tree_by p all t.heap) o t k.given.1
     trees_tell j z tree e e' n l w =
         let z' : Positive (amount s.holdings (Folded j)) = subst (λ (hs : Holdings). Positive (amount hs (Folded j))) k.given.3 z in
         let g = grounded j z' in
         subst (λ (h : Heap). Likes (value_at p h l) (value_at p t.heap l)) (sym stays.heap)
         ((told_of j z' tree e e' g.0 g.1 g.2).heap n l (subst (λ (h : Heap). Positive (weight p h l n (Folded j))) stays.heap w))
 
-    pub told_all : Told p good k.given.0 all alike_all (tree_by p all o.heap) (tree_by p all t.heap) o t (bare s.store s.heap) k.given.1 names.entries_of a
+    pub told_all : Told p good (speak_now p functions) k.given.0 all alike_all (tree_by p all o.heap) (tree_by p all t.heap) o t (bare s.store s.heap) k.given.1 names.entries_of a
     told_all =
         let start : Matches p (bare s.store s.heap) t = record { store = store; heap = λ l z. absurd (not-positive (record { holds = z.1 }) (le-refl none)) } in
-        told p good k.given.0 all alike_all (tree_by p all o.heap) (tree_by p all t.heap) o t a (bare s.store s.heap) k.given.1 tree names.entries_of body fine_before grounded_end k.given.2
+        told p good (speak_now p functions) k.given.0 all alike_all (tree_by p all o.heap) (tree_by p all t.heap) o t a (bare s.store s.heap) k.given.1 tree names.entries_of body fine_before grounded_end k.given.2
         (record { store = sees.store; heap = sees.heap }) start trees_tell here_by there_by names.are
 
     pub matches : Matches p s t

@@ -3,4 +3,5 @@ pub mod Taking
 pub mod Entering
 pub mod Told
 pub mod Holding
+pub mod Typed
 pub mod Agree

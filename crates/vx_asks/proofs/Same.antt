@@ -5,20 +5,23 @@ use Rattle.vx_ast.specs.Syntax.{Name, Program, Assertion, Pure, Points, Both, Im
 use Rattle.vx_ast.specs.Syntax as syntax
 use Rattle.vx_terms.specs.Interpretations.{Tree, Empty, Pair}
 use Rattle.vx_meaning.specs.Values.{Value, IntValue, BoolValue, RefValue, PermValue, is_true}
-use Rattle.vx_meaning.specs.States.{State, Holdings, Instance}
+use Rattle.vx_meaning.specs.States.{State, Heap, Holdings, Instance}
 use Rattle.vx_meaning.specs.Evaluate.{Applications, choose, value, values, applications}
-use Rattle.vx_meaning.specs.Flatten.{no_applications, entries, location_entry, instance_entry}
+use Rattle.vx_meaning.specs.Flatten.{no_applications, bare, entries, location_entry, instance_entry}
+use Rattle.vx_meaning.specs.Fits.{add, deeper}
+use Rattle.vx_frac.specs.Fractions.{full}
 use Rattle.vx_sound.specs.Snapshots.{location_leaf, truth_leaf, assertion_tree, tree_by}
 use Rattle.vx_sound.proofs.Fuel.{value_more, values_more, applications_later}
 use Rattle.vx_sound.proofs.Fuel as fuel
-use Rattle.vx_sound_preds.specs.Bodies.{AreRigid, Rigid, IsPlain, ArePlain, IsPlainBody}
+use Rattle.vx_sound_preds.specs.Bodies.{AreRigid, Rigid, IsPlain, ArePlain, IsAmount, IsPlainBody, GoodBodies}
 use Rattle.vx_sound_preds.proofs.Fitting.{step, some_is}
 use Rattle.vx_sound_preds.proofs.Flats.{Covers, came, tree_later}
 use Rattle.vx_sound_preds.proofs.Looks.{Sees, plain_value, plain_values}
 use Rattle.vx_sound_funcs.specs.Told.{Says, AllSay}
-use Rattle.vx_sound_funcs.specs.Firm.{HasRigidArguments}
-use Rattle.vx_asks.specs.Asking.{asking_tree, asking_entries, IsAskingTreeOf, IsAsking}
-use Rattle.vx_asks.specs.Laws.{PlainIsAsking}
+use Rattle.vx_sound_funcs.specs.Firm.{firmly, HasRigidArguments}
+use Rattle.vx_sound_funcs.proofs.Alike.{firm_exchange, add_alike}
+use Rattle.vx_asks.specs.Asking.{asking_tree, asking_entries, IsAskingTreeOf, IsAskingAmount, IsAsking}
+use Rattle.vx_asks.specs.Laws.{PlainIsAsking, JustIsFirmly}
 
 itself : (s : State) → Sees s s
 itself s = record { store = refl; heap = refl }
@@ -73,10 +76,18 @@ module _ (p : Program) where
   plain_rigid : (i : Name) (es : syntax.Exprs) → ArePlain es → ((s : State) (vs : List Value) → Rigid s → values p no_applications s es ≡ Some vs → AreRigid vs) → HasRigidArguments p i es
   plain_rigid i es k h n s vs rigid e = h s vs rigid (sym (plain_values p (applications p n) no_applications s s (itself s) es k) ∙ e)
 
+  plain_amount : (share : syntax.Expr) → IsAmount p share → IsAskingAmount p share
+  plain_amount share k = record {
+    says = plain_says (HasRigidArguments p) share k.plain;
+    amount = k.amount;
+    above = k.above;
+    value_is = λ ap' s. plain_value p ap' no_applications s s (itself s) share k.plain ∙ k.value_is s;
+  }
+
   plain_asks : (a : Assertion) → IsPlainBody p Rigid a → IsAsking p a
   plain_asks (Pure e) k = plain_says (HasRigidArguments p) e k
-  plain_asks (Points at e x share) k = (plain_says (HasRigidArguments p) e k.0, k.1)
-  plain_asks (syntax.Instance at i es share) k = (all_plain_say (HasRigidArguments p) es k.0, k.1, plain_rigid i es k.0 k.2)
+  plain_asks (Points at e x share) k = (plain_says (HasRigidArguments p) e k.0, plain_amount share k.1)
+  plain_asks (syntax.Instance at i es share) k = (all_plain_say (HasRigidArguments p) es k.0, plain_amount share k.1, plain_rigid i es k.0 k.2)
   plain_asks (Both a b) k = (plain_asks a k.0, plain_asks b k.1)
   plain_asks (Implied c a) k = (plain_says (HasRigidArguments p) c k.0, plain_asks a k.1)
   plain_asks (Chosen c a b) k = (plain_says (HasRigidArguments p) c k.0, plain_asks a k.1, plain_asks b k.2)
@@ -171,3 +182,13 @@ module _ (p : Program) where
   asking_single a s t u x y =
       let z : y.0 + x.0 ≡ x.0 + y.0 = omega arith in
       some_is t u (sym (asking_later y.0 x.0 s a t x.1) ∙ ap (λ (k : ℕ). asking_tree p (applications p k) (tree_by p k s.heap) s a) z ∙ asking_later x.0 y.0 s a u y.1)
+
+  -- what applies nothing is added firmly as it is added
+  pub just_is_firmly : GoodBodies p → (Good : Heap → Instance → Type 0) → JustIsFirmly p Good
+  just_is_firmly good Good a k s = (
+    λ h. record { given = (h.given.0, h.given.1, same h.given.0 ∙ h.given.2, h.given.3); rigid = h.rigid; good = h.good },
+    λ h. record { given = (h.given.0, h.given.1, sym (same h.given.0) ∙ h.given.2, h.given.3); rigid = h.rigid; good = h.good },
+  )
+    where
+      same : (n : ℕ) → add p (firmly p n) full a (bare s.store s.heap) ≡ add p (deeper p n) full a (bare s.store s.heap)
+      same n = add_alike p (firmly p n) (deeper p n) (firm_exchange p good n) full a (bare s.store s.heap) k

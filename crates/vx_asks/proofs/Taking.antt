@@ -1,5 +1,5 @@
 -- What taking and adding an asking assertion do, where applications have like values in states that match.
-use Rattle.std.proofs.Common.{◌≡◌, ℕ, Bool, true, false, cond, List, [], ◌∷◌, ◌++◌, Option, Some, None, refl, sym, ◌∙◌, ap, ap₂, subst}
+use Rattle.std.proofs.Common.{◌≡◌, ℕ, ◌≤◌, arith, Bool, true, false, cond, List, [], ◌∷◌, ◌++◌, Option, Some, None, refl, sym, ◌∙◌, ap, ap₂, subst}
 use Rattle.std.specs.Prelude.{Ok, option_and_then}
 use Rattle.vx_ast.specs.declared.Place.{Place}
 use Rattle.vx_frac.specs.Fractions.{Fraction, none, full, product}
@@ -10,24 +10,30 @@ use Rattle.vx_meaning.specs.States.{State, Store, Heap, Holdings, Location, Inst
 use Rattle.vx_meaning.specs.Evaluate as plain
 use Rattle.vx_meaning.specs.Evaluate.{value, values, applications}
 use Rattle.vx_meaning.specs.Flatten.{no_applications, location_entry, instance_entry}
-use Rattle.vx_meaning.specs.Fits.{Checked, ◌>>=◌, guard, choose, location_of, amount_of, fit, fit_all, field_part, instance_part, take, take_part, add, add_part}
+use Rattle.vx_meaning.specs.Fits.{Checked, ◌>>=◌, guard, choose, location_of, amount_of, fit, fit_all, field_part, instance_part, take, take_part, add, add_part, deeper}
 use Rattle.vx_amounts.proofs.Amounts.{Le, Positive, positive-le, none-full, full-positive}
 use Rattle.vx_amounts.proofs.Products.{product_sign, product_positive}
-use Rattle.vx_sound_preds.specs.Bodies.{IsRigid, AreRigid, RigidStore, Rigid, IsAmount, GoodBodies}
-use Rattle.vx_sound_preds.proofs.Fitting.{undo, step, some_is, guarded, fit_framed}
+use Rattle.vx_sound_preds.specs.Bodies.{IsRigid, AreRigid, RigidStore, Rigid, GoodBodies}
+use Rattle.vx_sound_preds.proofs.Fitting.{undo, step, some_is, guarded}
 use Rattle.vx_sound_preds.proofs.Flats.{came}
 use Rattle.vx_sound_preds.proofs.Looks.{Sees}
-use Rattle.vx_sound_preds.proofs.Framing.{Later, later_same, later_both, field_parts, instance_parts, agrees_itself, ok_same, failed, picked, above_none, amount_same, add_earlier}
+use Rattle.vx_sound_preds.proofs.Framing.{Later, later_same, later_both, field_parts, instance_parts, ok_same, failed, picked, amount_same, add_earlier}
 use Rattle.vx_sound_preds.proofs.Adding.{Sound, Grounded, Fine, IsEntry, AreEntries, Adds, added, added_append, fine_gained, location_entries, instance_entries}
 use Rattle.vx_sound_preds.proofs.Folding.{Stock}
 use Rattle.vx_sound_preds.proofs.Frames.{gains_fine}
 use Rattle.vx_sound_preds.proofs.Taking.{taken, lost_stock, part_of}
 use Rattle.vx_sound_funcs.specs.Told.{Says, AllSay}
 use Rattle.vx_sound_funcs.specs.Firm.{firmly, HasRigidArguments}
+use Rattle.vx_sound_funcs.specs.Laws.{SpeakNow}
+use Rattle.vx_sound_funcs.proofs.Fits.{fit_more, firm_allows}
+use Rattle.vx_sound.proofs.Stripped.{fit_worth}
 use Rattle.vx_sound_funcs.proofs.Likes.{Likes, itself, rewritten, AllLike, Found}
 use Rattle.vx_sound_funcs.proofs.Sees.{Matches, AppliesAlike, see, see_all}
 use Rattle.vx_sound_funcs.proofs.Alike.{firm_open}
-use Rattle.vx_asks.specs.Asking.{asking_entries, IsAsking}
+use Rattle.vx_asks.specs.Asking.{asking_entries, IsAskingAmount, IsAsking}
+
+pub above : {p : Program} {share : Expr} (k : IsAskingAmount p share) → Positive k.amount
+above k = record { holds = k.above }
 
 -- Values that are alike
 
@@ -115,7 +121,7 @@ module _ (p : Program) (m : ℕ) (h : Heap) (s : State) where
   moved a b hs rest e t = record { entries_of = t.entries_of; entries_are = e ∙ t.entries_are; can = t.can; rest_is = t.rest_is; stock = t.stock }
 
 -- what applies has like values, by n firmly and by m
-module _ (p : Program) (good : GoodBodies p) (n m : ℕ) (alike : AppliesAlike p (Fine p) (firmly p n) (applications p m) (HasRigidArguments p)) where
+module _ (p : Program) (good : GoodBodies p) (now : SpeakNow p) (n m : ℕ) (alike : AppliesAlike p (Fine p) (firmly p n) (applications p m) (HasRigidArguments p)) where
   pub found : (s t : State) (e : Expr) (v : Value) → Fine p s → Matches p s t → Says (HasRigidArguments p) e → fit p (firmly p n) s e ≡ Ok v → Found (value p (applications p m) t e) v
   found s t e v h k says eq = see p (Fine p) (firmly p n) (firm_open p good n) (applications p m) (HasRigidArguments p) alike s t h k e v says eq
 
@@ -136,8 +142,11 @@ module _ (p : Program) (good : GoodBodies p) (n m : ℕ) (alike : AppliesAlike p
       let same = all_like_rigid vs a.they rigid a.like in
       record { are = a.are ∙ ap Some same; rigid = subst AreRigid same rigid }
 
-  pub amount_is : (s : State) (share : Expr) (v : Value) (a : Fraction) (k : IsAmount p share) → Fine p s → fit p (firmly p n) s share ≡ Ok v → amount_of v ≡ Some a → a ≡ k.amount
-  amount_is s share v a k h eq am = amount_same v a k.amount am (sym (fit_framed p (Fine p) (firmly p n) (firm_open p good n) s s h (agrees_itself p s) share v k.plain eq) ∙ k.value_is s)
+  pub amount_is : (s : State) (share : Expr) (v : Value) (a : Fraction) (k : IsAskingAmount p share) → fit p (firmly p n) s share ≡ Ok v → amount_of v ≡ Some a → a ≡ k.amount
+  amount_is s share v a k eq am =
+      let self : n ≤ n = omega arith in
+      let worth = fit_worth p n s share v (fit_more p (firmly p n) (deeper p n) (firm_allows p now n n self) s share v eq) in
+      amount_same v a k.amount am (sym worth ∙ k.value_is (applications p n) s)
 
   -- Taking, where t has the same values
 
@@ -154,23 +163,23 @@ module _ (p : Program) (good : GoodBodies p) (n m : ℕ) (alike : AppliesAlike p
         let x = undo (field_part p (firmly p n) s at e f share) (take_part p (firmly p n) s full at hs) rest eq in
         let y = field_parts p (firmly p n) s at e f share x.it x.is in
         let r = receiver_is s t e f y.receiver y.location fine like k.0 y.receiver_is y.location_is in
-        let am = amount_is s share y.worth y.amount k.1 fine y.worth_is y.amount_is in
+        let am = amount_is s share y.worth y.amount k.1 y.worth_is y.amount_is in
         let part = part_of p full full-positive (firmly p n) s at hs rest (At y.location) y.amount x.it y.is x.then in
         let sign : Le none (product full y.amount) = product_sign {b = y.amount} none-full (record { holds = y.sign }) in
         one_taken p m s.heap t (Points at e f share) hs rest (At y.location) y.amount
-        (step (λ r. option_and_then (location_entry f r) (value p no_applications t share)) y.receiver r ∙ step (location_entry f y.receiver) (PermValue k.1.amount) (k.1.value_is t) ∙ located f y.receiver y.location k.1.amount y.amount y.location_is (sym am))
+        (step (λ r. option_and_then (location_entry f r) (value p no_applications t share)) y.receiver r ∙ step (location_entry f y.receiver) (PermValue k.1.amount) (k.1.value_is no_applications t) ∙ located f y.receiver y.location k.1.amount y.amount y.location_is (sym am))
         tt (subst (Stock p s.heap) part.rest_is (lost_stock p full full-positive s.heap hs (At y.location) (product full y.amount) tt sign part.below st)) part.rest_is
     take_asks (syntax.Instance at i es share) hs rest k st eq =
         let x = undo (instance_part p (firmly p n) s at i es share) (take_part p (firmly p n) s full at hs) rest eq in
         let y = instance_parts p (firmly p n) s at i es share x.it x.is in
         let j : Instance = record { predicate = i; arguments = y.arguments } in
         let r = arguments s t i es y.arguments fine like k.0 k.2 y.arguments_are in
-        let am = amount_is s share y.worth y.amount k.1 fine y.worth_is y.amount_is in
+        let am = amount_is s share y.worth y.amount k.1 y.worth_is y.amount_is in
         let part = part_of p full full-positive (firmly p n) s at hs rest (Folded j) y.amount x.it y.is x.then in
         let sign : Le none (product full y.amount) = product_sign {b = y.amount} none-full (record { holds = y.sign }) in
-        let positive : Positive (product full y.amount) = product_positive {b = y.amount} full-positive (subst Positive (sym am) (above_none k.1)) in
+        let positive : Positive (product full y.amount) = product_positive {b = y.amount} full-positive (subst Positive (sym am) (above k.1)) in
         one_taken p m s.heap t (syntax.Instance at i es share) hs rest (Folded j) y.amount
-        (step (λ vs. option_and_then (instance_entry i vs) (value p no_applications t share)) y.arguments r.are ∙ step (instance_entry i y.arguments) (PermValue k.1.amount) (k.1.value_is t) ∙ folded_in i y.arguments k.1.amount y.amount (sym am))
+        (step (λ vs. option_and_then (instance_entry i vs) (value p no_applications t share)) y.arguments r.are ∙ step (instance_entry i y.arguments) (PermValue k.1.amount) (k.1.value_is no_applications t) ∙ folded_in i y.arguments k.1.amount y.amount (sym am))
         (st.grounded j (positive-le positive part.below))
         (subst (Stock p s.heap) part.rest_is (lost_stock p full full-positive s.heap hs (Folded j) (product full y.amount) r.rigid sign part.below st)) part.rest_is
     take_asks (Both a b) hs rest k st eq =
@@ -275,9 +284,9 @@ module _ (p : Program) (good : GoodBodies p) (n m : ℕ) (alike : AppliesAlike p
         let b = undo (field_part p (firmly p n) s at e x share) (add_part p (firmly p n) full s) u eq in
         let y = field_parts p (firmly p n) s at e x share b.it b.is in
         let r = receiver_is s t e x y.receiver y.location f (matches_seen p s t sees) k.0 y.receiver_is y.location_is in
-        let am = amount_is s share y.worth y.amount k.1 f y.worth_is y.amount_is in
+        let am = amount_is s share y.worth y.amount k.1 y.worth_is y.amount_is in
         let es_is = location_entries p full none-full x y.receiver (PermValue k.1.amount) y.location y.amount es y.location_is (ap Some (sym am))
-        (sym (step (location_entry x y.receiver) (PermValue k.1.amount) (k.1.value_is t)) ∙ sym (step (λ r. option_and_then (location_entry x r) (value p no_applications t share)) y.receiver r) ∙ en) in
+        (sym (step (location_entry x y.receiver) (PermValue k.1.amount) (k.1.value_is no_applications t)) ∙ sym (step (λ r. option_and_then (location_entry x r) (value p no_applications t share)) y.receiver r) ∙ en) in
         subst (λ (es : Holdings). Adds p full es s u) (sym es_is)
         (subst (Adds p full ((At y.location, y.amount) ∷ []) s) (part_is s u (At y.location) y.amount b.it y.is b.then) (fine_gained p full none-full (At y.location) y.amount s tt tt (record { holds = y.sign }) f))
     add_asks (syntax.Instance at i xs share) s u es k f sees en ok eq =
@@ -285,9 +294,9 @@ module _ (p : Program) (good : GoodBodies p) (n m : ℕ) (alike : AppliesAlike p
         let y = instance_parts p (firmly p n) s at i xs share b.it b.is in
         let j : Instance = record { predicate = i; arguments = y.arguments } in
         let r = arguments s t i xs y.arguments f (matches_seen p s t sees) k.0 k.2 y.arguments_are in
-        let am = amount_is s share y.worth y.amount k.1 f y.worth_is y.amount_is in
+        let am = amount_is s share y.worth y.amount k.1 y.worth_is y.amount_is in
         let es_is = instance_entries p full none-full i y.arguments (PermValue k.1.amount) y.amount es (ap Some (sym am))
-        (sym (step (instance_entry i y.arguments) (PermValue k.1.amount) (k.1.value_is t)) ∙ sym (step (λ vs. option_and_then (instance_entry i vs) (value p no_applications t share)) y.arguments r.are) ∙ en) in
+        (sym (step (instance_entry i y.arguments) (PermValue k.1.amount) (k.1.value_is no_applications t)) ∙ sym (step (λ vs. option_and_then (instance_entry i vs) (value p no_applications t share)) y.arguments r.are) ∙ en) in
         let entry = subst (AreEntries p s.heap) es_is ok in
         subst (λ (es : Holdings). Adds p full es s u) (sym es_is)
         (subst (Adds p full ((Folded j, y.amount) ∷ []) s) (part_is s u (Folded j) y.amount b.it y.is b.then) (fine_gained p full none-full (Folded j) y.amount s r.rigid entry.0 (record { holds = y.sign }) f))

@@ -19,17 +19,18 @@ use Rattle.vx_sound_preds.proofs.Fitting.{undo, step, some_is}
 use Rattle.vx_sound_preds.proofs.Flats.{came}
 use Rattle.vx_sound_preds.proofs.Looks.{Sees}
 use Rattle.vx_sound_preds.proofs.Totals.{weight}
-use Rattle.vx_sound_preds.proofs.Framing.{Later, field_parts, instance_parts, ok_same, failed, above_none, add_earlier}
+use Rattle.vx_sound_preds.proofs.Framing.{Later, field_parts, instance_parts, ok_same, failed, add_earlier}
 use Rattle.vx_sound_preds.proofs.Adding.{Sound, Grounded, Fine, added, added_append, location_entries, instance_entries}
 use Rattle.vx_sound_preds.proofs.Frames.{gains_fine}
 use Rattle.vx_sound_funcs.specs.Firm.{firmly}
+use Rattle.vx_sound_funcs.specs.Laws.{SpeakNow}
 use Rattle.vx_sound_funcs.proofs.Likes.{Likes, likes}
 use Rattle.vx_sound_funcs.proofs.Sees.{Matches}
 use Rattle.vx_sound_funcs.proofs.Alike.{firm_open}
 use Rattle.vx_sound_funcs.proofs.Bodies.{matches_at, matches_within, SameTrees}
 use Rattle.vx_asks.specs.Asking.{asking_tree, asking_entries, IsAsking}
 use Rattle.vx_asks.proofs.Entering.{Alike}
-use Rattle.vx_asks.proofs.Taking.{truth_like, condition_like, matches_seen, truth_entries, found, receiver_is, arguments, amount_is, part_is, add_later_asks}
+use Rattle.vx_asks.proofs.Taking.{above, truth_like, condition_like, matches_seen, truth_entries, found, receiver_is, arguments, amount_is, part_is, add_later_asks}
 
 leaf_told : (p : Program) (h g : Heap) (f : Name) (r : Value) (l : Location) (t : Tree) → location_of f r ≡ Some l → location_leaf p h f r ≡ Some t → location_leaf p g f r ≡ Some t → Likes (value_at p h l) (value_at p g l)
 leaf_told p h g f (RefValue r) l t at e k =
@@ -73,7 +74,7 @@ side_told at (RefValue z) x y u x₁ y₁ x₂ y₂ t a₁ b₁ a₂ b₂ es k l
 side_told at (PermValue z) x y u x₁ y₁ x₂ y₂ t a₁ b₁ a₂ b₂ es k l e f g h = absurd (failed at u e)
 
 -- The tree by f is that in a state with the same variables and heap, the tree by g that in a second state.
-module _ (p : Program) (good : GoodBodies p) (n m : ℕ) (alike : Alike p n m) (f g : Instance → Option Tree) (o t : State) where
+module _ (p : Program) (good : GoodBodies p) (now : SpeakNow p) (n m : ℕ) (alike : Alike p n m) (f g : Instance → Option Tree) (o t : State) where
   -- what lies under an instance that is held is alike, if its trees are the same
   abbrev pub TreesTell : State → Type 0
   TreesTell u = (j : Instance) → Positive (amount u.holdings (Folded j)) → (tree : Tree) → f j ≡ Some tree → g j ≡ Some tree →
@@ -92,8 +93,8 @@ module _ (p : Program) (good : GoodBodies p) (n m : ℕ) (alike : Alike p n m) (
       asking_tree p (applications p m) f o a ≡ Some tree → asking_tree p (applications p m) g t a ≡ Some tree → asking_entries p (applications p m) o a ≡ Some es → Told s u es a
   told (Pure e) s u tree es k h hu eq sees like tell here there en =
       let x = undo (fit p (firmly p n) s e) (λ _. Ok s) u eq in
-      let v = found p good n m alike s o e x.it h (matches_seen p s o sees) k x.is in
-      let w = found p good n m alike s t e x.it h like k x.is in
+      let v = found p good now n m alike s o e x.it h (matches_seen p s o sees) k x.is in
+      let w = found p good now n m alike s t e x.it h like k x.is in
       let on = λ (v : Value). cond (is_true v) (Some []) None in
       let truth = truth_like x.it w.it w.like ∙ sym (truth_like x.it v.it v.like) in
       let side : on v.it ≡ Some es = sym (step on v.it v.is) ∙ en in
@@ -108,16 +109,16 @@ module _ (p : Program) (good : GoodBodies p) (n m : ℕ) (alike : Alike p n m) (
   told (Points at e x share) s u tree es k h hu eq sees like tell here there en =
       let b = undo (field_part p (firmly p n) s at e x share) (add_part p (firmly p n) full s) u eq in
       let y = field_parts p (firmly p n) s at e x share b.it b.is in
-      let v = receiver_is p good n m alike s o e x y.receiver y.location h (matches_seen p s o sees) k.0 y.receiver_is y.location_is in
-      let w = receiver_is p good n m alike s t e x y.receiver y.location h like k.0 y.receiver_is y.location_is in
+      let v = receiver_is p good now n m alike s o e x y.receiver y.location h (matches_seen p s o sees) k.0 y.receiver_is y.location_is in
+      let w = receiver_is p good now n m alike s t e x y.receiver y.location h like k.0 y.receiver_is y.location_is in
       let here' = sym (step (location_leaf p o.heap x) y.receiver v) ∙ here in
       let alike' = subst (λ (q : Heap). Likes (value_at p q y.location) (value_at p t.heap y.location)) sees.heap (leaf_told p o.heap t.heap x y.receiver y.location tree y.location_is here' (sym (step (location_leaf p t.heap x) y.receiver w) ∙ there)) in
-      let am = amount_is p good n m alike s share y.worth y.amount k.1 h y.worth_is y.amount_is in
-      let u_is = part_is p good n m alike s u (At y.location) y.amount b.it y.is b.then in
+      let am = amount_is p good now n m alike s share y.worth y.amount k.1 y.worth_is y.amount_is in
+      let u_is = part_is p good now n m alike s u (At y.location) y.amount b.it y.is b.then in
       let side : location_entry x y.receiver (PermValue k.1.amount) ≡ Some es =
-      sym (step (location_entry x y.receiver) (PermValue k.1.amount) (k.1.value_is o)) ∙ sym (step (λ r. option_and_then (location_entry x r) (value p no_applications o share)) y.receiver v) ∙ en in
+      sym (step (location_entry x y.receiver) (PermValue k.1.amount) (k.1.value_is no_applications o)) ∙ sym (step (λ r. option_and_then (location_entry x r) (value p no_applications o share)) y.receiver v) ∙ en in
       let es_is = location_entries p full none-full x y.receiver (PermValue k.1.amount) y.location k.1.amount es y.location_is refl side in (
-        step (λ r. option_and_then (location_entry x r) (value p no_applications t share)) y.receiver w ∙ step (location_entry x y.receiver) (PermValue k.1.amount) (k.1.value_is t) ∙ side,
+        step (λ r. option_and_then (location_entry x r) (value p no_applications t share)) y.receiver w ∙ step (location_entry x y.receiver) (PermValue k.1.amount) (k.1.value_is no_applications t) ∙ side,
         (
           subst (λ (u : State). Matches p u t) u_is (matches_at p s t y.location (product full y.amount) alike' like),
           subst (SameTrees f g) (sym es_is) tt,
@@ -128,21 +129,21 @@ module _ (p : Program) (good : GoodBodies p) (n m : ℕ) (alike : Alike p n m) (
       let inst = λ (vs : List Value). let j : Instance = record { predicate = i; arguments = vs } in j in
       let b = undo (instance_part p (firmly p n) s at i xs share) (add_part p (firmly p n) full s) u eq in
       let y = instance_parts p (firmly p n) s at i xs share b.it b.is in
-      let vs = arguments p good n m alike s o i xs y.arguments h (matches_seen p s o sees) k.0 k.2 y.arguments_are in
-      let ws = arguments p good n m alike s t i xs y.arguments h like k.0 k.2 y.arguments_are in
-      let am = amount_is p good n m alike s share y.worth y.amount k.1 h y.worth_is y.amount_is in
-      let positive = subst Positive (sym am) (above_none k.1) in
+      let vs = arguments p good now n m alike s o i xs y.arguments h (matches_seen p s o sees) k.0 k.2 y.arguments_are in
+      let ws = arguments p good now n m alike s t i xs y.arguments h like k.0 k.2 y.arguments_are in
+      let am = amount_is p good now n m alike s share y.worth y.amount k.1 y.worth_is y.amount_is in
+      let positive = subst Positive (sym am) (above k.1) in
       let j = inst y.arguments in
       let after : State = with_holdings (gained (Folded j) (product full y.amount) s.holdings) s in
-      let u_is : after ≡ u = part_is p good n m alike s u (Folded j) y.amount b.it y.is b.then in
+      let u_is : after ≡ u = part_is p good now n m alike s u (Folded j) y.amount b.it y.is b.then in
       let held : Positive (amount after.holdings (Folded j)) = (gains_fine p good full full-positive).in_it s j y.amount h.forth vs.rigid positive in
       let here_is : f j ≡ Some tree = sym (step (λ vs. f (inst vs)) y.arguments vs.are) ∙ here in
       let there_is : g j ≡ Some tree = sym (step (λ vs. g (inst vs)) y.arguments ws.are) ∙ there in
       let all = subst TreesTell (sym u_is) tell in
       let side : instance_entry i y.arguments (PermValue k.1.amount) ≡ Some es =
-      sym (step (instance_entry i y.arguments) (PermValue k.1.amount) (k.1.value_is o)) ∙ sym (step (λ vs. option_and_then (instance_entry i vs) (value p no_applications o share)) y.arguments vs.are) ∙ en in
+      sym (step (instance_entry i y.arguments) (PermValue k.1.amount) (k.1.value_is no_applications o)) ∙ sym (step (λ vs. option_and_then (instance_entry i vs) (value p no_applications o share)) y.arguments vs.are) ∙ en in
       let es_is = instance_entries p full none-full i y.arguments (PermValue k.1.amount) k.1.amount es refl side in (
-        step (λ vs. option_and_then (instance_entry i vs) (value p no_applications t share)) y.arguments ws.are ∙ step (instance_entry i y.arguments) (PermValue k.1.amount) (k.1.value_is t) ∙ side,
+        step (λ vs. option_and_then (instance_entry i vs) (value p no_applications t share)) y.arguments ws.are ∙ step (instance_entry i y.arguments) (PermValue k.1.amount) (k.1.value_is no_applications t) ∙ side,
         (
           subst (λ (u : State). Matches p u t) u_is (matches_within p good s t j (product full y.amount) (all j held tree here_is there_is) like),
           subst (SameTrees f g) (sym es_is) ((tree, here_is, there_is), tt),
@@ -152,9 +153,9 @@ module _ (p : Program) (good : GoodBodies p) (n m : ℕ) (alike : Alike p n m) (
   told (Both a b) s u tree es k h hu eq sees like tell here there en =
       let x = undo (add p (firmly p n) full a s) (λ q. add p (firmly p n) full b q) u eq in
       let mid = add_earlier p Rigid Sound (Grounded p) (firmly p n) (firm_open p good n) full (gains_fine p good full full-positive) b x.it u x.then hu in
-      let first_later = add_later_asks p good n m alike a s x.it k.0 h mid x.is in
+      let first_later = add_later_asks p good now n m alike a s x.it k.0 h mid x.is in
       let known : Fine p x.it = record { typed = first_later.typed; forth = first_later.forth; back = mid } in
-      let later = add_later_asks p good n m alike b x.it u k.1 known hu x.then in
+      let later = add_later_asks p good now n m alike b x.it u k.1 known hu x.then in
       let sees' : Sees x.it o = record { store = sees.store ∙ sym first_later.store; heap = sees.heap ∙ sym first_later.heap } in
       let y = came (asking_entries p (applications p m) o a) (λ xs. option_and_then (λ ys. Some (xs ++ ys)) (asking_entries p (applications p m) o b)) es en in
       let z = came (asking_entries p (applications p m) o b) (λ ys. Some (y.it ++ ys)) es y.then in
@@ -175,8 +176,8 @@ module _ (p : Program) (good : GoodBodies p) (n m : ℕ) (alike : Alike p n m) (
       )
   told (Implied c a) s u tree es k h hu eq sees like tell here there en =
       let x = undo (fit p (firmly p n) s c) (λ v. choose (place_of c) v (add p (firmly p n) full a s) (Ok s)) u eq in
-      let v₁ = found p good n m alike s o c x.it h (matches_seen p s o sees) k.0 x.is in
-      let w₁ = found p good n m alike s t c x.it h like k.0 x.is in
+      let v₁ = found p good now n m alike s o c x.it h (matches_seen p s o sees) k.0 x.is in
+      let w₁ = found p good now n m alike s t c x.it h like k.0 x.is in
       let v = v₁.is ∙ ap Some (condition_like (place_of c) x.it v₁.it (add p (firmly p n) full a s) (Ok s) u v₁.like x.then) in
       let w = w₁.is ∙ ap Some (condition_like (place_of c) x.it w₁.it (add p (firmly p n) full a s) (Ok s) u w₁.like x.then) in
       let r = side_told {R = Matches p u t × SameTrees f g es × (u.holdings ≡ added full es s.holdings)} (place_of c) x.it (add p (firmly p n) full a s) (Ok s) u
@@ -190,8 +191,8 @@ module _ (p : Program) (good : GoodBodies p) (n m : ℕ) (alike : Alike p n m) (
       (step (λ v. plain.choose v (asking_entries p (applications p m) t a) (Some [])) x.it w ∙ r.0, r.1)
   told (Chosen c a b) s u tree es k h hu eq sees like tell here there en =
       let x = undo (fit p (firmly p n) s c) (λ v. choose (place_of c) v (add p (firmly p n) full a s) (add p (firmly p n) full b s)) u eq in
-      let v₁ = found p good n m alike s o c x.it h (matches_seen p s o sees) k.0 x.is in
-      let w₁ = found p good n m alike s t c x.it h like k.0 x.is in
+      let v₁ = found p good now n m alike s o c x.it h (matches_seen p s o sees) k.0 x.is in
+      let w₁ = found p good now n m alike s t c x.it h like k.0 x.is in
       let v = v₁.is ∙ ap Some (condition_like (place_of c) x.it v₁.it (add p (firmly p n) full a s) (add p (firmly p n) full b s) u v₁.like x.then) in
       let w = w₁.is ∙ ap Some (condition_like (place_of c) x.it w₁.it (add p (firmly p n) full a s) (add p (firmly p n) full b s) u w₁.like x.then) in
       let r = side_told {R = Matches p u t × SameTrees f g es × (u.holdings ≡ added full es s.holdings)} (place_of c) x.it (add p (firmly p n) full a s) (add p (firmly p n) full b s) u

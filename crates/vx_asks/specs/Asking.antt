@@ -1,17 +1,17 @@
 -- The tree of an assertion whose expressions apply functions, and what is asked of such an assertion.
 use Rattle.std.specs.Prelude.{◌≡◌, ℕ, true, ◌++◌, [], Option, Some, None, Ok, if◌then◌else◌}
-use Rattle.vx_frac.specs.Fractions.{full, is_positive}
-use Rattle.vx_ast.specs.Syntax.{Name, Program, Function, function_named, conjoined, Assertion, Pure, Points, Both, Implied, Chosen}
+use Rattle.vx_frac.specs.Fractions.{Fraction, full, is_positive}
+use Rattle.vx_ast.specs.Syntax.{Name, Program, Function, function_named, conjoined, Expr, Assertion, Pure, Points, Both, Implied, Chosen}
 use Rattle.vx_ast.specs.Syntax as syntax
 use Rattle.vx_terms.specs.Interpretations.{Tree, Empty, Pair}
 use Rattle.vx_whole.specs.Now.{IsOfNow}
-use Rattle.vx_meaning.specs.Values.{◌>>=◌, is_true}
+use Rattle.vx_meaning.specs.Values.{◌>>=◌, PermValue, is_true}
 use Rattle.vx_meaning.specs.States.{State, Heap, Holdings, Instance, Folded, amount}
 use Rattle.vx_meaning.specs.Evaluate.{Applications, choose, value, values, applications}
 use Rattle.vx_meaning.specs.Flatten.{no_applications, bare, location_entry, instance_entry, IsGrounded}
 use Rattle.vx_meaning.specs.Fits.{add}
 use Rattle.vx_sound.specs.Snapshots.{location_leaf, truth_leaf, tree_by}
-use Rattle.vx_sound_preds.specs.Bodies.{Rigid, IsAmount}
+use Rattle.vx_sound_preds.specs.Bodies.{Rigid}
 use Rattle.vx_sound_funcs.specs.Told.{Says, AllSay, precondition_of}
 use Rattle.vx_sound_funcs.specs.Firm.{firmly, HasRigidArguments}
 
@@ -24,7 +24,7 @@ asking_tree p ap f s (Both a b) = asking_tree p ap f s a >>= λ t. asking_tree p
 asking_tree p ap f s (Implied c a) = value p ap s c >>= λ v. choose v (asking_tree p ap f s a) (Some Empty)
 asking_tree p ap f s (Chosen c a b) = value p ap s c >>= λ v. choose v (asking_tree p ap f s a) (asking_tree p ap f s b)
 
--- its entries; amounts apply nothing
+-- its entries; for amounts nothing need be applied
 abbrev pub asking_entries : Program → Applications → State → Assertion → Option Holdings
 asking_entries p ap s (Pure e) = value p ap s e >>= λ v. if is_true v then Some [] else None
 asking_entries p ap s (Points at e f share) = value p ap s e >>= λ r. value p no_applications s share >>= location_entry f r
@@ -37,12 +37,18 @@ asking_entries p ap s (Chosen c a b) = value p ap s c >>= λ v. choose v (asking
 abbrev pub IsAskingTreeOf : Program → State → Assertion → Tree → Type 0
 IsAskingTreeOf p s a t = (n : ℕ) × (asking_tree p (applications p n) (tree_by p n s.heap) s a ≡ Some t)
 
--- an assertion that may apply functions: without `old`, with amounts as in bodies of predicates; what functions and instances take is
--- no amount
+-- an amount that may apply functions, but is one fraction above none, whatever these are
+pub record IsAskingAmount (p : Program) (share : Expr) : Type 0 where
+  pub says : Says (HasRigidArguments p) share
+  pub amount : Fraction
+  pub above : is_positive amount ≡ true
+  pub value_is : (ap : Applications) (s : State) → value p ap s share ≡ Some (PermValue amount)
+
+-- an assertion that may apply functions: without `old`, and what functions and instances take is no amount
 abbrev pub IsAsking : Program → Assertion → Type 0
 IsAsking p (Pure e) = Says (HasRigidArguments p) e
-IsAsking p (Points at e f share) = Says (HasRigidArguments p) e × IsAmount p share
-IsAsking p (syntax.Instance at i es share) = AllSay (HasRigidArguments p) es × IsAmount p share × HasRigidArguments p i es
+IsAsking p (Points at e f share) = Says (HasRigidArguments p) e × IsAskingAmount p share
+IsAsking p (syntax.Instance at i es share) = AllSay (HasRigidArguments p) es × IsAskingAmount p share × HasRigidArguments p i es
 IsAsking p (Both a b) = IsAsking p a × IsAsking p b
 IsAsking p (Implied c a) = Says (HasRigidArguments p) c × IsAsking p a
 IsAsking p (Chosen c a b) = Says (HasRigidArguments p) c × IsAsking p a × IsAsking p b

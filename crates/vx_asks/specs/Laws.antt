@@ -11,7 +11,7 @@ use Rattle.vx_sound.specs.Snapshots.{assertion_tree}
 use Rattle.vx_sound_preds.specs.Bodies.{AreRigid, Rigid, IsPlainBody}
 use Rattle.vx_sound_preds.specs.Covered.{IsStocked}
 use Rattle.vx_sound_funcs.specs.Firm.{firm_application, firmly, FitsFirmly}
-use Rattle.vx_sound_funcs.specs.Told.{LooksLike, IsTreeOf, IsLike, precondition_of, IsValueOf}
+use Rattle.vx_sound_funcs.specs.Told.{LooksLike, IsTreeOf, HoldsJust, IsLike, precondition_of, IsValueOf}
 use Rattle.vx_asks.specs.Asking.{asking_tree, asking_entries, IsAskingTreeOf, IsAsking, HoldsFirmly}
 
 -- What applies nothing is asking, and both trees are the same, and both lists of entries, whatever is applied.
@@ -20,6 +20,10 @@ PlainIsAsking p =
     (a : Assertion) → IsPlainBody p Rigid a →
     IsAsking p a × ((f : Instance → Option Tree) (s : State) (ap : Applications) → (asking_tree p ap f s a ≡ assertion_tree p f s a) × (asking_entries p ap s a ≡ entries p s a)) ×
     ((s : State) (t : Tree) → (IsTreeOf p s a t → IsAskingTreeOf p s a t) × (IsAskingTreeOf p s a t → IsTreeOf p s a t))
+
+-- A state holds just what such an assertion gives, where it holds just what it gives firmly.
+abbrev pub JustIsFirmly : Program → (Heap → Instance → Type 0) → Type 0
+JustIsFirmly p Good = (a : Assertion) → IsPlainBody p Rigid a → (s : State) → (HoldsJust p Good a s → HoldsFirmly p Good a s) × (HoldsFirmly p Good a s → HoldsJust p Good a s)
 
 -- An assertion has one asking tree at most.
 abbrev pub AskingTreesAreSingle : Program → Type 0

@@ -8,11 +8,17 @@ ghost use Rattle.vx_whole.specs.Premises.{IsTypedProgram};
 ghost use Rattle.vx_sound_preds.specs.Bodies.{GoodBodies};
 ghost use Rattle.vx_sound_preds.specs.Covered.{Covered, IsProper, PredicatesPass};
 ghost use Rattle.vx_asks.specs.Asking.{AskingFunctions};
-ghost use Rattle.vx_asks.specs.Laws.{PlainIsAsking, AskingTreesAreSingle, AskingTreesTellWhatIsHeld, AskingTreesTellHoldings, AskingTreesTellFirmValues, AskingApplicationsAgree};
+ghost use Rattle.vx_asks.specs.Laws.{PlainIsAsking, JustIsFirmly, AskingTreesAreSingle, AskingTreesTellWhatIsHeld, AskingTreesTellHoldings, AskingTreesTellFirmValues, AskingApplicationsAgree};
 
 /// What applies no function is asking, and its asking tree is its tree: so nothing changes of what is proved of plain preconditions.
 pub fn plain_is_asking()
-    ensures { (p : Program) → PlainIsAsking p }
+    ensures trees { (p : Program) → PlainIsAsking p }
+    ensures holdings { (p : Program) (x : Name) → GoodBodies p → JustIsFirmly p (IsProper p x) }
+{}
+
+/// In a typed program all preconditions of functions are asking: they may apply any function.
+pub fn typed_functions_are_asking()
+    ensures { (p : Program) → IsTypedProgram p → AskingFunctions p }
 {}
 
 /// More fuel changes no asking tree, so an assertion has one at most.
@@ -25,17 +31,17 @@ pub fn asking_trees_are_single()
 pub fn asking_trees_tell_what_is_held()
     ensures values { (p : Program) (x : Name) → GoodBodies p → AskingFunctions p → Covered p (IsProper p x) → AskingTreesTellWhatIsHeld p (IsProper p x) }
     ensures holdings { (p : Program) (x : Name) → GoodBodies p → AskingFunctions p → Covered p (IsProper p x) → AskingTreesTellHoldings p (IsProper p x) }
-    ensures passed { (p : Program) (x : Name) (replies : Name → List Reply) → IsTypedProgram p → AskingFunctions p → PredicatesPass p x replies → AskingTreesTellWhatIsHeld p (IsProper p x) × AskingTreesTellHoldings p (IsProper p x) }
+    ensures passed { (p : Program) (x : Name) (replies : Name → List Reply) → IsTypedProgram p → PredicatesPass p x replies → AskingTreesTellWhatIsHeld p (IsProper p x) × AskingTreesTellHoldings p (IsProper p x) }
 {}
 
 /// The value of a function whose body fits firmly depends only on its arguments and on the asking tree of its precondition.
 pub fn asking_trees_tell_firm_values()
     ensures told { (p : Program) (x : Name) → GoodBodies p → AskingFunctions p → Covered p (IsProper p x) → AskingTreesTellFirmValues p (IsProper p x) }
-    ensures passed { (p : Program) (x : Name) (replies : Name → List Reply) → IsTypedProgram p → AskingFunctions p → PredicatesPass p x replies → AskingTreesTellFirmValues p (IsProper p x) }
+    ensures passed { (p : Program) (x : Name) (replies : Name → List Reply) → IsTypedProgram p → PredicatesPass p x replies → AskingTreesTellFirmValues p (IsProper p x) }
 {}
 
 /// So two applications at the same arguments, where the precondition has one asking tree, have values that look the same, if one of
 /// them is allowed firmly in a state that can be.
 pub fn asking_applications_agree()
-    ensures { (p : Program) (x : Name) (replies : Name → List Reply) → IsTypedProgram p → AskingFunctions p → PredicatesPass p x replies → AskingApplicationsAgree p x }
+    ensures { (p : Program) (x : Name) (replies : Name → List Reply) → IsTypedProgram p → PredicatesPass p x replies → AskingApplicationsAgree p x }
 {}

@@ -8,4 +8,4 @@ pub returns-clause-holdings : goal.returns-clause-holdings
 returns-clause-holdings c = holdings_told
 
 pub returns-clause-passed : goal.returns-clause-passed
-returns-clause-passed c = λ p x replies typed functions pass. (passed_held p x replies typed functions pass, passed_holdings p x replies typed functions pass)
+returns-clause-passed c = λ p x replies typed pass. (passed_held p x replies typed pass, passed_holdings p x replies typed pass)
