@@ -5,3 +5,4 @@ pub mod Told
 pub mod Holding
 pub mod Typed
 pub mod Agree
+pub mod Meanings

@@ -8,6 +8,7 @@ ghost use Rattle.vx_whole.specs.Premises.{IsTypedProgram};
 ghost use Rattle.vx_sound_preds.specs.Bodies.{GoodBodies};
 ghost use Rattle.vx_sound_preds.specs.Covered.{Covered, IsProper, PredicatesPass};
 ghost use Rattle.vx_asks.specs.Asking.{AskingFunctions};
+ghost use Rattle.vx_asks.specs.Means.{AskingSymbolsMeanOne};
 ghost use Rattle.vx_asks.specs.Laws.{PlainIsAsking, JustIsFirmly, AskingTreesAreSingle, AskingTreesTellWhatIsHeld, AskingTreesTellHoldings, AskingTreesTellFirmValues, AskingApplicationsAgree};
 
 /// What applies no function is asking, and its asking tree is its tree: so nothing changes of what is proved of plain preconditions.
@@ -44,4 +45,10 @@ pub fn asking_trees_tell_firm_values()
 /// them is allowed firmly in a state that can be.
 pub fn asking_applications_agree()
     ensures { (p : Program) (x : Name) (replies : Name → List Reply) → IsTypedProgram p → PredicatesPass p x replies → AskingApplicationsAgree p x }
+{}
+
+/// So the symbol of a function means one element at most, at an asking tree of its precondition and at its arguments: in every typed
+/// program where the walks of predicates passed.
+pub fn asking_symbols_mean_one()
+    ensures { (p : Program) (x : Name) (replies : Name → List Reply) → IsTypedProgram p → PredicatesPass p x replies → AskingSymbolsMeanOne p x }
 {}
