@@ -6,3 +6,4 @@ pub mod Holding
 pub mod Typed
 pub mod Agree
 pub mod Meanings
+pub mod Built
