@@ -7,3 +7,4 @@ pub mod Typed
 pub mod Agree
 pub mod Meanings
 pub mod Built
+pub mod Starting

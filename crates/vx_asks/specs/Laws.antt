@@ -1,15 +1,19 @@
 -- The laws of what asking trees tell.
-use Rattle.std.specs.Prelude.{◌≡◌, ℕ, List, Option, Some}
-use Rattle.vx_ast.specs.Syntax.{Name, Program, Function, function_named, Assertion}
+use Rattle.std.specs.Prelude.{◌≡◌, ℕ, List, Option, Some, Ok}
+use Rattle.vx_ast.specs.Syntax.{Name, Program, Function, function_named, Expr, Exprs, Assertion, Pure, Points, Both, Implied, Chosen}
+use Rattle.vx_ast.specs.Syntax as syntax
 use Rattle.vx_terms.specs.Interpretations.{Tree}
 use Rattle.vx_meaning.specs.Values.{Value}
-use Rattle.vx_meaning.specs.States.{State, Heap, Instance, bind, with_store}
+use Rattle.vx_meaning.specs.States.{State, Store, Heap, Instance, HaveTypes, bind, with_store}
+use Rattle.vx_meaning.specs.Fits.{Fits, Eventually, fit_all, deeper}
+use Rattle.vx_meaning.specs.Fails.{FunctionStarts}
+use Rattle.vx_whole.specs.Closure.{InClosure}
 use Rattle.vx_meaning.specs.Evaluate.{Applications}
 use Rattle.vx_meaning.specs.Consistent.{IsConsistent}
 use Rattle.vx_meaning.specs.Flatten.{entries}
 use Rattle.vx_sound.specs.Snapshots.{assertion_tree}
 use Rattle.vx_sound_preds.specs.Bodies.{AreRigid, Rigid, IsPlainBody}
-use Rattle.vx_sound_preds.specs.Covered.{IsStocked}
+use Rattle.vx_sound_preds.specs.Covered.{IsProper, IsStocked}
 use Rattle.vx_sound_funcs.specs.Firm.{firm_application, firmly, FitsFirmly}
 use Rattle.vx_sound_funcs.specs.Told.{LooksLike, IsTreeOf, HoldsJust, IsLike, precondition_of, IsValueOf}
 use Rattle.vx_asks.specs.Asking.{asking_tree, asking_entries, IsAskingTreeOf, IsAsking, HoldsFirmly}
@@ -53,3 +57,27 @@ AskingApplicationsAgree p x =
     (f : Name) (g : Function) → function_named p f ≡ Some g → (vs : List Value) → AreRigid vs → (n : ℕ) (s t : State) (v : Value) (tree : Tree) → IsConsistent p s → IsStocked p x s.holdings →
     firm_application p (firmly p n) f vs s ≡ Some v → IsAskingTreeOf p (with_store (bind g.parameters vs) s) (precondition_of g) tree → IsAskingTreeOf p (with_store (bind g.parameters vs) t) (precondition_of g) tree →
     (w : Value) × IsValueOf p f vs t w × LooksLike v w
+
+-- each expression that is evaluated of an assertion is as P says, and each list of arguments as Q says
+abbrev pub EachPart : (Expr → Type 0) → (Exprs → Type 0) → Assertion → Type 0
+EachPart P Q (Pure e) = P e
+EachPart P Q (Points at e f share) = P e × P share
+EachPart P Q (syntax.Instance at i es share) = Q es × P share
+EachPart P Q (Both a b) = EachPart P Q a × EachPart P Q b
+EachPart P Q (Implied c a) = P c × EachPart P Q a
+EachPart P Q (Chosen c a b) = P c × EachPart P Q a × EachPart P Q b
+
+-- with these variables and in this heap, in each state that can be, e fits firmly where it fits
+abbrev pub IsFirmAt : Program → Name → Store → Heap → Expr → Type 0
+IsFirmAt p x xs h e = (s : State) → s.store ≡ xs → s.heap ≡ h → IsConsistent p s → IsStocked p x s.holdings → (v : Value) → Fits p s e v → FitsFirmly p s e v
+
+abbrev pub AreFirmAt : Program → Name → Store → Heap → Exprs → Type 0
+AreFirmAt p x xs h es =
+    (s : State) → s.store ≡ xs → s.heap ≡ h → IsConsistent p s → IsStocked p x s.holdings → (vs : List Value) → Eventually (λ n. fit_all p (deeper p n) s es ≡ Ok vs) → (n : ℕ) × (fit_all p (firmly p n) s es ≡ Ok vs)
+
+-- Where a function of what x leads to starts, and the parts of its precondition fit firmly where they fit, just its precondition is
+-- held, firmly, with its arguments.
+abbrev pub StartsHoldFirmly : Program → Name → Type 0
+StartsHoldFirmly p x =
+    (f : Name) (g : Function) → function_named p f ≡ Some g → InClosure p x f → (s : State) → FunctionStarts p g s → EachPart (IsFirmAt p x s.store s.heap) (AreFirmAt p x s.store s.heap) (precondition_of g) →
+    HoldsFirmly p (IsProper p x) (precondition_of g) s × ((vs : List Value) × HaveTypes g.parameters vs × (s.store ≡ bind g.parameters vs))

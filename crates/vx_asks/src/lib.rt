@@ -9,7 +9,7 @@ ghost use Rattle.vx_sound_preds.specs.Bodies.{GoodBodies};
 ghost use Rattle.vx_sound_preds.specs.Covered.{Covered, IsProper, PredicatesPass};
 ghost use Rattle.vx_asks.specs.Asking.{AskingFunctions};
 ghost use Rattle.vx_asks.specs.Means.{AskingSymbolsMeanOne};
-ghost use Rattle.vx_asks.specs.Laws.{PlainIsAsking, JustIsFirmly, AskingTreesAreSingle, AskingTreesTellWhatIsHeld, AskingTreesTellHoldings, AskingTreesTellFirmValues, AskingApplicationsAgree};
+ghost use Rattle.vx_asks.specs.Laws.{PlainIsAsking, JustIsFirmly, AskingTreesAreSingle, AskingTreesTellWhatIsHeld, AskingTreesTellHoldings, AskingTreesTellFirmValues, AskingApplicationsAgree, StartsHoldFirmly};
 
 /// What applies no function is asking, and its asking tree is its tree: so nothing changes of what is proved of plain preconditions.
 pub fn plain_is_asking()
@@ -51,4 +51,10 @@ pub fn asking_applications_agree()
 /// program where the walks of predicates passed.
 pub fn asking_symbols_mean_one()
     ensures { (p : Program) (x : Name) (replies : Name → List Reply) → IsTypedProgram p → PredicatesPass p x replies → AskingSymbolsMeanOne p x }
+{}
+
+/// In a typed program a function starts where just its precondition is held, firmly, if the parts of the precondition fit firmly in this
+/// heap: as they do where what they apply keeps its promises there.
+pub fn starts_hold_firmly()
+    ensures { (p : Program) (x : Name) → IsTypedProgram p → StartsHoldFirmly p x }
 {}
