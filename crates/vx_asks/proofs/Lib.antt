@@ -8,3 +8,4 @@ pub mod Agree
 pub mod Meanings
 pub mod Built
 pub mod Starting
+pub mod Below

@@ -16,6 +16,8 @@ use Rattle.vx_sound_preds.specs.Bodies.{AreRigid, Rigid, IsPlainBody}
 use Rattle.vx_sound_preds.specs.Covered.{IsProper, IsStocked}
 use Rattle.vx_sound_funcs.specs.Firm.{firm_application, firmly, FitsFirmly}
 use Rattle.vx_sound_funcs.specs.Told.{LooksLike, IsTreeOf, HoldsJust, IsLike, precondition_of, IsValueOf}
+use Rattle.vx_ast.specs.Apart.{Stands, entered_by}
+use Rattle.vx_told.specs.Measures.{IsBelow}
 use Rattle.vx_asks.specs.Asking.{asking_tree, asking_entries, IsAskingTreeOf, IsAsking, HoldsFirmly}
 
 -- What applies nothing is asking, and both trees are the same, and both lists of entries, whatever is applied.
@@ -81,3 +83,8 @@ abbrev pub StartsHoldFirmly : Program → Name → Type 0
 StartsHoldFirmly p x =
     (f : Name) (g : Function) → function_named p f ≡ Some g → InClosure p x f → (s : State) → FunctionStarts p g s → EachPart (IsFirmAt p x s.store s.heap) (AreFirmAt p x s.store s.heap) (precondition_of g) →
     HoldsFirmly p (IsProper p x) (precondition_of g) s × ((vs : List Value) × HaveTypes g.parameters vs × (s.store ≡ bind g.parameters vs))
+
+-- What a precondition applies is below its function, in every heap and whatever the arguments: it is of a lower group.
+abbrev pub PreconditionsAskBelow : Program → Type 0
+PreconditionsAskBelow p =
+    (f : Name) (g : Function) (f' : Name) → function_named p f ≡ Some g → Stands f' (entered_by (precondition_of g)) → (h : Heap) (vs vs' : List Value) → IsBelow p h f vs f' vs'

@@ -9,7 +9,7 @@ ghost use Rattle.vx_sound_preds.specs.Bodies.{GoodBodies};
 ghost use Rattle.vx_sound_preds.specs.Covered.{Covered, IsProper, PredicatesPass};
 ghost use Rattle.vx_asks.specs.Asking.{AskingFunctions};
 ghost use Rattle.vx_asks.specs.Means.{AskingSymbolsMeanOne};
-ghost use Rattle.vx_asks.specs.Laws.{PlainIsAsking, JustIsFirmly, AskingTreesAreSingle, AskingTreesTellWhatIsHeld, AskingTreesTellHoldings, AskingTreesTellFirmValues, AskingApplicationsAgree, StartsHoldFirmly};
+ghost use Rattle.vx_asks.specs.Laws.{PlainIsAsking, JustIsFirmly, AskingTreesAreSingle, AskingTreesTellWhatIsHeld, AskingTreesTellHoldings, AskingTreesTellFirmValues, AskingApplicationsAgree, StartsHoldFirmly, PreconditionsAskBelow};
 
 /// What applies no function is asking, and its asking tree is its tree: so nothing changes of what is proved of plain preconditions.
 pub fn plain_is_asking()
@@ -57,4 +57,10 @@ pub fn asking_symbols_mean_one()
 /// heap: as they do where what they apply keeps its promises there.
 pub fn starts_hold_firmly()
     ensures { (p : Program) (x : Name) → IsTypedProgram p → StartsHoldFirmly p x }
+{}
+
+/// In a typed program what a precondition applies is below its function, since it doesn't lead back: so an induction over applications has
+/// shown what it keeps before the function starts.
+pub fn preconditions_ask_below()
+    ensures { (p : Program) → IsTypedProgram p → PreconditionsAskBelow p }
 {}
