@@ -32,10 +32,10 @@ use Rattle.vx_sound_funcs.proofs.Likes.{looks_like}
 use Rattle.vx_sound_funcs.proofs.Steps.{Steps, nothing_some, steps_of}
 use Rattle.vx_sound_funcs.proofs.Agree.{taken_amount, typed_all, holds_possible}
 use Rattle.vx_asks.specs.Asking.{IsAskingTreeOf, AskingFunctions, HoldsFirmly}
-use Rattle.vx_asks.specs.Laws.{AskingTreesTellWhatIsHeld, AskingTreesTellHoldings, AskingTreesTellFirmValues, AskingApplicationsAgree}
+use Rattle.vx_asks.specs.Laws.{AskingTreesTellWhatIsHeld, AskingTreesTellEntries, AskingTreesTellHoldings, AskingTreesTellFirmValues, AskingApplicationsAgree}
 use Rattle.vx_asks.proofs.Entering.{alike, Begun, begun, see_firmly}
 use Rattle.vx_asks.proofs.Typed.{asking_functions}
-use Rattle.vx_asks.proofs.Holding.{fine, matches, like, same_holdings}
+use Rattle.vx_asks.proofs.Holding.{fine, all, names, told_all, matches, like, same_holdings}
 
 itself : (s : State) → Sees s s
 itself s = record { store = refl; heap = refl }
@@ -106,6 +106,15 @@ module _ (p : Program) (x : Name) (good : GoodBodies p) (functions : AskingFunct
   pub held_told : AskingTreesTellWhatIsHeld p (IsProper p x)
   held_told a asks s t tree k store here there = like p good functions (IsProper p x) covered a asks s k s (itself s) t store tree here there
 
+  pub entries_told : AskingTreesTellEntries p (IsProper p x)
+  entries_told a asks s t tree k store here there =
+      let e = names p good functions (IsProper p x) covered a asks s k s (itself s) t store tree here there in (
+        all p good functions (IsProper p x) covered a asks s k s (itself s) t store tree here there,
+        e.entries_of,
+        e.are,
+        (told_all p good functions (IsProper p x) covered a asks s k s (itself s) t store tree here there).0,
+      )
+
   pub holdings_told : AskingTreesTellHoldings p (IsProper p x)
   holdings_told a asks s t tree k l store here there = same_holdings p good functions (IsProper p x) covered a asks s t k l store tree here there
 
@@ -118,6 +127,9 @@ module _ (p : Program) (x : Name) (replies : Name → List Reply) (typed : IsTyp
 
   pub passed_held : AskingTreesTellWhatIsHeld p (IsProper p x)
   passed_held = held_told p x (good p x typed) functions (bodies_covered p x replies typed pass)
+
+  pub passed_entries : AskingTreesTellEntries p (IsProper p x)
+  passed_entries = entries_told p x (good p x typed) functions (bodies_covered p x replies typed pass)
 
   pub passed_holdings : AskingTreesTellHoldings p (IsProper p x)
   passed_holdings = holdings_told p x (good p x typed) functions (bodies_covered p x replies typed pass)

@@ -4,11 +4,11 @@ use Rattle.vx_ast.specs.Syntax.{Name, Program, Function, function_named, Expr, E
 use Rattle.vx_ast.specs.Syntax as syntax
 use Rattle.vx_terms.specs.Interpretations.{Tree}
 use Rattle.vx_meaning.specs.Values.{Value}
-use Rattle.vx_meaning.specs.States.{State, Store, Heap, Instance, HaveTypes, bind, with_store}
+use Rattle.vx_meaning.specs.States.{State, Store, Heap, Holdings, Instance, HaveTypes, bind, with_store}
 use Rattle.vx_meaning.specs.Fits.{Fits, Eventually, fit_all, deeper}
 use Rattle.vx_meaning.specs.Fails.{FunctionStarts}
 use Rattle.vx_whole.specs.Closure.{InClosure}
-use Rattle.vx_meaning.specs.Evaluate.{Applications}
+use Rattle.vx_meaning.specs.Evaluate.{Applications, applications}
 use Rattle.vx_meaning.specs.Consistent.{IsConsistent}
 use Rattle.vx_meaning.specs.Flatten.{entries}
 use Rattle.vx_sound.specs.Snapshots.{assertion_tree}
@@ -39,6 +39,12 @@ AskingTreesAreSingle p = (a : Assertion) (s : State) (t u : Tree) → IsAskingTr
 abbrev pub AskingTreesTellWhatIsHeld : Program → (Heap → Instance → Type 0) → Type 0
 AskingTreesTellWhatIsHeld p Good =
     (a : Assertion) → IsAsking p a → (s t : State) (tree : Tree) → HoldsFirmly p Good a s → t.store ≡ s.store → IsAskingTreeOf p s a tree → IsAskingTreeOf p t a tree → IsLike p s t
+
+-- It names the same there.
+abbrev pub AskingTreesTellEntries : Program → (Heap → Instance → Type 0) → Type 0
+AskingTreesTellEntries p Good =
+    (a : Assertion) → IsAsking p a → (s t : State) (tree : Tree) → HoldsFirmly p Good a s → t.store ≡ s.store → IsAskingTreeOf p s a tree → IsAskingTreeOf p t a tree →
+    (n : ℕ) × (es : Holdings) × (asking_entries p (applications p n) s a ≡ Some es) × (asking_entries p (applications p n) t a ≡ Some es)
 
 -- Two such states hold the same.
 abbrev pub AskingTreesTellHoldings : Program → (Heap → Instance → Type 0) → Type 0

@@ -9,7 +9,7 @@ ghost use Rattle.vx_sound_preds.specs.Bodies.{GoodBodies};
 ghost use Rattle.vx_sound_preds.specs.Covered.{Covered, IsProper, PredicatesPass};
 ghost use Rattle.vx_asks.specs.Asking.{AskingFunctions};
 ghost use Rattle.vx_asks.specs.Means.{AskingSymbolsMeanOne};
-ghost use Rattle.vx_asks.specs.Laws.{PlainIsAsking, JustIsFirmly, AskingTreesAreSingle, AskingTreesTellWhatIsHeld, AskingTreesTellHoldings, AskingTreesTellFirmValues, AskingApplicationsAgree, StartsHoldFirmly, PreconditionsAskBelow};
+ghost use Rattle.vx_asks.specs.Laws.{PlainIsAsking, JustIsFirmly, AskingTreesAreSingle, AskingTreesTellWhatIsHeld, AskingTreesTellEntries, AskingTreesTellHoldings, AskingTreesTellFirmValues, AskingApplicationsAgree, StartsHoldFirmly, PreconditionsAskBelow};
 
 /// What applies no function is asking, and its asking tree is its tree: so nothing changes of what is proved of plain preconditions.
 pub fn plain_is_asking()
@@ -31,8 +31,9 @@ pub fn asking_trees_are_single()
 /// the values there: what is applied in it takes its own precondition from what is held so far, so its value is told too.
 pub fn asking_trees_tell_what_is_held()
     ensures values { (p : Program) (x : Name) → GoodBodies p → AskingFunctions p → Covered p (IsProper p x) → AskingTreesTellWhatIsHeld p (IsProper p x) }
+    ensures entries { (p : Program) (x : Name) → GoodBodies p → AskingFunctions p → Covered p (IsProper p x) → AskingTreesTellEntries p (IsProper p x) }
     ensures holdings { (p : Program) (x : Name) → GoodBodies p → AskingFunctions p → Covered p (IsProper p x) → AskingTreesTellHoldings p (IsProper p x) }
-    ensures passed { (p : Program) (x : Name) (replies : Name → List Reply) → IsTypedProgram p → PredicatesPass p x replies → AskingTreesTellWhatIsHeld p (IsProper p x) × AskingTreesTellHoldings p (IsProper p x) }
+    ensures passed { (p : Program) (x : Name) (replies : Name → List Reply) → IsTypedProgram p → PredicatesPass p x replies → AskingTreesTellWhatIsHeld p (IsProper p x) × AskingTreesTellEntries p (IsProper p x) × AskingTreesTellHoldings p (IsProper p x) }
 {}
 
 /// The value of a function whose body fits firmly depends only on its arguments and on the asking tree of its precondition.
