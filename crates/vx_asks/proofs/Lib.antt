@@ -9,3 +9,4 @@ pub mod Meanings
 pub mod Built
 pub mod Starting
 pub mod Below
+pub mod Seen

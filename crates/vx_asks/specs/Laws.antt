@@ -35,6 +35,10 @@ JustIsFirmly p Good = (a : Assertion) → IsPlainBody p Rigid a → (s : State) 
 abbrev pub AskingTreesAreSingle : Program → Type 0
 AskingTreesAreSingle p = (a : Assertion) (s : State) (t u : Tree) → IsAskingTreeOf p s a t → IsAskingTreeOf p s a u → t ≡ u
 
+-- It looks at the variables and at the heap alone.
+abbrev pub AskingTreesLook : Program → Type 0
+AskingTreesLook p = (a : Assertion) → IsAsking p a → (s t : State) (tree : Tree) → t.store ≡ s.store → t.heap ≡ s.heap → IsAskingTreeOf p s a tree → IsAskingTreeOf p t a tree
+
 -- A state that holds just what an assertion gives firmly is like each state with the same variables and the same asking tree of it.
 abbrev pub AskingTreesTellWhatIsHeld : Program → (Heap → Instance → Type 0) → Type 0
 AskingTreesTellWhatIsHeld p Good =

@@ -9,7 +9,7 @@ ghost use Rattle.vx_sound_preds.specs.Bodies.{GoodBodies};
 ghost use Rattle.vx_sound_preds.specs.Covered.{Covered, IsProper, PredicatesPass};
 ghost use Rattle.vx_asks.specs.Asking.{AskingFunctions};
 ghost use Rattle.vx_asks.specs.Means.{AskingSymbolsMeanOne};
-ghost use Rattle.vx_asks.specs.Laws.{PlainIsAsking, JustIsFirmly, AskingTreesAreSingle, AskingTreesTellWhatIsHeld, AskingTreesTellEntries, AskingTreesTellHoldings, AskingTreesTellFirmValues, AskingApplicationsAgree, StartsHoldFirmly, PreconditionsAskBelow};
+ghost use Rattle.vx_asks.specs.Laws.{PlainIsAsking, JustIsFirmly, AskingTreesAreSingle, AskingTreesLook, AskingTreesTellWhatIsHeld, AskingTreesTellEntries, AskingTreesTellHoldings, AskingTreesTellFirmValues, AskingApplicationsAgree, StartsHoldFirmly, PreconditionsAskBelow};
 
 /// What applies no function is asking, and its asking tree is its tree: so nothing changes of what is proved of plain preconditions.
 pub fn plain_is_asking()
@@ -22,9 +22,10 @@ pub fn typed_functions_are_asking()
     ensures { (p : Program) → IsTypedProgram p → AskingFunctions p }
 {}
 
-/// More fuel changes no asking tree, so an assertion has one at most.
+/// More fuel changes no asking tree, so an assertion has one at most; and in a typed program it looks at the variables and at the heap alone.
 pub fn asking_trees_are_single()
-    ensures { (p : Program) → AskingTreesAreSingle p }
+    ensures single { (p : Program) → AskingTreesAreSingle p }
+    ensures look { (p : Program) → IsTypedProgram p → AskingTreesLook p }
 {}
 
 /// The asking tree of an assertion, as a precondition, tells what a state holds that holds just what the assertion gives firmly, and
