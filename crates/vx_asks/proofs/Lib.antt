@@ -10,3 +10,4 @@ pub mod Built
 pub mod Starting
 pub mod Below
 pub mod Seen
+pub mod Worked

@@ -1,13 +1,16 @@
 //! What preconditions that apply functions tell.
 #![tactic(auto)]
 
-ghost use Rattle.std.specs.Prelude.{List};
+ghost use Rattle.std.specs.Prelude.{ℤ, pos, List};
 ghost use Rattle.vx_ast.specs.Syntax.{Name, Program};
 ghost use Rattle.vx_smt_meaning.specs.declared.reply.Reply.{Reply};
 ghost use Rattle.vx_whole.specs.Premises.{IsTypedProgram};
 ghost use Rattle.vx_sound_preds.specs.Bodies.{GoodBodies};
 ghost use Rattle.vx_sound_preds.specs.Covered.{Covered, IsProper, PredicatesPass};
-ghost use Rattle.vx_asks.specs.Asking.{AskingFunctions};
+ghost use Rattle.vx_terms.specs.Interpretations.{Tree, IntLeaf, Pair};
+ghost use Rattle.vx_sound_funcs.specs.Told.{IsTreeOf, precondition_of};
+ghost use Rattle.vx_asks.specs.Asking.{IsAskingTreeOf, AskingFunctions, HoldsFirmly};
+ghost use Rattle.vx_asks.specs.Examples.{part, parts, tagged, both_held};
 ghost use Rattle.vx_asks.specs.Means.{AskingSymbolsMeanOne};
 ghost use Rattle.vx_asks.specs.Laws.{PlainIsAsking, JustIsFirmly, AskingTreesAreSingle, AskingTreesLook, AskingTreesTellWhatIsHeld, AskingTreesTellEntries, AskingTreesTellHoldings, AskingTreesTellFirmValues, AskingApplicationsAgree, StartsHoldFirmly, PreconditionsAskBelow};
 
@@ -65,4 +68,12 @@ pub fn starts_hold_firmly()
 /// shown what it keeps before the function starts.
 pub fn preconditions_ask_below()
     ensures { (p : Program) → IsTypedProgram p → PreconditionsAskBelow p }
+{}
+
+/// `part(x)` asks for x.f, and for x.g where `kind(x)` is 0, which reads x.f: where both are held and x.f is 0 its precondition has an asking
+/// tree, the two values, and is held firmly; it has no tree.
+pub fn a_part_is_told_by_a_function()
+    ensures tree { (z : ℤ) → IsAskingTreeOf tagged (both_held z) (precondition_of parts) (Pair (IntLeaf (pos 0)) (IntLeaf z)) }
+    ensures none { (z : ℤ) (t : Tree) → IsTreeOf tagged (both_held z) (precondition_of parts) t → ⊥ }
+    ensures holds { (z : ℤ) → HoldsFirmly tagged (IsProper tagged part) (precondition_of parts) (both_held z) }
 {}
