@@ -11,3 +11,4 @@ pub mod Starting
 pub mod Below
 pub mod Seen
 pub mod Worked
+pub mod Firmly

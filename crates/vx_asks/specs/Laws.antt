@@ -5,7 +5,8 @@ use Rattle.vx_ast.specs.Syntax as syntax
 use Rattle.vx_terms.specs.Interpretations.{Tree}
 use Rattle.vx_meaning.specs.Values.{Value}
 use Rattle.vx_meaning.specs.States.{State, Store, Heap, Holdings, Instance, HaveTypes, bind, with_store}
-use Rattle.vx_meaning.specs.Fits.{Fits, Eventually, fit_all, deeper}
+use Rattle.vx_meaning.specs.Fits.{Fits, Takes, Eventually, fit_all, take, deeper}
+use Rattle.vx_frac.specs.Fractions.{Fraction}
 use Rattle.vx_meaning.specs.Fails.{FunctionStarts}
 use Rattle.vx_whole.specs.Closure.{InClosure}
 use Rattle.vx_meaning.specs.Evaluate.{Applications, applications}
@@ -98,3 +99,14 @@ StartsHoldFirmly p x =
 abbrev pub PreconditionsAskBelow : Program → Type 0
 PreconditionsAskBelow p =
     (f : Name) (g : Function) (f' : Name) → function_named p f ≡ Some g → Stands f' (entered_by (precondition_of g)) → (h : Heap) (vs vs' : List Value) → IsBelow p h f vs f' vs'
+
+-- in this state e fits firmly where it fits
+abbrev pub IsOnlyFirm : Program → State → Expr → Type 0
+IsOnlyFirm p s e = (v : Value) → Fits p s e v → FitsFirmly p s e v
+
+abbrev pub AreOnlyFirm : Program → State → Exprs → Type 0
+AreOnlyFirm p s es = (vs : List Value) → Eventually (λ n. fit_all p (deeper p n) s es ≡ Ok vs) → (n : ℕ) × (fit_all p (firmly p n) s es ≡ Ok vs)
+
+-- What can be taken can be taken firmly, if its parts fit firmly where they fit.
+abbrev pub TakesFirmly : Program → Type 0
+TakesFirmly p = (a : Assertion) (s : State) (q : Fraction) (rest : Holdings) → EachPart (IsOnlyFirm p s) (AreOnlyFirm p s) a → Takes p s a q rest → (n : ℕ) × (take p (firmly p n) s q a s.holdings ≡ Ok rest)

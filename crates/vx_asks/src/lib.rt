@@ -12,7 +12,7 @@ ghost use Rattle.vx_sound_funcs.specs.Told.{IsTreeOf, precondition_of};
 ghost use Rattle.vx_asks.specs.Asking.{IsAskingTreeOf, AskingFunctions, HoldsFirmly};
 ghost use Rattle.vx_asks.specs.Examples.{part, parts, tagged, both_held};
 ghost use Rattle.vx_asks.specs.Means.{AskingSymbolsMeanOne};
-ghost use Rattle.vx_asks.specs.Laws.{PlainIsAsking, JustIsFirmly, AskingTreesAreSingle, AskingTreesLook, AskingTreesTellWhatIsHeld, AskingTreesTellEntries, AskingTreesTellHoldings, AskingTreesTellFirmValues, AskingApplicationsAgree, StartsHoldFirmly, PreconditionsAskBelow};
+ghost use Rattle.vx_asks.specs.Laws.{PlainIsAsking, JustIsFirmly, AskingTreesAreSingle, AskingTreesLook, AskingTreesTellWhatIsHeld, AskingTreesTellEntries, AskingTreesTellHoldings, AskingTreesTellFirmValues, AskingApplicationsAgree, StartsHoldFirmly, TakesFirmly, PreconditionsAskBelow};
 
 /// What applies no function is asking, and its asking tree is its tree: so nothing changes of what is proved of plain preconditions.
 pub fn plain_is_asking()
@@ -62,6 +62,11 @@ pub fn asking_symbols_mean_one()
 /// heap: as they do where what they apply keeps its promises there.
 pub fn starts_hold_firmly()
     ensures { (p : Program) (x : Name) → IsTypedProgram p → StartsHoldFirmly p x }
+{}
+
+/// What can be taken, as a precondition in its caller's state, can be taken firmly if its parts fit firmly there.
+pub fn what_is_taken_is_taken_firmly()
+    ensures { (p : Program) → TakesFirmly p }
 {}
 
 /// In a typed program what a precondition applies is below its function, since it doesn't lead back: so an induction over applications has
