@@ -1,0 +1,14 @@
+pub mod Same
+pub mod Taking
+pub mod Entering
+pub mod Told
+pub mod Holding
+pub mod Typed
+pub mod Agree
+pub mod Meanings
+pub mod Built
+pub mod Starting
+pub mod Below
+pub mod Seen
+pub mod Worked
+pub mod Firmly
