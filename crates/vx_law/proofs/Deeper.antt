@@ -1,7 +1,7 @@
 -- More fuel allows what less allows; what is exchanged leaves all of a state but what is held; and what fits has its value.
-use Rattle.std.proofs.Common.{◌≡◌, ℕ, zero, suc, ◌+◌, ◌-◌, ◌≤◌, pos, Bool, true, false, cond, List, [], ◌∷◌, Option, Some, None, refl, sym, ◌∙◌, ap, subst, arith}
-use Rattle.std.specs.Prelude.{Ok, Err, option_and_then}
-use Rattle.vx_frac.specs.Fractions.{Fraction, full, is_positive, over, product}
+use Rattle.std.proofs.Common.{◌≡◌, ℕ, zero, suc, pos, Bool, true, false, cond, List, [], ◌∷◌, Option, Some, None, refl, sym, ◌∙◌, ap, subst}
+use Rattle.std.specs.Prelude.{Ok, option_and_then}
+use Rattle.vx_frac.specs.Fractions.{Fraction, is_positive, over, product}
 use Rattle.vx_ast.specs.declared.Place.{Place}
 use Rattle.vx_ast.specs.Syntax.{Name, Program, Predicate, Function, predicate_named, function_named, place_of, Expr, Number, Truth, Null, Part, Variable, Not, Operate, Divide, Connect, Choose, Read, Old, Apply, Unfolding, Exprs, NoMore, More, Assertion, Pure, Points, Both, Implied, Chosen}
 use Rattle.vx_ast.specs.Syntax as syntax
@@ -9,94 +9,11 @@ use Rattle.vx_meaning.specs.Values.{Value, IntValue, BoolValue, RefValue, PermVa
 use Rattle.vx_meaning.specs.States.{State, Holdings, Instance, Folded, gained, lost, lookup, bind, at_old, value_at, amount, At, with_store, with_holdings}
 use Rattle.vx_meaning.specs.Evaluate as plain
 use Rattle.vx_meaning.specs.Evaluate.{Applications, applications, value, values, value_by}
-use Rattle.vx_meaning.specs.Fits.{Checked, ◌>>=◌, or_fail, guard, to_option, Deeper, choose, connected, location_of, amount_of, readable, has_instance, fit, fit_all, field_part, instance_part, take, add, add_part, application, exchange, deeper, Takes}
+use Rattle.vx_meaning.specs.Fits.{Checked, ◌>>=◌, or_fail, guard, to_option, Deeper, choose, connected, location_of, amount_of, readable, has_instance, fit, fit_all, field_part, instance_part, add, add_part, exchange, deeper}
 use Rattle.vx_sound_preds.proofs.Fitting.{undo, not_failed, guarded, step}
 use Rattle.vx_sound_preds.proofs.Framing.{ok_same, picked}
-use Rattle.vx_sound_funcs.specs.Told.{precondition_of}
-use Rattle.vx_sound_funcs.specs.Firm.{firmly}
 use Rattle.vx_sound_funcs.proofs.Steps.{nothing_some, some_of}
-use Rattle.vx_sound.proofs.Fuel.{value_more, applications_later}
-use Rattle.vx_sound_funcs.proofs.Fits.{Allows, take_more, exchange_more}
-use Rattle.vx_told.proofs.Grows.{firm_more}
-
--- An application that is allowed
-
-abbrev after : Program → ℕ → Function → List Value → State → Checked Holdings → Option Value
-after p m g vs s x = elim x as (λ _. Option Value) [ Ok h ↦ value_by p m (with_store (bind g.parameters vs) s) g.body | Err at ↦ None ]
-
-abbrev side : Program → ℕ → List Value → State → Option Function → Option Value
-side p m vs s None = None
-side p m vs s (Some g) = after p m g vs s (take p (deeper p m) (with_store (bind g.parameters vs) s) full (precondition_of g) s.holdings)
-
--- its precondition was taken, and its body has the value
-pub record TakenBy (p : Program) (m : ℕ) (g : Function) (vs : List Value) (s : State) (v : Value) : Type 0 where
-  pub rest : Holdings
-  pub takes : take p (deeper p m) (with_store (bind g.parameters vs) s) full (precondition_of g) s.holdings ≡ Ok rest
-  pub body : value_by p m (with_store (bind g.parameters vs) s) g.body ≡ Some v
-
-taken_after : (p : Program) (m : ℕ) (g : Function) (vs : List Value) (s : State) (v : Value) (x : Checked Holdings) → after p m g vs s x ≡ Some v →
-    (rest : Holdings) × (x ≡ Ok rest) × (value_by p m (with_store (bind g.parameters vs) s) g.body ≡ Some v)
-taken_after p m g vs s v (Ok h) e = (h, refl, e)
-taken_after p m g vs s v (Err at) e = nothing_some v e
-
-pub record AppliedBy (p : Program) (m : ℕ) (f : Name) (vs : List Value) (s : State) (v : Value) : Type 0 where
-  pub g : Function
-  pub named : function_named p f ≡ Some g
-  pub taken : TakenBy p m g vs s v
-
-pub applied_by : (p : Program) (m : ℕ) (f : Name) (vs : List Value) (s : State) (v : Value) → application p m (deeper p m) f vs s ≡ Some v → AppliedBy p m f vs s v
-applied_by p m f vs s v e = go (function_named p f) refl e
-  where
-    go : (o : Option Function) → function_named p f ≡ o → side p m vs s o ≡ Some v → AppliedBy p m f vs s v
-    go None is e = nothing_some v e
-    go (Some g) is e =
-        let t = taken_after p m g vs s v (take p (deeper p m) (with_store (bind g.parameters vs) s) full (precondition_of g) s.holdings) e in
-        record { g = g; named = is; taken = record { rest = t.0; takes = t.1; body = t.2 } }
-
-by_applied : (p : Program) (m : ℕ) (f : Name) (vs : List Value) (s : State) (v : Value) → AppliedBy p m f vs s v → application p m (deeper p m) f vs s ≡ Some v
-by_applied p m f vs s v k = ap (side p m vs s) k.named ∙ ap (after p m k.g vs s) k.taken.takes ∙ k.taken.body
-
--- Fuel
-
-by_one : (n : ℕ) (P : ℕ → Type 0) → P (1 + n) → P (suc n)
-by_one n P k = let z : 1 + n ≡ suc n = omega arith in subst P z k
-
-module _ (p : Program) where
-  one_more : (n : ℕ) → Allows (deeper p n) (deeper p (suc n))
-  one_more zero = record { applied = λ f vs s v e. nothing_some v e; opened = λ i q s u e. nothing_some u e }
-  one_more (suc n) = record {
-    applied = λ f vs s v e.
-        let k = applied_by p n f vs s v e in
-        let callee = with_store (bind k.g.parameters vs) s in
-        by_applied p (suc n) f vs s v record {
-          g = k.g;
-          named = k.named;
-          taken = record {
-            rest = k.taken.rest;
-            takes = take_more p (deeper p n) (deeper p (suc n)) (one_more n) callee full (precondition_of k.g) s.holdings k.taken.rest k.taken.takes;
-            body = by_one n (λ (m : ℕ). value p (applications p m) callee k.g.body ≡ Some v) (value_more p (applications p n) (applications p (1 + n)) (applications_later p 1 n) callee k.g.body v k.taken.body);
-          };
-        };
-    opened = λ i q s u e. exchange_more p (deeper p n) (deeper p (suc n)) (one_more n) i q s u e;
-  }
-
-  pub deeper_more : (k n : ℕ) → Allows (deeper p n) (deeper p (k + n))
-  deeper_more zero n = let z : n ≡ zero + n = omega arith in subst (λ m. Allows (deeper p n) (deeper p m)) z (record { applied = λ f vs s v e. e; opened = λ i q s u e. e })
-  deeper_more (suc k) n =
-      let z : suc (k + n) ≡ suc k + n = omega arith in
-      let one = deeper_more k n in
-      let two = one_more (k + n) in
-      subst (λ m. Allows (deeper p n) (deeper p m)) z (record { applied = λ f vs s v e. two.applied f vs s v (one.applied f vs s v e); opened = λ i q s u e. two.opened i q s u (one.opened i q s u e) })
-
-  pub deeper_upto : (n m : ℕ) → n ≤ m → Allows (deeper p n) (deeper p m)
-  deeper_upto n m le = let z : (m - n) + n ≡ m = omega arith in subst (λ k. Allows (deeper p n) (deeper p k)) z (deeper_more (m - n) n)
-
-  pub firm_upto : (n m : ℕ) → n ≤ m → Allows (firmly p n) (firmly p m)
-  firm_upto n m le = let z : (m - n) + n ≡ m = omega arith in subst (λ k. Allows (firmly p n) (firmly p k)) z (firm_more p (m - n) n)
-
-  -- what is taken by some fuel is taken by more
-  pub takes_from : (m : ℕ) (g : Function) (vs : List Value) (s : State) (v : Value) (k : TakenBy p m g vs s v) → Takes p (with_store (bind g.parameters vs) s) (precondition_of g) full k.rest
-  takes_from m g vs s v k = (m, λ n le. take_more p (deeper p m) (deeper p n) (deeper_upto m n le) (with_store (bind g.parameters vs) s) full (precondition_of g) s.holdings k.rest k.takes)
+use Rattle.vx_sound_funcs.proofs.Grows.{applied_by}
 
 -- What is added and exchanged leaves all but what is held
 

@@ -1,16 +1,15 @@
--- What fits, fits firmly, where each application that is evaluated with it keeps its promise.
+-- What fits, fits firmly, where each application that is evaluated with it keeps its promise and is allowed where it is taken.
 use Rattle.std.proofs.Common.{◌≡◌, ℕ, zero, suc, ◌+◌, ◌≤◌, Bool, true, false, cond, List, ◌∷◌, ◌++◌, Some, refl, sym, ◌∙◌, ap, subst, arith}
 use Rattle.std.specs.Prelude.{Ok}
 use Rattle.vx_ast.specs.declared.Place.{Place}
 use Rattle.vx_ast.specs.declared.ValueType.{ValueType}
 use Rattle.vx_ast.specs.Syntax.{Name, Declaration, Program, Function, function_named, Connective, Multiply, Expr, Number, Connect, Choose, Unfolding, Exprs}
-use Rattle.vx_smt_meaning.specs.declared.reply.Reply.{Reply}
 use Rattle.vx_meaning.specs.Values.{Value, IntValue, BoolValue, RefValue, PermValue, type_of, negated, operated, divided, needs_right, without_right}
 use Rattle.vx_meaning.specs.States as run
 use Rattle.vx_meaning.specs.States.{State, Heap, Store, Instance, lookup, with_holdings}
 use Rattle.vx_meaning.specs.Evaluate.{applications, values, value_by}
 use Rattle.vx_meaning.specs.Consistent.{IsConsistent}
-use Rattle.vx_meaning.specs.Fits.{Checked, ◌>>=◌, or_fail, Deeper, choose, connected, location_of, readable, fit, fit_all, deeper, Fits}
+use Rattle.vx_meaning.specs.Fits.{Checked, ◌>>=◌, or_fail, Deeper, choose, connected, location_of, readable, fit, fit_all, deeper, Fits, Eventually}
 use Rattle.vx_meaning.specs.Fails.{Application, Evaluates, applied_to, of_right, chosen, evaluated, evaluated_in}
 use Rattle.vx_types.specs.Typing.{Scope, type_in, HasType, number, truth, nulls, part, variable, nots, operates, scales, divides, connects, chooses, reads, olds, applies, unfoldings, HaveTypes, no_more, more}
 use Rattle.vx_whole.specs.Premises.{IsTypedProgram}
@@ -20,18 +19,19 @@ use Rattle.vx_sound_preds.specs.Covered.{IsStocked}
 use Rattle.vx_sound_preds.proofs.Fitting.{undo, not_failed, some_is}
 use Rattle.vx_sound_preds.proofs.Holding.{HoldsInstances, consistent}
 use Rattle.vx_sound_preds.proofs.Speaking.{good}
-use Rattle.vx_sound_funcs.specs.Firm.{firmly, FitsFirmly, GoodFunctions}
+use Rattle.vx_sound_funcs.specs.Firm.{firmly, FitsFirmly}
 use Rattle.vx_sound_funcs.proofs.Agree.{holds_possible}
 use Rattle.vx_sound_funcs.proofs.Alike.{firm_exchange}
 use Rattle.vx_sound_funcs.proofs.Fits.{next, fit_more, fit_all_more}
 use Rattle.vx_sound.proofs.Fuel.{value_more, applications_later}
 use Rattle.vx_sound_funcs.proofs.Steps.{nothing_some}
 use Rattle.vx_live.proofs.Speaks.{Speaks, AllSpeak}
-use Rattle.vx_told.specs.Walks.{FunctionsPass, KeepsAt}
-use Rattle.vx_told.proofs.Allowed.{taken_is_allowed}
-use Rattle.vx_told.proofs.TypedValues.{have_types, applications_typed}
-use Rattle.vx_law.proofs.Stocked.{stocked}
-use Rattle.vx_law.proofs.Deeper.{TakenBy, applied_by, deeper_more, firm_upto, takes_from, IsHeldOver, opened_over, Unfolds, unfolds_by, by_unfolds, fits_value, fit_values}
+use Rattle.vx_told.specs.Walks.{KeepsAt}
+use Rattle.vx_told.specs.Allowed.{IsAllowedWhereTaken}
+use Rattle.vx_sound_preds.proofs.TypedValues.{have_types, applications_typed}
+use Rattle.vx_sound_funcs.proofs.Stocked.{stocked}
+use Rattle.vx_sound_funcs.proofs.Grows.{TakenBy, applied_by, deeper_more, firm_upto, takes_from}
+use Rattle.vx_law.proofs.Deeper.{IsHeldOver, opened_over, Unfolds, unfolds_by, by_unfolds, fits_value, fit_values}
 use Rattle.vx_law.proofs.Evaluated.{In, contained, in_left, in_right, of_needed, of_first, of_second, of_applied, evaluated_more, evaluated_held}
 use Rattle.vx_law.proofs.Opened.{opened_held}
 
@@ -113,13 +113,13 @@ module _ (p : Program) where
       let j = n + k in
       in_right (evaluated p j s c) (chosen (value_by p j s c) (evaluated p j s a) (evaluated p j s b)) app (of_second (value_by p j s c) (evaluated p j s a) (evaluated p j s b) app (value_upto n k s c (BoolValue false) e) (evaluated_more p n k s b app h))
 
-module _ (p : Program) (x : Name) (replies : Name → List Reply) (typed : IsTypedProgram p) (functions : GoodFunctions p) (pass : FunctionsPass p x replies) where
+module _ (p : Program) (x : Name) (typed : IsTypedProgram p) where
   abbrev Held : Name → Type 0
   Held = InClosure p x
 
-  -- an application keeps its promise, in this heap
+  -- an application keeps its promise, in this heap, and is allowed where its precondition is taken
   abbrev pub Kept : Heap → Application → Type 0
-  Kept h a = (g : Function) → function_named p a.0 ≡ Some g → KeepsAt p a.0 g a.1 h
+  Kept h a = (g : Function) → function_named p a.0 ≡ Some g → KeepsAt p a.0 g a.1 h × IsAllowedWhereTaken p x a.0 g
 
   abbrev EachKept : State → Expr → Type 0
   EachKept s e = (n : ℕ) (a : Application) → In (evaluated p n s e) a → Kept s.heap a
@@ -129,13 +129,13 @@ module _ (p : Program) (x : Name) (replies : Name → List Reply) (typed : IsTyp
 
   -- an application that is allowed, and keeps its promise
   applied_firm : (n : ℕ) (f : Name) (g : Function) → InClosure p x f → function_named p f ≡ Some g → (vs : List Value) → run.HaveTypes g.parameters vs → (s : State) → HoldsInstances p (InClosure p x) true s.heap s.holdings →
-      (v : Value) → (deeper p n).applied f vs s ≡ Some v → KeepsAt p f g vs s.heap → (k : ℕ) × ((firmly p k).applied f vs s ≡ Some v)
+      (v : Value) → (deeper p n).applied f vs s ≡ Some v → KeepsAt p f g vs s.heap × IsAllowedWhereTaken p x f g → (k : ℕ) × ((firmly p k).applied f vs s ≡ Some v)
   applied_firm zero f g leads named vs types s st v e keeps = nothing_some v e
   applied_firm (suc m) f g leads named vs types s st v e keeps =
       let k = applied_by p m f vs s v e in
       let t : TakenBy p m g vs s v = subst (λ (g : Function). TakenBy p m g vs s v) (some_is k.g g (sym k.named ∙ named)) k.taken in
-      let at = taken_is_allowed p x replies typed functions pass f g leads named vs types s (consistent p (good p x typed) Held true s refl st) (stocked p x true s.heap s.holdings st) t.rest (takes_from p m g vs s v t) in
-      let allowed = at.1 keeps in
+      let at = keeps.1 vs types s (consistent p (good p x typed) Held true s refl st) (stocked p x true s.heap s.holdings st) t.rest (takes_from p m g vs s v t) in
+      let allowed = at.1 keeps.0 in
       let one = deeper_more p allowed.applied.0 (suc m) in
       let same = some_is allowed.value v (sym (allowed.applied.1 (allowed.applied.0 + suc m) (omega arith)) ∙ one.applied f vs s v e) in
       (suc allowed.fuel, allowed.firm ∙ ap Some same)
@@ -260,7 +260,14 @@ module _ (p : Program) (x : Name) (replies : Name → List Reply) (typed : IsTyp
           (j, next (λ v. fit_all p (firmly p j) s es >>= λ vs. Ok (v ∷ vs)) y.it (up p f.0 j (omega arith) s a y.it f.1) ∙ next (λ vs. Ok (y.it ∷ vs)) z.it (all_up p g.0 j (omega arith) s es z.it g.1) ∙ z.then)
 
   pub fits_firmly : (scope : Scope) (c : State) → AreTyped scope c.store → IsConsistent p c → IsStocked p x c.holdings → (e : Expr) (t : ValueType) → HasType p scope e t → IsOfNow e → Speaks (InClosure p x) e → (v : Value) → Fits p c e v →
-      ((a : Application) → Evaluates p c e a → (g : Function) → function_named p a.0 ≡ Some g → KeepsAt p a.0 g a.1 c.heap) → FitsFirmly p c e v
+      ((a : Application) → Evaluates p c e a → Kept c.heap a) → FitsFirmly p c e v
   fits_firmly scope c ty can stock e t h now sp v f keep =
       let self : f.0 ≤ f.0 = omega arith in
       firm f.0 scope c ty (holds_possible p x (good p x typed) typed c can stock) h now sp (λ n a i. keep a (n, contained (evaluated p n c e) a i)) v (f.1 f.0 self)
+
+  -- so do lists
+  pub all_fit_firmly : (scope : Scope) (c : State) → AreTyped scope c.store → IsConsistent p c → IsStocked p x c.holdings → (es : Exprs) (ds : List Declaration) → HaveTypes p scope es ds → AreOfNow es → AllSpeak (InClosure p x) es → (vs : List Value) →
+      Eventually (λ n. fit_all p (deeper p n) c es ≡ Ok vs) → ((n : ℕ) (a : Application) → In (evaluated_in p n c es) a → Kept c.heap a) → (n : ℕ) × (fit_all p (firmly p n) c es ≡ Ok vs)
+  all_fit_firmly scope c ty can stock es ds h now sp vs f keep =
+      let self : f.0 ≤ f.0 = omega arith in
+      all_firm f.0 scope c ty (holds_possible p x (good p x typed) typed c can stock) h now sp keep vs (f.1 f.0 self)

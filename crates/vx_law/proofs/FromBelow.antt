@@ -4,10 +4,9 @@ use Rattle.std.proofs.Common.{◌≡◌, ◌⊎◌, inl, inr, ℕ, zero, suc, �
 use Rattle.std.specs.Prelude.{Contains, flat_map}
 use Rattle.vx_ast.specs.declared.ValueType.{ValueType}
 use Rattle.vx_ast.specs.declared.ValueType.TheVariants as type
-use Rattle.vx_ast.specs.Syntax.{Name, same_name, Declaration, Program, Kind, Function, Measure, Connective, function_named, member_named, Expr, Number, Truth, Null, Part, Variable, Not, Operate, Divide, Connect, Choose, Read, Old, Apply, Unfolding, Exprs, NoMore, More, conjoined}
+use Rattle.vx_ast.specs.Syntax.{Name, same_name, Declaration, Program, Function, Measure, Connective, function_named, Expr, Number, Truth, Null, Part, Variable, Not, Operate, Divide, Connect, Choose, Read, Old, Apply, Unfolding, Exprs, NoMore, More, conjoined}
 use Rattle.vx_ast.specs.Mentions.{mentioned, mentioned_in, mentioned_by, mentioned_by_function, mentions_of}
 use Rattle.vx_ast.specs.Apart.{Stands}
-use Rattle.vx_smt_meaning.specs.declared.reply.Reply.{Reply}
 use Rattle.vx_meaning.specs.Values.{Value, BoolValue, IntValue, RefValue, PermValue, needs_right}
 use Rattle.vx_meaning.specs.States as run
 use Rattle.vx_meaning.specs.States.{State, Heap, Store, bind, at_old}
@@ -20,25 +19,26 @@ use Rattle.vx_rules.proofs.Names.{same_name_is}
 use Rattle.vx_terms.proofs.Same.{and_parts}
 use Rattle.vx_types.specs.Typing.{Scope, HasType, number, truth, nulls, part, variable, nots, operates, scales, divides, connects, chooses, reads, olds, applies, unfoldings, HaveTypes, no_more, more}
 use Rattle.vx_whole.specs.Premises.{IsTypedProgram}
-use Rattle.vx_whole.specs.Closure.{mentioned_by_measure, mentioned_by_kind, InClosure, further}
+use Rattle.vx_whole.specs.Closure.{InClosure}
 use Rattle.vx_sound_preds.proofs.Fitting.{some_is}
 use Rattle.vx_sound_preds.proofs.Typed.{on_left, on_right}
-use Rattle.vx_sound_preds.proofs.Mentioning.{function_member}
 use Rattle.vx_sound_funcs.specs.Firm.{GoodFunctions}
 use Rattle.vx_sound.proofs.Conjoined.{conjoined_typed}
 use Rattle.vx_sound_preds.proofs.FunctionWalks.{conjoined_mentions}
-use Rattle.vx_told.specs.Walks.{FunctionsPass, FunctionsKeep, Keeps, KeepsAt}
+use Rattle.vx_told.specs.Walks.{FunctionsKeep, Keeps, KeepsAt}
+use Rattle.vx_told.specs.Allowed.{LowerKeep, TakenIsAllowed}
 use Rattle.vx_told.specs.Measures.{IsBelow, lower_group, lesser_measure}
-use Rattle.vx_told.proofs.Measures.{measures_induce}
-use Rattle.vx_told.proofs.TypedValues.{have_types, applications_typed}
+use Rattle.vx_told.proofs.Measures.{measures_induce, groups_induce}
+use Rattle.vx_sound_preds.proofs.TypedValues.{have_types, applications_typed}
 use Rattle.vx_law.proofs.Evaluated.{In}
 use Rattle.vx_law.proofs.Firmly.{AreTyped}
+use Rattle.vx_law.proofs.Lower.{leads_on, reaches_one, keep_on}
 use Rattle.vx_law.proofs.Starting.{start_known}
 use Rattle.vx_law.proofs.Promised.{EvaluatedKeep, result_of, store_typed, result_typed, keeps_where_fits}
 
 -- Lists
 
-in_contained : (xs : List Application) (a : Application) → Contains xs a → In xs a
+pub in_contained : (xs : List Application) (a : Application) → Contains xs a → In xs a
 in_contained [] a (k, l, e) = absurd (none_below k l)
   where
     none_below : (k : ℕ) → k < 0 → ⊥
@@ -84,7 +84,7 @@ of_applied_to f (Some vs) a k (inr h) = absurd h
 
 module _ (p : Program) (n : ℕ) where
   mutual
-    evaluated_mentioned : (s : State) (e : Expr) (a : Application) → In (evaluated p n s e) a → Stands a.0 (mentioned e)
+    pub evaluated_mentioned : (s : State) (e : Expr) (a : Application) → In (evaluated p n s e) a → Stands a.0 (mentioned e)
     evaluated_mentioned s (Number at z) a h = absurd h
     evaluated_mentioned s (Truth at b) a h = absurd h
     evaluated_mentioned s (Null at) a h = absurd h
@@ -113,7 +113,7 @@ module _ (p : Program) (n : ℕ) where
         (λ k. inr (on_left a.0 (mentioned_in es ++ mentioned share) (mentioned e) (on_left a.0 (mentioned_in es) (mentioned share) (all_mentioned s es a k)))) k)
         (λ k. inr (on_right a.0 (mentioned_in es ++ mentioned share) (mentioned e) (evaluated_mentioned s e a k))) h
 
-    all_mentioned : (s : State) (es : Exprs) (a : Application) → In (evaluated_in p n s es) a → Stands a.0 (mentioned_in es)
+    pub all_mentioned : (s : State) (es : Exprs) (a : Application) → In (evaluated_in p n s es) a → Stands a.0 (mentioned_in es)
     all_mentioned s NoMore a h = absurd h
     all_mentioned s (More e es) a h =
         of_either (evaluated p n s e) (evaluated_in p n s es) a (λ k. on_left a.0 (mentioned e) (mentioned_in es) (evaluated_mentioned s e a k)) (λ k. on_right a.0 (mentioned e) (mentioned_in es) (all_mentioned s es a k)) h
@@ -126,7 +126,7 @@ module _ (p : Program) (typed : IsTypedProgram p) (n : ℕ) where
   HasArguments a = (g : Function) → function_named p a.0 ≡ Some g → run.HaveTypes g.parameters a.1
 
   mutual
-    evaluated_typed : (s : State) {scope : Scope} → AreTyped scope s.store → {e : Expr} {t : ValueType} → HasType p scope e t → (a : Application) → In (evaluated p n s e) a → HasArguments a
+    pub evaluated_typed : (s : State) {scope : Scope} → AreTyped scope s.store → {e : Expr} {t : ValueType} → HasType p scope e t → (a : Application) → In (evaluated p n s e) a → HasArguments a
     evaluated_typed s ty (number at z) a h = absurd h
     evaluated_typed s ty (truth) a h = absurd h
     evaluated_typed s ty (nulls at) a h = absurd h
@@ -150,7 +150,7 @@ module _ (p : Program) (typed : IsTypedProgram p) (n : ℕ) where
     evaluated_typed s ty (unfoldings i {es = es} {share = share} {e = e} d is ks kq k) a h =
         of_either (evaluated p n s share ++ evaluated_in p n s es) (evaluated p n s e) a (of_either (evaluated p n s share) (evaluated_in p n s es) a (evaluated_typed s ty kq a) (all_typed s ty ks a)) (evaluated_typed s ty k a) h
 
-    all_typed : (s : State) {scope : Scope} → AreTyped scope s.store → {es : Exprs} {ds : List Declaration} → HaveTypes p scope es ds → (a : Application) → In (evaluated_in p n s es) a → HasArguments a
+    pub all_typed : (s : State) {scope : Scope} → AreTyped scope s.store → {es : Exprs} {ds : List Declaration} → HaveTypes p scope es ds → (a : Application) → In (evaluated_in p n s es) a → HasArguments a
     all_typed s ty no_more a h = absurd h
     all_typed s ty (more {e = e} {es = es} k ks) a h = of_either (evaluated p n s e) (evaluated_in p n s es) a (evaluated_typed s ty k a) (all_typed s ty ks a) h
 
@@ -220,19 +220,19 @@ pub record Gives (p : Program) (f : Name) (g : Function) (s : State) : Type 0 wh
 abbrev pub BelowKeep : Program → Name → Heap → Name → List Value → Type 0
 BelowKeep p x h f vs = (f' : Name) (g' : Function) (vs' : List Value) → InClosure p x f' → function_named p f' ≡ Some g' → run.HaveTypes g'.parameters vs' → IsBelow p h f vs f' vs' → KeepsAt p f' g' vs' h
 
--- so the walks of the functions that x leads to give it
+-- so the walks of the functions that x leads to give it, where those of lower groups keep their promises
 abbrev pub WalksGive : Program → Name → Type 0
 WalksGive p x =
-    (f : Name) (g : Function) → InClosure p x f → function_named p f ≡ Some g → (vs : List Value) → run.HaveTypes g.parameters vs → (s : State) → FunctionStarts p g s → s.store ≡ bind g.parameters vs → BelowKeep p x s.heap f vs → Gives p f g s
+    (f : Name) (g : Function) → InClosure p x f → function_named p f ≡ Some g → LowerKeep p x f → (vs : List Value) → run.HaveTypes g.parameters vs → (s : State) → FunctionStarts p g s → s.store ≡ bind g.parameters vs → BelowKeep p x s.heap f vs → Gives p f g s
 
-module _ (p : Program) (x : Name) (replies : Name → List Reply) (typed : IsTypedProgram p) (functions : GoodFunctions p) (pass : FunctionsPass p x replies) (groups : GroupsTold p) where
-  module _ (f : Name) (g : Function) (leads : InClosure p x f) (named : function_named p f ≡ Some g) (vs : List Value) (s : State) (starts : FunctionStarts p g s) (store : s.store ≡ bind g.parameters vs) where
+module _ (p : Program) (x : Name) (typed : IsTypedProgram p) (functions : GoodFunctions p) (groups : GroupsTold p) (taken : TakenIsAllowed p x) where
+  module _ (f : Name) (g : Function) (leads : InClosure p x f) (named : function_named p f ≡ Some g) (lower : LowerKeep p x f) (vs : List Value) (s : State) (starts : FunctionStarts p g s) (store : s.store ≡ bind g.parameters vs) where
     -- an application that f mentions
     is_below : (a : Application) → Stands a.0 (mentioned_by_function g) → Lowers p f g s a → IsBelow p s.heap f vs a.0 a.1
     is_below a seen lowers = go (is_in_group p f a.0) refl
       where
         reaches : Reaches p f a.0
-        reaches = (1, inl (g, named, contains_name (mentioned_by_function g) a.0 seen))
+        reaches = reaches_one p x f g named a.0 seen
 
         go : (b : Bool) → is_in_group p f a.0 ≡ b → IsBelow p s.heap f vs a.0 a.1
         go true e =
@@ -241,38 +241,49 @@ module _ (p : Program) (x : Name) (replies : Name → List Reply) (typed : IsTyp
             lesser_measure group record { caller = g; named = named; start = record { state = s; starts = starts; store = store; heap = refl }; measure = l.0; has_measure = l.1; lowers = l.2 }
         go false e = lower_group reaches (λ back. absurd (true≢false (sym (groups f a.0 (reaches, back)) ∙ e)))
 
-    leads_on : (y : Name) → Stands y (mentioned_by_function g) → InClosure p x y
-    leads_on y seen = further leads (subst (λ (o : Option Kind). Stands y (mentioned_by_kind p o)) (sym (function_member (member_named p f) g named)) (on_left y (mentioned_by_function g) (mentioned_by_measure g.decreases) seen))
-
     -- what is evaluated keeps its promise, where all below does
     evaluated_keeps : BelowKeep p x s.heap f vs → (u : State) → u.heap ≡ s.heap → (scope : Scope) → AreTyped scope u.store → (e : Expr) (t : ValueType) → HasType p scope e t → ((y : Name) → Stands y (mentioned e) → Stands y (mentioned_by_function g)) →
-        ((a : Application) → Evaluates p u e a → Lowers p f g s a) → EvaluatedKeep p x replies typed functions pass u e
+        ((a : Application) → Evaluates p u e a → Lowers p f g s a) → EvaluatedKeep p x typed functions u e
     evaluated_keeps below u heap scope ty e t k seen lowers a (n, c) g' named' =
         let there = in_contained (evaluated p n u e) a c in
         let stands = seen a.0 (evaluated_mentioned p n u e a there) in
-        subst (λ (h : Heap). KeepsAt p a.0 g' a.1 h) (sym heap) (below a.0 g' a.1 (leads_on a.0 stands) named' (evaluated_typed p typed n u ty k a there g' named') (is_below a stands (lowers a (n, c))))
+        let leads' = leads_on p x f g leads named a.0 stands in (
+          subst (λ (h : Heap). KeepsAt p a.0 g' a.1 h) (sym heap) (below a.0 g' a.1 leads' named' (evaluated_typed p typed n u ty k a there g' named') (is_below a stands (lowers a (n, c)))),
+          taken a.0 g' leads' named' (keep_on p x f a.0 (reaches_one p x f g named a.0 stands) lower),
+        )
 
     keeps_from_below : BelowKeep p x s.heap f vs → Gives p f g s → Keeps p g s
     keeps_from_below below gives =
         let t = typed.functions f g named in
         let scope = g.parameters ++ result_of g ∷ [] in
-        keeps_where_fits p x replies typed functions pass f g leads named s starts gives.value gives.fits
-        (evaluated_keeps below s refl g.parameters (store_typed p x replies typed functions pass f g leads named s starts gives.value gives.fits) g.body g.of t.body
+        keeps_where_fits p x typed functions f g leads named s starts gives.value gives.fits
+        (evaluated_keeps below s refl g.parameters (store_typed p x typed functions f g leads named s starts gives.value gives.fits) g.body g.of t.body
         (λ y h. on_left y (mentioned g.body ++ flat_map mentioned_by g.requires) (flat_map mentioned g.ensures) (on_left y (mentioned g.body) (flat_map mentioned_by g.requires) h)) gives.body_lowers)
         gives.promise
-        (evaluated_keeps below (with_result gives.value s) refl scope (result_typed p x replies typed functions pass f g leads named s starts gives.value gives.fits) (conjoined g.place g.ensures) type.Bool (conjoined_typed p scope g.place g.ensures t.ensures)
+        (evaluated_keeps below (with_result gives.value s) refl scope (result_typed p x typed functions f g leads named s starts gives.value gives.fits) (conjoined g.place g.ensures) type.Bool (conjoined_typed p scope g.place g.ensures t.ensures)
         (λ y h. on_right y (mentioned g.body ++ flat_map mentioned_by g.requires) (flat_map mentioned g.ensures) (conjoined_mentions y g.place g.ensures h)) gives.promise_lowers)
 
+  -- By induction over groups, and within a group, in the heap of a start, over applications.
   abbrev ClosureKeeps : Heap → Name → Function → List Value → Type 0
-  ClosureKeeps h f g vs = InClosure p x f → KeepsAt p f g vs h
+  ClosureKeeps h f g vs = InClosure p x f → LowerKeep p x f → KeepsAt p f g vs h
+
+  below_reached : (h : Heap) (f : Name) (vs : List Value) (f' : Name) (vs' : List Value) → IsBelow p h f vs f' vs' → Reaches p f f'
+  below_reached h f vs f' vs' (lower_group r apart) = r
+  below_reached h f vs f' vs' (lesser_measure w l) = w.0
+
+  abbrev GroupKeeps : Name → Function → Type 0
+  GroupKeeps f g = InClosure p x f → (s : State) → FunctionStarts p g s → Keeps p g s
 
   pub functions_keep : WalksGive p x → FunctionsKeep p x
-  functions_keep walks f g leads named s starts =
-      let k = start_known p x typed functions f g leads named s starts in
-      measures_induce p typed s.heap (ClosureKeeps s.heap) (step s.heap) f g k.arguments named k.types leads named s starts k.store refl
+  functions_keep walks f g leads named s starts = groups_induce p GroupKeeps group f g named leads s starts
     where
       step : (h : Heap) (f : Name) (g : Function) (vs : List Value) → function_named p f ≡ Some g → run.HaveTypes g.parameters vs →
           ((f' : Name) (g' : Function) (vs' : List Value) → function_named p f' ≡ Some g' → run.HaveTypes g'.parameters vs' → IsBelow p h f vs f' vs' → ClosureKeeps h f' g' vs') → ClosureKeeps h f g vs
-      step h f g vs named types below leads is s starts store heap =
-          let here : BelowKeep p x s.heap f vs = subst (λ (h : Heap). BelowKeep p x h f vs) (sym heap) (λ f' g' vs' leads' named' types' b. below f' g' vs' named' types' b leads') in
-          keeps_from_below f g leads named vs s starts store here (walks f g leads named vs types s starts store here)
+      step h f g vs named types below leads lower is s starts store heap =
+          let here : BelowKeep p x s.heap f vs = subst (λ (h : Heap). BelowKeep p x h f vs) (sym heap) (λ f' g' vs' leads' named' types' b. below f' g' vs' named' types' b leads' (keep_on p x f f' (below_reached h f vs f' vs' b) lower)) in
+          keeps_from_below f g leads named lower vs s starts store here (walks f g leads named lower vs types s starts store here)
+
+      group : (f : Name) (g : Function) → function_named p f ≡ Some g → ((f' : Name) (g' : Function) → function_named p f' ≡ Some g' → Reaches p f f' → (Reaches p f' f → ⊥) → GroupKeeps f' g') → GroupKeeps f g
+      group f g named of_lower leads s starts =
+          let k = start_known p x typed functions f g leads named s starts in
+          measures_induce p typed s.heap (ClosureKeeps s.heap) (step s.heap) f g k.arguments named k.types leads (λ f' g' leads' named' r apart. of_lower f' g' named' r apart leads') named s starts k.store refl

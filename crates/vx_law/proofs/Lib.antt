@@ -1,5 +1,4 @@
 pub mod Own
-pub mod Stocked
 pub mod Tells
 pub mod Methods
 pub mod Deeper
@@ -9,9 +8,13 @@ pub mod Firmly
 pub mod Starting
 pub mod Promised
 pub mod FromBelow
+pub mod Lower
+pub mod Parts
+pub mod Taken
 pub mod Measured
 pub mod Walks
 pub mod Members
 pub mod Worked
 pub mod WorkedBoxes
 pub mod WorkedDescent
+pub mod WorkedParts

@@ -19,31 +19,40 @@ use Rattle.vx_sound_funcs.specs.Firm.{GoodFunctions}
 use Rattle.vx_sound_funcs.proofs.TypedFunctions.{good_functions}
 use Rattle.vx_told.specs.Means.{Means}
 use Rattle.vx_told.specs.Walks.{FunctionsPass, FunctionsKeep}
+use Rattle.vx_told.specs.Allowed.{LowerKeep, IsAllowedWhereTaken, TakenIsAllowed}
 use Rattle.vx_told.proofs.Groups.{groups_agree}
 use Rattle.vx_law.specs.Law.{MembersAreSound}
 use Rattle.vx_law.proofs.Tells.{applies_go}
 use Rattle.vx_law.proofs.Methods.{method_sound}
-use Rattle.vx_law.proofs.Walks.{Reached, may, measured, promises_kept}
+use Rattle.vx_law.proofs.Lower.{IsLower, asked_is_lower}
+use Rattle.vx_law.proofs.Taken.{asks_go, taken_is_allowed}
+use Rattle.vx_law.proofs.Walks.{Reached, may, closed, measured, promises_kept}
 
 -- a function, where all functions keep what they promise
 module _ (p : Program) (x : Name) (replies : Name → List Reply) (typed : IsTypedProgram p) (functions : GoodFunctions p) (predicates : PredicatesPass p x replies) (pass : FunctionsPass p x replies) (keep : FunctionsKeep p x)
     (f : Name) (g : Function) (leads : InClosure p x f) (named : function_named p f ≡ Some g) where
+  lower : LowerKeep p x f
+  lower f' g' leads' named' r apart = keep f' g' leads' named'
+
+  taken : (f' : Name) (g' : Function) → InClosure p x f' → function_named p f' ≡ Some g' → IsAllowedWhereTaken p x f' g'
+  taken f' g' leads' named' = taken_is_allowed p x replies typed functions predicates pass f' g' leads' named' (λ y d leads'' named'' r apart. keep y d leads'' named'')
+
   within : (s : State) → FunctionStarts p g s → (z : Option ℤ) (marks : Marks) → IsMeasureOf p s g.decreases z marks →
       AppliesBy (Means p x) p (good p x typed) (InClosure p x) (no_perm p x typed) true (in_body_of (Reached p x replies typed functions predicates pass f g leads named) f z marks s.heap (LowersFrom p f g s)) (speak p x typed)
   within s starts z marks is =
-      applies_go p x replies typed functions predicates pass (in_body_of (Reached p x replies typed functions predicates pass f g leads named) f z marks s.heap (LowersFrom p f g s)) (λ y k. k.0)
-      (λ scope i st c f' g' ts vs term a is' t starts' store heap. keep f' g' a.applied.0 a.is t starts') (measured p x replies typed functions predicates pass f g leads named s starts z marks is)
+      applies_go p x replies typed functions predicates (in_body_of (Reached p x replies typed functions predicates pass f g leads named) f z marks s.heap (LowersFrom p f g s)) (λ y k. k.0)
+      (closed p x replies typed functions predicates pass f g leads named) (λ f' g' k named'. taken f' g' k.0 named') (λ scope i st c f' g' ts vs term a is' t starts' store heap. keep f' g' a.applied.0 a.is t starts') (measured p x replies typed functions predicates pass f g leads named s starts z marks is)
 
   pub function_sound : FunctionFails p f g → ⊥
   function_sound =
-      function_sound_by p x typed f g leads named (functions.asks f g named) (Reached p x replies typed functions predicates pass f g leads named) (may p x replies typed functions predicates pass f g leads named) (Means p x) (replies f) (pass f g leads named)
-      (LowersFrom p f g) within (λ s starts a lowers. lowers_refutes p f g s a (groups_agree p f a.0).1 lowers)
+      function_sound_by p x typed f g leads named (functions.asks f g named) (IsLower p x f) (Reached p x replies typed functions predicates pass f g leads named) (λ y d s named' leads'. asked_is_lower p x typed f g leads named y s) (may p x replies typed functions predicates pass f g leads named) (Means p x) (replies f) (pass f g leads named)
+      (asks_go p x replies typed functions predicates f lower (λ f' g' l named'. taken f' g' l.0 named')) (LowersFrom p f g) within (λ s starts a lowers. lowers_refutes p f g s a (groups_agree p f a.0).1 lowers)
 
 pub members_sound : MembersAreSound
-members_sound p x k replies typed contracts named all = go k named
+members_sound p x k replies typed named all = go k named
   where
     functions : GoodFunctions p
-    functions = good_functions p typed contracts
+    functions = good_functions p typed
 
     predicates : PredicatesPass p x replies
     predicates i d c e = all i (IsPredicate d) c (predicate_member (member_named p i) d e)
@@ -55,4 +64,7 @@ members_sound p x k replies typed contracts named all = go k named
     go (IsField t) named fails = absurd fails
     go (IsPredicate d) named fails = typed_predicate_sound p x d (replies x) typed (ap predicate_in named) (all x (IsPredicate d) itself named) fails
     go (IsFunction g) named fails = function_sound p x replies typed functions predicates pass (promises_kept p x replies typed functions predicates pass) x g itself (ap function_in named) fails
-    go (IsMethod m) named fails = method_sound p x m replies typed functions predicates pass (promises_kept p x replies typed functions predicates pass) named (all x (IsMethod m) itself named) fails.0 fails.1
+    go (IsMethod m) named fails = method_sound p x m replies typed functions predicates (taken_is_allowed p x replies typed functions predicates pass) (promises_kept p x replies typed functions predicates pass) named (all x (IsMethod m) itself named) fails.0 fails.1
+
+pub taken_allowed : (p : Program) (x : Name) (replies : Name → List Reply) → IsTypedProgram p → PredicatesPass p x replies → FunctionsPass p x replies → TakenIsAllowed p x
+taken_allowed p x replies typed predicates pass = taken_is_allowed p x replies typed (good_functions p typed) predicates pass

@@ -3,7 +3,6 @@
 use Rattle.std.proofs.Common.{◌≡◌, true, List, [], ◌∷◌, ◌++◌, Some, refl, sym, ◌∙◌, ap, subst, le_refl}
 use Rattle.vx_ast.specs.declared.ValueType.TheVariants as type
 use Rattle.vx_ast.specs.Syntax.{Name, result_name, Declaration, Program, Function, function_named, Expr, NoMore, More, conjoined}
-use Rattle.vx_smt_meaning.specs.declared.reply.Reply.{Reply}
 use Rattle.vx_meaning.specs.Values.{Value, BoolValue, type_of}
 use Rattle.vx_meaning.specs.States as run
 use Rattle.vx_meaning.specs.States.{State, Store, bind}
@@ -22,12 +21,12 @@ use Rattle.vx_sound_preds.proofs.Speaking.{good}
 use Rattle.vx_sound_funcs.specs.Firm.{GoodFunctions}
 use Rattle.vx_sound_funcs.proofs.TypedFunctions.{functions_speak_now}
 use Rattle.vx_sound.proofs.Conjoined.{conjoined_typed}
-use Rattle.vx_told.specs.Walks.{FunctionsPass, Keeps, KeepsAt}
+use Rattle.vx_told.specs.Walks.{Keeps}
 use Rattle.vx_told.proofs.Programs.{spoken}
-use Rattle.vx_told.proofs.TypedValues.{have_types, applications_typed}
-use Rattle.vx_law.proofs.Stocked.{stocked}
+use Rattle.vx_sound_preds.proofs.TypedValues.{have_types, applications_typed}
+use Rattle.vx_sound_funcs.proofs.Stocked.{stocked}
 use Rattle.vx_law.proofs.Deeper.{fits_value}
-use Rattle.vx_law.proofs.Firmly.{AreTyped, fits_firmly}
+use Rattle.vx_law.proofs.Firmly.{AreTyped, Kept, fits_firmly}
 use Rattle.vx_law.proofs.Starting.{StartKnown, start_known}
 
 abbrev pub result_of : Function → Declaration
@@ -40,13 +39,13 @@ bound_more (a ∷ ds) (w ∷ vs) d v h e = let k = bound_more ds vs d v h.1 e in
 bound_more [] (w ∷ vs) d v h e = absurd h
 bound_more (a ∷ ds) [] d v h e = absurd h
 
-bound_typed : (ds : List Declaration) (vs : List Value) (xs : Store) → run.HaveTypes ds vs → xs ≡ bind ds vs → AreTyped ds xs
+pub bound_typed : (ds : List Declaration) (vs : List Value) (xs : Store) → run.HaveTypes ds vs → xs ≡ bind ds vs → AreTyped ds xs
 bound_typed ds vs xs types is = subst (AreTyped ds) (sym is) (λ y t v a b. found_type y t ds vs v types a b)
 
-module _ (p : Program) (x : Name) (replies : Name → List Reply) (typed : IsTypedProgram p) (functions : GoodFunctions p) (pass : FunctionsPass p x replies) where
-  -- each application that is evaluated with e keeps its promise
+module _ (p : Program) (x : Name) (typed : IsTypedProgram p) (functions : GoodFunctions p) where
+  -- each application that is evaluated with e keeps its promise, and is allowed where it is taken
   abbrev pub EvaluatedKeep : State → Expr → Type 0
-  EvaluatedKeep s e = (a : Application) → Evaluates p s e a → (g : Function) → function_named p a.0 ≡ Some g → KeepsAt p a.0 g a.1 s.heap
+  EvaluatedKeep s e = (a : Application) → Evaluates p s e a → Kept p x typed s.heap a
 
   module _ (f : Name) (g : Function) (leads : InClosure p x f) (named : function_named p f ≡ Some g) (s : State) (starts : FunctionStarts p g s) (v : Value) (fits : Fits p s g.body v) where
     known : StartKnown p x g s
@@ -84,8 +83,8 @@ module _ (p : Program) (x : Name) (replies : Name → List Reply) (typed : IsTyp
         let scope : Scope = g.parameters ++ result_of g ∷ [] in
         record {
           value = v;
-          fits = fits_firmly p x replies typed functions pass g.parameters s store_typed can stock g.body g.of t.body (functions_speak_now p typed f g named) sp.body v fits body;
-          promise = fits_firmly p x replies typed functions pass scope (with_result v s) result_typed can_with stock (conjoined g.place g.ensures) type.Bool
+          fits = fits_firmly p x typed g.parameters s store_typed can stock g.body g.of t.body (functions_speak_now p typed f g named) sp.body v fits body;
+          promise = fits_firmly p x typed scope (with_result v s) result_typed can_with stock (conjoined g.place g.ensures) type.Bool
               (conjoined_typed p scope g.place g.ensures t.ensures) (functions.promises_now f g named) sp.ensures (BoolValue true) promise ensures;
         }
       where

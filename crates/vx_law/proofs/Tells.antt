@@ -1,7 +1,9 @@
--- What is left to be shown of an application, where each that is allowed keeps its promise: its term has the function's value, and what
+-- What is left to be shown of an application, where each that is taken keeps its promise and is allowed then: its term has the function's value, and what
 -- it tells of the function is true.
-use Rattle.std.proofs.Common.{◌≡◌, ℕ, ◌≤◌, true, List, None, refl, sym, subst, le_refl}
-use Rattle.vx_ast.specs.Syntax.{Name, Program, Function}
+use Rattle.std.proofs.Common.{◌≡◌, ℕ, ◌≤◌, true, List, Some, None, refl, sym, subst, le_refl}
+use Rattle.vx_ast.specs.Syntax.{Name, Program, Function, function_named}
+use Rattle.vx_ast.specs.Apart.{entered_by}
+use Rattle.vx_ast.specs.Apart as apart
 use Rattle.vx_smt_meaning.specs.declared.reply.Reply.{Reply}
 use Rattle.vx_meaning.specs.Values.{Value}
 use Rattle.vx_meaning.specs.States as run
@@ -34,15 +36,15 @@ use Rattle.vx_sound_funcs.specs.Firm.{GoodFunctions}
 use Rattle.vx_sound_funcs.specs.Laws.{ApplicationsAgree}
 use Rattle.vx_sound_funcs.proofs.Laws.{agree}
 use Rattle.vx_told.specs.Means.{Means}
-use Rattle.vx_told.specs.Walks.{FunctionsPass, KeepsAt}
+use Rattle.vx_told.specs.Walks.{KeepsAt}
 use Rattle.vx_told.specs.Allowed as allowing
-use Rattle.vx_told.proofs.Allowed.{taken_is_allowed}
+use Rattle.vx_told.specs.Allowed.{IsAllowedWhereTaken}
 use Rattle.vx_told.proofs.Worth.{Worth, written_worth}
 use Rattle.vx_told.proofs.Awake.{Follows, awake_told}
 use Rattle.vx_law.proofs.Own.{told_there}
-use Rattle.vx_law.proofs.Stocked.{stocked}
+use Rattle.vx_sound_funcs.proofs.Stocked.{stocked}
 
-module _ (p : Program) (x : Name) (replies : Name → List Reply) (typed : IsTypedProgram p) (functions : GoodFunctions p) (predicates : PredicatesPass p x replies) (pass : FunctionsPass p x replies) (applying : Applying) where
+module _ (p : Program) (x : Name) (replies : Name → List Reply) (typed : IsTypedProgram p) (functions : GoodFunctions p) (predicates : PredicatesPass p x replies) (applying : Applying) where
   abbrev Held : Name → Type 0
   Held = InClosure p x
 
@@ -66,9 +68,11 @@ module _ (p : Program) (x : Name) (replies : Name → List Reply) (typed : IsTyp
   AllowedMeasured =
       (scope : Scope) (i : Interpretation) (s : rules.State) (c : run.State) (f : Name) (g : Function) (ts : List Term) (vs : List Value) (named : Term) → IsAllowed scope i s c f g ts vs named → applying.Measured c.heap f vs
 
-  module _ (leads : (f : Name) → applying.Applied f → InClosure p x f) (keeps : AllowedKeep) (measured : AllowedMeasured) where
+  module _ (leads : (f : Name) → applying.Applied f → InClosure p x f)
+      (closed : (f : Name) (g : Function) (y : Name) (d : Function) → applying.Applied f → function_named p f ≡ Some g → apart.Stands y (entered_by (precondition_of g)) → function_named p y ≡ Some d → applying.Applied y)
+      (allowed : (f : Name) (g : Function) → applying.Applied f → function_named p f ≡ Some g → IsAllowedWhereTaken p x f g) (keeps : AllowedKeep) (measured : AllowedMeasured) where
     agreeing : ApplicationsAgree p x
-    agreeing = agree p x replies typed predicates functions
+    agreeing = agree p x replies typed predicates
 
     module _ (m : ℕ) (scope : Scope) (i : Interpretation) (s : rules.State) (c : run.State) (f : Name) (g : Function) (ts : List Term) (vs : List Value) (named : Term) (a : IsAllowed scope i s c f g ts vs named) where
       abbrev t : Term
@@ -84,7 +88,7 @@ module _ (p : Program) (x : Name) (replies : Name → List Reply) (typed : IsTyp
       firm : allowing.IsAllowed p f vs c
       firm =
           let types = values_typed (Means p x) world s.next i g.parameters ts vs a.each in
-          let at = taken_is_allowed p x replies typed functions pass f g (leads f a.applied) a.is vs types c (consistent p (good p x typed) Held true c refl holds) (stocked p x true c.heap c.holdings holds) a.left a.takes in
+          let at = allowed f g a.applied a.is vs types c (consistent p (good p x typed) Held true c refl holds) (stocked p x true c.heap c.holdings holds) a.left a.takes in
           at.1 (keeps scope i s c f g ts vs named a)
 
       worth : Worth (Means p x) p s.next i (run.with_store (run.bind g.parameters vs) c) (precondition_of g) a.snapshot.tree named
@@ -141,4 +145,4 @@ module _ (p : Program) (x : Name) (replies : Name → List Reply) (typed : IsTyp
 
     -- so applications go at every depth, where all functions that x leads to may be applied
     pub applies_go : AppliesBy (Means p x) p (good p x typed) (InClosure p x) (no_perm p x typed) true applying (speak p x typed)
-    applies_go = applies_by (Means p x) p (good p x typed) (InClosure p x) (no_perm p x typed) applying (speak p x typed) (all_ask (Means p x) p x typed (λ f g leads is. functions.asks f g is) applying leads) tells_by
+    applies_go = applies_by (Means p x) p (good p x typed) (InClosure p x) (no_perm p x typed) applying (speak p x typed) (all_ask (Means p x) p x typed (λ f g leads is. functions.asks f g is) applying leads closed) tells_by

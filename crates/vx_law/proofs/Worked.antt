@@ -15,8 +15,6 @@ use Rattle.vx_whole.specs.Now.{SpeaksOfNow}
 use Rattle.vx_whole.specs.Premises.{HasConstantAmounts, IsTypedProgram}
 use Rattle.vx_sound.specs.Examples.{on_line, x, m}
 use Rattle.vx_sound.specs.Law.{Passes}
-use Rattle.vx_sound_funcs.specs.Told.{precondition_of}
-use Rattle.vx_sound_funcs.specs.Firm.{PlainContracts}
 use Rattle.vx_law.specs.Examples.{next, adder, relies, counts}
 use Rattle.vx_law.proofs.Members.{members_sound}
 
@@ -106,9 +104,6 @@ counts_typed = record {
   };
 }
 
-pub counts_plain : PlainContracts counts
-counts_plain y g e z st = absurd (each_function (λ g. Stands z (entered_by (precondition_of g)) → ⊥) (λ s. s) y g e st)
-
 -- an unsat answers the method's question
 answers : Name → List Reply
 answers y = cond (same_name y m) (Unsat ∷ []) []
@@ -122,7 +117,7 @@ all_pass y l e = go (one_step y l e)
     go (inr k) = subst (λ (l : Kind). Passes counts y l (answers y)) (sym k.1) (subst (λ (y : Name). Passes counts y (IsMethod relies) (answers y)) (sym k.0) relies_passes)
 
 pub relies_never_fails : Fails counts m (IsMethod relies) → ⊥
-relies_never_fails = members_sound counts m (IsMethod relies) answers counts_typed counts_plain refl (λ y l leads e. all_pass y l e)
+relies_never_fails = members_sound counts m (IsMethod relies) answers counts_typed refl (λ y l leads e. all_pass y l e)
 
 pub adder_never_fails : Fails counts next (IsFunction adder) → ⊥
-adder_never_fails = members_sound counts next (IsFunction adder) answers counts_typed counts_plain refl (λ y l leads e. all_pass y l e)
+adder_never_fails = members_sound counts next (IsFunction adder) answers counts_typed refl (λ y l leads e. all_pass y l e)

@@ -10,7 +10,7 @@ use Rattle.vx_whole.specs.Closure.{InClosure, itself, further, mentions}
 use Rattle.vx_sound.specs.Law.{Passes}
 use Rattle.vx_sound_preds.specs.Examples.{P}
 use Rattle.vx_sound_funcs.specs.Examples.{box, get, getter, twice, doubler, boxes}
-use Rattle.vx_sound_funcs.proofs.WorkedTyped.{boxes_typed, boxes_plain}
+use Rattle.vx_sound_funcs.proofs.WorkedTyped.{boxes_typed}
 use Rattle.vx_law.proofs.Members.{members_sound}
 
 -- no walk of these asks a question
@@ -64,4 +64,4 @@ closed y l leads is = go (leads_to_known y leads)
     go (inr (inr (inr h))) = absurd h
 
 pub twice_never_fails : Fails boxes twice (IsFunction doubler) → ⊥
-twice_never_fails = members_sound boxes twice (IsFunction doubler) (λ y. []) boxes_typed boxes_plain refl closed
+twice_never_fails = members_sound boxes twice (IsFunction doubler) (λ y. []) boxes_typed refl closed

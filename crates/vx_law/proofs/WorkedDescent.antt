@@ -17,8 +17,6 @@ use Rattle.vx_whole.specs.Now.{SpeaksOfNow}
 use Rattle.vx_whole.specs.Premises.{HasConstantAmounts, IsTypedProgram}
 use Rattle.vx_sound.specs.Examples.{on_line, x}
 use Rattle.vx_sound.specs.Law.{Passes}
-use Rattle.vx_sound_funcs.specs.Told.{precondition_of}
-use Rattle.vx_sound_funcs.specs.Firm.{PlainContracts}
 use Rattle.vx_law.specs.Examples.{down, descender, descends}
 use Rattle.vx_law.proofs.Members.{members_sound}
 
@@ -104,9 +102,6 @@ descends_typed = record {
   };
 }
 
-descends_plain : PlainContracts descends
-descends_plain y g e z st = absurd (each_function (λ g. Stands z (entered_by (precondition_of g)) → ⊥) (λ s. s) y g e st)
-
 one_member : (y : Name) (l : Kind) → member_named descends y ≡ Some l → (y ≡ down) × (l ≡ IsFunction descender)
 one_member y l e = go (same_name y down) refl e
   where
@@ -115,5 +110,5 @@ one_member y l e = go (same_name y down) refl e
     go false n e = cc
 
 pub descender_never_fails : Fails descends down (IsFunction descender) → ⊥
-descender_never_fails = members_sound descends down (IsFunction descender) (λ y. Unsat ∷ []) descends_typed descends_plain refl
+descender_never_fails = members_sound descends down (IsFunction descender) (λ y. Unsat ∷ []) descends_typed refl
     (λ y l leads e. let k = one_member y l e in subst (λ (l : Kind). Passes descends y l (Unsat ∷ [])) (sym k.1) (subst (λ (y : Name). Passes descends y (IsFunction descender) (Unsat ∷ [])) (sym k.0) descender_passes))

@@ -1,8 +1,11 @@
--- A function with a postcondition, a method that applies it, and a function that applies itself.
+-- A function with a postcondition, a method that applies it, a function that applies itself, and one whose precondition applies another.
 use Rattle.std.specs.Prelude.{codes, List, [], ◌∷◌, Some, None}
 use Rattle.vx_ast.specs.declared.ValueType.TheVariants.{Int}
-use Rattle.vx_ast.specs.Syntax.{Name, result_name, Program, Declaration, IsFunction, IsMethod, Function, Method, ByNumber, Number, Variable, Operate, Equal, LessEqual, Add, Subtract, Choose, Apply, NoMore, More, Pure, Assert, Done, Then}
+use Rattle.vx_ast.specs.Syntax.{Name, result_name, Program, Declaration, IsField, IsFunction, IsMethod, Function, Method, ByNumber, Number, Variable, Operate, Equal, LessEqual, Add, Subtract, Choose, Read, Apply, NoMore, More, Implied, Pure, Assert, Done, Then}
 use Rattle.vx_sound.specs.Examples.{on_line, x, m}
+use Rattle.vx_sound_preds.specs.Examples.{here, f}
+use Rattle.vx_sound_funcs.specs.Examples.{g, x_is_a_reference}
+use Rattle.vx_sound_funcs.specs.AskingExamples.{kind, kinds, has_field, is_nought}
 
 abbrev pub x_is_a_number : List Declaration
 x_is_a_number = record { name = x; of = Int } ∷ []
@@ -54,3 +57,14 @@ descender = record {
 
 abbrev pub descends : Program
 descends = record { name = down; kind = IsFunction descender } ∷ []
+
+-- field f: Int, field g: Int, kind(x), which is x.f, and another function
+abbrev pub tags : Name → Function → Program
+tags y d = record { name = f; kind = IsField Int } ∷ record { name = g; kind = IsField Int } ∷ record { name = kind; kind = IsFunction kinds } ∷ record { name = y; kind = IsFunction d } ∷ []
+
+-- function payload(x: Ref): Int requires acc(x.f) requires kind(x) == 0 ==> acc(x.g) { kind(x) == 0 ? x.g : 0 }
+abbrev pub payload : Name
+payload = codes "payload"
+
+abbrev pub payloads : Function
+payloads = record { place = here; parameters = x_is_a_reference; of = Int; requires = has_field f ∷ Implied is_nought (has_field g) ∷ []; ensures = []; decreases = None; body = Choose here is_nought (Read here (Variable here x) g) (Number here 0) }

@@ -6,11 +6,9 @@ use Rattle.vx_meaning.specs.Fails.{Fails}
 use Rattle.vx_whole.specs.Premises.{IsTypedProgram}
 use Rattle.vx_whole.specs.Closure.{InClosure}
 use Rattle.vx_sound.specs.Law.{Passes}
-use Rattle.vx_sound_funcs.specs.Firm.{PlainContracts}
 
--- In a typed program no precondition of whose functions applies a function: a member doesn't fail, where the walks of all that it leads to
--- passed, with right unsat replies.
+-- In a typed program a member doesn't fail, where the walks of all that it leads to passed, with right unsat replies.
 abbrev pub MembersAreSound : Type 0
 MembersAreSound =
-    (p : Program) (x : Name) (k : Kind) (replies : Name → List Reply) → IsTypedProgram p → PlainContracts p → member_named p x ≡ Some k →
+    (p : Program) (x : Name) (k : Kind) (replies : Name → List Reply) → IsTypedProgram p → member_named p x ≡ Some k →
     ((y : Name) (l : Kind) → InClosure p x y → member_named p y ≡ Some l → Passes p y l (replies y)) → Fails p x k → ⊥

@@ -1,25 +1,35 @@
 //! The soundness law for the whole language.
 #![tactic(auto)]
 
-ghost use Rattle.vx_ast.specs.Syntax.{IsFunction, IsMethod};
+ghost use Rattle.std.specs.Prelude.{List};
+ghost use Rattle.vx_ast.specs.Syntax.{Name, Program, IsFunction, IsMethod};
+ghost use Rattle.vx_smt_meaning.specs.declared.reply.Reply.{Reply};
 ghost use Rattle.vx_meaning.specs.Fails.{Fails};
 ghost use Rattle.vx_whole.specs.Premises.{IsTypedProgram};
 ghost use Rattle.vx_sound.specs.Examples.{m};
+ghost use Rattle.vx_sound_preds.specs.Covered.{PredicatesPass};
+ghost use Rattle.vx_sound_funcs.specs.AskingExamples.{part, parts, tagged};
 ghost use Rattle.vx_sound_funcs.specs.Examples.{twice, doubler, boxes};
-ghost use Rattle.vx_sound_funcs.specs.Firm.{PlainContracts};
+ghost use Rattle.vx_told.specs.Allowed.{TakenIsAllowed};
+ghost use Rattle.vx_told.specs.Walks.{FunctionsPass};
 ghost use Rattle.vx_law.specs.Law.{MembersAreSound};
-ghost use Rattle.vx_law.specs.Examples.{next, adder, relies, counts, down, descender, descends};
+ghost use Rattle.vx_law.specs.Examples.{next, adder, relies, counts, down, descender, descends, tags, payload, payloads};
 
-/// A member of a typed program doesn't fail, where the walks of all that it leads to passed, with right unsat replies, and no
-/// precondition of a function applies one.
+/// A member of a typed program doesn't fail, where the walks of all that it leads to passed, with right unsat replies.
 pub fn members_are_sound()
     ensures { MembersAreSound }
+{}
+
+/// In a typed program where the walks of predicates and functions passed, a function starts wherever its precondition can be taken in a
+/// state that can be; and if the functions of lower groups keep their promises, and it keeps its own there, the application is allowed,
+/// firmly and as the meaning has it.
+pub fn what_is_taken_is_allowed()
+    ensures { (p : Program) (x : Name) (replies : Name → List Reply) → IsTypedProgram p → PredicatesPass p x replies → FunctionsPass p x replies → TakenIsAllowed p x }
 {}
 
 /// The law at work: a method that relies on a function's postcondition never fails, and neither does the function.
 pub fn a_method_that_relies_on_a_function_never_fails()
     ensures typed { IsTypedProgram counts }
-    ensures plain { PlainContracts counts }
     ensures method { Fails counts m (IsMethod relies) → ⊥ }
     ensures function { Fails counts next (IsFunction adder) → ⊥ }
 {}
@@ -35,4 +45,19 @@ pub fn twice_never_fails()
 pub fn a_function_that_applies_itself_never_fails()
     ensures typed { IsTypedProgram descends }
     ensures never { Fails descends down (IsFunction descender) → ⊥ }
+{}
+
+/// A function whose precondition applies a function never fails: `part(x)` asks for x.g where `kind(x)` is 0. Its walk and that of
+/// `kind` pass with no question.
+pub fn a_function_whose_precondition_applies_one_never_fails()
+    ensures typed { IsTypedProgram tagged }
+    ensures never { Fails tagged part (IsFunction parts) → ⊥ }
+{}
+
+/// A function that relies on its precondition's condition never fails: `payload(x)` asks for x.g where `kind(x)` is 0, and reads it
+/// where `kind(x)` is 0. Its one question is whether the one can be false and the other true, and an unsat is right for it, since
+/// both are of one symbol, at snapshots that are equal.
+pub fn a_function_that_relies_on_its_condition_never_fails()
+    ensures typed { IsTypedProgram (tags payload payloads) }
+    ensures never { Fails (tags payload payloads) payload (IsFunction payloads) → ⊥ }
 {}

@@ -6,7 +6,7 @@ use Rattle.std.proofs.lemmas.Bool.{lt-ltb}
 use Rattle.vx_ast.specs.declared.Place.{Place}
 use Rattle.vx_ast.specs.declared.ValueType.{ValueType}
 use Rattle.vx_ast.specs.declared.ValueType.TheVariants as type
-use Rattle.vx_ast.specs.Syntax.{Name, result_name, Program, Declaration, Function, joined, conjoined, conjoined_with, place_of, Measure, ByNumber, ByInstance, Expr, Connect, And, Assertion}
+use Rattle.vx_ast.specs.Syntax.{Name, result_name, Program, Declaration, Function, joined, conjoined, Measure, ByNumber, ByInstance, Expr, Assertion}
 use Rattle.vx_terms.specs.Sorts as sort
 use Rattle.vx_terms.specs.Sorts.{Sort, BoolSort, IntSort, RealSort, SnapSort}
 use Rattle.vx_terms.specs.Terms.{Term, sort_of}
@@ -24,8 +24,7 @@ use Rattle.vx_rules.specs.Trees.{AssertCode, FunctionCode, MeasureCode, Tree, On
 use Rattle.vx_rules.specs.Chunks.{instance_key}
 use Rattle.vx_rules.specs.Groups.{is_in_group, function_number}
 use Rattle.vx_rules.specs.Rules.{Giving, Going, Context, Outer, outer, nowhere, never, holds_some, entered, back, gathered, terms, quietly, sides_of, with_body, with_promise, with_equations, lesser, decreasing, measured}
-use Rattle.vx_types.specs.Typing.{Scope, HasType, IsTyped, AreTruths, IsTypedFunction, IsTypedMeasure}
-use Rattle.vx_types.specs.Typing as typed
+use Rattle.vx_types.specs.Typing.{Scope, HasType, IsTyped, IsTypedMeasure}
 use Rattle.vx_elements.proofs.Lists.{each_both}
 use Rattle.vx_elements.proofs.Scopes.{joined_typed, typed_longer}
 use Rattle.vx_live.specs.Functions.{sorts_of_types, function_symbol}

@@ -1,7 +1,6 @@
 -- A function asks well-sorted questions: of its precondition, its measure at entry, its body and its postcondition.
 use Rattle.std.proofs.Common.{true, List, [], ◌∷◌, ◌++◌, Option, Some, None}
-use Rattle.vx_ast.specs.declared.ValueType.TheVariants as type
-use Rattle.vx_ast.specs.Syntax.{Name, result_name, Program, Declaration, Function, joined, conjoined, as_assertion, Measure, ByNumber, ByInstance, And, Or, Implies, Expr, Number, Truth, Null, Part, Variable, Not, Operate, Divide, Connect, Choose, Read, Old, Apply, Unfolding}
+use Rattle.vx_ast.specs.Syntax.{Name, result_name, Program, Declaration, Function, joined, conjoined, as_assertion, Measure, ByNumber, ByInstance}
 use Rattle.vx_terms.specs.Sorts.{SnapSort}
 use Rattle.vx_terms.specs.Terms.{Term}
 use Rattle.vx_terms.specs.Build.{whole_amount}
@@ -12,8 +11,7 @@ use Rattle.vx_rules.specs.Trees.{PostCode, MeasureCode}
 use Rattle.vx_rules.specs.Chunks.{instance_key}
 use Rattle.vx_rules.specs.Rules.{Outer, holds_some, never}
 use Rattle.vx_rules.specs.Members.{codes, blank, rooted, function_body, from_measure, function_over}
-use Rattle.vx_types.specs.Typing.{Scope, HasType, IsTyped, IsTypedMeasure}
-use Rattle.vx_types.specs.Typing as typed
+use Rattle.vx_types.specs.Typing.{IsTypedMeasure}
 use Rattle.vx_elements.proofs.Scopes.{joined_typed}
 use Rattle.vx_sound.proofs.Conjoined.{conjoined_typed, assertion_typed}
 use Rattle.vx_live.proofs.Over.{IsOfFunction, Sorts, whole_fine}

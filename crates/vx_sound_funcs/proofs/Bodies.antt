@@ -11,7 +11,7 @@ use Rattle.vx_meaning.specs.Evaluate as plain
 use Rattle.vx_meaning.specs.Evaluate.{value, values}
 use Rattle.vx_meaning.specs.Flatten.{no_applications, entries, location_entry, instance_entry}
 use Rattle.vx_meaning.specs.Consistent.{total}
-use Rattle.vx_meaning.specs.Fits.{Checked, Deeper, choose, location_of, fit, fit_all, field_part, instance_part, add, add_part, deeper}
+use Rattle.vx_meaning.specs.Fits.{Checked, choose, location_of, fit, fit_all, field_part, instance_part, add, add_part, deeper}
 use Rattle.vx_terms.specs.Interpretations.{Tree, Empty, Pair}
 use Rattle.vx_amounts.proofs.Amounts.{Le, Positive, Same, same-refl, same-trans, le-trans, none-sum, sum_same, product_same, positive-or, positive-le, none-full, full-positive}
 use Rattle.vx_amounts.proofs.Products.{product-none}
@@ -26,7 +26,7 @@ use Rattle.vx_sound_preds.proofs.Framing.{Later, field_parts, instance_parts, ag
 use Rattle.vx_sound_preds.proofs.Adding.{Sound, Grounded, Fine, added, added_append, location_entries, instance_entries}
 use Rattle.vx_sound_preds.proofs.Exchanging.{no_negatives, all_open}
 use Rattle.vx_sound_preds.proofs.Frames.{gains_fine}
-use Rattle.vx_sound_funcs.specs.Told.{Says, AllSay}
+use Rattle.vx_sound_preds.specs.Asking.{Says, AllSay}
 use Rattle.vx_sound_funcs.proofs.Likes.{Likes, itself, rewritten, likes, Found, all_rigid}
 use Rattle.vx_sound_funcs.proofs.Sees.{Matches, AppliesAlike, see, see_all}
 
@@ -176,9 +176,6 @@ side_told at v w x y u x₁ y₁ x₂ y₂ t a₁ b₁ a₂ b₂ es (rewritten m
 -- What fits where a body is added, and a second state that matches
 
 module _ (p : Program) (good : GoodBodies p) (n : ℕ) where
-  abbrev by_n : Deeper
-  by_n = deeper p n
-
   nothing_applied : AppliesAlike p (Fine p) (deeper p n) no_applications Nothing
   nothing_applied f es k = absurd k
 

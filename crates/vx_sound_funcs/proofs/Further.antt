@@ -15,6 +15,7 @@ use Rattle.vx_sound_preds.proofs.Fitting.{undo, not_failed}
 use Rattle.vx_sound_preds.proofs.Framing.{ok_same}
 use Rattle.vx_sound_funcs.specs.Told.{precondition_of}
 use Rattle.vx_sound_funcs.specs.Firm.{start_of, firm_application, firmly, GoodFunctions}
+use Rattle.vx_sound_funcs.proofs.Firm.{asking_now}
 use Rattle.vx_sound_funcs.proofs.Fits.{next, or_more, connected_more, chosen_more}
 use Rattle.vx_sound_funcs.proofs.Steps.{nothing_some, some_of, found, allowed}
 
@@ -245,7 +246,7 @@ module _ (p : Program) (d : Deeper) (looks : Looks d) where
         let inside : Further (callee s) (callee t) = record { variables = λ x v l. l; heap = l.heap; holdings = l.holdings } in
         allowed p d f k.g vs t v k.named record {
           rest = k.steps.rest;
-          takes = ap (λ (hs : Holdings). take p d (callee t) full pre hs) l.holdings ∙ take_further (callee s) (callee t) inside full pre s.holdings k.steps.rest (body_now p pre (functions.asks f k.g k.named)) k.steps.takes;
+          takes = ap (λ (hs : Holdings). take p d (callee t) full pre hs) l.holdings ∙ take_further (callee s) (callee t) inside full pre s.holdings k.steps.rest (asking_now p pre (functions.asks f k.g k.named)) k.steps.takes;
           start = k.steps.start;
           starts = ap (λ (h : Heap). start_of p d k.g vs h) l.heap ∙ k.steps.starts;
           fits = k.steps.fits;

@@ -1,5 +1,7 @@
 -- The laws, in typed programs where the walks of predicates passed.
-use Rattle.std.specs.Prelude.{List}
+use Rattle.std.proofs.Common.{List, refl}
+use Rattle.vx_meaning.specs.States.{State}
+use Rattle.vx_sound_preds.proofs.Looks.{Sees}
 use Rattle.vx_ast.specs.Syntax.{Name, Program}
 use Rattle.vx_smt_meaning.specs.declared.reply.Reply.{Reply}
 use Rattle.vx_whole.specs.Premises.{IsTypedProgram}
@@ -8,47 +10,58 @@ use Rattle.vx_sound_preds.specs.Covered.{Covered, IsProper, PredicatesPass}
 use Rattle.vx_sound_preds.proofs.Kept.{bodies_covered}
 use Rattle.vx_sound_preds.proofs.Speaking.{good}
 use Rattle.vx_sound_funcs.specs.Firm.{GoodFunctions}
-use Rattle.vx_sound_funcs.specs.Laws.{TreesTellTheHeap, TreesTellWhatIsHeld, TreesTellHoldings, TreesTellValues, TreesTellFirmValues, StartsHoldJust, ApplicationsAgree}
+use Rattle.vx_sound_funcs.specs.Laws.{TreesTellTheHeap, TreesTellWhatIsHeld, TreesTellEntries, TreesTellHoldings, TreesTellFirmValues, ApplicationsAgree}
 use Rattle.vx_sound_funcs.proofs.Heaps.{tell_listed}
-use Rattle.vx_sound_funcs.proofs.States.{like, same_holdings}
-use Rattle.vx_sound_funcs.proofs.Starts.{starts_hold_just}
 use Rattle.vx_sound_funcs.proofs.Agree.{applications_agree}
-use Rattle.vx_sound_funcs.proofs.Values.{determined, firmly_determined}
+use Rattle.vx_sound_funcs.proofs.Agree as agreeing
+use Rattle.vx_sound_funcs.proofs.Holding as holding
+use Rattle.vx_sound_funcs.proofs.TypedFunctions.{good_functions}
 
 module _ (p : Program) (x : Name) where
   pub heap_told : GoodBodies p → Covered p (IsProper p x) → TreesTellTheHeap p (IsProper p x)
   heap_told good covered h g i n inside t gd ri e a b = tell_listed p good (IsProper p x) covered h g n i inside t gd ri e a b
 
-  pub held_told : GoodBodies p → Covered p (IsProper p x) → TreesTellWhatIsHeld p (IsProper p x)
-  held_told good covered a body s t tree k store here there = like p good (IsProper p x) covered a body s k t store tree here there
-
-  pub holdings_told : GoodBodies p → Covered p (IsProper p x) → TreesTellHoldings p (IsProper p x)
-  holdings_told good covered a body s t tree k l store here there = same_holdings p good (IsProper p x) covered a body s t k l store tree here there
-
-  pub values_told : GoodBodies p → Covered p (IsProper p x) → TreesTellValues p (IsProper p x)
-  values_told good covered f g named pre body vs s t v tree k args store here there fi = determined p (IsProper p x) good covered f g named pre body vs s t v tree k args store here there fi
-
-  pub firm_told : GoodBodies p → GoodFunctions p → Covered p (IsProper p x) → TreesTellFirmValues p (IsProper p x)
-  firm_told good functions covered f g named vs s t v tree k args store here there fi = firmly_determined p (IsProper p x) good covered f g named functions vs s t v tree k args store here there fi
-
-  pub starts : IsTypedProgram p → StartsHoldJust p x
-  starts typed f g named c pl s k = starts_hold_just p x typed f g named c pl s k
-
 module _ (p : Program) (x : Name) (replies : Name → List Reply) (typed : IsTypedProgram p) (pass : PredicatesPass p x replies) where
   pub passed_heap : TreesTellTheHeap p (IsProper p x)
   passed_heap = heap_told p x (good p x typed) (bodies_covered p x replies typed pass)
 
+itself : (s : State) → Sees s s
+itself s = record { store = refl; heap = refl }
+
+module _ (p : Program) (x : Name) (good : GoodBodies p) (functions : GoodFunctions p) (covered : Covered p (IsProper p x)) where
+  pub held_told : TreesTellWhatIsHeld p (IsProper p x)
+  held_told a asks s t tree k store here there = holding.like p good functions (IsProper p x) covered a asks s k s (itself s) t store tree here there
+
+  pub entries_told : TreesTellEntries p (IsProper p x)
+  entries_told a asks s t tree k store here there =
+      let e = holding.names p good functions (IsProper p x) covered a asks s k s (itself s) t store tree here there in (
+        holding.all p good functions (IsProper p x) covered a asks s k s (itself s) t store tree here there,
+        e.entries_of,
+        e.are,
+        (holding.told_all p good functions (IsProper p x) covered a asks s k s (itself s) t store tree here there).0,
+      )
+
+  pub holdings_told : TreesTellHoldings p (IsProper p x)
+  holdings_told a asks s t tree k l store here there = holding.same_holdings p good functions (IsProper p x) covered a asks s t k l store tree here there
+
+  pub firm_told : TreesTellFirmValues p (IsProper p x)
+  firm_told f g named vs s t v tree k args store here there fi = agreeing.determined p (IsProper p x) good functions covered f g named vs s s t v tree (itself s) k args store here there fi
+
+module _ (p : Program) (x : Name) (replies : Name → List Reply) (typed : IsTypedProgram p) (pass : PredicatesPass p x replies) where
+  functions : GoodFunctions p
+  functions = good_functions p typed
+
   pub passed_held : TreesTellWhatIsHeld p (IsProper p x)
-  passed_held = held_told p x (good p x typed) (bodies_covered p x replies typed pass)
+  passed_held = held_told p x (good p x typed) functions (bodies_covered p x replies typed pass)
+
+  pub passed_entries : TreesTellEntries p (IsProper p x)
+  passed_entries = entries_told p x (good p x typed) functions (bodies_covered p x replies typed pass)
 
   pub passed_holdings : TreesTellHoldings p (IsProper p x)
-  passed_holdings = holdings_told p x (good p x typed) (bodies_covered p x replies typed pass)
+  passed_holdings = holdings_told p x (good p x typed) functions (bodies_covered p x replies typed pass)
 
-  pub passed_values : TreesTellValues p (IsProper p x)
-  passed_values = values_told p x (good p x typed) (bodies_covered p x replies typed pass)
+  pub passed_firm : TreesTellFirmValues p (IsProper p x)
+  passed_firm = firm_told p x (good p x typed) functions (bodies_covered p x replies typed pass)
 
-  pub passed_firm : GoodFunctions p → TreesTellFirmValues p (IsProper p x)
-  passed_firm functions = firm_told p x (good p x typed) functions (bodies_covered p x replies typed pass)
-
-  pub agree : GoodFunctions p → ApplicationsAgree p x
-  agree functions f g named vs ri n s t v tree co st e here there = applications_agree p x (good p x typed) functions (bodies_covered p x replies typed pass) typed f g named vs ri n s t v tree co st e here there
+  pub agree : ApplicationsAgree p x
+  agree f g named vs ri n s t v tree co st e here there = applications_agree p x (good p x typed) functions (bodies_covered p x replies typed pass) typed f g named vs ri n s t v tree co st e here there

@@ -12,7 +12,7 @@ use Rattle.vx_meaning.specs.Consistent.{IsHeld}
 use Rattle.vx_meaning.specs.Fits.{Checked, ◌>>=◌, or_fail, guard, Deeper, choose, connected, location_of, amount_of, readable, has_instance, fit, fit_all}
 use Rattle.vx_sound.proofs.Chunks.{held_directly}
 use Rattle.vx_sound_preds.proofs.Fitting.{undo, not_failed, guarded, step, some_is, Keeps, Opens}
-use Rattle.vx_sound_funcs.specs.Told.{Says, AllSay}
+use Rattle.vx_sound_preds.specs.Asking.{Says, AllSay}
 use Rattle.vx_sound_funcs.proofs.Likes.{Likes, itself, rewritten, Found, found_itself, negated_like, operated_like, divided_like, AllLike}
 
 -- the same variables, and like values wherever something is held

@@ -1,13 +1,12 @@
--- In a typed program functions speak of no earlier state, and they are good if their preconditions apply none.
-use Rattle.std.proofs.Common.{◌≡◌, inl, ℕ, zero, suc, ℤ, pos, negsuc, Bool, true, false, cond, List, [], ◌∷◌, ◌++◌, Option, Some, None, refl, sym, ◌∙◌, ap, subst}
+-- In a typed program functions speak of no earlier state, and they are good: their preconditions may apply any.
+use Rattle.std.proofs.Common.{◌≡◌, ℕ, zero, suc, ℤ, pos, negsuc, Bool, true, false, cond, List, [], ◌∷◌, ◌++◌, Option, Some, None, refl, sym, ◌∙◌, ap, subst}
 use Rattle.std.specs.Prelude.{option_and_then}
 use Rattle.vx_ast.specs.declared.Place.{Place}
 use Rattle.vx_ast.specs.declared.ValueType.{ValueType}
 use Rattle.vx_ast.specs.declared.ValueType.TheVariants.{Perm}
 use Rattle.vx_ast.specs.Syntax.{Name, same_name, Declaration, Program, Function, function_named, Connective, And, Operator, Equal, Less, LessEqual, Greater, GreaterEqual, Add, Subtract, Multiply, Division, Quotient, Remainder, Expr, Connect, Exprs, Assertion, Pure, Points, Both, Implied, Chosen, joined, joined_with, conjoined, conjoined_with, place_of}
 use Rattle.vx_ast.specs.Syntax as syntax
-use Rattle.vx_ast.specs.Mentions.{mentioned, mentioned_in}
-use Rattle.vx_ast.specs.Apart.{Stands, entered_by}
+use Rattle.vx_ast.specs.Apart.{Stands}
 use Rattle.vx_types.specs.Typing.{Scope, HaveNoPerm, gives_type, HasType, number, truth, nulls, part, variable, nots, operates, scales, divides, connects, chooses, reads, olds, applies, unfoldings, HaveTypes, no_more, more, IsTyped}
 use Rattle.vx_terms.specs.Interpretations.{Each}
 use Rattle.vx_whole.specs.Now.{IsOfNow, AreOfNow, SaysNow}
@@ -15,17 +14,17 @@ use Rattle.vx_whole.specs.Premises.{IsConstantAmount, HasConstantAmounts, IsType
 use Rattle.vx_meaning.specs.Values.{Value, IntValue, BoolValue, RefValue, PermValue, negated, operated, divided, divided_ints, needs_right, without_right}
 use Rattle.vx_meaning.specs.States.{State, Store, Location, lookup, bind, with_store, at_old, value_at, field_type, type_or_int}
 use Rattle.vx_meaning.specs.Evaluate.{choose, connected, read, applications, value, values}
-use Rattle.vx_meaning.specs.Flatten.{no_applications}
 use Rattle.vx_elements.proofs.Values.{value_typed}
 use Rattle.vx_elements.proofs.Scopes.{joined_typed}
-use Rattle.vx_sound_preds.specs.Bodies.{IsRigid, AreRigid, RigidStore, Rigid, IsPlain, ArePlain, IsAmount, IsPlainBody}
+use Rattle.vx_sound_preds.specs.Bodies.{IsRigid, AreRigid, RigidStore, Rigid}
 use Rattle.vx_sound_preds.proofs.Fitting.{some_is}
 use Rattle.vx_sound_preds.proofs.Flats.{came}
 use Rattle.vx_sound_preds.proofs.Exchanging.{bound_rigid}
 use Rattle.vx_sound_preds.proofs.Typed.{on_left, on_right}
 use Rattle.vx_sound_preds.proofs.Holding.{rigid_value}
-use Rattle.vx_sound_funcs.specs.Told.{Says, AllSay, precondition_of}
-use Rattle.vx_sound_funcs.specs.Firm.{HasRigidArguments, GoodFunctions, PlainContracts}
+use Rattle.vx_sound_funcs.specs.Told.{precondition_of}
+use Rattle.vx_sound_preds.specs.Asking.{Says, AllSay, HasRigidArguments, IsAskingAmount, IsAsking}
+use Rattle.vx_sound_funcs.specs.Firm.{GoodFunctions}
 use Rattle.vx_sound_funcs.specs.Laws.{SpeakNow}
 
 -- What isn't a Perm has no amount as its value, where no variable has one.
@@ -221,61 +220,20 @@ module _ (p : Program) where
     rights : (xs ys : List Name) → NoFunctions (xs ++ ys) → NoFunctions ys
     rights xs ys h x k = h x (on_right x xs ys k)
 
-    mutual
-      plain : {scope : Scope} {e : Expr} {t : ValueType} → HasType p scope e t → IsOfNow e → NoFunctions (mentioned e) → IsPlain e
-      plain (number at n) k f = tt
-      plain (truth) k f = tt
-      plain (nulls at) k f = tt
-      plain (part at n d l) k f = tt
-      plain (variable at x e) k f = tt
-      plain (nots h) k f = plain h k f
-      plain (operates {a = a} {b = b} o ha hb) k f = (plain ha k.0 (lefts (mentioned a) (mentioned b) f), plain hb k.1 (rights (mentioned a) (mentioned b) f))
-      plain (scales place n hb) k f = (tt, plain hb k.1 f)
-      plain (divides {a = a} {b = b} ha hb) k f = (plain ha k.0 (lefts (mentioned a) (mentioned b) f), plain hb k.1 (rights (mentioned a) (mentioned b) f))
-      plain (connects {a = a} {b = b} ha hb) k f = (plain ha k.0 (lefts (mentioned a) (mentioned b) f), plain hb k.1 (rights (mentioned a) (mentioned b) f))
-      plain (chooses {c = c} {a = a} {b = b} hc ha hb) k f =
-          let first = lefts (mentioned c ++ mentioned a) (mentioned b) f in (
-            plain hc k.0 (lefts (mentioned c) (mentioned a) first),
-            plain ha k.1 (rights (mentioned c) (mentioned a) first),
-            plain hb k.2 (rights (mentioned c ++ mentioned a) (mentioned b) f),
-          )
-      plain (reads g e h) k f = plain h k f
-      plain (olds h) k f = absurd k
-      plain (applies g d e hs) k f = absurd (not_both (function_named p g) d e (f g (inl refl)))
-        where
-          not_both : (o : Option Function) (d : Function) → o ≡ Some d → o ≡ None → ⊥
-          not_both o d e g = cc
-      plain (unfoldings i {es = es} {share = share} {e = e} d is hs hq h) k f =
-          let rest = rights (i ∷ []) (mentioned_in es ++ mentioned share ++ mentioned e) f in
-          let first = lefts (mentioned_in es ++ mentioned share) (mentioned e) rest in (
-            all_plain hs k.0 (lefts (mentioned_in es) (mentioned share) first),
-            plain hq k.1 (rights (mentioned_in es) (mentioned share) first),
-            plain h k.2 (rights (mentioned_in es ++ mentioned share) (mentioned e) rest),
-          )
+    amount_is : {scope : Scope} (e : syntax.Expr) {t : ValueType} → HasType p scope e t → IsOfNow e → IsConstantAmount e → IsAskingAmount p e
+    amount_is e h k c = record { says = says h k; amount = c.0; above = c.2; value_is = c.1 p }
 
-      all_plain : {scope : Scope} {es : Exprs} {ds : List Declaration} → HaveTypes p scope es ds → AreOfNow es → NoFunctions (mentioned_in es) → ArePlain es
-      all_plain no_more k f = tt
-      all_plain (more {e = e} {es = es} h hs) k f = (plain h k.0 (lefts (mentioned e) (mentioned_in es) f), all_plain hs k.1 (rights (mentioned e) (mentioned_in es) f))
-
-    amount_is : (e : Expr) → IsPlain e → IsConstantAmount e → IsAmount p e
-    amount_is e pl c = record { plain = pl; amount = c.0; above = c.2; value_is = c.1 p no_applications }
-
-    body_is : (scope : Scope) (a : Assertion) → IsTyped p scope a → HasConstantAmounts a → SaysNow a → NoFunctions (entered_by a) → IsPlainBody p Rigid a
-    body_is scope (Pure e) t c k f = plain t k f
-    body_is scope (Points at e x share) t c k f = (plain t.0 k.0 (lefts (mentioned e) (mentioned share) f), amount_is share (plain t.2 k.1 (rights (mentioned e) (mentioned share) f)) c)
-    body_is scope (syntax.Instance at i es share) t c k f = (
-      all_plain t.0.2 k.0 (lefts (mentioned_in es) (mentioned share) f),
-      amount_is share (plain t.1 k.1 (rights (mentioned_in es) (mentioned share) f)) c,
-      λ s vs r e. all_rigid zero (applications_rigid zero) s r t.0.2 (typed.predicates i t.0.0 t.0.1).parameters vs e,
+    asks_by : (scope : Scope) (a : Assertion) → IsTyped p scope a → HasConstantAmounts a → SaysNow a → IsAsking p a
+    asks_by scope (Pure e) t c k = says t k
+    asks_by scope (Points at e x share) t c k = (says t.0 k.0, amount_is share t.2 k.1 c)
+    asks_by scope (syntax.Instance at i es share) t c k = (
+      all_say t.0.2 k.0,
+      amount_is share t.1 k.1 c,
+      λ n s vs r e. all_rigid n (applications_rigid n) s r t.0.2 (typed.predicates i t.0.0 t.0.1).parameters vs e,
     )
-    body_is scope (Both a b) t c k f = (body_is scope a t.0 c.0 k.0 (lefts (entered_by a) (entered_by b) f), body_is scope b t.1 c.1 k.1 (rights (entered_by a) (entered_by b) f))
-    body_is scope (Implied e a) t c k f = (plain t.0 k.0 (lefts (mentioned e) (entered_by a) f), body_is scope a t.1 c k.1 (rights (mentioned e) (entered_by a) f))
-    body_is scope (Chosen e a b) t c k f =
-        let first = lefts (mentioned e ++ entered_by a) (entered_by b) f in (
-          plain t.0 k.0 (lefts (mentioned e) (entered_by a) first),
-          body_is scope a t.1 c.0 k.1 (rights (mentioned e) (entered_by a) first),
-          body_is scope b t.2 c.1 k.2 (rights (mentioned e ++ entered_by a) (entered_by b) f),
-        )
+    asks_by scope (Both a b) t c k = (asks_by scope a t.0 c.0 k.0, asks_by scope b t.1 c.1 k.1)
+    asks_by scope (Implied e a) t c k = (says t.0 k.0, asks_by scope a t.1 c k.1)
+    asks_by scope (Chosen e a b) t c k = (says t.0 k.0, asks_by scope a t.1 c.0 k.1, asks_by scope b t.2 c.1 k.2)
 
     joined_with_constant : (a : Assertion) (rest : List Assertion) → HasConstantAmounts a → Each HasConstantAmounts rest → HasConstantAmounts (joined_with a rest)
     joined_with_constant a [] k ks = k
@@ -311,9 +269,9 @@ module _ (p : Program) where
     pub promises_now : (f : Name) (g : Function) → function_named p f ≡ Some g → IsOfNow (conjoined g.place g.ensures)
     promises_now f g named = conjoined_now g.place g.ensures (typed.functions_now f g named).ensures
 
-    pub good_functions : PlainContracts p → GoodFunctions p
-    good_functions plainly = record {
-      asks = λ f g named. body_is g.parameters (precondition_of g) (joined_typed p g.parameters g.place g.requires (typed.functions f g named).requires) (joined_constant g.place g.requires (typed.preconditions f g named)) (requirements_now f g named) (plainly f g named);
+    pub good_functions : GoodFunctions p
+    good_functions = record {
+      asks = λ f g named. asks_by g.parameters (precondition_of g) (joined_typed p g.parameters g.place g.requires (typed.functions f g named).requires) (joined_constant g.place g.requires (typed.preconditions f g named)) (requirements_now f g named);
       says = λ f g named. says (typed.functions f g named).body (functions_speak_now f g named);
       promises_now = promises_now;
     }

@@ -21,10 +21,13 @@ use Rattle.vx_sound_preds.specs.Examples.{here, P, f, x, instance_of}
 use Rattle.vx_sound_preds.proofs.Fitting.{some_is}
 use Rattle.vx_sound_preds.proofs.Flats.{came}
 use Rattle.vx_sound_preds.proofs.Grouped.{resource_is}
-use Rattle.vx_sound_funcs.specs.Told.{LooksLike, IsTreeOf, HoldsJust, precondition_of, IsValueOf, Says}
-use Rattle.vx_sound_funcs.specs.Firm.{firm_application, firmly, FitsFirmly, HasRigidArguments, GoodFunctions}
+use Rattle.vx_sound_funcs.specs.Told.{LooksLike, precondition_of, IsValueOf}
+use Rattle.vx_sound_preds.specs.Asking.{Says, HasRigidArguments, IsAskingTreeOf, IsAsking}
+use Rattle.vx_sound_funcs.specs.Firm.{firm_application, firmly, FitsFirmly, GoodFunctions, HoldsFirmly}
 use Rattle.vx_sound_funcs.specs.Examples.{its_x, all, box, box_body, get, getter, twice, doubler, peek, peeker, boxes, field_of, x_is_one, holding, bereft, looses, leads_to}
-use Rattle.vx_sound_funcs.proofs.Values.{determined, firmly_determined}
+use Rattle.vx_sound_preds.proofs.Looks.{Sees}
+use Rattle.vx_sound_preds.proofs.Same.{plain_asks}
+use Rattle.vx_sound_funcs.proofs.Agree as agreeing
 
 -- The members, by their names
 
@@ -106,7 +109,7 @@ promises_of_now = each_function (λ h. IsOfNow (conjoined h.place h.ensures)) tt
 
 pub functions_are_good : GoodFunctions boxes
 functions_are_good = record {
-  asks = each_function (λ h. IsPlainBody boxes Rigid (precondition_of h)) asks_for_a_box asks_for_a_box tt;
+  asks = each_function (λ h. IsAsking boxes (precondition_of h)) (plain_asks boxes (precondition_of getter) asks_for_a_box) (plain_asks boxes (precondition_of doubler) asks_for_a_box) tt;
   says = each_function (λ h. Says (HasRigidArguments boxes) h.body) ((tt, tt), tt, tt)
       (((λ n s vs h e. x_is_rigid (applications boxes n) s vs h e), (tt, tt)), ((λ n s vs h e. x_is_rigid (applications boxes n) s vs h e), (tt, tt))) tt;
   promises_now = promises_of_now;
@@ -181,14 +184,14 @@ only_box Q q i e = go (same_resource (Folded i) (Folded (instance_of 1))) refl e
     go true e z = subst Q (is i (instance_of 1) (resource_is (Folded i) (Folded (instance_of 1)) (tt, tt) e)) q
     go false e z = cc
 
-pub holds_a_box : (z : ℤ) → HoldsJust boxes (IsProper boxes P) (precondition_of getter) (holding z)
+pub holds_a_box : (z : ℤ) → HoldsFirmly boxes (IsProper boxes P) (precondition_of getter) (holding z)
 holds_a_box z = record {
   given = (0, _, refl, refl);
   rigid = (tt, tt);
   good = only_box (λ i. IsProper boxes P (holding z).heap i × IsGrounded boxes (holding z).heap i) (proper_box (holding z).heap, (1, _, refl));
 }
 
-pub its_tree : (z : ℤ) → IsTreeOf boxes (holding z) (precondition_of getter) (IntLeaf z)
+pub its_tree : (z : ℤ) → IsAskingTreeOf boxes (holding z) (precondition_of getter) (IntLeaf z)
 its_tree z = (1, refl)
 
 pub get_fits : (z : ℤ) → Fits boxes (holding z) getter.body (IntValue z)
@@ -207,9 +210,12 @@ whole_number z (BoolValue y) e = cc
 whole_number z (RefValue y) e = cc
 whole_number z (PermValue y) e = cc
 
-pub get_is_determined : (z : ℤ) (t : State) → t.store ≡ x_is_one → IsTreeOf boxes t (precondition_of getter) (IntLeaf z) → IsValueOf boxes get (RefValue 1 ∷ []) t (IntValue z)
+seen : (z : ℤ) → Sees (holding z) (holding z)
+seen z = record { store = refl; heap = refl }
+
+pub get_is_determined : (z : ℤ) (t : State) → t.store ≡ x_is_one → IsAskingTreeOf boxes t (precondition_of getter) (IntLeaf z) → IsValueOf boxes get (RefValue 1 ∷ []) t (IntValue z)
 get_is_determined z t store there =
-    let r = (determined boxes (IsProper boxes P) boxes_are_good boxes_covered get getter refl asks_for_a_box ((tt, tt), tt, tt) (RefValue 1 ∷ []) (holding z) t (IntValue z) (IntLeaf z) (holds_a_box z) refl store (its_tree z) there (get_fits z)).1 in
+    let r = agreeing.determined boxes (IsProper boxes P) boxes_are_good functions_are_good boxes_covered get getter refl (RefValue 1 ∷ []) (holding z) (holding z) t (IntValue z) (IntLeaf z) (seen z) (holds_a_box z) refl store (its_tree z) there (2, refl) in
     subst (IsValueOf boxes get (RefValue 1 ∷ []) t) (sym (whole_number z r.0 r.2)) r.1
 
 pub twice_fits : (z : ℤ) → FitsFirmly boxes (holding z) doubler.body (IntValue (z +ℤ z))
@@ -219,14 +225,14 @@ twice_fits z = (2, refl)
 pub twice_is_allowed : (z : ℤ) → firm_application boxes (firmly boxes 3) twice (RefValue 1 ∷ []) (holding z) ≡ Some (IntValue (z +ℤ z))
 twice_is_allowed z = ap (λ (b : Bool). to_option (guard here b >>= λ _. Ok (IntValue (z +ℤ z)))) (int_same (z +ℤ z))
 
-pub twice_is_determined : (z : ℤ) (t : State) → t.store ≡ x_is_one → IsTreeOf boxes t (precondition_of doubler) (IntLeaf z) → IsValueOf boxes twice (RefValue 1 ∷ []) t (IntValue (z +ℤ z))
+pub twice_is_determined : (z : ℤ) (t : State) → t.store ≡ x_is_one → IsAskingTreeOf boxes t (precondition_of doubler) (IntLeaf z) → IsValueOf boxes twice (RefValue 1 ∷ []) t (IntValue (z +ℤ z))
 twice_is_determined z t store there =
-    let r = firmly_determined boxes (IsProper boxes P) boxes_are_good boxes_covered twice doubler refl functions_are_good (RefValue 1 ∷ []) (holding z) t (IntValue (z +ℤ z)) (IntLeaf z) (holds_a_box z) refl store (its_tree z) there (twice_fits z) in
+    let r = agreeing.determined boxes (IsProper boxes P) boxes_are_good functions_are_good boxes_covered twice doubler refl (RefValue 1 ∷ []) (holding z) (holding z) t (IntValue (z +ℤ z)) (IntLeaf z) (seen z) (holds_a_box z) refl store (its_tree z) there (twice_fits z) in
     subst (IsValueOf boxes twice (RefValue 1 ∷ []) t) (sym (whole_number (z +ℤ z) r.0 r.2)) r.1
 
 -- Nothing is held
 
-pub peek_holds_nothing : (z : ℤ) → HoldsJust boxes (IsProper boxes P) (precondition_of peeker) (bereft z)
+pub peek_holds_nothing : (z : ℤ) → HoldsFirmly boxes (IsProper boxes P) (precondition_of peeker) (bereft z)
 peek_holds_nothing z = record { given = (0, _, refl, refl); rigid = (tt, tt); good = λ i e. nothing e }
   where
     nothing : {R : Type 0} → is_positive none ≡ true → R

@@ -16,10 +16,10 @@ use Rattle.vx_meaning.specs.Consistent.{total, IsConsistent}
 use Rattle.vx_sound.specs.Law.{Passes}
 use Rattle.vx_sound_preds.specs.Covered.{PredicatesPass, IsStocked}
 use Rattle.vx_sound_preds.specs.Examples.{here, x, f, P, instance_of}
-use Rattle.vx_sound_funcs.specs.Told.{IsTreeOf, precondition_of, IsValueOf}
-use Rattle.vx_sound_funcs.specs.Firm.{PlainContracts}
+use Rattle.vx_sound_funcs.specs.Told.{precondition_of, IsValueOf}
+use Rattle.vx_sound_preds.specs.Asking.{IsAskingTreeOf}
 use Rattle.vx_sound_funcs.specs.Examples.{box, box_body, get, getter, twice, doubler, peek, peeker, boxes, field_of, x_is_one, holding}
-use Rattle.vx_sound_funcs.proofs.Worked.{the_predicate, each_function, same_assertion, only_box, functions_are_good, its_tree, whole_number}
+use Rattle.vx_sound_funcs.proofs.Worked.{the_predicate, each_function, same_assertion, only_box, its_tree, whole_number}
 use Rattle.vx_sound_funcs.proofs.Laws.{agree}
 
 same_member : (a b : Member) → Some a ≡ Some b → a ≡ b
@@ -156,10 +156,7 @@ box_is_stocked z = record { instances = ((itself, (box, refl, (refl, tt))), tt);
     go false = refl
 
 -- so any other application of `get` with this tree has this value
-pub get_agrees : (z : ℤ) (t : State) → IsTreeOf boxes (with_store x_is_one t) (precondition_of getter) (IntLeaf z) → IsValueOf boxes get (RefValue 1 ∷ []) t (IntValue z)
+pub get_agrees : (z : ℤ) (t : State) → IsAskingTreeOf boxes (with_store x_is_one t) (precondition_of getter) (IntLeaf z) → IsValueOf boxes get (RefValue 1 ∷ []) t (IntValue z)
 get_agrees z t there =
-    let r = agree boxes P (λ y. []) boxes_typed boxes_pass functions_are_good get getter refl (RefValue 1 ∷ []) (tt, tt) 2 (holding z) t (IntValue z) (IntLeaf z) (box_can_be z) (box_is_stocked z) refl (its_tree z) there in
+    let r = agree boxes P (λ y. []) boxes_typed boxes_pass get getter refl (RefValue 1 ∷ []) (tt, tt) 2 (holding z) t (IntValue z) (IntLeaf z) (box_can_be z) (box_is_stocked z) refl (its_tree z) there in
     subst (IsValueOf boxes get (RefValue 1 ∷ []) t) (sym (whole_number z r.0 r.2)) r.1
-
-pub boxes_plain : PlainContracts boxes
-boxes_plain y g e z st = absurd (each_function (λ g. Stands z (entered_by (precondition_of g)) → ⊥) (λ s. s) (λ s. s) (λ s. s) y g e st)

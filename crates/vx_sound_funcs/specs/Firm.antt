@@ -1,18 +1,17 @@
 -- What fits firmly: where a function is applied, its body fits too, with just its precondition held, and its postcondition holds there;
 -- and so it is with what these apply.
-use Rattle.std.specs.Prelude.{◌≡◌, ℕ, zero, suc, List, Option, Some, None, Ok}
-use Rattle.vx_frac.specs.Fractions.{full}
-use Rattle.vx_ast.specs.Syntax.{Name, Program, Function, function_named, conjoined, Expr, Exprs}
-use Rattle.vx_ast.specs.Apart.{Stands, entered_by}
+use Rattle.std.specs.Prelude.{◌≡◌, ℕ, zero, suc, true, List, Option, Some, None, Ok}
+use Rattle.vx_frac.specs.Fractions.{full, is_positive}
+use Rattle.vx_ast.specs.Syntax.{Name, Program, Function, function_named, conjoined, Expr, Assertion}
 use Rattle.vx_whole.specs.Now.{IsOfNow}
 use Rattle.vx_meaning.specs.Values.{Value, is_true}
-use Rattle.vx_meaning.specs.States.{State, Heap, bind, with_store}
-use Rattle.vx_meaning.specs.Evaluate.{applications, values}
-use Rattle.vx_meaning.specs.Flatten.{bare}
+use Rattle.vx_meaning.specs.States.{State, Heap, Instance, Folded, amount, bind, with_store}
+use Rattle.vx_meaning.specs.Flatten.{bare, IsGrounded}
 use Rattle.vx_meaning.specs.Fits.{Checked, ◌>>=◌, guard, to_option, Deeper, fit, take, add, exchange}
 use Rattle.vx_meaning.specs.Fails.{with_result}
-use Rattle.vx_sound_preds.specs.Bodies.{Rigid, AreRigid, IsPlainBody}
-use Rattle.vx_sound_funcs.specs.Told.{Says, precondition_of}
+use Rattle.vx_sound_preds.specs.Bodies.{Rigid}
+use Rattle.vx_sound_funcs.specs.Told.{precondition_of}
+use Rattle.vx_sound_preds.specs.Asking.{Says, HasRigidArguments, IsAsking}
 
 -- where a function starts: its precondition is given to what holds nothing
 abbrev pub start_of : Program → Deeper → Function → List Value → Heap → Checked State
@@ -42,16 +41,14 @@ firmly p (suc n) = record { applied = firm_application p (firmly p n); opened = 
 abbrev pub FitsFirmly : Program → State → Expr → Value → Type 0
 FitsFirmly p s e v = (n : ℕ) × (fit p (firmly p n) s e ≡ Ok v)
 
--- an application's arguments are no amounts, where no variable is one
-abbrev pub HasRigidArguments : Program → Name → Exprs → Type 0
-HasRigidArguments p f es = (n : ℕ) (s : State) (vs : List Value) → Rigid s → values p (applications p n) s es ≡ Some vs → AreRigid vs
-
--- what is asked of functions: no `old`, in postconditions either, arguments that are no amounts, and preconditions that apply no function
+-- what is asked of functions: no `old`, in postconditions either, and arguments that are no amounts; their preconditions may apply functions
 pub record GoodFunctions (p : Program) : Type 0 where
-  pub asks : (f : Name) (g : Function) → function_named p f ≡ Some g → IsPlainBody p Rigid (precondition_of g)
+  pub asks : (f : Name) (g : Function) → function_named p f ≡ Some g → IsAsking p (precondition_of g)
   pub says : (f : Name) (g : Function) → function_named p f ≡ Some g → Says (HasRigidArguments p) g.body
   pub promises_now : (f : Name) (g : Function) → function_named p f ≡ Some g → IsOfNow (conjoined g.place g.ensures)
 
--- what `IsTypedProgram` leaves to be said of functions: their preconditions apply none
-abbrev pub PlainContracts : Program → Type 0
-PlainContracts p = (f : Name) (g : Function) → function_named p f ≡ Some g → (x : Name) → Stands x (entered_by (precondition_of g)) → function_named p x ≡ None
+-- s holds just what a gives firmly, added to nothing; the instances that are held are good
+pub record HoldsFirmly (p : Program) (Good : Heap → Instance → Type 0) (a : Assertion) (s : State) : Type 0 where
+  pub given : (n : ℕ) × (t : State) × (add p (firmly p n) full a (bare s.store s.heap) ≡ Ok t) × (t.holdings ≡ s.holdings)
+  pub rigid : Rigid s
+  pub good : (i : Instance) → is_positive (amount s.holdings (Folded i)) ≡ true → Good s.heap i × IsGrounded p s.heap i

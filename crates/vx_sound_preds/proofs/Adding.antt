@@ -11,7 +11,7 @@ use Rattle.vx_meaning.specs.Evaluate as plain
 use Rattle.vx_meaning.specs.Evaluate.{value, values}
 use Rattle.vx_meaning.specs.Flatten.{no_applications, entries, location_entry, instance_entry, IsGrounded}
 use Rattle.vx_meaning.specs.Fits.{Checked, Deeper, choose, location_of, amount_of, fit, fit_all, field_part, instance_part, add, add_part}
-use Rattle.vx_amounts.proofs.Amounts.{Le, Positive, Same, same-refl, same-sym, same-trans, le-trans, sum_same, none-sum, sum_comm, sum_assoc, none-none, positive-le, add-right}
+use Rattle.vx_amounts.proofs.Amounts.{Le, Positive, Same, same-refl, same-sym, same-trans, sum_same, none-sum, sum_comm, sum_assoc, none-none}
 use Rattle.vx_amounts.proofs.Products.{product_sum, product_assoc, product-none, product_sign}
 use Rattle.vx_sound_preds.specs.Bodies.{Rigid, IsPlain, ArePlain, IsPlainBody}
 use Rattle.vx_sound_preds.proofs.Fitting.{undo, step, some_is, Opens, fit_framed, fit_all_framed}
@@ -79,12 +79,6 @@ pub record Adds (p : Program) (q : Fraction) (es : Holdings) (s u : State) : Typ
   pub old_holdings : u.old_holdings ≡ s.old_holdings
   pub holdings : u.holdings ≡ added q es s.holdings
   pub fine : Fine p u
-
-positive_part : (x y : Fraction) → Positive (sum x y) → Le y none → Positive x
-positive_part x y h k = positive-le h (le-trans (sum_comm x y).there (le-trans (add y x k) (none-sum x).there))
-  where
-    add : (y x : Fraction) → Le y none → Le (sum y x) (sum none x)
-    add y x k = add-right x k
 
 module _ (p : Program) (q : Fraction) (scale : Le none q) where
   no_debts_gained : (r : Resource) (a : Fraction) (h : Holdings) → Le none a → NoDebts h → NoDebts (gained r (product q a) h)

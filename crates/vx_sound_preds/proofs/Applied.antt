@@ -18,12 +18,13 @@ use Rattle.vx_types.specs.Typing.{Scope, HaveNoPerm, IsTypedFunction}
 use Rattle.vx_elements.proofs.Settled.{Meaning, extends-trans}
 use Rattle.vx_elements.proofs.Scopes.{joined_typed}
 use Rattle.vx_sound.proofs.World.{Walked, World}
-use Rattle.vx_sound.proofs.Speaks.{SpeaksOf, body_speaks}
+use Rattle.vx_sound.proofs.Speaks.{SpeaksOf}
 use Rattle.vx_sound.proofs.Passes.{Cleared}
 use Rattle.vx_sound.proofs.Stands.{TermsStand, Stands, terms_later}
 use Rattle.vx_sound.proofs.Evaluate.{Applies, PartsGo}
 use Rattle.vx_sound.proofs.Measures.{Lowers, MeasureSpeaks, Measured, measured_at}
-use Rattle.vx_sound_preds.specs.Bodies.{Rigid, IsPlainBody, GoodBodies}
+use Rattle.vx_sound_preds.specs.Bodies.{GoodBodies}
+use Rattle.vx_sound_preds.specs.Asking.{IsAsking}
 use Rattle.vx_sound_preds.proofs.Holding.{Applying, functions_world}
 use Rattle.vx_sound_preds.proofs.Produced.{SnapshotOf, snapshot_later}
 use Rattle.vx_sound_preds.proofs.Unfolds.{BodiesSpeak, AppliesBy}
@@ -40,8 +41,8 @@ module _ (means : Meaning) (p : Program) (good : GoodBodies p) (Held : Name → 
   -- what is asked of a function that may be applied
   pub record Asks (g : Function) : Type 0 where
     pub typed : IsTypedFunction p g
-    pub speaks : SpeaksOf Held (λ f. ⊥) (precondition_of g)
-    pub plain : IsPlainBody p Rigid (precondition_of g)
+    pub speaks : SpeaksOf Held applying.Applied (precondition_of g)
+    pub asking : IsAsking p (precondition_of g)
     pub measure : MeasureSpeaks means world g.decreases
 
   abbrev pub AllAsk : Type 0
@@ -109,8 +110,8 @@ module _ (means : Meaning) (p : Program) (good : GoodBodies p) (Held : Name → 
         ]
 
         z : Consumed means p good Held no_perm applying scope i s.next (after g) c (callee g vs c) (precondition_of g)
-        z = consumed_at means p good Held no_perm applying scope i s c at g.parameters ts vs (precondition_of g) context (after g) ask.typed.parameters (joined_typed p g.parameters g.place g.requires ask.typed.requires)
-            (body_speaks Held applying.Applied (precondition_of g) ask.speaks) ask.plain each st m below (subst (λ o. Cleared (of_function o)) is h)
+        z = consumed_at means p good Held no_perm applying scope i s c at g.parameters ts vs (precondition_of g) context (after g) (joined_typed p g.parameters g.place g.requires ask.typed.requires)
+            ask.speaks ask.asking each st m below (subst (λ o. Cleared (of_function o)) is h)
 
         each' : TermsStand means world z.state.next z.interp g.parameters ts vs
         each' = terms_later means world z.later z.extends g.parameters ts vs each

@@ -26,9 +26,10 @@ use Rattle.vx_sound.proofs.Arguments.{stands_entered}
 use Rattle.vx_sound.proofs.Evaluate.{PartsGo}
 use Rattle.vx_sound.proofs.Giving.{whole_scale}
 use Rattle.vx_sound.proofs.Assertions.{Consumes, consumed}
-use Rattle.vx_sound_preds.specs.Bodies.{Rigid, IsPlainBody, GoodBodies}
+use Rattle.vx_sound_preds.specs.Bodies.{GoodBodies}
+use Rattle.vx_sound_preds.specs.Asking.{IsAsking}
 use Rattle.vx_sound_preds.proofs.Holding.{Applying, functions_world}
-use Rattle.vx_sound_preds.proofs.Produced.{fine_state, SnapshotOf}
+use Rattle.vx_sound_preds.proofs.Produced.{SnapshotOf}
 use Rattle.vx_sound_preds.proofs.Trees.{TreeOf, builds_tree}
 
 -- once an assertion was consumed in the variables of another member: with the heap put back, what was built is named
@@ -53,7 +54,7 @@ module _ (means : Meaning) (p : Program) (good : GoodBodies p) (Held : Name → 
     pub cleared : Cleared (on term state)
 
   module _ (scope : Scope) (i : Interpretation) (s : rules.State) (c : run.State) (at : Place) (ds : List Declaration) (ts : List Term) (vs : List Value) (a : Assertion) (x : Context) (on : Term → Going)
-      (np : HaveNoPerm ds) (typed : IsTyped p ds a) (speaks : SpeaksOf Held applying.Applied a) (plain : IsPlainBody p Rigid a) (each : TermsStand means world s.next i ds ts vs) (st : Stands means world scope i s c) where
+      (typed : IsTyped p ds a) (speaks : SpeaksOf Held applying.Applied a) (asking : IsAsking p a) (each : TermsStand means world s.next i ds ts vs) (st : Stands means world scope i s c) where
     abbrev inside : run.State
     inside = run.with_store (run.bind ds vs) c
 
@@ -73,9 +74,9 @@ module _ (means : Meaning) (p : Program) (good : GoodBodies p) (Held : Name → 
       snapshot = record {
         good_term = m.good;
         written = name_written r.snapshot (rules.with_heap s.heap (back s r.goes.state)) back_stands.awake;
-        fuel = tree.fuel;
+        fuel = tree.is.0;
         tree = tree.tree;
-        is = tree.is;
+        is = tree.is.1;
         value_is = m.value_is ∙ tree.value_is;
       };
       takes = r.takes;
@@ -86,7 +87,7 @@ module _ (means : Meaning) (p : Program) (good : GoodBodies p) (Held : Name → 
         r = consumed means world (outer p n) parts a full typed speaks x whole_amount (put_back s on) (whole_scale means world s.next i) inner_stands h
 
         tree : TreeOf means p good Held no_perm applying r.goes.interp inside a r.snapshot
-        tree = builds_tree means p good Held no_perm applying (outer p n) parts r.goes.state.next r.goes.interp r.goes.stands.standard inside (fine_state means p good Held no_perm true applying np inner_stands) a r.snapshot plain r.built
+        tree = builds_tree means p good Held no_perm applying (outer p n) parts r.goes.state.next r.goes.interp r.goes.stands.standard inside a r.snapshot asking r.built
 
         back_stands : Stands means world scope r.goes.interp (rules.with_heap s.heap (back s r.goes.state)) c
         back_stands = record {

@@ -1,22 +1,26 @@
--- The entries of a typed body are of locations and of instances that can be held.
-use Rattle.std.proofs.Common.{◌≡◌, Bool, true, false, cond, List, [], ◌∷◌, ◌++◌, Option, Some, None, subst}
+-- The entries of a typed body are of locations and of instances that can be held, and so are those of a precondition.
+use Rattle.std.proofs.Common.{◌≡◌, ℕ, Bool, true, false, cond, List, [], ◌∷◌, ◌++◌, Option, Some, None, subst}
 use Rattle.std.specs.Prelude.{option_and_then}
-use Rattle.vx_ast.specs.Syntax.{Name, Declaration, Program, Predicate, predicate_named, Assertion, Pure, Points, Both, Implied, Chosen}
+use Rattle.vx_ast.specs.Syntax.{Name, Declaration, Program, Predicate, Function, predicate_named, function_named, Assertion, Pure, Points, Both, Implied, Chosen}
 use Rattle.vx_ast.specs.Syntax as syntax
 use Rattle.vx_meaning.specs.Values.{Value, IntValue, BoolValue, RefValue, PermValue, is_true}
 use Rattle.vx_meaning.specs.States as run
-use Rattle.vx_meaning.specs.States.{Heap, Holdings, At, Folded, bind}
+use Rattle.vx_meaning.specs.States.{State, Heap, Holdings, At, Folded, bind}
 use Rattle.vx_meaning.specs.Evaluate as plain
-use Rattle.vx_meaning.specs.Evaluate.{value, values}
+use Rattle.vx_meaning.specs.Evaluate.{Applications, value, values, applications}
 use Rattle.vx_meaning.specs.Flatten.{no_applications, bare, entries, location_entry, instance_entry}
-use Rattle.vx_types.specs.Typing.{HaveNoPerm, IsTyped}
+use Rattle.vx_types.specs.Typing.{HaveNoPerm, IsTyped, IsTypedFunction}
 use Rattle.vx_sound.proofs.World.{IsTypedInstance}
 use Rattle.vx_sound.proofs.Speaks.{SpeaksOf}
 use Rattle.vx_sound_preds.specs.Bodies.{Rigid, IsPlainBody}
+use Rattle.vx_sound_preds.specs.Asking.{asking_entries}
 use Rattle.vx_sound_preds.proofs.Fitting.{some_is}
 use Rattle.vx_sound_preds.proofs.Flats.{came}
-use Rattle.vx_sound_preds.proofs.Types.{have_types}
+use Rattle.vx_sound_preds.proofs.Types.{found_type, have_types}
+use Rattle.vx_sound_preds.proofs.TypedValues as applied_values
+use Rattle.vx_sound_preds.proofs.TypedValues.{applications_typed}
 use Rattle.vx_sound_preds.proofs.Holding.{TypedAll}
+use Rattle.vx_sound_preds.proofs.Asked.{AsksFor}
 
 module _ (p : Program) (Held : Name → Type 0) (no_perm : (x : Name) (d : Predicate) → predicate_named p x ≡ Some d → HaveNoPerm d.parameters) where
   append_typed : (xs ys : Holdings) → TypedAll p Held xs → TypedAll p Held ys → TypedAll p Held (xs ++ ys)
@@ -74,3 +78,35 @@ module _ (p : Program) (Held : Name → Type 0) (no_perm : (x : Name) (d : Predi
   entries_typed ds vs tv h (Chosen c a b) es t k sp eq =
       let y = came (value p no_applications (bare (bind ds vs) h) c) (λ v. plain.choose v (entries p (bare (bind ds vs) h) a) (entries p (bare (bind ds vs) h) b)) es eq in
       chosen_typed y.it (entries p (bare (bind ds vs) h) a) (entries p (bare (bind ds vs) h) b) es (entries_typed ds vs tv h a es t.1 k.1 sp.1) (entries_typed ds vs tv h b es t.2 k.2 sp.2) y.then
+
+  -- of an assertion that may apply functions
+  module _ (functions : (x : Name) (g : Function) → function_named p x ≡ Some g → IsTypedFunction p g) (ds : List Declaration) (vs : List Value) (tv : run.HaveTypes ds vs) (h : Heap) (n : ℕ) where
+    abbrev here : State
+    here = bare (bind ds vs) h
+
+    abbrev ap' : Applications
+    ap' = applications p n
+
+    pub asking_typed : (a : Assertion) (es : Holdings) → IsTyped p ds a → AsksFor Held a → asking_entries p (applications p n) (bare (bind ds vs) h) a ≡ Some es → TypedAll p Held es
+    asking_typed (Pure e) es t sp eq =
+        let y = came (value p ap' here e) (λ v. cond (is_true v) (Some []) None) es eq in
+        truth_typed (is_true y.it) es y.then
+    asking_typed (Points at e f share) es t sp eq =
+        let y = came (value p ap' here e) (λ r. option_and_then (location_entry f r) (value p no_applications here share)) es eq in
+        let z = came (value p no_applications here share) (location_entry f y.it) es y.then in
+        location_typed f y.it z.it es z.then
+    asking_typed (syntax.Instance at i xs share) es t sp eq =
+        let y = came (values p ap' here xs) (λ ws. option_and_then (instance_entry i ws) (value p no_applications here share)) es eq in
+        let z = came (value p no_applications here share) (instance_entry i y.it) es y.then in
+        let kinds = applied_values.have_types p functions n (applications_typed p functions n) here (λ x t v a b. found_type x t ds vs v tv a b) t.0.2 y.it y.is in
+        instance_typed i y.it z.it es (sp, (t.0.0, t.0.1, no_perm i t.0.0 t.0.1, kinds)) z.then
+    asking_typed (Both a b) es t sp eq =
+        let y = came (asking_entries p ap' here a) (λ xs. option_and_then (λ ys. Some (xs ++ ys)) (asking_entries p ap' here b)) es eq in
+        let z = came (asking_entries p ap' here b) (λ ys. Some (y.it ++ ys)) es y.then in
+        subst (TypedAll p Held) (some_is (y.it ++ z.it) es z.then) (append_typed y.it z.it (asking_typed a y.it t.0 sp.0 y.is) (asking_typed b z.it t.1 sp.1 z.is))
+    asking_typed (Implied c a) es t sp eq =
+        let y = came (value p ap' here c) (λ v. plain.choose v (asking_entries p ap' here a) (Some [])) es eq in
+        chosen_typed y.it (asking_entries p ap' here a) (Some []) es (asking_typed a es t.1 sp) (empty_typed es) y.then
+    asking_typed (Chosen c a b) es t sp eq =
+        let y = came (value p ap' here c) (λ v. plain.choose v (asking_entries p ap' here a) (asking_entries p ap' here b)) es eq in
+        chosen_typed y.it (asking_entries p ap' here a) (asking_entries p ap' here b) es (asking_typed a es t.1 sp.0) (asking_typed b es t.2 sp.1) y.then

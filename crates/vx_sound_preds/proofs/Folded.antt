@@ -7,6 +7,7 @@ use Rattle.vx_ast.specs.Syntax.{Name, Program, Predicate, predicate_named, Asser
 use Rattle.vx_meaning.specs.Values.{Value}
 use Rattle.vx_meaning.specs.States as run
 use Rattle.vx_meaning.specs.States.{bind}
+use Rattle.vx_meaning.specs.Evaluate.{applications}
 use Rattle.vx_meaning.specs.Flatten.{bare}
 use Rattle.vx_meaning.specs.Fits.{placed, Eventually, take_by}
 use Rattle.vx_meaning.specs.Outcomes.{Outcome, Outcomes, ends, checked, passes, refused}
@@ -43,7 +44,8 @@ use Rattle.vx_sound_preds.proofs.Looks.{Sees}
 use Rattle.vx_sound_preds.proofs.Framing.{tree_seen}
 use Rattle.vx_sound_preds.proofs.Folds.{IsFolded, fold_keeps, tree_of_body}
 use Rattle.vx_sound_preds.proofs.Holding.{HoldsInstances, instance_rigid, stock, consistent, of_possible, Applying, functions_world}
-use Rattle.vx_sound_preds.proofs.Produced.{fine_state, put_known}
+use Rattle.vx_sound_preds.proofs.Produced.{put_known}
+use Rattle.vx_sound_preds.proofs.Same.{same_tree, plain_asks}
 use Rattle.vx_sound_preds.proofs.Unfolds.{BodiesSpeak}
 use Rattle.vx_sound_preds.proofs.Trees.{TreeOf, builds_tree}
 
@@ -119,13 +121,17 @@ module _ (means : Meaning) (p : Program) (good : GoodBodies p) (Held : Name → 
         n = named means world r.snapshot SnapSort back_stands r.good
 
         tree : TreeOf means p good Held no_perm applying r.goes.interp inside e r.snapshot
-        tree = builds_tree means p good Held no_perm applying o parts r.goes.state.next r.goes.interp r.goes.stands.standard inside (fine_state means p good Held no_perm true applying keys.no_perm inner_stands) e r.snapshot plain_body r.built
+        tree = builds_tree means p good Held no_perm applying o parts r.goes.state.next r.goes.interp r.goes.stands.standard inside e r.snapshot (plain_asks p e plain_body) r.built
 
         seen : Sees (bare (bind keys.predicate.parameters vs) c.heap) inside
         seen = record { store = refl; heap = refl }
 
         is_tree : IsTree p c.heap k tree.tree
-        is_tree = (suc tree.fuel, tree_of_body p c.heap k d e tree.fuel keys.named body ∙ sym (tree_seen p Rigid (bare (bind d.parameters vs) c.heap) inside seen (tree_by p tree.fuel c.heap) e plain_body) ∙ tree.is)
+        is_tree = (
+          suc tree.is.0,
+          tree_of_body p c.heap k d e tree.is.0 keys.named body ∙ sym (tree_seen p Rigid (bare (bind d.parameters vs) c.heap) inside seen (tree_by p tree.is.0 c.heap) e plain_body)
+              ∙ sym (same_tree p (applications p tree.is.0) (tree_by p tree.is.0 c.heap) inside e plain_body) ∙ tree.is.1,
+        )
 
         folds : IsFolded p c k q r.left
         folds = fold_keeps p good c k q d e r.takes.0 r.left keys.named body (instance_rigid p Held k (keys_typed means world (of_instance x ts vs keys))) pos (stock p good Held true c.heap c.holdings st.holds) (consistent p good Held true c refl st.holds)

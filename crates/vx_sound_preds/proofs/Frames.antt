@@ -81,27 +81,27 @@ positive_least p h l [] k = tt
 positive_least p h l (x ∷ xs) k = (positive_le k.0, positive_least p h l xs k.1)
 
 module _ (p : Program) where
-  location_positive : (f : Name) (r : Value) (a : Fraction) (es : Holdings) → Positive a → location_entry f r (PermValue a) ≡ Some es → AllPositive es
+  pub location_positive : (f : Name) (r : Value) (a : Fraction) (es : Holdings) → Positive a → location_entry f r (PermValue a) ≡ Some es → AllPositive es
   location_positive f (RefValue r) a es k e = subst (AllPositive) (some_is ((At record { receiver = r; field = f }, a) ∷ []) es e) (k, tt)
   location_positive f (IntValue r) a es k e = cc
   location_positive f (BoolValue r) a es k e = cc
   location_positive f (PermValue r) a es k e = cc
 
-  append_positive : (xs ys : Holdings) → AllPositive xs → AllPositive ys → AllPositive (xs ++ ys)
+  pub append_positive : (xs ys : Holdings) → AllPositive xs → AllPositive ys → AllPositive (xs ++ ys)
   append_positive [] ys a b = b
   append_positive (x ∷ xs) ys a b = (a.0, append_positive xs ys a.1 b)
 
-  chosen_positive : (v : Value) (x y : Option Holdings) (es : Holdings) → (x ≡ Some es → AllPositive es) → (y ≡ Some es → AllPositive es) → plain.choose v x y ≡ Some es → AllPositive es
+  pub chosen_positive : (v : Value) (x y : Option Holdings) (es : Holdings) → (x ≡ Some es → AllPositive es) → (y ≡ Some es → AllPositive es) → plain.choose v x y ≡ Some es → AllPositive es
   chosen_positive (BoolValue true) x y es a b e = a e
   chosen_positive (BoolValue false) x y es a b e = b e
   chosen_positive (IntValue z) x y es a b e = cc
   chosen_positive (RefValue z) x y es a b e = cc
   chosen_positive (PermValue z) x y es a b e = cc
 
-  empty_positive : (es : Holdings) → Some [] ≡ Some es → AllPositive es
+  pub empty_positive : (es : Holdings) → Some [] ≡ Some es → AllPositive es
   empty_positive es e = subst (AllPositive) (some_is [] es e) tt
 
-  truth_positive : (b : Bool) (es : Holdings) → cond b (Some []) None ≡ Some es → AllPositive es
+  pub truth_positive : (b : Bool) (es : Holdings) → cond b (Some []) None ≡ Some es → AllPositive es
   truth_positive true es e = empty_positive es e
   truth_positive false es e = cc
 

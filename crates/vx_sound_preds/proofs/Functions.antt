@@ -5,7 +5,7 @@ use Rattle.std.proofs.Common.{◌≡◌, ◌⊎◌, inl, inr, ℕ, suc, ℤ, ◌
 use Rattle.std.specs.Prelude.{Ok, Err, IsTrue}
 use Rattle.vx_frac.specs.Fractions.{Fraction, none, full, is_positive}
 use Rattle.vx_ast.specs.declared.Place.{Place}
-use Rattle.vx_ast.specs.Syntax.{Name, result_name, Declaration, Program, Predicate, Function, predicate_named, conjoined, as_assertion, And, Or, Implies, Expr, Exprs, Number, Truth, Null, Part, Variable, Not, Operate, Divide, Connect, Choose, Read, Old, Apply, Unfolding, Assertion, Measure, ByNumber, ByInstance}
+use Rattle.vx_ast.specs.Syntax.{Name, result_name, Declaration, Program, Predicate, Function, predicate_named, function_named, conjoined, as_assertion, And, Or, Implies, Expr, Exprs, Number, Truth, Null, Part, Variable, Not, Operate, Divide, Connect, Choose, Read, Old, Apply, Unfolding, Assertion, Measure, ByNumber, ByInstance}
 use Rattle.vx_meaning.specs.Values.{Value, IntValue, BoolValue, RefValue, PermValue, type_of, is_true}
 use Rattle.vx_meaning.specs.States as run
 use Rattle.vx_meaning.specs.States.{bind}
@@ -35,7 +35,7 @@ use Rattle.vx_sound.proofs.Marks.{Marks, Unmarked, Rooted}
 use Rattle.vx_sound.proofs.Marked.{marked, Enters, root_entered}
 use Rattle.vx_sound.proofs.World.{World, IsMeasured}
 use Rattle.vx_sound.proofs.Standard.{start as start_interpretation, start_null, start_standard, IsWritten, variable_written}
-use Rattle.vx_sound.proofs.Speaks.{Speaks, AllSpeak, SpeaksOf, body_speaks}
+use Rattle.vx_sound.proofs.Speaks.{Speaks, AllSpeak, SpeaksOf, speaks_anyway, all_speak_anyway}
 use Rattle.vx_sound.proofs.Conjoined.{conjoined_typed, assertion_typed, assertion_speaks}
 use Rattle.vx_sound.proofs.Passes.{Cleared}
 use Rattle.vx_sound.proofs.Stands.{MeasureStands, Stands, stands_later, stands_with_store, store_append}
@@ -45,13 +45,13 @@ use Rattle.vx_sound.proofs.Evaluated.{all_known, parts_measured, of_each}
 use Rattle.vx_sound.proofs.Evaluate.{PartsGo, EvaluatesAll, eval_goes, evals_goes}
 use Rattle.vx_sound.proofs.Giving.{whole_scale}
 use Rattle.vx_sound.proofs.Assertions.{consumed}
-use Rattle.vx_sound_preds.specs.Bodies.{Rigid, IsPlainBody, GoodBodies}
+use Rattle.vx_sound_preds.specs.Bodies.{GoodBodies}
+use Rattle.vx_sound_preds.specs.Asking.{IsAsking}
 use Rattle.vx_sound_preds.proofs.Fitting.{undo}
-use Rattle.vx_sound_preds.proofs.Frames.{entries_positive}
+use Rattle.vx_sound_preds.proofs.Asked.{speaks_for, asking_positive}
 use Rattle.vx_sound_preds.proofs.Adding.{added}
-use Rattle.vx_sound_preds.proofs.Holding.{nothing, amount_grows, Applying, nothing_applied, functions_world}
+use Rattle.vx_sound_preds.proofs.Holding.{nothing, amount_grows, Applying, functions_world}
 use Rattle.vx_sound_preds.proofs.Given.{gave}
-use Rattle.vx_sound_preds.proofs.Marking.{BodiesKeep}
 use Rattle.vx_sound_preds.proofs.Produced.{SnapshotOf, produced}
 use Rattle.vx_sound_preds.proofs.Refusing.{refuses}
 use Rattle.vx_sound_preds.proofs.Applied.{precondition_of}
@@ -109,6 +109,10 @@ pub record OwnWalk (p : Program) (g : Function) (Measured : Name → List Value 
   pub in_body : (a : Application) → fails.Evaluates p s g.body a → Measured a.0 a.1
   pub in_postcondition : (a : Application) → fails.Evaluates p (with_result result s) (conjoined g.place g.ensures) a → Measured a.0 a.1
 
+-- where its precondition is given: what may be applied there; nothing is asked of these, nor of the heap
+abbrev pub asking_of : (Name → Type 0) → Applying
+asking_of Before = record { marks = Unmarked; Applied = Before; own = None; Measured = λ h f vs. Unit {0} }
+
 abbrev pub in_body_of : (Name → Type 0) → Name → Option ℤ → Marks → run.Heap → (run.Heap → Name → List Value → Type 0) → Applying
 in_body_of Applied f z marks h Measured = record { marks = marks; Applied = Applied; own = Some record { function = f; measure = z; heap = h }; Measured = Measured }
 
@@ -118,23 +122,24 @@ MeasureSays Held None = Unit {0}
 MeasureSays Held (Some (ByNumber e)) = Speaks Held (λ f. ⊥) e
 MeasureSays Held (Some (ByInstance at i es)) = Held i × AllSpeak Held (λ f. ⊥) es
 
--- what is asked of a function whose walk is looked at
-pub record IsWalkable (p : Program) (Held Applied : Name → Type 0) (g : Function) : Type 0 where
+-- what is asked of a function whose walk is looked at, where some functions may be applied in its precondition, and some behind it
+pub record IsWalkable (p : Program) (Held Before Applied : Name → Type 0) (g : Function) : Type 0 where
   pub typed : IsTypedFunction p g
-  pub asks : SpeaksOf Held (λ f. ⊥) (precondition_of g)
-  pub plain : IsPlainBody p Rigid (precondition_of g)
+  pub functions : (x : Name) (d : Function) → function_named p x ≡ Some d → IsTypedFunction p d
+  pub asks : SpeaksOf Held Before (precondition_of g)
+  pub asking : IsAsking p (precondition_of g)
   pub measure : MeasureSays Held g.decreases
   pub body : Speaks Held Applied g.body
   pub ensures : Speaks Held Applied (conjoined g.place g.ensures)
 
-module _ (means : Meaning) (p : Program) (good : GoodBodies p) (Held : Name → Type 0) (no_perm : (x : Name) (d : Predicate) → predicate_named p x ≡ Some d → HaveNoPerm d.parameters) (Applied : Name → Type 0) where
+module _ (means : Meaning) (p : Program) (good : GoodBodies p) (Held : Name → Type 0) (no_perm : (x : Name) (d : Predicate) → predicate_named p x ≡ Some d → HaveNoPerm d.parameters) (Before Applied : Name → Type 0) where
   abbrev pub outside : World
-  outside = functions_world p good Held no_perm true nothing_applied
+  outside = functions_world p good Held no_perm true (asking_of Before)
 
   abbrev pub inside : Name → Option ℤ → Marks → run.Heap → (run.Heap → Name → List Value → Type 0) → World
   inside f z marks h Measured = functions_world p good Held no_perm true (in_body_of Applied f z marks h Measured)
 
-  module _ (o : Outer) (parts : PartsGo means (functions_world p good Held no_perm true nothing_applied) o) (keeps : BodiesKeep p good o) (f : Name) (g : Function) (says : IsWalkable p Held Applied g) (walked : Cleared (function_over p o f g)) where
+  module _ (o : Outer) (parts : PartsGo means (functions_world p good Held no_perm true (asking_of Before)) o) (f : Name) (g : Function) (says : IsWalkable p Held Before Applied g) (walked : Cleared (function_over p o f g)) where
     abbrev pre : Assertion
     pre = precondition_of g
 
@@ -192,7 +197,7 @@ module _ (means : Meaning) (p : Program) (good : GoodBodies p) (Held : Name → 
     -- giving the precondition fails nowhere
     pub no_start_fails : (vs : List Value) (place : Place) → run.HaveTypes g.parameters vs → StartFails p (bind g.parameters vs) (precondition_of g) place → ⊥
     no_start_fails vs place types (h, fails_at) =
-        let r = refuses means p good Held no_perm nothing_applied o parts keeps refl g.parameters vs types says.typed.parameters h (precondition_of g) [] place pre_typed says.plain says.asks (nothing p good Held true h) fails_at in
+        let r = refuses means p good Held no_perm (asking_of Before) o parts refl says.functions g.parameters vs types says.typed.parameters h (precondition_of g) [] place pre_typed says.asking says.asks (nothing p good Held true h) fails_at in
         let b = begun vs types h r.0 in
         r.1 b.interp b.state whole_amount b.snapshot (from_measure p o f g g.decreases) b.good_snapshot b.written b.worth (whole_scale means outside b.state.next b.interp) b.stands b.cleared
 
@@ -224,14 +229,14 @@ module _ (means : Meaning) (p : Program) (good : GoodBodies p) (Held : Name → 
 
     pub at_start : (s : run.State) → FunctionStarts p g s → AtStart s
     at_start s (vs, types, (h, t, ends_at, is)) =
-        let k = gave p good Held no_perm g.parameters vs types says.typed.parameters h (precondition_of g) [] t pre_typed says.plain says.asks (nothing p good Held true h) ends_at in
+        let k = gave p good says.functions Held no_perm g.parameters vs types says.typed.parameters h (precondition_of g) [] t pre_typed says.asking (speaks_for Held Before (precondition_of g) says.asks) (nothing p good Held true h) ends_at in
         let base = bare (bind g.parameters vs) h in
-        let b = begun vs types h k.there.tree in
-        let snap : SnapshotOf means p good Held no_perm true nothing_applied b.state.next b.interp base (precondition_of g) b.snapshot =
-        record { good_term = b.good_snapshot; written = b.written; fuel = k.there.fuel; tree = k.there.tree; is = k.there.is; value_is = b.worth } in
-        let r = produced means p good Held no_perm true nothing_applied o parts (IsConsistent p) keeps full (precondition_of g) g.parameters base k.entries_of says.typed.parameters pre_typed (body_speaks Held (λ f. ⊥) (precondition_of g) says.asks) says.plain k.entries_are k.holds
+        let b = begun vs types h k.tree in
+        let snap : SnapshotOf means p good Held no_perm true (asking_of Before) b.state.next b.interp base (precondition_of g) b.snapshot =
+        record { good_term = b.good_snapshot; written = b.written; fuel = k.tree_is.0; tree = k.tree; is = k.tree_is.1; value_is = b.worth } in
+        let r = produced means p good Held no_perm true (asking_of Before) o parts (IsConsistent p) full (precondition_of g) (inr tt) g.parameters base k.fuel k.entries_of pre_typed says.asks says.asking k.entries_are k.holds
         b.interp b.state whole_amount (Some b.snapshot) (from_measure p o f g g.decreases) snap (whole_scale means outside b.state.next b.interp) b.stands (λ e. absurd (b.stands.marked e)) b.cleared in
-        let least = λ (r : run.Resource). amount_grows p good Held true full k.entries_of [] r full-positive (entries_positive p base (precondition_of g) k.entries_of says.plain k.entries_are) in
+        let least = λ (r : run.Resource). amount_grows p good Held true full k.entries_of [] r full-positive (asking_positive p (applications p k.fuel) base (precondition_of g) k.entries_of says.asking k.entries_are) in
         let same = is ∙ ap run.from_now k.is in
         record {
           interp = r.goes.interp;
@@ -261,7 +266,7 @@ module _ (means : Meaning) (p : Program) (good : GoodBodies p) (Held : Name → 
 
     by_number : (s : run.State) (i : Interpretation) (t : rules.State) (e : Expr) → IsTypedMeasure p g.parameters (Some (ByNumber e)) → Speaks Held (λ f. ⊥) e → Stands means outside g.parameters i t s → Cleared (from_measure p o f g (Some (ByNumber e)) t) → AtMeasure s (Some (ByNumber e))
     by_number s i t e typed speaks st h =
-        let r = eval_goes means outside o parts typed speaks (λ m s1. function_body p o f g (Some m) s1) st h in
+        let r = eval_goes means outside o parts typed (speaks_anyway Held Before e speaks) (λ m s1. function_body p o f g (Some m) s1) st h in
         let is_int = int_value_is r.result r.typed in
         record {
           number = Some _;
@@ -292,7 +297,7 @@ module _ (means : Meaning) (p : Program) (good : GoodBodies p) (Held : Name → 
         after ts s1 = first_with (holds_some ts) (candidates (instance_key x ts) s1.heap) at MeasureCode s1 (λ c. function_body p o f g None (rooted c s1)) (never at MeasureCode s1)
 
         r : EvaluatesAll means outside o parts g.parameters i t.next after s es typed.0.parameters
-        r = evals_goes means outside o parts typed.2 speaks.1 after st h
+        r = evals_goes means outside o parts typed.2 (all_speak_anyway Held Before es speaks.1) after st h
 
         en : Enters means outside refl g.parameters r.interp r.state.next (λ s1. function_body p o f g None s1) s (record { predicate = x; arguments = r.results })
         en = root_entered means outside refl at x r.terms r.results (λ s1. function_body p o f g None s1) (record { held = speaks.0; predicate = typed.0; named = typed.1; no_perm = no_perm x typed.0 typed.1; each = r.each }) r.stands r.cleared

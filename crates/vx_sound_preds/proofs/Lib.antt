@@ -9,6 +9,8 @@ pub mod Inside
 pub mod Adding
 pub mod Exchanging
 pub mod Frames
+pub mod Same
+pub mod Asked
 pub mod Folding
 pub mod Taking
 pub mod Folds
@@ -17,6 +19,7 @@ pub mod Gives
 pub mod Lowering
 pub mod Typed
 pub mod Types
+pub mod TypedValues
 pub mod Changes
 pub mod Giving
 pub mod Holding

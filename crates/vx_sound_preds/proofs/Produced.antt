@@ -1,8 +1,8 @@
--- A body that is produced, with a snapshot or without one: where its entries are known, they are added to what is held, and
--- what follows is cleared there. Giving it ends there too, if it ends.
-use Rattle.std.proofs.Common.{◌≡◌, ℕ, ◌≤◌, Bool, true, false, cond, List, [], ◌∷◌, ◌++◌, Option, Some, None, inl, inr, refl, sym, ◌∙◌, ap, subst, le_refl, le_trans}
+-- A body or a precondition that is produced, with a snapshot or without one: where its entries are known, they are added to what is
+-- held, and what follows is cleared there. Giving it ends there too, if it ends.
+use Rattle.std.proofs.Common.{◌≡◌, ◌⊎◌, ℕ, ◌≤◌, Bool, true, false, cond, List, [], ◌∷◌, ◌++◌, Option, Some, None, inl, inr, refl, sym, ◌∙◌, ap, subst, le_refl, le_trans}
 use Rattle.std.specs.Prelude.{Ok, option_and_then}
-use Rattle.vx_frac.specs.Fractions.{Fraction, none, full, product}
+use Rattle.vx_frac.specs.Fractions.{Fraction, none, product}
 use Rattle.vx_ast.specs.declared.Place.{Place}
 use Rattle.vx_ast.specs.declared.ValueType.{ValueType}
 use Rattle.vx_ast.specs.declared.ValueType.TheVariants as type
@@ -11,8 +11,9 @@ use Rattle.vx_ast.specs.Syntax as syntax
 use Rattle.vx_meaning.specs.Values.{Value, BoolValue, RefValue, PermValue, type_of, is_true}
 use Rattle.vx_meaning.specs.States as run
 use Rattle.vx_meaning.specs.Evaluate as plain
+use Rattle.vx_meaning.specs.Evaluate.{applications}
 use Rattle.vx_meaning.specs.Flatten.{no_applications, entries, location_entry, instance_entry}
-use Rattle.vx_meaning.specs.Fits.{Checked, Eventually, Fits, choose, fit_by, fit_all, field_part, instance_part, deeper, add, add_part}
+use Rattle.vx_meaning.specs.Fits.{Checked, Eventually, Fits, choose, field_part, instance_part, deeper, add, add_part}
 use Rattle.vx_meaning.specs.Outcomes.{Outcome, Ends, FailsAt, Stops, ends, stops, checked, passes, refused, IsOver, goes_on, is_over}
 use Rattle.vx_meaning.specs.Give.{when, side, give, give_part}
 use Rattle.vx_terms.specs.Sorts.{Sort, RealSort, SnapSort}
@@ -31,30 +32,29 @@ use Rattle.vx_elements.proofs.Elements.{element, element_is, bool_value_is}
 use Rattle.vx_elements.proofs.Eventually.{always, eventually, both_eventually, one_answer, no_refusal}
 use Rattle.vx_elements.proofs.Truth.{is_equal}
 use Rattle.vx_elements.proofs.Values.{value_typed, sort_of_field}
-use Rattle.vx_amounts.proofs.Amounts.{Le, Same, none-full}
-use Rattle.vx_sound.specs.Snapshots.{leaf, location_leaf, truth_leaf, assertion_tree, tree_by}
-use Rattle.vx_sound.proofs.Marks.{InnerAt}
+use Rattle.vx_amounts.proofs.Amounts.{Le, Same}
+use Rattle.vx_sound.specs.Snapshots.{leaf, location_leaf, truth_leaf, tree_by}
+use Rattle.vx_sound.proofs.Marks.{InnerAt, MayMark, Unrooted, inner_anywhere}
 use Rattle.vx_sound.proofs.World.{at_field, World}
 use Rattle.vx_sound.proofs.Standard.{IsWritten, leaf_of, leaf_is, unit_value, pair_value, first_value, second_value, wrap_value, unwrap_value, first_written, second_written, name_written, good_unit, good_pair, good_first, good_second, good_wrap, good_unwrap}
 use Rattle.vx_sound.proofs.Speaks.{Speaks, SpeaksOf}
 use Rattle.vx_sound.proofs.Passes.{Cleared}
-use Rattle.vx_sound.proofs.Stands.{IsThere, StoreStands, Stands, stands_fact, next_after_fact}
+use Rattle.vx_sound.proofs.Stands.{IsThere, Stands, stands_fact, next_after_fact}
 use Rattle.vx_sound.proofs.Candidates.{Keys, of_instance, keys_later, keyed}
 use Rattle.vx_sound.proofs.Puts.{put_stands}
 use Rattle.vx_sound.proofs.Goes.{Goes, Evaluates, goes_after, reached, forked, Named, named}
 use Rattle.vx_sound.proofs.Evaluate.{PartsGo, bind_ok, eval_goes}
 use Rattle.vx_sound.proofs.Giving.{next_after_put, ScaleStands, scale_later, put_fresh, Located, located, InstanceLocated, instance_located}
-use Rattle.vx_sound_preds.specs.Bodies.{RigidStore, Rigid, IsPlain, ArePlain, IsPlainBody, GoodBodies}
+use Rattle.vx_sound_preds.specs.Bodies.{Rigid, IsPlain, IsPlainBody, GoodBodies}
+use Rattle.vx_sound_preds.specs.Asking.{asking_tree, asking_entries, IsAsking}
 use Rattle.vx_sound_preds.proofs.Fitting.{step, some_is}
 use Rattle.vx_sound_preds.proofs.Flats.{After, came}
-use Rattle.vx_sound_preds.proofs.Looks.{Sees}
-use Rattle.vx_sound_preds.proofs.Framing.{entries_seen, tree_seen}
-use Rattle.vx_sound_preds.proofs.Adding.{Fine, added, added_append, value_here, values_here}
-use Rattle.vx_sound_preds.proofs.Exchanging.{all_open}
-use Rattle.vx_sound_preds.proofs.Frames.{entries_positive}
+use Rattle.vx_sound_preds.proofs.Same.{same_entries, plain_asks}
+use Rattle.vx_sound_preds.proofs.Asked.{held_tree, held_entries, asking_positive, read_of, read_all, share_worth}
+use Rattle.vx_sound_preds.proofs.Adding.{added, added_append}
 use Rattle.vx_sound_preds.proofs.Marking.{BodiesKeep, produce_kept, left_kept, split_marks, as_marked, marked_on, marked_back}
 use Rattle.vx_sound_preds.proofs.Inside.{AllInner, inner_parts}
-use Rattle.vx_sound_preds.proofs.Holding.{rigid_value, all_single, HoldsInstances, added_debts, fewer, Applying, functions_world}
+use Rattle.vx_sound_preds.proofs.Holding.{HoldsInstances, added_debts, fewer, Applying, functions_world}
 
 -- an outcome that ends, ends here
 abbrev pub EndsAt : run.State → Outcome → Type 0
@@ -66,31 +66,13 @@ module _ (means : Meaning) (p : Program) (good : GoodBodies p) (Held : Name → 
   abbrev pub world : World
   world = functions_world p good Held no_perm bounded applying
 
-  rigid_store : (n : ℕ) (i : Interpretation) (scope : Scope) (xs : rules.Store) (ys : run.Store) → HaveNoPerm scope → StoreStands means world n i scope xs ys → RigidStore ys
-  rigid_store n i [] [] [] np h = tt
-  rigid_store n i (d ∷ ds) (a ∷ xs) (b ∷ ys) np h = (rigid_value b.1 (λ e. np.0 (sym h.0.typed ∙ e)), rigid_store n i ds xs ys np.1 h.1)
-  rigid_store n i [] [] (b ∷ ys) np h = absurd h
-  rigid_store n i [] (a ∷ xs) ys np h = absurd h
-  rigid_store n i (d ∷ ds) [] ys np h = absurd h
-  rigid_store n i (d ∷ ds) (a ∷ xs) [] np h = absurd h
-
-  pub fine_state : {scope : Scope} {i : Interpretation} {s : rules.State} {c : run.State} → HaveNoPerm scope → Stands means world scope i s c → Fine p c
-  fine_state {scope = scope} {i = i} {s = s} {c = c} np st = record { typed = rigid_store s.next i scope s.store c.store np st.store; forth = (st.holds.debts, all_single p Held c.holdings st.holds.typed); back = st.holds.grounded }
-
-  -- what fits has its value without looking at what is held
-  pub now : (c : run.State) (e : Expr) (v : Value) → Fine p c → IsPlain e → Fits p c e v → plain.value p no_applications c e ≡ Some v
-  now c e v f k fits = value_here p full none-full (deeper p fits.0) (all_open p good fits.0) c e v f k (fits.1 fits.0 (le_refl _))
-
-  pub all_now : (c : run.State) (es : Exprs) (vs : List Value) → Fine p c → ArePlain es → Eventually (λ n. fit_all p (deeper p n) c es ≡ Ok vs) → plain.values p no_applications c es ≡ Some vs
-  all_now c es vs f k fits = values_here p full none-full (deeper p fits.0) (all_open p good fits.0) c es vs f k (fits.1 fits.0 (le_refl _))
-
   -- the snapshot of an assertion, where there is one: it stands for the tree of the assertion's values
   pub record SnapshotOf (n : ℕ) (i : Interpretation) (c : run.State) (a : Assertion) (t : Term) : Type 0 where
     pub good_term : Good means n i t SnapSort
     pub written : IsWritten t
     pub fuel : ℕ
     pub tree : Tree
-    pub is : assertion_tree p (tree_by p fuel c.heap) c a ≡ Some tree
+    pub is : asking_tree p (applications p fuel) (tree_by p fuel c.heap) c a ≡ Some tree
     pub value_is : value i t ≡ TreeElement tree
 
   abbrev pub IsSnapshotOf : ℕ → Interpretation → run.State → Assertion → Option Term → Type 0
@@ -102,9 +84,10 @@ module _ (means : Meaning) (p : Program) (good : GoodBodies p) (Held : Name → 
   snapshot_later m n i j c a (Some t) le x k = record { good_term = good_later means le x k.good_term; written = k.written; fuel = k.fuel; tree = k.tree; is = k.is; value_is = value_kept means t k.good_term.settled x ∙ k.value_is }
 
   -- of another assertion that has the same tree, in a state with other holdings
-  snapshot_as : (n : ℕ) (i : Interpretation) (c : run.State) (hs : run.Holdings) (a b : Assertion) (snapshot : Option Term) → ((f : run.Instance → Option Tree) → assertion_tree p f (run.with_holdings hs c) b ≡ assertion_tree p f c a) → IsSnapshotOf n i c a snapshot → IsSnapshotOf n i (run.with_holdings hs c) b snapshot
+  snapshot_as : (n : ℕ) (i : Interpretation) (c : run.State) (hs : run.Holdings) (a b : Assertion) (snapshot : Option Term) →
+      ((m : ℕ) (f : run.Instance → Option Tree) (t : Tree) → asking_tree p (applications p m) f c a ≡ Some t → asking_tree p (applications p m) f (run.with_holdings hs c) b ≡ Some t) → IsSnapshotOf n i c a snapshot → IsSnapshotOf n i (run.with_holdings hs c) b snapshot
   snapshot_as n i c hs a b None e k = tt
-  snapshot_as n i c hs a b (Some t) e k = record { good_term = k.good_term; written = k.written; fuel = k.fuel; tree = k.tree; is = e (tree_by p k.fuel c.heap) ∙ k.is; value_is = k.value_is }
+  snapshot_as n i c hs a b (Some t) e k = record { good_term = k.good_term; written = k.written; fuel = k.fuel; tree = k.tree; is = e k.fuel (tree_by p k.fuel c.heap) k.tree k.is; value_is = k.value_is }
 
   -- Units
 
@@ -112,11 +95,11 @@ module _ (means : Meaning) (p : Program) (good : GoodBodies p) (Held : Name → 
   next_unit None s = refl
   next_unit (Some t) s = next_after_fact means world (equals t unit) s
 
-  unit_stands : {scope : Scope} {i : Interpretation} {s : rules.State} {c : run.State} (a : Assertion) (snapshot : Option Term) → Stands means world scope i s c → IsSnapshotOf s.next i c a snapshot → ((f : run.Instance → Option Tree) → assertion_tree p f c a ≡ Some Empty) →
-      Stands means world scope i (with_unit snapshot s) c
+  unit_stands : {scope : Scope} {i : Interpretation} {s : rules.State} {c : run.State} (a : Assertion) (snapshot : Option Term) → Stands means world scope i s c → IsSnapshotOf s.next i c a snapshot →
+      ((m : ℕ) (f : run.Instance → Option Tree) (t : Tree) → asking_tree p (applications p m) f c a ≡ Some t → t ≡ Empty) → Stands means world scope i (with_unit snapshot s) c
   unit_stands a None st k e = st
   unit_stands {i = i} {c = c} a (Some t) st k e =
-      let empty : k.tree ≡ Empty = some_is k.tree Empty (sym k.is ∙ e (tree_by p k.fuel c.heap)) in
+      let empty : k.tree ≡ Empty = e k.fuel (tree_by p k.fuel c.heap) k.tree k.is in
       stands_fact means world (equals t unit) st (good_equals means k.good_term (good_unit means)) (is_equal i t unit (k.value_is ∙ ap TreeElement empty ∙ sym (unit_value i st.standard)))
 
   -- Pairs
@@ -162,8 +145,8 @@ module _ (means : Meaning) (p : Program) (good : GoodBodies p) (Held : Name → 
   split a b None st k = record { stands = st; next_is = refl; left = tt; right = tt }
   split {i = i} {s = s} {c = c} a b (Some t) st k =
       let f = tree_by p k.fuel c.heap in
-      let x = came (assertion_tree p f c a) (λ t. option_and_then (λ u. Some (Pair t u)) (assertion_tree p f c b)) k.tree k.is in
-      let y = came (assertion_tree p f c b) (λ u. Some (Pair x.it u)) k.tree x.then in
+      let x = came (asking_tree p (applications p k.fuel) f c a) (λ t. option_and_then (λ u. Some (Pair t u)) (asking_tree p (applications p k.fuel) f c b)) k.tree k.is in
+      let y = came (asking_tree p (applications p k.fuel) f c b) (λ u. Some (Pair x.it u)) k.tree x.then in
       let whole : value i t ≡ TreeElement (Pair x.it y.it) = k.value_is ∙ ap TreeElement (sym (some_is (Pair x.it y.it) k.tree y.then)) in
       let m = parts_of t x.it y.it st k.good_term k.written whole in
       record {
@@ -259,10 +242,15 @@ module _ (means : Meaning) (p : Program) (good : GoodBodies p) (Held : Name → 
     abbrev Keeps : Type 0
     Keeps = BodiesKeep p good o
 
-    -- what is shown of a body
+    -- why marks don't matter behind a part: it is plain, so it keeps what marks are put; or no instance is the root
+    abbrev pub KeepsMarks : Assertion → Type 0
+    KeepsMarks a = (BodiesKeep p good o × IsPlainBody p Rigid a) ⊎ Unrooted applying.marks
+
+    -- what is shown of an assertion, whose entries are known by m
     ProducedGoes : Fraction → Assertion → Type 0
     ProducedGoes q a =
-        (scope : Scope) (c : run.State) (es : run.Holdings) → HaveNoPerm scope → IsTyped p scope a → SpeaksOf Held applying.Applied a → IsPlainBody p Rigid a → entries p c a ≡ Some es → HoldsInstances p Held bounded c.heap (added q es c.holdings) →
+        KeepsMarks a → (scope : Scope) (c : run.State) (m : ℕ) (es : run.Holdings) → IsTyped p scope a → SpeaksOf Held applying.Applied a → IsAsking p a →
+        asking_entries p (applications p m) c a ≡ Some es → HoldsInstances p Held bounded c.heap (added q es c.holdings) →
         (i : Interpretation) (s : rules.State) (scale : Term) (snapshot : Option Term) (on : Going) → IsSnapshotOf s.next i c a snapshot → ScaleStands means world s.next i scale q → Stands means world scope i s c → (s.inner ≡ true → AllInner p good c.heap applying.marks es) →
         Cleared (produce p o a scale snapshot s on) → Produced scope i s.next on c a q es
 
@@ -309,7 +297,7 @@ module _ (means : Meaning) (p : Program) (good : GoodBodies p) (Held : Name → 
 
     pure_produced : (q : Fraction) (e : Expr) → ProducedGoes q (Pure e)
     unfolding ProducedGoes
-    pure_produced q e scope c es np t k pl en holds i s scale snapshot on sn sc st mk w = go (is_true r.result) refl (sym (step (λ v. cond (is_true v) (Some []) None) r.result v) ∙ en)
+    pure_produced q e marks scope c m es t k pl en holds i s scale snapshot on sn sc st mk w = go (is_true r.result) refl (read_of p c e r.result r.fits m (λ v. cond (is_true v) (Some []) None) es en)
       where
         after : Term → Going
         after t s1 = Step (on (with_unit snapshot (rules.with_fact t s1)))
@@ -317,8 +305,8 @@ module _ (means : Meaning) (p : Program) (good : GoodBodies p) (Held : Name → 
         r : Evaluates means world scope i s.next (λ t s1. Step (on (with_unit snapshot (rules.with_fact t s1)))) c e type.Bool
         r = eval_goes means world o parts t k (λ t s1. Step (on (with_unit snapshot (rules.with_fact t s1)))) st w
 
-        v : plain.value p no_applications c e ≡ Some r.result
-        v = now c e r.result (fine_state np st) pl r.fits
+        empty : is_true r.result ≡ true → (t : Tree) → truth_leaf r.result ≡ Some t → t ≡ Empty
+        empty f t h = sym (some_is Empty t (sym (ap (λ b. cond b (Some Empty) None) f) ∙ h))
 
         go : (b : Bool) → is_true r.result ≡ b → cond b (Some []) None ≡ Some es → Produced scope i s.next on c (Pure e) q es
         go false f g = cc
@@ -328,7 +316,7 @@ module _ (means : Meaning) (p : Program) (good : GoodBodies p) (Held : Name → 
           extends = r.extends;
           later = subst (λ m. s.next ≤ m) (sym (next_unit snapshot (rules.with_fact r.term r.state) ∙ next)) r.later;
           stands = unit_stands (Pure e) snapshot told (subst (λ m. IsSnapshotOf m r.interp c (Pure e) snapshot) (sym next) (snapshot_later s.next r.state.next i r.interp c (Pure e) snapshot r.later r.extends sn))
-              (λ f'. step truth_leaf r.result v ∙ ap (λ b. cond b (Some Empty) None) f);
+              (λ m f' t h. empty f t (read_of p c e r.result r.fits m truth_leaf t h));
           cleared = r.cleared;
         }
           where
@@ -344,7 +332,7 @@ module _ (means : Meaning) (p : Program) (good : GoodBodies p) (Held : Name → 
 
     points_produced : (q : Fraction) (at : Place) (e : Expr) (f : Name) (share : Expr) → ProducedGoes q (Points at e f share)
     unfolding ProducedGoes
-    points_produced q at e f share scope c es np t k pl en holds i s scale snapshot on sn sc st mk w =
+    points_produced q at e f share marks scope c m es t k pl en holds i s scale snapshot on sn sc st mk w =
         one_produced c (Points at e f share) q (run.At (at_field l.reference f)) l.fraction es entry_is
         (eventually l.part (λ n m. bind_ok (add_part p (deeper p n) q c) (run.At (at_field l.reference f), l.fraction) m))
         (λ outcome g. checked_gives c q (run.At (at_field l.reference f)) l.fraction outcome (λ n. field_part p (deeper p n) c at e f share) l.part g)
@@ -356,18 +344,10 @@ module _ (means : Meaning) (p : Program) (good : GoodBodies p) (Held : Name → 
         l : Located means world o parts scope i s.next after c at e f share q
         l = located means world o parts at f scale q after t.0 k.0 t.2 k.1 sc st w
 
-        fine : Fine p c
-        fine = fine_state np st
-
-        receiver_now : plain.value p no_applications c e ≡ Some (RefValue l.reference)
-        receiver_now = now c e (RefValue l.reference) fine pl.0 l.receiver_fits
-
-        share_now : plain.value p no_applications c share ≡ Some (PermValue l.fraction)
-        share_now = now c share (PermValue l.fraction) fine pl.1.plain l.share_fits
-
         entry_is : (run.At (at_field l.reference f), l.fraction) ∷ [] ≡ es
         entry_is = some_is ((run.At (at_field l.reference f), l.fraction) ∷ []) es
-            (sym (step (location_entry f (RefValue l.reference)) (PermValue l.fraction) share_now) ∙ sym (step (λ r. option_and_then (location_entry f r) (plain.value p no_applications c share)) (RefValue l.reference) receiver_now) ∙ en)
+            (sym (step (location_entry f (RefValue l.reference)) (PermValue l.fraction) (share_worth p c share (PermValue l.fraction) pl.1 l.share_fits))
+            ∙ read_of p c e (RefValue l.reference) l.receiver_fits m (λ r. option_and_then (location_entry f r) (plain.value p no_applications c share)) es en)
 
         marked : s.inner ≡ true → InnerAt p applying.marks c.heap (run.At (at_field l.reference f))
         marked e = tt
@@ -384,7 +364,7 @@ module _ (means : Meaning) (p : Program) (good : GoodBodies p) (Held : Name → 
         put_there None sn h = put_fresh means world l.keys l.amount (product q l.fraction) s.inner on l.stands l.amount_good l.amount_is l.sign there marked h
         put_there (Some t) sn h =
             let tree_is : sn.tree ≡ leaf (run.value_at p c.heap (at_field l.reference f)) =
-            some_is sn.tree (leaf (run.value_at p c.heap (at_field l.reference f))) (sym sn.is ∙ step (location_leaf p c.heap f) (RefValue l.reference) receiver_now) in
+            sym (some_is (leaf (run.value_at p c.heap (at_field l.reference f))) sn.tree (read_of p c e (RefValue l.reference) l.receiver_fits sn.fuel (location_leaf p c.heap f) sn.tree sn.is)) in
             let m = value_named f l.reference t l.stands sn.good_term sn.written (sn.value_is ∙ ap TreeElement tree_is) in
             let a_kept = value_kept means l.amount l.amount_good.settled m.extends in
             let g = put_known (keys_later means world m.later m.extends l.keys) l.amount (produced_value (field_sort p f) (Some t) l.state) (product q l.fraction) s.inner on m.stands (good_later means m.later m.extends l.amount_good)
@@ -396,7 +376,7 @@ module _ (means : Meaning) (p : Program) (good : GoodBodies p) (Held : Name → 
 
     instance_produced : (q : Fraction) (at : Place) (x : Name) (xs : Exprs) (share : Expr) → ProducedGoes q (syntax.Instance at x xs share)
     unfolding ProducedGoes
-    instance_produced q at x xs share scope c es np t k pl en holds i s scale snapshot on sn sc st mk w =
+    instance_produced q at x xs share marks scope c m es t k pl en holds i s scale snapshot on sn sc st mk w =
         one_produced c (syntax.Instance at x xs share) q (run.Folded record { predicate = x; arguments = l.results }) l.fraction es entry_is
         (eventually l.part (λ n m. bind_ok (add_part p (deeper p n) q c) (run.Folded record { predicate = x; arguments = l.results }, l.fraction) m))
         (λ outcome g. checked_gives c q (run.Folded record { predicate = x; arguments = l.results }) l.fraction outcome (λ n. instance_part p (deeper p n) c at x xs share) l.part g)
@@ -408,18 +388,10 @@ module _ (means : Meaning) (p : Program) (good : GoodBodies p) (Held : Name → 
         l : InstanceLocated means world o parts scope i s.next after c at x xs share q
         l = instance_located means world o parts at x t.0.0 scale q after k.0 t.0.1 t.0.2 k.1 t.1 k.2 sc st w
 
-        fine : Fine p c
-        fine = fine_state np st
-
-        arguments_now : plain.values p no_applications c xs ≡ Some l.results
-        arguments_now = all_now c xs l.results fine pl.0 l.arguments_fit
-
-        share_now : plain.value p no_applications c share ≡ Some (PermValue l.fraction)
-        share_now = now c share (PermValue l.fraction) fine pl.1.plain l.share_fits
-
         entry_is : (run.Folded record { predicate = x; arguments = l.results }, l.fraction) ∷ [] ≡ es
         entry_is = some_is ((run.Folded record { predicate = x; arguments = l.results }, l.fraction) ∷ []) es
-            (sym (step (instance_entry x l.results) (PermValue l.fraction) share_now) ∙ sym (step (λ vs. option_and_then (instance_entry x vs) (plain.value p no_applications c share)) l.results arguments_now) ∙ en)
+            (sym (step (instance_entry x l.results) (PermValue l.fraction) (share_worth p c share (PermValue l.fraction) pl.1 l.share_fits))
+            ∙ read_all p c xs l.results l.arguments_fit m (λ vs. option_and_then (instance_entry x vs) (plain.value p no_applications c share)) es en)
 
         marked : s.inner ≡ true → InnerAt p applying.marks c.heap (run.Folded record { predicate = x; arguments = l.results })
         marked e = (subst (AllInner p good c.heap applying.marks) (sym entry_is) (mk e)).0
@@ -438,7 +410,7 @@ module _ (means : Meaning) (p : Program) (good : GoodBodies p) (Held : Name → 
             Goes means world scope l.interp l.state.next on (run.with_holdings (run.gained (run.Folded record { predicate = x; arguments = l.results }) (product q l.fraction) c.holdings) c)
         put_there None sn h = put_fresh means world keys l.amount (product q l.fraction) s.inner on l.stands l.amount_good l.amount_is l.sign there marked h
         put_there (Some t) sn h =
-            let tree_is = sym (step (λ vs. tree_by p sn.fuel c.heap record { predicate = x; arguments = vs }) l.results arguments_now) ∙ sn.is in
+            let tree_is = read_all p c xs l.results l.arguments_fit sn.fuel (λ vs. tree_by p sn.fuel c.heap record { predicate = x; arguments = vs }) sn.tree sn.is in
             let m = named means world t SnapSort l.stands sn.good_term in
             let a_kept = value_kept means l.amount l.amount_good.settled m.extends in
             let g = put_known (keys_later means world m.later m.extends keys) l.amount (rules.name_of t l.state) (product q l.fraction) s.inner on m.stands (good_later means m.later m.extends l.amount_good)
@@ -470,19 +442,75 @@ module _ (means : Meaning) (p : Program) (good : GoodBodies p) (Held : Name → 
           goes = subst (λ hs. Goes means world scope i n on (run.with_holdings hs c)) same h;
         }
 
-    both_produced : Keeps → (q : Fraction) (a b : Assertion) → ProducedGoes q a → ProducedGoes q b → ProducedGoes q (Both a b)
+    -- Marks
+
+    -- t is marked as s is, or that says nothing
+    abbrev MarkedAs : rules.State → rules.State → Type 0
+    MarkedAs s t = (t.inner ≡ s.inner) ⊎ Unrooted applying.marks
+
+    all_anywhere : Unrooted applying.marks → MayMark applying.marks → (h : run.Heap) (es : run.Holdings) → AllInner p good h applying.marks es
+    all_anywhere free may h [] = tt
+    all_anywhere free may h (x ∷ xs) = (inner_anywhere p applying.marks free may h x.0, all_anywhere free may h xs)
+
+    inner_there : {scope : Scope} {i : Interpretation} {c : run.State} (s t : rules.State) (h : run.Heap) (es : run.Holdings) → MarkedAs s t → Stands means world scope i t c → (s.inner ≡ true → AllInner p good h applying.marks es) → t.inner ≡ true → AllInner p good h applying.marks es
+    inner_there s t h es (inl same) st k e = k (sym same ∙ e)
+    inner_there s t h es (inr free) st k e = all_anywhere free (st.marked e) h es
+
+    -- what follows, and how what is cleared of it is marked
+    record Following (s : rules.State) (after : Going) (Reaches : Going → Type 0) : Type 0 where
+      going : Going
+      reaches : Reaches going
+      back : (t : rules.State) → Cleared (going t) → MarkedAs s t × Cleared (after t)
+
+    -- behind a part
+    following : (a : Assertion) → KeepsMarks a → (scale : Term) (snapshot : Option Term) (s : rules.State) (after : Going) → Cleared (produce p o a scale snapshot s after) → Following s after (λ on. Cleared (produce p o a scale snapshot s on))
+    following a (inl (keeps, pl)) scale snapshot s after w = record {
+      going = as_marked s after;
+      reaches = produce_kept p good o keeps a pl scale snapshot s after (as_marked s after) (marked_on s after) w;
+      back = λ t c. let z = marked_back s after t c in (inl z.0, z.1);
+    }
+    following a (inr free) scale snapshot s after w = record { going = after; reaches = w; back = λ t c. (inr free, c) }
+
+    -- on the sides of a condition
+    record Sides (d : Expr) (s : rules.State) (left right : Going) : Type 0 where
+      on_left : Going
+      on_right : Going
+      reaches : Cleared (eval p o d s (λ t s1. fork t s1 on_left on_right))
+      back_left : (t : rules.State) → Cleared (on_left t) → MarkedAs s t × Cleared (left t)
+      back_right : (t : rules.State) → Cleared (on_right t) → MarkedAs s t × Cleared (right t)
+
+    sides : (d : Expr) → (Keeps × IsPlain d) ⊎ Unrooted applying.marks → (s : rules.State) (left right : Going) → Cleared (eval p o d s (λ t s1. fork t s1 left right)) → Sides d s left right
+    sides d (inl (keeps, pl)) s left right w = record {
+      on_left = as_marked s left;
+      on_right = as_marked s right;
+      reaches = left_kept p good o keeps d pl s left right (as_marked s left) (as_marked s right) (marked_on s left) (marked_on s right) w;
+      back_left = λ t c. let z = marked_back s left t c in (inl z.0, z.1);
+      back_right = λ t c. let z = marked_back s right t c in (inl z.0, z.1);
+    }
+    sides d (inr free) s left right w = record { on_left = left; on_right = right; reaches = w; back_left = λ t c. (inr free, c); back_right = λ t c. (inr free, c) }
+
+    -- so of the parts of a pair, and of conditions
+    first_marks : (a b : Assertion) → KeepsMarks (Both a b) → KeepsMarks a
+    first_marks a b (inl (keeps, pl)) = inl (keeps, pl.0)
+    first_marks a b (inr free) = inr free
+
+    second_marks : (a b : Assertion) → KeepsMarks (Both a b) → KeepsMarks b
+    second_marks a b (inl (keeps, pl)) = inl (keeps, pl.1)
+    second_marks a b (inr free) = inr free
+
+    both_produced : (q : Fraction) (a b : Assertion) → ProducedGoes q a → ProducedGoes q b → ProducedGoes q (Both a b)
     unfolding ProducedGoes
-    both_produced keeps q a b on_a on_b scope c es np t k pl en holds i s scale snapshot on sn sc st mk w =
+    both_produced q a b on_a on_b marks scope c m es t k pl en holds i s scale snapshot on sn sc st mk w =
         whole_produced c (Both a b) q x.it y.it es whole
         (both_adds q a b c middle (run.with_holdings (added q y.it (added q x.it c.holdings)) c) r.adds z.adds)
         (λ outcome g. both_gives q a b c middle (run.with_holdings (added q y.it (added q x.it c.holdings)) c) outcome r.gives z.gives g)
         (goes_after means world first z.goes)
       where
-        x : After (entries p c a) (λ xs. option_and_then (λ ys. Some (xs ++ ys)) (entries p c b)) es
-        x = came (entries p c a) (λ xs. option_and_then (λ ys. Some (xs ++ ys)) (entries p c b)) es en
+        x : After (asking_entries p (applications p m) c a) (λ xs. option_and_then (λ ys. Some (xs ++ ys)) (asking_entries p (applications p m) c b)) es
+        x = came (asking_entries p (applications p m) c a) (λ xs. option_and_then (λ ys. Some (xs ++ ys)) (asking_entries p (applications p m) c b)) es en
 
-        y : After (entries p c b) (λ ys. Some (x.it ++ ys)) es
-        y = came (entries p c b) (λ ys. Some (x.it ++ ys)) es x.then
+        y : After (asking_entries p (applications p m) c b) (λ ys. Some (x.it ++ ys)) es
+        y = came (asking_entries p (applications p m) c b) (λ ys. Some (x.it ++ ys)) es x.then
 
         whole : x.it ++ y.it ≡ es
         whole = some_is (x.it ++ y.it) es y.then
@@ -494,11 +522,11 @@ module _ (means : Meaning) (p : Program) (good : GoodBodies p) (Held : Name → 
         all_there = subst (HoldsInstances p Held bounded c.heap) (sym (sym (added_append q x.it y.it c.holdings) ∙ ap (λ zs. added q zs c.holdings) whole)) holds
 
         half : HoldsInstances p Held bounded c.heap (added q x.it c.holdings)
-        half = fewer p good Held bounded c.heap q y.it (added q x.it c.holdings) sc.positive (entries_positive p c b y.it pl.1 y.is)
-            (added_debts p good Held bounded q x.it c.holdings sc.positive (entries_positive p c a x.it pl.0 x.is) st.holds.debts) all_there
+        half = fewer p good Held bounded c.heap q y.it (added q x.it c.holdings) sc.positive (asking_positive p (applications p m) c b y.it pl.1 y.is)
+            (added_debts p good Held bounded q x.it c.holdings sc.positive (asking_positive p (applications p m) c a x.it pl.0 x.is) st.holds.debts) all_there
 
-        m : Split scope i s c a b snapshot
-        m = split a b snapshot st sn
+        two : Split scope i s c a b snapshot
+        two = split a b snapshot st sn
 
         after : Going
         after s1 = produce p o b scale (right_part snapshot) s1 on
@@ -509,36 +537,35 @@ module _ (means : Meaning) (p : Program) (good : GoodBodies p) (Held : Name → 
         split_is : (with_split snapshot s).inner ≡ s.inner
         split_is = split_marks snapshot s
 
-        r : Produced scope i (with_split snapshot s).next (as_marked (with_split snapshot s) (λ s1. produce p o b scale (right_part snapshot) s1 on)) c a q x.it
-        r = on_a scope c x.it np t.0 k.0 pl.0 x.is half i (with_split snapshot s) scale (left_part snapshot) (as_marked (with_split snapshot s) after) (subst (λ n. IsSnapshotOf n i c a (left_part snapshot)) (sym m.next_is) m.left)
-            (subst (λ n. ScaleStands means world n i scale q) (sym m.next_is) sc) m.stands (λ e. (inner (sym split_is ∙ e)).0)
-            (produce_kept p good o keeps a pl.0 scale (left_part snapshot) (with_split snapshot s) after (as_marked (with_split snapshot s) after) (marked_on (with_split snapshot s) after) w)
+        f : Following (with_split snapshot s) (λ s1. produce p o b scale (right_part snapshot) s1 on) (λ on. Cleared (produce p o a scale (left_part snapshot) (with_split snapshot s) on))
+        f = following a (first_marks a b marks) scale (left_part snapshot) (with_split snapshot s) after w
 
-        first : Goes means world scope i s.next (as_marked (with_split snapshot s) (λ s1. produce p o b scale (right_part snapshot) s1 on)) (run.with_holdings (added q x.it c.holdings) c)
-        first = subst (λ n. Goes means world scope i n (as_marked (with_split snapshot s) after) (run.with_holdings (added q x.it c.holdings) c)) m.next_is r.goes
+        r : Produced scope i (with_split snapshot s).next f.going c a q x.it
+        r = on_a (first_marks a b marks) scope c m x.it t.0 k.0 pl.0 x.is half i (with_split snapshot s) scale (left_part snapshot) f.going (subst (λ n. IsSnapshotOf n i c a (left_part snapshot)) (sym two.next_is) two.left)
+            (subst (λ n. ScaleStands means world n i scale q) (sym two.next_is) sc) two.stands (λ e. (inner (sym split_is ∙ e)).0) f.reaches
 
-        then : (first.state.inner ≡ (with_split snapshot s).inner) × Cleared (produce p o b scale (right_part snapshot) first.state on)
-        then = marked_back (with_split snapshot s) after first.state first.cleared
+        first : Goes means world scope i s.next f.going (run.with_holdings (added q x.it c.holdings) c)
+        first = subst (λ n. Goes means world scope i n f.going (run.with_holdings (added q x.it c.holdings) c)) two.next_is r.goes
 
-        seen : Sees c (run.with_holdings (added q x.it c.holdings) c)
-        seen = record { store = refl; heap = refl }
+        then : MarkedAs (with_split snapshot s) first.state × Cleared (produce p o b scale (right_part snapshot) first.state on)
+        then = f.back first.state first.cleared
 
         z : Produced scope first.interp first.state.next on (run.with_holdings (added q x.it c.holdings) c) b q y.it
-        z = on_b scope (run.with_holdings (added q x.it c.holdings) c) y.it np t.1 k.1 pl.1 (entries_seen p Rigid c middle seen b pl.1 ∙ y.is) all_there first.interp first.state scale (right_part snapshot) on
-            (snapshot_as first.state.next first.interp c (added q x.it c.holdings) b b (right_part snapshot) (λ f. tree_seen p Rigid c middle seen f b pl.1)
-            (snapshot_later s.next first.state.next i first.interp c b (right_part snapshot) first.later first.extends m.right))
-            (scale_later means world first.later first.extends sc) first.stands (λ e. (inner (sym (then.0 ∙ split_is) ∙ e)).1) then.1
+        z = on_b (second_marks a b marks) scope (run.with_holdings (added q x.it c.holdings) c) m y.it t.1 k.1 pl.1 (held_entries p m (added q x.it c.holdings) c b pl.1 ∙ y.is) all_there first.interp first.state scale (right_part snapshot) on
+            (snapshot_as first.state.next first.interp c (added q x.it c.holdings) b b (right_part snapshot) (λ m f t h. held_tree p m (added q x.it c.holdings) c f b ∙ h)
+            (snapshot_later s.next first.state.next i first.interp c b (right_part snapshot) first.later first.extends two.right))
+            (scale_later means world first.later first.extends sc) first.stands
+            (inner_there (with_split snapshot s) first.state c.heap y.it then.0 first.stands (λ e. (inner (sym split_is ∙ e)).1)) then.1
 
     -- the side that a condition picks
     pub record Picked (scope : Scope) (i : Interpretation) (s : rules.State) (left right : Going) (c : run.State) (d : Expr) : Type 0 where
       pub test : Bool
       pub goes : Goes means world scope i s.next (cond test left right) c
-      pub fits : Eventually (λ n. fit_by p n c d ≡ Ok (BoolValue test))
-      pub now_is : plain.value p no_applications c d ≡ Some (BoolValue test)
+      pub fits : Fits p c d (BoolValue test)
 
-    pub picked : {scope : Scope} {i : Interpretation} {s : rules.State} {c : run.State} (d : Expr) (left right : Going) → HaveNoPerm scope → HasType p scope d type.Bool → Speaks Held applying.Applied d → IsPlain d → Stands means world scope i s c →
+    pub picked : {scope : Scope} {i : Interpretation} {s : rules.State} {c : run.State} (d : Expr) (left right : Going) → HasType p scope d type.Bool → Speaks Held applying.Applied d → Stands means world scope i s c →
         Cleared (eval p o d s (λ t s1. fork t s1 left right)) → Picked scope i s left right c d
-    picked {c = c} d left right np t k pl st w =
+    picked {c = c} d left right t k st w =
         let r = eval_goes means world o parts t k (λ t s1. fork t s1 left right) st w in
         let b = as_bool (element r.result) in
         let is : r.result ≡ BoolValue b = bool_value_is r.result r.typed in
@@ -546,12 +573,19 @@ module _ (means : Meaning) (p : Program) (good : GoodBodies p) (Held : Name → 
           test = b;
           goes = goes_after means world (reached means world r) (forked means world r.term left right r.stands r.good r.cleared b (ap as_bool r.value_is));
           fits = eventually r.fits (λ n g. g ∙ ap Ok is);
-          now_is = now c d r.result (fine_state np st) pl r.fits ∙ ap Some is;
         }
 
-    implied_produced : Keeps → (q : Fraction) (d : Expr) (a : Assertion) → ProducedGoes q a → ProducedGoes q (Implied d a)
+    condition_marks : (d : Expr) (a : Assertion) → KeepsMarks (Implied d a) → (Keeps × IsPlain d) ⊎ Unrooted applying.marks
+    condition_marks d a (inl (keeps, pl)) = inl (keeps, pl.0)
+    condition_marks d a (inr free) = inr free
+
+    implied_marks : (d : Expr) (a : Assertion) → KeepsMarks (Implied d a) → KeepsMarks a
+    implied_marks d a (inl (keeps, pl)) = inl (keeps, pl.1)
+    implied_marks d a (inr free) = inr free
+
+    implied_produced : (q : Fraction) (d : Expr) (a : Assertion) → ProducedGoes q a → ProducedGoes q (Implied d a)
     unfolding ProducedGoes
-    implied_produced keeps q d a on_a scope c es np t k pl en holds i s scale snapshot on sn sc st mk w = go m.test m.goes m.fits m.now_is
+    implied_produced q d a on_a marks scope c m es t k pl en holds i s scale snapshot on sn sc st mk w = go picks.test picks.goes picks.fits
       where
         left : Going
         left s2 = produce p o a scale snapshot s2 on
@@ -559,44 +593,61 @@ module _ (means : Meaning) (p : Program) (good : GoodBodies p) (Held : Name → 
         right : Going
         right s2 = on (with_unit snapshot s2)
 
-        m : Picked scope i s (as_marked s left) right c d
-        m = picked d (as_marked s left) right np t.0 k.0 pl.0 st (left_kept p good o keeps d pl.0 s left right (as_marked s left) right (marked_on s left) (λ t e w. w) w)
+        f : Sides d s left right
+        f = sides d (condition_marks d a marks) s left right w
 
-        entries_are : (b : Bool) → plain.value p no_applications c d ≡ Some (BoolValue b) → plain.choose (BoolValue b) (entries p c a) (Some []) ≡ Some es
-        entries_are b e = sym (step (λ v. plain.choose v (entries p c a) (Some [])) (BoolValue b) e) ∙ en
+        picks : Picked scope i s f.on_left f.on_right c d
+        picks = picked d f.on_left f.on_right t.0 k.0 st f.reaches
 
-        tree_is : (b : Bool) → plain.value p no_applications c d ≡ Some (BoolValue b) → (f : run.Instance → Option Tree) → assertion_tree p f c (Implied d a) ≡ plain.choose (BoolValue b) (assertion_tree p f c a) (Some Empty)
-        tree_is b e f = step (λ v. plain.choose v (assertion_tree p f c a) (Some Empty)) (BoolValue b) e
+        entries_are : (b : Bool) → Fits p c d (BoolValue b) → plain.choose (BoolValue b) (asking_entries p (applications p m) c a) (Some []) ≡ Some es
+        entries_are b e = read_of p c d (BoolValue b) e m (λ v. plain.choose v (asking_entries p (applications p m) c a) (Some [])) es en
 
-        adds_by : (b : Bool) (u : run.State) → Eventually (λ n. fit_by p n c d ≡ Ok (BoolValue b)) → Eventually (λ n. choose (place_of d) (BoolValue b) (add p (deeper p n) q a c) (Ok c) ≡ Ok u) → Eventually (λ n. add p (deeper p n) q (Implied d a) c ≡ Ok u)
+        tree_is : (b : Bool) → Fits p c d (BoolValue b) → (m : ℕ) (f : run.Instance → Option Tree) (t : Tree) → asking_tree p (applications p m) f c (Implied d a) ≡ Some t → plain.choose (BoolValue b) (asking_tree p (applications p m) f c a) (Some Empty) ≡ Some t
+        tree_is b e m f t h = read_of p c d (BoolValue b) e m (λ v. plain.choose v (asking_tree p (applications p m) f c a) (Some Empty)) t h
+
+        adds_by : (b : Bool) (u : run.State) → Fits p c d (BoolValue b) → Eventually (λ n. choose (place_of d) (BoolValue b) (add p (deeper p n) q a c) (Ok c) ≡ Ok u) → Eventually (λ n. add p (deeper p n) q (Implied d a) c ≡ Ok u)
         adds_by b u f g = both_eventually f g (λ n f g. bind_ok (λ v. choose (place_of d) v (add p (deeper p n) q a c) (Ok c)) (BoolValue b) f ∙ g)
 
-        gives_by : (b : Bool) (u : run.State) → Eventually (λ n. fit_by p n c d ≡ Ok (BoolValue b)) → (outcome : Outcome) → (when b (give p Possible q a c) (ends c) outcome → EndsAt u outcome) → give p Possible q (Implied d a) c outcome → EndsAt u outcome
+        gives_by : (b : Bool) (u : run.State) → Fits p c d (BoolValue b) → (outcome : Outcome) → (when b (give p Possible q a c) (ends c) outcome → EndsAt u outcome) → give p Possible q (Implied d a) c outcome → EndsAt u outcome
         gives_by b u f outcome g (passes x h rest) = g (subst (λ v. side v (give p Possible q a c) (ends c) outcome) (one_answer x (BoolValue b) h f) rest)
         gives_by b u f outcome g (refused at h e) = no_refusal (BoolValue b) at f h
 
-        go : (b : Bool) → Goes means world scope i s.next (cond b (as_marked s left) right) c → Eventually (λ n. fit_by p n c d ≡ Ok (BoolValue b)) → plain.value p no_applications c d ≡ Some (BoolValue b) → Produced scope i s.next on c (Implied d a) q es
-        go true g f e =
-            let z = marked_back s left g.state g.cleared in
-            let r = on_a scope c es np t.1 k.1 pl.1 (entries_are true e) holds g.interp g.state scale snapshot on (snapshot_as g.state.next g.interp c c.holdings (Implied d a) a snapshot (λ f. sym (tree_is true e f)) (snapshot_later s.next g.state.next i g.interp c (Implied d a) snapshot g.later g.extends sn)) (scale_later means world g.later g.extends sc) g.stands (λ e. mk (sym z.0 ∙ e)) z.1 in
+        go : (b : Bool) → Goes means world scope i s.next (cond b f.on_left f.on_right) c → Fits p c d (BoolValue b) → Produced scope i s.next on c (Implied d a) q es
+        go true g e =
+            let z = f.back_left g.state g.cleared in
+            let r = on_a (implied_marks d a marks) scope c m es t.1 k.1 pl.1 (entries_are true e) holds g.interp g.state scale snapshot on
+            (snapshot_as g.state.next g.interp c c.holdings (Implied d a) a snapshot (tree_is true e) (snapshot_later s.next g.state.next i g.interp c (Implied d a) snapshot g.later g.extends sn))
+            (scale_later means world g.later g.extends sc) g.stands (inner_there s g.state c.heap es z.0 g.stands mk) z.1 in
             record {
-              adds = adds_by true (run.with_holdings (added q es c.holdings) c) f r.adds;
-              gives = λ outcome h. gives_by true (run.with_holdings (added q es c.holdings) c) f outcome (r.gives outcome) h;
+              adds = adds_by true (run.with_holdings (added q es c.holdings) c) e r.adds;
+              gives = λ outcome h. gives_by true (run.with_holdings (added q es c.holdings) c) e outcome (r.gives outcome) h;
               goes = goes_after means world g r.goes;
             }
-        go false g f e =
-            none_produced c (Implied d a) q es (some_is [] es (entries_are false e)) (adds_by false c f (always (λ n. refl))) (λ outcome h. gives_by false c f outcome (ends_at c outcome) h) record {
+        go false g e =
+            none_produced c (Implied d a) q es (some_is [] es (entries_are false e)) (adds_by false c e (always (λ n. refl))) (λ outcome h. gives_by false c e outcome (ends_at c outcome) h) record {
               interp = g.interp;
               state = with_unit snapshot g.state;
               extends = g.extends;
               later = subst (λ n. s.next ≤ n) (sym (next_unit snapshot g.state)) g.later;
-              stands = unit_stands (Implied d a) snapshot g.stands (snapshot_later s.next g.state.next i g.interp c (Implied d a) snapshot g.later g.extends sn) (tree_is false e);
-              cleared = g.cleared;
+              stands = unit_stands (Implied d a) snapshot g.stands (snapshot_later s.next g.state.next i g.interp c (Implied d a) snapshot g.later g.extends sn) (λ m f t h. sym (some_is Empty t (tree_is false e m f t h)));
+              cleared = (f.back_right g.state g.cleared).1;
             }
 
-    chosen_produced : Keeps → (q : Fraction) (d : Expr) (a b : Assertion) → ProducedGoes q a → ProducedGoes q b → ProducedGoes q (Chosen d a b)
+    chosen_marks : (d : Expr) (a b : Assertion) → KeepsMarks (Chosen d a b) → (Keeps × IsPlain d) ⊎ Unrooted applying.marks
+    chosen_marks d a b (inl (keeps, pl)) = inl (keeps, pl.0)
+    chosen_marks d a b (inr free) = inr free
+
+    left_marks : (d : Expr) (a b : Assertion) → KeepsMarks (Chosen d a b) → KeepsMarks a
+    left_marks d a b (inl (keeps, pl)) = inl (keeps, pl.1)
+    left_marks d a b (inr free) = inr free
+
+    right_marks : (d : Expr) (a b : Assertion) → KeepsMarks (Chosen d a b) → KeepsMarks b
+    right_marks d a b (inl (keeps, pl)) = inl (keeps, pl.2)
+    right_marks d a b (inr free) = inr free
+
+    chosen_produced : (q : Fraction) (d : Expr) (a b : Assertion) → ProducedGoes q a → ProducedGoes q b → ProducedGoes q (Chosen d a b)
     unfolding ProducedGoes
-    chosen_produced keeps q d a b on_a on_b scope c es np t k pl en holds i s scale snapshot on sn sc st mk w = go m.test m.goes m.fits m.now_is
+    chosen_produced q d a b on_a on_b marks scope c m es t k pl en holds i s scale snapshot on sn sc st mk w = go picks.test picks.goes picks.fits
       where
         left : Going
         left s2 = produce p o a scale snapshot s2 on
@@ -604,51 +655,66 @@ module _ (means : Meaning) (p : Program) (good : GoodBodies p) (Held : Name → 
         right : Going
         right s2 = produce p o b scale snapshot s2 on
 
-        m : Picked scope i s (as_marked s left) (as_marked s right) c d
-        m = picked d (as_marked s left) (as_marked s right) np t.0 k.0 pl.0 st (left_kept p good o keeps d pl.0 s left right (as_marked s left) (as_marked s right) (marked_on s left) (marked_on s right) w)
+        f : Sides d s left right
+        f = sides d (chosen_marks d a b marks) s left right w
 
-        entries_are : (z : Bool) → plain.value p no_applications c d ≡ Some (BoolValue z) → plain.choose (BoolValue z) (entries p c a) (entries p c b) ≡ Some es
-        entries_are z e = sym (step (λ v. plain.choose v (entries p c a) (entries p c b)) (BoolValue z) e) ∙ en
+        picks : Picked scope i s f.on_left f.on_right c d
+        picks = picked d f.on_left f.on_right t.0 k.0 st f.reaches
 
-        tree_is : (z : Bool) → plain.value p no_applications c d ≡ Some (BoolValue z) → (f : run.Instance → Option Tree) → assertion_tree p f c (Chosen d a b) ≡ plain.choose (BoolValue z) (assertion_tree p f c a) (assertion_tree p f c b)
-        tree_is z e f = step (λ v. plain.choose v (assertion_tree p f c a) (assertion_tree p f c b)) (BoolValue z) e
+        entries_are : (z : Bool) → Fits p c d (BoolValue z) → plain.choose (BoolValue z) (asking_entries p (applications p m) c a) (asking_entries p (applications p m) c b) ≡ Some es
+        entries_are z e = read_of p c d (BoolValue z) e m (λ v. plain.choose v (asking_entries p (applications p m) c a) (asking_entries p (applications p m) c b)) es en
 
-        adds_by : (z : Bool) (u : run.State) → Eventually (λ n. fit_by p n c d ≡ Ok (BoolValue z)) → Eventually (λ n. choose (place_of d) (BoolValue z) (add p (deeper p n) q a c) (add p (deeper p n) q b c) ≡ Ok u) → Eventually (λ n. add p (deeper p n) q (Chosen d a b) c ≡ Ok u)
+        tree_is : (z : Bool) → Fits p c d (BoolValue z) → (m : ℕ) (f : run.Instance → Option Tree) (t : Tree) → asking_tree p (applications p m) f c (Chosen d a b) ≡ Some t →
+            plain.choose (BoolValue z) (asking_tree p (applications p m) f c a) (asking_tree p (applications p m) f c b) ≡ Some t
+        tree_is z e m f t h = read_of p c d (BoolValue z) e m (λ v. plain.choose v (asking_tree p (applications p m) f c a) (asking_tree p (applications p m) f c b)) t h
+
+        adds_by : (z : Bool) (u : run.State) → Fits p c d (BoolValue z) → Eventually (λ n. choose (place_of d) (BoolValue z) (add p (deeper p n) q a c) (add p (deeper p n) q b c) ≡ Ok u) → Eventually (λ n. add p (deeper p n) q (Chosen d a b) c ≡ Ok u)
         adds_by z u f g = both_eventually f g (λ n f g. bind_ok (λ v. choose (place_of d) v (add p (deeper p n) q a c) (add p (deeper p n) q b c)) (BoolValue z) f ∙ g)
 
-        gives_by : (z : Bool) (u : run.State) → Eventually (λ n. fit_by p n c d ≡ Ok (BoolValue z)) → (outcome : Outcome) → (when z (give p Possible q a c) (give p Possible q b c) outcome → EndsAt u outcome) → give p Possible q (Chosen d a b) c outcome → EndsAt u outcome
+        gives_by : (z : Bool) (u : run.State) → Fits p c d (BoolValue z) → (outcome : Outcome) → (when z (give p Possible q a c) (give p Possible q b c) outcome → EndsAt u outcome) → give p Possible q (Chosen d a b) c outcome → EndsAt u outcome
         gives_by z u f outcome g (passes x h rest) = g (subst (λ v. side v (give p Possible q a c) (give p Possible q b c) outcome) (one_answer x (BoolValue z) h f) rest)
         gives_by z u f outcome g (refused at h e) = no_refusal (BoolValue z) at f h
 
-        go : (z : Bool) → Goes means world scope i s.next (cond z (as_marked s left) (as_marked s right)) c → Eventually (λ n. fit_by p n c d ≡ Ok (BoolValue z)) → plain.value p no_applications c d ≡ Some (BoolValue z) → Produced scope i s.next on c (Chosen d a b) q es
-        go true g f e =
-            let y = marked_back s left g.state g.cleared in
-            let r = on_a scope c es np t.1 k.1 pl.1 (entries_are true e) holds g.interp g.state scale snapshot on (snapshot_as g.state.next g.interp c c.holdings (Chosen d a b) a snapshot (λ f. sym (tree_is true e f)) (snapshot_later s.next g.state.next i g.interp c (Chosen d a b) snapshot g.later g.extends sn)) (scale_later means world g.later g.extends sc) g.stands (λ e. mk (sym y.0 ∙ e)) y.1 in
+        go : (z : Bool) → Goes means world scope i s.next (cond z f.on_left f.on_right) c → Fits p c d (BoolValue z) → Produced scope i s.next on c (Chosen d a b) q es
+        go true g e =
+            let y = f.back_left g.state g.cleared in
+            let r = on_a (left_marks d a b marks) scope c m es t.1 k.1 pl.1 (entries_are true e) holds g.interp g.state scale snapshot on
+            (snapshot_as g.state.next g.interp c c.holdings (Chosen d a b) a snapshot (tree_is true e) (snapshot_later s.next g.state.next i g.interp c (Chosen d a b) snapshot g.later g.extends sn))
+            (scale_later means world g.later g.extends sc) g.stands (inner_there s g.state c.heap es y.0 g.stands mk) y.1 in
             record {
-              adds = adds_by true (run.with_holdings (added q es c.holdings) c) f r.adds;
-              gives = λ outcome h. gives_by true (run.with_holdings (added q es c.holdings) c) f outcome (r.gives outcome) h;
+              adds = adds_by true (run.with_holdings (added q es c.holdings) c) e r.adds;
+              gives = λ outcome h. gives_by true (run.with_holdings (added q es c.holdings) c) e outcome (r.gives outcome) h;
               goes = goes_after means world g r.goes;
             }
-        go false g f e =
-            let y = marked_back s right g.state g.cleared in
-            let r = on_b scope c es np t.2 k.2 pl.2 (entries_are false e) holds g.interp g.state scale snapshot on (snapshot_as g.state.next g.interp c c.holdings (Chosen d a b) b snapshot (λ f. sym (tree_is false e f)) (snapshot_later s.next g.state.next i g.interp c (Chosen d a b) snapshot g.later g.extends sn)) (scale_later means world g.later g.extends sc) g.stands (λ e. mk (sym y.0 ∙ e)) y.1 in
+        go false g e =
+            let y = f.back_right g.state g.cleared in
+            let r = on_b (right_marks d a b marks) scope c m es t.2 k.2 pl.2 (entries_are false e) holds g.interp g.state scale snapshot on
+            (snapshot_as g.state.next g.interp c c.holdings (Chosen d a b) b snapshot (tree_is false e) (snapshot_later s.next g.state.next i g.interp c (Chosen d a b) snapshot g.later g.extends sn))
+            (scale_later means world g.later g.extends sc) g.stands (inner_there s g.state c.heap es y.0 g.stands mk) y.1 in
             record {
-              adds = adds_by false (run.with_holdings (added q es c.holdings) c) f r.adds;
-              gives = λ outcome h. gives_by false (run.with_holdings (added q es c.holdings) c) f outcome (r.gives outcome) h;
+              adds = adds_by false (run.with_holdings (added q es c.holdings) c) e r.adds;
+              gives = λ outcome h. gives_by false (run.with_holdings (added q es c.holdings) c) e outcome (r.gives outcome) h;
               goes = goes_after means world g r.goes;
             }
 
-    produces : Keeps → (q : Fraction) (a : Assertion) → ProducedGoes q a
-    produces keeps q (Pure e) = pure_produced q e
-    produces keeps q (Points at e f share) = points_produced q at e f share
-    produces keeps q (syntax.Instance at x es share) = instance_produced q at x es share
-    produces keeps q (Both a b) = both_produced keeps q a b (produces keeps q a) (produces keeps q b)
-    produces keeps q (Implied d a) = implied_produced keeps q d a (produces keeps q a)
-    produces keeps q (Chosen d a b) = chosen_produced keeps q d a b (produces keeps q a) (produces keeps q b)
+    produces : (q : Fraction) (a : Assertion) → ProducedGoes q a
+    produces q (Pure e) = pure_produced q e
+    produces q (Points at e f share) = points_produced q at e f share
+    produces q (syntax.Instance at x es share) = instance_produced q at x es share
+    produces q (Both a b) = both_produced q a b (produces q a) (produces q b)
+    produces q (Implied d a) = implied_produced q d a (produces q a)
+    produces q (Chosen d a b) = chosen_produced q d a b (produces q a) (produces q b)
 
-    -- the whole body
-    pub produced : Keeps → (q : Fraction) (a : Assertion) (scope : Scope) (c : run.State) (es : run.Holdings) → HaveNoPerm scope → IsTyped p scope a → SpeaksOf Held applying.Applied a → IsPlainBody p Rigid a → entries p c a ≡ Some es → HoldsInstances p Held bounded c.heap (added q es c.holdings) →
+    -- the whole assertion
+    pub produced : (q : Fraction) (a : Assertion) → KeepsMarks a → (scope : Scope) (c : run.State) (m : ℕ) (es : run.Holdings) → IsTyped p scope a → SpeaksOf Held applying.Applied a → IsAsking p a →
+        asking_entries p (applications p m) c a ≡ Some es → HoldsInstances p Held bounded c.heap (added q es c.holdings) →
         (i : Interpretation) (s : rules.State) (scale : Term) (snapshot : Option Term) (on : Going) → IsSnapshotOf s.next i c a snapshot → ScaleStands means world s.next i scale q → Stands means world scope i s c → (s.inner ≡ true → AllInner p good c.heap applying.marks es) →
         Cleared (produce p o a scale snapshot s on) → Produced scope i s.next on c a q es
     unfolding ProducedGoes
-    produced keeps q a = produces keeps q a
+    produced q a = produces q a
+
+    -- a body, whose entries are read with nothing applied
+    pub plain_produced : Keeps → (q : Fraction) (a : Assertion) (scope : Scope) (c : run.State) (es : run.Holdings) → IsTyped p scope a → SpeaksOf Held applying.Applied a → IsPlainBody p Rigid a → entries p c a ≡ Some es → HoldsInstances p Held bounded c.heap (added q es c.holdings) →
+        (i : Interpretation) (s : rules.State) (scale : Term) (snapshot : Option Term) (on : Going) → IsSnapshotOf s.next i c a snapshot → ScaleStands means world s.next i scale q → Stands means world scope i s c → (s.inner ≡ true → AllInner p good c.heap applying.marks es) →
+        Cleared (produce p o a scale snapshot s on) → Produced scope i s.next on c a q es
+    plain_produced keeps q a scope c es t k pl en = produced q a (inl (keeps, pl)) scope c 0 es t k (plain_asks p a pl) (same_entries p (applications p 0) c a pl ∙ en)

@@ -7,6 +7,7 @@ use Rattle.vx_ast.specs.Syntax.{Name, Program, Predicate, predicate_named, Asser
 use Rattle.vx_meaning.specs.Values.{Value}
 use Rattle.vx_meaning.specs.States as run
 use Rattle.vx_meaning.specs.States.{bind}
+use Rattle.vx_meaning.specs.Evaluate.{applications}
 use Rattle.vx_meaning.specs.Flatten.{bare, IsGrounded}
 use Rattle.vx_meaning.specs.Consistent.{IsConsistent}
 use Rattle.vx_meaning.specs.Fits.{◌>>=◌, guard, to_option, has_instance, Eventually, exchange, add, deeper}
@@ -50,7 +51,8 @@ use Rattle.vx_sound_preds.proofs.Holding.{typed_rigid, HoldsInstances, exchanged
 use Rattle.vx_sound_preds.proofs.Inside.{AllInner, entries_inner}
 use Rattle.vx_sound_preds.proofs.Marking.{bodies_keep}
 use Rattle.vx_sound_preds.proofs.Entries.{entries_typed}
-use Rattle.vx_sound_preds.proofs.Produced.{EndsAt, SnapshotOf, Produced, produced}
+use Rattle.vx_sound_preds.proofs.Produced.{EndsAt, SnapshotOf, Produced, plain_produced}
+use Rattle.vx_sound_preds.proofs.Same.{same_tree}
 
 -- bodies of what can be held are typed, and speak of what can be held
 abbrev pub BodiesSpeak : Program → (Name → Type 0) → Type 0
@@ -175,7 +177,8 @@ module _ (means : Meaning) (p : Program) (good : GoodBodies p) (Held : Name → 
               written = written;
               fuel = m;
               tree = there.0;
-              is = tree_seen p Rigid (bare (bind d.parameters vs) c.heap) inside seen (tree_by p m c.heap) e (good.plain x d e keys.named body) ∙ sym (tree_of_body p c.heap k d e m keys.named body) ∙ f;
+              is = same_tree p (applications p m) (tree_by p m c.heap) inside e (good.plain x d e keys.named body)
+                  ∙ tree_seen p Rigid (bare (bind d.parameters vs) c.heap) inside seen (tree_by p m c.heap) e (good.plain x d e keys.named body) ∙ sym (tree_of_body p c.heap k d e m keys.named body) ∙ f;
               value_is = there.2;
             }
 
@@ -194,7 +197,7 @@ module _ (means : Meaning) (p : Program) (good : GoodBodies p) (Held : Name → 
         scale = record { good = good_later means t.later t.extends ga; is = subst (λ z. Same (as_fraction z) q) (sym (value_kept means a ga.settled t.extends)) same; positive = pos }
 
         r : Produced means p good Held no_perm bounded applying (outer p n) parts Possible keys.predicate.parameters t.interp t.state.next (λ s2. on (back s s2)) (start c (record { predicate = x; arguments = vs }) keys.predicate q) e q opening.entries_of
-        r = produced means p good Held no_perm bounded applying (outer p n) parts Possible (bodies_keep p good n) q e d.parameters inside opening.entries_of keys.no_perm speaks.0 (body_speaks Held applying.Applied e speaks.1) (good.plain x d e keys.named body)
+        r = plain_produced means p good Held no_perm bounded applying (outer p n) parts Possible (bodies_keep p good n) q e d.parameters inside opening.entries_of speaks.0 (body_speaks Held applying.Applied e speaks.1) (good.plain x d e keys.named body)
             (entries_seen p Rigid (bare (bind d.parameters vs) c.heap) inside seen e (good.plain x d e keys.named body) ∙ opening.entries_are) holds t.interp entered_state a (Some t.chunk.value) (λ s2. on (back s s2)) snapshot scale inner_stands inner h
 
   -- at every depth, by what holds one depth below

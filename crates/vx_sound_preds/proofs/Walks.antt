@@ -45,7 +45,7 @@ use Rattle.vx_sound_preds.proofs.Folding.{Stock, held_inside}
 use Rattle.vx_sound_preds.proofs.Holding.{TypedAll, typed_added, all_single, added_debts, of_entries, nothing, instances_world, nothing_applied}
 use Rattle.vx_sound_preds.proofs.Marking.{BodiesKeep, bodies_keep}
 use Rattle.vx_sound_preds.proofs.Entries.{entries_typed}
-use Rattle.vx_sound_preds.proofs.Produced.{produced}
+use Rattle.vx_sound_preds.proofs.Produced.{plain_produced}
 use Rattle.vx_sound_preds.proofs.Unfolds.{BodiesSpeak, instances_go}
 
 abbrev null_at : Name → Location
@@ -175,7 +175,7 @@ module _ (p : Program) (good : GoodBodies p) (x : Name) (no_perm : (x : Name) (d
       let b = speak i.predicate d a pr.seen is body in
       let g = begun means p good Held no_perm speak i.predicate d a body (replies i.predicate) (pass i.predicate d pr.seen is) vs (pr.typed d is) h in
       let holds = of_entries p good Held false h o.entries_of types o.can ps (at_null h i pr o.entries_of o.body_is types ps) refl in
-      let r = produced means p good Held no_perm false nothing_applied (member_rules p) (parts means p good Held no_perm speak) (λ (u : run.State). Unit {0}) (bodies p good) full a ds (bare (bind ds vs) h) o.entries_of (no_perm i.predicate d is) b.0 b.1 plain_body o.entries_are holds
+      let r = plain_produced means p good Held no_perm false nothing_applied (member_rules p) (parts means p good Held no_perm speak) (λ (u : run.State). Unit {0}) (bodies p good) full a ds (bare (bind ds vs) h) o.entries_of b.0 b.1 plain_body o.entries_are holds
       g.interp g.state whole_amount None ended tt (whole_scale means (instances_world p good Held no_perm false) g.state.next g.interp) g.stands (λ e. absurd (g.stands.marked e)) g.cleared in
       (r.adds.0, run.with_holdings (added full o.entries_of []) (bare (bind ds vs) h), r.adds.1 r.adds.0 (le_refl _))
     where

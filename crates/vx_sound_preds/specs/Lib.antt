@@ -1,4 +1,5 @@
 pub mod Bodies
+pub mod Asking
 pub mod Covered
 pub mod Examples
 pub mod FoldExamples

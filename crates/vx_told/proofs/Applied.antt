@@ -8,7 +8,8 @@ use Rattle.vx_ast.specs.declared.ValueType.TheVariants as type
 use Rattle.vx_ast.specs.Syntax.{Name, result_name, Declaration, Program, Predicate, Function, predicate_named, function_named, joined, conjoined}
 use Rattle.vx_meaning.specs.Values.{Value, BoolValue, type_of}
 use Rattle.vx_meaning.specs.States as run
-use Rattle.vx_meaning.specs.Flatten.{bare, entries}
+use Rattle.vx_meaning.specs.Evaluate.{applications}
+use Rattle.vx_meaning.specs.Flatten.{bare}
 use Rattle.vx_meaning.specs.Fits.{fit}
 use Rattle.vx_terms.specs.Terms.{Term, sort_of}
 use Rattle.vx_terms.specs.Build.{equals, application, whole_amount}
@@ -32,19 +33,19 @@ use Rattle.vx_sound.proofs.Stands.{unowned, StoreStands, HeapStands, TermsStand,
 use Rattle.vx_sound.proofs.Candidates.{values_typed}
 use Rattle.vx_sound.proofs.Arguments.{bound}
 use Rattle.vx_sound.proofs.Giving.{whole_scale}
-use Rattle.vx_sound.proofs.Speaks as instances
-use Rattle.vx_sound_preds.specs.Bodies.{Rigid, IsPlainBody, GoodBodies}
+use Rattle.vx_sound_preds.specs.Asking.{asking_entries, IsAskingTreeOf, IsAsking}
+use Rattle.vx_sound_preds.specs.Bodies.{GoodBodies}
 use Rattle.vx_sound_preds.proofs.Looks.{Sees}
-use Rattle.vx_sound_preds.proofs.Framing.{tree_seen}
 use Rattle.vx_sound_preds.proofs.Adding.{added}
-use Rattle.vx_sound_preds.proofs.Frames.{entries_positive}
-use Rattle.vx_sound_preds.proofs.Entries.{entries_typed}
+use Rattle.vx_sound_preds.proofs.Asked.{AsksFor, asking_positive}
+use Rattle.vx_sound_preds.proofs.Entries.{asking_typed}
 use Rattle.vx_sound_preds.proofs.Exchanging.{held_rigid}
 use Rattle.vx_sound_preds.proofs.Holding.{HoldsInstances, TypedAll, all_single, typed_rigid, typed_added, added_debts, stock, lower, nothing, quiet_world}
-use Rattle.vx_sound_funcs.specs.Told.{IsTreeOf, precondition_of}
+use Rattle.vx_sound_funcs.specs.Told.{precondition_of}
 use Rattle.vx_sound_funcs.specs.Firm.{firm_application, firmly, GoodFunctions}
 use Rattle.vx_sound_funcs.proofs.Steps.{Steps, steps_of}
-use Rattle.vx_sound_funcs.proofs.Firm.{taken_total, Begun, begun}
+use Rattle.vx_sound_funcs.proofs.Firm.{taken_total, alike, Begun, begun, speak_now}
+use Rattle.vx_sound_funcs.proofs.Seen.{asking_seen}
 use Rattle.vx_sound_funcs.proofs.Agree.{taken_amount}
 use Rattle.vx_live.specs.Quiet.{Still}
 use Rattle.vx_live.proofs.Speaks.{Speaks, SpeaksOf}
@@ -53,7 +54,7 @@ use Rattle.vx_live.proofs.Quiet.{Quiet, after, outer_left, measured_left, equati
 use Rattle.vx_told.specs.Means.{Promise}
 use Rattle.vx_told.proofs.Woken.{woken, fact_woken, Quietly}
 use Rattle.vx_told.proofs.Told.{Walk, On, off_still, Told, told_after, FollowsWith, OffGiving, on_quiet, off_quiet, step_told}
-use Rattle.vx_told.proofs.HeldFine.{firm_holds, added_is}
+use Rattle.vx_told.proofs.Values.{firm_worth, added_is}
 use Rattle.vx_told.proofs.ToldProduce.{named_quietly, state_same}
 use Rattle.vx_told.proofs.ToldConsume.{Reads}
 use Rattle.vx_told.proofs.Facts.{Stated}
@@ -67,7 +68,7 @@ use Rattle.vx_told.proofs.Worth.{Worth, worth_later, worth_seen, worth_snap}
 pub record Spoken (p : Program) (Held : Name → Type 0) (g : Function) : Type 0 where
   pub typed : IsTypedFunction p g
   pub requires : SpeaksOf Held (precondition_of g)
-  pub instances : instances.SpeaksOf Held (λ f. ⊥) (precondition_of g)
+  pub asks_for : AsksFor Held (precondition_of g)
   pub body : Speaks Held g.body
   pub ensures : Speaks Held (conjoined g.place g.ensures)
 
@@ -82,9 +83,9 @@ pub record Allowed (p : Program) (Held : Name → Type 0) (f : Name) (g : Functi
 
 -- What is known of such applications: the symbol of the function means the value, and nothing else; and the value has its type.
 pub record Knows (means : Meaning) (p : Program) (Held : Name → Type 0) : Type 0 where
-  pub made : (f : Name) (g : Function) (vs : List Value) (v : Value) (c : run.State) (tree : Tree) → Allowed p Held f g vs v c → IsTreeOf p (run.with_store (run.bind g.parameters vs) c) (precondition_of g) tree → means (function_number p f) (TreeElement tree ∷ elements vs) (element v)
+  pub made : (f : Name) (g : Function) (vs : List Value) (v : Value) (c : run.State) (tree : Tree) → Allowed p Held f g vs v c → IsAskingTreeOf p (run.with_store (run.bind g.parameters vs) c) (precondition_of g) tree → means (function_number p f) (TreeElement tree ∷ elements vs) (element v)
   pub single : (k : ℕ) (es : List Element) (d e : Element) → means k es d → means k es e → d ≡ e
-  pub typed : (f : Name) (g : Function) (vs : List Value) (v : Value) (c : run.State) (tree : Tree) → Allowed p Held f g vs v c → IsTreeOf p (run.with_store (run.bind g.parameters vs) c) (precondition_of g) tree → type_of v ≡ g.of
+  pub typed : (f : Name) (g : Function) (vs : List Value) (v : Value) (c : run.State) (tree : Tree) → Allowed p Held f g vs v c → IsAskingTreeOf p (run.with_store (run.bind g.parameters vs) c) (precondition_of g) tree → type_of v ≡ g.of
 
 append_nil : {A : Type 0} (xs : List A) → xs ≡ xs ++ []
 append_nil [] = refl
@@ -94,7 +95,7 @@ level_more : (l : ℕ) → nat_lt 0 (l + 1) ≡ true
 level_more l = lt-ltb 0 (l + 1) (omega arith)
 
 module _ (means : Meaning) (p : Program) (good : GoodBodies p) (functions : GoodFunctions p) (Held : Name → Type 0) (no_perm : (x : Name) (d : Predicate) → predicate_named p x ≡ Some d → HaveNoPerm d.parameters) (n : ℕ)
-    (spoken : (f : Name) (g : Function) → Held f → function_named p f ≡ Some g → Spoken p Held g) (knows : Knows means p Held) where
+    (typed_functions : (f : Name) (g : Function) → function_named p f ≡ Some g → IsTypedFunction p g) (spoken : (f : Name) (g : Function) → Held f → function_named p f ≡ Some g → Spoken p Held g) (knows : Knows means p Held) where
   abbrev pub world : World
   world = quiet_world p good Held no_perm true
 
@@ -106,18 +107,15 @@ module _ (means : Meaning) (p : Program) (good : GoodBodies p) (functions : Good
       HoldsInstances p Held true c.heap (added full b.entries_of [])
   start_holds f g vs m c u rest held named types h b =
       lower p good Held true c.heap c.holdings (added full b.entries_of []) h typed
-      (added_debts p good Held true full b.entries_of [] full-positive (entries_positive p (bare (run.bind g.parameters vs) c.heap) (precondition_of g) b.entries_of plain b.entries_are) (λ r s. le-refl none))
+      (added_debts p good Held true full b.entries_of [] full-positive (asking_positive p (applications p m) (bare (run.bind g.parameters vs) c.heap) (precondition_of g) b.entries_of (functions.asks f g named) b.entries_are) (λ r s. le-refl none))
       (λ i z. h.grounded i (positive-le z (taken_amount p c.heap b.entries_of c.holdings rest (run.Folded i) (held_rigid i (added full b.entries_of []) (all_single p Held (added full b.entries_of []) typed) z) b.rest_is b.stock)))
       (λ k l. (k, taken_total p good c.heap b.entries_of c.holdings rest k l b.rest_is b.stock))
     where
-      plain : IsPlainBody p Rigid (precondition_of g)
-      plain = functions.asks f g named
-
       says : Spoken p Held g
       says = spoken f g held named
 
       typed : TypedAll p Held (added full b.entries_of [])
-      typed = typed_added p Held full b.entries_of [] (entries_typed p Held no_perm g.parameters vs types c.heap (precondition_of g) b.entries_of (joined_typed p g.parameters g.place g.requires says.typed.requires) plain says.instances b.entries_are) tt
+      typed = typed_added p Held full b.entries_of [] (asking_typed p Held no_perm typed_functions g.parameters vs types c.heap m (precondition_of g) b.entries_of (joined_typed p g.parameters g.place g.requires says.typed.requires) says.asks_for b.entries_are) tt
 
   -- facts that are true are added
   stated_here : {scope : Scope} {i : Interpretation} {s : State} {c : run.State} (t : Term) → Quietly means world n scope i s c → Stated means n i t → Quietly means world n scope i (with_fact t s) c
@@ -196,7 +194,7 @@ module _ (means : Meaning) (p : Program) (good : GoodBodies p) (functions : Good
         let says = spoken f g a.held a.named in
         let b = a.begun in
         sides_stated means p good Held no_perm n (outer p k) (firmly p m) (below m) (λ P. outer_left P p k) (precondition_of g) g.body g.parameters g.of (λ y. equals t y) (quietly p (outer p k) (rules.bind g.parameters ts) s) (level_more s.level) i
-        (bare (run.bind g.parameters vs) c.heap) a.steps.start b.entries_of v snapshot tree (joined_typed p g.parameters g.place g.requires says.typed.requires) says.requires (functions.asks f g a.named) b.entries_are a.holds a.steps.starts
+        (bare (run.bind g.parameters vs) c.heap) a.steps.start m b.entries_of v snapshot tree (joined_typed p g.parameters g.place g.requires says.typed.requires) says.requires (functions.asks f g a.named) b.entries_are a.holds a.steps.starts
         says.typed.body says.body (subst (λ z. fit p (firmly p m) z g.body ≡ Ok v) (sym (state_same _ a.steps.start (sym b.adds.store) (sym b.adds.heap) (sym b.adds.holdings) (sym b.adds.old_heap) (sym b.adds.old_holdings))) a.steps.fits)
         (begins (rules.bind g.parameters ts) (run.bind g.parameters vs) a.here (bound means world n i g.parameters ts vs a.each)) a.worth
         (λ j y x gy is ty. record { settled = (good_equals means (good_later means (le_refl n) x a.good_term) gy).settled; holds = is_equal j t y (value_kept means t a.good_term.settled x ∙ a.is ∙ sym is) })
@@ -211,11 +209,11 @@ module _ (means : Meaning) (p : Program) (good : GoodBodies p) (functions : Good
     promise_stated scope i s c f g ts vs v m snapshot t tree a =
         let kept = a.promised in
         sides_stated means p good Held no_perm n (outer p k) (firmly p kept.fuel) (below kept.fuel) (λ P. outer_left P p k) (precondition_of g) (conjoined g.place g.ensures) (g.parameters ++ result_of g ∷ []) type.Bool (λ y. y)
-        (quietly p (outer p k) (rules.bind g.parameters ts ++ (result_name, t) ∷ []) s) (level_more s.level) i inside kept.state b.entries_of (BoolValue true) snapshot tree
+        (quietly p (outer p k) (rules.bind g.parameters ts ++ (result_name, t) ∷ []) s) (level_more s.level) i inside kept.state m b.entries_of (BoolValue true) snapshot tree
         (typed_longer p g.parameters (result_of g ∷ []) (precondition_of g) (joined_typed p g.parameters g.place g.requires says.typed.requires)) says.requires plain listed a.holds kept.adds
         (conjoined_typed p (g.parameters ++ result_of g ∷ []) g.place g.ensures says.typed.ensures) says.ensures
         (subst (λ z. fit p (firmly p kept.fuel) z (conjoined g.place g.ensures) ≡ Ok (BoolValue true)) state_is kept.fits)
-        stands (worth_longer p (bare (run.bind g.parameters vs) c.heap) inside longer means n i (precondition_of g) plain tree snapshot a.worth)
+        stands (worth_longer p functions (bare (run.bind g.parameters vs) c.heap) inside longer means n i (precondition_of g) plain tree snapshot a.worth)
         (λ j y x gy is ty. record { settled = gy.settled; holds = ap as_bool is })
       where
         says : Spoken p Held g
@@ -224,7 +222,7 @@ module _ (means : Meaning) (p : Program) (good : GoodBodies p) (functions : Good
         b : Begun p good functions m g vs c a.steps.start a.steps.rest
         b = a.begun
 
-        plain : IsPlainBody p Rigid (precondition_of g)
+        plain : IsAsking p (precondition_of g)
         plain = functions.asks f g a.named
 
         inside : run.State
@@ -233,8 +231,8 @@ module _ (means : Meaning) (p : Program) (good : GoodBodies p) (functions : Good
         longer : Longer (bare (run.bind g.parameters vs) c.heap) (bare (run.bind g.parameters vs ++ (result_name, v) ∷ []) c.heap)
         longer = record { variables = found_longer (run.bind g.parameters vs) ((result_name, v) ∷ []); heap = refl }
 
-        listed : entries p (bare (run.bind g.parameters vs ++ (result_name, v) ∷ []) c.heap) (precondition_of g) ≡ Some a.begun.entries_of
-        listed = entries_longer p (bare (run.bind g.parameters vs) c.heap) inside longer (precondition_of g) plain b.entries_of b.entries_are
+        listed : asking_entries p (applications p m) (bare (run.bind g.parameters vs ++ (result_name, v) ∷ []) c.heap) (precondition_of g) ≡ Some a.begun.entries_of
+        listed = entries_longer p functions (bare (run.bind g.parameters vs) c.heap) inside longer m (precondition_of g) plain b.entries_of b.entries_are
 
         stands : Quietly means world n (g.parameters ++ result_of g ∷ []) i (quietly p (outer p k) (rules.bind g.parameters ts ++ (result_name, t) ∷ []) s) (bare (run.bind g.parameters vs ++ (result_name, v) ∷ []) c.heap)
         stands = begins (rules.bind g.parameters ts ++ (result_name, t) ∷ []) (run.bind g.parameters vs ++ (result_name, v) ∷ []) a.here
@@ -242,7 +240,7 @@ module _ (means : Meaning) (p : Program) (good : GoodBodies p) (functions : Good
             (record { symbolic_name = refl; name = refl; typed = a.typed; good = a.good_term; value_is = a.is }))
 
         state_is : a.promised.state ≡ run.with_holdings (added full a.begun.entries_of []) (bare (run.bind g.parameters vs ++ (result_name, v) ∷ []) c.heap)
-        state_is = added_is p good Held (firmly p a.promised.fuel) (firm_holds p good a.promised.fuel) full full-positive (precondition_of g) inside a.promised.state b.entries_of plain stands.stands.holds listed a.holds a.promised.adds
+        state_is = added_is p (firmly p a.promised.fuel) (firm_worth p (speak_now p functions) a.promised.fuel) full full-positive (precondition_of g) inside a.promised.state m b.entries_of plain listed a.promised.adds
 
     -- what is told of the function is added
     pub record Grown (scope : Scope) (i : Interpretation) (s : State) (c : run.State) : Type 0 where
@@ -278,8 +276,8 @@ module _ (means : Meaning) (p : Program) (good : GoodBodies p) (functions : Good
     application_told scope i s c f g ts vs v m snapshot tree held named each here is wo =
         let snap = worth_snap means p n i callee (precondition_of g) tree snapshot wo in
         let sees : Sees callee (bare (run.bind g.parameters vs) c.heap) = record { store = refl; heap = refl } in
-        let bare_worth = worth_seen means p n i callee (bare (run.bind g.parameters vs) c.heap) sees (precondition_of g) plain tree snapshot wo in
-        let there = tree_of (worth_tree means p n i (bare (run.bind g.parameters vs) c.heap) (precondition_of g) tree snapshot b.entries_of b.entries_are bare_worth) in
+        let bare_worth = worth_seen means p n functions i callee (bare (run.bind g.parameters vs) c.heap) sees (precondition_of g) plain tree snapshot wo in
+        let there = tree_of (worth_tree means p n i (bare (run.bind g.parameters vs) c.heap) (precondition_of g) tree snapshot m b.entries_of b.entries_are bare_worth) in
         let made = knows.made f g vs v c tree allowed there in
         let value_type = knows.typed f g vs v c tree allowed there in
         let kn = known means world n i g (function_number p f) snapshot tree ts vs v snap.good snap.is each value_type made (λ old z. knows.single (function_number p f) (TreeElement tree ∷ elements vs) old (element v) z made) in
@@ -308,7 +306,7 @@ module _ (means : Meaning) (p : Program) (good : GoodBodies p) (functions : Good
           typed = value_type;
         }
       where
-        plain : IsPlainBody p Rigid (precondition_of g)
+        plain : IsAsking p (precondition_of g)
         plain = functions.asks f g named
 
         says : Spoken p Held g
@@ -321,7 +319,7 @@ module _ (means : Meaning) (p : Program) (good : GoodBodies p) (functions : Good
         types = values_typed means world n i g.parameters ts vs each
 
         b : Begun p good functions m g vs c st.start st.rest
-        b = begun p good functions m f g vs c v named (typed_rigid g.parameters vs says.typed.parameters types) (stock p good Held true c.heap c.holdings here.stands.holds) st
+        b = begun p good functions m m (alike p good functions m m (le_refl m)) f g vs c v named (typed_rigid g.parameters vs says.typed.parameters types) (stock p good Held true c.heap c.holdings here.stands.holds) st
 
         allowed : Allowed p Held f g vs v c
         allowed = record { held = held; named = named; types = types; holds = here.stands.holds; fuel = m; is = is }
@@ -329,10 +327,10 @@ module _ (means : Meaning) (p : Program) (good : GoodBodies p) (functions : Good
         callee : run.State
         callee = run.with_store (run.bind g.parameters vs) c
 
-        tree_of : IsTreeOf p (bare (run.bind g.parameters vs) c.heap) (precondition_of g) tree → IsTreeOf p (run.with_store (run.bind g.parameters vs) c) (precondition_of g) tree
+        tree_of : IsAskingTreeOf p (bare (run.bind g.parameters vs) c.heap) (precondition_of g) tree → IsAskingTreeOf p (run.with_store (run.bind g.parameters vs) c) (precondition_of g) tree
         tree_of (l, e) =
             let sees : Sees (bare (run.bind g.parameters vs) c.heap) (run.with_store (run.bind g.parameters vs) c) = record { store = refl; heap = refl } in
-            (l, tree_seen p Rigid (bare (run.bind g.parameters vs) c.heap) (run.with_store (run.bind g.parameters vs) c) sees (tree_by p l c.heap) (precondition_of g) plain ∙ e)
+            (l, asking_seen p functions l (bare (run.bind g.parameters vs) c.heap) (run.with_store (run.bind g.parameters vs) c) sees (tree_by p l c.heap) (precondition_of g) plain ∙ e)
 
     -- What follows an application, with its value
 
@@ -389,7 +387,7 @@ module _ (means : Meaning) (p : Program) (good : GoodBodies p) (functions : Good
         says : Spoken p Held g
         says = spoken f g held named
 
-        plain : IsPlainBody p Rigid (precondition_of g)
+        plain : IsAsking p (precondition_of g)
         plain = functions.asks f g named
 
         st : Steps p (firmly p m) g vs c v

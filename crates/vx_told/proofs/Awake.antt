@@ -1,15 +1,14 @@
 -- Where the main walk applies a function, what it is told of the function is true too.
-use Rattle.std.proofs.Common.{◌≡◌, ℕ, zero, suc, true, false, List, Some, refl, sym, ◌∙◌, subst, arith, true≢false, ◌≤◌}
+use Rattle.std.proofs.Common.{◌≡◌, ℕ, zero, suc, true, false, List, Some, refl, sym, ◌∙◌, subst, arith, true≢false}
 use Rattle.std.specs.Prelude.{nat_lt}
 use Rattle.std.proofs.lemmas.Bool.{lt-ltb}
 use Rattle.vx_ast.specs.Syntax.{Name, Program, Function, function_named}
 use Rattle.vx_meaning.specs.Values.{Value, type_of}
 use Rattle.vx_meaning.specs.States as run
-use Rattle.vx_terms.specs.Sorts.{SnapSort}
 use Rattle.vx_terms.specs.Terms.{Term}
 use Rattle.vx_terms.specs.Build.{application}
-use Rattle.vx_terms.specs.Interpretations.{Interpretation, TreeElement, Tree, value}
-use Rattle.vx_rules.specs.States.{State, sort_of_type, name_of, after_name}
+use Rattle.vx_terms.specs.Interpretations.{Interpretation, Tree, value}
+use Rattle.vx_rules.specs.States.{State, sort_of_type}
 use Rattle.vx_rules.specs.Groups.{function_number}
 use Rattle.vx_rules.specs.Rules.{outer, terms, with_equations}
 use Rattle.vx_types.specs.Typing.{Scope}
@@ -19,12 +18,10 @@ use Rattle.vx_elements.proofs.Settled.{Extends}
 use Rattle.vx_elements.proofs.Built.{Good}
 use Rattle.vx_elements.proofs.Elements.{element}
 use Rattle.vx_sound.proofs.World.{World}
-use Rattle.vx_sound.proofs.Standard.{name_written}
-use Rattle.vx_sound.proofs.Stands.{Stands, TermsStand, terms_later}
-use Rattle.vx_sound.proofs.Goes.{named as naming}
+use Rattle.vx_sound.proofs.Stands.{Stands, TermsStand}
 use Rattle.vx_sound_preds.proofs.Holding.{quiet_world}
 use Rattle.vx_sound_preds.proofs.Speaking.{good, no_perm}
-use Rattle.vx_sound_funcs.specs.Told.{IsTreeOf, precondition_of}
+use Rattle.vx_sound_funcs.specs.Told.{precondition_of}
 use Rattle.vx_sound_funcs.specs.Firm.{firm_application, firmly, GoodFunctions}
 use Rattle.vx_sound_funcs.specs.Laws.{ApplicationsAgree}
 use Rattle.vx_live.specs.Quiet.{Still}
@@ -33,7 +30,7 @@ use Rattle.vx_told.specs.Means.{Means}
 use Rattle.vx_told.proofs.Woken.{woken}
 use Rattle.vx_told.proofs.Applied.{Tells, application_told}
 use Rattle.vx_told.proofs.Programs.{spoken, knows, closure_told}
-use Rattle.vx_told.proofs.Worth.{Snap, Worth, written_worth}
+use Rattle.vx_told.proofs.Worth.{Worth}
 
 level_none : (l : ℕ) → nat_lt 0 l ≡ false → l ≡ 0
 level_none zero e = refl
@@ -79,30 +76,9 @@ module _ (p : Program) (x : Name) (typed : IsTypedProgram p) (functions : GoodFu
       after : State
       after = with_equations p (outer p k) g ts snapshot (application (function_number p f) (sort_of_type g.of) snapshot (terms ts)) s
 
-      tells : Tells (Means p x) p (good p x typed) functions (InClosure p x) (no_perm p x typed) s.next (spoken p x typed functions) (knows p x typed functions agree) k (λ l. closure_told p x typed functions agree s.next k l) scope i s c f g ts v snapshot
-      tells = application_told (Means p x) p (good p x typed) functions (InClosure p x) (no_perm p x typed) s.next (spoken p x typed functions) (knows p x typed functions agree) k (λ l. closure_told p x typed functions agree s.next k l)
+      tells : Tells (Means p x) p (good p x typed) functions (InClosure p x) (no_perm p x typed) s.next typed.functions (spoken p x typed functions) (knows p x typed functions agree) k (λ l. closure_told p x typed functions agree s.next k l) scope i s c f g ts v snapshot
+      tells = application_told (Means p x) p (good p x typed) functions (InClosure p x) (no_perm p x typed) s.next typed.functions (spoken p x typed functions) (knows p x typed functions agree) k (λ l. closure_told p x typed functions agree s.next k l)
           scope i s c f g ts vs v m snapshot tree leads named each (record { stands = subst (λ z. Stands (Means p x) world scope i z c) (sym (awake_same s.next s level refl)) st }) is wo
 
       still : Still s (with_equations p (outer p k) g ts snapshot (application (function_number p f) (sort_of_type g.of) snapshot (terms ts)) s)
       still = equations_still (λ u y. Unit {0}) p (outer p k) (outer_left (λ u y. Unit {0}) p k) g ts snapshot t s
-
-  -- the snapshot of the precondition, however it was built, is named first; the name is written, so it is worth the tree
-  pub record NamedFollows (k : ℕ) (scope : Scope) (i : Interpretation) (s : State) (c : run.State) (f : Name) (g : Function) (ts : List Term) (v : Value) (snapshot : Term) : Type 0 where
-    pub interp : Interpretation
-    pub extends : Extends (Means p x) s.next i interp
-    pub later : s.next ≤ (after_name snapshot s).next
-    pub follows : Follows k scope interp (after_name snapshot s) c g ts v (name_of snapshot s) (application (function_number p f) (sort_of_type g.of) (name_of snapshot s) (terms ts))
-
-  pub named_told : (k m : ℕ) (scope : Scope) (i : Interpretation) (s : State) (c : run.State) (f : Name) (g : Function) (ts : List Term) (vs : List Value) (v : Value) (snapshot : Term) (tree : Tree) → InClosure p x f → function_named p f ≡ Some g → TermsStand (Means p x) world s.next i g.parameters ts vs →
-      Stands (Means p x) world scope i s c → firm_application p (firmly p m) f vs c ≡ Some v → Good (Means p x) s.next i snapshot SnapSort → value i snapshot ≡ TreeElement tree → IsTreeOf p (run.with_store (run.bind g.parameters vs) c) (precondition_of g) tree →
-      NamedFollows k scope i s c f g ts v snapshot
-  named_told k m scope i s c f g ts vs v snapshot tree leads named each st is gs tree_is there =
-      let n = naming (Means p x) world snapshot SnapSort st gs in
-      let snap : Snap (Means p x) p (after_name snapshot s).next n.interp tree (name_of snapshot s) = record { good = n.good; is = n.value_is ∙ tree_is } in
-      let wo = written_worth (Means p x) p (after_name snapshot s).next n.interp n.stands.standard there.0 (run.with_store (run.bind g.parameters vs) c) (precondition_of g) tree (name_of snapshot s) there.1 snap (name_written snapshot s st.awake) in
-      record {
-        interp = n.interp;
-        extends = n.extends;
-        later = n.later;
-        follows = awake_told k m scope n.interp (after_name snapshot s) c f g ts vs v (name_of snapshot s) tree leads named (terms_later (Means p x) world n.later n.extends g.parameters ts vs each) n.stands is wo;
-      }

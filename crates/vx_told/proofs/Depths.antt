@@ -12,7 +12,7 @@ use Rattle.vx_meaning.specs.Fits.{Checked, ◌>>=◌, to_option, Deeper, choose,
 use Rattle.vx_terms.specs.Interpretations.{Interpretation}
 use Rattle.vx_rules.specs.Trees.{AssertCode}
 use Rattle.vx_rules.specs.Rules.{outer, nowhere}
-use Rattle.vx_types.specs.Typing.{HaveNoPerm, IsTyped}
+use Rattle.vx_types.specs.Typing.{HaveNoPerm, IsTyped, IsTypedFunction}
 use Rattle.vx_elements.proofs.Settled.{Meaning}
 use Rattle.vx_sound.proofs.World.{World}
 use Rattle.vx_sound.proofs.Speaks as instances
@@ -25,7 +25,8 @@ use Rattle.vx_live.proofs.Speaks.{SpeaksOf}
 use Rattle.vx_live.proofs.Quiet.{outer_left}
 use Rattle.vx_told.proofs.Told.{Walk, never_told, on_quiet}
 use Rattle.vx_told.proofs.ToldEvaluate.{Kept, PartsTold, eval_told}
-use Rattle.vx_told.proofs.HeldFine.{firm_holds}
+use Rattle.vx_sound_funcs.proofs.Firm.{speak_now}
+use Rattle.vx_told.proofs.Values.{firm_worth}
 use Rattle.vx_told.proofs.ToldProduce.{produce_told, Produced}
 use Rattle.vx_told.proofs.ToldUnfold.{unfolded_told}
 use Rattle.vx_told.proofs.ToldConsume.{consume_told, Consumed}
@@ -99,7 +100,7 @@ opened_kept : (p : Program) (m : ℕ) (k : run.Instance) (q : Fraction) (c u : r
 opened_kept p zero k q c u e = cc
 opened_kept p (suc m) k q c u e = exchange_kept p (firmly p m) k q c u e
 
-module _ (means : Meaning) (p : Program) (good : GoodBodies p) (functions : GoodFunctions p) (Held : Name → Type 0) (no_perm : (x : Name) (d : Predicate) → predicate_named p x ≡ Some d → HaveNoPerm d.parameters) (n : ℕ)
+module _ (means : Meaning) (p : Program) (good : GoodBodies p) (functions : GoodFunctions p) (Held : Name → Type 0) (no_perm : (x : Name) (d : Predicate) → predicate_named p x ≡ Some d → HaveNoPerm d.parameters) (n : ℕ) (typed_functions : (f : Name) (g : Function) → function_named p f ≡ Some g → IsTypedFunction p g)
     (bodies : (x : Name) (d : Predicate) (e : Assertion) → Held x → predicate_named p x ≡ Some d → d.body ≡ Some e → IsTyped p d.parameters e × SpeaksOf Held e × instances.SpeaksOf Held (λ f. ⊥) e) (spoken : (f : Name) (g : Function) → Held f → function_named p f ≡ Some g → Spoken p Held g) (knows : Knows means p Held) where
   abbrev pub world : World
   world = quiet_world p good Held no_perm true
@@ -113,14 +114,14 @@ module _ (means : Meaning) (p : Program) (good : GoodBodies p) (functions : Good
     applies = λ scope i s c at f g ts vs v on held named each here e h off. none_fits v e;
   }
   parts_told k (suc m) below w = record {
-    unfolds = unfolded_told means p good Held no_perm n w (outer p k) (firmly p m) (let z = below m w in z.produces) (firm_holds p good m) bodies;
-    applies = λ scope i s c at f g ts vs v on held named each here e h off. applied_told means p good functions Held no_perm n spoken knows k below w m scope i s c at f g ts vs v on held named each here e h off;
+    unfolds = unfolded_told means p good Held no_perm n w (outer p k) (firmly p m) (let z = below m w in z.produces) (firm_worth p (speak_now p functions) m) bodies;
+    applies = λ scope i s c at f g ts vs v on held named each here e h off. applied_told means p good functions Held no_perm n typed_functions spoken knows k below w m scope i s c at f g ts vs v on held named each here e h off;
   }
 
   pub all_told : (k m : ℕ) → AllTold means p good Held no_perm n (outer p k) (firmly p m)
   unfolding Produced Consumed
   all_told zero m w = record {
-    produces = λ q a scope c u es ta ka pl listed holds adds i s scale t tree on wo sc here h off. never_told means world n w i s nowhere AssertCode (on_quiet means world n w here);
+    produces = λ q a scope c u l es ta ka pl listed holds adds i s scale t tree on wo sc here h off. never_told means world n w i s nowhere AssertCode (on_quiet means world n w here);
     consumes = λ q a scope c hs rest ta ka pl e i s x scale h on sc here r f off. never_told means world n w i s nowhere AssertCode (on_quiet means world n w here);
     evals = λ scope e t te ke i s c v on here fits h off. never_told means world n w i s nowhere AssertCode (on_quiet means world n w here);
   }
@@ -128,7 +129,7 @@ module _ (means : Meaning) (p : Program) (good : GoodBodies p) (functions : Good
       let parts = parts_told k m (λ l. all_told k l) w in
       let left = λ (j : Interpretation). outer_left (w.Tells j) p k in
       record {
-        produces = λ q a. produce_told means p good Held no_perm n w (outer p k) (firmly p m) left parts (opened_kept p m) (firm_holds p good m) q a;
-        consumes = λ q a. consume_told means p good Held no_perm n w (outer p k) (firmly p m) left parts (opened_kept p m) (firm_holds p good m) q a;
+        produces = λ q a. produce_told means p good Held no_perm n w (outer p k) (firmly p m) left parts (opened_kept p m) (firm_worth p (speak_now p functions) m) q a;
+        consumes = λ q a. consume_told means p good Held no_perm n w (outer p k) (firmly p m) left parts (opened_kept p m) (firm_worth p (speak_now p functions) m) q a;
         evals = λ scope e t te ke i s c v on here fits h off. eval_told means world n w (outer p k) (firmly p m) left parts (opened_kept p m) te ke on here fits h off;
       }

@@ -1,15 +1,16 @@
 -- A typed function whose precondition can be taken where it doesn't start: its walk doesn't pass.
-use Rattle.std.proofs.Common.{◌≡◌, ℕ, zero, suc, Bool, true, false, cond, List, [], ◌∷◌, Option, Some, None, slice_get, ◌<◌, refl, subst, arith, le_refl}
-use Rattle.std.specs.Prelude.{Ok, Err}
+use Rattle.std.proofs.Common.{◌≡◌, inl, inr, ℕ, zero, suc, Bool, true, false, cond, List, [], ◌∷◌, Option, Some, None, slice_get, ◌<◌, refl, subst, arith, le_refl}
+use Rattle.std.specs.Prelude.{Ok, Err, Contains}
 use Rattle.vx_frac.specs.Fractions.{none, full, at_most, is_positive, over, sum}
 use Rattle.vx_ast.specs.declared.Place.{Place}
 use Rattle.vx_ast.specs.declared.ValueType.TheVariants.{Int}
-use Rattle.vx_ast.specs.Syntax.{Name, same_name, Member, Predicate, Function, Method, Kind, IsField, IsFunction, member_named, predicate_in, predicate_named, function_in, function_named, method_in, method_named, conjoined, joined, Equal}
+use Rattle.vx_ast.specs.Syntax.{Name, same_name, Member, Predicate, Function, Method, Kind, IsField, IsFunction, member_named, predicate_in, predicate_named, function_in, function_named, method_in, method_named, joined, Equal}
+use Rattle.vx_ast.specs.Mentions.{mentioned_by_function}
 use Rattle.vx_ast.specs.Apart.{Stands, entered_by, entered_by_measure}
 use Rattle.vx_types.specs.Typing.{IsTypedFunction, number, variable, part, operates, reads}
 use Rattle.vx_terms.specs.Interpretations.{Each}
 use Rattle.vx_whole.specs.Premises.{HasConstantAmounts, IsTypedProgram}
-use Rattle.vx_whole.specs.Now.{IsOfNow, SpeaksOfNow}
+use Rattle.vx_whole.specs.Now.{SpeaksOfNow}
 use Rattle.vx_whole.specs.Closure.{itself}
 use Rattle.vx_meaning.specs.Values.{Value, IntValue, BoolValue, RefValue, PermValue}
 use Rattle.vx_meaning.specs.States.{State, Heap, At, HaveTypes, same_location, same_resource, bind, lost, with_store}
@@ -19,13 +20,12 @@ use Rattle.vx_meaning.specs.Fits.{Checked, fit_by, Takes}
 use Rattle.vx_meaning.specs.Outcomes.{Ends, passes, refused, goes_on, is_over}
 use Rattle.vx_meaning.specs.Give.{give}
 use Rattle.vx_meaning.specs.Fails.{FunctionStarts}
-use Rattle.vx_sound_preds.specs.Bodies.{Rigid, IsAmount, IsPlainBody}
+use Rattle.vx_meaning.specs.Group.{ReachesBy}
 use Rattle.vx_sound_preds.specs.Covered.{IsStocked}
 use Rattle.vx_sound_preds.specs.Examples.{here, x, f}
 use Rattle.vx_sound_preds.proofs.Fitting.{some_is}
-use Rattle.vx_sound_funcs.specs.Told.{precondition_of, Says}
-use Rattle.vx_sound_funcs.specs.Firm.{HasRigidArguments, GoodFunctions}
-use Rattle.vx_sound_funcs.specs.Examples.{all, field_of}
+use Rattle.vx_sound_funcs.specs.Told.{precondition_of}
+use Rattle.vx_sound_funcs.specs.Examples.{field_of}
 use Rattle.vx_sound_funcs.proofs.Steps.{nothing_some}
 use Rattle.vx_told.specs.Allowed.{TakenIsAllowed}
 use Rattle.vx_told.specs.Examples.{eager, is_nought, reader, eagers, held}
@@ -95,16 +95,6 @@ eagers_typed = record {
   };
 }
 
-whole_amount : IsAmount eagers all
-whole_amount = record { plain = tt; amount = over 1 1; above = refl; value_is = λ s. refl }
-
-pub eagers_good : GoodFunctions eagers
-eagers_good = record {
-  asks = each_function (λ g. IsPlainBody eagers Rigid (precondition_of g)) ((tt, tt), (tt, whole_amount));
-  says = each_function (λ g. Says (HasRigidArguments eagers) g.body) tt;
-  promises_now = each_function (λ g. IsOfNow (conjoined g.place g.ensures)) tt;
-}
-
 -- It never starts
 
 failed : {R : Type 0} (at : Place) (v : Value) → ◌≡◌ {A = Checked Value} (Err at) (Ok v) → R
@@ -148,8 +138,21 @@ held_stocked = record { instances = tt; debts = λ r. go (same_resource r (At (f
 taken : Takes eagers (with_store (bind reader.parameters (RefValue 1 ∷ [])) held) (precondition_of reader) full (lost (At (field_of 1)) full held.holdings)
 taken = (0, λ m le. refl)
 
+-- It leads to no function
+
+none_there : (y : Name) → Contains [] y → ⊥
+none_there y (k, l, e) = no_number k l
+  where
+    no_number : (k : ℕ) → k < 0 → ⊥
+    no_number k l = omega (arith, l)
+
+no_way : (n : ℕ) (y : Name) → ReachesBy eagers n eager y → ⊥
+no_way zero y r = r
+no_way (suc n) y (inl (d, named, c)) = each_function (λ g. Contains (mentioned_by_function g) y → ⊥) (none_there y) eager d named c
+no_way (suc n) y (inr (z, (d, named, c), r)) = each_function (λ g. Contains (mentioned_by_function g) z → ⊥) (none_there z) eager d named c
+
 pub not_allowed : TakenIsAllowed eagers eager → ⊥
 not_allowed law =
-    let k = law eager reader itself refl (RefValue 1 ∷ []) (refl, tt) held held_can_be held_stocked (lost (At (field_of 1)) full held.holdings) taken in
+    let k = law eager reader itself refl (λ f' g' leads named r apart. absurd (no_way r.0 f' r.1)) (RefValue 1 ∷ []) (refl, tt) held held_can_be held_stocked (lost (At (field_of 1)) full held.holdings) taken in
     let start = k.0 in
     never_starts start.state start.starts

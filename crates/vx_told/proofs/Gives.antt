@@ -8,25 +8,25 @@ use Rattle.vx_ast.specs.Syntax as syntax
 use Rattle.vx_meaning.specs.Values.{Value, IntValue, BoolValue, RefValue, PermValue, is_true}
 use Rattle.vx_meaning.specs.States.{State, Holdings, Resource, At, Folded, gained, with_holdings}
 use Rattle.vx_meaning.specs.Evaluate as plain
-use Rattle.vx_meaning.specs.Evaluate.{value}
-use Rattle.vx_meaning.specs.Flatten.{no_applications, entries, location_entry, instance_entry}
+use Rattle.vx_meaning.specs.Evaluate.{HasValue, applications, value, values}
+use Rattle.vx_meaning.specs.Flatten.{no_applications, location_entry, instance_entry}
 use Rattle.vx_meaning.specs.Consistent.{IsConsistent}
 use Rattle.vx_meaning.specs.Fits.{Checked, ◌>>=◌, Eventually, choose, fit_by, field_part, instance_part, deeper, add, add_part}
 use Rattle.vx_meaning.specs.Outcomes.{Ends, passes, goes_on, ends, stops}
 use Rattle.vx_meaning.specs.Give.{give, when}
 use Rattle.vx_amounts.proofs.Amounts.{none-full, full-positive}
-use Rattle.vx_sound_preds.specs.Bodies.{Rigid, IsPlain, IsPlainBody, GoodBodies}
+use Rattle.vx_sound.proofs.Fuel.{one_value}
+use Rattle.vx_sound_preds.specs.Asking.{asking_entries, IsAsking}
+use Rattle.vx_sound_preds.specs.Bodies.{GoodBodies}
+use Rattle.vx_sound_preds.proofs.Asked.{held_entries, asking_positive}
 use Rattle.vx_sound_preds.proofs.Fitting.{undo, step, some_is}
 use Rattle.vx_sound_preds.proofs.Flats.{came}
-use Rattle.vx_sound_preds.proofs.Looks.{Sees}
-use Rattle.vx_sound_preds.proofs.Framing.{ok_same, field_parts, instance_parts, entries_seen}
-use Rattle.vx_sound_preds.proofs.Adding.{Fine, AreEntries, added, added_append, value_here, values_here, location_entries, instance_entries, add_adds}
-use Rattle.vx_sound_preds.proofs.Exchanging.{all_open}
-use Rattle.vx_sound_preds.proofs.Frames.{entries_positive}
-use Rattle.vx_sound_preds.proofs.Holding.{HoldsInstances, all_single, added_debts, fewer, consistent}
+use Rattle.vx_sound_preds.proofs.Framing.{ok_same, field_parts, instance_parts}
+use Rattle.vx_sound_preds.proofs.Adding.{added, added_append, location_entries, instance_entries}
+use Rattle.vx_sound_preds.proofs.Grouped.{NoDebts}
+use Rattle.vx_sound_preds.proofs.Holding.{HoldsInstances, added_debts, fewer, consistent}
 use Rattle.vx_sound_funcs.proofs.Steps.{nothing_some}
-use Rattle.vx_told.proofs.ToldProduce.{state_same}
-use Rattle.vx_told.proofs.Trees.{entries_left, entries_right}
+use Rattle.vx_told.proofs.Values.{deep_worth, follows_value, follow_values, share_is, added_is}
 
 only_one : {A : Type 0} (x y : A) → x ∷ [] ≡ y ∷ [] → x ≡ y
 only_one x y e = cc
@@ -35,36 +35,28 @@ is_so : (b : Bool) (es : Holdings) → cond b (Some []) None ≡ Some es → b �
 is_so true es e = refl
 is_so false es e = cc
 
-module _ (p : Program) (good : GoodBodies p) (Held : Name → Type 0) where
+module _ (p : Program) (good : GoodBodies p) (Held : Name → Type 0) (m : ℕ) where
   -- the state with these entries added
   abbrev pub with_added : Holdings → State → State
   with_added es s = with_holdings (added full es s.holdings) s
 
-  at_now : (n : ℕ) (s : State) (e : Expr) (v : Value) → Fine p s → IsPlain e → fit_by p n s e ≡ Ok v → value p no_applications s e ≡ Some v
-  at_now n s e v f k eq = value_here p full none-full (deeper p n) (all_open p good n) s e v f k eq
-
-  -- an addition leads to the state with the entries
-  pub led : (n : ℕ) (a : Assertion) (s u : State) (es : Holdings) → IsPlainBody p Rigid a → Fine p s → entries p s a ≡ Some es → AreEntries p s.heap es → add p (deeper p n) full a s ≡ Ok u → u ≡ with_added es s
-  led n a s u es k f listed can e =
-      let x = add_adds p full none-full (deeper p n) (all_open p good n) a s u es k f listed can e in
-      state_same u (with_added es s) x.store x.heap x.holdings x.old_heap x.old_holdings
-
   -- it has one value by every fuel, and what follows it follows that
-  settled : {B : Type 0} (s : State) (e : Expr) (v : Value) (rest : ℕ → Value → Checked B) (b : B) → Fine p s → IsPlain e → value p no_applications s e ≡ Some v → Eventually (λ n. (fit_by p n s e >>= rest n) ≡ Ok b) → Eventually (λ n. fit_by p n s e ≡ Ok v)
-  settled s e v rest b f k is ev = (
+  settled : {B : Type 0} (s : State) (e : Expr) (v : Value) (rest : ℕ → Value → Checked B) (b : B) → HasValue p s e v → Eventually (λ n. (fit_by p n s e >>= rest n) ≡ Ok b) → Eventually (λ n. fit_by p n s e ≡ Ok v)
+  settled s e v rest b is ev = (
     ev.0,
     λ n le.
         let x = undo (fit_by p n s e) (rest n) b (ev.1 n le) in
-        x.is ∙ ap Ok (some_is x.it v (sym (at_now n s e x.it f k x.is) ∙ is)),
+        let w = deep_worth p n in
+        x.is ∙ ap Ok (one_value p s e x.it v (w.fuel, w.one s e x.it x.is) is),
   )
 
-  after_it : {B : Type 0} (s : State) (e : Expr) (v : Value) (rest : ℕ → Value → Checked B) (b : B) → Fine p s → IsPlain e → value p no_applications s e ≡ Some v → Eventually (λ n. (fit_by p n s e >>= rest n) ≡ Ok b) → Eventually (λ n. rest n v ≡ Ok b)
+  after_it : {B : Type 0} (s : State) (e : Expr) (v : Value) (rest : ℕ → Value → Checked B) (b : B) → HasValue p s e v → Eventually (λ n. (fit_by p n s e >>= rest n) ≡ Ok b) → Eventually (λ n. rest n v ≡ Ok b)
   unfolding settled
-  after_it s e v rest b f k is ev = (ev.0, λ n le. ap (λ (x : Checked Value). x >>= rest n) (sym ((settled s e v rest b f k is ev).1 n le)) ∙ ev.1 n le)
+  after_it s e v rest b is ev = (ev.0, λ n le. ap (λ (x : Checked Value). x >>= rest n) (sym ((settled s e v rest b is ev).1 n le)) ∙ ev.1 n le)
 
   abbrev Gives : Assertion → State → Holdings → Type 0
   Gives a s es =
-      IsPlainBody p Rigid a → Fine p s → entries p s a ≡ Some es → AreEntries p s.heap es → HoldsInstances p Held true s.heap (added full es s.holdings) → Eventually (λ n. add p (deeper p n) full a s ≡ Ok (with_added es s)) →
+      IsAsking p a → NoDebts s.holdings → asking_entries p (applications p m) s a ≡ Some es → HoldsInstances p Held true s.heap (added full es s.holdings) → Eventually (λ n. add p (deeper p n) full a s ≡ Ok (with_added es s)) →
       give p (IsConsistent p) full a s (Ends (with_added es s))
 
   -- one part of a permission
@@ -92,84 +84,80 @@ module _ (p : Program) (good : GoodBodies p) (Held : Name → Type 0) where
         is = ap (λ (es : Holdings). with_added es s) es_is;
       }
 
-  points_part : (n : ℕ) (s : State) (es : Holdings) (at : Place) (e : Expr) (f : Name) (share : Expr) (part : Resource × Fraction) → IsPlainBody p Rigid (Points at e f share) → Fine p s → entries p s (Points at e f share) ≡ Some es → field_part p (deeper p n) s at e f share ≡ Ok part → es ≡ part ∷ []
-  points_part n s es at e f share part k fi listed eq =
+  points_part : (n : ℕ) (s : State) (es : Holdings) (at : Place) (e : Expr) (f : Name) (share : Expr) (part : Resource × Fraction) → IsAsking p (Points at e f share) → asking_entries p (applications p m) s (Points at e f share) ≡ Some es → field_part p (deeper p n) s at e f share ≡ Ok part → es ≡ part ∷ []
+  points_part n s es at e f share part k listed eq =
       let y = field_parts p (deeper p n) s at e f share part eq in
-      let r = at_now n s e y.receiver fi k.0 y.receiver_is in
-      let w = at_now n s share y.worth fi k.1.plain y.worth_is in
-      location_entries p full none-full f y.receiver y.worth y.location y.amount es y.location_is y.amount_is
-      (sym (step (location_entry f y.receiver) y.worth w) ∙ sym (step (λ r. option_and_then (location_entry f r) (value p no_applications s share)) y.receiver r) ∙ listed)
+      let r = follows_value p (deeper p n) (deep_worth p n) m s e y.receiver (λ r. option_and_then (location_entry f r) (value p no_applications s share)) es y.receiver_is listed in
+      location_entries p full none-full f y.receiver (PermValue y.amount) y.location y.amount es y.location_is refl
+      (sym (step (location_entry f y.receiver) (PermValue y.amount) (share_is p (deeper p n) (deep_worth p n) s share y.worth y.amount k.1 y.worth_is y.amount_is)) ∙ r)
       ∙ ap (λ (z : Resource × Fraction). z ∷ []) (ok_same {A = Resource × Fraction} (At y.location, y.amount) part y.is)
 
-  folded_part : (n : ℕ) (s : State) (es : Holdings) (at : Place) (i : Name) (xs : Exprs) (share : Expr) (part : Resource × Fraction) → IsPlainBody p Rigid (syntax.Instance at i xs share) → Fine p s → entries p s (syntax.Instance at i xs share) ≡ Some es → instance_part p (deeper p n) s at i xs share ≡ Ok part → es ≡ part ∷ []
-  folded_part n s es at i xs share part k fi listed eq =
+  folded_part : (n : ℕ) (s : State) (es : Holdings) (at : Place) (i : Name) (xs : Exprs) (share : Expr) (part : Resource × Fraction) → IsAsking p (syntax.Instance at i xs share) → asking_entries p (applications p m) s (syntax.Instance at i xs share) ≡ Some es → instance_part p (deeper p n) s at i xs share ≡ Ok part → es ≡ part ∷ []
+  folded_part n s es at i xs share part k listed eq =
       let y = instance_parts p (deeper p n) s at i xs share part eq in
-      let r = values_here p full none-full (deeper p n) (all_open p good n) s xs y.arguments fi k.0 y.arguments_are in
-      let w = at_now n s share y.worth fi k.1.plain y.worth_is in
-      instance_entries p full none-full i y.arguments y.worth y.amount es y.amount_is
-      (sym (step (instance_entry i y.arguments) y.worth w) ∙ sym (step (λ vs. option_and_then (instance_entry i vs) (value p no_applications s share)) y.arguments r) ∙ listed)
+      let r = follow_values p (deeper p n) (deep_worth p n) m s xs y.arguments (λ vs. option_and_then (instance_entry i vs) (value p no_applications s share)) es y.arguments_are listed in
+      instance_entries p full none-full i y.arguments (PermValue y.amount) y.amount es refl
+      (sym (step (instance_entry i y.arguments) (PermValue y.amount) (share_is p (deeper p n) (deep_worth p n) s share y.worth y.amount k.1 y.worth_is y.amount_is)) ∙ r)
       ∙ ap (λ (z : Resource × Fraction). z ∷ []) (ok_same {A = Resource × Fraction} (Folded record { predicate = i; arguments = y.arguments }, y.amount) part y.is)
 
-  both_give : (a b : Assertion) (s : State) (es xs ys : Holdings) → entries p s a ≡ Some xs → entries p s b ≡ Some ys → xs ++ ys ≡ es → IsPlainBody p Rigid a → IsPlainBody p Rigid b → Fine p s → AreEntries p s.heap es → HoldsInstances p Held true s.heap (added full es s.holdings) →
+  both_give : (a b : Assertion) (s : State) (es xs ys : Holdings) → asking_entries p (applications p m) s a ≡ Some xs → asking_entries p (applications p m) s b ≡ Some ys → xs ++ ys ≡ es → IsAsking p a → IsAsking p b → NoDebts s.holdings → HoldsInstances p Held true s.heap (added full es s.holdings) →
       Eventually (λ n. add p (deeper p n) full (Both a b) s ≡ Ok (with_added es s)) → Gives a s xs → Gives b (with_added xs s) ys → give p (IsConsistent p) full (Both a b) s (Ends (with_added es s))
-  both_give a b s es xs ys la lb whole ka kb f can holds ev on_a on_b =
-      let all = subst (AreEntries p s.heap) (sym whole) can in
-      let can_a = entries_left p s.heap xs ys all in
-      let middle = with_added xs s in
+  both_give a b s es xs ys la lb whole ka kb none holds ev on_a on_b =
       let same = sym (added_append full xs ys s.holdings) ∙ ap (λ (zs : Holdings). added full zs s.holdings) whole in
       let holds_b = subst (HoldsInstances p Held true s.heap) (sym same) holds in
-      let debts = added_debts p good Held true full xs s.holdings full-positive (entries_positive p s a xs ka la) f.forth.0 in
-      let holds_a = fewer p good Held true s.heap full ys (added full xs s.holdings) full-positive (entries_positive p s b ys kb lb) debts holds_b in
-      let fine : Fine p (with_added xs s) = record { typed = f.typed; forth = (holds_a.debts, all_single p Held (added full xs s.holdings) holds_a.typed); back = holds_a.grounded } in
-      let seen : Sees s (with_added xs s) = record { store = refl; heap = refl } in
-      goes_on middle (on_a ka f la can_a holds_a (first can_a))
+      let debts = added_debts p good Held true full xs s.holdings full-positive (asking_positive p (applications p m) s a xs ka la) none in
+      let holds_a = fewer p good Held true s.heap full ys (added full xs s.holdings) full-positive (asking_positive p (applications p m) s b ys kb lb) debts holds_b in
+      goes_on (with_added xs s) (on_a ka none la holds_a first)
       (subst (λ (u : State). give p (IsConsistent p) full b (with_added xs s) (Ends u)) (ap (λ (hs : Holdings). with_holdings hs s) same)
-      (on_b kb fine (entries_seen p Rigid s middle seen b kb ∙ lb) (entries_right p s.heap xs ys all) holds_b (second can_a same)))
+      (on_b kb debts (held_entries p m (added full xs s.holdings) s b kb ∙ lb) holds_b (second same)))
     where
-      first : AreEntries p s.heap xs → Eventually (λ n. add p (deeper p n) full a s ≡ Ok (with_added xs s))
-      first can_a = (
+      led : (n : ℕ) (u : State) → add p (deeper p n) full a s ≡ Ok u → u ≡ with_added xs s
+      led n u e = added_is p (deeper p n) (deep_worth p n) full full-positive a s u m xs ka la e
+
+      first : Eventually (λ n. add p (deeper p n) full a s ≡ Ok (with_added xs s))
+      first = (
         ev.0,
         λ n le.
             let x = undo (add p (deeper p n) full a s) (λ t. add p (deeper p n) full b t) (with_added es s) (ev.1 n le) in
-            x.is ∙ ap Ok (led n a s x.it xs ka f la can_a x.is),
+            x.is ∙ ap Ok (led n x.it x.is),
       )
 
-      second : AreEntries p s.heap xs → added full ys (added full xs s.holdings) ≡ added full es s.holdings → Eventually (λ n. add p (deeper p n) full b (with_added xs s) ≡ Ok (with_added ys (with_added xs s)))
-      second can_a same = (
+      second : added full ys (added full xs s.holdings) ≡ added full es s.holdings → Eventually (λ n. add p (deeper p n) full b (with_added xs s) ≡ Ok (with_added ys (with_added xs s)))
+      second same = (
         ev.0,
         λ n le.
             let x = undo (add p (deeper p n) full a s) (λ t. add p (deeper p n) full b t) (with_added es s) (ev.1 n le) in
-            ap (λ (t : State). add p (deeper p n) full b t) (sym (led n a s x.it xs ka f la can_a x.is)) ∙ x.then ∙ ap (λ (hs : Holdings). Ok (with_holdings hs s)) (sym same),
+            ap (λ (t : State). add p (deeper p n) full b t) (sym (led n x.it x.is)) ∙ x.then ∙ ap (λ (hs : Holdings). Ok (with_holdings hs s)) (sym same),
       )
 
-  implied_give : (c : Expr) (a : Assertion) (s : State) (es : Holdings) (v : Value) → value p no_applications s c ≡ Some v → plain.choose v (entries p s a) (Some []) ≡ Some es → IsPlain c → IsPlainBody p Rigid a → Fine p s → AreEntries p s.heap es →
+  implied_give : (c : Expr) (a : Assertion) (s : State) (es : Holdings) (v : Value) → HasValue p s c v → plain.choose v (asking_entries p (applications p m) s a) (Some []) ≡ Some es → IsAsking p a → NoDebts s.holdings →
       HoldsInstances p Held true s.heap (added full es s.holdings) → Eventually (λ n. add p (deeper p n) full (Implied c a) s ≡ Ok (with_added es s)) → Gives a s es → give p (IsConsistent p) full (Implied c a) s (Ends (with_added es s))
-  implied_give c a s es v is listed kc ka f can holds ev on_a =
-      go v listed (settled s c v (λ n v. choose (place_of c) v (add p (deeper p n) full a s) (Ok s)) (with_added es s) f kc is ev) (after_it s c v (λ n v. choose (place_of c) v (add p (deeper p n) full a s) (Ok s)) (with_added es s) f kc is ev)
+  implied_give c a s es v is listed ka none holds ev on_a =
+      go v listed (settled s c v (λ n v. choose (place_of c) v (add p (deeper p n) full a s) (Ok s)) (with_added es s) is ev) (after_it s c v (λ n v. choose (place_of c) v (add p (deeper p n) full a s) (Ok s)) (with_added es s) is ev)
     where
-      go : (v : Value) → plain.choose v (entries p s a) (Some []) ≡ Some es → Eventually (λ n. fit_by p n s c ≡ Ok v) → Eventually (λ n. choose (place_of c) v (add p (deeper p n) full a s) (Ok s) ≡ Ok (with_added es s)) → give p (IsConsistent p) full (Implied c a) s (Ends (with_added es s))
-      go (BoolValue true) listed fits later = passes (BoolValue true) fits (on_a ka f listed can holds later)
+      go : (v : Value) → plain.choose v (asking_entries p (applications p m) s a) (Some []) ≡ Some es → Eventually (λ n. fit_by p n s c ≡ Ok v) → Eventually (λ n. choose (place_of c) v (add p (deeper p n) full a s) (Ok s) ≡ Ok (with_added es s)) → give p (IsConsistent p) full (Implied c a) s (Ends (with_added es s))
+      go (BoolValue true) listed fits later = passes (BoolValue true) fits (on_a ka none listed holds later)
       go (BoolValue false) listed fits later = passes (BoolValue false) fits (sym (ok_same s (with_added es s) (later.1 later.0 (le_refl later.0))))
       go (IntValue z) listed fits later = nothing_some es listed
       go (RefValue z) listed fits later = nothing_some es listed
       go (PermValue z) listed fits later = nothing_some es listed
 
-  chosen_give : (c : Expr) (a b : Assertion) (s : State) (es : Holdings) (v : Value) → value p no_applications s c ≡ Some v → plain.choose v (entries p s a) (entries p s b) ≡ Some es → IsPlain c → IsPlainBody p Rigid a → IsPlainBody p Rigid b → Fine p s → AreEntries p s.heap es →
+  chosen_give : (c : Expr) (a b : Assertion) (s : State) (es : Holdings) (v : Value) → HasValue p s c v → plain.choose v (asking_entries p (applications p m) s a) (asking_entries p (applications p m) s b) ≡ Some es → IsAsking p a → IsAsking p b → NoDebts s.holdings →
       HoldsInstances p Held true s.heap (added full es s.holdings) → Eventually (λ n. add p (deeper p n) full (Chosen c a b) s ≡ Ok (with_added es s)) → Gives a s es → Gives b s es → give p (IsConsistent p) full (Chosen c a b) s (Ends (with_added es s))
-  chosen_give c a b s es v is listed kc ka kb f can holds ev on_a on_b =
-      go v listed (settled s c v (λ n v. choose (place_of c) v (add p (deeper p n) full a s) (add p (deeper p n) full b s)) (with_added es s) f kc is ev)
-      (after_it s c v (λ n v. choose (place_of c) v (add p (deeper p n) full a s) (add p (deeper p n) full b s)) (with_added es s) f kc is ev)
+  chosen_give c a b s es v is listed ka kb none holds ev on_a on_b =
+      go v listed (settled s c v (λ n v. choose (place_of c) v (add p (deeper p n) full a s) (add p (deeper p n) full b s)) (with_added es s) is ev)
+      (after_it s c v (λ n v. choose (place_of c) v (add p (deeper p n) full a s) (add p (deeper p n) full b s)) (with_added es s) is ev)
     where
-      go : (v : Value) → plain.choose v (entries p s a) (entries p s b) ≡ Some es → Eventually (λ n. fit_by p n s c ≡ Ok v) → Eventually (λ n. choose (place_of c) v (add p (deeper p n) full a s) (add p (deeper p n) full b s) ≡ Ok (with_added es s)) →
+      go : (v : Value) → plain.choose v (asking_entries p (applications p m) s a) (asking_entries p (applications p m) s b) ≡ Some es → Eventually (λ n. fit_by p n s c ≡ Ok v) → Eventually (λ n. choose (place_of c) v (add p (deeper p n) full a s) (add p (deeper p n) full b s) ≡ Ok (with_added es s)) →
           give p (IsConsistent p) full (Chosen c a b) s (Ends (with_added es s))
-      go (BoolValue true) listed fits later = passes (BoolValue true) fits (on_a ka f listed can holds later)
-      go (BoolValue false) listed fits later = passes (BoolValue false) fits (on_b kb f listed can holds later)
+      go (BoolValue true) listed fits later = passes (BoolValue true) fits (on_a ka none listed holds later)
+      go (BoolValue false) listed fits later = passes (BoolValue false) fits (on_b kb none listed holds later)
       go (IntValue z) listed fits later = nothing_some es listed
       go (RefValue z) listed fits later = nothing_some es listed
       go (PermValue z) listed fits later = nothing_some es listed
 
-  pure_give : (e : Expr) (s : State) (es : Holdings) (v : Value) → value p no_applications s e ≡ Some v → is_true v ≡ true → IsPlain e → Fine p s → Eventually (λ n. add p (deeper p n) full (Pure e) s ≡ Ok (with_added es s)) → give p (IsConsistent p) full (Pure e) s (Ends (with_added es s))
-  pure_give e s es v is holds k f ev = passes v (settled s e v (λ n v. Ok s) (with_added es s) f k is ev) (go (is_true v) holds)
+  pure_give : (e : Expr) (s : State) (es : Holdings) (v : Value) → HasValue p s e v → is_true v ≡ true → Eventually (λ n. add p (deeper p n) full (Pure e) s ≡ Ok (with_added es s)) → give p (IsConsistent p) full (Pure e) s (Ends (with_added es s))
+  pure_give e s es v is holds ev = passes v (settled s e v (λ n v. Ok s) (with_added es s) is ev) (go (is_true v) holds)
     where
       same : with_added es s ≡ s
       same = let x = undo (fit_by p ev.0 s e) (λ _. Ok s) (with_added es s) (ev.1 ev.0 (le_refl ev.0)) in sym (ok_same s (with_added es s) x.then)
@@ -179,22 +167,22 @@ module _ (p : Program) (good : GoodBodies p) (Held : Name → Type 0) where
       go false e = cc
 
   pub gives : (a : Assertion) (s : State) (es : Holdings) → Gives a s es
-  gives (Pure e) s es k f listed can holds ev =
-      let y = came (value p no_applications s e) (λ v. cond (is_true v) (Some []) None) es listed in
-      pure_give e s es y.it y.is (is_so (is_true y.it) es y.then) k f ev
-  gives (Points at e g share) s es k f listed can holds ev =
-      let x = one_part s es (λ n. field_part p (deeper p n) s at e g share) (λ n part eq. points_part n s es at e g share part k f listed eq) holds (with_added es s) ev in
+  gives (Pure e) s es k none listed holds ev =
+      let y = came (value p (applications p m) s e) (λ v. cond (is_true v) (Some []) None) es listed in
+      pure_give e s es y.it (m, y.is) (is_so (is_true y.it) es y.then) ev
+  gives (Points at e g share) s es k none listed holds ev =
+      let x = one_part s es (λ n. field_part p (deeper p n) s at e g share) (λ n part eq. points_part n s es at e g share part k listed eq) holds (with_added es s) ev in
       passes x.part x.comes (inl (x.can, x.is))
-  gives (syntax.Instance at i xs share) s es k f listed can holds ev =
-      let x = one_part s es (λ n. instance_part p (deeper p n) s at i xs share) (λ n part eq. folded_part n s es at i xs share part k f listed eq) holds (with_added es s) ev in
+  gives (syntax.Instance at i xs share) s es k none listed holds ev =
+      let x = one_part s es (λ n. instance_part p (deeper p n) s at i xs share) (λ n part eq. folded_part n s es at i xs share part k listed eq) holds (with_added es s) ev in
       passes x.part x.comes (inl (x.can, x.is))
-  gives (Both a b) s es k f listed can holds ev =
-      let x = came (entries p s a) (λ xs. option_and_then (λ ys. Some (xs ++ ys)) (entries p s b)) es listed in
-      let y = came (entries p s b) (λ ys. Some (x.it ++ ys)) es x.then in
-      both_give a b s es x.it y.it x.is y.is (some_is (x.it ++ y.it) es y.then) k.0 k.1 f can holds ev (gives a s x.it) (gives b (with_added x.it s) y.it)
-  gives (Implied c a) s es k f listed can holds ev =
-      let x = came (value p no_applications s c) (λ v. plain.choose v (entries p s a) (Some [])) es listed in
-      implied_give c a s es x.it x.is x.then k.0 k.1 f can holds ev (gives a s es)
-  gives (Chosen c a b) s es k f listed can holds ev =
-      let x = came (value p no_applications s c) (λ v. plain.choose v (entries p s a) (entries p s b)) es listed in
-      chosen_give c a b s es x.it x.is x.then k.0 k.1 k.2 f can holds ev (gives a s es) (gives b s es)
+  gives (Both a b) s es k none listed holds ev =
+      let x = came (asking_entries p (applications p m) s a) (λ xs. option_and_then (λ ys. Some (xs ++ ys)) (asking_entries p (applications p m) s b)) es listed in
+      let y = came (asking_entries p (applications p m) s b) (λ ys. Some (x.it ++ ys)) es x.then in
+      both_give a b s es x.it y.it x.is y.is (some_is (x.it ++ y.it) es y.then) k.0 k.1 none holds ev (gives a s x.it) (gives b (with_added x.it s) y.it)
+  gives (Implied c a) s es k none listed holds ev =
+      let x = came (value p (applications p m) s c) (λ v. plain.choose v (asking_entries p (applications p m) s a) (Some [])) es listed in
+      implied_give c a s es x.it (m, x.is) x.then k.1 none holds ev (gives a s es)
+  gives (Chosen c a b) s es k none listed holds ev =
+      let x = came (value p (applications p m) s c) (λ v. plain.choose v (asking_entries p (applications p m) s a) (asking_entries p (applications p m) s b)) es listed in
+      chosen_give c a b s es x.it (m, x.is) x.then k.1 k.2 none holds ev (gives a s es) (gives b s es)

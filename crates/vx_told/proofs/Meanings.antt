@@ -1,6 +1,5 @@
 -- A function's symbol means one element, and that of an application has the function's type.
-use Rattle.std.proofs.Common.{◌≡◌, ◌⊎◌, inl, inr, ℕ, suc, Bool, true, false, cond, List, [], ◌∷◌, Option, Some, None, refl, sym, ◌∙◌, ap, ap₂, subst}
-use Rattle.vx_frac.specs.Fractions.{none, sum}
+use Rattle.std.proofs.Common.{◌≡◌, ℕ, suc, Bool, true, false, cond, List, [], ◌∷◌, Option, Some, None, refl, sym, ◌∙◌, ap, ap₂, subst}
 use Rattle.vx_ast.specs.declared.ValueType.{ValueType}
 use Rattle.vx_ast.specs.declared.ValueType.TheVariants.{Int, Bool as Truths, Ref, Perm}
 use Rattle.vx_ast.specs.Syntax.{Name, same_name, Kind, IsField, IsPredicate, IsFunction, IsMethod, Declaration, Program, Function, function_in, function_named, member_named}
@@ -12,21 +11,19 @@ use Rattle.vx_rules.specs.Groups.{is_function, function_number}
 use Rattle.vx_types.specs.Typing.{HaveNoPerm}
 use Rattle.vx_whole.specs.Premises.{IsTypedProgram}
 use Rattle.vx_whole.specs.Closure.{InClosure}
-use Rattle.vx_amounts.proofs.Amounts.{Le, le-refl}
 use Rattle.vx_elements.proofs.Elements.{element}
 use Rattle.vx_elements.proofs.Lists.{name_is}
 use Rattle.vx_sound.specs.Snapshots.{leaf}
 use Rattle.vx_sound_preds.specs.Bodies.{GoodBodies}
-use Rattle.vx_meaning.specs.Consistent.{IsConsistent}
-use Rattle.vx_sound_preds.specs.Covered.{TypedInstances, IsStocked}
-use Rattle.vx_sound_preds.proofs.Grouped.{IsSingle, AreSingle, NoDebts, resource_is}
-use Rattle.vx_sound_preds.proofs.Holding.{HoldsInstances, TypedAll, all_single, typed_rigid, consistent}
-use Rattle.vx_sound_funcs.specs.Told.{IsTreeOf, precondition_of}
+use Rattle.vx_sound_preds.proofs.Holding.{typed_rigid, consistent}
+use Rattle.vx_sound_preds.specs.Asking.{IsAskingTreeOf}
+use Rattle.vx_sound_funcs.specs.Told.{precondition_of}
 use Rattle.vx_sound_funcs.specs.Laws.{ApplicationsAgree}
 use Rattle.vx_sound_funcs.proofs.Fuel.{one_application}
+use Rattle.vx_sound_funcs.proofs.Stocked.{stocked}
 use Rattle.vx_told.specs.Means.{element_of, elements_of, IsApplied, Means, SymbolsMeanOne}
 use Rattle.vx_told.proofs.Symbols.{elements}
-use Rattle.vx_told.proofs.TypedValues.{applications_typed}
+use Rattle.vx_sound_preds.proofs.TypedValues.{applications_typed}
 use Rattle.vx_told.proofs.Applied.{Allowed}
 
 -- Values, their elements and their leaves
@@ -178,42 +175,14 @@ module _ (p : Program) (x : Name) (typed : IsTypedProgram p) (agree : Applicatio
       let one = agree f g a.named vs ri a.fuel s s v t a.consistent a.stocked a.value a.tree a.tree in
       sym (leaf_type v) ∙ ap type_of_leaf one.2 ∙ leaf_type one.0 ∙ applications_typed p typed.functions one.1.0 f g vs s one.0 a.named a.types one.1.1
 
-  -- What is held in a state that can be is stocked
-
-  typed_instances : (hs : Holdings) → TypedAll p (InClosure p x) hs → TypedInstances p x hs
-  typed_instances [] h = tt
-  typed_instances ((At l, a) ∷ hs) h = typed_instances hs h.1
-  typed_instances ((Folded i, a) ∷ hs) h = ((h.0.0, (h.0.1.0, h.0.1.1, h.0.1.3)), typed_instances hs h.1)
-
-  single_or_none : (r : Resource) (hs : Holdings) → AreSingle hs → IsSingle r ⊎ (amount hs r ≡ none)
-  single_or_none r [] k = inr refl
-  single_or_none r (y ∷ hs) k = go (same_resource r y.0) refl (single_or_none r hs k.1)
-    where
-      go : (b : Bool) → same_resource r y.0 ≡ b → IsSingle r ⊎ (amount hs r ≡ none) → IsSingle r ⊎ (cond b (sum y.1 (amount hs r)) (amount hs r) ≡ none)
-      go true e h = inl (subst IsSingle (sym (resource_is r y.0 k.0 e)) k.0)
-      go false e h = h
-
-  no_debts : (hs : Holdings) → AreSingle hs → NoDebts hs → (r : Resource) → Le none (amount hs r)
-  no_debts hs k d r = go (single_or_none r hs k)
-    where
-      go : IsSingle r ⊎ (amount hs r ≡ none) → Le none (amount hs r)
-      go (inl s) = d r s
-      go (inr e) = subst (λ q. Le none q) (sym e) (le-refl none)
-
-  pub stocked_with : (good : GoodBodies p) (c : run.State) → HoldsInstances p (InClosure p x) true c.heap c.holdings → IsConsistent p c × IsStocked p x c.holdings
-  stocked_with good c k = (
-    consistent p good (InClosure p x) true c refl k,
-    record { instances = typed_instances c.holdings k.typed; debts = λ r. let y = no_debts c.holdings (all_single p (InClosure p x) c.holdings k.typed) k.debts r in y.holds },
-  )
-
-  module _ (good : GoodBodies p) (f : Name) (g : Function) (vs : List Value) (v : Value) (c : run.State) (tree : Tree) (a : Allowed p (InClosure p x) f g vs v c) (there : IsTreeOf p (run.with_store (run.bind g.parameters vs) c) (precondition_of g) tree) where
+  module _ (good : GoodBodies p) (f : Name) (g : Function) (vs : List Value) (v : Value) (c : run.State) (tree : Tree) (a : Allowed p (InClosure p x) f g vs v c) (there : IsAskingTreeOf p (run.with_store (run.bind g.parameters vs) c) (precondition_of g) tree) where
     pub is_applied : IsApplied p x f g vs c tree v
     is_applied = record {
       leads = a.held;
       named = a.named;
       types = a.types;
-      consistent = (stocked_with good c a.holds).0;
-      stocked = (stocked_with good c a.holds).1;
+      consistent = consistent p good (InClosure p x) true c refl a.holds;
+      stocked = stocked p x true c.heap c.holdings a.holds;
       tree = there;
       fuel = a.fuel;
       value = a.is;

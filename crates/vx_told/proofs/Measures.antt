@@ -31,14 +31,48 @@ use Rattle.vx_sound.proofs.Stripped.{stripped}
 use Rattle.vx_told.proofs.Stripped.{measure_stripped, one_measure}
 use Rattle.vx_told.proofs.Names.{names_of, named_stands, without, stays_in, fewer_names}
 use Rattle.vx_told.proofs.ToldProduce.{state_same}
-use Rattle.vx_told.proofs.TypedValues.{have_types, applications_typed}
+use Rattle.vx_sound_preds.proofs.TypedValues.{have_types, applications_typed}
 
 -- Ways
 
-reached : {Step : Name → Name → Type 0} (n : ℕ) (x y z : Name) → mentions.ReachesBy Step n x y → mentions.Reaches Step y z → mentions.Reaches Step x z
+pub reached : {Step : Name → Name → Type 0} (n : ℕ) (x y z : Name) → mentions.ReachesBy Step n x y → mentions.Reaches Step y z → mentions.Reaches Step x z
 reached zero x y z r s = absurd r
 reached (suc n) x y z (inl e) s = (suc s.0, inr (y, e, s.1))
 reached (suc n) x y z (inr (w, e, r)) s = let k = reached n w y z r s in (suc k.0, inr (w, e, k.1))
+
+nothing_left : (f : Name) (ys : List Name) → Stands f ys → length ys ≤ zero → ⊥
+nothing_left f [] s l = s
+nothing_left f (y ∷ ys) s l = omega (arith, l)
+
+module _ (p : Program) where
+  -- the functions that f leads to, and f, are among these
+  abbrev Known : List Name → Name → Type 0
+  Known left f = (y : Name) (d : Function) → function_named p y ≡ Some d → (y ≡ f) ⊎ Reaches p f y → Stands y left
+
+  known_on : (left : List Name) (f f' : Name) → Known left f → Reaches p f f' → Known left f'
+  known_on left f f' k r y d named (inl e) = k y d named (inr (subst (Reaches p f) (sym e) r))
+  known_on left f f' k r y d named (inr s) = k y d named (inr (reached r.0 f f' y r.1 s))
+
+  -- without f, where f' doesn't lead back
+  known_below : (left : List Name) (f f' : Name) → Known left f → Reaches p f f' → (Reaches p f' f → ⊥) → Known (without f left) f'
+  known_below left f f' k r apart y d named w = stays_in f y left (known_on left f f' k r y d named w) (differs w)
+    where
+      differs : (y ≡ f') ⊎ Reaches p f' y → y ≡ f → ⊥
+      differs (inl e) is = apart (subst (λ (z : Name). Reaches p z f) (sym is ∙ e) (subst (Reaches p f) (sym e ∙ is) r))
+      differs (inr s) is = apart (subst (Reaches p f') is s)
+
+  -- what holds of a function where it holds of all that it leads to and that don't lead back holds of all
+  module _ (C : Name → Function → Type 0) (from_lower : (f : Name) (g : Function) → function_named p f ≡ Some g → ((f' : Name) (g' : Function) → function_named p f' ≡ Some g' → Reaches p f f' → (Reaches p f' f → ⊥) → C f' g') → C f g) where
+    with_names : (n : ℕ) (left : List Name) → length left ≤ n → (f : Name) (g : Function) → function_named p f ≡ Some g → Known left f → C f g
+    with_names zero left l f g named known = absurd (nothing_left f left (known f g named (inl refl)) l)
+    with_names (suc n) left l f g named known =
+        from_lower f g named (λ f' g' named' r apart. with_names n (without f left) (fewer_names f left n (known f g named (inl refl)) l) f' g' named' (known_below left f f' known r apart))
+
+    pub groups_induce : (f : Name) (g : Function) → function_named p f ≡ Some g → C f g
+    groups_induce f g named = with_names (length (names_of p)) (names_of p) (self (length (names_of p))) f g named (λ y d is w. named_stands p y d is)
+      where
+        self : (n : ℕ) → n ≤ n
+        self n = omega arith
 
 module _ (p : Program) (h : Heap) where
   -- Instances within an instance are flat by less fuel
@@ -219,36 +253,20 @@ module _ (p : Program) (typed : IsTypedProgram p) (h : Heap) where
       }
 
   module _ (C : Claim) (from_below : HoldsFromBelow p h C) where
-    -- the functions that f leads to, and f, are among these
-    abbrev Known : List Name → Name → Type 0
-    Known left f = (y : Name) (d : Function) → function_named p y ≡ Some d → (y ≡ f) ⊎ Reaches p f y → Stands y left
-
-    known_on : (left : List Name) (f f' : Name) → Known left f → Reaches p f f' → Known left f'
-    known_on left f f' k r y d named (inl e) = k y d named (inr (subst (Reaches p f) (sym e) r))
-    known_on left f f' k r y d named (inr s) = k y d named (inr (reached r.0 f f' y r.1 s))
-
-    -- without f, where f' doesn't lead back
-    known_below : (left : List Name) (f f' : Name) → Known left f → Reaches p f f' → (Reaches p f' f → ⊥) → Known (without f left) f'
-    known_below left f f' k r apart y d named w = stays_in f y left (known_on left f f' k r y d named w) (differs w)
-      where
-        differs : (y ≡ f') ⊎ Reaches p f' y → y ≡ f → ⊥
-        differs (inl e) is = apart (subst (λ (z : Name). Reaches p z f) (sym is ∙ e) (subst (Reaches p f) (sym e ∙ is) r))
-        differs (inr s) is = apart (subst (Reaches p f') is s)
-
     -- of functions of lower groups
     abbrev OfLower : Name → Type 0
     OfLower f = (f' : Name) (g' : Function) (vs' : List Value) → function_named p f' ≡ Some g' → HaveTypes g'.parameters vs' → Reaches p f f' → (Reaches p f' f → ⊥) → C f' g' vs'
 
-    module _ (left : List Name) (lower : (f : Name) (g : Function) → function_named p f ≡ Some g → Known left f → OfLower f) where
+    module _ (left : List Name) (lower : (f : Name) (g : Function) → function_named p f ≡ Some g → Known p left f → OfLower f) where
       -- where the measure is bounded by n
       abbrev Inner : ℕ → Type 0
-      Inner n = (f : Name) (g : Function) (vs : List Value) → function_named p f ≡ Some g → HaveTypes g.parameters vs → Known left f → (m : Measure) → HasAt g vs m → Bounded p h n m → C f g vs
+      Inner n = (f : Name) (g : Function) (vs : List Value) → function_named p f ≡ Some g → HaveTypes g.parameters vs → Known p left f → (m : Measure) → HasAt g vs m → Bounded p h n m → C f g vs
 
       abbrev Less : ℕ → Type 0
       Less zero = Unit {0}
       Less (suc n) = Inner n
 
-      fallen : (n : ℕ) → Less n → (g : Function) (vs : List Value) (f' : Name) (g' : Function) (vs' : List Value) → function_named p f' ≡ Some g' → HaveTypes g'.parameters vs' → Known left f' → (k : Falls g vs g' vs') → Bounded p h n k.before → C f' g' vs'
+      fallen : (n : ℕ) → Less n → (g : Function) (vs : List Value) (f' : Name) (g' : Function) (vs' : List Value) → function_named p f' ≡ Some g' → HaveTypes g'.parameters vs' → Known p left f' → (k : Falls g vs g' vs') → Bounded p h n k.before → C f' g' vs'
       fallen zero u g vs f' g' vs' named' types' known' k bound = absurd (none_lowered p h k.before k.after k.lowers bound)
       fallen (suc n) u g vs f' g' vs' named' types' known' k bound =
           let a = k.has_after in
@@ -263,13 +281,13 @@ module _ (p : Program) (typed : IsTypedProgram p) (h : Heap) where
           below f' g' vs' named' types' (lower_group r apart) = lower f g named known f' g' vs' named' types' r apart
           below f' g' vs' named' types' (lesser_measure w l) =
               let k = falls f g vs f' g' vs' named named' l in
-              fallen n u g vs f' g' vs' named' types' (known_on left f f' known w.0) k (subst (Bounded p h n) (one_at g vs m k.before has k.has_before) bound)
+              fallen n u g vs f' g' vs' named' types' (known_on p left f f' known w.0) k (subst (Bounded p h n) (one_at g vs m k.before has k.has_before) bound)
 
       less : (n : ℕ) → Less n
       less zero = tt
       less (suc n) = bounded n (less n)
 
-      in_group : (f : Name) (g : Function) (vs : List Value) → function_named p f ≡ Some g → HaveTypes g.parameters vs → Known left f → C f g vs
+      in_group : (f : Name) (g : Function) (vs : List Value) → function_named p f ≡ Some g → HaveTypes g.parameters vs → Known p left f → C f g vs
       in_group f g vs named types known = from_below f g vs named types below
         where
           below : (f' : Name) (g' : Function) (vs' : List Value) → function_named p f' ≡ Some g' → HaveTypes g'.parameters vs' → IsBelow p h f vs f' vs' → C f' g' vs'
@@ -277,18 +295,14 @@ module _ (p : Program) (typed : IsTypedProgram p) (h : Heap) where
           below f' g' vs' named' types' (lesser_measure w l) =
               let k = falls f g vs f' g' vs' named named' l in
               let n = bound_of p h k.before k.after k.lowers in
-              fallen n.0 (less n.0) g vs f' g' vs' named' types' (known_on left f f' known w.0) k n.1
-
-    nothing_left : (f : Name) (ys : List Name) → Stands f ys → length ys ≤ zero → ⊥
-    nothing_left f [] s l = s
-    nothing_left f (y ∷ ys) s l = omega (arith, l)
+              fallen n.0 (less n.0) g vs f' g' vs' named' types' (known_on p left f f' known w.0) k n.1
 
     -- with at most n names left
-    outer : (n : ℕ) (left : List Name) → length left ≤ n → (f : Name) (g : Function) (vs : List Value) → function_named p f ≡ Some g → HaveTypes g.parameters vs → Known left f → C f g vs
+    outer : (n : ℕ) (left : List Name) → length left ≤ n → (f : Name) (g : Function) (vs : List Value) → function_named p f ≡ Some g → HaveTypes g.parameters vs → Known p left f → C f g vs
     outer zero left l f g vs named types known = absurd (nothing_left f left (known f g named (inl refl)) l)
     outer (suc n) left l f g vs named types known =
         in_group left
-        (λ f1 g1 named1 known1 f' g' vs' named' types' r apart. outer n (without f1 left) (fewer_names f1 left n (known1 f1 g1 named1 (inl refl)) l) f' g' vs' named' types' (known_below left f1 f' known1 r apart))
+        (λ f1 g1 named1 known1 f' g' vs' named' types' r apart. outer n (without f1 left) (fewer_names f1 left n (known1 f1 g1 named1 (inl refl)) l) f' g' vs' named' types' (known_below p left f1 f' known1 r apart))
         f g vs named types known
 
     pub ends : HoldsOfAll p C

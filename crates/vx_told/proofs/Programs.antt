@@ -11,7 +11,9 @@ use Rattle.vx_rules.specs.Rules.{outer}
 use Rattle.vx_sound.proofs.Speaks as instances
 use Rattle.vx_sound_preds.proofs.Typed.{on_left}
 use Rattle.vx_sound_preds.proofs.Mentioning.{function_member}
-use Rattle.vx_sound_preds.proofs.Speaking.{AllSeen, lefts, rights, joined_seen, plain_body, good, no_perm, speak}
+use Rattle.vx_sound_preds.proofs.Asked.{speaks_for}
+use Rattle.vx_sound_preds.proofs.Speaking.{AllSeen, lefts, rights, good, no_perm, speak}
+use Rattle.vx_sound_preds.proofs.FunctionWalks.{own_asks}
 use Rattle.vx_sound_funcs.specs.Told.{precondition_of}
 use Rattle.vx_sound_funcs.specs.Firm.{firmly, GoodFunctions}
 use Rattle.vx_sound_funcs.specs.Laws.{ApplicationsAgree}
@@ -59,21 +61,18 @@ module _ (p : Program) (x : Name) where
   parts_seen : (f : Name) (g : Function) → InClosure p x f → function_named p f ≡ Some g → AllSeen p x (mentioned_by_function g)
   parts_seen f g held named y s = further held (subst (λ (o : Option Kind). Stands y (mentioned_by_kind p o)) (sym (function_member (member_named p f) g named)) (on_left y (mentioned_by_function g) (mentioned_by_measure g.decreases) s))
 
-  module _ (functions : GoodFunctions p) where
-    pub asked : (f : Name) (g : Function) → InClosure p x f → function_named p f ≡ Some g → instances.SpeaksOf (InClosure p x) (λ f. ⊥) (precondition_of g)
-    asked f g held named =
-        let parts = parts_seen f g held named in
-        plain_body p x (precondition_of g) (functions.asks f g named)
-        (joined_seen p x g.place g.requires (rights p x (mentioned g.body) (flat_map mentioned_by g.requires) (lefts p x (mentioned g.body ++ flat_map mentioned_by g.requires) (flat_map mentioned g.ensures) parts)))
-
   module _ (typed : IsTypedProgram p) (functions : GoodFunctions p) where
+    -- its precondition may apply all that x leads to
+    pub asked : (f : Name) (g : Function) → InClosure p x f → function_named p f ≡ Some g → instances.SpeaksOf (InClosure p x) (InClosure p x) (precondition_of g)
+    asked f g held named = own_asks p x typed f g held named (functions.asks f g named)
+
     pub spoken : (f : Name) (g : Function) → InClosure p x f → function_named p f ≡ Some g → Spoken p (InClosure p x) g
     spoken f g held named =
         let parts = parts_seen f g held named in
         record {
           typed = typed.functions f g named;
-          requires = assertion (InClosure p x) (λ f. ⊥) (λ f k. absurd k) (precondition_of g) (asked functions f g held named);
-          instances = asked functions f g held named;
+          requires = assertion (InClosure p x) (InClosure p x) (λ f k. k) (precondition_of g) (asked f g held named);
+          asks_for = speaks_for (InClosure p x) (InClosure p x) (precondition_of g) (asked f g held named);
           body = speaks g.body (lefts p x (mentioned g.body) (flat_map mentioned_by g.requires) (lefts p x (mentioned g.body ++ flat_map mentioned_by g.requires) (flat_map mentioned g.ensures) parts));
           ensures = conjoined_speaks (InClosure p x) g.place g.ensures (each_speaks g.ensures (rights p x (mentioned g.body ++ flat_map mentioned_by g.requires) (flat_map mentioned g.ensures) parts));
         }
@@ -91,4 +90,4 @@ module _ (p : Program) (x : Name) where
       bodies i d e held named body = let k = speak p x typed i d e held named body in (k.0, assertion (InClosure p x) (λ f. ⊥) (λ f k. absurd k) e k.1, k.1)
 
       pub closure_told : (n k m : ℕ) → AllTold (Means p x) p (good p x typed) (InClosure p x) (no_perm p x typed) n (outer p k) (firmly p m)
-      closure_told n k m = all_told (Means p x) p (good p x typed) functions (InClosure p x) (no_perm p x typed) n bodies spoken knows k m
+      closure_told n k m = all_told (Means p x) p (good p x typed) functions (InClosure p x) (no_perm p x typed) n typed.functions bodies spoken knows k m

@@ -14,7 +14,9 @@ use Rattle.vx_sound_funcs.specs.Told.{precondition_of}
 use Rattle.vx_sound_funcs.specs.Firm.{firmly, GoodFunctions}
 use Rattle.vx_sound_funcs.proofs.Fits.{add_stays}
 use Rattle.vx_sound_funcs.proofs.Steps.{Steps, steps_of}
-use Rattle.vx_sound_funcs.proofs.Further.{Further, body_now, firm_further, firm_adds}
+use Rattle.vx_sound_funcs.proofs.TypedFunctions.{good_functions}
+use Rattle.vx_sound_funcs.proofs.Firm.{asking_now}
+use Rattle.vx_sound_funcs.proofs.Further.{Further, firm_further, firm_adds}
 use Rattle.vx_told.specs.Means.{Promise, PromisesKept}
 use Rattle.vx_told.proofs.Longer.{found_longer}
 
@@ -25,7 +27,7 @@ module _ (p : Program) (bodies : GoodBodies p) (functions : GoodFunctions p) whe
       let inside = bare (bind g.parameters vs ++ (result_name, v) ∷ []) s.heap in
       let longer : Further before inside = record { variables = found_longer (bind g.parameters vs) ((result_name, v) ∷ []); heap = refl; holdings = refl } in
       let begun = add_stays p (firmly p n) full (precondition_of g) before k.start k.starts in
-      let a = firm_adds p bodies functions n before inside longer full (precondition_of g) k.start (body_now p (precondition_of g) (functions.asks f g named)) k.starts in
+      let a = firm_adds p bodies functions n before inside longer full (precondition_of g) k.start (asking_now p (precondition_of g) (functions.asks f g named)) k.starts in
       let there = add_stays p (firmly p n) full (precondition_of g) inside a.after a.adds in
       let same = ap (λ (xs : Store). xs ++ (result_name, v) ∷ []) begun.store ∙ sym there.store in
       let with_it : Further (with_result v k.start) a.after = record { variables = λ x w l. ap (lookup x) (sym same) ∙ l; heap = a.further.heap; holdings = a.further.holdings } in
@@ -36,5 +38,5 @@ module _ (p : Program) (bodies : GoodBodies p) (functions : GoodFunctions p) whe
         fits = firm_further p bodies functions n (with_result v k.start) a.after with_it (conjoined g.place g.ensures) (BoolValue true) (functions.promises_now f g named) k.keeps;
       }
 
-pub promises_kept : (p : Program) (x : Name) → IsTypedProgram p → GoodFunctions p → PromisesKept p x
-promises_kept p x typed functions f g vs s t v a = promise_of p (good p x typed) functions a.fuel f g vs s v a.named (steps_of p (firmly p a.fuel) f g vs s v a.named a.value)
+pub promises_kept : (p : Program) (x : Name) → IsTypedProgram p → PromisesKept p x
+promises_kept p x typed f g vs s t v a = promise_of p (good p x typed) (good_functions p typed) a.fuel f g vs s v a.named (steps_of p (firmly p a.fuel) f g vs s v a.named a.value)

@@ -7,7 +7,7 @@ use Rattle.vx_ast.specs.declared.ValueType.{ValueType}
 use Rattle.vx_ast.specs.Syntax.{Name, Program, Predicate, predicate_named, Expr, Assertion}
 use Rattle.vx_meaning.specs.Values.{Value, type_of}
 use Rattle.vx_meaning.specs.States as run
-use Rattle.vx_meaning.specs.Flatten.{entries}
+use Rattle.vx_meaning.specs.Evaluate.{applications}
 use Rattle.vx_meaning.specs.Fits.{Deeper, fit, take, add}
 use Rattle.vx_terms.specs.Terms.{Term}
 use Rattle.vx_terms.specs.Build.{whole_amount}
@@ -23,7 +23,8 @@ use Rattle.vx_elements.proofs.Built.{Good}
 use Rattle.vx_elements.proofs.Elements.{element}
 use Rattle.vx_sound.proofs.World.{World}
 use Rattle.vx_sound.proofs.Giving.{ScaleStands, whole_scale}
-use Rattle.vx_sound_preds.specs.Bodies.{Rigid, IsPlainBody, GoodBodies}
+use Rattle.vx_sound_preds.specs.Asking.{asking_entries, IsAsking}
+use Rattle.vx_sound_preds.specs.Bodies.{GoodBodies}
 use Rattle.vx_sound_preds.proofs.Adding.{added}
 use Rattle.vx_sound_preds.proofs.Holding.{HoldsInstances, quiet_world}
 use Rattle.vx_live.proofs.Speaks.{Speaks, SpeaksOf}
@@ -42,7 +43,7 @@ module _ (means : Meaning) (p : Program) (good : GoodBodies p) (Held : Name → 
   -- what is shown of the parts of others
   abbrev pub TakesTold : Walk means n → Outer → Deeper → Type 0
   TakesTold w o d =
-      (q : Fraction) (a : Assertion) (scope : Scope) (c : run.State) (hs rest : run.Holdings) → IsTyped p scope a → SpeaksOf Held a → IsPlainBody p Rigid a → take p d c q a hs ≡ Ok rest →
+      (q : Fraction) (a : Assertion) (scope : Scope) (c : run.State) (hs rest : run.Holdings) → IsTyped p scope a → SpeaksOf Held a → IsAsking p a → take p d c q a hs ≡ Ok rest →
       (i : Interpretation) (s : State) (x : Context) (scale : Term) (h : rules.Heap) (on : Giving) → ScaleStands means world n i scale q → On means world n w scope i s (run.with_holdings hs c) → Reads means p good Held no_perm n w i h c →
       ((j : Interpretation) (t : Term) (s1 : State) (u : Tree) → Extends means n i j → On means world n w scope j s1 (run.with_holdings rest c) → Worth means p n j c a u t → Told means world n w j (on t s1)) → OffGiving means world n w on → Told means world n w i (o.consume a x scale h s on)
 
@@ -67,12 +68,12 @@ module _ (means : Meaning) (p : Program) (good : GoodBodies p) (Held : Name → 
     pub each : Each (Stated means n interp) facts
 
   module _ (o : Outer) (d : Deeper) (all : AllTold o d) (left : (P : Term → State → Type 0) → OuterLeft P o) where
-    pub sides_stated : (a : Assertion) (e : Expr) (scope : Scope) (t : ValueType) (said : Term → Term) (start : State) (q : Quiet start) (i : Interpretation) (c u : run.State) (es : run.Holdings) (v : Value) (snapshot : Term) (tree : Tree) →
-        IsTyped p scope a → SpeaksOf Held a → IsPlainBody p Rigid a → entries p c a ≡ Some es → HoldsInstances p Held true c.heap (added full es c.holdings) → add p d full a c ≡ Ok u →
+    pub sides_stated : (a : Assertion) (e : Expr) (scope : Scope) (t : ValueType) (said : Term → Term) (start : State) (q : Quiet start) (i : Interpretation) (c u : run.State) (k : ℕ) (es : run.Holdings) (v : Value) (snapshot : Term) (tree : Tree) →
+        IsTyped p scope a → SpeaksOf Held a → IsAsking p a → asking_entries p (applications p k) c a ≡ Some es → HoldsInstances p Held true c.heap (added full es c.holdings) → add p d full a c ≡ Ok u →
         HasType p scope e t → Speaks Held e → fit p d (run.with_holdings (added full es c.holdings) c) e ≡ Ok v → Quietly means world n scope i start c → Worth means p n i c a tree snapshot →
         ((j : Interpretation) (y : Term) → Extends means n i j → Good means n j y (sort_of_type t) → value j y ≡ element v → type_of v ≡ t → Stated means n j (said y)) →
         FactsStated i (gathered start said (leaves (o.produce a whole_amount (Some snapshot) start (λ s1. o.eval e s1 trees.On))))
-    sides_stated a e scope t said start q i c u es v snapshot tree ta ka pl listed holds adds te ke fits stands wo is_said =
+    sides_stated a e scope t said start q i c u k es v snapshot tree ta ka pl listed holds adds te ke fits stands wo is_said =
         record { interp = told.interp; extends = told.extends; each = gathered_stated means n world start q said walk told }
       where
         w : Walk means n
@@ -84,7 +85,7 @@ module _ (means : Meaning) (p : Program) (good : GoodBodies p) (Held : Name → 
         told : Told means world n (gathering means n start q said) i (o.produce a whole_amount (Some snapshot) start (λ s1. o.eval e s1 trees.On))
         told =
             let here : On means world n w scope i start c = record { still = stays; quietly = stands } in
-            (all w).produces full a scope c u es ta ka pl listed holds adds i start whole_amount snapshot tree (λ s1. o.eval e s1 trees.On) wo (whole_scale means world n i) here
+            (all w).produces full a scope c u k es ta ka pl listed holds adds i start whole_amount snapshot tree (λ s1. o.eval e s1 trees.On) wo (whole_scale means world n i) here
             (λ j s1 x on1. (all w).evals scope e t te ke j s1 (run.with_holdings (added full es c.holdings) c) v trees.On on1 fits
             (λ j2 y s2 x2 on2 g is ty. told_here means world n w (trees.On y s2) (on_fact means n world start q said y on2 (is_said j2 y (extends-trans means (le_refl n) x x2) g is ty)))
             (λ j2 y s2 f. off_fact means n world start q said y f))

@@ -1,4 +1,4 @@
--- An assertion that can be taken leads on along the way of a quiet walk, with a snapshot that is worth its tree.
+-- An assertion that can be taken leads on along the way of a quiet walk, with a snapshot that is worth its asking tree.
 use Rattle.std.proofs.Common.{◌≡◌, ℕ, Bool, true, false, cond, List, Some, refl, sym, ◌∙◌, ap, subst, le_refl, true≢false}
 use Rattle.std.specs.Prelude.{Ok}
 use Rattle.vx_frac.specs.Fractions.{Fraction, full, at_most, product}
@@ -6,10 +6,9 @@ use Rattle.vx_ast.specs.declared.Place.{Place}
 use Rattle.vx_ast.specs.declared.ValueType.TheVariants as type
 use Rattle.vx_ast.specs.Syntax.{Name, Program, Predicate, predicate_named, place_of, Expr, Exprs, Assertion, Pure, Points, Both, Implied, Chosen}
 use Rattle.vx_ast.specs.Syntax as syntax
-use Rattle.vx_meaning.specs.Values.{Value, BoolValue, RefValue, PermValue, type_of, is_true}
+use Rattle.vx_meaning.specs.Values.{Value, BoolValue, RefValue, type_of, is_true}
 use Rattle.vx_meaning.specs.States as run
-use Rattle.vx_meaning.specs.Evaluate as plain
-use Rattle.vx_meaning.specs.Flatten.{no_applications}
+use Rattle.vx_meaning.specs.Evaluate.{HasValue}
 use Rattle.vx_meaning.specs.Fits as fits
 use Rattle.vx_meaning.specs.Fits.{◌>>=◌, guard, Deeper, choose, fit, field_part, instance_part, take, take_part}
 use Rattle.vx_terms.specs.Sorts as sort
@@ -38,9 +37,10 @@ use Rattle.vx_sound.proofs.Standard.{leaf_of, leaf_is, unit_value, pair_value, f
 use Rattle.vx_sound.proofs.Stands.{HeapStands, terms_later, heap_later}
 use Rattle.vx_sound.proofs.Candidates.{InstanceTerms, Keys, of_field, of_instance}
 use Rattle.vx_sound.proofs.Giving.{ScaleStands, scale_later}
-use Rattle.vx_sound_preds.specs.Bodies.{Rigid, IsPlain, IsAmount, IsPlainBody, GoodBodies}
-use Rattle.vx_sound_preds.proofs.Fitting.{Opens, Before, undo, some_is}
-use Rattle.vx_sound_preds.proofs.Framing.{FieldParts, InstanceParts, field_parts, instance_parts, ok_same, above_none}
+use Rattle.vx_sound_preds.specs.Asking.{IsAsking}
+use Rattle.vx_sound_preds.specs.Bodies.{GoodBodies}
+use Rattle.vx_sound_preds.proofs.Fitting.{Before, undo, some_is}
+use Rattle.vx_sound_preds.proofs.Framing.{FieldParts, InstanceParts, field_parts, instance_parts, ok_same}
 use Rattle.vx_sound_preds.proofs.Holding.{HoldsInstances, quiet_world}
 use Rattle.vx_live.proofs.Speaks.{SpeaksOf}
 use Rattle.vx_live.proofs.Quiet.{OuterLeft, after, ask_left, amount_left, consume_left, take_left, fact_still, built_wrap_still, built_pair_still, fork_left}
@@ -48,8 +48,8 @@ use Rattle.vx_told.proofs.Woken.{with_truth}
 use Rattle.vx_told.proofs.Told.{Walk, On, off_still, Told, OffGoing, OffGiving, on_quiet, off_quiet, step_told, ask_told, fork_told}
 use Rattle.vx_told.proofs.ToldChunks.{take_told}
 use Rattle.vx_told.proofs.ToldEvaluate.{Kept, PartsTold, bool_is, heap_still, eval_told, evals_told}
-use Rattle.vx_told.proofs.HeldFine.{HoldsFine, all_fit_now}
-use Rattle.vx_told.proofs.ToldProduce.{side_is, side_yes, side_no, fine_here, now, amount_told, amount_value}
+use Rattle.vx_told.proofs.Values.{FitsWorth, amount_above}
+use Rattle.vx_told.proofs.ToldProduce.{side_is, side_yes, side_no, amount_told}
 use Rattle.vx_told.proofs.Worth.{OnSide, Snap, OfField, Worth, worth_later, worth_snap}
 
 not_both : (b : Bool) → b ≡ true → b ≡ false → ⊥
@@ -137,7 +137,7 @@ module _ (means : Meaning) (p : Program) (good : GoodBodies p) (Held : Name → 
       go false = here
 
   -- a value that is wrapped is worth what is there
-  field_worth : {scope : Scope} {i : Interpretation} {s : State} {c : run.State} {b : run.State} (e : Expr) (f : Name) (k : ℕ) (u : Term) → Here scope i s b → plain.value p no_applications c e ≡ Some (RefValue k) → Good means n i u (field_sort p f) → value i u ≡ element (run.value_at p c.heap (at_field k f)) →
+  field_worth : {scope : Scope} {i : Interpretation} {s : State} {c : run.State} {b : run.State} (e : Expr) (f : Name) (k : ℕ) (u : Term) → Here scope i s b → HasValue p c e (RefValue k) → Good means n i u (field_sort p f) → value i u ≡ element (run.value_at p c.heap (at_field k f)) →
       OfField means p n i c e f (leaf (run.value_at p c.heap (at_field k f))) (wrap (field_sort p f) u)
   field_worth {i = i} {c = c} e f k u here at g is = record { reference = k; receiver = at; tree = refl; snap = record { good = good_wrap means g; is = wrapped_is }; good = part.0; is = part.1 }
     where
@@ -161,13 +161,7 @@ module _ (means : Meaning) (p : Program) (good : GoodBodies p) (Held : Name → 
       part : Good means n i (unwrap (field_sort p f) (wrap (field_sort p f) u)) (field_sort p f) × (value i (unwrap (field_sort p f) (wrap (field_sort p f) u)) ≡ element (run.value_at p c.heap (at_field k f)))
       part = go (same (wrap (field_sort p f) u) (wrap (field_sort p f) u))
 
-  amount_above : (c : run.State) (share : Expr) (y : Fraction) (k : IsAmount p share) → plain.value p no_applications c share ≡ Some (PermValue y) → Positive y
-  amount_above c share y k e = subst Positive (sym (amounts y k.amount (some_is (PermValue y) (PermValue k.amount) (sym e ∙ k.value_is c)))) (above_none k)
-    where
-      amounts : (a b : Fraction) → PermValue a ≡ PermValue b → a ≡ b
-      amounts a b e = cc
-
-  module _ (o : Outer) (d : Deeper) (left : (j : Interpretation) → OuterLeft (w.Tells j) o) (parts : PartsTold means world n w o d) (keeps : (k : run.Instance) (q : Fraction) (c u : run.State) → d.opened k q c ≡ Some u → Kept c u) (opens : Opens p (HoldsFine p) d) where
+  module _ (o : Outer) (d : Deeper) (left : (j : Interpretation) → OuterLeft (w.Tells j) o) (parts : PartsTold means world n w o d) (keeps : (k : run.Instance) (q : Fraction) (c u : run.State) → d.opened k q c ≡ Some u → Kept c u) (worths : FitsWorth p d) where
     -- what follows, with a snapshot that is worth the tree of the assertion
     abbrev pub FollowsTaken : Scope → Interpretation → run.State → Assertion → run.Holdings → Giving → Type 0
     FollowsTaken scope i c a rest on = (j : Interpretation) (t : Term) (s : State) (u : Tree) → Extends means n i j → Here scope j s (run.with_holdings rest c) → Worth means p n j c a u t → Told means world n w j (on t s)
@@ -175,19 +169,16 @@ module _ (means : Meaning) (p : Program) (good : GoodBodies p) (Held : Name → 
     -- what is taken leads on
     unfoldable pub Consumed : Fraction → Assertion → Type 0
     Consumed q a =
-        (scope : Scope) (c : run.State) (hs rest : run.Holdings) → IsTyped p scope a → SpeaksOf Held a → IsPlainBody p Rigid a → take p d c q a hs ≡ Ok rest →
+        (scope : Scope) (c : run.State) (hs rest : run.Holdings) → IsTyped p scope a → SpeaksOf Held a → IsAsking p a → take p d c q a hs ≡ Ok rest →
         (i : Interpretation) (s : State) (x : Context) (scale : Term) (h : rules.Heap) (on : Giving) → ScaleStands means world n i scale q → Here scope i s (run.with_holdings hs c) → Reads i h c → FollowsTaken scope i c a rest on → OffGiving means world n w on →
         Told means world n w i (consume p o a x scale h s on)
 
     pub off_consume : (a : Assertion) (x : Context) (scale : Term) (h : rules.Heap) (on : Giving) → OffGiving means world n w on → OffGoing means world n w (λ s. consume p o a x scale h s on)
     off_consume a x scale h on off j s z = consume_left (w.Tells j) p o (left j) a x scale h s on (off_quiet means world n w z) (λ t s1 st. off j t s1 (off_still means world n w z st))
 
-    -- what is known of the state that is read in
-    read_fine : {scope : Scope} {i : Interpretation} {s : State} {c : run.State} {hs : run.Holdings} {h : rules.Heap} → Here scope i s (run.with_holdings hs c) → Reads i h c → HoldsFine p c
-    read_fine here r = fine_here means p good Held no_perm n w o d left parts keeps opens (reading here r)
-
-    reads_now : (c : run.State) (e : Expr) (v : Value) → HoldsFine p c → IsPlain e → fit p d c e ≡ Ok v → plain.value p no_applications c e ≡ Some v
-    reads_now c e v f k z = now means p good Held no_perm n w o d left parts keeps opens c e v f k z
+    -- the value of what fits
+    worth : (c : run.State) (e : Expr) (v u : Value) → fit p d c e ≡ Ok v → v ≡ u → HasValue p c e u
+    worth c e v u eq is = (worths.fuel, worths.one c e v eq ∙ ap Some is)
 
     truth : (v : Value) → type_of v ≡ type.Bool → is_true v ≡ true → v ≡ BoolValue true
     truth v ty z = let b = bool_is means world n w v ty in b.1 ∙ ap BoolValue (sym (ap is_true b.1) ∙ z)
@@ -231,13 +222,13 @@ module _ (means : Meaning) (p : Program) (good : GoodBodies p) (Held : Name → 
     points_taken q at e f share scope c hs rest t' k' pl eq i s x scale h on sc here r g' off =
         step_told means world n w _ (eval_told means world n w o d left parts keeps t'.0 k'.0 (λ v s1. eval p o share s1 (λ a s2. ask (less_equal zero_amount (multiply scale a)) (placed s2 at) AmountCode s2 (taking v (multiply scale a)))) (reading here r) y.receiver_is (λ j v s1 ext on1 g is ty.
         let m = ref_value_is y.receiver ty in
-        amount_told means p good Held no_perm n w o d left parts keeps opens at scale q y.worth y.amount (taking v) t'.2 k'.1 (scale_later means world (le_refl n) ext sc) on1 y.worth_is y.amount_is (record { holds = y.sign }) (λ j2 a s2 ext2 on2 ga a_is sign.
+        amount_told means p good Held no_perm n w o d left parts keeps worths at scale q y.worth y.amount (taking v) t'.2 k'.1 (scale_later means world (le_refl n) ext sc) on1 y.worth_is y.amount_is (record { holds = y.sign }) (λ j2 a s2 ext2 on2 ga a_is sign.
         let all = also ext ext2 in
         let back = switched all here on2 in
         take_told means world n w (let z : Keys means world n j2 (field_key f v) (run.At (at_field m.0 f)) (field_sort p f) = of_field f v m.0 (good_later means (le_refl n) ext2 g) (value_kept means v g.settled ext2 ∙ is ∙ ap element m.1) in z) a (product q y.amount) (placed s2 at) x.permission last back ga a_is sign
         (λ ch s4 t.
         let there = t.there (product_positive sc.positive above) in
-        let receiver_now = reads_now c e y.receiver (read_fine here r) pl.0 y.receiver_is ∙ ap Some m.1 in
+        let receiver_now = worth c e y.receiver (RefValue m.0) y.receiver_is m.1 in
         step_told means world n w _ (g' j2 (wrap (field_sort p f) ch.value) (with_built_wrap x (field_sort p f) ch.value s4) (leaf (run.value_at p c.heap (at_field m.0 f))) all
         (subst (λ z. Here scope j2 (with_built_wrap x (field_sort p f) ch.value s4) (run.with_holdings z c)) (left_is m.0 m.1) (wrap_built x f ch.value t.on t.good))
         (field_worth e f m.0 ch.value t.on receiver_now t.good there))))
@@ -251,7 +242,7 @@ module _ (means : Meaning) (p : Program) (good : GoodBodies p) (Held : Name → 
         y = field_parts p d c at e f share b.it b.is
 
         above : Positive y.amount
-        above = amount_above c share y.amount pl.1 (reads_now c share y.worth (read_fine here r) pl.1.plain y.worth_is ∙ ap Some (amount_value means p good Held no_perm n w o d left parts keeps opens y.worth y.amount y.amount_is))
+        above = amount_above p d worths c share y.worth y.amount pl.1 y.worth_is y.amount_is
 
         last : rules.Chunk → Going
         last ch s4 = Step (on (wrap (field_sort p f) ch.value) (with_built_wrap x (field_sort p f) ch.value s4))
@@ -276,7 +267,7 @@ module _ (means : Meaning) (p : Program) (good : GoodBodies p) (Held : Name → 
     unfolding Consumed
     instance_taken q at y' xs share scope c hs rest t' k' pl eq i s x scale h on sc here r g' off =
         step_told means world n w _ (evals_told means world n w o d left parts keeps t'.0.2 k'.1 (λ vs s1. eval p o share s1 (λ a s2. ask (less_equal zero_amount (multiply scale a)) (placed s2 at) AmountCode s2 (taking vs (multiply scale a)))) (reading here r) y.arguments_are (λ j vs s1 ext on1 each.
-        amount_told means p good Held no_perm n w o d left parts keeps opens at scale q y.worth y.amount (taking vs) t'.1 k'.2 (scale_later means world (le_refl n) ext sc) on1 y.worth_is y.amount_is (record { holds = y.sign }) (λ j2 a s2 ext2 on2 ga a_is sign.
+        amount_told means p good Held no_perm n w o d left parts keeps worths at scale q y.worth y.amount (taking vs) t'.1 k'.2 (scale_later means world (le_refl n) ext sc) on1 y.worth_is y.amount_is (record { holds = y.sign }) (λ j2 a s2 ext2 on2 ga a_is sign.
         let all = also ext ext2 in
         let back = switched all here on2 in
         let keys = let z : InstanceTerms means world n j2 y' vs y.arguments = record { held = k'.0; predicate = t'.0.0; named = t'.0.1; no_perm = no_perm y' t'.0.0 t'.0.1; each = terms_later means world (le_refl n) ext2 t'.0.0.parameters vs y.arguments each } in z in
@@ -284,7 +275,7 @@ module _ (means : Meaning) (p : Program) (good : GoodBodies p) (Held : Name → 
         (λ ch s4 t.
         let there = t.there (product_positive sc.positive above) in
         step_told means world n w _ (g' j2 ch.value s4 there.0 all (subst (λ z. Here scope j2 s4 (run.with_holdings z c)) left_is t.on)
-        (record { arguments = y.arguments; arguments_are = arguments_now; tree = there.1; snap = record { good = t.good; is = there.2 }; written = t.written tt }))))
+        (record { arguments = y.arguments; arguments_are = (worths.fuel, worths.all c xs y.arguments y.arguments_are); tree = there.1; snap = record { good = t.good; is = there.2 }; written = t.written tt }))))
         (λ m. off_taking m vs))
         (λ j vs s1 z. off_amount vs j s1 z))
       where
@@ -297,11 +288,8 @@ module _ (means : Meaning) (p : Program) (good : GoodBodies p) (Held : Name → 
         target : run.Instance
         target = record { predicate = y'; arguments = y.arguments }
 
-        arguments_now : plain.values p no_applications c xs ≡ Some y.arguments
-        arguments_now = all_fit_now p good Held d opens c xs y.arguments (read_fine here r) pl.0 y.arguments_are
-
         above : Positive y.amount
-        above = amount_above c share y.amount pl.1 (reads_now c share y.worth (read_fine here r) pl.1.plain y.worth_is ∙ ap Some (amount_value means p good Held no_perm n w o d left parts keeps opens y.worth y.amount y.amount_is))
+        above = amount_above p d worths c share y.worth y.amount pl.1 y.worth_is y.amount_is
 
         last : rules.Chunk → Going
         last ch s4 = Step (on ch.value s4)
@@ -352,7 +340,7 @@ module _ (means : Meaning) (p : Program) (good : GoodBodies p) (Held : Name → 
     implied_taken q e a on_a scope c hs rest t' k' pl eq i s x scale h on sc here r g' off =
         step_told means world n w _ (eval_told means world n w o d left parts keeps t'.0 k'.0 forks (reading here r) m.is (λ j v s1 ext on1 g is ty.
         let b = bool_is means world n w m.it ty in
-        let told = reads_now c e m.it (read_fine here r) pl.0 m.is ∙ ap Some b.1 in
+        let told = worth c e m.it (BoolValue b.0) m.is b.1 in
         let outcome = side_is (place_of e) b.0 (take p d c q a hs) (Ok hs) rest (sym (ap (λ v. choose (place_of e) v (take p d c q a hs) (Ok hs)) b.1) ∙ m.then) in
         fork_told means world n w v left_on right_on (switched ext here on1) g b.0 (ap as_bool is)
         (λ z j2 s2 ext2 on2. on_a scope c hs rest t'.1 k'.1 pl.1 (side_yes b.0 z _ _ outcome) j2 s2 x scale h on (scale_later means world (le_refl n) (also ext ext2) sc) on2 (reads_later (also ext ext2) r)
@@ -388,7 +376,7 @@ module _ (means : Meaning) (p : Program) (good : GoodBodies p) (Held : Name → 
     chosen_taken q e a b on_a on_b scope c hs rest t' k' pl eq i s x scale h on sc here r g' off =
         step_told means world n w _ (eval_told means world n w o d left parts keeps t'.0 k'.0 forks (reading here r) m.is (λ j v s1 ext on1 g is ty.
         let y' = bool_is means world n w m.it ty in
-        let told = reads_now c e m.it (read_fine here r) pl.0 m.is ∙ ap Some y'.1 in
+        let told = worth c e m.it (BoolValue y'.0) m.is y'.1 in
         let outcome = side_is (place_of e) y'.0 (take p d c q a hs) (take p d c q b hs) rest (sym (ap (λ v. choose (place_of e) v (take p d c q a hs) (take p d c q b hs)) y'.1) ∙ m.then) in
         fork_told means world n w v left_on right_on (switched ext here on1) g y'.0 (ap as_bool is)
         (λ z j2 s2 ext2 on2. on_a scope c hs rest t'.1 k'.1 pl.1 (side_yes y'.0 z _ _ outcome) j2 s2 x scale h on (scale_later means world (le_refl n) (also ext ext2) sc) on2 (reads_later (also ext ext2) r)

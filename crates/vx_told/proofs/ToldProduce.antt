@@ -1,4 +1,4 @@
--- An assertion that is given leads on along the way of a quiet walk, with a snapshot that is worth its tree.
+-- An assertion that is given leads on along the way of a quiet walk, with a snapshot that is worth its asking tree.
 use Rattle.std.proofs.Common.{◌≡◌, ℕ, Bool, true, false, cond, ◌||◌, List, [], ◌∷◌, ◌++◌, Option, Some, None, refl, sym, ◌∙◌, ap, subst, le_refl, true≢false}
 use Rattle.std.specs.Prelude.{Ok, option_and_then}
 use Rattle.vx_frac.specs.Fractions.{Fraction, none, product}
@@ -7,11 +7,11 @@ use Rattle.vx_ast.specs.declared.ValueType.TheVariants.{Perm}
 use Rattle.vx_ast.specs.declared.ValueType.TheVariants as type
 use Rattle.vx_ast.specs.Syntax.{Name, Program, Predicate, predicate_named, place_of, Expr, Exprs, Assertion, Pure, Points, Both, Implied, Chosen}
 use Rattle.vx_ast.specs.Syntax as syntax
-use Rattle.vx_meaning.specs.Fits as fits
-use Rattle.vx_meaning.specs.Values.{Value, IntValue, BoolValue, RefValue, PermValue, type_of, is_true}
+use Rattle.vx_meaning.specs.Values.{Value, BoolValue, RefValue, PermValue, type_of, is_true}
 use Rattle.vx_meaning.specs.States as run
 use Rattle.vx_meaning.specs.Evaluate as plain
-use Rattle.vx_meaning.specs.Flatten.{no_applications, entries, location_entry, instance_entry}
+use Rattle.vx_meaning.specs.Evaluate.{HasValue, applications}
+use Rattle.vx_meaning.specs.Flatten.{no_applications, location_entry, instance_entry}
 use Rattle.vx_meaning.specs.Fits.{Checked, Deeper, amount_of, choose, fit, field_part, instance_part, add, add_part}
 use Rattle.vx_terms.specs.Sorts.{RealSort, RefSort, SnapSort}
 use Rattle.vx_terms.specs.Terms.{Term, sort_of, is_name}
@@ -37,21 +37,22 @@ use Rattle.vx_sound.proofs.Standard.{leaf_of, leaf_is, unit_value, pair_value, w
 use Rattle.vx_sound.proofs.Stands.{terms_later}
 use Rattle.vx_sound.proofs.Candidates.{InstanceTerms, Keys, of_field, of_instance, keyed}
 use Rattle.vx_sound.proofs.Giving.{ScaleStands, scale_later}
-use Rattle.vx_sound_preds.specs.Bodies.{Rigid, IsPlain, IsPlainBody, GoodBodies}
-use Rattle.vx_sound_preds.proofs.Fitting.{Opens, Before, undo, step, some_is}
+use Rattle.vx_sound.proofs.Fuel.{one_value, all_one_value}
+use Rattle.vx_sound_preds.specs.Asking.{asking_entries, IsAsking}
+use Rattle.vx_sound_preds.specs.Bodies.{GoodBodies}
+use Rattle.vx_sound_preds.proofs.Asked.{held_entries, asking_positive}
+use Rattle.vx_sound_preds.proofs.Fitting.{Before, undo, step, some_is}
 use Rattle.vx_sound_preds.proofs.Flats.{After, came}
-use Rattle.vx_sound_preds.proofs.Looks.{Sees}
-use Rattle.vx_sound_preds.proofs.Framing.{FieldParts, InstanceParts, field_parts, instance_parts, entries_seen}
+use Rattle.vx_sound_preds.proofs.Framing.{FieldParts, InstanceParts, field_parts, instance_parts}
 use Rattle.vx_sound_preds.proofs.Adding.{added, added_append}
-use Rattle.vx_sound_preds.proofs.Frames.{entries_positive}
 use Rattle.vx_sound_preds.proofs.Holding.{HoldsInstances, added_debts, fewer, quiet_world}
 use Rattle.vx_live.proofs.Speaks.{Speaks, SpeaksOf}
 use Rattle.vx_live.proofs.Quiet.{Quiet, OuterLeft, after, ask_left, amount_left, produce_left, fact_still, put_still, value_still, name_still, unit_still, split_still, fork_left}
 use Rattle.vx_told.proofs.Woken.{with_truth, with_chunk}
 use Rattle.vx_told.proofs.Told.{Walk, On, off_still, Told, Follows, OffGoing, on_quiet, off_quiet, step_told, ask_told, fork_told}
 use Rattle.vx_told.proofs.ToldEvaluate.{Kept, PartsTold, bool_is, amount_outcome, eval_told, evals_told}
-use Rattle.vx_told.proofs.HeldFine.{HoldsFine, holds_fine, fits_now, all_fit_now, added_is}
-use Rattle.vx_told.proofs.Worth.{OnSide, Snap, snap_later, OfField, OfInstance, Worth, worth_later, worth_seen, worth_snap}
+use Rattle.vx_told.proofs.Values.{FitsWorth, follows_value, follow_values, share_is, added_is}
+use Rattle.vx_told.proofs.Worth.{OnSide, Snap, snap_later, OfField, OfInstance, Worth, worth_later, worth_held, worth_snap}
 
 -- above level 0 each term names itself
 pub named_quietly : (t : Term) (s : State) → Quiet s → is_named t s ≡ true
@@ -91,23 +92,20 @@ worth_yes b x z e A B k = side_yes x (sym e ∙ z) A B k
 pub worth_no : (b x : Bool) → b ≡ false → b ≡ x → (A B : Type 0) → OnSide x A B → B
 worth_no b x z e A B k = side_no x (sym e ∙ z) A B k
 
-pub bools_same : (a b : Bool) → Some (BoolValue a) ≡ Some (BoolValue b) → a ≡ b
+bools_same : (a b : Bool) → BoolValue a ≡ BoolValue b → a ≡ b
 bools_same a b e = cc
 
 module _ (means : Meaning) (p : Program) (good : GoodBodies p) (Held : Name → Type 0) (no_perm : (x : Name) (d : Predicate) → predicate_named p x ≡ Some d → HaveNoPerm d.parameters) (n : ℕ) (w : Walk means n) where
   abbrev pub world : World
   world = quiet_world p good Held no_perm true
 
-  module _ (o : Outer) (d : Deeper) (left : (j : Interpretation) → OuterLeft (w.Tells j) o) (parts : PartsTold means world n w o d) (keeps : (k : run.Instance) (q : Fraction) (c u : run.State) → d.opened k q c ≡ Some u → Kept c u) (opens : Opens p (HoldsFine p) d) where
+  module _ (o : Outer) (d : Deeper) (left : (j : Interpretation) → OuterLeft (w.Tells j) o) (parts : PartsTold means world n w o d) (keeps : (k : run.Instance) (q : Fraction) (c u : run.State) → d.opened k q c ≡ Some u → Kept c u) (worths : FitsWorth p d) where
     abbrev Here : Scope → Interpretation → State → run.State → Type 0
     Here scope i s c = On means world n w scope i s c
 
-    pub fine_here : {scope : Scope} {i : Interpretation} {s : State} {c : run.State} → Here scope i s c → HoldsFine p c
-    fine_here {c = c} here = holds_fine p good Held c here.quietly.stands.holds
-
-    -- what fits has its value without looking at what is held
-    pub now : (c : run.State) (e : Expr) (v : Value) → HoldsFine p c → IsPlain e → fit p d c e ≡ Ok v → plain.value p no_applications c e ≡ Some v
-    now c e v f k fits = fits_now p good Held d opens c e v f k fits
+    -- a condition that fits is decided as it is
+    pub decided : (c : run.State) (e : Expr) (v : Value) (b x : Bool) → fit p d c e ≡ Ok v → v ≡ BoolValue b → HasValue p c e (BoolValue x) → b ≡ x
+    decided c e v b x eq is h = bools_same b x (one_value p c e (BoolValue b) (BoolValue x) (worths.fuel, worths.one c e v eq ∙ ap Some is) h)
 
     -- an amount, by a scale
     pub amount_told : {scope : Scope} {share : Expr} {i : Interpretation} {s : State} {c : run.State} (at : Place) (scale : Term) (q : Fraction) (v : Value) (y : Fraction) (on : Term → Going) → HasType p scope share Perm → Speaks Held share → ScaleStands means world n i scale q → Here scope i s c →
@@ -129,7 +127,7 @@ module _ (means : Meaning) (p : Program) (good : GoodBodies p) (Held : Name → 
     -- what an assertion gives leads on
     unfoldable pub Produced : Fraction → Assertion → Type 0
     Produced q a =
-        (scope : Scope) (c u : run.State) (es : run.Holdings) → IsTyped p scope a → SpeaksOf Held a → IsPlainBody p Rigid a → entries p c a ≡ Some es → HoldsInstances p Held true c.heap (added q es c.holdings) → add p d q a c ≡ Ok u →
+        (scope : Scope) (c u : run.State) (k : ℕ) (es : run.Holdings) → IsTyped p scope a → SpeaksOf Held a → IsAsking p a → asking_entries p (applications p k) c a ≡ Some es → HoldsInstances p Held true c.heap (added q es c.holdings) → add p d q a c ≡ Ok u →
         (i : Interpretation) (s : State) (scale t : Term) (tree : Tree) (on : Going) → Worth means p n i c a tree t → ScaleStands means world n i scale q → Here scope i s c → Follows means world n w scope i (run.with_holdings (added q es c.holdings) c) on → OffGoing means world n w on →
         Told means world n w i (produce p o a scale (Some t) s on)
 
@@ -151,22 +149,19 @@ module _ (means : Meaning) (p : Program) (good : GoodBodies p) (Held : Name → 
 
     pure_told : (q : Fraction) (e : Expr) → Produced q (Pure e)
     unfolding Produced added
-    pure_told q e scope c u es te ke pl en holds eq i s scale t tree on wo sc here h off =
+    pure_told q e scope c u k es te ke pl en holds eq i s scale t tree on wo sc here h off =
         step_told means world n w _ (eval_told means world n w o d left parts keeps te ke (λ v s1. Step (on (with_unit (Some t) (with_fact v s1)))) here x.is (λ j v s1 ext on1 g is ty.
         let yes : as_bool (element x.it) ≡ true = sym (same_values x.it ty) ∙ holds_true in
         let on2 : Here scope j (with_fact v s1) c = record { still = after on1.still (fact_still v s1); quietly = with_truth means world n v on1.quietly g (ap as_bool is ∙ yes) } in
-        let k = worth_later means p n ext c (Pure e) tree t wo in
-        step_told means world n w _ (subst (λ hs. Follows means world n w scope i (run.with_holdings (added q hs c.holdings) c) on) none_given h j (with_unit (Some t) (with_fact v s1)) ext (unit_told t tree on2 k.0 k.1)))
+        let wo' = worth_later means p n ext c (Pure e) tree t wo in
+        step_told means world n w _ (subst (λ hs. Follows means world n w scope i (run.with_holdings (added q hs c.holdings) c) on) none_given h j (with_unit (Some t) (with_fact v s1)) ext (unit_told t tree on2 wo'.0 wo'.1)))
         (λ j v s1 f. off j (with_unit (Some t) (with_fact v s1)) (off_still means world n w f (after (fact_still v s1) (unit_still t (with_fact v s1))))))
       where
         x : Before (fit p d c e) (λ _. Ok c) u
         x = undo (fit p d c e) (λ _. Ok c) u eq
 
-        worth : plain.value p no_applications c e ≡ Some x.it
-        worth = now c e x.it (fine_here here) pl x.is
-
         en' : cond (is_true x.it) (Some []) None ≡ Some es
-        en' = sym (step (λ v. cond (is_true v) (Some []) None) x.it worth) ∙ en
+        en' = follows_value p d worths k c e x.it (λ v. cond (is_true v) (Some []) None) es x.is en
 
         outcome : (b : Bool) → cond b (Some []) None ≡ Some es → (b ≡ true) × (es ≡ [])
         outcome true e = (refl, sym (some_is [] es e))
@@ -230,30 +225,20 @@ module _ (means : Meaning) (p : Program) (good : GoodBodies p) (Held : Name → 
             h j (put new (with_fact fact s3)) (extends-refl means n j) (record { still = after told_there.still (put_still new (with_fact fact s3)); quietly = with_chunk means world n new (run.At (at_field k f)) y told_there.quietly made a_is holds })
         go false z = cc
 
-    pub some_ref : (a b : ℕ) → Some (RefValue a) ≡ Some (RefValue b) → a ≡ b
-    some_ref a b e = cc
-
-    location_at : (f : Name) (k : ℕ) (l : run.Location) → fits.location_of f (RefValue k) ≡ Some l → at_field k f ≡ l
-    location_at f k l e = some_is (at_field k f) l e
-
-    pub amount_value : (v : Value) (y : Fraction) → amount_of v ≡ Some y → v ≡ PermValue y
-    amount_value (PermValue a) y e = ap PermValue (some_is a y e)
-    amount_value (IntValue z) y e = cc
-    amount_value (BoolValue z) y e = cc
-    amount_value (RefValue z) y e = cc
+    same_ref : (a b : ℕ) → RefValue a ≡ RefValue b → a ≡ b
+    same_ref a b e = cc
 
     points_told : (q : Fraction) (at : Place) (e : Expr) (f : Name) (share : Expr) → Produced q (Points at e f share)
     unfolding Produced added
-    points_told q at e f share scope c u es t' k' pl en holds eq i s scale t tree on wo sc here h off =
+    points_told q at e f share scope c u k es t' k' pl en holds eq i s scale t tree on wo sc here h off =
         step_told means world n w _ (eval_told means world n w o d left parts keeps t'.0 k'.0 (λ r s1. eval p o share s1 (λ a s2. ask (less_equal zero_amount (multiply scale a)) (placed s2 at) AmountCode s2 (last r (multiply scale a)))) here y.receiver_is (λ j r s1 ext on1 g is ty.
         let m = ref_value_is y.receiver ty in
-        let here_now = now c e y.receiver (fine_here here) pl.0 y.receiver_is in
-        let entry = one_entry m.0 (here_now ∙ ap Some m.1) (now c share y.worth (fine_here here) pl.1.plain y.worth_is ∙ ap Some (amount_value y.worth y.amount y.amount_is)) in
+        let entry = one_entry m.0 m.1 in
         amount_told at scale q y.worth y.amount (last r) t'.2 k'.1 (scale_later means world (le_refl n) ext sc) on1 y.worth_is y.amount_is (record { holds = y.sign }) (λ j2 a s2 ext2 on2 ga a_is sign.
         let all = also ext ext2 in
         let o2 = worth_later means p n all c (Points at e f share) tree t wo in
         step_told means world n w _ (points_put e f r a t m.0 (product q y.amount) tree s.inner on on2 (good_later means (le_refl n) ext2 g) (value_kept means r g.settled ext2 ∙ is ∙ ap element m.1) ga a_is sign o2
-        (some_ref o2.reference m.0 (sym o2.receiver ∙ here_now ∙ ap Some m.1))
+        (same_ref o2.reference m.0 (one_value p c e (RefValue o2.reference) (RefValue m.0) o2.receiver (worths.fuel, worths.one c e y.receiver y.receiver_is ∙ ap Some m.1)))
         (subst (λ hs. HoldsInstances p Held true c.heap (added q hs c.holdings)) (sym entry) holds)
         (λ j3 s3 ext3 on3. h j3 s3 (also all ext3) (subst (λ hs. Here scope j3 s3 (run.with_holdings (added q hs c.holdings) c)) entry on3))))
         (λ m. off_put m r))
@@ -276,14 +261,15 @@ module _ (means : Meaning) (p : Program) (good : GoodBodies p) (Held : Name → 
         off_amount : (r : Term) → OffGoing means world n w (λ s1. eval p o share s1 (λ a s2. ask (less_equal zero_amount (multiply scale a)) (placed s2 at) AmountCode s2 (last r (multiply scale a))))
         off_amount r j s1 x = amount_left (w.Tells j) p o (left j) at share s1 scale (last r) (off_quiet means world n w x) (λ a s2 st. off_put a r j s2 (off_still means world n w x st))
 
-        one_entry : (k : ℕ) → plain.value p no_applications c e ≡ Some (RefValue k) → plain.value p no_applications c share ≡ Some (PermValue y.amount) → (run.At (at_field k f), y.amount) ∷ [] ≡ es
-        one_entry k receiver share_now =
-            some_is ((run.At (at_field k f), y.amount) ∷ []) es
-            (sym (step (location_entry f (RefValue k)) (PermValue y.amount) share_now) ∙ sym (step (λ r. option_and_then (location_entry f r) (plain.value p no_applications c share)) (RefValue k) receiver) ∙ en)
+        one_entry : (r : ℕ) → y.receiver ≡ RefValue r → (run.At (at_field r f), y.amount) ∷ [] ≡ es
+        one_entry r receiver =
+            let on = λ (v : Value). option_and_then (location_entry f v) (plain.value p no_applications c share) in
+            some_is ((run.At (at_field r f), y.amount) ∷ []) es
+            (sym (step (location_entry f (RefValue r)) (PermValue y.amount) (share_is p d worths c share y.worth y.amount pl.1 y.worth_is y.amount_is)) ∙ sym (ap on receiver) ∙ follows_value p d worths k c e y.receiver on es y.receiver_is en)
 
     instance_told : (q : Fraction) (at : Place) (x : Name) (xs : Exprs) (share : Expr) → Produced q (syntax.Instance at x xs share)
     unfolding Produced added
-    instance_told q at x xs share scope c u es t' k' pl en holds eq i s scale t tree on wo sc here h off =
+    instance_told q at x xs share scope c u k es t' k' pl en holds eq i s scale t tree on wo sc here h off =
         step_told means world n w _ (evals_told means world n w o d left parts keeps t'.0.2 k'.1 (λ ts s1. eval p o share s1 (λ a s2. ask (less_equal zero_amount (multiply scale a)) (placed s2 at) AmountCode s2 (last ts (multiply scale a)))) here y.arguments_are (λ j ts s1 ext on1 each.
         amount_told at scale q y.worth y.amount (last ts) t'.1 k'.2 (scale_later means world (le_refl n) ext sc) on1 y.worth_is y.amount_is (record { holds = y.sign }) (λ j2 a s2 ext2 on2 ga a_is sign.
         let all = also ext ext2 in
@@ -313,18 +299,9 @@ module _ (means : Meaning) (p : Program) (good : GoodBodies p) (Held : Name → 
         off_amount : (ts : List Term) → OffGoing means world n w (λ s1. eval p o share s1 (λ a s2. ask (less_equal zero_amount (multiply scale a)) (placed s2 at) AmountCode s2 (last ts (multiply scale a))))
         off_amount ts j s1 z = amount_left (w.Tells j) p o (left j) at share s1 scale (last ts) (off_quiet means world n w z) (λ a s2 st. off_put a ts j s2 (off_still means world n w z st))
 
-        arguments_now : plain.values p no_applications c xs ≡ Some y.arguments
-        arguments_now = all_fit_now p good Held d opens c xs y.arguments (fine_here here) pl.0 y.arguments_are
-
-        share_now : plain.value p no_applications c share ≡ Some (PermValue y.amount)
-        share_now = now c share y.worth (fine_here here) pl.1.plain y.worth_is ∙ ap Some (amount_value y.worth y.amount y.amount_is)
-
         entry : (run.Folded record { predicate = x; arguments = y.arguments }, y.amount) ∷ [] ≡ es
         entry = some_is ((run.Folded target, y.amount) ∷ []) es
-            (sym (step (instance_entry x y.arguments) (PermValue y.amount) share_now) ∙ sym (step (λ vs. option_and_then (instance_entry x vs) (plain.value p no_applications c share)) y.arguments arguments_now) ∙ en)
-
-        same_arguments : (a b : List Value) → Some a ≡ Some b → a ≡ b
-        same_arguments a b e = some_is a b e
+            (sym (step (instance_entry x y.arguments) (PermValue y.amount) (share_is p d worths c share y.worth y.amount pl.1 y.worth_is y.amount_is)) ∙ follow_values p d worths k c xs y.arguments (λ vs. option_and_then (instance_entry x vs) (plain.value p no_applications c share)) es y.arguments_are en)
 
         put_there : (j : Interpretation) (s3 : State) (ts : List Term) (a : Term) → InstanceTerms means world n j x ts y.arguments → Here scope j s3 c → Good means n j a RealSort → Same (as_fraction (value j a)) (product q y.amount) → Le none (as_fraction (value j a)) →
             OfInstance means p n j c x xs tree t → Follows means world n w scope j (run.with_holdings (run.gained (run.Folded record { predicate = x; arguments = y.arguments }) (product q y.amount) c.holdings) c) on →
@@ -336,7 +313,7 @@ module _ (means : Meaning) (p : Program) (good : GoodBodies p) (Held : Name → 
             go true z =
                 let new = record (instance_key x ts) { amount = a; value = t; inner = s.inner } in
                 let key = (let z : Keys means world n j (instance_key x ts) (run.Folded target) SnapSort = of_instance x ts y.arguments keys in z) in
-                let is_tree = subst (λ vs. IsTree p c.heap record { predicate = x; arguments = vs } tree) (same_arguments of.arguments y.arguments (sym of.arguments_are ∙ arguments_now)) of.tree in
+                let is_tree = subst (λ vs. IsTree p c.heap record { predicate = x; arguments = vs } tree) (all_one_value p c xs of.arguments y.arguments of.arguments_are.0 worths.fuel of.arguments_are.1 (worths.all c xs y.arguments y.arguments_are)) of.tree in
                 let made = keyed means world key a t s.inner ga sign of.snap.good (λ e. of.written) (λ pos. (tree, is_tree, of.snap.is)) (λ e. tt) in
                 let there = subst (λ hs. HoldsInstances p Held true c.heap (added q hs c.holdings)) (sym entry) holds in
                 h' j (put new s3) (extends-refl means n j) (record { still = after on3.still (put_still new s3); quietly = with_chunk means world n new (run.Folded target) (product q y.amount) on3.quietly made a_is there })
@@ -344,22 +321,22 @@ module _ (means : Meaning) (p : Program) (good : GoodBodies p) (Held : Name → 
 
     both_told : (q : Fraction) (a b : Assertion) → Produced q a → Produced q b → Produced q (Both a b)
     unfolding Produced
-    both_told q a b on_a on_b scope c u es t' k' pl en holds eq i s scale t tree on wo sc here h off =
-        step_told means world n w _ (on_a scope c x.it xs.it t'.0 k'.0 pl.0 xs.is half x.is i (with_split (Some t) s) scale (first t) wo.0 after_a wo.4 sc split_here
+    both_told q a b on_a on_b scope c u k es t' k' pl en holds eq i s scale t tree on wo sc here h off =
+        step_told means world n w _ (on_a scope c x.it k xs.it t'.0 k'.0 pl.0 xs.is half x.is i (with_split (Some t) s) scale (first t) wo.0 after_a wo.4 sc split_here
         (λ j s1 ext on1.
-        on_b scope middle u ys.it t'.1 k'.1 pl.1 (entries_seen p Rigid c middle seen b pl.1 ∙ ys.is) all_there (subst (λ z. add p d q b z ≡ Ok u) middle_is x.then) j s1 scale (second t) wo.1 on
-        (worth_seen means p n j c middle seen b pl.1 wo.1 (second t) (worth_later means p n ext c b wo.1 (second t) wo.5)) (scale_later means world (le_refl n) ext sc) on1
+        on_b scope middle u k ys.it t'.1 k'.1 pl.1 (held_entries p k (added q xs.it c.holdings) c b pl.1 ∙ ys.is) all_there (subst (λ z. add p d q b z ≡ Ok u) middle_is x.then) j s1 scale (second t) wo.1 on
+        (worth_held means p n j c (added q xs.it c.holdings) b wo.1 (second t) (worth_later means p n ext c b wo.1 (second t) wo.5)) (scale_later means world (le_refl n) ext sc) on1
         (λ j2 s2 ext2 on2. h j2 s2 (also ext ext2) (subst (λ hs. Here scope j2 s2 (run.with_holdings hs c)) whole on2)) off)
         (off_produce b scale (second t) on off))
       where
         x : Before (add p d q a c) (λ m. add p d q b m) u
         x = undo (add p d q a c) (λ m. add p d q b m) u eq
 
-        xs : After (entries p c a) (λ xs. option_and_then (λ ys. Some (xs ++ ys)) (entries p c b)) es
-        xs = came (entries p c a) (λ xs. option_and_then (λ ys. Some (xs ++ ys)) (entries p c b)) es en
+        xs : After (asking_entries p (applications p k) c a) (λ xs. option_and_then (λ ys. Some (xs ++ ys)) (asking_entries p (applications p k) c b)) es
+        xs = came (asking_entries p (applications p k) c a) (λ xs. option_and_then (λ ys. Some (xs ++ ys)) (asking_entries p (applications p k) c b)) es en
 
-        ys : After (entries p c b) (λ ys. Some (xs.it ++ ys)) es
-        ys = came (entries p c b) (λ ys. Some (xs.it ++ ys)) es xs.then
+        ys : After (asking_entries p (applications p k) c b) (λ ys. Some (xs.it ++ ys)) es
+        ys = came (asking_entries p (applications p k) c b) (λ ys. Some (xs.it ++ ys)) es xs.then
 
         joined : xs.it ++ ys.it ≡ es
         joined = some_is (xs.it ++ ys.it) es ys.then
@@ -370,9 +347,6 @@ module _ (means : Meaning) (p : Program) (good : GoodBodies p) (Held : Name → 
         middle : run.State
         middle = run.with_holdings (added q xs.it c.holdings) c
 
-        seen : Sees c (run.with_holdings (added q xs.it c.holdings) c)
-        seen = record { store = refl; heap = refl }
-
         whole : added q ys.it (added q xs.it c.holdings) ≡ added q es c.holdings
         whole = sym (added_append q xs.it ys.it c.holdings) ∙ ap (λ zs. added q zs c.holdings) joined
 
@@ -380,11 +354,11 @@ module _ (means : Meaning) (p : Program) (good : GoodBodies p) (Held : Name → 
         all_there = subst (HoldsInstances p Held true c.heap) (sym whole) holds
 
         half : HoldsInstances p Held true c.heap (added q xs.it c.holdings)
-        half = fewer p good Held true c.heap q ys.it (added q xs.it c.holdings) sc.positive (entries_positive p c b ys.it pl.1 ys.is)
-            (added_debts p good Held true q xs.it c.holdings sc.positive (entries_positive p c a xs.it pl.0 xs.is) here.quietly.stands.holds.debts) all_there
+        half = fewer p good Held true c.heap q ys.it (added q xs.it c.holdings) sc.positive (asking_positive p (applications p k) c b ys.it pl.1 ys.is)
+            (added_debts p good Held true q xs.it c.holdings sc.positive (asking_positive p (applications p k) c a xs.it pl.0 xs.is) here.quietly.stands.holds.debts) all_there
 
         middle_is : x.it ≡ run.with_holdings (added q xs.it c.holdings) c
-        middle_is = added_is p good Held d opens q sc.positive a c x.it xs.it pl.0 here.quietly.stands.holds xs.is half x.is
+        middle_is = added_is p d worths q sc.positive a c x.it k xs.it pl.0 xs.is x.is
 
         fact : Term
         fact = equals t (pair (first t) (second t))
@@ -403,18 +377,18 @@ module _ (means : Meaning) (p : Program) (good : GoodBodies p) (Held : Name → 
     -- a condition, and the side that it picks
     implied_told : (q : Fraction) (e : Expr) (a : Assertion) → Produced q a → Produced q (Implied e a)
     unfolding Produced added
-    implied_told q e a on_a scope c u es t' k' pl en holds eq i s scale t tree on wo sc here h off =
+    implied_told q e a on_a scope c u k es t' k' pl en holds eq i s scale t tree on wo sc here h off =
         step_told means world n w _ (eval_told means world n w o d left parts keeps t'.0 k'.0 (λ v s1. rule.fork v s1 left_on right_on) here x.is (λ j v s1 ext on1 g is ty.
         let b = bool_is means world n w x.it ty in
-        let told = now c e x.it (fine_here here) pl.0 x.is ∙ ap Some b.1 in
         let outcome = side_is (place_of e) b.0 (add p d q a c) (Ok c) u (sym (ap (λ v. choose (place_of e) v (add p d q a c) (Ok c)) b.1) ∙ x.then) in
-        let listed = sym (step (λ v. plain.choose v (entries p c a) (Some [])) (BoolValue b.0) told) ∙ en in
+        let on_value = λ (v : Value). plain.choose v (asking_entries p (applications p k) c a) (Some []) in
+        let listed = ap on_value (sym b.1) ∙ follows_value p d worths k c e x.it on_value es x.is en in
         fork_told means world n w v left_on right_on on1 g b.0 (ap as_bool is)
-        (λ z j2 s2 ext2 on2. on_a scope c u es t'.1 k'.1 pl.1 (on_yes b.0 z (entries p c a) (Some []) es listed) holds (side_yes b.0 z _ _ outcome) j2 s2 scale t tree on
-        (worth_later means p n (also ext ext2) c a tree t (worth_yes b.0 wo.0 z (bools_same b.0 wo.0 (sym told ∙ wo.1)) _ _ wo.2)) (scale_later means world (le_refl n) (also ext ext2) sc) on2 (λ j3 s3 ext3 on3. h j3 s3 (also ext (also ext2 ext3)) on3) off)
+        (λ z j2 s2 ext2 on2. on_a scope c u k es t'.1 k'.1 pl.1 (on_yes b.0 z (asking_entries p (applications p k) c a) (Some []) es listed) holds (side_yes b.0 z _ _ outcome) j2 s2 scale t tree on
+        (worth_later means p n (also ext ext2) c a tree t (worth_yes b.0 wo.0 z (decided c e x.it b.0 wo.0 x.is b.1 wo.1) _ _ wo.2)) (scale_later means world (le_refl n) (also ext ext2) sc) on2 (λ j3 s3 ext3 on3. h j3 s3 (also ext (also ext2 ext3)) on3) off)
         (λ z j2 s2 ext2 on2.
-        let k = worth_no b.0 wo.0 z (bools_same b.0 wo.0 (sym told ∙ wo.1)) _ _ wo.2 in
-        subst (λ hs. Follows means world n w scope i (run.with_holdings (added q hs c.holdings) c) on) (sym (some_is [] es (on_no b.0 z (entries p c a) (Some []) es listed))) h j2 (with_unit (Some t) s2) (also ext ext2) (unit_told t tree on2 (snap_later means p n (also ext ext2) k.0) k.1))
+        let wn = worth_no b.0 wo.0 z (decided c e x.it b.0 wo.0 x.is b.1 wo.1) _ _ wo.2 in
+        subst (λ hs. Follows means world n w scope i (run.with_holdings (added q hs c.holdings) c) on) (sym (some_is [] es (on_no b.0 z (asking_entries p (applications p k) c a) (Some []) es listed))) h j2 (with_unit (Some t) s2) (also ext ext2) (unit_told t tree on2 (snap_later means p n (also ext ext2) wn.0) wn.1))
         off_left off_right)
         (λ j v s1 f. fork_left (w.Tells j) s1 v left_on right_on (λ s2 st. off_left j s2 (off_still means world n w f st)) (λ s2 st. off_right j s2 (off_still means world n w f st))))
       where
@@ -435,17 +409,17 @@ module _ (means : Meaning) (p : Program) (good : GoodBodies p) (Held : Name → 
 
     chosen_told : (q : Fraction) (e : Expr) (a b : Assertion) → Produced q a → Produced q b → Produced q (Chosen e a b)
     unfolding Produced added
-    chosen_told q e a b on_a on_b scope c u es t' k' pl en holds eq i s scale t tree on wo sc here h off =
+    chosen_told q e a b on_a on_b scope c u k es t' k' pl en holds eq i s scale t tree on wo sc here h off =
         step_told means world n w _ (eval_told means world n w o d left parts keeps t'.0 k'.0 (λ v s1. rule.fork v s1 left_on right_on) here x.is (λ j v s1 ext on1 g is ty.
         let y = bool_is means world n w x.it ty in
-        let told = now c e x.it (fine_here here) pl.0 x.is ∙ ap Some y.1 in
         let outcome = side_is (place_of e) y.0 (add p d q a c) (add p d q b c) u (sym (ap (λ v. choose (place_of e) v (add p d q a c) (add p d q b c)) y.1) ∙ x.then) in
-        let listed = sym (step (λ v. plain.choose v (entries p c a) (entries p c b)) (BoolValue y.0) told) ∙ en in
+        let on_value = λ (v : Value). plain.choose v (asking_entries p (applications p k) c a) (asking_entries p (applications p k) c b) in
+        let listed = ap on_value (sym y.1) ∙ follows_value p d worths k c e x.it on_value es x.is en in
         fork_told means world n w v left_on right_on on1 g y.0 (ap as_bool is)
-        (λ z j2 s2 ext2 on2. on_a scope c u es t'.1 k'.1 pl.1 (on_yes y.0 z (entries p c a) (entries p c b) es listed) holds (side_yes y.0 z _ _ outcome) j2 s2 scale t tree on
-        (worth_later means p n (also ext ext2) c a tree t (worth_yes y.0 wo.0 z (bools_same y.0 wo.0 (sym told ∙ wo.1)) _ _ wo.2)) (scale_later means world (le_refl n) (also ext ext2) sc) on2 (λ j3 s3 ext3 on3. h j3 s3 (also ext (also ext2 ext3)) on3) off)
-        (λ z j2 s2 ext2 on2. on_b scope c u es t'.2 k'.2 pl.2 (on_no y.0 z (entries p c a) (entries p c b) es listed) holds (side_no y.0 z _ _ outcome) j2 s2 scale t tree on
-        (worth_later means p n (also ext ext2) c b tree t (worth_no y.0 wo.0 z (bools_same y.0 wo.0 (sym told ∙ wo.1)) _ _ wo.2)) (scale_later means world (le_refl n) (also ext ext2) sc) on2 (λ j3 s3 ext3 on3. h j3 s3 (also ext (also ext2 ext3)) on3) off)
+        (λ z j2 s2 ext2 on2. on_a scope c u k es t'.1 k'.1 pl.1 (on_yes y.0 z (asking_entries p (applications p k) c a) (asking_entries p (applications p k) c b) es listed) holds (side_yes y.0 z _ _ outcome) j2 s2 scale t tree on
+        (worth_later means p n (also ext ext2) c a tree t (worth_yes y.0 wo.0 z (decided c e x.it y.0 wo.0 x.is y.1 wo.1) _ _ wo.2)) (scale_later means world (le_refl n) (also ext ext2) sc) on2 (λ j3 s3 ext3 on3. h j3 s3 (also ext (also ext2 ext3)) on3) off)
+        (λ z j2 s2 ext2 on2. on_b scope c u k es t'.2 k'.2 pl.2 (on_no y.0 z (asking_entries p (applications p k) c a) (asking_entries p (applications p k) c b) es listed) holds (side_no y.0 z _ _ outcome) j2 s2 scale t tree on
+        (worth_later means p n (also ext ext2) c b tree t (worth_no y.0 wo.0 z (decided c e x.it y.0 wo.0 x.is y.1 wo.1) _ _ wo.2)) (scale_later means world (le_refl n) (also ext ext2) sc) on2 (λ j3 s3 ext3 on3. h j3 s3 (also ext (also ext2 ext3)) on3) off)
         off_left off_right)
         (λ j v s1 f. fork_left (w.Tells j) s1 v left_on right_on (λ s2 st. off_left j s2 (off_still means world n w f st)) (λ s2 st. off_right j s2 (off_still means world n w f st))))
       where

@@ -7,6 +7,7 @@ use Rattle.vx_ast.specs.Syntax.{Name, Program, Predicate, predicate_named, Asser
 use Rattle.vx_meaning.specs.Values.{Value}
 use Rattle.vx_meaning.specs.States as run
 use Rattle.vx_meaning.specs.States.{bind}
+use Rattle.vx_meaning.specs.Evaluate.{applications}
 use Rattle.vx_meaning.specs.Flatten.{bare, entries, IsGrounded}
 use Rattle.vx_meaning.specs.Fits.{Checked, ◌>>=◌, to_option, Deeper, has_instance, add, exchange}
 use Rattle.vx_terms.specs.Sorts.{RealSort, SnapSort}
@@ -29,8 +30,9 @@ use Rattle.vx_sound.proofs.Stands.{Stands, store_later}
 use Rattle.vx_sound.proofs.Candidates.{InstanceTerms, Keys, of_instance, values_typed}
 use Rattle.vx_sound.proofs.Arguments.{bound}
 use Rattle.vx_sound.proofs.Giving.{ScaleStands}
+use Rattle.vx_sound_preds.specs.Asking.{asking_entries, IsAsking}
 use Rattle.vx_sound_preds.specs.Bodies.{Rigid, IsPlainBody, GoodBodies}
-use Rattle.vx_sound_preds.proofs.Fitting.{Opens, undo, some_is}
+use Rattle.vx_sound_preds.proofs.Fitting.{undo, some_is}
 use Rattle.vx_sound_preds.proofs.Looks.{Sees}
 use Rattle.vx_sound_preds.proofs.Framing.{ok_same, entries_seen, tree_seen}
 use Rattle.vx_sound_preds.proofs.Adding.{added}
@@ -39,12 +41,13 @@ use Rattle.vx_sound_preds.proofs.Frames.{entries_positive}
 use Rattle.vx_sound_preds.proofs.Folds.{tree_of_body}
 use Rattle.vx_sound_preds.proofs.Holding.{HoldsInstances, exchanged, quiet_world}
 use Rattle.vx_sound_preds.proofs.Entries.{entries_typed}
+use Rattle.vx_sound_preds.proofs.Same.{same_tree, same_entries, plain_asks}
 use Rattle.vx_sound.proofs.Speaks as instances
 use Rattle.vx_live.proofs.Speaks.{SpeaksOf}
 use Rattle.vx_told.proofs.Woken.{woken}
 use Rattle.vx_told.proofs.Told.{Walk, On, Told, Follows, OffGoing, off_still}
 use Rattle.vx_told.proofs.ToldChunks.{TakenOf, take_told}
-use Rattle.vx_told.proofs.HeldFine.{HoldsFine, added_is}
+use Rattle.vx_told.proofs.Values.{FitsWorth, added_is}
 use Rattle.vx_told.proofs.Worth.{Worth, written_worth}
 
 none_some : {A : Type 0} (a : A) → None ≡ Some a → ⊥
@@ -69,7 +72,7 @@ module _ (means : Meaning) (p : Program) (good : GoodBodies p) (Held : Name → 
   -- what is shown of what an assertion gives, by rules for the parts of others
   abbrev pub GivesTold : Outer → Deeper → Type 0
   GivesTold o d =
-      (q : Fraction) (a : Assertion) (scope : Scope) (c u : run.State) (es : run.Holdings) → IsTyped p scope a → SpeaksOf Held a → IsPlainBody p Rigid a → entries p c a ≡ Some es → HoldsInstances p Held true c.heap (added q es c.holdings) → add p d q a c ≡ Ok u →
+      (q : Fraction) (a : Assertion) (scope : Scope) (c u : run.State) (k : ℕ) (es : run.Holdings) → IsTyped p scope a → SpeaksOf Held a → IsAsking p a → asking_entries p (applications p k) c a ≡ Some es → HoldsInstances p Held true c.heap (added q es c.holdings) → add p d q a c ≡ Ok u →
       (i : Interpretation) (s : State) (scale t : Term) (tree : Tree) (on : Going) → Worth means p n i c a tree t → ScaleStands means world n i scale q → On means world n w scope i s c →
       Follows means world n w scope i (run.with_holdings (added q es c.holdings) c) on → OffGoing means world n w on → Told means world n w i (o.produce a scale (Some t) s on)
 
@@ -106,7 +109,7 @@ module _ (means : Meaning) (p : Program) (good : GoodBodies p) (Held : Name → 
           let x = undo (add p d q a (start c k pd q)) (λ v. Ok (run.with_store c.store v)) u (some_of _ u (sym (ap (of_body pd) is) ∙ e)) in
           record { body = a; body_is = is; given = x.it; adds = x.is; u_is = ok_same (run.with_store c.store x.it) u x.then }
 
-  module _ (o : Outer) (d : Deeper) (gives : GivesTold o d) (opens : Opens p (HoldsFine p) d) (bodies : Bodies) where
+  module _ (o : Outer) (d : Deeper) (gives : GivesTold o d) (worths : FitsWorth p d) (bodies : Bodies) where
     pub unfolded_told : (scope : Scope) (i : Interpretation) (s : State) (c u : run.State) (at : Place) (x : Name) (ts : List Term) (vs : List Value) (a : Term) (q : Fraction) (on : Going) → InstanceTerms means world n i x ts vs →
         Good means n i a RealSort → Same (as_fraction (value i a)) q → Positive q → On means world n w scope i s c → has_instance c record { predicate = x; arguments = vs } q ≡ true → exchange p d record { predicate = x; arguments = vs } q c ≡ Some u →
         Follows means world n w scope i u on → OffGoing means world n w on → Told means world n w i (unfolded p o at x ts a s on)
@@ -158,6 +161,9 @@ module _ (means : Meaning) (p : Program) (good : GoodBodies p) (Held : Name → 
         listed : entries p (start c record { predicate = x; arguments = vs } keys.predicate q) steps.body ≡ Some opening.entries_of
         listed = entries_seen p Rigid (bare (bind pd.parameters vs) c.heap) inner seen steps.body plain ∙ opening.entries_are
 
+        named_there : asking_entries p (applications p 0) (start c record { predicate = x; arguments = vs } keys.predicate q) steps.body ≡ Some opening.entries_of
+        named_there = same_entries p (applications p 0) inner steps.body plain ∙ listed
+
         holds : HoldsInstances p Held true c.heap (run.lost (run.Folded record { predicate = x; arguments = vs }) q c.holdings) → HoldsInstances p Held true c.heap (added q opening.entries_of (run.lost (run.Folded record { predicate = x; arguments = vs }) q c.holdings))
         holds less = exchanged p good Held true c.heap c.holdings k q opening.fuel opening.inner opening.entries_of here.quietly.stands.holds less pos opening.flat_is opening.body_is
             (entries_typed p Held no_perm pd.parameters vs (values_typed means world n i pd.parameters ts vs keys.each) c.heap steps.body opening.entries_of parts.0 plain parts.2 opening.entries_are) opening.can
@@ -171,12 +177,12 @@ module _ (means : Meaning) (p : Program) (good : GoodBodies p) (Held : Name → 
             by_fuel zero f = absurd (none_some z f)
             by_fuel (suc m) f =
                 written_worth means p n i here.quietly.stands.standard m inner steps.body z t
-                (tree_seen p Rigid (bare (bind pd.parameters vs) c.heap) inner seen (tree_by p m c.heap) steps.body plain ∙ sym (tree_of_body p c.heap k pd steps.body m keys.named steps.body_is) ∙ f)
+                (same_tree p (applications p m) (tree_by p m c.heap) inner steps.body plain ∙ tree_seen p Rigid (bare (bind pd.parameters vs) c.heap) inner seen (tree_by p m c.heap) steps.body plain ∙ sym (tree_of_body p c.heap k pd steps.body m keys.named steps.body_is) ∙ f)
                 (record { good = g; is = is }) written
 
         given_is : HoldsInstances p Held true c.heap (run.lost (run.Folded record { predicate = x; arguments = vs }) q c.holdings) →
             run.with_holdings (added q opening.entries_of (run.lost (run.Folded record { predicate = x; arguments = vs }) q c.holdings)) c ≡ u
-        given_is less = ap (run.with_store c.store) (sym (added_is p good Held d opens q pos steps.body inner steps.given opening.entries_of plain less listed (holds less) steps.adds)) ∙ steps.u_is
+        given_is less = ap (run.with_store c.store) (sym (added_is p d worths q pos steps.body inner steps.given 0 opening.entries_of (plain_asks p steps.body plain) named_there steps.adds)) ∙ steps.u_is
 
         inside : (ch : rules.Chunk) (s1 : State) → TakenOf means world n w scope i c (run.Folded record { predicate = x; arguments = vs }) SnapSort q ch s1 →
             Told means world n w i (o.produce steps.body a (Some ch.value) (record (entered (rules.bind keys.predicate.parameters ts) at s1) { inner = leads_inside ch }) (λ s2. on (back s s2)))
@@ -187,7 +193,7 @@ module _ (means : Meaning) (p : Program) (good : GoodBodies p) (Held : Name → 
               still = (let z = t.on.still in record { next = z.next; level = z.level; path = z.path });
               quietly = record { stands = record { store = bound means world n i pd.parameters ts vs keys.each; path = st.path; heap = st.heap; old = st.old; awake = st.awake; bounded = st.bounded; null = st.null; standard = st.standard; owned = st.owned; marked = λ e. tt; holds = st.holds; old_holds = st.old_holds } };
             } in
-            gives q steps.body pd.parameters inner steps.given opening.entries_of parts.0 parts.1 plain listed (holds st.holds) steps.adds i (record (entered (rules.bind pd.parameters ts) at s1) { inner = leads_inside ch }) a ch.value wo.0 (λ s2. on (back s s2)) wo.1
+            gives q steps.body pd.parameters inner steps.given 0 opening.entries_of parts.0 parts.1 (plain_asks p steps.body plain) named_there (holds st.holds) steps.adds i (record (entered (rules.bind pd.parameters ts) at s1) { inner = leads_inside ch }) a ch.value wo.0 (λ s2. on (back s s2)) wo.1
             (record { good = ga; is = same; positive = pos }) on1
             (λ j s2 ext on2.
             let z = on2.quietly.stands in

@@ -1,4 +1,4 @@
--- What the symbol of a function means: at the tree of its precondition and at its arguments it has the function's value, where the
+-- What the symbol of a function means: at the asking tree of its precondition and at its arguments it has the function's value, where the
 -- function can be applied.
 use Rattle.std.specs.Prelude.{◌≡◌, ℕ, true, List, [], ◌∷◌, ◌++◌, Some, Ok}
 use Rattle.vx_ast.specs.Syntax.{Name, result_name, Program, Function, function_named, conjoined}
@@ -12,7 +12,8 @@ use Rattle.vx_meaning.specs.Consistent.{IsConsistent}
 use Rattle.vx_rules.specs.Groups.{function_number}
 use Rattle.vx_whole.specs.Closure.{InClosure}
 use Rattle.vx_sound_preds.specs.Covered.{IsStocked}
-use Rattle.vx_sound_funcs.specs.Told.{IsTreeOf, precondition_of}
+use Rattle.vx_sound_preds.specs.Asking.{IsAskingTreeOf}
+use Rattle.vx_sound_funcs.specs.Told.{precondition_of}
 use Rattle.vx_sound_funcs.specs.Firm.{firm_application, firmly}
 
 -- the element of a value: a Perm's is its Real in lowest terms
@@ -33,7 +34,7 @@ pub record IsApplied (p : Program) (x f : Name) (g : Function) (vs : List Value)
   pub types : HaveTypes g.parameters vs
   pub consistent : IsConsistent p s
   pub stocked : IsStocked p x s.holdings
-  pub tree : IsTreeOf p (with_store (bind g.parameters vs) s) (precondition_of g) t
+  pub tree : IsAskingTreeOf p (with_store (bind g.parameters vs) s) (precondition_of g) t
   pub fuel : ℕ
   pub value : firm_application p (firmly p fuel) f vs s ≡ Some v
 

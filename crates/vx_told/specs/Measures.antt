@@ -2,13 +2,13 @@
 -- those with a lesser measure. This ends, so what holds of an application where it holds of all below it holds of all.
 use Rattle.std.specs.Prelude.{◌≡◌, true, List, Some}
 use Rattle.vx_ast.specs.Syntax.{Name, Program, Function, Measure, function_named}
+use Rattle.vx_ast.specs.Apart.{Stands, entered_by}
 use Rattle.vx_meaning.specs.Values.{Value}
 use Rattle.vx_meaning.specs.States.{Heap, HaveTypes}
 use Rattle.vx_meaning.specs.Fails.{LowersMeasure}
 use Rattle.vx_meaning.specs.Group.{Reaches, InGroup}
 use Rattle.vx_rules.specs.Groups.{is_in_group}
-use Rattle.vx_whole.specs.Closure.{InClosure}
-use Rattle.vx_told.specs.Walks.{KeepsAt}
+use Rattle.vx_sound_funcs.specs.Told.{precondition_of}
 use Rattle.vx_told.specs.Allowed.{StartsAt}
 
 -- f' has a lesser measure at vs' than f has at vs, where it starts in this heap
@@ -55,8 +55,7 @@ MeasuresEnd p = (h : Heap) → HoldsOfAll p (λ f g vs. GoesDown p h f vs)
 abbrev pub GroupsAgree : Program → Type 0
 GroupsAgree p = (f g : Name) → (is_in_group p f g ≡ true → InGroup p f g) × (InGroup p f g → is_in_group p f g ≡ true)
 
--- What the walks of functions are to show, of the functions that x leads to: an application keeps its promise where all below it do.
-abbrev pub KeepsFromBelow : Program → Name → Type 0
-KeepsFromBelow p x =
-    (f : Name) (g : Function) → InClosure p x f → function_named p f ≡ Some g → (vs : List Value) → HaveTypes g.parameters vs → (h : Heap) →
-    ((f' : Name) (g' : Function) → InClosure p x f' → function_named p f' ≡ Some g' → (vs' : List Value) → HaveTypes g'.parameters vs' → IsBelow p h f vs f' vs' → KeepsAt p f' g' vs' h) → KeepsAt p f g vs h
+-- What a precondition applies is below its function, in every heap and whatever the arguments: it is of a lower group.
+abbrev pub PreconditionsAskBelow : Program → Type 0
+PreconditionsAskBelow p =
+    (f : Name) (g : Function) (f' : Name) → function_named p f ≡ Some g → Stands f' (entered_by (precondition_of g)) → (h : Heap) (vs vs' : List Value) → IsBelow p h f vs f' vs'

@@ -5,4 +5,4 @@ pub returns-clause-told : goal.returns-clause-told
 returns-clause-told c = firm_told
 
 pub returns-clause-passed : goal.returns-clause-passed
-returns-clause-passed c p x replies typed functions pass = passed_firm p x replies typed pass functions
+returns-clause-passed c = passed_firm

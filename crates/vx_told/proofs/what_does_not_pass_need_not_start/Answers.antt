@@ -1,11 +1,8 @@
-use Rattle.vx_told.proofs.Eager.{eagers_typed, eagers_good, never_starts, not_allowed}
+use Rattle.vx_told.proofs.Eager.{eagers_typed, never_starts, not_allowed}
 use Rattle.vx_told.proofs.what_does_not_pass_need_not_start.Goals as goal
 
 pub returns-clause-typed : goal.returns-clause-typed
 returns-clause-typed c = eagers_typed
-
-pub returns-clause-functions : goal.returns-clause-functions
-returns-clause-functions c = eagers_good
 
 pub returns-clause-never : goal.returns-clause-never
 returns-clause-never c = never_starts

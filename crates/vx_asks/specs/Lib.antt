@@ -1,4 +1,0 @@
-pub mod Asking
-pub mod Laws
-pub mod Means
-pub mod Examples
