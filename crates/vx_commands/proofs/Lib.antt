@@ -2,4 +2,4 @@ mod Statuses
 mod Scripts
 mod Companions
 mod Untouched
-mod OfGenerated
+mod Reserved

@@ -4,7 +4,6 @@ use Rattle.std.specs.Fmt.{decimal}
 use Rattle.std.specs.Str.{IsUtf8}
 use Rattle.std.specs.Str.Lossy.{utf8_valid_len}
 use Rattle.vx_ast.specs.declared.Place.{Place}
-use Rattle.vx_ast.specs.Syntax.{Program}
 use Rattle.vx_ast.specs.Written as written
 use Rattle.vx_tokens.specs.Tokens.{Token}
 use Rattle.vx_tokens.specs.Text.{Scans, Ending, first_place, unmarked, after}
@@ -14,7 +13,6 @@ use Rattle.vx_parser.specs.Faults as text
 use Rattle.vx_parser.specs.Spelling.{Spells}
 use Rattle.vx_parser.specs.Refusing.{IsRefusal}
 use Rattle.vx_parser.specs.Answers.{IsAnswer, answer}
-use Rattle.vx_whole.specs.Executed.{first_beyond, is_executed}
 use Rattle.vx_expressions.specs.declared.fault.TypeFault.{TypeFault}
 use Rattle.vx_expressions.specs.declared.fault.TypeFault.TheVariants as untyped
 use Rattle.vx_expressions.specs.Printed as type
@@ -80,19 +78,6 @@ RefusesText bytes said = (f : TextFault) × IsTextFault bytes f × (said ≡ tex
 -- the line of a program that isn't typed
 abbrev pub RefusesTyping : written.Program → List ℕ → Type 0
 RefusesTyping p said = (f : TypeFault) × IsTypeFault p f × (said ≡ type_line f)
-
--- the line of a function that is not executed yet, at its place
-abbrev pub beyond_line : Place → List ℕ
-beyond_line at = line at (codes "E09") (codes "Unsupported") (codes "function" ∷ [])
-
--- the line of a typed program that is not executed yet: of the first function in file order that isn't
-abbrev pub RefusesExecution : Program → List ℕ → Type 0
-RefusesExecution p said = (at : Place) × (first_beyond p ≡ Some at) × (said ≡ beyond_line at)
-
--- no line, where the program is executed; else that line
-abbrev pub IsJudged : Program → Option (List ℕ) → Type 0
-IsJudged p None = is_executed p ≡ true
-IsJudged p (Some said) = RefusesExecution p said
 
 -- the text spells this program, and no other
 pub record IsSpelledBy (bytes : List ℕ) (p : written.Program) : Type 0 where

@@ -16,7 +16,6 @@ use Rattle.vx_report.specs.declared.status.Status.{Status}
 use Rattle.vx_report.specs.declared.status.Status.TheVariants.{Done, NotVerified, Usage, Unread, Refused, Faulted, Unwritten, Want}
 use Rattle.vx_report.specs.Statuses.{status_among}
 use Rattle.vx_typing.specs.Programs.{IsTyped}
-use Rattle.vx_whole.specs.Executed.{is_executed}
 use Rattle.vx_print.specs.Canonical.{canonical_text}
 use Rattle.vx_gen.specs.Generated.{generated}
 use Rattle.vx_commands.specs.declared.reading.Parsed.{Parsed}
@@ -34,27 +33,22 @@ use Rattle.vx_commands.specs.declared.reports.Telling.{Telling}
 use Rattle.vx_commands.specs.declared.reports.Telling.TheVariants.{Lines, Totals}
 use Rattle.vx_report.specs.Reports.{report_of, total_of}
 use Rattle.vx_typing.specs.Typed.{written_of}
-use Rattle.vx_commands.specs.Refusals.{RefusesText, RefusesTyping, RefusesExecution, IsSpelledBy}
+use Rattle.vx_commands.specs.Refusals.{RefusesText, RefusesTyping, IsSpelledBy}
 use Rattle.vx_verifier.specs.Causes.{NoCountRose}
 use Rattle.vx_companion.specs.Companion.{AllByCompanion}
 use Rattle.vx_companion.specs.Lawful.{IsTaken}
 use Rattle.vx_commands.specs.Outside.{Change, Texts, Taken, Children, IsUnchanged, AsksOnly, HasFailedToRead, IsTooLong, HasFailedToPut, StartsOnly}
 use Rattle.vx_verifier.specs.Lanes.{StartsWhere}
-use Rattle.vx_verifier.specs.Headline.{IsSupported, Headline, HasNoFault, NeverFails, some_ask, turns_of}
+use Rattle.vx_verifier.specs.Headline.{IsWhole, Headline, HasNoFault, NeverFails, some_ask, turns_of}
 use Rattle.vx_verifier.specs.Lines.{lines}
 
--- the text spells the program, which is typed and executed
-pub record IsExecuted (text : List ℕ) (p : written.Program) : Type 0 where
-  pub spelled : Spells text p
-  pub typed : IsTyped p
-  pub executed : is_executed (resolve.program p) ≡ true
-
--- the program that a text spells, with its names settled; it is supported
+-- the program that a text spells, which is typed, with its names settled; it is typed as a whole then
 pub record IsProgramOf (text : List ℕ) (p : Program) : Type 0 where
   pub written : written.Program
-  pub executed : IsExecuted text written
+  pub spelled : Spells text written
+  pub typed : IsTyped written
   pub settled : p ≡ resolve.program written
-  pub supported : IsSupported p
+  pub whole : IsWhole p
 
 -- a program is the one that the text spells
 abbrev pub IsParsedFrom : List ℕ → Parsed → Type 0
@@ -137,10 +131,9 @@ SaysChecked text Done bytes = (p : written.Program) × IsSpelledBy text p × IsT
 SaysChecked text Refused bytes = RefusesText text bytes ⊎ ((p : written.Program) × IsSpelledBy text p × RefusesTyping p bytes)
 SaysChecked text s bytes = ⊥
 
--- the same of `verify`, where there is no report: the program is typed, and not executed yet
+-- the same of `verify`, where there is no report
 abbrev pub SaysRefused : (text : List ℕ) → Status → List ℕ → Type 0
-SaysRefused text Refused bytes =
-    RefusesText text bytes ⊎ ((p : written.Program) × IsSpelledBy text p × (RefusesTyping p bytes ⊎ (IsTyped p × RefusesExecution (resolve.program p) bytes)))
+SaysRefused text Refused bytes = RefusesText text bytes ⊎ ((p : written.Program) × IsSpelledBy text p × RefusesTyping p bytes)
 SaysRefused text s bytes = ⊥
 
 -- what a command says of a text, with its status

@@ -91,16 +91,6 @@ pub fn type_refusal(alloc: Global, fault: &TypeFault) -> Result<String, AllocErr
     }
 }
 
-/// The line of a function that is not executed yet, at its place.
-pub fn beyond_line(alloc: Global, place: Place) -> Result<String, AllocError>
-    ensures { IfOk result (λ line. string_bytes line ≡ spec.beyond_line place) }
-{
-    let mut line = refusal(alloc, place, "E09", "Unsupported")?;
-    push_optional(&mut line, Some("function"))?;
-    line.push_str("\n")?;
-    Ok(line)
-}
-
 fn push_two(line: &mut String, first: &str, second: &str) -> Result<(), AllocError>
     ensures { OnOk result (string_bytes line.new ≡ string_bytes line.old ++ spec.behind_blanks (first.now ∷ second.now ∷ [])) }
 {

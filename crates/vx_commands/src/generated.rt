@@ -17,7 +17,7 @@ use vx_companion::Builtin;
 use vx_ends::{Parts, Sink};
 use vx_gen::{GenFault, generate, generated_is_typed};
 use vx_typing::{TypeFault, Typed, check, programs_are_told};
-use vx_verifier::programs_are_supported;
+use vx_verifier::typed_programs_are_whole;
 
 /// The text of so many generated methods.
 pub fn text_of(alloc: Global, methods: u32) -> Result<String, AllocError>
@@ -83,7 +83,7 @@ fn work_on<K: Sink>(
     ensures nothing { IfErr result (λ _. K.taken out.new ≡ K.taken out.old) }
 {
     generated_is_typed();
-    programs_are_supported(typed);
+    typed_programs_are_whole(typed);
     let solver = companion(alloc)?;
     report_by_companion(alloc, Telling::Totals, typed, &solver, out, builtin)
 }

@@ -2,7 +2,6 @@
 #![tactic(auto)]
 
 mod answers;
-mod executed;
 mod generated;
 mod reading;
 mod reports;

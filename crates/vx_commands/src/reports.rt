@@ -1,9 +1,10 @@
 //! Reports: what the runs of a program's members say, and how it is put.
 
-ghost use Rattle.std.specs.Prelude.{◌≡◌, ◌++◌, [], IfOk, IfErr, OnOk, true, string_bytes};
-ghost use Rattle.vx_whole.specs.Executed.{is_executed};
+ghost use Rattle.std.specs.Prelude.{◌≡◌, ◌++◌, [], IfOk, IfErr, OnOk, string_bytes};
 ghost use Rattle.vx_report.specs.Reports.{AreNamed, RestWithin};
-ghost use Rattle.vx_typing.specs.Typed.{resolved_of};
+ghost use Rattle.vx_resolved.specs.Settled.{settled};
+ghost use Rattle.vx_settled.specs.WhenSettled.{LeaveResults};
+ghost use Rattle.vx_typing.specs.Typed.{resolved_of, written_of};
 ghost use Rattle.vx_commands.specs.Reported as spec;
 ghost use Rattle.vx_commands.specs.Outside.{change, taken, children, companions, StartsOnly};
 ghost use Rattle.vx_commands.specs.Reported.{IsPut, IsStatus, IsSaid, IsReport, IsCompanionReport, IsReportBy, StartsBy};
@@ -13,8 +14,9 @@ use std::alloc::{AllocError, Global};
 use vx_companion::Builtin;
 use vx_ends::{Parts, PutFault, RoundRobin, Sink, Spawner, put_all};
 use vx_report::{MemberRun, Status, status_of, write_report, write_total};
+use vx_resolved::Settled;
 use vx_typing::Typed;
-use vx_verifier::{Runs, settled, verify};
+use vx_verifier::{Runs, Verification, verify};
 
 /// What a report tells of the runs.
 #[derive(Clone, Copy, PartialEq, Eq, Debug)]
@@ -49,18 +51,17 @@ pub fn say<K: Sink>(alloc: Global, out: &mut K, bytes: &[u8], status: Status) ->
 
 // Writes what is told of the runs.
 fn write(
-    alloc: Global,
     telling: Telling,
     out: &mut String,
-    typed: &Typed,
+    program: &Settled,
     runs: &[MemberRun],
 ) -> Result<(), AllocError>
-    requires named { AreNamed (resolved_of typed.now) runs.now }
-    requires rests { RestWithin (resolved_of typed.now) runs.now }
-    ensures { OnOk result (string_bytes out.new ≡ string_bytes out.old ++ spec.text_of telling (resolved_of typed.now) runs.now) }
+    requires named { AreNamed (settled program.now) runs.now }
+    requires rests { RestWithin (settled program.now) runs.now }
+    ensures { OnOk result (string_bytes out.new ≡ string_bytes out.old ++ spec.text_of telling (settled program.now) runs.now) }
 {
     match telling {
-        Telling::Lines => write_report(out, &settled(alloc, typed)?, runs),
+        Telling::Lines => write_report(out, program, runs),
         Telling::Totals => write_total(out, runs),
     }
 }
@@ -74,15 +75,17 @@ fn report<K: Sink, W: Spawner>(
     solver: &Parts,
     spawner: &mut W,
 ) -> Result<Ended, AllocError>
-    requires { is_executed (resolved_of typed.now) ≡ true }
+    requires { LeaveResults (written_of typed.now) }
     ensures report { IfOk result (IsReport telling (resolved_of typed.now) solver.now (change (children W.starts W.ended W.faults W.steady) spawner.old spawner.new) (change (taken K.taken K.faults) out.old out.new)) }
     ensures starts { StartsOnly solver.now (change (children W.starts W.ended W.faults W.steady) spawner.old spawner.new) }
     ensures nothing { IfErr result (λ _. K.taken out.new ≡ K.taken out.old) }
 {
     let mut turns = RoundRobin::new();
-    let runs = verify(alloc, typed, 1, solver, false, spawner, &mut turns)?;
+    let Verification { program, runs } = verify(
+        alloc, typed, 1, solver, false, spawner, &mut turns,
+    )?;
     let mut text = String::new(alloc);
-    write(alloc, telling, &mut text, typed, &runs)?;
+    write(telling, &mut text, &program, &runs)?;
     let status = status_of(&runs);
     Ok(put(out, text.as_bytes(), status, runs))
 }
@@ -103,7 +106,7 @@ pub fn report_by_companion<K: Sink>(
     out: &mut K,
     builtin: &mut Builtin,
 ) -> Result<Ended, AllocError>
-    requires { is_executed (resolved_of typed.now) ≡ true }
+    requires { LeaveResults (written_of typed.now) }
     ensures report { IfOk result (IsCompanionReport telling (resolved_of typed.now) solver.now (change companions builtin.old builtin.new) (change (taken K.taken K.faults) out.old out.new)) }
     ensures starts { StartsOnly solver.now (change companions builtin.old builtin.new) }
     ensures nothing { IfErr result (λ _. K.taken out.new ≡ K.taken out.old) }
@@ -120,7 +123,7 @@ pub fn report_by<K: Sink, W: Spawner>(
     spawner: &mut W,
     builtin: &mut Builtin,
 ) -> Result<Ended, AllocError>
-    requires { is_executed (resolved_of typed.now) ≡ true }
+    requires { LeaveResults (written_of typed.now) }
     ensures report { IfOk result (IsReportBy solver.now (resolved_of typed.now) (change companions builtin.old builtin.new) (change (children W.starts W.ended W.faults W.steady) spawner.old spawner.new) (change (taken K.taken K.faults) out.old out.new)) }
     ensures starts { StartsBy solver.now (change companions builtin.old builtin.new) (change (children W.starts W.ended W.faults W.steady) spawner.old spawner.new) }
     ensures nothing { IfErr result (λ _. K.taken out.new ≡ K.taken out.old) }

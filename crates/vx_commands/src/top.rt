@@ -10,7 +10,6 @@ ghost use Rattle.vx_commands.specs.Outside.{change, texts, taken, children, comp
 ghost use Rattle.vx_commands.specs.Reported.{Puts, IsToldOf, IsGenerated, IsVerified, IsAnswer, IsStatusOf, AsksFileOf, StartsBy, StartsSolverOf};
 
 use crate::answers::{TOO_LONG, UNREAD, USAGE};
-use crate::executed::unsupported;
 use crate::generated::{text_of, work};
 use crate::reading::{Checked, Loaded, Parsed, load, read, type_of};
 use crate::reports::{report_by, say};
@@ -21,7 +20,7 @@ use vx_companion::Builtin;
 use vx_ends::{Files, Parts, Sink, Spawner};
 use vx_report::Status;
 use vx_typing::Typed;
-use vx_verifier::{Runs, programs_are_supported};
+use vx_verifier::{Runs, typed_programs_are_whole};
 use vx_words::{Order, Text, WordsFault, read_words};
 
 /// How the program ended: its status, and what became of each member with a line, in file order. There are no runs
@@ -39,7 +38,7 @@ fn name_of(file: &Option<Text>) -> Option<&str>
     file.as_ref().map(|name| name.as_str())
 }
 
-// Verifies a typed program of a text, if it is executed.
+// Verifies a typed program of a text.
 fn verify_typed<K: Sink, W: Spawner>(
     alloc: Global,
     text: &[u8],
@@ -55,13 +54,8 @@ fn verify_typed<K: Sink, W: Spawner>(
     ensures nothing { IfErr result (λ _. K.taken out.new ≡ K.taken out.old) }
 {
     typed.typed();
-    match unsupported(alloc, typed)? {
-        None => {
-            programs_are_supported(typed);
-            report_by(alloc, typed, solver, out, spawner, builtin)
-        }
-        Some(line) => Ok(say(alloc, out, line.as_bytes(), Status::Refused)),
-    }
+    typed_programs_are_whole(typed);
+    report_by(alloc, typed, solver, out, spawner, builtin)
 }
 
 // Verifies the program of a text, if it is typed.

@@ -97,7 +97,7 @@ fn take_step(
 ///
 /// # Errors
 /// Want of memory.
-pub fn settled_from(alloc: Global, typed: &Typed) -> Result<Settled, AllocError> {
+fn settled_from(alloc: Global, typed: &Typed) -> Result<Settled, AllocError> {
     typed_programs_keep_apart();
     typed.typed();
     settle(alloc, typed.program())

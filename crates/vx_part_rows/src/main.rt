@@ -14,7 +14,7 @@ use crate::graphs::put_graph;
 use crate::machines::put_machines;
 use crate::names::{put_names, put_order};
 use crate::sexps::put_sexp;
-use crate::texts::{beginnings, first_beyond, read_as};
+use crate::texts::{beginnings, read_as};
 use std::alloc::{AllocError, Global};
 use std::io::Read;
 use std::process::ExitCode;
@@ -35,7 +35,6 @@ impl Answers for Parts {
     fn answer(&mut self, alloc: Global, row: &Row, out: &mut Vec<u8>) -> Result<(), AllocError> {
         match row.asks {
             Asks::Parse => put_line(out, "  ", &read_as(alloc, &row.text)?),
-            Asks::Beyond => put_line(out, "  ", &first_beyond(alloc, &row.text)?),
             Asks::Beginnings => put_line(out, "  ", &beginnings(alloc, &row.text)?),
             Asks::Machines => put_machines(alloc, row, out),
             Asks::Order => put_order(alloc, row, out),

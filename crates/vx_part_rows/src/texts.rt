@@ -1,10 +1,7 @@
-//! How texts are read, and which functions of theirs are not executed.
+//! How texts are read.
 
-use crate::machines::settled_from;
 use std::alloc::{AllocError, Global};
-use vx_executed::beyond;
 use vx_parser::{TextFault, parse};
-use vx_typing::check;
 
 // The place, code, name and argument of a fault.
 fn fault_line(alloc: Global, fault: &TextFault) -> Result<String, AllocError> {
@@ -28,26 +25,6 @@ pub fn read_as(alloc: Global, text: &[u8]) -> Result<String, AllocError> {
     match parse(alloc, text) {
         Ok(_) => String::from_str(alloc, "ok"),
         Err(fault) => fault_line(alloc, &fault),
-    }
-}
-
-/// The place of the first function that is not executed.
-///
-/// # Errors
-/// Want of memory.
-pub fn first_beyond(alloc: Global, text: &[u8]) -> Result<String, AllocError> {
-    let Ok(program) = parse(alloc, text) else {
-        return String::from_str(alloc, "no program");
-    };
-    let Ok(typed) = check(alloc, &program) else {
-        return String::from_str(alloc, "no typed program");
-    };
-    let Ok(program) = settled_from(alloc, &typed) else {
-        return String::from_str(alloc, "no program that is settled");
-    };
-    match beyond(&program) {
-        None => String::from_str(alloc, "none"),
-        Some(place) => format!(in alloc; "{}:{}", place.line, place.column),
     }
 }
 

@@ -1,4 +1,3 @@
 pub mod Resolved
 pub mod Numbers
 pub mod Settled
-pub mod Executed

@@ -11,5 +11,4 @@ pub mod Recursions
 pub mod ConstantAmounts
 pub mod SaidNow
 pub mod TypedPrograms
-pub mod ExecutedPrograms
 pub mod DistinctNames

@@ -11,7 +11,6 @@ use Rattle.vx_rules.specs.Rules.{outer}
 use Rattle.vx_rules.specs.Members.{depth, tree_over, tree}
 use Rattle.vx_ast.specs.Apart.{KeepsApart}
 use Rattle.vx_whole.specs.Premises.{IsTypedProgram}
-use Rattle.vx_whole.specs.Executed.{is_executed}
 use Rattle.vx_resolved.specs.Numbers.{number_named}
 
 -- this holds of the methods of a program
@@ -48,7 +47,3 @@ LeaveResults (m ∷ ms) = LeavesResult m.kind × LeaveResults ms
 -- for the whole language
 abbrev pub TypedProgramWhenSettled : Type 0
 TypedProgramWhenSettled = (p : written.Program) → IsTyped p → LeaveResults p → IsTypedProgram (program p)
-
--- what is typed, and executed when it is settled, is typed as a whole then
-abbrev pub ExecutedWhenSettled : Type 0
-ExecutedWhenSettled = (p : written.Program) → IsTyped p → is_executed (program p) ≡ true → IsTypedProgram (program p)

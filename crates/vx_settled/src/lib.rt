@@ -4,7 +4,7 @@
 ghost use Rattle.vx_ast.specs.Resolve.{program};
 ghost use Rattle.vx_typing.specs.Programs.{IsTyped};
 ghost use Rattle.vx_ast.specs.Apart.{Reaches, KeepsApart};
-ghost use Rattle.vx_settled.specs.WhenSettled.{TypedWhenSettled, ExecutedWhenSettled, DistinctWhenSettled, KeptApartWhenSettled, DepthSufficesWhenSettled, TypedProgramWhenSettled};
+ghost use Rattle.vx_settled.specs.WhenSettled.{TypedWhenSettled, DistinctWhenSettled, KeptApartWhenSettled, DepthSufficesWhenSettled, TypedProgramWhenSettled};
 ghost use Rattle.vx_settled.specs.Recursions.{f, counts_down, applies_itself_before};
 
 use vx_depth::groups_kept_apart;
@@ -43,12 +43,6 @@ pub fn recursions_are_told_apart()
     programs_are_told();
     typed_programs_keep_apart();
 }
-
-/// A typed program that is executed is typed as a whole when it is settled: no function that is executed has a parameter
-/// with the name of its result.
-pub fn executed_programs_settle_whole()
-    ensures { ExecutedWhenSettled }
-{}
 
 /// In a typed program each member is the first of its name, and so the only one.
 pub fn typed_programs_name_apart()

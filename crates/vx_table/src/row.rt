@@ -13,8 +13,6 @@ pub enum Asks {
     Checks,
     /// How the text is read.
     Parse,
-    /// Which token of the text is the first that is not executed.
-    Beyond,
     /// The lengths at which the beginning of the text is a program.
     Beginnings,
     /// What two machines on a member of the program ask, and how they end.

@@ -65,7 +65,6 @@ fn reply_of(word: &str) -> Reply {
 fn asks_of(word: &str) -> Asks {
     match word {
         "parse" => Asks::Parse,
-        "beyond" => Asks::Beyond,
         "beginnings" => Asks::Beginnings,
         "checks" => Asks::Checks,
         "machines" => Asks::Machines,
@@ -144,7 +143,6 @@ fn take_call(alloc: Global, row: &mut Row, word: &str, rest: &str) -> Result<boo
 fn of_one_line(alloc: Global, word: &str, text: &str) -> Result<Option<Row>, AllocError> {
     let asks = match word {
         "parse" => Asks::Parse,
-        "beyond" => Asks::Beyond,
         "beginnings" => Asks::Beginnings,
         "graph" => Asks::Graph,
         "fraction" => Asks::Fraction,

@@ -18,8 +18,6 @@ use Rattle.vx_rules.specs.Members.{tree}
 use Rattle.vx_machine.specs.Runs.{tree_of, member_tree}
 use Rattle.vx_whole.specs.Closure.{InClosure}
 use Rattle.vx_sound.specs.Law.{Passes}
-use Rattle.vx_whole.specs.Executed.{is_executed}
-use Rattle.vx_sound_funcs.specs.Firm.{PlainContracts}
 use Rattle.vx_law.specs.Law.{MembersAreSound}
 use Rattle.vx_settled.proofs.TypedNames.{same_is}
 use Rattle.vx_closure.specs.Leads.{LeadsTo}
@@ -27,7 +25,7 @@ use Rattle.vx_resting.specs.Resting.{has_passed, HoldsUp, IsFirst, IsHeldUpAs, A
 use Rattle.vx_verifier.specs.Sequences.{IsIn, AreChecksOf, replies_to, IsRight}
 use Rattle.vx_verifier.specs.Causes.{HasCauseOf}
 use Rattle.vx_verifier.specs.Lines.{has_line, lines_from, lines}
-use Rattle.vx_verifier.specs.Headline.{NeverFails, IsVerdictOf, IsTold, AreTold, Under, AreSound, members_of, sequence_of, walk_of}
+use Rattle.vx_verifier.specs.Headline.{IsWhole, NeverFails, IsVerdictOf, IsTold, AreTold, Under, AreSound, members_of, sequence_of, walk_of}
 use Rattle.vx_verifier.proofs.Runs.{take_front, drop_front}
 use Rattle.vx_verifier.proofs.Sequences.{each_in, in_each, all_right}
 
@@ -221,18 +219,13 @@ module _ (p : Program) (all : List Check) (runs : List MemberRun) (walked : Each
   led_each n held right x at y (IsFunction h) closed named = led_passes n held right x at y (IsFunction h) closed named refl
   led_each n held right x at y (IsMethod m) closed named = led_passes n held right x at y (IsMethod m) closed named refl
 
--- what the law for the whole language asks and says
-pub record Law : Type 0 where
-  pub sound : MembersAreSound
-  pub plain : (p : Program) → is_executed p ≡ true → PlainContracts p
-
-never_fails : Law → (p : Program) (all : List Check) (runs : List MemberRun) → Each (IsWalked p all) runs → members_of runs ≡ lines p
+never_fails : MembersAreSound → (p : Program) → IsWhole p → (all : List Check) (runs : List MemberRun) → Each (IsWalked p all) runs → members_of runs ≡ lines p
     → (n : ℕ) → IsFirst (HoldsUp p n) runs None → Under (λ own. Each IsRight own) p n runs all → NeverFails p n
-never_fails law p all runs walked each n held right supported x at fails =
-    law.sound p x.name x.kind (replies_by p runs all) supported.typed (law.plain p supported.executed) (supported.typed.names n x at)
+never_fails law p whole all runs walked each n held right x at fails =
+    law p x.name x.kind (replies_by p runs all) whole.typed (whole.typed.names n x at)
     (λ y l closed named. led_each p all runs walked each n held right x at y l closed named) fails
 
-pub sound : Law → (p : Program) (all : List Check) (runs : List MemberRun) → Each (IsWalked p all) runs → members_of runs ≡ lines p → AreRested p runs → AreSound p runs all
-sound law p all runs walked each rested = in_each (λ (r : MemberRun). r.verdict ≡ verdict.Verified → Under (λ own. Each IsRight own) p r.member.0 runs all → NeverFails p r.member.0) runs (λ r inside is right.
+pub sound : MembersAreSound → (p : Program) → IsWhole p → (all : List Check) (runs : List MemberRun) → Each (IsWalked p all) runs → members_of runs ≡ lines p → AreRested p runs → AreSound p runs all
+sound law p whole all runs walked each rested = in_each (λ (r : MemberRun). r.verdict ≡ verdict.Verified → Under (λ own. Each IsRight own) p r.member.0 runs all → NeverFails p r.member.0) runs (λ r inside is right.
     let held : IsFirst (HoldsUp p r.member.0) runs None = subst (IsHeldUpAs p r.member.0 runs) is (each_in (λ (q : MemberRun). IsHeldUpAs p q.member.0 runs q.verdict) runs r rested inside) in
-    never_fails law p all runs walked each r.member.0 held right)
+    never_fails law p whole all runs walked each r.member.0 held right)

@@ -1,11 +1,9 @@
--- A program that is typed and executed is supported.
-use Rattle.std.proofs.Common.{◌≡◌, true}
+-- A program that is typed as it is written is typed as a whole when it is settled.
 use Rattle.vx_ast.specs.Written as written
 use Rattle.vx_ast.specs.Resolve as resolve
 use Rattle.vx_typing.specs.Programs.{IsTyped}
-use Rattle.vx_whole.specs.Executed.{is_executed}
-use Rattle.vx_settled.specs.WhenSettled.{ExecutedWhenSettled, DistinctWhenSettled}
-use Rattle.vx_verifier.specs.Headline.{IsSupported}
+use Rattle.vx_settled.specs.WhenSettled.{LeaveResults, TypedProgramWhenSettled, DistinctWhenSettled}
+use Rattle.vx_verifier.specs.Headline.{IsWhole}
 
-pub supported : (p : written.Program) → IsTyped p → is_executed (resolve.program p) ≡ true → ExecutedWhenSettled → DistinctWhenSettled → IsSupported (resolve.program p)
-supported p t e law distinct = record { typed = law p t e; distinct = distinct p t; executed = e }
+pub whole : (p : written.Program) → IsTyped p → LeaveResults p → TypedProgramWhenSettled → DistinctWhenSettled → IsWhole (resolve.program p)
+whole p t leave law distinct = record { typed = law p t leave; distinct = distinct p t }

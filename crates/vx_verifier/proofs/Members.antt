@@ -15,15 +15,16 @@ use Rattle.vx_ends.specs.declared.piece.Piece.{Piece}
 use Rattle.vx_ends.specs.declared.piece.Ending.{Ending}
 use Rattle.vx_report.specs.declared.run.MemberRun.{MemberRun}
 use Rattle.vx_report.specs.Reports.{AreNamed, is_faulted, is_resting}
+use Rattle.vx_law.specs.Law.{MembersAreSound}
 use Rattle.vx_verifier.specs.declared.lane.Child.{Child}
 use Rattle.vx_verifier.specs.Causes.{HasCauseOf}
-use Rattle.vx_verifier.specs.Headline.{IsTold, AreTold, IsRecorded, IsSpentAfter, member_turns, turns_of, members_of, IsWellSorted, Headline, has_question, some_ask, lost_after}
+use Rattle.vx_verifier.specs.Headline.{IsWhole, IsTold, AreTold, IsRecorded, IsSpentAfter, member_turns, turns_of, members_of, IsWellSorted, Headline, has_question, some_ask, lost_after}
 use Rattle.vx_verifier.specs.Lines.{lines}
 use Rattle.vx_verifier.specs.Lanes.{Hears, Later, Judges, Executes, is_lost, is_started}
 use Rattle.vx_verifier.proofs.Children.{handed_itself, cause_earlier}
 use Rattle.vx_verifier.proofs.Runs.{told_later, runs_later, runs_more, turns_more}
 use Rattle.vx_verifier.proofs.Complete.{complete}
-use Rattle.vx_verifier.proofs.Closures.{Law, are_walked, sound}
+use Rattle.vx_verifier.proofs.Closures.{are_walked, sound}
 use Rattle.vx_verifier.proofs.Rested.{all_told, turns_rest, lost_rests, members_rest, named_rest}
 use Rattle.vx_resting.specs.Resting.{AreLater, AreRested, NoneRests}
 use Rattle.vx_smt_meaning.specs.WellFormed.{IsWellFormed}
@@ -104,11 +105,11 @@ module _ {L : Type 0} (dialogue : L → List Piece) (functions : List Declared) 
       }
 
 -- the child is handed back
-pub headline : {L : Type 0} (law : Law) (dialogue : L → List Piece) (p : Program) (before mid new : List Ending) (f g h : ℕ) (child : Child L) (asked : ℕ) (own runs : List MemberRun) → members_of own ≡ lines p → AreNamed p own
+pub headline : {L : Type 0} (law : MembersAreSound) (dialogue : L → List Piece) (p : Program) (whole : IsWhole p) (before mid new : List Ending) (f g h : ℕ) (child : Child L) (asked : ℕ) (own runs : List MemberRun) → members_of own ≡ lines p → AreNamed p own
     → AreLater own runs → AreRested p runs → Executes dialogue (function_symbols p) p before mid f g child asked own
     → ((turns : List Turn) (checks : List Check) → Hears dialogue (function_symbols p) before mid child turns checks → IsRecorded (function_symbols p) (is_lost child) before new turns checks)
     → Later mid new → g ≤ h → ((k : ℕ) → AllAsk (IsFine (function_symbols p)) (member_tree p k)) → Headline p before new f h runs
-headline law dialogue p before mid new f g h child asked own runs each named rest rested so_far end later after fine =
+headline law dialogue p whole before mid new f g h child asked own runs each named rest rested so_far end later after fine =
     let functions = function_symbols p in
     let handed = later mid (handed_itself mid) in
     let checks = so_far.checks in
@@ -128,6 +129,6 @@ headline law dialogue p before mid new f g h child asked own runs each named res
       each = each_rested;
       told = told;
       rested = rested;
-      sound = sound law p checks runs walked each_rested rested;
+      sound = sound law p whole checks runs walked each_rested rested;
       complete = complete p before new f h runs checks told rested (named_rest p own runs rest named);
     }

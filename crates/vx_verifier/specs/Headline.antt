@@ -9,7 +9,6 @@ use Rattle.vx_terms.specs.Formed.{Formed}
 use Rattle.vx_terms.specs.Interpretations.{Each}
 use Rattle.vx_meaning.specs.Fails.{Fails}
 use Rattle.vx_whole.specs.Premises.{IsTypedProgram}
-use Rattle.vx_whole.specs.Executed.{is_executed}
 use Rattle.vx_smt_meaning.specs.Commands.{Command, Declared, Assert}
 use Rattle.vx_smt_meaning.specs.Dialogues.{Check}
 use Rattle.vx_smt_meaning.specs.WellFormed.{IsWellFormed}
@@ -32,17 +31,16 @@ use Rattle.vx_verifier.specs.Sequences.{AreChecksOf, replies_to, IsRight, AllUns
 use Rattle.vx_verifier.specs.Causes.{HasCauseOf, NoCountRose, AllLawful}
 use Rattle.vx_verifier.specs.Lines.{lines}
 
--- the program is typed as a whole, no two of its members have one name, and it is executed: no precondition of a function applies one
-pub record IsSupported (p : Program) : Type 0 where
+-- the program is typed as a whole, and no two of its members have one name
+pub record IsWhole (p : Program) : Type 0 where
   pub typed : IsTypedProgram p
   pub distinct : HasDistinctNames p
-  pub executed : is_executed p ≡ true
 
--- In a supported program the member with this number doesn't fail: a method at no place, in no run from any state satisfying
+-- The member with this number doesn't fail: a method at no place, in no run from any state satisfying
 -- its precondition; the body of a predicate at no place where it is given to what holds nothing; a function in none of the ways that
 -- `FunctionFails` tells, from any state satisfying its precondition.
 abbrev pub NeverFails : Program → ℕ → Type 0
-NeverFails p n = IsSupported p → (m : Member) → slice_get p n ≡ Some m → Fails p m.name m.kind → ⊥
+NeverFails p n = (m : Member) → slice_get p n ≡ Some m → Fails p m.name m.kind → ⊥
 
 -- The verdict is that of the walk, which asked so many questions; one that rests on another passed by itself. The limit comes at 100,000 of them with one more due; a fault below it, in place of an answer.
 abbrev pub IsVerdictOf : (Cause → Type 0) → Ends → (asked : ℕ) → Verdict → Type 0

@@ -14,20 +14,19 @@ ghost use Rattle.vx_machine.specs.Runs.{Follows, awaits, member_tree};
 ghost use Rattle.vx_live.specs.Functions.{function_symbols};
 ghost use Rattle.vx_verifier.specs.Causes.{HasCauseOf, NoCountRose};
 ghost use Rattle.vx_verifier.specs.Steady.{AreSpelled, AllSpelled, AsksSpelled, IsCalmLane};
-ghost use Rattle.vx_whole.specs.Executed.{is_executed};
-ghost use Rattle.vx_typing.specs.Typed.{resolved_of};
-ghost use Rattle.vx_verifier.specs.Headline.{Headline, IsSupported, asked_turns, member_turns, members_of, has_question, some_ask};
+ghost use Rattle.vx_settled.specs.WhenSettled.{LeaveResults};
+ghost use Rattle.vx_typing.specs.Typed.{resolved_of, written_of};
+ghost use Rattle.vx_verifier.specs.Headline.{Headline, IsWhole, asked_turns, member_turns, members_of, has_question, some_ask};
 ghost use Rattle.vx_verifier.specs.Lines.{has_line, lines};
 ghost use Rattle.vx_verifier.specs.Lanes as spec;
 ghost use Rattle.vx_verifier.specs.Lanes.{IsHeld, IsRunning, links, is_lost, is_started, Hears, Starts, StartsWhere, Later, Judges, Executes, IsFaultOf};
 
 use crate::lane::{Child, LANE, Trouble, ask, end, leave};
-use crate::program::{programs_are_supported, settled};
+use crate::program::{settled, typed_programs_are_whole};
 use crate::symbols::function_symbols;
 use std::alloc::{AllocError, Global};
 use vx_ast::MemberId;
 use vx_ends::{Parts, Spawner, Turns};
-use vx_executed::executed_functions_are_plain;
 use vx_law::members_are_sound;
 use vx_machine::{Ask, Machine, Outcome};
 use vx_report::{MemberRun, Verdict};
@@ -39,6 +38,13 @@ use vx_typing::Typed;
 
 /// What became of each member with a line, in file order.
 pub type Runs = Vec<MemberRun>;
+
+/// A typed program as it was settled to be verified, and what became of its members.
+#[derive(Drop)]
+pub struct Verification {
+    pub program: Settled,
+    pub runs: Runs,
+}
 
 /// The most checks of a member.
 const LIMIT: u32 = 100_000;
@@ -326,7 +332,7 @@ fn verify_members<W: Spawner, N: Turns>(
     spawner: &mut W,
     turns: &mut N,
 ) -> Result<Runs, AllocError>
-    requires supported { IsSupported (settled program.now) }
+    requires whole { IsWhole (settled program.now) }
     ensures named { IfOk result (λ runs. AreNamed (settled program.now) runs.items) }
     ensures rests { IfOk result (λ runs. RestWithin (settled program.now) runs.items) }
     ensures headline { IfOk result (λ runs. Headline (settled program.now) (W.ended spawner.old) (W.ended spawner.new) (W.faults spawner.old) (W.faults spawner.new) runs.items) }
@@ -341,7 +347,6 @@ fn verify_members<W: Spawner, N: Turns>(
 {
     let functions = function_symbols(alloc, program)?;
     members_are_sound();
-    executed_functions_are_plain();
     let (lane, runs) = execute_all(alloc, program, &functions, command, spawner, turns);
     let Lane { child, checks: _ } = lane;
     end(spawner, child);
@@ -363,13 +368,14 @@ pub fn verify<W: Spawner, N: Turns>(
     certify: bool,
     spawner: &mut W,
     turns: &mut N,
-) -> Result<Runs, AllocError>
+) -> Result<Verification, AllocError>
     requires jobs { jobs ≡ 1 }
     requires certify { certify ≡ false }
-    requires executed { is_executed (resolved_of typed.now) ≡ true }
-    ensures named { IfOk result (λ runs. AreNamed (resolved_of typed.now) runs.items) }
-    ensures rests { IfOk result (λ runs. RestWithin (resolved_of typed.now) runs.items) }
-    ensures headline { IfOk result (λ runs. Headline (resolved_of typed.now) (W.ended spawner.old) (W.ended spawner.new) (W.faults spawner.old) (W.faults spawner.new) runs.items) }
+    requires leave_results { LeaveResults (written_of typed.now) }
+    ensures program { IfOk result (λ v. settled v.program ≡ resolved_of typed.now) }
+    ensures named { IfOk result (λ v. AreNamed (resolved_of typed.now) v.runs.items) }
+    ensures rests { IfOk result (λ v. RestWithin (resolved_of typed.now) v.runs.items) }
+    ensures headline { IfOk result (λ v. Headline (resolved_of typed.now) (W.ended spawner.old) (W.ended spawner.new) (W.faults spawner.old) (W.faults spawner.new) v.runs.items) }
     ensures starts { let start : Start = record { lane = LANE; command = command.now } in (W.starts spawner.new ≡ W.starts spawner.old) ⊎ (W.starts spawner.new ≡ W.starts spawner.old ++ start ∷ []) }
     ensures started { IfOk result (λ _. let start : Start = record { lane = LANE; command = command.now } in
         StartsWhere (some_ask (resolved_of typed.now) (lines (resolved_of typed.now))) (W.starts spawner.old) (W.starts spawner.new) start) }
@@ -378,10 +384,11 @@ pub fn verify<W: Spawner, N: Turns>(
     ensures later { Later (W.ended spawner.old) (W.ended spawner.new) }
     ensures steady { IsTrue (W.steady spawner.old) → W.faults spawner.old < 2 ^ 64 - 1
         → NoCountRose (W.ended spawner.old) (W.ended spawner.new) (W.faults spawner.old) (W.faults spawner.new) }
-    ensures supported { IsSupported (resolved_of typed.now) }
+    ensures whole { IsWhole (resolved_of typed.now) }
 {
     let _ = (jobs, certify);
-    programs_are_supported(typed);
+    typed_programs_are_whole(typed);
     let program = settled(alloc, typed)?;
-    verify_members(alloc, &program, command, spawner, turns)
+    let runs = verify_members(alloc, &program, command, spawner, turns)?;
+    Ok(Verification { program, runs })
 }

@@ -7,5 +7,5 @@ mod lane;
 mod program;
 mod symbols;
 
-pub use execute::{Runs, verify};
-pub use program::{programs_are_supported, settled};
+pub use execute::{Runs, Verification, verify};
+pub use program::{settled, typed_programs_are_whole};

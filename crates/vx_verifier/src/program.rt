@@ -1,15 +1,15 @@
-//! Typed programs that are executed: settled, and supported.
+//! Typed programs, settled, and typed as a whole.
 
-ghost use Rattle.std.specs.Prelude.{◌≡◌, true, IfOk};
+ghost use Rattle.std.specs.Prelude.{◌≡◌, IfOk};
 ghost use Rattle.vx_resolved.specs.Settled.{settled};
-ghost use Rattle.vx_typing.specs.Typed.{resolved_of};
-ghost use Rattle.vx_whole.specs.Executed.{is_executed};
-ghost use Rattle.vx_verifier.specs.Headline.{IsSupported};
+ghost use Rattle.vx_typing.specs.Typed.{resolved_of, written_of};
+ghost use Rattle.vx_settled.specs.WhenSettled.{LeaveResults};
+ghost use Rattle.vx_verifier.specs.Headline.{IsWhole};
 
 use std::alloc::{AllocError, Global};
 use vx_resolved::Settled;
 use vx_settled::{
-    executed_programs_settle_whole, typed_programs_keep_apart, typed_programs_name_apart,
+    typed_programs_keep_apart, typed_programs_name_apart, typed_programs_settle_whole,
 };
 use vx_settling::settle;
 use vx_typing::Typed;
@@ -23,12 +23,13 @@ pub fn settled(alloc: Global, typed: &Typed) -> Result<Settled, AllocError>
     settle(alloc, typed.program())
 }
 
-/// A typed program that is executed is typed as a whole, and no two of its members have one name.
-pub fn programs_are_supported(typed: &Typed)
-    requires { is_executed (resolved_of typed.now) ≡ true }
-    ensures { IsSupported (resolved_of typed.now) }
+/// A typed program is typed as a whole, and no two of its members have one name, where no parameter of a function has the name
+/// of its result: in a text `result` is a reserved word, so this holds of each program that a text spells.
+pub fn typed_programs_are_whole(typed: &Typed)
+    requires { LeaveResults (written_of typed.now) }
+    ensures { IsWhole (resolved_of typed.now) }
 {
-    executed_programs_settle_whole();
+    typed_programs_settle_whole();
     typed_programs_name_apart();
     typed.typed();
 }

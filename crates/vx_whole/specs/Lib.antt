@@ -1,4 +1,3 @@
 pub mod Now
 pub mod Premises
 pub mod Closure
-pub mod Executed

@@ -8,5 +8,5 @@ pub returns-in-Refused-clause-verified : goal.returns-in-Refused-clause-verified
 returns-in-Refused-clause-verified g c =
     let p = written_program c.args.program.now in
     let refused = subst (IsCheckedFrom p) c.in-Refused.is c.in_ok-typed.ensures in
-    let said = inr (p, c.requires, inl (refused.0, refused.1, c.as_bytes.ensures.value ∙ refused.2)) in
+    let said = inr (p, c.requires, (refused.0, refused.1, c.as_bytes.ensures.value ∙ refused.2)) in
     inl (record { told = (Refused, c.as_bytes.result.now, said, c.say.ensures); companion_rests = refl; handed_rests = refl })

@@ -1,6 +1,6 @@
 use Rattle.std.proofs.Common.{[], refl, sym, subst}
 use Rattle.vx_dialogue.proofs.Joined.{append_none}
-use Rattle.vx_verifier.specs.Headline.{IsSupported}
+use Rattle.vx_verifier.specs.Headline.{IsWhole}
 use Rattle.vx_verifier.specs.declared.lane.Child.TheVariants.{NotStarted}
 use Rattle.vx_verifier.proofs.Steady.{none_rose}
 use Rattle.vx_verifier.proofs.execute.verify.Goals as goal
@@ -14,4 +14,4 @@ returns-in_err-program-clause-steady g c = λ steady room.
     (record { spawner = steady; starts = refl; since = []; ended = sym (append_none ended); links = tt; child_is = tt })
 
 pub verify_members-requires : goal.verify_members-requires
-verify_members-requires g c = record { supported = subst IsSupported (sym c.in_ok-program.ensures) c.programs_are_supported.ensures }
+verify_members-requires g c = record { whole = subst IsWhole (sym c.in_ok-program.ensures) c.typed_programs_are_whole.ensures }

@@ -21,7 +21,7 @@ execute_all-lane-requires g c =
     let declared : map declared_symbol c.deref.result.now ≡ function_symbols p = ap (λ ds. map declared_symbol ds) c.deref.ensures.value ∙ c.in_ok-functions.ensures in
     record {
       named = subst AreSpelled (sym declared) (symbols_spelled 0 (function_symbols p) (are_symbols p));
-      spelled = typed_spelled p c.requires.supported.typed;
+      spelled = typed_spelled p c.requires.whole.typed;
     }
 
 pub returns-clause-headline : goal.returns-clause-headline
@@ -37,10 +37,10 @@ returns-clause-headline g c =
     let executed = subst (λ fs. Executes g.W.Link.Link.dialogue fs p before (g.W.Spawner.ended c.execute_all-lane.new.spawner) (g.W.Spawner.faults c.args.spawner.now) (g.W.Spawner.faults c.execute_all-lane.new.spawner)
     c.execute_all-lane.result.0.child c.execute_all-lane.result.0.checks own.items) declared told.1 in
     if_ok_both c.rest.result _ _ _ (λ runs later rested.
-    headline (record { sound = c.members_are_sound.ensures; plain = c.executed_functions_are_plain.ensures }) g.W.Link.Link.dialogue p before (g.W.Spawner.ended c.execute_all-lane.new.spawner) (g.W.Spawner.ended c.end.new.spawner)
+    headline c.members_are_sound.ensures g.W.Link.Link.dialogue p c.requires.whole before (g.W.Spawner.ended c.execute_all-lane.new.spawner) (g.W.Spawner.ended c.end.new.spawner)
     (g.W.Spawner.faults c.args.spawner.now) (g.W.Spawner.faults c.execute_all-lane.new.spawner) (g.W.Spawner.faults c.end.new.spawner)
     c.execute_all-lane.result.0.child c.execute_all-lane.result.0.checks own.items runs.items told.0 named later rested executed (λ turns checks. c.end.ensures.told (function_symbols p) before turns checks)
-    c.end.ensures.later after (typed_fine p c.requires.supported.typed))
+    c.end.ensures.later after (typed_fine p c.requires.whole.typed))
     c.rest.ensures.later c.rest.ensures.rested
 
 pub returns-in_err-functions-clause-steady : goal.returns-in_err-functions-clause-steady
