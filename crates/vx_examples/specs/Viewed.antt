@@ -47,8 +47,8 @@ of_keys =
     ∷ (plus (int 2) (number 5), 6794)
     -- 31 * (31 * 1 + 2) + 3
     ∷ (chosen_term (bool 1) (int 2) (int 3), 1026)
-    -- 31 * 12 + (31 * 12 + (31 * 12 + 7)), and one deeper, where what is denied isn't seen: 31 * 12 four times
-    ∷ (denied (denied (denied (bool 7))), 1123) ∷ (denied (denied (denied (denied (bool 7)))), 1488) ∷ []
+    -- 31 * 12 + (31 * 12 + (31 * 12 + (31 * 12 + 7))), and one deeper, where what is denied isn't seen: 31 * 12 five times
+    ∷ (denied (denied (denied (denied (bool 7)))), 1495) ∷ (denied (denied (denied (denied (denied (bool 7))))), 1860) ∷ []
 
 abbrev pub of_sorts : List (Sort' × Sort)
 of_sorts = (sort'.Int, IntSort) ∷ (sort'.Bool, BoolSort) ∷ (sort'.Real, RealSort) ∷ (sort'.Ref, RefSort) ∷ (sort'.Snap, SnapSort) ∷ []

@@ -31,7 +31,7 @@ ghost use Rattle.vx_states.specs.declared.path.Path.TheVariants as path';
 ghost use Rattle.vx_states.specs.declared.index.Index.{Index};
 ghost use Rattle.vx_states.specs.declared.index.Index.TheVariants as index';
 ghost use Rattle.vx_states.specs.Keys.{mixed, symbol_key, operator_key, within, key_of};
-ghost use Rattle.vx_states.specs.Index.{is_even, finds, meets, IsAlike, IsExtended, IsIndexed};
+ghost use Rattle.vx_states.specs.Index.{is_even, finds, down, IsAlike, IsExtended, IsIndexed};
 ghost use Rattle.vx_states.specs.Paths.{extended, entries};
 ghost use Rattle.vx_states.specs.SymStates.{binding, optional_term, own, state, place_in};
 ghost use Rattle.vx_ast.specs.Syntax as syntax;
@@ -86,14 +86,13 @@ pub fn codes_and_keys()
     ensures codes { Computes code of_codes }
     ensures symbols { Computes symbol_key of_symbols }
     ensures operators { Computes operator_key of_operators }
-    ensures keys { Computes (λ t. key_of t 3) of_keys }
+    ensures keys { Computes (λ t. key_of t 4) of_keys }
     ensures no_depth { within 0 7 ≡ 0 }
     ensures mixed { mixed 2114 7 ≡ 5 }
     ensures even { is_even 6 ≡ true }
     ensures odd { is_even 7 ≡ false }
-    ensures meets { meets 3 13 5 ≡ true }
-    ensures meets_no_more { meets 4 13 5 ≡ false }
-    ensures meets_nothing { meets 0 1 2 ≡ true }
+    ensures down { down 2 13 ≡ 3 }
+    ensures down_nothing { down 0 13 ≡ 13 }
     ensures place { place_in y scene.store ≡ Some 1 }
     ensures no_place { place_in f scene.store ≡ None }
 {}
@@ -112,8 +111,8 @@ pub fn paths_and_indices()
     ensures not_alike { (q : _) (u : Rc Term' Global) → held_term u ≡ bool 1 → IsAlike (index'.Holds' u q index'.Nothing) index'.Nothing → ⊥ }
     ensures indexed { IsIndexed [] index'.Nothing }
     ensures not_indexed { IsIndexed (fact (bool 1) ∷ []) index'.Nothing → ⊥ }
-    ensures extended_index { (q : _) (u : Rc Term' Global) → IsExtended index'.Nothing (index'.Holds' u q index'.Nothing) 0 5 (held_term u) }
-    ensures not_extended { IsExtended index'.Nothing index'.Nothing 0 5 (bool 1) → ⊥ }
+    ensures extended_index { (q : _) (u : Rc Term' Global) (level : ℕ) → IsExtended index'.Nothing (index'.Holds' u q index'.Nothing) level (held_term u) }
+    ensures not_extended { (level : ℕ) → IsExtended index'.Nothing index'.Nothing level (bool 1) → ⊥ }
 {}
 
 /// What an operand's value leads to, before what waits for the whole.

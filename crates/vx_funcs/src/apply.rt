@@ -3,7 +3,7 @@
 ghost use Rattle.std.specs.Prelude.{◌≡◌, IfOk, string_bytes, true};
 ghost use Rattle.vx_ast.specs.Syntax.{joined as joined_of};
 ghost use Rattle.vx_heap.specs.Views.{heap as heap_of, held_term};
-ghost use Rattle.vx_resolved.specs.Resolved.{assertion, function as function_of};
+ghost use Rattle.vx_resolved.specs.Resolved.{function as function_of};
 ghost use Rattle.vx_resolved.specs.Settled.{settled};
 ghost use Rattle.vx_rules.specs.Members.{rules};
 ghost use Rattle.vx_rules.specs.Rules as rule;
@@ -17,23 +17,18 @@ ghost use Rattle.vx_states.specs.Entering.{back_to};
 ghost use Rattle.vx_states.specs.SymStates.{state as state_of};
 ghost use Rattle.vx_terms.specs.Build.{whole_amount};
 
-use crate::measure::step_measuring;
+use crate::measure::{Inside, go_inside, step_measuring};
 use std::alloc::{AllocError, Global};
 use std::rc::Rc;
 use vx_ast::Place;
 use vx_heap::SymHeap;
-use vx_resolved::{Assertion, Function, Settled};
+use vx_resolved::Settled;
 use vx_rules::Code;
-use vx_stack::{Application, Applied, Codes, Conts, Hole, Move, Next, Operand, Values, joined};
+use vx_stack::{
+    Application, Applied, Codes, Conts, Hole, Move, Next, Operand, Values, precondition,
+};
 use vx_states::{Caller, SymState};
 use vx_terms::Term;
-
-/// A function's preconditions, joined.
-pub(crate) fn precondition(alloc: Global, g: &Function) -> Result<Rc<Assertion>, AllocError>
-    ensures { IfOk result (λ a. assertion a.value ≡ joined_of (function_of g.now).place (function_of g.now).requires) }
-{
-    joined(alloc, g.place, &g.preconditions)
-}
 
 /// Consuming a function's precondition, after which its application goes on.
 fn taking_precondition(
@@ -59,16 +54,6 @@ fn taking_precondition(
     Ok(Next::Consume(all, codes, whole, hole))
 }
 
-/// In a function's part, whose parameters are an application's arguments.
-fn in_function(alloc: Global, x: &Application, state: SymState) -> Result<SymState, AllocError>
-    ensures { IfOk result (λ s. state_of s ≡ entered (bind (function_of x.now.function.value).parameters (values_of x.now.arguments.value)) x.now.place (state_of state)) }
-{
-    let arguments = x.arguments.to_vec(alloc)?;
-    let mut state = state;
-    state.enter(alloc, &x.function.parameters, &arguments, x.place)?;
-    Ok(state)
-}
-
 /// The precondition is taken, in the function's part.
 fn step_taking(
     alloc: Global,
@@ -82,11 +67,10 @@ fn step_taking(
 {
     program.keeps_apart();
     vx_depth::rules_read_parts_by_themselves();
-    let caller = state.caller(alloc)?;
-    let caller = Rc::new(alloc, caller)?;
     let heap = state.heap.clone()?;
+    let inside = go_inside(alloc, x, state)?;
+    let Inside { caller, state } = inside;
     let take = taking_precondition(alloc, program, x, caller, heap, hole)?;
-    let state = in_function(alloc, x, state)?;
     conts.next(alloc, program, take, state)
 }
 

@@ -61,12 +61,16 @@ fn tell(
 
 /// In the part of an application's function: what it goes back to, and the state there.
 #[derive(Drop)]
-struct Inside {
-    caller: Rc<Caller>,
-    state: SymState,
+pub(crate) struct Inside {
+    pub caller: Rc<Caller>,
+    pub state: SymState,
 }
 
-fn go_inside(alloc: Global, x: &Application, state: SymState) -> Result<Inside, AllocError>
+pub(crate) fn go_inside(
+    alloc: Global,
+    x: &Application,
+    state: SymState,
+) -> Result<Inside, AllocError>
     ensures caller { IfOk result (λ i. (s : State) → back_to i.caller.value s ≡ rule.back (state_of state) s) }
     ensures state { IfOk result (λ i. state_of i.state ≡ entered (bind (function_of x.now.function.value).parameters (values_of x.now.arguments.value)) x.now.place (state_of state)) }
 {

@@ -14,12 +14,11 @@ ghost use Rattle.vx_states.specs.SymStates.{optional_term, own as own_of, state 
 ghost use Rattle.vx_terms.specs.Build.{whole_amount};
 ghost use Rattle.vx_terms.specs.Sorts.{SnapSort};
 
-use crate::apply::precondition;
 use std::alloc::{AllocError, Global};
 use std::mem;
 use std::rc::Rc;
 use vx_resolved::{Function, Measure, Settled};
-use vx_stack::{Conts, Frame, Hole, Move, Next, Production, Row, Side, Verified};
+use vx_stack::{Conts, Frame, Hole, Move, Next, Production, Row, Side, Verified, precondition};
 use vx_states::{Own, SymState};
 use vx_terms::{Sort, Term};
 

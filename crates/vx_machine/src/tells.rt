@@ -2,10 +2,10 @@
 //! one go, with no question between. An application within them tells in the same way, one level up, until the levels end.
 
 ghost use Rattle.std.specs.Prelude.{◌≡◌, ◌++◌, ◌∷◌, [], ◌<◌, IfOk, OnOk};
-ghost use Rattle.vx_ast.specs.Syntax.{Program, conjoined as conjoined_of, joined as joined_of};
+ghost use Rattle.vx_ast.specs.Syntax.{Program, conjoined as conjoined_of};
 ghost use Rattle.vx_heap.specs.Views.{held_term, terms_of};
 ghost use Rattle.vx_machine.specs.Told.{left_by, said_by, value_told, Leaves};
-ghost use Rattle.vx_resolved.specs.Resolved.{assertion, expr, function as function_of};
+ghost use Rattle.vx_resolved.specs.Resolved.{expr, function as function_of};
 ghost use Rattle.vx_resolved.specs.Settled.{settled};
 ghost use Rattle.vx_rules.specs.Members.{rules};
 ghost use Rattle.vx_rules.specs.Rules as rule;
@@ -20,9 +20,10 @@ ghost use Rattle.vx_terms.specs.Views.{terms as terms_view};
 use crate::ready::{Ready, come_back};
 use std::alloc::{AllocError, Global};
 use std::rc::Rc;
-use vx_resolved::{Assertion, Expr, Function, Settled};
+use vx_resolved::{Expr, Function, Settled};
 use vx_stack::{
-    Applied, Conts, Frame, Hole, Left, Move, Next, Production, Side, Values, conjoined, joined,
+    Applied, Conts, Frame, Hole, Left, Move, Next, Production, Side, Values, conjoined,
+    precondition,
 };
 use vx_states::{SymState, sort_of_value};
 use vx_steps::step;
@@ -101,13 +102,6 @@ fn value_of(alloc: Global, program: &Settled, x: &Applied) -> Result<Rc<Term>, A
     let of = sort_of_value(application.function.of);
     let arguments = terms_from(alloc, &application.arguments)?;
     snapshots::application(alloc, number, of, &x.snapshot, &arguments)
-}
-
-/// A function's preconditions, joined.
-fn precondition(alloc: Global, g: &Function) -> Result<Rc<Assertion>, AllocError>
-    ensures { IfOk result (λ a. assertion a.value ≡ joined_of (function_of g.now).place (function_of g.now).requires) }
-{
-    joined(alloc, g.place, &g.preconditions)
 }
 
 /// The side of an expression of a function, behind its precondition with a snapshot.

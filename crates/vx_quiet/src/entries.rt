@@ -1,6 +1,6 @@
 //! The entries of a path, and those of a kind joined.
 
-ghost use Rattle.std.specs.Prelude.{◌≡◌, ◌∷◌, List, IfOk, true, false, drop, if◌then◌else◌, length, map, not};
+ghost use Rattle.std.specs.Prelude.{◌≡◌, ◌-◌, ◌∷◌, List, IfOk, true, false, drop, if◌then◌else◌, length, map, not};
 ghost use Rattle.vx_heap.specs.Views.{held_term};
 ghost use Rattle.vx_quiet.specs.Views.{entry};
 ghost use Rattle.vx_rules.specs.States as states;
@@ -19,14 +19,15 @@ pub struct Entry {
     pub is_branch: bool,
 }
 
-/// All entries, the oldest first.
+/// The newest so many entries, in path order; where there are fewer, all of them.
 #[tactic(auto, using(crate::proofs::Taken::taken_over))]
-pub(crate) fn all_entries(alloc: Global, path: &Path) -> Result<Vec<Entry>, AllocError>
-    ensures { IfOk result (λ v. map entry v.items ≡ entries path.now) }
+pub(crate) fn newest(alloc: Global, path: &Path, count: usize) -> Result<Vec<Entry>, AllocError>
+    ensures { IfOk result (λ v. map entry v.items ≡ drop (length (entries path.now) - count) (entries path.now)) }
 {
     let mut taken = Vec::new(alloc);
     let mut rest = path;
-    'entries: loop {
+    let mut left = count;
+    'entries: while left > 0 {
         match rest {
             Path::Empty => break 'entries,
             Path::Branch(before, term) => {
@@ -44,6 +45,7 @@ pub(crate) fn all_entries(alloc: Global, path: &Path) -> Result<Vec<Entry>, Allo
                 rest = before;
             }
         }
+        left -= 1;
     }
     taken.reverse();
     Ok(taken)
@@ -81,24 +83,6 @@ pub(crate) fn conjunction(
     Ok(all)
 }
 
-/// How many entries a path has.
-fn count(alloc: Global, path: &Path) -> Result<usize, AllocError>
-    ensures { IfOk result (λ n. n ≡ length (entries path.now)) }
-{
-    let all = all_entries(alloc, path)?;
-    Ok(all.len())
-}
-
-/// What stands behind the first so many.
-fn behind(those: &[Entry], count: usize) -> &[Entry]
-    ensures { map entry result.now ≡ drop count (map entry those.now) }
-{
-    if count <= those.len() {
-        return &those[count..];
-    }
-    &[]
-}
-
 /// The branches that a side brought, joined, and its facts, joined.
 #[derive(Drop)]
 pub(crate) struct News {
@@ -115,11 +99,10 @@ pub(crate) fn news_since(
     ensures branches { IfOk result (λ b. held_term b.branches ≡ states.conjunction true (states.new_entries (state before.now) (state after.now))) }
     ensures facts { IfOk result (λ b. held_term b.facts ≡ states.conjunction false (states.new_entries (state before.now) (state after.now))) }
 {
-    let count = count(alloc, &before.path.path)?;
-    let all = all_entries(alloc, &after.path.path)?;
-    let new = behind(&all, count);
+    let count = after.path.count.saturating_sub(before.path.count);
+    let new = newest(alloc, &after.path.path, count)?;
     Ok(News {
-        branches: conjunction(alloc, true, new)?,
-        facts: conjunction(alloc, false, new)?,
+        branches: conjunction(alloc, true, &new)?,
+        facts: conjunction(alloc, false, &new)?,
     })
 }

@@ -1,13 +1,13 @@
 //! Clauses joined by `&&`.
 
 ghost use Rattle.std.specs.Prelude.{◌≡◌, IfOk};
-ghost use Rattle.vx_resolved.specs.Resolved.{assertion, assertions, expr, expressions};
+ghost use Rattle.vx_resolved.specs.Resolved.{assertion, assertions, expr, expressions, function};
 ghost use Rattle.vx_ast.specs.Syntax as syntax;
 
 use std::alloc::{AllocError, Global};
 use std::rc::Rc;
 use vx_ast::Place;
-use vx_resolved::{Assertion, Connective, Expr};
+use vx_resolved::{Assertion, Connective, Expr, Function};
 
 /// The clauses of one kind, joined in order to the left; none is `true` at this place.
 pub fn joined(
@@ -30,6 +30,13 @@ pub fn joined(
             Ok(all)
         }
     }
+}
+
+/// A function's preconditions, joined.
+pub fn precondition(alloc: Global, g: &Function) -> Result<Rc<Assertion>, AllocError>
+    ensures { IfOk result (λ a. assertion a.value ≡ syntax.joined (function g.now).place (function g.now).requires) }
+{
+    joined(alloc, g.place, &g.preconditions)
 }
 
 /// Where an expression stands.

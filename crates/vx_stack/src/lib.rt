@@ -8,7 +8,7 @@ mod question;
 mod search;
 mod waiting;
 
-pub use clauses::{as_assertion, conjoined, joined, place_of};
+pub use clauses::{as_assertion, conjoined, joined, place_of, precondition};
 pub use conts::{Conts, Left, Move};
 pub use frame::{Frame, Hole, Next, Row, Side, Taken};
 pub use question::Query;

@@ -1,5 +1,5 @@
 -- Paths and stores of src/ against those of the rules.
-use Rattle.std.proofs.Common.{◌≡◌, ℕ, suc, ◌<◌, Bool, true, false, cond, ◌||◌, ◌++◌, List, [], ◌∷◌, map, length, get_or, Option, Some, None, option_map, refl, sym, ap, ◌∙◌, arith, reverse, append_assoc, append-nil}
+use Rattle.std.proofs.Common.{◌≡◌, ℕ, suc, ◌+◌, ◌<◌, Bool, true, false, cond, ◌||◌, ◌++◌, List, [], ◌∷◌, map, length, get_or, Option, Some, None, option_map, refl, sym, ap, ◌∙◌, arith, reverse, append_assoc, append-nil}
 use Rattle.std.proofs.lemmas.List.{reverse-append}
 use Rattle.std.specs.Prelude.{slice_set}
 use Rattle.vx_ast.specs.Syntax.{Name, same_name}
@@ -24,6 +24,11 @@ in_path_extended t (e ∷ es) u branch = ap (λ b. same t e.term || b) (in_path_
 pub path_terms_extended : (es : List Entry) (u : Term) (branch : Bool) → path_terms (extended es u branch) ≡ path_terms es ++ u ∷ []
 path_terms_extended [] u branch = refl
 path_terms_extended (e ∷ es) u branch = ap (λ l. e.term ∷ l) (path_terms_extended es u branch)
+
+-- one more entry is one more
+pub one_longer : (es : List Entry) (u : Term) (branch : Bool) → length es + 1 ≡ length (extended es u branch)
+one_longer [] u branch = omega arith
+one_longer (e ∷ es) u branch = let h = one_longer es u branch in omega (arith, h)
 
 -- one more entry is taken over
 pub taken_over : {A : Type 0} (f : A → Term) (es : List Entry) (u : Term) (branch : Bool) (taken : List A) (a : A) → f a ≡ u →

@@ -1,6 +1,6 @@
 //! A path with an index, by which its terms are found again without a walk.
 
-ghost use Rattle.std.specs.Prelude.{◌≡◌, [], IfOk, true, false};
+ghost use Rattle.std.specs.Prelude.{◌≡◌, ◌+◌, [], IfOk, true, false, length};
 ghost use Rattle.vx_states.specs.Index.{IsIndexed};
 ghost use Rattle.vx_rules.specs.States.{in_path};
 ghost use Rattle.vx_states.specs.Paths.{entries, extended};
@@ -8,18 +8,30 @@ ghost use Rattle.vx_heap.specs.Views.{held_term};
 ghost use Rattle.vx_terms.specs.Views.{term};
 
 use crate::Path;
-use crate::index::{BITS, Index, with_term};
+use crate::index::{Index, with_term};
 use crate::key::key;
 use std::alloc::{AllocError, Global};
 use std::rc::Rc;
 use vx_terms::Term;
 
-/// A path whose terms are indexed.
+/// A path whose terms are indexed, with the number of its entries.
 #[derive(Drop)]
 pub struct IndexedPath {
     pub path: Path,
     pub index: Index,
+    pub count: usize,
     ghost indexed: { IsIndexed (entries path) index },
+    ghost counted: { count ≡ length (entries path) },
+}
+
+/// One entry more; a number that has no room for it is want of memory.
+fn one_more(count: usize) -> Result<usize, AllocError>
+    ensures { IfOk result (λ n. n ≡ count + 1) }
+{
+    match count.checked_add(1) {
+        Some(more) => Ok(more),
+        None => Err(AllocError),
+    }
 }
 
 impl IndexedPath {
@@ -30,6 +42,7 @@ impl IndexedPath {
         IndexedPath {
             path: Path::Empty,
             index: Index::Nothing,
+            count: 0,
         }
     }
 
@@ -40,6 +53,7 @@ impl IndexedPath {
         Ok(IndexedPath {
             path: self.path.copy()?,
             index: self.index.copy()?,
+            count: self.count,
         })
     }
 
@@ -54,19 +68,21 @@ impl IndexedPath {
     pub fn add_fact(self, alloc: Global, t: Rc<Term>) -> Result<IndexedPath, AllocError>
         ensures { IfOk result (λ more. entries more.path ≡ extended (entries self.path) (held_term t) false) }
     {
-        let IndexedPath { path, index } = self;
-        let index = with_term(alloc, &index, BITS, key(&t), &t)?;
+        let IndexedPath { path, index, count } = self;
+        let index = with_term(alloc, &index, 0, key(&t), &t)?;
         let path = Path::Fact(Rc::new(alloc, path)?, t);
-        Ok(IndexedPath { path, index })
+        let count = one_more(count)?;
+        Ok(IndexedPath { path, index, count })
     }
 
     /// A branch's condition after the others.
     pub fn add_branch(self, alloc: Global, t: Rc<Term>) -> Result<IndexedPath, AllocError>
         ensures { IfOk result (λ more. entries more.path ≡ extended (entries self.path) (held_term t) true) }
     {
-        let IndexedPath { path, index } = self;
-        let index = with_term(alloc, &index, BITS, key(&t), &t)?;
+        let IndexedPath { path, index, count } = self;
+        let index = with_term(alloc, &index, 0, key(&t), &t)?;
         let path = Path::Branch(Rc::new(alloc, path)?, t);
-        Ok(IndexedPath { path, index })
+        let count = one_more(count)?;
+        Ok(IndexedPath { path, index, count })
     }
 }

@@ -9,7 +9,7 @@ use vx_frac::Frac;
 use vx_terms::{Operator, Symbol, Term, Terms};
 
 /// So many levels below its root a term is looked at.
-const DEPTH: u8 = 3;
+const DEPTH: u8 = 4;
 
 fn mix(left: u16, right: u16) -> u16
     ensures { result ≡ mixed left right }
@@ -116,7 +116,7 @@ fn key_down(t: &Term, depth: u8) -> u16
 
 /// The key of a term; one and the same term has one key.
 pub fn key(t: &Term) -> u16
-    ensures { result ≡ key_of (term t.now) 3 }
+    ensures { result ≡ key_of (term t.now) 4 }
 {
     key_down(t, DEPTH)
 }

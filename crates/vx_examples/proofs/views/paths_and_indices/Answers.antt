@@ -18,7 +18,7 @@ pub returns-clause-not_alike : goal.returns-clause-not_alike
 returns-clause-not_alike c q u e h = true≢false (ap (λ t. terms.same (bool 1) t || false) (sym e) ∙ h 5 (bool 1))
 
 pub returns-clause-extended_index : goal.returns-clause-extended_index
-returns-clause-extended_index c q u k v = or_no (terms.same v (held_term u))
+returns-clause-extended_index c q u level v = or_no (terms.same v (held_term u))
 
 pub returns-clause-not_extended : goal.returns-clause-not_extended
-returns-clause-not_extended c h = true≢false (sym (h 5 (bool 1)))
+returns-clause-not_extended c level h = true≢false (sym (h (bool 1)))
