@@ -9,11 +9,11 @@ rest_apart : (ds es : List Declared) → AreApart (ds ++ es) → AreApart es
 rest_apart [] es h = h
 rest_apart (d ∷ ds) es h = rest_apart ds es h.1
 
-opened_declares : (n : ℕ) (levels : List Level) → declared_in (opened n levels) ≡ declared_in levels
+pub opened_declares : (n : ℕ) (levels : List Level) → declared_in (opened n levels) ≡ declared_in levels
 opened_declares zero levels = refl
 opened_declares (suc n) levels = opened_declares n levels
 
-dropped_apart : (n : ℕ) (levels : List Level) → AreApart (declared_in levels) → AreApart (declared_in (drop n levels))
+pub dropped_apart : (n : ℕ) (levels : List Level) → AreApart (declared_in levels) → AreApart (declared_in (drop n levels))
 dropped_apart zero levels h = h
 dropped_apart (suc n) [] h = h
 dropped_apart (suc n) (l ∷ levels) h = dropped_apart n levels (rest_apart l.symbols (declared_in levels) h)

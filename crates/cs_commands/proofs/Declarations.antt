@@ -26,7 +26,7 @@ use Rattle.cs_commands.proofs.Spellings.{symbol_text, symbol_is_name, symbol_bac
 pub same_number : (n : ℕ) → nat_eq n n ≡ true
 same_number n = eq-eqb n n refl
 
-symbol_same : (f : Symbol) → same_symbol f f ≡ true
+pub symbol_same : (f : Symbol) → same_symbol f f ≡ true
 symbol_same (Standard n) = same_number n
 symbol_same (Function n) = same_number n
 symbol_same (Variable n) = same_number n

@@ -13,6 +13,7 @@ pub mod WrittenCommands
 pub mod Passed
 pub mod ReadTerms
 pub mod ReadCommands
+pub mod OwnWords
 pub mod Following
 pub mod Sorted
 pub mod Alike

@@ -55,7 +55,7 @@ minus_head scope = refl
 slash_head : (scope : Scope) → head_at scope (written.word (codes "/")) ≡ Ok SlashHead
 slash_head scope = refl
 
-negative_number : (n : ℕ) → negative (Number (pos (n + 1))) ≡ Some (Number (negsuc n))
+pub negative_number : (n : ℕ) → negative (Number (pos (n + 1))) ≡ Some (Number (negsuc n))
 negative_number n = ap (λ k. negative (Number (pos k))) (add-one n)
 
 pub reads_number : (scope : Scope) (z : ℤ) → nat_abs z < 2 ^ 127 → Reads scope (written.signed_tokens z (λ n. Atom kinds.Numeral (written.numeral n) ∷ [])) (Number z)
@@ -67,10 +67,10 @@ reads_number scope (negsuc n) h =
 
 -- ---- decimals
 
-abbrev frac : ℤ → ℕ → Fraction
+abbrev pub frac : ℤ → ℕ → Fraction
 frac z d = record { numerator = z; below = d }
 
-lowest_whole : (n : ℕ) → lowest (whole (pos n)) ≡ whole (pos n)
+pub lowest_whole : (n : ℕ) → lowest (whole (pos n)) ≡ whole (pos n)
 unfolding lowest
 lowest_whole n = let one : (n * 1) / 1 ≡ n = omega arith in ap (λ k. frac (pos k) 0) one
 
@@ -98,7 +98,7 @@ with_none n h =
     ∙ ap (λ z. Some (lowest (frac z 0))) (sum_is n)
     ∙ ap Some (lowest_whole n)
 
-decimal_back : (n : ℕ) → n < 2 ^ 127 → decimal (written.decimal n) ≡ Some (whole (pos n))
+pub decimal_back : (n : ℕ) → n < 2 ^ 127 → decimal (written.decimal n) ≡ Some (whole (pos n))
 unfolding written.decimal
 decimal_back n h =
     let around = point_before (written.numeral n) (48 ∷ []) (numeral_is n).1 no_digit in
@@ -119,13 +119,13 @@ one_lowest d k a b = eq-one_of_dvd-one a
 above_none : (n : ℕ) → pos 0 <ℤ pos (suc n)
 above_none n = record { lt = yes_ltb (omega arith) }
 
-inverse_back : (d : ℕ) → inverse (whole (pos (suc (suc d)))) ≡ Some (frac (pos 1) (suc d))
+pub inverse_back : (d : ℕ) → inverse (whole (pos (suc (suc d)))) ≡ Some (frac (pos 1) (suc d))
 inverse_back d = let less : suc (suc d) - 1 ≡ suc d = omega arith in ap Some (sym (is_lowest (pos 1) (pos (suc (suc d))) (pos 1) (pos (suc (suc d))) (above_none (suc d)) (above_none (suc d)) (one_lowest d) refl) ∙ ap (λ n. frac (pos 1) n) less)
 
-product_small : (p d : ℕ) → p < 2 ^ 127 → suc (suc d) < 2 ^ 127 → product_fits (whole (pos p)) (frac (pos 1) (suc d)) ≡ true
+pub product_small : (p d : ℕ) → p < 2 ^ 127 → suc (suc d) < 2 ^ 127 → product_fits (whole (pos p)) (frac (pos 1) (suc d)) ≡ true
 product_small p d h k = both_true _ _ (ap fits_i128 (times_one p) ∙ fits_small p h) (ap fits_i128 (ap pos (omega arith)) ∙ fits_small (suc (suc d)) k)
 
-product_is : (p d : ℕ) → product (whole (pos p)) (frac (pos 1) (suc d)) ≡ frac (pos p) (suc d)
+pub product_is : (p d : ℕ) → product (whole (pos p)) (frac (pos 1) (suc d)) ≡ frac (pos p) (suc d)
 product_is p d = ap₂ (λ z n. frac z n) (times_one p) (omega arith)
 
 quotient_back : (p d : ℕ) → p < 2 ^ 127 → suc (suc d) < 2 ^ 127 → lowest (frac (pos p) (suc d)) ≡ frac (pos p) (suc d) → quotient_of (whole (pos p)) (whole (pos (suc (suc d)))) ≡ Ok (Part (frac (pos p) (suc d)))
@@ -154,12 +154,12 @@ turned z zero e = absurd (cc)
 turned z (suc n) e = let is : negsuc n ≡ negsuc z = e in let same : n ≡ z = cc in ap suc same
 
 -- without its sign it is in lowest terms too
-unsigned_lowest : (p d : ℕ) → lowest (frac (negsuc p) d) ≡ frac (negsuc p) d → lowest (frac (pos (suc p)) d) ≡ frac (pos (suc p)) d
+pub unsigned_lowest : (p d : ℕ) → lowest (frac (negsuc p) d) ≡ frac (negsuc p) d → lowest (frac (pos (suc p)) d) ≡ frac (pos (suc p)) d
 unfolding lowest
 unsigned_lowest p d e =
     ap₂ (λ z n. frac z n) (ap pos (turned p _ (ap (λ a. a.numerator) e))) (ap (λ a. a.below) e)
 
-negative_part : (p d : ℕ) → lowest (frac (negsuc p) d) ≡ frac (negsuc p) d → negative (Part (frac (pos (p + 1)) d)) ≡ Some (Part (frac (negsuc p) d))
+pub negative_part : (p d : ℕ) → lowest (frac (negsuc p) d) ≡ frac (negsuc p) d → negative (Part (frac (pos (p + 1)) d)) ≡ Some (Part (frac (negsuc p) d))
 negative_part p d low =
     ap (λ n. negative (Part (frac (pos n) d))) (add-one p)
     ∙ ap (λ n. Some (Part (lowest (frac (negsuc p) n)))) (omega arith)

@@ -72,7 +72,7 @@ symbol_is_new scope x f e =
 
 -- ---- parts
 
-ended_is : (c d : Command) (ts : List Token) → reading.ended c ts ≡ Ok d → c ≡ d
+pub ended_is : (c d : Command) (ts : List Token) → reading.ended c ts ≡ Ok d → c ≡ d
 ended_is c d [] e = not_ok e
 ended_is c d (Close ∷ []) e = ok_is e
 ended_is c d (Close ∷ t ∷ ts) e = not_ok e

@@ -48,7 +48,7 @@ keyword_text (b ∷ c ∷ x) e =
 
 -- ---- words
 
-other : (x y : List ℕ) → (x ≡ y → ⊥) → bytes_eq x y ≡ false
+pub other : (x y : List ℕ) → (x ≡ y → ⊥) → bytes_eq x y ≡ false
 other x y no_same = go (bytes_eq x y) refl
   where
     go : (b : Bool) → bytes_eq x y ≡ b → bytes_eq x y ≡ false
@@ -56,9 +56,9 @@ other x y no_same = go (bytes_eq x y) refl
     go false e = e
 
 -- a word of a symbol is none of these
-record HasNoMeaning (x : List ℕ) : Type 0 where
-  words : ((x ≡ codes "true") ⊎ (x ≡ codes "false") ⊎ (x ≡ codes "not") ⊎ (x ≡ codes "ite") ⊎ (x ≡ codes "/")) → ⊥
-  operator : (o : Operator) → x ≡ written.operator_word o → ⊥
+pub record HasNoMeaning (x : List ℕ) : Type 0 where
+  pub words : ((x ≡ codes "true") ⊎ (x ≡ codes "false") ⊎ (x ≡ codes "not") ⊎ (x ≡ codes "ite") ⊎ (x ≡ codes "/")) → ⊥
+  pub operator : (o : Operator) → x ≡ written.operator_word o → ⊥
 
 no_meaning : (x : List ℕ) → HasNoMeaning x → term_word x ≡ words.Name
 no_meaning x h = rw (
@@ -81,7 +81,7 @@ no_meaning x h = rw (
 ) refl
 
 -- digits stand behind its first letter
-abbrev is_lettered : List ℕ → Bool
+abbrev pub is_lettered : List ℕ → Bool
 is_lettered [] = false
 is_lettered (c ∷ w) = list_all is_digit w && not (is_empty w)
 
@@ -92,7 +92,7 @@ numeral_lettered b n = by_text (written.numeral n) (numeral_is n).0 (numeral_is 
     by_text [] e f = absurd (cc)
     by_text (c ∷ x) e f = rw f refl
 
-not_lettered : (b n : ℕ) (w : List ℕ) → is_lettered w ≡ false → b ∷ written.numeral n ≡ w → ⊥
+pub not_lettered : (b n : ℕ) (w : List ℕ) → is_lettered w ≡ false → b ∷ written.numeral n ≡ w → ⊥
 not_lettered b n w plain e = true≢false (sym (numeral_lettered b n) ∙ ap is_lettered e ∙ plain)
 
 numbered_plain : (b n : ℕ) → HasNoMeaning (b ∷ written.numeral n)
@@ -119,7 +119,7 @@ numbered_plain b n = record { words = in_words; operator = λ o e. not_lettered 
     plain Div = refl
     plain Mod = refl
 
-symbol_plain : (f : Symbol) → IsName f → HasNoMeaning (written.symbol_word f)
+pub symbol_plain : (f : Symbol) → IsName f → HasNoMeaning (written.symbol_word f)
 symbol_plain (Standard n) e = numbered_plain 115 n
 symbol_plain (Function n) e = numbered_plain 102 n
 symbol_plain (Variable n) e = numbered_plain 118 n

@@ -27,7 +27,7 @@ abbrev pub items : Terms → List Term
 items NoTerms = []
 items (MoreTerms t ts) = t ∷ items ts
 
-listed_items : (ts : Terms) → listed (items ts) ≡ ts
+pub listed_items : (ts : Terms) → listed (items ts) ≡ ts
 listed_items NoTerms = refl
 listed_items (MoreTerms t ts) = ap (MoreTerms t) (listed_items ts)
 

@@ -1,14 +1,19 @@
 -- What is understood may follow, is well-sorted, and is the same in any order of the declarations.
-use Rattle.std.specs.Prelude.{◌≡◌, ⊤, ◌<◌, List, length, reverse, Ok}
+use Rattle.std.specs.Prelude.{◌≡◌, ⊤, ℕ, ◌<◌, true, List, length, reverse, Ok}
 use Rattle.vx_sexp.specs.declared.token.Token.{Token}
+use Rattle.vx_sexp.specs.Tokens.{Lexes, is_symbol}
 use Rattle.vx_terms.specs.Sorts.{Sort, BoolSort, Symbol}
 use Rattle.vx_terms.specs.Terms.{Term}
-use Rattle.vx_smt_meaning.specs.Commands.{Command, Assert, Pop, Level, declared_in, stack_after}
+use Rattle.vx_smt_meaning.specs.Commands.{Command, DeclareFun, Assert, Pop, Declared, Level, declared_in, stack_after}
+use Rattle.vx_smt_meaning.specs.Words.{symbol_word}
 use Rattle.vx_smt_meaning.specs.WellFormed.{knows_sort, MayFollow}
 use Rattle.cs_certificate.specs.Terms.{HasSort}
+use Rattle.cs_commands.specs.declared.word.Word.TheVariants as words
+use Rattle.cs_commands.specs.Words.{term_word}
+use Rattle.cs_commands.specs.Names.{symbol_named}
 use Rattle.cs_commands.specs.Live.{Scope, declared_as}
 use Rattle.cs_commands.specs.Commands.{understood}
-use Rattle.cs_commands.specs.Laws.{scope_of, AreApart}
+use Rattle.cs_commands.specs.Laws.{scope_of, AreApart, IsSmallSymbol}
 
 -- ---- what is understood may follow
 
@@ -24,6 +29,19 @@ UnderstoodMayFollow = (levels : List Level) (tokens : List Token) (c : Command) 
 -- an assertion is well-sorted, over any scope
 abbrev pub UnderstoodIsSorted : Type 0
 UnderstoodIsSorted = (scope : Scope) (tokens : List Token) (t : Term) → understood scope tokens ≡ Ok (Assert t) → HasSort t BoolSort
+
+-- ---- a symbol that is declared has a word of its own
+
+-- its word is a symbol of SMT-LIB and no word of terms, and is read as this symbol
+pub record HasWord (f : Symbol) : Type 0 where
+  pub spelled : is_symbol (symbol_word f) ≡ true
+  pub free : term_word (symbol_word f) ≡ words.Name
+  pub back : symbol_named (symbol_word f) ≡ f
+  pub small : IsSmallSymbol f
+
+-- over any scope, where the tokens are those of some bytes
+abbrev pub UnderstoodHasWord : Type 0
+UnderstoodHasWord = (scope : Scope) (bytes rest : List ℕ) (tokens : List Token) (d : Declared) → Lexes bytes tokens rest → understood scope tokens ≡ Ok (DeclareFun d) → HasWord d.symbol
 
 -- ---- what is understood is the same in any order
 

@@ -11,16 +11,19 @@ ghost use Rattle.cs_decide.specs.Answers.{IsRight};
 use crate::answer::{Answer, Cause};
 use cs_model::{Model, is_model};
 use cs_proof::{Checker, Stack, Step, finished_refutes};
-use cs_reader::{Refusal, Symbols};
+use cs_reader::{Refusal, SymbolIndex, Symbols};
 use cs_table::Stop;
 use std::alloc::Global;
 use vx_frac::Over;
+use vx_smt_meaning::Declared;
 
 /// What the checker says of a certificate's steps.
 fn verdict(alloc: Global, stack: &Stack, steps: &[Step]) -> Result<Result<(), Refusal>, Stop>
     ensures { IfOk result (λ told. Each IsSorted (seen stack.now).assertions → IfOk told (λ _. Answers (seen stack.now) (map written steps.now) Finished)) }
 {
-    let symbols = Symbols::new(alloc, &stack.symbols)?;
+    let declared: &[Declared] = &stack.symbols;
+    let index = SymbolIndex::of(alloc, declared)?;
+    let symbols = Symbols::new(declared, &index);
     match Checker::of(alloc, stack, &symbols, steps) {
         Ok(checker) => Ok(checker.finish()),
         Err(_) => Err(Stop::Want),

@@ -10,7 +10,7 @@ abbrev or_else : Option ℕ → Option ℕ → Option ℕ
 or_else (Some n) o = Some n
 or_else None o = o
 
-abbrev AreBelow : ℕ → List ℕ → Type 0
+abbrev pub AreBelow : ℕ → List ℕ → Type 0
 AreBelow n [] = Unit {0}
 AreBelow n (m ∷ ms) = (m < n) × AreBelow n ms
 
@@ -18,7 +18,7 @@ below_from : (n : ℕ) (ms : List ℕ) → All (λ m. m < n) ms → AreBelow n m
 below_from n [] h = tt
 below_from n (m ∷ ms) h = (h 0 m (omega arith), below_from n ms (λ k d lt. h (suc k) d (omega arith)))
 
-below_all : (n : ℕ) (ms : List ℕ) → AreBelow n ms → All (λ m. m < n) ms
+pub below_all : (n : ℕ) (ms : List ℕ) → AreBelow n ms → All (λ m. m < n) ms
 below_all n [] h k d lt = absurd (omega arith)
 below_all n (m ∷ ms) h zero d lt = h.0
 below_all n (m ∷ ms) h (suc k) d lt = below_all n ms h.1 k d (omega arith)
@@ -81,7 +81,7 @@ within_last : (n : ℕ) (ns : List ℕ) → AreBelow n ns → AreBelow (suc n) (
 within_last n [] h = (omega arith, tt)
 within_last n (m ∷ ns) h = (let a = h.0 in omega arith, within_last n ns h.1)
 
-length_more : {A : Type 0} (xs : List A) (x : A) → length (xs ++ x ∷ []) ≡ suc (length xs)
+pub length_more : {A : Type 0} (xs : List A) (x : A) → length (xs ++ x ∷ []) ≡ suc (length xs)
 length_more [] x = refl
 length_more (y ∷ xs) x = ap suc (length_more xs x)
 

@@ -1,3 +1,4 @@
 pub mod Keys
 pub mod Under
 pub mod Found
+pub mod Exact

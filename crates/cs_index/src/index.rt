@@ -1,5 +1,5 @@
 //! An index: under each key stand some numbers.
-ghost use Rattle.std.specs.Prelude.{◌≡◌, ℕ, [], nat_eq, OnOk, OnErr};
+ghost use Rattle.std.specs.Prelude.{◌≡◌, ◌-◌, ℕ, [], length, nat_eq, take, OnOk, OnErr};
 
 use std::alloc::{AllocError, Global};
 use std::collections::HashMap;
@@ -11,8 +11,16 @@ pub struct Index {
     rows: HashMap<u64, Vec<u32>>,
 }
 
+/// Leaves out the last number, if there is one.
+fn shorten(row: &mut Vec<u32>)
+    ensures { row.new.items ≡ take (length row.old.items - 1) row.old.items }
+{
+    let left = row.len().saturating_sub(1);
+    row.truncate(left);
+}
+
 impl Index {
-    ghost use Rattle.cs_index.specs.Under.{under, with_number};
+    ghost use Rattle.cs_index.specs.Under.{under, with_number, without_last};
 
     /// No number stands under any key. No memory is taken.
     pub fn new(alloc: Global) -> Index
@@ -50,5 +58,24 @@ impl Index {
         row.push(number)?;
         self.rows.insert(key, row)?;
         Ok(())
+    }
+
+    /// Takes the last number from under a key, if there is one. No memory.
+    pub fn take_last(&mut self, key: u64)
+        ensures { (k : ℕ) → under self.new k ≡ without_last (nat_eq key k) (under self.old k) }
+    {
+        if let Some(row) = self.rows.get_mut(&key) {
+            shorten(row);
+        }
+        self.drop_empty(key);
+    }
+
+    // an empty row takes memory, and says no more than none
+    fn drop_empty(&mut self, key: u64)
+        ensures { (k : ℕ) → under self.new k ≡ under self.old k }
+    {
+        if self.under(key).is_empty() {
+            self.rows.remove(&key);
+        }
     }
 }

@@ -21,9 +21,10 @@ use crate::step::{Step, steps_of};
 use cs_farkas::{Break, Combination, Sums, refutes};
 use cs_hints::{Clause, Marks, refutes_by};
 use cs_numbers::number;
-use cs_reader::{Certificate, Refusal, Symbols};
+use cs_reader::{Certificate, Refusal, SymbolIndex, Symbols};
 use cs_table::{Node, Stop, Table};
 use std::alloc::{AllocError, Global};
+use vx_smt_meaning::Declared;
 
 /// The first items, so many where there are as many.
 fn first<T>(items: &[T], count: usize) -> &[T]
@@ -185,7 +186,9 @@ impl Checker {
         ensures value { IfOk result (λ c. Begins (plans.plans_of (seen stack.now) (all_meant (seen stack.now) (seen_certificate certificate))) (checker c)) }
         ensures answers { Each IsSorted (seen stack.now).assertions → (v : clean.Verdict) → IfOk result (λ c. Answers (seen stack.now) (all_meant (seen stack.now) (seen_certificate certificate)) v ↔ (v ≡ clean.verdict (checker c))) }
     {
-        let symbols = Symbols::new(alloc, &stack.symbols)?;
+        let declared: &[Declared] = &stack.symbols;
+        let index = SymbolIndex::of(alloc, declared)?;
+        let symbols = Symbols::new(declared, &index);
         let steps = steps_of(alloc, &symbols, certificate)?;
         Checker::of(alloc, stack, &symbols, &steps)
     }

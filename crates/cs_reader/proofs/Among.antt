@@ -1,16 +1,16 @@
 -- A word has the key of each symbol that it spells.
-use Rattle.std.proofs.Common.{◌≡◌, ℕ, Bool, true, false, nat_eq, List, [], ◌∷◌, Option, Some, None, refl, sym, ◌∙◌, ap, ap₂, eqb-true}
+use Rattle.std.proofs.Common.{◌≡◌, ℕ, Bool, true, false, nat_eq, List, [], ◌∷◌, Option, Some, None, refl, sym, ap, ap₂, eqb-true}
 use Rattle.std.specs.Prelude.{if◌then◌else◌}
 use Rattle.vx_terms.specs.Sorts.{Symbol, Standard, Function, Variable, Named, same_text}
 use Rattle.vx_terms.proofs.Same.{and_parts}
-use Rattle.vx_smt_meaning.specs.Commands.{Declared}
-use Rattle.cs_index.specs.declared.index.Index.{Index}
 use Rattle.cs_index.specs.Keys.{mixed}
-use Rattle.cs_index.specs.Under.{under}
-use Rattle.cs_index.specs.Found.{first, found, IsIndexed}
+use Rattle.cs_index.specs.Found.{first, found}
 use Rattle.cs_reader.specs.Marks.{numeral}
-use Rattle.cs_reader.specs.Keys.{lettered_key, word_key, symbol_key, declared_key}
+use Rattle.cs_reader.specs.Keys.{lettered_key, word_key, symbol_key}
+use Rattle.cs_reader.specs.Live.{declared_in, under}
+use Rattle.cs_reader.specs.declared.symbols.Symbols.{Symbols}
 use Rattle.cs_reader.specs.Spelling.{is_number, is_lettered, is_spelled, spelled_by}
+use Rattle.cs_reader.proofs.Indexing.{found_in}
 
 text_is : (x y : List ℕ) → same_text x y ≡ true → x ≡ y
 text_is [] [] e = refl
@@ -36,5 +36,5 @@ spelled_key text (Function n) e = lettered 102 n text e
 spelled_key text (Variable n) e = lettered 118 n text e
 spelled_key text (Named x) e = ap word_key (text_is text x e)
 
-pub looked_up : (ds : List Declared) (i : Index) (text : List ℕ) → IsIndexed declared_key ds i → found (spelled_by text) ds (under i (word_key text)) ≡ first (spelled_by text) ds
-looked_up ds i text is = is.finds (spelled_by text) (word_key text) (λ d e. sym (spelled_key text d.symbol e))
+pub looked_up : (s : Symbols) (text : List ℕ) → found (spelled_by text) (declared_in s) (under s (word_key text)) ≡ first (spelled_by text) (declared_in s)
+looked_up s text = found_in s (spelled_by text) (word_key text) (λ d e. sym (spelled_key text d.symbol e))

@@ -2,6 +2,7 @@ pub mod Items
 pub mod Marks
 pub mod Keys
 pub mod Spelling
+pub mod Indexing
 pub mod Live
 pub mod Steps
 pub mod Views

@@ -11,7 +11,7 @@ use Rattle.vx_sexp.specs.declared.token.Kind.TheVariants as kinds
 use Rattle.vx_sexp.specs.declared.token.Token.{Token}
 use Rattle.vx_sexp.specs.declared.token.Token.TheVariants.{Open, Close, Atom}
 use Rattle.vx_terms.specs.Sorts.{Sort, IntSort, Symbol, Standard, Function, Variable, Named, Subtract, same_text}
-use Rattle.vx_terms.specs.Terms.{Term, Truth, Number, Part, Constant, Apply, Not, Binary, Ite, Terms, NoTerms, MoreTerms}
+use Rattle.vx_terms.specs.Terms.{Term, Truth, Number, Part, Constant, Apply, Not, Binary, Ite, AllOf, SomeOf, Terms, NoTerms, MoreTerms}
 use Rattle.vx_terms.specs.Views.{operator}
 use Rattle.vx_terms.specs.declared.term.Operator.TheVariants as operators
 use Rattle.vx_smt_meaning.specs.Commands.{Declared}
@@ -163,7 +163,7 @@ applied None ts = None
 applied (Some d) [] = None
 applied (Some d) (t ∷ ts) = Some (Apply d.0 d.1 (listed (t ∷ ts)))
 
--- a word before one part, two or three
+-- a word before one part, and before two
 abbrev pub of_one : Word → Term → Option Term
 of_one words.Not t = Some (Not t)
 of_one words.Minus t = negative t
@@ -175,17 +175,24 @@ of_two words.Minus t u = Some (Binary Subtract t u)
 of_two words.Slash t u = quotient t u
 of_two w t u = None
 
-abbrev pub of_three : Word → Term → Term → Term → Option Term
-of_three words.Ite c t u = Some (Ite c t u)
-of_three w c t u = None
+abbrev pub choice : List Term → Option Term
+choice (c ∷ t ∷ u ∷ []) = Some (Ite c t u)
+choice ts = None
+
+-- three parts or more; `and` and `or` alone have any number of them
+abbrev pub of_more : Word → List Term → Option Term
+of_more words.Ite ts = choice ts
+of_more (words.Operator operators.And) ts = Some (AllOf (listed ts))
+of_more (words.Operator operators.Or) ts = Some (SomeOf (listed ts))
+of_more w ts = None
 
 abbrev pub built : Word → List Term → Option Term
+built w [] = None
 built w (t ∷ []) = of_one w t
 built w (t ∷ u ∷ []) = of_two w t u
-built w (c ∷ t ∷ u ∷ []) = of_three w c t u
-built w ts = None
+built w ts = of_more w ts
 
--- a word before its parts; `and` and `or` have two
+-- a word before its parts
 abbrev pub made : Scope → List ℕ → Word → List Term → Option Term
 made scope text words.Name ts = applied (scope text) ts
 made scope text w ts = built w ts

@@ -2,6 +2,8 @@
 #![tactic(auto)]
 
 mod decimal;
+mod index;
+mod key;
 mod mark;
 mod reader;
 mod refusal;
@@ -11,9 +13,11 @@ mod stop;
 mod symbols;
 mod word;
 
+pub use index::SymbolIndex;
+pub use key::symbol_key;
 pub use reader::ReadFault;
 pub use refusal::Refusal;
 pub use spell::{Scope, spelled};
 pub use step::{Certificate, Literal, Step};
 pub use stop::Stop;
-pub use symbols::{Symbols, symbol_key};
+pub use symbols::Symbols;

@@ -12,9 +12,10 @@ ghost use Rattle.cs_reader.specs.Spelling as clean;
 ghost use Rattle.cs_reader.specs.Views.{scope};
 
 use crate::decimal::{decimal_of, inverse_of, multiplied};
+use crate::key::word_key;
 use crate::mark::numeral_of;
 use crate::stop::Stop;
-use crate::symbols::{Symbols, word_key};
+use crate::symbols::Symbols;
 use crate::word::{Word, is_spelled, word_of};
 use std::alloc::{AllocError, Global};
 use std::rc::Rc;
@@ -209,33 +210,6 @@ fn of_two(alloc: Global, word: Word, t: &Rc<Term>, u: &Rc<Term>) -> Result<Rc<Te
     }
 }
 
-fn of_three(
-    alloc: Global,
-    word: Word,
-    c: &Rc<Term>,
-    t: &Rc<Term>,
-    u: &Rc<Term>,
-) -> Result<Rc<Term>, Stop>
-    ensures { Gives (λ t. term t.value) result (clean.of_three word (term c.now.value) (term t.now.value) (term u.now.value)) }
-{
-    match word {
-        Word::Ite => Ok(Rc::new(alloc, Term::Ite(c.clone()?, t.clone()?, u.clone()?))?),
-        Word::Truth(_) | Word::Not | Word::Minus | Word::Slash | Word::Operator(_) | Word::Name =>
-            Err(Stop::Form),
-    }
-}
-
-fn built(alloc: Global, word: Word, parts: &[Rc<Term>]) -> Result<Rc<Term>, Stop>
-    ensures { Gives (λ t. term t.value) result (clean.built word (map (λ x. term x.value) parts.now)) }
-{
-    match parts {
-        [t] => of_one(alloc, word, t),
-        [t, u] => of_two(alloc, word, t, u),
-        [c, t, u] => of_three(alloc, word, c, t, u),
-        _ => Err(Stop::Form),
-    }
-}
-
 /// The terms as a list.
 #[tactic(auto, using(crate::proofs::Lists::listed_last, crate::proofs::Lists::onto_none))]
 fn listed(alloc: Global, parts: &[Rc<Term>]) -> Result<Rc<Terms>, AllocError>
@@ -248,6 +222,53 @@ fn listed(alloc: Global, parts: &[Rc<Term>]) -> Result<Rc<Terms>, AllocError>
         rest = front;
     }
     Ok(all)
+}
+
+fn choice(alloc: Global, parts: &[Rc<Term>]) -> Result<Rc<Term>, Stop>
+    ensures { Gives (λ t. term t.value) result (clean.choice (map (λ x. term x.value) parts.now)) }
+{
+    match parts {
+        [c, t, u] => Ok(Rc::new(alloc, Term::Ite(c.clone()?, t.clone()?, u.clone()?))?),
+        _ => Err(Stop::Form),
+    }
+}
+
+/// A word before three parts or more.
+fn of_more(alloc: Global, word: Word, parts: &[Rc<Term>]) -> Result<Rc<Term>, Stop>
+    ensures { Gives (λ t. term t.value) result (clean.of_more word (map (λ x. term x.value) parts.now)) }
+{
+    match word {
+        Word::Ite => choice(alloc, parts),
+        Word::Operator(Operator::And) => Ok(Rc::new(alloc, Term::AllOf(listed(alloc, parts)?))?),
+        Word::Operator(Operator::Or) => Ok(Rc::new(alloc, Term::SomeOf(listed(alloc, parts)?))?),
+        Word::Operator(
+            Operator::Implies
+            | Operator::Equal
+            | Operator::Less
+            | Operator::LessEqual
+            | Operator::Add
+            | Operator::Subtract
+            | Operator::Multiply
+            | Operator::Div
+            | Operator::Mod,
+        )
+        | Word::Truth(_)
+        | Word::Not
+        | Word::Minus
+        | Word::Slash
+        | Word::Name => Err(Stop::Form),
+    }
+}
+
+fn built(alloc: Global, word: Word, parts: &[Rc<Term>]) -> Result<Rc<Term>, Stop>
+    ensures { Gives (λ t. term t.value) result (clean.built word (map (λ x. term x.value) parts.now)) }
+{
+    match parts {
+        [] => Err(Stop::Form),
+        [t] => of_one(alloc, word, t),
+        [t, u] => of_two(alloc, word, t, u),
+        [_, _, _, ..] => of_more(alloc, word, parts),
+    }
 }
 
 /// A symbol before its arguments.

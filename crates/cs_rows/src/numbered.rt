@@ -7,10 +7,11 @@ use crate::told::{add_line, fraction_text, refusal_text};
 use cs_hints::Clause;
 use cs_numbers::{NumberedTerms, add, node_of, nodes_of, number, place_of};
 use cs_proof::{Duty, Step, prepared, step_of};
-use cs_reader::{Certificate, Symbols};
+use cs_reader::{Certificate, SymbolIndex, Symbols};
 use cs_table::{Head, Node, Stop, Table};
 use std::alloc::{AllocError, Global};
 use std::rc::Rc;
+use vx_smt_meaning::Declared;
 use vx_terms::Term;
 
 // What is numbered, and the numbers of the assertions.
@@ -144,7 +145,9 @@ fn done_by(alloc: Global, all: &mut Numbered, step: &Step) -> Result<String, All
 }
 
 fn steps_done(alloc: Global, row: &Row, certificate: Certificate) -> Result<String, AllocError> {
-    let symbols = Symbols::new(alloc, &row.stack.symbols)?;
+    let declared: &[Declared] = &row.stack.symbols;
+    let index = SymbolIndex::of(alloc, declared)?;
+    let symbols = Symbols::new(declared, &index);
     let Ok(mut all) = numbered_of(alloc, &row.stack.assertions) else {
         return Err(AllocError);
     };

@@ -4,7 +4,7 @@ use crate::names::sort_text;
 use crate::row::Row;
 use crate::told::refusal_text;
 use crate::written::steps_text;
-use cs_reader::{Certificate, ReadFault, Refusal, Scope, Stop, Symbols, spelled};
+use cs_reader::{Certificate, ReadFault, Refusal, Scope, Stop, SymbolIndex, Symbols, spelled};
 use cs_sorts::{is_live, sort_in};
 use std::alloc::{AllocError, Global};
 use std::rc::Rc;
@@ -38,7 +38,8 @@ pub fn term_of(
     let Some(item) = sexp_of(alloc, text)? else {
         return Ok(None);
     };
-    let symbols = Symbols::new(alloc, known)?;
+    let index = SymbolIndex::of(alloc, known)?;
+    let symbols = Symbols::new(known, &index);
     match spelled(alloc, &Scope::Among(&symbols), item.tokens()) {
         Ok(term) => Ok(Some(term)),
         Err(Stop::Form) => Ok(None),
@@ -104,7 +105,9 @@ pub fn spelled_as(alloc: Global, row: &Row, text: &str) -> Result<Option<String>
 
 // A sort, and whether the term's symbols are live.
 fn sort_line(alloc: Global, row: &Row, term: &Term, sort: &Sort) -> Result<String, AllocError> {
-    let symbols = Symbols::new(alloc, &row.stack.symbols)?;
+    let declared: &[Declared] = &row.stack.symbols;
+    let index = SymbolIndex::of(alloc, declared)?;
+    let symbols = Symbols::new(declared, &index);
     let live = if is_live(&symbols, term)? {
         "live"
     } else {

@@ -1,6 +1,6 @@
 -- A solver goes on, or stops.
-use Rattle.std.proofs.Common.{◌≡◌, ℕ, ◌+◌, Bool, false, List, [], ◌∷◌, ◌++◌, length, take, drop, Option, Some, IfSome, refl, rules, arith, sym, ap, ◌∙◌, subst, append_assoc}
-use Rattle.std.proofs.lemmas.List.{take-append-drop, length-append}
+use Rattle.std.proofs.Common.{◌≡◌, ℕ, ◌+◌, Bool, false, List, [], ◌∷◌, ◌++◌, length, take, drop, Option, Some, None, IfSome, refl, rules, arith, sym, ap, ◌∙◌, subst, append_assoc}
+use Rattle.std.proofs.lemmas.List.{take-append-drop, length-append, append_cancel_left}
 use Rattle.vx_sexp.specs.Beginnings.{IsBeginning}
 use Rattle.cs_session.specs.declared.reply.Reply.{Reply}
 use Rattle.cs_session.specs.Views.{State}
@@ -12,7 +12,7 @@ use Rattle.cs_serve.specs.Endings.{status, farewell}
 use Rattle.cs_session.specs.Answering.{EndsAt}
 use Rattle.cs_session.specs.Answering.{start}
 use Rattle.cs_serve.specs.Serving.{begun, given, answered, is_last, IsDue, Puts, HasEnded}
-use Rattle.cs_serve.specs.Working.{IsAt, PutsAnswers, Stops}
+use Rattle.cs_serve.specs.Working.{IsAt, PutsAnswers, Stops, with_due}
 
 pub append_none : (xs : List ℕ) → xs ++ [] ≡ xs
 append_none [] = refl
@@ -82,23 +82,89 @@ stops_at e before from taken total left s over at_end at due = record {
   puts = answers_put e at.text;
 }
 
-pub stops_in_reply : (before : List ℕ) (from old new : Option (List ℕ)) (total : ℕ) (left : List ℕ) (s u : State) (n : ℕ) (r : Reply) (at_end : Bool)
-    → IsAt before from old total left s false → EndsAt n left → Replies left s r u → IfSome old (λ bytes. (k : ℕ) × (new ≡ Some (bytes ++ take k (reply_text r))))
+-- ---- what is due
+
+pub due_more : (taken : Option (List ℕ)) (due ys : List ℕ) → IfSome (with_due taken due) (λ bytes. with_due taken (due ++ ys) ≡ Some (bytes ++ ys))
+due_more (Some bytes) due ys = ap Some (sym (append_assoc bytes due ys))
+due_more None due ys = tt
+
+none_due : (taken : Option (List ℕ)) → with_due taken [] ≡ taken
+none_due (Some bytes) = ap Some (append_none bytes)
+none_due None = refl
+
+-- nothing is due yet
+pub begins_due : (before due : List ℕ) (from taken : Option (List ℕ)) (total : ℕ) (left : List ℕ) (s : State) → due ≡ [] → IsAt before from taken total left s false → IsAt before from (with_due taken due) total left s false
+begins_due before due from taken total left s none = subst (λ o. IsAt before from o total left s false) (sym (ap (with_due taken) none ∙ none_due taken))
+
+due_put : (old new : Option (List ℕ)) (due xs : List ℕ) → with_due old due ≡ Some xs → IfSome old (λ bytes. new ≡ Some (bytes ++ due)) → new ≡ Some xs
+due_put (Some bytes) new due xs is puts = puts ∙ is
+due_put None new due xs is puts = cc
+
+pub at_put : (before due : List ℕ) (from old new : Option (List ℕ)) (total : ℕ) (left : List ℕ) (s : State) (over : Bool)
+    → IsAt before from (with_due old due) total left s over → IfSome old (λ bytes. new ≡ Some (bytes ++ due)) → IsAt before from new total left s over
+at_put before due from old new total left s over at puts = record {
+  all = at.all;
+  text = at.text;
+  is_given = at.is_given;
+  is_taken = due_put old new due (before ++ at.text) at.is_taken puts;
+  counted = at.counted;
+  serves = at.serves;
+}
+
+pub stops_put : (e : Ending) (before due : List ℕ) (from old new : Option (List ℕ)) (at_end : Bool)
+    → Stops e before from (with_due old due) at_end → IfSome old (λ bytes. new ≡ Some (bytes ++ due)) → Stops e before from new at_end
+stops_put e before due from old new at_end s puts = record {
+  all = s.all;
+  text = s.text;
+  put = s.put;
+  left = s.left;
+  state = s.state;
+  over = s.over;
+  is_given = s.is_given;
+  is_taken = due_put old new due (before ++ s.put) s.is_taken puts;
+  serves = s.serves;
+  ends = s.ends;
+  puts = s.puts;
+}
+
+-- a beginning of the answers is put in any case
+some_put : (e : Ending) (text put : List ℕ) → PutsAnswers e text put → (rest : List ℕ) × (put ++ rest ≡ text)
+some_put endings.Exited text put p = ([], append_none put ∙ p)
+some_put endings.Exhausted text put p = ([], append_none put ∙ p)
+some_put endings.BadToken text put p = ([], append_none put ∙ p)
+some_put endings.Unfinished text put p = ([], append_none put ∙ p)
+some_put endings.SourceFailed text put p = ([], append_none put ∙ p)
+some_put endings.TooLong text put p = ([], append_none put ∙ p)
+some_put endings.SinkFailed text put p = p
+some_put endings.Want text put p = ([], append_none put ∙ p)
+
+-- what was taken before, and is due, is all that is put then
+all_due : (before text due put : List ℕ) (old : Option (List ℕ)) → old ≡ Some (before ++ text) → with_due old due ≡ Some (before ++ put) → text ++ due ≡ put
+all_due before text due put old is then =
+    let whole : Some ((before ++ text) ++ due) ≡ Some (before ++ put) = sym (ap (λ o. with_due o due) is) ∙ then in
+    append_cancel_left before (text ++ due) put (sym (append_assoc before text due) ∙ ap (λ o. elim o [ Some x ↦ x | None ↦ [] ]) whole)
+
+-- the sink failed before it had taken all that was due
+pub stops_short : (e : Ending) (before due : List ℕ) (from old new : Option (List ℕ)) (total : ℕ) (left : List ℕ) (s : State) (at_end : Bool)
+    → IsAt before from old total left s false → Stops e before from (with_due old due) at_end → IfSome old (λ bytes. (n : ℕ) × (new ≡ Some (bytes ++ take n due)))
     → Stops endings.SinkFailed before from new at_end
-stops_in_reply before from old new total left s u n r at_end at ends replies puts =
-    let some = short_on old new (before ++ at.text) (reply_text r) at.is_taken puts in
+stops_short e before due from old new total left s at_end at stops puts =
+    let some = short_on old new (before ++ at.text) due at.is_taken puts in
+    let rest = some_put e stops.text stops.put stops.puts in
+    let whole : (at.text ++ take some.0 due) ++ drop some.0 due ≡ stops.put =
+    append_assoc at.text (take some.0 due) (drop some.0 due) ∙ ap (λ x. at.text ++ x) (take-append-drop some.0 due) ∙ all_due before at.text due stops.put old at.is_taken stops.is_taken in
     record {
-      all = at.all;
-      text = at.text ++ reply_text r;
-      put = at.text ++ take some.0 (reply_text r);
-      left = drop n left;
-      state = u;
-      over = is_last r;
-      is_given = at.is_given;
-      is_taken = some.1 ∙ ap Some (append_assoc before at.text (take some.0 (reply_text r)));
-      serves = answered n r at.serves ends replies;
+      all = stops.all;
+      text = stops.text;
+      put = at.text ++ take some.0 due;
+      left = stops.left;
+      state = stops.state;
+      over = stops.over;
+      is_given = stops.is_given;
+      is_taken = some.1 ∙ ap Some (append_assoc before at.text (take some.0 due));
+      serves = stops.serves;
       ends = tt;
-      puts = (drop some.0 (reply_text r), append_assoc at.text (take some.0 (reply_text r)) (drop some.0 (reply_text r)) ∙ ap (λ x. at.text ++ x) (take-append-drop some.0 (reply_text r)));
+      puts = (drop some.0 due ++ rest.0, sym (append_assoc (at.text ++ take some.0 due) (drop some.0 due) rest.0) ∙ ap (λ x. x ++ rest.0) whole ∙ rest.1);
     }
 
 -- the input failed; what is left is as it was

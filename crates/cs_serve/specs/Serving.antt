@@ -3,7 +3,7 @@ use Rattle.std.specs.Prelude.{◌≡◌, ⊤, ℕ, Bool, true, false, List, [], 
 use Rattle.vx_sexp.specs.Beginnings.{GoesOn, IsBeginning}
 use Rattle.vx_sexp.specs.Tokens.{is_space}
 use Rattle.cs_session.specs.declared.reply.Reply.{Reply}
-use Rattle.cs_session.specs.declared.reply.Reply.TheVariants.{Success, Unsupported, Failed, Sat, Unsat, Undecided, Closed}
+use Rattle.cs_session.specs.declared.reply.Reply.TheVariants.{Success, Unsupported, Failed, Sat, Unsat, Undecided, Proof, Closed}
 use Rattle.cs_session.specs.Views.{State}
 use Rattle.cs_session.specs.Texts.{reply_text}
 use Rattle.cs_session.specs.Replies.{Replies}
@@ -20,6 +20,7 @@ is_last (Failed c) = false
 is_last Sat = false
 is_last Unsat = false
 is_last Undecided = false
+is_last (Proof line) = false
 is_last Closed = true
 
 -- How far a solver is: the bytes that it was given, the text that it has answered, the bytes that are left, its session, and

@@ -1,5 +1,6 @@
 -- How far a solver is while it works.
 use Rattle.std.specs.Prelude.{◌≡◌, ℕ, ◌≤◌, Bool, false, List, ◌++◌, length, Option, Some}
+use Rattle.std.specs.Option.{option_map}
 use Rattle.vx_ends.specs.Causes.{Rose}
 use Rattle.cs_session.specs.Views.{State, state}
 use Rattle.cs_serve.specs.declared.ending.Ending.{Ending}
@@ -15,6 +16,10 @@ pub record IsAt (before : List ℕ) (given taken : Option (List ℕ)) (total : �
   pub is_taken : taken ≡ Some (before ++ text)
   pub counted : length all ≡ total
   pub serves : Serves all text left s over
+
+-- what the sink has taken once it has taken what is due, too
+abbrev pub with_due : Option (List ℕ) → List ℕ → Option (List ℕ)
+with_due taken due = option_map (λ bytes. bytes ++ due) taken
 
 -- and it goes on
 abbrev pub Stands : List ℕ → Option (List ℕ) → Option (List ℕ) → Solver → Type 0

@@ -7,7 +7,7 @@ ghost use Rattle.vx_ends.specs.Causes.{HasCause};
 ghost use Rattle.cs_session.specs.Views.{state};
 ghost use Rattle.cs_session.specs.Answering.{EndsAt};
 ghost use Rattle.cs_serve.specs.Serving.{is_last};
-ghost use Rattle.cs_serve.specs.Working.{IsAt, Stops};
+ghost use Rattle.cs_serve.specs.Working.{IsAt, Stops, with_due};
 
 use crate::Ending;
 use crate::bytes::behind;
@@ -17,8 +17,8 @@ use std::alloc::Global;
 use vx_ends::{PutFault, Sink, put_all};
 use vx_sexp::Reading;
 
-fn is_last(reply: Reply) -> bool
-    ensures { result ≡ is_last reply }
+fn is_last(reply: &Reply) -> bool
+    ensures { result ≡ is_last reply.now }
 {
     match reply {
         Reply::Success => false,
@@ -27,47 +27,83 @@ fn is_last(reply: Reply) -> bool
         Reply::Sat => false,
         Reply::Unsat => false,
         Reply::Undecided => false,
+        Reply::Proof(_) => false,
         Reply::Closed => true,
     }
 }
 
 /// Puts all of a text.
-pub fn put_text<K: Sink>(out: &mut K, text: &str) -> Result<(), Ending>
+pub fn put_text<K: Sink>(out: &mut K, text: &[u8]) -> Result<(), Ending>
     ensures taken { PutsSome text.now (K.taken out.old) (K.taken out.new) result }
     ensures cause { HasCause Ending.SinkFailed (K.faults out.old) (K.faults out.new) result }
     ensures only { IfErr result (λ e. e ≡ Ending.SinkFailed) }
 {
-    match put_all(out, text.as_bytes()) {
+    match put_all(out, text) {
         Ok(()) => Ok(()),
         Err(PutFault::Failed) => Err(Ending::SinkFailed),
     }
 }
 
-// Answers the first command of some bytes, and says whether it was `exit`.
-fn answer<K: Sink>(
+// Answers the first command of some bytes, and says whether it was `exit`. The answer is due then.
+fn answer(
     alloc: Global,
     session: &mut Session,
-    out: &mut K,
+    due: &mut Vec<u8>,
     left: &[u8],
 ) -> Result<bool, Ending>
-    ensures goes { (before : List ℕ) (given : Option (List ℕ)) (total n : ℕ) → EndsAt n left.now → IsAt before given (K.taken out.old) total left.now (state session.old) false
-        → IfOk result (λ over. IsAt before given (K.taken out.new) total (drop n left.now) (state session.new) over) }
-    ensures stops { (before : List ℕ) (given : Option (List ℕ)) (total n : ℕ) → EndsAt n left.now → IsAt before given (K.taken out.old) total left.now (state session.old) false
-        → IfErr result (λ e. (at_end : Bool) → Stops e before given (K.taken out.new) at_end) }
-    ensures cause { HasCause Ending.SinkFailed (K.faults out.old) (K.faults out.new) result }
-    ensures other { result ≡ Err Ending.SourceFailed → ⊥ }
+    ensures goes { (before : List ℕ) (given taken : Option (List ℕ)) (total n : ℕ) → EndsAt n left.now → IsAt before given (with_due taken due.old.items) total left.now (state session.old) false
+        → IfOk result (λ over. IsAt before given (with_due taken due.new.items) total (drop n left.now) (state session.new) over) }
+    ensures stops { (before : List ℕ) (given taken : Option (List ℕ)) (total : ℕ) → IsAt before given (with_due taken due.old.items) total left.now (state session.old) false
+        → IfErr result (λ e. (at_end : Bool) → Stops e before given (with_due taken due.new.items) at_end) }
+    ensures only { IfErr result (λ e. e ≡ Ending.Want) }
 {
     let Ok(reply) = session.command(alloc, left) else {
         return Err(Ending::Want);
     };
-    match put_text(out, reply.text()) {
-        Ok(()) => Ok(is_last(reply)),
-        Err(ending) => Err(ending),
+    match due.extend_from_slice(reply.text()) {
+        Ok(()) => Ok(is_last(&reply)),
+        Err(_) => Err(Ending::Want),
     }
 }
 
-/// Answers the commands that are finished at the front of some bytes, and says how many bytes they take.
-pub fn answer_all<K: Sink>(
+// Answers the commands that are finished at the front of some bytes, and says how many bytes they take. The answers are due then.
+fn answer_all(
+    alloc: Global,
+    session: &mut Session,
+    reading: &mut Reading,
+    due: &mut Vec<u8>,
+    bytes: &[u8],
+) -> Result<usize, Ending>
+    requires { Reached reading.old bytes.now }
+    ensures within { IfOk result (λ at. at ≤ length bytes.now) }
+    ensures waits { IfOk result (λ at. IsBeginning (drop at bytes.now)) }
+    ensures reached { IfOk result (λ at. (more : List ℕ) → Reached reading.new (drop at bytes.now ++ more)) }
+    ensures goes { (before : List ℕ) (given taken : Option (List ℕ)) (total : ℕ) → IsAt before given (with_due taken due.old.items) total bytes.now (state session.old) false
+        → IfOk result (λ at. IsAt before given (with_due taken due.new.items) total (drop at bytes.now) (state session.new) false) }
+    ensures stops { (before : List ℕ) (given taken : Option (List ℕ)) (total : ℕ) → IsAt before given (with_due taken due.old.items) total bytes.now (state session.old) false
+        → IfErr result (λ e. (at_end : Bool) → Stops e before given (with_due taken due.new.items) at_end) }
+    ensures other { (result ≡ Err Ending.SourceFailed → ⊥) × (result ≡ Err Ending.SinkFailed → ⊥) }
+{
+    let mut at = 0;
+    'commands: loop {
+        let left = behind(bytes, at);
+        match find_next(reading, left) {
+            Next::Ends(count) => {
+                let over = answer(alloc, session, due, left)?;
+                if over {
+                    return Err(Ending::Exited);
+                }
+                at += count;
+            }
+            Next::Waits => return Ok(at),
+            Next::Bad => return Err(Ending::BadToken),
+        }
+    }
+}
+
+/// Answers the commands that are finished at the front of some bytes, puts all the answers at once, and says how many bytes
+/// the commands take.
+pub fn put_answers<K: Sink>(
     alloc: Global,
     session: &mut Session,
     reading: &mut Reading,
@@ -85,19 +121,15 @@ pub fn answer_all<K: Sink>(
     ensures cause { HasCause Ending.SinkFailed (K.faults out.old) (K.faults out.new) result }
     ensures other { result ≡ Err Ending.SourceFailed → ⊥ }
 {
-    let mut at = 0;
-    'commands: loop {
-        let left = behind(bytes, at);
-        match find_next(reading, left) {
-            Next::Ends(count) => {
-                let over = answer(alloc, session, out, left)?;
-                if over {
-                    return Err(Ending::Exited);
-                }
-                at += count;
-            }
-            Next::Waits => return Ok(at),
-            Next::Bad => return Err(Ending::BadToken),
-        }
+    let mut due = Vec::new(alloc);
+    match answer_all(alloc, session, reading, &mut due, bytes) {
+        Ok(at) => match put_text(out, &due) {
+            Ok(()) => Ok(at),
+            Err(failed) => Err(failed),
+        },
+        Err(ending) => match put_text(out, &due) {
+            Ok(()) => Err(ending),
+            Err(failed) => Err(failed),
+        },
     }
 }

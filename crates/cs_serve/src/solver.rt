@@ -11,7 +11,7 @@ ghost use Rattle.cs_serve.specs.Serving.{most, IsDue, HasEnded};
 ghost use Rattle.cs_serve.specs.Working.{Stands, Stops, IsCaused};
 
 use crate::Ending;
-use crate::answer::{answer_all, put_text};
+use crate::answer::{put_answers, put_text};
 use crate::bytes::drop_front;
 use crate::space::is_space;
 use cs_session::Session;
@@ -52,7 +52,7 @@ fn take_leave<K: Sink>(out: &mut K, ending: Ending) -> Ending
     ensures source { result ≡ Ending.SourceFailed → ending ≡ Ending.SourceFailed }
     ensures sink { (from : ℕ) → IsCaused Ending.SinkFailed ending from (K.faults out.old) → IsCaused Ending.SinkFailed result from (K.faults out.new) }
 {
-    match put_text(out, ending.farewell()) {
+    match put_text(out, ending.farewell().as_bytes()) {
         Ok(()) => ending,
         Err(_) => Ending::SinkFailed,
     }
@@ -72,7 +72,7 @@ impl Solver {
         }
     }
 
-    // Answers the commands that are finished; they are gone then.
+    // Answers the commands that are finished, by one call of the sink; they are gone then.
     fn answer_all<K: Sink>(&mut self, alloc: Global, out: &mut K) -> Result<(), Ending>
         requires { Reached self.old.reading self.old.left.items }
         ensures waits { OnOk result (IsBeginning self.new.left.items) }
@@ -83,7 +83,7 @@ impl Solver {
         ensures cause { HasCause Ending.SinkFailed (K.faults out.old) (K.faults out.new) result }
         ensures other { result ≡ Err Ending.SourceFailed → ⊥ }
     {
-        let at = answer_all(alloc, &mut self.session, &mut self.reading, out, &self.left)?;
+        let at = put_answers(alloc, &mut self.session, &mut self.reading, out, &self.left)?;
         drop_front(&mut self.left, at);
         Ok(())
     }

@@ -3,3 +3,6 @@ pub mod Apart
 pub mod Spread
 pub mod Told
 pub mod Meant
+pub mod Ones
+pub mod Turned
+pub mod Kept

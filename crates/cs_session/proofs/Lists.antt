@@ -1,8 +1,8 @@
 -- What holds of each item, and lists with the newest item first.
-use Rattle.std.proofs.Common.{◌≡◌, ℕ, zero, suc, Bool, true, false, leb, ◌-◌, ◌≤◌, List, [], ◌∷◌, ◌++◌, length, map, reverse, take, drop, refl, sym, ap, subst, arith, ◌∙◌, length-drop}
+use Rattle.std.proofs.Common.{◌≡◌, ℕ, zero, suc, Bool, true, false, leb, ◌+◌, ◌-◌, ◌≤◌, List, [], ◌∷◌, ◌++◌, length, map, reverse, take, drop, refl, sym, ap, ap₂, subst, arith, ◌∙◌, length-append, length-drop}
 use Rattle.std.proofs.Math.Nat.{le_of_lt}
 use Rattle.std.proofs.lemmas.Bool.{leb-true, leb-false}
-use Rattle.std.proofs.lemmas.List.{map-append, reverse-append, length-reverse, length-map, take-append-drop, take-map}
+use Rattle.std.proofs.lemmas.List.{map-append, reverse-append, length-reverse, length-map, length-take-le, take-append-drop, take-map, take-take, take_all}
 use Rattle.std.proofs.Math.Seq.{drop-append_seam}
 use Rattle.std.proofs.Math.ListN.{drop_of_length-le}
 use Rattle.vx_terms.specs.Interpretations.{Each}
@@ -56,3 +56,27 @@ left_out n xs = by_size n xs (leb n (length xs)) refl
 pub fewer : {A B : Type 0} (f : A → B) (n : ℕ) (xs : List A) → reverse (map f (take (length xs - n) xs)) ≡ drop n (reverse (map f xs))
 fewer f n xs =
     ap reverse (sym (take-map f (length xs - n) xs)) ∙ (ap (λ k. reverse (take (k - n) (map f xs))) (sym (length-map xs f)) ∙ left_out n (map f xs))
+
+-- ---- one by one
+
+one_fewer : {A : Type 0} (m : ℕ) (xs : List A) → m ≤ length xs → take (length (take m xs) - 1) (take m xs) ≡ take (m - 1) xs
+one_fewer m xs h = ap (λ k. take (k - 1) (take m xs)) (length-take-le m xs h) ∙ take-take (m - 1) m xs (omega arith)
+
+-- so many are gone, and then one more
+pub gone_more : {A : Type 0} (n : ℕ) (xs ys zs : List A) → ys ≡ take (length xs - n) xs → zs ≡ take (length ys - 1) ys → zs ≡ take (length xs - (n + 1)) xs
+gone_more n xs ys zs e f =
+    let less : length xs - n - 1 ≡ length xs - (n + 1) = omega arith in
+    f ∙ (ap (λ us. take (length us - 1) us) e ∙ (one_fewer (length xs - n) xs (omega arith) ∙ ap (λ k. take k xs) less))
+
+pub none_gone : {A : Type 0} (xs : List A) → xs ≡ take (length xs - 0) xs
+none_gone xs = sym (take_all (length xs - 0) xs (omega arith))
+
+front : {A : Type 0} (xs : List A) (x : A) → take (length xs) (xs ++ x ∷ []) ≡ xs
+front [] x = refl
+front (y ∷ xs) x = ap (λ ys. y ∷ ys) (front xs x)
+
+pub last_gone : {A : Type 0} (xs ys : List A) (y : A) → xs ≡ ys ++ y ∷ [] → ys ≡ take (length xs - 1) xs
+last_gone xs ys y e =
+    let long : length xs ≡ length ys + 1 = ap length e ∙ length-append ys (y ∷ []) in
+    let less : length xs - 1 ≡ length ys = omega arith in
+    sym (ap₂ take less e ∙ front ys y)

@@ -27,9 +27,12 @@ assertions_on (c ∷ cs) all = ap (λ x. take c.assertions all.assertions ++ x) 
 pub sorts_stand : (cs : List Counts) (all : Level) (xs : List (List ℕ)) → all.sorts ≡ reverse xs → xs ≡ reverse (sorts_in (spread cs all))
 sorts_stand cs all xs e = sym (ap reverse (sorts_on cs all ∙ e) ∙ reverse-reverse xs)
 
+pub symbols_stand : (cs : List Counts) (all : Level) (ds : List Declared) → all.symbols ≡ reverse ds → ds ≡ reverse (declared_in (spread cs all))
+symbols_stand cs all ds e = sym (ap reverse (symbols_on cs all ∙ e) ∙ reverse-reverse ds)
+
 pub stands : (cs : List Counts) (all : Level) (s : Stack) → all.symbols ≡ reverse s.symbols → all.assertions ≡ reverse s.assertions → s ≡ standing (spread cs all)
 stands cs all s p q =
-    let symbols : s.symbols ≡ reverse (declared_in (spread cs all)) = sym (ap reverse (symbols_on cs all ∙ p) ∙ reverse-reverse s.symbols) in
+    let symbols : s.symbols ≡ reverse (declared_in (spread cs all)) = symbols_stand cs all s.symbols p in
     let assertions : s.assertions ≡ reverse (assertions_of (spread cs all)) = sym (ap reverse (assertions_on cs all ∙ q) ∙ reverse-reverse s.assertions) in
     λ i. record { assertions = assertions i; symbols = symbols i }
 

@@ -5,3 +5,4 @@ pub mod Views
 pub mod Replies
 pub mod Texts
 pub mod Answering
+pub mod Kept

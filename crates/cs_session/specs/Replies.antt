@@ -1,10 +1,13 @@
 -- What is answered to a command, and what it does to a session.
-use Rattle.std.specs.Prelude.{◌≡◌, ⊤, ℕ, ◌+◌, nat_le, Bool, true, false, List, map, Option, Some, None, Ok, Err}
+use Rattle.std.specs.Prelude.{◌≡◌, ⊤, ℕ, ◌+◌, nat_le, Bool, true, false, List, [], ◌∷◌, ◌++◌, map, Option, Some, None, Ok, Err}
 use Rattle.std.specs.declared.result.Result.{Result}
+use Rattle.vx_sexp.specs.declared.token.Token.{Token}
+use Rattle.vx_sexp.specs.First.{IsFirst}
 use Rattle.vx_terms.specs.Interpretations.{IsSatisfiable, IsUnsatisfiable}
 use Rattle.vx_smt_meaning.specs.Commands.{Command, SetOption, SetLogic, DeclareSort, DeclareFun, Assert, Push, Pop, CheckSat, GetProof, Exit, Level, assertions_of, stack_after}
 use Rattle.vx_smt_meaning.specs.Views.{command}
 use Rattle.vx_smt_meaning.specs.declared.command.Command.{Command as Command'}
+use Rattle.cs_certificate.specs.Certificate.{Step}
 use Rattle.cs_proof.specs.Views.{written}
 use Rattle.cs_proof.specs.Checking.{Finished}
 use Rattle.cs_proof.specs.Answers.{Answers}
@@ -13,9 +16,10 @@ use Rattle.cs_commands.specs.declared.fault.Fault.{Fault}
 use Rattle.cs_commands.specs.declared.fault.Fault.TheVariants as faults
 use Rattle.cs_commands.specs.Understanding.{Understands}
 use Rattle.cs_commands.specs.Laws.{scope_of}
+use Rattle.cs_text.specs.Text.{certificate_text}
 use Rattle.cs_session.specs.declared.reply.Complaint.TheVariants as complaints
 use Rattle.cs_session.specs.declared.reply.Reply.{Reply}
-use Rattle.cs_session.specs.declared.reply.Reply.TheVariants.{Success, Unsupported, Failed, Sat, Unsat, Undecided, Closed}
+use Rattle.cs_session.specs.declared.reply.Reply.TheVariants.{Success, Unsupported, Failed, Sat, Unsat, Undecided, Proof, Closed}
 use Rattle.cs_session.specs.declared.session.Last.{Last}
 use Rattle.cs_session.specs.declared.session.Last.TheVariants.{Nothing, Refuted, Satisfied, Unknown}
 use Rattle.cs_session.specs.Views.{State, standing, depth}
@@ -54,6 +58,20 @@ Tells levels r last = ⊥
 abbrev pub Checks : State → Reply → State → Type 0
 Checks old r new = (new.levels ≡ old.levels) × Tells old.levels r new.last
 
+-- the text is one s-expression
+abbrev pub IsOne : List ℕ → Type 0
+IsOne text = (tokens : List Token) × IsFirst text tokens []
+
+-- the line of the steps' text, where that is one s-expression
+abbrev pub Shows : List (Option Step) → Reply → Type 0
+Shows steps (Proof line) = (line ≡ certificate_text steps ++ 10 ∷ []) × IsOne (certificate_text steps)
+Shows steps r = (r ≡ Failed complaints.NoProof) × (IsOne (certificate_text steps) → ⊥)
+
+-- what is shown for the steps that the last check kept; any other check has no proof
+abbrev pub Proves : Last → Reply → Type 0
+Proves (Refuted steps) r = Shows (map written steps.items) r
+Proves last r = r ≡ Failed complaints.NoProof
+
 abbrev pub Does : Command → State → Reply → State → Type 0
 Does (SetOption x b) old = Only Success old
 Does (SetLogic x) old = Only Success old
@@ -63,7 +81,7 @@ Does (Assert t) old = Follows (Assert t) old
 Does (Push n) old = FollowsIf (nat_le (depth old.levels + n) 256) (Push n) old
 Does (Pop n) old = FollowsIf (nat_le n (depth old.levels)) (Pop n) old
 Does CheckSat old = Checks old
-Does GetProof old = Only Unsupported old
+Does GetProof old = λ r new. Proves old.last r × (new ≡ old)
 Does Exit old = Only Closed old
 
 -- by what the bytes are understood as

@@ -1,5 +1,5 @@
 //! The open levels, and what stands on them.
-ghost use Rattle.std.specs.Prelude.{◌≡◌, ◌<◌, ◌≤◌, ◌+◌, ◌-◌, ◌^◌, true, false, ◌∷◌, [], length, drop, take, map, reverse, string_bytes, IfOk, OnOk};
+ghost use Rattle.std.specs.Prelude.{◌≡◌, ◌<◌, ◌≤◌, ◌+◌, ◌-◌, ◌^◌, ◌++◌, true, false, ◌∷◌, [], length, drop, take, map, reverse, string_bytes, IfOk, OnOk, OnErr};
 ghost use Rattle.vx_terms.specs.Interpretations.{Each};
 ghost use Rattle.vx_terms.specs.Views.{symbol, term};
 ghost use Rattle.vx_smt_meaning.specs.Commands.{DeclareSort, DeclareFun, Assert, declared_in, empty_level, opened, stack_after};
@@ -7,12 +7,14 @@ ghost use Rattle.vx_smt_meaning.specs.Views.{declared_symbol};
 ghost use Rattle.vx_smt_meaning.specs.WellFormed.{names, sorts_in};
 ghost use Rattle.cs_numbers.specs.Laws.{IsSorted};
 ghost use Rattle.cs_proof.specs.Fits.{seen};
+ghost use Rattle.cs_reader.specs.Indexing.{IsIndexOf};
 ghost use Rattle.cs_commands.specs.Laws.{AreApart};
 ghost use Rattle.cs_session.specs.Apart.{are_apart};
 ghost use Rattle.cs_session.specs.Counts.{one_more};
 
 use crate::counts::{Counts, Kind};
 use cs_proof::Stack;
+use cs_reader::{SymbolIndex, Symbols};
 use std::alloc::{AllocError, Global};
 use std::rc::Rc;
 use vx_smt_meaning::Declared;
@@ -22,10 +24,12 @@ use vx_terms::Term;
 #[derive(Drop)]
 pub struct Levels {
     stack: Stack,
+    index: SymbolIndex,
     sorts: Vec<String>,
     // of each level but the base level
     counts: Vec<Counts>,
     ghost apart: { are_apart (reverse (map declared_symbol stack.symbols.items)) ≡ true },
+    ghost indexed: { IsIndexOf (map declared_symbol stack.symbols.items) index },
     ghost sorted: { ∥ Each IsSorted (map (λ x. term x.value) stack.assertions.items) ∥₁ },
 }
 
@@ -35,6 +39,52 @@ fn cut<T: Drop>(items: &mut Vec<T>, count: usize)
 {
     let left = items.len().saturating_sub(count);
     items.truncate(left);
+}
+
+/// The last symbol is gone, if there is one.
+fn pop_symbol(symbols: &mut Vec<Declared>, index: &mut SymbolIndex)
+    requires { IsIndexOf (map declared_symbol symbols.old.items) index.old }
+    ensures symbols { symbols.new.items ≡ take (length symbols.old.items - 1) symbols.old.items }
+    ensures indexed { IsIndexOf (map declared_symbol symbols.new.items) index.new }
+{
+    let Some(last) = symbols.pop() else {
+        return;
+    };
+    index.take_last(&last);
+}
+
+/// Leaves out the last so many symbols.
+fn cut_symbols(symbols: &mut Vec<Declared>, index: &mut SymbolIndex, count: usize)
+    requires { IsIndexOf (map declared_symbol symbols.old.items) index.old }
+    ensures symbols { symbols.new.items ≡ take (length symbols.old.items - count) symbols.old.items }
+    ensures indexed { IsIndexOf (map declared_symbol symbols.new.items) index.new }
+{
+    for _symbol in 0..count {
+        pop_symbol(symbols, index);
+    }
+}
+
+/// One symbol more.
+///
+/// # Errors
+/// Nothing changes where memory runs out.
+fn push_symbol(
+    symbols: &mut Vec<Declared>,
+    index: &mut SymbolIndex,
+    declared: Declared,
+) -> Result<(), AllocError>
+    requires { IsIndexOf (map declared_symbol symbols.old.items) index.old }
+    ensures added { OnOk result (symbols.new.items ≡ symbols.old.items ++ declared ∷ []) }
+    ensures kept { OnErr result (symbols.new.items ≡ symbols.old.items) }
+    ensures indexed { IsIndexOf (map declared_symbol symbols.new.items) index.new }
+{
+    let at = symbols.len();
+    symbols.push(declared)?;
+    if let Err(want) = index.add(&symbols[at], at) {
+        symbols.truncate(at);
+        return Err(want);
+    }
+    Ok(())
 }
 
 /// Counts one more of a kind on the newest level.
@@ -60,6 +110,7 @@ impl Levels {
                 assertions: Vec::new(alloc),
                 symbols: Vec::new(alloc),
             },
+            index: SymbolIndex::new(alloc),
             sorts: Vec::new(alloc),
             counts: Vec::new(alloc),
         }
@@ -80,6 +131,14 @@ impl Levels {
         ensures apart { AreApart (declared_in (levels_of self.now)) }
     {
         &self.stack
+    }
+
+    /// All symbols, in the order in which they came. They are found by their words.
+    pub fn symbols(&self) -> Symbols<'_>
+        ensures value { map declared_symbol result.declared.now ≡ reverse (declared_in (levels_of self.now)) }
+        ensures apart { AreApart (declared_in (levels_of self.now)) }
+    {
+        Symbols::new(&self.stack.symbols, &self.index)
     }
 
     /// The names of all sorts, in the order in which they came.
@@ -118,7 +177,7 @@ impl Levels {
             return;
         };
         cut(&mut self.sorts, newest.sorts);
-        cut(&mut self.stack.symbols, newest.symbols);
+        cut_symbols(&mut self.stack.symbols, &mut self.index, newest.symbols);
         cut(&mut self.stack.assertions, newest.assertions);
     }
 
@@ -147,12 +206,12 @@ impl Levels {
     /// Declares a symbol on the newest level.
     ///
     /// # Errors
-    /// Memory runs out; the level may have the symbol then.
+    /// Memory runs out, or there are 2^32 symbols; the level may have the symbol then.
     pub fn declare(&mut self, declared: Declared) -> Result<(), AllocError>
         requires { names (declared_in (levels_of self.old)) (symbol declared.symbol) ≡ false }
         ensures { OnOk result (levels_of self.new ≡ stack_after (DeclareFun (declared_symbol declared)) (levels_of self.old)) }
     {
-        self.stack.symbols.push(declared)?;
+        push_symbol(&mut self.stack.symbols, &mut self.index, declared)?;
         count_one(&mut self.counts, Kind::Symbol)?;
         Ok(())
     }

@@ -2,12 +2,15 @@
 #![tactic(auto)]
 
 mod counts;
+mod laws;
 mod levels;
+mod proving;
 mod reading;
 mod reply;
 mod session;
 
 pub use cs_proof::Want;
+pub use laws::kept_proofs_are_shown;
 pub use levels::Levels;
 pub use reply::{Complaint, Reply};
 pub use session::{Last, Session};

@@ -14,7 +14,6 @@ use cs_commands::{
     CommandFault, Fault, Live, understood_in_any_order, understood_is_sorted, understood_may_follow,
 };
 use cs_proof::Want;
-use cs_reader::Symbols;
 use std::alloc::Global;
 use vx_smt_meaning::Command;
 
@@ -29,10 +28,7 @@ pub fn understand(alloc: Global, levels: &Levels, bytes: &[u8]) -> Result<Comman
     understood_in_any_order();
     understood_is_sorted();
     understood_may_follow();
-    let stack = levels.stack();
-    let Ok(symbols) = Symbols::new(alloc, &stack.symbols) else {
-        return Err(Fault::Command(CommandFault::Want));
-    };
+    let symbols = levels.symbols();
     let live = Live {
         symbols: &symbols,
         sorts: levels.sorts(),

@@ -2,6 +2,8 @@
 ghost use Rattle.std.specs.Prelude.{◌≡◌};
 ghost use Rattle.cs_session.specs.Texts.{complaint_text, reply_text};
 
+use vx_sexp::Bytes;
+
 /// What is wrong with a command.
 #[derive(Clone, Copy, Debug, PartialEq, Eq)]
 pub enum Complaint {
@@ -18,6 +20,8 @@ pub enum Complaint {
     Sort,
     /// More levels to be closed than are open, or too many to be opened.
     Levels,
+    /// No proof where one is asked for.
+    NoProof,
 }
 
 impl Complaint {
@@ -33,38 +37,42 @@ impl Complaint {
             Complaint::Wide => "(error \"wide\")\n",
             Complaint::Sort => "(error \"sort\")\n",
             Complaint::Levels => "(error \"levels\")\n",
+            Complaint::NoProof => "(error \"no proof\")\n",
         }
     }
 }
 
 /// What is answered to a command.
-#[derive(Clone, Copy, Debug, PartialEq, Eq)]
+#[derive(Drop)]
 pub enum Reply {
     Success,
-    /// Another command, or one that isn't obeyed.
+    /// Another command.
     Unsupported,
     Failed(Complaint),
     Sat,
     Unsat,
     /// The check is undecided.
     Undecided,
+    /// The line of a certificate.
+    Proof(Bytes),
     /// The reply to `exit`.
     Closed,
 }
 
 impl Reply {
     /// Its line.
-    pub fn text(self) -> &'static str
-        ensures { result.now ≡ reply_text self }
+    pub fn text(&self) -> &[u8]
+        ensures { result.now ≡ reply_text self.now }
     {
         match self {
-            Reply::Success => "success\n",
-            Reply::Unsupported => "unsupported\n",
-            Reply::Failed(complaint) => complaint.text(),
-            Reply::Sat => "sat\n",
-            Reply::Unsat => "unsat\n",
-            Reply::Undecided => "unknown\n",
-            Reply::Closed => "success\n",
+            Reply::Success => b"success\n",
+            Reply::Unsupported => b"unsupported\n",
+            Reply::Failed(complaint) => complaint.text().as_bytes(),
+            Reply::Sat => b"sat\n",
+            Reply::Unsat => b"unsat\n",
+            Reply::Undecided => b"unknown\n",
+            Reply::Proof(line) => line.as_slice(),
+            Reply::Closed => b"success\n",
         }
     }
 }

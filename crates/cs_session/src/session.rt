@@ -5,10 +5,11 @@ ghost use Rattle.vx_smt_meaning.specs.Commands.{CheckSat, Push, Pop, empty_level
 ghost use Rattle.vx_smt_meaning.specs.Views.{command};
 ghost use Rattle.cs_session.specs.declared.session.Last.TheVariants as lasts;
 ghost use Rattle.cs_session.specs.Adding.{MayAdd};
-ghost use Rattle.cs_session.specs.Replies.{Does, Replies, Tells};
+ghost use Rattle.cs_session.specs.Replies.{Does, Proves, Replies, Tells};
 ghost use Rattle.cs_session.specs.Views.{levels_of, state, is_spent, cause_of};
 
 use crate::levels::Levels;
+use crate::proving::shown;
 use crate::reading::{answer_to, understand};
 use crate::reply::{Complaint, Reply};
 use cs_decide::{Answer, Cause, decide};
@@ -105,6 +106,18 @@ impl Session {
         Ok(reply)
     }
 
+    // the certificate of the last check, if it has one
+    fn prove(&self, alloc: Global) -> Result<Reply, Want>
+        ensures { IfOk result (λ r. Proves (state self.now).last r) }
+    {
+        match &self.last {
+            Last::Refuted(steps) => shown(alloc, steps),
+            Last::Nothing | Last::Satisfied | Last::Unknown(_) => Ok(Reply::Failed(
+                Complaint::NoProof,
+            )),
+        }
+    }
+
     /// Does what a command says.
     fn obey(&mut self, alloc: Global, given: Command) -> Result<Reply, Want>
         requires { MayAdd (levels_of self.old.levels) (command given) }
@@ -116,7 +129,7 @@ impl Session {
             Command::Push(count) => return self.push(count),
             Command::Pop(count) => return Ok(self.pop(count)),
             Command::CheckSat => return self.check(alloc),
-            Command::GetProof => return Ok(Reply::Unsupported),
+            Command::GetProof => return self.prove(alloc),
             Command::DeclareSort(name) => self.levels.declare_sort(name)?,
             Command::DeclareFun(declared) => self.levels.declare(declared)?,
             Command::Assert(t) => self.levels.assert(t)?,
@@ -134,7 +147,7 @@ impl Session {
         }
     }
 
-    /// Answers one command: the first s-expression of some bytes. `get-proof` is unsupported.
+    /// Answers one command: the first s-expression of some bytes.
     ///
     /// # Errors
     /// Memory runs out; from then on nothing is answered.

@@ -5,15 +5,15 @@ use Rattle.std.specs.Option.{option_map}
 use Rattle.vx_terms.specs.Sorts.{Sort, Symbol}
 use Rattle.vx_terms.proofs.Same.{and_parts, symbol_is}
 use Rattle.vx_smt_meaning.specs.Commands.{Declared}
-use Rattle.cs_index.specs.declared.index.Index.{Index}
-use Rattle.cs_index.specs.Under.{under}
-use Rattle.cs_index.specs.Found.{first, found, IsIndexed}
-use Rattle.cs_reader.specs.Keys.{symbol_key, declared_key}
+use Rattle.cs_index.specs.Found.{first, found}
+use Rattle.cs_reader.specs.Keys.{symbol_key}
+use Rattle.cs_reader.specs.Live.{declared_in, under}
+use Rattle.cs_reader.specs.declared.symbols.Symbols.{Symbols}
+use Rattle.cs_reader.proofs.Indexing.{found_in}
 use Rattle.cs_sorts.specs.Sorting.{is_declaration, declares}
 
-pub looked_up : (ds : List Declared) (i : Index) (f : Symbol) (ss : List Sort) (a : Sort) → IsIndexed declared_key ds i → found (is_declaration f ss a) ds (under i (symbol_key f)) ≡ first (is_declaration f ss a) ds
-looked_up ds i f ss a is =
-    is.finds (is_declaration f ss a) (symbol_key f) (λ d e. ap symbol_key (sym (symbol_is f d.symbol (and_parts _ _ e).0)))
+pub looked_up : (s : Symbols) (f : Symbol) (ss : List Sort) (a : Sort) → found (is_declaration f ss a) (declared_in s) (under s (symbol_key f)) ≡ first (is_declaration f ss a) (declared_in s)
+looked_up s f ss a = found_in s (is_declaration f ss a) (symbol_key f) (λ d e. ap symbol_key (sym (symbol_is f d.symbol (and_parts _ _ e).0)))
 
 pub declared_first : (ds : List Declared) (f : Symbol) (ss : List Sort) (a : Sort) → is_some (first (is_declaration f ss a) ds) ≡ declares ds f ss a
 declared_first [] f ss a = refl

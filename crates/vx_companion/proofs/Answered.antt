@@ -1,10 +1,10 @@
 -- What a session has answered, command by command from the first.
-use Rattle.std.proofs.Common.{◌≡◌, inl, inr, ◌⊎◌, ℕ, ◌<◌, ◌≤◌, List, [], ◌∷◌, ◌++◌, drop, Some, None, Result, Ok, Err, refl, ap, ◌∙◌, sym, subst, append_assoc, arith}
+use Rattle.std.proofs.Common.{◌≡◌, inl, inr, ◌⊎◌, ℕ, ◌<◌, ◌≤◌, ◌+◌, nat_le, Bool, true, false, List, [], ◌∷◌, ◌++◌, map, drop, Option, Some, None, Result, Ok, Err, refl, ap, ◌∙◌, sym, subst, append_assoc, arith}
 use Rattle.vx_sexp.specs.declared.token.Token.{Token}
 use Rattle.vx_sexp.specs.declared.reader.SexpFault.TheVariants as sexp_faults
 use Rattle.vx_sexp.specs.First.{IsFirst, deepest}
 use Rattle.vx_sexp.proofs.Exact.{first_is_one, fault_excludes, deep_excludes}
-use Rattle.vx_smt_meaning.specs.Commands.{Command}
+use Rattle.vx_smt_meaning.specs.Commands.{Command, SetOption, SetLogic, DeclareSort, DeclareFun, Assert, Push, Pop, CheckSat, GetProof, Exit, Level}
 use Rattle.vx_smt_meaning.specs.Views.{command}
 use Rattle.vx_smt_meaning.specs.declared.command.Command.{Command as Command'}
 use Rattle.vx_dialogue.proofs.Joined.{append_none, first_longer}
@@ -16,11 +16,19 @@ use Rattle.cs_commands.specs.Outcomes.{told, Fails}
 use Rattle.cs_commands.specs.Commands.{understood}
 use Rattle.cs_commands.specs.Understanding.{IsUnderstood, Understands}
 use Rattle.cs_commands.specs.Laws.{scope_of}
+use Rattle.cs_certificate.specs.Certificate.{Step}
+use Rattle.cs_proof.specs.Views.{written}
+use Rattle.cs_text.specs.Text.{certificate_text}
+use Rattle.cs_commands.proofs.Passed.{some_is, not_some}
 use Rattle.cs_session.specs.declared.reply.Reply.{Reply}
-use Rattle.cs_session.specs.Views.{State}
+use Rattle.cs_session.specs.declared.reply.Reply.TheVariants.{Proof}
+use Rattle.cs_session.specs.declared.session.Last.{Last}
+use Rattle.cs_session.specs.declared.session.Last.TheVariants.{Nothing, Refuted, Satisfied, Unknown}
+use Rattle.cs_session.specs.Views.{State, depth}
 use Rattle.cs_session.specs.Texts.{reply_text}
-use Rattle.cs_session.specs.Replies.{answer_to, Does, RepliesTo}
+use Rattle.cs_session.specs.Replies.{answer_to, Tells, FollowsIf, Shows, Proves, Does, RepliesTo}
 use Rattle.cs_session.specs.Answering.{start, Answering, begun, given, answered}
+use Rattle.vx_companion.proofs.Lines.{IsLine}
 
 -- The s-expression isn't understood, or is too deep.
 abbrev pub IsMissed : List Token → State → Type 0
@@ -75,6 +83,62 @@ answer_by bytes rest tokens s u r (Ok c) first meant done =
     let same : meant.0 ≡ tokens = (first_is_one bytes meant.0 tokens meant.1 rest meant.2 first).0 in
     inl (command c, subst (λ ts. understood (scope_of s.levels) ts ≡ Ok (command c)) same meant.4, done)
 answer_by bytes rest tokens s u r (Err e) first meant done = inr (e, done.0, done.1, missed bytes rest tokens s r e first meant done.0)
+
+-- ---- its line
+
+told_line : (e : Fault) (r : Reply) → answer_to e ≡ Some r → IsLine r
+told_line faults.Unfinished r is = subst IsLine (some_is is) tt
+told_line faults.BadToken r is = subst IsLine (some_is is) tt
+told_line faults.Deep r is = subst IsLine (some_is is) tt
+told_line (faults.Command command_faults.Name) r is = subst IsLine (some_is is) tt
+told_line (faults.Command command_faults.Wide) r is = subst IsLine (some_is is) tt
+told_line (faults.Command command_faults.Sort) r is = subst IsLine (some_is is) tt
+told_line (faults.Command command_faults.Levels) r is = subst IsLine (some_is is) tt
+told_line (faults.Command command_faults.Unsupported) r is = subst IsLine (some_is is) tt
+told_line (faults.Command command_faults.Want) r is = not_some is
+
+-- what is shown of some steps is one expression, and a line feed
+shown_line : (steps : List (Option Step)) (r : Reply) → Shows steps r → IsLine r
+shown_line steps (Proof line) h =
+    (h.1.0, subst (λ x. IsFirst x h.1.0 (10 ∷ [])) (sym h.0) (first_longer (certificate_text steps) (10 ∷ []) h.1.0 [] h.1.1))
+shown_line steps _ h = tt
+
+proved_line : (l : Last) (r : Reply) → Proves l r → IsLine r
+proved_line Nothing r h = subst IsLine (sym h) tt
+proved_line (Refuted steps) r h = shown_line (map written steps.items) r h
+proved_line Satisfied r h = subst IsLine (sym h) tt
+proved_line (Unknown cause) r h = subst IsLine (sym h) tt
+
+checked_line : (levels : List Level) (r : Reply) (l : Last) → Tells levels r l → IsLine r
+checked_line levels (Proof line) Nothing h = absurd h
+checked_line levels (Proof line) (Refuted steps) h = absurd h
+checked_line levels (Proof line) Satisfied h = absurd h
+checked_line levels (Proof line) (Unknown cause) h = absurd h
+checked_line levels _ l h = tt
+
+followed_line : (b : Bool) (c : Command) (s u : State) (r : Reply) → FollowsIf b c s r u → IsLine r
+followed_line true c s u r h = subst IsLine (sym h.0) tt
+followed_line false c s u r h = subst IsLine (sym h.0) tt
+
+done_line : (c : Command) (s u : State) (r : Reply) → Does c s r u → IsLine r
+done_line (SetOption x b) s u r h = subst IsLine (sym h.0) tt
+done_line (SetLogic x) s u r h = subst IsLine (sym h.0) tt
+done_line (DeclareSort x) s u r h = subst IsLine (sym h.0) tt
+done_line (DeclareFun d) s u r h = subst IsLine (sym h.0) tt
+done_line (Assert t) s u r h = subst IsLine (sym h.0) tt
+done_line (Push n) s u r h = followed_line (nat_le (depth s.levels + n) 256) (Push n) s u r h
+done_line (Pop n) s u r h = followed_line (nat_le n (depth s.levels)) (Pop n) s u r h
+done_line CheckSat s u r h = checked_line s.levels r u.last h.1
+done_line GetProof s u r h = proved_line s.last r h.0
+done_line Exit s u r h = subst IsLine (sym h.0) tt
+
+pub line_of : (tokens : List Token) (s u : State) (r : Reply) → IsAnswer tokens s r u → IsLine r
+line_of tokens s u r (inl done) = done_line done.0 s u r done.2
+line_of tokens s u r (inr fault) = told_line fault.0 r fault.1
+
+pub replied_line : (o : Result Command' Fault) (s u : State) (r : Reply) → RepliesTo o s r u → IsLine r
+replied_line (Ok c) s u r h = done_line (command c) s u r h
+replied_line (Err e) s u r h = told_line e r h.0
 
 -- ---- further bytes and further answers
 

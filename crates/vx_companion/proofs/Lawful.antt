@@ -28,14 +28,14 @@ use Rattle.vx_dialogue.proofs.Joined.{append_none, first_longer}
 use Rattle.vx_dialogue.proofs.Counts.{finished_first}
 use Rattle.cs_commands.specs.Laws.{AreApart}
 use Rattle.cs_session.specs.declared.reply.Reply.{Reply}
-use Rattle.cs_session.specs.declared.reply.Reply.TheVariants.{Success, Unsupported, Failed, Sat, Unsat, Undecided, Closed}
+use Rattle.cs_session.specs.declared.reply.Reply.TheVariants.{Success, Unsupported, Failed, Sat, Unsat, Undecided, Proof, Closed}
 use Rattle.cs_session.specs.Views.{State}
 use Rattle.cs_session.specs.Texts.{reply_text}
 use Rattle.cs_session.specs.Answering.{start}
 use Rattle.vx_companion.specs.Companion.{IsByCompanion, RepliesByCompanion}
 use Rattle.vx_companion.specs.Right.{IsSorted}
 use Rattle.vx_companion.specs.Lawful.{IsTaken, FitsOver, AllFit, CompanionIsLawful}
-use Rattle.vx_companion.proofs.Lines.{fed, item_of, first_fed, reply_first, reply_short, reply_shallow, complaint_unlawful, unsupported_unlawful}
+use Rattle.vx_companion.proofs.Lines.{fed, item_of, is_short, short_line, first_fed, reply_first, reply_short, reply_shallow, complaint_unlawful, unsupported_unlawful}
 use Rattle.vx_companion.proofs.Answered.{IsAnswer, AreAnswers, texts_of, answers_of}
 use Rattle.vx_companion.proofs.Taken.{IsDone, done_by}
 use Rattle.vx_companion.proofs.Rightly.{command_first, nothing_read}
@@ -81,15 +81,16 @@ not_both : (b : Bool) → b ≡ true → b ≡ false → ⊥
 not_both b e f = cc
 
 -- what is lawful is no refusal
-lawful_given : (c : Command) (r : Reply) → is_lawful_to c (item_of r) ≡ true → is_refusal (item_of r) ≡ false
+lawful_given : (c : Command) (r : Reply) → is_short r ≡ true → is_lawful_to c (item_of r) ≡ true → is_refusal (item_of r) ≡ false
 unfolding is_refusal
-lawful_given c Success e = refl
-lawful_given c Unsupported e = absurd (not_both (is_lawful_to c (item_of Unsupported)) e (unsupported_unlawful c))
-lawful_given c (Failed x) e = absurd (not_both (is_lawful_to c (item_of (Failed x))) e (complaint_unlawful c x))
-lawful_given c Sat e = refl
-lawful_given c Unsat e = refl
-lawful_given c Undecided e = refl
-lawful_given c Closed e = refl
+lawful_given c Success short e = refl
+lawful_given c Unsupported short e = absurd (not_both (is_lawful_to c (item_of Unsupported)) e (unsupported_unlawful c))
+lawful_given c (Failed x) short e = absurd (not_both (is_lawful_to c (item_of (Failed x))) e (complaint_unlawful c x))
+lawful_given c Sat short e = refl
+lawful_given c Unsat short e = refl
+lawful_given c Undecided short e = refl
+lawful_given c (Proof line) short e = absurd (cc)
+lawful_given c Closed short e = refl
 
 -- ---- the reply to one command among those that are got
 
@@ -97,6 +98,7 @@ lawful_given c Closed e = refl
 record Next (c : Command) (next ungot : List ℕ) : Type 0 where
   feed : Bool
   reply : Reply
+  short : is_short reply ≡ true
   rest : List ℕ
   is : next ++ ungot ≡ fed feed (reply_text reply ++ rest)
   lawful : is_lawful_to c (item_of reply) ≡ true
@@ -145,6 +147,7 @@ next_of [] c (d ∷ cs) [] (r ∷ rs) b e s end levels bytes left later unsent g
     record {
       feed = e;
       reply = r;
+      short = done.short;
       rest = texts_of rs;
       is = ap (λ x. x ++ ungot) heard ∙ got_is;
       lawful = same_lawful c d (item_of r) (sym sent_so.0 ∙ scripted.0) ∙ done.lawful;
@@ -156,7 +159,7 @@ next_of (a ∷ before) c (d ∷ cs) (item ∷ items) (r ∷ rs) b e s end levels
     done_by d s answers.0 r (subst (λ ls. AreApart (declared_in ls)) (sym at) apart) named.0 (subst (λ ls. MayFollow ls d) (sym at) follow.0) sorted.0 taken.0 (subst (λ ls. FitsOver ls d) (sym at) fits.0)
     (subst (λ ts. IsAnswer ts s r answers.0) scripted.0 answers.4) in
     let reply : IsFirst (gotten ++ ungot) (item_of r) (10 ∷ texts_of rs) =
-    subst (λ x. IsFirst x (item_of r) (10 ∷ texts_of rs)) (sym got_is) (first_fed e (reply_text r ++ texts_of rs) (item_of r) (10 ∷ texts_of rs) (reply_first r (texts_of rs))) in
+    subst (λ x. IsFirst x (item_of r) (10 ∷ texts_of rs)) (sym got_is) (first_fed e (reply_text r ++ texts_of rs) (item_of r) (10 ∷ texts_of rs) (reply_first r (texts_of rs) (short_line r done.short))) in
     let same = first_is_one (gotten ++ ungot) item (item_of r) (heard.0 ++ ungot) (10 ∷ texts_of rs) (first_longer gotten ungot item heard.0 heard.1) reply in
     next_of before c cs items rs true true answers.0 end (stack_after d levels) answers.1 left later unsent heard.0 ungot next
     (done.levels_are ∙ ap (stack_after d) at) (subst (λ ls. AreApart (declared_in (stack_after d ls))) at done.apart) named.1 follow.1 sorted.1 taken.1 fits.1 own.1 answers.5 none
@@ -166,7 +169,7 @@ next_of (a ∷ before) c (d ∷ cs) (item ∷ items) (r ∷ rs) b e s end levels
 
 first_next : {c : Command} {next ungot : List ℕ} (n : Next c next ungot) → IsFirst (next ++ ungot) (item_of n.reply) (10 ∷ n.rest)
 first_next n =
-    subst (λ x. IsFirst x (item_of n.reply) (10 ∷ n.rest)) (sym n.is) (first_fed n.feed (reply_text n.reply ++ n.rest) (item_of n.reply) (10 ∷ n.rest) (reply_first n.reply n.rest))
+    subst (λ x. IsFirst x (item_of n.reply) (10 ∷ n.rest)) (sym n.is) (first_fed n.feed (reply_text n.reply ++ n.rest) (item_of n.reply) (10 ∷ n.rest) (reply_first n.reply n.rest (short_line n.reply n.short)))
 
 -- a longer beginning goes on where a shorter one ends
 goes_on : (xs ys us vs : List ℕ) → xs ++ ys ≡ us ++ vs → length us ≤ length xs → (more : List ℕ) × (xs ≡ us ++ more)
@@ -185,11 +188,11 @@ fed_joined true xs ys = refl
 -- a reply is not so long
 not_long : {c : Command} {next ungot : List ℕ} (n : Next c next ungot) → longest < length next → (at : ℕ) → Faults (fault.Unfinished at) next → ⊥
 not_long {next = next} {ungot = ungot} n long at unfinished =
-    let short = reply_short n.feed n.reply in
+    let short = reply_short n.feed n.reply n.short in
     let more = goes_on next ungot (fed n.feed (reply_text n.reply)) n.rest (n.is ∙ fed_joined n.feed (reply_text n.reply) n.rest) (omega arith) in
     let first : IsFirst next (item_of n.reply) (10 ∷ more.0) =
     subst (λ x. IsFirst x (item_of n.reply) (10 ∷ more.0)) (sym (more.1 ∙ sym (fed_joined n.feed (reply_text n.reply) more.0)))
-    (first_fed n.feed (reply_text n.reply ++ more.0) (item_of n.reply) (10 ∷ more.0) (reply_first n.reply more.0)) in
+    (first_fed n.feed (reply_text n.reply ++ more.0) (item_of n.reply) (10 ∷ more.0) (reply_first n.reply more.0 (short_line n.reply n.short))) in
     fault_excludes (fault.Unfinished at) next (item_of n.reply) (10 ∷ more.0) unfinished first
 
 not_shallow : (n : ℕ) → 4096 < n → n ≤ 4096 → ⊥
@@ -198,7 +201,7 @@ not_shallow n deep shallow = omega arith
 is_item : {c : Command} {next ungot : List ℕ} → Next c next ungot → IsNoItem next → ⊥
 is_item {next = next} {ungot = ungot} n (inl bad) = bad_goes_nowhere bad.0 next ungot (item_of n.reply) (10 ∷ n.rest) bad.1 (first_next n)
 is_item {next = next} {ungot = ungot} n (inr (inl deep)) =
-    not_shallow (deepest 0 (item_of n.reply)) (deep_goes_deep deep.0 next deep.1 ungot (item_of n.reply) (10 ∷ n.rest) (first_next n)) (reply_shallow n.reply)
+    not_shallow (deepest 0 (item_of n.reply)) (deep_goes_deep deep.0 next deep.1 ungot (item_of n.reply) (10 ∷ n.rest) (first_next n)) (reply_shallow n.reply n.short)
 is_item n (inr (inr long)) = not_long n long.0 long.1 long.2
 
 -- the item that is got is the one that was answered
@@ -218,7 +221,7 @@ not_refused : {c : Command} {next ungot : List ℕ} → Next c next ungot → (k
 not_refused {c = c} n kept refused =
     let begins = refused.1 in
     let same = same_item n begins.0 begins.1 begins.2 in
-    not_both (is_refusal begins.0) begins.4 (ap is_refusal same ∙ lawful_given c n.reply n.lawful)
+    not_both (is_refusal begins.0) begins.4 (ap is_refusal same ∙ lawful_given c n.reply n.short n.lawful)
 
 -- ---- the record of a link
 

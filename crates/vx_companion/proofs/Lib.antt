@@ -1,4 +1,5 @@
 mod Replies
+mod Shown
 mod Lines
 mod Originals
 mod Likes

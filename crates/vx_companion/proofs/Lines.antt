@@ -1,5 +1,6 @@
 -- The line of a reply, as it is read.
-use Rattle.std.proofs.Common.{◌≡◌, ◌++◌, ◌≤◌, ℕ, Bool, true, false, true≢false, List, [], ◌∷◌, codes, length, Option, Some, refl, ap, ◌∙◌, sym, arith}
+use Rattle.std.proofs.Common.{◌≡◌, ◌++◌, ◌≤◌, ℕ, Bool, true, false, true≢false, List, [], ◌∷◌, codes, length, Option, Some, refl, ap, ◌∙◌, sym, subst, arith}
+use Rattle.std.specs.Prelude.{⊤}
 use Rattle.vx_sexp.specs.declared.token.Kind.TheVariants as kind
 use Rattle.vx_sexp.specs.declared.token.Token.{Token}
 use Rattle.vx_sexp.specs.declared.token.Token.TheVariants.{Open, Close, Atom}
@@ -18,9 +19,11 @@ use Rattle.cs_session.specs.Replies.{answer_to}
 use Rattle.cs_session.specs.declared.reply.Complaint.{Complaint}
 use Rattle.cs_session.specs.declared.reply.Complaint.TheVariants as complaints
 use Rattle.cs_session.specs.declared.reply.Reply.{Reply}
-use Rattle.cs_session.specs.declared.reply.Reply.TheVariants.{Success, Unsupported, Failed, Sat, Unsat, Undecided, Closed}
+use Rattle.cs_session.specs.declared.reply.Reply.TheVariants.{Success, Unsupported, Failed, Sat, Unsat, Undecided, Proof, Closed}
 use Rattle.cs_session.specs.Texts.{reply_text}
+use Rattle.vx_dialogue.proofs.Joined.{first_longer}
 use Rattle.vx_companion.specs.Companion.{IsOneReply}
+use Rattle.vx_companion.proofs.Shown.{tokens_in, tokens_are, line_one}
 
 -- a line feed may stand in front
 abbrev pub fed : Bool → List ℕ → List ℕ
@@ -43,6 +46,7 @@ complaint_item complaints.Name = failure (codes "\"name\"")
 complaint_item complaints.Wide = failure (codes "\"wide\"")
 complaint_item complaints.Sort = failure (codes "\"sort\"")
 complaint_item complaints.Levels = failure (codes "\"levels\"")
+complaint_item complaints.NoProof = failure (codes "\"no proof\"")
 
 abbrev pub item_of : Reply → List Token
 item_of Success = word (codes "success")
@@ -51,7 +55,22 @@ item_of (Failed c) = complaint_item c
 item_of Sat = word (codes "sat")
 item_of Unsat = word (codes "unsat")
 item_of Undecided = word (codes "unknown")
+item_of (Proof line) = tokens_in line
 item_of Closed = word (codes "success")
+
+-- a certificate is one expression, and a line feed
+abbrev pub IsLine : Reply → Type 0
+IsLine (Proof line) = (tokens : List Token) × IsFirst line tokens (10 ∷ [])
+IsLine r = ⊤
+
+-- any reply but a certificate
+abbrev pub is_short : Reply → Bool
+is_short (Proof line) = false
+is_short r = true
+
+pub short_line : (r : Reply) → is_short r ≡ true → IsLine r
+short_line (Proof line) e = absurd (cc)
+short_line _ e = tt
 
 -- ---- one whole expression
 
@@ -64,16 +83,18 @@ complaint_one complaints.Name = (refl, refl)
 complaint_one complaints.Wide = (refl, refl)
 complaint_one complaints.Sort = (refl, refl)
 complaint_one complaints.Levels = (refl, refl)
+complaint_one complaints.NoProof = (refl, refl)
 
-pub reply_one : (r : Reply) → IsOneReply (reply_text r)
+pub reply_one : (r : Reply) → IsLine r → IsOneReply (reply_text r)
 unfolding finished finished_at finished_from is_closed closed_at closed_from next scan move_of token_at kind_of is_blank is_digit is_symbol_byte is_word_byte
-reply_one Success = (refl, refl)
-reply_one Unsupported = (refl, refl)
-reply_one (Failed c) = complaint_one c
-reply_one Sat = (refl, refl)
-reply_one Unsat = (refl, refl)
-reply_one Undecided = (refl, refl)
-reply_one Closed = (refl, refl)
+reply_one Success e = (refl, refl)
+reply_one Unsupported e = (refl, refl)
+reply_one (Failed c) e = complaint_one c
+reply_one Sat e = (refl, refl)
+reply_one Unsat e = (refl, refl)
+reply_one Undecided e = (refl, refl)
+reply_one (Proof line) e = line_one line e.0 e.1
+reply_one Closed e = (refl, refl)
 
 -- ---- the first expression
 
@@ -132,16 +153,22 @@ complaint_first complaints.Name rest = failure_first (codes "\"name\"") rest ref
 complaint_first complaints.Wide rest = failure_first (codes "\"wide\"") rest refl
 complaint_first complaints.Sort rest = failure_first (codes "\"sort\"") rest refl
 complaint_first complaints.Levels rest = failure_first (codes "\"levels\"") rest refl
+complaint_first complaints.NoProof rest = failure_first (codes "\"no proof\"") rest refl
 
-pub reply_first : (r : Reply) (rest : List ℕ) → IsFirst (reply_text r ++ rest) (item_of r) (10 ∷ rest)
+line_first : (line : List ℕ) (tokens : List Token) (rest : List ℕ) → IsFirst line tokens (10 ∷ []) → IsFirst (line ++ rest) (tokens_in line) (10 ∷ rest)
+line_first line tokens rest e =
+    subst (λ ts. IsFirst (line ++ rest) ts (10 ∷ rest)) (sym (tokens_are line tokens (10 ∷ []) e)) (first_longer line rest tokens (10 ∷ []) e)
+
+pub reply_first : (r : Reply) (rest : List ℕ) → IsLine r → IsFirst (reply_text r ++ rest) (item_of r) (10 ∷ rest)
 unfolding is_digit is_symbol_byte
-reply_first Success rest = word_first (codes "success") rest refl
-reply_first Unsupported rest = word_first (codes "unsupported") rest refl
-reply_first (Failed c) rest = complaint_first c rest
-reply_first Sat rest = word_first (codes "sat") rest refl
-reply_first Unsat rest = word_first (codes "unsat") rest refl
-reply_first Undecided rest = word_first (codes "unknown") rest refl
-reply_first Closed rest = word_first (codes "success") rest refl
+reply_first Success rest e = word_first (codes "success") rest refl
+reply_first Unsupported rest e = word_first (codes "unsupported") rest refl
+reply_first (Failed c) rest e = complaint_first c rest
+reply_first Sat rest e = word_first (codes "sat") rest refl
+reply_first Unsat rest e = word_first (codes "unsat") rest refl
+reply_first Undecided rest e = word_first (codes "unknown") rest refl
+reply_first (Proof line) rest e = line_first line e.0 rest e.1
+reply_first Closed rest e = word_first (codes "success") rest refl
 
 complaint_short : (b : Bool) (c : Complaint) → length (fed b (reply_text (Failed c))) ≤ 32
 complaint_short false complaints.Unfinished = omega arith
@@ -151,6 +178,7 @@ complaint_short false complaints.Name = omega arith
 complaint_short false complaints.Wide = omega arith
 complaint_short false complaints.Sort = omega arith
 complaint_short false complaints.Levels = omega arith
+complaint_short false complaints.NoProof = omega arith
 complaint_short true complaints.Unfinished = omega arith
 complaint_short true complaints.BadToken = omega arith
 complaint_short true complaints.Deep = omega arith
@@ -158,21 +186,23 @@ complaint_short true complaints.Name = omega arith
 complaint_short true complaints.Wide = omega arith
 complaint_short true complaints.Sort = omega arith
 complaint_short true complaints.Levels = omega arith
+complaint_short true complaints.NoProof = omega arith
 
-pub reply_short : (b : Bool) (r : Reply) → length (fed b (reply_text r)) ≤ 32
-reply_short b (Failed c) = complaint_short b c
-reply_short false Success = omega arith
-reply_short false Unsupported = omega arith
-reply_short false Sat = omega arith
-reply_short false Unsat = omega arith
-reply_short false Undecided = omega arith
-reply_short false Closed = omega arith
-reply_short true Success = omega arith
-reply_short true Unsupported = omega arith
-reply_short true Sat = omega arith
-reply_short true Unsat = omega arith
-reply_short true Undecided = omega arith
-reply_short true Closed = omega arith
+pub reply_short : (b : Bool) (r : Reply) → is_short r ≡ true → length (fed b (reply_text r)) ≤ 32
+reply_short b (Failed c) e = complaint_short b c
+reply_short b (Proof line) e = absurd (cc)
+reply_short false Success e = omega arith
+reply_short false Unsupported e = omega arith
+reply_short false Sat e = omega arith
+reply_short false Unsat e = omega arith
+reply_short false Undecided e = omega arith
+reply_short false Closed e = omega arith
+reply_short true Success e = omega arith
+reply_short true Unsupported e = omega arith
+reply_short true Sat e = omega arith
+reply_short true Unsat e = omega arith
+reply_short true Undecided e = omega arith
+reply_short true Closed e = omega arith
 
 complaint_shallow : (c : Complaint) → deepest 0 (item_of (Failed c)) ≤ 4096
 complaint_shallow complaints.Unfinished = omega arith
@@ -182,15 +212,17 @@ complaint_shallow complaints.Name = omega arith
 complaint_shallow complaints.Wide = omega arith
 complaint_shallow complaints.Sort = omega arith
 complaint_shallow complaints.Levels = omega arith
+complaint_shallow complaints.NoProof = omega arith
 
-pub reply_shallow : (r : Reply) → deepest 0 (item_of r) ≤ 4096
-reply_shallow (Failed c) = complaint_shallow c
-reply_shallow Success = omega arith
-reply_shallow Unsupported = omega arith
-reply_shallow Sat = omega arith
-reply_shallow Unsat = omega arith
-reply_shallow Undecided = omega arith
-reply_shallow Closed = omega arith
+pub reply_shallow : (r : Reply) → is_short r ≡ true → deepest 0 (item_of r) ≤ 4096
+reply_shallow (Failed c) e = complaint_shallow c
+reply_shallow (Proof line) e = absurd (cc)
+reply_shallow Success e = omega arith
+reply_shallow Unsupported e = omega arith
+reply_shallow Sat e = omega arith
+reply_shallow Unsat e = omega arith
+reply_shallow Undecided e = omega arith
+reply_shallow Closed e = omega arith
 
 -- ---- refusals
 
@@ -202,6 +234,7 @@ complaint_text complaints.Name = codes "\"name\""
 complaint_text complaints.Wide = codes "\"wide\""
 complaint_text complaints.Sort = codes "\"sort\""
 complaint_text complaints.Levels = codes "\"levels\""
+complaint_text complaints.NoProof = codes "\"no proof\""
 
 complaint_is : (e : Complaint) → item_of (Failed e) ≡ failure (complaint_text e)
 complaint_is complaints.Unfinished = refl
@@ -211,6 +244,7 @@ complaint_is complaints.Name = refl
 complaint_is complaints.Wide = refl
 complaint_is complaints.Sort = refl
 complaint_is complaints.Levels = refl
+complaint_is complaints.NoProof = refl
 
 failure_unlawful : (c : Command) (x : List ℕ) → is_lawful_to c (failure x) ≡ false
 unfolding is_refusal

@@ -28,7 +28,7 @@ use Rattle.cs_commands.proofs.Following.{understood_follows}
 use Rattle.cs_commands.proofs.Apart.{stay_apart}
 use Rattle.cs_session.specs.declared.reply.Complaint.TheVariants as complaints
 use Rattle.cs_session.specs.declared.reply.Reply.{Reply}
-use Rattle.cs_session.specs.declared.reply.Reply.TheVariants.{Success, Unsupported, Failed, Sat, Unsat, Undecided, Closed}
+use Rattle.cs_session.specs.declared.reply.Reply.TheVariants.{Success, Unsupported, Failed, Sat, Unsat, Undecided, Proof, Closed}
 use Rattle.cs_session.specs.declared.session.Last.{Last}
 use Rattle.cs_session.specs.declared.session.Last.TheVariants.{Nothing, Refuted, Satisfied, Unknown}
 use Rattle.cs_session.specs.Views.{State, depth}
@@ -38,7 +38,7 @@ use Rattle.cs_session.specs.Answering.{start}
 use Rattle.vx_companion.specs.Companion.{IsByCompanion}
 use Rattle.vx_companion.specs.Right.{IsSorted, IsRight, CompanionIsRight}
 use Rattle.vx_companion.proofs.Lines.{fed, item_of, first_fed, reply_first, complaint_unlawful, fault_unlawful}
-use Rattle.vx_companion.proofs.Answered.{IsAnswer, AreAnswers, texts_of, answers_of}
+use Rattle.vx_companion.proofs.Answered.{IsAnswer, AreAnswers, texts_of, line_of, answers_of}
 use Rattle.vx_companion.proofs.Mirrors.{Mirrors, IsLikeCommand, like_assertions, none_there, same_length, mirrors_after}
 use Rattle.vx_companion.proofs.ReadCommands.{read_like}
 
@@ -75,20 +75,25 @@ leaves Exit d ks ls same is follows = subst (LeavesALevel ks) (sym is) tt
 
 -- ---- a check
 
-only_unsat : (r : Reply) → answer_of (item_of r) ≡ Some told.Unsat → r ≡ Unsat
-only_unsat Success e = absurd (cc)
-only_unsat Unsupported e = absurd (cc)
-only_unsat (Failed complaints.Unfinished) e = absurd (cc)
-only_unsat (Failed complaints.BadToken) e = absurd (cc)
-only_unsat (Failed complaints.Deep) e = absurd (cc)
-only_unsat (Failed complaints.Name) e = absurd (cc)
-only_unsat (Failed complaints.Wide) e = absurd (cc)
-only_unsat (Failed complaints.Sort) e = absurd (cc)
-only_unsat (Failed complaints.Levels) e = absurd (cc)
-only_unsat Sat e = absurd (cc)
-only_unsat Unsat e = refl
-only_unsat Undecided e = absurd (cc)
-only_unsat Closed e = absurd (cc)
+only_unsat : (levels : List Level) (r : Reply) (l : Last) → TellsOf levels r l → answer_of (item_of r) ≡ Some told.Unsat → r ≡ Unsat
+only_unsat levels Success l h e = absurd (cc)
+only_unsat levels Unsupported l h e = absurd (cc)
+only_unsat levels (Failed complaints.Unfinished) l h e = absurd (cc)
+only_unsat levels (Failed complaints.BadToken) l h e = absurd (cc)
+only_unsat levels (Failed complaints.Deep) l h e = absurd (cc)
+only_unsat levels (Failed complaints.Name) l h e = absurd (cc)
+only_unsat levels (Failed complaints.Wide) l h e = absurd (cc)
+only_unsat levels (Failed complaints.Sort) l h e = absurd (cc)
+only_unsat levels (Failed complaints.Levels) l h e = absurd (cc)
+only_unsat levels (Failed complaints.NoProof) l h e = absurd (cc)
+only_unsat levels Sat l h e = absurd (cc)
+only_unsat levels Unsat l h e = refl
+only_unsat levels Undecided l h e = absurd (cc)
+only_unsat levels (Proof line) Nothing h e = absurd h
+only_unsat levels (Proof line) (Refuted steps) h e = absurd h
+only_unsat levels (Proof line) Satisfied h e = absurd h
+only_unsat levels (Proof line) (Unknown cause) h e = absurd h
+only_unsat levels Closed l h e = absurd (cc)
 
 unsat_told : (levels : List Level) (l : Last) → TellsOf levels Unsat l → IsUnsatisfiable (assertions_of levels)
 unsat_told levels Nothing h = absurd h
@@ -99,7 +104,7 @@ unsat_told levels (Unknown cause) h = absurd h
 check_right : (ls : List Level) (s u : State) (r : Reply) → Mirrors s.levels ls → Does CheckSat s r u → answer_of (item_of r) ≡ Some told.Unsat → IsUnsatisfiable (assertions_of ls)
 check_right ls s u r m done e =
     none_there (assertions_of s.levels) (assertions_of ls) (like_assertions s.levels ls m)
-    (unsat_told s.levels u.last (subst (λ x. TellsOf s.levels x u.last) (only_unsat r e) done.1))
+    (unsat_told s.levels u.last (subst (λ x. TellsOf s.levels x u.last) (only_unsat s.levels r u.last done.1 e) done.1))
 
 checks_right : (c d : Command) (ls : List Level) (s u : State) (r : Reply) → Mirrors s.levels ls → IsLikeCommand d c → Does d s r u → Each IsRight (checks_in c ls (item_of r))
 checks_right (SetOption x b) d ls s u r m is done = tt
@@ -170,7 +175,7 @@ right_from (c ∷ cs) (item ∷ items) (r ∷ rs) b e s end ls bytes left begun 
     let first : IsFirst bytes (command_tokens c) (10 ∷ behind) = subst (λ x. IsFirst x (command_tokens c) (10 ∷ behind)) (sym whole) (command_first b c behind named.0) in
     let read = first_is_one bytes answers.2 (command_tokens c) answers.1 (10 ∷ behind) answers.3 first in
     let reply : IsFirst (gotten ++ ungot) (item_of r) (10 ∷ texts_of rs) =
-    subst (λ x. IsFirst x (item_of r) (10 ∷ texts_of rs)) (sym got_is) (first_fed e (reply_text r ++ texts_of rs) (item_of r) (10 ∷ texts_of rs) (reply_first r (texts_of rs))) in
+    subst (λ x. IsFirst x (item_of r) (10 ∷ texts_of rs)) (sym got_is) (first_fed e (reply_text r ++ texts_of rs) (item_of r) (10 ∷ texts_of rs) (reply_first r (texts_of rs) (line_of answers.2 s answers.0 r answers.4))) in
     let same = first_is_one (gotten ++ ungot) item (item_of r) (heard.0 ++ ungot) (10 ∷ texts_of rs) (first_longer gotten ungot item heard.0 heard.1) reply in
     let step : Steps c ls answers.0 r =
     steps c ls s answers.0 r m apart named.0 follow.0 sorted.0 (subst (λ ts. IsAnswer ts s r answers.0) read.0 answers.4) (ap (is_lawful_to c) (sym same.0) ∙ lawful.0) in

@@ -14,14 +14,14 @@ use Rattle.cs_commands.specs.Laws.{AreApart, IsPlain}
 use Rattle.cs_commands.proofs.Apart.{stay_apart}
 use Rattle.cs_commands.proofs.WrittenCommands.{behind_sorts, written_back}
 use Rattle.cs_session.specs.declared.reply.Reply.{Reply}
-use Rattle.cs_session.specs.declared.reply.Reply.TheVariants.{Success, Unsupported, Failed, Sat, Unsat, Undecided, Closed}
+use Rattle.cs_session.specs.declared.reply.Reply.TheVariants.{Success, Unsupported, Failed, Sat, Unsat, Undecided, Proof, Closed}
 use Rattle.cs_session.specs.declared.session.Last.{Last}
 use Rattle.cs_session.specs.declared.session.Last.TheVariants.{Nothing, Refuted, Satisfied, Unknown}
 use Rattle.cs_session.specs.Views.{State, depth}
 use Rattle.cs_session.specs.Replies.{Does, FollowsIf, Tells}
 use Rattle.vx_companion.specs.Right.{IsSorted}
 use Rattle.vx_companion.specs.Lawful.{IsTaken, FitsOver}
-use Rattle.vx_companion.proofs.Lines.{item_of}
+use Rattle.vx_companion.proofs.Lines.{item_of, is_short}
 use Rattle.vx_companion.proofs.ReadCommands.{same_ok}
 use Rattle.vx_companion.proofs.Answered.{IsAnswer}
 
@@ -82,6 +82,10 @@ answer_given levels (Failed c) Nothing h = absurd h
 answer_given levels (Failed c) (Refuted steps) h = absurd h
 answer_given levels (Failed c) Satisfied h = absurd h
 answer_given levels (Failed c) (Unknown cause) h = absurd h
+answer_given levels (Proof line) Nothing h = absurd h
+answer_given levels (Proof line) (Refuted steps) h = absurd h
+answer_given levels (Proof line) Satisfied h = absurd h
+answer_given levels (Proof line) (Unknown cause) h = absurd h
 answer_given levels Closed Nothing h = absurd h
 answer_given levels Closed (Refuted steps) h = absurd h
 answer_given levels Closed Satisfied h = absurd h
@@ -110,8 +114,34 @@ done_so CheckSat s u r fits follows done = (answer_given s.levels r u.last done.
 done_so GetProof s u r fits follows done = absurd fits
 done_so Exit s u r fits follows done = (ap (λ y. is_lawful_to Exit (item_of y)) done.0, ap (λ (x : State). x.levels) done.1)
 
--- a lawful reply, and the levels behind the command
+-- ---- it is no certificate
+
+answer_short : (levels : List Level) (r : Reply) (l : Last) → Tells levels r l → is_short r ≡ true
+answer_short levels (Proof line) Nothing h = absurd h
+answer_short levels (Proof line) (Refuted steps) h = absurd h
+answer_short levels (Proof line) Satisfied h = absurd h
+answer_short levels (Proof line) (Unknown cause) h = absurd h
+answer_short levels _ l h = refl
+
+follow_short : (b : Bool) (c : Command) (s u : State) (r : Reply) → FollowsIf b c s r u → is_short r ≡ true
+follow_short true c s u r done = ap is_short done.0
+follow_short false c s u r done = ap is_short done.0
+
+done_short : (c : Command) (s u : State) (r : Reply) → FitsOver s.levels c → Does c s r u → is_short r ≡ true
+done_short (SetOption x b) s u r fits done = ap is_short done.0
+done_short (SetLogic x) s u r fits done = ap is_short done.0
+done_short (DeclareSort x) s u r fits done = ap is_short done.0
+done_short (DeclareFun d) s u r fits done = ap is_short done.0
+done_short (Assert t) s u r fits done = ap is_short done.0
+done_short (Push n) s u r fits done = follow_short (nat_le (depth s.levels + n) 256) (Push n) s u r done
+done_short (Pop n) s u r fits done = follow_short (nat_le n (depth s.levels)) (Pop n) s u r done
+done_short CheckSat s u r fits done = answer_short s.levels r u.last done.1
+done_short GetProof s u r fits done = absurd fits
+done_short Exit s u r fits done = ap is_short done.0
+
+-- a lawful reply that is no certificate, and the levels behind the command
 pub record IsDone (c : Command) (levels : List Level) (u : State) (r : Reply) : Type 0 where
+  pub short : is_short r ≡ true
   pub lawful : is_lawful_to c (item_of r) ≡ true
   pub levels_are : u.levels ≡ stack_after c levels
   pub apart : AreApart (declared_in (stack_after c levels))
@@ -122,6 +152,6 @@ done_by c s u r apart name follows sorted taken fits (inl done) =
     let meant = (written_back s.levels c apart name follows (plain c sorted taken)).meant in
     let same : done.0 ≡ c = same_ok (sym done.1 ∙ meant) in
     let so = done_so c s u r fits follows (subst (λ d. Does d s r u) same done.2) in
-    record { lawful = so.0; levels_are = so.1; apart = stay_apart s.levels c apart follows }
+    record { short = done_short c s u r fits (subst (λ d. Does d s r u) same done.2); lawful = so.0; levels_are = so.1; apart = stay_apart s.levels c apart follows }
 done_by c s u r apart name follows sorted taken fits (inr fault) =
     absurd (fault.3 c (shallow c taken) (written_back s.levels c apart name follows (plain c sorted taken)).meant)

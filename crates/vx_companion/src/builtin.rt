@@ -27,7 +27,7 @@ fn reply(
         return Err(AllocError);
     };
     let line = reply.text();
-    replies.extend_from_slice(line.as_bytes())?;
+    replies.extend_from_slice(line)?;
     Ok(())
 }
 

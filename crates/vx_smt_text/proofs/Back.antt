@@ -15,7 +15,7 @@ use Rattle.vx_smt_meaning.specs.Spelled.{Spells}
 use Rattle.vx_smt_meaning.specs.Names.{AreNames, AllAreNames, AreSortNames, IsCommand, AreCommands}
 use Rattle.vx_smt_text.proofs.Words.{numeral_is, decimal_is, symbol_is, sort_is, operator_is}
 
-abbrev ends_word : List ℕ → Bool
+abbrev pub ends_word : List ℕ → Bool
 ends_word = begins (λ b. not (is_word_byte b))
 
 lexes_join : (bytes : List ℕ) (ts us : List Token) (mid rest : List ℕ) → Lexes bytes ts mid → Lexes mid us rest → Lexes bytes (ts ++ us) rest
@@ -29,7 +29,7 @@ close_one : (rest : List ℕ) → Starts (41 ∷ rest) Close rest
 close_one rest = record { space = []; text = 41 ∷ []; whole = refl; only_space = refl; spelled = refl; ended = refl }
 
 -- a list
-in_list : (body : List ℕ) (ts : List Token) (rest : List ℕ) → Lexes body ts (41 ∷ rest) → Lexes (40 ∷ body) (listed ts) rest
+pub in_list : (body : List ℕ) (ts : List Token) (rest : List ℕ) → Lexes body ts (41 ∷ rest) → Lexes (40 ∷ body) (listed ts) rest
 in_list body ts rest e = lexes_join (40 ∷ body) (Open ∷ ts) (Close ∷ []) (41 ∷ rest) rest (body, open_one body, e) (rest, close_one rest, refl)
 
 atom_one : (k : Kind) (x rest : List ℕ) → is_of k x ≡ true → is_ended (Atom k x) rest ≡ true → Lexes (x ++ rest) (Atom k x ∷ []) rest
@@ -46,7 +46,7 @@ blank_one b bytes t rest e s = record {
   ended = s.ended;
 }
 
-abbrev is_some : List Token → Bool
+abbrev pub is_some : List Token → Bool
 is_some [] = false
 is_some (t ∷ ts) = true
 
@@ -68,21 +68,21 @@ unfolding is_word_byte is_symbol_byte
 stops_close xs = refl
 
 -- The text reads as the tokens wherever a word would end behind it.
-record Reads (text : List ℕ) (ts : List Token) : Type 0 where
-  some : is_some ts ≡ true
-  all : (rest : List ℕ) → ends_word rest ≡ true → Lexes (text ++ rest) ts rest
+pub record Reads (text : List ℕ) (ts : List Token) : Type 0 where
+  pub some : is_some ts ≡ true
+  pub all : (rest : List ℕ) → ends_word rest ≡ true → Lexes (text ++ rest) ts rest
 
-reads_symbol : (x : List ℕ) → is_of kind.Symbol x ≡ true → Reads x (word x ∷ [])
+pub reads_symbol : (x : List ℕ) → is_of kind.Symbol x ≡ true → Reads x (word x ∷ [])
 reads_symbol x e = record { some = refl; all = λ rest f. atom_one kind.Symbol x rest e f }
 
-reads_numeral : (n : ℕ) → Reads (numeral n) (Atom kind.Numeral (numeral n) ∷ [])
+pub reads_numeral : (n : ℕ) → Reads (numeral n) (Atom kind.Numeral (numeral n) ∷ [])
 reads_numeral n = record { some = refl; all = λ rest f. atom_one kind.Numeral (numeral n) rest (numeral_is n).0 f }
 
 reads_decimal : (n : ℕ) → Reads (decimal n) (Atom kind.Decimal (decimal n) ∷ [])
 reads_decimal n = record { some = refl; all = λ rest f. atom_one kind.Decimal (decimal n) rest (decimal_is n) f }
 
 -- one after another, with a blank between
-reads_both : {a b : List ℕ} {ts us : List Token} → Reads a ts → Reads b us → Reads (a ++ (32 ∷ b)) (ts ++ us)
+pub reads_both : {a b : List ℕ} {ts us : List Token} → Reads a ts → Reads b us → Reads (a ++ (32 ∷ b)) (ts ++ us)
 reads_both {a = a} {b = b} {ts = ts} {us = us} e f = record {
   some = some_join ts us e.some;
   all = λ rest g. rw append_assoc (lexes_join (a ++ (32 ∷ b ++ rest)) ts us (32 ∷ b ++ rest) rest (e.all (32 ∷ b ++ rest) (stops_blank (b ++ rest)))
@@ -93,39 +93,39 @@ reads_both {a = a} {b = b} {ts = ts} {us = us} e f = record {
     some_join [] us e = absurd (cc)
     some_join (t ∷ ts) us e = refl
 
-reads_list : {a : List ℕ} {ts : List Token} → Reads a ts → Reads (40 ∷ a ++ 41 ∷ []) (listed ts)
+pub reads_list : {a : List ℕ} {ts : List Token} → Reads a ts → Reads (40 ∷ a ++ 41 ∷ []) (listed ts)
 reads_list {a = a} {ts = ts} e = record {
   some = refl;
   all = λ rest g. rw append_assoc (in_list (a ++ (41 ∷ rest)) ts rest (e.all (41 ∷ rest) (stops_close rest)));
 }
 
-reads_as : {a b : List ℕ} {ts : List Token} → a ≡ b → Reads b ts → Reads a ts
+pub reads_as : {a b : List ℕ} {ts : List Token} → a ≡ b → Reads b ts → Reads a ts
 reads_as {ts = ts} e f = subst (λ x. Reads x ts) (sym e) f
 
-small_symbols : (is_of kind.Symbol (codes "-") ≡ true) × (is_of kind.Symbol (codes "/") ≡ true) × (is_of kind.Symbol (codes "not") ≡ true)
+pub small_symbols : (is_of kind.Symbol (codes "-") ≡ true) × (is_of kind.Symbol (codes "/") ≡ true) × (is_of kind.Symbol (codes "not") ≡ true)
     × (is_of kind.Symbol (codes "ite") ≡ true) × (is_of kind.Symbol (codes "true") ≡ true) × (is_of kind.Symbol (codes "false") ≡ true)
 unfolding is_digit is_symbol_byte
 small_symbols = (refl, refl, refl, refl, refl, refl)
 
-reads_quotient : (p d : ℕ) → Reads (quotient_text p d) (quotient_tokens p d)
+pub reads_quotient : (p d : ℕ) → Reads (quotient_text p d) (quotient_tokens p d)
 reads_quotient p zero = reads_decimal p
 reads_quotient p (suc d) = reads_as (simp append_assoc)
     (reads_list (reads_both (reads_symbol (codes "/") (small_symbols).1) (reads_both (reads_decimal p) (reads_decimal (suc d + 1)))))
 
-reads_signed : (z : ℤ) (f : ℕ → List ℕ) (g : ℕ → List Token) → ((n : ℕ) → Reads (f n) (g n)) → Reads (signed_text z f) (signed_tokens z g)
+pub reads_signed : (z : ℤ) (f : ℕ → List ℕ) (g : ℕ → List Token) → ((n : ℕ) → Reads (f n) (g n)) → Reads (signed_text z f) (signed_tokens z g)
 reads_signed (pos n) f g h = h n
 reads_signed (negsuc n) f g h = reads_as (simp append_assoc)
     (reads_list (reads_both (reads_symbol (codes "-") (small_symbols).0) (h (n + 1))))
 
-append_none : {A : Type 0} (xs : List A) → xs ++ [] ≡ xs
+pub append_none : {A : Type 0} (xs : List A) → xs ++ [] ≡ xs
 append_none [] = refl
 append_none (x ∷ xs) = ap (λ l. x ∷ l) (append_none xs)
 
-reads_eq : {a b : List ℕ} {ts us : List Token} → a ≡ b → ts ≡ us → Reads b us → Reads a ts
+pub reads_eq : {a b : List ℕ} {ts us : List Token} → a ≡ b → ts ≡ us → Reads b us → Reads a ts
 reads_eq {b = b} {ts = ts} e f r = subst (λ x. Reads x ts) (sym e) (subst (λ x. Reads b x) (sym f) r)
 
 mutual
-  reads_term : (t : Term) → AreNames t → Reads (term_text t) (term_tokens t)
+  pub reads_term : (t : Term) → AreNames t → Reads (term_text t) (term_tokens t)
   reads_term (Truth true) e = reads_symbol (codes "true") (small_symbols).4
   reads_term (Truth false) e = reads_symbol (codes "false") (small_symbols).5
   reads_term (Number z) e = reads_signed z numeral _ reads_numeral
@@ -153,11 +153,11 @@ heads : (is_of kind.Symbol (codes "set-option") ≡ true) × (is_of kind.Symbol 
 unfolding is_digit is_symbol_byte
 heads = (refl, refl, refl, refl, refl, refl, refl, refl, refl, refl)
 
--- a command's list, whatever follows
-record ReadsList (text : List ℕ) (ts : List Token) : Type 0 where
-  all : (rest : List ℕ) → Lexes (text ++ rest) ts rest
+-- a list, whatever follows
+pub record ReadsList (text : List ℕ) (ts : List Token) : Type 0 where
+  pub all : (rest : List ℕ) → Lexes (text ++ rest) ts rest
 
-closed_list : {a : List ℕ} {ts : List Token} → Reads a ts → ReadsList (40 ∷ a ++ 41 ∷ []) (listed ts)
+pub closed_list : {a : List ℕ} {ts : List Token} → Reads a ts → ReadsList (40 ∷ a ++ 41 ∷ []) (listed ts)
 closed_list {a = a} {ts = ts} e = record { all = λ rest. rw append_assoc (in_list (a ++ (41 ∷ rest)) ts rest (e.all (41 ∷ rest) (stops_close rest))) }
 
 as_list : {a b : List ℕ} {ts : List Token} → a ≡ b → ReadsList b ts → ReadsList a ts

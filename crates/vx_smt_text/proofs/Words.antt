@@ -88,7 +88,7 @@ digits_symbol : (xs : List ℕ) → list_all is_digit xs ≡ true → list_all i
 digits_symbol [] e = refl
 digits_symbol (x ∷ xs) e = grind (arith, common_steps, digits_symbol xs, digit_symbol x)
 
-lettered : (b n : ℕ) → is_digit b ≡ false → is_symbol_byte b ≡ true → is_symbol (b ∷ numeral n) ≡ true
+pub lettered : (b n : ℕ) → is_digit b ≡ false → is_symbol_byte b ≡ true → is_symbol (b ∷ numeral n) ≡ true
 lettered b n e f = let all = digits_symbol (numeral n) (numeral_is n).1 in grind (arith, common_steps)
 
 pub symbol_is : (f : Symbol) → IsName f → is_symbol (symbol_word f) ≡ true

@@ -1,4 +1,4 @@
-//! The text of commands of SMT-LIB 2.6.
+//! The text of commands of SMT-LIB 2.6, and of their terms.
 #![tactic(auto)]
 
 mod laws;
@@ -6,4 +6,5 @@ mod terms;
 mod text;
 
 pub use laws::{spells_once, written_spells};
-pub use text::write;
+pub use terms::put_term;
+pub use text::{put_number, put_numeral, write};

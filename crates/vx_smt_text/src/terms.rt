@@ -146,8 +146,8 @@ fn put_next<'t>(
     }
 }
 
-/// Writes a term at the end.
-pub(crate) fn put_term(alloc: Global, text: &mut Vec<u8>, t: &Term) -> Result<(), AllocError>
+/// Writes a term at the end. After want of memory some of it may be written.
+pub fn put_term(alloc: Global, text: &mut Vec<u8>, t: &Term) -> Result<(), AllocError>
     ensures { OnOk result (text.new.items ≡ text.old.items ++ term_text (term t.now)) }
 {
     let mut pending = Vec::new(alloc);

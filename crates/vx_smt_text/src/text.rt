@@ -26,8 +26,9 @@ fn put_digits(text: &mut Vec<u8>, n: u128) -> Result<(), AllocError>
     Ok(())
 }
 
+/// Writes a numeral at the end. After want of memory some of it may be written.
 #[tactic(auto, unfolding(vx_smt_meaning::specs::Words::numeral))]
-fn put_numeral(text: &mut Vec<u8>, n: u128) -> Result<(), AllocError>
+pub fn put_numeral(text: &mut Vec<u8>, n: u128) -> Result<(), AllocError>
     ensures { OnOk result (text.new.items ≡ text.old.items ++ numeral n) }
 {
     if n == 0 {
@@ -117,7 +118,8 @@ fn put_quotient(text: &mut Vec<u8>, p: u128, below: u128) -> Result<(), AllocErr
     }
 }
 
-pub(crate) fn put_number(text: &mut Vec<u8>, z: i128) -> Result<(), AllocError>
+/// Writes a whole number at the end: a numeral, or one behind a minus. After want of memory some of it may be written.
+pub fn put_number(text: &mut Vec<u8>, z: i128) -> Result<(), AllocError>
     ensures { OnOk result (text.new.items ≡ text.old.items ++ signed_text z numeral) }
 {
     if z < 0 {

@@ -3,17 +3,16 @@ use Rattle.std.proofs.lemmas.List.{drop_all}
 use Rattle.vx_terms.specs.Sorts.{same_symbol}
 use Rattle.vx_terms.specs.Views.{symbol}
 use Rattle.cs_index.specs.Found.{found}
-use Rattle.cs_index.specs.Under.{under}
 use Rattle.cs_index.proofs.Indexed.{found_here}
-use Rattle.cs_reader.specs.Live.{declared_in}
+use Rattle.cs_reader.specs.Live.{declared_in, under}
 use Rattle.cs_commands.proofs.Places.{looked_up}
 use Rattle.cs_commands.proofs.live.place_of.Goals as goal
 
 pub loop-at-init : goal.loop-at-init
 loop-at-init c =
     ap (found (λ d. same_symbol (symbol c.args.f.now) d.symbol) (declared_in c.args.symbols.now))
-    (c.under-at-items.ensures ∙ ap (under c.args.symbols.now.index) c.symbol_key.ensures)
-    ∙ looked_up (declared_in c.args.symbols.now) c.args.symbols.now.index (symbol c.args.f.now) c.args.symbols.now.indexed
+    (c.under-at-items.ensures ∙ ap (under c.args.symbols.now) c.symbol_key.ensures)
+    ∙ looked_up c.args.symbols.now (symbol c.args.f.now)
 
 pub returns-then-is_at : goal.returns-then-is_at
 returns-then-is_at c =

@@ -1,17 +1,16 @@
 use Rattle.std.proofs.Common.{sym, ◌∙◌, ap}
 use Rattle.std.proofs.lemmas.List.{drop_all}
 use Rattle.cs_index.specs.Found.{found}
-use Rattle.cs_index.specs.Under.{under}
 use Rattle.cs_index.proofs.Indexed.{found_here}
-use Rattle.cs_reader.specs.Live.{declared_in}
+use Rattle.cs_reader.specs.Live.{declared_in, under}
 use Rattle.cs_reader.specs.Spelling.{spelled_by}
 use Rattle.cs_reader.proofs.Among.{looked_up}
 use Rattle.cs_reader.proofs.spell.place_of.Goals as goal
 
 pub loop-at-init : goal.loop-at-init
 loop-at-init c =
-    ap (found (spelled_by c.args.text.now) (declared_in c.args.symbols.now)) (c.under-at-items.ensures ∙ ap (under c.args.symbols.now.index) c.word_key.ensures)
-    ∙ looked_up (declared_in c.args.symbols.now) c.args.symbols.now.index c.args.text.now c.args.symbols.now.indexed
+    ap (found (spelled_by c.args.text.now) (declared_in c.args.symbols.now)) (c.under-at-items.ensures ∙ ap (under c.args.symbols.now) c.word_key.ensures)
+    ∙ looked_up c.args.symbols.now c.args.text.now
 
 pub returns-then-is_at : goal.returns-then-is_at
 returns-then-is_at c =

@@ -1,18 +1,15 @@
-use Rattle.std.proofs.Common.{◌≡◌, ℕ, ◌++◌, take, Some, IfSome, subst}
+use Rattle.std.proofs.Common.{rules, ◌≡◌, ◌++◌, Some, IfSome, sym, subst}
+use Rattle.cs_session.specs.Texts.{reply_text}
 use Rattle.cs_session.specs.Views.{state}
-use Rattle.cs_serve.proofs.Steps.{goes_on, stops_in_reply}
+use Rattle.cs_serve.specs.Working.{with_due}
+use Rattle.cs_serve.proofs.Steps.{due_more, goes_on}
 use Rattle.cs_serve.proofs.answer.answer.Goals as goal
 
-pub returns-in-Ok-put_text-clause-goes : goal.returns-in-Ok-put_text-clause-goes
-returns-in-Ok-put_text-clause-goes g c = λ before given total n ends at.
-    let old = g.K.Sink.taken c.args.out.now in
-    let new = g.K.Sink.taken c.put_text.new.out in
-    let puts = subst (λ x. IfSome old (λ bytes. new ≡ Some (bytes ++ x))) c.text.ensures c.in-Ok-put_text.ensures.taken in
-    rw c.is_last.ensures (goes_on before given old new total c.args.left.now (state c.args.session.now) (state c.command.new.self) n c.in-Ok.reply at ends c.in-Ok.ensures.replies puts)
-
-pub returns-in-Err-clause-stops : goal.returns-in-Err-clause-stops
-returns-in-Err-clause-stops g c = λ before given total n ends at at_end.
-    let old = g.K.Sink.taken c.args.out.now in
-    let new = g.K.Sink.taken c.put_text.new.out in
-    let puts = subst (λ x. IfSome old (λ bytes. (k : ℕ) × (new ≡ Some (bytes ++ take k x)))) c.text.ensures c.in-Err.ensures.taken in
-    rw c.in-Err.ensures.only (stops_in_reply before given old new total c.args.left.now (state c.args.session.now) (state c.command.new.self) n c.in-Ok.reply at_end at ends c.in-Ok.ensures.replies puts)
+pub returns-in-Ok-extend_from_slice-clause-goes : goal.returns-in-Ok-extend_from_slice-clause-goes
+returns-in-Ok-extend_from_slice-clause-goes c = λ before given taken total n ends at.
+    let old = c.args.due.now.items in
+    let new = c.extend_from_slice.new.self.items in
+    let reply = c.in-Ok.reply in
+    let items : new ≡ old ++ reply_text reply = search rules in
+    let puts = subst (λ x. IfSome (with_due taken old) (λ bytes. with_due taken x ≡ Some (bytes ++ reply_text reply))) (sym items) (due_more taken old (reply_text reply)) in
+    rw c.is_last.ensures (goes_on before given (with_due taken old) (with_due taken new) total c.args.left.now (state c.args.session.now) (state c.command.new.self) n reply at ends c.in-Ok.ensures.replies puts)

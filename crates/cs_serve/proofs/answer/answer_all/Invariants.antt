@@ -1,19 +1,16 @@
 use Rattle.std.proofs.Common.{ℕ, ◌≤◌, ◌-◌, false, List, length, drop, Option}
 use Rattle.vx_sexp.specs.Pieces.{Reached}
 use Rattle.cs_session.specs.Views.{state}
-use Rattle.cs_serve.specs.Working.{IsAt}
+use Rattle.cs_serve.specs.Working.{IsAt, with_due}
 use Rattle.cs_serve.proofs.answer.answer_all.Given as goal
 
 abbrev pub invariant-commands : goal.invariant-commands
-invariant-commands g l =
-    let taken = g.K.Sink.taken in
-    record {
-      within : l.at ≤ length l.bytes;
-      reached : Reached l.reading (drop l.at l.bytes);
-      works : (before : List ℕ) (given : Option (List ℕ)) (total : ℕ) → IsAt before given (taken l.fn.out) total l.bytes (state l.fn.session) false
-          → IsAt before given (taken l.out) total (drop l.at l.bytes) (state l.session) false;
-      later : g.K.Sink.faults l.fn.out ≤ g.K.Sink.faults l.out;
-    }
+invariant-commands l = record {
+  within : l.at ≤ length l.bytes;
+  reached : Reached l.reading (drop l.at l.bytes);
+  works : (before : List ℕ) (given taken : Option (List ℕ)) (total : ℕ) → IsAt before given (with_due taken l.fn.due.items) total l.bytes (state l.fn.session) false
+      → IsAt before given (with_due taken l.due.items) total (drop l.at l.bytes) (state l.session) false;
+}
 
 abbrev pub decreases-commands : goal.decreases-commands
-decreases-commands g l = length l.bytes - l.at
+decreases-commands l = length l.bytes - l.at

@@ -1,4 +1,4 @@
-use Rattle.std.proofs.Common.{◌≡◌, map, reverse, ap, subst, ◌∙◌}
+use Rattle.std.proofs.Common.{◌≡◌, map, reverse, subst}
 use Rattle.std.specs.Prelude.{string_bytes}
 use Rattle.vx_smt_meaning.specs.Commands.{declared_in}
 use Rattle.vx_smt_meaning.specs.Views.{declared_symbol}
@@ -12,10 +12,9 @@ use Rattle.cs_session.proofs.reading.understand.Goals as goal
 pub returns-clause-meant : goal.returns-clause-meant
 returns-clause-meant c =
     let levels = levels_of c.args.levels.now in
-    let symbols : map declared_symbol c.in-Ok.symbols.declared.now ≡ reverse (declared_in levels) =
-    ap (map declared_symbol) (c.in-Ok.ensures ∙ c.deref.ensures.value) ∙ ap (λ s. s.symbols) c.stack-stack.ensures.value in
+    let symbols : map declared_symbol c.symbols-symbols.result.declared.now ≡ reverse (declared_in levels) = c.symbols-symbols.ensures.value in
     let sorts : map string_bytes c.sorts.result.now ≡ reverse (sorts_in levels) = c.sorts.ensures in
-    over_levels c.understood_in_any_order.ensures.turned levels c.stack-stack.ensures.apart c.args.bytes.now c.understand.result
+    over_levels c.understood_in_any_order.ensures.turned levels c.symbols-symbols.ensures.apart c.args.bytes.now c.understand.result
     (subst (λ (s : Scope). Understands s c.args.bytes.now c.understand.result) (λ i. record { symbols = symbols i; sorts = sorts i }) c.understand.ensures)
 
 pub returns-clause-fits : goal.returns-clause-fits

@@ -4,9 +4,8 @@ use Rattle.vx_terms.specs.Terms.{sort_of}
 use Rattle.vx_terms.specs.Views.{terms, sort, symbol}
 use Rattle.cs_certificate.specs.Terms.{items}
 use Rattle.cs_index.specs.Found.{found}
-use Rattle.cs_index.specs.Under.{under}
 use Rattle.cs_index.proofs.Indexed.{found_here}
-use Rattle.cs_reader.specs.Live.{declared_in}
+use Rattle.cs_reader.specs.Live.{declared_in, under}
 use Rattle.cs_sorts.specs.Sorting.{is_declaration}
 use Rattle.cs_sorts.proofs.Declared.{looked_up, declared_first}
 use Rattle.cs_sorts.proofs.live.declares.Goals as goal
@@ -14,8 +13,8 @@ use Rattle.cs_sorts.proofs.live.declares.Goals as goal
 pub loop-at-init : goal.loop-at-init
 loop-at-init c =
     ap (found (is_declaration (symbol c.args.f.now) (map sort_of (items (terms c.args.parts.now))) (sort c.args.gives.now)) (declared_in c.args.symbols.now))
-    (c.under-at-items.ensures ∙ ap (under c.args.symbols.now.index) c.symbol_key.ensures)
-    ∙ looked_up (declared_in c.args.symbols.now) c.args.symbols.now.index (symbol c.args.f.now) (map sort_of (items (terms c.args.parts.now))) (sort c.args.gives.now) c.args.symbols.now.indexed
+    (c.under-at-items.ensures ∙ ap (under c.args.symbols.now) c.symbol_key.ensures)
+    ∙ looked_up c.args.symbols.now (symbol c.args.f.now) (map sort_of (items (terms c.args.parts.now))) (sort c.args.gives.now)
 
 pub returns-then-branch : goal.returns-then-branch
 returns-then-branch c =

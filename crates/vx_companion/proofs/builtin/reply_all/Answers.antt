@@ -4,6 +4,7 @@ use Rattle.cs_session.specs.Answering.{Answering, answered}
 use Rattle.cs_session.specs.Views.{state}
 use Rattle.vx_companion.specs.Companion.{KeepsUp}
 use Rattle.vx_companion.proofs.Replies.{answered_one, shorter}
+use Rattle.vx_companion.proofs.Answered.{replied_line}
 use Rattle.vx_companion.proofs.Lines.{reply_one}
 use Rattle.vx_dialogue.proofs.Counts.{finished_fault}
 use Rattle.vx_companion.proofs.builtin.reply_all.Goals as goal
@@ -24,7 +25,7 @@ commands-preserved c =
           (answered c.in-Ok.taken one.0 (so_far.answering all front h) ends one.1));
       keeps_up = λ all front h.
           rw (one.2, back) (subst (λ x. KeepsUp all left x) (append_assoc front replies line)
-          (answered_one all rest left (front ++ replies) line ends.1 ends.2 (reply_one one.0) (so_far.keeps_up all front h)));
+          (answered_one all rest left (front ++ replies) line ends.1 ends.2 (reply_one one.0 (replied_line one.1.understood (state c.commands.session) (state c.reply.new.session) one.0 one.1.replied)) (so_far.keeps_up all front h)));
     }
 
 pub returns-in-Err-clause-none_left : goal.returns-in-Err-clause-none_left

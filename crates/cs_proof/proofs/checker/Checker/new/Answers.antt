@@ -12,16 +12,16 @@ use Rattle.cs_proof.proofs.checker.Checker.new.Goals as goal
 
 pub returns-clause-value : goal.returns-clause-value
 returns-clause-value c =
-    let symbols : c.in_ok-symbols.symbols.declared.now ≡ c.args.stack.now.symbols.items = search rules in
-    let steps : c.deref-2.result.now ≡ c.in_ok-steps.steps.items = search rules in
-    let e : map written c.deref-2.result.now ≡ all_meant (seen c.args.stack.now) (seen_certificate c.args.certificate) =
+    let symbols : c.new-symbols.result.declared.now ≡ c.args.stack.now.symbols.items = search rules in
+    let steps : c.deref.result.now ≡ c.in_ok-steps.steps.items = search rules in
+    let e : map written c.deref.result.now ≡ all_meant (seen c.args.stack.now) (seen_certificate c.args.certificate) =
     ap (map written) steps ∙ c.in_ok-steps.ensures ∙ ap (λ ds. map (meant (map declared_symbol ds)) (seen_certificate c.args.certificate)) symbols in
-    subst (λ ws. IfOk c.of.result (λ c'. Begins (plans_of (seen c.args.stack.now) ws) (checker c'))) e c.of.ensures.value
+    subst (λ ws. IfOk c.of-2.result (λ c'. Begins (plans_of (seen c.args.stack.now) ws) (checker c'))) e c.of-2.ensures.value
 
 pub returns-clause-answers : goal.returns-clause-answers
 returns-clause-answers c =
-    let symbols : c.in_ok-symbols.symbols.declared.now ≡ c.args.stack.now.symbols.items = search rules in
-    let steps : c.deref-2.result.now ≡ c.in_ok-steps.steps.items = search rules in
-    let e : map written c.deref-2.result.now ≡ all_meant (seen c.args.stack.now) (seen_certificate c.args.certificate) =
+    let symbols : c.new-symbols.result.declared.now ≡ c.args.stack.now.symbols.items = search rules in
+    let steps : c.deref.result.now ≡ c.in_ok-steps.steps.items = search rules in
+    let e : map written c.deref.result.now ≡ all_meant (seen c.args.stack.now) (seen_certificate c.args.certificate) =
     ap (map written) steps ∙ c.in_ok-steps.ensures ∙ ap (λ ds. map (meant (map declared_symbol ds)) (seen_certificate c.args.certificate)) symbols in
-    λ sorted v. subst (λ ws. IfOk c.of.result (λ c'. Answers (seen c.args.stack.now) ws v ↔ (v ≡ clean.verdict (checker c')))) e (c.of.ensures.answers sorted v)
+    λ sorted v. subst (λ ws. IfOk c.of-2.result (λ c'. Answers (seen c.args.stack.now) ws v ↔ (v ≡ clean.verdict (checker c')))) e (c.of-2.ensures.answers sorted v)

@@ -18,6 +18,7 @@ invariant_of-self-2 c =
     ap (map (λ x. term x.value)) c.in_ok-push.ensures.items ∙ map-append (λ x. term x.value) xs (t ∷ []) in
     record {
       apart = s.apart;
+      indexed = s.indexed;
       sorted = ∥∥₁_map s.sorted (λ h. subst (Each IsSorted) (sym assertions) (each_push IsSorted (map (λ x. term x.value) xs) (term t.value) h c.requires));
     }
 

@@ -19,11 +19,12 @@ invariant_of-self-2 c =
     let s = c.args.self.now in
     let n = c.in-Some.newest in
     let xs = s.stack.assertions.items in
-    let symbols : reverse (map declared_symbol c.cut-2.new.items.items) ≡ drop n.symbols (all_of s).symbols =
-    ap (λ x. reverse (map declared_symbol x)) c.cut-2.ensures ∙ fewer declared_symbol n.symbols s.stack.symbols.items in
+    let symbols : reverse (map declared_symbol c.cut_symbols.new.symbols.items) ≡ drop n.symbols (all_of s).symbols =
+    ap (λ x. reverse (map declared_symbol x)) c.cut_symbols.ensures.symbols ∙ fewer declared_symbol n.symbols s.stack.symbols.items in
     record {
       apart = subst (λ (x : List Declared). are_apart x ≡ true) (sym symbols) (apart_without n.symbols (all_of s).symbols s.apart);
-      sorted = ∥∥₁_map s.sorted (λ h. subst (Each IsSorted) (take-map (λ x. term x.value) (length xs - n.assertions) xs ∙ ap (map (λ x. term x.value)) (sym c.cut-3.ensures)) (each_take IsSorted (length xs - n.assertions) (map (λ x. term x.value) xs) h));
+      indexed = c.cut_symbols.ensures.indexed;
+      sorted = ∥∥₁_map s.sorted (λ h. subst (Each IsSorted) (take-map (λ x. term x.value) (length xs - n.assertions) xs ∙ ap (map (λ x. term x.value)) (sym c.cut-2.ensures)) (each_take IsSorted (length xs - n.assertions) (map (λ x. term x.value) xs) h));
     }
 
 pub returns-clause-levels : goal.returns-clause-levels
@@ -32,10 +33,10 @@ returns-clause-levels c =
     let n = c.in-Some.newest in
     let sorts : reverse (map string_bytes c.cut.new.items.items) ≡ drop n.sorts (all_of s).sorts =
     ap (λ x. reverse (map string_bytes x)) c.cut.ensures ∙ fewer string_bytes n.sorts s.sorts.items in
-    let symbols : reverse (map declared_symbol c.cut-2.new.items.items) ≡ drop n.symbols (all_of s).symbols =
-    ap (λ x. reverse (map declared_symbol x)) c.cut-2.ensures ∙ fewer declared_symbol n.symbols s.stack.symbols.items in
-    let assertions : reverse (map (λ x. term x.value) c.cut-3.new.items.items) ≡ drop n.assertions (all_of s).assertions =
-    ap (λ x. reverse (map (λ y. term y.value) x)) c.cut-3.ensures ∙ fewer (λ x. term x.value) n.assertions s.stack.assertions.items in
+    let symbols : reverse (map declared_symbol c.cut_symbols.new.symbols.items) ≡ drop n.symbols (all_of s).symbols =
+    ap (λ x. reverse (map declared_symbol x)) c.cut_symbols.ensures.symbols ∙ fewer declared_symbol n.symbols s.stack.symbols.items in
+    let assertions : reverse (map (λ x. term x.value) c.cut-2.new.items.items) ≡ drop n.assertions (all_of s).assertions =
+    ap (λ x. reverse (map (λ y. term y.value) x)) c.cut-2.ensures ∙ fewer (λ x. term x.value) n.assertions s.stack.assertions.items in
     closes s.counts.items c.pop.new.self.items n (all_of s) _ c.in-Some.ensures.items (λ i. record { sorts = sorts i; symbols = symbols i; assertions = assertions i })
 
 pub returns-clause-depth : goal.returns-clause-depth

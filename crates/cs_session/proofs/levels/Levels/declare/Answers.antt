@@ -15,12 +15,13 @@ pub invariant_of-self-2 : goal.invariant_of-self-2
 invariant_of-self-2 c =
     let s = c.args.self.now in
     let d = c.args.declared in
-    let symbols : reverse (map declared_symbol c.push.new.self.items) ≡ declared_symbol d ∷ (all_of s).symbols =
-    ap (λ x. reverse (map declared_symbol x)) c.in_ok-push.ensures.items ∙ newer declared_symbol s.stack.symbols.items d in
+    let symbols : reverse (map declared_symbol c.push_symbol.new.symbols.items) ≡ declared_symbol d ∷ (all_of s).symbols =
+    ap (λ x. reverse (map declared_symbol x)) c.in_ok-push_symbol.ensures.added ∙ newer declared_symbol s.stack.symbols.items d in
     let fresh : names (all_of s).symbols (symbol d.symbol) ≡ false =
     subst (λ (ds : List Declared). names ds (symbol d.symbol) ≡ false) (symbols_on (reverse s.counts.items) (all_of s)) c.requires in
     record {
       apart = subst (λ (x : List Declared). are_apart x ≡ true) (sym symbols) (apart_with (all_of s).symbols (declared_symbol d) fresh s.apart);
+      indexed = c.push_symbol.ensures.indexed;
       sorted = s.sorted;
     }
 
@@ -28,6 +29,6 @@ pub returns : goal.returns
 returns c =
     let s = c.args.self.now in
     let d = c.args.declared in
-    let symbols : reverse (map declared_symbol c.push.new.self.items) ≡ declared_symbol d ∷ (all_of s).symbols =
-    ap (λ x. reverse (map declared_symbol x)) c.in_ok-push.ensures.items ∙ newer declared_symbol s.stack.symbols.items d in
+    let symbols : reverse (map declared_symbol c.push_symbol.new.symbols.items) ≡ declared_symbol d ∷ (all_of s).symbols =
+    ap (λ x. reverse (map declared_symbol x)) c.in_ok-push_symbol.ensures.added ∙ newer declared_symbol s.stack.symbols.items d in
     with_symbol (reverse s.counts.items) _ (all_of s) _ (declared_symbol d) c.in_ok-count_one.ensures (λ i. record { sorts = (all_of s).sorts; symbols = symbols i; assertions = (all_of s).assertions })

@@ -1,12 +1,9 @@
-use Rattle.std.proofs.Common.{◌≡◌, ◌+◌, [], ◌∷◌, ◌++◌, length, map, nat_eq, take, sym, ◌∙◌, ap, ap₂, subst}
+use Rattle.std.proofs.Common.{◌≡◌, ◌+◌, [], ◌∷◌, ◌++◌, length, map, take, sym, ◌∙◌, ap, subst}
 use Rattle.std.proofs.lemmas.List.{map-append, length-map}
 use Rattle.vx_smt_meaning.specs.Views.{declared_symbol}
-use Rattle.cs_index.specs.Under.{under, with_number}
-use Rattle.cs_index.specs.Found.{IsIndexed}
-use Rattle.cs_index.proofs.Indexed.{indexed_more}
-use Rattle.cs_reader.specs.Keys.{declared_key}
+use Rattle.cs_reader.specs.Indexing.{IsIndexOf}
 use Rattle.cs_reader.proofs.Fronts.{front_more, front_long}
-use Rattle.cs_reader.proofs.symbols.index_of.Goals as goal
+use Rattle.cs_reader.proofs.index.SymbolIndex.of.Goals as goal
 
 pub loop-at-preserved : goal.loop-at-preserved
 loop-at-preserved c =
@@ -15,6 +12,4 @@ loop-at-preserved c =
     let whole : map declared_symbol (take (c.loop-at.at + 1) c.args.declared.now) ≡ map declared_symbol front ++ declared_symbol one ∷ [] =
     ap (map declared_symbol) (front_more c.args.declared.now c.loop-at.at one c.loop-at-test.true c.index-declared-at.is) ∙ map-append declared_symbol front (one ∷ []) in
     let number : c.loop-at.at ≡ length (map declared_symbol front) = sym (length-map front declared_symbol ∙ front_long c.args.declared.now c.loop-at.at c.loop-at-test.true) in
-    subst (λ ds. IsIndexed declared_key ds c.add.new.self) (sym whole)
-    (indexed_more declared_key (map declared_symbol front) (declared_symbol one) c.loop-at.index c.add.new.self c.loop-at.invariant
-    (λ k. c.in_ok-add.ensures.added k ∙ ap₂ (λ key n. with_number (nat_eq key k) (under c.loop-at.index k) n) c.symbol_key.ensures number))
+    subst (λ ds. IsIndexOf ds c.add.new.self) (sym whole) (c.in_ok-add.ensures.added (map declared_symbol front) number c.loop-at.invariant)
