@@ -1,5 +1,5 @@
 -- What a solver answers to a stream of commands, and how that ends.
-use Rattle.std.specs.Prelude.{◌≡◌, ⊤, ℕ, Bool, true, false, List, [], ◌∷◌, ◌++◌, length, drop, Option, Some}
+use Rattle.std.specs.Prelude.{◌≡◌, ⊤, ℕ, Bool, true, false, List, [], ◌++◌, length, drop, Option, Some}
 use Rattle.vx_sexp.specs.Beginnings.{GoesOn, IsBeginning}
 use Rattle.vx_sexp.specs.Tokens.{is_space}
 use Rattle.cs_session.specs.declared.reply.Reply.{Reply}
