@@ -1,1 +1,1 @@
-mod Trees
+pub mod Trees

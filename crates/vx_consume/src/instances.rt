@@ -2,11 +2,8 @@
 
 ghost use Rattle.std.specs.Prelude.{◌≡◌, IfOk, string_bytes};
 ghost use Rattle.vx_heap.specs.Views.{heap as heap_of, held_term};
-ghost use Rattle.vx_resolved.specs.Resolved.{expr};
 ghost use Rattle.vx_resolved.specs.Settled.{settled};
 ghost use Rattle.vx_rules.specs.Codes.{code as code_of};
-ghost use Rattle.vx_rules.specs.Members.{rules};
-ghost use Rattle.vx_rules.specs.Rules as rule;
 ghost use Rattle.vx_rules.specs.Trees as tree;
 ghost use Rattle.vx_stack.specs.Stack.{frame_tree, giving, Stepped, take_instance, taking_instance};
 ghost use Rattle.vx_stack.specs.Values.{values};
@@ -17,38 +14,11 @@ use std::alloc::{AllocError, Global};
 use std::rc::Rc;
 use vx_ast::Place;
 use vx_heap::{SymHeap, not_negative};
-use vx_resolved::{Expr, Settled};
+use vx_resolved::Settled;
 use vx_rules::Code;
 use vx_stack::{Consumed, Consumption, Conts, Frame, Hole, Instance, Move, Next, Values};
 use vx_states::SymState;
 use vx_terms::{Term, arithmetic};
-
-/// An instance's share, after its arguments.
-pub fn step_arguments(
-    alloc: Global,
-    program: &Settled,
-    place: Place,
-    predicate: &Rc<String>,
-    share: &Rc<Expr>,
-    x: &Rc<Consumption>,
-    heap: &Rc<SymHeap>,
-    arguments: &Rc<Values>,
-    hole: &Rc<Hole>,
-    state: SymState,
-    conts: &mut Conts,
-) -> Result<Move, AllocError>
-    ensures { IfOk result (λ m. Stepped (settled program.now) (rule.eval (settled program.now) (rules (settled program.now)) (expr share.now.value) (state_of state) (λ a s. taking_instance (settled program.now) place (string_bytes predicate.now.value) (values arguments.now.value) (multiply (held_term x.now.value.scale) a) (code_of x.now.value.codes.permission) (heap_of heap.now.value) s (λ v s1. tree.Step (giving (settled program.now) hole.now.value v s1)))) conts.old.sides.items m conts.new.sides.items) }
-{
-    let held = Consumed::Held(
-        place,
-        predicate.clone()?,
-        arguments.clone()?,
-        x.clone()?,
-        heap.clone()?,
-    );
-    let rest = Rc::new(alloc, Hole::Consumed(held, hole.clone()?))?;
-    vx_eval::step(alloc, program, share, rest, state, conts)
-}
 
 /// On with the amount that is taken from this heap; its snapshot is that of the chunk.
 fn take_frame(

@@ -5,7 +5,8 @@ mod instances;
 mod locations;
 mod sides;
 
-ghost use Rattle.std.specs.Prelude.{◌≡◌, IfOk};
+ghost use Rattle.std.specs.Prelude.{◌≡◌, IfOk, true};
+ghost use Rattle.vx_consume.specs.Waiting.{is_evaluated};
 ghost use Rattle.vx_resolved.specs.Resolved.{assertion, expr};
 ghost use Rattle.vx_ast.specs.Syntax as syntax;
 ghost use Rattle.vx_rules.specs.Members.{rules};
@@ -18,9 +19,8 @@ ghost use Rattle.vx_heap.specs.Views.{held_term};
 ghost use Rattle.vx_resolved.specs.Settled.{settled};
 
 use crate::instances::step_held;
-use crate::locations::{step_amount, step_share, step_wrap};
+use crate::locations::{step_amount, step_wrap};
 use crate::sides::{step_chosen, step_implied};
-pub use instances::step_arguments;
 use std::alloc::{AllocError, Global};
 use std::rc::Rc;
 use vx_ast::Place;
@@ -166,7 +166,7 @@ fn add_built_pair(
     Ok(())
 }
 
-/// A value or a snapshot goes on to the assertion that it is of.
+/// A value or a snapshot goes on to the assertion that it is of, where no share is to be evaluated.
 pub fn step_consumed(
     alloc: Global,
     program: &Settled,
@@ -176,6 +176,7 @@ pub fn step_consumed(
     state: SymState,
     conts: &mut Conts,
 ) -> Result<Move, AllocError>
+    requires { is_evaluated consumed.now ≡ true }
     ensures { IfOk result (λ m. Stepped (settled program.now) (consumed_of (settled program.now) consumed.now (giving (settled program.now) hole.now.value) (held_term value) (state_of state)) conts.old.sides.items m conts.new.sides.items) }
 {
     match consumed {
@@ -195,9 +196,7 @@ pub fn step_consumed(
             add_built_pair(alloc, *codes, first, &value, &mut state)?;
             conts.give(program, both, hole, state)
         }
-        Consumed::Share(place, field, share, x, heap) => step_share(
-            alloc, program, value, *place, field, share, x, heap, hole, state, conts,
-        ),
+        Consumed::Share(_, _, _, _, _) => unreachable!(),
         Consumed::Amount(place, field, receiver, x, heap) => step_amount(
             alloc, program, &value, *place, field, receiver, x, heap, hole, state, conts,
         ),

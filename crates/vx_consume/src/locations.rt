@@ -2,7 +2,6 @@
 
 ghost use Rattle.std.specs.Prelude.{◌≡◌, IfOk, string_bytes};
 ghost use Rattle.vx_heap.specs.Views.{heap as heap_of, held_term};
-ghost use Rattle.vx_resolved.specs.Resolved.{expr};
 ghost use Rattle.vx_resolved.specs.Settled.{settled};
 ghost use Rattle.vx_rules.specs.Codes.{code as code_of};
 ghost use Rattle.vx_rules.specs.Members.{rules};
@@ -16,34 +15,13 @@ use std::alloc::{AllocError, Global};
 use std::rc::Rc;
 use vx_ast::Place;
 use vx_heap::{SymHeap, not_negative};
-use vx_resolved::{Expr, Settled};
+use vx_resolved::Settled;
 use vx_rules::Code;
 use vx_stack::{
     Codes, Consumed, Consumption, Conts, Frame, Hole, Location, Move, Next, field_sort,
 };
 use vx_states::SymState;
 use vx_terms::{Sort, Term, arithmetic, snapshots};
-
-/// A location's share, after its receiver.
-pub fn step_share(
-    alloc: Global,
-    program: &Settled,
-    receiver: Rc<Term>,
-    place: Place,
-    field: &Rc<String>,
-    share: &Rc<Expr>,
-    x: &Rc<Consumption>,
-    heap: &Rc<SymHeap>,
-    hole: &Rc<Hole>,
-    state: SymState,
-    conts: &mut Conts,
-) -> Result<Move, AllocError>
-    ensures { IfOk result (λ m. Stepped (settled program.now) (rule.eval (settled program.now) (rules (settled program.now)) (expr share.now.value) (state_of state) (λ a s. taking (settled program.now) place (string_bytes field.now.value) (held_term receiver) (multiply (held_term x.now.value.scale) a) (code_of x.now.value.codes.permission) (heap_of heap.now.value) s (wrapped (settled program.now) (string_bytes field.now.value) (context x.now.value.codes) (giving (settled program.now) hole.now.value)))) conts.old.sides.items m conts.new.sides.items) }
-{
-    let amount = Consumed::Amount(place, field.clone()?, receiver, x.clone()?, heap.clone()?);
-    let rest = Rc::new(alloc, Hole::Consumed(amount, hole.clone()?))?;
-    vx_eval::step(alloc, program, share, rest, state, conts)
-}
 
 /// On with the amount that is taken from this heap.
 fn take_frame(

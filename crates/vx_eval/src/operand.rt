@@ -1,7 +1,8 @@
 //! A step of what waits for the value of an operand.
 
-ghost use Rattle.std.specs.Prelude.{◌≡◌, IfOk};
+ghost use Rattle.std.specs.Prelude.{◌≡◌, IfOk, true};
 ghost use Rattle.vx_ast.specs.Syntax.{Program};
+ghost use Rattle.vx_eval.specs.Waiting.{is_plain};
 ghost use Rattle.vx_heap.specs.Views.{heap as heap_of, held_term};
 ghost use Rattle.vx_resolved.specs.Resolved.{connective, division, expr, exprs};
 ghost use Rattle.vx_rules.specs.Members.{rules};
@@ -18,16 +19,14 @@ use crate::operators::{connected, operated};
 use std::alloc::{AllocError, Global};
 use std::rc::Rc;
 use vx_ast::Place;
-use vx_funcs::{step_applied, step_measured};
 use vx_heap::{SymHeap, positive};
-use vx_probes::read_field;
 use vx_resolved::{Connective, Division, Expr, Exprs, Settled};
 use vx_rules::Code;
 use vx_stack::{Conts, Frame, Hole, Move, Next, Operand, Row};
 use vx_states::SymState;
 use vx_terms::{Term, make, numbers};
 
-/// The value of an operand goes on to the expression that it stands in.
+/// The value of an operand goes on to the expression that it stands in, where that neither reads a field nor applies a function.
 pub fn step_operand(
     alloc: Global,
     program: &Settled,
@@ -37,6 +36,7 @@ pub fn step_operand(
     state: SymState,
     conts: &mut Conts,
 ) -> Result<Move, AllocError>
+    requires { is_plain operand.now ≡ true }
     ensures { IfOk result (λ m. Stepped (settled program.now) (operand_of (settled program.now) operand.now (giving (settled program.now) hole.now.value) (held_term value) (state_of state)) conts.old.sides.items m conts.new.sides.items) }
 {
     match operand {
@@ -87,10 +87,7 @@ pub fn step_operand(
             let right = Frame::Eval(b.clone()?, hole.clone()?);
             conts.fork(alloc, program, value, state, left, right)
         }
-        Operand::Receiver(at, field) => {
-            let place = state.placed(*at);
-            read_field(alloc, program, place, field, value, hole, state, conts)
-        }
+        Operand::Receiver(_, _) => unreachable!(),
         Operand::Restore(heap) => {
             let mut state = state;
             let _inside = state.exchange_heap(heap.clone()?);
@@ -101,12 +98,8 @@ pub fn step_operand(
             let row = Row::Unfolding(*at, i.clone()?, value.clone()?, inside);
             step_share(alloc, program, *at, &value, es, row, state, conts)
         }
-        Operand::Applied(x, caller, heap) => step_applied(
-            alloc, program, value, x, caller, heap, hole, state, conts,
-        ),
-        Operand::Measured(x, own, caller) => step_measured(
-            alloc, program, &value, x, own, caller, hole, state, conts,
-        ),
+        Operand::Applied(_, _, _) => unreachable!(),
+        Operand::Measured(_, _, _) => unreachable!(),
     }
 }
 

@@ -1,2 +1,2 @@
+mod Branches
 mod Iterations
-mod Callees

@@ -1,6 +1,7 @@
 //! A step of a statement or of a block.
 
-ghost use Rattle.std.specs.Prelude.{◌≡◌, IfOk};
+ghost use Rattle.std.specs.Prelude.{◌≡◌, IfOk, true};
+ghost use Rattle.vx_exec.specs.Waiting.{is_plain};
 ghost use Rattle.vx_resolved.specs.Resolved.{assertion, block as block_of, stmt};
 ghost use Rattle.vx_rules.specs.Members as rule;
 ghost use Rattle.vx_rules.specs.Members.{rules};
@@ -13,9 +14,7 @@ ghost use Rattle.vx_terms.specs.Build.{whole_amount};
 ghost use Rattle.vx_heap.specs.Views.{held_term};
 ghost use Rattle.vx_resolved.specs.Settled.{settled};
 
-use crate::calls::step_promised;
 use crate::fields::step_new;
-use crate::folds::{step_fold_amount, step_folded, step_unfold_amount};
 use crate::loops::{step_enter, step_iterate, step_pass, step_while};
 use std::alloc::{AllocError, Global};
 use std::rc::Rc;
@@ -207,7 +206,7 @@ fn inner_frame(
     Ok(Frame::Go(inner))
 }
 
-/// A value goes on to the statement that it is of.
+/// A value goes on to the statement that it is of, where that writes to no chunk and reaches into no other member.
 pub fn step_executed(
     alloc: Global,
     program: &Settled,
@@ -217,6 +216,7 @@ pub fn step_executed(
     state: SymState,
     conts: &mut Conts,
 ) -> Result<Move, AllocError>
+    requires { is_plain executed.now ≡ true }
     ensures { IfOk result (λ m. Stepped (settled program.now) (executed_of (settled program.now) executed.now (going (settled program.now) next.now.value) (held_term value) (state_of state)) conts.old.sides.items m conts.new.sides.items) }
 {
     let mut state = state;
@@ -250,31 +250,15 @@ pub fn step_executed(
                 state,
             )
         }
-        Executed::WriteWith(place, field, receiver) => vx_probes::write_field(
-            alloc,
-            program,
-            *place,
-            field,
-            receiver.clone()?,
-            &value,
-            next,
-            state,
-            conts,
-        ),
+        Executed::WriteWith(_, _, _) => unreachable!(),
         Executed::Enter(it, kept) => step_enter(alloc, program, it, *kept, next, state, conts),
         Executed::Iterate(it, kept) => {
             step_iterate(alloc, program, value, it, *kept, state, conts)
         }
         Executed::Pass => step_pass(alloc, program, &value, next, state, conts),
-        Executed::Fold(place, predicate, arguments) => step_fold_amount(
-            alloc, program, &value, *place, predicate, arguments, next, state, conts,
-        ),
-        Executed::Unfold(place, predicate, arguments) => step_unfold_amount(
-            alloc, program, &value, *place, predicate, arguments, next, state, conts,
-        ),
-        Executed::Folded(instance, caller) => {
-            step_folded(alloc, program, value, instance, caller, next, state, conts)
-        }
-        Executed::Called(called) => step_promised(alloc, program, called, next, state, conts),
+        Executed::Fold(_, _, _) => unreachable!(),
+        Executed::Unfold(_, _, _) => unreachable!(),
+        Executed::Folded(_, _) => unreachable!(),
+        Executed::Called(_) => unreachable!(),
     }
 }

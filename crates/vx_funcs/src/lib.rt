@@ -6,5 +6,5 @@ mod measure;
 mod verified;
 
 pub use apply::{step_applied, step_apply};
-pub use measure::{step_measured, step_measured_by};
+pub use measure::step_measured;
 pub use verified::{step_entry, step_measure, step_run, verified_side};

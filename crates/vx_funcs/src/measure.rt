@@ -21,7 +21,7 @@ use std::alloc::{AllocError, Global};
 use std::rc::Rc;
 use vx_resolved::{Expr, Exprs, Measure, Settled};
 use vx_rules::Code;
-use vx_stack::{Application, Applied, Conts, Frame, Hole, Move, Next, Operand, Row, Values};
+use vx_stack::{Application, Applied, Conts, Frame, Hole, Move, Next, Operand, Row};
 use vx_states::{Caller, Own, SymState};
 use vx_terms::{Term, make, numbers};
 
@@ -224,23 +224,4 @@ pub fn step_measured(
         state,
         Frame::Go(next),
     )
-}
-
-/// The arguments of the instance that measures an application: back from the function's part, it is sought among the inner chunks.
-pub fn step_measured_by(
-    alloc: Global,
-    program: &Settled,
-    arguments: &Values,
-    x: &Rc<Applied>,
-    predicate: &Rc<String>,
-    caller: &Caller,
-    hole: &Rc<Hole>,
-    state: SymState,
-    conts: &mut Conts,
-) -> Result<Move, AllocError>
-    ensures { IfOk result (λ v. Stepped (settled program.now) (measured_by (settled program.now) x.now.value (string_bytes predicate.now.value) (values_of arguments.now) (back_to caller.now (state_of state)) (giving (settled program.now) hole.now.value)) conts.old.sides.items v conts.new.sides.items) }
-{
-    let mut state = state;
-    state.back(alloc, caller)?;
-    vx_probes::seek_inner(alloc, program, predicate, arguments, x, hole, state, conts)
 }

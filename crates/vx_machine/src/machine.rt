@@ -110,7 +110,7 @@ fn predicate_sides(alloc: Global, program: &Settled, d: &Predicate) -> Result<Co
     let mut conts = Conts::new(alloc);
     match &d.body {
         Some(body) => {
-            let side = vx_exec::predicate_side(alloc, program, &d.parameters, body)?;
+            let side = vx_members::predicate_side(alloc, program, &d.parameters, body)?;
             conts.sides.push(side)?;
             Ok(conts)
         }
@@ -134,7 +134,7 @@ fn first_sides(alloc: Global, program: &Settled, member: &Member) -> Result<Cont
         }
         Kind::Method(m) => {
             let mut conts = Conts::new(alloc);
-            let side = vx_exec::first_side(alloc, program, m)?;
+            let side = vx_members::first_side(alloc, program, m)?;
             conts.sides.push(side)?;
             Ok(conts)
         }

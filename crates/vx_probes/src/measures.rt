@@ -11,6 +11,7 @@ ghost use Rattle.vx_rules.specs.Rules as rule;
 ghost use Rattle.vx_rules.specs.Trees.{MeasureCode};
 ghost use Rattle.vx_stack.specs.Stack.{finding, giving, measured_by, rooted_at, side_tree, told, verified_body, Stepped};
 ghost use Rattle.vx_stack.specs.Values.{values};
+ghost use Rattle.vx_states.specs.Entering.{back_to};
 ghost use Rattle.vx_states.specs.SymStates.{optional_term, state as state_of};
 
 use crate::probes::probe_one;
@@ -22,7 +23,7 @@ use vx_quiet::mark_root;
 use vx_resolved::Settled;
 use vx_rules::Code;
 use vx_stack::{Applied, Conts, Frame, Hole, Move, Next, Search, Side, Values, Verified};
-use vx_states::SymState;
+use vx_states::{Caller, SymState};
 
 /// The side of what an application tells.
 fn telling(
@@ -152,7 +153,7 @@ fn inner_of(
 }
 
 /// An application is measured by an inner instance.
-pub fn seek_inner(
+fn seek_inner(
     alloc: Global,
     program: &Settled,
     predicate: &Rc<String>,
@@ -186,4 +187,23 @@ pub fn seek_root(
     let among = all_of(alloc, predicate, arguments, &state.heap)?;
     let wanted = search_among(alloc, place, arguments, among)?;
     root_from(alloc, program, &wanted, 0, v, state, conts)
+}
+
+/// The arguments of the instance that measures an application: back from the function's part, it is sought among the inner chunks.
+pub fn step_measured_by(
+    alloc: Global,
+    program: &Settled,
+    arguments: &Values,
+    x: &Rc<Applied>,
+    predicate: &Rc<String>,
+    caller: &Caller,
+    hole: &Rc<Hole>,
+    state: SymState,
+    conts: &mut Conts,
+) -> Result<Move, AllocError>
+    ensures { IfOk result (λ v. Stepped (settled program.now) (measured_by (settled program.now) x.now.value (string_bytes predicate.now.value) (values arguments.now) (back_to caller.now (state_of state)) (giving (settled program.now) hole.now.value)) conts.old.sides.items v conts.new.sides.items) }
+{
+    let mut state = state;
+    state.back(alloc, caller)?;
+    seek_inner(alloc, program, predicate, arguments, x, hole, state, conts)
 }

@@ -1,10 +1,9 @@
 //! The steps of an amount of a predicate's instance that is produced, and of a body that is produced for its instance.
 
 ghost use Rattle.std.specs.Prelude.{◌≡◌, IfOk, Some, string_bytes};
-ghost use Rattle.vx_heap.specs.Views.{chunk as chunk_view, held_term};
-ghost use Rattle.vx_resolved.specs.Resolved.{assertion, expr, predicate};
+ghost use Rattle.vx_heap.specs.Views.{held_term};
+ghost use Rattle.vx_resolved.specs.Resolved.{assertion, predicate};
 ghost use Rattle.vx_resolved.specs.Settled.{settled};
-ghost use Rattle.vx_rules.specs.Chunks.{instance_key};
 ghost use Rattle.vx_rules.specs.Members.{rules};
 ghost use Rattle.vx_rules.specs.Rules as rule;
 ghost use Rattle.vx_rules.specs.States as states;
@@ -19,39 +18,12 @@ use crate::step;
 use std::alloc::{AllocError, Global};
 use std::rc::Rc;
 use vx_ast::Place;
-use vx_heap::{Chunk, Resource, not_negative};
-use vx_resolved::{Assertion, Expr, Predicate, Settled};
+use vx_heap::not_negative;
+use vx_resolved::{Assertion, Predicate, Settled};
 use vx_rules::Code;
-use vx_stack::{Conts, Frame, Hole, Instance, Move, Next, Produced, Production, Values};
+use vx_stack::{Conts, Frame, Instance, Move, Next, Production, Values, chunk_of};
 use vx_states::SymState;
 use vx_terms::Term;
-
-/// An instance's share, after its arguments.
-pub fn step_arguments(
-    alloc: Global,
-    program: &Settled,
-    place: Place,
-    predicate: &Rc<String>,
-    share: &Rc<Expr>,
-    x: &Rc<Production>,
-    is_inner: bool,
-    arguments: &Rc<Values>,
-    next: &Rc<Next>,
-    state: SymState,
-    conts: &mut Conts,
-) -> Result<Move, AllocError>
-    ensures { IfOk result (λ m. Stepped (settled program.now) (rule.eval (settled program.now) (rules (settled program.now)) (expr share.now.value) (state_of state) (λ a s. putting_instance (settled program.now) place (string_bytes predicate.now.value) (values arguments.now.value) (multiply (held_term x.now.value.scale) a) (optional_term x.now.value.snapshot) is_inner s (going (settled program.now) next.now.value))) conts.old.sides.items m conts.new.sides.items) }
-{
-    let held = Produced::Held(
-        place,
-        predicate.clone()?,
-        arguments.clone()?,
-        x.clone()?,
-        is_inner,
-    );
-    let hole = Rc::new(alloc, Hole::Produced(held, next.clone()?))?;
-    vx_eval::step(alloc, program, share, hole, state, conts)
-}
 
 /// On with the amount that is put.
 fn put_frame(
@@ -97,25 +69,6 @@ pub fn step_held(
     let put = put_frame(alloc, program, instance, x, is_inner, next)?;
     let at = state.placed(place);
     conts.ask(alloc, program, allowed, at, Code::Amount, state, put)
-}
-
-/// The chunk of an instance with this snapshot.
-pub fn chunk_of(
-    alloc: Global,
-    instance: &Instance,
-    snapshot: Rc<Term>,
-    is_inner: bool,
-) -> Result<Chunk, AllocError>
-    ensures { IfOk result (λ c. chunk_view c ≡ record (instance_key (string_bytes instance.now.predicate.value) (values instance.now.arguments.value)) { amount = held_term instance.now.amount; value = held_term snapshot; inner = is_inner }) }
-{
-    Ok(Chunk {
-        resource: Resource::Predicate(instance.predicate.clone()?),
-        arguments: instance.arguments.to_vec(alloc)?,
-        amount: instance.amount.clone()?,
-        value: snapshot,
-        is_root: false,
-        is_inner,
-    })
 }
 
 /// An instance's amount is put, with a snapshot that is new or the name of the one that is given.

@@ -5,7 +5,7 @@ mod instances;
 mod locations;
 mod sides;
 
-ghost use Rattle.std.specs.Prelude.{◌≡◌, IfOk};
+ghost use Rattle.std.specs.Prelude.{◌≡◌, IfOk, true};
 ghost use Rattle.vx_resolved.specs.Resolved.{assertion};
 ghost use Rattle.vx_rules.specs.Members.{rules};
 ghost use Rattle.vx_rules.specs.Rules as rule;
@@ -14,12 +14,13 @@ ghost use Rattle.vx_rules.specs.States.{with_fact};
 ghost use Rattle.vx_states.specs.SymStates.{optional_term, state as state_of};
 ghost use Rattle.vx_rules.specs.Trees as tree;
 ghost use Rattle.vx_heap.specs.Views.{held_term};
+ghost use Rattle.vx_produce.specs.Waiting.{is_evaluated};
 ghost use Rattle.vx_resolved.specs.Settled.{settled};
 
 use crate::instances::step_held;
-use crate::locations::{step_amount, step_share};
+use crate::locations::step_amount;
 use crate::sides::{step_chosen, step_implied};
-pub use instances::{chunk_of, step_arguments, step_body, step_put_instance};
+pub use instances::{step_body, step_put_instance};
 pub use locations::step_put;
 use std::alloc::{AllocError, Global};
 use std::rc::Rc;
@@ -145,7 +146,7 @@ fn step_fact(
     conts.go(program, Frame::Go(next.clone()?), state)
 }
 
-/// A value goes on to the assertion that it is of.
+/// A value goes on to the assertion that it is of, where no share is to be evaluated.
 pub fn step_produced(
     alloc: Global,
     program: &Settled,
@@ -155,13 +156,12 @@ pub fn step_produced(
     state: SymState,
     conts: &mut Conts,
 ) -> Result<Move, AllocError>
+    requires { is_evaluated produced.now ≡ true }
     ensures { IfOk result (λ m. Stepped (settled program.now) (produced_of (settled program.now) produced.now (going (settled program.now) next.now.value) (held_term value) (state_of state)) conts.old.sides.items m conts.new.sides.items) }
 {
     match produced {
         Produced::Fact(snapshot) => step_fact(alloc, program, value, snapshot, next, state, conts),
-        Produced::Share(place, field, share, x, is_inner) => step_share(
-            alloc, program, value, *place, field, share, x, *is_inner, next, state, conts,
-        ),
+        Produced::Share(_, _, _, _, _) => unreachable!(),
         Produced::Amount(place, field, receiver, x, is_inner) => step_amount(
             alloc, program, &value, *place, field, receiver, x, *is_inner, next, state, conts,
         ),

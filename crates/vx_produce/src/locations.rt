@@ -2,11 +2,8 @@
 
 ghost use Rattle.std.specs.Prelude.{◌≡◌, IfOk, string_bytes};
 ghost use Rattle.vx_heap.specs.Views.{chunk as chunk_view, held_term};
-ghost use Rattle.vx_resolved.specs.Resolved.{expr};
 ghost use Rattle.vx_resolved.specs.Settled.{settled};
 ghost use Rattle.vx_rules.specs.Chunks.{field_key};
-ghost use Rattle.vx_rules.specs.Members.{rules};
-ghost use Rattle.vx_rules.specs.Rules as rule;
 ghost use Rattle.vx_rules.specs.Trees as tree;
 ghost use Rattle.vx_stack.specs.Stack.{frame_tree, going, putting, Stepped, with_location};
 ghost use Rattle.vx_states.specs.SymStates.{optional_term, state as state_of};
@@ -16,9 +13,9 @@ use std::alloc::{AllocError, Global};
 use std::rc::Rc;
 use vx_ast::Place;
 use vx_heap::{Chunk, Resource, not_negative};
-use vx_resolved::{Expr, Settled};
+use vx_resolved::Settled;
 use vx_rules::Code;
-use vx_stack::{Conts, Frame, Hole, Location, Move, Next, Produced, Production, field_sort};
+use vx_stack::{Conts, Frame, Location, Move, Next, Production, field_sort};
 use vx_states::SymState;
 use vx_terms::{Term, arithmetic};
 
@@ -27,27 +24,6 @@ pub fn scaled(alloc: Global, x: &Production, share: &Rc<Term>) -> Result<Rc<Term
     ensures { IfOk result (λ t. held_term t ≡ multiply (held_term x.now.scale) (held_term share.now)) }
 {
     arithmetic::mul(alloc, &x.scale, share)
-}
-
-/// A location's share, after its receiver.
-pub fn step_share(
-    alloc: Global,
-    program: &Settled,
-    receiver: Rc<Term>,
-    place: Place,
-    field: &Rc<String>,
-    share: &Rc<Expr>,
-    x: &Rc<Production>,
-    is_inner: bool,
-    next: &Rc<Next>,
-    state: SymState,
-    conts: &mut Conts,
-) -> Result<Move, AllocError>
-    ensures { IfOk result (λ m. Stepped (settled program.now) (rule.eval (settled program.now) (rules (settled program.now)) (expr share.now.value) (state_of state) (λ a s. putting (settled program.now) place (string_bytes field.now.value) (held_term receiver) (multiply (held_term x.now.value.scale) a) (optional_term x.now.value.snapshot) is_inner s (going (settled program.now) next.now.value))) conts.old.sides.items m conts.new.sides.items) }
-{
-    let amount = Produced::Amount(place, field.clone()?, receiver, x.clone()?, is_inner);
-    let hole = Rc::new(alloc, Hole::Produced(amount, next.clone()?))?;
-    vx_eval::step(alloc, program, share, hole, state, conts)
 }
 
 /// On with the amount that is put.

@@ -4,6 +4,7 @@
 mod clauses;
 mod conts;
 mod frame;
+mod instances;
 mod question;
 mod search;
 mod waiting;
@@ -11,6 +12,7 @@ mod waiting;
 pub use clauses::{as_assertion, conjoined, joined, place_of, precondition};
 pub use conts::{Conts, Left, Move};
 pub use frame::{Frame, Hole, Next, Row, Side, Taken};
+pub use instances::chunk_of;
 pub use question::Query;
 pub use search::field_sort;
 pub use waiting::{

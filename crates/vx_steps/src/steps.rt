@@ -14,10 +14,14 @@ ghost use Rattle.vx_terms.specs.Views.{sort as sort_view};
 ghost use Rattle.vx_resolved.specs.Settled.{settled};
 ghost use Rattle.vx_steps.specs.Steps.{is_step, is_plain};
 
+use crate::consuming::{self, step_consumed};
+use crate::evaluating::step_operand;
+use crate::executing::step_executed;
+use crate::producing::{self, step_produced};
 use std::alloc::{AllocError, Global};
 use std::rc::Rc;
 use vx_ast::Place;
-use vx_exec::Promise;
+use vx_members::Promise;
 use vx_resolved::{Method, Settled};
 use vx_rules::Code;
 use vx_stack::{
@@ -38,14 +42,14 @@ fn step_both_sides(
     ensures { IfOk result (λ v. Stepped (settled program.now) (both_sides (settled program.now) (rules (settled program.now)) (method m.now) (state_of state)) conts.old.sides.items v conts.new.sides.items) }
 {
     match &m.body {
-        Some(body) => vx_exec::step_sides(alloc, program, m, body, state, conts),
+        Some(body) => vx_members::step_sides(alloc, program, m, body, state, conts),
         None => {
             let Promise {
                 all,
                 production,
                 state,
                 finish,
-            } = vx_exec::make_promise(alloc, program, m, state)?;
+            } = vx_members::make_promise(alloc, program, m, state)?;
             vx_produce::step(alloc, program, &all, &production, &finish, state, conts)
         }
     }
@@ -108,19 +112,19 @@ fn step_hole(
         Hole::Entry(v) => vx_funcs::step_entry(alloc, program, value, v, state, conts),
         Hole::Outcome(v) => step_outcome(alloc, program, value, v, state, conts),
         Hole::Operand(operand, hole) => {
-            vx_eval::step_operand(alloc, program, value, operand, hole, state, conts)
+            step_operand(alloc, program, value, operand, hole, state, conts)
         }
         Hole::Argument(rest, row) => {
             vx_eval::step_argument(alloc, program, value, rest, row, state, conts)
         }
         Hole::Consumed(consumed, hole) => {
-            vx_consume::step_consumed(alloc, program, value, consumed, hole, state, conts)
+            step_consumed(alloc, program, value, consumed, hole, state, conts)
         }
-        Hole::Produced(produced, next) => vx_produce::step_produced(
+        Hole::Produced(produced, next) => step_produced(
             alloc, program, value, produced, next, state, conts,
         ),
         Hole::Executed(executed, next) => {
-            vx_exec::step_executed(alloc, program, value, executed, next, state, conts)
+            step_executed(alloc, program, value, executed, next, state, conts)
         }
     }
 }
@@ -190,7 +194,7 @@ fn step_unfold(
 ) -> Result<Move, AllocError>
     ensures { IfOk result (λ m. Stepped (settled program.now) (unfolded (settled program.now) (rules (settled program.now)) place (string_bytes predicate.now.value) (values_of arguments.now.value) (held_term amount.now) (state_of state) (going (settled program.now) next.now.value)) conts.old.sides.items m conts.new.sides.items) }
 {
-    let instance = vx_exec::instance_of(alloc, place, predicate, amount, arguments)?;
+    let instance = vx_members::instance_of(alloc, place, predicate, amount, arguments)?;
     vx_probes::unfold(alloc, program, instance, next, state, conts)
 }
 
@@ -210,10 +214,10 @@ fn step_row(
         Row::Apply(place, function, hole) => vx_funcs::step_apply(
             alloc, program, *place, function, &values, hole, state, conts,
         ),
-        Row::Produce(place, predicate, share, x, is_inner, next) => vx_produce::step_arguments(
+        Row::Produce(place, predicate, share, x, is_inner, next) => producing::step_arguments(
             alloc, program, *place, predicate, share, x, *is_inner, &values, next, state, conts,
         ),
-        Row::Consume(place, predicate, share, x, heap, hole) => vx_consume::step_arguments(
+        Row::Consume(place, predicate, share, x, heap, hole) => consuming::step_arguments(
             alloc, program, *place, predicate, share, x, heap, &values, hole, state, conts,
         ),
         Row::Unfolding(place, predicate, amount, next) => {
@@ -225,13 +229,13 @@ fn step_row(
         Row::Unfold(place, predicate, amount, next) => step_unfold(
             alloc, program, *place, predicate, amount, &values, next, state, conts,
         ),
-        Row::Fold(place, predicate, amount, next) => vx_exec::step_fold(
+        Row::Fold(place, predicate, amount, next) => vx_members::step_fold(
             alloc, program, *place, predicate, amount, &values, next, state, conts,
         ),
-        Row::Call(place, targets, method, next) => vx_exec::step_call(
+        Row::Call(place, targets, method, next) => vx_members::step_call(
             alloc, program, *place, targets, method, &values, next, state, conts,
         ),
-        Row::Measured(x, predicate, caller, hole) => vx_funcs::step_measured_by(
+        Row::Measured(x, predicate, caller, hole) => vx_probes::step_measured_by(
             alloc, program, &values, x, predicate, caller, hole, state, conts,
         ),
         Row::Root(v, place, predicate) => vx_probes::seek_root(
@@ -296,7 +300,7 @@ fn step_next(
             alloc, program, instance, snapshot, *is_inner, next, state, conts,
         ),
         Next::Back(_caller, _next) => unreachable!(),
-        Next::Return(way, next) => vx_exec::step_return(alloc, program, way, next, state, conts),
+        Next::Return(way, next) => vx_members::step_return(alloc, program, way, next, state, conts),
         Next::MeasureFrom(search, number, x, hole) => vx_probes::measure_from(
             alloc, program, search, *number, x, hole, state, conts,
         ),

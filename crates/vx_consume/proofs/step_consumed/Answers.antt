@@ -18,9 +18,6 @@ returns-in_ok-add_built_pair-in-With c =
     stepped_as (settled c.args.program.now) _ _ _ _ _
     (rw (c.in-With.is, c.in_ok-both-in-With.ensures, c.in_ok-add_built_pair-in-With.ensures) refl) c.give.ensures
 
-pub returns-in-Share : goal.returns-in-Share
-returns-in-Share c = stepped_as (settled c.args.program.now) _ _ _ _ _ (rw c.in-Share.is refl) c.step_share.ensures
-
 pub returns-in-Amount : goal.returns-in-Amount
 returns-in-Amount c = stepped_as (settled c.args.program.now) _ _ _ _ _ (rw (c.in-Amount.is, c.deref-in-Amount.ensures) refl) c.step_amount.ensures
 

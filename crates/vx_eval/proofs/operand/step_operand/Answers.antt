@@ -33,13 +33,6 @@ returns-in_ok-clone-in-ChooseThen-2 c = stepped_as (settled c.args.program.now) 
 pub returns-in_ok-clone-in-ChooseElse-2 : goal.returns-in_ok-clone-in-ChooseElse-2
 returns-in_ok-clone-in-ChooseElse-2 c = stepped_as (settled c.args.program.now) _ _ _ _ _ (rw (c.in-ChooseElse.is, c.in_ok-clone-in-ChooseElse.ensures.cases, c.in_ok-clone-in-ChooseElse-2.ensures.cases) refl) c.eval-in-ChooseElse.ensures
 
-pub returns-in-Receiver : goal.returns-in-Receiver
-returns-in-Receiver c =
-    let p = settled c.args.program.now in
-    stepped_as p _ _ _ _ _
-    (rw c.in-Receiver.is (sym (reads (string_bytes c.in-Receiver.field.value) (held_term c.args.value) c.placed-place.result (placed (state c.args.state) c.in-Receiver.at) (state c.args.state) (giving p c.args.hole.now.value) c.placed-place.ensures)))
-    c.read_field.ensures
-
 pub returns-in_ok-clone-in-Unfolding-2 : goal.returns-in_ok-clone-in-Unfolding-2
 returns-in_ok-clone-in-Unfolding-2 c =
     let p = settled c.args.program.now in
@@ -56,14 +49,3 @@ returns-in_ok-clone-in-Unfolding-2 c =
     ∙ ap {B = GivingAll} (λ y. after_arguments p x.at x.i.value (term y) (going p inside)) c.in_ok-clone-in-Unfolding-2.ensures.cases
     ∙ ap {B = GivingAll} (λ (y : Going). after_arguments p x.at x.i.value a y) (c.in_ok-inside-in-Unfolding.ensures p)))))
     c.step_share.ensures
-
-pub returns-in-Applied : goal.returns-in-Applied
-returns-in-Applied c =
-    let p = settled c.args.program.now in
-    let s : State = state c.args.state in
-    let t = held_term c.args.value in
-    let it = c.in-Applied in
-    let on : Giving = giving p c.args.hole.now.value in
-    stepped_as p _ _ _ _ _
-    (ap (λ o. operand p o on t s) it.is
-    ∙ ap (λ (y : Caller). measuring p it.x.value (name_of t (with_heap (heap it.heap.value) (back_to y s))) on (after_name t (with_heap (heap it.heap.value) (back_to y s)))) (sym c.deref.ensures)) c.step_applied.ensures

@@ -10,7 +10,7 @@ use Rattle.vx_rules.specs.States.{State}
 use Rattle.vx_states.specs.SymStates.{binding, state}
 use Rattle.vx_stack.specs.Stack.{going}
 use Rattle.vx_stack.proofs.Steps.{stepped_as}
-use Rattle.vx_exec.proofs.Callees.{branches}
+use Rattle.vx_exec.proofs.Branches.{branches}
 use Rattle.vx_exec.proofs.statement.step.Goals as goal
 
 pub returns-in_ok-clone-in-Assign-2 : goal.returns-in_ok-clone-in-Assign-2

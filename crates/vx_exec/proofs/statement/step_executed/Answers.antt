@@ -22,17 +22,3 @@ pub returns-in_ok-clone-in-Write-2 : goal.returns-in_ok-clone-in-Write-2
 returns-in_ok-clone-in-Write-2 c =
     stepped_as (settled c.args.program.now) _ _ _ _ _
     (rw (c.in-Write.is, c.in_ok-clone-in-Write.ensures.cases, c.in_ok-clone-in-Write-2.ensures.cases) refl) c.eval.ensures
-
-pub returns-in_ok-clone-in-WriteWith : goal.returns-in_ok-clone-in-WriteWith
-returns-in_ok-clone-in-WriteWith c =
-    stepped_as (settled c.args.program.now) _ _ _ _ _
-    (rw (c.in-WriteWith.is, c.in_ok-clone-in-WriteWith.ensures.cases) refl) c.write_field.ensures
-
-pub returns-in-Fold : goal.returns-in-Fold
-returns-in-Fold c = stepped_as (settled c.args.program.now) _ _ _ _ _ (rw c.in-Fold.is refl) c.step_fold_amount.ensures
-
-pub returns-in-Unfold : goal.returns-in-Unfold
-returns-in-Unfold c = stepped_as (settled c.args.program.now) _ _ _ _ _ (rw c.in-Unfold.is refl) c.step_unfold_amount.ensures
-
-pub returns-in-Called : goal.returns-in-Called
-returns-in-Called c = stepped_as (settled c.args.program.now) _ _ _ _ _ (rw (c.in-Called.is, c.deref-in-Called.ensures) refl) c.step_promised.ensures
