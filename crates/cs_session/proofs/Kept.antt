@@ -1,5 +1,5 @@
 -- What holds of each state that a session comes to, and so of its proofs.
-use Rattle.std.proofs.Common.{◌≡◌, ℕ, zero, suc, ◌+◌, nat_le, Bool, true, false, List, [], ◌∷◌, ◌++◌, map, drop, Some, Ok, Err, refl, ap, ap₂, sym, subst, append-nil}
+use Rattle.std.proofs.Common.{◌≡◌, ℕ, zero, suc, ◌+◌, nat_le, Bool, true, false, List, [], ◌∷◌, ◌++◌, map, drop, Option, Some, None, Ok, Err, refl, ap, ap₂, ◌∙◌, sym, subst, append-nil}
 use Rattle.std.proofs.Math.Logic.{∥∥₁_map, ∥∥₁_elim}
 use Rattle.std.specs.Global.{Vec}
 use Rattle.std.specs.declared.result.Result.{Result}
@@ -26,15 +26,18 @@ use Rattle.cs_commands.proofs.Following.{understood_follows}
 use Rattle.cs_commands.proofs.OwnWords.{understood_named}
 use Rattle.cs_commands.proofs.Passed.{some_is}
 use Rattle.cs_text.specs.Text.{certificate_text}
+use Rattle.cs_text.specs.Writable.{IsWritable, AreWritable}
 use Rattle.cs_text.specs.Law.{HaveWords, IsReadBack}
 use Rattle.cs_text.proofs.Certificates as texts
+use Rattle.cs_session.specs.declared.reply.Complaint.{Complaint}
 use Rattle.cs_session.specs.declared.reply.Reply.{Reply}
 use Rattle.cs_session.specs.declared.reply.Reply.TheVariants.{Success, Unsupported, Failed, Sat, Unsat, Undecided, Proof, Closed}
-use Rattle.cs_session.specs.declared.session.Last.TheVariants.{Nothing, Refuted}
+use Rattle.cs_session.specs.declared.session.Last.{Last}
+use Rattle.cs_session.specs.declared.session.Last.TheVariants.{Nothing, Refuted, Satisfied, Unknown}
 use Rattle.cs_session.specs.Views.{State, standing, depth}
 use Rattle.cs_session.specs.Replies.{Tells, FollowsIf, IsOne, Shows, Proves, Does, RepliesTo}
 use Rattle.cs_session.specs.Answering.{Answering, begun, given, answered}
-use Rattle.cs_session.specs.Kept.{KeptIsReadBack, KeptIsShown}
+use Rattle.cs_session.specs.Kept.{proof_line, IsProof, ShownIsReadBack, KeptIsShown}
 use Rattle.cs_session.proofs.Lists.{each_reverse}
 use Rattle.cs_session.proofs.Turned.{apart_turned}
 
@@ -158,29 +161,80 @@ words_of s k = (apart_turned (declared_in s.levels) k.apart, each_reverse HasOwn
 finished_steps : (stack : Stack) (ws : List Step) → Answers stack (map Some ws) Finished → IsFinished stack ws
 finished_steps stack ws a = let f = finished_too stack (map Some ws) a in subst (IsFinished stack) (sym (same_steps ws f.0 f.1)) f.2
 
-pub read_back : KeptIsReadBack
-read_back s ws k =
-    let so = kept k.answering in
-    ∥∥₁_map (so.told k.steps k.last) (λ a.
-    texts.read_back (standing s.levels) ws (words_of s so) (finished_steps (standing s.levels) ws (subst (λ xs. Answers (standing s.levels) xs Finished) k.are a)) k.small)
-
 no_two : IsProp ⊥
 no_two x y = absurd x
+
+-- ---- steps that are writable
+
+-- each is a step
+gathered : (steps : List (Option Step)) → AreWritable steps → (ws : List Step) × (steps ≡ map Some ws) × Each IsWritable ws
+gathered [] h = ([], refl, tt)
+gathered (Some w ∷ steps) h = let rest = gathered steps h.1 in (w ∷ rest.0, ap (λ xs. Some w ∷ xs) rest.1, (h.0, rest.2))
+gathered (None ∷ steps) h = absurd h.0
+
+spread_out : (ws : List Step) → Each IsWritable ws → AreWritable (map Some ws)
+spread_out [] h = tt
+spread_out (w ∷ ws) h = (h.0, spread_out ws h.1)
+
+finished_of : (s : State) (steps : Vec Step') (ws : List Step) → IsKept s → s.last ≡ Refuted steps → map written steps.items ≡ map Some ws → ∥ IsFinished (standing s.levels) ws ∥₁
+finished_of s steps ws k last are = ∥∥₁_map (k.told steps last) (λ a. finished_steps (standing s.levels) ws (subst (λ xs. Answers (standing s.levels) xs Finished) are a))
+
+back_of : (s : State) (ws : List Step) → IsKept s → ∥ IsFinished (standing s.levels) ws ∥₁ → Each IsWritable ws → ∥ IsReadBack (standing s.levels) ws (certificate_text (map Some ws)) ∥₁
+back_of s ws k finished small = ∥∥₁_map finished (λ f. texts.read_back (standing s.levels) ws (words_of s k) f small)
+
+-- ---- what is shown is read back
+
+shown_back : (s : State) (line : List ℕ) → IsKept s → (steps : Vec Step') → s.last ≡ Refuted steps → Shows (map written steps.items) (Proof line) → IsProof s line
+shown_back s line k steps last h =
+    let g = gathered (map written steps.items) h.2 in
+    let done = finished_of s steps g.0 k last g.1 in
+    record {
+      ws = g.0;
+      kept = record { steps = steps; last = last; are = g.1 };
+      is_line = h.0 ∙ ap (λ xs. certificate_text xs ++ 10 ∷ []) g.1;
+      finished = done;
+      read_back = back_of s g.0 k done g.2;
+    }
+
+not_failed : {R : Type 0} (line : List ℕ) (c : Complaint) → Proof line ≡ Failed c → R
+not_failed line c e = cc
+
+proved_back : (s : State) (line : List ℕ) → IsKept s → (l : Last) → s.last ≡ l → Proves l (Proof line) → IsProof s line
+proved_back s line k Nothing last h = not_failed line _ h
+proved_back s line k (Refuted steps) last h = shown_back s line k steps last h
+proved_back s line k Satisfied last h = not_failed line _ h
+proved_back s line k (Unknown cause) last h = not_failed line _ h
+
+pub read_back : ShownIsReadBack
+read_back s line reached h = proved_back s line (kept reached.answering) s.last refl h
+
+-- ---- what is kept is shown
 
 is_one : (stack : Stack) (ws : List Step) → IsReadBack stack ws (certificate_text (map Some ws)) → IsOne (certificate_text (map Some ws))
 is_one stack ws b = (b.tokens, subst (λ x. IsFirst x b.tokens []) (append-nil (certificate_text (map Some ws))) (b.first []))
 
-shown_as : (stack : Stack) (ws : List Step) (r : Reply) → ∥ IsReadBack stack ws (certificate_text (map Some ws)) ∥₁ → Shows (map Some ws) r → r ≡ Proof (certificate_text (map Some ws) ++ 10 ∷ [])
-shown_as stack ws (Proof line) b h = ap Proof h.0
-shown_as stack ws Success b h = absurd (∥∥₁_elim b no_two (λ x. h.1 (is_one stack ws x)))
-shown_as stack ws Unsupported b h = absurd (∥∥₁_elim b no_two (λ x. h.1 (is_one stack ws x)))
-shown_as stack ws (Failed c) b h = absurd (∥∥₁_elim b no_two (λ x. h.1 (is_one stack ws x)))
-shown_as stack ws Sat b h = absurd (∥∥₁_elim b no_two (λ x. h.1 (is_one stack ws x)))
-shown_as stack ws Unsat b h = absurd (∥∥₁_elim b no_two (λ x. h.1 (is_one stack ws x)))
-shown_as stack ws Undecided b h = absurd (∥∥₁_elim b no_two (λ x. h.1 (is_one stack ws x)))
-shown_as stack ws Closed b h = absurd (∥∥₁_elim b no_two (λ x. h.1 (is_one stack ws x)))
+-- another answer is given only where the text isn't one s-expression
+only_line : (ws : List Step) (r : Reply) → ∥ IsOne (certificate_text (map Some ws)) ∥₁ → AreWritable (map Some ws) → Shows (map Some ws) r → r ≡ Proof (proof_line ws)
+only_line ws (Proof line) one all h = ap Proof h.0
+only_line ws Success one all h = absurd (∥∥₁_elim one no_two (λ x. h.1 x all))
+only_line ws Unsupported one all h = absurd (∥∥₁_elim one no_two (λ x. h.1 x all))
+only_line ws (Failed c) one all h = absurd (∥∥₁_elim one no_two (λ x. h.1 x all))
+only_line ws Sat one all h = absurd (∥∥₁_elim one no_two (λ x. h.1 x all))
+only_line ws Unsat one all h = absurd (∥∥₁_elim one no_two (λ x. h.1 x all))
+only_line ws Undecided one all h = absurd (∥∥₁_elim one no_two (λ x. h.1 x all))
+only_line ws Closed one all h = absurd (∥∥₁_elim one no_two (λ x. h.1 x all))
+
+proves_as : (l : Last) (steps : Vec Step') (ws : List Step) (r : Reply) → l ≡ Refuted steps → map written steps.items ≡ map Some ws → Proves l r → Shows (map Some ws) r
+proves_as l steps ws r last are h = subst (λ xs. Shows xs r) are (subst (λ x. Proves x r) last h)
+
+shows_as : (l : Last) (steps : Vec Step') (ws : List Step) (r : Reply) → l ≡ Refuted steps → map written steps.items ≡ map Some ws → Shows (map Some ws) r → Proves l r
+shows_as l steps ws r last are h = subst (λ x. Proves x r) (sym last) (subst (λ xs. Shows xs r) (sym are) h)
 
 pub shown : KeptIsShown
-shown s ws r k proves =
-    let steps : Shows (map written k.steps.items) r = subst (λ l. Proves l r) k.last proves in
-    shown_as (standing s.levels) ws r (read_back s ws k) (subst (λ xs. Shows xs r) k.are steps)
+shown s ws reached k small =
+    let so = kept reached.answering in
+    let all = spread_out ws small in
+    let one = ∥∥₁_map (back_of s ws so (finished_of s k.steps ws so k.last k.are) small) (λ b. is_one (standing s.levels) ws b) in (
+      ∥∥₁_map one (λ x. shows_as s.last k.steps ws (Proof (proof_line ws)) k.last k.are (refl, x, all)),
+      λ q h. only_line ws q one all (proves_as s.last k.steps ws q k.last k.are h),
+    )

@@ -1,34 +1,54 @@
--- What a session shows of the steps that it kept.
+-- What a session answers to `get-proof`, of the steps that it kept.
 use Rattle.std.specs.Prelude.{◌≡◌, List, [], ◌∷◌, ◌++◌, map, Some, ℕ}
 use Rattle.std.specs.Global.{Vec}
 use Rattle.vx_terms.specs.Interpretations.{Each}
-use Rattle.cs_certificate.specs.Certificate.{Step}
+use Rattle.cs_certificate.specs.Certificate.{Step, IsFinished}
 use Rattle.cs_proof.specs.declared.step.Step.{Step as Step'}
 use Rattle.cs_proof.specs.Views.{written}
 use Rattle.cs_text.specs.Text.{certificate_text}
-use Rattle.cs_text.specs.Law.{IsWritable, IsReadBack}
+use Rattle.cs_text.specs.Writable.{IsWritable}
+use Rattle.cs_text.specs.Law.{IsReadBack}
 use Rattle.cs_session.specs.declared.reply.Reply.{Reply}
 use Rattle.cs_session.specs.declared.reply.Reply.TheVariants.{Proof}
+use Rattle.cs_session.specs.declared.session.Last.{Last}
 use Rattle.cs_session.specs.declared.session.Last.TheVariants.{Refuted}
 use Rattle.cs_session.specs.Views.{State, standing}
 use Rattle.cs_session.specs.Replies.{Proves}
 use Rattle.cs_session.specs.Answering.{Answering}
 
--- a session has answered so, and kept these steps of the last unsat, whose numbers stay below 2^127
-pub record Keeps (s : State) (ws : List Step) : Type 0 where
+-- a session comes to this state by what it answers
+pub record IsReached (s : State) : Type 0 where
   pub all : List ℕ
   pub text : List ℕ
   pub left : List ℕ
   pub answering : Answering all text left s
+
+-- these steps are kept of the last unsat
+pub record Keeps (s : State) (ws : List Step) : Type 0 where
   pub steps : Vec Step'
   pub last : s.last ≡ Refuted steps
   pub are : map written steps.items ≡ map Some ws
-  pub small : Each IsWritable ws
 
--- their text is read back as these steps, over what is declared
-abbrev pub KeptIsReadBack : Type 0
-KeptIsReadBack = (s : State) (ws : List Step) → Keeps s ws → ∥ IsReadBack (standing s.levels) ws (certificate_text (map Some ws)) ∥₁
+abbrev pub proof_line : List Step → List ℕ
+proof_line ws = certificate_text (map Some ws) ++ 10 ∷ []
 
--- and `get-proof` is answered by its line
+-- the line is the text of the steps that are kept: the checker has finished them, and they are read back as they are, over what
+-- is declared
+pub record IsProof (s : State) (line : List ℕ) : Type 0 where
+  pub ws : List Step
+  pub kept : Keeps s ws
+  pub is_line : line ≡ proof_line ws
+  pub finished : ∥ IsFinished (standing s.levels) ws ∥₁
+  pub read_back : ∥ IsReadBack (standing s.levels) ws (certificate_text (map Some ws)) ∥₁
+
+-- each line that `get-proof` is answered by is such a proof
+abbrev pub ShownIsReadBack : Type 0
+ShownIsReadBack = (s : State) (line : List ℕ) → IsReached s → Proves s.last (Proof line) → IsProof s line
+
+-- it may be answered so, and by nothing else
+abbrev pub IsAnsweredBy : Last → Reply → Type 0
+IsAnsweredBy l r = ∥ Proves l r ∥₁ × ((q : Reply) → Proves l q → q ≡ r)
+
+-- and where the steps that are kept are writable, it is answered by their line
 abbrev pub KeptIsShown : Type 0
-KeptIsShown = (s : State) (ws : List Step) (r : Reply) → Keeps s ws → Proves s.last r → r ≡ Proof (certificate_text (map Some ws) ++ 10 ∷ [])
+KeptIsShown = (s : State) (ws : List Step) → IsReached s → Keeps s ws → Each IsWritable ws → IsAnsweredBy s.last (Proof (proof_line ws))

@@ -17,6 +17,7 @@ use Rattle.cs_commands.specs.declared.fault.Fault.TheVariants as faults
 use Rattle.cs_commands.specs.Understanding.{Understands}
 use Rattle.cs_commands.specs.Laws.{scope_of}
 use Rattle.cs_text.specs.Text.{certificate_text}
+use Rattle.cs_text.specs.Writable.{AreWritable}
 use Rattle.cs_session.specs.declared.reply.Complaint.TheVariants as complaints
 use Rattle.cs_session.specs.declared.reply.Reply.{Reply}
 use Rattle.cs_session.specs.declared.reply.Reply.TheVariants.{Success, Unsupported, Failed, Sat, Unsat, Undecided, Proof, Closed}
@@ -62,10 +63,10 @@ Checks old r new = (new.levels ≡ old.levels) × Tells old.levels r new.last
 abbrev pub IsOne : List ℕ → Type 0
 IsOne text = (tokens : List Token) × IsFirst text tokens []
 
--- the line of the steps' text, where that is one s-expression
+-- the line of the steps' text, where that is one s-expression and all steps are writable
 abbrev pub Shows : List (Option Step) → Reply → Type 0
-Shows steps (Proof line) = (line ≡ certificate_text steps ++ 10 ∷ []) × IsOne (certificate_text steps)
-Shows steps r = (r ≡ Failed complaints.NoProof) × (IsOne (certificate_text steps) → ⊥)
+Shows steps (Proof line) = (line ≡ certificate_text steps ++ 10 ∷ []) × IsOne (certificate_text steps) × AreWritable steps
+Shows steps r = (r ≡ Failed complaints.NoProof) × (IsOne (certificate_text steps) → AreWritable steps → ⊥)
 
 -- what is shown for the steps that the last check kept; any other check has no proof
 abbrev pub Proves : Last → Reply → Type 0

@@ -5,3 +5,5 @@ pub mod Terms
 pub mod Lexed
 pub mod Steps
 pub mod Certificates
+pub mod Pendings
+pub mod Decided

@@ -18,7 +18,8 @@ use Rattle.cs_reader.specs.declared.word.Word.TheVariants as words
 use Rattle.vx_terms.specs.declared.term.Operator.TheVariants as operators
 use Rattle.cs_reader.specs.Items.{◌>>=◌}
 use Rattle.cs_reader.specs.Spelling.{Scope, word, made, built, applied, alone, constant_of, listed, quotient_of, multiplied, spelled_at, if_whole, spelled}
-use Rattle.cs_commands.specs.Laws.{has_some, IsReadable, AreReadable}
+use Rattle.cs_commands.specs.Laws.{has_some}
+use Rattle.cs_text.specs.Writable.{IsWritableTerm, AreWritableTerms}
 use Rattle.cs_commands.proofs.Literals.{frac, decimal_back, inverse_back, product_small, product_is, negative_number, negative_part, unsigned_lowest}
 use Rattle.cs_text.proofs.Placed.{Reads, ReadsAll, reads_atom, reads_none, reads_more, reads_list, reads_one, reads_two, reads_three}
 use Rattle.cs_commands.specs.Following.{HasWord}
@@ -169,7 +170,7 @@ whole_term x = if_whole x.0 x.1
 module _ (scope : Scope) (stack : Stack) (r : Renaming) (named : (f : Symbol) (ss : List Sort) (a : Sort) → IsLive stack f ss a → HasWord f)
     (known : (f : Symbol) (ss : List Sort) (a : Sort) → IsLive stack f ss a → scope (symbol_word f) ≡ Some (r f a)) (n : ℕ) where
   mutual
-    pub term_back : {t : Term} {a : Sort} → Formed n t a → AreLive stack t → IsReadable t → Reads scope (term_tokens t) (renamed r t)
+    pub term_back : {t : Term} {a : Sort} → Formed n t a → AreLive stack t → IsWritableTerm t → Reads scope (term_tokens t) (renamed r t)
     term_back (truth true) live small = reads_atom scope kinds.Symbol (codes "true") (Truth true) refl
     term_back (truth false) live small = reads_atom scope kinds.Symbol (codes "false") (Truth false) refl
     term_back (number z) live small = reads_number scope z small
@@ -178,8 +179,8 @@ module _ (scope : Scope) (stack : Stack) (r : Renaming) (named : (f : Symbol) (s
         reads_atom scope kinds.Symbol (symbol_word f) (Constant (r f a).0 (r f a).1) (leaf_name scope f (r f a).0 (r f a).1 (named f [] a live) (known f [] a live))
     term_back (applies f a {ts = ts} k fs) live small =
         reads_list scope (symbol_word f) (terms_tokens ts) (items (all_renamed r ts)) (Apply (r f a).0 (r f a).1 (all_renamed r ts))
-        (terms_back fs live.1 small.2)
-        (made_name scope f (r f a).0 (r f a).1 (all_renamed r ts) (named f (map sort_of (items ts)) a live.0) (known f (map sort_of (items ts)) a live.0) (some_stay r ts ∙ small.1))
+        (terms_back fs live.1 small.1)
+        (made_name scope f (r f a).0 (r f a).1 (all_renamed r ts) (named f (map sort_of (items ts)) a live.0) (known f (map sort_of (items ts)) a live.0) (some_stay r ts ∙ small.0))
     term_back (nots {t = t} f) live small =
         reads_list scope (codes "not") (term_tokens t) (renamed r t ∷ []) (Not (renamed r t)) (reads_one scope (term_tokens t) (renamed r t) (term_back f live small)) refl
     term_back (binary {o = o} {t = t} {u = u} h f g) live small =
@@ -196,17 +197,17 @@ module _ (scope : Scope) (stack : Stack) (r : Renaming) (named : (f : Symbol) (s
     term_back (some_of {ts = ts} fs) live small =
         reads_list scope (codes "or") (terms_tokens ts) (items (all_renamed r ts)) (SomeOf (all_renamed r ts)) (bools_back fs live small.1) (built_some (all_renamed r ts) (three_stay r ts ∙ small.0))
 
-    terms_back : {ts : Terms} → FormedAll n ts → AllLive stack ts → AreReadable ts → ReadsAll scope (terms_tokens ts) (items (all_renamed r ts))
+    terms_back : {ts : Terms} → FormedAll n ts → AllLive stack ts → AreWritableTerms ts → ReadsAll scope (terms_tokens ts) (items (all_renamed r ts))
     terms_back no_terms live small = reads_none scope
     terms_back (more_terms {t = t} {ts = ts} a f fs) live small =
         reads_more scope (term_tokens t) (terms_tokens ts) (renamed r t) (items (all_renamed r ts)) (term_back f live.0 small.0) (terms_back fs live.1 small.1)
 
-    bools_back : {ts : Terms} → FormedBools n ts → AllLive stack ts → AreReadable ts → ReadsAll scope (terms_tokens ts) (items (all_renamed r ts))
+    bools_back : {ts : Terms} → FormedBools n ts → AllLive stack ts → AreWritableTerms ts → ReadsAll scope (terms_tokens ts) (items (all_renamed r ts))
     bools_back no_bools live small = reads_none scope
     bools_back (more_bools {t = t} {ts = ts} f fs) live small =
         reads_more scope (term_tokens t) (terms_tokens ts) (renamed r t) (items (all_renamed r ts)) (term_back f live.0 small.0) (bools_back fs live.1 small.1)
 
-  pub term_spelled : {t : Term} {a : Sort} → Formed n t a → AreLive stack t → IsReadable t → spelled scope (term_tokens t) ≡ Some (renamed r t)
+  pub term_spelled : {t : Term} {a : Sort} → Formed n t a → AreLive stack t → IsWritableTerm t → spelled scope (term_tokens t) ≡ Some (renamed r t)
   term_spelled {t = t} f live small =
       ap (λ us. spelled_at scope (length (term_tokens t)) us >>= whole_term) (sym (append-nil (term_tokens t)))
       ∙ ap (λ o. o >>= whole_term) ((term_back f live small).all (length (term_tokens t)) [] (omega arith))

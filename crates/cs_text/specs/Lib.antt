@@ -1,2 +1,5 @@
 pub mod Text
+pub mod Writable
+pub mod Tests
+pub mod Pending
 pub mod Law

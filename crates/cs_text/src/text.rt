@@ -8,7 +8,7 @@ ghost use Rattle.cs_certificate.specs.Certificate as Written;
 ghost use Rattle.cs_proof.specs.Views.{written, numbered};
 ghost use Rattle.cs_text.specs.Text.{behind, listed, step_text, text_of, certificate_text};
 
-use crate::lists::{put_literals, put_more_numbers, put_multipliers, put_numbers};
+use crate::items::{put_list, put_more};
 use cs_proof::Step;
 use cs_reader::Literal;
 use std::alloc::{AllocError, Global};
@@ -50,7 +50,7 @@ fn put_chain(text: &mut Vec<u8>, terms: &[u128]) -> Result<(), AllocError>
     ensures { OnOk result (text.new.items ≡ text.old.items ++ step_text (Written.Chain terms.now)) }
 {
     text.extend_from_slice(b"(chain")?;
-    put_more_numbers(text, terms)?;
+    put_more(text, terms)?;
     text.extend_from_slice(b")")
 }
 
@@ -62,9 +62,9 @@ fn put_farkas(
     ensures { OnOk result (text.new.items ≡ text.old.items ++ step_text (Written.Farkas (map numbered literals.now) (map fraction multipliers.now))) }
 {
     text.extend_from_slice(b"(farkas ")?;
-    put_literals(text, literals)?;
+    put_list(text, literals)?;
     text.push(b' ')?;
-    put_multipliers(text, multipliers)?;
+    put_list(text, multipliers)?;
     text.extend_from_slice(b")")
 }
 
@@ -98,9 +98,9 @@ fn put_propagation(
     ensures { OnOk result (text.new.items ≡ text.old.items ++ step_text (Written.Propagate (map numbered literals.now) hints.now)) }
 {
     text.extend_from_slice(b"(rup ")?;
-    put_literals(text, literals)?;
+    put_list(text, literals)?;
     text.push(b' ')?;
-    put_numbers(text, hints)?;
+    put_list(text, hints)?;
     text.extend_from_slice(b")")
 }
 
