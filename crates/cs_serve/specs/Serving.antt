@@ -1,5 +1,5 @@
 -- What a solver answers to a stream of commands, and how that ends.
-use Rattle.std.specs.Prelude.{◌≡◌, ⊤, ℕ, Bool, true, false, List, [], ◌++◌, length, drop, Option, Some}
+use Rattle.std.specs.Prelude.{◌≡◌, ⊤, ◌⊎◌, ℕ, ◌≤◌, Bool, true, false, List, [], ◌++◌, length, drop, Option, Some}
 use Rattle.vx_sexp.specs.Beginnings.{GoesOn, IsBeginning}
 use Rattle.vx_sexp.specs.Tokens.{is_space}
 use Rattle.cs_session.specs.declared.reply.Reply.{Reply}
@@ -23,17 +23,25 @@ is_last Undecided = false
 is_last (Proof line) = false
 is_last Closed = true
 
--- How far a solver is: the bytes that it was given, the text that it has answered, the bytes that are left, its session, and
--- whether it was told to exit. Each answer is to the first s-expression of what was left then.
-pub data Serves : List ℕ → List ℕ → List ℕ → State → Bool → Type 0 where
-  begun : Serves [] [] [] start false
-  given : {all text left : List ℕ} {s : State} (piece : List ℕ) → Serves all text left s false → Serves (all ++ piece) text (left ++ piece) s false
-  answered : {all text left : List ℕ} {s u : State} (n : ℕ) (r : Reply) →
-      Serves all text left s false → EndsAt n left → Replies left s r u → Serves all (text ++ reply_text r) (drop n left) u (is_last r)
-
 -- the most bytes that are read
 abbrev pub most : ℕ
 most = 1073741824
+
+-- the most bytes that are given at once
+abbrev pub most_at_once : ℕ
+most_at_once = 65536
+
+-- How far a solver is: the bytes that it was given, the text that it has answered, what of that was put, the bytes that are left,
+-- its session, and whether it was told to exit. Each answer is to the first s-expression of what was left then. More is given only
+-- where no command is finished in what is left and all answers are put.
+pub data Serves : List ℕ → List ℕ → List ℕ → List ℕ → State → Bool → Type 0 where
+  begun : Serves [] [] [] [] start false
+  given : {all text left : List ℕ} {s : State} (piece : List ℕ) →
+      length piece ≤ most_at_once → IsBeginning left → Serves all text text left s false → Serves (all ++ piece) text text (left ++ piece) s false
+  answered : {all text old left : List ℕ} {s u : State} (n : ℕ) (r : Reply) →
+      Serves all text old left s false → EndsAt n left → Replies left s r u → Serves all (text ++ reply_text r) old (drop n left) u (is_last r)
+  put : {all text old left : List ℕ} {s : State} {over : Bool} (new rest : List ℕ) →
+      Serves all text old left s over → (old ++ new) ++ rest ≡ text → Serves all text (old ++ new) left s over
 
 -- Why it ends, by what was read, what is left, whether it was told to exit, and whether the input is at its end. Where the
 -- input failed or is too long, each command that was finished is answered.
@@ -47,21 +55,24 @@ IsDue endings.TooLong all left over at_end = (over ≡ false) × IsBeginning lef
 IsDue endings.SinkFailed all left over at_end = ⊤
 IsDue endings.Want all left over at_end = ⊤
 
--- The answers and the farewell are put or, where the sink failed, a beginning of the answers and of a farewell that was due.
-abbrev pub Puts : Ending → List ℕ → List ℕ → (Ending → Type 0) → Type 0
-Puts endings.SinkFailed text put due = (e : Ending) × due e × (rest : List ℕ) × (put ++ rest ≡ text ++ farewell e)
-Puts e text put due = put ≡ text ++ farewell e
+-- All answers are put, and the farewell behind them; where the sink failed, a beginning of the answers and nothing behind it, or all
+-- answers and a beginning of a farewell that was due.
+abbrev pub Puts : Ending → List ℕ → List ℕ → List ℕ → (Ending → Type 0) → Type 0
+Puts endings.SinkFailed text answers last due = (last ≡ []) ⊎ ((answers ≡ text) × (e : Ending) × due e × (rest : List ℕ) × (last ++ rest ≡ farewell e))
+Puts e text answers last due = (answers ≡ text) × (last ≡ farewell e)
 
--- How it has ended: what was read in all, the answers to it, what was put behind what the sink had taken before, and what is left.
+-- How it has ended: what was read in all, the answers to it, what of them was put behind what the sink had taken before, what was put
+-- behind them, and what is left.
 pub record HasEnded (e : Ending) (before : List ℕ) (given taken : Option (List ℕ)) (at_end : Bool) : Type 0 where
   pub all : List ℕ
   pub text : List ℕ
   pub put : List ℕ
+  pub last : List ℕ
   pub left : List ℕ
   pub state : State
   pub over : Bool
   pub is_given : given ≡ Some all
-  pub is_taken : taken ≡ Some (before ++ put)
-  pub serves : Serves all text left state over
+  pub is_taken : taken ≡ Some (before ++ put ++ last)
+  pub serves : Serves all text put left state over
   pub ends : IsDue e all left over at_end
-  pub puts : Puts e text put (λ d. IsDue d all left over at_end)
+  pub puts : Puts e text put last (λ d. IsDue d all left over at_end)

@@ -1,5 +1,5 @@
 // Answers to the commands that are finished.
-ghost use Rattle.std.specs.Prelude.{◌≡◌, ℕ, ◌≤◌, ◌<◌, Bool, false, List, ◌++◌, length, drop, Option, IfOk, IfErr, Err};
+ghost use Rattle.std.specs.Prelude.{◌≡◌, ℕ, ◌≤◌, ◌<◌, Bool, false, List, [], ◌++◌, length, drop, Option, IfOk, IfErr, Err};
 ghost use Rattle.vx_sexp.specs.Beginnings.{IsBeginning};
 ghost use Rattle.vx_sexp.specs.Pieces.{Reached};
 ghost use Rattle.vx_ends.specs.Calls.{PutsSome};
@@ -7,7 +7,7 @@ ghost use Rattle.vx_ends.specs.Causes.{HasCause};
 ghost use Rattle.cs_session.specs.Views.{state};
 ghost use Rattle.cs_session.specs.Answering.{EndsAt};
 ghost use Rattle.cs_serve.specs.Serving.{is_last};
-ghost use Rattle.cs_serve.specs.Working.{IsAt, Stops, with_due};
+ghost use Rattle.cs_serve.specs.Working.{IsAt, Stops, HasStopped};
 
 use crate::Ending;
 use crate::bytes::behind;
@@ -51,10 +51,10 @@ fn answer(
     due: &mut Vec<u8>,
     left: &[u8],
 ) -> Result<bool, Ending>
-    ensures goes { (before : List ℕ) (given taken : Option (List ℕ)) (total n : ℕ) → EndsAt n left.now → IsAt before given (with_due taken due.old.items) total left.now (state session.old) false
-        → IfOk result (λ over. IsAt before given (with_due taken due.new.items) total (drop n left.now) (state session.new) over) }
-    ensures stops { (before : List ℕ) (given taken : Option (List ℕ)) (total : ℕ) → IsAt before given (with_due taken due.old.items) total left.now (state session.old) false
-        → IfErr result (λ e. (at_end : Bool) → Stops e before given (with_due taken due.new.items) at_end) }
+    ensures goes { (before : List ℕ) (given taken : Option (List ℕ)) (total n : ℕ) → EndsAt n left.now → IsAt before given taken due.old.items total left.now (state session.old) false
+        → IfOk result (λ over. IsAt before given taken due.new.items total (drop n left.now) (state session.new) over) }
+    ensures stops { (before : List ℕ) (given taken : Option (List ℕ)) (total : ℕ) → IsAt before given taken due.old.items total left.now (state session.old) false
+        → IfErr result (λ e. (at_end : Bool) → Stops e before given taken due.new.items at_end) }
     ensures only { IfErr result (λ e. e ≡ Ending.Want) }
 {
     let Ok(reply) = session.command(alloc, left) else {
@@ -78,10 +78,10 @@ fn answer_all(
     ensures within { IfOk result (λ at. at ≤ length bytes.now) }
     ensures waits { IfOk result (λ at. IsBeginning (drop at bytes.now)) }
     ensures reached { IfOk result (λ at. (more : List ℕ) → Reached reading.new (drop at bytes.now ++ more)) }
-    ensures goes { (before : List ℕ) (given taken : Option (List ℕ)) (total : ℕ) → IsAt before given (with_due taken due.old.items) total bytes.now (state session.old) false
-        → IfOk result (λ at. IsAt before given (with_due taken due.new.items) total (drop at bytes.now) (state session.new) false) }
-    ensures stops { (before : List ℕ) (given taken : Option (List ℕ)) (total : ℕ) → IsAt before given (with_due taken due.old.items) total bytes.now (state session.old) false
-        → IfErr result (λ e. (at_end : Bool) → Stops e before given (with_due taken due.new.items) at_end) }
+    ensures goes { (before : List ℕ) (given taken : Option (List ℕ)) (total : ℕ) → IsAt before given taken due.old.items total bytes.now (state session.old) false
+        → IfOk result (λ at. IsAt before given taken due.new.items total (drop at bytes.now) (state session.new) false) }
+    ensures stops { (before : List ℕ) (given taken : Option (List ℕ)) (total : ℕ) → IsAt before given taken due.old.items total bytes.now (state session.old) false
+        → IfErr result (λ e. (at_end : Bool) → Stops e before given taken due.new.items at_end) }
     ensures other { (result ≡ Err Ending.SourceFailed → ⊥) × (result ≡ Err Ending.SinkFailed → ⊥) }
 {
     let mut at = 0;
@@ -114,22 +114,15 @@ pub fn put_answers<K: Sink>(
     ensures within { IfOk result (λ at. at ≤ length bytes.now) }
     ensures waits { IfOk result (λ at. IsBeginning (drop at bytes.now)) }
     ensures reached { IfOk result (λ at. (more : List ℕ) → Reached reading.new (drop at bytes.now ++ more)) }
-    ensures goes { (before : List ℕ) (given : Option (List ℕ)) (total : ℕ) → IsAt before given (K.taken out.old) total bytes.now (state session.old) false
-        → IfOk result (λ at. IsAt before given (K.taken out.new) total (drop at bytes.now) (state session.new) false) }
-    ensures stops { (before : List ℕ) (given : Option (List ℕ)) (total : ℕ) → IsAt before given (K.taken out.old) total bytes.now (state session.old) false
-        → IfErr result (λ e. (at_end : Bool) → Stops e before given (K.taken out.new) at_end) }
+    ensures goes { (before : List ℕ) (given : Option (List ℕ)) (total : ℕ) → IsAt before given (K.taken out.old) [] total bytes.now (state session.old) false
+        → IfOk result (λ at. IsAt before given (K.taken out.new) [] total (drop at bytes.now) (state session.new) false) }
+    ensures stops { (before : List ℕ) (given : Option (List ℕ)) (total : ℕ) → IsAt before given (K.taken out.old) [] total bytes.now (state session.old) false
+        → IfErr result (λ e. (at_end : Bool) → HasStopped e before given (K.taken out.new) at_end) }
     ensures cause { HasCause Ending.SinkFailed (K.faults out.old) (K.faults out.new) result }
     ensures other { result ≡ Err Ending.SourceFailed → ⊥ }
 {
     let mut due = Vec::new(alloc);
-    match answer_all(alloc, session, reading, &mut due, bytes) {
-        Ok(at) => match put_text(out, &due) {
-            Ok(()) => Ok(at),
-            Err(failed) => Err(failed),
-        },
-        Err(ending) => match put_text(out, &due) {
-            Ok(()) => Err(ending),
-            Err(failed) => Err(failed),
-        },
-    }
+    let answered = answer_all(alloc, session, reading, &mut due, bytes);
+    put_text(out, &due)?;
+    answered
 }

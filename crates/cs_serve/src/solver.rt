@@ -8,7 +8,7 @@ ghost use Rattle.cs_serve.specs.declared.ending.Ending.{Ending};
 ghost use Rattle.cs_serve.specs.Endings.{status};
 ghost use Rattle.cs_session.specs.Answering.{start};
 ghost use Rattle.cs_serve.specs.Serving.{most, IsDue, HasEnded};
-ghost use Rattle.cs_serve.specs.Working.{Stands, Stops, IsCaused};
+ghost use Rattle.cs_serve.specs.Working.{Stands, HasStopped, IsCaused};
 
 use crate::Ending;
 use crate::answer::{put_answers, put_text};
@@ -48,7 +48,7 @@ fn ending_at(left: &[u8]) -> Ending
 
 // Puts what ends the answers.
 fn take_leave<K: Sink>(out: &mut K, ending: Ending) -> Ending
-    ensures ends { (before : List ℕ) (given : Option (List ℕ)) (at_end : Bool) → Stops ending before given (K.taken out.old) at_end → HasEnded result before given (K.taken out.new) at_end }
+    ensures ends { (before : List ℕ) (given : Option (List ℕ)) (at_end : Bool) → HasStopped ending before given (K.taken out.old) at_end → HasEnded result before given (K.taken out.new) at_end }
     ensures source { result ≡ Ending.SourceFailed → ending ≡ Ending.SourceFailed }
     ensures sink { (from : ℕ) → IsCaused Ending.SinkFailed ending from (K.faults out.old) → IsCaused Ending.SinkFailed result from (K.faults out.new) }
 {
@@ -78,7 +78,7 @@ impl Solver {
         ensures waits { OnOk result (IsBeginning self.new.left.items) }
         ensures reached { OnOk result ((more : List ℕ) → Reached self.new.reading (self.new.left.items ++ more)) }
         ensures goes { (before : List ℕ) (given : Option (List ℕ)) → Stands before given (K.taken out.old) self.old → OnOk result (Stands before given (K.taken out.new) self.new) }
-        ensures stops { (before : List ℕ) (given : Option (List ℕ)) → Stands before given (K.taken out.old) self.old → IfErr result (λ e. (at_end : Bool) → Stops e before given (K.taken out.new) at_end) }
+        ensures stops { (before : List ℕ) (given : Option (List ℕ)) → Stands before given (K.taken out.old) self.old → IfErr result (λ e. (at_end : Bool) → HasStopped e before given (K.taken out.new) at_end) }
         ensures total { self.new.total ≡ self.old.total }
         ensures cause { HasCause Ending.SinkFailed (K.faults out.old) (K.faults out.new) result }
         ensures other { result ≡ Err Ending.SourceFailed → ⊥ }
@@ -90,9 +90,10 @@ impl Solver {
 
     // Receives the next bytes, and says whether the input is at its end.
     fn receive<I: Source>(&mut self, alloc: Global, input: &mut I) -> Result<bool, Ending>
-        requires { self.old.total < most }
+        requires low { self.old.total < most }
+        requires waits { IsBeginning self.old.left.items }
         ensures goes { (before : List ℕ) (taken : Option (List ℕ)) → Stands before (I.given input.old) taken self.old → OnOk result (Stands before (I.given input.new) taken self.new) }
-        ensures stops { (before : List ℕ) (taken : Option (List ℕ)) → IsBeginning self.old.left.items → Stands before (I.given input.old) taken self.old → IfErr result (λ e. Stops e before (I.given input.new) taken (I.at_end input.new)) }
+        ensures stops { (before : List ℕ) (taken : Option (List ℕ)) → Stands before (I.given input.old) taken self.old → IfErr result (λ e. HasStopped e before (I.given input.new) taken (I.at_end input.new)) }
         ensures end { result ≡ Ok true → (I.at_end input.new ≡ true) × (self.new.left.items ≡ self.old.left.items) }
         ensures more { OnOk result ((more : List ℕ) × (self.new.left.items ≡ self.old.left.items ++ more)) }
         ensures reading { self.new.reading ≡ self.old.reading }
@@ -124,7 +125,7 @@ impl Solver {
         requires reached { Reached self.old.reading self.old.left.items }
         requires low { self.old.total ≤ most }
         ensures goes { (before : List ℕ) → Stands before (I.given input.old) (K.taken out.old) self.old → OnOk result (Stands before (I.given input.new) (K.taken out.new) self.new) }
-        ensures stops { (before : List ℕ) → Stands before (I.given input.old) (K.taken out.old) self.old → IfErr result (λ e. Stops e before (I.given input.new) (K.taken out.new) (I.at_end input.new)) }
+        ensures stops { (before : List ℕ) → Stands before (I.given input.old) (K.taken out.old) self.old → IfErr result (λ e. HasStopped e before (I.given input.new) (K.taken out.new) (I.at_end input.new)) }
         ensures reached { OnOk result (Reached self.new.reading self.new.left.items) }
         ensures later { OnOk result (self.old.total < self.new.total) }
         ensures low { self.new.total ≤ most }
@@ -146,7 +147,7 @@ impl Solver {
     fn run<I: Source, K: Sink>(&mut self, alloc: Global, input: &mut I, out: &mut K) -> Ending
         requires reached { Reached self.old.reading self.old.left.items }
         requires low { self.old.total ≤ most }
-        ensures stops { (before : List ℕ) → Stands before (I.given input.old) (K.taken out.old) self.old → Stops result before (I.given input.new) (K.taken out.new) (I.at_end input.new) }
+        ensures stops { (before : List ℕ) → Stands before (I.given input.old) (K.taken out.old) self.old → HasStopped result before (I.given input.new) (K.taken out.new) (I.at_end input.new) }
         ensures source { IsCaused Ending.SourceFailed result (I.faults input.old) (I.faults input.new) }
         ensures sink { IsCaused Ending.SinkFailed result (K.faults out.old) (K.faults out.new) }
     {
@@ -164,7 +165,7 @@ impl Solver {
 /// # Errors
 /// 1 where no command goes on from what is left, or the input ends within one; 3 where the source failed; 4 where 1,073,741,824
 /// bytes are read and no command is finished; 6 where the sink failed; 7 for want of memory. Each command that is finished is
-/// answered before more is read.
+/// answered, and its answer put, before more is read.
 pub fn serve<I: Source, K: Sink>(alloc: Global, input: &mut I, out: &mut K) -> u8
     ensures answers { (before : List ℕ) → I.given input.old ≡ Some [] → K.taken out.old ≡ Some before
         → (e : Ending) × (status e ≡ result) × HasEnded e before (I.given input.new) (K.taken out.new) (I.at_end input.new) }

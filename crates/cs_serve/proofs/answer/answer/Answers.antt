@@ -1,8 +1,7 @@
-use Rattle.std.proofs.Common.{rules, ◌≡◌, ◌++◌, Some, IfSome, sym, subst}
+use Rattle.std.proofs.Common.{rules, ◌≡◌, ◌++◌}
 use Rattle.cs_session.specs.Texts.{reply_text}
 use Rattle.cs_session.specs.Views.{state}
-use Rattle.cs_serve.specs.Working.{with_due}
-use Rattle.cs_serve.proofs.Steps.{due_more, goes_on}
+use Rattle.cs_serve.proofs.Steps.{goes_on}
 use Rattle.cs_serve.proofs.answer.answer.Goals as goal
 
 pub returns-in-Ok-extend_from_slice-clause-goes : goal.returns-in-Ok-extend_from_slice-clause-goes
@@ -11,5 +10,4 @@ returns-in-Ok-extend_from_slice-clause-goes c = λ before given taken total n en
     let new = c.extend_from_slice.new.self.items in
     let reply = c.in-Ok.reply in
     let items : new ≡ old ++ reply_text reply = search rules in
-    let puts = subst (λ x. IfSome (with_due taken old) (λ bytes. with_due taken x ≡ Some (bytes ++ reply_text reply))) (sym items) (due_more taken old (reply_text reply)) in
-    rw c.is_last.ensures (goes_on before given (with_due taken old) (with_due taken new) total c.args.left.now (state c.args.session.now) (state c.command.new.self) n reply at ends c.in-Ok.ensures.replies puts)
+    rw c.is_last.ensures (goes_on before old new given taken total c.args.left.now (state c.args.session.now) (state c.command.new.self) n reply at ends c.in-Ok.ensures.replies items)

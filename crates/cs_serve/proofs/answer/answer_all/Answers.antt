@@ -5,7 +5,7 @@ use Rattle.vx_sexp.specs.Beginnings.{GoesOn}
 use Rattle.cs_session.specs.Views.{state}
 use Rattle.cs_serve.specs.declared.ending.Ending.TheVariants.{Exited, BadToken}
 use Rattle.cs_session.specs.Answering.{EndsAt}
-use Rattle.cs_serve.specs.Working.{IsAt, with_due}
+use Rattle.cs_serve.specs.Working.{IsAt}
 use Rattle.cs_serve.proofs.Nexts.{ends_later}
 use Rattle.cs_serve.proofs.Steps.{stops_at}
 use Rattle.cs_serve.proofs.answer.answer_all.Goals as goal
@@ -15,15 +15,15 @@ returns-in_err-over-in-Ends-clause-stops c =
     let p = err_from_is_err_and c.from_residual.result c.from_residual.ensures.1 in rw (p.1, p.2) (λ before given taken total at.
     let here = c.commands.invariant.works before given taken total at in
     c.in_err-over-in-Ends.ensures.stops before given taken total
-    (subst (λ x. IsAt before given (with_due taken c.commands.due.items) total x (state c.commands.session) false) (sym c.behind-left.ensures) here))
+    (subst (λ x. IsAt before given taken c.commands.due.items total x (state c.commands.session) false) (sym c.behind-left.ensures) here))
 
 pub returns-then-over-clause-stops : goal.returns-then-over-clause-stops
 returns-then-over-clause-stops c = λ before given taken total at at_end.
     let here = c.commands.invariant.works before given taken total at in
     let left = c.behind-left.result.now in
     let there = c.in_ok-over-in-Ends.ensures.goes before given taken total c.in-Ends.count c.in-Ends.ensures.next
-    (subst (λ x. IsAt before given (with_due taken c.commands.due.items) total x (state c.commands.session) false) (sym c.behind-left.ensures) here) in
-    stops_at Exited before given (with_due taken c.answer.new.due.items) total (drop c.in-Ends.count left) (state c.answer.new.session) c.in_ok-over-in-Ends.over at_end there c.if-over.true
+    (subst (λ x. IsAt before given taken c.commands.due.items total x (state c.commands.session) false) (sym c.behind-left.ensures) here) in
+    stops_at Exited before c.answer.new.due.items given taken total (drop c.in-Ends.count left) (state c.answer.new.session) c.in_ok-over-in-Ends.over at_end there c.if-over.true
 
 pub commands-smaller : goal.commands-smaller
 commands-smaller c =
@@ -36,5 +36,5 @@ commands-smaller c =
 pub returns-in-Bad-clause-stops : goal.returns-in-Bad-clause-stops
 returns-in-Bad-clause-stops c = λ before given taken total at at_end.
     let here = c.commands.invariant.works before given taken total at in
-    stops_at BadToken before given (with_due taken c.commands.due.items) total (drop c.commands.at c.args.bytes.now) (state c.commands.session) false at_end here
+    stops_at BadToken before c.commands.due.items given taken total (drop c.commands.at c.args.bytes.now) (state c.commands.session) false at_end here
     (refl, subst (λ x. GoesOn x → ⊥) c.behind-left.ensures c.in-Bad.ensures.next)

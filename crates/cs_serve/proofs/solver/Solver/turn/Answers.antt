@@ -3,7 +3,7 @@ use Rattle.vx_sexp.specs.Beginnings.{IsBeginning}
 use Rattle.cs_session.specs.Views.{state}
 use Rattle.cs_serve.specs.declared.ending.Ending.TheVariants.{TooLong}
 use Rattle.cs_serve.specs.Serving.{IsDue}
-use Rattle.cs_serve.proofs.Steps.{stops_at}
+use Rattle.cs_serve.proofs.Steps.{has_stopped}
 use Rattle.cs_serve.proofs.solver.Solver.turn.Goals as goal
 
 pub returns-then-self-eq-MOST-clause-stops : goal.returns-then-self-eq-MOST-clause-stops
@@ -11,7 +11,7 @@ returns-then-self-eq-MOST-clause-stops g c = λ before at.
     let now = c.answer_all.new.self in
     let from = g.I.Source.given c.args.input.now in
     let here = c.in_ok-answer_all.ensures.goes before from at in
-    stops_at TooLong before from (g.K.Sink.taken c.answer_all.new.out) now.total now.left.items (state now.session) false (g.I.Source.at_end c.args.input.now) here
+    has_stopped TooLong before from (g.K.Sink.taken c.answer_all.new.out) now.total now.left.items (state now.session) false (g.I.Source.at_end c.args.input.now) here
     (refl, c.in_ok-answer_all.ensures.waits, here.counted ∙ c.if-self-eq-MOST.true)
 
 pub returns-then-ended-clause-stops : goal.returns-then-ended-clause-stops
@@ -25,4 +25,4 @@ returns-then-ended-clause-stops g c = λ before at.
     let waits = subst IsBeginning (sym (left ∙ end.1)) c.in_ok-answer_all.ensures.waits in
     let due = subst (λ x. IsDue c.ending_at.result there.all x false true) left (c.ending_at.ensures.due there.all waits) in
     let due_now = subst (λ b. IsDue c.ending_at.result there.all now.left.items false b) (sym end.0) due in
-    stops_at c.ending_at.result before (g.I.Source.given c.receive.new.input) taken now.total now.left.items (state now.session) false (g.I.Source.at_end c.receive.new.input) there due_now
+    has_stopped c.ending_at.result before (g.I.Source.given c.receive.new.input) taken now.total now.left.items (state now.session) false (g.I.Source.at_end c.receive.new.input) there due_now
