@@ -1,5 +1,5 @@
 -- Rules and frames by equal parts.
-use Rattle.std.proofs.Common.{◌≡◌, List, refl, ap, ◌∙◌}
+use Rattle.std.proofs.Common.{◌≡◌, List, ap, ◌∙◌}
 use Rattle.vx_ast.specs.declared.Place.{Place}
 use Rattle.vx_ast.specs.Syntax.{Name, Program, Expr, Assertion}
 use Rattle.vx_terms.specs.Terms.{Term}

@@ -1,14 +1,14 @@
 -- What stands in another member is consumed as by the rules over themselves, and the way back from a callee, by its parts.
 use Rattle.std.proofs.Common.{◌≡◌, ℕ, Bool, true, List, Option, Some, None, refl, sym, ap, ◌∙◌, drop}
 use Rattle.vx_ast.specs.declared.Place.{Place}
-use Rattle.vx_ast.specs.Syntax.{Name, Program, Assertion, Block, Predicate, Method, joined, predicate_named}
+use Rattle.vx_ast.specs.Syntax.{Name, Program, Assertion, Predicate, Method, joined, predicate_named}
 use Rattle.vx_depth.specs.Depths.{ReadsItself}
 use Rattle.vx_terms.specs.Terms.{Term}
 use Rattle.vx_terms.specs.Build.{whole_amount}
-use Rattle.vx_rules.specs.States.{Heap, State, Store, assign_all, bind, declare_all, leave, terms_in, with_store}
+use Rattle.vx_rules.specs.States.{Heap, State, Store, assign_all, bind, declare_all, terms_in, with_store}
 use Rattle.vx_rules.specs.Trees.{CallCode, FoldCode, Tree, Step}
-use Rattle.vx_rules.specs.Rules.{Context, Giving, Going, back, consume, entered, fork, never}
-use Rattle.vx_rules.specs.Members.{after_names, blank, called, exec_all, folded, names_of, rules}
+use Rattle.vx_rules.specs.Rules.{Context, Giving, Going, back, consume, entered, never}
+use Rattle.vx_rules.specs.Members.{after_names, blank, called, folded, names_of, rules}
 use Rattle.vx_states.specs.declared.entering.Caller.{Caller}
 use Rattle.vx_states.specs.Entering.{back_to}
 use Rattle.vx_stack.specs.Stack.{returned, with_instance}

@@ -4,7 +4,7 @@ use Rattle.vx_ast.specs.Syntax.{Program, Assertion}
 use Rattle.vx_terms.specs.Terms.{Term}
 use Rattle.vx_heap.specs.Views.{held_term}
 use Rattle.vx_rules.specs.States.{State}
-use Rattle.vx_rules.specs.Rules.{Going, Outer, produce}
+use Rattle.vx_rules.specs.Rules.{Going, produce}
 use Rattle.vx_rules.specs.Members.{rules}
 use Rattle.vx_depth.specs.Depths.{ReadsItself}
 use Rattle.vx_states.specs.SymStates.{optional_term}

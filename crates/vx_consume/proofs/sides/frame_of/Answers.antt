@@ -1,4 +1,4 @@
-use Rattle.std.proofs.Common.{◌≡◌, ap, ◌∙◌}
+use Rattle.std.proofs.Common.{ap, ◌∙◌}
 use Rattle.vx_resolved.specs.Resolved.{assertion}
 use Rattle.vx_resolved.specs.Settled.{settled}
 use Rattle.vx_stack.specs.Stack.{giving, going}

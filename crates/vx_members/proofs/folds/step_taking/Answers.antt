@@ -1,5 +1,5 @@
-use Rattle.std.proofs.Common.{◌≡◌, List, string_bytes, true, refl, sym, ap, ◌∙◌}
-use Rattle.vx_ast.specs.Syntax.{Name, Assertion}
+use Rattle.std.proofs.Common.{◌≡◌, List, string_bytes, true, sym, ap, ◌∙◌}
+use Rattle.vx_ast.specs.Syntax.{Name}
 use Rattle.vx_resolved.specs.Resolved.{assertion, predicate}
 use Rattle.vx_resolved.specs.Settled.{settled}
 use Rattle.vx_terms.specs.Terms.{Term}

@@ -1,4 +1,4 @@
-use Rattle.std.proofs.Common.{◌≡◌, List, Some, string_bytes, sym, ap, ◌∙◌}
+use Rattle.std.proofs.Common.{◌≡◌, Some, string_bytes, sym, ap, ◌∙◌}
 use Rattle.vx_ast.specs.Syntax.{Name, predicate_named}
 use Rattle.vx_resolved.specs.declared.Assertion as assertion'
 use Rattle.vx_resolved.specs.declared.Predicate as predicate'

@@ -1,7 +1,6 @@
 use Rattle.std.proofs.Common.{◌≡◌, Some, refl, sym, ap, ◌∙◌}
 use Rattle.vx_resolved.specs.Resolved.{assertion, predicate}
 use Rattle.vx_resolved.specs.Settled.{settled}
-use Rattle.vx_terms.specs.Terms.{Term}
 use Rattle.vx_heap.specs.Views.{held_term}
 use Rattle.vx_rules.specs.States.{State, bind}
 use Rattle.vx_rules.specs.Rules.{Going, back, entered}
