@@ -1,20 +1,16 @@
-use Rattle.std.proofs.Common.{◌∙◌, ap, refl, sym, string_bytes}
+use Rattle.std.proofs.Common.{◌∙◌, ap, refl, sym}
 use Rattle.vx_resolved.specs.Settled.{settled}
 use Rattle.vx_rules.specs.Rules.{placed}
 use Rattle.vx_states.specs.SymStates.{state}
-use Rattle.vx_heap.specs.Views.{heap, held_term}
+use Rattle.vx_heap.specs.Views.{held_term}
 use Rattle.vx_terms.specs.Views.{term}
 use Rattle.vx_resolved.specs.Resolved.{exprs}
 use Rattle.vx_rules.specs.Members.{rules}
-use Rattle.vx_rules.specs.Rules.{Giving, Going, GivingAll, ask, evals}
-use Rattle.vx_rules.specs.States.{State, after_name, name_of, with_heap}
-use Rattle.vx_states.specs.declared.entering.Caller.{Caller}
-use Rattle.vx_states.specs.Entering.{back_to}
+use Rattle.vx_rules.specs.Rules.{Going, GivingAll, ask, evals}
 use Rattle.vx_rules.specs.Trees.{AmountCode}
-use Rattle.vx_stack.specs.Stack.{giving, going, measuring, operand}
+use Rattle.vx_stack.specs.Stack.{giving, going}
 use Rattle.vx_terms.specs.Build.{less, zero_amount}
 use Rattle.vx_stack.proofs.Steps.{stepped_as}
-use Rattle.vx_eval.proofs.Given.{reads}
 use Rattle.vx_eval.proofs.Unfolded.{after_arguments, within}
 use Rattle.vx_eval.proofs.operand.step_operand.Goals as goal
 

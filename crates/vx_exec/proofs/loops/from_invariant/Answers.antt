@@ -1,4 +1,4 @@
-use Rattle.std.proofs.Common.{◌≡◌, None, ap, ◌∙◌}
+use Rattle.std.proofs.Common.{None, ap, ◌∙◌}
 use Rattle.vx_resolved.specs.Resolved.{assertion, expr}
 use Rattle.vx_resolved.specs.Settled.{settled}
 use Rattle.vx_terms.specs.Build.{whole_amount}

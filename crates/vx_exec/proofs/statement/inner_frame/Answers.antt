@@ -1,8 +1,8 @@
-use Rattle.std.proofs.Common.{◌≡◌, ap, ◌∙◌}
+use Rattle.std.proofs.Common.{ap, ◌∙◌}
 use Rattle.vx_resolved.specs.declared.Block as block'
 use Rattle.vx_resolved.specs.Resolved.{block}
 use Rattle.vx_resolved.specs.Settled.{settled}
-use Rattle.vx_rules.specs.States.{State, leave}
+use Rattle.vx_rules.specs.States.{leave}
 use Rattle.vx_rules.specs.Rules.{Going}
 use Rattle.vx_rules.specs.Members.{exec_all, rules}
 use Rattle.vx_stack.specs.declared.frame.Next.{Next}
