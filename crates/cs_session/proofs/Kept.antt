@@ -11,6 +11,7 @@ use Rattle.vx_smt_meaning.specs.Commands.{Command, SetOption, SetLogic, DeclareS
 use Rattle.vx_smt_meaning.specs.Views.{command}
 use Rattle.vx_smt_meaning.specs.declared.command.Command.{Command as Command'}
 use Rattle.cs_certificate.specs.Certificate.{Stack, Step, IsFinished}
+use Rattle.cs_decide.specs.declared.answer.Cause.{Cause}
 use Rattle.cs_proof.specs.declared.step.Step.{Step as Step'}
 use Rattle.cs_proof.specs.Views.{written}
 use Rattle.cs_proof.specs.Checking.{Finished}
@@ -139,7 +140,7 @@ replied_kept : (o : Result Command' Fault) (s u : State) (r : Reply) (bytes : Li
 replied_kept (Ok c) s u r bytes meant done k = done_kept (command c) s u r bytes meant.1 meant.0 meant.2.lexed meant.4 done k
 replied_kept (Err e) s u r bytes meant done k = subst IsKept (sym done.1) k
 
-kept : {all text left : List ℕ} {s : State} → Answering all text left s → IsKept s
+kept : {all text left : List ℕ} {causes : List Cause} {s : State} → Answering all text left causes s → IsKept s
 kept begun = record { apart = tt; own = tt; told = λ steps e. none_told steps e }
 kept (given piece h) = kept h
 kept (answered {left = left} {s = s} {u = u} n r h ends replies) = replied_kept replies.understood s u r left replies.meant replies.replied (kept h)

@@ -6,3 +6,4 @@ pub mod Meant
 pub mod Ones
 pub mod Turned
 pub mod Kept
+mod Caused

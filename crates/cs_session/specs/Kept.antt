@@ -3,6 +3,7 @@ use Rattle.std.specs.Prelude.{◌≡◌, List, [], ◌∷◌, ◌++◌, map, Som
 use Rattle.std.specs.Global.{Vec}
 use Rattle.vx_terms.specs.Interpretations.{Each}
 use Rattle.cs_certificate.specs.Certificate.{Step, IsFinished}
+use Rattle.cs_decide.specs.declared.answer.Cause.{Cause}
 use Rattle.cs_proof.specs.declared.step.Step.{Step as Step'}
 use Rattle.cs_proof.specs.Views.{written}
 use Rattle.cs_text.specs.Text.{certificate_text}
@@ -21,7 +22,8 @@ pub record IsReached (s : State) : Type 0 where
   pub all : List ℕ
   pub text : List ℕ
   pub left : List ℕ
-  pub answering : Answering all text left s
+  pub causes : List Cause
+  pub answering : Answering all text left causes s
 
 -- these steps are kept of the last unsat
 pub record Keeps (s : State) (ws : List Step) : Type 0 where

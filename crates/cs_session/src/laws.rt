@@ -1,4 +1,5 @@
-// What a session shows of its proofs.
+// What a session shows of its proofs, and of its causes.
+ghost use Rattle.cs_session.specs.Answering.{UndecidedHasItsCause};
 ghost use Rattle.cs_session.specs.Kept.{ShownIsReadBack, KeptIsShown};
 
 /// What `get-proof` is answered by is the text of the steps that were kept of the last unsat, and is read back as these steps. Where
@@ -6,4 +7,9 @@ ghost use Rattle.cs_session.specs.Kept.{ShownIsReadBack, KeptIsShown};
 pub fn kept_proofs_are_shown()
     ensures read_back { ShownIsReadBack }
     ensures shown { KeptIsShown }
+{}
+
+/// Each undecided answer has its cause.
+pub fn undecided_has_its_cause()
+    ensures { UndecidedHasItsCause }
 {}
