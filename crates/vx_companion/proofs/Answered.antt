@@ -17,6 +17,7 @@ use Rattle.cs_commands.specs.Commands.{understood}
 use Rattle.cs_commands.specs.Understanding.{IsUnderstood, Understands}
 use Rattle.cs_commands.specs.Laws.{scope_of}
 use Rattle.cs_certificate.specs.Certificate.{Step}
+use Rattle.cs_decide.specs.declared.answer.Cause.{Cause}
 use Rattle.cs_proof.specs.Views.{written}
 use Rattle.cs_text.specs.Text.{certificate_text}
 use Rattle.cs_commands.proofs.Passed.{some_is, not_some}
@@ -165,7 +166,7 @@ pub record HasAnswers (all text left : List ℕ) (s : State) : Type 0 where
   pub text_is : text ≡ texts_of replies
   pub are : AreAnswers start all replies left s
 
-pub answers_of : {all text left : List ℕ} {s : State} → Answering all text left s → HasAnswers all text left s
+pub answers_of : {all text left : List ℕ} {causes : List Cause} {s : State} → Answering all text left causes s → HasAnswers all text left s
 answers_of begun = record { replies = []; text_is = refl; are = (refl, refl) }
 answers_of (given {all = all} {left = left} {s = s} piece h) =
     let before = answers_of h in

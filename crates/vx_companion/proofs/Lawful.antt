@@ -27,6 +27,7 @@ use Rattle.vx_dialogue.specs.History.{Tells}
 use Rattle.vx_dialogue.proofs.Joined.{append_none, first_longer}
 use Rattle.vx_dialogue.proofs.Counts.{finished_first}
 use Rattle.cs_commands.specs.Laws.{AreApart}
+use Rattle.cs_decide.specs.declared.answer.Cause.{Cause}
 use Rattle.cs_session.specs.declared.reply.Reply.{Reply}
 use Rattle.cs_session.specs.declared.reply.Reply.TheVariants.{Success, Unsupported, Failed, Sat, Unsat, Undecided, Proof, Closed}
 use Rattle.cs_session.specs.Views.{State}
@@ -232,7 +233,7 @@ texts_joined : (front behind : List Command) → commands_text (front ++ behind)
 texts_joined [] behind = refl
 texts_joined (c ∷ front) behind = ap (λ x. command_text c ++ x) (texts_joined front behind) ∙ sym (append_assoc (command_text c) (commands_text front) (commands_text behind))
 
-module _ (failed : Bool) (script : List Command) (pieces : List Piece) (checks : List Check) (well : IsWellFormed script) (sorted : Each IsSorted script) (taken : Each IsTaken script)
+module _ (failed : Bool) (script : List Command) (pieces : List Piece) (causes : List Cause) (checks : List Check) (well : IsWellFormed script) (sorted : Each IsSorted script) (taken : Each IsTaken script)
     (fits : AllFit (empty_level ∷ []) script) (tells : Tells failed script pieces checks) where
   -- all that was sent begins the script's text
   sent_begins : sent pieces ++ tells.unsent ≡ commands_text script
@@ -240,7 +241,7 @@ module _ (failed : Bool) (script : List Command) (pieces : List Piece) (checks :
       ap (λ x. x ++ tells.unsent) tells.sent_is ∙ append_assoc (commands_text tells.answered) tells.begun tells.unsent
       ∙ ap (λ x. commands_text tells.answered ++ x) tells.begun_is ∙ sym (texts_joined tells.answered tells.behind) ∙ ap commands_text (sym tells.all)
 
-  next_by : IsByCompanion pieces → {Told : Wanted → List ℕ → Type 0} (s : Stops pieces Told) → (ungot : List ℕ) × Next s.command s.next ungot
+  next_by : IsByCompanion pieces causes → {Told : Wanted → List ℕ → Type 0} (s : Stops pieces Told) → (ungot : List ℕ) × Next s.command s.next ungot
   next_by by s =
       let answers = answers_of by.replied.answering in (
         by.ungot,
@@ -248,11 +249,11 @@ module _ (failed : Bool) (script : List Command) (pieces : List Piece) (checks :
             refl tt well.spelled well.in_order sorted taken fits s.spelled answers.are by.replied.none_left s.sent_is sent_begins s.heard answers.text_is s.lawful,
       )
 
-  never_stops : RepliesByCompanion pieces → (Told : Wanted → List ℕ → Type 0) → ((c : Command) (next ungot : List ℕ) → Next c next ungot → Told (wanted_by c) next → ⊥) → Stops pieces Told → ⊥
+  never_stops : RepliesByCompanion pieces causes → (Told : Wanted → List ℕ → Type 0) → ((c : Command) (next ungot : List ℕ) → Next c next ungot → Told (wanted_by c) next → ⊥) → Stops pieces Told → ⊥
   never_stops by Told excludes s = ∥∥₁_elim by no_two (λ h. let n = next_by h s in excludes s.command s.next n.0 n.1 s.told)
 
 pub companion_lawful : CompanionIsLawful
-companion_lawful failed script pieces checks well sorted taken fits tells by kept = (
-  never_stops failed script pieces checks well sorted taken fits tells by _ (λ c next ungot n told. not_garbled n kept told),
-  never_stops failed script pieces checks well sorted taken fits tells by _ (λ c next ungot n told. not_refused n kept told),
+companion_lawful failed script pieces causes checks well sorted taken fits tells by kept = (
+  never_stops failed script pieces causes checks well sorted taken fits tells by _ (λ c next ungot n told. not_garbled n kept told),
+  never_stops failed script pieces causes checks well sorted taken fits tells by _ (λ c next ungot n told. not_refused n kept told),
 )

@@ -1,4 +1,5 @@
 mod Replies
+pub mod Ended
 mod Shown
 mod Lines
 mod Originals

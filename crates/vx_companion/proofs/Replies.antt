@@ -11,6 +11,7 @@ use Rattle.vx_sexp.proofs.Counts.{joined_finished, joined_closed, none_closed}
 use Rattle.vx_dialogue.proofs.Joined.{append_none, first_longer}
 use Rattle.vx_dialogue.proofs.Counts.{finished_first}
 use Rattle.vx_sexp.specs.Finished.{finished}
+use Rattle.cs_decide.specs.declared.answer.Cause.{Cause}
 use Rattle.cs_session.specs.Views.{State}
 use Rattle.vx_companion.specs.Companion.{IsOneReply, KeepsUp, HasReplied, IsByCompanion}
 
@@ -62,9 +63,9 @@ pub after_got : (old new : List Piece) (replies front back : List ℕ) → new �
 after_got old new replies front back is replies_are =
     ap (λ x. x ++ back) (got_by_got old new front is) ∙ (append_assoc (got old) front back ∙ ap (λ x. got old ++ x) (sym replies_are))
 
-pub by_companion : {pieces : List Piece} {replies left : List ℕ} {s : State} → HasReplied pieces replies left s → IsByCompanion pieces
+pub by_companion : {pieces : List Piece} {replies left : List ℕ} {causes : List Cause} {s : State} → HasReplied pieces replies left causes s → IsByCompanion pieces causes
 by_companion {replies = replies} {left = left} {s = s} h = record { ungot = replies; left = left; state = s; replied = h }
 
 -- the same replies, of which more were got
-pub replied_on : (old new : List Piece) (replies rest left : List ℕ) (s : State) → sent new ≡ sent old → got new ++ rest ≡ got old ++ replies → HasReplied old replies left s → HasReplied new rest left s
-replied_on old new replies rest left s sent_same same h = record { answering = rw (sent_same, same) h.answering; none_left = h.none_left }
+pub replied_on : (old new : List Piece) (replies rest left : List ℕ) (causes : List Cause) (s : State) → sent new ≡ sent old → got new ++ rest ≡ got old ++ replies → HasReplied old replies left causes s → HasReplied new rest left causes s
+replied_on old new replies rest left causes s sent_same same h = record { answering = rw (sent_same, same) h.answering; none_left = h.none_left }

@@ -26,6 +26,7 @@ use Rattle.cs_commands.specs.Laws.{AreApart}
 use Rattle.cs_commands.specs.Following.{LeavesALevel}
 use Rattle.cs_commands.proofs.Following.{understood_follows}
 use Rattle.cs_commands.proofs.Apart.{stay_apart}
+use Rattle.cs_decide.specs.declared.answer.Cause.{Cause}
 use Rattle.cs_session.specs.declared.reply.Complaint.TheVariants as complaints
 use Rattle.cs_session.specs.declared.reply.Reply.{Reply}
 use Rattle.cs_session.specs.declared.reply.Reply.TheVariants.{Success, Unsupported, Failed, Sat, Unsat, Undecided, Proof, Closed}
@@ -200,9 +201,9 @@ front_sorted (c ∷ front) behind h = (h.0, front_sorted front behind h.1)
 none_told : Mirrors (empty_level ∷ []) (empty_level ∷ [])
 none_told = (record { sorts = refl; symbols = refl; assertions = tt }, tt)
 
-by_record : (failed : Bool) (script : List Command) (pieces : List Piece) (checks : List Check) → IsWellFormed script → Each IsSorted script → Tells failed script pieces checks
-    → IsByCompanion pieces → Each IsRight checks
-by_record failed script pieces checks well sorted tells by =
+by_record : (failed : Bool) (script : List Command) (pieces : List Piece) (causes : List Cause) (checks : List Check) → IsWellFormed script → Each IsSorted script → Tells failed script pieces checks
+    → IsByCompanion pieces causes → Each IsRight checks
+by_record failed script pieces causes checks well sorted tells by =
     let answers = answers_of by.replied.answering in
     subst (Each IsRight) (sym tells.checks_are)
     (right_from tells.answered tells.items answers.replies false false start by.state (empty_level ∷ []) (sent pieces) by.left tells.begun (got pieces) by.ungot tells.got_later none_told tt
@@ -220,4 +221,4 @@ each_once [] f h = tt
 each_once (c ∷ checks) f h = (λ reply i all. ∥∥₁_elim h no_two (λ a. (f a).0 reply i all), each_once checks (λ a. (f a).1) h)
 
 pub companion_right : CompanionIsRight
-companion_right failed script pieces checks well sorted tells by = each_once checks (λ h. by_record failed script pieces checks well sorted tells h) by
+companion_right failed script pieces causes checks well sorted tells by = each_once checks (λ h. by_record failed script pieces causes checks well sorted tells h) by

@@ -11,6 +11,7 @@ use Rattle.vx_dialogue.specs.Items.{IsGarbled, IsRefused}
 use Rattle.vx_dialogue.specs.Stops.{Stops}
 use Rattle.vx_dialogue.specs.History.{Tells}
 use Rattle.cs_commands.specs.Laws.{IsSmallSymbol, IsReadable}
+use Rattle.cs_decide.specs.declared.answer.Cause.{Cause}
 use Rattle.cs_session.specs.Views.{depth}
 use Rattle.vx_companion.specs.Companion.{RepliesByCompanion}
 use Rattle.vx_companion.specs.Right.{IsSorted}
@@ -37,5 +38,5 @@ HasLawfulReplies pieces = (kept : List ℕ) → (Stops pieces (λ w bytes. IsGar
 
 -- The law of its replies: where it takes each command of a script, none is garbled, and none a refusal.
 abbrev pub CompanionIsLawful : Type 0
-CompanionIsLawful = (failed : Bool) (script : List Command) (pieces : List Piece) (checks : List Check) → IsWellFormed script → Each IsSorted script → Each IsTaken script
-    → AllFit (empty_level ∷ []) script → Tells failed script pieces checks → RepliesByCompanion pieces → HasLawfulReplies pieces
+CompanionIsLawful = (failed : Bool) (script : List Command) (pieces : List Piece) (causes : List Cause) (checks : List Check) → IsWellFormed script → Each IsSorted script → Each IsTaken script
+    → AllFit (empty_level ∷ []) script → Tells failed script pieces checks → RepliesByCompanion pieces causes → HasLawfulReplies pieces

@@ -10,6 +10,7 @@ use Rattle.vx_smt_meaning.specs.declared.reply.Reply.TheVariants.{Unsat}
 use Rattle.vx_ends.specs.declared.piece.Piece.{Piece}
 use Rattle.vx_dialogue.specs.History.{Tells}
 use Rattle.cs_commands.specs.Laws.{IsPlain}
+use Rattle.cs_decide.specs.declared.answer.Cause.{Cause}
 use Rattle.vx_companion.specs.Companion.{RepliesByCompanion}
 
 -- An assertion is well-sorted; a sort isn't one of SMT-LIB's own, and so many levels are told by 32 bits. Numbers and names may be as they like.
@@ -24,5 +25,5 @@ IsRight c = c.reply ≡ Some Unsat → IsUnsatisfiable c.assertions
 
 -- The law of its replies: where a script is well formed and what it asserts well-sorted, each unsat that a record of it tells is right.
 abbrev pub CompanionIsRight : Type 0
-CompanionIsRight = (failed : Bool) (script : List Command) (pieces : List Piece) (checks : List Check) → IsWellFormed script → Each IsSorted script
-    → Tells failed script pieces checks → RepliesByCompanion pieces → Each IsRight checks
+CompanionIsRight = (failed : Bool) (script : List Command) (pieces : List Piece) (causes : List Cause) (checks : List Check) → IsWellFormed script → Each IsSorted script
+    → Tells failed script pieces checks → RepliesByCompanion pieces causes → Each IsRight checks

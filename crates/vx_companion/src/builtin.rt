@@ -1,33 +1,57 @@
 // The companion's link and its spawner.
-ghost use Rattle.std.specs.Prelude.{◌≡◌, ℕ, ◌+◌, ◌≤◌, ◌==◌, ◌++◌, [], vec_len, vec_capacity, count_by, List, IfOk, OnOk, true, false};
+ghost use Rattle.std.specs.Prelude.{◌≡◌, ℕ, ◌+◌, ◌≤◌, ◌==◌, ◌++◌, [], map, vec_len, vec_capacity, count_by, List, IfOk, OnOk, true, false};
 ghost use Rattle.vx_ends.specs.Dialogue.{sent, got};
 ghost use Rattle.vx_sexp.specs.Finished.{finished};
 ghost use Rattle.cs_session.specs.declared.reply.Reply.{Reply};
-ghost use Rattle.cs_session.specs.Answering.{Answering};
+ghost use Rattle.cs_session.specs.Answering.{Answering, told_cause};
 ghost use Rattle.cs_session.specs.Replies.{Replies};
 ghost use Rattle.cs_session.specs.Texts.{reply_text};
 ghost use Rattle.cs_session.specs.Views.{state};
 ghost use Rattle.vx_companion.specs.Companion.{KeepsUp, HasReplied, RepliesByCompanion, AllByCompanion};
 
-use cs_session::Session;
+use cs_decide::Cause;
+use cs_session::{Reply, Session};
 use std::alloc::{AllocError, Global};
 use vx_ends::{Ending, Link, LinkFault, Parts, Record, Spawner, Start, StartFault, remove_once};
 use vx_sexp::cut;
+
+// Keeps why the reply is undecided, where it is.
+fn keep_cause(session: &Session, reply: &Reply, causes: &mut Vec<Cause>) -> Result<(), AllocError>
+    ensures { OnOk result (causes.new.items ≡ causes.old.items ++ told_cause reply.now (state session.now)) }
+{
+    match reply {
+        Reply::Undecided => {
+            if let Some(cause) = session.cause() {
+                causes.push(cause.clone()?)?;
+            }
+            Ok(())
+        }
+        Reply::Success
+        | Reply::Unsupported
+        | Reply::Failed(_)
+        | Reply::Sat
+        | Reply::Unsat
+        | Reply::Proof(_)
+        | Reply::Closed => Ok(()),
+    }
+}
 
 // Replies to the first command of some bytes.
 fn reply(
     alloc: Global,
     session: &mut Session,
     replies: &mut Vec<u8>,
+    causes: &mut Vec<Cause>,
     bytes: &[u8],
 ) -> Result<(), AllocError>
-    ensures { OnOk result ((r : Reply) × Replies bytes.now (state session.old) r (state session.new) × (replies.new.items ≡ replies.old.items ++ reply_text r)) }
+    ensures { OnOk result ((r : Reply) × Replies bytes.now (state session.old) r (state session.new) × (replies.new.items ≡ replies.old.items ++ reply_text r) × (causes.new.items ≡ causes.old.items ++ told_cause r (state session.new))) }
 {
     let Ok(reply) = session.command(alloc, bytes) else {
         return Err(AllocError);
     };
     let line = reply.text();
     replies.extend_from_slice(line)?;
+    keep_cause(session, &reply, causes)?;
     Ok(())
 }
 
@@ -36,9 +60,10 @@ fn reply_all<'a>(
     alloc: Global,
     session: &mut Session,
     replies: &mut Vec<u8>,
+    causes: &mut Vec<Cause>,
     bytes: &'a [u8],
 ) -> Result<&'a [u8], AllocError>
-    ensures answering { IfOk result (λ rest. (all front : List ℕ) → Answering all (front ++ replies.old.items) bytes.now (state session.old) → Answering all (front ++ replies.new.items) rest.now (state session.new)) }
+    ensures answering { IfOk result (λ rest. (all front : List ℕ) (before : List Cause) → Answering all (front ++ replies.old.items) bytes.now (before ++ causes.old.items) (state session.old) → Answering all (front ++ replies.new.items) rest.now (before ++ causes.new.items) (state session.new)) }
     ensures keeps_up { IfOk result (λ rest. (all front : List ℕ) → KeepsUp all bytes.now (front ++ replies.old.items) → KeepsUp all rest.now (front ++ replies.new.items)) }
     ensures none_left { IfOk result (λ rest. finished rest.now ≡ 0) }
 {
@@ -48,7 +73,7 @@ fn reply_all<'a>(
             Ok(taken) => taken,
             Err(_fault) => return Ok(rest),
         };
-        reply(alloc, session, replies, rest)?;
+        reply(alloc, session, replies, causes, rest)?;
         let (_command, more) = rest.split_at(taken);
         rest = more;
     }
@@ -63,14 +88,16 @@ pub struct CompanionLink {
     unread: Vec<u8>,
     // replies that were not got yet
     replies: Vec<u8>,
+    // why replies were undecided, those that were not got too
+    causes: Vec<Cause>,
     pieces: Record,
     faults: u64,
     // memory ran out in the midst of a command
     is_spent: bool,
     ghost owed: { is_spent ≡ false → finished (sent pieces) ≤ finished (got pieces ++ replies.items) },
     ghost keeps_up: { is_spent ≡ false → KeepsUp (sent pieces) unread.items (got pieces ++ replies.items) },
-    ghost replied: { is_spent ≡ false → ∥ HasReplied pieces replies.items unread.items (state session) ∥₁ },
-    ghost right: { RepliesByCompanion pieces },
+    ghost replied: { is_spent ≡ false → ∥ HasReplied pieces replies.items unread.items causes.items (state session) ∥₁ },
+    ghost right: { RepliesByCompanion pieces causes.items },
 }
 
 impl CompanionLink {
@@ -82,6 +109,7 @@ impl CompanionLink {
             session: Session::new(alloc),
             unread: Vec::new(alloc),
             replies: Vec::new(alloc),
+            causes: Vec::new(alloc),
             pieces: Record::new(alloc),
             faults: 0,
             is_spent: false,
@@ -106,9 +134,21 @@ impl Link for CompanionLink {
         }
         self.is_spent = true;
         self.unread.extend_from_slice(piece)?;
-        let rest = reply_all(alloc, &mut self.session, &mut self.replies, &self.unread)?;
+        let mut causes = Vec::new(alloc);
+        let rest = reply_all(
+            alloc,
+            &mut self.session,
+            &mut self.replies,
+            &mut causes,
+            &self.unread,
+        )?;
         self.unread = rest.to_vec(alloc)?;
+        self.causes.reserve(causes.len())?;
         self.pieces.push_sent(piece)?;
+        match self.causes.append(&mut causes) {
+            Ok(()) => {}
+            Err(_) => unreachable!(),
+        }
         self.is_spent = false;
         Ok(piece.len())
     }
@@ -135,15 +175,23 @@ impl Link for CompanionLink {
     }
 }
 
+/// A link that was handed back: what is kept of any link, and why its replies were undecided, one cause for each of these
+/// replies, in order.
+#[derive(Drop)]
+pub struct EndedLink {
+    pub ending: Ending,
+    pub causes: Vec<Cause>,
+    ghost right: { RepliesByCompanion ending.dialogue causes.items },
+}
+
 /// Starts companions. Its command is the one word `builtin`.
 #[derive(Drop)]
 pub struct Builtin {
     starts: Vec<Start>,
     // the lane of each link that is out
     lanes_out: Vec<u32>,
-    ended: Vec<Ending>,
+    ended: Vec<EndedLink>,
     ghost room: { vec_len ended + vec_len lanes_out ≤ vec_capacity ended },
-    ghost right: { AllByCompanion ended.items },
 }
 
 impl Builtin {
@@ -158,6 +206,14 @@ impl Builtin {
             ended: Vec::new(alloc),
         }
     }
+
+    /// The links that were handed back, in order.
+    pub fn ended_links(&self) -> &[EndedLink]
+        ensures links { result.now ≡ self.now.ended.items }
+        ensures by_companion { AllByCompanion (map (λ l. l.ending) result.now) (map (λ l. l.causes.items) result.now) }
+    {
+        &self.ended
+    }
 }
 
 impl Spawner for Builtin {
@@ -167,7 +223,7 @@ impl Spawner for Builtin {
 
     ghost owed = { λ s lane. count_by (λ other. other == lane) s.lanes_out.items };
 
-    ghost ended = { λ s. s.ended.items };
+    ghost ended = { λ s. map (λ l. l.ending) s.ended.items };
 
     ghost faults = { λ _. 0 };
 
@@ -199,6 +255,7 @@ impl Spawner for Builtin {
             session: _,
             unread: _,
             replies: _,
+            causes,
             pieces,
             faults,
             is_spent: _,
@@ -208,7 +265,7 @@ impl Spawner for Builtin {
             dialogue: pieces,
             faults,
         };
-        match self.ended.push(ending) {
+        match self.ended.push(EndedLink { ending, causes }) {
             Ok(()) => {}
             Err(_) => unreachable!(),
         }

@@ -4,5 +4,5 @@
 mod builtin;
 mod laws;
 
-pub use builtin::{Builtin, CompanionLink};
+pub use builtin::{Builtin, CompanionLink, EndedLink};
 pub use laws::{replies_are_lawful, unsat_is_right};

@@ -9,10 +9,10 @@ use Rattle.vx_companion.proofs.builtin.CompanionLink.new.Goals as goal
 pub invariant_of-result : goal.invariant_of-result
 invariant_of-result c =
     let none : finished [] ≤ finished [] = omega arith in
-    let first : HasReplied [] [] [] start = record { answering = begun; none_left = none_finished } in
+    let first : HasReplied [] [] [] [] start = record { answering = begun; none_left = none_finished } in
     record {
-      owed = λ fresh. rw (c.new-4.ensures, c.new-3.ensures.items) none;
-      keeps_up = λ fresh. rw (c.new-4.ensures, c.new-3.ensures.items, c.new-2.ensures.items) none_kept;
-      replied = λ fresh. rw (c.new-4.ensures, c.new-3.ensures.items, c.new-2.ensures.items, c.new.ensures.state) (∣ first ∣₁);
-      right = rw c.new-4.ensures (∣ by_companion first ∣₁);
+      owed = λ fresh. rw (c.new-5.ensures, c.new-3.ensures.items) none;
+      keeps_up = λ fresh. rw (c.new-5.ensures, c.new-3.ensures.items, c.new-2.ensures.items) none_kept;
+      replied = λ fresh. rw (c.new-5.ensures, c.new-4.ensures.items, c.new-3.ensures.items, c.new-2.ensures.items, c.new.ensures.state) (∣ first ∣₁);
+      right = rw (c.new-5.ensures, c.new-4.ensures.items) (∣ by_companion first ∣₁);
     }

@@ -19,8 +19,8 @@ invariant_of-self-2 c =
     let sent_same : sent new ≡ sent old.pieces = sent_by_got old.pieces new front pieces in
     let same : got new ++ back ≡ got old.pieces ++ old.replies.items = after_got old.pieces new old.replies.items front back pieces replies in
     let fresh : old.is_spent ≡ false = search rules in
-    let replied : ∥ HasReplied new back old.unread.items (state old.session) ∥₁ =
-    ∥∥₁_map (old.replied fresh) (λ h. replied_on old.pieces new old.replies.items back old.unread.items (state old.session) sent_same same h) in
+    let replied : ∥ HasReplied new back old.unread.items old.causes.items (state old.session) ∥₁ =
+    ∥∥₁_map (old.replied fresh) (λ h. replied_on old.pieces new old.replies.items back old.unread.items old.causes.items (state old.session) sent_same same h) in
     record {
       owed = λ again. rw (sent_same, same) (old.owed again);
       keeps_up = λ again. rw (sent_same, same) (old.keeps_up again);
