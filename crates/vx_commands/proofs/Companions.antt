@@ -1,7 +1,6 @@
 -- What is promised where the companion is asked: its unsats are right, and where it takes what is asserted it is never lost.
 use Rattle.std.proofs.Common.{◌≡◌, inl, inr, ◌++◌, ℕ, zero, suc, false, List, [], ◌∷◌, take, drop, refl, ◌∙◌, sym, subst, arith}
 use Rattle.std.specs.Prelude.{⊤}
-use Rattle.std.specs.List.{All}
 use Rattle.vx_ast.specs.Syntax.{Program}
 use Rattle.vx_terms.specs.Terms.{Term}
 use Rattle.vx_terms.specs.Interpretations.{Each}
@@ -15,9 +14,11 @@ use Rattle.vx_machine.specs.Runs.{member_tree}
 use Rattle.vx_live.specs.Functions.{function_symbols}
 use Rattle.vx_report.specs.declared.run.MemberRun.{MemberRun}
 use Rattle.vx_report.specs.declared.run.Verdict.TheVariants.{Verified}
+use Rattle.cs_decide.specs.declared.answer.Cause.{Cause}
 use Rattle.vx_companion.specs.declared.builtin.Builtin.{Builtin}
 use Rattle.vx_companion.specs.Companion.{RepliesByCompanion, AllByCompanion}
 use Rattle.vx_companion.specs.Lawful.{IsTaken, HasLawfulReplies}
+use Rattle.vx_companion.proofs.Ended as links
 use Rattle.vx_companion.proofs.Rightly.{companion_right}
 use Rattle.vx_companion.proofs.Lawful.{companion_lawful}
 use Rattle.vx_verifier.specs.Sequences.{IsRight}
@@ -26,7 +27,7 @@ use Rattle.vx_verifier.specs.Headline.{Headline, NeverFails, Under, IsRecorded, 
 use Rattle.vx_verifier.proofs.Askable.{AllAsk, AreTurns, turns_ask}
 use Rattle.vx_commands.specs.declared.top.Ended.{Ended}
 use Rattle.vx_commands.specs.declared.reports.Telling.{Telling}
-use Rattle.vx_commands.specs.Outside.{Change, Taken, change, companions}
+use Rattle.vx_commands.specs.Outside.{Change, Taken, Children, change, companions}
 use Rattle.vx_commands.specs.Reported.{IsReport, IsCompanionReport, AllNeverFail}
 use Rattle.vx_commands.proofs.Scripts.{script_sorted, script_fits}
 
@@ -53,12 +54,17 @@ sound_alone p all (r ∷ runs) checks right h = (λ verified. h.0 verified (all_
 
 -- ---- the link that was handed back
 
-at_place : (P : Ending → Type 0) (before : List Ending) (e : Ending) (since : List Ending) → All P (before ++ e ∷ since) → P e
-at_place P [] e since all = all 0 e (omega arith)
-at_place P (b ∷ before) e since all = at_place P before e since (λ k d below. all (suc k) d (omega arith))
+abbrev HasCauses : Ending → Type 0
+HasCauses e = (causes : List Cause) × RepliesByCompanion e.dialogue causes
 
-by_companion : (before now : List Ending) (e : Ending) → now ≡ before ++ e ∷ [] → AllByCompanion now → RepliesByCompanion e.dialogue
-by_companion before now e is all = at_place (λ (x : Ending). RepliesByCompanion x.dialogue) before e [] (subst AllByCompanion is all)
+at_end : (before : List Ending) (e : Ending) (causes : List (List Cause)) → AllByCompanion (before ++ e ∷ []) causes → HasCauses e
+at_end [] e [] all = absurd all
+at_end [] e (own ∷ causes) all = (own, all.0)
+at_end (b ∷ before) e [] all = absurd all
+at_end (b ∷ before) e (own ∷ causes) all = at_end before e causes all.1
+
+by_companion : (before now : List Ending) (causes : List (List Cause)) (e : Ending) → now ≡ before ++ e ∷ [] → AllByCompanion now causes → HasCauses e
+by_companion before now causes e is all = at_end before e causes (subst (λ ended. AllByCompanion ended causes) is all)
 
 same_since : (before xs ys : List Ending) → before ++ xs ≡ before ++ ys → xs ≡ ys
 same_since [] xs ys e = e
@@ -86,12 +92,13 @@ is_lawful : (pieces : List Piece) → HasLawfulReplies pieces → IsLawful piece
 is_lawful pieces lawful kept (inl garbled) = (lawful kept).0 garbled
 is_lawful pieces lawful kept (inr refused) = (lawful kept).1 refused
 
-module _ (p : Program) (before now : List Ending) (f g : ℕ) (runs : List MemberRun) (h : Headline p before now f g runs) (all : AllByCompanion now) where
+module _ (p : Program) (before now : List Ending) (causes : List (List Cause)) (f g : ℕ) (runs : List MemberRun) (h : Headline p before now f g runs) (all : AllByCompanion now causes) where
   rights : IsRecorded (function_symbols p) (lost_after false runs) before now (turns_of false p runs h.checks) h.checks → Each IsRight h.checks
   rights (inl none) = subst (λ cs. Each IsRight cs) (sym none.1) tt
   rights (inr told) =
-      companion_right (lost_after false runs) (script false (function_symbols p) (turns_of false p runs h.checks)) told.0.dialogue h.checks h.well_formed (script_sorted (function_symbols p) (turns_of false p runs h.checks) h.sorted) told.3
-      (by_companion before now told.0 told.1 all)
+      let by = by_companion before now causes told.0 told.1 all in
+      companion_right (lost_after false runs) (script false (function_symbols p) (turns_of false p runs h.checks)) told.0.dialogue by.0 h.checks h.well_formed
+      (script_sorted (function_symbols p) (turns_of false p runs h.checks) h.sorted) told.3 by.1
 
   -- a member that is verified never fails
   pub verified_sound : AllNeverFail p runs
@@ -103,8 +110,9 @@ module _ (p : Program) (before now : List Ending) (f g : ℕ) (runs : List Membe
   lawful_by : (taken : Each IsTaken (script false (function_symbols p) (turns_of false p runs h.checks))) (e : Ending) → now ≡ before ++ e ∷ []
       → Tells (lost_after false runs) (script false (function_symbols p) (turns_of false p runs h.checks)) e.dialogue h.checks → HasLawfulReplies e.dialogue
   lawful_by taken e is tells =
-      companion_lawful (lost_after false runs) (script false (function_symbols p) (turns_of false p runs h.checks)) e.dialogue h.checks h.well_formed (script_sorted (function_symbols p) (turns_of false p runs h.checks) h.sorted) taken
-      (script_fits (function_symbols p) (turns_of false p runs h.checks) asked) tells (by_companion before now e is all)
+      let by = by_companion before now causes e is all in
+      companion_lawful (lost_after false runs) (script false (function_symbols p) (turns_of false p runs h.checks)) e.dialogue by.0 h.checks h.well_formed
+      (script_sorted (function_symbols p) (turns_of false p runs h.checks) h.sorted) taken (script_fits (function_symbols p) (turns_of false p runs h.checks) asked) tells by.1
 
   all_lawful : Each IsTaken (script false (function_symbols p) (turns_of false p runs h.checks)) → IsRecorded (function_symbols p) (lost_after false runs) before now (turns_of false p runs h.checks) h.checks → AllLawful before now
   all_lawful taken (inl none) since is =
@@ -112,12 +120,29 @@ module _ (p : Program) (before now : List Ending) (f g : ℕ) (runs : List Membe
   all_lawful taken (inr told) since is =
       subst (Each (λ (e : Ending). IsLawful e.dialogue)) (same_since before (told.0 ∷ []) since (sym told.1 ∙ is)) (is_lawful told.0.dialogue (lawful_by taken told.0 told.1 told.3), tt)
 
+-- ---- its report
+
+abbrev pub without_causes : Children → Children
+without_causes s = record s { causes = [] }
+
+-- a report speaks of no causes
+report_with : (telling : Telling) (p : Program) (command : List (List ℕ)) (spawner : Change Children) (sink : Change Taken) (ended : Ended)
+    → IsReport telling p command (change without_causes spawner.before spawner.after) sink ended → IsReport telling p command spawner sink ended
+report_with telling p command spawner sink ended h = record { headline = h.headline; put = h.put; status = h.status; started = h.started; calm = h.calm }
+
 -- where the companion takes what is asserted, no member is faulted
-pub companion_reports : (telling : Telling) (p : Program) (command : List (List ℕ)) (old new : Builtin) (sink : Change Taken) (ended : Ended) → IsReport telling p command (change companions old new) sink ended
-    → AllByCompanion new.ended.items → IsCompanionReport telling p command (change companions old new) sink ended
-companion_reports telling p command old new sink ended h replies = record {
-  report = h;
-  sound = verified_sound p old.ended.items new.ended.items 0 0 ended.runs.items h.headline replies;
-  no_fault = λ taken. h.headline.complete.no_fault (h.calm refl (omega arith)) (all_lawful p old.ended.items new.ended.items 0 0 ended.runs.items h.headline replies taken h.headline.recorded);
-  replies = replies;
-}
+pub companion_reports : (telling : Telling) (p : Program) (command : List (List ℕ)) (old new : Builtin) (sink : Change Taken) (ended : Ended)
+    → IsReport telling p command (change (λ s. without_causes (companions s)) old new) sink ended → IsCompanionReport telling p command (change companions old new) sink ended
+companion_reports telling p command old new sink ended h =
+    let report = report_with telling p command (change companions old new) sink ended h in
+    let before = (companions old).ended in
+    let now = (companions new).ended in
+    let causes = (companions new).causes in
+    let replies = links.by_companion new.ended.items in
+    let runs = ended.runs.items in
+    record {
+      report = report;
+      sound = verified_sound p before now causes 0 0 runs report.headline replies;
+      no_fault = λ taken. report.headline.complete.no_fault (report.calm refl (omega arith)) (all_lawful p before now causes 0 0 runs report.headline replies taken report.headline.recorded);
+      replies = replies;
+    }

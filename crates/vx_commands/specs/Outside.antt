@@ -1,8 +1,9 @@
 -- What the outside shows before a call and after it: files, a sink, and the spawners of children.
-use Rattle.std.specs.Prelude.{◌≡◌, ◌⊎◌, ℕ, ◌<◌, Bool, true, List, [], ◌∷◌, ◌++◌, Option, IfSome, length}
+use Rattle.std.specs.Prelude.{◌≡◌, ◌⊎◌, ℕ, ◌<◌, Bool, true, List, [], ◌∷◌, ◌++◌, map, Option, IfSome, length}
 use Rattle.vx_ends.specs.Causes.{Rose}
 use Rattle.vx_ends.specs.declared.piece.Start.{Start}
 use Rattle.vx_ends.specs.declared.piece.Ending.{Ending}
+use Rattle.cs_decide.specs.declared.answer.Cause.{Cause}
 use Rattle.vx_companion.specs.declared.builtin.Builtin.{Builtin}
 
 pub record Change (A : Type 0) : Type 0 where
@@ -33,19 +34,21 @@ pub record Taken : Type 0 where
 abbrev pub taken : {S : Type 0} → (bytes : S → Option (List ℕ)) → (faults : S → ℕ) → S → Taken
 taken bytes faults s = record { bytes = bytes s; faults = faults s }
 
--- a spawner's starts, the links that were handed back, how often a start failed, and whether it is steady
+-- a spawner's starts, the links that were handed back, how often a start failed, and whether it is steady; and of each link why its replies were
+-- undecided, which is known of the companion in process alone
 pub record Children : Type 0 where
   pub starts : List Start
   pub ended : List Ending
   pub faults : ℕ
   pub steady : Bool
+  pub causes : List (List Cause)
 
 abbrev pub children : {S : Type 0} → (starts : S → List Start) → (ended : S → List Ending) → (faults : S → ℕ) → (steady : S → Bool) → S → Children
-children starts ended faults steady s = record { starts = starts s; ended = ended s; faults = faults s; steady = steady s }
+children starts ended faults steady s = record { starts = starts s; ended = ended s; faults = faults s; steady = steady s; causes = [] }
 
 -- those of the companion in process
 abbrev pub companions : Builtin → Children
-companions s = record { starts = s.starts.items; ended = s.ended.items; faults = 0; steady = true }
+companions s = record { starts = s.starts.items; ended = map (λ l. l.ending) s.ended.items; faults = 0; steady = true; causes = map (λ l. l.causes.items) s.ended.items }
 
 -- at most this name was asked
 abbrev pub AsksOnly : Option (List ℕ) → Change Texts → Type 0

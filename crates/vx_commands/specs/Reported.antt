@@ -211,8 +211,8 @@ pub record IsCompanionReport (telling : Telling) (p : Program) (command : List (
   pub report : IsReport telling p command spawner sink ended
   pub sound : AllNeverFail p ended.runs.items
   pub no_fault : Each IsTaken (script false (function_symbols p) (turns_of false p ended.runs.items report.headline.checks)) → HasNoFault ended.runs.items
-  -- each command had the reply that the companion has for it
-  pub replies : AllByCompanion spawner.after.ended
+  -- each command had the reply that the companion has for it, and each undecided one has its cause
+  pub replies : AllByCompanion spawner.after.ended spawner.after.causes
 
 -- by the spawner that the solver names
 abbrev pub IsReportBy : (solver : List (List ℕ)) → Program → (companion handed : Change Children) → Change Taken → Ended → Type 0

@@ -4,4 +4,4 @@ use Rattle.vx_commands.proofs.reports.report_by_companion.Goals as goal
 
 pub returns-clause-report : goal.returns-clause-report
 returns-clause-report g c =
-    IfOk-weaker c.report.result _ _ (λ ended h. companion_reports _ _ _ c.args.builtin.now c.report.new.spawner _ ended h c.report.new.spawner.right) c.report.ensures.report
+    IfOk-weaker c.report.result _ _ (λ ended h. companion_reports _ _ _ c.args.builtin.now c.report.new.spawner _ ended h) c.report.ensures.report
