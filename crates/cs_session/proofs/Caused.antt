@@ -1,5 +1,5 @@
 -- An undecided answer is that of a check, which has a cause.
-use Rattle.std.proofs.Common.{◌≡◌, ℕ, ◌+◌, nat_le, Bool, true, false, List, [], ◌∷◌, Some, Ok, Err, refl}
+use Rattle.std.proofs.Common.{◌≡◌, ◌+◌, nat_le, Bool, true, false, List, [], ◌∷◌, Some, Ok, Err, refl}
 use Rattle.std.specs.Option.{option_to_list}
 use Rattle.std.specs.declared.result.Result.{Result}
 use Rattle.vx_smt_meaning.specs.Commands.{Command, SetOption, SetLogic, DeclareSort, DeclareFun, Assert, Push, Pop, CheckSat, GetProof, Exit, Level}
