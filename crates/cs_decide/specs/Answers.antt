@@ -9,6 +9,7 @@ use Rattle.cs_proof.specs.Views.{written}
 use Rattle.cs_model.specs.Models.{interpretation}
 use Rattle.cs_decide.specs.declared.answer.Answer.{Answer}
 use Rattle.cs_decide.specs.declared.answer.Answer.TheVariants as answers
+use Rattle.cs_decide.specs.Causes.{IsCause}
 
 -- where it refutes: the checker finishes the steps, and the assertions are true in no interpretation
 abbrev pub IsRefutation : Stack → Answer → Type 0
@@ -22,6 +23,12 @@ IsSatisfaction stack (answers.Refuted steps) = ⊤
 IsSatisfaction stack (answers.Satisfied m) = AllTrue (interpretation m.entries.items) stack.assertions
 IsSatisfaction stack (answers.Unknown cause) = ⊤
 
--- the two; a refutation is one of well-sorted assertions
+-- where it is undecided: its cause is so
+abbrev pub IsCaused : Stack → Answer → Type 0
+IsCaused stack (answers.Refuted steps) = ⊤
+IsCaused stack (answers.Satisfied m) = ⊤
+IsCaused stack (answers.Unknown cause) = IsCause stack cause
+
+-- the three; a refutation is one of well-sorted assertions
 abbrev pub IsRight : Stack → Answer → Type 0
-IsRight stack a = (Each IsSorted stack.assertions → IsRefutation stack a) × IsSatisfaction stack a
+IsRight stack a = (Each IsSorted stack.assertions → IsRefutation stack a) × IsSatisfaction stack a × IsCaused stack a

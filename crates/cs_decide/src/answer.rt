@@ -1,5 +1,6 @@
 //! What a check is answered.
 
+use cs_meter::Meter;
 use cs_model::Model;
 use cs_proof::Step;
 use cs_reader::Refusal;
@@ -17,10 +18,10 @@ pub enum Answer {
 }
 
 /// Why a check is undecided.
-#[derive(Clone, Copy)]
+#[derive(Drop)]
 pub enum Cause {
-    /// All units are spent.
-    Budget,
+    /// All units of the check are spent: this is its meter.
+    Budget(Meter),
     /// This call of a fraction leaves 128 bits.
     Over(Over),
     /// The meaning of the term of this number was needed: a product of two terms that are no literals, or a quotient or

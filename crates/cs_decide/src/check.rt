@@ -5,7 +5,7 @@ ghost use Rattle.cs_numbers.specs.Laws.{IsSorted};
 ghost use Rattle.cs_proof.specs.Fits.{seen};
 ghost use Rattle.cs_search.specs.Assignment.{FalseBefore, IsFalse};
 ghost use Rattle.cs_search.specs.Search.{IsReady, AreSatisfied};
-ghost use Rattle.cs_decide.specs.Answers.{IsRefutation, IsSatisfaction, IsRight};
+ghost use Rattle.cs_decide.specs.Answers.{IsRefutation, IsSatisfaction, IsCaused, IsRight};
 
 use crate::answer::{Answer, Cause};
 use crate::assembly::assembled;
@@ -15,7 +15,7 @@ use crate::clauses::{Clauses, search_of};
 use crate::elements::Sources;
 use crate::figures::{Cases, Figures, Found};
 use crate::forced::reasons;
-use crate::judging::{certified, evaluated};
+use crate::judging::{certified, evaluated, stopped};
 use crate::lemma::{Lemma, lemma_of};
 use crate::model::model_of;
 use crate::nonlinear::misread;
@@ -46,7 +46,6 @@ struct Check {
     told: usize,
     claims: Claims,
     figures: Figures,
-    meter: Meter,
     // how many terms are those of the assertions
     live: u32,
 }
@@ -89,7 +88,6 @@ impl Check {
             told: 0,
             claims,
             figures,
-            meter: Meter::new(),
             live,
         };
         Ok((check, clauses))
@@ -142,7 +140,7 @@ impl Check {
     {
         self.record.propagate(alloc, &[], hints)?;
         let steps = assembled(alloc, &stack.assertions, &self.record)?;
-        Ok(certified(alloc, stack, steps)?)
+        certified(alloc, stack, steps)
     }
 
     /// A lemma refutes the clauses behind the reasons that make it false.
@@ -177,22 +175,24 @@ impl Check {
     {
         let sources = self.sources(values);
         let model = model_of(alloc, &sources, self.live)?;
-        let cause = match misread(alloc, &sources, &model, self.live)? {
-            Some(term) => Cause::Nonlinear(term),
-            None => Cause::Open,
-        };
-        Ok(evaluated(alloc, stack, model, cause)?)
+        let misread = misread(alloc, &sources, &model, self.live)?;
+        evaluated(alloc, stack, model, misread)
     }
 
     /// What the numbers lead to.
-    fn examine(&mut self, alloc: Global, values: &[Value]) -> Result<Found, Stop> {
+    fn examine(
+        &mut self,
+        alloc: Global,
+        values: &[Value],
+        meter: &mut Meter,
+    ) -> Result<Found, Stop> {
         self.figures.examine(
             alloc,
             &mut self.record,
             &self.atoms,
             values,
             &self.claims,
-            &mut self.meter,
+            meter,
         )
     }
 
@@ -236,6 +236,7 @@ fn take_lemma(
     check: &mut Check,
     search: &mut Search,
     lemma: &Lemma,
+    meter: &mut Meter,
 ) -> Result<Option<Answer>, Stop>
     requires sound { IsReady search.old }
     requires satisfied { AreSatisfied search.old.clauses.items search.old.made.values.items }
@@ -249,12 +250,12 @@ fn take_lemma(
     if !are_false(&search.made, &literals) {
         return Ok(Some(Answer::Unknown(Cause::Open)));
     }
-    match learn(search, Clause { literals }, &mut check.meter) {
+    match learn(search, Clause { literals }, meter) {
         Ok(()) => {
             check.numbers.push(lemma.number)?;
             Ok(None)
         }
-        Err(Undecided::Budget) => Ok(Some(Answer::Unknown(Cause::Budget))),
+        Err(Undecided::Budget) => Err(Stop::Budget),
         Err(Undecided::Want(_)) => Err(Stop::Want),
     }
 }
@@ -293,14 +294,15 @@ fn figured(
     stack: &Stack,
     check: &mut Check,
     search: &mut Search,
+    meter: &mut Meter,
 ) -> Result<Option<Answer>, Stop>
     requires sound { IsReady search.old }
     requires satisfied { AreSatisfied search.old.clauses.items search.old.made.values.items }
     ensures answered { IfOk result (λ found. IfSome found (IsRight (seen stack.now))) }
     ensures ready { IfOk result (λ found. IfNone found (IsReady search.new)) }
 {
-    match check.examine(alloc, &search.made.values)? {
-        Found::Lemma(lemma) => take_lemma(alloc, stack, check, search, &lemma),
+    match check.examine(alloc, &search.made.values, meter)? {
+        Found::Lemma(lemma) => take_lemma(alloc, stack, check, search, &lemma, meter),
         Found::Cases(cases) => {
             take_cases(alloc, check, search, &cases)?;
             Ok(None)
@@ -315,6 +317,7 @@ fn assigned(
     stack: &Stack,
     check: &mut Check,
     search: &mut Search,
+    meter: &mut Meter,
 ) -> Result<Option<Answer>, Stop>
     requires sound { IsReady search.old }
     requires satisfied { AreSatisfied search.old.clauses.items search.old.made.values.items }
@@ -328,9 +331,9 @@ fn assigned(
     match check.claims.broken()? {
         Some(broken) => {
             let lemma = lemma_of(alloc, &mut check.record, &check.claims, broken)?;
-            take_lemma(alloc, stack, check, search, &lemma)
+            take_lemma(alloc, stack, check, search, &lemma, meter)
         }
-        None => figured(alloc, stack, check, search),
+        None => figured(alloc, stack, check, search, meter),
     }
 }
 
@@ -340,6 +343,7 @@ fn turn(
     stack: &Stack,
     check: &mut Check,
     search: &mut Search,
+    meter: &mut Meter,
 ) -> Result<Option<Answer>, Stop>
     requires sound { IsReady search.old }
     ensures answered { IfOk result (λ found. IfSome found (IsRight (seen stack.now))) }
@@ -348,8 +352,8 @@ fn turn(
     if search.made.values.len() >= 1 << 32 {
         return Err(Stop::Want);
     }
-    match solve(alloc, search, &mut check.meter) {
-        Err(Undecided::Budget) => Ok(Some(Answer::Unknown(Cause::Budget))),
+    match solve(alloc, search, meter) {
+        Err(Undecided::Budget) => Err(Stop::Budget),
         Err(Undecided::Want(_)) => Err(Stop::Want),
         Ok(solved) => match solved {
             Solved::Refuted(hints) => {
@@ -357,31 +361,37 @@ fn turn(
                 let hints = check.mapped(alloc, &hints)?;
                 Ok(Some(check.refuted(alloc, stack, hints)?))
             }
-            Solved::Assigned => assigned(alloc, stack, check, search),
+            Solved::Assigned => assigned(alloc, stack, check, search, meter),
         },
     }
 }
 
 /// Turn by turn, up to an answer. Each turn that goes on has spent a unit.
-fn run(alloc: Global, stack: &Stack, check: &mut Check, search: &mut Search) -> Result<Answer, Stop>
+fn run(
+    alloc: Global,
+    stack: &Stack,
+    check: &mut Check,
+    search: &mut Search,
+    meter: &mut Meter,
+) -> Result<Answer, Stop>
     requires { IsReady search.old }
     ensures { IfOk result (IsRight (seen stack.now)) }
 {
     for _ in 0..=LIMIT {
-        if let Some(answer) = turn(alloc, stack, check, search)? {
+        if let Some(answer) = turn(alloc, stack, check, search, meter)? {
             return Ok(answer);
         }
     }
-    Ok(Answer::Unknown(Cause::Budget))
+    Err(Stop::Budget)
 }
 
 /// Decides the assertions of a stack, or stops.
-fn decided(alloc: Global, stack: &Stack) -> Result<Answer, Stop>
+fn decided(alloc: Global, stack: &Stack, meter: &mut Meter) -> Result<Answer, Stop>
     ensures { IfOk result (IsRight (seen stack.now)) }
 {
     let (mut check, clauses) = Check::new(alloc, stack)?;
     let mut search = search_of(alloc, clauses)?;
-    run(alloc, stack, &mut check, &mut search)
+    run(alloc, stack, &mut check, &mut search, meter)
 }
 
 /// Decides the assertions of a stack. Numbers have the rules of linear arithmetic; a product of two terms that aren't literals, and
@@ -393,12 +403,11 @@ pub fn decide(alloc: Global, stack: &Stack) -> Result<Answer, Want>
     // over well-sorted assertions
     ensures refuted { Each IsSorted (seen stack.now).assertions → IfOk result (IsRefutation (seen stack.now)) }
     ensures satisfied { IfOk result (IsSatisfaction (seen stack.now)) }
+    ensures caused { IfOk result (IsCaused (seen stack.now)) }
 {
-    match decided(alloc, stack) {
+    let mut meter = Meter::new();
+    match decided(alloc, stack, &mut meter) {
         Ok(answer) => Ok(answer),
-        Err(Stop::Budget) => Ok(Answer::Unknown(Cause::Budget)),
-        Err(Stop::Over(over)) => Ok(Answer::Unknown(Cause::Over(over))),
-        Err(Stop::Miss) => Ok(Answer::Unknown(Cause::Miss)),
-        Err(Stop::Want) => Err(Want),
+        Err(stop) => stopped(meter, stop),
     }
 }

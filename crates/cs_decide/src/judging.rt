@@ -1,25 +1,33 @@
-//! What makes an answer: the checker finishes a certificate, or an evaluation makes all assertions true.
-ghost use Rattle.std.specs.Prelude.{IfOk, map};
+//! What makes an answer: the checker finishes a certificate, an evaluation makes all assertions true, or a cause of an
+//! undecided check is looked at again.
+ghost use Rattle.std.specs.Prelude.{◌≡◌, ◌&&◌, neg_ℤ, true, false, IfOk, IfErr, IfNone, map};
+ghost use Rattle.vx_frac.specs.Fraction.{fraction};
+ghost use Rattle.vx_frac.specs.Fractions.{fits_i128};
 ghost use Rattle.vx_terms.specs.Interpretations.{Each};
+ghost use Rattle.cs_certificate.specs.Certificate as certificates;
 ghost use Rattle.cs_numbers.specs.Laws.{IsSorted};
 ghost use Rattle.cs_proof.specs.Answers.{Answers};
 ghost use Rattle.cs_proof.specs.Checking.{Finished};
 ghost use Rattle.cs_proof.specs.Fits.{seen};
 ghost use Rattle.cs_proof.specs.Views.{written};
+ghost use Rattle.cs_decide.specs.Causes.{quotient_fits, call_fits, AreRefused, IsCause};
 ghost use Rattle.cs_decide.specs.Answers.{IsRight};
 
 use crate::answer::{Answer, Cause};
+use crate::nonlinear::is_nonlinear_at;
+use cs_meter::{LIMIT, Meter};
 use cs_model::{Model, is_model};
-use cs_proof::{Checker, Stack, Step, finished_refutes};
+use cs_proof::{Checker, Stack, Step, Want, finished_refutes};
 use cs_reader::{Refusal, SymbolIndex, Symbols};
-use cs_table::Stop;
+use cs_sums::Stop;
 use std::alloc::Global;
-use vx_frac::Over;
+use vx_frac::{Frac, Op, Over};
 use vx_smt_meaning::Declared;
 
 /// What the checker says of a certificate's steps.
 fn verdict(alloc: Global, stack: &Stack, steps: &[Step]) -> Result<Result<(), Refusal>, Stop>
-    ensures { IfOk result (λ told. Each IsSorted (seen stack.now).assertions → IfOk told (λ _. Answers (seen stack.now) (map written steps.now) Finished)) }
+    ensures finished { IfOk result (λ told. Each IsSorted (seen stack.now).assertions → IfOk told (λ _. Answers (seen stack.now) (map written steps.now) Finished)) }
+    ensures refused { IfOk result (λ told. Each IsSorted (seen stack.now).assertions → IfErr told (AreRefused (seen stack.now) (map written steps.now))) }
 {
     let declared: &[Declared] = &stack.symbols;
     let index = SymbolIndex::of(alloc, declared)?;
@@ -30,26 +38,114 @@ fn verdict(alloc: Global, stack: &Stack, steps: &[Step]) -> Result<Result<(), Re
     }
 }
 
-/// The steps refute the assertions where the checker finishes them.
+/// The steps refute the assertions where the checker finishes them; else they are undecided by its refusal.
 pub fn certified(alloc: Global, stack: &Stack, steps: Vec<Step>) -> Result<Answer, Stop>
     ensures { IfOk result (IsRight (seen stack.now)) }
 {
     finished_refutes();
     match verdict(alloc, stack, &steps)? {
         Ok(()) => Ok(Answer::Refuted(steps)),
-        Err(Refusal::Over(_, op, a, b)) => Ok(Answer::Unknown(Cause::Over(Over { op, a, b }))),
+        Err(Refusal::Over(_, op, a, b)) => Err(Stop::Over(Over { op, a, b })),
         Err(refusal) => Ok(Answer::Unknown(Cause::Refused(refusal))),
     }
 }
 
-/// The model satisfies the assertions where each is true in it; else they are undecided by this cause.
-pub fn evaluated(alloc: Global, stack: &Stack, model: Model, cause: Cause) -> Result<Answer, Stop>
+/// Why a model isn't one: a term may be misread that is nonlinear.
+fn unmodelled(alloc: Global, stack: &Stack, misread: Option<u32>) -> Result<Cause, Stop>
+    ensures { IfOk result (IsCause (seen stack.now)) }
+{
+    if let Some(number) = misread {
+        if is_nonlinear_at(alloc, &stack.assertions, number)? {
+            return Ok(Cause::Nonlinear(number));
+        }
+    }
+    Ok(Cause::Open)
+}
+
+/// The model satisfies the assertions where each is true in it; else they are undecided, perhaps by a term that it misreads.
+pub fn evaluated(
+    alloc: Global,
+    stack: &Stack,
+    model: Model,
+    misread: Option<u32>,
+) -> Result<Answer, Stop>
     ensures { IfOk result (IsRight (seen stack.now)) }
 {
     match is_model(alloc, &model, &stack.assertions) {
         Ok(true) => Ok(Answer::Satisfied(model)),
-        Ok(false) => Ok(Answer::Unknown(cause)),
-        Err(cs_model::Stop::Over(over)) => Ok(Answer::Unknown(Cause::Over(over))),
+        Ok(false) => Ok(Answer::Unknown(unmodelled(alloc, stack, misread)?)),
+        Err(cs_model::Stop::Over(over)) => Err(Stop::Over(over)),
         Err(cs_model::Stop::Want) => Err(Stop::Want),
+    }
+}
+
+/// Both numbers with the other sign, where they fit.
+fn turned(num: i128, den: i128) -> Option<(i128, i128)>
+    ensures { IfNone result ((fits_i128 (neg_ℤ num) && fits_i128 (neg_ℤ den)) ≡ false) }
+{
+    Some((num.checked_neg()?, den.checked_neg()?))
+}
+
+/// A quotient's numerator and denominator before they are reduced, where they fit.
+fn quotient(a: Frac, b: Frac) -> Option<(i128, i128)>
+    ensures { IfNone result (quotient_fits (fraction a) (fraction b) ≡ false) }
+{
+    let num = a.num().checked_mul(b.den())?;
+    let den = b.num().checked_mul(a.den())?;
+    if b.num() < 0 {
+        turned(num, den)
+    } else {
+        Some((num, den))
+    }
+}
+
+/// Whether this call leaves 128 bits: it is made again.
+fn leaves(call: Over) -> bool
+    ensures { result ≡ true → call_fits call.op (fraction call.a) (fraction call.b) ≡ false }
+{
+    let Over { op, a, b } = call;
+    match op {
+        Op::Add => a.add(b).is_err(),
+        Op::Sub => a.sub(b).is_err(),
+        Op::Mul => a.mul(b).is_err(),
+        Op::Cmp => a.cmp(b).is_err(),
+        Op::Div => quotient(a, b).is_none(),
+    }
+}
+
+/// All units are spent, where the meter says so.
+fn by_budget(meter: Meter) -> Cause
+    ensures { (stack : certificates.Stack) → IsCause stack result }
+{
+    if meter.spent() == LIMIT {
+        Cause::Budget(meter)
+    } else {
+        Cause::Miss
+    }
+}
+
+/// A call leaves 128 bits, where it does so again.
+fn by_call(call: Over) -> Cause
+    ensures { (stack : certificates.Stack) → IsCause stack result }
+{
+    if leaves(call) {
+        Cause::Over(call)
+    } else {
+        Cause::Miss
+    }
+}
+
+/// The answer of a check that stopped.
+///
+/// # Errors
+/// Want of memory has no answer.
+pub fn stopped(meter: Meter, stop: Stop) -> Result<Answer, Want>
+    ensures { (stack : certificates.Stack) → IfOk result (IsRight stack) }
+{
+    match stop {
+        Stop::Budget => Ok(Answer::Unknown(by_budget(meter))),
+        Stop::Over(call) => Ok(Answer::Unknown(by_call(call))),
+        Stop::Miss => Ok(Answer::Unknown(Cause::Miss)),
+        Stop::Want => Err(Want),
     }
 }

@@ -1,42 +1,76 @@
 //! Terms whose meaning linear arithmetic doesn't have.
+ghost use Rattle.std.specs.Prelude.{◌≡◌, map, IfOk};
+ghost use Rattle.vx_terms.specs.Views.{operator, term};
+ghost use Rattle.cs_decide.specs.Causes as clean;
 
 use crate::elements::Sources;
-use crate::numbered::Record;
-use cs_model::{Element, Model, evaluate};
+use cs_model::{Model, evaluate};
+use cs_numbers::{number, numbers_are_given};
 use cs_sums::Stop;
-use cs_table::{Head, Node};
-use std::alloc::Global;
-use vx_terms::Operator;
+use std::alloc::{AllocError, Global};
+use std::rc::Rc;
+use vx_terms::{Operator, Term};
 
 /// Whether the term is a literal.
-fn is_literal(record: &Record, number: u32) -> Result<bool, Stop> {
-    match &record.node(number)?.head {
-        Head::Number(_) | Head::Part(_) => Ok(true),
-        _ => Ok(false),
+fn is_literal(t: &Term) -> bool
+    ensures { result ≡ clean.is_literal (term t.now) }
+{
+    match t {
+        Term::Number(_) | Term::Part(_) => true,
+        Term::Truth(_) | Term::Constant(_, _) | Term::Apply(_, _, _) => false,
+        Term::Not(_) | Term::Binary(_, _, _) | Term::Ite(_, _, _) => false,
+        Term::AllOf(_) | Term::SomeOf(_) => false,
     }
 }
 
 /// Whether the term is a whole number other than 0.
-fn is_divisor(record: &Record, number: u32) -> Result<bool, Stop> {
-    match &record.node(number)?.head {
-        Head::Number(0) => Ok(false),
-        Head::Number(_) => Ok(true),
-        _ => Ok(false),
+fn is_divisor(t: &Term) -> bool
+    ensures { result ≡ clean.is_divisor (term t.now) }
+{
+    match t {
+        Term::Number(z) => *z != 0,
+        Term::Truth(_) | Term::Part(_) | Term::Constant(_, _) | Term::Apply(_, _, _) => false,
+        Term::Not(_) | Term::Binary(_, _, _) | Term::Ite(_, _, _) => false,
+        Term::AllOf(_) | Term::SomeOf(_) => false,
+    }
+}
+
+fn joins_nonlinearly(of: Operator, a: &Term, b: &Term) -> bool
+    ensures { result ≡ clean.joins_nonlinearly (operator of) (term a.now) (term b.now) }
+{
+    match of {
+        Operator::Multiply => !is_literal(a) && !is_literal(b),
+        Operator::Div | Operator::Mod => !is_divisor(b),
+        Operator::And | Operator::Or | Operator::Implies | Operator::Equal => false,
+        Operator::Less | Operator::LessEqual | Operator::Add | Operator::Subtract => false,
     }
 }
 
 /// Whether a term is a product of two terms that are no literals, or a quotient or a remainder by a term that is no
 /// literal other than 0.
-fn is_nonlinear(record: &Record, node: &Node) -> Result<bool, Stop> {
-    let [a, b] = node.parts.as_slice() else {
-        return Ok(false);
-    };
-    match &node.head {
-        Head::Binary(Operator::Multiply) => {
-            Ok(!is_literal(record, *a)? && !is_literal(record, *b)?)
-        }
-        Head::Binary(Operator::Div | Operator::Mod) => Ok(!is_divisor(record, *b)?),
-        _ => Ok(false),
+fn is_nonlinear(t: &Term) -> bool
+    ensures { result ≡ clean.is_nonlinear (term t.now) }
+{
+    match t {
+        Term::Binary(of, a, b) => joins_nonlinearly(*of, a, b),
+        Term::Truth(_) | Term::Number(_) | Term::Part(_) | Term::Constant(_, _) => false,
+        Term::Apply(_, _, _) | Term::Not(_) | Term::Ite(_, _, _) => false,
+        Term::AllOf(_) | Term::SomeOf(_) => false,
+    }
+}
+
+/// Whether the term of this number is nonlinear. The terms of the assertions are numbered anew.
+///
+/// # Errors
+/// Memory runs out.
+pub fn is_nonlinear_at(alloc: Global, assertions: &[Rc<Term>], at: u32) -> Result<bool, AllocError>
+    ensures { IfOk result (λ b. b ≡ clean.is_nonlinear_at (map (λ x. term x.value) assertions.now) at) }
+{
+    numbers_are_given();
+    let numbered = number(alloc, assertions)?;
+    match numbered.terms.get(at as usize) {
+        Some(t) => Ok(is_nonlinear(t)),
+        None => Ok(false),
     }
 }
 
@@ -46,9 +80,9 @@ fn is_misread(
     sources: &Sources<'_>,
     model: &Model,
     number: u32,
+    t: &Term,
 ) -> Result<bool, Stop> {
-    let term = sources.record.term(number)?;
-    match evaluate(alloc, model, &term) {
+    match evaluate(alloc, model, t) {
         Ok(element) => Ok(element != sources.element(number)?),
         Err(cs_model::Stop::Over(_)) => Ok(true),
         Err(cs_model::Stop::Want) => Err(Stop::Want),
@@ -66,8 +100,8 @@ pub fn misread(
     count: u32,
 ) -> Result<Option<u32>, Stop> {
     for number in 0..count {
-        let node = sources.record.node(number)?;
-        if is_nonlinear(sources.record, node)? && is_misread(alloc, sources, model, number)? {
+        let term = sources.record.term(number)?;
+        if is_nonlinear(&term) && is_misread(alloc, sources, model, number, &term)? {
             return Ok(Some(number));
         }
     }

@@ -177,15 +177,15 @@ fn refusal_text(alloc: Global, refusal: Refusal) -> Result<String, AllocError> {
     }
 }
 
-fn cause_text(alloc: Global, cause: Cause) -> Result<String, AllocError> {
+fn cause_text(alloc: Global, cause: &Cause) -> Result<String, AllocError> {
     match cause {
-        Cause::Budget => String::from_str(alloc, "unknown, all units are spent"),
+        Cause::Budget(_) => String::from_str(alloc, "unknown, all units are spent"),
         Cause::Over(_) => String::from_str(alloc, "unknown, a fraction leaves 128 bits"),
         Cause::Nonlinear(term) => format!(in alloc; "unknown, term {term} is not linear"),
         Cause::Refused(refusal) => {
             format!(in alloc;
                 "unknown, the checker refuses: {}",
-                refusal_text(alloc, refusal)?
+                refusal_text(alloc, *refusal)?
             )
         }
         Cause::Open => String::from_str(alloc, "unknown, no model was made"),
@@ -203,7 +203,7 @@ fn answer_text(alloc: Global, answer: &Answer, within: usize) -> Result<String, 
             format!(in alloc; "refuted, {} steps, finished", steps.len())
         }
         Answer::Satisfied(_) => String::from_str(alloc, "model, true"),
-        Answer::Unknown(cause) => cause_text(alloc, *cause),
+        Answer::Unknown(cause) => cause_text(alloc, cause),
     }
 }
 
