@@ -15,8 +15,10 @@ use Rattle.cs_proof.specs.Views.{written}
 use Rattle.cs_proof.specs.Checking.{Finished}
 use Rattle.cs_proof.specs.Answers.{Answers}
 use Rattle.cs_decide.specs.declared.answer.Answer.{Answer}
-use Rattle.cs_decide.specs.declared.answer.Answer.TheVariants.{Refuted, Satisfied}
-use Rattle.cs_decide.specs.Answers.{IsRefutation, IsSatisfaction}
+use Rattle.cs_decide.specs.declared.answer.Answer.TheVariants.{Refuted, Satisfied, Unknown}
+use Rattle.cs_decide.specs.declared.answer.Cause.{Cause}
+use Rattle.cs_decide.specs.Causes.{IsCause}
+use Rattle.cs_decide.specs.Answers.{IsRefutation, IsSatisfaction, IsCaused}
 use Rattle.cs_session.specs.Views.{standing}
 use Rattle.cs_session.proofs.Lists.{each_reverse}
 
@@ -41,3 +43,7 @@ satisfies levels stack answer m e is told =
     let all : AllTrue (interpretation m.entries.items) (standing levels).assertions =
     subst (λ (a : Answer). IsSatisfaction (standing levels) a) is (subst (λ (s : Stack). IsSatisfaction s answer) e told) in
     (interpretation m.entries.items, subst (AllTrue (interpretation m.entries.items)) (reverse-reverse (assertions_of levels)) (each_reverse (IsTrueIn (interpretation m.entries.items)) (standing levels).assertions all))
+
+pub leaves_open : (levels : List Level) (stack : Stack) (answer : Answer) (cause : Cause) → stack ≡ standing levels → answer ≡ Unknown cause → IsCaused stack answer → IsCause (standing levels) cause
+leaves_open levels stack answer cause e is told =
+    subst (λ (a : Answer). IsCaused (standing levels) a) is (subst (λ (s : Stack). IsCaused s answer) e told)
