@@ -18,7 +18,7 @@ pub enum Answer {
 }
 
 /// Why a check is undecided.
-#[derive(Drop)]
+#[derive(Clone, Drop)]
 pub enum Cause {
     /// All units of the check are spent: this is its meter.
     Budget(Meter),

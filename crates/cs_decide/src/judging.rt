@@ -1,8 +1,6 @@
 //! What makes an answer: the checker finishes a certificate, an evaluation makes all assertions true, or a cause of an
 //! undecided check is looked at again.
-ghost use Rattle.std.specs.Prelude.{◌≡◌, ◌&&◌, neg_ℤ, true, false, IfOk, IfErr, IfNone, map};
-ghost use Rattle.vx_frac.specs.Fraction.{fraction};
-ghost use Rattle.vx_frac.specs.Fractions.{fits_i128};
+ghost use Rattle.std.specs.Prelude.{IfOk, IfErr, map};
 ghost use Rattle.vx_terms.specs.Interpretations.{Each};
 ghost use Rattle.cs_certificate.specs.Certificate as certificates;
 ghost use Rattle.cs_numbers.specs.Laws.{IsSorted};
@@ -10,18 +8,19 @@ ghost use Rattle.cs_proof.specs.Answers.{Answers};
 ghost use Rattle.cs_proof.specs.Checking.{Finished};
 ghost use Rattle.cs_proof.specs.Fits.{seen};
 ghost use Rattle.cs_proof.specs.Views.{written};
-ghost use Rattle.cs_decide.specs.Causes.{quotient_fits, call_fits, AreRefused, IsCause};
+ghost use Rattle.cs_decide.specs.Causes.{AreRefused, IsCause};
 ghost use Rattle.cs_decide.specs.Answers.{IsRight};
 
 use crate::answer::{Answer, Cause};
 use crate::nonlinear::is_nonlinear_at;
+use cs_calls::leaves;
 use cs_meter::{LIMIT, Meter};
 use cs_model::{Model, is_model};
 use cs_proof::{Checker, Stack, Step, Want, finished_refutes};
 use cs_reader::{Refusal, SymbolIndex, Symbols};
 use cs_sums::Stop;
 use std::alloc::Global;
-use vx_frac::{Frac, Op, Over};
+use vx_frac::Over;
 use vx_smt_meaning::Declared;
 
 /// What the checker says of a certificate's steps.
@@ -76,40 +75,6 @@ pub fn evaluated(
         Ok(false) => Ok(Answer::Unknown(unmodelled(alloc, stack, misread)?)),
         Err(cs_model::Stop::Over(over)) => Err(Stop::Over(over)),
         Err(cs_model::Stop::Want) => Err(Stop::Want),
-    }
-}
-
-/// Both numbers with the other sign, where they fit.
-fn turned(num: i128, den: i128) -> Option<(i128, i128)>
-    ensures { IfNone result ((fits_i128 (neg_ℤ num) && fits_i128 (neg_ℤ den)) ≡ false) }
-{
-    Some((num.checked_neg()?, den.checked_neg()?))
-}
-
-/// A quotient's numerator and denominator before they are reduced, where they fit.
-fn quotient(a: Frac, b: Frac) -> Option<(i128, i128)>
-    ensures { IfNone result (quotient_fits (fraction a) (fraction b) ≡ false) }
-{
-    let num = a.num().checked_mul(b.den())?;
-    let den = b.num().checked_mul(a.den())?;
-    if b.num() < 0 {
-        turned(num, den)
-    } else {
-        Some((num, den))
-    }
-}
-
-/// Whether this call leaves 128 bits: it is made again.
-fn leaves(call: Over) -> bool
-    ensures { result ≡ true → call_fits call.op (fraction call.a) (fraction call.b) ≡ false }
-{
-    let Over { op, a, b } = call;
-    match op {
-        Op::Add => a.add(b).is_err(),
-        Op::Sub => a.sub(b).is_err(),
-        Op::Mul => a.mul(b).is_err(),
-        Op::Cmp => a.cmp(b).is_err(),
-        Op::Div => quotient(a, b).is_none(),
     }
 }
 

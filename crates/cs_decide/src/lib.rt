@@ -16,7 +16,6 @@ mod figures;
 mod forced;
 mod held;
 mod judging;
-mod laws;
 mod lemma;
 mod model;
 mod nonlinear;
@@ -25,4 +24,3 @@ mod orders;
 
 pub use answer::{Answer, Cause};
 pub use check::decide;
-pub use laws::over_is_of_large_numbers;

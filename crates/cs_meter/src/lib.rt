@@ -4,6 +4,8 @@
 ghost use Rattle.std.specs.Prelude.{◌≡◌, ◌+◌, ◌<◌, ◌≤◌, ◌↔◌, IsOk, OnOk, OnErr};
 ghost use Rattle.cs_meter.specs.Units.{limit};
 
+use std::alloc::AllocError;
+
 /// How many units a check may spend.
 pub const LIMIT: u32 = 100_000;
 
@@ -17,6 +19,14 @@ pub struct Meter {
 /// All units are spent.
 #[derive(Clone, Copy, PartialEq, Eq, Debug)]
 pub struct Budget;
+
+impl Clone for Meter {
+    ghost is_clone = { λ m n. n ≡ m };
+
+    fn clone(&self) -> Result<Meter, AllocError> {
+        Ok(Meter { spent: self.spent })
+    }
+}
 
 impl Meter {
     /// Nothing is spent yet.

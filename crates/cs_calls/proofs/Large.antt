@@ -8,7 +8,7 @@ use Rattle.vx_frac.specs.Fractions.{Fraction, denominator, minus, sum, fits_i128
 use Rattle.vx_frac.specs.declared.Op.{Op}
 use Rattle.vx_frac.specs.declared.Op.TheVariants as calls
 use Rattle.vx_frac.proofs.Fits.{both_true}
-use Rattle.cs_decide.specs.Causes.{quotient_fits, call_fits, is_large, OverIsOfLargeNumbers}
+use Rattle.cs_calls.specs.Calls.{quotient_fits, call_fits, is_large, OverIsOfLargeNumbers}
 
 no_both : (b : Bool) → b ≡ true → b ≡ false → ⊥
 no_both true e f = absurd (cc)
