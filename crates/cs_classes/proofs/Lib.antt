@@ -1,0 +1,5 @@
+pub mod Rows
+pub mod Values
+pub mod Calls
+pub mod Numbered
+pub mod Laws

@@ -1,0 +1,4 @@
+pub mod Elements
+pub mod Agreement
+pub mod Models
+pub mod Laws
