@@ -1,7 +1,7 @@
 -- The first match of a call has its element.
-use Rattle.std.proofs.Common.{◌≡◌, ℕ, zero, suc, Bool, true, false, ◌&&◌, List, [], ◌∷◌, map, Some, refl, sym, ◌∙◌, ap, ap₂, subst, eq-eqb, true≢false}
+use Rattle.std.proofs.Common.{◌≡◌, zero, suc, Bool, true, false, ◌&&◌, List, [], ◌∷◌, Some, refl, sym, ◌∙◌, ap, ap₂, subst, true≢false}
 use Rattle.std.specs.Prelude.{if◌then◌else◌}
-use Rattle.vx_terms.specs.Sorts.{Sort, IntSort, BoolSort, RealSort, RefSort, SnapSort, OtherSort, Symbol, Standard, Function, Variable, Named, same_text, same_symbol, same_sort}
+use Rattle.vx_terms.specs.Sorts.{Sort, Symbol, same_symbol, same_sort}
 use Rattle.vx_terms.specs.Terms.{Term, Constant, Apply}
 use Rattle.vx_terms.specs.Views.{sort, symbol}
 use Rattle.vx_terms.specs.Interpretations.{Element}
@@ -10,6 +10,7 @@ use Rattle.vx_terms.proofs.Values.{element_same}
 use Rattle.cs_certificate.specs.Terms.{items}
 use Rattle.cs_certificate.specs.Certificate.{Contains}
 use Rattle.cs_certificate.proofs.Values.{element_is}
+use Rattle.cs_numbers.proofs.Itself.{term_same}
 use Rattle.cs_model.specs.Elements.{element, elements, same_elements}
 use Rattle.cs_model.specs.Models.{finds, found, interpretation}
 use Rattle.cs_model.specs.declared.tables.Entry.{Entry}
@@ -25,24 +26,6 @@ both : (a b : Bool) → a ≡ true → b ≡ true → a && b ≡ true
 both true b e f = f
 both false b e f = cc
 
-text_same : (x : List ℕ) → same_text x x ≡ true
-text_same [] = refl
-text_same (a ∷ x) = both _ _ (eq-eqb a a refl) (text_same x)
-
-symbol_same : (f : Symbol) → same_symbol f f ≡ true
-symbol_same (Standard n) = eq-eqb n n refl
-symbol_same (Function n) = eq-eqb n n refl
-symbol_same (Variable n) = eq-eqb n n refl
-symbol_same (Named x) = text_same x
-
-sort_same : (a : Sort) → same_sort a a ≡ true
-sort_same IntSort = refl
-sort_same BoolSort = refl
-sort_same RealSort = refl
-sort_same RefSort = refl
-sort_same SnapSort = refl
-sort_same (OtherSort x) = text_same x
-
 elements_same : (es : List Element) → same_elements es es ≡ true
 elements_same [] = refl
 elements_same (e ∷ es) = both _ _ (element_same e) (elements_same es)
@@ -55,8 +38,8 @@ elements_are _ _ e = cc
 -- a symbol, a sort and elements that are the same
 matched : (f : Symbol) (a : Sort) (es : List Element) (g : Symbol) (b : Sort) (ds : List Element) → f ≡ g → a ≡ b → es ≡ ds → same_symbol f g && (same_sort a b && same_elements es ds) ≡ true
 matched f a es g b ds p q r =
-    both _ _ (subst (λ x. same_symbol f x ≡ true) p (symbol_same f))
-    (both _ _ (subst (λ x. same_sort a x ≡ true) q (sort_same a)) (subst (λ x. same_elements es x ≡ true) r (elements_same es)))
+    let same = and_parts (same_symbol f f) (same_sort a a) (term_same (Constant f a)) in
+    both _ _ (subst (λ x. same_symbol f x ≡ true) p same.0) (both _ _ (subst (λ x. same_sort a x ≡ true) q same.1) (subst (λ x. same_elements es x ≡ true) r (elements_same es)))
 
 -- a term is one call
 same_call : {t : Term} {f g : Symbol} {a b : Sort} {xs ys : List Term} → IsCall t f a xs → IsCall t g b ys → (f ≡ g) × (a ≡ b) × (xs ≡ ys)

@@ -1,17 +1,18 @@
 -- The laws.
-use Rattle.std.proofs.Common.{◌≡◌, zero, suc, true, List, [], ◌∷◌, refl, sym, ◌∙◌, ap}
+use Rattle.std.proofs.Common.{◌≡◌, suc, true, List, [], ◌∷◌, refl, ◌∙◌, ap}
 use Rattle.vx_terms.specs.Sorts.{BoolSort}
-use Rattle.vx_terms.specs.Terms.{Term, sort_of}
-use Rattle.vx_terms.specs.Interpretations.{Interpretation, Each, IsTrueIn, AllTrue, as_bool}
+use Rattle.vx_terms.specs.Terms.{Term}
+use Rattle.vx_terms.specs.Interpretations.{Interpretation, Each, AllTrue, as_bool}
 use Rattle.vx_terms.proofs.Values.{sort_of_formed}
 use Rattle.cs_certificate.specs.Terms.{HasSort, numbered}
 use Rattle.cs_certificate.specs.Certificate.{Contains}
 use Rattle.cs_numbers.specs.Laws.{IsSorted}
 use Rattle.cs_classes.specs.Elements.{Assignment, element_at}
 use Rattle.cs_classes.specs.Models.{GivesCalls, interpretation_of}
-use Rattle.cs_classes.specs.Laws.{ValuesAreElements, ClassesMakeValues, IsAssigned, ClassesMakeModels, TablesMakeModels}
+use Rattle.cs_classes.specs.Laws.{ValuesAreElements, ClassesMakeValues, IsAssigned, ClassesMakeModels, TablesMakeModels, AssignedExactly}
 use Rattle.cs_classes.proofs.Values.{values_are_elements}
 use Rattle.cs_classes.proofs.Calls.{calls_given, entries_given}
+use Rattle.cs_classes.proofs.Models.{assigned, agrees}
 use Rattle.cs_classes.proofs.Numbered.{whole, assertion_numbered}
 
 pub values : ValuesAreElements
@@ -39,3 +40,17 @@ models assertions s h = assertions_true assertions s (interpretation_of (numbere
 
 pub tables : TablesMakeModels
 tables assertions s entries h made = assertions_true assertions s _ h (entries_given (numbered assertions) s entries h.agrees made)
+
+pub exactly : AssignedExactly
+exactly assertions sorted plain = (
+  λ h. (
+    assigned h.0 (numbered assertions),
+    record {
+      sorted = sorted;
+      no_number = plain;
+      agrees = agrees (numbered assertions) h.0 (whole assertions (all_sorted assertions sorted)) plain;
+      asserted = h.1;
+    },
+  ),
+  λ h. (interpretation_of (numbered assertions) h.0, models assertions h.0 h.1),
+)

@@ -2,4 +2,5 @@ pub mod Rows
 pub mod Values
 pub mod Calls
 pub mod Numbered
+pub mod Models
 pub mod Laws

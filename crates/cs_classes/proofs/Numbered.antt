@@ -1,12 +1,10 @@
 -- Numbered assertions are well-sorted terms with all their parts.
-use Rattle.std.proofs.Common.{◌≡◌, ℕ, zero, suc, List, [], ◌∷◌, ◌++◌, inl, inr, refl, sym, ap, subst}
-use Rattle.vx_terms.specs.Sorts.{BoolSort}
+use Rattle.std.proofs.Common.{◌≡◌, zero, suc, List, [], ◌∷◌, inl, inr, refl, sym, subst}
 use Rattle.vx_terms.specs.Terms.{Term, Truth}
 use Rattle.vx_terms.specs.Interpretations.{Each}
-use Rattle.cs_certificate.specs.Terms.{HasSort, subterms, parts, parts_of, numbered}
+use Rattle.cs_certificate.specs.Terms.{subterms, parts_of, numbered}
 use Rattle.cs_certificate.specs.Certificate.{Contains}
 use Rattle.cs_numbers.specs.Laws.{IsSorted}
-use Rattle.cs_numbers.specs.Numbering.{added}
 use Rattle.cs_numbers.proofs.Added.{added_distinct}
 use Rattle.cs_numbers.proofs.Numbered.{in_left, in_right, new, from_added, part_of, sorted_of}
 use Rattle.cs_classes.specs.Agreement.{IsWhole}

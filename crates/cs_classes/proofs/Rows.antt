@@ -1,5 +1,5 @@
 -- What the rows of a Bool term leave of its truth.
-use Rattle.std.proofs.Common.{◌≡◌, ℕ, zero, suc, Bool, true, false, not, cond, ◌&&◌, ◌||◌, List, [], ◌∷◌, map, refl}
+use Rattle.std.proofs.Common.{◌≡◌, ℕ, suc, Bool, true, false, not, cond, ◌&&◌, ◌||◌, List, [], ◌∷◌, map, refl}
 use Rattle.vx_terms.specs.Terms.{Term, same_bool}
 use Rattle.vx_terms.specs.Interpretations.{Element, BoolElement, all_true, some_true}
 use Rattle.cs_certificate.specs.Certificate.{Yes, No, At}

@@ -1,10 +1,10 @@
 -- The value of each term is its element.
-use Rattle.std.proofs.Common.{◌≡◌, ◌⊎◌, inl, inr, ℕ, zero, suc, Bool, true, false, not, cond, List, [], ◌∷◌, map, Some, refl, sym, ◌∙◌, ap, ap₂, subst, eqb-true, eq-eqb}
-use Rattle.std.specs.Prelude.{nat_eq, ◌&&◌}
-use Rattle.vx_terms.specs.Sorts.{Sort, IntSort, BoolSort, RealSort, RefSort, SnapSort, OtherSort, Symbol, Operator, And, Or, Implies, Equal, Less, LessEqual, Add, Subtract, Multiply, Div, Mod, Takes, gives}
-use Rattle.vx_terms.specs.Terms.{Term, Truth, Number, Part, Constant, Apply, Not, Binary, Ite, AllOf, SomeOf, Terms, same_bool, sort_of}
+use Rattle.std.proofs.Common.{◌≡◌, inl, inr, ℕ, suc, Bool, true, false, not, cond, List, [], ◌∷◌, refl, sym, ◌∙◌, ap, ap₂, subst, eqb-true, eq-eqb}
+use Rattle.std.specs.Prelude.{nat_eq}
+use Rattle.vx_terms.specs.Sorts.{Sort, IntSort, BoolSort, RealSort, RefSort, SnapSort, OtherSort, Operator, And, Or, Implies, Equal, Less, LessEqual, Add, Subtract, Multiply, Div, Mod, Takes, gives}
+use Rattle.vx_terms.specs.Terms.{Term, Truth, Number, Part, Constant, Apply, Not, Binary, Ite, AllOf, SomeOf, Terms}
 use Rattle.vx_terms.specs.Formed.{Formed, truth, number, part, constant, applies, nots, binary, ites, all_of, some_of, FormedAll, no_terms, more_terms, FormedBools, no_bools, more_bools}
-use Rattle.vx_terms.specs.Interpretations.{Element, BoolElement, TreeElement, RefLeaf, as_bool, as_sort, same_element, Interpretation, operate, all_true, some_true, value, values}
+use Rattle.vx_terms.specs.Interpretations.{BoolElement, TreeElement, RefLeaf, as_bool, as_sort, same_element, Interpretation, all_true, some_true, value, values}
 use Rattle.vx_terms.proofs.Values.{sort_of_formed}
 use Rattle.cs_certificate.specs.Terms.{items, parts, equal, HasSort}
 use Rattle.cs_certificate.specs.Certificate.{Clause, At, Contains, IsAnd, and-of-two, and-of-more, IsOr, or-of-two, or-of-more, Defines, true-is, false-is, not-0, not-1, and-part, and-all, or-part, or-all, implies-0, implies-1, implies-2, ite-0, ite-1, ite-2, ite-3, equal-0, equal-1, equal-2, equal-3, IsNumberSort}
@@ -78,26 +78,20 @@ module _ (all : List Term) (s : Assignment) (i : Interpretation) (whole : IsWhol
       equal_is (s.truth t) (s.truth u) (s.truth (equal t u)) (row e c (equal-0 t u (n, f) (n, g))) (row e c (equal-1 t u (n, f) (n, g))) (row e c (equal-2 t u (n, f) (n, g))) (row e c (equal-3 t u (n, f) (n, g)))
 
   -- ---- operators
+  truth_of : {t : Term} {a : Sort} → a ≡ BoolSort → value i t ≡ element_at s a t → as_bool (value i t) ≡ s.truth t
+  truth_of {t = t} h p = ap as_bool (p ∙ ap (λ b. element_at s b t) h)
+
   operated : {n : ℕ} {t u : Term} {a : Sort} (o : Operator) → Takes o a → Formed n t a → Formed n u a → Contains all (Binary o t u) → value i t ≡ element_at s a t → value i u ≡ element_at s a u →
       value i (Binary o t u) ≡ element_at s (gives o a) (Binary o t u)
   operated Equal h f g c p q = ap₂ (λ d e. BoolElement (same_element d e)) p q ∙ ap BoolElement (equality _ f g c)
-  operated {n = n} {t = t} {u = u} And h f g c p q =
-      let f' = subst (Formed n t) h f in
-      let g' = subst (Formed n u) h g in
-      let p' = ap as_bool (p ∙ ap (λ b. element_at s b t) h) in
-      let q' = ap as_bool (q ∙ ap (λ b. element_at s b u) h) in
-      ap BoolElement (ap₂ (λ x y. cond x y false) p' q' ∙ and_of_two (s.truth t) (s.truth u) ∙ and_is (binary {o = And} refl f' g') c (and-of-two t u))
-  operated {n = n} {t = t} {u = u} Or h f g c p q =
-      let f' = subst (Formed n t) h f in
-      let g' = subst (Formed n u) h g in
-      let p' = ap as_bool (p ∙ ap (λ b. element_at s b t) h) in
-      let q' = ap as_bool (q ∙ ap (λ b. element_at s b u) h) in
-      ap BoolElement (ap₂ (λ x y. cond x true y) p' q' ∙ or_of_two (s.truth t) (s.truth u) ∙ or_is (binary {o = Or} refl f' g') c (or-of-two t u))
+  operated {t = t} {u = u} And h f g c p q =
+      ap BoolElement (ap₂ (λ x y. cond x y false) (truth_of h p) (truth_of h q) ∙ and_of_two (s.truth t) (s.truth u) ∙ and_is (binary {o = And} h f g) c (and-of-two t u))
+  operated {t = t} {u = u} Or h f g c p q =
+      ap BoolElement (ap₂ (λ x y. cond x true y) (truth_of h p) (truth_of h q) ∙ or_of_two (s.truth t) (s.truth u) ∙ or_is (binary {o = Or} h f g) c (or-of-two t u))
   operated {n = n} {t = t} {u = u} Implies h f g c p q =
-      let e : Formed n (Binary Implies t u) BoolSort = binary {o = Implies} refl (subst (Formed n t) h f) (subst (Formed n u) h g) in
-      let p' = ap as_bool (p ∙ ap (λ b. element_at s b t) h) in
-      let q' = ap as_bool (q ∙ ap (λ b. element_at s b u) h) in
-      ap BoolElement (ap₂ (λ x y. cond x y true) p' q' ∙ implies_is (s.truth t) (s.truth u) (s.truth (Binary Implies t u)) (row e c (implies-0 t u)) (row e c (implies-1 t u)) (row e c (implies-2 t u)))
+      let e : Formed n (Binary Implies t u) BoolSort = binary {o = Implies} h f g in
+      ap BoolElement (ap₂ (λ x y. cond x y true) (truth_of h p) (truth_of h q)
+      ∙ implies_is (s.truth t) (s.truth u) (s.truth (Binary Implies t u)) (row e c (implies-0 t u)) (row e c (implies-1 t u)) (row e c (implies-2 t u)))
   operated Less h f g c p q = absurd (no_number f (parted 0 c refl) h)
   operated LessEqual h f g c p q = absurd (no_number f (parted 0 c refl) h)
   operated Add h f g c p q = absurd (no_number f (parted 0 c refl) h)

@@ -14,8 +14,10 @@ abbrev pub element_at : Assignment → Sort → Term → Element
 element_at s BoolSort t = BoolElement (s.truth t)
 element_at s _ t = TreeElement (RefLeaf (s.class t))
 
+-- of its own sort
 abbrev pub element_of : Assignment → Term → Element
 element_of s t = element_at s (sort_of t) t
 
+-- one after another
 abbrev pub elements_of : Assignment → List Term → List Element
 elements_of s ts = map (element_of s) ts

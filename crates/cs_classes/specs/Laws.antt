@@ -1,8 +1,8 @@
 -- Satisfied rows and closed classes make a model.
-use Rattle.std.specs.Prelude.{◌≡◌, true, List}
+use Rattle.std.specs.Prelude.{◌≡◌, ◌↔◌, true, List}
 use Rattle.vx_terms.specs.Sorts.{BoolSort}
 use Rattle.vx_terms.specs.Terms.{Term}
-use Rattle.vx_terms.specs.Interpretations.{Interpretation, Each, AllTrue, value}
+use Rattle.vx_terms.specs.Interpretations.{Interpretation, Each, AllTrue, IsSatisfiable, value}
 use Rattle.cs_certificate.specs.Terms.{HasSort, numbered}
 use Rattle.cs_certificate.specs.Certificate.{Contains}
 use Rattle.cs_model.specs.Models.{interpretation}
@@ -33,3 +33,7 @@ ClassesMakeModels = (assertions : List Term) (s : Assignment) → IsAssigned ass
 -- and in that of tables with an entry of each call
 abbrev pub TablesMakeModels : Type 0
 TablesMakeModels = (assertions : List Term) (s : Assignment) (entries : List Entry) → IsAssigned assertions s → Tabulates (numbered assertions) s entries → AllTrue (interpretation entries) assertions
+
+-- such assertions are satisfiable exactly where there is such an assignment
+abbrev pub AssignedExactly : Type 0
+AssignedExactly = (assertions : List Term) → Each (λ t. HasSort t BoolSort) assertions → HasNoNumber (numbered assertions) → IsSatisfiable assertions ↔ ((s : Assignment) × IsAssigned assertions s)

@@ -22,11 +22,12 @@ is_call s f a es (Constant g b) = same_symbol f g && (same_sort a b && same_elem
 is_call s f a es (Apply g b ts) = same_symbol f g && (same_sort a b && same_elements es (elements_of s (items ts)))
 is_call s f a es _ = false
 
--- of the first such call
+-- the element of the first such call
 abbrev pub called : Assignment → Symbol → Sort → List Element → List Term → Element
 called s f a es [] = IntElement (pos 0)
 called s f a es (t ∷ ts) = if is_call s f a es t then element_of s t else called s f a es ts
 
+-- each symbol gives the element of the first call that fits
 abbrev pub interpretation_of : List Term → Assignment → Interpretation
 interpretation_of all s = by (λ f a es. called s f a es all)
 

@@ -1,5 +1,5 @@
-use Rattle.cs_classes.proofs.Laws.{values, classes, models, tables}
+use Rattle.cs_classes.proofs.Laws.{values, classes, models, tables, exactly}
 use Rattle.cs_classes.proofs.classes_make_models.Goals as goal
 
 pub returns : goal.returns
-returns c = record { values = values; classes = classes; models = models; tables = tables }
+returns c = record { values = values; classes = classes; models = models; tables = tables; exactly = exactly }
