@@ -1,10 +1,10 @@
 //! The elements of terms: numbers by their values, Bool terms by the assignment, and others by their classes.
 
-use crate::atoms::Atoms;
-use crate::claims::{Claims, value_of};
 use crate::figures::Figures;
-use crate::numbered::Record;
 use cs_model::Element;
+use cs_record::atoms::Atoms;
+use cs_record::claims::{Claims, value_of};
+use cs_record::numbered::Record;
 use cs_search::Value;
 use cs_sums::Stop;
 use std::alloc::Global;

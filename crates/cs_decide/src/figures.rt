@@ -1,14 +1,14 @@
 //! What an assignment claims of numbers: whether it can be, and the values that meet it.
 
-use crate::atoms::Atoms;
-use crate::cases::{order, parted};
-use crate::claims::{Claims, value_of};
 use crate::clashes::clash;
 use crate::elements::Sources;
-use crate::farkas::refutation_of;
-use crate::lemma::Lemma;
-use crate::numbered::Record;
 use cs_meter::{Budget, Meter};
+use cs_record::atoms::Atoms;
+use cs_record::cases::{order, parted};
+use cs_record::claims::{Claims, value_of};
+use cs_record::farkas::refutation_of;
+use cs_record::lemma::Lemma;
+use cs_record::numbered::Record;
 use cs_search::Value;
 use cs_sums::{Arithmetic, Contradiction, Share, Split, Stop, numbers_of};
 use std::alloc::Global;

@@ -3,24 +3,14 @@
 #![tactic(auto)]
 
 mod answer;
-mod assembly;
-mod atoms;
-mod cases;
 mod check;
-mod claims;
 mod clashes;
-mod clauses;
 mod elements;
-mod farkas;
 mod figures;
 mod forced;
-mod held;
 mod judging;
-mod lemma;
 mod model;
 mod nonlinear;
-mod numbered;
-mod orders;
 
 pub use answer::{Answer, Cause};
 pub use check::decide;
