@@ -1,0 +1,29 @@
+-- The laws of explanations in certificates.
+use Rattle.std.specs.Prelude.{◌≡◌, ℕ, suc, true, List, [], ◌∷◌, ◌++◌, length, map, slice_get, Some}
+use Rattle.vx_terms.specs.Sorts.{BoolSort}
+use Rattle.vx_terms.specs.Terms.{Term}
+use Rattle.vx_terms.specs.Interpretations.{Each}
+use Rattle.cs_certificate.specs.Terms.{head, parts, equal, HasSort}
+use Rattle.cs_certificate.specs.Certificate.{Yes, No, Clause, NumberedLiteral, Propagate, Stack, State, At, AllAt, IsNumbered, Pairs, Derives, Leads}
+use Rattle.cs_cong.specs.declared.congruent.Applied.{Applied}
+use Rattle.cs_cong.specs.declared.congruent.Claim.{Claim}
+use Rattle.cs_cong.specs.declared.explain.Chain.{Chain}
+use Rattle.cs_cong.specs.declared.explain.Derived.{Derived}
+use Rattle.cs_cong.specs.Joined.{is_claimed}
+use Rattle.cs_cong.specs.Explained.{Joins, IsChain, AreCongruent, Follows, Explains}
+use Rattle.cs_explained.specs.Matched.{step_of, StandFor, IsEqualityOf, AreEquated, DeniesKnown, IsLinked}
+
+-- a path of known equalities links its terms
+abbrev pub PathsLink : Type 0
+PathsLink = (s : State) (claims : List Claim) (named : List ℕ) (steps : List Derived) (a b : ℕ) (path : List ℕ) (t : Term) → AreEquated s claims named steps → IsChain claims named steps a path b → At s.terms a t →
+    (c : Clause) × IsLinked s a path b c × Each (DeniesKnown s claims named steps) c
+
+-- congruent terms have one head, and their parts are paired
+abbrev pub CongruentPairs : Type 0
+CongruentPairs = (s : State) (applied : List Applied) (claims : List Claim) (named : List ℕ) (steps : List Derived) (m n : ℕ) (t u : Term) → StandFor applied s.terms → AreEquated s claims named steps →
+    AreCongruent steps (slice_get applied m) (slice_get applied n) → At s.terms m t → At s.terms n u → (head t ≡ head u) × (c : Clause) × Pairs s (parts t) (parts u) c × Each (DeniesKnown s claims named steps) c
+
+-- a step that follows derives the equality that it joins, behind denials of what is known
+abbrev pub StepsDerive : Type 0
+StepsDerive = (s : State) (applied : List Applied) (claims : List Claim) (named : List ℕ) (steps : List Derived) (d : Derived) (a b : ℕ) (e : Term) → StandFor applied s.terms → AreEquated s claims named steps →
+    Follows applied claims named steps d → Joins d a b → IsEqualityOf s a b e → (c : Clause) × Each (DeniesKnown s claims named steps) c × ((stack : Stack) → Derives stack s (step_of d) (c ++ Yes e ∷ []))

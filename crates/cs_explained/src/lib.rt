@@ -1,0 +1,19 @@
+//! What an explanation of classes says, as steps of a certificate.
+#![tactic(auto)]
+
+ghost use Rattle.cs_explained.specs.Laws.{PathsLink, CongruentPairs, StepsDerive};
+
+/// A path of known equalities links its terms.
+pub fn paths_link()
+    ensures { PathsLink }
+{}
+
+/// Congruent terms have one head, and their parts are paired.
+pub fn congruent_pairs()
+    ensures { CongruentPairs }
+{}
+
+/// A step that follows derives the equality that it joins, behind denials of what is known.
+pub fn steps_derive()
+    ensures { StepsDerive }
+{}
