@@ -1,2 +1,4 @@
 pub mod Equalities
 pub mod Links
+pub mod Steps
+pub mod Refuted

@@ -12,6 +12,7 @@ use Rattle.cs_cong.specs.declared.explain.Derived.{Derived}
 use Rattle.cs_cong.specs.Joined.{is_claimed}
 use Rattle.cs_cong.specs.Explained.{Joins, IsChain, AreCongruent, Follows, Explains}
 use Rattle.cs_explained.specs.Matched.{step_of, StandFor, IsEqualityOf, AreEquated, DeniesKnown, IsLinked}
+use Rattle.cs_explained.specs.Refuted.{AreSorted, AreDenied, Follow}
 
 -- a path of known equalities links its terms
 abbrev pub PathsLink : Type 0
@@ -27,3 +28,8 @@ CongruentPairs = (s : State) (applied : List Applied) (claims : List Claim) (nam
 abbrev pub StepsDerive : Type 0
 StepsDerive = (s : State) (applied : List Applied) (claims : List Claim) (named : List ℕ) (steps : List Derived) (d : Derived) (a b : ℕ) (e : Term) → StandFor applied s.terms → AreEquated s claims named steps →
     Follows applied claims named steps d → Joins d a b → IsEqualityOf s a b e → (c : Clause) × Each (DeniesKnown s claims named steps) c × ((stack : Stack) → Derives stack s (step_of d) (c ++ Yes e ∷ []))
+
+-- where claims explain an equality, the clause follows that denies what they say or has the equality
+abbrev pub ExplainedRefutes : Type 0
+ExplainedRefutes = (stack : Stack) (s : State) (applied : List Applied) (claims : List Claim) (a b : ℕ) (explained : Chain) (c : Clause) (e : Term) → AreSorted s → StandFor applied s.terms →
+    AreEquated s claims explained.claims.items explained.steps.items → Explains applied claims a b explained → AreDenied s claims explained.claims.items c → IsEqualityOf s a b e → Follow stack s explained.steps.items (c ++ Yes e ∷ [])

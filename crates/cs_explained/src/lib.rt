@@ -1,7 +1,7 @@
 //! What an explanation of classes says, as steps of a certificate.
 #![tactic(auto)]
 
-ghost use Rattle.cs_explained.specs.Laws.{PathsLink, CongruentPairs, StepsDerive};
+ghost use Rattle.cs_explained.specs.Laws.{PathsLink, CongruentPairs, StepsDerive, ExplainedRefutes};
 
 /// A path of known equalities links its terms.
 pub fn paths_link()
@@ -16,4 +16,9 @@ pub fn congruent_pairs()
 /// A step that follows derives the equality that it joins, behind denials of what is known.
 pub fn steps_derive()
     ensures { StepsDerive }
+{}
+
+/// By the steps of an explanation and one propagation the clause follows that denies what the named claims say or has the equality.
+pub fn explained_refutes()
+    ensures { ExplainedRefutes }
 {}
