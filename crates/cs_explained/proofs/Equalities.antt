@@ -1,5 +1,5 @@
 -- Equalities of numbered terms.
-use Rattle.std.proofs.Common.{◌≡◌, ◌⊎◌, inl, inr, ℕ, ◌<◌, Bool, true, false, List, Some, refl, sym, ◌∙◌, ap, subst, arith}
+use Rattle.std.proofs.Common.{◌≡◌, ◌⊎◌, inl, inr, ℕ, Bool, true, false, List, Some, refl, sym, ◌∙◌, subst, arith}
 use Rattle.std.proofs.lemmas.Bool.{cases_eq, cases_lt}
 use Rattle.vx_terms.specs.Terms.{Term, same}
 use Rattle.vx_terms.proofs.Same.{term_is}
@@ -7,7 +7,7 @@ use Rattle.cs_certificate.specs.Certificate.{State, At, IsEquality, Equates}
 use Rattle.cs_numbers.proofs.Itself.{term_same}
 use Rattle.cs_explained.specs.Matched.{IsEqualityOf}
 
-some_is : {A : Type 0} {x y : A} → Some x ≡ Some y → x ≡ y
+pub some_is : {A : Type 0} {x y : A} → Some x ≡ Some y → x ≡ y
 some_is e = cc
 
 -- two terms are one, or differ

@@ -1,16 +1,16 @@
 -- Paths of known equalities, and congruent terms.
-use Rattle.std.proofs.Common.{◌≡◌, inl, inr, ℕ, zero, suc, ◌<◌, List, [], ◌∷◌, ◌++◌, length, get_or, slice_get, Option, Some, None, refl, sym, ◌∙◌, ap, subst, arith}
+use Rattle.std.proofs.Common.{◌≡◌, inl, inr, ℕ, suc, List, [], ◌∷◌, ◌++◌, length, slice_get, Option, Some, None, refl, sym, ◌∙◌, subst, arith}
 use Rattle.vx_terms.specs.Terms.{Term}
 use Rattle.vx_terms.specs.Interpretations.{Each}
 use Rattle.cs_certificate.specs.Terms.{head, parts}
-use Rattle.cs_certificate.specs.Certificate.{Yes, No, Clause, Chain, Stack, State, At, AllAt, no-terms, one-term, Equates, Links, end, link, Pairs, no-pairs, same, differ, Derives, chain, congruence}
+use Rattle.cs_certificate.specs.Certificate.{Yes, No, Clause, Chain, Stack, State, At, AllAt, no-terms, one-term, end, link, Pairs, no-pairs, same, differ, Derives, chain, congruence}
 use Rattle.cs_cong.specs.declared.congruent.Applied.{Applied}
 use Rattle.cs_cong.specs.declared.congruent.Claim.{Claim}
 use Rattle.cs_cong.specs.declared.explain.Derived.{Derived}
 use Rattle.cs_cong.specs.declared.explain.Derived.TheVariants.{Path, Congruent}
-use Rattle.cs_cong.specs.Explained.{Ends, Joins, IsKnown, by_claim, by_step, turned as known_turned, IsChain, alone, linked, AreEqual, AreCongruent, Follows}
+use Rattle.cs_cong.specs.Explained.{Ends, IsKnown, by_claim, by_step, turned as known_turned, IsChain, alone, linked, AreEqual, AreCongruent}
 use Rattle.cs_cong.proofs.Steps.{chain_ends}
-use Rattle.cs_explained.specs.Matched.{step_of, StandFor, IsEqualityOf, AreEquated, DeniesKnown, IsLinked}
+use Rattle.cs_explained.specs.Matched.{IsEqualityOf, AreEquated, DeniesKnown, IsLinked}
 use Rattle.cs_explained.specs.Laws.{PathsLink, CongruentPairs, StepsDerive}
 use Rattle.cs_explained.proofs.Equalities.{one_or_two, at_same, turned, equates_at}
 

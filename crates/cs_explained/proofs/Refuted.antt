@@ -1,6 +1,5 @@
 -- The clauses of steps refute.
-use Rattle.std.proofs.Common.{◌≡◌, ◌⊎◌, inl, inr, ℕ, zero, suc, ◌+◌, ◌<◌, Bool, true, false, ◌&&◌, List, [], ◌∷◌, ◌++◌, length, map, slice_get, Option, Some, None, refl, sym, ◌∙◌, ap, subst, arith}
-use Rattle.std.specs.Prelude.{nat_eq}
+use Rattle.std.proofs.Common.{◌≡◌, ◌⊎◌, inl, inr, ℕ, zero, suc, ◌+◌, ◌<◌, true, List, [], ◌∷◌, ◌++◌, length, map, slice_get, Option, Some, None, refl, sym, ◌∙◌, ap, subst, arith}
 use Rattle.std.specs.List.{Contains as IsAmong}
 use Rattle.std.proofs.lemmas.List.{map-append}
 use Rattle.std.proofs.lemmas.Bool.Decides.{Decides-eqb}
@@ -9,7 +8,7 @@ use Rattle.vx_terms.specs.Terms.{Term}
 use Rattle.vx_terms.specs.Interpretations.{Each}
 use Rattle.vx_terms.proofs.Same.{and_parts}
 use Rattle.cs_certificate.specs.Terms.{HasSort}
-use Rattle.cs_certificate.specs.Certificate.{Literal, Yes, No, negated, Clause, NumberedLiteral, plain, denial, Stack, State, At, Contains, ReadsAll, no-literals, one-literal, reads-plain, reads-negated, LeavesOnly, LeavesNone, Refutes, ends, forces, propagate}
+use Rattle.cs_certificate.specs.Certificate.{Literal, Yes, No, negated, Clause, NumberedLiteral, plain, denial, State, At, Contains, ReadsAll, no-literals, one-literal, reads-plain, reads-negated, LeavesOnly, LeavesNone, Refutes, ends, forces, propagate}
 use Rattle.cs_certificate.proofs.Clauses.{each_append}
 use Rattle.cs_cong.specs.declared.congruent.Claim.{Claim}
 use Rattle.cs_cong.specs.declared.explain.Derived.{Derived}
@@ -17,17 +16,14 @@ use Rattle.cs_cong.specs.declared.explain.Derived.TheVariants.{Path, Congruent}
 use Rattle.cs_cong.specs.Joined.{says, is_claimed}
 use Rattle.cs_cong.specs.Explained.{Joins, IsKnown, by_claim, by_step, turned as known_turned}
 use Rattle.cs_cong.proofs.Stages.{get_last}
-use Rattle.cs_explained.specs.Matched.{IsEqualityOf, DeniesKnown}
+use Rattle.cs_explained.specs.Matched.{IsEqualityOf, AreEquated, DeniesKnown}
 use Rattle.cs_explained.specs.Refuted.{AreSorted, AreDenied, none_named, one_named, numbers_from}
-use Rattle.cs_explained.specs.Laws.{ExplainedRefutes}
-use Rattle.cs_explained.proofs.Equalities.{one_or_two, turned, one_equality}
+use Rattle.cs_explained.specs.Laws.{ClaimsAreDenied, ExplainedRefutes}
+use Rattle.cs_explained.proofs.Equalities.{some_is, one_or_two, turned, one_equality}
 use Rattle.cs_explained.proofs.Links.{same_ends}
-use Rattle.cs_explained.proofs.Steps.{each_map, IsJoined, AreClauses, no_steps, one_step, steps_lead}
+use Rattle.cs_explained.proofs.Steps.{among_nothing, each_map, IsJoined, AreClauses, one_step, steps_lead}
 
 -- ---- lists
-some_is : {A : Type 0} {x y : A} → Some x ≡ Some y → x ≡ y
-some_is e = cc
-
 nothing_held : {A : Type 0} (x : A) → Contains [] x → ⊥
 nothing_held x (n, e) = cc
 
@@ -47,9 +43,6 @@ held_split (z ∷ xs) y x (suc n, e) = elim (held_split xs y x (n, e)) [
   | inl h ↦ inl (suc h.0, h.1)
   | inr h ↦ inr h
 ]
-
-among_nothing : {A : Type 0} (x : A) → IsAmong [] x → ⊥
-among_nothing x (k, lt, e) = omega arith
 
 among_split : {A : Type 0} (xs : List A) (y x : A) → IsAmong (xs ++ y ∷ []) x → IsAmong xs x ⊎ (y ≡ x)
 among_split [] y x (zero, lt, e) = inr e
@@ -128,8 +121,8 @@ module _ (s : State) (claims : List Claim) (named : List ℕ) where
   leaves_only done e f assumed c is h = (
     held_last c (Yes f),
     each_append (λ m. (m ≡ Yes f) ⊎ Contains assumed (negated m)) c (Yes f)
-    (each_map (λ m. Contains assumed (negated m)) (λ m. (m ≡ Yes f) ⊎ Contains assumed (negated m)) c (λ m p. inr p) (denials_held done e assumed c is h))
-    (inl refl),
+        (each_map (λ m. Contains assumed (negated m)) (λ m. (m ≡ Yes f) ⊎ Contains assumed (negated m)) c (λ m p. inr p) (denials_held done e assumed c is h))
+        (inl refl),
   )
 
   -- ---- propagation
@@ -154,7 +147,20 @@ module _ (s : State) (claims : List Claim) (named : List ℕ) where
           (steps_refute (suc n) (done ++ x ∷ []) before d more e (assumed ++ Yes f ∷ []) on (others_at n (c ++ Yes f ∷ []) more at) last (assumes_more done x e f assumed is j))
     ]
 
--- ---- what is assumed at first
+-- ---- what named claims say
+fewer_named : (s : State) (claims : List Claim) (i : ℕ) (others : List ℕ) (steps : List Derived) → AreEquated s claims (i ∷ others) steps → AreEquated s claims others steps
+fewer_named s claims i others steps are = record { by_claims = λ j a b m c. are.by_claims j a b (let within : m.0 < length others = m.1 in (suc m.0, omega (arith, within), m.2)) c; by_steps = are.by_steps }
+
+pub claims_are_denied : ClaimsAreDenied
+claims_are_denied s claims [] steps are h = ([], none_named)
+claims_are_denied s claims (i ∷ others) steps are h =
+    let here : IsAmong (i ∷ others) i = (0, omega arith, refl) in
+    let there : (j : ℕ) → IsAmong others j → IsAmong (i ∷ others) j = λ j m. let within : m.0 < length others = m.1 in (suc m.0, omega (arith, within), m.2) in
+    let w = h i here in
+    let q = are.by_claims i w.0 w.1 here w.2 in
+    let rest = claims_are_denied s claims others steps (fewer_named s claims i others steps are) (λ j m. h j (there j m)) in
+    (No q.0 ∷ rest.0, one_named w.2 q.1 rest.1)
+
 claim_assumed : (s : State) (claims : List Claim) (named : List ℕ) (c : Clause) → AreDenied s claims named c → (i a b : ℕ) (f : Term) → IsAmong named i → is_claimed claims i a b ≡ true → IsEqualityOf s a b f → Contains (map negated c) (Yes f)
 claim_assumed s claims named c none_named i a b f m h q = absurd (among_nothing i m)
 claim_assumed s claims named c (one_named {a = x} {b = y} {e = e} said p on) i a b f (zero, lt, same) h q =

@@ -1,5 +1,5 @@
 -- The steps of an explanation lead to their clauses.
-use Rattle.std.proofs.Common.{◌≡◌, ◌⊎◌, inl, inr, ℕ, zero, suc, ◌<◌, List, [], ◌∷◌, ◌++◌, length, map, take, slice_get, Some, refl, sym, ◌∙◌, ap, subst, arith}
+use Rattle.std.proofs.Common.{◌≡◌, ℕ, zero, suc, ◌<◌, List, [], ◌∷◌, ◌++◌, length, map, slice_get, Some, refl, sym, subst, arith}
 use Rattle.std.specs.List.{Contains as IsAmong}
 use Rattle.std.proofs.lemmas.List.{append-nil, append_assoc}
 use Rattle.std.proofs.Math.Seq.{take-append_seam}
@@ -10,14 +10,14 @@ use Rattle.cs_cong.specs.declared.congruent.Applied.{Applied}
 use Rattle.cs_cong.specs.declared.congruent.Claim.{Claim}
 use Rattle.cs_cong.specs.declared.explain.Derived.{Derived}
 use Rattle.cs_cong.specs.declared.explain.Derived.TheVariants.{Path, Congruent}
-use Rattle.cs_cong.specs.Explained.{Joins, AreJoinedBy, Follows, IsDerivation}
+use Rattle.cs_cong.specs.Explained.{Joins, Follows, IsDerivation}
 use Rattle.cs_cong.proofs.Steps.{chain_ends}
 use Rattle.cs_explained.specs.Matched.{step_of, StandFor, IsEqualityOf, AreEquated, DeniesKnown}
 use Rattle.cs_explained.proofs.Equalities.{moved}
 use Rattle.cs_explained.proofs.Links.{steps_derive}
 
 -- ---- lists
-among_nothing : {A : Type 0} (x : A) → IsAmong [] x → ⊥
+pub among_nothing : {A : Type 0} (x : A) → IsAmong [] x → ⊥
 among_nothing x (k, lt, e) = omega arith
 
 among_front : {A : Type 0} (xs ys : List A) (x : A) → IsAmong xs x → IsAmong (xs ++ ys) x
@@ -84,8 +84,7 @@ module _ (stack : Stack) (s : State) (applied : List Applied) (claims : List Cla
       let w = steps_derive r applied claims named done d j.left j.right e stand (are_moved s r claims named done (d ∷ rest) refl are) f j.joins (moved s r j.left j.right e refl q) in
       let x : Clause = w.0 ++ Yes e ∷ [] in
       let more = on x in
-      let denials : Each (DeniesKnown s claims named done) w.0 = each_map (DeniesKnown r claims named done) (DeniesKnown s claims named done) w.0 (λ l h. denies_moved r s claims named done l refl h) w.1 in
-      (
+      let denials : Each (DeniesKnown s claims named done) w.0 = each_map (DeniesKnown r claims named done) (DeniesKnown s claims named done) w.0 (λ l h. denies_moved r s claims named done l refl h) w.1 in (
         x ∷ more.0,
         one_step w.0 e record { left = j.left; right = j.right; joins = j.joins; equates = q } denials more.1,
         subst (λ l. Leads stack r (map step_of (d ∷ rest)) (record s { clauses = l })) (append_assoc before (x ∷ []) more.0) (derives (w.2 stack) more.2),

@@ -1,10 +1,10 @@
 -- The laws of explanations in certificates.
-use Rattle.std.specs.Prelude.{◌≡◌, ℕ, suc, true, List, [], ◌∷◌, ◌++◌, length, map, slice_get, Some}
-use Rattle.vx_terms.specs.Sorts.{BoolSort}
+use Rattle.std.specs.Prelude.{◌≡◌, ℕ, true, List, [], ◌∷◌, ◌++◌, slice_get}
+use Rattle.std.specs.List.{Contains as IsAmong}
 use Rattle.vx_terms.specs.Terms.{Term}
 use Rattle.vx_terms.specs.Interpretations.{Each}
-use Rattle.cs_certificate.specs.Terms.{head, parts, equal, HasSort}
-use Rattle.cs_certificate.specs.Certificate.{Yes, No, Clause, NumberedLiteral, Propagate, Stack, State, At, AllAt, IsNumbered, Pairs, Derives, Leads}
+use Rattle.cs_certificate.specs.Terms.{head, parts}
+use Rattle.cs_certificate.specs.Certificate.{Yes, Clause, Stack, State, At, Pairs, Derives}
 use Rattle.cs_cong.specs.declared.congruent.Applied.{Applied}
 use Rattle.cs_cong.specs.declared.congruent.Claim.{Claim}
 use Rattle.cs_cong.specs.declared.explain.Chain.{Chain}
@@ -28,6 +28,11 @@ CongruentPairs = (s : State) (applied : List Applied) (claims : List Claim) (nam
 abbrev pub StepsDerive : Type 0
 StepsDerive = (s : State) (applied : List Applied) (claims : List Claim) (named : List ℕ) (steps : List Derived) (d : Derived) (a b : ℕ) (e : Term) → StandFor applied s.terms → AreEquated s claims named steps →
     Follows applied claims named steps d → Joins d a b → IsEqualityOf s a b e → (c : Clause) × Each (DeniesKnown s claims named steps) c × ((stack : Stack) → Derives stack s (step_of d) (c ++ Yes e ∷ []))
+
+-- where named claims are of equalities, the denials of what they say can be had
+abbrev pub ClaimsAreDenied : Type 0
+ClaimsAreDenied = (s : State) (claims : List Claim) (named : List ℕ) (steps : List Derived) → AreEquated s claims named steps → ((i : ℕ) → IsAmong named i → (a : ℕ) × (b : ℕ) × (is_claimed claims i a b ≡ true)) →
+    (c : Clause) × AreDenied s claims named c
 
 -- where claims explain an equality, the clause follows that denies what they say or has the equality
 abbrev pub ExplainedRefutes : Type 0

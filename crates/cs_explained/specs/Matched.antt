@@ -1,10 +1,9 @@
 -- Steps of an explanation as steps of a certificate.
-use Rattle.std.specs.Prelude.{◌≡◌, ℕ, true, List, [], ◌∷◌, ◌++◌, length, map, slice_get, Some}
+use Rattle.std.specs.Prelude.{◌≡◌, ℕ, true, List, ◌∷◌, slice_get, Some}
 use Rattle.std.specs.List.{Contains as IsAmong}
 use Rattle.vx_terms.specs.Terms.{Term}
-use Rattle.vx_terms.specs.Interpretations.{Each}
 use Rattle.cs_certificate.specs.Terms.{head, parts}
-use Rattle.cs_certificate.specs.Certificate.{Literal, Yes, No, Clause, Step, Chain, Congruence, State, At, AllAt, Equates, Links, Pairs}
+use Rattle.cs_certificate.specs.Certificate.{Literal, No, Clause, Step, Chain, Congruence, State, At, AllAt, Equates, Links}
 use Rattle.cs_cong.specs.declared.congruent.Applied.{Applied}
 use Rattle.cs_cong.specs.declared.congruent.Claim.{Claim}
 use Rattle.cs_cong.specs.declared.explain.Derived.{Derived}

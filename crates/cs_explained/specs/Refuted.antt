@@ -3,7 +3,7 @@ use Rattle.std.specs.Prelude.{◌≡◌, ℕ, suc, true, List, [], ◌∷◌, �
 use Rattle.vx_terms.specs.Sorts.{BoolSort}
 use Rattle.vx_terms.specs.Terms.{Term}
 use Rattle.cs_certificate.specs.Terms.{equal, HasSort}
-use Rattle.cs_certificate.specs.Certificate.{Yes, No, Clause, NumberedLiteral, Propagate, Stack, State, IsNumbered, Derives, Leads}
+use Rattle.cs_certificate.specs.Certificate.{No, Clause, NumberedLiteral, Propagate, Stack, State, IsNumbered, Derives, Leads}
 use Rattle.cs_cong.specs.declared.congruent.Claim.{Claim}
 use Rattle.cs_cong.specs.declared.explain.Derived.{Derived}
 use Rattle.cs_cong.specs.Joined.{is_claimed}

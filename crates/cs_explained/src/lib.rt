@@ -1,7 +1,7 @@
 //! What an explanation of classes says, as steps of a certificate.
 #![tactic(auto)]
 
-ghost use Rattle.cs_explained.specs.Laws.{PathsLink, CongruentPairs, StepsDerive, ExplainedRefutes};
+ghost use Rattle.cs_explained.specs.Laws.{PathsLink, CongruentPairs, StepsDerive, ClaimsAreDenied, ExplainedRefutes};
 
 /// A path of known equalities links its terms.
 pub fn paths_link()
@@ -16,6 +16,11 @@ pub fn congruent_pairs()
 /// A step that follows derives the equality that it joins, behind denials of what is known.
 pub fn steps_derive()
     ensures { StepsDerive }
+{}
+
+/// Where named claims are of equalities, the denials of what they say can be had.
+pub fn claims_are_denied()
+    ensures { ClaimsAreDenied }
 {}
 
 /// By the steps of an explanation and one propagation the clause follows that denies what the named claims say or has the equality.
