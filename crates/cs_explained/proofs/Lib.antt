@@ -2,3 +2,4 @@ pub mod Equalities
 pub mod Links
 pub mod Steps
 pub mod Refuted
+pub mod Worked

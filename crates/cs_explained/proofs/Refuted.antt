@@ -64,7 +64,7 @@ same_equality s a b x y e f h p q = one_equality s x y e f (subst (λ n. IsEqual
 one_joined : (s : State) (d : Derived) (e f : Term) (a b : ℕ) → IsJoined s d e → Joins d a b → IsEqualityOf s a b f → e ≡ f
 one_joined s d e f a b is j q = same_equality s is.left is.right a b e f (joins_same d is.left is.right a b is.joins j) is.equates q
 
-says_one : (o : Option Claim) (a b x y : ℕ) → says o a b ≡ true → says o x y ≡ true → (a ≡ x) × (b ≡ y)
+pub says_one : (o : Option Claim) (a b x y : ℕ) → says o a b ≡ true → says o x y ≡ true → (a ≡ x) × (b ≡ y)
 says_one (Some c) a b x y e f =
     let p = and_parts _ _ (and_parts _ _ e).1 in
     let q = and_parts _ _ (and_parts _ _ f).1 in

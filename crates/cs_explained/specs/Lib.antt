@@ -1,3 +1,4 @@
 pub mod Matched
 pub mod Refuted
 pub mod Laws
+pub mod Worked

@@ -2,6 +2,7 @@
 #![tactic(auto)]
 
 ghost use Rattle.cs_explained.specs.Laws.{PathsLink, CongruentPairs, StepsDerive, ClaimsAreDenied, ExplainedRefutes};
+ghost use Rattle.cs_explained.specs.Worked.{Worked};
 
 /// A path of known equalities links its terms.
 pub fn paths_link()
@@ -26,4 +27,9 @@ pub fn claims_are_denied()
 /// By the steps of an explanation and one propagation the clause follows that denies what the named claims say or has the equality.
 pub fn explained_refutes()
     ensures { ExplainedRefutes }
+{}
+
+/// An explanation of `f(a) = f(b)` by `a = b` meets all that the law asks, and its clause follows.
+pub fn worked_explanation()
+    ensures { Worked }
 {}
