@@ -1,4 +1,7 @@
 //! What is claimed of numbers, whether it can be, and values that meet it.
+ghost use Rattle.std.specs.Prelude.{◌≤◌, IfOk, IfSome, IfNone};
+ghost use Rattle.cs_sums.specs.Fractional.{IsFraction, AreWhole};
+ghost use Rattle.cs_sums.specs.Shown.{columns_of, values_of};
 
 use crate::columns::Columns;
 use crate::constraints::{Comparison, Constraint, Order, other_side, sides_of};
@@ -341,11 +344,9 @@ impl Arithmetic {
     ///
     /// # Errors
     /// `Budget` where all units are spent; `Over` where a fraction leaves 128 bits; `Want` where memory runs out.
-    pub fn check(
-        &mut self,
-        alloc: Global,
-        meter: &mut Meter,
-    ) -> Result<Option<Contradiction>, Stop> {
+    pub fn check(&mut self, alloc: Global, meter: &mut Meter) -> Result<Option<Contradiction>, Stop>
+        ensures { meter.old.spent ≤ meter.new.spent }
+    {
         match self.columns.tableau.check(alloc, meter)? {
             Checked::Feasible => {
                 let small = small_of(&self.columns.tableau, &self.bounds)?;
@@ -365,11 +366,14 @@ impl Arithmetic {
         value_at(nodes, term, &self.columns, &self.values)
     }
 
-    /// A sum of Int terms whose value is no whole number, if there is one.
+    /// A sum of Int terms whose value is no whole number, if there is one: the split is at this value.
     ///
     /// # Errors
-    /// `Want` where memory runs out.
-    pub fn fractional(&self, alloc: Global) -> Result<Option<Split>, Stop> {
+    /// `Miss` where a sum has a column that isn't that of a term; `Want` where memory runs out.
+    pub fn fractional(&self, alloc: Global) -> Result<Option<Split>, Stop>
+        ensures fraction { IfOk result (λ found. IfSome found (λ split. IsFraction (columns_of self.now) (values_of self.now) split.value)) }
+        ensures whole { IfOk result (λ found. IfNone found (AreWhole (columns_of self.now) (values_of self.now))) }
+    {
         split_of(alloc, &self.columns, &self.values)
     }
 }

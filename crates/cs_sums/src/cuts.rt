@@ -2,9 +2,9 @@
 
 use crate::columns::{Columns, Named, Origin};
 use crate::constraints::Constraint;
-use crate::stop::{Stop, floor, quotient, whole};
+use crate::stop::{Stop, quotient, whole};
 use crate::sum::{Sum, primitive};
-use crate::values::{Split, parts_of};
+use crate::values::{Split, parts_of, split_at};
 use cs_farkas::Numbers;
 use cs_linear::Entry;
 use std::alloc::Global;
@@ -105,9 +105,6 @@ pub fn cut_of(alloc: Global, columns: &Columns, all: &[Taken]) -> Result<Option<
     if least.den() == 1 {
         return Ok(None);
     }
-    Ok(Some(Split {
-        parts: parts_of(alloc, columns, &entries)?,
-        floor: floor(least)?,
-        low: unit.num() < 0,
-    }))
+    let parts = parts_of(alloc, columns, &entries)?;
+    Ok(Some(split_at(parts, least, unit.num() < 0)))
 }

@@ -39,7 +39,7 @@ fn tight(alloc: Global, columns: &Columns, limits: &Limits) -> Result<Vec<bool>,
 /// The next whole number at a value or above it; of Real the value.
 fn above(numbers: Numbers, value: Frac) -> Result<Frac, Stop> {
     match numbers {
-        Numbers::Int => turned(whole(floor(turned(value)?)?)),
+        Numbers::Int => turned(whole(floor(turned(value)?))),
         Numbers::Real => Ok(value),
     }
 }
@@ -47,7 +47,7 @@ fn above(numbers: Numbers, value: Frac) -> Result<Frac, Stop> {
 /// The next whole number at a value or below it; of Real the value.
 fn below(numbers: Numbers, value: Frac) -> Result<Frac, Stop> {
     match numbers {
-        Numbers::Int => Ok(whole(floor(value)?)),
+        Numbers::Int => Ok(whole(floor(value))),
         Numbers::Real => Ok(value),
     }
 }

@@ -1,4 +1,6 @@
 //! Why a call ends early, and quotients of fractions.
+ghost use Rattle.vx_frac.specs.Fraction.{fraction};
+ghost use Rattle.cs_sums.specs.Between.{IsFloor};
 
 use cs_linear::Undecided;
 use std::alloc::{AllocError, AllocFailed};
@@ -116,12 +118,8 @@ pub fn quotient(a: Frac, b: Frac) -> Result<Frac, Stop> {
 }
 
 /// The greatest whole number that is at most a fraction.
-///
-/// # Errors
-/// `Miss` where there is none.
-pub fn floor(a: Frac) -> Result<i128, Stop> {
-    match a.num().checked_div_euclid(a.den()) {
-        Some(number) => Ok(number),
-        None => Err(Stop::Miss),
-    }
+pub fn floor(a: Frac) -> i128
+    ensures { IsFloor result (fraction a) }
+{
+    a.num().div_euclid(a.den())
 }

@@ -1,5 +1,9 @@
 //! Values of columns: a number for the small one that bounds are beyond.
-ghost use Rattle.std.specs.Prelude.{◌≡◌, ◌<◌};
+ghost use Rattle.std.specs.Prelude.{◌≡◌, ◌<◌, ℕ, IfOk, IfSome, IfNone};
+ghost use Rattle.vx_frac.specs.Fraction.{fraction};
+ghost use Rattle.vx_frac.specs.declared.Frac.{Frac};
+ghost use Rattle.cs_sums.specs.Between.{LiesBetween};
+ghost use Rattle.cs_sums.specs.Fractional.{IsFractional, IsFractionAt, IsFraction, AreWhole};
 
 use crate::columns::{Columns, Named, Origin};
 use crate::stop::{Stop, floor, quotient, whole};
@@ -8,13 +12,15 @@ use cs_linear::{Bound, Entry, Side, Tableau, Value};
 use std::alloc::Global;
 use vx_frac::Frac;
 
-/// A sum of Int terms, each with a factor, which is at most a whole number or at least the next, and whether the first of
-/// the two is to be tried first.
+/// A sum of Int terms, each with a factor, which is at most a whole number or at least the next; a value between the two that
+/// it can't have; and whether the first of the two is to be tried first.
 #[derive(Drop)]
 pub struct Split {
     pub parts: Vec<(u32, i128)>,
+    pub value: Frac,
     pub floor: i128,
     pub low: bool,
+    ghost between: { LiesBetween floor (fraction value) },
 }
 
 /// The value of a column.
@@ -103,7 +109,10 @@ pub fn parts_of(
 }
 
 /// The value of a column, if it is one of Int and no whole number.
-fn fraction_at(columns: &Columns, values: &[Frac], column: u32) -> Option<Frac> {
+fn fraction_at(columns: &Columns, values: &[Frac], column: u32) -> Option<Frac>
+    ensures found { IfSome result (λ value. IsFractionAt columns.now.columns.items values.now column value) }
+    ensures whole { IfNone result ((value : Frac) → ¬ (IsFractionAt columns.now.columns.items values.now column value)) }
+{
     let of = columns.columns.get(column as usize)?;
     let value = *values.get(column as usize)?;
     match of.numbers {
@@ -112,20 +121,35 @@ fn fraction_at(columns: &Columns, values: &[Frac], column: u32) -> Option<Frac> 
     }
 }
 
-/// The split of a sum whose value lies strictly between a number and the next: nearer to 0 first.
-fn between(parts: Vec<(u32, i128)>, floor: i128) -> Split {
+/// The split of a sum at a value that is no whole number.
+#[tactic(auto, using(crate::proofs::Floors::parts_it))]
+pub fn split_at(parts: Vec<(u32, i128)>, value: Frac, low: bool) -> Split
+    requires { IsFractional (fraction value) }
+    ensures { result.value ≡ value }
+{
     Split {
         parts,
-        floor,
-        low: floor >= 0,
+        value,
+        floor: floor(value),
+        low,
     }
 }
 
+/// The split of a sum at its value, which is no whole number: nearer to 0 first.
+fn between(parts: Vec<(u32, i128)>, value: Frac) -> Split
+    requires { IsFractional (fraction value) }
+    ensures { result.value ≡ value }
+{
+    split_at(parts, value, value.num() >= 0)
+}
+
 /// The first sum whose value is no whole number, though it is of Int.
-fn split_of_sum(alloc: Global, columns: &Columns, values: &[Frac]) -> Result<Option<Split>, Stop> {
+fn split_of_sum(alloc: Global, columns: &Columns, values: &[Frac]) -> Result<Option<Split>, Stop>
+    ensures { IfOk result (λ found. IfSome found (λ split. IsFraction columns.now.columns.items values.now split.value)) }
+{
     for Named { entries, column } in &columns.sums {
         if let Some(value) = fraction_at(columns, values, *column) {
-            return Ok(Some(between(parts_of(alloc, columns, entries)?, floor(value)?)));
+            return Ok(Some(between(parts_of(alloc, columns, entries)?, value)));
         }
     }
     Ok(None)
@@ -140,11 +164,14 @@ fn alone(alloc: Global, columns: &Columns, column: u32) -> Result<Vec<(u32, i128
     parts_of(alloc, columns, &[entry])
 }
 
-/// A sum or else a term of Int whose value is no whole number.
+/// A sum or else a term of Int whose value is no whole number, if there is one.
 ///
 /// # Errors
-/// `Want` where memory runs out.
-pub fn split_of(alloc: Global, columns: &Columns, values: &[Frac]) -> Result<Option<Split>, Stop> {
+/// `Miss` where a sum has a column that isn't that of a term; `Want` where memory runs out.
+pub fn split_of(alloc: Global, columns: &Columns, values: &[Frac]) -> Result<Option<Split>, Stop>
+    ensures fraction { IfOk result (λ found. IfSome found (λ split. IsFraction columns.now.columns.items values.now split.value)) }
+    ensures whole { IfOk result (λ found. IfNone found (AreWhole columns.now.columns.items values.now)) }
+{
     if let Some(split) = split_of_sum(alloc, columns, values)? {
         return Ok(Some(split));
     }
@@ -153,7 +180,7 @@ pub fn split_of(alloc: Global, columns: &Columns, values: &[Frac]) -> Result<Opt
     };
     for column in 0..width {
         if let Some(value) = fraction_at(columns, values, column) {
-            return Ok(Some(between(alone(alloc, columns, column)?, floor(value)?)));
+            return Ok(Some(between(alone(alloc, columns, column)?, value)));
         }
     }
     Ok(None)

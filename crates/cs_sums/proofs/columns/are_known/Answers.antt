@@ -1,4 +1,4 @@
-use Rattle.std.proofs.Common.{◌<◌, ◌≤◌, List, length, subst, arith}
+use Rattle.std.proofs.Common.{◌<◌, ◌≤◌, List, length, subst}
 use Rattle.std.specs.List.{All}
 use Rattle.std.proofs.lemmas.List.{take_all}
 use Rattle.cs_linear.specs.declared.rows.Entry.{Entry}

@@ -1,0 +1,31 @@
+-- Values of Int columns that are no whole numbers.
+use Rattle.std.specs.Prelude.{◌≡◌, ◌≢◌, ◌<◌, ℕ, pos, List, Some, slice_get}
+use Rattle.vx_frac.specs.declared.Frac.{Frac}
+use Rattle.vx_frac.specs.Fraction.{fraction}
+use Rattle.vx_frac.specs.Fractions.{Fraction, denominator}
+use Rattle.cs_farkas.specs.declared.Numbers.TheVariants.{Int}
+use Rattle.cs_sums.specs.declared.columns.Column.{Column}
+
+-- no whole number
+abbrev pub IsFractional : Fraction → Type 0
+IsFractional value = denominator value ≢ pos 1
+
+-- the column is of Int, and this is its value, which is no whole number
+pub record IsFractionAt (columns : List Column) (values : List Frac) (at : ℕ) (value : Frac) : Type 0 where
+  pub column : Column
+  pub found : slice_get columns at ≡ Some column
+  pub int : column.numbers ≡ Int
+  pub here : slice_get values at ≡ Some value
+  pub fractional : IsFractional (fraction value)
+
+-- the value of some Int column, which is no whole number
+abbrev pub IsFraction : List Column → List Frac → Frac → Type 0
+IsFraction columns values value = (at : ℕ) × IsFractionAt columns values at value
+
+-- none of the Int columns before the n-th has such a value
+abbrev pub AreWholeBefore : ℕ → List Column → List Frac → Type 0
+AreWholeBefore n columns values = (at : ℕ) → at < n → (value : Frac) → ¬ IsFractionAt columns values at value
+
+-- the values of all Int columns are whole numbers
+abbrev pub AreWhole : List Column → List Frac → Type 0
+AreWhole columns values = (at : ℕ) (value : Frac) → ¬ IsFractionAt columns values at value
