@@ -252,6 +252,7 @@ pub fn round(alloc: Global, search: &mut Search, meter: &mut Meter) -> Result<Tu
     ensures learns { OnOk result (Learns search.old.clauses.items search.old.steps.items search.new.clauses.items search.new.steps.items) }
     ensures width { OnOk result (length search.new.made.values.items ≡ length search.old.made.values.items) }
     ensures round { IfOk result (λ r. IsRound search.new.clauses.items search.old.made.values.items search.new.made.values.items meter.old meter.new r) }
+    ensures spent { meter.old.spent ≤ meter.new.spent }
 {
     match spread(alloc, search)? {
         Some(conflict) => match latest(search) {
@@ -281,6 +282,7 @@ pub fn solve(alloc: Global, search: &mut Search, meter: &mut Meter) -> Result<So
     ensures sound { OnOk result (IsReady search.new) }
     ensures learns { OnOk result (Learns search.old.clauses.items search.old.steps.items search.new.clauses.items search.new.steps.items) }
     ensures solved { IfOk result (IsSolved search.new.clauses.items search.new.made.values.items) }
+    ensures spent { meter.old.spent ≤ meter.new.spent }
     ensures budget { IfErr result (λ e. e ≡ Undecided.Budget → meter.new.spent ≡ limit) }
 {
     loop {

@@ -1,4 +1,5 @@
-use Rattle.std.proofs.Common.{length, refl, ◌∙◌}
+use Rattle.std.proofs.Common.{length, refl, ◌∙◌, arith}
+use Rattle.std.proofs.Math.Nat.{le_trans}
 use Rattle.cs_search.specs.declared.search.Turn.TheVariants.{On}
 use Rattle.cs_search.specs.Search.{learns_none}
 use Rattle.cs_search.proofs.Learns.{learns_twice}
@@ -6,7 +7,7 @@ use Rattle.cs_search.proofs.Rounds.{measure_on, round_at}
 use Rattle.cs_search.proofs.search.solve.Goals as goal
 
 pub loop-e-init : goal.loop-e-init
-loop-e-init c = record { sound = c.requires.sound; learns = learns_none; width = refl }
+loop-e-init c = record { sound = c.requires.sound; learns = learns_none; width = refl; spent = omega arith }
 
 pub loop-e-preserved : goal.loop-e-preserved
 loop-e-preserved c =
@@ -16,6 +17,7 @@ loop-e-preserved c =
       sound = now.sound;
       learns = learns_twice _ _ _ _ _ _ was.learns now.learns;
       width = now.width ∙ was.width;
+      spent = le_trans was.spent now.spent;
     }
 
 pub loop-e-smaller : goal.loop-e-smaller

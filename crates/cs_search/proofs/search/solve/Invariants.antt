@@ -1,4 +1,4 @@
-use Rattle.std.proofs.Common.{◌≡◌, ◌+◌, ◌*◌, ◌-◌, length}
+use Rattle.std.proofs.Common.{◌≡◌, ◌≤◌, ◌+◌, ◌*◌, ◌-◌, length}
 use Rattle.cs_meter.specs.Units.{limit}
 use Rattle.cs_search.specs.Extended.{unset_count}
 use Rattle.cs_search.specs.Search.{IsReady, Learns}
@@ -9,6 +9,7 @@ invariant-loop-e l = record {
   sound : IsReady l.search;
   learns : Learns l.initial.search.clauses.items l.initial.search.steps.items l.search.clauses.items l.search.steps.items;
   width : length l.search.made.values.items ≡ length l.initial.search.made.values.items;
+  spent : l.initial.meter.spent ≤ l.meter.spent;
 }
 
 abbrev pub decreases-loop-e : goal.decreases-loop-e
