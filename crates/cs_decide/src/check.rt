@@ -1,10 +1,11 @@
 //! The turns of a check, and its answer.
-ghost use Rattle.std.specs.Prelude.{IsTrue, IfOk, IfSome, IfNone, OnOk, length};
+ghost use Rattle.std.specs.Prelude.{◌<◌, ◌≤◌, IsTrue, IfOk, IfSome, IfNone, OnOk, length};
 ghost use Rattle.vx_terms.specs.Interpretations.{Each};
 ghost use Rattle.cs_numbers.specs.Laws.{IsSorted};
 ghost use Rattle.cs_proof.specs.Fits.{seen};
 ghost use Rattle.cs_search.specs.Assignment.{FalseBefore, IsFalse};
 ghost use Rattle.cs_search.specs.Search.{IsReady, AreSatisfied};
+ghost use Rattle.cs_decide.specs.Spent.{SpendsOnCases};
 ghost use Rattle.cs_decide.specs.Answers.{IsRefutation, IsSatisfaction, IsCaused, IsRight};
 
 use crate::answer::{Answer, Cause};
@@ -14,7 +15,7 @@ use crate::forced::reasons;
 use crate::judging::{certified, evaluated, stopped};
 use crate::model::model_of;
 use crate::nonlinear::misread;
-use cs_meter::{LIMIT, Meter};
+use cs_meter::Meter;
 use cs_proof::{Stack, Want};
 use cs_record::assembly::assembled;
 use cs_record::atoms::Atoms;
@@ -180,12 +181,10 @@ impl Check {
     }
 
     /// What the numbers lead to.
-    fn examine(
-        &mut self,
-        alloc: Global,
-        values: &[Value],
-        meter: &mut Meter,
-    ) -> Result<Found, Stop> {
+    fn examine(&mut self, alloc: Global, values: &[Value], meter: &mut Meter) -> Result<Found, Stop>
+        ensures spent { meter.old.spent ≤ meter.new.spent }
+        ensures cases { IfOk result (SpendsOnCases meter.old.spent meter.new.spent) }
+    {
         self.figures.examine(
             alloc,
             &mut self.record,
@@ -242,6 +241,7 @@ fn take_lemma(
     requires satisfied { AreSatisfied search.old.clauses.items search.old.made.values.items }
     ensures answered { IfOk result (λ found. IfSome found (IsRight (seen stack.now))) }
     ensures ready { IfOk result (λ found. IfNone found (IsReady search.new)) }
+    ensures spends { IfOk result (λ found. IfNone found (meter.old.spent < meter.new.spent)) }
 {
     let literals = check.atoms.literals(alloc, &lemma.literals)?;
     if let Some(reasons) = reasons(alloc, search, &literals)? {
@@ -300,6 +300,7 @@ fn figured(
     requires satisfied { AreSatisfied search.old.clauses.items search.old.made.values.items }
     ensures answered { IfOk result (λ found. IfSome found (IsRight (seen stack.now))) }
     ensures ready { IfOk result (λ found. IfNone found (IsReady search.new)) }
+    ensures spends { IfOk result (λ found. IfNone found (meter.old.spent < meter.new.spent)) }
 {
     match check.examine(alloc, &search.made.values, meter)? {
         Found::Lemma(lemma) => take_lemma(alloc, stack, check, search, &lemma, meter),
@@ -323,6 +324,7 @@ fn assigned(
     requires satisfied { AreSatisfied search.old.clauses.items search.old.made.values.items }
     ensures answered { IfOk result (λ found. IfSome found (IsRight (seen stack.now))) }
     ensures ready { IfOk result (λ found. IfNone found (IsReady search.new)) }
+    ensures spends { IfOk result (λ found. IfNone found (meter.old.spent < meter.new.spent)) }
 {
     check.tell(alloc, search)?;
     check
@@ -348,6 +350,7 @@ fn turn(
     requires sound { IsReady search.old }
     ensures answered { IfOk result (λ found. IfSome found (IsRight (seen stack.now))) }
     ensures ready { IfOk result (λ found. IfNone found (IsReady search.new)) }
+    ensures spends { IfOk result (λ found. IfNone found (meter.old.spent < meter.new.spent)) }
 {
     if search.made.values.len() >= 1 << 32 {
         return Err(Stop::Want);
@@ -366,7 +369,7 @@ fn turn(
     }
 }
 
-/// Turn by turn, up to an answer. Each turn that goes on has spent a unit.
+/// Turn by turn, up to an answer. Each turn that goes on has spent a unit, so the units end the turns.
 fn run(
     alloc: Global,
     stack: &Stack,
@@ -377,12 +380,11 @@ fn run(
     requires { IsReady search.old }
     ensures { IfOk result (IsRight (seen stack.now)) }
 {
-    for _ in 0..=LIMIT {
+    loop {
         if let Some(answer) = turn(alloc, stack, check, search, meter)? {
             return Ok(answer);
         }
     }
-    Err(Stop::Budget)
 }
 
 /// Decides the assertions of a stack, or stops.

@@ -1,4 +1,6 @@
 //! What an assignment claims of numbers: whether it can be, and the values that meet it.
+ghost use Rattle.std.specs.Prelude.{◌+◌, ◌<◌, ◌≤◌, ◌≡◌, IfOk, OnOk};
+ghost use Rattle.cs_decide.specs.Spent.{SpendsOnCases};
 
 use crate::clashes::clash;
 use crate::elements::Sources;
@@ -167,7 +169,9 @@ impl Figures {
         record: &Record,
         claims: &Claims,
         meter: &mut Meter,
-    ) -> Result<Option<Contradiction>, Stop> {
+    ) -> Result<Option<Contradiction>, Stop>
+        ensures { meter.old.spent ≤ meter.new.spent }
+    {
         for _ in 0..=self.terms.len() {
             if let Some(found) = self.arithmetic.check(alloc, meter)? {
                 return Ok(Some(found));
@@ -242,7 +246,10 @@ impl Figures {
         values: &[Value],
         claims: &Claims,
         meter: &mut Meter,
-    ) -> Result<Found, Stop> {
+    ) -> Result<Found, Stop>
+        ensures spent { meter.old.spent ≤ meter.new.spent }
+        ensures cases { IfOk result (SpendsOnCases meter.old.spent meter.new.spent) }
+    {
         if let Some(shares) = self.claim(alloc, atoms, values)? {
             let lemma = refutation_of(alloc, record, claims, &shares)?;
             return Ok(Found::Lemma(lemma));
@@ -257,7 +264,10 @@ impl Figures {
     }
 
     /// Spends the units of a clause of cases.
-    fn tell(&mut self, meter: &mut Meter, cases: Cases) -> Result<Found, Stop> {
+    fn tell(&mut self, meter: &mut Meter, cases: Cases) -> Result<Found, Stop>
+        ensures spent { meter.old.spent ≤ meter.new.spent }
+        ensures cases { IfOk result (SpendsOnCases meter.old.spent meter.new.spent) }
+    {
         spend(meter, self.told / 16)?;
         self.told = self.told.saturating_add(1);
         Ok(Found::Cases(cases))
@@ -272,7 +282,10 @@ impl Figures {
         claims: &Claims,
         meter: &mut Meter,
         found: &Contradiction,
-    ) -> Result<Found, Stop> {
+    ) -> Result<Found, Stop>
+        ensures spent { meter.old.spent ≤ meter.new.spent }
+        ensures cases { IfOk result (SpendsOnCases meter.old.spent meter.new.spent) }
+    {
         if let Some(split) = &found.cut {
             let cases = split_by(alloc, record, split)?;
             if cases
@@ -308,8 +321,11 @@ fn told_apart(alloc: Global, record: &mut Record, a: u32, b: u32) -> Result<Case
 }
 
 /// Spends a unit and so many more.
-fn spend(meter: &mut Meter, more: u32) -> Result<(), Stop> {
-    for _ in 0..=more {
+fn spend(meter: &mut Meter, more: u32) -> Result<(), Stop>
+    ensures spent { OnOk result (meter.new.spent ≡ meter.old.spent + more + 1) }
+    ensures kept { meter.old.spent ≤ meter.new.spent }
+{
+    for _unit in 0..=more {
         if let Err(Budget) = meter.spend() {
             return Err(Stop::Budget);
         }
