@@ -18,10 +18,6 @@ pub record IsFractionAt (columns : List Column) (values : List Frac) (at : ℕ) 
   pub here : slice_get values at ≡ Some value
   pub fractional : IsFractional (fraction value)
 
--- the value of some Int column, which is no whole number
-abbrev pub IsFraction : List Column → List Frac → Frac → Type 0
-IsFraction columns values value = (at : ℕ) × IsFractionAt columns values at value
-
 -- none of the Int columns before the n-th has such a value
 abbrev pub AreWholeBefore : ℕ → List Column → List Frac → Type 0
 AreWholeBefore n columns values = (at : ℕ) → at < n → (value : Frac) → ¬ IsFractionAt columns values at value

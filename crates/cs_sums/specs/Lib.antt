@@ -1,3 +1,5 @@
 pub mod Between
 pub mod Fractional
+pub mod Parts
+pub mod Splits
 pub mod Shown

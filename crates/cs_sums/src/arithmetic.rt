@@ -1,6 +1,7 @@
 //! What is claimed of numbers, whether it can be, and values that meet it.
 ghost use Rattle.std.specs.Prelude.{◌≤◌, IfOk, IfSome, IfNone};
-ghost use Rattle.cs_sums.specs.Fractional.{IsFraction, AreWhole};
+ghost use Rattle.cs_sums.specs.Fractional.{AreWhole};
+ghost use Rattle.cs_sums.specs.Splits.{IsSplit};
 ghost use Rattle.cs_sums.specs.Shown.{columns_of, values_of};
 
 use crate::columns::Columns;
@@ -366,13 +367,13 @@ impl Arithmetic {
         value_at(nodes, term, &self.columns, &self.values)
     }
 
-    /// A sum of Int terms whose value is no whole number, if there is one: the split is at this value.
+    /// A sum of Int terms, or one Int term, whose value is no whole number, if there is one: the split is at this value.
     ///
     /// # Errors
     /// `Miss` where a sum has a column that isn't that of a term; `Want` where memory runs out.
     pub fn fractional(&self, alloc: Global) -> Result<Option<Split>, Stop>
-        ensures fraction { IfOk result (λ found. IfSome found (λ split. IsFraction (columns_of self.now) (values_of self.now) split.value)) }
-        ensures whole { IfOk result (λ found. IfNone found (AreWhole (columns_of self.now) (values_of self.now))) }
+        ensures split { IfOk result (λ found. IfSome found (λ split. IsSplit (columns_of self.now) (values_of self.now) split.parts.items split.value)) }
+        ensures whole { IfOk result (λ found. IfNone found (AreWhole (columns_of self.now).columns.items (values_of self.now))) }
     {
         split_of(alloc, &self.columns, &self.values)
     }

@@ -1,5 +1,7 @@
 //! Why a call ends early, and quotients of fractions.
+ghost use Rattle.std.specs.Prelude.{◌≡◌};
 ghost use Rattle.vx_frac.specs.Fraction.{fraction};
+ghost use Rattle.vx_frac.specs.Fractions.{whole};
 ghost use Rattle.cs_sums.specs.Between.{IsFloor};
 
 use cs_linear::Undecided;
@@ -78,7 +80,10 @@ impl From<cs_table::Stop> for Stop {
 }
 
 /// A whole number as a fraction.
-pub fn whole(number: i128) -> Frac {
+#[tactic(auto, using(crate::proofs::Floors::lowest_whole))]
+pub fn whole(number: i128) -> Frac
+    ensures { fraction result ≡ whole number }
+{
     Frac::new(number, 1)
 }
 

@@ -1,11 +1,13 @@
 //! Values of columns: a number for the small one that bounds are beyond.
-ghost use Rattle.std.specs.Prelude.{◌≡◌, ◌<◌, ℕ, IfOk, IfSome, IfNone};
+ghost use Rattle.std.specs.Prelude.{◌≡◌, ◌<◌, ℕ, Some, IfOk, IfSome, IfNone, slice_get};
 ghost use Rattle.vx_frac.specs.Fraction.{fraction};
 ghost use Rattle.vx_frac.specs.declared.Frac.{Frac};
+ghost use Rattle.cs_sums.specs.Parts.{part_of, AreParts, IsAlone};
+ghost use Rattle.cs_sums.specs.Splits.{IsSplit};
 ghost use Rattle.cs_sums.specs.Between.{LiesBetween};
-ghost use Rattle.cs_sums.specs.Fractional.{IsFractional, IsFractionAt, IsFraction, AreWhole};
+ghost use Rattle.cs_sums.specs.Fractional.{IsFractional, IsFractionAt, AreWhole};
 
-use crate::columns::{Columns, Named, Origin};
+use crate::columns::{Columns, Origin};
 use crate::stop::{Stop, floor, quotient, whole};
 use cs_farkas::Numbers;
 use cs_linear::{Bound, Entry, Side, Tableau, Value};
@@ -82,7 +84,9 @@ pub fn values_of(alloc: Global, tableau: &Tableau, small: Frac) -> Result<Vec<Fr
 }
 
 /// A column of a term is a part of a split.
-fn part_of(columns: &Columns, entry: Entry) -> Result<(u32, i128), Stop> {
+fn part_of(columns: &Columns, entry: Entry) -> Result<(u32, i128), Stop>
+    ensures { IfOk result (λ part. part_of (slice_get columns.now.columns.items entry.column) entry ≡ Some part) }
+{
     let Some(column) = columns.columns.get(entry.column as usize) else {
         return Err(Stop::Miss);
     };
@@ -100,7 +104,9 @@ pub fn parts_of(
     alloc: Global,
     columns: &Columns,
     entries: &[Entry],
-) -> Result<Vec<(u32, i128)>, Stop> {
+) -> Result<Vec<(u32, i128)>, Stop>
+    ensures { IfOk result (λ parts. AreParts columns.now.columns.items entries.now parts.items) }
+{
     let mut parts = Vec::new(alloc);
     for entry in entries {
         parts.push(part_of(columns, *entry)?)?;
@@ -125,7 +131,8 @@ fn fraction_at(columns: &Columns, values: &[Frac], column: u32) -> Option<Frac>
 #[tactic(auto, using(crate::proofs::Floors::parts_it))]
 pub fn split_at(parts: Vec<(u32, i128)>, value: Frac, low: bool) -> Split
     requires { IsFractional (fraction value) }
-    ensures { result.value ≡ value }
+    ensures value { result.value ≡ value }
+    ensures parts { result.parts ≡ parts }
 {
     Split {
         parts,
@@ -138,25 +145,29 @@ pub fn split_at(parts: Vec<(u32, i128)>, value: Frac, low: bool) -> Split
 /// The split of a sum at its value, which is no whole number: nearer to 0 first.
 fn between(parts: Vec<(u32, i128)>, value: Frac) -> Split
     requires { IsFractional (fraction value) }
-    ensures { result.value ≡ value }
+    ensures value { result.value ≡ value }
+    ensures parts { result.parts ≡ parts }
 {
     split_at(parts, value, value.num() >= 0)
 }
 
 /// The first sum whose value is no whole number, though it is of Int.
 fn split_of_sum(alloc: Global, columns: &Columns, values: &[Frac]) -> Result<Option<Split>, Stop>
-    ensures { IfOk result (λ found. IfSome found (λ split. IsFraction columns.now.columns.items values.now split.value)) }
+    ensures { IfOk result (λ found. IfSome found (λ split. IsSplit columns.now values.now split.parts.items split.value)) }
 {
-    for Named { entries, column } in &columns.sums {
-        if let Some(value) = fraction_at(columns, values, *column) {
-            return Ok(Some(between(parts_of(alloc, columns, entries)?, value)));
+    for named in &columns.sums {
+        if let Some(value) = fraction_at(columns, values, named.column) {
+            let parts = parts_of(alloc, columns, &named.entries)?;
+            return Ok(Some(between(parts, value)));
         }
     }
     Ok(None)
 }
 
 /// A column as a sum of itself.
-fn alone(alloc: Global, columns: &Columns, column: u32) -> Result<Vec<(u32, i128)>, Stop> {
+fn alone(alloc: Global, columns: &Columns, column: u32) -> Result<Vec<(u32, i128)>, Stop>
+    ensures { IfOk result (λ parts. IsAlone columns.now.columns.items column parts.items) }
+{
     let entry = Entry {
         column,
         factor: whole(1),
@@ -169,7 +180,7 @@ fn alone(alloc: Global, columns: &Columns, column: u32) -> Result<Vec<(u32, i128
 /// # Errors
 /// `Miss` where a sum has a column that isn't that of a term; `Want` where memory runs out.
 pub fn split_of(alloc: Global, columns: &Columns, values: &[Frac]) -> Result<Option<Split>, Stop>
-    ensures fraction { IfOk result (λ found. IfSome found (λ split. IsFraction columns.now.columns.items values.now split.value)) }
+    ensures split { IfOk result (λ found. IfSome found (λ split. IsSplit columns.now values.now split.parts.items split.value)) }
     ensures whole { IfOk result (λ found. IfNone found (AreWhole columns.now.columns.items values.now)) }
 {
     if let Some(split) = split_of_sum(alloc, columns, values)? {
@@ -180,7 +191,8 @@ pub fn split_of(alloc: Global, columns: &Columns, values: &[Frac]) -> Result<Opt
     };
     for column in 0..width {
         if let Some(value) = fraction_at(columns, values, column) {
-            return Ok(Some(between(alone(alloc, columns, column)?, value)));
+            let parts = alone(alloc, columns, column)?;
+            return Ok(Some(between(parts, value)));
         }
     }
     Ok(None)

@@ -7,4 +7,4 @@ use Rattle.cs_sums.proofs.arithmetic.Arithmetic.fractional.Goals as goal
 
 pub returns-clause-whole : goal.returns-clause-whole
 returns-clause-whole c =
-    subst (λ (values : List Frac). IfOk c.split_of.result (λ found. IfNone found (AreWhole (columns_of c.args.self.now) values))) c.deref.ensures.value c.split_of.ensures.whole
+    subst (λ (values : List Frac). IfOk c.split_of.result (λ found. IfNone found (AreWhole (columns_of c.args.self.now).columns.items values))) c.deref.ensures.value c.split_of.ensures.whole
