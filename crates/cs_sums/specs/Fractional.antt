@@ -1,5 +1,5 @@
 -- Values of Int columns that are no whole numbers.
-use Rattle.std.specs.Prelude.{◌≡◌, ◌≢◌, ◌<◌, ℕ, pos, List, Some, slice_get}
+use Rattle.std.specs.Prelude.{◌≡◌, ◌≢◌, ℕ, pos, List, Some, slice_get}
 use Rattle.vx_frac.specs.declared.Frac.{Frac}
 use Rattle.vx_frac.specs.Fraction.{fraction}
 use Rattle.vx_frac.specs.Fractions.{Fraction, denominator}
@@ -17,11 +17,3 @@ pub record IsFractionAt (columns : List Column) (values : List Frac) (at : ℕ) 
   pub int : column.numbers ≡ Int
   pub here : slice_get values at ≡ Some value
   pub fractional : IsFractional (fraction value)
-
--- none of the Int columns before the n-th has such a value
-abbrev pub AreWholeBefore : ℕ → List Column → List Frac → Type 0
-AreWholeBefore n columns values = (at : ℕ) → at < n → (value : Frac) → ¬ IsFractionAt columns values at value
-
--- the values of all Int columns are whole numbers
-abbrev pub AreWhole : List Column → List Frac → Type 0
-AreWhole columns values = (at : ℕ) (value : Frac) → ¬ IsFractionAt columns values at value

@@ -12,6 +12,7 @@ abbrev pub part_of_origin : Origin → Entry → Option (ℕ × ℤ)
 part_of_origin (Term term) e = Some (term, (fraction e.factor).numerator)
 part_of_origin (Sum place) e = None
 
+-- none where there is no such column
 abbrev pub part_of : Option Column → Entry → Option (ℕ × ℤ)
 part_of (Some column) e = part_of_origin column.origin e
 part_of None e = None

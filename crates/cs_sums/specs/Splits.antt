@@ -10,5 +10,10 @@ pub record IsSplitAt (columns : Columns) (values : List Frac) (at : ℕ) (parts 
   pub fractional : IsFractionAt columns.columns.items values at value
   pub made : IsSumOf columns.columns.items columns.sums.items at parts ⊎ IsAlone columns.columns.items at parts
 
+-- for some Int column
 abbrev pub IsSplit : Columns → List Frac → List (ℕ × ℤ) → Frac → Type 0
 IsSplit columns values parts value = (at : ℕ) × IsSplitAt columns values at parts value
+
+-- the values of all Int columns are whole numbers
+abbrev pub AreWhole : Columns → List Frac → Type 0
+AreWhole columns values = (at : ℕ) (value : Frac) → ¬ IsFractionAt columns.columns.items values at value

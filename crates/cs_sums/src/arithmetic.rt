@@ -1,7 +1,6 @@
 //! What is claimed of numbers, whether it can be, and values that meet it.
 ghost use Rattle.std.specs.Prelude.{◌≤◌, IfOk, IfSome, IfNone};
-ghost use Rattle.cs_sums.specs.Fractional.{AreWhole};
-ghost use Rattle.cs_sums.specs.Splits.{IsSplit};
+ghost use Rattle.cs_sums.specs.Splits.{IsSplit, AreWhole};
 ghost use Rattle.cs_sums.specs.Shown.{columns_of, values_of};
 
 use crate::columns::Columns;
@@ -373,7 +372,7 @@ impl Arithmetic {
     /// `Miss` where a sum has a column that isn't that of a term; `Want` where memory runs out.
     pub fn fractional(&self, alloc: Global) -> Result<Option<Split>, Stop>
         ensures split { IfOk result (λ found. IfSome found (λ split. IsSplit (columns_of self.now) (values_of self.now) split.parts.items split.value)) }
-        ensures whole { IfOk result (λ found. IfNone found (AreWhole (columns_of self.now).columns.items (values_of self.now))) }
+        ensures whole { IfOk result (λ found. IfNone found (AreWhole (columns_of self.now) (values_of self.now))) }
     {
         split_of(alloc, &self.columns, &self.values)
     }

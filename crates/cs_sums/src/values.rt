@@ -3,9 +3,9 @@ ghost use Rattle.std.specs.Prelude.{◌≡◌, ◌<◌, ℕ, Some, IfOk, IfSome,
 ghost use Rattle.vx_frac.specs.Fraction.{fraction};
 ghost use Rattle.vx_frac.specs.declared.Frac.{Frac};
 ghost use Rattle.cs_sums.specs.Parts.{part_of, AreParts, IsAlone};
-ghost use Rattle.cs_sums.specs.Splits.{IsSplit};
+ghost use Rattle.cs_sums.specs.Splits.{IsSplit, AreWhole};
 ghost use Rattle.cs_sums.specs.Between.{LiesBetween};
-ghost use Rattle.cs_sums.specs.Fractional.{IsFractional, IsFractionAt, AreWhole};
+ghost use Rattle.cs_sums.specs.Fractional.{IsFractional, IsFractionAt};
 
 use crate::columns::{Columns, Origin};
 use crate::stop::{Stop, floor, quotient, whole};
@@ -181,7 +181,7 @@ fn alone(alloc: Global, columns: &Columns, column: u32) -> Result<Vec<(u32, i128
 /// `Miss` where a sum has a column that isn't that of a term; `Want` where memory runs out.
 pub fn split_of(alloc: Global, columns: &Columns, values: &[Frac]) -> Result<Option<Split>, Stop>
     ensures split { IfOk result (λ found. IfSome found (λ split. IsSplit columns.now values.now split.parts.items split.value)) }
-    ensures whole { IfOk result (λ found. IfNone found (AreWhole columns.now.columns.items values.now)) }
+    ensures whole { IfOk result (λ found. IfNone found (AreWhole columns.now values.now)) }
 {
     if let Some(split) = split_of_sum(alloc, columns, values)? {
         return Ok(Some(split));
