@@ -1,5 +1,5 @@
 //! What an assignment claims of numbers: whether it can be, and the values that meet it.
-ghost use Rattle.std.specs.Prelude.{◌+◌, ◌<◌, ◌≤◌, ◌≡◌, IfOk, OnOk};
+ghost use Rattle.std.specs.Prelude.{◌+◌, ◌/◌, ◌<◌, ◌≤◌, ◌≡◌, IfOk, OnOk};
 ghost use Rattle.cs_decide.specs.Spent.{SpendsOnCases};
 
 use crate::clashes::clash;
@@ -265,6 +265,7 @@ impl Figures {
 
     /// Spends the units of a clause of cases.
     fn tell(&mut self, meter: &mut Meter, cases: Cases) -> Result<Found, Stop>
+        ensures units { OnOk result (meter.new.spent ≡ meter.old.spent + self.old.told / 16 + 1) }
         ensures spent { meter.old.spent ≤ meter.new.spent }
         ensures cases { IfOk result (SpendsOnCases meter.old.spent meter.new.spent) }
     {
