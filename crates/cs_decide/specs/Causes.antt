@@ -1,18 +1,14 @@
 -- Why a check is undecided, and what is so then.
-use Rattle.std.specs.Prelude.{◌≡◌, ⊤, ℕ, pos, Bool, true, false, not, ◌&&◌, List, Option, Some, None, slice_get}
+use Rattle.std.specs.Prelude.{◌≡◌, ℕ, pos, Bool, true, false, not, ◌&&◌, List, Some, None, slice_get}
+use Rattle.std.specs.List.{list_any}
 use Rattle.std.specs.Ordering.{int_eq}
 use Rattle.vx_frac.specs.Fraction.{fraction}
-use Rattle.vx_terms.specs.Sorts.{Operator, Multiply, Div, Mod}
-use Rattle.vx_terms.specs.Terms.{Term, Number, Part, Binary}
-use Rattle.vx_terms.specs.Interpretations.{Each}
+use Rattle.vx_terms.specs.Sorts.{Sort, IntSort, RealSort, Operator, Multiply, Div, Mod}
+use Rattle.vx_terms.specs.Terms.{Term, Number, Part, Binary, sort_of}
 use Rattle.cs_calls.specs.Calls.{call_fits}
 use Rattle.cs_meter.specs.Units.{limit}
 use Rattle.cs_certificate.specs.Terms.{numbered}
-use Rattle.cs_certificate.specs.Certificate.{Stack, Step}
-use Rattle.cs_numbers.specs.Laws.{IsSorted}
-use Rattle.cs_reader.specs.declared.refusal.Refusal.{Refusal}
-use Rattle.cs_proof.specs.Answers.{Answers}
-use Rattle.cs_proof.specs.Checking.{Finished, refusal}
+use Rattle.cs_certificate.specs.Certificate.{Stack}
 use Rattle.cs_decide.specs.declared.answer.Cause.{Cause}
 use Rattle.cs_decide.specs.declared.answer.Cause.TheVariants as causes
 
@@ -41,19 +37,24 @@ is_nonlinear t = false
 abbrev pub is_nonlinear_at : List Term → ℕ → Bool
 is_nonlinear_at assertions n = elim (slice_get (numbered assertions) n) [ Some t ↦ is_nonlinear t | None ↦ false ]
 
--- the checker's answer to the steps is this refusal, and so they aren't finished
-abbrev pub AreRefused : Stack → List (Option Step) → Refusal → Type 0
-AreRefused stack steps r = Answers stack steps (refusal r) × (Answers stack steps Finished → ⊥)
+abbrev pub is_number_sort : Sort → Bool
+is_number_sort IntSort = true
+is_number_sort RealSort = true
+is_number_sort a = false
 
--- What is so where a check is undecided by a cause. Of Open and Miss nothing is told: no clause says when they come.
+-- of sort Int or Real
+abbrev pub is_number : Term → Bool
+is_number t = is_number_sort (sort_of t)
+
+-- an assertion, or a part of one, is
+abbrev pub has_number : List Term → Bool
+has_number assertions = list_any is_number (numbered assertions)
+
+-- What is so where a check is undecided by a cause. Without Int and Real it is the first.
 abbrev pub IsCause : Stack → Cause → Type 0
 -- all units of the check's meter are spent
 IsCause stack (causes.Budget meter) = meter.spent ≡ limit
--- the call leaves 128 bits
-IsCause stack (causes.Over call) = call_fits call.op (fraction call.a) (fraction call.b) ≡ false
--- the term of this number is nonlinear
-IsCause stack (causes.Nonlinear n) = is_nonlinear_at stack.assertions n ≡ true
--- the checker refuses some steps so, over well-sorted assertions
-IsCause stack (causes.Refused r) = Each IsSorted stack.assertions → (steps : List (Option Step)) × AreRefused stack steps r
-IsCause stack causes.Open = ⊤
-IsCause stack causes.Miss = ⊤
+-- there are numbers, and the call leaves 128 bits
+IsCause stack (causes.Over call) = (has_number stack.assertions ≡ true) × (call_fits call.op (fraction call.a) (fraction call.b) ≡ false)
+-- there are numbers, and the term of this number is nonlinear
+IsCause stack (causes.Nonlinear n) = (has_number stack.assertions ≡ true) × (is_nonlinear_at stack.assertions n ≡ true)

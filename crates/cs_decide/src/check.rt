@@ -1,22 +1,23 @@
-//! The turns of a check, and its answer.
-ghost use Rattle.std.specs.Prelude.{◌<◌, ◌≤◌, IsTrue, IfOk, IfSome, IfNone, OnOk, length};
+//! The turns of an attempt, and its answer.
+ghost use Rattle.std.specs.Prelude.{◌≡◌, ◌<◌, ◌≤◌, Err, IsTrue, IfOk, IfSome, IfNone, OnOk, length};
 ghost use Rattle.vx_terms.specs.Interpretations.{Each};
 ghost use Rattle.cs_numbers.specs.Laws.{IsSorted};
 ghost use Rattle.cs_proof.specs.Fits.{seen};
 ghost use Rattle.cs_search.specs.Assignment.{FalseBefore, IsFalse};
 ghost use Rattle.cs_search.specs.Search.{IsReady, AreSatisfied};
 ghost use Rattle.cs_decide.specs.Spent.{SpendsOnCases};
-ghost use Rattle.cs_decide.specs.Answers.{IsRefutation, IsSatisfaction, IsCaused, IsRight};
+ghost use Rattle.cs_decide.specs.Answers.{IsRight};
 
-use crate::answer::{Answer, Cause};
+use crate::answer::Answer;
 use crate::elements::Sources;
 use crate::figures::{Cases, Figures, Found};
 use crate::forced::reasons;
-use crate::judging::{certified, evaluated, stopped};
+use crate::judging::{certified, evaluated};
 use crate::model::model_of;
 use crate::nonlinear::misread;
+use cs_index::mix;
 use cs_meter::Meter;
-use cs_proof::{Stack, Want};
+use cs_proof::Stack;
 use cs_record::assembly::assembled;
 use cs_record::atoms::Atoms;
 use cs_record::claims::Claims;
@@ -242,13 +243,14 @@ fn take_lemma(
     ensures answered { IfOk result (λ found. IfSome found (IsRight (seen stack.now))) }
     ensures ready { IfOk result (λ found. IfNone found (IsReady search.new)) }
     ensures spends { IfOk result (λ found. IfNone found (meter.old.spent < meter.new.spent)) }
+    ensures kept { (result ≡ Err Stop.Want → ⊥) → meter.old.spent ≤ meter.new.spent }
 {
     let literals = check.atoms.literals(alloc, &lemma.literals)?;
     if let Some(reasons) = reasons(alloc, search, &literals)? {
         return Ok(Some(check.refuted_by(alloc, stack, &reasons, lemma.number)?));
     }
     if !are_false(&search.made, &literals) {
-        return Ok(Some(Answer::Unknown(Cause::Open)));
+        return Err(Stop::Miss);
     }
     match learn(search, Clause { literals }, meter) {
         Ok(()) => {
@@ -265,6 +267,21 @@ fn prefer(order: &mut Order, atom: u32, sign: bool) -> Result<(), Stop> {
     order.reach((atom as usize).saturating_add(1))?;
     if let Some(place) = order.signs.get_mut(atom as usize) {
         *place = sign;
+    }
+    Ok(())
+}
+
+/// The signs with which the first atoms are decided first, in a later attempt.
+fn prefer_others(order: &mut Order, count: u32, attempt: u32) -> Result<(), Stop> {
+    if attempt == 0 {
+        return Ok(());
+    }
+    for atom in 0..count {
+        prefer(
+            order,
+            atom,
+            mix(u64::from(attempt), u64::from(atom)) % 2 == 1,
+        )?;
     }
     Ok(())
 }
@@ -301,6 +318,7 @@ fn figured(
     ensures answered { IfOk result (λ found. IfSome found (IsRight (seen stack.now))) }
     ensures ready { IfOk result (λ found. IfNone found (IsReady search.new)) }
     ensures spends { IfOk result (λ found. IfNone found (meter.old.spent < meter.new.spent)) }
+    ensures kept { (result ≡ Err Stop.Want → ⊥) → meter.old.spent ≤ meter.new.spent }
 {
     match check.examine(alloc, &search.made.values, meter)? {
         Found::Lemma(lemma) => take_lemma(alloc, stack, check, search, &lemma, meter),
@@ -325,6 +343,7 @@ fn assigned(
     ensures answered { IfOk result (λ found. IfSome found (IsRight (seen stack.now))) }
     ensures ready { IfOk result (λ found. IfNone found (IsReady search.new)) }
     ensures spends { IfOk result (λ found. IfNone found (meter.old.spent < meter.new.spent)) }
+    ensures kept { (result ≡ Err Stop.Want → ⊥) → meter.old.spent ≤ meter.new.spent }
 {
     check.tell(alloc, search)?;
     check
@@ -351,6 +370,7 @@ fn turn(
     ensures answered { IfOk result (λ found. IfSome found (IsRight (seen stack.now))) }
     ensures ready { IfOk result (λ found. IfNone found (IsReady search.new)) }
     ensures spends { IfOk result (λ found. IfNone found (meter.old.spent < meter.new.spent)) }
+    ensures kept { (result ≡ Err Stop.Want → ⊥) → meter.old.spent ≤ meter.new.spent }
 {
     if search.made.values.len() >= 1 << 32 {
         return Err(Stop::Want);
@@ -378,7 +398,8 @@ fn run(
     meter: &mut Meter,
 ) -> Result<Answer, Stop>
     requires { IsReady search.old }
-    ensures { IfOk result (IsRight (seen stack.now)) }
+    ensures right { IfOk result (IsRight (seen stack.now)) }
+    ensures kept { (result ≡ Err Stop.Want → ⊥) → meter.old.spent ≤ meter.new.spent }
 {
     loop {
         if let Some(answer) = turn(alloc, stack, check, search, meter)? {
@@ -387,29 +408,18 @@ fn run(
     }
 }
 
-/// Decides the assertions of a stack, or stops.
-fn decided(alloc: Global, stack: &Stack, meter: &mut Meter) -> Result<Answer, Stop>
-    ensures { IfOk result (IsRight (seen stack.now)) }
+/// Decides the assertions of a stack by one attempt, or stops. A later attempt prefers other signs.
+pub fn decided(
+    alloc: Global,
+    stack: &Stack,
+    attempt: u32,
+    meter: &mut Meter,
+) -> Result<Answer, Stop>
+    ensures right { IfOk result (IsRight (seen stack.now)) }
+    ensures kept { (result ≡ Err Stop.Want → ⊥) → meter.old.spent ≤ meter.new.spent }
 {
     let (mut check, clauses) = Check::new(alloc, stack)?;
     let mut search = search_of(alloc, clauses)?;
+    prefer_others(&mut search.order, check.live, attempt)?;
     run(alloc, stack, &mut check, &mut search, meter)
-}
-
-/// Decides the assertions of a stack. Numbers have the rules of linear arithmetic; a product of two terms that aren't literals, and
-/// a quotient or a remainder by such a term, is a term as any other. What is answered is right.
-///
-/// # Errors
-/// `Want` where memory runs out.
-pub fn decide(alloc: Global, stack: &Stack) -> Result<Answer, Want>
-    // over well-sorted assertions
-    ensures refuted { Each IsSorted (seen stack.now).assertions → IfOk result (IsRefutation (seen stack.now)) }
-    ensures satisfied { IfOk result (IsSatisfaction (seen stack.now)) }
-    ensures caused { IfOk result (IsCaused (seen stack.now)) }
-{
-    let mut meter = Meter::new();
-    match decided(alloc, stack, &mut meter) {
-        Ok(answer) => Ok(answer),
-        Err(stop) => stopped(meter, stop),
-    }
 }

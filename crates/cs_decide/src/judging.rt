@@ -1,18 +1,18 @@
 //! What makes an answer: the checker finishes a certificate, an evaluation makes all assertions true, or a cause of an
 //! undecided check is looked at again.
-ghost use Rattle.std.specs.Prelude.{IfOk, IfErr, map};
+ghost use Rattle.std.specs.Prelude.{◌≡◌, IfOk, IfSome, OnOk, map};
 ghost use Rattle.vx_terms.specs.Interpretations.{Each};
-ghost use Rattle.cs_certificate.specs.Certificate as certificates;
 ghost use Rattle.cs_numbers.specs.Laws.{IsSorted};
 ghost use Rattle.cs_proof.specs.Answers.{Answers};
+ghost use Rattle.cs_certificate.specs.Certificate as certificates;
 ghost use Rattle.cs_proof.specs.Checking.{Finished};
 ghost use Rattle.cs_proof.specs.Fits.{seen};
 ghost use Rattle.cs_proof.specs.Views.{written};
-ghost use Rattle.cs_decide.specs.Causes.{AreRefused, IsCause};
+ghost use Rattle.cs_decide.specs.Causes.{IsCause};
 ghost use Rattle.cs_decide.specs.Answers.{IsRight};
 
 use crate::answer::{Answer, Cause};
-use crate::nonlinear::is_nonlinear_at;
+use crate::nonlinear::{has_number, is_nonlinear_at};
 use cs_calls::leaves;
 use cs_meter::{LIMIT, Meter};
 use cs_model::{Model, is_model};
@@ -25,8 +25,7 @@ use vx_smt_meaning::Declared;
 
 /// What the checker says of a certificate's steps.
 fn verdict(alloc: Global, stack: &Stack, steps: &[Step]) -> Result<Result<(), Refusal>, Stop>
-    ensures finished { IfOk result (λ told. Each IsSorted (seen stack.now).assertions → IfOk told (λ _. Answers (seen stack.now) (map written steps.now) Finished)) }
-    ensures refused { IfOk result (λ told. Each IsSorted (seen stack.now).assertions → IfErr told (AreRefused (seen stack.now) (map written steps.now))) }
+    ensures { IfOk result (λ told. Each IsSorted (seen stack.now).assertions → IfOk told (λ _. Answers (seen stack.now) (map written steps.now) Finished)) }
 {
     let declared: &[Declared] = &stack.symbols;
     let index = SymbolIndex::of(alloc, declared)?;
@@ -37,7 +36,10 @@ fn verdict(alloc: Global, stack: &Stack, steps: &[Step]) -> Result<Result<(), Re
     }
 }
 
-/// The steps refute the assertions where the checker finishes them; else they are undecided by its refusal.
+/// The steps refute the assertions where the checker finishes them.
+///
+/// # Errors
+/// `Miss` where it refuses them; `Over` where a fraction leaves 128 bits; `Want` where memory runs out.
 pub fn certified(alloc: Global, stack: &Stack, steps: Vec<Step>) -> Result<Answer, Stop>
     ensures { IfOk result (IsRight (seen stack.now)) }
 {
@@ -45,23 +47,30 @@ pub fn certified(alloc: Global, stack: &Stack, steps: Vec<Step>) -> Result<Answe
     match verdict(alloc, stack, &steps)? {
         Ok(()) => Ok(Answer::Refuted(steps)),
         Err(Refusal::Over(_, op, a, b)) => Err(Stop::Over(Over { op, a, b })),
-        Err(refusal) => Ok(Answer::Unknown(Cause::Refused(refusal))),
+        Err(_) => Err(Stop::Miss),
     }
 }
 
 /// Why a model isn't one: a term may be misread that is nonlinear.
+///
+/// # Errors
+/// `Miss` where there is no such term; `Want` where memory runs out.
 fn unmodelled(alloc: Global, stack: &Stack, misread: Option<u32>) -> Result<Cause, Stop>
     ensures { IfOk result (IsCause (seen stack.now)) }
 {
-    if let Some(number) = misread {
-        if is_nonlinear_at(alloc, &stack.assertions, number)? {
-            return Ok(Cause::Nonlinear(number));
-        }
+    let Some(number) = misread else {
+        return Err(Stop::Miss);
+    };
+    if is_nonlinear_at(alloc, &stack.assertions, number)? && has_number(alloc, &stack.assertions)? {
+        return Ok(Cause::Nonlinear(number));
     }
-    Ok(Cause::Open)
+    Err(Stop::Miss)
 }
 
-/// The model satisfies the assertions where each is true in it; else they are undecided, perhaps by a term that it misreads.
+/// The model satisfies the assertions where each is true in it; else they are undecided by a term that it misreads.
+///
+/// # Errors
+/// `Miss` where it is no model, and misreads no such term; `Over` where a fraction leaves 128 bits; `Want` where memory runs out.
 pub fn evaluated(
     alloc: Global,
     stack: &Stack,
@@ -78,39 +87,45 @@ pub fn evaluated(
     }
 }
 
-/// All units are spent, where the meter says so.
-fn by_budget(meter: Meter) -> Cause
-    ensures { (stack : certificates.Stack) → IsCause stack result }
+/// The cause of an attempt that took all units, where it did.
+fn by_budget(meter: &Meter) -> Result<Option<Cause>, Want>
+    ensures { (stack : certificates.Stack) → IfOk result (λ found. IfSome found (IsCause stack)) }
 {
     if meter.spent() == LIMIT {
-        Cause::Budget(meter)
+        Ok(Some(Cause::Budget(meter.clone()?)))
     } else {
-        Cause::Miss
+        Ok(None)
     }
 }
 
-/// A call leaves 128 bits, where it does so again.
-fn by_call(call: Over) -> Cause
-    ensures { (stack : certificates.Stack) → IsCause stack result }
+/// The cause of an attempt that met a call which leaves 128 bits, where it does so again, and there are numbers.
+fn by_call(alloc: Global, stack: &Stack, call: Over) -> Result<Option<Cause>, Want>
+    ensures { IfOk result (λ found. IfSome found (IsCause (seen stack.now))) }
 {
-    if leaves(call) {
-        Cause::Over(call)
+    if leaves(call) && has_number(alloc, &stack.assertions)? {
+        Ok(Some(Cause::Over(call)))
     } else {
-        Cause::Miss
+        Ok(None)
     }
 }
 
-/// The answer of a check that stopped.
+/// The cause of an attempt that stopped, if it has one.
 ///
 /// # Errors
-/// Want of memory has no answer.
-pub fn stopped(meter: Meter, stop: Stop) -> Result<Answer, Want>
-    ensures { (stack : certificates.Stack) → IfOk result (IsRight stack) }
+/// Want of memory is no cause.
+pub fn stopped(
+    alloc: Global,
+    stack: &Stack,
+    meter: &Meter,
+    stop: Stop,
+) -> Result<Option<Cause>, Want>
+    ensures cause { IfOk result (λ found. IfSome found (IsCause (seen stack.now))) }
+    ensures other { OnOk result (stop ≡ Stop.Want → ⊥) }
 {
     match stop {
-        Stop::Budget => Ok(Answer::Unknown(by_budget(meter))),
-        Stop::Over(call) => Ok(Answer::Unknown(by_call(call))),
-        Stop::Miss => Ok(Answer::Unknown(Cause::Miss)),
+        Stop::Budget => by_budget(meter),
+        Stop::Over(call) => by_call(alloc, stack, call),
+        Stop::Miss => Ok(None),
         Stop::Want => Err(Want),
     }
 }

@@ -3,6 +3,7 @@
 #![tactic(auto)]
 
 mod answer;
+mod attempts;
 mod check;
 mod clashes;
 mod elements;
@@ -13,4 +14,4 @@ mod model;
 mod nonlinear;
 
 pub use answer::{Answer, Cause};
-pub use check::decide;
+pub use attempts::decide;

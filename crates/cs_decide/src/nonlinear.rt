@@ -1,5 +1,6 @@
 //! Terms whose meaning linear arithmetic doesn't have.
 ghost use Rattle.std.specs.Prelude.{◌≡◌, map, IfOk};
+ghost use Rattle.std.specs.List.{list_any};
 ghost use Rattle.vx_terms.specs.Views.{operator, term};
 ghost use Rattle.cs_decide.specs.Causes as clean;
 
@@ -9,7 +10,7 @@ use cs_numbers::{number, numbers_are_given};
 use cs_sums::Stop;
 use std::alloc::{AllocError, Global};
 use std::rc::Rc;
-use vx_terms::{Operator, Term};
+use vx_terms::{Operator, Sort, Term};
 
 /// Whether the term is a literal.
 fn is_literal(t: &Term) -> bool
@@ -72,6 +73,40 @@ pub fn is_nonlinear_at(alloc: Global, assertions: &[Rc<Term>], at: u32) -> Resul
         Some(t) => Ok(is_nonlinear(t)),
         None => Ok(false),
     }
+}
+
+/// Whether a term is of sort Int or Real.
+fn is_number(t: &Term) -> Result<bool, AllocError>
+    ensures { IfOk result (λ b. b ≡ clean.is_number (term t.now)) }
+{
+    match t.sort()? {
+        Sort::Int | Sort::Real => Ok(true),
+        Sort::Bool | Sort::Ref | Sort::Snap | Sort::Other(_) => Ok(false),
+    }
+}
+
+/// Whether one of the terms is of sort Int or Real.
+fn has_number_among(terms: &[Rc<Term>]) -> Result<bool, AllocError>
+    ensures { IfOk result (λ b. b ≡ list_any clean.is_number (map (λ x. term x.value) terms.now)) }
+{
+    for t in terms {
+        if is_number(t)? {
+            return Ok(true);
+        }
+    }
+    Ok(false)
+}
+
+/// Whether an assertion, or a part of one, is of sort Int or Real.
+///
+/// # Errors
+/// Memory runs out.
+pub fn has_number(alloc: Global, assertions: &[Rc<Term>]) -> Result<bool, AllocError>
+    ensures { IfOk result (λ b. b ≡ clean.has_number (map (λ x. term x.value) assertions.now)) }
+{
+    numbers_are_given();
+    let numbered = number(alloc, assertions)?;
+    has_number_among(&numbered.terms)
 }
 
 /// Whether a model makes another element of a term than the sources.

@@ -4,7 +4,7 @@ use crate::names::Names;
 use crate::reading::{term_of, word_of};
 use cs_decide::{Answer, Cause, decide};
 use cs_proof::Stack;
-use cs_reader::{Refusal, Stop};
+use cs_reader::Stop;
 use std::alloc::{AllocError, Global};
 use std::rc::Rc;
 use vx_sexp::{Kind, Sexp, SexpFault, Token, read};
@@ -168,28 +168,11 @@ fn echo(name: &Token, out: &mut String) -> Result<(), Stop> {
     Ok(())
 }
 
-fn refusal_text(alloc: Global, refusal: Refusal) -> Result<String, AllocError> {
-    match refusal {
-        Refusal::BadStep(step) => format!(in alloc; "C1 {step}"),
-        Refusal::Over(step, _, _, _) => format!(in alloc; "C2 {step}"),
-        Refusal::NotEmpty => String::from_str(alloc, "C3"),
-        Refusal::BadForm(step) => format!(in alloc; "C4 {step}"),
-    }
-}
-
 fn cause_text(alloc: Global, cause: &Cause) -> Result<String, AllocError> {
     match cause {
         Cause::Budget(_) => String::from_str(alloc, "unknown, all units are spent"),
         Cause::Over(_) => String::from_str(alloc, "unknown, a fraction leaves 128 bits"),
         Cause::Nonlinear(term) => format!(in alloc; "unknown, term {term} is not linear"),
-        Cause::Refused(refusal) => {
-            format!(in alloc;
-                "unknown, the checker refuses: {}",
-                refusal_text(alloc, *refusal)?
-            )
-        }
-        Cause::Open => String::from_str(alloc, "unknown, no model was made"),
-        Cause::Miss => String::from_str(alloc, "unknown, a step misses its rule"),
     }
 }
 

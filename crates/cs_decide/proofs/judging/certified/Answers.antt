@@ -1,24 +1,17 @@
-use Rattle.std.proofs.Common.{map, IfOk, IfErr, subst}
+use Rattle.std.proofs.Common.{map, IfOk, subst}
 use Rattle.cs_proof.specs.Answers.{Answers}
 use Rattle.cs_proof.specs.Checking.{Finished}
 use Rattle.cs_proof.specs.Fits.{seen}
 use Rattle.cs_proof.specs.Views.{written}
-use Rattle.cs_decide.specs.Causes.{AreRefused}
 use Rattle.cs_decide.proofs.judging.certified.Goals as goal
 
 pub returns-in-Ok : goal.returns-in-Ok
 returns-in-Ok c =
     let stack = seen c.args.stack.now in (
       λ sorted.
-          let told = subst (λ r. IfOk r (λ _. Answers stack (map written c.deref.result.now) Finished)) c.in-Ok.is (c.in_ok-verdict.ensures.finished sorted) in
+          let told = subst (λ r. IfOk r (λ _. Answers stack (map written c.deref.result.now) Finished)) c.in-Ok.is (c.in_ok-verdict.ensures sorted) in
           let finished = subst (λ ss. Answers stack (map written ss) Finished) c.deref.ensures.value told in
           (finished, c.finished_refutes.ensures.refuted stack _ finished),
       tt,
       tt,
     )
-
-pub returns : goal.returns
-returns c =
-    let stack = seen c.args.stack.now in
-    let steps = map written c.deref.result.now in
-    (λ sorted. tt, tt, λ sorted. (steps, subst (λ r. IfErr r (AreRefused stack steps)) c.in-Err.is (c.in_ok-verdict.ensures.refused sorted)))

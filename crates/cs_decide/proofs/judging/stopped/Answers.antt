@@ -1,7 +1,5 @@
+use Rattle.cs_proof.specs.Fits.{seen}
 use Rattle.cs_decide.proofs.judging.stopped.Goals as goal
 
-pub returns-in-Budget : goal.returns-in-Budget
-returns-in-Budget c = λ stack. (λ sorted. tt, tt, c.by_budget.ensures stack)
-
-pub returns-in-Over : goal.returns-in-Over
-returns-in-Over c = λ stack. (λ sorted. tt, tt, c.by_call.ensures stack)
+pub returns-in-Budget-clause-cause : goal.returns-in-Budget-clause-cause
+returns-in-Budget-clause-cause c = c.by_budget.ensures (seen c.args.stack.now)

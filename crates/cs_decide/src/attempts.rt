@@ -1,0 +1,82 @@
+//! Attempts: where one ends with nothing that can be shown, another one prefers other signs. Each further attempt takes units,
+//! so at last all are spent.
+ghost use Rattle.std.specs.Prelude.{◌≡◌, ◌<◌, ◌≤◌, Err, IfOk, IfSome, OnOk, OnErr};
+ghost use Rattle.vx_terms.specs.Interpretations.{Each};
+ghost use Rattle.cs_meter.specs.Units.{limit};
+ghost use Rattle.cs_numbers.specs.Laws.{IsSorted};
+ghost use Rattle.cs_proof.specs.Fits.{seen};
+ghost use Rattle.cs_decide.specs.Answers.{IsRefutation, IsSatisfaction, IsCaused, IsRight};
+
+use crate::answer::{Answer, Cause};
+use crate::check::decided;
+use crate::judging::stopped;
+use cs_meter::{Budget, Meter};
+use cs_proof::{Stack, Want};
+use std::alloc::Global;
+
+/// So many units the first further attempt takes, and each one so many more than the one before it.
+const PRICE: u32 = 1_000;
+
+/// Takes the units of a further attempt: at least one.
+///
+/// # Errors
+/// `Budget` where too few are left: all are spent then.
+fn pay(meter: &mut Meter, attempt: u32) -> Result<(), Budget>
+    ensures paid { OnOk result (meter.old.spent < meter.new.spent) }
+    ensures spent { OnErr result (meter.new.spent ≡ limit) }
+{
+    for _unit in 0..=attempt.saturating_mul(PRICE) {
+        meter.spend()?;
+    }
+    Ok(())
+}
+
+/// One attempt: an answer, or none where another one may find one.
+fn attempted(
+    alloc: Global,
+    stack: &Stack,
+    attempt: u32,
+    meter: &mut Meter,
+) -> Result<Option<Answer>, Want>
+    ensures right { IfOk result (λ found. IfSome found (IsRight (seen stack.now))) }
+    ensures kept { OnOk result (meter.old.spent ≤ meter.new.spent) }
+{
+    match decided(alloc, stack, attempt, meter) {
+        Ok(answer) => Ok(Some(answer)),
+        Err(stop) => match stopped(alloc, stack, meter, stop)? {
+            Some(cause) => Ok(Some(Answer::Unknown(cause))),
+            None => Ok(None),
+        },
+    }
+}
+
+/// The answer, by as many attempts as there are units for.
+fn answered(alloc: Global, stack: &Stack) -> Result<Answer, Want>
+    ensures { IfOk result (IsRight (seen stack.now)) }
+{
+    let mut meter = Meter::new();
+    let mut attempt: u32 = 0;
+    loop {
+        if let Some(answer) = attempted(alloc, stack, attempt, &mut meter)? {
+            return Ok(answer);
+        }
+        attempt = attempt.saturating_add(1);
+        if let Err(Budget) = pay(&mut meter, attempt) {
+            return Ok(Answer::Unknown(Cause::Budget(meter)));
+        }
+    }
+}
+
+/// Decides the assertions of a stack. Numbers have the rules of linear arithmetic; a product of two terms that aren't literals, and
+/// a quotient or a remainder by such a term, is a term as any other. What is answered is right.
+///
+/// # Errors
+/// `Want` where memory runs out.
+pub fn decide(alloc: Global, stack: &Stack) -> Result<Answer, Want>
+    // over well-sorted assertions
+    ensures refuted { Each IsSorted (seen stack.now).assertions → IfOk result (IsRefutation (seen stack.now)) }
+    ensures satisfied { IfOk result (IsSatisfaction (seen stack.now)) }
+    ensures caused { IfOk result (IsCaused (seen stack.now)) }
+{
+    answered(alloc, stack)
+}
