@@ -1,0 +1,3 @@
+pub mod Items
+pub mod Claims
+pub mod Laws
