@@ -1,3 +1,4 @@
 pub mod Items
 pub mod Claims
 pub mod Laws
+pub mod Worked

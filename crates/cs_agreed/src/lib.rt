@@ -2,10 +2,16 @@
 #![tactic(auto)]
 
 ghost use Rattle.cs_agreed.specs.Laws.{KeptClaimsAgree, KeptClaimsMakeModels};
+ghost use Rattle.cs_agreed.specs.Worked.{Worked};
 
 /// An assignment whose claims are kept, with the classes that they make, agrees with the rows of Bool terms and with congruence. So
 /// assertions without numbers that it makes true have a model.
 pub fn kept_claims_agree()
     ensures agree { KeptClaimsAgree }
     ensures models { KeptClaimsMakeModels }
+{}
+
+/// The claims of `p` and `f(p) = a` meet all that the law asks, and the two are true.
+pub fn worked_claims()
+    ensures { Worked }
 {}
