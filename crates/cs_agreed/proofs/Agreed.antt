@@ -18,7 +18,7 @@ use Rattle.cs_classes.proofs.Rows.{true_is, false_is}
 use Rattle.cs_classes.proofs.Numbered.{whole}
 use Rattle.cs_classes.proofs.Laws as laws
 use Rattle.cs_agreed.specs.Claims.{IsSaid, IsDenied, IsClaimed, IsValued, IsUsed, application, argument, IsKept}
-use Rattle.cs_agreed.specs.Laws.{KeptClaimsAgree, KeptClaimsMakeModels}
+use Rattle.cs_agreed.specs.Laws.{KeptClaimsAgree, KeptClaimsAssign, KeptClaimsMakeModels}
 
 -- ---- sorts and elements
 bool_or_not : (a : Sort) → (a ≡ BoolSort) ⊎ ¬ (a ≡ BoolSort)
@@ -187,15 +187,17 @@ agree terms all applied claims s w is = record {
   congruent = same_calls terms all applied claims s w is;
 }
 
-all_sorted : (ts : List Term) → Each (λ t. HasSort t BoolSort) ts → Each IsSorted ts
+pub all_sorted : (ts : List Term) → Each (λ t. HasSort t BoolSort) ts → Each IsSorted ts
 all_sorted [] h = tt
 all_sorted (t ∷ ts) h = ((BoolSort, h.0), all_sorted ts h.1)
 
+pub assigned : KeptClaimsAssign
+assigned assertions terms applied claims s is = record {
+  sorted = is.sorted;
+  no_number = is.no_number;
+  agrees = agree terms (numbered assertions) applied claims s (whole assertions (all_sorted assertions is.sorted)) is.kept;
+  asserted = is.asserted;
+}
+
 pub models : KeptClaimsMakeModels
-models assertions terms applied claims s sorted plain is truths =
-    laws.models assertions s record {
-      sorted = sorted;
-      no_number = plain;
-      agrees = agree terms (numbered assertions) applied claims s (whole assertions (all_sorted assertions sorted)) is;
-      asserted = truths;
-    }
+models assertions terms applied claims s is = laws.models assertions s (assigned assertions terms applied claims s is)

@@ -1,5 +1,5 @@
 -- The worked example meets what the law asks.
-use Rattle.std.proofs.Common.{◌≡◌, inl, inr, ℕ, zero, suc, true, ◌&&◌, nat_eq, List, [], ◌∷◌, map, Some, refl, sym, ◌∙◌, ap, subst, eqb-true}
+use Rattle.std.proofs.Common.{◌≡◌, inl, inr, ℕ, zero, suc, true, false, ◌&&◌, nat_eq, List, [], ◌∷◌, map, Some, refl, sym, ◌∙◌, ap, subst, eqb-true}
 use Rattle.vx_terms.specs.Sorts.{Sort, IntSort, BoolSort, RealSort, RefSort, Symbol, Function, Equal}
 use Rattle.vx_terms.specs.Terms.{Term, Constant, Apply, Binary, Ite, Terms, NoTerms, MoreTerms, sort_of}
 use Rattle.vx_terms.specs.Formed.{Formed, constant as formed_constant, applies, binary, no_terms, more_terms}
@@ -11,8 +11,9 @@ use Rattle.cs_numbers.proofs.Numbered.{Distinct, distinct_added}
 use Rattle.cs_cong.specs.declared.congruent.Applied.{Applied}
 use Rattle.cs_cong.specs.Joined.{is_claimed, Joined, claimed, itself, turned, joined, congruent, AreKept}
 use Rattle.cs_classes.specs.Agreement.{HasNoNumber}
-use Rattle.cs_agreed.specs.Items.{AreItems, HasOneForm}
+use Rattle.cs_agreed.specs.Items.{AreHeads, HaveOneHead, one_term, HasLiterals, AreItems, HasOneForm}
 use Rattle.cs_agreed.specs.Claims.{IsSaid, IsValued, IsUsed, application, argument, AreClaimed, AreClasses, IsKept}
+use Rattle.cs_agreed.specs.Laws.{IsKeptOf}
 use Rattle.cs_agreed.specs.Worked.{condition, call, constant, assertions, terms, claims, AreRows, truth_of, class_of, assignment, Worked}
 use Rattle.cs_agreed.proofs.Agreed.{models}
 
@@ -271,8 +272,27 @@ no_number t (suc (suc zero), e) h = plain RefSort (λ k. cc) (λ k. cc) (subst (
 no_number t (suc (suc (suc zero)), e) h = plain RefSort (λ k. cc) (λ k. cc) (subst (λ u. IsNumberSort (sort_of u)) (sym (some_is e)) h)
 no_number t (suc (suc (suc (suc n))), e) h = cc
 
+kept_of : (applied : List Applied) → AreRows applied → IsKeptOf assertions terms applied claims assignment
+kept_of applied r = record { sorted = ((0, condition_sorted), ((0, equality_sorted), tt)); no_number = no_number; kept = met applied r; asserted = (refl, (refl, tt)) }
+
+literals : HasLiterals terms
+literals true = (4, refl)
+literals false = (5, refl)
+
+heads : (applied : List Applied) → AreRows applied → AreHeads terms applied
+heads applied r m n x y p q e = subst (HaveOneHead terms m) (sym (head_is applied r m x p) ∙ e ∙ head_is applied r n y q) (one_term m)
+
 pub worked : Worked
 worked applied r = record {
-  kept = met applied r;
-  model = models assertions terms applied claims assignment ((0, condition_sorted), ((0, equality_sorted), tt)) no_number (met applied r) (refl, (refl, tt));
+  ready = record {
+    sorted = (kept_of applied r).sorted;
+    no_number = no_number;
+    form = form;
+    numbers = (met applied r).numbers;
+    literals = literals;
+    items = stand applied r;
+    heads = heads applied r;
+  };
+  kept = kept_of applied r;
+  model = models assertions terms applied claims assignment (kept_of applied r);
 }

@@ -1,7 +1,7 @@
 -- Numbered terms, and the items that stand for their applications.
-use Rattle.std.specs.Prelude.{◌≡◌, ℕ, List}
+use Rattle.std.specs.Prelude.{◌≡◌, ℕ, Bool, List}
 use Rattle.vx_terms.specs.Sorts.{Sort, Symbol}
-use Rattle.vx_terms.specs.Terms.{Term, Constant, Apply, Terms, NoTerms}
+use Rattle.vx_terms.specs.Terms.{Term, Truth, Constant, Apply, Terms, NoTerms}
 use Rattle.cs_certificate.specs.Terms.{items}
 use Rattle.cs_certificate.specs.Certificate.{At, AllAt, Contains}
 use Rattle.cs_cong.specs.declared.congruent.Applied.{Applied}
@@ -20,3 +20,16 @@ pub record AreItems (terms : List Term) (applied : List Applied) : Type 0 where
 -- no symbol stands both alone and on no arguments
 abbrev pub HasOneForm : List Term → Type 0
 HasOneForm all = (f : Symbol) (a : Sort) → Contains all (Constant f a) → Contains all (Apply f a NoTerms) → ⊥
+
+-- two terms are one, or applications of one symbol and sort
+pub data HaveOneHead (terms : List Term) : ℕ → ℕ → Type 0 where
+  one_term : (n : ℕ) → HaveOneHead terms n n
+  one_symbol : (m n : ℕ) (f : Symbol) (a : Sort) (ts us : Terms) → At terms m (Apply f a ts) → At terms n (Apply f a us) → HaveOneHead terms m n
+
+-- items have one head only where their terms have
+abbrev pub AreHeads : List Term → List Applied → Type 0
+AreHeads terms applied = (m n : ℕ) (x y : Applied) → At applied m x → At applied n y → x.head ≡ y.head → HaveOneHead terms m n
+
+-- `true` and `false` have numbers
+abbrev pub HasLiterals : List Term → Type 0
+HasLiterals terms = (b : Bool) → Contains terms (Truth b)

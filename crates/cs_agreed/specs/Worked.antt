@@ -8,7 +8,8 @@ use Rattle.cs_cong.specs.declared.congruent.Applied.{Applied}
 use Rattle.cs_cong.specs.declared.congruent.Claim.{Claim}
 use Rattle.cs_classes.specs.Elements.{Assignment}
 use Rattle.cs_classes.specs.Models.{interpretation_of}
-use Rattle.cs_agreed.specs.Claims.{IsKept}
+use Rattle.cs_agreed.specs.Laws.{IsKeptOf}
+use Rattle.cs_agreed.specs.Truths.{AreReady}
 
 -- p is Bool, f of it and a aren't
 abbrev pub condition : Term
@@ -52,9 +53,10 @@ class_of _ = 3
 abbrev pub assignment : Assignment
 assignment = record { truth = truth_of; class = class_of }
 
--- all that the law asks is met, and the assertions are true
+-- all that the laws ask is met, and the assertions are true
 pub record IsMet (applied : List Applied) : Type 0 where
-  pub kept : IsKept terms (numbered assertions) applied claims assignment
+  pub ready : AreReady assertions terms applied
+  pub kept : IsKeptOf assertions terms applied claims assignment
   pub model : AllTrue (interpretation_of (numbered assertions) assignment) assertions
 
 abbrev pub Worked : Type 0
