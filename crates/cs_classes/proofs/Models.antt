@@ -104,7 +104,7 @@ module _ (all : List Term) (i : Interpretation) (whole : IsWhole all) (plain : H
       let one : value i t ≡ value i u = call_value i p ∙ ap (λ es. as_sort a (i.functions f a es)) given ∙ sym (call_value i q) in
       ap (λ b. element_at (assigned i all) b t) (call_sort p) ∙ one_element a t u one ∙ ap (λ b. element_at (assigned i all) b u) (sym (call_sort q))
 
-  one_value : (x y : Term) → Contains all x → Contains all y → place_of i all (value i x) ≡ place_of i all (value i y) → value i x ≡ value i y
+  pub one_value : (x y : Term) → Contains all x → Contains all y → place_of i all (value i x) ≡ place_of i all (value i y) → value i x ≡ value i y
   one_value x y c d e = sym (placed i all x c) ∙ ap (value_at i all) e ∙ placed i all y d
 
   pub agrees : Agrees all (assigned i all)

@@ -1,0 +1,4 @@
+pub mod Agreed
+pub mod Truths
+pub mod Exactly
+pub mod Worked
