@@ -1,0 +1,73 @@
+-- The laws of cases in certificates.
+use Rattle.std.specs.Prelude.{ℕ, List, [], ◌∷◌, ◌++◌, map}
+use Rattle.vx_terms.specs.Terms.{Term}
+use Rattle.vx_terms.specs.Interpretations.{Each}
+use Rattle.cs_certificate.specs.Certificate.{Literal, Yes, negated, Clause, Step, Stack, State, start, Contains, LeavesNone, Derives, Leads, IsFinished}
+use Rattle.cs_cong.specs.declared.congruent.Applied.{Applied}
+use Rattle.cs_cong.specs.declared.congruent.Claim.{Claim}
+use Rattle.cs_cong.specs.declared.explain.Chain.{Chain}
+use Rattle.cs_cong.specs.declared.explain.Derived.{Derived}
+use Rattle.cs_cong.specs.Explained.{Explains}
+use Rattle.cs_explained.specs.Matched.{StandFor, IsEqualityOf, AreEquated}
+use Rattle.cs_explained.specs.Refuted.{AreSorted, AreDenied, with_clauses, Follow}
+use Rattle.cs_cases.specs.Cases.{IsAtom, AreAtoms, IsPropagation, Gives, IsClosed, Closes, LeavesAtMost, AreDecided}
+
+-- ---- clauses that are to be had
+-- a clause of the state
+abbrev pub StandingIsGiven : Type 0
+StandingIsGiven = (stack : Stack) (s : State) (c : Clause) → Contains s.clauses c → Gives stack s c
+
+-- what a step derives, whatever further clauses there are
+abbrev pub DerivedIsGiven : Type 0
+DerivedIsGiven = (stack : Stack) (s : State) (c : Clause) → ((more : List Clause) → (step : Step) × Derives stack (with_clauses s more) step c) → Gives stack s c
+
+-- what a step derives that isn't a propagation
+abbrev pub StepIsGiven : Type 0
+StepIsGiven = (stack : Stack) (s : State) (step : Step) (c : Clause) → ¬ (IsPropagation step) → Derives stack s step c → Gives stack s c
+
+-- what follows by the steps of explanations
+abbrev pub FollowingIsGiven : Type 0
+FollowingIsGiven = (stack : Stack) (s : State) (c : Clause) → ((more : List Clause) → (steps : List Derived) × Follow stack (with_clauses s more) steps c) → Gives stack s c
+
+-- where claims explain an equality, the clause that denies what they say or has the equality
+abbrev pub ExplainedIsGiven : Type 0
+ExplainedIsGiven = (stack : Stack) (s : State) (applied : List Applied) (claims : List Claim) (a b : ℕ) (explained : Chain) (c : Clause) (e : Term) → AreSorted s → StandFor applied s.terms →
+    AreEquated s claims explained.claims.items explained.steps.items → Explains applied claims a b explained → AreDenied s claims explained.claims.items c → IsEqualityOf s a b e → Gives stack s (c ++ Yes e ∷ [])
+
+-- ---- what closes
+-- what denies a clause that is to be had
+abbrev pub DeniedCloses : Type 0
+DeniedCloses = (stack : Stack) (s : State) (assumed : List Literal) (c : Clause) → Gives stack s c → LeavesNone assumed c → Closes stack s assumed
+
+-- what closes with a literal and with its negation
+abbrev pub BothClose : Type 0
+BothClose = (stack : Stack) (s : State) (assumed : List Literal) (l : Literal) → AreAtoms s.terms assumed → Closes stack s (assumed ++ l ∷ []) → Closes stack s (assumed ++ negated l ∷ []) → Closes stack s assumed
+
+-- what closes with a literal that a clause forces
+abbrev pub ForcedCloses : Type 0
+ForcedCloses = (stack : Stack) (s : State) (assumed : List Literal) (c : Clause) (l : Literal) → AreAtoms s.terms assumed → Gives stack s c → LeavesAtMost assumed c l → Closes stack s (assumed ++ l ∷ []) → Closes stack s assumed
+
+-- what closes with each assignment of some terms
+abbrev pub AllCasesClose : Type 0
+AllCasesClose = (stack : Stack) (s : State) (assumed : List Literal) (ts : List Term) → AreAtoms s.terms assumed → Each (IsAtom s.terms) ts → ((ls : List Literal) → AreDecided ts ls → Closes stack s (assumed ++ ls)) → Closes stack s assumed
+
+-- what has all literals of what closes
+abbrev pub MoreAssumedCloses : Type 0
+MoreAssumedCloses = (stack : Stack) (s : State) (assumed more : List Literal) → Each (Contains more) assumed → Closes stack s assumed → Closes stack s more
+
+-- ---- what follows
+-- what closes does so behind further clauses
+abbrev pub MoreClausesClose : Type 0
+MoreClausesClose = (stack : Stack) (s : State) (assumed : List Literal) (cs : List Clause) → Closes stack s assumed → Closes stack (with_clauses s cs) assumed
+
+-- what closes does so behind none
+abbrev pub ClosesNow : Type 0
+ClosesNow = (stack : Stack) (s : State) (assumed : List Literal) → Closes stack s assumed → IsClosed stack s assumed
+
+-- where assumptions close, the clause that denies one of them is to be had
+abbrev pub ClosedIsGiven : Type 0
+ClosedIsGiven = (stack : Stack) (s : State) (assumed : List Literal) → AreAtoms s.terms assumed → Closes stack s assumed → Gives stack s (map negated assumed)
+
+-- where steps lead to a state in which nothing assumed closes, they are the first ones of steps that are finished
+abbrev pub ClosedFinishes : Type 0
+ClosedFinishes = (stack : Stack) (steps : List Step) (s : State) → Leads stack (start stack) steps s → IsClosed stack s [] → (more : List Step) × IsFinished stack (steps ++ more)
