@@ -23,7 +23,7 @@ held_back (y ∷ xs) ys x h = let w = held_back xs ys x h in (suc w.0, w.1)
 pub held_last : {A : Type 0} (xs : List A) (x : A) → Contains (xs ++ x ∷ []) x
 held_last xs x = held_back xs (x ∷ []) x (0, refl)
 
-held_split : {A : Type 0} (xs : List A) (y x : A) → Contains (xs ++ y ∷ []) x → Contains xs x ⊎ (y ≡ x)
+pub held_split : {A : Type 0} (xs : List A) (y x : A) → Contains (xs ++ y ∷ []) x → Contains xs x ⊎ (y ≡ x)
 held_split [] y x (zero, e) = inr (some_is e)
 held_split [] y x (suc n, e) = absurd (nothing_held x (n, e))
 held_split (z ∷ xs) y x (zero, e) = inl (zero, e)

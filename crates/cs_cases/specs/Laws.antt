@@ -1,5 +1,5 @@
 -- The laws of cases in certificates.
-use Rattle.std.specs.Prelude.{ℕ, List, [], ◌∷◌, ◌++◌, map}
+use Rattle.std.specs.Prelude.{◌≡◌, ℕ, true, List, [], ◌∷◌, ◌++◌, map}
 use Rattle.vx_terms.specs.Terms.{Term}
 use Rattle.vx_terms.specs.Interpretations.{Each}
 use Rattle.cs_certificate.specs.Certificate.{Literal, Yes, negated, Clause, Step, Stack, State, start, Contains, LeavesNone, Derives, Leads, IsFinished}
@@ -10,7 +10,11 @@ use Rattle.cs_cong.specs.declared.explain.Derived.{Derived}
 use Rattle.cs_cong.specs.Explained.{Explains}
 use Rattle.cs_explained.specs.Matched.{StandFor, IsEqualityOf, AreEquated}
 use Rattle.cs_explained.specs.Refuted.{AreSorted, AreDenied, with_clauses, Follow}
-use Rattle.cs_cases.specs.Cases.{IsAtom, AreAtoms, IsPropagation, Gives, IsClosed, Closes, LeavesAtMost, AreDecided}
+use Rattle.cs_classes.specs.Elements.{Assignment}
+use Rattle.cs_classes.specs.Agreement.{holds}
+use Rattle.cs_cases.specs.Cases.{IsAtom, term_of, AreAtoms, IsPropagation, Gives, IsClosed, Closes, LeavesAtMost, AreDecided}
+use Rattle.cs_cases.specs.Forced.{IsForced}
+use Rattle.cs_cases.specs.Assigned.{IsOver, IsRefuted}
 
 -- ---- clauses that are to be had
 -- a clause of the state
@@ -71,3 +75,26 @@ ClosedIsGiven = (stack : Stack) (s : State) (assumed : List Literal) → AreAtom
 -- where steps lead to a state in which nothing assumed closes, they are the first ones of steps that are finished
 abbrev pub ClosedFinishes : Type 0
 ClosedFinishes = (stack : Stack) (steps : List Step) (s : State) → Leads stack (start stack) steps s → IsClosed stack s [] → (more : List Step) × IsFinished stack (steps ++ more)
+
+-- ---- what clauses force
+-- what is forced may be assumed
+abbrev pub ForcedMayBeAssumed : Type 0
+ForcedMayBeAssumed = (stack : Stack) (s : State) (assumed : List Literal) (l : Literal) → AreAtoms s.terms assumed → IsForced stack s assumed l → Closes stack s (assumed ++ l ∷ []) → Closes stack s assumed
+
+-- where the negations of all literals of a clause are forced, what is assumed closes
+abbrev pub PropagationCloses : Type 0
+PropagationCloses = (stack : Stack) (s : State) (assumed : List Literal) (c : Clause) → AreAtoms s.terms assumed → Gives stack s c → Each (λ m. IsForced stack s assumed (negated m)) c → Closes stack s assumed
+
+-- ---- assignments
+-- where the Bool terms that have no rows are assumed as an assignment says, what it says of the others is forced
+abbrev pub AssignmentForces : Type 0
+AssignmentForces = (stack : Stack) (s : State) (v : Assignment) (assumed : List Literal) (l : Literal) → IsOver s.terms v assumed → IsAtom s.terms (term_of l) → holds v l ≡ true → IsForced stack s assumed l
+
+-- where it makes a clause false that is to be had, what is assumed closes
+abbrev pub RefutedCloses : Type 0
+RefutedCloses = (stack : Stack) (s : State) (assumed : List Literal) → AreAtoms s.terms assumed → IsRefuted stack s assumed → Closes stack s assumed
+
+-- where each assignment of some terms is refuted, the steps to the state are the first ones of steps that are finished
+abbrev pub RefutedFinishes : Type 0
+RefutedFinishes = (stack : Stack) (steps : List Step) (s : State) (ts : List Term) → Leads stack (start stack) steps s → Each (IsAtom s.terms) ts → ((ls : List Literal) → AreDecided ts ls → IsRefuted stack s ls) →
+    (more : List Step) × IsFinished stack (steps ++ more)

@@ -1,7 +1,7 @@
 //! Refutations of cases, put together into one certificate.
 #![tactic(auto)]
 
-ghost use Rattle.cs_cases.specs.Laws.{StandingIsGiven, DerivedIsGiven, StepIsGiven, FollowingIsGiven, ExplainedIsGiven, DeniedCloses, BothClose, ForcedCloses, AllCasesClose, MoreAssumedCloses, MoreClausesClose, ClosesNow, ClosedIsGiven, ClosedFinishes};
+ghost use Rattle.cs_cases.specs.Laws.{StandingIsGiven, DerivedIsGiven, StepIsGiven, FollowingIsGiven, ExplainedIsGiven, DeniedCloses, BothClose, ForcedCloses, AllCasesClose, MoreAssumedCloses, MoreClausesClose, ClosesNow, ClosedIsGiven, ClosedFinishes, ForcedMayBeAssumed, PropagationCloses, AssignmentForces, RefutedCloses, RefutedFinishes};
 ghost use Rattle.cs_cases.specs.Worked.{WorkedCloses, WorkedFinishes};
 
 /// What stands, what a step derives, and what claims explain is to be had behind any further clauses.
@@ -29,6 +29,20 @@ pub fn closed_cases_finish()
     ensures now { ClosesNow }
     ensures given { ClosedIsGiven }
     ensures finishes { ClosedFinishes }
+{}
+
+/// What clauses force may be assumed, and where the negations of all literals of a clause are forced, what is assumed closes.
+pub fn propagation_closes()
+    ensures forced { ForcedMayBeAssumed }
+    ensures closes { PropagationCloses }
+{}
+
+/// Where the Bool terms that have no rows are assumed as an assignment says, what it says of the others is forced; so where each
+/// assignment of some terms makes a clause false that is to be had, steps are finished.
+pub fn refuted_assignments_finish()
+    ensures forces { AssignmentForces }
+    ensures closes { RefutedCloses }
+    ensures finishes { RefutedFinishes }
 {}
 
 /// Four clauses over two constants close by cases, and a certificate of theirs is finished.
