@@ -10,7 +10,7 @@ use Rattle.cs_explained.specs.Refuted.{AreDenied, none_named, one_named, with_cl
 use Rattle.cs_explained.proofs.Equalities.{moved}
 use Rattle.cs_explained.proofs.Refuted.{explained_refutes}
 use Rattle.cs_cases.specs.Cases.{IsPropagation, IsGiven}
-use Rattle.cs_cases.specs.Laws.{StandingIsGiven, DerivedIsGiven, StepIsGiven, FollowingIsGiven, ExplainedIsGiven}
+use Rattle.cs_cases.specs.Laws.{StandingIsGiven, DerivedIsGiven, StepIsGiven, FollowingIsGiven, ExplainedIsGiven, MoreClausesGive}
 use Rattle.cs_cases.proofs.Lists.{held_front, held_back, held_last}
 
 -- ---- steps
@@ -112,3 +112,7 @@ explained_is_given stack s applied claims a b explained c e sorted stand are x d
           (equated_moved s (with_clauses s more) claims explained.claims.items explained.steps.items refl are) x
           (denied_moved s (with_clauses s more) claims refl denied) (moved s (with_clauses s more) a b e refl q),
     ))
+
+-- ---- further clauses
+pub more_clauses_give : MoreClausesGive
+more_clauses_give stack s c cs h more = subst (λ l. IsGiven stack (record s { clauses = l }) c) (sym (append_assoc s.clauses cs more)) (h (cs ++ more))

@@ -5,4 +5,5 @@ pub mod Finished
 pub mod Forced
 pub mod Rows
 pub mod Assigned
+pub mod Evaluated
 pub mod Worked

@@ -1,11 +1,18 @@
 -- The worked stack closes by cases.
-use Rattle.std.proofs.Common.{inl, inr, ℕ, List, [], ◌∷◌, ◌++◌, refl}
-use Rattle.vx_terms.specs.Sorts.{BoolSort, Function}
+use Rattle.std.proofs.Common.{◌≡◌, false, inl, inr, ℕ, List, [], ◌∷◌, ◌++◌, refl}
+use Rattle.vx_terms.specs.Sorts.{BoolSort, Function, Or}
 use Rattle.vx_terms.specs.Terms.{Term, Not}
-use Rattle.vx_terms.specs.Formed.{Formed, constant, nots}
+use Rattle.vx_terms.specs.Formed.{Formed, constant, nots, binary}
+use Rattle.vx_terms.specs.Interpretations.{Each}
 use Rattle.cs_certificate.specs.Certificate.{Literal, Yes, No, State, start, At, Contains, LeavesNone, input, define, not-0, or-all, or-of-two, stays}
 use Rattle.cs_cases.specs.Cases.{IsAtom, AreAtoms, Gives, Closes, AreDecided, none_decided, yes_decided, no_decided}
-use Rattle.cs_cases.specs.Worked.{p, q, either, stack, WorkedCloses, WorkedFinishes}
+use Rattle.cs_cases.specs.Worked.{p, q, either, stack, WorkedCloses, WorkedFinishes, WorkedFree, WorkedFalsified}
+use Rattle.cs_certificate.proofs.Clauses.{each_at}
+use Rattle.cs_numbers.specs.Laws.{IsSorted, of_assertions}
+use Rattle.cs_numbers.proofs.Tables.{ready}
+use Rattle.cs_classes.specs.Agreement.{satisfies}
+use Rattle.cs_cases.specs.Assigned.{HasNoRow}
+use Rattle.cs_cases.specs.Evaluated.{assigned, IsFalsified}
 use Rattle.cs_cases.proofs.Given.{step_is_given}
 use Rattle.cs_cases.proofs.Cases.{denied_closes, forced_closes, all_cases_close}
 use Rattle.cs_cases.proofs.Finished.{closes_now, closed_finishes}
@@ -72,3 +79,39 @@ closes = all_cases_close stack s [] (p ∷ q ∷ []) tt (atom_p, (atom_q, tt)) e
 
 pub finishes : WorkedFinishes
 finishes = closed_finishes stack [] s stays (closes_now stack s [] closes)
+
+-- ---- what it takes to go through all assignments
+abbrev IsOne : Term → Type 0
+IsOne t = HasNoRow t → Contains (p ∷ q ∷ []) t
+
+either_not_free : (x y : Term) → IsOne (either x y)
+either_not_free x y none = absurd (none 2 _ (or-all (or-of-two x y)))
+
+not_not_free : (x : Term) → IsOne (Not x)
+not_not_free x none = absurd (none 0 _ (not-0 x))
+
+pub free : WorkedFree
+free = record {
+  parted = (ready s.terms (of_assertions stack.assertions assertions_sorted)).closed;
+  atoms = (atom_p, (atom_q, tt));
+  every = λ t a none. each_at IsOne s.terms a.number t (
+    either_not_free p q,
+    ((λ h. (0, refl)), ((λ h. (1, refl)), (either_not_free p (Not q), (not_not_free q, (either_not_free (Not p) q, (not_not_free p, (either_not_free (Not p) (Not q), tt))))))),
+  ) a.here none;
+}
+  where
+    assertions_sorted : Each IsSorted stack.assertions
+    assertions_sorted = (
+      (BoolSort, (0, binary {o = Or} refl sorted_p sorted_q)),
+      ((BoolSort, (0, binary {o = Or} refl sorted_p (nots sorted_q))), ((BoolSort, (0, binary {o = Or} refl (nots sorted_p) sorted_q)), ((BoolSort, (0, binary {o = Or} refl (nots sorted_p) (nots sorted_q))), tt))),
+    )
+
+-- the assertion of this number is false
+false_at : (ls : List Literal) (m n : ℕ) (x y : Term) → At stack.assertions m (either x y) → At s.terms n (either x y) → Formed 0 x BoolSort → Formed 0 y BoolSort → satisfies (assigned ls) (Yes (either x y) ∷ []) ≡ false → IsFalsified stack s ls
+false_at ls m n x y said here f g e = record { clause = Yes (either x y) ∷ []; given = asserted m (either x y) said; atoms = (record { number = n; here = here; sorted = (0, binary {o = Or} refl f g) }, tt); fails = e }
+
+pub falsified : WorkedFalsified
+falsified ls (yes_decided (yes_decided none_decided)) = false_at (Yes p ∷ Yes q ∷ []) 3 7 (Not p) (Not q) refl refl (nots sorted_p) (nots sorted_q) refl
+falsified ls (yes_decided (no_decided none_decided)) = false_at (Yes p ∷ No q ∷ []) 2 5 (Not p) q refl refl (nots sorted_p) sorted_q refl
+falsified ls (no_decided (yes_decided none_decided)) = false_at (No p ∷ Yes q ∷ []) 1 3 p (Not q) refl refl sorted_p (nots sorted_q) refl
+falsified ls (no_decided (no_decided none_decided)) = false_at (No p ∷ No q ∷ []) 0 0 p q refl refl sorted_p sorted_q refl

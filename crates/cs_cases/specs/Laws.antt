@@ -1,8 +1,10 @@
 -- The laws of cases in certificates.
 use Rattle.std.specs.Prelude.{◌≡◌, ℕ, true, List, [], ◌∷◌, ◌++◌, map}
+use Rattle.vx_terms.specs.Sorts.{BoolSort}
 use Rattle.vx_terms.specs.Terms.{Term}
 use Rattle.vx_terms.specs.Interpretations.{Each}
-use Rattle.cs_certificate.specs.Certificate.{Literal, Yes, negated, Clause, Step, Stack, State, start, Contains, LeavesNone, Derives, Leads, IsFinished}
+use Rattle.cs_certificate.specs.Terms.{HasSort}
+use Rattle.cs_certificate.specs.Certificate.{Literal, Yes, negated, Clause, Step, Stack, State, start, Contains, LeavesNone, Defines, Derives, Leads, IsFinished}
 use Rattle.cs_cong.specs.declared.congruent.Applied.{Applied}
 use Rattle.cs_cong.specs.declared.congruent.Claim.{Claim}
 use Rattle.cs_cong.specs.declared.explain.Chain.{Chain}
@@ -11,10 +13,11 @@ use Rattle.cs_cong.specs.Explained.{Explains}
 use Rattle.cs_explained.specs.Matched.{StandFor, IsEqualityOf, AreEquated}
 use Rattle.cs_explained.specs.Refuted.{AreSorted, AreDenied, with_clauses, Follow}
 use Rattle.cs_classes.specs.Elements.{Assignment}
-use Rattle.cs_classes.specs.Agreement.{holds}
+use Rattle.cs_classes.specs.Agreement.{holds, satisfies}
 use Rattle.cs_cases.specs.Cases.{IsAtom, term_of, AreAtoms, IsPropagation, Gives, IsClosed, Closes, LeavesAtMost, AreDecided}
 use Rattle.cs_cases.specs.Forced.{IsForced}
-use Rattle.cs_cases.specs.Assigned.{IsOver, IsRefuted}
+use Rattle.cs_cases.specs.Assigned.{HasNoRow, IsOver, IsRefuted}
+use Rattle.cs_cases.specs.Evaluated.{evaluated, completed, AreFree, IsFalsified}
 
 -- ---- clauses that are to be had
 -- a clause of the state
@@ -37,6 +40,10 @@ FollowingIsGiven = (stack : Stack) (s : State) (c : Clause) → ((more : List Cl
 abbrev pub ExplainedIsGiven : Type 0
 ExplainedIsGiven = (stack : Stack) (s : State) (applied : List Applied) (claims : List Claim) (a b : ℕ) (explained : Chain) (c : Clause) (e : Term) → AreSorted s → StandFor applied s.terms →
     AreEquated s claims explained.claims.items explained.steps.items → Explains applied claims a b explained → AreDenied s claims explained.claims.items c → IsEqualityOf s a b e → Gives stack s (c ++ Yes e ∷ [])
+
+-- what is to be had is so behind further clauses
+abbrev pub MoreClausesGive : Type 0
+MoreClausesGive = (stack : Stack) (s : State) (c : Clause) (cs : List Clause) → Gives stack s c → Gives stack (with_clauses s cs) c
 
 -- ---- what closes
 -- what denies a clause that is to be had
@@ -98,3 +105,16 @@ RefutedCloses = (stack : Stack) (s : State) (assumed : List Literal) → AreAtom
 abbrev pub RefutedFinishes : Type 0
 RefutedFinishes = (stack : Stack) (steps : List Step) (s : State) (ts : List Term) → Leads stack (start stack) steps s → Each (IsAtom s.terms) ts → ((ls : List Literal) → AreDecided ts ls → IsRefuted stack s ls) →
     (more : List Step) × IsFinished stack (steps ++ more)
+
+-- ---- evaluation
+-- what is made of the truths of the terms without rows satisfies all rows
+abbrev pub RowsAreSatisfied : Type 0
+RowsAreSatisfied = (v : Assignment) (t : Term) (k : ℕ) (c : Clause) → Defines t k c → satisfies (completed v) c ≡ true
+
+-- and leaves those truths as they are
+abbrev pub FreeTermsStay : Type 0
+FreeTermsStay = (v : Assignment) (t : Term) → HasSort t BoolSort → HasNoRow t → evaluated v.truth t ≡ v.truth t
+
+-- where each assignment of the terms without rows makes a clause false that is to be had, the steps to the state are the first ones of steps that are finished
+abbrev pub FalsifiedFinishes : Type 0
+FalsifiedFinishes = (stack : Stack) (steps : List Step) (s : State) (ts : List Term) → Leads stack (start stack) steps s → AreFree s.terms ts → ((ls : List Literal) → AreDecided ts ls → IsFalsified stack s ls) → (more : List Step) × IsFinished stack (steps ++ more)

@@ -1,8 +1,8 @@
 //! Refutations of cases, put together into one certificate.
 #![tactic(auto)]
 
-ghost use Rattle.cs_cases.specs.Laws.{StandingIsGiven, DerivedIsGiven, StepIsGiven, FollowingIsGiven, ExplainedIsGiven, DeniedCloses, BothClose, ForcedCloses, AllCasesClose, MoreAssumedCloses, MoreClausesClose, ClosesNow, ClosedIsGiven, ClosedFinishes, ForcedMayBeAssumed, PropagationCloses, AssignmentForces, RefutedCloses, RefutedFinishes};
-ghost use Rattle.cs_cases.specs.Worked.{WorkedCloses, WorkedFinishes};
+ghost use Rattle.cs_cases.specs.Laws.{StandingIsGiven, DerivedIsGiven, StepIsGiven, FollowingIsGiven, ExplainedIsGiven, MoreClausesGive, DeniedCloses, BothClose, ForcedCloses, AllCasesClose, MoreAssumedCloses, MoreClausesClose, ClosesNow, ClosedIsGiven, ClosedFinishes, ForcedMayBeAssumed, PropagationCloses, AssignmentForces, RefutedCloses, RefutedFinishes, RowsAreSatisfied, FreeTermsStay, FalsifiedFinishes};
+ghost use Rattle.cs_cases.specs.Worked.{WorkedCloses, WorkedFinishes, WorkedFree, WorkedFalsified};
 
 /// What stands, what a step derives, and what claims explain is to be had behind any further clauses.
 pub fn clauses_are_given()
@@ -11,6 +11,7 @@ pub fn clauses_are_given()
     ensures step { StepIsGiven }
     ensures following { FollowingIsGiven }
     ensures explained { ExplainedIsGiven }
+    ensures later { MoreClausesGive }
 {}
 
 /// Assumptions close where they deny a clause, and where they close with a literal and with its negation; so where a clause forces a
@@ -45,8 +46,18 @@ pub fn refuted_assignments_finish()
     ensures finishes { RefutedFinishes }
 {}
 
+/// The truths of the Bool terms without rows make truths of the others, by which all rows are satisfied; so where each assignment of
+/// these terms makes a clause false that is to be had, steps are finished.
+pub fn falsified_assignments_finish()
+    ensures rows { RowsAreSatisfied }
+    ensures free { FreeTermsStay }
+    ensures finishes { FalsifiedFinishes }
+{}
+
 /// Four clauses over two constants close by cases, and a certificate of theirs is finished.
 pub fn worked_cases()
     ensures closes { WorkedCloses }
     ensures finishes { WorkedFinishes }
+    ensures free { WorkedFree }
+    ensures falsified { WorkedFalsified }
 {}
