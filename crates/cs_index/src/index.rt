@@ -1,18 +1,22 @@
 //! An index: under each key stand some numbers.
 ghost use Rattle.std.specs.Prelude.{◌≡◌, ◌-◌, ℕ, [], length, nat_eq, take, OnOk, OnErr};
 
+use smallvec::SmallVec;
 use std::alloc::{AllocError, Global};
 use std::collections::HashMap;
+
+/// The numbers under a key: mostly one, which stands in the map itself.
+type Row = SmallVec<u32, 1>;
 
 /// Numbers by keys.
 #[derive(Drop)]
 pub struct Index {
     alloc: Global,
-    rows: HashMap<u64, Vec<u32>>,
+    rows: HashMap<u64, Row>,
 }
 
 /// Leaves out the last number, if there is one.
-fn shorten(row: &mut Vec<u32>)
+fn shorten(row: &mut Row)
     ensures { row.new.items ≡ take (length row.old.items - 1) row.old.items }
 {
     let left = row.len().saturating_sub(1);
@@ -54,7 +58,7 @@ impl Index {
             row.push(number)?;
             return Ok(());
         }
-        let mut row = Vec::new(self.alloc);
+        let mut row = SmallVec::new(self.alloc);
         row.push(number)?;
         self.rows.insert(key, row)?;
         Ok(())
