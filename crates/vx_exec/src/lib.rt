@@ -4,5 +4,6 @@
 mod fields;
 mod loops;
 mod statement;
+mod waits;
 
 pub use statement::{step, step_block, step_executed, step_inner};

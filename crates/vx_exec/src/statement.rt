@@ -16,11 +16,15 @@ ghost use Rattle.vx_resolved.specs.Settled.{settled};
 
 use crate::fields::step_new;
 use crate::loops::{step_enter, step_iterate, step_pass, step_while};
+use crate::waits::{
+    hole_of_assign, hole_of_fold, hole_of_if, hole_of_second, hole_of_unfold, hole_of_write,
+    inhaling, on_with, row_of_call,
+};
 use std::alloc::{AllocError, Global};
 use std::rc::Rc;
 use vx_resolved::{Assertion, Block, Settled, Stmt};
 use vx_rules::Code;
-use vx_stack::{Codes, Conts, Executed, Frame, Hole, Move, Next, Production, Row};
+use vx_stack::{Codes, Conts, Executed, Frame, Hole, Move, Next};
 use vx_states::{SymState, sort_of_value};
 use vx_terms::Term;
 
@@ -60,36 +64,23 @@ pub fn step(
         Stmt::Declare(_, x, of) => {
             let mut state = state;
             state.declare_fresh(alloc, x, sort_of_value(*of))?;
-            conts.go(program, Frame::Go(next.clone()?), state)
+            on_with(program, next, state, conts)
         }
         Stmt::Assign(_, x, e) => {
-            let assign = Executed::Assign(x.clone()?);
-            conts.eval(
-                alloc,
-                program,
-                e,
-                Hole::Executed(assign, next.clone()?),
-                state,
-            )
+            let hole = hole_of_assign(x, next)?;
+            conts.eval(alloc, program, e, hole, state)
         }
         Stmt::Write(place, e, field, value) => {
-            let write = Executed::Write(*place, field.clone()?, value.clone()?);
-            conts.eval(
-                alloc,
-                program,
-                e,
-                Hole::Executed(write, next.clone()?),
-                state,
-            )
+            let hole = hole_of_write(*place, field, value, next)?;
+            conts.eval(alloc, program, e, hole, state)
         }
         Stmt::New(_, x, fields) => step_new(alloc, program, x, fields, next, state, conts),
         Stmt::Call(place, targets, method, arguments) => {
-            let call = Row::Call(*place, targets.clone()?, method.clone()?, next.clone()?);
-            conts.evals(alloc, program, arguments, call, state)
+            let row = row_of_call(*place, targets, method, next)?;
+            conts.evals(alloc, program, arguments, row, state)
         }
         Stmt::Inhale(_, a) => {
-            let production = Production::as_written(alloc)?;
-            let produce = Next::Produce(a.clone()?, production, next.clone()?);
+            let produce = inhaling(alloc, a, next)?;
             conts.next(alloc, program, produce, state)
         }
         Stmt::Exhale(_, a) => {
@@ -111,34 +102,16 @@ pub fn step(
             )
         }
         Stmt::Fold(place, predicate, arguments, share) => {
-            let fold = Executed::Fold(*place, predicate.clone()?, arguments.clone()?);
-            conts.eval(
-                alloc,
-                program,
-                share,
-                Hole::Executed(fold, next.clone()?),
-                state,
-            )
+            let hole = hole_of_fold(*place, predicate, arguments, next)?;
+            conts.eval(alloc, program, share, hole, state)
         }
         Stmt::Unfold(place, predicate, arguments, share) => {
-            let unfold = Executed::Unfold(*place, predicate.clone()?, arguments.clone()?);
-            conts.eval(
-                alloc,
-                program,
-                share,
-                Hole::Executed(unfold, next.clone()?),
-                state,
-            )
+            let hole = hole_of_unfold(*place, predicate, arguments, next)?;
+            conts.eval(alloc, program, share, hole, state)
         }
         Stmt::If(_, e, a, b) => {
-            let sides = Executed::If(a.clone()?, b.clone()?, state.store.len());
-            conts.eval(
-                alloc,
-                program,
-                e,
-                Hole::Executed(sides, next.clone()?),
-                state,
-            )
+            let hole = hole_of_if(a, b, state.store.len(), next)?;
+            conts.eval(alloc, program, e, hole, state)
         }
         Stmt::While(place, e, invariants, body) => step_while(
             alloc, program, *place, e, invariants, body, next, state, conts,
@@ -158,7 +131,7 @@ pub fn step_block(
     ensures { IfOk result (λ m. Stepped (settled program.now) (rule.exec_all (settled program.now) (rules (settled program.now)) (block_of block.now) (state_of state) (going (settled program.now) next.now.value)) conts.old.sides.items m conts.new.sides.items) }
 {
     match block {
-        Block::Done => conts.go(program, Frame::Go(next.clone()?), state),
+        Block::Done => on_with(program, next, state, conts),
         Block::Then(first, rest) => {
             let rest = Rc::new(alloc, Next::Block(rest.clone()?, next.clone()?))?;
             conts.next(alloc, program, Next::Exec(first.clone()?, rest), state)
@@ -182,7 +155,7 @@ pub fn step_inner(
         Block::Done => {
             let mut state = state;
             state.leave(kept);
-            conts.go(program, Frame::Go(next.clone()?), state)
+            on_with(program, next, state, conts)
         }
         Block::Then(first, rest) => {
             let rest = Rc::new(alloc, Next::Inner(rest.clone()?, kept, next.clone()?))?;
@@ -224,11 +197,11 @@ pub fn step_executed(
         Executed::Assign(x) => {
             let name = state.name(alloc, value)?;
             state.assign(x, name);
-            conts.go(program, Frame::Go(next.clone()?), state)
+            on_with(program, next, state, conts)
         }
         Executed::Assume => {
             state.add_fact(alloc, value)?;
-            conts.go(program, Frame::Go(next.clone()?), state)
+            on_with(program, next, state, conts)
         }
         Executed::If(a, b, kept) => {
             let left = inner_frame(alloc, program, a, *kept, next)?;
@@ -237,18 +210,12 @@ pub fn step_executed(
         }
         Executed::Asserted(heap) => {
             let _rest = state.exchange_heap(heap.clone()?);
-            conts.go(program, Frame::Go(next.clone()?), state)
+            on_with(program, next, state, conts)
         }
-        Executed::Exhaled => conts.go(program, Frame::Go(next.clone()?), state),
+        Executed::Exhaled => on_with(program, next, state, conts),
         Executed::Write(place, field, e) => {
-            let with = Executed::WriteWith(*place, field.clone()?, value);
-            conts.eval(
-                alloc,
-                program,
-                e,
-                Hole::Executed(with, next.clone()?),
-                state,
-            )
+            let hole = hole_of_second(*place, field, value, next)?;
+            conts.eval(alloc, program, e, hole, state)
         }
         Executed::WriteWith(_, _, _) => unreachable!(),
         Executed::Enter(it, kept) => step_enter(alloc, program, it, *kept, next, state, conts),

@@ -8,8 +8,9 @@ ghost use Rattle.vx_rules.specs.Chunks.{candidates, instance_key, only_inner};
 ghost use Rattle.vx_rules.specs.Codes.{code as code_of};
 ghost use Rattle.vx_rules.specs.Members.{rooted};
 ghost use Rattle.vx_rules.specs.Rules as rule;
+ghost use Rattle.vx_rules.specs.States.{State};
 ghost use Rattle.vx_rules.specs.Trees.{MeasureCode};
-ghost use Rattle.vx_stack.specs.Stack.{finding, giving, measured_by, rooted_at, side_tree, told, verified_body, Stepped};
+ghost use Rattle.vx_stack.specs.Stack.{finding, giving, going, measured_by, rooted_at, side_tree, told, verified_body, Stepped};
 ghost use Rattle.vx_stack.specs.Values.{values};
 ghost use Rattle.vx_states.specs.Entering.{back_to};
 ghost use Rattle.vx_states.specs.SymStates.{optional_term, state as state_of};
@@ -40,6 +41,18 @@ fn telling(
     Ok(Side { frame, state })
 }
 
+/// The measure is sought on from a number.
+fn measuring_on(
+    search: &Rc<Search>,
+    number: usize,
+    x: &Rc<Applied>,
+    hole: &Rc<Hole>,
+) -> Result<Next, AllocError>
+    ensures { (p : Program) (s : State) → IfOk result (λ rest. going p rest s ≡ finding search.now.value number s (λ c. told p x.now.value (giving p hole.now.value) s) (rule.never search.now.value.place (code_of search.now.value.code) s)) }
+{
+    Ok(Next::MeasureFrom(search.clone()?, number, x.clone()?, hole.clone()?))
+}
+
 /// An application is measured by the first candidate from a number on that is as wanted.
 pub fn measure_from(
     alloc: Global,
@@ -56,8 +69,8 @@ pub fn measure_from(
     match search.candidates.get(number) {
         None => conts.never(alloc, program, search.place, search.code, state),
         Some(c) => {
+            let rest = measuring_on(search, number + 1, x, hole)?;
             let found = telling(alloc, x, hole, &state)?;
-            let rest = Next::MeasureFrom(search.clone()?, number + 1, x.clone()?, hole.clone()?);
             probe_one(alloc, program, search, c, found, rest, state, conts)
         }
     }
@@ -93,8 +106,8 @@ pub fn root_from(
     match search.candidates.get(number) {
         None => conts.never(alloc, program, search.place, search.code, state),
         Some(c) => {
-            let found = rooting(alloc, c, v, &state)?;
             let rest = Next::RootFrom(search.clone()?, number + 1, v.clone()?);
+            let found = rooting(alloc, c, v, &state)?;
             probe_one(alloc, program, search, c, found, rest, state, conts)
         }
     }

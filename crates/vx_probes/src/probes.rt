@@ -77,8 +77,8 @@ pub fn read_from(
     match search.candidates.get(number) {
         None => conts.never(alloc, program, search.place, search.code, state),
         Some(c) => {
-            let found = read(alloc, c, hole, &state)?;
             let rest = Next::ReadFrom(search.clone()?, number + 1, hole.clone()?);
+            let found = read(alloc, c, hole, &state)?;
             probe_one(alloc, program, search, c, found, rest, state, conts)
         }
     }
@@ -150,6 +150,25 @@ fn taken(
     Ok(Side { frame, state })
 }
 
+/// Taking goes on from a number.
+fn taking_on(
+    search: &Rc<Search>,
+    number: usize,
+    amount: &Rc<Term>,
+    of: &Sort,
+    after: &Rc<Taken>,
+) -> Result<Next, AllocError>
+    ensures { (p : Program) (s : State) → IfOk result (λ rest. going p rest s ≡ finding search.now.value number s (λ c. with_taken p after.now.value c.chunk.value (rule.leads_inside c.chunk) (states.with_heap (reduced c (held_term amount.now) s.heap) s)) (taking_none (held_term amount.now) (sort_of of.now) search.now.value.place (code_of search.now.value.code) s (λ v s1. with_taken p after.now.value v false s1))) }
+{
+    Ok(Next::TakeFrom(
+        search.clone()?,
+        number,
+        amount.clone()?,
+        of.copy()?,
+        after.clone()?,
+    ))
+}
+
 /// An amount is taken from the first candidate from a number on that has it.
 pub fn take_from(
     alloc: Global,
@@ -167,14 +186,8 @@ pub fn take_from(
     match search.candidates.get(number) {
         None => take_none(alloc, program, search, amount, of, after, state, conts),
         Some(c) => {
+            let rest = taking_on(search, number + 1, amount, of, after)?;
             let found = taken(alloc, c, amount, after, &state)?;
-            let rest = Next::TakeFrom(
-                search.clone()?,
-                number + 1,
-                amount.clone()?,
-                of.copy()?,
-                after.clone()?,
-            );
             probe_one(alloc, program, search, c, found, rest, state, conts)
         }
     }
@@ -196,6 +209,18 @@ fn with_value(
     Ok(Side { frame, state })
 }
 
+/// Writing goes on from a number.
+fn writing_on(
+    search: &Rc<Search>,
+    number: usize,
+    value: &Rc<Term>,
+    next: &Rc<Next>,
+) -> Result<Next, AllocError>
+    ensures { (p : Program) (s : State) → IfOk result (λ rest. going p rest s ≡ finding search.now.value number s (λ c. going p next.now.value (rule.written c (held_term value.now) s)) (rule.never search.now.value.place (code_of search.now.value.code) s)) }
+{
+    Ok(Next::WriteTo(search.clone()?, number, value.clone()?, next.clone()?))
+}
+
 /// A value is written to the first candidate from a number on that is as wanted.
 pub fn write_to(
     alloc: Global,
@@ -212,8 +237,8 @@ pub fn write_to(
     match search.candidates.get(number) {
         None => conts.never(alloc, program, search.place, search.code, state),
         Some(c) => {
+            let rest = writing_on(search, number + 1, value, next)?;
             let found = with_value(alloc, c, value, next, &state)?;
-            let rest = Next::WriteTo(search.clone()?, number + 1, value.clone()?, next.clone()?);
             probe_one(alloc, program, search, c, found, rest, state, conts)
         }
     }

@@ -46,6 +46,9 @@ ask_false c at code s on q e f i =
 pub never_asks : (at : Place) (code : Code) (s : State) (q : Question) → is_quiet s ≡ false → q ≡ question false false_term at code s → never at code s ≡ Ask q (Impossible s)
 never_asks at code s q l i = if_false (is_quiet s) _ _ l ∙ ap (λ x. Ask x (Impossible s)) (sym i)
 
+pub probe_true : (c : Term) (at : Place) (code : Code) (s : State) (a b : Tree) → same c true_term ≡ true → probe c at code s a b ≡ Step a
+probe_true c at code s a b e = if_true (same c true_term) _ _ e
+
 pub probe_quiet : (c : Term) (at : Place) (code : Code) (s : State) (a b : Tree) → is_quiet s ≡ true → same c true_term ≡ false → probe c at code s a b ≡ Step b
 probe_quiet c at code s a b l e = if_false (same c true_term) _ _ e ∙ if_true (is_quiet s) _ _ l
 

@@ -1,17 +1,17 @@
 //! The stack of sides, and the steps that the rules are made of.
 
-ghost use Rattle.std.specs.Prelude.{◌≡◌, ◌++◌, ◌∷◌, ◌||◌, [], IfOk, map};
+ghost use Rattle.std.specs.Prelude.{◌≡◌, ◌++◌, ◌∷◌, ◌||◌, [], true, false, IfOk, map};
 ghost use Rattle.vx_resolved.specs.Resolved.{expr, exprs};
 ghost use Rattle.vx_ast.specs.Syntax.{Program};
 ghost use Rattle.vx_rules.specs.Members.{rules};
 ghost use Rattle.vx_rules.specs.Rules as rule;
 ghost use Rattle.vx_rules.specs.Codes.{code as code_of};
-ghost use Rattle.vx_rules.specs.States.{is_quiet};
-ghost use Rattle.vx_stack.specs.Stack.{going, giving, giving_all, frame_tree, side_tree, Stepped};
+ghost use Rattle.vx_rules.specs.States.{is_quiet, with_fact, with_branch};
+ghost use Rattle.vx_stack.specs.Stack.{going, giving, giving_all, frame_tree, side_tree, Stepped, query as question_of};
 ghost use Rattle.vx_stack.specs.Values.{values as values_of};
 ghost use Rattle.vx_states.specs.SymStates.{state as state_of};
 ghost use Rattle.vx_rules.specs.Trees as tree;
-ghost use Rattle.vx_terms.specs.Build.{true_term};
+ghost use Rattle.vx_terms.specs.Build.{true_term, false_term};
 ghost use Rattle.vx_terms.specs.Terms.{same};
 ghost use Rattle.vx_heap.specs.Views.{held_term};
 ghost use Rattle.vx_terms.specs.Views.{term};
@@ -71,11 +71,40 @@ fn question(
     })
 }
 
+fn is_true(condition: &Term) -> bool
+    ensures { result ≡ same (term condition.now) true_term }
+{
+    condition.is_same(&Term::Truth(true))
+}
+
+fn is_false(condition: &Term) -> bool
+    ensures { result ≡ same (term condition.now) false_term }
+{
+    condition.is_same(&Term::Truth(false))
+}
+
 /// Whether an ask passes unasked.
 fn passes(condition: &Term, state: &SymState) -> bool
     ensures { result ≡ (same (term condition.now) true_term || is_quiet (state_of state.now)) }
 {
     condition.is_same(&Term::Truth(true)) || state.is_quiet()
+}
+
+/// A state once more for each side of a fork: where the condition holds, and where its negation does.
+fn branches(
+    alloc: Global,
+    condition: Rc<Term>,
+    negated: Rc<Term>,
+    state: SymState,
+) -> Result<(SymState, SymState), AllocError>
+    ensures first { IfOk result (λ x. state_of x.0 ≡ with_branch (held_term condition) (state_of state)) }
+    ensures second { IfOk result (λ x. state_of x.1 ≡ with_branch (held_term negated) (state_of state)) }
+{
+    let mut first = state.copy(alloc)?;
+    let mut second = state;
+    first.add_branch(alloc, condition)?;
+    second.add_branch(alloc, negated)?;
+    Ok((first, second))
 }
 
 impl Conts {
@@ -189,6 +218,81 @@ impl Conts {
         self.go(program, Frame::Go(next), state)
     }
 
+    /// On with a side.
+    fn on(&mut self, side: Side) -> Result<Move, AllocError>
+        ensures { (p : Program) → IfOk result (λ m. Stepped p (tree.Step (side_tree p side)) self.old.sides.items m self.new.sides.items) }
+    {
+        self.sides.push(side)?;
+        Ok(Move::Go)
+    }
+
+    /// A question, and this frame where its condition holds.
+    fn check(
+        &mut self,
+        alloc: Global,
+        query: Query,
+        condition: Rc<Term>,
+        state: SymState,
+        frame: Frame,
+    ) -> Result<Move, AllocError>
+        requires { query.probe ≡ false }
+        ensures { (p : Program) → IfOk result (λ m. Stepped p (tree.Ask (question_of query) (frame_tree p frame (with_fact (held_term condition) (state_of state)))) self.old.sides.items m self.new.sides.items) }
+    {
+        let mut state = state;
+        state.add_fact(alloc, condition)?;
+        self.push(frame, state)?;
+        Ok(Move::Check(query))
+    }
+
+    /// The question of a false condition: where it is refuted, the state is impossible.
+    fn check_impossible(
+        &mut self,
+        alloc: Global,
+        query: Query,
+        state: SymState,
+    ) -> Result<Move, AllocError>
+        requires { query.probe ≡ false }
+        ensures { (p : Program) → IfOk result (λ m. Stepped p (tree.Ask (question_of query) (tree.Impossible (state_of state))) self.old.sides.items m self.new.sides.items) }
+    {
+        let impossible = Rc::new(alloc, Next::Impossible)?;
+        self.push(Frame::Go(impossible), state)?;
+        Ok(Move::Check(query))
+    }
+
+    /// A probe, with both its sides.
+    fn check_both(
+        &mut self,
+        query: Query,
+        refuted: Side,
+        otherwise: Side,
+    ) -> Result<Move, AllocError>
+        requires { query.probe ≡ true }
+        ensures { (p : Program) → IfOk result (λ m. Stepped p (tree.Probe (question_of query) (side_tree p refuted) (side_tree p otherwise)) self.old.sides.items m self.new.sides.items) }
+    {
+        self.sides.push(otherwise)?;
+        self.sides.push(refuted)?;
+        Ok(Move::Check(query))
+    }
+
+    /// The probe of a false condition: where it is refuted, the state is impossible.
+    fn check_otherwise(
+        &mut self,
+        alloc: Global,
+        query: Query,
+        otherwise: Side,
+    ) -> Result<Move, AllocError>
+        requires { query.probe ≡ true }
+        ensures { (p : Program) → IfOk result (λ m. Stepped p (tree.Probe (question_of query) (tree.Impossible (state_of otherwise.state)) (side_tree p otherwise)) self.old.sides.items m self.new.sides.items) }
+    {
+        let state = otherwise.state.copy(alloc)?;
+        let impossible = Rc::new(alloc, Next::Impossible)?;
+        let refuted = Side {
+            frame: Frame::Go(impossible),
+            state,
+        };
+        self.check_both(query, refuted, otherwise)
+    }
+
     /// Ask: on with this frame where the condition holds. In a quiet state nothing is asked.
     pub fn ask(
         &mut self,
@@ -206,15 +310,10 @@ impl Conts {
             return self.go(program, frame, state);
         }
         let query = question(&condition, place, code, false, &state)?;
-        if condition.is_same(&Term::Truth(false)) {
-            let impossible = Rc::new(alloc, Next::Impossible)?;
-            self.push(Frame::Go(impossible), state)?;
-            return Ok(Move::Check(query));
+        if is_false(&condition) {
+            return self.check_impossible(alloc, query, state);
         }
-        let mut state = state;
-        state.add_fact(alloc, condition)?;
-        self.push(frame, state)?;
-        Ok(Move::Check(query))
+        self.check(alloc, query, condition, state, frame)
     }
 
     /// Where no candidate is left: false is asked. In a quiet state the side is over.
@@ -234,9 +333,7 @@ impl Conts {
         }
         let never = make::boolean(alloc, false)?;
         let query = question(&never, place, code, false, &state)?;
-        let impossible = Rc::new(alloc, Next::Impossible)?;
-        self.push(Frame::Go(impossible), state)?;
-        Ok(Move::Check(query))
+        self.check_impossible(alloc, query, state)
     }
 
     /// Probe: on with one side where the condition is refuted, with the other where it isn't. It is asked in the
@@ -253,23 +350,18 @@ impl Conts {
     ) -> Result<Move, AllocError>
         ensures { IfOk result (λ m. Stepped (settled program.now) (rule.probe (held_term condition.now) place (code_of code) (state_of otherwise.state) (side_tree (settled program.now) refuted) (side_tree (settled program.now) otherwise)) self.old.sides.items m self.new.sides.items) }
     {
-        if condition.is_same(&Term::Truth(true)) {
-            return self.go(program, refuted.frame, refuted.state);
+        let _program = program;
+        if is_true(condition) {
+            return self.on(refuted);
         }
         if otherwise.state.is_quiet() {
-            return self.go(program, otherwise.frame, otherwise.state);
+            return self.on(otherwise);
         }
         let query = question(condition, place, code, true, &otherwise.state)?;
-        if condition.is_same(&Term::Truth(false)) {
-            let state = otherwise.state.copy(alloc)?;
-            let impossible = Rc::new(alloc, Next::Impossible)?;
-            self.sides.push(otherwise)?;
-            self.push(Frame::Go(impossible), state)?;
-            return Ok(Move::Check(query));
+        if is_false(condition) {
+            return self.check_otherwise(alloc, query, otherwise);
         }
-        self.sides.push(otherwise)?;
-        self.sides.push(refuted)?;
-        Ok(Move::Check(query))
+        self.check_both(query, refuted, otherwise)
     }
 
     /// Fork: on with one frame where the condition holds, with the other where it doesn't.
@@ -291,10 +383,7 @@ impl Conts {
         if state.is_known(&negated) {
             return self.go(program, right, state);
         }
-        let mut first = state.copy(alloc)?;
-        let mut second = state;
-        first.add_branch(alloc, condition)?;
-        second.add_branch(alloc, negated)?;
+        let (first, second) = branches(alloc, condition, negated, state)?;
         self.both(program, left, first, right, second)
     }
 

@@ -1,5 +1,6 @@
 pub mod Digits
 pub mod Letters
+pub mod Signs
 pub mod Scan
 pub mod Pieces
 pub mod Right

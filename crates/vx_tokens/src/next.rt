@@ -1,7 +1,8 @@
 //! What stands in front of a text.
 
-ghost use Rattle.std.specs.Prelude.{◌≡◌, ◌≤◌, ◌<◌, ◌^◌, ◌+◌, ◌*◌, ◌-◌, length, take, Some, MatchOption, IfSome};
-ghost use Rattle.std.specs.List.{prefix_len};
+ghost use Rattle.std.specs.Prelude.{◌≡◌, ◌==◌, ℕ, List, ◌∷◌, drop, ◌≤◌, ◌<◌, ◌^◌, ◌+◌, ◌*◌, ◌-◌, length, take, Some, MatchOption, IfSome};
+ghost use Rattle.std.specs.List.{prefix_len, starts_with};
+ghost use Rattle.std.specs.Cmp.Lexicographic.{pointwise};
 ghost use Rattle.vx_tokens.specs.Text.{is_blank, is_letter, is_digit, is_word, is_inside_line, AreAll, word_kind, word_among, reserved, value_of, value_from, close_len, sign_text, max_numeral, member_words, statement_words, expression_words, foreign_words};
 ghost use Rattle.vx_tokens.specs.Scanning.{sign_in, all_signs, next, slash_next};
 ghost use Rattle.vx_tokens.specs.Tokens.{kind_of};
@@ -95,43 +96,50 @@ fn reserved(text: &[u8]) -> Option<Word>
     foreign_word(text)
 }
 
+// Whether a text is this word.
+fn is_text(text: &[u8], word: &[u8]) -> bool
+    ensures { result ≡ pointwise ◌==◌ text.now word.now }
+{
+    text == word
+}
+
 fn member_word(text: &[u8]) -> Option<Word>
     ensures { result ≡ word_among member_words text.now }
 {
-    if text == b"method".as_slice() {
+    if is_text(text, b"method") {
         return Some(Word::Method);
     }
-    if text == b"field".as_slice() {
+    if is_text(text, b"field") {
         return Some(Word::Field);
     }
-    if text == b"predicate".as_slice() {
+    if is_text(text, b"predicate") {
         return Some(Word::Predicate);
     }
-    if text == b"function".as_slice() {
+    if is_text(text, b"function") {
         return Some(Word::Function);
     }
-    if text == b"returns".as_slice() {
+    if is_text(text, b"returns") {
         return Some(Word::Returns);
     }
-    if text == b"requires".as_slice() {
+    if is_text(text, b"requires") {
         return Some(Word::Requires);
     }
-    if text == b"ensures".as_slice() {
+    if is_text(text, b"ensures") {
         return Some(Word::Ensures);
     }
-    if text == b"decreases".as_slice() {
+    if is_text(text, b"decreases") {
         return Some(Word::Decreases);
     }
-    if text == b"Int".as_slice() {
+    if is_text(text, b"Int") {
         return Some(Word::Int);
     }
-    if text == b"Bool".as_slice() {
+    if is_text(text, b"Bool") {
         return Some(Word::Bool);
     }
-    if text == b"Ref".as_slice() {
+    if is_text(text, b"Ref") {
         return Some(Word::Ref);
     }
-    if text == b"Perm".as_slice() {
+    if is_text(text, b"Perm") {
         return Some(Word::Perm);
     }
     None
@@ -140,43 +148,43 @@ fn member_word(text: &[u8]) -> Option<Word>
 fn statement_word(text: &[u8]) -> Option<Word>
     ensures { result ≡ word_among statement_words text.now }
 {
-    if text == b"var".as_slice() {
+    if is_text(text, b"var") {
         return Some(Word::Var);
     }
-    if text == b"if".as_slice() {
+    if is_text(text, b"if") {
         return Some(Word::If);
     }
-    if text == b"elseif".as_slice() {
+    if is_text(text, b"elseif") {
         return Some(Word::Elseif);
     }
-    if text == b"else".as_slice() {
+    if is_text(text, b"else") {
         return Some(Word::Else);
     }
-    if text == b"while".as_slice() {
+    if is_text(text, b"while") {
         return Some(Word::While);
     }
-    if text == b"invariant".as_slice() {
+    if is_text(text, b"invariant") {
         return Some(Word::Invariant);
     }
-    if text == b"inhale".as_slice() {
+    if is_text(text, b"inhale") {
         return Some(Word::Inhale);
     }
-    if text == b"exhale".as_slice() {
+    if is_text(text, b"exhale") {
         return Some(Word::Exhale);
     }
-    if text == b"assert".as_slice() {
+    if is_text(text, b"assert") {
         return Some(Word::Assert);
     }
-    if text == b"assume".as_slice() {
+    if is_text(text, b"assume") {
         return Some(Word::Assume);
     }
-    if text == b"fold".as_slice() {
+    if is_text(text, b"fold") {
         return Some(Word::Fold);
     }
-    if text == b"unfold".as_slice() {
+    if is_text(text, b"unfold") {
         return Some(Word::Unfold);
     }
-    if text == b"new".as_slice() {
+    if is_text(text, b"new") {
         return Some(Word::New);
     }
     None
@@ -185,34 +193,34 @@ fn statement_word(text: &[u8]) -> Option<Word>
 fn expression_word(text: &[u8]) -> Option<Word>
     ensures { result ≡ word_among expression_words text.now }
 {
-    if text == b"true".as_slice() {
+    if is_text(text, b"true") {
         return Some(Word::True);
     }
-    if text == b"false".as_slice() {
+    if is_text(text, b"false") {
         return Some(Word::False);
     }
-    if text == b"null".as_slice() {
+    if is_text(text, b"null") {
         return Some(Word::Null);
     }
-    if text == b"write".as_slice() {
+    if is_text(text, b"write") {
         return Some(Word::Write);
     }
-    if text == b"none".as_slice() {
+    if is_text(text, b"none") {
         return Some(Word::Nothing);
     }
-    if text == b"result".as_slice() {
+    if is_text(text, b"result") {
         return Some(Word::Outcome);
     }
-    if text == b"old".as_slice() {
+    if is_text(text, b"old") {
         return Some(Word::Old);
     }
-    if text == b"acc".as_slice() {
+    if is_text(text, b"acc") {
         return Some(Word::Acc);
     }
-    if text == b"unfolding".as_slice() {
+    if is_text(text, b"unfolding") {
         return Some(Word::Unfolding);
     }
-    if text == b"in".as_slice() {
+    if is_text(text, b"in") {
         return Some(Word::In);
     }
     None
@@ -221,157 +229,153 @@ fn expression_word(text: &[u8]) -> Option<Word>
 fn foreign_word(text: &[u8]) -> Option<Word>
     ensures { result ≡ word_among foreign_words text.now }
 {
-    if text == b"forall".as_slice() {
+    if is_text(text, b"forall") {
         return Some(Word::Foreign);
     }
-    if text == b"exists".as_slice() {
+    if is_text(text, b"exists") {
         return Some(Word::Foreign);
     }
-    if text == b"forperm".as_slice() {
+    if is_text(text, b"forperm") {
         return Some(Word::Foreign);
     }
-    if text == b"perm".as_slice() {
+    if is_text(text, b"perm") {
         return Some(Word::Foreign);
     }
-    if text == b"package".as_slice() {
+    if is_text(text, b"package") {
         return Some(Word::Foreign);
     }
-    if text == b"apply".as_slice() {
+    if is_text(text, b"apply") {
         return Some(Word::Foreign);
     }
-    if text == b"applying".as_slice() {
+    if is_text(text, b"applying") {
         return Some(Word::Foreign);
     }
-    if text == b"domain".as_slice() {
+    if is_text(text, b"domain") {
         return Some(Word::Foreign);
     }
-    if text == b"Seq".as_slice() {
+    if is_text(text, b"Seq") {
         return Some(Word::Foreign);
     }
-    if text == b"Set".as_slice() {
+    if is_text(text, b"Set") {
         return Some(Word::Foreign);
     }
-    if text == b"Multiset".as_slice() {
+    if is_text(text, b"Multiset") {
         return Some(Word::Foreign);
     }
-    if text == b"Map".as_slice() {
+    if is_text(text, b"Map") {
         return Some(Word::Foreign);
     }
-    if text == b"epsilon".as_slice() {
+    if is_text(text, b"epsilon") {
         return Some(Word::Foreign);
     }
-    if text == b"wildcard".as_slice() {
+    if is_text(text, b"wildcard") {
         return Some(Word::Foreign);
     }
-    if text == b"goto".as_slice() {
+    if is_text(text, b"goto") {
         return Some(Word::Foreign);
     }
-    if text == b"label".as_slice() {
+    if is_text(text, b"label") {
         return Some(Word::Foreign);
     }
-    if text == b"define".as_slice() {
+    if is_text(text, b"define") {
         return Some(Word::Foreign);
     }
-    if text == b"import".as_slice() {
+    if is_text(text, b"import") {
         return Some(Word::Foreign);
     }
-    if text == b"let".as_slice() {
+    if is_text(text, b"let") {
         return Some(Word::Foreign);
     }
     None
 }
 
+// Whether this sign stands in front.
+fn begins(bytes: &[u8], sign: &[u8]) -> bool
+    ensures { result ≡ starts_with ◌==◌ bytes.now sign.now }
+{
+    bytes.starts_with(sign)
+}
+
 fn sign_at(bytes: &[u8]) -> Option<Symbol>
     ensures { result ≡ sign_in all_signs bytes.now }
 {
-    if bytes.starts_with(b"==>") {
+    match long_sign_at(bytes) {
+        Some(sign) => Some(sign),
+        None => short_sign_at(bytes),
+    }
+}
+
+// The sign of two or three bytes in front.
+fn long_sign_at(bytes: &[u8]) -> Option<Symbol>
+    ensures { result ≡ sign_in (take 9 all_signs) bytes.now }
+{
+    if begins(bytes, b"==>") {
         return Some(Symbol::Implies);
     }
-    if bytes.starts_with(b"--*") {
+    if begins(bytes, b"--*") {
         return Some(Symbol::Wand);
     }
-    if bytes.starts_with(b"==") {
+    if begins(bytes, b"==") {
         return Some(Symbol::Equal);
     }
-    if bytes.starts_with(b"!=") {
+    if begins(bytes, b"!=") {
         return Some(Symbol::NotEqual);
     }
-    if bytes.starts_with(b"<=") {
+    if begins(bytes, b"<=") {
         return Some(Symbol::LessEqual);
     }
-    if bytes.starts_with(b">=") {
+    if begins(bytes, b">=") {
         return Some(Symbol::GreaterEqual);
     }
-    if bytes.starts_with(b":=") {
+    if begins(bytes, b":=") {
         return Some(Symbol::Becomes);
     }
-    if bytes.starts_with(b"&&") {
+    if begins(bytes, b"&&") {
         return Some(Symbol::And);
     }
-    if bytes.starts_with(b"||") {
+    if begins(bytes, b"||") {
         return Some(Symbol::Or);
     }
-    if bytes.starts_with(b"(") {
-        return Some(Symbol::Open);
-    }
-    if bytes.starts_with(b")") {
-        return Some(Symbol::Close);
-    }
-    if bytes.starts_with(b"{") {
-        return Some(Symbol::OpenBrace);
-    }
-    if bytes.starts_with(b"}") {
-        return Some(Symbol::CloseBrace);
-    }
-    if bytes.starts_with(b"[") {
-        return Some(Symbol::OpenBracket);
-    }
-    if bytes.starts_with(b",") {
-        return Some(Symbol::Comma);
-    }
-    if bytes.starts_with(b":") {
-        return Some(Symbol::Colon);
-    }
-    if bytes.starts_with(b";") {
-        return Some(Symbol::Semicolon);
-    }
-    if bytes.starts_with(b"?") {
-        return Some(Symbol::Question);
-    }
-    if bytes.starts_with(b"!") {
-        return Some(Symbol::Not);
-    }
-    if bytes.starts_with(b"<") {
-        return Some(Symbol::Less);
-    }
-    if bytes.starts_with(b">") {
-        return Some(Symbol::Greater);
-    }
-    if bytes.starts_with(b"+") {
-        return Some(Symbol::Plus);
-    }
-    if bytes.starts_with(b"-") {
-        return Some(Symbol::Minus);
-    }
-    if bytes.starts_with(b"*") {
-        return Some(Symbol::Times);
-    }
-    if bytes.starts_with(b"/") {
-        return Some(Symbol::Slash);
-    }
-    if bytes.starts_with(b"\\") {
-        return Some(Symbol::Backslash);
-    }
-    if bytes.starts_with(b"%") {
-        return Some(Symbol::Percent);
-    }
-    if bytes.starts_with(b".") {
-        return Some(Symbol::Dot);
-    }
-    if bytes.starts_with(b"@") {
-        return Some(Symbol::At);
-    }
     None
+}
+
+// The sign of one byte in front.
+fn short_sign_at(bytes: &[u8]) -> Option<Symbol>
+    ensures { result ≡ sign_in (drop 9 all_signs) bytes.now }
+{
+    match bytes.split_first() {
+        Some((first, _)) => short_sign(*first),
+        None => None,
+    }
+}
+
+// The sign that is this byte.
+fn short_sign(first: u8) -> Option<Symbol>
+    ensures { (rest : List ℕ) → result ≡ sign_in (drop 9 all_signs) (first ∷ rest) }
+{
+    match first {
+        b'(' => Some(Symbol::Open),
+        b')' => Some(Symbol::Close),
+        b'{' => Some(Symbol::OpenBrace),
+        b'}' => Some(Symbol::CloseBrace),
+        b'[' => Some(Symbol::OpenBracket),
+        b',' => Some(Symbol::Comma),
+        b':' => Some(Symbol::Colon),
+        b';' => Some(Symbol::Semicolon),
+        b'?' => Some(Symbol::Question),
+        b'!' => Some(Symbol::Not),
+        b'<' => Some(Symbol::Less),
+        b'>' => Some(Symbol::Greater),
+        b'+' => Some(Symbol::Plus),
+        b'-' => Some(Symbol::Minus),
+        b'*' => Some(Symbol::Times),
+        b'/' => Some(Symbol::Slash),
+        b'\\' => Some(Symbol::Backslash),
+        b'%' => Some(Symbol::Percent),
+        b'.' => Some(Symbol::Dot),
+        b'@' => Some(Symbol::At),
+        _ => None,
+    }
 }
 
 // The number that the digits spell, unless it is too wide.

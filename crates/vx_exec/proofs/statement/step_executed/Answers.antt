@@ -8,17 +8,7 @@ returns-in_ok-right-in-If c =
     stepped_as (settled c.args.program.now) _ _ _ _ _
     (rw (c.in-If.is, c.in_ok-left-in-If.ensures, c.in_ok-right-in-If.ensures) refl) c.fork.ensures
 
-pub returns-in_ok-clone-in-Asserted-2 : goal.returns-in_ok-clone-in-Asserted-2
-returns-in_ok-clone-in-Asserted-2 c =
+pub returns-in_ok-hole-in-Write : goal.returns-in_ok-hole-in-Write
+returns-in_ok-hole-in-Write c =
     stepped_as (settled c.args.program.now) _ _ _ _ _
-    (rw (
-      c.in-Asserted.is,
-      c.in_ok-clone-in-Asserted-2.ensures.cases,
-      c.exchange_heap-rest.ensures.after,
-      c.in_ok-clone-in-Asserted.ensures.cases,
-    ) refl) c.go-in-Asserted.ensures
-
-pub returns-in_ok-clone-in-Write-2 : goal.returns-in_ok-clone-in-Write-2
-returns-in_ok-clone-in-Write-2 c =
-    stepped_as (settled c.args.program.now) _ _ _ _ _
-    (rw (c.in-Write.is, c.in_ok-clone-in-Write.ensures.cases, c.in_ok-clone-in-Write-2.ensures.cases) refl) c.eval.ensures
+    (rw (c.in-Write.is, c.in_ok-hole-in-Write.ensures (settled c.args.program.now)) refl) c.eval.ensures

@@ -12,8 +12,8 @@ use Rattle.vx_stack.specs.Stack.{finding, giving, side_tree, wanted}
 use Rattle.vx_probes.proofs.Firsts.{one_left, stepped_by}
 use Rattle.vx_probes.proofs.probes.read_from.Goals as goal
 
-pub returns-in_ok-clone-in-Some-2 : goal.returns-in_ok-clone-in-Some-2
-returns-in_ok-clone-in-Some-2 c =
+pub returns-in_ok-found-in-Some : goal.returns-in_ok-found-in-Some
+returns-in_ok-found-in-Some c =
     let p = settled c.args.program.now in
     let x = c.args.search.now.value in
     let x1 = c.in_ok-clone-in-Some.field-0.value in

@@ -4,7 +4,7 @@ use Rattle.vx_heap.specs.Views.{held_term}
 use Rattle.vx_terms.specs.Views.{term}
 use Rattle.vx_terms.specs.Build.{negate}
 use Rattle.vx_resolved.specs.Settled.{settled}
-use Rattle.vx_rules.specs.States.{State, is_known, with_branch}
+use Rattle.vx_rules.specs.States.{State, is_known}
 use Rattle.vx_states.specs.SymStates.{state}
 use Rattle.vx_stack.specs.Stack.{frame_tree}
 use Rattle.vx_stack.proofs.Steps.{fork_both, stepped_as}
@@ -19,6 +19,4 @@ returns c =
     let e1 : is_known c' s' ≡ false = ap (λ x. is_known (term x) s') (sym c.deref.ensures) ∙ sym c.is_known.ensures ∙ c.if-is_known.false in
     let e2 : d' ≡ negate c' = c.in_ok-negated.ensures in
     let e3 : is_known d' s' ≡ false = ap (λ x. is_known (term x) s') (sym c.deref-2.ensures) ∙ sym c.is_known-2.ensures ∙ c.if-is_known-2.false in
-    let e4 : state c.add_branch.new.self ≡ with_branch c' s' = c.in_ok-add_branch.ensures ∙ ap (with_branch c') c.in_ok-first.ensures in
-    let e5 : state c.add_branch-2.new.self ≡ with_branch d' s' = c.in_ok-add_branch-2.ensures in
-    stepped_as p _ _ _ _ _ (fork_both c' d' s' _ _ (frame_tree p c.args.left) (frame_tree p c.args.right) e1 e2 e3 e4 e5) c.both.ensures
+    stepped_as p _ _ _ _ _ (fork_both c' d' s' _ _ (frame_tree p c.args.left) (frame_tree p c.args.right) e1 e2 e3 c.in_ok-first.ensures.first c.in_ok-first.ensures.second) c.both.ensures

@@ -1,0 +1,5 @@
+use Rattle.std.proofs.Common.{refl}
+use Rattle.vx_exec.proofs.waits.hole_of_unfold.Goals as goal
+
+pub returns : goal.returns
+returns c = λ p. rw (c.in_ok-clone.ensures.cases, c.in_ok-clone-2.ensures.cases, c.in_ok-clone-3.ensures.cases) refl
