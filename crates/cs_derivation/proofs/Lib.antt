@@ -1,3 +1,4 @@
 pub mod Scenes
 pub mod Adding
 pub mod Starting
+pub mod NewTerms

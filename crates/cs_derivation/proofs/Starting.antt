@@ -18,7 +18,7 @@ use Rattle.cs_derivation.specs.Reached.{Reached, state_of, IsNew}
 some_is : {A : Type 0} {x y : A} → Some x ≡ Some y → x ≡ y
 some_is e = cc
 
-place_at : (terms : List Term) (t : Term) (k : ℕ) → place terms t ≡ Some k → At terms k t
+pub place_at : (terms : List Term) (t : Term) (k : ℕ) → place terms t ≡ Some k → At terms k t
 place_at [] t k e = cc
 place_at (u ∷ us) t k e = go (same t u) refl e (place_at us t)
   where

@@ -3,7 +3,7 @@ use Rattle.std.specs.Prelude.{◌≡◌, ℕ, List, [], ◌∷◌, ◌++◌, map
 use Rattle.std.specs.declared.result.Result.{Result}
 use Rattle.vx_terms.specs.Terms.{Term}
 use Rattle.vx_terms.specs.Interpretations.{Each}
-use Rattle.cs_certificate.specs.Certificate.{Stack, State, start, with_clause, Clause, Step, AllAt, Derives, Leads}
+use Rattle.cs_certificate.specs.Certificate.{Stack, State, start, with_clause, with_term, Clause, Step, NewTerm, At, AllAt, Derives, Leads}
 use Rattle.cs_nodes.specs.Nodes.{Node}
 use Rattle.cs_numbers.specs.Numbering.{nodes_of}
 use Rattle.cs_numbers.specs.Laws.{IsTable}
@@ -46,6 +46,13 @@ abbrev pub Adds : {E : Type 0} → Stack → Step → Reached → Reached → Re
 Adds stack step before after (Ok (Some n)) = IsDerived stack step before after n
 Adds stack step before after (Ok None) = (after ≡ before) × ((c : Clause) → Derives stack (state_of before) step c → ⊥)
 Adds stack step before after (Err e) = after ≡ before
+
+-- a `term` step more: the term and its parts have numbers, and the term has this one
+pub record IsNamed (stack : Stack) (t : Term) (before after : Reached) (number : ℕ) : Type 0 where
+  pub state : state_of after ≡ with_term (state_of before) t
+  pub here : At after.terms number t
+  pub steps : after.steps ≡ before.steps ++ Some (NewTerm t) ∷ []
+  pub stands : Stands stack after
 
 -- the terms of the assertions are numbered, and there is no step yet
 pub record IsNew (stack : Stack) (r : Reached) : Type 0 where

@@ -4,6 +4,7 @@
 ghost use Rattle.cs_derivation.specs.Finish.{Finishes};
 
 mod derivation;
+mod naming;
 mod numbers;
 mod seen;
 mod start;

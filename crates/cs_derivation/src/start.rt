@@ -1,5 +1,5 @@
 //! A derivation with no step.
-ghost use Rattle.std.specs.Prelude.{◌≡◌, ◌<◌, ◌^◌, [], ◌++◌, map, length, IfOk, Some};
+ghost use Rattle.std.specs.Prelude.{◌≡◌, ◌<◌, ◌≤◌, ◌^◌, [], ◌++◌, map, length, IfOk, OnOk, Some};
 ghost use Rattle.vx_terms.specs.Interpretations.{Each};
 ghost use Rattle.vx_terms.specs.Views.{term};
 ghost use Rattle.cs_certificate.specs.Certificate.{Stack};
@@ -31,13 +31,14 @@ fn roots_of(alloc: Global, terms: &NumberedTerms, assertions: &[Rc<Term>]) -> Re
 }
 
 /// The nodes of some terms, behind those that are there.
-fn push_nodes(
+pub(crate) fn push_nodes(
     alloc: Global,
     all: &mut Table,
     terms: &NumberedTerms,
     rest: &[Rc<Term>],
 ) -> Result<(), Stop>
-    ensures { Gives (λ u. nodes_in all.new) result (nodes_after (nodes_in all.old) (terms_in terms.now) (map (λ x. term x.value) rest.now)) }
+    ensures value { Gives (λ u. nodes_in all.new) result (nodes_after (nodes_in all.old) (terms_in terms.now) (map (λ x. term x.value) rest.now)) }
+    ensures grown { OnOk result (length all.old.nodes.items ≤ length all.new.nodes.items) }
 {
     for t in rest {
         let node = node_of(alloc, terms, t)?;
