@@ -8,7 +8,8 @@ use cs_numbers::NumberedTerms;
 use cs_proof::Step;
 use cs_table::Table;
 
-/// The steps so far, the numbered terms and the clauses that they lead to.
+/// The steps so far, the numbered terms and the clauses that they lead to. There are at most 2^32 - 1
+/// clauses: memory runs out where there would be more.
 #[derive(Drop)]
 pub struct Derivation {
     pub(crate) terms: NumberedTerms,
