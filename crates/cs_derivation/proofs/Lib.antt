@@ -1,0 +1,4 @@
+pub mod Scenes
+pub mod Adding
+pub mod Starting
+pub mod NewTerms

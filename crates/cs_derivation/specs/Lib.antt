@@ -1,0 +1,4 @@
+pub mod Reached
+pub mod Taken
+pub mod View
+pub mod Finish

@@ -1,0 +1,41 @@
+//! Numbers and literals as steps are written.
+ghost use Rattle.std.specs.Prelude.{◌≡◌, map, IfOk};
+ghost use Rattle.cs_proof.specs.Views as written;
+ghost use Rattle.cs_derivation.specs.Taken.{numbered};
+
+use cs_hints::Literal;
+use std::alloc::{AllocError, Global};
+
+/// Numbers, as a step is written with them.
+pub fn widened(alloc: Global, numbers: &[u32]) -> Result<Vec<u128>, AllocError>
+    ensures { IfOk result (λ v. v.items ≡ numbers.now) }
+{
+    let mut wide = Vec::new(alloc);
+    for number in numbers {
+        wide.push(u128::from(*number))?;
+    }
+    Ok(wide)
+}
+
+fn as_written(literal: &Literal) -> cs_reader::Literal
+    ensures { written.numbered result ≡ numbered literal.now }
+{
+    cs_reader::Literal {
+        positive: literal.positive,
+        number: u128::from(literal.number),
+    }
+}
+
+/// Literals, as a step is written with them.
+pub fn all_written(
+    alloc: Global,
+    literals: &[Literal],
+) -> Result<Vec<cs_reader::Literal>, AllocError>
+    ensures { IfOk result (λ v. map written.numbered v.items ≡ map numbered literals.now) }
+{
+    let mut all = Vec::new(alloc);
+    for literal in literals {
+        all.push(as_written(literal))?;
+    }
+    Ok(all)
+}
