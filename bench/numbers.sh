@@ -61,7 +61,7 @@ stacks() {
 }
 
 # An answer a line, as solvers write it.
-answers() { sed -n 's/^ *refuted.*/unsat/p; s/^ *model, true/sat/p; s/^ *unknown.*/unknown/p; /^unsat$/p; /^sat$/p; /^seed/p'; }
+answers() { sed -n 's/^ *refuted.*/unsat/; s/^ *model, true/sat/; s/^ *unknown.*/unknown/; /^unsat$/p; /^sat$/p; /^unknown$/p; /^seed/p'; }
 
 compare() {
     local from=$1 count=$2
