@@ -1,12 +1,14 @@
 //! The steps of an amount of a predicate's instance that is produced, and of a body that is produced for its instance.
 
 ghost use Rattle.std.specs.Prelude.{◌≡◌, IfOk, Some, string_bytes};
+ghost use Rattle.vx_ast.specs.Syntax.{Program};
 ghost use Rattle.vx_heap.specs.Views.{held_term};
 ghost use Rattle.vx_resolved.specs.Resolved.{assertion, predicate};
 ghost use Rattle.vx_resolved.specs.Settled.{settled};
 ghost use Rattle.vx_rules.specs.Members.{rules};
 ghost use Rattle.vx_rules.specs.Rules as rule;
 ghost use Rattle.vx_rules.specs.States as states;
+ghost use Rattle.vx_rules.specs.States.{State};
 ghost use Rattle.vx_rules.specs.Trees as tree;
 ghost use Rattle.vx_stack.specs.Stack.{body_of, frame_tree, going, putting_instance, Stepped, with_held};
 ghost use Rattle.vx_stack.specs.Values.{values};
@@ -15,6 +17,7 @@ ghost use Rattle.vx_terms.specs.Build.{multiply};
 
 use crate::locations::scaled;
 use crate::step;
+use crate::waits::on_with;
 use std::alloc::{AllocError, Global};
 use std::rc::Rc;
 use vx_ast::Place;
@@ -88,7 +91,7 @@ pub fn step_put_instance(
     let snapshot = state.produced_snapshot(alloc, &x.snapshot)?;
     let chunk = chunk_of(alloc, instance, snapshot, is_inner)?;
     state.put(alloc, chunk)?;
-    conts.go(program, Frame::Go(next.clone()?), state)
+    on_with(program, next, state, conts)
 }
 
 /// In a predicate's body, whose parameters are an instance's arguments.
@@ -124,6 +127,15 @@ fn exchanged(
     Ok(Rc::new(alloc, production)?)
 }
 
+/// On with what waits, with what the caller has again.
+fn back_in(alloc: Global, state: &SymState, next: &Rc<Next>) -> Result<Rc<Next>, AllocError>
+    ensures { (p : Program) → IfOk result (λ n. (s : State) → going p n.value s ≡ going p next.now.value (rule.back (state_of state.now) s)) }
+{
+    let caller = state.caller(alloc)?;
+    let caller = Rc::new(alloc, caller)?;
+    Ok(Rc::new(alloc, Next::Back(caller, next.clone()?))?)
+}
+
 /// A predicate's body is produced for an instance that was taken.
 fn step_exchanged(
     alloc: Global,
@@ -141,9 +153,7 @@ fn step_exchanged(
 {
     program.keeps_apart();
     vx_depth::rules_read_parts_by_themselves();
-    let caller = state.caller(alloc)?;
-    let caller = Rc::new(alloc, caller)?;
-    let after = Rc::new(alloc, Next::Back(caller, next.clone()?))?;
+    let after = back_in(alloc, &state, next)?;
     let production = exchanged(alloc, instance, snapshot)?;
     let state = within(alloc, d, instance, is_inner, state)?;
     step(alloc, program, body, &production, &after, state, conts)

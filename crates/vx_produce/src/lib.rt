@@ -4,8 +4,10 @@
 mod instances;
 mod locations;
 mod sides;
+mod waits;
 
 ghost use Rattle.std.specs.Prelude.{◌≡◌, IfOk, true};
+ghost use Rattle.vx_ast.specs.Syntax as syntax;
 ghost use Rattle.vx_resolved.specs.Resolved.{assertion};
 ghost use Rattle.vx_rules.specs.Members.{rules};
 ghost use Rattle.vx_rules.specs.Rules as rule;
@@ -20,13 +22,16 @@ ghost use Rattle.vx_resolved.specs.Settled.{settled};
 use crate::instances::step_held;
 use crate::locations::step_amount;
 use crate::sides::{step_chosen, step_implied};
+use crate::waits::{
+    hole_of_chosen, hole_of_fact, hole_of_implied, hole_of_share, on_with, row_of_instance,
+};
 pub use instances::{step_body, step_put_instance};
 pub use locations::step_put;
 use std::alloc::{AllocError, Global};
 use std::rc::Rc;
 use vx_resolved::{Assertion, Settled};
-use vx_stack::{Conts, Frame, Hole, Move, Next, Produced, Production, Row};
-use vx_states::{SymState, copy_optional, left_part, right_part};
+use vx_stack::{Conts, Move, Next, Produced, Production};
+use vx_states::{SymState, left_part, right_part};
 use vx_terms::Term;
 
 /// How a left part is produced: with its part of the snapshot.
@@ -67,6 +72,25 @@ fn parts(
     Ok(Next::Produce(left.clone()?, first, rest))
 }
 
+/// A step of producing both parts of an assertion.
+fn step_both(
+    alloc: Global,
+    program: &Settled,
+    left: &Rc<Assertion>,
+    right: &Rc<Assertion>,
+    x: &Production,
+    next: &Rc<Next>,
+    state: SymState,
+    conts: &mut Conts,
+) -> Result<Move, AllocError>
+    ensures { IfOk result (λ m. Stepped (settled program.now) (producing (settled program.now) (syntax.Both (assertion left.now.value) (assertion right.now.value)) x.now (state_of state) (going (settled program.now) next.now.value)) conts.old.sides.items m conts.new.sides.items) }
+{
+    let mut state = state;
+    state.add_split(alloc, &x.snapshot)?;
+    let both = parts(alloc, program, left, right, x, next)?;
+    conts.next(alloc, program, both, state)
+}
+
 /// A step of producing an assertion.
 pub fn step(
     alloc: Global,
@@ -81,48 +105,26 @@ pub fn step(
 {
     match a {
         Assertion::Pure(e) => {
-            let fact = Produced::Fact(copy_optional(&x.snapshot)?);
-            let hole = Hole::Produced(fact, next.clone()?);
+            let hole = hole_of_fact(x, next)?;
             conts.eval(alloc, program, e, hole, state)
         }
         Assertion::Points(place, e, field, share) => {
-            let is_inner = state.is_inner;
-            let share = Produced::Share(
-                *place,
-                field.clone()?,
-                share.clone()?,
-                x.clone()?,
-                is_inner,
-            );
-            let hole = Hole::Produced(share, next.clone()?);
+            let hole = hole_of_share(*place, field, share, x, state.is_inner, next)?;
             conts.eval(alloc, program, e, hole, state)
         }
         Assertion::Instance(place, predicate, arguments, share) => {
-            let is_inner = state.is_inner;
-            let row = Row::Produce(
-                *place,
-                predicate.clone()?,
-                share.clone()?,
-                x.clone()?,
-                is_inner,
-                next.clone()?,
-            );
+            let row = row_of_instance(*place, predicate, share, x, state.is_inner, next)?;
             conts.evals(alloc, program, arguments, row, state)
         }
         Assertion::Both(left, right) => {
-            let both = parts(alloc, program, left, right, x, next)?;
-            let mut state = state;
-            state.add_split(alloc, &x.snapshot)?;
-            conts.next(alloc, program, both, state)
+            step_both(alloc, program, left, right, x, next, state, conts)
         }
         Assertion::Implied(e, right) => {
-            let implied = Produced::Implied(right.clone()?, x.clone()?);
-            let hole = Hole::Produced(implied, next.clone()?);
+            let hole = hole_of_implied(right, x, next)?;
             conts.eval(alloc, program, e, hole, state)
         }
         Assertion::Chosen(e, first, second) => {
-            let chosen = Produced::Chosen(first.clone()?, second.clone()?, x.clone()?);
-            let hole = Hole::Produced(chosen, next.clone()?);
+            let hole = hole_of_chosen(first, second, x, next)?;
             conts.eval(alloc, program, e, hole, state)
         }
     }
@@ -143,7 +145,7 @@ fn step_fact(
     let mut state = state;
     state.add_fact(alloc, value)?;
     state.add_unit(alloc, snapshot)?;
-    conts.go(program, Frame::Go(next.clone()?), state)
+    on_with(program, next, state, conts)
 }
 
 /// A value goes on to the assertion that it is of, where no share is to be evaluated.

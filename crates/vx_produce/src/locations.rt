@@ -9,6 +9,7 @@ ghost use Rattle.vx_stack.specs.Stack.{frame_tree, going, putting, Stepped, with
 ghost use Rattle.vx_states.specs.SymStates.{optional_term, state as state_of};
 ghost use Rattle.vx_terms.specs.Build.{multiply};
 
+use crate::waits::on_with;
 use std::alloc::{AllocError, Global};
 use std::rc::Rc;
 use vx_ast::Place;
@@ -111,5 +112,5 @@ pub fn step_put(
     let value = state.produced_value(alloc, of, &x.snapshot)?;
     let chunk = chunk_of(alloc, location, value, is_inner)?;
     state.put(alloc, chunk)?;
-    conts.go(program, Frame::Go(next.clone()?), state)
+    on_with(program, next, state, conts)
 }

@@ -10,6 +10,7 @@ ghost use Rattle.vx_stack.specs.Stack.{frame_tree, going, producing, Stepped};
 ghost use Rattle.vx_states.specs.SymStates.{optional_term, state as state_of};
 ghost use Rattle.vx_heap.specs.Views.{held_term};
 
+use crate::waits::on_with;
 use std::alloc::{AllocError, Global};
 use std::rc::Rc;
 use vx_resolved::{Assertion, Settled};
@@ -45,7 +46,31 @@ fn go_past(
 {
     let mut state = state;
     state.add_unit(alloc, &x.snapshot)?;
-    conts.go(program, Frame::Go(next.clone()?), state)
+    on_with(program, next, state, conts)
+}
+
+/// A state once more, where the condition of `==>` holds.
+fn looked_at(alloc: Global, condition: Rc<Term>, state: &SymState) -> Result<SymState, AllocError>
+    ensures { IfOk result (λ s. state_of s ≡ with_branch (held_term condition) (state_of state.now)) }
+{
+    let mut copy = state.copy(alloc)?;
+    copy.add_branch(alloc, condition)?;
+    Ok(copy)
+}
+
+/// A state where the condition of `==>` doesn't hold, behind it.
+fn passed(
+    alloc: Global,
+    negated: Rc<Term>,
+    x: &Production,
+    state: SymState,
+) -> Result<SymState, AllocError>
+    ensures { IfOk result (λ s. state_of s ≡ rule.with_unit (optional_term x.now.snapshot) (with_branch (held_term negated) (state_of state))) }
+{
+    let mut state = state;
+    state.add_branch(alloc, negated)?;
+    state.add_unit(alloc, &x.snapshot)?;
+    Ok(state)
 }
 
 /// Both sides of `==>`.
@@ -62,11 +87,8 @@ fn go_both(
 ) -> Result<Move, AllocError>
     ensures { IfOk result (λ m. Stepped (settled program.now) (tree.Fork (frame_tree (settled program.now) left (with_branch (held_term condition) (state_of state))) (going (settled program.now) next.now.value (rule.with_unit (optional_term x.now.snapshot) (with_branch (held_term negated) (state_of state))))) conts.old.sides.items m conts.new.sides.items) }
 {
-    let mut first = state.copy(alloc)?;
-    let mut second = state;
-    first.add_branch(alloc, condition)?;
-    second.add_branch(alloc, negated)?;
-    second.add_unit(alloc, &x.snapshot)?;
+    let first = looked_at(alloc, condition, &state)?;
+    let second = passed(alloc, negated, x, state)?;
     conts.both(program, left, first, Frame::Go(next.clone()?), second)
 }
 

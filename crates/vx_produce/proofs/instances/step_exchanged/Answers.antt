@@ -1,10 +1,9 @@
-use Rattle.std.proofs.Common.{◌≡◌, Some, refl, sym, ap, ◌∙◌}
+use Rattle.std.proofs.Common.{◌≡◌, Some, refl, sym}
 use Rattle.vx_resolved.specs.Resolved.{assertion, predicate}
 use Rattle.vx_resolved.specs.Settled.{settled}
 use Rattle.vx_heap.specs.Views.{held_term}
 use Rattle.vx_rules.specs.States.{State, bind}
 use Rattle.vx_rules.specs.Rules.{Going, back, entered}
-use Rattle.vx_states.specs.Entering.{back_to}
 use Rattle.vx_states.specs.SymStates.{state}
 use Rattle.vx_stack.specs.declared.frame.Next.{Next}
 use Rattle.vx_stack.specs.declared.waiting.Instance.{Instance}
@@ -23,9 +22,7 @@ returns c =
     let z : State = record (entered (bind (predicate c.args.d.now).parameters (values x.arguments.value)) x.place s) { inner = c.args.is_inner } in
     let on : Going = λ w. going p n (back s w) in
     let after : Going = going p c.in_ok-after.after.value in
-    let same : (w : State) → on w ≡ after w = λ w.
-    ap (going p n) (sym (c.in_ok-caller.ensures w)) ∙ ap (λ (k : Next). going p k (back_to c.in_ok-caller.caller w)) (sym c.in_ok-clone.ensures.cases)
-    ∙ ap (λ k. going p c.in_ok-clone.field-0.value (back_to k w)) (sym c.in_ok-caller-2.ensures.ok) ∙ ap (λ (k : Next). going p k w) (sym c.in_ok-after.ensures.ok) in
+    let same : (w : State) → on w ≡ after w = λ w. sym (c.in_ok-after.ensures p w) in
     stepped_as p _ _ _ _ _
     (part_produced p (assertion c.args.body.now) (assertion c.args.body.now) (held_term x.amount) (Some (held_term c.args.snapshot.now)) z (state c.in_ok-state.state) c.in_ok-production.production.value on after
     (c.rules_read_parts_by_themselves.ensures p z.level c.keeps_apart.ensures) refl c.in_ok-production.ensures.scale c.in_ok-production.ensures.snapshot c.in_ok-state.ensures same) c.step.ensures
