@@ -1,3 +1,4 @@
 pub mod Given
 pub mod Wholes
+mod Sides
 mod Unfolded

@@ -38,6 +38,13 @@ fn small(n: u128) -> Result<i128, AllocError>
     }
 }
 
+/// A numeral as a literal.
+pub fn numeral(alloc: Global, n: u128) -> Result<Rc<Term>, AllocError>
+    ensures { IfOk result (λ t. held_term t ≡ written.Number (pos n)) }
+{
+    make::int(alloc, small(n)?)
+}
+
 /// `n/d` as a literal; over 0 it counts as over 1.
 pub fn part(alloc: Global, n: u128, d: u128) -> Result<Rc<Term>, AllocError>
     ensures { IfOk result (λ t. held_term t ≡ written.Part (lowest (over n d))) }

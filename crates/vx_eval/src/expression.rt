@@ -1,6 +1,6 @@
 //! A step of an expression.
 
-ghost use Rattle.std.specs.Prelude.{◌≡◌, ◌&&◌, IfOk};
+ghost use Rattle.std.specs.Prelude.{IfOk};
 ghost use Rattle.vx_resolved.specs.Resolved.{expr};
 ghost use Rattle.vx_rules.specs.Members.{rules};
 ghost use Rattle.vx_rules.specs.Rules as rule;
@@ -8,20 +8,15 @@ ghost use Rattle.vx_stack.specs.Stack.{giving, Stepped};
 ghost use Rattle.vx_states.specs.SymStates.{state as state_of};
 ghost use Rattle.vx_resolved.specs.Settled.{settled};
 
-use crate::divisions::part;
-use crate::operators::is_total;
+use crate::divisions::{numeral, part};
+use crate::made::give_made;
+use crate::waits::{before_arguments, before_branches, before_right};
 use std::alloc::{AllocError, Global};
 use std::rc::Rc;
 use vx_resolved::{Expr, Settled};
 use vx_stack::{Conts, Hole, Move, Operand, Row};
 use vx_states::SymState;
 use vx_terms::{make, snapshots};
-
-fn are_total(a: &Expr, b: &Expr) -> bool
-    ensures { result ≡ (rule.is_total (expr a.now) && rule.is_total (expr b.now)) }
-{
-    is_total(a) && is_total(b)
-}
 
 /// A step of an expression whose value goes into a hole. A numeral past 128 bits, which no text has, is refused as for
 /// want of memory.
@@ -36,28 +31,13 @@ pub fn step(
     ensures { IfOk result (λ m. Stepped (settled program.now) (rule.eval (settled program.now) (rules (settled program.now)) (expr e.now) (state_of state) (giving (settled program.now) hole.value)) conts.old.sides.items m conts.new.sides.items) }
 {
     match e {
-        Expr::Number(_, n) => match i128::try_from(*n) {
-            Ok(number) => {
-                let value = make::int(alloc, number)?;
-                conts.give(program, value, &hole, state)
-            }
-            Err(_) => Err(AllocError),
-        },
-        Expr::Truth(_, b) => {
-            let value = make::boolean(alloc, *b)?;
-            conts.give(program, value, &hole, state)
-        }
-        Expr::Null(_) => {
-            let value = snapshots::null(alloc)?;
-            conts.give(program, value, &hole, state)
-        }
-        Expr::Part(_, n, d) => {
-            let value = part(alloc, *n, *d)?;
-            conts.give(program, value, &hole, state)
-        }
+        Expr::Number(_, n) => give_made(program, numeral(alloc, *n), &hole, state, conts),
+        Expr::Truth(_, b) => give_made(program, make::boolean(alloc, *b), &hole, state, conts),
+        Expr::Null(_) => give_made(program, snapshots::null(alloc), &hole, state, conts),
+        Expr::Part(_, n, d) => give_made(program, part(alloc, *n, *d), &hole, state, conts),
         Expr::Variable(_, x) => {
-            let value = state.value_of(alloc, x)?;
-            conts.give(program, value, &hole, state)
+            let value = state.value_of(alloc, x);
+            give_made(program, value, &hole, state, conts)
         }
         Expr::Not(_, a) => conts.eval(
             alloc,
@@ -75,19 +55,11 @@ pub fn step(
             conts.eval(alloc, program, a, Hole::Operand(operand, hole), state)
         }
         Expr::Connect(_, op, a, b) => {
-            if is_total(b) {
-                let operand = Operand::ConnectRight(*op, b.clone()?);
-                return conts.eval(alloc, program, a, Hole::Operand(operand, hole), state);
-            }
-            let operand = Operand::ConnectSides(*op, b.clone()?);
+            let operand = before_right(*op, b)?;
             conts.eval(alloc, program, a, Hole::Operand(operand, hole), state)
         }
         Expr::Choose(_, c, a, b) => {
-            if are_total(a, b) {
-                let operand = Operand::ChooseThen(a.clone()?, b.clone()?);
-                return conts.eval(alloc, program, c, Hole::Operand(operand, hole), state);
-            }
-            let operand = Operand::ChooseSides(a.clone()?, b.clone()?);
+            let operand = before_branches(a, b)?;
             conts.eval(alloc, program, c, Hole::Operand(operand, hole), state)
         }
         Expr::Read(at, e, field) => {
@@ -111,8 +83,7 @@ pub fn step(
             conts.evals(alloc, program, es, row, state)
         }
         Expr::Unfolding(at, i, es, share, e) => {
-            let heap = state.heap.clone()?;
-            let operand = Operand::Unfolding(*at, i.clone()?, es.clone()?, e.clone()?, heap);
+            let operand = before_arguments(*at, i, es, e, &state.heap)?;
             conts.eval(alloc, program, share, Hole::Operand(operand, hole), state)
         }
     }

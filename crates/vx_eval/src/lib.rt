@@ -4,8 +4,10 @@
 mod arguments;
 mod divisions;
 mod expression;
+mod made;
 mod operand;
 mod operators;
+mod waits;
 
 pub use arguments::{step_all, step_argument};
 pub use expression::step;

@@ -9,13 +9,16 @@ ghost use Rattle.vx_rules.specs.Members.{rules};
 ghost use Rattle.vx_rules.specs.Rules as rule;
 ghost use Rattle.vx_rules.specs.States as states;
 ghost use Rattle.vx_rules.specs.Trees.{AmountCode, Step};
+ghost use Rattle.vx_stack.specs.declared.waiting.Operand.TheVariants as waits;
 ghost use Rattle.vx_stack.specs.Stack.{operand as operand_of, giving, giving_all, going, with_divisor, Stepped};
 ghost use Rattle.vx_states.specs.SymStates.{state as state_of};
 ghost use Rattle.vx_terms.specs.Build.{less, zero_amount};
 ghost use Rattle.vx_resolved.specs.Settled.{settled};
 
 use crate::divisions::divided;
+use crate::made::give_made;
 use crate::operators::{connected, operated};
+use crate::waits::{before_choice, before_else, evaluation, truth};
 use std::alloc::{AllocError, Global};
 use std::rc::Rc;
 use vx_ast::Place;
@@ -40,67 +43,127 @@ pub fn step_operand(
     ensures { IfOk result (λ m. Stepped (settled program.now) (operand_of (settled program.now) operand.now (giving (settled program.now) hole.now.value) (held_term value) (state_of state)) conts.old.sides.items m conts.new.sides.items) }
 {
     match operand {
-        Operand::Negate => {
-            let negated = make::not(alloc, &value)?;
-            conts.give(program, negated, hole, state)
-        }
+        Operand::Negate => give_made(program, make::not(alloc, &value), hole, state, conts),
         Operand::OperateRight(op, b) => {
             let with = Operand::OperateWith(*op, value);
-            conts.eval(alloc, program, b, Hole::Operand(with, hole.clone()?), state)
+            step_part(alloc, program, b, with, hole, state, conts)
         }
         Operand::OperateWith(op, first) => {
-            let both = operated(alloc, *op, first, &value)?;
-            conts.give(program, both, hole, state)
+            let both = operated(alloc, *op, first, &value);
+            give_made(program, both, hole, state, conts)
         }
         Operand::DivideRight(at, op, b) => {
             let with = Operand::DivideWith(*at, *op, value);
-            conts.eval(alloc, program, b, Hole::Operand(with, hole.clone()?), state)
+            step_part(alloc, program, b, with, hole, state, conts)
         }
         Operand::DivideWith(at, op, first) => {
             step_divided(alloc, program, *at, *op, first, &value, hole, state, conts)
         }
         Operand::ConnectRight(op, b) => {
             let with = Operand::ConnectWith(*op, value);
-            conts.eval(alloc, program, b, Hole::Operand(with, hole.clone()?), state)
+            step_part(alloc, program, b, with, hole, state, conts)
         }
         Operand::ConnectWith(op, first) => {
-            let both = connected(alloc, *op, first, &value)?;
-            conts.give(program, both, hole, state)
+            let both = connected(alloc, *op, first, &value);
+            give_made(program, both, hole, state, conts)
         }
         Operand::ConnectSides(op, b) => {
             step_short(alloc, program, value, *op, b, hole, state, conts)
         }
         Operand::ChooseThen(a, b) => {
-            let with = Operand::ChooseElse(value, b.clone()?);
-            conts.eval(alloc, program, a, Hole::Operand(with, hole.clone()?), state)
+            let with = before_else(value, b)?;
+            step_part(alloc, program, a, with, hole, state, conts)
         }
         Operand::ChooseElse(condition, b) => {
-            let with = Operand::ChooseWith(condition.clone()?, value);
-            conts.eval(alloc, program, b, Hole::Operand(with, hole.clone()?), state)
+            let with = before_choice(condition, value)?;
+            step_part(alloc, program, b, with, hole, state, conts)
         }
         Operand::ChooseWith(condition, first) => {
-            let choice = make::ite(alloc, condition, first, &value)?;
-            conts.give(program, choice, hole, state)
+            let choice = make::ite(alloc, condition, first, &value);
+            give_made(program, choice, hole, state, conts)
         }
         Operand::ChooseSides(a, b) => {
-            let left = Frame::Eval(a.clone()?, hole.clone()?);
-            let right = Frame::Eval(b.clone()?, hole.clone()?);
-            conts.fork(alloc, program, value, state, left, right)
+            step_sides(alloc, program, value, a, b, hole, state, conts)
         }
         Operand::Receiver(_, _) => unreachable!(),
-        Operand::Restore(heap) => {
-            let mut state = state;
-            let _inside = state.exchange_heap(heap.clone()?);
-            conts.give(program, value, hole, state)
-        }
-        Operand::Unfolding(at, i, es, e, heap) => {
-            let inside = restored(alloc, e, heap, hole)?;
-            let row = Row::Unfolding(*at, i.clone()?, value.clone()?, inside);
-            step_share(alloc, program, *at, &value, es, row, state, conts)
-        }
+        Operand::Restore(heap) => step_restored(program, value, heap, hole, state, conts),
+        Operand::Unfolding(at, i, es, e, heap) => step_unfolding(
+            alloc, program, *at, &value, i, es, e, heap, hole, state, conts,
+        ),
         Operand::Applied(_, _, _) => unreachable!(),
         Operand::Measured(_, _, _) => unreachable!(),
     }
+}
+
+/// On with a part, before what waits for its value.
+fn step_part(
+    alloc: Global,
+    program: &Settled,
+    e: &Rc<Expr>,
+    operand: Operand,
+    hole: &Rc<Hole>,
+    state: SymState,
+    conts: &mut Conts,
+) -> Result<Move, AllocError>
+    ensures { IfOk result (λ m. Stepped (settled program.now) (Step (rule.eval (settled program.now) (rules (settled program.now)) (expr e.now.value) (state_of state) (operand_of (settled program.now) operand (giving (settled program.now) hole.now.value)))) conts.old.sides.items m conts.new.sides.items) }
+{
+    let hole = Hole::Operand(operand, hole.clone()?);
+    conts.eval(alloc, program, e, hole, state)
+}
+
+/// On with both branches, each on a side of its own.
+fn step_sides(
+    alloc: Global,
+    program: &Settled,
+    value: Rc<Term>,
+    a: &Rc<Expr>,
+    b: &Rc<Expr>,
+    hole: &Rc<Hole>,
+    state: SymState,
+    conts: &mut Conts,
+) -> Result<Move, AllocError>
+    ensures { IfOk result (λ m. Stepped (settled program.now) (operand_of (settled program.now) (waits.ChooseSides a.now b.now) (giving (settled program.now) hole.now.value) (held_term value) (state_of state)) conts.old.sides.items m conts.new.sides.items) }
+{
+    let left = evaluation(a, hole)?;
+    let right = evaluation(b, hole)?;
+    conts.fork(alloc, program, value, state, left, right)
+}
+
+/// On with a value, in the heap of before.
+fn step_restored(
+    program: &Settled,
+    value: Rc<Term>,
+    heap: &Rc<SymHeap>,
+    hole: &Rc<Hole>,
+    state: SymState,
+    conts: &mut Conts,
+) -> Result<Move, AllocError>
+    ensures { IfOk result (λ m. Stepped (settled program.now) (operand_of (settled program.now) (waits.Restore heap.now) (giving (settled program.now) hole.now.value) (held_term value) (state_of state)) conts.old.sides.items m conts.new.sides.items) }
+{
+    let mut state = state;
+    let _inside = state.exchange_heap(heap.clone()?);
+    conts.give(program, value, hole, state)
+}
+
+/// On with the arguments of an `unfolding`, and then with the expression in it.
+fn step_unfolding(
+    alloc: Global,
+    program: &Settled,
+    at: Place,
+    amount: &Rc<Term>,
+    i: &Rc<String>,
+    es: &Rc<Exprs>,
+    e: &Rc<Expr>,
+    heap: &Rc<SymHeap>,
+    hole: &Rc<Hole>,
+    state: SymState,
+    conts: &mut Conts,
+) -> Result<Move, AllocError>
+    ensures { IfOk result (λ m. Stepped (settled program.now) (operand_of (settled program.now) (waits.Unfolding at i.now es.now e.now heap.now) (giving (settled program.now) hole.now.value) (held_term amount.now) (state_of state)) conts.old.sides.items m conts.new.sides.items) }
+{
+    let inside = restored(alloc, e, heap, hole)?;
+    let row = Row::Unfolding(at, i.clone()?, amount.clone()?, inside);
+    step_share(alloc, program, at, amount, es, row, state, conts)
 }
 
 /// The expression of an `unfolding` is evaluated, and the heap behind it is the one of before.
@@ -181,21 +244,18 @@ fn step_short(
 ) -> Result<Move, AllocError>
     ensures { IfOk result (λ m. Stepped (settled program.now) (rule.short (connective op) (held_term value) (state_of state) (λ s. rule.eval (settled program.now) (rules (settled program.now)) (expr right.now.value) s (giving (settled program.now) hole.now.value)) (giving (settled program.now) hole.now.value)) conts.old.sides.items m conts.new.sides.items) }
 {
-    let more = Frame::Eval(right.clone()?, hole.clone()?);
+    let more = evaluation(right, hole)?;
     match op {
         Connective::And => {
-            let never = make::boolean(alloc, false)?;
-            let done = Frame::Give(never, hole.clone()?);
+            let done = truth(alloc, false, hole)?;
             conts.fork(alloc, program, value, state, more, done)
         }
         Connective::Or => {
-            let always = make::boolean(alloc, true)?;
-            let done = Frame::Give(always, hole.clone()?);
+            let done = truth(alloc, true, hole)?;
             conts.fork(alloc, program, value, state, done, more)
         }
         Connective::Implies => {
-            let always = make::boolean(alloc, true)?;
-            let done = Frame::Give(always, hole.clone()?);
+            let done = truth(alloc, true, hole)?;
             conts.fork(alloc, program, value, state, more, done)
         }
     }
