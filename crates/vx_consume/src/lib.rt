@@ -4,6 +4,7 @@
 mod instances;
 mod locations;
 mod sides;
+mod waits;
 
 ghost use Rattle.std.specs.Prelude.{◌≡◌, IfOk, true};
 ghost use Rattle.vx_consume.specs.Waiting.{is_evaluated};
@@ -21,12 +22,13 @@ ghost use Rattle.vx_resolved.specs.Settled.{settled};
 use crate::instances::step_held;
 use crate::locations::{step_amount, step_wrap};
 use crate::sides::{step_chosen, step_implied};
+use crate::waits::{frame_of_unit, hole_of_right};
 use std::alloc::{AllocError, Global};
 use std::rc::Rc;
 use vx_ast::Place;
 use vx_heap::SymHeap;
 use vx_resolved::{Assertion, Expr, Settled};
-use vx_stack::{Codes, Consumed, Consumption, Conts, Frame, Hole, Move, Next, Row};
+use vx_stack::{Codes, Consumed, Consumption, Conts, Hole, Move, Next, Row};
 use vx_states::SymState;
 use vx_terms::{Term, snapshots};
 
@@ -181,13 +183,12 @@ pub fn step_consumed(
 {
     match consumed {
         Consumed::Ask(place, code, heap) => {
-            let after = Rc::new(alloc, Next::Unit(heap.clone()?, hole.clone()?))?;
+            let after = frame_of_unit(alloc, heap, hole)?;
             let place = state.placed(*place);
-            conts.ask(alloc, program, value, place, *code, state, Frame::Go(after))
+            conts.ask(alloc, program, value, place, *code, state, after)
         }
         Consumed::Right(right, x) => {
-            let with = Consumed::With(value, x.codes);
-            let rest = Rc::new(alloc, Hole::Consumed(with, hole.clone()?))?;
+            let rest = hole_of_right(alloc, value, x.codes, hole)?;
             step(alloc, program, right, x, rest, state, conts)
         }
         Consumed::With(first, codes) => {

@@ -11,15 +11,14 @@ ghost use Rattle.vx_states.specs.SymStates.{state as state_of};
 ghost use Rattle.vx_terms.specs.Build.{multiply};
 ghost use Rattle.vx_terms.specs.Views.{sort};
 
+use crate::waits::hole_of_wrap;
 use std::alloc::{AllocError, Global};
 use std::rc::Rc;
 use vx_ast::Place;
 use vx_heap::{SymHeap, not_negative};
 use vx_resolved::Settled;
 use vx_rules::Code;
-use vx_stack::{
-    Codes, Consumed, Consumption, Conts, Frame, Hole, Location, Move, Next, field_sort,
-};
+use vx_stack::{Codes, Consumption, Conts, Frame, Hole, Location, Move, Next, field_sort};
 use vx_states::SymState;
 use vx_terms::{Sort, Term, arithmetic, snapshots};
 
@@ -35,8 +34,7 @@ fn take_frame(
     ensures { IfOk result (λ f. frame_tree (settled program.now) f ≡ (λ s. take_location (settled program.now) location.place (string_bytes location.field.value) (held_term location.receiver) (held_term location.amount) (code_of codes.permission) (heap_of heap.now.value) s (wrapped (settled program.now) (string_bytes location.field.value) (context codes) (giving (settled program.now) hole.now.value)))) }
 {
     let _program = program;
-    let wrap = Consumed::Wrap(location.field.clone()?, codes);
-    let after = Rc::new(alloc, Hole::Consumed(wrap, hole.clone()?))?;
+    let after = hole_of_wrap(alloc, &location.field, codes, hole)?;
     let location = Rc::new(alloc, location)?;
     let take = Next::Take(location, codes.permission, heap.clone()?, after);
     Ok(Frame::Go(Rc::new(alloc, take)?))

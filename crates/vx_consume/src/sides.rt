@@ -10,6 +10,7 @@ ghost use Rattle.vx_stack.specs.Stack.{consuming, frame_tree, giving, Stepped};
 ghost use Rattle.vx_states.specs.SymStates.{state as state_of};
 ghost use Rattle.vx_terms.specs.Build as built;
 
+use crate::waits::in_heap;
 use std::alloc::{AllocError, Global};
 use std::rc::Rc;
 use vx_heap::SymHeap;
@@ -33,6 +34,15 @@ fn frame_of(
     Ok(Frame::Go(Rc::new(alloc, consume)?))
 }
 
+/// On behind `==>`, whose right part isn't looked at: its snapshot is unit.
+fn frame_past(alloc: Global, program: &Settled, hole: &Rc<Hole>) -> Result<Frame, AllocError>
+    ensures { IfOk result (λ f. frame_tree (settled program.now) f ≡ giving (settled program.now) hole.now.value built.unit) }
+{
+    let _program = program;
+    let unit = snapshots::unit(alloc)?;
+    Ok(Frame::Give(unit, hole.clone()?))
+}
+
 /// The sides of `==>`, in the heap of before; a right part that isn't looked at has the snapshot unit.
 pub fn step_implied(
     alloc: Global,
@@ -47,11 +57,9 @@ pub fn step_implied(
 ) -> Result<Move, AllocError>
     ensures { IfOk result (λ m. Stepped (settled program.now) (rule.fork (held_term condition) (with_heap (heap_of heap.now.value) (state_of state)) (λ s. consuming (settled program.now) (assertion a.now.value) x.now.value s (giving (settled program.now) hole.now.value)) (giving (settled program.now) hole.now.value built.unit)) conts.old.sides.items m conts.new.sides.items) }
 {
+    let state = in_heap(heap, state)?;
     let left = frame_of(alloc, program, a, x, hole)?;
-    let unit = snapshots::unit(alloc)?;
-    let right = Frame::Give(unit, hole.clone()?);
-    let mut state = state;
-    let _start = state.exchange_heap(heap.clone()?);
+    let right = frame_past(alloc, program, hole)?;
     conts.fork(alloc, program, condition, state, left, right)
 }
 
@@ -70,9 +78,8 @@ pub fn step_chosen(
 ) -> Result<Move, AllocError>
     ensures { IfOk result (λ m. Stepped (settled program.now) (rule.fork (held_term condition) (with_heap (heap_of heap.now.value) (state_of state)) (λ s. consuming (settled program.now) (assertion a.now.value) x.now.value s (giving (settled program.now) hole.now.value)) (λ s. consuming (settled program.now) (assertion b.now.value) x.now.value s (giving (settled program.now) hole.now.value))) conts.old.sides.items m conts.new.sides.items) }
 {
+    let state = in_heap(heap, state)?;
     let left = frame_of(alloc, program, a, x, hole)?;
     let right = frame_of(alloc, program, b, x, hole)?;
-    let mut state = state;
-    let _start = state.exchange_heap(heap.clone()?);
     conts.fork(alloc, program, condition, state, left, right)
 }

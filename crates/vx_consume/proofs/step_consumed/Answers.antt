@@ -6,12 +6,12 @@ use Rattle.vx_consume.proofs.step_consumed.Goals as goal
 pub returns-in_ok-after-in-Ask : goal.returns-in_ok-after-in-Ask
 returns-in_ok-after-in-Ask c =
     stepped_as (settled c.args.program.now) _ _ _ _ _
-    (rw (c.in-Ask.is, c.placed-place.ensures, c.in_ok-after-in-Ask.ensures.ok, c.in_ok-clone-in-Ask.ensures.cases, c.in_ok-clone-in-Ask-2.ensures.cases) refl) c.ask.ensures
+    (rw (c.in-Ask.is, c.placed-place.ensures, c.in_ok-after-in-Ask.ensures (settled c.args.program.now)) refl) c.ask.ensures
 
 pub returns-in_ok-rest-in-Right : goal.returns-in_ok-rest-in-Right
 returns-in_ok-rest-in-Right c =
     stepped_as (settled c.args.program.now) _ _ _ _ _
-    (rw (c.in-Right.is, c.deref-in-Right.ensures, c.in_ok-rest-in-Right.ensures.ok, c.in_ok-clone-in-Right.ensures.cases, c.deref.ensures) refl) c.step.ensures
+    (rw (c.in-Right.is, c.deref-in-Right.ensures, c.in_ok-rest-in-Right.ensures (settled c.args.program.now), c.deref.ensures) refl) c.step.ensures
 
 pub returns-in_ok-add_built_pair-in-With : goal.returns-in_ok-add_built_pair-in-With
 returns-in_ok-add_built_pair-in-With c =

@@ -1,4 +1,4 @@
-use Rattle.std.proofs.Common.{◌≡◌, sym, ap, ◌∙◌}
+use Rattle.std.proofs.Common.{sym}
 use Rattle.vx_heap.specs.Views.{heap, held_term}
 use Rattle.vx_resolved.specs.Resolved.{assertion}
 use Rattle.vx_resolved.specs.Settled.{settled}
@@ -15,8 +15,7 @@ returns c =
     let p = settled c.args.program.now in
     let s : State = state c.args.state in
     let on : Giving = giving p c.args.hole.now.value in
-    let e : state c.exchange_heap-start.new.self ≡ with_heap (heap c.args.heap.now.value) s = c.exchange_heap-start.ensures.after ∙ ap (λ h. with_heap (heap h) s) c.in_ok-clone.ensures.cases in
     stepped_as p _ _ _ _ _
-    (sym (forks (held_term c.args.condition) (state c.exchange_heap-start.new.self) (with_heap (heap c.args.heap.now.value) s)
+    (sym (forks (held_term c.args.condition) (state c.in_ok-state.state) (with_heap (heap c.args.heap.now.value) s)
     (frame_tree p c.in_ok-left.left) (λ z. consuming p (assertion c.args.a.now.value) c.args.x.now.value z on)
-    (frame_tree p c.in_ok-right.right) (λ z. consuming p (assertion c.args.b.now.value) c.args.x.now.value z on) e c.in_ok-left.ensures c.in_ok-right.ensures)) c.fork.ensures
+    (frame_tree p c.in_ok-right.right) (λ z. consuming p (assertion c.args.b.now.value) c.args.x.now.value z on) c.in_ok-state.ensures c.in_ok-left.ensures c.in_ok-right.ensures)) c.fork.ensures
