@@ -1,3 +1,4 @@
 pub mod Causes
 pub mod Answers
 pub mod Spent
+pub mod New

@@ -6,6 +6,7 @@ ghost use Rattle.cs_proof.specs.Fits.{seen};
 ghost use Rattle.cs_search.specs.Assignment.{FalseBefore, IsFalse};
 ghost use Rattle.cs_search.specs.Search.{IsReady, AreSatisfied};
 ghost use Rattle.cs_decide.specs.Spent.{SpendsOnCases};
+ghost use Rattle.cs_decide.specs.New.{AreUntrue, HasNewClause};
 ghost use Rattle.cs_decide.specs.Answers.{IsRight};
 
 use crate::answer::Answer;
@@ -286,17 +287,38 @@ fn prefer_others(order: &mut Order, count: u32, attempt: u32) -> Result<(), Stop
     Ok(())
 }
 
-/// The search gets a clause of cases, of which the first one is tried first, or another one.
+/// Whether none of the literals is true.
+fn are_untrue(made: &Assignment, literals: &[Literal]) -> bool
+    ensures { IsTrue result → AreUntrue made.now.values.items literals.now }
+{
+    for literal in literals {
+        if let Status::True(_) = status(&made.values, *literal) {
+            return false;
+        }
+    }
+    true
+}
+
+/// The search gets a clause of cases, of which the first one is tried first, or another one. None of the cases holds yet, so the
+/// clause is a new one.
+///
+/// # Errors
+/// `Miss` where one of the cases holds; `Want` where memory runs out.
 fn take_cases(
     alloc: Global,
     check: &mut Check,
     search: &mut Search,
     cases: &Cases,
 ) -> Result<(), Stop>
-    requires { IsReady search.old }
-    ensures { OnOk result (IsReady search.new) }
+    requires sound { IsReady search.old }
+    requires satisfied { AreSatisfied search.old.clauses.items search.old.made.values.items }
+    ensures ready { OnOk result (IsReady search.new) }
+    ensures new { OnOk result (HasNewClause search.old.clauses.items search.new.clauses.items) }
 {
     let literals = check.meet(alloc, cases)?;
+    if !are_untrue(&search.made, &literals) {
+        return Err(Stop::Miss);
+    }
     if let Some(literal) = literals.first() {
         prefer(&mut search.order, literal.number, cases.first)?;
     }
