@@ -26,6 +26,7 @@ use Rattle.cs_derivation.specs.Reached.{Reached, Stands, state_of, IsDerived, Ad
 use Rattle.cs_derivation.specs.Taken.{IsTaken, shows, with_step, taken_by, taken, Takes}
 use Rattle.cs_derivation.specs.View.{reached}
 use Rattle.cs_derivation.specs.declared.derivation.Derivation.{Derivation}
+use Rattle.cs_derivation.proofs.Plain.{taken_plain, plain_end}
 use Rattle.cs_derivation.proofs.Scenes.{Keeps, plans, scene, taken_whole, few_at}
 
 some_is : {A : Type 0} {x y : A} → Some x ≡ Some y → x ≡ y
@@ -132,6 +133,7 @@ module _ (stack : Stack) (clauses : List Clause') (r : Reached) (k : Keeps claus
           steps = h.steps ++ step ∷ [];
           written = ap (λ l. l ++ Some step ∷ []) h.written ∙ sym (map-append Some h.steps (step ∷ []));
           leads = subst (Leads stack (start stack) (h.steps ++ step ∷ [])) (sym is) (leads_end stack step c h.leads by);
+          plain = plain_end h.steps step h.plain (taken_plain step t);
         };
       }
 

@@ -1,4 +1,5 @@
 pub mod Scenes
+pub mod Plain
 pub mod Adding
 pub mod Starting
 pub mod NewTerms

@@ -15,6 +15,7 @@ use Rattle.cs_proof.specs.Plans.{Plans}
 use Rattle.cs_proof.proofs.Grown as grown
 use Rattle.cs_proof.proofs.State as checked
 use Rattle.cs_derivation.specs.Reached.{Reached, Stands, state_of, IsNamed}
+use Rattle.cs_derivation.proofs.Plain.{plain_end}
 use Rattle.cs_derivation.proofs.Scenes.{plans, stood}
 use Rattle.cs_derivation.proofs.Starting.{place_at}
 
@@ -55,5 +56,6 @@ module _ (stack : Stack) (r : Reached) (h : Stands stack r) (t : Term) (sorted :
           steps = h.steps ++ NewTerm t ∷ [];
           written = steps ∙ ap (λ l. l ++ Some (NewTerm t) ∷ []) h.written ∙ sym (map-append Some h.steps (NewTerm t ∷ []));
           leads = subst (Leads stack (start stack) (h.steps ++ NewTerm t ∷ [])) is (leads_named stack t sorted.0 sorted.1 live h.leads);
+          plain = plain_end h.steps (NewTerm t) h.plain tt;
         };
       }

@@ -53,5 +53,6 @@ module _ (stack : Stack) (r : Reached) (sorted : Each IsSorted stack.assertions)
       steps = [];
       written = steps;
       leads = subst (Leads stack (start stack) []) (sym first) stays;
+      plain = tt;
     };
   }

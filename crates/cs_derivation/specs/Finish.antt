@@ -1,8 +1,10 @@
 -- Where a derivation reaches an empty clause, its steps are finished.
-use Rattle.std.specs.Prelude.{◌≡◌, List, [], map, Some}
-use Rattle.cs_certificate.specs.Certificate.{Stack, Step, Contains, IsFinished}
+use Rattle.std.specs.Prelude.{[]}
+use Rattle.cs_certificate.specs.Certificate.{Stack, Contains}
+use Rattle.cs_proof.specs.Answers.{Answers}
+use Rattle.cs_proof.specs.Checking.{Finished}
 use Rattle.cs_derivation.specs.Reached.{Reached, Stands, state_of}
 
--- the steps that are written are those of a finished certificate
+-- the checker's answer to the steps that are written is that they are finished
 abbrev pub Finishes : Type 0
-Finishes = (stack : Stack) (r : Reached) → Stands stack r → Contains (state_of r).clauses [] → (steps : List Step) × (r.steps ≡ map Some steps) × IsFinished stack steps
+Finishes = (stack : Stack) (r : Reached) → Stands stack r → Contains (state_of r).clauses [] → Answers stack r.steps Finished

@@ -3,7 +3,7 @@ use Rattle.std.specs.Prelude.{◌≡◌, ℕ, List, [], ◌∷◌, ◌++◌, map
 use Rattle.std.specs.declared.result.Result.{Result}
 use Rattle.vx_terms.specs.Terms.{Term}
 use Rattle.vx_terms.specs.Interpretations.{Each}
-use Rattle.cs_certificate.specs.Certificate.{Stack, State, start, with_clause, with_term, Clause, Step, NewTerm, At, AllAt, Derives, Leads}
+use Rattle.cs_certificate.specs.Certificate.{Stack, State, start, with_clause, with_term, Clause, Step, NewTerm, Farkas, At, AllAt, Derives, Leads}
 use Rattle.cs_nodes.specs.Nodes.{Node}
 use Rattle.cs_numbers.specs.Numbering.{nodes_of}
 use Rattle.cs_numbers.specs.Laws.{IsTable}
@@ -22,7 +22,12 @@ pub record Reached : Type 0 where
 abbrev pub state_of : Reached → State
 state_of r = record { terms = r.terms; clauses = map (views r.terms) r.clauses }
 
--- the steps meet their rules over this stack, and lead to the terms and clauses
+-- a step that is no `farkas` step
+abbrev pub HasNoSum : Step → Type 0
+HasNoSum (Farkas ls ms) = ⊥
+HasNoSum step = Unit {0}
+
+-- the steps meet their rules over this stack, and lead to the terms and clauses; none is a `farkas` step
 pub record Stands (stack : Stack) (r : Reached) : Type 0 where
   pub table : IsTable r.terms
   pub nodes : nodes_of r.terms r.terms ≡ Some r.nodes
@@ -31,6 +36,7 @@ pub record Stands (stack : Stack) (r : Reached) : Type 0 where
   pub steps : List Step
   pub written : r.steps ≡ map Some steps
   pub leads : Leads stack (start stack) steps (state_of r)
+  pub plain : Each HasNoSum steps
 
 -- one step more, with the clause that it derives behind the others, which has this number
 pub record IsDerived (stack : Stack) (step : Step) (before after : Reached) (number : ℕ) : Type 0 where
