@@ -1,7 +1,10 @@
 pub mod Lists
-pub mod Live
+pub mod Parts
 pub mod Paired
 pub mod Naming
+pub mod Chosen
 pub mod Rows
+pub mod Atoms
 pub mod Collected
+pub mod Turned
 pub mod Whole

@@ -1,66 +1,67 @@
--- Terms that are paired, and their equalities.
-use Rattle.std.proofs.Common.{◌≡◌, ◌⊎◌, inl, inr, ℕ, zero, suc, ◌+◌, ◌<◌, ◌≤◌, Bool, true, false, ◌||◌, List, [], ◌∷◌, refl, sym, ◌∙◌, ap, subst, arith}
-use Rattle.std.specs.Prelude.{if◌then◌else◌}
-use Rattle.vx_terms.specs.Sorts.{Sort, BoolSort, Equal, same_sort}
-use Rattle.vx_terms.specs.Terms.{Term, Truth, sort_of}
-use Rattle.vx_terms.specs.Formed.{Formed, truth, binary}
-use Rattle.vx_terms.proofs.Same.{sort_is}
+-- Terms of one sort, and their equalities.
+use Rattle.std.proofs.Common.{◌≡◌, ◌⊎◌, inl, inr, ℕ, zero, suc, ◌+◌, ◌<◌, ◌≤◌, Bool, true, false, List, [], ◌∷◌, refl, sym, ◌∙◌, ap, subst, arith}
+use Rattle.vx_terms.specs.Sorts.{BoolSort, Equal, same_sort}
+use Rattle.vx_terms.specs.Terms.{Term, same, sort_of}
+use Rattle.vx_terms.specs.Formed.{Formed, binary}
+use Rattle.vx_terms.proofs.Same.{sort_is, term_is}
 use Rattle.vx_terms.proofs.Values.{sort_of_formed, formed_le}
 use Rattle.cs_certificate.specs.Terms.{equal, HasSort}
-use Rattle.cs_certificate.specs.Certificate.{State, At, IsEquality}
+use Rattle.cs_certificate.specs.Certificate.{State, At, IsEquality, Equates}
 use Rattle.cs_nodes.proofs.Heads.{sort_same}
 use Rattle.cs_numbers.specs.Laws.{IsSorted}
-use Rattle.cs_explained.proofs.Equalities.{some_is, one_or_two}
-use Rattle.cs_ground.specs.Ground.{ArePaired, of_one_sort, literal_left, literal_right, IsEquated}
-use Rattle.cs_ground.specs.Steps.{is_literal, are_paired, HasEquality}
+use Rattle.cs_numbers.proofs.Itself.{term_same}
+use Rattle.cs_ground.specs.Ground.{AreOfOneSort, IsEquated}
+use Rattle.cs_ground.specs.Steps.{have_one_sort, HasEquality}
+use Rattle.cs_ground.proofs.Lists.{some_is}
 
 -- ---- the test
-same_of : (x y : Term) (a : Sort) → HasSort x a → HasSort y a → same_sort (sort_of x) (sort_of y) ≡ true
-same_of x y a h k = ap (λ s. same_sort s (sort_of y)) (sort_of_formed h.1) ∙ ap (same_sort a) (sort_of_formed k.1) ∙ sort_same a
+pub same_told : (x y : Term) → AreOfOneSort x y → have_one_sort x y ≡ true
+same_told x y (a, h, k) = ap (λ s. same_sort s (sort_of y)) (sort_of_formed h.1) ∙ ap (same_sort a) (sort_of_formed k.1) ∙ sort_same a
 
-by_tests : (p q r : Bool) → p ≡ true → (q ≡ true → r ≡ true) → (if p then (if q then r else true) else false) ≡ true
-by_tests true true r e f = f refl
-by_tests true false r e f = refl
-by_tests false q r e f = cc
+pub one_sort : (x y : Term) → IsSorted x → IsSorted y → have_one_sort x y ≡ true → AreOfOneSort x y
+one_sort x y (a, (m, f)) (b, (n, g)) e =
+    let one : b ≡ a = sym (sort_of_formed g) ∙ sym (sort_is (sort_of x) (sort_of y) e) ∙ sort_of_formed f in
+    (a, (m, f), (n, subst (Formed n y) one g))
 
-right_true : (b : Bool) → b || true ≡ true
-right_true true = refl
-right_true false = refl
+pub sorts_turned : (x y : Term) → AreOfOneSort x y → AreOfOneSort y x
+sorts_turned x y (a, h, k) = (a, k, h)
 
-pub paired_told : (x y : Term) → ArePaired x y → are_paired x y ≡ true
-paired_told x y (of_one_sort a other h k) =
-    by_tests (same_sort (sort_of x) (sort_of y)) (same_sort (sort_of x) BoolSort) (is_literal x || is_literal y) (same_of x y a h k)
-    (λ e. absurd (other (sym (sort_of_formed h.1) ∙ sort_is (sort_of x) BoolSort e)))
-paired_told _ y (literal_left b k) =
-    by_tests (same_sort BoolSort (sort_of y)) (same_sort BoolSort BoolSort) true (same_of (Truth b) y BoolSort (0, truth b) k) (λ e. refl)
-paired_told x _ (literal_right b h) =
-    by_tests (same_sort (sort_of x) BoolSort) (same_sort (sort_of x) BoolSort) (is_literal x || true) (same_of x (Truth b) BoolSort h (0, truth b)) (λ e. right_true (is_literal x))
-
-first_test : (p q r : Bool) → (if p then (if q then r else true) else false) ≡ true → p ≡ true
-first_test true q r e = refl
-first_test false q r e = cc
-
--- two terms of one sort have an equality
-pub equality_sorted : (x y : Term) → IsSorted x → IsSorted y → are_paired x y ≡ true → IsSorted (equal x y)
-equality_sorted x y (a, (m, f)) (b, (n, g)) e =
-    let same : sort_of x ≡ sort_of y = sort_is (sort_of x) (sort_of y) (first_test (same_sort (sort_of x) (sort_of y)) (same_sort (sort_of x) BoolSort) (is_literal x || is_literal y) e) in
-    let one : b ≡ a = sym (sort_of_formed g) ∙ sym same ∙ sort_of_formed f in
+-- ---- equalities are Bool, of sides of one sort
+pub equality_sorted : (x y : Term) → AreOfOneSort x y → HasSort (equal x y) BoolSort
+equality_sorted x y (a, (m, f), (n, g)) =
     let left : m ≤ m + n = omega arith in
     let right : n ≤ m + n = omega arith in
-    (BoolSort, (m + n, binary {o = Equal} tt (formed_le left f) (subst (Formed (m + n) y) one (formed_le right g))))
+    (m + n, binary {o = Equal} tt (formed_le left f) (formed_le right g))
+
+pub equality_bool : (x y : Term) → IsSorted (equal x y) → HasSort (equal x y) BoolSort
+equality_bool x y (a, (n, binary {o = Equal} h f g)) = (n, binary {o = Equal} h f g)
+
+pub sides_sorted : (x y : Term) → IsSorted (equal x y) → AreOfOneSort x y
+sides_sorted x y (a, (n, binary {o = Equal} {a = s} h f g)) = (s, (n, f), (n, g))
 
 -- ---- order
-pub paired_turned : (x y : Term) → ArePaired x y → ArePaired y x
-paired_turned x y (of_one_sort a other h k) = of_one_sort a other k h
-paired_turned _ y (literal_left b k) = literal_right b k
-paired_turned x _ (literal_right b h) = literal_left b h
-
-equality_turned : (x y e : Term) → IsEquality x y e → IsEquality y x e
+pub equality_turned : (x y e : Term) → IsEquality x y e → IsEquality y x e
 equality_turned x y e (inl h) = inr h
 equality_turned x y e (inr h) = inl h
 
 pub turned : (terms : List Term) (x y : Term) → HasEquality terms x y → HasEquality terms y x
 turned terms x y (e, is, here) = (e, equality_turned x y e is, here)
+
+pub equates_turned : (s : State) (a b e : Term) → Equates s a b e → Equates s b a e
+equates_turned s a b e q = record {
+  number = q.number;
+  here = q.here;
+  equality = equality_turned a b e q.equality;
+  first = λ m f lt at is. q.first m f lt at (equality_turned b a f is);
+}
+
+-- two terms are one, or differ
+pub one_or_two : (t u : Term) → (t ≡ u) ⊎ ¬ (t ≡ u)
+one_or_two t u = go (same t u) refl
+  where
+    go : (b : Bool) → same t u ≡ b → (t ≡ u) ⊎ ¬ (t ≡ u)
+    go true e = inl (term_is t u e)
+    go false e = inr (λ h. let s : same t u ≡ true = subst (λ v. same t v ≡ true) h (term_same t) in let f : true ≡ false = sym s ∙ e in cc)
 
 -- ---- the first of two equalities
 is_equality : (x y e : Term) → IsEquality x y e ⊎ ¬ (IsEquality x y e)

@@ -1,7 +1,9 @@
-//! The equalities of a stack's terms, and the clauses that their rows and the assertions give.
+//! The equalities of a stack's terms, and the clauses that rules give of them.
 #![tactic(auto)]
 
+mod aliases;
 mod clauses;
+mod joins;
 mod made;
 mod pairs;
 

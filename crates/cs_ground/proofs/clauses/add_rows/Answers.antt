@@ -4,12 +4,12 @@ use Rattle.cs_ground.proofs.Collected.{Row, is_define, first_none, next_tried, l
 use Rattle.cs_ground.proofs.clauses.add_rows.Goals as goal
 
 pub loop-row-init : goal.loop-row-init
-loop-row-init c = λ stack formed h. first_none (Row c.args.t) stack (reached c.args.derivation.now) h
+loop-row-init c = λ stack h. first_none (Row c.args.t) stack (reached c.args.derivation.now) h
 
 pub returns-then-is_none : goal.returns-then-is_none
-returns-then-is_none c = λ stack formed h.
-    last_row c.args.t c.loop-row.row stack (reached c.args.derivation.now) (reached c.loop-row.derivation) (reached c.define.new.self) c.in_ok-define.field-0 c.if-is_none.ensures (c.loop-row.invariant stack formed h) (c.in_ok-define.ensures stack)
+returns-then-is_none c = λ stack h.
+    last_row c.args.t c.loop-row.row stack (reached c.args.derivation.now) (reached c.loop-row.derivation) (reached c.define.new.self) c.in_ok-define.field-0 c.if-is_none.ensures (c.loop-row.invariant stack h) (c.in_ok-define.ensures stack)
 
 pub loop-row-preserved : goal.loop-row-preserved
-loop-row-preserved c = λ stack formed h.
-    next_tried (Define c.args.t) c.loop-row.row stack (reached c.args.derivation.now) (reached c.loop-row.derivation) (reached c.define.new.self) c.in_ok-define.field-0 (is_define c.args.t c.loop-row.row) formed (c.loop-row.invariant stack formed h) (c.in_ok-define.ensures stack)
+loop-row-preserved c = λ stack h.
+    next_tried (Define c.args.t) c.loop-row.row stack (reached c.args.derivation.now) (reached c.loop-row.derivation) (reached c.define.new.self) c.in_ok-define.field-0 (is_define c.args.t c.loop-row.row) (c.loop-row.invariant stack h) (c.in_ok-define.ensures stack)

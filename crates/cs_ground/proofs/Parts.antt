@@ -1,0 +1,81 @@
+-- What goes on to parts holds of all subterms.
+use Rattle.std.proofs.Common.{◌≡◌, inl, inr, zero, suc, List, [], ◌∷◌, ◌++◌, Some, refl, subst}
+use Rattle.vx_terms.specs.Terms.{Term, Truth, Number, Part, Constant, Apply, Not, Binary, Ite, AllOf, SomeOf, Terms, NoTerms, MoreTerms}
+use Rattle.vx_terms.specs.Interpretations.{Each}
+use Rattle.cs_certificate.specs.Terms.{items, parts, subterms, all_subterms, parts_of}
+use Rattle.cs_certificate.specs.Certificate.{Stack, Contains, AreLive, AllLive}
+use Rattle.cs_numbers.proofs.Numbered.{in_either}
+use Rattle.cs_ground.proofs.Lists.{some_is}
+
+-- ---- a property that goes on to parts
+module _ (P : Term → Type 0) (down : (t p : Term) → P t → Contains (parts t) p → P p) where
+  itself : (t u : Term) → P t → Some t ≡ Some u → P u
+  itself t u h e = subst P (some_is e) h
+
+  mutual
+    pub in_subterms : (t u : Term) → P t → Contains (subterms t) u → P u
+    in_subterms (Truth b) u h (zero, e) = itself (Truth b) u h e
+    in_subterms (Truth b) u h (suc n, e) = cc
+    in_subterms (Number z) u h (zero, e) = itself (Number z) u h e
+    in_subterms (Number z) u h (suc n, e) = cc
+    in_subterms (Part a) u h (zero, e) = itself (Part a) u h e
+    in_subterms (Part a) u h (suc n, e) = cc
+    in_subterms (Constant f a) u h (zero, e) = itself (Constant f a) u h e
+    in_subterms (Constant f a) u h (suc n, e) = cc
+    in_subterms (Apply f a ts) u h (zero, e) = itself (Apply f a ts) u h e
+    in_subterms (Apply f a ts) u h (suc n, e) = in_all ts u (λ p k. down (Apply f a ts) p h k) (n, e)
+    in_subterms (Not t) u h (zero, e) = itself (Not t) u h e
+    in_subterms (Not t) u h (suc n, e) = in_subterms t u (down (Not t) t h (0, refl)) (n, e)
+    in_subterms (Binary o t v) u h (zero, e) = itself (Binary o t v) u h e
+    in_subterms (Binary o t v) u h (suc n, e) = elim (in_either (subterms t) (subterms v) u (n, e)) [
+      | inl x ↦ in_subterms t u (down (Binary o t v) t h (0, refl)) x
+      | inr x ↦ in_subterms v u (down (Binary o t v) v h (1, refl)) x
+    ]
+    in_subterms (Ite c t v) u h (zero, e) = itself (Ite c t v) u h e
+    in_subterms (Ite c t v) u h (suc n, e) = elim (in_either (subterms c) (subterms t ++ subterms v) u (n, e)) [
+      | inl x ↦ in_subterms c u (down (Ite c t v) c h (0, refl)) x
+      | inr x ↦ elim (in_either (subterms t) (subterms v) u x) [
+        | inl y ↦ in_subterms t u (down (Ite c t v) t h (1, refl)) y
+        | inr y ↦ in_subterms v u (down (Ite c t v) v h (2, refl)) y
+      ]
+    ]
+    in_subterms (AllOf ts) u h (zero, e) = itself (AllOf ts) u h e
+    in_subterms (AllOf ts) u h (suc n, e) = in_all ts u (λ p k. down (AllOf ts) p h k) (n, e)
+    in_subterms (SomeOf ts) u h (zero, e) = itself (SomeOf ts) u h e
+    in_subterms (SomeOf ts) u h (suc n, e) = in_all ts u (λ p k. down (SomeOf ts) p h k) (n, e)
+
+    in_all : (ts : Terms) (u : Term) → ((p : Term) → Contains (items ts) p → P p) → Contains (all_subterms ts) u → P u
+    in_all NoTerms u h (n, e) = cc
+    in_all (MoreTerms t ts) u h k = elim (in_either (subterms t) (all_subterms ts) u k) [
+      | inl x ↦ in_subterms t u (h t (0, refl)) x
+      | inr x ↦ in_all ts u (λ p c. h p (suc c.0, c.1)) x
+    ]
+
+  pub in_parts : (ts : List Term) (u : Term) → Each P ts → Contains (parts_of ts) u → P u
+  in_parts [] u h (n, e) = cc
+  in_parts (t ∷ ts) u h k = elim (in_either (subterms t) (parts_of ts) u k) [ inl x ↦ in_subterms t u h.0 x | inr x ↦ in_parts ts u h.1 x ]
+
+-- ---- parts of terms over the live symbols are over them
+module _ (stack : Stack) where
+  items_live : (ts : Terms) (p : Term) → AllLive stack ts → Contains (items ts) p → AreLive stack p
+  items_live NoTerms p h (n, e) = cc
+  items_live (MoreTerms t ts) p h (zero, e) = subst (AreLive stack) (some_is e) h.0
+  items_live (MoreTerms t ts) p h (suc n, e) = items_live ts p h.1 (n, e)
+
+  pub live_part : (t p : Term) → AreLive stack t → Contains (parts t) p → AreLive stack p
+  live_part (Truth b) p h (n, e) = cc
+  live_part (Number z) p h (n, e) = cc
+  live_part (Part a) p h (n, e) = cc
+  live_part (Constant f a) p h (n, e) = cc
+  live_part (Apply f a ts) p h k = items_live ts p h.1 k
+  live_part (Not t) p h (zero, e) = subst (AreLive stack) (some_is e) h
+  live_part (Not t) p h (suc n, e) = cc
+  live_part (Binary o t u) p h (zero, e) = subst (AreLive stack) (some_is e) h.0
+  live_part (Binary o t u) p h (suc zero, e) = subst (AreLive stack) (some_is e) h.1
+  live_part (Binary o t u) p h (suc (suc n), e) = cc
+  live_part (Ite c t u) p h (zero, e) = subst (AreLive stack) (some_is e) h.0
+  live_part (Ite c t u) p h (suc zero, e) = subst (AreLive stack) (some_is e) h.1
+  live_part (Ite c t u) p h (suc (suc zero), e) = subst (AreLive stack) (some_is e) h.2
+  live_part (Ite c t u) p h (suc (suc (suc n)), e) = cc
+  live_part (AllOf ts) p h k = items_live ts p h k
+  live_part (SomeOf ts) p h k = items_live ts p h k
