@@ -1,0 +1,5 @@
+pub mod Lists
+pub mod Clauses
+pub mod Sorts
+pub mod Equalities
+pub mod Satisfied

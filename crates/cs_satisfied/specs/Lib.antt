@@ -1,0 +1,2 @@
+pub mod Classed
+pub mod Laws
