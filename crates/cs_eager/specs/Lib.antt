@@ -1,0 +1,4 @@
+pub mod Answers
+pub mod Atoms
+pub mod Replayed
+pub mod Assigned
