@@ -6,10 +6,12 @@ ghost use Rattle.cs_meter.specs.Units.{limit};
 ghost use Rattle.cs_numbers.specs.Laws.{IsSorted};
 ghost use Rattle.cs_proof.specs.Fits.{seen};
 ghost use Rattle.cs_decide.specs.Answers.{IsRefutation, IsSatisfaction, IsCaused, IsRight};
+ghost use Rattle.cs_decide.specs.Few.{IsFew, IsDecided};
 
 use crate::answer::{Answer, Cause};
 use crate::check::decided;
 use crate::judging::stopped;
+use crate::settled::settled;
 use cs_meter::{Budget, Meter};
 use cs_proof::{Stack, Want};
 use std::alloc::Global;
@@ -68,7 +70,9 @@ fn answered(alloc: Global, stack: &Stack) -> Result<Answer, Want>
 }
 
 /// Decides the assertions of a stack. Numbers have the rules of linear arithmetic; a product of two terms that aren't literals, and
-/// a quotient or a remainder by such a term, is a term as any other. What is answered is right.
+/// a quotient or a remainder by such a term, is a term as any other. What is answered is right. Where no term is a number and at most
+/// ten are Bool, the answer is never `Unknown`: what attempts leave undecided is then decided by all clauses of the stack at once, in a
+/// time that may grow with the cube of the number of terms.
 ///
 /// # Errors
 /// `Want` where memory runs out.
@@ -77,6 +81,11 @@ pub fn decide(alloc: Global, stack: &Stack) -> Result<Answer, Want>
     ensures refuted { Each IsSorted (seen stack.now).assertions → IfOk result (IsRefutation (seen stack.now)) }
     ensures satisfied { IfOk result (IsSatisfaction (seen stack.now)) }
     ensures caused { IfOk result (IsCaused (seen stack.now)) }
+    ensures few { IsFew (seen stack.now) → IfOk result IsDecided }
 {
-    answered(alloc, stack)
+    match answered(alloc, stack)? {
+        Answer::Refuted(steps) => Ok(Answer::Refuted(steps)),
+        Answer::Satisfied(model) => Ok(Answer::Satisfied(model)),
+        Answer::Unknown(cause) => settled(alloc, stack, cause),
+    }
 }

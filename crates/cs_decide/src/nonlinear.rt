@@ -86,7 +86,10 @@ fn is_number(t: &Term) -> Result<bool, AllocError>
 }
 
 /// Whether one of the terms is of sort Int or Real.
-fn has_number_among(terms: &[Rc<Term>]) -> Result<bool, AllocError>
+///
+/// # Errors
+/// Memory runs out.
+pub fn has_number_among(terms: &[Rc<Term>]) -> Result<bool, AllocError>
     ensures { IfOk result (λ b. b ≡ list_any clean.is_number (map (λ x. term x.value) terms.now)) }
 {
     for t in terms {

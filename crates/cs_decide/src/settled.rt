@@ -1,0 +1,40 @@
+//! Where all attempts leave a stack undecided of which few terms are Bool, all its clauses at once decide it.
+ghost use Rattle.std.specs.Prelude.{IfOk};
+ghost use Rattle.cs_proof.specs.Fits.{seen};
+ghost use Rattle.cs_decide.specs.Answers.{IsRight};
+ghost use Rattle.cs_decide.specs.Causes.{IsCause};
+ghost use Rattle.cs_decide.specs.Few.{IsFew, IsDecided};
+
+use crate::answer::{Answer, Cause};
+use crate::few::is_few;
+use cs_eager::{Settled, settle};
+use cs_proof::{Stack, Want, finished_refutes};
+use std::alloc::Global;
+
+/// The answer of a stack, by all clauses that its terms give.
+fn by_clauses(alloc: Global, stack: &Stack) -> Result<Answer, Want>
+    ensures right { IsFew (seen stack.now) → IfOk result (IsRight (seen stack.now)) }
+    ensures decided { IfOk result IsDecided }
+{
+    finished_refutes();
+    match settle(alloc, stack)? {
+        Settled::Refuted(steps) => Ok(Answer::Refuted(steps)),
+        Settled::Satisfied(model) => Ok(Answer::Satisfied(model)),
+    }
+}
+
+/// The answer of a stack that attempts leave undecided by this cause: it stays so, unless few terms are Bool.
+///
+/// # Errors
+/// `Want` where memory runs out.
+pub fn settled(alloc: Global, stack: &Stack, cause: Cause) -> Result<Answer, Want>
+    requires { IsCause (seen stack.now) cause }
+    ensures right { IfOk result (IsRight (seen stack.now)) }
+    ensures few { IsFew (seen stack.now) → IfOk result IsDecided }
+{
+    if is_few(alloc, stack)? {
+        by_clauses(alloc, stack)
+    } else {
+        Ok(Answer::Unknown(cause))
+    }
+}
