@@ -49,7 +49,7 @@ declared_kept scope = record {
   number = λ z. tt;
   part = λ a low. tt;
   constant = λ d is none. subst (Declares scope.symbols) (alone_is d none) is;
-  applies = λ d ts is h sorts.
+  applies = λ d ts is h some sorts.
       (subst (Declares scope.symbols) (ap (λ (xs : List Sort). declaration d.symbol xs d.gives) (sym (own_sorts ts d.takes sorts))) is, each_declared scope.symbols ts h);
   nots = λ t h bool. h;
   binary = λ o t u h g takes same. (h, g);

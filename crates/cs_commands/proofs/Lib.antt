@@ -19,3 +19,4 @@ pub mod Sorted
 pub mod Alike
 pub mod InOrder
 pub mod Apart
+pub mod Arguments

@@ -85,7 +85,7 @@ pub record Keeps (scope : Scope) (P : Term → Type 0) : Type 0 where
   pub number : (z : ℤ) → P (Number z)
   pub part : (a : Fraction) → lowest a ≡ a → P (Part a)
   pub constant : (d : Declared) → Declares scope.symbols d → is_empty d.takes ≡ true → P (Constant d.symbol d.gives)
-  pub applies : (d : Declared) (ts : List Term) → Declares scope.symbols d → Each P ts → have_sorts ts d.takes ≡ true → P (Apply d.symbol d.gives (listed ts))
+  pub applies : (d : Declared) (ts : List Term) → Declares scope.symbols d → Each P ts → not (is_empty ts) ≡ true → have_sorts ts d.takes ≡ true → P (Apply d.symbol d.gives (listed ts))
   pub nots : (t : Term) → P t → is_bool t ≡ true → P (Not t)
   pub binary : (o : Operator) (t u : Term) → P t → P u → takes o (sort_of t) ≡ true → same_sort (sort_of u) (sort_of t) ≡ true → P (Binary o t u)
   pub choices : (c t u : Term) → P c → P t → P u → is_bool c ≡ true → same_sort (sort_of u) (sort_of t) ≡ true → P (Ite c t u)
@@ -165,7 +165,8 @@ module _ (scope : Scope) (P : Term → Type 0) (k : Keeps scope P) where
   application_keeps : (d : Declared) (ts : List Term) (t : Term) → Declares scope.symbols d → Each P ts → building.application d ts ≡ Ok t → P t
   application_keeps d ts t is h e =
       let p = passed faults.Sort (not (is_empty ts) && have_sorts ts d.takes) (Apply d.symbol d.gives (listed ts)) t e in
-      subst P p.1 (k.applies d ts is h (and_parts (not (is_empty ts)) (have_sorts ts d.takes) p.0).1)
+      let q = and_parts (not (is_empty ts)) (have_sorts ts d.takes) p.0 in
+      subst P p.1 (k.applies d ts is h q.0 q.1)
 
   constant_keeps : (d : Declared) (t : Term) → Declares scope.symbols d → building.constant d ≡ Ok t → P t
   constant_keeps d t is e = let p = passed faults.Sort (is_empty d.takes) (Constant d.symbol d.gives) t e in subst P p.1 (k.constant d is p.0)

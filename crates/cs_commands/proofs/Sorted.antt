@@ -124,7 +124,7 @@ sorted_kept scope = record {
   number = λ z. record { from = 0; formed = λ n le. number z };
   part = λ a low. record { from = 0; formed = λ n le. part a low };
   constant = λ d is none. record { from = known_from d.symbol; formed = λ n le. constant d.symbol d.gives (is_known d.symbol n le) };
-  applies = λ d ts is h sorts. applied_sorted d.symbol d.gives ts (all_sorted ts h);
+  applies = λ d ts is h some sorts. applied_sorted d.symbol d.gives ts (all_sorted ts h);
   nots = λ t h bool. record { from = h.from; formed = λ n le. nots (at_bool t bool (h.formed n le)) };
   binary = binary_sorted;
   choices = choice_sorted;

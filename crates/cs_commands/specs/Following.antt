@@ -3,11 +3,12 @@ use Rattle.std.specs.Prelude.{◌≡◌, ⊤, ℕ, ◌<◌, true, List, length, 
 use Rattle.vx_sexp.specs.declared.token.Token.{Token}
 use Rattle.vx_sexp.specs.Tokens.{Lexes, is_symbol}
 use Rattle.vx_terms.specs.Sorts.{Sort, BoolSort, Symbol}
-use Rattle.vx_terms.specs.Terms.{Term}
+use Rattle.vx_terms.specs.Terms.{Term, Apply, NoTerms}
+use Rattle.vx_terms.specs.Interpretations.{Each}
 use Rattle.vx_smt_meaning.specs.Commands.{Command, DeclareFun, Assert, Pop, Declared, Level, declared_in, stack_after}
 use Rattle.vx_smt_meaning.specs.Words.{symbol_word}
 use Rattle.vx_smt_meaning.specs.WellFormed.{knows_sort, MayFollow}
-use Rattle.cs_certificate.specs.Terms.{HasSort}
+use Rattle.cs_certificate.specs.Terms.{HasSort, subterms}
 use Rattle.cs_commands.specs.declared.word.Word.TheVariants as words
 use Rattle.cs_commands.specs.Words.{term_word}
 use Rattle.cs_commands.specs.Names.{symbol_named}
@@ -29,6 +30,15 @@ UnderstoodMayFollow = (levels : List Level) (tokens : List Token) (c : Command) 
 -- an assertion is well-sorted, over any scope
 abbrev pub UnderstoodIsSorted : Type 0
 UnderstoodIsSorted = (scope : Scope) (tokens : List Token) (t : Term) → understood scope tokens ≡ Ok (Assert t) → HasSort t BoolSort
+
+-- no application without arguments
+abbrev pub HasArguments : Term → Type 0
+HasArguments (Apply f a NoTerms) = ⊥
+HasArguments t = ⊤
+
+-- each application in an assertion has arguments, over any scope
+abbrev pub UnderstoodHasArguments : Type 0
+UnderstoodHasArguments = (scope : Scope) (tokens : List Token) (t : Term) → understood scope tokens ≡ Ok (Assert t) → Each HasArguments (subterms t)
 
 -- ---- a symbol that is declared has a word of its own
 
