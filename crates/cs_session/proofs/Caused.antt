@@ -20,11 +20,11 @@ use Rattle.cs_session.specs.Answering.{UndecidedHasItsCause}
 abbrev HasCause : Last → Type 0
 HasCause l = (cause : Cause) × (option_to_list (cause_of l) ≡ cause ∷ [])
 
-checked : (levels : List Level) (l : Last) → Tells levels Undecided l → HasCause l
-checked levels (Unknown cause) h = (cause, refl)
-checked levels Nothing h = absurd h
-checked levels (Refuted steps) h = absurd h
-checked levels Satisfied h = absurd h
+caused_by : (levels : List Level) (l : Last) → Tells levels Undecided l → HasCause l
+caused_by levels (Unknown cause) h = (cause, refl)
+caused_by levels Nothing h = absurd h
+caused_by levels (Refuted steps) h = absurd h
+caused_by levels Satisfied h = absurd h
 
 -- ---- no other command is answered so
 
@@ -49,7 +49,7 @@ not_told (faults.Command command_faults.Levels) h = cc
 not_told (faults.Command command_faults.Unsupported) h = cc
 not_told (faults.Command command_faults.Want) h = cc
 
-done : (c : Command) (s u : State) → Does c s Undecided u → HasCause u.last
+done : (c : Command) (s u : State) → Does c s Undecided u → Tells s.levels Undecided u.last
 done (SetOption x b) s u h = let e = h.0 in absurd (cc)
 done (SetLogic x) s u h = let e = h.0 in absurd (cc)
 done (DeclareSort x) s u h = let e = h.0 in absurd (cc)
@@ -57,13 +57,14 @@ done (DeclareFun d) s u h = let e = h.0 in absurd (cc)
 done (Assert t) s u h = let e = h.0 in absurd (cc)
 done (Push n) s u h = absurd (not_followed (nat_le (depth s.levels + n) 256) (Push n) s u h)
 done (Pop n) s u h = absurd (not_followed (nat_le n (depth s.levels)) (Pop n) s u h)
-done CheckSat s u h = checked s.levels u.last h.1
+done CheckSat s u h = h.1
 done GetProof s u h = absurd (not_shown s.last h.0)
 done Exit s u h = let e = h.0 in absurd (cc)
 
-replied : (o : Result Command' Fault) (s u : State) → RepliesTo o s Undecided u → HasCause u.last
-replied (Ok c) s u h = done (command c) s u h
-replied (Err e) s u h = absurd (not_told e h.0)
+-- so a check has said it
+pub checked : (o : Result Command' Fault) (s u : State) → RepliesTo o s Undecided u → Tells s.levels Undecided u.last
+checked (Ok c) s u h = done (command c) s u h
+checked (Err e) s u h = absurd (not_told e h.0)
 
 pub caused : UndecidedHasItsCause
-caused bytes s u h = replied h.understood s u h.replied
+caused bytes s u h = caused_by s.levels u.last (checked h.understood s u h.replied)

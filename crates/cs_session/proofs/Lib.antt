@@ -7,3 +7,5 @@ pub mod Ones
 pub mod Turned
 pub mod Kept
 mod Caused
+pub mod Formed
+pub mod Decided

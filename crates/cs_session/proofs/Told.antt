@@ -18,6 +18,7 @@ use Rattle.cs_decide.specs.declared.answer.Answer.{Answer}
 use Rattle.cs_decide.specs.declared.answer.Answer.TheVariants.{Refuted, Satisfied, Unknown}
 use Rattle.cs_decide.specs.declared.answer.Cause.{Cause}
 use Rattle.cs_decide.specs.Causes.{IsCause}
+use Rattle.cs_decide.specs.Few.{IsFew, IsDecided}
 use Rattle.cs_decide.specs.Answers.{IsRefutation, IsSatisfaction, IsCaused}
 use Rattle.cs_session.specs.Views.{standing}
 use Rattle.cs_session.proofs.Lists.{each_reverse}
@@ -44,6 +45,8 @@ satisfies levels stack answer m e is told =
     subst (λ (a : Answer). IsSatisfaction (standing levels) a) is (subst (λ (s : Stack). IsSatisfaction s answer) e told) in
     (interpretation m.entries.items, subst (AllTrue (interpretation m.entries.items)) (reverse-reverse (assertions_of levels)) (each_reverse (IsTrueIn (interpretation m.entries.items)) (standing levels).assertions all))
 
-pub leaves_open : (levels : List Level) (stack : Stack) (answer : Answer) (cause : Cause) → stack ≡ standing levels → answer ≡ Unknown cause → IsCaused stack answer → IsCause (standing levels) cause
-leaves_open levels stack answer cause e is told =
-    subst (λ (a : Answer). IsCaused (standing levels) a) is (subst (λ (s : Stack). IsCaused s answer) e told)
+pub leaves_open : (levels : List Level) (stack : Stack) (answer : Answer) (cause : Cause) → stack ≡ standing levels → answer ≡ Unknown cause → IsCaused stack answer → (IsFew stack → IsDecided answer)
+    → IsCause (standing levels) cause × ¬ (IsFew (standing levels))
+leaves_open levels stack answer cause e is told few =
+    let decided : IsFew (standing levels) → IsDecided answer = subst (λ (s : Stack). IsFew s → IsDecided answer) e few in
+    (subst (λ (a : Answer). IsCaused (standing levels) a) is (subst (λ (s : Stack). IsCaused s answer) e told), λ h. subst IsDecided is (decided h))

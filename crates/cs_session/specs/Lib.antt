@@ -6,3 +6,4 @@ pub mod Replies
 pub mod Texts
 pub mod Answering
 pub mod Kept
+pub mod Few

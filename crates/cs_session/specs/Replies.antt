@@ -17,6 +17,7 @@ use Rattle.cs_commands.specs.declared.fault.Fault.TheVariants as faults
 use Rattle.cs_commands.specs.Understanding.{Understands}
 use Rattle.cs_commands.specs.Laws.{scope_of}
 use Rattle.cs_decide.specs.Causes.{IsCause}
+use Rattle.cs_decide.specs.Few.{IsFew}
 use Rattle.cs_text.specs.Text.{certificate_text}
 use Rattle.cs_text.specs.Writable.{AreWritable}
 use Rattle.cs_session.specs.declared.reply.Complaint.TheVariants as complaints
@@ -50,11 +51,12 @@ abbrev pub FollowsIf : Bool → Command → State → Reply → State → Type 0
 FollowsIf true c = Follows c
 FollowsIf false c = Only (Failed complaints.Levels)
 
--- what a check says of the levels; the steps are those of a certificate that its checker has finished, and the cause is so
+-- what a check says of the levels; the steps are those of a certificate that its checker has finished, and the cause is so; a stack
+-- of few Bool terms without numbers isn't undecided
 abbrev pub Tells : List Level → Reply → Last → Type 0
 Tells levels Unsat (Refuted steps) = ∥ Answers (standing levels) (map written steps.items) Finished ∥₁ × IsUnsatisfiable (assertions_of levels)
 Tells levels Sat Satisfied = IsSatisfiable (assertions_of levels)
-Tells levels Undecided (Unknown cause) = IsCause (standing levels) cause
+Tells levels Undecided (Unknown cause) = IsCause (standing levels) cause × ¬ (IsFew (standing levels))
 Tells levels r last = ⊥
 
 abbrev pub Checks : State → Reply → State → Type 0
