@@ -2,8 +2,9 @@
 
 use crate::names::Names;
 use crate::reading::{term_of, word_of};
-use cs_decide::{Answer, Cause, decide};
-use cs_proof::Stack;
+use cs_decide::{Answer, Cause, decide, is_few};
+use cs_eager::{Settled, settle};
+use cs_proof::{Stack, Want};
 use cs_reader::Stop;
 use std::alloc::{AllocError, Global};
 use std::rc::Rc;
@@ -89,7 +90,7 @@ impl Row {
         Ok(())
     }
 
-    /// A check, and its answer on a line.
+    /// A check, and its answer on a line; where all clauses at once answer otherwise, that is told.
     fn check(&self, alloc: Global, out: &mut String) -> Result<(), Stop> {
         let stack = self.stack(alloc)?;
         let Ok(answer) = decide(alloc, &stack) else {
@@ -97,7 +98,11 @@ impl Row {
         };
         let told = answer_text(alloc, &answer, self.within)?;
         put_line(out, "  ", &told)?;
-        Ok(())
+        match settles_alike(alloc, &stack, &answer) {
+            Ok(true) => Ok(()),
+            Ok(false) => Ok(put_line(out, "  ", "settled otherwise")?),
+            Err(Want) => Err(Stop::Want),
+        }
     }
 
     /// A command, without its word.
@@ -142,6 +147,18 @@ impl Row {
             }
             Err(_) => Err(Stop::Form),
         }
+    }
+}
+
+/// Whether all clauses of a stack at once give the same answer, where few of its terms are Bool and none is a number.
+fn settles_alike(alloc: Global, stack: &Stack, answer: &Answer) -> Result<bool, Want> {
+    if !is_few(alloc, stack)? {
+        return Ok(true);
+    }
+    match (settle(alloc, stack)?, answer) {
+        (Settled::Refuted(_), Answer::Refuted(_)) => Ok(true),
+        (Settled::Satisfied(_), Answer::Satisfied(_)) => Ok(true),
+        _ => Ok(false),
     }
 }
 
