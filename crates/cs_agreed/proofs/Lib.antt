@@ -1,4 +1,0 @@
-pub mod Agreed
-pub mod Truths
-pub mod Exactly
-pub mod Worked

@@ -1,9 +1,0 @@
-pub mod Lists
-pub mod Given
-pub mod Cases
-pub mod Finished
-pub mod Forced
-pub mod Rows
-pub mod Assigned
-pub mod Evaluated
-pub mod Worked

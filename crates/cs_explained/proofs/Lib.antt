@@ -1,5 +1,0 @@
-pub mod Equalities
-pub mod Links
-pub mod Steps
-pub mod Refuted
-pub mod Worked

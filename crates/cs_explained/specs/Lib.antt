@@ -1,4 +1,0 @@
-pub mod Matched
-pub mod Refuted
-pub mod Laws
-pub mod Worked
