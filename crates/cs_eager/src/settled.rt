@@ -47,7 +47,8 @@ fn answered(alloc: Global, stack: &Stack, ground: Ground) -> Result<Settled, Sto
 }
 
 /// Settles a stack without numbers: over all clauses that its terms give, a search finds an assignment or refutes them. There is
-/// always an answer, in a time that grows with the cube of the number of terms, and at worst exponentially with that of Bool terms.
+/// always an answer. Naming the equalities of n terms takes a time like n^4, and the search may take one that is exponential in the
+/// number of Bool terms.
 ///
 /// # Errors
 /// `Want` where memory runs out.
