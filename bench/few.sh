@@ -1,10 +1,12 @@
 #!/usr/bin/env bash
 # Compares the companion solver with z3, where it is there, on random stacks without numbers: equalities of three constants in both
 # orders, functions, one with a Bool argument, a predicate and choices. The program asks of each stack that is few both procedures, and
-# tells where they differ. Says how many of the stacks both solvers answered alike, and which otherwise; of these there must be none.
+# tells where they differ. Says how many of the stacks both solvers answered alike, how many the companion left unknown, and which they
+# answered otherwise; of these there must be none.
 # Words: the first seed, and how many.
 set -eu
 . "$(dirname "${BASH_SOURCE[0]}")/timing.sh"
+. "$(dirname "${BASH_SOURCE[0]}")/comparing.sh"
 program=$here/crates/cs_joined/out/cs_joined
 [ -x "$program" ] || (cd "$here/crates/cs_joined" && rt run < stdin > /dev/null)
 
@@ -51,22 +53,7 @@ stacks() {
     }'
 }
 
-# An answer a line, as solvers write it.
-answers() { sed -n 's/^ *refuted.*/unsat/; s/^ *model, true/sat/; s/^ *unknown.*/unknown/; /^unsat$/p; /^sat$/p; /^unknown$/p; /^seed/p'; }
-
-compare() {
-    local from=$1 count=$2
-    stacks "$from" "$count" > "$folder/stacks"
-    timed "$count stacks from seed $from" "$folder/stacks" timeout 1200 "$program"
-    echo "both procedures differ on $(grep -c '^ *settled otherwise$' "$folder/out") stacks"
-    answers < "$folder/out" > "$folder/own"
-    before= timed "z3, the same" "$folder/stacks" timeout 1200 z3 -in
-    answers < "$folder/out" > "$folder/theirs"
-    paste -d' ' "$folder/own" "$folder/theirs" | awk '
-        /^seed/ { seed = $2; next }
-        $1 == $2 { alike++; next }
-        { other++; print "seed " seed ": " $1 ", and " $2 }
-        END { print alike + 0 " alike, " other + 0 " otherwise"; exit other > 0 }'
-}
-
-if command -v z3 > /dev/null; then compare "${1:-1}" "${2:-2000}"; fi
+if command -v z3 > /dev/null; then
+    compare "${1:-1}" "${2:-2000}"
+    echo "both procedures differ on $(grep -c '^ *settled otherwise$' "$folder/said") stacks"
+fi

@@ -6,6 +6,7 @@
 # Words: the first seed, and how many.
 set -eu
 . "$(dirname "${BASH_SOURCE[0]}")/timing.sh"
+. "$(dirname "${BASH_SOURCE[0]}")/comparing.sh"
 program=$here/crates/cs_joined/out/cs_joined
 [ -x "$program" ] || (cd "$here/crates/cs_joined" && rt run < stdin > /dev/null)
 
@@ -58,24 +59,6 @@ stacks() {
             print "(check-sat)"
         }
     }'
-}
-
-# An answer a line, as solvers write it.
-answers() { sed -n 's/^ *refuted.*/unsat/; s/^ *model, true/sat/; s/^ *unknown.*/unknown/; /^unsat$/p; /^sat$/p; /^unknown$/p; /^seed/p'; }
-
-compare() {
-    local from=$1 count=$2
-    stacks "$from" "$count" > "$folder/stacks"
-    timed "$count stacks from seed $from" "$folder/stacks" timeout 1200 "$program"
-    answers < "$folder/out" > "$folder/own"
-    before= timed "z3, the same" "$folder/stacks" timeout 1200 z3 -in
-    answers < "$folder/out" > "$folder/theirs"
-    paste -d' ' "$folder/own" "$folder/theirs" | awk '
-        /^seed/ { seed = $2; next }
-        $1 == "unknown" { unknown++; next }
-        $1 == $2 { alike++; next }
-        { other++; print "seed " seed ": " $1 ", and " $2 }
-        END { print alike + 0 " alike, " unknown + 0 " unknown, " other + 0 " otherwise"; exit other > 0 }'
 }
 
 # Each number is at most 1 above the one before, and the last one more than n above the first.
