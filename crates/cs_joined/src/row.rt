@@ -241,7 +241,7 @@ fn run_command(
 ///
 /// # Errors
 /// Want of memory.
-pub fn run_all(alloc: Global, script: &[u8], out: &mut String) -> Result<(), AllocError> {
+pub fn run_script(alloc: Global, script: &[u8], out: &mut String) -> Result<(), AllocError> {
     let mut row = Row::new(alloc)?;
     let mut rest = script;
     for number in 0..script.len() {

@@ -1,5 +1,5 @@
-//! Runs the rows of a table of certificates, which is read from standard input, and writes what came of each.
-//! `docs/ROWS.md` tells what a table is made of.
+//! Runs the rows of a table of certificates, and then the checks of a script, which are read from standard input, and writes
+//! what came of each. `docs/ROWS.md` tells what a table and a script are made of.
 #![tactic(auto)]
 
 mod checked;
@@ -16,14 +16,29 @@ mod table;
 mod told;
 mod written;
 
+use cs_joined::run_script;
 use std::alloc::{AllocError, Global};
 use std::io::Read;
 use std::process::ExitCode;
 
-// What came of the rows of a table.
-fn told_of(alloc: Global, table: &str) -> Result<String, AllocError> {
+// How many bytes stand in front of the script, which begins with the first line that begins as a command or a comment does.
+fn table_length(text: &str) -> usize {
+    let mut at = 0usize;
+    for line in text.split('\n') {
+        if line.starts_with('(') || line.starts_with(';') {
+            return at;
+        }
+        at = at.saturating_add(line.len()).saturating_add(1);
+    }
+    at
+}
+
+// What came of the rows of a table, and of the script behind it.
+fn told_of(alloc: Global, text: &str) -> Result<String, AllocError> {
+    let at = table_length(text);
     let mut out = String::new(alloc);
-    table::run_all(alloc, table, &mut out)?;
+    table::run_all(alloc, text.get(..at).unwrap_or(text), &mut out)?;
+    run_script(alloc, text.as_bytes().get(at..).unwrap_or(&[]), &mut out)?;
     Ok(out)
 }
 

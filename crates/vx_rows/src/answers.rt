@@ -142,6 +142,13 @@ pub fn answer(
         Asks::File => put_file(rt, alloc, row, out),
         Asks::Child => put_child_answer(alloc, &mut ChildSpawner::new(alloc, rt), row, out),
         Asks::Companion => put_companion_answer(alloc, row, out),
-        _ => put_line(out, "  ", "this row asks something of a part"),
+        Asks::Parse
+        | Asks::Beginnings
+        | Asks::Machines
+        | Asks::Order
+        | Asks::Names
+        | Asks::Graph
+        | Asks::Fraction
+        | Asks::Sexp => vx_part_rows::answer(alloc, row, out),
     }
 }

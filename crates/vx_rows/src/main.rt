@@ -1,4 +1,4 @@
-//! Runs the rows of the whole program in a table, which is read from standard input, and writes what came of each. `docs/ROWS.md` tells what a
+//! Runs the rows of the whole program and of its parts in a table, which is read from standard input, and writes what came of each. `docs/ROWS.md` tells what a
 //! table is made of.
 #![tactic(auto)]
 
