@@ -2,13 +2,13 @@
 # Reads s-expressions of 1, 4 and 16 million bytes and writes declarations of about as many, and prints what each takes.
 set -eu
 . "$(dirname "${BASH_SOURCE[0]}")/timing.sh"
-program=$here/crates/smt_bench/out/smt_bench
-[ -x "$program" ] || (cd "$here/crates/smt_bench" && rt run < stdin > /dev/null)
+program=$here/crates/cs_rows/out/cs_rows
+[ -x "$program" ] || (cd "$here/crates/cs_rows" && rt run < stdin > /dev/null)
 
 for millions in 1 4 16; do
     file=$folder/$millions
     line='(assert (= v12 (+ v7 1.5)))'
     lines=$((millions * 1000000 / (${#line} + 1)))
-    { echo '('; awk -v line="$line" -v lines="$lines" 'BEGIN { for (i = 0; i < lines; i++) print line }'; echo ')'; } > "$file"
+    { printf 'sizes ('; awk -v line="$line" -v lines="$lines" 'BEGIN { for (i = 0; i < lines; i++) printf "%s ", line }'; echo ')'; } > "$file"
     timed "$millions million bytes" "$file" "$program"
 done

@@ -15,7 +15,7 @@ use std::alloc::Global;
 use std::collections::BTreeSet;
 
 /// A step that derives an equality of two terms.
-#[derive(Debug, Drop)]
+#[derive(Drop)]
 pub enum Derived {
     /// Of the first and the last term, by those of neighbours.
     Path(Vec<u32>),
@@ -25,7 +25,7 @@ pub enum Derived {
 
 /// Why two terms are equal: the numbers of the claims that are used, and the steps in order. The last
 /// step derives the equality of the two. A step uses what is claimed, and what steps before it derive.
-#[derive(Debug, Drop)]
+#[derive(Drop)]
 pub struct Chain {
     pub claims: Vec<u32>,
     pub steps: Vec<Derived>,

@@ -13,7 +13,7 @@ use vx_frac::Frac;
 use vx_terms::Operator;
 
 /// As a literal, by its parts, or as a column of its own.
-#[derive(Clone, Copy, Debug)]
+#[derive(Clone, Copy)]
 pub enum Reading {
     Literal(Frac),
     Sum(u32, u32),

@@ -2,7 +2,7 @@
 use vx_frac::Frac;
 
 /// What left less right is.
-#[derive(Clone, Copy, PartialEq, Eq, Debug)]
+#[derive(Clone, Copy, PartialEq, Eq)]
 pub enum Relation {
     AtMostZero,
     BelowZero,
@@ -10,7 +10,7 @@ pub enum Relation {
 }
 
 /// A constraint, by the numbers of its sides.
-#[derive(Clone, Copy, Debug)]
+#[derive(Clone, Copy)]
 pub struct Bound {
     pub left: u32,
     pub right: u32,
@@ -18,14 +18,14 @@ pub struct Bound {
 }
 
 /// A constraint and its multiplier.
-#[derive(Clone, Copy, Debug)]
+#[derive(Clone, Copy)]
 pub struct Part {
     pub bound: Bound,
     pub multiplier: Frac,
 }
 
 /// The sort of all sides.
-#[derive(Clone, Copy, PartialEq, Eq, Debug)]
+#[derive(Clone, Copy, PartialEq, Eq)]
 pub enum Numbers {
     Int,
     Real,

@@ -2,14 +2,14 @@
 #![tactic(auto)]
 
 /// A numbered term or its negation.
-#[derive(Clone, Copy, PartialEq, Eq, Debug)]
+#[derive(Clone, Copy, PartialEq, Eq)]
 pub struct Literal {
     pub positive: bool,
     pub number: u32,
 }
 
 /// What a clause leaves of its literals.
-#[derive(Clone, Copy, PartialEq, Eq, Debug)]
+#[derive(Clone, Copy, PartialEq, Eq)]
 pub enum Left {
     Nothing,
     One(Literal),

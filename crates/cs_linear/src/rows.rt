@@ -11,14 +11,14 @@ use std::alloc::Global;
 use vx_frac::Frac;
 
 /// A factor of a column.
-#[derive(Clone, Copy, PartialEq, Eq, Debug)]
+#[derive(Clone, Copy, PartialEq, Eq)]
 pub struct Entry {
     pub column: u32,
     pub factor: Frac,
 }
 
 /// A basic column is a sum of other columns.
-#[derive(Debug, Drop)]
+#[derive(Drop)]
 pub struct Row {
     pub basic: u32,
     pub entries: Vec<Entry>,

@@ -10,14 +10,14 @@ use std::alloc::AllocError;
 pub const LIMIT: u32 = 100_000;
 
 /// The units that a check has spent.
-#[derive(Debug, Drop)]
+#[derive(Drop)]
 pub struct Meter {
     spent: u32,
     ghost within: { spent ≤ limit },
 }
 
 /// All units are spent.
-#[derive(Clone, Copy, PartialEq, Eq, Debug)]
+#[derive(Clone, Copy, PartialEq, Eq)]
 pub struct Budget;
 
 impl Clone for Meter {

@@ -13,7 +13,7 @@ use vx_frac::{Frac, Op, Over};
 use vx_terms::{Operator, Sort};
 
 /// An element: of Int, Bool, Real, or of a declared sort, where each number is one of its own.
-#[derive(Clone, Copy, PartialEq, Eq, Debug)]
+#[derive(Clone, Copy, PartialEq, Eq)]
 pub enum Element {
     Int(i128),
     Bool(bool),

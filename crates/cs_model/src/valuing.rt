@@ -14,7 +14,7 @@ use vx_frac::Over;
 use vx_terms::{Term, Terms};
 
 /// Why there is no value: a number leaves 128 bits, or memory runs out.
-#[derive(Debug, Drop)]
+#[derive(Drop)]
 pub enum Stop {
     Over(Over),
     Want,

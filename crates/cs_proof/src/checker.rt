@@ -125,7 +125,7 @@ pub struct Checker {
 }
 
 /// Memory runs out.
-#[derive(Clone, Copy, PartialEq, Eq, Debug)]
+#[derive(Clone, Copy, PartialEq, Eq)]
 pub struct Want;
 
 impl From<AllocError> for Want {

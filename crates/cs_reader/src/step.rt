@@ -4,7 +4,7 @@ use vx_frac::Frac;
 use vx_sexp::Token;
 
 /// A numbered term, or its negation.
-#[derive(Clone, Copy, PartialEq, Eq, Debug)]
+#[derive(Clone, Copy, PartialEq, Eq)]
 pub struct Literal {
     pub positive: bool,
     pub number: u128,

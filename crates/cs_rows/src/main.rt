@@ -12,6 +12,7 @@ mod numbered;
 mod outside;
 mod reading;
 mod row;
+mod sizes;
 mod table;
 mod told;
 mod written;

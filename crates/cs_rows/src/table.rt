@@ -8,6 +8,7 @@ use crate::memories::{load_as, sink_as, source_as, turns_as};
 use crate::numbered::{derived_as, numbers_as};
 use crate::reading::{read_as, sorted_as, spelled_as};
 use crate::row::Row;
+use crate::sizes::sizes_as;
 use crate::told::{put_line, put_text};
 use std::alloc::{AllocError, Global};
 
@@ -20,6 +21,7 @@ fn answer(
 ) -> Result<Option<String>, AllocError> {
     match word {
         "read" => read_as(alloc, rest),
+        "sizes" => sizes_as(alloc, rest),
         "spells" => spelled_as(alloc, row, rest),
         "sort" => sorted_as(alloc, row, rest),
         "numbers" => numbers_as(alloc, row, rest),

@@ -35,7 +35,7 @@ pub enum Solved {
 }
 
 /// Why a search is undecided.
-#[derive(Debug, Drop)]
+#[derive(Drop)]
 pub enum Undecided {
     Budget,
     Want(AllocError),

@@ -19,7 +19,7 @@ use std::alloc::Global;
 use vx_frac::Frac;
 
 /// Why a constraint stands.
-#[derive(Clone, Copy, PartialEq, Eq, Debug)]
+#[derive(Clone, Copy, PartialEq, Eq)]
 pub enum Reason {
     /// The comparison of this number holds, or it doesn't.
     Claim(u32, bool),
@@ -28,7 +28,7 @@ pub enum Reason {
 }
 
 /// A constraint of a contradiction, and what it is multiplied by: at least 0, but for an equation.
-#[derive(Clone, Copy, Debug)]
+#[derive(Clone, Copy)]
 pub struct Share {
     pub reason: Reason,
     pub multiplier: Frac,

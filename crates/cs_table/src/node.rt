@@ -10,7 +10,7 @@ use vx_frac::Frac;
 use vx_terms::{Operator, Sort, Symbol};
 
 /// What stands before a term's parts.
-#[derive(Debug, Drop)]
+#[derive(Drop)]
 pub enum Head {
     Truth(bool),
     Number(i128),
@@ -29,7 +29,7 @@ pub enum Head {
 }
 
 /// A numbered term: its head, the numbers of its parts, and its sort.
-#[derive(Debug, Drop)]
+#[derive(Drop)]
 pub struct Node {
     pub head: Head,
     pub parts: Vec<u32>,

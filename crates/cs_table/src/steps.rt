@@ -14,14 +14,14 @@ use std::alloc::{AllocError, AllocFailed, Global};
 use vx_terms::{Operator, Sort};
 
 /// A numbered term or its negation.
-#[derive(Clone, Copy, PartialEq, Eq, Debug)]
+#[derive(Clone, Copy, PartialEq, Eq)]
 pub struct Literal {
     pub positive: bool,
     pub number: u32,
 }
 
 /// Why a step gives no clause: it misses its rule, or memory runs out.
-#[derive(Clone, Copy, PartialEq, Eq, Debug)]
+#[derive(Clone, Copy, PartialEq, Eq)]
 pub enum Stop {
     Miss,
     Want,

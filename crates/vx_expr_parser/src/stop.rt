@@ -7,7 +7,7 @@ use std::alloc::{AllocError, AllocFailed};
 use vx_tokens::Token;
 
 /// Why reading stops. The tokens begin with the one at which it does; none are left at the end.
-#[derive(Debug, Drop)]
+#[derive(Drop)]
 pub enum Stop<'t> {
     /// Memory ran out.
     Memory,

@@ -21,7 +21,7 @@ pub enum Signature<'a> {
 }
 
 /// A variable's type, and whether it can be assigned.
-#[derive(Clone, Copy, Debug, PartialEq, Eq)]
+#[derive(Clone, Copy, PartialEq, Eq)]
 pub struct Variable {
     pub of: ValueType,
     pub assignable: bool,

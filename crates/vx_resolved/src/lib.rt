@@ -13,7 +13,7 @@ use std::rc::Rc;
 use vx_ast::{Place, ValueType};
 
 /// An operator both of whose operands are evaluated.
-#[derive(Clone, Copy, Debug, PartialEq, Eq)]
+#[derive(Clone, Copy, PartialEq, Eq)]
 pub enum Operator {
     Equal,
     Less,
@@ -26,14 +26,14 @@ pub enum Operator {
 }
 
 /// `\` and `%`: the divisor is asked about.
-#[derive(Clone, Copy, Debug, PartialEq, Eq)]
+#[derive(Clone, Copy, PartialEq, Eq)]
 pub enum Division {
     Quotient,
     Remainder,
 }
 
 /// `&&`, `||`, `==>`: the right part is looked at only where it is needed.
-#[derive(Clone, Copy, Debug, PartialEq, Eq)]
+#[derive(Clone, Copy, PartialEq, Eq)]
 pub enum Connective {
     And,
     Or,

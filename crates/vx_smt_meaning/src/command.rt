@@ -7,7 +7,7 @@ use std::rc::Rc;
 use vx_terms::{Sort, Symbol, Term};
 
 /// A symbol with the sorts that it takes and gives.
-#[derive(Debug, Drop)]
+#[derive(Drop)]
 pub struct Declared {
     pub symbol: Symbol,
     pub takes: Vec<Sort>,
@@ -43,7 +43,7 @@ impl Declared {
 }
 
 /// A command of SMT-LIB 2.6, section 3.9.
-#[derive(Debug, Drop)]
+#[derive(Drop)]
 pub enum Command {
     /// The keyword, with its colon.
     SetOption(String, bool),

@@ -3,7 +3,7 @@
 use std::rc::Rc;
 
 /// A sort: of SMT-LIB's theories, of the preamble, or another declared one by its name.
-#[derive(Debug, Drop)]
+#[derive(Drop)]
 pub enum Sort {
     Int,
     Bool,

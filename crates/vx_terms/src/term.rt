@@ -9,7 +9,7 @@ use std::rc::Rc;
 use vx_frac::Frac;
 
 /// A symbol: `s`, `f` or `v` with its number, or another declared name.
-#[derive(Debug, Drop)]
+#[derive(Drop)]
 pub enum Symbol {
     Standard(u32),
     Function(u32),
@@ -18,7 +18,7 @@ pub enum Symbol {
 }
 
 /// An operator of two operands, of Core, Ints and Reals.
-#[derive(Clone, Copy, Debug, PartialEq, Eq)]
+#[derive(Clone, Copy, PartialEq, Eq)]
 pub enum Operator {
     And,
     Or,
@@ -35,7 +35,6 @@ pub enum Operator {
 
 /// A term, which the constructors of this crate make.
 #[cycle(terms)]
-#[derive(Debug)]
 pub enum Term {
     Truth(bool),
     Number(i128),
@@ -83,7 +82,6 @@ impl Drop for Term {
 
 /// A list of terms.
 #[cycle(terms)]
-#[derive(Debug)]
 pub enum Terms {
     None,
     More(Rc<Term>, Rc<Terms>),

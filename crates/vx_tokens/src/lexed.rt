@@ -17,7 +17,7 @@ use vx_ast::Place;
 pub const MAX_TEXT: usize = 4194304;
 
 /// How a text goes on behind its last token.
-#[derive(Clone, Copy, Debug, PartialEq, Eq)]
+#[derive(Clone, Copy, PartialEq, Eq)]
 pub enum Ending {
     AtEnd(Place),
     WideLiteral(Place),
@@ -27,7 +27,7 @@ pub enum Ending {
 }
 
 /// The tokens of a text, up to its end or to its first fault.
-#[derive(Debug, Drop)]
+#[derive(Drop)]
 pub struct Lexed<'t> {
     pub tokens: Vec<Token<'t>>,
     pub ending: Ending,

@@ -3,7 +3,7 @@
 use vx_ast::Place;
 
 /// A reserved word.
-#[derive(Clone, Copy, Debug, PartialEq, Eq)]
+#[derive(Clone, Copy, PartialEq, Eq)]
 pub enum Word {
     Method,
     Field,
@@ -47,7 +47,7 @@ pub enum Word {
 }
 
 /// A token made of signs.
-#[derive(Clone, Copy, Debug, PartialEq, Eq)]
+#[derive(Clone, Copy, PartialEq, Eq)]
 pub enum Symbol {
     Implies,
     /// `--*`
@@ -82,7 +82,7 @@ pub enum Symbol {
 }
 
 /// What a token is. A number is at most 2^127 - 1.
-#[derive(Clone, Copy, Debug, PartialEq, Eq)]
+#[derive(Clone, Copy, PartialEq, Eq)]
 pub enum Kind<'t> {
     Name(&'t str),
     Number(u128),
@@ -91,7 +91,7 @@ pub enum Kind<'t> {
 }
 
 /// A token of a text, where it begins, and the bytes that spell it.
-#[derive(Clone, Copy, Debug)]
+#[derive(Clone, Copy)]
 pub struct Token<'t> {
     pub kind: Kind<'t>,
     pub place: Place,
