@@ -1,4 +1,4 @@
-use Rattle.std.proofs.Common.{◌≡◌, ℤ, FitsSigned, refl, sym, ◌∙◌, ap, subst}
+use Rattle.std.proofs.Common.{ℤ, FitsSigned, refl, sym, ◌∙◌, ap, subst}
 use Rattle.std.specs.Int.{w128}
 use Rattle.vx_frac.specs.Fraction.{fraction}
 use Rattle.vx_frac.specs.Fractions.{lowest}
