@@ -5,7 +5,7 @@ use Rattle.std.proofs.lemmas.Int.{to_z-of_z, ints}
 use Rattle.std.specs.Int.{w128}
 use Rattle.std.proofs.lemmas.Bool.{lt-ltb, ltb-true}
 use Rattle.vx_frac.specs.Fraction.{ratio, CommonFits}
-use Rattle.vx_frac.specs.Fractions.{Fraction, denominator, common, sum, difference, fits_i128, cross_fits, sum_fits, difference_fits}
+use Rattle.vx_frac.specs.Fractions.{Fraction, denominator, common, sum, difference, fits_i128, cross_fits, sum_fits, difference_fits, product_fits}
 use Rattle.vx_frac.proofs.Reduced.{over_common}
 
 pub fits_from : (z : ℤ) → FitsSigned w128 z → fits_i128 z ≡ true
@@ -92,3 +92,17 @@ pub common_ratio : (a b : Fraction) (n z d : ℤ) → CommonFits a b → z ≡ n
     ratio (to_z w128 (of_z w128 z)) (to_z w128 (of_z w128 d)) ≡ record { numerator = n; below = common a b }
 common_ratio a b n z d f p q g =
     ap₂ ratio (to_z-of_z w128 z g ∙ p) (to_z-of_z w128 d (fits_at _ _ (sym q) f.2) ∙ q) ∙ over_common n a b
+
+-- a product of two numbers, as the code multiplies them
+pub product_written : (x y l r : ℤ) → FitsSigned w128 l → FitsSigned w128 r → l ≡ x → r ≡ y → to_z w128 (of_z w128 l) *ℤ to_z w128 (of_z w128 r) ≡ x *ℤ y
+product_written x y l r f g p q = ap₂ (λ (x y : ℤ). x *ℤ y) (to_z-of_z w128 l f ∙ p) (to_z-of_z w128 r g ∙ q)
+
+pub product_not : (x y l r : ℤ) → FitsSigned w128 l → FitsSigned w128 r → l ≡ x → r ≡ y → (FitsSigned w128 (to_z w128 (of_z w128 l) *ℤ to_z w128 (of_z w128 r)) → ⊥) → FitsSigned w128 (x *ℤ y) → ⊥
+product_not x y l r f g p q h k = h (fits_at _ _ (sym (product_written x y l r f g p q)) k)
+
+pub product_ratio : (a b : Fraction) (n z d : ℤ) → z ≡ n → d ≡ denominator a *ℤ denominator b → FitsSigned w128 z → FitsSigned w128 (denominator a *ℤ denominator b) →
+    ratio (to_z w128 (of_z w128 z)) (to_z w128 (of_z w128 d)) ≡ record { numerator = n; below = common a b }
+product_ratio a b n z d p q g f = ap₂ ratio (to_z-of_z w128 z g ∙ p) (to_z-of_z w128 d (fits_at _ _ (sym q) f) ∙ q) ∙ over_common n a b
+
+pub product_does : (a b : Fraction) (l r : ℤ) → FitsSigned w128 l → FitsSigned w128 r → l ≡ a.numerator → r ≡ b.numerator → FitsSigned w128 (to_z w128 (of_z w128 l) *ℤ to_z w128 (of_z w128 r)) → FitsSigned w128 (denominator a *ℤ denominator b) → product_fits a b ≡ true
+product_does a b l r f g p q h d = both_true _ _ (fits_from _ (fits_at _ _ (product_written _ _ l r f g p q) h)) (fits_from _ d)

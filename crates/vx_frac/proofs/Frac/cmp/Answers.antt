@@ -20,3 +20,9 @@ returns-clause-fits c =
           c.num.ensures c.den.ensures.value c.num-2.ensures c.den-2.ensures.value,
       λ h. refl,
     )
+
+pub returns-in_err-left-clause-fits : goal.returns-in_err-left-clause-fits
+returns-in_err-left-clause-fits c = search rules
+
+pub returns-in_err-right-clause-fits : goal.returns-in_err-right-clause-fits
+returns-in_err-right-clause-fits c = search rules

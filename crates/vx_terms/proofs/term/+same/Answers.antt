@@ -2,7 +2,7 @@ use Rattle.std.proofs.Common.{sym, ap, ap₂, ◌∙◌, arith}
 use Rattle.vx_terms.specs.declared.term.Term.{size-Term}
 use Rattle.vx_terms.specs.Terms.{same, same_all}
 use Rattle.vx_terms.specs.Views.{term, terms}
-use Rattle.vx_terms.proofs.Firsts.{below_apply, below_binary, below_ite, apply_on, binary_on, ite_on}
+use Rattle.vx_terms.proofs.Firsts.{below_apply, below_binary, below_ite, apply_on, binary_on, ite_on, and_false}
 use Rattle.vx_terms.proofs.term.+same.Goals as goal
 
 pub Term::is_same-loop-left-preserved-in-Apply-right-5 : goal.Term::is_same-loop-left-preserved-in-Apply-right-5
@@ -35,3 +35,18 @@ Term::is_same-loop-left-preserved t c =
           ∙ ite_on _ _ _ _ _ _ _ _ c.in-Ite-Ite.is-0 c.in-Ite-Ite.is-1 conditions others
           ∙ c.loop-left.invariant.1,
     )
+
+pub Term::is_same-returns-then-not-is_same-3 : goal.Term::is_same-returns-then-not-is_same-3
+Term::is_same-returns-then-not-is_same-3 t c = grind (arith, and_false, c.loop-left.invariant)
+
+pub Term::is_same-returns-in_default-2 : goal.Term::is_same-returns-in_default-2
+Term::is_same-returns-in_default-2 t c = grind (arith, and_false, c.loop-left.invariant)
+
+pub Term::is_same-returns-in_default-2-2 : goal.Term::is_same-returns-in_default-2-2
+Term::is_same-returns-in_default-2-2 t c = grind (arith, and_false, c.loop-left.invariant)
+
+pub Term::is_same-returns-then-not-is_same-4 : goal.Term::is_same-returns-then-not-is_same-4
+Term::is_same-returns-then-not-is_same-4 t c = grind (arith, and_false, c.loop-left.invariant)
+
+pub Term::is_same-returns-then-not-is_same-6 : goal.Term::is_same-returns-then-not-is_same-6
+Term::is_same-returns-then-not-is_same-6 t c = grind (arith, and_false, c.loop-left.invariant)
