@@ -1,10 +1,13 @@
 -- One more round of the readers that go on while there are tokens.
-use Rattle.std.proofs.Common.{◌≡◌, ℕ, suc, ◌+◌, ◌-◌, ◌<◌, Bool, true, false, List, [], ◌∷◌, ◌++◌, Option, Some, None, Ok, Err, refl, sym, ◌∙◌, ap, append_assoc, append-nil, arith}
+use Rattle.std.proofs.Common.{◌≡◌, ℕ, suc, ◌+◌, ◌-◌, ◌<◌, Bool, true, false, List, [], ◌∷◌, ◌++◌, length, get_or, take, drop, Option, Some, None, Ok, Err, refl, sym, ◌∙◌, ap, append_assoc, append-nil, arith}
+use Rattle.std.proofs.lemmas.List.{at_drop_more, take_all, length-drop}
 use Rattle.std.specs.Prelude.{if◌then◌else◌}
 use Rattle.std.specs.declared.result.Result.{Result}
 use Rattle.vx_sexp.specs.declared.token.Token.{Token}
 use Rattle.cs_reader.specs.declared.stop.Stop.{Stop}
 use Rattle.cs_reader.specs.declared.stop.Stop.TheVariants as stops
+use Rattle.cs_reader.specs.declared.mark.Mark.{Mark}
+use Rattle.cs_reader.specs.Marks.{mark}
 use Rattle.cs_reader.specs.Steps.{Step}
 use Rattle.cs_reader.specs.Items.{◌>>=◌, Fails, with_front, with_item, items_for}
 use Rattle.cs_reader.specs.Reading.{is_end, step_at, with_steps, after_step, steps_for}
@@ -39,6 +42,28 @@ goes_on turn xs x len n ts behind r h e f =
     sym (front_front xs x (items_for turn (len - (n + 1)) behind))
     ∙ ap (with_front xs) (sym (unrolled turn len n ts h ∙ ap (λ o. o >>= λ m. with_item m.0 (items_for turn (len - (n + 1)) m.1) m.1) f))
     ∙ e
+
+-- items to a closing parenthesis, each by the mark of its token
+pub here : {A : Type 0} (read : List Token → Option (List A × List Token)) (by_mark : Mark → List Token → Option (List A × List Token) → Option (List A × List Token))
+    → ((t : Token) (ts : List Token) → read (t ∷ ts) ≡ by_mark (mark t) ts (read ts)) → (ts : List Token) (n : ℕ) (t : Token) (m : Mark) → n < length ts → t ≡ get_or ts n t → m ≡ mark t
+    → read (drop n ts) ≡ by_mark m (drop (n + 1) ts) (read (drop (n + 1) ts))
+here read by_mark step ts n t m lt is e =
+    at_drop_more read ts n t lt ∙ ap (λ x. read (x ∷ drop (n + 1) ts)) (sym is) ∙ step t (drop (n + 1) ts)
+    ∙ ap (λ k. by_mark k (drop (n + 1) ts) (read (drop (n + 1) ts))) (sym e)
+
+pub one_more : {A : Type 0} (read : List Token → Option (List A × List Token)) (xs : List A) (x : A) (ts : List Token) (n : ℕ) (r : Option (List A × List Token))
+    → with_front xs (read (drop n ts)) ≡ r → read (drop n ts) ≡ with_front (x ∷ []) (read (drop (n + 1) ts)) → with_front (xs ++ x ∷ []) (read (drop (n + 1) ts)) ≡ r
+one_more read xs x ts n r h e = sym (front_front xs x (read (drop (n + 1) ts))) ∙ ap (with_front xs) (sym e) ∙ h
+
+pub closes : {A : Type 0} (read : List Token → Option (List A × List Token)) (xs : List A) (ts : List Token) (n : ℕ) (r : Option (List A × List Token))
+    → with_front xs (read (drop n ts)) ≡ r → read (drop n ts) ≡ Some ([], drop (n + 1) ts) → r ≡ Some (xs, take (length ts - (n + 1)) (drop (n + 1) ts))
+closes read xs ts n r h e =
+    sym h ∙ ap (with_front xs) e ∙ ap (λ ys. Some (ys, drop (n + 1) ts)) (append-nil xs)
+    ∙ ap (λ ys. Some (xs, ys)) (sym (take_all _ _ (omega (arith, length-drop (n + 1) ts))))
+
+pub no_more : {A : Type 0} (read : List Token → Option (List A × List Token)) (xs : List A) (ts : List Token) (n : ℕ) (r : Option (List A × List Token))
+    → with_front xs (read (drop n ts)) ≡ r → read (drop n ts) ≡ None → r ≡ None
+no_more read xs ts n r h e = sym h ∙ ap (with_front xs) e
 
 -- steps
 unrolled_steps : (len n : ℕ) (ts : List Token) → n < len → is_end ts ≡ false → steps_for (len - n) n ts ≡ after_step (step_at ts) n (steps_for (len - (n + 1)) (n + 1))
