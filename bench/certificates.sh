@@ -1,11 +1,11 @@
 #!/usr/bin/env bash
 # Checks certificates of chains of 100, 1,000 and 10,000 equations, each joined to the ones before by a step of its own: each is a row
-# of cs_rows, over numerals, which need no symbols. Prints the program's seconds on each, the ratio to the one before, and the
+# of vx_rows, over numerals, which need no symbols. Prints the program's seconds on each, the ratio to the one before, and the
 # checker's answer.
 set -eu
 . "$(dirname "${BASH_SOURCE[0]}")/timing.sh"
-program=$here/crates/cs_rows/out/cs_rows
-[ -x "$program" ] || (cd "$here/crates/cs_rows" && rt run < stdin > /dev/null)
+program=$here/bench/rows.sh
+"$program" < /dev/null
 # The terms are `0 = 1` 0, 0 itself 1, i 2i, `i = i+1` 2i + 1, at the end not `0 = n` 2n + 1 and `0 = n` 2n + 2, and then the
 # `0 = i` of the `term` steps.
 row() {

@@ -5,8 +5,8 @@
 # are equations.
 set -eu
 . "$(dirname "${BASH_SOURCE[0]}")/timing.sh"
-program=$here/crates/cs_rows/out/cs_rows
-[ -x "$program" ] || (cd "$here/crates/cs_rows" && rt run < stdin > /dev/null)
+program=$here/bench/rows.sh
+"$program" < /dev/null
 
 decided() {
     local label=$1 input=$2

@@ -7,8 +7,8 @@
 set -eu
 . "$(dirname "${BASH_SOURCE[0]}")/timing.sh"
 . "$(dirname "${BASH_SOURCE[0]}")/comparing.sh"
-program=$here/crates/cs_rows/out/cs_rows
-[ -x "$program" ] || (cd "$here/crates/cs_rows" && rt run < stdin > /dev/null)
+program=$here/bench/rows.sh
+"$program" < /dev/null
 
 # The numbers are those of x, 16807 x, .. modulo 2^31 - 1.
 stacks() {

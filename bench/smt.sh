@@ -2,8 +2,8 @@
 # Reads s-expressions of 1, 4 and 16 million bytes and writes declarations of about as many, and prints what each takes.
 set -eu
 . "$(dirname "${BASH_SOURCE[0]}")/timing.sh"
-program=$here/crates/cs_rows/out/cs_rows
-[ -x "$program" ] || (cd "$here/crates/cs_rows" && rt run < stdin > /dev/null)
+program=$here/bench/rows.sh
+"$program" < /dev/null
 
 for millions in 1 4 16; do
     file=$folder/$millions

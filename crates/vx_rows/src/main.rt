@@ -1,5 +1,5 @@
-//! Runs the rows of the whole program and of its parts in a table, which is read from standard input, and writes what came of each. `docs/ROWS.md` tells what a
-//! table is made of.
+//! Runs the rows of the whole program and of its parts in a table, and then those of certificates and the script behind them, which are read from standard
+//! input, and writes what came of each. `docs/ROWS.md` tells what tables and a script are made of.
 #![tactic(auto)]
 
 mod answers;
@@ -25,10 +25,13 @@ impl Answers for Program<'_> {
     }
 }
 
-// What came of the rows of a table.
-fn told_of(rt: &HostRuntime, alloc: Global, table: &str) -> Result<Vec<u8>, AllocError> {
+// What came of the rows of a table, and behind the line `certificates` of those of certificates and of a script.
+fn told_of(rt: &HostRuntime, alloc: Global, text: &str) -> Result<Vec<u8>, AllocError> {
+    let (table, certificates) = text.split_once("\ncertificates\n").unwrap_or((text, ""));
     let mut out = Vec::new(alloc);
     run_all(alloc, table, &mut Program { rt }, &mut out)?;
+    let told = cs_rows::told_of(alloc, certificates)?;
+    out.extend_from_slice(told.as_bytes())?;
     Ok(out)
 }
 

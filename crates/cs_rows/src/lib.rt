@@ -1,5 +1,5 @@
-//! Runs the rows of a table of certificates, and then the checks of a script, which are read from standard input, and writes
-//! what came of each. `docs/ROWS.md` tells what a table and a script are made of.
+//! Runs the rows of a table of certificates, and then the checks of a script behind it, and writes what came of each.
+//! `docs/ROWS.md` tells what a table and a script are made of.
 #![tactic(auto)]
 
 mod checked;
@@ -19,8 +19,6 @@ mod written;
 
 use cs_joined::run_script;
 use std::alloc::{AllocError, Global};
-use std::io::Read;
-use std::process::ExitCode;
 
 // How many bytes stand in front of the script, which begins with the first line that begins as a command or a comment does.
 fn table_length(text: &str) -> usize {
@@ -34,26 +32,14 @@ fn table_length(text: &str) -> usize {
     at
 }
 
-// What came of the rows of a table, and of the script behind it.
-fn told_of(alloc: Global, text: &str) -> Result<String, AllocError> {
+/// What came of the rows of a table, and of the script behind it.
+///
+/// # Errors
+/// Want of memory.
+pub fn told_of(alloc: Global, text: &str) -> Result<String, AllocError> {
     let at = table_length(text);
     let mut out = String::new(alloc);
     table::run_all(alloc, text.get(..at).unwrap_or(text), &mut out)?;
     run_script(alloc, text.as_bytes().get(at..).unwrap_or(&[]), &mut out)?;
     Ok(out)
-}
-
-fn main(rt: HostRuntime) -> ExitCode {
-    let alloc = rt.alloc();
-    let mut text = String::new(alloc);
-    if rt.stdin().read_to_string(&mut text).is_err() {
-        return ExitCode::from(1);
-    }
-    let Ok(out) = told_of(alloc, &text) else {
-        return ExitCode::from(1);
-    };
-    match print!(rt; "{out}") {
-        Ok(()) => ExitCode::from(0),
-        Err(_) => ExitCode::from(1),
-    }
 }
