@@ -11,7 +11,6 @@ pub mod Settles
 pub mod Learns
 pub mod Rounds
 pub mod Tops
-pub mod Pops
 pub mod Widens
 pub mod Refuted
 pub mod Places

@@ -33,7 +33,6 @@ pub mod choose;
 pub mod examine;
 pub mod laws;
 pub mod learn;
-pub mod levels;
 pub mod order;
 pub mod propagate;
 pub mod queue;
