@@ -5,7 +5,7 @@ use std::alloc::{AllocError, AllocFailed};
 use thiserror::Error;
 
 /// Why an s-expression is no command, or that memory ran out.
-#[derive(Clone, Copy, Debug, PartialEq, Eq, Error)]
+#[derive(Clone, Copy, Debug, Error)]
 pub enum CommandFault {
     #[error("a name that is unknown, or taken where it is declared")]
     Name,
@@ -22,7 +22,7 @@ pub enum CommandFault {
 }
 
 /// Why bytes are no command: there is no first s-expression, or it is none.
-#[derive(Clone, Copy, Debug, PartialEq, Eq, Error)]
+#[derive(Clone, Copy, Debug, Error)]
 pub enum Fault {
     #[error("the bytes end too early")]
     Unfinished,

@@ -15,7 +15,7 @@ pub struct Applied {
 }
 
 /// What is asserted of two terms: that they are equal, or that they aren't.
-#[derive(Clone, Copy, PartialEq, Eq)]
+#[derive(Clone, Copy)]
 pub struct Claim {
     pub left: u32,
     pub right: u32,

@@ -6,7 +6,7 @@ ghost use Rattle.cs_cong.specs.Trees.{IsTree, link_at};
 use std::alloc::{AllocError, AllocFailed, Global};
 
 /// Why two terms are equal.
-#[derive(Clone, Copy, PartialEq, Eq)]
+#[derive(Clone, Copy)]
 pub enum Reason {
     /// The claim of this number says so.
     Claimed(u32),
@@ -15,7 +15,7 @@ pub enum Reason {
 }
 
 /// Two classes are made one, by an equality of two terms.
-#[derive(Clone, Copy, PartialEq, Eq)]
+#[derive(Clone, Copy)]
 pub struct Merge {
     pub left: u32,
     pub right: u32,
@@ -25,14 +25,14 @@ pub struct Merge {
 }
 
 /// From a term on to its representative after the merge of this number; the last number stands for no merge.
-#[derive(Clone, Copy, PartialEq, Eq)]
+#[derive(Clone, Copy)]
 pub struct Link {
     pub to: u32,
     pub time: u32,
 }
 
 /// Memory runs out.
-#[derive(Clone, Copy, PartialEq, Eq)]
+#[derive(Clone, Copy)]
 pub struct Want;
 
 impl From<AllocError> for Want {

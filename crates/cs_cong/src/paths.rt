@@ -7,7 +7,7 @@ ghost use Rattle.cs_cong.specs.Walks.{walk, IsParting};
 use crate::merges::{Merges, Want};
 
 /// A merge that is gone along: from its left term to its right one, or back.
-#[derive(Clone, Copy, PartialEq, Eq)]
+#[derive(Clone, Copy)]
 pub struct Edge {
     pub merge: u32,
     pub forward: bool,

@@ -25,7 +25,7 @@ pub struct Waiting {
 }
 
 /// Two congruent terms of different classes.
-#[derive(Clone, Copy, PartialEq, Eq)]
+#[derive(Clone, Copy)]
 struct Pair {
     left: u32,
     right: u32,

@@ -7,7 +7,7 @@ ghost use Rattle.cs_farkas.specs.Views.{Ends};
 use vx_frac::{Frac, Over};
 
 /// Why a sum ends: the step misses its rule, or a fraction leaves 128 bits.
-#[derive(Clone, Copy, PartialEq, Eq)]
+#[derive(Clone, Copy)]
 pub enum Break {
     Miss,
     Over(Over),

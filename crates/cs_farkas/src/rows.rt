@@ -2,7 +2,7 @@
 use vx_frac::Frac;
 
 /// What left less right is.
-#[derive(Clone, Copy, PartialEq, Eq)]
+#[derive(Clone, Copy)]
 pub enum Relation {
     AtMostZero,
     BelowZero,
@@ -25,7 +25,7 @@ pub struct Part {
 }
 
 /// The sort of all sides.
-#[derive(Clone, Copy, PartialEq, Eq)]
+#[derive(Clone, Copy)]
 pub enum Numbers {
     Int,
     Real,

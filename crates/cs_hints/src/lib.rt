@@ -9,7 +9,7 @@ pub struct Literal {
 }
 
 /// What a clause leaves of its literals.
-#[derive(Clone, Copy, PartialEq, Eq)]
+#[derive(Clone, Copy)]
 pub enum Left {
     Nothing,
     One(Literal),

@@ -8,21 +8,21 @@ use crate::numbers::{minus_one, one, zero};
 use vx_frac::Frac;
 
 /// A number and a multiple of a small positive one.
-#[derive(Clone, Copy, PartialEq, Eq)]
+#[derive(Clone, Copy)]
 pub struct Value {
     pub main: Frac,
     pub delta: Frac,
 }
 
 /// On which side of its limit a value has to be.
-#[derive(Clone, Copy, PartialEq, Eq)]
+#[derive(Clone, Copy)]
 pub enum Side {
     AtLeast,
     AtMost,
 }
 
 /// What is asserted of a column.
-#[derive(Clone, Copy, PartialEq, Eq)]
+#[derive(Clone, Copy)]
 pub struct Bound {
     pub column: u32,
     pub side: Side,
@@ -31,7 +31,7 @@ pub struct Bound {
 }
 
 /// A bound and what it is multiplied by: above 0 for `AtLeast`, below 0 for `AtMost`.
-#[derive(Clone, Copy, PartialEq, Eq)]
+#[derive(Clone, Copy)]
 pub struct Part {
     pub bound: Bound,
     pub multiplier: Frac,

@@ -34,7 +34,7 @@ pub enum Checked {
 }
 
 /// Why a check is undecided.
-#[derive(Clone, Copy, PartialEq, Eq)]
+#[derive(Clone, Copy)]
 pub enum Undecided {
     Budget,
     Over(Over),

@@ -8,7 +8,7 @@ use std::alloc::{AllocError, AllocFailed};
 use vx_frac::{Frac, Op, Over};
 
 /// Why a call ends early: a fraction leaves 128 bits, or memory is wanted.
-#[derive(Clone, Copy, PartialEq, Eq)]
+#[derive(Clone, Copy)]
 pub enum Stop {
     Over(Over),
     Want,

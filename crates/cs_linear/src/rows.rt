@@ -11,7 +11,7 @@ use std::alloc::Global;
 use vx_frac::Frac;
 
 /// A factor of a column.
-#[derive(Clone, Copy, PartialEq, Eq)]
+#[derive(Clone, Copy)]
 pub struct Entry {
     pub column: u32,
     pub factor: Frac,

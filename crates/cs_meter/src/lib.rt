@@ -17,7 +17,7 @@ pub struct Meter {
 }
 
 /// All units are spent.
-#[derive(Clone, Copy, PartialEq, Eq)]
+#[derive(Clone, Copy)]
 pub struct Budget;
 
 impl Clone for Meter {

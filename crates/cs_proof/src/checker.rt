@@ -125,7 +125,7 @@ pub struct Checker {
 }
 
 /// Memory runs out.
-#[derive(Clone, Copy, PartialEq, Eq)]
+#[derive(Clone, Copy)]
 pub struct Want;
 
 impl From<AllocError> for Want {

@@ -7,7 +7,7 @@ use crate::Literal;
 use vx_sexp::{Kind, Token};
 
 /// A word of the written form.
-#[derive(Clone, Copy, PartialEq, Eq)]
+#[derive(Clone, Copy)]
 pub enum Name {
     Certificate,
     Input,

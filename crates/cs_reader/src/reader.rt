@@ -439,7 +439,7 @@ fn is_end(tokens: &[Token]) -> bool
 }
 
 /// Why reading a certificate fails: a step isn't of the written form, as C4 says, or memory runs out.
-#[derive(Clone, Copy, PartialEq, Eq)]
+#[derive(Clone, Copy)]
 pub enum ReadFault {
     Refused(Refusal),
     Want,

@@ -3,7 +3,7 @@
 use vx_frac::{Frac, Op};
 
 /// Why a certificate is refused. Steps are counted from 0.
-#[derive(Clone, Copy, PartialEq, Eq)]
+#[derive(Clone, Copy)]
 pub enum Refusal {
     /// C1: the step doesn't meet its rule.
     BadStep(u32),

@@ -11,7 +11,7 @@ use crate::queue::Watch;
 use crate::{Literal, Status, Value};
 
 /// The literals of a clause that are to be watched.
-#[derive(Clone, Copy, PartialEq, Eq)]
+#[derive(Clone, Copy)]
 pub enum Choice {
     /// All literals are false.
     Nothing,

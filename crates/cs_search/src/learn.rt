@@ -17,7 +17,7 @@ use cs_meter::Meter;
 use std::alloc::AllocError;
 
 /// A literal with its place.
-#[derive(Clone, Copy, PartialEq, Eq)]
+#[derive(Clone, Copy)]
 pub struct Top {
     pub literal: Literal,
     pub place: usize,

@@ -4,7 +4,7 @@
 pub use cs_hints::{Clause, Literal};
 
 /// An atom's value, with its place on the trail.
-#[derive(Clone, Copy, PartialEq, Eq)]
+#[derive(Clone, Copy)]
 pub enum Value {
     Unset,
     Positive(usize),
@@ -12,7 +12,7 @@ pub enum Value {
 }
 
 /// A literal's truth, with its place on the trail.
-#[derive(Clone, Copy, PartialEq, Eq)]
+#[derive(Clone, Copy)]
 pub enum Status {
     Unassigned,
     True(usize),
@@ -20,7 +20,7 @@ pub enum Status {
 }
 
 /// A literal made true: by the clause of this number, or by a decision.
-#[derive(Clone, Copy, PartialEq, Eq)]
+#[derive(Clone, Copy)]
 pub struct Entry {
     pub literal: Literal,
     pub reason: Option<usize>,

@@ -45,7 +45,7 @@ pub fn force(
 }
 
 /// What a visit did with a clause.
-#[derive(Clone, Copy, PartialEq, Eq)]
+#[derive(Clone, Copy)]
 pub enum Seen {
     /// It watches what it did.
     Kept,

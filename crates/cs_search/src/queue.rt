@@ -11,7 +11,7 @@ use crate::{Entry, Literal};
 use std::alloc::{AllocError, Global};
 
 /// Two literals of a clause, which is visited where one of them becomes false.
-#[derive(Clone, Copy, PartialEq, Eq)]
+#[derive(Clone, Copy)]
 pub struct Watch {
     pub first: Literal,
     pub second: Literal,

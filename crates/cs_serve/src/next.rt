@@ -6,7 +6,7 @@ ghost use Rattle.cs_serve.specs.Next.{IsNext, IsReady};
 use vx_sexp::{Reading, SexpFault, cut};
 
 /// What is known of bytes that are left.
-#[derive(Clone, Copy, PartialEq, Eq)]
+#[derive(Clone, Copy)]
 pub enum Next {
     /// Their first s-expression takes so many.
     Ends(usize),

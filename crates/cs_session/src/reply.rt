@@ -5,7 +5,7 @@ ghost use Rattle.cs_session.specs.Texts.{complaint_text, reply_text};
 use vx_sexp::Bytes;
 
 /// What is wrong with a command.
-#[derive(Clone, Copy, PartialEq, Eq)]
+#[derive(Clone, Copy)]
 pub enum Complaint {
     /// The bytes end before an s-expression does.
     Unfinished,

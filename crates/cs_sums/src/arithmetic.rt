@@ -19,7 +19,7 @@ use std::alloc::Global;
 use vx_frac::Frac;
 
 /// Why a constraint stands.
-#[derive(Clone, Copy, PartialEq, Eq)]
+#[derive(Clone, Copy)]
 pub enum Reason {
     /// The comparison of this number holds, or it doesn't.
     Claim(u32, bool),

@@ -9,7 +9,7 @@ use vx_frac::Frac;
 use vx_terms::Operator;
 
 /// How a comparison compares.
-#[derive(Clone, Copy, PartialEq, Eq)]
+#[derive(Clone, Copy)]
 pub enum Order {
     Less,
     AtMost,

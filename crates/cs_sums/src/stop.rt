@@ -9,7 +9,7 @@ use std::alloc::{AllocError, AllocFailed};
 use vx_frac::{Frac, Op, Over};
 
 /// Why a call ends early.
-#[derive(Clone, Copy, PartialEq, Eq)]
+#[derive(Clone, Copy)]
 pub enum Stop {
     /// All units are spent.
     Budget,

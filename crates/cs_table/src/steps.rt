@@ -21,7 +21,7 @@ pub struct Literal {
 }
 
 /// Why a step gives no clause: it misses its rule, or memory runs out.
-#[derive(Clone, Copy, PartialEq, Eq)]
+#[derive(Clone, Copy)]
 pub enum Stop {
     Miss,
     Want,

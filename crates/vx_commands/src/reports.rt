@@ -19,7 +19,7 @@ use vx_typing::Typed;
 use vx_verifier::{Runs, Verification, verify};
 
 /// What a report tells of the runs.
-#[derive(Clone, Copy, PartialEq, Eq)]
+#[derive(Clone, Copy)]
 pub enum Telling {
     /// The line of each member, and the totals.
     Lines,

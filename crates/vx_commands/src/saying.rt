@@ -8,7 +8,7 @@ use std::alloc::{AllocError, Global};
 use vx_print::print;
 
 /// What a command without a report says of a text.
-#[derive(Clone, Copy, PartialEq, Eq)]
+#[derive(Clone, Copy)]
 pub enum Saying {
     /// Whether it is typed.
     Typed,

@@ -10,7 +10,7 @@ use thiserror::Error;
 use vx_ast::{Place, ValueType};
 
 /// What was expected in the place of a type.
-#[derive(Clone, Copy, Debug, PartialEq, Eq)]
+#[derive(Clone, Copy, Debug)]
 pub enum Expected {
     Type(ValueType),
     /// A numeral other than 0, right of `/`; any numeral, left of it.

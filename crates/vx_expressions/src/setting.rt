@@ -21,7 +21,7 @@ pub enum Signature<'a> {
 }
 
 /// A variable's type, and whether it can be assigned.
-#[derive(Clone, Copy, PartialEq, Eq)]
+#[derive(Clone, Copy)]
 pub struct Variable {
     pub of: ValueType,
     pub assignable: bool,

@@ -30,7 +30,7 @@ pub enum Phase {
 }
 
 /// How a member's execution ends.
-#[derive(Clone, Copy, PartialEq, Eq)]
+#[derive(Clone, Copy)]
 pub enum Outcome {
     Passed,
     Failed {

@@ -6,7 +6,7 @@ ghost use Rattle.vx_report.specs.Statuses.{status_number, status_among};
 use crate::{MemberRun, Verdict};
 
 /// How the program ends.
-#[derive(Clone, Copy, PartialEq, Eq)]
+#[derive(Clone, Copy)]
 pub enum Status {
     /// All lines are verified, or the command is done.
     Done,

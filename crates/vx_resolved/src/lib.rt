@@ -13,7 +13,7 @@ use std::rc::Rc;
 use vx_ast::{Place, ValueType};
 
 /// An operator both of whose operands are evaluated.
-#[derive(Clone, Copy, PartialEq, Eq)]
+#[derive(Clone, Copy)]
 pub enum Operator {
     Equal,
     Less,
@@ -26,14 +26,14 @@ pub enum Operator {
 }
 
 /// `\` and `%`: the divisor is asked about.
-#[derive(Clone, Copy, PartialEq, Eq)]
+#[derive(Clone, Copy)]
 pub enum Division {
     Quotient,
     Remainder,
 }
 
 /// `&&`, `||`, `==>`: the right part is looked at only where it is needed.
-#[derive(Clone, Copy, PartialEq, Eq)]
+#[derive(Clone, Copy)]
 pub enum Connective {
     And,
     Or,

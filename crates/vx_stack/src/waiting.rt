@@ -17,7 +17,7 @@ use vx_states::Caller;
 use vx_terms::Term;
 
 /// The codes of a consume: of a pure part, and of a permission.
-#[derive(Clone, Copy, PartialEq, Eq)]
+#[derive(Clone, Copy)]
 pub struct Codes {
     pub pure: Code,
     pub permission: Code,

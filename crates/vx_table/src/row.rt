@@ -5,7 +5,7 @@ use vx_ends::{Bytes, Parts};
 use vx_rules::Reply;
 
 /// What a row asks.
-#[derive(Clone, Copy, PartialEq, Eq)]
+#[derive(Clone, Copy)]
 pub enum Asks {
     /// What the program puts, and how it ends.
     Run,

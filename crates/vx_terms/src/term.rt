@@ -18,7 +18,7 @@ pub enum Symbol {
 }
 
 /// An operator of two operands, of Core, Ints and Reals.
-#[derive(Clone, Copy, PartialEq, Eq)]
+#[derive(Clone, Copy)]
 pub enum Operator {
     And,
     Or,

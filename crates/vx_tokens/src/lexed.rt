@@ -17,7 +17,7 @@ use vx_ast::Place;
 pub const MAX_TEXT: usize = 4194304;
 
 /// How a text goes on behind its last token.
-#[derive(Clone, Copy, PartialEq, Eq)]
+#[derive(Clone, Copy)]
 pub enum Ending {
     AtEnd(Place),
     WideLiteral(Place),

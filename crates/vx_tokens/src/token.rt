@@ -3,7 +3,7 @@
 use vx_ast::Place;
 
 /// A reserved word.
-#[derive(Clone, Copy, PartialEq, Eq)]
+#[derive(Clone, Copy)]
 pub enum Word {
     Method,
     Field,
@@ -47,7 +47,7 @@ pub enum Word {
 }
 
 /// A token made of signs.
-#[derive(Clone, Copy, PartialEq, Eq)]
+#[derive(Clone, Copy)]
 pub enum Symbol {
     Implies,
     /// `--*`
@@ -82,7 +82,7 @@ pub enum Symbol {
 }
 
 /// What a token is. A number is at most 2^127 - 1.
-#[derive(Clone, Copy, PartialEq, Eq)]
+#[derive(Clone, Copy)]
 pub enum Kind<'t> {
     Name(&'t str),
     Number(u128),

@@ -16,7 +16,7 @@ use vx_ast::{Declaration, Name, ValueType};
 use vx_expressions::{Expected, TypeFault, Variable, Variables, find};
 
 /// What a variable is declared as.
-#[derive(Clone, Copy, PartialEq, Eq)]
+#[derive(Clone, Copy)]
 pub enum Role {
     /// A parameter of a predicate or a function, which is not Perm.
     Input,

@@ -22,7 +22,7 @@ pub enum Order {
 }
 
 /// Why the words give no order.
-#[derive(Clone, Copy, Debug, PartialEq, Eq, Error)]
+#[derive(Clone, Copy, Debug, Error)]
 pub enum WordsFault {
     #[error("no such command")]
     Usage,
