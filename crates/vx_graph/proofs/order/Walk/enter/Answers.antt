@@ -1,4 +1,5 @@
-use Rattle.std.proofs.Common.{◌<◌, ◌∙◌, ◌++◌, ◌∷◌, [], ap, sym, subst, length, false}
+use Rattle.std.proofs.lemmas.Grind.{elements}
+use Rattle.std.proofs.Common.{◌<◌, ◌∙◌, ◌++◌, ◌∷◌, [], ap, sym, subst, length, false, arith}
 use Rattle.std.proofs.lemmas.List.{get_or_read}
 use Rattle.vx_graph.specs.declared.order.Step.TheVariants.{Enter, Leave}
 use Rattle.vx_graph.specs.Order.{entries}
@@ -38,3 +39,12 @@ returns-else-not-index-clause-walks c =
     let in_seen : m.0 < length old.seen.items = subst (λ k. m.0 < k) (sym c.requires.walks.each) within in
     walks_seen (length rows) old.stack.items old.seen.items old.ends.items m c.requires.walks
     (sym (get_or_read old.seen.items m.0 c.index.result.now in_seen c.index.ensures false) ∙ c.if-not-index.false)
+
+pub index-requires : goal.index-requires
+index-requires c = grind (arith, elements)
+
+pub index_mut-requires : goal.index_mut-requires
+index_mut-requires c = grind (arith, elements)
+
+pub bounds-rows-at : goal.bounds-rows-at
+bounds-rows-at c = grind (arith, elements)

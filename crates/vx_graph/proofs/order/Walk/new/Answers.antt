@@ -1,4 +1,5 @@
-use Rattle.std.proofs.Common.{◌<◌, ◌∙◌, ap, sym, subst}
+use Rattle.std.proofs.lemmas.Grind.{common_steps}
+use Rattle.std.proofs.Common.{◌<◌, ◌∙◌, ap, sym, subst, arith}
 use Rattle.std.specs.Prelude.{All}
 use Rattle.std.proofs.lemmas.List.Elements.{All-push}
 use Rattle.vx_graph.specs.declared.order.Step.{Step}
@@ -14,3 +15,6 @@ loop-n-preserved c =
       steps = subst (All (λ s. (member_of s).0 < c.args.members)) (sym items) (All-push (λ (s : Step). (member_of s).0 < c.args.members) c.loop-n.stack.items (Enter record { 0 = c.loop-n.n }) c.loop-n.invariant.steps c.loop-n-test.true);
       all = λ k lt. ap (λ xs. enters xs k) items ∙ enters_more c.loop-n.n c.loop-n.stack.items record { 0 = c.loop-n.n } (λ i. c.loop-n.n) c.loop-n.invariant.all k lt;
     }
+
+pub returns : goal.returns
+returns c = grind (arith, common_steps)
