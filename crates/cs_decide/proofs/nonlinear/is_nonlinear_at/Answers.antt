@@ -1,4 +1,5 @@
-use Rattle.std.proofs.Common.{◌≡◌, ℕ, ◌≤◌, Bool, false, Option, Some, None, List, map, length, sym, ◌∙◌, ap, subst}
+use Rattle.std.proofs.lemmas.Grind.{elements}
+use Rattle.std.proofs.Common.{◌≡◌, ℕ, ◌≤◌, Bool, false, Option, Some, None, List, map, length, sym, ◌∙◌, ap, subst, arith}
 use Rattle.std.proofs.lemmas.List.{length-map}
 use Rattle.std.proofs.lemmas.Option.{slice_get_past}
 use Rattle.vx_terms.specs.Terms.{Term}
@@ -21,3 +22,6 @@ pub returns : goal.returns
 returns c =
     let read = rw c.in_ok-numbered.was at c.number.ensures in
     nowhere _ _ _ _ c.args.at (read ∙ c.numbers_are_given.ensures.first _) c.deref.ensures.value c.in-None.ensures.lookup.3
+
+pub returns-in-Some : goal.returns-in-Some
+returns-in-Some c = grind (arith, elements)

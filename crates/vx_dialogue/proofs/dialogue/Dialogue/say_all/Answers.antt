@@ -51,3 +51,6 @@ returns-in_err-say-clause-steady g c = λ plain steady commands checks told name
     let i = c.loop-c.c-index in
     c.say.ensures.steady (before.steady plain steady commands checks told named) (commands ++ map command (take i all)) checks (before.told plain commands checks told)
     (commands_upto command all i commands named)
+
+pub returns-clause-told : goal.returns-clause-told
+returns-clause-told g c = grind (arith, common_steps)
