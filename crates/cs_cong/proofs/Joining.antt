@@ -1,14 +1,16 @@
 -- What is in one class is what follows from the claims.
-use Rattle.std.proofs.Common.{◌≡◌, ℕ, zero, suc, ◌≤◌, ◌⊎◌, inl, inr, Bool, true, false, nat_eq, cond, ◌&&◌, ◌||◌, List, [], ◌∷◌, length, get_or, slice_get, Option, Some, None, refl, sym, ◌∙◌, ap₂, subst, arith, eq-eqb}
-use Rattle.std.proofs.lemmas.Bool.{eqb-true, and_parts}
+use Rattle.std.proofs.Common.{◌≡◌, ℕ, zero, suc, ◌<◌, ◌≤◌, ◌+◌, ◌⊎◌, inl, inr, Bool, true, false, not, nat_eq, cond, ◌&&◌, ◌||◌, List, [], ◌∷◌, length, get_or, slice_get, Option, Some, None, refl, sym, ◌∙◌, ap, ap₂, subst, arith, eq-eqb}
+use Rattle.std.proofs.lemmas.Bool.{cases_eq, cases_lt, eqb-true, and_parts}
+use Rattle.std.proofs.lemmas.Option.{slice_get_past}
 use Rattle.cs_cong.specs.declared.congruent.Applied.{Applied}
 use Rattle.cs_cong.specs.declared.congruent.Claim.{Claim}
 use Rattle.cs_cong.specs.declared.merges.Merge.{Merge}
 use Rattle.cs_cong.specs.declared.merges.Reason.{Reason}
 use Rattle.cs_cong.specs.declared.merges.Reason.TheVariants.{Claimed, Congruence}
 use Rattle.cs_cong.specs.Merged.{nothing, across, representative, current}
-use Rattle.cs_cong.specs.Joined.{is_claimed, Joined, claimed, itself, turned, joined, congruent, AllJoined, no_parts, one_part, all_same, alike, are_congruent, is_reason, AreJustified}
+use Rattle.cs_cong.specs.Joined.{is_claimed, Joined, claimed, itself, turned, joined, congruent, AllJoined, no_parts, one_part, all_same, alike, are_congruent, is_reason, AreJustified, denies, AreKept, AreKeptBelow}
 use Rattle.cs_cong.specs.Stages.{IsStage}
+use Rattle.cs_cong.proofs.Signatures.{get_some}
 
 -- the cases of one more merge: merged before, or across the merge, either way
 pub merge_cases : (m : Merge) (f : ℕ → ℕ) (a b : ℕ) → across m f a ≡ across m f b →
@@ -75,3 +77,30 @@ mutual
   all_are_merged : (terms : List Applied) (claims : List Claim) (log : List Merge) → IsStage terms claims log → (xs ys : List ℕ) → AllJoined terms claims xs ys → all_same (current log) xs ys ≡ true
   all_are_merged terms claims log s xs ys no_parts = refl
   all_are_merged terms claims log s xs ys (one_part h rest) = ap₂ (λ p q. p && q) (eq-eqb _ _ (joined_are_merged terms claims log s _ _ h)) (all_are_merged terms claims log s _ _ rest)
+
+-- ---- claims that two terms aren't equal
+claim_at : (claims : List Claim) (n : ℕ) (d : Claim) → n < length claims → d ≡ get_or claims n d → slice_get claims n ≡ Some d
+claim_at claims n d lt is = get_some claims n d lt ∙ ap (λ (x : Claim). Some x) (sym is)
+
+pub denied : (claims : List Claim) (n : ℕ) (d : Claim) → n < length claims → d ≡ get_or claims n d → not d.equal ≡ true → denies (slice_get claims n) d.left d.right ≡ true
+denied claims n d lt is e =
+    ap (λ o. denies o d.left d.right) (claim_at claims n d lt is)
+    ∙ ap (λ b. b && (nat_eq d.left d.left && nat_eq d.right d.right)) e
+    ∙ ap₂ (λ p q. p && q) (eq-eqb d.left d.left refl) (eq-eqb d.right d.right refl)
+
+pub kept_more : (terms : List Applied) (claims : List Claim) (n : ℕ) (d : Claim) → n < length claims → d ≡ get_or claims n d → AreKeptBelow terms claims n →
+    (not d.equal ≡ true → Joined terms claims d.left d.right → ⊥) → AreKeptBelow terms claims (n + 1)
+kept_more terms claims n d lt is all apart i a b below says j = elim (cases_eq i n) [
+  | inl e ↦
+      let h : denies (Some d) a b ≡ true = sym (ap (λ o. denies o a b) (ap (slice_get claims) e ∙ claim_at claims n d lt is)) ∙ says in
+      let p = and_parts (not d.equal) (nat_eq d.left a && nat_eq d.right b) h in
+      let q = and_parts (nat_eq d.left a) (nat_eq d.right b) p.1 in
+      apart p.0 (subst (λ x. Joined terms claims x d.right) (sym (eqb-true _ _ q.0)) (subst (Joined terms claims a) (sym (eqb-true _ _ q.1)) j))
+  | inr o ↦ all i a b (omega arith) says j
+]
+
+pub kept_all : (terms : List Applied) (claims : List Claim) (n : ℕ) → length claims ≤ n → AreKeptBelow terms claims n → AreKept terms claims
+kept_all terms claims n le all i a b says j = elim (cases_lt i (length claims)) [
+  | inl lt ↦ all i a b (omega arith) says j
+  | inr past ↦ absurd (let g : false ≡ true = sym (ap (λ o. denies o a b) (slice_get_past claims i past)) ∙ says in cc)
+]

@@ -2,6 +2,7 @@ pub mod Times
 pub mod Trees
 pub mod Same
 pub mod Grown
+pub mod Longer
 pub mod Stages
 pub mod Signatures
 pub mod Written

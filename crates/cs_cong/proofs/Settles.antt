@@ -8,15 +8,16 @@ use Rattle.cs_index.specs.Under.{under, with_number}
 use Rattle.cs_cong.specs.declared.congruent.Applied.{Applied}
 use Rattle.cs_cong.specs.declared.merges.Merge.{Merge}
 use Rattle.cs_cong.specs.declared.merges.Reason.{Reason}
+use Rattle.cs_cong.specs.declared.queue.Queue.{Queue}
 use Rattle.cs_cong.specs.declared.waiting.Waiting.{Waiting}
 use Rattle.cs_cong.specs.Merged.{representative, current, with_merge}
-use Rattle.cs_cong.specs.Joined.{all_same, alike, are_congruent}
+use Rattle.cs_cong.specs.Joined.{all_same, alike, are_congruent, IsClosed}
 use Rattle.cs_cong.specs.Rows.{row}
 use Rattle.cs_cong.specs.Signatures.{has, key_at}
 use Rattle.cs_cong.specs.Used.{touches, IsUsed}
 use Rattle.cs_cong.specs.Waits.{waits, IsDone}
 use Rattle.cs_cong.specs.Settled.{is_partner, has_partner, IsSettled, IsSpread}
-use Rattle.cs_cong.proofs.Grown.{flipped}
+use Rattle.cs_cong.proofs.Grown.{flipped, congruent_within}
 use Rattle.cs_cong.proofs.Signatures.{same_key, alike_on}
 use Rattle.cs_cong.proofs.Used.{or_none, any_weaker, same_touches, still_one, alike_kept, key_kept, used_moved}
 use Rattle.cs_cong.proofs.Stages.{last_one}
@@ -177,3 +178,18 @@ settled_turned terms log new a b why from to ea eb apart is old after sp s =
 -- what is known, where something is
 pub known_some : (terms : List Applied) (f : ℕ → ℕ) (v w : Waiting) → Some v ≡ Some w → IsSettled terms f v → IsSettled terms f w
 known_some terms f v w e s = subst (IsSettled terms f) (some_same v w e) s
+
+-- where none waits
+calm : (q : Queue) (a : ℕ) → q.list.items ≡ [] → a < length q.flags.items → waits q a ≡ false
+calm q a e lt = go (waits q a) refl
+  where
+    go : (b : Bool) → waits q a ≡ b → b ≡ false
+    go true h = absurd (let g : false ≡ true = ap (λ l. has l a) (sym e) ∙ q.listed a lt h in cc)
+    go false h = refl
+
+pub settled_closed : (terms : List Applied) (log : List Merge) (w : Waiting) → IsSettled terms (current log) w → w.queue.list.items ≡ [] → IsClosed terms log
+settled_closed terms log w s e a b h =
+    let wide = s.wide in
+    let la : a < length terms = congruent_within terms (current log) b a (turned terms (current log) a b h) in
+    let lb : b < length terms = congruent_within terms (current log) a b h in
+    s.closed a b (calm w.queue a e (omega arith)) (calm w.queue b e (omega arith)) h

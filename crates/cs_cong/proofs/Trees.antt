@@ -1,5 +1,5 @@
 -- The tree over one merge more, and over one less.
-use Rattle.std.proofs.Common.{◌≡◌, ℕ, suc, ◌<◌, ◌≤◌, inl, inr, List, [], ◌∷◌, ◌++◌, length, get_or, set, refl, sym, ◌∙◌, ap, subst, arith}
+use Rattle.std.proofs.Common.{◌≡◌, ℕ, suc, ◌<◌, ◌≤◌, ◌+◌, inl, inr, List, [], ◌∷◌, ◌++◌, length, get_or, set, refl, sym, ◌∙◌, ap, subst, arith}
 use Rattle.std.proofs.lemmas.Bool.{cases_eq, cases_lt}
 use Rattle.std.proofs.lemmas.List.{get_or_append_left, get_or_at, length-append, length-set, get_or-set_same, get_or-set_other, get_or_default}
 use Rattle.cs_cong.specs.declared.merges.Merge.{Merge}
@@ -28,6 +28,18 @@ no_tree links each = record {
   times = λ a lt. let e : (link_at links a).time ≡ never = ap (λ l. l.time) (each a lt) in omega arith;
   each = λ k lt. absurd (omega arith);
 }
+
+-- one term more
+pub links_more : (links new : List Link) (n : ℕ) → length links ≡ n → ((a : ℕ) → a < n → link_at links a ≡ record { to = a; time = never }) → new ≡ links ++ record { to = n; time = never } ∷ [] →
+    (length new ≡ n + 1) × ((a : ℕ) → a < n + 1 → link_at new a ≡ record { to = a; time = never })
+links_more links new n long each is =
+    let own : ℕ → Link = λ k. record { to = k; time = never } in (
+      ap length is ∙ length-append links (own n ∷ []) ∙ ap (λ k. k + 1) long,
+      λ a lt. ap (λ l. link_at l a) is ∙ elim (cases_eq a n) [
+        | inl e ↦ get_or_at links (own n) [] nowhere a (long ∙ sym e) ∙ ap own (sym e)
+        | inr o ↦ get_or_append_left links (own n ∷ []) nowhere a (omega arith) ∙ each a (omega arith)
+      ],
+    )
 
 pub at_link : (links : List Link) (a : ℕ) (l : Link) → a < length links → l ≡ get_or links a l → l ≡ link_at links a
 at_link links a l lt e = e ∙ get_or_default links a l nowhere lt

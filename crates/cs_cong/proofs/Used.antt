@@ -1,15 +1,18 @@
 -- Terms with a part in the class of a representative, as classes are made one.
-use Rattle.std.proofs.Common.{◌≡◌, ℕ, inl, inr, Bool, true, false, nat_eq, cond, ◌&&◌, ◌||◌, List, [], ◌∷◌, ◌++◌, slice_get, Option, Some, None, refl, sym, ◌∙◌, ap, ap₂, eq-eqb, ne_eqb}
+use Rattle.std.proofs.Common.{◌≡◌, ℕ, ◌<◌, ◌≤◌, ◌+◌, inl, inr, Bool, true, false, nat_eq, cond, ◌&&◌, ◌||◌, List, [], ◌∷◌, ◌++◌, length, take, get_or, slice_get, Option, Some, None, refl, sym, ◌∙◌, ap, ap₂, arith, eq-eqb, ne_eqb}
 use Rattle.std.specs.List.{list_any}
-use Rattle.std.proofs.lemmas.Bool.{cases_eq, eqb-true, and_parts}
+use Rattle.std.proofs.lemmas.Bool.{cases_eq, cases_lt, eqb-true, and_parts}
+use Rattle.std.proofs.lemmas.List.{length-take-le, take_all, take_more}
 use Rattle.std.proofs.lemmas.List.Folds.{list_any-append}
+use Rattle.std.proofs.lemmas.Option.{slice_get_past}
 use Rattle.cs_index.specs.Keys.{mixed}
 use Rattle.cs_cong.specs.declared.congruent.Applied.{Applied}
 use Rattle.cs_cong.specs.Joined.{all_same, alike}
-use Rattle.cs_cong.specs.Rows.{Rows, row}
+use Rattle.cs_cong.specs.Rows.{Rows, row, IsWritten}
 use Rattle.cs_cong.specs.Signatures.{has, with_parts}
 use Rattle.cs_cong.specs.Used.{is_any, touches, IsUsed}
 use Rattle.cs_cong.proofs.Signatures.{key_of}
+use Rattle.cs_cong.proofs.Stages.{get_front, get_last, get_past}
 
 or_false : (p : Bool) → (p || false) ≡ p
 or_false true = refl
@@ -151,3 +154,62 @@ module _ (f g : ℕ → ℕ) (from to : ℕ) (apart : from ≡ to → ⊥) (move
   ]
 
 -- ---- the terms under the representatives of their parts
+or_with : (x n y : Bool) → ((x || (n && y)) || (n || false)) ≡ (x || (n && (y || (true || false))))
+or_with true n y = refl
+or_with false true true = refl
+or_with false true false = refl
+or_with false false y = refl
+
+-- one part more
+pub used_part : (f : ℕ → ℕ) (old mid new : Rows) (parts : List ℕ) (i number at : ℕ) → i < length parts → at ≡ f (get_or parts i 0) → IsWritten mid new at (row mid at ++ number ∷ []) →
+    ((r a : ℕ) → has (row mid r) a ≡ (has (row old r) a || (nat_eq a number && is_any f (take i parts) r))) →
+    (r a : ℕ) → has (row new r) a ≡ (has (row old r) a || (nat_eq a number && is_any f (take (i + 1) parts) r))
+used_part f old mid new parts i number at lt is w all r a = elim (cases_eq r at) [
+  | inl e ↦
+      ap (λ k. has (row new k) a) e ∙ ap (λ l. has l a) w.here ∙ list_any-append (nat_eq a) (row mid at) (number ∷ [])
+      ∙ ap (λ k. has (row mid k) a || (nat_eq a number || false)) (sym e)
+      ∙ ap (λ x. x || (nat_eq a number || false)) (all r a)
+      ∙ or_with (has (row old r) a) (nat_eq a number) (is_any f (take i parts) r)
+      ∙ ap (λ b. has (row old r) a || (nat_eq a number && (is_any f (take i parts) r || (b || false)))) (sym (eq-eqb _ _ (sym (e ∙ is))))
+      ∙ ap (λ b. has (row old r) a || (nat_eq a number && b)) (sym (one r))
+  | inr n ↦
+      ap (λ l. has l a) (w.others r n) ∙ all r a
+      ∙ ap (λ b. has (row old r) a || (nat_eq a number && b)) (sym (or_false (is_any f (take i parts) r)))
+      ∙ ap (λ b. has (row old r) a || (nat_eq a number && (is_any f (take i parts) r || (b || false)))) (sym (ne_eqb _ _ (λ h. n (sym (is ∙ h)))))
+      ∙ ap (λ b. has (row old r) a || (nat_eq a number && b)) (sym (one r))
+]
+  where
+    one : (r : ℕ) → is_any f (take (i + 1) parts) r ≡ (is_any f (take i parts) r || (nat_eq (f (get_or parts i 0)) r || false))
+    one r = ap (λ xs. is_any f xs r) (take_more parts i 0 lt) ∙ list_any-append (λ p. nat_eq (f p) r) (take i parts) (get_or parts i 0 ∷ [])
+
+pub used_parts : (f : ℕ → ℕ) (old new : Rows) (parts : List ℕ) (i number : ℕ) → length parts ≤ i →
+    ((r a : ℕ) → has (row new r) a ≡ (has (row old r) a || (nat_eq a number && is_any f (take i parts) r))) →
+    (r a : ℕ) → has (row new r) a ≡ (has (row old r) a || (nat_eq a number && is_any f parts r))
+used_parts f old new parts i number le all r a = all r a ∙ ap (λ xs. has (row old r) a || (nat_eq a number && is_any f xs r)) (take_all i parts le)
+
+-- one term more
+pub used_term : (terms : List Applied) (f : ℕ → ℕ) (old new : Rows) (at : ℕ) (d : Applied) (ps : List ℕ) → at < length terms → ps ≡ (get_or terms at d).parts.items →
+    IsUsed (take at terms) f old → ((r a : ℕ) → has (row new r) a ≡ (has (row old r) a || (nat_eq a at && is_any f ps r))) → IsUsed (take (at + 1) terms) f new
+used_term terms f old new at d ps lt same all more r a =
+    more r a ∙ ap₂ (λ b xs. b || (nat_eq a at && is_any f xs r)) (all r a) same
+    ∙ elim (cases_eq a at) [
+      | inl e ↦
+          ap₂ (λ o b. touches f o r || (b && is_any f (get_or terms at d).parts.items r)) (slice_get_past (take at terms) a (omega (arith, long))) (eq-eqb _ _ e)
+          ∙ sym (ap (λ o. touches f o r) (ap (slice_get (take (at + 1) terms)) (e ∙ sym long) ∙ ap (λ ts. slice_get ts (length (take at terms))) one ∙ get_last (take at terms) (get_or terms at d)))
+      | inr n ↦
+          ap (λ b. touches f (slice_get (take at terms) a) r || (b && is_any f (get_or terms at d).parts.items r)) (ne_eqb _ _ n) ∙ or_false _
+          ∙ ap (λ o. touches f o r) (elim (cases_lt a (length (take at terms))) [
+            | inl below ↦ sym (get_front (take at terms) (get_or terms at d ∷ []) a below)
+            | inr past ↦ slice_get_past (take at terms) a past ∙ sym (get_past (take at terms) (get_or terms at d) a (omega (arith, long)))
+          ])
+          ∙ sym (ap (λ ts. touches f (slice_get ts a) r) one)
+    ]
+  where
+    long : length (take at terms) ≡ at
+    long = length-take-le at terms (omega arith)
+
+    one : take (at + 1) terms ≡ take at terms ++ get_or terms at d ∷ []
+    one = take_more terms at d lt
+
+pub used_terms : (terms : List Applied) (f : ℕ → ℕ) (uses : Rows) (at : ℕ) → length terms ≤ at → IsUsed (take at terms) f uses → IsUsed terms f uses
+used_terms terms f uses at le all r a = all r a ∙ ap (λ ts. touches f (slice_get ts a) r) (take_all at terms le)

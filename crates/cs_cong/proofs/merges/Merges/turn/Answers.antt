@@ -1,7 +1,8 @@
-use Rattle.std.proofs.Common.{◌≡◌, ◌<◌, ◌^◌, ℕ, List, length, sym, subst, set, arith, rules, ◌++◌, ◌∷◌, []}
+use Rattle.cs_cong.proofs.Longer.{same_log}
+use Rattle.std.proofs.Common.{◌≡◌, ◌<◌, ◌^◌, ℕ, List, length, sym, subst, set, arith, rules, ◌++◌, ◌∷◌, [], ◌∙◌, refl}
 use Rattle.cs_cong.specs.declared.merges.Merge.{Merge}
 use Rattle.cs_cong.specs.declared.merges.Link.{Link}
-use Rattle.cs_cong.specs.Merged.{AreWithin}
+use Rattle.cs_cong.specs.Merged.{AreWithin, with_merge}
 use Rattle.cs_cong.specs.Trees.{IsTree}
 use Rattle.cs_cong.proofs.Trees.{grown_tree, within_more, width}
 use Rattle.cs_cong.proofs.merges.Merges.turn.Goals as goal
@@ -29,3 +30,8 @@ invariant_of-self-2-clause-within c =
     subst (λ (n : ℕ). AreWithin n c.push.new.self.items) (sym (width s.links.items c.now-moved.result l))
     (subst (AreWithin (length s.links.items)) (sym c.in_ok-push.ensures.items)
     (within_more (length s.links.items) s.log.items m s.within record { left = c.requires.left; right = c.requires.right; moved = c.now-moved.ensures.within }))
+
+pub returns-then-moved-to-clause-log : goal.returns-then-moved-to-clause-log
+returns-then-moved-to-clause-log c =
+    let s = c.args.self.now in
+    sym (same_log s.log.items (with_merge s.log.items c.args.left c.args.right c.args.reason) c.args.left c.args.right c.args.reason refl (sym c.now-moved.ensures.value ∙ c.if-moved-to.true ∙ c.now-to.ensures.value))
