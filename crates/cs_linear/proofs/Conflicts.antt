@@ -22,7 +22,7 @@ use Rattle.cs_linear.specs.declared.bounds.Part.{Part}
 use Rattle.cs_linear.specs.declared.rows.Entry.{Entry}
 use Rattle.cs_linear.specs.declared.rows.Row.{Row}
 use Rattle.cs_linear.proofs.Arithmetic.{plus_comm, plus_none, none_times, plus_times, times_lowest, plus_minus}
-use Rattle.cs_linear.proofs.Lists.{some_is}
+use Rattle.cs_linear.proofs.Lists.{some_is, here_is}
 use Rattle.cs_linear.proofs.Judged.{columns_more, limits_more}
 use Rattle.cs_linear.proofs.Orders.{AtMostOf, LessOf, most_more, most_less, full_scaled, broken_scaled, met_scaled, less_in, less_out}
 
@@ -125,3 +125,9 @@ way_as {es = es} {seen = seen} {mains = mains} {ms = ms} {deltas = deltas} {ds =
     (subst (λ (xs : List Frac). IsWay bounds (values xs) (values deltas) t seen v) me
     (subst (λ (xs : List Frac). IsWay bounds (values ms) (values xs) t seen v) de
     (subst (IsWay bounds (values ms) (values ds) t seen) we h)))
+
+-- a bound among those of known columns
+pub among_known : (bounds : List Bound) (b : Bound) (n : ℕ) → All (λ b. b.column < n) bounds → IsAmong b bounds → b.column < n
+among_known bounds b n all m =
+    let lt = slice_get_within bounds m.0 b m.1 in
+    subst (λ (x : Bound). x.column < n) (here_is bounds m.0 b b lt m.1) (All-get_or (λ (x : Bound). x.column < n) bounds m.0 b lt all)

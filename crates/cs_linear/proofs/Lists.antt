@@ -1,6 +1,6 @@
 -- Lists by place: one item more, one item written.
-use Rattle.std.proofs.Common.{rules, Vec, Global, vec_len, length-append, ◌≡◌, ℕ, zero, suc, ◌+◌, ◌<◌, List, [], ◌∷◌, ◌++◌, Some, None, length, slice_get, slice_set, get_or, refl, sym, ◌∙◌, ap, subst, arith}
-use Rattle.std.proofs.lemmas.Option.{slice_get-get_or, slice_get_read}
+use Rattle.std.proofs.Common.{rules, Vec, Global, vec_len, length-append, ◌≡◌, ℕ, zero, suc, ◌+◌, ◌<◌, List, [], ◌∷◌, ◌++◌, Some, None, length, slice_get, slice_set, get_or, refl, sym, ◌∙◌, ap, subst, arith, ◌≤◌}
+use Rattle.std.proofs.lemmas.Option.{slice_get-get_or, slice_get_read, slice_get_past}
 use Rattle.std.proofs.lemmas.List.{get_or-set_same, length-set}
 
 pub some_is : {A : Type 0} (x y : A) → Some x ≡ Some y → x ≡ y
@@ -50,3 +50,9 @@ below_longer xs x k lt = subst (λ n. k < n) (sym (length-append xs (x ∷ [])))
 
 pub long : {A : Type 0} (v : Vec A Global) → vec_len v ≡ length v.items
 long v = search rules
+
+pub past_none : {A : Type 0} {X : Type 0} (xs : List A) (i : ℕ) (x : A) → length xs ≤ i → slice_get xs i ≡ Some x → X
+past_none xs i x le e = none_some x (sym (slice_get_past xs i le) ∙ e)
+
+pub here_is : {A : Type 0} (xs : List A) (i : ℕ) (d x : A) → i < length xs → slice_get xs i ≡ Some x → get_or xs i d ≡ x
+here_is xs i d x lt e = some_is (get_or xs i d) x (sym (slice_get-get_or xs i d lt) ∙ e)

@@ -6,7 +6,7 @@ use Rattle.vx_frac.proofs.Reduced.{lowest-fraction}
 use Rattle.cs_linear.specs.Numbers.{plus, times}
 use Rattle.vx_frac.specs.declared.Frac.{Frac}
 use Rattle.std.proofs.lemmas.List.Elements.{All-append, All-get_or, All-cons, All-nil, All-head, All-tail, All-weaker}
-use Rattle.std.proofs.lemmas.List.{drop_all}
+use Rattle.std.proofs.lemmas.List.{drop_all, append-nil}
 use Rattle.std.proofs.lemmas.Bool.{ltb-true, lt-ltb}
 use Rattle.std.proofs.lemmas.Option.{slice_get_read}
 use Rattle.cs_linear.specs.declared.rows.First.{First}
@@ -222,3 +222,20 @@ ascends_in n (e ∷ es) h = and_both _ _ (lt-ltb n (suc e.column) (let le = h.0 
 
 pub none_ascends : (es : List Entry) → es ≡ [] → Ascends 0 es
 none_ascends es is = subst (Ascends 0) (sym is) tt
+
+-- ---- a sum without a column, entry by entry
+module _ (rest : List Entry) (es : List Entry) (i j : ℕ) where
+  one_kept : (e : Entry) (fs : List Entry) → kept rest e j ++ rest_of fs j ≡ rest ++ rest_of (e ∷ fs) j
+  one_kept e fs = go (nat_eq e.column j)
+    where
+      go : (b : Bool) → (if b then rest else (rest ++ e ∷ [])) ++ rest_of fs j ≡ rest ++ (if b then rest_of fs j else (e ∷ rest_of fs j))
+      go true = refl
+      go false = append_assoc rest (e ∷ []) (rest_of fs j)
+
+  pub rest_more : (new : List Entry) (d : Entry) → i < length es → d ≡ get_or es i d → new ≡ kept rest d j → rest ++ rest_of (drop i es) j ≡ rest_of es j → new ++ rest_of (drop (i + 1) es) j ≡ rest_of es j
+  rest_more new d lt here is all =
+      ap (λ l. l ++ rest_of (drop (i + 1) es) j) is ∙ one_kept d (drop (i + 1) es)
+      ∙ ap (λ l. rest ++ rest_of l j) (sym (drop-cons es i d lt ∙ ap₂ (λ (x : Entry) k. x ∷ drop k es) (sym here) (sym (add-one i)))) ∙ all
+
+  pub rest_end : length es ≤ i → rest ++ rest_of (drop i es) j ≡ rest_of es j → rest ≡ rest_of es j
+  rest_end le all = sym (append-nil rest) ∙ ap (λ l. rest ++ rest_of l j) (sym (drop_all i es le)) ∙ all

@@ -1,4 +1,4 @@
-use Rattle.std.proofs.Common.{◌<◌, List, Option, ℕ, [], ◌∷◌, ◌++◌, None, length, sym, ap, ◌∙◌, subst, refl, ap₂}
+use Rattle.std.proofs.Common.{◌<◌, List, Option, ℕ, [], ◌∷◌, ◌++◌, None, length, sym, ap, ◌∙◌, subst, refl, ap₂, length-append}
 use Rattle.std.proofs.lemmas.List.Elements.{All-weaker}
 use Rattle.vx_frac.specs.declared.Frac.{Frac}
 use Rattle.cs_linear.specs.declared.bounds.Bound.{Bound}
@@ -31,3 +31,6 @@ returns-clause-values c = λ k.
     let mains = c.put-2.ensures ∙ ap (λ (vs : List Frac). vs ++ c.zero.result ∷ []) c.reserve-2.ensures.items in
     let deltas = c.put-3.ensures ∙ ap (λ (vs : List Frac). vs ++ c.zero-2.result ∷ []) c.reserve-3.ensures.items in
     ap₂ pair (ap (λ vs. values vs k) mains ∙ zero_more s.mains.items c.zero.result k c.zero.ensures) (ap (λ vs. values vs k) deltas ∙ zero_more s.deltas.items c.zero-2.result k c.zero-2.ensures)
+
+pub returns-clause-width : goal.returns-clause-width
+returns-clause-width c = ap length (c.put.ensures ∙ ap (λ (hs : List (Option ℕ)). hs ++ None ∷ []) c.reserve.ensures.items) ∙ length-append c.args.self.now.homes.items (None ∷ [])

@@ -1,4 +1,5 @@
-use Rattle.std.proofs.Common.{◌≡◌, ◌<◌, List, Option, ℕ, [], ◌∷◌, ◌++◌, Some, All, length, sym, ap, ap₂, ◌∙◌, subst, refl}
+use Rattle.cs_linear.proofs.Conflicts.{known_free}
+use Rattle.std.proofs.Common.{◌≡◌, ◌<◌, List, Option, ℕ, [], ◌∷◌, ◌++◌, Some, All, length, sym, ap, ap₂, ◌∙◌, subst, refl, length-append}
 use Rattle.std.proofs.lemmas.List.Elements.{All-weaker}
 use Rattle.vx_frac.specs.declared.Frac.{Frac}
 use Rattle.cs_linear.specs.declared.rows.Row.{Row}
@@ -63,3 +64,18 @@ returns-clause-row c =
       basic = c.len-basic.ensures ∙ long c.make_room.new.homes ∙ ap length m.homes;
       entries = c.in_ok-original.ensures.value;
     }
+
+pub total_of-requires : goal.total_of-requires
+total_of-requires c =
+    let s = c.args.self.now in
+    known_free s.homes.items c.deref-3.result.now (length c.deref-4.result.now) (ap length c.deref-4.ensures.value ∙ s.same_mains)
+    (subst (AreFree s.homes.items) (sym c.deref-3.ensures.value) (subst (λ (hs : Homes). AreFree hs c.in_ok-entries.entries.items) c.deref-2.ensures.value c.in_ok-entries.ensures.free))
+
+pub total_of-requires-2 : goal.total_of-requires-2
+total_of-requires-2 c =
+    let s = c.args.self.now in
+    known_free s.homes.items c.deref-5.result.now (length c.deref-6.result.now) (ap length c.deref-6.ensures.value ∙ s.same_deltas)
+    (subst (AreFree s.homes.items) (sym c.deref-5.ensures.value) (subst (λ (hs : Homes). AreFree hs c.in_ok-entries.entries.items) c.deref-2.ensures.value c.in_ok-entries.ensures.free))
+
+pub returns-clause-width : goal.returns-clause-width
+returns-clause-width c = ap length (c.put-3.ensures ∙ ap (λ (hs : List (Option ℕ)). hs ++ Some c.len-home.result ∷ []) c.make_room.ensures.homes) ∙ length-append c.args.self.now.homes.items (Some c.len-home.result ∷ [])
