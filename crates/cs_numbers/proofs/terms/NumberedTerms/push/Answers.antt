@@ -1,4 +1,4 @@
-use Rattle.std.proofs.Common.{◌≡◌, rules, List, [], ◌∷◌, ◌++◌, length, map, nat_eq, All, refl, sym, ◌∙◌, ap, ap₂, subst}
+use Rattle.std.proofs.Common.{◌≡◌, rules, [], ◌∷◌, ◌++◌, length, map, nat_eq, All, refl, sym, ◌∙◌, ap, ap₂, subst}
 use Rattle.std.proofs.lemmas.List.Elements.{All-push}
 use Rattle.std.proofs.lemmas.List.{map-append, length-map}
 use Rattle.vx_terms.specs.Views.{term}
