@@ -1,8 +1,12 @@
 -- Lists of literals that grow.
-use Rattle.std.proofs.Common.{◌≡◌, ℕ, zero, suc, ◌+◌, ◌<◌, ◌≤◌, ◌⊎◌, inl, inr, List, [], ◌∷◌, length, map, get_or, take, refl, sym, subst, ap, arith}
+use Rattle.std.proofs.Common.{◌≡◌, ℕ, zero, suc, ◌+◌, ◌<◌, ◌≤◌, ◌⊎◌, inl, inr, List, [], ◌∷◌, ◌++◌, length, map, get_or, take, refl, sym, ◌∙◌, subst, ap, arith, append_assoc}
 use Rattle.std.specs.List.{All, Contains}
 use Rattle.std.proofs.lemmas.List.{take_more, take_all}
-use Rattle.std.proofs.lemmas.List.Elements.{Contains-get_or, All-push}
+use Rattle.std.proofs.lemmas.List.Elements.{Contains-get_or, All-push, filter-append}
+use Rattle.cs_hints.specs.declared.Literal.{Literal}
+use Rattle.cs_search.specs.declared.Value.{Value}
+use Rattle.cs_search.specs.Assignment.{status_of}
+use Rattle.cs_search.specs.Learned.{before, is_false_before}
 
 pub contains_nothing : {X : Type 0} (x : X) → Contains [] x → ⊥
 contains_nothing x (k, lt, e) = omega arith
@@ -43,3 +47,13 @@ all_more {X = X} P xs k d lt h p = let Q : List X → Type 0 = λ ys. All P ys i
 
 pub all_whole : {X : Type 0} (P : X → Type 0) (xs : List X) (n : ℕ) → length xs ≤ n → All P (take n xs) → All P xs
 all_whole {X = X} P xs n le h = let Q : List X → Type 0 = λ ys. All P ys in subst Q (take_all n xs le) h
+
+-- one literal more, of those that were false before k
+pub before_more : (values : List Value) (k : ℕ) (met : List Literal) (i : ℕ) (d : Literal) (first old new : List Literal) → i < length met → old ≡ first ++ before values k (take i met) → new ≡ old ++ before values k (get_or met i d ∷ []) →
+    new ≡ first ++ before values k (take (i + 1) met)
+before_more values k met i d first old new lt all one =
+    one ∙ ap (λ x. x ++ before values k (get_or met i d ∷ [])) all ∙ append_assoc first (before values k (take i met)) (before values k (get_or met i d ∷ []))
+    ∙ ap (λ x. first ++ x) (sym (ap (before values k) (take_more met i d lt) ∙ filter-append (λ l. is_false_before k (status_of values l)) (take i met) (get_or met i d ∷ [])))
+
+pub before_all : (values : List Value) (k : ℕ) (met : List Literal) (i : ℕ) (first list : List Literal) → length met ≤ i → list ≡ first ++ before values k (take i met) → list ≡ first ++ before values k met
+before_all values k met i first list le all = all ∙ ap (λ x. first ++ before values k x) (take_all i met le)

@@ -1,4 +1,5 @@
-use Rattle.std.proofs.Common.{[], ◌∷◌, ◌++◌, length, refl, ◌∙◌, ap}
+use Rattle.cs_search.specs.Assignment.{IsFalse}
+use Rattle.std.proofs.Common.{[], ◌∷◌, ◌++◌, length, refl, ◌∙◌, ap, subst, sym}
 use Rattle.cs_search.proofs.Learns.{pushed_search, closed_over, satisfied_uncovered}
 use Rattle.cs_search.proofs.Tops.{forces_there}
 use Rattle.cs_search.proofs.Queues.{queued_pushed}
@@ -29,3 +30,6 @@ returns-in-Ok-clause-forces c =
     let trail = s.made.trail.items in
     forces_there s.clauses.items values c.back_to.new.search.made.values.items values trail c.back_to.new.search.made.trail.items trail c.args.clause.literals.items _ c.cut_for-cut.result c.requires.sound.sound.sound
     c.back_to.ensures.sound c.back_to.ensures.trail c.cut_for-cut.ensures.within c.requires.all_false c.deref.ensures.value c.cut_for-cut.ensures.forces
+
+pub cut_for-cut-requires-clause-all_false : goal.cut_for-cut-requires-clause-all_false
+cut_for-cut-requires-clause-all_false c = subst (IsFalse c.args.search.now.made.values.items (length c.args.search.now.made.trail.items)) (sym c.deref.ensures.value) c.requires.all_false
