@@ -24,3 +24,9 @@ returns-clause-queued c =
     let n = c.force.new.made in
     entered_forced c.args.clauses.now m.values.items n.values.items m.trail.items n.trail.items c.args.queue.now c.watch_both.new.queue c.args.pair c.requires.sound c.in_ok-held.ensures.extended c.requires.chosen (c.in_ok-held.ensures.truth c.if-not-held.false)
     c.in_ok-watch_both.ensures.watches c.in_ok-watch_both.ensures.rows c.watch_both.ensures.head c.requires.queued
+
+pub returns-then-not-held-clause-extended : goal.returns-then-not-held-clause-extended
+returns-then-not-held-clause-extended c = c.in_ok-held.ensures.extended
+
+pub returns-clause-extended : goal.returns-clause-extended
+returns-clause-extended c = c.in_ok-held.ensures.extended
