@@ -79,3 +79,39 @@ total_of-requires-2 c =
 
 pub returns-clause-width : goal.returns-clause-width
 returns-clause-width c = ap length (c.put-3.ensures ∙ ap (λ (hs : List (Option ℕ)). hs ++ Some c.len-home.result ∷ []) c.make_room.ensures.homes) ∙ length-append c.args.self.now.homes.items (Some c.len-home.result ∷ [])
+
+pub returns-in_err-entries-clause-bounds : goal.returns-in_err-entries-clause-bounds
+returns-in_err-entries-clause-bounds c = refl
+
+pub returns-in_err-main-clause-bounds : goal.returns-in_err-main-clause-bounds
+returns-in_err-main-clause-bounds c = refl
+
+pub returns-in_err-delta-clause-bounds : goal.returns-in_err-delta-clause-bounds
+returns-in_err-delta-clause-bounds c = refl
+
+pub returns-in_err-original-clause-bounds : goal.returns-in_err-original-clause-bounds
+returns-in_err-original-clause-bounds c = refl
+
+pub returns-in_err-make_room-clause-bounds : goal.returns-in_err-make_room-clause-bounds
+returns-in_err-make_room-clause-bounds c = refl
+
+pub put-requires : goal.put-requires
+put-requires c = c.in_ok-make_room.ensures.room_for_original
+
+pub put-requires-2 : goal.put-requires-2
+put-requires-2 c = c.in_ok-make_room.ensures.room_for_row
+
+pub put-requires-3 : goal.put-requires-3
+put-requires-3 c = c.in_ok-make_room.ensures.room_for_home
+
+pub put-requires-4 : goal.put-requires-4
+put-requires-4 c = c.in_ok-make_room.ensures.room_for_main
+
+pub put-requires-5 : goal.put-requires-5
+put-requires-5 c = c.in_ok-make_room.ensures.room_for_delta
+
+pub returns-clause-column : goal.returns-clause-column
+returns-clause-column c = c.len-basic.ensures ∙ long c.make_room.new.homes ∙ ap length c.make_room.ensures.homes
+
+pub returns-clause-bounds : goal.returns-clause-bounds
+returns-clause-bounds c = refl

@@ -1,6 +1,9 @@
+use Rattle.cs_linear.specs.declared.bounds.Bound.{Bound}
+use Rattle.cs_linear.specs.declared.rows.Row.{Row}
+use Rattle.vx_frac.specs.declared.Frac.{Frac}
 use Rattle.cs_linear.proofs.Conflicts.{among_known}
-use Rattle.cs_linear.specs.Contradictions.{IsAmong}
-use Rattle.std.proofs.Common.{subst, length}
+use Rattle.cs_linear.specs.Contradictions.{IsAmong, is_broken, IsContradiction}
+use Rattle.std.proofs.Common.{subst, length, ap₂, sym, ◌∙◌, List, Vec, Global, refl, arith}
 use Rattle.cs_linear.specs.Values.{values}
 use Rattle.cs_linear.proofs.Tightest.{meets_as}
 use Rattle.cs_linear.proofs.tableau.Tableau.turn.Goals as goal
@@ -21,3 +24,63 @@ pub mend-requires-clause-known : goal.mend-requires-clause-known
 mend-requires-clause-known c =
     let s = c.args.self.now in
     among_known s.bounds.items c.in-Some.bound (length s.homes.items) s.known (subst (IsAmong c.in-Some.bound) c.deref.ensures.value c.in-Some.ensures.among)
+
+pub mend-requires-clause-among : goal.mend-requires-clause-among
+mend-requires-clause-among c = subst (IsAmong c.in-Some.bound) c.deref.ensures.value c.in-Some.ensures.among
+
+pub mend-requires-clause-broken : goal.mend-requires-clause-broken
+mend-requires-clause-broken c = ap₂ (λ (ms ds : List Frac). is_broken (values ms) (values ds) c.in-Some.bound) (sym c.deref-2.ensures.value) (sym c.deref-3.ensures.value) ∙ c.in-Some.ensures.broken
+
+pub returns-in-Ok-Some-clause-turn : goal.returns-in-Ok-Some-clause-turn
+returns-in-Ok-Some-clause-turn c =
+    let e = c.in-Ok-Some.conflict.parts.items in
+    subst (λ (o : Vec Row Global). IsContradiction o.items c.mend.new.self.bounds.items e) (sym c.in-Ok-Some.ensures.rows)
+    (subst (λ (b : Vec Bound Global). IsContradiction c.args.self.now.originals.items b.items e) (sym c.in-Ok-Some.ensures.bounds) (rw c.in-Ok-Some.field-0-is at c.in-Ok-Some.ensures.conflict))
+
+pub returns-in-Ok-None-clause-turn : goal.returns-in-Ok-None-clause-turn
+returns-in-Ok-None-clause-turn c = (c.in-Ok.ensures.spent, c.in-Ok.ensures.left.0 refl)
+
+pub mend-requires-clause-limits : goal.mend-requires-clause-limits
+mend-requires-clause-limits c = c.requires.limits
+
+pub mend-requires-clause-lower : goal.mend-requires-clause-lower
+mend-requires-clause-lower c = c.requires.lower
+
+pub mend-requires-clause-upper : goal.mend-requires-clause-upper
+mend-requires-clause-upper c = c.requires.upper
+
+pub returns-in-Ok-None-clause-rows : goal.returns-in-Ok-None-clause-rows
+returns-in-Ok-None-clause-rows c = c.in-Ok-None.ensures.rows
+
+pub returns-in-Ok-None-clause-width : goal.returns-in-Ok-None-clause-width
+returns-in-Ok-None-clause-width c = c.in-Ok-None.ensures.width
+
+pub returns-in-Ok-None-clause-bounds : goal.returns-in-Ok-None-clause-bounds
+returns-in-Ok-None-clause-bounds c = c.in-Ok-None.ensures.bounds
+
+pub returns-in-Ok-Some-clause-rows : goal.returns-in-Ok-Some-clause-rows
+returns-in-Ok-Some-clause-rows c = c.in-Ok-Some.ensures.rows
+
+pub returns-in-Ok-Some-clause-width : goal.returns-in-Ok-Some-clause-width
+returns-in-Ok-Some-clause-width c = c.in-Ok-Some.ensures.width
+
+pub returns-in-Ok-Some-clause-bounds : goal.returns-in-Ok-Some-clause-bounds
+returns-in-Ok-Some-clause-bounds c = c.in-Ok-Some.ensures.bounds
+
+pub returns-in-Err-mend-clause-rows : goal.returns-in-Err-mend-clause-rows
+returns-in-Err-mend-clause-rows c = c.in-Err-mend.ensures.rows
+
+pub returns-in-Err-mend-clause-width : goal.returns-in-Err-mend-clause-width
+returns-in-Err-mend-clause-width c = c.in-Err-mend.ensures.width
+
+pub returns-in-Err-mend-clause-bounds : goal.returns-in-Err-mend-clause-bounds
+returns-in-Err-mend-clause-bounds c = c.in-Err-mend.ensures.bounds
+
+pub returns-in-Ok-None-clause-spent : goal.returns-in-Ok-None-clause-spent
+returns-in-Ok-None-clause-spent c = omega (arith, c.in-Ok.ensures.spent)
+
+pub returns-in-Ok-Some-clause-spent : goal.returns-in-Ok-Some-clause-spent
+returns-in-Ok-Some-clause-spent c = omega (arith, c.in-Ok.ensures.spent)
+
+pub returns-in-Err-mend-clause-spent : goal.returns-in-Err-mend-clause-spent
+returns-in-Err-mend-clause-spent c = omega (arith, c.in-Ok.ensures.spent)
