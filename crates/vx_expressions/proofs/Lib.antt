@@ -1,9 +1,10 @@
 pub mod Fails
+pub mod Forms
+pub mod Sizes
 pub mod Places
 pub mod Rows
 pub mod Accesses
 pub mod Arguments
-pub mod Unfoldings
 pub mod Scopes
 pub mod Passed
 pub mod AgreesAmounts
