@@ -2,7 +2,7 @@ use Rattle.std.proofs.Common.{sym, ap, ap₂, ◌∙◌, arith}
 use Rattle.vx_terms.specs.declared.term.Term.{size-Term}
 use Rattle.vx_terms.specs.Terms.{same, same_all}
 use Rattle.vx_terms.specs.Views.{term, terms}
-use Rattle.vx_terms.proofs.Firsts.{below_apply, below_binary, below_ite, apply_on, binary_on, ite_on, and_false}
+use Rattle.vx_terms.proofs.Firsts.{below_apply, below_binary, below_ite, apply_on, binary_on, ite_on, and_false, condition_below, branch_below, other_below, item_below, rest_below, falls, both_fall, stays, more_on}
 use Rattle.vx_terms.proofs.term.+same.Goals as goal
 
 pub Term::is_same-loop-left-preserved-in-Apply-right-5 : goal.Term::is_same-loop-left-preserved-in-Apply-right-5
@@ -50,3 +50,32 @@ Term::is_same-returns-then-not-is_same-4 t c = grind (arith, and_false, c.loop-l
 
 pub Term::is_same-returns-then-not-is_same-6 : goal.Term::is_same-returns-then-not-is_same-6
 Term::is_same-returns-then-not-is_same-6 t c = grind (arith, and_false, c.loop-left.invariant)
+
+pub Term::is_same-is_same-requires-in-Ite-Ite : goal.Term::is_same-is_same-requires-in-Ite-Ite
+Term::is_same-is_same-requires-in-Ite-Ite t c = (falls _ _ _ _ (condition_below c.loop-left.left.now c.in-Ite-Ite.c c.in-Ite-Ite.t c.in-Ite-Ite.v c.deref-in-Ite-Ite.result.now c.in-Ite-Ite.is-0 c.deref-in-Ite-Ite.ensures) c.loop-left.invariant.0 c.decreases, tt)
+
+pub Term::is_same-is_same-requires-in-Ite-Ite-2 : goal.Term::is_same-is_same-requires-in-Ite-Ite-2
+Term::is_same-is_same-requires-in-Ite-Ite-2 t c = (falls _ _ _ _ (other_below c.loop-left.left.now c.in-Ite-Ite.c c.in-Ite-Ite.t c.in-Ite-Ite.v c.deref-in-Ite-Ite-3.result.now c.in-Ite-Ite.is-0 c.deref-in-Ite-Ite-3.ensures) c.loop-left.invariant.0 c.decreases, tt)
+
+pub Terms::is_same-is_same-requires : goal.Terms::is_same-is_same-requires
+Terms::is_same-is_same-requires t c = (falls _ _ _ _ (item_below c.loop-left.left.now c.in-More-More.t c.in-More-More.ts c.deref.result.now c.in-More-More.is-0 c.deref.ensures) c.loop-left.invariant.0 c.decreases, tt)
+
+pub Term::is_same-loop-left-smaller : goal.Term::is_same-loop-left-smaller
+Term::is_same-loop-left-smaller t c =
+    let a = c.in-Ite-Ite in
+    both_fall _ _ _ _ (branch_below c.loop-left.left.now a.c a.t a.v c.deref-left-in-Ite-Ite.result.now a.is-0 c.deref-left-in-Ite-Ite.ensures)
+    (branch_below c.loop-left.right.now a.d a.u a.w c.deref-right-in-Ite-Ite.result.now a.is-1 c.deref-right-in-Ite-Ite.ensures)
+
+pub Terms::is_same-loop-left-smaller : goal.Terms::is_same-loop-left-smaller
+Terms::is_same-loop-left-smaller t c =
+    let a = c.in-More-More in
+    both_fall _ _ _ _ (rest_below c.loop-left.left.now a.t a.ts c.deref-left.result.now a.is-0 c.deref-left.ensures)
+    (rest_below c.loop-left.right.now a.u a.us c.deref-right.result.now a.is-1 c.deref-right.ensures)
+
+pub Terms::is_same-loop-left-preserved : goal.Terms::is_same-loop-left-preserved
+Terms::is_same-loop-left-preserved t c =
+    let a = c.in-More-More in
+    let first = ap₂ (λ x y. same (term x) (term y)) (sym c.deref.ensures) (sym c.deref-in-More-More.ensures) ∙ sym c.is_same.ensures ∙ c.if-not-is_same.false in (
+      stays _ _ _ (rest_below c.loop-left.left.now a.t a.ts c.deref-left.result.now a.is-0 c.deref-left.ensures) c.loop-left.invariant.0,
+      more_on c.loop-left.left.now c.loop-left.right.now c.deref-left.result.now c.deref-right.result.now a.t a.u a.ts a.us a.is-0 a.is-1 c.deref-left.ensures c.deref-right.ensures first ∙ c.loop-left.invariant.1,
+    )
