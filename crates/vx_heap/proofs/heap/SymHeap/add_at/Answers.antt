@@ -1,7 +1,8 @@
-use Rattle.std.proofs.Common.{◌≡◌, ◌∙◌, ◌++◌, ◌∷◌, [], ap, append_assoc, length, refl, sym, true, Some, None}
+use Rattle.std.proofs.Common.{◌≡◌, ◌∙◌, ◌++◌, ◌∷◌, [], ap, append_assoc, length, refl, sym, true, Some, None, arith}
 use Rattle.std.specs.Prelude.{if◌then◌else◌, option_map, slice_get}
 use Rattle.std.proofs.lemmas.Option.{slice_get-map, slice_get_past, slice_get_read}
 use Rattle.std.proofs.lemmas.List.{map-append}
+use Rattle.std.proofs.lemmas.Grind.{elements}
 use Rattle.vx_rules.specs.Chunks.{Candidate}
 use Rattle.vx_heap.specs.Picked.{passes, picked, picked_onto}
 use Rattle.vx_heap.specs.Views.{candidate, candidates_of, chunk, heap, key, shared}
@@ -42,3 +43,6 @@ returns-in-None c = λ rest.
     ap (λ l. slice_get l c.args.number) (sym c.deref.ensures.value) ∙ slice_get_past c.deref.result.now c.args.number c.in-None.ensures.lookup.3 in
     let none : slice_get h c.args.number ≡ None = slice_get-map shared items c.args.number ∙ ap (option_map shared) no_item in
     ap (λ o. candidates_of c.args.found.now.items ++ picked_onto b k o c.args.number (picked b k h rest)) (sym none)
+
+pub returns-then-not-is_chosen : goal.returns-then-not-is_chosen
+returns-then-not-is_chosen c = grind (arith, elements)
