@@ -1,6 +1,7 @@
-use Rattle.std.proofs.Common.{◌≡◌, ℕ, ◌+◌, ◌<◌, List, [], ◌∷◌, ◌++◌, length, get_or, drop, Option, Some, None, refl, sym, ◌∙◌, ap, append_assoc}
+use Rattle.std.proofs.Common.{◌≡◌, ℕ, ◌+◌, ◌<◌, List, [], ◌∷◌, ◌++◌, length, get_or, drop, Option, Some, None, refl, sym, ◌∙◌, ap, append_assoc, append-nil, arith}
 use Rattle.std.specs.Prelude.{slice_get}
-use Rattle.std.proofs.lemmas.List.{at_drop_more, map-append}
+use Rattle.std.proofs.lemmas.List.{at_drop_more, drop_all, map-append}
+use Rattle.std.proofs.lemmas.Grind.{common_steps}
 use Rattle.cs_certificate.specs.Certificate.{NumberedLiteral}
 use Rattle.cs_nodes.specs.Nodes.{Node, equality}
 use Rattle.cs_nodes.specs.Steps.{◌>>=◌, denial, links}
@@ -33,3 +34,16 @@ loop-term-preserved c =
     ∙ ap (λ l. clause c.loop-term.denials.items ++ l ∷ []) c.denial.ensures)
     ∙ one_more (nodes_in c.args.all.now) (clause c.loop-term.denials.items) c.loop-term.last c.args.terms.now c.loop-term.term-index _ c.in_ok-equal.equal _ c.loop-term-test.true
     c.in_ok-node_at.ensures c.in_ok-equal.ensures c.loop-term.invariant
+
+pub returns-in_err-node_at : goal.returns-in_err-node_at
+returns-in_err-node_at c = grind (arith, common_steps)
+
+pub returns-in_err-equal : goal.returns-in_err-equal
+returns-in_err-equal c = grind (arith, common_steps)
+
+pub returns : goal.returns
+returns c =
+    sym (
+    ap (λ ts. with_front (clause c.loop-term.denials.items) (links (nodes_in c.args.all.now) c.loop-term.last ts)) (sym (drop_all _ c.args.terms.now c.loop-term-test.false)) ∙ c.loop-term.invariant
+    )
+    ∙ ap (λ ls. Some (ls, c.loop-term.last)) (append-nil (clause c.loop-term.denials.items))
