@@ -2,28 +2,13 @@
 //! input, and writes what came of each. `docs/ROWS.md` tells what tables and a script are made of.
 #![tactic(auto)]
 
-mod answers;
-mod ends;
-
-use crate::answers::answer;
 use std::alloc::{AllocError, Global};
 use std::io::Read;
 use std::process::ExitCode;
 use vx_edge::StdSink;
 use vx_ends::put_all;
-use vx_table::{Answers, Row, run_all};
-
-// Rows are answered with the runtime, which child processes and files need.
-#[derive(Drop)]
-struct Program<'a> {
-    rt: &'a HostRuntime,
-}
-
-impl Answers for Program<'_> {
-    fn answer(&mut self, alloc: Global, row: &Row, out: &mut Vec<u8>) -> Result<(), AllocError> {
-        answer(self.rt, alloc, row, out)
-    }
-}
+use vx_run_rows::Program;
+use vx_table::run_all;
 
 // What came of the rows of a table, and behind the line `certificates` of those of certificates and of a script.
 fn told_of(rt: &HostRuntime, alloc: Global, text: &str) -> Result<Vec<u8>, AllocError> {
