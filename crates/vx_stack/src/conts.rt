@@ -107,6 +107,18 @@ fn branches(
     Ok((first, second))
 }
 
+/// A side on which this state is impossible.
+fn impossible(alloc: Global, state: &SymState) -> Result<Side, AllocError>
+    ensures { (p : Program) → IfOk result (λ side. side_tree p side ≡ tree.Impossible (state_of state.now)) }
+{
+    let next = Rc::new(alloc, Next::Impossible)?;
+    let state = state.copy(alloc)?;
+    Ok(Side {
+        frame: Frame::Go(next),
+        state,
+    })
+}
+
 impl Conts {
     pub fn new(alloc: Global) -> Conts
         ensures { result.sides.items ≡ [] }
@@ -284,12 +296,7 @@ impl Conts {
         requires { query.probe ≡ true }
         ensures { (p : Program) → IfOk result (λ m. Stepped p (tree.Probe (question_of query) (tree.Impossible (state_of otherwise.state)) (side_tree p otherwise)) self.old.sides.items m self.new.sides.items) }
     {
-        let state = otherwise.state.copy(alloc)?;
-        let impossible = Rc::new(alloc, Next::Impossible)?;
-        let refuted = Side {
-            frame: Frame::Go(impossible),
-            state,
-        };
+        let refuted = impossible(alloc, &otherwise.state)?;
         self.check_both(query, refuted, otherwise)
     }
 

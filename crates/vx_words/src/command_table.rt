@@ -62,13 +62,45 @@ fn with<'a>(whole: Command<'a>, part: Command<'a>) -> Result<Command<'a>, AllocE
     whole.subcommand(part)
 }
 
+// The program with the command to verify.
+fn verifying<'a>(alloc: Global) -> Result<Command<'a>, AllocError>
+    ensures { IfOk result (λ c. app_of c ≡ with_subcommand top_app verify_shape) }
+{
+    let part = verify(alloc)?;
+    with(top(alloc), part)
+}
+
+// One command more that takes a file, or none.
+fn with_file<'a>(
+    alloc: Global,
+    whole: Command<'a>,
+    name: &'a str,
+) -> Result<Command<'a>, AllocError>
+    ensures { IfOk result (λ c. app_of c ≡ with_subcommand (app_of whole.entry) (file_shape name.entry.now)) }
+{
+    let part = of_a_file(alloc, name)?;
+    with(whole, part)
+}
+
+// One command more that takes how many methods to generate.
+fn with_count<'a>(
+    alloc: Global,
+    whole: Command<'a>,
+    name: &'a str,
+) -> Result<Command<'a>, AllocError>
+    ensures { IfOk result (λ c. app_of c ≡ with_subcommand (app_of whole.entry) (count_shape name.entry.now)) }
+{
+    let part = of_a_count(alloc, name)?;
+    with(whole, part)
+}
+
 /// The table of commands.
 pub fn table<'a>(alloc: Global) -> Result<Command<'a>, AllocError>
     ensures { IfOk result (λ c. app_of c ≡ vsil_app) }
 {
-    let verifies = with(top(alloc), verify(alloc)?)?;
-    let checks = with(verifies, of_a_file(alloc, "check")?)?;
-    let prints = with(checks, of_a_file(alloc, "print")?)?;
-    let generates = with(prints, of_a_count(alloc, "gen")?)?;
-    with(generates, of_a_count(alloc, "work")?)
+    let verifies = verifying(alloc)?;
+    let checks = with_file(alloc, verifies, "check")?;
+    let prints = with_file(alloc, checks, "print")?;
+    let generates = with_count(alloc, prints, "gen")?;
+    with_count(alloc, generates, "work")
 }
