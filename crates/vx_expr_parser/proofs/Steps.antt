@@ -6,11 +6,13 @@ use Rattle.vx_ast.specs.declared.BinaryOperator.{BinaryOperator}
 use Rattle.vx_tokens.specs.Tokens.{Token}
 use Rattle.vx_ast.specs.Written.{Expr, Binary}
 use Rattle.vx_grammar.specs.Grammar.{level_of, operator_of}
-use Rattle.vx_grammar.specs.Reading.{◌>>=◌, TooDeep, Read, Deeper, Part, Given, chain, rest_of_chain, below, part_at, chain_at, rest_at, rest_by, operator_by}
+use Rattle.vx_grammar.specs.Reading.{◌>>=◌, enclosed, expect, TooDeep, Read, Deeper, Part, Given, chain, rest_of_chain, below, part_at, chain_at, rest_at, rest_by, operator_by}
 use Rattle.vx_grammar.specs.Nesting.{nests, is_full}
 use Rattle.vx_expr_parser.specs.declared.stop.Stop as the_stop
-use Rattle.vx_expr_parser.specs.Gives.{Gives, Stops}
-use Rattle.vx_expr_parser.proofs.Turns.{stops_after}
+use Rattle.vx_expr_parser.specs.declared.stop.Stop.TheVariants as stops
+use Rattle.vx_tokens.specs.declared.token.Symbol.TheVariants as signs
+use Rattle.vx_expr_parser.specs.Gives.{Gives}
+use Rattle.vx_expr_parser.specs.Parts.{behind_operator, closed_by}
 
 pub nested_is : {X : Type 0} (p : Part) (view : X → Given p × List Token) (result : Result X the_stop.Stop) (room less : ℕ) (here ts : List Token)
     → (1 ≤ room) × (less ≡ room - 1) → Gives view result (part_at (below less) p ts) → Gives view result (below room p here ts)
@@ -25,7 +27,7 @@ pub record HasOperator (ts : List Token) (t : Token) (inner : List Token) (op : 
   pub of_level : level_of op ≡ level
   pub low : 1 ≤ level
 
-has_operator : (deeper : Deeper) (level : ℕ) (start : Place) (left : Expr) (ts : List Token) (t : Token) (inner : List Token) (op : BinaryOperator) → HasOperator ts t inner op level
+pub has_operator : (deeper : Deeper) (level : ℕ) (start : Place) (left : Expr) (ts : List Token) (t : Token) (inner : List Token) (op : BinaryOperator) → HasOperator ts t inner op level
     → rest_at deeper (level - 1) start left ts ≡ operator_by deeper (level - 1) start left t inner op
 unfolding rest_at rest_by
 has_operator deeper level start left ts t inner op h =
@@ -33,35 +35,43 @@ has_operator deeper level start left ts t inner op h =
     let b : eqb (level_of op) (suc (level - 1)) ≡ true = eq-eqb _ _ k in
     rw (h.tokens, h.operator, b) refl
 
-pub rest_full : (room level : ℕ) (start : Place) (left : Expr) (ts : List Token) (t : Token) (inner : List Token) (op : BinaryOperator) → HasOperator ts t inner op level → (1 ≤ room → ⊥)
-    → rest_at (below room) (level - 1) start left ts ≡ Err (TooDeep ts)
+-- no part nests behind an operator
+pub operator_full : (room level : ℕ) (start : Place) (left : Expr) (here : List Token) (t : Token) (inner : List Token) (op : BinaryOperator) → (1 ≤ room → ⊥) → here ≡ t ∷ inner
+    → operator_by (below room) level start left t inner op ≡ Err (TooDeep here)
 unfolding operator_by
-rest_full room level start left ts t inner op h full =
+operator_full room level start left here t inner op full first =
     let z : room ≡ 0 = omega (arith, full) in
-    has_operator (below room) level start left ts t inner op h
-    ∙ rw (is_full room (chain (level - 1)) (t ∷ inner) inner z) refl
-    ∙ ap (λ (u : List Token). Err (TooDeep u)) (sym h.tokens)
+    rw (is_full room (chain level) (t ∷ inner) inner z) refl ∙ ap (λ (u : List Token). Err (TooDeep u)) (sym first)
 
--- what follows an operator
-abbrev pub after_operator : (less level : ℕ) (start : Place) (left : Expr) (inner : List Token) (op : BinaryOperator) → Read Expr
-after_operator less level start left inner op = chain_at (below less) (level - 1) inner >>= λ right. rest_at (below less) (level - 1) start (Binary start op left right.0) right.1
-
-rest_goes_on : (room less level : ℕ) (start : Place) (left : Expr) (ts : List Token) (t : Token) (inner : List Token) (op : BinaryOperator) → HasOperator ts t inner op level → (1 ≤ room) × (less ≡ room - 1)
-    → rest_at (below room) (level - 1) start left ts ≡ after_operator less level start left inner op
+pub operator_is : {X : Type 0} (view : X → Expr × List Token) (result : Result X the_stop.Stop) (room less level : ℕ) (start : Place) (left : Expr) (t : Token) (inner : List Token) (op : BinaryOperator) → (1 ≤ room) × (less ≡ room - 1)
+    → Gives view result (behind_operator (below less) level start left op inner) → Gives view result (operator_by (below room) level start left t inner op)
 unfolding operator_by
-rest_goes_on room less level start left ts t inner op h n =
+operator_is view result room less level start left t inner op n g =
     let r : room ≡ less + 1 = omega (arith, n.0, n.1) in
-    has_operator (below room) level start left ts t inner op h
-    ∙ ap (λ x. x >>= λ right. below room (rest_of_chain (level - 1) start (Binary start op left right.0)) right.1 right.1) (nests room less (chain (level - 1)) (t ∷ inner) inner r)
-    ∙ ap (λ (f : Expr × List Token → Read Expr). chain_at (below less) (level - 1) inner >>= f) (λ i right. nests room less (rest_of_chain (level - 1) start (Binary start op left right.0)) right.1 right.1 r i)
-
-pub rest_stops : (e : the_stop.Stop) (room less level : ℕ) (start : Place) (left : Expr) (ts : List Token) (t : Token) (inner : List Token) (op : BinaryOperator) → HasOperator ts t inner op level → (1 ≤ room) × (less ≡ room - 1)
-    → Stops e (chain_at (below less) (level - 1) inner) → Stops e (rest_at (below room) (level - 1) start left ts)
-rest_stops e room less level start left ts t inner op h n s =
-    subst (Stops e) (sym (rest_goes_on room less level start left ts t inner op h n)) (stops_after e _ _ s)
-
-pub rest_is : {X : Type 0} (view : X → Expr × List Token) (result : Result X the_stop.Stop) (room less level : ℕ) (start : Place) (left right : Expr) (ts : List Token) (t : Token) (inner rest : List Token) (op : BinaryOperator) → HasOperator ts t inner op level → (1 ≤ room) × (less ≡ room - 1)
-    → chain_at (below less) (level - 1) inner ≡ Ok (right, rest) → Gives view result (rest_at (below less) (level - 1) start (Binary start op left right) rest) → Gives view result (rest_at (below room) (level - 1) start left ts)
-rest_is view result room less level start left right ts t inner rest op h n e g =
-    let k : rest_at (below room) (level - 1) start left ts ≡ rest_at (below less) (level - 1) start (Binary start op left right) rest = rest_goes_on room less level start left ts t inner op h n ∙ rw e refl in
+    let k : operator_by (below room) level start left t inner op ≡ behind_operator (below less) level start left op inner =
+    ap (λ x. x >>= λ right. below room (rest_of_chain level start (Binary start op left right.0)) right.1 right.1) (nests room less (chain level) (t ∷ inner) inner r)
+    ∙ ap (λ (f : Expr × List Token → Read Expr). chain_at (below less) level inner >>= f) (λ i right. nests room less (rest_of_chain level start (Binary start op left right.0)) right.1 right.1 r i) in
     subst (Gives view result) (sym k) g
+
+-- ---- parts between parentheses
+
+-- what was read, seen by view
+abbrev seen : {X Y : Type 0} → (X → Y) → Read X → Read Y
+seen view read = read >>= λ x. Ok (view x.0, x.1)
+
+pub closes : {X Y Z : Type 0} (view : X → Y) (tail : Z → List Token) (value : X) (result : Result (X × Z) the_stop.Stop) (close : Read Token)
+    → Gives (λ x. (x.0, tail x.1)) result (closed_by value close) → Gives (λ x. (view x.0, tail x.1)) result (closed_by (view value) close)
+closes view tail value (Ok x) (Ok c) g = ap (seen view) g
+closes view tail value (Ok x) (Err stop) g = ap (seen view) g
+closes view tail value (Err stops.Memory) close g = tt
+closes view tail value (Err (stops.Unexpected ts)) (Ok c) g = ap (seen view) g
+closes view tail value (Err (stops.Unexpected ts)) (Err stop) g = ap (seen view) g
+closes view tail value (Err (stops.Measured ts)) (Ok c) g = ap (seen view) g
+closes view tail value (Err (stops.Measured ts)) (Err stop) g = ap (seen view) g
+closes view tail value (Err (stops.TooDeep ts)) (Ok c) g = ap (seen view) g
+closes view tail value (Err (stops.TooDeep ts)) (Err stop) g = ap (seen view) g
+
+pub encloses : {X Z : Type 0} (p : Part) (view : X → Given p) (tail : Z → List Token) (value : X) (result : Result (X × Z) the_stop.Stop) (deeper : Deeper) (ts : List Token) (t : Token) (inner rest : List Token)
+    → expect signs.Open ts ≡ Ok (t, inner) → deeper p ts inner ≡ Ok (view value, rest) → Gives (λ x. (x.0, tail x.1)) result (closed_by value (expect signs.Close rest)) → Gives (λ x. (view x.0, tail x.1)) result (enclosed deeper p ts)
+unfolding enclosed
+encloses p view tail value result deeper ts t inner rest opened inside g = rw (opened, inside) (closes view tail value result (expect signs.Close rest) g)

@@ -1,3 +1,4 @@
 pub mod Gives
+pub mod Parts
 pub mod Says
 pub mod Views

@@ -9,7 +9,7 @@ ghost use Rattle.vx_expr_parser.specs.Gives.{Gives};
 
 use crate::expr::choice;
 use crate::names::{more_names, name, one_name};
-use crate::reading::{Read, expect};
+use crate::reading::{Read, closed, expect};
 use crate::stop::Stop;
 use std::alloc::{AllocError, Global};
 use std::rc::Rc;
@@ -59,8 +59,7 @@ fn enclosed_allocation<'t>(
 {
     let (_, inner) = expect(Symbol::Open, tokens)?;
     let (right, rest) = nested_allocation(alloc, room, place, tokens, inner)?;
-    let (_, rest) = expect(Symbol::Close, rest)?;
-    Ok((right, rest))
+    closed(right, rest)
 }
 
 fn nested_allocation<'t>(

@@ -7,7 +7,7 @@ ghost use Rattle.vx_grammar.specs.Reading.{run};
 ghost use Rattle.vx_grammar.specs.MemberReading as reading;
 ghost use Rattle.vx_expr_parser.specs.Gives.{Gives};
 
-use crate::reading::{Read, expect, is_symbol, same};
+use crate::reading::{Read, closed, expect, is_symbol, same};
 use crate::types::declaration;
 use std::alloc::{AllocError, Global};
 use vx_ast::Declaration;
@@ -59,8 +59,7 @@ pub fn parameters<'t>(alloc: Global, tokens: &'t [Token<'t>]) -> Read<'t, Vec<De
 {
     let (_, inner) = expect(Symbol::Open, tokens)?;
     let (parameters, rest) = inner_parameters(alloc, inner)?;
-    let (_, rest) = expect(Symbol::Close, rest)?;
-    Ok((parameters, rest))
+    closed(parameters, rest)
 }
 
 fn is_closing(tokens: &[Token]) -> bool

@@ -6,14 +6,15 @@ ghost use Rattle.vx_grammar.specs.Grammar.{level_of, operator_of};
 ghost use Rattle.vx_ast.specs.Written.{placed, written_all, written_expr, written_optional};
 ghost use Rattle.vx_grammar.specs.Reading as reading;
 ghost use Rattle.vx_expr_parser.specs.Gives.{Gives};
-ghost use Rattle.vx_grammar.specs.Laws.{whole, SpelledWithin};
+ghost use Rattle.vx_expr_parser.specs.Parts.{behind_operator, prefixed_by};
+ghost use Rattle.vx_grammar.specs.Laws.{no_rest, whole, SpelledWithin};
 ghost use Rattle.vx_expr_parser.specs.Says.{SaysOf};
 ghost use Rattle.vx_ast.specs.Written.{Expr as Tree};
 ghost use Rattle.vx_expr_parser.specs.Views.{exprs_of, access_of, instance_of};
 
-use crate::made::{accessed, applied, chosen, joined, old, prefixed, read, unfolded};
+use crate::made::{accessed, applied, chosen, joined, old, prefixed, read, unfolded, variable};
 use crate::names::name;
-use crate::reading::{Read, expect, is_symbol, same};
+use crate::reading::{Read, closed, expect, is_symbol, same};
 use crate::stop::Stop;
 use std::alloc::{AllocError, Global};
 use std::rc::Rc;
@@ -77,11 +78,18 @@ fn whole<'t>(alloc: Global, tokens: &'t [Token<'t>]) -> Result<Expr, Stop<'t>>
     ensures { Gives written_expr result (whole 200 (tokens_in tokens.now)) }
 {
     let (e, rest) = choice(alloc, 200, tokens)?;
+    ended(e, rest)
+}
+
+// An expression that no token may follow.
+fn ended<'t>(e: Expr, rest: &'t [Token<'t>]) -> Result<Expr, Stop<'t>>
+    ensures { Gives written_expr result (no_rest (written_expr e) (tokens_in rest.now)) }
+{
     if rest.is_empty() {
-        Ok(e)
-    } else {
-        Err(Stop::Unexpected(rest))
+        return Ok(e);
     }
+    drop(e);
+    Err(Stop::Unexpected(rest))
 }
 
 /// The expression that all of the tokens spell.
@@ -110,6 +118,7 @@ pub fn choice<'t>(alloc: Global, room: u32, tokens: &'t [Token<'t>]) -> Read<'t,
     let (condition, rest) = implication(alloc, room, tokens)?;
     match rest.split_first() {
         Some((question, inner)) if is_symbol(Symbol::Question, question.kind) => {
+            let condition = Rc::new(alloc, condition)?;
             sides(alloc, room, first.place, condition, question, rest, inner)
         }
         _ => Ok((condition, rest)),
@@ -123,33 +132,33 @@ fn sides<'t>(
     alloc: Global,
     room: u32,
     place: Place,
-    condition: Expr,
+    condition: Rc<Expr>,
     question: &'t Token<'t>,
     here: &'t [Token<'t>],
     tokens: &'t [Token<'t>],
 ) -> Read<'t, Expr>
     requires room { room < 1000 }
     requires first { tokens_in here.now ≡ token_of question.now ∷ tokens_in tokens.now }
-    ensures { Gives (λ x. (written_expr x.0, tokens_in x.1.now)) result (reading.sides_by (reading.below room) place (written_expr condition) (token_of question.now) (tokens_in tokens.now)) }
+    ensures { Gives (λ x. (written_expr x.0, tokens_in x.1.now)) result (reading.sides_by (reading.below room) place (written_expr condition.value) (token_of question.now) (tokens_in tokens.now)) }
 {
-    let (left, rest) = nested_choice(alloc, room, here, tokens)?;
+    let (left, rest) = shared_choice(alloc, room, here, tokens)?;
     let (right, rest) = second(alloc, room, rest)?;
-    Ok((chosen(alloc, place, condition, left, right)?, rest))
+    Ok((chosen(place, condition, left, right), rest))
 }
 
 // A colon, and the side behind it.
 #[cycle(expr)]
 #[tactic(auto, unfolding(vx_grammar::specs::Reading::second_by))]
-fn second<'t>(alloc: Global, room: u32, tokens: &'t [Token<'t>]) -> Read<'t, Expr>
+fn second<'t>(alloc: Global, room: u32, tokens: &'t [Token<'t>]) -> Read<'t, Rc<Expr>>
     requires { room < 1000 }
-    ensures { Gives (λ x. (written_expr x.0, tokens_in x.1.now)) result (reading.second_by (reading.below room) (tokens_in tokens.now)) }
+    ensures { Gives (λ x. (written_expr x.0.value, tokens_in x.1.now)) result (reading.second_by (reading.below room) (tokens_in tokens.now)) }
 {
     let (_, inner) = expect(Symbol::Colon, tokens)?;
-    nested_choice(alloc, room, tokens, inner)
+    shared_choice(alloc, room, tokens, inner)
 }
 
 #[cycle(expr)]
-#[tactic(auto, unfolding(vx_grammar::specs::Reading::implication_at, vx_grammar::specs::Reading::implied_by, vx_grammar::specs::Reading::implies_by))]
+#[tactic(auto, unfolding(vx_grammar::specs::Reading::implication_at, vx_grammar::specs::Reading::implied_by))]
 fn implication<'t>(alloc: Global, room: u32, tokens: &'t [Token<'t>]) -> Read<'t, Expr>
     requires { room < 1000 }
     ensures { Gives (λ x. (written_expr x.0, tokens_in x.1.now)) result (reading.implication_at (reading.below room) (tokens_in tokens.now)) }
@@ -160,14 +169,33 @@ fn implication<'t>(alloc: Global, room: u32, tokens: &'t [Token<'t>]) -> Read<'t
     let (left, rest) = chain(alloc, room, 6, tokens)?;
     match rest.split_first() {
         Some((arrow, inner)) if is_symbol(Symbol::Implies, arrow.kind) => {
-            let (right, rest) = nested_implication(alloc, room, rest, inner)?;
-            Ok((
-                joined(alloc, first.place, BinaryOperator::Implies, left, right)?,
-                rest,
-            ))
+            implied(alloc, room, first.place, left, arrow, rest, inner)
         }
         _ => Ok((left, rest)),
     }
+}
+
+// What an implication leads to, behind its left side and the arrow at which `here` begins.
+#[cycle(expr)]
+#[tactic(auto, unfolding(vx_grammar::specs::Reading::implies_by))]
+fn implied<'t>(
+    alloc: Global,
+    room: u32,
+    place: Place,
+    left: Expr,
+    arrow: &'t Token<'t>,
+    here: &'t [Token<'t>],
+    tokens: &'t [Token<'t>],
+) -> Read<'t, Expr>
+    requires room { room < 1000 }
+    requires first { tokens_in here.now ≡ token_of arrow.now ∷ tokens_in tokens.now }
+    ensures { Gives (λ x. (written_expr x.0, tokens_in x.1.now)) result (reading.implies_by (reading.below room) place (written_expr left) (token_of arrow.now) (tokens_in tokens.now)) }
+{
+    let left = Rc::new(alloc, left)?;
+    let (right, rest) = nested_implication(alloc, room, here, tokens)?;
+    let right = Rc::new(alloc, right)?;
+    let whole = joined(place, BinaryOperator::Implies, left, right);
+    Ok((whole, rest))
 }
 
 // A chain of operators of the level, or of what binds tighter.
@@ -189,7 +217,7 @@ fn chain<'t>(alloc: Global, room: u32, level: u32, tokens: &'t [Token<'t>]) -> R
 }
 
 #[cycle(expr)]
-#[tactic(auto, unfolding(vx_grammar::specs::Reading::rest_at, vx_grammar::specs::Reading::rest_by, vx_grammar::specs::Reading::operator_by))]
+#[tactic(auto, unfolding(vx_grammar::specs::Reading::rest_at, vx_grammar::specs::Reading::rest_by))]
 fn rest_of_chain<'t>(
     alloc: Global,
     room: u32,
@@ -208,15 +236,58 @@ fn rest_of_chain<'t>(
     };
     match operator_of(first.kind) {
         Some(op) if level_of(op) == level => {
-            let Some(less) = room.checked_sub(1) else {
-                return Err(Stop::TooDeep(tokens));
-            };
-            let (right, rest) = chain(alloc, less, level - 1, inner)?;
-            let left = joined(alloc, place, op, left, right)?;
-            rest_of_chain(alloc, less, level, place, left, rest)
+            operated(alloc, room, level, place, left, op, first, tokens, inner)
         }
         _ => Ok((left, tokens)),
     }
+}
+
+// What stands behind an operator of the level, at which `here` begins.
+#[cycle(expr)]
+#[tactic(auto, unfolding(vx_grammar::specs::Reading::operator_by))]
+fn operated<'t>(
+    alloc: Global,
+    room: u32,
+    level: u32,
+    place: Place,
+    left: Expr,
+    op: BinaryOperator,
+    first: &'t Token<'t>,
+    here: &'t [Token<'t>],
+    tokens: &'t [Token<'t>],
+) -> Read<'t, Expr>
+    requires room { room < 1000 }
+    requires low { 1 ≤ level }
+    requires level { level ≤ 6 }
+    requires first { tokens_in here.now ≡ token_of first.now ∷ tokens_in tokens.now }
+    ensures { Gives (λ x. (written_expr x.0, tokens_in x.1.now)) result (reading.operator_by (reading.below room) (level - 1) place (written_expr left) (token_of first.now) (tokens_in tokens.now) op) }
+{
+    let left = Rc::new(alloc, left)?;
+    match room.checked_sub(1) {
+        Some(less) => further(alloc, less, level, place, left, op, tokens),
+        None => Err(Stop::TooDeep(here)),
+    }
+}
+
+// The right side of an operator of the level, and further ones.
+#[cycle(expr)]
+fn further<'t>(
+    alloc: Global,
+    room: u32,
+    level: u32,
+    place: Place,
+    left: Rc<Expr>,
+    op: BinaryOperator,
+    tokens: &'t [Token<'t>],
+) -> Read<'t, Expr>
+    requires room { room < 1000 }
+    requires low { 1 ≤ level }
+    requires level { level ≤ 6 }
+    ensures { Gives (λ x. (written_expr x.0, tokens_in x.1.now)) result (behind_operator (reading.below room) (level - 1) place (written_expr left.value) op (tokens_in tokens.now)) }
+{
+    let (right, rest) = chain(alloc, room, level - 1, tokens)?;
+    let left = joined(place, op, left, Rc::new(alloc, right)?);
+    rest_of_chain(alloc, room, level, place, left, rest)
 }
 
 #[cycle(expr)]
@@ -231,16 +302,31 @@ fn unary<'t>(alloc: Global, room: u32, tokens: &'t [Token<'t>]) -> Read<'t, Expr
     let place = first.place;
     match first.kind {
         Kind::Symbol(Symbol::Not) => {
-            let (e, rest) = nested_operand(alloc, room, tokens, inner)?;
-            Ok((prefixed(alloc, place, UnaryOperator::Not, e)?, rest))
+            operand(alloc, room, place, UnaryOperator::Not, tokens, inner)
         }
         Kind::Symbol(Symbol::Minus) => {
-            let (e, rest) = nested_operand(alloc, room, tokens, inner)?;
-            Ok((prefixed(alloc, place, UnaryOperator::Negate, e)?, rest))
+            operand(alloc, room, place, UnaryOperator::Negate, tokens, inner)
         }
         Kind::Word(Word::Unfolding) => unfolding(alloc, room, first, inner),
         _ => postfix(alloc, room, first, tokens, inner),
     }
+}
+
+// The operand of a prefix, at which `here` begins.
+#[cycle(expr)]
+fn operand<'t>(
+    alloc: Global,
+    room: u32,
+    place: Place,
+    op: UnaryOperator,
+    here: &'t [Token<'t>],
+    tokens: &'t [Token<'t>],
+) -> Read<'t, Expr>
+    requires { room < 1000 }
+    ensures { Gives (λ x. (written_expr x.0, tokens_in x.1.now)) result (prefixed_by place op (reading.below room (reading.chain 0) (tokens_in here.now) (tokens_in tokens.now))) }
+{
+    let (e, rest) = nested_operand(alloc, room, here, tokens)?;
+    Ok((prefixed(alloc, place, op, e)?, rest))
 }
 
 /// What a dot may stand behind, and dots.
@@ -263,7 +349,7 @@ pub fn postfix<'t>(
 
 // What a dot may stand behind.
 #[cycle(expr)]
-#[tactic(auto, unfolding(vx_grammar::specs::Reading::primary_by, vx_grammar::specs::Reading::old_by, vx_grammar::specs::Reading::access_by))]
+#[tactic(auto, unfolding(vx_grammar::specs::Reading::primary_by))]
 fn primary<'t>(
     alloc: Global,
     room: u32,
@@ -285,17 +371,46 @@ fn primary<'t>(
         Kind::Word(Word::Write) => Ok((leaf(place, ExprKind::Write), inner)),
         Kind::Word(Word::Nothing) => Ok((leaf(place, ExprKind::Nothing), inner)),
         Kind::Word(Word::Outcome) => Ok((leaf(place, ExprKind::Outcome), inner)),
-        Kind::Word(Word::Old) => {
-            let (e, rest) = grouped(alloc, room, inner)?;
-            Ok((old(alloc, place, e)?, rest))
-        }
-        Kind::Word(Word::Acc) => {
-            let (access, rest) = enclosed_access(alloc, room, inner)?;
-            Ok((accessed(alloc, place, access.held, access.amount)?, rest))
-        }
+        Kind::Word(Word::Old) => old_value(alloc, room, first, inner),
+        Kind::Word(Word::Acc) => permission(alloc, room, first, inner),
         Kind::Symbol(Symbol::Open) => grouped(alloc, room, tokens),
         _ => Err(Stop::Unexpected(tokens)),
     }
+}
+
+// What stands behind `old`.
+#[cycle(expr)]
+#[tactic(auto, unfolding(vx_grammar::specs::Reading::old_by))]
+fn old_value<'t>(
+    alloc: Global,
+    room: u32,
+    first: &'t Token<'t>,
+    tokens: &'t [Token<'t>],
+) -> Read<'t, Expr>
+    requires { room < 1000 }
+    ensures { Gives (λ x. (written_expr x.0, tokens_in x.1.now)) result (reading.old_by (reading.below room) (token_of first.now) (tokens_in tokens.now)) }
+{
+    let (e, rest) = grouped(alloc, room, tokens)?;
+    Ok((old(alloc, first.place, e)?, rest))
+}
+
+// What stands behind `acc`.
+#[cycle(expr)]
+#[tactic(auto, unfolding(vx_grammar::specs::Reading::access_by))]
+fn permission<'t>(
+    alloc: Global,
+    room: u32,
+    first: &'t Token<'t>,
+    tokens: &'t [Token<'t>],
+) -> Read<'t, Expr>
+    requires { room < 1000 }
+    ensures { Gives (λ x. (written_expr x.0, tokens_in x.1.now)) result (reading.access_by (reading.below room) (token_of first.now) (tokens_in tokens.now)) }
+{
+    let (access, rest) = enclosed_access(alloc, room, tokens)?;
+    Ok((
+        accessed(alloc, first.place, access.held, access.amount)?,
+        rest,
+    ))
 }
 
 fn leaf(place: Place, kind: ExprKind) -> Expr
@@ -306,7 +421,7 @@ fn leaf(place: Place, kind: ExprKind) -> Expr
 
 // A variable, or an application.
 #[cycle(expr)]
-#[tactic(auto, unfolding(vx_grammar::specs::Reading::named_by, vx_grammar::specs::Reading::call_by))]
+#[tactic(auto, unfolding(vx_grammar::specs::Reading::named_by))]
 fn named<'t>(
     alloc: Global,
     room: u32,
@@ -317,18 +432,28 @@ fn named<'t>(
     requires { room < 1000 }
     ensures { Gives (λ x. (written_expr x.0, tokens_in x.1.now)) result (reading.named_by (reading.below room) (token_of first.now) name.now (tokens_in tokens.now)) }
 {
-    let place = first.place;
     match tokens.first() {
-        Some(open) if is_symbol(Symbol::Open, open.kind) => {
-            let (arguments, rest) = enclosed_arguments(alloc, room, tokens)?;
-            let name = String::from_str(alloc, name)?;
-            Ok((applied(place, name, arguments), rest))
-        }
-        _ => {
-            let kind = ExprKind::Variable(String::from_str(alloc, name)?);
-            Ok((Expr { place, kind }, tokens))
-        }
+        Some(open) if is_symbol(Symbol::Open, open.kind) => call(alloc, room, first, name, tokens),
+        _ => Ok((variable(alloc, first.place, name)?, tokens)),
     }
+}
+
+// An application.
+#[cycle(expr)]
+#[tactic(auto, unfolding(vx_grammar::specs::Reading::call_by))]
+fn call<'t>(
+    alloc: Global,
+    room: u32,
+    first: &'t Token<'t>,
+    name: &str,
+    tokens: &'t [Token<'t>],
+) -> Read<'t, Expr>
+    requires { room < 1000 }
+    ensures { Gives (λ x. (written_expr x.0, tokens_in x.1.now)) result (reading.call_by (reading.below room) (token_of first.now) name.now (tokens_in tokens.now)) }
+{
+    let (arguments, rest) = enclosed_arguments(alloc, room, tokens)?;
+    let name = String::from_str(alloc, name)?;
+    Ok((applied(first.place, name, arguments), rest))
 }
 
 // Dots, each with a field's name.
@@ -365,6 +490,7 @@ fn nested_dot<'t>(
     requires { room < 1000 }
     ensures { Gives (λ x. (written_expr x.0, tokens_in x.1.now)) result (reading.below room (reading.behind_dot place (written_expr left)) (tokens_in here.now) (tokens_in tokens.now)) }
 {
+    let left = Rc::new(alloc, left)?;
     match room.checked_sub(1) {
         Some(less) => dotted(alloc, less, place, left, tokens),
         None => Err(Stop::TooDeep(here)),
@@ -377,15 +503,14 @@ fn dotted<'t>(
     alloc: Global,
     room: u32,
     place: Place,
-    left: Expr,
+    left: Rc<Expr>,
     tokens: &'t [Token<'t>],
 ) -> Read<'t, Expr>
     requires { room < 1000 }
-    ensures { Gives (λ x. (written_expr x.0, tokens_in x.1.now)) result (reading.dotted_at (reading.below room) place (written_expr left) (tokens_in tokens.now)) }
+    ensures { Gives (λ x. (written_expr x.0, tokens_in x.1.now)) result (reading.dotted_at (reading.below room) place (written_expr left.value) (tokens_in tokens.now)) }
 {
     let (field, rest) = name(alloc, tokens)?;
-    let left = read(alloc, place, left, field)?;
-    dots(alloc, room, place, left, rest)
+    dots(alloc, room, place, read(place, left, field), rest)
 }
 
 /// An expression between parentheses.
@@ -397,8 +522,7 @@ pub fn grouped<'t>(alloc: Global, room: u32, tokens: &'t [Token<'t>]) -> Read<'t
 {
     let (_, inner) = expect(Symbol::Open, tokens)?;
     let (e, rest) = nested_choice(alloc, room, tokens, inner)?;
-    let (_, rest) = expect(Symbol::Close, rest)?;
-    Ok((e, rest))
+    closed(e, rest)
 }
 
 /// Arguments between parentheses.
@@ -414,8 +538,7 @@ pub fn enclosed_arguments<'t>(
 {
     let (_, inner) = expect(Symbol::Open, tokens)?;
     let (arguments, rest) = nested_arguments(alloc, room, tokens, inner)?;
-    let (_, rest) = expect(Symbol::Close, rest)?;
-    Ok((arguments, rest))
+    closed(arguments, rest)
 }
 
 // What `acc` holds, between parentheses.
@@ -427,8 +550,7 @@ fn enclosed_access<'t>(alloc: Global, room: u32, tokens: &'t [Token<'t>]) -> Rea
 {
     let (_, inner) = expect(Symbol::Open, tokens)?;
     let (access, rest) = nested_access(alloc, room, tokens, inner)?;
-    let (_, rest) = expect(Symbol::Close, rest)?;
-    Ok((access, rest))
+    closed(access, rest)
 }
 
 #[cycle(expr)]
@@ -502,18 +624,27 @@ fn access_inside<'t>(alloc: Global, room: u32, tokens: &'t [Token<'t>]) -> Read<
 
 // An amount behind a comma, or none.
 #[cycle(expr)]
-#[tactic(auto, unfolding(vx_grammar::specs::Reading::amount_at, vx_grammar::specs::Reading::amount_by))]
+#[tactic(auto, unfolding(vx_grammar::specs::Reading::amount_at))]
 fn amount<'t>(alloc: Global, room: u32, tokens: &'t [Token<'t>]) -> Read<'t, Option<Rc<Expr>>>
     requires { room < 1000 }
     ensures { Gives (λ x. (written_optional x.0, tokens_in x.1.now)) result (reading.amount_at (reading.below room) (tokens_in tokens.now)) }
 {
     match tokens.split_first() {
         Some((comma, inner)) if is_symbol(Symbol::Comma, comma.kind) => {
-            let (e, rest) = choice(alloc, room, inner)?;
-            Ok((Some(Rc::new(alloc, e)?), rest))
+            some_amount(alloc, room, inner)
         }
         _ => Ok((None, tokens)),
     }
+}
+
+#[cycle(expr)]
+#[tactic(auto, unfolding(vx_grammar::specs::Reading::amount_by))]
+fn some_amount<'t>(alloc: Global, room: u32, tokens: &'t [Token<'t>]) -> Read<'t, Option<Rc<Expr>>>
+    requires { room < 1000 }
+    ensures { Gives (λ x. (written_optional x.0, tokens_in x.1.now)) result (reading.amount_by (reading.below room) (tokens_in tokens.now)) }
+{
+    let (e, rest) = choice(alloc, room, tokens)?;
+    Ok((Some(Rc::new(alloc, e)?), rest))
 }
 
 // ---- instances and unfoldings
@@ -567,8 +698,7 @@ fn enclosed_holding<'t>(alloc: Global, room: u32, tokens: &'t [Token<'t>]) -> Re
 {
     let (_, inner) = expect(Symbol::Open, tokens)?;
     let (instance, rest) = nested_holding(alloc, room, tokens, inner)?;
-    let (_, rest) = expect(Symbol::Close, rest)?;
-    Ok((instance, rest))
+    closed(instance, rest)
 }
 
 #[cycle(expr)]
@@ -622,22 +752,21 @@ fn unfolding<'t>(
     requires { room < 1000 }
     ensures { Gives (λ x. (written_expr x.0, tokens_in x.1.now)) result (reading.unfolding_by (reading.below room) (token_of first.now) (tokens_in tokens.now)) }
 {
-    let place = first.place;
     let (instance, rest) = instance(alloc, room, tokens)?;
     let (body, rest) = behind_in(alloc, room, rest)?;
-    Ok((unfolded(place, instance, Rc::new(alloc, body)?), rest))
+    Ok((unfolded(first.place, instance, body), rest))
 }
 
 // `in`, and the body behind it.
 #[cycle(expr)]
 #[tactic(auto, unfolding(vx_grammar::specs::Reading::behind_in))]
-fn behind_in<'t>(alloc: Global, room: u32, tokens: &'t [Token<'t>]) -> Read<'t, Expr>
+fn behind_in<'t>(alloc: Global, room: u32, tokens: &'t [Token<'t>]) -> Read<'t, Rc<Expr>>
     requires { room < 1000 }
-    ensures { Gives (λ x. (written_expr x.0, tokens_in x.1.now)) result (reading.behind_in (reading.below room) (tokens_in tokens.now)) }
+    ensures { Gives (λ x. (written_expr x.0.value, tokens_in x.1.now)) result (reading.behind_in (reading.below room) (tokens_in tokens.now)) }
 {
     match tokens.split_first() {
         Some((first, inner)) if begins_body(first.kind) => {
-            nested_choice(alloc, room, tokens, inner)
+            shared_choice(alloc, room, tokens, inner)
         }
         _ => Err(Stop::Unexpected(tokens)),
     }
@@ -660,6 +789,21 @@ pub fn nested_choice<'t>(
         Some(less) => choice(alloc, less, tokens),
         None => Err(Stop::TooDeep(here)),
     }
+}
+
+// The same, as what stands in a node.
+#[cycle(expr)]
+fn shared_choice<'t>(
+    alloc: Global,
+    room: u32,
+    here: &'t [Token<'t>],
+    tokens: &'t [Token<'t>],
+) -> Read<'t, Rc<Expr>>
+    requires { room < 1000 }
+    ensures { Gives (λ x. (written_expr x.0.value, tokens_in x.1.now)) result (reading.below room reading.choice (tokens_in here.now) (tokens_in tokens.now)) }
+{
+    let (e, rest) = nested_choice(alloc, room, here, tokens)?;
+    Ok((Rc::new(alloc, e)?, rest))
 }
 
 #[cycle(expr)]

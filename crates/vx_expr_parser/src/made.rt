@@ -3,7 +3,7 @@
 ghost use Rattle.std.specs.Prelude.{◌≡◌, IfOk, string_bytes};
 ghost use Rattle.vx_grammar.specs.Grammar.{unfolding_of};
 ghost use Rattle.vx_expr_parser.specs.Views.{instance_of};
-ghost use Rattle.vx_ast.specs.Written.{Unary, Binary, Choice, Call, Read, Old, Access, name_of, written_all, written_expr, written_optional};
+ghost use Rattle.vx_ast.specs.Written.{Unary, Binary, Choice, Call, Variable, Read, Old, Access, name_of, written_all, written_expr, written_optional};
 
 use std::alloc::{AllocError, Global};
 use std::rc::Rc;
@@ -17,41 +17,27 @@ pub fn prefixed(alloc: Global, place: Place, op: UnaryOperator, e: Expr) -> Resu
     Ok(Expr { place, kind })
 }
 
-fn both(alloc: Global, left: Expr, right: Expr) -> Result<(Rc<Expr>, Rc<Expr>), AllocError>
-    ensures { IfOk result (λ pair. (pair.0.value ≡ left) × (pair.1.value ≡ right)) }
-{
-    let left = Rc::new(alloc, left)?;
-    Ok((left, Rc::new(alloc, right)?))
-}
-
 /// Two operands and the operator between them.
-pub fn joined(
-    alloc: Global,
-    place: Place,
-    op: BinaryOperator,
-    left: Expr,
-    right: Expr,
-) -> Result<Expr, AllocError>
-    ensures { IfOk result (λ whole. written_expr whole ≡ Binary place op (written_expr left) (written_expr right)) }
+pub fn joined(place: Place, op: BinaryOperator, left: Rc<Expr>, right: Rc<Expr>) -> Expr
+    ensures { written_expr result ≡ Binary place op (written_expr left.value) (written_expr right.value) }
 {
-    let (left, right) = both(alloc, left, right)?;
     let kind = ExprKind::Binary(op, left, right);
-    Ok(Expr { place, kind })
+    Expr { place, kind }
 }
 
 /// A condition and its two sides.
-pub fn chosen(
-    alloc: Global,
-    place: Place,
-    condition: Expr,
-    left: Expr,
-    right: Expr,
-) -> Result<Expr, AllocError>
-    ensures { IfOk result (λ whole. written_expr whole ≡ Choice place (written_expr condition) (written_expr left) (written_expr right)) }
+pub fn chosen(place: Place, condition: Rc<Expr>, left: Rc<Expr>, right: Rc<Expr>) -> Expr
+    ensures { written_expr result ≡ Choice place (written_expr condition.value) (written_expr left.value) (written_expr right.value) }
 {
-    let condition = Rc::new(alloc, condition)?;
-    let (left, right) = both(alloc, left, right)?;
     let kind = ExprKind::Conditional(condition, left, right);
+    Expr { place, kind }
+}
+
+/// A variable.
+pub fn variable(alloc: Global, place: Place, name: &str) -> Result<Expr, AllocError>
+    ensures { IfOk result (λ whole. written_expr whole ≡ Variable place name.now) }
+{
+    let kind = ExprKind::Variable(String::from_str(alloc, name)?);
     Ok(Expr { place, kind })
 }
 
@@ -64,11 +50,11 @@ pub fn applied(place: Place, name: String, arguments: Vec<Rc<Expr>>) -> Expr
 }
 
 /// A field of a receiver.
-pub fn read(alloc: Global, place: Place, receiver: Expr, field: Name) -> Result<Expr, AllocError>
-    ensures { IfOk result (λ whole. written_expr whole ≡ Read place (written_expr receiver) (name_of field)) }
+pub fn read(place: Place, receiver: Rc<Expr>, field: Name) -> Expr
+    ensures { written_expr result ≡ Read place (written_expr receiver.value) (name_of field) }
 {
-    let kind = ExprKind::Read(Rc::new(alloc, receiver)?, field);
-    Ok(Expr { place, kind })
+    let kind = ExprKind::Read(receiver, field);
+    Expr { place, kind }
 }
 
 /// The old value of an expression.

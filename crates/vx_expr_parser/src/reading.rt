@@ -1,9 +1,11 @@
 //! Reading single tokens.
 
 ghost use Rattle.std.specs.Prelude.{◌≡◌};
+ghost use Rattle.vx_tokens.specs.declared.token.Symbol.TheVariants.{Close};
 ghost use Rattle.vx_tokens.specs.Tokens.{kind_of, token_of, tokens_in};
 ghost use Rattle.vx_grammar.specs.Reading as reading;
 ghost use Rattle.vx_expr_parser.specs.Gives.{Gives};
+ghost use Rattle.vx_expr_parser.specs.Parts.{closed_by};
 
 use crate::stop::Stop;
 use vx_tokens::{Kind, Symbol, Token};
@@ -33,6 +35,14 @@ pub fn is_symbol(symbol: Symbol, kind: Kind) -> bool
         Kind::Symbol(found) => code(symbol) == code(found),
         _ => false,
     }
+}
+
+/// What was read, where a parenthesis closes it.
+pub fn closed<'t, T: Drop>(value: T, tokens: &'t [Token<'t>]) -> Read<'t, T>
+    ensures { Gives (λ x. (x.0, tokens_in x.1.now)) result (closed_by value (reading.expect Close (tokens_in tokens.now))) }
+{
+    let (_, rest) = expect(Symbol::Close, tokens)?;
+    Ok((value, rest))
 }
 
 /// The symbol that is due.

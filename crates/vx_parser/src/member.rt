@@ -8,6 +8,7 @@ ghost use Rattle.vx_grammar.specs.StmtReading.{is_measure};
 ghost use Rattle.std.specs.Prelude.{Err};
 ghost use Rattle.vx_expr_parser.specs.Gives.{Gives};
 ghost use Rattle.vx_parser.specs.Halting.{GivesMember, MemberStops, Answer, HaltedAnswer};
+ghost use Rattle.vx_parser.specs.Parts.{head_behind, method_behind};
 ghost use Rattle.vx_parser.specs.Views.{clauses_of, declarations_of, head_of};
 
 use crate::stmt::{begins_measure, block, clause, is_measure, skip_semicolon};
@@ -204,11 +205,12 @@ fn begins_braces(tokens: &[Token]) -> bool
 
 // An expression between braces.
 #[tactic(auto, unfolding(vx_grammar::specs::MemberReading::braced_at))]
-fn braced<'t>(alloc: Global, tokens: &'t [Token<'t>]) -> Read<'t, Expr>
-    ensures { Gives (λ x. (written_expr x.0, tokens_in x.1.now)) result (reading.braced_at reading.limit (tokens_in tokens.now)) }
+fn braced<'t>(alloc: Global, tokens: &'t [Token<'t>]) -> Read<'t, Rc<Expr>>
+    ensures { Gives (λ x. (written_expr x.0.value, tokens_in x.1.now)) result (reading.braced_at reading.limit (tokens_in tokens.now)) }
 {
     let (_, inner) = expect(Symbol::OpenBrace, tokens)?;
     let (e, rest) = nested_choice(alloc, LIMIT, tokens, inner)?;
+    let e = Rc::new(alloc, e)?;
     let (_, rest) = expect(Symbol::CloseBrace, rest)?;
     Ok((e, rest))
 }
@@ -220,7 +222,7 @@ fn given<'t>(alloc: Global, tokens: &'t [Token<'t>]) -> Read<'t, Option<Rc<Expr>
 {
     if begins_braces(tokens) {
         let (e, rest) = braced(alloc, tokens)?;
-        return Ok((Some(Rc::new(alloc, e)?), rest));
+        return Ok((Some(e), rest));
     }
     Ok((None, tokens))
 }
@@ -244,7 +246,19 @@ fn heading<'t>(alloc: Global, tokens: &'t [Token<'t>]) -> Read<'t, Head>
 {
     let (name, rest) = name(alloc, tokens)?;
     let (parameters, rest) = parameters(alloc, rest)?;
-    let (_, rest) = expect(Symbol::Colon, rest)?;
+    heading_behind(alloc, name, parameters, rest)
+}
+
+// What stands between a function's parameters and its body.
+fn heading_behind<'t>(
+    alloc: Global,
+    name: Name,
+    parameters: Vec<Declaration>,
+    tokens: &'t [Token<'t>],
+) -> Read<'t, Head>
+    ensures { Gives (λ x. (head_of x.0, tokens_in x.1.now)) result (head_behind reading.limit (name_of name) (declarations_of parameters.items) (tokens_in tokens.now)) }
+{
+    let (_, rest) = expect(Symbol::Colon, tokens)?;
     let ((value_type, _), rest) = value_type(rest)?;
     let (clauses, rest) = contract(alloc, true, rest)?;
     let head = Head {
@@ -288,7 +302,7 @@ fn defined<'t>(alloc: Global, place: Place, head: Head, tokens: &'t [Token<'t>])
     ensures { Gives (λ x. (written_member x.0, tokens_in x.1.now)) result (reading.function_by reading.limit place (head_of head) (tokens_in tokens.now)) }
 {
     let (body, rest) = braced(alloc, tokens)?;
-    Ok((function_made(place, head, Rc::new(alloc, body)?), rest))
+    Ok((function_made(place, head, body), rest))
 }
 
 fn function_made(place: Place, head: Head, body: Rc<Expr>) -> Member
@@ -333,7 +347,21 @@ fn method<'t>(alloc: Global, place: Place, tokens: &'t [Token<'t>]) -> Read<'t, 
     let (name, rest) = name(alloc, tokens)?;
     let (parameters, rest) = parameters(alloc, rest)?;
     let (returns, rest) = returns(alloc, rest)?;
-    let (clauses, rest) = contract(alloc, false, rest)?;
+    contracted(alloc, place, name, parameters, returns, rest)
+}
+
+// What stands behind the results of a method.
+fn contracted<'t>(
+    alloc: Global,
+    place: Place,
+    name: Name,
+    parameters: Vec<Declaration>,
+    returns: Vec<Declaration>,
+    tokens: &'t [Token<'t>],
+) -> Read<'t, Member>
+    ensures { Gives (λ x. (written_member x.0, tokens_in x.1.now)) result (method_behind reading.limit place (name_of name) (declarations_of parameters.items) (declarations_of returns.items) (tokens_in tokens.now)) }
+{
+    let (clauses, rest) = contract(alloc, false, tokens)?;
     let (body, rest) = body(alloc, rest)?;
     Ok((made(place, name, parameters, returns, clauses, body), rest))
 }

@@ -1,8 +1,11 @@
 //! Reading statements.
 
-ghost use Rattle.std.specs.Prelude.{◌≡◌, ◌<◌, IfOk, Some, None, map, length, []};
+ghost use Rattle.std.specs.Prelude.{◌≡◌, ◌<◌, IfOk, Some, None, map, length, ◌∷◌, []};
 ghost use Rattle.vx_ast.specs.Written.{name_of, written_all, written_expr, written_declaration, written_right, Declare, Invoke, If, Then, Done, While};
 ghost use Rattle.vx_tokens.specs.Tokens.{kind_of, token_of, tokens_in};
+ghost use Rattle.vx_tokens.specs.Tokens.{name as a_name};
+ghost use Rattle.vx_ast.specs.Written.{Block as Tree};
+ghost use Rattle.vx_grammar.specs.Reading.{Read as Reads};
 ghost use Rattle.vx_grammar.specs.Reading.{below};
 ghost use Rattle.vx_grammar.specs.StmtReading as reading;
 ghost use Rattle.vx_expr_parser.specs.Gives.{Gives};
@@ -11,6 +14,7 @@ ghost use Rattle.vx_parser.specs.StmtPart.{stmt_part_of, claim_of, folding_of};
 ghost use Rattle.vx_grammar.specs.StmtReading.{block_from};
 ghost use Rattle.vx_grammar.specs.Reading.{run};
 ghost use Rattle.vx_expr_parser.specs.Views.{exprs_of, instance_of};
+ghost use Rattle.vx_parser.specs.Parts.{branches_at, loop_at};
 ghost use Rattle.vx_parser.specs.Views.{stmt_of, other_of, block_of};
 
 use std::alloc::{AllocError, Global};
@@ -69,17 +73,21 @@ fn otherwise<'t>(alloc: Global, room: u32, tokens: &'t [Token<'t>]) -> Read<'t, 
         return Ok((None, tokens));
     };
     match first.kind {
-        Kind::Word(Word::Else) => {
-            let (other, rest) = block(alloc, room, inner)?;
-            Ok((Some(Rc::new(alloc, other)?), rest))
-        }
+        Kind::Word(Word::Else) => other(alloc, block(alloc, room, inner)),
         Kind::Word(Word::Elseif) => {
             let part = StmtPart::Elseif(first.place);
-            let (other, rest) = nested_statements(alloc, room, part, tokens, inner)?;
-            Ok((Some(Rc::new(alloc, other)?), rest))
+            other(alloc, nested_statements(alloc, room, part, tokens, inner))
         }
         _ => Ok((None, tokens)),
     }
+}
+
+// The other side that a block is.
+fn other<'t>(alloc: Global, read: Read<'t, Block>) -> Read<'t, Option<Rc<Block>>>
+    ensures { (total : Reads Tree) → Gives (λ x. (block_of x.0, tokens_in x.1.now)) read.entry total → Gives (λ x. (other_of x.0, tokens_in x.1.now)) result (reading.other_by total) }
+{
+    let (block, rest) = read?;
+    Ok((Some(Rc::new(alloc, block)?), rest))
 }
 
 fn blocked(statements: Vec<Stmt>) -> Block
@@ -104,27 +112,41 @@ fn branch<'t>(alloc: Global, room: u32, place: Place, tokens: &'t [Token<'t>]) -
     ensures { Gives (λ x. (stmt_of x.0, tokens_in x.1.now)) result (reading.branch_at room (reading.stmts_below room) place (tokens_in tokens.now)) }
 {
     let (e, rest) = grouped(alloc, room, tokens)?;
-    let (then, rest) = block(alloc, room, rest)?;
+    branches(alloc, room, place, Rc::new(alloc, e)?, rest)
+}
+
+// What stands behind the condition of an `if` or an `elseif`.
+#[cycle(stmt)]
+fn branches<'t>(
+    alloc: Global,
+    room: u32,
+    place: Place,
+    condition: Rc<Expr>,
+    tokens: &'t [Token<'t>],
+) -> Read<'t, Stmt>
+    requires { room < 1000 }
+    ensures { Gives (λ x. (stmt_of x.0, tokens_in x.1.now)) result (branches_at (reading.stmts_below room) place (written_expr condition.value) (tokens_in tokens.now)) }
+{
+    let (then, rest) = block(alloc, room, tokens)?;
     let (otherwise, rest) = otherwise(alloc, room, rest)?;
-    Ok((branched(alloc, place, e, then, otherwise)?, rest))
+    Ok((branched(alloc, place, condition, then, otherwise)?, rest))
 }
 
 fn branched(
     alloc: Global,
     place: Place,
-    condition: Expr,
+    condition: Rc<Expr>,
     then: Block,
     otherwise: Option<Rc<Block>>,
 ) -> Result<Stmt, AllocError>
-    ensures { IfOk result (λ stmt. stmt_of stmt ≡ If place (written_expr condition) (block_of then) (other_of otherwise)) }
+    ensures { IfOk result (λ stmt. stmt_of stmt ≡ If place (written_expr condition.value) (block_of then) (other_of otherwise)) }
 {
-    let condition = Rc::new(alloc, condition)?;
     let kind = StmtKind::If(condition, Rc::new(alloc, then)?, otherwise);
     Ok(Stmt { place, kind })
 }
 
 // What stands behind `var`.
-#[tactic(auto, unfolding(vx_grammar::specs::StmtReading::declare_at, vx_grammar::specs::StmtReading::initial_at, vx_grammar::specs::StmtReading::initial_by))]
+#[tactic(auto, unfolding(vx_grammar::specs::StmtReading::declare_at, vx_grammar::specs::StmtReading::initial_at))]
 fn declare<'t>(alloc: Global, room: u32, place: Place, tokens: &'t [Token<'t>]) -> Read<'t, Stmt>
     requires { room < 1000 }
     ensures { Gives (λ x. (stmt_of x.0, tokens_in x.1.now)) result (reading.declare_at room place (tokens_in tokens.now)) }
@@ -132,11 +154,26 @@ fn declare<'t>(alloc: Global, room: u32, place: Place, tokens: &'t [Token<'t>]) 
     let (declaration, rest) = declaration(alloc, tokens)?;
     match rest.split_first() {
         Some((becomes, inner)) if is_symbol(Symbol::Becomes, becomes.kind) => {
-            let (right, rest) = right(alloc, room, inner)?;
-            Ok((declared_as(place, declaration, right), rest))
+            initial(alloc, room, place, declaration, inner)
         }
         _ => Ok((declared(place, declaration), rest)),
     }
+}
+
+// The first value of a variable.
+#[tactic(auto, unfolding(vx_grammar::specs::StmtReading::initial_by))]
+fn initial<'t>(
+    alloc: Global,
+    room: u32,
+    place: Place,
+    declaration: Declaration,
+    tokens: &'t [Token<'t>],
+) -> Read<'t, Stmt>
+    requires { room < 1000 }
+    ensures { Gives (λ x. (stmt_of x.0, tokens_in x.1.now)) result (reading.initial_by room place (written_declaration declaration) (tokens_in tokens.now)) }
+{
+    let (right, rest) = right(alloc, room, tokens)?;
+    Ok((declared_as(place, declaration, right), rest))
 }
 
 fn declared(place: Place, declaration: Declaration) -> Stmt
@@ -367,21 +404,35 @@ fn repetition<'t>(alloc: Global, room: u32, place: Place, tokens: &'t [Token<'t>
     ensures { Gives (λ x. (stmt_of x.0, tokens_in x.1.now)) result (reading.while_at room (reading.stmts_below room) place (tokens_in tokens.now)) }
 {
     let (e, rest) = grouped(alloc, room, tokens)?;
-    let (invariants, rest) = invariants(alloc, room, rest)?;
+    repeating(alloc, room, place, Rc::new(alloc, e)?, rest)
+}
+
+// What stands behind the condition of a `while`.
+#[cycle(stmt)]
+fn repeating<'t>(
+    alloc: Global,
+    room: u32,
+    place: Place,
+    condition: Rc<Expr>,
+    tokens: &'t [Token<'t>],
+) -> Read<'t, Stmt>
+    requires { room < 1000 }
+    ensures { Gives (λ x. (stmt_of x.0, tokens_in x.1.now)) result (loop_at room (reading.stmts_below room) place (written_expr condition.value) (tokens_in tokens.now)) }
+{
+    let (invariants, rest) = invariants(alloc, room, tokens)?;
     let (body, rest) = loop_block(alloc, room, rest)?;
-    Ok((repeated(alloc, place, e, invariants, body)?, rest))
+    Ok((repeated(alloc, place, condition, invariants, body)?, rest))
 }
 
 fn repeated(
     alloc: Global,
     place: Place,
-    condition: Expr,
+    condition: Rc<Expr>,
     invariants: Vec<Rc<Expr>>,
     body: Block,
 ) -> Result<Stmt, AllocError>
-    ensures { IfOk result (λ stmt. stmt_of stmt ≡ While place (written_expr condition) (written_all invariants.items) (block_of body)) }
+    ensures { IfOk result (λ stmt. stmt_of stmt ≡ While place (written_expr condition.value) (written_all invariants.items) (block_of body)) }
 {
-    let condition = Rc::new(alloc, condition)?;
     let kind = StmtKind::While(condition, invariants, Rc::new(alloc, body)?);
     Ok(Stmt { place, kind })
 }
@@ -442,7 +493,7 @@ fn folded(folding: Folding, place: Place, instance: Instance) -> Stmt
 }
 
 #[cycle(stmt)]
-#[tactic(auto, unfolding(vx_grammar::specs::StmtReading::stmt_at, vx_grammar::specs::StmtReading::target_at))]
+#[tactic(auto, unfolding(vx_grammar::specs::StmtReading::stmt_at))]
 fn statement<'t>(alloc: Global, room: u32, tokens: &'t [Token<'t>]) -> Read<'t, Stmt>
     requires { room < 1000 }
     ensures { Gives (λ x. (stmt_of x.0, tokens_in x.1.now)) result (reading.stmt_at room (reading.stmts_below room) (tokens_in tokens.now)) }
@@ -452,10 +503,7 @@ fn statement<'t>(alloc: Global, room: u32, tokens: &'t [Token<'t>]) -> Read<'t, 
     };
     let place = first.place;
     match first.kind {
-        Kind::Name(_) => {
-            let (target, rest) = postfix(alloc, room, first, tokens, inner)?;
-            by_target(alloc, room, place, target, rest)
-        }
+        Kind::Name(name) => targeted(alloc, room, first, name, tokens, inner),
         Kind::Word(Word::Var) => declare(alloc, room, place, inner),
         Kind::Word(Word::Inhale) => claiming(alloc, room, Claim::Inhale, place, inner),
         Kind::Word(Word::Exhale) => claiming(alloc, room, Claim::Exhale, place, inner),
@@ -467,6 +515,25 @@ fn statement<'t>(alloc: Global, room: u32, tokens: &'t [Token<'t>]) -> Read<'t, 
         Kind::Word(Word::While) => repetition(alloc, room, place, inner),
         _ => Err(Stop::Unexpected(tokens)),
     }
+}
+
+// A statement that begins with a name.
+#[tactic(auto, unfolding(vx_grammar::specs::StmtReading::target_at))]
+fn targeted<'t>(
+    alloc: Global,
+    room: u32,
+    first: &'t Token<'t>,
+    name: &str,
+    tokens: &'t [Token<'t>],
+    inner: &'t [Token<'t>],
+) -> Read<'t, Stmt>
+    requires room { room < 1000 }
+    requires first { tokens_in tokens.now ≡ token_of first.now ∷ tokens_in inner.now }
+    requires name { kind_of first.now.kind ≡ a_name name.now }
+    ensures { Gives (λ x. (stmt_of x.0, tokens_in x.1.now)) result (reading.target_at room (token_of first.now) name.now (tokens_in inner.now)) }
+{
+    let (target, rest) = postfix(alloc, room, first, tokens, inner)?;
+    by_target(alloc, room, first.place, target, rest)
 }
 
 fn begins_statement(kind: Kind) -> bool

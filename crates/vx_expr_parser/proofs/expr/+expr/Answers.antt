@@ -1,14 +1,15 @@
-use Rattle.std.proofs.Common.{◌≡◌, List, [], ◌∷◌, ◌++◌, ap, ◌∙◌, rules, arith}
+use Rattle.std.proofs.Common.{◌≡◌, ◌-◌, sym, subst, List, [], ◌∷◌, ◌++◌, ap, ◌∙◌, rules, arith}
 use Rattle.std.proofs.lemmas.List.{map-append}
 use Rattle.std.proofs.lemmas.Result.{err_from_is_err_and}
 use Rattle.vx_tokens.specs.Tokens.{Token, token_of, tokens_in}
 use Rattle.vx_ast.specs.Written.{Exprs, written_expr, written_all}
 use Rattle.vx_grammar.specs.Reading.{choice, implication, chain, arguments, access, holding, argument_turn, below}
 use Rattle.vx_grammar.specs.Nesting.{is_full}
-use Rattle.vx_expr_parser.specs.Views.{exprs_of}
+use Rattle.vx_expr_parser.specs.Gives.{Gives}
+use Rattle.vx_expr_parser.specs.Views.{access_of, exprs_of, instance_of}
 use Rattle.vx_expr_parser.proofs.Rows.{all_items}
 use Rattle.vx_expr_parser.proofs.Turns.{goes_on, is_over, is_done, halts, argument_on, argument_over, argument_end, argument_stops, some_is, empty_tokens}
-use Rattle.vx_expr_parser.proofs.Steps.{nested_is, rest_full, rest_stops, rest_is}
+use Rattle.vx_expr_parser.proofs.Steps.{nested_is, has_operator, operator_full, operator_is, encloses}
 use Rattle.vx_expr_parser.proofs.expr.+expr.Goals as goal
 
 pub nested_choice-returns-in-Some : goal.nested_choice-returns-in-Some
@@ -76,22 +77,32 @@ more_arguments-loop-preserved t c =
 pub more_arguments-returns : goal.more_arguments-returns
 more_arguments-returns t c = is_done (argument_turn (below c.args.room)) c.args.tokens.now c.loop.counter _ (tokens_in c.loop.rest.now) _ c.loop-test.false c.loop.invariant
 
-pub rest_of_chain-returns-in_default-checked_sub : goal.rest_of_chain-returns-in_default-checked_sub
-rest_of_chain-returns-in_default-checked_sub t c =
-    rest_full c.args.room c.args.level c.args.place _ _ (token_of c.in-Some.first.now) (tokens_in c.in-Some.inner.now) c.in-Some-operator_of.op
-    (record { tokens = search rules; operator = search rules; of_level = search rules; low = c.requires.low })
-    c.in_default-checked_sub.ensures
+pub rest_of_chain-returns-in-Some-operator_of : goal.rest_of_chain-returns-in-Some-operator_of
+rest_of_chain-returns-in-Some-operator_of t c =
+    let h = has_operator (below c.args.room) c.args.level c.args.place (written_expr c.args.left) (tokens_in c.args.tokens.now) (token_of c.in-Some.first.now) (tokens_in c.in-Some.inner.now) c.in-Some-operator_of.op
+    (record { tokens = search rules; operator = search rules; of_level = search rules; low = c.requires.low }) in
+    subst (Gives (λ x. (written_expr x.0, tokens_in x.1.now)) c.operated.result) (sym h) c.operated.ensures
 
-pub rest_of_chain-returns-in_err-right-in-Some-operator_of : goal.rest_of_chain-returns-in_err-right-in-Some-operator_of
-rest_of_chain-returns-in_err-right-in-Some-operator_of t c =
-    let p = err_from_is_err_and c.from_residual.result c.from_residual.ensures.1 in
-    rw (p.1, p.2) (rest_stops _ c.args.room c.in-Some-checked_sub.less c.args.level c.args.place _ _ (token_of c.in-Some.first.now) (tokens_in c.in-Some.inner.now) c.in-Some-operator_of.op
-    (record { tokens = search rules; operator = search rules; of_level = search rules; low = c.requires.low })
-    c.in-Some-checked_sub.ensures c.in_err-right-in-Some-operator_of.ensures)
+pub operated-returns-in-Some : goal.operated-returns-in-Some
+operated-returns-in-Some t c =
+    operator_is (λ x. (written_expr x.0, tokens_in x.1.now)) c.further.result c.args.room c.in-Some.less (c.args.level - 1) c.args.place (written_expr c.args.left) (token_of c.args.first.now) (tokens_in c.args.tokens.now) c.args.op c.in-Some.ensures (rw c.in_ok-left.ensures.ok at c.further.ensures)
 
-pub rest_of_chain-returns-in_ok-left-in-Some-operator_of : goal.rest_of_chain-returns-in_ok-left-in-Some-operator_of
-rest_of_chain-returns-in_ok-left-in-Some-operator_of t c =
-    rest_is _ c.rest_of_chain.result c.args.room c.in-Some-checked_sub.less c.args.level c.args.place _ _ _ (token_of c.in-Some.first.now) (tokens_in c.in-Some.inner.now) _ c.in-Some-operator_of.op
-    (record { tokens = search rules; operator = search rules; of_level = search rules; low = c.requires.low })
-    c.in-Some-checked_sub.ensures c.in_ok-right-in-Some-operator_of.ensures
-    (rw c.in_ok-left-in-Some-operator_of.ensures at c.rest_of_chain.ensures)
+pub operated-returns-in-None : goal.operated-returns-in-None
+operated-returns-in-None t c =
+    operator_full c.args.room (c.args.level - 1) c.args.place (written_expr c.args.left) (tokens_in c.args.here.now) (token_of c.args.first.now) (tokens_in c.args.tokens.now) c.args.op c.in-None.ensures c.requires.first
+
+pub grouped-returns : goal.grouped-returns
+grouped-returns t c =
+    encloses choice written_expr (λ ts. tokens_in ts.now) c.in_ok-e.e c.closed.result (below c.args.room) (tokens_in c.args.tokens.now) _ (tokens_in c.in_ok-inner.inner.now) (tokens_in c.in_ok-e.rest.now) c.in_ok-inner.ensures c.in_ok-e.ensures c.closed.ensures
+
+pub enclosed_arguments-returns : goal.enclosed_arguments-returns
+enclosed_arguments-returns t c =
+    encloses arguments (λ es. written_all es.items) (λ ts. tokens_in ts.now) c.in_ok-arguments.arguments c.closed.result (below c.args.room) (tokens_in c.args.tokens.now) _ (tokens_in c.in_ok-inner.inner.now) (tokens_in c.in_ok-arguments.rest.now) c.in_ok-inner.ensures c.in_ok-arguments.ensures c.closed.ensures
+
+pub enclosed_access-returns : goal.enclosed_access-returns
+enclosed_access-returns t c =
+    encloses access access_of (λ ts. tokens_in ts.now) c.in_ok-access.access c.closed.result (below c.args.room) (tokens_in c.args.tokens.now) _ (tokens_in c.in_ok-inner.inner.now) (tokens_in c.in_ok-access.rest.now) c.in_ok-inner.ensures c.in_ok-access.ensures c.closed.ensures
+
+pub enclosed_holding-returns : goal.enclosed_holding-returns
+enclosed_holding-returns t c =
+    encloses holding instance_of (λ ts. tokens_in ts.now) c.in_ok-instance.instance c.closed.result (below c.args.room) (tokens_in c.args.tokens.now) _ (tokens_in c.in_ok-inner.inner.now) (tokens_in c.in_ok-instance.rest.now) c.in_ok-inner.ensures c.in_ok-instance.ensures c.closed.ensures

@@ -9,7 +9,7 @@ abbrev pub decreases-nested_statements : goal.decreases-nested_statements
 decreases-nested_statements l = 8 * l.room
 
 abbrev pub decreases-part : goal.decreases-part
-decreases-part l = 8 * l.room + 6
+decreases-part l = 8 * l.room + 7
 
 abbrev pub decreases-block : goal.decreases-block
 decreases-block l = 8 * l.room + 1
@@ -20,17 +20,23 @@ decreases-otherwise l = 8 * l.room + 2
 abbrev pub decreases-loop_block : goal.decreases-loop_block
 decreases-loop_block l = 8 * l.room + 2
 
+abbrev pub decreases-branches : goal.decreases-branches
+decreases-branches l = 8 * l.room + 3
+
+abbrev pub decreases-repeating : goal.decreases-repeating
+decreases-repeating l = 8 * l.room + 3
+
 abbrev pub decreases-branch : goal.decreases-branch
-decreases-branch l = 8 * l.room + 3
+decreases-branch l = 8 * l.room + 4
 
 abbrev pub decreases-repetition : goal.decreases-repetition
-decreases-repetition l = 8 * l.room + 3
+decreases-repetition l = 8 * l.room + 4
 
 abbrev pub decreases-statement : goal.decreases-statement
-decreases-statement l = 8 * l.room + 4
+decreases-statement l = 8 * l.room + 5
 
 abbrev pub decreases-statements : goal.decreases-statements
-decreases-statements l = 8 * l.room + 5
+decreases-statements l = 8 * l.room + 6
 
 -- the statements so far, and those of what is left
 abbrev pub invariant-statements-loop : goal.invariant-statements-loop
