@@ -1,5 +1,5 @@
 -- Lists that are read from their end.
-use Rattle.std.proofs.Common.{◌≡◌, ℕ, List, [], ◌∷◌, ◌++◌, Option, Some, None, refl, ap, ◌∙◌}
+use Rattle.std.proofs.Common.{◌≡◌, ℕ, List, [], ◌∷◌, ◌++◌, Option, Some, None, refl, ap, sym, ◌∙◌}
 use Rattle.vx_frac.specs.Fractions.{Fraction}
 use Rattle.vx_terms.specs.Terms.{Term, Terms, NoTerms, MoreTerms}
 use Rattle.cs_reader.specs.Items.{◌>>=◌}
@@ -29,3 +29,12 @@ part_last part (x ∷ ds) d = ap (λ o. o >>= led_by x) (part_last part ds d) �
     again : (o : Option Fraction) → ((o >>= λ p. part_after p ds) >>= led_by x) ≡ (o >>= λ p. (part_after p ds >>= led_by x))
     again None = refl
     again (Some p) = refl
+
+pub part_goes_on : (part next : Fraction) (rest front : List ℕ) (d : ℕ) (whole : Option Fraction) → part_after part rest ≡ whole → rest ≡ front ++ d ∷ [] → led_by d part ≡ Some next
+    → part_after next front ≡ whole
+part_goes_on part next rest front d whole so_far split led =
+    sym (ap (λ o. o >>= λ p. part_after p front) led) ∙ (sym (part_last part front d) ∙ (sym (ap (part_after part) split) ∙ so_far))
+
+pub part_fails : (part : Fraction) (rest front : List ℕ) (d : ℕ) (whole : Option Fraction) → part_after part rest ≡ whole → rest ≡ front ++ d ∷ [] → led_by d part ≡ None → whole ≡ None
+part_fails part rest front d whole so_far split led =
+    sym so_far ∙ (ap (part_after part) split ∙ (part_last part front d ∙ ap (λ o. o >>= λ p. part_after p front) led))

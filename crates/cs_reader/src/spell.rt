@@ -2,7 +2,8 @@
 ghost use Rattle.std.specs.Prelude.{◌≡◌, map, IfOk};
 ghost use Rattle.std.specs.Option.{option_map};
 ghost use Rattle.vx_frac.specs.Fraction.{fraction};
-ghost use Rattle.vx_terms.specs.Views.{sort, symbol, term, terms};
+ghost use Rattle.vx_terms.specs.Terms.{Binary};
+ghost use Rattle.vx_terms.specs.Views.{operator, sort, symbol, term, terms};
 ghost use Rattle.vx_smt_meaning.specs.Views.{declared_symbol};
 ghost use Rattle.cs_reader.specs.Items.{Gives};
 ghost use Rattle.cs_index.specs.Found.{first, passes_at};
@@ -196,15 +197,18 @@ fn of_one(alloc: Global, word: Word, t: &Rc<Term>) -> Result<Rc<Term>, Stop>
     }
 }
 
+fn binary(alloc: Global, of: Operator, t: &Rc<Term>, u: &Rc<Term>) -> Result<Rc<Term>, AllocError>
+    ensures { IfOk result (λ r. term r.value ≡ Binary (operator of) (term t.now.value) (term u.now.value)) }
+{
+    Ok(Rc::new(alloc, Term::Binary(of, t.clone()?, u.clone()?))?)
+}
+
 fn of_two(alloc: Global, word: Word, t: &Rc<Term>, u: &Rc<Term>) -> Result<Rc<Term>, Stop>
     ensures { Gives (λ t. term t.value) result (clean.of_two word (term t.now.value) (term u.now.value)) }
 {
     match word {
-        Word::Operator(of) => Ok(Rc::new(alloc, Term::Binary(of, t.clone()?, u.clone()?))?),
-        Word::Minus => Ok(Rc::new(
-            alloc,
-            Term::Binary(Operator::Subtract, t.clone()?, u.clone()?),
-        )?),
+        Word::Operator(of) => Ok(binary(alloc, of, t, u)?),
+        Word::Minus => Ok(binary(alloc, Operator::Subtract, t, u)?),
         Word::Slash => quotient(alloc, t, u),
         Word::Truth(_) | Word::Not | Word::Ite | Word::Name => Err(Stop::Form),
     }

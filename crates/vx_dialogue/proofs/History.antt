@@ -17,16 +17,16 @@ use Rattle.vx_dialogue.specs.Dialogue.{Gathers, Waits, Stands, link_of}
 use Rattle.vx_dialogue.specs.History.{Tells, Breaks}
 use Rattle.vx_dialogue.specs.Pace.{KeepsPace}
 use Rattle.vx_dialogue.specs.Scripts.{Turn, said_of, is_inside_after, script}
-use Rattle.vx_dialogue.proofs.Joined.{append_none, items_longer}
+use Rattle.vx_dialogue.proofs.Joined.{append_none, items_longer, sent_by_gets}
 use Rattle.vx_dialogue.proofs.Lists.{length_more, text_append, text_more}
-use Rattle.vx_dialogue.proofs.Pace.{none_sent, pace_longer, pace_begun, pace_got}
+use Rattle.vx_dialogue.proofs.Pace.{pace_longer, pace_begun, pace_got}
 use Rattle.vx_dialogue.proofs.Explained.{by_link}
 use Rattle.vx_dialogue.proofs.Levels.{script_more}
 
 -- Pieces that are got change nothing of it.
 pub tells_gets : (failed : Bool) (script : List Command) (old new : List Piece) (checks : List Check) → GetsOn old new → Tells failed script old checks → Tells failed script new checks
 tells_gets failed script old new checks gets tells =
-    let same : sent new ≡ sent old = ap sent gets.1 ∙ (sent-append old gets.0 ∙ (ap (λ x. sent old ++ x) (none_sent gets.0 gets.2) ∙ append_none (sent old))) in
+    let same : sent new ≡ sent old = sent_by_gets old new gets in
     record {
       answered = tells.answered;
       behind = tells.behind;

@@ -1,5 +1,9 @@
 -- Items that are read one after another.
 use Rattle.std.proofs.Common.{◌≡◌, ◌++◌, ◌+◌, ℕ, List, [], ◌∷◌, length, refl, ap, ◌∙◌, sym, subst, append_assoc, arith, true}
+use Rattle.vx_ends.specs.declared.piece.Piece.{Piece}
+use Rattle.vx_ends.specs.declared.piece.Piece.TheVariants.{Sent, Got}
+use Rattle.vx_ends.specs.Dialogue.{sent, Grows, AreGot, GetsOn}
+use Rattle.vx_ends.proofs.Dialogues.{sent-append}
 use Rattle.vx_sexp.specs.declared.token.Token.{Token}
 use Rattle.vx_sexp.specs.Tokens.{Lexes}
 use Rattle.vx_sexp.specs.First.{IsFirst}
@@ -7,7 +11,7 @@ use Rattle.vx_sexp.proofs.Counts.{starts_more}
 use Rattle.vx_smt_meaning.specs.Replies.{Items}
 use Rattle.vx_dialogue.specs.declared.item.Wanted.{Wanted}
 use Rattle.vx_dialogue.specs.declared.item.Wanted.TheVariants as wanted
-use Rattle.vx_dialogue.specs.Items.{is_lawful, ReadsItem}
+use Rattle.vx_dialogue.specs.Items.{Keeps, is_lawful, ReadsItem}
 use Rattle.vx_dialogue.specs.Hears.{all_lawful, ReadsSuccesses}
 
 pub append_none : {A : Type 0} (xs : List A) → xs ++ [] ≡ xs
@@ -59,3 +63,29 @@ successes_on n got0 unread0 got1 unread1 got2 unread2 item before reads lawful =
 pub items_join : (bytes : List ℕ) (xs ys : List (List Token)) (mid rest : List ℕ) → Items bytes xs mid → Items mid ys rest → Items bytes (xs ++ ys) rest
 items_join bytes [] ys mid rest e f = subst (λ x. Items x ys rest) e f
 items_join bytes (x ∷ xs) ys mid rest e f = (e.0, e.1, items_join e.0 xs ys mid rest e.2 f)
+
+-- ---- pieces that are got
+
+pub none_sent : (xs : List Piece) → AreGot xs → sent xs ≡ []
+none_sent [] e = refl
+none_sent (Sent b ∷ xs) e = absurd e
+none_sent (Got b ∷ xs) e = none_sent xs e
+
+pub sent_by_gets : (old new : List Piece) → GetsOn old new → sent new ≡ sent old
+sent_by_gets old new e = ap sent e.1 ∙ (sent-append old e.0 ∙ (ap (λ x. sent old ++ x) (none_sent e.0 e.2) ∙ append_none (sent old)))
+
+pub grows_by_gets : (old new : List Piece) → GetsOn old new → Grows old new
+grows_by_gets old new e = λ front begins. record {
+  rest = begins.rest ++ e.0;
+  is = e.1 ∙ (ap (λ x. x ++ e.0) begins.is ∙ append_assoc front begins.rest e.0);
+}
+
+pub keeps_none : (got unread : List ℕ) → Keeps got unread got unread
+keeps_none got unread = ([], sym (append_none got), sym (append_none unread))
+
+pub keeps_on : (g0 u0 g1 u1 g2 u2 : List ℕ) → Keeps g0 u0 g1 u1 → Keeps g1 u1 g2 u2 → Keeps g0 u0 g2 u2
+keeps_on g0 u0 g1 u1 g2 u2 e f = (
+  e.0 ++ f.0,
+  f.1 ∙ (ap (λ x. x ++ f.0) e.1 ∙ append_assoc g0 e.0 f.0),
+  f.2 ∙ (ap (λ x. x ++ f.0) e.2 ∙ append_assoc u0 e.0 f.0),
+)

@@ -48,6 +48,12 @@ plain_question m p t =
     (plain_join (opening m) (declarations (symbols_of p (negate t))) (plain_opening m) (plain_declarations (symbols_of p (negate t))))
     (plain_assertions p)) (refl, tt)
 
+pub question_whole : (m : Bool) (p : List Term) (t negated : Term) (symbols : List Declared) (before all : List Command) → negated ≡ negate t → symbols ≡ symbols_of p negated
+    → before ≡ (opening m ++ declarations symbols) ++ assertions p → all ≡ before ++ Assert negated ∷ [] → all ≡ question m p t
+question_whole m p t negated symbols before all negated_is symbols_is before_is all_is =
+    all_is ∙ (ap (λ x. x ++ Assert negated ∷ []) (before_is ∙ ap (λ x. (opening m ++ declarations x) ++ assertions p) symbols_is)
+    ∙ ap (λ x. ((opening m ++ declarations (symbols_of p x)) ++ assertions p) ++ Assert x ∷ []) negated_is)
+
 -- ---- the levels
 
 pub declared_level : (l : Level) (levels : List Level) (s : List Declared) → stack_from (l ∷ levels) (declarations s) ≡ record l { symbols = pushed s l.symbols } ∷ levels

@@ -11,7 +11,7 @@ use Rattle.vx_smt_meaning.specs.Replies.{Items}
 use Rattle.vx_smt_meaning.specs.Dialogues.{Answers}
 use Rattle.vx_smt_text.specs.Text.{commands_text}
 use Rattle.vx_dialogue.specs.Pace.{FewWait, KeepsPace}
-use Rattle.vx_dialogue.proofs.Joined.{append_none, items_longer}
+use Rattle.vx_dialogue.proofs.Joined.{append_none, items_longer, none_sent}
 
 -- a front of two lists ends in the first or in the second
 fronts : {A : Type 0} (xs ys before after : List A) → xs ++ ys ≡ before ++ after
@@ -32,11 +32,6 @@ none_got : (xs : List Piece) → AreSent xs → got xs ≡ []
 none_got [] e = refl
 none_got (Sent b ∷ xs) e = none_got xs e
 none_got (Got b ∷ xs) e = absurd e
-
-pub none_sent : (xs : List Piece) → AreGot xs → sent xs ≡ []
-none_sent [] e = refl
-none_sent (Sent b ∷ xs) e = absurd e
-none_sent (Got b ∷ xs) e = none_sent xs e
 
 sent_front : (xs ys : List Piece) → AreSent (xs ++ ys) → AreSent xs
 sent_front [] ys e = tt

@@ -1,7 +1,8 @@
 -- Why a reply is owed whenever one is awaited.
-use Rattle.std.proofs.Common.{◌≡◌, ◌++◌, ◌+◌, ◌-◌, ◌<◌, ◌≤◌, ℕ, Bool, true, false, IsTrue, List, [], ◌∷◌, length, map, take, drop, Some, refl, ap, ◌∙◌, sym, subst, append_assoc, length-append, arith, Result}
+use Rattle.std.proofs.Common.{◌≡◌, ◌++◌, ◌+◌, ◌-◌, ◌<◌, ◌≤◌, ℕ, Bool, true, false, IsTrue, List, [], ◌∷◌, length, map, take, drop, Some, refl, ap, ◌∙◌, sym, subst, append_assoc, length-append, arith, Result, Err, IfErr}
+use Rattle.std.proofs.lemmas.Grind.{common_steps}
 use Rattle.vx_ends.specs.declared.piece.Piece.{Piece}
-use Rattle.vx_ends.specs.Causes.{IsCalm}
+use Rattle.vx_ends.specs.Causes.{HasCause, IsCalm}
 use Rattle.vx_ends.specs.Dialogue.{sent, got, IsOwedReply}
 use Rattle.vx_sexp.specs.declared.token.Token.{Token}
 use Rattle.vx_sexp.specs.declared.reader.SexpFault.TheVariants as fault
@@ -31,6 +32,15 @@ use Rattle.vx_dialogue.proofs.Counts.{finished_items, finished_none, text_least}
 pub calm_steady : {L E T : Type 0} (steady : L → Bool) (faults : L → ℕ) (old new : L) (failed : E) (r : Result T E) → steady new ≡ steady old → IsCalm failed (faults old) (faults new) r
     → IsSteady steady faults old → IsSteady steady faults new
 calm_steady steady faults old new failed r fixed calm is = (subst IsTrue (sym fixed) is.0, calm.same ∙ is.1)
+
+-- the count rose with the last call's, or in it
+pub cause_on : {T U E : Type 0} (failed e : E) (old mid new : ℕ) (r : Result T E) (s : Result U E) → old ≤ mid → r ≡ Err e → s ≡ Err e → HasCause failed mid new r → HasCause failed old new s
+cause_on failed e old mid new r s on is told cause =
+    let later = cause.later in
+    record {
+      later = omega arith;
+      rose = λ fails. let rose = cause.rose (is ∙ ap Err (subst (λ x. IfErr x (λ y. e ≡ y)) (sym told ∙ fails) refl)) in grind (arith, common_steps);
+    }
 
 -- ---- what is owed
 

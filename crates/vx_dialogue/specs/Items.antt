@@ -1,5 +1,5 @@
 -- The items that are got, one after another.
-use Rattle.std.specs.Prelude.{◌≡◌, ℕ, ◌<◌, ◌⊎◌, List, [], ◌∷◌, ◌++◌, length, take, if◌then◌else◌, codes, Bool, true, false, not}
+use Rattle.std.specs.Prelude.{◌≡◌, ℕ, ◌<◌, ◌≤◌, ◌⊎◌, List, [], ◌∷◌, ◌++◌, length, take, if◌then◌else◌, codes, Bool, true, false, not}
 use Rattle.vx_smt_meaning.specs.Replies.{is_word_item, is_refusal, answer_of, is_given}
 use Rattle.vx_dialogue.specs.declared.item.Wanted.{Wanted}
 use Rattle.vx_dialogue.specs.declared.item.Wanted.TheVariants as wanted
@@ -25,6 +25,10 @@ ReadsItem got_old unread_old got_new unread_new item = (more : List ℕ) × (got
 -- No item begins the bytes: a bad token, a list too deep, or too long without an end.
 abbrev pub IsNoItem : List ℕ → Type 0
 IsNoItem bytes = ((at : ℕ) × Faults (sexp.BadToken at) bytes) ⊎ ((at : ℕ) × Faults (sexp.Deep at) bytes) ⊎ ((longest < length bytes) × (at : ℕ) × Faults (sexp.Unfinished at) bytes)
+
+-- The first item is not at its end, and more can be got of it.
+abbrev pub IsOpenYet : List ℕ → Type 0
+IsOpenYet bytes = (length bytes ≤ longest) × (at : ℕ) × Faults (sexp.Unfinished at) bytes
 
 -- the lawful replies
 unfoldable pub is_lawful : Wanted → List Token → Bool
@@ -57,6 +61,30 @@ IsRefused bytes kept = (text : List ℕ) × BeginsWith bytes text (λ item. is_r
 -- What is got meanwhile stands behind what was not read, and what begins these bytes has this property.
 abbrev pub Meets : List ℕ → List ℕ → List ℕ → (List ℕ → Type 0) → Type 0
 Meets got_old unread_old got_new P = (more : List ℕ) × (got_new ≡ got_old ++ more) × P (unread_old ++ more)
+
+-- what is told of bytes that begin with no item
+abbrev pub TellsNoItem : Talk → List ℕ → Type 0
+TellsNoItem (talk.Garbled kept) bytes = IsNoItem bytes × (kept ≡ kept_of bytes)
+TellsNoItem (talk.Refused kept) bytes = ⊥
+TellsNoItem talk.Pipe bytes = ⊥
+TellsNoItem talk.Want bytes = Unit {0}
+TellsNoItem talk.Closed bytes = ⊥
+
+-- what is told of bytes that begin with no lawful reply
+abbrev pub TellsNoReply : Talk → Wanted → List ℕ → Type 0
+TellsNoReply (talk.Garbled kept) w bytes = IsGarbled w bytes kept
+TellsNoReply (talk.Refused kept) w bytes = IsRefused bytes kept
+TellsNoReply talk.Pipe w bytes = ⊥
+TellsNoReply talk.Want w bytes = Unit {0}
+TellsNoReply talk.Closed w bytes = ⊥
+
+-- what is told of an item, by whether it is a refusal
+abbrev pub IsUnlawful : Talk → Bool → List ℕ → Type 0
+IsUnlawful (talk.Garbled kept) refusal text = (refusal ≡ false) × (kept ≡ text)
+IsUnlawful (talk.Refused kept) refusal text = (refusal ≡ true) × (kept ≡ text)
+IsUnlawful talk.Pipe refusal text = ⊥
+IsUnlawful talk.Want refusal text = Unit {0}
+IsUnlawful talk.Closed refusal text = ⊥
 
 -- why no item is given: what comes next is none
 abbrev pub GivesNoItem : Talk → List ℕ → List ℕ → List ℕ → Type 0

@@ -1,10 +1,10 @@
 // The next item that a child gives.
-ghost use Rattle.std.specs.Prelude.{◌≡◌, ◌≤◌, ◌++◌, length, drop, take, OnOk, IfOk, IfErr, Err, true, ℕ};
+ghost use Rattle.std.specs.Prelude.{◌≡◌, ◌≤◌, ◌<◌, ◌++◌, length, drop, take, OnOk, IfOk, IfErr, Ok, Err, true, false, ℕ, List};
 ghost use Rattle.vx_ends.specs.Dialogue.{sent, got, Grows, GetsOn};
 ghost use Rattle.vx_ends.specs.Causes.{HasCause};
 ghost use Rattle.vx_sexp.specs.First.{IsFirst};
-ghost use Rattle.vx_sexp.specs.Pieces.{EndsAt};
-ghost use Rattle.vx_dialogue.specs.Items.{Keeps, ReadsItem, GivesNoItem, GivesNoReply, without_blanks, kept_of, is_lawful};
+ghost use Rattle.vx_sexp.specs.Pieces.{EndsAt, Reached};
+ghost use Rattle.vx_dialogue.specs.Items.{Keeps, ReadsItem, IsNoItem, IsOpenYet, TellsNoItem, IsUnlawful, TellsNoReply, GivesNoItem, GivesNoReply, without_blanks, kept_of, is_lawful};
 ghost use Rattle.vx_dialogue.specs.Steady.{IsSteady, Owes};
 ghost use Rattle.vx_smt_meaning.specs.Replies.{is_word_item, is_headed_by, is_refusal, answer_of};
 
@@ -64,8 +64,54 @@ fn whole_item(alloc: Global, bytes: &[u8]) -> Result<(Sexp, usize), Talk>
     }
 }
 
+// what is told of bytes that begin with no item
+fn garbled(alloc: Global, bytes: &[u8]) -> Talk
+    requires { IsNoItem bytes.now }
+    ensures { TellsNoItem result bytes.now }
+{
+    match kept(alloc, bytes) {
+        Ok(kept) => Talk::Garbled(kept),
+        Err(_) => Talk::Want,
+    }
+}
+
+/// Whether the first item of what is not read yet is whole. No is answered only where it can still become so.
+fn is_whole(alloc: Global, reading: &mut Reading, unread: &[u8]) -> Result<bool, Talk>
+    requires { Reached reading.old unread.now }
+    ensures whole { result ≡ Ok true → (end : ℕ) × EndsAt end unread.now }
+    ensures open { result ≡ Ok false → IsOpenYet unread.now × ((more : List ℕ) → Reached reading.new (unread.now ++ more)) }
+    ensures none { IfErr result (λ talk. TellsNoItem talk unread.now) }
+{
+    match reading.go_on(unread) {
+        Ok(_) => Ok(true),
+        Err(SexpFault::Unfinished(_)) => {
+            if unread.len() > LONGEST {
+                Err(garbled(alloc, unread))
+            } else {
+                Ok(false)
+            }
+        }
+        Err(SexpFault::BadToken(_)) => Err(garbled(alloc, unread)),
+        Err(SexpFault::Deep(_)) => Err(garbled(alloc, unread)),
+        Err(SexpFault::Want) => Err(Talk::Want),
+    }
+}
+
+/// Gets more of what is not read yet.
+fn get_more<L: Link>(alloc: Global, link: &mut L, unread: &mut Vec<u8>) -> Result<(), Talk>
+    ensures keeps { OnOk result (Keeps (got (L.dialogue link.old)) unread.old.items (got (L.dialogue link.new)) unread.new.items) }
+    ensures longer { OnOk result (length unread.old.items < length unread.new.items) }
+    ensures none { IfErr result (λ talk. (got_old unread_old got_new : List ℕ) → GivesNoItem talk got_old unread_old got_new) }
+    ensures pieces { GetsOn (L.dialogue link.old) (L.dialogue link.new) }
+    ensures cause { HasCause Talk.Pipe (L.faults link.old) (L.faults link.new) result }
+    ensures steady { IsOpenYet unread.old.items → IsSteady L.steady L.faults link.old → Owes 1 (L.dialogue link.old) unread.old.items → IsSteady L.steady L.faults link.new }
+{
+    let piece = link.receive(alloc, unread.len().max(PIECE))?;
+    unread.extend_from_slice(&piece)?;
+    Ok(())
+}
+
 /// The first item of what is not read yet, and how many bytes it takes; more is got until it is whole.
-#[tactic(auto, using(vx_ends::proofs::Dialogues::sent_by_got, vx_ends::proofs::Dialogues::got_by_got, std::proofs::Common::append_assoc))]
 pub fn next_item<L: Link>(
     alloc: Global,
     link: &mut L,
@@ -82,19 +128,11 @@ pub fn next_item<L: Link>(
 {
     let mut reading = Reading::new();
     'reading: loop {
-        match reading.go_on(unread) {
-            Ok(_) => return whole_item(alloc, unread),
-            Err(SexpFault::Unfinished(_)) => {
-                if unread.len() > LONGEST {
-                    return Err(Talk::Garbled(kept(alloc, unread)?));
-                }
-            }
-            Err(SexpFault::BadToken(_)) => return Err(Talk::Garbled(kept(alloc, unread)?)),
-            Err(SexpFault::Deep(_)) => return Err(Talk::Garbled(kept(alloc, unread)?)),
-            Err(SexpFault::Want) => return Err(Talk::Want),
+        match is_whole(alloc, &mut reading, unread) {
+            Ok(true) => return whole_item(alloc, unread),
+            Ok(false) => get_more(alloc, link, unread)?,
+            Err(talk) => return Err(talk),
         }
-        let piece = link.receive(alloc, unread.len().max(PIECE))?;
-        unread.extend_from_slice(&piece)?;
     }
 }
 
@@ -152,6 +190,42 @@ fn allows(wanted: Wanted, tokens: &[Token]) -> bool
     }
 }
 
+// what is told of bytes that begin with an item which is no lawful reply
+fn unlawful(alloc: Global, bytes: &[u8], is_refusal: bool) -> Talk
+    ensures { IsUnlawful result is_refusal (kept_of bytes.now) }
+{
+    match kept(alloc, bytes) {
+        Ok(kept) => {
+            if is_refusal {
+                Talk::Refused(kept)
+            } else {
+                Talk::Garbled(kept)
+            }
+        }
+        Err(_) => Talk::Want,
+    }
+}
+
+/// Takes the item that the bytes begin with, if it is a lawful reply. It ends here.
+fn take_lawful(
+    alloc: Global,
+    unread: &mut Vec<u8>,
+    wanted: Wanted,
+    item: Sexp,
+    end: usize,
+) -> Result<Sexp, Talk>
+    requires { (end ≤ length unread.old.items) × IsFirst unread.old.items item (drop end unread.old.items) }
+    ensures item { IfOk result (λ item. IsFirst unread.old.items item unread.new.items × (is_lawful wanted item ≡ true)) }
+    ensures none { IfErr result (λ talk. TellsNoReply talk wanted unread.old.items) }
+{
+    if allows(wanted, item.tokens()) {
+        let rest = unread[end..].to_vec(alloc)?;
+        *unread = rest;
+        return Ok(item);
+    }
+    Err(unlawful(alloc, &unread[..end], refuses(item.tokens())))
+}
+
 /// Reads the next item, a lawful reply.
 pub fn expect<L: Link>(
     alloc: Global,
@@ -172,15 +246,5 @@ pub fn expect<L: Link>(
         Ok(found) => found,
         Err(talk) => return Err(talk),
     };
-    if allows(wanted, item.tokens()) {
-        let rest = unread[end..].to_vec(alloc)?;
-        *unread = rest;
-        return Ok(item);
-    }
-    let bytes = kept(alloc, &unread[..end])?;
-    if refuses(item.tokens()) {
-        Err(Talk::Refused(bytes))
-    } else {
-        Err(Talk::Garbled(bytes))
-    }
+    take_lawful(alloc, unread, wanted, item, end)
 }

@@ -3,6 +3,7 @@ ghost use Rattle.std.specs.Prelude.{◌≡◌, ◌∷◌, [], ◌++◌, OnOk, If
 ghost use Rattle.vx_smt_meaning.specs.Commands as Spec;
 ghost use Rattle.vx_smt_meaning.specs.Views.{command, declared_symbol};
 ghost use Rattle.vx_dialogue.specs.Preamble.{declarations};
+ghost use Rattle.vx_dialogue.specs.Scripts as Said;
 ghost use Rattle.vx_dialogue.specs.Scripts.{assertions, opening, question};
 ghost use Rattle.vx_dialogue.specs.Dialogue.{shared};
 
@@ -46,6 +47,32 @@ fn put_opening(commands: &mut Vec<Command>, in_member: bool) -> Result<(), Alloc
     Ok(())
 }
 
+// the symbols that a question declares
+fn symbols_of(alloc: Global, path: &[Rc<Term>], negated: &Rc<Term>) -> Result<Variables, AllocError>
+    ensures { IfOk result (λ variables. variables ≡ Said.symbols_of (map shared path.now) (shared negated.now)) }
+{
+    let mut variables = Variables::new(alloc);
+    variables.add_terms(alloc, path)?;
+    variables.add_term(alloc, negated)?;
+    Ok(variables)
+}
+
+/// The commands of a question before its negated condition is asserted.
+fn front_of_question(
+    alloc: Global,
+    in_member: bool,
+    symbols: &[Declared],
+    path: &[Rc<Term>],
+) -> Result<Vec<Command>, AllocError>
+    ensures { IfOk result (λ commands. map command commands.items ≡ (opening in_member ++ declarations (map declared_symbol symbols.now)) ++ assertions (map shared path.now)) }
+{
+    let mut commands = Vec::new(alloc);
+    put_opening(&mut commands, in_member)?;
+    put_declarations(alloc, &mut commands, symbols)?;
+    put_assertions(&mut commands, path)?;
+    Ok(commands)
+}
+
 /// The commands that ask a question, up to its check-sat.
 pub fn question_commands(
     alloc: Global,
@@ -56,13 +83,8 @@ pub fn question_commands(
     ensures { IfOk result (λ commands. map command commands.items ≡ question in_member (map shared path.now) (shared condition.now)) }
 {
     let negated = not(alloc, condition)?;
-    let mut variables = Variables::new(alloc);
-    variables.add_terms(alloc, path)?;
-    variables.add_term(alloc, &negated)?;
-    let mut commands = Vec::new(alloc);
-    put_opening(&mut commands, in_member)?;
-    put_declarations(alloc, &mut commands, variables.symbols())?;
-    put_assertions(&mut commands, path)?;
+    let variables = symbols_of(alloc, path, &negated)?;
+    let mut commands = front_of_question(alloc, in_member, variables.symbols(), path)?;
     commands.push(Command::Assert(negated))?;
     Ok(commands)
 }

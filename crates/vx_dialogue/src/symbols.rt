@@ -7,7 +7,7 @@ ghost use Rattle.vx_dialogue.specs.Dialogue.{shared};
 ghost use Rattle.vx_dialogue.specs.Symbols.{variable, with_variable, with_symbol, with_variables, with_all_variables, with_listed};
 ghost use Rattle.vx_dialogue.specs.Pending.{with_one, with_pending, load_of, load};
 
-use crate::pending::{Pending, put_off};
+use crate::pending::{Pending, put_off, put_off_both};
 use std::alloc::{AllocError, Global};
 use std::collections::BTreeSet;
 use std::marker::Model;
@@ -77,6 +77,18 @@ impl Variables {
         Ok(())
     }
 
+    /// Adds a symbol without arguments, if it is a v.
+    fn add_symbol(&mut self, alloc: Global, f: &Symbol, a: &Sort) -> Result<(), AllocError>
+        ensures { OnOk result (self.new ≡ with_symbol self.old (symbol f.now) (sort a.now)) }
+    {
+        match f {
+            Symbol::Variable(number) => self.add(alloc, *number, a),
+            Symbol::Standard(_) => Ok(()),
+            Symbol::Function(_) => Ok(()),
+            Symbol::Named(_) => Ok(()),
+        }
+    }
+
     /// Adds a term's own symbol, and puts off its parts.
     fn add_node<'t>(
         &mut self,
@@ -89,21 +101,14 @@ impl Variables {
     {
         match t {
             Term::Truth(_) | Term::Number(_) | Term::Part(_) => Ok(()),
-            Term::Constant(Symbol::Variable(number), a) => self.add(alloc, *number, a),
-            Term::Constant(Symbol::Standard(_), _) => Ok(()),
-            Term::Constant(Symbol::Function(_), _) => Ok(()),
-            Term::Constant(Symbol::Named(_), _) => Ok(()),
+            Term::Constant(f, a) => self.add_symbol(alloc, f, a),
             Term::Apply(_, _, all) | Term::AllOf(all) | Term::SomeOf(all) => {
                 put_off(pending, Pending::Parts(all))
             }
             Term::Not(part) => put_off(pending, Pending::Term(part)),
-            Term::Binary(_, left, right) => {
-                put_off(pending, Pending::Term(right))?;
-                put_off(pending, Pending::Term(left))
-            }
+            Term::Binary(_, left, right) => put_off_both(pending, left, right),
             Term::Ite(condition, left, right) => {
-                put_off(pending, Pending::Term(right))?;
-                put_off(pending, Pending::Term(left))?;
+                put_off_both(pending, left, right)?;
                 put_off(pending, Pending::Term(condition))
             }
         }
