@@ -1,6 +1,5 @@
 -- Walks over lists, one item after another.
-use Rattle.std.proofs.Common.{◌≡◌, ◌∙◌, ◌++◌, ap, ap₂, sym, subst, ℕ, suc, ◌+◌, ◌<◌, List, [], ◌∷◌, map, length, take, drop, get_or, Bool, true, refl, add-one}
-use Rattle.std.specs.Prelude.{◌&&◌}
+use Rattle.std.proofs.Common.{◌≡◌, ◌∙◌, ◌++◌, ap, ap₂, sym, ℕ, suc, ◌+◌, ◌<◌, List, [], ◌∷◌, map, length, take, drop, get_or, refl, add-one}
 use Rattle.std.proofs.Math.Seq.{drop-cons}
 use Rattle.std.proofs.lemmas.List.{map-append, take_more}
 

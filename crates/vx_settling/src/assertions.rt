@@ -1,6 +1,6 @@
 //! Assertions, settled.
 
-ghost use Rattle.std.specs.Prelude.{◌≡◌, ◌&&◌, if◌then◌else◌, IfOk};
+ghost use Rattle.std.specs.Prelude.{◌≡◌, ◌&&◌, ◌++◌, ◌∷◌, List, if◌then◌else◌, IfOk, OnOk};
 ghost use Rattle.vx_ast.specs.Written.{written_expr, written_optional, written_all};
 ghost use Rattle.vx_ast.specs.Resolve as resolve;
 ghost use Rattle.vx_ast.specs.Resolve.{access, amount, assertion, assertions, expression, expressions};
@@ -8,7 +8,7 @@ ghost use Rattle.vx_ast.specs.Syntax as Syntax;
 ghost use Rattle.vx_resolved.specs.Resolved as settled;
 ghost use Rattle.vx_settling.specs.Names.{names_in};
 
-use crate::expr::{amount, expression, expressions, shared};
+use crate::expr::{amount, expression, expressions, null, shared};
 use crate::names::Names;
 use std::alloc::{AllocError, Global};
 use std::rc::Rc;
@@ -62,12 +62,19 @@ fn are_pure(names: &Names, a: &Expr, b: &Expr) -> bool
     is_pure(names, a) && is_pure(names, b)
 }
 
+// An assertion, to be shared.
+fn shared_assertion(alloc: Global, a: Assertion) -> Result<Rc<Assertion>, AllocError>
+    ensures { IfOk result (λ r. settled.assertion r.value ≡ settled.assertion a) }
+{
+    Ok(Rc::new(alloc, a)?)
+}
+
 // An expression as an assertion of its own.
 fn pure(alloc: Global, e: &Expr) -> Result<Rc<Assertion>, AllocError>
     ensures { IfOk result (λ a. settled.assertion a.value ≡ Syntax.Pure (expression (written_expr e.now))) }
 {
     let e = expression(alloc, e)?;
-    Ok(Rc::new(alloc, Assertion::Pure(e))?)
+    shared_assertion(alloc, Assertion::Pure(e))
 }
 
 // How much of a location is held.
@@ -83,7 +90,7 @@ fn location(
     let e = expression(alloc, e)?;
     let share = amount(alloc, place, share)?;
     let field = shared(alloc, field)?;
-    Ok(Rc::new(alloc, Assertion::Points(place, e, field, share))?)
+    shared_assertion(alloc, Assertion::Points(place, e, field, share))
 }
 
 // How much of an instance is held.
@@ -99,18 +106,18 @@ fn instance(
     let predicate = shared(alloc, predicate)?;
     let arguments = expressions(alloc, arguments)?;
     let share = amount(alloc, place, share)?;
-    Ok(Rc::new(
+    shared_assertion(
         alloc,
         Assertion::Instance(place, predicate, arguments, share),
-    )?)
+    )
 }
 
 // What is neither a location nor an instance is held in no typed program.
 fn nowhere(alloc: Global, place: Place) -> Result<Rc<Assertion>, AllocError>
     ensures { IfOk result (λ a. settled.assertion a.value ≡ Syntax.Pure (Syntax.Null place)) }
 {
-    let e = Rc::new(alloc, vx_resolved::Expr::Null(place))?;
-    Ok(Rc::new(alloc, Assertion::Pure(e))?)
+    let e = null(alloc, place)?;
+    shared_assertion(alloc, Assertion::Pure(e))
 }
 
 // A permission, settled.
@@ -157,6 +164,33 @@ fn applied(
     pure(alloc, e)
 }
 
+// What an implication assumes is settled here.
+fn implied(alloc: Global, c: &Expr, a: Rc<Assertion>) -> Result<Rc<Assertion>, AllocError>
+    ensures { IfOk result (λ r. settled.assertion r.value ≡ Syntax.Implied (expression (written_expr c.now)) (settled.assertion a.value)) }
+{
+    let c = expression(alloc, c)?;
+    shared_assertion(alloc, Assertion::Implied(c, a))
+}
+
+// What a choice is made by is settled here.
+fn chosen(
+    alloc: Global,
+    c: &Expr,
+    a: Rc<Assertion>,
+    b: Rc<Assertion>,
+) -> Result<Rc<Assertion>, AllocError>
+    ensures { IfOk result (λ r. settled.assertion r.value ≡ Syntax.Chosen (expression (written_expr c.now)) (settled.assertion a.value) (settled.assertion b.value)) }
+{
+    let c = expression(alloc, c)?;
+    shared_assertion(alloc, Assertion::Chosen(c, a, b))
+}
+
+fn both(alloc: Global, a: Rc<Assertion>, b: Rc<Assertion>) -> Result<Rc<Assertion>, AllocError>
+    ensures { IfOk result (λ r. settled.assertion r.value ≡ Syntax.Both (settled.assertion a.value) (settled.assertion b.value)) }
+{
+    shared_assertion(alloc, Assertion::Both(a, b))
+}
+
 /// An assertion, settled: `&&` at its top is taken apart, and so is what a permission stands in.
 pub fn assertion(alloc: Global, names: &Names, e: &Expr) -> Result<Rc<Assertion>, AllocError>
     ensures { IfOk result (λ a. settled.assertion a.value ≡ assertion (names_in names.now) (written_expr e.now)) }
@@ -167,24 +201,22 @@ pub fn assertion(alloc: Global, names: &Names, e: &Expr) -> Result<Rc<Assertion>
         ExprKind::Binary(BinaryOperator::And, a, b) => {
             let a = assertion(alloc, names, a)?;
             let b = assertion(alloc, names, b)?;
-            Ok(Rc::new(alloc, Assertion::Both(a, b))?)
+            both(alloc, a, b)
         }
         ExprKind::Binary(BinaryOperator::Implies, c, a) => {
             if is_pure(names, a) {
                 return pure(alloc, e);
             }
-            let c = expression(alloc, c)?;
             let a = assertion(alloc, names, a)?;
-            Ok(Rc::new(alloc, Assertion::Implied(c, a))?)
+            implied(alloc, c, a)
         }
         ExprKind::Conditional(c, a, b) => {
             if are_pure(names, a, b) {
                 return pure(alloc, e);
             }
-            let c = expression(alloc, c)?;
             let a = assertion(alloc, names, a)?;
             let b = assertion(alloc, names, b)?;
-            Ok(Rc::new(alloc, Assertion::Chosen(c, a, b))?)
+            chosen(alloc, c, a, b)
         }
         ExprKind::Binary(
             BinaryOperator::Or
@@ -217,17 +249,30 @@ pub fn assertion(alloc: Global, names: &Names, e: &Expr) -> Result<Rc<Assertion>
     }
 }
 
-/// Assertions, settled, in order.
-pub fn assertions(
+/// Assertions, each settled.
+pub type Assertions = Vec<Rc<Assertion>>;
+
+/// One assertion more.
+#[tactic(auto, using(crate::proofs::Lists::one_behind))]
+pub fn add_assertion(
     alloc: Global,
     names: &Names,
-    all: &[Rc<Expr>],
-) -> Result<Vec<Rc<Assertion>>, AllocError>
+    e: &Expr,
+    done: &mut Assertions,
+) -> Result<(), AllocError>
+    ensures { OnOk result ((rest : List Syntax.Assertion) → settled.assertions done.new.items ++ rest ≡ settled.assertions done.old.items ++ assertion (names_in names.now) (written_expr e.now) ∷ rest) }
+{
+    done.push(assertion(alloc, names, e)?)?;
+    Ok(())
+}
+
+/// Assertions, settled, in order.
+pub fn assertions(alloc: Global, names: &Names, all: &[Rc<Expr>]) -> Result<Assertions, AllocError>
     ensures { IfOk result (λ v. settled.assertions v.items ≡ assertions (names_in names.now) (written_all all.now)) }
 {
     let mut done = Vec::new(alloc);
     for e in all {
-        done.push(assertion(alloc, names, e)?)?;
+        add_assertion(alloc, names, e, &mut done)?;
     }
     Ok(done)
 }

@@ -1,42 +1,22 @@
 //! The clauses of a contract, settled.
 
-ghost use Rattle.std.specs.Prelude.{◌≡◌, ◌++◌, ◌∷◌, [], List, IfOk, OnOk, map};
+ghost use Rattle.std.specs.Prelude.{◌≡◌, ◌++◌, ◌∷◌, List, IfOk, OnOk, map};
 ghost use Rattle.vx_ast.specs.Written as written;
-ghost use Rattle.vx_ast.specs.Written.{written_expr, written_clause};
-ghost use Rattle.vx_ast.specs.Resolve.{assertion};
+ghost use Rattle.vx_ast.specs.Written.{written_clause};
 ghost use Rattle.vx_resolved.specs.Resolved as view;
-ghost use Rattle.vx_ast.specs.Syntax as Syntax;
 ghost use Rattle.vx_settling.specs.Parts.{required, ensured};
 ghost use Rattle.vx_settling.specs.Names.{names_in};
 
-use crate::assertions::assertion;
+use crate::assertions::{Assertions, add_assertion};
 use crate::names::Names;
 use std::alloc::{AllocError, Global};
-use std::rc::Rc;
-use vx_ast::{Clause, Expr};
-use vx_resolved::Assertion;
-
-type Assertions = Vec<Rc<Assertion>>;
+use vx_ast::Clause;
 
 /// What clauses require and what they ensure, each in order.
 #[derive(Drop)]
 pub struct Contract {
     pub preconditions: Assertions,
     pub postconditions: Assertions,
-}
-
-// One assertion more.
-#[tactic(auto, using(crate::proofs::Lists::one_behind))]
-fn one_more(
-    alloc: Global,
-    names: &Names,
-    e: &Expr,
-    settled: &mut Assertions,
-) -> Result<(), AllocError>
-    ensures { OnOk result ((rest : List Syntax.Assertion) → view.assertions settled.new.items ++ rest ≡ view.assertions settled.old.items ++ assertion (names_in names.now) (written_expr e.now) ∷ rest) }
-{
-    settled.push(assertion(alloc, names, e)?)?;
-    Ok(())
 }
 
 // One clause more.
@@ -50,8 +30,8 @@ fn add(
     ensures ensures_settled { OnOk result ((rest : List written.Clause) → view.assertions contract.new.postconditions.items ++ ensured (names_in names.now) rest ≡ view.assertions contract.old.postconditions.items ++ ensured (names_in names.now) (written_clause clause.now ∷ rest)) }
 {
     match clause {
-        Clause::Requires(e) => one_more(alloc, names, e, &mut contract.preconditions),
-        Clause::Ensures(e) => one_more(alloc, names, e, &mut contract.postconditions),
+        Clause::Requires(e) => add_assertion(alloc, names, e, &mut contract.preconditions),
+        Clause::Ensures(e) => add_assertion(alloc, names, e, &mut contract.postconditions),
         Clause::Decreases(_) => Ok(()),
     }
 }
@@ -69,4 +49,12 @@ pub fn clauses(alloc: Global, names: &Names, all: &[Clause]) -> Result<Contract,
         add(alloc, names, clause, &mut contract)?;
     }
     Ok(contract)
+}
+
+/// What the clauses of a function require.
+pub fn preconditions(alloc: Global, names: &Names, all: &[Clause]) -> Result<Assertions, AllocError>
+    ensures { IfOk result (λ v. view.assertions v.items ≡ required (names_in names.now) (map written_clause all.now)) }
+{
+    let contract = clauses(alloc, names, all)?;
+    Ok(contract.preconditions)
 }

@@ -11,6 +11,13 @@ use std::rc::Rc;
 use vx_ast::{BinaryOperator, Expr, ExprKind, Place, UnaryOperator};
 use vx_resolved::{Connective, Division, Exprs, Operator};
 
+/// An expression, to be shared.
+pub fn shared_expr(alloc: Global, e: vx_resolved::Expr) -> Result<Rc<vx_resolved::Expr>, AllocError>
+    ensures { IfOk result (λ r. expr r.value ≡ expr e) }
+{
+    Ok(Rc::new(alloc, e)?)
+}
+
 fn operate(
     alloc: Global,
     place: Place,
@@ -20,7 +27,7 @@ fn operate(
 ) -> Result<Rc<vx_resolved::Expr>, AllocError>
     ensures { IfOk result (λ e. expr e.value ≡ Syntax.Operate place (operator op) (expr a.value) (expr b.value)) }
 {
-    Ok(Rc::new(alloc, vx_resolved::Expr::Operate(place, op, a, b))?)
+    shared_expr(alloc, vx_resolved::Expr::Operate(place, op, a, b))
 }
 
 fn connect(
@@ -32,7 +39,7 @@ fn connect(
 ) -> Result<Rc<vx_resolved::Expr>, AllocError>
     ensures { IfOk result (λ e. expr e.value ≡ Syntax.Connect place (connective op) (expr a.value) (expr b.value)) }
 {
-    Ok(Rc::new(alloc, vx_resolved::Expr::Connect(place, op, a, b))?)
+    shared_expr(alloc, vx_resolved::Expr::Connect(place, op, a, b))
 }
 
 fn negate(
@@ -42,7 +49,7 @@ fn negate(
 ) -> Result<Rc<vx_resolved::Expr>, AllocError>
     ensures { IfOk result (λ r. expr r.value ≡ Syntax.Not place (expr e.value)) }
 {
-    Ok(Rc::new(alloc, vx_resolved::Expr::Not(place, e))?)
+    shared_expr(alloc, vx_resolved::Expr::Not(place, e))
 }
 
 fn divide(
@@ -54,13 +61,14 @@ fn divide(
 ) -> Result<Rc<vx_resolved::Expr>, AllocError>
     ensures { IfOk result (λ e. expr e.value ≡ Syntax.Divide place (division op) (expr a.value) (expr b.value)) }
 {
-    Ok(Rc::new(alloc, vx_resolved::Expr::Divide(place, op, a, b))?)
+    shared_expr(alloc, vx_resolved::Expr::Divide(place, op, a, b))
 }
 
-fn null(alloc: Global, place: Place) -> Result<Rc<vx_resolved::Expr>, AllocError>
+/// The null reference.
+pub fn null(alloc: Global, place: Place) -> Result<Rc<vx_resolved::Expr>, AllocError>
     ensures { IfOk result (λ e. expr e.value ≡ Syntax.Null place) }
 {
-    Ok(Rc::new(alloc, vx_resolved::Expr::Null(place))?)
+    shared_expr(alloc, vx_resolved::Expr::Null(place))
 }
 
 fn fraction(
@@ -71,10 +79,10 @@ fn fraction(
 ) -> Result<Rc<vx_resolved::Expr>, AllocError>
     ensures { IfOk result (λ e. expr e.value ≡ Syntax.Part place numerator denominator) }
 {
-    Ok(Rc::new(
+    shared_expr(
         alloc,
         vx_resolved::Expr::Part(place, numerator, denominator),
-    )?)
+    )
 }
 
 // A numeral over what should be another.
@@ -165,6 +173,18 @@ fn binary(
     }
 }
 
+fn number(alloc: Global, place: Place, n: u128) -> Result<Rc<vx_resolved::Expr>, AllocError>
+    ensures { IfOk result (λ r. expr r.value ≡ Syntax.Number place n) }
+{
+    shared_expr(alloc, vx_resolved::Expr::Number(place, n))
+}
+
+fn truth(alloc: Global, place: Place, b: bool) -> Result<Rc<vx_resolved::Expr>, AllocError>
+    ensures { IfOk result (λ r. expr r.value ≡ Syntax.Truth place b) }
+{
+    shared_expr(alloc, vx_resolved::Expr::Truth(place, b))
+}
+
 fn minus(
     alloc: Global,
     place: Place,
@@ -172,7 +192,7 @@ fn minus(
 ) -> Result<Rc<vx_resolved::Expr>, AllocError>
     ensures { IfOk result (λ r. expr r.value ≡ unary_of place UnaryOperator.Negate (expr e.value)) }
 {
-    let zero = Rc::new(alloc, vx_resolved::Expr::Number(place, 0))?;
+    let zero = number(alloc, place, 0)?;
     operate(alloc, place, Operator::Subtract, zero, e)
 }
 
@@ -202,7 +222,7 @@ fn variable(alloc: Global, place: Place, name: &str) -> Result<Rc<vx_resolved::E
     ensures { IfOk result (λ r. expr r.value ≡ Syntax.Variable place name.now) }
 {
     let name = shared(alloc, name)?;
-    Ok(Rc::new(alloc, vx_resolved::Expr::Variable(place, name))?)
+    shared_expr(alloc, vx_resolved::Expr::Variable(place, name))
 }
 
 fn outcome(alloc: Global, place: Place) -> Result<Rc<vx_resolved::Expr>, AllocError>
@@ -220,7 +240,58 @@ fn read(
     ensures { IfOk result (λ r. expr r.value ≡ Syntax.Read place (expr e.value) field.now) }
 {
     let field = shared(alloc, field)?;
-    Ok(Rc::new(alloc, vx_resolved::Expr::Read(place, e, field))?)
+    shared_expr(alloc, vx_resolved::Expr::Read(place, e, field))
+}
+
+fn apply(
+    alloc: Global,
+    place: Place,
+    name: &str,
+    arguments: Rc<Exprs>,
+) -> Result<Rc<vx_resolved::Expr>, AllocError>
+    ensures { IfOk result (λ r. expr r.value ≡ Syntax.Apply place name.now (exprs arguments.value)) }
+{
+    let name = shared(alloc, name)?;
+    shared_expr(alloc, vx_resolved::Expr::Apply(place, name, arguments))
+}
+
+fn choose(
+    alloc: Global,
+    place: Place,
+    c: Rc<vx_resolved::Expr>,
+    a: Rc<vx_resolved::Expr>,
+    b: Rc<vx_resolved::Expr>,
+) -> Result<Rc<vx_resolved::Expr>, AllocError>
+    ensures { IfOk result (λ r. expr r.value ≡ Syntax.Choose place (expr c.value) (expr a.value) (expr b.value)) }
+{
+    shared_expr(alloc, vx_resolved::Expr::Choose(place, c, a, b))
+}
+
+fn old(
+    alloc: Global,
+    place: Place,
+    e: Rc<vx_resolved::Expr>,
+) -> Result<Rc<vx_resolved::Expr>, AllocError>
+    ensures { IfOk result (λ r. expr r.value ≡ Syntax.Old place (expr e.value)) }
+{
+    shared_expr(alloc, vx_resolved::Expr::Old(place, e))
+}
+
+fn unfolding(
+    alloc: Global,
+    place: Place,
+    name: &str,
+    arguments: Rc<Exprs>,
+    share: Rc<vx_resolved::Expr>,
+    e: Rc<vx_resolved::Expr>,
+) -> Result<Rc<vx_resolved::Expr>, AllocError>
+    ensures { IfOk result (λ r. expr r.value ≡ Syntax.Unfolding place name.now (exprs arguments.value) (expr share.value) (expr e.value)) }
+{
+    let name = shared(alloc, name)?;
+    shared_expr(
+        alloc,
+        vx_resolved::Expr::Unfolding(place, name, arguments, share, e),
+    )
 }
 
 /// How much is held, settled: all where nothing stands.
@@ -260,17 +331,16 @@ pub fn expression(alloc: Global, e: &Expr) -> Result<Rc<vx_resolved::Expr>, Allo
 {
     let place = e.place;
     match &e.kind {
-        ExprKind::Number(n) => Ok(Rc::new(alloc, vx_resolved::Expr::Number(place, *n))?),
-        ExprKind::Boolean(b) => Ok(Rc::new(alloc, vx_resolved::Expr::Truth(place, *b))?),
+        ExprKind::Number(n) => number(alloc, place, *n),
+        ExprKind::Boolean(b) => truth(alloc, place, *b),
         ExprKind::Null => null(alloc, place),
         ExprKind::Write => fraction(alloc, place, 1, 1),
         ExprKind::Nothing => fraction(alloc, place, 0, 1),
         ExprKind::Outcome => outcome(alloc, place),
         ExprKind::Variable(name) => variable(alloc, place, name),
         ExprKind::Call(name, arguments) => {
-            let name = shared(alloc, name)?;
             let arguments = expressions(alloc, arguments)?;
-            Ok(Rc::new(alloc, vx_resolved::Expr::Apply(place, name, arguments))?)
+            apply(alloc, place, name, arguments)
         }
         ExprKind::Read(a, field) => {
             let a = expression(alloc, a)?;
@@ -289,23 +359,19 @@ pub fn expression(alloc: Global, e: &Expr) -> Result<Rc<vx_resolved::Expr>, Allo
             let c = expression(alloc, c)?;
             let a = expression(alloc, a)?;
             let b = expression(alloc, b)?;
-            Ok(Rc::new(alloc, vx_resolved::Expr::Choose(place, c, a, b))?)
+            choose(alloc, place, c, a, b)
         }
         ExprKind::Old(a) => {
             let a = expression(alloc, a)?;
-            Ok(Rc::new(alloc, vx_resolved::Expr::Old(place, a))?)
+            old(alloc, place, a)
         }
         // Typed as an assertion alone.
         ExprKind::Access(_, _) => null(alloc, place),
         ExprKind::Unfolding(name, arguments, share, a) => {
-            let name = shared(alloc, &name.text)?;
             let arguments = expressions(alloc, arguments)?;
             let share = amount(alloc, place, share)?;
             let a = expression(alloc, a)?;
-            Ok(Rc::new(
-                alloc,
-                vx_resolved::Expr::Unfolding(place, name, arguments, share, a),
-            )?)
+            unfolding(alloc, place, &name.text, arguments, share, a)
         }
     }
 }

@@ -10,7 +10,7 @@ ghost use Rattle.vx_ast.specs.Written.{ensures_of, measure_of, written_all, writ
 ghost use Rattle.vx_resolved.specs.Resolved as view;
 ghost use Rattle.vx_settling.specs.Names.{names_in};
 
-use crate::clauses::clauses;
+use crate::clauses::preconditions;
 use crate::expr::{expression, expressions, shared};
 use crate::members::declarations;
 use crate::names::Names;
@@ -119,21 +119,22 @@ pub(crate) fn function(
     names: &Names,
     place: Place,
     f: &Function,
-) -> Result<vx_resolved::Function, AllocError>
-    ensures { IfOk result (λ r. Syntax.IsFunction (view.function r) ≡ resolve.kind (names_in names.now) place (written_kind (kinds.Function f.now))) }
+) -> Result<vx_resolved::Kind, AllocError>
+    ensures { IfOk result (λ r. view.kind r ≡ resolve.kind (names_in names.now) place (written_kind (kinds.Function f.now))) }
 {
     let parameters = declarations(alloc, &f.parameters)?;
-    let contract = clauses(alloc, names, &f.clauses)?;
+    let preconditions = preconditions(alloc, names, &f.clauses)?;
     let postconditions = promises(alloc, &f.clauses)?;
     let measure = measured(alloc, names, &f.clauses)?;
     let body = expression(alloc, &f.body)?;
-    Ok(vx_resolved::Function {
+    let settled = vx_resolved::Function {
         place,
         parameters,
         of: f.value_type,
-        preconditions: contract.preconditions,
+        preconditions,
         postconditions,
         measure,
         body,
-    })
+    };
+    Ok(vx_resolved::Kind::Function(Rc::new(alloc, settled)?))
 }

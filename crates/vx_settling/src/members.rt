@@ -65,21 +65,22 @@ fn method(
     names: &Names,
     place: Place,
     m: &Method,
-) -> Result<vx_resolved::Method, AllocError>
-    ensures { IfOk result (λ r. Syntax.IsMethod (view.method r) ≡ resolve.kind (names_in names.now) place (written_kind (MemberKind.Method m.now))) }
+) -> Result<vx_resolved::Kind, AllocError>
+    ensures { IfOk result (λ r. view.kind r ≡ resolve.kind (names_in names.now) place (written_kind (MemberKind.Method m.now))) }
 {
     let parameters = declarations(alloc, &m.parameters)?;
     let returns = declarations(alloc, &m.returns)?;
     let contract = clauses(alloc, names, &m.clauses)?;
     let body = body(alloc, names, &m.body)?;
-    Ok(vx_resolved::Method {
+    let settled = vx_resolved::Method {
         place,
         parameters,
         returns,
         preconditions: contract.preconditions,
         postconditions: contract.postconditions,
         body,
-    })
+    };
+    Ok(vx_resolved::Kind::Method(Rc::new(alloc, settled)?))
 }
 
 fn held(
@@ -101,16 +102,17 @@ fn predicate(
     names: &Names,
     place: Place,
     d: &Predicate,
-) -> Result<vx_resolved::Predicate, AllocError>
-    ensures { IfOk result (λ r. Syntax.IsPredicate (view.predicate r) ≡ resolve.kind (names_in names.now) place (written_kind (MemberKind.Predicate d.now))) }
+) -> Result<vx_resolved::Kind, AllocError>
+    ensures { IfOk result (λ r. view.kind r ≡ resolve.kind (names_in names.now) place (written_kind (MemberKind.Predicate d.now))) }
 {
     let parameters = declarations(alloc, &d.parameters)?;
     let body = held(alloc, names, &d.body)?;
-    Ok(vx_resolved::Predicate {
+    let settled = vx_resolved::Predicate {
         place,
         parameters,
         body,
-    })
+    };
+    Ok(vx_resolved::Kind::Predicate(Rc::new(alloc, settled)?))
 }
 
 // What a member is, settled.
@@ -124,18 +126,9 @@ fn kind(
 {
     match k {
         MemberKind::Field(of) => Ok(vx_resolved::Kind::Field(*of)),
-        MemberKind::Predicate(of) => {
-            let of = Rc::new(alloc, predicate(alloc, names, place, of)?)?;
-            Ok(vx_resolved::Kind::Predicate(of))
-        }
-        MemberKind::Function(of) => {
-            let of = Rc::new(alloc, function(alloc, names, place, of)?)?;
-            Ok(vx_resolved::Kind::Function(of))
-        }
-        MemberKind::Method(of) => {
-            let of = Rc::new(alloc, method(alloc, names, place, of)?)?;
-            Ok(vx_resolved::Kind::Method(of))
-        }
+        MemberKind::Predicate(of) => predicate(alloc, names, place, of),
+        MemberKind::Function(of) => function(alloc, names, place, of),
+        MemberKind::Method(of) => method(alloc, names, place, of),
     }
 }
 
@@ -162,6 +155,15 @@ fn members(
     Ok(settled)
 }
 
+// A program's members, settled.
+fn program(alloc: Global, p: &Program) -> Result<vx_resolved::Program, AllocError>
+    ensures { IfOk result (λ r. view.program r ≡ resolve.program (written_program p.now)) }
+{
+    let names = all_names(alloc, &p.members)?;
+    let members = members(alloc, &names, &p.members)?;
+    Ok(vx_resolved::Program { members })
+}
+
 /// So many members have numbers of 32 bits.
 const MOST: usize = u32::MAX as usize;
 
@@ -173,12 +175,10 @@ pub fn settle(alloc: Global, p: &Program) -> Result<Settled, AllocError>
     requires apart { KeepsApart (resolve.program (written_program p.now)) }
     ensures { IfOk result (λ t. settled t ≡ resolve.program (written_program p.now)) }
 {
-    let names = all_names(alloc, &p.members)?;
-    let members = members(alloc, &names, &p.members)?;
-    if members.len() > MOST {
+    let program = program(alloc, p)?;
+    if program.members.len() > MOST {
         return Err(AllocError);
     }
-    let program = vx_resolved::Program { members };
     let groups = groups_of(alloc, &program)?;
-    Ok(Settled::new(alloc, program, groups)?)
+    Settled::new(alloc, program, groups)
 }

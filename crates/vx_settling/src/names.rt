@@ -58,6 +58,13 @@ pub fn add_name(alloc: Global, name: &str, names: &mut SharedNames) -> Result<()
     Ok(())
 }
 
+/// Names, to be shared.
+pub fn shared_names(alloc: Global, names: SharedNames) -> Result<Rc<SharedNames>, AllocError>
+    ensures { IfOk result (λ xs. listed xs.value.items ≡ listed names.items) }
+{
+    Ok(Rc::new(alloc, names)?)
+}
+
 // The name of a member, if it is a field.
 fn add_field(alloc: Global, m: &Member, names: &mut SharedNames) -> Result<(), AllocError>
     ensures { OnOk result ((rest : List written.Member) → listed names.new.items ++ resolve.fields_of rest ≡ listed names.old.items ++ resolve.fields_of (written_member m.now ∷ rest)) }
@@ -76,7 +83,7 @@ fn fields_of(alloc: Global, all: &[Member]) -> Result<Rc<SharedNames>, AllocErro
     for m in all {
         add_field(alloc, m, &mut names)?;
     }
-    Ok(Rc::new(alloc, names)?)
+    shared_names(alloc, names)
 }
 
 // A name is put into a set.

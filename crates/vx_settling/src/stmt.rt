@@ -11,7 +11,7 @@ ghost use Rattle.vx_settling.specs.Names.{names_in};
 
 use crate::assertions::{assertion, assertions};
 use crate::expr::{amount, expression, expressions, shared};
-use crate::names::{Names, SharedNames, add_name};
+use crate::names::{Names, SharedNames, add_name, shared_names};
 use std::alloc::{AllocError, Global};
 use std::rc::Rc;
 use vx_ast::{Declaration, Expr, ExprKind, Instance, Name, Place, Right, Stmt, StmtKind};
@@ -28,7 +28,7 @@ fn copied(alloc: Global, those: &[Name]) -> Result<Rc<SharedNames>, AllocError>
     for name in those {
         add_name(alloc, &name.text, &mut copies)?;
     }
-    Ok(Rc::new(alloc, copies)?)
+    shared_names(alloc, copies)
 }
 
 // One name, to be shared.
@@ -37,7 +37,14 @@ fn alone(alloc: Global, name: Rc<String>) -> Result<Rc<SharedNames>, AllocError>
 {
     let mut names = Vec::new(alloc);
     names.push(name)?;
-    Ok(Rc::new(alloc, names)?)
+    shared_names(alloc, names)
+}
+
+// A statement, to be shared.
+fn shared_stmt(alloc: Global, s: vx_resolved::Stmt) -> Result<Rc<vx_resolved::Stmt>, AllocError>
+    ensures { IfOk result (λ r. settled.stmt r.value ≡ settled.stmt s) }
+{
+    Ok(Rc::new(alloc, s)?)
 }
 
 // A call whose one target is a variable.
@@ -53,10 +60,10 @@ fn called(
     let targets = alone(alloc, target)?;
     let method = shared(alloc, method)?;
     let arguments = expressions(alloc, arguments)?;
-    Ok(Rc::new(
+    shared_stmt(
         alloc,
         vx_resolved::Stmt::Call(place, targets, method, arguments),
-    )?)
+    )
 }
 
 // A variable gets the value of an expression.
@@ -69,7 +76,7 @@ fn valued(
     ensures { IfOk result (λ s. settled.stmt s.value ≡ Syntax.Assign place (string_bytes target.value) (resolve.expression (written_expr e.now))) }
 {
     let e = expression(alloc, e)?;
-    Ok(Rc::new(alloc, vx_resolved::Stmt::Assign(place, target, e))?)
+    shared_stmt(alloc, vx_resolved::Stmt::Assign(place, target, e))
 }
 
 // What is applied right of `:=` is a call where its name is a method's.
@@ -119,6 +126,32 @@ fn of_value(
     }
 }
 
+// A new object of all fields.
+fn new_of_all(
+    alloc: Global,
+    names: &Names,
+    place: Place,
+    target: Rc<String>,
+) -> Result<Rc<vx_resolved::Stmt>, AllocError>
+    ensures { IfOk result (λ s. settled.stmt s.value ≡ Syntax.New place (string_bytes target.value) (names_in names.now).fields) }
+{
+    let all = names.fields()?;
+    shared_stmt(alloc, vx_resolved::Stmt::New(place, target, all))
+}
+
+// A new object of these fields.
+fn new_of(
+    alloc: Global,
+    place: Place,
+    target: Rc<String>,
+    those: &[Name],
+) -> Result<Rc<vx_resolved::Stmt>, AllocError>
+    ensures { IfOk result (λ s. settled.stmt s.value ≡ Syntax.New place (string_bytes target.value) (bare (map name_of those.now))) }
+{
+    let those = copied(alloc, those)?;
+    shared_stmt(alloc, vx_resolved::Stmt::New(place, target, those))
+}
+
 // An assignment to a variable.
 fn assignment(
     alloc: Global,
@@ -132,14 +165,8 @@ fn assignment(
     let target = shared(alloc, &name.text)?;
     match right {
         Right::Value(e) => of_value(alloc, names, place, target, e),
-        Right::NewAll(_) => {
-            let all = names.fields()?;
-            Ok(Rc::new(alloc, vx_resolved::Stmt::New(place, target, all))?)
-        }
-        Right::New(_, those) => {
-            let those = copied(alloc, those)?;
-            Ok(Rc::new(alloc, vx_resolved::Stmt::New(place, target, those))?)
-        }
+        Right::NewAll(_) => new_of_all(alloc, names, place, target),
+        Right::New(_, those) => new_of(alloc, place, target, those),
     }
 }
 
@@ -155,7 +182,7 @@ fn add(block: &mut Settled, s: Rc<vx_resolved::Stmt>) -> Result<(), AllocError>
 fn put(alloc: Global, block: &mut Settled, s: vx_resolved::Stmt) -> Result<(), AllocError>
     ensures { OnOk result ((rest : Syntax.Block) → onto (stmts block.new.items) rest ≡ onto (stmts block.old.items) (Syntax.Then (settled.stmt s) rest)) }
 {
-    let s = Rc::new(alloc, s)?;
+    let s = shared_stmt(alloc, s)?;
     add(block, s)
 }
 
@@ -171,8 +198,7 @@ fn declaration(
 {
     let name = shared(alloc, &declared.name.text)?;
     let of = declared.value_type;
-    put(alloc, block, vx_resolved::Stmt::Declare(place, name, of))?;
-    Ok(())
+    put(alloc, block, vx_resolved::Stmt::Declare(place, name, of))
 }
 
 fn assigned(
@@ -187,8 +213,7 @@ fn assigned(
         ≡ onto (stmts block.old.items) (Syntax.Then (resolve.assign (names_in names.now) place (name_of name.now).name (written_right right.now)) rest)) }
 {
     let s = assignment(alloc, names, place, name, right)?;
-    add(block, s)?;
-    Ok(())
+    add(block, s)
 }
 
 // A variable's declaration, with its first value or none.
@@ -221,8 +246,7 @@ fn asserted(
         ≡ onto (stmts block.old.items) (Syntax.Then (Syntax.Assert place (resolve.assertion (names_in names.now) (written_expr e.now))) rest)) }
 {
     let a = assertion(alloc, names, e)?;
-    put(alloc, block, vx_resolved::Stmt::Assert(place, a))?;
-    Ok(())
+    put(alloc, block, vx_resolved::Stmt::Assert(place, a))
 }
 
 fn inhaled(
@@ -236,8 +260,7 @@ fn inhaled(
         ≡ onto (stmts block.old.items) (Syntax.Then (Syntax.Inhale place (resolve.assertion (names_in names.now) (written_expr e.now))) rest)) }
 {
     let a = assertion(alloc, names, e)?;
-    put(alloc, block, vx_resolved::Stmt::Inhale(place, a))?;
-    Ok(())
+    put(alloc, block, vx_resolved::Stmt::Inhale(place, a))
 }
 
 fn exhaled(
@@ -251,8 +274,7 @@ fn exhaled(
         ≡ onto (stmts block.old.items) (Syntax.Then (Syntax.Exhale place (resolve.assertion (names_in names.now) (written_expr e.now))) rest)) }
 {
     let a = assertion(alloc, names, e)?;
-    put(alloc, block, vx_resolved::Stmt::Exhale(place, a))?;
-    Ok(())
+    put(alloc, block, vx_resolved::Stmt::Exhale(place, a))
 }
 
 fn assumed(alloc: Global, place: Place, e: &Expr, block: &mut Settled) -> Result<(), AllocError>
@@ -260,8 +282,7 @@ fn assumed(alloc: Global, place: Place, e: &Expr, block: &mut Settled) -> Result
         ≡ onto (stmts block.old.items) (Syntax.Then (Syntax.Assume place (resolve.expression (written_expr e.now))) rest)) }
 {
     let c = expression(alloc, e)?;
-    put(alloc, block, vx_resolved::Stmt::Assume(place, c))?;
-    Ok(())
+    put(alloc, block, vx_resolved::Stmt::Assume(place, c))
 }
 
 // A write to a field.
@@ -283,8 +304,7 @@ fn write(
         alloc,
         block,
         vx_resolved::Stmt::Write(place, e, field, value),
-    )?;
-    Ok(())
+    )
 }
 
 // A call.
@@ -306,8 +326,7 @@ fn call(
         alloc,
         block,
         vx_resolved::Stmt::Call(place, targets, method, arguments),
-    )?;
-    Ok(())
+    )
 }
 
 // A `fold`.
@@ -327,8 +346,7 @@ fn fold(
         alloc,
         block,
         vx_resolved::Stmt::Fold(place, predicate, arguments, share),
-    )?;
-    Ok(())
+    )
 }
 
 // An `unfold`.
@@ -348,8 +366,52 @@ fn unfold(
         alloc,
         block,
         vx_resolved::Stmt::Unfold(place, predicate, arguments, share),
-    )?;
-    Ok(())
+    )
+}
+
+// An `if` of settled sides.
+fn branched(
+    alloc: Global,
+    place: Place,
+    c: &Expr,
+    a: Rc<Block>,
+    b: Rc<Block>,
+    block: &mut Settled,
+) -> Result<(), AllocError>
+    ensures { OnOk result ((rest : Syntax.Block) → onto (stmts block.new.items) rest
+        ≡ onto (stmts block.old.items) (Syntax.Then (Syntax.If place (resolve.expression (written_expr c.now)) (settled.block a.value) (settled.block b.value)) rest)) }
+{
+    let c = expression(alloc, c)?;
+    put(alloc, block, vx_resolved::Stmt::If(place, c, a, b))
+}
+
+// A `while` of a settled body.
+fn repeated(
+    alloc: Global,
+    names: &Names,
+    place: Place,
+    c: &Expr,
+    invariants: &[Rc<Expr>],
+    body: Rc<Block>,
+    block: &mut Settled,
+) -> Result<(), AllocError>
+    ensures { OnOk result ((rest : Syntax.Block) → onto (stmts block.new.items) rest
+        ≡ onto (stmts block.old.items) (Syntax.Then (Syntax.While place (resolve.expression (written_expr c.now)) (resolve.assertions (names_in names.now) (written_all invariants.now)) (settled.block body.value)) rest)) }
+{
+    let c = expression(alloc, c)?;
+    let invariants = assertions(alloc, names, invariants)?;
+    put(
+        alloc,
+        block,
+        vx_resolved::Stmt::While(place, c, invariants, body),
+    )
+}
+
+// A block, to be shared.
+fn shared_block(alloc: Global, b: Block) -> Result<Rc<Block>, AllocError>
+    ensures { IfOk result (λ r. settled.block r.value ≡ settled.block b) }
+{
+    Ok(Rc::new(alloc, b)?)
 }
 
 // The settled statements as a block.
@@ -358,9 +420,9 @@ fn linked(alloc: Global, done: Settled) -> Result<Rc<Block>, AllocError>
     ensures { IfOk result (λ b. settled.block b.value ≡ onto (stmts done.items) Syntax.Done) }
 {
     let mut statements = done;
-    let mut block = Rc::new(alloc, Block::Done)?;
+    let mut block = shared_block(alloc, Block::Done)?;
     while let Some(s) = statements.pop() {
-        block = Rc::new(alloc, Block::Then(s, block))?;
+        block = shared_block(alloc, Block::Then(s, block))?;
     }
     Ok(block)
 }
@@ -388,7 +450,7 @@ pub fn block(alloc: Global, names: &Names, b: &vx_ast::Block) -> Result<Rc<Block
 {
     let mut done = Vec::new(alloc);
     statements(alloc, names, &b.statements, &mut done)?;
-    Ok(linked(alloc, done)?)
+    linked(alloc, done)
 }
 
 // The other side of an `if`: none is the empty block.
@@ -401,7 +463,7 @@ fn other_block(
     ensures { IfOk result (λ r. settled.block r.value ≡ resolve.other_side (names_in names.now) (optional_other other.now)) }
 {
     match other {
-        None => Ok(Rc::new(alloc, Block::Done)?),
+        None => shared_block(alloc, Block::Done),
         Some(b) => block(alloc, names, b),
     }
 }
@@ -424,22 +486,13 @@ fn statement(alloc: Global, names: &Names, s: &Stmt, done: &mut Settled) -> Resu
         StmtKind::Assert(e) => asserted(alloc, names, place, e, done),
         StmtKind::Assume(e) => assumed(alloc, place, e, done),
         StmtKind::If(c, a, b) => {
-            let c = expression(alloc, c)?;
             let a = block(alloc, names, a)?;
             let b = other_block(alloc, names, b)?;
-            put(alloc, done, vx_resolved::Stmt::If(place, c, a, b))?;
-            Ok(())
+            branched(alloc, place, c, a, b, done)
         }
         StmtKind::While(c, invariants, b) => {
-            let c = expression(alloc, c)?;
-            let invariants = assertions(alloc, names, invariants)?;
             let b = block(alloc, names, b)?;
-            put(
-                alloc,
-                done,
-                vx_resolved::Stmt::While(place, c, invariants, b),
-            )?;
-            Ok(())
+            repeated(alloc, names, place, c, invariants, b, done)
         }
         StmtKind::Call(targets, method, arguments) => {
             call(alloc, place, targets, method, arguments, done)

@@ -3,6 +3,7 @@ pub mod Found
 pub mod Numbers
 pub mod Lists
 pub mod Tables
+pub mod Targets
 pub mod Blocks
 pub mod Assigns
 pub mod AgreesStatements

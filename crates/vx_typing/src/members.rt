@@ -1,8 +1,9 @@
 //! Members.
 
-ghost use Rattle.std.specs.Prelude.{◌≡◌, ◌++◌, ◌∷◌, [], OnOk, IfOk, map, string_bytes};
+ghost use Rattle.std.specs.Prelude.{◌≡◌, ◌++◌, ◌∷◌, [], Ok, OnOk, IfOk, map, string_bytes};
 ghost use Rattle.vx_ast.specs.Written.{name_of, written_expr, written_clause, written_declaration, written_kind, written_member, optional_expr, optional_block};
 ghost use Rattle.vx_expressions.specs.Faults as faults;
+ghost use Rattle.vx_expressions.specs.Settings.{plainly, before_function, after_function, within_measure, within_predicate};
 ghost use Rattle.vx_typing.specs.StatementFaults as statements;
 ghost use Rattle.vx_typing.specs.MemberFaults as first;
 ghost use Rattle.vx_typing.specs.Members.{signature_of, table_of};
@@ -13,7 +14,7 @@ ghost use Rattle.vx_expressions.specs.Views as views;
 ghost use Rattle.vx_expressions.specs.Views.{setting, table, known, claim_of, names_in};
 
 use crate::names::{Role, declare_all, twice};
-use crate::stmt::{block, truth};
+use crate::stmt::{asserted, block, truth};
 use indexmap::IndexMap;
 use std::alloc::Global;
 use std::rc::Rc;
@@ -67,6 +68,18 @@ fn measure(alloc: Global, s: Setting, e: &Expr) -> Result<(), TypeFault>
     }
 }
 
+// What a predicate holds.
+fn predicate_holds(
+    alloc: Global,
+    members: &Members,
+    variables: &Variables,
+    e: &Expr,
+) -> Result<(), TypeFault>
+    ensures { Gives (λ x. tt) result (faults.assertion (within_predicate (table members.now.entries) (known variables.now.entries)) (written_expr e.now)) }
+{
+    assertion(alloc, Setting::within_predicate(members, variables), e)
+}
+
 fn body(
     alloc: Global,
     members: &Members,
@@ -77,8 +90,45 @@ fn body(
 {
     match e {
         None => Ok(()),
-        Some(e) => assertion(alloc, Setting::within_predicate(members, variables), e),
+        Some(e) => predicate_holds(alloc, members, variables, e),
     }
+}
+
+// What a function requires.
+fn function_requires(
+    alloc: Global,
+    members: &Members,
+    variables: &Variables,
+    e: &Expr,
+) -> Result<(), TypeFault>
+    ensures { Gives (λ x. tt) result (faults.assertion (before_function (table members.now.entries) (known variables.now.entries)) (written_expr e.now)) }
+{
+    assertion(alloc, Setting::before_function(members, variables), e)
+}
+
+// What a function of this type ensures.
+fn function_ensures(
+    alloc: Global,
+    members: &Members,
+    variables: &Variables,
+    of: ValueType,
+    e: &Expr,
+) -> Result<(), TypeFault>
+    ensures { Gives (λ x. tt) result (statements.truth (after_function (table members.now.entries) (known variables.now.entries) of) (written_expr e.now)) }
+{
+    truth(alloc, Setting::after_function(members, variables, of), e)
+}
+
+// What a function decreases.
+fn function_decreases(
+    alloc: Global,
+    members: &Members,
+    variables: &Variables,
+    e: &Expr,
+) -> Result<(), TypeFault>
+    ensures { Gives (λ x. tt) result (first.measure (within_measure (table members.now.entries) (known variables.now.entries)) (written_expr e.now)) }
+{
+    measure(alloc, Setting::within_measure(members, variables), e)
 }
 
 // A clause of a function of this type.
@@ -92,9 +142,9 @@ fn clause(
     ensures { Gives (λ x. tt) result (first.clause (table members.now.entries) (known variables.now.entries) of (written_clause c.now)) }
 {
     match c {
-        Clause::Requires(e) => { assertion(alloc, Setting::before_function(members, variables), e) }
-        Clause::Ensures(e) => truth(alloc, Setting::after_function(members, variables, of), e),
-        Clause::Decreases(e) => measure(alloc, Setting::within_measure(members, variables), e),
+        Clause::Requires(e) => function_requires(alloc, members, variables, e),
+        Clause::Ensures(e) => function_ensures(alloc, members, variables, of, e),
+        Clause::Decreases(e) => function_decreases(alloc, members, variables, e),
     }
 }
 
@@ -113,6 +163,18 @@ fn clauses(
     Ok(())
 }
 
+// What a method requires.
+fn method_requires(
+    alloc: Global,
+    members: &Members,
+    variables: &Variables,
+    e: &Expr,
+) -> Result<(), TypeFault>
+    ensures { Gives (λ x. tt) result (faults.assertion (plainly (table members.now.entries) (known variables.now.entries)) (written_expr e.now)) }
+{
+    assertion(alloc, Setting::plainly(members, variables), e)
+}
+
 // A clause of a method, with the variables known before it, and those known after it.
 fn contract(
     alloc: Global,
@@ -124,8 +186,8 @@ fn contract(
     ensures { Gives (λ x. tt) result (first.contract (table members.now.entries) (known before.now.entries) (known after.now.entries) (written_clause c.now)) }
 {
     match c {
-        Clause::Requires(e) => assertion(alloc, Setting::plainly(members, before), e),
-        Clause::Ensures(e) => assertion(alloc, Setting::within_method(members, after), e),
+        Clause::Requires(e) => method_requires(alloc, members, before, e),
+        Clause::Ensures(e) => asserted(alloc, members, after, e),
         Clause::Decreases(_) => Ok(()),
     }
 }
@@ -180,17 +242,31 @@ fn predicate(alloc: Global, members: &Members, p: &Predicate) -> Result<(), Type
     body(alloc, members, &variables, &p.body)
 }
 
+// The clauses and the value of a function whose parameters are known.
+fn clauses_and_value(
+    alloc: Global,
+    members: &Members,
+    variables: &Variables,
+    f: &Function,
+) -> Result<(), TypeFault>
+    requires typed { first.declarations Input [] (map written_declaration f.now.parameters.items) ≡ Ok tt }
+    requires known { known variables.now.entries ≡ with_variables Input (map written_declaration f.now.parameters.items) [] }
+    ensures { Gives (λ x. tt) result (first.kind (table members.now.entries) (written_kind (MemberKind.Function f.now))) }
+{
+    clauses(alloc, members, variables, f.value_type, &f.clauses)?;
+    typed_as(
+        alloc,
+        Setting::plainly(members, variables),
+        f.value_type,
+        &f.body,
+    )
+}
+
 fn function(alloc: Global, members: &Members, f: &Function) -> Result<(), TypeFault>
     ensures { Gives (λ x. tt) result (first.kind (table members.now.entries) (written_kind (MemberKind.Function f.now))) }
 {
     let variables = parameters(alloc, Role::Input, &f.parameters)?;
-    clauses(alloc, members, &variables, f.value_type, &f.clauses)?;
-    typed_as(
-        alloc,
-        Setting::plainly(members, &variables),
-        f.value_type,
-        &f.body,
-    )
+    clauses_and_value(alloc, members, &variables, f)
 }
 
 // The contract and the body of a method, with its parameters known, and with its returns too.
@@ -207,13 +283,26 @@ fn contract_and_body<'a>(
     statements(alloc, members, after, &m.body)
 }
 
+// A method whose parameters are known.
+fn method_with<'a>(
+    alloc: Global,
+    members: &Members<'a>,
+    before: &Variables,
+    m: &'a Method,
+) -> Result<(), TypeFault>
+    requires { known before.now.entries ≡ with_variables Parameter (map written_declaration m.now.parameters.items) [] }
+    ensures { Gives (λ x. tt) result (first.kind (table members.now.entries) (written_kind (MemberKind.Method m.now))) }
+{
+    let mut after = parameters(alloc, Role::Parameter, &m.parameters)?;
+    declare_all(alloc, &mut after, Role::Local, &m.returns)?;
+    contract_and_body(alloc, members, before, &mut after, m)
+}
+
 fn method<'a>(alloc: Global, members: &Members<'a>, m: &'a Method) -> Result<(), TypeFault>
     ensures { Gives (λ x. tt) result (first.kind (table members.now.entries) (written_kind (MemberKind.Method m.now))) }
 {
     let before = parameters(alloc, Role::Parameter, &m.parameters)?;
-    let mut after = parameters(alloc, Role::Parameter, &m.parameters)?;
-    declare_all(alloc, &mut after, Role::Local, &m.returns)?;
-    contract_and_body(alloc, members, &before, &mut after, m)
+    method_with(alloc, members, &before, m)
 }
 
 fn member<'a>(alloc: Global, members: &Members<'a>, m: &'a Member) -> Result<(), TypeFault>

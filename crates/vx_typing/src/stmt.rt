@@ -330,7 +330,8 @@ fn condition(
     truth(alloc, Setting::within_method(members, variables), e)
 }
 
-fn asserted(
+/// An assertion in a method's body, or behind it.
+pub fn asserted(
     alloc: Global,
     members: &Members,
     variables: &Variables,

@@ -1,14 +1,14 @@
 //! The functions and predicates that a member's parts name.
 
 ghost use Rattle.std.specs.Prelude.{◌≡◌, ◌++◌, ◌∷◌, List, OnOk, map};
-ghost use Rattle.vx_ast.specs.Written.{written_expr, written_all, written_optional, written_clause, written_kind, optional_expr};
+ghost use Rattle.vx_ast.specs.Written.{name_of, written_expr, written_all, written_optional, written_clause, written_kind, optional_expr};
 ghost use Rattle.vx_typing.specs.Uses as spec;
 ghost use Rattle.vx_typing.specs.Uses.{Use};
 ghost use Rattle.vx_typing.specs.Seen.{seen, seen_use};
 
 use std::alloc::AllocError;
 use std::rc::Rc;
-use vx_ast::{Clause, Expr, ExprKind, MemberKind, Place};
+use vx_ast::{Clause, Expr, ExprKind, MemberKind, Name, Place};
 
 /// A name with its place, and whether it is unfolded.
 #[derive(Clone, Copy)]
@@ -24,6 +24,36 @@ fn add<'a>(found: &mut Vec<Named<'a>>, u: Named<'a>) -> Result<(), AllocError>
 {
     found.push(u)?;
     Ok(())
+}
+
+// A function that is applied, or an instance that stands there.
+fn add_call<'a>(found: &mut Vec<Named<'a>>, place: Place, name: &'a str) -> Result<(), AllocError>
+    ensures { OnOk result ((rest : List Use) → seen found.new.items ++ rest ≡ seen found.old.items ++ spec.calls place name.now ∷ rest) }
+{
+    let unfolds = false;
+    add(
+        found,
+        Named {
+            place,
+            name,
+            unfolds,
+        },
+    )
+}
+
+// An instance that is unfolded.
+fn add_unfolding<'a>(found: &mut Vec<Named<'a>>, i: &'a Name) -> Result<(), AllocError>
+    ensures { OnOk result ((rest : List Use) → seen found.new.items ++ rest ≡ seen found.old.items ++ spec.unfolds_it (name_of i.now) ∷ rest) }
+{
+    let (place, name, unfolds) = (i.place, &i.text, true);
+    add(
+        found,
+        Named {
+            place,
+            name,
+            unfolds,
+        },
+    )
 }
 
 #[cycle(using)]
@@ -55,16 +85,7 @@ fn uses<'a>(found: &mut Vec<Named<'a>>, e: &'a Expr) -> Result<(), AllocError>
     match &e.kind {
         ExprKind::Call(name, es) => {
             uses_in(found, es)?;
-            let unfolds = false;
-            add(
-                found,
-                Named {
-                    place,
-                    name,
-                    unfolds,
-                },
-            )?;
-            Ok(())
+            add_call(found, place, name)
         }
         ExprKind::Read(under, _) => uses(found, under),
         ExprKind::Unary(_, a) => uses(found, a),
@@ -86,16 +107,7 @@ fn uses<'a>(found: &mut Vec<Named<'a>>, e: &'a Expr) -> Result<(), AllocError>
             uses_in(found, es)?;
             uses_of(found, amount)?;
             uses(found, a)?;
-            let (place, name, unfolds) = (i.place, &i.text, true);
-            add(
-                found,
-                Named {
-                    place,
-                    name,
-                    unfolds,
-                },
-            )?;
-            Ok(())
+            add_unfolding(found, i)
         }
         ExprKind::Number(_)
         | ExprKind::Boolean(_)

@@ -1,11 +1,6 @@
-use Rattle.std.proofs.Common.{◌∙◌, ap, map}
-use Rattle.vx_ast.specs.Resolve as resolve
-use Rattle.vx_ast.specs.Written.{written_member, written_program}
+use Rattle.std.proofs.Common.{◌∙◌}
+use Rattle.std.proofs.lemmas.Result.{IfOk-weaker}
 use Rattle.vx_settling.proofs.members.settle.Goals as goal
 
 pub returns : goal.returns
-returns c =
-    c.in_ok-new.ensures ∙ c.in_ok-members.ensures
-    ∙ ap (λ names. map (resolve.member names) (map written_member c.deref-2.result.now))
-    (c.in_ok-names.ensures ∙ ap (λ ms. resolve.names_of (map written_member ms)) c.deref.ensures.value)
-    ∙ ap (λ ms. map (resolve.member (resolve.names_of (written_program c.args.p.now))) (map written_member ms)) c.deref-2.ensures.value
+returns c = IfOk-weaker c.new.result _ _ (λ s is. is ∙ c.in_ok-program.ensures) c.new.ensures

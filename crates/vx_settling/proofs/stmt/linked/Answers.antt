@@ -8,7 +8,7 @@ pub loop-s-preserved : goal.loop-s-preserved
 loop-s-preserved c =
     let left = c.pop.new.self.items in
     let b = view.block c.loop-s.block.value in
-    ap (λ k. onto (stmts left) (view.block k)) c.in_ok-block-2.ensures.ok
+    ap (onto (stmts left)) c.in_ok-block-2.ensures
     ∙ sym (onto_last (stmts left) (view.stmt c.in-Some.s.value) b)
     ∙ ap (λ ss. onto ss b) (sym (stmts_last left c.in-Some.s) ∙ ap stmts (sym c.in-Some.ensures.items))
     ∙ c.loop-s.invariant
