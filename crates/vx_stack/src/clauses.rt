@@ -4,7 +4,6 @@ ghost use Rattle.std.specs.Prelude.{◌≡◌, IfOk};
 ghost use Rattle.vx_resolved.specs.Resolved.{assertion, assertions, expr, expressions, function};
 ghost use Rattle.vx_ast.specs.Syntax as syntax;
 
-use crate::sharing::shared;
 use std::alloc::{AllocError, Global};
 use std::rc::Rc;
 use vx_ast::Place;
@@ -20,13 +19,13 @@ pub fn joined(
 {
     match clauses {
         [] => {
-            let always = shared(alloc, Expr::Truth(place, true))?;
-            shared(alloc, Assertion::Pure(always))
+            let always = Rc::new(alloc, Expr::Truth(place, true))?;
+            Ok(Rc::new(alloc, Assertion::Pure(always))?)
         }
         [first, rest @ ..] => {
             let mut all = first.clone()?;
             for clause in rest {
-                all = shared(alloc, Assertion::Both(all, clause.clone()?))?;
+                all = Rc::new(alloc, Assertion::Both(all, clause.clone()?))?;
             }
             Ok(all)
         }
@@ -67,7 +66,7 @@ fn both(alloc: Global, first: Rc<Expr>, second: Rc<Expr>) -> Result<Rc<Expr>, Al
     ensures { IfOk result (λ e. expr e.value ≡ syntax.Connect (syntax.place_of (expr first.value)) syntax.And (expr first.value) (expr second.value)) }
 {
     let place = place_of(&first);
-    shared(alloc, Expr::Connect(place, Connective::And, first, second))
+    Ok(Rc::new(alloc, Expr::Connect(place, Connective::And, first, second))?)
 }
 
 /// Expressions joined in order to the left; none is `true` at this place.
@@ -75,7 +74,7 @@ pub fn conjoined(alloc: Global, place: Place, those: &[Rc<Expr>]) -> Result<Rc<E
     ensures { IfOk result (λ e. expr e.value ≡ syntax.conjoined place (expressions those.now)) }
 {
     match those {
-        [] => shared(alloc, Expr::Truth(place, true)),
+        [] => Ok(Rc::new(alloc, Expr::Truth(place, true))?),
         [first, rest @ ..] => {
             let mut all = first.clone()?;
             for e in rest {
@@ -94,7 +93,7 @@ pub fn as_assertion(alloc: Global, e: &Rc<Expr>) -> Result<Rc<Assertion>, AllocE
         Expr::Connect(_, Connective::And, a, b) => {
             let a = as_assertion(alloc, a)?;
             let b = as_assertion(alloc, b)?;
-            shared(alloc, Assertion::Both(a, b))
+            Ok(Rc::new(alloc, Assertion::Both(a, b))?)
         }
         Expr::Number(_, _)
         | Expr::Truth(_, _)
@@ -110,6 +109,6 @@ pub fn as_assertion(alloc: Global, e: &Rc<Expr>) -> Result<Rc<Assertion>, AllocE
         | Expr::Read(_, _, _)
         | Expr::Old(_, _)
         | Expr::Apply(_, _, _)
-        | Expr::Unfolding(_, _, _, _, _) => shared(alloc, Assertion::Pure(e.clone()?)),
+        | Expr::Unfolding(_, _, _, _, _) => Ok(Rc::new(alloc, Assertion::Pure(e.clone()?))?),
     }
 }

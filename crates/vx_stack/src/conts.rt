@@ -17,7 +17,6 @@ ghost use Rattle.vx_heap.specs.Views.{held_term};
 ghost use Rattle.vx_terms.specs.Views.{term};
 ghost use Rattle.vx_resolved.specs.Settled.{settled};
 
-use crate::sharing::shared;
 use crate::{Frame, Hole, Next, Query, Row, Side, Values};
 use std::alloc::{AllocError, Global};
 use std::rc::Rc;
@@ -112,7 +111,7 @@ fn branches(
 fn impossible(alloc: Global, state: &SymState) -> Result<Side, AllocError>
     ensures { (p : Program) → IfOk result (λ side. side_tree p side ≡ tree.Impossible (state_of state.now)) }
 {
-    let next = shared(alloc, Next::Impossible)?;
+    let next = Rc::new(alloc, Next::Impossible)?;
     let state = state.copy(alloc)?;
     Ok(Side {
         frame: Frame::Go(next),
@@ -172,7 +171,7 @@ impl Conts {
     ) -> Result<Move, AllocError>
         ensures { IfOk result (λ m. Stepped (settled program.now) (tree.Step (rule.eval (settled program.now) (rules (settled program.now)) (expr e.now.value) (state_of state) (giving (settled program.now) hole))) self.old.sides.items m self.new.sides.items) }
     {
-        let hole = shared(alloc, hole)?;
+        let hole = Rc::new(alloc, hole)?;
         self.go(program, Frame::Eval(e.clone()?, hole), state)
     }
 
@@ -187,7 +186,7 @@ impl Conts {
     ) -> Result<Move, AllocError>
         ensures { IfOk result (λ m. Stepped (settled program.now) (tree.Step (rule.evals (settled program.now) (rules (settled program.now)) (exprs es.now.value) (state_of state) (giving_all (settled program.now) row))) self.old.sides.items m self.new.sides.items) }
     {
-        let row = shared(alloc, row)?;
+        let row = Rc::new(alloc, row)?;
         self.next(alloc, program, Next::Evals(es.clone()?, row), state)
     }
 
@@ -227,7 +226,7 @@ impl Conts {
     ) -> Result<Move, AllocError>
         ensures { IfOk result (λ m. Stepped (settled program.now) (tree.Step (going (settled program.now) next (state_of state))) self.old.sides.items m self.new.sides.items) }
     {
-        let next = shared(alloc, next)?;
+        let next = Rc::new(alloc, next)?;
         self.go(program, Frame::Go(next), state)
     }
 
@@ -267,7 +266,7 @@ impl Conts {
         requires { query.probe ≡ false }
         ensures { (p : Program) → IfOk result (λ m. Stepped p (tree.Ask (question_of query) (tree.Impossible (state_of state))) self.old.sides.items m self.new.sides.items) }
     {
-        let impossible = shared(alloc, Next::Impossible)?;
+        let impossible = Rc::new(alloc, Next::Impossible)?;
         self.push(Frame::Go(impossible), state)?;
         Ok(Move::Check(query))
     }

@@ -7,7 +7,6 @@ mod frame;
 mod instances;
 mod question;
 mod search;
-mod sharing;
 mod waiting;
 
 pub use clauses::{as_assertion, conjoined, joined, place_of, precondition};

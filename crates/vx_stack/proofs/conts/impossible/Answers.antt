@@ -5,4 +5,4 @@ use Rattle.vx_stack.specs.Stack.{going}
 use Rattle.vx_stack.proofs.conts.impossible.Goals as goal
 
 pub returns : goal.returns
-returns c = λ p. ap (λ n. going p n (state c.in_ok-state.state)) c.in_ok-next.ensures ∙ ap Impossible c.in_ok-state.ensures
+returns c = λ p. ap (λ n. going p n (state c.in_ok-state.state)) c.in_ok-next.ensures.ok ∙ ap Impossible c.in_ok-state.ensures

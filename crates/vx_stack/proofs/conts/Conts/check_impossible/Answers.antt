@@ -6,4 +6,4 @@ use Rattle.vx_stack.proofs.Steps.{checked_ask}
 use Rattle.vx_stack.proofs.conts.Conts.check_impossible.Goals as goal
 
 pub returns : goal.returns
-returns c = λ p. checked_ask p c.args.query _ _ _ _ c.requires c.in_ok-push.ensures (ap (λ n. Ask (query c.args.query) (going p n (state c.args.state))) (sym c.in_ok-impossible.ensures))
+returns c = λ p. checked_ask p c.args.query _ _ _ _ c.requires c.in_ok-push.ensures (ap (λ n. Ask (query c.args.query) (going p n (state c.args.state))) (sym c.in_ok-impossible.ensures.ok))

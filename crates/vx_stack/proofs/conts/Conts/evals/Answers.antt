@@ -16,5 +16,5 @@ returns c =
     let es = c.in_ok-clone.field-0.value in
     stepped_as p _ _ _ _ _
     (ap (λ y. Step (evals p (rules p) (exprs y) s (giving_all p c.args.row))) (sym c.in_ok-clone.ensures.cases)
-    ∙ ap (λ y. Step (evals p (rules p) (exprs es) s (giving_all p y))) (sym c.in_ok-row.ensures))
+    ∙ ap (λ y. Step (evals p (rules p) (exprs es) s (giving_all p y))) (sym c.in_ok-row.ensures.ok))
     c.next.ensures
