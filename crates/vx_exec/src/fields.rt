@@ -14,11 +14,12 @@ ghost use Rattle.vx_states.specs.SymStates.{state as state_of};
 ghost use Rattle.vx_terms.specs.Build.{whole_amount};
 ghost use Rattle.vx_terms.specs.Sorts.{RefSort};
 
+use crate::waits::on_with;
 use std::alloc::{AllocError, Global};
 use std::rc::Rc;
 use vx_heap::{Chunk, Resource};
 use vx_resolved::Settled;
-use vx_stack::{Conts, Frame, Move, Next, field_sort};
+use vx_stack::{Conts, Move, Next, field_sort};
 use vx_states::SymState;
 use vx_terms::Term;
 
@@ -90,5 +91,5 @@ pub fn step_new(
     let reference = state.new_reference(alloc)?;
     put_fields(alloc, program, fields, &reference, &mut state)?;
     state.assign(x, reference);
-    conts.go(program, Frame::Go(next.clone()?), state)
+    on_with(program, next, state, conts)
 }

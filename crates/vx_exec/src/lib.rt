@@ -3,6 +3,7 @@
 
 mod fields;
 mod loops;
+mod made;
 mod statement;
 mod waits;
 

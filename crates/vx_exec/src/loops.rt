@@ -15,7 +15,9 @@ ghost use Rattle.vx_states.specs.SymStates.{state as state_of};
 ghost use Rattle.vx_terms.specs.Build.{negate, whole_amount};
 ghost use Rattle.vx_heap.specs.Views.{held_term};
 
+use crate::made::next_made;
 use crate::statement::step_inner;
+use crate::waits::{consumption, hole_of, on_with};
 use std::alloc::{AllocError, Global};
 use std::rc::Rc;
 use vx_ast::Place;
@@ -57,15 +59,13 @@ fn entry(
     ensures { IfOk result (λ n. going (settled program.now) n ≡ (λ s. consume (settled program.now) (rules (settled program.now)) (assertion it.now.value.invariant.value) (rule.codes EntryCode EntryCode) whole_amount s.heap s (executed_of (settled program.now) (Executed.Enter it.now kept) (going (settled program.now) next.now.value)))) }
 {
     let _program = program;
-    let enter = Executed::Enter(it.clone()?, kept);
-    let hole = Rc::new(alloc, Hole::Executed(enter, next.clone()?))?;
+    let hole = hole_of(Executed::Enter(it.clone()?, kept), next)?;
     let codes = Codes {
         pure: Code::Entry,
         permission: Code::Entry,
         builds: false,
     };
-    let whole = vx_heap::whole(alloc)?;
-    Ok(Next::Consume(it.invariant.clone()?, codes, whole, hole))
+    consumption(alloc, &it.invariant, codes, hole)
 }
 
 /// A loop begins: its invariant is taken.
@@ -83,8 +83,8 @@ pub fn step_while(
     ensures { IfOk result (λ m. Stepped (settled program.now) (rule.exec (settled program.now) (rules (settled program.now)) (While place (expr condition.now.value) (assertions invariants.now) (block_of body.now.value)) (state_of state) (going (settled program.now) next.now.value)) conts.old.sides.items m conts.new.sides.items) }
 {
     let it = loop_of(alloc, place, condition, invariants, body)?;
-    let enter = entry(alloc, program, &it, state.store.len(), next)?;
-    conts.next(alloc, program, enter, state)
+    let enter = entry(alloc, program, &it, state.store.len(), next);
+    next_made(alloc, program, enter, state, conts)
 }
 
 /// A loop's condition is evaluated.
@@ -98,7 +98,8 @@ fn evaluated(
     ensures { IfOk result (λ n. going (settled program.now) n.value ≡ (λ s. eval (settled program.now) (rules (settled program.now)) (expr it.now.condition.value) s (executed_of (settled program.now) after (going (settled program.now) next.now.value)))) }
 {
     let _program = program;
-    let hole = Rc::new(alloc, Hole::Executed(after, next.clone()?))?;
+    let given = hole_of(after, next)?;
+    let hole = Rc::new(alloc, given)?;
     Ok(Rc::new(alloc, Next::Eval(it.condition.clone()?, hole))?)
 }
 
@@ -118,6 +119,34 @@ fn from_invariant(
     Ok(Frame::Go(Rc::new(alloc, all)?))
 }
 
+/// The sides of a loop: an arbitrary iteration from the first state, and what is behind it.
+fn both_sides(
+    alloc: Global,
+    program: &Settled,
+    it: &Rc<Loop>,
+    kept: usize,
+    next: &Rc<Next>,
+    first: SymState,
+    second: SymState,
+    conts: &mut Conts,
+) -> Result<Move, AllocError>
+    ensures { IfOk result (λ m. Stepped (settled program.now) (tree.Fork (from_invariant_of (settled program.now) it.now.value (state_of first) (iterated (settled program.now) it.now.value kept)) (from_invariant_of (settled program.now) it.now.value (state_of second) (λ u s. tree.Step (going (settled program.now) next.now.value (with_branch (negate u) s))))) conts.old.sides.items m conts.new.sides.items) }
+{
+    let iterate = Executed::Iterate(it.clone()?, kept);
+    let left = from_invariant(alloc, program, it, iterate, next)?;
+    let right = from_invariant(alloc, program, it, Executed::Pass, next)?;
+    conts.both(program, left, first, right, second)
+}
+
+/// The same state with no chunks.
+fn without_chunks(alloc: Global, state: &SymState) -> Result<SymState, AllocError>
+    ensures { IfOk result (λ s. state_of s ≡ with_heap [] (state_of state.now)) }
+{
+    let mut copy = state.copy(alloc)?;
+    copy.clear_heap(alloc)?;
+    Ok(copy)
+}
+
 /// Both sides of a loop whose invariant was taken: an arbitrary iteration, with no chunks, and what is behind it.
 pub fn step_enter(
     alloc: Global,
@@ -130,14 +159,10 @@ pub fn step_enter(
 ) -> Result<Move, AllocError>
     ensures { IfOk result (λ m. Stepped (settled program.now) (tree.Fork (from_invariant_of (settled program.now) it.now.value (with_heap [] (forgotten (settled program.now) it.now.value (state_of state))) (iterated (settled program.now) it.now.value kept)) (from_invariant_of (settled program.now) it.now.value (forgotten (settled program.now) it.now.value (state_of state)) (λ u s. tree.Step (going (settled program.now) next.now.value (with_branch (negate u) s))))) conts.old.sides.items m conts.new.sides.items) }
 {
-    let iterate = Executed::Iterate(it.clone()?, kept);
-    let left = from_invariant(alloc, program, it, iterate, next)?;
-    let right = from_invariant(alloc, program, it, Executed::Pass, next)?;
     let mut state = state;
     state.forget_assigned(alloc, &it.body)?;
-    let mut first = state.copy(alloc)?;
-    first.clear_heap(alloc)?;
-    conts.both(program, left, first, right, state)
+    let first = without_chunks(alloc, &state)?;
+    both_sides(alloc, program, it, kept, next, first, state, conts)
 }
 
 /// An iteration's end, where the invariant is taken again.
@@ -145,14 +170,12 @@ fn kept_again(alloc: Global, program: &Settled, it: &Loop) -> Result<Rc<Next>, A
     ensures { IfOk result (λ n. going (settled program.now) n.value ≡ (λ s. consume (settled program.now) (rules (settled program.now)) (assertion it.now.invariant.value) (rule.codes KeptCode KeptCode) whole_amount s.heap s (λ t s1. tree.End))) }
 {
     let _program = program;
-    let hole = Rc::new(alloc, Hole::Finish)?;
     let codes = Codes {
         pure: Code::Kept,
         permission: Code::Kept,
         builds: false,
     };
-    let whole = vx_heap::whole(alloc)?;
-    let again = Next::Consume(it.invariant.clone()?, codes, whole, hole);
+    let again = consumption(alloc, &it.invariant, codes, Hole::Finish)?;
     Ok(Rc::new(alloc, again)?)
 }
 
@@ -188,5 +211,5 @@ pub fn step_pass(
     let negated = make::not(alloc, value)?;
     let mut state = state;
     state.add_branch(alloc, negated)?;
-    conts.go(program, Frame::Go(next.clone()?), state)
+    on_with(program, next, state, conts)
 }
