@@ -1,17 +1,13 @@
 -- What is put, by equal parts, and the rule Fork where the path says which side it is.
 use Rattle.std.proofs.Common.{◌≡◌, Bool, true, List, Option, Some, None, refl, ap, ◌∙◌}
 use Rattle.vx_ast.specs.declared.Place.{Place}
-use Rattle.vx_ast.specs.Syntax.{Name, Program, Assertion, Expr, Predicate, predicate_named}
+use Rattle.vx_ast.specs.Syntax.{Name, Program, Assertion, Predicate, predicate_named}
 use Rattle.vx_terms.specs.Terms.{Term}
 use Rattle.vx_rules.specs.States.{State, bind, is_known}
 use Rattle.vx_rules.specs.Trees.{Tree, UnfoldCode, Step}
-use Rattle.vx_rules.specs.Rules.{Giving, GivingAll, Going, back, entered, eval, fork, never}
+use Rattle.vx_rules.specs.Rules.{Going, back, entered, fork, never}
 use Rattle.vx_rules.specs.Members.{rules}
-use Rattle.vx_heap.specs.Views.{held_term}
-use Rattle.vx_states.specs.SymStates.{optional_term}
-use Rattle.vx_stack.specs.declared.waiting.Production.{Production}
-use Rattle.vx_stack.specs.Stack.{exchanged, putting, putting_instance, with_held, with_location}
-use Rattle.vx_terms.specs.Build.{multiply}
+use Rattle.vx_stack.specs.Stack.{exchanged, with_held, with_location}
 
 pub fork_left : (c : Term) (s : State) (left right : Going) → is_known c s ≡ true → fork c s left right ≡ Step (left s)
 fork_left c s left right e = rw e refl
@@ -29,23 +25,6 @@ holds p f g ts us a b snapshot inner on e h i =
     ap {B = Going} (λ (y : Name) s. Step (on (with_held p y ts a snapshot inner s))) e
     ∙ ap {B = Going} (λ (y : List Term) s. Step (on (with_held p g y a snapshot inner s))) h
     ∙ ap {B = Going} (λ (y : Term) s. Step (on (with_held p g us y snapshot inner s))) i
-
--- a share is evaluated, and then an amount is put
-abbrev sharing : Program → Place → Bool → Name → Expr → Production → Going → Giving
-sharing p at inside f e x on r s = eval p (rules p) e s (λ a z. putting p at f r (multiply (held_term x.scale) a) (optional_term x.snapshot) inside z on)
-
-pub shares : (p : Program) (at : Place) (inside : Bool) (f g : Name) (d e : Expr) (x y : Production) (k on : Going) → f ≡ g → d ≡ e → x ≡ y → k ≡ on →
-    ◌≡◌ {A = Giving} (sharing p at inside f d x k) (sharing p at inside g e y on)
-shares p at inside f g d e x y k on h i j l =
-    ap (λ z. sharing p at inside z d x k) h ∙ ap (λ z. sharing p at inside g z x k) i ∙ ap (λ z. sharing p at inside g e z k) j ∙ ap (sharing p at inside g e y) l
-
-abbrev sharing_held : Program → Place → Bool → Name → Expr → Production → Going → GivingAll
-sharing_held p at inside f e x on ts s = eval p (rules p) e s (λ a z. putting_instance p at f ts (multiply (held_term x.scale) a) (optional_term x.snapshot) inside z on)
-
-pub shares_held : (p : Program) (at : Place) (inside : Bool) (f g : Name) (d e : Expr) (x y : Production) (k on : Going) → f ≡ g → d ≡ e → x ≡ y → k ≡ on →
-    ◌≡◌ {A = GivingAll} (sharing_held p at inside f d x k) (sharing_held p at inside g e y on)
-shares_held p at inside f g d e x y k on h i j l =
-    ap (λ z. sharing_held p at inside z d x k) h ∙ ap (λ z. sharing_held p at inside g z x k) i ∙ ap (λ z. sharing_held p at inside g e z k) j ∙ ap (sharing_held p at inside g e y) l
 
 -- an exchange by what its name stands for
 abbrev exchange_by : Program → Place → List Term → (a t : Term) → Bool → State → Going → Predicate → Option Assertion → Tree

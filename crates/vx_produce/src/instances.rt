@@ -15,12 +15,13 @@ ghost use Rattle.vx_stack.specs.Values.{values};
 ghost use Rattle.vx_states.specs.SymStates.{optional_term, state as state_of};
 ghost use Rattle.vx_terms.specs.Build.{multiply};
 
-use crate::locations::{ask_amount, scaled};
+use crate::locations::scaled;
 use crate::step;
 use crate::waits::on_with;
 use std::alloc::{AllocError, Global};
 use std::rc::Rc;
 use vx_ast::Place;
+use vx_heap::not_negative;
 use vx_resolved::{Assertion, Predicate, Settled};
 use vx_rules::Code;
 use vx_stack::{Conts, Frame, Instance, Move, Next, Production, Values, chunk_of};
@@ -44,29 +45,6 @@ fn put_frame(
     Ok(Frame::Go(Rc::new(alloc, put)?))
 }
 
-/// On with this amount of an instance.
-fn put_amount(
-    alloc: Global,
-    program: &Settled,
-    amount: &Rc<Term>,
-    place: Place,
-    predicate: &Rc<String>,
-    arguments: &Rc<Values>,
-    x: &Rc<Production>,
-    is_inner: bool,
-    next: &Rc<Next>,
-) -> Result<Frame, AllocError>
-    ensures { IfOk result (λ f. frame_tree (settled program.now) f ≡ (λ s. tree.Step (going (settled program.now) next.now.value (with_held (settled program.now) (string_bytes predicate.now.value) (values arguments.now.value) (held_term amount.now) (optional_term x.now.value.snapshot) is_inner s)))) }
-{
-    let instance = Instance {
-        place,
-        predicate: predicate.clone()?,
-        arguments: arguments.clone()?,
-        amount: amount.clone()?,
-    };
-    put_frame(alloc, program, instance, x, is_inner, next)
-}
-
 /// An instance's share, by the scale: it may not be negative, and then it is put.
 pub fn step_held(
     alloc: Global,
@@ -84,10 +62,16 @@ pub fn step_held(
     ensures { IfOk result (λ m. Stepped (settled program.now) (putting_instance (settled program.now) place (string_bytes predicate.now.value) (values arguments.now.value) (multiply (held_term x.now.value.scale) (held_term share.now)) (optional_term x.now.value.snapshot) is_inner (state_of state) (going (settled program.now) next.now.value)) conts.old.sides.items m conts.new.sides.items) }
 {
     let amount = scaled(alloc, x, share)?;
-    let put = put_amount(
-        alloc, program, &amount, place, predicate, arguments, x, is_inner, next,
-    )?;
-    ask_amount(alloc, program, &amount, place, put, state, conts)
+    let allowed = not_negative(alloc, &amount)?;
+    let instance = Instance {
+        place,
+        predicate: predicate.clone()?,
+        arguments: arguments.clone()?,
+        amount,
+    };
+    let put = put_frame(alloc, program, instance, x, is_inner, next)?;
+    let at = state.placed(place);
+    conts.ask(alloc, program, allowed, at, Code::Amount, state, put)
 }
 
 /// An instance's amount is put, with a snapshot that is new or the name of the one that is given.

@@ -23,8 +23,7 @@ use crate::instances::step_held;
 use crate::locations::step_amount;
 use crate::sides::{step_chosen, step_implied};
 use crate::waits::{
-    eval_for, evals_for, hole_of_chosen, hole_of_fact, hole_of_implied, hole_of_share, on_with,
-    row_of_instance,
+    hole_of_chosen, hole_of_fact, hole_of_implied, hole_of_share, on_with, row_of_instance,
 };
 pub use instances::{step_body, step_put_instance};
 pub use locations::step_put;
@@ -55,21 +54,6 @@ fn of_right(alloc: Global, x: &Production) -> Result<Rc<Production>, AllocError>
     Ok(Rc::new(alloc, Production { scale, snapshot })?)
 }
 
-/// The right part, behind the left one.
-fn right_behind(
-    alloc: Global,
-    program: &Settled,
-    right: &Rc<Assertion>,
-    x: &Production,
-    next: &Rc<Next>,
-) -> Result<Rc<Next>, AllocError>
-    ensures { IfOk result (λ n. going (settled program.now) n.value ≡ (λ s. rule.produce (settled program.now) (rules (settled program.now)) (assertion right.now.value) (held_term x.now.scale) (rule.right_part (optional_term x.now.snapshot)) s (going (settled program.now) next.now.value))) }
-{
-    let _program = program;
-    let x = of_right(alloc, x)?;
-    Ok(Rc::new(alloc, Next::Produce(right.clone()?, x, next.clone()?))?)
-}
-
 /// A left part, and then the right one.
 fn parts(
     alloc: Global,
@@ -81,7 +65,9 @@ fn parts(
 ) -> Result<Next, AllocError>
     ensures { IfOk result (λ n. going (settled program.now) n ≡ (λ s. rule.produce (settled program.now) (rules (settled program.now)) (assertion left.now.value) (held_term x.now.scale) (rule.left_part (optional_term x.now.snapshot)) s (λ s1. rule.produce (settled program.now) (rules (settled program.now)) (assertion right.now.value) (held_term x.now.scale) (rule.right_part (optional_term x.now.snapshot)) s1 (going (settled program.now) next.now.value)))) }
 {
-    let rest = right_behind(alloc, program, right, x, next)?;
+    let _program = program;
+    let later = of_right(alloc, x)?;
+    let rest = Rc::new(alloc, Next::Produce(right.clone()?, later, next.clone()?))?;
     let first = of_left(alloc, x)?;
     Ok(Next::Produce(left.clone()?, first, rest))
 }
@@ -119,27 +105,27 @@ pub fn step(
 {
     match a {
         Assertion::Pure(e) => {
-            let hole = hole_of_fact(x, next);
-            eval_for(alloc, program, e, hole, state, conts)
+            let hole = hole_of_fact(x, next)?;
+            conts.eval(alloc, program, e, hole, state)
         }
         Assertion::Points(place, e, field, share) => {
-            let hole = hole_of_share(*place, field, share, x, state.is_inner, next);
-            eval_for(alloc, program, e, hole, state, conts)
+            let hole = hole_of_share(*place, field, share, x, state.is_inner, next)?;
+            conts.eval(alloc, program, e, hole, state)
         }
         Assertion::Instance(place, predicate, arguments, share) => {
-            let row = row_of_instance(*place, predicate, share, x, state.is_inner, next);
-            evals_for(alloc, program, arguments, row, state, conts)
+            let row = row_of_instance(*place, predicate, share, x, state.is_inner, next)?;
+            conts.evals(alloc, program, arguments, row, state)
         }
         Assertion::Both(left, right) => {
             step_both(alloc, program, left, right, x, next, state, conts)
         }
         Assertion::Implied(e, right) => {
-            let hole = hole_of_implied(right, x, next);
-            eval_for(alloc, program, e, hole, state, conts)
+            let hole = hole_of_implied(right, x, next)?;
+            conts.eval(alloc, program, e, hole, state)
         }
         Assertion::Chosen(e, first, second) => {
-            let hole = hole_of_chosen(first, second, x, next);
-            eval_for(alloc, program, e, hole, state, conts)
+            let hole = hole_of_chosen(first, second, x, next)?;
+            conts.eval(alloc, program, e, hole, state)
         }
     }
 }

@@ -4,11 +4,10 @@ ghost use Rattle.std.specs.Prelude.{◌≡◌, IfOk, string_bytes};
 ghost use Rattle.vx_heap.specs.Views.{chunk as chunk_view, held_term};
 ghost use Rattle.vx_resolved.specs.Settled.{settled};
 ghost use Rattle.vx_rules.specs.Chunks.{field_key};
-ghost use Rattle.vx_rules.specs.Rules as rule;
 ghost use Rattle.vx_rules.specs.Trees as tree;
 ghost use Rattle.vx_stack.specs.Stack.{frame_tree, going, putting, Stepped, with_location};
 ghost use Rattle.vx_states.specs.SymStates.{optional_term, state as state_of};
-ghost use Rattle.vx_terms.specs.Build.{less_equal, multiply, zero_amount};
+ghost use Rattle.vx_terms.specs.Build.{multiply};
 
 use crate::waits::on_with;
 use std::alloc::{AllocError, Global};
@@ -45,46 +44,6 @@ fn put_frame(
     Ok(Frame::Go(Rc::new(alloc, put)?))
 }
 
-/// On with this amount of a location.
-fn put_location(
-    alloc: Global,
-    program: &Settled,
-    amount: &Rc<Term>,
-    place: Place,
-    field: &Rc<String>,
-    receiver: &Rc<Term>,
-    x: &Rc<Production>,
-    is_inner: bool,
-    next: &Rc<Next>,
-) -> Result<Frame, AllocError>
-    ensures { IfOk result (λ f. frame_tree (settled program.now) f ≡ (λ s. tree.Step (going (settled program.now) next.now.value (with_location (settled program.now) (string_bytes field.now.value) (held_term receiver.now) (held_term amount.now) (optional_term x.now.value.snapshot) is_inner s)))) }
-{
-    let location = Location {
-        place,
-        field: field.clone()?,
-        receiver: receiver.clone()?,
-        amount: amount.clone()?,
-    };
-    put_frame(alloc, program, location, x, is_inner, next)
-}
-
-/// An amount may not be negative, and then it is put.
-pub fn ask_amount(
-    alloc: Global,
-    program: &Settled,
-    amount: &Rc<Term>,
-    place: Place,
-    put: Frame,
-    state: SymState,
-    conts: &mut Conts,
-) -> Result<Move, AllocError>
-    ensures { IfOk result (λ m. Stepped (settled program.now) (rule.ask (less_equal zero_amount (held_term amount.now)) (rule.placed (state_of state) place) tree.AmountCode (state_of state) (frame_tree (settled program.now) put)) conts.old.sides.items m conts.new.sides.items) }
-{
-    let allowed = not_negative(alloc, amount)?;
-    let at = state.placed(place);
-    conts.ask(alloc, program, allowed, at, Code::Amount, state, put)
-}
-
 /// A location's share, by the scale: it may not be negative, and then it is put.
 pub fn step_amount(
     alloc: Global,
@@ -102,10 +61,16 @@ pub fn step_amount(
     ensures { IfOk result (λ m. Stepped (settled program.now) (putting (settled program.now) place (string_bytes field.now.value) (held_term receiver.now) (multiply (held_term x.now.value.scale) (held_term share.now)) (optional_term x.now.value.snapshot) is_inner (state_of state) (going (settled program.now) next.now.value)) conts.old.sides.items m conts.new.sides.items) }
 {
     let amount = scaled(alloc, x, share)?;
-    let put = put_location(
-        alloc, program, &amount, place, field, receiver, x, is_inner, next,
-    )?;
-    ask_amount(alloc, program, &amount, place, put, state, conts)
+    let allowed = not_negative(alloc, &amount)?;
+    let location = Location {
+        place,
+        field: field.clone()?,
+        receiver: receiver.clone()?,
+        amount,
+    };
+    let put = put_frame(alloc, program, location, x, is_inner, next)?;
+    let at = state.placed(place);
+    conts.ask(alloc, program, allowed, at, Code::Amount, state, put)
 }
 
 /// The chunk of a location with this value.

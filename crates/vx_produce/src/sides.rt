@@ -73,24 +73,6 @@ fn passed(
     Ok(state)
 }
 
-/// On with a side, and behind `==>` where its condition doesn't hold.
-fn go_apart(
-    alloc: Global,
-    program: &Settled,
-    left: Frame,
-    first: SymState,
-    negated: Rc<Term>,
-    x: &Production,
-    next: &Rc<Next>,
-    state: SymState,
-    conts: &mut Conts,
-) -> Result<Move, AllocError>
-    ensures { IfOk result (λ m. Stepped (settled program.now) (tree.Fork (frame_tree (settled program.now) left (state_of first)) (going (settled program.now) next.now.value (rule.with_unit (optional_term x.now.snapshot) (with_branch (held_term negated) (state_of state))))) conts.old.sides.items m conts.new.sides.items) }
-{
-    let second = passed(alloc, negated, x, state)?;
-    conts.both(program, left, first, Frame::Go(next.clone()?), second)
-}
-
 /// Both sides of `==>`.
 fn go_both(
     alloc: Global,
@@ -106,7 +88,8 @@ fn go_both(
     ensures { IfOk result (λ m. Stepped (settled program.now) (tree.Fork (frame_tree (settled program.now) left (with_branch (held_term condition) (state_of state))) (going (settled program.now) next.now.value (rule.with_unit (optional_term x.now.snapshot) (with_branch (held_term negated) (state_of state))))) conts.old.sides.items m conts.new.sides.items) }
 {
     let first = looked_at(alloc, condition, &state)?;
-    go_apart(alloc, program, left, first, negated, x, next, state, conts)
+    let second = passed(alloc, negated, x, state)?;
+    conts.both(program, left, first, Frame::Go(next.clone()?), second)
 }
 
 /// The sides of `==>`.

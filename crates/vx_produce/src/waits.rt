@@ -2,20 +2,17 @@
 
 ghost use Rattle.std.specs.Prelude.{◌≡◌, IfOk};
 ghost use Rattle.vx_ast.specs.Syntax.{Program};
-ghost use Rattle.vx_resolved.specs.Resolved.{expr, exprs};
 ghost use Rattle.vx_resolved.specs.Settled.{settled};
-ghost use Rattle.vx_rules.specs.Members.{rules};
-ghost use Rattle.vx_rules.specs.Rules as rule;
 ghost use Rattle.vx_rules.specs.Trees as tree;
 ghost use Rattle.vx_stack.specs.Stack.{giving, giving_all, going, produced as produced_of, Stepped};
 ghost use Rattle.vx_stack.specs.declared.frame.Row.TheVariants as rows;
 ghost use Rattle.vx_stack.specs.declared.waiting.Produced.TheVariants as waits;
 ghost use Rattle.vx_states.specs.SymStates.{state as state_of};
 
-use std::alloc::{AllocError, Global};
+use std::alloc::AllocError;
 use std::rc::Rc;
 use vx_ast::Place;
-use vx_resolved::{Assertion, Expr, Exprs, Settled};
+use vx_resolved::{Assertion, Expr, Settled};
 use vx_stack::{Conts, Frame, Hole, Move, Next, Produced, Production, Row};
 use vx_states::{SymState, copy_optional};
 
@@ -31,46 +28,12 @@ pub(crate) fn on_with(
     conts.go(program, Frame::Go(next.clone()?), state)
 }
 
-/// On with an expression, where there was the memory to make what waits for its value.
-pub(crate) fn eval_for(
-    alloc: Global,
-    program: &Settled,
-    e: &Rc<Expr>,
-    made: Result<Hole, AllocError>,
-    state: SymState,
-    conts: &mut Conts,
-) -> Result<Move, AllocError>
-    ensures { (on : rule.Giving) → IfOk made (λ hole. giving (settled program.now) hole ≡ on) → IfOk result (λ m. Stepped (settled program.now) (tree.Step (rule.eval (settled program.now) (rules (settled program.now)) (expr e.now.value) (state_of state) on)) conts.old.sides.items m conts.new.sides.items) }
-{
-    match made {
-        Ok(hole) => conts.eval(alloc, program, e, hole, state),
-        Err(e) => Err(e),
-    }
-}
-
-/// On with the values of expressions, where there was the memory to make what waits for them.
-pub(crate) fn evals_for(
-    alloc: Global,
-    program: &Settled,
-    es: &Rc<Exprs>,
-    made: Result<Row, AllocError>,
-    state: SymState,
-    conts: &mut Conts,
-) -> Result<Move, AllocError>
-    ensures { (on : rule.GivingAll) → IfOk made (λ row. giving_all (settled program.now) row ≡ on) → IfOk result (λ m. Stepped (settled program.now) (tree.Step (rule.evals (settled program.now) (rules (settled program.now)) (exprs es.now.value) (state_of state) on)) conts.old.sides.items m conts.new.sides.items) }
-{
-    match made {
-        Ok(row) => conts.evals(alloc, program, es, row, state),
-        Err(e) => Err(e),
-    }
-}
-
 /// A pure part.
 pub(crate) fn hole_of_fact(x: &Production, next: &Rc<Next>) -> Result<Hole, AllocError>
     ensures { (p : Program) → IfOk result (λ hole. giving p hole ≡ produced_of p (waits.Fact x.now.snapshot) (going p next.now.value)) }
 {
-    let next = next.clone()?;
-    Ok(Hole::Produced(Produced::Fact(copy_optional(&x.snapshot)?), next))
+    let waits = Produced::Fact(copy_optional(&x.snapshot)?);
+    Ok(Hole::Produced(waits, next.clone()?))
 }
 
 /// A location's receiver, before its share.
@@ -84,9 +47,8 @@ pub(crate) fn hole_of_share(
 ) -> Result<Hole, AllocError>
     ensures { (p : Program) → IfOk result (λ hole. giving p hole ≡ produced_of p (waits.Share place field.now share.now x.now is_inner) (going p next.now.value)) }
 {
-    let next = next.clone()?;
     let waits = Produced::Share(place, field.clone()?, share.clone()?, x.clone()?, is_inner);
-    Ok(Hole::Produced(waits, next))
+    Ok(Hole::Produced(waits, next.clone()?))
 }
 
 /// An instance's arguments, before its share.
@@ -118,8 +80,8 @@ pub(crate) fn hole_of_implied(
 ) -> Result<Hole, AllocError>
     ensures { (p : Program) → IfOk result (λ hole. giving p hole ≡ produced_of p (waits.Implied right.now x.now) (going p next.now.value)) }
 {
-    let next = next.clone()?;
-    Ok(Hole::Produced(Produced::Implied(right.clone()?, x.clone()?), next))
+    let waits = Produced::Implied(right.clone()?, x.clone()?);
+    Ok(Hole::Produced(waits, next.clone()?))
 }
 
 /// The condition of `?:`.
@@ -131,7 +93,6 @@ pub(crate) fn hole_of_chosen(
 ) -> Result<Hole, AllocError>
     ensures { (p : Program) → IfOk result (λ hole. giving p hole ≡ produced_of p (waits.Chosen first.now second.now x.now) (going p next.now.value)) }
 {
-    let next = next.clone()?;
     let waits = Produced::Chosen(first.clone()?, second.clone()?, x.clone()?);
-    Ok(Hole::Produced(waits, next))
+    Ok(Hole::Produced(waits, next.clone()?))
 }

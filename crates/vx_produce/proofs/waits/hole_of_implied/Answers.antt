@@ -6,5 +6,5 @@ use Rattle.vx_produce.proofs.waits.hole_of_implied.Goals as goal
 
 pub returns : goal.returns
 returns c = λ p i t s.
-    let e : giving p (holes.Produced (waits.Implied c.in_ok-clone.field-0 c.in_ok-clone-2.field-0) c.in_ok-next.next) t s ≡ produced p (waits.Implied c.args.right.now c.args.x.now) (going p c.args.next.now.value) t s = rw (c.in_ok-clone.ensures.cases, c.in_ok-clone-2.ensures.cases, c.in_ok-next.ensures.cases) refl in
+    let e : giving p (holes.Produced (waits.Implied c.in_ok-clone.field-0 c.in_ok-clone-2.field-0) c.in_ok-clone-3.field-0) t s ≡ produced p (waits.Implied c.args.right.now c.args.x.now) (going p c.args.next.now.value) t s = rw (c.in_ok-clone.ensures.cases, c.in_ok-clone-2.ensures.cases, c.in_ok-clone-3.ensures.cases) refl in
     e i
