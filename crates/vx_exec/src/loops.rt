@@ -17,7 +17,7 @@ ghost use Rattle.vx_heap.specs.Views.{held_term};
 
 use crate::made::next_made;
 use crate::statement::step_inner;
-use crate::waits::{consumption, hole_of, on_with};
+use crate::waits::{consuming_all, hole_of, on_with};
 use std::alloc::{AllocError, Global};
 use std::rc::Rc;
 use vx_ast::Place;
@@ -65,7 +65,7 @@ fn entry(
         permission: Code::Entry,
         builds: false,
     };
-    consumption(alloc, &it.invariant, codes, hole)
+    consuming_all(alloc, &it.invariant, codes, hole)
 }
 
 /// A loop begins: its invariant is taken.
@@ -175,7 +175,7 @@ fn kept_again(alloc: Global, program: &Settled, it: &Loop) -> Result<Rc<Next>, A
         permission: Code::Kept,
         builds: false,
     };
-    let again = consumption(alloc, &it.invariant, codes, Hole::Finish)?;
+    let again = consuming_all(alloc, &it.invariant, codes, Hole::Finish)?;
     Ok(Rc::new(alloc, again)?)
 }
 

@@ -20,8 +20,8 @@ use crate::fields::step_new;
 use crate::loops::{step_enter, step_iterate, step_pass, step_while};
 use crate::made::{eval_made, evals_made, fork_made, next_made};
 use crate::waits::{
-    consumption, hole_of, hole_of_assign, hole_of_fold, hole_of_if, hole_of_second, hole_of_unfold,
-    hole_of_write, inhaling, on_with, row_of_call,
+    consuming_all, hole_of, hole_of_assign, hole_of_fold, hole_of_if, hole_of_second,
+    hole_of_unfold, hole_of_write, inhaling, on_with, row_of_call,
 };
 use std::alloc::{AllocError, Global};
 use std::rc::Rc;
@@ -50,7 +50,7 @@ fn consuming(
         builds: false,
     };
     let hole = hole_of(after, next)?;
-    consumption(alloc, a, codes, hole)
+    consuming_all(alloc, a, codes, hole)
 }
 
 /// Consuming what is asserted, before its chunks are put back.

@@ -126,7 +126,7 @@ pub(crate) fn row_of_call(
 }
 
 /// Consuming an assertion, all of what it permits.
-pub(crate) fn consumption(
+pub(crate) fn consuming_all(
     alloc: Global,
     a: &Rc<Assertion>,
     codes: Codes,

@@ -1,25 +1,22 @@
 //! Reading expressions.
 
-ghost use Rattle.std.specs.Prelude.{◌≡◌, ◌≤◌, ◌<◌, ◌-◌, IfOk, Ok, ◌∷◌, [], length};
+ghost use Rattle.std.specs.Prelude.{◌≡◌, ◌≤◌, ◌<◌, ◌-◌, IfOk, ◌∷◌, [], length};
 ghost use Rattle.vx_tokens.specs.Tokens.{kind_of, token_of, tokens_in};
-ghost use Rattle.vx_grammar.specs.Grammar.{level_of, operator_of};
 ghost use Rattle.vx_ast.specs.Written.{placed, written_all, written_expr, written_optional};
 ghost use Rattle.vx_grammar.specs.Reading as reading;
 ghost use Rattle.vx_expr_parser.specs.Gives.{Gives};
 ghost use Rattle.vx_expr_parser.specs.Parts.{behind_operator, prefixed_by};
-ghost use Rattle.vx_grammar.specs.Laws.{no_rest, whole, SpelledWithin};
-ghost use Rattle.vx_expr_parser.specs.Says.{SaysOf};
-ghost use Rattle.vx_ast.specs.Written.{Expr as Tree};
 ghost use Rattle.vx_expr_parser.specs.Views.{exprs_of, access_of, instance_of};
 
-use crate::made::{accessed, applied, chosen, joined, old, prefixed, read, unfolded, variable};
+use crate::dots::dots;
+use crate::made::{accessed, applied, chosen, joined, leaf, old, prefixed, unfolded, variable};
 use crate::names::name;
+use crate::operators::{level_of, operator_of};
 use crate::reading::{Read, closed, expect, is_symbol, same};
 use crate::stop::Stop;
 use std::alloc::{AllocError, Global};
 use std::rc::Rc;
 use vx_ast::{BinaryOperator, Expr, ExprKind, Instance, Name, Place, UnaryOperator};
-use vx_grammar::{answers_are_right, spelled_is_read};
 use vx_tokens::{Kind, Symbol, Token, Word};
 
 /// What `acc` holds, and how much of it.
@@ -27,82 +24,6 @@ use vx_tokens::{Kind, Symbol, Token, Word};
 struct Access {
     held: Expr,
     amount: Option<Rc<Expr>>,
-}
-
-fn operator_of(kind: Kind) -> Option<BinaryOperator>
-    ensures { result ≡ operator_of (kind_of kind.entry) }
-{
-    match kind {
-        Kind::Symbol(Symbol::Implies) => Some(BinaryOperator::Implies),
-        Kind::Symbol(Symbol::Or) => Some(BinaryOperator::Or),
-        Kind::Symbol(Symbol::And) => Some(BinaryOperator::And),
-        Kind::Symbol(Symbol::Equal) => Some(BinaryOperator::Equal),
-        Kind::Symbol(Symbol::NotEqual) => Some(BinaryOperator::NotEqual),
-        Kind::Symbol(Symbol::Less) => Some(BinaryOperator::Less),
-        Kind::Symbol(Symbol::LessEqual) => Some(BinaryOperator::LessEqual),
-        Kind::Symbol(Symbol::Greater) => Some(BinaryOperator::Greater),
-        Kind::Symbol(Symbol::GreaterEqual) => Some(BinaryOperator::GreaterEqual),
-        Kind::Symbol(Symbol::Plus) => Some(BinaryOperator::Add),
-        Kind::Symbol(Symbol::Minus) => Some(BinaryOperator::Subtract),
-        Kind::Symbol(Symbol::Times) => Some(BinaryOperator::Multiply),
-        Kind::Symbol(Symbol::Slash) => Some(BinaryOperator::Divide),
-        Kind::Symbol(Symbol::Backslash) => Some(BinaryOperator::Quotient),
-        Kind::Symbol(Symbol::Percent) => Some(BinaryOperator::Remainder),
-        _ => None,
-    }
-}
-
-fn level_of(op: BinaryOperator) -> u32
-    ensures { result ≡ level_of op }
-{
-    match op {
-        BinaryOperator::Multiply
-        | BinaryOperator::Divide
-        | BinaryOperator::Quotient
-        | BinaryOperator::Remainder => 1,
-        BinaryOperator::Add | BinaryOperator::Subtract => 2,
-        BinaryOperator::Less
-        | BinaryOperator::LessEqual
-        | BinaryOperator::Greater
-        | BinaryOperator::GreaterEqual => 3,
-        BinaryOperator::Equal | BinaryOperator::NotEqual => 4,
-        BinaryOperator::And => 5,
-        BinaryOperator::Or => 6,
-        BinaryOperator::Implies => 7,
-    }
-}
-
-// The expression that all of the tokens spell.
-#[tactic(auto, unfolding(vx_grammar::specs::Laws::whole))]
-fn whole<'t>(alloc: Global, tokens: &'t [Token<'t>]) -> Result<Expr, Stop<'t>>
-    ensures { Gives written_expr result (whole 200 (tokens_in tokens.now)) }
-{
-    let (e, rest) = choice(alloc, 200, tokens)?;
-    ended(e, rest)
-}
-
-// An expression that no token may follow.
-fn ended<'t>(e: Expr, rest: &'t [Token<'t>]) -> Result<Expr, Stop<'t>>
-    ensures { Gives written_expr result (no_rest (written_expr e) (tokens_in rest.now)) }
-{
-    if rest.is_empty() {
-        return Ok(e);
-    }
-    drop(e);
-    Err(Stop::Unexpected(rest))
-}
-
-/// The expression that all of the tokens spell.
-pub fn expression<'t>(alloc: Global, tokens: &'t [Token<'t>]) -> Result<Expr, Stop<'t>>
-    // What is read is spelled so, within the limit; and where reading stops, the first token that does not fit stands,
-    // or nests too deep.
-    ensures says { SaysOf 200 (tokens_in tokens.now) result }
-    // What is spelled within the limit is read, unless memory runs out.
-    ensures only { (e : Tree) → SpelledWithin 200 (tokens_in tokens.now) e → Gives written_expr result (Ok e) }
-{
-    answers_are_right();
-    spelled_is_read();
-    whole(alloc, tokens)
 }
 
 /// An expression that may nest room deeper.
@@ -413,12 +334,6 @@ fn permission<'t>(
     ))
 }
 
-fn leaf(place: Place, kind: ExprKind) -> Expr
-    ensures { result.place ≡ place × (result.kind ≡ kind) }
-{
-    Expr { place, kind }
-}
-
 // A variable, or an application.
 #[cycle(expr)]
 #[tactic(auto, unfolding(vx_grammar::specs::Reading::named_by))]
@@ -454,63 +369,6 @@ fn call<'t>(
     let (arguments, rest) = enclosed_arguments(alloc, room, tokens)?;
     let name = String::from_str(alloc, name)?;
     Ok((applied(first.place, name, arguments), rest))
-}
-
-// Dots, each with a field's name.
-#[cycle(dots)]
-#[tactic(auto, unfolding(vx_grammar::specs::Reading::dots_at))]
-fn dots<'t>(
-    alloc: Global,
-    room: u32,
-    place: Place,
-    left: Expr,
-    tokens: &'t [Token<'t>],
-) -> Read<'t, Expr>
-    requires { room < 1000 }
-    ensures { Gives (λ x. (written_expr x.0, tokens_in x.1.now)) result (reading.dots_at (reading.below room) place (written_expr left) (tokens_in tokens.now)) }
-{
-    match tokens.split_first() {
-        Some((dot, inner)) if is_symbol(Symbol::Dot, dot.kind) => {
-            nested_dot(alloc, room, place, left, tokens, inner)
-        }
-        _ => Ok((left, tokens)),
-    }
-}
-
-// A field's name behind a dot, which nests it, and further dots.
-#[cycle(dots)]
-fn nested_dot<'t>(
-    alloc: Global,
-    room: u32,
-    place: Place,
-    left: Expr,
-    here: &'t [Token<'t>],
-    tokens: &'t [Token<'t>],
-) -> Read<'t, Expr>
-    requires { room < 1000 }
-    ensures { Gives (λ x. (written_expr x.0, tokens_in x.1.now)) result (reading.below room (reading.behind_dot place (written_expr left)) (tokens_in here.now) (tokens_in tokens.now)) }
-{
-    let left = Rc::new(alloc, left)?;
-    match room.checked_sub(1) {
-        Some(less) => dotted(alloc, less, place, left, tokens),
-        None => Err(Stop::TooDeep(here)),
-    }
-}
-
-#[cycle(dots)]
-#[tactic(auto, unfolding(vx_grammar::specs::Reading::dotted_at))]
-fn dotted<'t>(
-    alloc: Global,
-    room: u32,
-    place: Place,
-    left: Rc<Expr>,
-    tokens: &'t [Token<'t>],
-) -> Read<'t, Expr>
-    requires { room < 1000 }
-    ensures { Gives (λ x. (written_expr x.0, tokens_in x.1.now)) result (reading.dotted_at (reading.below room) place (written_expr left.value) (tokens_in tokens.now)) }
-{
-    let (field, rest) = name(alloc, tokens)?;
-    dots(alloc, room, place, read(place, left, field), rest)
 }
 
 /// An expression between parentheses.

@@ -9,6 +9,13 @@ use std::alloc::{AllocError, Global};
 use std::rc::Rc;
 use vx_ast::{BinaryOperator, Expr, ExprKind, Instance, Name, Place, UnaryOperator};
 
+/// A node without parts.
+pub fn leaf(place: Place, kind: ExprKind) -> Expr
+    ensures { result.place ≡ place × (result.kind ≡ kind) }
+{
+    Expr { place, kind }
+}
+
 /// An operand behind a prefix.
 pub fn prefixed(alloc: Global, place: Place, op: UnaryOperator, e: Expr) -> Result<Expr, AllocError>
     ensures { IfOk result (λ whole. written_expr whole ≡ Unary place op (written_expr e)) }

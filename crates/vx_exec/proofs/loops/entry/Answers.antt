@@ -20,4 +20,4 @@ returns c =
     c.in_ok-hole.ensures p ∙ ap {B = Giving} (λ (x : Loop). entered p x c.args.kept on) c.in_ok-clone.ensures.cases in
     goes_as p _ _ _
     (consumes p _ _ (codes EntryCode EntryCode) whole_amount whole_amount _ (entered p c.args.it.now.value c.args.kept on) (ap (λ (x : Loop). assertion x.invariant.value) c.deref.ensures) refl k)
-    (c.consumption.ensures p)
+    (c.consuming_all.ensures p)

@@ -13,4 +13,4 @@ returns c =
     let p = settled c.args.program.now in
     goes_as p _ _ _
     (consumes p _ _ (codes AssertCode PermissionCode) whole_amount whole_amount _ (executed p c.args.after (going p c.args.next.now.value)) refl refl (c.in_ok-hole.ensures p))
-    (c.consumption.ensures p)
+    (c.consuming_all.ensures p)

@@ -1,5 +1,5 @@
 use Rattle.std.proofs.Common.{◌+◌, ◌*◌}
-use Rattle.vx_expr_parser.proofs.expr.+dots.Given as goal
+use Rattle.vx_expr_parser.proofs.dots.+dots.Given as goal
 
 abbrev pub decreases-dots : goal.decreases-dots
 decreases-dots l = 3 * l.room + 1

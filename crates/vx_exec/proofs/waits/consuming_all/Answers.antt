@@ -4,7 +4,7 @@ use Rattle.vx_heap.specs.Views.{held_term}
 use Rattle.vx_terms.specs.Build.{whole_amount}
 use Rattle.vx_stack.specs.Stack.{context, giving}
 use Rattle.vx_stack.proofs.Steps.{consumes}
-use Rattle.vx_exec.proofs.waits.consumption.Goals as goal
+use Rattle.vx_exec.proofs.waits.consuming_all.Goals as goal
 
 pub returns : goal.returns
 returns c = λ p.
