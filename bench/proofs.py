@@ -4,21 +4,22 @@
     bench/proofs.py times CRATE          each module of the crate that took a second or more in its last check, and the sums by kind
     bench/proofs.py answers CRATE F ..   answers for the functions F, as `times` names them, without `proofs.` and `.Proof`
 
-Both read what `rt check` keeps in the crate's out/, so check the crate first, with `--jobs 1` for `times`. A minute or more between two files is
-taken for the time between two checks, and counts for nothing.
+Both read what `rt check` keeps in the crate's out/, so check the crate first, with `--jobs 1` for `times`. More than PAUSE seconds between two files
+are taken for the time between two checks, and count for nothing. What a check takes before its first module is not counted.
 `answers` writes `search rules` for each goal of F that has no answer, and at those that are refused the other tactics in turn. What the first
 search finds needs no answer and gets none; a goal at which none of them is enough is left as it was.
 """
 import collections
 import os
 import re
-import shutil
 import subprocess
 import sys
 import tempfile
 
 TOP = os.path.dirname(os.path.dirname(os.path.realpath(__file__)))
 KINDS = ("Proof", "Answers", "Lts", "Tie", "Reads", "Layout", "Kinds", "Named", "Code", "Mir", "Goals")
+# More seconds than this between two files are a pause between two checks; a module can take more than a minute.
+PAUSE = 300
 # What a goal without an answer is tried with, in this order.
 TACTICS = (
     "search rules",
@@ -46,7 +47,7 @@ def seconds(crate):
     took, size, before = collections.Counter(), collections.Counter(), None
     for time, bytes_, name in sorted(files):
         module = re.sub(f"^Rattle-{crate}-", "", name.replace(".decls.oantt", ".oantt")[: -len(".oantt")])
-        took[module] += time - before if before and time - before < 60 else 0
+        took[module] += time - before if before and time - before < PAUSE else 0
         size[module] = max(size[module], bytes_)
         before = time
     return took, size
@@ -107,11 +108,19 @@ def with_import(text, module, words):
     return f"use {module}.{{{', '.join(words)}}}\n{text}"
 
 
+def remove(path):
+    """Removes an answers file where there is one, and its folder where nothing else stands there."""
+    if os.path.isfile(path):
+        os.remove(path)
+        if not os.listdir(os.path.dirname(path)):
+            os.rmdir(os.path.dirname(path))
+
+
 def write(crate, function, old, goals, chosen):
     """Writes a function's answers: those that stood there, and the chosen tactics."""
     path = file_of(crate, function)
     if not chosen and not old:
-        shutil.rmtree(os.path.dirname(path), ignore_errors=True) if os.listdir(os.path.dirname(path)) == ["Answers.antt"] else os.remove(path)
+        remove(path)
         return
     text = old or f"use Rattle.{crate}.proofs.{function}.Goals as goal\n"
     for module, words in WORDS.items():
