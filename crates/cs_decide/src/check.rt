@@ -39,7 +39,6 @@ use std::rc::Rc;
 use vx_terms::Term;
 
 /// A check under way, but for its search.
-#[derive(Drop)]
 struct Check {
     record: Record,
     atoms: Atoms,
@@ -51,6 +50,20 @@ struct Check {
     figures: Figures,
     // how many terms are those of the assertions
     live: u32,
+}
+
+impl Drop for Check {
+    fn drop(self) {
+        let Self {
+            record,
+            atoms,
+            numbers,
+            told,
+            claims,
+            figures,
+            live,
+        } = self;
+    }
 }
 
 /// The clauses of the assertions, and of the first terms.

@@ -18,10 +18,15 @@ pub struct Entry {
 }
 
 /// A basic column is a sum of other columns.
-#[derive(Drop)]
 pub struct Row {
     pub basic: u32,
     pub entries: Vec<Entry>,
+}
+
+impl Drop for Row {
+    fn drop(self) {
+        let Self { basic, entries } = self;
+    }
 }
 
 /// The first column of two sums, and how many entries of each it takes.

@@ -8,12 +8,22 @@ use crate::elements::{Element, is_same};
 use vx_terms::{Sort, Symbol};
 
 /// What a symbol gives, at a sort, on these arguments.
-#[derive(Drop)]
 pub struct Entry {
     pub symbol: Symbol,
     pub sort: Sort,
     pub arguments: Vec<Element>,
     pub value: Element,
+}
+
+impl Drop for Entry {
+    fn drop(self) {
+        let Self {
+            symbol,
+            sort,
+            arguments,
+            value,
+        } = self;
+    }
 }
 
 /// The symbols' tables. The first entry counts; without one a value is 0, false or the further element.

@@ -14,7 +14,6 @@ use vx_sexp::Token;
 use vx_terms::Term;
 
 /// A step. Terms, assertions and clauses are named by their numbers.
-#[derive(Drop)]
 pub enum Step {
     Input(u128),
     Term(Rc<Term>),
@@ -29,6 +28,25 @@ pub enum Step {
     Trichotomy(u128, u128),
     Divide(u128, u128, u128),
     Propagate(Vec<Literal>, Vec<u128>),
+}
+
+impl Drop for Step {
+    fn drop(self) {
+        match self {
+            Step::Input(_n) => {}
+            Step::Term(_t) => {}
+            Step::NoTerm => {}
+            Step::Define(_t, _k) => {}
+            Step::Pick(_t, _k) => {}
+            Step::Chain(_terms) => {}
+            Step::Congruence(_s, _t) => {}
+            Step::Farkas(_literals, _multipliers) => {}
+            Step::Split(_t, _number) => {}
+            Step::Trichotomy(_a, _b) => {}
+            Step::Divide(_a, _d, _k) => {}
+            Step::Propagate(_literals, _hints) => {}
+        }
+    }
 }
 
 /// The `term` step of these tokens.

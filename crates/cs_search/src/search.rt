@@ -22,9 +22,14 @@ use cs_meter::Meter;
 use std::alloc::{AllocError, Global};
 
 /// The numbers of clauses that derive one, from last to first.
-#[derive(Drop)]
 pub struct Hints {
     pub numbers: Vec<usize>,
+}
+
+impl Drop for Hints {
+    fn drop(self) {
+        let Self { numbers } = self;
+    }
 }
 
 /// The answer of a search.
@@ -55,13 +60,24 @@ pub fn spend(meter: &mut Meter) -> bool
 }
 
 /// Clauses, how the derived ones were derived, an assignment, what the clauses watch, and which atom is decided next.
-#[derive(Drop)]
 pub struct Search {
     pub clauses: Vec<Clause>,
     pub steps: Vec<Hints>,
     pub made: Assignment,
     pub queue: Queue,
     pub order: Order,
+}
+
+impl Drop for Search {
+    fn drop(self) {
+        let Self {
+            clauses,
+            steps,
+            made,
+            queue,
+            order,
+        } = self;
+    }
 }
 
 impl Search {

@@ -10,7 +10,6 @@ use vx_frac::Frac;
 use vx_terms::{Operator, Sort, Symbol};
 
 /// What stands before a term's parts.
-#[derive(Drop)]
 pub enum Head {
     Truth(bool),
     Number(i128),
@@ -28,12 +27,34 @@ pub enum Head {
     Some,
 }
 
+impl Drop for Head {
+    fn drop(self) {
+        match self {
+            Head::Truth(_value) => {}
+            Head::Number(_number) => {}
+            Head::Part(_number) => {}
+            Head::Constant(_symbol, _sort) => {}
+            Head::Apply(_symbol, _sort) => {}
+            Head::Binary(_op) => {}
+            Head::Not => {}
+            Head::Ite => {}
+            Head::All => {}
+            Head::Some => {}
+        }
+    }
+}
+
 /// A numbered term: its head, the numbers of its parts, and its sort.
-#[derive(Drop)]
 pub struct Node {
     pub head: Head,
     pub parts: Vec<u32>,
     pub sort: Sort,
+}
+
+impl Drop for Node {
+    fn drop(self) {
+        let Self { head, parts, sort } = self;
+    }
 }
 
 fn is_same_fraction(a: Frac, b: Frac) -> bool

@@ -12,10 +12,15 @@ use std::rc::Rc;
 use vx_terms::Term;
 
 /// A chunk, and its number in the heap.
-#[derive(Drop)]
 pub struct Candidate {
     pub number: usize,
     pub chunk: Rc<Chunk>,
+}
+
+impl Drop for Candidate {
+    fn drop(self) {
+        let Self { number, chunk } = self;
+    }
 }
 
 impl SymHeap {

@@ -13,14 +13,21 @@ use std::rc::Rc;
 use vx_terms::Term;
 
 /// What there is an amount of, by name.
-#[derive(Drop)]
 pub enum Resource {
     Field(Rc<String>),
     Predicate(Rc<String>),
 }
 
+impl Drop for Resource {
+    fn drop(self) {
+        match self {
+            Resource::Field(_name) => {}
+            Resource::Predicate(_name) => {}
+        }
+    }
+}
+
 /// An amount of a field's location, whose one argument is the receiver, or of a predicate's instance.
-#[derive(Drop)]
 pub struct Chunk {
     pub resource: Resource,
     pub arguments: Vec<Rc<Term>>,
@@ -31,6 +38,19 @@ pub struct Chunk {
     pub is_root: bool,
     /// From inside that instance.
     pub is_inner: bool,
+}
+
+impl Drop for Chunk {
+    fn drop(self) {
+        let Self {
+            resource,
+            arguments,
+            amount,
+            value,
+            is_root,
+            is_inner,
+        } = self;
+    }
 }
 
 /// Whether two names are the same.

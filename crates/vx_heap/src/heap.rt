@@ -8,10 +8,15 @@ use crate::rows::Rows;
 use std::rc::Rc;
 
 /// The chunks of a heap, in order, which its copies share.
-#[derive(Drop)]
 pub struct SymHeap {
     pub(crate) chunks: Vec<Rc<Chunk>>,
     /// The numbers of the chunks, by the names of their resources.
     pub(crate) rows: Rows,
     ghost listed: { (k : ℕ) → under rows k ≡ places k 0 (map row chunks.items) },
+}
+
+impl Drop for SymHeap {
+    fn drop(self) {
+        let Self { chunks, rows } = self;
+    }
 }

@@ -1,4 +1,5 @@
 //! The heap of a symbolic state: chunks, those that a probe looks at, and what putting and taking an amount makes of it.
+//! Values are let go by impls of `Drop`: a derived one is proved again in each crate that lets one go.
 #![tactic(auto)]
 
 mod amounts;

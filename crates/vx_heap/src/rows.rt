@@ -9,9 +9,14 @@ use std::alloc::{AllocError, Global};
 const ROWS: usize = 256;
 
 /// Numbers in rows; rows behind the last are empty.
-#[derive(Drop)]
 pub struct Rows {
     rows: Vec<Vec<usize>>,
+}
+
+impl Drop for Rows {
+    fn drop(self) {
+        let Self { rows } = self;
+    }
 }
 
 /// The row of a name.

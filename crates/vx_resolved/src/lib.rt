@@ -1,5 +1,6 @@
 //! The syntax that is executed, settled once: names stand for what they name, assertions stand apart from expressions,
 //! `&&` at an assertion's top is taken apart, and `var x: T := e` is two statements.
+//! Values are let go by impls of `Drop`: a derived one is proved again in each crate that lets one go.
 #![tactic(auto)]
 
 mod functions;
@@ -42,7 +43,6 @@ pub enum Connective {
 
 /// An expression; each has its place.
 #[cycle(exprs)]
-#[derive(Drop)]
 pub enum Expr {
     Number(Place, u128),
     Truth(Place, bool),
@@ -62,6 +62,28 @@ pub enum Expr {
     Apply(Place, Rc<String>, Rc<Exprs>),
     /// `unfolding acc(P(es), p) in e`: the arguments, the amount and the expression.
     Unfolding(Place, Rc<String>, Rc<Exprs>, Rc<Expr>, Rc<Expr>),
+}
+
+impl Drop for Expr {
+    #[cycle(exprs)]
+    fn drop(self) {
+        match self {
+            Expr::Number(_place, _value) => {}
+            Expr::Truth(_place, _value) => {}
+            Expr::Null(_place) => {}
+            Expr::Part(_place, _numerator, _denominator) => {}
+            Expr::Variable(_place, _name) => {}
+            Expr::Not(_place, _e) => {}
+            Expr::Operate(_place, _op, _left, _right) => {}
+            Expr::Divide(_place, _op, _left, _right) => {}
+            Expr::Connect(_place, _op, _left, _right) => {}
+            Expr::Choose(_place, _condition, _left, _right) => {}
+            Expr::Read(_place, _receiver, _field) => {}
+            Expr::Old(_place, _e) => {}
+            Expr::Apply(_place, _function, _es) => {}
+            Expr::Unfolding(_place, _predicate, _es, _amount, _e) => {}
+        }
+    }
 }
 
 /// A list of expressions, any end of which a suspended execution can share.
@@ -87,7 +109,7 @@ impl Drop for Exprs {
 }
 
 /// What is assumed, or shown.
-#[derive(Drop)]
+#[cycle(assertions)]
 pub enum Assertion {
     /// No permission stands in it, and no `&&` at its top.
     Pure(Rc<Expr>),
@@ -102,16 +124,34 @@ pub enum Assertion {
     Chosen(Rc<Expr>, Rc<Assertion>, Rc<Assertion>),
 }
 
+impl Drop for Assertion {
+    #[cycle(assertions)]
+    fn drop(self) {
+        match self {
+            Assertion::Pure(_e) => {}
+            Assertion::Points(_place, _receiver, _field, _amount) => {}
+            Assertion::Instance(_place, _predicate, _es, _amount) => {}
+            Assertion::Both(_left, _right) => {}
+            Assertion::Implied(_condition, _a) => {}
+            Assertion::Chosen(_condition, _left, _right) => {}
+        }
+    }
+}
+
 /// A variable with its type.
-#[derive(Drop)]
 pub struct Declaration {
     pub name: Rc<String>,
     pub of: ValueType,
 }
 
+impl Drop for Declaration {
+    fn drop(self) {
+        let Self { name, of } = self;
+    }
+}
+
 /// A statement with its place.
 #[cycle(resolved)]
-#[derive(Drop)]
 pub enum Stmt {
     Declare(Place, Rc<String>, ValueType),
     Assign(Place, Rc<String>, Rc<Expr>),
@@ -131,6 +171,27 @@ pub enum Stmt {
     If(Place, Rc<Expr>, Rc<Block>, Rc<Block>),
     /// The condition, the invariants and the body.
     While(Place, Rc<Expr>, Vec<Rc<Assertion>>, Rc<Block>),
+}
+
+impl Drop for Stmt {
+    #[cycle(resolved)]
+    fn drop(self) {
+        match self {
+            Stmt::Declare(_place, _name, _of) => {}
+            Stmt::Assign(_place, _name, _e) => {}
+            Stmt::Write(_place, _receiver, _field, _e) => {}
+            Stmt::New(_place, _name, _fields) => {}
+            Stmt::Call(_place, _targets, _method, _es) => {}
+            Stmt::Inhale(_place, _a) => {}
+            Stmt::Exhale(_place, _a) => {}
+            Stmt::Assert(_place, _a) => {}
+            Stmt::Assume(_place, _e) => {}
+            Stmt::Fold(_place, _predicate, _es, _amount) => {}
+            Stmt::Unfold(_place, _predicate, _es, _amount) => {}
+            Stmt::If(_place, _condition, _left, _right) => {}
+            Stmt::While(_place, _condition, _invariants, _body) => {}
+        }
+    }
 }
 
 /// A list of statements, any end of which a suspended execution can share.
@@ -156,23 +217,39 @@ impl Drop for Block {
 }
 
 /// A predicate: its place is its first token's.
-#[derive(Drop)]
 pub struct Predicate {
     pub place: Place,
     pub parameters: Vec<Declaration>,
     pub body: Option<Rc<Assertion>>,
 }
 
+impl Drop for Predicate {
+    fn drop(self) {
+        let Self {
+            place,
+            parameters,
+            body,
+        } = self;
+    }
+}
+
 /// What the applications within a function's own group are measured by.
-#[derive(Drop)]
 pub enum Measure {
     Number(Rc<Expr>),
     /// An instance of a predicate, with its place.
     Instance(Place, Rc<String>, Rc<Exprs>),
 }
 
+impl Drop for Measure {
+    fn drop(self) {
+        match self {
+            Measure::Number(_e) => {}
+            Measure::Instance(_place, _predicate, _es) => {}
+        }
+    }
+}
+
 /// A function: its place is its first token's.
-#[derive(Drop)]
 pub struct Function {
     pub place: Place,
     pub parameters: Vec<Declaration>,
@@ -183,8 +260,21 @@ pub struct Function {
     pub body: Rc<Expr>,
 }
 
+impl Drop for Function {
+    fn drop(self) {
+        let Self {
+            place,
+            parameters,
+            of,
+            preconditions,
+            postconditions,
+            measure,
+            body,
+        } = self;
+    }
+}
+
 /// A method: its place is its first token's.
-#[derive(Drop)]
 pub struct Method {
     pub place: Place,
     pub parameters: Vec<Declaration>,
@@ -194,8 +284,20 @@ pub struct Method {
     pub body: Option<Rc<Block>>,
 }
 
+impl Drop for Method {
+    fn drop(self) {
+        let Self {
+            place,
+            parameters,
+            returns,
+            preconditions,
+            postconditions,
+            body,
+        } = self;
+    }
+}
+
 /// What a member is.
-#[derive(Drop)]
 pub enum Kind {
     Field(ValueType),
     Predicate(Rc<Predicate>),
@@ -203,14 +305,35 @@ pub enum Kind {
     Method(Rc<Method>),
 }
 
-#[derive(Drop)]
+impl Drop for Kind {
+    fn drop(self) {
+        match self {
+            Kind::Field(_of) => {}
+            Kind::Predicate(_predicate) => {}
+            Kind::Function(_function) => {}
+            Kind::Method(_method) => {}
+        }
+    }
+}
+
 pub struct Member {
     pub name: Rc<String>,
     pub kind: Kind,
 }
 
+impl Drop for Member {
+    fn drop(self) {
+        let Self { name, kind } = self;
+    }
+}
+
 /// The members in file order.
-#[derive(Drop)]
 pub struct Program {
     pub members: Vec<Member>,
+}
+
+impl Drop for Program {
+    fn drop(self) {
+        let Self { members } = self;
+    }
 }

@@ -12,7 +12,6 @@ use vx_graph::Groups;
 
 /// A settled program, none of whose members is entered within itself. Contracts see it as the list of its members,
 /// `settled`.
-#[derive(Drop)]
 pub struct Settled {
     pub program: Program,
     pub(crate) numbers: Numbers,
@@ -24,4 +23,15 @@ pub struct Settled {
     ghost are_ranks: { AreRanks ranks.items (resolved.program program) },
     ghost are_groups: { AreGroups (roots groups) (resolved.program program) },
     ghost apart: { KeepsApart (resolved.program program) },
+}
+
+impl Drop for Settled {
+    fn drop(self) {
+        let Self {
+            program,
+            numbers,
+            ranks,
+            groups,
+        } = self;
+    }
 }

@@ -7,11 +7,20 @@ use std::rc::Rc;
 use vx_terms::{Sort, Symbol, Term};
 
 /// A symbol with the sorts that it takes and gives.
-#[derive(Drop)]
 pub struct Declared {
     pub symbol: Symbol,
     pub takes: Vec<Sort>,
     pub gives: Sort,
+}
+
+impl Drop for Declared {
+    fn drop(self) {
+        let Self {
+            symbol,
+            takes,
+            gives,
+        } = self;
+    }
 }
 
 fn copy_sorts(alloc: Global, sorts: &[Sort]) -> Result<Vec<Sort>, AllocError>

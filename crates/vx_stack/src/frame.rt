@@ -78,12 +78,21 @@ pub enum Next {
 
 /// What waits for a chunk that was taken.
 #[cycle(frames)]
-#[derive(Drop)]
 pub enum Taken {
     /// Its value alone.
     Value(Rc<Hole>),
     /// An instance that is exchanged for its body.
     Unfold(Rc<Instance>, Rc<Next>),
+}
+
+impl Drop for Taken {
+    #[cycle(frames)]
+    fn drop(self) {
+        match self {
+            Taken::Value(_hole) => {}
+            Taken::Unfold(_instance, _next) => {}
+        }
+    }
 }
 
 /// What waits for the values of a list of expressions.

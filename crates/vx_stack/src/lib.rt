@@ -1,4 +1,5 @@
 //! The stack of sides that are still to be walked, what they wait for, and the steps that the rules are made of.
+//! Values are let go by impls of `Drop`: a derived one is proved again in each crate that lets one go.
 #![tactic(auto)]
 
 mod clauses;

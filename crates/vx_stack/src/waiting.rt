@@ -26,21 +26,35 @@ pub struct Codes {
 }
 
 /// How an assertion is produced.
-#[derive(Drop)]
 pub struct Production {
     /// Each amount is multiplied by it.
     pub scale: Rc<Term>,
     pub snapshot: Option<Rc<Term>>,
 }
 
+impl Drop for Production {
+    fn drop(self) {
+        let Self { scale, snapshot } = self;
+    }
+}
+
 /// How an assertion is consumed.
-#[derive(Drop)]
 pub struct Consumption {
     pub codes: Codes,
     /// Each amount is multiplied by it.
     pub scale: Rc<Term>,
     /// The heap of the start, in which expressions are read.
     pub start: Rc<SymHeap>,
+}
+
+impl Drop for Consumption {
+    fn drop(self) {
+        let Self {
+            codes,
+            scale,
+            start,
+        } = self;
+    }
 }
 
 impl Production {
@@ -61,7 +75,6 @@ impl Production {
 }
 
 /// What is looked for among the candidates of a heap: one with these arguments and this amount or more, or with some.
-#[derive(Drop)]
 pub struct Search {
     pub place: Place,
     pub code: Code,
@@ -70,8 +83,19 @@ pub struct Search {
     pub candidates: Vec<Candidate>,
 }
 
+impl Drop for Search {
+    fn drop(self) {
+        let Self {
+            place,
+            code,
+            arguments,
+            amount,
+            candidates,
+        } = self;
+    }
+}
+
 /// An amount of a field's location, whose place is that of its `acc`.
-#[derive(Drop)]
 pub struct Location {
     pub place: Place,
     pub field: Rc<String>,
@@ -79,13 +103,34 @@ pub struct Location {
     pub amount: Rc<Term>,
 }
 
+impl Drop for Location {
+    fn drop(self) {
+        let Self {
+            place,
+            field,
+            receiver,
+            amount,
+        } = self;
+    }
+}
+
 /// An amount of a predicate's instance, whose place is that of its `acc`.
-#[derive(Drop)]
 pub struct Instance {
     pub place: Place,
     pub predicate: Rc<String>,
     pub arguments: Rc<Values>,
     pub amount: Rc<Term>,
+}
+
+impl Drop for Instance {
+    fn drop(self) {
+        let Self {
+            place,
+            predicate,
+            arguments,
+            amount,
+        } = self;
+    }
 }
 
 /// Values in order, any end of which frames can share.
@@ -128,7 +173,6 @@ impl Drop for Values {
 }
 
 /// A call whose precondition is taken.
-#[derive(Drop)]
 pub struct Called {
     pub method: Rc<Method>,
     /// How many arguments it has.
@@ -141,8 +185,20 @@ pub struct Called {
     pub old_heap: Rc<SymHeap>,
 }
 
+impl Drop for Called {
+    fn drop(self) {
+        let Self {
+            method,
+            count,
+            targets,
+            caller,
+            heap,
+            old_heap,
+        } = self;
+    }
+}
+
 /// A call whose postcondition is produced: the values that go to its targets.
-#[derive(Drop)]
 pub struct Return {
     pub targets: Rc<Vec<Rc<String>>>,
     pub values: Vec<Rc<Term>>,
@@ -151,8 +207,18 @@ pub struct Return {
     pub old_heap: Rc<SymHeap>,
 }
 
+impl Drop for Return {
+    fn drop(self) {
+        let Self {
+            targets,
+            values,
+            caller,
+            old_heap,
+        } = self;
+    }
+}
+
 /// An application, after its arguments.
-#[derive(Drop)]
 pub struct Application {
     pub place: Place,
     pub name: Rc<String>,
@@ -160,30 +226,62 @@ pub struct Application {
     pub arguments: Rc<Values>,
 }
 
+impl Drop for Application {
+    fn drop(self) {
+        let Self {
+            place,
+            name,
+            function,
+            arguments,
+        } = self;
+    }
+}
+
 /// An application whose precondition was taken: the name of its snapshot.
-#[derive(Drop)]
 pub struct Applied {
     pub application: Rc<Application>,
     pub snapshot: Rc<Term>,
 }
 
+impl Drop for Applied {
+    fn drop(self) {
+        let Self {
+            application,
+            snapshot,
+        } = self;
+    }
+}
+
 /// A function that is verified, with its name.
-#[derive(Drop)]
 pub struct Verified {
     pub name: Rc<String>,
     pub function: Rc<Function>,
 }
 
+impl Drop for Verified {
+    fn drop(self) {
+        let Self { name, function } = self;
+    }
+}
+
 /// A loop, its invariants joined.
-#[derive(Drop)]
 pub struct Loop {
     pub condition: Rc<Expr>,
     pub invariant: Rc<Assertion>,
     pub body: Rc<Block>,
 }
 
+impl Drop for Loop {
+    fn drop(self) {
+        let Self {
+            condition,
+            invariant,
+            body,
+        } = self;
+    }
+}
+
 /// What of an expression waits for the value of an operand.
-#[derive(Drop)]
 pub enum Operand {
     Negate,
     OperateRight(Operator, Rc<Expr>),
@@ -211,8 +309,31 @@ pub enum Operand {
     Measured(Rc<Applied>, Option<Rc<Term>>, Rc<Caller>),
 }
 
+impl Drop for Operand {
+    fn drop(self) {
+        match self {
+            Operand::Negate => {}
+            Operand::OperateRight(_op, _right) => {}
+            Operand::OperateWith(_op, _left) => {}
+            Operand::DivideRight(_place, _op, _right) => {}
+            Operand::DivideWith(_place, _op, _left) => {}
+            Operand::ConnectRight(_op, _right) => {}
+            Operand::ConnectWith(_op, _left) => {}
+            Operand::ConnectSides(_op, _right) => {}
+            Operand::ChooseThen(_left, _right) => {}
+            Operand::ChooseElse(_condition, _right) => {}
+            Operand::ChooseWith(_condition, _left) => {}
+            Operand::ChooseSides(_left, _right) => {}
+            Operand::Receiver(_place, _field) => {}
+            Operand::Restore(_heap) => {}
+            Operand::Unfolding(_place, _predicate, _es, _e, _heap) => {}
+            Operand::Applied(_application, _caller, _heap) => {}
+            Operand::Measured(_applied, _measure, _caller) => {}
+        }
+    }
+}
+
 /// What of a produce waits for a value.
-#[derive(Drop)]
 pub enum Produced {
     /// A pure part, with this snapshot.
     Fact(Option<Rc<Term>>),
@@ -228,8 +349,20 @@ pub enum Produced {
     Chosen(Rc<Assertion>, Rc<Assertion>, Rc<Production>),
 }
 
+impl Drop for Produced {
+    fn drop(self) {
+        match self {
+            Produced::Fact(_snapshot) => {}
+            Produced::Share(_place, _field, _share, _x, _inner) => {}
+            Produced::Amount(_place, _field, _receiver, _x, _inner) => {}
+            Produced::Held(_place, _predicate, _values, _x, _inner) => {}
+            Produced::Implied(_a, _x) => {}
+            Produced::Chosen(_left, _right, _x) => {}
+        }
+    }
+}
+
 /// What of a consume waits for a value or a snapshot.
-#[derive(Drop)]
 pub enum Consumed {
     /// The condition to ask for, and the heap behind it.
     Ask(Place, Code, Rc<SymHeap>),
@@ -253,8 +386,24 @@ pub enum Consumed {
     Chosen(Rc<Assertion>, Rc<Assertion>, Rc<Consumption>, Rc<SymHeap>),
 }
 
+impl Drop for Consumed {
+    fn drop(self) {
+        match self {
+            Consumed::Ask(_place, _code, _heap) => {}
+            Consumed::Right(_a, _x) => {}
+            Consumed::With(_left, _codes) => {}
+            Consumed::Share(_place, _field, _share, _x, _heap) => {}
+            Consumed::Amount(_place, _field, _receiver, _x, _heap) => {}
+            Consumed::Wrap(_field, _codes) => {}
+            Consumed::Held(_place, _predicate, _values, _x, _heap) => {}
+            Consumed::Snapshot => {}
+            Consumed::Implied(_a, _x, _heap) => {}
+            Consumed::Chosen(_left, _right, _x, _heap) => {}
+        }
+    }
+}
+
 /// What of a statement waits for a value.
-#[derive(Drop)]
 pub enum Executed {
     Assign(Rc<String>),
     Assume,
@@ -281,4 +430,25 @@ pub enum Executed {
     Folded(Rc<Instance>, Rc<Caller>),
     /// A precondition was taken.
     Called(Rc<Called>),
+}
+
+impl Drop for Executed {
+    fn drop(self) {
+        match self {
+            Executed::Assign(_name) => {}
+            Executed::Assume => {}
+            Executed::If(_left, _right, _kept) => {}
+            Executed::Asserted(_heap) => {}
+            Executed::Exhaled => {}
+            Executed::Write(_place, _field, _e) => {}
+            Executed::WriteWith(_place, _field, _receiver) => {}
+            Executed::Enter(_loop, _kept) => {}
+            Executed::Iterate(_loop, _kept) => {}
+            Executed::Pass => {}
+            Executed::Fold(_place, _predicate, _es) => {}
+            Executed::Unfold(_place, _predicate, _es) => {}
+            Executed::Folded(_instance, _caller) => {}
+            Executed::Called(_called) => {}
+        }
+    }
 }

@@ -20,11 +20,20 @@ use vx_terms::Term;
 
 /// What a state has again behind the part of another member: its variables, the place that brought in the part that it is
 /// in itself, and whether chunks that are put are inner.
-#[derive(Drop)]
 pub struct Caller {
     pub store: Vec<Binding>,
     pub at: Option<Place>,
     pub is_inner: bool,
+}
+
+impl Drop for Caller {
+    fn drop(self) {
+        let Self {
+            store,
+            at,
+            is_inner,
+        } = self;
+    }
 }
 
 /// Variables with values in order, as long as there are both.

@@ -15,13 +15,18 @@ use std::rc::Rc;
 use vx_terms::Term;
 
 /// A path whose terms are indexed, with the number of its entries.
-#[derive(Drop)]
 pub struct IndexedPath {
     pub path: Path,
     pub index: Index,
     pub count: usize,
     ghost indexed: { IsIndexed (entries path) index },
     ghost counted: { count ≡ length (entries path) },
+}
+
+impl Drop for IndexedPath {
+    fn drop(self) {
+        let Self { path, index, count } = self;
+    }
 }
 
 /// One entry more; a number that has no room for it is want of memory.

@@ -21,10 +21,15 @@ use vx_resolved::Declaration;
 use vx_terms::{Sort, Term, make, numbers};
 
 /// A variable with its value.
-#[derive(Drop)]
 pub struct Binding {
     pub name: Rc<String>,
     pub value: Rc<Term>,
+}
+
+impl Drop for Binding {
+    fn drop(self) {
+        let Self { name, value } = self;
+    }
 }
 
 /// What the applications of a function's own group are measured against.
@@ -36,7 +41,6 @@ pub struct Own {
 
 /// A symbolic state: the variables in the order of their declarations, the heaps, which its copies share, the path from
 /// its oldest entry on, and the number of the next symbol.
-#[derive(Drop)]
 pub struct SymState {
     pub store: Vec<Binding>,
     pub heap: Rc<SymHeap>,
@@ -53,6 +57,23 @@ pub struct SymState {
     pub own: Option<Own>,
     /// The place that brought in the part of another member.
     pub at: Option<Place>,
+}
+
+impl Drop for SymState {
+    fn drop(self) {
+        let Self {
+            store,
+            heap,
+            old_heap,
+            path,
+            next,
+            level,
+            is_bounded,
+            is_inner,
+            own,
+            at,
+        } = self;
+    }
 }
 
 /// The sort of a type's values.

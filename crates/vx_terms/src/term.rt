@@ -9,12 +9,22 @@ use std::rc::Rc;
 use vx_frac::Frac;
 
 /// A symbol: `s`, `f` or `v` with its number, or another declared name.
-#[derive(Drop)]
 pub enum Symbol {
     Standard(u32),
     Function(u32),
     Variable(u64),
     Named(Rc<String>),
+}
+
+impl Drop for Symbol {
+    fn drop(self) {
+        match self {
+            Symbol::Standard(_number) => {}
+            Symbol::Function(_number) => {}
+            Symbol::Variable(_number) => {}
+            Symbol::Named(_name) => {}
+        }
+    }
 }
 
 /// An operator of two operands, of Core, Ints and Reals.
