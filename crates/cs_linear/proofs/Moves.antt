@@ -59,7 +59,6 @@ pub moved_as : {rows others : List Row} {homes places : Homes} {old before new :
 moved_as {rows = rows} {others = others} {homes = homes} {places = places} {old = old} {before = before} {new = new} j y re he oe m =
     subst (λ (rs : List Row). AreMoved rs places j y before new) re (subst (λ (hs : Homes). AreMoved rows hs j y before new) he (subst (λ (os : List Frac). AreMoved rows homes j y os new) oe m))
 
--- one value more
 pub row_within : (rows : List Row) (homes : Homes) (k : ℕ) → k < length homes → AreWithin rows homes → IfSome (get_or homes k None) (λ i. i < length rows)
 row_within rows homes k lt within = go (get_or homes k None) (slice_get-get_or homes k None lt)
   where
@@ -67,6 +66,7 @@ row_within rows homes k lt within = go (get_or homes k None) (slice_get-get_or h
     go (Some i) e = within k i e
     go None e = tt
 
+-- one value more
 pub moved_more : (rows : List Row) (homes : Homes) (column : ℕ) (by : Fraction) (values new : List Frac) (k : ℕ) (d x : Frac) → length new ≡ k → k < length homes → k < length values → d ≡ get_or values k d →
     fraction x ≡ moved rows column by (get_or homes k None) k (fraction d) →
     ((k : ℕ) (home : Option ℕ) (v w : Frac) → slice_get homes k ≡ Some home → slice_get values k ≡ Some v → slice_get new k ≡ Some w → fraction w ≡ moved rows column by home k (fraction v)) →

@@ -59,4 +59,21 @@ impl Meter {
         self.spent += 1;
         Ok(())
     }
+
+    /// Spends so many units.
+    ///
+    /// # Errors
+    /// `Budget` exactly where fewer are left; all are spent then.
+    pub fn spend_many(&mut self, units: u32) -> Result<(), Budget>
+        ensures spent { OnOk result (self.new.spent ≡ self.old.spent + units) }
+        ensures all { OnErr result (self.new.spent ≡ limit) }
+        ensures left { IsOk result ↔ self.old.spent + units ≤ limit }
+    {
+        if units > LIMIT - self.spent {
+            self.spent = LIMIT;
+            return Err(Budget);
+        }
+        self.spent += units;
+        Ok(())
+    }
 }

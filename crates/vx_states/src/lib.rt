@@ -1,5 +1,5 @@
 //! Symbolic states, with paths that are shared and indexed.
-//! Values are let go by impls of `Drop`: a derived one is proved again in each crate that lets one go.
+//! All values but `Own` are let go by impls of `Drop`: a derived one is proved again in each crate that lets one go.
 #![tactic(auto)]
 
 mod entering;
