@@ -1,6 +1,2 @@
-pub mod Causes
-pub mod Answers
 pub mod Spent
 pub mod New
-pub mod Few
-pub mod Tests

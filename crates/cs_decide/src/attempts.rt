@@ -5,13 +5,12 @@ ghost use Rattle.vx_terms.specs.Interpretations.{Each};
 ghost use Rattle.cs_meter.specs.Units.{limit};
 ghost use Rattle.cs_numbers.specs.Laws.{IsSorted};
 ghost use Rattle.cs_proof.specs.Fits.{seen};
-ghost use Rattle.cs_decide.specs.Answers.{IsRefutation, IsSatisfaction, IsCaused, IsRight};
-ghost use Rattle.cs_decide.specs.Few.{IsFew, IsDecided};
+ghost use Rattle.cs_answer.specs.Answers.{IsRefutation, IsSatisfaction, IsCaused, IsRight};
+ghost use Rattle.cs_answer.specs.Few.{IsFew, IsDecided};
 
-use crate::answer::{Answer, Cause};
 use crate::check::decided;
-use crate::judging::stopped;
 use crate::settled::settled;
+use cs_answer::{Answer, Cause, stopped};
 use cs_meter::{Budget, Meter};
 use cs_proof::{Stack, Want};
 use std::alloc::Global;
@@ -27,10 +26,7 @@ fn pay(meter: &mut Meter, attempt: u32) -> Result<(), Budget>
     ensures paid { OnOk result (meter.old.spent < meter.new.spent) }
     ensures spent { OnErr result (meter.new.spent ≡ limit) }
 {
-    for _unit in 0..=attempt.saturating_mul(PRICE) {
-        meter.spend()?;
-    }
-    Ok(())
+    meter.spend_many(attempt.saturating_mul(PRICE).saturating_add(1))
 }
 
 /// One attempt: an answer, or none where another one may find one.

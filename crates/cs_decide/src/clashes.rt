@@ -2,10 +2,11 @@
 //! numbers have one value by chance, and have to be told apart.
 
 use crate::elements::Sources;
+use cs_columns::Stop;
 use cs_index::{Index, mix, mix_wide};
 use cs_model::Element;
 use cs_record::numbered::Record;
-use cs_sums::{Stop, numbers_of};
+use cs_sums::numbers_of;
 use cs_table::{Head, Node, key_of_symbol};
 use std::alloc::Global;
 

@@ -1,12 +1,12 @@
 //! The elements of terms: numbers by their values, Bool terms by the assignment, and others by their classes.
 
 use crate::figures::Figures;
+use cs_columns::Stop;
 use cs_model::Element;
 use cs_record::atoms::Atoms;
 use cs_record::claims::{Claims, value_of};
 use cs_record::numbered::Record;
 use cs_search::Value;
-use cs_sums::Stop;
 use std::alloc::Global;
 use vx_terms::Sort;
 

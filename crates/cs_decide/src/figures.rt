@@ -4,6 +4,7 @@ ghost use Rattle.cs_decide.specs.Spent.{SpendsOnCases};
 
 use crate::clashes::clash;
 use crate::elements::Sources;
+use cs_columns::{Split, Stop};
 use cs_meter::{Budget, Meter};
 use cs_record::atoms::Atoms;
 use cs_record::cases::{order, parted};
@@ -12,7 +13,7 @@ use cs_record::farkas::refutation_of;
 use cs_record::lemma::Lemma;
 use cs_record::numbered::Record;
 use cs_search::Value;
-use cs_sums::{Arithmetic, Contradiction, Share, Split, Stop, numbers_of};
+use cs_sums::{Arithmetic, Contradiction, Share, numbers_of};
 use std::alloc::Global;
 use vx_frac::Frac;
 
@@ -269,7 +270,9 @@ impl Figures {
         ensures spent { meter.old.spent ≤ meter.new.spent }
         ensures cases { IfOk result (SpendsOnCases meter.old.spent meter.new.spent) }
     {
-        spend(meter, self.told / 16)?;
+        if let Err(Budget) = meter.spend_many(self.told / 16 + 1) {
+            return Err(Stop::Budget);
+        }
         self.told = self.told.saturating_add(1);
         Ok(Found::Cases(cases))
     }
@@ -319,17 +322,4 @@ fn told_apart(alloc: Global, record: &mut Record, a: u32, b: u32) -> Result<Case
         first: false,
         of_split: false,
     })
-}
-
-/// Spends a unit and so many more.
-fn spend(meter: &mut Meter, more: u32) -> Result<(), Stop>
-    ensures spent { OnOk result (meter.new.spent ≡ meter.old.spent + more + 1) }
-    ensures kept { meter.old.spent ≤ meter.new.spent }
-{
-    for _unit in 0..=more {
-        if let Err(Budget) = meter.spend() {
-            return Err(Stop::Budget);
-        }
-    }
-    Ok(())
 }

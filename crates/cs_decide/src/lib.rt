@@ -3,20 +3,14 @@
 //! without numbers of which few terms are Bool is always decided.
 #![tactic(auto)]
 
-mod answer;
 mod attempts;
 mod check;
 mod clashes;
 mod elements;
-mod few;
 mod figures;
 mod forced;
-mod formed;
-mod judging;
+mod misread;
 mod model;
-mod nonlinear;
 mod settled;
 
-pub use answer::{Answer, Cause};
 pub use attempts::decide;
-pub use few::is_few;

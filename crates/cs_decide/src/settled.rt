@@ -1,12 +1,11 @@
 //! Where all attempts leave a stack undecided of which few terms are Bool, all its clauses at once decide it.
 ghost use Rattle.std.specs.Prelude.{IfOk};
 ghost use Rattle.cs_proof.specs.Fits.{seen};
-ghost use Rattle.cs_decide.specs.Answers.{IsRight};
-ghost use Rattle.cs_decide.specs.Causes.{IsCause};
-ghost use Rattle.cs_decide.specs.Few.{IsFew, IsDecided};
+ghost use Rattle.cs_answer.specs.Answers.{IsRight};
+ghost use Rattle.cs_answer.specs.Causes.{IsCause};
+ghost use Rattle.cs_answer.specs.Few.{IsFew, IsDecided};
 
-use crate::answer::{Answer, Cause};
-use crate::few::is_few;
+use cs_answer::{Answer, Cause, is_few};
 use cs_eager::{Settled, settle};
 use cs_proof::{Stack, Want, finished_refutes};
 use std::alloc::Global;

@@ -2,7 +2,8 @@
 
 use crate::names::Names;
 use crate::reading::{term_of, word_of};
-use cs_decide::{Answer, Cause, decide, is_few};
+use cs_answer::{Answer, Cause, is_few};
+use cs_decide::decide;
 use cs_eager::{Settled, settle};
 use cs_proof::{Stack, Want};
 use cs_reader::Stop;

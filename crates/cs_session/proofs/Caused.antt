@@ -8,7 +8,7 @@ use Rattle.vx_smt_meaning.specs.declared.command.Command.{Command as Command'}
 use Rattle.cs_commands.specs.declared.fault.CommandFault.TheVariants as command_faults
 use Rattle.cs_commands.specs.declared.fault.Fault.{Fault}
 use Rattle.cs_commands.specs.declared.fault.Fault.TheVariants as faults
-use Rattle.cs_decide.specs.declared.answer.Cause.{Cause}
+use Rattle.cs_answer.specs.declared.answer.Cause.{Cause}
 use Rattle.cs_session.specs.declared.reply.Reply.TheVariants.{Undecided}
 use Rattle.cs_session.specs.declared.session.Last.{Last}
 use Rattle.cs_session.specs.declared.session.Last.TheVariants.{Nothing, Refuted, Satisfied, Unknown}

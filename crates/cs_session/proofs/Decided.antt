@@ -12,8 +12,8 @@ use Rattle.cs_commands.specs.Laws.{scope_of}
 use Rattle.cs_commands.proofs.Arguments.{understood_applied}
 use Rattle.cs_commands.proofs.Following.{understood_follows}
 use Rattle.cs_commands.proofs.Sorted.{understood_sorted}
-use Rattle.cs_decide.specs.declared.answer.Cause.{Cause}
-use Rattle.cs_decide.specs.Few.{IsFew}
+use Rattle.cs_answer.specs.declared.answer.Cause.{Cause}
+use Rattle.cs_answer.specs.Few.{IsFew}
 use Rattle.cs_session.specs.declared.reply.Reply.{Reply}
 use Rattle.cs_session.specs.declared.reply.Reply.TheVariants.{Undecided}
 use Rattle.cs_session.specs.declared.session.Last.{Last}

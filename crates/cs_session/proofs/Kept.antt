@@ -11,7 +11,7 @@ use Rattle.vx_smt_meaning.specs.Commands.{Command, SetOption, SetLogic, DeclareS
 use Rattle.vx_smt_meaning.specs.Views.{command}
 use Rattle.vx_smt_meaning.specs.declared.command.Command.{Command as Command'}
 use Rattle.cs_certificate.specs.Certificate.{Stack, Step, IsFinished}
-use Rattle.cs_decide.specs.declared.answer.Cause.{Cause}
+use Rattle.cs_answer.specs.declared.answer.Cause.{Cause}
 use Rattle.cs_proof.specs.declared.step.Step.{Step as Step'}
 use Rattle.cs_proof.specs.Views.{written}
 use Rattle.cs_proof.specs.Checking.{Finished}

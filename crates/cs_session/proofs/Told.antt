@@ -14,12 +14,12 @@ use Rattle.cs_proof.specs.declared.step.Step.{Step}
 use Rattle.cs_proof.specs.Views.{written}
 use Rattle.cs_proof.specs.Checking.{Finished}
 use Rattle.cs_proof.specs.Answers.{Answers}
-use Rattle.cs_decide.specs.declared.answer.Answer.{Answer}
-use Rattle.cs_decide.specs.declared.answer.Answer.TheVariants.{Refuted, Satisfied, Unknown}
-use Rattle.cs_decide.specs.declared.answer.Cause.{Cause}
-use Rattle.cs_decide.specs.Causes.{IsCause}
-use Rattle.cs_decide.specs.Few.{IsFew, IsDecided}
-use Rattle.cs_decide.specs.Answers.{IsRefutation, IsSatisfaction, IsCaused}
+use Rattle.cs_answer.specs.declared.answer.Answer.{Answer}
+use Rattle.cs_answer.specs.declared.answer.Answer.TheVariants.{Refuted, Satisfied, Unknown}
+use Rattle.cs_answer.specs.declared.answer.Cause.{Cause}
+use Rattle.cs_answer.specs.Causes.{IsCause}
+use Rattle.cs_answer.specs.Few.{IsFew, IsDecided}
+use Rattle.cs_answer.specs.Answers.{IsRefutation, IsSatisfaction, IsCaused}
 use Rattle.cs_session.specs.Views.{standing}
 use Rattle.cs_session.proofs.Lists.{each_reverse}
 

@@ -3,7 +3,7 @@ use Rattle.std.specs.Prelude.{ℕ, ◌≤◌, List}
 use Rattle.cs_certificate.specs.Terms.{numbered}
 use Rattle.cs_certificate.specs.Certificate.{Stack}
 use Rattle.cs_classes.specs.Agreement.{HasNoNumber}
-use Rattle.cs_decide.specs.Few.{few_limit, bool_count}
+use Rattle.cs_answer.specs.Few.{few_limit, bool_count}
 use Rattle.cs_session.specs.declared.reply.Reply.TheVariants.{Undecided}
 use Rattle.cs_session.specs.Views.{State, standing}
 use Rattle.cs_session.specs.Replies.{Replies}

@@ -3,7 +3,7 @@ use Rattle.std.specs.Prelude.{◌≡◌, List, [], ◌∷◌, ◌++◌, map, Som
 use Rattle.std.specs.Global.{Vec}
 use Rattle.vx_terms.specs.Interpretations.{Each}
 use Rattle.cs_certificate.specs.Certificate.{Step, IsFinished}
-use Rattle.cs_decide.specs.declared.answer.Cause.{Cause}
+use Rattle.cs_answer.specs.declared.answer.Cause.{Cause}
 use Rattle.cs_proof.specs.declared.step.Step.{Step as Step'}
 use Rattle.cs_proof.specs.Views.{written}
 use Rattle.cs_text.specs.Text.{certificate_text}

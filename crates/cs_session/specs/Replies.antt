@@ -16,8 +16,8 @@ use Rattle.cs_commands.specs.declared.fault.Fault.{Fault}
 use Rattle.cs_commands.specs.declared.fault.Fault.TheVariants as faults
 use Rattle.cs_commands.specs.Understanding.{Understands}
 use Rattle.cs_commands.specs.Laws.{scope_of}
-use Rattle.cs_decide.specs.Causes.{IsCause}
-use Rattle.cs_decide.specs.Few.{IsFew}
+use Rattle.cs_answer.specs.Causes.{IsCause}
+use Rattle.cs_answer.specs.Few.{IsFew}
 use Rattle.cs_text.specs.Text.{certificate_text}
 use Rattle.cs_text.specs.Writable.{AreWritable}
 use Rattle.cs_session.specs.declared.reply.Complaint.TheVariants as complaints

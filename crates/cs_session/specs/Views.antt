@@ -4,7 +4,7 @@ use Rattle.vx_terms.specs.Views.{term}
 use Rattle.vx_smt_meaning.specs.Views.{declared_symbol}
 use Rattle.vx_smt_meaning.specs.Commands.{Level, assertions_of, declared_in}
 use Rattle.cs_certificate.specs.Certificate.{Stack}
-use Rattle.cs_decide.specs.declared.answer.Cause.{Cause}
+use Rattle.cs_answer.specs.declared.answer.Cause.{Cause}
 use Rattle.cs_session.specs.Counts.{spread}
 use Rattle.cs_session.specs.declared.levels.Levels.{Levels}
 use Rattle.cs_session.specs.declared.session.Last.{Last}

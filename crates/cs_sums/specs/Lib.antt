@@ -1,5 +1,1 @@
-pub mod Between
-pub mod Fractional
-pub mod Parts
-pub mod Splits
 pub mod Shown

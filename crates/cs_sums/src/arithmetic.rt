@@ -1,16 +1,14 @@
 //! What is claimed of numbers, whether it can be, and values that meet it.
 ghost use Rattle.std.specs.Prelude.{◌≤◌, IfOk, IfSome, IfNone};
-ghost use Rattle.cs_sums.specs.Splits.{IsSplit, AreWhole};
+ghost use Rattle.cs_columns.specs.Splits.{IsSplit, AreWhole};
 ghost use Rattle.cs_sums.specs.Shown.{columns_of, values_of};
 
-use crate::columns::Columns;
 use crate::constraints::{Comparison, Constraint, Order, other_side, sides_of};
 use crate::cuts::{Taken, cut_of};
 use crate::limits::{Entered, Limits};
 use crate::loose::spread;
 use crate::reading::{line_between, numbers_of, value_at};
-use crate::stop::{Stop, whole};
-use crate::values::{Split, small_of, split_of, values_of};
+use cs_columns::{Columns, Split, Stop, small_of, split_of, values_of, whole};
 use cs_farkas::{Numbers, Relation};
 use cs_linear::{Bound, Checked, Part, Side};
 use cs_meter::Meter;

@@ -1,7 +1,6 @@
 //! Comparisons as lines, and what they say where they hold or don't.
 
-use crate::columns::Line;
-use crate::stop::{Stop, quotient, turned, whole};
+use cs_columns::{Line, Stop, quotient, turned, whole};
 use cs_farkas::{Numbers, Relation};
 use cs_linear::{Bound, Side, Value};
 use cs_table::{Head, Node};

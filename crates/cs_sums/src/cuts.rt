@@ -1,10 +1,9 @@
 //! Cuts: what a contradiction says of the sum of its splits, rounded to whole numbers.
 
-use crate::columns::{Columns, Named, Origin};
 use crate::constraints::Constraint;
-use crate::stop::{Stop, quotient, whole};
-use crate::sum::{Sum, primitive};
-use crate::values::{Split, parts_of, split_at};
+use cs_columns::{
+    Columns, Named, Origin, Split, Stop, Sum, parts_of, primitive, quotient, split_at, whole,
+};
 use cs_farkas::Numbers;
 use cs_linear::Entry;
 use std::alloc::Global;

@@ -1,6 +1,6 @@
 //! The tightest bounds of each column.
 
-use crate::stop::Stop;
+use cs_columns::Stop;
 use cs_linear::{Bound, Side};
 use std::alloc::Global;
 

@@ -1,8 +1,7 @@
 //! Values of columns that may be others as well: they are spread, so that no two of them are equal by chance.
 
-use crate::columns::{Columns, Named, Origin};
 use crate::limits::Limits;
-use crate::stop::{Stop, floor, turned, whole};
+use cs_columns::{Columns, Named, Origin, Stop, floor, turned, whole};
 use cs_farkas::Numbers;
 use cs_linear::Entry;
 use std::alloc::Global;

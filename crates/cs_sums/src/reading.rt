@@ -1,8 +1,6 @@
 //! Numbered terms as sums of columns, and their values.
 
-use crate::columns::{Columns, Line};
-use crate::stop::{Stop, turned, whole};
-use crate::sum::Sum;
+use cs_columns::{Columns, Line, Stop, Sum, turned, whole};
 use cs_farkas::{Numbers, Reading, reading_of};
 use cs_table::{Head, Node};
 use std::alloc::Global;

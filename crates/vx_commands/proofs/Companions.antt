@@ -14,7 +14,7 @@ use Rattle.vx_machine.specs.Runs.{member_tree}
 use Rattle.vx_live.specs.Functions.{function_symbols}
 use Rattle.vx_report.specs.declared.run.MemberRun.{MemberRun}
 use Rattle.vx_report.specs.declared.run.Verdict.TheVariants.{Verified}
-use Rattle.cs_decide.specs.declared.answer.Cause.{Cause}
+use Rattle.cs_answer.specs.declared.answer.Cause.{Cause}
 use Rattle.vx_companion.specs.declared.builtin.Builtin.{Builtin}
 use Rattle.vx_companion.specs.Companion.{RepliesByCompanion, AllByCompanion}
 use Rattle.vx_companion.specs.Lawful.{IsTaken, HasLawfulReplies}

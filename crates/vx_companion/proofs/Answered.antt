@@ -17,7 +17,7 @@ use Rattle.cs_commands.specs.Commands.{understood}
 use Rattle.cs_commands.specs.Understanding.{IsUnderstood, Understands}
 use Rattle.cs_commands.specs.Laws.{scope_of}
 use Rattle.cs_certificate.specs.Certificate.{Step}
-use Rattle.cs_decide.specs.declared.answer.Cause.{Cause}
+use Rattle.cs_answer.specs.declared.answer.Cause.{Cause}
 use Rattle.cs_proof.specs.Views.{written}
 use Rattle.cs_text.specs.Text.{certificate_text}
 use Rattle.cs_commands.proofs.Passed.{some_is, not_some}

@@ -27,7 +27,7 @@ use Rattle.vx_dialogue.specs.History.{Tells}
 use Rattle.vx_dialogue.proofs.Joined.{append_none, first_longer}
 use Rattle.vx_dialogue.proofs.Counts.{finished_first}
 use Rattle.cs_commands.specs.Laws.{AreApart}
-use Rattle.cs_decide.specs.declared.answer.Cause.{Cause}
+use Rattle.cs_answer.specs.declared.answer.Cause.{Cause}
 use Rattle.cs_session.specs.declared.reply.Reply.{Reply}
 use Rattle.cs_session.specs.declared.reply.Reply.TheVariants.{Success, Unsupported, Failed, Sat, Unsat, Undecided, Proof, Closed}
 use Rattle.cs_session.specs.Views.{State}

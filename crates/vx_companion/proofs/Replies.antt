@@ -11,7 +11,7 @@ use Rattle.vx_sexp.proofs.Counts.{joined_finished, joined_closed, none_closed}
 use Rattle.vx_dialogue.proofs.Joined.{append_none, first_longer}
 use Rattle.vx_dialogue.proofs.Counts.{finished_first}
 use Rattle.vx_sexp.specs.Finished.{finished}
-use Rattle.cs_decide.specs.declared.answer.Cause.{Cause}
+use Rattle.cs_answer.specs.declared.answer.Cause.{Cause}
 use Rattle.cs_session.specs.Views.{State}
 use Rattle.vx_companion.specs.Companion.{IsOneReply, KeepsUp, HasReplied, IsByCompanion}
 

@@ -26,7 +26,7 @@ use Rattle.cs_commands.specs.Laws.{AreApart}
 use Rattle.cs_commands.specs.Following.{LeavesALevel}
 use Rattle.cs_commands.proofs.Following.{understood_follows}
 use Rattle.cs_commands.proofs.Apart.{stay_apart}
-use Rattle.cs_decide.specs.declared.answer.Cause.{Cause}
+use Rattle.cs_answer.specs.declared.answer.Cause.{Cause}
 use Rattle.cs_session.specs.declared.reply.Complaint.TheVariants as complaints
 use Rattle.cs_session.specs.declared.reply.Reply.{Reply}
 use Rattle.cs_session.specs.declared.reply.Reply.TheVariants.{Success, Unsupported, Failed, Sat, Unsat, Undecided, Proof, Closed}

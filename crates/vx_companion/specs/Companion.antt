@@ -4,7 +4,7 @@ use Rattle.vx_sexp.specs.Finished.{finished, is_closed}
 use Rattle.vx_ends.specs.declared.piece.Piece.{Piece}
 use Rattle.vx_ends.specs.declared.piece.Ending.{Ending}
 use Rattle.vx_ends.specs.Dialogue.{sent, got}
-use Rattle.cs_decide.specs.declared.answer.Cause.{Cause}
+use Rattle.cs_answer.specs.declared.answer.Cause.{Cause}
 use Rattle.cs_session.specs.Views.{State}
 use Rattle.cs_session.specs.Answering.{Answering}
 

@@ -11,7 +11,7 @@ use Rattle.vx_dialogue.specs.Items.{IsGarbled, IsRefused}
 use Rattle.vx_dialogue.specs.Stops.{Stops}
 use Rattle.vx_dialogue.specs.History.{Tells}
 use Rattle.cs_commands.specs.Laws.{IsSmallSymbol, IsReadable}
-use Rattle.cs_decide.specs.declared.answer.Cause.{Cause}
+use Rattle.cs_answer.specs.declared.answer.Cause.{Cause}
 use Rattle.cs_session.specs.Views.{depth}
 use Rattle.vx_companion.specs.Companion.{RepliesByCompanion}
 use Rattle.vx_companion.specs.Right.{IsSorted}

@@ -10,7 +10,7 @@ use Rattle.vx_smt_meaning.specs.declared.reply.Reply.TheVariants.{Unsat}
 use Rattle.vx_ends.specs.declared.piece.Piece.{Piece}
 use Rattle.vx_dialogue.specs.History.{Tells}
 use Rattle.cs_commands.specs.Laws.{IsPlain}
-use Rattle.cs_decide.specs.declared.answer.Cause.{Cause}
+use Rattle.cs_answer.specs.declared.answer.Cause.{Cause}
 use Rattle.vx_companion.specs.Companion.{RepliesByCompanion}
 
 -- An assertion is well-sorted; a sort isn't one of SMT-LIB's own, and so many levels are told by 32 bits. Numbers and names may be as they like.

@@ -9,7 +9,7 @@ ghost use Rattle.cs_session.specs.Texts.{reply_text};
 ghost use Rattle.cs_session.specs.Views.{state};
 ghost use Rattle.vx_companion.specs.Companion.{KeepsUp, HasReplied, RepliesByCompanion, AllByCompanion};
 
-use cs_decide::Cause;
+use cs_answer::Cause;
 use cs_session::{Reply, Session};
 use std::alloc::{AllocError, Global};
 use vx_ends::{Ending, Link, LinkFault, Parts, Record, Spawner, Start, StartFault, remove_once};

@@ -1,5 +1,5 @@
 use Rattle.std.proofs.Common.{◌++◌, ℕ, List, length}
-use Rattle.cs_decide.specs.declared.answer.Cause.{Cause}
+use Rattle.cs_answer.specs.declared.answer.Cause.{Cause}
 use Rattle.cs_session.specs.Answering.{Answering}
 use Rattle.cs_session.specs.Views.{state}
 use Rattle.vx_companion.specs.Companion.{KeepsUp}

@@ -1,0 +1,4 @@
+pub mod Causes
+pub mod Answers
+pub mod Few
+pub mod Tests

@@ -1,0 +1,4 @@
+pub mod Between
+pub mod Fractional
+pub mod Parts
+pub mod Splits

@@ -1,8 +1,0 @@
-use Rattle.std.proofs.Common.{◌≡◌, map, drop}
-use Rattle.std.specs.List.{list_all}
-use Rattle.vx_terms.specs.Views.{term}
-use Rattle.cs_decide.specs.Tests as tests
-use Rattle.cs_decide.proofs.formed.are_assertions.Given as goal
-
-abbrev pub invariant-loop-t : goal.invariant-loop-t
-invariant-loop-t l = list_all tests.is_assertion (map (λ x. term x.value) l.terms) ≡ list_all tests.is_assertion (map (λ x. term x.value) (drop l.t-index l.terms))

@@ -1,5 +1,0 @@
-use Rattle.cs_proof.specs.Fits.{seen}
-use Rattle.cs_decide.proofs.judging.stopped.Goals as goal
-
-pub returns-in-Budget-clause-cause : goal.returns-in-Budget-clause-cause
-returns-in-Budget-clause-cause c = c.by_budget.ensures (seen c.args.stack.now)
