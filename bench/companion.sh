@@ -17,7 +17,7 @@ decided() {
 chain() {
     awk -v n="$1" 'BEGIN {
         print "(declare-sort U 0)"
-        for (i = 0; i <= n; i++) print "(declare-const c" i " U)"
+        for (i = 0; i <= n; i++) print "(declare-fun c" i " () U)"
         for (i = 0; i < n; i++) print "(assert (= c" i " c" i + 1 "))"
         print "(assert (not (= c0 c" n ")))\n(check-sat)"
     }'
@@ -27,7 +27,7 @@ chain() {
 applications() {
     awk -v n="$1" 'BEGIN {
         print "(declare-sort U 0)\n(declare-fun f (U) U)"
-        for (i = 0; i < n; i++) print "(declare-const a" i " U)\n(declare-const b" i " U)"
+        for (i = 0; i < n; i++) print "(declare-fun a" i " () U)\n(declare-fun b" i " () U)"
         for (i = 0; i < n; i++) {
             print "(assert (= a" i " b" i "))"
             if (i > 0) print "(assert (= (f b" i - 1 ") (f a" i ")))"
@@ -42,7 +42,7 @@ clauses() {
     function below(m) { x = (16807 * x) % 2147483647; return int(x / 2147483647 * m) }
     function literal(a) { return below(2) ? "x" a : "(not x" a ")" }
     BEGIN {
-        for (i = 0; i < n; i++) print "(declare-const x" i " Bool)"
+        for (i = 0; i < n; i++) print "(declare-fun x" i " () Bool)"
         for (k = 0; k < 4.26 * n; k++) {
             a = below(n)
             do b = below(n); while (b == a)

@@ -39,8 +39,8 @@ stacks() {
             x = (48271 * seed + 11) % 2147483647
             for (i = 0; i < 10; i++) below(2)
             print "(reset)\n(echo \"seed " seed "\")\n(declare-sort U 0)"
-            for (i = 0; i < 3; i++) print "(declare-const a" i " U)"
-            print "(declare-const p0 Bool)\n(declare-const p1 Bool)"
+            for (i = 0; i < 3; i++) print "(declare-fun a" i " () U)"
+            print "(declare-fun p0 () Bool)\n(declare-fun p1 () Bool)"
             print "(declare-fun f (U) U)\n(declare-fun q (U) Bool)\n(declare-fun h (Bool U) U)"
             for (i = 2 + below(3); i > 0; i--) print "(assert " formula(2) ")"
             if (below(5) < 2) {

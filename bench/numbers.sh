@@ -32,11 +32,14 @@ stacks() {
         if (kind == "Real") return number(9)
         return "(" (below(2) ? "div" : "mod") " " term(0) " " (below(2) ? 3 : "(- 2)") ")"
     }
-    function atom(depth,  c) {
+    function atom(depth,  c, left, right) {
         c = below(10)
         if (c == 0) return "p" below(2)
         if (c == 1) return "(q " term(0) ")"
-        return "(" (c < 4 ? "=" : c < 6 ? "<" : c < 8 ? "<=" : c == 8 ? ">" : ">=") " " term(depth) " " term(depth) ")"
+        left = term(depth)
+        right = term(depth)
+        if (c >= 8) return "(" (c == 8 ? "<" : "<=") " " right " " left ")"
+        return "(" (c < 4 ? "=" : c < 6 ? "<" : "<=") " " left " " right ")"
     }
     function formula(depth,  c) {
         c = below(10)
@@ -52,8 +55,8 @@ stacks() {
             for (i = 0; i < 10; i++) below(2)
             kind = below(3) ? "Int" : "Real"
             print "(reset)\n(echo \"seed " seed "\")"
-            for (i = 0; i < 4; i++) print "(declare-const x" i " " kind ")"
-            print "(declare-const p0 Bool)\n(declare-const p1 Bool)"
+            for (i = 0; i < 4; i++) print "(declare-fun x" i " () " kind ")"
+            print "(declare-fun p0 () Bool)\n(declare-fun p1 () Bool)"
             print "(declare-fun f (" kind ") " kind ")\n(declare-fun q (" kind ") Bool)"
             for (i = 2 + below(8); i > 0; i--) print "(assert " formula(2) ")"
             print "(check-sat)"
@@ -64,7 +67,7 @@ stacks() {
 # Each number is at most 1 above the one before, and the last one more than n above the first.
 differences() {
     awk -v n="$1" -v more="$2" 'BEGIN {
-        for (i = 0; i <= n; i++) print "(declare-const x" i " Int)"
+        for (i = 0; i <= n; i++) print "(declare-fun x" i " () Int)"
         for (i = 0; i < n; i++) print "(assert (<= (- x" i + 1 " x" i ") 1))"
         print "(assert (<= " n + more " (- x" n " x0)))\n(check-sat)"
     }'
@@ -74,7 +77,7 @@ differences() {
 sums() {
     awk -v n="$1" -v more="$2" 'BEGIN {
         for (i = 0; i < n; i++) {
-            print "(declare-const x" i " Real)\n(assert (<= x" i " 1.0))"
+            print "(declare-fun x" i " () Real)\n(assert (<= x" i " 1.0))"
             sum = i ? "(+ " sum " x" i ")" : "x0"
         }
         print "(assert (<= " n + more ".0 " sum "))\n(check-sat)"

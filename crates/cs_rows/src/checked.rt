@@ -1,14 +1,17 @@
 //! What the checker answers to a reply.
 
 use crate::reading::{Written, certificate_of};
-use crate::row::Row;
 use crate::told::{add_line, refusal_text};
-use cs_proof::Checker;
+use cs_proof::{Checker, Stack};
 use cs_reader::{Certificate, Refusal};
 use std::alloc::{AllocError, Global};
 
-fn checker_of(alloc: Global, row: &Row, certificate: Certificate) -> Result<Checker, AllocError> {
-    Checker::new(alloc, &row.stack, certificate).map_err(|_| AllocError)
+fn checker_of(
+    alloc: Global,
+    stack: &Stack,
+    certificate: Certificate,
+) -> Result<Checker, AllocError> {
+    Checker::new(alloc, stack, certificate).map_err(|_| AllocError)
 }
 
 // An answer of the checker: this word, or its refusal.
@@ -24,9 +27,13 @@ fn answer_text(
 }
 
 // Each step, one call more than there are steps, and the end.
-fn steps_answers(alloc: Global, row: &Row, certificate: Certificate) -> Result<String, AllocError> {
+fn steps_answers(
+    alloc: Global,
+    stack: &Stack,
+    certificate: Certificate,
+) -> Result<String, AllocError> {
     let count = certificate.steps.len();
-    let mut checker = checker_of(alloc, row, certificate)?;
+    let mut checker = checker_of(alloc, stack, certificate)?;
     let mut told = String::new(alloc);
     for _ in 0..=count {
         let answer = checker.step();
@@ -39,14 +46,14 @@ fn steps_answers(alloc: Global, row: &Row, certificate: Certificate) -> Result<S
     Ok(told)
 }
 
-/// The answer to a reply over the row's assertions and symbols.
+/// The answer to a reply over these assertions and symbols.
 ///
 /// # Errors
 /// Want of memory.
-pub fn checked_as(alloc: Global, row: &Row, text: &str) -> Result<Option<String>, AllocError> {
+pub fn checked_as(alloc: Global, stack: &Stack, text: &str) -> Result<Option<String>, AllocError> {
     match certificate_of(alloc, text)? {
         Some(Written::Steps(certificate)) => {
-            let answer = checker_of(alloc, row, certificate)?.finish();
+            let answer = checker_of(alloc, stack, certificate)?.finish();
             Ok(Some(answer_text(alloc, &answer, "finished")?))
         }
         Some(Written::Refused(refusal)) => Ok(Some(refusal_text(alloc, &refusal)?)),
@@ -58,9 +65,9 @@ pub fn checked_as(alloc: Global, row: &Row, text: &str) -> Result<Option<String>
 ///
 /// # Errors
 /// Want of memory.
-pub fn stepped_as(alloc: Global, row: &Row, text: &str) -> Result<Option<String>, AllocError> {
+pub fn stepped_as(alloc: Global, stack: &Stack, text: &str) -> Result<Option<String>, AllocError> {
     match certificate_of(alloc, text)? {
-        Some(Written::Steps(certificate)) => Ok(Some(steps_answers(alloc, row, certificate)?)),
+        Some(Written::Steps(certificate)) => Ok(Some(steps_answers(alloc, stack, certificate)?)),
         Some(Written::Refused(refusal)) => Ok(Some(refusal_text(alloc, &refusal)?)),
         None => Ok(None),
     }

@@ -3,13 +3,12 @@
 ghost use Rattle.vx_dialogue.specs.Dialogue.{IsFree};
 
 use crate::links::counted_text;
-use crate::outside::Turn;
-use crate::row::Row;
+use crate::outside::{Outside, Turn};
 use crate::told::add_line;
 use std::alloc::{AllocError, Global};
 use vx_dialogue::{Dialogue, Talk};
 use vx_ends::{Bytes, Piece, ScriptLink};
-use vx_smt_meaning::Reply;
+use vx_smt_meaning::{Declared, Reply};
 
 fn kept_text(alloc: Global, word: &str, kept: &Bytes) -> Result<String, AllocError> {
     let text = counted_text(alloc, kept.as_slice())?;
@@ -82,19 +81,24 @@ fn sent_text(alloc: Global, link: &ScriptLink) -> Result<String, AllocError> {
     String::from_str(alloc, text.trim_end())
 }
 
-/// The row's turns of a dialogue over its live symbols, or why it isn't opened; behind `sent` all that was sent, too.
+/// The turns of a dialogue over the live symbols, or why it isn't opened; behind `sent` all that was sent, too.
 /// None: there is another word.
 ///
 /// # Errors
 /// Want of memory.
-pub fn dialogue_as(alloc: Global, row: &Row, text: &str) -> Result<Option<String>, AllocError> {
+pub fn dialogue_as(
+    alloc: Global,
+    live: &[Declared],
+    outside: &Outside,
+    text: &str,
+) -> Result<Option<String>, AllocError> {
     if !text.is_empty() && text != "sent" {
         return Ok(None);
     }
-    let link = ScriptLink::new(alloc, row.outside.script(alloc)?);
-    let (told, link) = match Dialogue::open(alloc, link, &row.stack.symbols, false) {
+    let link = ScriptLink::new(alloc, outside.script(alloc)?);
+    let (told, link) = match Dialogue::open(alloc, link, live, false) {
         Ok(mut dialogue) => {
-            let told = turns_text(alloc, &mut dialogue, &row.outside.turns);
+            let told = turns_text(alloc, &mut dialogue, &outside.turns);
             (told, dialogue.close())
         }
         Err((link, talk)) => (talk_text(alloc, &talk), link),

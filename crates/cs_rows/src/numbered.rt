@@ -2,11 +2,10 @@
 
 use crate::names::{operator_text, sort_text, symbol_text};
 use crate::reading::{Written, certificate_of, term_of};
-use crate::row::Row;
 use crate::told::{add_line, fraction_text, refusal_text};
 use cs_hints::Clause;
 use cs_numbers::{NumberedTerms, add, node_of, nodes_of, number, place_of};
-use cs_proof::{Duty, Step, prepared, step_of};
+use cs_proof::{Duty, Stack, Step, prepared, step_of};
 use cs_reader::{Certificate, SymbolIndex, Symbols};
 use cs_table::{Head, Node, Stop, Table};
 use std::alloc::{AllocError, Global};
@@ -59,10 +58,15 @@ fn want(stop: Result<(), Stop>) -> Result<(), AllocError> {
 ///
 /// # Errors
 /// Want of memory.
-pub fn numbers_as(alloc: Global, row: &Row, text: &str) -> Result<Option<String>, AllocError> {
-    let mut terms = number(alloc, &row.stack.assertions)?;
+pub fn numbers_as(
+    alloc: Global,
+    assertions: &[Rc<Term>],
+    known: &[Declared],
+    text: &str,
+) -> Result<Option<String>, AllocError> {
+    let mut terms = number(alloc, assertions)?;
     if !text.is_empty() {
-        let Some(further) = term_of(alloc, &row.known, text)? else {
+        let Some(further) = term_of(alloc, known, text)? else {
             return Ok(None);
         };
         add(&mut terms, &further)?;
@@ -144,11 +148,15 @@ fn done_by(alloc: Global, all: &mut Numbered, step: &Step) -> Result<String, All
     format!(in alloc; "numbers {} terms", all.nodes.nodes.len())
 }
 
-fn steps_done(alloc: Global, row: &Row, certificate: Certificate) -> Result<String, AllocError> {
-    let declared: &[Declared] = &row.stack.symbols;
+fn steps_done(
+    alloc: Global,
+    stack: &Stack,
+    certificate: Certificate,
+) -> Result<String, AllocError> {
+    let declared: &[Declared] = &stack.symbols;
     let index = SymbolIndex::of(alloc, declared)?;
     let symbols = Symbols::new(declared, &index);
-    let Ok(mut all) = numbered_of(alloc, &row.stack.assertions) else {
+    let Ok(mut all) = numbered_of(alloc, &stack.assertions) else {
         return Err(AllocError);
     };
     let mut told = String::new(alloc);
@@ -161,13 +169,13 @@ fn steps_done(alloc: Global, row: &Row, certificate: Certificate) -> Result<Stri
     Ok(told)
 }
 
-/// The clause of each step of a reply over the row's assertions.
+/// The clause of each step of a reply over these assertions.
 ///
 /// # Errors
 /// Want of memory.
-pub fn derived_as(alloc: Global, row: &Row, text: &str) -> Result<Option<String>, AllocError> {
+pub fn derived_as(alloc: Global, stack: &Stack, text: &str) -> Result<Option<String>, AllocError> {
     match certificate_of(alloc, text)? {
-        Some(Written::Steps(certificate)) => Ok(Some(steps_done(alloc, row, certificate)?)),
+        Some(Written::Steps(certificate)) => Ok(Some(steps_done(alloc, stack, certificate)?)),
         Some(Written::Refused(refusal)) => Ok(Some(refusal_text(alloc, &refusal)?)),
         None => Ok(None),
     }

@@ -1,7 +1,6 @@
 //! Replies, terms and certificates as they are read.
 
 use crate::names::sort_text;
-use crate::row::Row;
 use crate::told::refusal_text;
 use crate::written::steps_text;
 use cs_reader::{Certificate, ReadFault, Refusal, Scope, Stop, SymbolIndex, Symbols, spelled};
@@ -96,18 +95,26 @@ fn asserted(alloc: Global, term: Rc<Term>) -> Result<String, AllocError> {
 ///
 /// # Errors
 /// Want of memory.
-pub fn spelled_as(alloc: Global, row: &Row, text: &str) -> Result<Option<String>, AllocError> {
-    match term_of(alloc, &row.known, text)? {
+pub fn spelled_as(
+    alloc: Global,
+    known: &[Declared],
+    text: &str,
+) -> Result<Option<String>, AllocError> {
+    match term_of(alloc, known, text)? {
         Some(term) => Ok(Some(asserted(alloc, term)?)),
         None => Ok(Some(String::from_str(alloc, "no term")?)),
     }
 }
 
 // A sort, and whether the term's symbols are live.
-fn sort_line(alloc: Global, row: &Row, term: &Term, sort: &Sort) -> Result<String, AllocError> {
-    let declared: &[Declared] = &row.stack.symbols;
-    let index = SymbolIndex::of(alloc, declared)?;
-    let symbols = Symbols::new(declared, &index);
+fn sort_line(
+    alloc: Global,
+    live: &[Declared],
+    term: &Term,
+    sort: &Sort,
+) -> Result<String, AllocError> {
+    let index = SymbolIndex::of(alloc, live)?;
+    let symbols = Symbols::new(live, &index);
     let live = if is_live(&symbols, term)? {
         "live"
     } else {
@@ -120,12 +127,17 @@ fn sort_line(alloc: Global, row: &Row, term: &Term, sort: &Sort) -> Result<Strin
 ///
 /// # Errors
 /// Want of memory.
-pub fn sorted_as(alloc: Global, row: &Row, text: &str) -> Result<Option<String>, AllocError> {
-    let Some(term) = term_of(alloc, &row.known, text)? else {
+pub fn sorted_as(
+    alloc: Global,
+    known: &[Declared],
+    live: &[Declared],
+    text: &str,
+) -> Result<Option<String>, AllocError> {
+    let Some(term) = term_of(alloc, known, text)? else {
         return Ok(None);
     };
     match sort_in(&term) {
-        Ok(sort) => Ok(Some(sort_line(alloc, row, &term, &sort)?)),
+        Ok(sort) => Ok(Some(sort_line(alloc, live, &term, &sort)?)),
         Err(cs_table::Stop::Miss) => Ok(Some(String::from_str(alloc, "no sort")?)),
         Err(cs_table::Stop::Want) => Err(AllocError),
     }

@@ -6,11 +6,13 @@ use crate::dialogues::dialogue_as;
 use crate::links::{ready_as, talk_as};
 use crate::memories::{load_as, sink_as, source_as, turns_as};
 use crate::numbered::{derived_as, numbers_as};
+use crate::outside::Outside;
 use crate::reading::{read_as, sorted_as, spelled_as};
 use crate::row::Row;
 use crate::sizes::sizes_as;
 use crate::told::{put_line, put_text};
 use std::alloc::{AllocError, Global};
+use vx_smt_meaning::Declared;
 
 // What is answered to a question; None: the line asks nothing.
 fn answer(
@@ -22,32 +24,33 @@ fn answer(
     match word {
         "read" => read_as(alloc, rest),
         "sizes" => sizes_as(alloc, rest),
-        "spells" => spelled_as(alloc, row, rest),
-        "sort" => sorted_as(alloc, row, rest),
-        "numbers" => numbers_as(alloc, row, rest),
-        "derives" => derived_as(alloc, row, rest),
-        "check" => checked_as(alloc, row, rest),
-        "steps" => stepped_as(alloc, row, rest),
-        "under" => numbers_under(alloc, row, rest),
-        "spend" => spent_as(alloc, row, rest),
-        _ => answer_outside(alloc, row, word, rest),
+        "spells" => spelled_as(alloc, &row.known, rest),
+        "sort" => sorted_as(alloc, &row.known, &row.stack.symbols, rest),
+        "numbers" => numbers_as(alloc, &row.stack.assertions, &row.known, rest),
+        "derives" => derived_as(alloc, &row.stack, rest),
+        "check" => checked_as(alloc, &row.stack, rest),
+        "steps" => stepped_as(alloc, &row.stack, rest),
+        "under" => numbers_under(alloc, &row.index, rest),
+        "spend" => spent_as(alloc, &mut row.meter, rest),
+        _ => answer_outside(alloc, &row.stack.symbols, &row.outside, word, rest),
     }
 }
 
 // What is answered to a question of the outside.
 fn answer_outside(
     alloc: Global,
-    row: &Row,
+    live: &[Declared],
+    outside: &Outside,
     word: &str,
     rest: &str,
 ) -> Result<Option<String>, AllocError> {
     match word {
-        "dialogue" => dialogue_as(alloc, row, rest),
-        "talk" => talk_as(alloc, &row.outside, rest),
-        "ready" => ready_as(alloc, &row.outside),
-        "load" => load_as(alloc, &row.outside, rest),
+        "dialogue" => dialogue_as(alloc, live, outside, rest),
+        "talk" => talk_as(alloc, outside, rest),
+        "ready" => ready_as(alloc, outside),
+        "load" => load_as(alloc, outside, rest),
         "sink" => sink_as(alloc, rest),
-        "source" => source_as(alloc, &row.outside, rest),
+        "source" => source_as(alloc, outside, rest),
         "turns" => turns_as(alloc, rest),
         _ => Ok(None),
     }

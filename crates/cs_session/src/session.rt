@@ -65,6 +65,20 @@ impl Session {
         }
     }
 
+    /// What is declared and asserted, on which levels.
+    pub fn levels(&self) -> &Levels
+        ensures { levels_of result.now ≡ (state self.now).levels }
+    {
+        &self.levels
+    }
+
+    /// What the last check said of the levels as they are.
+    pub fn last(&self) -> &Last
+        ensures { result.now ≡ (state self.now).last }
+    {
+        &self.last
+    }
+
     /// Why the last check is undecided, where it is.
     pub fn cause(&self) -> Option<&Cause>
         ensures { option_map (λ c. c.now) result ≡ cause_of (state self.now).last }

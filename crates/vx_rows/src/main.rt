@@ -15,7 +15,7 @@ fn told_of(rt: &HostRuntime, alloc: Global, text: &str) -> Result<Vec<u8>, Alloc
     let (table, certificates) = text.split_once("\ncertificates\n").unwrap_or((text, ""));
     let mut out = Vec::new(alloc);
     run_all(alloc, table, &mut Program { rt }, &mut out)?;
-    let told = cs_rows::told_of(alloc, certificates)?;
+    let told = cs_joined::told_of(alloc, certificates)?;
     out.extend_from_slice(told.as_bytes())?;
     Ok(out)
 }
