@@ -1,7 +1,8 @@
 //! What the checker answers to a reply.
 
 use crate::reading::{Written, certificate_of};
-use crate::told::{add_line, refusal_text};
+use crate::text::Text;
+use crate::told::put_refusal;
 use cs_proof::{Checker, Stack};
 use cs_reader::{Certificate, Refusal};
 use std::alloc::{AllocError, Global};
@@ -15,60 +16,61 @@ fn checker_of(
 }
 
 // An answer of the checker: this word, or its refusal.
-fn answer_text(
-    alloc: Global,
-    answer: &Result<(), Refusal>,
-    word: &str,
-) -> Result<String, AllocError> {
+fn put_answer(text: &mut Text, answer: &Result<(), Refusal>, word: &str) {
+    text.line();
     match answer {
-        Ok(()) => String::from_str(alloc, word),
-        Err(refusal) => refusal_text(alloc, refusal),
+        Ok(()) => text.put(word),
+        Err(refusal) => put_refusal(text, refusal),
     }
 }
 
 // Each step, one call more than there are steps, and the end.
-fn steps_answers(
+fn put_answers(text: &mut Text, checker: Checker, count: usize) {
+    let mut checker = checker;
+    for _ in 0..=count {
+        put_answer(text, &checker.step(), "holds");
+    }
+    put_answer(text, &checker.finish(), "finished");
+}
+
+/// The answer to a reply over these assertions and symbols; false: it is none.
+///
+/// # Errors
+/// Want of memory.
+pub fn put_check(
     alloc: Global,
     stack: &Stack,
-    certificate: Certificate,
-) -> Result<String, AllocError> {
-    let count = certificate.steps.len();
-    let mut checker = checker_of(alloc, stack, certificate)?;
-    let mut told = String::new(alloc);
-    for _ in 0..=count {
-        let answer = checker.step();
-        add_line(&mut told, &answer_text(alloc, &answer, "holds")?)?;
-    }
-    add_line(
-        &mut told,
-        &answer_text(alloc, &checker.finish(), "finished")?,
-    )?;
-    Ok(told)
-}
-
-/// The answer to a reply over these assertions and symbols.
-///
-/// # Errors
-/// Want of memory.
-pub fn checked_as(alloc: Global, stack: &Stack, text: &str) -> Result<Option<String>, AllocError> {
-    match certificate_of(alloc, text)? {
+    reply: &str,
+    text: &mut Text,
+) -> Result<bool, AllocError> {
+    match certificate_of(alloc, reply)? {
         Some(Written::Steps(certificate)) => {
             let answer = checker_of(alloc, stack, certificate)?.finish();
-            Ok(Some(answer_text(alloc, &answer, "finished")?))
+            put_answer(text, &answer, "finished");
         }
-        Some(Written::Refused(refusal)) => Ok(Some(refusal_text(alloc, &refusal)?)),
-        None => Ok(None),
+        Some(Written::Refused(refusal)) => put_refusal(text, &refusal),
+        None => return Ok(false),
     }
+    Ok(true)
 }
 
-/// The answer at each step of a reply, once more behind the last one, and at the end.
+/// The answer at each step of a reply, once more behind the last one, and at the end; false: it is none.
 ///
 /// # Errors
 /// Want of memory.
-pub fn stepped_as(alloc: Global, stack: &Stack, text: &str) -> Result<Option<String>, AllocError> {
-    match certificate_of(alloc, text)? {
-        Some(Written::Steps(certificate)) => Ok(Some(steps_answers(alloc, stack, certificate)?)),
-        Some(Written::Refused(refusal)) => Ok(Some(refusal_text(alloc, &refusal)?)),
-        None => Ok(None),
+pub fn put_steps(
+    alloc: Global,
+    stack: &Stack,
+    reply: &str,
+    text: &mut Text,
+) -> Result<bool, AllocError> {
+    match certificate_of(alloc, reply)? {
+        Some(Written::Steps(certificate)) => {
+            let count = certificate.steps.len();
+            put_answers(text, checker_of(alloc, stack, certificate)?, count);
+        }
+        Some(Written::Refused(refusal)) => put_refusal(text, &refusal),
+        None => return Ok(false),
     }
+    Ok(true)
 }

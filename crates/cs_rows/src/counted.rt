@@ -1,42 +1,30 @@
 //! Numbers under keys, and units that are spent.
 
+use crate::text::Text;
 use cs_index::Index;
 use cs_meter::Meter;
-use std::alloc::{AllocError, Global};
 
-/// The numbers under a key; None: the text is no key.
-///
-/// # Errors
-/// Want of memory.
-pub fn numbers_under(
-    alloc: Global,
-    index: &Index,
-    text: &str,
-) -> Result<Option<String>, AllocError> {
-    let Ok(key) = text.parse() else {
-        return Ok(None);
+/// The numbers under a key; false: it is no key.
+pub fn put_numbers_under(index: &Index, key: &str, text: &mut Text) -> bool {
+    let Ok(key) = key.parse() else {
+        return false;
     };
-    let mut told = String::new(alloc);
     for number in index.under(key) {
-        write!(told, "{number} ")?;
+        if !text.is_empty() {
+            text.put(" ");
+        }
+        text.natural(u128::from(*number));
     }
-    if told.is_empty() {
-        told.push_str("none")?;
+    if text.is_empty() {
+        text.put("none");
     }
-    Ok(Some(String::from_str(alloc, told.trim_end())?))
+    true
 }
 
-/// How much is spent behind so many units more, and how many of them are refused; None: the text is no number.
-///
-/// # Errors
-/// Want of memory.
-pub fn spent_as(
-    alloc: Global,
-    meter: &mut Meter,
-    text: &str,
-) -> Result<Option<String>, AllocError> {
-    let Ok(units) = text.parse::<u32>() else {
-        return Ok(None);
+/// How much is spent behind so many units more, and how many of them are refused; false: that is no number.
+pub fn put_spent(meter: &mut Meter, units: &str, text: &mut Text) -> bool {
+    let Ok(units) = units.parse::<u32>() else {
+        return false;
     };
     let mut refused = 0u32;
     for _ in 0..units {
@@ -44,6 +32,9 @@ pub fn spent_as(
             refused = refused.saturating_add(1);
         }
     }
-    let spent = meter.spent();
-    Ok(Some(format!(in alloc; "{spent} spent, {refused} refused")?))
+    text.natural(u128::from(meter.spent()));
+    text.put(" spent, ");
+    text.natural(u128::from(refused));
+    text.put(" refused");
+    true
 }

@@ -14,6 +14,7 @@ mod reading;
 mod row;
 mod sizes;
 mod table;
+mod text;
 mod told;
 mod written;
 

@@ -2,9 +2,9 @@
 
 ghost use Rattle.std.specs.Prelude.{◌<◌};
 
-use crate::links::counted_text;
+use crate::links::put_counted;
 use crate::outside::Outside;
-use crate::told::add_line;
+use crate::text::Text;
 use std::alloc::{AllocError, Global};
 use vx_ends::{
     Bytes, Files, LoadFault, MemFiles, MemSink, MemSource, MoreFault, NamedText, PutFault,
@@ -17,82 +17,83 @@ fn counted(rest: &str) -> Option<(usize, &str)> {
     Some((number.parse().ok()?, text))
 }
 
-fn piece_text(alloc: Global, piece: &Result<Vec<u8>, MoreFault>) -> Result<String, AllocError> {
+fn put_piece(alloc: Global, piece: &Result<Vec<u8>, MoreFault>, text: &mut Text) {
     match piece {
-        Ok(bytes) if bytes.is_empty() => String::from_str(alloc, "the end"),
-        Ok(bytes) => counted_text(alloc, bytes),
-        Err(MoreFault::Failed) => String::from_str(alloc, "a fault"),
-        Err(MoreFault::Want) => Err(AllocError),
+        Ok(bytes) if bytes.is_empty() => text.put("the end"),
+        Ok(bytes) => put_counted(alloc, bytes, text),
+        Err(MoreFault::Failed) => text.put("a fault"),
+        Err(MoreFault::Want) => text.cut(),
     }
 }
 
 // The pieces of a source, up to its end, in so many calls at most.
-fn pieces_text<S: Source>(
-    alloc: Global,
-    source: &mut S,
-    max: usize,
-    calls: usize,
-) -> Result<String, AllocError>
+fn put_pieces<S: Source>(alloc: Global, source: &mut S, max: usize, calls: usize, text: &mut Text)
     requires { 0 < max }
 {
-    let mut told = String::new(alloc);
     for _ in 0..calls {
         let piece = source.more(alloc, max);
-        add_line(&mut told, &piece_text(alloc, &piece)?)?;
+        text.line();
+        put_piece(alloc, &piece, text);
         if piece.is_ok_and(|bytes| bytes.is_empty()) {
             break;
         }
     }
-    Ok(told)
 }
 
-/// The pieces of a source of a text, at most so long, of which the row's calls fail; None: there is no number.
+/// The pieces of a source of a text, at most so long, of which the row's calls fail; false: there is no number.
 ///
 /// # Errors
 /// Want of memory.
-pub fn source_as(
+pub fn put_source(
     alloc: Global,
     outside: &Outside,
-    text: &str,
-) -> Result<Option<String>, AllocError> {
-    let Some((max, text)) = counted(text) else {
-        return Ok(None);
+    asked: &str,
+    text: &mut Text,
+) -> Result<bool, AllocError> {
+    let Some((max, given)) = counted(asked) else {
+        return Ok(false);
     };
     if max == 0 {
-        return Ok(None);
+        return Ok(false);
     }
-    let bytes = Vec::from_slice(alloc, text.as_bytes())?;
-    let calls = text
+    let bytes = Vec::from_slice(alloc, given.as_bytes())?;
+    let calls = given
         .len()
         .saturating_add(outside.fails.len())
         .saturating_add(1);
     let mut source = MemSource::new(bytes, outside.fails.clone()?);
-    Ok(Some(pieces_text(alloc, &mut source, max, calls)?))
+    put_pieces(alloc, &mut source, max, calls, text);
+    Ok(true)
 }
 
-fn put_text(alloc: Global, put: &Result<usize, PutFault>) -> Result<String, AllocError> {
+fn put_taken(put: &Result<usize, PutFault>, text: &mut Text) {
     match put {
-        Ok(count) => format!(in alloc; "{count} taken"),
-        Err(PutFault::Failed) => String::from_str(alloc, "a fault"),
+        Ok(count) => {
+            text.natural(*count as u128);
+            text.put(" taken");
+        }
+        Err(PutFault::Failed) => text.put("a fault"),
     }
 }
 
-/// What a sink of this room takes of a text, and of what is left of it then; and what it keeps. None: there is no number.
+/// What a sink of this room takes of a text, and of what is left of it then; and what it keeps. False: there is no number.
 ///
 /// # Errors
 /// Want of memory.
-pub fn sink_as(alloc: Global, text: &str) -> Result<Option<String>, AllocError> {
-    let Some((room, text)) = counted(text) else {
-        return Ok(None);
+pub fn put_sink(alloc: Global, asked: &str, text: &mut Text) -> Result<bool, AllocError> {
+    let Some((room, given)) = counted(asked) else {
+        return Ok(false);
     };
     let mut sink = MemSink::new(alloc, room)?;
-    let first = sink.put(text.as_bytes());
-    let left = text.as_bytes().get(first.unwrap_or(0)..).unwrap_or(&[]);
+    let first = sink.put(given.as_bytes());
+    let left = given.as_bytes().get(first.unwrap_or(0)..).unwrap_or(&[]);
     let second = sink.put(left);
-    let mut told = put_text(alloc, &first)?;
-    add_line(&mut told, &put_text(alloc, &second)?)?;
-    add_line(&mut told, &counted_text(alloc, sink.taken())?)?;
-    Ok(Some(told))
+    put_taken(&first, text);
+    text.line();
+    put_taken(&second, text);
+    text.line();
+    put_counted(alloc, sink.taken(), text);
+    Ok(true)
 }
 
 fn files_of(alloc: Global, outside: &Outside) -> Result<MemFiles, AllocError> {
@@ -114,38 +115,53 @@ fn files_of(alloc: Global, outside: &Outside) -> Result<MemFiles, AllocError> {
 ///
 /// # Errors
 /// Want of memory.
-pub fn load_as(alloc: Global, outside: &Outside, name: &str) -> Result<Option<String>, AllocError> {
+pub fn put_load(
+    alloc: Global,
+    outside: &Outside,
+    name: &str,
+    text: &mut Text,
+) -> Result<(), AllocError> {
     let mut files = files_of(alloc, outside)?;
     let name = if name.is_empty() { None } else { Some(name) };
     match files.load(alloc, name) {
-        Ok(text) => Ok(Some(counted_text(alloc, &text)?)),
-        Err(LoadFault::Failed) => Ok(Some(String::from_str(alloc, "a fault")?)),
-        Err(LoadFault::TooLong) => Ok(Some(String::from_str(alloc, "too long")?)),
-        Err(LoadFault::Want) => Err(AllocError),
+        Ok(found) => put_counted(alloc, &found, text),
+        Err(LoadFault::Failed) => text.put("a fault"),
+        Err(LoadFault::TooLong) => text.put("too long"),
+        Err(LoadFault::Want) => text.cut(),
     }
+    Ok(())
+}
+
+// The turn where so many wait.
+fn put_turn<N: Turns>(turns: &mut N, waiting: usize, text: &mut Text)
+    requires { 0 < waiting }
+{
+    text.natural(turns.pick(waiting) as u128);
 }
 
 // The turns where 2, 2 and 3 wait.
-fn three_turns<N: Turns>(alloc: Global, turns: &mut N) -> Result<String, AllocError> {
-    let first = turns.pick(2);
-    let second = turns.pick(2);
-    let third = turns.pick(3);
-    format!(in alloc; "{first} {second} {third}")
+fn put_three<N: Turns>(turns: &mut N, text: &mut Text) {
+    text.line();
+    put_turn(turns, 2, text);
+    text.put(" ");
+    put_turn(turns, 2, text);
+    text.put(" ");
+    put_turn(turns, 3, text);
 }
 
-/// The turns of a list where 2, 2 and 3 wait, and those that go round; None: the text is no list of numbers.
+/// The turns of a list where 2, 2 and 3 wait, and those that go round; false: it is no list of numbers.
 ///
 /// # Errors
 /// Want of memory.
-pub fn turns_as(alloc: Global, text: &str) -> Result<Option<String>, AllocError> {
+pub fn put_turns(alloc: Global, list: &str, text: &mut Text) -> Result<bool, AllocError> {
     let mut turns = Vec::new(alloc);
-    for word in text.split_whitespace() {
+    for word in list.split_whitespace() {
         let Ok(turn) = word.parse() else {
-            return Ok(None);
+            return Ok(false);
         };
         turns.push(turn)?;
     }
-    let mut told = three_turns(alloc, &mut TurnList::new(turns))?;
-    add_line(&mut told, &three_turns(alloc, &mut RoundRobin::new())?)?;
-    Ok(Some(told))
+    put_three(&mut TurnList::new(turns), text);
+    put_three(&mut RoundRobin::new(), text);
+    Ok(true)
 }

@@ -1,5 +1,6 @@
 //! Symbols and sorts by their words.
 
+use crate::text::Text;
 use std::alloc::{AllocError, Global};
 use std::rc::Rc;
 use vx_smt_meaning::Declared;
@@ -65,15 +66,21 @@ pub fn declared_of(alloc: Global, text: &str) -> Result<Option<Declared>, AllocE
 }
 
 /// A symbol's word.
-///
-/// # Errors
-/// Want of memory.
-pub fn symbol_text(alloc: Global, of: &Symbol) -> Result<String, AllocError> {
+pub fn put_symbol(text: &mut Text, of: &Symbol) {
     match of {
-        Symbol::Standard(number) => format!(in alloc; "s{number}"),
-        Symbol::Function(number) => format!(in alloc; "f{number}"),
-        Symbol::Variable(number) => format!(in alloc; "v{number}"),
-        Symbol::Named(name) => String::from_str(alloc, name.as_str()),
+        Symbol::Standard(number) => {
+            text.put("s");
+            text.natural(u128::from(*number));
+        }
+        Symbol::Function(number) => {
+            text.put("f");
+            text.natural(u128::from(*number));
+        }
+        Symbol::Variable(number) => {
+            text.put("v");
+            text.natural(u128::from(*number));
+        }
+        Symbol::Named(name) => text.put(name.as_str()),
     }
 }
 

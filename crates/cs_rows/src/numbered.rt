@@ -1,8 +1,9 @@
 //! Terms by number, and the clauses that steps derive over them.
 
-use crate::names::{operator_text, sort_text, symbol_text};
+use crate::names::{operator_text, put_symbol, sort_text};
 use crate::reading::{Written, certificate_of, term_of};
-use crate::told::{add_line, fraction_text, refusal_text};
+use crate::text::Text;
+use crate::told::{put_fraction, put_refusal};
 use cs_hints::Clause;
 use cs_numbers::{NumberedTerms, add, node_of, nodes_of, number, place_of};
 use cs_proof::{Duty, Stack, Step, prepared, step_of};
@@ -21,64 +22,74 @@ struct Numbered {
     roots: Vec<u32>,
 }
 
-fn head_text(alloc: Global, head: &Head) -> Result<String, AllocError> {
+fn put_head(text: &mut Text, head: &Head) {
     match head {
-        Head::Truth(value) => format!(in alloc; "{value}"),
-        Head::Number(number) => format!(in alloc; "{number}"),
-        Head::Part(part) => fraction_text(alloc, *part),
-        Head::Constant(symbol, _) => symbol_text(alloc, symbol),
-        Head::Apply(symbol, _) => symbol_text(alloc, symbol),
-        Head::Binary(operator) => String::from_str(alloc, operator_text(*operator)),
-        Head::Not => String::from_str(alloc, "not"),
-        Head::Ite => String::from_str(alloc, "ite"),
-        Head::All => String::from_str(alloc, "and"),
-        Head::Some => String::from_str(alloc, "or"),
+        Head::Truth(value) => text.put(if *value { "true" } else { "false" }),
+        Head::Number(number) => text.whole(*number),
+        Head::Part(part) => put_fraction(text, *part),
+        Head::Constant(symbol, _) => put_symbol(text, symbol),
+        Head::Apply(symbol, _) => put_symbol(text, symbol),
+        Head::Binary(operator) => text.put(operator_text(*operator)),
+        Head::Not => text.put("not"),
+        Head::Ite => text.put("ite"),
+        Head::All => text.put("and"),
+        Head::Some => text.put("or"),
+    }
+}
+
+fn put_parts(text: &mut Text, parts: &[u32]) {
+    for part in parts {
+        text.put(" ");
+        text.natural(u128::from(*part));
     }
 }
 
 // A numbered term: its head over the numbers of its parts, and its sort.
-fn node_line(alloc: Global, number: usize, node: &Node) -> Result<String, AllocError> {
-    let mut parts = String::new(alloc);
-    for part in &node.parts {
-        write!(parts, " {part}")?;
+fn put_node(text: &mut Text, number: usize, node: &Node) {
+    text.line();
+    text.natural(number as u128);
+    text.put(" ");
+    if node.parts.is_empty() {
+        put_head(text, &node.head);
+    } else {
+        text.put("(");
+        put_head(text, &node.head);
+        put_parts(text, &node.parts);
+        text.put(")");
     }
-    let head = head_text(alloc, &node.head)?;
-    let sort = sort_text(&node.sort);
-    if parts.is_empty() {
-        return format!(in alloc; "{number} {head} {sort}");
-    }
-    format!(in alloc; "{number} ({head}{parts}) {sort}")
+    text.put(" ");
+    text.put(sort_text(&node.sort));
 }
 
 fn want(stop: Result<(), Stop>) -> Result<(), AllocError> {
     stop.map_err(|_| AllocError)
 }
 
-/// The numbered terms of the assertions, and of a further one where the text spells one.
+/// The numbered terms of the assertions, and of a further one where it is spelled; false: it is no term.
 ///
 /// # Errors
 /// Want of memory.
-pub fn numbers_as(
+pub fn put_numbers(
     alloc: Global,
     assertions: &[Rc<Term>],
     known: &[Declared],
-    text: &str,
-) -> Result<Option<String>, AllocError> {
+    further: &str,
+    text: &mut Text,
+) -> Result<bool, AllocError> {
     let mut terms = number(alloc, assertions)?;
-    if !text.is_empty() {
-        let Some(further) = term_of(alloc, known, text)? else {
-            return Ok(None);
+    if !further.is_empty() {
+        let Some(further) = term_of(alloc, known, further)? else {
+            return Ok(false);
         };
         add(&mut terms, &further)?;
     }
     let Ok(nodes) = nodes_of(alloc, &terms) else {
         return Err(AllocError);
     };
-    let mut told = String::new(alloc);
     for (number, node) in nodes.iter().enumerate() {
-        add_line(&mut told, &node_line(alloc, number, node)?)?;
+        put_node(text, number, node);
     }
-    Ok(Some(told))
+    Ok(true)
 }
 
 // The nodes of the terms that have none yet.
@@ -110,73 +121,89 @@ fn numbered_of(alloc: Global, assertions: &[Rc<Term>]) -> Result<Numbered, Stop>
 }
 
 // A clause: its literals, if it has any.
-fn clause_text(alloc: Global, clause: &Clause) -> Result<String, AllocError> {
+fn put_clause(text: &mut Text, clause: &Clause) {
     if clause.literals.is_empty() {
-        return String::from_str(alloc, " the empty clause");
+        text.put(" the empty clause");
     }
-    let mut text = String::new(alloc);
     for literal in &clause.literals {
-        let sign = if literal.positive { 'p' } else { 'n' };
-        write!(text, " {sign}{}", literal.number)?;
+        text.put(if literal.positive { " p" } else { " n" });
+        text.natural(u128::from(literal.number));
     }
-    Ok(text)
+}
+
+fn put_derived(text: &mut Text, clause: &Clause, by: &str) {
+    text.put("derives");
+    put_clause(text, clause);
+    text.put(by);
 }
 
 // What a step that is no `term` step derives, or what it still has to show.
-fn prepared_text(alloc: Global, all: &Numbered, step: &Step) -> Result<String, AllocError> {
-    let (duty, clause) = match prepared(alloc, &all.nodes, &all.roots, step) {
-        Ok(found) => found,
-        Err(Stop::Miss) => return String::from_str(alloc, "misses its rule"),
-        Err(Stop::Want) => return Err(AllocError),
-    };
-    let clause = clause_text(alloc, &clause)?;
-    match duty {
-        Duty::Derived => format!(in alloc; "derives{clause}"),
-        Duty::Sum(_, _) => format!(in alloc; "derives{clause} by a sum"),
-        Duty::Hints(_, _) => format!(in alloc; "derives{clause} by hints"),
-        Duty::Named | Duty::Missed => String::from_str(alloc, "derives nothing"),
+fn put_prepared(alloc: Global, all: &Numbered, step: &Step, text: &mut Text) {
+    match prepared(alloc, &all.nodes, &all.roots, step) {
+        Ok((Duty::Derived, clause)) => put_derived(text, &clause, ""),
+        Ok((Duty::Sum(_, _), clause)) => put_derived(text, &clause, " by a sum"),
+        Ok((Duty::Hints(_, _), clause)) => put_derived(text, &clause, " by hints"),
+        Ok((Duty::Named | Duty::Missed, _)) => text.put("derives nothing"),
+        Err(Stop::Miss) => text.put("misses its rule"),
+        Err(Stop::Want) => text.cut(),
     }
 }
 
 // What a step does: a `term` step numbers its term.
-fn done_by(alloc: Global, all: &mut Numbered, step: &Step) -> Result<String, AllocError> {
+fn put_done(
+    alloc: Global,
+    all: &mut Numbered,
+    step: &Step,
+    text: &mut Text,
+) -> Result<(), AllocError> {
+    text.line();
     let Step::Term(term) = step else {
-        return prepared_text(alloc, all, step);
+        put_prepared(alloc, all, step, text);
+        return Ok(());
     };
     add(&mut all.terms, term)?;
     want(extend(alloc, &mut all.nodes, &all.terms))?;
-    format!(in alloc; "numbers {} terms", all.nodes.nodes.len())
+    text.put("numbers ");
+    text.natural(all.nodes.nodes.len() as u128);
+    text.put(" terms");
+    Ok(())
 }
 
-fn steps_done(
+fn put_steps(
     alloc: Global,
     stack: &Stack,
     certificate: Certificate,
-) -> Result<String, AllocError> {
+    text: &mut Text,
+) -> Result<(), AllocError> {
     let declared: &[Declared] = &stack.symbols;
     let index = SymbolIndex::of(alloc, declared)?;
     let symbols = Symbols::new(declared, &index);
     let Ok(mut all) = numbered_of(alloc, &stack.assertions) else {
         return Err(AllocError);
     };
-    let mut told = String::new(alloc);
     for read in certificate.steps {
         let Ok(step) = step_of(alloc, &symbols, read) else {
             return Err(AllocError);
         };
-        add_line(&mut told, &done_by(alloc, &mut all, &step)?)?;
+        put_done(alloc, &mut all, &step, text)?;
     }
-    Ok(told)
+    Ok(())
 }
 
-/// The clause of each step of a reply over these assertions.
+/// The clause of each step of a reply over these assertions; false: it is none.
 ///
 /// # Errors
 /// Want of memory.
-pub fn derived_as(alloc: Global, stack: &Stack, text: &str) -> Result<Option<String>, AllocError> {
-    match certificate_of(alloc, text)? {
-        Some(Written::Steps(certificate)) => Ok(Some(steps_done(alloc, stack, certificate)?)),
-        Some(Written::Refused(refusal)) => Ok(Some(refusal_text(alloc, &refusal)?)),
-        None => Ok(None),
+pub fn put_derives(
+    alloc: Global,
+    stack: &Stack,
+    reply: &str,
+    text: &mut Text,
+) -> Result<bool, AllocError> {
+    match certificate_of(alloc, reply)? {
+        Some(Written::Steps(certificate)) => put_steps(alloc, stack, certificate, text)?,
+        Some(Written::Refused(refusal)) => put_refusal(text, &refusal),
+        None => return Ok(false),
     }
+    Ok(true)
 }

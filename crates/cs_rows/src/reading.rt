@@ -1,8 +1,9 @@
 //! Replies, terms and certificates as they are read.
 
 use crate::names::sort_text;
-use crate::told::refusal_text;
-use crate::written::steps_text;
+use crate::text::Text;
+use crate::told::put_refusal;
+use crate::written::put_written;
 use cs_reader::{Certificate, ReadFault, Refusal, Scope, Stop, SymbolIndex, Symbols, spelled};
 use cs_sorts::{is_live, sort_in};
 use std::alloc::{AllocError, Global};
@@ -71,74 +72,80 @@ pub fn certificate_of(alloc: Global, text: &str) -> Result<Option<Written>, Allo
     }
 }
 
-/// The steps of a reply, or its refusal.
+/// The steps of a reply, or its refusal; false: it is none.
 ///
 /// # Errors
 /// Want of memory.
-pub fn read_as(alloc: Global, text: &str) -> Result<Option<String>, AllocError> {
-    match certificate_of(alloc, text)? {
-        Some(Written::Steps(certificate)) => Ok(Some(steps_text(alloc, &certificate.steps)?)),
-        Some(Written::Refused(refusal)) => Ok(Some(refusal_text(alloc, &refusal)?)),
-        None => Ok(None),
+pub fn put_read(alloc: Global, reply: &str, text: &mut Text) -> Result<bool, AllocError> {
+    match certificate_of(alloc, reply)? {
+        Some(Written::Steps(certificate)) => put_written(alloc, text, &certificate.steps),
+        Some(Written::Refused(refusal)) => put_refusal(text, &refusal),
+        None => return Ok(false),
     }
+    Ok(true)
 }
 
 // A term as a command asserts it.
-fn asserted(alloc: Global, term: Rc<Term>) -> Result<String, AllocError> {
+fn put_asserted(alloc: Global, term: Rc<Term>, text: &mut Text) -> Result<(), AllocError> {
     let mut bytes = Vec::new(alloc);
     write(alloc, &Command::Assert(term), &mut bytes)?;
-    let text = String::from_utf8_lossy(alloc, &bytes)?;
-    String::from_str(alloc, text.trim_end())
+    text.trimmed(alloc, &bytes);
+    Ok(())
 }
 
-/// The term that a text spells.
+/// The term that some words spell.
 ///
 /// # Errors
 /// Want of memory.
-pub fn spelled_as(
+pub fn put_spelled(
     alloc: Global,
     known: &[Declared],
-    text: &str,
-) -> Result<Option<String>, AllocError> {
-    match term_of(alloc, known, text)? {
-        Some(term) => Ok(Some(asserted(alloc, term)?)),
-        None => Ok(Some(String::from_str(alloc, "no term")?)),
+    words: &str,
+    text: &mut Text,
+) -> Result<(), AllocError> {
+    match term_of(alloc, known, words)? {
+        Some(term) => put_asserted(alloc, term, text),
+        None => {
+            text.put("no term");
+            Ok(())
+        }
     }
 }
 
 // A sort, and whether the term's symbols are live.
-fn sort_line(
+fn put_sort(
     alloc: Global,
     live: &[Declared],
     term: &Term,
     sort: &Sort,
-) -> Result<String, AllocError> {
+    text: &mut Text,
+) -> Result<(), AllocError> {
     let index = SymbolIndex::of(alloc, live)?;
     let symbols = Symbols::new(live, &index);
-    let live = if is_live(&symbols, term)? {
-        "live"
-    } else {
-        "not live"
-    };
-    format!(in alloc; "{}, {live}", sort_text(sort))
+    let is_live = is_live(&symbols, term)?;
+    text.put(sort_text(sort));
+    text.put(if is_live { ", live" } else { ", not live" });
+    Ok(())
 }
 
-/// The sort of a term; None: the text spells no term.
+/// The sort of a term; false: the words spell none.
 ///
 /// # Errors
 /// Want of memory.
-pub fn sorted_as(
+pub fn put_sorted(
     alloc: Global,
     known: &[Declared],
     live: &[Declared],
-    text: &str,
-) -> Result<Option<String>, AllocError> {
-    let Some(term) = term_of(alloc, known, text)? else {
-        return Ok(None);
+    words: &str,
+    text: &mut Text,
+) -> Result<bool, AllocError> {
+    let Some(term) = term_of(alloc, known, words)? else {
+        return Ok(false);
     };
     match sort_in(&term) {
-        Ok(sort) => Ok(Some(sort_line(alloc, live, &term, &sort)?)),
-        Err(cs_table::Stop::Miss) => Ok(Some(String::from_str(alloc, "no sort")?)),
-        Err(cs_table::Stop::Want) => Err(AllocError),
+        Ok(sort) => put_sort(alloc, live, &term, &sort, text)?,
+        Err(cs_table::Stop::Miss) => text.put("no sort"),
+        Err(cs_table::Stop::Want) => text.cut(),
     }
+    Ok(true)
 }

@@ -1,5 +1,6 @@
 //! How long an s-expression is, and a declaration that takes as many sorts as it has tokens.
 
+use crate::text::Text;
 use std::alloc::{AllocError, Global};
 use vx_sexp::{Sexp, SexpFault, read};
 use vx_smt_meaning::{Command, Declared};
@@ -19,22 +20,27 @@ fn declaration(alloc: Global, item: &Sexp) -> Result<Command, AllocError> {
     }))
 }
 
-fn sizes_text(alloc: Global, item: &Sexp, taken: usize) -> Result<String, AllocError> {
+fn put_size(alloc: Global, item: &Sexp, taken: usize, text: &mut Text) -> Result<(), AllocError> {
     let mut out = Vec::new(alloc);
     write(alloc, &declaration(alloc, item)?, &mut out)?;
-    let tokens = item.tokens().len();
-    let written = out.len();
-    format!(in alloc; "{taken} bytes read, {tokens} tokens, {written} bytes written")
+    text.natural(taken as u128);
+    text.put(" bytes read, ");
+    text.natural(item.tokens().len() as u128);
+    text.put(" tokens, ");
+    text.natural(out.len() as u128);
+    text.put(" bytes written");
+    Ok(())
 }
 
-/// What the first s-expression of a text takes: its bytes, its tokens, and the bytes of the declaration.
+/// What the first s-expression of some bytes takes: its bytes, its tokens, and the bytes of the declaration.
 ///
 /// # Errors
 /// Want of memory.
-pub fn sizes_as(alloc: Global, text: &str) -> Result<Option<String>, AllocError> {
-    match read(alloc, text.as_bytes()) {
-        Ok((item, taken)) => Ok(Some(sizes_text(alloc, &item, taken)?)),
-        Err(SexpFault::Want) => Err(AllocError),
-        Err(_) => Ok(Some(String::from_str(alloc, "no s-expression")?)),
+pub fn put_sizes(alloc: Global, bytes: &str, text: &mut Text) -> Result<(), AllocError> {
+    match read(alloc, bytes.as_bytes()) {
+        Ok((item, taken)) => put_size(alloc, &item, taken, text)?,
+        Err(SexpFault::Want) => text.cut(),
+        Err(_) => text.put("no s-expression"),
     }
+    Ok(())
 }

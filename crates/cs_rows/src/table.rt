@@ -1,58 +1,73 @@
 //! The lines of a table. A line is a word and what stands behind it; a row ends before the next `row`.
 
-use crate::checked::{checked_as, stepped_as};
-use crate::counted::{numbers_under, spent_as};
-use crate::dialogues::dialogue_as;
-use crate::links::{ready_as, talk_as};
-use crate::memories::{load_as, sink_as, source_as, turns_as};
-use crate::numbered::{derived_as, numbers_as};
+use crate::checked::{put_check, put_steps};
+use crate::counted::{put_numbers_under, put_spent};
+use crate::dialogues::put_dialogue;
+use crate::links::{put_ready, put_talk};
+use crate::memories::{put_load, put_sink, put_source, put_turns};
+use crate::numbered::{put_derives, put_numbers};
 use crate::outside::Outside;
-use crate::reading::{read_as, sorted_as, spelled_as};
+use crate::reading::{put_read, put_sorted, put_spelled};
 use crate::row::Row;
-use crate::sizes::sizes_as;
+use crate::sizes::put_sizes;
+use crate::text::Text;
 use crate::told::{put_line, put_text};
 use std::alloc::{AllocError, Global};
 use vx_smt_meaning::Declared;
 
-// What is answered to a question; None: the line asks nothing.
+// Answers a question; false: the line asks nothing.
 fn answer(
     alloc: Global,
     row: &mut Row,
     word: &str,
     rest: &str,
-) -> Result<Option<String>, AllocError> {
+    text: &mut Text,
+) -> Result<bool, AllocError> {
     match word {
-        "read" => read_as(alloc, rest),
-        "sizes" => sizes_as(alloc, rest),
-        "spells" => spelled_as(alloc, &row.known, rest),
-        "sort" => sorted_as(alloc, &row.known, &row.stack.symbols, rest),
-        "numbers" => numbers_as(alloc, &row.stack.assertions, &row.known, rest),
-        "derives" => derived_as(alloc, &row.stack, rest),
-        "check" => checked_as(alloc, &row.stack, rest),
-        "steps" => stepped_as(alloc, &row.stack, rest),
-        "under" => numbers_under(alloc, &row.index, rest),
-        "spend" => spent_as(alloc, &mut row.meter, rest),
-        _ => answer_outside(alloc, &row.stack.symbols, &row.outside, word, rest),
+        "read" => put_read(alloc, rest, text),
+        "sort" => put_sorted(alloc, &row.known, &row.stack.symbols, rest, text),
+        "numbers" => put_numbers(alloc, &row.stack.assertions, &row.known, rest, text),
+        "derives" => put_derives(alloc, &row.stack, rest, text),
+        "check" => put_check(alloc, &row.stack, rest, text),
+        "steps" => put_steps(alloc, &row.stack, rest, text),
+        "under" => Ok(put_numbers_under(&row.index, rest, text)),
+        "spend" => Ok(put_spent(&mut row.meter, rest, text)),
+        "spells" => {
+            put_spelled(alloc, &row.known, rest, text)?;
+            Ok(true)
+        }
+        "sizes" => {
+            put_sizes(alloc, rest, text)?;
+            Ok(true)
+        }
+        _ => answer_outside(alloc, &row.stack.symbols, &row.outside, word, rest, text),
     }
 }
 
-// What is answered to a question of the outside.
+// Answers a question of the outside; false: the line asks nothing.
 fn answer_outside(
     alloc: Global,
     live: &[Declared],
     outside: &Outside,
     word: &str,
     rest: &str,
-) -> Result<Option<String>, AllocError> {
+    text: &mut Text,
+) -> Result<bool, AllocError> {
     match word {
-        "dialogue" => dialogue_as(alloc, live, outside, rest),
-        "talk" => talk_as(alloc, outside, rest),
-        "ready" => ready_as(alloc, outside),
-        "load" => load_as(alloc, outside, rest),
-        "sink" => sink_as(alloc, rest),
-        "source" => source_as(alloc, outside, rest),
-        "turns" => turns_as(alloc, rest),
-        _ => Ok(None),
+        "dialogue" => put_dialogue(alloc, live, outside, rest, text),
+        "talk" => put_talk(alloc, outside, rest, text),
+        "sink" => put_sink(alloc, rest, text),
+        "source" => put_source(alloc, outside, rest, text),
+        "turns" => put_turns(alloc, rest, text),
+        "ready" => {
+            put_ready(alloc, outside, text);
+            Ok(true)
+        }
+        "load" => {
+            put_load(alloc, outside, rest, text)?;
+            Ok(true)
+        }
+        _ => Ok(false),
     }
 }
 
@@ -65,14 +80,13 @@ fn ask(
     rest: &str,
     out: &mut String,
 ) -> Result<bool, AllocError> {
-    match answer(alloc, row, word, rest)? {
-        Some(told) => {
-            put_line(out, "", line)?;
-            put_text(out, &told)?;
-            Ok(true)
-        }
-        None => Ok(false),
+    let mut text = Text::new(alloc);
+    if !answer(alloc, row, word, rest, &mut text)? {
+        return Ok(false);
     }
+    put_line(out, "", line)?;
+    put_text(out, &text.end()?)?;
+    Ok(true)
 }
 
 // Takes a line of the table; false: it means nothing.

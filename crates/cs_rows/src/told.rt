@@ -1,8 +1,9 @@
 //! What is written of a row.
 
+use crate::text::Text;
 use cs_reader::Refusal;
-use std::alloc::{AllocError, Global};
-use vx_frac::Frac;
+use std::alloc::AllocError;
+use vx_frac::{Frac, Op};
 
 /// A line.
 pub fn put_line(out: &mut String, front: &str, text: &str) -> Result<(), AllocError> {
@@ -19,32 +20,44 @@ pub fn put_text(out: &mut String, text: &str) -> Result<(), AllocError> {
     Ok(())
 }
 
-/// One more line of a text whose last line has no line feed behind it.
-pub fn add_line(text: &mut String, line: &str) -> Result<(), AllocError> {
-    if !text.is_empty() {
-        text.push_str("\n")?;
+/// A fraction in lowest terms: a numerator, and the denominator where it isn't 1.
+pub fn put_fraction(text: &mut Text, of: Frac) {
+    text.whole(of.num());
+    if of.den() != 1 {
+        text.put("/");
+        text.whole(of.den());
     }
-    text.push_str(line)
 }
 
-/// A fraction in lowest terms: a numerator, and the denominator where it isn't 1.
-pub fn fraction_text(alloc: Global, of: Frac) -> Result<String, AllocError> {
-    if of.den() == 1 {
-        return format!(in alloc; "{}", of.num());
-    }
-    format!(in alloc; "{}/{}", of.num(), of.den())
+fn put_step(text: &mut Text, code: &str, step: u32) {
+    text.put(code);
+    text.put(" ");
+    text.natural(u128::from(step));
+}
+
+fn put_operation(text: &mut Text, op: Op) {
+    text.put(match op {
+        Op::Add => " Add",
+        Op::Sub => " Sub",
+        Op::Mul => " Mul",
+        Op::Div => " Div",
+        Op::Cmp => " Cmp",
+    });
 }
 
 /// A refusal: its code, the step, and the call of fractions with its operands.
-pub fn refusal_text(alloc: Global, refusal: &Refusal) -> Result<String, AllocError> {
+pub fn put_refusal(text: &mut Text, refusal: &Refusal) {
     match refusal {
-        Refusal::BadStep(step) => format!(in alloc; "C1 {step}"),
-        Refusal::Over(step, op, a, b) => format!(in alloc;
-            "C2 {step} {op:?} {} {}",
-            fraction_text(alloc, *a)?,
-            fraction_text(alloc, *b)?
-        ),
-        Refusal::NotEmpty => String::from_str(alloc, "C3"),
-        Refusal::BadForm(step) => format!(in alloc; "C4 {step}"),
+        Refusal::BadStep(step) => put_step(text, "C1", *step),
+        Refusal::Over(step, op, a, b) => {
+            put_step(text, "C2", *step);
+            put_operation(text, *op);
+            text.put(" ");
+            put_fraction(text, *a);
+            text.put(" ");
+            put_fraction(text, *b);
+        }
+        Refusal::NotEmpty => text.put("C3"),
+        Refusal::BadForm(step) => put_step(text, "C4", *step),
     }
 }

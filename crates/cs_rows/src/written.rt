@@ -1,94 +1,105 @@
 //! The steps of a certificate, as they were read.
 
-use crate::told::{add_line, fraction_text};
+use crate::text::Text;
+use crate::told::put_fraction;
 use cs_reader::{Literal, Step};
-use std::alloc::{AllocError, Global};
+use std::alloc::Global;
 use vx_frac::Frac;
 use vx_sexp::{Bytes, Token};
 
-fn add_numbers(text: &mut String, numbers: &[u128]) -> Result<(), AllocError> {
+fn put_numbers(text: &mut Text, numbers: &[u128]) {
     for number in numbers {
-        write!(text, " {number}")?;
+        text.put(" ");
+        text.natural(*number);
     }
-    Ok(())
 }
 
-fn add_literals(text: &mut String, literals: &[Literal]) -> Result<(), AllocError> {
+fn put_literals(text: &mut Text, literals: &[Literal]) {
     for literal in literals {
-        let sign = if literal.positive { 'p' } else { 'n' };
-        write!(text, " {sign}{}", literal.number)?;
+        text.put(if literal.positive { " p" } else { " n" });
+        text.natural(literal.number);
     }
-    Ok(())
 }
 
-fn add_fractions(alloc: Global, text: &mut String, fractions: &[Frac]) -> Result<(), AllocError> {
+fn put_fractions(text: &mut Text, fractions: &[Frac]) {
     for fraction in fractions {
-        write!(text, " {}", fraction_text(alloc, *fraction)?)?;
+        text.put(" ");
+        put_fraction(text, *fraction);
     }
-    Ok(())
 }
 
-fn add_word(alloc: Global, text: &mut String, word: &Bytes) -> Result<(), AllocError> {
-    text.push_str(" ")?;
-    text.push_str(&String::from_utf8_lossy(alloc, word.as_slice())?)
+fn put_word(alloc: Global, text: &mut Text, word: &Bytes) {
+    text.put(" ");
+    text.bytes(alloc, word.as_slice());
 }
 
-fn add_tokens(alloc: Global, text: &mut String, tokens: &[Token]) -> Result<(), AllocError> {
+fn put_tokens(alloc: Global, text: &mut Text, tokens: &[Token]) {
     for token in tokens {
         match token {
-            Token::Open => text.push_str(" (")?,
-            Token::Close => text.push_str(" )")?,
-            Token::Atom(_, word) => add_word(alloc, text, word)?,
+            Token::Open => text.put(" ("),
+            Token::Close => text.put(" )"),
+            Token::Atom(_, word) => put_word(alloc, text, word),
         }
     }
-    Ok(())
 }
 
-fn step_text(alloc: Global, step: &Step) -> Result<String, AllocError> {
-    let mut text = String::new(alloc);
+fn put_two(text: &mut Text, word: &str, first: u128, second: u128) {
+    text.put(word);
+    put_numbers(text, &[first, second]);
+}
+
+fn put_step(alloc: Global, text: &mut Text, step: &Step) {
     match step {
-        Step::Input(n) => write!(text, "input {n}")?,
+        Step::Input(n) => {
+            text.put("input");
+            put_numbers(text, &[*n]);
+        }
         Step::Term(tokens) => {
-            write!(text, "term of {} tokens:", tokens.len())?;
-            add_tokens(alloc, &mut text, tokens)?;
+            text.put("term of ");
+            text.natural(tokens.len() as u128);
+            text.put(" tokens:");
+            put_tokens(alloc, text, tokens);
         }
-        Step::Define(t, k) => write!(text, "def {t} {k}")?,
-        Step::Pick(t, k) => write!(text, "pick {t} {k}")?,
+        Step::Define(t, k) => put_two(text, "def", *t, *k),
+        Step::Pick(t, k) => put_two(text, "pick", *t, *k),
         Step::Chain(terms) => {
-            text.push_str("chain")?;
-            add_numbers(&mut text, terms)?;
+            text.put("chain");
+            put_numbers(text, terms);
         }
-        Step::Congruence(s, t) => write!(text, "cong {s} {t}")?,
+        Step::Congruence(s, t) => put_two(text, "cong", *s, *t),
         Step::Farkas(literals, multipliers) => {
-            text.push_str("farkas")?;
-            add_literals(&mut text, literals)?;
-            text.push_str(" by")?;
-            add_fractions(alloc, &mut text, multipliers)?;
+            text.put("farkas");
+            put_literals(text, literals);
+            text.put(" by");
+            put_fractions(text, multipliers);
         }
-        Step::Split(t, n) => write!(text, "split {t} {n}")?,
-        Step::Trichotomy(a, b) => write!(text, "tri {a} {b}")?,
-        Step::Divide(a, d, k) => write!(text, "div {a} {d} {k}")?,
+        Step::Split(t, n) => {
+            text.put("split ");
+            text.natural(*t);
+            text.put(" ");
+            text.whole(*n);
+        }
+        Step::Trichotomy(a, b) => put_two(text, "tri", *a, *b),
+        Step::Divide(a, d, k) => {
+            text.put("div");
+            put_numbers(text, &[*a, *d, *k]);
+        }
         Step::Propagate(literals, hints) => {
-            text.push_str("rup")?;
-            add_literals(&mut text, literals)?;
-            text.push_str(" by")?;
-            add_numbers(&mut text, hints)?;
+            text.put("rup");
+            put_literals(text, literals);
+            text.put(" by");
+            put_numbers(text, hints);
         }
     }
-    Ok(text)
 }
 
 /// The steps, each on a line.
-///
-/// # Errors
-/// Want of memory.
-pub fn steps_text(alloc: Global, steps: &[Step]) -> Result<String, AllocError> {
-    let mut text = String::new(alloc);
+pub fn put_written(alloc: Global, text: &mut Text, steps: &[Step]) {
     for step in steps {
-        add_line(&mut text, &step_text(alloc, step)?)?;
+        text.line();
+        put_step(alloc, text, step);
     }
-    if text.is_empty() {
-        text.push_str("no steps")?;
+    if steps.is_empty() {
+        text.put("no steps");
     }
-    Ok(text)
 }
