@@ -1,5 +1,5 @@
 #!/usr/bin/env bash
-# Times the joined parts of the companion solver: chains of 1,000, 10,000 and 40,000 equations between whose ends there is a
+# Times sessions of the companion solver, as scripts of `vx_rows`: chains of 1,000, 10,000 and 40,000 equations between whose ends there is a
 # difference; 1,000, 4,000 and 16,000 congruent applications that a difference needs; and random clauses of three literals, 4.26
 # for each atom. z3 is timed on the same text, where it is there. A chain's certificate has some six steps more than there
 # are equations.
