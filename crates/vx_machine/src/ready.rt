@@ -3,7 +3,7 @@
 ghost use Rattle.std.specs.Prelude.{◌≡◌, IfOk, false, true};
 ghost use Rattle.vx_ast.specs.Syntax.{Program};
 ghost use Rattle.vx_machine.specs.Told.{IsReady};
-ghost use Rattle.vx_stack.specs.Stack.{going, side_tree};
+ghost use Rattle.vx_stack.specs.Stack.{frame_tree, going, side_tree};
 ghost use Rattle.vx_states.specs.SymStates.{state as state_of};
 
 use std::alloc::{AllocError, Global};
@@ -38,15 +38,25 @@ fn ready_next(alloc: Global, next: &Rc<Next>, state: SymState) -> Result<Ready, 
     }
 }
 
+/// What a frame comes to.
+fn ready_frame(alloc: Global, frame: &Frame, state: SymState) -> Result<Ready, AllocError>
+    ensures { IfOk result (λ r. (p : Program) → IsReady p (frame_tree p frame.now (state_of state)) r) }
+{
+    match frame {
+        Frame::Go(next) => ready_next(alloc, next, state),
+        Frame::Eval(e, hole) => Ok(Ready::Plain(Frame::Eval(e.clone()?, hole.clone()?), state)),
+        Frame::Give(t, hole) => Ok(Ready::Plain(Frame::Give(t.clone()?, hole.clone()?), state)),
+        Frame::GiveAll(ts, row) => Ok(Ready::Plain(
+            Frame::GiveAll(ts.clone()?, row.clone()?),
+            state,
+        )),
+    }
+}
+
 /// What a side comes to.
 pub(crate) fn come_back(alloc: Global, side: Side) -> Result<Ready, AllocError>
     ensures { IfOk result (λ r. (p : Program) → IsReady p (side_tree p side) r) }
 {
     let Side { frame, state } = side;
-    match frame {
-        Frame::Go(next) => ready_next(alloc, &next, state),
-        Frame::Eval(e, hole) => Ok(Ready::Plain(Frame::Eval(e, hole), state)),
-        Frame::Give(value, hole) => Ok(Ready::Plain(Frame::Give(value, hole), state)),
-        Frame::GiveAll(values, row) => Ok(Ready::Plain(Frame::GiveAll(values, row), state)),
-    }
+    ready_frame(alloc, &frame, state)
 }

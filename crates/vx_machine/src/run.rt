@@ -44,7 +44,7 @@ fn turn(
             Ok(question(moved))
         }
         Ready::Plain(frame, state) => {
-            let moved = step(alloc, program, frame, state, conts)?;
+            let moved = step(alloc, program, &frame, state, conts)?;
             Ok(question(moved))
         }
     }

@@ -169,7 +169,7 @@ fn step_quietly(
     match come_back(alloc, side)? {
         Ready::Over => Ok(Move::End),
         Ready::Telling(x, hole, state) => { tell(alloc, program, &x, &hole, state, levels, conts) }
-        Ready::Plain(frame, state) => step(alloc, program, frame, state, conts),
+        Ready::Plain(frame, state) => step(alloc, program, &frame, state, conts),
     }
 }
 

@@ -230,12 +230,22 @@ impl Drop for Row {
 }
 
 /// What a side does next.
-#[derive(Drop)]
 pub enum Frame {
     Go(Rc<Next>),
     Eval(Rc<Expr>, Rc<Hole>),
     Give(Rc<Term>, Rc<Hole>),
     GiveAll(Rc<Values>, Rc<Row>),
+}
+
+impl Drop for Frame {
+    fn drop(self) {
+        match self {
+            Frame::Go(_next) => {}
+            Frame::Eval(_e, _hole) => {}
+            Frame::Give(_value, _hole) => {}
+            Frame::GiveAll(_values, _row) => {}
+        }
+    }
 }
 
 /// A side that is still to be walked.

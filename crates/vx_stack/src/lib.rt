@@ -1,6 +1,6 @@
 //! The stack of sides that are still to be walked, what they wait for, and the steps that the rules are made of.
-//! What waits is let go by impls of `Drop`: a derived one is proved again in each crate that lets one go. Frames and sides, which the
-//! crates above take apart, derive it.
+//! What waits is let go by impls of `Drop`: a derived one is proved again in each crate that lets one go. Sides, which the crates above
+//! take apart, derive it.
 #![tactic(auto)]
 
 mod clauses;

@@ -317,17 +317,19 @@ fn step_next(
 pub fn step(
     alloc: Global,
     program: &Settled,
-    frame: Frame,
+    frame: &Frame,
     state: SymState,
     conts: &mut Conts,
 ) -> Result<Move, AllocError>
-    requires { is_plain frame ≡ true }
-    ensures { IfOk result (λ m. Stepped (settled program.now) (frame_tree (settled program.now) frame (state_of state)) conts.old.sides.items m conts.new.sides.items) }
+    requires { is_plain frame.now ≡ true }
+    ensures { IfOk result (λ m. Stepped (settled program.now) (frame_tree (settled program.now) frame.now (state_of state)) conts.old.sides.items m conts.new.sides.items) }
 {
     match frame {
-        Frame::Go(next) => step_next(alloc, program, &next, state, conts),
-        Frame::Eval(e, hole) => vx_eval::step(alloc, program, &e, hole, state, conts),
-        Frame::Give(value, hole) => step_hole(alloc, program, value, &hole, state, conts),
-        Frame::GiveAll(values, row) => step_row(alloc, program, values, &row, state, conts),
+        Frame::Go(next) => step_next(alloc, program, next, state, conts),
+        Frame::Eval(e, hole) => vx_eval::step(alloc, program, e, hole.clone()?, state, conts),
+        Frame::Give(value, hole) => step_hole(alloc, program, value.clone()?, hole, state, conts),
+        Frame::GiveAll(values, row) => {
+            step_row(alloc, program, values.clone()?, row, state, conts)
+        }
     }
 }
