@@ -1,10 +1,10 @@
 //! The elements of terms: numbers by their values, Bool terms by the assignment, and others by their classes.
 
 use crate::figures::Figures;
+use cs_claims::claims::{Claims, value_of};
 use cs_columns::Stop;
 use cs_model::Element;
 use cs_record::atoms::Atoms;
-use cs_record::claims::{Claims, value_of};
 use cs_record::numbered::Record;
 use cs_search::Value;
 use std::alloc::Global;

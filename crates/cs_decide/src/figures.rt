@@ -4,13 +4,13 @@ ghost use Rattle.cs_decide.specs.Spent.{SpendsOnCases};
 
 use crate::clashes::clash;
 use crate::elements::Sources;
+use cs_claims::claims::{Claims, value_of};
+use cs_claims::farkas::refutation_of;
 use cs_columns::{Split, Stop};
 use cs_meter::{Budget, Meter};
 use cs_record::atoms::Atoms;
 use cs_record::cases::{order, parted};
-use cs_record::claims::{Claims, value_of};
-use cs_record::farkas::refutation_of;
-use cs_record::lemma::Lemma;
+use cs_record::draft::Lemma;
 use cs_record::numbered::Record;
 use cs_search::Value;
 use cs_sums::{Arithmetic, Contradiction, Share, numbers_of};

@@ -1,7 +1,7 @@
 //! Clauses that tell the cases of numbers: below, equal or above; at most a whole number or at least the next; and what a
 //! quotient and a remainder are.
 
-use crate::lemma::Lemma;
+use crate::draft::Lemma;
 use crate::numbered::Record;
 use cs_proof::Step;
 use cs_table::{Head, Literal, Stop, divide, split, trichotomy};

@@ -12,6 +12,7 @@ use cs_search::add::add;
 use cs_search::search::Search;
 use cs_table::{Head, Literal, Stop, define, pick};
 use std::alloc::{AllocError, Global};
+use std::collections::HashSet;
 use std::rc::Rc;
 use vx_terms::{Operator, Term};
 
@@ -219,12 +220,11 @@ impl Clauses {
         record: &mut Record,
         count: u32,
     ) -> Result<(), Stop> {
-        let mut done = Vec::new(alloc);
+        let mut done = HashSet::new(alloc);
         for t in 0..count {
-            if let Some(sides) = division_of(record, t)? {
-                if !done.contains(&sides) {
-                    done.push(sides)?;
-                    self.put_division(alloc, record, sides.0, sides.1)?;
+            if let Some((a, d)) = division_of(record, t)? {
+                if done.insert((a, d))? {
+                    self.put_division(alloc, record, a, d)?;
                 }
             }
         }

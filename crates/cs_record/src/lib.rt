@@ -1,14 +1,11 @@
-//! What a check records: terms by number, the clauses of its assertions, what an assignment claims of classes, and the steps of a
-//! certificate as they come. It is safe, and it ends; the checker judges the steps.
+//! What a check records: terms by number, the clauses of its assertions, and the steps of a certificate as they come. It is safe, and it
+//! ends; the checker judges the steps.
 #![tactic(auto)]
 
 pub mod assembly;
 pub mod atoms;
 pub mod cases;
-pub mod claims;
 pub mod clauses;
-pub mod farkas;
-pub mod held;
-pub mod lemma;
+pub mod draft;
 pub mod numbered;
 pub mod orders;

@@ -1,9 +1,10 @@
 //! The clause that a contradiction among numbers teaches: not all of its constraints hold.
 
 use crate::claims::Claims;
-use crate::lemma::{Draft, Lemma};
-use crate::numbered::{Record, written};
+use crate::lemma::add_equal;
 use cs_proof::Step;
+use cs_record::draft::{Draft, Lemma};
+use cs_record::numbered::{Record, written};
 use cs_sums::{Reason, Share};
 use cs_table::{Literal, Stop};
 use std::alloc::Global;
@@ -62,7 +63,7 @@ impl Terms {
                 self.add(!holds, number, share.multiplier)
             }
             Reason::Same(a, b) => {
-                draft.add_equal(alloc, record, claims, a, b)?;
+                add_equal(alloc, record, draft, claims, (a, b))?;
                 self.add_same(alloc, record, a, b, share.multiplier)
             }
         }
@@ -92,14 +93,5 @@ pub fn refutation_of(
         multipliers,
     } = terms;
     let number = record.derive(Step::Farkas(written(alloc, &literals)?, multipliers))?;
-    let Draft {
-        literals,
-        mut hints,
-    } = draft;
-    if hints.is_empty() {
-        return Ok(Lemma { literals, number });
-    }
-    hints.push(u128::from(number))?;
-    let number = record.propagate(alloc, &literals, hints)?;
-    Ok(Lemma { literals, number })
+    draft.derived_by(alloc, record, number)
 }

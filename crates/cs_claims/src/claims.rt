@@ -1,13 +1,14 @@
 //! What an assignment claims in the classes: equalities, differences, and the values of Bool terms that symbols take
 //! or give.
 
-use crate::atoms::Atoms;
 use crate::held::Held;
-use crate::numbered::Record;
 use cs_proof::Step;
+use cs_record::atoms::Atoms;
+use cs_record::numbered::Record;
 use cs_search::Value;
 use cs_table::{Head, Node, Stop, equality};
 use std::alloc::Global;
+use std::collections::HashSet;
 
 /// What is claimed.
 #[derive(Clone, Copy)]
@@ -74,6 +75,8 @@ pub struct Claims {
     pub held: Held,
     // the equalities that are atoms, and are numbered before their other orders
     equalities: Vec<u32>,
+    // these, and those that came later, by number
+    known: HashSet<u32>,
     // the Bool terms under symbols, and the Bool applications of symbols
     bools: Vec<u32>,
     // these, if there are such Bool terms
@@ -106,6 +109,14 @@ fn equalities_of(alloc: Global, record: &Record, atoms: &Atoms) -> Result<Vec<u3
         }
     }
     Ok(found)
+}
+
+fn set_of(alloc: Global, numbers: &[u32]) -> Result<HashSet<u32>, Stop> {
+    let mut set = HashSet::new(alloc);
+    for number in numbers {
+        set.insert(*number)?;
+    }
+    Ok(set)
 }
 
 fn mark(marks: &mut [bool], number: u32) {
@@ -168,12 +179,14 @@ impl Claims {
     /// `Want` where memory runs out.
     pub fn new(alloc: Global, record: &mut Record, atoms: &Atoms) -> Result<Claims, Stop> {
         let equalities = equalities_of(alloc, record, atoms)?;
+        let known = set_of(alloc, &equalities)?;
         let bools = bools_of(alloc, record)?;
         let truths = truths_of(alloc, record, &bools)?;
         let held = Held::new(alloc, &record.table)?;
         Ok(Claims {
             held,
             equalities,
+            known,
             bools,
             truths,
             made: Vec::new(alloc),
@@ -185,7 +198,7 @@ impl Claims {
     /// # Errors
     /// `Miss` where no term has the number; `Want` where memory runs out.
     pub fn add(&mut self, record: &Record, number: u32) -> Result<(), Stop> {
-        if record.sides(number)?.is_some() && !self.equalities.contains(&number) {
+        if record.sides(number)?.is_some() && self.known.insert(number)? {
             self.equalities.push(number)?;
         }
         Ok(())
