@@ -1,4 +1,5 @@
 pub mod Causes
 pub mod Answers
 pub mod Few
+pub mod Judged
 pub mod Tests

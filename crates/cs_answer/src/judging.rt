@@ -1,15 +1,22 @@
 //! What makes an answer: the checker finishes a certificate, an evaluation makes all assertions true, or a cause of an
 //! undecided check is looked at again.
-ghost use Rattle.std.specs.Prelude.{◌≡◌, IfOk, IfSome, OnOk, map};
+ghost use Rattle.std.specs.Prelude.{◌≡◌, ◌↔◌, ◌&&◌, Err, IfOk, IfErr, IfSome, IsSome, OnOk, map};
+ghost use Rattle.std.specs.Global.{Vec};
 ghost use Rattle.vx_terms.specs.Interpretations.{Each};
 ghost use Rattle.cs_numbers.specs.Laws.{IsSorted};
 ghost use Rattle.cs_proof.specs.Answers.{Answers};
 ghost use Rattle.cs_certificate.specs.Certificate as certificates;
-ghost use Rattle.cs_proof.specs.Checking.{Finished};
+ghost use Rattle.cs_proof.specs.Checking.{Verdict, refusal as verdict_of};
+ghost use Rattle.cs_proof.specs.declared.step.Step.{Step};
+ghost use Rattle.cs_proof.specs.CheckerView.{Closes};
 ghost use Rattle.cs_proof.specs.Fits.{seen};
 ghost use Rattle.cs_proof.specs.Views.{written};
-ghost use Rattle.cs_answer.specs.Causes.{IsCause};
+ghost use Rattle.cs_columns.specs.declared.stop.Stop.TheVariants as stops;
+ghost use Rattle.cs_meter.specs.Units.{limit};
+ghost use Rattle.cs_model.specs.declared.tables.Model.{Model};
+ghost use Rattle.cs_answer.specs.Causes.{IsCause, is_nonlinear_at, has_number};
 ghost use Rattle.cs_answer.specs.Answers.{IsRight};
+ghost use Rattle.cs_answer.specs.Judged.{HasCause, IsByChecker, IsByModel, IsModel};
 
 use crate::answer::{Answer, Cause};
 use crate::nonlinear::{has_number, is_nonlinear_at};
@@ -25,7 +32,8 @@ use vx_smt_meaning::Declared;
 
 /// What the checker says of a certificate's steps.
 fn verdict(alloc: Global, stack: &Stack, steps: &[Step]) -> Result<Result<(), Refusal>, Stop>
-    ensures { IfOk result (λ told. Each IsSorted (seen stack.now).assertions → IfOk told (λ _. Answers (seen stack.now) (map written steps.now) Finished)) }
+    ensures told { IfOk result (λ told. Each IsSorted (seen stack.now).assertions → (v : Verdict) → Answers (seen stack.now) (map written steps.now) v ↔ Closes told v) }
+    ensures want { IfErr result (λ e. e ≡ stops.Want) }
 {
     let declared: &[Declared] = &stack.symbols;
     let index = SymbolIndex::of(alloc, declared)?;
@@ -36,33 +44,52 @@ fn verdict(alloc: Global, stack: &Stack, steps: &[Step]) -> Result<Result<(), Re
     }
 }
 
+/// What a refusal of steps is told as.
+fn refused(refusal: Refusal) -> Stop
+    ensures { (stack : certificates.Stack) → (steps : Vec Step) → ((v : Verdict) → Answers stack (map written steps.items) v ↔ (v ≡ verdict_of refusal)) → IsByChecker stack steps (Err result) }
+{
+    match refusal {
+        Refusal::Over(_, op, a, b) => Stop::Over(Over { op, a, b }),
+        Refusal::BadStep(_) | Refusal::NotEmpty | Refusal::BadForm(_) => Stop::Miss,
+    }
+}
+
 /// The steps refute the assertions where the checker finishes them.
 ///
 /// # Errors
 /// `Miss` where it refuses them; `Over` where a fraction leaves 128 bits; `Want` where memory runs out.
 pub fn certified(alloc: Global, stack: &Stack, steps: Vec<Step>) -> Result<Answer, Stop>
-    ensures { IfOk result (IsRight (seen stack.now)) }
+    ensures right { IfOk result (IsRight (seen stack.now)) }
+    ensures told { Each IsSorted (seen stack.now).assertions → IsByChecker (seen stack.now) steps result }
 {
     finished_refutes();
     match verdict(alloc, stack, &steps)? {
         Ok(()) => Ok(Answer::Refuted(steps)),
-        Err(Refusal::Over(_, op, a, b)) => Err(Stop::Over(Over { op, a, b })),
-        Err(_) => Err(Stop::Miss),
+        Err(refusal) => Err(refused(refusal)),
     }
+}
+
+/// Whether the term of this number is nonlinear, and there are numbers.
+fn misreads(alloc: Global, stack: &Stack, number: u32) -> Result<bool, Stop>
+    ensures value { IfOk result (λ b. b ≡ (is_nonlinear_at (seen stack.now).assertions number && has_number (seen stack.now).assertions)) }
+    ensures want { IfErr result (λ e. e ≡ stops.Want) }
+{
+    Ok(is_nonlinear_at(alloc, &stack.assertions, number)? && has_number(alloc, &stack.assertions)?)
 }
 
 /// Why a model isn't one: a term may be misread that is nonlinear.
 ///
 /// # Errors
 /// `Miss` where there is no such term; `Want` where memory runs out.
-fn unmodelled(alloc: Global, stack: &Stack, misread: Option<u32>) -> Result<Cause, Stop>
-    ensures { IfOk result (IsCause (seen stack.now)) }
+fn unmodelled(alloc: Global, stack: &Stack, misread: Option<u32>) -> Result<Answer, Stop>
+    ensures right { IfOk result (IsRight (seen stack.now)) }
+    ensures told { (m : Model) → (IsModel (seen stack.now) m misread → ⊥) → IsByModel (seen stack.now) m misread result }
 {
     let Some(number) = misread else {
         return Err(Stop::Miss);
     };
-    if is_nonlinear_at(alloc, &stack.assertions, number)? && has_number(alloc, &stack.assertions)? {
-        return Ok(Cause::Nonlinear(number));
+    if misreads(alloc, stack, number)? {
+        return Ok(Answer::Unknown(Cause::Nonlinear(number)));
     }
     Err(Stop::Miss)
 }
@@ -77,11 +104,12 @@ pub fn evaluated(
     model: Model,
     misread: Option<u32>,
 ) -> Result<Answer, Stop>
-    ensures { IfOk result (IsRight (seen stack.now)) }
+    ensures right { IfOk result (IsRight (seen stack.now)) }
+    ensures told { IsByModel (seen stack.now) model misread result }
 {
     match is_model(alloc, &model, &stack.assertions) {
         Ok(true) => Ok(Answer::Satisfied(model)),
-        Ok(false) => Ok(Answer::Unknown(unmodelled(alloc, stack, misread)?)),
+        Ok(false) => unmodelled(alloc, stack, misread),
         Err(cs_model::Stop::Over(over)) => Err(Stop::Over(over)),
         Err(cs_model::Stop::Want) => Err(Stop::Want),
     }
@@ -89,7 +117,8 @@ pub fn evaluated(
 
 /// The cause of an attempt that took all units, where it did.
 fn by_budget(meter: &Meter) -> Result<Option<Cause>, Want>
-    ensures { (stack : certificates.Stack) → IfOk result (λ found. IfSome found (IsCause stack)) }
+    ensures cause { (stack : certificates.Stack) → IfOk result (λ found. IfSome found (IsCause stack)) }
+    ensures known { IfOk result (λ found. IsSome found ↔ (meter.now.spent ≡ limit)) }
 {
     if meter.spent() == LIMIT {
         Ok(Some(Cause::Budget(meter.clone()?)))
@@ -100,7 +129,8 @@ fn by_budget(meter: &Meter) -> Result<Option<Cause>, Want>
 
 /// The cause of an attempt that met a call which leaves 128 bits, where it does so again, and there are numbers.
 fn by_call(alloc: Global, stack: &Stack, call: Over) -> Result<Option<Cause>, Want>
-    ensures { IfOk result (λ found. IfSome found (IsCause (seen stack.now))) }
+    ensures cause { IfOk result (λ found. IfSome found (IsCause (seen stack.now))) }
+    ensures known { IfOk result (λ found. IsSome found ↔ HasCause (seen stack.now) 0 (stops.Over call)) }
 {
     if leaves(call) && has_number(alloc, &stack.assertions)? {
         Ok(Some(Cause::Over(call)))
@@ -120,6 +150,7 @@ pub fn stopped(
     stop: Stop,
 ) -> Result<Option<Cause>, Want>
     ensures cause { IfOk result (λ found. IfSome found (IsCause (seen stack.now))) }
+    ensures known { IfOk result (λ found. IsSome found ↔ HasCause (seen stack.now) meter.now.spent stop) }
     ensures other { OnOk result (stop ≡ Stop.Want → ⊥) }
 {
     match stop {

@@ -2,3 +2,4 @@ pub mod Between
 pub mod Fractional
 pub mod Parts
 pub mod Splits
+pub mod Stops

@@ -22,7 +22,9 @@ pub enum Stop {
 }
 
 impl From<AllocError> for Stop {
-    ghost from_gives = { λ _ e. Unit {0} };
+    ghost use Rattle.cs_columns.specs.declared.stop.Stop.TheVariants.{Want};
+
+    ghost from_gives = { λ _ e. e ≡ Want };
 
     fn from(_: AllocError) -> Self {
         Stop::Want
@@ -30,7 +32,9 @@ impl From<AllocError> for Stop {
 }
 
 impl<T: Drop> From<AllocFailed<T>> for Stop {
-    ghost from_gives = { λ _ e. Unit {0} };
+    ghost use Rattle.cs_columns.specs.declared.stop.Stop.TheVariants.{Want};
+
+    ghost from_gives = { λ _ e. e ≡ Want };
 
     fn from(_: AllocFailed<T>) -> Self {
         Stop::Want
@@ -38,7 +42,9 @@ impl<T: Drop> From<AllocFailed<T>> for Stop {
 }
 
 impl From<Over> for Stop {
-    ghost from_gives = { λ _ e. Unit {0} };
+    ghost use Rattle.cs_columns.specs.declared.stop.Stop.TheVariants as stops;
+
+    ghost from_gives = { λ over e. e ≡ stops.Over over };
 
     fn from(over: Over) -> Self {
         Stop::Over(over)
@@ -46,7 +52,9 @@ impl From<Over> for Stop {
 }
 
 impl From<cs_linear::Stop> for Stop {
-    ghost from_gives = { λ _ e. Unit {0} };
+    ghost use Rattle.cs_columns.specs.Stops.{by_linear};
+
+    ghost from_gives = { λ stop e. e ≡ by_linear stop };
 
     fn from(stop: cs_linear::Stop) -> Self {
         match stop {
@@ -57,7 +65,9 @@ impl From<cs_linear::Stop> for Stop {
 }
 
 impl From<Undecided> for Stop {
-    ghost from_gives = { λ _ e. Unit {0} };
+    ghost use Rattle.cs_columns.specs.Stops.{by_check};
+
+    ghost from_gives = { λ undecided e. e ≡ by_check undecided };
 
     fn from(undecided: Undecided) -> Self {
         match undecided {
@@ -69,7 +79,9 @@ impl From<Undecided> for Stop {
 }
 
 impl From<cs_table::Stop> for Stop {
-    ghost from_gives = { λ _ e. Unit {0} };
+    ghost use Rattle.cs_columns.specs.Stops.{by_table};
+
+    ghost from_gives = { λ stop e. e ≡ by_table stop };
 
     fn from(stop: cs_table::Stop) -> Self {
         match stop {

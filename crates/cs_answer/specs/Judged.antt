@@ -1,0 +1,55 @@
+-- What steps, a model, and an attempt that stopped are taken for.
+use Rattle.std.specs.Prelude.{◌≡◌, ℕ, ◌&&◌, true, false, Option, Some, Ok, Err, IfSome, map, ⊤}
+use Rattle.std.specs.Global.{Vec}
+use Rattle.std.specs.declared.result.Result.{Result}
+use Rattle.vx_frac.specs.Fraction.{fraction}
+use Rattle.vx_frac.specs.declared.Over.{Over as Call}
+use Rattle.vx_terms.specs.Interpretations.{AllTrue}
+use Rattle.cs_calls.specs.Calls.{call_fits}
+use Rattle.cs_certificate.specs.Certificate.{Stack}
+use Rattle.cs_columns.specs.declared.stop.Stop.{Stop}
+use Rattle.cs_columns.specs.declared.stop.Stop.TheVariants as stops
+use Rattle.cs_farkas.specs.Sums as sums
+use Rattle.cs_meter.specs.Units.{limit}
+use Rattle.cs_model.specs.declared.tables.Model.{Model}
+use Rattle.cs_model.specs.Models.{interpretation}
+use Rattle.cs_proof.specs.declared.step.Step.{Step}
+use Rattle.cs_proof.specs.Answers.{Answers}
+use Rattle.cs_proof.specs.Checking.{Finished, Over}
+use Rattle.cs_proof.specs.Views.{written}
+use Rattle.cs_answer.specs.declared.answer.Answer.{Answer}
+use Rattle.cs_answer.specs.declared.answer.Answer.TheVariants as answers
+use Rattle.cs_answer.specs.declared.answer.Cause.TheVariants as causes
+use Rattle.cs_answer.specs.Causes.{is_nonlinear_at, has_number}
+
+abbrev pub call_of : Call → sums.Over
+call_of c = record { call = c.op; left = fraction c.a; right = fraction c.b }
+
+-- a refutation exactly where the checker finishes the steps
+abbrev pub IsByChecker : Stack → Vec Step → Result Answer Stop → Type 0
+IsByChecker stack steps (Ok a) = (a ≡ answers.Refuted steps) × Answers stack (map written steps.items) Finished
+IsByChecker stack steps (Err stops.Miss) = Answers stack (map written steps.items) Finished → ⊥
+IsByChecker stack steps (Err (stops.Over c)) = (n : ℕ) × Answers stack (map written steps.items) (Over n (call_of c))
+IsByChecker stack steps (Err stops.Budget) = ⊥
+IsByChecker stack steps (Err stops.Want) = ⊤
+
+-- a model is one exactly where it makes the assertions true; one that doesn't has the misread term as its cause, if that is nonlinear
+module _ (stack : Stack) (m : Model) (misread : Option ℕ) where
+  abbrev pub IsModel : Type 0
+  IsModel = AllTrue (interpretation m.entries.items) stack.assertions
+
+  abbrev pub IsByModel : Result Answer Stop → Type 0
+  IsByModel (Ok (answers.Satisfied n)) = (n ≡ m) × IsModel
+  IsByModel (Ok (answers.Unknown cause)) = (IsModel → ⊥) × (n : ℕ) × (misread ≡ Some n) × (cause ≡ causes.Nonlinear n)
+  IsByModel (Ok (answers.Refuted steps)) = ⊥
+  IsByModel (Err stops.Miss) = (IsModel → ⊥) × IfSome misread (λ n. (is_nonlinear_at stack.assertions n && has_number stack.assertions) ≡ false)
+  IsByModel (Err (stops.Over c)) = ⊤
+  IsByModel (Err stops.Budget) = ⊥
+  IsByModel (Err stops.Want) = ⊤
+
+-- an attempt that stopped has a cause: all units are spent, or there are numbers, and the call leaves 128 bits
+abbrev pub HasCause : Stack → (spent : ℕ) → Stop → Type 0
+HasCause stack spent stops.Budget = spent ≡ limit
+HasCause stack spent (stops.Over c) = (has_number stack.assertions ≡ true) × (call_fits c.op (fraction c.a) (fraction c.b) ≡ false)
+HasCause stack spent stops.Miss = ⊥
+HasCause stack spent stops.Want = ⊥
