@@ -11,6 +11,7 @@ pub mod Used
 pub mod Settles
 pub mod Joining
 pub mod Walks
+pub mod Onward
 pub mod Steps
 pub mod Explaining
 pub mod Marks

@@ -8,6 +8,7 @@ pub mod Used
 pub mod Settled
 pub mod Stages
 pub mod Walks
+pub mod Onward
 pub mod Explained
 pub mod Marked
 pub mod Needed

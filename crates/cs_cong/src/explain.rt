@@ -77,7 +77,7 @@ impl Merges {
         ensures marked { OnOk result (representative self.now.log.items time a ≡ representative self.now.log.items time b → AreMarked needs.new.all (walk self.now.log.items time a b)) }
     {
         let mut edges = Vec::new(alloc);
-        self.walk(time, a, b, &mut edges)?;
+        self.walk(alloc, time, a, b, &mut edges)?;
         mark(needs, time, &edges)?;
         Ok(())
     }
@@ -106,7 +106,7 @@ impl Merges {
     }
 
     /// The term that an edge leads to.
-    fn end_of_edge(&self, edge: Edge) -> u32
+    pub(crate) fn end_of_edge(&self, edge: Edge) -> u32
         requires { edge.merge < length self.now.log.items }
         ensures { result ≡ end_of edge.forward (merge_at self.now.log.items edge.merge) }
     {
@@ -140,7 +140,7 @@ impl Merges {
         ensures { IfOk result (λ v. v.items ≡ a ∷ ends self.now.log.items (walk self.now.log.items time a b)) }
     {
         let mut edges = Vec::new(alloc);
-        self.walk(time, a, b, &mut edges)?;
+        self.walk(alloc, time, a, b, &mut edges)?;
         self.terms_of(alloc, a, &edges)
     }
 

@@ -1,16 +1,25 @@
 //! Walks from a term to another along merges.
-ghost use Rattle.std.specs.Prelude.{◌≡◌, ◌<◌, ◌≤◌, ◌⊎◌, ◌++◌, suc, length, MatchOption, OnOk};
-ghost use Rattle.cs_cong.specs.Merged.{representative};
+ghost use Rattle.std.specs.Prelude.{◌≡◌, ◌<◌, ◌≤◌, ◌⊎◌, ◌++◌, suc, length, get_or, MatchOption, OnOk};
+ghost use Rattle.cs_cong.specs.Merged.{nothing, representative};
+ghost use Rattle.cs_cong.specs.Onward.{GoesAlong};
 ghost use Rattle.cs_cong.specs.Trees.{link_at, never};
-ghost use Rattle.cs_cong.specs.Walks.{walk, IsParting};
+ghost use Rattle.cs_cong.specs.Walks.{walk, start_of, IsParting};
 
 use crate::merges::{Merges, Want};
+use std::alloc::Global;
 
 /// A merge that is gone along: from its left term to its right one, or back.
 #[derive(Clone, Copy)]
 pub struct Edge {
     pub merge: u32,
     pub forward: bool,
+}
+
+/// What is still to be gone behind a walk: an edge, and from its end on to a term.
+#[derive(Clone, Copy)]
+pub(crate) struct Onward {
+    pub edge: Edge,
+    pub to: u32,
 }
 
 impl Merges {
@@ -61,35 +70,78 @@ impl Merges {
         }
     }
 
-    /// Adds the walk from a term to another of its class, along merges before `time`.
-    pub(crate) fn walk(&self, time: u32, a: u32, b: u32, edges: &mut Vec<Edge>) -> Result<(), Want>
+    /// An edge of the walk from a term to another: that of the last merge before `time` which joined the two, where one did.
+    fn edge_on(&self, time: u32, a: u32, b: u32) -> Option<Edge>
+        requires left { a < length self.now.links.items }
+        requires right { b < length self.now.links.items }
+        requires time { time ≤ length self.now.log.items }
+        ensures { MatchOption result ((a ≡ b) ⊎ (representative self.now.log.items time a ≡ representative self.now.log.items time b → ⊥)) (GoesAlong self.now.log.items time a b) }
+    {
+        match self.parting(time, a, b) {
+            None => None,
+            Some(when) => {
+                let merge = self.log[when as usize];
+                if self.at(when, a) == self.at(when, merge.left) {
+                    Some(Edge {
+                        merge: when,
+                        forward: true,
+                    })
+                } else {
+                    Some(Edge {
+                        merge: when,
+                        forward: false,
+                    })
+                }
+            }
+        }
+    }
+
+    /// The term that an edge begins at.
+    fn start_of_edge(&self, edge: Edge) -> u32
+        requires { edge.merge < length self.now.log.items }
+        ensures { result ≡ start_of edge.forward (get_or self.now.log.items edge.merge nothing) }
+    {
+        let merge = self.log[edge.merge as usize];
+        if edge.forward {
+            merge.left
+        } else {
+            merge.right
+        }
+    }
+
+    /// Adds the walk from a term to another of its class, along merges before `time`. What is still to be gone behind the part that
+    /// it has come to stands in a list, since walks may be long.
+    pub(crate) fn walk(
+        &self,
+        alloc: Global,
+        time: u32,
+        a: u32,
+        b: u32,
+        edges: &mut Vec<Edge>,
+    ) -> Result<(), Want>
         requires left { a < length self.now.links.items }
         requires right { b < length self.now.links.items }
         requires time { time ≤ length self.now.log.items }
         ensures { OnOk result (representative self.now.log.items time a ≡ representative self.now.log.items time b → edges.new.items ≡ edges.old.items ++ walk self.now.log.items time a b) }
     {
-        match self.parting(time, a, b) {
-            None => Ok(()),
-            Some(when) => {
-                let merge = self.log[when as usize];
-                if self.at(when, a) == self.at(when, merge.left) {
-                    self.walk(when, a, merge.left, edges)?;
-                    edges.push(Edge {
-                        merge: when,
-                        forward: true,
-                    })?;
-                    self.walk(when, merge.right, b, edges)?;
-                    Ok(())
-                } else {
-                    self.walk(when, a, merge.right, edges)?;
-                    edges.push(Edge {
-                        merge: when,
-                        forward: false,
-                    })?;
-                    self.walk(when, merge.left, b, edges)?;
-                    Ok(())
-                }
+        let mut pending: Vec<Onward> = Vec::new(alloc);
+        let mut until = time;
+        let mut from = a;
+        let mut to = b;
+        'go: loop {
+            if let Some(edge) = self.edge_on(until, from, to) {
+                pending.push(Onward { edge, to })?;
+                until = edge.merge;
+                to = self.start_of_edge(edge);
+                continue;
             }
+            let Some(next) = pending.pop() else {
+                return Ok(());
+            };
+            edges.push(next.edge)?;
+            until = next.edge.merge;
+            from = self.end_of_edge(next.edge);
+            to = next.to;
         }
     }
 }
