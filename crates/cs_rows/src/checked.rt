@@ -1,11 +1,11 @@
 //! What the checker answers to a reply.
 
 use crate::reading::{Written, certificate_of};
-use crate::text::Text;
 use crate::told::put_refusal;
 use cs_proof::{Checker, Stack};
 use cs_reader::{Certificate, Refusal};
 use std::alloc::{AllocError, Global};
+use vx_lines::Text;
 
 fn checker_of(
     alloc: Global,

@@ -1,8 +1,8 @@
 //! Numbers under keys, and units that are spent.
 
-use crate::text::Text;
 use cs_index::Index;
 use cs_meter::Meter;
+use vx_lines::Text;
 
 /// The numbers under a key; false: it is no key.
 pub fn put_numbers_under(index: &Index, key: &str, text: &mut Text) -> bool {

@@ -4,23 +4,23 @@ ghost use Rattle.vx_dialogue.specs.Dialogue.{IsFree};
 
 use crate::links::put_counted;
 use crate::outside::{Outside, Turn};
-use crate::text::Text;
 use std::alloc::{AllocError, Global};
 use vx_dialogue::{Dialogue, Talk};
 use vx_ends::{Bytes, Piece, ScriptLink};
+use vx_lines::Text;
 use vx_smt_meaning::{Declared, Reply};
 
-fn put_kept(alloc: Global, word: &str, kept: &Bytes, text: &mut Text) {
+fn put_kept(word: &str, kept: &Bytes, text: &mut Text) {
     text.put(word);
     text.put(", ");
-    put_counted(alloc, kept.as_slice(), text);
+    put_counted(kept.as_slice(), text);
 }
 
-fn put_talk(alloc: Global, talk: &Talk, text: &mut Text) {
+fn put_talk(talk: &Talk, text: &mut Text) {
     match talk {
         Talk::Pipe => text.put("the pipe failed"),
-        Talk::Garbled(kept) => put_kept(alloc, "garbled", kept, text),
-        Talk::Refused(kept) => put_kept(alloc, "refused", kept, text),
+        Talk::Garbled(kept) => put_kept("garbled", kept, text),
+        Talk::Refused(kept) => put_kept("refused", kept, text),
         Talk::Closed => text.put("closed"),
         Talk::Want => text.cut(),
     }
@@ -42,11 +42,11 @@ fn put_turn(alloc: Global, dialogue: &mut Dialogue<ScriptLink>, turn: &Turn, tex
     match turn {
         Turn::Ask(path, condition) => match dialogue.ask(alloc, path, condition) {
             Ok(reply) => text.put(reply_word(reply)),
-            Err(talk) => put_talk(alloc, &talk, text),
+            Err(talk) => put_talk(&talk, text),
         },
         Turn::Leave => match dialogue.leave(alloc) {
             Ok(()) => text.put("left"),
-            Err(talk) => put_talk(alloc, &talk, text),
+            Err(talk) => put_talk(&talk, text),
         },
     }
 }
@@ -69,7 +69,7 @@ fn put_sent(alloc: Global, link: &ScriptLink, text: &mut Text) -> Result<(), All
         }
     }
     text.line();
-    text.trimmed(alloc, &bytes);
+    text.trimmed(&bytes);
     Ok(())
 }
 
@@ -95,7 +95,7 @@ pub fn put_dialogue(
             dialogue.close()
         }
         Err((link, talk)) => {
-            put_talk(alloc, &talk, text);
+            put_talk(&talk, text);
             link
         }
     };

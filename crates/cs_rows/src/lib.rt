@@ -14,7 +14,6 @@ mod reading;
 mod row;
 mod sizes;
 mod table;
-mod text;
 mod told;
 mod written;
 

@@ -1,15 +1,15 @@
 //! Calls of links: of a child that answers by a script, and of one that answers each command at once.
 
 use crate::outside::{Call, Outside};
-use crate::text::Text;
 use std::alloc::{AllocError, Global};
 use vx_ends::{Link, LinkFault, Parts, ReadyLink, ScriptSpawner, Spawner, StartFault};
+use vx_lines::Text;
 
 /// Bytes as text, with their number; a line feed at the end isn't written.
-pub fn put_counted(alloc: Global, bytes: &[u8], text: &mut Text) {
+pub fn put_counted(bytes: &[u8], text: &mut Text) {
     text.natural(bytes.len() as u128);
     text.put(" bytes: ");
-    text.trimmed(alloc, bytes);
+    text.trimmed(bytes);
 }
 
 fn put_sent(sent: Result<usize, LinkFault>, text: &mut Text) {
@@ -23,9 +23,9 @@ fn put_sent(sent: Result<usize, LinkFault>, text: &mut Text) {
     }
 }
 
-fn put_got(alloc: Global, got: Result<Vec<u8>, LinkFault>, text: &mut Text) {
+fn put_got(got: Result<Vec<u8>, LinkFault>, text: &mut Text) {
     match got {
-        Ok(bytes) => put_counted(alloc, &bytes, text),
+        Ok(bytes) => put_counted(&bytes, text),
         Err(LinkFault::Failed) => text.put("a fault"),
         Err(LinkFault::Want) => text.cut(),
     }
@@ -46,7 +46,7 @@ fn put_call<L: Link>(alloc: Global, link: &mut L, call: &Call, text: &mut Text) 
             if *max == 0 {
                 text.put("nothing to get");
             } else {
-                put_got(alloc, link.receive(alloc, *max), text);
+                put_got(link.receive(alloc, *max), text);
             }
         }
     }

@@ -4,12 +4,12 @@ ghost use Rattle.std.specs.Prelude.{◌<◌};
 
 use crate::links::put_counted;
 use crate::outside::Outside;
-use crate::text::Text;
 use std::alloc::{AllocError, Global};
 use vx_ends::{
     Bytes, Files, LoadFault, MemFiles, MemSink, MemSource, MoreFault, NamedText, PutFault,
     RoundRobin, Sink, Source, TurnList, Turns,
 };
+use vx_lines::Text;
 
 // A number, and the text behind it.
 fn counted(rest: &str) -> Option<(usize, &str)> {
@@ -17,10 +17,10 @@ fn counted(rest: &str) -> Option<(usize, &str)> {
     Some((number.parse().ok()?, text))
 }
 
-fn put_piece(alloc: Global, piece: &Result<Vec<u8>, MoreFault>, text: &mut Text) {
+fn put_piece(piece: &Result<Vec<u8>, MoreFault>, text: &mut Text) {
     match piece {
         Ok(bytes) if bytes.is_empty() => text.put("the end"),
-        Ok(bytes) => put_counted(alloc, bytes, text),
+        Ok(bytes) => put_counted(bytes, text),
         Err(MoreFault::Failed) => text.put("a fault"),
         Err(MoreFault::Want) => text.cut(),
     }
@@ -33,7 +33,7 @@ fn put_pieces<S: Source>(alloc: Global, source: &mut S, max: usize, calls: usize
     for _ in 0..calls {
         let piece = source.more(alloc, max);
         text.line();
-        put_piece(alloc, &piece, text);
+        put_piece(&piece, text);
         if piece.is_ok_and(|bytes| bytes.is_empty()) {
             break;
         }
@@ -92,7 +92,7 @@ pub fn put_sink(alloc: Global, asked: &str, text: &mut Text) -> Result<bool, All
     text.line();
     put_taken(&second, text);
     text.line();
-    put_counted(alloc, sink.taken(), text);
+    put_counted(sink.taken(), text);
     Ok(true)
 }
 
@@ -124,7 +124,7 @@ pub fn put_load(
     let mut files = files_of(alloc, outside)?;
     let name = if name.is_empty() { None } else { Some(name) };
     match files.load(alloc, name) {
-        Ok(found) => put_counted(alloc, &found, text),
+        Ok(found) => put_counted(&found, text),
         Err(LoadFault::Failed) => text.put("a fault"),
         Err(LoadFault::TooLong) => text.put("too long"),
         Err(LoadFault::Want) => text.cut(),

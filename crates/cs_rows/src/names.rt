@@ -1,8 +1,8 @@
 //! Symbols and sorts by their words.
 
-use crate::text::Text;
 use std::alloc::{AllocError, Global};
 use std::rc::Rc;
+use vx_lines::Text;
 use vx_smt_meaning::Declared;
 use vx_terms::{Operator, Sort, Symbol};
 

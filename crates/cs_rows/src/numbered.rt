@@ -2,7 +2,6 @@
 
 use crate::names::{operator_text, put_symbol, sort_text};
 use crate::reading::{Written, certificate_of, term_of};
-use crate::text::Text;
 use crate::told::{put_fraction, put_refusal};
 use cs_hints::Clause;
 use cs_numbers::{NumberedTerms, add, node_of, nodes_of, number, place_of};
@@ -11,6 +10,7 @@ use cs_reader::{Certificate, SymbolIndex, Symbols};
 use cs_table::{Head, Node, Stop, Table};
 use std::alloc::{AllocError, Global};
 use std::rc::Rc;
+use vx_lines::Text;
 use vx_smt_meaning::Declared;
 use vx_terms::Term;
 

@@ -1,13 +1,13 @@
 //! Replies, terms and certificates as they are read.
 
 use crate::names::sort_text;
-use crate::text::Text;
 use crate::told::put_refusal;
 use crate::written::put_written;
 use cs_reader::{Certificate, ReadFault, Refusal, Scope, Stop, SymbolIndex, Symbols, spelled};
 use cs_sorts::{is_live, sort_in};
 use std::alloc::{AllocError, Global};
 use std::rc::Rc;
+use vx_lines::Text;
 use vx_sexp::{Sexp, SexpFault, read};
 use vx_smt_meaning::{Command, Declared};
 use vx_smt_text::write;
@@ -78,7 +78,7 @@ pub fn certificate_of(alloc: Global, text: &str) -> Result<Option<Written>, Allo
 /// Want of memory.
 pub fn put_read(alloc: Global, reply: &str, text: &mut Text) -> Result<bool, AllocError> {
     match certificate_of(alloc, reply)? {
-        Some(Written::Steps(certificate)) => put_written(alloc, text, &certificate.steps),
+        Some(Written::Steps(certificate)) => put_written(text, &certificate.steps),
         Some(Written::Refused(refusal)) => put_refusal(text, &refusal),
         None => return Ok(false),
     }
@@ -86,11 +86,12 @@ pub fn put_read(alloc: Global, reply: &str, text: &mut Text) -> Result<bool, All
 }
 
 // A term as a command asserts it.
-fn put_asserted(alloc: Global, term: Rc<Term>, text: &mut Text) -> Result<(), AllocError> {
+fn put_asserted(alloc: Global, term: Rc<Term>, text: &mut Text) {
     let mut bytes = Vec::new(alloc);
-    write(alloc, &Command::Assert(term), &mut bytes)?;
-    text.trimmed(alloc, &bytes);
-    Ok(())
+    match write(alloc, &Command::Assert(term), &mut bytes) {
+        Ok(()) => text.trimmed(&bytes),
+        Err(_) => text.cut(),
+    }
 }
 
 /// The term that some words spell.
@@ -105,11 +106,9 @@ pub fn put_spelled(
 ) -> Result<(), AllocError> {
     match term_of(alloc, known, words)? {
         Some(term) => put_asserted(alloc, term, text),
-        None => {
-            text.put("no term");
-            Ok(())
-        }
+        None => text.put("no term"),
     }
+    Ok(())
 }
 
 // A sort, and whether the term's symbols are live.

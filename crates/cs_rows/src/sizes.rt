@@ -1,7 +1,7 @@
 //! How long an s-expression is, and a declaration that takes as many sorts as it has tokens.
 
-use crate::text::Text;
 use std::alloc::{AllocError, Global};
+use vx_lines::Text;
 use vx_sexp::{Sexp, SexpFault, read};
 use vx_smt_meaning::{Command, Declared};
 use vx_smt_text::write;

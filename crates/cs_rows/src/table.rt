@@ -10,9 +10,8 @@ use crate::outside::Outside;
 use crate::reading::{put_read, put_sorted, put_spelled};
 use crate::row::Row;
 use crate::sizes::put_sizes;
-use crate::text::Text;
-use crate::told::{put_line, put_text};
 use std::alloc::{AllocError, Global};
+use vx_lines::Text;
 use vx_smt_meaning::Declared;
 
 // Answers a question; false: the line asks nothing.
@@ -78,29 +77,24 @@ fn ask(
     line: &str,
     word: &str,
     rest: &str,
-    out: &mut String,
+    out: &mut Text,
 ) -> Result<bool, AllocError> {
     let mut text = Text::new(alloc);
     if !answer(alloc, row, word, rest, &mut text)? {
         return Ok(false);
     }
-    put_line(out, "", line)?;
-    put_text(out, &text.end()?)?;
+    out.put_line("", line);
+    out.put_text(&text);
     Ok(true)
 }
 
 // Takes a line of the table; false: it means nothing.
-fn take_line(
-    alloc: Global,
-    row: &mut Row,
-    line: &str,
-    out: &mut String,
-) -> Result<bool, AllocError> {
+fn take_line(alloc: Global, row: &mut Row, line: &str, out: &mut Text) -> Result<bool, AllocError> {
     let (word, rest) = line.split_once(' ').unwrap_or((line, ""));
     match word {
         "" | "#" => Ok(true),
         "row" => {
-            put_line(out, "", rest)?;
+            out.put_line("", rest);
             *row = Row::new(alloc)?;
             Ok(true)
         }
@@ -117,13 +111,13 @@ fn take_line(
 ///
 /// # Errors
 /// Want of memory.
-pub fn run_all(alloc: Global, table: &str, out: &mut String) -> Result<(), AllocError> {
+pub fn run_all(alloc: Global, table: &str, out: &mut Text) -> Result<(), AllocError> {
     let mut row = Row::new(alloc)?;
     for (at, line) in table.split('\n').enumerate() {
         if !take_line(alloc, &mut row, line, out)? {
-            let number = at.saturating_add(1);
-            let told = format!(in alloc; "line {number} means nothing: {line}")?;
-            put_line(out, "", &told)?;
+            out.put("line ");
+            out.natural((at as u128).saturating_add(1));
+            out.put_line(" means nothing: ", line);
         }
     }
     Ok(())

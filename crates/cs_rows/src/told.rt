@@ -1,24 +1,8 @@
 //! What is written of a row.
 
-use crate::text::Text;
 use cs_reader::Refusal;
-use std::alloc::AllocError;
 use vx_frac::{Frac, Op};
-
-/// A line.
-pub fn put_line(out: &mut String, front: &str, text: &str) -> Result<(), AllocError> {
-    out.push_str(front)?;
-    out.push_str(text)?;
-    out.push_str("\n")
-}
-
-/// A text, with two blanks in front of each of its lines.
-pub fn put_text(out: &mut String, text: &str) -> Result<(), AllocError> {
-    for line in text.split('\n') {
-        put_line(out, "  ", line)?;
-    }
-    Ok(())
-}
+use vx_lines::Text;
 
 /// A fraction in lowest terms: a numerator, and the denominator where it isn't 1.
 pub fn put_fraction(text: &mut Text, of: Frac) {

@@ -1,10 +1,9 @@
 //! The steps of a certificate, as they were read.
 
-use crate::text::Text;
 use crate::told::put_fraction;
 use cs_reader::{Literal, Step};
-use std::alloc::Global;
 use vx_frac::Frac;
+use vx_lines::Text;
 use vx_sexp::{Bytes, Token};
 
 fn put_numbers(text: &mut Text, numbers: &[u128]) {
@@ -28,45 +27,40 @@ fn put_fractions(text: &mut Text, fractions: &[Frac]) {
     }
 }
 
-fn put_word(alloc: Global, text: &mut Text, word: &Bytes) {
+fn put_word(text: &mut Text, word: &Bytes) {
     text.put(" ");
-    text.bytes(alloc, word.as_slice());
+    text.bytes(word.as_slice());
 }
 
-fn put_tokens(alloc: Global, text: &mut Text, tokens: &[Token]) {
+fn put_tokens(text: &mut Text, tokens: &[Token]) {
     for token in tokens {
         match token {
             Token::Open => text.put(" ("),
             Token::Close => text.put(" )"),
-            Token::Atom(_, word) => put_word(alloc, text, word),
+            Token::Atom(_, word) => put_word(text, word),
         }
     }
 }
 
-fn put_two(text: &mut Text, word: &str, first: u128, second: u128) {
+// A word and numbers behind it.
+fn put_numbered(text: &mut Text, word: &str, numbers: &[u128]) {
     text.put(word);
-    put_numbers(text, &[first, second]);
+    put_numbers(text, numbers);
 }
 
-fn put_step(alloc: Global, text: &mut Text, step: &Step) {
+fn put_step(text: &mut Text, step: &Step) {
     match step {
-        Step::Input(n) => {
-            text.put("input");
-            put_numbers(text, &[*n]);
-        }
+        Step::Input(n) => put_numbered(text, "input", &[*n]),
         Step::Term(tokens) => {
             text.put("term of ");
             text.natural(tokens.len() as u128);
             text.put(" tokens:");
-            put_tokens(alloc, text, tokens);
+            put_tokens(text, tokens);
         }
-        Step::Define(t, k) => put_two(text, "def", *t, *k),
-        Step::Pick(t, k) => put_two(text, "pick", *t, *k),
-        Step::Chain(terms) => {
-            text.put("chain");
-            put_numbers(text, terms);
-        }
-        Step::Congruence(s, t) => put_two(text, "cong", *s, *t),
+        Step::Define(t, k) => put_numbered(text, "def", &[*t, *k]),
+        Step::Pick(t, k) => put_numbered(text, "pick", &[*t, *k]),
+        Step::Chain(terms) => put_numbered(text, "chain", terms),
+        Step::Congruence(s, t) => put_numbered(text, "cong", &[*s, *t]),
         Step::Farkas(literals, multipliers) => {
             text.put("farkas");
             put_literals(text, literals);
@@ -79,11 +73,8 @@ fn put_step(alloc: Global, text: &mut Text, step: &Step) {
             text.put(" ");
             text.whole(*n);
         }
-        Step::Trichotomy(a, b) => put_two(text, "tri", *a, *b),
-        Step::Divide(a, d, k) => {
-            text.put("div");
-            put_numbers(text, &[*a, *d, *k]);
-        }
+        Step::Trichotomy(a, b) => put_numbered(text, "tri", &[*a, *b]),
+        Step::Divide(a, d, k) => put_numbered(text, "div", &[*a, *d, *k]),
         Step::Propagate(literals, hints) => {
             text.put("rup");
             put_literals(text, literals);
@@ -94,10 +85,10 @@ fn put_step(alloc: Global, text: &mut Text, step: &Step) {
 }
 
 /// The steps, each on a line.
-pub fn put_written(alloc: Global, text: &mut Text, steps: &[Step]) {
+pub fn put_written(text: &mut Text, steps: &[Step]) {
     for step in steps {
         text.line();
-        put_step(alloc, text, step);
+        put_step(text, step);
     }
     if steps.is_empty() {
         text.put("no steps");

@@ -1,8 +1,8 @@
 //! Fractions, and what is reckoned with them.
 
-use std::alloc::{AllocError, Global};
-use vx_frac::{Frac, Over};
-use vx_table::put_line;
+use std::cmp::Ordering;
+use vx_frac::{Frac, Op, Over};
+use vx_lines::Text;
 
 // A numerator, with a denominator where it isn't 1; None: the word is none, or the denominator isn't above 0.
 fn fraction_of(word: &str) -> Option<Frac> {
@@ -16,70 +16,86 @@ fn fraction_of(word: &str) -> Option<Frac> {
     }
 }
 
-fn text_of(alloc: Global, of: Frac) -> Result<String, AllocError> {
-    format!(in alloc; "{}/{}", of.num(), of.den())
+fn put_number(of: Frac, out: &mut Text) {
+    out.whole(of.num());
+    out.put("/");
+    out.whole(of.den());
 }
 
-fn over_text(alloc: Global, over: &Over) -> Result<String, AllocError> {
-    let left = text_of(alloc, over.a)?;
-    let right = text_of(alloc, over.b)?;
-    format!(in alloc; "{:?} of {left} and {right} leaves 128 bits", over.op)
+fn operation_word(of: Op) -> &'static str {
+    match of {
+        Op::Add => "Add",
+        Op::Sub => "Sub",
+        Op::Mul => "Mul",
+        Op::Cmp => "Cmp",
+        Op::Div => "Div",
+    }
 }
 
-fn value_text(alloc: Global, value: &Result<Frac, Over>) -> Result<String, AllocError> {
+fn put_over(over: &Over, out: &mut Text) {
+    out.put(operation_word(over.op));
+    out.put(" of ");
+    put_number(over.a, out);
+    out.put(" and ");
+    put_number(over.b, out);
+    out.put(" leaves 128 bits");
+}
+
+fn put_value(value: Result<Frac, Over>, out: &mut Text) {
     match value {
-        Ok(value) => text_of(alloc, *value),
-        Err(over) => over_text(alloc, over),
+        Ok(value) => put_number(value, out),
+        Err(over) => put_over(&over, out),
     }
 }
 
-fn order_text(alloc: Global, a: Frac, b: Frac) -> Result<String, AllocError> {
-    match a.cmp(b) {
-        Ok(order) => format!(in alloc; "{order:?}"),
-        Err(over) => over_text(alloc, &over),
+fn put_order(order: Result<Ordering, Over>, out: &mut Text) {
+    match order {
+        Ok(Ordering::Less) => out.put("Less"),
+        Ok(Ordering::Equal) => out.put("Equal"),
+        Ok(Ordering::Greater) => out.put("Greater"),
+        Err(over) => put_over(&over, out),
     }
 }
 
-// What two fractions give.
-fn both_text(
-    alloc: Global,
-    a: Frac,
-    operator: &str,
-    b: Frac,
-) -> Result<Option<String>, AllocError> {
-    let text = match operator {
-        "+" => value_text(alloc, &a.add(b))?,
-        "-" => value_text(alloc, &a.sub(b))?,
-        "*" => value_text(alloc, &a.mul(b))?,
-        "cmp" => order_text(alloc, a, b)?,
-        "<" => format!(in alloc; "{}", a.is_less(b))?,
-        "<=" => format!(in alloc; "{}", a.is_at_most(b))?,
-        _ => return Ok(None),
-    };
-    Ok(Some(text))
+fn truth_word(of: bool) -> &'static str {
+    if of { "true" } else { "false" }
 }
 
-fn told(alloc: Global, text: &str) -> Result<Option<String>, AllocError> {
+// What two fractions give; false: the operator is none.
+fn put_both(a: Frac, operator: &str, b: Frac, out: &mut Text) -> bool {
+    match operator {
+        "+" => put_value(a.add(b), out),
+        "-" => put_value(a.sub(b), out),
+        "*" => put_value(a.mul(b), out),
+        "cmp" => put_order(a.cmp(b), out),
+        "<" => out.put(truth_word(a.is_less(b))),
+        "<=" => out.put(truth_word(a.is_at_most(b))),
+        _ => return false,
+    }
+    true
+}
+
+// What a text gives; false: it is no fraction.
+fn put_told(text: &str, out: &mut Text) -> bool {
     let mut words = text.split_whitespace();
     let Some(a) = words.next().and_then(fraction_of) else {
-        return Ok(None);
+        return false;
     };
     let Some(operator) = words.next() else {
-        return Ok(Some(text_of(alloc, a)?));
+        put_number(a, out);
+        return true;
     };
     match words.next().and_then(fraction_of) {
-        Some(b) => both_text(alloc, a, operator, b),
-        None => Ok(None),
+        Some(b) => put_both(a, operator, b, out),
+        None => false,
     }
 }
 
 /// A fraction in lowest terms, or what `+`, `-`, `*`, `cmp`, `<` or `<=` between two of them gives.
-///
-/// # Errors
-/// Want of memory.
-pub fn put_fraction(alloc: Global, text: &str, out: &mut Vec<u8>) -> Result<(), AllocError> {
-    match told(alloc, text)? {
-        Some(told) => put_line(out, "  ", &told),
-        None => put_line(out, "  ", "no fraction"),
+pub fn put_fraction(text: &str, out: &mut Text) {
+    out.put("  ");
+    if !put_told(text, out) {
+        out.put("no fraction");
     }
+    out.put("\n");
 }

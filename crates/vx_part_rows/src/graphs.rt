@@ -7,7 +7,7 @@ ghost use Rattle.vx_graph.specs.Views.{rows};
 use std::alloc::{AllocError, Global};
 use vx_ast::MemberId;
 use vx_graph::{Edges, Groups, all_groups, are_in_range, group, reaches, rests};
-use vx_table::put_line;
+use vx_lines::Text;
 
 // The edges that are written as `a>b`, of so many members; None: one isn't, or leads out of the members.
 fn edges_of(alloc: Global, members: u32, text: &str) -> Result<Option<Edges>, AllocError> {
@@ -44,15 +44,14 @@ fn add_edge(targets: &mut [Vec<MemberId>], pair: &str) -> Result<bool, AllocErro
 }
 
 // Some members, or that there are none.
-fn members_text(alloc: Global, members: &[MemberId]) -> Result<String, AllocError> {
-    let mut text = String::new(alloc);
+fn put_members(members: &[MemberId], out: &mut Text) {
     for member in members {
-        write!(text, " {}", member.0)?;
+        out.put(" ");
+        out.natural(u128::from(member.0));
     }
-    if text.is_empty() {
-        text.push_str(" none")?;
+    if members.is_empty() {
+        out.put(" none");
     }
-    Ok(text)
 }
 
 // Those that a member reaches.
@@ -80,29 +79,39 @@ fn put_member(
     edges: &Edges,
     members: u32,
     at: MemberId,
-    out: &mut Vec<u8>,
+    out: &mut Text,
 ) -> Result<(), AllocError>
     requires at { at.0 < length (rows edges.now) }
     requires members { members ≡ length (rows edges.now) }
 {
-    let all = members_text(alloc, &reached(alloc, edges, members, at)?)?;
-    let own = members_text(alloc, &group(alloc, edges, at)?)?;
-    let others = members_text(alloc, &rests(alloc, edges, at)?)?;
-    let line = format!(in alloc; "{} reaches{all}; group{own}; rests on{others}", at.0)?;
-    put_line(out, "  ", &line)
+    out.put("  ");
+    out.natural(u128::from(at.0));
+    out.put(" reaches");
+    put_members(&reached(alloc, edges, members, at)?, out);
+    out.put("; group");
+    put_members(&group(alloc, edges, at)?, out);
+    out.put("; rests on");
+    put_members(&rests(alloc, edges, at)?, out);
+    out.put("\n");
+    Ok(())
 }
 
-// Adds those that are in one group with a member, from itself on.
-fn add_together(text: &mut String, groups: &Groups, members: u32, a: u32) -> Result<(), AllocError>
+// Those that are in one group with a member, from itself on; false: none is.
+fn put_pairs(groups: &Groups, members: u32, a: u32, out: &mut Text) -> bool
     requires a { a < length (roots groups.now) }
     requires members { members ≡ length (roots groups.now) }
 {
+    let mut has_any = false;
     for b in a..members {
         if groups.are_together(MemberId(a), MemberId(b)) {
-            write!(text, " {a}-{b}")?;
+            out.put(" ");
+            out.natural(u128::from(a));
+            out.put("-");
+            out.natural(u128::from(b));
+            has_any = true;
         }
     }
-    Ok(())
+    has_any
 }
 
 // The pairs that are in one group.
@@ -110,23 +119,25 @@ fn put_together(
     alloc: Global,
     edges: &Edges,
     members: u32,
-    out: &mut Vec<u8>,
+    out: &mut Text,
 ) -> Result<(), AllocError>
     requires { members ≡ length (rows edges.now) }
 {
     let groups = all_groups(alloc, edges)?;
-    let mut text = String::new(alloc);
+    out.put("  together");
+    let mut has_any = false;
     for a in 0..members {
-        add_together(&mut text, &groups, members, a)?;
+        has_any |= put_pairs(&groups, members, a, out);
     }
-    if text.is_empty() {
-        text.push_str(" none")?;
+    if !has_any {
+        out.put(" none");
     }
-    put_line(out, "  together", &text)
+    out.put("\n");
+    Ok(())
 }
 
 // All of a graph.
-fn put_all(alloc: Global, edges: &Edges, members: u32, out: &mut Vec<u8>) -> Result<(), AllocError>
+fn put_all(alloc: Global, edges: &Edges, members: u32, out: &mut Text) -> Result<(), AllocError>
     requires { members ≡ length (rows edges.now) }
 {
     for at in 0..members {
@@ -139,11 +150,14 @@ fn put_all(alloc: Global, edges: &Edges, members: u32, out: &mut Vec<u8>) -> Res
 ///
 /// # Errors
 /// Want of memory.
-pub fn put_graph(alloc: Global, text: &str, out: &mut Vec<u8>) -> Result<(), AllocError> {
+pub fn put_graph(alloc: Global, text: &str, out: &mut Text) -> Result<(), AllocError> {
     let (members, edges) = text.split_once(' ').unwrap_or((text, ""));
     let members = members.parse().unwrap_or(0);
     match edges_of(alloc, members, edges)? {
         Some(edges) if edges.len() == members as usize => put_all(alloc, &edges, members, out),
-        _ => put_line(out, "  ", "no graph"),
+        _ => {
+            out.put("  no graph\n");
+            Ok(())
+        }
     }
 }

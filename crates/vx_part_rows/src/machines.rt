@@ -3,19 +3,23 @@
 ghost use Rattle.vx_resolved.specs.Settled.{settled};
 ghost use Rattle.vx_machine.specs.Runs.{Follows};
 
+use crate::texts::put_place;
 use std::alloc::{AllocError, Global};
-use vx_ast::MemberId;
+use std::rc::Rc;
+use vx_ast::{MemberId, Place};
+use vx_lines::Text;
 use vx_machine::{Ask, Machine, Outcome};
 use vx_parser::parse;
 use vx_report::{code_word, reply_word};
 use vx_resolved::Settled;
-use vx_rules::Reply;
+use vx_rules::{Code, Reply};
 use vx_settled::typed_programs_keep_apart;
 use vx_settling::settle;
 use vx_smt_meaning::Command;
 use vx_smt_text::write;
 use vx_stack::Query;
-use vx_table::{Row, Step, put_line};
+use vx_table::{Row, Step};
+use vx_terms::Term;
 use vx_typing::{Typed, check};
 
 // On, with this reply where one is awaited.
@@ -34,40 +38,62 @@ fn on(
     machine.next(alloc, program, None)
 }
 
-// The path of a question as it is asserted, and its condition.
-fn put_question(alloc: Global, query: &Query, out: &mut Vec<u8>) -> Result<(), AllocError> {
-    for term in query.path.terms(alloc)? {
-        out.extend_from_slice(b"    ")?;
-        write(alloc, &Command::Assert(term), out)?;
+// A term as a command asserts it, on a line.
+fn put_asserted(alloc: Global, term: Rc<Term>, out: &mut Text) {
+    let mut bytes = Vec::new(alloc);
+    match write(alloc, &Command::Assert(term), &mut bytes) {
+        Ok(()) => out.bytes(&bytes),
+        Err(_) => out.cut(),
     }
-    out.extend_from_slice(b"    follows: ")?;
-    write(alloc, &Command::Assert(query.condition.clone()?), out)
+}
+
+// The path of a question as it is asserted, and its condition.
+fn put_question(alloc: Global, query: &Query, out: &mut Text) -> Result<(), AllocError> {
+    for term in query.path.terms(alloc)? {
+        out.put("    ");
+        put_asserted(alloc, term, out);
+    }
+    out.put("    follows: ");
+    put_asserted(alloc, query.condition.clone()?, out);
+    Ok(())
+}
+
+// Where a condition failed, its code and the reply.
+fn put_failure(place: Place, code: Code, reply: Reply, out: &mut Text) {
+    out.put("failed at ");
+    put_place(place, out);
+    out.put(" ");
+    out.put(code_word(code));
+    out.put(" (");
+    out.put(reply_word(reply));
+    out.put(")");
 }
 
 // A question's place and code, or an outcome.
-fn told(alloc: Global, ask: &Ask) -> Result<String, AllocError> {
+fn put_told(ask: &Ask, out: &mut Text) {
     match ask {
-        Ask::Check(query) => format!(in alloc;
-            "asks {}:{} {}",
-            query.place.line,
-            query.place.column,
-            code_word(query.code)
-        ),
-        Ask::Done(Outcome::Passed) => String::from_str(alloc, "passed"),
-        Ask::Done(Outcome::Failed { place, code, reply }) => format!(in alloc;
-            "failed at {}:{} {} ({})",
-            place.line,
-            place.column,
-            code_word(*code),
-            reply_word(*reply)
-        ),
-        Ask::Done(Outcome::Limit { checks }) => format!(in alloc; "limit of {checks} checks"),
+        Ask::Check(query) => {
+            out.put("asks ");
+            put_place(query.place, out);
+            out.put(" ");
+            out.put(code_word(query.code));
+        }
+        Ask::Done(Outcome::Passed) => out.put("passed"),
+        Ask::Done(Outcome::Failed { place, code, reply }) => {
+            put_failure(*place, *code, *reply, out);
+        }
+        Ask::Done(Outcome::Limit { checks }) => {
+            out.put("limit of ");
+            out.natural(u128::from(*checks));
+            out.put(" checks");
+        }
     }
 }
 
-fn put_ask(alloc: Global, step: Step, ask: &Ask, out: &mut Vec<u8>) -> Result<(), AllocError> {
-    let front = if step.other { "  other: " } else { "  first: " };
-    put_line(out, front, &told(alloc, ask)?)?;
+fn put_ask(alloc: Global, step: Step, ask: &Ask, out: &mut Text) -> Result<(), AllocError> {
+    out.put(if step.other { "  other: " } else { "  first: " });
+    put_told(ask, out);
+    out.put("\n");
     match ask {
         Ask::Check(query) => put_question(alloc, query, out),
         Ask::Done(_) => Ok(()),
@@ -108,7 +134,7 @@ fn put_steps(
     alloc: Global,
     program: &Settled,
     row: &Row,
-    out: &mut Vec<u8>,
+    out: &mut Text,
 ) -> Result<(), AllocError> {
     if program.len() <= row.member as usize {
         return Ok(());
@@ -126,15 +152,18 @@ fn put_steps(
 ///
 /// # Errors
 /// Want of memory.
-pub fn put_machines(alloc: Global, row: &Row, out: &mut Vec<u8>) -> Result<(), AllocError> {
+pub fn put_machines(alloc: Global, row: &Row, out: &mut Text) -> Result<(), AllocError> {
     let Ok(program) = parse(alloc, &row.text) else {
-        return put_line(out, "  ", "no program");
+        out.put("  no program\n");
+        return Ok(());
     };
     let Ok(typed) = check(alloc, &program) else {
-        return put_line(out, "  ", "no typed program");
+        out.put("  no typed program\n");
+        return Ok(());
     };
     let Ok(program) = settled_from(alloc, &typed) else {
-        return put_line(out, "  ", "no program that is settled");
+        out.put("  no program that is settled\n");
+        return Ok(());
     };
     put_steps(alloc, &program, row, out)
 }

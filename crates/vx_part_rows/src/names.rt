@@ -2,34 +2,43 @@
 
 use std::alloc::{AllocError, Global};
 use vx_ends::Parts;
+use vx_lines::Text;
 use vx_parser::parse;
-use vx_table::{Row, put_line};
+use vx_table::Row;
 use vx_typing::{Signature, Typed, check};
-use vx_words::{Order, Text, WordsFault, read_words};
+use vx_words::{Order, WordsFault, read_words};
 
-fn file_of(file: &Option<Text>) -> &str {
-    file.as_ref().map_or("standard input", |name| name.as_str())
+fn put_file(word: &str, file: &Option<vx_words::Text>, out: &mut Text) {
+    out.put(word);
+    out.put(" ");
+    out.put(file.as_ref().map_or("standard input", |name| name.as_str()));
 }
 
-fn parts_of(alloc: Global, solver: &Parts) -> Result<String, AllocError> {
-    let mut all = String::new(alloc);
+fn put_parts(solver: &Parts, out: &mut Text) {
     for part in solver.texts() {
-        write!(all, " [{part}]")?;
+        out.put(" [");
+        out.put(part);
+        out.put("]");
     }
-    Ok(all)
 }
 
-fn order_of(alloc: Global, order: &Order) -> Result<String, AllocError> {
+fn put_methods(word: &str, methods: u32, out: &mut Text) {
+    out.put(word);
+    out.put(" ");
+    out.natural(u128::from(methods));
+}
+
+fn put_meaning(order: &Order, out: &mut Text) {
     match order {
-        Order::Verify { file, solver } => format!(in alloc;
-            "verify {} by{}",
-            file_of(file),
-            parts_of(alloc, solver)?
-        ),
-        Order::Check { file } => format!(in alloc; "check {}", file_of(file)),
-        Order::Print { file } => format!(in alloc; "print {}", file_of(file)),
-        Order::Gen { methods } => format!(in alloc; "gen {methods}"),
-        Order::Work { methods } => format!(in alloc; "work {methods}"),
+        Order::Verify { file, solver } => {
+            put_file("verify", file, out);
+            out.put(" by");
+            put_parts(solver, out);
+        }
+        Order::Check { file } => put_file("check", file, out),
+        Order::Print { file } => put_file("print", file, out),
+        Order::Gen { methods } => put_methods("gen", *methods, out),
+        Order::Work { methods } => put_methods("work", *methods, out),
     }
 }
 
@@ -37,13 +46,16 @@ fn order_of(alloc: Global, order: &Order) -> Result<String, AllocError> {
 ///
 /// # Errors
 /// Want of memory.
-pub fn put_order(alloc: Global, row: &Row, out: &mut Vec<u8>) -> Result<(), AllocError> {
+pub fn put_order(alloc: Global, row: &Row, out: &mut Text) -> Result<(), AllocError> {
     let words = row.command(alloc)?;
+    out.put("  ");
     match read_words(alloc, &words) {
-        Ok(order) => put_line(out, "  ", &order_of(alloc, &order)?),
-        Err(WordsFault::Usage) => put_line(out, "  ", "usage"),
-        Err(WordsFault::Want) => Err(AllocError),
+        Ok(order) => put_meaning(&order, out),
+        Err(WordsFault::Usage) => out.put("usage"),
+        Err(WordsFault::Want) => return Err(AllocError),
     }
+    out.put("\n");
+    Ok(())
 }
 
 fn kind_of(signature: &Signature) -> &'static str {
@@ -55,31 +67,35 @@ fn kind_of(signature: &Signature) -> &'static str {
     }
 }
 
-fn name_line(alloc: Global, typed: &Typed, name: &str) -> Result<String, AllocError> {
+// What a name stands for.
+fn put_name(typed: &Typed, name: &str, out: &mut Text) {
+    out.put("  ");
+    out.put(name);
     match (typed.signature(name), typed.number(name)) {
-        (Some(signature), Some(number)) => format!(in alloc;
-            "{name}: {}, number {} of {}",
-            kind_of(&signature),
-            number.0,
-            typed.edges().len()
-        ),
-        _ => format!(in alloc; "{name}: nothing"),
+        (Some(signature), Some(number)) => {
+            out.put(": ");
+            out.put(kind_of(&signature));
+            out.put(", number ");
+            out.natural(u128::from(number.0));
+            out.put(" of ");
+            out.natural(typed.edges().len() as u128);
+        }
+        _ => out.put(": nothing"),
     }
+    out.put("\n");
 }
 
 /// What the words stand for as names of members.
-///
-/// # Errors
-/// Want of memory.
-pub fn put_names(alloc: Global, row: &Row, out: &mut Vec<u8>) -> Result<(), AllocError> {
+pub fn put_names(alloc: Global, row: &Row, out: &mut Text) {
     let Ok(program) = parse(alloc, &row.text) else {
-        return put_line(out, "  ", "no program");
+        out.put("  no program\n");
+        return;
     };
     let Ok(typed) = check(alloc, &program) else {
-        return put_line(out, "  ", "no typed program");
+        out.put("  no typed program\n");
+        return;
     };
     for name in row.words.texts() {
-        put_line(out, "  ", &name_line(alloc, &typed, name)?)?;
+        put_name(&typed, name, out);
     }
-    Ok(())
 }

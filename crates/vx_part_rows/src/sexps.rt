@@ -1,17 +1,25 @@
 //! The first s-expression of some bytes: at once, and as they come one by one.
 
-use std::alloc::{AllocError, Global};
+use std::alloc::Global;
+use vx_lines::Text;
 use vx_sexp::{Bytes, Kind, Reading, SexpFault, Token, count_finished, cut, read};
-use vx_table::put_line;
+
+fn put_fault(front: &str, at: usize, out: &mut Text) {
+    out.put(front);
+    out.natural(at as u128);
+}
 
 // How many bytes were taken, or why none.
-fn end_text(alloc: Global, end: Result<usize, SexpFault>) -> Result<String, AllocError> {
+fn put_end(end: Result<usize, SexpFault>, out: &mut Text) {
     match end {
-        Ok(taken) => format!(in alloc; "{taken} bytes"),
-        Err(SexpFault::Unfinished(at)) => format!(in alloc; "unfinished at {at}"),
-        Err(SexpFault::BadToken(at)) => format!(in alloc; "no token at {at}"),
-        Err(SexpFault::Deep(at)) => format!(in alloc; "too deep at {at}"),
-        Err(SexpFault::Want) => Err(AllocError),
+        Ok(taken) => {
+            out.natural(taken as u128);
+            out.put(" bytes");
+        }
+        Err(SexpFault::Unfinished(at)) => put_fault("unfinished at ", at, out),
+        Err(SexpFault::BadToken(at)) => put_fault("no token at ", at, out),
+        Err(SexpFault::Deep(at)) => put_fault("too deep at ", at, out),
+        Err(SexpFault::Want) => out.cut(),
     }
 }
 
@@ -28,31 +36,32 @@ fn kind_word(kind: Kind) -> &'static str {
     }
 }
 
-fn add_atom(alloc: Global, text: &mut String, kind: Kind, word: &Bytes) -> Result<(), AllocError> {
-    let word = String::from_utf8_lossy(alloc, word.as_slice())?;
-    write!(text, " {} {word}", kind_word(kind))?;
-    Ok(())
+fn put_atom(kind: Kind, word: &Bytes, out: &mut Text) {
+    out.put(" ");
+    out.put(kind_word(kind));
+    out.put(" ");
+    out.bytes(word.as_slice());
 }
 
-fn tokens_text(alloc: Global, tokens: &[Token]) -> Result<String, AllocError> {
-    let mut text = String::new(alloc);
+fn put_tokens(tokens: &[Token], out: &mut Text) {
     for token in tokens {
         match token {
-            Token::Open => text.push_str(" (")?,
-            Token::Close => text.push_str(" )")?,
-            Token::Atom(kind, word) => add_atom(alloc, &mut text, *kind, word)?,
+            Token::Open => out.put(" ("),
+            Token::Close => out.put(" )"),
+            Token::Atom(kind, word) => put_atom(*kind, word, out),
         }
     }
-    Ok(text)
 }
 
-fn read_text(alloc: Global, bytes: &[u8]) -> Result<String, AllocError> {
+// How many bytes were taken, and the tokens, or why none.
+fn put_read(alloc: Global, bytes: &[u8], out: &mut Text) {
     match read(alloc, bytes) {
         Ok((found, taken)) => {
-            let tokens = tokens_text(alloc, found.tokens())?;
-            format!(in alloc; "{taken} bytes:{tokens}")
+            put_end(Ok(taken), out);
+            out.put(":");
+            put_tokens(found.tokens(), out);
         }
-        Err(fault) => end_text(alloc, Err(fault)),
+        Err(fault) => put_end(Err(fault), out),
     }
 }
 
@@ -69,14 +78,14 @@ fn by_bytes(text: &[u8]) -> Result<usize, SexpFault> {
 }
 
 /// How the first s-expression is read, how it is cut off, at once and byte by byte, and how many are finished.
-///
-/// # Errors
-/// Want of memory.
-pub fn put_sexp(alloc: Global, bytes: &[u8], out: &mut Vec<u8>) -> Result<(), AllocError> {
-    put_line(out, "  read: ", &read_text(alloc, bytes)?)?;
-    put_line(out, "  cut: ", &end_text(alloc, cut(bytes))?)?;
-    let end = by_bytes(bytes);
-    put_line(out, "  byte by byte: ", &end_text(alloc, end)?)?;
-    let line = format!(in alloc; "{} finished", count_finished(bytes))?;
-    put_line(out, "  ", &line)
+pub fn put_sexp(alloc: Global, bytes: &[u8], out: &mut Text) {
+    out.put("  read: ");
+    put_read(alloc, bytes, out);
+    out.put("\n  cut: ");
+    put_end(cut(bytes), out);
+    out.put("\n  byte by byte: ");
+    put_end(by_bytes(bytes), out);
+    out.put("\n  ");
+    out.natural(count_finished(bytes) as u128);
+    out.put(" finished\n");
 }

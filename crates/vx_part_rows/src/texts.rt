@@ -1,44 +1,48 @@
 //! How texts are read.
 
-use std::alloc::{AllocError, Global};
+use std::alloc::Global;
+use vx_ast::Place;
+use vx_lines::Text;
 use vx_parser::{TextFault, parse};
 
+/// A line and a column.
+pub fn put_place(place: Place, out: &mut Text) {
+    out.natural(u128::from(place.line));
+    out.put(":");
+    out.natural(u128::from(place.column));
+}
+
 // The place, code, name and argument of a fault.
-fn fault_line(alloc: Global, fault: &TextFault) -> Result<String, AllocError> {
-    let place = fault.place();
-    let code = fault.code();
-    let name = fault.name();
-    match fault.argument() {
-        Some(argument) => format!(in alloc;
-            "{}:{} {code} {name} {argument}",
-            place.line, place.column
-        ),
-        None => format!(in alloc; "{}:{} {code} {name}", place.line, place.column),
+fn put_fault(fault: &TextFault, out: &mut Text) {
+    put_place(fault.place(), out);
+    out.put(" ");
+    out.put(fault.code());
+    out.put(" ");
+    out.put(fault.name());
+    if let Some(argument) = fault.argument() {
+        out.put(" ");
+        out.put(argument);
     }
 }
 
 /// How a text is read: `ok`, or its fault.
-///
-/// # Errors
-/// Want of memory.
-pub fn read_as(alloc: Global, text: &[u8]) -> Result<String, AllocError> {
+pub fn put_reading(alloc: Global, text: &[u8], out: &mut Text) {
+    out.put("  ");
     match parse(alloc, text) {
-        Ok(_) => String::from_str(alloc, "ok"),
-        Err(fault) => fault_line(alloc, &fault),
+        Ok(_) => out.put("ok"),
+        Err(fault) => put_fault(&fault, out),
     }
+    out.put("\n");
 }
 
 /// The lengths at which the beginning of a text is a program.
-///
-/// # Errors
-/// Want of memory.
-pub fn beginnings(alloc: Global, text: &[u8]) -> Result<String, AllocError> {
-    let mut all = String::from_str(alloc, "beginnings of")?;
+pub fn put_beginnings(alloc: Global, text: &[u8], out: &mut Text) {
+    out.put("  beginnings of");
     for length in 0..=text.len() {
         if parse(alloc, &text[..length]).is_ok() {
-            write!(all, " {length}")?;
+            out.put(" ");
+            out.natural(length as u128);
         }
     }
-    all.push_str(" bytes")?;
-    Ok(all)
+    out.put(" bytes\n");
 }

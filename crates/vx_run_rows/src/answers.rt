@@ -5,11 +5,10 @@ use std::alloc::{AllocError, Global};
 use vx_commands::{Ended, run};
 use vx_companion::Builtin;
 use vx_edge::ChildSpawner;
-use vx_ends::{
-    Bytes, Ending, MemFiles, MemSink, NamedText, Parts, Piece, Script, ScriptSpawner, Spawner,
-};
+use vx_ends::{Bytes, Ending, MemFiles, MemSink, NamedText, Piece, Script, ScriptSpawner, Spawner};
+use vx_lines::Text;
 use vx_report::{Cause, MemberRun, Verdict};
-use vx_table::{Asks, Row, Solver, put_line, put_text};
+use vx_table::{Asks, Row, Solver};
 
 fn input(alloc: Global, row: &Row) -> Result<MemFiles, AllocError> {
     let mut texts = Vec::new(alloc);
@@ -49,23 +48,25 @@ fn checks_in(alloc: Global, ending: &Ending) -> Result<usize, AllocError> {
 }
 
 // How often each child was asked.
-fn put_children(alloc: Global, ended: &[Ending], out: &mut Vec<u8>) -> Result<(), AllocError> {
+fn put_children(alloc: Global, ended: &[Ending], out: &mut Text) -> Result<(), AllocError> {
     for ending in ended {
-        let line = format!(in alloc; "a child was asked {} times", checks_in(alloc, ending)?)?;
-        put_line(out, "  ", &line)?;
+        let checks = checks_in(alloc, ending)?;
+        out.put("  a child was asked ");
+        out.natural(checks as u128);
+        out.put(" times\n");
     }
     Ok(())
 }
 
 // How many bytes are kept of what is no lawful reply.
-fn put_kept(alloc: Global, runs: &[MemberRun], out: &mut Vec<u8>) -> Result<(), AllocError> {
+fn put_kept(runs: &[MemberRun], out: &mut Text) {
     for member in runs {
         if let Verdict::Fault(Cause::Reply(kept)) = &member.verdict {
-            let line = format!(in alloc; "{} bytes are kept", kept.as_slice().len())?;
-            put_line(out, "  ", &line)?;
+            out.put("  ");
+            out.natural(kept.as_slice().len() as u128);
+            out.put(" bytes are kept\n");
         }
     }
-    Ok(())
 }
 
 // What the program puts where this spawner starts the solver, what is kept of replies, and the status.
@@ -73,26 +74,23 @@ fn put_run_by<W: Spawner>(
     alloc: Global,
     row: &Row,
     spawner: &mut W,
-    out: &mut Vec<u8>,
+    out: &mut Text,
 ) -> Result<(), AllocError> {
     let words = row.command(alloc)?;
     let mut files = input(alloc, row)?;
     let mut sink = MemSink::new(alloc, row.room)?;
     let mut builtin = Builtin::new(alloc);
     let Ended { status, runs } = run(alloc, &words, &mut files, &mut sink, spawner, &mut builtin);
-    put_text(out, sink.taken())?;
-    put_kept(alloc, &runs, out)?;
-    let line = format!(in alloc; "status {}", status.number())?;
-    put_line(out, "  ", &line)
+    out.put_lines(sink.taken());
+    put_kept(&runs, out);
+    out.put("  status ");
+    out.natural(u128::from(status.number()));
+    out.put("\n");
+    Ok(())
 }
 
 // The same by the row's solver, and how often it was asked.
-fn put_run(
-    rt: &HostRuntime,
-    alloc: Global,
-    row: &Row,
-    out: &mut Vec<u8>,
-) -> Result<(), AllocError> {
+fn put_run(rt: &HostRuntime, alloc: Global, row: &Row, out: &mut Text) -> Result<(), AllocError> {
     match row.solver {
         Solver::Script => {
             let mut spawner = solver(alloc, row)?;
@@ -104,7 +102,7 @@ fn put_run(
 }
 
 // How many questions the members of the program have, of which each is asked of the companion.
-fn put_checks(alloc: Global, row: &Row, out: &mut Vec<u8>) -> Result<(), AllocError> {
+fn put_checks(alloc: Global, row: &Row, out: &mut Text) -> Result<(), AllocError> {
     let words = row.command(alloc)?;
     let mut files = input(alloc, row)?;
     let mut sink = MemSink::new(alloc, row.room)?;
@@ -122,8 +120,12 @@ fn put_checks(alloc: Global, row: &Row, out: &mut Vec<u8>) -> Result<(), AllocEr
     for member in &ended.runs {
         checks = checks.saturating_add(u64::from(member.checks));
     }
-    let line = format!(in alloc; "{checks} checks of {} members", ended.runs.len())?;
-    put_line(out, "  ", &line)
+    out.put("  ");
+    out.natural(u128::from(checks));
+    out.put(" checks of ");
+    out.natural(ended.runs.len() as u128);
+    out.put(" members\n");
+    Ok(())
 }
 
 /// What a row is answered.
@@ -134,7 +136,7 @@ pub fn answer(
     rt: &HostRuntime,
     alloc: Global,
     row: &Row,
-    out: &mut Vec<u8>,
+    out: &mut Text,
 ) -> Result<(), AllocError> {
     match row.asks {
         Asks::Run => put_run(rt, alloc, row, out),

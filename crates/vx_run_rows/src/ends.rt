@@ -4,7 +4,8 @@ use std::alloc::{AllocError, Global};
 use vx_companion::Builtin;
 use vx_edge::DiskFiles;
 use vx_ends::{Files, Link, LinkFault, LoadFault, Parts, Spawner, StartFault};
-use vx_table::{Row, put_line, put_text};
+use vx_lines::Text;
+use vx_table::Row;
 
 /// How much the file holds that the words name.
 ///
@@ -14,14 +15,18 @@ pub fn put_file(
     rt: &HostRuntime,
     alloc: Global,
     row: &Row,
-    out: &mut Vec<u8>,
+    out: &mut Text,
 ) -> Result<(), AllocError> {
     let mut files = DiskFiles::new(alloc, rt);
     for name in row.words.texts() {
         match files.load(alloc, Some(name)) {
-            Ok(text) => put_line(out, "  ", &format!(in alloc; "{} bytes", text.len())?)?,
-            Err(LoadFault::Failed) => put_line(out, "  ", "not read")?,
-            Err(LoadFault::TooLong) => put_line(out, "  ", "too long")?,
+            Ok(text) => {
+                out.put("  ");
+                out.natural(text.len() as u128);
+                out.put(" bytes\n");
+            }
+            Err(LoadFault::Failed) => out.put("  not read\n"),
+            Err(LoadFault::TooLong) => out.put("  too long\n"),
             Err(LoadFault::Want) => return Err(AllocError),
         }
     }
@@ -33,16 +38,17 @@ fn put_got<L: Link>(
     alloc: Global,
     link: &mut L,
     got: Result<Vec<u8>, LinkFault>,
-    out: &mut Vec<u8>,
+    out: &mut Text,
 ) -> Result<(), AllocError> {
     match got {
-        Ok(bytes) => put_text(out, &bytes),
-        Err(LinkFault::Want) => Err(AllocError),
+        Ok(bytes) => out.put_lines(&bytes),
+        Err(LinkFault::Want) => return Err(AllocError),
         Err(LinkFault::Failed) => match link.send(alloc, b"again") {
-            Ok(_) => put_line(out, "  ", "a fault, and then none"),
-            Err(_) => put_line(out, "  ", "a fault, and each call behind it is one"),
+            Ok(_) => out.put("  a fault, and then none\n"),
+            Err(_) => out.put("  a fault, and each call behind it is one\n"),
         },
     }
+    Ok(())
 }
 
 // What a child that was started by this command answers to a text.
@@ -51,14 +57,18 @@ fn put_answer<W: Spawner>(
     spawner: &mut W,
     command: &Parts,
     text: &[u8],
-    out: &mut Vec<u8>,
+    out: &mut Text,
 ) -> Result<(), AllocError> {
     if text.is_empty() {
-        return put_line(out, "  ", "there is no text");
+        out.put("  there is no text\n");
+        return Ok(());
     }
     let mut link = match spawner.start(alloc, 0, command) {
         Ok(link) => link,
-        Err(StartFault::Failed) => return put_line(out, "  ", "not started"),
+        Err(StartFault::Failed) => {
+            out.put("  not started\n");
+            return Ok(());
+        }
         Err(StartFault::Want) => return Err(AllocError),
     };
     let told = match link.send(alloc, text) {
@@ -80,7 +90,7 @@ pub fn put_child_answer<W: Spawner>(
     alloc: Global,
     spawner: &mut W,
     row: &Row,
-    out: &mut Vec<u8>,
+    out: &mut Text,
 ) -> Result<(), AllocError> {
     put_answer(alloc, spawner, &row.words, &row.text, out)
 }
@@ -89,6 +99,6 @@ pub fn put_child_answer<W: Spawner>(
 ///
 /// # Errors
 /// Want of memory.
-pub fn put_companion_answer(alloc: Global, row: &Row, out: &mut Vec<u8>) -> Result<(), AllocError> {
+pub fn put_companion_answer(alloc: Global, row: &Row, out: &mut Text) -> Result<(), AllocError> {
     put_answer(alloc, &mut Builtin::new(alloc), &row.words, &row.text, out)
 }

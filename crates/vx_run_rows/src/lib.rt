@@ -6,6 +6,7 @@ mod ends;
 
 use crate::answers::answer;
 use std::alloc::{AllocError, Global};
+use vx_lines::Text;
 use vx_table::{Answers, Row};
 
 /// Answers rows with the runtime, which child processes and files need.
@@ -15,7 +16,7 @@ pub struct Program<'a> {
 }
 
 impl Answers for Program<'_> {
-    fn answer(&mut self, alloc: Global, row: &Row, out: &mut Vec<u8>) -> Result<(), AllocError> {
+    fn answer(&mut self, alloc: Global, row: &Row, out: &mut Text) -> Result<(), AllocError> {
         answer(self.rt, alloc, row, out)
     }
 }

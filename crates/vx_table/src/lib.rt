@@ -4,8 +4,6 @@
 
 mod row;
 mod table;
-mod told;
 
 pub use row::{Asks, Row, Solver, Step};
 pub use table::{Answers, run_all};
-pub use told::{put_line, put_place, put_text};

@@ -1,9 +1,9 @@
 //! The lines of a table. A line is a word and what stands behind it; a row ends before the next `row`.
 
 use crate::row::{Asks, Row, Solver, Step};
-use crate::told::put_line;
 use std::alloc::{AllocError, Global};
 use vx_ends::Bytes;
+use vx_lines::Text;
 use vx_rules::Reply;
 
 // The number in front of a text, and the text behind a blank.
@@ -161,7 +161,7 @@ pub trait Answers {
     ///
     /// # Errors
     /// Want of memory.
-    fn answer(&mut self, alloc: Global, row: &Row, out: &mut Vec<u8>) -> Result<(), AllocError>;
+    fn answer(&mut self, alloc: Global, row: &Row, out: &mut Text) -> Result<(), AllocError>;
 }
 
 // Ends the row before, if there is one.
@@ -169,7 +169,7 @@ fn end<A: Answers>(
     alloc: Global,
     answers: &mut A,
     row: &mut Option<Row>,
-    out: &mut Vec<u8>,
+    out: &mut Text,
 ) -> Result<(), AllocError> {
     match row.take() {
         Some(row) => answers.answer(alloc, &row, out),
@@ -192,7 +192,7 @@ fn take_line<A: Answers>(
     answers: &mut A,
     row: &mut Option<Row>,
     line: &str,
-    out: &mut Vec<u8>,
+    out: &mut Text,
 ) -> Result<(), AllocError> {
     let (word, rest) = line.split_once(' ').unwrap_or((line, ""));
     if word.is_empty() || word == "#" {
@@ -200,23 +200,23 @@ fn take_line<A: Answers>(
     }
     if word == "row" {
         end(alloc, answers, row, out)?;
-        put_line(out, "", rest)?;
+        out.put_line("", rest);
         *row = Some(Row::new(alloc));
         return Ok(());
     }
     if let Some(only) = of_one_line(alloc, word, rest)? {
         end(alloc, answers, row, out)?;
-        put_line(out, "", rest)?;
+        out.put_line("", rest);
         return answers.answer(alloc, &only, out);
     }
     let is_taken = match row {
         Some(row) => take(alloc, row, word, rest)?,
         None => false,
     };
-    if is_taken {
-        return Ok(());
+    if !is_taken {
+        out.put_line("a line means nothing: ", line);
     }
-    put_line(out, "a line means nothing: ", line)
+    Ok(())
 }
 
 /// Runs the rows of a table, and writes what came of each.
@@ -227,7 +227,7 @@ pub fn run_all<A: Answers>(
     alloc: Global,
     table: &str,
     answers: &mut A,
-    out: &mut Vec<u8>,
+    out: &mut Text,
 ) -> Result<(), AllocError> {
     let mut row = None;
     for line in table.split('\n') {

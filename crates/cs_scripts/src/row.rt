@@ -1,8 +1,9 @@
 //! A row: a script of commands, of which a session is asked most.
 
-use crate::told::{put_answer, put_line};
+use crate::told::put_answer;
 use cs_session::{Reply, Session, Want};
 use std::alloc::{AllocError, Global};
+use vx_lines::Text;
 use vx_sexp::{Kind, SexpFault, Token, read};
 
 /// What the commands of a row have said.
@@ -18,12 +19,12 @@ fn text_of(bytes: &[u8]) -> &str {
 }
 
 /// Writes a text on a line; false: it is none.
-fn echo(text: &Token, out: &mut String) -> Result<bool, AllocError> {
+fn put_echo(text: &Token, out: &mut Text) -> bool {
     let Token::Atom(Kind::Text, text) = text else {
-        return Ok(false);
+        return false;
     };
-    put_line(out, "", text_of(text.as_slice()).trim_matches('"'))?;
-    Ok(true)
+    out.put_line("", text_of(text.as_slice()).trim_matches('"'));
+    true
 }
 
 impl Row {
@@ -47,7 +48,7 @@ impl Row {
     }
 
     /// A command that the session is asked, and behind a check its answer; false: it means nothing.
-    fn ask(&mut self, alloc: Global, command: &[u8], out: &mut String) -> Result<bool, AllocError> {
+    fn ask(&mut self, alloc: Global, command: &[u8], out: &mut Text) -> Result<bool, AllocError> {
         match self.session.command(alloc, command) {
             Ok(Reply::Failed(_) | Reply::Unsupported) => Ok(false),
             Ok(Reply::Sat | Reply::Unsat | Reply::Undecided) => {
@@ -65,7 +66,7 @@ impl Row {
         alloc: Global,
         tokens: &[Token],
         command: &[u8],
-        out: &mut String,
+        out: &mut Text,
     ) -> Result<bool, AllocError> {
         let [
             Token::Open,
@@ -81,7 +82,7 @@ impl Row {
                 *self = Row::new(alloc);
                 Ok(true)
             }
-            ("echo", [text]) => echo(text, out),
+            ("echo", [text]) => Ok(put_echo(text, out)),
             (
                 "set-info",
                 [
@@ -101,20 +102,21 @@ fn run_command(
     tokens: &[Token],
     command: &[u8],
     number: usize,
-    out: &mut String,
+    out: &mut Text,
 ) -> Result<(), AllocError> {
-    if row.take(alloc, tokens, command, out)? {
-        return Ok(());
+    if !row.take(alloc, tokens, command, out)? {
+        out.put("command ");
+        out.natural(number as u128);
+        out.put(" means nothing\n");
     }
-    let told = format!(in alloc; "command {number} means nothing")?;
-    put_line(out, "", &told)
+    Ok(())
 }
 
 /// Runs the commands of a script, and writes what is said to them. Commands are counted from 0.
 ///
 /// # Errors
 /// Want of memory.
-pub fn run_script(alloc: Global, script: &[u8], out: &mut String) -> Result<(), AllocError> {
+pub fn run_script(alloc: Global, script: &[u8], out: &mut Text) -> Result<(), AllocError> {
     let mut row = Row::new(alloc);
     let mut rest = script;
     for number in 0..script.len() {
