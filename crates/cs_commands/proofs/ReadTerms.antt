@@ -32,7 +32,7 @@ use Rattle.cs_commands.specs.Heads.{Head, NotHead, IteHead, MinusHead, SlashHead
 use Rattle.cs_commands.specs.Building as building
 use Rattle.cs_commands.specs.Building.{is_bool, takes, have_sorts, built}
 use Rattle.cs_commands.specs.Terms as terms
-use Rattle.cs_commands.specs.Terms.{Frame, opened, with_part, Placed, Whole, Within, placed, closed, go_on, term_from}
+use Rattle.cs_commands.specs.Terms.{Frame, opened, Placed, Whole, Within, placed, closed, go_on, term_from}
 use Rattle.cs_commands.proofs.Passed.{ok_is, not_ok, some_is, not_some, bound, present, passed}
 use Rattle.cs_commands.proofs.Declarations.{first_is, first_later}
 

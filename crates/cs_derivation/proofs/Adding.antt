@@ -13,7 +13,7 @@ use Rattle.cs_nodes.proofs.Chains.{bind_some}
 use Rattle.cs_hints.specs.declared.Literal.{Literal}
 use Rattle.cs_hints.specs.declared.Clause.{Clause as Clause'}
 use Rattle.cs_hints.specs.Hints.{refutes}
-use Rattle.cs_farkas.specs.Sums.{Done, Leaves, Misses}
+use Rattle.cs_farkas.specs.Sums.{Done, Misses}
 use Rattle.cs_farkas.specs.Sums as sums
 use Rattle.cs_proof.specs.Prepared.{Duty, Named, Derived, Missed, Sum, Hints, prepared, narrow_literals, within, turned, with_literals, if_all_bool, saturate, clause_by, derived, propagation}
 use Rattle.cs_proof.specs.Plans.{Plans, kept, with_clause, planned}

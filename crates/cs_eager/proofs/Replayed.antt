@@ -9,7 +9,7 @@ use Rattle.vx_terms.specs.Sorts.{BoolSort}
 use Rattle.vx_terms.specs.Terms.{Term, Truth}
 use Rattle.vx_terms.specs.Interpretations.{Each}
 use Rattle.cs_certificate.specs.Terms.{HasSort}
-use Rattle.cs_certificate.specs.Certificate.{Yes, No, Sign, Plain, Negated, NumberedLiteral, Propagate, Stack, State, At, Contains, Reads, reads-plain, reads-negated, ReadsAll, no-literals, one-literal, Refutes, ends, forces, Derives, propagate}
+use Rattle.cs_certificate.specs.Certificate.{Yes, No, Sign, Plain, Negated, NumberedLiteral, Propagate, Stack, State, At, Reads, reads-plain, reads-negated, ReadsAll, no-literals, one-literal, Refutes, ends, forces, Derives, propagate}
 use Rattle.cs_certificate.specs.Certificate as certificate
 use Rattle.cs_nodes.specs.Nodes.{Represents}
 use Rattle.cs_nodes.proofs.Find.{one_at}
@@ -19,7 +19,7 @@ use Rattle.cs_hints.specs.declared.Literal.{Literal}
 use Rattle.cs_hints.specs.declared.Clause.{Clause}
 use Rattle.cs_hints.specs.Bridge.{term_at, signed, views, state, IsNumbered, AreDistinct}
 use Rattle.cs_hints.proofs.Bridged.{bridged}
-use Rattle.cs_derivation.specs.Reached.{Reached, Stands, state_of, Adds}
+use Rattle.cs_derivation.specs.Reached.{Reached, state_of, Adds}
 use Rattle.cs_derivation.specs.Reached as derivation
 use Rattle.cs_derivation.specs.Taken.{numbered}
 use Rattle.cs_search.specs.Assignment.{negated}

@@ -11,7 +11,7 @@ use Rattle.cs_certificate.specs.Linear.{minus_one, Multiple, Total, literal, mul
 use Rattle.cs_certificate.proofs.Fractions.{Eq, eq_refl, eq_trans, product_eq}
 use Rattle.cs_nodes.specs.Nodes.{Node, Represents}
 use Rattle.cs_nodes.proofs.Find.{one_at}
-use Rattle.cs_farkas.specs.Sums.{Outcome, Sums, ◌>>=◌, times, add_constant, add_column, Reading, literal_of, literal_at, multiple, of_head, read_as, read_node, read_term}
+use Rattle.cs_farkas.specs.Sums.{Sums, ◌>>=◌, times, add_constant, add_column, literal_of, literal_at, multiple, of_head, read_as, read_node, read_term}
 use Rattle.cs_farkas.specs.Sums as by_number
 use Rattle.cs_farkas.proofs.Amounts.{Fine, fine_then, times_fine, Agrees, constant_fine, column_fine, to_constant, to_column}
 

@@ -5,7 +5,7 @@ use Rattle.vx_terms.specs.Sorts.{Sort}
 use Rattle.vx_terms.specs.Terms.{Term}
 use Rattle.vx_terms.specs.Interpretations.{Each}
 use Rattle.cs_certificate.specs.Terms.{HasSort}
-use Rattle.cs_certificate.specs.Certificate.{Stack, State, start, Clause, At, Contains, NumberedLiteral, Step, Input, NewTerm, Define, Pick, Chain, Congruence, Farkas, Split, Trichotomy, Divide, Propagate, Leads, stays, names, derives, AreLive}
+use Rattle.cs_certificate.specs.Certificate.{Stack, State, Contains, NumberedLiteral, Step, Input, NewTerm, Define, Pick, Chain, Congruence, Farkas, Split, Trichotomy, Divide, Propagate, Leads, stays, names, derives, AreLive}
 use Rattle.cs_certificate.specs.Certificate as certificate
 use Rattle.cs_nodes.specs.Nodes.{Node}
 use Rattle.cs_nodes.specs.Steps.{ComputesSteps}
@@ -15,9 +15,9 @@ use Rattle.cs_sorts.specs.Sorting.{sort_in, is_live}
 use Rattle.cs_sorts.proofs.Told.{tells_sorts, tells_live}
 use Rattle.cs_hints.specs.declared.Clause.{Clause as Clause'}
 use Rattle.cs_hints.specs.Bridge.{state, IsNumbered, AreDistinct}
-use Rattle.cs_farkas.specs.Sums.{Outcome, Done, Leaves, Misses}
+use Rattle.cs_farkas.specs.Sums.{Done}
 use Rattle.cs_farkas.specs.Sums as sums
-use Rattle.cs_proof.specs.Prepared.{Duty, Missed, clause_by, derived}
+use Rattle.cs_proof.specs.Prepared.{Missed, clause_by}
 use Rattle.cs_proof.specs.Plans.{Plans, has_sort, is_fine, named_if, planned}
 use Rattle.cs_proof.specs.Answers.{Meets, IsOver}
 use Rattle.cs_proof.proofs.Grown.{IsNamed, named_is}

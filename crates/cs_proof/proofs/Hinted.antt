@@ -12,7 +12,7 @@ use Rattle.cs_hints.specs.declared.Clause.{Clause as Clause'}
 use Rattle.cs_hints.specs.Hints as hints
 use Rattle.cs_hints.specs.Bridge.{views, state, IsNumbered, AreDistinct}
 use Rattle.cs_hints.proofs.Bridged.{bridged, converse}
-use Rattle.cs_farkas.specs.Sums.{Outcome, Done, Misses}
+use Rattle.cs_farkas.specs.Sums.{Done, Misses}
 use Rattle.cs_farkas.specs.Sums as sums
 use Rattle.cs_proof.specs.Prepared.{Duty, Missed, Hints, narrow_literals, within, turned, is_bool, with_literals, if_all_bool, propagation, saturate}
 use Rattle.cs_proof.specs.Plans.{Plans, kept, with_clause}

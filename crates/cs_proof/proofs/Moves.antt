@@ -1,12 +1,12 @@
 -- One step: what the checker does of it, and what its rule says.
 use Rattle.std.proofs.Common.{◌≡◌, ℕ, suc, List, [], ◌∷◌, ◌++◌, Option, Some, None, map, length, refl, sym, ◌∙◌, ap, subst, arith}
 use Rattle.vx_frac.specs.Fractions.{Fraction}
-use Rattle.cs_certificate.specs.Certificate.{Stack, State, Clause, At, Contains, Sign, Plain, Negated, Yes, No, negated, NumberedLiteral, Step, NewTerm, Farkas, Propagate, Reads, reads-plain, reads-negated, ReadsAll, no-literals, one-literal, Refutes, Derives, farkas, propagate, Leads, stays, names, derives}
+use Rattle.cs_certificate.specs.Certificate.{Stack, State, Clause, NumberedLiteral, Step, NewTerm, Farkas, Derives, Leads, stays, derives}
 use Rattle.cs_certificate.specs.Certificate as certificate
 use Rattle.cs_nodes.specs.Nodes.{Node, Represents}
 use Rattle.cs_nodes.specs.Steps.{◌>>=◌, Names, Computes}
 use Rattle.cs_hints.specs.declared.Clause.{Clause as Clause'}
-use Rattle.cs_farkas.specs.Sums.{Outcome, Done, Leaves, Misses}
+use Rattle.cs_farkas.specs.Sums.{Done, Leaves, Misses}
 use Rattle.cs_farkas.specs.Sums as sums
 use Rattle.cs_proof.specs.Prepared.{Duty, Derived, Missed, within, derived}
 use Rattle.cs_proof.specs.Plans.{Plans, with_duty, with_clause, kept}

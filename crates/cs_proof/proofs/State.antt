@@ -4,7 +4,7 @@ use Rattle.std.proofs.lemmas.List.{map-append, get_or_append_left, length-append
 use Rattle.vx_terms.specs.Terms.{Term, Truth}
 use Rattle.vx_terms.specs.Interpretations.{Each}
 use Rattle.cs_certificate.specs.Terms.{subterms}
-use Rattle.cs_certificate.specs.Certificate.{Stack, State, Clause, AllAt, At}
+use Rattle.cs_certificate.specs.Certificate.{Stack, State, Clause, AllAt}
 use Rattle.cs_certificate.specs.Certificate as certificate
 use Rattle.cs_nodes.specs.Nodes.{Represents}
 use Rattle.cs_nodes.specs.Steps.{Names}

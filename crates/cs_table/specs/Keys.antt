@@ -1,5 +1,5 @@
 -- Keys of heads over parts: any numbers would do that depend on these alone.
-use Rattle.std.specs.Prelude.{ℕ, true, false, nat_abs, List, [], ◌∷◌}
+use Rattle.std.specs.Prelude.{ℕ, true, false, nat_abs, List}
 use Rattle.vx_terms.specs.Sorts.{Symbol, Standard, Function, Variable, Named, Operator, And, Or, Implies, Equal, Less, LessEqual, Add, Subtract, Multiply, Div, Mod}
 use Rattle.cs_index.specs.Keys.{mixed, mixed_all}
 use Rattle.vx_frac.specs.Fractions.{Fraction, denominator}

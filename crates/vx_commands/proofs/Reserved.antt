@@ -1,5 +1,5 @@
 -- No text spells a parameter with the name of a function's result: `result` is a reserved word, and no name.
-use Rattle.std.proofs.Common.{◌≡◌, ℕ, suc, ◌||◌, Bool, true, false, List, [], ◌∷◌, ◌++◌, Option, Some, None, map, refl, sym, ◌∙◌, ap, subst}
+use Rattle.std.proofs.Common.{◌≡◌, ℕ, Bool, true, false, List, [], ◌∷◌, ◌++◌, Option, Some, None, map, refl, sym, subst}
 use Rattle.std.specs.Prelude.{⊤}
 use Rattle.vx_ast.specs.declared.Place.{Place}
 use Rattle.vx_ast.specs.Mentions.{is_among}
@@ -10,8 +10,8 @@ use Rattle.vx_tokens.specs.Tokens.{Token, Kind, name, number, word, symbol}
 use Rattle.vx_tokens.specs.Text as text
 use Rattle.vx_tokens.specs.Text.{Scans, scans_end, scans_blank, scans_line, scans_block, scans_token, scans_wide, scans_open, scans_bad, reserved, word_or_name}
 use Rattle.vx_grammar.specs.Grammar.{Mark, tokens_of}
-use Rattle.vx_grammar.specs.Statements.{DeclarationPhrase, declaration_marks, semi_marks}
-use Rattle.vx_grammar.specs.Programs.{MoreDeclarations, no_more, listed, DeclarationsPhrase, none, some, more_meant, more_marks, declarations_meant, declarations_marks, parameters_marks, FunctionPhrase, head_marks, function_marks, braced_marks, clauses_marks, MemberPhrase, a_field, a_predicate, a_function, a_method, member_meant, member_marks, ProgramPhrase, no_members, member, program_meant, program_marks}
+use Rattle.vx_grammar.specs.Statements.{semi_marks}
+use Rattle.vx_grammar.specs.Programs.{MoreDeclarations, no_more, listed, DeclarationsPhrase, none, some, more_meant, more_marks, declarations_meant, declarations_marks, parameters_marks, FunctionPhrase, head_marks, function_marks, braced_marks, MemberPhrase, a_field, a_predicate, a_function, a_method, member_meant, member_marks, ProgramPhrase, no_members, member, program_meant, program_marks}
 use Rattle.vx_parser.specs.Spelling.{Spells}
 use Rattle.vx_rules.proofs.Names.{same_name_is}
 use Rattle.vx_settled.specs.WhenSettled.{LeavesResult, LeaveResults}

@@ -4,7 +4,7 @@ use Rattle.vx_ast.specs.Syntax.{Program, Expr, Exprs, Assertion, Stmt, Block}
 use Rattle.vx_terms.specs.Terms.{Term}
 use Rattle.vx_rules.specs.States.{Heap, State}
 use Rattle.vx_rules.specs.Trees.{Tree}
-use Rattle.vx_rules.specs.Rules.{Giving, Going, GivingAll, Context, Outer, outer}
+use Rattle.vx_rules.specs.Rules.{Giving, Going, GivingAll, Context, outer}
 use Rattle.vx_rules.specs.Rules as rules
 use Rattle.vx_rules.specs.Members as members
 

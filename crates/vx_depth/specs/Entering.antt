@@ -1,5 +1,5 @@
 -- Which members' parts are read while another's part is read, on one level.
-use Rattle.std.specs.Prelude.{◌≡◌, ◌⊎◌, ℕ, zero, suc, List, [], ◌∷◌, ◌++◌, Option, Some, None}
+use Rattle.std.specs.Prelude.{◌≡◌, ℕ, zero, suc, List, [], ◌++◌, Option, Some, None}
 use Rattle.vx_ast.specs.Syntax.{Name, Program, Predicate, Function, predicate_named, function_named, joined}
 use Rattle.vx_ast.specs.Apart.{entered_by, entered_by_measure, entered_by_body, Stands}
 use Rattle.vx_ast.specs.Mentions.{ReachesBy}

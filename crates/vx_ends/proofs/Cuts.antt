@@ -1,9 +1,9 @@
 -- A record's pieces, one more and one less.
-use Rattle.std.proofs.Common.{◌≡◌, ℕ, zero, suc, ◌+◌, ◌-◌, ◌≤◌, Bool, true, false, List, [], ◌∷◌, ◌++◌, length, take, drop, min, refl, sym, ap, ◌∙◌, rules, arith}
+use Rattle.std.proofs.Common.{◌≡◌, ℕ, zero, suc, ◌+◌, ◌-◌, ◌≤◌, Bool, true, false, List, [], ◌∷◌, ◌++◌, length, take, drop, min, refl, sym, ap, ◌∙◌, arith}
 use Rattle.std.proofs.lemmas.List.{take_all, take-append-le, drop-append-le, length-drop, take-take, take_min, length-take-le, drop-take, drop-drop}
 use Rattle.vx_ends.specs.Cuts.{piece_of, pieces_of, total, cut_last, front_of}
 use Rattle.vx_ends.specs.declared.piece.Piece.{Piece}
-use Rattle.vx_ends.specs.declared.piece.Piece.TheVariants.{Sent, Got}
+use Rattle.vx_ends.specs.declared.piece.Piece.TheVariants.{Sent}
 use Rattle.vx_ends.specs.declared.record.Cut.{Cut}
 
 -- ---- one more

@@ -5,7 +5,7 @@ use Rattle.vx_ast.specs.declared.Place.{Place}
 use Rattle.vx_ast.specs.declared.ValueType.TheVariants.{Int}
 use Rattle.vx_ast.specs.declared.ValueType.TheVariants as type
 use Rattle.vx_ast.specs.Syntax as syntax
-use Rattle.vx_ast.specs.Syntax.{Program, Function, Name, result_name, Assertion, as_assertion, conjoined, function_named, Assert, Then, Done, Block, Pure, Variable}
+use Rattle.vx_ast.specs.Syntax.{Program, Function, Name, result_name, Assertion, as_assertion, conjoined, function_named, Assert, Then, Done, Pure, Variable}
 use Rattle.vx_frac.specs.Fractions.{full, is_positive}
 use Rattle.vx_meaning.specs.Values.{Value, IntValue, BoolValue, RefValue, PermValue, type_of}
 use Rattle.vx_meaning.specs.States.{State, Store, Heap, Holdings, Instance, At, Folded, amount, bind, with_store}
@@ -14,7 +14,7 @@ use Rattle.vx_meaning.specs.Flatten.{bare, flat, IsInside}
 use Rattle.vx_meaning.specs.Fits.{Checked, take_by}
 use Rattle.vx_meaning.specs.Give.{give}
 use Rattle.vx_meaning.specs.Outcomes.{FailsAt, passes, refused, goes_on, is_over}
-use Rattle.vx_meaning.specs.Fails.{MethodFails, precondition, postcondition_unframed, body, postcondition, Measure, Number, Inside, Lowers, LowersMeasure, HasMeasure, measure_by, DoesNotLower, FunctionFails, application_in_body, application_in_postcondition, measure, PredicateFails, Fails, FunctionStarts, with_result}
+use Rattle.vx_meaning.specs.Fails.{MethodFails, precondition, postcondition_unframed, body, postcondition, Measure, Number, Inside, Lowers, LowersMeasure, HasMeasure, measure_by, FunctionFails, application_in_body, application_in_postcondition, measure, PredicateFails, Fails, FunctionStarts, with_result}
 use Rattle.vx_meaning.specs.Fails as fails
 use Rattle.vx_examples.specs.Words.{at}
 use Rattle.vx_examples.specs.Failing.{f, n, b, c, x, cell, failing, failing_unframed, narrow, failing_narrow, divide, failing_divide, promise, failing_promise, rise, failing_rise, unheld, failing_unheld, unmeasured, failing_unmeasured, again, failing_again, wild, failing_wild, stay, failing_stay, fine, failing_fine, failing_demand, failing_vow, failing_claim, failing_give, failing_cell}

@@ -2,9 +2,9 @@
 use Rattle.std.proofs.Common.{◌≡◌, ℕ, ◌<◌, pos, true, refl, sym, ap, ◌∙◌, inl, inr, ◌⊎◌, arith}
 use Rattle.vx_frac.specs.Fractions.{Fraction, lowest}
 use Rattle.vx_terms.specs.Sorts as sort
-use Rattle.vx_terms.specs.Sorts.{Sort, IntSort, BoolSort, RealSort, SnapSort, Operator, Takes}
+use Rattle.vx_terms.specs.Sorts.{Sort, IntSort, BoolSort, RealSort, SnapSort, Takes}
 use Rattle.vx_terms.specs.Terms as term
-use Rattle.vx_terms.specs.Terms.{Term, Terms, NoTerms, MoreTerms, sort_of}
+use Rattle.vx_terms.specs.Terms.{Term, Terms, NoTerms, MoreTerms}
 use Rattle.vx_terms.specs.Formed as formed
 use Rattle.vx_terms.specs.Formed.{Formed, FormedAll, FormedBools, IsKnown, no_terms, more_terms, no_bools, more_bools}
 use Rattle.vx_terms.proofs.Values.{sort_of_formed}

@@ -1,6 +1,6 @@
 -- Programs with calls.
 use Rattle.std.specs.Prelude.{[], ◌∷◌, Some, None, codes}
-use Rattle.vx_ast.specs.declared.ValueType.TheVariants.{Int, Perm}
+use Rattle.vx_ast.specs.declared.ValueType.TheVariants.{Int}
 use Rattle.vx_ast.specs.declared.ValueType.TheVariants as type
 use Rattle.vx_ast.specs.Syntax.{Name, Add, Both, Call, Done, Equal, IsField, IsMethod, Method, More, NoMore, Number, Old, Operate, Part, Points, Program, Pure, Read, Then, Variable}
 use Rattle.vx_examples.specs.Words.{at}

@@ -1,6 +1,6 @@
 -- A program with one of each kind of member.
 use Rattle.std.specs.Prelude.{false, [], ◌∷◌, Some, None, codes}
-use Rattle.vx_ast.specs.declared.ValueType.TheVariants.{Int, Perm}
+use Rattle.vx_ast.specs.declared.ValueType.TheVariants.{Int}
 use Rattle.vx_ast.specs.declared.ValueType.TheVariants as type
 use Rattle.vx_ast.specs.Syntax.{Name, Both, Equal, Function, IsField, IsFunction, IsMethod, IsPredicate, Method, Number, Old, Operate, Part, Points, Predicate, Program, Pure, Read, Truth, Variable}
 use Rattle.vx_examples.specs.Words.{at}

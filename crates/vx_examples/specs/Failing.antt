@@ -1,6 +1,6 @@
 -- A program whose members fail, each in its own way, but for `cell`, `fall`, `fine` and `idle`.
 use Rattle.std.specs.Prelude.{[], ◌∷◌, Some, None, codes}
-use Rattle.vx_ast.specs.declared.ValueType.TheVariants.{Int, Perm}
+use Rattle.vx_ast.specs.declared.ValueType.TheVariants.{Int}
 use Rattle.vx_ast.specs.declared.ValueType.TheVariants as type
 use Rattle.vx_ast.specs.Syntax.{Name, Add, Apply, Assert, Assign, ByInstance, ByNumber, Choose, Divide, Done, Equal, Function, Greater, IsField, IsFunction, IsMethod, IsPredicate, LessEqual, Method, More, NoMore, Number, Operate, Part, Points, Predicate, Program, Pure, Quotient, Read, Subtract, Then, Variable, result_name}
 use Rattle.vx_examples.specs.Words.{at}

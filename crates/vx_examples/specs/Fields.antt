@@ -1,6 +1,6 @@
 -- Programs over fields and fractions.
 use Rattle.std.specs.Prelude.{[], ◌∷◌, Some, codes}
-use Rattle.vx_ast.specs.declared.ValueType.TheVariants.{Int, Perm}
+use Rattle.vx_ast.specs.declared.ValueType.TheVariants.{Int}
 use Rattle.vx_ast.specs.declared.ValueType.TheVariants as type
 use Rattle.vx_ast.specs.Syntax.{Name, Assert, Both, Done, Equal, Exhale, Inhale, IsField, IsMethod, Method, Not, Number, Old, Operate, Part, Points, Program, Pure, Read, Then, Variable, Write}
 use Rattle.vx_examples.specs.Words.{at}

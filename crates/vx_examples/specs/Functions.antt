@@ -1,6 +1,6 @@
 -- Programs with functions.
 use Rattle.std.specs.Prelude.{[], ◌∷◌, Some, None, codes}
-use Rattle.vx_ast.specs.declared.ValueType.TheVariants.{Int, Perm}
+use Rattle.vx_ast.specs.declared.ValueType.TheVariants.{Int}
 use Rattle.vx_ast.specs.declared.ValueType.TheVariants as type
 use Rattle.vx_ast.specs.Syntax.{Name, Add, Apply, Assert, Assign, Both, ByInstance, ByNumber, Choose, Connect, Declare, Done, Equal, Function, Greater, Implied, Implies, Instance, IsField, IsFunction, IsMethod, IsPredicate, Method, More, NoMore, Not, Null, Number, Operate, Part, Points, Predicate, Program, Pure, Read, Then, Unfold, Unfolding, Variable, result_name}
 use Rattle.vx_examples.specs.Words.{at}

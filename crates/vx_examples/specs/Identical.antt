@@ -1,7 +1,7 @@
 -- Pairs of terms, and whether they are one and the same; terms, their sorts, and whether they are symbols or literals.
 use Rattle.std.specs.Prelude.{Bool, true, false, pos, negsuc, List, [], ◌∷◌}
 use Rattle.vx_terms.specs.Sorts as sort
-use Rattle.vx_terms.specs.Sorts.{Sort, IntSort, BoolSort, RealSort, RefSort, SnapSort, OtherSort, Named}
+use Rattle.vx_terms.specs.Sorts.{Sort, IntSort, BoolSort, RealSort, RefSort, SnapSort, Named}
 use Rattle.vx_terms.specs.Terms as term
 use Rattle.vx_terms.specs.Terms.{Term, NoTerms, MoreTerms}
 use Rattle.vx_examples.specs.Words.{int, bool, ref, snap, null, unit, number, part, falsity, denied, equal, less, plus, minus, both, chosen_term, quotient, pair, first, second, as_int, wrapped_int}

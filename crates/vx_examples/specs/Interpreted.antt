@@ -3,7 +3,7 @@ use Rattle.std.specs.Prelude.{zero, suc, Bool, true, false, pos, negsuc, List, [
 use Rattle.vx_frac.specs.Fractions.{Fraction}
 use Rattle.vx_terms.specs.Sorts.{IntSort, OtherSort, Symbol, Standard, Variable, Function}
 use Rattle.vx_terms.specs.Terms as term
-use Rattle.vx_terms.specs.Terms.{Term, Terms, NoTerms, MoreTerms}
+use Rattle.vx_terms.specs.Terms.{Term, NoTerms, MoreTerms}
 use Rattle.vx_terms.specs.Interpretations.{Tree, Empty, IntLeaf, BoolLeaf, RefLeaf, PermLeaf, Pair, Element, IntElement, BoolElement, RealElement, TreeElement, as_tree, Interpretation}
 use Rattle.vx_examples.specs.Words.{int, bool, real, ref, snap, null, unit, number, part, falsity, denied, equal, less, at_most, plus, minus, times, both, either, implied, chosen_term, quotient, remainder, pair}
 use Rattle.vx_examples.specs.Simplified.{truth, half, third}

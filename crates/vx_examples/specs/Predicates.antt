@@ -1,6 +1,6 @@
 -- Programs with predicates.
 use Rattle.std.specs.Prelude.{[], ◌∷◌, Some, None, codes}
-use Rattle.vx_ast.specs.declared.ValueType.TheVariants.{Int, Perm}
+use Rattle.vx_ast.specs.declared.ValueType.TheVariants.{Int}
 use Rattle.vx_ast.specs.declared.ValueType.TheVariants as type
 use Rattle.vx_ast.specs.Syntax.{Name, Both, Done, Equal, Exhale, Fold, Greater, Implied, Instance, IsField, IsMethod, IsPredicate, Method, More, NoMore, Not, Null, Number, Operate, Part, Points, Predicate, Program, Pure, Read, Subtract, Then, Unfold, Variable, Write}
 use Rattle.vx_examples.specs.Words.{at}

@@ -1,6 +1,6 @@
 -- Programs over variables alone.
 use Rattle.std.specs.Prelude.{true, false, [], ◌∷◌, Some, codes}
-use Rattle.vx_ast.specs.declared.ValueType.TheVariants.{Int, Perm}
+use Rattle.vx_ast.specs.declared.ValueType.TheVariants.{Int}
 use Rattle.vx_ast.specs.declared.ValueType.TheVariants as type
 use Rattle.vx_ast.specs.Syntax.{Name, Add, Assert, Assign, Connect, Done, Greater, If, Implies, IsMethod, Method, Number, Operate, Program, Pure, Then, Truth, Variable}
 use Rattle.vx_examples.specs.Words.{at}

@@ -5,7 +5,7 @@ use Rattle.vx_ast.specs.declared.ValueType.{ValueType}
 use Rattle.vx_ast.specs.declared.ValueType.TheVariants.{Int, Perm}
 use Rattle.vx_ast.specs.declared.ValueType.TheVariants as type
 use Rattle.vx_ast.specs.Syntax as syntax
-use Rattle.vx_ast.specs.Syntax.{Name, Expr, Number, Truth, Null, Part, Variable, Operate, Add, Subtract, Equal, Divide, Quotient, Choose, Connect, And, Read, Apply, Unfolding, Exprs, NoMore, More, Assertion, Pure, Points, Instance, Both, Implied, Chosen, Block, Done, Then, Predicate, Program, IsField, IsPredicate, Measure, ByNumber, ByInstance}
+use Rattle.vx_ast.specs.Syntax.{Name, Expr, Number, Truth, Null, Part, Variable, Operate, Subtract, Equal, Divide, Quotient, Read, Apply, Unfolding, Exprs, NoMore, More, Assertion, Pure, Points, Instance, Both, Implied, Chosen, Block, Done, Then, Predicate, Program, IsField, IsPredicate, Measure, ByNumber, ByInstance}
 use Rattle.vx_meaning.specs.Values.{Value, IntValue, BoolValue, RefValue, PermValue}
 use Rattle.vx_meaning.specs.States.{Holdings, At, Folded}
 use Rattle.vx_meaning.specs.Fits.{Checked}

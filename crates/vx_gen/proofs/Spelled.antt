@@ -12,7 +12,7 @@ use Rattle.vx_grammar.specs.StmtReading.{skip_semicolon}
 use Rattle.vx_grammar.specs.MemberReading.{begins_member, member_at, members_by, members_within, members_at}
 use Rattle.vx_grammar.specs.ProgramLaws.{ProgramSays}
 use Rattle.vx_grammar.proofs.ProgramTold.{programs_are_spelled}
-use Rattle.vx_gen.specs.Generated.{generated, first_lines, method_lines}
+use Rattle.vx_gen.specs.Generated.{generated, first_lines}
 use Rattle.vx_gen.specs.Generated as text
 use Rattle.vx_gen.specs.Programs.{line, first_members, program_of, method_on}
 use Rattle.vx_parser.specs.Spelling.{Spells}

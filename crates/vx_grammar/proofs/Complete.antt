@@ -12,7 +12,7 @@ use Rattle.vx_ast.specs.declared.BinaryOperator.{BinaryOperator}
 use Rattle.vx_ast.specs.declared.BinaryOperator.TheVariants.{Implies}
 use Rattle.vx_tokens.specs.declared.token.Word.TheVariants as words
 use Rattle.vx_tokens.specs.Tokens.{Token, Kind, name, word, symbol}
-use Rattle.vx_ast.specs.Written.{Expr, Exprs, More, Amount, Call, Binary, Choice}
+use Rattle.vx_ast.specs.Written.{Expr, Exprs, More, Binary, Choice}
 use Rattle.vx_ast.specs.Written as written
 use Rattle.vx_grammar.specs.Grammar.{operator_of, Constant, null_word, write_word, none_word, result_word, Phrase, literal, constant, numeral, named, called, dotted, grouped, past, accessed, prefixed, joined, chosen, unfolded, ends_open, ArgumentsPhrase, no_arguments, arguments_from, FurtherPhrase, nothing_further, further, AmountPhrase, no_amount, amount, InstancePhrase, alone, held, instance_meant, InstanceStands, instance_marks, Mark, mark, marks, arguments_marks, further_marks, amount_marks, operators, dots, tokens_of, start_of, meant, arguments_meant, further_meant, amount_meant, IsPrimary, StandsAt, ArgumentsStand, FurtherStand, AmountStands, level_of, sign_of}
 use Rattle.vx_grammar.specs.Reading.{Read, Deeper, is_symbol, Part, Given, choice, implication, chain, rest_of_chain, behind_dot, arguments, access, holding, expect, name_at, enclosed, call_by, named_by, old_by, access_by, primary_by, dots_at, dotted_at, postfix_by, unary_by, unary_at, run, exprs_from, argument_turn, some_arguments, arguments_at, amount_by, amount_at, access_at, bare_by, instance_at, behind_in, unfolding_by, holding_at, operator_by, rest_by, rest_at, chain_at, implies_by, implied_by, implication_at, second_by, sides_by, chosen_by, choice_at, part_at, below}

@@ -16,7 +16,7 @@ use Rattle.vx_grammar.specs.Reading.{◌>>=◌, Read, expect, is_symbol, run, na
 use Rattle.vx_grammar.specs.Nesting.{nests}
 use Rattle.vx_grammar.specs.StmtReading.{is_measure, begins_decreases, type_at, clause_at, skip_semicolon}
 use Rattle.vx_grammar.specs.MemberReading as reading
-use Rattle.vx_grammar.specs.MemberReading.{Halting, halting, Head, function_of, head_at, function_by, function_at, Clauses, with_requires, with_ensures, with_measure, begins_requires, begins_ensures, clause_turn, clauses_at, limit, max_members, begins_braces, braced_at, some_braced, given_at, predicate_at, some_block, body_at, method_of, method_at, field_at, member_at, begins_member, declaration_turn, declarations_at, is_closing, inner_parameters_at, parameters_at, begins_returns, returns_at, members_by, members_within, members_at}
+use Rattle.vx_grammar.specs.MemberReading.{Halting, halting, Head, function_of, head_at, function_by, function_at, Clauses, with_requires, with_ensures, with_measure, begins_requires, begins_ensures, clause_turn, clauses_at, limit, max_members, begins_braces, braced_at, some_braced, given_at, predicate_at, some_block, body_at, method_of, method_at, field_at, member_at, begins_member, declaration_turn, declarations_at, inner_parameters_at, parameters_at, begins_returns, returns_at, members_by, members_within}
 use Rattle.vx_grammar.specs.Laws.{Within}
 use Rattle.vx_grammar.specs.ProgramLaws.{SpelledProgramsAreRead}
 use Rattle.vx_grammar.proofs.Lists.{tokens-append_more, within_front, within_back, reach, Ends}

@@ -3,7 +3,7 @@ use Rattle.std.proofs.Common.{◌≡◌, ℕ, zero, suc, ◌+◌, ◌<◌, List,
 use Rattle.std.proofs.lemmas.List.{length-map}
 use Rattle.vx_ast.specs.declared.Place.{Place}
 use Rattle.vx_ast.specs.declared.ValueType.TheVariants as types
-use Rattle.vx_ast.specs.Written.{Placed, placed, placed_type, Expr, Variable, Call, Declaration, Value, Stmt, NoElse, Else, Declare, Assign, Write, Done, Then}
+use Rattle.vx_ast.specs.Written.{Placed, placed, placed_type, Expr, Variable, Call, Declaration, Value, Stmt, NoElse, Else, Declare, Write, Done, Then}
 use Rattle.vx_ast.specs.Written as written
 use Rattle.vx_grammar.specs.Statements.{inhales, exhales, asserts, assumes, claim_meant, Folding, folds, unfolds}
 use Rattle.vx_tokens.specs.declared.token.Word.TheVariants as words

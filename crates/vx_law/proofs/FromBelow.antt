@@ -9,7 +9,7 @@ use Rattle.vx_ast.specs.Mentions.{mentioned, mentioned_in, mentioned_by, mention
 use Rattle.vx_ast.specs.Apart.{Stands}
 use Rattle.vx_meaning.specs.Values.{Value, BoolValue, IntValue, RefValue, PermValue, needs_right}
 use Rattle.vx_meaning.specs.States as run
-use Rattle.vx_meaning.specs.States.{State, Heap, Store, bind, at_old}
+use Rattle.vx_meaning.specs.States.{State, Heap, bind, at_old}
 use Rattle.vx_meaning.specs.Evaluate.{applications, values, value_by}
 use Rattle.vx_meaning.specs.Fits.{Fits}
 use Rattle.vx_meaning.specs.Fails.{Application, applied_to, of_right, chosen, evaluated, evaluated_in, Evaluates, LowersMeasure, FunctionStarts, with_result}

@@ -4,7 +4,7 @@ use Rattle.std.specs.Prelude.{Ok}
 use Rattle.vx_frac.specs.Fractions.{Fraction}
 use Rattle.vx_ast.specs.Syntax.{Name, Program, Predicate, predicate_named, Assertion}
 use Rattle.vx_meaning.specs.States as run
-use Rattle.vx_meaning.specs.States.{State, Heap, Holdings, Instance, Folded, amount, lost, bind, with_store, with_holdings}
+use Rattle.vx_meaning.specs.States.{State, Instance, Folded, amount, lost, bind, with_store, with_holdings}
 use Rattle.vx_meaning.specs.Flatten.{bare}
 use Rattle.vx_meaning.specs.Fits.{◌>>=◌, to_option, Deeper, has_instance, add, exchange, deeper}
 use Rattle.vx_terms.proofs.Same.{and_parts}

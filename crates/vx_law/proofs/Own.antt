@@ -11,7 +11,7 @@ use Rattle.vx_terms.specs.Terms as term
 use Rattle.vx_terms.specs.Terms.{Term, same, sort_of, is_name}
 use Rattle.vx_terms.specs.Build.{true_term, false_term, negate, equals, less, less_equal, ite, multiply, unit, pair, first, second, wrap, unwrap, written_unwrap, application, zero_amount, whole_amount}
 use Rattle.vx_rules.specs.States as rules
-use Rattle.vx_rules.specs.States.{State, Entry, Own, Heap, Store, Chunk, is_quiet, with_heap, with_entry, with_fact, with_facts, with_branch, is_known, name_of, after_name}
+use Rattle.vx_rules.specs.States.{State, Own, Heap, Store, Chunk, is_quiet, with_heap, with_entry, with_fact, with_facts, with_branch, is_known, name_of, after_name}
 use Rattle.vx_rules.specs.Trees.{Code, AssertCode, AmountCode, DivisorCode, PermissionCode, UnfoldCode, FunctionCode, Tree, End, Impossible, On, Step, Ask, Probe, Fork, Left, leaves}
 use Rattle.vx_rules.specs.Chunks.{Candidate, candidates, chosen, put, put_over, field_facts, instance_facts, reduced, instance_key, field_key}
 use Rattle.vx_rules.specs.Groups.{is_in_group, function_number}

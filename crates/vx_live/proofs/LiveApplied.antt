@@ -8,7 +8,7 @@ use Rattle.vx_ast.specs.declared.ValueType.{ValueType}
 use Rattle.vx_ast.specs.declared.ValueType.TheVariants as type
 use Rattle.vx_ast.specs.Syntax.{Name, result_name, Program, Declaration, Function, joined, conjoined, Measure, ByNumber, ByInstance, Expr, Assertion}
 use Rattle.vx_terms.specs.Sorts as sort
-use Rattle.vx_terms.specs.Sorts.{Sort, BoolSort, IntSort, RealSort, SnapSort}
+use Rattle.vx_terms.specs.Sorts.{Sort, BoolSort, IntSort, SnapSort}
 use Rattle.vx_terms.specs.Terms.{Term, sort_of}
 use Rattle.vx_terms.specs.Build.{true_term, and, equals, application, whole_amount}
 use Rattle.vx_terms.specs.Formed.{applies, FormedAll, no_terms, more_terms}
@@ -19,7 +19,7 @@ use Rattle.vx_smt_meaning.specs.Symbols.{declaration, Declares, sorts_of}
 use Rattle.vx_smt_meaning.specs.Over.{AreOver}
 use Rattle.vx_smt_meaning.specs.Standard.{standard_symbols}
 use Rattle.vx_rules.specs.States as rules
-use Rattle.vx_rules.specs.States.{sort_of_type, Entry, joined_onto, conjunction, new_entries, name_of, after_name}
+use Rattle.vx_rules.specs.States.{sort_of_type, Entry, joined_onto, new_entries, name_of, after_name}
 use Rattle.vx_rules.specs.Trees.{AssertCode, FunctionCode, MeasureCode, Tree, On, Step, Left, leaves}
 use Rattle.vx_rules.specs.Chunks.{instance_key}
 use Rattle.vx_rules.specs.Groups.{is_in_group, function_number}

@@ -8,7 +8,7 @@ use Rattle.vx_ast.specs.declared.BinaryOperator.TheVariants as binary
 use Rattle.vx_ast.specs.Written as written
 use Rattle.vx_ast.specs.Resolve.{Names, whole, expression, expressions, amount, is_pure, assertion}
 use Rattle.vx_ast.specs.Syntax.{Program, Expr, Operate, Add, Subtract, Multiply, Number, Pure, Instance, Implied, Chosen}
-use Rattle.vx_frac.specs.Fractions.{Fraction, none, full, sum, difference, product, over, lowest, is_positive}
+use Rattle.vx_frac.specs.Fractions.{Fraction, none, full, sum, difference, product, over, lowest}
 use Rattle.vx_frac.specs.Fractions as number
 use Rattle.vx_amounts.proofs.Amounts.{Positive, Same, positive-le, same-refl, same-sym, same-trans, same-lowest', sum_same, difference_same, product_same}
 use Rattle.vx_expressions.specs.Settings.{Setting}

@@ -10,7 +10,7 @@ use Rattle.vx_ast.specs.Written.{Name, Placed}
 use Rattle.vx_ast.specs.Resolve as resolve
 use Rattle.vx_ast.specs.Resolve.{Names, expression, expressions, names_in, assign}
 use Rattle.vx_ast.specs.Syntax as Syntax
-use Rattle.vx_ast.specs.Syntax.{same_name, Declaration, Program, Method}
+use Rattle.vx_ast.specs.Syntax.{same_name, Declaration, Program}
 use Rattle.vx_typing.specs.declared.names.Role.{Role}
 use Rattle.vx_typing.specs.declared.names.Role.TheVariants.{Local}
 use Rattle.vx_expressions.specs.declared.setting.Variable.{Variable}

@@ -1,6 +1,6 @@
 -- What is typed as it is written is typed when it is settled, member by member and, where it is executed, as a whole, and
 -- keeps its members apart.
-use Rattle.std.specs.Prelude.{◌≡◌, ◌≤◌, ℕ, true, false, List, [], ◌∷◌, Some, map, slice_get, ⊤}
+use Rattle.std.specs.Prelude.{◌≡◌, ◌≤◌, ℕ, false, List, [], ◌∷◌, Some, map, slice_get, ⊤}
 use Rattle.vx_ast.specs.Mentions.{is_among}
 use Rattle.vx_ast.specs.Written as written
 use Rattle.vx_ast.specs.Resolve.{program}

@@ -9,7 +9,7 @@ use Rattle.vx_meaning.specs.Values.{Value, IntValue, BoolValue, RefValue, PermVa
 use Rattle.vx_terms.specs.Formed.{constant, applies, binary, no_terms, more_terms}
 use Rattle.vx_terms.proofs.Values.{element_same}
 use Rattle.vx_terms.specs.Sorts as sort
-use Rattle.vx_terms.specs.Sorts.{Sort, IntSort, BoolSort, RealSort, RefSort, SnapSort, Symbol, Standard, Function, Variable, Named}
+use Rattle.vx_terms.specs.Sorts.{Sort, BoolSort, SnapSort, Symbol, Standard, Function, Variable, Named}
 use Rattle.vx_terms.specs.Terms as term
 use Rattle.vx_terms.specs.Terms.{Term, Truth, Number, Part, Constant, Ite, same, sort_of, is_name}
 use Rattle.vx_terms.specs.Build.{truth_of, null, unit, pair, wrap, wrap_number, written_first, written_second, written_unwrap, first, second, unwrap, ite, ite_by, variable}

@@ -2,7 +2,7 @@
 use Rattle.std.proofs.Common.{◌≡◌, ℕ, ◌+◌, ◌≤◌, true, false, List, ◌∙◌, arith}
 use Rattle.std.specs.Prelude.{Ok}
 use Rattle.vx_frac.specs.Fractions.{Fraction, none, at_most}
-use Rattle.vx_ast.specs.Syntax.{Name, Program, Expr, Exprs, Assertion, Pure, Points, Both, Implied, Chosen, place_of}
+use Rattle.vx_ast.specs.Syntax.{Program, Expr, Exprs, Assertion, Pure, Points, Both, Implied, Chosen, place_of}
 use Rattle.vx_ast.specs.Syntax as syntax
 use Rattle.vx_meaning.specs.Values.{Value, IntValue, BoolValue, RefValue, PermValue, is_true}
 use Rattle.vx_meaning.specs.States.{State, Holdings, At, Folded}

@@ -8,7 +8,7 @@ use Rattle.vx_ast.specs.Syntax as syntax
 use Rattle.vx_meaning.specs.Values.{Value, IntValue, BoolValue, RefValue, PermValue, is_true}
 use Rattle.vx_meaning.specs.States.{State, Heap, Holdings, Location, Instance, Resource, At, Folded, amount, gained, value_at, with_holdings}
 use Rattle.vx_meaning.specs.Evaluate as plain
-use Rattle.vx_meaning.specs.Evaluate.{value, values, applications}
+use Rattle.vx_meaning.specs.Evaluate.{value, applications}
 use Rattle.vx_meaning.specs.Flatten.{no_applications, location_entry, instance_entry}
 use Rattle.vx_meaning.specs.Fits.{Checked, choose, location_of, fit, field_part, instance_part, add, add_part}
 use Rattle.vx_terms.specs.Interpretations.{Tree, Empty, Pair}

@@ -1,7 +1,7 @@
 -- What lies inside an instance, and the tree of its values, are the same for all fuel that suffices.
 use Rattle.std.proofs.Common.{◌≡◌, ℕ, zero, suc, ◌+◌, true, false, List, [], ◌∷◌, ◌++◌, Option, Some, None, refl, sym, ◌∙◌, ap, subst, arith}
 use Rattle.std.specs.Prelude.{option_and_then}
-use Rattle.vx_ast.specs.Syntax.{Name, Program, Predicate, Assertion, Pure, Points, Both, Implied, Chosen, predicate_named}
+use Rattle.vx_ast.specs.Syntax.{Program, Predicate, Assertion, Pure, Points, Both, Implied, Chosen, predicate_named}
 use Rattle.vx_ast.specs.Syntax as syntax
 use Rattle.vx_frac.specs.Fractions.{Fraction}
 use Rattle.vx_meaning.specs.Values.{Value, IntValue, BoolValue, RefValue, PermValue}

@@ -16,7 +16,6 @@ use Rattle.vx_terms.specs.Sorts.{RealSort, SnapSort}
 use Rattle.vx_terms.specs.Terms.{Term}
 use Rattle.vx_terms.specs.Interpretations.{Interpretation, as_fraction, value}
 use Rattle.vx_rules.specs.States as rules
-use Rattle.vx_rules.specs.States.{sort_of_type}
 use Rattle.vx_rules.specs.Trees.{FoldCode, AssertCode, Step, Tree as Questions}
 use Rattle.vx_rules.specs.Chunks.{instance_key, put}
 use Rattle.vx_rules.specs.Rules.{Giving, Going, Context, Outer, outer, nowhere, never, entered, back}

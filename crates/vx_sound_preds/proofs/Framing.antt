@@ -8,7 +8,7 @@ use Rattle.vx_ast.specs.Syntax as syntax
 use Rattle.vx_meaning.specs.Values.{Value, IntValue, BoolValue, RefValue, PermValue, is_true}
 use Rattle.vx_meaning.specs.States.{State, Heap, Holdings, Location, Instance, Resource, At, Folded, amount, gained, value_at, with_holdings}
 use Rattle.vx_meaning.specs.Evaluate as plain
-use Rattle.vx_meaning.specs.Evaluate.{value, values}
+use Rattle.vx_meaning.specs.Evaluate.{value}
 use Rattle.vx_meaning.specs.Flatten.{no_applications, entries, location_entry, instance_entry}
 use Rattle.vx_meaning.specs.Consistent.{IsHeld}
 use Rattle.vx_meaning.specs.Fits.{Checked, ◌>>=◌, or_fail, guard, Deeper, choose, location_of, amount_of, fit, fit_all, field_part, instance_part, add, add_part}

@@ -9,7 +9,7 @@ use Rattle.vx_meaning.specs.Values.{Value, IntValue, BoolValue, RefValue, PermVa
 use Rattle.vx_meaning.specs.States as run
 use Rattle.vx_meaning.specs.States.{State, Heap, Holdings, Location, Instance, Resource, At, Folded, gained, bind, value_at, with_holdings}
 use Rattle.vx_meaning.specs.Evaluate as plain
-use Rattle.vx_meaning.specs.Evaluate.{applications, value, values}
+use Rattle.vx_meaning.specs.Evaluate.{applications, value}
 use Rattle.vx_meaning.specs.Flatten.{no_applications, bare, location_entry, instance_entry}
 use Rattle.vx_meaning.specs.Consistent.{IsConsistent}
 use Rattle.vx_meaning.specs.Fits.{location_of, amount_of, fit_by, fit_all, deeper}

@@ -2,7 +2,7 @@
 use Rattle.std.proofs.Common.{◌≡◌, inl, inr, ℕ, ◌+◌, ◌≤◌, Bool, true, false, sym, ◌∙◌, ap, subst, arith}
 use Rattle.std.specs.Prelude.{Ok}
 use Rattle.vx_frac.specs.Fractions.{Fraction, product}
-use Rattle.vx_ast.specs.Syntax.{Name, Program, Expr, Assertion, Pure, Points, Both, Implied, Chosen, place_of}
+use Rattle.vx_ast.specs.Syntax.{Program, Assertion, Pure, Points, Both, Implied, Chosen, place_of}
 use Rattle.vx_ast.specs.Syntax as syntax
 use Rattle.vx_meaning.specs.Values.{Value, IntValue, BoolValue, RefValue, PermValue, is_true}
 use Rattle.vx_meaning.specs.States.{State, Holdings, Resource, gained, with_holdings}

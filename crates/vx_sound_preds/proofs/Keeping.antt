@@ -4,7 +4,7 @@ use Rattle.vx_frac.specs.Fractions.{none, full, sum}
 use Rattle.vx_ast.specs.Syntax.{Name, Program, Predicate, predicate_named}
 use Rattle.vx_meaning.specs.Values.{Value}
 use Rattle.vx_meaning.specs.States as run
-use Rattle.vx_meaning.specs.States.{Heap, Holdings, Location, Instance, Resource, At, Folded, same_location, same_resource, amount, gained, with_heap}
+use Rattle.vx_meaning.specs.States.{Heap, Holdings, Location, Instance, At, Folded, same_location, same_resource, amount, gained, with_heap}
 use Rattle.vx_meaning.specs.Flatten.{bare, flat}
 use Rattle.vx_meaning.specs.Consistent.{total, Changes, IsConsistent}
 use Rattle.vx_types.specs.Typing.{HaveNoPerm}

@@ -3,12 +3,12 @@ use Rattle.std.proofs.Common.{◌≡◌, Bool, true, false, cond, List, [], ◌�
 use Rattle.std.specs.Prelude.{Ok, option_and_then}
 use Rattle.vx_ast.specs.declared.Place.{Place}
 use Rattle.vx_frac.specs.Fractions.{Fraction, none, at_most, sum, minus, product}
-use Rattle.vx_ast.specs.Syntax.{Name, Program, Predicate, Expr, Assertion, Pure, Points, Both, Implied, Chosen, predicate_named, place_of}
+use Rattle.vx_ast.specs.Syntax.{Name, Program, Assertion, Pure, Points, Both, Implied, Chosen, place_of}
 use Rattle.vx_ast.specs.Syntax as syntax
 use Rattle.vx_meaning.specs.Values.{Value, IntValue, BoolValue, RefValue, PermValue, is_true}
 use Rattle.vx_meaning.specs.States.{State, Heap, Holdings, Location, Instance, Resource, At, Folded, same_resource, amount, lost}
 use Rattle.vx_meaning.specs.Evaluate as plain
-use Rattle.vx_meaning.specs.Evaluate.{value, values}
+use Rattle.vx_meaning.specs.Evaluate.{value}
 use Rattle.vx_meaning.specs.Flatten.{no_applications, entries, location_entry, instance_entry, IsGrounded}
 use Rattle.vx_meaning.specs.Fits.{Checked, ◌>>=◌, guard, Deeper, choose, location_of, amount_of, fit, field_part, instance_part, take, take_part}
 use Rattle.vx_amounts.proofs.Amounts.{Le, Positive, Same, same-refl, same-sym, same-trans, le-trans, sum_same, product_same, none-sum, sum-minus, sum_comm, sum_assoc, positive-le, add-below, minus_none, difference-none}

@@ -6,7 +6,7 @@ use Rattle.vx_ast.specs.Syntax.{Name, Declaration, Program, Predicate, IsPredica
 use Rattle.vx_smt_meaning.specs.declared.reply.Reply.{Reply}
 use Rattle.vx_meaning.specs.Values.{Value}
 use Rattle.vx_meaning.specs.States as run
-use Rattle.vx_meaning.specs.States.{Heap, Holdings, Location, Instance, Resource, At, Folded, amount, bind}
+use Rattle.vx_meaning.specs.States.{Heap, Holdings, Location, Instance, At, Folded, amount, bind}
 use Rattle.vx_meaning.specs.Flatten.{bare, entries, body_entries, flat}
 use Rattle.vx_meaning.specs.Consistent.{total, IsSupported}
 use Rattle.vx_meaning.specs.Outcomes.{FailsAt}

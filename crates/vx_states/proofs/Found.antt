@@ -6,7 +6,7 @@ use Rattle.std.specs.Prelude.{if◌then◌else◌}
 use Rattle.vx_states.specs.declared.index.Index.{Index}
 use Rattle.vx_states.specs.declared.index.Index.TheVariants as index'
 use Rattle.vx_states.specs.Index.{is_even, down, finds, IsAlike, IsExtended, IsIndexed}
-use Rattle.vx_rules.specs.States.{Entry, in_path}
+use Rattle.vx_rules.specs.States.{Entry}
 use Rattle.vx_states.specs.Paths.{extended}
 use Rattle.vx_states.proofs.Stores.{in_path_extended}
 use Rattle.vx_terms.proofs.Same.{term_is}

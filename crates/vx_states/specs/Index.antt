@@ -1,5 +1,5 @@
 -- Which terms stand in an index.
-use Rattle.std.specs.Prelude.{◌≡◌, ℕ, zero, suc, ◌/◌, ◌%◌, Bool, true, false, List, ◌||◌, if◌then◌else◌, nat_eq}
+use Rattle.std.specs.Prelude.{◌≡◌, ℕ, zero, suc, ◌/◌, ◌%◌, Bool, false, List, ◌||◌, if◌then◌else◌, nat_eq}
 use Rattle.vx_terms.specs.Terms.{Term, same}
 use Rattle.vx_heap.specs.Views.{held_term}
 use Rattle.vx_rules.specs.States.{Entry, in_path}

@@ -8,7 +8,7 @@ use Rattle.vx_ast.specs.Syntax as syntax
 use Rattle.vx_meaning.specs.Values.{Value, IntValue, BoolValue, RefValue, PermValue, is_true}
 use Rattle.vx_meaning.specs.States.{State, Holdings, Resource, At, Folded, gained, with_holdings}
 use Rattle.vx_meaning.specs.Evaluate as plain
-use Rattle.vx_meaning.specs.Evaluate.{HasValue, applications, value, values}
+use Rattle.vx_meaning.specs.Evaluate.{HasValue, applications, value}
 use Rattle.vx_meaning.specs.Flatten.{no_applications, location_entry, instance_entry}
 use Rattle.vx_meaning.specs.Consistent.{IsConsistent}
 use Rattle.vx_meaning.specs.Fits.{Checked, ◌>>=◌, Eventually, choose, fit_by, field_part, instance_part, deeper, add, add_part}

@@ -12,7 +12,7 @@ use Rattle.vx_meaning.specs.Flatten.{no_applications, location_entry, instance_e
 use Rattle.vx_terms.specs.Terms.{Term}
 use Rattle.vx_terms.specs.Build.{first, second, unwrap}
 use Rattle.vx_terms.specs.Interpretations as terms
-use Rattle.vx_terms.specs.Interpretations.{Interpretation, Tree, Empty, Pair}
+use Rattle.vx_terms.specs.Interpretations.{Interpretation, Tree, Empty}
 use Rattle.vx_rules.specs.Rules.{field_sort}
 use Rattle.vx_elements.proofs.Settled.{Meaning}
 use Rattle.vx_elements.proofs.Elements.{element}

@@ -5,7 +5,6 @@ use Rattle.vx_ast.specs.declared.ValueType.TheVariants.{Int, Bool as Truths, Ref
 use Rattle.vx_ast.specs.Syntax.{Name, same_name, Kind, IsField, IsPredicate, IsFunction, IsMethod, Declaration, Program, Function, function_in, function_named, member_named}
 use Rattle.vx_meaning.specs.Values.{Value, IntValue, BoolValue, RefValue, PermValue, type_of}
 use Rattle.vx_meaning.specs.States as run
-use Rattle.vx_meaning.specs.States.{Holdings, Resource, At, Folded, same_resource, amount}
 use Rattle.vx_terms.specs.Interpretations.{Element, IntElement, BoolElement, RealElement, TreeElement, Tree, IntLeaf, BoolLeaf, RefLeaf, PermLeaf}
 use Rattle.vx_rules.specs.Groups.{is_function, function_number}
 use Rattle.vx_types.specs.Typing.{HaveNoPerm}

@@ -3,12 +3,12 @@ use Rattle.std.proofs.Common.{◌≡◌, ℕ, ◌≤◌, Bool, true, false, cond
 use Rattle.std.specs.Prelude.{Ok, option_and_then}
 use Rattle.vx_frac.specs.Fractions.{Fraction, product}
 use Rattle.vx_ast.specs.declared.Place.{Place}
-use Rattle.vx_ast.specs.Syntax.{Name, Program, place_of, Expr, Exprs, Assertion, Pure, Points, Both, Implied, Chosen}
+use Rattle.vx_ast.specs.Syntax.{Program, place_of, Expr, Exprs, Assertion, Pure, Points, Both, Implied, Chosen}
 use Rattle.vx_ast.specs.Syntax as syntax
 use Rattle.vx_meaning.specs.Values.{Value, IntValue, BoolValue, RefValue, PermValue, is_true}
 use Rattle.vx_meaning.specs.States.{State, Holdings, Instance, Resource, At, Folded, gained, with_holdings}
 use Rattle.vx_meaning.specs.Evaluate as plain
-use Rattle.vx_meaning.specs.Evaluate.{HasValue, applications, value, values}
+use Rattle.vx_meaning.specs.Evaluate.{applications, value, values}
 use Rattle.vx_meaning.specs.Flatten.{no_applications, location_entry, instance_entry}
 use Rattle.vx_meaning.specs.Fits.{Checked, Deeper, choose, amount_of, fit, fit_all, field_part, instance_part, add, add_part, deeper}
 use Rattle.vx_amounts.proofs.Amounts.{Positive}

@@ -1,5 +1,5 @@
 -- The laws of typing.
-use Rattle.std.proofs.Common.{◌≡◌, refl, sym, ap, ◌∙◌, Ok, Err}
+use Rattle.std.proofs.Common.{◌≡◌, ap, ◌∙◌, Ok}
 use Rattle.vx_typing.specs.Laws.{StatementsAgree, BlocksAgree, OtherBlocksAreFaulty, MembersAgree, GroupsAgree, ProgramsAgree, OtherProgramsAreFaulty}
 use Rattle.vx_expressions.specs.Faults.{◌>>=◌}
 use Rattle.vx_expressions.proofs.Passed.{bound}

@@ -15,7 +15,7 @@ use Rattle.vx_expressions.specs.Scopes.{Scope, named}
 use Rattle.vx_typing.specs.Roles.{with_variable}
 use Rattle.vx_expressions.specs.Settings.{Table, Setting, Signature, IsField, IsPredicate, IsMethod, within_method}
 use Rattle.vx_expressions.specs.Typing as typing
-use Rattle.vx_expressions.specs.Typing.{HasType, HaveTypes, IsAssertion}
+use Rattle.vx_expressions.specs.Typing.{HasType, HaveTypes}
 use Rattle.vx_expressions.specs.Faults.{◌>>=◌, Twice, Arity, UnfoldAbstract, unless, expect, field_type, arguments_fit, instance_of, check, check_all, check_share, instance, read, assertion}
 use Rattle.vx_typing.specs.Statements.{AreNew, IsTarget, AreTargets, AreAssertions, IsOpened, scope_after, AreFields, IsTypedCall, IsRight, AssignsCall, AssignsRight, IsTypedDeclaration, IsTypedStmt, IsTypedOther, IsTypedBlock}
 use Rattle.vx_typing.specs.StatementFaults.{new_name, new_variable, assignable, target, targets, new_field, fields, targets_fit, method_of, as_many, called_with, is_method, truth, assertions, opened, call, right, assigned, assign, first_value, field_write, stmt, other, block}

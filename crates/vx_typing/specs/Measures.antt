@@ -1,8 +1,7 @@
 -- What typing asks of groups of functions and predicates.
-use Rattle.std.specs.Prelude.{◌≡◌, ℕ, Bool, true, false, [], Option, Some}
+use Rattle.std.specs.Prelude.{◌≡◌, ℕ, Bool, true, false, [], Some}
 use Rattle.vx_ast.specs.Written.{Expr, Call, Predicate, Function, IsPredicate, IsFunction, Program, measure_of}
-use Rattle.vx_expressions.specs.Settings as settings
-use Rattle.vx_expressions.specs.Settings.{Table, Signature, is_predicate}
+use Rattle.vx_expressions.specs.Settings.{Table, is_predicate}
 use Rattle.vx_expressions.specs.Scopes.{named}
 use Rattle.vx_typing.specs.Members.{table_of}
 use Rattle.vx_typing.specs.Uses.{Each, uses_before, uses_of_body}

@@ -3,7 +3,7 @@ use Rattle.std.specs.Prelude.{◌≡◌, ◌⊎◌, true, List, [], ◌∷◌, O
 use Rattle.vx_ast.specs.declared.ValueType.{ValueType}
 use Rattle.vx_ast.specs.declared.ValueType.TheVariants as type
 use Rattle.vx_ast.specs.Written as written
-use Rattle.vx_ast.specs.Written.{Name, Expr, Call, Block, Declaration, Clause, Requires, Ensures, Decreases, Predicate, Function, Method, Kind, Member, Program}
+use Rattle.vx_ast.specs.Written.{Expr, Call, Block, Declaration, Clause, Requires, Ensures, Decreases, Predicate, Function, Method, Kind, Member, Program}
 use Rattle.vx_typing.specs.declared.names.Role.{Role}
 use Rattle.vx_typing.specs.declared.names.Role.TheVariants.{Input, Parameter, Local}
 use Rattle.vx_expressions.specs.Scopes.{Scope, named}

@@ -1,7 +1,6 @@
 use Rattle.std.proofs.Common.{◌≡◌, ℕ, ◌+◌, ◌<◌, List, ◌++◌, [], ◌∷◌, length, get_or, take, map, false, sym, ap, ap₂, ◌∙◌}
 use Rattle.std.proofs.lemmas.List.{map-append, take_more, take_all}
 use Rattle.std.proofs.lemmas.Result.{IfOk-from_err}
-use Rattle.cs_certificate.specs.Certificate.{NumberedLiteral}
 use Rattle.cs_table.specs.declared.steps.Literal.{Literal}
 use Rattle.cs_table.specs.Gives.{clause, numbered}
 use Rattle.cs_proof.specs.Prepared as clean

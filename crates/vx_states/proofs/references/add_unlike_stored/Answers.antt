@@ -1,7 +1,6 @@
 use Rattle.std.proofs.Common.{◌≡◌, ◌+◌, Bool, true, false, List, ◌∷◌, ◌++◌, map, drop, refl, sym, ap, ◌∙◌}
 use Rattle.std.specs.Prelude.{if◌then◌else◌}
 use Rattle.std.proofs.lemmas.List.{at_drop_more, drop_all}
-use Rattle.std.proofs.lemmas.Result.{IfOk-from_err}
 use Rattle.vx_terms.specs.Terms.{Term}
 use Rattle.vx_heap.specs.Views.{terms_of, held_term}
 use Rattle.vx_rules.specs.States.{terms_in}

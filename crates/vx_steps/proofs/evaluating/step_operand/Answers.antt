@@ -1,4 +1,4 @@
-use Rattle.std.proofs.Common.{◌∙◌, ap, refl, sym, string_bytes}
+use Rattle.std.proofs.Common.{◌∙◌, ap, sym, string_bytes}
 use Rattle.vx_resolved.specs.Settled.{settled}
 use Rattle.vx_rules.specs.Rules.{Giving, placed}
 use Rattle.vx_rules.specs.States.{State, after_name, name_of, with_heap}

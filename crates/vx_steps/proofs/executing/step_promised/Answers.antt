@@ -1,4 +1,4 @@
-use Rattle.std.proofs.Common.{◌≡◌, None, refl, sym, ap, ◌∙◌, drop}
+use Rattle.std.proofs.Common.{◌≡◌, None, sym, ap, ◌∙◌, drop}
 use Rattle.vx_ast.specs.Syntax.{Method, joined}
 use Rattle.vx_heap.specs.Views.{heap}
 use Rattle.vx_resolved.specs.declared.Method as method'

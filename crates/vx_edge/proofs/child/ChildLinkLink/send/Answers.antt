@@ -1,4 +1,4 @@
-use Rattle.std.proofs.Common.{rules, ◌≡◌, ◌++◌, ◌∷◌, [], ◌<◌, arith}
+use Rattle.std.proofs.Common.{rules}
 use Rattle.vx_ends.proofs.Cuts.{cut_sent, cut_none}
 use Rattle.vx_ends.specs.declared.piece.Piece.TheVariants.{Sent}
 use Rattle.vx_edge.proofs.child.ChildLinkLink.send.Goals as goal

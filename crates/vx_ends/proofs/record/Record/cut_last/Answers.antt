@@ -1,5 +1,5 @@
-use Rattle.std.proofs.Common.{rules, ◌≡◌, ◌++◌, ◌∷◌, [], ◌+◌, ◌-◌, ◌≤◌, length, take, min, arith, sym, subst, ◌∙◌, ap}
-use Rattle.vx_ends.specs.Cuts.{pieces_of, total, cut_last}
+use Rattle.std.proofs.Common.{rules, ◌≡◌, ◌++◌, ◌∷◌, [], ◌+◌, ◌-◌, length, take, min, arith, sym, subst, ◌∙◌, ap}
+use Rattle.vx_ends.specs.Cuts.{pieces_of, total}
 use Rattle.vx_ends.proofs.Cuts.{cut_down, cut_off, counts_on, counts_before}
 use Rattle.vx_ends.proofs.record.Record.cut_last.Goals as goal
 
