@@ -13,12 +13,12 @@ use Rattle.cs_cong.specs.declared.explain.Derived.TheVariants.{Path, Congruent}
 use Rattle.cs_cong.specs.declared.merges.Merge.{Merge}
 use Rattle.cs_cong.specs.declared.merges.Reason.TheVariants.{Claimed, Congruence}
 use Rattle.cs_cong.specs.declared.paths.Edge.{Edge}
-use Rattle.cs_cong.specs.Merged.{representative}
+use Rattle.cs_cong.specs.Merged.{merge_at, representative}
 use Rattle.cs_cong.specs.Joined.{is_claimed, all_same, alike, are_congruent, is_reason, AreJustified}
 use Rattle.cs_cong.specs.Walks.{walk, start_of, end_of, Leads, arrived, goes}
 use Rattle.cs_cong.specs.Explained.{Ends, Joins, AreJoinedBy, IsKnown, by_claim, by_step, turned, IsChain, alone, linked, AreEqual, AreCongruent, Follows, IsDerivation, Explains}
 use Rattle.cs_cong.specs.Marked.{is_marked}
-use Rattle.cs_cong.specs.Needed.{merge_at, ends, AreMarked, IsMergeKnown, AreKnown, KeepsSteps, HasPath, HasPart, HasFirst, HasCongruence, HasMerge, AreKnownBelow, AreKnownBut, ArePartsMarked, IsBacked, AreBacked, IsReady}
+use Rattle.cs_cong.specs.Needed.{ends, AreMarked, IsMergeKnown, AreKnown, KeepsSteps, HasPath, HasPart, HasFirst, HasCongruence, HasMerge, AreKnownBelow, AreKnownBut, ArePartsMarked, IsBacked, AreBacked, IsReady}
 use Rattle.cs_cong.proofs.Marks.{first_is, other_at}
 use Rattle.cs_cong.proofs.Walks.{walk_leads}
 use Rattle.cs_cong.proofs.Steps.{joined_more, known_more, named_more, one_step, some_same, kept_push}

@@ -8,6 +8,9 @@ use Rattle.cs_cong.specs.declared.merges.Reason.TheVariants.{Congruence}
 abbrev pub nothing : Merge
 nothing = record { left = 0; right = 0; reason = Congruence; moved = 0 }
 
+abbrev pub merge_at : List Merge → ℕ → Merge
+merge_at log k = get_or log k nothing
+
 -- the class of the left term goes to the representative of the right one
 abbrev pub across : Merge → (ℕ → ℕ) → ℕ → ℕ
 across m f a = cond (nat_eq (f a) (f m.left)) (f m.right) (f a)

@@ -9,13 +9,10 @@ use Rattle.cs_cong.specs.declared.explain.Derived.{Derived}
 use Rattle.cs_cong.specs.declared.merges.Merge.{Merge}
 use Rattle.cs_cong.specs.declared.merges.Reason.TheVariants.{Congruence}
 use Rattle.cs_cong.specs.declared.paths.Edge.{Edge}
-use Rattle.cs_cong.specs.Merged.{nothing}
+use Rattle.cs_cong.specs.Merged.{merge_at}
 use Rattle.cs_cong.specs.Marked.{is_marked}
 use Rattle.cs_cong.specs.Walks.{walk, end_of}
 use Rattle.cs_cong.specs.Explained.{Joins, AreJoinedBy, IsKnown, IsDerivation}
-
-abbrev pub merge_at : List Merge → ℕ → Merge
-merge_at log k = get_or log k nothing
 
 -- where each edge leads
 abbrev pub ends : List Merge → List Edge → List ℕ

@@ -1,11 +1,11 @@
 //! Why two terms are equal.
-ghost use Rattle.std.specs.Prelude.{◌≡◌, ◌<◌, ◌≤◌, ◌↔◌, ◌∷◌, ℕ, List, true, false, length, get_or, All, IsSome, IfSome, IfOk, OnOk};
+ghost use Rattle.std.specs.Prelude.{◌≡◌, ◌<◌, ◌≤◌, ◌↔◌, ◌∷◌, ℕ, List, true, false, length, All, IsSome, IfSome, IfOk, OnOk};
 ghost use Rattle.cs_cong.specs.Merged.{representative, current};
 ghost use Rattle.cs_cong.specs.Joined.{Joined, all_same, are_congruent};
-ghost use Rattle.cs_cong.specs.Walks.{walk, end_of};
+ghost use Rattle.cs_cong.specs.Walks.{walk};
 ghost use Rattle.cs_cong.specs.Explained.{IsDerivation, Explains};
 ghost use Rattle.cs_cong.specs.Marked.{is_marked, Marked};
-ghost use Rattle.cs_cong.specs.Needed.{ends, merge_at, AreMarked, ArePartsMarked, IsBacked, AreBacked, AreKnownBelow, HasPath, HasPart, HasFirst, HasCongruence, HasMerge};
+ghost use Rattle.cs_cong.specs.Needed.{ends, AreMarked, ArePartsMarked, IsBacked, AreBacked, AreKnownBelow, HasPath, HasPart, HasFirst, HasCongruence, HasMerge};
 
 use crate::classes::Classes;
 use crate::merges::{Merges, Reason, Want};
@@ -103,19 +103,6 @@ impl Merges {
             self.mark_walk(alloc, time, xs[at], ys[at], needs)?;
         }
         Ok(())
-    }
-
-    /// The term that an edge leads to.
-    pub(crate) fn end_of_edge(&self, edge: Edge) -> u32
-        requires { edge.merge < length self.now.log.items }
-        ensures { result ≡ end_of edge.forward (merge_at self.now.log.items edge.merge) }
-    {
-        let merge = self.log[edge.merge as usize];
-        if edge.forward {
-            merge.right
-        } else {
-            merge.left
-        }
     }
 
     /// The terms of a walk from a term, in order.

@@ -1,9 +1,9 @@
 //! Walks from a term to another along merges.
-ghost use Rattle.std.specs.Prelude.{◌≡◌, ◌<◌, ◌≤◌, ◌⊎◌, ◌++◌, suc, length, get_or, MatchOption, OnOk};
-ghost use Rattle.cs_cong.specs.Merged.{nothing, representative};
+ghost use Rattle.std.specs.Prelude.{◌≡◌, ◌<◌, ◌≤◌, ◌⊎◌, ◌++◌, suc, length, MatchOption, OnOk};
+ghost use Rattle.cs_cong.specs.Merged.{merge_at, representative};
 ghost use Rattle.cs_cong.specs.Onward.{GoesAlong};
 ghost use Rattle.cs_cong.specs.Trees.{link_at, never};
-ghost use Rattle.cs_cong.specs.Walks.{walk, start_of, IsParting};
+ghost use Rattle.cs_cong.specs.Walks.{walk, start_of, end_of, IsParting};
 
 use crate::merges::{Merges, Want};
 use std::alloc::Global;
@@ -99,13 +99,26 @@ impl Merges {
     /// The term that an edge begins at.
     fn start_of_edge(&self, edge: Edge) -> u32
         requires { edge.merge < length self.now.log.items }
-        ensures { result ≡ start_of edge.forward (get_or self.now.log.items edge.merge nothing) }
+        ensures { result ≡ start_of edge.forward (merge_at self.now.log.items edge.merge) }
     {
         let merge = self.log[edge.merge as usize];
         if edge.forward {
             merge.left
         } else {
             merge.right
+        }
+    }
+
+    /// The term that an edge leads to.
+    pub(crate) fn end_of_edge(&self, edge: Edge) -> u32
+        requires { edge.merge < length self.now.log.items }
+        ensures { result ≡ end_of edge.forward (merge_at self.now.log.items edge.merge) }
+    {
+        let merge = self.log[edge.merge as usize];
+        if edge.forward {
+            merge.right
+        } else {
+            merge.left
         }
     }
 

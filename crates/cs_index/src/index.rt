@@ -9,10 +9,15 @@ use std::collections::HashMap;
 type Row = SmallVec<u32, 1>;
 
 /// Numbers by keys.
-#[derive(Drop)]
 pub struct Index {
     alloc: Global,
     rows: HashMap<u64, Row>,
+}
+
+impl Drop for Index {
+    fn drop(self) {
+        let Self { alloc, rows } = self;
+    }
 }
 
 /// Leaves out the last number, if there is one.

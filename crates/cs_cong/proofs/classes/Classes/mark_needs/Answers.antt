@@ -1,7 +1,7 @@
 use Rattle.std.proofs.Common.{rules, ◌≡◌, ◌<◌, ◌∙◌, ap, sym, arith, length}
 use Rattle.cs_cong.specs.declared.merges.Merge.{Merge}
 use Rattle.cs_cong.specs.declared.merges.Reason.TheVariants.{Congruence}
-use Rattle.cs_cong.specs.Needed.{merge_at}
+use Rattle.cs_cong.specs.Merged.{merge_at}
 use Rattle.cs_cong.proofs.Explaining.{backed_at, congruent_at, read_term}
 use Rattle.cs_cong.proofs.Stages.{stage_now}
 use Rattle.cs_cong.proofs.Walks.{read_merge}

@@ -1,7 +1,8 @@
-use Rattle.std.proofs.Common.{◌≡◌, ℕ, ◌<◌, ◌+◌, List, ◌++◌, ◌∷◌, [], length, subst, sym, arith}
+use Rattle.std.proofs.Common.{◌≡◌, ℕ, ◌<◌, ◌+◌, List, ◌++◌, ◌∷◌, [], length, Some, subst, sym, arith}
+use Rattle.std.proofs.lemmas.List.Elements.{All-pop}
 use Rattle.cs_cong.specs.declared.paths.Onward.{Onward}
 use Rattle.cs_cong.specs.Walks.{walk}
-use Rattle.cs_cong.proofs.Onward.{Going, OnEach, IsIn, behind, weight, load, each_fewer, none_left, parted, lighter, resumed, lighter_on, ended}
+use Rattle.cs_cong.proofs.Onward.{Going, IsIn, behind, weight, load, none_left, parted, lighter, resumed, lighter_on, ended}
 use Rattle.cs_cong.proofs.merges.Merges.walk.Goals as goal
 
 pub go-preserved-in-Some : goal.go-preserved-in-Some
@@ -23,7 +24,7 @@ go-smaller-in-Some c =
 pub end_of_edge-from-requires : goal.end_of_edge-from-requires
 end_of_edge-from-requires c =
     let is = IsIn c.args.self.now.log.items (length c.args.self.now.links.items) in
-    (each_fewer is c.pop.new.self.items c.in-Some-pop.next (subst (OnEach is) c.in-Some-pop.ensures.items c.go.invariant.all_in)).1.0
+    (All-pop is c.go.pending.items c.pop.new.self.items (Some c.in-Some-pop.next) c.in-Some-pop.ensures.items c.go.invariant.all_in).1.0
 
 pub go-preserved : goal.go-preserved
 go-preserved c =
