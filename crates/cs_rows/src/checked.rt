@@ -17,7 +17,7 @@ fn checker_of(
 
 // An answer of the checker: this word, or its refusal.
 fn put_answer(text: &mut Text, answer: &Result<(), Refusal>, word: &str) {
-    text.line();
+    text.break_line();
     match answer {
         Ok(()) => text.put(word),
         Err(refusal) => put_refusal(text, refusal),

@@ -55,7 +55,7 @@ fn put_turns(alloc: Global, dialogue: &mut Dialogue<ScriptLink>, turns: &[Turn],
     requires { IsFree dialogue.old }
 {
     for turn in turns {
-        text.line();
+        text.break_line();
         put_turn(alloc, dialogue, turn, text);
     }
 }
@@ -68,7 +68,7 @@ fn put_sent(alloc: Global, link: &ScriptLink, text: &mut Text) -> Result<(), All
             bytes.extend_from_slice(sent.as_slice())?;
         }
     }
-    text.line();
+    text.break_line();
     text.trimmed(&bytes);
     Ok(())
 }

@@ -54,7 +54,7 @@ fn put_call<L: Link>(alloc: Global, link: &mut L, call: &Call, text: &mut Text) 
 
 fn put_calls<L: Link>(alloc: Global, link: &mut L, calls: &[Call], text: &mut Text) {
     for call in calls {
-        text.line();
+        text.break_line();
         put_call(alloc, link, call, text);
     }
 }
@@ -74,7 +74,7 @@ fn put_child<W: Spawner>(
             spawner.finish(3, link);
         }
         Err(StartFault::Failed) => {
-            text.line();
+            text.break_line();
             text.put("not started");
         }
         Err(StartFault::Want) => text.cut(),

@@ -32,7 +32,7 @@ fn put_pieces<S: Source>(alloc: Global, source: &mut S, max: usize, calls: usize
 {
     for _ in 0..calls {
         let piece = source.more(alloc, max);
-        text.line();
+        text.break_line();
         put_piece(&piece, text);
         if piece.is_ok_and(|bytes| bytes.is_empty()) {
             break;
@@ -89,9 +89,9 @@ pub fn put_sink(alloc: Global, asked: &str, text: &mut Text) -> Result<bool, All
     let left = given.as_bytes().get(first.unwrap_or(0)..).unwrap_or(&[]);
     let second = sink.put(left);
     put_taken(&first, text);
-    text.line();
+    text.break_line();
     put_taken(&second, text);
-    text.line();
+    text.break_line();
     put_counted(sink.taken(), text);
     Ok(true)
 }
@@ -141,7 +141,7 @@ fn put_turn<N: Turns>(turns: &mut N, waiting: usize, text: &mut Text)
 
 // The turns where 2, 2 and 3 wait.
 fn put_three<N: Turns>(turns: &mut N, text: &mut Text) {
-    text.line();
+    text.break_line();
     put_turn(turns, 2, text);
     text.put(" ");
     put_turn(turns, 2, text);

@@ -46,7 +46,7 @@ fn put_parts(text: &mut Text, parts: &[u32]) {
 
 // A numbered term: its head over the numbers of its parts, and its sort.
 fn put_node(text: &mut Text, number: usize, node: &Node) {
-    text.line();
+    text.break_line();
     text.natural(number as u128);
     text.put(" ");
     if node.parts.is_empty() {
@@ -156,7 +156,7 @@ fn put_done(
     step: &Step,
     text: &mut Text,
 ) -> Result<(), AllocError> {
-    text.line();
+    text.break_line();
     let Step::Term(term) = step else {
         put_prepared(alloc, all, step, text);
         return Ok(());

@@ -84,7 +84,7 @@ fn ask(
         return Ok(false);
     }
     out.put_line("", line);
-    out.put_text(&text);
+    out.put_indented_text(&text);
     Ok(true)
 }
 

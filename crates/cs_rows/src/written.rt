@@ -87,7 +87,7 @@ fn put_step(text: &mut Text, step: &Step) {
 /// The steps, each on a line.
 pub fn put_written(text: &mut Text, steps: &[Step]) {
     for step in steps {
-        text.line();
+        text.break_line();
         put_step(text, step);
     }
     if steps.is_empty() {

@@ -48,7 +48,7 @@ impl Text {
     }
 
     /// Another line, where there is one already.
-    pub fn line(&mut self) {
+    pub fn break_line(&mut self) {
         if !self.text.is_empty() {
             self.put("\n");
         }
@@ -62,7 +62,7 @@ impl Text {
     }
 
     /// Lines with two blanks in front of each. The last one may lack its line feed, and gets it.
-    pub fn put_lines(&mut self, lines: &[u8]) {
+    pub fn put_indented(&mut self, lines: &[u8]) {
         let mut begins = true;
         for byte in lines {
             if begins {
@@ -77,8 +77,8 @@ impl Text {
     }
 
     /// The lines of another text, with two blanks in front of each. Where parts of that one are missing, parts of this one are.
-    pub fn put_text(&mut self, text: &Text) {
-        self.put_lines(&text.text);
+    pub fn put_indented_text(&mut self, text: &Text) {
+        self.put_indented(&text.text);
         if text.is_cut {
             self.is_cut = true;
         }

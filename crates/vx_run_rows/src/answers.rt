@@ -81,7 +81,7 @@ fn put_run_by<W: Spawner>(
     let mut sink = MemSink::new(alloc, row.room)?;
     let mut builtin = Builtin::new(alloc);
     let Ended { status, runs } = run(alloc, &words, &mut files, &mut sink, spawner, &mut builtin);
-    out.put_lines(sink.taken());
+    out.put_indented(sink.taken());
     put_kept(&runs, out);
     out.put("  status ");
     out.natural(u128::from(status.number()));

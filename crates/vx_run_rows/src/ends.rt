@@ -41,7 +41,7 @@ fn put_got<L: Link>(
     out: &mut Text,
 ) -> Result<(), AllocError> {
     match got {
-        Ok(bytes) => out.put_lines(&bytes),
+        Ok(bytes) => out.put_indented(&bytes),
         Err(LinkFault::Want) => return Err(AllocError),
         Err(LinkFault::Failed) => match link.send(alloc, b"again") {
             Ok(_) => out.put("  a fault, and then none\n"),
