@@ -12,6 +12,7 @@ use Rattle.cs_columns.specs.declared.stop.Stop.TheVariants as stops
 use Rattle.cs_farkas.specs.Sums as sums
 use Rattle.cs_meter.specs.Units.{limit}
 use Rattle.cs_model.specs.declared.tables.Model.{Model}
+use Rattle.cs_model.specs.Leaving.{OneLeaves}
 use Rattle.cs_model.specs.Models.{interpretation}
 use Rattle.cs_proof.specs.declared.step.Step.{Step}
 use Rattle.cs_proof.specs.Answers.{Answers}
@@ -25,15 +26,16 @@ use Rattle.cs_answer.specs.Causes.{is_nonlinear_at, has_number}
 abbrev pub call_of : Call → sums.Over
 call_of c = record { call = c.op; left = fraction c.a; right = fraction c.b }
 
--- a refutation exactly where the checker finishes the steps
+-- a refutation exactly where the checker finishes the steps, and a call exactly where it stops at one
 abbrev pub IsByChecker : Stack → Vec Step → Result Answer Stop → Type 0
 IsByChecker stack steps (Ok a) = (a ≡ answers.Refuted steps) × Answers stack (map written steps.items) Finished
-IsByChecker stack steps (Err stops.Miss) = Answers stack (map written steps.items) Finished → ⊥
+IsByChecker stack steps (Err stops.Miss) = (Answers stack (map written steps.items) Finished → ⊥) × ((n : ℕ) (o : sums.Over) → Answers stack (map written steps.items) (Over n o) → ⊥)
 IsByChecker stack steps (Err (stops.Over c)) = (n : ℕ) × Answers stack (map written steps.items) (Over n (call_of c))
 IsByChecker stack steps (Err stops.Budget) = ⊥
 IsByChecker stack steps (Err stops.Want) = ⊤
 
--- a model is one exactly where it makes the assertions true; one that doesn't has the misread term as its cause, if that is nonlinear
+-- a model is one exactly where it makes the assertions true; one that doesn't has the misread term as its cause, if that is nonlinear; it isn't told where a
+-- call that an assertion's value is made by leaves 128 bits
 module _ (stack : Stack) (m : Model) (misread : Option ℕ) where
   abbrev pub IsModel : Type 0
   IsModel = AllTrue (interpretation m.entries.items) stack.assertions
@@ -43,7 +45,7 @@ module _ (stack : Stack) (m : Model) (misread : Option ℕ) where
   IsByModel (Ok (answers.Unknown cause)) = (IsModel → ⊥) × (n : ℕ) × (misread ≡ Some n) × (cause ≡ causes.Nonlinear n)
   IsByModel (Ok (answers.Refuted steps)) = ⊥
   IsByModel (Err stops.Miss) = (IsModel → ⊥) × IfSome misread (λ n. (is_nonlinear_at stack.assertions n && has_number stack.assertions) ≡ false)
-  IsByModel (Err (stops.Over c)) = ⊤
+  IsByModel (Err (stops.Over c)) = OneLeaves (interpretation m.entries.items) c stack.assertions
   IsByModel (Err stops.Budget) = ⊥
   IsByModel (Err stops.Want) = ⊤
 

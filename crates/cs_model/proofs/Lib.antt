@@ -1,2 +1,3 @@
 pub mod Same
 pub mod Lowest
+pub mod Leaving

@@ -1,12 +1,14 @@
 //! Elements, and the operators on them.
-ghost use Rattle.std.specs.Prelude.{◌≡◌, IfOk, int_lt, int_le};
+ghost use Rattle.std.specs.Prelude.{◌≡◌, IfOk, IfErr, int_lt, int_le};
 ghost use Rattle.vx_frac.specs.Fractions as fractions;
+ghost use Rattle.vx_frac.specs.declared.Op.TheVariants as calls;
 ghost use Rattle.vx_terms.specs.Sorts as sorts;
 ghost use Rattle.vx_terms.specs.Terms.{identical};
 ghost use Rattle.vx_frac.specs.Fraction.{fraction};
 ghost use Rattle.vx_terms.specs.Views.{operator, sort};
 ghost use Rattle.vx_terms.specs.Interpretations as clean;
 ghost use Rattle.cs_model.specs.Elements.{element};
+ghost use Rattle.cs_model.specs.Leaving.{Leaves, LeavesNumbers, LeavesAt};
 ghost use Rattle.cs_model.specs.Models.{plain};
 
 use vx_frac::{Frac, Op, Over};
@@ -99,11 +101,22 @@ pub fn is_same(a: Element, b: Element) -> bool
     }
 }
 
-fn over(op: Op, m: i128, n: i128) -> Over {
+#[tactic(auto, using(crate::proofs::Lowest::lowest_whole))]
+fn whole(z: i128) -> Frac
+    ensures { fraction result ≡ fractions.whole z }
+{
+    Frac::new(z, 1)
+}
+
+fn over(op: Op, m: i128, n: i128) -> Over
+    ensures call { result.op ≡ op }
+    ensures left { fraction result.a ≡ fractions.whole m }
+    ensures right { fraction result.b ≡ fractions.whole n }
+{
     Over {
         op,
-        a: Frac::new(m, 1),
-        b: Frac::new(n, 1),
+        a: whole(m),
+        b: whole(n),
     }
 }
 
@@ -130,7 +143,8 @@ fn is_at_most(d: Element, e: Element) -> bool
 }
 
 fn add(d: Element, e: Element) -> Result<Element, Over>
-    ensures { IfOk result (λ x. element x ≡ clean.operate plain sorts.Add (element d) (element e)) }
+    ensures value { IfOk result (λ x. element x ≡ clean.operate plain sorts.Add (element d) (element e)) }
+    ensures over { IfErr result (LeavesNumbers calls.Add (element d) (element e)) }
 {
     match d {
         Element::Real(a) => Ok(Element::Real(a.add(as_fraction(e))?)),
@@ -145,7 +159,8 @@ fn add(d: Element, e: Element) -> Result<Element, Over>
 }
 
 fn subtract(d: Element, e: Element) -> Result<Element, Over>
-    ensures { IfOk result (λ x. element x ≡ clean.operate plain sorts.Subtract (element d) (element e)) }
+    ensures value { IfOk result (λ x. element x ≡ clean.operate plain sorts.Subtract (element d) (element e)) }
+    ensures over { IfErr result (LeavesNumbers calls.Sub (element d) (element e)) }
 {
     match d {
         Element::Real(a) => Ok(Element::Real(a.sub(as_fraction(e))?)),
@@ -160,7 +175,8 @@ fn subtract(d: Element, e: Element) -> Result<Element, Over>
 }
 
 fn multiply(d: Element, e: Element) -> Result<Element, Over>
-    ensures { IfOk result (λ x. element x ≡ clean.operate plain sorts.Multiply (element d) (element e)) }
+    ensures value { IfOk result (λ x. element x ≡ clean.operate plain sorts.Multiply (element d) (element e)) }
+    ensures over { IfErr result (LeavesNumbers calls.Mul (element d) (element e)) }
 {
     match d {
         Element::Real(a) => Ok(Element::Real(a.mul(as_fraction(e))?)),
@@ -176,7 +192,8 @@ fn multiply(d: Element, e: Element) -> Result<Element, Over>
 
 /// By 0 it is 0.
 fn divide(m: i128, n: i128) -> Result<i128, Over>
-    ensures { IfOk result (λ z. z ≡ clean.quotient_in plain m n) }
+    ensures value { IfOk result (λ z. z ≡ clean.quotient_in plain m n) }
+    ensures over { IfErr result (Leaves calls.Div (fractions.whole m) (fractions.whole n)) }
 {
     match n {
         0 => Ok(0),
@@ -189,7 +206,8 @@ fn divide(m: i128, n: i128) -> Result<i128, Over>
 
 /// By 0 it is 0.
 fn remainder(m: i128, n: i128) -> Result<i128, Over>
-    ensures { IfOk result (λ z. z ≡ clean.remainder_in plain m n) }
+    ensures value { IfOk result (λ z. z ≡ clean.remainder_in plain m n) }
+    ensures over { IfErr result (Leaves calls.Div (fractions.whole m) (fractions.whole n)) }
 {
     match n {
         0 => Ok(0),
@@ -203,9 +221,10 @@ fn remainder(m: i128, n: i128) -> Result<i128, Over>
 /// The value of an operator on two elements.
 ///
 /// # Errors
-/// `Over` where a number leaves 128 bits.
+/// `Over` where the operator's call leaves 128 bits.
 pub fn operate(of: Operator, d: Element, e: Element) -> Result<Element, Over>
-    ensures { IfOk result (λ x. element x ≡ clean.operate plain (operator of) (element d) (element e)) }
+    ensures value { IfOk result (λ x. element x ≡ clean.operate plain (operator of) (element d) (element e)) }
+    ensures over { IfErr result (LeavesAt (operator of) (element d) (element e)) }
 {
     match of {
         Operator::And => Ok(Element::Bool(as_bool(d) && as_bool(e))),

@@ -1,9 +1,10 @@
 //! What a model makes of terms.
-ghost use Rattle.std.specs.Prelude.{◌≡◌, ◌↔◌, ◌++◌, not, map, IsTrue, IfOk, OnOk};
+ghost use Rattle.std.specs.Prelude.{◌≡◌, ◌↔◌, ◌++◌, not, map, IsTrue, IfOk, IfErr, OnOk};
 ghost use Rattle.vx_terms.specs.Interpretations as clean;
 ghost use Rattle.vx_terms.specs.Interpretations.{AllTrue};
 ghost use Rattle.vx_terms.specs.Views.{term, terms};
 ghost use Rattle.cs_model.specs.Elements.{element, elements};
+ghost use Rattle.cs_model.specs.Leaving.{LeavesIn, LeavesInOne, OneLeaves, IsBy};
 ghost use Rattle.cs_model.specs.Models.{interpretation};
 
 use crate::elements::{Element, as_sort, operate};
@@ -21,7 +22,9 @@ pub enum Stop {
 }
 
 impl From<AllocError> for Stop {
-    ghost from_gives = { λ _ e. Unit {0} };
+    ghost use Rattle.cs_model.specs.declared.valuing.Stop.TheVariants.{Want};
+
+    ghost from_gives = { λ _ e. e ≡ Want };
 
     fn from(_: AllocError) -> Self {
         Stop::Want
@@ -29,7 +32,9 @@ impl From<AllocError> for Stop {
 }
 
 impl<T: Drop> From<AllocFailed<T>> for Stop {
-    ghost from_gives = { λ _ e. Unit {0} };
+    ghost use Rattle.cs_model.specs.declared.valuing.Stop.TheVariants.{Want};
+
+    ghost from_gives = { λ _ e. e ≡ Want };
 
     fn from(_: AllocFailed<T>) -> Self {
         Stop::Want
@@ -37,7 +42,9 @@ impl<T: Drop> From<AllocFailed<T>> for Stop {
 }
 
 impl From<Over> for Stop {
-    ghost from_gives = { λ _ e. Unit {0} };
+    ghost use Rattle.cs_model.specs.declared.valuing.Stop.TheVariants as stops;
+
+    ghost from_gives = { λ over e. e ≡ stops.Over over };
 
     fn from(over: Over) -> Self {
         Stop::Over(over)
@@ -67,10 +74,11 @@ fn is_true(e: Element) -> bool
 /// The value of a term.
 ///
 /// # Errors
-/// `Over` where a number leaves 128 bits; `Want` where memory runs out.
+/// `Over` with a call that an operator in the term makes and that leaves 128 bits; `Want` where memory runs out.
 #[cycle(evaluating)]
 pub fn evaluate(alloc: Global, model: &Model, t: &Term) -> Result<Element, Stop>
-    ensures { IfOk result (λ e. element e ≡ clean.value (interpretation model.now.entries.items) (term t.now)) }
+    ensures value { IfOk result (λ e. element e ≡ clean.value (interpretation model.now.entries.items) (term t.now)) }
+    ensures over { IfErr result (IsBy (λ c. LeavesIn (interpretation model.now.entries.items) c (term t.now))) }
 {
     match t {
         Term::Truth(b) => Ok(Element::Bool(*b)),
@@ -102,7 +110,8 @@ pub fn evaluate(alloc: Global, model: &Model, t: &Term) -> Result<Element, Stop>
 /// Whether all of some terms are true.
 #[cycle(evaluating)]
 fn are_true(alloc: Global, model: &Model, parts: &Terms) -> Result<bool, Stop>
-    ensures { IfOk result (λ b. b ≡ clean.all_true (clean.values (interpretation model.now.entries.items) (terms parts.now))) }
+    ensures value { IfOk result (λ b. b ≡ clean.all_true (clean.values (interpretation model.now.entries.items) (terms parts.now))) }
+    ensures over { IfErr result (IsBy (λ c. LeavesInOne (interpretation model.now.entries.items) c (terms parts.now))) }
 {
     match parts {
         Terms::None => Ok(true),
@@ -117,7 +126,8 @@ fn are_true(alloc: Global, model: &Model, parts: &Terms) -> Result<bool, Stop>
 /// Whether one of some terms is true.
 #[cycle(evaluating)]
 fn is_one_true(alloc: Global, model: &Model, parts: &Terms) -> Result<bool, Stop>
-    ensures { IfOk result (λ b. b ≡ clean.some_true (clean.values (interpretation model.now.entries.items) (terms parts.now))) }
+    ensures value { IfOk result (λ b. b ≡ clean.some_true (clean.values (interpretation model.now.entries.items) (terms parts.now))) }
+    ensures over { IfErr result (IsBy (λ c. LeavesInOne (interpretation model.now.entries.items) c (terms parts.now))) }
 {
     match parts {
         Terms::None => Ok(false),
@@ -137,7 +147,8 @@ fn evaluate_all(
     parts: &Terms,
     values: &mut Vec<Element>,
 ) -> Result<(), Stop>
-    ensures { OnOk result (elements values.new.items ≡ elements values.old.items ++ clean.values (interpretation model.now.entries.items) (terms parts.now)) }
+    ensures values { OnOk result (elements values.new.items ≡ elements values.old.items ++ clean.values (interpretation model.now.entries.items) (terms parts.now)) }
+    ensures over { IfErr result (IsBy (λ c. LeavesInOne (interpretation model.now.entries.items) c (terms parts.now))) }
 {
     match parts {
         Terms::None => Ok(()),
@@ -153,9 +164,10 @@ fn evaluate_all(
 /// Whether all assertions are true.
 ///
 /// # Errors
-/// Those of `evaluate`.
+/// Those of `evaluate`, at one of the assertions.
 pub fn is_model(alloc: Global, model: &Model, assertions: &[Rc<Term>]) -> Result<bool, Stop>
-    ensures { IfOk result (λ b. IsTrue b ↔ AllTrue (interpretation model.now.entries.items) (map (λ x. term x.value) assertions.now)) }
+    ensures value { IfOk result (λ b. IsTrue b ↔ AllTrue (interpretation model.now.entries.items) (map (λ x. term x.value) assertions.now)) }
+    ensures over { IfErr result (IsBy (λ c. OneLeaves (interpretation model.now.entries.items) c (map (λ x. term x.value) assertions.now))) }
 {
     for assertion in assertions {
         if !is_true(evaluate(alloc, model, assertion)?) {
