@@ -7,7 +7,7 @@ use Rattle.vx_ast.specs.Mentions.{is_among}
 use Rattle.vx_ast.specs.Syntax.{same_name}
 use Rattle.vx_ast.specs.Written.{Name, Placed, Kind, IsField, IsPredicate, IsFunction, IsMethod, Member, Program}
 use Rattle.vx_expressions.specs.Settings.{Table}
-use Rattle.vx_typing.specs.Statements.{AreNew}
+use Rattle.vx_statements.specs.Statements.{AreNew}
 use Rattle.vx_typing.specs.Members.{table_of, AreTypedMembers}
 use Rattle.vx_typing.specs.Uses.{Use, Each, uses_of_body}
 use Rattle.vx_typing.specs.Groups.{kind_at, IsOwn}

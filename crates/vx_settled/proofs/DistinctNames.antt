@@ -5,7 +5,7 @@ use Rattle.vx_ast.specs.Resolve as resolve
 use Rattle.vx_ast.specs.Resolve.{Names, names_of}
 use Rattle.vx_ast.specs.Syntax.{Name, Member}
 use Rattle.vx_resolved.specs.Numbers.{number_named}
-use Rattle.vx_typing.specs.Statements.{AreNew}
+use Rattle.vx_statements.specs.Statements.{AreNew}
 use Rattle.vx_settled.specs.WhenSettled.{DistinctWhenSettled}
 use Rattle.vx_settled.proofs.TypedNames.{same_refl, absent, among_last}
 use Rattle.vx_settled.proofs.TypedPrograms.{found_later}

@@ -11,8 +11,8 @@ use Rattle.vx_ast.specs.Syntax.{Program, Kind, Predicate, Function, IsField, IsP
 use Rattle.vx_ast.specs.Mentions.{mentioned, mentioned_by, mentions_of}
 use Rattle.vx_expressions.specs.Scopes as scopes
 use Rattle.vx_expressions.specs.Scopes.{named}
-use Rattle.vx_typing.specs.Roles.{with_variables}
-use Rattle.vx_typing.specs.declared.names.Role.TheVariants.{Input}
+use Rattle.vx_statements.specs.Roles.{with_variables}
+use Rattle.vx_statements.specs.declared.names.Role.TheVariants.{Input}
 use Rattle.vx_expressions.specs.Settings as settings
 use Rattle.vx_expressions.specs.Settings.{plainly, before_function, after_function, within_measure, within_predicate}
 use Rattle.vx_expressions.specs.Typing as typing

@@ -11,7 +11,7 @@ use Rattle.vx_ast.specs.Resolve.{Names, whole, expression, expressions, is_pure,
 use Rattle.vx_ast.specs.Syntax.{Program, Pure, Instance, Implied, Chosen}
 use Rattle.vx_expressions.specs.Settings as settings
 use Rattle.vx_expressions.specs.Settings.{Setting}
-use Rattle.vx_typing.specs.Statements.{AreAssertions}
+use Rattle.vx_statements.specs.Statements.{AreAssertions}
 use Rattle.vx_expressions.specs.Typing as typing
 use Rattle.vx_types.specs.Typing.{Scope, HasType, IsTyped, AllTyped}
 use Rattle.vx_settled.proofs.TypedExprs.{Sees, whole_share, typed, all_typed, share_typed}

@@ -5,11 +5,11 @@ use Rattle.vx_ast.specs.Written as written
 use Rattle.vx_ast.specs.Resolve as resolve
 use Rattle.vx_ast.specs.Resolve.{Names, assertion, names_of}
 use Rattle.vx_ast.specs.Syntax.{Program, Member, Method, IsMethod}
-use Rattle.vx_typing.specs.declared.names.Role.{Role}
-use Rattle.vx_typing.specs.declared.names.Role.TheVariants.{Parameter, Local}
+use Rattle.vx_statements.specs.declared.names.Role.{Role}
+use Rattle.vx_statements.specs.declared.names.Role.TheVariants.{Parameter, Local}
 use Rattle.vx_expressions.specs.Scopes as scopes
 use Rattle.vx_expressions.specs.Scopes.{named}
-use Rattle.vx_typing.specs.Roles.{with_variable, with_variables}
+use Rattle.vx_statements.specs.Roles.{with_variable, with_variables}
 use Rattle.vx_expressions.specs.Settings.{Table, plainly, within_method}
 use Rattle.vx_typing.specs.Members.{table_of, AreTypedContracts, AreTypedMembers, IsTypedKind, IsTypedBlockOf}
 use Rattle.vx_types.specs.Typing.{AreOnce, AllTyped, IsTypedBody, IsTypedMethod}

@@ -12,7 +12,7 @@ use Rattle.vx_ast.specs.Syntax.{same_name, Declaration, Kind, Program, Predicate
 use Rattle.vx_expressions.specs.Scopes.{named}
 use Rattle.vx_expressions.specs.Settings as settings
 use Rattle.vx_expressions.specs.Settings.{Signature}
-use Rattle.vx_typing.specs.Statements.{AreNew}
+use Rattle.vx_statements.specs.Statements.{AreNew}
 use Rattle.vx_typing.specs.Members.{types_in, signature_of, table_of}
 use Rattle.vx_types.specs.Typing.{AreFields, AreDistinct}
 

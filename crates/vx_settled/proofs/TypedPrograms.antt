@@ -11,13 +11,13 @@ use Rattle.vx_ast.specs.Resolve as resolve
 use Rattle.vx_ast.specs.Resolve.{Names, assertion, expression, expressions, names_of}
 use Rattle.vx_ast.specs.Syntax.{same_name, result_name, Assertion, Program, Member, ByNumber, ByInstance, Kind, IsField, IsPredicate, IsFunction, IsMethod, Predicate, Function, Method, member_named, predicate_in, function_in, method_in, predicate_named}
 use Rattle.vx_terms.specs.Interpretations.{Each}
-use Rattle.vx_typing.specs.declared.names.Role.TheVariants.{Input}
+use Rattle.vx_statements.specs.declared.names.Role.TheVariants.{Input}
 use Rattle.vx_expressions.specs.Scopes as scopes
 use Rattle.vx_expressions.specs.Scopes.{named}
-use Rattle.vx_typing.specs.Roles.{takes, with_variable, with_variables}
+use Rattle.vx_statements.specs.Roles.{takes, with_variable, with_variables}
 use Rattle.vx_expressions.specs.Settings.{Table, plainly, before_function, after_function, within_measure, within_predicate}
 use Rattle.vx_expressions.specs.Typing as typing
-use Rattle.vx_typing.specs.Statements.{AreNew}
+use Rattle.vx_statements.specs.Statements.{AreNew}
 use Rattle.vx_typing.specs.Members as members
 use Rattle.vx_typing.specs.Members.{table_of, AreDeclared, AreTypedClauses, IsMeasure, AreTypedMembers, IsTypedKind}
 use Rattle.vx_types.specs.Typing as settled_typing

@@ -11,17 +11,17 @@ use Rattle.vx_ast.specs.Resolve as resolve
 use Rattle.vx_ast.specs.Resolve.{Names, expression, expressions, names_in, assign}
 use Rattle.vx_ast.specs.Syntax as Syntax
 use Rattle.vx_ast.specs.Syntax.{same_name, Declaration, Program}
-use Rattle.vx_typing.specs.declared.names.Role.{Role}
-use Rattle.vx_typing.specs.declared.names.Role.TheVariants.{Local}
+use Rattle.vx_statements.specs.declared.names.Role.{Role}
+use Rattle.vx_statements.specs.declared.names.Role.TheVariants.{Local}
 use Rattle.vx_expressions.specs.declared.setting.Variable.{Variable}
 use Rattle.vx_expressions.specs.Scopes as scopes
 use Rattle.vx_expressions.specs.Scopes.{named}
-use Rattle.vx_typing.specs.Roles.{with_variable, with_variables}
+use Rattle.vx_statements.specs.Roles.{with_variable, with_variables}
 use Rattle.vx_expressions.specs.Settings.{Table, Setting, within_method}
 use Rattle.vx_typing.specs.Members.{AreDeclared}
 use Rattle.vx_expressions.specs.Typing as typing
-use Rattle.vx_typing.specs.Statements as typing'
-use Rattle.vx_typing.specs.Statements.{IsTarget, AreTargets, IsOpened, IsTypedCall, IsRight, AssignsCall}
+use Rattle.vx_statements.specs.Statements as typing'
+use Rattle.vx_statements.specs.Statements.{IsTarget, AreTargets, IsOpened, IsTypedCall, IsRight, AssignsCall}
 use Rattle.vx_types.specs.Typing.{Scope, type_in, AreOnce, HasType, TargetsHaveTypes, AreFields, scope_after, IsTypedStmt, IsTypedBlock}
 use Rattle.vx_settled.proofs.TypedNames.{Knows, types, same_refl, differs_back, new_distinct}
 use Rattle.vx_settled.proofs.TypedExprs.{Sees, typed, all_typed, share_typed}

@@ -1,11 +1,9 @@
 -- The laws of typing.
 use Rattle.std.proofs.Common.{◌≡◌, ap, ◌∙◌, Ok}
-use Rattle.vx_typing.specs.Laws.{StatementsAgree, BlocksAgree, OtherBlocksAreFaulty, MembersAgree, GroupsAgree, ProgramsAgree, OtherProgramsAreFaulty}
+use Rattle.vx_typing.specs.Laws.{MembersAgree, GroupsAgree, ProgramsAgree, OtherProgramsAreFaulty}
 use Rattle.vx_expressions.specs.Faults.{◌>>=◌}
 use Rattle.vx_expressions.proofs.Passed.{bound}
 use Rattle.vx_expressions.proofs.Agree.{faulty, gives_none}
-use Rattle.vx_typing.specs.StatementFaults.{block}
-use Rattle.vx_typing.proofs.AgreesStatements.{to_stmt, to_block, from_stmt, from_block}
 use Rattle.vx_typing.proofs.AgreesMembers.{names_to, names_from, members_to, members_from}
 use Rattle.vx_typing.proofs.Reachable.{in_its_group, grouped}
 use Rattle.std.specs.Prelude.{⊤, []}
@@ -15,16 +13,6 @@ use Rattle.vx_typing.specs.MemberFaults.{new_names, members as walk}
 use Rattle.vx_typing.specs.GroupFaults.{measures, all_apart}
 use Rattle.vx_typing.specs.Programs.{IsTyped, program, groups as groups_walk}
 use Rattle.vx_typing.proofs.AgreesGroups.{measures_to, measures_from, apart_to, apart_from}
-
-pub statements : StatementsAgree
-statements table scope st = (to_stmt table scope st tt, from_stmt table scope st)
-
-pub blocks : BlocksAgree
-blocks table scope b = (to_block table scope b tt, from_block table scope b)
-
-pub other_blocks : OtherBlocksAreFaulty
-other_blocks table scope b =
-    (λ h k. gives_none (block table scope b) h tt (from_block table scope b k), λ h. faulty (block table scope b) (λ u k. h (to_block table scope b u k)))
 
 pub members : MembersAgree
 members table ms = (members_to table ms tt, members_from table ms)

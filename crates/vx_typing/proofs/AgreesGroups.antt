@@ -12,7 +12,7 @@ use Rattle.vx_typing.specs.Uses.{Use, Each, uses_before, uses_of_body}
 use Rattle.vx_typing.specs.Groups.{kind_at, Reaches, InGroup, IsOwn, in_group, is_own}
 use Rattle.vx_typing.specs.GroupFaults.{some_below, has_measure, measures_by, some_measures_by, own_measure, group_measured, measured, measures, none_own, apart, all_apart}
 use Rattle.vx_expressions.proofs.Passed.{ok_is, not_ok, bound, tested, and_parts, and_true}
-use Rattle.vx_typing.proofs.AgreesStatements.{from_not}
+use Rattle.vx_statements.proofs.AgreesStatements.{from_not}
 use Rattle.vx_typing.proofs.Reachable.{less_or_last, one_of, or_left, or_right, on, reached_below, grouped, in_its_group, own, is_its_own}
 
 pub not_some : {X R : Type 0} {x : X} → (let o : Option X = None in o) ≡ Some x → R

@@ -5,23 +5,23 @@ use Rattle.vx_ast.specs.declared.Place.{Place}
 use Rattle.vx_ast.specs.declared.ValueType.{ValueType}
 use Rattle.vx_ast.specs.declared.ValueType.TheVariants as type
 use Rattle.vx_ast.specs.Written.{Name, Placed, Expr, Call, Exprs, Block, Declaration, Clause, Requires, Ensures, Decreases, Predicate, Function, Method, Kind, IsField, IsPredicate, IsFunction, IsMethod, Member}
-use Rattle.vx_typing.specs.declared.names.Role.{Role}
-use Rattle.vx_typing.specs.declared.names.Role.TheVariants.{Input, Parameter, Local}
+use Rattle.vx_statements.specs.declared.names.Role.{Role}
+use Rattle.vx_statements.specs.declared.names.Role.TheVariants.{Input, Parameter, Local}
 use Rattle.vx_expressions.specs.Places.{place_of}
 use Rattle.vx_expressions.specs.Scopes.{Scope, named}
-use Rattle.vx_typing.specs.Roles.{takes, with_variable, with_variables}
+use Rattle.vx_statements.specs.Roles.{takes, with_variable, with_variables}
 use Rattle.vx_expressions.specs.Settings.{Table, Setting, plainly, within_method, before_function, after_function, within_measure, within_predicate}
 use Rattle.vx_expressions.specs.Typing.{HasType, IsPermission}
 use Rattle.vx_expressions.specs.Faults.{◌>>=◌, Mismatch, OfType, unless, expect, check, Claim, Value, Permission, call}
-use Rattle.vx_typing.specs.Statements.{AreNew}
-use Rattle.vx_typing.specs.StatementFaults.{new_name, new_variable}
+use Rattle.vx_statements.specs.Statements.{AreNew}
+use Rattle.vx_statements.specs.StatementFaults.{new_name, new_variable}
 use Rattle.vx_typing.specs.Members.{AreDeclared, IsMeasure, IsTypedBody, IsTypedClause, AreTypedClauses, IsTypedContract, AreTypedContracts, IsTypedBlockOf, IsTypedPredicate, IsTypedFunction, IsTypedMethod, IsTypedKind, AreTypedMembers}
 use Rattle.vx_typing.specs.MemberFaults as first
 use Rattle.vx_typing.specs.MemberFaults.{declaration, declarations, typed_as, measured, measure, new_names}
 use Rattle.vx_expressions.proofs.Passed.{bound, tested, expected, as_expected}
 use Rattle.vx_expressions.proofs.AgreesTypes.{to_type, from_type}
 use Rattle.vx_expressions.proofs.AgreesClaims.{Claimed, to_claim, to_assertion, value_claim, from_permission, passes}
-use Rattle.vx_typing.proofs.AgreesStatements.{new_to, new_from, variable_to, variable_from, truth_to, truth_from, to_block, from_block}
+use Rattle.vx_statements.proofs.AgreesStatements.{new_to, new_from, variable_to, variable_from, truth_to, truth_from, to_block, from_block}
 
 -- ---- parameters
 declared_to : (role : Role) (scope : Scope) (ds : List Declaration) (u : ⊤) → declarations role scope ds ≡ Ok u → AreDeclared role scope ds

@@ -15,7 +15,7 @@ use Rattle.vx_typing.specs.Numbered.{AreMarks, AreRoots, Tells}
 use Rattle.vx_expressions.specs.Settings.{Table}
 use Rattle.vx_typing.specs.Members.{table_of}
 use Rattle.vx_typing.specs.GroupFaults.{some_below, measures_by}
-use Rattle.vx_typing.proofs.Loops.{left}
+use Rattle.vx_statements.proofs.Loops.{left}
 use Rattle.vx_typing.proofs.Reachable.{as_true, or_left, or_right, are_below, grouped, in_its_group}
 
 -- one row more

@@ -1,12 +1,7 @@
-pub mod Loops
 pub mod Found
 pub mod Numbers
 pub mod Lists
 pub mod Tables
-pub mod Targets
-pub mod Blocks
-pub mod Assigns
-pub mod AgreesStatements
 pub mod AgreesMembers
 pub mod Reachable
 pub mod AgreesGroups

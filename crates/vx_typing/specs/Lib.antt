@@ -1,6 +1,3 @@
-pub mod Roles
-pub mod Statements
-pub mod StatementFaults
 pub mod Members
 pub mod MemberFaults
 pub mod Uses
@@ -8,7 +5,6 @@ pub mod Groups
 pub mod Measures
 pub mod GroupFaults
 pub mod Programs
-pub mod Blocks
 pub mod Seen
 pub mod Numbered
 pub mod Laws

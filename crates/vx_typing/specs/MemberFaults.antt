@@ -3,14 +3,14 @@ use Rattle.std.specs.Prelude.{◌++◌, List, [], ◌∷◌, Option, Some, None,
 use Rattle.vx_ast.specs.declared.ValueType.{ValueType}
 use Rattle.vx_ast.specs.declared.ValueType.TheVariants as type
 use Rattle.vx_ast.specs.Written.{Name, Expr, Call, Block, Declaration, Clause, Requires, Ensures, Decreases, Predicate, Function, Method, Kind, IsField, IsPredicate, IsFunction, IsMethod, Member}
-use Rattle.vx_typing.specs.declared.names.Role.{Role}
-use Rattle.vx_typing.specs.declared.names.Role.TheVariants.{Input, Parameter, Local}
+use Rattle.vx_statements.specs.declared.names.Role.{Role}
+use Rattle.vx_statements.specs.declared.names.Role.TheVariants.{Input, Parameter, Local}
 use Rattle.vx_expressions.specs.Places.{place_of}
 use Rattle.vx_expressions.specs.Scopes.{Scope}
-use Rattle.vx_typing.specs.Roles.{takes, with_variable, with_variables}
+use Rattle.vx_statements.specs.Roles.{takes, with_variable, with_variables}
 use Rattle.vx_expressions.specs.Settings.{Table, Setting, plainly, within_method, before_function, after_function, within_measure, within_predicate}
 use Rattle.vx_expressions.specs.Faults.{Checked, ◌>>=◌, Mismatch, OfType, unless, expect, check, Claim, Value, Permission, call, assertion}
-use Rattle.vx_typing.specs.StatementFaults.{new_name, new_variable, truth, block}
+use Rattle.vx_statements.specs.StatementFaults.{new_name, new_variable, truth, block}
 
 abbrev pub declaration : Role → Scope → Declaration → Checked ⊤
 declaration role scope d = new_variable scope d.name >>= λ _. unless (takes role d.of) (Mismatch d.type_at (OfType type.Int) d.of)

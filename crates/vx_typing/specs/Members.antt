@@ -4,13 +4,13 @@ use Rattle.vx_ast.specs.declared.ValueType.{ValueType}
 use Rattle.vx_ast.specs.declared.ValueType.TheVariants as type
 use Rattle.vx_ast.specs.Written as written
 use Rattle.vx_ast.specs.Written.{Expr, Call, Block, Declaration, Clause, Requires, Ensures, Decreases, Predicate, Function, Method, Kind, Member, Program}
-use Rattle.vx_typing.specs.declared.names.Role.{Role}
-use Rattle.vx_typing.specs.declared.names.Role.TheVariants.{Input, Parameter, Local}
+use Rattle.vx_statements.specs.declared.names.Role.{Role}
+use Rattle.vx_statements.specs.declared.names.Role.TheVariants.{Input, Parameter, Local}
 use Rattle.vx_expressions.specs.Scopes.{Scope, named}
-use Rattle.vx_typing.specs.Roles.{takes, with_variable, with_variables}
+use Rattle.vx_statements.specs.Roles.{takes, with_variable, with_variables}
 use Rattle.vx_expressions.specs.Settings.{Table, Setting, Signature, IsField, IsPredicate, IsFunction, IsMethod, plainly, within_method, before_function, after_function, within_measure, within_predicate}
 use Rattle.vx_expressions.specs.Typing.{HasType, IsPermission, IsAssertion}
-use Rattle.vx_typing.specs.Statements.{IsTypedBlock}
+use Rattle.vx_statements.specs.Statements.{IsTypedBlock}
 
 -- what the names of members stand for
 abbrev pub types_in : List Declaration → List ValueType

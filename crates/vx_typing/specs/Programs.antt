@@ -2,7 +2,7 @@
 -- order, then measures, and then what leads back to its own group.
 use Rattle.std.specs.Prelude.{[], map, ⊤}
 use Rattle.vx_ast.specs.Written.{Program}
-use Rattle.vx_typing.specs.Statements.{AreNew}
+use Rattle.vx_statements.specs.Statements.{AreNew}
 use Rattle.vx_typing.specs.Members.{table_of, AreTypedMembers}
 use Rattle.vx_typing.specs.Measures.{AreMeasured, KeepApart}
 use Rattle.vx_expressions.specs.Faults.{Checked, ◌>>=◌}

@@ -1,16 +1,9 @@
 //! The laws of typing: the relation and the first fault tell the same.
 
-ghost use Rattle.vx_typing.specs.Laws.{StatementsAgree, BlocksAgree, OtherBlocksAreFaulty, MembersAgree, GroupsAgree, ProgramsAgree, OtherProgramsAreFaulty};
+ghost use Rattle.vx_typing.specs.Laws.{MembersAgree, GroupsAgree, ProgramsAgree, OtherProgramsAreFaulty};
 ghost use Rattle.vx_typing.specs.Programs.{program};
 ghost use Rattle.vx_typing.specs.ProgramExamples.{names, statements, calls, contracts, groups};
 ghost use Rattle.vx_expressions.specs.Examples.{Computes};
-
-/// A statement and a block are typed exactly where they have no first fault.
-pub fn statements_are_told()
-    ensures statements { StatementsAgree }
-    ensures blocks { BlocksAgree }
-    ensures others { OtherBlocksAreFaulty }
-{}
 
 /// Members are typed exactly where they have no first fault.
 pub fn members_are_told()

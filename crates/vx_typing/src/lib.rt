@@ -4,15 +4,12 @@
 mod groups;
 mod laws;
 mod members;
-mod names;
+mod parameters;
 mod program;
-mod stmt;
 mod typed;
 mod uses;
 
-pub use laws::{
-    example_programs, groups_are_told, members_are_told, programs_are_told, statements_are_told,
-};
+pub use laws::{example_programs, groups_are_told, members_are_told, programs_are_told};
 pub use program::check;
 pub use typed::Typed;
 pub use vx_expressions::{Expected, Signature, TypeFault, word_of};

@@ -4,17 +4,16 @@ ghost use Rattle.std.specs.Prelude.{◌≡◌, ◌++◌, ◌∷◌, [], Ok, OnOk
 ghost use Rattle.vx_ast.specs.Written.{name_of, written_expr, written_clause, written_declaration, written_kind, written_member, optional_expr, optional_block};
 ghost use Rattle.vx_expressions.specs.Faults as faults;
 ghost use Rattle.vx_expressions.specs.Settings.{plainly, before_function, after_function, within_measure, within_predicate};
-ghost use Rattle.vx_typing.specs.StatementFaults as statements;
+ghost use Rattle.vx_statements.specs.StatementFaults as statements;
 ghost use Rattle.vx_typing.specs.MemberFaults as first;
 ghost use Rattle.vx_typing.specs.Members.{signature_of, table_of};
-ghost use Rattle.vx_typing.specs.declared.names.Role.TheVariants.{Input, Parameter, Local};
-ghost use Rattle.vx_typing.specs.Roles.{with_variables};
+ghost use Rattle.vx_statements.specs.declared.names.Role.TheVariants.{Input, Parameter, Local};
+ghost use Rattle.vx_statements.specs.Roles.{with_variables};
 ghost use Rattle.vx_expressions.specs.Gives.{Gives};
 ghost use Rattle.vx_expressions.specs.Views as views;
 ghost use Rattle.vx_expressions.specs.Views.{setting, table, known, claim_of, names_in};
 
-use crate::names::{Role, declare_all, twice};
-use crate::stmt::{asserted, block, truth};
+use crate::parameters::declare_all;
 use indexmap::IndexMap;
 use std::alloc::Global;
 use std::rc::Rc;
@@ -25,6 +24,7 @@ use vx_ast::{
 use vx_expressions::{
     Claim, Members, Setting, Signature, TypeFault, Variables, assertion, call, check, expect, place,
 };
+use vx_statements::{Role, asserted, block, truth, twice};
 
 fn typed_as(alloc: Global, s: Setting, t: ValueType, e: &Expr) -> Result<(), TypeFault>
     ensures { Gives (λ x. tt) result (first.typed_as (setting s.entry) t (written_expr e.now)) }

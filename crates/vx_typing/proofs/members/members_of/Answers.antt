@@ -7,8 +7,8 @@ use Rattle.vx_expressions.specs.Views.{table, names_in}
 use Rattle.vx_expressions.proofs.Fails.{passed}
 use Rattle.vx_typing.specs.MemberFaults.{new_names}
 use Rattle.vx_typing.specs.Members.{signature_of, table_of}
-use Rattle.vx_typing.specs.StatementFaults.{new_name}
-use Rattle.vx_typing.proofs.Loops.{goes_on, ends, left}
+use Rattle.vx_statements.specs.StatementFaults.{new_name}
+use Rattle.vx_statements.proofs.Loops.{goes_on, ends, left}
 use Rattle.vx_typing.proofs.members.members_of.Goals as goal
 
 pub loop-m-preserved : goal.loop-m-preserved

@@ -8,7 +8,7 @@ use Rattle.vx_typing.specs.Uses as spec
 use Rattle.vx_typing.specs.Uses.{calls, unfolds_it}
 use Rattle.vx_typing.specs.Seen.{seen}
 use Rattle.vx_expressions.proofs.Rows.{call_row}
-use Rattle.vx_typing.proofs.Loops.{left}
+use Rattle.vx_statements.proofs.Loops.{left}
 use Rattle.vx_typing.proofs.uses.+using.Goals as goal
 
 pub uses-returns-in_ok-uses_in-in-Call : goal.uses-returns-in_ok-uses_in-in-Call

@@ -3,7 +3,7 @@ use Rattle.std.proofs.lemmas.List.{drop_all}
 use Rattle.vx_ast.specs.Written.{written_clause}
 use Rattle.vx_typing.specs.Uses.{uses_of_clauses}
 use Rattle.vx_typing.specs.Seen.{seen}
-use Rattle.vx_typing.proofs.Loops.{left}
+use Rattle.vx_statements.proofs.Loops.{left}
 use Rattle.vx_typing.proofs.uses.uses_of_clauses.Goals as goal
 
 pub loop-c-preserved : goal.loop-c-preserved

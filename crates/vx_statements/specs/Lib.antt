@@ -1,0 +1,5 @@
+pub mod Roles
+pub mod Statements
+pub mod StatementFaults
+pub mod Blocks
+pub mod Laws

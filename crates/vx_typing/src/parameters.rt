@@ -1,0 +1,61 @@
+//! Parameters and returns that are declared, of types that their roles allow.
+
+ghost use Rattle.std.specs.Prelude.{◌≡◌, OnOk, map};
+ghost use Rattle.vx_ast.specs.Written.{written_declaration};
+ghost use Rattle.vx_expressions.specs.Gives.{Gives};
+ghost use Rattle.vx_expressions.specs.Views.{known};
+ghost use Rattle.vx_typing.specs.MemberFaults as members;
+ghost use Rattle.vx_statements.specs.Roles as scopes;
+ghost use Rattle.vx_statements.specs.Roles.{with_variable, with_variables};
+
+use std::alloc::Global;
+use vx_ast::{Declaration, ValueType};
+use vx_expressions::{Expected, TypeFault, Variables};
+use vx_statements::{Role, declare};
+
+// Whether a variable of this role can have this type.
+fn takes(role: Role, t: ValueType) -> bool
+    ensures { result ≡ scopes.takes role t }
+{
+    match (role, t) {
+        (Role::Input, ValueType::Perm) => false,
+        (Role::Input, ValueType::Int | ValueType::Bool | ValueType::Ref) => true,
+        (Role::Parameter, _) => true,
+        (Role::Local, _) => true,
+    }
+}
+
+// One more parameter or return, whose type its role allows.
+fn declare_one<'a>(
+    alloc: Global,
+    variables: &mut Variables<'a>,
+    role: Role,
+    declared: &'a Declaration,
+) -> Result<(), TypeFault>
+    ensures first { Gives (λ x. tt) result (members.declaration role (known variables.old.entries) (written_declaration declared.now)) }
+    ensures after { OnOk result (known variables.new.entries ≡ with_variable role (written_declaration declared.now) (known variables.old.entries)) }
+{
+    declare(alloc, variables, role, declared)?;
+    let t = declared.value_type;
+    if takes(role, t) {
+        return Ok(());
+    }
+    let expected = Expected::Type(ValueType::Int);
+    Err(TypeFault::Mismatch(declared.type_place, expected, t))
+}
+
+/// More of them, in order.
+pub fn declare_all<'a>(
+    alloc: Global,
+    variables: &mut Variables<'a>,
+    role: Role,
+    all: &'a [Declaration],
+) -> Result<(), TypeFault>
+    ensures first { Gives (λ x. tt) result (members.declarations role (known variables.old.entries) (map written_declaration all.now)) }
+    ensures after { OnOk result (known variables.new.entries ≡ with_variables role (map written_declaration all.now) (known variables.old.entries)) }
+{
+    for declared in all {
+        declare_one(alloc, variables, role, declared)?;
+    }
+    Ok(())
+}
