@@ -19,7 +19,7 @@ struct Terms {
 
 /// A fraction with the other sign.
 fn turned(a: Frac) -> Result<Frac, Stop> {
-    match Frac::new(0, 1).sub(a) {
+    match Frac::whole(0).sub(a) {
         Ok(turned) => Ok(turned),
         Err(_) => Err(Stop::Miss),
     }

@@ -1,5 +1,5 @@
 -- The quotient that is rounded down is the floor, and no whole number is its own floor.
-use Rattle.std.proofs.Common.{◌≡◌, ℕ, suc, ◌-◌, ◌*◌, ◌/◌, ◌≤◌, ℤ, pos, negsuc, ◌+ℤ◌, ◌*ℤ◌, ◌<ℤ◌, true, refl, sym, ◌∙◌, ap, subst, arith, unsigned_abs, nat_abs, neg_ℤ}
+use Rattle.std.proofs.Common.{◌≡◌, ℕ, suc, ◌-◌, ◌*◌, ◌/◌, ◌≤◌, ℤ, pos, negsuc, ◌+ℤ◌, ◌*ℤ◌, ◌<ℤ◌, true, refl, sym, ◌∙◌, ap, subst, arith, unsigned_abs}
 use Rattle.std.specs.Prelude.{int_le, int_lt}
 use Rattle.std.specs.Int.{int_div_euclid, ◌∣◌}
 use Rattle.std.proofs.lemmas.Int.{ints}
@@ -8,7 +8,6 @@ use Rattle.std.proofs.lemmas.Nat.Gcd.{dvd_refl}
 use Rattle.vx_frac.specs.declared.Frac.{Frac}
 use Rattle.vx_frac.specs.Lowest.{IsLowest}
 use Rattle.vx_frac.specs.Fraction.{ratio, fraction}
-use Rattle.vx_frac.specs.Fractions.{whole, lowest, with_sign}
 use Rattle.vx_frac.proofs.Reduced.{denominator_of}
 use Rattle.cs_columns.specs.Between.{IsFloor, LiesBetween}
 use Rattle.cs_columns.specs.Fractional.{IsFractional}
@@ -58,14 +57,3 @@ parts_it f floor is fractional =
     let k = unsigned_abs f.den - 1 in
     let not_same : floor *ℤ pos (suc k) ≡ f.num *ℤ pos 1 → ⊥ = λ e. fractional (ap pos (whole_alone floor f.num k f.num f.den refl (denominator_of f.den f.positive) f.lowest e)) in
     record { above = strict _ _ is.within not_same; below = is.below }
-
-with_size : (z : ℤ) → with_sign z ((nat_abs z * 1) / 1) ≡ z
-with_size (pos n) = ap pos (omega arith)
-with_size (negsuc n) = ap (λ (m : ℕ). neg_ℤ (pos m)) with_one where
-  with_one : (suc n * 1) / 1 ≡ suc n
-  with_one = omega arith
-
--- a whole number over 1 is in lowest terms
-pub lowest_whole : (z : ℤ) → lowest (ratio z (pos 1)) ≡ whole z
-unfolding lowest
-lowest_whole z = ap whole (with_size z)

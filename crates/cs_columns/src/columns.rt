@@ -2,7 +2,7 @@
 ghost use Rattle.std.specs.Prelude.{◌≡◌, ◌<◌, IsTrue, length};
 ghost use Rattle.std.specs.List.{All};
 
-use crate::stop::{Stop, whole};
+use crate::stop::Stop;
 use crate::sum::{Sum, primitive};
 use cs_farkas::Numbers;
 use cs_index::{Index, mix};
@@ -190,7 +190,7 @@ impl Columns {
         match sum.entries.as_slice() {
             [] => Ok(Line {
                 column: None,
-                factor: whole(1),
+                factor: Frac::whole(1),
                 constant: sum.constant,
             }),
             [only] => Ok(Line {

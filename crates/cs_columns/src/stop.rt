@@ -1,7 +1,6 @@
 //! Why a call ends early, and quotients of fractions.
 ghost use Rattle.std.specs.Prelude.{◌≡◌};
 ghost use Rattle.vx_frac.specs.Fraction.{fraction};
-ghost use Rattle.vx_frac.specs.Fractions.{whole};
 ghost use Rattle.cs_columns.specs.Between.{IsFloor};
 
 use cs_linear::Undecided;
@@ -91,20 +90,12 @@ impl From<cs_table::Stop> for Stop {
     }
 }
 
-/// A whole number as a fraction.
-#[tactic(auto, using(crate::proofs::Floors::lowest_whole))]
-pub fn whole(number: i128) -> Frac
-    ensures { fraction result ≡ whole number }
-{
-    Frac::new(number, 1)
-}
-
 /// A fraction with the other sign.
 ///
 /// # Errors
 /// `Over` where it leaves 128 bits.
 pub fn turned(a: Frac) -> Result<Frac, Stop> {
-    Ok(whole(0).sub(a)?)
+    Ok(Frac::whole(0).sub(a)?)
 }
 
 /// One over a fraction.
@@ -120,7 +111,7 @@ fn reciprocal(a: Frac) -> Result<Frac, Stop> {
         Some(den) if den > 0 => Ok(Frac::new(-a.den(), den)),
         _ => Err(Stop::Over(Over {
             op: Op::Div,
-            a: whole(1),
+            a: Frac::whole(1),
             b: a,
         })),
     }

@@ -1,6 +1,6 @@
 //! Sums of columns, each with a factor, and a constant.
 
-use crate::stop::{Stop, quotient, whole};
+use crate::stop::{Stop, quotient};
 use cs_farkas::Numbers;
 use cs_linear::Entry;
 use std::alloc::Global;
@@ -41,7 +41,7 @@ impl Sum {
     pub fn new(alloc: Global) -> Sum {
         Sum {
             entries: Vec::new(alloc),
-            constant: whole(0),
+            constant: Frac::whole(0),
         }
     }
 
@@ -100,9 +100,9 @@ fn divisor_of(first: Frac, entries: &[Entry]) -> Result<Frac, Stop> {
         divisor = common(entry.factor.num(), divisor)?;
     }
     if first.num() < 0 {
-        return crate::stop::turned(whole(divisor));
+        return crate::stop::turned(Frac::whole(divisor));
     }
-    Ok(whole(divisor))
+    Ok(Frac::whole(divisor))
 }
 
 /// What a sum is divided by to be the one that stands for its multiples. Those of whole numbers have whole factors.

@@ -8,7 +8,7 @@ ghost use Rattle.cs_columns.specs.Between.{LiesBetween};
 ghost use Rattle.cs_columns.specs.Fractional.{IsFractional, IsFractionAt};
 
 use crate::columns::{Columns, Origin};
-use crate::stop::{Stop, floor, quotient, whole};
+use crate::stop::{Stop, floor, quotient};
 use cs_farkas::Numbers;
 use cs_linear::{Bound, Entry, Side, Tableau, Value};
 use std::alloc::Global;
@@ -60,7 +60,7 @@ fn within(small: Frac, bound: Bound, value: Value) -> Result<Frac, Stop> {
 /// # Errors
 /// `Over` where a fraction leaves 128 bits; `Miss` where a bound is of no column.
 pub fn small_of(tableau: &Tableau, bounds: &[Bound]) -> Result<Frac, Stop> {
-    let mut small = whole(1);
+    let mut small = Frac::whole(1);
     for bound in bounds {
         small = within(small, *bound, value_of(tableau, bound.column)?)?;
     }
@@ -170,7 +170,7 @@ fn alone(alloc: Global, columns: &Columns, column: u32) -> Result<Vec<(u32, i128
 {
     let entry = Entry {
         column,
-        factor: whole(1),
+        factor: Frac::whole(1),
     };
     parts_of(alloc, columns, &[entry])
 }

@@ -8,6 +8,7 @@ use Rattle.std.proofs.Math.Facts.{yes_ltb}
 use Rattle.vx_frac.specs.Fractions.{Fraction, whole, lowest, sum, product, sum_fits, product_fits, fits_i128, with_sign}
 use Rattle.vx_frac.specs.Lowest.{IsLowest}
 use Rattle.vx_frac.proofs.Reduced.{is_lowest}
+use Rattle.vx_frac.proofs.Whole.{lowest_whole}
 use Rattle.vx_frac.proofs.Fits.{both_true}
 use Rattle.vx_sexp.specs.declared.token.Kind.TheVariants as kinds
 use Rattle.vx_sexp.specs.declared.token.Token.TheVariants.{Atom}
@@ -70,10 +71,6 @@ reads_number scope (negsuc n) h =
 abbrev pub frac : ℤ → ℕ → Fraction
 frac z d = record { numerator = z; below = d }
 
-pub lowest_whole : (n : ℕ) → lowest (whole (pos n)) ≡ whole (pos n)
-unfolding lowest
-lowest_whole n = let one : (n * 1) / 1 ≡ n = omega arith in ap (λ k. frac (pos k) 0) one
-
 no_part : part_after (over (pos 0) 0) (48 ∷ []) ≡ Some (whole (pos 0))
 unfolding lowest is_digit
 no_part = refl
@@ -96,14 +93,14 @@ with_none : (n : ℕ) → n < 2 ^ 127 → summed (whole (pos 0)) (whole (pos n))
 with_none n h =
     ap (λ b. if b then Some (lowest (sum (whole (pos 0)) (whole (pos n)))) else None) (sum_small n h)
     ∙ ap (λ z. Some (lowest (frac z 0))) (sum_is n)
-    ∙ ap Some (lowest_whole n)
+    ∙ ap Some (lowest_whole (pos n))
 
 pub decimal_back : (n : ℕ) → n < 2 ^ 127 → decimal (written.decimal n) ≡ Some (whole (pos n))
 unfolding written.decimal
 decimal_back n h =
     let around = point_before (written.numeral n) (48 ∷ []) (numeral_is n).1 no_digit in
     rw (around.0, around.1, same_numeral (written.numeral n), number_back (2 ^ 127) n h, no_part)
-    (ap (summed (whole (pos 0))) (lowest_whole n) ∙ with_none n h)
+    (ap (summed (whole (pos 0))) (lowest_whole (pos n)) ∙ with_none n h)
 
 part_leaf : (n : ℕ) → n < 2 ^ 127 → part (written.decimal n) ≡ Ok (Part (whole (pos n)))
 part_leaf n h = ap (λ o. or_fault faults.Wide o >>= λ a. Ok (Part a)) (decimal_back n h)

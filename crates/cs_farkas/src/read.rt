@@ -9,7 +9,7 @@ ghost use Rattle.cs_farkas.specs.Rows.{one_more, add_part, add_all};
 ghost use Rattle.cs_farkas.specs.Views.{Ends, sums, width, sort_of, part};
 
 use crate::calls::{Break, times};
-use crate::reading::{Reading, reading_of, whole};
+use crate::reading::{Reading, reading_of};
 use crate::rows::{Numbers, Part, Relation};
 use crate::sums::Sums;
 use cs_table::Node;
@@ -19,7 +19,7 @@ use vx_frac::Frac;
 fn turned(factor: Frac) -> Result<Frac, Break>
     ensures { Ends fraction result (clean.times (fraction factor) minus_one) }
 {
-    times(factor, whole(-1))
+    times(factor, Frac::whole(-1))
 }
 
 /// Adds a term of at most so many layers, read with a factor, times the multiplier.
@@ -90,7 +90,7 @@ fn add_one_more(numbers: Numbers, part: &Part, to: &mut Sums) -> Result<(), Brea
     ensures width { width to.new ≡ width to.old }
 {
     match (numbers, part.bound.relation) {
-        (Numbers::Int, Relation::BelowZero) => to.add_constant(part.multiplier, whole(1)),
+        (Numbers::Int, Relation::BelowZero) => to.add_constant(part.multiplier, Frac::whole(1)),
         (Numbers::Int, Relation::AtMostZero)
         | (Numbers::Int, Relation::IsZero)
         | (Numbers::Real, Relation::AtMostZero)
@@ -107,12 +107,19 @@ fn add_part(all: &[Node], numbers: Numbers, part: &Part, to: &mut Sums) -> Resul
     ensures width { width to.new ≡ width to.old }
 {
     let layers = all.len() as u32;
-    read_term(all, layers, part.multiplier, whole(1), part.bound.left, to)?;
     read_term(
         all,
         layers,
         part.multiplier,
-        whole(-1),
+        Frac::whole(1),
+        part.bound.left,
+        to,
+    )?;
+    read_term(
+        all,
+        layers,
+        part.multiplier,
+        Frac::whole(-1),
         part.bound.right,
         to,
     )?;

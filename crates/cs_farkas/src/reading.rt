@@ -2,7 +2,6 @@
 ghost use Rattle.std.specs.Prelude.{◌≡◌, pos};
 ghost use Rattle.std.specs.Option.{option_map};
 ghost use Rattle.vx_frac.specs.Fraction.{fraction};
-ghost use Rattle.vx_frac.specs.Fractions.{whole};
 ghost use Rattle.vx_terms.specs.Views.{operator};
 ghost use Rattle.cs_table.specs.Views.{head, node, nodes};
 ghost use Rattle.cs_farkas.specs.Sums as clean;
@@ -23,19 +22,12 @@ pub enum Reading {
     Column,
 }
 
-/// A whole number as a fraction.
-pub fn whole(number: i128) -> Frac
-    ensures { fraction result ≡ whole number }
-{
-    Frac::new(number, 1)
-}
-
 /// The literal that a head is.
 fn literal_of(of: &Head) -> Option<Frac>
     ensures { option_map fraction result ≡ clean.literal_of (head of.now) }
 {
     match of {
-        Head::Number(number) => Some(whole(*number)),
+        Head::Number(number) => Some(Frac::whole(*number)),
         Head::Part(part) => Some(*part),
         Head::Truth(_)
         | Head::Constant(_, _)
@@ -100,7 +92,7 @@ pub fn reading_of(all: &[Node], node: &Node) -> Reading
     ensures { views.reading result ≡ clean.of_head (nodes all.now) (head node.now.head) node.now.parts.items }
 {
     match &node.head {
-        Head::Number(number) => Reading::Literal(whole(*number)),
+        Head::Number(number) => Reading::Literal(Frac::whole(*number)),
         Head::Part(part) => Reading::Literal(*part),
         Head::Binary(of) => of_parts(all, *of, &node.parts),
         Head::Truth(_)

@@ -3,7 +3,6 @@ ghost use Rattle.std.specs.Prelude.{◌≡◌, ◌<◌, length, slice_set, IfOk,
 ghost use Rattle.cs_farkas.specs.Columns.{other_than_zero, others_in};
 
 use crate::calls::{Break, plus, times};
-use crate::reading::whole;
 use std::alloc::{AllocError, Global};
 use vx_frac::Frac;
 
@@ -35,8 +34,8 @@ impl Sums {
         ensures clear { IfOk result IsClear }
     {
         Ok(Sums {
-            constant: whole(0),
-            columns: vec![in alloc; whole(0); columns]?,
+            constant: Frac::whole(0),
+            columns: vec![in alloc; Frac::whole(0); columns]?,
             others: 0,
         })
     }
@@ -47,7 +46,7 @@ impl Sums {
         ensures value { sums self.new ≡ cleared (width self.old) }
         ensures width { width self.new ≡ width self.old }
     {
-        self.constant = whole(0);
+        self.constant = Frac::whole(0);
     }
 
     /// Whether each column is 0.

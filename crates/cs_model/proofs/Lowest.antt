@@ -1,19 +1,9 @@
--- A fraction of the code is in lowest terms, and so is a whole number.
-use Rattle.std.proofs.Common.{◌≡◌, ℕ, suc, ◌*◌, ◌/◌, ℤ, pos, negsuc, neg_ℤ, nat_abs, ap, arith}
-use Rattle.vx_frac.specs.Fractions.{lowest, whole, with_sign}
-use Rattle.vx_frac.specs.Fraction.{fraction, ratio}
+-- A fraction of the code is in lowest terms.
+use Rattle.std.specs.Prelude.{◌≡◌}
+use Rattle.vx_frac.specs.Fractions.{lowest}
+use Rattle.vx_frac.specs.Fraction.{fraction}
 use Rattle.vx_frac.specs.declared.Frac.{Frac}
 use Rattle.vx_frac.proofs.Reduced.{lowest-fraction}
 
 pub is_lowest : (f : Frac) → lowest (fraction f) ≡ fraction f
 is_lowest f = lowest-fraction f
-
-with_size : (z : ℤ) → with_sign z ((nat_abs z * 1) / 1) ≡ z
-with_size (pos n) = ap pos (omega arith)
-with_size (negsuc n) = ap (λ (m : ℕ). neg_ℤ (pos m)) with_one where
-  with_one : (suc n * 1) / 1 ≡ suc n
-  with_one = omega arith
-
-pub lowest_whole : (z : ℤ) → lowest (ratio z (pos 1)) ≡ whole z
-unfolding lowest
-lowest_whole z = ap whole (with_size z)

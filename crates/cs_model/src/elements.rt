@@ -101,13 +101,6 @@ pub fn is_same(a: Element, b: Element) -> bool
     }
 }
 
-#[tactic(auto, using(crate::proofs::Lowest::lowest_whole))]
-fn whole(z: i128) -> Frac
-    ensures { fraction result ≡ fractions.whole z }
-{
-    Frac::new(z, 1)
-}
-
 fn over(op: Op, m: i128, n: i128) -> Over
     ensures call { result.op ≡ op }
     ensures left { fraction result.a ≡ fractions.whole m }
@@ -115,8 +108,8 @@ fn over(op: Op, m: i128, n: i128) -> Over
 {
     Over {
         op,
-        a: whole(m),
-        b: whole(n),
+        a: Frac::whole(m),
+        b: Frac::whole(n),
     }
 }
 

@@ -8,7 +8,7 @@ use crate::cuts::{Taken, cut_of};
 use crate::limits::{Entered, Limits};
 use crate::loose::spread;
 use crate::reading::{line_between, numbers_of, value_at};
-use cs_columns::{Columns, Split, Stop, small_of, split_of, values_of, whole};
+use cs_columns::{Columns, Split, Stop, small_of, split_of, values_of};
 use cs_farkas::{Numbers, Relation};
 use cs_linear::{Bound, Checked, Part, Side};
 use cs_meter::Meter;
@@ -74,8 +74,8 @@ fn numbers_at(nodes: &[Node], term: u32) -> Option<Numbers> {
 /// The part that a bound takes in a contradiction of two.
 fn part_of(bound: Bound) -> Part {
     let multiplier = match bound.side {
-        Side::AtLeast => whole(1),
-        Side::AtMost => whole(-1),
+        Side::AtLeast => Frac::whole(1),
+        Side::AtMost => Frac::whole(-1),
     };
     Part { bound, multiplier }
 }

@@ -1,6 +1,6 @@
 //! Comparisons as lines, and what they say where they hold or don't.
 
-use cs_columns::{Line, Stop, quotient, turned, whole};
+use cs_columns::{Line, Stop, quotient, turned};
 use cs_farkas::{Numbers, Relation};
 use cs_linear::{Bound, Side, Value};
 use cs_table::{Head, Node};
@@ -88,7 +88,7 @@ impl Constraint {
     /// `Over` where it leaves 128 bits.
     pub fn constant(self) -> Result<Frac, Stop> {
         match (self.numbers, self.relation) {
-            (Numbers::Int, Relation::BelowZero) => Ok(self.line.constant.add(whole(1))?),
+            (Numbers::Int, Relation::BelowZero) => Ok(self.line.constant.add(Frac::whole(1))?),
             _ => Ok(self.line.constant),
         }
     }
@@ -108,10 +108,10 @@ impl Constraint {
     pub fn refuted_by(self) -> Result<Option<Frac>, Stop> {
         let constant = self.constant()?.num();
         if constant > 0 || (constant == 0 && self.is_strict()) {
-            return Ok(Some(whole(1)));
+            return Ok(Some(Frac::whole(1)));
         }
         match self.relation {
-            Relation::IsZero if constant < 0 => Ok(Some(whole(-1))),
+            Relation::IsZero if constant < 0 => Ok(Some(Frac::whole(-1))),
             _ => Ok(None),
         }
     }

@@ -2,7 +2,7 @@
 
 use crate::constraints::Constraint;
 use cs_columns::{
-    Columns, Named, Origin, Split, Stop, Sum, parts_of, primitive, quotient, split_at, whole,
+    Columns, Named, Origin, Split, Stop, Sum, parts_of, primitive, quotient, split_at,
 };
 use cs_farkas::Numbers;
 use cs_linear::Entry;
@@ -69,10 +69,10 @@ fn are_whole(all: &[Taken]) -> bool {
 
 /// A number that makes all factors whole.
 fn scale_of(entries: &[Entry]) -> Result<Frac, Stop> {
-    let mut scale = whole(1);
+    let mut scale = Frac::whole(1);
     for entry in entries {
         let den = entry.factor.mul(scale)?.den();
-        scale = scale.mul(whole(den))?;
+        scale = scale.mul(Frac::whole(den))?;
     }
     Ok(scale)
 }

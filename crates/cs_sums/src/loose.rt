@@ -1,7 +1,7 @@
 //! Values of columns that may be others as well: they are spread, so that no two of them are equal by chance.
 
 use crate::limits::Limits;
-use cs_columns::{Columns, Named, Origin, Stop, floor, turned, whole};
+use cs_columns::{Columns, Named, Origin, Stop, floor, turned};
 use cs_farkas::Numbers;
 use cs_linear::Entry;
 use std::alloc::Global;
@@ -38,7 +38,7 @@ fn tight(alloc: Global, columns: &Columns, limits: &Limits) -> Result<Vec<bool>,
 /// The next whole number at a value or above it; of Real the value.
 fn above(numbers: Numbers, value: Frac) -> Result<Frac, Stop> {
     match numbers {
-        Numbers::Int => turned(whole(floor(turned(value)?))),
+        Numbers::Int => turned(Frac::whole(floor(turned(value)?))),
         Numbers::Real => Ok(value),
     }
 }
@@ -46,14 +46,14 @@ fn above(numbers: Numbers, value: Frac) -> Result<Frac, Stop> {
 /// The next whole number at a value or below it; of Real the value.
 fn below(numbers: Numbers, value: Frac) -> Result<Frac, Stop> {
     match numbers {
-        Numbers::Int => Ok(whole(floor(value))),
+        Numbers::Int => Ok(Frac::whole(floor(value))),
         Numbers::Real => Ok(value),
     }
 }
 
 /// The value that a column gets which stands in no sum with a bound: the same where it is bounded on both sides.
 fn moved(limits: &Limits, numbers: Numbers, column: u32, value: Frac) -> Result<Frac, Stop> {
-    let apart = whole(i128::from(column).saturating_add(1).saturating_mul(STEP));
+    let apart = Frac::whole(i128::from(column).saturating_add(1).saturating_mul(STEP));
     match limits.sides(column) {
         (_, false) => Ok(above(numbers, value)?.add(apart)?),
         (false, true) => Ok(below(numbers, value)?.sub(apart)?),
@@ -63,7 +63,7 @@ fn moved(limits: &Limits, numbers: Numbers, column: u32, value: Frac) -> Result<
 
 /// The value of a sum.
 fn total(values: &[Frac], entries: &[Entry]) -> Result<Frac, Stop> {
-    let mut total = whole(0);
+    let mut total = Frac::whole(0);
     for entry in entries {
         let Some(value) = values.get(entry.column as usize) else {
             return Err(Stop::Miss);

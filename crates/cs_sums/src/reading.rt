@@ -1,6 +1,6 @@
 //! Numbered terms as sums of columns, and their values.
 
-use cs_columns::{Columns, Line, Stop, Sum, turned, whole};
+use cs_columns::{Columns, Line, Stop, Sum, turned};
 use cs_farkas::{Numbers, Reading, reading_of};
 use cs_table::{Head, Node};
 use std::alloc::Global;
@@ -80,8 +80,16 @@ pub fn line_between(
 ) -> Result<Line, Stop> {
     let layers = layers_of(nodes);
     let mut sum = Sum::new(alloc);
-    add_term(nodes, layers, numbers, whole(1), a, columns, &mut sum)?;
-    add_term(nodes, layers, numbers, whole(-1), b, columns, &mut sum)?;
+    add_term(nodes, layers, numbers, Frac::whole(1), a, columns, &mut sum)?;
+    add_term(
+        nodes,
+        layers,
+        numbers,
+        Frac::whole(-1),
+        b,
+        columns,
+        &mut sum,
+    )?;
     let sum = sum.tidied(alloc)?;
     columns.line_of(alloc, numbers, &sum)
 }
@@ -124,9 +132,9 @@ fn value_of_column(values: &[Frac], column: Option<u32>) -> Frac {
     match column {
         Some(column) => match values.get(column as usize) {
             Some(value) => *value,
-            None => whole(0),
+            None => Frac::whole(0),
         },
-        None => whole(0),
+        None => Frac::whole(0),
     }
 }
 

@@ -1,5 +1,5 @@
 -- What is written for a well-sorted term over declared symbols is read as one that says the same, or refused.
-use Rattle.std.proofs.Common.{◌≡◌, inl, inr, ◌⊎◌, ℕ, zero, suc, ◌<◌, ◌+◌, ◌*◌, ◌/◌, ◌^◌, not, ◌&&◌, true, false, List, [], ◌∷◌, ◌++◌, map, Option, Some, None, Result, Ok, Err, refl, ap, ◌∙◌, sym, subst, append_assoc, append-nil, codes, arith, pos, negsuc, ℤ}
+use Rattle.std.proofs.Common.{◌≡◌, inl, inr, ◌⊎◌, ℕ, zero, suc, ◌<◌, ◌+◌, ◌^◌, not, ◌&&◌, true, false, List, [], ◌∷◌, ◌++◌, map, Option, Some, None, Result, Ok, Err, refl, ap, ◌∙◌, sym, subst, append_assoc, append-nil, codes, arith, pos, negsuc, ℤ}
 use Rattle.std.specs.Prelude.{nat_abs}
 use Rattle.vx_sexp.specs.declared.token.Kind.{Kind}
 use Rattle.vx_sexp.specs.declared.token.Kind.TheVariants as kinds
@@ -7,6 +7,7 @@ use Rattle.vx_sexp.specs.declared.token.Token.{Token}
 use Rattle.vx_sexp.specs.declared.token.Token.TheVariants.{Close, Atom}
 use Rattle.vx_sexp.specs.Tokens.{is_empty}
 use Rattle.vx_frac.specs.Fractions.{Fraction, whole, lowest}
+use Rattle.vx_frac.proofs.Whole.{lowest_whole}
 use Rattle.vx_terms.specs.Sorts.{Sort, Symbol, Operator, And, Or}
 use Rattle.vx_terms.specs.Terms.{Term, Truth, Number, Part, Constant, Apply, Not, Binary, Ite, AllOf, SomeOf, Terms, NoTerms, MoreTerms}
 use Rattle.vx_terms.specs.Formed.{Formed, truth, number, part, constant, applies, nots, binary, ites, all_of, some_of, FormedAll, no_terms, more_terms, FormedBools, no_bools, more_bools}
@@ -174,15 +175,11 @@ module _ (scope : Scope) where
       parts_refused (codes "/") (Atom kinds.Decimal (written.decimal p) ∷ Atom kinds.Decimal (written.decimal (suc d + 1)) ∷ []) SlashHead refl
       (λ f fs rest. decimal_refused p wide (f ∷ fs) (Atom kinds.Decimal (written.decimal (suc d + 1)) ∷ rest))
 
-  lowest_whole : (n : ℕ) → lowest (whole (pos n)) ≡ whole (pos n)
-  unfolding lowest
-  lowest_whole n = let one : (n * 1) / 1 ≡ n = omega arith in ap (λ k. whole (pos k)) one
-
   -- the second is
   below_refused : (p d : ℕ) → p < 2 ^ 127 → number_below (2 ^ 127) (written.numeral (suc d + 1)) ≡ None → Refuses scope (written.quotient_tokens p (suc d))
   below_refused p d small wide =
       parts_refused (codes "/") (Atom kinds.Decimal (written.decimal p) ∷ Atom kinds.Decimal (written.decimal (suc d + 1)) ∷ []) SlashHead refl
-      (later_refused (Atom kinds.Decimal (written.decimal p) ∷ []) (Atom kinds.Decimal (written.decimal (suc d + 1)) ∷ []) (Part (whole (pos p))) (reads_part scope (pos p) 0 small (omega arith) (lowest_whole p))
+      (later_refused (Atom kinds.Decimal (written.decimal p) ∷ []) (Atom kinds.Decimal (written.decimal (suc d + 1)) ∷ []) (Part (whole (pos p))) (reads_part scope (pos p) 0 small (omega arith) (lowest_whole (pos p)))
       (λ f fs rest. decimal_refused (suc d + 1) wide (f ∷ fs) rest))
 
   -- behind a minus it is too

@@ -1,6 +1,6 @@
 -- Operators on values of all types, and the values and sorts of fields.
-use Rattle.std.proofs.Common.{◌≡◌, ℕ, ◌*◌, ◌/◌, Bool, true, false, not, cond, ◌&&◌, ◌⊎◌, inl, inr, pos, [], ◌∷◌, Option, Some, None, refl, sym, ◌∙◌, ap, subst, arith, true≢false}
-use Rattle.vx_frac.specs.Fractions.{Fraction, whole, same_fraction, at_most, is_below, lowest}
+use Rattle.std.proofs.Common.{◌≡◌, ℕ, Bool, true, false, not, cond, ◌&&◌, ◌⊎◌, inl, inr, [], ◌∷◌, Option, Some, None, refl, sym, ◌∙◌, ap, subst, true≢false}
+use Rattle.vx_frac.specs.Fractions.{Fraction, same_fraction, at_most, is_below, lowest}
 use Rattle.vx_ast.specs.declared.ValueType.{ValueType}
 use Rattle.vx_ast.specs.declared.ValueType.TheVariants.{Int, Perm}
 use Rattle.vx_ast.specs.declared.ValueType.TheVariants as type
@@ -86,10 +86,6 @@ operated_is i op v w Perm k e f =
     let a = perm_value_is v e in
     let b = perm_value_is w f in
     subst (λ x. IsOperated i op x w Perm) (sym a.1) (subst (λ y. IsOperated i op (PermValue a.0) y Perm) (sym b.1) (on_two_perms i op a.0 b.0 k))
-
-pub lowest-whole : (n : ℕ) → lowest (whole (pos n)) ≡ whole (pos n)
-unfolding lowest
-lowest-whole n = let e : (n * 1) / 1 ≡ n = omega arith in ap (λ (k : ℕ). whole (pos k)) e
 
 -- Fields
 

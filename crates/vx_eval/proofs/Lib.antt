@@ -1,4 +1,3 @@
 pub mod Given
-pub mod Wholes
 mod Sides
 mod Unfolded

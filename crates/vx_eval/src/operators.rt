@@ -50,7 +50,7 @@ fn is_real(t: &Term) -> Result<bool, AllocError>
 fn whole_part(alloc: Global, n: i128) -> Result<Rc<Term>, AllocError>
     ensures { IfOk result (λ t. held_term t ≡ written.Part (whole n)) }
 {
-    make::real(alloc, Frac::new(n, 1))
+    make::real(alloc, Frac::whole(n))
 }
 
 /// A numeral before a Perm is a Real.

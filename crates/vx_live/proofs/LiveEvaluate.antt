@@ -5,6 +5,7 @@ use Rattle.vx_ast.specs.declared.ValueType.{ValueType}
 use Rattle.vx_ast.specs.Syntax.{Name, Declaration, Program, Predicate, Function, predicate_named, function_named, Operator, Equal, Less, LessEqual, Greater, GreaterEqual, Add, Subtract, Multiply, Division, Quotient, Remainder, Connective, And, Or, Implies, Expr, Exprs}
 use Rattle.vx_frac.specs.Fractions.{whole, over, lowest}
 use Rattle.vx_frac.proofs.Lowest.{lowest-lowest}
+use Rattle.vx_frac.proofs.Whole.{lowest_whole}
 use Rattle.vx_terms.specs.Sorts.{IntSort, BoolSort, RealSort, same_sort}
 use Rattle.vx_terms.specs.Terms.{Term}
 use Rattle.vx_terms.specs.Terms as term
@@ -19,7 +20,7 @@ use Rattle.vx_rules.specs.Rules.{Giving, Going, GivingAll, Outer, short, is_tota
 use Rattle.vx_types.specs.Typing.{Scope, TakesType, gives_type, HasType, HaveTypes, no_more, more, variable, nulls, part, nots, operates, scales, divides, connects, chooses, reads, olds, applies, unfoldings}
 use Rattle.vx_types.specs.Typing as typed
 use Rattle.vx_elements.proofs.Elements.{as_amount_is, numeric}
-use Rattle.vx_elements.proofs.Values.{lowest-whole, sort_of_field, field_type_is}
+use Rattle.vx_elements.proofs.Values.{sort_of_field, field_type_is}
 use Rattle.vx_live.proofs.Speaks.{Speaks, AllSpeak}
 use Rattle.vx_live.proofs.Over.{Sorts, stays, above, Fine, fine_later, truth_fine, number_fine, null_fine, part_fine, positive_fine, negate_fine, and_fine, or_fine, implies_fine, equals_fine, ite_fine, less_fine, less_equal_fine, add_fine, subtract_fine, multiply_fine, div_fine, modulo_fine}
 use Rattle.vx_live.proofs.Shapes.{AllFine, Shaped, with_chunks, found_formed}
@@ -86,7 +87,7 @@ module _ {fs : List Declared} (P : Saying) (p : Program) (Held : Name → Type 0
         eval_live tb k.1 _ sh (λ u s1 le sh1 f.
         h (rule.operated Multiply (term.Number (pos n)) u) s1 le sh1
         (subst (λ s. Fine le.sorts s1.next (multiply (cond (same_sort s RealSort) (term.Part (whole (pos n))) (term.Number (pos n))) u) RealSort) (sym (sort_of_formed f.formed))
-        (multiply_fine (inr refl) (part_fine (whole (pos n)) (lowest-whole n)) f)))
+        (multiply_fine (inr refl) (part_fine (whole (pos n)) (lowest_whole (pos n))) f)))
     eval_live (divides {op = op} {b = b} ta tb) k on sh h =
         eval_live ta k.0 _ sh (λ t s1 le sh1 f.
         eval_live tb k.1 _ sh1 (λ u s2 le2 sh2 g.

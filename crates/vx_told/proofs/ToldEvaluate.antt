@@ -3,6 +3,7 @@ use Rattle.std.proofs.Common.{◌≡◌, ℕ, pos, Bool, true, false, not, cond,
 use Rattle.std.specs.Prelude.{Ok, Err}
 use Rattle.vx_frac.specs.Fractions.{Fraction, is_positive, whole, over, product, lowest}
 use Rattle.vx_frac.proofs.Lowest.{lowest-lowest}
+use Rattle.vx_frac.proofs.Whole.{lowest_whole}
 use Rattle.vx_ast.specs.declared.Place.{Place}
 use Rattle.vx_ast.specs.declared.ValueType.{ValueType}
 use Rattle.vx_ast.specs.declared.ValueType.TheVariants.{Int}
@@ -33,7 +34,7 @@ use Rattle.vx_elements.proofs.Settled.{Meaning, Extends, extends-refl, extends-t
 use Rattle.vx_elements.proofs.Built.{Good, good_later, good_negate, good_ite}
 use Rattle.vx_elements.proofs.Elements.{element, bool_value_is, int_value_is, operated_value, good_operated, divided_is, divided_value, good_divided, on_elements, on_division, on_bools, connected_value, good_connected}
 use Rattle.vx_elements.proofs.Truth.{good_null, good_product}
-use Rattle.vx_elements.proofs.Values.{ref_value_is, perm_value_is, operated_is, lowest-whole}
+use Rattle.vx_elements.proofs.Values.{ref_value_is, perm_value_is, operated_is}
 use Rattle.vx_sound.proofs.World.{at_field, World}
 use Rattle.vx_sound.proofs.Stands.{OwnStands, owned_old, owned_back, StoreStands, HeapStands, TermsStand, found_stands, term_later, heap_later}
 use Rattle.vx_sound.proofs.Candidates.{InstanceTerms}
@@ -335,7 +336,7 @@ module _ (means : Meaning) (world : World) (n : ℕ) (w : Walk means n) where
             let y = undo (fit p d c b) (λ w. or_fail at (operated Multiply (IntValue (pos z)) w)) v e in
             step_told means world n w _ (step_told means world n w _ (step_told means world n w _ (eval_told tb k.1 (λ u s2. Step (on (rule.operated Multiply (term.Number (pos z)) u) s2)) here y.is (λ j u s2 ext on2 g2 is2 t2.
             let a = perm_value_is y.it t2 in
-            let gp : Good means n j (term.Part (whole (pos z))) RealSort = record { formed = formed_part (whole (pos z)) (lowest-whole z); settled = tt } in
+            let gp : Good means n j (term.Part (whole (pos z))) RealSort = record { formed = formed_part (whole (pos z)) (lowest_whole (pos z)); settled = tt } in
             let same : rule.operated Multiply (term.Number (pos z)) u ≡ multiply (term.Part (whole (pos z))) u = ap (λ s. multiply (cond (same_sort s RealSort) (term.Part (whole (pos z))) (term.Number (pos z))) u) (sort_of_formed g2.formed) in
             step_told means world n w _ (shown on (rule.operated Multiply (term.Number (pos z)) u) (PermValue (product (whole (pos z)) a.0)) h ext on2 (sym (ap (λ w. or_fail at (operated Multiply (IntValue (pos z)) w)) a.1) ∙ y.then)
             (subst (λ t. Good means n j t RealSort) (sym same) (good_product means gp g2))
