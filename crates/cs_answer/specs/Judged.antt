@@ -12,7 +12,7 @@ use Rattle.cs_columns.specs.declared.stop.Stop.TheVariants as stops
 use Rattle.cs_farkas.specs.Sums as sums
 use Rattle.cs_meter.specs.Units.{limit}
 use Rattle.cs_model.specs.declared.tables.Model.{Model}
-use Rattle.cs_model.specs.Leaving.{OneLeaves}
+use Rattle.cs_model.specs.Leaving.{LeavesAmong}
 use Rattle.cs_model.specs.Models.{interpretation}
 use Rattle.cs_proof.specs.declared.step.Step.{Step}
 use Rattle.cs_proof.specs.Answers.{Answers}
@@ -45,7 +45,7 @@ module _ (stack : Stack) (m : Model) (misread : Option ℕ) where
   IsByModel (Ok (answers.Unknown cause)) = (IsModel → ⊥) × (n : ℕ) × (misread ≡ Some n) × (cause ≡ causes.Nonlinear n)
   IsByModel (Ok (answers.Refuted steps)) = ⊥
   IsByModel (Err stops.Miss) = (IsModel → ⊥) × IfSome misread (λ n. (is_nonlinear_at stack.assertions n && has_number stack.assertions) ≡ false)
-  IsByModel (Err (stops.Over c)) = OneLeaves (interpretation m.entries.items) c stack.assertions
+  IsByModel (Err (stops.Over c)) = LeavesAmong (interpretation m.entries.items) c stack.assertions
   IsByModel (Err stops.Budget) = ⊥
   IsByModel (Err stops.Want) = ⊤
 

@@ -7,7 +7,7 @@ use Rattle.vx_frac.specs.declared.Over.{Over}
 use Rattle.vx_terms.specs.Interpretations.{Interpretation}
 use Rattle.vx_terms.specs.Views.{term}
 use Rattle.vx_terms.specs.declared.term.Term.{Term}
-use Rattle.cs_model.specs.Leaving.{LeavesIn, OneLeaves, IsBy}
+use Rattle.cs_model.specs.Leaving.{LeavesIn, LeavesAmong, IfOver}
 use Rattle.cs_model.specs.declared.valuing.Stop.{Stop}
 use Rattle.cs_model.specs.declared.valuing.Stop.TheVariants as stops
 
@@ -16,15 +16,15 @@ pub passed_on : {T : Type 0} (r : Result T Stop) (s : Stop) (P : Stop → Type 0
 passed_on (Ok x) s P is h = absurd is
 passed_on (Err e) s P is h = subst P (sym is) h
 
-one_leaves : (i : Interpretation) (c : Over) (xs : List (Rc Term Global)) (k : ℕ) (d : Rc Term Global) → k < length xs → LeavesIn i c (term (get_or xs k d).value) → OneLeaves i c (map (λ x. term x.value) xs)
-one_leaves i c [] k d lt h = absurd (omega arith)
-one_leaves i c (x ∷ xs) zero d lt h = inl h
-one_leaves i c (x ∷ xs) (suc k) d lt h = inr (one_leaves i c xs k d (omega arith) h)
+leaves_among : (i : Interpretation) (c : Over) (xs : List (Rc Term Global)) (k : ℕ) (d : Rc Term Global) → k < length xs → LeavesIn i c (term (get_or xs k d).value) → LeavesAmong i c (map (λ x. term x.value) xs)
+leaves_among i c [] k d lt h = absurd (omega arith)
+leaves_among i c (x ∷ xs) zero d lt h = inl h
+leaves_among i c (x ∷ xs) (suc k) d lt h = inr (leaves_among i c xs k d (omega arith) h)
 
-by_here : (i : Interpretation) (xs : List (Rc Term Global)) (k : ℕ) (d : Rc Term Global) → k < length xs → (s : Stop) → IsBy (λ c. LeavesIn i c (term (get_or xs k d).value)) s → IsBy (λ c. OneLeaves i c (map (λ x. term x.value) xs)) s
-by_here i xs k d lt (stops.Over c) h = one_leaves i c xs k d lt h
+by_here : (i : Interpretation) (xs : List (Rc Term Global)) (k : ℕ) (d : Rc Term Global) → k < length xs → (s : Stop) → IfOver (λ c. LeavesIn i c (term (get_or xs k d).value)) s → IfOver (λ c. LeavesAmong i c (map (λ x. term x.value) xs)) s
+by_here i xs k d lt (stops.Over c) h = leaves_among i c xs k d lt h
 by_here i xs k d lt stops.Want h = tt
 
-pub by_one : (i : Interpretation) (xs : List (Rc Term Global)) (k : ℕ) (x : Rc Term Global) (t : Term) → k < length xs → x ≡ get_or xs k x → t ≡ x.value → (s : Stop) → IsBy (λ c. LeavesIn i c (term t)) s → IsBy (λ c. OneLeaves i c (map (λ x. term x.value) xs)) s
+pub by_one : (i : Interpretation) (xs : List (Rc Term Global)) (k : ℕ) (x : Rc Term Global) (t : Term) → k < length xs → x ≡ get_or xs k x → t ≡ x.value → (s : Stop) → IfOver (λ c. LeavesIn i c (term t)) s → IfOver (λ c. LeavesAmong i c (map (λ x. term x.value) xs)) s
 by_one i xs k x t lt at is s h =
-    by_here i xs k x lt s (subst (λ (y : Rc Term Global). IsBy (λ c. LeavesIn i c (term y.value)) s) at (subst (λ u. IsBy (λ c. LeavesIn i c (term u)) s) is h))
+    by_here i xs k x lt s (subst (λ (y : Rc Term Global). IfOver (λ c. LeavesIn i c (term y.value)) s) at (subst (λ u. IfOver (λ c. LeavesIn i c (term u)) s) is h))

@@ -39,24 +39,24 @@ LeavesAt _ d e c = ⊥
 -- some operator in the term makes the call, by the values of its operands
 abbrev mutual
   pub LeavesIn : Interpretation → Over → Term → Type 0
-  LeavesIn i c (Apply f a ts) = LeavesInOne i c ts
+  LeavesIn i c (Apply f a ts) = LeavesInParts i c ts
   LeavesIn i c (Not t) = LeavesIn i c t
   LeavesIn i c (Binary o t u) = LeavesIn i c t ⊎ (LeavesIn i c u ⊎ LeavesAt o (value i t) (value i u) c)
   LeavesIn i c (Ite b t u) = LeavesIn i c b ⊎ (LeavesIn i c t ⊎ LeavesIn i c u)
-  LeavesIn i c (AllOf ts) = LeavesInOne i c ts
-  LeavesIn i c (SomeOf ts) = LeavesInOne i c ts
+  LeavesIn i c (AllOf ts) = LeavesInParts i c ts
+  LeavesIn i c (SomeOf ts) = LeavesInParts i c ts
   LeavesIn i c _ = ⊥
 
-  pub LeavesInOne : Interpretation → Over → Terms → Type 0
-  LeavesInOne i c NoTerms = ⊥
-  LeavesInOne i c (MoreTerms t ts) = LeavesIn i c t ⊎ LeavesInOne i c ts
+  pub LeavesInParts : Interpretation → Over → Terms → Type 0
+  LeavesInParts i c NoTerms = ⊥
+  LeavesInParts i c (MoreTerms t ts) = LeavesIn i c t ⊎ LeavesInParts i c ts
 
--- one of the terms does
-abbrev pub OneLeaves : Interpretation → Over → List Term → Type 0
-OneLeaves i c [] = ⊥
-OneLeaves i c (t ∷ ts) = LeavesIn i c t ⊎ OneLeaves i c ts
+-- some operator in one of the terms does
+abbrev pub LeavesAmong : Interpretation → Over → List Term → Type 0
+LeavesAmong i c [] = ⊥
+LeavesAmong i c (t ∷ ts) = LeavesIn i c t ⊎ LeavesAmong i c ts
 
--- of a stop: where it isn't want of memory, this holds of its call
-abbrev pub IsBy : (Over → Type 0) → Stop → Type 0
-IsBy P (stops.Over c) = P c
-IsBy P stops.Want = ⊤
+-- of a stop: where it is a call's, this holds of the call
+abbrev pub IfOver : (Over → Type 0) → Stop → Type 0
+IfOver P (stops.Over c) = P c
+IfOver P stops.Want = ⊤

@@ -4,7 +4,7 @@ ghost use Rattle.vx_terms.specs.Interpretations as clean;
 ghost use Rattle.vx_terms.specs.Interpretations.{AllTrue};
 ghost use Rattle.vx_terms.specs.Views.{term, terms};
 ghost use Rattle.cs_model.specs.Elements.{element, elements};
-ghost use Rattle.cs_model.specs.Leaving.{LeavesIn, LeavesInOne, OneLeaves, IsBy};
+ghost use Rattle.cs_model.specs.Leaving.{LeavesIn, LeavesInParts, LeavesAmong, IfOver};
 ghost use Rattle.cs_model.specs.Models.{interpretation};
 
 use crate::elements::{Element, as_sort, operate};
@@ -78,7 +78,7 @@ fn is_true(e: Element) -> bool
 #[cycle(evaluating)]
 pub fn evaluate(alloc: Global, model: &Model, t: &Term) -> Result<Element, Stop>
     ensures value { IfOk result (λ e. element e ≡ clean.value (interpretation model.now.entries.items) (term t.now)) }
-    ensures over { IfErr result (IsBy (λ c. LeavesIn (interpretation model.now.entries.items) c (term t.now))) }
+    ensures over { IfErr result (IfOver (λ c. LeavesIn (interpretation model.now.entries.items) c (term t.now))) }
 {
     match t {
         Term::Truth(b) => Ok(Element::Bool(*b)),
@@ -111,7 +111,7 @@ pub fn evaluate(alloc: Global, model: &Model, t: &Term) -> Result<Element, Stop>
 #[cycle(evaluating)]
 fn are_true(alloc: Global, model: &Model, parts: &Terms) -> Result<bool, Stop>
     ensures value { IfOk result (λ b. b ≡ clean.all_true (clean.values (interpretation model.now.entries.items) (terms parts.now))) }
-    ensures over { IfErr result (IsBy (λ c. LeavesInOne (interpretation model.now.entries.items) c (terms parts.now))) }
+    ensures over { IfErr result (IfOver (λ c. LeavesInParts (interpretation model.now.entries.items) c (terms parts.now))) }
 {
     match parts {
         Terms::None => Ok(true),
@@ -127,7 +127,7 @@ fn are_true(alloc: Global, model: &Model, parts: &Terms) -> Result<bool, Stop>
 #[cycle(evaluating)]
 fn is_one_true(alloc: Global, model: &Model, parts: &Terms) -> Result<bool, Stop>
     ensures value { IfOk result (λ b. b ≡ clean.some_true (clean.values (interpretation model.now.entries.items) (terms parts.now))) }
-    ensures over { IfErr result (IsBy (λ c. LeavesInOne (interpretation model.now.entries.items) c (terms parts.now))) }
+    ensures over { IfErr result (IfOver (λ c. LeavesInParts (interpretation model.now.entries.items) c (terms parts.now))) }
 {
     match parts {
         Terms::None => Ok(false),
@@ -148,7 +148,7 @@ fn evaluate_all(
     values: &mut Vec<Element>,
 ) -> Result<(), Stop>
     ensures values { OnOk result (elements values.new.items ≡ elements values.old.items ++ clean.values (interpretation model.now.entries.items) (terms parts.now)) }
-    ensures over { IfErr result (IsBy (λ c. LeavesInOne (interpretation model.now.entries.items) c (terms parts.now))) }
+    ensures over { IfErr result (IfOver (λ c. LeavesInParts (interpretation model.now.entries.items) c (terms parts.now))) }
 {
     match parts {
         Terms::None => Ok(()),
@@ -167,7 +167,7 @@ fn evaluate_all(
 /// Those of `evaluate`, at one of the assertions.
 pub fn is_model(alloc: Global, model: &Model, assertions: &[Rc<Term>]) -> Result<bool, Stop>
     ensures value { IfOk result (λ b. IsTrue b ↔ AllTrue (interpretation model.now.entries.items) (map (λ x. term x.value) assertions.now)) }
-    ensures over { IfErr result (IsBy (λ c. OneLeaves (interpretation model.now.entries.items) c (map (λ x. term x.value) assertions.now))) }
+    ensures over { IfErr result (IfOver (λ c. LeavesAmong (interpretation model.now.entries.items) c (map (λ x. term x.value) assertions.now))) }
 {
     for assertion in assertions {
         if !is_true(evaluate(alloc, model, assertion)?) {
