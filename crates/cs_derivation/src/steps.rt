@@ -31,7 +31,7 @@ impl Derivation {
                     return Err(Want);
                 }
                 self.tries += 1;
-                Ok(refutes_by(&mut self.marks, &self.clauses, assumed, hints))
+                Ok(refutes_by(&mut self.marks, &self.clauses, &assumed.literals, hints))
             }
             Duty::Named | Duty::Missed | Duty::Sum(_, _) => Ok(false),
         }

@@ -17,9 +17,14 @@ pub enum Left {
 }
 
 /// A list of literals.
-#[derive(Drop)]
 pub struct Clause {
     pub literals: Vec<Literal>,
+}
+
+impl Drop for Clause {
+    fn drop(self) {
+        let Self { literals } = self;
+    }
 }
 
 mod marks;

@@ -38,10 +38,10 @@ duty duties'.Named = Named
 duty duties'.Derived = Derived
 duty duties'.Missed = Missed
 duty (duties'.Sum n c) = Sum n (combination c)
-duty (duties'.Hints ls hs) = Hints ls.items hs.items
+duty (duties'.Hints c hs) = Hints c.literals.items hs.items
 
 abbrev pub assumed_in : Duty' → List Literal
-assumed_in (duties'.Hints ls hs) = ls.items
+assumed_in (duties'.Hints c hs) = c.literals.items
 assumed_in d = []
 
 -- what is assumed names the first n terms

@@ -82,7 +82,7 @@ fn meet(
             Ok(derived + 1)
         }
         Duty::Hints(assumed, hints) => {
-            if refutes_by(marks, first(clauses, derived), assumed, hints) {
+            if refutes_by(marks, first(clauses, derived), &assumed.literals, hints) {
                 Ok(derived + 1)
             } else {
                 Err(Break::Miss)

@@ -35,7 +35,7 @@ pub enum Duty {
     /// The constraints, over so many terms, add up to a contradiction.
     Sum(u32, Combination),
     /// The hints refute what is assumed.
-    Hints(Vec<cs_hints::Literal>, Vec<u32>),
+    Hints(Clause, Vec<u32>),
 }
 
 /// `input`: an assertion, by the number of its term.
@@ -140,7 +140,7 @@ fn propagation(
     let assumed = clause_within(alloc, all.len(), &turned(alloc, &literals)?)?;
     let clause = clause_within(alloc, all.len(), &literals)?;
     let hints = saturated(alloc, hints)?;
-    Ok((Duty::Hints(assumed.literals, hints), clause))
+    Ok((Duty::Hints(assumed, hints), clause))
 }
 
 fn derived(alloc: Global, all: &Table, roots: &[u32], step: &Step) -> Result<(Duty, Clause), Stop>
