@@ -76,7 +76,8 @@ pub fn is_nonlinear_at(alloc: Global, assertions: &[Rc<Term>], at: u32) -> Resul
 fn is_number(t: &Term) -> Result<bool, AllocError>
     ensures { IfOk result (λ b. b ≡ clean.is_number (term t.now)) }
 {
-    match t.sort()? {
+    let sort = t.sort()?;
+    match &sort {
         Sort::Int | Sort::Real => Ok(true),
         Sort::Bool | Sort::Ref | Sort::Snap | Sort::Other(_) => Ok(false),
     }

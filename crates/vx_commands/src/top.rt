@@ -25,10 +25,15 @@ use vx_words::{Order, Text, WordsFault, read_words};
 
 /// How the program ended: its status, and what became of each member with a line, in file order. There are no runs
 /// with the statuses of refused words and texts and of want of memory.
-#[derive(Drop)]
 pub struct Ended {
     pub status: Status,
     pub runs: Runs,
+}
+
+impl Drop for Ended {
+    fn drop(self) {
+        let Self { status, runs } = self;
+    }
 }
 
 // The name of a file, or none.

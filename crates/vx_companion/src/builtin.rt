@@ -177,21 +177,35 @@ impl Link for CompanionLink {
 
 /// A link that was handed back: what is kept of any link, and why its replies were undecided, one cause for each of these
 /// replies, in order.
-#[derive(Drop)]
 pub struct EndedLink {
     pub ending: Ending,
     pub causes: Vec<Cause>,
     ghost right: { RepliesByCompanion ending.dialogue causes.items },
 }
 
+impl Drop for EndedLink {
+    fn drop(self) {
+        let Self { ending, causes } = self;
+    }
+}
+
 /// Starts companions. Its command is the one word `builtin`.
-#[derive(Drop)]
 pub struct Builtin {
     starts: Vec<Start>,
     // the lane of each link that is out
     lanes_out: Vec<u32>,
     ended: Vec<EndedLink>,
     ghost room: { vec_len ended + vec_len lanes_out ≤ vec_capacity ended },
+}
+
+impl Drop for Builtin {
+    fn drop(self) {
+        let Self {
+            starts,
+            lanes_out,
+            ended,
+        } = self;
+    }
 }
 
 impl Builtin {

@@ -5,7 +5,6 @@ use vx_ends::Bytes;
 use vx_rules::{Code, Reply};
 
 /// Why a member has no verdict of its own.
-#[derive(Drop)]
 pub enum Cause {
     /// The pipe to its child failed.
     Pipe,
@@ -17,8 +16,16 @@ pub enum Cause {
     Reply(Bytes),
 }
 
+impl Drop for Cause {
+    fn drop(self) {
+        match self {
+            Cause::Pipe | Cause::Start | Cause::Spent => {}
+            Cause::Reply(_kept) => {}
+        }
+    }
+}
+
 /// A member's verdict.
-#[derive(Drop)]
 pub enum Verdict {
     /// Its walk passed, and the walks of all members that it leads to.
     Verified,
@@ -35,9 +42,23 @@ pub enum Verdict {
     Fault(Cause),
 }
 
+impl Drop for Verdict {
+    fn drop(self) {
+        match self {
+            Verdict::Verified | Verdict::Limit => {}
+            Verdict::Failed {
+                place: _place,
+                code: _code,
+                reply: _reply,
+            } => {}
+            Verdict::Rests(_member) => {}
+            Verdict::Fault(_cause) => {}
+        }
+    }
+}
+
 /// A member with its checks: `first` to `first + checks - 1`, counted from 0, of the dialogue of the child numbered
 /// `child`, counted from 0, of its lane.
-#[derive(Drop)]
 pub struct MemberRun {
     pub member: MemberId,
     pub lane: u32,
@@ -45,4 +66,17 @@ pub struct MemberRun {
     pub first: u64,
     pub checks: u32,
     pub verdict: Verdict,
+}
+
+impl Drop for MemberRun {
+    fn drop(self) {
+        let Self {
+            member,
+            lane,
+            child,
+            first,
+            checks,
+            verdict,
+        } = self;
+    }
 }

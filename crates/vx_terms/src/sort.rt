@@ -3,7 +3,6 @@
 use std::rc::Rc;
 
 /// A sort: of SMT-LIB's theories, of the preamble, or another declared one by its name.
-#[derive(Drop)]
 pub enum Sort {
     Int,
     Bool,
@@ -11,4 +10,13 @@ pub enum Sort {
     Ref,
     Snap,
     Other(Rc<String>),
+}
+
+impl Drop for Sort {
+    fn drop(self) {
+        match self {
+            Sort::Int | Sort::Bool | Sort::Real | Sort::Ref | Sort::Snap => {}
+            Sort::Other(_name) => {}
+        }
+    }
 }
