@@ -12,12 +12,15 @@ fn read_buffer(alloc: Global) -> Result<Vec<u8>, AllocError> {
     vec![in alloc; 0u8; 65_536]
 }
 
+// A child process of the system.
+type Process = <HostRuntime as Processes>::Started;
+
 /// The pipes to one child. Its record is what it gave to the child's `write` and got from its `read`; a piece takes no
 /// more room than its bytes.
-pub struct ChildLink<P: OpenProcess> {
-    child: Child<P>,
-    input: P::Stdin,
-    output: P::Stdout,
+pub struct ChildLink {
+    child: Child<Process>,
+    input: <Process as OpenProcess>::Stdin,
+    output: <Process as OpenProcess>::Stdout,
     // where the child's output is read to; so many bytes at its front were not got yet
     buffer: Vec<u8>,
     ready: usize,
@@ -25,7 +28,7 @@ pub struct ChildLink<P: OpenProcess> {
     faults: u64,
 }
 
-impl<P: OpenProcess> ChildLink<P> {
+impl ChildLink {
     // Reads, at most so many bytes, where none are ready. None are then at the end of the output, or where reading fails.
     fn fill(&mut self, max: usize)
         ensures pieces { self.new.pieces ≡ self.old.pieces }
@@ -53,7 +56,7 @@ impl<P: OpenProcess> ChildLink<P> {
     }
 }
 
-impl<P: OpenProcess> Link for ChildLink<P> {
+impl Link for ChildLink {
     ghost dialogue = { λ l. l.pieces };
 
     ghost faults = { λ l. l.faults };
@@ -93,8 +96,8 @@ impl<P: OpenProcess> Link for ChildLink<P> {
 
 /// Starts child processes, with piped standard input and output.
 #[derive(Drop)]
-pub struct ChildSpawner<R> {
-    processes: R,
+pub struct ChildSpawner<'a> {
+    processes: &'a HostRuntime,
     starts: Vec<Start>,
     // the lane of each link that is out
     lanes_out: Vec<u32>,
@@ -103,8 +106,8 @@ pub struct ChildSpawner<R> {
     ghost room: { vec_len ended + vec_len lanes_out ≤ vec_capacity ended },
 }
 
-impl<R: Processes> ChildSpawner<R> {
-    pub fn new(alloc: Global, processes: R) -> ChildSpawner<R>
+impl<'a> ChildSpawner<'a> {
+    pub fn new(alloc: Global, processes: &'a HostRuntime) -> ChildSpawner<'a>
         ensures starts { result.starts.items ≡ [] }
         ensures out { result.lanes_out.items ≡ [] }
         ensures ended { result.ended.items ≡ [] }
@@ -121,11 +124,7 @@ impl<R: Processes> ChildSpawner<R> {
 }
 
 // A child that runs this command, with piped standard input and output.
-fn spawn<R: Processes>(
-    alloc: Global,
-    processes: &R,
-    command: &Parts,
-) -> io::Result<Child<R::Started>> {
+fn spawn(alloc: Global, processes: &HostRuntime, command: &Parts) -> io::Result<Child<Process>> {
     if command.len() == 0 {
         return Err(io::Error::from(ErrorKind::InvalidInput));
     }
@@ -140,8 +139,8 @@ fn spawn<R: Processes>(
         .spawn(processes)
 }
 
-impl<R: Processes> Spawner for ChildSpawner<R> {
-    type Link = ChildLink<R::Started>;
+impl Spawner for ChildSpawner<'_> {
+    type Link = ChildLink;
 
     ghost starts = { λ s. s.starts.items };
 
@@ -158,14 +157,14 @@ impl<R: Processes> Spawner for ChildSpawner<R> {
         alloc: Global,
         lane: u32,
         command: &Parts,
-    ) -> Result<ChildLink<R::Started>, StartFault> {
+    ) -> Result<ChildLink, StartFault> {
         let kept = command.copy(alloc)?;
         self.lanes_out.reserve(1)?;
         let room = self.lanes_out.len() + 1;
         self.ended.reserve(room)?;
         self.starts.reserve(1)?;
         let buffer = read_buffer(alloc)?;
-        let child = spawn(alloc, &self.processes, command);
+        let child = spawn(alloc, self.processes, command);
         if let Err(error) = &child
             && error.kind() == ErrorKind::OutOfMemory
         {
@@ -199,7 +198,7 @@ impl<R: Processes> Spawner for ChildSpawner<R> {
         Err(StartFault::Failed)
     }
 
-    fn finish(&mut self, lane: u32, link: ChildLink<R::Started>) {
+    fn finish(&mut self, lane: u32, link: ChildLink) {
         remove_once(&mut self.lanes_out, lane);
         let ChildLink {
             mut child,

@@ -3,7 +3,7 @@ ghost use Rattle.std.specs.Prelude.{◌≡◌, ◌≤◌, [], None, length, IfOk
 
 use std::alloc::{AllocError, Global};
 use std::io::{ErrorKind, Input, Read};
-use std::{fs, io, rt};
+use std::{fs, io};
 use vx_ends::{Bytes, Files, LoadFault};
 
 /// The longest text that is loaded.
@@ -11,14 +11,14 @@ const MAX_TEXT: usize = 4_194_304;
 
 /// The system's files. No name means standard input.
 #[derive(Drop)]
-pub struct DiskFiles<R> {
-    system: R,
+pub struct DiskFiles<'a> {
+    system: &'a HostRuntime,
     asked: Vec<Option<Bytes>>,
     faults: u64,
 }
 
-impl<R: rt::Files + Input> DiskFiles<R> {
-    pub fn new(alloc: Global, system: R) -> DiskFiles<R>
+impl<'a> DiskFiles<'a> {
+    pub fn new(alloc: Global, system: &'a HostRuntime) -> DiskFiles<'a>
         ensures { (result.asked.items ≡ []) × (result.faults ≡ 0) }
     {
         DiskFiles {
@@ -61,11 +61,7 @@ fn read_text<T: Read + Drop>(alloc: Global, input: T) -> Result<Vec<u8>, LoadFau
     Ok(bytes)
 }
 
-fn read_named<R: rt::Files + Input>(
-    alloc: Global,
-    system: &R,
-    name: Option<&str>,
-) -> Result<Vec<u8>, LoadFault>
+fn read_named(alloc: Global, system: &HostRuntime, name: Option<&str>) -> Result<Vec<u8>, LoadFault>
     ensures { IfOk result (λ bytes. length bytes.items ≤ MAX_TEXT) }
 {
     match name {
@@ -77,7 +73,7 @@ fn read_named<R: rt::Files + Input>(
     }
 }
 
-impl<R: rt::Files + Input> Files for DiskFiles<R> {
+impl Files for DiskFiles<'_> {
     ghost holds = { λ _ _. None };
 
     ghost asked = { λ f. f.asked.items };
@@ -87,7 +83,7 @@ impl<R: rt::Files + Input> Files for DiskFiles<R> {
     fn load(&mut self, alloc: Global, name: Option<&str>) -> Result<Vec<u8>, LoadFault> {
         let kept = copy_name(alloc, name)?;
         self.asked.reserve(1)?;
-        let loaded = read_named(alloc, &self.system, name);
+        let loaded = read_named(alloc, self.system, name);
         match &loaded {
             Err(LoadFault::Want) => return loaded,
             Err(LoadFault::Failed) => self.faults = self.faults.saturating_add(1),

@@ -2,7 +2,7 @@
 
 use crate::ends::{put_child_answer, put_companion_answer, put_file};
 use std::alloc::{AllocError, Global};
-use vx_commands::{Ended, run};
+use vx_commands::run;
 use vx_companion::Builtin;
 use vx_edge::ChildSpawner;
 use vx_ends::{Bytes, Ending, MemFiles, MemSink, NamedText, Piece, Script, ScriptSpawner, Spawner};
@@ -80,11 +80,11 @@ fn put_run_by<W: Spawner>(
     let mut files = input(alloc, row)?;
     let mut sink = MemSink::new(alloc, row.room)?;
     let mut builtin = Builtin::new(alloc);
-    let Ended { status, runs } = run(alloc, &words, &mut files, &mut sink, spawner, &mut builtin);
+    let ended = run(alloc, &words, &mut files, &mut sink, spawner, &mut builtin);
     out.put_indented(sink.taken());
-    put_kept(&runs, out);
+    put_kept(&ended.runs, out);
     out.put("  status ");
-    out.natural(u128::from(status.number()));
+    out.natural(u128::from(ended.status.number()));
     out.put("\n");
     Ok(())
 }
