@@ -1,5 +1,4 @@
 pub mod Turns
-pub mod Rows
 pub mod Members
 pub mod Answered
 pub mod Spelled

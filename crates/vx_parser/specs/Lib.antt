@@ -4,5 +4,4 @@ pub mod Halting
 pub mod Parts
 pub mod Refusing
 pub mod Spelling
-pub mod StmtPart
 pub mod Views

@@ -4,7 +4,6 @@
 mod fault;
 mod member;
 mod program;
-mod stmt;
 mod stop;
 
 pub use fault::TextFault;

@@ -11,7 +11,6 @@ ghost use Rattle.vx_parser.specs.Halting.{GivesMember, MemberStops, Answer, Halt
 ghost use Rattle.vx_parser.specs.Parts.{head_behind, method_behind};
 ghost use Rattle.vx_parser.specs.Views.{clauses_of, declarations_of, head_of};
 
-use crate::stmt::{begins_measure, block, clause, is_measure, skip_semicolon};
 use crate::stop::MemberStop;
 use std::alloc::{AllocError, Global};
 use std::rc::Rc;
@@ -22,6 +21,7 @@ use vx_ast::{
 use vx_expr_parser::{
     Read, Stop, declaration, expect, is_symbol, name, nested_choice, parameters, value_type,
 };
+use vx_stmt_parser::{begins_measure, block, clause, is_measure, skip_semicolon};
 use vx_tokens::{Kind, Symbol, Token, Word};
 
 /// The nesting limit.

@@ -19,7 +19,6 @@ ghost use Rattle.vx_parser.specs.declared.stop.MemberStop.TheVariants.{Stopped};
 
 use crate::fault::TextFault;
 use crate::member::member;
-use crate::stmt::skip_semicolon;
 use crate::stop::MemberStop;
 use std::alloc::{AllocError, AllocFailed, Global};
 use std::str;
@@ -28,6 +27,7 @@ use vx_expr_parser::Stop;
 use vx_grammar::{
     measures_are_told, programs_are_spelled, reading_stops_at_first, spelled_programs_are_read,
 };
+use vx_stmt_parser::skip_semicolon;
 use vx_tokens::{Ending, Kind, MAX_TEXT, Symbol, Token, Word, end_of, lex};
 
 /// The most members of a program.

@@ -4,10 +4,10 @@ use Rattle.std.proofs.lemmas.List.{map-append}
 use Rattle.vx_tokens.specs.Tokens.{token_of, tokens_in}
 use Rattle.vx_grammar.specs.StmtReading.{stmts_below, stmt_turn}
 use Rattle.vx_grammar.specs.Nesting.{stmt_is_full}
-use Rattle.vx_parser.specs.Views.{stmt_of}
+use Rattle.vx_stmt_parser.specs.Views.{stmt_of}
 use Rattle.vx_expr_parser.proofs.Turns.{goes_on, is_over, is_done, halts, empty_tokens}
-use Rattle.vx_parser.proofs.Turns.{stmt_on, stmt_over, stmt_end, stmt_stops, stmt_nested_is}
-use Rattle.vx_parser.proofs.stmt.+stmt.Goals as goal
+use Rattle.vx_stmt_parser.proofs.Turns.{stmt_on, stmt_over, stmt_end, stmt_stops, stmt_nested_is}
+use Rattle.vx_stmt_parser.proofs.stmt.+stmt.Goals as goal
 
 pub statements-returns-in_default : goal.statements-returns-in_default
 statements-returns-in_default t c =

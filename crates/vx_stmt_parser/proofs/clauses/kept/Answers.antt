@@ -11,8 +11,8 @@ use Rattle.vx_grammar.specs.StmtReading.{invariant_turn, clause_at}
 use Rattle.vx_expr_parser.specs.Gives.{Stops}
 use Rattle.vx_expr_parser.specs.Views.{exprs_of}
 use Rattle.vx_expr_parser.proofs.Turns.{goes_on, is_over, is_done, halts, empty_tokens}
-use Rattle.vx_parser.proofs.Turns.{invariant_on, invariant_over, invariant_end, invariant_stops}
-use Rattle.vx_parser.proofs.stmt.kept.Goals as goal
+use Rattle.vx_stmt_parser.proofs.Turns.{invariant_on, invariant_over, invariant_end, invariant_stops}
+use Rattle.vx_stmt_parser.proofs.clauses.kept.Goals as goal
 
 long : (v : Vec (Rc the_expr.Expr Global)) → vec_len v ≡ length v.items
 long v = search rules

@@ -2,8 +2,8 @@ use Rattle.std.proofs.Common.{◌≡◌, ◌+◌, ◌-◌, ◌*◌, length, map}
 use Rattle.vx_tokens.specs.Tokens.{tokens_in}
 use Rattle.vx_grammar.specs.Reading.{run}
 use Rattle.vx_grammar.specs.StmtReading.{stmt_turn, stmts_at, stmts_below}
-use Rattle.vx_parser.specs.Views.{stmt_of}
-use Rattle.vx_parser.proofs.stmt.+stmt.Given as goal
+use Rattle.vx_stmt_parser.specs.Views.{stmt_of}
+use Rattle.vx_stmt_parser.proofs.stmt.+stmt.Given as goal
 
 abbrev pub decreases-nested_statements : goal.decreases-nested_statements
 decreases-nested_statements l = 8 * l.room

@@ -3,7 +3,7 @@ use Rattle.vx_tokens.specs.Tokens.{tokens_in}
 use Rattle.vx_grammar.specs.Reading.{run}
 use Rattle.vx_grammar.specs.StmtReading.{invariant_turn}
 use Rattle.vx_expr_parser.specs.Views.{exprs_of}
-use Rattle.vx_parser.proofs.stmt.kept.Given as goal
+use Rattle.vx_stmt_parser.proofs.clauses.kept.Given as goal
 
 -- the invariants so far, and those of what is left
 abbrev pub invariant-loop : goal.invariant-loop

@@ -3,8 +3,8 @@ use Rattle.vx_tokens.specs.Tokens.{Token, tokens_in}
 use Rattle.vx_ast.specs.Written.{Exprs, written_all}
 use Rattle.vx_expr_parser.specs.Views.{exprs_of}
 use Rattle.vx_expr_parser.proofs.Rows.{all_items}
-use Rattle.vx_parser.proofs.Turns.{invariants_is}
-use Rattle.vx_parser.proofs.stmt.invariants.Goals as goal
+use Rattle.vx_stmt_parser.proofs.Turns.{invariants_is}
+use Rattle.vx_stmt_parser.proofs.clauses.invariants.Goals as goal
 
 pub returns : goal.returns
 returns c =

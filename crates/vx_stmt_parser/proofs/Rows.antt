@@ -6,7 +6,7 @@ use Rattle.vx_ast.specs.declared.Block as the_block
 use Rattle.vx_ast.specs.declared.Block.{Row_of-Stmt, end_of-Stmt, more_of-Stmt, items-the_row-Stmt, items_hidden-the_row-Stmt-0}
 use Rattle.vx_ast.specs.Written.{Then, written_stmt, written_stmts}
 use Rattle.vx_grammar.specs.StmtReading.{block_from}
-use Rattle.vx_parser.specs.Views.{stmt_of, block_of}
+use Rattle.vx_stmt_parser.specs.Views.{stmt_of, block_of}
 
 pub row_items : (n : _) (k : Row_of-Stmt n) → written_stmts k ≡ block_from (map stmt_of (items-the_row-Stmt n k))
 row_items n end_of-Stmt = refl

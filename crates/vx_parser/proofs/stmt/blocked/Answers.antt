@@ -1,5 +1,0 @@
-use Rattle.vx_parser.proofs.Rows.{block_items}
-use Rattle.vx_parser.proofs.stmt.blocked.Goals as goal
-
-pub returns : goal.returns
-returns c = block_items c.args.statements
