@@ -7,7 +7,7 @@ use Rattle.vx_frac.specs.declared.Frac.{Frac}
 use Rattle.vx_frac.specs.Fraction.{fraction}
 use Rattle.vx_frac.specs.Fractions.{none, lowest, same_fraction}
 use Rattle.vx_frac.proofs.Lowest.{lowest-same}
-use Rattle.vx_frac.proofs.Reduced.{lowest-fraction}
+use Rattle.vx_frac.proofs.Reduced.{lowest_fraction}
 use Rattle.vx_frac.proofs.Sums.{equal_ints}
 use Rattle.vx_terms.proofs.Same.{int_is, and_parts}
 use Rattle.cs_farkas.specs.Columns.{others_in}
@@ -35,7 +35,7 @@ unfolding lowest
 zero_is f e =
     let z : f.num ≡ pos 0 = int_is f.num (pos 0) e in
     let same : same_fraction (fraction f) none ≡ true = equal_ints _ _ (zero_cross f.num (unsigned_abs f.den - 1) z) in
-    sym (lowest-fraction f) ∙ lowest-same (fraction f) none same
+    sym (lowest_fraction f) ∙ lowest-same (fraction f) none same
 
 pub all_none : (fs : List Frac) → list_all is_zero (map fraction fs) ≡ true → map fraction fs ≡ replicate (length fs) none
 all_none [] e = refl

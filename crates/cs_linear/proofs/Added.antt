@@ -6,7 +6,7 @@ use Rattle.std.proofs.lemmas.Option.{slice_get_within}
 use Rattle.vx_frac.specs.Fractions.{Fraction, none, full, lowest}
 use Rattle.vx_frac.specs.Fraction.{fraction}
 use Rattle.vx_frac.specs.declared.Frac.{Frac}
-use Rattle.vx_frac.proofs.Reduced.{lowest-fraction}
+use Rattle.vx_frac.proofs.Reduced.{lowest_fraction}
 use Rattle.cs_linear.specs.Numbers.{plus, times}
 use Rattle.cs_linear.specs.declared.rows.Entry.{Entry}
 use Rattle.cs_linear.specs.declared.rows.Row.{Row}
@@ -87,7 +87,7 @@ more_tableau rows homes r t b f u up = record {
 pub more_solves : (rows : List Row) (homes : Homes) (r : Row) (vs : List Frac) (x : Frac) → IsTableau rows homes → length vs ≡ length homes → r.basic ≡ length homes → AreFree homes r.entries.items → fraction x ≡ total r.entries.items (values vs) → Solves rows (values vs) → Solves (rows ++ r ∷ []) (values (vs ++ x ∷ []))
 more_solves rows homes r vs x t len b f is s =
     each_more (λ i (n : Row). Holds (values (vs ++ x ∷ [])) n) rows r (wide_solves rows homes vs x t len s)
-    (ap (λ k. lowest (values (vs ++ x ∷ []) k)) (b ∙ sym len) ∙ ap (λ o. lowest (value o)) (last_is vs x) ∙ lowest-fraction x ∙ is ∙ sym (wide_total vs x homes r.entries.items len f))
+    (ap (λ k. lowest (values (vs ++ x ∷ []) k)) (b ∙ sym len) ∙ ap (λ o. lowest (value o)) (last_is vs x) ∙ lowest_fraction x ∙ is ∙ sym (wide_total vs x homes r.entries.items len f))
 
 solves_front : (rows : List Row) (r : Row) (a : Assignment) → Solves (rows ++ r ∷ []) a → Solves rows a
 solves_front rows r a h i n en = h i n (still rows r n i en)

@@ -6,7 +6,7 @@ use Rattle.std.proofs.lemmas.Option.{slice_get_within, get_or_from_slice_get}
 use Rattle.vx_frac.specs.Fractions.{Fraction, none, lowest}
 use Rattle.vx_frac.specs.Fraction.{fraction}
 use Rattle.vx_frac.specs.declared.Frac.{Frac}
-use Rattle.vx_frac.proofs.Reduced.{lowest-fraction}
+use Rattle.vx_frac.proofs.Reduced.{lowest_fraction}
 use Rattle.vx_amounts.proofs.Amounts.{le-refl}
 use Rattle.cs_linear.specs.Numbers.{plus, times}
 use Rattle.cs_linear.specs.Amounts.{Amount, pair, amount, has_sign}
@@ -53,7 +53,7 @@ factor_is n [] i e h is = absurd (nothing i is) where
   nothing (suc i) is = cc
 factor_is n (x ∷ es) zero e h is = subst (λ (y : Entry). fraction y.factor ≡ factor_at (x ∷ es) y.column) (some_is x e is) (here (nat_eq x.column x.column) (eq-eqb x.column x.column refl)) where
   here : (b : Bool) → b ≡ true → fraction x.factor ≡ (if b then plus (fraction x.factor) (factor_at es x.column) else factor_at es x.column)
-  here true e = sym (ap (plus (fraction x.factor)) (absent (suc x.column) es x.column (omega arith) h.1) ∙ plus_none _ ∙ lowest-fraction x.factor)
+  here true e = sym (ap (plus (fraction x.factor)) (absent (suc x.column) es x.column (omega arith) h.1) ∙ plus_none _ ∙ lowest_fraction x.factor)
   here false e = absurd (true≢false (sym e))
 factor_is n (x ∷ es) (suc i) e h is = factor_is (suc x.column) es i e h.1 is ∙ further (nat_eq x.column e.column) refl where
   further : (b : Bool) → nat_eq x.column e.column ≡ b → factor_at es e.column ≡ (if b then plus (fraction x.factor) (factor_at es e.column) else factor_at es e.column)

@@ -5,7 +5,7 @@ use Rattle.std.proofs.lemmas.List.{drop_all}
 use Rattle.vx_frac.specs.Fractions.{Fraction, none, lowest, is_below}
 use Rattle.vx_frac.specs.Fraction.{fraction}
 use Rattle.vx_frac.specs.declared.Frac.{Frac}
-use Rattle.vx_frac.proofs.Reduced.{lowest-fraction}
+use Rattle.vx_frac.proofs.Reduced.{lowest_fraction}
 use Rattle.vx_amounts.proofs.Amounts.{lowest_is}
 use Rattle.cs_linear.specs.Numbers.{plus, times}
 use Rattle.cs_linear.specs.Amounts.{Amount, pair, amount, has_sign, has_room_by}
@@ -38,7 +38,7 @@ has_factor side t f q low e h z =
 pub judge_is : (side : Side) (bounds : List Bound) (table : List (Option Bound)) (a d : Assignment) (t : Fraction) (e : Entry) (limit : Option Bound) (q : Frac) (v : Amount) (j : Judged) → IsTable side bounds table → slice_get table e.column ≡ Some limit →
     fraction q ≡ times t (fraction e.factor) → has_sign side (fraction q) ≡ true → v ≡ amount_at a d e.column → IsBlock limit q v j → IsJudged bounds a d t e j
 judge_is side bounds table a d t e limit q v judged.Idle table_is at qe sign ve h = absurd h
-judge_is side bounds table a d t e limit q v judged.Moves table_is at qe sign ve h = has_factor side t (fraction e.factor) (fraction q) (lowest-fraction e.factor) qe sign
+judge_is side bounds table a d t e limit q v judged.Moves table_is at qe sign ve h = has_factor side t (fraction e.factor) (fraction q) (lowest_fraction e.factor) qe sign
 judge_is side bounds table a d t e limit q v (judged.Blocked p) table_is at qe sign ve h =
     let of = table_is e.column p.bound (at ∙ ap Some h.0) in
     record {
@@ -51,7 +51,7 @@ judge_is side bounds table a d t e limit q v (judged.Blocked p) table_is at qe s
     }
 
 pub no_sign : (q : Frac) → is_below none (fraction q) ≡ false → is_below (fraction q) none ≡ false → fraction q ≡ none
-no_sign q h k = sym (lowest-fraction q) ∙ lowest_is (record { there = le_not_below none (fraction q) h; back = le_not_below (fraction q) none k }) ∙ lowest_none
+no_sign q h k = sym (lowest_fraction q) ∙ lowest_is (record { there = le_not_below none (fraction q) h; back = le_not_below (fraction q) none k }) ∙ lowest_none
 
 pub value_is : (mains deltas : List Frac) (k : ℕ) (m d : Frac) → k < length mains → k < length deltas → m ≡ get_or mains k m → d ≡ get_or deltas k d → pair (fraction m) (fraction d) ≡ amount_at (values mains) (values deltas) k
 value_is mains deltas k m d lm ld im id = ap₂ (λ (x y : Option Frac). pair (value x) (value y)) (sym (read_as mains k m lm im)) (sym (read_as deltas k d ld id))

@@ -2,7 +2,7 @@
 use Rattle.std.proofs.Common.{◌≡◌, ℕ, zero, suc, ◌+◌, ◌<◌, ◌≤◌, Bool, true, false, true≢false, ◌&&◌, nat_eq, if◌then◌else◌, List, [], ◌∷◌, ◌++◌, Some, length, drop, get_or, slice_get, refl, sym, ◌∙◌, ap, ap₂, subst, arith, add-one, drop-cons, pos, append_assoc}
 use Rattle.vx_frac.specs.Fractions.{Fraction, none, lowest}
 use Rattle.vx_frac.specs.Fraction.{fraction}
-use Rattle.vx_frac.proofs.Reduced.{lowest-fraction}
+use Rattle.vx_frac.proofs.Reduced.{lowest_fraction}
 use Rattle.cs_linear.specs.Numbers.{plus, times}
 use Rattle.vx_frac.specs.declared.Frac.{Frac}
 use Rattle.std.proofs.lemmas.List.Elements.{All-append, All-get_or, All-cons, All-nil, All-head, All-tail, All-weaker}
@@ -154,7 +154,7 @@ goes_on es new e is = record {
 pub zero_goes : (es : List Entry) (e : Entry) → (fraction e.factor).numerator ≡ pos 0 → Goes es e es
 zero_goes es e is = record {
   total = λ a.
-      let f : fraction e.factor ≡ none = sym (lowest-fraction e.factor) ∙ lowest_zero (fraction e.factor) is in
+      let f : fraction e.factor ≡ none = sym (lowest_fraction e.factor) ∙ lowest_zero (fraction e.factor) is in
       sym (ap (λ q. plus (total es a) (times q (a e.column))) f ∙ ap (λ x. plus (total es a) x) (none_times _) ∙ plus_none (total es a) ∙ lowest_of_total es a);
   free = λ homes h f. h;
   ascends = λ h b. h;

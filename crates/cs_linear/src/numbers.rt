@@ -61,27 +61,24 @@ pub fn times(a: Frac, b: Frac) -> Result<Frac, Stop>
 }
 
 /// The fraction 0.
-#[tactic(auto, unfolding(vx_frac::specs::Fractions::lowest))]
 pub fn zero() -> Frac
     ensures { fraction result ≡ none }
 {
-    Frac::new(0, 1)
+    Frac::whole(0)
 }
 
 /// The fraction 1.
-#[tactic(auto, unfolding(vx_frac::specs::Fractions::lowest))]
 pub fn one() -> Frac
     ensures { fraction result ≡ full }
 {
-    Frac::new(1, 1)
+    Frac::whole(1)
 }
 
 /// The fraction -1.
-#[tactic(auto, unfolding(vx_frac::specs::Fractions::lowest))]
 pub fn minus_one() -> Frac
     ensures { fraction result ≡ minus full }
 {
-    Frac::new(-1, 1)
+    Frac::whole(-1)
 }
 
 /// One over a fraction other than 0.

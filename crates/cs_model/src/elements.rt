@@ -43,11 +43,10 @@ fn as_bool(e: Element) -> bool
     }
 }
 
-#[tactic(auto, unfolding(vx_frac::specs::Fractions::lowest))]
 fn none() -> Frac
     ensures { fraction result ≡ fractions.none }
 {
-    Frac::new(0, 1)
+    Frac::whole(0)
 }
 
 fn as_fraction(e: Element) -> Frac
@@ -69,7 +68,7 @@ fn as_tree(e: Element) -> Element
 }
 
 /// The element, or where it is of another sort 0, false or the further element.
-#[tactic(auto, using(crate::proofs::Lowest::is_lowest))]
+#[tactic(auto, using(vx_frac::proofs::Reduced::lowest_fraction))]
 pub fn as_sort(of: &Sort, e: Element) -> Element
     ensures { element result ≡ clean.as_sort (sort of.now) (element e) }
 {

@@ -7,7 +7,7 @@ use Rattle.std.proofs.lemmas.Bool.{false≢true}
 use Rattle.std.proofs.lemmas.Bool.Decides.{Decides-and, Decides-ltb}
 use Rattle.vx_frac.specs.declared.Frac.{Frac}
 use Rattle.vx_frac.specs.Fraction.{fraction}
-use Rattle.vx_frac.proofs.Reduced.{lowest-fraction}
+use Rattle.vx_frac.proofs.Reduced.{lowest_fraction}
 use Rattle.vx_terms.specs.Terms.{Term, Truth, Number, Part, Constant, Apply, Not, Binary, Ite, AllOf, SomeOf, Terms, NoTerms, MoreTerms}
 use Rattle.vx_terms.specs.Interpretations.{Each}
 use Rattle.vx_terms.specs.Views.{term}
@@ -75,7 +75,7 @@ multiplier : (f : Frac) → Decides (is_small_fraction (fraction f)) (IsMultipli
 multiplier f =
     let a = fraction f in
     let h = both (is_small (nat_abs a.numerator)) (is_small (suc a.below)) (small (nat_abs a.numerator)) (small (suc a.below)) in
-    (λ e. let s = h.0 e in (lowest-fraction f, s.0, s.1), λ m. h.1 (m.1, m.2))
+    (λ e. let s = h.0 e in (lowest_fraction f, s.0, s.1), λ m. h.1 (m.1, m.2))
 
 pair : (m n : ℕ) → Decides (is_small m && is_small n) (IsSmall m × IsSmall n)
 pair m n = both (is_small m) (is_small n) (small m) (small n)

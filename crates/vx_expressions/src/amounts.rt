@@ -12,18 +12,16 @@ use crate::expectations::{expect, place};
 use vx_ast::{BinaryOperator, Expr, ExprKind, Place, ValueType};
 use vx_frac::Frac;
 
-#[tactic(auto, unfolding(vx_frac::specs::Fractions::lowest))]
 fn full() -> Frac
     ensures { fraction result ≡ fractions.full }
 {
-    Frac::new(1, 1)
+    Frac::whole(1)
 }
 
-#[tactic(auto, unfolding(vx_frac::specs::Fractions::lowest))]
 fn none() -> Frac
     ensures { fraction result ≡ fractions.none }
 {
-    Frac::new(0, 1)
+    Frac::whole(0)
 }
 
 fn sum_of(place: Place, f: Frac, g: Frac) -> Result<Frac, TypeFault>

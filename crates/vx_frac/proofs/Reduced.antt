@@ -122,8 +122,8 @@ is_lowest p q n d h k low e = sym (lowest_own (ratio p q) only) ∙ lowest-same 
     same = equal_ints _ _ (ap (λ (z : ℤ). p *ℤ z) (denominator_of d k) ∙ e ∙ ap (λ (z : ℤ). n *ℤ z) (sym (denominator_of q h)))
 
 -- the fraction of a `Frac` is in lowest terms
-pub lowest-fraction : (f : Frac) → lowest (fraction f) ≡ fraction f
-lowest-fraction f = sym (is_lowest f.num f.den f.num f.den f.positive f.positive f.lowest refl)
+pub lowest_fraction : (f : Frac) → lowest (fraction f) ≡ fraction f
+lowest_fraction f = sym (is_lowest f.num f.den f.num f.den f.positive f.positive f.lowest refl)
 
 -- a sum's or a product's numerator over the product of the denominators
 pub over_common : (z : ℤ) (a b : Fraction) → ratio z (denominator a *ℤ denominator b) ≡ record { numerator = z; below = common a b }

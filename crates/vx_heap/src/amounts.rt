@@ -12,27 +12,24 @@ use vx_frac::Frac;
 use vx_terms::{Term, make, numbers};
 
 /// Whether an amount is literally 0.
-#[tactic(auto, unfolding(vx_frac::specs::Fractions::lowest))]
 pub fn is_zero(amount: &Term) -> bool
     ensures { result ≡ same (term amount.now) zero_amount }
 {
-    amount.is_same(&Term::Part(Frac::new(0, 1)))
+    amount.is_same(&Term::Part(Frac::whole(0)))
 }
 
 /// No amount.
-#[tactic(auto, unfolding(vx_frac::specs::Fractions::lowest))]
 pub fn zero(alloc: Global) -> Result<Rc<Term>, AllocError>
     ensures { IfOk result (λ t. held_term t ≡ zero_amount) }
 {
-    make::real(alloc, Frac::new(0, 1))
+    make::real(alloc, Frac::whole(0))
 }
 
 /// All of a location or instance.
-#[tactic(auto, unfolding(vx_frac::specs::Fractions::lowest))]
 pub fn whole(alloc: Global) -> Result<Rc<Term>, AllocError>
     ensures { IfOk result (λ t. held_term t ≡ whole_amount) }
 {
-    make::real(alloc, Frac::new(1, 1))
+    make::real(alloc, Frac::whole(1))
 }
 
 /// That an amount is above 0.

@@ -1,7 +1,7 @@
 use Rattle.std.proofs.Common.{sym, ◌∙◌, subst, ◌<◌, length}
 use Rattle.cs_linear.specs.declared.rows.Entry.{Entry}
 use Rattle.vx_frac.specs.Fraction.{fraction}
-use Rattle.vx_frac.proofs.Reduced.{lowest-fraction}
+use Rattle.vx_frac.proofs.Reduced.{lowest_fraction}
 use Rattle.cs_linear.specs.Values.{values}
 use Rattle.cs_linear.proofs.Lists.{read_as}
 use Rattle.cs_linear.proofs.Added.{ends, total_begins, total_goes}
@@ -20,4 +20,4 @@ loop-entry-preserved c =
     ∙ c.loop-entry.invariant
 
 pub returns-clause-value : goal.returns-clause-value
-returns-clause-value c = ends c.args.entries.now c.loop-entry.entry-index (values c.args.all.now) (fraction c.loop-entry.total) (lowest-fraction c.loop-entry.total) c.loop-entry-test.false ∙ c.loop-entry.invariant
+returns-clause-value c = ends c.args.entries.now c.loop-entry.entry-index (values c.args.all.now) (fraction c.loop-entry.total) (lowest_fraction c.loop-entry.total) c.loop-entry-test.false ∙ c.loop-entry.invariant

@@ -1,7 +1,7 @@
 use Rattle.std.proofs.Common.{◌∙◌, ap, sym, drop, ◌+◌}
 use Rattle.vx_frac.specs.Fraction.{fraction}
 use Rattle.std.proofs.lemmas.List.{drop_all}
-use Rattle.vx_frac.proofs.Reduced.{lowest-fraction}
+use Rattle.vx_frac.proofs.Reduced.{lowest_fraction}
 use Rattle.cs_linear.specs.Numbers.{plus}
 use Rattle.cs_linear.specs.Rows.{factor_at}
 use Rattle.cs_linear.specs.Merged.{with_entry}
@@ -21,6 +21,6 @@ loop-entry-preserved c =
 
 pub returns-clause-value : goal.returns-clause-value
 returns-clause-value c =
-    sym (lowest-fraction c.loop-entry.factor) ∙ sym (plus_none (fraction c.loop-entry.factor))
+    sym (lowest_fraction c.loop-entry.factor) ∙ sym (plus_none (fraction c.loop-entry.factor))
     ∙ ap (λ es. plus (fraction c.loop-entry.factor) (factor_at es c.args.column)) (sym (drop_all c.loop-entry.entry-index c.args.entries.now c.loop-entry-test.false))
     ∙ c.loop-entry.invariant
