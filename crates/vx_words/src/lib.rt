@@ -11,4 +11,4 @@ mod words;
 
 pub use order::{Order, WordsFault};
 pub use text::Text;
-pub use words::read_words;
+pub use words::{no_command, read_words};

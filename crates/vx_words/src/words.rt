@@ -1,5 +1,5 @@
 // The order that the words give.
-ghost use Rattle.std.specs.Prelude.{◌≡◌, ◌⊎◌, IfOk, map, string_bytes};
+ghost use Rattle.std.specs.Prelude.{◌≡◌, ◌⊎◌, IfOk, None, map, string_bytes};
 ghost use Rattle.vx_words.specs.Orders.{default_words, order_of_words, order_of as meaning_of, ReadsAs, IsWithinLimit};
 ghost use Rattle.vx_words.specs.Parses.{Parses};
 ghost use Rattle.clap.specs.Words.{kind_of};
@@ -65,4 +65,14 @@ pub fn read_words(alloc: Global, words: &Parts) -> Result<Order, WordsFault>
 {
     let filled = with_default(alloc, words)?;
     read_texts(alloc, filled.texts())
+}
+
+/// Words that mean nothing, in the place of a command line that can't be read.
+pub fn no_command(alloc: Global) -> Result<Parts, AllocError>
+    ensures { IfOk result (λ words. meaning_of words ≡ None) }
+{
+    let mut words = Parts::new(alloc);
+    words.push(alloc, "")?;
+    words.push(alloc, "")?;
+    Ok(words)
 }
