@@ -2,8 +2,8 @@
 //! script behind them by `cs_scripts`. `docs/ROWS.md` tells what a row is made of.
 #![tactic(auto)]
 
+mod all;
 mod answers;
 mod ends;
-mod whole;
 
-pub use whole::answers_of;
+pub use all::answers_of;

@@ -8,11 +8,12 @@ ghost use Rattle.vx_expr_parser.specs.Gives.{Gives};
 ghost use Rattle.vx_expr_parser.specs.Views.{exprs_of};
 ghost use Rattle.vx_grammar.specs.StmtReading as reading;
 
+use crate::semicolon::skip_semicolon;
 use std::alloc::Global;
 use std::rc::Rc;
 use vx_ast::Expr;
-use vx_expr_parser::{Read, Stop, choice, is_symbol};
-use vx_tokens::{Kind, Symbol, Token, Word};
+use vx_expr_parser::{Read, Stop, choice};
+use vx_tokens::{Kind, Token, Word};
 
 /// A clause behind so many of its kind, each of which nests it.
 #[tactic(auto, unfolding(vx_grammar::specs::StmtReading::clause_at))]
@@ -39,6 +40,7 @@ fn begins_invariant(kind: Kind) -> bool
     matches!(kind, Kind::Word(Word::Invariant))
 }
 
+/// The word that a measure begins with.
 pub fn is_measure(kind: Kind) -> bool
     ensures { result ≡ reading.is_measure (kind_of kind.entry) }
 {
@@ -81,17 +83,4 @@ pub fn begins_measure(tokens: &[Token]) -> bool
         Some((first, _)) => is_measure(first.kind),
         None => false,
     }
-}
-
-/// The tokens, without a semicolon in front.
-pub fn skip_semicolon<'t>(tokens: &'t [Token<'t>]) -> &'t [Token<'t>]
-    ensures { tokens_in result.now ≡ reading.skip_semicolon (tokens_in tokens.now) }
-{
-    let Some((first, rest)) = tokens.split_first() else {
-        return tokens;
-    };
-    if is_symbol(Symbol::Semicolon, first.kind) {
-        return rest;
-    }
-    tokens
 }

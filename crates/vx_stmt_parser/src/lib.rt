@@ -3,7 +3,9 @@
 
 mod clauses;
 mod plain;
+mod semicolon;
 mod stmt;
 
-pub use clauses::{begins_measure, clause, is_measure, skip_semicolon};
+pub use clauses::{begins_measure, clause, is_measure};
+pub use semicolon::skip_semicolon;
 pub use stmt::block;

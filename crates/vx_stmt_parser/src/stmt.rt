@@ -12,8 +12,9 @@ ghost use Rattle.vx_ast.specs.Written.{Block as Tree};
 ghost use Rattle.vx_grammar.specs.Reading.{Read as Reads};
 ghost use Rattle.vx_grammar.specs.StmtReading as reading;
 
-use crate::clauses::{begins_measure, invariants, skip_semicolon};
+use crate::clauses::{begins_measure, invariants};
 use crate::plain::{Claim, Folding, claiming, declare, instance_statement, targeted};
+use crate::semicolon::skip_semicolon;
 use std::alloc::{AllocError, Global};
 use std::rc::Rc;
 use vx_ast::{Block, Expr, Place, Stmt, StmtKind};
