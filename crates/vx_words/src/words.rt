@@ -68,6 +68,9 @@ pub fn read_words(alloc: Global, words: &Parts) -> Result<Order, WordsFault>
 }
 
 /// Words that mean nothing, in the place of a command line that can't be read.
+///
+/// # Errors
+/// `AllocError` if there is no memory for them.
 pub fn no_command(alloc: Global) -> Result<Parts, AllocError>
     ensures { IfOk result (λ words. meaning_of words ≡ None) }
 {
