@@ -105,6 +105,9 @@ fn follow(
 
 impl Classes {
     /// Nothing is claimed of the terms.
+    ///
+    /// # Errors
+    /// Memory runs out.
     pub fn new(alloc: Global, terms: Vec<Applied>) -> Result<Classes, Want>
         requires few { length terms.items < 2 ^ 32 }
         requires parts { All (λ t. All (λ p. p < length terms.items) t.parts.items) terms.items }

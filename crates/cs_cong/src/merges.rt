@@ -67,6 +67,9 @@ pub struct Merges {
 
 impl Merges {
     /// No merges of so many terms.
+    ///
+    /// # Errors
+    /// Memory runs out.
     pub fn new(alloc: Global, terms: u32) -> Result<Merges, Want>
         ensures log { IfOk result (λ m. m.log.items ≡ []) }
         ensures terms { IfOk result (λ m. length m.links.items ≡ terms) }

@@ -151,6 +151,10 @@ fn are_of(all: &[Node], numbers: Numbers, parts: &[Part]) -> bool
 }
 
 /// The constraints of a `farkas` step: of one sort, and as many as their multipliers. No fraction is met here.
+///
+/// # Errors
+/// `Miss` where there are more or fewer multipliers than literals, a literal is no constraint, or a side is of another sort; `Want` where
+/// memory runs out.
 pub fn combination_of(
     alloc: Global,
     all: &[Node],
@@ -236,6 +240,9 @@ fn contradicts(numbers: Numbers, parts: &[Part], sums: &Sums) -> bool
 }
 
 /// Whether the constraints, each times its multiplier, add up to a contradiction. No memory.
+///
+/// # Errors
+/// `Miss` where they don't; `Over` where a fraction leaves 128 bits.
 pub fn refutes(all: &[Node], combination: &Combination, sums: &mut Sums) -> Result<(), Break>
     requires fits { length all.now < 2 ^ 32 }
     requires width { length all.now ≤ views.width sums.old }

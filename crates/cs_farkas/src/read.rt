@@ -127,6 +127,9 @@ fn add_part(all: &[Node], numbers: Numbers, part: &Part, to: &mut Sums) -> Resul
 }
 
 /// Adds all constraints, in order.
+///
+/// # Errors
+/// `Miss` where a term has no node, or nests deeper than there are nodes; `Over` where a fraction leaves 128 bits.
 pub fn add_all(all: &[Node], numbers: Numbers, parts: &[Part], to: &mut Sums) -> Result<(), Break>
     requires fits { length all.now < 2 ^ 32 }
     requires width { length all.now ≤ width to.old }

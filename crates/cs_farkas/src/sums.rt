@@ -65,6 +65,9 @@ impl Sums {
     }
 
     /// Adds an amount times the multiplier to the constant.
+    ///
+    /// # Errors
+    /// `Over` where a fraction leaves 128 bits.
     pub fn add_constant(&mut self, multiplier: Frac, amount: Frac) -> Result<(), Break>
         ensures value { Ends (λ u. sums self.new) result (clean.add_constant (fraction multiplier) (fraction amount) (sums self.old)) }
         ensures columns { self.new.columns ≡ self.old.columns }
@@ -75,6 +78,9 @@ impl Sums {
     }
 
     /// Adds an amount times the multiplier to a column.
+    ///
+    /// # Errors
+    /// `Over` where a fraction leaves 128 bits.
     pub fn add_column(&mut self, multiplier: Frac, amount: Frac, column: u32) -> Result<(), Break>
         requires { column < width self.old }
         ensures value { Ends (λ u. sums self.new) result (clean.add_column (fraction multiplier) (fraction amount) column (sums self.old)) }

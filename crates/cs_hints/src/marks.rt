@@ -58,6 +58,7 @@ impl Marks {
         }
     }
 
+    /// Whether a literal is marked in this round.
     pub fn is_marked(&self, literal: Literal) -> bool
         ensures { result ≡ is_marked self.now literal }
     {

@@ -154,6 +154,9 @@ fn derived(alloc: Global, all: &Table, roots: &[u32], step: &Step) -> Result<(Du
 }
 
 /// What a step has to show, and its clause; a step that can't meet its rule misses.
+///
+/// # Errors
+/// `Miss` where the step doesn't meet its rule; `Want` where memory runs out.
 pub fn prepared(
     alloc: Global,
     all: &Table,

@@ -4,6 +4,7 @@ ghost use Rattle.cs_search.specs.Assignment.{status_of, negated};
 
 use crate::{Literal, Status, Value};
 
+/// The literal that holds where this one doesn't.
 pub fn negate(literal: Literal) -> Literal
     ensures { result ≡ negated literal }
 {

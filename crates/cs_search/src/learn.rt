@@ -86,6 +86,9 @@ fn keep(clauses: &mut Vec<Clause>, clause: Clause) -> Result<(), AllocError>
 }
 
 /// Learns a clause that is false under the assignment, and takes the assignment back until it forces a literal.
+///
+/// # Errors
+/// `Budget` where no unit is left; `Want` where memory runs out.
 pub fn learn(search: &mut Search, clause: Clause, meter: &mut Meter) -> Result<(), Undecided>
     requires sound { IsReady search.old }
     requires all_false { IsFalse search.old.made.values.items (length search.old.made.trail.items) clause.literals.items }

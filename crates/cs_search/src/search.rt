@@ -292,6 +292,9 @@ pub fn round(alloc: Global, search: &mut Search, meter: &mut Meter) -> Result<Tu
 }
 
 /// An assignment that satisfies each clause, or hints that derive the empty clause.
+///
+/// # Errors
+/// `Budget` where no unit is left; `Want` where memory runs out.
 pub fn solve(alloc: Global, search: &mut Search, meter: &mut Meter) -> Result<Solved, Undecided>
     requires sound { IsReady search.old }
     requires narrow { length search.old.made.values.items < 2 ^ 32 }

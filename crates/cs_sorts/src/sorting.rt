@@ -78,6 +78,9 @@ fn of_bool(a: Sort) -> Result<Sort, Stop>
 }
 
 /// The sort of a well-sorted term; any other misses.
+///
+/// # Errors
+/// `Miss` where the term isn't well-sorted; `Want` where memory runs out.
 #[cycle(sorting)]
 #[tactic(auto, using(crate::proofs::Lowest::part_is_lowest))]
 pub fn sort_in(t: &Term) -> Result<Sort, Stop>

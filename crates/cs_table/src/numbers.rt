@@ -69,6 +69,9 @@ fn number_of_size(all: &Table, number: i128) -> Result<u32, Stop>
 }
 
 /// `split`: an Int is at most a number, or at least the next.
+///
+/// # Errors
+/// `Miss` where the rule doesn't give one, or a term of it has no number; `Want` where memory runs out.
 pub fn split(alloc: Global, all: &Table, t: u32, number: i128) -> Result<Vec<Literal>, Stop>
     ensures { Gives (λ v. clause v.items) result (clean.split_clause (nodes_in all.now) t number) }
 {
@@ -146,6 +149,9 @@ fn divide_row(
 }
 
 /// `div`: what the quotient and the remainder of an Int by a literal are.
+///
+/// # Errors
+/// `Miss` where the rule doesn't give one, or a term of it has no number; `Want` where memory runs out.
 pub fn divide(alloc: Global, all: &Table, a: u32, n: u32, row: u32) -> Result<Vec<Literal>, Stop>
     ensures { Gives (λ v. clause v.items) result (clean.divide_clause (nodes_in all.now) a n row) }
 {

@@ -117,6 +117,9 @@ fn links(alloc: Global, all: &Table, first: u32, terms: &[u32]) -> Result<(Vec<L
 }
 
 /// `chain`: the terms are all equal, or an equality between neighbours isn't true.
+///
+/// # Errors
+/// `Miss` where the rule doesn't give one, or a term of it has no number; `Want` where memory runs out.
 pub fn chain(alloc: Global, all: &Table, terms: &[u32]) -> Result<Vec<Literal>, Stop>
     ensures { Gives (λ v. clause v.items) result (clean.chain_clause (nodes_in all.now) terms.now) }
 {
@@ -131,6 +134,9 @@ pub fn chain(alloc: Global, all: &Table, terms: &[u32]) -> Result<Vec<Literal>, 
 }
 
 /// `tri`: two numbers are below, equal or above.
+///
+/// # Errors
+/// `Miss` where the rule doesn't give one, or a term of it has no number; `Want` where memory runs out.
 pub fn trichotomy(alloc: Global, all: &Table, a: u32, b: u32) -> Result<Vec<Literal>, Stop>
     ensures { Gives (λ v. clause v.items) result (clean.trichotomy_clause (nodes_in all.now) a b) }
 {
@@ -333,6 +339,9 @@ fn pick_parts(
 }
 
 /// `pick`: a choice that isn't Bool is its left or its right part.
+///
+/// # Errors
+/// `Miss` where the rule doesn't give one, or a term of it has no number; `Want` where memory runs out.
 pub fn pick(alloc: Global, all: &Table, t: u32, row: u32) -> Result<Vec<Literal>, Stop>
     ensures { Gives (λ v. clause v.items) result (clean.pick_clause (nodes_in all.now) t row) }
 {
@@ -437,6 +446,9 @@ fn define_by(
 }
 
 /// `def`: a row of the table of the Bool term t.
+///
+/// # Errors
+/// `Miss` where the rule doesn't give one, or a term of it has no number; `Want` where memory runs out.
 pub fn define(alloc: Global, all: &Table, t: u32, row: u32) -> Result<Vec<Literal>, Stop>
     ensures { Gives (λ v. clause v.items) result (clean.define_clause (nodes_in all.now) t row) }
 {
@@ -466,6 +478,9 @@ fn pairs(alloc: Global, all: &Table, xs: &[u32], ys: &[u32]) -> Result<Vec<Liter
 }
 
 /// `cong`: terms of one head whose parts are equal are equal.
+///
+/// # Errors
+/// `Miss` where the rule doesn't give one, or a term of it has no number; `Want` where memory runs out.
 pub fn congruence(alloc: Global, all: &Table, s: u32, t: u32) -> Result<Vec<Literal>, Stop>
     ensures { Gives (λ v. clause v.items) result (clean.congruence_clause (nodes_in all.now) s t) }
 {

@@ -20,6 +20,9 @@ pub struct Table {
 
 impl Table {
     /// No terms.
+    ///
+    /// # Errors
+    /// `Want` where memory runs out.
     #[tactic(auto, using(cs_index::proofs::Indexed::indexed_none))]
     pub fn new(alloc: Global) -> Result<Table, Stop>
         ensures { IfOk result (λ t. t.nodes.items ≡ []) }

@@ -209,6 +209,7 @@ impl Drop for Builtin {
 }
 
 impl Builtin {
+    /// Nothing is started yet. No memory.
     pub fn new(alloc: Global) -> Builtin
         ensures starts { result.starts.items ≡ [] }
         ensures out { result.lanes_out.items ≡ [] }

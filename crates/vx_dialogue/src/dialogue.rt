@@ -152,6 +152,10 @@ impl<L: Link> Dialogue<L> {
     }
 
     /// Opens a dialogue: the preamble is sent, and its replies are read.
+    ///
+    /// # Errors
+    /// `Pipe` where the link fails, `Garbled` where an item is no lawful reply, `Refused` where it refuses a command, `Want` where
+    /// memory runs out. The link is given back.
     pub fn open(
         alloc: Global,
         link: L,
@@ -227,6 +231,10 @@ impl<L: Link> Dialogue<L> {
     }
 
     /// Asks whether the condition follows from the path: the path and the negated condition are asserted and checked.
+    ///
+    /// # Errors
+    /// `Pipe` where the link fails, `Garbled` where an item is no lawful reply, `Refused` where it refuses a command, `Want` where
+    /// memory runs out, and `Closed` where an earlier call failed.
     pub fn post(
         &mut self,
         alloc: Global,
@@ -282,6 +290,10 @@ impl<L: Link> Dialogue<L> {
     }
 
     /// Reads the reply to the open question.
+    ///
+    /// # Errors
+    /// `Pipe` where the link fails, `Garbled` where an item is no lawful reply, `Refused` where it refuses a command, `Want` where
+    /// memory runs out, and `Closed` where an earlier call failed.
     pub fn take(&mut self, alloc: Global) -> Result<Reply, Talk>
         requires { IsAsked self.old }
         ensures reply { IfOk result (λ reply. (certify : Bool) (functions : List Spec.Declared) (turns : List Turn) (path : List Written.Term) (condition : Written.Term) (checks : List Check)
@@ -311,6 +323,10 @@ impl<L: Link> Dialogue<L> {
     }
 
     /// Posts a question and reads its reply.
+    ///
+    /// # Errors
+    /// `Pipe` where the link fails, `Garbled` where an item is no lawful reply, `Refused` where it refuses a command, `Want` where
+    /// memory runs out, and `Closed` where an earlier call failed.
     pub fn ask(
         &mut self,
         alloc: Global,
@@ -335,6 +351,9 @@ impl<L: Link> Dialogue<L> {
     }
 
     /// Ends the member. Nothing is sent before the next question.
+    ///
+    /// # Errors
+    /// `Closed` where an earlier call failed; `Want` where memory runs out.
     pub fn leave(&mut self, alloc: Global) -> Result<(), Talk>
         requires { IsFree self.old }
         ensures stands { OnOk result ((certify : Bool) (functions : List Spec.Declared) (turns : List Turn) (checks : List Check) → Stands L.dialogue certify functions turns self.old checks

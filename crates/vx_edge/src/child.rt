@@ -107,6 +107,7 @@ pub struct ChildSpawner<'a> {
 }
 
 impl<'a> ChildSpawner<'a> {
+    /// Nothing is started yet. No memory.
     pub fn new(alloc: Global, processes: &'a HostRuntime) -> ChildSpawner<'a>
         ensures starts { result.starts.items ≡ [] }
         ensures out { result.lanes_out.items ≡ [] }

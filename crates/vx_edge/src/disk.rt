@@ -18,6 +18,7 @@ pub struct DiskFiles<'a> {
 }
 
 impl<'a> DiskFiles<'a> {
+    /// Nothing is asked for yet. No memory.
     pub fn new(alloc: Global, system: &'a HostRuntime) -> DiskFiles<'a>
         ensures { (result.asked.items ≡ []) × (result.faults ≡ 0) }
     {

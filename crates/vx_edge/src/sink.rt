@@ -12,6 +12,7 @@ pub struct StdSink<W> {
 }
 
 impl<W: Write> StdSink<W> {
+    /// Nothing is put yet.
     pub fn new(writer: W) -> StdSink<W>
         ensures { (result.writer ≡ writer) × (result.faults ≡ 0) }
     {

@@ -8,6 +8,9 @@ use crate::{Link, LinkFault, PutFault, Sink};
 use std::alloc::Global;
 
 /// Sends all of a text; where that fails, a beginning of it.
+///
+/// # Errors
+/// `Failed` where the link fails; `Want` where memory runs out.
 pub fn send_all<L: Link>(alloc: Global, link: &mut L, text: &[u8]) -> Result<(), LinkFault>
     ensures sent { OnOk result (sent (L.dialogue link.new) ≡ sent (L.dialogue link.old) ++ text.now) }
     ensures begun { (rest : List ℕ) × (sent (L.dialogue link.new) ++ rest ≡ sent (L.dialogue link.old) ++ text.now) }
@@ -26,6 +29,9 @@ pub fn send_all<L: Link>(alloc: Global, link: &mut L, text: &[u8]) -> Result<(),
 }
 
 /// Puts all of a text.
+///
+/// # Errors
+/// `Failed` where the sink fails; a beginning of the text may be put.
 pub fn put_all<K: Sink>(out: &mut K, text: &[u8]) -> Result<(), PutFault>
     ensures taken { PutsSome text.now (K.taken out.old) (K.taken out.new) result }
     ensures cause { HasCause PutFault.Failed (K.faults out.old) (K.faults out.new) result }

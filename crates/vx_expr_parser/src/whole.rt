@@ -36,6 +36,9 @@ fn ended<'t>(e: Expr, rest: &'t [Token<'t>]) -> Result<Expr, Stop<'t>>
 }
 
 /// The expression that all of the tokens spell.
+///
+/// # Errors
+/// `Unexpected` and `TooDeep`, with the tokens from the first one that does not fit, or nests too deep; `Memory` where that runs out.
 pub fn expression<'t>(alloc: Global, tokens: &'t [Token<'t>]) -> Result<Expr, Stop<'t>>
     // What is read is spelled so, within the limit; and where reading stops, the first token that does not fit stands,
     // or nests too deep.

@@ -134,6 +134,10 @@ fn called(
     }
 }
 
+/// What a call is as an assertion: a permission, where it is an instance of a predicate, or a value of its type.
+///
+/// # Errors
+/// Its first fault, at its place; `Want` where memory runs out.
 pub fn call(
     alloc: Global,
     s: Setting,
@@ -222,6 +226,9 @@ fn claimed(alloc: Global, s: Setting, e: &Expr) -> Result<Claim, TypeFault>
 }
 
 /// An assertion is typed: a truth, or what holds a permission. Otherwise its first fault.
+///
+/// # Errors
+/// Its first fault, at its place; `Want` where memory runs out.
 pub fn assertion(alloc: Global, s: Setting, e: &Expr) -> Result<(), TypeFault>
     ensures { Gives (λ u. tt) result (faults.assertion (setting s.entry) (written_expr e.now)) }
 {

@@ -17,6 +17,9 @@ pub fn place(e: &Expr) -> Place
 }
 
 /// The type is this one.
+///
+/// # Errors
+/// `Mismatch` where it is another.
 pub fn expect(place: Place, expected: ValueType, found: ValueType) -> Result<(), TypeFault>
     ensures { Gives (λ x. tt) result (faults.expect place expected found) }
 {

@@ -15,6 +15,7 @@ use std::alloc::Global;
 use std::rc::Rc;
 use vx_ast::{Declaration, Expr, ExprKind, Name, Place, ValueType};
 
+/// The fault of a name that isn't declared, or not of the kind needed; where memory runs out, `Want`.
 pub fn unknown(alloc: Global, place: Place, name: &str) -> TypeFault
     ensures { IfSome (told result) (λ f. f ≡ faults.Unknown place name.now) }
 {
@@ -31,7 +32,10 @@ fn type_at(found: &[ValueType], i: usize) -> ValueType
     found[i]
 }
 
-// The types of arguments are those of the parameters, as far as there are such.
+/// The types of arguments are those of the parameters, as far as there are such.
+///
+/// # Errors
+/// `Mismatch` at the first argument of another type.
 pub fn arguments_fit(
     es: &[Rc<Expr>],
     found: &[ValueType],
@@ -124,6 +128,10 @@ fn known(alloc: Global, s: Setting, at: Place, name: &str) -> Result<ValueType, 
     }
 }
 
+/// The type of a field, by what its name stands for.
+///
+/// # Errors
+/// `Unknown` where that is no field; `Want` where memory runs out.
 pub fn field_type(
     alloc: Global,
     field: &Name,
@@ -180,7 +188,10 @@ fn unfolded_type(at: Place, has_body: bool, t: ValueType) -> Result<ValueType, T
     Err(TypeFault::UnfoldAbstract(at))
 }
 
-// The types of arguments, each checked before any is compared.
+/// The types of arguments, each checked before any is compared.
+///
+/// # Errors
+/// The first fault of the first argument that has one; `Want` where memory runs out.
 #[cycle(typing)]
 pub fn check_all(alloc: Global, s: Setting, es: &[Rc<Expr>]) -> Result<Vec<ValueType>, TypeFault>
     ensures { Gives (λ ts. ts.items) result (faults.check_all (setting s.entry) (written_all es.now)) }
@@ -207,6 +218,9 @@ fn applied(
 }
 
 /// An instance of a predicate: whether that has a body, or the first fault.
+///
+/// # Errors
+/// Its first fault, at its place; `Want` where memory runs out.
 #[cycle(typing)]
 pub fn instance(
     alloc: Global,
@@ -222,6 +236,9 @@ pub fn instance(
 }
 
 /// How much is held.
+///
+/// # Errors
+/// Its first fault, at its place; `Want` where memory runs out.
 #[cycle(typing)]
 pub fn share(alloc: Global, s: Setting, e: &Option<Rc<Expr>>) -> Result<(), TypeFault>
     ensures { Gives (λ x. tt) result (faults.check_share (setting s.entry) (written_optional e.now)) }
@@ -235,6 +252,10 @@ pub fn share(alloc: Global, s: Setting, e: &Option<Rc<Expr>>) -> Result<(), Type
     }
 }
 
+/// The type of a field read under an expression.
+///
+/// # Errors
+/// Its first fault, at its place; `Want` where memory runs out.
 #[cycle(typing)]
 pub fn read(alloc: Global, s: Setting, e: &Expr, field: &Name) -> Result<ValueType, TypeFault>
     ensures { Gives (λ t. t) result (faults.read (setting s.entry) (written_expr e.now) (name_of field.now)) }
@@ -265,6 +286,9 @@ pub fn held(alloc: Global, s: Setting, e: &Expr) -> Result<(), TypeFault>
 }
 
 /// The type of an expression, or its first fault.
+///
+/// # Errors
+/// Its first fault, at its place; `Want` where memory runs out.
 #[cycle(typing)]
 pub fn check(alloc: Global, s: Setting, e: &Expr) -> Result<ValueType, TypeFault>
     ensures { Gives (λ t. t) result (faults.check (setting s.entry) (written_expr e.now)) }

@@ -95,6 +95,9 @@ fn write_text(alloc: Global, methods: u32) -> Result<String, AllocError>
 }
 
 /// The text of four fields, two predicates and so many methods. It is too large exactly above 2000.
+///
+/// # Errors
+/// `TooLarge` where there are more than 2000; `Want` where memory runs out.
 pub fn generate(alloc: Global, methods: u32) -> Result<String, GenFault>
     ensures text { IfOk result (λ text. string_bytes text ≡ spec.generated methods) }
     ensures too_many { (result ≡ Err TooLarge) ↔ 2000 < methods }

@@ -78,6 +78,10 @@ impl<'t, T: Drop> From<AllocFailed<T>> for Halt<'t> {
 }
 
 /// The program that a text spells.
+///
+/// # Errors
+/// `TooLong` above 4,194,304 bytes; `NotUtf8` behind the last character before bytes that are no text; else what stands where no
+/// program goes on; `Want` where memory runs out.
 pub fn parse(alloc: Global, text: &[u8]) -> Result<Program, TextFault>
     // A program that is answered is spelled by the text.
     ensures spelled { IfOk result (λ p. Spells text.now (written_program p)) }

@@ -50,6 +50,7 @@ impl Settled {
         self.program.members.len()
     }
 
+    /// Whether there are no members.
     pub fn is_empty(&self) -> bool
         ensures { result ≡ nat_eq (length (settled self.now)) 0 }
     {

@@ -291,6 +291,9 @@ impl Reading {
 
     /// How many bytes the first s-expression takes, of bytes of which the first were looked at before; as `read` finds it.
     /// No memory. Where they end before it does, call it again with these bytes and some more.
+    ///
+    /// # Errors
+    /// `Unfinished` where the bytes end before it does; `BadToken` at the first token that can't stand there.
     pub fn go_on(&mut self, bytes: &[u8]) -> Result<usize, SexpFault>
         requires { Reached self.old bytes.now }
         ensures first { IfOk result (λ n. EndsAt n bytes.now) }

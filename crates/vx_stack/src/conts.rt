@@ -120,6 +120,7 @@ fn impossible(alloc: Global, state: &SymState) -> Result<Side, AllocError>
 }
 
 impl Conts {
+    /// An empty stack. No memory.
     pub fn new(alloc: Global) -> Conts
         ensures { result.sides.items ≡ [] }
     {
@@ -139,6 +140,10 @@ impl Conts {
         Ok(Conts { sides })
     }
 
+    /// Puts a side on top: this frame goes on from this state.
+    ///
+    /// # Errors
+    /// Memory runs out.
     pub fn push(&mut self, frame: Frame, state: SymState) -> Result<(), AllocError>
         ensures { IfOk result (λ _. self.new.sides.items ≡ self.old.sides.items ++ record { frame = frame; state = state } ∷ []) }
     {

@@ -46,6 +46,9 @@ pub fn twice(alloc: Global, name: &Name) -> TypeFault
 }
 
 /// One more name, which is none of those before.
+///
+/// # Errors
+/// `Twice` where it is; `Want` where memory runs out.
 pub fn add_name<'a>(
     alloc: Global,
     names: &mut IndexSet<&'a str>,
@@ -73,6 +76,9 @@ fn new_variable(alloc: Global, variables: &Variables, name: &Name) -> Result<(),
 }
 
 /// One more variable.
+///
+/// # Errors
+/// `Twice` where its name is a variable already; `Want` where memory runs out.
 pub fn declare<'a>(
     alloc: Global,
     variables: &mut Variables<'a>,

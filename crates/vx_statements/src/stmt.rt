@@ -288,6 +288,9 @@ fn field_write(
 }
 
 /// A condition, or what is assumed.
+///
+/// # Errors
+/// Its first fault, at its place; `Want` where memory runs out.
 pub fn truth(alloc: Global, s: Setting, e: &Expr) -> Result<(), TypeFault>
     ensures { Gives (λ x. tt) result (first.truth (setting s.entry) (written_expr e.now)) }
 {
@@ -331,6 +334,9 @@ fn condition(
 }
 
 /// An assertion in a method's body, or behind it.
+///
+/// # Errors
+/// Its first fault, at its place; `Want` where memory runs out.
 pub fn asserted(
     alloc: Global,
     members: &Members,
@@ -382,6 +388,9 @@ fn statements<'a>(
 }
 
 /// A block is typed. After it the variables are those before it.
+///
+/// # Errors
+/// Its first fault, at its place; `Want` where memory runs out.
 #[cycle(blocks)]
 pub fn block<'a>(
     alloc: Global,

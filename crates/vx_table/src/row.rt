@@ -74,6 +74,7 @@ pub struct Row {
 }
 
 impl Row {
+    /// A row in which nothing is said yet.
     pub fn new(alloc: Global) -> Row {
         Row {
             asks: Asks::Run,

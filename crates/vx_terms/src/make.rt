@@ -13,18 +13,30 @@ use std::alloc::{AllocError, Global};
 use std::rc::Rc;
 use vx_frac::Frac;
 
+/// `true` or `false`.
+///
+/// # Errors
+/// `AllocError` if there is no memory for it.
 pub fn boolean(alloc: Global, b: bool) -> Result<Rc<Term>, AllocError>
     ensures { IfOk result (λ t. term t.value ≡ written.Truth b) }
 {
     Ok(Rc::new(alloc, Term::Truth(b))?)
 }
 
+/// A numeral of Int.
+///
+/// # Errors
+/// `AllocError` if there is no memory for it.
 pub fn int(alloc: Global, n: i128) -> Result<Rc<Term>, AllocError>
     ensures { IfOk result (λ t. term t.value ≡ written.Number n) }
 {
     Ok(Rc::new(alloc, Term::Number(n))?)
 }
 
+/// A numeral of Real.
+///
+/// # Errors
+/// `AllocError` if there is no memory for it.
 pub fn real(alloc: Global, a: Frac) -> Result<Rc<Term>, AllocError>
     ensures { IfOk result (λ t. term t.value ≡ written.Part (fraction a)) }
 {

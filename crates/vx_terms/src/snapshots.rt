@@ -11,12 +11,20 @@ use crate::{Sort, Symbol, Term, Terms};
 use std::alloc::{AllocError, Global};
 use std::rc::Rc;
 
+/// The reference `null`.
+///
+/// # Errors
+/// `AllocError` if there is no memory for it.
 pub fn null(alloc: Global) -> Result<Rc<Term>, AllocError>
     ensures { IfOk result (λ t. term t.value ≡ built.null) }
 {
     symbol(alloc, Symbol::Standard(0), Sort::Ref)
 }
 
+/// The snapshot of nothing.
+///
+/// # Errors
+/// `AllocError` if there is no memory for it.
 pub fn unit(alloc: Global) -> Result<Rc<Term>, AllocError>
     ensures { IfOk result (λ t. term t.value ≡ built.unit) }
 {
@@ -47,6 +55,10 @@ fn standard(alloc: Global, number: u32, sort: Sort, t: &Rc<Term>) -> Result<Rc<T
     apply(alloc, Symbol::Standard(number), sort, &arguments)
 }
 
+/// The snapshot of two parts.
+///
+/// # Errors
+/// `AllocError` if there is no memory for it.
 pub fn pair(alloc: Global, s: &Rc<Term>, t: &Rc<Term>) -> Result<Rc<Term>, AllocError>
     ensures { IfOk result (λ r. term r.value ≡ built.pair (term s.now.value) (term t.now.value)) }
 {

@@ -15,6 +15,9 @@ use vx_expressions::TypeFault;
 
 /// The typed program, where it is typed. Otherwise its first fault: of the names of all members, of each member in file
 /// order, of measures, and of what leads back to its own group. A program of 2^32 members or more is beyond memory.
+///
+/// # Errors
+/// The first fault, at its place; `Want` where memory runs out.
 pub fn check<'a>(alloc: Global, program: &'a Program) -> Result<Typed<'a>, TypeFault>
     ensures first { Gives (λ x. tt) result (first.program (written_program program.now)) }
     ensures program { IfOk result (λ t. written_of t ≡ written_program program.now) }

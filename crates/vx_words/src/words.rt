@@ -59,6 +59,9 @@ fn read_texts(alloc: Global, words: &[String]) -> Result<Order, WordsFault>
 }
 
 /// What the words of the command line mean; the first is the program's name.
+///
+/// # Errors
+/// `Usage` where they mean nothing; `Want` where memory runs out.
 pub fn read_words(alloc: Global, words: &Parts) -> Result<Order, WordsFault>
     ensures meaning { ReadsAs (meaning_of words.now) result }
     ensures limit { IfOk result IsWithinLimit }
