@@ -143,7 +143,7 @@ fn head_of(t: &Term) -> Result<Head, AllocError>
 /// The node of a term.
 ///
 /// # Errors
-/// `Miss` where a part of it has no number, or it isn't well-sorted; `Want` where memory runs out.
+/// `Miss` where a part of it has no number; `Want` where memory runs out.
 pub fn node_of(alloc: Global, all: &NumberedTerms, t: &Term) -> Result<Node, Stop>
     ensures { Gives views.node result (clean.node_of (terms_in all.now) (term t.now)) }
 {
@@ -156,7 +156,7 @@ pub fn node_of(alloc: Global, all: &NumberedTerms, t: &Term) -> Result<Node, Sto
 /// The nodes of numbered terms.
 ///
 /// # Errors
-/// `Miss` where a part of one has no number, or one isn't well-sorted; `Want` where memory runs out.
+/// `Miss` where a part of one has no number; `Want` where memory runs out.
 pub fn nodes_of(alloc: Global, all: &NumberedTerms) -> Result<Vec<Node>, Stop>
     ensures { Gives (λ v. views.nodes v.items) result (clean.nodes_of (terms_in all.now) (terms_in all.now)) }
 {

@@ -19,10 +19,7 @@ pub struct Table {
 }
 
 impl Table {
-    /// No terms.
-    ///
-    /// # Errors
-    /// `Want` where memory runs out.
+    /// No terms. No memory, so it gives no error.
     #[tactic(auto, using(cs_index::proofs::Indexed::indexed_none))]
     pub fn new(alloc: Global) -> Result<Table, Stop>
         ensures { IfOk result (λ t. t.nodes.items ≡ []) }
