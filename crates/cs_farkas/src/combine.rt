@@ -153,8 +153,8 @@ fn are_of(all: &[Node], numbers: Numbers, parts: &[Part]) -> bool
 /// The constraints of a `farkas` step: of one sort, and as many as their multipliers. No fraction is met here.
 ///
 /// # Errors
-/// `Miss` where there are more or fewer multipliers than literals, a literal is no constraint, or a side is of another sort; `Want` where
-/// memory runs out.
+/// `Miss` where there are no literals, or more or fewer multipliers than these, a literal is no constraint, or not all sides are of Int,
+/// or all of Real; `Want` where memory runs out.
 pub fn combination_of(
     alloc: Global,
     all: &[Node],
