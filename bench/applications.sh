@@ -4,7 +4,7 @@
 # levels; one of as many lists after one another, of each of which the length is taken; and one of as many asserts of an application.
 set -eu
 . "$(dirname "${BASH_SOURCE[0]}")/timing.sh"
-"$here/vsil" < /dev/null > /dev/null
+vsil=$(where_vsil)
 
 cell() { printf 'field f: Int\nfunction g(x: Ref): Int requires acc(x.f) { x.f }\n'; }
 
@@ -47,4 +47,8 @@ asserts() {
     one_method '(n: Int) requires n > 0' 'assert f(n) > 0' "$1" 'a := 0'
 }
 
-for what in methods applications lengths lists asserts; do measure "$what" 100 400 1600; done
+measure methods "methods that apply one function" 100 400 1600
+measure applications "applications in one method, each of another snapshot" 100 400 1600
+measure lengths "applications of the length of one list" 100 400 1600
+measure lists "lists in a row, each with its length" 100 400 1600
+measure asserts "asserts of an application" 100 400 1600

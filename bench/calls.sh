@@ -1,9 +1,8 @@
 #!/usr/bin/env bash
-# Writes files with calls, and prints what it takes to verify each: one method of 100, 400 and 1600 calls in a row, and as
-# many methods with one call and one question each.
+# Verifies files with calls: one method of 100, 400 and 1600 calls in a row, and as many methods with one call and one question each.
 set -eu
 . "$(dirname "${BASH_SOURCE[0]}")/timing.sh"
-"$here/vsil" < /dev/null > /dev/null
+vsil=$(where_vsil)
 
 callee() {
     echo "field f: Int method inc(x: Ref) requires acc(x.f) ensures acc(x.f) && x.f == old(x.f) + 1"
@@ -23,5 +22,5 @@ callers() {
     done
 }
 
-measure calls 100 400 1600
-measure callers 100 400 1600
+measure calls "calls in one method" 100 400 1600
+measure callers "methods with one call each" 100 400 1600

@@ -4,8 +4,7 @@
 # checker's answer.
 set -eu
 . "$(dirname "${BASH_SOURCE[0]}")/timing.sh"
-program=$here/bench/rows.sh
-"$program" < /dev/null
+rows=$(where_rows)
 # The terms are `0 = 1` 0, 0 itself 1, i 2i, `i = i+1` 2i + 1, at the end not `0 = n` 2n + 1 and `0 = n` 2n + 2, and then the
 # `0 = i` of the `term` steps.
 row() {
@@ -27,5 +26,5 @@ row() {
 }
 for n in 100 1000 10000; do
     row "$n" > "$folder/table"
-    timed "chain of $n" "$folder/table" "$program"
+    timed_rows "check of a certificate of a chain of equations" "$n" "$folder/table"
 done

@@ -1,17 +1,16 @@
 #!/usr/bin/env bash
-# Times sessions of the companion solver, as scripts of `vx_rows`: chains of 1,000, 10,000 and 40,000 equations between whose ends there is a
-# difference; 1,000, 4,000 and 16,000 congruent applications that a difference needs; and random clauses of three literals, 4.26
-# for each atom. z3 is timed on the same text, where it is there. A chain's certificate has some six steps more than there
-# are equations.
+# Times sessions of the companion solver, as scripts of `vx_rows`: chains of 1,000, 10,000 and 40,000 equations between whose ends there
+# is a difference; 1,000, 4,000 and 16,000 congruent applications that a difference needs; and random clauses of three literals, 4.26
+# for each atom, of three seeds. z3 is timed on the same text, where it is there. A chain's certificate has some six steps more than
+# there are equations.
 set -eu
 . "$(dirname "${BASH_SOURCE[0]}")/timing.sh"
-program=$here/bench/rows.sh
-"$program" < /dev/null
+rows=$(where_rows)
 
+# decided WHAT SIZE: times the companion and z3 on the text
 decided() {
-    local label=$1 input=$2
-    timed "$label" "$input" timeout 120 "$program"
-    if command -v z3 > /dev/null; then before= timed "z3, $label" "$input" timeout 120 z3 -in; fi
+    timed_rows "$1" "$2" "$folder/text"
+    if has z3; then timed "z3, $1" "$2" "$folder/text" z3 -in; fi
 }
 
 chain() {
@@ -55,17 +54,15 @@ clauses() {
 
 for n in 1000 10000 40000; do
     chain "$n" > "$folder/text"
-    decided "chain of $n" "$folder/text"
+    decided "chain of equations" "$n"
 done
-before=
 for n in 1000 4000 16000; do
     applications "$n" > "$folder/text"
-    decided "$n congruent applications" "$folder/text"
+    decided "congruent applications" "$n"
 done
-for n in 50 100 150; do
-    for seed in 1 2 3; do
-        before=
+for seed in 1 2 3; do
+    for n in 50 100 150; do
         clauses "$n" "$seed" > "$folder/text"
-        decided "clauses over $n atoms, seed $seed" "$folder/text"
+        decided "random clauses of seed $seed, by atoms" "$n"
     done
 done

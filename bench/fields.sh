@@ -1,9 +1,9 @@
 #!/usr/bin/env bash
-# Writes files of one method each, and prints what it takes to verify it: one that holds 100, 400 and 1600 fields of one
-# receiver and reads each, one that puts as many parts of one location, and one with as many loops in a row.
+# Verifies files of one method each: one that holds 100 to 6400 fields of one receiver and reads each, one that adds 100 to 1600 parts of
+# one location, each an amount that is known, and one with as many loops in a row.
 set -eu
 . "$(dirname "${BASH_SOURCE[0]}")/timing.sh"
-"$here/vsil" < /dev/null > /dev/null
+vsil=$(where_vsil)
 
 fields() {
     for ((i = 0; i < $1; i++)); do echo "field f$i: Int"; done
@@ -25,6 +25,6 @@ loops() {
     echo "}"
 }
 
-measure fields 100 400 1600
-measure puts 100 400 1600
-measure loops 100 400 1600
+measure fields "fields of one receiver, each read" 100 400 1600 6400
+measure puts "parts of one location, added one by one" 100 400 1600
+measure loops "loops in one method" 100 400 1600

@@ -1,9 +1,9 @@
 #!/usr/bin/env bash
-# Writes files with predicates, and prints what it takes to verify each: one method of 100, 400 and 1600 pairs of unfold and
-# fold in a row, as many methods with one pair each, and one method that holds as many instances and unfolds the last.
+# Verifies files with predicates: one method of 100, 400 and 1600 pairs of unfold and fold in a row, as many methods with one pair each,
+# and one method that holds 100 to 6400 instances and unfolds the last one.
 set -eu
 . "$(dirname "${BASH_SOURCE[0]}")/timing.sh"
-"$here/vsil" < /dev/null > /dev/null
+vsil=$(where_vsil)
 
 cell() {
     echo "field f: Int predicate P(x: Ref) { acc(x.f) }"
@@ -33,6 +33,6 @@ instances() {
     echo "inhale P(x) unfold P(x) x.f := 1 fold P(x) }"
 }
 
-measure pairs 100 400 1600
-measure folders 100 400 1600
-measure instances 100 400 1600
+measure pairs "pairs of unfold and fold in one method" 100 400 1600
+measure folders "methods with one such pair each" 100 400 1600
+measure instances "instances held, the last one unfolded" 100 400 1600 6400

@@ -5,10 +5,8 @@
 # of differences and sums of n numbers, beside z3.
 # Words: the first seed, and how many.
 set -eu
-. "$(dirname "${BASH_SOURCE[0]}")/timing.sh"
 . "$(dirname "${BASH_SOURCE[0]}")/comparing.sh"
-program=$here/bench/rows.sh
-"$program" < /dev/null
+rows=$(where_rows)
 
 # The numbers are those of x, 16807 x, .. modulo 2^31 - 1.
 stacks() {
@@ -84,14 +82,14 @@ sums() {
     }'
 }
 
-if command -v z3 > /dev/null; then compare "${1:-1}" "${2:-2000}"; fi
+if has z3; then compare "random stacks with numbers" "${1:-1}" "${2:-2000}"; fi
 for what in differences sums; do
     for more in 0 1; do
-        before=
+        if [ "$more" = 0 ]; then label="$what, satisfiable"; else label="$what, unsatisfiable"; fi
         for n in 10 30 100; do
             "$what" "$n" "$more" > "$folder/text"
-            timed "$what of $n, $more above" "$folder/text" timeout 120 "$program"
-            if command -v z3 > /dev/null; then before= timed "z3, the same" "$folder/text" timeout 120 z3 -in; fi
+            timed_rows "$label" "$n" "$folder/text"
+            if has z3; then timed "z3, $label" "$n" "$folder/text" z3 -in; fi
         done
     done
 done

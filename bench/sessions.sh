@@ -4,8 +4,7 @@
 # answers are compared.
 set -eu
 . "$(dirname "${BASH_SOURCE[0]}")/timing.sh"
-program=$here/crates/vsolve/out/vsolve
-[ -x "$program" ] || (cd "$here/crates/vsolve" && rt run < stdin > /dev/null)
+vsolve=$(where_vsolve)
 
 checks() {
     awk -v n="$1" 'BEGIN {
@@ -28,21 +27,23 @@ declarations() {
     }'
 }
 
-# compare WHAT SIZE..: vsolve and z3 on the text that WHAT writes, by its size
+# compare WRITER WHAT SIZE..: vsolve and z3 on the texts that WRITER writes, by their size
 compare() {
-    local what=$1 n
-    shift
+    local writer=$1 what=$2 n
+    shift 2
     for n in "$@"; do
-        before=
-        "$what" "$n" > "$folder/text"
-        timed "$n $what" "$folder/text" "$program"
+        "$writer" "$n" > "$folder/text"
+        timed "vsolve, $what" "$n" "$folder/text" "$vsolve"
         cp "$folder/out" "$folder/own"
-        if command -v z3 > /dev/null; then
-            timed "z3, $n $what" "$folder/text" z3 -in
-            cmp -s "$folder/own" "$folder/out" && echo "the same answers"
+        if has z3; then
+            timed "z3, $what" "$n" "$folder/text" z3 -in
+            if ! cmp -s "$folder/own" "$folder/out"; then
+                echo "$what, $n: the answers differ"
+                exit 1
+            fi
         fi
     done
 }
 
-compare checks 1000 4000
-compare declarations 500 1000 2000 4000
+compare checks "small checks, a level each" 1000 4000
+compare declarations "declarations on one level" 500 1000 2000 4000

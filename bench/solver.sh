@@ -6,6 +6,8 @@
 set -eu
 . "$(dirname "${BASH_SOURCE[0]}")/timing.sh"
 
+vsil=$(where_vsil)
+
 cat > "$folder/solver.py" <<'PY'
 import os, sys
 apart = sys.argv[1] == "apart"
@@ -20,17 +22,16 @@ PY
 
 verified() {
     local label=$1 solver=$2
-    before=
     for count in 100 400 1600; do
         awk -v count="$count" 'BEGIN {
             print "method m(x: Int) {"
             for (i = 0; i < count; i++) print "assert x <= " i " || " i " < x"
             print "}"
         }' > "$folder/file.vpr"
-        timed "verify by $label, $count asserts" "$folder/file.vpr" "$here/vsil" verify --solver "$solver"
+        timed "verify by $label, asserts" "$count" "$folder/file.vpr" "$vsil" verify --solver "$solver"
     done
 }
 
 verified "replies in one piece" "python3 $folder/solver.py together"
 verified "replies one by one" "python3 $folder/solver.py apart"
-if command -v z3 > /dev/null; then verified z3 "z3 -in"; fi
+if has z3; then verified z3 "z3 -in"; fi

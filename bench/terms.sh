@@ -1,10 +1,10 @@
 #!/usr/bin/env bash
-# Writes files of one method each, whose amounts are no literals, and prints what it takes to verify them: one that puts
-# 10, 20 and 40 parts of one location, whose sum is then as deep, and one each of 60,000 puts and of 20,000 takes whose
-# first question has no answer.
+# Verifies files of one method each, whose amounts are a parameter of type Perm: one that adds 10, 20 and 40 parts of one location, whose
+# sum is then a term as deep, and one each of 60,000 parts added and of 20,000 parts taken, whose precondition
+# already fails.
 set -eu
 . "$(dirname "${BASH_SOURCE[0]}")/timing.sh"
-"$here/vsil" < /dev/null > /dev/null
+vsil=$(where_vsil)
 
 # changes STATEMENT COUNT REQUIRES
 changes() {
@@ -19,6 +19,6 @@ puts() { changes inhale "$1" ""; }
 
 takes() { changes exhale "$1" ""; }
 
-measure sums 10 20 40
-measure puts 60000
-measure takes 20000
+measure sums "unknown parts of one location, added one by one" 10 20 40
+measure puts "additions of unknown parts behind a precondition that fails" 60000
+measure takes "takes of unknown parts behind a precondition that fails" 20000
