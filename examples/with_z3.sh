@@ -7,7 +7,7 @@ if ! command -v z3 > /dev/null; then
     exit 0
 fi
 # the program itself, proved and built first, where it isn't yet
-if [ -n "${VSIL:-}" ]; then vsil=$VSIL; else vsil=$(VSIL_WHERE=1 "$here/../vsil"); fi
+if [ -n "${VSIL:-}" ]; then vsil=$VSIL; else vsil=$("$here/../release/where" vsil); fi
 for file in "$here"/*.vpr; do
     status=0
     got=$("$vsil" verify --solver 'z3 -in' "$file") || status=$?
