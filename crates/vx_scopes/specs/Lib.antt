@@ -1,0 +1,5 @@
+pub mod Segments
+pub mod Kept
+pub mod Scopes
+pub mod Live
+pub mod Examples
