@@ -29,6 +29,14 @@ pub record Store : Type 0 where
   pub taken : List ℕ
   pub faults : ℕ
 
+-- both ends of a stream: the bytes to come, the most that is given at once, whether the end was met, the pieces, the puts that failed
+pub record Talk : Type 0 where
+  pub left : List ℕ
+  pub most : ℕ
+  pub at_end : Bool
+  pub dialogue : List Piece
+  pub faults : ℕ
+
 -- a link that answers by a script: the script, the calls so far, the dialogue, the count of faults
 pub record ScriptTalk : Type 0 where
   pub script : Script

@@ -3,8 +3,9 @@ ghost use Rattle.std.specs.Prelude.{◌≡◌, ◌++◌, OnOk, IsTrue, List, ℕ
 ghost use Rattle.vx_ends.specs.Causes.{HasCause, IsCalm};
 ghost use Rattle.vx_ends.specs.Dialogue.{sent, got, Grows, SendsOn};
 ghost use Rattle.vx_ends.specs.Calls.{PutsSome};
+ghost use Rattle.vx_ends.specs.Talks.{SaysSome};
 
-use crate::{Link, LinkFault, PutFault, Sink};
+use crate::{Duplex, Link, LinkFault, PutFault, Sink};
 use std::alloc::Global;
 
 /// Sends all of a text; where that fails, a beginning of it.
@@ -34,11 +35,32 @@ pub fn send_all<L: Link>(alloc: Global, link: &mut L, text: &[u8]) -> Result<(),
 /// `Failed` where the sink fails; a beginning of the text may be put.
 pub fn put_all<K: Sink>(out: &mut K, text: &[u8]) -> Result<(), PutFault>
     ensures taken { PutsSome text.now (K.taken out.old) (K.taken out.new) result }
+    ensures calm { OnOk result (K.faults out.new ≡ K.faults out.old) }
     ensures cause { HasCause PutFault.Failed (K.faults out.old) (K.faults out.new) result }
 {
     let mut done = 0;
     while done < text.len() {
         done += out.put(&text[done..])?;
+    }
+    Ok(())
+}
+
+/// Puts all of a text.
+///
+/// # Errors
+/// `Failed` where a put fails; a beginning of the text may be put.
+pub fn say_all<D: Duplex>(ends: &mut D, text: &[u8]) -> Result<(), PutFault>
+    ensures says { SaysSome text.now (D.taken ends.old) (D.taken ends.new) (D.dialogue ends.old) (D.dialogue ends.new) result }
+    ensures calm { OnOk result (D.put_faults ends.new ≡ D.put_faults ends.old) }
+    ensures cause { HasCause PutFault.Failed (D.put_faults ends.old) (D.put_faults ends.new) result }
+    ensures given { D.given ends.new ≡ D.given ends.old }
+    ensures end { D.at_end ends.new ≡ D.at_end ends.old }
+    ensures reads { D.read_faults ends.new ≡ D.read_faults ends.old }
+    ensures names { D.names ends.new ≡ D.names ends.old }
+{
+    let mut done = 0;
+    while done < text.len() {
+        done += ends.put(&text[done..])?;
     }
     Ok(())
 }

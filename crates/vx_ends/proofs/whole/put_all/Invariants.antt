@@ -7,7 +7,7 @@ invariant-loop-done g l =
     record {
       within : l.done ≤ length l.text;
       taken : IfSome (taken l.fn.out) (λ bytes. taken l.out ≡ Some (bytes ++ take l.done l.text));
-      later : g.K.Sink.faults l.fn.out ≤ g.K.Sink.faults l.out;
+      calm : g.K.Sink.faults l.out ≡ g.K.Sink.faults l.fn.out;
     }
 
 abbrev pub decreases-loop-done : goal.decreases-loop-done
