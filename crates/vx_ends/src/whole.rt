@@ -1,5 +1,5 @@
 // Loops over one call of an end.
-ghost use Rattle.std.specs.Prelude.{◌≡◌, ◌++◌, OnOk, IsTrue, List, ℕ, length};
+ghost use Rattle.std.specs.Prelude.{◌≡◌, ◌<◌, ◌+◌, ◌++◌, OnOk, IsErr, IsTrue, List, ℕ, length};
 ghost use Rattle.vx_ends.specs.Causes.{HasCause, IsCalm};
 ghost use Rattle.vx_ends.specs.Dialogue.{sent, got, Grows, SendsOn};
 ghost use Rattle.vx_ends.specs.Calls.{PutsSome};
@@ -8,13 +8,14 @@ ghost use Rattle.vx_ends.specs.Talks.{SaysSome};
 use crate::{Duplex, Link, LinkFault, PutFault, Sink};
 use std::alloc::Global;
 
-/// Sends all of a text; where that fails, a beginning of it.
+/// Sends all of a text; where that fails, a beginning of it, and not all.
 ///
 /// # Errors
 /// `Failed` where the link fails; `Want` where memory runs out.
 pub fn send_all<L: Link>(alloc: Global, link: &mut L, text: &[u8]) -> Result<(), LinkFault>
     ensures sent { OnOk result (sent (L.dialogue link.new) ≡ sent (L.dialogue link.old) ++ text.now) }
     ensures begun { (rest : List ℕ) × (sent (L.dialogue link.new) ++ rest ≡ sent (L.dialogue link.old) ++ text.now) }
+    ensures part { IsErr result → length (sent (L.dialogue link.new)) < length (sent (L.dialogue link.old)) + length text.now }
     ensures got { got (L.dialogue link.new) ≡ got (L.dialogue link.old) }
     ensures grows { Grows (L.dialogue link.old) (L.dialogue link.new) }
     ensures pieces { SendsOn (L.dialogue link.old) (L.dialogue link.new) }
