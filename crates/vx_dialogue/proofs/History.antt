@@ -1,52 +1,75 @@
 -- What a dialogue told of its checks, its record tells, and goes on telling as it grows.
-use Rattle.std.proofs.Common.{◌≡◌, ◌++◌, ◌∷◌, [], ℕ, ◌<◌, ◌≤◌, Bool, true, false, List, length, refl, ap, ◌∙◌, sym, subst, append_assoc, arith}
+use Rattle.std.proofs.Common.{◌≡◌, ◌++◌, ◌+◌, ◌∷◌, [], ℕ, ◌<◌, ◌≤◌, Bool, true, false, List, length, Some, refl, ap, ◌∙◌, sym, subst, append_assoc, length-append, arith}
 use Rattle.std.proofs.lemmas.List.{append_cancel_left}
 use Rattle.vx_ends.specs.declared.fault.LinkFault.{LinkFault}
 use Rattle.vx_ends.specs.declared.piece.Piece.{Piece}
 use Rattle.vx_ends.specs.Dialogue.{sent, got, SendsOn, GetsOn}
-use Rattle.vx_ends.proofs.Dialogues.{sent-append, got-append}
+use Rattle.vx_ends.proofs.Dialogues.{sent-append, got-append, gets_none}
+use Rattle.vx_sexp.specs.declared.token.Token.{Token}
 use Rattle.vx_smt_meaning.specs.Commands.{Command, CheckSat, Declared}
-use Rattle.vx_smt_meaning.specs.Replies.{Items}
-use Rattle.vx_smt_meaning.specs.Dialogues.{Check}
+use Rattle.vx_smt_meaning.specs.Dialogues.{Answers, Check}
 use Rattle.vx_smt_text.specs.Text.{command_text, commands_text}
 use Rattle.vx_dialogue.specs.declared.dialogue.Dialogue.{Dialogue}
 use Rattle.vx_dialogue.specs.declared.talk.Talk.{Talk}
 use Rattle.vx_dialogue.specs.declared.talk.Talk.TheVariants as talk
 use Rattle.vx_dialogue.specs.Faults.{talk_of}
 use Rattle.vx_dialogue.specs.Dialogue.{Gathers, Waits, Stands, link_of}
-use Rattle.vx_dialogue.specs.History.{Tells, Breaks}
+use Rattle.vx_dialogue.specs.declared.item.Wanted.TheVariants as wanted
+use Rattle.vx_dialogue.specs.Items.{ShortItems, GivesNoReply}
+use Rattle.vx_dialogue.specs.Hears.{ReadsSuccesses}
+use Rattle.vx_dialogue.specs.Stops.{FailsAfter}
+use Rattle.vx_dialogue.specs.History.{HoldsNoAnswer, TellsOf, Tells, may_miss, Breaks}
 use Rattle.vx_dialogue.specs.Pace.{KeepsPace}
 use Rattle.vx_dialogue.specs.Scripts.{Turn, said_of, is_inside_after, script}
-use Rattle.vx_dialogue.proofs.Joined.{append_none, items_longer, sent_by_gets}
+use Rattle.vx_dialogue.proofs.Joined.{append_none, short_longer, sent_by_gets}
+use Rattle.vx_dialogue.proofs.Told.{some_same}
 use Rattle.vx_dialogue.proofs.Lists.{length_more, text_append, text_more}
 use Rattle.vx_dialogue.proofs.Pace.{pace_longer, pace_begun, pace_got}
 use Rattle.vx_dialogue.proofs.Explained.{by_link}
+use Rattle.vx_dialogue.proofs.Held.{none_plain, held_longer, held_part, held_unanswered, unanswered_among, unanswered_check}
 use Rattle.vx_dialogue.proofs.Levels.{script_more}
 
--- Pieces that are got change nothing of it.
-pub tells_gets : (failed : Bool) (script : List Command) (old new : List Piece) (checks : List Check) → GetsOn old new → Tells failed script old checks → Tells failed script new checks
-tells_gets failed script old new checks gets tells =
-    let same : sent new ≡ sent old = sent_by_gets old new gets in
-    record {
-      answered = tells.answered;
-      behind = tells.behind;
-      begun = tells.begun;
-      unsent = tells.unsent;
-      items = tells.items;
-      got_later = tells.got_later ++ got gets.0;
-      all = tells.all;
-      sent_is = same ∙ tells.sent_is;
-      begun_is = tells.begun_is;
-      got_is = subst (λ x. Items x tells.items (tells.got_later ++ got gets.0)) (sym (ap got gets.1 ∙ got-append old gets.0))
-          (items_longer (got old) (got gets.0) tells.items tells.got_later tells.got_is);
-      lawful = tells.lawful;
-      checks_are = tells.checks_are;
-      waits = tells.waits;
-      pace = pace_got script old new gets tells.pace;
-    }
+-- where an answer may be missed, less is told
+pub tells_any : (failed : Bool) (missed : Bool) (script : List Command) (pieces : List Piece) (checks : List Check) → Tells failed script pieces checks → TellsOf failed missed script pieces checks
+tells_any failed missed script pieces checks tells = record {
+  answered = tells.answered;
+  behind = tells.behind;
+  begun = tells.begun;
+  unsent = tells.unsent;
+  items = tells.items;
+  got_later = tells.got_later;
+  all = tells.all;
+  sent_is = tells.sent_is;
+  begun_is = tells.begun_is;
+  got_is = tells.got_is;
+  lawful = tells.lawful;
+  checks_are = tells.checks_are;
+  waits = tells.waits;
+  held = λ no_miss. tells.held refl;
+  pace = tells.pace;
+}
+
+pub tells_missed : {missed : Bool} (script : List Command) (pieces : List Piece) (checks : List Check) → TellsOf true missed script pieces checks → TellsOf true true script pieces checks
+tells_missed script pieces checks tells = record {
+  answered = tells.answered;
+  behind = tells.behind;
+  begun = tells.begun;
+  unsent = tells.unsent;
+  items = tells.items;
+  got_later = tells.got_later;
+  all = tells.all;
+  sent_is = tells.sent_is;
+  begun_is = tells.begun_is;
+  got_is = tells.got_is;
+  lawful = tells.lawful;
+  checks_are = tells.checks_are;
+  waits = tt;
+  held = λ no_miss. absurd (cc);
+  pace = tells.pace;
+}
 
 -- where a call failed, more may be said by the script
-pub tells_longer : (failed : Bool) (script more : List Command) (pieces : List Piece) (checks : List Check) → Tells failed script pieces checks → Tells true (script ++ more) pieces checks
+pub tells_longer : {missed : Bool} (failed : Bool) (script more : List Command) (pieces : List Piece) (checks : List Check) → TellsOf failed missed script pieces checks → TellsOf true missed (script ++ more) pieces checks
 tells_longer failed script more pieces checks tells = record {
   answered = tells.answered;
   behind = tells.behind ++ more;
@@ -61,6 +84,7 @@ tells_longer failed script more pieces checks tells = record {
   lawful = tells.lawful;
   checks_are = tells.checks_are;
   waits = tt;
+  held = λ no_miss. held_longer tells.behind more tells.begun tells.unsent tells.got_later tells.begun_is (tells.held no_miss);
   pace = pace_longer script more pieces tells.pace;
 }
 
@@ -88,67 +112,104 @@ module _ {L : Type 0} (dialogue : L → List Piece) (d : Dialogue L) (commands :
     lawful = g.lawful;
     checks_are = g.checks_are;
     waits = (refl, g.plain, g.few);
+    held = λ no_miss. none_plain g.gathered [] d.unread.items g.plain;
     pace = g.pace;
   }
 
-  pub waits_tells : Waits dialogue d commands checks → Tells true commands (dialogue d.link) checks
-  waits_tells w = record {
-    answered = w.answered;
-    behind = w.waiting ++ CheckSat ∷ [];
-    begun = commands_text (w.waiting ++ CheckSat ∷ []);
-    unsent = [];
-    items = w.items;
-    got_later = d.unread.items;
-    all = w.all ∙ append_assoc w.answered w.waiting (CheckSat ∷ []);
-    sent_is = w.sent_is ∙ (ap commands_text (w.all ∙ append_assoc w.answered w.waiting (CheckSat ∷ [])) ∙ text_append w.answered (w.waiting ++ CheckSat ∷ []));
-    begun_is = append_none (commands_text (w.waiting ++ CheckSat ∷ []));
-    got_is = w.got_is;
-    lawful = w.lawful;
-    checks_are = w.checks_are;
-    waits = tt;
-    pace = w.pace;
-  }
-
-  -- some commands were to be sent behind the answered ones, and a beginning of them is
-  sends_tells : (g : Gathers dialogue d commands checks) (new : List Piece) (batch : List ℕ) (script waiting : List Command) → script ≡ g.answered ++ waiting → batch ≡ commands_text waiting
-      → length waiting ≤ 256 → SendsOn (dialogue d.link) new → KeepsPace script (dialogue d.link)
-      → (rest : List ℕ) → sent new ++ rest ≡ sent (dialogue d.link) ++ batch → got new ≡ got (dialogue d.link) → Tells true script new checks
-  sends_tells g new batch script waiting all batch_is few sends pace rest begun got_on =
+  -- a check was sent, and pieces are got
+  pub waits_tells : (missed : Bool) (new : List Piece) → GetsOn (dialogue d.link) new → (w : Waits dialogue d commands checks)
+      → (missed ≡ false → (later rest : List ℕ) (items : List (List Token)) → got new ≡ got (dialogue d.link) ++ later → ShortItems (d.unread.items ++ later) items rest → Answers (w.waiting ++ CheckSat ∷ []) items → ⊥)
+      → TellsOf true missed commands new checks
+  waits_tells missed new gets w none =
       let old = dialogue d.link in
-      let added : sent new ≡ sent old ++ sent sends.0 = ap sent sends.1 ∙ sent-append old sends.0 in
+      let later : got new ≡ got old ++ got gets.0 = ap got gets.1 ∙ got-append old gets.0 in
+      record {
+        answered = w.answered;
+        behind = w.waiting ++ CheckSat ∷ [];
+        begun = commands_text (w.waiting ++ CheckSat ∷ []);
+        unsent = [];
+        items = w.items;
+        got_later = d.unread.items ++ got gets.0;
+        all = w.all ∙ append_assoc w.answered w.waiting (CheckSat ∷ []);
+        sent_is = sent_by_gets old new gets ∙ (w.sent_is ∙ (ap commands_text (w.all ∙ append_assoc w.answered w.waiting (CheckSat ∷ [])) ∙ text_append w.answered (w.waiting ++ CheckSat ∷ [])));
+        begun_is = append_none (commands_text (w.waiting ++ CheckSat ∷ []));
+        got_is = subst (λ x. ShortItems x w.items (d.unread.items ++ got gets.0)) (sym later) (short_longer (got old) (got gets.0) w.items d.unread.items w.got_is);
+        lawful = w.lawful;
+        checks_are = w.checks_are;
+        waits = tt;
+        held = λ no_miss. held_unanswered w.waiting (commands_text (w.waiting ++ CheckSat ∷ [])) (d.unread.items ++ got gets.0) w.plain
+            (λ rest items heard lawful. none no_miss (got gets.0) rest items later heard lawful);
+        pace = pace_got commands old new gets w.pace;
+      }
+
+  -- where an answer may be missed
+  pub waits_missed : (new : List Piece) → GetsOn (dialogue d.link) new → Waits dialogue d commands checks → TellsOf true true commands new checks
+  waits_missed new gets w = waits_tells true new gets w (λ no_miss. absurd (cc))
+
+  -- a call failed while the successes before a check's answer were read
+  pub in_waiting_tells : (t : Talk) (owed : ℕ) (new : List Piece) → GetsOn (dialogue d.link) new → d.owed ≡ Some owed → FailsAfter t owed (got (dialogue d.link)) d.unread.items (got new)
+      → Waits dialogue d commands checks → TellsOf true (may_miss t) commands new checks
+  in_waiting_tells t owed new gets is fails w =
+      let number : owed ≡ length w.waiting = some_same owed (length w.waiting) (sym is ∙ w.owed_is) in
+      let counted = subst (λ n. FailsAfter t n (got (dialogue d.link)) d.unread.items (got new)) number fails in
+      waits_tells (may_miss t) new gets w (λ no_miss. unanswered_among t w.waiting (got (dialogue d.link)) d.unread.items (got new) no_miss w.plain counted)
+
+  -- or the check's answer was
+  pub in_answer_tells : (t : Talk) (owed : ℕ) (g1 u1 : List ℕ) (new : List Piece) → GetsOn (dialogue d.link) new → d.owed ≡ Some owed → ReadsSuccesses owed (got (dialogue d.link)) d.unread.items g1 u1
+      → GivesNoReply t wanted.Answer g1 u1 (got new) → Waits dialogue d commands checks → TellsOf true (may_miss t) commands new checks
+  in_answer_tells t owed g1 u1 new gets is reads gives w =
+      let number : owed ≡ length w.waiting = some_same owed (length w.waiting) (sym is ∙ w.owed_is) in
+      let counted = subst (λ n. ReadsSuccesses n (got (dialogue d.link)) d.unread.items g1 u1) number reads in
+      waits_tells (may_miss t) new gets w (λ no_miss. unanswered_check t w.waiting (got (dialogue d.link)) d.unread.items g1 u1 (got new) no_miss counted gives)
+
+  -- Some commands were to be sent behind the answered ones, and a beginning of them is; then pieces are got.
+  sends_tells : (g : Gathers dialogue d commands checks) (between new : List Piece) (batch : List ℕ) (script waiting : List Command) → script ≡ g.answered ++ waiting → batch ≡ commands_text waiting
+      → length waiting ≤ 256 → SendsOn (dialogue d.link) between → GetsOn between new → KeepsPace script (dialogue d.link)
+      → (rest : List ℕ) → sent between ++ rest ≡ sent (dialogue d.link) ++ batch → got between ≡ got (dialogue d.link)
+      → ((begun later : List ℕ) → begun ++ rest ≡ commands_text waiting → HoldsNoAnswer waiting begun later) → Tells true script new checks
+  sends_tells g between new batch script waiting all batch_is few sends gets pace rest begun got_on holds =
+      let old = dialogue d.link in
+      let added : sent between ≡ sent old ++ sent sends.0 = ap sent sends.1 ∙ sent-append old sends.0 in
       let left : sent sends.0 ++ rest ≡ batch =
       append_cancel_left (sent old) (sent sends.0 ++ rest) batch (sym (append_assoc (sent old) (sent sends.0) rest) ∙ (ap (λ x. x ++ rest) (sym added) ∙ begun)) in
+      let later : got new ≡ got old ++ got gets.0 = ap got gets.1 ∙ (got-append between gets.0 ∙ ap (λ x. x ++ got gets.0) got_on) in
+      let kept = pace_begun old between batch rest script g.answered waiting g.items d.unread.items all sends begun g.sent_is batch_is few g.got_is g.lawful pace in
       record {
         answered = g.answered;
         behind = waiting;
         begun = sent sends.0;
         unsent = rest;
         items = g.items;
-        got_later = d.unread.items;
+        got_later = d.unread.items ++ got gets.0;
         all = all;
-        sent_is = added ∙ ap (λ x. x ++ sent sends.0) g.sent_is;
+        sent_is = sent_by_gets between new gets ∙ (added ∙ ap (λ x. x ++ sent sends.0) g.sent_is);
         begun_is = left ∙ batch_is;
-        got_is = subst (λ x. Items x g.items d.unread.items) (sym got_on) g.got_is;
+        got_is = subst (λ x. ShortItems x g.items (d.unread.items ++ got gets.0)) (sym later) (short_longer (got old) (got gets.0) g.items d.unread.items g.got_is);
         lawful = g.lawful;
         checks_are = g.checks_are;
         waits = tt;
-        pace = pace_begun old new batch rest script g.answered waiting g.items d.unread.items all sends begun g.sent_is batch_is few g.got_is g.lawful pace;
+        held = λ no_miss. holds (sent sends.0) (d.unread.items ++ got gets.0) (left ∙ batch_is);
+        pace = pace_got script between new gets kept;
       }
 
   -- what is gathered
-  pub batch_tells : (new : List Piece) → SendsOn (dialogue d.link) new → ((rest : List ℕ) × (sent new ++ rest ≡ sent (dialogue d.link) ++ d.batch.items)) → got new ≡ got (dialogue d.link)
+  pub batch_tells : (between new : List Piece) → SendsOn (dialogue d.link) between → GetsOn between new → ((rest : List ℕ) × (sent between ++ rest ≡ sent (dialogue d.link) ++ d.batch.items)) → got between ≡ got (dialogue d.link)
       → Gathers dialogue d commands checks → Tells true commands new checks
-  batch_tells new sends begun got_on g = sends_tells g new d.batch.items commands g.gathered g.all g.batch_is g.few sends g.pace begun.0 begun.1 got_on
+  batch_tells between new sends gets begun got_on g =
+      sends_tells g between new d.batch.items commands g.gathered g.all g.batch_is g.few sends gets g.pace begun.0 begun.1 got_on (λ front later _. none_plain g.gathered front later g.plain)
 
-  -- and a check-sat behind it
+  -- and a check-sat behind it, not whole
   pub check_tells : (new : List Piece) → SendsOn (dialogue d.link) new → d.count < 256
-      → ((rest : List ℕ) × (sent new ++ rest ≡ sent (dialogue d.link) ++ (d.batch.items ++ command_text CheckSat))) → got new ≡ got (dialogue d.link)
+      → ((rest : List ℕ) × (sent new ++ rest ≡ sent (dialogue d.link) ++ (d.batch.items ++ command_text CheckSat)))
+      → length (sent new) < length (sent (dialogue d.link)) + length (d.batch.items ++ command_text CheckSat) → got new ≡ got (dialogue d.link)
       → Gathers dialogue d commands checks → Tells true (commands ++ CheckSat ∷ []) new checks
-  check_tells new sends room begun got_on g =
-      sends_tells g new (d.batch.items ++ command_text CheckSat) (commands ++ CheckSat ∷ []) (g.gathered ++ CheckSat ∷ [])
+  check_tells new sends room begun part got_on g =
+      let whole = sym (length-append (sent new) begun.0) ∙ (ap length begun.1 ∙ length-append (sent (dialogue d.link)) (d.batch.items ++ command_text CheckSat)) in
+      let some : 0 < length begun.0 = omega arith in
+      sends_tells g new new (d.batch.items ++ command_text CheckSat) (commands ++ CheckSat ∷ []) (g.gathered ++ CheckSat ∷ [])
       (ap (λ x. x ++ CheckSat ∷ []) g.all ∙ append_assoc g.answered g.gathered (CheckSat ∷ []))
-      (ap (λ x. x ++ command_text CheckSat) g.batch_is ∙ sym (text_more g.gathered CheckSat)) (omega (arith, length_more g.gathered CheckSat, g.count_is)) sends
-      (pace_longer commands (CheckSat ∷ []) (dialogue d.link) g.pace) begun.0 begun.1 got_on
+      (ap (λ x. x ++ command_text CheckSat) g.batch_is ∙ sym (text_more g.gathered CheckSat)) (omega (arith, length_more g.gathered CheckSat, g.count_is)) sends (gets_none new)
+      (pace_longer commands (CheckSat ∷ []) (dialogue d.link) g.pace) begun.0 begun.1 got_on (λ front later all. held_part g.gathered front begun.0 later g.plain some all)
 
 pub standing_tells : {L : Type 0} (dialogue : L → List Piece) (certify : Bool) (functions : List Declared) (turns : List Turn) (d : Dialogue L) (checks : List Check)
     → Stands dialogue certify functions turns d checks → Tells false (script certify functions turns) (dialogue (link_of d)) checks
@@ -169,9 +230,9 @@ pub breaks_at : (t : Talk) (script other : List Command) (pieces : List Piece) (
 breaks_at t script other pieces checks same broken = subst (λ x. Breaks t x pieces checks) same broken
 
 -- want of memory needs no explanation, nor does an earlier failure
-pub breaks_want : (t : Talk) (script : List Command) (pieces : List Piece) (checks : List Check) → t ≡ talk.Want → Tells true script pieces checks → Breaks t script pieces checks
-breaks_want t script pieces checks is told = record { explained = rw is tt; told = told }
+pub breaks_want : {missed : Bool} (t : Talk) (script : List Command) (pieces : List Piece) (checks : List Check) → t ≡ talk.Want → TellsOf true missed script pieces checks → Breaks t script pieces checks
+breaks_want t script pieces checks is told = record { explained = rw is tt; told = subst (λ x. TellsOf true (may_miss x) script pieces checks) (sym is) (tells_missed script pieces checks told) }
 
 -- the link's own fault explains itself
 pub breaks_link : (f : LinkFault) (t : Talk) (script : List Command) (pieces : List Piece) (checks : List Check) → t ≡ talk_of f → Tells true script pieces checks → Breaks t script pieces checks
-breaks_link f t script pieces checks is told = record { explained = rw is (by_link f pieces); told = told }
+breaks_link f t script pieces checks is told = record { explained = rw is (by_link f pieces); told = tells_any true (may_miss t) script pieces checks told }

@@ -1,5 +1,5 @@
 -- Items that are read one after another.
-use Rattle.std.proofs.Common.{◌≡◌, ◌++◌, ◌+◌, ℕ, List, [], ◌∷◌, length, refl, ap, ◌∙◌, sym, subst, append_assoc, arith, true}
+use Rattle.std.proofs.Common.{◌≡◌, ◌++◌, ◌+◌, ℕ, List, [], ◌∷◌, length, refl, ap, ◌∙◌, sym, subst, append_assoc, length-append, arith, true}
 use Rattle.vx_ends.specs.declared.piece.Piece.{Piece}
 use Rattle.vx_ends.specs.declared.piece.Piece.TheVariants.{Sent, Got}
 use Rattle.vx_ends.specs.Dialogue.{sent, Grows, AreGot, GetsOn}
@@ -11,7 +11,7 @@ use Rattle.vx_sexp.proofs.Counts.{starts_more}
 use Rattle.vx_smt_meaning.specs.Replies.{Items}
 use Rattle.vx_dialogue.specs.declared.item.Wanted.{Wanted}
 use Rattle.vx_dialogue.specs.declared.item.Wanted.TheVariants as wanted
-use Rattle.vx_dialogue.specs.Items.{Keeps, is_lawful, ReadsItem}
+use Rattle.vx_dialogue.specs.Items.{IsItem, ShortItems, Keeps, is_lawful, ReadsItem}
 use Rattle.vx_dialogue.specs.Hears.{all_lawful, ReadsSuccesses}
 
 pub append_none : {A : Type 0} (xs : List A) → xs ++ [] ≡ xs
@@ -33,6 +33,31 @@ pub items_more : (bytes : List ℕ) (items : List (List Token)) (mid : List ℕ)
 items_more bytes [] mid item rest e f = (rest, subst (λ x. IsFirst x item rest) e f, refl)
 items_more bytes (i ∷ items) mid item rest e f = (e.0, e.1, items_more e.0 items mid item rest e.2 f)
 
+-- ---- the same of items that are short
+
+pub item_longer : (bytes more : List ℕ) (item : List Token) (rest : List ℕ) → IsItem bytes item rest → IsItem (bytes ++ more) item (rest ++ more)
+item_longer bytes more item rest e =
+    let all = length-append bytes more in
+    let behind = length-append rest more in
+    let short = e.short in
+    record { first = first_longer bytes more item rest e.first; short = omega arith }
+
+pub short_longer : (bytes more : List ℕ) (items : List (List Token)) (rest : List ℕ) → ShortItems bytes items rest → ShortItems (bytes ++ more) items (rest ++ more)
+short_longer bytes more [] rest e = ap (λ x. x ++ more) e
+short_longer bytes more (item ∷ items) rest e = (e.0 ++ more, item_longer bytes more item e.0 e.1, short_longer e.0 more items rest e.2)
+
+short_more : (bytes : List ℕ) (items : List (List Token)) (mid : List ℕ) (item : List Token) (rest : List ℕ) → ShortItems bytes items mid → IsItem mid item rest → ShortItems bytes (items ++ item ∷ []) rest
+short_more bytes [] mid item rest e f = (rest, subst (λ x. IsItem x item rest) e f, refl)
+short_more bytes (i ∷ items) mid item rest e f = (e.0, e.1, short_more e.0 items mid item rest e.2 f)
+
+pub short_join : (bytes : List ℕ) (xs ys : List (List Token)) (mid rest : List ℕ) → ShortItems bytes xs mid → ShortItems mid ys rest → ShortItems bytes (xs ++ ys) rest
+short_join bytes [] ys mid rest e f = subst (λ x. ShortItems x ys rest) e f
+short_join bytes (x ∷ xs) ys mid rest e f = (e.0, e.1, short_join e.0 xs ys mid rest e.2 f)
+
+pub items_of : (bytes : List ℕ) (items : List (List Token)) (rest : List ℕ) → ShortItems bytes items rest → Items bytes items rest
+items_of bytes [] rest e = e
+items_of bytes (item ∷ items) rest e = (e.0, e.1.first, items_of e.0 items rest e.2)
+
 lawful_more : (w : Wanted) (items : List (List Token)) (item : List Token) → all_lawful w items → is_lawful w item ≡ true → all_lawful w (items ++ item ∷ [])
 lawful_more w [] item e f = (f, tt)
 lawful_more w (i ∷ items) item e f = (e.0, lawful_more w items item e.1 f)
@@ -42,13 +67,13 @@ length_more [] x = refl
 length_more (y ∷ xs) x = let h = length_more xs x in omega arith
 
 -- The bytes got and not read go on with an item.
-pub items_on : (got0 unread0 got1 unread1 got2 unread2 : List ℕ) (more : List ℕ) (items : List (List Token)) (item : List Token) → got1 ≡ got0 ++ more → Items (unread0 ++ more) items unread1
-    → ReadsItem got1 unread1 got2 unread2 item → (all : List ℕ) × (got2 ≡ got0 ++ all) × Items (unread0 ++ all) (items ++ item ∷ []) unread2
+pub items_on : (got0 unread0 got1 unread1 got2 unread2 : List ℕ) (more : List ℕ) (items : List (List Token)) (item : List Token) → got1 ≡ got0 ++ more → ShortItems (unread0 ++ more) items unread1
+    → ReadsItem got1 unread1 got2 unread2 item → (all : List ℕ) × (got2 ≡ got0 ++ all) × ShortItems (unread0 ++ all) (items ++ item ∷ []) unread2
 items_on got0 unread0 got1 unread1 got2 unread2 more items item is before reads = (
   more ++ reads.0,
   reads.1 ∙ rw (is, append_assoc) refl,
-  subst (λ x. Items x (items ++ item ∷ []) unread2) (append_assoc unread0 more reads.0)
-      (items_more ((unread0 ++ more) ++ reads.0) items (unread1 ++ reads.0) item unread2 (items_longer (unread0 ++ more) reads.0 items unread1 before) reads.2),
+  subst (λ x. ShortItems x (items ++ item ∷ []) unread2) (append_assoc unread0 more reads.0)
+      (short_more ((unread0 ++ more) ++ reads.0) items (unread1 ++ reads.0) item unread2 (short_longer (unread0 ++ more) reads.0 items unread1 before) reads.2),
 )
 
 pub successes_none : (got unread : List ℕ) → ReadsSuccesses 0 got unread got unread

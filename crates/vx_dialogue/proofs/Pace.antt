@@ -7,14 +7,14 @@ use Rattle.vx_ends.specs.Dialogue.{sent, got, AreSent, AreGot, SendsOn, GetsOn}
 use Rattle.vx_ends.proofs.Dialogues.{sent-append, got-append}
 use Rattle.vx_sexp.specs.declared.token.Token.{Token}
 use Rattle.vx_smt_meaning.specs.Commands.{Command}
-use Rattle.vx_smt_meaning.specs.Replies.{Items}
 use Rattle.vx_smt_meaning.specs.Dialogues.{Answers}
 use Rattle.vx_smt_text.specs.Text.{commands_text}
+use Rattle.vx_dialogue.specs.Items.{ShortItems}
 use Rattle.vx_dialogue.specs.Pace.{FewWait, KeepsPace}
-use Rattle.vx_dialogue.proofs.Joined.{append_none, items_longer, none_sent}
+use Rattle.vx_dialogue.proofs.Joined.{append_none, short_longer, none_sent}
 
 -- a front of two lists ends in the first or in the second
-fronts : {A : Type 0} (xs ys before after : List A) → xs ++ ys ≡ before ++ after
+pub fronts : {A : Type 0} (xs ys before after : List A) → xs ++ ys ≡ before ++ after
     → ((m : List A) × (xs ≡ before ++ m)) ⊎ ((m : List A) × (before ≡ xs ++ m) × (ys ≡ m ++ after))
 fronts [] ys before after e = inr (before, refl, e)
 fronts (x ∷ xs) ys [] after e = inl (x ∷ xs, refl)
@@ -87,7 +87,7 @@ pace_longer script more pieces pace before after e =
 -- Where all that was sent has its replies, a batch of 256 commands at most is sent, or a beginning of it.
 pub pace_begun : (old new : List Piece) (batch left : List ℕ) (script answered waiting : List Command) (items : List (List Token)) (rest : List ℕ) → script ≡ answered ++ waiting
     → SendsOn old new → sent new ++ left ≡ sent old ++ batch → sent old ≡ commands_text answered → batch ≡ commands_text waiting → length waiting ≤ 256
-    → Items (got old) items rest → Answers answered items → KeepsPace script old → KeepsPace script new
+    → ShortItems (got old) items rest → Answers answered items → KeepsPace script old → KeepsPace script new
 pace_begun old new batch left script answered waiting items rest all more sent_on sent_is batch_is few heard lawful pace before after e =
     by_front (fronts old more.0 before after (sym more.1 ∙ e))
   where
@@ -112,14 +112,14 @@ pace_begun old new batch left script answered waiting items rest all more sent_o
           sent_is = ap sent f.1 ∙ (sent-append old f.0 ∙ ap (λ x. x ++ sent f.0) sent_is);
           begun_is = sym (append_assoc (sent f.0) (sent after) left) ∙ (ap (λ x. x ++ left) (sym (sent-append f.0 after) ∙ ap sent (sym f.2)) ∙ (added ∙ batch_is));
           few = few;
-          got_is = subst (λ x. Items x items rest) (sym same) heard;
+          got_is = subst (λ x. ShortItems x items rest) (sym same) heard;
           lawful = lawful;
         }
 
 -- and the whole batch
 pub pace_sent : (old new : List Piece) (batch : List ℕ) (script answered waiting : List Command) (items : List (List Token)) (rest : List ℕ) → script ≡ answered ++ waiting
     → SendsOn old new → sent new ≡ sent old ++ batch → sent old ≡ commands_text answered → batch ≡ commands_text waiting → length waiting ≤ 256
-    → Items (got old) items rest → Answers answered items → KeepsPace script old → KeepsPace script new
+    → ShortItems (got old) items rest → Answers answered items → KeepsPace script old → KeepsPace script new
 pace_sent old new batch script answered waiting items rest all more sent_on =
     pace_begun old new batch [] script answered waiting items rest all more (append_none (sent new) ∙ sent_on)
 
@@ -145,6 +145,6 @@ pace_got script old new more pace before after e = by_front (fronts old more.0 b
           sent_is = same ∙ few.sent_is;
           begun_is = few.begun_is;
           few = few.few;
-          got_is = subst (λ x. Items x few.items (few.rest ++ got f.0)) (sym (ap got f.1 ∙ got-append old f.0)) (items_longer (got old) (got f.0) few.items few.rest few.got_is);
+          got_is = subst (λ x. ShortItems x few.items (few.rest ++ got f.0)) (sym (ap got f.1 ∙ got-append old f.0)) (short_longer (got old) (got f.0) few.items few.rest few.got_is);
           lawful = few.lawful;
         }

@@ -22,7 +22,7 @@ use Rattle.vx_dialogue.specs.Preamble.{print_success}
 use Rattle.vx_dialogue.specs.Dialogue.{Gathers, Waits}
 use Rattle.vx_dialogue.specs.Scripts.{preamble, question, closing}
 use Rattle.vx_dialogue.specs.Steady.{IsSteady, Owes}
-use Rattle.vx_dialogue.proofs.Joined.{items_longer, items_more, items_join, length_more}
+use Rattle.vx_dialogue.proofs.Joined.{items_longer, items_more, items_join, items_of, length_more}
 use Rattle.vx_dialogue.proofs.Lists.{text_append, map_whole}
 use Rattle.vx_dialogue.proofs.Told.{some_same}
 use Rattle.vx_dialogue.proofs.Counts.{finished_items, finished_none, text_least}
@@ -63,7 +63,7 @@ owes_read n old new u0 u1 item reads same owes =
     let most = owes.2 in (
       owes.0 ++ item ∷ [],
       subst (λ x. Items x (owes.0 ++ item ∷ []) u1) (sym reads.1)
-          (items_more (got old ++ reads.0) owes.0 (u0 ++ reads.0) item u1 (items_longer (got old) reads.0 owes.0 u0 owes.1) reads.2),
+          (items_more (got old ++ reads.0) owes.0 (u0 ++ reads.0) item u1 (items_longer (got old) reads.0 owes.0 u0 owes.1) reads.2.first),
       omega arith,
     )
 
@@ -75,7 +75,7 @@ owes_successes n m old new u0 u1 reads same owes =
     let most = owes.2 in (
       owes.0 ++ reads.2,
       subst (λ x. Items x (owes.0 ++ reads.2) u1) (sym reads.1)
-          (items_join (got old ++ reads.0) owes.0 reads.2 (u0 ++ reads.0) u1 (items_longer (got old) reads.0 owes.0 u0 owes.1) reads.3),
+          (items_join (got old ++ reads.0) owes.0 reads.2 (u0 ++ reads.0) u1 (items_longer (got old) reads.0 owes.0 u0 owes.1) (items_of (u0 ++ reads.0) reads.2 u1 reads.3)),
       omega arith,
     )
 
@@ -127,7 +127,7 @@ module _ {L : Type 0} (dialogue : L → List Piece) (d : Dialogue L) (commands :
       let least = text_least commands named in
       let sent_same = ap finished text in
       let count = g.count_is in
-      (g.items, subst (λ x. Items x g.items d.unread.items) (sym got_on) g.got_is, omega arith)
+      (g.items, subst (λ x. Items x g.items d.unread.items) (sym got_on) (items_of (got (dialogue d.link)) g.items d.unread.items g.got_is), omega arith)
 
   -- a check waits behind so many others
   pub owes_check : (owed : ℕ) → d.owed ≡ Some owed → AreCommands commands → Waits dialogue d commands checks → Owes (owed + 1) (dialogue d.link) d.unread.items
@@ -137,7 +137,7 @@ module _ {L : Type 0} (dialogue : L → List Piece) (d : Dialogue L) (commands :
       let replies = answers_length w.answered w.items w.lawful in
       let least = text_least commands named in
       let sent_same = ap finished w.sent_is in
-      (w.items, w.got_is, omega arith)
+      (w.items, items_of (got (dialogue d.link)) w.items d.unread.items w.got_is, omega arith)
 
 pub commands_front : (xs ys : List Command) → AreCommands (xs ++ ys) → AreCommands xs
 commands_front [] ys named = tt

@@ -4,23 +4,23 @@ use Rattle.vx_ends.specs.declared.piece.Piece.{Piece}
 use Rattle.vx_ends.specs.Dialogue.{sent, got, SendsOn, GetsOn}
 use Rattle.vx_sexp.specs.declared.token.Token.{Token}
 use Rattle.vx_smt_meaning.specs.Commands.{Command, CheckSat, Pop, empty_level, stack_from, stack_of}
-use Rattle.vx_smt_meaning.specs.Replies.{Items, answer_of}
+use Rattle.vx_smt_meaning.specs.Replies.{answer_of}
 use Rattle.vx_smt_meaning.specs.Dialogues.{is_plain, Answers, Check, check_at, checks_told}
 use Rattle.vx_smt_meaning.specs.declared.reply.Reply.{Reply}
 use Rattle.vx_smt_text.specs.Text.{command_text, commands_text}
 use Rattle.vx_dialogue.specs.declared.dialogue.Dialogue.{Dialogue}
-use Rattle.vx_dialogue.specs.Items.{ReadsItem}
+use Rattle.vx_dialogue.specs.Items.{ShortItems, ReadsItem}
 use Rattle.vx_dialogue.specs.Hears.{ReadsSuccesses}
 use Rattle.vx_dialogue.specs.Dialogue.{Gathers, Waits, told_check}
 use Rattle.vx_dialogue.specs.Pace.{KeepsPace}
 use Rattle.vx_dialogue.proofs.Pace.{pace_none, pace_longer, pace_sent, pace_got}
 use Rattle.vx_dialogue.proofs.Lists.{none_more, length_more, text_append, text_more, stack_append, plain_join, no_checks, successes_to, answers_join, checks_join}
-use Rattle.vx_dialogue.proofs.Joined.{items_longer, items_join}
+use Rattle.vx_dialogue.proofs.Joined.{short_longer, short_join}
 
 -- Items that were read, and then some more of what was got meanwhile.
-items_go_on : (got0 unread0 got1 unread1 more : List ℕ) (xs ys : List (List Token)) → got1 ≡ got0 ++ more → Items got0 xs unread0 → Items (unread0 ++ more) ys unread1 → Items got1 (xs ++ ys) unread1
+items_go_on : (got0 unread0 got1 unread1 more : List ℕ) (xs ys : List (List Token)) → got1 ≡ got0 ++ more → ShortItems got0 xs unread0 → ShortItems (unread0 ++ more) ys unread1 → ShortItems got1 (xs ++ ys) unread1
 items_go_on got0 unread0 got1 unread1 more xs ys is e f =
-    subst (λ x. Items x (xs ++ ys) unread1) (sym is) (items_join (got0 ++ more) xs ys (unread0 ++ more) unread1 (items_longer got0 more xs unread0 e) f)
+    subst (λ x. ShortItems x (xs ++ ys) unread1) (sym is) (short_join (got0 ++ more) xs ys (unread0 ++ more) unread1 (short_longer got0 more xs unread0 e) f)
 
 -- one command more is gathered
 pub gathers_said : {L : Type 0} (dialogue : L → List Piece) (d e : Dialogue L) (c : Command) → is_plain c ≡ true

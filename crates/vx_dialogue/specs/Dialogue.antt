@@ -10,10 +10,10 @@ use Rattle.vx_terms.specs.Build.{negate}
 use Rattle.vx_terms.specs.declared.term.Term.{Term as Term'}
 use Rattle.vx_terms.specs.Views.{term}
 use Rattle.vx_smt_meaning.specs.Commands.{Command, Declared, CheckSat, Level, empty_level, stack_of, assertions_of, declared_in}
-use Rattle.vx_smt_meaning.specs.Replies.{Items}
 use Rattle.vx_smt_meaning.specs.Dialogues.{ArePlain, Answers, Check, checks_told}
 use Rattle.vx_smt_meaning.specs.declared.reply.Reply.{Reply}
 use Rattle.vx_smt_text.specs.Text.{commands_text}
+use Rattle.vx_dialogue.specs.Items.{ShortItems}
 use Rattle.vx_dialogue.specs.Pace.{KeepsPace}
 use Rattle.vx_dialogue.specs.Scripts.{Turn, Posts, preamble, symbols_of, script, is_inside_after}
 use Rattle.vx_dialogue.specs.declared.talk.Talk.{Talk}
@@ -58,7 +58,7 @@ pub record Gathers {L : Type 0} (dialogue : L → List Piece) (d : Dialogue L) (
   pub few : length gathered ≤ 256
   pub pace : KeepsPace commands (dialogue d.link)
   pub plain : ArePlain gathered
-  pub got_is : Items (got (dialogue d.link)) items d.unread.items
+  pub got_is : ShortItems (got (dialogue d.link)) items d.unread.items
   pub lawful : Answers answered items
   pub checks_are : checks ≡ checks_told (empty_level ∷ []) answered items
 
@@ -73,7 +73,7 @@ pub record Waits {L : Type 0} (dialogue : L → List Piece) (d : Dialogue L) (co
   pub owed_is : d.owed ≡ Some (length waiting)
   pub pace : KeepsPace commands (dialogue d.link)
   pub plain : ArePlain waiting
-  pub got_is : Items (got (dialogue d.link)) items d.unread.items
+  pub got_is : ShortItems (got (dialogue d.link)) items d.unread.items
   pub lawful : Answers answered items
   pub checks_are : checks ≡ checks_told (empty_level ∷ []) answered items
 

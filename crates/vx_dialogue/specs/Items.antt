@@ -1,5 +1,5 @@
 -- The items that are got, one after another.
-use Rattle.std.specs.Prelude.{◌≡◌, ℕ, ◌<◌, ◌≤◌, ◌⊎◌, List, [], ◌∷◌, ◌++◌, length, take, if◌then◌else◌, codes, Bool, true, false, not}
+use Rattle.std.specs.Prelude.{◌≡◌, ℕ, ◌+◌, ◌<◌, ◌≤◌, ◌⊎◌, List, [], ◌∷◌, ◌++◌, length, take, if◌then◌else◌, codes, Bool, true, false, not}
 use Rattle.vx_smt_meaning.specs.Replies.{is_word_item, is_refusal, answer_of, is_given}
 use Rattle.vx_dialogue.specs.declared.item.Wanted.{Wanted}
 use Rattle.vx_dialogue.specs.declared.item.Wanted.TheVariants as wanted
@@ -10,9 +10,19 @@ use Rattle.vx_dialogue.specs.declared.talk.Talk.TheVariants as talk
 use Rattle.vx_sexp.specs.Characters.{is_blank}
 use Rattle.vx_sexp.specs.First.{IsFirst, Faults}
 
--- the longest item that is read on
+-- the most bytes of an item, with the blanks before it
 abbrev pub longest : ℕ
 longest = 16777216
+
+-- The first expression of the bytes, and what follows it. It has at most so many bytes, with all that stands before it.
+pub record IsItem (bytes : List ℕ) (item : List Token) (rest : List ℕ) : Type 0 where
+  pub first : IsFirst bytes item rest
+  pub short : length bytes ≤ longest + length rest
+
+-- The bytes begin with these items, one after another, and this follows.
+abbrev pub ShortItems : List ℕ → List (List Token) → List ℕ → Type 0
+ShortItems bytes [] rest = rest ≡ bytes
+ShortItems bytes (item ∷ items) rest = (between : List ℕ) × IsItem bytes item between × ShortItems between items rest
 
 -- What is got meanwhile stands behind what is not read yet.
 abbrev pub Keeps : List ℕ → List ℕ → List ℕ → List ℕ → Type 0
@@ -20,11 +30,11 @@ Keeps got_old unread_old got_new unread_new = (more : List ℕ) × (got_new ≡ 
 
 -- One item is read, of what was not read and what is got meanwhile.
 abbrev pub ReadsItem : List ℕ → List ℕ → List ℕ → List ℕ → List Token → Type 0
-ReadsItem got_old unread_old got_new unread_new item = (more : List ℕ) × (got_new ≡ got_old ++ more) × IsFirst (unread_old ++ more) item unread_new
+ReadsItem got_old unread_old got_new unread_new item = (more : List ℕ) × (got_new ≡ got_old ++ more) × IsItem (unread_old ++ more) item unread_new
 
--- No item begins the bytes: a bad token, a list too deep, or too long without an end.
-abbrev pub IsNoItem : List ℕ → Type 0
-IsNoItem bytes = ((at : ℕ) × Faults (sexp.BadToken at) bytes) ⊎ ((at : ℕ) × Faults (sexp.Deep at) bytes) ⊎ ((longest < length bytes) × (at : ℕ) × Faults (sexp.Unfinished at) bytes)
+-- No expression begins the bytes: a bad token, a list too deep, or too long without an end.
+abbrev pub IsNoExpression : List ℕ → Type 0
+IsNoExpression bytes = ((at : ℕ) × Faults (sexp.BadToken at) bytes) ⊎ ((at : ℕ) × Faults (sexp.Deep at) bytes) ⊎ ((longest < length bytes) × (at : ℕ) × Faults (sexp.Unfinished at) bytes)
 
 -- The first item is not at its end, and more can be got of it.
 abbrev pub IsOpenYet : List ℕ → Type 0
@@ -45,13 +55,21 @@ without_blanks (b ∷ bs) = if is_blank b then without_blanks bs else (b ∷ bs)
 abbrev pub kept_of : List ℕ → List ℕ
 kept_of bytes = take 4096 (without_blanks bytes)
 
+-- The bytes begin with this text, which is an expression, but too long for an item.
+abbrev pub IsTooLong : List ℕ → List ℕ → Type 0
+IsTooLong bytes text = (item : List Token) × (rest : List ℕ) × IsFirst bytes item rest × (bytes ≡ text ++ rest) × (longest < length text)
+
+-- No item begins the bytes: no expression, or one that is too long. So much is kept of it.
+abbrev pub IsNoItem : List ℕ → List ℕ → Type 0
+IsNoItem bytes kept = (IsNoExpression bytes × (kept ≡ kept_of bytes)) ⊎ ((text : List ℕ) × IsTooLong bytes text × (kept ≡ kept_of text))
+
 -- The bytes begin with this text, which is an item with this property.
 abbrev pub BeginsWith : List ℕ → List ℕ → (List Token → Type 0) → Type 0
-BeginsWith bytes text P = (item : List Token) × (rest : List ℕ) × IsFirst bytes item rest × (bytes ≡ text ++ rest) × P item
+BeginsWith bytes text P = (item : List Token) × (rest : List ℕ) × IsItem bytes item rest × (bytes ≡ text ++ rest) × P item
 
 -- What begins the bytes is no lawful reply: no item, or another one that is no refusal. So much is kept of it.
 abbrev pub IsGarbled : Wanted → List ℕ → List ℕ → Type 0
-IsGarbled w bytes kept = (IsNoItem bytes × (kept ≡ kept_of bytes))
+IsGarbled w bytes kept = IsNoItem bytes kept
     ⊎ ((text : List ℕ) × BeginsWith bytes text (λ item. (is_lawful w item ≡ false) × (is_refusal item ≡ false)) × (kept ≡ kept_of text))
 
 -- What begins the bytes says that the command was refused. So much is kept of it.
@@ -64,7 +82,7 @@ Meets got_old unread_old got_new P = (more : List ℕ) × (got_new ≡ got_old +
 
 -- what is told of bytes that begin with no item
 abbrev pub TellsNoItem : Talk → List ℕ → Type 0
-TellsNoItem (talk.Garbled kept) bytes = IsNoItem bytes × (kept ≡ kept_of bytes)
+TellsNoItem (talk.Garbled kept) bytes = IsNoItem bytes kept
 TellsNoItem (talk.Refused kept) bytes = ⊥
 TellsNoItem talk.Pipe bytes = ⊥
 TellsNoItem talk.Want bytes = Unit {0}
@@ -86,18 +104,18 @@ IsUnlawful talk.Pipe refusal text = ⊥
 IsUnlawful talk.Want refusal text = Unit {0}
 IsUnlawful talk.Closed refusal text = ⊥
 
--- why no item is given: what comes next is none
+-- why no item is given: what comes next is none, or isn't at its end yet where the pipe failed
 abbrev pub GivesNoItem : Talk → List ℕ → List ℕ → List ℕ → Type 0
-GivesNoItem (talk.Garbled kept) got_old unread_old got_new = Meets got_old unread_old got_new (λ bytes. IsNoItem bytes × (kept ≡ kept_of bytes))
+GivesNoItem (talk.Garbled kept) got_old unread_old got_new = Meets got_old unread_old got_new (λ bytes. IsNoItem bytes kept)
 GivesNoItem (talk.Refused kept) got_old unread_old got_new = ⊥
-GivesNoItem talk.Pipe got_old unread_old got_new = Unit {0}
+GivesNoItem talk.Pipe got_old unread_old got_new = Meets got_old unread_old got_new IsOpenYet
 GivesNoItem talk.Want got_old unread_old got_new = Unit {0}
 GivesNoItem talk.Closed got_old unread_old got_new = ⊥
 
--- why no lawful reply is given: what comes next is none
+-- why no lawful reply is given: what comes next is none, or isn't at its end yet where the pipe failed
 abbrev pub GivesNoReply : Talk → Wanted → List ℕ → List ℕ → List ℕ → Type 0
 GivesNoReply (talk.Garbled kept) w got_old unread_old got_new = Meets got_old unread_old got_new (λ bytes. IsGarbled w bytes kept)
 GivesNoReply (talk.Refused kept) w got_old unread_old got_new = Meets got_old unread_old got_new (λ bytes. IsRefused bytes kept)
-GivesNoReply talk.Pipe w got_old unread_old got_new = Unit {0}
+GivesNoReply talk.Pipe w got_old unread_old got_new = Meets got_old unread_old got_new IsOpenYet
 GivesNoReply talk.Want w got_old unread_old got_new = Unit {0}
 GivesNoReply talk.Closed w got_old unread_old got_new = ⊥

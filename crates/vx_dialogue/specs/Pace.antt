@@ -4,9 +4,9 @@ use Rattle.vx_ends.specs.declared.piece.Piece.{Piece}
 use Rattle.vx_ends.specs.Dialogue.{sent, got}
 use Rattle.vx_sexp.specs.declared.token.Token.{Token}
 use Rattle.vx_smt_meaning.specs.Commands.{Command}
-use Rattle.vx_smt_meaning.specs.Replies.{Items}
 use Rattle.vx_smt_meaning.specs.Dialogues.{Answers}
 use Rattle.vx_smt_text.specs.Text.{commands_text}
+use Rattle.vx_dialogue.specs.Items.{ShortItems}
 
 -- What was sent begins the text of a script. The first of its commands have their replies; those behind them of which something is sent, at most 256, wait for theirs.
 pub record FewWait (script : List Command) (pieces : List Piece) : Type 0 where
@@ -21,7 +21,7 @@ pub record FewWait (script : List Command) (pieces : List Piece) : Type 0 where
   pub sent_is : sent pieces ≡ commands_text answered ++ begun
   pub begun_is : begun ++ unsent ≡ commands_text waiting
   pub few : length waiting ≤ 256
-  pub got_is : Items (got pieces) items rest
+  pub got_is : ShortItems (got pieces) items rest
   pub lawful : Answers answered items
 
 -- So it was at every time of the dialogue.

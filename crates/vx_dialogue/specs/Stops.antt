@@ -5,14 +5,13 @@ use Rattle.vx_ends.specs.Dialogue.{sent, got}
 use Rattle.vx_sexp.specs.declared.token.Token.{Token}
 use Rattle.vx_smt_meaning.specs.Commands.{Command, CheckSat, GetProof}
 use Rattle.vx_smt_meaning.specs.Names.{AreCommands}
-use Rattle.vx_smt_meaning.specs.Replies.{Items}
 use Rattle.vx_smt_meaning.specs.Dialogues.{Answers}
 use Rattle.vx_smt_text.specs.Text.{commands_text}
 use Rattle.vx_dialogue.specs.declared.item.Wanted.{Wanted}
 use Rattle.vx_dialogue.specs.declared.item.Wanted.TheVariants as wanted
 use Rattle.vx_dialogue.specs.declared.talk.Talk.{Talk}
 use Rattle.vx_dialogue.specs.declared.talk.Talk.TheVariants as talk
-use Rattle.vx_dialogue.specs.Items.{IsGarbled, IsRefused, GivesNoReply}
+use Rattle.vx_dialogue.specs.Items.{ShortItems, IsGarbled, IsRefused, GivesNoReply}
 use Rattle.vx_dialogue.specs.Hears.{ReadsSuccesses}
 
 -- the reply that a command wants
@@ -30,7 +29,7 @@ pub record Stops (pieces : List Piece) (Told : Wanted → List ℕ → Type 0) :
   pub next : List ℕ
   pub spelled : AreCommands (before ++ command ∷ [])
   pub sent_is : sent pieces ≡ commands_text (before ++ command ∷ []) ++ sent_later
-  pub heard : Items (got pieces) items next
+  pub heard : ShortItems (got pieces) items next
   pub lawful : Answers before items
   pub told : Told (wanted_by command) next
 

@@ -2,9 +2,8 @@
 ghost use Rattle.std.specs.Prelude.{◌≡◌, ◌≤◌, ◌<◌, ◌++◌, length, drop, take, OnOk, IfOk, IfErr, Ok, Err, true, false, ℕ, List};
 ghost use Rattle.vx_ends.specs.Dialogue.{sent, got, Grows, GetsOn};
 ghost use Rattle.vx_ends.specs.Causes.{HasCause};
-ghost use Rattle.vx_sexp.specs.First.{IsFirst};
 ghost use Rattle.vx_sexp.specs.Pieces.{EndsAt, Reached};
-ghost use Rattle.vx_dialogue.specs.Items.{Keeps, ReadsItem, IsNoItem, IsOpenYet, TellsNoItem, IsUnlawful, TellsNoReply, GivesNoItem, GivesNoReply, without_blanks, kept_of, is_lawful};
+ghost use Rattle.vx_dialogue.specs.Items.{longest, IsItem, Keeps, ReadsItem, IsNoExpression, IsOpenYet, TellsNoItem, IsUnlawful, TellsNoReply, GivesNoItem, GivesNoReply, without_blanks, kept_of, is_lawful};
 ghost use Rattle.vx_dialogue.specs.Steady.{IsSteady, Owes};
 ghost use Rattle.vx_smt_meaning.specs.Replies.{is_word_item, is_headed_by, is_refusal, answer_of};
 
@@ -14,7 +13,7 @@ use vx_ends::Link;
 use vx_sexp::{Bytes, Kind, Reading, Sexp, SexpFault, Token, blank, read};
 use vx_smt_meaning::Reply;
 
-/// The longest item that is read on.
+/// The most bytes of an item, with the blanks before it.
 pub const LONGEST: usize = 16_777_216;
 
 /// The most bytes that are got at once at first; then as many as are there already.
@@ -51,8 +50,8 @@ fn kept(alloc: Global, bytes: &[u8]) -> Result<Bytes, AllocError>
 
 // the item that the bytes begin with
 fn whole_item(alloc: Global, bytes: &[u8]) -> Result<(Sexp, usize), Talk>
-    requires { (end : ℕ) × EndsAt end bytes.now }
-    ensures item { IfOk result (λ x. (x.1 ≤ length bytes.now) × IsFirst bytes.now x.0 (drop x.1 bytes.now)) }
+    requires { (end : ℕ) × EndsAt end bytes.now × (end ≤ longest) }
+    ensures item { IfOk result (λ x. (x.1 ≤ length bytes.now) × IsItem bytes.now x.0 (drop x.1 bytes.now)) }
     ensures want { IfErr result (λ talk. talk ≡ Talk.Want) }
 {
     match read(alloc, bytes) {
@@ -64,9 +63,9 @@ fn whole_item(alloc: Global, bytes: &[u8]) -> Result<(Sexp, usize), Talk>
     }
 }
 
-// what is told of bytes that begin with no item
+// what is told of bytes that begin with no expression
 fn garbled(alloc: Global, bytes: &[u8]) -> Talk
-    requires { IsNoItem bytes.now }
+    requires { IsNoExpression bytes.now }
     ensures { TellsNoItem result bytes.now }
 {
     match kept(alloc, bytes) {
@@ -75,15 +74,34 @@ fn garbled(alloc: Global, bytes: &[u8]) -> Talk
     }
 }
 
-/// Whether the first item of what is not read yet is whole. No is answered only where it can still become so.
+// what is told of bytes that begin with an expression which is too long; it ends here
+fn too_long(alloc: Global, bytes: &[u8], end: usize) -> Talk
+    requires ends { EndsAt end bytes.now }
+    requires long { longest < end }
+    ensures { TellsNoItem result bytes.now }
+{
+    match kept(alloc, &bytes[..end]) {
+        Ok(kept) => Talk::Garbled(kept),
+        Err(_) => Talk::Want,
+    }
+}
+
+/// Whether the first item of what is not read yet is whole. No is answered only where it can still become so. How long it may be
+/// doesn't go by the pieces that it comes in.
 fn is_whole(alloc: Global, reading: &mut Reading, unread: &[u8]) -> Result<bool, Talk>
     requires { Reached reading.old unread.now }
-    ensures whole { result ≡ Ok true → (end : ℕ) × EndsAt end unread.now }
+    ensures whole { result ≡ Ok true → (end : ℕ) × EndsAt end unread.now × (end ≤ longest) }
     ensures open { result ≡ Ok false → IsOpenYet unread.now × ((more : List ℕ) → Reached reading.new (unread.now ++ more)) }
     ensures none { IfErr result (λ talk. TellsNoItem talk unread.now) }
 {
     match reading.go_on(unread) {
-        Ok(_) => Ok(true),
+        Ok(end) => {
+            if end > LONGEST {
+                Err(too_long(alloc, unread, end))
+            } else {
+                Ok(true)
+            }
+        }
         Err(SexpFault::Unfinished(_)) => {
             if unread.len() > LONGEST {
                 Err(garbled(alloc, unread))
@@ -101,7 +119,7 @@ fn is_whole(alloc: Global, reading: &mut Reading, unread: &[u8]) -> Result<bool,
 fn get_more<L: Link>(alloc: Global, link: &mut L, unread: &mut Vec<u8>) -> Result<(), Talk>
     ensures keeps { OnOk result (Keeps (got (L.dialogue link.old)) unread.old.items (got (L.dialogue link.new)) unread.new.items) }
     ensures longer { OnOk result (length unread.old.items < length unread.new.items) }
-    ensures none { IfErr result (λ talk. (got_old unread_old got_new : List ℕ) → GivesNoItem talk got_old unread_old got_new) }
+    ensures none { IfErr result (λ talk. IsOpenYet unread.old.items → GivesNoItem talk (got (L.dialogue link.old)) unread.old.items (got (L.dialogue link.new))) }
     ensures pieces { GetsOn (L.dialogue link.old) (L.dialogue link.new) }
     ensures cause { HasCause Talk.Pipe (L.faults link.old) (L.faults link.new) result }
     ensures steady { IsOpenYet unread.old.items → IsSteady L.steady L.faults link.old → Owes 1 (L.dialogue link.old) unread.old.items → IsSteady L.steady L.faults link.new }
@@ -117,7 +135,7 @@ pub fn next_item<L: Link>(
     link: &mut L,
     unread: &mut Vec<u8>,
 ) -> Result<(Sexp, usize), Talk>
-    ensures item { IfOk result (λ x. (x.1 ≤ length unread.new.items) × IsFirst unread.new.items x.0 (drop x.1 unread.new.items)) }
+    ensures item { IfOk result (λ x. (x.1 ≤ length unread.new.items) × IsItem unread.new.items x.0 (drop x.1 unread.new.items)) }
     ensures keeps { OnOk result (Keeps (got (L.dialogue link.old)) unread.old.items (got (L.dialogue link.new)) unread.new.items) }
     ensures fault { IfErr result (λ talk. GivesNoItem talk (got (L.dialogue link.old)) unread.old.items (got (L.dialogue link.new))) }
     ensures sent { sent (L.dialogue link.new) ≡ sent (L.dialogue link.old) }
@@ -214,8 +232,8 @@ fn take_lawful(
     item: Sexp,
     end: usize,
 ) -> Result<Sexp, Talk>
-    requires { (end ≤ length unread.old.items) × IsFirst unread.old.items item (drop end unread.old.items) }
-    ensures item { IfOk result (λ item. IsFirst unread.old.items item unread.new.items × (is_lawful wanted item ≡ true)) }
+    requires { (end ≤ length unread.old.items) × IsItem unread.old.items item (drop end unread.old.items) }
+    ensures item { IfOk result (λ item. IsItem unread.old.items item unread.new.items × (is_lawful wanted item ≡ true)) }
     ensures none { IfErr result (λ talk. TellsNoReply talk wanted unread.old.items) }
 {
     if allows(wanted, item.tokens()) {

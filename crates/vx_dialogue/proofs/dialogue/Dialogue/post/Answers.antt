@@ -6,7 +6,7 @@ use Rattle.vx_dialogue.specs.Dialogue.{Waits, shared}
 use Rattle.vx_dialogue.specs.History.{Breaks}
 use Rattle.vx_dialogue.proofs.Levels.{script_posted, posted_stack}
 use Rattle.vx_dialogue.proofs.Steady.{commands_front}
-use Rattle.vx_dialogue.proofs.History.{standing_longer}
+use Rattle.vx_dialogue.proofs.History.{standing_longer, tells_missed}
 use Rattle.vx_dialogue.proofs.dialogue.Dialogue.post.Goals as goal
 
 pub returns-in-Ok-clause-asks : goal.returns-in-Ok-clause-asks
@@ -48,5 +48,5 @@ returns-in-Err-clause-steady g c = λ steady certify functions turns checks stan
 pub returns-then-self-clause-fault : goal.returns-then-self-clause-fault
 returns-then-self-clause-fault g c = λ certify functions turns checks stands named. record {
   explained = tt;
-  told = standing_longer g.L.Link.dialogue certify functions turns (Posts (map shared c.args.path.now) (shared c.args.condition.now)) c.args.self.now checks stands;
+  told = tells_missed _ _ _ (standing_longer g.L.Link.dialogue certify functions turns (Posts (map shared c.args.path.now) (shared c.args.condition.now)) c.args.self.now checks stands);
 }

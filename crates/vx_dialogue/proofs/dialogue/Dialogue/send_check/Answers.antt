@@ -1,4 +1,4 @@
-use Rattle.std.proofs.Common.{rules, ◌≡◌, false, ◌++◌, ◌∷◌, [], List, ℕ, refl, subst}
+use Rattle.std.proofs.Common.{rules, ◌≡◌, ◌<◌, ◌+◌, false, ◌++◌, ◌∷◌, [], List, ℕ, length, refl, subst}
 use Rattle.vx_ends.specs.Dialogue.{sent}
 use Rattle.vx_smt_meaning.specs.Commands.{CheckSat}
 use Rattle.vx_smt_text.specs.Text.{command_text}
@@ -31,9 +31,10 @@ returns-in_err-send_all-clause-fault g c =
     let room = c.make_room.new.self in
     let batch : c.deref.result.now ≡ room.batch.items ++ command_text CheckSat = search rules in
     let begun = subst (λ x. (rest : List ℕ) × (sent (dialogue c.send_all.new.link) ++ rest ≡ sent (dialogue room.link) ++ x)) batch c.send_all.ensures.begun in
+    let part = subst (λ x. length (sent (dialogue c.send_all.new.link)) < length (sent (dialogue room.link)) + length x) batch (c.send_all.ensures.part (search rules)) in
     let p = err_from_is_err_and c.from_residual-in_err-send_all.result c.from_residual-in_err-send_all.ensures.1 in rw p.1 (λ commands checks told named.
     breaks_link _ p.0 (commands ++ CheckSat ∷ []) (dialogue c.send_all.new.link) checks p.2
-    (check_tells dialogue room commands checks (dialogue c.send_all.new.link) c.send_all.ensures.pieces c.in_ok-make_room.ensures.count begun c.send_all.ensures.got (c.in_ok-make_room.ensures.told commands checks told)))
+    (check_tells dialogue room commands checks (dialogue c.send_all.new.link) c.send_all.ensures.pieces c.in_ok-make_room.ensures.count begun part c.send_all.ensures.got (c.in_ok-make_room.ensures.told commands checks told)))
 
 pub returns-in_err-send_all-clause-steady : goal.returns-in_err-send_all-clause-steady
 returns-in_err-send_all-clause-steady g c = λ steady commands checks told named.

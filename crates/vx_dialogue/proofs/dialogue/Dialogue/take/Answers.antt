@@ -3,7 +3,8 @@ use Rattle.vx_smt_meaning.specs.Commands.{Pop, stack_of}
 use Rattle.vx_dialogue.specs.Scripts.{Asks, Posts, script}
 use Rattle.vx_dialogue.specs.Dialogue.{Gathers, base_of, resting, check_of}
 use Rattle.vx_dialogue.proofs.Levels.{popped_levels, script_asked, inside_behind, bare_preamble, check_is}
-use Rattle.vx_dialogue.proofs.History.{waits_tells}
+use Rattle.vx_ends.proofs.Dialogues.{gets_none}
+use Rattle.vx_dialogue.proofs.History.{waits_missed}
 use Rattle.vx_dialogue.proofs.dialogue.Dialogue.take.Goals as goal
 
 pub returns-in-Ok-clause-reply : goal.returns-in-Ok-clause-reply
@@ -34,5 +35,5 @@ returns-in-Err-clause-steady g c = λ steady certify functions turns path condit
 pub returns-in_default-clause-fault : goal.returns-in_default-clause-fault
 returns-in_default-clause-fault g c = λ certify functions turns path condition checks awaits named. record {
   explained = tt;
-  told = waits_tells g.L.Link.dialogue c.args.self.now (script certify functions (turns ++ Posts path condition ∷ [])) checks awaits.told;
+  told = waits_missed g.L.Link.dialogue c.args.self.now (script certify functions (turns ++ Posts path condition ∷ [])) checks _ (gets_none _) awaits.told;
 }
