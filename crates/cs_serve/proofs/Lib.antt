@@ -1,3 +1,4 @@
 pub mod Nexts
 pub mod Fronts
+pub mod Turns
 pub mod Steps

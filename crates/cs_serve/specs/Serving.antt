@@ -1,7 +1,10 @@
 -- What a solver answers to a stream of commands, and how that ends.
-use Rattle.std.specs.Prelude.{◌≡◌, ⊤, ◌⊎◌, ℕ, ◌≤◌, Bool, true, false, List, [], ◌++◌, length, drop, Option, Some}
+use Rattle.std.specs.Prelude.{◌≡◌, ⊤, ◌⊎◌, ℕ, ◌≤◌, Bool, true, false, List, [], ◌∷◌, ◌++◌, length, drop, Option, Some}
 use Rattle.vx_sexp.specs.Beginnings.{GoesOn, IsBeginning}
 use Rattle.vx_sexp.specs.Tokens.{is_space}
+use Rattle.vx_ends.specs.Dialogue.{sent, got}
+use Rattle.vx_ends.specs.declared.piece.Piece.{Piece}
+use Rattle.vx_ends.specs.declared.piece.Piece.TheVariants.{Got}
 use Rattle.cs_session.specs.declared.reply.Reply.{Reply}
 use Rattle.cs_session.specs.declared.reply.Reply.TheVariants.{Success, Unsupported, Failed, Sat, Unsat, Undecided, Proof, Closed}
 use Rattle.cs_session.specs.Views.{State}
@@ -76,3 +79,11 @@ pub record HasEnded (e : Ending) (before : List ℕ) (given taken : Option (List
   pub serves : Serves all text put left state over
   pub ends : IsDue e all left over at_end
   pub puts : Puts e text put last (λ d. IsDue d all left over at_end)
+
+-- No command is finished in what is left of some bytes, and these are the answers to those before it.
+abbrev pub IsAnswered : List ℕ → List ℕ → Type 0
+IsAnswered all text = (left : List ℕ) × (s : State) × Serves all text text left s false × IsBeginning left
+
+-- Each time a piece was got, what was sent before is the answers to all commands that were finished in what was got before.
+abbrev pub IsInTurn : List Piece → Type 0
+IsInTurn pieces = (front : List Piece) (piece : List ℕ) (rest : List Piece) → pieces ≡ front ++ Got piece ∷ rest → IsAnswered (got front) (sent front)

@@ -1,20 +1,21 @@
 // Answers to the commands that are finished.
-ghost use Rattle.std.specs.Prelude.{◌≡◌, ℕ, ◌≤◌, ◌<◌, Bool, false, List, [], ◌++◌, length, drop, Option, IfOk, IfErr, Err};
+ghost use Rattle.std.specs.Prelude.{◌≡◌, ℕ, ◌≤◌, ◌<◌, Bool, false, List, [], ◌++◌, length, drop, Option, OnOk, IfOk, IfErr, Err};
 ghost use Rattle.vx_sexp.specs.Beginnings.{IsBeginning};
 ghost use Rattle.vx_sexp.specs.Pieces.{Reached};
-ghost use Rattle.vx_ends.specs.Calls.{PutsSome};
 ghost use Rattle.vx_ends.specs.Causes.{HasCause};
+ghost use Rattle.vx_ends.specs.Talks.{SaysSome};
+ghost use Rattle.vx_ends.specs.declared.piece.Piece.{Piece};
 ghost use Rattle.cs_session.specs.Views.{state};
 ghost use Rattle.cs_session.specs.Answering.{EndsAt};
 ghost use Rattle.cs_serve.specs.Serving.{is_last};
-ghost use Rattle.cs_serve.specs.Working.{IsAt, Stops, HasStopped};
+ghost use Rattle.cs_serve.specs.Working.{Before, IsAt, Stops, HasStopped, IsStillBut};
 
 use crate::Ending;
 use crate::bytes::behind;
 use crate::next::{Next, find_next};
 use cs_session::{Reply, Session};
 use std::alloc::Global;
-use vx_ends::{PutFault, Sink, put_all};
+use vx_ends::{Duplex, PutFault, say_all};
 use vx_sexp::Reading;
 
 fn is_last(reply: &Reply) -> bool
@@ -33,12 +34,17 @@ fn is_last(reply: &Reply) -> bool
 }
 
 /// Puts all of a text.
-pub fn put_text<K: Sink>(out: &mut K, text: &[u8]) -> Result<(), Ending>
-    ensures taken { PutsSome text.now (K.taken out.old) (K.taken out.new) result }
-    ensures cause { HasCause Ending.SinkFailed (K.faults out.old) (K.faults out.new) result }
+pub fn put_text<D: Duplex>(ends: &mut D, text: &[u8]) -> Result<(), Ending>
+    ensures says { SaysSome text.now (D.taken ends.old) (D.taken ends.new) (D.dialogue ends.old) (D.dialogue ends.new) result }
+    ensures cause { HasCause Ending.SinkFailed (D.put_faults ends.old) (D.put_faults ends.new) result }
+    ensures still { OnOk result (D.put_faults ends.new ≡ D.put_faults ends.old) }
     ensures only { IfErr result (λ e. e ≡ Ending.SinkFailed) }
+    ensures given { D.given ends.new ≡ D.given ends.old }
+    ensures end { D.at_end ends.new ≡ D.at_end ends.old }
+    ensures reads { D.read_faults ends.new ≡ D.read_faults ends.old }
+    ensures names { D.names ends.new ≡ D.names ends.old }
 {
-    match put_all(out, text) {
+    match say_all(ends, text) {
         Ok(()) => Ok(()),
         Err(PutFault::Failed) => Err(Ending::SinkFailed),
     }
@@ -51,10 +57,12 @@ fn answer(
     due: &mut Vec<u8>,
     left: &[u8],
 ) -> Result<bool, Ending>
-    ensures goes { (before : List ℕ) (given taken : Option (List ℕ)) (total n : ℕ) → EndsAt n left.now → IsAt before given taken due.old.items total left.now (state session.old) false
-        → IfOk result (λ over. IsAt before given taken due.new.items total (drop n left.now) (state session.new) over) }
-    ensures stops { (before : List ℕ) (given taken : Option (List ℕ)) (total : ℕ) → IsAt before given taken due.old.items total left.now (state session.old) false
-        → IfErr result (λ e. (at_end : Bool) → Stops e before given taken due.new.items at_end) }
+    ensures goes { (before : Before) (given taken : Option (List ℕ)) (talk : Option (List Piece)) (total n : ℕ) → EndsAt n left.now
+        → IsAt before given taken talk due.old.items total left.now (state session.old) false
+        → IfOk result (λ over. IsAt before given taken talk due.new.items total (drop n left.now) (state session.new) over) }
+    ensures stops { (before : Before) (given taken : Option (List ℕ)) (talk : Option (List Piece)) (total : ℕ)
+        → IsAt before given taken talk due.old.items total left.now (state session.old) false
+        → IfErr result (λ e. (at_end : Bool) → Stops e before given taken talk due.new.items at_end) }
     ensures only { IfErr result (λ e. e ≡ Ending.Want) }
 {
     let Ok(reply) = session.command(alloc, left) else {
@@ -78,10 +86,12 @@ fn answer_all(
     ensures within { IfOk result (λ at. at ≤ length bytes.now) }
     ensures waits { IfOk result (λ at. IsBeginning (drop at bytes.now)) }
     ensures reached { IfOk result (λ at. (more : List ℕ) → Reached reading.new (drop at bytes.now ++ more)) }
-    ensures goes { (before : List ℕ) (given taken : Option (List ℕ)) (total : ℕ) → IsAt before given taken due.old.items total bytes.now (state session.old) false
-        → IfOk result (λ at. IsAt before given taken due.new.items total (drop at bytes.now) (state session.new) false) }
-    ensures stops { (before : List ℕ) (given taken : Option (List ℕ)) (total : ℕ) → IsAt before given taken due.old.items total bytes.now (state session.old) false
-        → IfErr result (λ e. (at_end : Bool) → Stops e before given taken due.new.items at_end) }
+    ensures goes { (before : Before) (given taken : Option (List ℕ)) (talk : Option (List Piece)) (total : ℕ)
+        → IsAt before given taken talk due.old.items total bytes.now (state session.old) false
+        → IfOk result (λ at. IsAt before given taken talk due.new.items total (drop at bytes.now) (state session.new) false) }
+    ensures stops { (before : Before) (given taken : Option (List ℕ)) (talk : Option (List Piece)) (total : ℕ)
+        → IsAt before given taken talk due.old.items total bytes.now (state session.old) false
+        → IfErr result (λ e. (at_end : Bool) → Stops e before given taken talk due.new.items at_end) }
     ensures other { (result ≡ Err Ending.SourceFailed → ⊥) × (result ≡ Err Ending.SinkFailed → ⊥) }
 {
     let mut at = 0;
@@ -103,26 +113,33 @@ fn answer_all(
 
 /// Answers the commands that are finished at the front of some bytes, puts all the answers at once, and says how many bytes
 /// the commands take.
-pub fn put_answers<K: Sink>(
+pub fn put_answers<D: Duplex>(
     alloc: Global,
     session: &mut Session,
     reading: &mut Reading,
-    out: &mut K,
+    ends: &mut D,
     bytes: &[u8],
 ) -> Result<usize, Ending>
     requires { Reached reading.old bytes.now }
     ensures within { IfOk result (λ at. at ≤ length bytes.now) }
     ensures waits { IfOk result (λ at. IsBeginning (drop at bytes.now)) }
     ensures reached { IfOk result (λ at. (more : List ℕ) → Reached reading.new (drop at bytes.now ++ more)) }
-    ensures goes { (before : List ℕ) (given : Option (List ℕ)) (total : ℕ) → IsAt before given (K.taken out.old) [] total bytes.now (state session.old) false
-        → IfOk result (λ at. IsAt before given (K.taken out.new) [] total (drop at bytes.now) (state session.new) false) }
-    ensures stops { (before : List ℕ) (given : Option (List ℕ)) (total : ℕ) → IsAt before given (K.taken out.old) [] total bytes.now (state session.old) false
-        → IfErr result (λ e. (at_end : Bool) → HasStopped e before given (K.taken out.new) at_end) }
-    ensures cause { HasCause Ending.SinkFailed (K.faults out.old) (K.faults out.new) result }
+    ensures goes { (before : Before) (given : Option (List ℕ)) (total : ℕ)
+        → IsAt before given (D.taken ends.old) (D.dialogue ends.old) [] total bytes.now (state session.old) false
+        → IfOk result (λ at. IsAt before given (D.taken ends.new) (D.dialogue ends.new) [] total (drop at bytes.now) (state session.new) false) }
+    ensures stops { (before : Before) (given : Option (List ℕ)) (total : ℕ)
+        → IsAt before given (D.taken ends.old) (D.dialogue ends.old) [] total bytes.now (state session.old) false
+        → IfErr result (λ e. (at_end : Bool) → HasStopped e before given (D.taken ends.new) (D.dialogue ends.new) at_end) }
+    ensures cause { HasCause Ending.SinkFailed (D.put_faults ends.old) (D.put_faults ends.new) result }
+    ensures still { IsStillBut Ending.SinkFailed (D.put_faults ends.old) (D.put_faults ends.new) result }
     ensures other { result ≡ Err Ending.SourceFailed → ⊥ }
+    ensures given { D.given ends.new ≡ D.given ends.old }
+    ensures end { D.at_end ends.new ≡ D.at_end ends.old }
+    ensures reads { D.read_faults ends.new ≡ D.read_faults ends.old }
+    ensures names { D.names ends.new ≡ D.names ends.old }
 {
     let mut due = Vec::new(alloc);
     let answered = answer_all(alloc, session, reading, &mut due, bytes);
-    put_text(out, &due)?;
+    put_text(ends, &due)?;
     answered
 }

@@ -7,7 +7,9 @@ mod ending;
 mod next;
 mod solver;
 mod space;
+#[cfg(test)]
+mod tests;
 
 pub use ending::Ending;
 pub use next::Next;
-pub use solver::{Solver, serve};
+pub use solver::{Solver, serve, serve_both};

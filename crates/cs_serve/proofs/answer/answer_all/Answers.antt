@@ -12,18 +12,18 @@ use Rattle.cs_serve.proofs.answer.answer_all.Goals as goal
 
 pub returns-in_err-over-in-Ends-clause-stops : goal.returns-in_err-over-in-Ends-clause-stops
 returns-in_err-over-in-Ends-clause-stops c =
-    let p = err_from_is_err_and c.from_residual.result c.from_residual.ensures.1 in rw (p.1, p.2) (λ before given taken total at.
-    let here = c.commands.invariant.works before given taken total at in
-    c.in_err-over-in-Ends.ensures.stops before given taken total
-    (subst (λ x. IsAt before given taken c.commands.due.items total x (state c.commands.session) false) (sym c.behind-left.ensures) here))
+    let p = err_from_is_err_and c.from_residual.result c.from_residual.ensures.1 in rw (p.1, p.2) (λ before given taken talk total at.
+    let here = c.commands.invariant.works before given taken talk total at in
+    c.in_err-over-in-Ends.ensures.stops before given taken talk total
+    (subst (λ x. IsAt before given taken talk c.commands.due.items total x (state c.commands.session) false) (sym c.behind-left.ensures) here))
 
 pub returns-then-over-clause-stops : goal.returns-then-over-clause-stops
-returns-then-over-clause-stops c = λ before given taken total at at_end.
-    let here = c.commands.invariant.works before given taken total at in
+returns-then-over-clause-stops c = λ before given taken talk total at at_end.
+    let here = c.commands.invariant.works before given taken talk total at in
     let left = c.behind-left.result.now in
-    let there = c.in_ok-over-in-Ends.ensures.goes before given taken total c.in-Ends.count c.in-Ends.ensures.next
-    (subst (λ x. IsAt before given taken c.commands.due.items total x (state c.commands.session) false) (sym c.behind-left.ensures) here) in
-    stops_at Exited before c.answer.new.due.items given taken total (drop c.in-Ends.count left) (state c.answer.new.session) c.in_ok-over-in-Ends.over at_end there c.if-over.true
+    let there = c.in_ok-over-in-Ends.ensures.goes before given taken talk total c.in-Ends.count c.in-Ends.ensures.next
+    (subst (λ x. IsAt before given taken talk c.commands.due.items total x (state c.commands.session) false) (sym c.behind-left.ensures) here) in
+    stops_at Exited before c.answer.new.due.items given taken talk total (drop c.in-Ends.count left) (state c.answer.new.session) c.in_ok-over-in-Ends.over at_end there c.if-over.true
 
 pub commands-smaller : goal.commands-smaller
 commands-smaller c =
@@ -34,7 +34,7 @@ commands-smaller c =
     omega (arith, some, most, length-drop c.commands.at bytes, c.commands.invariant.within)
 
 pub returns-in-Bad-clause-stops : goal.returns-in-Bad-clause-stops
-returns-in-Bad-clause-stops c = λ before given taken total at at_end.
-    let here = c.commands.invariant.works before given taken total at in
-    stops_at BadToken before c.commands.due.items given taken total (drop c.commands.at c.args.bytes.now) (state c.commands.session) false at_end here
+returns-in-Bad-clause-stops c = λ before given taken talk total at at_end.
+    let here = c.commands.invariant.works before given taken talk total at in
+    stops_at BadToken before c.commands.due.items given taken talk total (drop c.commands.at c.args.bytes.now) (state c.commands.session) false at_end here
     (refl, subst (λ x. GoesOn x → ⊥) c.behind-left.ensures c.in-Bad.ensures.next)
