@@ -1,0 +1,11 @@
+//! What a worker does next.
+
+use vx_stack::Query;
+
+/// What a worker does next: it asks a question, it is done with a member and leaves it, or it has come to its end.
+#[derive(Drop)]
+pub enum Next {
+    Question(Query),
+    Left,
+    End,
+}
