@@ -1,12 +1,12 @@
 -- Where each symbol and each sort is looked up alike, the same is understood.
-use Rattle.std.proofs.Common.{◌≡◌, ℕ, List, [], ◌∷◌, Ok, Err, refl}
+use Rattle.std.proofs.Common.{◌≡◌, ℕ, ◌^◌, List, [], ◌∷◌, Ok, Err, refl}
 use Rattle.std.specs.Prelude.{if◌then◌else◌}
 use Rattle.vx_sexp.specs.declared.token.Kind.{Kind}
 use Rattle.vx_sexp.specs.declared.token.Kind.TheVariants as kinds
 use Rattle.vx_sexp.specs.declared.token.Token.{Token}
 use Rattle.vx_sexp.specs.declared.token.Token.TheVariants.{Open, Close, Atom}
 use Rattle.vx_terms.specs.Sorts.{Sort}
-use Rattle.vx_smt_meaning.specs.Commands.{Assert}
+use Rattle.vx_smt_meaning.specs.Commands.{DeclareSort, Assert}
 use Rattle.cs_reader.specs.Spelling.{symbol_in}
 use Rattle.cs_commands.specs.declared.fault.CommandFault.TheVariants as faults
 use Rattle.cs_commands.specs.declared.word.Word.{Word}
@@ -14,13 +14,13 @@ use Rattle.cs_commands.specs.declared.word.Word.TheVariants as words
 use Rattle.cs_commands.specs.declared.word.Verb.{Verb}
 use Rattle.cs_commands.specs.declared.word.Verb.TheVariants as verbs
 use Rattle.cs_commands.specs.Outcomes.{◌>>=◌, or_fault, where_so, with_front}
-use Rattle.cs_commands.specs.Words.{term_word, command_word}
-use Rattle.cs_commands.specs.Names.{text, symbol_named, sort_named}
+use Rattle.cs_commands.specs.Words.{term_word}
+use Rattle.cs_commands.specs.Names.{text, number_below, symbol_named, sort_named}
 use Rattle.cs_commands.specs.Live.{Scope, declaration, known_sort, sort_at, new_sort, if_free, new_symbol}
 use Rattle.cs_commands.specs.Heads.{symbol_head, head_of, head_at}
 use Rattle.cs_commands.specs.Building.{is_bool, if_sorted}
 use Rattle.cs_commands.specs.Terms.{if_declared, alone, leaf, Frame, opened, placed, closed, go_on, term_from}
-use Rattle.cs_commands.specs.Commands.{symbol_at, number_at, open_at, ended, sort_in, sorts_at, declared, declare_fun, if_none, declare_sort, assertion, command_of, understood}
+use Rattle.cs_commands.specs.Commands.{symbol_at, numeral_at, open_at, ended, sort_in, sorts_at, declared, declare_fun, if_none, declare_sort, assertion, command_of, verb_at, understood}
 use Rattle.cs_commands.specs.Following.{LooksAlike, UnderstoodAlike}
 
 module _ (s u : Scope) (same : LooksAlike s u) where
@@ -68,7 +68,7 @@ module _ (s u : Scope) (same : LooksAlike s u) where
   -- ---- commands
 
   sort_in_alike : (t : Token) → sort_in s t ≡ sort_in u t
-  sort_in_alike t = λ i. or_fault faults.Unsupported (symbol_in t) >>= λ x. sort_alike x i
+  sort_in_alike t = λ i. or_fault faults.Sort (symbol_in t) >>= λ x. sort_alike x i
 
   sorts_alike : (ts : List Token) → sorts_at s ts ≡ sorts_at u ts
   sorts_alike [] = refl
@@ -81,7 +81,9 @@ module _ (s u : Scope) (same : LooksAlike s u) where
       symbol_at takes.1 >>= λ last. sort_alike last.0 i >>= λ gives. ended (declared f takes.0 gives) last.1
 
   new_alike : (ts : List Token) → declare_sort s ts ≡ declare_sort u ts
-  new_alike ts = λ i. symbol_at ts >>= λ x. new_sort_alike x.0 i >>= λ name. number_at x.1 >>= λ arity. if_none arity.0 name arity.1
+  new_alike ts = λ i.
+      symbol_at ts >>= λ x. new_sort_alike x.0 i >>= λ name. numeral_at x.1 >>= λ last. or_fault faults.Wide (number_below (2 ^ 127) last.0) >>= λ arity.
+      ended (DeclareSort name) last.1 >>= λ c. if_none arity c
 
   assertion_alike : (ts : List Token) → assertion s ts ≡ assertion u ts
   assertion_alike ts = λ i. term_alike [] ts i >>= λ t. if_sorted (is_bool t.0) t.0 >>= λ v. ended (Assert v) t.1
@@ -93,7 +95,7 @@ module _ (s u : Scope) (same : LooksAlike s u) where
   command_alike v ts = refl
 
   understood_same : (ts : List Token) → understood s ts ≡ understood u ts
-  understood_same ts = λ i. open_at ts >>= λ within. symbol_at within >>= λ verb. command_alike (command_word verb.0) verb.1 i
+  understood_same ts = λ i. verb_at ts >>= λ verb. command_alike verb.0 verb.1 i
 
 pub understood_alike : UnderstoodAlike
 understood_alike s u tokens same = understood_same s u same tokens

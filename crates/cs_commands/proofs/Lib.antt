@@ -20,3 +20,4 @@ pub mod Alike
 pub mod InOrder
 pub mod Apart
 pub mod Arguments
+pub mod Values

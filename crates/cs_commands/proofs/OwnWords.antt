@@ -13,13 +13,14 @@ use Rattle.vx_terms.specs.Sorts.{Symbol, Standard, Function, Variable, Named}
 use Rattle.vx_smt_meaning.specs.Commands.{Command, SetOption, SetLogic, DeclareSort, DeclareFun, Assert, Push, Pop, CheckSat, GetProof, Exit, Declared}
 use Rattle.vx_smt_meaning.specs.Words as written
 use Rattle.vx_smt_meaning.specs.Words.{symbol_word}
+use Rattle.cs_reader.specs.Spelling.{symbol_in}
 use Rattle.cs_commands.specs.declared.fault.CommandFault.TheVariants as faults
 use Rattle.cs_commands.specs.declared.word.Word.{Word}
 use Rattle.cs_commands.specs.declared.word.Word.TheVariants as words
 use Rattle.cs_commands.specs.declared.word.Verb.{Verb}
 use Rattle.cs_commands.specs.declared.word.Verb.TheVariants as verbs
 use Rattle.cs_commands.specs.Outcomes.{or_fault}
-use Rattle.cs_commands.specs.Words.{truth, term_word, command_word}
+use Rattle.cs_commands.specs.Words.{term_word}
 use Rattle.cs_commands.specs.Names.{with_digit, digits, number_below, numbered, symbol_named, text}
 use Rattle.cs_commands.specs.Live.{Scope, declared_as, new_sort, if_free, new_symbol, sort_at}
 use Rattle.cs_commands.specs.Building.{is_bool, if_sorted}
@@ -117,12 +118,6 @@ new_has_word scope x f spelled e =
 
 -- ---- a declaration among tokens
 
-open_lexed : (ts us : List Token) (bytes rest : List ℕ) → Lexes bytes ts rest → reading.open_at ts ≡ Ok us → (between : List ℕ) × Lexes between us rest
-open_lexed [] us bytes rest lexed e = not_ok e
-open_lexed (Open ∷ ts) us bytes rest lexed e = (lexed.0, subst (λ xs. Lexes lexed.0 xs rest) (ok_is e) lexed.2)
-open_lexed (Close ∷ ts) us bytes rest lexed e = not_ok e
-open_lexed (Atom k x ∷ ts) us bytes rest lexed e = not_ok e
-
 -- a word is a symbol
 abbrev IsWord : List ℕ → List ℕ × List Token → Type 0
 IsWord rest r = (is_symbol r.0 ≡ true) × (between : List ℕ) × Lexes between r.1 rest
@@ -139,6 +134,16 @@ symbol_lexed (Atom kinds.Binary x ∷ ts) r bytes rest lexed e = not_ok e
 symbol_lexed (Atom kinds.Keyword x ∷ ts) r bytes rest lexed e = not_ok e
 symbol_lexed (Atom kinds.Quoted x ∷ ts) r bytes rest lexed e = not_ok e
 symbol_lexed (Atom kinds.Text x ∷ ts) r bytes rest lexed e = not_ok e
+
+-- what stands behind a command's word are tokens of these bytes too
+verb_lexed : (ts : List Token) (r : Verb × List Token) (bytes rest : List ℕ) → Lexes bytes ts rest → reading.verb_at ts ≡ Ok r → (between : List ℕ) × Lexes between r.1 rest
+verb_lexed [] r bytes rest lexed e = not_ok e
+verb_lexed (Open ∷ []) r bytes rest lexed e = not_ok e
+verb_lexed (Open ∷ t ∷ ts) r bytes rest lexed e =
+    let x = bound (or_fault faults.Unsupported (symbol_in t)) _ r e in
+    (lexed.2.0, subst (λ q. Lexes lexed.2.0 q rest) (ap (λ (q : Verb × List Token). q.1) (ok_is x.2)) lexed.2.2)
+verb_lexed (Close ∷ ts) r bytes rest lexed e = not_ok e
+verb_lexed (Atom k x ∷ ts) r bytes rest lexed e = not_ok e
 
 abbrev symbol_of : Command → Symbol
 symbol_of (DeclareFun d) = d.symbol
@@ -168,9 +173,8 @@ option_none : {R : Type 0} (ts : List Token) (d : Declared) → reading.set_opti
 option_none ts d e =
     let x = bound (reading.keyword_at ts) _ (DeclareFun d) e in
     let keyword = bound (text x.0.0) _ (DeclareFun d) x.2 in
-    let value = bound (reading.symbol_at x.0.1) _ (DeclareFun d) keyword.2 in
-    let b = bound (or_fault faults.Unsupported (truth value.0.0)) _ (DeclareFun d) value.2 in
-    none_declared (SetOption keyword.0 b.0) d refl (ended_is (SetOption keyword.0 b.0) (DeclareFun d) value.0.1 b.2)
+    let value = bound (reading.value_at x.0.1) _ (DeclareFun d) keyword.2 in
+    none_declared (SetOption keyword.0 value.0.0) d refl (ended_is (SetOption keyword.0 value.0.0) (DeclareFun d) value.0.1 value.2)
 
 logic_none : {R : Type 0} (ts : List Token) (d : Declared) → reading.set_logic ts ≡ Ok (DeclareFun d) → R
 logic_none ts d e =
@@ -178,16 +182,18 @@ logic_none ts d e =
     let name = bound (text x.0.0) _ (DeclareFun d) x.2 in
     none_declared (SetLogic name.0) d refl (ended_is (SetLogic name.0) (DeclareFun d) x.0.1 name.2)
 
-arity_none : {R : Type 0} (n : ℕ) (name : List ℕ) (ts : List Token) (d : Declared) → reading.if_none n name ts ≡ Ok (DeclareFun d) → R
-arity_none zero name ts d e = none_declared (DeclareSort name) d refl (ended_is (DeclareSort name) (DeclareFun d) ts e)
-arity_none (suc n) name ts d e = not_ok e
+arity_none : {R : Type 0} (n : ℕ) (name : List ℕ) (ts : List Token) (made : Command) (d : Declared) → reading.ended (DeclareSort name) ts ≡ Ok made → reading.if_none n made ≡ Ok (DeclareFun d) → R
+arity_none zero name ts made d is e = none_declared (DeclareSort name) d refl (ended_is (DeclareSort name) made ts is ∙ ok_is e)
+arity_none (suc n) name ts made d is e = not_ok e
 
 sort_none : {R : Type 0} (scope : Scope) (ts : List Token) (d : Declared) → reading.declare_sort scope ts ≡ Ok (DeclareFun d) → R
 sort_none scope ts d e =
     let x = bound (reading.symbol_at ts) _ (DeclareFun d) e in
     let name = bound (new_sort scope x.0.0) _ (DeclareFun d) x.2 in
-    let arity = bound (reading.number_at x.0.1) _ (DeclareFun d) name.2 in
-    arity_none arity.0.0 name.0 arity.0.1 d arity.2
+    let last = bound (reading.numeral_at x.0.1) _ (DeclareFun d) name.2 in
+    let arity = bound (or_fault faults.Wide (number_below (2 ^ 127) last.0.0)) _ (DeclareFun d) last.2 in
+    let made = bound (reading.ended (DeclareSort name.0) last.0.1) _ (DeclareFun d) arity.2 in
+    arity_none arity.0 name.0 last.0.1 made.0 d made.1 made.2
 
 assertion_none : {R : Type 0} (scope : Scope) (ts : List Token) (d : Declared) → reading.assertion scope ts ≡ Ok (DeclareFun d) → R
 assertion_none scope ts d e =
@@ -197,8 +203,9 @@ assertion_none scope ts d e =
 
 levels_none : {R : Type 0} (make : ℕ → Command) (ts : List Token) (d : Declared) → ((n : ℕ) → declares (make n) ≡ false) → reading.levels make ts ≡ Ok (DeclareFun d) → R
 levels_none make ts d other e =
-    let n = bound (reading.count_at ts) _ (DeclareFun d) e in
-    none_declared (make n.0.0) d (other n.0.0) (ended_is (make n.0.0) (DeclareFun d) n.0.1 n.2)
+    let x = bound (reading.numeral_at ts) _ (DeclareFun d) e in
+    let n = bound (or_fault faults.Levels (number_below (2 ^ 32) x.0.0)) _ (DeclareFun d) x.2 in
+    none_declared (make n.0) d (other n.0) (ended_is (make n.0) (DeclareFun d) x.0.1 n.2)
 
 command_has_word : (scope : Scope) (v : Verb) (ts : List Token) (d : Declared) (bytes rest : List ℕ) → Lexes bytes ts rest → reading.command_of scope v ts ≡ Ok (DeclareFun d) → HasWord d.symbol
 command_has_word scope verbs.SetOption ts d bytes rest lexed e = option_none ts d e
@@ -215,8 +222,6 @@ command_has_word scope verbs.Other ts d bytes rest lexed e = not_ok e
 
 pub understood_named : UnderstoodHasWord
 understood_named scope bytes rest tokens d lexed e =
-    let within = bound (reading.open_at tokens) _ (DeclareFun d) e in
-    let inner = open_lexed tokens within.0 bytes rest lexed within.1 in
-    let verb = bound (reading.symbol_at within.0) _ (DeclareFun d) within.2 in
-    let behind = symbol_lexed within.0 verb.0 inner.0 rest inner.1 verb.1 in
-    command_has_word scope (command_word verb.0.0) verb.0.1 d behind.1 rest behind.2 verb.2
+    let verb = bound (reading.verb_at tokens) _ (DeclareFun d) e in
+    let behind = verb_lexed tokens verb.0 bytes rest lexed verb.1 in
+    command_has_word scope verb.0.0 verb.0.1 d behind.0 rest behind.1 verb.2

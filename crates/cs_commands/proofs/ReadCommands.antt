@@ -1,5 +1,5 @@
 -- What holds of each command that is understood: it holds of commands over what is declared.
-use Rattle.std.proofs.Common.{◌≡◌, ℕ, zero, suc, Bool, true, false, List, [], ◌∷◌, Option, Some, None, Ok, Err, refl, ap, ◌∙◌, sym, subst}
+use Rattle.std.proofs.Common.{◌≡◌, ℕ, zero, suc, ◌^◌, Bool, true, false, List, [], ◌∷◌, Option, Some, None, Ok, Err, refl, ap, ◌∙◌, sym, subst}
 use Rattle.std.specs.Prelude.{if◌then◌else◌}
 use Rattle.std.specs.declared.result.Result.{Result}
 use Rattle.vx_sexp.specs.declared.token.Token.{Token}
@@ -17,8 +17,8 @@ use Rattle.cs_commands.specs.declared.word.Word.TheVariants as words
 use Rattle.cs_commands.specs.declared.word.Verb.{Verb}
 use Rattle.cs_commands.specs.declared.word.Verb.TheVariants as verbs
 use Rattle.cs_commands.specs.Outcomes.{◌>>=◌, or_fault, with_front}
-use Rattle.cs_commands.specs.Words.{truth, term_word, command_word}
-use Rattle.cs_commands.specs.Names.{text, symbol_named, sort_named}
+use Rattle.cs_commands.specs.Words.{term_word}
+use Rattle.cs_commands.specs.Names.{text, number_below, symbol_named, sort_named}
 use Rattle.cs_commands.specs.Live.{Scope, declared_as, sort_at, new_sort, if_new, if_free, new_symbol}
 use Rattle.cs_commands.specs.Building.{is_bool, if_sorted}
 use Rattle.cs_commands.specs.Terms.{term_from}
@@ -47,7 +47,7 @@ sort_is_known scope x a e =
     ap (knows_sort scope.sorts) (sym p.1) ∙ p.0
 
 sort_in_known : (scope : Scope) (t : Token) (a : Sort) → reading.sort_in scope t ≡ Ok a → knows_sort scope.sorts a ≡ true
-sort_in_known scope t a e = let b = bound (or_fault faults.Unsupported (symbol_in t)) (sort_at scope) a e in sort_is_known scope b.0 a b.2
+sort_in_known scope t a e = let b = bound (or_fault faults.Sort (symbol_in t)) (sort_at scope) a e in sort_is_known scope b.0 a b.2
 
 sort_is_new : (scope : Scope) (x name : List ℕ) → new_sort scope x ≡ Ok name → knows_sort scope.sorts (sort_named name) ≡ false
 sort_is_new scope x name e = let b = bound (text x) _ name e in go b.0 (knows_sort scope.sorts (sort_named b.0)) refl b.2
@@ -101,9 +101,8 @@ module _ (scope : Scope) (Q : Command → Type 0) (k : KeepsCommands scope Q) wh
   option_keeps ts c e =
       let x = bound (reading.keyword_at ts) _ c e in
       let keyword = bound (text x.0.0) _ c x.2 in
-      let value = bound (reading.symbol_at x.0.1) _ c keyword.2 in
-      let b = bound (or_fault faults.Unsupported (truth value.0.0)) _ c value.2 in
-      subst Q (ended_is (SetOption keyword.0 b.0) c value.0.1 b.2) (k.options keyword.0 b.0)
+      let value = bound (reading.value_at x.0.1) _ c keyword.2 in
+      subst Q (ended_is (SetOption keyword.0 value.0.0) c value.0.1 value.2) (k.options keyword.0 value.0.0)
 
   logic_keeps : (ts : List Token) (c : Command) → reading.set_logic ts ≡ Ok c → Q c
   logic_keeps ts c e =
@@ -111,16 +110,18 @@ module _ (scope : Scope) (Q : Command → Type 0) (k : KeepsCommands scope Q) wh
       let name = bound (text x.0.0) _ c x.2 in
       subst Q (ended_is (SetLogic name.0) c x.0.1 name.2) (k.logics name.0)
 
-  none_keeps : (n : ℕ) (name : List ℕ) (ts : List Token) (c : Command) → Q (DeclareSort name) → reading.if_none n name ts ≡ Ok c → Q c
-  none_keeps zero name ts c h e = subst Q (ended_is (DeclareSort name) c ts e) h
-  none_keeps (suc n) name ts c h e = not_ok e
+  none_keeps : (n : ℕ) (name : List ℕ) (ts : List Token) (made c : Command) → Q (DeclareSort name) → reading.ended (DeclareSort name) ts ≡ Ok made → reading.if_none n made ≡ Ok c → Q c
+  none_keeps zero name ts made c h is e = subst Q (ended_is (DeclareSort name) made ts is ∙ ok_is e) h
+  none_keeps (suc n) name ts made c h is e = not_ok e
 
   sort_keeps : (ts : List Token) (c : Command) → reading.declare_sort scope ts ≡ Ok c → Q c
   sort_keeps ts c e =
       let x = bound (reading.symbol_at ts) _ c e in
       let name = bound (new_sort scope x.0.0) _ c x.2 in
-      let arity = bound (reading.number_at x.0.1) _ c name.2 in
-      none_keeps arity.0.0 name.0 arity.0.1 c (k.sorts name.0 (sort_is_new scope x.0.0 name.0 name.1)) arity.2
+      let last = bound (reading.numeral_at x.0.1) _ c name.2 in
+      let arity = bound (or_fault faults.Wide (number_below (2 ^ 127) last.0.0)) _ c last.2 in
+      let made = bound (reading.ended (DeclareSort name.0) last.0.1) _ c arity.2 in
+      none_keeps arity.0 name.0 last.0.1 made.0 c (k.sorts name.0 (sort_is_new scope x.0.0 name.0 name.1)) made.1 made.2
 
   function_keeps : (ts : List Token) (c : Command) → reading.declare_fun scope ts ≡ Ok c → Q c
   function_keeps ts c e =
@@ -142,8 +143,9 @@ module _ (scope : Scope) (Q : Command → Type 0) (k : KeepsCommands scope Q) wh
 
   levels_keep : (make : ℕ → Command) (ts : List Token) (c : Command) → ((n : ℕ) → Q (make n)) → reading.levels make ts ≡ Ok c → Q c
   levels_keep make ts c h e =
-      let n = bound (reading.count_at ts) _ c e in
-      subst Q (ended_is (make n.0.0) c n.0.1 n.2) (h n.0.0)
+      let x = bound (reading.numeral_at ts) _ c e in
+      let n = bound (or_fault faults.Levels (number_below (2 ^ 32) x.0.0)) _ c x.2 in
+      subst Q (ended_is (make n.0) c x.0.1 n.2) (h n.0)
 
   command_keeps : (v : Verb) (ts : List Token) (c : Command) → reading.command_of scope v ts ≡ Ok c → Q c
   command_keeps verbs.SetOption ts c e = option_keeps ts c e
@@ -159,7 +161,4 @@ module _ (scope : Scope) (Q : Command → Type 0) (k : KeepsCommands scope Q) wh
   command_keeps verbs.Other ts c e = not_ok e
 
   pub understood_keeps : (ts : List Token) (c : Command) → reading.understood scope ts ≡ Ok c → Q c
-  understood_keeps ts c e =
-      let within = bound (reading.open_at ts) _ c e in
-      let verb = bound (reading.symbol_at within.0) _ c within.2 in
-      command_keeps (command_word verb.0.0) verb.0.1 c verb.2
+  understood_keeps ts c e = let verb = bound (reading.verb_at ts) _ c e in command_keeps verb.0.0 verb.0.1 c verb.2

@@ -1,9 +1,8 @@
 -- What is written for a command is understood as that command.
-use Rattle.std.proofs.Common.{◌≡◌, ℕ, ◌<◌, ◌^◌, nat_lt, Bool, true, false, List, [], ◌∷◌, ◌++◌, Some, Ok, refl, ap, ◌∙◌, sym, arith, append_assoc, append-nil, subst, true≢false, codes}
+use Rattle.std.proofs.Common.{◌≡◌, ℕ, ◌<◌, ◌^◌, Bool, true, false, List, [], ◌∷◌, ◌++◌, Ok, refl, ap, ◌∙◌, sym, arith, append_assoc, append-nil, subst, true≢false, codes}
 use Rattle.std.specs.Prelude.{if◌then◌else◌}
 use Rattle.std.specs.declared.result.Result.{Result}
 use Rattle.std.specs.Str.{bytes_eq}
-use Rattle.std.proofs.lemmas.Bool.{lt-ltb}
 use Rattle.std.proofs.lemmas.Slice.Eq.{bytes_eq-Decides}
 use Rattle.vx_sexp.specs.declared.token.Kind.TheVariants as kinds
 use Rattle.vx_sexp.specs.declared.token.Token.{Token}
@@ -23,8 +22,7 @@ use Rattle.vx_smt_text.proofs.Back.{commands_back}
 use Rattle.vx_dialogue.proofs.Counts.{one_command}
 use Rattle.cs_commands.specs.declared.fault.CommandFault.{CommandFault}
 use Rattle.cs_commands.specs.declared.fault.CommandFault.TheVariants as faults
-use Rattle.cs_commands.specs.Outcomes.{◌>>=◌, or_fault, where_so, with_front}
-use Rattle.cs_commands.specs.Words.{truth}
+use Rattle.cs_commands.specs.Outcomes.{◌>>=◌, or_fault, with_front}
 use Rattle.cs_commands.specs.Names.{sort_named}
 use Rattle.cs_commands.specs.Live.{Scope, sort_at, new_symbol}
 use Rattle.cs_commands.specs.Building.{is_bool, if_sorted}
@@ -34,19 +32,6 @@ use Rattle.cs_commands.proofs.Numerals.{number_back}
 use Rattle.cs_commands.proofs.Spellings.{symbol_text, keyword_text, symbol_is_name, symbol_back, sort_back}
 use Rattle.cs_commands.proofs.Declarations.{not_declared}
 use Rattle.cs_commands.proofs.WrittenTerms.{term_back, bool_is}
-
--- ---- numbers
-
-number_read : (n : ℕ) (rest : List Token) → n < 2 ^ 127 → reading.number_at (Atom kinds.Numeral (numeral n) ∷ rest) ≡ Ok (n, rest)
-number_read n rest h = ap (λ o. or_fault faults.Wide o >>= λ m. Ok (m, rest)) (number_back (2 ^ 127) n h)
-
-count_read : (n : ℕ) (rest : List Token) → n < 2 ^ 32 → reading.count_at (Atom kinds.Numeral (numeral n) ∷ rest) ≡ Ok (n, rest)
-count_read n rest h =
-    ap (λ o. o >>= counted) (number_read n rest (omega arith))
-    ∙ ap (λ b. where_so faults.Levels b (n, rest)) (lt-ltb n (2 ^ 32) h)
-  where
-    counted : ℕ × List Token → Result (ℕ × List Token) CommandFault
-    counted m = where_so faults.Levels (nat_lt m.0 (2 ^ 32)) m
 
 -- ---- sorts
 
@@ -101,7 +86,7 @@ sort_declared scope x own new = unknown scope.sorts (sort_named x) own (ap (has_
 
 -- ---- commands
 
-truth_back : (b : Bool) → truth (truth_word b) ≡ Some b
+truth_back : (b : Bool) → reading.is_true kinds.Symbol (truth_word b) ≡ b
 truth_back true = refl
 truth_back false = refl
 
@@ -114,10 +99,10 @@ logic_back scope x name = rw (symbol_text x name) refl
 sort_command : (scope : Scope) (x : List ℕ) → IsCommand (DeclareSort x) → knows_sort [] (sort_named x) ≡ false → has_sort scope.sorts x ≡ false → reading.understood scope (command_tokens (DeclareSort x)) ≡ Ok (DeclareSort x)
 sort_command scope x name own new =
     rw (symbol_text x name, sort_declared scope x own new)
-    (ap (λ o. o >>= ending) (number_read 0 (Close ∷ []) (omega arith)))
+    (ap (λ o. or_fault faults.Wide o >>= ending) (number_back (2 ^ 127) 0 (omega arith)))
   where
-    ending : ℕ × List Token → Result Command CommandFault
-    ending n = reading.if_none n.0 x n.1
+    ending : ℕ → Result Command CommandFault
+    ending n = reading.ended (DeclareSort x) (Close ∷ []) >>= λ c. reading.if_none n c
 
 symbol_new : (scope : Scope) (d : Declared) → IsCommand (DeclareFun d) → IsSmallSymbol d.symbol → names scope.symbols d.symbol ≡ false → new_symbol scope (symbol_word d.symbol) ≡ Ok d.symbol
 symbol_new scope d name small new =
@@ -159,10 +144,10 @@ assertion_back levels t apart name follows plain =
     with_term r = if_sorted (is_bool r.0) r.0 >>= λ u. reading.ended (Assert u) r.1
 
 levels_back : (make : ℕ → Command) (n : ℕ) → n < 2 ^ 32 → reading.levels make (Atom kinds.Numeral (numeral n) ∷ Close ∷ []) ≡ Ok (make n)
-levels_back make n h = ap (λ o. o >>= ending) (count_read n (Close ∷ []) h)
+levels_back make n h = ap (λ o. or_fault faults.Levels o >>= ending) (number_back (2 ^ 32) n h)
   where
-    ending : ℕ × List Token → Result Command CommandFault
-    ending m = reading.ended (make m.0) m.1
+    ending : ℕ → Result Command CommandFault
+    ending m = reading.ended (make m) (Close ∷ [])
 
 command_back : (levels : List Level) (c : Command) → AreApart (declared_in levels) → IsCommand c → MayFollow levels c → IsPlain c → reading.understood (scope_of levels) (command_tokens c) ≡ Ok c
 command_back levels (SetOption x b) apart name follows plain = option_back (scope_of levels) x b name

@@ -65,9 +65,9 @@ abbrev pub placed : Term → List Frame → Placed
 placed t [] = Whole t
 placed t (f ∷ fs) = Within (with_part f t ∷ fs)
 
--- where no list is open, a parenthesis that closes one ends the command
+-- where no list is open, a parenthesis that closes one stands in a term's place
 abbrev pub closed : List Frame → Result Placed CommandFault
-closed [] = Err faults.Unsupported
+closed [] = Err faults.Sort
 closed (f ∷ fs) = built f.head f.parts >>= λ t. Ok (placed t fs)
 
 abbrev pub go_on : Placed → List Token → (List Frame → Result (Term × List Token) CommandFault) → Result (Term × List Token) CommandFault
@@ -76,8 +76,8 @@ go_on (Within fs) ts go = go fs
 
 -- within some open lists: the term, and what follows it
 abbrev pub term_from : Scope → List Frame → List Token → Result (Term × List Token) CommandFault
-term_from scope fs [] = Err faults.Unsupported
-term_from scope fs (Open ∷ []) = Err faults.Unsupported
+term_from scope fs [] = Err faults.Sort
+term_from scope fs (Open ∷ []) = Err faults.Sort
 term_from scope fs (Open ∷ t ∷ ts) = head_at scope t >>= λ h. term_from scope (opened h ∷ fs) ts
 term_from scope fs (Close ∷ ts) = closed fs >>= λ p. go_on p ts (λ gs. term_from scope gs ts)
 term_from scope fs (Atom kind x ∷ ts) = leaf scope kind x >>= λ t. go_on (placed t fs) ts (λ gs. term_from scope gs ts)

@@ -1,5 +1,5 @@
 -- The words of terms and of commands.
-use Rattle.std.specs.Prelude.{ℕ, Bool, true, false, if◌then◌else◌, List, codes, Option, Some, None}
+use Rattle.std.specs.Prelude.{ℕ, Bool, true, false, if◌then◌else◌, List, codes}
 use Rattle.std.specs.Str.{bytes_eq}
 use Rattle.vx_terms.specs.declared.term.Operator.TheVariants as operators
 use Rattle.cs_commands.specs.declared.word.Word.{Word}
@@ -31,12 +31,6 @@ term_word text =
     if bytes_eq text (codes "-") then words.Minus else (
     if bytes_eq text (codes "/") then words.Slash else (
     operator_word text))))))
-
-abbrev pub truth : List ℕ → Option Bool
-truth text =
-    if bytes_eq text (codes "true") then Some true else (
-    if bytes_eq text (codes "false") then Some false else (
-    None))
 
 -- which command a word begins
 abbrev pub command_word : List ℕ → Verb

@@ -1,10 +1,12 @@
 //! Commands read from their tokens.
-ghost use Rattle.std.specs.Prelude.{◌≡◌, map};
+ghost use Rattle.std.specs.Prelude.{◌≡◌, ◌^◌, map};
 ghost use Rattle.std.specs.Option.{option_map};
 ghost use Rattle.vx_terms.specs.Views.{sort};
 ghost use Rattle.vx_smt_meaning.specs.Commands as meant;
 ghost use Rattle.vx_smt_meaning.specs.Views.{command};
-ghost use Rattle.cs_commands.specs.Outcomes.{Gives};
+ghost use Rattle.cs_commands.specs.declared.fault.CommandFault.TheVariants as faults;
+ghost use Rattle.cs_commands.specs.Outcomes.{Gives, or_fault};
+ghost use Rattle.cs_commands.specs.Names.{number_below};
 ghost use Rattle.cs_commands.specs.Commands as clean;
 ghost use Rattle.cs_commands.specs.Views.{scope};
 
@@ -15,7 +17,7 @@ use crate::live::{Live, new_sort, new_symbol, sort_at};
 use crate::name::text;
 use crate::number::number_below;
 use crate::term::term_at;
-use crate::word::{Verb, command_word, truth};
+use crate::word::{Verb, command_word};
 use std::alloc::Global;
 use vx_sexp::{Kind, Token};
 use vx_smt_meaning::{Command, Declared};
@@ -25,11 +27,11 @@ fn symbol_at(tokens: &[Token]) -> Result<(&[u8], &[Token]), CommandFault>
     ensures { Gives (λ x. (x.0.now, x.1.now)) result (clean.symbol_at tokens.now) }
 {
     let Some((first, rest)) = tokens.split_first() else {
-        return Err(CommandFault::Unsupported);
+        return Err(CommandFault::Sort);
     };
     match symbol_in(first) {
         Some(name) => Ok((name, rest)),
-        None => Err(CommandFault::Unsupported),
+        None => Err(CommandFault::Sort),
     }
 }
 
@@ -57,22 +59,19 @@ fn keyword_at(tokens: &[Token]) -> Result<(&[u8], &[Token]), CommandFault>
     ensures { Gives (λ x. (x.0.now, x.1.now)) result (clean.keyword_at tokens.now) }
 {
     let Some((first, rest)) = tokens.split_first() else {
-        return Err(CommandFault::Unsupported);
+        return Err(CommandFault::Sort);
     };
     match keyword_in(first) {
         Some(name) => Ok((name, rest)),
-        None => Err(CommandFault::Unsupported),
+        None => Err(CommandFault::Sort),
     }
 }
 
-fn number_in(token: &Token) -> Result<u128, CommandFault>
-    ensures { Gives (λ n. n) result (clean.number_in token.now) }
+fn numeral_in(token: &Token) -> Option<&[u8]>
+    ensures { option_map (λ x. x.now) result ≡ clean.numeral_in token.now }
 {
     match token {
-        Token::Atom(Kind::Numeral, text) => match number_below(1 << 127, text.as_slice()) {
-            Some(number) => Ok(number),
-            None => Err(CommandFault::Wide),
-        },
+        Token::Atom(Kind::Numeral, text) => Some(text.as_slice()),
         Token::Atom(
             Kind::Decimal
             | Kind::Hexadecimal
@@ -84,29 +83,38 @@ fn number_in(token: &Token) -> Result<u128, CommandFault>
             _,
         )
         | Token::Open
-        | Token::Close => Err(CommandFault::Unsupported),
+        | Token::Close => None,
     }
 }
 
-fn number_at(tokens: &[Token]) -> Result<(u128, &[Token]), CommandFault>
-    ensures { Gives (λ x. (x.0, x.1.now)) result (clean.number_at tokens.now) }
+fn numeral_at(tokens: &[Token]) -> Result<(&[u8], &[Token]), CommandFault>
+    ensures { Gives (λ x. (x.0.now, x.1.now)) result (clean.numeral_at tokens.now) }
 {
     let Some((first, rest)) = tokens.split_first() else {
-        return Err(CommandFault::Unsupported);
+        return Err(CommandFault::Sort);
     };
-    let number = number_in(first)?;
-    Ok((number, rest))
+    match numeral_in(first) {
+        Some(digits) => Ok((digits, rest)),
+        None => Err(CommandFault::Sort),
+    }
+}
+
+fn arity_of(digits: &[u8]) -> Result<u128, CommandFault>
+    ensures { Gives (λ n. n) result (or_fault faults.Wide (number_below (2 ^ 127) digits.now)) }
+{
+    match number_below(1 << 127, digits) {
+        Some(number) => Ok(number),
+        None => Err(CommandFault::Wide),
+    }
 }
 
 /// A count of levels.
-fn count_at(tokens: &[Token]) -> Result<(u32, &[Token]), CommandFault>
-    ensures { Gives (λ x. (x.0, x.1.now)) result (clean.count_at tokens.now) }
+fn count_of(digits: &[u8]) -> Result<u32, CommandFault>
+    ensures { Gives (λ n. n) result (or_fault faults.Levels (number_below (2 ^ 32) digits.now)) }
 {
-    let (number, rest) = number_at(tokens)?;
-    if number < 1 << 32 {
-        Ok((number as u32, rest))
-    } else {
-        Err(CommandFault::Levels)
+    match number_below(1 << 32, digits) {
+        Some(number) => Ok(number as u32),
+        None => Err(CommandFault::Levels),
     }
 }
 
@@ -115,8 +123,8 @@ fn open_at(tokens: &[Token]) -> Result<&[Token], CommandFault>
 {
     match tokens.split_first() {
         Some((Token::Open, rest)) => Ok(rest),
-        Some((Token::Close | Token::Atom(_, _), _)) => Err(CommandFault::Unsupported),
-        None => Err(CommandFault::Unsupported),
+        Some((Token::Close | Token::Atom(_, _), _)) => Err(CommandFault::Sort),
+        None => Err(CommandFault::Sort),
     }
 }
 
@@ -126,20 +134,66 @@ fn ended(made: Command, tokens: &[Token]) -> Result<Command, CommandFault>
 {
     match tokens {
         [Token::Close] => Ok(made),
-        _ => Err(CommandFault::Unsupported),
+        _ => Err(CommandFault::Sort),
     }
 }
 
+/// What stands behind a list that is open.
+#[tactic(auto, using(crate::proofs::Values::within_lists))]
+fn behind_list(tokens: &[Token]) -> Result<&[Token], CommandFault>
+    ensures { Gives (λ x. x.now) result (clean.behind_lists 1 tokens.now) }
+{
+    let mut lists = 1usize;
+    let mut rest = tokens;
+    while lists > 0 {
+        let Some((first, behind)) = rest.split_first() else {
+            return Err(CommandFault::Sort);
+        };
+        match first {
+            Token::Open => lists += 1,
+            Token::Close => lists -= 1,
+            Token::Atom(_, _) => (),
+        }
+        rest = behind;
+    }
+    Ok(rest)
+}
+
+fn is_true(kind: Kind, text: &[u8]) -> bool
+    ensures { result ≡ clean.is_true kind text.now }
+{
+    match kind {
+        Kind::Symbol => text == "true".as_bytes(),
+        Kind::Numeral
+        | Kind::Decimal
+        | Kind::Hexadecimal
+        | Kind::Binary
+        | Kind::Keyword
+        | Kind::Quoted
+        | Kind::Text => false,
+    }
+}
+
+/// An option's value, whether it is the word `true`: any atom but a keyword, or any list.
+fn value_at(tokens: &[Token]) -> Result<(bool, &[Token]), CommandFault>
+    ensures { Gives (λ x. (x.0, x.1.now)) result (clean.value_at tokens.now) }
+{
+    match tokens.split_first() {
+        None => Err(CommandFault::Sort),
+        Some((Token::Open, rest)) => Ok((false, behind_list(rest)?)),
+        Some((Token::Close | Token::Atom(Kind::Keyword, _), _)) => Err(CommandFault::Sort),
+        Some((Token::Atom(kind, text), rest)) => Ok((is_true(*kind, text.as_slice()), rest)),
+    }
+}
+
+/// Any option.
 fn set_option(alloc: Global, tokens: &[Token]) -> Result<Command, CommandFault>
     ensures { Gives (λ c. command c) result (clean.set_option tokens.now) }
 {
     let (keyword, rest) = keyword_at(tokens)?;
     let keyword = text(alloc, keyword)?;
-    let (value, rest) = symbol_at(rest)?;
-    match truth(value) {
-        Some(value) => ended(Command::SetOption(keyword, value), rest),
-        None => Err(CommandFault::Unsupported),
-    }
+    let (value, rest) = value_at(rest)?;
+    ended(Command::SetOption(keyword, value), rest)
 }
 
 fn set_logic(alloc: Global, tokens: &[Token]) -> Result<Command, CommandFault>
@@ -160,9 +214,11 @@ fn declare_sort(
 {
     let (name, rest) = symbol_at(tokens)?;
     let name = new_sort(alloc, live, name)?;
-    let (arity, rest) = number_at(rest)?;
+    let (digits, rest) = numeral_at(rest)?;
+    let arity = arity_of(digits)?;
+    let made = ended(Command::DeclareSort(name), rest)?;
     if arity == 0 {
-        ended(Command::DeclareSort(name), rest)
+        Ok(made)
     } else {
         Err(CommandFault::Unsupported)
     }
@@ -173,7 +229,7 @@ fn sort_in(alloc: Global, live: &Live<'_, '_>, token: &Token) -> Result<Sort, Co
 {
     match symbol_in(token) {
         Some(name) => sort_at(alloc, live, name),
-        None => Err(CommandFault::Unsupported),
+        None => Err(CommandFault::Sort),
     }
 }
 
@@ -197,7 +253,7 @@ fn sorts_at<'t>(
             }
         }
     }
-    Err(CommandFault::Unsupported)
+    Err(CommandFault::Sort)
 }
 
 fn declare_fun(
@@ -233,14 +289,16 @@ fn assertion(alloc: Global, live: &Live<'_, '_>, tokens: &[Token]) -> Result<Com
 fn push(tokens: &[Token]) -> Result<Command, CommandFault>
     ensures { Gives (λ c. command c) result (clean.levels meant.Push tokens.now) }
 {
-    let (count, rest) = count_at(tokens)?;
+    let (digits, rest) = numeral_at(tokens)?;
+    let count = count_of(digits)?;
     ended(Command::Push(count), rest)
 }
 
 fn pop(tokens: &[Token]) -> Result<Command, CommandFault>
     ensures { Gives (λ c. command c) result (clean.levels meant.Pop tokens.now) }
 {
-    let (count, rest) = count_at(tokens)?;
+    let (digits, rest) = numeral_at(tokens)?;
+    let count = count_of(digits)?;
     ended(Command::Pop(count), rest)
 }
 
@@ -267,6 +325,19 @@ fn command_of(
     }
 }
 
+/// What begins a command, and what stands behind it.
+fn verb_at(tokens: &[Token]) -> Result<(Verb, &[Token]), CommandFault>
+    ensures { Gives (λ x. (x.0, x.1.now)) result (clean.verb_at tokens.now) }
+{
+    let [Token::Open, first, rest @ ..] = tokens else {
+        return Err(CommandFault::Unsupported);
+    };
+    match symbol_in(first) {
+        Some(name) => Ok((command_word(name), rest)),
+        None => Err(CommandFault::Unsupported),
+    }
+}
+
 /// The command that the tokens are.
 ///
 /// # Errors
@@ -278,7 +349,6 @@ pub fn understood(
 ) -> Result<Command, CommandFault>
     ensures { Gives (λ c. command c) result (clean.understood (scope live.now) tokens.now) }
 {
-    let within = open_at(tokens)?;
-    let (verb, rest) = symbol_at(within)?;
-    command_of(alloc, live, command_word(verb), rest)
+    let (verb, rest) = verb_at(tokens)?;
+    command_of(alloc, live, verb, rest)
 }

@@ -11,7 +11,7 @@ pub enum CommandFault {
     Name,
     #[error("a number that leaves 128 bits")]
     Wide,
-    #[error("a term that isn't well-sorted, or not of the sort Bool where it is asserted")]
+    #[error("a command of another form, or a term that isn't well-sorted")]
     Sort,
     #[error("2^32 levels or more")]
     Levels,

@@ -150,7 +150,7 @@ fn open<'d, 't>(
     ensures falls { Shortens result (Open ∷ rest.now) }
 {
     match rest.split_first() {
-        None => Err(CommandFault::Unsupported),
+        None => Err(CommandFault::Sort),
         Some((first, behind)) => {
             let head = head_at(alloc, live, first)?;
             begin(alloc, frames, head)?;
@@ -170,7 +170,7 @@ fn close<'d, 't>(
     ensures falls { Shortens result (Close ∷ rest.now) }
 {
     match take_frame(frames) {
-        None => Err(CommandFault::Unsupported),
+        None => Err(CommandFault::Sort),
         Some(frame) => {
             let t = built(alloc, frame.head, &frame.parts)?;
             place(frames, t, rest)
@@ -189,7 +189,7 @@ fn go_on<'d, 't>(
     ensures falls { Shortens result tokens.now }
 {
     match tokens.split_first() {
-        None => Err(CommandFault::Unsupported),
+        None => Err(CommandFault::Sort),
         Some((Token::Open, rest)) => open(alloc, live, frames, rest),
         Some((Token::Close, rest)) => close(alloc, live, frames, rest),
         Some((Token::Atom(kind, name), rest)) => {

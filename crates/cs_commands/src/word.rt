@@ -1,9 +1,8 @@
 //! The words of terms and of commands.
 ghost use Rattle.std.specs.Prelude.{◌≡◌};
 ghost use Rattle.std.specs.Str.{bytes_eq};
-ghost use Rattle.std.specs.Option.{option_map};
 ghost use Rattle.vx_terms.specs.Views.{operator};
-ghost use Rattle.cs_commands.specs.Words.{term_word, operator_word, truth, command_word};
+ghost use Rattle.cs_commands.specs.Words.{term_word, operator_word, command_word};
 
 use vx_terms::Operator;
 
@@ -103,19 +102,6 @@ pub fn term_word(text: &[u8]) -> Word
         return Word::Slash;
     }
     operator_of(text)
-}
-
-/// The truth value of this word, if it is one.
-pub fn truth(text: &[u8]) -> Option<bool>
-    ensures { result ≡ truth text.now }
-{
-    if is_word(text, "true") {
-        return Some(true);
-    }
-    if is_word(text, "false") {
-        return Some(false);
-    }
-    None
 }
 
 /// Which command the word begins.
