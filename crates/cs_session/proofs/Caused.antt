@@ -1,5 +1,5 @@
 -- An undecided answer is that of a check, which has a cause.
-use Rattle.std.proofs.Common.{◌≡◌, ◌+◌, nat_le, Bool, true, false, List, [], ◌∷◌, Some, Ok, Err, refl}
+use Rattle.std.proofs.Common.{◌≡◌, nat_le, Bool, true, false, List, [], ◌∷◌, Some, Ok, Err, refl}
 use Rattle.std.specs.Option.{option_to_list}
 use Rattle.std.specs.declared.result.Result.{Result}
 use Rattle.vx_smt_meaning.specs.Commands.{Command, SetOption, SetLogic, DeclareSort, DeclareFun, Assert, Push, Pop, CheckSat, GetProof, Exit, Level}
@@ -55,7 +55,7 @@ done (SetLogic x) s u h = let e = h.0 in absurd (cc)
 done (DeclareSort x) s u h = let e = h.0 in absurd (cc)
 done (DeclareFun d) s u h = let e = h.0 in absurd (cc)
 done (Assert t) s u h = let e = h.0 in absurd (cc)
-done (Push n) s u h = absurd (not_followed (nat_le (depth s.levels + n) 256) (Push n) s u h)
+done (Push n) s u h = absurd (not_followed (nat_le n 256) (Push n) s u h)
 done (Pop n) s u h = absurd (not_followed (nat_le n (depth s.levels)) (Pop n) s u h)
 done CheckSat s u h = h.1
 done GetProof s u h = absurd (not_shown s.last h.0)

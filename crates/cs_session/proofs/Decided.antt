@@ -1,5 +1,5 @@
 -- In each session that comes about by answers the stack is formed, so that few Bool terms without numbers are decided.
-use Rattle.std.proofs.Common.{◌≡◌, ℕ, ◌+◌, nat_le, Bool, true, false, List, Ok, Err, sym, subst}
+use Rattle.std.proofs.Common.{◌≡◌, ℕ, nat_le, Bool, true, false, List, Ok, Err, sym, subst}
 use Rattle.std.specs.declared.result.Result.{Result}
 use Rattle.vx_sexp.specs.declared.token.Token.{Token}
 use Rattle.vx_smt_meaning.specs.Commands.{Command, SetOption, SetLogic, DeclareSort, DeclareFun, Assert, Push, Pop, CheckSat, GetProof, Exit, Level, declared_in}
@@ -51,7 +51,7 @@ done_fit (Assert t) s u r tokens e done h =
       applied = understood_applied (scope_of s.levels) tokens t e;
     } in
     subst IsSound (sym done.1) (asserted_fit s.levels t fit h)
-done_fit (Push n) s u r tokens e done h = pushed_fit (nat_le (depth s.levels + n) 256) n s u r done h
+done_fit (Push n) s u r tokens e done h = pushed_fit (nat_le n 256) n s u r done h
 done_fit (Pop n) s u r tokens e done h = popped_fit (nat_le n (depth s.levels)) n s u r done h
 done_fit CheckSat s u r tokens e done h = subst AreFit (sym done.0) h
 done_fit GetProof s u r tokens e done h = subst IsSound (sym done.1) h

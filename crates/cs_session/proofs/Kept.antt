@@ -1,5 +1,5 @@
 -- What holds of each state that a session comes to, and so of its proofs.
-use Rattle.std.proofs.Common.{◌≡◌, ℕ, zero, suc, ◌+◌, nat_le, Bool, true, false, List, [], ◌∷◌, ◌++◌, map, drop, Option, Some, None, Ok, Err, refl, ap, ap₂, ◌∙◌, sym, subst, append-nil}
+use Rattle.std.proofs.Common.{◌≡◌, ℕ, zero, suc, nat_le, Bool, true, false, List, [], ◌∷◌, ◌++◌, map, drop, Option, Some, None, Ok, Err, refl, ap, ap₂, ◌∙◌, sym, subst, append-nil}
 use Rattle.std.proofs.Math.Logic.{∥∥₁_map, ∥∥₁_elim}
 use Rattle.std.specs.Global.{Vec}
 use Rattle.std.specs.declared.result.Result.{Result}
@@ -130,7 +130,7 @@ done_kept (Assert t) s u r bytes rest tokens lexed e done k = subst IsKept (sym 
     asserted : (levels : List Level) → declared_in (stack_after (Assert t) levels) ≡ declared_in levels
     asserted [] = refl
     asserted (l ∷ levels) = refl
-done_kept (Push n) s u r bytes rest tokens lexed e done k = pushed_kept (nat_le (depth s.levels + n) 256) n s u r done k
+done_kept (Push n) s u r bytes rest tokens lexed e done k = pushed_kept (nat_le n 256) n s u r done k
 done_kept (Pop n) s u r bytes rest tokens lexed e done k = popped_kept (nat_le n (depth s.levels)) n s u r done k
 done_kept CheckSat s u r bytes rest tokens lexed e done k = checked_kept s u r done.0 done.1 k
 done_kept GetProof s u r bytes rest tokens lexed e done k = subst IsKept (sym done.1) k

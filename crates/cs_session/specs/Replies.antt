@@ -1,5 +1,5 @@
 -- What is answered to a command, and what it does to a session.
-use Rattle.std.specs.Prelude.{◌≡◌, ℕ, ◌+◌, nat_le, Bool, true, false, List, [], ◌∷◌, ◌++◌, map, Option, Some, None, Ok, Err}
+use Rattle.std.specs.Prelude.{◌≡◌, ℕ, nat_le, Bool, true, false, List, [], ◌∷◌, ◌++◌, map, Option, Some, None, Ok, Err}
 use Rattle.std.specs.declared.result.Result.{Result}
 use Rattle.vx_sexp.specs.declared.token.Token.{Token}
 use Rattle.vx_sexp.specs.First.{IsFirst}
@@ -76,13 +76,14 @@ abbrev pub Proves : Last → Reply → Type 0
 Proves (Refuted steps) r = Shows (map written steps.items) r
 Proves last r = r ≡ Failed complaints.NoProof
 
+-- at most 256 levels are opened at once, and no more are closed than are open
 abbrev pub Does : Command → State → Reply → State → Type 0
 Does (SetOption x b) old = Only Success old
 Does (SetLogic x) old = Only Success old
 Does (DeclareSort x) old = Follows (DeclareSort x) old
 Does (DeclareFun d) old = Follows (DeclareFun d) old
 Does (Assert t) old = Follows (Assert t) old
-Does (Push n) old = FollowsIf (nat_le (depth old.levels + n) 256) (Push n) old
+Does (Push n) old = FollowsIf (nat_le n 256) (Push n) old
 Does (Pop n) old = FollowsIf (nat_le n (depth old.levels)) (Pop n) old
 Does CheckSat old = Checks old
 Does GetProof old = λ r new. Proves old.last r × (new ≡ old)

@@ -16,9 +16,9 @@ pub enum Complaint {
     Name,
     /// A number that leaves 128 bits.
     Wide,
-    /// A term that isn't well-sorted, or no formula.
+    /// A command of another form, a term that isn't well-sorted, or no formula.
     Sort,
-    /// More levels to be closed than are open, or too many to be opened.
+    /// More levels to be closed than are open, or too many to be opened at once.
     Levels,
     /// No proof where one is asked for.
     NoProof,

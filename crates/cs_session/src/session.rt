@@ -18,8 +18,8 @@ use cs_proof::{Step, Want};
 use std::alloc::Global;
 use vx_smt_meaning::Command;
 
-/// So many levels may be open at once; the base level isn't counted.
-const DEEPEST: usize = 256;
+/// So many levels may be opened by one command; how many are open in all is bounded by memory alone.
+const MOST_AT_ONCE: u32 = 256;
 
 /// What the last check said of the levels as they are.
 #[derive(Drop)]
@@ -92,7 +92,7 @@ impl Session {
     fn push(&mut self, count: u32) -> Result<Reply, Want>
         ensures { IfOk result (λ r. Does (Push count) (state self.old) r (state self.new)) }
     {
-        if self.levels.depth() + count as usize <= DEEPEST {
+        if count <= MOST_AT_ONCE {
             self.levels.open_all(count)?;
             self.last = Last::Nothing;
             Ok(Reply::Success)
