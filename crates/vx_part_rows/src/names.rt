@@ -68,7 +68,7 @@ fn kind_of(signature: &Signature) -> &'static str {
 }
 
 // What a name stands for.
-fn put_name(typed: &Typed, name: &str, out: &mut Text) {
+fn put_name(typed: &Typed, name: &str, members: usize, out: &mut Text) {
     out.put("  ");
     out.put(name);
     match (typed.signature(name), typed.number(name)) {
@@ -78,7 +78,7 @@ fn put_name(typed: &Typed, name: &str, out: &mut Text) {
             out.put(", number ");
             out.natural(u128::from(number.0));
             out.put(" of ");
-            out.natural(typed.edges().len() as u128);
+            out.natural(members as u128);
         }
         _ => out.put(": nothing"),
     }
@@ -96,6 +96,6 @@ pub fn put_names(alloc: Global, row: &Row, out: &mut Text) {
         return;
     };
     for name in row.words.texts() {
-        put_name(&typed, name, out);
+        put_name(&typed, name, program.members.len(), out);
     }
 }

@@ -10,7 +10,6 @@ ghost use Rattle.vx_graph.specs.Reach.{leads};
 ghost use Rattle.vx_graph.specs.Views.{rows};
 ghost use Rattle.vx_typing.specs.GroupFaults as first;
 ghost use Rattle.vx_typing.specs.Programs as programs;
-ghost use Rattle.vx_typing.specs.Known.{AreMentions};
 ghost use Rattle.vx_typing.specs.Groups.{number_of, is_number, are_of, mentions};
 ghost use Rattle.vx_typing.specs.Groups as groups;
 ghost use Rattle.vx_typing.specs.Uses as uses;
@@ -408,14 +407,12 @@ pub fn check_groups(
     all_apart(alloc, g)
 }
 
-/// Which members lead to which, where neither measures nor groups have a fault.
-pub fn checked_edges(alloc: Global, members: &Members, all: &[Member]) -> Result<Edges, TypeFault>
+/// The same, by what the members mention.
+pub fn check_all_groups(alloc: Global, members: &Members, all: &[Member]) -> Result<(), TypeFault>
     requires few { length all.now < 2 ^ 32 }
     requires table { table members.now.entries ≡ table_of (map written_member all.now) }
-    ensures first { Gives (λ x. tt) result (programs.groups (map written_member all.now)) }
-    ensures mentions { IfOk result (λ e. AreMentions (map written_member all.now) (rows e)) }
+    ensures { Gives (λ x. tt) result (programs.groups (map written_member all.now)) }
 {
     let edges = edges_of(alloc, members, all)?;
-    check_groups(alloc, members, &edges, all)?;
-    Ok(edges)
+    check_groups(alloc, members, &edges, all)
 }

@@ -7,7 +7,7 @@ ghost use Rattle.vx_expressions.specs.Gives.{Gives};
 ghost use Rattle.vx_typing.specs.Typed.{written_of};
 
 use crate::Typed;
-use crate::groups::checked_edges;
+use crate::groups::check_all_groups;
 use crate::members::{check_members, members_of};
 use std::alloc::Global;
 use vx_ast::Program;
@@ -27,10 +27,6 @@ pub fn check<'a>(alloc: Global, program: &'a Program) -> Result<Typed<'a>, TypeF
     }
     let members = members_of(alloc, &program.members)?;
     check_members(alloc, &members, &program.members)?;
-    let edges = checked_edges(alloc, &members, &program.members)?;
-    Ok(Typed {
-        program,
-        members,
-        edges,
-    })
+    check_all_groups(alloc, &members, &program.members)?;
+    Ok(Typed { program, members })
 }

@@ -2,8 +2,7 @@
 
 ghost use Rattle.std.specs.Prelude.{◌≡◌, ◌<◌, ◌^◌, length};
 ghost use Rattle.vx_ast.specs.Written.{written_program};
-ghost use Rattle.vx_graph.specs.Views.{rows};
-ghost use Rattle.vx_typing.specs.Known.{HasNoFault, AreMentions};
+ghost use Rattle.vx_typing.specs.Known.{HasNoFault};
 ghost use Rattle.vx_typing.specs.Members.{table_of};
 ghost use Rattle.vx_expressions.specs.Views.{table};
 
@@ -11,18 +10,15 @@ use crate::groups::number;
 use crate::laws::programs_are_told;
 use vx_ast::{MemberId, Program};
 use vx_expressions::{Members, Signature, member};
-use vx_graph::Edges;
 
-/// A typed program, with what its names stand for, and which members mention which.
+/// A typed program, with what its names stand for.
 #[derive(Drop)]
 pub struct Typed<'a> {
     pub(crate) program: &'a Program,
     pub(crate) members: Members<'a>,
-    pub(crate) edges: Edges,
     ghost few: { length members.entries < 2 ^ 32 },
     ghost typed: { HasNoFault (written_program program.now) },
     ghost names: { table members.entries ≡ table_of (written_program program.now) },
-    ghost mentions: { AreMentions (written_program program.now) (rows edges) },
 }
 
 impl<'a> Typed<'a> {
@@ -59,13 +55,5 @@ impl<'a> Typed<'a> {
         ensures { option_map (λ m. m.0) result ≡ number_of (written_of self.now) name.now }
     {
         number(&self.members, name)
-    }
-
-    /// For each member, the functions and predicates that it mentions: a function in its contract and its body, a predicate
-    /// in its body.
-    pub fn edges(&self) -> &Edges
-        ensures { AreMentions (written_of self.now) (rows result.now) }
-    {
-        &self.edges
     }
 }
