@@ -3,7 +3,7 @@ use Rattle.std.proofs.Common.{Bool, true, Result, Ok, Err, is_err, IfOk, IfErr, 
 use Rattle.vx_ends.specs.declared.piece.Piece.{Piece}
 use Rattle.vx_ends.specs.declared.piece.Ending.{Ending}
 use Rattle.vx_ends.specs.Causes.{Rose}
-use Rattle.vx_smt_meaning.specs.Commands.{Declared, stack_of}
+use Rattle.vx_smt_meaning.specs.Commands.{Command, Declared, stack_of}
 use Rattle.vx_smt_meaning.specs.Dialogues.{Check}
 use Rattle.vx_smt_meaning.specs.Names.{AreCommands}
 use Rattle.vx_smt_meaning.specs.declared.reply.Reply.{Reply}
@@ -13,7 +13,7 @@ use Rattle.vx_dialogue.specs.declared.talk.Talk.TheVariants as talk
 use Rattle.vx_dialogue.specs.Scripts.{Turn, Asks, Posts, Leaves, preamble, posted, closing, said_of, script, is_inside_after}
 use Rattle.vx_dialogue.specs.Dialogue.{Gathers, Stands, link_of, base_of, check_of}
 use Rattle.vx_dialogue.specs.Stops.{Explains}
-use Rattle.vx_dialogue.specs.History.{Tells, Breaks}
+use Rattle.vx_dialogue.specs.History.{TellsOf, Tells, may_miss, Breaks}
 use Rattle.vx_dialogue.proofs.Joined.{append_none}
 use Rattle.vx_dialogue.proofs.History.{standing_tells, tells_failed, tells_longer, breaks_longer}
 use Rattle.vx_dialogue.proofs.Levels.{script_more, script_none, inside_behind}
@@ -119,7 +119,7 @@ module _ {L : Type 0} (dialogue : L → List Piece) (functions : List Declared) 
       let lost : is_lost child ≡ true = ap (λ (x : Child L). is_lost x) is in
       let told = subst (λ (x : Child L). Hears dialogue functions before now x turns checks) is heard in
       let same : turns ++ tried_turn (is_lost child) q ≡ turns = ap (λ b. turns ++ tried_turn b q) lost ∙ append_none turns in
-      (subst (λ x. IsRecorded functions true before now x checks) (sym same) told, lost)
+      ((λ _. subst (λ x. IsRecorded functions true before now x checks) (sym same) told), lost)
 
   -- a link is handed back
   pub recorded : (old new : List Ending) (d : Dialogue L) (e : Ending) (turns : List Turn) (checks : List Check) → new ≡ old ++ e ∷ [] → e.lane ≡ 0
@@ -141,13 +141,21 @@ module _ {L : Type 0} (dialogue : L → List Piece) (functions : List Declared) 
   talk_causes new f g talk.Want e is explained rose shut = tt
   talk_causes new f g talk.Closed e is explained rose shut = absurd (shut refl)
 
+  -- at a fault no answer is missed
+  told_at_fault : (t : Talk) (script : List Command) (pieces : List Piece) (checks : List Check) → TellsOf true (may_miss t) script pieces checks → is_fault (trouble_of t) ≡ true → (t ≡ talk.Closed → ⊥) → Tells true script pieces checks
+  told_at_fault talk.Pipe script pieces checks told fault shut = told
+  told_at_fault (talk.Garbled kept) script pieces checks told fault shut = told
+  told_at_fault (talk.Refused kept) script pieces checks told fault shut = told
+  told_at_fault talk.Want script pieces checks told fault shut = absurd (cc)
+  told_at_fault talk.Closed script pieces checks told fault shut = absurd (shut refl)
+
   -- a call gives no reply, and the link is handed back
   pub lost_by : (old new : List Ending) (f g : ℕ) (e : Ending) (t : Talk) (turns : List Turn) (q : Question) (checks : List Check) → old ≡ before → new ≡ old ++ e ∷ [] → e.lane ≡ 0
       → Breaks t (script false functions (turns ++ Posts q.path q.condition ∷ [])) e.dialogue checks → (t ≡ talk.Pipe → 0 < e.faults) → (t ≡ talk.Closed → ⊥)
       → Loses functions before new f g false turns checks q (trouble_of t)
   lost_by old new f g e t turns q checks first is lane broken rose shut =
       let here = is ∙ ap (λ x. x ++ e ∷ []) first in
-      (inr (e, here, lane, broken.told), talk_causes new f g t e here broken.explained rose shut)
+      ((λ fault. inr (e, here, lane, told_at_fault t (script false functions (turns ++ Posts q.path q.condition ∷ [])) e.dialogue checks broken.told fault shut)), talk_causes new f g t e here broken.explained rose shut)
 
   pub at_child : (old : List Ending) (a b : Child L) → a ≡ b → (turns : List Turn) (checks : List Check) → Hears dialogue functions before old a turns checks → Hears dialogue functions before old b turns checks
   at_child old a b same turns checks heard = subst (λ (x : Child L). Hears dialogue functions before old x turns checks) same heard
@@ -243,6 +251,10 @@ pub gone_by : {L T : Type 0} (child : Child L) (r : Result T Trouble) (t : Troub
     → MatchResult r (λ _. (is_started child ≡ true) × (is_lost child ≡ false)) (λ trouble. is_fault trouble ≡ true → is_lost child ≡ true) → r ≡ Err t → IsFaultOf t v → is_lost child ≡ true
 gone_by (child) r (trouble.Fault x) v after is fault = match_err_at r _ _ (trouble.Fault x) after is refl
 gone_by (child) r trouble.Want v after is fault = absurd fault
+
+pub fault_is : (t : Trouble) (v : Verdict) → IsFaultOf t v → is_fault t ≡ true
+fault_is (trouble.Fault x) v fault = refl
+fault_is trouble.Want v fault = absurd fault
 
 pub faulted_by : (t : Trouble) (v : Verdict) → IsFaultOf t v → is_faulted v ≡ true
 faulted_by (trouble.Fault x) v fault = ap is_faulted fault

@@ -101,10 +101,10 @@ abbrev pub tried_turn : (lost : Bool) → Question → List Turn
 tried_turn true q = []
 tried_turn false q = Posts q.path q.condition ∷ []
 
--- No reply came to this question: the links handed back tell of the turns and checks before; and there is a cause.
+-- No reply came to this question: there is a cause; and where it is a fault, the links handed back tell of the turns and checks before. Where memory ran out an answer may be lost, and no report is made.
 abbrev pub Loses : (functions : List Declared) → (before now : List Ending) → (faults_then faults_now : ℕ) → (lost : Bool) → List Turn → List Check → Question → Trouble → Type 0
 Loses functions before now faults_then faults_now lost turns checks q t =
-    IsRecorded functions true before now (turns ++ tried_turn lost q) checks × IsCausedBy (HasCauseOf before now faults_then faults_now lost) t
+    (is_fault t ≡ true → IsRecorded functions true before now (turns ++ tried_turn lost q) checks) × IsCausedBy (HasCauseOf before now faults_then faults_now lost) t
 
 -- a fault is the member's verdict, with its cause
 abbrev pub IsFaultOf : Trouble → Verdict → Type 0

@@ -25,7 +25,7 @@ pub returns-in-Err-clause-lost : goal.returns-in-Err-clause-lost
 returns-in-Err-clause-lost g c = λ functions before turns checks heard.
     let dialogue = g.W.Link.Link.dialogue in
     let e : Ending = record { lane = 0; dialogue = dialogue c.close.result; faults = g.W.Link.Link.faults c.close.result } in (
-      recorded_longer functions before _ false turns (Posts (query c.args.query.now).path (query c.args.query.now).condition) checks
+      λ fault. recorded_longer functions before _ false turns (Posts (query c.args.query.now).path (query c.args.query.now).condition) checks
           (recorded dialogue functions before (g.W.Spawner.ended c.args.spawner.now) (g.W.Spawner.ended c.finish.new.self) c.args.dialogue e turns checks c.finish.ensures.ended refl
           (ap dialogue c.close.ensures) heard),
       tt,
