@@ -98,26 +98,26 @@ module _ (P : List Term → Term → Type 0) (p : Program) (before now : List En
   silent : (first : ℕ) (runs : List MemberRun) (checks : List Check) → AreTold p before now f g true first runs checks → turns_of true p runs checks ≡ []
   silent first [] checks told = refl
   silent first (r ∷ runs) checks told =
-      let front = own_front r.checks checks told.3 told.4 told.5 told.6 in
-      let none : take r.checks checks ≡ [] = front.0 ∙ told.8.0 in
+      let front = own_front r.checks checks told.0 told.1 told.2 told.3.count in
+      let none : take r.checks checks ≡ [] = front.0 ∙ told.3.spent.0 in
       let here : member_turns true p r.member.0 (take r.checks checks) r.verdict ≡ [] =
       ap (λ x. member_turns true p r.member.0 x r.verdict) none ∙ ap (λ x. (asks_of x ++ []) ++ []) (walk_extends (member_tree p r.member.0)).none in
-      ap (λ x. x ++ turns_of true p runs (drop r.checks checks)) here ∙ (ap (turns_of true p runs) front.1 ∙ silent (first + length told.3) runs told.4 told.9)
+      ap (λ x. x ++ turns_of true p runs (drop r.checks checks)) here ∙ (ap (turns_of true p runs) front.1 ∙ silent (first + length told.0) runs told.1 told.4)
 
   pub turns_ask : ((k : ℕ) → AllAsk P (member_tree p k)) → (lost : Bool) (first : ℕ) (runs : List MemberRun) (checks : List Check)
       → AreTold p before now f g lost first runs checks → AreTurns P (turns_of lost p runs checks)
   turns_ask all lost first [] checks told = tt
   turns_ask all lost first (r ∷ runs) checks told =
       let n = r.member.0 in
-      let front = own_front r.checks checks told.3 told.4 told.5 told.6 in
+      let front = own_front r.checks checks told.0 told.1 told.2 told.3.count in
       let gone = lost || is_faulted r.verdict in
       let w = walk_of p n (take r.checks checks) in
       let rest = turns_of gone p runs (drop r.checks checks) in
       let met : MeetsAskable P w = through P (member_tree p n) passed (all n) (λ rs. record { answered = tt; last = tt }) (replies_to (take r.checks checks)) in
-      let later : AreTurns P rest = subst (λ x. AreTurns P (turns_of gone p runs x)) (sym front.1) (turns_ask all gone (first + length told.3) runs told.4 told.9) in
+      let later : AreTurns P rest = subst (λ x. AreTurns P (turns_of gone p runs x)) (sym front.1) (turns_ask all gone (first + length told.0) runs told.1 told.4) in
       let none : gone ≡ true → rest ≡ [] = λ is.
       ap (λ b. turns_of b p runs (drop r.checks checks)) is ∙ (ap (turns_of true p runs) front.1
-      ∙ silent (first + length told.3) runs told.4 (subst (λ b. AreTold p before now f g b (first + length told.3) runs told.4) is told.9)) in
+      ∙ silent (first + length told.0) runs told.1 (subst (λ b. AreTold p before now f g b (first + length told.0) runs told.1) is told.4)) in
       let failed = failed_turn lost w.ending r.verdict in
       let ends = last_askable P lost (is_faulted r.verdict) w.ending rest met.last later none failed (failed_gone P lost w.ending r.verdict) (failed_here P lost w.ending r.verdict) in
       subst (AreTurns P) (sym (append_assoc (asks_of w.answered ++ failed) (left_turn gone) rest ∙ append_assoc (asks_of w.answered) failed (left_turn gone ++ rest)))

@@ -1,5 +1,6 @@
 -- How the checks of a lane's child are heard, from one call to the next.
-use Rattle.std.proofs.Common.{Bool, true, Result, Ok, Err, is_err, IfOk, IfErr, OnOk, MatchResult, ◌≡◌, ℕ, ◌<◌, ◌≤◌, false, ◌++◌, ◌∷◌, [], List, refl, ap, ◌∙◌, sym, subst, inl, inr, ◌⊎◌, append_assoc, arith}
+use Rattle.std.proofs.Common.{Bool, true, Result, Ok, Err, is_err, IfOk, IfErr, OnOk, MatchResult, ◌≡◌, ◌==◌, ℕ, ◌<◌, ◌≤◌, false, ◌++◌, ◌∷◌, [], List, refl, ap, ◌∙◌, sym, subst, inl, inr, ◌⊎◌, append_assoc, arith}
+use Rattle.std.proofs.lemmas.Grind.{common_steps}
 use Rattle.vx_ends.specs.declared.piece.Piece.{Piece}
 use Rattle.vx_ends.specs.declared.piece.Ending.{Ending}
 use Rattle.vx_ends.specs.Causes.{Rose}
@@ -29,7 +30,7 @@ use Rattle.vx_verifier.specs.Sequences.{IsCheckOf}
 use Rattle.vx_verifier.specs.Causes.{HasCauseOf}
 use Rattle.vx_verifier.specs.Headline.{IsRecorded, left_turn}
 use Rattle.vx_ends.specs.declared.piece.Start.{Start}
-use Rattle.vx_verifier.specs.Lanes.{AreSilent, tried_turn, Hears, HearsOf, IsCausedBy, Loses, trouble_of, Handed, Later, StartsWhere, IsFaultOf, is_fault, is_lost, is_started}
+use Rattle.vx_verifier.specs.Lanes.{OthersOwe, AreSilent, tried_turn, Hears, HearsOf, IsCausedBy, Loses, trouble_of, Handed, Later, StartsWhere, IsFaultOf, is_fault, is_lost, is_started}
 use Rattle.vx_report.specs.declared.run.Verdict.{Verdict}
 use Rattle.vx_report.specs.Reports.{is_faulted}
 use Rattle.vx_verifier.proofs.Sequences.{check_is}
@@ -50,6 +51,17 @@ later_by_one old new e is = λ front handed. record {
   more = handed.more ++ e ∷ [];
   is = is ∙ (ap (λ x. x ++ e ∷ []) handed.is ∙ append_assoc front handed.more (e ∷ []));
 }
+
+zero_is : (n : ℕ) → (n == 0) ≡ true → n ≡ 0
+zero_is n e = grind (arith, common_steps)
+
+-- what holds of lane 0 and of all others holds of every lane
+pub every_lane : (old new : ℕ → ℕ) → new 0 ≡ old 0 → OthersOwe old new → (lane : ℕ) → new lane ≡ old lane
+every_lane old new first others lane = by_test (lane == 0) refl
+  where
+    by_test : (b : Bool) → (lane == 0) ≡ b → new lane ≡ old lane
+    by_test false other = others lane other
+    by_test true same = subst (λ n. new n ≡ old n) (sym (zero_is lane same)) first
 
 pub above_none : (f g : ℕ) → Rose f g → 0 < g
 above_none f g rose = omega arith

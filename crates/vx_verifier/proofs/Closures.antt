@@ -72,12 +72,12 @@ module _ (p : Program) (before now : List Ending) (f g : ℕ) (all : List Check)
       → AreTold p before now f g lost first runs checks → Each (IsWalked p all) runs
   are_walked lost first [] done checks is place told = tt
   are_walked lost first (r ∷ runs) done checks is place told =
-      let own = told.3 in
-      let whole : all ≡ done ++ (own ++ told.4) = is ∙ ap (λ x. done ++ x) told.5 in
-      let mine : sequence_of r all ≡ own = ap (sequence_of r) whole ∙ own_sequence r done own told.4 (told.2 ∙ place) told.6 in
+      let own = told.0 in
+      let whole : all ≡ done ++ (own ++ told.1) = is ∙ ap (λ x. done ++ x) told.2 in
+      let mine : sequence_of r all ≡ own = ap (sequence_of r) whole ∙ own_sequence r done own told.1 (told.3.first_is ∙ place) told.3.count in
       let longer = length-append done own in (
-        told_walked p (HasCauseOf before now f g lost) all own r mine told.7,
-        are_walked (lost || is_faulted r.verdict) (first + length own) runs (done ++ own) told.4 (whole ∙ sym (append_assoc done own told.4)) (omega arith) told.9,
+        told_walked p (HasCauseOf before now f g lost) all own r mine told.3.told,
+        are_walked (lost || is_faulted r.verdict) (first + length own) runs (done ++ own) told.1 (whole ∙ sym (append_assoc done own told.1)) (omega arith) told.4,
       )
 
 -- ---- members by number

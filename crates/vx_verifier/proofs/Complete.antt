@@ -56,9 +56,9 @@ module _ (p : Program) (before now : List Ending) (f g : ℕ) where
   none_faulted calm lawful first [] checks told = tt
   none_faulted calm lawful first (r ∷ runs) checks told =
       let none = no_cause before now f g calm lawful in
-      let fine = not_faulted (HasCauseOf before now f g false) none (walk_of p r.member.0 told.3).ending (length told.3) r.verdict told.7.verdict in (
+      let fine = not_faulted (HasCauseOf before now f g false) none (walk_of p r.member.0 told.0).ending (length told.0) r.verdict told.3.told.verdict in (
         fine,
-        none_faulted calm lawful (first + length told.3) runs told.4 (subst (λ b. AreTold p before now f g b (first + length told.3) runs told.4) fine told.9),
+        none_faulted calm lawful (first + length told.0) runs told.1 (subst (λ b. AreTold p before now f g b (first + length told.0) runs told.1) fine told.4),
       )
 
 -- ---- by unsat alone no walk fails
@@ -113,14 +113,14 @@ module _ (p : Program) (before now : List Ending) (f g : ℕ) (all : List Check)
       → Each (λ (r : MemberRun). AllUnsat (sequence_of r all) → has_passed r.verdict ≡ true) runs
   have_passed lost first [] done checks is place told fine below = tt
   have_passed lost first (r ∷ runs) done checks is place told fine below =
-      let own = told.3 in
-      let whole : all ≡ done ++ (own ++ told.4) = is ∙ ap (λ x. done ++ x) told.5 in
-      let mine : sequence_of r all ≡ own = ap (sequence_of r) whole ∙ own_sequence r done own told.4 (told.2 ∙ place) told.6 in
+      let own = told.0 in
+      let whole : all ≡ done ++ (own ++ told.1) = is ∙ ap (λ x. done ++ x) told.2 in
+      let mine : sequence_of r all ≡ own = ap (sequence_of r) whole ∙ own_sequence r done own told.1 (told.3.first_is ∙ place) told.3.count in
       let longer = length-append done own in (
-        λ unsat. by_unsat (HasCauseOf before now f g lost) (walk_of p r.member.0 own).ending (length own) r.verdict told.7.verdict
+        λ unsat. by_unsat (HasCauseOf before now f g lost) (walk_of p r.member.0 own).ending (length own) r.verdict told.3.told.verdict
             (through (member_tree p r.member.0) passed passed_never (replies_to own) (unsat_replies own (subst AllUnsat mine unsat))) fine.0 below.0,
-        have_passed (lost || is_faulted r.verdict) (first + length own) runs (done ++ own) told.4
-            (whole ∙ sym (append_assoc done own told.4)) (omega arith) told.9 fine.1 below.1,
+        have_passed (lost || is_faulted r.verdict) (first + length own) runs (done ++ own) told.1
+            (whole ∙ sym (append_assoc done own told.1)) (omega arith) told.4 fine.1 below.1,
       )
 
 -- ---- where nothing holds a member up, it is verified

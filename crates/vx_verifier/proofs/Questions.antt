@@ -1,5 +1,5 @@
 -- A member's questions, one by one, and its verdict at the end.
-use Rattle.std.proofs.Common.{◌≡◌, ℕ, ◌+◌, ◌<◌, ◌||◌, ◌⊎◌, inl, inr, Bool, true, false, ◌++◌, ◌∷◌, [], List, length, map, refl, ap, ◌∙◌, sym, subst, append_assoc, append-nil, arith}
+use Rattle.std.proofs.Common.{◌≡◌, ℕ, ◌+◌, ◌<◌, ◌≤◌, ◌||◌, ◌⊎◌, inl, inr, Bool, true, false, ◌++◌, ◌∷◌, [], List, length, map, refl, ap, ◌∙◌, sym, subst, append_assoc, append-nil, arith}
 use Rattle.vx_ast.specs.Syntax.{Program}
 use Rattle.vx_smt_meaning.specs.Commands.{Declared}
 use Rattle.vx_smt_meaning.specs.Dialogues.{Check}
@@ -131,12 +131,12 @@ at_end HasCause (outcome.Failed place c r) w checks asked told is = told
 at_end HasCause (outcome.Limit n) w checks asked told is = (is ∙ sym told.1, told.2.0, told.2.1)
 
 pub judged : (p : Program) (n : ℕ) (m : Machine) (own : List Check) (HasCause : Cause → Type 0) (v : Verdict) → m.member.0 ≡ n → AreAsked p m own
-    → IsVerdictOf HasCause (walk (member_tree p n) (given m)).ending (length own) v → IsTold p n HasCause own v
-judged p n m own HasCause v member so_far has =
+    → length own ≤ 100000 → IsVerdictOf HasCause (walk (member_tree p n) (given m)).ending (length own) v → IsTold p n HasCause own v
+judged p n m own HasCause v member so_far few has =
     let here = subst (λ k. AreChecksOf (walk (member_tree p k) (given m)).answered own) member so_far.checks in
     let checks = subst (λ rs. AreChecksOf (walk (member_tree p n) rs).answered own) (sym so_far.replies) here in
     let verdict_is = subst (λ rs. IsVerdictOf HasCause (walk (member_tree p n) rs).ending (length own) v) (sym so_far.replies) has in
-    record { checks = checks; verdict = verdict_is }
+    record { checks = checks; few = few; verdict = verdict_is }
 
 -- behind a fault of the lane
 none_own : (own : List Check) → length own ≡ 0 → own ≡ []
@@ -217,16 +217,17 @@ module _ {L : Type 0} (dialogue : L → List Piece) (functions : List Declared) 
       asked_count p m own so_far (subst (λ k. EachAnswered (walk (member_tree p k) (given m)) (given m)) (sym running.member) running.answered)
 
   pub at_done : (now : List Ended) (f g : ℕ) (lost : Bool) (child : Child L) (checks own : List Check) (m : Machine) (ask : Ask) (o : Outcome) (v : Verdict) (asked : ℕ)
-      → IsRunning p n m ask → ask ≡ Done o → v ≡ verdict_of o → asked ≡ length m.replies.items
+      → IsRunning p n m ask → ask ≡ Done o → v ≡ verdict_of o → asked ≡ length m.replies.items → asked ≤ 100000
       → (lost ≡ true → m.replies.items ≡ [])
       → (turns : List Turn) → Hears dialogue functions before now child (turns ++ turns_so_far p m) (checks ++ own) → AreAsked p m own
       → Judges dialogue functions p n before now (HasCauseOf before now f g lost) lost child turns (λ x. asked_turns lost p n x v) checks asked v
-  at_done now f g lost child checks own m ask o v asked running is verdict_is asked_is silent turns heard so_far =
+  at_done now f g lost child checks own m ask o v asked running is verdict_is asked_is within silent turns heard so_far =
       let HasCause : Cause → Type 0 = HasCauseOf before now f g lost in
       let done = subst (λ a. Told a (walk (member_tree p n) (given m)) 100000 (length m.replies.items)) is running.told in
       let count = told_count m ask own running so_far in
       let has = at_end HasCause o (walk (member_tree p n) (given m)) (length m.replies.items) (length own) done count in
-      let told = judged p n m own HasCause v running.member so_far
+      let few : length own ≤ 100000 = omega arith in
+      let told = judged p n m own HasCause v running.member so_far few
       (subst (λ x. IsVerdictOf HasCause (walk (member_tree p n) (given m)).ending (length own) x) (sym verdict_is) has) in
       let w = walk_of p n own in
       let none = none_failed lost w.ending v (ap is_faulted verdict_is ∙ not_faulted o) in
@@ -255,7 +256,7 @@ module _ {L : Type 0} (dialogue : L → List Piece) (functions : List Declared) 
       let below : length m.replies.items < m.limit = subst (λ a. IsDue a m.limit (length m.replies.items)) is running.due in
       let limit = running.limit in
       let few : length own < 100000 = omega arith in
-      let told = judged p n m own HasCause v running.member so_far
+      let told = judged p n m own HasCause v running.member so_far (omega arith)
       (fault_verdict HasCause t v (walk (member_tree p n) (given m)).ending (length own) (query q) due.0 few fault caused) in
       let w = walk_of p n own in
       let ending : w.ending ≡ Open (query q) = ap (λ rs. (walk (member_tree p n) rs).ending) so_far.replies ∙ due.0 in

@@ -27,6 +27,7 @@ verdict_rests C e asked v w (inr rests) has =
 told_rests : (p : Program) (n k : ℕ) (C : Cause → Type 0) (own : List Check) (v w : Verdict) → k ≡ n → IsLater v w → IsTold p n C own v → IsTold p k C own w
 told_rests p n k C own v w same later told = subst (λ (i : ℕ). IsTold p i C own w) (sym same) record {
   checks = told.checks;
+  few = told.few;
   verdict = verdict_rests C (walk_of p n own).ending (length own) v w later told.verdict;
 }
 
@@ -50,17 +51,19 @@ module _ (p : Program) (before now : List Ending) (f g : ℕ) where
   all_told lost first (r ∷ runs) (s ∷ rested) checks later told =
       let same = faulted_later r.verdict s.verdict later.5 in
       let member = ap (λ m. m.0) later.0 in (
-        later.1 ∙ told.0,
-        later.2 ∙ told.1,
-        later.3 ∙ told.2,
-        told.3,
-        told.4,
-        told.5,
-        told.6 ∙ sym later.4,
-        told_rests p r.member.0 s.member.0 (HasCauseOf before now f g lost) told.3 r.verdict s.verdict member later.5 told.7,
-        spent_rests lost p r.member.0 s.member.0 told.3 r.verdict s.verdict member later.5 told.8,
-        subst (λ b. AreTold p before now f g (lost || b) (first + length told.3) rested told.4) (sym same)
-            (all_told (lost || is_faulted r.verdict) (first + length told.3) runs rested told.4 later.6 told.9),
+        told.0,
+        told.1,
+        told.2,
+        record {
+          lane = later.1 ∙ told.3.lane;
+          child = later.2 ∙ told.3.child;
+          first_is = later.3 ∙ told.3.first_is;
+          count = told.3.count ∙ sym later.4;
+          told = told_rests p r.member.0 s.member.0 (HasCauseOf before now f g lost) told.0 r.verdict s.verdict member later.5 told.3.told;
+          spent = spent_rests lost p r.member.0 s.member.0 told.0 r.verdict s.verdict member later.5 told.3.spent;
+        },
+        subst (λ b. AreTold p before now f g (lost || b) (first + length told.0) rested told.1) (sym same)
+            (all_told (lost || is_faulted r.verdict) (first + length told.0) runs rested told.1 later.6 told.4),
       )
 
 -- ---- what the child is asked stays the same

@@ -40,6 +40,7 @@ verdict_later P Q on e asked (verdict.Fault x) has = (on x has.0, has.1, has.2, 
 pub told_later : (p : Program) (n : ℕ) (P Q : Cause → Type 0) → ((x : Cause) → P x → Q x) → (own : List Check) (v : Verdict) → IsTold p n P own v → IsTold p n Q own v
 told_later p n P Q on own v told = record {
   checks = told.checks;
+  few = told.few;
   verdict = verdict_later P Q on (walk_of p n own).ending (length own) v told.verdict;
 }
 
@@ -50,13 +51,15 @@ runs_later p before now more f g h later lost first (r ∷ runs) checks told = (
   told.0,
   told.1,
   told.2,
-  told.3,
-  told.4,
-  told.5,
-  told.6,
-  told_later p r.member.0 _ _ (cause_later before now more f g h later lost) told.3 r.verdict told.7,
-  told.8,
-  runs_later p before now more f g h later (lost || is_faulted r.verdict) (first + length told.3) runs told.4 told.9,
+  record {
+    lane = told.3.lane;
+    child = told.3.child;
+    first_is = told.3.first_is;
+    count = told.3.count;
+    told = told_later p r.member.0 _ _ (cause_later before now more f g h later lost) told.0 r.verdict told.3.told;
+    spent = told.3.spent;
+  },
+  runs_later p before now more f g h later (lost || is_faulted r.verdict) (first + length told.0) runs told.1 told.4,
 )
 
 -- One run more is told.
@@ -69,29 +72,19 @@ module _ (p : Program) (before now : List Ending) (f g : ℕ) where
       → AreTold p before now f g lost first (runs ++ r ∷ []) (checks ++ own)
   runs_more lost first [] checks r own told lane child is count this spent =
       let none : checks ≡ [] = told in (
-        lane,
-        child,
-        is ∙ rw none (omega arith),
         own,
         [],
         rw none (sym (append-nil own)),
-        count,
-        this,
-        spent,
+        record { lane = lane; child = child; first_is = is ∙ rw none (omega arith); count = count; told = this; spent = spent },
         refl,
       )
   runs_more lost first (r' ∷ runs) checks r own told lane child is count this spent = (
     told.0,
-    told.1,
-    told.2,
+    told.1 ++ own,
+    ap (λ x. x ++ own) told.2 ∙ append_assoc told.0 told.1 own,
     told.3,
-    told.4 ++ own,
-    ap (λ x. x ++ own) told.5 ∙ append_assoc told.3 told.4 own,
-    told.6,
-    told.7,
-    told.8,
-    runs_more (lost || is_faulted r'.verdict) (first + length told.3) runs told.4 r own told.9
-        lane child (is ∙ rw told.5 (omega (arith, length-append told.3 told.4))) count this spent,
+    runs_more (lost || is_faulted r'.verdict) (first + length told.0) runs told.1 r own told.4
+        lane child (is ∙ rw told.2 (omega (arith, length-append told.0 told.1))) count this spent,
   )
 
 -- ---- all turns
@@ -119,13 +112,13 @@ module _ (p : Program) (before now : List Ending) (f g : ℕ) where
       let mine = own_front r.checks (checks ++ own) own [] (ap (λ x. x ++ own) told ∙ sym (append-nil own)) count in
       append-nil (member_turns lost p r.member.0 (take r.checks (checks ++ own)) r.verdict) ∙ ap (λ x. member_turns lost p r.member.0 x r.verdict) mine.0
   turns_more lost first (r' ∷ runs) checks r own told count =
-      let here = own_front r'.checks checks told.3 told.4 told.5 told.6 in
-      let longer = own_front r'.checks (checks ++ own) told.3 (told.4 ++ own) (ap (λ x. x ++ own) told.5 ∙ append_assoc told.3 told.4 own) told.6 in
+      let here = own_front r'.checks checks told.0 told.1 told.2 told.3.count in
+      let longer = own_front r'.checks (checks ++ own) told.0 (told.1 ++ own) (ap (λ x. x ++ own) told.2 ∙ append_assoc told.0 told.1 own) told.3.count in
       let gone = lost || is_faulted r'.verdict in
-      let rest = turns_more gone (first + length told.3) runs told.4 r own told.9 count in
+      let rest = turns_more gone (first + length told.0) runs told.1 r own told.4 count in
       let last = member_turns (lost_after gone runs) p r.member.0 own r.verdict in
-      let ours = member_turns lost p r'.member.0 told.3 r'.verdict in
-      let later = turns_of gone p runs told.4 in
+      let ours = member_turns lost p r'.member.0 told.0 r'.verdict in
+      let later = turns_of gone p runs told.1 in
       let left_is : turns_of lost p (r' ∷ (runs ++ r ∷ [])) (checks ++ own) ≡ ours ++ (later ++ last) =
       ap (λ x. member_turns lost p r'.member.0 x r'.verdict ++ turns_of gone p (runs ++ r ∷ []) (drop r'.checks (checks ++ own))) longer.0
       ∙ (ap (λ x. ours ++ turns_of gone p (runs ++ r ∷ []) x) longer.1 ∙ ap (λ x. ours ++ x) rest) in

@@ -1,7 +1,7 @@
 -- What the runs of a program's members promise: each verdict is that of the walk over the replies that the record of
 -- the child's link tells, and a member that is verified by right replies, its own and those of the members that it leads to,
 -- fails at no place.
-use Rattle.std.specs.Prelude.{◌≡◌, ◌⊎◌, ℕ, ◌+◌, ◌<◌, ◌||◌, ⊤, Bool, true, false, List, [], ◌∷◌, ◌++◌, Some, length, map, take, drop, slice_get, if◌then◌else◌}
+use Rattle.std.specs.Prelude.{◌≡◌, ◌⊎◌, ℕ, ◌+◌, ◌<◌, ◌≤◌, ◌||◌, ⊤, Bool, true, false, List, [], ◌∷◌, ◌++◌, Some, length, map, take, drop, slice_get, if◌then◌else◌}
 use Rattle.std.specs.List.{list_any}
 use Rattle.vx_ast.specs.Syntax.{Program, Member}
 use Rattle.vx_terms.specs.Sorts.{BoolSort}
@@ -76,18 +76,29 @@ IsSpentAfter true p n own v = (own ≡ []) × (has_question p n ≡ true → v �
 pub record IsTold (p : Program) (n : ℕ) (HasCause : Cause → Type 0) (own : List Check) (v : Verdict) : Type 0 where
   -- its checks are the questions of the walk over their replies, in order
   pub checks : AreChecksOf (walk_of p n own).answered own
+  -- no member has more
+  pub few : length own ≤ 100000
   pub verdict : IsVerdictOf HasCause (walk_of p n own).ending (length own) v
 
 module _ (p : Program) (before now : List Ending) (faults_then faults_now : ℕ) where
+  -- A run, with the checks of its own, of which the first has this number; the lane was lost before, or not.
+  pub record IsRunOf (lost : Bool) (first : ℕ) (own : List Check) (r : MemberRun) : Type 0 where
+    -- there is one lane, and it has one child
+    pub lane : r.lane ≡ 0
+    pub child : r.child ≡ 0
+    -- it tells where its checks begin, and how many they are
+    pub first_is : r.first ≡ first
+    pub count : length own ≡ r.checks
+    -- its checks are its member's questions, and its verdict is that of the walk
+    pub told : IsTold p r.member.0 (HasCauseOf before now faults_then faults_now lost) own r.verdict
+    -- after a fault nothing is asked
+    pub spent : IsSpentAfter lost p r.member.0 own r.verdict
+
   -- Each run tells what became of its member; their checks follow one another, from number `first` on.
   abbrev pub AreTold : (lost : Bool) (first : ℕ) → List MemberRun → List Check → Type 0
   AreTold lost first [] checks = checks ≡ []
   AreTold lost first (r ∷ runs) checks =
-      (r.lane ≡ 0) × (r.child ≡ 0) × (r.first ≡ first)
-      × (own rest : List Check) × (checks ≡ own ++ rest) × (length own ≡ r.checks)
-      × IsTold p r.member.0 (HasCauseOf before now faults_then faults_now lost) own r.verdict
-      × IsSpentAfter lost p r.member.0 own r.verdict
-      × AreTold (lost || is_faulted r.verdict) (first + length own) runs rest
+      (own rest : List Check) × (checks ≡ own ++ rest) × IsRunOf lost first own r × AreTold (lost || is_faulted r.verdict) (first + length own) runs rest
 
 -- the questions that a walk answered, as a dialogue asks them
 abbrev pub asks_of : List Answered → List Turn
@@ -135,6 +146,10 @@ abbrev pub IsRecorded : (functions : List Declared) → (failed : Bool) → (bef
 IsRecorded functions failed before now turns checks =
     ((now ≡ before) × (checks ≡ [])) ⊎ ((ending : Ending) × (now ≡ before ++ ending ∷ []) × (ending.lane ≡ 0) × Tells failed (script false functions turns) ending.dialogue checks)
 
+-- all that the child is told for these runs
+abbrev pub script_of : Program → List MemberRun → List Check → List Command
+script_of p runs checks = script false (function_symbols p) (turns_of false p runs checks)
+
 -- the checks of a run: so many, from its first on
 abbrev pub sequence_of : MemberRun → List Check → List Check
 sequence_of r checks = take r.checks (drop r.first checks)
@@ -174,8 +189,8 @@ pub record Headline (p : Program) (before now : List Ending) (faults_then faults
   pub checks : List Check
   pub recorded : IsRecorded (function_symbols p) (lost_after false runs) before now (turns_of false p runs checks) checks
   -- names are spelled, each symbol is declared before it is used, with its sorts, and no live one again; what is asserted is of sort Bool
-  pub well_formed : IsWellFormed (script false (function_symbols p) (turns_of false p runs checks))
-  pub sorted : Each IsWellSorted (script false (function_symbols p) (turns_of false p runs checks))
+  pub well_formed : IsWellFormed (script_of p runs checks)
+  pub sorted : Each IsWellSorted (script_of p runs checks)
   pub each : members_of runs ≡ lines p
   pub told : AreTold p before now faults_then faults_now false 0 runs checks
   pub rested : AreRested p runs

@@ -1,5 +1,5 @@
 -- What holds of a lane between two questions.
-use Rattle.std.specs.Prelude.{◌≡◌, ℕ, ◌<◌, ⊤, Bool, true, false, List, [], ◌∷◌, ◌++◌, length}
+use Rattle.std.specs.Prelude.{◌≡◌, ℕ, ◌<◌, ◌==◌, ⊤, Bool, true, false, List, [], ◌∷◌, ◌++◌, length}
 use Rattle.vx_ast.specs.Syntax.{Program}
 use Rattle.vx_smt_meaning.specs.Commands.{Declared}
 use Rattle.vx_smt_meaning.specs.Dialogues.{Check}
@@ -37,6 +37,10 @@ abbrev pub IsHeld : {L : Type 0} → Child L → ℕ → Type 0
 IsHeld (Talking d) owed = IsFree d × (has_failed d ≡ false) × (0 < owed)
 IsHeld NotStarted owed = ⊤
 IsHeld Lost owed = ⊤
+
+-- all other lanes owe the links that they owed
+abbrev pub OthersOwe : (old new : ℕ → ℕ) → Type 0
+OthersOwe old new = (lane : ℕ) → (lane == 0) ≡ false → new lane ≡ old lane
 
 -- how many links are out for a child
 abbrev pub links : {L : Type 0} → Child L → ℕ

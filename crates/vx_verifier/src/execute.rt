@@ -19,7 +19,7 @@ ghost use Rattle.vx_typing.specs.Typed.{resolved_of, written_of};
 ghost use Rattle.vx_verifier.specs.Headline.{Headline, IsWhole, asked_turns, member_turns, members_of, has_question, some_ask};
 ghost use Rattle.vx_verifier.specs.Lines.{has_line, lines};
 ghost use Rattle.vx_verifier.specs.Lanes as spec;
-ghost use Rattle.vx_verifier.specs.Lanes.{IsHeld, IsRunning, links, is_lost, is_started, Hears, Starts, StartsWhere, Later, Judges, Executes, IsFaultOf};
+ghost use Rattle.vx_verifier.specs.Lanes.{IsHeld, IsRunning, OthersOwe, links, is_lost, is_started, Hears, Starts, StartsWhere, Later, Judges, Executes, IsFaultOf};
 
 use crate::lane::{Child, LANE, Trouble, ask, end, leave};
 use crate::program::{settled, typed_programs_are_whole};
@@ -138,6 +138,7 @@ fn judge<W: Spawner, N: Turns>(
     requires spelled { AllSpelled (member_tree (settled program.now) member.0) }
     ensures held { IsHeld result.0 (W.owed spawner.new LANE) }
     ensures owed { W.owed spawner.new LANE + links child ≡ W.owed spawner.old LANE + links result.0 }
+    ensures other_lanes { OthersOwe (W.owed spawner.old) (W.owed spawner.new) }
     ensures told { IfOk result.1 (λ judged. (before : List Ending) (turns : List Turn) (checks : List Check) → Hears W.Link.dialogue (map declared_symbol functions.now) before (W.ended spawner.old) child turns checks
         → Judges W.Link.dialogue (map declared_symbol functions.now) (settled program.now) member.0 before (W.ended spawner.new) (HasCauseOf before (W.ended spawner.new) (W.faults spawner.old) (W.faults spawner.new) (is_lost child)) (is_lost child)
         result.0 turns (λ own. asked_turns (is_lost child) (settled program.now) member.0 own judged.verdict) checks judged.checks judged.verdict) }
@@ -203,6 +204,7 @@ fn execute<W: Spawner, N: Turns>(
     requires room { lane.checks + LIMIT < 2 ^ 64 }
     ensures held { IsHeld result.0.child (W.owed spawner.new LANE) }
     ensures owed { W.owed spawner.new LANE + links lane.child ≡ W.owed spawner.old LANE + links result.0.child }
+    ensures other_lanes { OthersOwe (W.owed spawner.old) (W.owed spawner.new) }
     ensures alone { IfOk result.1 (λ run. is_resting run.verdict ≡ false) }
     ensures numbers { IfOk result.1 (λ run. (run.member ≡ member) × (run.lane ≡ LANE) × (run.child ≡ 0) × (run.first ≡ lane.checks)) }
     ensures told { IfOk result.1 (λ run. (before : List Ending) (turns : List Turn) (checks : List Check) → Hears W.Link.dialogue (map declared_symbol functions.now) before (W.ended spawner.old) lane.child turns checks
@@ -284,6 +286,7 @@ fn execute_all<W: Spawner, N: Turns>(
     requires spelled { AsksSpelled (settled program.now) }
     ensures held { IsHeld result.0.child (W.owed spawner.new LANE) }
     ensures owed { W.owed spawner.new LANE ≡ W.owed spawner.old LANE + links result.0.child }
+    ensures other_lanes { OthersOwe (W.owed spawner.old) (W.owed spawner.new) }
     ensures named { IfOk result.1 (λ runs. AreNamed (settled program.now) runs.items) }
     ensures alone { IfOk result.1 (λ runs. NoneRests runs.items) }
     ensures told { IfOk result.1 (λ runs. (members_of runs.items ≡ lines (settled program.now)) × Executes W.Link.dialogue (map declared_symbol functions.now) (settled program.now) (W.ended spawner.old) (W.ended spawner.new) (W.faults spawner.old) (W.faults spawner.new)
@@ -339,7 +342,7 @@ fn verify_members<W: Spawner, N: Turns>(
     ensures starts { let start : Start = record { lane = LANE; command = command.now } in (W.starts spawner.new ≡ W.starts spawner.old) ⊎ (W.starts spawner.new ≡ W.starts spawner.old ++ start ∷ []) }
     ensures started { IfOk result (λ _. let start : Start = record { lane = LANE; command = command.now } in
         StartsWhere (some_ask (settled program.now) (lines (settled program.now))) (W.starts spawner.old) (W.starts spawner.new) start) }
-    ensures handed_back { W.owed spawner.new LANE ≡ W.owed spawner.old LANE }
+    ensures handed_back { (lane : ℕ) → W.owed spawner.new lane ≡ W.owed spawner.old lane }
     ensures faults { W.faults spawner.old ≤ W.faults spawner.new }
     ensures later { Later (W.ended spawner.old) (W.ended spawner.new) }
     ensures steady { IsTrue (W.steady spawner.old) → W.faults spawner.old < 2 ^ 64 - 1
@@ -379,7 +382,7 @@ pub fn verify<W: Spawner, N: Turns>(
     ensures starts { let start : Start = record { lane = LANE; command = command.now } in (W.starts spawner.new ≡ W.starts spawner.old) ⊎ (W.starts spawner.new ≡ W.starts spawner.old ++ start ∷ []) }
     ensures started { IfOk result (λ _. let start : Start = record { lane = LANE; command = command.now } in
         StartsWhere (some_ask (resolved_of typed.now) (lines (resolved_of typed.now))) (W.starts spawner.old) (W.starts spawner.new) start) }
-    ensures handed_back { W.owed spawner.new LANE ≡ W.owed spawner.old LANE }
+    ensures handed_back { (lane : ℕ) → W.owed spawner.new lane ≡ W.owed spawner.old lane }
     ensures faults { W.faults spawner.old ≤ W.faults spawner.new }
     ensures later { Later (W.ended spawner.old) (W.ended spawner.new) }
     ensures steady { IsTrue (W.steady spawner.old) → W.faults spawner.old < 2 ^ 64 - 1

@@ -12,7 +12,7 @@ ghost use Rattle.vx_stack.specs.Stack as rules;
 ghost use Rattle.vx_verifier.specs.Headline.{IsRecorded, left_turn};
 ghost use Rattle.vx_verifier.specs.Steady.{AreSpelled, IsSpelled, IsCalmLane};
 ghost use Rattle.vx_verifier.specs.Lanes as spec;
-ghost use Rattle.vx_verifier.specs.Lanes.{IsHeld, links, is_fault, is_lost, is_started, Hears, HearsOf, Loses, Starts, Later};
+ghost use Rattle.vx_verifier.specs.Lanes.{IsHeld, OthersOwe, links, is_fault, is_lost, is_started, Hears, HearsOf, Loses, Starts, Later};
 
 use std::alloc::Global;
 use vx_dialogue::{Dialogue, Talk};
@@ -61,6 +61,7 @@ fn start<W: Spawner>(
     requires { AreSpelled (map declared_symbol functions.now) }
     ensures held { MatchResult result (λ d. IsHeld (Child.Talking d) (W.owed spawner.new LANE)) (λ lost. IsHeld lost.0 (W.owed spawner.new LANE)) }
     ensures owed { W.owed spawner.new LANE ≡ W.owed spawner.old LANE + (if is_ok result then 1 else 0) }
+    ensures other_lanes { OthersOwe (W.owed spawner.old) (W.owed spawner.new) }
     ensures links { IfErr result (λ lost. links lost.0 ≡ 0) }
     ensures child { IfErr result (λ lost. is_fault lost.1 ≡ true → is_lost lost.0 ≡ true) }
     ensures told { (before : List Ending) (turns : List Turn) (checks : List Check) → Hears W.Link.dialogue (map declared_symbol functions.now) before (W.ended spawner.old) Child.NotStarted turns checks
@@ -99,6 +100,7 @@ fn talk<W: Spawner>(
     requires spelled { IsSpelled (rules.query query.now) }
     ensures held { IsHeld result.0 (W.owed spawner.new LANE) }
     ensures owed { W.owed spawner.new LANE + 1 ≡ W.owed spawner.old LANE + links result.0 }
+    ensures other_lanes { OthersOwe (W.owed spawner.old) (W.owed spawner.new) }
     ensures told { IfOk result.1 (λ reply. (functions : List smt.Declared) (before : List Ending) (turns : List Turn) (checks : List Check) → Hears W.Link.dialogue functions before (W.ended spawner.old) (Child.Talking dialogue) turns checks
         → HearsOf W.Link.dialogue functions before (W.ended spawner.new) result.0 turns checks (rules.query query.now) reply) }
     ensures lost { IfErr result.1 (λ trouble. (functions : List smt.Declared) (before : List Ending) (turns : List Turn) (checks : List Check) → Hears W.Link.dialogue functions before (W.ended spawner.old) (Child.Talking dialogue) turns checks
@@ -141,6 +143,7 @@ pub fn ask<W: Spawner>(
     requires spelled { IsSpelled (rules.query query.now) }
     ensures held { IsHeld result.0 (W.owed spawner.new LANE) }
     ensures owed { W.owed spawner.new LANE + links child ≡ W.owed spawner.old LANE + links result.0 }
+    ensures other_lanes { OthersOwe (W.owed spawner.old) (W.owed spawner.new) }
     ensures told { IfOk result.1 (λ reply. (before : List Ending) (turns : List Turn) (checks : List Check) → Hears W.Link.dialogue (map declared_symbol functions.now) before (W.ended spawner.old) child turns checks
         → HearsOf W.Link.dialogue (map declared_symbol functions.now) before (W.ended spawner.new) result.0 turns checks (rules.query query.now) reply) }
     ensures lost { IfErr result.1 (λ trouble. (before : List Ending) (turns : List Turn) (checks : List Check) → Hears W.Link.dialogue (map declared_symbol functions.now) before (W.ended spawner.old) child turns checks
@@ -172,6 +175,7 @@ pub fn leave<W: Spawner>(
     requires { IsHeld child (W.owed spawner.old LANE) }
     ensures held { IsHeld result.0 (W.owed spawner.new LANE) }
     ensures owed { W.owed spawner.new LANE + links child ≡ W.owed spawner.old LANE + links result.0 }
+    ensures other_lanes { OthersOwe (W.owed spawner.old) (W.owed spawner.new) }
     ensures told { (functions : List smt.Declared) (before : List Ending) (turns : List Turn) (checks : List Check) → Hears W.Link.dialogue functions before (W.ended spawner.old) child turns checks
         → MatchResult result.1 (λ _. Hears W.Link.dialogue functions before (W.ended spawner.new) result.0 (turns ++ left_turn (is_lost child)) checks) (λ _. Hears W.Link.dialogue functions before (W.ended spawner.new) result.0 turns checks) }
     ensures lost { OnOk result.1 (is_lost result.0 ≡ is_lost child) }
@@ -204,6 +208,7 @@ pub fn leave<W: Spawner>(
 pub fn end<W: Spawner>(spawner: &mut W, child: Child<W::Link>)
     requires { IsHeld child (W.owed spawner.old LANE) }
     ensures owed { W.owed spawner.new LANE + links child ≡ W.owed spawner.old LANE }
+    ensures other_lanes { OthersOwe (W.owed spawner.old) (W.owed spawner.new) }
     ensures told { (functions : List smt.Declared) (before : List Ending) (turns : List Turn) (checks : List Check) → Hears W.Link.dialogue functions before (W.ended spawner.old) child turns checks → IsRecorded functions (is_lost child) before (W.ended spawner.new) turns checks }
     ensures starts { W.starts spawner.new ≡ W.starts spawner.old }
     ensures faults { W.faults spawner.new ≡ W.faults spawner.old }

@@ -47,6 +47,7 @@ loop-number-preserved g c =
     record {
       held = c.execute-kept.ensures.held;
       owed = omega arith;
+      lanes = λ lane other. c.execute-kept.ensures.other_lanes lane other ∙ so_far.lanes lane other;
       alone = subst NoneRests (sym pushed) (none_more runs run so_far.alone alone);
       named = subst (AreNamed (settled c.args.program.now)) (sym pushed) (named_more (settled c.args.program.now) runs run so_far.named below);
       each = subst (λ x. members_of x ++ lines_from (n + 1) (drop (n + 1) p) ≡ lines p) (sym pushed)
@@ -79,6 +80,7 @@ loop-number-preserved-then-not-has_line g c =
     record {
       held = so_far.held;
       owed = so_far.owed;
+      lanes = so_far.lanes;
       alone = so_far.alone;
       named = so_far.named;
       each = passes_by (settled c.args.program.now) c.loop-number.number (member c.member.result.now) (members_of c.loop-number.runs.items) c.member.ensures none so_far.each;

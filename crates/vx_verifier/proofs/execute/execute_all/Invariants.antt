@@ -6,7 +6,7 @@ use Rattle.vx_report.specs.Reports.{AreNamed}
 use Rattle.vx_resting.specs.Resting.{NoneRests}
 use Rattle.vx_verifier.specs.Headline.{members_of}
 use Rattle.vx_verifier.specs.Lines.{lines, lines_from}
-use Rattle.vx_verifier.specs.Lanes.{IsHeld, links, Starts, Later, Executes}
+use Rattle.vx_verifier.specs.Lanes.{IsHeld, OthersOwe, links, Starts, Later, Executes}
 use Rattle.vx_verifier.specs.Steady.{IsCalmLane}
 use Rattle.vx_verifier.proofs.execute.execute_all.Given as goal
 
@@ -17,6 +17,7 @@ invariant-loop-number g l =
     record {
       held : IsHeld l.lane.child (w.owed l.spawner 0);
       owed : w.owed l.spawner 0 ≡ w.owed l.fn.spawner 0 + links l.lane.child;
+      lanes : OthersOwe (w.owed l.fn.spawner) (w.owed l.spawner);
       alone : NoneRests l.runs.items;
       named : AreNamed (settled l.program) l.runs.items;
       each : members_of l.runs.items ++ lines_from l.number (drop l.number (settled l.program)) ≡ lines (settled l.program);

@@ -16,6 +16,7 @@ questions-init g c =
     record {
       held = c.requires.held;
       owed = refl;
+      lanes = λ lane other. refl;
       running = begins.running;
       checks = sym (ap length begins.none);
       few = omega arith;
@@ -43,7 +44,7 @@ returns-in-Done-clause-told g c = λ before turns checks heard.
     let so_far = c.questions.invariant in
     let told = so_far.told before turns checks heard in
     at_done g.W.Link.Link.dialogue (map declared_symbol c.args.functions.now) (settled c.args.program.now) c.args.member.0 before _ (g.W.Spawner.faults c.args.spawner.now) _ (is_lost c.args.child) c.questions.child checks told.0 c.questions.running.machine c.questions.running.ask
-    c.in-Done.outcome c.verdict_of-verdict.result c.questions.checks so_far.running c.in-Done.is c.verdict_of-verdict.ensures so_far.checks so_far.silent turns told.1 told.2
+    c.in-Done.outcome c.verdict_of-verdict.result c.questions.checks so_far.running c.in-Done.is c.verdict_of-verdict.ensures so_far.checks so_far.few so_far.silent turns told.1 told.2
 
 pub returns-in-Err-reply-clause-told : goal.returns-in-Err-reply-clause-told
 returns-in-Err-reply-clause-told g c = IfOk-weaker c.faulted.result _ _ (λ judged fault. λ before turns checks heard.
@@ -93,6 +94,7 @@ questions-preserved g c =
     record {
       held = c.ask-kept.ensures.held;
       owed = omega arith;
+      lanes = λ lane other. c.ask-kept.ensures.other_lanes lane other ∙ so_far.lanes lane other;
       running = still_running g.W.Link.Link.dialogue [] (settled c.args.program.now) c.args.member.0 [] machine next c.questions.running.ask c.in-Ok-go_on.next.ask so_far.running more.running;
       checks = omega arith;
       few = omega arith;

@@ -5,7 +5,7 @@ use Rattle.vx_ends.specs.declared.piece.Ending.{Ending}
 use Rattle.vx_smt_meaning.specs.Dialogues.{Check}
 use Rattle.vx_smt_meaning.specs.Views.{declared_symbol}
 use Rattle.vx_dialogue.specs.Scripts.{Turn}
-use Rattle.vx_verifier.specs.Lanes.{IsHeld, IsRunning, links, is_lost, is_started, Hears, Starts, Later, turns_so_far, AreAsked}
+use Rattle.vx_verifier.specs.Lanes.{IsHeld, IsRunning, OthersOwe, links, is_lost, is_started, Hears, Starts, Later, turns_so_far, AreAsked}
 use Rattle.vx_verifier.specs.Steady.{IsCalmLane}
 use Rattle.vx_verifier.specs.Headline.{has_question}
 use Rattle.vx_verifier.proofs.execute.judge.Given as goal
@@ -18,6 +18,7 @@ invariant-questions g l =
     record {
       held : IsHeld l.child (w.owed l.spawner 0);
       owed : w.owed l.spawner 0 + links l.fn.child ≡ w.owed l.fn.spawner 0 + links l.child;
+      lanes : OthersOwe (w.owed l.fn.spawner) (w.owed l.spawner);
       running : IsRunning (settled l.program) l.fn.member.0 l.running.machine l.running.ask;
       checks : l.checks ≡ length l.running.machine.replies.items;
       few : l.checks ≤ 100000;
