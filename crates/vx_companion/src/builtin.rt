@@ -115,6 +115,13 @@ impl CompanionLink {
             is_spent: false,
         }
     }
+
+    /// Why its replies so far were undecided, one cause for each of these replies, in order; those that were not got yet too.
+    pub fn causes(&self) -> &[Cause]
+        ensures by_companion { RepliesByCompanion self.now.pieces result.now }
+    {
+        &self.causes
+    }
 }
 
 impl Link for CompanionLink {
