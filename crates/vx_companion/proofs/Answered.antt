@@ -1,5 +1,5 @@
 -- What a session has answered, command by command from the first.
-use Rattle.std.proofs.Common.{◌≡◌, inl, inr, ◌⊎◌, ℕ, ◌<◌, ◌≤◌, ◌+◌, nat_le, Bool, true, false, List, [], ◌∷◌, ◌++◌, map, drop, Option, Some, None, Result, Ok, Err, refl, ap, ◌∙◌, sym, subst, append_assoc, arith}
+use Rattle.std.proofs.Common.{◌≡◌, inl, inr, ◌⊎◌, ℕ, ◌<◌, ◌≤◌, nat_le, Bool, true, false, List, [], ◌∷◌, ◌++◌, map, drop, Option, Some, None, Result, Ok, Err, refl, ap, ◌∙◌, sym, subst, append_assoc, arith}
 use Rattle.vx_sexp.specs.declared.token.Token.{Token}
 use Rattle.vx_sexp.specs.declared.reader.SexpFault.TheVariants as sexp_faults
 use Rattle.vx_sexp.specs.First.{IsFirst, deepest}
@@ -127,7 +127,7 @@ done_line (SetLogic x) s u r h = subst IsLine (sym h.0) tt
 done_line (DeclareSort x) s u r h = subst IsLine (sym h.0) tt
 done_line (DeclareFun d) s u r h = subst IsLine (sym h.0) tt
 done_line (Assert t) s u r h = subst IsLine (sym h.0) tt
-done_line (Push n) s u r h = followed_line (nat_le (depth s.levels + n) 256) (Push n) s u r h
+done_line (Push n) s u r h = followed_line (nat_le n 256) (Push n) s u r h
 done_line (Pop n) s u r h = followed_line (nat_le n (depth s.levels)) (Pop n) s u r h
 done_line CheckSat s u r h = checked_line s.levels r u.last h.1
 done_line GetProof s u r h = proved_line s.last r h.0

@@ -35,7 +35,7 @@ use Rattle.cs_session.specs.Texts.{reply_text}
 use Rattle.cs_session.specs.Answering.{start}
 use Rattle.vx_companion.specs.Companion.{IsByCompanion, RepliesByCompanion}
 use Rattle.vx_companion.specs.Right.{IsSorted}
-use Rattle.vx_companion.specs.Lawful.{IsTaken, FitsOver, AllFit, CompanionIsLawful}
+use Rattle.vx_companion.specs.Lawful.{IsTaken, Fits, CompanionIsLawful}
 use Rattle.vx_companion.proofs.Lines.{fed, item_of, is_short, short_line, first_fed, reply_first, reply_short, reply_shallow, complaint_unlawful, unsupported_unlawful}
 use Rattle.vx_companion.proofs.Answered.{IsAnswer, AreAnswers, texts_of, answers_of}
 use Rattle.vx_companion.proofs.Taken.{IsDone, done_by}
@@ -125,7 +125,7 @@ some_left b c cs more bytes named is none =
 
 next_of : (before : List Command) (c : Command) (cs : List Command) (items : List (List Token)) (rs : List Reply) (b e : Bool) (s end : State) (levels : List Level)
     (bytes left sent_later unsent gotten ungot next : List ℕ)
-    → s.levels ≡ levels → AreApart (declared_in levels) → AreCommands cs → AllMayFollow levels cs → Each IsSorted cs → Each IsTaken cs → AllFit levels cs
+    → s.levels ≡ levels → AreApart (declared_in levels) → AreCommands cs → AllMayFollow levels cs → Each IsSorted cs → Each IsTaken cs → Each Fits cs
     → AreCommands (before ++ c ∷ []) → AreAnswers s bytes rs left end → finished left ≡ 0
     → bytes ≡ fed b (commands_text (before ++ c ∷ []) ++ sent_later) → bytes ++ unsent ≡ fed b (commands_text cs)
     → Items gotten items next → gotten ++ ungot ≡ fed e (texts_of rs) → Answers before items → Next c next ungot
@@ -143,7 +143,7 @@ next_of [] c (d ∷ cs) [] (r ∷ rs) b e s end levels bytes left later unsent g
     let sent_so = sent_first b c [] later bytes answers.1 answers.2 own is answers.3 in
     let scripted = sent_first b d cs [] (bytes ++ unsent) (answers.1 ++ unsent) answers.2 named (whole ∙ ap (fed b) (sym (append_none (commands_text (d ∷ cs))))) (first_longer bytes unsent answers.2 answers.1 answers.3) in
     let done : IsDone d s.levels answers.0 r =
-    done_by d s answers.0 r (subst (λ ls. AreApart (declared_in ls)) (sym at) apart) named.0 (subst (λ ls. MayFollow ls d) (sym at) follow.0) sorted.0 taken.0 (subst (λ ls. FitsOver ls d) (sym at) fits.0)
+    done_by d s answers.0 r (subst (λ ls. AreApart (declared_in ls)) (sym at) apart) named.0 (subst (λ ls. MayFollow ls d) (sym at) follow.0) sorted.0 taken.0 fits.0
     (subst (λ ts. IsAnswer ts s r answers.0) scripted.0 answers.4) in
     record {
       feed = e;
@@ -157,7 +157,7 @@ next_of (a ∷ before) c (d ∷ cs) (item ∷ items) (r ∷ rs) b e s end levels
     let sent_so = sent_first b a (before ++ c ∷ []) later bytes answers.1 answers.2 own is answers.3 in
     let scripted = sent_first b d cs [] (bytes ++ unsent) (answers.1 ++ unsent) answers.2 named (whole ∙ ap (fed b) (sym (append_none (commands_text (d ∷ cs))))) (first_longer bytes unsent answers.2 answers.1 answers.3) in
     let done : IsDone d s.levels answers.0 r =
-    done_by d s answers.0 r (subst (λ ls. AreApart (declared_in ls)) (sym at) apart) named.0 (subst (λ ls. MayFollow ls d) (sym at) follow.0) sorted.0 taken.0 (subst (λ ls. FitsOver ls d) (sym at) fits.0)
+    done_by d s answers.0 r (subst (λ ls. AreApart (declared_in ls)) (sym at) apart) named.0 (subst (λ ls. MayFollow ls d) (sym at) follow.0) sorted.0 taken.0 fits.0
     (subst (λ ts. IsAnswer ts s r answers.0) scripted.0 answers.4) in
     let reply : IsFirst (gotten ++ ungot) (item_of r) (10 ∷ texts_of rs) =
     subst (λ x. IsFirst x (item_of r) (10 ∷ texts_of rs)) (sym got_is) (first_fed e (reply_text r ++ texts_of rs) (item_of r) (10 ∷ texts_of rs) (reply_first r (texts_of rs) (short_line r done.short))) in
@@ -234,7 +234,7 @@ texts_joined [] behind = refl
 texts_joined (c ∷ front) behind = ap (λ x. command_text c ++ x) (texts_joined front behind) ∙ sym (append_assoc (command_text c) (commands_text front) (commands_text behind))
 
 module _ (failed : Bool) (script : List Command) (pieces : List Piece) (causes : List Cause) (checks : List Check) (well : IsWellFormed script) (sorted : Each IsSorted script) (taken : Each IsTaken script)
-    (fits : AllFit (empty_level ∷ []) script) (tells : Tells failed script pieces checks) where
+    (fits : Each Fits script) (tells : Tells failed script pieces checks) where
   -- all that was sent begins the script's text
   sent_begins : sent pieces ++ tells.unsent ≡ commands_text script
   sent_begins =

@@ -1,5 +1,5 @@
 -- Each unsat of the companion is right.
-use Rattle.std.proofs.Common.{◌≡◌, inl, inr, ℕ, ◌+◌, ◌<◌, nat_le, Bool, true, false, true≢false, List, [], ◌∷◌, ◌++◌, length, Some, refl, ap, ◌∙◌, sym, subst, append_assoc, arith}
+use Rattle.std.proofs.Common.{◌≡◌, inl, inr, ℕ, ◌<◌, nat_le, Bool, true, false, true≢false, List, [], ◌∷◌, ◌++◌, length, Some, refl, ap, ◌∙◌, sym, subst, append_assoc, arith}
 use Rattle.std.proofs.Math.Logic.{∥∥₁_elim}
 use Rattle.vx_sexp.specs.declared.token.Token.{Token}
 use Rattle.vx_sexp.specs.First.{IsFirst}
@@ -56,7 +56,7 @@ levels_after c (SetLogic x) s u r lawful done = ap (λ (x : State). x.levels) do
 levels_after c (DeclareSort x) s u r lawful done = ap (λ (x : State). x.levels) done.1
 levels_after c (DeclareFun d) s u r lawful done = ap (λ (x : State). x.levels) done.1
 levels_after c (Assert t) s u r lawful done = ap (λ (x : State). x.levels) done.1
-levels_after c (Push n) s u r lawful done = done_if (nat_le (depth s.levels + n) 256) (Push n) c s u r lawful done
+levels_after c (Push n) s u r lawful done = done_if (nat_le n 256) (Push n) c s u r lawful done
 levels_after c (Pop n) s u r lawful done = done_if (nat_le n (depth s.levels)) (Pop n) c s u r lawful done
 levels_after c CheckSat s u r lawful done = done.0
 levels_after c GetProof s u r lawful done = ap (λ (x : State). x.levels) done.1

@@ -1,5 +1,5 @@
 -- A command that the companion takes has a lawful reply, and is done.
-use Rattle.std.proofs.Common.{◌≡◌, inl, inr, ℕ, ◌+◌, ◌-◌, ◌≤◌, ◌<◌, nat_le, Bool, true, false, true≢false, List, [], ◌∷◌, ◌++◌, length, refl, ap, ◌∙◌, sym, subst, arith}
+use Rattle.std.proofs.Common.{◌≡◌, inl, inr, ℕ, ◌-◌, ◌≤◌, ◌<◌, nat_le, Bool, true, false, true≢false, List, [], ◌∷◌, ◌++◌, length, refl, ap, ◌∙◌, sym, subst, arith}
 use Rattle.std.proofs.lemmas.Bool.{le-leb}
 use Rattle.vx_sexp.specs.declared.token.Token.{Token}
 use Rattle.vx_sexp.specs.declared.token.Token.TheVariants.{Close}
@@ -20,7 +20,7 @@ use Rattle.cs_session.specs.declared.session.Last.TheVariants.{Nothing, Refuted,
 use Rattle.cs_session.specs.Views.{State, depth}
 use Rattle.cs_session.specs.Replies.{Does, FollowsIf, Tells}
 use Rattle.vx_companion.specs.Right.{IsSorted}
-use Rattle.vx_companion.specs.Lawful.{IsTaken, FitsOver}
+use Rattle.vx_companion.specs.Lawful.{IsTaken, Fits}
 use Rattle.vx_companion.proofs.Lines.{item_of, is_short}
 use Rattle.vx_companion.proofs.ReadCommands.{same_ok}
 use Rattle.vx_companion.proofs.Answered.{IsAnswer}
@@ -101,13 +101,13 @@ depth_is : (levels : List Level) → depth levels ≡ length levels - 1
 depth_is [] = refl
 depth_is (l ∷ levels) = omega arith
 
-done_so : (c : Command) (s u : State) (r : Reply) → FitsOver s.levels c → MayFollow s.levels c → Does c s r u → (is_lawful_to c (item_of r) ≡ true) × (u.levels ≡ stack_after c s.levels)
+done_so : (c : Command) (s u : State) (r : Reply) → Fits c → MayFollow s.levels c → Does c s r u → (is_lawful_to c (item_of r) ≡ true) × (u.levels ≡ stack_after c s.levels)
 done_so (SetOption x b) s u r fits follows done = (ap (λ y. is_lawful_to (SetOption x b) (item_of y)) done.0, ap (λ (x : State). x.levels) done.1)
 done_so (SetLogic x) s u r fits follows done = (ap (λ y. is_lawful_to (SetLogic x) (item_of y)) done.0, ap (λ (x : State). x.levels) done.1)
 done_so (DeclareSort x) s u r fits follows done = (ap (λ y. is_lawful_to (DeclareSort x) (item_of y)) done.0, ap (λ (x : State). x.levels) done.1)
 done_so (DeclareFun d) s u r fits follows done = (ap (λ y. is_lawful_to (DeclareFun d) (item_of y)) done.0, ap (λ (x : State). x.levels) done.1)
 done_so (Assert t) s u r fits follows done = (ap (λ y. is_lawful_to (Assert t) (item_of y)) done.0, ap (λ (x : State). x.levels) done.1)
-done_so (Push n) s u r fits follows done = success_if (nat_le (depth s.levels + n) 256) (Push n) (Push n) s u r (le-leb (depth s.levels + n) 256 fits) refl done
+done_so (Push n) s u r fits follows done = success_if (nat_le n 256) (Push n) (Push n) s u r (le-leb n 256 fits) refl done
 done_so (Pop n) s u r fits follows done =
     success_if (nat_le n (depth s.levels)) (Pop n) (Pop n) s u r (ap (nat_le n) (depth_is s.levels) ∙ not_above n (length s.levels) follows) refl done
 done_so CheckSat s u r fits follows done = (answer_given s.levels r u.last done.1, done.0)
@@ -127,13 +127,13 @@ follow_short : (b : Bool) (c : Command) (s u : State) (r : Reply) → FollowsIf 
 follow_short true c s u r done = ap is_short done.0
 follow_short false c s u r done = ap is_short done.0
 
-done_short : (c : Command) (s u : State) (r : Reply) → FitsOver s.levels c → Does c s r u → is_short r ≡ true
+done_short : (c : Command) (s u : State) (r : Reply) → Fits c → Does c s r u → is_short r ≡ true
 done_short (SetOption x b) s u r fits done = ap is_short done.0
 done_short (SetLogic x) s u r fits done = ap is_short done.0
 done_short (DeclareSort x) s u r fits done = ap is_short done.0
 done_short (DeclareFun d) s u r fits done = ap is_short done.0
 done_short (Assert t) s u r fits done = ap is_short done.0
-done_short (Push n) s u r fits done = follow_short (nat_le (depth s.levels + n) 256) (Push n) s u r done
+done_short (Push n) s u r fits done = follow_short (nat_le n 256) (Push n) s u r done
 done_short (Pop n) s u r fits done = follow_short (nat_le n (depth s.levels)) (Pop n) s u r done
 done_short CheckSat s u r fits done = answer_short s.levels r u.last done.1
 done_short GetProof s u r fits done = absurd fits
@@ -146,7 +146,7 @@ pub record IsDone (c : Command) (levels : List Level) (u : State) (r : Reply) : 
   pub levels_are : u.levels ≡ stack_after c levels
   pub apart : AreApart (declared_in (stack_after c levels))
 
-pub done_by : (c : Command) (s u : State) (r : Reply) → AreApart (declared_in s.levels) → IsCommand c → MayFollow s.levels c → IsSorted c → IsTaken c → FitsOver s.levels c
+pub done_by : (c : Command) (s u : State) (r : Reply) → AreApart (declared_in s.levels) → IsCommand c → MayFollow s.levels c → IsSorted c → IsTaken c → Fits c
     → IsAnswer (command_tokens c) s r u → IsDone c s.levels u r
 done_by c s u r apart name follows sorted taken fits (inl done) =
     let meant = (written_back s.levels c apart name follows (plain c sorted taken)).meant in

@@ -1,8 +1,8 @@
 -- That the companion refuses no command that it takes.
-use Rattle.std.specs.Prelude.{⊤, ℕ, ◌+◌, ◌≤◌, Bool, List, [], ◌∷◌}
+use Rattle.std.specs.Prelude.{⊤, ℕ, ◌≤◌, Bool, List}
 use Rattle.vx_terms.specs.Interpretations.{Each}
 use Rattle.vx_sexp.specs.First.{deepest}
-use Rattle.vx_smt_meaning.specs.Commands.{Command, DeclareFun, Assert, Push, GetProof, Level, empty_level, stack_after}
+use Rattle.vx_smt_meaning.specs.Commands.{Command, DeclareFun, Assert, Push, GetProof}
 use Rattle.vx_smt_meaning.specs.Dialogues.{Check}
 use Rattle.vx_smt_meaning.specs.WellFormed.{IsWellFormed}
 use Rattle.vx_smt_meaning.specs.Words.{command_tokens}
@@ -12,7 +12,6 @@ use Rattle.vx_dialogue.specs.Stops.{Stops}
 use Rattle.vx_dialogue.specs.History.{Tells}
 use Rattle.cs_commands.specs.Laws.{IsSmallSymbol, IsReadable}
 use Rattle.cs_answer.specs.declared.answer.Cause.{Cause}
-use Rattle.cs_session.specs.Views.{depth}
 use Rattle.vx_companion.specs.Companion.{RepliesByCompanion}
 use Rattle.vx_companion.specs.Right.{IsSorted}
 
@@ -22,15 +21,11 @@ IsTaken (DeclareFun d) = IsSmallSymbol d.symbol
 IsTaken (Assert t) = IsReadable t × (deepest 0 (command_tokens (Assert t)) ≤ 4096)
 IsTaken c = ⊤
 
--- at most 256 levels are open beyond the base level, and no proof is asked for
-abbrev pub FitsOver : List Level → Command → Type 0
-FitsOver levels (Push n) = depth levels + n ≤ 256
-FitsOver levels GetProof = ⊥
-FitsOver levels c = ⊤
-
-abbrev pub AllFit : List Level → List Command → Type 0
-AllFit levels [] = ⊤
-AllFit levels (c ∷ cs) = FitsOver levels c × AllFit (stack_after c levels) cs
+-- at most 256 levels are opened at once, and no proof is asked for
+abbrev pub Fits : Command → Type 0
+Fits (Push n) = n ≤ 256
+Fits GetProof = ⊥
+Fits c = ⊤
 
 -- no reply in the record of a link is garbled, and none a refusal
 abbrev pub HasLawfulReplies : List Piece → Type 0
@@ -39,4 +34,4 @@ HasLawfulReplies pieces = (kept : List ℕ) → (Stops pieces (λ w bytes. IsGar
 -- The law of its replies: where it takes each command of a script, none is garbled, and none a refusal.
 abbrev pub CompanionIsLawful : Type 0
 CompanionIsLawful = (failed : Bool) (script : List Command) (pieces : List Piece) (causes : List Cause) (checks : List Check) → IsWellFormed script → Each IsSorted script → Each IsTaken script
-    → AllFit (empty_level ∷ []) script → Tells failed script pieces checks → RepliesByCompanion pieces causes → HasLawfulReplies pieces
+    → Each Fits script → Tells failed script pieces checks → RepliesByCompanion pieces causes → HasLawfulReplies pieces
