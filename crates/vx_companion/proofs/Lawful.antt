@@ -1,5 +1,5 @@
 -- What the companion replies is lawful, where it takes each command.
-use Rattle.std.proofs.Common.{◌≡◌, inl, inr, ◌++◌, ◌≤◌, ◌<◌, ℕ, Bool, true, false, if◌then◌else◌, List, [], ◌∷◌, codes, length, refl, ap, ◌∙◌, sym, subst, append_assoc, arith}
+use Rattle.std.proofs.Common.{◌≡◌, inl, inr, ◌++◌, ◌+◌, ◌≤◌, ◌<◌, ℕ, Bool, true, false, if◌then◌else◌, List, [], ◌∷◌, codes, length, refl, ap, ◌∙◌, sym, subst, append_assoc, length-append, arith}
 use Rattle.std.proofs.Math.Logic.{∥∥₁_elim}
 use Rattle.std.specs.Str.{bytes_eq}
 use Rattle.std.specs.Prelude.{not}
@@ -21,10 +21,10 @@ use Rattle.vx_smt_text.specs.Text.{command_text, commands_text}
 use Rattle.vx_ends.specs.declared.piece.Piece.{Piece}
 use Rattle.vx_ends.specs.Dialogue.{sent, got}
 use Rattle.vx_dialogue.specs.declared.item.Wanted.{Wanted}
-use Rattle.vx_dialogue.specs.Items.{longest, is_lawful, IsNoItem, IsGarbled, IsRefused}
+use Rattle.vx_dialogue.specs.Items.{longest, is_lawful, IsNoExpression, IsTooLong, IsNoItem, IsGarbled, IsRefused}
 use Rattle.vx_dialogue.specs.Stops.{Stops, wanted_by}
 use Rattle.vx_dialogue.specs.History.{Tells}
-use Rattle.vx_dialogue.proofs.Joined.{append_none, first_longer}
+use Rattle.vx_dialogue.proofs.Joined.{append_none, first_longer, items_of}
 use Rattle.vx_dialogue.proofs.Counts.{finished_first}
 use Rattle.cs_commands.specs.Laws.{AreApart}
 use Rattle.cs_answer.specs.declared.answer.Cause.{Cause}
@@ -199,11 +199,26 @@ not_long {next = next} {ungot = ungot} n long at unfinished =
 not_shallow : (n : ℕ) → 4096 < n → n ≤ 4096 → ⊥
 not_shallow n deep shallow = omega arith
 
-is_item : {c : Command} {next ungot : List ℕ} → Next c next ungot → IsNoItem next → ⊥
-is_item {next = next} {ungot = ungot} n (inl bad) = bad_goes_nowhere bad.0 next ungot (item_of n.reply) (10 ∷ n.rest) bad.1 (first_next n)
-is_item {next = next} {ungot = ungot} n (inr (inl deep)) =
+is_expression : {c : Command} {next ungot : List ℕ} → Next c next ungot → IsNoExpression next → ⊥
+is_expression {next = next} {ungot = ungot} n (inl bad) = bad_goes_nowhere bad.0 next ungot (item_of n.reply) (10 ∷ n.rest) bad.1 (first_next n)
+is_expression {next = next} {ungot = ungot} n (inr (inl deep)) =
     not_shallow (deepest 0 (item_of n.reply)) (deep_goes_deep deep.0 next deep.1 ungot (item_of n.reply) (10 ∷ n.rest) (first_next n)) (reply_shallow n.reply n.short)
-is_item n (inr (inr long)) = not_long n long.0 long.1 long.2
+is_expression n (inr (inr long)) = not_long n long.0 long.1 long.2
+
+-- nor is one that is whole
+not_too_long : {c : Command} {next ungot : List ℕ} (n : Next c next ungot) (text : List ℕ) → IsTooLong next text → ⊥
+not_too_long {next = next} {ungot = ungot} n text long =
+    let short = reply_short n.feed n.reply n.short in
+    let same = (first_is_one (next ++ ungot) long.0 (item_of n.reply) (long.1 ++ ungot) (10 ∷ n.rest) (first_longer next ungot long.0 long.1 long.2) (first_next n)).1 in
+    let behind = sym (length-append long.1 ungot) ∙ ap length same in
+    let all = sym (length-append next ungot) ∙ (ap length (n.is ∙ fed_joined n.feed (reply_text n.reply) n.rest) ∙ length-append (fed n.feed (reply_text n.reply)) n.rest) in
+    let parts = ap length long.3 ∙ length-append text long.1 in
+    let high = long.4 in
+    omega arith
+
+is_item : {c : Command} {next ungot : List ℕ} → Next c next ungot → (kept : List ℕ) → IsNoItem next kept → ⊥
+is_item n kept (inl none) = is_expression n none.0
+is_item n kept (inr long) = not_too_long n long.0 long.1
 
 -- the item that is got is the one that was answered
 same_item : {c : Command} {next ungot : List ℕ} (n : Next c next ungot) (item : List Token) (rest : List ℕ) → IsFirst next item rest → item ≡ item_of n.reply
@@ -211,17 +226,17 @@ same_item {next = next} {ungot = ungot} n item rest first =
     (first_is_one (next ++ ungot) item (item_of n.reply) (rest ++ ungot) (10 ∷ n.rest) (first_longer next ungot item rest first) (first_next n)).0
 
 not_garbled : {c : Command} {next ungot : List ℕ} → Next c next ungot → (kept : List ℕ) → IsGarbled (wanted_by c) next kept → ⊥
-not_garbled n kept (inl none) = is_item n none.0
+not_garbled n kept (inl none) = is_item n kept none
 not_garbled {c = c} n kept (inr other) =
     let begins = other.1 in
-    let same = same_item n begins.0 begins.1 begins.2 in
+    let same = same_item n begins.0 begins.1 begins.2.first in
     let lawful : is_lawful (wanted_by c) begins.0 ≡ true = wanted_lawful c begins.0 ∙ (ap (is_lawful_to c) same ∙ n.lawful) in
     not_both (is_lawful (wanted_by c) begins.0) lawful begins.4.0
 
 not_refused : {c : Command} {next ungot : List ℕ} → Next c next ungot → (kept : List ℕ) → IsRefused next kept → ⊥
 not_refused {c = c} n kept refused =
     let begins = refused.1 in
-    let same = same_item n begins.0 begins.1 begins.2 in
+    let same = same_item n begins.0 begins.1 begins.2.first in
     not_both (is_refusal begins.0) begins.4 (ap is_refusal same ∙ lawful_given c n.reply n.short n.lawful)
 
 -- ---- the record of a link
@@ -246,7 +261,7 @@ module _ (failed : Bool) (script : List Command) (pieces : List Piece) (causes :
       let answers = answers_of by.replied.answering in (
         by.ungot,
         next_of s.before s.command script s.items answers.replies false false start by.state (empty_level ∷ []) (sent pieces) by.left s.sent_later tells.unsent (got pieces) by.ungot s.next
-            refl tt well.spelled well.in_order sorted taken fits s.spelled answers.are by.replied.none_left s.sent_is sent_begins s.heard answers.text_is s.lawful,
+            refl tt well.spelled well.in_order sorted taken fits s.spelled answers.are by.replied.none_left s.sent_is sent_begins (items_of (got pieces) s.items s.next s.heard) answers.text_is s.lawful,
       )
 
   never_stops : RepliesByCompanion pieces causes → (Told : Wanted → List ℕ → Type 0) → ((c : Command) (next ungot : List ℕ) → Next c next ungot → Told (wanted_by c) next → ⊥) → Stops pieces Told → ⊥

@@ -20,7 +20,7 @@ use Rattle.vx_smt_text.proofs.Back.{command_back}
 use Rattle.vx_ends.specs.declared.piece.Piece.{Piece}
 use Rattle.vx_ends.specs.Dialogue.{sent, got}
 use Rattle.vx_dialogue.specs.History.{Tells}
-use Rattle.vx_dialogue.proofs.Joined.{first_longer}
+use Rattle.vx_dialogue.proofs.Joined.{first_longer, items_of}
 use Rattle.vx_dialogue.proofs.Counts.{finished_first, one_command}
 use Rattle.cs_commands.specs.Laws.{AreApart}
 use Rattle.cs_commands.specs.Following.{LeavesALevel}
@@ -210,7 +210,7 @@ by_record failed script pieces causes checks well sorted tells by =
     (front_commands tells.answered tells.behind (subst AreCommands tells.all well.spelled))
     (front_follow tells.answered tells.behind (empty_level ∷ []) (subst (AllMayFollow (empty_level ∷ [])) tells.all well.in_order))
     (front_sorted tells.answered tells.behind (subst (Each IsSorted) tells.all sorted))
-    answers.are tells.sent_is tells.got_is answers.text_is tells.lawful)
+    answers.are tells.sent_is (items_of (got pieces) tells.items tells.got_later tells.got_is) answers.text_is tells.lawful)
 
 no_two : IsProp ⊥
 no_two x y = absurd x
