@@ -27,7 +27,7 @@ use Rattle.vx_verifier.specs.Headline.{Headline, NeverFails, Under, IsRecorded, 
 use Rattle.vx_verifier.proofs.Askable.{AllAsk, AreTurns, turns_ask}
 use Rattle.vx_commands.specs.declared.top.Ended.{Ended}
 use Rattle.vx_commands.specs.declared.reports.Telling.{Telling}
-use Rattle.vx_commands.specs.Outside.{Change, Taken, Children, change, companions}
+use Rattle.vx_commands.specs.Outside.{Change, Taken, Children, HandsBack, change, companions}
 use Rattle.vx_commands.specs.Reported.{IsReport, IsCompanionReport, AllNeverFail}
 use Rattle.vx_commands.proofs.Scripts.{script_sorted, script_fits}
 
@@ -70,7 +70,7 @@ same_since : (before xs ys : List Ending) → before ++ xs ≡ before ++ ys → 
 same_since [] xs ys e = e
 same_since (b ∷ before) xs ys e = let rest : before ++ xs ≡ before ++ ys = cc in same_since before xs ys rest
 
-none_since : (before since : List Ending) → before ≡ before ++ since → since ≡ []
+pub none_since : (before since : List Ending) → before ≡ before ++ since → since ≡ []
 none_since [] since e = sym e
 none_since (b ∷ before) since e = let rest : before ≡ before ++ since = cc in none_since before since rest
 
@@ -128,12 +128,17 @@ without_causes s = record s { causes = [] }
 -- a report speaks of no causes
 report_with : (telling : Telling) (p : Program) (command : List (List ℕ)) (spawner : Change Children) (sink : Change Taken) (ended : Ended)
     → IsReport telling p command (change without_causes spawner.before spawner.after) sink ended → IsReport telling p command spawner sink ended
-report_with telling p command spawner sink ended h = record { headline = h.headline; put = h.put; status = h.status; started = h.started; calm = h.calm }
+report_with telling p command spawner sink ended h = record { headline = h.headline; put = h.put; status = h.status; started = h.started }
+
+-- the links that are out, and the counts, are told without them
+pub back_with : (old new : Builtin) → HandsBack (change (λ s. without_causes (companions s)) old new) → HandsBack (change companions old new)
+back_with old new h = record { every_lane = h.every_lane; calm = h.calm }
 
 -- where the companion takes what is asserted, no member is faulted
 pub companion_reports : (telling : Telling) (p : Program) (command : List (List ℕ)) (old new : Builtin) (sink : Change Taken) (ended : Ended)
+    → HandsBack (change companions old new)
     → IsReport telling p command (change (λ s. without_causes (companions s)) old new) sink ended → IsCompanionReport telling p command (change companions old new) sink ended
-companion_reports telling p command old new sink ended h =
+companion_reports telling p command old new sink ended back h =
     let report = report_with telling p command (change companions old new) sink ended h in
     let before = (companions old).ended in
     let now = (companions new).ended in
@@ -143,6 +148,6 @@ companion_reports telling p command old new sink ended h =
     record {
       report = report;
       sound = verified_sound p before now causes 0 0 runs report.headline replies;
-      no_fault = λ taken. report.headline.complete.no_fault (report.calm refl (omega arith)) (all_lawful p before now causes 0 0 runs report.headline replies taken report.headline.recorded);
+      no_fault = λ taken. report.headline.complete.no_fault (back.calm refl (omega arith)) (all_lawful p before now causes 0 0 runs report.headline replies taken report.headline.recorded);
       replies = replies;
     }

@@ -1,10 +1,12 @@
 -- What the outside shows before a call and after it: files, a sink, and the spawners of children.
-use Rattle.std.specs.Prelude.{◌≡◌, ◌⊎◌, ℕ, ◌<◌, Bool, true, List, [], ◌∷◌, ◌++◌, map, Option, IfSome, length}
+use Rattle.std.specs.Prelude.{◌≡◌, ◌⊎◌, ℕ, ◌<◌, ◌==◌, ◌-◌, ◌^◌, IsTrue, Bool, true, List, [], ◌∷◌, ◌++◌, map, Option, IfSome, length}
+use Rattle.std.specs.List.{count_by}
 use Rattle.vx_ends.specs.Causes.{Rose}
 use Rattle.vx_ends.specs.declared.piece.Start.{Start}
 use Rattle.vx_ends.specs.declared.piece.Ending.{Ending}
 use Rattle.cs_answer.specs.declared.answer.Cause.{Cause}
 use Rattle.vx_companion.specs.declared.builtin.Builtin.{Builtin}
+use Rattle.vx_verifier.specs.Causes.{NoCountRose}
 
 pub record Change (A : Type 0) : Type 0 where
   pub before : A
@@ -34,21 +36,22 @@ pub record Taken : Type 0 where
 abbrev pub taken : {S : Type 0} → (bytes : S → Option (List ℕ)) → (faults : S → ℕ) → S → Taken
 taken bytes faults s = record { bytes = bytes s; faults = faults s }
 
--- a spawner's starts, the links that were handed back, how often a start failed, and whether it is steady; and of each link why its replies were
+-- a spawner's starts, how many links of each lane are out, the links that were handed back, how often a start failed, and whether it is steady; and of each link why its replies were
 -- undecided, which is known of the companion in process alone
 pub record Children : Type 0 where
   pub starts : List Start
+  pub owed : ℕ → ℕ
   pub ended : List Ending
   pub faults : ℕ
   pub steady : Bool
   pub causes : List (List Cause)
 
-abbrev pub children : {S : Type 0} → (starts : S → List Start) → (ended : S → List Ending) → (faults : S → ℕ) → (steady : S → Bool) → S → Children
-children starts ended faults steady s = record { starts = starts s; ended = ended s; faults = faults s; steady = steady s; causes = [] }
+abbrev pub children : {S : Type 0} → (starts : S → List Start) → (owed : S → ℕ → ℕ) → (ended : S → List Ending) → (faults : S → ℕ) → (steady : S → Bool) → S → Children
+children starts owed ended faults steady s = record { starts = starts s; owed = owed s; ended = ended s; faults = faults s; steady = steady s; causes = [] }
 
 -- those of the companion in process
 abbrev pub companions : Builtin → Children
-companions s = record { starts = s.starts.items; ended = map (λ l. l.ending) s.ended.items; faults = 0; steady = true; causes = map (λ l. l.causes.items) s.ended.items }
+companions s = record { starts = s.starts.items; owed = λ lane. count_by (λ other. other == lane) s.lanes_out.items; ended = map (λ l. l.ending) s.ended.items; faults = 0; steady = true; causes = map (λ l. l.causes.items) s.ended.items }
 
 -- at most this name was asked
 abbrev pub AsksOnly : Option (List ℕ) → Change Texts → Type 0
@@ -65,6 +68,12 @@ IsTooLong name files = IfSome (files.before.holds name) (λ text. 4194304 < leng
 -- the sink failed
 abbrev pub HasFailedToPut : Change Taken → Type 0
 HasFailedToPut sink = Rose sink.before.faults sink.after.faults
+
+-- Each link that was started is handed back, on every lane, and over a steady spawner no count of faults rises.
+pub record HandsBack (spawner : Change Children) : Type 0 where
+  pub every_lane : (lane : ℕ) → spawner.after.owed lane ≡ spawner.before.owed lane
+  pub calm : IsTrue spawner.before.steady → spawner.before.faults < 2 ^ 64 - 1
+      → NoCountRose spawner.before.ended spawner.after.ended spawner.before.faults spawner.after.faults
 
 -- at most one start, by this command
 abbrev pub StartsOnly : (command : List (List ℕ)) → Change Children → Type 0

@@ -1,5 +1,5 @@
 -- What `run` promises: what is put, by its cause, with its status.
-use Rattle.std.specs.Prelude.{◌≡◌, ◌⊎◌, ℕ, ◌<◌, ◌≤◌, Bool, true, false, List, [], ◌∷◌, ◌++◌, ◌^◌, ◌-◌, Option, Some, None, IfSome, IsTrue, codes, length, take, vec_items, string_bytes}
+use Rattle.std.specs.Prelude.{◌≡◌, ◌⊎◌, ℕ, ◌<◌, ◌≤◌, Bool, true, false, List, [], ◌∷◌, ◌++◌, Option, Some, None, IfSome, codes, length, take, vec_items, string_bytes}
 use Rattle.std.specs.Str.{bytes_eq}
 use Rattle.vx_ast.specs.Syntax.{Program}
 use Rattle.vx_ast.specs.Written as written
@@ -8,8 +8,6 @@ use Rattle.vx_parser.specs.Spelling.{Spells}
 use Rattle.vx_words.specs.declared.order.Order.{Order}
 use Rattle.vx_words.specs.declared.order.Order.TheVariants.{Verify, Check, Print, Gen, Work}
 use Rattle.vx_terms.specs.Interpretations.{Each}
-use Rattle.vx_dialogue.specs.Scripts.{script}
-use Rattle.vx_live.specs.Functions.{function_symbols}
 use Rattle.vx_report.specs.declared.run.MemberRun.{MemberRun}
 use Rattle.vx_report.specs.declared.run.Verdict.TheVariants as verdict
 use Rattle.vx_report.specs.declared.status.Status.{Status}
@@ -34,12 +32,11 @@ use Rattle.vx_commands.specs.declared.reports.Telling.TheVariants.{Lines, Totals
 use Rattle.vx_report.specs.Reports.{report_of, total_of}
 use Rattle.vx_typing.specs.Typed.{written_of}
 use Rattle.vx_commands.specs.Refusals.{RefusesText, RefusesTyping, IsSpelledBy}
-use Rattle.vx_verifier.specs.Causes.{NoCountRose}
 use Rattle.vx_companion.specs.Companion.{AllByCompanion}
 use Rattle.vx_companion.specs.Lawful.{IsTaken}
 use Rattle.vx_commands.specs.Outside.{Change, Texts, Taken, Children, IsUnchanged, AsksOnly, HasFailedToRead, IsTooLong, HasFailedToPut, StartsOnly}
 use Rattle.vx_verifier.specs.Lanes.{StartsWhere}
-use Rattle.vx_verifier.specs.Headline.{IsWhole, Headline, HasNoFault, NeverFails, some_ask, turns_of}
+use Rattle.vx_verifier.specs.Headline.{IsWhole, Headline, HasNoFault, NeverFails, some_ask, script_of}
 use Rattle.vx_verifier.specs.Lines.{lines}
 
 -- the program that a text spells, which is typed, with its names settled; it is typed as a whole then
@@ -79,14 +76,23 @@ IsLoadedFrom name files (loaded.Text text) = IfSome (files.before.holds name) (�
 IsLoadedFrom name files loaded.Unread = HasFailedToRead files
 IsLoadedFrom name files loaded.TooLong = IsTooLong name files
 
+-- the file that the words name, where they name one: standard input has no name
+abbrev pub file_of : Option Order → Option (Option (List ℕ))
+file_of None = None
+file_of (Some (Verify file solver)) = Some file
+file_of (Some (Check file)) = Some file
+file_of (Some (Print file)) = Some file
+file_of (Some (Gen methods)) = None
+file_of (Some (Work methods)) = None
+
+-- at most this file is asked
+abbrev pub AsksAtMost : Option (Option (List ℕ)) → Change Texts → Type 0
+AsksAtMost None files = files.after.asked ≡ files.before.asked
+AsksAtMost (Some file) files = AsksOnly file files
+
 -- At most the file that the words name is asked.
 abbrev pub AsksFileOf : Option Order → Change Texts → Type 0
-AsksFileOf None files = files.after.asked ≡ files.before.asked
-AsksFileOf (Some (Verify file solver)) files = AsksOnly file files
-AsksFileOf (Some (Check file)) files = AsksOnly file files
-AsksFileOf (Some (Print file)) files = AsksOnly file files
-AsksFileOf (Some (Gen methods)) files = files.after.asked ≡ files.before.asked
-AsksFileOf (Some (Work methods)) files = files.after.asked ≡ files.before.asked
+AsksFileOf order files = AsksAtMost (file_of order) files
 
 -- ---- spawners
 
@@ -99,14 +105,23 @@ abbrev pub StartsBy : (solver : List (List ℕ)) → (companion handed : Change 
 StartsBy solver companion handed =
     ByWhom (is_companion solver) (StartsOnly solver companion × IsUnchanged handed) (IsUnchanged companion × StartsOnly solver handed)
 
--- so it is with the solver that the words name, and nothing is started where they name none
+-- the solver that the words name, where they ask one
+abbrev pub solver_of : Option Order → Option (List (List ℕ))
+solver_of None = None
+solver_of (Some (Verify file solver)) = Some solver
+solver_of (Some (Check file)) = None
+solver_of (Some (Print file)) = None
+solver_of (Some (Gen methods)) = None
+solver_of (Some (Work methods)) = Some companion_alone
+
+-- so it is with this solver, and nothing is started where there is none
+abbrev pub StartsAtMost : Option (List (List ℕ)) → (companion handed : Change Children) → Type 0
+StartsAtMost None companion handed = IsUnchanged companion × IsUnchanged handed
+StartsAtMost (Some solver) companion handed = StartsBy solver companion handed
+
+-- At most the solver that the words name is started.
 abbrev pub StartsSolverOf : Option Order → (companion handed : Change Children) → Type 0
-StartsSolverOf None companion handed = IsUnchanged companion × IsUnchanged handed
-StartsSolverOf (Some (Verify file solver)) companion handed = StartsBy solver companion handed
-StartsSolverOf (Some (Check file)) companion handed = IsUnchanged companion × IsUnchanged handed
-StartsSolverOf (Some (Print file)) companion handed = IsUnchanged companion × IsUnchanged handed
-StartsSolverOf (Some (Gen methods)) companion handed = IsUnchanged companion × IsUnchanged handed
-StartsSolverOf (Some (Work methods)) companion handed = StartsOnly companion_alone companion × IsUnchanged handed
+StartsSolverOf order companion handed = StartsAtMost (solver_of order) companion handed
 
 -- ---- what is put
 
@@ -193,14 +208,12 @@ text_of Lines p runs = report_of p runs
 text_of Totals p runs = total_of runs
 
 -- What a report says of a program, by what the spawner that was asked shows: the headline, exactly the report's bytes, and the status of the runs. The
--- command is started exactly where a member has a question, and over a steady spawner no count of faults rises.
+-- command is started exactly where a member has a question.
 pub record IsReport (telling : Telling) (p : Program) (command : List (List ℕ)) (spawner : Change Children) (sink : Change Taken) (ended : Ended) : Type 0 where
   pub headline : Headline p spawner.before.ended spawner.after.ended spawner.before.faults spawner.after.faults ended.runs.items
   pub put : IsPut sink ended.status (text_of telling p ended.runs.items)
   pub status : IsStatus (status_among ended.runs.items) sink ended.status
   pub started : StartsWhere (some_ask p (lines p)) spawner.before.starts spawner.after.starts record { lane = 0; command = command }
-  pub calm : IsTrue spawner.before.steady → spawner.before.faults < 2 ^ 64 - 1
-      → NoCountRose spawner.before.ended spawner.after.ended spawner.before.faults spawner.after.faults
 
 -- a member that is verified never fails
 abbrev pub AllNeverFail : Program → List MemberRun → Type 0
@@ -210,7 +223,7 @@ AllNeverFail p runs = Each (λ (r : MemberRun). r.verdict ≡ verdict.Verified �
 pub record IsCompanionReport (telling : Telling) (p : Program) (command : List (List ℕ)) (spawner : Change Children) (sink : Change Taken) (ended : Ended) : Type 0 where
   pub report : IsReport telling p command spawner sink ended
   pub sound : AllNeverFail p ended.runs.items
-  pub no_fault : Each IsTaken (script false (function_symbols p) (turns_of false p ended.runs.items report.headline.checks)) → HasNoFault ended.runs.items
+  pub no_fault : Each IsTaken (script_of p ended.runs.items report.headline.checks) → HasNoFault ended.runs.items
   -- each command had the reply that the companion has for it, and each undecided one has its cause
   pub replies : AllByCompanion spawner.after.ended spawner.after.causes
 
@@ -253,14 +266,14 @@ abbrev pub IsAnswer : Option Order → Change Texts → (companion handed : Chan
 IsAnswer order files companion handed sink ended =
     PutsNothing sink ended ⊎ IsToldAlone (IsTold order files) companion handed sink ended ⊎ IsReportOf order files companion handed sink ended
 
--- the file that the words name isn't read: reading failed, or its text is too long
+-- a file that was to be read isn't: reading failed, or its text is too long
+abbrev pub IsNotRead : Option (Option (List ℕ)) → Change Texts → Type 0
+IsNotRead None files = ⊥
+IsNotRead (Some file) files = HasFailedToRead files ⊎ IsTooLong file files
+
+-- so it is with the file that the words name
 abbrev pub IsUnread : Option Order → Change Texts → Type 0
-IsUnread None files = ⊥
-IsUnread (Some (Verify file solver)) files = HasFailedToRead files ⊎ IsTooLong file files
-IsUnread (Some (Check file)) files = HasFailedToRead files ⊎ IsTooLong file files
-IsUnread (Some (Print file)) files = HasFailedToRead files ⊎ IsTooLong file files
-IsUnread (Some (Gen methods)) files = ⊥
-IsUnread (Some (Work methods)) files = ⊥
+IsUnread order files = IsNotRead (file_of order) files
 
 -- What a status says. One with a report is that of its runs; the others have no runs, and each its cause.
 abbrev pub IsStatusOf : Option Order → Change Texts → Change Taken → List MemberRun → Status → Type 0

@@ -5,7 +5,7 @@ ghost use Rattle.vx_ast.specs.Written.{written_program};
 ghost use Rattle.vx_typing.specs.Typed.{written_of};
 ghost use Rattle.vx_gen.specs.Generated.{generated};
 ghost use Rattle.vx_gen.specs.Programs as gen;
-ghost use Rattle.vx_commands.specs.Outside.{change, taken, companions, StartsOnly};
+ghost use Rattle.vx_commands.specs.Outside.{change, taken, companions, HandsBack, StartsOnly};
 ghost use Rattle.vx_commands.specs.Reported.{IsWork, companion_alone};
 
 use crate::reading::{Parsed, read};
@@ -81,6 +81,7 @@ fn work_on<K: Sink>(
     ensures report { IfOk result (IsWork methods (change companions builtin.old builtin.new) (change (taken K.taken K.faults) out.old out.new)) }
     ensures starts { StartsOnly companion_alone (change companions builtin.old builtin.new) }
     ensures nothing { IfErr result (λ _. K.taken out.new ≡ K.taken out.old) }
+    ensures companion_back { HandsBack (change companions builtin.old builtin.new) }
 {
     generated_is_typed();
     typed_programs_are_whole(typed);
@@ -89,6 +90,7 @@ fn work_on<K: Sink>(
 }
 
 /// Verifies so many generated methods by the companion, and puts the line of the totals.
+#[tactic(auto, using(crate::proofs::Untouched::none_out))]
 pub fn work<K: Sink>(
     alloc: Global,
     methods: u32,
@@ -99,6 +101,7 @@ pub fn work<K: Sink>(
     ensures report { IfOk result (IsWork methods (change companions builtin.old builtin.new) (change (taken K.taken K.faults) out.old out.new)) }
     ensures starts { StartsOnly companion_alone (change companions builtin.old builtin.new) }
     ensures nothing { IfErr result (λ _. K.taken out.new ≡ K.taken out.old) }
+    ensures companion_back { HandsBack (change companions builtin.old builtin.new) }
 {
     let text = text_of(alloc, methods)?;
     let program = program_of(alloc, methods, &text)?;

@@ -6,7 +6,7 @@ ghost use Rattle.vx_resolved.specs.Settled.{settled};
 ghost use Rattle.vx_settled.specs.WhenSettled.{LeaveResults};
 ghost use Rattle.vx_typing.specs.Typed.{resolved_of, written_of};
 ghost use Rattle.vx_commands.specs.Reported as spec;
-ghost use Rattle.vx_commands.specs.Outside.{change, taken, children, companions, StartsOnly};
+ghost use Rattle.vx_commands.specs.Outside.{change, taken, children, companions, HandsBack, StartsOnly};
 ghost use Rattle.vx_commands.specs.Reported.{IsPut, IsStatus, IsSaid, IsReport, IsCompanionReport, IsReportBy, StartsBy};
 
 use crate::top::Ended;
@@ -76,9 +76,10 @@ fn report<K: Sink, W: Spawner>(
     spawner: &mut W,
 ) -> Result<Ended, AllocError>
     requires { LeaveResults (written_of typed.now) }
-    ensures report { IfOk result (IsReport telling (resolved_of typed.now) solver.now (change (children W.starts W.ended W.faults W.steady) spawner.old spawner.new) (change (taken K.taken K.faults) out.old out.new)) }
-    ensures starts { StartsOnly solver.now (change (children W.starts W.ended W.faults W.steady) spawner.old spawner.new) }
+    ensures report { IfOk result (IsReport telling (resolved_of typed.now) solver.now (change (children W.starts W.owed W.ended W.faults W.steady) spawner.old spawner.new) (change (taken K.taken K.faults) out.old out.new)) }
+    ensures starts { StartsOnly solver.now (change (children W.starts W.owed W.ended W.faults W.steady) spawner.old spawner.new) }
     ensures nothing { IfErr result (λ _. K.taken out.new ≡ K.taken out.old) }
+    ensures children_back { HandsBack (change (children W.starts W.owed W.ended W.faults W.steady) spawner.old spawner.new) }
 {
     let mut turns = RoundRobin::new();
     let Verification { program, runs } = verify(
@@ -110,11 +111,13 @@ pub fn report_by_companion<K: Sink>(
     ensures report { IfOk result (IsCompanionReport telling (resolved_of typed.now) solver.now (change companions builtin.old builtin.new) (change (taken K.taken K.faults) out.old out.new)) }
     ensures starts { StartsOnly solver.now (change companions builtin.old builtin.new) }
     ensures nothing { IfErr result (λ _. K.taken out.new ≡ K.taken out.old) }
+    ensures companion_back { HandsBack (change companions builtin.old builtin.new) }
 {
     report(alloc, telling, typed, out, solver, builtin)
 }
 
 /// Verifies a program by the companion, or by the spawner, as the solver says, and puts the report.
+#[tactic(auto, using(crate::proofs::Untouched::none_out))]
 pub fn report_by<K: Sink, W: Spawner>(
     alloc: Global,
     typed: &Typed,
@@ -124,9 +127,11 @@ pub fn report_by<K: Sink, W: Spawner>(
     builtin: &mut Builtin,
 ) -> Result<Ended, AllocError>
     requires { LeaveResults (written_of typed.now) }
-    ensures report { IfOk result (IsReportBy solver.now (resolved_of typed.now) (change companions builtin.old builtin.new) (change (children W.starts W.ended W.faults W.steady) spawner.old spawner.new) (change (taken K.taken K.faults) out.old out.new)) }
-    ensures starts { StartsBy solver.now (change companions builtin.old builtin.new) (change (children W.starts W.ended W.faults W.steady) spawner.old spawner.new) }
+    ensures report { IfOk result (IsReportBy solver.now (resolved_of typed.now) (change companions builtin.old builtin.new) (change (children W.starts W.owed W.ended W.faults W.steady) spawner.old spawner.new) (change (taken K.taken K.faults) out.old out.new)) }
+    ensures starts { StartsBy solver.now (change companions builtin.old builtin.new) (change (children W.starts W.owed W.ended W.faults W.steady) spawner.old spawner.new) }
     ensures nothing { IfErr result (λ _. K.taken out.new ≡ K.taken out.old) }
+    ensures companion_back { HandsBack (change companions builtin.old builtin.new) }
+    ensures children_back { HandsBack (change (children W.starts W.owed W.ended W.faults W.steady) spawner.old spawner.new) }
 {
     if is_companion(solver) {
         report_by_companion(alloc, Telling::Lines, typed, solver, out, builtin)

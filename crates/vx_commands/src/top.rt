@@ -6,7 +6,7 @@ ghost use Rattle.vx_typing.specs.Typed.{written_of};
 ghost use Rattle.vx_words.specs.Orders.{order_of, IsWithinLimit};
 ghost use Rattle.vx_commands.specs.Refusals.{IsSpelledBy};
 ghost use Rattle.vx_commands.specs.Reported as spec;
-ghost use Rattle.vx_commands.specs.Outside.{change, texts, taken, children, companions, AsksOnly, StartsOnly};
+ghost use Rattle.vx_commands.specs.Outside.{change, texts, taken, children, companions, AsksOnly, HandsBack, StartsOnly};
 ghost use Rattle.vx_commands.specs.Reported.{Puts, IsToldOf, IsGenerated, IsVerified, IsAnswer, IsStatusOf, AsksFileOf, StartsBy, StartsSolverOf};
 
 use crate::answers::{TOO_LONG, UNREAD, USAGE};
@@ -54,9 +54,11 @@ fn verify_typed<K: Sink, W: Spawner>(
     builtin: &mut Builtin,
 ) -> Result<Ended, AllocError>
     requires { IsSpelledBy text.now (written_of typed.now) }
-    ensures verified { IfOk result (IsVerified text.now solver.now (change companions builtin.old builtin.new) (change (children W.starts W.ended W.faults W.steady) spawner.old spawner.new) (change (taken K.taken K.faults) out.old out.new)) }
-    ensures starts { StartsBy solver.now (change companions builtin.old builtin.new) (change (children W.starts W.ended W.faults W.steady) spawner.old spawner.new) }
+    ensures verified { IfOk result (IsVerified text.now solver.now (change companions builtin.old builtin.new) (change (children W.starts W.owed W.ended W.faults W.steady) spawner.old spawner.new) (change (taken K.taken K.faults) out.old out.new)) }
+    ensures starts { StartsBy solver.now (change companions builtin.old builtin.new) (change (children W.starts W.owed W.ended W.faults W.steady) spawner.old spawner.new) }
     ensures nothing { IfErr result (λ _. K.taken out.new ≡ K.taken out.old) }
+    ensures companion_back { HandsBack (change companions builtin.old builtin.new) }
+    ensures children_back { HandsBack (change (children W.starts W.owed W.ended W.faults W.steady) spawner.old spawner.new) }
 {
     typed.typed();
     typed_programs_are_whole(typed);
@@ -64,6 +66,7 @@ fn verify_typed<K: Sink, W: Spawner>(
 }
 
 // Verifies the program of a text, if it is typed.
+#[tactic(auto, using(crate::proofs::Untouched::none_out))]
 fn verify_program<K: Sink, W: Spawner>(
     alloc: Global,
     text: &[u8],
@@ -74,9 +77,11 @@ fn verify_program<K: Sink, W: Spawner>(
     builtin: &mut Builtin,
 ) -> Result<Ended, AllocError>
     requires { IsSpelledBy text.now (written_program program.now) }
-    ensures verified { IfOk result (IsVerified text.now solver.now (change companions builtin.old builtin.new) (change (children W.starts W.ended W.faults W.steady) spawner.old spawner.new) (change (taken K.taken K.faults) out.old out.new)) }
-    ensures starts { StartsBy solver.now (change companions builtin.old builtin.new) (change (children W.starts W.ended W.faults W.steady) spawner.old spawner.new) }
+    ensures verified { IfOk result (IsVerified text.now solver.now (change companions builtin.old builtin.new) (change (children W.starts W.owed W.ended W.faults W.steady) spawner.old spawner.new) (change (taken K.taken K.faults) out.old out.new)) }
+    ensures starts { StartsBy solver.now (change companions builtin.old builtin.new) (change (children W.starts W.owed W.ended W.faults W.steady) spawner.old spawner.new) }
     ensures nothing { IfErr result (λ _. K.taken out.new ≡ K.taken out.old) }
+    ensures companion_back { HandsBack (change companions builtin.old builtin.new) }
+    ensures children_back { HandsBack (change (children W.starts W.owed W.ended W.faults W.steady) spawner.old spawner.new) }
 {
     match type_of(alloc, program)? {
         Checked::Typed(typed) => verify_typed(alloc, text, &typed, solver, out, spawner, builtin),
@@ -85,6 +90,7 @@ fn verify_program<K: Sink, W: Spawner>(
 }
 
 // Verifies the program of a text, if there is one.
+#[tactic(auto, using(crate::proofs::Untouched::none_out))]
 fn verify_text<K: Sink, W: Spawner>(
     alloc: Global,
     text: &[u8],
@@ -93,9 +99,11 @@ fn verify_text<K: Sink, W: Spawner>(
     spawner: &mut W,
     builtin: &mut Builtin,
 ) -> Result<Ended, AllocError>
-    ensures verified { IfOk result (IsVerified text.now solver.now (change companions builtin.old builtin.new) (change (children W.starts W.ended W.faults W.steady) spawner.old spawner.new) (change (taken K.taken K.faults) out.old out.new)) }
-    ensures starts { StartsBy solver.now (change companions builtin.old builtin.new) (change (children W.starts W.ended W.faults W.steady) spawner.old spawner.new) }
+    ensures verified { IfOk result (IsVerified text.now solver.now (change companions builtin.old builtin.new) (change (children W.starts W.owed W.ended W.faults W.steady) spawner.old spawner.new) (change (taken K.taken K.faults) out.old out.new)) }
+    ensures starts { StartsBy solver.now (change companions builtin.old builtin.new) (change (children W.starts W.owed W.ended W.faults W.steady) spawner.old spawner.new) }
     ensures nothing { IfErr result (λ _. K.taken out.new ≡ K.taken out.old) }
+    ensures companion_back { HandsBack (change companions builtin.old builtin.new) }
+    ensures children_back { HandsBack (change (children W.starts W.owed W.ended W.faults W.steady) spawner.old spawner.new) }
 {
     match read(alloc, text)? {
         Parsed::Program(program) => {
@@ -106,6 +114,7 @@ fn verify_text<K: Sink, W: Spawner>(
 }
 
 // Verifies a file, or standard input.
+#[tactic(auto, using(crate::proofs::Untouched::none_out))]
 fn verify_file<F: Files, K: Sink, W: Spawner>(
     alloc: Global,
     file: &Option<Text>,
@@ -115,10 +124,12 @@ fn verify_file<F: Files, K: Sink, W: Spawner>(
     spawner: &mut W,
     builtin: &mut Builtin,
 ) -> Result<Ended, AllocError>
-    ensures answered { IfOk result (IsAnswer (Some (Order.Verify file.now solver.now)) (change (texts F.holds F.asked F.faults) files.old files.new) (change companions builtin.old builtin.new) (change (children W.starts W.ended W.faults W.steady) spawner.old spawner.new) (change (taken K.taken K.faults) out.old out.new)) }
+    ensures answered { IfOk result (IsAnswer (Some (Order.Verify file.now solver.now)) (change (texts F.holds F.asked F.faults) files.old files.new) (change companions builtin.old builtin.new) (change (children W.starts W.owed W.ended W.faults W.steady) spawner.old spawner.new) (change (taken K.taken K.faults) out.old out.new)) }
     ensures asked { AsksOnly file.now (change (texts F.holds F.asked F.faults) files.old files.new) }
-    ensures starts { StartsBy solver.now (change companions builtin.old builtin.new) (change (children W.starts W.ended W.faults W.steady) spawner.old spawner.new) }
+    ensures starts { StartsBy solver.now (change companions builtin.old builtin.new) (change (children W.starts W.owed W.ended W.faults W.steady) spawner.old spawner.new) }
     ensures nothing { IfErr result (λ _. K.taken out.new ≡ K.taken out.old) }
+    ensures companion_back { HandsBack (change companions builtin.old builtin.new) }
+    ensures children_back { HandsBack (change (children W.starts W.owed W.ended W.faults W.steady) spawner.old spawner.new) }
 {
     match load(alloc, files, name_of(file))? {
         Loaded::Text(text) => verify_text(alloc, &text, solver, out, spawner, builtin),
@@ -160,6 +171,7 @@ fn put_generated<K: Sink>(alloc: Global, methods: u32, out: &mut K) -> Result<En
 }
 
 // Does what is ordered.
+#[tactic(auto, using(crate::proofs::Untouched::none_out))]
 fn obey<F: Files, K: Sink, W: Spawner>(
     alloc: Global,
     order: &Order,
@@ -169,10 +181,12 @@ fn obey<F: Files, K: Sink, W: Spawner>(
     builtin: &mut Builtin,
 ) -> Result<Ended, AllocError>
     requires { IsWithinLimit order.now }
-    ensures answered { IfOk result (IsAnswer (Some order.now) (change (texts F.holds F.asked F.faults) files.old files.new) (change companions builtin.old builtin.new) (change (children W.starts W.ended W.faults W.steady) spawner.old spawner.new) (change (taken K.taken K.faults) out.old out.new)) }
+    ensures answered { IfOk result (IsAnswer (Some order.now) (change (texts F.holds F.asked F.faults) files.old files.new) (change companions builtin.old builtin.new) (change (children W.starts W.owed W.ended W.faults W.steady) spawner.old spawner.new) (change (taken K.taken K.faults) out.old out.new)) }
     ensures asked { AsksFileOf (Some order.now) (change (texts F.holds F.asked F.faults) files.old files.new) }
-    ensures starts { StartsSolverOf (Some order.now) (change companions builtin.old builtin.new) (change (children W.starts W.ended W.faults W.steady) spawner.old spawner.new) }
+    ensures starts { StartsSolverOf (Some order.now) (change companions builtin.old builtin.new) (change (children W.starts W.owed W.ended W.faults W.steady) spawner.old spawner.new) }
     ensures nothing { IfErr result (λ _. K.taken out.new ≡ K.taken out.old) }
+    ensures companion_back { HandsBack (change companions builtin.old builtin.new) }
+    ensures children_back { HandsBack (change (children W.starts W.owed W.ended W.faults W.steady) spawner.old spawner.new) }
 {
     match order {
         Order::Verify { file, solver } => {
@@ -197,6 +211,7 @@ fn without_memory(alloc: Global) -> Ended
 }
 
 // Does what the words say.
+#[tactic(auto, using(crate::proofs::Untouched::none_out))]
 fn answer<F: Files, K: Sink, W: Spawner>(
     alloc: Global,
     words: &Parts,
@@ -205,9 +220,11 @@ fn answer<F: Files, K: Sink, W: Spawner>(
     spawner: &mut W,
     builtin: &mut Builtin,
 ) -> Ended
-    ensures answered { IsAnswer (order_of words.now) (change (texts F.holds F.asked F.faults) files.old files.new) (change companions builtin.old builtin.new) (change (children W.starts W.ended W.faults W.steady) spawner.old spawner.new) (change (taken K.taken K.faults) out.old out.new) result }
+    ensures answered { IsAnswer (order_of words.now) (change (texts F.holds F.asked F.faults) files.old files.new) (change companions builtin.old builtin.new) (change (children W.starts W.owed W.ended W.faults W.steady) spawner.old spawner.new) (change (taken K.taken K.faults) out.old out.new) result }
     ensures asked { AsksFileOf (order_of words.now) (change (texts F.holds F.asked F.faults) files.old files.new) }
-    ensures starts { StartsSolverOf (order_of words.now) (change companions builtin.old builtin.new) (change (children W.starts W.ended W.faults W.steady) spawner.old spawner.new) }
+    ensures starts { StartsSolverOf (order_of words.now) (change companions builtin.old builtin.new) (change (children W.starts W.owed W.ended W.faults W.steady) spawner.old spawner.new) }
+    ensures companion_back { HandsBack (change companions builtin.old builtin.new) }
+    ensures children_back { HandsBack (change (children W.starts W.owed W.ended W.faults W.steady) spawner.old spawner.new) }
 {
     match read_words(alloc, words) {
         Ok(order) => match obey(alloc, &order, files, out, spawner, builtin) {
@@ -229,11 +246,13 @@ pub fn run<F: Files, K: Sink, W: Spawner>(
     spawner: &mut W,
     builtin: &mut Builtin,
 ) -> Ended
-    ensures answered { IsAnswer (order_of words.now) (change (texts F.holds F.asked F.faults) files.old files.new) (change companions builtin.old builtin.new) (change (children W.starts W.ended W.faults W.steady) spawner.old spawner.new) (change (taken K.taken K.faults) out.old out.new) result }
+    ensures answered { IsAnswer (order_of words.now) (change (texts F.holds F.asked F.faults) files.old files.new) (change companions builtin.old builtin.new) (change (children W.starts W.owed W.ended W.faults W.steady) spawner.old spawner.new) (change (taken K.taken K.faults) out.old out.new) result }
     ensures asked { AsksFileOf (order_of words.now) (change (texts F.holds F.asked F.faults) files.old files.new) }
-    ensures starts { StartsSolverOf (order_of words.now) (change companions builtin.old builtin.new) (change (children W.starts W.ended W.faults W.steady) spawner.old spawner.new) }
+    ensures starts { StartsSolverOf (order_of words.now) (change companions builtin.old builtin.new) (change (children W.starts W.owed W.ended W.faults W.steady) spawner.old spawner.new) }
     ensures status { IsStatusOf (order_of words.now) (change (texts F.holds F.asked F.faults) files.old files.new) (change (taken K.taken K.faults) out.old out.new) result.runs.items result.status }
     ensures usage { order_of words.now ≡ None → (result.status ≡ Status.Usage) ⊎ (result.status ≡ Status.Unwritten) ⊎ (result.status ≡ Status.Want) }
+    ensures companion_back { HandsBack (change companions builtin.old builtin.new) }
+    ensures children_back { HandsBack (change (children W.starts W.owed W.ended W.faults W.steady) spawner.old spawner.new) }
 {
     answer(alloc, words, files, out, spawner, builtin)
 }

@@ -9,5 +9,7 @@ returns-clause-report g c = record {
   put = search rules;
   status = search rules;
   started = c.in_ok-program.ensures.started;
-  calm = c.verify.ensures.steady;
 }
+
+pub returns-clause-children_back : goal.returns-clause-children_back
+returns-clause-children_back g c = record { every_lane = c.verify.ensures.handed_back; calm = c.verify.ensures.steady }
