@@ -67,7 +67,7 @@ module _ (order : Option Order) (files : Change Texts) (sink : Change Taken) (ru
   of_file Says only name unread Unwritten bytes told none = absurd (neither Unwritten (λ e. cc) (λ e. cc) (only told.0 Unwritten bytes told.3))
 
   of_status : (due s : Status) → IsStatusOf order files sink runs due → IsStatus due sink s → IsStatusOf order files sink runs s
-  of_status due s h (inl e) = subst (λ x. IsStatusOf order files sink runs x) (sym e) h
+  of_status due s h (inl e) = subst (λ x. IsStatusOf order files sink runs x) (sym e.0) h
   of_status due s h (inr failed) = subst (λ x. IsStatusOf order files sink runs x) (sym failed.0) failed.1
 
   of_bools : (a b : Bool) → status_among runs ≡ (if a then Faulted else (if b then NotVerified else Done))
@@ -114,7 +114,7 @@ status_told (Some (Verify file solver)) files companion handed sink ended (inr (
     (λ h. of_status order files sink runs (status_among runs) ended.status (of_runs order files sink runs) h.status) report.2.2
 
 of_usage : (sink : Change Taken) (due s : Status) → due ≡ Usage → IsStatus due sink s → (s ≡ Usage) ⊎ (s ≡ Unwritten) ⊎ (s ≡ Want)
-of_usage sink due s is (inl e) = inl (e ∙ is)
+of_usage sink due s is (inl e) = inl (e.0 ∙ is)
 of_usage sink due s is (inr failed) = inr (inl failed.0)
 
 usage_by : (files : Change Texts) (companion handed : Change Children) (sink : Change Taken) (ended : Ended) → IsAnswer None files companion handed sink ended

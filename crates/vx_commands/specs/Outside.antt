@@ -65,6 +65,10 @@ HasFailedToRead files = Rose files.before.faults files.after.faults
 abbrev pub IsTooLong : Option (List ℕ) → Change Texts → Type 0
 IsTooLong name files = IfSome (files.before.holds name) (λ text. 4194304 < length text)
 
+-- no put has failed since
+abbrev pub HasPut : Change Taken → Type 0
+HasPut sink = sink.after.faults ≡ sink.before.faults
+
 -- the sink failed
 abbrev pub HasFailedToPut : Change Taken → Type 0
 HasFailedToPut sink = Rose sink.before.faults sink.after.faults

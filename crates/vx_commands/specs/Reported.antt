@@ -34,7 +34,7 @@ use Rattle.vx_typing.specs.Typed.{written_of}
 use Rattle.vx_commands.specs.Refusals.{RefusesText, RefusesTyping, IsSpelledBy}
 use Rattle.vx_companion.specs.Companion.{AllByCompanion}
 use Rattle.vx_companion.specs.Lawful.{IsTaken}
-use Rattle.vx_commands.specs.Outside.{Change, Texts, Taken, Children, IsUnchanged, AsksOnly, HasFailedToRead, IsTooLong, HasFailedToPut, StartsOnly}
+use Rattle.vx_commands.specs.Outside.{Change, Texts, Taken, Children, IsUnchanged, AsksOnly, HasFailedToRead, IsTooLong, HasPut, HasFailedToPut, StartsOnly}
 use Rattle.vx_verifier.specs.Lanes.{StartsWhere}
 use Rattle.vx_verifier.specs.Headline.{IsWhole, Headline, HasNoFault, NeverFails, some_ask, script_of}
 use Rattle.vx_verifier.specs.Lines.{lines}
@@ -130,9 +130,9 @@ abbrev pub IsPut : Change Taken → Status → List ℕ → Type 0
 IsPut sink s text =
     IfSome sink.before.bytes (λ bytes. (sink.after.bytes ≡ Some (bytes ++ text)) ⊎ ((s ≡ Unwritten) × (n : ℕ) × (sink.after.bytes ≡ Some (bytes ++ take n text))))
 
--- The status is the one that is due; or the sink failed.
+-- The status is the one that is due, where no put failed; or the sink failed.
 abbrev pub IsStatus : (due : Status) → Change Taken → Status → Type 0
-IsStatus due sink s = (s ≡ due) ⊎ ((s ≡ Unwritten) × HasFailedToPut sink)
+IsStatus due sink s = ((s ≡ due) × HasPut sink) ⊎ ((s ≡ Unwritten) × HasFailedToPut sink)
 
 -- The bytes that `print` puts for a text, with their status: the canonical text of the program that it spells, or the line of its refusal.
 abbrev pub SaysPrinted : (text : List ℕ) → Status → List ℕ → Type 0
