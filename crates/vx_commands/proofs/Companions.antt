@@ -1,16 +1,12 @@
 -- What is promised where the companion is asked: its unsats are right, and where it takes what is asserted it is never lost.
 use Rattle.std.proofs.Common.{◌≡◌, inl, inr, ◌++◌, ℕ, zero, suc, false, List, [], ◌∷◌, take, drop, refl, ◌∙◌, sym, subst, arith}
-use Rattle.std.specs.Prelude.{⊤}
 use Rattle.vx_ast.specs.Syntax.{Program}
-use Rattle.vx_terms.specs.Terms.{Term}
 use Rattle.vx_terms.specs.Interpretations.{Each}
 use Rattle.vx_smt_meaning.specs.Dialogues.{Check}
 use Rattle.vx_ends.specs.declared.piece.Piece.{Piece}
 use Rattle.vx_ends.specs.declared.piece.Ending.{Ending}
 use Rattle.vx_dialogue.specs.Scripts.{script}
 use Rattle.vx_dialogue.specs.History.{Tells}
-use Rattle.vx_rules.specs.Trees.{Tree, End, Impossible, On, Step, Ask, Probe, Fork}
-use Rattle.vx_machine.specs.Runs.{member_tree}
 use Rattle.vx_live.specs.Functions.{function_symbols}
 use Rattle.vx_report.specs.declared.run.MemberRun.{MemberRun}
 use Rattle.vx_report.specs.declared.run.Verdict.TheVariants.{Verified}
@@ -24,7 +20,6 @@ use Rattle.vx_companion.proofs.Lawful.{companion_lawful}
 use Rattle.vx_verifier.specs.Sequences.{IsRight}
 use Rattle.vx_verifier.specs.Causes.{IsLawful, AllLawful}
 use Rattle.vx_verifier.specs.Headline.{Headline, NeverFails, Under, IsRecorded, turns_of, lost_after}
-use Rattle.vx_verifier.proofs.Askable.{AllAsk, AreTurns, turns_ask}
 use Rattle.vx_commands.specs.declared.top.Ended.{Ended}
 use Rattle.vx_commands.specs.declared.reports.Telling.{Telling}
 use Rattle.vx_commands.specs.Outside.{Change, Taken, Children, HandsBack, change, companions}
@@ -74,19 +69,7 @@ pub none_since : (before since : List Ending) → before ≡ before ++ since →
 none_since [] since e = sym e
 none_since (b ∷ before) since e = let rest : before ≡ before ++ since = cc in none_since before since rest
 
--- ---- each question's turn is as it is
-
-abbrev Any : List Term → Term → Type 0
-Any path condition = ⊤
-
-any_asks : (t : Tree) → AllAsk Any t
-any_asks End = tt
-any_asks (Impossible s) = tt
-any_asks (On t s) = tt
-any_asks (Step t) = any_asks t
-any_asks (Ask q t) = (tt, any_asks t)
-any_asks (Probe q a b) = (tt, any_asks a, any_asks b)
-any_asks (Fork a b) = (any_asks a, any_asks b)
+-- ---- its record
 
 is_lawful : (pieces : List Piece) → HasLawfulReplies pieces → IsLawful pieces
 is_lawful pieces lawful kept (inl garbled) = (lawful kept).0 garbled
@@ -104,15 +87,12 @@ module _ (p : Program) (before now : List Ending) (causes : List (List Cause)) (
   pub verified_sound : AllNeverFail p runs
   verified_sound = sound_alone p runs runs h.checks (rights h.recorded) h.sound
 
-  asked : AreTurns Any (turns_of false p runs h.checks)
-  asked = turns_ask Any p before now f g (λ k. any_asks (member_tree p k)) false 0 runs h.checks h.told
-
   lawful_by : (taken : Each IsTaken (script false (function_symbols p) (turns_of false p runs h.checks))) (e : Ending) → now ≡ before ++ e ∷ []
       → Tells (lost_after false runs) (script false (function_symbols p) (turns_of false p runs h.checks)) e.dialogue h.checks → HasLawfulReplies e.dialogue
   lawful_by taken e is tells =
       let by = by_companion before now causes e is all in
       companion_lawful (lost_after false runs) (script false (function_symbols p) (turns_of false p runs h.checks)) e.dialogue by.0 h.checks h.well_formed
-      (script_sorted (function_symbols p) (turns_of false p runs h.checks) h.sorted) taken (script_fits (function_symbols p) (turns_of false p runs h.checks) asked) tells by.1
+      (script_sorted (function_symbols p) (turns_of false p runs h.checks) h.sorted) taken (script_fits (function_symbols p) (turns_of false p runs h.checks)) tells by.1
 
   all_lawful : Each IsTaken (script false (function_symbols p) (turns_of false p runs h.checks)) → IsRecorded (function_symbols p) (lost_after false runs) before now (turns_of false p runs h.checks) h.checks → AllLawful before now
   all_lawful taken (inl none) since is =
