@@ -19,7 +19,7 @@ use Rattle.cs_commands.specs.Names.{text, number_below, symbol_named, sort_named
 use Rattle.cs_commands.specs.Live.{Scope, declaration, known_sort, sort_at, new_sort, if_free, new_symbol}
 use Rattle.cs_commands.specs.Heads.{symbol_head, head_of, head_at}
 use Rattle.cs_commands.specs.Building.{is_bool, if_sorted}
-use Rattle.cs_commands.specs.Terms.{if_declared, alone, leaf, Frame, opened, placed, closed, go_on, term_from}
+use Rattle.cs_commands.specs.Terms.{if_declared, alone, leaf, is_decimal, Frame, opened, placed, closed, go_on, term_from}
 use Rattle.cs_commands.specs.Commands.{symbol_at, numeral_at, open_at, ended, sort_in, sorts_at, declared, declare_fun, if_none, declare_sort, assertion, command_of, verb_at, understood}
 use Rattle.cs_commands.specs.Following.{LooksAlike, UnderstoodAlike}
 
@@ -63,7 +63,7 @@ module _ (s u : Scope) (same : LooksAlike s u) where
   term_alike fs (Open ∷ []) = refl
   term_alike fs (Open ∷ t ∷ ts) = λ i. head_alike t i >>= λ h. term_alike (opened h ∷ fs) ts i
   term_alike fs (Close ∷ ts) = λ i. closed fs >>= λ p. go_on p ts (λ gs. term_alike gs ts i)
-  term_alike fs (Atom kind x ∷ ts) = λ i. leaf_alike kind x i >>= λ t. go_on (placed t fs) ts (λ gs. term_alike gs ts i)
+  term_alike fs (Atom kind x ∷ ts) = λ i. leaf_alike kind x i >>= λ t. go_on (placed (is_decimal kind) t fs) ts (λ gs. term_alike gs ts i)
 
   -- ---- commands
 

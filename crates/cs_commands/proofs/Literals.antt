@@ -1,5 +1,5 @@
 -- Literals are read back.
-use Rattle.std.proofs.Common.{◌≡◌, ℕ, zero, suc, ◌<◌, ◌+◌, ◌-◌, ◌*◌, ◌/◌, ◌^◌, ◌&&◌, nat_eq, nat_lt, true, ℤ, pos, negsuc, List, [], ◌∷◌, Option, Some, None, Ok, length, refl, arith, ap, ap₂, ◌∙◌, sym, subst, add-one}
+use Rattle.std.proofs.Common.{◌≡◌, ℕ, zero, suc, ◌<◌, ◌+◌, ◌-◌, ◌*◌, ◌/◌, ◌^◌, ◌&&◌, nat_eq, nat_lt, true, false, ℤ, pos, negsuc, List, [], ◌∷◌, Option, Some, None, Ok, length, refl, arith, ap, ap₂, ◌∙◌, sym, subst, add-one}
 use Rattle.std.specs.Prelude.{if◌then◌else◌, nat_abs, ◌*ℤ◌, ◌<ℤ◌, codes}
 use Rattle.std.specs.Option.{option_and_then}
 use Rattle.std.proofs.lemmas.Bool.{lt-ltb}
@@ -28,7 +28,7 @@ use Rattle.cs_commands.specs.Heads.{MinusHead, SlashHead, head_at}
 use Rattle.cs_commands.specs.Building.{quotient_of}
 use Rattle.cs_commands.specs.Terms.{numeral, part}
 use Rattle.cs_commands.proofs.Numerals.{number_back}
-use Rattle.cs_commands.proofs.Placing.{Reads, reads_atom, reads_list, reads_one, reads_two}
+use Rattle.cs_commands.proofs.Placing.{ReadsAs, Reads, ReadsAllAs, atom_as, none_as, more_as, list_as, reads_atom, reads_list, reads_one}
 
 -- ---- numerals
 
@@ -64,7 +64,7 @@ reads_number scope (pos n) h = reads_numeral scope n h
 reads_number scope (negsuc n) h =
     reads_list scope (codes "-") (Atom kinds.Numeral (written.numeral (n + 1)) ∷ []) MinusHead (Number (pos (n + 1)) ∷ []) (Number (negsuc n)) (minus_head scope)
     (reads_one scope (Atom kinds.Numeral (written.numeral (n + 1)) ∷ []) (Number (pos (n + 1))) (reads_numeral scope (n + 1) (omega arith)))
-    (ap (or_fault faults.Sort) (negative_number n))
+    (λ decimals. ap (or_fault faults.Sort) (negative_number n))
 
 -- ---- decimals
 
@@ -105,8 +105,14 @@ decimal_back n h =
 part_leaf : (n : ℕ) → n < 2 ^ 127 → part (written.decimal n) ≡ Ok (Part (whole (pos n)))
 part_leaf n h = ap (λ o. or_fault faults.Wide o >>= λ a. Ok (Part a)) (decimal_back n h)
 
-reads_decimal : (scope : Scope) (n : ℕ) → n < 2 ^ 127 → Reads scope (Atom kinds.Decimal (written.decimal n) ∷ []) (Part (whole (pos n)))
-reads_decimal scope n h = reads_atom scope kinds.Decimal (written.decimal n) (Part (whole (pos n))) (part_leaf n h)
+decimal_as : (scope : Scope) (n : ℕ) → n < 2 ^ 127 → ReadsAs scope (Atom kinds.Decimal (written.decimal n) ∷ []) true (Part (whole (pos n)))
+decimal_as scope n h = atom_as scope kinds.Decimal (written.decimal n) (Part (whole (pos n))) (part_leaf n h)
+
+decimals_as : (scope : Scope) (m n : ℕ) → m < 2 ^ 127 → n < 2 ^ 127
+    → ReadsAllAs scope (Atom kinds.Decimal (written.decimal m) ∷ Atom kinds.Decimal (written.decimal n) ∷ []) true (Part (whole (pos m)) ∷ Part (whole (pos n)) ∷ [])
+decimals_as scope m n h k =
+    more_as scope (Atom kinds.Decimal (written.decimal m) ∷ []) (Atom kinds.Decimal (written.decimal n) ∷ []) (Part (whole (pos m))) (Part (whole (pos n)) ∷ []) true true (decimal_as scope m h)
+    (more_as scope (Atom kinds.Decimal (written.decimal n) ∷ []) [] (Part (whole (pos n))) [] true true (decimal_as scope n k) (none_as scope))
 
 -- ---- quotients
 
@@ -136,13 +142,14 @@ quotient_back p d h k low =
     by_inverse i = or_fault faults.Wide (multiplied (whole (pos p)) i) >>= λ q. Ok (Part q)
 
 reads_quotient : (scope : Scope) (p d : ℕ) → p < 2 ^ 127 → suc d < 2 ^ 127 → lowest (frac (pos p) d) ≡ frac (pos p) d → Reads scope (written.quotient_tokens p d) (Part (frac (pos p) d))
-reads_quotient scope p zero h k low = reads_decimal scope p h
-reads_quotient scope p (suc d) h k low =
-    reads_list scope (codes "/") (Atom kinds.Decimal (written.decimal p) ∷ Atom kinds.Decimal (written.decimal (suc d + 1)) ∷ []) SlashHead
-    (Part (whole (pos p)) ∷ Part (whole (pos (suc d + 1))) ∷ []) (Part (frac (pos p) (suc d))) (slash_head scope)
-    (reads_two scope (Atom kinds.Decimal (written.decimal p) ∷ []) (Atom kinds.Decimal (written.decimal (suc d + 1)) ∷ []) (Part (whole (pos p))) (Part (whole (pos (suc d + 1))))
-    (reads_decimal scope p h) (reads_decimal scope (suc d + 1) (omega arith)))
-    (ap (λ n. quotient_of (whole (pos p)) (whole (pos n))) (add-one (suc d)) ∙ quotient_back p d h k low)
+reads_quotient scope p zero h k low = (true, decimal_as scope p h)
+reads_quotient scope p (suc d) h k low = (
+  false,
+  list_as scope (codes "/") (Atom kinds.Decimal (written.decimal p) ∷ Atom kinds.Decimal (written.decimal (suc d + 1)) ∷ []) SlashHead true
+      (Part (whole (pos p)) ∷ Part (whole (pos (suc d + 1))) ∷ []) (Part (frac (pos p) (suc d))) (slash_head scope)
+      (decimals_as scope p (suc d + 1) h (omega arith))
+      (ap (λ n. quotient_of (whole (pos p)) (whole (pos n))) (add-one (suc d)) ∙ quotient_back p d h k low),
+)
 
 -- ---- below 0
 
@@ -168,4 +175,4 @@ reads_part scope (negsuc n) d h k low =
     reads_list scope (codes "-") (written.quotient_tokens (n + 1) d) MinusHead (Part (frac (pos (n + 1)) d) ∷ []) (Part (frac (negsuc n) d)) (minus_head scope)
     (reads_one scope (written.quotient_tokens (n + 1) d) (Part (frac (pos (n + 1)) d))
     (reads_quotient scope (n + 1) d (omega arith) k (subst (λ m. lowest (frac (pos m) d) ≡ frac (pos m) d) (sym (add-one n)) (unsigned_lowest n d low))))
-    (ap (or_fault faults.Sort) (negative_part n d low))
+    (λ decimals. ap (or_fault faults.Sort) (negative_part n d low))

@@ -32,7 +32,7 @@ use Rattle.cs_commands.specs.Heads.{Head, NotHead, IteHead, MinusHead, SlashHead
 use Rattle.cs_commands.specs.Building as building
 use Rattle.cs_commands.specs.Building.{is_bool, takes, have_sorts, built}
 use Rattle.cs_commands.specs.Terms as terms
-use Rattle.cs_commands.specs.Terms.{Frame, opened, Placed, Whole, Within, placed, closed, go_on, term_from}
+use Rattle.cs_commands.specs.Terms.{is_decimal, Frame, opened, Placed, Whole, Within, placed, closed, go_on, term_from}
 use Rattle.cs_commands.proofs.Passed.{ok_is, not_ok, some_is, not_some, bound, present, passed}
 use Rattle.cs_commands.proofs.Declarations.{first_is, first_later}
 
@@ -156,11 +156,12 @@ module _ (scope : Scope) (P : Term → Type 0) (k : Keeps scope P) where
   literals_keep (Part a) (Part b) t e = quotient_of_keeps a b t e
   literals_keep a b t e = not_ok e
 
-  quotient_keeps : (ts : List Term) (t : Term) → building.quotient ts ≡ Ok t → P t
-  quotient_keeps [] t e = not_ok e
-  quotient_keeps (a ∷ []) t e = not_ok e
-  quotient_keeps (a ∷ b ∷ []) t e = literals_keep a b t e
-  quotient_keeps (a ∷ b ∷ c ∷ ts) t e = not_ok e
+  quotient_keeps : (decimals : Bool) (ts : List Term) (t : Term) → building.quotient decimals ts ≡ Ok t → P t
+  quotient_keeps false ts t e = not_ok e
+  quotient_keeps true [] t e = not_ok e
+  quotient_keeps true (a ∷ []) t e = not_ok e
+  quotient_keeps true (a ∷ b ∷ []) t e = literals_keep a b t e
+  quotient_keeps true (a ∷ b ∷ c ∷ ts) t e = not_ok e
 
   application_keeps : (d : Declared) (ts : List Term) (t : Term) → Declares scope.symbols d → Each P ts → building.application d ts ≡ Ok t → P t
   application_keeps d ts t is h e =
@@ -178,13 +179,13 @@ module _ (scope : Scope) (P : Term → Type 0) (k : Keeps scope P) where
   IsHead (SymbolHead d) = Declares scope.symbols d
   IsHead h = ⊤
 
-  built_keeps : (h : Head) (ts : List Term) (t : Term) → IsHead h → Each P ts → built h ts ≡ Ok t → P t
-  built_keeps NotHead ts t is h e = negation_keeps ts t h e
-  built_keeps IteHead ts t is h e = choice_keeps ts t h e
-  built_keeps MinusHead ts t is h e = difference_keeps ts t h e
-  built_keeps SlashHead ts t is h e = quotient_keeps ts t e
-  built_keeps (OperatorHead o) ts t is h e = operation_keeps o ts t h e
-  built_keeps (SymbolHead d) ts t is h e = application_keeps d ts t is h e
+  built_keeps : (h : Head) (decimals : Bool) (ts : List Term) (t : Term) → IsHead h → Each P ts → built h decimals ts ≡ Ok t → P t
+  built_keeps NotHead decimals ts t is h e = negation_keeps ts t h e
+  built_keeps IteHead decimals ts t is h e = choice_keeps ts t h e
+  built_keeps MinusHead decimals ts t is h e = difference_keeps ts t h e
+  built_keeps SlashHead decimals ts t is h e = quotient_keeps decimals ts t e
+  built_keeps (OperatorHead o) decimals ts t is h e = operation_keeps o ts t h e
+  built_keeps (SymbolHead d) decimals ts t is h e = application_keeps d ts t is h e
 
   name_is_head : (x : List ℕ) (o : Option Declared) (h : Head) → declaration scope x ≡ Ok o → symbol_head o ≡ Ok h → IsHead h
   name_is_head x None h is e = not_ok e
@@ -230,15 +231,15 @@ module _ (scope : Scope) (P : Term → Type 0) (k : Keeps scope P) where
   IsPlaced (Whole t) = P t
   IsPlaced (Within fs) = Each IsFrame fs
 
-  placed_keeps : (t : Term) (fs : List Frame) → P t → Each IsFrame fs → IsPlaced (placed t fs)
-  placed_keeps t [] h hs = h
-  placed_keeps t (f ∷ fs) h hs = ((hs.0.0, each_more P f.parts t hs.0.1 h), hs.1)
+  placed_keeps : (decimal : Bool) (t : Term) (fs : List Frame) → P t → Each IsFrame fs → IsPlaced (placed decimal t fs)
+  placed_keeps decimal t [] h hs = h
+  placed_keeps decimal t (f ∷ fs) h hs = ((hs.0.0, each_more P f.parts t hs.0.1 h), hs.1)
 
   closed_keeps : (fs : List Frame) (p : Placed) → Each IsFrame fs → closed fs ≡ Ok p → IsPlaced p
   closed_keeps [] p hs e = not_ok e
   closed_keeps (f ∷ fs) p hs e =
-      let b = bound (built f.head f.parts) _ p e in
-      subst IsPlaced (ok_is b.2) (placed_keeps b.0 fs (built_keeps f.head f.parts b.0 hs.0.0 hs.0.1 b.1) hs.1)
+      let b = bound (built f.head f.decimals f.parts) _ p e in
+      subst IsPlaced (ok_is b.2) (placed_keeps false b.0 fs (built_keeps f.head f.decimals f.parts b.0 hs.0.0 hs.0.1 b.1) hs.1)
 
   goes_on : (p : Placed) (ts : List Token) (go : List Frame → Result (Term × List Token) CommandFault) (r : Term × List Token)
       → IsPlaced p → ((gs : List Frame) → Each IsFrame gs → go gs ≡ Ok r → P r.0) → go_on p ts go ≡ Ok r → P r.0
@@ -256,4 +257,4 @@ module _ (scope : Scope) (P : Term → Type 0) (k : Keeps scope P) where
       goes_on b.0 ts (λ gs. term_from scope gs ts) r (closed_keeps fs b.0 hs b.1) (λ gs us h. read_keeps gs ts r us h) b.2
   read_keeps fs (Atom kind x ∷ ts) r hs e =
       let b = bound (terms.leaf scope kind x) _ r e in
-      goes_on (placed b.0 fs) ts (λ gs. term_from scope gs ts) r (placed_keeps b.0 fs (leaf_keeps kind x b.0 b.1) hs) (λ gs us h. read_keeps gs ts r us h) b.2
+      goes_on (placed (is_decimal kind) b.0 fs) ts (λ gs. term_from scope gs ts) r (placed_keeps (is_decimal kind) b.0 fs (leaf_keeps kind x b.0 b.1) hs) (λ gs us h. read_keeps gs ts r us h) b.2

@@ -134,7 +134,7 @@ fun_command scope d name small new takes gives =
 
 assertion_back : (levels : List Level) (t : Term) → AreApart (scope_of levels).symbols → IsCommand (Assert t) → MayFollow levels (Assert t) → IsPlain (Assert t) → reading.understood (scope_of levels) (command_tokens (Assert t)) ≡ Ok (Assert t)
 assertion_back levels t apart name follows plain =
-    ap (λ o. o >>= with_term) (term_back (scope_of levels) apart plain.0.0 plain.0.1 name follows.declared plain.1 [] (Close ∷ []))
+    ap (λ o. o >>= with_term) ((term_back (scope_of levels) apart plain.0.0 plain.0.1 name follows.declared plain.1).1 [] (Close ∷ []))
     ∙ ap (λ b. if_sorted b t >>= asserted) (bool_is plain.0.1)
   where
     asserted : Term → Result Command CommandFault

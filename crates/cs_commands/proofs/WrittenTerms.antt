@@ -1,5 +1,5 @@
 -- What is written for a well-sorted term over declared symbols is read as that term.
-use Rattle.std.proofs.Common.{◌≡◌, inl, inr, ◌⊎◌, ℕ, not, true, false, List, [], ◌∷◌, ◌++◌, Ok, refl, ap, ap₂, ◌∙◌, codes}
+use Rattle.std.proofs.Common.{◌≡◌, inl, inr, ◌⊎◌, ℕ, not, Bool, true, false, List, [], ◌∷◌, ◌++◌, Ok, refl, ap, ap₂, ◌∙◌, codes}
 use Rattle.std.specs.List.{list_all}
 use Rattle.vx_sexp.specs.declared.token.Kind.TheVariants as kinds
 use Rattle.vx_sexp.specs.Tokens.{is_empty}
@@ -96,38 +96,38 @@ operator_before scope Multiply = refl
 operator_before scope Div = refl
 operator_before scope Mod = refl
 
-pub built_two : (o : Operator) (t u : Term) → built (head_for o) (t ∷ u ∷ []) ≡ operation_of_two o t u
-built_two And t u = refl
-built_two Or t u = refl
-built_two Implies t u = refl
-built_two Equal t u = refl
-built_two Less t u = refl
-built_two LessEqual t u = refl
-built_two Add t u = refl
-built_two Subtract t u = refl
-built_two Multiply t u = refl
-built_two Div t u = refl
-built_two Mod t u = refl
+pub built_two : (o : Operator) (decimals : Bool) (t u : Term) → built (head_for o) decimals (t ∷ u ∷ []) ≡ operation_of_two o t u
+built_two And decimals t u = refl
+built_two Or decimals t u = refl
+built_two Implies decimals t u = refl
+built_two Equal decimals t u = refl
+built_two Less decimals t u = refl
+built_two LessEqual decimals t u = refl
+built_two Add decimals t u = refl
+built_two Subtract decimals t u = refl
+built_two Multiply decimals t u = refl
+built_two Div decimals t u = refl
+built_two Mod decimals t u = refl
 
-built_operation : (n : ℕ) (o : Operator) (t u : Term) (a : Sort) → Takes o a → Formed n t a → Formed n u a → built (head_for o) (t ∷ u ∷ []) ≡ Ok (Binary o t u)
-built_operation n o t u a h f g =
-    built_two o t u
+built_operation : (n : ℕ) (o : Operator) (decimals : Bool) (t u : Term) (a : Sort) → Takes o a → Formed n t a → Formed n u a → built (head_for o) decimals (t ∷ u ∷ []) ≡ Ok (Binary o t u)
+built_operation n o decimals t u a h f g =
+    built_two o decimals t u
     ∙ ap (λ b. if_sorted b (Binary o t u)) (both_true (takes o (sort_of t)) (same_sort (sort_of u) (sort_of t)) (ap (takes o) (sort_of_formed f) ∙ taken o a h) (same_of f g))
 
-built_many : (o : Operator) (ts : Terms) → has_three ts ≡ true → built (OperatorHead o) (items ts) ≡ operation_of_many o (items ts)
-built_many o NoTerms e = absurd (cc)
-built_many o (MoreTerms t NoTerms) e = absurd (cc)
-built_many o (MoreTerms t (MoreTerms u NoTerms)) e = absurd (cc)
-built_many o (MoreTerms t (MoreTerms u (MoreTerms v ts))) e = refl
+built_many : (o : Operator) (decimals : Bool) (ts : Terms) → has_three ts ≡ true → built (OperatorHead o) decimals (items ts) ≡ operation_of_many o (items ts)
+built_many o decimals NoTerms e = absurd (cc)
+built_many o decimals (MoreTerms t NoTerms) e = absurd (cc)
+built_many o decimals (MoreTerms t (MoreTerms u NoTerms)) e = absurd (cc)
+built_many o decimals (MoreTerms t (MoreTerms u (MoreTerms v ts))) e = refl
 
-built_all : (n : ℕ) (ts : Terms) → has_three ts ≡ true → FormedBools n ts → built (OperatorHead And) (items ts) ≡ Ok (AllOf ts)
-built_all n ts e fs = built_many And ts e ∙ ap₂ (λ b us. if_sorted b (AllOf us)) (bools_are fs) (listed_items ts)
+built_all : (n : ℕ) (decimals : Bool) (ts : Terms) → has_three ts ≡ true → FormedBools n ts → built (OperatorHead And) decimals (items ts) ≡ Ok (AllOf ts)
+built_all n decimals ts e fs = built_many And decimals ts e ∙ ap₂ (λ b us. if_sorted b (AllOf us)) (bools_are fs) (listed_items ts)
 
-built_some : (n : ℕ) (ts : Terms) → has_three ts ≡ true → FormedBools n ts → built (OperatorHead Or) (items ts) ≡ Ok (SomeOf ts)
-built_some n ts e fs = built_many Or ts e ∙ ap₂ (λ b us. if_sorted b (SomeOf us)) (bools_are fs) (listed_items ts)
+built_some : (n : ℕ) (decimals : Bool) (ts : Terms) → has_three ts ≡ true → FormedBools n ts → built (OperatorHead Or) decimals (items ts) ≡ Ok (SomeOf ts)
+built_some n decimals ts e fs = built_many Or decimals ts e ∙ ap₂ (λ b us. if_sorted b (SomeOf us)) (bools_are fs) (listed_items ts)
 
-built_application : (f : Symbol) (a : Sort) (ts : Terms) → has_some ts ≡ true → built (SymbolHead (declaration f (sorts_of ts) a)) (items ts) ≡ Ok (Apply f a ts)
-built_application f a ts e =
+built_application : (f : Symbol) (a : Sort) (decimals : Bool) (ts : Terms) → has_some ts ≡ true → built (SymbolHead (declaration f (sorts_of ts) a)) decimals (items ts) ≡ Ok (Apply f a ts)
+built_application f a decimals ts e =
     ap₂ (λ b us. if_sorted b (Apply f a us)) (both_true (not (is_empty (items ts))) (have_sorts (items ts) (sorts_of ts)) (ap not (some_items ts e)) (own_sorts ts)) (listed_items ts)
 
 -- ---- terms
@@ -145,23 +145,23 @@ module _ (scope : Scope) (apart : AreApart scope.symbols) (n : ℕ) where
         reads_list scope (symbol_word f) (terms_tokens ts) (SymbolHead (declaration f (sorts_of ts) a)) (items ts) (Apply f a ts)
         (symbol_before scope f (declaration f (sorts_of ts) a) names.0 small.0 (declared_found scope.symbols (declaration f (sorts_of ts) a) apart live.0))
         (terms_back fs names.1 live.1 small.2)
-        (built_application f a ts small.1)
+        (λ decimals. built_application f a decimals ts small.1)
     term_back (nots {t = t} f) names live small =
         reads_list scope (codes "not") (term_tokens t) NotHead (t ∷ []) (Not t) refl
         (reads_one scope (term_tokens t) t (term_back f names live small))
-        (ap (λ b. if_sorted b (Not t)) (bool_is f))
+        (λ decimals. ap (λ b. if_sorted b (Not t)) (bool_is f))
     term_back (binary {o = o} {t = t} {u = u} {a = a} h f g) names live small =
         reads_list scope (operator_word o) (term_tokens t ++ term_tokens u) (head_for o) (t ∷ u ∷ []) (Binary o t u) (operator_before scope o)
         (reads_two scope (term_tokens t) (term_tokens u) t u (term_back f names.0 live.0 small.0) (term_back g names.1 live.1 small.1))
-        (built_operation n o t u a h f g)
+        (λ decimals. built_operation n o decimals t u a h f g)
     term_back (ites {c = c} {t = t} {u = u} e f g) names live small =
         reads_list scope (codes "ite") (term_tokens c ++ term_tokens t ++ term_tokens u) IteHead (c ∷ t ∷ u ∷ []) (Ite c t u) refl
         (reads_three scope (term_tokens c) (term_tokens t) (term_tokens u) c t u (term_back e names.0 live.0 small.0) (term_back f names.1 live.1 small.1) (term_back g names.2 live.2 small.2))
-        (ap (λ b. if_sorted b (Ite c t u)) (both_true (is_bool c) (same_sort (sort_of u) (sort_of t)) (bool_is e) (same_of f g)))
+        (λ decimals. ap (λ b. if_sorted b (Ite c t u)) (both_true (is_bool c) (same_sort (sort_of u) (sort_of t)) (bool_is e) (same_of f g)))
     term_back (all_of {ts = ts} fs) names live small =
-        reads_list scope (codes "and") (terms_tokens ts) (OperatorHead And) (items ts) (AllOf ts) refl (bools_back fs names live small.1) (built_all n ts small.0 fs)
+        reads_list scope (codes "and") (terms_tokens ts) (OperatorHead And) (items ts) (AllOf ts) refl (bools_back fs names live small.1) (λ decimals. built_all n decimals ts small.0 fs)
     term_back (some_of {ts = ts} fs) names live small =
-        reads_list scope (codes "or") (terms_tokens ts) (OperatorHead Or) (items ts) (SomeOf ts) refl (bools_back fs names live small.1) (built_some n ts small.0 fs)
+        reads_list scope (codes "or") (terms_tokens ts) (OperatorHead Or) (items ts) (SomeOf ts) refl (bools_back fs names live small.1) (λ decimals. built_some n decimals ts small.0 fs)
 
     terms_back : {ts : Terms} → FormedAll n ts → AllAreNames ts → AllUseDeclared scope.symbols ts → AreReadable ts → ReadsAll scope (terms_tokens ts) (items ts)
     terms_back no_terms names live small = reads_none scope

@@ -82,14 +82,15 @@ quotient_of a b =
     or_fault faults.Wide (multiplied a i) >>= λ q.
     Ok (Part q)
 
--- of two literals of sort Real, the second above 0
+-- the second is above 0
 abbrev pub quotient_of_two : Term → Term → Result Term CommandFault
 quotient_of_two (Part a) (Part b) = quotient_of a b
 quotient_of_two t u = Err faults.Sort
 
-abbrev pub quotient : List Term → Result Term CommandFault
-quotient (t ∷ u ∷ []) = quotient_of_two t u
-quotient ts = Err faults.Sort
+-- of two parts, each of them a decimal
+abbrev pub quotient : Bool → List Term → Result Term CommandFault
+quotient true (t ∷ u ∷ []) = quotient_of_two t u
+quotient decimals ts = Err faults.Sort
 
 -- a symbol without arguments stands alone
 abbrev pub application : Declared → List Term → Result Term CommandFault
@@ -98,10 +99,11 @@ application d ts = if_sorted (not (is_empty ts) && have_sorts ts d.takes) (Apply
 abbrev pub constant : Declared → Result Term CommandFault
 constant d = if_sorted (is_empty d.takes) (Constant d.symbol d.gives)
 
-abbrev pub built : Head → List Term → Result Term CommandFault
-built NotHead ts = negation ts
-built IteHead ts = choice ts
-built MinusHead ts = difference ts
-built SlashHead ts = quotient ts
-built (OperatorHead o) ts = operation o ts
-built (SymbolHead d) ts = application d ts
+-- of a head and its parts; whether each part is a decimal matters to a quotient alone
+abbrev pub built : Head → Bool → List Term → Result Term CommandFault
+built NotHead decimals ts = negation ts
+built IteHead decimals ts = choice ts
+built MinusHead decimals ts = difference ts
+built SlashHead decimals ts = quotient decimals ts
+built (OperatorHead o) decimals ts = operation o ts
+built (SymbolHead d) decimals ts = application d ts

@@ -1,5 +1,5 @@
 -- The term that tokens begin with, read from left to right.
-use Rattle.std.specs.Prelude.{ℕ, ◌^◌, pos, List, [], ◌∷◌, ◌++◌, Option, Some, None, Ok, Err}
+use Rattle.std.specs.Prelude.{ℕ, ◌^◌, pos, Bool, true, false, ◌&&◌, List, [], ◌∷◌, ◌++◌, Option, Some, None, Ok, Err}
 use Rattle.std.specs.declared.result.Result.{Result}
 use Rattle.vx_sexp.specs.declared.token.Kind.{Kind}
 use Rattle.vx_sexp.specs.declared.token.Kind.TheVariants as kinds
@@ -43,32 +43,38 @@ leaf scope kinds.Decimal x = part x
 leaf scope kinds.Symbol x = alone scope x (term_word x)
 leaf scope kind x = Err faults.Name
 
+abbrev pub is_decimal : Kind → Bool
+is_decimal kinds.Decimal = true
+is_decimal kind = false
+
 -- ---- lists
 
--- a list that isn't closed yet, with its parts so far
+-- a list that isn't closed yet, with its parts so far, and whether each of them is a decimal
 pub record Frame : Type 0 where
   pub head : Head
   pub parts : List Term
+  pub decimals : Bool
 
 abbrev pub opened : Head → Frame
-opened h = record { head = h; parts = [] }
+opened h = record { head = h; parts = []; decimals = true }
 
-abbrev pub with_part : Frame → Term → Frame
-with_part f t = record { head = f.head; parts = f.parts ++ t ∷ [] }
+abbrev pub with_part : Frame → Bool → Term → Frame
+with_part f decimal t = record { head = f.head; parts = f.parts ++ t ∷ []; decimals = f.decimals && decimal }
 
 -- a term that is the whole, or one within lists, of which the innermost stands first
 pub data Placed : Type 0 where
   Whole : Term → Placed
   Within : List Frame → Placed
 
-abbrev pub placed : Term → List Frame → Placed
-placed t [] = Whole t
-placed t (f ∷ fs) = Within (with_part f t ∷ fs)
+-- whether the term is a decimal matters within a list alone
+abbrev pub placed : Bool → Term → List Frame → Placed
+placed decimal t [] = Whole t
+placed decimal t (f ∷ fs) = Within (with_part f decimal t ∷ fs)
 
 -- where no list is open, a parenthesis that closes one stands in a term's place
 abbrev pub closed : List Frame → Result Placed CommandFault
 closed [] = Err faults.Sort
-closed (f ∷ fs) = built f.head f.parts >>= λ t. Ok (placed t fs)
+closed (f ∷ fs) = built f.head f.decimals f.parts >>= λ t. Ok (placed false t fs)
 
 abbrev pub go_on : Placed → List Token → (List Frame → Result (Term × List Token) CommandFault) → Result (Term × List Token) CommandFault
 go_on (Whole t) ts go = Ok (t, ts)
@@ -80,4 +86,4 @@ term_from scope fs [] = Err faults.Sort
 term_from scope fs (Open ∷ []) = Err faults.Sort
 term_from scope fs (Open ∷ t ∷ ts) = head_at scope t >>= λ h. term_from scope (opened h ∷ fs) ts
 term_from scope fs (Close ∷ ts) = closed fs >>= λ p. go_on p ts (λ gs. term_from scope gs ts)
-term_from scope fs (Atom kind x ∷ ts) = leaf scope kind x >>= λ t. go_on (placed t fs) ts (λ gs. term_from scope gs ts)
+term_from scope fs (Atom kind x ∷ ts) = leaf scope kind x >>= λ t. go_on (placed (is_decimal kind) t fs) ts (λ gs. term_from scope gs ts)

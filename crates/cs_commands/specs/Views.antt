@@ -30,7 +30,7 @@ head (heads'.Operator o) = OperatorHead (operator o)
 head (heads'.Symbol d) = SymbolHead (declared_symbol d.now)
 
 abbrev pub frame : Frame' → Frame
-frame f = record { head = head f.head; parts = map (λ t. term t.value) f.parts.items }
+frame f = record { head = head f.head; parts = map (λ t. term t.value) f.parts.items; decimals = f.decimals }
 
 -- the last list opened is the innermost
 abbrev pub stack : List Frame' → List Frame

@@ -260,7 +260,7 @@ fn quotient_of(alloc: Global, a: Frac, b: Frac) -> Result<Rc<Term>, CommandFault
     }
 }
 
-/// The quotient of two literals of sort Real.
+/// The quotient of two decimals, the second above 0.
 fn quotient_of_two(alloc: Global, t: &Term, u: &Term) -> Result<Rc<Term>, CommandFault>
     ensures { Gives (λ t. term t.value) result (clean.quotient_of_two (term t.now) (term u.now)) }
 {
@@ -270,9 +270,13 @@ fn quotient_of_two(alloc: Global, t: &Term, u: &Term) -> Result<Rc<Term>, Comman
     }
 }
 
-fn quotient(alloc: Global, parts: &[Rc<Term>]) -> Result<Rc<Term>, CommandFault>
-    ensures { Gives (λ t. term t.value) result (clean.quotient (map (λ x. term x.value) parts.now)) }
+/// Of two parts, each of them a decimal.
+fn quotient(alloc: Global, decimals: bool, parts: &[Rc<Term>]) -> Result<Rc<Term>, CommandFault>
+    ensures { Gives (λ t. term t.value) result (clean.quotient decimals (map (λ x. term x.value) parts.now)) }
 {
+    if !decimals {
+        return Err(CommandFault::Sort);
+    }
     match parts {
         [t, u] => quotient_of_two(alloc, t, u),
         _ => Err(CommandFault::Sort),
@@ -320,15 +324,20 @@ pub fn asserted(t: Rc<Term>) -> Result<Rc<Term>, CommandFault>
     }
 }
 
-/// The term that a head and its parts make.
-pub fn built(alloc: Global, of: Head<'_>, parts: &[Rc<Term>]) -> Result<Rc<Term>, CommandFault>
-    ensures { Gives (λ t. term t.value) result (clean.built (head of.entry) (map (λ x. term x.value) parts.now)) }
+/// The term that a head and its parts make. Whether each part is a decimal matters to a quotient alone.
+pub fn built(
+    alloc: Global,
+    of: Head<'_>,
+    decimals: bool,
+    parts: &[Rc<Term>],
+) -> Result<Rc<Term>, CommandFault>
+    ensures { Gives (λ t. term t.value) result (clean.built (head of.entry) decimals (map (λ x. term x.value) parts.now)) }
 {
     match of {
         Head::Not => negation(alloc, parts),
         Head::Ite => choice(alloc, parts),
         Head::Minus => difference(alloc, parts),
-        Head::Slash => quotient(alloc, parts),
+        Head::Slash => quotient(alloc, decimals, parts),
         Head::Operator(of) => operation(alloc, of, parts),
         Head::Symbol(by) => application(alloc, by, parts),
     }

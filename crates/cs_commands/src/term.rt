@@ -25,6 +25,8 @@ use vx_terms::Term;
 pub struct Frame<'d> {
     pub head: Head<'d>,
     pub parts: Vec<Rc<Term>>,
+    /// Whether each part is a decimal.
+    pub decimals: bool,
 }
 
 /// What a token leads to: the whole term and what follows it, or further tokens within the open lists.
@@ -113,18 +115,35 @@ fn leaf(
     }
 }
 
+fn is_decimal(kind: Kind) -> bool
+    ensures { result ≡ clean.is_decimal kind }
+{
+    match kind {
+        Kind::Decimal => true,
+        Kind::Numeral
+        | Kind::Hexadecimal
+        | Kind::Binary
+        | Kind::Symbol
+        | Kind::Keyword
+        | Kind::Quoted
+        | Kind::Text => false,
+    }
+}
+
 /// Puts a term where it belongs: it is the whole, or the next part of the innermost open list.
 fn place<'d, 't>(
     frames: &mut Vec<Frame<'d>>,
+    decimal: bool,
     t: Rc<Term>,
     rest: &'t [Token],
 ) -> Result<Step<'t>, CommandFault>
-    ensures placed { PlaceGives result (stack frames.new.items) rest.now (clean.placed (term t.value) (stack frames.old.items)) }
+    ensures placed { PlaceGives result (stack frames.new.items) rest.now (clean.placed decimal (term t.value) (stack frames.old.items)) }
 {
     match take_frame(frames) {
         None => Ok(Step::Whole(t, rest)),
         Some(mut frame) => {
             frame.parts.push(t)?;
+            frame.decimals = frame.decimals && decimal;
             put_frame(frames, frame)?;
             Ok(Step::On(rest))
         }
@@ -136,7 +155,14 @@ fn begin<'d>(alloc: Global, frames: &mut Vec<Frame<'d>>, of: Head<'d>) -> Result
     ensures { OnOk result (stack frames.new.items ≡ clean.opened (head of.entry) ∷ stack frames.old.items) }
 {
     let parts = Vec::new(alloc);
-    put_frame(frames, Frame { head: of, parts })
+    put_frame(
+        frames,
+        Frame {
+            head: of,
+            parts,
+            decimals: true,
+        },
+    )
 }
 
 /// A list begins.
@@ -172,8 +198,8 @@ fn close<'d, 't>(
     match take_frame(frames) {
         None => Err(CommandFault::Sort),
         Some(frame) => {
-            let t = built(alloc, frame.head, &frame.parts)?;
-            place(frames, t, rest)
+            let t = built(alloc, frame.head, frame.decimals, &frame.parts)?;
+            place(frames, false, t, rest)
         }
     }
 }
@@ -194,7 +220,7 @@ fn go_on<'d, 't>(
         Some((Token::Close, rest)) => close(alloc, live, frames, rest),
         Some((Token::Atom(kind, name), rest)) => {
             let t = leaf(alloc, live, *kind, name.as_slice(), &tokens[..1])?;
-            place(frames, t, rest)
+            place(frames, is_decimal(*kind), t, rest)
         }
     }
 }

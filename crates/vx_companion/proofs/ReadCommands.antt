@@ -77,7 +77,7 @@ asserted_by : (scope : Scope) (t : Term) (c : Command) → ReadsLike scope (term
 asserted_by scope t c (inl missed) e =
     let fails = missed [] (Close ∷ []) in absurd (never_ok (reading.understood scope (command_tokens (Assert t))) fails.0 c (ap (λ o. o >>= with_term) fails.1) e)
 asserted_by scope t c (inr h) e =
-    (h.0, asserted_if (is_bool h.0) h.0 c (sym (ap (λ o. o >>= with_term) (h.1 [] (Close ∷ []))) ∙ e), h.2)
+    (h.0, asserted_if (is_bool h.0) h.0 c (sym (ap (λ o. o >>= with_term) (h.1.1 [] (Close ∷ []))) ∙ e), h.2)
 
 -- ---- any command
 

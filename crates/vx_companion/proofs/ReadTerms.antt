@@ -1,5 +1,5 @@
 -- What is written for a well-sorted term over declared symbols is read as one that says the same, or refused.
-use Rattle.std.proofs.Common.{◌≡◌, inl, inr, ◌⊎◌, ℕ, zero, suc, ◌<◌, ◌+◌, ◌^◌, not, ◌&&◌, true, false, List, [], ◌∷◌, ◌++◌, map, Option, Some, None, Result, Ok, Err, refl, ap, ◌∙◌, sym, subst, append_assoc, append-nil, codes, arith, pos, negsuc, ℤ}
+use Rattle.std.proofs.Common.{◌≡◌, inl, inr, ◌⊎◌, ℕ, zero, suc, ◌<◌, ◌+◌, ◌^◌, not, ◌&&◌, Bool, true, false, List, [], ◌∷◌, ◌++◌, map, Option, Some, None, Result, Ok, Err, refl, ap, ◌∙◌, sym, subst, append_assoc, append-nil, codes, arith, pos, negsuc, ℤ}
 use Rattle.std.specs.Prelude.{nat_abs}
 use Rattle.vx_sexp.specs.declared.token.Kind.{Kind}
 use Rattle.vx_sexp.specs.declared.token.Kind.TheVariants as kinds
@@ -25,13 +25,13 @@ use Rattle.cs_commands.specs.Names.{number_below}
 use Rattle.cs_commands.specs.Live.{Scope, declared_as, declaration as declaration_of}
 use Rattle.cs_commands.specs.Heads.{Head, NotHead, IteHead, MinusHead, SlashHead, OperatorHead, SymbolHead, head_at, head_of, symbol_head}
 use Rattle.cs_commands.specs.Building.{have_sorts, built}
-use Rattle.cs_commands.specs.Terms.{leaf, alone, if_declared, Frame, opened, with_part, Placed, placed, go_on, term_from}
+use Rattle.cs_commands.specs.Terms.{leaf, alone, if_declared, is_decimal, Frame, opened, with_part, Placed, placed, go_on, term_from}
 use Rattle.cs_commands.specs.Laws.{AreApart}
 use Rattle.cs_commands.proofs.Numerals.{number_back}
 use Rattle.cs_commands.proofs.Spellings.{symbol_text, symbol_is_name}
 use Rattle.cs_commands.proofs.Declarations.{declared_found}
 use Rattle.cs_commands.proofs.Literals.{same_numeral, reads_number, reads_part}
-use Rattle.cs_commands.proofs.Placing.{Reads, ReadsAll, reads_atom, reads_none, reads_more, reads_list}
+use Rattle.cs_commands.proofs.Placing.{Reads, ReadsAll, list_as, reads_atom, reads_none, reads_more}
 use Rattle.cs_commands.proofs.WrittenTerms.{head_for, operator_before, built_two}
 use Rattle.vx_companion.proofs.Originals.{read_as, small_or_wide}
 use Rattle.vx_companion.proofs.Likes.{IsLike, AreLike, BuildsLike, like_truth, like_constant, like_application, if_like, builds_not, builds_choice, builds_two, builds_all, builds_some}
@@ -57,7 +57,7 @@ ReadsAllLike scope tokens ts = RefusesAll scope tokens ⊎ ((us : List Term) × 
 
 module _ (scope : Scope) where
   refused_atom : (k : Kind) (x : List ℕ) (e : CommandFault) → leaf scope k x ≡ Err e → Refuses scope (Atom k x ∷ [])
-  refused_atom k x e is fs rest = (e, ap (λ o. o >>= (λ t. go_on (placed t fs) rest (λ gs. term_from scope gs rest))) is)
+  refused_atom k x e is fs rest = (e, ap (λ o. o >>= (λ t. go_on (placed (is_decimal k) t fs) rest (λ gs. term_from scope gs rest))) is)
 
   like_atom : (k : Kind) (x : List ℕ) (t : Term) (r : Result Term CommandFault) → leaf scope k x ≡ r → BuildsLike r t → ReadsLike scope (Atom k x ∷ []) t
   like_atom k x t (Ok u) is h = inr (u, reads_atom scope k x u is, h)
@@ -78,8 +78,8 @@ module _ (scope : Scope) where
 
   later_refused : (a b : List Token) (u : Term) → Reads scope a u → RefusesAll scope b → RefusesAll scope (a ++ b)
   later_refused a b u reads missed f fs rest =
-      let fails = missed (with_part f u) fs rest in
-      (fails.0, ap (term_from scope (f ∷ fs)) (append_assoc a b rest) ∙ reads (f ∷ fs) (b ++ rest) ∙ fails.1)
+      let fails = missed (with_part f reads.0 u) fs rest in
+      (fails.0, ap (term_from scope (f ∷ fs)) (append_assoc a b rest) ∙ reads.1 (f ∷ fs) (b ++ rest) ∙ fails.1)
 
   all_more : (a b : List Token) (t : Term) (ts : Terms) → ReadsLike scope a t → ReadsAllLike scope b ts → ReadsAllLike scope (a ++ b) (MoreTerms t ts)
   all_more a b t ts (inl missed) g = inl (first_refused a b missed)
@@ -109,31 +109,31 @@ module _ (scope : Scope) where
             ∙ ap (term_from scope (opened h ∷ fs)) (append_assoc a (Close ∷ []) rest) ∙ fails.1,
       )
 
-  built_refused : (w : List ℕ) (a : List Token) (h : Head) (us : List Term) (e : CommandFault) → head_at scope (word w) ≡ Ok h → ReadsAll scope a us → built h us ≡ Err e
+  built_refused : (w : List ℕ) (a : List Token) (h : Head) (us : List Term) (e : CommandFault) → head_at scope (word w) ≡ Ok h → (reads : ReadsAll scope a us) → built h reads.0 us ≡ Err e
       → Refuses scope (written.listed (word w ∷ a))
   built_refused w a h us e is reads none fs rest = (
     e,
     ap (λ o. o >>= (λ g. term_from scope (opened g ∷ fs) ((a ++ Close ∷ []) ++ rest))) is
         ∙ ap (term_from scope (opened h ∷ fs)) (append_assoc a (Close ∷ []) rest)
-        ∙ reads (opened h) fs (Close ∷ rest)
+        ∙ reads.1 (opened h) fs (Close ∷ rest)
         ∙ ap (λ o. (o >>= placing fs) >>= after rest) none,
   )
     where
       placing : List Frame → Term → Result Placed CommandFault
-      placing gs u = Ok (placed u gs)
+      placing gs u = Ok (placed false u gs)
 
       after : List Token → Placed → Result (Term × List Token) CommandFault
       after behind p = go_on p behind (λ gs. term_from scope gs behind)
 
-  list_by : (w : List ℕ) (a : List Token) (h : Head) (us : List Term) (t : Term) (r : Result Term CommandFault) → head_at scope (word w) ≡ Ok h → ReadsAll scope a us
-      → built h us ≡ r → BuildsLike r t → ReadsLike scope (written.listed (word w ∷ a)) t
-  list_by w a h us t (Ok u) is reads made like = inr (u, reads_list scope w a h us u is reads made, like)
+  list_by : (w : List ℕ) (a : List Token) (h : Head) (us : List Term) (t : Term) (r : Result Term CommandFault) → head_at scope (word w) ≡ Ok h → (reads : ReadsAll scope a us)
+      → built h reads.0 us ≡ r → BuildsLike r t → ReadsLike scope (written.listed (word w ∷ a)) t
+  list_by w a h us t (Ok u) is reads made like = inr (u, (false, list_as scope w a h reads.0 us u is reads.1 made), like)
   list_by w a h us t (Err e) is reads made like = inl (built_refused w a h us e is reads made)
 
   like_list : (w : List ℕ) (a : List Token) (h : Head) (ts : Terms) (t : Term) → head_at scope (word w) ≡ Ok h → ReadsAllLike scope a ts
-      → ((us : List Term) → AreLike us ts → BuildsLike (built h us) t) → ReadsLike scope (written.listed (word w ∷ a)) t
+      → ((decimals : Bool) (us : List Term) → AreLike us ts → BuildsLike (built h decimals us) t) → ReadsLike scope (written.listed (word w ∷ a)) t
   like_list w a h ts t is (inl missed) builds = inl (parts_refused w a h is missed)
-  like_list w a h ts t is (inr g) builds = list_by w a h g.0 t (built h g.0) is g.1 refl (builds g.0 g.2)
+  like_list w a h ts t is (inr g) builds = list_by w a h g.0 t (built h g.1.0 g.0) is g.1 refl (builds g.1.0 g.0 g.2)
 
   -- ---- literals
 
@@ -224,15 +224,15 @@ module _ (scope : Scope) where
       ap (head_of scope (symbol_word f)) (symbol_is_name f name)
       ∙ ap (λ r. r >>= symbol_head) (word_is f (Some d) name h)
 
-  builds_application : (f : Symbol) (a : Sort) (takes : List Sort) (us : List Term) (ts : Terms) → IsName f → AreLike us ts
-      → BuildsLike (built (SymbolHead (declaration (read_as f) takes a)) us) (Apply f a ts)
-  builds_application f a takes us ts name h = if_like (not (is_empty us) && have_sorts us takes) (Apply (read_as f) a (listed us)) (Apply f a ts) (like_application f a us ts name h)
+  builds_application : (f : Symbol) (a : Sort) (takes : List Sort) (decimals : Bool) (us : List Term) (ts : Terms) → IsName f → AreLike us ts
+      → BuildsLike (built (SymbolHead (declaration (read_as f) takes a)) decimals us) (Apply f a ts)
+  builds_application f a takes decimals us ts name h = if_like (not (is_empty us) && have_sorts us takes) (Apply (read_as f) a (listed us)) (Apply f a ts) (like_application f a us ts name h)
 
-  builds_operation : (o : Operator) (us : List Term) (t s : Term) → AreLike us (MoreTerms t (MoreTerms s NoTerms)) → BuildsLike (built (head_for o) us) (Binary o t s)
-  builds_operation o [] t s h = absurd h
-  builds_operation o (u ∷ []) t s h = absurd h.1
-  builds_operation o (u ∷ v ∷ []) t s h = subst (λ r. BuildsLike r (Binary o t s)) (sym (built_two o u v)) (builds_two o u v t s h.0 h.1.0)
-  builds_operation o (u ∷ v ∷ w ∷ us) t s h = absurd h.1.1
+  builds_operation : (o : Operator) (decimals : Bool) (us : List Term) (t s : Term) → AreLike us (MoreTerms t (MoreTerms s NoTerms)) → BuildsLike (built (head_for o) decimals us) (Binary o t s)
+  builds_operation o decimals [] t s h = absurd h
+  builds_operation o decimals (u ∷ []) t s h = absurd h.1
+  builds_operation o decimals (u ∷ v ∷ []) t s h = subst (λ r. BuildsLike r (Binary o t s)) (sym (built_two o decimals u v)) (builds_two o u v t s h.0 h.1.0)
+  builds_operation o decimals (u ∷ v ∷ w ∷ us) t s h = absurd h.1.1
 
 -- ---- what is declared, as it is read
 
@@ -261,21 +261,21 @@ module _ (scope : Scope) (ds : List Declared) (are : scope.symbols ≡ map read_
     term_like (applies f a {ts = ts} k fs) names live =
         like_list scope (symbol_word f) (terms_tokens ts) (SymbolHead (declaration (read_as f) (sorts_of ts) a)) ts (Apply f a ts)
         (before_is scope f (declaration (read_as f) (sorts_of ts) a) names.0 (found (declaration f (sorts_of ts) a) live.0))
-        (terms_like fs names.1 live.1) (λ us h. builds_application scope f a (sorts_of ts) us ts names.0 h)
+        (terms_like fs names.1 live.1) (λ decimals us h. builds_application scope f a (sorts_of ts) decimals us ts names.0 h)
     term_like (nots {t = t} f) names live =
-        like_list scope (codes "not") (term_tokens t) NotHead (MoreTerms t NoTerms) (Not t) refl (all_one scope (term_tokens t) t (term_like f names live)) (λ us h. builds_not us t h)
+        like_list scope (codes "not") (term_tokens t) NotHead (MoreTerms t NoTerms) (Not t) refl (all_one scope (term_tokens t) t (term_like f names live)) (λ decimals us h. builds_not us t h)
     term_like (binary {o = o} {t = t} {u = u} {a = a} h f g) names live =
         like_list scope (operator_word o) (term_tokens t ++ term_tokens u) (head_for o) (MoreTerms t (MoreTerms u NoTerms)) (Binary o t u) (operator_before scope o)
         (all_two scope (term_tokens t) (term_tokens u) t u (term_like f names.0 live.0) (term_like g names.1 live.1))
-        (λ us h. builds_operation scope o us t u h)
+        (λ decimals us h. builds_operation scope o decimals us t u h)
     term_like (ites {c = c} {t = t} {u = u} e f g) names live =
         like_list scope (codes "ite") (term_tokens c ++ term_tokens t ++ term_tokens u) IteHead (MoreTerms c (MoreTerms t (MoreTerms u NoTerms))) (Ite c t u) refl
         (all_three scope (term_tokens c) (term_tokens t) (term_tokens u) c t u (term_like e names.0 live.0) (term_like f names.1 live.1) (term_like g names.2 live.2))
-        (λ us h. builds_choice us c t u h)
+        (λ decimals us h. builds_choice us c t u h)
     term_like (all_of {ts = ts} fs) names live =
-        like_list scope (codes "and") (terms_tokens ts) (OperatorHead And) ts (AllOf ts) refl (bools_like fs names live) (λ us h. builds_all us ts h)
+        like_list scope (codes "and") (terms_tokens ts) (OperatorHead And) ts (AllOf ts) refl (bools_like fs names live) (λ decimals us h. builds_all us ts h)
     term_like (some_of {ts = ts} fs) names live =
-        like_list scope (codes "or") (terms_tokens ts) (OperatorHead Or) ts (SomeOf ts) refl (bools_like fs names live) (λ us h. builds_some us ts h)
+        like_list scope (codes "or") (terms_tokens ts) (OperatorHead Or) ts (SomeOf ts) refl (bools_like fs names live) (λ decimals us h. builds_some us ts h)
 
     terms_like : {ts : Terms} → FormedAll n ts → AllAreNames ts → AllUseDeclared ds ts → ReadsAllLike scope (terms_tokens ts) ts
     terms_like no_terms names live = all_none scope
