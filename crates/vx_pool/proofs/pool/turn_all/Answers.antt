@@ -1,4 +1,4 @@
-use Rattle.std.proofs.Common.{◌<◌, ◌≡◌, subst, sym, ap, arith, length, ◌∙◌}
+use Rattle.std.proofs.Common.{◌<◌, ◌≡◌, subst, sym, ap, arith, length, slice_set, ◌∙◌}
 use Rattle.vx_pool.specs.Lanes.{StandsAt}
 use Rattle.vx_pool.specs.Counts.{total}
 use Rattle.vx_pool.proofs.Counting.{total_less}
@@ -33,7 +33,7 @@ returns-in_err-waits-clause-stopped g c =
 pub turns-smaller : goal.turns-smaller
 turns-smaller g c =
     let changed = c.in_ok-waits.ensures.lanes in
-    subst (λ ls. total (λ a. g.W.Worker.left a.0) ls < total (λ a. g.W.Worker.left a.0) c.turns.lanes) (sym changed.0.set)
+    subst (λ ls. total (λ a. g.W.Worker.left a.0) ls < total (λ a. g.W.Worker.left a.0) c.turns.lanes) {x = slice_set c.turns.lanes c.waiting_lane-i.result changed.0.after} (sym changed.0.set)
     (total_less (λ a. g.W.Worker.left a.0) c.turns.lanes c.waiting_lane-i.result changed.0.before changed.0.after changed.0.found changed.1)
 
 pub turns-preserved : goal.turns-preserved
