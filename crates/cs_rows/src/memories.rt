@@ -66,13 +66,25 @@ pub fn put_source(
     Ok(true)
 }
 
-fn put_taken(put: &Result<usize, PutFault>, text: &mut Text) {
-    match put {
+// Says what a sink takes of a piece, and gives how many bytes; with nothing it isn't called.
+fn put_into(sink: &mut MemSink, piece: &[u8], text: &mut Text) -> usize {
+    if piece.is_empty() {
+        text.put("nothing is left");
+        text.break_line();
+        return 0;
+    }
+    match sink.put(piece) {
         Ok(count) => {
-            text.natural(*count as u128);
+            text.natural(count as u128);
             text.put(" taken");
+            text.break_line();
+            count
         }
-        Err(PutFault::Failed) => text.put("a fault"),
+        Err(PutFault::Failed) => {
+            text.put("a fault");
+            text.break_line();
+            0
+        }
     }
 }
 
@@ -85,13 +97,9 @@ pub fn put_sink(alloc: Global, asked: &str, text: &mut Text) -> Result<bool, All
         return Ok(false);
     };
     let mut sink = MemSink::new(alloc, room)?;
-    let first = sink.put(given.as_bytes());
-    let left = given.as_bytes().get(first.unwrap_or(0)..).unwrap_or(&[]);
-    let second = sink.put(left);
-    put_taken(&first, text);
-    text.break_line();
-    put_taken(&second, text);
-    text.break_line();
+    let first = put_into(&mut sink, given.as_bytes(), text);
+    let left = given.as_bytes().get(first..).unwrap_or(&[]);
+    let _second = put_into(&mut sink, left, text);
     put_counted(sink.taken(), text);
     Ok(true)
 }

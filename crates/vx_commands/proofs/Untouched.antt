@@ -3,7 +3,7 @@ use Rattle.std.proofs.Common.{◌≡◌, inl, Bool, true, false, List, ℕ, Opti
 use Rattle.vx_terms.specs.Interpretations.{Each}
 use Rattle.vx_ends.specs.declared.piece.Ending.{Ending}
 use Rattle.vx_words.specs.declared.order.Order.{Order}
-use Rattle.vx_commands.specs.Outside.{Change, Texts, Children, HandsBack, IsUnchanged, StartsOnly, change}
+use Rattle.vx_commands.specs.Outside.{Change, Texts, Children, HandsBack, IsUnchanged, StartsOnly}
 use Rattle.vx_commands.specs.Reported.{is_companion, ByWhom, file_of, solver_of, AsksAtMost, AsksFileOf, StartsAtMost, StartsSolverOf}
 use Rattle.vx_commands.proofs.Companions.{none_since}
 
@@ -15,11 +15,14 @@ asks_nothing order files same = at_most (file_of order)
     at_most (Some file) = inl same
 
 -- what shows the same as before has handed back all
-pub none_out : {S : Type 0} (shows : S → Children) (s : S) → HandsBack (change shows s s)
-none_out shows s = record {
+itself : (s : Children) → HandsBack (record { before = s; after = s })
+itself s = record {
   every_lane = λ lane. refl;
-  calm = λ steady room. record { starts = λ rose. absurd (omega arith); links = λ since is. subst (Each (λ (e : Ending). e.faults ≡ 0)) (sym (none_since (shows s).ended since is)) tt };
+  calm = λ steady room. record { starts = λ rose. absurd (omega arith); links = λ since is. subst (Each (λ (e : Ending). e.faults ≡ 0)) (sym (none_since s.ended since is)) tt };
 }
+
+pub rests_back : (c : Change Children) → IsUnchanged c → HandsBack c
+rests_back c same = subst (λ (s : Children). HandsBack (record { before = c.before; after = s })) (sym same) (itself c.before)
 
 module _ (companion handed : Change Children) (companion_rests : IsUnchanged companion) (handed_rests : IsUnchanged handed) where
   by_either : (b : Bool) (solver : List (List ℕ)) → ByWhom b (StartsOnly solver companion × IsUnchanged handed) (IsUnchanged companion × StartsOnly solver handed)

@@ -90,7 +90,6 @@ fn work_on<K: Sink>(
 }
 
 /// Verifies so many generated methods by the companion, and puts the line of the totals.
-#[tactic(auto, using(crate::proofs::Untouched::none_out))]
 pub fn work<K: Sink>(
     alloc: Global,
     methods: u32,

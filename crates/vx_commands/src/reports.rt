@@ -117,7 +117,6 @@ pub fn report_by_companion<K: Sink>(
 }
 
 /// Verifies a program by the companion, or by the spawner, as the solver says, and puts the report.
-#[tactic(auto, using(crate::proofs::Untouched::none_out))]
 pub fn report_by<K: Sink, W: Spawner>(
     alloc: Global,
     typed: &Typed,

@@ -66,7 +66,6 @@ fn verify_typed<K: Sink, W: Spawner>(
 }
 
 // Verifies the program of a text, if it is typed.
-#[tactic(auto, using(crate::proofs::Untouched::none_out))]
 fn verify_program<K: Sink, W: Spawner>(
     alloc: Global,
     text: &[u8],
@@ -90,7 +89,6 @@ fn verify_program<K: Sink, W: Spawner>(
 }
 
 // Verifies the program of a text, if there is one.
-#[tactic(auto, using(crate::proofs::Untouched::none_out))]
 fn verify_text<K: Sink, W: Spawner>(
     alloc: Global,
     text: &[u8],
@@ -114,7 +112,6 @@ fn verify_text<K: Sink, W: Spawner>(
 }
 
 // Verifies a file, or standard input.
-#[tactic(auto, using(crate::proofs::Untouched::none_out))]
 fn verify_file<F: Files, K: Sink, W: Spawner>(
     alloc: Global,
     file: &Option<Text>,
@@ -171,7 +168,6 @@ fn put_generated<K: Sink>(alloc: Global, methods: u32, out: &mut K) -> Result<En
 }
 
 // Does what is ordered.
-#[tactic(auto, using(crate::proofs::Untouched::none_out))]
 fn obey<F: Files, K: Sink, W: Spawner>(
     alloc: Global,
     order: &Order,
@@ -211,7 +207,6 @@ fn without_memory(alloc: Global) -> Ended
 }
 
 // Does what the words say.
-#[tactic(auto, using(crate::proofs::Untouched::none_out))]
 fn answer<F: Files, K: Sink, W: Spawner>(
     alloc: Global,
     words: &Parts,

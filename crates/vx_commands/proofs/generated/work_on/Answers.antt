@@ -9,6 +9,7 @@ use Rattle.vx_commands.specs.declared.reports.Telling.TheVariants.{Totals}
 use Rattle.vx_commands.specs.Outside.{change, taken, companions}
 use Rattle.vx_commands.specs.Reported.{IsCompanionReport, IsProgramOf}
 use Rattle.vx_commands.proofs.Reserved.{spelled_leave_results}
+use Rattle.vx_commands.proofs.Untouched.{rests_back}
 use Rattle.vx_commands.proofs.generated.work_on.Goals as goal
 
 pub typed_programs_are_whole-requires : goal.typed_programs_are_whole-requires
@@ -33,3 +34,6 @@ returns-clause-report g c =
       whole = c.typed_programs_are_whole.ensures;
     } in
     IfOk-weaker c.report_by_companion.result _ _ (λ ended h. (p, is, subst (λ command. IsCompanionReport Totals p command (change companions c.args.builtin.now c.report_by_companion.new.builtin) (change (taken g.K.Sink.taken g.K.Sink.faults) c.args.out.now c.report_by_companion.new.out) ended) c.in_ok-solver.ensures h)) c.report_by_companion.ensures.report
+
+pub returns-in_err-solver-clause-companion_back : goal.returns-in_err-solver-clause-companion_back
+returns-in_err-solver-clause-companion_back g c = rests_back _ refl
