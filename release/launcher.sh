@@ -1,4 +1,4 @@
-# shellcheck shell=bash disable=SC2154,SC2034
+# shellcheck shell=bash disable=SC2154,SC2034,SC2185
 # Finds a program of this repository: the one in release/ where the manifest there is that of the tree, else one that is proved and built
 # first. Where neither can be had, it ends with status 8 and a line on standard error that says why. Sourced by the launchers and by
 # release/where; needs $top, the folder of the repository, and $name, the program: vsil, vsolve, or another one of crates/.
@@ -36,9 +36,12 @@ choose_folder() {
     built=$build/crates/$name/out/$name
 }
 
-# No file that is released or may be listed has changed since the time of this file, in what it holds or in its times.
-is_unchanged_since() {
-    [ -f "$1" ] && [ -z "$(find "$top"/{HANDLES,crates.txt,release,crates} -name out -prune -o -cnewer "$1" -print -quit 2>&1)" ]
+# All files and folders that are released or may be listed, each ended by a zero byte.
+paths_of_tree() { find "$top"/{HANDLES,crates.txt,release,crates} -name out -prune -o -print0; }
+
+# None of them has changed since the time of $found, in what it holds or in its times. (A file more changes its folder.)
+is_unchanged() {
+    [ -f "$found" ] && [ -f "$found.paths" ] && [ -z "$(find -files0-from "$found.paths" -maxdepth 0 -cnewer "$found" -print -quit 2>&1)" ]
 }
 
 # The shipped program runs on this machine.
@@ -67,8 +70,9 @@ fault_of_shipped() {
 # Finds out why the shipped program can't be run, and keeps it, with the time before the tree was read.
 learn() {
     local mine=$found.$$
-    mkdir -p "$build" && : > "$mine.time" && fault_of_shipped > "$mine" && touch -r "$mine.time" "$mine" && mv "$mine" "$found"
-    rm -f "$mine" "$mine.time"
+    mkdir -p "$build" && : > "$mine.time" && paths_of_tree > "$mine.paths" && fault_of_shipped > "$mine" \
+        && touch -r "$mine.time" "$mine" && mv "$mine.paths" "$found.paths" && mv "$mine" "$found"
+    rm -f "$mine" "$mine.time" "$mine.paths"
 } 2> /dev/null
 
 # The shipped program is the one to run; else $why says why not.
@@ -76,7 +80,7 @@ is_shipped() {
     why="there is no release/$name"
     case $name in vsil | vsolve) ;; *) return 1 ;; esac
     why=
-    if is_unchanged_since "$found" || { learn && is_unchanged_since "$found"; }; then
+    if is_unchanged || { learn && is_unchanged; }; then
         read -r why < "$found"
     else
         why=$(fault_of_shipped)
