@@ -5,27 +5,9 @@ set -u
 here=$(cd "$(dirname "${BASH_SOURCE[0]}")" && pwd) || exit 1
 top=$here/..
 vsil=${VSIL:-$top/vsil}
-good=0
-bad=0
-
-# Compares what came with what is expected; $1 says of what.
-compare() {
-    if [ "$2" = "$3" ]; then
-        echo "$1: as expected"
-        good=$((good + 1))
-    else
-        printf '%s: NOT as expected\n%s\nexpected:\n%s\n' "$1" "$2" "$3"
-        bad=$((bad + 1))
-    fi
-}
-
-# Runs vsil with the arguments after the first three: what is tried, and the status and the text that are expected.
-try() {
-    local what=$1 status=$2 text=$3 got
-    shift 3
-    got=$("$vsil" "$@"; echo "status $?")
-    compare "$what" "$got" "$text"$'\n'"status $status"
-}
+program=$vsil
+# shellcheck source-path=SCRIPTDIR
+. "$here/comparing.sh"
 
 # A file that is refused has status 4; each other example has a member that is not verified.
 try_file() {
@@ -88,5 +70,4 @@ if [ -c /dev/full ]; then
     compare "no room for the report" "status $?" "status 6"
 fi
 compare "a row and an example for each code" "$(missing)" ""
-echo "$good as expected, $bad not"
-[ $bad -eq 0 ]
+tell_count

@@ -4,27 +4,9 @@
 set -u
 here=$(cd "$(dirname "${BASH_SOURCE[0]}")" && pwd) || exit 1
 explain=$here/../explain
-good=0
-bad=0
-
-# Compares what came with what is expected; $1 says of what.
-compare() {
-    if [ "$2" = "$3" ]; then
-        echo "$1: as expected"
-        good=$((good + 1))
-    else
-        printf '%s: NOT as expected\n%s\nexpected:\n%s\n' "$1" "$2" "$3"
-        bad=$((bad + 1))
-    fi
-}
-
-# Runs explain with the arguments after the first three: what is tried, and the status and the text that are expected.
-try() {
-    local what=$1 status=$2 text=$3 got
-    shift 3
-    got=$("$explain" "$@"; echo "status $?")
-    compare "$what" "$got" "${text:+$text$'\n'}status $status"
-}
+program=$explain
+# shellcheck source-path=SCRIPTDIR
+. "$here/comparing.sh"
 
 # What follows from the report of an example, but for the texts: a member that is verified has no line, one that rests has a warning;
 # places, members and codes are those of the report, and the totals stay as they are.
@@ -106,5 +88,4 @@ if command -v script > /dev/null; then
 else
     echo "carets: skipped, since there is no script"
 fi
-echo "$good as expected, $bad not"
-[ $bad -eq 0 ]
+tell_count
