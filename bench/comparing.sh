@@ -8,6 +8,8 @@ answers() { sed -n 's/^ *refuted.*/unsat/; s/^ *model, true/sat/; s/^ *unknown.*
 # compare WHAT SEED COUNT: what the program and z3 answer to so many of the stacks that `stacks` writes, from this seed on
 compare() {
     local what=$1 from=$2 count=$3
+    # one run is clocked: it is the answers that are compared
+    local runs=1
     stacks "$from" "$count" > "$folder/stacks"
     timed_rows "$what from seed $from, stacks" "$count" "$folder/stacks"
     cp "$folder/out" "$folder/said"

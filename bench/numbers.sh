@@ -82,7 +82,7 @@ sums() {
     }'
 }
 
-if has z3; then compare "random stacks with numbers" "${1:-1}" "${2:-2000}"; fi
+if has z3; then compare "random stacks with numbers" "${1:-1}" "${2:-400}"; fi
 for what in differences sums; do
     for more in 0 1; do
         if [ "$more" = 0 ]; then label="$what, satisfiable"; else label="$what, unsatisfiable"; fi
