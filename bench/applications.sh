@@ -47,8 +47,8 @@ asserts() {
     one_method '(n: Int) requires n > 0' 'assert f(n) > 0' "$1" 'a := 0'
 }
 
-measure methods "methods that apply one function" 100 400 1600
-measure applications "applications in one method, each of another snapshot" 100 400 1600
-measure lengths "applications of the length of one list" 100 400 1600
-measure lists "lists in a row, each with its length" 100 400 1600
-measure asserts "asserts of an application" 100 400 1600
+measure verify methods "methods that apply one function" 100 400 1600
+measure verify applications "applications in one method, each of another snapshot" 100 400 1600
+measure verify lengths "applications of the length of one list" 100 400 1600
+measure verify lists "lists in a row, each with its length" 100 400 1600
+measure verify asserts "asserts of an application" 100 400 1600

@@ -22,5 +22,5 @@ callers() {
     done
 }
 
-measure calls "calls in one method" 100 400 1600
-measure callers "methods with one call each" 100 400 1600
+measure verify calls "calls in one method" 100 400 1600
+measure verify callers "methods with one call each" 100 400 1600

@@ -25,6 +25,6 @@ loops() {
     echo "}"
 }
 
-measure fields "fields of one receiver, each read" 100 400 1600 6400
-measure puts "parts of one location, added one by one" 100 400 1600
-measure loops "loops in one method" 100 400 1600
+measure verify fields "fields of one receiver, each read" 100 400 1600 6400
+measure verify puts "parts of one location, added one by one" 100 400 1600
+measure verify loops "loops in one method" 100 400 1600

@@ -33,6 +33,6 @@ instances() {
     echo "inhale P(x) unfold P(x) x.f := 1 fold P(x) }"
 }
 
-measure pairs "pairs of unfold and fold in one method" 100 400 1600
-measure folders "methods with one such pair each" 100 400 1600
-measure instances "instances held, the last one unfolded" 100 400 1600 6400
+measure verify pairs "pairs of unfold and fold in one method" 100 400 1600
+measure verify folders "methods with one such pair each" 100 400 1600
+measure verify instances "instances held, the last one unfolded" 100 400 1600 6400

@@ -5,14 +5,6 @@ set -eu
 . "$(dirname "${BASH_SOURCE[0]}")/timing.sh"
 vsil=$(where_vsil)
 
-methods() {
-    awk -v count="$1" 'BEGIN {
-        for (i = 0; i < count; i++) {
-            print "method m" i "(a: Bool, x: Int) returns (y: Int) requires a && x == " i " ensures a { var z: Int := x + " i " if (a) { y := z } else { y := x } assert a }"
-        }
-    }'
-}
-
 # Each applies the next one, and the last none.
 chain() {
     awk -v count="$1" 'BEGIN {
@@ -28,22 +20,7 @@ circle() {
 
 fields() { awk -v count="$1" 'BEGIN { for (i = 0; i < count; i++) print "field f" i ": Int" }'; }
 
-# checked WHAT WRITER SIZE..: times `check` on the files that WRITER writes
-checked() {
-    local what=$1 writer=$2 count
-    shift 2
-    for count in "$@"; do
-        "$writer" "$count" > "$folder/file.vpr"
-        timed "check, $what" "$count" "$folder/file.vpr" "$vsil" check
-    done
-}
-
-for command in verify check; do
-    for count in 100 400 1600; do
-        methods "$count" > "$folder/file.vpr"
-        timed "$command, methods" "$count" "$folder/file.vpr" "$vsil" "$command"
-    done
-done
-checked "functions in a chain" chain 1000 4000 16000 64000
-checked "functions in a circle" circle 1000 4000 16000 64000
-checked "fields" fields 65536
+for command in verify check; do measure "$command" two_question_methods methods 100 400 1600; done
+measure check chain "functions in a chain" 1000 4000 16000 64000
+measure check circle "functions in a circle" 1000 4000 16000 64000
+measure check fields fields 65536

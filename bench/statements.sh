@@ -30,9 +30,9 @@ paths() {
     echo "}"
 }
 
-measure assignments "assignments in one method" 100 400 1600 6400
-measure asserts "asserts in one method" 100 400 1600
-measure paths "branches in one method, n for 2^n paths" 4 8 12
+measure verify assignments "assignments in one method" 100 400 1600 6400
+measure verify asserts "asserts in one method" 100 400 1600
+measure verify paths "branches in one method, n for 2^n paths" 4 8 12
 for count in 50 100 200; do
     sums "$count" > "$folder/file.vpr"
     timed "verify, asserts of sums in one method" "$count" "$folder/file.vpr" "$vsil" verify

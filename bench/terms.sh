@@ -19,6 +19,6 @@ puts() { changes inhale "$1" ""; }
 
 takes() { changes exhale "$1" ""; }
 
-measure sums "unknown parts of one location, added one by one" 10 20 40
-measure puts "additions of unknown parts behind a precondition that fails" 60000
-measure takes "takes of unknown parts behind a precondition that fails" 20000
+measure verify sums "unknown parts of one location, added one by one" 10 20 40
+measure verify puts "additions of unknown parts behind a precondition that fails" 60000
+measure verify takes "takes of unknown parts behind a precondition that fails" 20000

@@ -73,16 +73,25 @@ timed_rows() {
     timed "$1" "$2" "$folder/rows" "$rows"
 }
 
-# measure WRITER WHAT SIZE..: times `vsil verify`, the program at $vsil, on the files that WRITER writes, by their size
+# measure COMMAND WRITER WHAT SIZE..: times this command of `vsil`, the program at $vsil, on the files that WRITER writes, by their size
 measure() {
-    local writer=$1 what=$2 count
-    shift 2
+    local command=$1 writer=$2 what=$3 count
+    shift 3
     for count in "$@"; do
         "$writer" "$count" > "$folder/file.vpr"
         # (the scripts that call this set it)
         # shellcheck disable=SC2154
-        timed "verify, $what" "$count" "$folder/file.vpr" "$vsil" verify
+        timed "$command, $what" "$count" "$folder/file.vpr" "$vsil" "$command"
     done
+}
+
+# two_question_methods COUNT: writes so many methods over Bool and Int variables, which ask two questions each
+two_question_methods() {
+    awk -v count="$1" 'BEGIN {
+        for (i = 0; i < count; i++) {
+            print "method m" i "(a: Bool, x: Int) returns (y: Int) requires a && x == " i " ensures a { var z: Int := x + " i " if (a) { y := z } else { y := x } assert a }"
+        }
+    }'
 }
 
 # Whether there is such a command.

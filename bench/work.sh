@@ -7,15 +7,6 @@ set -eu
 vsil=$(where_vsil)
 vsolve=$(where_vsolve)
 
-# Each asks two questions.
-methods() {
-    awk -v count="$1" 'BEGIN {
-        for (i = 0; i < count; i++) {
-            print "method m" i "(a: Bool, x: Int) returns (y: Int) requires a && x == " i " ensures a { var z: Int := x + " i " if (a) { y := z } else { y := x } assert a }"
-        }
-    }'
-}
-
 # turn HOW WHAT COMMAND..: warms or clocks the command and the others, one after the other
 turn() {
     local how=$1 what=$2
@@ -51,5 +42,5 @@ for count in 10 100 500 2000; do
     "$vsil" gen "$count" > "$folder/file.vpr"
     compare "generated methods" "$count" work "$count"
 done
-methods 6400 > "$folder/file.vpr"
+two_question_methods 6400 > "$folder/file.vpr"
 compare "methods of two questions" 6400 verify
