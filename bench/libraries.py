@@ -8,6 +8,7 @@ SOURCE is linked into CLONE. A SOURCE is a clone in which `rt ci` ran. The gate 
 It uses the module `rtlib` beside the command `rt` of rattle-kit-13f.
 """
 
+import functools
 import os
 import shutil
 import subprocess
@@ -27,9 +28,11 @@ def toolchain():
 
 
 def crate_type(module):
-    """The class of a crate: the one that builds libraries and sums up what they are made of."""
+    """The class of a crate: the one that builds libraries and sums up what they are made of, each but once: a crate asks all below it."""
     kinds = (it for it in vars(module).values() if isinstance(it, type))
-    return next(it for it in kinds if hasattr(it, "build_rlib") and hasattr(it, "stamp"))
+    kind = next(it for it in kinds if hasattr(it, "build_rlib") and hasattr(it, "stamp"))
+    kind.stamp = functools.cache(kind.stamp)
+    return kind
 
 
 def crates_of(kind, clone):

@@ -44,7 +44,7 @@ fn put_turn(alloc: Global, dialogue: &mut Dialogue<ScriptLink>, turn: &Turn, tex
             Ok(reply) => text.put(reply_word(reply)),
             Err(talk) => put_talk(&talk, text),
         },
-        Turn::Leave => match dialogue.leave(alloc) {
+        Turn::Leave => match dialogue.leave() {
             Ok(()) => text.put("left"),
             Err(talk) => put_talk(&talk, text),
         },

@@ -4,6 +4,7 @@ use crate::reading::term_of;
 use std::alloc::{AllocError, Global};
 use std::rc::Rc;
 use vx_ends::{Bytes, Script};
+use vx_segments::Entry;
 use vx_smt_meaning::Declared;
 use vx_terms::Term;
 
@@ -17,7 +18,7 @@ pub enum Call {
 /// A turn of a dialogue: a question, with its path and its condition, or the end of a member.
 #[derive(Drop)]
 pub enum Turn {
-    Ask(Vec<Rc<Term>>, Rc<Term>),
+    Ask(Vec<Entry>, Rc<Term>),
     Leave,
 }
 
@@ -36,8 +37,9 @@ pub struct Outside {
     pub fails: Vec<u64>,
     pub calls: Vec<Call>,
     pub turns: Vec<Turn>,
-    /// The path of the next question.
-    pub path: Vec<Rc<Term>>,
+    /// The path of the next question, and the segment in which its next term stands.
+    pub path: Vec<Entry>,
+    pub segment: u64,
     pub texts: Vec<Named>,
 }
 
@@ -54,6 +56,7 @@ impl Outside {
             calls: Vec::new(alloc),
             turns: Vec::new(alloc),
             path: Vec::new(alloc),
+            segment: 0,
             texts: Vec::new(alloc),
         }
     }
@@ -122,16 +125,31 @@ impl Outside {
         let Some(term) = term_of(alloc, known, rest)? else {
             return Ok(false);
         };
-        self.path.push(term)?;
+        self.path.push(Entry {
+            segment: self.segment,
+            term,
+        })?;
         Ok(true)
     }
 
-    // A question with the path so far.
+    // The segment of the terms that follow; false: it is no number.
+    fn open(&mut self, rest: &str) -> bool {
+        match rest.parse() {
+            Ok(number) => {
+                self.segment = number;
+                true
+            }
+            Err(_) => false,
+        }
+    }
+
+    // A question with the path so far; the next one's path begins in the first segment.
     fn ask(&mut self, alloc: Global, known: &[Declared], rest: &str) -> Result<bool, AllocError> {
         let Some(term) = term_of(alloc, known, rest)? else {
             return Ok(false);
         };
         let path = std::mem::replace(&mut self.path, Vec::new(alloc));
+        self.segment = 0;
         self.turns.push(Turn::Ask(path, term))?;
         Ok(true)
     }
@@ -184,6 +202,7 @@ impl Outside {
     ) -> Result<bool, AllocError> {
         match word {
             "path" => self.follow(alloc, known, rest),
+            "segment" => Ok(self.open(rest)),
             "ask" => self.ask(alloc, known, rest),
             "leave" => {
                 self.turns.push(Turn::Leave)?;

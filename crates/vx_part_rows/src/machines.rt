@@ -49,9 +49,9 @@ fn put_asserted(alloc: Global, term: Rc<Term>, out: &mut Text) {
 
 // The path of a question as it is asserted, and its condition.
 fn put_question(alloc: Global, query: &Query, out: &mut Text) -> Result<(), AllocError> {
-    for term in query.path.terms(alloc)? {
+    for entry in query.path.entries(alloc)? {
         out.put("    ");
-        put_asserted(alloc, term, out);
+        put_asserted(alloc, entry.term, out);
     }
     out.put("    follows: ");
     put_asserted(alloc, query.condition.clone()?, out);

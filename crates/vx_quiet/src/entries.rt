@@ -30,16 +30,16 @@ pub(crate) fn newest(alloc: Global, path: &Path, count: usize) -> Result<Vec<Ent
     'entries: while left > 0 {
         match rest {
             Path::Empty => break 'entries,
-            Path::Branch(before, term) => {
+            Path::Branch(before, entry) => {
                 taken.push(Entry {
-                    term: term.clone()?,
+                    term: entry.term.clone()?,
                     is_branch: true,
                 })?;
                 rest = before;
             }
-            Path::Fact(before, term) => {
+            Path::Fact(before, entry) => {
                 taken.push(Entry {
-                    term: term.clone()?,
+                    term: entry.term.clone()?,
                     is_branch: false,
                 })?;
                 rest = before;

@@ -34,23 +34,40 @@ fn solver(alloc: Global, row: &Row) -> Result<ScriptSpawner, AllocError> {
     Ok(ScriptSpawner::new(alloc, scripts, Vec::new(alloc)))
 }
 
-// How many checks are in the bytes that were sent.
-fn checks_in(alloc: Global, ending: &Ending) -> Result<usize, AllocError> {
-    let mut checks = 0usize;
+// All that a child was sent.
+fn sent_in(alloc: Global, ending: &Ending) -> Result<Vec<u8>, AllocError> {
+    let mut sent = Vec::new(alloc);
     for piece in &ending.dialogue.pieces(alloc)? {
         if let Piece::Sent(bytes) = piece {
-            for window in bytes.as_slice().windows(11) {
-                checks = checks.saturating_add(usize::from(window == b"(check-sat)".as_slice()));
-            }
+            sent.extend_from_slice(bytes.as_slice())?;
         }
     }
-    Ok(checks)
+    Ok(sent)
+}
+
+// How many checks are in the bytes that were sent.
+fn checks_in(sent: &[u8]) -> usize {
+    let mut checks = 0usize;
+    for window in sent.windows(11) {
+        checks = checks.saturating_add(usize::from(window == b"(check-sat)".as_slice()));
+    }
+    checks
+}
+
+// What stands behind the preamble: it begins with the first level that is opened.
+fn behind_preamble(sent: &[u8]) -> &[u8] {
+    for at in 0..sent.len() {
+        if sent[at..].starts_with(b"(push 1)") {
+            return &sent[at..];
+        }
+    }
+    &[]
 }
 
 // How often each child was asked.
 fn put_children(alloc: Global, ended: &[Ending], out: &mut Text) -> Result<(), AllocError> {
     for ending in ended {
-        let checks = checks_in(alloc, ending)?;
+        let checks = checks_in(&sent_in(alloc, ending)?);
         out.put("  a child was asked ");
         out.natural(checks as u128);
         out.put(" times\n");
@@ -101,6 +118,17 @@ fn put_run(rt: &HostRuntime, alloc: Global, row: &Row, out: &mut Text) -> Result
     }
 }
 
+// What each child is sent behind the preamble.
+fn put_sent(alloc: Global, row: &Row, out: &mut Text) -> Result<(), AllocError> {
+    let mut spawner = solver(alloc, row)?;
+    let mut unread = Text::new(alloc);
+    put_run_by(alloc, row, &mut spawner, &mut unread)?;
+    for ending in spawner.ended() {
+        out.put_indented(behind_preamble(&sent_in(alloc, ending)?));
+    }
+    Ok(())
+}
+
 // How many questions the members of the program have, of which each is asked of the companion.
 fn put_checks(alloc: Global, row: &Row, out: &mut Text) -> Result<(), AllocError> {
     let words = row.command(alloc)?;
@@ -141,6 +169,7 @@ pub fn answer(
     match row.asks {
         Asks::Run => put_run(rt, alloc, row, out),
         Asks::Checks => put_checks(alloc, row, out),
+        Asks::Sent => put_sent(alloc, row, out),
         Asks::File => put_file(rt, alloc, row, out),
         Asks::Child => put_child_answer(alloc, &mut ChildSpawner::new(alloc, rt), row, out),
         Asks::Companion => put_companion_answer(alloc, row, out),

@@ -26,10 +26,11 @@ use vx_rules::Code;
 use vx_states::SymState;
 use vx_terms::{Term, make};
 
-/// The sides that are still to be walked, the next one last.
+/// The sides that are still to be walked, the next one last; and how many segments were opened, one for each side of a fork.
 #[derive(Drop)]
 pub struct Conts {
     pub sides: Vec<Side>,
+    pub opened: u64,
 }
 
 /// The value and the state that an evaluation leaves on a side.
@@ -90,18 +91,31 @@ fn passes(condition: &Term, state: &SymState) -> bool
     condition.is_same(&Term::Truth(true)) || state.is_quiet()
 }
 
-/// A state once more for each side of a fork: where the condition holds, and where its negation does.
+/// The numbers of two segments that are opened now, of which so many were opened before. Where there are no more, memory runs out.
+fn next_segments(opened: &mut u64) -> Result<(u64, u64), AllocError> {
+    let first = *opened;
+    if first >= u64::MAX - 1 {
+        return Err(AllocError);
+    }
+    *opened = first + 2;
+    Ok((first + 1, first + 2))
+}
+
+/// A state once more for each side of a fork, in these segments: where the condition holds, and where its negation does.
 fn branches(
     alloc: Global,
     condition: Rc<Term>,
     negated: Rc<Term>,
     state: SymState,
+    segments: (u64, u64),
 ) -> Result<(SymState, SymState), AllocError>
     ensures first { IfOk result (λ x. state_of x.0 ≡ with_branch (held_term condition) (state_of state)) }
     ensures second { IfOk result (λ x. state_of x.1 ≡ with_branch (held_term negated) (state_of state)) }
 {
     let mut first = state.copy(alloc)?;
     let mut second = state;
+    first.open(segments.0);
+    second.open(segments.1);
     first.add_branch(alloc, condition)?;
     second.add_branch(alloc, negated)?;
     Ok((first, second))
@@ -126,6 +140,7 @@ impl Conts {
     {
         Conts {
             sides: Vec::new(alloc),
+            opened: 0,
         }
     }
 
@@ -137,7 +152,10 @@ impl Conts {
         for side in &self.sides {
             sides.push(side.copy(alloc)?)?;
         }
-        Ok(Conts { sides })
+        Ok(Conts {
+            sides,
+            opened: self.opened,
+        })
     }
 
     /// Puts a side on top: this frame goes on from this state.
@@ -395,12 +413,32 @@ impl Conts {
         if state.is_known(&negated) {
             return self.go(program, right, state);
         }
-        let (first, second) = branches(alloc, condition, negated, state)?;
-        self.both(program, left, first, right, second)
+        let segments = next_segments(&mut self.opened)?;
+        let (first, second) = branches(alloc, condition, negated, state, segments)?;
+        self.push_both(program, left, first, right, second)
+    }
+
+    /// Two sides, the first one first, each in a segment of its own.
+    pub fn both(
+        &mut self,
+        program: &Settled,
+        left: Frame,
+        first: SymState,
+        right: Frame,
+        second: SymState,
+    ) -> Result<Move, AllocError>
+        ensures { IfOk result (λ m. Stepped (settled program.now) (tree.Fork (frame_tree (settled program.now) left (state_of first)) (frame_tree (settled program.now) right (state_of second))) self.old.sides.items m self.new.sides.items) }
+    {
+        let (of_first, of_second) = next_segments(&mut self.opened)?;
+        let mut first = first;
+        let mut second = second;
+        first.open(of_first);
+        second.open(of_second);
+        self.push_both(program, left, first, right, second)
     }
 
     /// Two sides, the first one first.
-    pub fn both(
+    fn push_both(
         &mut self,
         program: &Settled,
         left: Frame,

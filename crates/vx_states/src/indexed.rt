@@ -12,20 +12,27 @@ use crate::index::{Index, with_term};
 use crate::key::key;
 use std::alloc::{AllocError, Global};
 use std::rc::Rc;
+use vx_segments::Entry;
 use vx_terms::Term;
 
-/// A path whose terms are indexed, with the number of its entries.
+/// A path whose terms are indexed, with the number of its entries, and that of the segment in which new ones stand.
 pub struct IndexedPath {
     pub path: Path,
     pub index: Index,
     pub count: usize,
+    pub segment: u64,
     ghost indexed: { IsIndexed (entries path) index },
     ghost counted: { count ≡ length (entries path) },
 }
 
 impl Drop for IndexedPath {
     fn drop(self) {
-        let Self { path, index, count } = self;
+        let Self {
+            path,
+            index,
+            count,
+            segment,
+        } = self;
     }
 }
 
@@ -48,6 +55,7 @@ impl IndexedPath {
             path: Path::Empty,
             index: Index::Nothing,
             count: 0,
+            segment: 0,
         }
     }
 
@@ -59,6 +67,7 @@ impl IndexedPath {
             path: self.path.copy()?,
             index: self.index.copy()?,
             count: self.count,
+            segment: self.segment,
         })
     }
 
@@ -73,21 +82,41 @@ impl IndexedPath {
     pub fn add_fact(self, alloc: Global, t: Rc<Term>) -> Result<IndexedPath, AllocError>
         ensures { IfOk result (λ more. entries more.path ≡ extended (entries self.path) (held_term t) false) }
     {
-        let IndexedPath { path, index, count } = self;
+        let IndexedPath {
+            path,
+            index,
+            count,
+            segment,
+        } = self;
         let index = with_term(alloc, &index, 0, key(&t), &t)?;
-        let path = Path::Fact(Rc::new(alloc, path)?, t);
+        let path = Path::Fact(Rc::new(alloc, path)?, Entry { segment, term: t });
         let count = one_more(count)?;
-        Ok(IndexedPath { path, index, count })
+        Ok(IndexedPath {
+            path,
+            index,
+            count,
+            segment,
+        })
     }
 
     /// A branch's condition after the others.
     pub fn add_branch(self, alloc: Global, t: Rc<Term>) -> Result<IndexedPath, AllocError>
         ensures { IfOk result (λ more. entries more.path ≡ extended (entries self.path) (held_term t) true) }
     {
-        let IndexedPath { path, index, count } = self;
+        let IndexedPath {
+            path,
+            index,
+            count,
+            segment,
+        } = self;
         let index = with_term(alloc, &index, 0, key(&t), &t)?;
-        let path = Path::Branch(Rc::new(alloc, path)?, t);
+        let path = Path::Branch(Rc::new(alloc, path)?, Entry { segment, term: t });
         let count = one_more(count)?;
-        Ok(IndexedPath { path, index, count })
+        Ok(IndexedPath {
+            path,
+            index,
+            count,
+            segment,
+        })
     }
 }

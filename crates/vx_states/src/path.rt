@@ -4,19 +4,18 @@ ghost use Rattle.std.specs.Prelude.{◌≡◌, IfOk, map};
 ghost use Rattle.vx_rules.specs.States.{path_terms};
 ghost use Rattle.vx_states.specs.Paths.{entries};
 ghost use Rattle.vx_heap.specs.Views.{held_term};
-ghost use Rattle.vx_terms.specs.Views.{term};
 
 use std::alloc::{AllocError, Global};
 use std::rc::Rc;
-use vx_terms::Term;
+use vx_segments::Entry;
 
-/// The assertions of a path. It is held from its newest entry on, so that a longer path shares the shorter one, and a
+/// The assertions of a path, with the segments that they stand in. It is held from its newest entry on, so that a longer path shares the shorter one, and a
 /// copy takes no longer than one entry.
 pub enum Path {
     Empty,
     /// A branch's condition.
-    Branch(Rc<Path>, Rc<Term>),
-    Fact(Rc<Path>, Rc<Term>),
+    Branch(Rc<Path>, Entry),
+    Fact(Rc<Path>, Entry),
 }
 
 impl Drop for Path {
@@ -24,7 +23,7 @@ impl Drop for Path {
         loop {
             let before = match self {
                 Path::Empty => return,
-                Path::Branch(before, _term) | Path::Fact(before, _term) => before,
+                Path::Branch(before, _entry) | Path::Fact(before, _entry) => before,
             };
             match Rc::into_inner(before) {
                 Some(next) => self = next,
@@ -41,28 +40,28 @@ impl Path {
     {
         Ok(match self {
             Path::Empty => Path::Empty,
-            Path::Branch(before, term) => Path::Branch(before.clone()?, term.clone()?),
-            Path::Fact(before, term) => Path::Fact(before.clone()?, term.clone()?),
+            Path::Branch(before, entry) => Path::Branch(before.clone()?, entry.copy()?),
+            Path::Fact(before, entry) => Path::Fact(before.clone()?, entry.copy()?),
         })
     }
 
-    /// The terms in order, the oldest first.
+    /// The entries in order, the oldest first.
     #[tactic(auto, using(crate::proofs::Stores::taken_over))]
-    pub fn terms(&self, alloc: Global) -> Result<Vec<Rc<Term>>, AllocError>
-        ensures { IfOk result (λ v. map (λ t. held_term t) v.items ≡ path_terms (entries self.now)) }
+    pub fn entries(&self, alloc: Global) -> Result<Vec<Entry>, AllocError>
+        ensures { IfOk result (λ v. map (λ e. held_term e.term) v.items ≡ path_terms (entries self.now)) }
     {
-        let mut terms = Vec::new(alloc);
+        let mut taken = Vec::new(alloc);
         let mut rest = self;
         'entries: loop {
             match rest {
                 Path::Empty => break 'entries,
                 Path::Branch(before, entry) | Path::Fact(before, entry) => {
-                    terms.push(entry.clone()?)?;
+                    taken.push(entry.copy()?)?;
                     rest = before;
                 }
             }
         }
-        terms.reverse();
-        Ok(terms)
+        taken.reverse();
+        Ok(taken)
     }
 }

@@ -305,6 +305,13 @@ impl SymState {
         Ok(())
     }
 
+    /// What is added to the path from now on stands in the segment with this number.
+    pub fn open(&mut self, segment: u64)
+        ensures { state self.new ≡ state self.old }
+    {
+        self.path.segment = segment;
+    }
+
     /// A symbol that stands nowhere yet.
     pub fn new_symbol(&mut self, alloc: Global, of: Sort) -> Result<Rc<Term>, AllocError>
         ensures { IfOk result (λ t. (held_term t ≡ states.fresh (sort of) (state self.old)) × (state self.new ≡ states.after_fresh (state self.old))) }

@@ -27,6 +27,8 @@ pub enum Asks {
     Child,
     /// What the companion answers to the text.
     Companion,
+    /// What the solver's child is sent behind the preamble.
+    Sent,
     /// Which members of the graph lead to which that the text tells.
     Graph,
     /// The fraction of the text, or what is reckoned with two.

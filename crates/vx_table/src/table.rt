@@ -73,6 +73,7 @@ fn asks_of(word: &str) -> Asks {
         "file" => Asks::File,
         "child" => Asks::Child,
         "companion" => Asks::Companion,
+        "sent" => Asks::Sent,
         "s-expression" => Asks::Sexp,
         _ => Asks::Run,
     }

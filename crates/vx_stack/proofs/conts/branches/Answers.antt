@@ -23,7 +23,7 @@ pub returns-in_err-add_branch-2-clause-second : goal.returns-in_err-add_branch-2
 returns-in_err-add_branch-2-clause-second c = IfOk-from_err _ _ c.from_residual-in_err-add_branch-2.ensures.0
 
 pub returns-clause-first : goal.returns-clause-first
-returns-clause-first c = c.in_ok-add_branch.ensures ∙ ap (with_branch (held_term c.args.condition)) c.in_ok-first.ensures
+returns-clause-first c = c.in_ok-add_branch.ensures ∙ ap (with_branch (held_term c.args.condition)) (c.open.ensures ∙ c.in_ok-first.ensures)
 
 pub returns-clause-second : goal.returns-clause-second
-returns-clause-second c = c.in_ok-add_branch-2.ensures
+returns-clause-second c = c.in_ok-add_branch-2.ensures ∙ ap (with_branch (held_term c.args.negated)) c.open-2.ensures

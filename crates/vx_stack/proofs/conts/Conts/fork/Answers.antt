@@ -28,7 +28,7 @@ returns c =
     let e1 : is_known c' s' ≡ false = ap (λ x. is_known (term x) s') (sym c.deref.ensures) ∙ sym c.is_known.ensures ∙ c.if-is_known.false in
     let e2 : d' ≡ negate c' = c.in_ok-negated.ensures in
     let e3 : is_known d' s' ≡ false = ap (λ x. is_known (term x) s') (sym c.deref-2.ensures) ∙ sym c.is_known-2.ensures ∙ c.if-is_known-2.false in
-    stepped_as p _ _ _ _ _ (fork_both c' d' s' _ _ (frame_tree p c.args.left) (frame_tree p c.args.right) e1 e2 e3 c.in_ok-first.ensures.first c.in_ok-first.ensures.second) c.both.ensures
+    stepped_as p _ _ _ _ _ (fork_both c' d' s' _ _ (frame_tree p c.args.left) (frame_tree p c.args.right) e1 e2 e3 c.in_ok-first.ensures.first c.in_ok-first.ensures.second) c.push_both.ensures
 
 pub returns-in_err-negated : goal.returns-in_err-negated
 returns-in_err-negated c = IfOk-from_err _ _ c.from_residual.ensures.0
