@@ -14,6 +14,7 @@ pub mod Taken
 pub mod Measured
 pub mod Walks
 pub mod Members
+pub mod Snapshots
 pub mod Worked
 pub mod WorkedBoxes
 pub mod WorkedDescent

@@ -1,8 +1,9 @@
 //! The soundness law for the whole language.
 #![tactic(auto)]
 
-ghost use Rattle.std.specs.Prelude.{List};
+ghost use Rattle.std.specs.Prelude.{ℕ, List};
 ghost use Rattle.vx_ast.specs.Syntax.{Name, Program, IsFunction, IsMethod};
+ghost use Rattle.vx_terms.specs.Interpretations.{Interpretation};
 ghost use Rattle.vx_smt_meaning.specs.declared.reply.Reply.{Reply};
 ghost use Rattle.vx_meaning.specs.Fails.{Fails};
 ghost use Rattle.vx_whole.specs.Premises.{IsTypedProgram};
@@ -13,6 +14,7 @@ ghost use Rattle.vx_sound_funcs.specs.Examples.{twice, doubler, boxes};
 ghost use Rattle.vx_told.specs.Allowed.{TakenIsAllowed};
 ghost use Rattle.vx_told.specs.Walks.{FunctionsPass};
 ghost use Rattle.vx_law.specs.Law.{MembersAreSound};
+ghost use Rattle.vx_law.specs.Snapshots.{MeansTrees, SnapshotsKeepValues};
 ghost use Rattle.vx_law.specs.Examples.{next, adder, relies, counts, down, descender, descends, tags, payload, payloads};
 
 /// A member of a typed program doesn't fail, where the walks of all that it leads to passed, with right unsat replies.
@@ -25,6 +27,12 @@ pub fn members_are_sound()
 /// firmly and as the meaning has it.
 pub fn what_is_taken_is_allowed()
     ensures { (p : Program) (x : Name) (replies : Name → List Reply) → IsTypedProgram p → PredicatesPass p x replies → FunctionsPass p x replies → TakenIsAllowed p x }
+{}
+
+/// Where the symbols of the preamble mean pairs of trees, their parts and what is wrapped, the constructors of parts and of what is
+/// unwrapped keep the value of the term that they stand for.
+pub fn snapshots_keep_values()
+    ensures { (n : ℕ) (i : Interpretation) → MeansTrees i → SnapshotsKeepValues n i }
 {}
 
 /// The law at work: a method that relies on a function's postcondition never fails, and neither does the function.
