@@ -1,0 +1,3 @@
+pub mod Opposites
+pub mod Found
+pub mod Made
