@@ -1,3 +1,4 @@
 pub mod Opposites
+pub mod Law
 pub mod Found
 pub mod Made
