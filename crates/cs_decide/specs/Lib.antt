@@ -1,2 +1,3 @@
 pub mod Spent
 pub mod New
+pub mod Refuted

@@ -6,12 +6,16 @@ ghost use Rattle.cs_meter.specs.Units.{limit};
 ghost use Rattle.cs_numbers.specs.Laws.{IsSorted};
 ghost use Rattle.cs_proof.specs.Fits.{seen};
 ghost use Rattle.cs_answer.specs.Answers.{IsRefutation, IsSatisfaction, IsCaused, IsRight};
+ghost use Rattle.cs_answer.specs.Causes.{IsCause};
 ghost use Rattle.cs_answer.specs.Few.{IsFew, IsDecided};
+ghost use Rattle.cs_opposites.specs.Opposites.{HasOpposites};
+ghost use Rattle.cs_decide.specs.Refuted.{IsRefuted};
 
 use crate::check::decided;
 use crate::settled::settled;
 use cs_answer::{Answer, Cause, stopped};
 use cs_meter::{Budget, Meter};
+use cs_opposites::{opposed, opposites_refute};
 use cs_proof::{Stack, Want};
 use std::alloc::Global;
 
@@ -65,10 +69,24 @@ fn answered(alloc: Global, stack: &Stack) -> Result<Answer, Want>
     }
 }
 
+/// The answer of a stack that attempts leave undecided by this cause: `false`, or a term and its negation, refute it.
+fn undecided(alloc: Global, stack: &Stack, cause: Cause) -> Result<Answer, Want>
+    requires { IsCause (seen stack.now) cause }
+    ensures right { IfOk result (IsRight (seen stack.now)) }
+    ensures few { IsFew (seen stack.now) → IfOk result IsDecided }
+    ensures opposed { HasOpposites (seen stack.now).assertions → IfOk result IsRefuted }
+{
+    opposites_refute();
+    match opposed(alloc, stack)? {
+        Some(steps) => Ok(Answer::Refuted(steps)),
+        None => settled(alloc, stack, cause),
+    }
+}
+
 /// Decides the assertions of a stack. Numbers have the rules of linear arithmetic; a product of two terms that aren't literals, and
 /// a quotient or a remainder by such a term, is a term as any other. What is answered is right. Where no term is a number and at most
 /// ten are Bool, the answer is never `Unknown`: what attempts leave undecided is then decided by all clauses of the stack at once, in a
-/// time that may grow with the fourth power of the number of terms.
+/// time that may grow with the fourth power of the number of terms. Nor is it where `false` is asserted, or a term and its negation.
 ///
 /// # Errors
 /// `Want` where memory runs out.
@@ -78,10 +96,12 @@ pub fn decide(alloc: Global, stack: &Stack) -> Result<Answer, Want>
     ensures satisfied { IfOk result (IsSatisfaction (seen stack.now)) }
     ensures caused { IfOk result (IsCaused (seen stack.now)) }
     ensures few { IsFew (seen stack.now) → IfOk result IsDecided }
+    ensures opposed { HasOpposites (seen stack.now).assertions → IfOk result IsRefuted }
 {
+    opposites_refute();
     match answered(alloc, stack)? {
         Answer::Refuted(steps) => Ok(Answer::Refuted(steps)),
         Answer::Satisfied(model) => Ok(Answer::Satisfied(model)),
-        Answer::Unknown(cause) => settled(alloc, stack, cause),
+        Answer::Unknown(cause) => undecided(alloc, stack, cause),
     }
 }
