@@ -14,6 +14,7 @@ use Rattle.cs_proof.specs.Prepared.{Named}
 use Rattle.cs_proof.specs.Plans.{Plans}
 use Rattle.cs_proof.proofs.Grown as grown
 use Rattle.cs_proof.proofs.State as checked
+use Rattle.cs_writable.specs.Writable.{IsWritableTerm}
 use Rattle.cs_derivation.specs.Reached.{Reached, Stands, state_of, IsNamed}
 use Rattle.cs_derivation.proofs.Plain.{plain_end}
 use Rattle.cs_derivation.proofs.Scenes.{plans, stood}
@@ -27,7 +28,7 @@ leads_named stack t sort h l stays = names h l stays
 leads_named stack t sort h l (names a b rest) = names a b (leads_named stack t sort h l rest)
 leads_named stack t sort h l (derives e rest) = derives e (leads_named stack t sort h l rest)
 
-module _ (stack : Stack) (r : Reached) (h : Stands stack r) (t : Term) (sorted : IsSorted t) (live : AreLive stack t) (ts : List Term) (ns : List Node) (terms : ts ≡ added r.terms (subterms t)) (nodes : nodes_after r.nodes ts (drop (length r.nodes) ts) ≡ Some ns) where
+module _ (stack : Stack) (r : Reached) (h : Stands stack r) (t : Term) (sorted : IsSorted t) (live : AreLive stack t) (writable : IsWritableTerm t) (ts : List Term) (ns : List Node) (terms : ts ≡ added r.terms (subterms t)) (nodes : nodes_after r.nodes ts (drop (length r.nodes) ts) ≡ Some ns) where
   abbrev p : Plans
   p = record { terms = ts; nodes = ns; duties = Named ∷ []; clauses = r.clauses }
 
@@ -56,6 +57,6 @@ module _ (stack : Stack) (r : Reached) (h : Stands stack r) (t : Term) (sorted :
           steps = h.steps ++ NewTerm t ∷ [];
           written = steps ∙ ap (λ l. l ++ Some (NewTerm t) ∷ []) h.written ∙ sym (map-append Some h.steps (NewTerm t ∷ []));
           leads = subst (Leads stack (start stack) (h.steps ++ NewTerm t ∷ [])) is (leads_named stack t sorted.0 sorted.1 live h.leads);
-          plain = plain_end h.steps (NewTerm t) h.plain tt;
+          plain = plain_end h.steps (NewTerm t) h.plain writable;
         };
       }

@@ -7,6 +7,7 @@ use Rattle.cs_certificate.specs.Certificate.{Stack, State, start, with_clause, w
 use Rattle.cs_nodes.specs.Nodes.{Node}
 use Rattle.cs_numbers.specs.Numbering.{nodes_of}
 use Rattle.cs_numbers.specs.Laws.{IsTable}
+use Rattle.cs_writable.specs.Writable.{IsWritable}
 use Rattle.cs_hints.specs.declared.Literal.{Literal}
 use Rattle.cs_hints.specs.Bridge.{views, IsNumbered}
 
@@ -22,12 +23,12 @@ pub record Reached : Type 0 where
 abbrev pub state_of : Reached → State
 state_of r = record { terms = r.terms; clauses = map (views r.terms) r.clauses }
 
--- a step that is no `farkas` step
-abbrev pub HasNoSum : Step → Type 0
-HasNoSum (Farkas ls ms) = ⊥
-HasNoSum step = Unit {0}
+-- a writable step that is no `farkas` step
+abbrev pub IsPlain : Step → Type 0
+IsPlain (Farkas ls ms) = ⊥
+IsPlain step = IsWritable step
 
--- the steps meet their rules over this stack, and lead to the terms and clauses; none is a `farkas` step
+-- the steps meet their rules over this stack, and lead to the terms and clauses; all are writable, and none is a `farkas` step
 pub record Stands (stack : Stack) (r : Reached) : Type 0 where
   pub table : IsTable r.terms
   pub nodes : nodes_of r.terms r.terms ≡ Some r.nodes
@@ -36,7 +37,7 @@ pub record Stands (stack : Stack) (r : Reached) : Type 0 where
   pub steps : List Step
   pub written : r.steps ≡ map Some steps
   pub leads : Leads stack (start stack) steps (state_of r)
-  pub plain : Each HasNoSum steps
+  pub plain : Each IsPlain steps
 
 -- one step more, with the clause that it derives behind the others, which has this number
 pub record IsDerived (stack : Stack) (step : Step) (before after : Reached) (number : ℕ) : Type 0 where

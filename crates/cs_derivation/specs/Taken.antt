@@ -3,17 +3,18 @@ use Rattle.std.specs.Prelude.{◌≡◌, ℕ, Bool, true, false, if◌then◌els
 use Rattle.std.specs.declared.result.Result.{Result}
 use Rattle.cs_certificate.specs.Certificate.{Step, NewTerm, Farkas, NumberedLiteral}
 use Rattle.cs_table.specs.Gives.{sign_of}
+use Rattle.cs_writable.specs.Writable.{IsWritable}
 use Rattle.cs_hints.specs.declared.Literal.{Literal}
 use Rattle.cs_hints.specs.declared.Clause.{Clause}
 use Rattle.cs_hints.specs.Hints.{refutes}
 use Rattle.cs_proof.specs.Prepared.{Duty, Derived, Hints, prepared_of}
 use Rattle.cs_derivation.specs.Reached.{Reached}
 
--- a step that is neither a `term` nor a `farkas` step
+-- a writable step that is neither a `term` nor a `farkas` step
 abbrev pub IsTaken : Step → Type 0
 IsTaken (NewTerm t) = ⊥
 IsTaken (Farkas ls ms) = ⊥
-IsTaken step = Unit {0}
+IsTaken step = IsWritable step
 
 -- a literal as steps write it
 abbrev pub numbered : Literal → NumberedLiteral

@@ -12,7 +12,7 @@ mod steps;
 
 pub use derivation::Derivation;
 
-/// Where the steps lead to an empty clause, they are finished.
+/// Where the steps lead to an empty clause, they are finished, and all of them are writable.
 pub fn empty_clauses_finish()
     ensures { Finishes }
 {}

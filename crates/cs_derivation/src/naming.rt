@@ -8,6 +8,7 @@ ghost use Rattle.cs_numbers.specs.Numbering.{nodes_after};
 ghost use Rattle.cs_table.specs.Gives.{Gives};
 ghost use Rattle.cs_table.specs.Table.{nodes_in};
 ghost use Rattle.cs_proof.specs.Views.{written};
+ghost use Rattle.cs_writable.specs.Writable.{IsWritableTerm};
 
 use crate::Derivation;
 use crate::start::push_nodes;
@@ -47,13 +48,13 @@ impl Derivation {
     ghost use Rattle.cs_derivation.specs.Reached.{Stands, IsNamed};
     ghost use Rattle.cs_derivation.specs.View.{reached};
 
-    /// `term`: with a well-sorted term over the live symbols, and the number of the term.
+    /// `term`: with a well-sorted writable term over the live symbols, and the number of the term.
     ///
     /// # Errors
     /// `Want` where memory runs out; the derivation is gone then.
     #[tactic(auto, using(cs_proof::proofs::Fits::weaker_clauses))]
     pub fn name(self, alloc: Global, t: &Rc<Term>) -> Result<(Derivation, u32), Want>
-        ensures { (stack : Stack) → Stands stack (reached self) → IsSorted (term t.now.value) → AreLive stack (term t.now.value) → IfOk result (λ x. IsNamed stack (term t.now.value) (reached self) (reached x.0) x.1) }
+        ensures { (stack : Stack) → Stands stack (reached self) → IsSorted (term t.now.value) → AreLive stack (term t.now.value) → IsWritableTerm (term t.now.value) → IfOk result (λ x. IsNamed stack (term t.now.value) (reached self) (reached x.0) x.1) }
     {
         let Derivation {
             mut terms,

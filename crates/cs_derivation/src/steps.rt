@@ -1,9 +1,10 @@
 //! Steps that are taken where their rules derive a clause.
-ghost use Rattle.std.specs.Prelude.{◌≡◌, ◌+◌, ◌<◌, ◌^◌, [], ◌∷◌, ◌++◌, map, length, OnOk, IfOk, IfErr, Some};
+ghost use Rattle.std.specs.Prelude.{◌≡◌, ◌+◌, ◌<◌, ◌^◌, [], ◌∷◌, ◌++◌, map, nat_abs, length, OnOk, IfOk, IfErr, Some};
 ghost use Rattle.cs_certificate.specs.Certificate.{Stack, Input, Define, Pick, Chain, Congruence, Split, Trichotomy, Divide, Propagate};
 ghost use Rattle.cs_certificate.specs.Certificate as certificate;
 ghost use Rattle.cs_proof.specs.Views as views;
 ghost use Rattle.cs_proof.specs.Views.{written, IsFit, IsFitClause};
+ghost use Rattle.cs_writable.specs.Writable.{IsSmall};
 ghost use Rattle.cs_derivation.specs.Reached.{Stands, Adds};
 ghost use Rattle.cs_derivation.specs.Taken.{IsTaken, numbered, shows, with_step, taken, Takes};
 ghost use Rattle.cs_derivation.specs.View.{reached};
@@ -134,12 +135,12 @@ impl Derivation {
         self.take(alloc, Step::Congruence(u128::from(a), u128::from(b)))
     }
 
-    /// `split`: the Int t is at most a number, or at least the next.
+    /// `split`: the Int t is at most a number, or at least the next. The number isn't -2^127.
     ///
     /// # Errors
     /// `Want` where memory runs out.
     pub fn split(&mut self, alloc: Global, t: u32, number: i128) -> Result<Option<u32>, Want>
-        ensures { (stack : Stack) → Stands stack (reached self.old) → Adds stack (Split t number) (reached self.old) (reached self.new) result }
+        ensures { (stack : Stack) → Stands stack (reached self.old) → IsSmall (nat_abs number) → Adds stack (Split t number) (reached self.old) (reached self.new) result }
     {
         self.take(alloc, Step::Split(u128::from(t), number))
     }

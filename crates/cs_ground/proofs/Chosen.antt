@@ -14,6 +14,7 @@ use Rattle.cs_numbers.specs.Laws.{IsSorted, IsTable}
 use Rattle.cs_numbers.specs.Numbering.{place}
 use Rattle.cs_numbers.proofs.Numbered.{Distinct, in_left, in_right}
 use Rattle.cs_numbers.proofs.Tables.{Ready, ready}
+use Rattle.cs_writable.specs.Writable.{IsWritableTerm}
 use Rattle.cs_derivation.specs.Reached.{Reached, Stands, IsNamed}
 use Rattle.cs_ground.specs.Ground.{AreOfOneSort}
 use Rattle.cs_ground.specs.Steps.{Begins, HasEquality, IsNaming, NamesMore, NamesPairs, NamesAlias, NamesTurned, NamesAliases, NamesAll, choice_of, sides, IsFresh, IsBehind, IsAlias, AllIn}
@@ -68,17 +69,26 @@ module _ (stack : Stack) (r q p : Reached) (b a c : Term) (h : IsNaming stack r)
   chosen_live : AreLive stack c
   chosen_live = subst (AreLive stack) (sym new.is) (tt, h.live b left, h.live new.other new.known)
 
+  chosen_writable : IsWritableTerm c
+  chosen_writable = subst IsWritableTerm (sym new.is) (tt, h.writable b left, h.writable new.other new.known)
+
   pub same_sorted : IsSorted (equal c b)
   same_sorted = (BoolSort, equality_sorted c b with_left)
 
   pub same_live : AreLive stack (equal c b)
   same_live = (chosen_live, h.live b left)
 
+  pub same_writable : IsWritableTerm (equal c b)
+  same_writable = (chosen_writable, h.writable b left)
+
   pub joined_sorted : IsSorted (equal (equal b a) (equal c a))
   joined_sorted = (BoolSort, equality_sorted (equal b a) (equal c a) (BoolSort, equality_sorted b a two, equality_sorted c a with_right))
 
   pub joined_live : AreLive stack (equal (equal b a) (equal c a))
   joined_live = ((h.live b left, h.live a right), (chosen_live, h.live a right))
+
+  pub joined_writable : IsWritableTerm (equal (equal b a) (equal c a))
+  joined_writable = ((h.writable b left, h.writable a right), (chosen_writable, h.writable a right))
 
   -- what the terms are then
   data Known : Term → Type 0 where
@@ -158,14 +168,14 @@ module _ (stack : Stack) (r q p : Reached) (b a c : Term) (h : IsNaming stack r)
 
 -- in code
 pub alias_made : (stack : Stack) (r q p : Reached) (w b a c s t j : Term) (m n : ℕ) (x : Alias) → IsNaming stack r → Contains r.terms w → w ≡ equal b a → (Contains r.terms b → IsFresh r.terms b c) → s ≡ equal c b → t ≡ equal c a → j ≡ equal w t →
-    (Stands stack r → IsSorted s → AreLive stack s → IsNamed stack s r q m) → (Stands stack q → IsSorted j → AreLive stack j → IsNamed stack j q p n) →
+    (Stands stack r → IsSorted s → AreLive stack s → IsWritableTerm s → IsNamed stack s r q m) → (Stands stack q → IsSorted j → AreLive stack j → IsWritableTerm j → IsNamed stack j q p n) →
     place p.terms w ≡ Some x.whole → place p.terms b ≡ Some x.left → place p.terms a ≡ Some x.right → place p.terms c ≡ Some x.choice → place p.terms t ≡ Some x.equality → NamesAlias stack r p b a x
 alias_made stack r q p w b a c s t j m n x h here is new e f g first second at1 at2 at3 at4 at5 =
     let whole : Contains r.terms (equal b a) = subst (Contains r.terms) is here in
     let fresh = new ((ready r.terms h.stands.table).closed (equal b a) b whole (0, refl)) in
-    let one = names_one stack r q (equal c b) s m e h (same_sorted stack r q p b a c h whole fresh) (same_live stack r q p b a c h whole fresh) first in
+    let one = names_one stack r q (equal c b) s m e h (same_sorted stack r q p b a c h whole fresh) (same_live stack r q p b a c h whole fresh) (same_writable stack r q p b a c h whole fresh) first in
     let join : j ≡ equal (equal b a) (equal c a) = g ∙ ap (λ v. equal v t) is ∙ ap (equal (equal b a)) f in
-    let more = names_one stack q p (equal (equal b a) (equal c a)) j n join (one.more).naming (joined_sorted stack r q p b a c h whole fresh) (joined_live stack r q p b a c h whole fresh) second in
+    let more = names_one stack q p (equal (equal b a) (equal c a)) j n join (one.more).naming (joined_sorted stack r q p b a c h whole fresh) (joined_live stack r q p b a c h whole fresh) (joined_writable stack r q p b a c h whole fresh) second in
     alias_named stack r q p b a c h whole fresh one more x (subst (λ v. place p.terms v ≡ Some x.whole) is at1) at2 at3 at4 (subst (λ v. place p.terms v ≡ Some x.equality) f at5)
 
 -- ---- an alias stays

@@ -9,15 +9,15 @@ use Rattle.cs_certificate.specs.Terms.{equal, subterms, parts_of}
 use Rattle.cs_certificate.specs.Certificate.{Stack, State, At, Contains, AreLive}
 use Rattle.cs_numbers.specs.Laws.{IsSorted}
 use Rattle.cs_numbers.specs.Numbering.{added}
-use Rattle.cs_numbers.proofs.Added.{added_distinct}
 use Rattle.cs_numbers.proofs.Numbered.{from_added}
 use Rattle.cs_numbers.proofs.Tables.{ready, numbers_more}
 use Rattle.cs_proof.proofs.Grown.{added_begins, begins_itself, begins_on}
+use Rattle.cs_writable.specs.Writable.{IsWritableTerm}
 use Rattle.cs_derivation.specs.Reached.{Reached, Stands, state_of, IsNamed, IsNew}
 use Rattle.cs_ground.specs.Ground.{IsFormed, AreOfOneSort}
 use Rattle.cs_ground.specs.Steps.{have_one_sort, HasEquality, IsNaming, NamesMore, NamesWith, NamesPairs, AllIn}
 use Rattle.cs_ground.proofs.Lists.{some_is, one_more, at_within, mapped_at, begins_contains}
-use Rattle.cs_ground.proofs.Parts.{in_subterms, in_parts, live_part}
+use Rattle.cs_ground.proofs.Parts.{in_subterms, in_parts, live_part, writable_part, numbered_part}
 use Rattle.cs_ground.proofs.Paired.{same_told, one_sort, sorts_turned, equality_sorted, turned}
 
 in_order : (m n : ℕ) → (m < n) ⊎ ((m ≡ n) ⊎ (n < m))
@@ -28,11 +28,12 @@ pub begins_naming : (stack : Stack) (r : Reached) → IsFormed stack → IsNew s
 begins_naming stack r f new = record {
   stands = new.stands;
   none = ap (λ (s : State). s.clauses) new.state;
-  live = λ t h. in_parts (AreLive stack) (live_part stack) stack.assertions t f.live (only t (subst (λ ts. Contains ts t) (ap (λ (s : State). s.terms) new.state ∙ sym (added_distinct (parts_of stack.assertions))) h));
+  live = λ t h. in_parts (AreLive stack) (live_part stack) stack.assertions t f.live (within t h);
+  writable = λ t h. in_parts IsWritableTerm writable_part stack.assertions t f.writable (within t h);
 }
   where
-    only : (t : Term) → Contains (added [] (parts_of stack.assertions)) t → Contains (parts_of stack.assertions) t
-    only t h = elim (from_added [] (parts_of stack.assertions) t h) [ inl x ↦ (let e = x.1 in cc) | inr x ↦ x ]
+    within : (t : Term) → Contains r.terms t → Contains (parts_of stack.assertions) t
+    within t h = numbered_part stack.assertions t (subst (λ ts. Contains ts t) (ap (λ (s : State). s.terms) new.state) h)
 
 -- ---- one term more
 pub record NamesOne (stack : Stack) (before after : Reached) (t : Term) : Type 0 where
@@ -40,7 +41,7 @@ pub record NamesOne (stack : Stack) (before after : Reached) (t : Term) : Type 0
   pub here : Contains after.terms t
   pub either : (u : Term) → Contains after.terms u → Contains before.terms u ⊎ Contains (subterms t) u
 
-module _ (stack : Stack) (r q : Reached) (t : Term) (n : ℕ) (before : IsNaming stack r) (live : AreLive stack t) (named : IsNamed stack t r q n) where
+module _ (stack : Stack) (r q : Reached) (t : Term) (n : ℕ) (before : IsNaming stack r) (live : AreLive stack t) (writable : IsWritableTerm t) (named : IsNamed stack t r q n) where
   are : q.terms ≡ added r.terms (subterms t)
   are = ap (λ (s : State). s.terms) named.state ∙ sym (numbers_more (state_of r) t before.stands.table)
 
@@ -54,6 +55,7 @@ module _ (stack : Stack) (r q : Reached) (t : Term) (n : ℕ) (before : IsNaming
         stands = named.stands;
         none = ap (λ (s : State). s.clauses) named.state ∙ before.none;
         live = λ u h. elim (from u h) [ inl x ↦ before.live u x | inr x ↦ in_subterms (AreLive stack) (live_part stack) t u live x ];
+        writable = λ u h. elim (from u h) [ inl x ↦ before.writable u x | inr x ↦ in_subterms IsWritableTerm writable_part t u writable x ];
       };
       begins = (let b = added_begins r.terms (subterms t) in (b.0, are ∙ b.1));
     };
@@ -61,10 +63,10 @@ module _ (stack : Stack) (r q : Reached) (t : Term) (n : ℕ) (before : IsNaming
     either = from;
   }
 
--- of a term that is well-sorted and over the live symbols
-pub names_one : (stack : Stack) (r q : Reached) (t u : Term) (n : ℕ) → u ≡ t → IsNaming stack r → IsSorted t → AreLive stack t → (Stands stack r → IsSorted u → AreLive stack u → IsNamed stack u r q n) → NamesOne stack r q t
-names_one stack r q t u n is h sorted live named =
-    one_more_named stack r q t n h live (subst (λ v. IsSorted v → AreLive stack v → IsNamed stack v r q n) is (named h.stands) sorted live)
+-- of a term that is well-sorted, over the live symbols and writable
+pub names_one : (stack : Stack) (r q : Reached) (t u : Term) (n : ℕ) → u ≡ t → IsNaming stack r → IsSorted t → AreLive stack t → IsWritableTerm t → (Stands stack r → IsSorted u → AreLive stack u → IsWritableTerm u → IsNamed stack u r q n) → NamesOne stack r q t
+names_one stack r q t u n is h sorted live writable named =
+    one_more_named stack r q t n h live writable (subst (λ v. IsSorted v → AreLive stack v → IsWritableTerm v → IsNamed stack v r q n) is (named h.stands) sorted live writable)
 
 pub names_none : (stack : Stack) (r : Reached) → IsNaming stack r → NamesMore stack r r
 names_none stack r h = record { naming = h; begins = begins_itself r.terms }
@@ -92,10 +94,10 @@ names_no_equality stack r x y h e = record {
 }
 
 pub equality_named : (stack : Stack) (r q : Reached) (x y t : Term) (n : ℕ) → t ≡ equal x y → IsNaming stack r → Contains r.terms x → Contains r.terms y → have_one_sort x y ≡ true →
-    (Stands stack r → IsSorted t → AreLive stack t → IsNamed stack t r q n) → NamesWith stack r q x (λ z. z ≡ y)
+    (Stands stack r → IsSorted t → AreLive stack t → IsWritableTerm t → IsNamed stack t r q n) → NamesWith stack r q x (λ z. z ≡ y)
 equality_named stack r q x y t n is h k l e named =
     let two = one_sort x y (sorted_here stack r x h k) (sorted_here stack r y h l) e in
-    names_equality stack r q x y (names_one stack r q (equal x y) t n is h (BoolSort, equality_sorted x y two) (h.live x k, h.live y l) named)
+    names_equality stack r q x y (names_one stack r q (equal x y) t n is h (BoolSort, equality_sorted x y two) (h.live x k, h.live y l) (h.writable x k, h.writable y l) named)
 
 -- the first of some terms
 abbrev pub FirstOf : {X : Type 0} → (X → Term) → List X → ℕ → Term → Type 0

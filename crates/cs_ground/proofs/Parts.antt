@@ -1,10 +1,15 @@
 -- What goes on to parts holds of all subterms.
-use Rattle.std.proofs.Common.{◌≡◌, inl, inr, zero, suc, List, [], ◌∷◌, ◌++◌, Some, refl, subst}
+use Rattle.std.proofs.Common.{◌≡◌, inl, inr, zero, suc, List, [], ◌∷◌, ◌++◌, Some, refl, sym, subst}
+use Rattle.vx_terms.specs.Sorts.{Sort, Symbol}
 use Rattle.vx_terms.specs.Terms.{Term, Truth, Number, Part, Constant, Apply, Not, Binary, Ite, AllOf, SomeOf, Terms, NoTerms, MoreTerms}
 use Rattle.vx_terms.specs.Interpretations.{Each}
-use Rattle.cs_certificate.specs.Terms.{items, parts, subterms, all_subterms, parts_of}
+use Rattle.cs_certificate.specs.Terms.{items, parts, subterms, all_subterms, parts_of, numbered}
 use Rattle.cs_certificate.specs.Certificate.{Stack, Contains, AreLive, AllLive}
-use Rattle.cs_numbers.proofs.Numbered.{in_either}
+use Rattle.cs_numbers.specs.Numbering.{added}
+use Rattle.cs_numbers.proofs.Added.{added_distinct}
+use Rattle.cs_numbers.proofs.Numbered.{in_either, from_added}
+use Rattle.cs_writable.specs.Writable.{IsWritableTerm, AreWritableTerms}
+use Rattle.cs_ground.specs.Ground.{IsFormed}
 use Rattle.cs_ground.proofs.Lists.{some_is}
 
 -- ---- a property that goes on to parts
@@ -79,3 +84,37 @@ module _ (stack : Stack) where
   live_part (Ite c t u) p h (suc (suc (suc n)), e) = cc
   live_part (AllOf ts) p h k = items_live ts p h k
   live_part (SomeOf ts) p h k = items_live ts p h k
+
+-- ---- parts of writable terms are writable
+items_writable : (ts : Terms) (p : Term) → AreWritableTerms ts → Contains (items ts) p → IsWritableTerm p
+items_writable NoTerms p h (n, e) = cc
+items_writable (MoreTerms t ts) p h (zero, e) = subst IsWritableTerm (some_is e) h.0
+items_writable (MoreTerms t ts) p h (suc n, e) = items_writable ts p h.1 (n, e)
+
+pub writable_part : (t p : Term) → IsWritableTerm t → Contains (parts t) p → IsWritableTerm p
+writable_part (Truth b) p h (n, e) = cc
+writable_part (Number z) p h (n, e) = cc
+writable_part (Part a) p h (n, e) = cc
+writable_part (Constant f a) p h (n, e) = cc
+writable_part (Apply f a ts) p h k = items_writable ts p h.1 k
+writable_part (Not t) p h (zero, e) = subst IsWritableTerm (some_is e) h
+writable_part (Not t) p h (suc n, e) = cc
+writable_part (Binary o t u) p h (zero, e) = subst IsWritableTerm (some_is e) h.0
+writable_part (Binary o t u) p h (suc zero, e) = subst IsWritableTerm (some_is e) h.1
+writable_part (Binary o t u) p h (suc (suc n), e) = cc
+writable_part (Ite c t u) p h (zero, e) = subst IsWritableTerm (some_is e) h.0
+writable_part (Ite c t u) p h (suc zero, e) = subst IsWritableTerm (some_is e) h.1
+writable_part (Ite c t u) p h (suc (suc zero), e) = subst IsWritableTerm (some_is e) h.2
+writable_part (Ite c t u) p h (suc (suc (suc n)), e) = cc
+writable_part (AllOf ts) p h k = items_writable ts p h.1 k
+writable_part (SomeOf ts) p h k = items_writable ts p h.1 k
+
+-- ---- the terms of the assertions
+pub numbered_part : (ts : List Term) (t : Term) → Contains (numbered ts) t → Contains (parts_of ts) t
+numbered_part ts t h = elim (from_added [] (parts_of ts) t (subst (λ us. Contains us t) (sym (added_distinct (parts_of ts))) h)) [ inl x ↦ (let e = x.1 in cc) | inr x ↦ x ]
+
+-- each application has arguments
+pub applied : (stack : Stack) → IsFormed stack → (f : Symbol) (a : Sort) → ¬ (Contains (numbered stack.assertions) (Apply f a NoTerms))
+applied stack formed f a h =
+    let writable = in_parts IsWritableTerm writable_part stack.assertions (Apply f a NoTerms) formed.writable (numbered_part stack.assertions (Apply f a NoTerms) h) in
+    let none = writable.0 in cc

@@ -1,20 +1,21 @@
 -- The equalities of a stack's terms, and the clauses that rules give of them.
 use Rattle.std.specs.Prelude.{◌≡◌, ℕ, true, List, [], ◌∷◌, ◌++◌, length, take}
-use Rattle.vx_terms.specs.Sorts.{Sort, BoolSort, Symbol}
-use Rattle.vx_terms.specs.Terms.{Term, Apply, Ite, NoTerms}
+use Rattle.vx_terms.specs.Sorts.{Sort, BoolSort}
+use Rattle.vx_terms.specs.Terms.{Term, Ite}
 use Rattle.vx_terms.specs.Interpretations.{Each}
 use Rattle.cs_certificate.specs.Terms.{head, parts, equal, numbered, HasSort}
 use Rattle.cs_certificate.specs.Certificate.{Literal, Yes, No, Clause, Stack, State, Contains, Equates, Pairs, Defines, AreLive}
 use Rattle.cs_numbers.specs.Laws.{IsSorted}
+use Rattle.cs_writable.specs.Writable.{IsWritableTerm}
 use Rattle.cs_classes.specs.Elements.{Assignment}
 use Rattle.cs_classes.specs.Agreement.{satisfies}
 use Rattle.cs_derivation.specs.Reached.{Reached, Stands, state_of}
 
--- the assertions are Bool terms over the live symbols, and each application has arguments
+-- the assertions are writable Bool terms over the live symbols
 pub record IsFormed (stack : Stack) : Type 0 where
   pub sorted : Each (λ t. HasSort t BoolSort) stack.assertions
   pub live : Each (AreLive stack) stack.assertions
-  pub applied : (f : Symbol) (a : Sort) → ¬ (Contains (numbered stack.assertions) (Apply f a NoTerms))
+  pub writable : Each IsWritableTerm stack.assertions
 
 -- two terms of one sort
 abbrev pub AreOfOneSort : Term → Term → Type 0

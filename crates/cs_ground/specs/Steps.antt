@@ -5,6 +5,7 @@ use Rattle.vx_terms.specs.Terms.{Term, Truth, Binary, Ite, sort_of}
 use Rattle.vx_terms.specs.Interpretations.{Each}
 use Rattle.cs_certificate.specs.Terms.{equal, HasSort}
 use Rattle.cs_certificate.specs.Certificate.{Clause, Step, Input, Define, Pick, Chain, Congruence, Stack, State, At, Contains, IsEquality, Derives, AreLive}
+use Rattle.cs_writable.specs.Writable.{IsWritableTerm}
 use Rattle.cs_derivation.specs.Reached.{Reached, Stands, state_of}
 use Rattle.cs_ground.specs.Ground.{AreOfOneSort, AreAtoms}
 use Rattle.cs_ground.specs.declared.aliases.Alias.{Alias}
@@ -26,11 +27,12 @@ AllIn terms ts = (t : Term) → Contains ts t → Contains terms t
 abbrev pub HasEquality : List Term → Term → Term → Type 0
 HasEquality terms x y = (e : Term) × IsEquality x y e × Contains terms e
 
--- only terms were named so far, which are over the live symbols
+-- only terms were named so far, which are over the live symbols, and writable
 pub record IsNaming (stack : Stack) (r : Reached) : Type 0 where
   pub stands : Stands stack r
   pub none : (state_of r).clauses ≡ []
   pub live : (t : Term) → Contains r.terms t → AreLive stack t
+  pub writable : (t : Term) → Contains r.terms t → IsWritableTerm t
 
 -- so it is with further terms
 pub record NamesMore (stack : Stack) (before after : Reached) : Type 0 where

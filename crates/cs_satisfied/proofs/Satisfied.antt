@@ -13,6 +13,7 @@ use Rattle.cs_classes.specs.Agreement.{satisfies, IsCall, constant, applies, IsW
 use Rattle.cs_classes.proofs.Rows.{true_is, equal_is}
 use Rattle.cs_classes.proofs.Numbered as numbers
 use Rattle.cs_ground.specs.Ground.{IsFormed, AreOfOneSort, IsGrounded, Satisfies}
+use Rattle.cs_ground.proofs.Parts.{applied}
 use Rattle.cs_satisfied.specs.Classed.{AreSame, identical, equated, AreClassed}
 use Rattle.cs_satisfied.specs.Laws.{SatisfiedIsEquivalence, SatisfiedAgrees, SatisfiedAssigns}
 use Rattle.cs_satisfied.proofs.Lists.{one_or_two, each_in, in_each, front_at, before_front}
@@ -220,7 +221,7 @@ module _ (stack : Stack) (s : State) (v : Assignment) (formed : IsFormed stack) 
 
     -- no constant is called on what an application is
     mixed : (f : Symbol) (a : Sort) (ts : Terms) → Contains all (Apply f a ts) → [] ≡ elements_of v (items ts) → ⊥
-    mixed f a NoTerms c e = formed.applied f a c
+    mixed f a NoTerms c e = applied stack formed f a c
     mixed f a (MoreTerms t ts) c e = cc
 
     -- calls of one symbol on the same elements have one element

@@ -25,7 +25,7 @@ use Rattle.cs_proof.specs.Views.{numbered}
 use Rattle.cs_proof.specs.Meant.{meant}
 use Rattle.cs_text.specs.Text.{listed, literal_text, step_text, text_of}
 use Rattle.cs_commands.specs.Following.{HasWord}
-use Rattle.cs_text.specs.Writable.{IsWritable}
+use Rattle.cs_writable.specs.Writable.{IsWritable}
 use Rattle.cs_text.specs.Law.{HaveWords, WrittenIsReadBack}
 use Rattle.cs_text.proofs.Whole.{One, Many, atom, list, none, one, join, more, one_signed, one_term, closes_one, counts}
 use Rattle.cs_text.proofs.Words.{found, has_word}

@@ -5,5 +5,3 @@ pub mod Terms
 pub mod Lexed
 pub mod Steps
 pub mod Certificates
-pub mod Pendings
-pub mod Decided

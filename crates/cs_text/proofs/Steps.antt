@@ -21,7 +21,7 @@ use Rattle.cs_reader.specs.Steps.{Step, Input, NewTerm, Define, Pick, Chain, Con
 use Rattle.cs_reader.specs.Reading.{if_number, opened_at, closed_at, number_at, name_at, one_at, two_at, three_at, number_or_close, numbers_at, literal_or_close, literals_at, minus_at, slash_at, integer_by, integer_at, signed, quotient, quotient_at, amount_by, amount_at, more_by, more_at, multipliers_at, tokens_from, input_at, term_at, pair_of, chain_of, chain_at, farkas_at, split_at, divide_at, propagate_at}
 use Rattle.cs_commands.proofs.Literals.{frac}
 use Rattle.cs_commands.proofs.Spellings.{not_lettered, other}
-use Rattle.cs_text.specs.Writable.{IsSmall, IsSmallLiteral, IsMultiplier}
+use Rattle.cs_writable.specs.Writable.{IsSmall, IsSmallLiteral, IsMultiplier}
 use Rattle.cs_text.specs.Text.{letter, literal_text}
 use Rattle.cs_text.proofs.Words.{numeral_back}
 use Rattle.cs_text.proofs.Lexed.{num, literal_token, ratio_tokens, multiplier_tokens, multipliers_tokens}

@@ -18,8 +18,7 @@ use Rattle.cs_reader.specs.declared.word.Word.TheVariants as words
 use Rattle.vx_terms.specs.declared.term.Operator.TheVariants as operators
 use Rattle.cs_reader.specs.Items.{◌>>=◌}
 use Rattle.cs_reader.specs.Spelling.{Scope, word, made, built, applied, alone, constant_of, listed, quotient_of, multiplied, spelled_at, if_whole, spelled}
-use Rattle.cs_commands.specs.Laws.{has_some}
-use Rattle.cs_text.specs.Writable.{IsWritableTerm, AreWritableTerms}
+use Rattle.cs_writable.specs.Writable.{has_some, IsWritableTerm, AreWritableTerms}
 use Rattle.cs_commands.proofs.Literals.{frac, decimal_back, inverse_back, product_small, product_is, negative_number, negative_part, unsigned_lowest}
 use Rattle.cs_text.proofs.Placed.{Reads, ReadsAll, reads_atom, reads_none, reads_more, reads_list, reads_one, reads_two, reads_three}
 use Rattle.cs_commands.specs.Following.{HasWord}

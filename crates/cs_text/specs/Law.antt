@@ -11,7 +11,7 @@ use Rattle.cs_proof.specs.Meant.{all_meant}
 use Rattle.cs_commands.specs.Laws.{AreApart}
 use Rattle.cs_commands.specs.Following.{HasWord}
 use Rattle.cs_text.specs.Text.{certificate_text}
-use Rattle.cs_text.specs.Writable.{IsWritable}
+use Rattle.cs_writable.specs.Writable.{IsWritable}
 
 -- no symbol is declared twice, and each has a word of its own
 abbrev pub HaveWords : List Declared → Type 0

@@ -1,10 +1,8 @@
-// What stands in the lists of steps: numbers, literals and multipliers.
-ghost use Rattle.std.specs.Prelude.{◌≡◌, ◌++◌, ◌<◌, ◌+◌, ◌^◌, ℕ, Bool, List, map, OnOk};
-ghost use Rattle.std.specs.List.{list_all};
+// The text of what stands in the lists of steps: numbers, literals and multipliers.
+ghost use Rattle.std.specs.Prelude.{◌≡◌, ◌++◌, ◌<◌, ◌+◌, ◌^◌, ℕ, List, map, OnOk};
 ghost use Rattle.vx_frac.specs.Fraction.{fraction};
 ghost use Rattle.vx_smt_meaning.specs.Words.{numeral};
 ghost use Rattle.cs_proof.specs.Views.{numbered};
-ghost use Rattle.cs_text.specs.Tests as tests;
 ghost use Rattle.cs_text.specs.Text.{behind, listed, literal_text, ratio_text, multiplier_text};
 
 use cs_reader::Literal;
@@ -16,35 +14,21 @@ use vx_smt_text::put_numeral;
 pub trait Item: Copy {
     ghost written: { Self → List ℕ };
 
-    ghost small: { Self → Bool };
-
     /// Writes it at the end.
     fn put(self, text: &mut Vec<u8>) -> Result<(), AllocError>
         ensures { OnOk result (text.new.items ≡ text.old.items ++ written self) };
-
-    /// Whether all its numbers stay below 2^127.
-    fn is_small(self) -> bool
-        ensures { result ≡ small self };
 }
 
 impl Item for u128 {
     ghost written = { numeral };
 
-    ghost small = { tests.is_small };
-
     fn put(self, text: &mut Vec<u8>) -> Result<(), AllocError> {
         put_numeral(text, self)
-    }
-
-    fn is_small(self) -> bool {
-        self < 1 << 127
     }
 }
 
 impl Item for Literal {
     ghost written = { λ l. literal_text (numbered l) };
-
-    ghost small = { λ l. tests.is_small_literal (numbered l) };
 
     fn put(self, text: &mut Vec<u8>) -> Result<(), AllocError> {
         if self.positive {
@@ -54,10 +38,6 @@ impl Item for Literal {
             text.push(b'n')?;
             put_numeral(text, self.number)
         }
-    }
-
-    fn is_small(self) -> bool {
-        self.number.is_small()
     }
 }
 
@@ -79,8 +59,6 @@ fn put_ratio(text: &mut Vec<u8>, p: u128, below: u128) -> Result<(), AllocError>
 impl Item for Frac {
     ghost written = { λ a. multiplier_text (fraction a) };
 
-    ghost small = { λ a. tests.is_small_fraction (fraction a) };
-
     fn put(self, text: &mut Vec<u8>) -> Result<(), AllocError> {
         let below = self.den().unsigned_abs() - 1;
         if self.num() < 0 {
@@ -90,10 +68,6 @@ impl Item for Frac {
         } else {
             put_ratio(text, self.num().unsigned_abs(), below)
         }
-    }
-
-    fn is_small(self) -> bool {
-        self.num().unsigned_abs().is_small() && self.den().unsigned_abs().is_small()
     }
 }
 
@@ -121,15 +95,4 @@ pub fn put_list<T: Item>(text: &mut Vec<u8>, items: &[T]) -> Result<(), AllocErr
             text.extend_from_slice(b")")
         }
     }
-}
-
-pub fn are_small<T: Item>(items: &[T]) -> bool
-    ensures { result ≡ list_all T.small items.now }
-{
-    for item in items {
-        if !item.is_small() {
-            return false;
-        }
-    }
-    true
 }

@@ -10,8 +10,8 @@ use Rattle.cs_derivation.proofs.NewTerms.{is_named}
 use Rattle.cs_derivation.proofs.derivation.Derivation.name.Goals as goal
 
 pub returns : goal.returns
-returns c = λ stack stands sorted live.
+returns c = λ stack stands sorted live writable.
     let all = terms_in c.add.new.all in
-    is_named stack (reached c.args.self) stands (term c.args.t.now.value) sorted live (terms_in c.add.new.all) (nodes_in c.extend.new.all) c.in_ok-add.ensures
+    is_named stack (reached c.args.self) stands (term c.args.t.now.value) sorted live writable (terms_in c.add.new.all) (nodes_in c.extend.new.all) c.in_ok-add.ensures
     (ap (λ n. nodes_after (nodes_in c.args.self.nodes) all (drop n all)) (length-map c.args.self.nodes.nodes.items _) ∙ c.in_ok-extend.ensures.value)
     (map written c.push_term.new.steps.items) c.in_ok-number.number c.in_ok-push_term.ensures (ap (λ t. place all (term t)) (sym c.deref.ensures) ∙ c.in_ok-number.ensures)

@@ -2,9 +2,9 @@
 use Rattle.std.specs.Prelude.{ℕ, ◌+◌, Bool, true, ◌&&◌, List, [], ◌∷◌}
 use Rattle.vx_terms.specs.Parts.{parts, parts_in}
 use Rattle.vx_terms.specs.Views.{term, terms}
-use Rattle.cs_text.specs.Tests.{is_writable_term, are_writable_terms}
-use Rattle.cs_text.specs.declared.term_walk.Pending.{Pending}
-use Rattle.cs_text.specs.declared.term_walk.Pending.TheVariants as pending'
+use Rattle.cs_writable.specs.Tests.{is_writable_term, are_writable_terms}
+use Rattle.cs_writable.specs.declared.term_walk.Pending.{Pending}
+use Rattle.cs_writable.specs.declared.term_walk.Pending.TheVariants as pending'
 
 abbrev pub one_writable : Pending → Bool
 one_writable (pending'.Term t) = is_writable_term (term t.now)

@@ -1,8 +1,8 @@
 -- One more that is pending.
 use Rattle.std.proofs.Common.{◌≡◌, ◌+◌, Bool, true, false, ◌&&◌, List, [], ◌∷◌, ◌++◌, refl, sym, ap, ◌∙◌, arith}
 use Rattle.std.proofs.Math.Bool.{and-true}
-use Rattle.cs_text.specs.declared.term_walk.Pending.{Pending}
-use Rattle.cs_text.specs.Pending.{one_writable, all_writable, load_of, load}
+use Rattle.cs_writable.specs.declared.term_walk.Pending.{Pending}
+use Rattle.cs_writable.specs.Pending.{one_writable, all_writable, load_of, load}
 
 pub and_parted : (a b c : Bool) → ((a && b) && c) ≡ (a && (b && c))
 and_parted true b c = refl

@@ -1,7 +1,7 @@
 use Rattle.std.proofs.Common.{◌<◌, ◌&&◌, sym, ap, ◌∙◌, subst}
-use Rattle.cs_text.specs.Pending.{all_writable, load}
-use Rattle.cs_text.proofs.Pendings.{writable_more, load_more}
-use Rattle.cs_text.proofs.term_walk.is_writable_term.Goals as goal
+use Rattle.cs_writable.specs.Pending.{all_writable, load}
+use Rattle.cs_writable.proofs.Pendings.{writable_more, load_more}
+use Rattle.cs_writable.proofs.term_walk.is_writable_term.Goals as goal
 
 pub loop-next-smaller : goal.loop-next-smaller
 loop-next-smaller c =

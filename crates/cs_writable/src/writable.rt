@@ -4,10 +4,10 @@ ghost use Rattle.std.specs.Bool.{Decides};
 ghost use Rattle.vx_frac.specs.Fraction.{fraction};
 ghost use Rattle.cs_certificate.specs.Certificate as Written;
 ghost use Rattle.cs_proof.specs.Views.{written, numbered};
-ghost use Rattle.cs_text.specs.Writable.{AreWritable};
-ghost use Rattle.cs_text.specs.Tests as tests;
+ghost use Rattle.cs_writable.specs.Writable.{AreWritable};
+ghost use Rattle.cs_writable.specs.Tests as tests;
 
-use crate::items::{Item, are_small};
+use crate::small::{Small, are_small};
 use crate::term_walk::is_writable_term;
 use cs_proof::Step;
 use cs_reader::Literal;

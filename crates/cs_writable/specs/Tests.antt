@@ -5,7 +5,7 @@ use Rattle.vx_frac.specs.Fractions.{Fraction}
 use Rattle.vx_terms.specs.Terms.{Term, Truth, Number, Part, Constant, Apply, Not, Binary, Ite, AllOf, SomeOf, Terms, NoTerms, MoreTerms}
 use Rattle.vx_smt_text.specs.Unique.{has_three}
 use Rattle.cs_certificate.specs.Certificate.{NumberedLiteral, Step, Input, NewTerm, Define, Pick, Chain, Congruence, Farkas, Split, Trichotomy, Divide, Propagate}
-use Rattle.cs_commands.specs.Laws.{has_some}
+use Rattle.cs_writable.specs.Writable.{has_some}
 
 abbrev pub is_small : ℕ → Bool
 is_small n = nat_lt n (2 ^ 127)

@@ -1,11 +1,10 @@
 -- Steps whose text is read back.
-use Rattle.std.specs.Prelude.{◌≡◌, ⊤, ℕ, suc, ◌<◌, ◌^◌, nat_abs, true, List, Option, Some, None}
+use Rattle.std.specs.Prelude.{◌≡◌, ⊤, ℕ, suc, ◌<◌, ◌^◌, nat_abs, Bool, true, false, List, Option, Some, None}
 use Rattle.vx_frac.specs.Fractions.{Fraction, lowest}
 use Rattle.vx_terms.specs.Terms.{Term, Truth, Number, Part, Constant, Apply, Not, Binary, Ite, AllOf, SomeOf, Terms, NoTerms, MoreTerms}
 use Rattle.vx_terms.specs.Interpretations.{Each}
 use Rattle.vx_smt_text.specs.Unique.{has_three}
 use Rattle.cs_certificate.specs.Certificate.{NumberedLiteral, Step, Input, NewTerm, Define, Pick, Chain, Congruence, Farkas, Split, Trichotomy, Divide, Propagate}
-use Rattle.cs_commands.specs.Laws.{has_some}
 
 abbrev pub IsSmall : ℕ → Type 0
 IsSmall n = n < 2 ^ 127
@@ -16,6 +15,10 @@ IsSmallLiteral l = IsSmall l.number
 -- in lowest terms
 abbrev pub IsMultiplier : Fraction → Type 0
 IsMultiplier a = (lowest a ≡ a) × IsSmall (nat_abs a.numerator) × IsSmall (suc a.below)
+
+abbrev pub has_some : Terms → Bool
+has_some NoTerms = false
+has_some (MoreTerms t ts) = true
 
 -- The numbers stay below 2^127; an application has arguments, and `and` and `or` of a list have three parts or more.
 abbrev mutual

@@ -3,11 +3,11 @@ ghost use Rattle.std.specs.Prelude.{◌≡◌, ◌<◌, ◌+◌, ◌&&◌, IfOk,
 ghost use Rattle.vx_terms.specs.Parts.{parts};
 ghost use Rattle.vx_terms.specs.Views.{term, terms};
 ghost use Rattle.vx_smt_text.specs.Unique as three;
-ghost use Rattle.cs_commands.specs.Laws as some;
-ghost use Rattle.cs_text.specs.Tests as tests;
-ghost use Rattle.cs_text.specs.Pending.{one_writable, all_writable, load_of, load};
+ghost use Rattle.cs_writable.specs.Writable as some;
+ghost use Rattle.cs_writable.specs.Tests as tests;
+ghost use Rattle.cs_writable.specs.Pending.{one_writable, all_writable, load_of, load};
 
-use crate::items::Item;
+use crate::small::Small;
 use std::alloc::{AllocError, Global};
 use vx_terms::{Term, Terms};
 

@@ -3,9 +3,9 @@ use Rattle.std.specs.List.{list_all}
 use Rattle.std.proofs.lemmas.Bool.Decides.{Decides-at}
 use Rattle.std.proofs.lemmas.Grind.{common_steps}
 use Rattle.cs_proof.specs.Views.{written}
-use Rattle.cs_text.specs.Tests.{is_writable_step}
-use Rattle.cs_text.proofs.Decided.{writable}
-use Rattle.cs_text.proofs.writable.are_writable.Goals as goal
+use Rattle.cs_writable.specs.Tests.{is_writable_step}
+use Rattle.cs_writable.proofs.Decided.{writable}
+use Rattle.cs_writable.proofs.writable.are_writable.Goals as goal
 
 pub returns-then-not-fine : goal.returns-then-not-fine
 returns-then-not-fine c =

@@ -1,13 +1,15 @@
 use Rattle.std.proofs.Common.{arith}
 use Rattle.std.proofs.lemmas.Grind.{common_steps}
 use Rattle.std.proofs.lemmas.List.Folds.{list_all-map}
+use Rattle.vx_frac.specs.Fraction.{fraction}
 use Rattle.cs_proof.specs.Views.{numbered}
-use Rattle.cs_text.specs.Tests.{is_small_literal}
-use Rattle.cs_text.proofs.writable.is_writable_propagation.Goals as goal
+use Rattle.cs_writable.specs.Tests.{is_small_literal, is_small_fraction}
+use Rattle.cs_writable.proofs.writable.is_writable_farkas.Goals as goal
 
 pub returns-then-are_small : goal.returns-then-are_small
 returns-then-are_small c =
     let literals = list_all-map is_small_literal numbered c.args.literals.now in
+    let multipliers = list_all-map is_small_fraction fraction c.args.multipliers.now in
     grind (arith, common_steps)
 
 pub returns-else-are_small : goal.returns-else-are_small

@@ -1,4 +1,4 @@
--- The tests decide which steps are writable.
+-- The tests decide which terms and steps are writable.
 use Rattle.std.proofs.Common.{◌≡◌, ℕ, suc, ◌^◌, Bool, true, false, ◌&&◌, List, [], ◌∷◌, map, refl}
 use Rattle.std.specs.Prelude.{⊤, nat_abs}
 use Rattle.std.specs.Bool.{Decides}
@@ -12,12 +12,11 @@ use Rattle.vx_terms.specs.Terms.{Term, Truth, Number, Part, Constant, Apply, Not
 use Rattle.vx_terms.specs.Interpretations.{Each}
 use Rattle.vx_terms.specs.Views.{term}
 use Rattle.vx_smt_text.specs.Unique.{has_three}
-use Rattle.cs_commands.specs.Laws.{has_some}
 use Rattle.cs_proof.specs.declared.step.Step.{Step}
 use Rattle.cs_proof.specs.declared.step.Step.TheVariants as steps
 use Rattle.cs_proof.specs.Views.{written, numbered}
-use Rattle.cs_text.specs.Writable.{IsSmall, IsSmallLiteral, IsMultiplier, IsWritableTerm, AreWritableTerms, IsWritableStep, AreWritable}
-use Rattle.cs_text.specs.Tests.{is_small, is_small_literal, is_small_fraction, is_writable_term, are_writable_terms, is_writable_step}
+use Rattle.cs_writable.specs.Writable.{has_some, IsSmall, IsSmallLiteral, IsMultiplier, IsWritableTerm, AreWritableTerms, IsWritableStep, AreWritable}
+use Rattle.cs_writable.specs.Tests.{is_small, is_small_literal, is_small_fraction, is_writable_term, are_writable_terms, is_writable_step}
 
 -- ---- tests of each
 
@@ -53,7 +52,7 @@ all_small (n ∷ ns) = both (is_small n) (list_all is_small ns) (small n) (all_s
 -- ---- terms
 
 mutual
-  writable_term : (t : Term) → Decides (is_writable_term t) (IsWritableTerm t)
+  pub writable_term : (t : Term) → Decides (is_writable_term t) (IsWritableTerm t)
   writable_term (Truth b) = always
   writable_term (Number z) = small (nat_abs z)
   writable_term (Part a) = both (is_small (nat_abs a.numerator)) (is_small (suc a.below)) (small (nat_abs a.numerator)) (small (suc a.below))
