@@ -4,8 +4,8 @@ use Rattle.std.specs.Bool.{Decides}
 use Rattle.std.specs.List.{list_all, list_any}
 use Rattle.std.proofs.lemmas.Bool.{false≢true, leb-true, le-leb}
 use Rattle.std.proofs.lemmas.Bool.Decides.{Decides-and}
-use Rattle.vx_terms.specs.Sorts.{Sort, IntSort, BoolSort, RealSort, RefSort, SnapSort, OtherSort, Symbol}
-use Rattle.vx_terms.specs.Terms.{Term, Truth, Number, Part, Constant, Apply, Not, Binary, Ite, AllOf, SomeOf, NoTerms, MoreTerms, sort_of}
+use Rattle.vx_terms.specs.Sorts.{Sort, IntSort, BoolSort, RealSort, RefSort, SnapSort, OtherSort}
+use Rattle.vx_terms.specs.Terms.{Term, sort_of}
 use Rattle.vx_terms.specs.Interpretations.{Each}
 use Rattle.vx_terms.proofs.Same.{sort_is}
 use Rattle.cs_certificate.specs.Terms.{numbered, HasSort}
@@ -13,9 +13,12 @@ use Rattle.cs_certificate.specs.Certificate.{Stack, Contains, IsNumberSort, AreL
 use Rattle.cs_classes.specs.Agreement.{HasNoNumber}
 use Rattle.cs_sorts.specs.Sorting.{sort_in, is_live}
 use Rattle.cs_sorts.proofs.Told.{tells_sorts, tells_live}
+use Rattle.cs_writable.specs.Writable.{IsWritableTerm}
+use Rattle.cs_writable.specs.Tests.{is_writable_term}
+use Rattle.cs_writable.proofs.Decided.{writable_term}
 use Rattle.cs_answer.specs.Causes.{is_number_sort, is_number}
 use Rattle.cs_answer.specs.Few.{few_limit, bool_count, IsFew}
-use Rattle.cs_answer.specs.Tests.{is_bare, are_few, is_bool_sort, is_assertion, are_formed, is_few}
+use Rattle.cs_answer.specs.Tests.{are_few, is_bool_sort, is_assertion, are_formed, is_few}
 
 some_is : {A : Type 0} {x y : A} → Some x ≡ Some y → x ≡ y
 some_is e = cc
@@ -65,28 +68,6 @@ numbers_decided terms =
     let d = none_decided is_number terms in
     (λ e t at. no_number (sort_of t) (d.0 e t at), λ h. d.1 (λ t at. not_number (sort_of t) (h t at)))
 
--- each application has arguments
-abbrev AreApplied : List Term → Type 0
-AreApplied terms = (f : Symbol) (a : Sort) → ¬ (Contains terms (Apply f a NoTerms))
-
-not_bare : (terms : List Term) → AreApplied terms → (t : Term) → Contains terms t → is_bare t ≡ false
-not_bare terms h (Apply f a NoTerms) at = absurd (h f a at)
-not_bare terms h (Apply f a (MoreTerms t ts)) at = refl
-not_bare terms h (Truth b) at = refl
-not_bare terms h (Number z) at = refl
-not_bare terms h (Part a) at = refl
-not_bare terms h (Constant f a) at = refl
-not_bare terms h (Not t) at = refl
-not_bare terms h (Binary o t u) at = refl
-not_bare terms h (Ite c t u) at = refl
-not_bare terms h (AllOf ts) at = refl
-not_bare terms h (SomeOf ts) at = refl
-
-applied_decided : (terms : List Term) → Decides (not (list_any is_bare terms)) (AreApplied terms)
-applied_decided terms =
-    let d = none_decided is_bare terms in
-    (λ e f a at. false≢true (sym (d.0 e (Apply f a NoTerms) at)), λ h. d.1 (not_bare terms h))
-
 count_decided : (terms : List Term) → Decides (nat_le (bool_count terms) few_limit) (bool_count terms ≤ few_limit)
 count_decided terms = (λ e. leb-true (bool_count terms) few_limit e, λ h. le-leb (bool_count terms) few_limit h)
 
@@ -107,18 +88,19 @@ pub few_decided : (stack : Stack) → Decides (is_few stack) (IsFew stack)
 few_decided stack =
     let terms = numbered stack.assertions in
     let numbers = not (list_any is_number terms) in
-    let applied = not (list_any is_bare terms) in
     let count = nat_le (bool_count terms) few_limit in
     let sorted = list_all is_assertion stack.assertions in
+    let writable = list_all is_writable_term stack.assertions in
     let live = list_all (is_live stack.symbols) stack.assertions in
-    let few = Decides-and numbers (applied && count) (numbers_decided terms) (Decides-and applied count (applied_decided terms) (count_decided terms)) in
-    let formed = Decides-and sorted live (each_decided is_assertion (λ t. HasSort t BoolSort) assertion_decided stack.assertions) (each_decided (is_live stack.symbols) (AreLive stack) (tells_live stack) stack.assertions) in
+    let few = Decides-and numbers count (numbers_decided terms) (count_decided terms) in
+    let later = Decides-and writable live (each_decided is_writable_term IsWritableTerm writable_term stack.assertions) (each_decided (is_live stack.symbols) (AreLive stack) (tells_live stack) stack.assertions) in
+    let formed = Decides-and sorted (writable && live) (each_decided is_assertion (λ t. HasSort t BoolSort) assertion_decided stack.assertions) later in
     let all = Decides-and (are_few terms) (are_formed stack) few formed in (
       λ e.
           let h = all.0 e in
           record {
-            plain = record { formed = record { sorted = h.1.0; live = h.1.1; applied = h.0.1.0 }; no_number = h.0.0 };
-            few = h.0.1.1;
+            plain = record { formed = record { sorted = h.1.0; live = h.1.1.1; writable = h.1.1.0 }; no_number = h.0.0 };
+            few = h.0.1;
           },
-      λ h. all.1 ((h.plain.no_number, (h.plain.formed.applied, h.few)), (h.plain.formed.sorted, h.plain.formed.live)),
+      λ h. all.1 ((h.plain.no_number, h.few), (h.plain.formed.sorted, (h.plain.formed.writable, h.plain.formed.live))),
     )

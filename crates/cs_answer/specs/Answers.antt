@@ -6,14 +6,15 @@ use Rattle.cs_numbers.specs.Laws.{IsSorted}
 use Rattle.cs_proof.specs.Answers.{Answers}
 use Rattle.cs_proof.specs.Checking.{Finished}
 use Rattle.cs_proof.specs.Views.{written}
+use Rattle.cs_writable.specs.Writable.{AreWritable}
 use Rattle.cs_model.specs.Models.{interpretation}
 use Rattle.cs_answer.specs.declared.answer.Answer.{Answer}
 use Rattle.cs_answer.specs.declared.answer.Answer.TheVariants as answers
 use Rattle.cs_answer.specs.Causes.{IsCause}
 
--- where it refutes: the checker finishes the steps, and the assertions are true in no interpretation
+-- where it refutes: the checker finishes the steps, all of which are writable, and the assertions are true in no interpretation
 abbrev pub IsRefutation : Stack → Answer → Type 0
-IsRefutation stack (answers.Refuted steps) = Answers stack (map written steps.items) Finished × IsUnsatisfiable stack.assertions
+IsRefutation stack (answers.Refuted steps) = Answers stack (map written steps.items) Finished × AreWritable (map written steps.items) × IsUnsatisfiable stack.assertions
 IsRefutation stack (answers.Satisfied m) = ⊤
 IsRefutation stack (answers.Unknown cause) = ⊤
 

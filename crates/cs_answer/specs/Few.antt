@@ -20,7 +20,7 @@ is_bool t = same_sort (sort_of t) BoolSort
 abbrev pub bool_count : List Term → ℕ
 bool_count terms = count_by is_bool terms
 
--- Bool assertions over the live symbols, without numbers, and few of their terms are Bool
+-- writable Bool assertions over the live symbols, without numbers, and few of their terms are Bool
 pub record IsFew (stack : Stack) : Type 0 where
   pub plain : IsPlain stack
   pub few : bool_count (numbered stack.assertions) ≤ few_limit

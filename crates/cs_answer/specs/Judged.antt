@@ -18,6 +18,7 @@ use Rattle.cs_proof.specs.declared.step.Step.{Step}
 use Rattle.cs_proof.specs.Answers.{Answers}
 use Rattle.cs_proof.specs.Checking.{Finished, Over}
 use Rattle.cs_proof.specs.Views.{written}
+use Rattle.cs_writable.specs.Writable.{AreWritable}
 use Rattle.cs_answer.specs.declared.answer.Answer.{Answer}
 use Rattle.cs_answer.specs.declared.answer.Answer.TheVariants as answers
 use Rattle.cs_answer.specs.declared.answer.Cause.TheVariants as causes
@@ -26,10 +27,18 @@ use Rattle.cs_answer.specs.Causes.{is_nonlinear_at, has_number}
 abbrev pub call_of : Call → sums.Over
 call_of c = record { call = c.op; left = fraction c.a; right = fraction c.b }
 
--- a refutation exactly where the checker finishes the steps, and a call exactly where it stops at one
+-- a refutation by finished steps exactly where they are writable
+abbrev pub IsByText : Vec Step → Result Answer Stop → Type 0
+IsByText steps (Ok a) = (a ≡ answers.Refuted steps) × AreWritable (map written steps.items)
+IsByText steps (Err stops.Miss) = AreWritable (map written steps.items) → ⊥
+IsByText steps (Err (stops.Over c)) = ⊥
+IsByText steps (Err stops.Budget) = ⊥
+IsByText steps (Err stops.Want) = ⊤
+
+-- a refutation exactly where the checker finishes the steps and they are writable, and a call exactly where it stops at one
 abbrev pub IsByChecker : Stack → Vec Step → Result Answer Stop → Type 0
-IsByChecker stack steps (Ok a) = (a ≡ answers.Refuted steps) × Answers stack (map written steps.items) Finished
-IsByChecker stack steps (Err stops.Miss) = (Answers stack (map written steps.items) Finished → ⊥) × ((n : ℕ) (o : sums.Over) → Answers stack (map written steps.items) (Over n o) → ⊥)
+IsByChecker stack steps (Ok a) = (a ≡ answers.Refuted steps) × Answers stack (map written steps.items) Finished × AreWritable (map written steps.items)
+IsByChecker stack steps (Err stops.Miss) = (Answers stack (map written steps.items) Finished → AreWritable (map written steps.items) → ⊥) × ((n : ℕ) (o : sums.Over) → Answers stack (map written steps.items) (Over n o) → ⊥)
 IsByChecker stack steps (Err (stops.Over c)) = (n : ℕ) × Answers stack (map written steps.items) (Over n (call_of c))
 IsByChecker stack steps (Err stops.Budget) = ⊥
 IsByChecker stack steps (Err stops.Want) = ⊤

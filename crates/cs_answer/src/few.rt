@@ -1,8 +1,7 @@
 //! Whether a stack is one that is always decided: without numbers, and with few Bool terms.
 ghost use Rattle.std.specs.Prelude.{◌≡◌, map, IfOk};
 ghost use Rattle.std.specs.Bool.{Decides};
-ghost use Rattle.std.specs.List.{list_any};
-ghost use Rattle.vx_terms.specs.Views.{term, terms};
+ghost use Rattle.vx_terms.specs.Views.{term};
 ghost use Rattle.cs_certificate.specs.Terms.{numbered};
 ghost use Rattle.cs_proof.specs.Fits.{seen};
 ghost use Rattle.cs_answer.specs.Few as clean;
@@ -15,7 +14,7 @@ use cs_numbers::{number, numbers_are_given};
 use cs_proof::{Stack, Want};
 use std::alloc::{AllocError, Global};
 use std::rc::Rc;
-use vx_terms::{Sort, Term, Terms};
+use vx_terms::{Sort, Term};
 
 /// At most so many terms are Bool.
 const FEW: usize = 10;
@@ -39,43 +38,11 @@ fn bool_count(all: &[Rc<Term>]) -> Result<usize, AllocError>
     Ok(count)
 }
 
-fn has_none(parts: &Terms) -> bool
-    ensures { result ≡ tests.has_none (terms parts.now) }
-{
-    match parts {
-        Terms::None => true,
-        Terms::More(_, _) => false,
-    }
-}
-
-/// Whether a term is an application without arguments.
-fn is_bare(t: &Term) -> bool
-    ensures { result ≡ tests.is_bare (term t.now) }
-{
-    match t {
-        Term::Apply(_, _, parts) => has_none(parts),
-        Term::Truth(_) | Term::Number(_) | Term::Part(_) | Term::Constant(_, _) => false,
-        Term::Not(_) | Term::Binary(_, _, _) | Term::Ite(_, _, _) => false,
-        Term::AllOf(_) | Term::SomeOf(_) => false,
-    }
-}
-
-fn has_bare(all: &[Rc<Term>]) -> bool
-    ensures { result ≡ list_any tests.is_bare (map (λ x. term x.value) all.now) }
-{
-    for t in all {
-        if is_bare(t) {
-            return true;
-        }
-    }
-    false
-}
-
-/// Whether there are no numbers among the terms, each application has arguments, and few terms are Bool.
+/// Whether there are no numbers among the terms, and few terms are Bool.
 fn are_few(all: &[Rc<Term>]) -> Result<bool, AllocError>
     ensures { IfOk result (λ b. b ≡ tests.are_few (map (λ x. term x.value) all.now)) }
 {
-    if has_number_among(all)? || has_bare(all) {
+    if has_number_among(all)? {
         return Ok(false);
     }
     Ok(bool_count(all)? <= FEW)
@@ -90,7 +57,7 @@ fn have_few(alloc: Global, assertions: &[Rc<Term>]) -> Result<bool, AllocError>
     are_few(&numbered.terms)
 }
 
-/// Whether the assertions of a stack are Bool terms over the live symbols, without numbers, of which few terms are Bool.
+/// Whether the assertions of a stack are writable Bool terms over the live symbols, without numbers, of which few terms are Bool.
 ///
 /// # Errors
 /// Memory runs out.

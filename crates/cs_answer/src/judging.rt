@@ -16,7 +16,7 @@ ghost use Rattle.cs_meter.specs.Units.{limit};
 ghost use Rattle.cs_model.specs.declared.tables.Model.{Model};
 ghost use Rattle.cs_answer.specs.Causes.{IsCause, is_nonlinear_at, has_number};
 ghost use Rattle.cs_answer.specs.Answers.{IsRight};
-ghost use Rattle.cs_answer.specs.Judged.{HasCause, IsByChecker, IsByModel, IsModel};
+ghost use Rattle.cs_answer.specs.Judged.{HasCause, IsByText, IsByChecker, IsByModel, IsModel};
 
 use crate::answer::{Answer, Cause};
 use crate::nonlinear::{has_number, is_nonlinear_at};
@@ -26,6 +26,7 @@ use cs_meter::{LIMIT, Meter};
 use cs_model::{Model, is_model};
 use cs_proof::{Checker, Stack, Step, Want, finished_refutes};
 use cs_reader::{Refusal, SymbolIndex, Symbols};
+use cs_writable::are_writable;
 use std::alloc::Global;
 use vx_frac::Over;
 use vx_smt_meaning::Declared;
@@ -54,17 +55,31 @@ fn refused(refusal: Refusal) -> Stop
     }
 }
 
-/// The steps refute the assertions where the checker finishes them.
+/// A refutation by finished steps, where all of them are writable.
 ///
 /// # Errors
-/// `Miss` where it refuses them; `Over` where a fraction leaves 128 bits; `Want` where memory runs out.
+/// `Miss` where one isn't; `Want` where memory runs out.
+fn writable(alloc: Global, steps: Vec<Step>) -> Result<Answer, Stop>
+    ensures { IsByText steps result }
+{
+    if are_writable(alloc, &steps)? {
+        Ok(Answer::Refuted(steps))
+    } else {
+        Err(Stop::Miss)
+    }
+}
+
+/// The steps refute the assertions where the checker finishes them, and all of them are writable.
+///
+/// # Errors
+/// `Miss` where it refuses them, or one isn't writable; `Over` where a fraction leaves 128 bits; `Want` where memory runs out.
 pub fn certified(alloc: Global, stack: &Stack, steps: Vec<Step>) -> Result<Answer, Stop>
     ensures right { IfOk result (IsRight (seen stack.now)) }
     ensures told { Each IsSorted (seen stack.now).assertions → IsByChecker (seen stack.now) steps result }
 {
     finished_refutes();
     match verdict(alloc, stack, &steps)? {
-        Ok(()) => Ok(Answer::Refuted(steps)),
+        Ok(()) => writable(alloc, steps),
         Err(refusal) => Err(refused(refusal)),
     }
 }

@@ -46,16 +46,18 @@ each_declared ds (t ∷ ts) h = (h.0, each_declared ds ts h.1)
 declared_kept : (scope : Scope) → Keeps scope (UsesDeclared scope.symbols)
 declared_kept scope = record {
   truth = λ b. tt;
-  number = λ z. tt;
-  part = λ a low. tt;
+  number = λ n small. tt;
+  negated = λ n h. tt;
+  part = λ a low small. tt;
+  opposite = λ m n h. tt;
   constant = λ d is none. subst (Declares scope.symbols) (alone_is d none) is;
   applies = λ d ts is h some sorts.
       (subst (Declares scope.symbols) (ap (λ (xs : List Sort). declaration d.symbol xs d.gives) (sym (own_sorts ts d.takes sorts))) is, each_declared scope.symbols ts h);
   nots = λ t h bool. h;
   binary = λ o t u h g takes same. (h, g);
   choices = λ c t u h f g bool same. (h, f, g);
-  all_of = λ ts h bools. each_declared scope.symbols ts h;
-  some_of = λ ts h bools. each_declared scope.symbols ts h;
+  all_of = λ ts h three bools. each_declared scope.symbols ts h;
+  some_of = λ ts h three bools. each_declared scope.symbols ts h;
 }
 
 -- ---- what is declared is new

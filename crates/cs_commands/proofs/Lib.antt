@@ -19,5 +19,6 @@ pub mod Sorted
 pub mod Alike
 pub mod InOrder
 pub mod Apart
-pub mod Arguments
+pub mod Small
+pub mod Writable
 pub mod Values

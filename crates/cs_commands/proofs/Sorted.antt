@@ -1,7 +1,9 @@
 -- An assertion that is understood is well-sorted.
-use Rattle.std.proofs.Common.{◌≡◌, inl, inr, ◌⊎◌, ℕ, suc, ◌+◌, ◌≤◌, Bool, true, false, ◌||◌, List, [], ◌∷◌, refl, subst, arith, le_refl}
+use Rattle.std.proofs.Common.{◌≡◌, inl, inr, ◌⊎◌, ℕ, suc, ◌+◌, ◌≤◌, Bool, true, false, ◌||◌, pos, neg_ℤ, List, [], ◌∷◌, refl, subst, arith, le_refl}
 use Rattle.std.specs.Prelude.{⊤}
 use Rattle.std.specs.List.{list_all}
+use Rattle.vx_frac.specs.Fraction.{ratio}
+use Rattle.vx_frac.proofs.Lowest.{lowest-lowest}
 use Rattle.vx_terms.specs.Sorts.{Sort, IntSort, BoolSort, RealSort, Symbol, Standard, Function, Variable, Named, Operator, And, Or, Implies, Equal, Less, LessEqual, Add, Subtract, Multiply, Div, Mod, Takes, same_sort}
 use Rattle.vx_terms.specs.Terms.{Term, Apply, Binary, Ite, sort_of}
 use Rattle.vx_terms.specs.Formed.{IsKnown, Formed, truth, number, part, constant, applies, nots, binary, ites, all_of, some_of, FormedAll, no_terms, more_terms, FormedBools, no_bools, more_bools}
@@ -9,7 +11,7 @@ use Rattle.vx_terms.specs.Interpretations.{Each}
 use Rattle.vx_terms.proofs.Same.{and_parts, sort_is}
 use Rattle.vx_smt_meaning.specs.Commands.{Command, Assert}
 use Rattle.cs_certificate.specs.Terms.{HasSort}
-use Rattle.cs_reader.specs.Spelling.{listed}
+use Rattle.cs_reader.specs.Spelling.{listed, over}
 use Rattle.cs_commands.specs.Live.{Scope}
 use Rattle.cs_commands.specs.Building.{is_bool, is_number_sort, takes}
 use Rattle.cs_commands.specs.Following.{UnderstoodIsSorted}
@@ -121,15 +123,17 @@ choice_sorted c t u e f g bool same =
 sorted_kept : (scope : Scope) → Keeps scope IsSorted
 sorted_kept scope = record {
   truth = λ b. record { from = 0; formed = λ n le. truth b };
-  number = λ z. record { from = 0; formed = λ n le. number z };
-  part = λ a low. record { from = 0; formed = λ n le. part a low };
+  number = λ k small. record { from = 0; formed = λ n le. number (pos k) };
+  negated = λ k h. record { from = 0; formed = λ n le. number (neg_ℤ (pos k)) };
+  part = λ a low small. record { from = 0; formed = λ n le. part a low };
+  opposite = λ m d h. record { from = 0; formed = λ n le. part (over (neg_ℤ (pos m)) d) (lowest-lowest (ratio (neg_ℤ (pos m)) (pos (suc d)))) };
   constant = λ d is none. record { from = known_from d.symbol; formed = λ n le. constant d.symbol d.gives (is_known d.symbol n le) };
   applies = λ d ts is h some sorts. applied_sorted d.symbol d.gives ts (all_sorted ts h);
   nots = λ t h bool. record { from = h.from; formed = λ n le. nots (at_bool t bool (h.formed n le)) };
   binary = binary_sorted;
   choices = choice_sorted;
-  all_of = λ ts h bools. let s = all_bools ts h bools in record { from = s.from; formed = λ n le. all_of (s.formed n le) };
-  some_of = λ ts h bools. let s = all_bools ts h bools in record { from = s.from; formed = λ n le. some_of (s.formed n le) };
+  all_of = λ ts h three bools. let s = all_bools ts h bools in record { from = s.from; formed = λ n le. all_of (s.formed n le) };
+  some_of = λ ts h three bools. let s = all_bools ts h bools in record { from = s.from; formed = λ n le. some_of (s.formed n le) };
 }
 
 -- ---- commands

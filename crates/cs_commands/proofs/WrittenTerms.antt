@@ -16,7 +16,8 @@ use Rattle.cs_reader.specs.Spelling.{listed}
 use Rattle.cs_commands.specs.Live.{Scope}
 use Rattle.cs_commands.specs.Heads.{Head, NotHead, IteHead, MinusHead, OperatorHead, SymbolHead, head_at}
 use Rattle.cs_commands.specs.Building.{is_bool, takes, is_number_sort, have_sorts, if_sorted, operation_of_two, operation_of_many, built}
-use Rattle.cs_commands.specs.Laws.{AreApart, has_some, IsReadable, AreReadable}
+use Rattle.cs_writable.specs.Writable.{has_some}
+use Rattle.cs_commands.specs.Laws.{AreApart, IsReadable, AreReadable}
 use Rattle.cs_commands.proofs.Placing.{Reads, ReadsAll, reads_atom, reads_none, reads_more, reads_list, reads_one, reads_two, reads_three}
 use Rattle.cs_commands.proofs.Literals.{reads_number, reads_part}
 use Rattle.cs_commands.proofs.Declarations.{sort_same, declared_found, symbol_before, symbol_alone}

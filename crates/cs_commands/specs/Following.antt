@@ -1,14 +1,14 @@
--- What is understood may follow, is well-sorted, and is the same in any order of the declarations.
+-- What is understood may follow, is well-sorted and writable, and is the same in any order of the declarations.
 use Rattle.std.specs.Prelude.{◌≡◌, ⊤, ℕ, ◌<◌, true, List, length, reverse, Ok}
 use Rattle.vx_sexp.specs.declared.token.Token.{Token}
 use Rattle.vx_sexp.specs.Tokens.{Lexes, is_symbol}
 use Rattle.vx_terms.specs.Sorts.{Sort, BoolSort, Symbol}
-use Rattle.vx_terms.specs.Terms.{Term, Apply, NoTerms}
-use Rattle.vx_terms.specs.Interpretations.{Each}
+use Rattle.vx_terms.specs.Terms.{Term}
 use Rattle.vx_smt_meaning.specs.Commands.{Command, DeclareFun, Assert, Pop, Declared, Level, declared_in, stack_after}
 use Rattle.vx_smt_meaning.specs.Words.{symbol_word}
 use Rattle.vx_smt_meaning.specs.WellFormed.{knows_sort, MayFollow}
-use Rattle.cs_certificate.specs.Terms.{HasSort, subterms}
+use Rattle.cs_certificate.specs.Terms.{HasSort}
+use Rattle.cs_writable.specs.Writable.{IsWritableTerm}
 use Rattle.cs_commands.specs.declared.word.Word.TheVariants as words
 use Rattle.cs_commands.specs.Words.{term_word}
 use Rattle.cs_commands.specs.Names.{symbol_named}
@@ -31,14 +31,9 @@ UnderstoodMayFollow = (levels : List Level) (tokens : List Token) (c : Command) 
 abbrev pub UnderstoodIsSorted : Type 0
 UnderstoodIsSorted = (scope : Scope) (tokens : List Token) (t : Term) → understood scope tokens ≡ Ok (Assert t) → HasSort t BoolSort
 
--- no application without arguments
-abbrev pub HasArguments : Term → Type 0
-HasArguments (Apply f a NoTerms) = ⊥
-HasArguments t = ⊤
-
--- each application in an assertion has arguments, over any scope
-abbrev pub UnderstoodHasArguments : Type 0
-UnderstoodHasArguments = (scope : Scope) (tokens : List Token) (t : Term) → understood scope tokens ≡ Ok (Assert t) → Each HasArguments (subterms t)
+-- and writable: its numbers stay below 2^127, each application has arguments, and `and` and `or` of a list have three parts or more
+abbrev pub UnderstoodIsWritable : Type 0
+UnderstoodIsWritable = (scope : Scope) (tokens : List Token) (t : Term) → understood scope tokens ≡ Ok (Assert t) → IsWritableTerm t
 
 -- ---- a symbol that is declared has a word of its own
 

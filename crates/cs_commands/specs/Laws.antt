@@ -10,6 +10,7 @@ use Rattle.vx_smt_meaning.specs.WellFormed.{names, sorts_in, knows_sort, MayFoll
 use Rattle.vx_smt_meaning.specs.Words.{command_tokens}
 use Rattle.vx_smt_text.specs.Text.{command_text}
 use Rattle.vx_smt_text.specs.Unique.{has_three}
+use Rattle.cs_writable.specs.Writable.{has_some}
 use Rattle.cs_commands.specs.Names.{sort_named}
 use Rattle.cs_commands.specs.Live.{Scope}
 use Rattle.cs_commands.specs.Commands.{understood}
@@ -30,10 +31,6 @@ IsSmallSymbol (Standard n) = n < 2 ^ 32
 IsSmallSymbol (Function n) = n < 2 ^ 32
 IsSmallSymbol (Variable n) = n < 2 ^ 64
 IsSmallSymbol (Named x) = ⊤
-
-abbrev pub has_some : Terms → Bool
-has_some NoTerms = false
-has_some (MoreTerms t ts) = true
 
 -- The numbers stay below 2^127; an application has arguments, and `and` and `or` of a list have three parts or more.
 abbrev mutual

@@ -1,6 +1,6 @@
 //! Laws of the definitions, and examples.
 ghost use Rattle.cs_commands.specs.Examples.{Examples};
-ghost use Rattle.cs_commands.specs.Following.{UnderstoodMayFollow, UnderstoodIsSorted, UnderstoodHasArguments, UnderstoodAlike, UnderstoodHasWord, LookedUpInAnyOrder, UnderstoodInAnyOrder, StaysApart};
+ghost use Rattle.cs_commands.specs.Following.{UnderstoodMayFollow, UnderstoodIsSorted, UnderstoodIsWritable, UnderstoodAlike, UnderstoodHasWord, LookedUpInAnyOrder, UnderstoodInAnyOrder, StaysApart};
 ghost use Rattle.cs_commands.specs.Laws.{WrittenIsUnderstood};
 
 /// What is written for a command that may follow over what is declared is understood as that command.
@@ -18,9 +18,9 @@ pub fn understood_is_sorted()
     ensures { UnderstoodIsSorted }
 {}
 
-/// Each application in an assertion that is understood has arguments.
-pub fn understood_has_arguments()
-    ensures { UnderstoodHasArguments }
+/// An assertion that is understood is writable.
+pub fn understood_is_writable()
+    ensures { UnderstoodIsWritable }
 {}
 
 /// A symbol that is declared has a word of its own.

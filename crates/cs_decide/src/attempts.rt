@@ -84,9 +84,10 @@ fn undecided(alloc: Global, stack: &Stack, cause: Cause) -> Result<Answer, Want>
 }
 
 /// Decides the assertions of a stack. Numbers have the rules of linear arithmetic; a product of two terms that aren't literals, and
-/// a quotient or a remainder by such a term, is a term as any other. What is answered is right. Where no term is a number and at most
-/// ten are Bool, the answer is never `Unknown`: what attempts leave undecided is then decided by all clauses of the stack at once, in a
-/// time that may grow with the fourth power of the number of terms. Nor is it where `false` is asserted, or a term and its negation.
+/// a quotient or a remainder by such a term, is a term as any other. What is answered is right. Where the assertions are writable, no term
+/// is a number and at most ten are Bool, the answer is never `Unknown`: what attempts leave undecided is then decided by all clauses of
+/// the stack at once, in a time that may grow with the fourth power of the number of terms. Nor is it where `false` is asserted, or a term
+/// and its negation.
 ///
 /// # Errors
 /// `Want` where memory runs out.

@@ -1,5 +1,5 @@
 //! Decides a stack of assertions: search over clauses, classes of equal terms, linear arithmetic and models, joined. A refutation is
-//! answered only where the checker of certificates finishes its steps, and a model only where it makes all assertions true. A stack
+//! answered only where the checker of certificates finishes its steps and all of them are writable, and a model only where it makes all assertions true. A stack
 //! without numbers of which few terms are Bool is always decided.
 #![tactic(auto)]
 

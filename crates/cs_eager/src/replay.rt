@@ -7,6 +7,7 @@ ghost use Rattle.cs_derivation.specs.View.{reached};
 ghost use Rattle.cs_proof.specs.Answers.{Answers};
 ghost use Rattle.cs_proof.specs.Checking.{Finished};
 ghost use Rattle.cs_proof.specs.Views.{written};
+ghost use Rattle.cs_writable.specs.Writable.{AreWritable};
 ghost use Rattle.cs_search.specs.Extended.{AreKnown};
 ghost use Rattle.cs_search.specs.Propagation.{IsDerived};
 ghost use Rattle.cs_search.specs.Search.{Learns};
@@ -102,7 +103,7 @@ pub fn steps_of(
 ) -> Result<Vec<Step>, Stop>
     requires { AreKnown search.now.clauses.items (length atoms.now) }
     ensures { (stack : Stack) (first : List Clause) → Follows stack atoms.now (literals first) (reached derivation) → Learns first [] search.now.clauses.items search.now.steps.items → IsDerived search.now.clauses.items [] (reverse last.now.numbers.items) →
-        IsMade (λ v. Answers stack (map written v.items) Finished) result }
+        IsMade (λ v. Answers stack (map written v.items) Finished × AreWritable (map written v.items)) result }
 {
     let mut derivation = derivation;
     tell_all(

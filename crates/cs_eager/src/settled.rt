@@ -18,7 +18,7 @@ use cs_search::search::Solved;
 use cs_table::Stop;
 use std::alloc::Global;
 
-/// The answer of a stack: a certificate's steps that are finished, or a model that makes all assertions true.
+/// The answer of a stack: a certificate's writable steps that are finished, or a model that makes all assertions true.
 #[derive(Drop)]
 pub enum Settled {
     Refuted(Vec<Step>),

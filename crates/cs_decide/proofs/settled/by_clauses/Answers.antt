@@ -8,5 +8,5 @@ returns-in-Refuted-clause-right c =
     let stack = seen c.args.stack.now in (
     λ few.
     let finished = subst (IsSettled stack) c.in-Refuted.is (c.in_ok-steps.ensures few.plain) in
-    (λ sorted. (finished, c.finished_refutes.ensures.refuted stack _ finished), tt, tt)
+    (λ sorted. (finished.0, finished.1, c.finished_refutes.ensures.refuted stack _ finished.0), tt, tt)
     )

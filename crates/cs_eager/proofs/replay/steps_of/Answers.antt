@@ -3,6 +3,7 @@ use Rattle.cs_derivation.specs.View.{reached}
 use Rattle.cs_proof.specs.Views.{written}
 use Rattle.cs_proof.specs.Answers.{Answers}
 use Rattle.cs_proof.specs.Checking.{Finished}
+use Rattle.cs_writable.specs.Writable.{AreWritable}
 use Rattle.cs_eager.specs.Atoms.{literals}
 use Rattle.cs_eager.specs.Replayed.{Follows}
 use Rattle.cs_eager.proofs.Learned.{empty_stands, nothing_more, learns_over}
@@ -26,4 +27,4 @@ returns c = λ stack first f l d.
     let k = subst (λ cs. Follows stack c.args.atoms.now (literals cs) (reached c.tell_all.new.derivation)) c.deref.ensures.value g in
     let e = c.in_ok-tell.ensures stack c.args.search.now.clauses.items k (nothing_more c.args.atoms.now c.args.search.now.clauses.items c.args.last.now.numbers.items c.requires d) in
     let a = c.empty_clauses_finish.ensures stack (reached c.tell.new.derivation) e.stands (empty_stands stack c.args.atoms.now (literals c.args.search.now.clauses.items) (reached c.tell.new.derivation) e) in
-    subst (λ v. Answers stack (map written v.items) Finished) (sym c.into_steps.ensures) a
+    subst (λ v. Answers stack (map written v.items) Finished × AreWritable (map written v.items)) (sym c.into_steps.ensures) a
