@@ -5,7 +5,6 @@ use Rattle.vx_terms.specs.Terms.{Term, Truth, Number, Part, Constant, Apply, Not
 use Rattle.vx_terms.specs.Interpretations.{Each}
 use Rattle.cs_certificate.specs.Terms.{items, parts, subterms, all_subterms, parts_of, numbered}
 use Rattle.cs_certificate.specs.Certificate.{Stack, Contains, AreLive, AllLive}
-use Rattle.cs_numbers.specs.Numbering.{added}
 use Rattle.cs_numbers.proofs.Added.{added_distinct}
 use Rattle.cs_numbers.proofs.Numbered.{in_either, from_added}
 use Rattle.cs_writable.specs.Writable.{IsWritableTerm, AreWritableTerms}
