@@ -1,5 +1,5 @@
 -- What is tested of a stack before all its clauses are asked.
-use Rattle.std.specs.Prelude.{nat_le, Bool, true, false, not, ◌&&◌, List, Option, Some, None}
+use Rattle.std.specs.Prelude.{nat_le, Bool, false, not, ◌&&◌, List, Option, Some, None}
 use Rattle.std.specs.List.{list_all, list_any}
 use Rattle.vx_terms.specs.Sorts.{Sort, BoolSort, same_sort}
 use Rattle.vx_terms.specs.Terms.{Term}

@@ -93,7 +93,7 @@ pub record Keeps (scope : Scope) (P : Term → Type 0) : Type 0 where
   pub number : (n : ℕ) → n < 2 ^ 127 → P (Number (pos n))
   pub negated : (n : ℕ) → P (Number (pos n)) → P (Number (neg_ℤ (pos n)))
   pub part : (a : Fraction) → lowest a ≡ a → IsSmallFraction a → P (Part a)
-  pub opposite : (m n : ℕ) → P (Part (ratio (pos m) (pos (suc n)))) → P (Part (over (neg_ℤ (pos m)) n))
+  pub opposite : (m n : ℕ) → P (Part (record { numerator = pos m; below = n })) → P (Part (over (neg_ℤ (pos m)) n))
   pub constant : (d : Declared) → Declares scope.symbols d → is_empty d.takes ≡ true → P (Constant d.symbol d.gives)
   pub applies : (d : Declared) (ts : List Term) → Declares scope.symbols d → Each P ts → not (is_empty ts) ≡ true → have_sorts ts d.takes ≡ true → P (Apply d.symbol d.gives (listed ts))
   pub nots : (t : Term) → P t → is_bool t ≡ true → P (Not t)

@@ -1,5 +1,5 @@
 -- An assertion that is understood is writable.
-use Rattle.std.proofs.Common.{◌≡◌, suc, not, true, pos, neg_ℤ, List, [], ◌∷◌, sym, subst}
+use Rattle.std.proofs.Common.{◌≡◌, suc, not, true, pos, neg_ℤ, List, [], ◌∷◌, sym, subst, arith}
 use Rattle.std.specs.Prelude.{⊤}
 use Rattle.vx_frac.specs.Fraction.{ratio}
 use Rattle.vx_sexp.specs.Tokens.{is_empty}
@@ -28,7 +28,7 @@ writable_kept scope = record {
   number = λ n small. small;
   negated = λ n h. subst IsSmall (sym (abs_neg n)) h;
   part = λ a low small. small;
-  opposite = λ m n h. lowest_small (ratio (neg_ℤ (pos m)) (pos (suc n))) (subst IsSmall (sym (abs_neg m)) h.0, h.1);
+  opposite = λ m n h. lowest_small (ratio (neg_ℤ (pos m)) (pos (suc n))) (subst IsSmall (sym (abs_neg m)) h.0, (let end : IsSmall (suc n) = h.1 in omega arith));
   constant = λ d is none. tt;
   applies = λ d ts is h some sorts. (have_some ts some, all_writable ts h);
   nots = λ t h bool. h;

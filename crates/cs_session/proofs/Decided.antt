@@ -9,9 +9,9 @@ use Rattle.cs_commands.specs.declared.fault.Fault.{Fault}
 use Rattle.cs_commands.specs.Commands.{understood}
 use Rattle.cs_commands.specs.Understanding.{Understands}
 use Rattle.cs_commands.specs.Laws.{scope_of}
-use Rattle.cs_commands.proofs.Arguments.{understood_applied}
 use Rattle.cs_commands.proofs.Following.{understood_follows}
 use Rattle.cs_commands.proofs.Sorted.{understood_sorted}
+use Rattle.cs_commands.proofs.Writable.{understood_writable}
 use Rattle.cs_answer.specs.declared.answer.Cause.{Cause}
 use Rattle.cs_answer.specs.Few.{IsFew}
 use Rattle.cs_session.specs.declared.reply.Reply.{Reply}
@@ -48,7 +48,7 @@ done_fit (Assert t) s u r tokens e done h =
     let fit : IsFit (declared_in s.levels) t = record {
       bool = understood_sorted (scope_of s.levels) tokens t e;
       uses = (understood_follows s.levels tokens (Assert t) e tt).declared;
-      applied = understood_applied (scope_of s.levels) tokens t e;
+      writable = understood_writable (scope_of s.levels) tokens t e;
     } in
     subst IsSound (sym done.1) (asserted_fit s.levels t fit h)
 done_fit (Push n) s u r tokens e done h = pushed_fit (nat_le n 256) n s u r done h

@@ -1,15 +1,15 @@
 -- Assertions on levels, each over the symbols of its level and those below it, make a stack that is formed.
 use Rattle.std.proofs.Common.{◌≡◌, inl, inr, ℕ, zero, suc, Bool, true, false, List, [], ◌∷◌, ◌++◌, map, drop, reverse, Some, refl, sym, ap, subst}
-use Rattle.std.specs.Prelude.{⊤, cond}
+use Rattle.std.specs.Prelude.{⊤}
 use Rattle.std.proofs.lemmas.List.{reverse-append}
 use Rattle.vx_terms.specs.Sorts.{BoolSort}
-use Rattle.vx_terms.specs.Terms.{Term, Truth, Number, Part, Constant, Apply, Not, Binary, Ite, AllOf, SomeOf, Terms, NoTerms, MoreTerms, same, sort_of}
+use Rattle.vx_terms.specs.Terms.{Term, Truth, Number, Part, Constant, Apply, Not, Binary, Ite, AllOf, SomeOf, Terms, NoTerms, MoreTerms, sort_of}
 use Rattle.vx_terms.specs.Interpretations.{Each}
 use Rattle.vx_smt_meaning.specs.Commands.{Assert, DeclareFun, DeclareSort, Declared, Level, opened, assertions_of, declared_in, stack_after}
 use Rattle.vx_smt_meaning.specs.Symbols.{declaration, Declares, sorts_of, UsesDeclared, AllUseDeclared}
-use Rattle.cs_certificate.specs.Terms.{HasSort, items, subterms, without, distinct, parts_of, numbered}
+use Rattle.cs_certificate.specs.Terms.{HasSort, items}
 use Rattle.cs_certificate.specs.Certificate.{Contains, AreLive, AllLive}
-use Rattle.cs_commands.specs.Following.{HasArguments}
+use Rattle.cs_writable.specs.Writable.{IsWritableTerm}
 use Rattle.cs_ground.specs.Ground.{IsFormed}
 use Rattle.cs_session.specs.Views.{standing}
 use Rattle.cs_session.proofs.Lists.{each_reverse}
@@ -26,27 +26,6 @@ each_more P Q (x ∷ xs) f h = (f x h.0, each_more P Q xs f h.1)
 each_both : {A : Type 0} (P : A → Type 0) (xs ys : List A) → Each P xs → Each P ys → Each P (xs ++ ys)
 each_both P [] ys h g = g
 each_both P (x ∷ xs) ys h g = (h.0, each_both P xs ys h.1 g)
-
-each_at : {A : Type 0} (P : A → Type 0) (xs : List A) (x : A) → Each P xs → Contains xs x → P x
-each_at P [] x h (n, at) = cc
-each_at P (y ∷ xs) x h (zero, at) = subst P (some_is at) h.0
-each_at P (y ∷ xs) x h (suc n, at) = each_at P xs x h.1 (n, at)
-
-each_without : (P : Term → Type 0) (t : Term) (us : List Term) → Each P us → Each P (without t us)
-each_without P t [] h = tt
-each_without P t (u ∷ us) h = go (same t u) (each_without P t us h.1)
-  where
-    go : (b : Bool) → Each P (without t us) → Each P (cond b (without t us) (u ∷ without t us))
-    go true g = g
-    go false g = (h.0, g)
-
-each_distinct : (P : Term → Type 0) (ts : List Term) → Each P ts → Each P (distinct ts)
-each_distinct P [] h = tt
-each_distinct P (t ∷ ts) h = (h.0, each_without P t (distinct ts) (each_distinct P ts h.1))
-
-each_part : (P : Term → Type 0) (ts : List Term) → Each (λ t. Each P (subterms t)) ts → Each P (parts_of ts)
-each_part P [] h = tt
-each_part P (t ∷ ts) h = each_both P (subterms t) (parts_of ts) h.0 (each_part P ts h.1)
 
 -- ---- over more symbols
 
@@ -67,14 +46,14 @@ mutual
   all_later ds d NoTerms h = tt
   all_later ds d (MoreTerms t ts) h = (uses_later ds d t h.0, all_later ds d ts h.1)
 
--- a Bool term over these symbols, in which each application has arguments
+-- a writable Bool term over these symbols
 pub record IsFit (ds : List Declared) (t : Term) : Type 0 where
   pub bool : HasSort t BoolSort
   pub uses : UsesDeclared ds t
-  pub applied : Each HasArguments (subterms t)
+  pub writable : IsWritableTerm t
 
 fit_later : (ds : List Declared) (d : Declared) (t : Term) → IsFit ds t → IsFit (d ∷ ds) t
-fit_later ds d t h = record { bool = h.bool; uses = uses_later ds d t h.uses; applied = h.applied }
+fit_later ds d t h = record { bool = h.bool; uses = uses_later ds d t h.uses; writable = h.writable }
 
 fit_behind : (es ds : List Declared) (t : Term) → IsFit ds t → IsFit (es ++ ds) t
 fit_behind [] ds t h = h
@@ -165,8 +144,5 @@ module _ (levels : List Level) where
   standing_formed h = record {
     sorted = each_standing (λ t. HasSort t BoolSort) (λ t fit. fit.bool) h;
     live = each_standing (AreLive (standing levels)) (λ t fit. live t fit.uses) h;
-    applied = λ f a at.
-        let ts = (standing levels).assertions in
-        let each = each_distinct HasArguments (parts_of ts) (each_part HasArguments ts (each_standing (λ t. Each HasArguments (subterms t)) (λ t fit. fit.applied) h)) in
-        each_at HasArguments (numbered ts) (Apply f a NoTerms) each at;
+    writable = each_standing IsWritableTerm (λ t fit. fit.writable) h;
   }

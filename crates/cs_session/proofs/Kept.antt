@@ -27,7 +27,7 @@ use Rattle.cs_commands.proofs.Following.{understood_follows}
 use Rattle.cs_commands.proofs.OwnWords.{understood_named}
 use Rattle.cs_commands.proofs.Passed.{some_is}
 use Rattle.cs_text.specs.Text.{certificate_text}
-use Rattle.cs_text.specs.Writable.{IsWritable, AreWritable}
+use Rattle.cs_writable.specs.Writable.{IsWritable, AreWritable}
 use Rattle.cs_text.specs.Law.{HaveWords, IsReadBack}
 use Rattle.cs_text.proofs.Certificates as texts
 use Rattle.cs_session.specs.declared.reply.Complaint.{Complaint}
@@ -36,7 +36,7 @@ use Rattle.cs_session.specs.declared.reply.Reply.TheVariants.{Success, Unsupport
 use Rattle.cs_session.specs.declared.session.Last.{Last}
 use Rattle.cs_session.specs.declared.session.Last.TheVariants.{Nothing, Refuted, Satisfied, Unknown}
 use Rattle.cs_session.specs.Views.{State, standing, depth}
-use Rattle.cs_session.specs.Replies.{Tells, FollowsIf, IsOne, Shows, Proves, Does, RepliesTo}
+use Rattle.cs_session.specs.Replies.{IsCertificate, Tells, FollowsIf, IsOne, Shows, Proves, Does, RepliesTo}
 use Rattle.cs_session.specs.Answering.{Answering, begun, given, answered}
 use Rattle.cs_session.specs.Kept.{proof_line, IsProof, ShownIsReadBack, KeptIsShown}
 use Rattle.cs_session.proofs.Lists.{each_reverse}
@@ -72,7 +72,7 @@ sort_declares (l ∷ levels) x = refl
 record IsKept (s : State) : Type 0 where
   apart : AreApart (declared_in s.levels)
   own : HaveOwn s.levels
-  told : (steps : Vec Step') → s.last ≡ Refuted steps → ∥ Answers (standing s.levels) (map written steps.items) Finished ∥₁
+  told : (steps : Vec Step') → s.last ≡ Refuted steps → ∥ IsCertificate s.levels steps ∥₁
 
 none_told : {R : Type 0} (steps : Vec Step') → Nothing ≡ Refuted steps → R
 none_told steps e = cc
@@ -88,7 +88,7 @@ untold_kept levels apart own = record { apart = apart; own = own; told = λ step
 same_kept : (levels next : List Level) → declared_in next ≡ declared_in levels → AreApart (declared_in levels) → HaveOwn levels → IsKept (untold next)
 same_kept levels next e apart own = untold_kept next (subst AreApart (sym e) apart) (subst (Each HasOwn) (sym e) own)
 
-answers_told : (levels : List Level) (r : Reply) (steps : Vec Step') → Tells levels r (Refuted steps) → ∥ Answers (standing levels) (map written steps.items) Finished ∥₁
+answers_told : (levels : List Level) (r : Reply) (steps : Vec Step') → Tells levels r (Refuted steps) → ∥ IsCertificate levels steps ∥₁
 answers_told levels Unsat steps h = h.0
 answers_told levels Success steps h = absurd h
 answers_told levels Unsupported steps h = absurd h
@@ -103,7 +103,7 @@ checked_kept s u r at tells k = record {
   apart = subst (λ ls. AreApart (declared_in ls)) (sym at) k.apart;
   own = subst HaveOwn (sym at) k.own;
   told = λ steps e.
-      subst (λ ls. ∥ Answers (standing ls) (map written steps.items) Finished ∥₁) (sym at) (answers_told s.levels r steps (subst (λ l. Tells s.levels r l) e tells));
+      subst (λ ls. ∥ IsCertificate ls steps ∥₁) (sym at) (answers_told s.levels r steps (subst (λ l. Tells s.levels r l) e tells));
 }
 
 -- ---- commands
@@ -168,41 +168,52 @@ no_two x y = absurd x
 -- ---- steps that are writable
 
 -- each is a step
-gathered : (steps : List (Option Step)) → AreWritable steps → (ws : List Step) × (steps ≡ map Some ws) × Each IsWritable ws
-gathered [] h = ([], refl, tt)
-gathered (Some w ∷ steps) h = let rest = gathered steps h.1 in (w ∷ rest.0, ap (λ xs. Some w ∷ xs) rest.1, (h.0, rest.2))
-gathered (None ∷ steps) h = absurd h.0
+gathered : (steps : List (Option Step)) → ∥ AreWritable steps ∥₁ → (ws : List Step) × (steps ≡ map Some ws)
+gathered [] h = ([], refl)
+gathered (Some w ∷ steps) h = let rest = gathered steps (∥∥₁_map h (λ all. all.1)) in (w ∷ rest.0, ap (λ xs. Some w ∷ xs) rest.1)
+gathered (None ∷ steps) h = absurd (∥∥₁_elim h no_two (λ all. all.0))
 
-spread_out : (ws : List Step) → Each IsWritable ws → AreWritable (map Some ws)
-spread_out [] h = tt
-spread_out (w ∷ ws) h = (h.0, spread_out ws h.1)
+each_writable : (ws : List Step) → AreWritable (map Some ws) → Each IsWritable ws
+each_writable [] h = tt
+each_writable (w ∷ ws) h = (h.0, each_writable ws h.1)
 
-finished_of : (s : State) (steps : Vec Step') (ws : List Step) → IsKept s → s.last ≡ Refuted steps → map written steps.items ≡ map Some ws → ∥ IsFinished (standing s.levels) ws ∥₁
-finished_of s steps ws k last are = ∥∥₁_map (k.told steps last) (λ a. finished_steps (standing s.levels) ws (subst (λ xs. Answers (standing s.levels) xs Finished) are a))
+-- ---- the proof of steps that are kept
 
-back_of : (s : State) (ws : List Step) → IsKept s → ∥ IsFinished (standing s.levels) ws ∥₁ → Each IsWritable ws → ∥ IsReadBack (standing s.levels) ws (certificate_text (map Some ws)) ∥₁
-back_of s ws k finished small = ∥∥₁_map finished (λ f. texts.read_back (standing s.levels) ws (words_of s k) f small)
+module _ (s : State) (k : IsKept s) (steps : Vec Step') (last : s.last ≡ Refuted steps) where
+  abbrev all : List (Option Step)
+  all = map written steps.items
+
+  are : (ws : List Step) × (all ≡ map Some ws)
+  are = gathered all (∥∥₁_map (k.told steps last) (λ c. c.1))
+
+  done : ∥ IsFinished (standing s.levels) are.0 × Each IsWritable are.0 ∥₁
+  done = ∥∥₁_map (k.told steps last) (λ c.
+      (finished_steps (standing s.levels) are.0 (subst (λ xs. Answers (standing s.levels) xs Finished) are.1 c.0), each_writable are.0 (subst AreWritable are.1 c.1)))
+
+  back : ∥ IsReadBack (standing s.levels) are.0 (certificate_text (map Some are.0)) ∥₁
+  back = ∥∥₁_map done (λ d. texts.read_back (standing s.levels) are.0 (words_of s k) d.0 d.1)
+
+  proof_of : IsProof s (certificate_text all ++ 10 ∷ [])
+  proof_of = record {
+    ws = are.0;
+    kept = record { steps = steps; last = last; are = are.1 };
+    is_line = ap (λ xs. certificate_text xs ++ 10 ∷ []) are.1;
+    finished = ∥∥₁_map done (λ d. d.0);
+    read_back = back;
+  }
+
+  is_one : ∥ IsOne (certificate_text all) ∥₁
+  is_one = subst (λ xs. ∥ IsOne (certificate_text xs) ∥₁) (sym are.1)
+      (∥∥₁_map back (λ b. (b.tokens, subst (λ x. IsFirst x b.tokens []) (append-nil (certificate_text (map Some are.0))) (b.first []))))
 
 -- ---- what is shown is read back
-
-shown_back : (s : State) (line : List ℕ) → IsKept s → (steps : Vec Step') → s.last ≡ Refuted steps → Shows (map written steps.items) (Proof line) → IsProof s line
-shown_back s line k steps last h =
-    let g = gathered (map written steps.items) h.2 in
-    let done = finished_of s steps g.0 k last g.1 in
-    record {
-      ws = g.0;
-      kept = record { steps = steps; last = last; are = g.1 };
-      is_line = h.0 ∙ ap (λ xs. certificate_text xs ++ 10 ∷ []) g.1;
-      finished = done;
-      read_back = back_of s g.0 k done g.2;
-    }
 
 not_failed : {R : Type 0} (line : List ℕ) (c : Complaint) → Proof line ≡ Failed c → R
 not_failed line c e = cc
 
 proved_back : (s : State) (line : List ℕ) → IsKept s → (l : Last) → s.last ≡ l → Proves l (Proof line) → IsProof s line
 proved_back s line k Nothing last h = not_failed line _ h
-proved_back s line k (Refuted steps) last h = shown_back s line k steps last h
+proved_back s line k (Refuted steps) last h = subst (IsProof s) (sym h.0) (proof_of s k steps last)
 proved_back s line k Satisfied last h = not_failed line _ h
 proved_back s line k (Unknown cause) last h = not_failed line _ h
 
@@ -211,31 +222,23 @@ read_back s line reached h = proved_back s line (kept reached.answering) s.last 
 
 -- ---- what is kept is shown
 
-is_one : (stack : Stack) (ws : List Step) → IsReadBack stack ws (certificate_text (map Some ws)) → IsOne (certificate_text (map Some ws))
-is_one stack ws b = (b.tokens, subst (λ x. IsFirst x b.tokens []) (append-nil (certificate_text (map Some ws))) (b.first []))
-
 -- another answer is given only where the text isn't one s-expression
-only_line : (ws : List Step) (r : Reply) → ∥ IsOne (certificate_text (map Some ws)) ∥₁ → AreWritable (map Some ws) → Shows (map Some ws) r → r ≡ Proof (proof_line ws)
-only_line ws (Proof line) one all h = ap Proof h.0
-only_line ws Success one all h = absurd (∥∥₁_elim one no_two (λ x. h.1 x all))
-only_line ws Unsupported one all h = absurd (∥∥₁_elim one no_two (λ x. h.1 x all))
-only_line ws (Failed c) one all h = absurd (∥∥₁_elim one no_two (λ x. h.1 x all))
-only_line ws Sat one all h = absurd (∥∥₁_elim one no_two (λ x. h.1 x all))
-only_line ws Unsat one all h = absurd (∥∥₁_elim one no_two (λ x. h.1 x all))
-only_line ws Undecided one all h = absurd (∥∥₁_elim one no_two (λ x. h.1 x all))
-only_line ws Closed one all h = absurd (∥∥₁_elim one no_two (λ x. h.1 x all))
-
-proves_as : (l : Last) (steps : Vec Step') (ws : List Step) (r : Reply) → l ≡ Refuted steps → map written steps.items ≡ map Some ws → Proves l r → Shows (map Some ws) r
-proves_as l steps ws r last are h = subst (λ xs. Shows xs r) are (subst (λ x. Proves x r) last h)
-
-shows_as : (l : Last) (steps : Vec Step') (ws : List Step) (r : Reply) → l ≡ Refuted steps → map written steps.items ≡ map Some ws → Shows (map Some ws) r → Proves l r
-shows_as l steps ws r last are h = subst (λ x. Proves x r) (sym last) (subst (λ xs. Shows xs r) (sym are) h)
+only_line : (steps : List (Option Step)) (r : Reply) → ∥ IsOne (certificate_text steps) ∥₁ → Shows steps r → r ≡ Proof (certificate_text steps ++ 10 ∷ [])
+only_line steps (Proof line) one h = ap Proof h.0
+only_line steps Success one h = absurd (∥∥₁_elim one no_two h.1)
+only_line steps Unsupported one h = absurd (∥∥₁_elim one no_two h.1)
+only_line steps (Failed c) one h = absurd (∥∥₁_elim one no_two h.1)
+only_line steps Sat one h = absurd (∥∥₁_elim one no_two h.1)
+only_line steps Unsat one h = absurd (∥∥₁_elim one no_two h.1)
+only_line steps Undecided one h = absurd (∥∥₁_elim one no_two h.1)
+only_line steps Closed one h = absurd (∥∥₁_elim one no_two h.1)
 
 pub shown : KeptIsShown
-shown s ws reached k small =
-    let so = kept reached.answering in
-    let all = spread_out ws small in
-    let one = ∥∥₁_map (back_of s ws so (finished_of s k.steps ws so k.last k.are) small) (λ b. is_one (standing s.levels) ws b) in (
-      ∥∥₁_map one (λ x. shows_as s.last k.steps ws (Proof (proof_line ws)) k.last k.are (refl, x, all)),
-      λ q h. only_line ws q one all (proves_as s.last k.steps ws q k.last k.are h),
+shown s steps reached last =
+    let k = kept reached.answering in
+    let one = is_one s k steps last in
+    let text = certificate_text (map written steps.items) in (
+      text ++ 10 ∷ [],
+      proof_of s k steps last,
+      (∥∥₁_map one (λ x. subst (λ l. Proves l (Proof (text ++ 10 ∷ []))) (sym last) (refl, x)), λ q h. only_line (map written steps.items) q one (subst (λ l. Proves l q) last h)),
     )

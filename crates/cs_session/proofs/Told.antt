@@ -20,6 +20,7 @@ use Rattle.cs_answer.specs.declared.answer.Cause.{Cause}
 use Rattle.cs_answer.specs.Causes.{IsCause}
 use Rattle.cs_answer.specs.Few.{IsFew, IsDecided}
 use Rattle.cs_answer.specs.Answers.{IsRefutation, IsSatisfaction, IsCaused}
+use Rattle.cs_session.specs.Replies.{IsCertificate}
 use Rattle.cs_session.specs.Views.{standing}
 use Rattle.cs_session.proofs.Lists.{each_reverse}
 
@@ -27,13 +28,13 @@ no_two : IsProp ⊥
 no_two x y = absurd x
 
 refutes_standing : (levels : List Level) (steps : Vec Step) → ∥ Each IsSorted (standing levels).assertions ∥₁ → (Each IsSorted (standing levels).assertions → IsRefutation (standing levels) (Refuted steps))
-    → ∥ Answers (standing levels) (map written steps.items) Finished ∥₁ × IsUnsatisfiable (assertions_of levels)
+    → ∥ IsCertificate levels steps ∥₁ × IsUnsatisfiable (assertions_of levels)
 refutes_standing levels steps sorted told =
-    (∥∥₁_map sorted (λ h. (told h).0), λ i all. ∥∥₁_elim sorted no_two (λ h. (told h).1 i (each_reverse (IsTrueIn i) (assertions_of levels) all)))
+    (∥∥₁_map sorted (λ h. let t = told h in (t.0, t.1)), λ i all. ∥∥₁_elim sorted no_two (λ h. (told h).2 i (each_reverse (IsTrueIn i) (assertions_of levels) all)))
 
 pub refutes : (levels : List Level) (stack : Stack) (answer : Answer) (steps : Vec Step) → stack ≡ standing levels → answer ≡ Refuted steps
     → ∥ Each IsSorted stack.assertions ∥₁ → (Each IsSorted stack.assertions → IsRefutation stack answer)
-    → ∥ Answers (standing levels) (map written steps.items) Finished ∥₁ × IsUnsatisfiable (assertions_of levels)
+    → ∥ IsCertificate levels steps ∥₁ × IsUnsatisfiable (assertions_of levels)
 refutes levels stack answer steps e is sorted told =
     refutes_standing levels steps (subst (λ (s : Stack). ∥ Each IsSorted s.assertions ∥₁) e sorted)
     (subst (λ (a : Answer). Each IsSorted (standing levels).assertions → IsRefutation (standing levels) a) is

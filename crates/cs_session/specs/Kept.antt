@@ -1,13 +1,11 @@
 -- What a session answers to `get-proof`, of the steps that it kept.
 use Rattle.std.specs.Prelude.{◌≡◌, List, [], ◌∷◌, ◌++◌, map, Some, ℕ}
 use Rattle.std.specs.Global.{Vec}
-use Rattle.vx_terms.specs.Interpretations.{Each}
 use Rattle.cs_certificate.specs.Certificate.{Step, IsFinished}
 use Rattle.cs_answer.specs.declared.answer.Cause.{Cause}
 use Rattle.cs_proof.specs.declared.step.Step.{Step as Step'}
 use Rattle.cs_proof.specs.Views.{written}
 use Rattle.cs_text.specs.Text.{certificate_text}
-use Rattle.cs_text.specs.Writable.{IsWritable}
 use Rattle.cs_text.specs.Law.{IsReadBack}
 use Rattle.cs_session.specs.declared.reply.Reply.{Reply}
 use Rattle.cs_session.specs.declared.reply.Reply.TheVariants.{Proof}
@@ -51,6 +49,6 @@ ShownIsReadBack = (s : State) (line : List ℕ) → IsReached s → Proves s.las
 abbrev pub IsAnsweredBy : Last → Reply → Type 0
 IsAnsweredBy l r = ∥ Proves l r ∥₁ × ((q : Reply) → Proves l q → q ≡ r)
 
--- and where the steps that are kept are writable, it is answered by their line
+-- and behind each unsat it is answered by such a proof, the line of the steps that were kept
 abbrev pub KeptIsShown : Type 0
-KeptIsShown = (s : State) (ws : List Step) → IsReached s → Keeps s ws → Each IsWritable ws → IsAnsweredBy s.last (Proof (proof_line ws))
+KeptIsShown = (s : State) (steps : Vec Step') → IsReached s → s.last ≡ Refuted steps → (line : List ℕ) × IsProof s line × IsAnsweredBy s.last (Proof line)

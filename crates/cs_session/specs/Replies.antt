@@ -1,5 +1,6 @@
 -- What is answered to a command, and what it does to a session.
 use Rattle.std.specs.Prelude.{◌≡◌, ℕ, nat_le, Bool, true, false, List, [], ◌∷◌, ◌++◌, map, Option, Some, None, Ok, Err}
+use Rattle.std.specs.Global.{Vec}
 use Rattle.std.specs.declared.result.Result.{Result}
 use Rattle.vx_sexp.specs.declared.token.Token.{Token}
 use Rattle.vx_sexp.specs.First.{IsFirst}
@@ -8,6 +9,7 @@ use Rattle.vx_smt_meaning.specs.Commands.{Command, SetOption, SetLogic, DeclareS
 use Rattle.vx_smt_meaning.specs.Views.{command}
 use Rattle.vx_smt_meaning.specs.declared.command.Command.{Command as Command'}
 use Rattle.cs_certificate.specs.Certificate.{Step}
+use Rattle.cs_proof.specs.declared.step.Step.{Step as Step'}
 use Rattle.cs_proof.specs.Views.{written}
 use Rattle.cs_proof.specs.Checking.{Finished}
 use Rattle.cs_proof.specs.Answers.{Answers}
@@ -19,7 +21,7 @@ use Rattle.cs_commands.specs.Laws.{scope_of}
 use Rattle.cs_answer.specs.Causes.{IsCause}
 use Rattle.cs_answer.specs.Few.{IsFew}
 use Rattle.cs_text.specs.Text.{certificate_text}
-use Rattle.cs_text.specs.Writable.{AreWritable}
+use Rattle.cs_writable.specs.Writable.{AreWritable}
 use Rattle.cs_session.specs.declared.reply.Complaint.TheVariants as complaints
 use Rattle.cs_session.specs.declared.reply.Reply.{Reply}
 use Rattle.cs_session.specs.declared.reply.Reply.TheVariants.{Success, Unsupported, Failed, Sat, Unsat, Undecided, Proof, Closed}
@@ -51,10 +53,14 @@ abbrev pub FollowsIf : Bool → Command → State → Reply → State → Type 0
 FollowsIf true c = Follows c
 FollowsIf false c = Only (Failed complaints.Levels)
 
--- what a check says of the levels; the steps are those of a certificate that its checker has finished, and the cause is so; a stack
--- of few Bool terms without numbers isn't undecided
+-- the checker has finished the steps over what stands on the levels, and all of them are writable
+abbrev pub IsCertificate : List Level → Vec Step' → Type 0
+IsCertificate levels steps = Answers (standing levels) (map written steps.items) Finished × AreWritable (map written steps.items)
+
+-- what a check says of the levels; the steps are a certificate, and the cause is so; a stack of few Bool terms without numbers isn't
+-- undecided
 abbrev pub Tells : List Level → Reply → Last → Type 0
-Tells levels Unsat (Refuted steps) = ∥ Answers (standing levels) (map written steps.items) Finished ∥₁ × IsUnsatisfiable (assertions_of levels)
+Tells levels Unsat (Refuted steps) = ∥ IsCertificate levels steps ∥₁ × IsUnsatisfiable (assertions_of levels)
 Tells levels Sat Satisfied = IsSatisfiable (assertions_of levels)
 Tells levels Undecided (Unknown cause) = IsCause (standing levels) cause × ¬ (IsFew (standing levels))
 Tells levels r last = ⊥
@@ -66,10 +72,10 @@ Checks old r new = (new.levels ≡ old.levels) × Tells old.levels r new.last
 abbrev pub IsOne : List ℕ → Type 0
 IsOne text = (tokens : List Token) × IsFirst text tokens []
 
--- the line of the steps' text, where that is one s-expression and all steps are writable
+-- the line of the steps' text, where that is one s-expression
 abbrev pub Shows : List (Option Step) → Reply → Type 0
-Shows steps (Proof line) = (line ≡ certificate_text steps ++ 10 ∷ []) × IsOne (certificate_text steps) × AreWritable steps
-Shows steps r = (r ≡ Failed complaints.NoProof) × (IsOne (certificate_text steps) → AreWritable steps → ⊥)
+Shows steps (Proof line) = (line ≡ certificate_text steps ++ 10 ∷ []) × IsOne (certificate_text steps)
+Shows steps r = (r ≡ Failed complaints.NoProof) × (IsOne (certificate_text steps) → ⊥)
 
 -- what is shown for the steps that the last check kept; any other check has no proof
 abbrev pub Proves : Last → Reply → Type 0

@@ -3,8 +3,8 @@ ghost use Rattle.cs_session.specs.Answering.{UndecidedHasItsCause};
 ghost use Rattle.cs_session.specs.Few.{FewAreDecided};
 ghost use Rattle.cs_session.specs.Kept.{ShownIsReadBack, KeptIsShown};
 
-/// What `get-proof` is answered by is the text of the steps that were kept of the last unsat, and is read back as these steps. Where
-/// they are writable, it is answered by their text.
+/// What `get-proof` is answered by is the text of the steps that were kept of the last unsat, and is read back as these steps. Behind
+/// each unsat it is answered so.
 pub fn kept_proofs_are_shown()
     ensures read_back { ShownIsReadBack }
     ensures shown { KeptIsShown }

@@ -5,7 +5,6 @@ ghost use Rattle.cs_session.specs.Replies.{IsOne, Shows};
 
 use crate::reply::{Complaint, Reply};
 use cs_proof::{Step, Want};
-use cs_text::are_writable;
 use std::alloc::{AllocError, Global};
 use vx_sexp::{Bytes, cut};
 
@@ -29,16 +28,13 @@ fn line_of(text: Vec<u8>) -> Result<Bytes, AllocError>
     Ok(Bytes::of(line))
 }
 
-/// The line of a certificate of these steps, where all of them are writable and its text is one s-expression.
+/// The line of a certificate of these steps, where its text is one s-expression.
 ///
 /// # Errors
 /// Memory runs out.
 pub fn shown(alloc: Global, steps: &[Step]) -> Result<Reply, Want>
     ensures { IfOk result (λ r. Shows (map written steps.now) r) }
 {
-    if !are_writable(alloc, steps)? {
-        return Ok(Reply::Failed(Complaint::NoProof));
-    }
     let mut text = Vec::new(alloc);
     cs_text::write(alloc, steps, &mut text)?;
     if !is_one(&text) {

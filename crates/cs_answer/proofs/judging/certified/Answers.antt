@@ -1,4 +1,4 @@
-use Rattle.std.proofs.Common.{◌≡◌, ◌↔◌, ◌∙◌, ℕ, Ok, Err, IfOk, Vec, Global, map, refl, subst, sym}
+use Rattle.std.proofs.Common.{◌≡◌, ◌↔◌, ℕ, Ok, Err, IfOk, Vec, Global, map, refl, subst, sym}
 use Rattle.std.specs.declared.result.Result.{Result}
 use Rattle.vx_terms.specs.Interpretations.{Each, IsUnsatisfiable}
 use Rattle.cs_certificate.specs.Certificate.{Stack}
@@ -33,18 +33,17 @@ module _ (stack : Stack) (steps : Vec Step Global) where
 pub returns-in-Ok-clause-right : goal.returns-in-Ok-clause-right
 returns-in-Ok-clause-right c =
     let stack = seen c.args.stack.now in
-    right_by stack c.args.steps c.writable.result c.writable.ensures (
-      λ sorted.
-          let told = (c.in_ok-verdict.ensures.told sorted Finished).1 (subst (λ r. Closes r Finished) (sym c.in-Ok.is) refl) in
-          let finished = subst (λ ss. Answers stack (map written ss) Finished) c.deref.ensures.value told in
-          (finished, c.finished_refutes.ensures.refuted stack _ finished),
-    )
+    right_by stack c.args.steps c.writable.result c.writable.ensures
+    (λ sorted.
+    let told = (c.in_ok-verdict.ensures.told sorted Finished).1 (subst (λ r. Closes r Finished) (sym c.in-Ok.is) refl) in
+    let finished = subst (λ ss. Answers stack (map written ss) Finished) c.deref.ensures.value told in
+    (finished, c.finished_refutes.ensures.refuted stack _ finished))
 
 pub returns-in-Ok-clause-told : goal.returns-in-Ok-clause-told
 returns-in-Ok-clause-told c = λ sorted.
     let stack = seen c.args.stack.now in
     let told = subst (λ r. (v : Verdict) → Answers stack (map written c.deref.result.now) v ↔ Closes r v) c.in-Ok.is (c.in_ok-verdict.ensures.told sorted) in
-    let all = subst (λ ss. (v : Verdict) → Answers stack (map written ss) v ↔ Closes (Ok tt) v) c.deref.ensures.value told in
+    let all = subst (λ ss. (v : Verdict) → Answers stack (map written ss) v ↔ (v ≡ Finished)) c.deref.ensures.value told in
     told_by stack c.args.steps c.writable.result c.writable.ensures ((all Finished).1 refl) (λ n o over. let e = (all (Over n o)).0 over in cc)
 
 pub returns-in-Err-clause-told : goal.returns-in-Err-clause-told

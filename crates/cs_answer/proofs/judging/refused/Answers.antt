@@ -23,4 +23,4 @@ returns-in-Over c = λ stack steps all. let is = sym (ap refusal c.in-Over.is) i
 
 pub returns-in-BadStep : goal.returns-in-BadStep
 returns-in-BadStep c = λ stack steps all.
-    ((λ finished. not_finished c.args.refusal ((all Finished).0 finished)), (λ n o over. not_over c.args.refusal c.in-BadStep.is n o ((all (Over n o)).0 over)))
+    ((λ finished all_writable. not_finished c.args.refusal ((all Finished).0 finished)), (λ n o over. not_over c.args.refusal c.in-BadStep.is n o ((all (Over n o)).0 over)))
