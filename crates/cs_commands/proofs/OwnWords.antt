@@ -30,33 +30,8 @@ use Rattle.cs_commands.specs.Laws.{IsSmallSymbol}
 use Rattle.cs_commands.specs.Following.{HasWord, UnderstoodHasWord}
 use Rattle.cs_commands.proofs.Passed.{ok_is, not_ok, some_is, not_some, bound, passed}
 use Rattle.cs_commands.proofs.Numerals.{number_is}
+use Rattle.cs_commands.proofs.Small.{number_small}
 use Rattle.cs_commands.proofs.ReadCommands.{ended_is}
-
--- ---- a number that is read is below its limit
-
-digit_below : (limit a d m : ℕ) → with_digit limit a d ≡ Some m → m < limit
-digit_below limit a d m e = go (is_digit d) (nat_lt (a * 10 + (d - 48)) limit) refl e
-  where
-    go : (b c : Bool) → nat_lt (a * 10 + (d - 48)) limit ≡ c → (if b && c then Some (a * 10 + (d - 48)) else None) ≡ Some m → m < limit
-    go true true f g = subst (λ n. n < limit) (some_is g) (ltb-true (a * 10 + (d - 48)) limit f)
-    go true false f g = not_some g
-    go false c f g = not_some g
-
-digits_below : (limit a : ℕ) (ds : List ℕ) (n : ℕ) → a < limit → digits limit a ds ≡ Some n → n < limit
-digits_below limit a [] n h e = subst (λ m. m < limit) (some_is e) h
-digits_below limit a (d ∷ ds) n h e = go (with_digit limit a d) refl (λ m k f. digits_below limit m ds n k f) e
-  where
-    go : (o : Option ℕ) → with_digit limit a d ≡ o → ((m : ℕ) → m < limit → digits limit m ds ≡ Some n → n < limit) → option_and_then (λ m. digits limit m ds) o ≡ Some n → n < limit
-    go None f more g = not_some g
-    go (Some m) f more g = more m (digit_below limit a d m f) g
-
-number_small : (limit : ℕ) (x : List ℕ) (n : ℕ) → 0 < limit → number_below limit x ≡ Some n → n < limit
-number_small limit [] n h e = not_some e
-number_small limit (d ∷ ds) n h e = go (nat_eq d 48 && nat_lt 0 (length ds)) e
-  where
-    go : (b : Bool) → (if b then None else digits limit 0 (d ∷ ds)) ≡ Some n → n < limit
-    go true g = not_some g
-    go false g = digits_below limit 0 (d ∷ ds) n h g
 
 -- ---- what a word names has this word
 

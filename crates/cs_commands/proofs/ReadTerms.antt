@@ -37,7 +37,7 @@ use Rattle.cs_commands.specs.Terms as terms
 use Rattle.cs_commands.specs.Terms.{is_decimal, Frame, opened, Placed, Whole, Within, placed, closed, go_on, term_from}
 use Rattle.cs_commands.proofs.Passed.{ok_is, not_ok, some_is, not_some, bound, present, passed}
 use Rattle.cs_commands.proofs.Declarations.{first_is, first_later}
-use Rattle.cs_commands.proofs.Small.{IsSmallFraction, IsUnsigned, number_stays_below, multiplied_is, inverse_unsigned, decimal_is}
+use Rattle.cs_commands.proofs.Small.{IsSmallFraction, IsUnsigned, number_small, multiplied_is, inverse_unsigned, decimal_is}
 
 -- ---- declarations
 
@@ -229,7 +229,7 @@ module _ (scope : Scope) (P : Term → Type 0) (k : Keeps scope P) where
   leaf_keeps : (kind : Kind) (x : List ℕ) (t : Term) → terms.leaf scope kind x ≡ Ok t → P t
   leaf_keeps kinds.Numeral x t e =
       let b = bound (or_fault faults.Wide (number_below (2 ^ 127) x)) _ t e in
-      subst P (ok_is b.2) (k.number b.0 (number_stays_below (2 ^ 127) b.0 x (omega arith) (present faults.Wide (number_below (2 ^ 127) x) b.0 b.1)))
+      subst P (ok_is b.2) (k.number b.0 (number_small (2 ^ 127) x b.0 (omega arith) (present faults.Wide (number_below (2 ^ 127) x) b.0 b.1)))
   leaf_keeps kinds.Decimal x t e =
       let b = bound (or_fault faults.Wide (decimal x)) _ t e in
       let is = present faults.Wide (decimal x) b.0 b.1 in

@@ -1,5 +1,5 @@
 -- Literals that are read are small: their numbers stay below 2^127. Those without a minus are at least 0.
-use Rattle.std.proofs.Common.{◌≡◌, ℕ, zero, suc, ◌<◌, ◌≤◌, ◌+◌, ◌-◌, ◌*◌, ◌/◌, ◌^◌, ◌&&◌, nat_eq, nat_lt, Bool, true, false, ℤ, pos, negsuc, List, [], ◌∷◌, Option, Some, None, length, refl, arith, ap, ap₂, ◌∙◌, sym, subst, leb-true}
+use Rattle.std.proofs.Common.{◌≡◌, ℕ, zero, suc, ◌<◌, ◌≤◌, ◌+◌, ◌-◌, ◌*◌, ◌/◌, ◌^◌, ◌&&◌, nat_eq, nat_lt, Bool, true, false, ℤ, pos, negsuc, List, [], ◌∷◌, Option, Some, None, length, refl, arith, ap, ap₂, ◌∙◌, sym, subst}
 use Rattle.std.specs.Prelude.{if◌then◌else◌, nat_abs, neg_ℤ, ◌*ℤ◌, ◌+ℤ◌}
 use Rattle.std.specs.Option.{option_and_then}
 use Rattle.std.proofs.lemmas.Bool.{ltb-true}
@@ -17,31 +17,31 @@ use Rattle.cs_reader.specs.Spelling.{over, inverse_of, multiplied, summed, led_b
 use Rattle.cs_commands.specs.Names.{with_digit, digits, number_below}
 use Rattle.cs_commands.proofs.Passed.{some_is, not_some}
 
--- ---- numerals
+-- ---- numerals: a number that is read is below its limit
 
-digit_below : (limit n d m : ℕ) → with_digit limit n d ≡ Some m → m < limit
-digit_below limit n d m e = go (is_digit d) (nat_lt (n * 10 + (d - 48)) limit) refl e
+digit_below : (limit a d m : ℕ) → with_digit limit a d ≡ Some m → m < limit
+digit_below limit a d m e = go (is_digit d) (nat_lt (a * 10 + (d - 48)) limit) refl e
   where
-    go : (a b : Bool) → nat_lt (n * 10 + (d - 48)) limit ≡ b → (if a && b then Some (n * 10 + (d - 48)) else None) ≡ Some m → m < limit
-    go true true h e = subst (λ k. k < limit) (some_is e) (ltb-true (n * 10 + (d - 48)) limit h)
-    go true false h e = not_some e
-    go false b h e = not_some e
+    go : (b c : Bool) → nat_lt (a * 10 + (d - 48)) limit ≡ c → (if b && c then Some (a * 10 + (d - 48)) else None) ≡ Some m → m < limit
+    go true true f g = subst (λ n. n < limit) (some_is g) (ltb-true (a * 10 + (d - 48)) limit f)
+    go true false f g = not_some g
+    go false c f g = not_some g
 
-digits_below : (limit n m : ℕ) (ds : List ℕ) → n < limit → digits limit n ds ≡ Some m → m < limit
-digits_below limit n m [] h e = subst (λ k. k < limit) (some_is e) h
-digits_below limit n m (d ∷ ds) h e = go (with_digit limit n d) refl e
+digits_below : (limit a : ℕ) (ds : List ℕ) (n : ℕ) → a < limit → digits limit a ds ≡ Some n → n < limit
+digits_below limit a [] n h e = subst (λ m. m < limit) (some_is e) h
+digits_below limit a (d ∷ ds) n h e = go (with_digit limit a d) refl (λ m k f. digits_below limit m ds n k f) e
   where
-    go : (o : Option ℕ) → with_digit limit n d ≡ o → option_and_then (λ k. digits limit k ds) o ≡ Some m → m < limit
-    go None is e = not_some e
-    go (Some k) is e = digits_below limit k m ds (digit_below limit n d k is) e
+    go : (o : Option ℕ) → with_digit limit a d ≡ o → ((m : ℕ) → m < limit → digits limit m ds ≡ Some n → n < limit) → option_and_then (λ m. digits limit m ds) o ≡ Some n → n < limit
+    go None f more g = not_some g
+    go (Some m) f more g = more m (digit_below limit a d m f) g
 
-pub number_stays_below : (limit n : ℕ) (x : List ℕ) → 0 < limit → number_below limit x ≡ Some n → n < limit
-number_stays_below limit n [] h e = not_some e
-number_stays_below limit n (d ∷ ds) h e = go (nat_eq d 48 && nat_lt 0 (length ds)) e
+pub number_small : (limit : ℕ) (x : List ℕ) (n : ℕ) → 0 < limit → number_below limit x ≡ Some n → n < limit
+number_small limit [] n h e = not_some e
+number_small limit (d ∷ ds) n h e = go (nat_eq d 48 && nat_lt 0 (length ds)) e
   where
     go : (b : Bool) → (if b then None else digits limit 0 (d ∷ ds)) ≡ Some n → n < limit
-    go true e = not_some e
-    go false e = digits_below limit 0 n (d ∷ ds) h e
+    go true g = not_some g
+    go false g = digits_below limit 0 (d ∷ ds) n h g
 
 pub abs_neg : (n : ℕ) → nat_abs (neg_ℤ (pos n)) ≡ n
 abs_neg zero = refl
@@ -74,6 +74,12 @@ divided_small a =
     let is = exact (nat_abs a.numerator) (least_denominator a) (suc a.below) (found a) in
     le_of_mul-le-mul_right {k = suc a.below} (subst (λ n. n ≤ nat_abs a.numerator * suc a.below) (sym is) more) (omega arith)
 
+below_top : (q n m : ℕ) → q ≤ n → n < m → q < m
+below_top q n m h k = omega arith
+
+one_back : (d b m : ℕ) → d ≤ suc b → 1 ≤ d → suc b < m → suc (d - 1) < m
+one_back d b m h one k = omega arith
+
 -- its numbers stay below 2^127
 abbrev pub IsSmallFraction : Fraction → Type 0
 IsSmallFraction a = (nat_abs a.numerator < 2 ^ 127) × (suc a.below < 2 ^ 127)
@@ -81,13 +87,8 @@ IsSmallFraction a = (nat_abs a.numerator < 2 ^ 127) × (suc a.below < 2 ^ 127)
 pub lowest_small : (a : Fraction) → IsSmallFraction a → IsSmallFraction (lowest a)
 unfolding lowest
 lowest_small a h =
-    let size = divided_small a in
-    let is = abs_signed a.numerator (divided a) in
-    let top = h.0 in
-    let end = h.1 in
-    let least = least_small a in
-    let first = above (makes_whole a) a.below 1 in
-    (subst (λ n. n < 2 ^ 127) (sym is) (omega arith), omega arith)
+    let size = below_top (divided a) (nat_abs a.numerator) (2 ^ 127) (divided_small a) h.0 in
+    (subst (λ n. n < 2 ^ 127) (sym (abs_signed a.numerator (divided a))) size, one_back (least_denominator a) a.below (2 ^ 127) (least_small a) (above (makes_whole a) a.below 1) h.1)
 
 -- ---- fractions that are at least 0
 
@@ -122,8 +123,8 @@ summed_is a b q u v e = go (sum_fits a b) refl e
 
     go : (fits : Bool) → sum_fits a b ≡ fits → (if fits then Some (lowest (sum a b)) else None) ≡ Some q → IsRead q
     go true h e =
-        let all = (each_true _ _ (each_true (cross_fits a b) _ h).1) in
-        subst IsRead (some_is e) (in_lowest (sum a b) (_, total) (fits_small (sum a b).numerator _ total all.0, common_small a b (sum a b).below (common_is a b) all.1))
+        let all = each_true (fits_i128 (sum a b).numerator) (fits_i128 (denominator a *ℤ denominator b)) (each_true (cross_fits a b) (fits_i128 (sum a b).numerator && fits_i128 (denominator a *ℤ denominator b)) h).1 in
+        subst IsRead (some_is e) (in_lowest (sum a b) (u.0 * suc b.below + v.0 * suc a.below, total) (fits_small (sum a b).numerator (u.0 * suc b.below + v.0 * suc a.below) total all.0, common_small a b (sum a b).below (common_is a b) all.1))
     go false h e = not_some e
 
 pub multiplied_is : (a b q : Fraction) → IsUnsigned a → IsUnsigned b → multiplied a b ≡ Some q → IsRead q
@@ -134,8 +135,8 @@ multiplied_is a b q u v e = go (product_fits a b) refl e
 
     go : (fits : Bool) → product_fits a b ≡ fits → (if fits then Some (lowest (product a b)) else None) ≡ Some q → IsRead q
     go true h e =
-        let all = each_true _ _ h in
-        subst IsRead (some_is e) (in_lowest (product a b) (_, total) (fits_small (product a b).numerator _ total all.0, common_small a b (product a b).below (common_is a b) all.1))
+        let all = each_true (fits_i128 (a.numerator *ℤ b.numerator)) (fits_i128 (denominator a *ℤ denominator b)) h in
+        subst IsRead (some_is e) (in_lowest (product a b) (u.0 * v.0, total) (fits_small (product a b).numerator (u.0 * v.0) total all.0, common_small a b (product a b).below (common_is a b) all.1))
     go false h e = not_some e
 
 pub inverse_unsigned : (z : ℤ) (d : ℕ) (i : Fraction) → inverse_of z d ≡ Some i → IsUnsigned i

@@ -15,8 +15,8 @@ mod word;
 
 pub use fault::{CommandFault, Fault};
 pub use laws::{
-    examples, stays_apart, understood_has_word, understood_is_writable, understood_in_any_order,
-    understood_is_sorted, understood_may_follow, written_is_understood,
+    examples, stays_apart, understood_has_word, understood_in_any_order, understood_is_sorted,
+    understood_is_writable, understood_may_follow, written_is_understood,
 };
 pub use live::Live;
 pub use reading::understand;
