@@ -1,31 +1,26 @@
--- The script of askable questions is well formed.
-use Rattle.std.proofs.Common.{◌≡◌, ◌++◌, ◌<◌, ℕ, Bool, true, false, List, [], ◌∷◌, length, refl, ap, ◌∙◌, sym, subst, inl, inr, arith, if◌then◌else◌}
+-- The preamble is well formed, and each askable question that is sent whole behind it.
+use Rattle.std.proofs.Common.{◌≡◌, ◌++◌, ℕ, Bool, true, false, List, [], ◌∷◌, refl, ap, ◌∙◌, sym, subst, inl, inr, if◌then◌else◌}
 use Rattle.vx_terms.specs.Sorts.{Sort, IntSort, BoolSort, RealSort, RefSort, SnapSort, OtherSort, Symbol, Standard, Function, Variable, Named, same_symbol}
 use Rattle.vx_terms.specs.Terms.{Term, Truth, Number, Part, Constant, Apply, Not, Binary, Ite, AllOf, SomeOf, Terms, NoTerms, MoreTerms, sort_of}
 use Rattle.vx_terms.specs.Interpretations.{Each}
 use Rattle.vx_terms.specs.Build.{negate}
-use Rattle.vx_smt_meaning.specs.Commands.{Command, Declared, DeclareFun, Assert, Pop, CheckSat, Level, empty_level, stack_after, stack_from, declared_in}
+use Rattle.vx_smt_meaning.specs.Commands.{Declared, DeclareFun, Assert, Push, Level, empty_level, stack_from, declared_in}
 use Rattle.vx_smt_meaning.specs.Names.{IsName, IsSortName, AreNames, AllAreNames, IsCommand, AreCommands}
 use Rattle.vx_smt_meaning.specs.Symbols.{declaration, Declares, UsesDeclared}
 use Rattle.vx_smt_meaning.specs.Standard.{standard_symbols}
 use Rattle.vx_smt_meaning.specs.Over.{IsConstantOver, IsOver, AreOver}
 use Rattle.vx_smt_meaning.specs.WellFormed.{names, sorts_in, knows_sort, AllMayFollow, IsWellFormed}
-use Rattle.vx_dialogue.specs.Askable.{IsOfFive, IsAskable, AreAskable}
-use Rattle.vx_dialogue.specs.Symbols.{variable, declares, with_variable, with_symbol, with_variables, with_all_variables, with_listed}
-use Rattle.vx_dialogue.specs.Preamble.{declarations, produce_proofs}
-use Rattle.vx_dialogue.specs.Scripts.{Turn, Asks, Posts, Leaves, assertions, preamble, opening, closing, symbols_of, question, posted, said_by, script}
-use Rattle.vx_dialogue.specs.Dialogue.{pushed, resting, base_of}
+use Rattle.vx_dialogue.specs.Askable.{IsOfFive, IsAskable}
+use Rattle.vx_dialogue.specs.Symbols.{variable, declares, with_variable, with_symbol, with_variables, with_all_variables, with_listed, symbols_of}
+use Rattle.vx_dialogue.specs.Preamble.{declarations, produce_proofs, preamble}
+use Rattle.vx_dialogue.specs.Dialogue.{pushed, base_of}
 use Rattle.vx_sexp.specs.Characters.{is_symbol_byte, is_digit}
-use Rattle.vx_dialogue.proofs.Lists.{none_more, stack_append}
-use Rattle.vx_dialogue.proofs.Levels.{opened_level, declared_level, asserted_level, posted_levels, closed_level}
+use Rattle.vx_dialogue.proofs.Whole.{assertions, question}
+use Rattle.vx_dialogue.proofs.Lists.{stack_append}
+use Rattle.vx_dialogue.proofs.Levels.{declared_level, asserted_level}
+use Rattle.vx_dialogue.proofs.Follows.{follow_join}
 use Rattle.vx_dialogue.proofs.Declared.{Includes, AreVariables, in_pushed, over_includes, negated_over, question_declared, question_variables}
-use Rattle.vx_dialogue.proofs.Steady.{commands_join, closing_named, preamble_named}
-
--- ---- one list behind another
-
-follow_join : (levels : List Level) (xs ys : List Command) → AllMayFollow levels xs → AllMayFollow (stack_from levels xs) ys → AllMayFollow levels (xs ++ ys)
-follow_join levels [] ys e f = f
-follow_join levels (c ∷ xs) ys e f = (e.0, follow_join (stack_after c levels) xs ys e.1 f)
+use Rattle.vx_dialogue.proofs.Steady.{commands_join, preamble_named}
 
 -- ---- the preamble
 
@@ -92,10 +87,9 @@ record IsBase (base : List Level) : Type 0 where
   unseen : (n : ℕ) → names (declared_in base) (Variable n) ≡ false
   five : (a : Sort) → IsOfFive a → knows_sort (sorts_in base) a ≡ true
   standard : Includes standard_symbols (declared_in base)
-  open_yet : 0 < length base
 
 base_is : (c : Bool) → IsBase (base_of c [])
-base_is true = record { unseen = λ n. refl; five = five_true; standard = λ d e. in_pushed standard_symbols [] d e; open_yet = omega arith }
+base_is true = record { unseen = λ n. refl; five = five_true; standard = λ d e. in_pushed standard_symbols [] d e }
   where
     five_true : (a : Sort) → IsOfFive a → knows_sort (sorts_in (base_of true [])) a ≡ true
     five_true IntSort h = refl
@@ -104,7 +98,7 @@ base_is true = record { unseen = λ n. refl; five = five_true; standard = λ d e
     five_true RefSort h = refl
     five_true SnapSort h = refl
     five_true (OtherSort x) h = absurd h
-base_is false = record { unseen = λ n. refl; five = five_false; standard = λ d e. in_pushed standard_symbols [] d e; open_yet = omega arith }
+base_is false = record { unseen = λ n. refl; five = five_false; standard = λ d e. in_pushed standard_symbols [] d e }
   where
     five_false : (a : Sort) → IsOfFive a → knows_sort (sorts_in (base_of false [])) a ≡ true
     five_false IntSort h = refl
@@ -142,12 +136,8 @@ assertions_follow l levels [] bools declared = tt
 assertions_follow l levels (t ∷ ts) bools declared =
     (record { bool = bools.0; declared = declared.0 }, assertions_follow (record l { assertions = t ∷ l.assertions }) levels ts bools.1 declared.1)
 
-opening_follows : (m : Bool) (levels : List Level) → AllMayFollow levels (opening m)
-opening_follows true levels = (tt, tt)
-opening_follows false levels = (tt, (tt, tt))
-
-posted_follows : (m : Bool) (base : List Level) (p : List Term) (t : Term) → IsBase base → IsAskable p t → AllMayFollow (resting m base) (posted m p t)
-posted_follows m base p t is q =
+question_follows : (base : List Level) (p : List Term) (t : Term) → IsBase base → IsAskable p t → AllMayFollow base (question p t)
+question_follows base p t is q =
     let negated = negate t in
     let symbols = symbols_of p negated in
     let inside = empty_level ∷ base in
@@ -157,51 +147,18 @@ posted_follows m base p t is q =
     let variables : AreVariables q.sorts symbols = question_variables (declared_in base) q.sorts p t over over_last in
     let declared = question_declared (declared_in base) q.sorts p t over over_last in
     let new : AreNew (declared_in base) symbols = new_term (declared_in base) is.unseen negated (with_listed [] p) (new_path (declared_in base) is.unseen p [] tt) in
-    let opened = stack_from (resting m base) (opening m) in
-    let declared_stack : stack_from (resting m base) (opening m ++ declarations symbols) ≡ fresh ∷ inside =
-    stack_append (resting m base) (opening m) (declarations symbols) ∙ (ap (λ x. stack_from x (declarations symbols)) (opened_level m base) ∙ declared_level empty_level inside symbols) in
-    let asserted_stack : stack_from (resting m base) ((opening m ++ declarations symbols) ++ assertions p) ≡ record fresh { assertions = pushed p [] } ∷ inside =
-    stack_append (resting m base) (opening m ++ declarations symbols) (assertions p) ∙ (ap (λ x. stack_from x (assertions p)) declared_stack ∙ asserted_level fresh inside p) in
-    let first : AllMayFollow (resting m base) (opening m ++ declarations symbols) =
-    follow_join (resting m base) (opening m) (declarations symbols) (opening_follows m (resting m base))
-    (subst (λ x. AllMayFollow x (declarations symbols)) (sym (opened_level m base)) (declarations_follow q.sorts empty_level inside symbols variables q.five new is.five)) in
-    let second : AllMayFollow (resting m base) ((opening m ++ declarations symbols) ++ assertions p) =
-    follow_join (resting m base) (opening m ++ declarations symbols) (assertions p) first
-    (subst (λ x. AllMayFollow x (assertions p)) (sym declared_stack) (assertions_follow fresh inside p q.path_bool declared.0)) in
-    let third : AllMayFollow (resting m base) (question m p t) =
-    follow_join (resting m base) ((opening m ++ declarations symbols) ++ assertions p) (Assert negated ∷ []) second
-    (subst (λ x. AllMayFollow x (Assert negated ∷ [])) (sym asserted_stack) (record { bool = q.bool; declared = declared.1 }, tt)) in
-    follow_join (resting m base) (question m p t) (CheckSat ∷ []) third (tt, tt)
+    let beginning = Push 1 ∷ Push 1 ∷ declarations symbols in
+    let declared_stack : stack_from base beginning ≡ fresh ∷ inside = declared_level empty_level inside symbols in
+    let asserted_stack : stack_from base (beginning ++ assertions p) ≡ record fresh { assertions = pushed p [] } ∷ inside =
+    stack_append base beginning (assertions p) ∙ (ap (λ x. stack_from x (assertions p)) declared_stack ∙ asserted_level fresh inside p) in
+    follow_join base (beginning ++ assertions p) (Assert negated ∷ [])
+    (follow_join base beginning (assertions p) (tt, (tt, declarations_follow q.sorts empty_level inside symbols variables q.five new is.five))
+    (subst (λ x. AllMayFollow x (assertions p)) (sym declared_stack) (assertions_follow fresh inside p q.path_bool declared.0)))
+    (subst (λ x. AllMayFollow x (Assert negated ∷ [])) (sym asserted_stack) (record { bool = q.bool; declared = declared.1 }, tt))
   where
     path_includes : (sorts : ℕ → Sort) (path : List Term) → Includes standard_symbols (declared_in base) → Each (IsOver standard_symbols sorts) path → Each (IsOver (declared_in base) sorts) path
     path_includes sorts [] includes over = tt
     path_includes sorts (u ∷ path) includes over = (over_includes standard_symbols (declared_in base) sorts u includes over.0, path_includes sorts path includes over.1)
-
-two_more : (l : Level) (base : List Level) → 0 < length base → 1 < length (l ∷ base)
-two_more l base some = omega arith
-
-closing_follows : (m : Bool) (base : List Level) → IsBase base → AllMayFollow (resting m base) (closing m)
-closing_follows true base is = (two_more empty_level base is.open_yet, tt)
-closing_follows false base is = tt
-
-said_follows : (m : Bool) (base : List Level) (turns : List Turn) → IsBase base → AreAskable turns → AllMayFollow (resting m base) (said_by m turns)
-said_follows m base [] is askable = tt
-said_follows m base (Asks p t ∷ turns) is askable =
-    let first = posted_follows m base p t is askable.0 in
-    let level = posted_levels m base p t in
-    let popped : stack_from (resting m base) (posted m p t ++ Pop 1 ∷ []) ≡ resting true base =
-    stack_append (resting m base) (posted m p t) (Pop 1 ∷ []) ∙ ap (λ x. stack_from x (Pop 1 ∷ [])) level in
-    let some = is.open_yet in
-    follow_join (resting m base) (posted m p t ++ Pop 1 ∷ []) (said_by true turns)
-    (follow_join (resting m base) (posted m p t) (Pop 1 ∷ []) first (subst (λ x. AllMayFollow x (Pop 1 ∷ [])) (sym level) (omega arith, tt)))
-    (subst (λ x. AllMayFollow x (said_by true turns)) (sym popped) (said_follows true base turns is askable.1))
-said_follows m base (Posts p t ∷ turns) is askable =
-    subst (λ x. AllMayFollow (resting m base) (posted m p t ++ said_by true x)) (sym askable.1)
-    (subst (AllMayFollow (resting m base)) (sym (none_more (posted m p t))) (posted_follows m base p t is askable.0))
-said_follows m base (Leaves ∷ turns) is askable =
-    let left : stack_from (resting m base) (closing m) ≡ base = closed_level m base in
-    follow_join (resting m base) (closing m) (said_by false turns) (closing_follows m base is)
-    (subst (λ x. AllMayFollow x (said_by false turns)) (sym left) (said_follows false base turns is askable))
 
 -- ---- the names
 
@@ -246,27 +203,13 @@ asserted_named : (sorts : ℕ → Sort) (path : List Term) → Each (IsOver stan
 asserted_named sorts [] over = tt
 asserted_named sorts (t ∷ path) over = (over_names sorts t over.0, asserted_named sorts path over.1)
 
-opening_named : (m : Bool) → AreCommands (opening m)
-opening_named true = (tt, tt)
-opening_named false = (tt, (tt, tt))
-
-posted_named : (m : Bool) (p : List Term) (t : Term) → IsAskable p t → AreCommands (posted m p t)
-posted_named m p t q =
+question_named : (p : List Term) (t : Term) → IsAskable p t → AreCommands (question p t)
+question_named p t q =
     let symbols = symbols_of p (negate t) in
     let declared = declared_named q.sorts symbols (question_variables standard_symbols q.sorts p t q.path_over q.over) q.five in
-    commands_join (question m p t) (CheckSat ∷ [])
-    (commands_join ((opening m ++ declarations symbols) ++ assertions p) (Assert (negate t) ∷ [])
-    (commands_join (opening m ++ declarations symbols) (assertions p)
-    (commands_join (opening m) (declarations symbols) (opening_named m) declared) (asserted_named q.sorts p q.path_over))
-    (over_names q.sorts (negate t) (negated_over standard_symbols q.sorts t q.over), tt)) (tt, tt)
-
-said_named : (m : Bool) (turns : List Turn) → AreAskable turns → AreCommands (said_by m turns)
-said_named m [] askable = tt
-said_named m (Asks p t ∷ turns) askable =
-    commands_join (posted m p t ++ Pop 1 ∷ []) (said_by true turns) (commands_join (posted m p t) (Pop 1 ∷ []) (posted_named m p t askable.0) (tt, tt)) (said_named true turns askable.1)
-said_named m (Posts p t ∷ turns) askable =
-    commands_join (posted m p t) (said_by true turns) (posted_named m p t askable.0) (subst (λ x. AreCommands (said_by true x)) (sym askable.1) tt)
-said_named m (Leaves ∷ turns) askable = commands_join (closing m) (said_by false turns) (closing_named m) (said_named false turns askable)
+    commands_join ((Push 1 ∷ Push 1 ∷ declarations symbols) ++ assertions p) (Assert (negate t) ∷ [])
+    (commands_join (Push 1 ∷ Push 1 ∷ declarations symbols) (assertions p) (tt, (tt, declared)) (asserted_named q.sorts p q.path_over))
+    (over_names q.sorts (negate t) (negated_over standard_symbols q.sorts t q.over), tt)
 
 certified_named : AreCommands (preamble true [])
 unfolding produce_proofs is_symbol_byte is_digit
@@ -278,8 +221,11 @@ said_first false = preamble_named
 
 -- ---- all of it
 
-pub well_formed : (c : Bool) (turns : List Turn) → AreAskable turns → IsWellFormed (script c [] turns)
-well_formed c turns askable = record {
-  spelled = commands_join (preamble c []) (said_by false turns) (said_first c) (said_named false turns askable);
-  in_order = follow_join (empty_level ∷ []) (preamble c []) (said_by false turns) (preamble_follows c) (said_follows false (base_of c []) turns (base_is c) askable);
+pub preamble_fits : (c : Bool) → IsWellFormed (preamble c [])
+preamble_fits c = record { spelled = said_first c; in_order = preamble_follows c }
+
+pub question_fits : (c : Bool) (p : List Term) (t : Term) → IsAskable p t → IsWellFormed (preamble c [] ++ question p t)
+question_fits c p t q = record {
+  spelled = commands_join (preamble c []) (question p t) (said_first c) (question_named p t q);
+  in_order = follow_join (empty_level ∷ []) (preamble c []) (question p t) (preamble_follows c) (question_follows (base_of c []) p t (base_is c) q);
 }

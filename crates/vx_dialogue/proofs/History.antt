@@ -20,7 +20,7 @@ use Rattle.vx_dialogue.specs.Hears.{ReadsSuccesses}
 use Rattle.vx_dialogue.specs.Stops.{FailsAfter}
 use Rattle.vx_dialogue.specs.History.{HoldsNoAnswer, TellsOf, Tells, may_miss, Breaks}
 use Rattle.vx_dialogue.specs.Pace.{KeepsPace}
-use Rattle.vx_dialogue.specs.Scripts.{Turn, said_of, is_inside_after, script}
+use Rattle.vx_dialogue.specs.Scripts.{Outside, ScopedTurn, said_of, scope_from, script}
 use Rattle.vx_dialogue.proofs.Joined.{append_none, short_longer, sent_by_gets}
 use Rattle.vx_dialogue.proofs.Told.{some_same}
 use Rattle.vx_dialogue.proofs.Lists.{length_more, text_append, text_more}
@@ -211,15 +211,15 @@ module _ {L : Type 0} (dialogue : L → List Piece) (d : Dialogue L) (commands :
       (ap (λ x. x ++ command_text CheckSat) g.batch_is ∙ sym (text_more g.gathered CheckSat)) (omega (arith, length_more g.gathered CheckSat, g.count_is)) sends (gets_none new)
       (pace_longer commands (CheckSat ∷ []) (dialogue d.link) g.pace) begun.0 begun.1 got_on (λ front later all. held_part g.gathered front begun.0 later g.plain some all)
 
-pub standing_tells : {L : Type 0} (dialogue : L → List Piece) (certify : Bool) (functions : List Declared) (turns : List Turn) (d : Dialogue L) (checks : List Check)
+pub standing_tells : {L : Type 0} (dialogue : L → List Piece) (certify : Bool) (functions : List Declared) (turns : List ScopedTurn) (d : Dialogue L) (checks : List Check)
     → Stands dialogue certify functions turns d checks → Tells false (script certify functions turns) (dialogue (link_of d)) checks
 standing_tells dialogue certify functions turns d checks stands = gathers_tells dialogue d (script certify functions turns) checks stands.told
 
-pub standing_longer : {L : Type 0} (dialogue : L → List Piece) (certify : Bool) (functions : List Declared) (turns : List Turn) (turn : Turn) (d : Dialogue L) (checks : List Check)
+pub standing_longer : {L : Type 0} (dialogue : L → List Piece) (certify : Bool) (functions : List Declared) (turns : List ScopedTurn) (turn : ScopedTurn) (d : Dialogue L) (checks : List Check)
     → Stands dialogue certify functions turns d checks → Tells true (script certify functions (turns ++ turn ∷ [])) (dialogue (link_of d)) checks
 standing_longer dialogue certify functions turns turn d checks stands =
     subst (λ x. Tells true x (dialogue (link_of d)) checks) (sym (script_more certify functions turns turn))
-    (tells_longer false (script certify functions turns) (said_of (is_inside_after turns) turn) (dialogue (link_of d)) checks (standing_tells dialogue certify functions turns d checks stands))
+    (tells_longer false (script certify functions turns) (said_of (scope_from Outside turns) turn) (dialogue (link_of d)) checks (standing_tells dialogue certify functions turns d checks stands))
 
 -- a script that goes on
 pub breaks_longer : (t : Talk) (script more : List Command) (pieces : List Piece) (checks : List Check) → Breaks t script pieces checks → Breaks t (script ++ more) pieces checks

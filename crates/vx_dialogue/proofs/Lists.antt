@@ -1,7 +1,7 @@
 -- Lists, and what is told of commands one after another.
-use Rattle.std.proofs.Common.{◌≡◌, ◌++◌, ◌+◌, ◌<◌, ℕ, zero, suc, true, List, [], ◌∷◌, length, map, take, drop, get_or, Result, Ok, Err, OnOk, IfOk, refl, ap, ◌∙◌, sym, arith, append_assoc, add-one}
-use Rattle.std.proofs.Math.Seq.{take-suc}
-use Rattle.std.proofs.lemmas.List.{take-append-drop}
+use Rattle.std.proofs.Common.{◌≡◌, ◌++◌, ◌+◌, ◌-◌, ◌<◌, ℕ, zero, suc, true, List, [], ◌∷◌, length, map, take, drop, get_or, Result, Ok, Err, OnOk, IfOk, refl, ap, ◌∙◌, sym, arith, append_assoc, add-one}
+use Rattle.std.proofs.Math.Seq.{take-suc, take-length}
+use Rattle.std.proofs.lemmas.List.{take-append-drop, length-drop}
 use Rattle.vx_sexp.specs.declared.token.Token.{Token}
 use Rattle.vx_smt_meaning.specs.Commands.{Command, SetOption, SetLogic, DeclareSort, DeclareFun, Assert, Push, Pop, CheckSat, GetProof, Exit, Level, stack_after, stack_from}
 use Rattle.vx_smt_meaning.specs.Dialogues.{is_plain, ArePlain, is_lawful_to, Answers, checks_in, checks_told}
@@ -112,3 +112,7 @@ if_ok_map (Err e) P Q f p = p
 
 pub map_whole : {A B : Type 0} (f : A → B) (xs : List A) (i : ℕ) → map f (take i xs) ++ map f (drop i xs) ≡ map f xs
 map_whole f xs i = sym (map_append f (take i xs) (drop i xs)) ∙ ap (map f) (take-append-drop i xs)
+
+-- the part from a place to the end
+pub whole_rest : {A : Type 0} (n : ℕ) (xs : List A) → take (length xs - n) (drop n xs) ≡ drop n xs
+whole_rest n xs = ap (λ k. take k (drop n xs)) (sym (length-drop n xs)) ∙ take-length (drop n xs)

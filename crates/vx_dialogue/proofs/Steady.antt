@@ -1,5 +1,5 @@
 -- Why a reply is owed whenever one is awaited.
-use Rattle.std.proofs.Common.{◌≡◌, ◌++◌, ◌+◌, ◌-◌, ◌<◌, ◌≤◌, ℕ, Bool, true, false, IsTrue, List, [], ◌∷◌, length, map, take, drop, Some, refl, ap, ◌∙◌, sym, subst, append_assoc, length-append, arith, Result, Err, IfErr}
+use Rattle.std.proofs.Common.{◌≡◌, ◌++◌, ◌+◌, ◌-◌, ◌<◌, ◌≤◌, ℕ, Bool, false, IsTrue, List, [], ◌∷◌, length, map, take, drop, Some, refl, ap, ◌∙◌, sym, subst, append_assoc, length-append, arith, Result, Err, IfErr}
 use Rattle.std.proofs.lemmas.Grind.{common_steps}
 use Rattle.vx_ends.specs.declared.piece.Piece.{Piece}
 use Rattle.vx_ends.specs.Causes.{HasCause, IsCalm}
@@ -16,11 +16,9 @@ use Rattle.vx_smt_text.specs.Text.{commands_text}
 use Rattle.vx_dialogue.specs.declared.dialogue.Dialogue.{Dialogue}
 use Rattle.vx_dialogue.specs.Items.{Keeps, ReadsItem}
 use Rattle.vx_dialogue.specs.Hears.{ReadsSuccesses}
-use Rattle.vx_terms.specs.Terms.{Term}
 use Rattle.vx_sexp.specs.Characters.{is_symbol_byte, is_digit}
-use Rattle.vx_dialogue.specs.Preamble.{print_success}
+use Rattle.vx_dialogue.specs.Preamble.{print_success, preamble}
 use Rattle.vx_dialogue.specs.Dialogue.{Gathers, Waits}
-use Rattle.vx_dialogue.specs.Scripts.{preamble, question, closing}
 use Rattle.vx_dialogue.specs.Steady.{IsSteady, Owes}
 use Rattle.vx_dialogue.proofs.Joined.{items_longer, items_more, items_join, items_of, length_more}
 use Rattle.vx_dialogue.proofs.Lists.{text_append, map_whole}
@@ -158,11 +156,3 @@ commands_upto f all i xs named =
 pub preamble_named : AreCommands (preamble false [])
 unfolding print_success is_symbol_byte is_digit
 preamble_named = (refl, (refl, (refl, (refl, ((tt, tt, tt), ((tt, tt, tt), ((tt, (tt, (tt, tt)), tt), ((tt, (tt, tt), tt), ((tt, (tt, tt), tt), ((tt, (tt, tt), tt), ((tt, (tt, tt), tt), ((tt, (tt, tt), tt), ((tt, (tt, tt), tt), ((tt, (tt, tt), tt), ((tt, (tt, tt), tt), ((tt, (tt, tt), tt), ((tt, (tt, tt), tt), tt)))))))))))))))))
-
-pub question_named : (m : Bool) (path : List Term) (condition : Term) → AreCommands (question false path condition) → AreCommands (question m path condition)
-question_named true path condition named = named.1
-question_named false path condition named = named
-
-pub closing_named : (m : Bool) → AreCommands (closing m)
-closing_named true = (tt, tt)
-closing_named false = tt

@@ -3,7 +3,7 @@ use Rattle.std.proofs.Common.{◌≡◌, ◌++◌, ◌+◌, ◌<◌, arith, ℕ,
 use Rattle.vx_ends.specs.declared.piece.Piece.{Piece}
 use Rattle.vx_ends.specs.Dialogue.{sent, got, SendsOn, GetsOn}
 use Rattle.vx_sexp.specs.declared.token.Token.{Token}
-use Rattle.vx_smt_meaning.specs.Commands.{Command, CheckSat, Pop, empty_level, stack_from, stack_of}
+use Rattle.vx_smt_meaning.specs.Commands.{Command, CheckSat, empty_level, stack_from, stack_of}
 use Rattle.vx_smt_meaning.specs.Replies.{answer_of}
 use Rattle.vx_smt_meaning.specs.Dialogues.{is_plain, Answers, Check, check_at, checks_told}
 use Rattle.vx_smt_meaning.specs.declared.reply.Reply.{Reply}
@@ -72,15 +72,16 @@ gathers_sent dialogue d e between sends gets sent_between sent_on batch count re
 
 -- what is gathered is sent, and a check-sat behind it
 pub waits_sent : {L : Type 0} (dialogue : L → List Piece) (d e : Dialogue L) → SendsOn (dialogue d.link) (dialogue e.link) → d.count < 256 → sent (dialogue e.link) ≡ sent (dialogue d.link) ++ (d.batch.items ++ command_text CheckSat)
-    → e.batch.items ≡ [] → e.owed ≡ Some d.count → got (dialogue e.link) ≡ got (dialogue d.link) → e.unread.items ≡ d.unread.items
+    → e.batch.items ≡ [] → e.count ≡ 0 → e.owed ≡ Some d.count → got (dialogue e.link) ≡ got (dialogue d.link) → e.unread.items ≡ d.unread.items
     → (commands : List Command) (checks : List Check) → Gathers dialogue d commands checks → Waits dialogue e (commands ++ CheckSat ∷ []) checks
-waits_sent dialogue d e sends room sent_on batch owed got_on unread commands checks g = record {
+waits_sent dialogue d e sends room sent_on batch count owed got_on unread commands checks g = record {
   answered = g.answered;
   waiting = g.gathered;
   items = g.items;
   all = ap (λ x. x ++ CheckSat ∷ []) g.all;
   sent_is = sent_on ∙ rw (g.sent_is, g.batch_is, text_more commands CheckSat, g.all, text_append g.answered g.gathered) (sym (append_assoc (commands_text g.answered) (commands_text g.gathered) (command_text CheckSat)));
   batch_is = batch;
+  count_is = count;
   owed_is = owed ∙ ap Some g.count_is;
   pace = pace_sent (dialogue d.link) (dialogue e.link) (d.batch.items ++ command_text CheckSat) (commands ++ CheckSat ∷ []) g.answered (g.gathered ++ CheckSat ∷ []) g.items d.unread.items
       (ap (λ x. x ++ CheckSat ∷ []) g.all ∙ append_assoc g.answered g.gathered (CheckSat ∷ [])) sends sent_on g.sent_is (ap (λ x. x ++ command_text CheckSat) g.batch_is ∙ sym (text_more g.gathered CheckSat))
@@ -94,12 +95,12 @@ waits_sent dialogue d e sends room sent_on batch owed got_on unread commands che
 pub some_same : {A : Type 0} (x y : A) → Some x ≡ Some y → x ≡ y
 some_same x y e = cc
 
--- the replies are read, and the answer to the check; a pop is gathered
+-- the replies are read, and the answer to the check; nothing is gathered
 pub gathers_answered : {L : Type 0} (dialogue : L → List Piece) (d e : Dialogue L) (owed : ℕ) (got1 unread1 : List ℕ) (item : List Token) (reply : Reply)
-    → GetsOn (dialogue d.link) (dialogue e.link) → d.owed ≡ Some owed → sent (dialogue e.link) ≡ sent (dialogue d.link) → e.batch.items ≡ d.batch.items ++ command_text (Pop 1) → e.count ≡ 1
+    → GetsOn (dialogue d.link) (dialogue e.link) → d.owed ≡ Some owed → sent (dialogue e.link) ≡ sent (dialogue d.link) → e.batch.items ≡ d.batch.items → e.count ≡ d.count
     → ReadsSuccesses owed (got (dialogue d.link)) d.unread.items got1 unread1 → ReadsItem got1 unread1 (got (dialogue e.link)) e.unread.items item → answer_of item ≡ Some reply
     → (commands : List Command) (checks : List Check) → Waits dialogue d commands checks
-    → Gathers dialogue e (commands ++ Pop 1 ∷ []) (checks ++ told_check (stack_of commands) reply ∷ [])
+    → Gathers dialogue e commands (checks ++ told_check (stack_of commands) reply ∷ [])
 gathers_answered dialogue d e owed got1 unread1 item reply gets owed_is sent_on batch count reads answers is commands checks w =
     let base = empty_level ∷ [] in
     let before = w.answered ++ w.waiting in
@@ -115,15 +116,15 @@ gathers_answered dialogue d e owed got1 unread1 item reply gets owed_is sent_on 
     let got_before = items_go_on _ _ _ _ reads.0 w.items successes reads.1 w.got_is reads.3 in
     record {
       answered = commands;
-      gathered = Pop 1 ∷ [];
+      gathered = [];
       items = (w.items ++ successes) ++ item ∷ [];
-      all = refl;
+      all = sym (none_more commands);
       sent_is = sent_on ∙ w.sent_is;
-      batch_is = batch ∙ rw w.batch_is (sym (none_more (command_text (Pop 1))));
-      count_is = count;
+      batch_is = batch ∙ w.batch_is;
+      count_is = count ∙ w.count_is;
       few = omega arith;
-      pace = pace_longer commands (Pop 1 ∷ []) (dialogue e.link) (pace_got commands (dialogue d.link) (dialogue e.link) gets w.pace);
-      plain = (refl, tt);
+      pace = pace_got commands (dialogue d.link) (dialogue e.link) gets w.pace;
+      plain = tt;
       got_is = items_go_on _ _ _ _ answers.0 (w.items ++ successes) (item ∷ []) answers.1 got_before (_, answers.2, refl);
       lawful = subst (λ x. Answers x ((w.items ++ successes) ++ item ∷ [])) (sym w.all) (answers_join before (CheckSat ∷ []) (w.items ++ successes) (item ∷ []) lawful_before last);
       checks_are = sym (ap (λ x. checks_told base x ((w.items ++ successes) ++ item ∷ [])) w.all

@@ -6,7 +6,7 @@ use Rattle.vx_terms.specs.Build.{negate}
 use Rattle.vx_terms.specs.Interpretations.{Each}
 use Rattle.vx_smt_meaning.specs.Over.{IsOver}
 use Rattle.vx_smt_meaning.specs.Standard.{standard_symbols}
-use Rattle.vx_dialogue.specs.Scripts.{Turn, Asks, Posts, Leaves}
+use Rattle.vx_dialogue.specs.Turns.{Turn, Asks, Posts, Leaves}
 
 -- one of the five sorts that every dialogue knows
 abbrev pub IsOfFive : Sort → Type 0
@@ -26,9 +26,13 @@ pub record IsAskable (path : List Term) (condition : Term) : Type 0 where
   pub path_bool : Each (λ (t : Term). sort_of t ≡ BoolSort) path
   pub bool : sort_of (negate condition) ≡ BoolSort
 
--- So are all questions of these turns; one without a reply is the last.
+-- Each question of these turns is so; one without a reply is the last.
+abbrev pub AreTurns : (List Term → Term → Type 0) → List Turn → Type 0
+AreTurns P [] = ⊤
+AreTurns P (Asks path condition ∷ turns) = P path condition × AreTurns P turns
+AreTurns P (Posts path condition ∷ turns) = P path condition × (turns ≡ [])
+AreTurns P (Leaves ∷ turns) = AreTurns P turns
+
+-- all questions of these turns are askable
 abbrev pub AreAskable : List Turn → Type 0
-AreAskable [] = ⊤
-AreAskable (Asks path condition ∷ turns) = IsAskable path condition × AreAskable turns
-AreAskable (Posts path condition ∷ turns) = IsAskable path condition × (turns ≡ [])
-AreAskable (Leaves ∷ turns) = AreAskable turns
+AreAskable = AreTurns IsAskable

@@ -1,5 +1,5 @@
 -- What a dialogue says, hears and has checked.
-use Rattle.std.specs.Prelude.{◌≡◌, ℕ, ◌≤◌, Bool, true, false, List, [], ◌∷◌, ◌++◌, length, if◌then◌else◌, Some, None, Result, Err, IsSome}
+use Rattle.std.specs.Prelude.{◌≡◌, ℕ, ◌≤◌, Bool, false, List, [], ◌∷◌, ◌++◌, length, Some, None, Result, Err, IsSome}
 use Rattle.std.specs.declared.rc.Rc.{Rc}
 use Rattle.std.specs.declared.alloc.Global.{Global}
 use Rattle.vx_ends.specs.declared.piece.Piece.{Piece}
@@ -15,7 +15,11 @@ use Rattle.vx_smt_meaning.specs.declared.reply.Reply.{Reply}
 use Rattle.vx_smt_text.specs.Text.{commands_text}
 use Rattle.vx_dialogue.specs.Items.{ShortItems}
 use Rattle.vx_dialogue.specs.Pace.{KeepsPace}
-use Rattle.vx_dialogue.specs.Scripts.{Turn, Posts, preamble, symbols_of, script, is_inside_after}
+use Rattle.vx_segments.specs.Segments.{Entry}
+use Rattle.vx_dialogue.specs.Preamble.{preamble}
+use Rattle.vx_dialogue.specs.Symbols.{symbols_of}
+use Rattle.vx_dialogue.specs.Scripts.{Scope, Outside, ScopedTurn, Posts, script, scope_from}
+use Rattle.vx_dialogue.specs.Places.{scope, IsReady}
 use Rattle.vx_dialogue.specs.declared.talk.Talk.{Talk}
 use Rattle.vx_dialogue.specs.declared.dialogue.Dialogue.{Dialogue}
 
@@ -28,6 +32,9 @@ pushed (x ∷ xs) ys = pushed xs (x ∷ ys)
 abbrev pub shared : Rc Term' Global → Term
 shared r = term r.value
 
+abbrev pub scope_of : {L : Type 0} → Dialogue L → Scope
+scope_of d = scope d.levels
+
 abbrev pub link_of : {L : Type 0} → Dialogue L → L
 link_of d = d.link
 
@@ -35,16 +42,13 @@ link_of d = d.link
 abbrev pub has_failed : {L : Type 0} → Dialogue L → Bool
 has_failed d = d.failed
 
-abbrev pub is_in_member : {L : Type 0} → Dialogue L → Bool
-is_in_member d = d.in_member
-
--- no question is open, unless an earlier call failed
+-- no question is open, unless an earlier call failed; nothing is gathered then
 abbrev pub IsFree : {L : Type 0} → Dialogue L → Type 0
-IsFree d = d.failed ≡ false → (d.owed ≡ None) × (d.count ≤ (if d.in_member then 1 else 2))
+IsFree d = d.failed ≡ false → (d.owed ≡ None) × (d.count ≡ 0) × IsReady d.levels
 
 -- a question is open, unless an earlier call failed
 abbrev pub IsAsked : {L : Type 0} → Dialogue L → Type 0
-IsAsked d = d.failed ≡ false → IsSome d.owed × (d.count ≡ 0) × (d.in_member ≡ true)
+IsAsked d = d.failed ≡ false → IsSome d.owed × (d.count ≡ 0) × IsReady d.levels
 
 -- The commands said so far, of which those that were sent are answered; the others are gathered, at most 256, and no more ever waited for their replies. These are the checks among them.
 pub record Gathers {L : Type 0} (dialogue : L → List Piece) (d : Dialogue L) (commands : List Command) (checks : List Check) : Type 0 where
@@ -70,21 +74,13 @@ pub record Waits {L : Type 0} (dialogue : L → List Piece) (d : Dialogue L) (co
   pub all : commands ≡ (answered ++ waiting) ++ CheckSat ∷ []
   pub sent_is : sent (dialogue d.link) ≡ commands_text commands
   pub batch_is : d.batch.items ≡ []
+  pub count_is : d.count ≡ 0
   pub owed_is : d.owed ≡ Some (length waiting)
   pub pace : KeepsPace commands (dialogue d.link)
   pub plain : ArePlain waiting
   pub got_is : ShortItems (got (dialogue d.link)) items d.unread.items
   pub lawful : Answers answered items
   pub checks_are : checks ≡ checks_told (empty_level ∷ []) answered items
-
--- the levels between questions: those of the preamble, and the member's own
-abbrev pub resting : Bool → List Level → List Level
-resting true levels = empty_level ∷ levels
-resting false levels = levels
-
--- the level of a question
-abbrev pub asked_level : List Term → Term → Level
-asked_level path condition = record { sorts = []; symbols = pushed (symbols_of path (negate condition)) []; assertions = negate condition ∷ pushed path [] }
 
 -- the check of a question: its path and its negated condition are asserted, and no more; its symbols are declared, and those of the preamble
 abbrev pub check_of : List Level → List Term → Term → Reply → Check
@@ -103,16 +99,15 @@ abbrev pub base_of : Bool → List Declared → List Level
 base_of certify functions = stack_of (preamble certify functions)
 
 -- No question is open: the commands said so far are exactly those of these turns, and these are their checks.
-pub record Stands {L : Type 0} (dialogue : L → List Piece) (certify : Bool) (functions : List Declared) (turns : List Turn) (d : Dialogue L) (checks : List Check) : Type 0 where
+pub record Stands {L : Type 0} (dialogue : L → List Piece) (certify : Bool) (functions : List Declared) (turns : List ScopedTurn) (d : Dialogue L) (checks : List Check) : Type 0 where
   pub told : Gathers dialogue d (script certify functions turns) checks
-  pub inside : d.in_member ≡ is_inside_after turns
-  pub levels : stack_of (script certify functions turns) ≡ resting d.in_member (base_of certify functions)
+  pub scope : scope_of d ≡ scope_from Outside turns
 
 -- The reply to this question is awaited, behind these turns.
-pub record Awaits {L : Type 0} (dialogue : L → List Piece) (certify : Bool) (functions : List Declared) (turns : List Turn) (path : List Term) (condition : Term) (d : Dialogue L)
+pub record Awaits {L : Type 0} (dialogue : L → List Piece) (certify : Bool) (functions : List Declared) (turns : List ScopedTurn) (path : List Entry) (condition : Term) (d : Dialogue L)
     (checks : List Check) : Type 0 where
   pub told : Waits dialogue d (script certify functions (turns ++ Posts path condition ∷ [])) checks
-  pub levels : stack_of (script certify functions (turns ++ Posts path condition ∷ [])) ≡ asked_level path condition ∷ empty_level ∷ base_of certify functions
+  pub scope : scope_of d ≡ scope_from Outside (turns ++ Posts path condition ∷ [])
 
 -- an answer with this error
 abbrev pub gives : Talk → Result ℕ Talk

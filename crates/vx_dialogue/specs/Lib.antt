@@ -5,9 +5,16 @@ pub mod Stops
 pub mod Symbols
 pub mod Pending
 pub mod Preamble
+pub mod Turns
+pub mod Segments
+pub mod Kept
 pub mod Scripts
+pub mod Standing
+pub mod Places
+pub mod Live
 pub mod Dialogue
 pub mod Pace
 pub mod History
 pub mod Steady
 pub mod Askable
+pub mod Examples

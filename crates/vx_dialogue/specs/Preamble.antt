@@ -24,3 +24,7 @@ logic = SetLogic (codes "ALL") ∷ DeclareSort (codes "Ref") ∷ DeclareSort (co
 -- all before the symbols f
 abbrev pub front : Bool → List Command
 front certify = options certify ++ logic ++ declarations standard_symbols
+
+-- what a dialogue begins with
+abbrev pub preamble : Bool → List Declared → List Command
+preamble certify functions = front certify ++ declarations functions

@@ -1,5 +1,5 @@
 -- The symbols v of terms, in the order of their first occurrence.
-use Rattle.std.specs.Prelude.{ℕ, Bool, true, false, List, [], ◌∷◌, ◌++◌, if◌then◌else◌}
+use Rattle.std.specs.Prelude.{◌≡◌, ⊤, ℕ, Bool, true, false, List, [], ◌∷◌, ◌++◌, if◌then◌else◌}
 use Rattle.vx_terms.specs.Sorts.{Sort, Symbol, Standard, Function, Variable, Named, same_symbol}
 use Rattle.vx_terms.specs.Terms.{Term, Truth, Number, Part, Constant, Apply, Not, Binary, Ite, AllOf, SomeOf, Terms, NoTerms, MoreTerms}
 use Rattle.vx_smt_meaning.specs.Commands.{Declared}
@@ -11,6 +11,11 @@ variable n a = record { symbol = Variable n; takes = []; gives = a }
 abbrev pub declares : List Declared → ℕ → Bool
 declares [] n = false
 declares (d ∷ ds) n = if same_symbol d.symbol (Variable n) then true else declares ds n
+
+-- no v is declared twice
+abbrev pub AreOnce : List Declared → Type 0
+AreOnce [] = ⊤
+AreOnce (d ∷ ds) = ((n : ℕ) → same_symbol d.symbol (Variable n) ≡ true → declares ds n ≡ false) × AreOnce ds
 
 -- A v that isn't there yet stands at the end.
 abbrev pub with_variable : List Declared → ℕ → Sort → List Declared
@@ -43,3 +48,7 @@ abbrev mutual
 abbrev pub with_listed : List Declared → List Term → List Declared
 with_listed ds [] = ds
 with_listed ds (t ∷ ts) = with_listed (with_variables ds t) ts
+
+-- the symbols that a question has, in the order of their first occurrence
+abbrev pub symbols_of : List Term → Term → List Declared
+symbols_of path negated = with_variables (with_listed [] path) negated

@@ -1,5 +1,5 @@
 // The dialogue that drives one link.
-ghost use Rattle.std.specs.Prelude.{◌≡◌, Bool, ◌+◌, length, ◌++◌, ◌∷◌, ◌<◌, ◌≤◌, [], OnOk, IfOk, IfErr, None, Some, true, false, map, List, ◌↔◌, Err, ◌⊎◌, MatchResult, IsErr, is_err};
+ghost use Rattle.std.specs.Prelude.{◌≡◌, Bool, ◌+◌, length, ◌++◌, ◌∷◌, ◌<◌, ◌≤◌, [], OnOk, IfOk, IfErr, None, Some, true, false, map, List, ◌↔◌, Err, ◌⊎◌, MatchResult, IsErr, is_err, IsSome};
 ghost use Rattle.vx_ends.specs.Dialogue.{sent, got, Grows};
 ghost use Rattle.vx_ends.specs.Causes.{HasCause};
 ghost use Rattle.vx_terms.specs.Terms as Written;
@@ -10,18 +10,24 @@ ghost use Rattle.vx_smt_meaning.specs.Views.{command, declared_symbol};
 ghost use Rattle.vx_smt_meaning.specs.Names.{AreCommands};
 ghost use Rattle.vx_dialogue.specs.History.{Breaks};
 ghost use Rattle.vx_dialogue.specs.Steady.{IsSteady};
+ghost use Rattle.vx_segments.specs.Segments as segments;
+ghost use Rattle.vx_segments.specs.Views.{entry};
+ghost use Rattle.vx_dialogue.specs.Preamble.{preamble};
 ghost use Rattle.vx_dialogue.specs.Scripts as Said;
-ghost use Rattle.vx_dialogue.specs.Scripts.{Turn, preamble, question, script};
-ghost use Rattle.vx_dialogue.specs.Dialogue.{shared, link_of, has_failed, is_in_member, IsFree, IsAsked, Gathers, Waits, Stands, Awaits, base_of, check_of, told_check, gives};
+ghost use Rattle.vx_dialogue.specs.Scripts.{ScopedTurn, question, script};
+ghost use Rattle.vx_dialogue.specs.Places.{IsReady};
+ghost use Rattle.vx_dialogue.specs.Dialogue.{shared, link_of, scope_of, has_failed, IsFree, IsAsked, Gathers, Waits, Stands, Awaits, base_of, check_of, told_check, gives};
 
 use crate::Talk;
 use crate::batch::expect_successes;
 use crate::item::{Wanted, answer, expect};
 use crate::preamble::front_commands;
-use crate::question::{put_declarations, question_commands};
+use crate::question::put_declarations;
+use crate::scope::Levels;
 use std::alloc::Global;
 use std::rc::Rc;
 use vx_ends::{Link, send_all};
+use vx_segments::Entry;
 use vx_smt_meaning::{Command, Declared, Reply};
 use vx_smt_text::write;
 use vx_terms::Term;
@@ -35,8 +41,8 @@ pub struct Dialogue<L> {
     count: usize,
     // what is got and not read yet
     unread: Vec<u8>,
-    // the member's own level is open
-    in_member: bool,
+    // where it stands: the levels that are open, and what stands on them
+    levels: Levels,
     // a question is open: so many successes are owed before its answer
     owed: Option<usize>,
     // an earlier call failed
@@ -58,7 +64,7 @@ impl<L: Link> Dialogue<L> {
     fn flush(&mut self, alloc: Global) -> Result<(), Talk>
         ensures told { OnOk result ((commands : List Spec.Command) (checks : List Check) → Gathers L.dialogue self.old commands checks → Gathers L.dialogue self.new commands checks) }
         ensures count { OnOk result (self.new.count ≡ 0) }
-        ensures same { (self.new.in_member ≡ self.old.in_member) × (self.new.owed ≡ self.old.owed) × (self.new.failed ≡ self.old.failed) }
+        ensures same { (self.new.levels ≡ self.old.levels) × (self.new.owed ≡ self.old.owed) × (self.new.failed ≡ self.old.failed) }
         ensures fault { IfErr result (λ talk. (commands : List Spec.Command) (checks : List Check) → Gathers L.dialogue self.old commands checks → AreCommands commands → Breaks talk commands (L.dialogue self.new.link) checks) }
         ensures grows { Grows (L.dialogue self.old.link) (L.dialogue self.new.link) }
         ensures cause { HasCause Talk.Pipe (L.faults self.old.link) (L.faults self.new.link) result }
@@ -85,7 +91,7 @@ impl<L: Link> Dialogue<L> {
         ensures told { OnOk result ((commands : List Spec.Command) (checks : List Check) → Gathers L.dialogue self.old commands checks → Gathers L.dialogue self.new commands checks) }
         ensures count { OnOk result (self.new.count < 256) }
         ensures room { OnOk result ((self.new.count ≡ 0) ⊎ (length self.new.batch.items + more ≤ 16384)) }
-        ensures same { (self.new.in_member ≡ self.old.in_member) × (self.new.owed ≡ self.old.owed) × (self.new.failed ≡ self.old.failed) }
+        ensures same { (self.new.levels ≡ self.old.levels) × (self.new.owed ≡ self.old.owed) × (self.new.failed ≡ self.old.failed) }
         ensures fault { IfErr result (λ talk. (commands : List Spec.Command) (checks : List Check) → Gathers L.dialogue self.old commands checks → AreCommands commands → Breaks talk commands (L.dialogue self.new.link) checks) }
         ensures grows { Grows (L.dialogue self.old.link) (L.dialogue self.new.link) }
         ensures cause { HasCause Talk.Pipe (L.faults self.old.link) (L.faults self.new.link) result }
@@ -103,7 +109,7 @@ impl<L: Link> Dialogue<L> {
     fn say(&mut self, alloc: Global, c: &Command) -> Result<(), Talk>
         ensures told { OnOk result (is_plain (command c.now) ≡ true → (commands : List Spec.Command) (checks : List Check)
             → Gathers L.dialogue self.old commands checks → Gathers L.dialogue self.new (commands ++ command c.now ∷ []) checks) }
-        ensures same { (self.new.in_member ≡ self.old.in_member) × (self.new.owed ≡ self.old.owed) × (self.new.failed ≡ self.old.failed) }
+        ensures same { (self.new.levels ≡ self.old.levels) × (self.new.owed ≡ self.old.owed) × (self.new.failed ≡ self.old.failed) }
         ensures fault { IfErr result (λ talk. (commands : List Spec.Command) (checks : List Check) → Gathers L.dialogue self.old commands checks → AreCommands commands → Breaks talk commands (L.dialogue self.new.link) checks) }
         ensures grows { Grows (L.dialogue self.old.link) (L.dialogue self.new.link) }
         ensures cause { HasCause Talk.Pipe (L.faults self.old.link) (L.faults self.new.link) result }
@@ -121,7 +127,7 @@ impl<L: Link> Dialogue<L> {
     fn say_all(&mut self, alloc: Global, all: &[Command]) -> Result<(), Talk>
         ensures told { OnOk result (ArePlain (map command all.now) → (commands : List Spec.Command) (checks : List Check)
             → Gathers L.dialogue self.old commands checks → Gathers L.dialogue self.new (commands ++ map command all.now) checks) }
-        ensures same { (self.new.in_member ≡ self.old.in_member) × (self.new.owed ≡ self.old.owed) × (self.new.failed ≡ self.old.failed) }
+        ensures same { (self.new.levels ≡ self.old.levels) × (self.new.owed ≡ self.old.owed) × (self.new.failed ≡ self.old.failed) }
         ensures fault { IfErr result (λ talk. ArePlain (map command all.now) → (commands : List Spec.Command) (checks : List Check) → Gathers L.dialogue self.old commands checks → AreCommands (commands ++ map command all.now) → Breaks talk (commands ++ map command all.now) (L.dialogue self.new.link) checks) }
         ensures grows { Grows (L.dialogue self.old.link) (L.dialogue self.new.link) }
         ensures cause { HasCause Talk.Pipe (L.faults self.old.link) (L.faults self.new.link) result }
@@ -138,7 +144,7 @@ impl<L: Link> Dialogue<L> {
         ensures told { OnOk result ((commands : List Spec.Command) (checks : List Check)
             → Gathers L.dialogue self.old commands checks → Gathers L.dialogue self.new (commands ++ preamble certify (map declared_symbol functions.now)) checks) }
         ensures count { OnOk result (self.new.count ≡ 0) }
-        ensures same { (self.new.in_member ≡ self.old.in_member) × (self.new.owed ≡ self.old.owed) × (self.new.failed ≡ self.old.failed) }
+        ensures same { (self.new.levels ≡ self.old.levels) × (self.new.owed ≡ self.old.owed) × (self.new.failed ≡ self.old.failed) }
         ensures fault { IfErr result (λ talk. (commands : List Spec.Command) (checks : List Check) → Gathers L.dialogue self.old commands checks → AreCommands (commands ++ preamble certify (map declared_symbol functions.now)) → Breaks talk (commands ++ preamble certify (map declared_symbol functions.now)) (L.dialogue self.new.link) checks) }
         ensures grows { Grows (L.dialogue self.old.link) (L.dialogue self.new.link) }
         ensures cause { HasCause Talk.Pipe (L.faults self.old.link) (L.faults self.new.link) result }
@@ -164,7 +170,7 @@ impl<L: Link> Dialogue<L> {
     ) -> Result<Dialogue<L>, (L, Talk)>
         requires { L.dialogue link ≡ [] }
         ensures stands { IfOk result (λ d. Stands L.dialogue certify (map declared_symbol functions.now) [] d []) }
-        ensures free { IfOk result (λ d. IsFree d × (has_failed d ≡ false) × (is_in_member d ≡ false)) }
+        ensures free { IfOk result (λ d. IsFree d × (has_failed d ≡ false) × (scope_of d ≡ Said.Outside)) }
         ensures fault { IfErr result (λ e. AreCommands (preamble certify (map declared_symbol functions.now)) → Breaks e.1 (preamble certify (map declared_symbol functions.now)) (L.dialogue e.0) []) }
         ensures cause { MatchResult result (λ d. L.faults link ≤ L.faults (link_of d)) (λ e. HasCause Talk.Pipe (L.faults link) (L.faults e.0) (gives e.1)) }
         ensures steady { IsSteady L.steady L.faults link → AreCommands (preamble certify (map declared_symbol functions.now)) → MatchResult result (λ d. IsSteady L.steady L.faults (link_of d)) (λ e. IsSteady L.steady L.faults e.0) }
@@ -175,7 +181,7 @@ impl<L: Link> Dialogue<L> {
             batch: Vec::new(alloc),
             count: 0,
             unread: Vec::new(alloc),
-            in_member: false,
+            levels: Levels::new(alloc),
             owed: None,
             failed: false,
         };
@@ -189,9 +195,8 @@ impl<L: Link> Dialogue<L> {
     fn send_check(&mut self, alloc: Global) -> Result<(), Talk>
         ensures told { OnOk result ((commands : List Spec.Command) (checks : List Check)
             → Gathers L.dialogue self.old commands checks → Waits L.dialogue self.new (commands ++ Spec.CheckSat ∷ []) checks) }
-        ensures asked { OnOk result (IsAsked self.new) }
-        ensures member { OnOk result (self.new.in_member ≡ true) }
-        ensures failed { self.new.failed ≡ self.old.failed }
+        ensures asked { OnOk result (IsSome self.new.owed × (self.new.count ≡ 0)) }
+        ensures same { (self.new.levels ≡ self.old.levels) × (self.new.failed ≡ self.old.failed) }
         ensures fault { IfErr result (λ talk. (commands : List Spec.Command) (checks : List Check) → Gathers L.dialogue self.old commands checks → AreCommands commands → Breaks talk (commands ++ Spec.CheckSat ∷ []) (L.dialogue self.new.link) checks) }
         ensures grows { Grows (L.dialogue self.old.link) (L.dialogue self.new.link) }
         ensures cause { HasCause Talk.Pipe (L.faults self.old.link) (L.faults self.new.link) result }
@@ -204,28 +209,23 @@ impl<L: Link> Dialogue<L> {
         self.batch.clear();
         self.owed = Some(self.count);
         self.count = 0;
-        self.in_member = true;
         Ok(())
     }
 
-    fn post_all(
-        &mut self,
-        alloc: Global,
-        path: &[Rc<Term>],
-        condition: &Rc<Term>,
-    ) -> Result<(), Talk>
+    fn post_all(&mut self, alloc: Global, path: &[Entry], condition: &Rc<Term>) -> Result<(), Talk>
+        requires { IsReady self.old.levels }
         ensures told { OnOk result ((commands : List Spec.Command) (checks : List Check) → Gathers L.dialogue self.old commands checks
-            → Waits L.dialogue self.new ((commands ++ question self.old.in_member (map shared path.now) (shared condition.now)) ++ Spec.CheckSat ∷ []) checks) }
-        ensures asked { OnOk result (IsAsked self.new) }
-        ensures member { OnOk result (self.new.in_member ≡ true) }
+            → Waits L.dialogue self.new ((commands ++ question (scope_of self.old) (map entry path.now) (shared condition.now)) ++ Spec.CheckSat ∷ []) checks) }
+        ensures asked { OnOk result (IsSome self.new.owed × (self.new.count ≡ 0) × IsReady self.new.levels) }
+        ensures scope { OnOk result (scope_of self.new ≡ Said.Inside (map entry path.now)) }
         ensures failed { self.new.failed ≡ self.old.failed }
-        ensures fault { IfErr result (λ talk. (commands : List Spec.Command) (checks : List Check) → Gathers L.dialogue self.old commands checks → AreCommands (commands ++ question self.old.in_member (map shared path.now) (shared condition.now)) → Breaks talk ((commands ++ question self.old.in_member (map shared path.now) (shared condition.now)) ++ Spec.CheckSat ∷ []) (L.dialogue self.new.link) checks) }
+        ensures fault { IfErr result (λ talk. (commands : List Spec.Command) (checks : List Check) → Gathers L.dialogue self.old commands checks → AreCommands (commands ++ question (scope_of self.old) (map entry path.now) (shared condition.now)) → Breaks talk ((commands ++ question (scope_of self.old) (map entry path.now) (shared condition.now)) ++ Spec.CheckSat ∷ []) (L.dialogue self.new.link) checks) }
         ensures grows { Grows (L.dialogue self.old.link) (L.dialogue self.new.link) }
         ensures cause { HasCause Talk.Pipe (L.faults self.old.link) (L.faults self.new.link) result }
-        ensures steady { IsSteady L.steady L.faults self.old.link → (commands : List Spec.Command) (checks : List Check) → Gathers L.dialogue self.old commands checks → AreCommands (commands ++ question self.old.in_member (map shared path.now) (shared condition.now)) → IsSteady L.steady L.faults self.new.link }
+        ensures steady { IsSteady L.steady L.faults self.old.link → (commands : List Spec.Command) (checks : List Check) → Gathers L.dialogue self.old commands checks → AreCommands (commands ++ question (scope_of self.old) (map entry path.now) (shared condition.now)) → IsSteady L.steady L.faults self.new.link }
         ensures open { result ≡ Err Talk.Closed → ⊥ }
     {
-        let commands = question_commands(alloc, self.in_member, path, condition)?;
+        let commands = self.levels.question(alloc, path, condition)?;
         self.say_all(alloc, &commands)?;
         self.send_check(alloc)
     }
@@ -235,22 +235,17 @@ impl<L: Link> Dialogue<L> {
     /// # Errors
     /// `Pipe` where the link fails, `Garbled` where an item is no lawful reply, `Refused` where it refuses a command, `Want` where
     /// memory runs out, and `Closed` where an earlier call failed.
-    pub fn post(
-        &mut self,
-        alloc: Global,
-        path: &[Rc<Term>],
-        condition: &Rc<Term>,
-    ) -> Result<(), Talk>
+    pub fn post(&mut self, alloc: Global, path: &[Entry], condition: &Rc<Term>) -> Result<(), Talk>
         requires { IsFree self.old }
-        ensures asks { OnOk result ((certify : Bool) (functions : List Spec.Declared) (turns : List Turn) (checks : List Check) → Stands L.dialogue certify functions turns self.old checks
-            → Awaits L.dialogue certify functions turns (map shared path.now) (shared condition.now) self.new checks) }
+        ensures asks { OnOk result ((certify : Bool) (functions : List Spec.Declared) (turns : List ScopedTurn) (checks : List Check) → Stands L.dialogue certify functions turns self.old checks
+            → Awaits L.dialogue certify functions turns (map entry path.now) (shared condition.now) self.new checks) }
         ensures asked { IsAsked self.new }
-        ensures fault { IfErr result (λ talk. (certify : Bool) (functions : List Spec.Declared) (turns : List Turn) (checks : List Check) → Stands L.dialogue certify functions turns self.old checks
-            → AreCommands (script certify functions (turns ++ Said.Posts (map shared path.now) (shared condition.now) ∷ [])) → Breaks talk (script certify functions (turns ++ Said.Posts (map shared path.now) (shared condition.now) ∷ [])) (L.dialogue (link_of self.new)) checks) }
+        ensures fault { IfErr result (λ talk. (certify : Bool) (functions : List Spec.Declared) (turns : List ScopedTurn) (checks : List Check) → Stands L.dialogue certify functions turns self.old checks
+            → AreCommands (script certify functions (turns ++ Said.Posts (map entry path.now) (shared condition.now) ∷ [])) → Breaks talk (script certify functions (turns ++ Said.Posts (map entry path.now) (shared condition.now) ∷ [])) (L.dialogue (link_of self.new)) checks) }
         ensures grows { Grows (L.dialogue (link_of self.old)) (L.dialogue (link_of self.new)) }
         ensures cause { HasCause Talk.Pipe (L.faults (link_of self.old)) (L.faults (link_of self.new)) result }
-        ensures steady { IsSteady L.steady L.faults (link_of self.old) → (certify : Bool) (functions : List Spec.Declared) (turns : List Turn) (checks : List Check) → Stands L.dialogue certify functions turns self.old checks
-            → AreCommands (script certify functions (turns ++ Said.Posts (map shared path.now) (shared condition.now) ∷ [])) → IsSteady L.steady L.faults (link_of self.new) }
+        ensures steady { IsSteady L.steady L.faults (link_of self.old) → (certify : Bool) (functions : List Spec.Declared) (turns : List ScopedTurn) (checks : List Check) → Stands L.dialogue certify functions turns self.old checks
+            → AreCommands (script certify functions (turns ++ Said.Posts (map entry path.now) (shared condition.now) ∷ [])) → IsSteady L.steady L.faults (link_of self.new) }
         ensures closed { (result ≡ Err Talk.Closed) ↔ (has_failed self.old ≡ true) }
         ensures failed { has_failed self.new ≡ is_err result }
     {
@@ -269,9 +264,9 @@ impl<L: Link> Dialogue<L> {
     #[tactic(auto, unfolding(crate::specs::Items::is_lawful))]
     fn take_all(&mut self, alloc: Global, owed: usize) -> Result<Reply, Talk>
         ensures told { IfOk result (λ reply. self.old.owed ≡ Some owed → (commands : List Spec.Command) (checks : List Check) → Waits L.dialogue self.old commands checks
-            → Gathers L.dialogue self.new (commands ++ Spec.Pop 1 ∷ []) (checks ++ told_check (stack_of commands) reply ∷ [])) }
-        ensures free { OnOk result ((self.new.owed ≡ None) × (self.new.count ≡ 1)) }
-        ensures same { (self.new.in_member ≡ self.old.in_member) × (self.new.failed ≡ self.old.failed) }
+            → Gathers L.dialogue self.new commands (checks ++ told_check (stack_of commands) reply ∷ [])) }
+        ensures free { OnOk result (self.new.owed ≡ None) }
+        ensures same { (self.new.levels ≡ self.old.levels) × (self.new.count ≡ self.old.count) × (self.new.failed ≡ self.old.failed) }
         ensures fault { IfErr result (λ talk. self.old.owed ≡ Some owed → (commands : List Spec.Command) (checks : List Check) → Waits L.dialogue self.old commands checks → AreCommands commands → Breaks talk commands (L.dialogue self.new.link) checks) }
         ensures grows { Grows (L.dialogue self.old.link) (L.dialogue self.new.link) }
         ensures cause { HasCause Talk.Pipe (L.faults self.old.link) (L.faults self.new.link) result }
@@ -280,8 +275,6 @@ impl<L: Link> Dialogue<L> {
     {
         expect_successes(alloc, &mut self.link, &mut self.unread, owed)?;
         let item = expect(alloc, &mut self.link, &mut self.unread, Wanted::Answer)?;
-        write(alloc, &Command::Pop(1), &mut self.batch)?;
-        self.count = 1;
         self.owed = None;
         match answer(item.tokens()) {
             Some(reply) => Ok(reply),
@@ -296,15 +289,15 @@ impl<L: Link> Dialogue<L> {
     /// memory runs out, and `Closed` where an earlier call failed.
     pub fn take(&mut self, alloc: Global) -> Result<Reply, Talk>
         requires { IsAsked self.old }
-        ensures reply { IfOk result (λ reply. (certify : Bool) (functions : List Spec.Declared) (turns : List Turn) (path : List Written.Term) (condition : Written.Term) (checks : List Check)
+        ensures reply { IfOk result (λ reply. (certify : Bool) (functions : List Spec.Declared) (turns : List ScopedTurn) (path : List segments.Entry) (condition : Written.Term) (checks : List Check)
             → Awaits L.dialogue certify functions turns path condition self.old checks
-            → Stands L.dialogue certify functions (turns ++ Said.Asks path condition ∷ []) self.new (checks ++ check_of (base_of certify functions) path condition reply ∷ [])) }
+            → Stands L.dialogue certify functions (turns ++ Said.Asks path condition ∷ []) self.new (checks ++ check_of (base_of certify functions) (segments.terms path) condition reply ∷ [])) }
         ensures free { IsFree self.new }
-        ensures fault { IfErr result (λ talk. (certify : Bool) (functions : List Spec.Declared) (turns : List Turn) (path : List Written.Term) (condition : Written.Term) (checks : List Check)
+        ensures fault { IfErr result (λ talk. (certify : Bool) (functions : List Spec.Declared) (turns : List ScopedTurn) (path : List segments.Entry) (condition : Written.Term) (checks : List Check)
             → Awaits L.dialogue certify functions turns path condition self.old checks → AreCommands (script certify functions (turns ++ Said.Posts path condition ∷ [])) → Breaks talk (script certify functions (turns ++ Said.Posts path condition ∷ [])) (L.dialogue (link_of self.new)) checks) }
         ensures grows { Grows (L.dialogue (link_of self.old)) (L.dialogue (link_of self.new)) }
         ensures cause { HasCause Talk.Pipe (L.faults (link_of self.old)) (L.faults (link_of self.new)) result }
-        ensures steady { IsSteady L.steady L.faults (link_of self.old) → (certify : Bool) (functions : List Spec.Declared) (turns : List Turn) (path : List Written.Term) (condition : Written.Term) (checks : List Check)
+        ensures steady { IsSteady L.steady L.faults (link_of self.old) → (certify : Bool) (functions : List Spec.Declared) (turns : List ScopedTurn) (path : List segments.Entry) (condition : Written.Term) (checks : List Check)
             → Awaits L.dialogue certify functions turns path condition self.old checks → AreCommands (script certify functions (turns ++ Said.Posts path condition ∷ [])) → IsSteady L.steady L.faults (link_of self.new) }
         ensures closed { (result ≡ Err Talk.Closed) ↔ (has_failed self.old ≡ true) }
         ensures failed { has_failed self.new ≡ is_err result }
@@ -330,19 +323,19 @@ impl<L: Link> Dialogue<L> {
     pub fn ask(
         &mut self,
         alloc: Global,
-        path: &[Rc<Term>],
+        path: &[Entry],
         condition: &Rc<Term>,
     ) -> Result<Reply, Talk>
         requires { IsFree self.old }
-        ensures reply { IfOk result (λ reply. (certify : Bool) (functions : List Spec.Declared) (turns : List Turn) (checks : List Check) → Stands L.dialogue certify functions turns self.old checks
-            → Stands L.dialogue certify functions (turns ++ Said.Asks (map shared path.now) (shared condition.now) ∷ []) self.new (checks ++ check_of (base_of certify functions) (map shared path.now) (shared condition.now) reply ∷ [])) }
+        ensures reply { IfOk result (λ reply. (certify : Bool) (functions : List Spec.Declared) (turns : List ScopedTurn) (checks : List Check) → Stands L.dialogue certify functions turns self.old checks
+            → Stands L.dialogue certify functions (turns ++ Said.Asks (map entry path.now) (shared condition.now) ∷ []) self.new (checks ++ check_of (base_of certify functions) (segments.terms (map entry path.now)) (shared condition.now) reply ∷ [])) }
         ensures free { IsFree self.new }
-        ensures fault { IfErr result (λ talk. (certify : Bool) (functions : List Spec.Declared) (turns : List Turn) (checks : List Check) → Stands L.dialogue certify functions turns self.old checks
-            → AreCommands (script certify functions (turns ++ Said.Posts (map shared path.now) (shared condition.now) ∷ [])) → Breaks talk (script certify functions (turns ++ Said.Posts (map shared path.now) (shared condition.now) ∷ [])) (L.dialogue (link_of self.new)) checks) }
+        ensures fault { IfErr result (λ talk. (certify : Bool) (functions : List Spec.Declared) (turns : List ScopedTurn) (checks : List Check) → Stands L.dialogue certify functions turns self.old checks
+            → AreCommands (script certify functions (turns ++ Said.Posts (map entry path.now) (shared condition.now) ∷ [])) → Breaks talk (script certify functions (turns ++ Said.Posts (map entry path.now) (shared condition.now) ∷ [])) (L.dialogue (link_of self.new)) checks) }
         ensures grows { Grows (L.dialogue (link_of self.old)) (L.dialogue (link_of self.new)) }
         ensures cause { HasCause Talk.Pipe (L.faults (link_of self.old)) (L.faults (link_of self.new)) result }
-        ensures steady { IsSteady L.steady L.faults (link_of self.old) → (certify : Bool) (functions : List Spec.Declared) (turns : List Turn) (checks : List Check) → Stands L.dialogue certify functions turns self.old checks
-            → AreCommands (script certify functions (turns ++ Said.Posts (map shared path.now) (shared condition.now) ∷ [])) → IsSteady L.steady L.faults (link_of self.new) }
+        ensures steady { IsSteady L.steady L.faults (link_of self.old) → (certify : Bool) (functions : List Spec.Declared) (turns : List ScopedTurn) (checks : List Check) → Stands L.dialogue certify functions turns self.old checks
+            → AreCommands (script certify functions (turns ++ Said.Posts (map entry path.now) (shared condition.now) ∷ [])) → IsSteady L.steady L.faults (link_of self.new) }
         ensures closed { (result ≡ Err Talk.Closed) ↔ (has_failed self.old ≡ true) }
         ensures failed { has_failed self.new ≡ is_err result }
     {
@@ -350,38 +343,26 @@ impl<L: Link> Dialogue<L> {
         self.take(alloc)
     }
 
-    /// Ends the member. Nothing is sent before the next question.
+    /// Ends the member. Its levels are closed before the next question.
     ///
     /// # Errors
-    /// `Closed` where an earlier call failed; `Want` where memory runs out.
-    pub fn leave(&mut self, alloc: Global) -> Result<(), Talk>
+    /// `Closed` where an earlier call failed, and only then.
+    pub fn leave(&mut self) -> Result<(), Talk>
         requires { IsFree self.old }
-        ensures stands { OnOk result ((certify : Bool) (functions : List Spec.Declared) (turns : List Turn) (checks : List Check) → Stands L.dialogue certify functions turns self.old checks
+        ensures stands { OnOk result ((certify : Bool) (functions : List Spec.Declared) (turns : List ScopedTurn) (checks : List Check) → Stands L.dialogue certify functions turns self.old checks
             → Stands L.dialogue certify functions (turns ++ Said.Leaves ∷ []) self.new checks) }
-        ensures left { OnOk result (is_in_member self.new ≡ false) }
+        ensures left { OnOk result (scope_of self.new ≡ Said.left (scope_of self.old)) }
         ensures free { IsFree self.new }
         ensures link { link_of self.new ≡ link_of self.old }
         ensures closed { (result ≡ Err Talk.Closed) ↔ (has_failed self.old ≡ true) }
-        ensures others { IsErr result → (result ≡ Err Talk.Closed) ⊎ (result ≡ Err Talk.Want) }
-        ensures failed { has_failed self.new ≡ is_err result }
+        ensures others { IsErr result → result ≡ Err Talk.Closed }
+        ensures failed { has_failed self.new ≡ has_failed self.old }
     {
         if self.failed {
             return Err(Talk::Closed);
         }
-        if !self.in_member {
-            return Ok(());
-        }
-        match write(alloc, &Command::Pop(1), &mut self.batch) {
-            Ok(()) => {
-                self.count += 1;
-                self.in_member = false;
-                Ok(())
-            }
-            Err(_) => {
-                self.failed = true;
-                Err(Talk::Want)
-            }
-        }
+        self.levels.leave();
+        Ok(())
     }
 
     /// Gives the link back. No memory.

@@ -1,17 +1,15 @@
 // The symbols v that terms use.
-ghost use Rattle.std.specs.Prelude.{◌≡◌, ◌<◌, ◌+◌, [], OnOk, map};
+ghost use Rattle.std.specs.Prelude.{◌≡◌, ◌<◌, ◌≤◌, ◌+◌, ◌-◌, [], OnOk, length, map, take, drop};
 ghost use Rattle.vx_terms.specs.Parts.{parts};
 ghost use Rattle.vx_terms.specs.Views.{sort, symbol, term, terms};
 ghost use Rattle.vx_smt_meaning.specs.Views.{declared_symbol};
-ghost use Rattle.vx_dialogue.specs.Dialogue.{shared};
-ghost use Rattle.vx_dialogue.specs.Symbols.{variable, with_variable, with_symbol, with_variables, with_all_variables, with_listed};
+ghost use Rattle.vx_dialogue.specs.Symbols.{variable, with_variable, with_symbol, with_variables, with_all_variables};
 ghost use Rattle.vx_dialogue.specs.Pending.{with_one, with_pending, load_of, load};
 
 use crate::pending::{Pending, put_off, put_off_both};
 use std::alloc::{AllocError, Global};
 use std::collections::BTreeSet;
 use std::marker::Model;
-use std::rc::Rc;
 use vx_smt_meaning::Declared;
 use vx_terms::{Sort, Symbol, Term, Terms};
 
@@ -28,13 +26,13 @@ impl Model for Variables {
     ghost use Rattle.std.specs.BTreeSet.{contains};
     ghost use Rattle.vx_smt_meaning.specs.Commands.{Declared};
     ghost use Rattle.vx_smt_meaning.specs.Views.{declared_symbol};
-    ghost use Rattle.vx_dialogue.specs.Symbols.{declares};
+    ghost use Rattle.vx_dialogue.specs.Symbols.{declares, AreOnce};
 
     ghost Value = { List Declared };
 
     ghost view = { λ v. map declared_symbol v.symbols.items };
 
-    ghost invariant = { λ v. (n : ℕ) → contains nat_cmp v.numbers n ≡ declares (map declared_symbol v.symbols.items) n };
+    ghost invariant = { λ v. AreOnce (map declared_symbol v.symbols.items) × ((n : ℕ) → contains nat_cmp v.numbers n ≡ declares (map declared_symbol v.symbols.items) n) };
 }
 
 fn variable_of(alloc: Global, number: u64, gives: Sort) -> Declared
@@ -57,10 +55,18 @@ impl Variables {
         }
     }
 
-    pub fn symbols(&self) -> &[Declared]
-        ensures { map declared_symbol result.now ≡ self.now }
+    pub fn len(&self) -> usize
+        ensures { result ≡ length self.now }
     {
-        &self.symbols
+        self.symbols.len()
+    }
+
+    /// Those behind the first so many.
+    pub fn behind(&self, count: usize) -> &[Declared]
+        requires { count ≤ length self.now }
+        ensures { map declared_symbol result.now ≡ drop count self.now }
+    {
+        &self.symbols[count..]
     }
 
     fn add(&mut self, alloc: Global, number: u64, a: &Sort) -> Result<(), AllocError>
@@ -148,13 +154,23 @@ impl Variables {
         Ok(())
     }
 
-    /// Adds those of each of these terms.
-    pub fn add_terms(&mut self, alloc: Global, path: &[Rc<Term>]) -> Result<(), AllocError>
-        ensures { OnOk result (self.new ≡ with_listed self.old (map shared path.now)) }
+    // Leaves out the last symbol, if there is one.
+    fn drop_last(&mut self)
+        ensures { self.new ≡ take (length self.old - 1) self.old }
     {
-        for t in path {
-            self.add_term(alloc, t)?;
+        if let Some(last) = self.symbols.pop() {
+            if let Symbol::Variable(number) = last.symbol {
+                self.numbers.remove(&number);
+            }
         }
-        Ok(())
+    }
+
+    /// Goes back to the first so many symbols. The numbers of the others leave the set.
+    pub fn back_to(&mut self, count: usize)
+        ensures { self.new ≡ take count self.old }
+    {
+        while self.len() > count {
+            self.drop_last();
+        }
     }
 }

@@ -1,11 +1,16 @@
-use Rattle.std.proofs.Common.{rules, refl}
-use Rattle.vx_dialogue.proofs.Levels.{free_room, stands_left, stands_stays}
+use Rattle.std.proofs.Common.{refl, ap, ◌∙◌, sym, subst}
+use Rattle.vx_dialogue.specs.Scripts.{Leaves, left, script}
+use Rattle.vx_dialogue.specs.Dialogue.{Gathers}
+use Rattle.vx_dialogue.proofs.Moved.{gathers_same}
+use Rattle.vx_dialogue.proofs.Levels.{script_left, scope_more}
 use Rattle.vx_dialogue.proofs.dialogue.Dialogue.leave.Goals as goal
 
-pub returns-then-not-self-clause-stands : goal.returns-then-not-self-clause-stands
-returns-then-not-self-clause-stands g c = λ certify functions turns checks stands.
-    stands_stays g.L.Link.dialogue c.args.self.now (search rules) certify functions turns checks stands
-
-pub returns-in-Ok-clause-stands : goal.returns-in-Ok-clause-stands
-returns-in-Ok-clause-stands g c = λ certify functions turns checks stands.
-    stands_left g.L.Link.dialogue c.args.self.now _ (search rules) refl refl c.in-Ok.ensures.ok refl refl (free_room c.args.self.now c.requires (search rules)) certify functions turns checks stands
+pub returns-clause-stands : goal.returns-clause-stands
+returns-clause-stands g c = λ certify functions turns checks stands.
+    let old = c.args.self.now in
+    let new = record old { levels = c.leave.new.self } in
+    record {
+      told = subst (λ x. Gathers g.L.Link.dialogue new x checks) (sym (script_left certify functions turns))
+          (gathers_same g.L.Link.dialogue old new refl refl refl refl (script certify functions turns) checks stands.told);
+      scope = c.leave.ensures.scope ∙ ap left stands.scope ∙ sym (scope_more turns Leaves);
+    }

@@ -23,7 +23,7 @@ loop-c-preserved g c =
           map_take_more command all i item c.loop-c-test.true ∙ ap (λ x. map command (take i all) ++ command x ∷ []) (sym c.c-item.is) in
           subst (λ x. Gathers g.L.Link.dialogue c.say.new.self x checks)
           (append_assoc commands (map command (take i all)) (command item ∷ []) ∙ ap (λ x. commands ++ x) (sym more)) next;
-      member = c.say.ensures.same.0 ∙ before.member;
+      levels = c.say.ensures.same.0 ∙ before.levels;
       owed = c.say.ensures.same.1 ∙ before.owed;
       failed = c.say.ensures.same.2 ∙ before.failed;
       grows = λ front begins. c.say.ensures.grows front (before.grows front begins);

@@ -15,7 +15,7 @@ invariant-loop-c g l =
     record {
       told : ArePlain (map command l.all) → (commands : List Command) (checks : List Check)
           → Gathers dialogue l.fn.self commands checks → Gathers dialogue l.self (commands ++ map command (take l.c-index l.all)) checks;
-      member : l.self.in_member ≡ l.fn.self.in_member;
+      levels : l.self.levels ≡ l.fn.self.levels;
       owed : l.self.owed ≡ l.fn.self.owed;
       failed : l.self.failed ≡ l.fn.self.failed;
       grows : Grows (dialogue l.fn.self.link) (dialogue l.self.link);

@@ -15,7 +15,7 @@ returns-clause-told g c = λ commands checks told.
     let before = c.in_ok-make_room.ensures.told commands checks told in
     let sent_on : sent (dialogue c.send_all.new.link) ≡ sent (dialogue room.link) ++ (room.batch.items ++ command_text CheckSat) = search rules in
     let cleared : c.clear.new.self.items ≡ [] = search rules in
-    waits_sent dialogue room _ c.send_all.ensures.pieces c.in_ok-make_room.ensures.count sent_on cleared refl c.send_all.ensures.got refl commands checks before
+    waits_sent dialogue room _ c.send_all.ensures.pieces c.in_ok-make_room.ensures.count sent_on cleared refl refl c.send_all.ensures.got refl commands checks before
 
 pub returns-in_err-make_room-clause-fault : goal.returns-in_err-make_room-clause-fault
 returns-in_err-make_room-clause-fault g c = let p = err_from_is_err_and c.from_residual.result c.from_residual.ensures.1 in rw (p.1, p.2) (λ commands checks told named.

@@ -1,7 +1,7 @@
 use Rattle.std.proofs.Common.{rules, ◌≡◌, false, ◌++◌, map, ap, subst, sym}
 use Rattle.vx_smt_meaning.specs.Dialogues.{ArePlain}
 use Rattle.vx_smt_meaning.specs.Views.{command, declared_symbol}
-use Rattle.vx_dialogue.specs.Scripts.{preamble}
+use Rattle.vx_dialogue.specs.Preamble.{preamble}
 use Rattle.vx_dialogue.specs.Dialogue.{Gathers}
 use Rattle.vx_dialogue.specs.History.{Breaks}
 use Rattle.vx_dialogue.proofs.History.{breaks_at, breaks_want, gathers_tells, tells_longer}

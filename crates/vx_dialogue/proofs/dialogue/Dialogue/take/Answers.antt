@@ -1,8 +1,10 @@
-use Rattle.std.proofs.Common.{rules, ◌≡◌, true, ◌++◌, ◌∷◌, [], ap, ◌∙◌, sym, subst}
-use Rattle.vx_smt_meaning.specs.Commands.{Pop, stack_of}
+use Rattle.std.proofs.Common.{◌++◌, ◌∷◌, [], ap, ◌∙◌, sym, subst}
+use Rattle.vx_segments.specs.Segments.{terms}
 use Rattle.vx_dialogue.specs.Scripts.{Asks, Posts, script}
-use Rattle.vx_dialogue.specs.Dialogue.{Gathers, base_of, resting, check_of}
-use Rattle.vx_dialogue.proofs.Levels.{popped_levels, script_asked, inside_behind, bare_preamble, check_is}
+use Rattle.vx_dialogue.specs.Places.{scope}
+use Rattle.vx_dialogue.specs.Dialogue.{Gathers, base_of, check_of}
+use Rattle.vx_dialogue.proofs.Levels.{script_asked, scope_more}
+use Rattle.vx_dialogue.proofs.Turns.{check_is}
 use Rattle.vx_ends.proofs.Dialogues.{gets_none}
 use Rattle.vx_dialogue.proofs.History.{waits_missed}
 use Rattle.vx_dialogue.proofs.dialogue.Dialogue.take.Goals as goal
@@ -11,13 +13,10 @@ pub returns-in-Ok-clause-reply : goal.returns-in-Ok-clause-reply
 returns-in-Ok-clause-reply g c = λ certify functions turns path condition checks awaits.
     let said = script certify functions (turns ++ Posts path condition ∷ []) in
     let told = c.in-Ok.ensures.told c.in-Some.is said checks awaits.told in
-    let check = check_is (base_of certify functions) path condition c.in-Ok.reply _ awaits.levels (bare_preamble certify functions) in
-    let member : c.take_all.new.self.in_member ≡ true = search rules in
     record {
-      told = subst (λ x. Gathers g.L.Link.dialogue c.take_all.new.self x (checks ++ check_of (base_of certify functions) path condition c.in-Ok.reply ∷ [])) (sym (script_asked certify functions turns path condition))
-          (subst (λ x. Gathers g.L.Link.dialogue c.take_all.new.self (said ++ Pop 1 ∷ []) (checks ++ x ∷ [])) check told);
-      inside = member ∙ sym (inside_behind turns (Asks path condition));
-      levels = ap stack_of (script_asked certify functions turns path condition) ∙ (popped_levels (base_of certify functions) _ said awaits.levels ∙ ap (λ x. resting x (base_of certify functions)) (sym member));
+      told = subst (λ x. Gathers g.L.Link.dialogue c.take_all.new.self x (checks ++ check_of (base_of certify functions) (terms path) condition c.in-Ok.reply ∷ [])) (sym (script_asked certify functions turns path condition))
+          (subst (λ x. Gathers g.L.Link.dialogue c.take_all.new.self said (checks ++ x ∷ [])) (check_is certify functions turns path condition c.in-Ok.reply) told);
+      scope = ap scope c.take_all.ensures.same.0 ∙ awaits.scope ∙ scope_more turns (Posts path condition) ∙ sym (scope_more turns (Asks path condition));
     }
 
 pub returns-in-Err-clause-fault : goal.returns-in-Err-clause-fault
