@@ -5,7 +5,6 @@ use Rattle.vx_terms.specs.Interpretations.{Each}
 use Rattle.vx_smt_meaning.specs.Dialogues.{Check}
 use Rattle.vx_ends.specs.declared.piece.Piece.{Piece}
 use Rattle.vx_ends.specs.declared.piece.Ending.{Ending}
-use Rattle.vx_dialogue.specs.Scripts.{script}
 use Rattle.vx_dialogue.specs.History.{Tells}
 use Rattle.vx_live.specs.Functions.{function_symbols}
 use Rattle.vx_report.specs.declared.run.MemberRun.{MemberRun}
@@ -19,7 +18,7 @@ use Rattle.vx_companion.proofs.Rightly.{companion_right}
 use Rattle.vx_companion.proofs.Lawful.{companion_lawful}
 use Rattle.vx_verifier.specs.Sequences.{IsRight}
 use Rattle.vx_verifier.specs.Causes.{IsLawful, AllLawful}
-use Rattle.vx_verifier.specs.Headline.{Headline, NeverFails, Under, IsRecorded, turns_of, lost_after}
+use Rattle.vx_verifier.specs.Headline.{Headline, NeverFails, Under, IsRecorded, script_of, lost_after}
 use Rattle.vx_commands.specs.declared.top.Ended.{Ended}
 use Rattle.vx_commands.specs.declared.reports.Telling.{Telling}
 use Rattle.vx_commands.specs.Outside.{Change, Taken, Children, HandsBack, change, companions}
@@ -76,25 +75,25 @@ is_lawful pieces lawful kept (inl garbled) = (lawful kept).0 garbled
 is_lawful pieces lawful kept (inr refused) = (lawful kept).1 refused
 
 module _ (p : Program) (before now : List Ending) (causes : List (List Cause)) (f g : ℕ) (runs : List MemberRun) (h : Headline p before now f g runs) (all : AllByCompanion now causes) where
-  rights : IsRecorded (function_symbols p) (lost_after false runs) before now (turns_of false p runs h.checks) h.checks → Each IsRight h.checks
+  rights : IsRecorded (function_symbols p) (lost_after false runs) before now h.turns h.checks → Each IsRight h.checks
   rights (inl none) = subst (λ cs. Each IsRight cs) (sym none.1) tt
   rights (inr told) =
       let by = by_companion before now causes told.0 told.1 all in
-      companion_right (lost_after false runs) (script false (function_symbols p) (turns_of false p runs h.checks)) told.0.dialogue by.0 h.checks h.well_formed
-      (script_sorted (function_symbols p) (turns_of false p runs h.checks) h.sorted) told.3 by.1
+      companion_right (lost_after false runs) (script_of p h.turns) told.0.dialogue by.0 h.checks h.well_formed
+      (script_sorted (function_symbols p) h.turns h.sorted) told.3 by.1
 
   -- a member that is verified never fails
   pub verified_sound : AllNeverFail p runs
   verified_sound = sound_alone p runs runs h.checks (rights h.recorded) h.sound
 
-  lawful_by : (taken : Each IsTaken (script false (function_symbols p) (turns_of false p runs h.checks))) (e : Ending) → now ≡ before ++ e ∷ []
-      → Tells (lost_after false runs) (script false (function_symbols p) (turns_of false p runs h.checks)) e.dialogue h.checks → HasLawfulReplies e.dialogue
+  lawful_by : (taken : Each IsTaken (script_of p h.turns)) (e : Ending) → now ≡ before ++ e ∷ []
+      → Tells (lost_after false runs) (script_of p h.turns) e.dialogue h.checks → HasLawfulReplies e.dialogue
   lawful_by taken e is tells =
       let by = by_companion before now causes e is all in
-      companion_lawful (lost_after false runs) (script false (function_symbols p) (turns_of false p runs h.checks)) e.dialogue by.0 h.checks h.well_formed
-      (script_sorted (function_symbols p) (turns_of false p runs h.checks) h.sorted) taken (script_fits (function_symbols p) (turns_of false p runs h.checks)) tells by.1
+      companion_lawful (lost_after false runs) (script_of p h.turns) e.dialogue by.0 h.checks h.well_formed
+      (script_sorted (function_symbols p) h.turns h.sorted) taken (script_fits (function_symbols p) h.turns) tells by.1
 
-  all_lawful : Each IsTaken (script false (function_symbols p) (turns_of false p runs h.checks)) → IsRecorded (function_symbols p) (lost_after false runs) before now (turns_of false p runs h.checks) h.checks → AllLawful before now
+  all_lawful : Each IsTaken (script_of p h.turns) → IsRecorded (function_symbols p) (lost_after false runs) before now h.turns h.checks → AllLawful before now
   all_lawful taken (inl none) since is =
       subst (Each (λ (e : Ending). IsLawful e.dialogue)) (sym (none_since before since (sym none.0 ∙ is))) tt
   all_lawful taken (inr told) since is =

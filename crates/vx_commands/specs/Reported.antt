@@ -223,7 +223,7 @@ AllNeverFail p runs = Each (λ (r : MemberRun). r.verdict ≡ verdict.Verified �
 pub record IsCompanionReport (telling : Telling) (p : Program) (command : List (List ℕ)) (spawner : Change Children) (sink : Change Taken) (ended : Ended) : Type 0 where
   pub report : IsReport telling p command spawner sink ended
   pub sound : AllNeverFail p ended.runs.items
-  pub no_fault : Each IsTaken (script_of p ended.runs.items report.headline.checks) → HasNoFault ended.runs.items
+  pub no_fault : Each IsTaken (script_of p report.headline.turns) → HasNoFault ended.runs.items
   -- each command had the reply that the companion has for it, and each undecided one has its cause
   pub replies : AllByCompanion spawner.after.ended spawner.after.causes
 

@@ -7,7 +7,8 @@ use Rattle.vx_smt_meaning.specs.Dialogues.{Check}
 use Rattle.vx_smt_meaning.specs.declared.reply.Reply.{Reply}
 use Rattle.vx_smt_meaning.specs.declared.reply.Reply.TheVariants.{Unsat, Sat, Unknown}
 use Rattle.vx_ends.specs.declared.piece.Ending.{Ending}
-use Rattle.vx_dialogue.specs.Scripts.{Turn, Asks, Posts, Leaves}
+use Rattle.vx_dialogue.specs.Turns.{Turn, Leaves}
+use Rattle.vx_dialogue.specs.Askable.{AreTurns}
 use Rattle.vx_rules.specs.Trees.{Question, Answered, Ending as Ends, Passed, Failed, Open, Tree, End, Impossible, On, Step, Ask, Probe, Fork, Walked, walk_then, asked, probed, passed}
 use Rattle.vx_machine.specs.Runs.{member_tree}
 use Rattle.vx_report.specs.declared.run.Verdict.{Verdict}
@@ -19,13 +20,6 @@ use Rattle.vx_verifier.proofs.Runs.{own_front}
 use Rattle.vx_verifier.proofs.Walks.{walk_extends}
 
 module _ (P : List Term → Term → Type 0) where
-  -- each question of these turns; one without a reply is the last
-  abbrev pub AreTurns : List Turn → Type 0
-  AreTurns [] = Unit {0}
-  AreTurns (Asks path condition ∷ turns) = P path condition × AreTurns turns
-  AreTurns (Posts path condition ∷ turns) = P path condition × (turns ≡ [])
-  AreTurns (Leaves ∷ turns) = AreTurns turns
-
   abbrev pub AllAsk : Tree → Type 0
   AllAsk End = Unit {0}
   AllAsk (Impossible s) = Unit {0}
@@ -70,20 +64,20 @@ module _ (P : List Term → Term → Type 0) where
 
   -- ---- the turns of one member, and then those behind it
 
-  asks_askable : (as' : List Answered) (rest : List Turn) → Each (λ (a : Answered). P a.question.path a.question.condition) as' → AreTurns rest → AreTurns (asks_of as' ++ rest)
+  asks_askable : (as' : List Answered) (rest : List Turn) → Each (λ (a : Answered). P a.question.path a.question.condition) as' → AreTurns P rest → AreTurns P (asks_of as' ++ rest)
   asks_askable [] rest each askable = askable
   asks_askable (a ∷ as') rest each askable = (each.0, asks_askable as' rest each.1 askable)
 
-  open_askable : (e : Ends) (rest : List Turn) → IsOpenAskable e → rest ≡ [] → AreTurns (open_turn e ++ rest)
+  open_askable : (e : Ends) (rest : List Turn) → IsOpenAskable e → rest ≡ [] → AreTurns P (open_turn e ++ rest)
   open_askable (Open q) rest h none = (h, none)
-  open_askable Passed rest h none = subst AreTurns (sym none) tt
-  open_askable (Failed place c r) rest h none = subst AreTurns (sym none) tt
+  open_askable Passed rest h none = subst (AreTurns P) (sym none) tt
+  open_askable (Failed place c r) rest h none = subst (AreTurns P) (sym none) tt
 
-  last_askable : (lost b : Bool) (e : Ends) (rest : List Turn) → IsOpenAskable e → AreTurns rest → ((lost || b) ≡ true → rest ≡ []) → (f : List Turn)
-      → (lost ≡ true → f ≡ []) → (lost ≡ false → f ≡ (if b then open_turn e else [])) → AreTurns (f ++ (left_turn (lost || b) ++ rest))
-  last_askable true b e rest h askable none f gone here = subst (λ x. AreTurns (x ++ rest)) (sym (gone refl)) askable
-  last_askable false true e rest h askable none f gone here = subst (λ x. AreTurns (x ++ rest)) (sym (here refl)) (open_askable e rest h (none refl))
-  last_askable false false e rest h askable none f gone here = subst (λ x. AreTurns (x ++ (Leaves ∷ rest))) (sym (here refl)) askable
+  last_askable : (lost b : Bool) (e : Ends) (rest : List Turn) → IsOpenAskable e → AreTurns P rest → ((lost || b) ≡ true → rest ≡ []) → (f : List Turn)
+      → (lost ≡ true → f ≡ []) → (lost ≡ false → f ≡ (if b then open_turn e else [])) → AreTurns P (f ++ (left_turn (lost || b) ++ rest))
+  last_askable true b e rest h askable none f gone here = subst (λ x. AreTurns P (x ++ rest)) (sym (gone refl)) askable
+  last_askable false true e rest h askable none f gone here = subst (λ x. AreTurns P (x ++ rest)) (sym (here refl)) (open_askable e rest h (none refl))
+  last_askable false false e rest h askable none f gone here = subst (λ x. AreTurns P (x ++ (Leaves ∷ rest))) (sym (here refl)) askable
 
   failed_gone : (lost : Bool) (e : Ends) (v : Verdict) → lost ≡ true → failed_turn lost e v ≡ []
   failed_gone true e v is = refl

@@ -1,23 +1,27 @@
 -- How the checks of a lane's child are heard, from one call to the next.
-use Rattle.std.proofs.Common.{Bool, true, Result, Ok, Err, is_err, IfOk, IfErr, OnOk, MatchResult, ◌≡◌, ◌==◌, ℕ, ◌<◌, ◌≤◌, false, ◌++◌, ◌∷◌, [], List, refl, ap, ◌∙◌, sym, subst, inl, inr, ◌⊎◌, append_assoc, arith}
+use Rattle.std.proofs.Common.{Bool, true, Result, Ok, Err, IfOk, IfErr, MatchResult, ◌≡◌, ◌==◌, ℕ, ◌<◌, ◌≤◌, false, ◌++◌, ◌∷◌, [], List, map, refl, ap, ◌∙◌, sym, subst, inl, inr, ◌⊎◌, append_assoc, arith}
 use Rattle.std.proofs.lemmas.Grind.{common_steps}
+use Rattle.std.proofs.lemmas.List.{map-append}
 use Rattle.vx_ends.specs.declared.piece.Piece.{Piece}
 use Rattle.vx_ends.specs.declared.piece.Ending.{Ending}
 use Rattle.vx_ends.specs.Causes.{Rose}
-use Rattle.vx_smt_meaning.specs.Commands.{Command, Declared, stack_of}
+use Rattle.vx_smt_meaning.specs.Commands.{Command, Declared}
 use Rattle.vx_smt_meaning.specs.Dialogues.{Check}
 use Rattle.vx_smt_meaning.specs.Names.{AreCommands}
 use Rattle.vx_smt_meaning.specs.declared.reply.Reply.{Reply}
 use Rattle.vx_dialogue.specs.declared.dialogue.Dialogue.{Dialogue}
 use Rattle.vx_dialogue.specs.declared.talk.Talk.{Talk}
 use Rattle.vx_dialogue.specs.declared.talk.Talk.TheVariants as talk
-use Rattle.vx_dialogue.specs.Scripts.{Turn, Asks, Posts, Leaves, preamble, posted, closing, said_of, script, is_inside_after}
-use Rattle.vx_dialogue.specs.Dialogue.{Gathers, Stands, link_of, base_of, check_of}
+use Rattle.vx_dialogue.specs.Preamble.{preamble}
+use Rattle.vx_dialogue.specs.Turns.{Turn}
+use Rattle.vx_dialogue.specs.Turns as turns'
+use Rattle.vx_dialogue.specs.Scripts.{Scope, Outside, ScopedTurn, Asks, Posts, Leaves, plain, left as left_scope, posted, scope_after, said_of, said_by, scope_from, script}
+use Rattle.vx_dialogue.specs.Dialogue.{shared, Gathers, Stands, link_of, base_of, check_of}
 use Rattle.vx_dialogue.specs.Stops.{Explains}
 use Rattle.vx_dialogue.specs.History.{TellsOf, Tells, may_miss, Breaks}
 use Rattle.vx_dialogue.proofs.Joined.{append_none}
-use Rattle.vx_dialogue.proofs.History.{standing_tells, tells_failed, tells_longer, breaks_longer}
-use Rattle.vx_dialogue.proofs.Levels.{script_more, script_none, inside_behind}
+use Rattle.vx_dialogue.proofs.History.{standing_tells, breaks_longer}
+use Rattle.vx_dialogue.proofs.Levels.{scope_more, script_more, script_none}
 use Rattle.vx_rules.specs.Trees.{Question}
 use Rattle.vx_report.specs.declared.run.Cause.{Cause}
 use Rattle.vx_report.specs.declared.run.Cause.TheVariants as cause
@@ -26,14 +30,19 @@ use Rattle.vx_verifier.specs.declared.lane.Trouble.TheVariants as trouble
 use Rattle.vx_verifier.specs.declared.lane.Child.{Child}
 use Rattle.vx_verifier.specs.declared.lane.Child.TheVariants.{NotStarted, Talking, Lost}
 use Rattle.vx_terms.specs.Terms.{Term}
+use Rattle.vx_segments.specs.Segments.{Entry, terms}
+use Rattle.vx_segments.specs.Views.{entry}
+use Rattle.vx_segments.specs.declared.Entry.{Entry as Entry'}
 use Rattle.vx_verifier.specs.Sequences.{IsCheckOf}
 use Rattle.vx_verifier.specs.Causes.{HasCauseOf}
-use Rattle.vx_verifier.specs.Headline.{IsRecorded, left_turn}
+use Rattle.vx_verifier.specs.Headline.{left_turn}
 use Rattle.vx_ends.specs.declared.piece.Start.{Start}
-use Rattle.vx_verifier.specs.Lanes.{OthersOwe, AreSilent, tried_turn, Hears, HearsOf, IsCausedBy, Loses, trouble_of, Handed, Later, StartsWhere, IsFaultOf, is_fault, is_lost, is_started}
+use Rattle.vx_verifier.specs.Steady.{IsSpelled}
+use Rattle.vx_verifier.specs.Lanes.{IsReady, IsHeld, OthersOwe, AreSilent, tried_turn, Hears, HearsOf, Records, IsCausedBy, Loses, trouble_of, Handed, Later, StartsWhere, IsFaultOf, is_fault, is_lost, is_started}
 use Rattle.vx_report.specs.declared.run.Verdict.{Verdict}
 use Rattle.vx_report.specs.Reports.{is_faulted}
 use Rattle.vx_verifier.proofs.Sequences.{check_is}
+use Rattle.vx_verifier.proofs.Steady.{asked_named, left_named}
 
 abbrev pub is_talking : {L : Type 0} → Child L → Bool
 is_talking (Talking d) = true
@@ -66,44 +75,103 @@ every_lane old new first others lane = by_test (lane == 0) refl
 pub above_none : (f g : ℕ) → Rose f g → 0 < g
 above_none f g rose = omega arith
 
+-- a held child is ready
+pub held_ready : {L : Type 0} (child : Child L) (owed : ℕ) → IsHeld child owed → IsReady child
+held_ready (Talking d) owed held = (held.0, held.1)
+held_ready NotStarted owed held = tt
+held_ready Lost owed held = tt
+
+-- ---- turns whose paths have numbers
+
+-- one turn more
+pub one_more : (scoped : List ScopedTurn) (turns : List Turn) (t : ScopedTurn) (u : Turn) → map plain scoped ≡ turns → plain t ≡ u → map plain (scoped ++ t ∷ []) ≡ turns ++ u ∷ []
+one_more scoped turns t u is same = map-append plain scoped (t ∷ []) ∙ (ap (λ x. x ++ plain t ∷ []) is ∙ ap (λ x. turns ++ x ∷ []) same)
+
+-- a path of one segment
+abbrev pub numbered : List Term → List Entry
+numbered p = map (λ t. record { segment = 0; term = t }) p
+
+numbered_is : (p : List Term) → terms (numbered p) ≡ p
+numbered_is [] = refl
+numbered_is (t ∷ p) = ap (λ x. t ∷ x) (numbered_is p)
+
+-- the entries of a path in code, as they are lent
+pub entries_are : (lent all : List Entry') (path : List Term) → lent ≡ all → map (λ (e : Entry'). shared e.term) all ≡ path → terms (map entry lent) ≡ path
+entries_are lent all path same is = ap (λ (x : List Entry'). terms (map entry x)) same ∙ (by_entries all ∙ is)
+  where
+    by_entries : (es : List Entry') → terms (map entry es) ≡ map (λ (e : Entry'). shared e.term) es
+    by_entries [] = refl
+    by_entries (e ∷ es) = ap (λ x. shared e.term ∷ x) (by_entries es)
+
+-- a question that was never sent may have any numbers
+pub unsent_more : (scoped : List ScopedTurn) (turns : List Turn) (q : Question) → map plain scoped ≡ turns
+    → map plain (scoped ++ Posts (numbered q.path) q.condition ∷ []) ≡ turns ++ turns'.Posts q.path q.condition ∷ []
+unsent_more scoped turns q is = one_more scoped turns (Posts (numbered q.path) q.condition) (turns'.Posts q.path q.condition) is (ap (λ x. turns'.Posts x q.condition) (numbered_is q.path))
+
+-- where nothing is said yet, the preamble is all
+silent_script : (functions : List Declared) (turns : List ScopedTurn) → AreSilent turns → script false functions turns ≡ preamble false functions
+silent_script functions turns silent = ap (λ x. preamble false functions ++ x) silent.none ∙ script_none false functions
+
+said_left : (scope : Scope) (turns : List ScopedTurn) → said_by scope (turns ++ Leaves ∷ []) ≡ said_by scope turns
+said_left scope [] = refl
+said_left scope (t ∷ turns) = ap (λ x. said_of scope t ++ x) (said_left (scope_after scope t) turns)
+
+silent_left : (turns : List ScopedTurn) → AreSilent turns → AreSilent (turns ++ Leaves ∷ [])
+silent_left turns silent = record {
+  none = said_left Outside turns ∙ silent.none;
+  outside = scope_more turns Leaves ∙ ap left_scope silent.outside;
+}
+
 module _ {L : Type 0} (dialogue : L → List Piece) (functions : List Declared) (before : List Ending) where
   -- the child is started, and its preamble is said
   pub talks : (old new : List Ending) (d : Dialogue L) (turns : List Turn) (checks : List Check) → Stands dialogue false functions [] d [] → AreCommands (preamble false functions)
       → new ≡ old → Hears dialogue functions before old NotStarted turns checks → Hears dialogue functions before new (Talking d) turns checks
   talks old new d turns checks stands named same heard =
-      let silent = heard.2 in (
-        same ∙ heard.0,
-        record {
-          told = subst (λ x. Gathers dialogue d x checks) (sym silent.none) (subst (λ x. Gathers dialogue d (script false functions []) x) (sym heard.1) stands.told);
-          inside = stands.inside ∙ sym silent.outside;
-          levels = ap stack_of silent.none ∙ stands.levels;
-        },
-        subst AreCommands (sym (silent.none ∙ script_none false functions)) named,
+      let scoped = heard.0 in
+      let silent = heard.2.2 in
+      let none = ap (λ x. preamble false functions ++ x) silent.none in (
+        scoped,
+        heard.1,
+        (
+          same ∙ heard.2.0,
+          record {
+            told = subst (λ x. Gathers dialogue d x checks) (sym none) (subst (λ x. Gathers dialogue d (script false functions []) x) (sym heard.2.1) stands.told);
+            scope = stands.scope ∙ sym silent.outside;
+          },
+          subst AreCommands (sym (silent_script functions scoped silent)) named,
+        ),
       )
 
   -- a question is answered
-  pub answered : (old new : List Ending) (d d' : Dialogue L) (q : Question) (path : List Term) (r : Reply) → path ≡ q.path
-      → ((turns : List Turn) → AreCommands (script false functions turns) → AreCommands (script false functions (turns ++ Asks path q.condition ∷ [])))
-      → ((certify : Bool) (functions : List Declared) (turns : List Turn) (checks : List Check) → Stands dialogue certify functions turns d checks
-      → Stands dialogue certify functions (turns ++ Asks path q.condition ∷ []) d' (checks ++ check_of (base_of certify functions) path q.condition r ∷ []))
-      → new ≡ old → (turns : List Turn) (checks : List Check) → Hears dialogue functions before old (Talking d) turns checks → HearsOf dialogue functions before new (Talking d') turns checks q r
-  answered old new d d' q path r is named step same turns checks heard = (
-    check_of (base_of false functions) path q.condition r,
-    subst (λ x. Hears dialogue functions before new (Talking d') (turns ++ Asks x q.condition ∷ []) (checks ++ check_of (base_of false functions) path q.condition r ∷ [])) is
-        (same ∙ heard.0, step false functions turns checks heard.1, named turns heard.2),
-    subst (λ x. IsCheckOf (record { question = q; reply = r }) (check_of (base_of false functions) x q.condition r)) (sym is) (check_is (base_of false functions) q r),
-  )
+  pub answered : (now : List Ending) (d d' : Dialogue L) (q : Question) (path : List Entry) (r : Reply) → terms path ≡ q.path → IsSpelled q
+      → ((certify : Bool) (functions : List Declared) (turns : List ScopedTurn) (checks : List Check) → Stands dialogue certify functions turns d checks
+      → Stands dialogue certify functions (turns ++ Asks path q.condition ∷ []) d' (checks ++ check_of (base_of certify functions) (terms path) q.condition r ∷ []))
+      → (turns : List Turn) (checks : List Check) → Hears dialogue functions before now (Talking d) turns checks → HearsOf dialogue functions before now (Talking d') turns checks q r
+  answered now d d' q path r is spelled step turns checks heard =
+      let scoped = heard.0 in (
+        check_of (base_of false functions) (terms path) q.condition r,
+        (
+          scoped ++ Asks path q.condition ∷ [],
+          one_more scoped turns (Asks path q.condition) (turns'.Asks q.path q.condition) heard.1 (ap (λ x. turns'.Asks x q.condition) is),
+          (heard.2.0, step false functions scoped checks heard.2.1, asked_named functions scoped path q is spelled heard.2.2),
+        ),
+        subst (λ x. IsCheckOf (record { question = q; reply = r }) (check_of (base_of false functions) x q.condition r)) (sym is) (check_is (base_of false functions) q r),
+      )
 
   -- the member is left
-  pub left : (old new : List Ending) (child : Child L) (d d' : Dialogue L) → child ≡ Talking d
-      → ((turns : List Turn) → AreCommands (script false functions turns) → AreCommands (script false functions (turns ++ Leaves ∷ [])))
-      → ((certify : Bool) (functions : List Declared) (turns : List Turn) (checks : List Check) → Stands dialogue certify functions turns d checks
+  pub left : (now : List Ending) (child : Child L) (d d' : Dialogue L) → child ≡ Talking d
+      → ((certify : Bool) (functions : List Declared) (turns : List ScopedTurn) (checks : List Check) → Stands dialogue certify functions turns d checks
       → Stands dialogue certify functions (turns ++ Leaves ∷ []) d' checks)
-      → new ≡ old → (turns : List Turn) (checks : List Check) → Hears dialogue functions before old child turns checks → Hears dialogue functions before new (Talking d') (turns ++ left_turn (is_lost child)) checks
-  left old new child d d' is named step same turns checks heard =
-      let h = subst (λ (x : Child L). Hears dialogue functions before old x turns checks) is heard in
-      let lost : left_turn (is_lost child) ≡ Leaves ∷ [] = ap (λ (x : Child L). left_turn (is_lost x)) is in
-      subst (λ x. Hears dialogue functions before new (Talking d') (turns ++ x) checks) (sym lost) (same ∙ h.0, step false functions turns checks h.1, named turns h.2)
+      → (turns : List Turn) (checks : List Check) → Hears dialogue functions before now child turns checks → Hears dialogue functions before now (Talking d') (turns ++ left_turn (is_lost child)) checks
+  left now child d d' is step turns checks heard =
+      let h : Hears dialogue functions before now (Talking d) turns checks = subst (λ (x : Child L). Hears dialogue functions before now x turns checks) is heard in
+      let lost : left_turn (is_lost child) ≡ turns'.Leaves ∷ [] = ap (λ (x : Child L). left_turn (is_lost x)) is in
+      let here : Hears dialogue functions before now (Talking d') (turns ++ turns'.Leaves ∷ []) checks = (
+        h.0 ++ Leaves ∷ [],
+        one_more h.0 turns Leaves turns'.Leaves h.1 refl,
+        (h.2.0, step false functions h.0 checks h.2.1, left_named functions h.0 h.2.2),
+      ) in
+      subst (λ x. Hears dialogue functions before now (Talking d') (turns ++ x) checks) (sym lost) here
 
   -- where no child talks, nothing is said
   pub left_otherwise : (now : List Ending) (child other : Child L) → child ≡ other → is_talking other ≡ false
@@ -114,14 +182,11 @@ module _ {L : Type 0} (dialogue : L → List Piece) (functions : List Declared) 
     where
       by_child : (x : Child L) → is_talking x ≡ false → Hears dialogue functions before now x turns checks → Hears dialogue functions before now x (turns ++ left_turn (is_lost x)) checks
       by_child NotStarted quiet heard = (
-        heard.0,
-        heard.1,
-        record {
-          none = script_more false functions turns Leaves ∙ (ap (λ x. script false functions turns ++ closing x) heard.2.outside ∙ (append_none (script false functions turns) ∙ heard.2.none));
-          outside = inside_behind turns Leaves;
-        },
+        heard.0 ++ Leaves ∷ [],
+        one_more heard.0 turns Leaves turns'.Leaves heard.1 refl,
+        (heard.2.0, heard.2.1, silent_left heard.0 heard.2.2),
       )
-      by_child Lost quiet heard = subst (λ x. IsRecorded functions true before now x checks) (sym (append_none turns)) heard
+      by_child Lost quiet heard = subst (λ x. Hears dialogue functions before now Lost x checks) (sym (append_none turns)) heard
       by_child (Talking d) quiet heard = absurd (cc)
 
   -- behind a fault no question is asked
@@ -129,20 +194,23 @@ module _ {L : Type 0} (dialogue : L → List Piece) (functions : List Declared) 
       → Loses functions before now f f (is_lost child) turns checks q (trouble.Fault cause.Spent)
   spent_lost now child f is turns checks q heard =
       let lost : is_lost child ≡ true = ap (λ (x : Child L). is_lost x) is in
-      let told = subst (λ (x : Child L). Hears dialogue functions before now x turns checks) is heard in
+      let told : Records functions true before now turns checks = subst (λ (x : Child L). Hears dialogue functions before now x turns checks) is heard in
       let same : turns ++ tried_turn (is_lost child) q ≡ turns = ap (λ b. turns ++ tried_turn b q) lost ∙ append_none turns in
-      ((λ _. subst (λ x. IsRecorded functions true before now x checks) (sym same) told), lost)
+      ((λ _. subst (λ x. Records functions true before now x checks) (sym same) told), lost)
 
   -- a link is handed back
   pub recorded : (old new : List Ending) (d : Dialogue L) (e : Ending) (turns : List Turn) (checks : List Check) → new ≡ old ++ e ∷ [] → e.lane ≡ 0
-      → e.dialogue ≡ dialogue (link_of d) → Hears dialogue functions before old (Talking d) turns checks → IsRecorded functions false before new turns checks
-  recorded old new d e turns checks is lane same heard =
-      inr (
-        e,
-        is ∙ ap (λ x. x ++ e ∷ []) heard.0,
-        lane,
-        subst (λ x. Tells false (script false functions turns) x checks) (sym same) (standing_tells dialogue false functions turns d checks heard.1),
-      )
+      → e.dialogue ≡ dialogue (link_of d) → Hears dialogue functions before old (Talking d) turns checks → Records functions false before new turns checks
+  recorded old new d e turns checks is lane same heard = (
+    heard.0,
+    heard.1,
+    inr (
+      e,
+      is ∙ ap (λ x. x ++ e ∷ []) heard.2.0,
+      lane,
+      subst (λ x. Tells false (script false functions heard.0) x checks) (sym same) (standing_tells dialogue false functions heard.0 d checks heard.2.1),
+    ),
+  )
 
   -- why no reply came
   talk_causes : (new : List Ending) (f g : ℕ) (t : Talk) (e : Ending) → new ≡ before ++ e ∷ []
@@ -161,42 +229,40 @@ module _ {L : Type 0} (dialogue : L → List Piece) (functions : List Declared) 
   told_at_fault talk.Want script pieces checks told fault shut = absurd (cc)
   told_at_fault talk.Closed script pieces checks told fault shut = absurd (shut refl)
 
+  -- no child could be started
+  pub lost_start : (old new : List Ending) (f g : ℕ) (turns : List Turn) (q : Question) (checks : List Check) → new ≡ old → Rose f g → Hears dialogue functions before old NotStarted turns checks
+      → Loses functions before new f g false turns checks q (trouble.Fault cause.Start)
+  lost_start old new f g turns q checks same rose heard = (
+    (λ _. (heard.0 ++ Posts (numbered q.path) q.condition ∷ [], unsent_more heard.0 turns q heard.1, inl (same ∙ heard.2.0, heard.2.1))),
+    (refl, rose),
+  )
+
   -- a call gives no reply, and the link is handed back
-  pub lost_by : (old new : List Ending) (f g : ℕ) (e : Ending) (t : Talk) (turns : List Turn) (q : Question) (checks : List Check) → old ≡ before → new ≡ old ++ e ∷ [] → e.lane ≡ 0
-      → Breaks t (script false functions (turns ++ Posts q.path q.condition ∷ [])) e.dialogue checks → (t ≡ talk.Pipe → 0 < e.faults) → (t ≡ talk.Closed → ⊥)
+  pub lost_by : (old new : List Ending) (f g : ℕ) (e : Ending) (t : Talk) (scoped : List ScopedTurn) (turns : List Turn) (q : Question) (checks : List Check) → old ≡ before → new ≡ old ++ e ∷ [] → e.lane ≡ 0
+      → map plain scoped ≡ turns ++ turns'.Posts q.path q.condition ∷ [] → Breaks t (script false functions scoped) e.dialogue checks → (t ≡ talk.Pipe → 0 < e.faults) → (t ≡ talk.Closed → ⊥)
       → Loses functions before new f g false turns checks q (trouble_of t)
-  lost_by old new f g e t turns q checks first is lane broken rose shut =
-      let here = is ∙ ap (λ x. x ++ e ∷ []) first in
-      ((λ fault. inr (e, here, lane, told_at_fault t (script false functions (turns ++ Posts q.path q.condition ∷ [])) e.dialogue checks broken.told fault shut)), talk_causes new f g t e here broken.explained rose shut)
+  lost_by old new f g e t scoped turns q checks first is lane said broken rose shut =
+      let here = is ∙ ap (λ x. x ++ e ∷ []) first in (
+        (λ fault. (scoped, said, inr (e, here, lane, told_at_fault t (script false functions scoped) e.dialogue checks broken.told fault shut))),
+        talk_causes new f g t e here broken.explained rose shut,
+      )
 
   pub at_child : (old : List Ending) (a b : Child L) → a ≡ b → (turns : List Turn) (checks : List Check) → Hears dialogue functions before old a turns checks → Hears dialogue functions before old b turns checks
   at_child old a b same turns checks heard = subst (λ (x : Child L). Hears dialogue functions before old x turns checks) same heard
 
--- where a child failed, more may be said
-pub recorded_longer : (functions : List Declared) (before now : List Ending) (failed : Bool) (turns : List Turn) (t : Turn) (checks : List Check) → IsRecorded functions failed before now turns checks → IsRecorded functions true before now (turns ++ t ∷ []) checks
-recorded_longer functions before now failed turns t checks (inl none) = inl none
-recorded_longer functions before now failed turns t checks (inr some) =
-    inr (
-      some.0,
-      some.1,
-      some.2,
-      subst (λ x. Tells true x some.0.dialogue checks) (sym (script_more false functions turns t))
-          (tells_longer failed (script false functions turns) (said_of (is_inside_after turns) t) some.0.dialogue checks some.3),
-    )
-
 -- a started child whose preamble broke off
-pub preamble_breaks : (functions : List Declared) (t : Talk) (turns : List Turn) (q : Question) (pieces : List Piece) (checks : List Check) → AreSilent functions turns → Breaks t (preamble false functions) pieces checks
-    → Breaks t (script false functions (turns ++ Posts q.path q.condition ∷ [])) pieces checks
-preamble_breaks functions t turns q pieces checks silent broken =
-    subst (λ x. Breaks t x pieces checks) (sym (script_more false functions turns (Posts q.path q.condition)))
-    (breaks_longer t (script false functions turns) (posted (is_inside_after turns) q.path q.condition) pieces checks
-    (subst (λ x. Breaks t x pieces checks) (sym (silent.none ∙ script_none false functions)) broken))
+pub preamble_breaks : (functions : List Declared) (t : Talk) (turns : List ScopedTurn) (path : List Entry) (condition : Term) (pieces : List Piece) (checks : List Check) → AreSilent turns
+    → Breaks t (preamble false functions) pieces checks → Breaks t (script false functions (turns ++ Posts path condition ∷ [])) pieces checks
+preamble_breaks functions t turns path condition pieces checks silent broken =
+    subst (λ x. Breaks t x pieces checks) (sym (script_more false functions turns (Posts path condition)))
+    (breaks_longer t (script false functions turns) (posted (scope_from Outside turns) path condition) pieces checks
+    (subst (λ x. Breaks t x pieces checks) (sym (silent_script functions turns silent)) broken))
 
 pub lost_hears : {L : Type 0} (dialogue : L → List Piece) (functions : List Declared) (before now : List Ending) (child : Child L) (turns : List Turn) (checks : List Check) → is_lost child ≡ true
-    → IsRecorded functions true before now turns checks → Hears dialogue functions before now child turns checks
+    → Records functions true before now turns checks → Hears dialogue functions before now child turns checks
 lost_hears dialogue functions before now Lost turns checks lost heard = heard
-lost_hears dialogue functions before now NotStarted turns checks lost heard = cc
-lost_hears dialogue functions before now (Talking d) turns checks lost heard = cc
+lost_hears dialogue functions before now NotStarted turns checks lost heard = absurd (cc)
+lost_hears dialogue functions before now (Talking d) turns checks lost heard = absurd (cc)
 
 pub if_ok_at : {T E : Type 0} (r : Result T E) (P : T → Type 0) (x : T) → IfOk r P → r ≡ Ok x → P x
 if_ok_at r P x h is = subst (λ y. IfOk y P) is h
@@ -207,14 +273,6 @@ if_ok_both (Err e) P Q R join p q = p
 
 pub if_err_at : {T E : Type 0} (r : Result T E) (P : E → Type 0) (x : E) → IfErr r P → r ≡ Err x → P x
 if_err_at r P x h is = subst (λ y. IfErr y P) is h
-
-pub on_ok_of : {T E : Type 0} (r : Result T E) (P : Type 0) → is_err r ≡ false → OnOk r P → P
-on_ok_of (Ok x) P fine h = h
-on_ok_of (Err e) P fine h = absurd (cc)
-
-pub match_ok_of : {T E : Type 0} (r : Result T E) (P Q : Type 0) → is_err r ≡ false → MatchResult r (λ _. P) (λ _. Q) → P
-match_ok_of (Ok x) P Q fine h = h
-match_ok_of (Err e) P Q fine h = absurd (cc)
 
 pub if_err_map : {T E : Type 0} (r : Result T E) (P Q : E → Type 0) → ((e : E) → P e → Q e) → IfErr r P → IfErr r Q
 if_err_map (Ok x) P Q f h = h
@@ -242,11 +300,6 @@ pub caused_earlier : (before now : List Ending) (f g h : ℕ) → f ≤ g → (l
     → IsCausedBy (HasCauseOf before now g h lost) t → IsCausedBy (HasCauseOf before now f h other) t
 caused_earlier before now f g h earlier lost other same (trouble.Fault x) has = cause_earlier before now f g h earlier lost other same x has
 caused_earlier before now f g h earlier lost other same trouble.Want has = has
-
--- where a child failed, all may be answered as well
-pub lost_recorded : (functions : List Declared) (before now : List Ending) (turns : List Turn) (checks : List Check) → IsRecorded functions false before now turns checks → IsRecorded functions true before now turns checks
-lost_recorded functions before now turns checks (inl none) = inl none
-lost_recorded functions before now turns checks (inr some) = inr (some.0, some.1, some.2, tells_failed (script false functions turns) some.0.dialogue checks some.3)
 
 -- a lost child was started
 pub lost_started : {L : Type 0} (child : Child L) → is_lost child ≡ true → is_started child ≡ true

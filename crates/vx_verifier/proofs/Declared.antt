@@ -7,9 +7,8 @@ use Rattle.vx_terms.specs.Interpretations.{Each}
 use Rattle.vx_terms.specs.Build.{negate}
 use Rattle.vx_smt_meaning.specs.Commands.{Declared}
 use Rattle.vx_smt_meaning.specs.Symbols.{declaration, Declares, UsesDeclared, AllUseDeclared}
-use Rattle.vx_dialogue.specs.Symbols.{variable, declares, with_variable, with_symbol, with_variables, with_all_variables, with_listed}
+use Rattle.vx_dialogue.specs.Symbols.{variable, declares, with_variable, with_symbol, with_variables, with_all_variables, with_listed, symbols_of}
 use Rattle.vx_smt_meaning.specs.Over.{IsConstantOver, IsOver, AreOver}
-use Rattle.vx_dialogue.specs.Scripts.{symbols_of}
 use Rattle.vx_dialogue.specs.Dialogue.{pushed}
 
 abbrev pub Includes : List Declared → List Declared → Type 0

@@ -1,28 +1,33 @@
--- The script of fine questions is well formed, behind the declarations of functions' symbols.
-use Rattle.std.proofs.Common.{◌≡◌, ◌++◌, ◌<◌, ◌≤◌, ℕ, suc, Bool, true, false, List, [], ◌∷◌, length, refl, ap, ◌∙◌, sym, subst, le_refl, lt_irrefl, ne_eqb, arith, if◌then◌else◌}
+-- The script of fine questions is well formed, behind the declarations of functions' symbols. That of one question sent whole is so, and by it (vx_dialogue) that of a dialogue.
+use Rattle.std.proofs.Common.{◌≡◌, ◌++◌, ◌≤◌, ℕ, suc, Bool, true, false, List, [], ◌∷◌, map, refl, ap, ◌∙◌, sym, subst, le_refl, lt_irrefl, ne_eqb, arith, if◌then◌else◌}
 use Rattle.vx_terms.specs.Sorts.{Sort, IntSort, BoolSort, RealSort, RefSort, SnapSort, OtherSort, Symbol, Standard, Function, Variable, Named, same_symbol}
 use Rattle.vx_terms.specs.Terms.{Term, Truth, Number, Part, Constant, Apply, Not, Binary, Ite, AllOf, SomeOf, Terms, NoTerms, MoreTerms, sort_of}
+use Rattle.vx_terms.specs.Formed.{Formed, truth}
 use Rattle.vx_terms.specs.Interpretations.{Each}
 use Rattle.vx_terms.specs.Build.{negate}
 use Rattle.vx_elements.proofs.Lists.{each_map}
-use Rattle.vx_smt_meaning.specs.Commands.{Command, Declared, Assert, Pop, CheckSat, Level, empty_level, stack_after, stack_from, declared_in}
-use Rattle.vx_smt_meaning.specs.Names.{AreCommands}
+use Rattle.vx_smt_meaning.specs.Commands.{Command, Declared, Assert, Push, Level, empty_level, stack_after, stack_from, declared_in}
+use Rattle.vx_smt_meaning.specs.Names.{AreNames, AreCommands}
 use Rattle.vx_smt_meaning.specs.Symbols.{Declares, UsesDeclared}
 use Rattle.vx_smt_meaning.specs.Standard.{standard_symbols}
 use Rattle.vx_smt_meaning.specs.Over.{IsOver}
 use Rattle.vx_smt_meaning.specs.WellFormed.{names, sorts_in, knows_sort, AllMayFollow, IsWellFormed}
-use Rattle.vx_dialogue.specs.Symbols.{variable, declares, with_variable, with_symbol, with_variables, with_all_variables, with_listed}
-use Rattle.vx_dialogue.specs.Preamble.{declarations, front}
-use Rattle.vx_dialogue.specs.Scripts.{Turn, Asks, Posts, Leaves, assertions, preamble, opening, closing, symbols_of, question, posted, said_by, script}
-use Rattle.vx_dialogue.specs.Dialogue.{pushed, resting, base_of}
+use Rattle.vx_dialogue.specs.Symbols.{variable, declares, with_variable, with_symbol, with_variables, with_all_variables, with_listed, symbols_of}
+use Rattle.vx_dialogue.specs.Preamble.{declarations, front, preamble}
+use Rattle.vx_dialogue.specs.Askable.{AreTurns}
+use Rattle.vx_dialogue.specs.Scripts.{ScopedTurn, plain, script}
+use Rattle.vx_dialogue.specs.Dialogue.{pushed, base_of}
 use Rattle.vx_dialogue.proofs.Lists.{none_more, stack_append}
-use Rattle.vx_dialogue.proofs.Levels.{opened_level, declared_level, asserted_level, posted_levels, closed_level}
+use Rattle.vx_dialogue.proofs.Levels.{declared_level, asserted_level}
+use Rattle.vx_dialogue.proofs.Whole.{assertions, question}
+use Rattle.vx_dialogue.proofs.Scoped.{scoped_well_formed}
 use Rattle.vx_verifier.proofs.Declared.{Includes, AreVariables, in_pushed, over_includes, question_declared, question_variables}
-use Rattle.vx_dialogue.proofs.Steady.{commands_join, closing_named, question_named}
+use Rattle.vx_dialogue.proofs.Steady.{commands_join}
 use Rattle.vx_live.specs.Live.{IsBuiltIn}
-use Rattle.vx_verifier.proofs.Askable.{AreTurns}
+use Rattle.vx_live.proofs.Nameless.{IsNameless}
 use Rattle.vx_verifier.proofs.Sorted.{IsFine}
 use Rattle.vx_verifier.proofs.FunctionSymbols.{AreSymbols, symbols_spelled}
+use Rattle.vx_verifier.proofs.Nameless.{nameless_names, path_names, declared_question}
 use Rattle.vx_verifier.proofs.Steady.{begun_named}
 
 -- ---- one list behind another
@@ -124,7 +129,6 @@ record IsBase (functions : List Declared) (base : List Level) : Type 0 where
   unseen : (n : ℕ) → names (declared_in base) (Variable n) ≡ false
   known : (a : Sort) → IsBuiltIn a → knows_sort (sorts_in base) a ≡ true
   declared : Includes (standard_symbols ++ functions) (declared_in base)
-  open_yet : 0 < length base
 
 pushed_append : (xs ys zs : List Declared) → pushed (xs ++ ys) zs ≡ pushed ys (pushed xs zs)
 pushed_append [] ys zs = refl
@@ -157,7 +161,6 @@ level_is functions are =
       unseen = λ n. subst (λ x. names x (Variable n) ≡ false) (sym (none_more all)) (no_variable 0 functions (pushed standard_symbols []) n are refl);
       known = five_known;
       declared = λ d h. subst (λ x. Declares x d) (pushed_append standard_symbols functions [] ∙ sym (none_more all)) (in_pushed (standard_symbols ++ functions) [] d h);
-      open_yet = omega arith;
     }
 
 base_is : (functions : List Declared) → AreSymbols 0 functions → IsBase functions (base_of false functions)
@@ -188,81 +191,75 @@ assertions_follow l levels [] bools declared = tt
 assertions_follow l levels (t ∷ ts) bools declared =
     (record { bool = bools.0; declared = declared.0 }, assertions_follow (record l { assertions = t ∷ l.assertions }) levels ts bools.1 declared.1)
 
-opening_follows : (m : Bool) (levels : List Level) → AllMayFollow levels (opening m)
-opening_follows true levels = (tt, tt)
-opening_follows false levels = (tt, (tt, tt))
-
-two_more : (l : Level) (base : List Level) → 0 < length base → 1 < length (l ∷ base)
-two_more l base some = omega arith
-
 module _ (functions : List Declared) where
-  posted_follows : (m : Bool) (base : List Level) (p : List Term) (t : Term) → IsBase functions base → IsFine functions p t → AllMayFollow (resting m base) (posted m p t)
-  posted_follows m base p t is q =
+  -- it is sent whole, behind what the preamble leaves
+  question_follows : (base : List Level) (p : List Term) (t : Term) → IsBase functions base → IsFine functions p t → AllMayFollow base (question p t)
+  question_follows base p t is q =
       let negated = negate t in
       let symbols = symbols_of p negated in
       let inside = empty_level ∷ base in
       let fresh = record empty_level { symbols = pushed symbols [] } in
+      let opened = Push 1 ∷ Push 1 ∷ declarations symbols in
       let over : Each (IsOver (declared_in base) q.sorts) p =
       each_map (IsOver (standard_symbols ++ functions) q.sorts) (IsOver (declared_in base) q.sorts) (λ u h. over_includes (standard_symbols ++ functions) (declared_in base) q.sorts u is.declared h) p q.path_over in
       let over_last : IsOver (declared_in base) q.sorts t = over_includes (standard_symbols ++ functions) (declared_in base) q.sorts t is.declared q.over in
       let variables : AreVariables q.sorts symbols = question_variables (declared_in base) q.sorts p t over over_last in
       let declared = question_declared (declared_in base) q.sorts p t over over_last in
       let new : AreNew (declared_in base) symbols = new_term (declared_in base) is.unseen negated (with_listed [] p) (new_path (declared_in base) is.unseen p [] tt) in
-      let declared_stack : stack_from (resting m base) (opening m ++ declarations symbols) ≡ fresh ∷ inside =
-      stack_append (resting m base) (opening m) (declarations symbols) ∙ (ap (λ x. stack_from x (declarations symbols)) (opened_level m base) ∙ declared_level empty_level inside symbols) in
-      let asserted_stack : stack_from (resting m base) ((opening m ++ declarations symbols) ++ assertions p) ≡ record fresh { assertions = pushed p [] } ∷ inside =
-      stack_append (resting m base) (opening m ++ declarations symbols) (assertions p) ∙ (ap (λ x. stack_from x (assertions p)) declared_stack ∙ asserted_level fresh inside p) in
-      let first : AllMayFollow (resting m base) (opening m ++ declarations symbols) =
-      follow_join (resting m base) (opening m) (declarations symbols) (opening_follows m (resting m base))
-      (subst (λ x. AllMayFollow x (declarations symbols)) (sym (opened_level m base)) (declarations_follow q.sorts empty_level inside symbols variables q.built_in new is.known)) in
-      let second : AllMayFollow (resting m base) ((opening m ++ declarations symbols) ++ assertions p) =
-      follow_join (resting m base) (opening m ++ declarations symbols) (assertions p) first
-      (subst (λ x. AllMayFollow x (assertions p)) (sym declared_stack) (assertions_follow fresh inside p q.path_bool declared.0)) in
-      let third : AllMayFollow (resting m base) (question m p t) =
-      follow_join (resting m base) ((opening m ++ declarations symbols) ++ assertions p) (Assert negated ∷ []) second
-      (subst (λ x. AllMayFollow x (Assert negated ∷ [])) (sym asserted_stack) (record { bool = q.bool; declared = declared.1 }, tt)) in
-      follow_join (resting m base) (question m p t) (CheckSat ∷ []) third (tt, tt)
-
-  closing_follows : (m : Bool) (base : List Level) → IsBase functions base → AllMayFollow (resting m base) (closing m)
-  closing_follows true base is = (two_more empty_level base is.open_yet, tt)
-  closing_follows false base is = tt
-
-  said_follows : (m : Bool) (base : List Level) (turns : List Turn) → IsBase functions base → AreTurns (IsFine functions) turns → AllMayFollow (resting m base) (said_by m turns)
-  said_follows m base [] is fine = tt
-  said_follows m base (Asks p t ∷ turns) is fine =
-      let first = posted_follows m base p t is fine.0 in
-      let level = posted_levels m base p t in
-      let popped : stack_from (resting m base) (posted m p t ++ Pop 1 ∷ []) ≡ resting true base =
-      stack_append (resting m base) (posted m p t) (Pop 1 ∷ []) ∙ ap (λ x. stack_from x (Pop 1 ∷ [])) level in
-      let some = is.open_yet in
-      follow_join (resting m base) (posted m p t ++ Pop 1 ∷ []) (said_by true turns)
-      (follow_join (resting m base) (posted m p t) (Pop 1 ∷ []) first (subst (λ x. AllMayFollow x (Pop 1 ∷ [])) (sym level) (omega arith, tt)))
-      (subst (λ x. AllMayFollow x (said_by true turns)) (sym popped) (said_follows true base turns is fine.1))
-  said_follows m base (Posts p t ∷ turns) is fine =
-      subst (λ x. AllMayFollow (resting m base) (posted m p t ++ said_by true x)) (sym fine.1)
-      (subst (AllMayFollow (resting m base)) (sym (none_more (posted m p t))) (posted_follows m base p t is fine.0))
-  said_follows m base (Leaves ∷ turns) is fine =
-      let left : stack_from (resting m base) (closing m) ≡ base = closed_level m base in
-      follow_join (resting m base) (closing m) (said_by false turns) (closing_follows m base is)
-      (subst (λ x. AllMayFollow x (said_by false turns)) (sym left) (said_follows false base turns is fine))
+      let declared_stack : stack_from base opened ≡ fresh ∷ inside = declared_level empty_level inside symbols in
+      let asserted_stack : stack_from base (opened ++ assertions p) ≡ record fresh { assertions = pushed p [] } ∷ inside =
+      stack_append base opened (assertions p) ∙ (ap (λ x. stack_from x (assertions p)) declared_stack ∙ asserted_level fresh inside p) in
+      let first : AllMayFollow base opened = (tt, (tt, declarations_follow q.sorts empty_level inside symbols variables q.built_in new is.known)) in
+      let second : AllMayFollow base (opened ++ assertions p) =
+      follow_join base opened (assertions p) first (subst (λ x. AllMayFollow x (assertions p)) (sym declared_stack) (assertions_follow fresh inside p q.path_bool declared.0)) in
+      follow_join base (opened ++ assertions p) (Assert negated ∷ []) second
+      (subst (λ x. AllMayFollow x (Assert negated ∷ [])) (sym asserted_stack) (record { bool = q.bool; declared = declared.1 }, tt))
 
   -- ---- the names
 
-  posted_named : (m : Bool) (p : List Term) (t : Term) → IsFine functions p t → AreCommands (posted m p t)
-  posted_named m p t q = commands_join (question m p t) (CheckSat ∷ []) (question_named m p t q.spelled) (tt, tt)
+  asserted_named : (p : List Term) → Each AreNames p → AreCommands (assertions p)
+  asserted_named [] named = tt
+  asserted_named (t ∷ p) named = (named.0, asserted_named p named.1)
 
-  said_named : (m : Bool) (turns : List Turn) → AreTurns (IsFine functions) turns → AreCommands (said_by m turns)
-  said_named m [] fine = tt
-  said_named m (Asks p t ∷ turns) fine =
-      commands_join (posted m p t ++ Pop 1 ∷ []) (said_by true turns) (commands_join (posted m p t) (Pop 1 ∷ []) (posted_named m p t fine.0) (tt, tt)) (said_named true turns fine.1)
-  said_named m (Posts p t ∷ turns) fine =
-      commands_join (posted m p t) (said_by true turns) (posted_named m p t fine.0) (subst (λ x. AreCommands (said_by true x)) (sym fine.1) tt)
-  said_named m (Leaves ∷ turns) fine = commands_join (closing m) (said_by false turns) (closing_named m) (said_named false turns fine)
+  question_named : (p : List Term) (t : Term) → IsFine functions p t → AreCommands (question p t)
+  question_named p t q =
+      let opened = Push 1 ∷ Push 1 ∷ declarations (symbols_of p (negate t)) in
+      commands_join (opened ++ assertions p) (Assert (negate t) ∷ [])
+      (commands_join opened (assertions p) (tt, (tt, declared_question p (negate t) q.path_nameless q.nameless)) (asserted_named p (path_names p q.path_nameless)))
+      (nameless_names (negate t) q.nameless, tt)
+
+  -- ---- the beginning of its path, before a condition that is always met
+
+  each_front : (P : Term → Type 0) (xs ys : List Term) → Each P (xs ++ ys) → Each P xs
+  each_front P [] ys h = tt
+  each_front P (x ∷ xs) ys h = (h.0, each_front P xs ys h.1)
+
+  beginning_fine : (xs ys : List Term) (t : Term) → IsFine functions (xs ++ ys) t → IsFine functions xs (Truth true)
+  beginning_fine xs ys t q = record {
+    sorts = q.sorts;
+    built_in = q.built_in;
+    path_over = each_front (IsOver (standard_symbols ++ functions) q.sorts) xs ys q.path_over;
+    over = tt;
+    path_nameless = each_front IsNameless xs ys q.path_nameless;
+    nameless = tt;
+    path_bool = each_front (λ (u : Term). sort_of u ≡ BoolSort) xs ys q.path_bool;
+    bool = refl;
+    along = each_front (λ (u : Term). (n : ℕ) × Formed n u BoolSort) xs ys q.along;
+    negated = (0, truth false);
+  }
 
 -- ---- all of it
 
-pub well_formed : (functions : List Declared) (turns : List Turn) → AreSymbols 0 functions → AreTurns (IsFine functions) turns → IsWellFormed (script false functions turns)
-well_formed functions turns are fine = record {
-  spelled = commands_join (preamble false functions) (said_by false turns) (begun_named functions (symbols_spelled 0 functions are)) (said_named functions false turns fine);
-  in_order = follow_join (empty_level ∷ []) (preamble false functions) (said_by false turns) (preamble_follows functions are) (said_follows functions false (base_of false functions) turns (base_is functions are) fine);
-}
+preamble_fits : (functions : List Declared) → AreSymbols 0 functions → IsWellFormed (preamble false functions)
+preamble_fits functions are = record { spelled = begun_named functions (symbols_spelled 0 functions are); in_order = preamble_follows functions are }
+
+question_fits : (functions : List Declared) → AreSymbols 0 functions → (p : List Term) (t : Term) → IsFine functions p t → IsWellFormed (preamble false functions ++ question p t)
+question_fits functions are p t q =
+    let first = preamble_fits functions are in
+    record {
+      spelled = commands_join (preamble false functions) (question p t) first.spelled (question_named functions p t q);
+      in_order = follow_join (empty_level ∷ []) (preamble false functions) (question p t) first.in_order (question_follows functions (base_of false functions) p t (base_is functions are) q);
+    }
+
+pub well_formed : (functions : List Declared) (turns : List ScopedTurn) → AreSymbols 0 functions → AreTurns (IsFine functions) (map plain turns) → IsWellFormed (script false functions turns)
+well_formed functions turns are fine = scoped_well_formed false functions (IsFine functions) (preamble_fits functions are) (question_fits functions are) (beginning_fine functions) turns fine

@@ -2,6 +2,7 @@ mod Walks
 mod Sequences
 mod Runs
 mod Children
+pub mod Said
 mod Rested
 mod Closures
 mod Complete
@@ -10,6 +11,7 @@ mod Lines
 mod Questions
 mod Covered
 mod Steady
+mod Nameless
 mod Spelled
 pub mod Askable
 mod Sorted

@@ -1,14 +1,15 @@
 -- One member more is executed.
-use Rattle.std.proofs.Common.{◌≡◌, ℕ, zero, suc, ◌+◌, ◌<◌, ◌≤◌, ◌||◌, Bool, true, false, ◌++◌, ◌∷◌, [], List, length, refl, ap, ◌∙◌, sym, subst, arith}
+use Rattle.std.proofs.Common.{◌≡◌, ℕ, zero, suc, ◌+◌, ◌<◌, ◌≤◌, ◌||◌, Bool, true, false, ◌++◌, ◌∷◌, [], List, length, map, refl, ap, ◌∙◌, sym, subst, arith}
 use Rattle.std.proofs.lemmas.List.{map-append}
 use Rattle.std.proofs.lemmas.List.Folds.{list_any-append}
 use Rattle.std.specs.List.{All}
 use Rattle.std.proofs.lemmas.List.Elements.{All-append}
 use Rattle.vx_ast.specs.Syntax.{Program}
-use Rattle.vx_terms.specs.Interpretations.{Each}
 use Rattle.vx_smt_meaning.specs.Commands.{Declared}
 use Rattle.vx_smt_meaning.specs.Dialogues.{Check}
-use Rattle.vx_dialogue.specs.Scripts.{Turn, script}
+use Rattle.vx_dialogue.specs.Turns.{Turn}
+use Rattle.vx_dialogue.specs.Askable.{AreTurns}
+use Rattle.vx_dialogue.specs.Scripts.{plain}
 use Rattle.vx_machine.specs.Runs.{member_tree}
 use Rattle.vx_live.specs.Functions.{function_symbols}
 use Rattle.vx_ends.specs.declared.piece.Piece.{Piece}
@@ -18,17 +19,16 @@ use Rattle.vx_report.specs.Reports.{AreNamed, is_faulted, is_resting}
 use Rattle.vx_law.specs.Law.{MembersAreSound}
 use Rattle.vx_verifier.specs.declared.lane.Child.{Child}
 use Rattle.vx_verifier.specs.Causes.{HasCauseOf}
-use Rattle.vx_verifier.specs.Headline.{IsWhole, IsTold, AreTold, IsRecorded, IsSpentAfter, member_turns, turns_of, members_of, IsWellSorted, Headline, has_question, some_ask, lost_after}
+use Rattle.vx_verifier.specs.Headline.{IsWhole, IsTold, AreTold, IsRecorded, IsSpentAfter, member_turns, turns_of, members_of, Headline, has_question, some_ask, lost_after}
 use Rattle.vx_verifier.specs.Lines.{lines}
-use Rattle.vx_verifier.specs.Lanes.{Hears, Later, Judges, Executes, is_lost, is_started}
+use Rattle.vx_verifier.specs.Lanes.{Hears, Records, Later, Judges, Executes, is_lost, is_started}
 use Rattle.vx_verifier.proofs.Children.{handed_itself, cause_earlier}
 use Rattle.vx_verifier.proofs.Runs.{told_later, runs_later, runs_more, turns_more}
 use Rattle.vx_verifier.proofs.Complete.{complete}
 use Rattle.vx_verifier.proofs.Closures.{are_walked, sound}
 use Rattle.vx_verifier.proofs.Rested.{all_told, turns_rest, lost_rests, members_rest, named_rest}
 use Rattle.vx_resting.specs.Resting.{AreLater, AreRested, NoneRests}
-use Rattle.vx_smt_meaning.specs.WellFormed.{IsWellFormed}
-use Rattle.vx_verifier.proofs.Askable.{AllAsk, AreTurns, turns_ask}
+use Rattle.vx_verifier.proofs.Askable.{AllAsk, turns_ask}
 use Rattle.vx_verifier.proofs.Sorted.{IsFine, script_sorted}
 use Rattle.vx_verifier.proofs.FunctionSymbols.{are_symbols}
 use Rattle.vx_verifier.proofs.Fit.{well_formed}
@@ -107,7 +107,7 @@ module _ {L : Type 0} (dialogue : L → List Piece) (functions : List Declared) 
 -- the child is handed back
 pub headline : {L : Type 0} (law : MembersAreSound) (dialogue : L → List Piece) (p : Program) (whole : IsWhole p) (before mid new : List Ending) (f g h : ℕ) (child : Child L) (asked : ℕ) (own runs : List MemberRun) → members_of own ≡ lines p → AreNamed p own
     → AreLater own runs → AreRested p runs → Executes dialogue (function_symbols p) p before mid f g child asked own
-    → ((turns : List Turn) (checks : List Check) → Hears dialogue (function_symbols p) before mid child turns checks → IsRecorded (function_symbols p) (is_lost child) before new turns checks)
+    → ((turns : List Turn) (checks : List Check) → Hears dialogue (function_symbols p) before mid child turns checks → Records (function_symbols p) (is_lost child) before new turns checks)
     → Later mid new → g ≤ h → ((k : ℕ) → AllAsk (IsFine (function_symbols p)) (member_tree p k)) → Headline p before new f h runs
 headline law dialogue p whole before mid new f g h child asked own runs each named rest rested so_far end later after fine =
     let functions = function_symbols p in
@@ -118,14 +118,17 @@ headline law dialogue p whole before mid new f g h child asked own runs each nam
     let told = all_told p before new f h false 0 own runs checks rest own_told in
     let same = turns_rest false p own runs checks rest in
     let each_rested = members_rest own runs rest ∙ each in
-    let asked : AreTurns (IsFine functions) turns = turns_ask (IsFine functions) p before new f h fine false 0 own checks own_told in
+    let recorded = end turns checks so_far.heard in
+    let asked : AreTurns (IsFine functions) (map plain recorded.0) =
+    subst (AreTurns (IsFine functions)) (sym recorded.1) (turns_ask (IsFine functions) p before new f h fine false 0 own checks own_told) in
     let walked = are_walked p before new f h checks false 0 runs [] checks refl refl told in
     record {
       checks = checks;
-      recorded = subst (λ ts. IsRecorded functions (lost_after false runs) before new ts checks) (sym same)
-          (subst (λ b. IsRecorded functions b before new turns checks) (so_far.lost ∙ sym (lost_rests false own runs rest)) (end turns checks so_far.heard));
-      well_formed = subst (λ ts. IsWellFormed (script false functions ts)) (sym same) (well_formed functions turns (are_symbols p) asked);
-      sorted = subst (λ ts. Each IsWellSorted (script false functions ts)) (sym same) (script_sorted functions turns asked);
+      turns = recorded.0;
+      asked = recorded.1 ∙ sym same;
+      recorded = subst (λ b. IsRecorded functions b before new recorded.0 checks) (so_far.lost ∙ sym (lost_rests false own runs rest)) recorded.2;
+      well_formed = well_formed functions recorded.0 (are_symbols p) asked;
+      sorted = script_sorted functions recorded.0 asked;
       each = each_rested;
       told = told;
       rested = rested;

@@ -27,7 +27,7 @@ use Rattle.vx_verifier.specs.declared.lane.Trouble.{Trouble}
 use Rattle.vx_verifier.specs.declared.lane.Trouble.TheVariants as trouble
 use Rattle.vx_verifier.specs.Lanes.{AreAsked, turns_so_far, tried_turn, IsDue, is_lost, is_started, verdict_of, Hears, HearsOf, IsRunning, IsFaultOf, IsCausedBy, Judges}
 use Rattle.vx_verifier.specs.Steady.{IsSpelled, AllSpelled}
-use Rattle.vx_dialogue.specs.Scripts.{Turn, Asks}
+use Rattle.vx_dialogue.specs.Turns.{Turn, Asks}
 use Rattle.vx_report.specs.Reports.{is_faulted, is_resting}
 use Rattle.vx_verifier.proofs.Children.{faulted_by}
 use Rattle.vx_verifier.proofs.Walks.{walk_extends}
@@ -303,16 +303,6 @@ module _ {L : Type 0} (dialogue : L → List Piece) (functions : List Declared) 
         told = judged.told;
         spent = judged.spent;
       }
-
-  pub judges_at : (now later : List Ended) (f g h : ℕ) (lost : Bool) (child child' : Child L) (turns : List Turn) (checks : List Check) (asked : ℕ) (v : Verdict) → now ≡ later → g ≡ h
-      → Judges dialogue functions p n before now (HasCauseOf before now f g lost) lost child turns (λ x. asked_turns lost p n x v) checks asked v → is_lost child ≡ (lost || is_faulted v)
-      → ((turns : List Turn) (checks : List Check) → Hears dialogue functions before now child turns checks → Hears dialogue functions before later child' (turns ++ left_turn (is_lost child)) checks)
-      → Judges dialogue functions p n before later (HasCauseOf before later f h lost) lost child' turns (λ x. member_turns lost p n x v) checks asked v
-  judges_at now later f g h lost child child' turns checks asked v same faults judged gone left =
-      subst (λ k. Judges dialogue functions p n before later (HasCauseOf before later f k lost) lost child' turns (λ x. member_turns lost p n x v) checks asked v) faults
-      (subst (λ e. Judges dialogue functions p n before e (HasCauseOf before e f g lost) lost child' turns (λ x. member_turns lost p n x v) checks asked v) same
-      (leaves now (HasCauseOf before now f g lost) lost child child' turns checks asked v judged gone
-      (λ turns checks heard. subst (λ e. Hears dialogue functions before e child' (turns ++ left_turn (is_lost child)) checks) (sym same) (left turns checks heard))))
 
   pub still_running : (m m' : Machine) (ask ask' : Ask) → IsRunning p n m ask → IsRunning p m.member.0 m' ask' → IsRunning p n m' ask'
   still_running m m' ask ask' running next = subst (λ k. IsRunning p k m' ask') running.member next

@@ -1,23 +1,24 @@
 -- How no count rises, from one call to the next.
 use Rattle.std.proofs.Common.{◌≡◌, ℕ, ◌-◌, ◌^◌, ◌<◌, Bool, false, IsTrue, ◌++◌, ◌∷◌, [], List, refl, ap, ◌∙◌, sym, subst, append_assoc, arith}
-use Rattle.vx_terms.specs.Terms.{Term}
 use Rattle.vx_terms.specs.Interpretations.{Each}
 use Rattle.vx_ends.specs.declared.piece.Piece.{Piece}
 use Rattle.vx_ends.specs.declared.piece.Ending.{Ending}
 use Rattle.vx_ends.specs.Causes.{Rose}
-use Rattle.vx_smt_meaning.specs.Commands.{Declared, CheckSat, Pop}
+use Rattle.vx_smt_meaning.specs.Commands.{Declared}
 use Rattle.vx_smt_meaning.specs.Dialogues.{Check}
 use Rattle.vx_smt_meaning.specs.Names.{AreCommands}
 use Rattle.vx_smt_meaning.specs.declared.reply.Reply.{Reply}
 use Rattle.vx_smt_meaning.specs.declared.reply.Reply.TheVariants.{Unsat, Sat, Unknown}
 use Rattle.vx_dialogue.specs.declared.dialogue.Dialogue.{Dialogue}
-use Rattle.vx_dialogue.specs.Preamble.{declarations, front}
-use Rattle.vx_dialogue.specs.Scripts.{Turn, Asks, Posts, Leaves, preamble, question, posted, closing, script, is_inside_after}
+use Rattle.vx_segments.specs.Segments.{Entry, terms}
+use Rattle.vx_dialogue.specs.Preamble.{declarations, front, preamble}
+use Rattle.vx_dialogue.specs.Scripts.{Outside, ScopedTurn, Asks, Posts, Leaves, posted, scope_from, script}
 use Rattle.vx_dialogue.specs.Dialogue.{Stands, link_of, base_of, check_of}
 use Rattle.vx_dialogue.specs.Steady.{IsSteady}
 use Rattle.vx_dialogue.proofs.Joined.{append_none}
-use Rattle.vx_dialogue.proofs.Levels.{script_none, script_more, script_asked}
-use Rattle.vx_dialogue.proofs.Steady.{commands_join, preamble_named, question_named, closing_named}
+use Rattle.vx_dialogue.proofs.Levels.{script_none, script_more, script_asked, script_left}
+use Rattle.vx_dialogue.proofs.Steady.{commands_join, preamble_named}
+use Rattle.vx_dialogue.proofs.Spelled.{posted_spelled}
 use Rattle.vx_rules.specs.Trees.{Question, Tree, End, Impossible, On, Step, Ask, Probe, Fork, Walked, Open, walk, walk_then, passed}
 use Rattle.vx_verifier.specs.declared.lane.Child.{Child}
 use Rattle.vx_verifier.specs.declared.lane.Child.TheVariants.{NotStarted, Talking}
@@ -33,26 +34,22 @@ pub begun_named : (functions : List Declared) → AreSpelled functions → AreCo
 begun_named functions spelled = commands_join (front false) (declarations functions) preamble_named spelled
 
 -- the names in what was said, and a question more
-pub said_named : (functions : List Declared) (turns : List Turn) (path : List Term) (q : Question) → path ≡ q.path → IsSpelled q → AreCommands (script false functions turns)
+pub said_named : (functions : List Declared) (turns : List ScopedTurn) (path : List Entry) (q : Question) → terms path ≡ q.path → IsSpelled q → AreCommands (script false functions turns)
     → AreCommands (script false functions (turns ++ Posts path q.condition ∷ []))
 said_named functions turns path q is spelled named =
-    let inside = is_inside_after turns in
-    let asked = question_named inside path q.condition (subst (λ x. AreCommands (question false x q.condition)) (sym is) spelled) in
+    let scope = scope_from Outside turns in
     subst AreCommands (sym (script_more false functions turns (Posts path q.condition)))
-    (commands_join (script false functions turns) (posted inside path q.condition) named (commands_join (question inside path q.condition) (CheckSat ∷ []) asked (tt, tt)))
+    (commands_join (script false functions turns) (posted scope path q.condition) named (posted_spelled scope path q.path q.condition is spelled.declared spelled.path spelled.negated))
 
 -- and it is asked
-pub asked_named : (functions : List Declared) (turns : List Turn) (path : List Term) (q : Question) → path ≡ q.path → IsSpelled q → AreCommands (script false functions turns)
+pub asked_named : (functions : List Declared) (turns : List ScopedTurn) (path : List Entry) (q : Question) → terms path ≡ q.path → IsSpelled q → AreCommands (script false functions turns)
     → AreCommands (script false functions (turns ++ Asks path q.condition ∷ []))
 asked_named functions turns path q is spelled named =
-    subst AreCommands (sym (script_asked false functions turns path q.condition))
-    (commands_join (script false functions (turns ++ Posts path q.condition ∷ [])) (Pop 1 ∷ []) (said_named functions turns path q is spelled named) (tt, tt))
+    subst AreCommands (sym (script_asked false functions turns path q.condition)) (said_named functions turns path q is spelled named)
 
 -- the member is left
-pub left_named : (functions : List Declared) (turns : List Turn) → AreCommands (script false functions turns) → AreCommands (script false functions (turns ++ Leaves ∷ []))
-left_named functions turns named =
-    subst AreCommands (sym (script_more false functions turns Leaves))
-    (commands_join (script false functions turns) (closing (is_inside_after turns)) named (closing_named (is_inside_after turns)))
+pub left_named : (functions : List Declared) (turns : List ScopedTurn) → AreCommands (script false functions turns) → AreCommands (script false functions (turns ++ Leaves ∷ []))
+left_named functions turns named = subst AreCommands (sym (script_left false functions turns)) named
 
 module _ {L : Type 0} (dialogue : L → List Piece) (steady_link : L → Bool) (faults_of : L → ℕ) (before : List Ending) (count : ℕ) where
   abbrev Calm : (now : List Ending) (steady : Bool) (faults : ℕ) → Child L → Type 0
@@ -91,31 +88,31 @@ module _ {L : Type 0} (dialogue : L → List Piece) (steady_link : L → Bool) (
   opened functions d spelled steady stands = (steady, functions, [], [], stands, subst AreCommands (sym (script_none false functions)) (begun_named functions spelled))
 
   -- a question keeps its link steady
-  pub asks_steady : (d : Dialogue L) (link : L) (q : Question) (path : List Term) → path ≡ q.path → IsSpelled q
-      → (IsSteady steady_link faults_of (link_of d) → (certify : Bool) (functions : List Declared) (turns : List Turn) (checks : List Check) → Stands dialogue certify functions turns d checks
+  pub asks_steady : (d : Dialogue L) (link : L) (q : Question) (path : List Entry) → terms path ≡ q.path → IsSpelled q
+      → (IsSteady steady_link faults_of (link_of d) → (certify : Bool) (functions : List Declared) (turns : List ScopedTurn) (checks : List Check) → Stands dialogue certify functions turns d checks
       → AreCommands (script certify functions (turns ++ Posts path q.condition ∷ [])) → IsSteady steady_link faults_of link)
       → IsSteadyChild dialogue steady_link faults_of (Talking d) → IsSteady steady_link faults_of link
   asks_steady d link q path is spelled on child = on child.0 false child.1 child.2 child.3 child.4 (said_named child.1 child.2 path q is spelled child.5)
 
   -- and is answered
-  pub asked_steady : (d d' : Dialogue L) (q : Question) (path : List Term) (r : Reply) → path ≡ q.path → IsSpelled q
-      → (IsSteady steady_link faults_of (link_of d) → (certify : Bool) (functions : List Declared) (turns : List Turn) (checks : List Check) → Stands dialogue certify functions turns d checks
+  pub asked_steady : (d d' : Dialogue L) (q : Question) (path : List Entry) (r : Reply) → terms path ≡ q.path → IsSpelled q
+      → (IsSteady steady_link faults_of (link_of d) → (certify : Bool) (functions : List Declared) (turns : List ScopedTurn) (checks : List Check) → Stands dialogue certify functions turns d checks
       → AreCommands (script certify functions (turns ++ Posts path q.condition ∷ [])) → IsSteady steady_link faults_of (link_of d'))
-      → ((certify : Bool) (functions : List Declared) (turns : List Turn) (checks : List Check) → Stands dialogue certify functions turns d checks
-      → Stands dialogue certify functions (turns ++ Asks path q.condition ∷ []) d' (checks ++ check_of (base_of certify functions) path q.condition r ∷ []))
+      → ((certify : Bool) (functions : List Declared) (turns : List ScopedTurn) (checks : List Check) → Stands dialogue certify functions turns d checks
+      → Stands dialogue certify functions (turns ++ Asks path q.condition ∷ []) d' (checks ++ check_of (base_of certify functions) (terms path) q.condition r ∷ []))
       → IsSteadyChild dialogue steady_link faults_of (Talking d) → IsSteadyChild dialogue steady_link faults_of (Talking d')
   asked_steady d d' q path r is spelled on answer child = (
     on child.0 false child.1 child.2 child.3 child.4 (said_named child.1 child.2 path q is spelled child.5),
     child.1,
     child.2 ++ Asks path q.condition ∷ [],
-    child.3 ++ check_of (base_of false child.1) path q.condition r ∷ [],
+    child.3 ++ check_of (base_of false child.1) (terms path) q.condition r ∷ [],
     answer false child.1 child.2 child.3 child.4,
     asked_named child.1 child.2 path q is spelled child.5,
   )
 
   -- the member is left
   pub left_steady : (d d' : Dialogue L) → link_of d' ≡ link_of d
-      → ((certify : Bool) (functions : List Declared) (turns : List Turn) (checks : List Check) → Stands dialogue certify functions turns d checks
+      → ((certify : Bool) (functions : List Declared) (turns : List ScopedTurn) (checks : List Check) → Stands dialogue certify functions turns d checks
       → Stands dialogue certify functions (turns ++ Leaves ∷ []) d' checks)
       → IsSteadyChild dialogue steady_link faults_of (Talking d) → IsSteadyChild dialogue steady_link faults_of (Talking d')
   left_steady d d' same on child = (

@@ -14,7 +14,8 @@ use Rattle.vx_smt_meaning.specs.Dialogues.{Check}
 use Rattle.vx_smt_meaning.specs.WellFormed.{IsWellFormed}
 use Rattle.vx_ends.specs.declared.piece.Ending.{Ending}
 use Rattle.vx_dialogue.specs.History.{Tells}
-use Rattle.vx_dialogue.specs.Scripts.{Turn, Asks, Posts, Leaves, script}
+use Rattle.vx_dialogue.specs.Turns.{Turn, Asks, Posts, Leaves}
+use Rattle.vx_dialogue.specs.Scripts.{ScopedTurn, plain, script}
 use Rattle.vx_rules.specs.Trees.{Question, Answered, Ending as Ends, Passed, Failed, Open, Walked, walk}
 use Rattle.vx_rules.specs.Codes.{code}
 use Rattle.vx_machine.specs.Runs.{member_tree}
@@ -142,13 +143,13 @@ lost_after lost (r ∷ runs) = lost_after (lost || is_faulted r.verdict) runs
 
 -- The links that were handed back since tell of these turns and checks: there is none, where there are no checks; else the one of lane 0. What was sent there is the text
 -- of exactly these turns, with no proof asked for, behind the declarations of these symbols f; where it failed, a beginning of it.
-abbrev pub IsRecorded : (functions : List Declared) → (failed : Bool) → (before now : List Ending) → List Turn → List Check → Type 0
+abbrev pub IsRecorded : (functions : List Declared) → (failed : Bool) → (before now : List Ending) → List ScopedTurn → List Check → Type 0
 IsRecorded functions failed before now turns checks =
     ((now ≡ before) × (checks ≡ [])) ⊎ ((ending : Ending) × (now ≡ before ++ ending ∷ []) × (ending.lane ≡ 0) × Tells failed (script false functions turns) ending.dialogue checks)
 
--- all that the child is told for these runs
-abbrev pub script_of : Program → List MemberRun → List Check → List Command
-script_of p runs checks = script false (function_symbols p) (turns_of false p runs checks)
+-- all that the child is told in these turns
+abbrev pub script_of : Program → List ScopedTurn → List Command
+script_of p turns = script false (function_symbols p) turns
 
 -- the checks of a run: so many, from its first on
 abbrev pub sequence_of : MemberRun → List Check → List Check
@@ -187,10 +188,13 @@ IsWellSorted c = ⊤
 -- exactly the questions of the members' walks; a member whose walk passed is verified, or rests on the first that it leads to whose walk didn't.
 pub record Headline (p : Program) (before now : List Ending) (faults_then faults_now : ℕ) (runs : List MemberRun) : Type 0 where
   pub checks : List Check
-  pub recorded : IsRecorded (function_symbols p) (lost_after false runs) before now (turns_of false p runs checks) checks
+  -- what the child was asked, each path with the numbers of its segments
+  pub turns : List ScopedTurn
+  pub asked : map plain turns ≡ turns_of false p runs checks
+  pub recorded : IsRecorded (function_symbols p) (lost_after false runs) before now turns checks
   -- names are spelled, each symbol is declared before it is used, with its sorts, and no live one again; what is asserted is of sort Bool
-  pub well_formed : IsWellFormed (script_of p runs checks)
-  pub sorted : Each IsWellSorted (script_of p runs checks)
+  pub well_formed : IsWellFormed (script_of p turns)
+  pub sorted : Each IsWellSorted (script_of p turns)
   pub each : members_of runs ≡ lines p
   pub told : AreTold p before now faults_then faults_now false 0 runs checks
   pub rested : AreRested p runs

@@ -1,5 +1,5 @@
 -- What holds of a lane between two questions.
-use Rattle.std.specs.Prelude.{◌≡◌, ℕ, ◌<◌, ◌==◌, ⊤, Bool, true, false, List, [], ◌∷◌, ◌++◌, length}
+use Rattle.std.specs.Prelude.{◌≡◌, ℕ, ◌<◌, ◌==◌, ⊤, Bool, true, false, List, [], ◌∷◌, ◌++◌, length, map}
 use Rattle.vx_ast.specs.Syntax.{Program}
 use Rattle.vx_smt_meaning.specs.Commands.{Declared}
 use Rattle.vx_smt_meaning.specs.Dialogues.{Check}
@@ -15,7 +15,8 @@ use Rattle.vx_machine.specs.declared.machine.Ask.{Ask}
 use Rattle.vx_machine.specs.declared.machine.Ask.TheVariants.{Check as Due, Done}
 use Rattle.vx_machine.specs.declared.machine.Outcome.{Outcome}
 use Rattle.vx_machine.specs.declared.machine.Outcome.TheVariants as outcome
-use Rattle.vx_dialogue.specs.Scripts.{Turn, Asks, Posts, script, is_inside_after}
+use Rattle.vx_dialogue.specs.Turns.{Turn, Asks, Posts}
+use Rattle.vx_dialogue.specs.Scripts.{Outside, ScopedTurn, plain, said_by, scope_from, script}
 use Rattle.vx_dialogue.specs.Dialogue.{IsFree, has_failed, Stands}
 use Rattle.vx_dialogue.specs.declared.talk.Talk.{Talk}
 use Rattle.vx_dialogue.specs.declared.talk.Talk.TheVariants as talk
@@ -32,7 +33,13 @@ use Rattle.vx_verifier.specs.Sequences.{IsCheckOf, AreChecksOf, replies_to}
 use Rattle.vx_verifier.specs.Causes.{HasCauseOf}
 use Rattle.vx_verifier.specs.Headline.{IsRecorded, IsTold, AreTold, IsSpentAfter, asks_of, turns_of, some_ask, members_of, lost_after}
 
--- a child that talks has no open question and no earlier fault, and its link is owed
+-- a child that talks has no open question and no earlier fault
+abbrev pub IsReady : {L : Type 0} → Child L → Type 0
+IsReady (Talking d) = IsFree d × (has_failed d ≡ false)
+IsReady NotStarted = ⊤
+IsReady Lost = ⊤
+
+-- it is ready, and where it talks its link is owed
 abbrev pub IsHeld : {L : Type 0} → Child L → ℕ → Type 0
 IsHeld (Talking d) owed = IsFree d × (has_failed d ≡ false) × (0 < owed)
 IsHeld NotStarted owed = ⊤
@@ -60,16 +67,24 @@ is_started (Talking d) = true
 is_started Lost = true
 
 -- These turns say nothing, as long as no child is started.
-pub record AreSilent (functions : List Declared) (turns : List Turn) : Type 0 where
-  pub none : script false functions turns ≡ script false functions []
-  pub outside : is_inside_after turns ≡ false
+pub record AreSilent (turns : List ScopedTurn) : Type 0 where
+  pub none : said_by Outside turns ≡ []
+  pub outside : scope_from Outside turns ≡ Outside
 
 -- These are the turns and the checks of the lane's child so far, which is told these symbols of functions first, with the links that were handed back before and by now. The names in what was said
 -- to a child that talks are spelled.
+abbrev pub HearsScoped : {L : Type 0} → (L → List Piece) → (functions : List Declared) → (before now : List Ending) → Child L → List ScopedTurn → List Check → Type 0
+HearsScoped dialogue functions before now NotStarted turns checks = (now ≡ before) × (checks ≡ []) × AreSilent turns
+HearsScoped dialogue functions before now (Talking d) turns checks = (now ≡ before) × Stands dialogue false functions turns d checks × AreCommands (script false functions turns)
+HearsScoped dialogue functions before now Lost turns checks = IsRecorded functions true before now turns checks
+
+-- so it is where the paths of these turns have some numbers of segments
 abbrev pub Hears : {L : Type 0} → (L → List Piece) → (functions : List Declared) → (before now : List Ending) → Child L → List Turn → List Check → Type 0
-Hears dialogue functions before now NotStarted turns checks = (now ≡ before) × (checks ≡ []) × AreSilent functions turns
-Hears dialogue functions before now (Talking d) turns checks = (now ≡ before) × Stands dialogue false functions turns d checks × AreCommands (script false functions turns)
-Hears dialogue functions before now Lost turns checks = IsRecorded functions true before now turns checks
+Hears dialogue functions before now child turns checks = (scoped : List ScopedTurn) × (map plain scoped ≡ turns) × HearsScoped dialogue functions before now child scoped checks
+
+-- the links that were handed back since tell of these turns and checks, where the paths have some numbers of segments
+abbrev pub Records : (functions : List Declared) → (failed : Bool) → (before now : List Ending) → List Turn → List Check → Type 0
+Records functions failed before now turns checks = (scoped : List ScopedTurn) × (map plain scoped ≡ turns) × IsRecorded functions failed before now scoped checks
 
 -- one turn and one check more, of this question with this reply
 abbrev pub HearsOf : {L : Type 0} → (L → List Piece) → (functions : List Declared) → (before now : List Ending) → Child L → List Turn → List Check → Question → Reply → Type 0
@@ -108,7 +123,7 @@ tried_turn false q = Posts q.path q.condition ∷ []
 -- No reply came to this question: there is a cause; and where it is a fault, the links handed back tell of the turns and checks before. Where memory ran out an answer may be lost, and no report is made.
 abbrev pub Loses : (functions : List Declared) → (before now : List Ending) → (faults_then faults_now : ℕ) → (lost : Bool) → List Turn → List Check → Question → Trouble → Type 0
 Loses functions before now faults_then faults_now lost turns checks q t =
-    (is_fault t ≡ true → IsRecorded functions true before now (turns ++ tried_turn lost q) checks) × IsCausedBy (HasCauseOf before now faults_then faults_now lost) t
+    (is_fault t ≡ true → Records functions true before now (turns ++ tried_turn lost q) checks) × IsCausedBy (HasCauseOf before now faults_then faults_now lost) t
 
 -- a fault is the member's verdict, with its cause
 abbrev pub IsFaultOf : Trouble → Verdict → Type 0

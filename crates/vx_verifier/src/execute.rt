@@ -5,7 +5,7 @@ ghost use Rattle.vx_ends.specs.declared.piece.Start.{Start};
 ghost use Rattle.vx_ends.specs.declared.piece.Ending.{Ending};
 ghost use Rattle.vx_smt_meaning.specs.Dialogues.{Check};
 ghost use Rattle.vx_smt_meaning.specs.Views.{declared_symbol};
-ghost use Rattle.vx_dialogue.specs.Scripts.{Turn};
+ghost use Rattle.vx_dialogue.specs.Turns.{Turn};
 ghost use Rattle.vx_resolved.specs.Resolved.{kind as kind_of};
 ghost use Rattle.vx_resolved.specs.Settled.{settled};
 ghost use Rattle.vx_report.specs.Reports.{AreNamed, RestWithin, is_faulted, is_resting};
@@ -226,7 +226,7 @@ fn execute<W: Spawner, N: Turns>(
     let (child, judged) = judge(
         alloc, program, functions, command, spawner, turns, child, member,
     );
-    let (child, left) = leave(alloc, spawner, child);
+    let child = leave(child);
     let judged = match judged {
         Ok(judged) => judged,
         Err(error) => return (
@@ -237,15 +237,6 @@ fn execute<W: Spawner, N: Turns>(
             Err(error),
         ),
     };
-    if left.is_err() {
-        return (
-            Lane {
-                child,
-                checks: first,
-            },
-            Err(AllocError),
-        );
-    }
     let lane = Lane {
         child,
         checks: first + u64::from(judged.checks),

@@ -1,22 +1,22 @@
 //! A lane: its child, which is started at the lane's first question.
 
-ghost use Rattle.std.specs.Prelude.{◌≡◌, ◌<◌, ◌≤◌, ◌+◌, ◌++◌, ℕ, List, IfOk, OnOk, IfErr, MatchResult, if◌then◌else◌, is_ok, is_err, map, true, false};
+ghost use Rattle.std.specs.Prelude.{◌≡◌, ◌<◌, ◌≤◌, ◌+◌, ◌++◌, ℕ, Bool, List, IfOk, IfErr, MatchResult, if◌then◌else◌, is_ok, is_err, map, true, false};
 ghost use Rattle.vx_ends.specs.declared.piece.Start.{Start};
 ghost use Rattle.vx_ends.specs.declared.piece.Ending.{Ending};
 ghost use Rattle.vx_smt_meaning.specs.Commands as smt;
 ghost use Rattle.vx_smt_meaning.specs.Dialogues.{Check};
 ghost use Rattle.vx_smt_meaning.specs.Views.{declared_symbol};
-ghost use Rattle.vx_dialogue.specs.Scripts.{Turn};
+ghost use Rattle.vx_dialogue.specs.Turns.{Turn};
 ghost use Rattle.vx_rules.specs.Trees.{Question};
 ghost use Rattle.vx_stack.specs.Stack as rules;
-ghost use Rattle.vx_verifier.specs.Headline.{IsRecorded, left_turn};
+ghost use Rattle.vx_verifier.specs.Headline.{left_turn};
 ghost use Rattle.vx_verifier.specs.Steady.{AreSpelled, IsSpelled, IsCalmLane};
 ghost use Rattle.vx_verifier.specs.Lanes as spec;
-ghost use Rattle.vx_verifier.specs.Lanes.{IsHeld, OthersOwe, links, is_fault, is_lost, is_started, Hears, HearsOf, Loses, Starts, Later};
+ghost use Rattle.vx_verifier.specs.Lanes.{IsReady, IsHeld, OthersOwe, links, is_fault, is_lost, is_started, Hears, HearsOf, Records, Loses, Starts, Later};
 
 use std::alloc::Global;
 use vx_dialogue::{Dialogue, Talk};
-use vx_ends::{Parts, Spawner, StartFault};
+use vx_ends::{Link, Parts, Spawner, StartFault};
 use vx_report::Cause;
 use vx_rules::Reply;
 use vx_smt_meaning::Declared;
@@ -113,7 +113,7 @@ fn talk<W: Spawner>(
         → IsCalmLane W.Link.dialogue W.Link.steady W.Link.faults before (W.ended spawner.new) (W.steady spawner.new) count (W.faults spawner.new) result.0 }
 {
     let mut dialogue = dialogue;
-    let path = match query.path.terms(alloc) {
+    let path = match query.path.entries(alloc) {
         Ok(path) => path,
         Err(_) => {
             spawner.finish(LANE, dialogue.close());
@@ -167,40 +167,28 @@ pub fn ask<W: Spawner>(
 }
 
 /// Ends the member.
-pub fn leave<W: Spawner>(
-    alloc: Global,
-    spawner: &mut W,
-    child: Child<W::Link>,
-) -> (Child<W::Link>, Result<(), Trouble>)
-    requires { IsHeld child (W.owed spawner.old LANE) }
-    ensures held { IsHeld result.0 (W.owed spawner.new LANE) }
-    ensures owed { W.owed spawner.new LANE + links child ≡ W.owed spawner.old LANE + links result.0 }
-    ensures other_lanes { OthersOwe (W.owed spawner.old) (W.owed spawner.new) }
-    ensures told { (functions : List smt.Declared) (before : List Ending) (turns : List Turn) (checks : List Check) → Hears W.Link.dialogue functions before (W.ended spawner.old) child turns checks
-        → MatchResult result.1 (λ _. Hears W.Link.dialogue functions before (W.ended spawner.new) result.0 (turns ++ left_turn (is_lost child)) checks) (λ _. Hears W.Link.dialogue functions before (W.ended spawner.new) result.0 turns checks) }
-    ensures lost { OnOk result.1 (is_lost result.0 ≡ is_lost child) }
-    ensures started { is_started result.0 ≡ is_started child }
-    ensures same { OnOk result.1 (W.ended spawner.new ≡ W.ended spawner.old) }
-    ensures others { IfErr result.1 (λ trouble. trouble ≡ Trouble.Want) }
-    ensures starts { (before : List Start) (start : Start) → Starts before (W.starts spawner.old) start child → Starts before (W.starts spawner.new) start result.0 }
-    ensures faults { W.faults spawner.new ≡ W.faults spawner.old }
-    ensures later { Later (W.ended spawner.old) (W.ended spawner.new) }
-    ensures calm { (before : List Ending) (count : ℕ) → IsCalmLane W.Link.dialogue W.Link.steady W.Link.faults before (W.ended spawner.old) (W.steady spawner.old) count (W.faults spawner.old) child
-        → IsCalmLane W.Link.dialogue W.Link.steady W.Link.faults before (W.ended spawner.new) (W.steady spawner.new) count (W.faults spawner.new) result.0 }
+pub fn leave<L: Link>(child: Child<L>) -> Child<L>
+    requires { IsReady child }
+    ensures held { (owed : ℕ) → IsHeld child owed → IsHeld result owed }
+    ensures links { links result ≡ links child }
+    ensures lost { is_lost result ≡ is_lost child }
+    ensures started { is_started result ≡ is_started child }
+    ensures told { (functions : List smt.Declared) (before now : List Ending) (turns : List Turn) (checks : List Check) → Hears L.dialogue functions before now child turns checks
+        → Hears L.dialogue functions before now result (turns ++ left_turn (is_lost child)) checks }
+    ensures calm { (before now : List Ending) (steady : Bool) (count faults : ℕ) → IsCalmLane L.dialogue L.steady L.faults before now steady count faults child
+        → IsCalmLane L.dialogue L.steady L.faults before now steady count faults result }
 {
     match child {
         Child::Talking(dialogue) => {
             let mut dialogue = dialogue;
-            match dialogue.leave(alloc) {
-                Ok(()) => (Child::Talking(dialogue), Ok(())),
-                Err(talk) => {
-                    spawner.finish(LANE, dialogue.close());
-                    (Child::Lost, Err(trouble_of(talk)))
-                }
+            match dialogue.leave() {
+                Ok(()) => Child::Talking(dialogue),
+                // Only a dialogue that has failed refuses it.
+                Err(_) => unreachable!(),
             }
         }
-        Child::NotStarted => (Child::NotStarted, Ok(())),
-        Child::Lost => (Child::Lost, Ok(())),
+        Child::NotStarted => Child::NotStarted,
+        Child::Lost => Child::Lost,
     }
 }
 
@@ -209,7 +197,7 @@ pub fn end<W: Spawner>(spawner: &mut W, child: Child<W::Link>)
     requires { IsHeld child (W.owed spawner.old LANE) }
     ensures owed { W.owed spawner.new LANE + links child ≡ W.owed spawner.old LANE }
     ensures other_lanes { OthersOwe (W.owed spawner.old) (W.owed spawner.new) }
-    ensures told { (functions : List smt.Declared) (before : List Ending) (turns : List Turn) (checks : List Check) → Hears W.Link.dialogue functions before (W.ended spawner.old) child turns checks → IsRecorded functions (is_lost child) before (W.ended spawner.new) turns checks }
+    ensures told { (functions : List smt.Declared) (before : List Ending) (turns : List Turn) (checks : List Check) → Hears W.Link.dialogue functions before (W.ended spawner.old) child turns checks → Records functions (is_lost child) before (W.ended spawner.new) turns checks }
     ensures starts { W.starts spawner.new ≡ W.starts spawner.old }
     ensures faults { W.faults spawner.new ≡ W.faults spawner.old }
     ensures later { Later (W.ended spawner.old) (W.ended spawner.new) }

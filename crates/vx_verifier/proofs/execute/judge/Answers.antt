@@ -2,9 +2,8 @@ use Rattle.std.proofs.Common.{◌≡◌, ◌<◌, ◌++◌, [], length, map, tru
 use Rattle.std.proofs.lemmas.Result.{IfOk-weaker}
 use Rattle.vx_resolved.specs.Settled.{settled}
 use Rattle.vx_smt_meaning.specs.Views.{declared_symbol}
-use Rattle.vx_verifier.specs.Headline.{IsRecorded}
 use Rattle.vx_stack.specs.Stack.{query}
-use Rattle.vx_verifier.specs.Lanes.{IsDue, tried_turn, turns_so_far, is_lost, is_started}
+use Rattle.vx_verifier.specs.Lanes.{IsDue, Records, tried_turn, turns_so_far, is_lost, is_started}
 use Rattle.vx_verifier.proofs.Children.{caused_earlier, fault_is, lost_hears, lost_started, gone_by, faulted_by, match_ok_at, if_ok_at, if_err_at}
 use Rattle.vx_verifier.proofs.Questions.{none_asked, no_turns, hears_none, at_done, at_fault, goes_on, still_running, one_longer, asked_by, started_done, started_fault, due_spelled, alone, faulted_alone}
 use Rattle.vx_report.specs.Reports.{is_resting}
@@ -55,8 +54,8 @@ returns-in-Err-reply-clause-told g c = IfOk-weaker c.faulted.result _ _ (λ judg
     let q = query c.in-Check.query in
     let lost = if_err_at c.ask-kept.result.1 _ c.in-Err-reply.trouble c.ask-kept.ensures.lost c.in-Err-reply.is before (turns ++ so) (checks ++ told.0) told.1 in
     let said = (turns ++ so) ++ tried_turn (is_lost c.args.child) q in
-    let recorded : IsRecorded (map declared_symbol c.args.functions.now) true before (g.W.Spawner.ended c.ask-kept.new.spawner) said (checks ++ told.0) =
-    subst (λ b. IsRecorded (map declared_symbol c.args.functions.now) true before (g.W.Spawner.ended c.ask-kept.new.spawner) ((turns ++ so) ++ tried_turn b q) (checks ++ told.0)) so_far.lost (lost.0 (fault_is c.in-Err-reply.trouble judged.verdict fault.1)) in
+    let recorded : Records (map declared_symbol c.args.functions.now) true before (g.W.Spawner.ended c.ask-kept.new.spawner) said (checks ++ told.0) =
+    subst (λ b. Records (map declared_symbol c.args.functions.now) true before (g.W.Spawner.ended c.ask-kept.new.spawner) ((turns ++ so) ++ tried_turn b q) (checks ++ told.0)) so_far.lost (lost.0 (fault_is c.in-Err-reply.trouble judged.verdict fault.1)) in
     let gone = gone_by c.ask-kept.result.0 c.ask-kept.result.1 c.in-Err-reply.trouble judged.verdict c.ask-kept.ensures.child c.in-Err-reply.is fault.1 in
     let caused = caused_earlier before (g.W.Spawner.ended c.ask-kept.new.spawner) (g.W.Spawner.faults c.args.spawner.now) (g.W.Spawner.faults c.questions.spawner)
     (g.W.Spawner.faults c.ask-kept.new.spawner) so_far.faults (is_lost c.questions.child) (is_lost c.args.child) so_far.lost c.in-Err-reply.trouble lost.1 in

@@ -4,7 +4,7 @@ use Rattle.vx_ends.specs.declared.piece.Start.{Start}
 use Rattle.vx_ends.specs.declared.piece.Ending.{Ending}
 use Rattle.vx_smt_meaning.specs.Dialogues.{Check}
 use Rattle.vx_smt_meaning.specs.Views.{declared_symbol}
-use Rattle.vx_dialogue.specs.Scripts.{Turn}
+use Rattle.vx_dialogue.specs.Turns.{Turn}
 use Rattle.vx_verifier.specs.Lanes.{IsHeld, IsRunning, OthersOwe, links, is_lost, is_started, Hears, Starts, Later, turns_so_far, AreAsked}
 use Rattle.vx_verifier.specs.Steady.{IsCalmLane}
 use Rattle.vx_verifier.specs.Headline.{has_question}

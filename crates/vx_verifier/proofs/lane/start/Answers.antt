@@ -5,11 +5,17 @@ use Rattle.vx_dialogue.specs.Scripts.{Posts, script}
 use Rattle.vx_dialogue.specs.History.{Breaks}
 use Rattle.vx_dialogue.specs.declared.talk.Talk.TheVariants as talk
 use Rattle.vx_verifier.specs.Lanes.{Loses}
-use Rattle.vx_verifier.proofs.Children.{talks, lost_by, preamble_breaks, above_none}
+use Rattle.vx_verifier.proofs.Children.{numbered, unsent_more, talks, lost_start, lost_by, preamble_breaks, above_none}
 use Rattle.vx_dialogue.specs.Steady.{IsSteady}
 use Rattle.vx_verifier.specs.declared.lane.Child.TheVariants.{NotStarted, Talking, Lost}
 use Rattle.vx_verifier.proofs.Steady.{begun_named, calm_on, calm_handed, opened}
 use Rattle.vx_verifier.proofs.lane.start.Goals as goal
+
+pub returns-in-Err-Failed-clause-told : goal.returns-in-Err-Failed-clause-told
+returns-in-Err-Failed-clause-told g c = λ before turns checks heard q.
+    let w = g.W.Spawner in
+    lost_start g.W.Link.Link.dialogue (map declared_symbol c.args.functions.now) before (w.ended c.args.spawner.now) (w.ended c.start.new.self) (w.faults c.args.spawner.now) (w.faults c.start.new.self) turns q checks
+    c.start.ensures.ended (c.start.ensures.cause.rose (c.in-Err-Failed.is ∙ ap Err c.in-Err-Failed.field-0-is)) heard
 
 pub returns-in-Err-clause-told : goal.returns-in-Err-clause-told
 returns-in-Err-clause-told g c = λ before turns checks heard q.
@@ -18,13 +24,14 @@ returns-in-Err-clause-told g c = λ before turns checks heard q.
     let faults = g.W.Link.Link.faults in
     let link = c.in-Err.link in
     let e : Ending = record { lane = 0; dialogue = dialogue link; faults = faults link } in
-    let broken : Breaks c.in-Err.talk (script false fs (turns ++ Posts q.path q.condition ∷ [])) (dialogue link) checks =
-    subst (λ x. Breaks c.in-Err.talk (script false fs (turns ++ Posts q.path q.condition ∷ [])) (dialogue link) x) (sym heard.1)
-    (preamble_breaks fs c.in-Err.talk turns q (dialogue link) [] heard.2 (c.in-Err.ensures.fault (begun_named fs c.requires))) in
+    let said = heard.0 ++ Posts (numbered q.path) q.condition ∷ [] in
+    let broken : Breaks c.in-Err.talk (script false fs said) (dialogue link) checks =
+    subst (λ x. Breaks c.in-Err.talk (script false fs said) (dialogue link) x) (sym heard.2.1)
+    (preamble_breaks fs c.in-Err.talk heard.0 (numbered q.path) q.condition (dialogue link) [] heard.2.2 (c.in-Err.ensures.fault (begun_named fs c.requires))) in
     let rose : c.in-Err.talk ≡ talk.Pipe → 0 < faults link = λ h. above_none _ (faults link) (c.in-Err.ensures.cause.rose (ap Err h)) in
     subst (λ t. Loses fs before (g.W.Spawner.ended c.finish.new.self) (g.W.Spawner.faults c.args.spawner.now) (g.W.Spawner.faults c.finish.new.self) false turns checks q t) (sym c.trouble_of.ensures)
-    (lost_by dialogue fs before (g.W.Spawner.ended c.start.new.self) (g.W.Spawner.ended c.finish.new.self) (g.W.Spawner.faults c.args.spawner.now) (g.W.Spawner.faults c.finish.new.self) e c.in-Err.talk turns q checks
-    (c.start.ensures.ended ∙ heard.0) c.finish.ensures.ended refl broken rose c.in-Err.ensures.open)
+    (lost_by dialogue fs before (g.W.Spawner.ended c.start.new.self) (g.W.Spawner.ended c.finish.new.self) (g.W.Spawner.faults c.args.spawner.now) (g.W.Spawner.faults c.finish.new.self) e c.in-Err.talk said turns q checks
+    (c.start.ensures.ended ∙ heard.2.0) c.finish.ensures.ended refl (unsent_more heard.0 turns q heard.1) broken rose c.in-Err.ensures.open)
 
 pub returns-in-Ok-open-clause-told : goal.returns-in-Ok-open-clause-told
 returns-in-Ok-open-clause-told g c = λ before turns checks heard.
