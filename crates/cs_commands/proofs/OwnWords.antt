@@ -1,10 +1,7 @@
 -- A symbol that is declared has a word of its own.
-use Rattle.std.proofs.Common.{◌≡◌, ℕ, zero, suc, ◌<◌, ◌+◌, ◌-◌, ◌*◌, ◌^◌, ◌&&◌, nat_eq, nat_lt, Bool, true, false, List, [], ◌∷◌, length, Option, Some, None, Ok, refl, ap, ap₂, ◌∙◌, sym, subst, eqb-true, arith}
+use Rattle.std.proofs.Common.{◌≡◌, ℕ, zero, suc, ◌<◌, ◌^◌, nat_eq, Bool, true, false, List, [], ◌∷◌, Option, Some, None, Ok, refl, ap, ap₂, ◌∙◌, sym, subst, eqb-true, arith}
 use Rattle.std.specs.Prelude.{if◌then◌else◌}
-use Rattle.std.specs.Option.{option_and_then}
 use Rattle.std.specs.Str.{is_utf8}
-use Rattle.std.proofs.lemmas.Bool.{ltb-true}
-use Rattle.vx_sexp.specs.Characters.{is_digit}
 use Rattle.vx_sexp.specs.declared.token.Kind.TheVariants as kinds
 use Rattle.vx_sexp.specs.declared.token.Token.{Token}
 use Rattle.vx_sexp.specs.declared.token.Token.TheVariants.{Open, Close, Atom}
@@ -21,14 +18,14 @@ use Rattle.cs_commands.specs.declared.word.Verb.{Verb}
 use Rattle.cs_commands.specs.declared.word.Verb.TheVariants as verbs
 use Rattle.cs_commands.specs.Outcomes.{or_fault}
 use Rattle.cs_commands.specs.Words.{term_word}
-use Rattle.cs_commands.specs.Names.{with_digit, digits, number_below, numbered, symbol_named, text}
+use Rattle.cs_commands.specs.Names.{number_below, numbered, symbol_named, text}
 use Rattle.cs_commands.specs.Live.{Scope, declared_as, new_sort, if_free, new_symbol, sort_at}
 use Rattle.cs_commands.specs.Building.{is_bool, if_sorted}
 use Rattle.cs_commands.specs.Terms.{term_from}
 use Rattle.cs_commands.specs.Commands as reading
 use Rattle.cs_commands.specs.Laws.{IsSmallSymbol}
 use Rattle.cs_commands.specs.Following.{HasWord, UnderstoodHasWord}
-use Rattle.cs_commands.proofs.Passed.{ok_is, not_ok, some_is, not_some, bound, passed}
+use Rattle.cs_commands.proofs.Passed.{ok_is, not_ok, bound, passed}
 use Rattle.cs_commands.proofs.Numerals.{number_is}
 use Rattle.cs_commands.proofs.Small.{number_small}
 use Rattle.cs_commands.proofs.ReadCommands.{ended_is}

@@ -1,11 +1,10 @@
 -- What holds of each term that is read: it holds of symbols and literals, and of what well-sorted parts make.
-use Rattle.std.proofs.Common.{◌≡◌, inl, inr, ℕ, suc, ◌<◌, ◌^◌, not, ◌&&◌, Bool, true, false, ℤ, pos, negsuc, neg_ℤ, List, [], ◌∷◌, ◌++◌, Option, Some, None, Ok, refl, ◌∙◌, sym, subst, arith}
+use Rattle.std.proofs.Common.{◌≡◌, inl, inr, ℕ, ◌<◌, ◌^◌, not, ◌&&◌, Bool, true, false, ℤ, pos, negsuc, neg_ℤ, List, [], ◌∷◌, ◌++◌, Option, Some, None, Ok, refl, ◌∙◌, sym, subst, arith}
 use Rattle.std.specs.Prelude.{⊤, if◌then◌else◌}
 use Rattle.std.specs.List.{list_all}
 use Rattle.std.proofs.lemmas.Bool.{false≢true}
 use Rattle.std.specs.declared.result.Result.{Result}
 use Rattle.vx_frac.specs.Fractions.{Fraction, lowest, sum, product, product_fits, sum_fits}
-use Rattle.vx_frac.specs.Fraction.{ratio}
 use Rattle.vx_frac.proofs.Lowest.{lowest-lowest}
 use Rattle.vx_sexp.specs.Tokens.{is_empty, before_point, behind_point}
 use Rattle.vx_sexp.specs.declared.token.Kind.{Kind}

@@ -1,5 +1,5 @@
 -- What is written for a command is understood as that command.
-use Rattle.std.specs.Prelude.{◌≡◌, ⊤, ℕ, suc, ◌<◌, ◌^◌, nat_abs, Bool, true, false, List, [], ◌∷◌, Ok}
+use Rattle.std.specs.Prelude.{◌≡◌, ⊤, ℕ, suc, ◌<◌, ◌^◌, nat_abs, true, false, List, [], ◌∷◌, Ok}
 use Rattle.vx_sexp.specs.First.{IsFirst}
 use Rattle.vx_terms.specs.Sorts.{BoolSort, Symbol, Standard, Function, Variable, Named}
 use Rattle.vx_terms.specs.Terms.{Term, Truth, Number, Part, Constant, Apply, Not, Binary, Ite, AllOf, SomeOf, Terms, NoTerms, MoreTerms}
