@@ -1,18 +1,14 @@
 -- A derivation gains a clause by a step.
-use Rattle.std.proofs.Common.{◌≡◌, inl, slice_get, ◌<◌, ℕ, zero, suc, Bool, true, false, List, [], ◌∷◌, ◌++◌, length, Option, Some, None, refl, sym, ◌∙◌, ap, ap₂, subst, arith}
+use Rattle.std.proofs.Common.{◌≡◌, inl, slice_get, ℕ, zero, suc, Bool, true, false, List, [], ◌∷◌, ◌++◌, length, Option, Some, None, refl, sym, ◌∙◌, ap, ap₂, subst}
 use Rattle.std.specs.Prelude.{if◌then◌else◌, Ok, Err}
 use Rattle.std.specs.declared.result.Result.{Result}
 use Rattle.std.specs.Option.{option_map}
 use Rattle.std.proofs.lemmas.List.{length-map}
 use Rattle.vx_terms.specs.Terms.{Term, Truth, Not, same}
-use Rattle.vx_terms.specs.Interpretations.{Each}
 use Rattle.cs_certificate.specs.Certificate.{Yes, No, Clause, NumberedLiteral, Stack, State, with_clause, At, AllAt, no-terms, one-term, Contains, Step, Input, Define, Propagate, ReadsAll, no-literals, Refutes, ends, forces, Defines, Derives, input, define, propagate}
 use Rattle.cs_nodes.specs.Nodes.{Node}
 use Rattle.cs_nodes.specs.Steps.{Names, Computes}
 use Rattle.cs_nodes.proofs.Definitions.{define_computes}
-use Rattle.vx_terms.specs.Views.{term}
-use Rattle.cs_numbers.specs.declared.terms.NumberedTerms.{NumberedTerms}
-use Rattle.cs_numbers.specs.Listed.{terms_in}
 use Rattle.cs_numbers.specs.Numbering.{place}
 use Rattle.cs_numbers.proofs.Itself.{term_same}
 use Rattle.cs_numbers.proofs.Tables.{tabulates}
@@ -22,32 +18,27 @@ use Rattle.cs_table.specs.declared.steps.Stop.TheVariants as stops
 use Rattle.cs_proof.proofs.Literals.{one_clause}
 use Rattle.cs_derivation.specs.Reached.{Reached, state_of, IsDerived, Adds, IsNew}
 use Rattle.cs_derivation.proofs.Starting.{place_at}
-use Rattle.cs_opposites.specs.Made.{IsMade, IsShort, IsPlainStep, with_clauses, Has, Gains, HasEmpty}
+use Rattle.cs_opposites.specs.Made.{IsMade, with_clauses, Has, Gains, HasEmpty}
 
 some_is : {A : Type 0} {x y : A} → Some x ≡ Some y → x ≡ y
 some_is e = cc
 
-each_last : {A : Type 0} (P : A → Type 0) (xs : List A) (x : A) → Each P xs → P x → Each P (xs ++ x ∷ [])
-each_last P [] x h k = (k, tt)
-each_last P (y ∷ ys) x h k = (h.0, each_last P ys x h.1 k)
-
 -- ---- no step so far
 pub has_none : (stack : Stack) (r : Reached) → IsNew stack r → Has stack [] r
-has_none stack r n = record { stands = n.stands; state = n.state; plain = subst (Each IsPlainStep) (sym n.steps) tt }
+has_none stack r n = record { stands = n.stands; state = n.state }
 
 -- ---- one step more
 module _ (stack : Stack) (cs : List Clause) (r : Reached) (h : Has stack cs r) where
   count : length r.clauses ≡ length cs
   count = sym (length-map r.clauses _) ∙ ap (λ (s : State). length s.clauses) h.state
 
-  module _ (step : Step) (c : Clause) (plain : IsPlainStep (Some step)) (by : Derives stack (state_of r) step c) (one : (d : Clause) → Derives stack (state_of r) step d → d ≡ c) where
+  module _ (step : Step) (c : Clause) (by : Derives stack (state_of r) step c) (one : (d : Clause) → Derives stack (state_of r) step d → d ≡ c) where
     gained : (q : Reached) (n : ℕ) → IsDerived stack step r q n → Gains stack cs c q n
     gained q n d = record {
       last = d.last ∙ count;
       has = record {
         stands = d.stands;
         state = d.state ∙ ap (λ (s : State). with_clause s d.clause) h.state ∙ ap (λ e. with_clauses stack (cs ++ e ∷ [])) (one d.clause d.derives);
-        plain = subst (Each IsPlainStep) (sym d.steps) (each_last IsPlainStep r.steps (Some step) h.plain plain);
       };
     }
 
@@ -59,15 +50,15 @@ module _ (stack : Stack) (cs : List Clause) (r : Reached) (h : Has stack cs r) w
       never e = (subst (λ x. Adds {E = E} stack step r q (Ok x)) e a).1 c by
 
   -- ---- the clause of an assertion
-  module _ (n : ℕ) (t : Term) (at : At stack.assertions n t) (short : IsShort n) (E : Type 0) (q : Reached) (o : Option ℕ) (a : Adds {E = E} stack (Input n) r q (Ok o)) where
+  module _ (n : ℕ) (t : Term) (at : At stack.assertions n t) (E : Type 0) (q : Reached) (o : Option ℕ) (a : Adds {E = E} stack (Input n) r q (Ok o)) where
     one_input : (d : Clause) → Derives stack (state_of r) (Input n) d → d ≡ Yes t ∷ []
     one_input d (input {t = u} e) = ap (λ x. Yes x ∷ []) (some_is (sym e ∙ at))
 
     pub took_input : (m : ℕ) → o ≡ Some m → Gains stack cs (Yes t ∷ []) q m
-    took_input m e = took (Input n) (Yes t ∷ []) short (input at) one_input E q o a m e
+    took_input m e = took (Input n) (Yes t ∷ []) (input at) one_input E q o a m e
 
     pub never_input : o ≡ None → ⊥
-    never_input e = never (Input n) (Yes t ∷ []) short (input at) one_input E q o a e
+    never_input e = never (Input n) (Yes t ∷ []) (input at) one_input E q o a e
 
   -- ---- the clause of a row
   one_computed : (nodes : List Node) (s : State) (step : Step) (o : Option (List NumberedLiteral)) (c d : Clause) → Computes nodes s stack step o → Derives stack s step c → Derives stack s step d → c ≡ d
@@ -76,7 +67,7 @@ module _ (stack : Stack) (cs : List Clause) (r : Reached) (h : Has stack cs r) w
       let y = k.complete d q in
       one_clause s.terms x.1 (subst (λ ns. Names s.terms ns d) (some_is (sym y.2 ∙ x.2)) y.1)
 
-  module _ (n : ℕ) (t : Term) (here : place r.terms t ≡ Some n) (c : Clause) (row : Defines t 0 c) (short : IsShort n) (E : Type 0) (q : Reached) (o : Option ℕ) (a : Adds {E = E} stack (Define n 0) r q (Ok o)) where
+  module _ (n : ℕ) (t : Term) (here : place r.terms t ≡ Some n) (c : Clause) (row : Defines t 0 c) (E : Type 0) (q : Reached) (o : Option ℕ) (a : Adds {E = E} stack (Define n 0) r q (Ok o)) where
     by_row : Derives stack (state_of r) (Define n 0) c
     by_row = define (place_at r.terms t n here) row
 
@@ -86,13 +77,13 @@ module _ (stack : Stack) (cs : List Clause) (r : Reached) (h : Has stack cs r) w
         one_computed table.0 (state_of r) (Define n 0) _ d c (define_computes table.0 (state_of r) table.2 stack n 0) e by_row
 
     pub took_row : (m : ℕ) → o ≡ Some m → Gains stack cs c q m
-    took_row m e = took (Define n 0) c (short, omega arith) by_row one_row E q o a m e
+    took_row m e = took (Define n 0) c by_row one_row E q o a m e
 
     pub never_row : o ≡ None → ⊥
-    never_row e = never (Define n 0) c (short, omega arith) by_row one_row E q o a e
+    never_row e = never (Define n 0) c by_row one_row E q o a e
 
   -- ---- the empty clause
-  module _ (ns : List NumberedLiteral) (nothing : ns ≡ []) (hs : List ℕ) (by : Refutes (with_clauses stack cs) [] hs) (short : Each IsShort hs) (E : Type 0) (q : Reached) (o : Option ℕ) (a : Adds {E = E} stack (Propagate ns hs) r q (Ok o)) where
+  module _ (ns : List NumberedLiteral) (nothing : ns ≡ []) (hs : List ℕ) (by : Refutes (with_clauses stack cs) [] hs) (E : Type 0) (q : Reached) (o : Option ℕ) (a : Adds {E = E} stack (Propagate ns hs) r q (Ok o)) where
     by_hints : Derives stack (state_of r) (Propagate [] hs) []
     by_hints = propagate no-literals (subst (λ s. Refutes s [] hs) (sym h.state) by)
 
@@ -106,10 +97,10 @@ module _ (stack : Stack) (cs : List Clause) (r : Reached) (h : Has stack cs r) w
     told = subst (λ ls. Adds {E = E} stack (Propagate ls hs) r q (Ok o)) nothing a
 
     pub took_empty : (m : ℕ) → o ≡ Some m → Gains stack cs [] q m
-    took_empty m e = took (Propagate [] hs) [] short by_hints one_empty E q o told m e
+    took_empty m e = took (Propagate [] hs) [] by_hints one_empty E q o told m e
 
     pub never_empty : o ≡ None → ⊥
-    never_empty e = never (Propagate [] hs) [] short by_hints one_empty E q o told e
+    never_empty e = never (Propagate [] hs) [] by_hints one_empty E q o told e
 
 -- ---- the numbers of assertions
 all_at : {terms ts : List Term} {ns : List ℕ} (n : ℕ) (t : Term) → AllAt terms ns ts → At ts n t → Contains terms t
@@ -135,17 +126,6 @@ pub never_missed : (stack : Stack) (cs : List Clause) (r : Reached) → Has stac
 never_missed stack cs r h t c e f =
     let w = placed_in r.terms t (all_at c.0 t (h.stands).at_roots c.1) in
     missed e (place r.terms t) w.0 w.1 f
-
-at_within : {A : Type 0} (xs : List A) (n : ℕ) (x : A) → At xs n x → n < length xs
-at_within [] n x e = cc
-at_within (y ∷ ys) zero x e = omega arith
-at_within (y ∷ ys) (suc n) x e = let h = at_within ys n x e in omega arith
-
-pub short_place : (all : NumberedTerms) (t : Term) (n : ℕ) → place (terms_in all) t ≡ Some n → IsShort n
-short_place all t n e =
-    let lt : n < length all.terms.items = subst (λ k. n < k) (length-map all.terms.items (λ x. term x.value)) (at_within (terms_in all) n t (place_at (terms_in all) t n e)) in
-    let small = all.small in
-    omega arith
 
 -- ---- hints
 -- `false` and its row leave nothing
@@ -176,7 +156,6 @@ pub emptied : (stack : Stack) (cs : List Clause) (r : Reached) → Has stack (cs
 emptied stack cs r h = record {
   stands = h.stands;
   empty = subst (λ (s : State). Contains s.clauses []) (sym h.state) (last cs);
-  plain = h.plain;
 }
   where
     last : (ds : List Clause) → Contains (ds ++ [] ∷ []) []
@@ -190,19 +169,15 @@ weaker P Q (Err e) f h = h
 
 -- the hints of the two clauses of `false`
 pub false_hints : (stack : Stack) (r q : Reached) (m n : ℕ) → Gains stack [] (Yes (Truth false) ∷ []) r m → Gains stack ((Yes (Truth false) ∷ []) ∷ []) (No (Truth false) ∷ []) q n →
-    Refutes (with_clauses stack ((Yes (Truth false) ∷ []) ∷ (No (Truth false) ∷ []) ∷ [])) [] (m ∷ n ∷ []) × Each IsShort (m ∷ n ∷ [])
+    Refutes (with_clauses stack ((Yes (Truth false) ∷ []) ∷ (No (Truth false) ∷ []) ∷ [])) [] (m ∷ n ∷ [])
 false_hints stack r q m n g h =
-    let same : 0 ∷ 1 ∷ [] ≡ m ∷ n ∷ [] = ap₂ (λ a b. a ∷ b ∷ []) (sym g.last) (sym h.last) in (
-      subst (Refutes (with_clauses stack ((Yes (Truth false) ∷ []) ∷ (No (Truth false) ∷ []) ∷ [])) []) same (false_refutes _ refl),
-      subst (Each IsShort) same (omega arith, (omega arith, tt)),
-    )
+    let same : 0 ∷ 1 ∷ [] ≡ m ∷ n ∷ [] = ap₂ (λ a b. a ∷ b ∷ []) (sym g.last) (sym h.last) in
+    subst (Refutes (with_clauses stack ((Yes (Truth false) ∷ []) ∷ (No (Truth false) ∷ []) ∷ [])) []) same (false_refutes _ refl)
 
 -- those of the three of a term and its negation
 pub both_hints : (stack : Stack) (t : Term) (r q p : Reached) (l m n : ℕ) → Gains stack [] (Yes t ∷ []) r l → Gains stack ((Yes t ∷ []) ∷ []) (Yes (Not t) ∷ []) q m →
     Gains stack ((Yes t ∷ []) ∷ (Yes (Not t) ∷ []) ∷ []) (No (Not t) ∷ No t ∷ []) p n →
-    Refutes (with_clauses stack ((Yes t ∷ []) ∷ (Yes (Not t) ∷ []) ∷ (No (Not t) ∷ No t ∷ []) ∷ [])) [] (l ∷ m ∷ n ∷ []) × Each IsShort (l ∷ m ∷ n ∷ [])
+    Refutes (with_clauses stack ((Yes t ∷ []) ∷ (Yes (Not t) ∷ []) ∷ (No (Not t) ∷ No t ∷ []) ∷ [])) [] (l ∷ m ∷ n ∷ [])
 both_hints stack t r q p l m n f g h =
-    let same : 0 ∷ 1 ∷ 2 ∷ [] ≡ l ∷ m ∷ n ∷ [] = ap₂ (λ a bs. a ∷ bs) (sym f.last) (ap₂ (λ a b. a ∷ b ∷ []) (sym g.last) (sym h.last)) in (
-      subst (Refutes (with_clauses stack ((Yes t ∷ []) ∷ (Yes (Not t) ∷ []) ∷ (No (Not t) ∷ No t ∷ []) ∷ [])) []) same (both_refute _ t refl),
-      subst (Each IsShort) same (omega arith, (omega arith, (omega arith, tt))),
-    )
+    let same : 0 ∷ 1 ∷ 2 ∷ [] ≡ l ∷ m ∷ n ∷ [] = ap₂ (λ a bs. a ∷ bs) (sym f.last) (ap₂ (λ a b. a ∷ b ∷ []) (sym g.last) (sym h.last)) in
+    subst (Refutes (with_clauses stack ((Yes t ∷ []) ∷ (Yes (Not t) ∷ []) ∷ (No (Not t) ∷ No t ∷ []) ∷ [])) []) same (both_refute _ t refl)

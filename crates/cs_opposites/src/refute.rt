@@ -11,9 +11,10 @@ ghost use Rattle.cs_proof.specs.Answers.{Answers};
 ghost use Rattle.cs_proof.specs.Checking.{Finished};
 ghost use Rattle.cs_proof.specs.Fits.{seen};
 ghost use Rattle.cs_proof.specs.Views.{written};
+ghost use Rattle.cs_writable.specs.Writable.{AreWritable};
 ghost use Rattle.cs_derivation.specs.View.{reached};
 ghost use Rattle.cs_opposites.specs.Found.{AreOpposites};
-ghost use Rattle.cs_opposites.specs.Made.{IsMade, IsPlainStep, Has, HasEmpty, AreFinished};
+ghost use Rattle.cs_opposites.specs.Made.{IsMade, Has, HasEmpty, AreFinished};
 ghost use Rattle.cs_opposites.specs.Opposites.{HasOpposites};
 
 use crate::find::{Opposites, opposites_in};
@@ -107,7 +108,7 @@ pub fn opposed(alloc: Global, stack: &Stack) -> Result<Option<Vec<Step>>, Want>
     ensures found { IfOk result (λ found. IsSome found ↔ HasOpposites (seen stack.now).assertions) }
     // over well-sorted assertions
     ensures refutes { Each IsSorted (seen stack.now).assertions → IfOk result (λ found. IfSome found (λ steps. Answers (seen stack.now) (map written steps.items) Finished)) }
-    ensures plain { Each IsSorted (seen stack.now).assertions → IfOk result (λ found. IfSome found (λ steps. Each IsPlainStep (map written steps.items))) }
+    ensures writable { Each IsSorted (seen stack.now).assertions → IfOk result (λ found. IfSome found (λ steps. AreWritable (map written steps.items))) }
 {
     match opposites_in(alloc, &stack.assertions)? {
         Some(opposites) => Ok(Some(steps_of(alloc, stack, opposites)?)),

@@ -6,7 +6,7 @@ ghost use Rattle.vx_terms.specs.Views.{term};
 ghost use Rattle.cs_certificate.specs.Certificate.{Yes, Clause, Stack, At, Contains, Defines, Refutes};
 ghost use Rattle.cs_derivation.specs.View.{reached};
 ghost use Rattle.cs_numbers.specs.Laws.{IsSorted};
-ghost use Rattle.cs_opposites.specs.Made.{IsMade, IsShort, Has, Gains, with_clauses};
+ghost use Rattle.cs_opposites.specs.Made.{IsMade, Has, Gains, with_clauses};
 
 use cs_derivation::Derivation;
 use cs_numbers::place_of;
@@ -63,7 +63,7 @@ pub fn first_row(alloc: Global, derivation: &mut Derivation, t: &Rc<Term>) -> Re
 /// # Errors
 /// `Miss` where they don't derive it; `Want` where memory runs out.
 pub fn empty(alloc: Global, derivation: &mut Derivation, hints: &[u32]) -> Result<(), Stop>
-    ensures { (stack : Stack) (cs : List Clause) → Has stack cs (reached derivation.old) → Refutes (with_clauses stack cs) [] hints.now → Each IsShort hints.now → IsMade (λ u. Has stack (cs ++ [] ∷ []) (reached derivation.new)) result }
+    ensures { (stack : Stack) (cs : List Clause) → Has stack cs (reached derivation.old) → Refutes (with_clauses stack cs) [] hints.now → IsMade (λ u. Has stack (cs ++ [] ∷ []) (reached derivation.new)) result }
 {
     match derivation.propagate(alloc, &[], hints) {
         Ok(Some(_)) => Ok(()),

@@ -1,8 +1,8 @@
--- In each session that comes about by answers the stack is formed, so that few Bool terms without numbers are decided.
+-- In each session that comes about by answers the stack is formed, so that few Bool terms without numbers are decided; opposites are in any.
 use Rattle.std.proofs.Common.{◌≡◌, ℕ, nat_le, Bool, true, false, List, Ok, Err, sym, subst}
 use Rattle.std.specs.declared.result.Result.{Result}
 use Rattle.vx_sexp.specs.declared.token.Token.{Token}
-use Rattle.vx_smt_meaning.specs.Commands.{Command, SetOption, SetLogic, DeclareSort, DeclareFun, Assert, Push, Pop, CheckSat, GetProof, Exit, Level, declared_in}
+use Rattle.vx_smt_meaning.specs.Commands.{Command, SetOption, SetLogic, DeclareSort, DeclareFun, Assert, Push, Pop, CheckSat, GetProof, Exit, Level, assertions_of, declared_in}
 use Rattle.vx_smt_meaning.specs.Views.{command}
 use Rattle.vx_smt_meaning.specs.declared.command.Command.{Command as Command'}
 use Rattle.cs_commands.specs.declared.fault.Fault.{Fault}
@@ -14,6 +14,7 @@ use Rattle.cs_commands.proofs.Sorted.{understood_sorted}
 use Rattle.cs_commands.proofs.Writable.{understood_writable}
 use Rattle.cs_answer.specs.declared.answer.Cause.{Cause}
 use Rattle.cs_answer.specs.Few.{IsFew}
+use Rattle.cs_opposites.specs.Opposites.{HasOpposites}
 use Rattle.cs_session.specs.declared.reply.Reply.{Reply}
 use Rattle.cs_session.specs.declared.reply.Reply.TheVariants.{Undecided}
 use Rattle.cs_session.specs.declared.session.Last.{Last}
@@ -21,7 +22,7 @@ use Rattle.cs_session.specs.declared.session.Last.TheVariants.{Nothing, Refuted,
 use Rattle.cs_session.specs.Views.{State, standing, depth}
 use Rattle.cs_session.specs.Replies.{Tells, FollowsIf, Does, RepliesTo}
 use Rattle.cs_session.specs.Answering.{Answering, begun, given, answered}
-use Rattle.cs_session.specs.Few.{FewAreDecided}
+use Rattle.cs_session.specs.Few.{FewAreDecided, OppositesAreRefuted}
 use Rattle.cs_session.proofs.Caused.{checked}
 use Rattle.cs_session.proofs.Formed.{IsFit, AreFit, asserted_fit, declared_fit, sort_fit, opened_fit, dropped_fit, standing_formed}
 
@@ -68,15 +69,18 @@ sound (answered {left = left} {s = s} {u = u} n r h ends replies) = replied_fit 
 
 -- ---- checks
 
-not_few : (levels : List Level) (l : Last) → Tells levels Undecided l → ¬ (IsFew (standing levels))
-not_few levels (Unknown cause) h = h.1
-not_few levels Nothing h = absurd h
-not_few levels (Refuted steps) h = absurd h
-not_few levels Satisfied h = absurd h
+neither : (levels : List Level) (l : Last) → Tells levels Undecided l → ¬ (IsFew (standing levels)) × ¬ (HasOpposites (assertions_of levels))
+neither levels (Unknown cause) h = (h.1, h.2)
+neither levels Nothing h = absurd h
+neither levels (Refuted steps) h = absurd h
+neither levels Satisfied h = absurd h
 
 pub few_decided : FewAreDecided
 few_decided bytes s u reached few replies =
-    not_few s.levels u.last (checked replies.understood s u replies.replied) (record {
+    (neither s.levels u.last (checked replies.understood s u replies.replied)).0 (record {
       plain = record { formed = standing_formed s.levels (sound reached.answering); no_number = few.no_number };
       few = few.few;
     })
+
+pub opposites_refuted : OppositesAreRefuted
+opposites_refuted bytes s u opposites replies = (neither s.levels u.last (checked replies.understood s u replies.replied)).1 opposites

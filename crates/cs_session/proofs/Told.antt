@@ -1,5 +1,5 @@
 -- What an answer to the stack says of the levels.
-use Rattle.std.proofs.Common.{◌≡◌, map, subst}
+use Rattle.std.proofs.Common.{◌≡◌, inl, inr, map, subst}
 use Rattle.std.proofs.Math.Logic.{∥∥₁_map, ∥∥₁_elim}
 use Rattle.std.proofs.lemmas.List.{reverse-reverse}
 use Rattle.std.specs.Prelude.{List}
@@ -20,9 +20,11 @@ use Rattle.cs_answer.specs.declared.answer.Cause.{Cause}
 use Rattle.cs_answer.specs.Causes.{IsCause}
 use Rattle.cs_answer.specs.Few.{IsFew, IsDecided}
 use Rattle.cs_answer.specs.Answers.{IsRefutation, IsSatisfaction, IsCaused}
+use Rattle.cs_opposites.specs.Opposites.{HasOpposites}
+use Rattle.cs_decide.specs.Refuted.{IsRefuted}
 use Rattle.cs_session.specs.Replies.{IsCertificate}
 use Rattle.cs_session.specs.Views.{standing}
-use Rattle.cs_session.proofs.Lists.{each_reverse}
+use Rattle.cs_session.proofs.Lists.{each_reverse, contains_reverse}
 
 no_two : IsProp ⊥
 no_two x y = absurd x
@@ -46,8 +48,16 @@ satisfies levels stack answer m e is told =
     subst (λ (a : Answer). IsSatisfaction (standing levels) a) is (subst (λ (s : Stack). IsSatisfaction s answer) e told) in
     (interpretation m.entries.items, subst (AllTrue (interpretation m.entries.items)) (reverse-reverse (assertions_of levels)) (each_reverse (IsTrueIn (interpretation m.entries.items)) (standing levels).assertions all))
 
+opposites_standing : (levels : List Level) → HasOpposites (assertions_of levels) → HasOpposites (standing levels).assertions
+opposites_standing levels (inl c) = inl (contains_reverse (assertions_of levels) c)
+opposites_standing levels (inr (t, c, d)) = inr (t, contains_reverse (assertions_of levels) c, contains_reverse (assertions_of levels) d)
+
 pub leaves_open : (levels : List Level) (stack : Stack) (answer : Answer) (cause : Cause) → stack ≡ standing levels → answer ≡ Unknown cause → IsCaused stack answer → (IsFew stack → IsDecided answer)
-    → IsCause (standing levels) cause × ¬ (IsFew (standing levels))
-leaves_open levels stack answer cause e is told few =
+    → (HasOpposites stack.assertions → IsRefuted answer) → IsCause (standing levels) cause × ¬ (IsFew (standing levels)) × ¬ (HasOpposites (assertions_of levels))
+leaves_open levels stack answer cause e is told few opposed =
     let decided : IsFew (standing levels) → IsDecided answer = subst (λ (s : Stack). IsFew s → IsDecided answer) e few in
-    (subst (λ (a : Answer). IsCaused (standing levels) a) is (subst (λ (s : Stack). IsCaused s answer) e told), λ h. subst IsDecided is (decided h))
+    let refuted : HasOpposites (standing levels).assertions → IsRefuted answer = subst (λ (s : Stack). HasOpposites s.assertions → IsRefuted answer) e opposed in (
+      subst (λ (a : Answer). IsCaused (standing levels) a) is (subst (λ (s : Stack). IsCaused s answer) e told),
+      λ h. subst IsDecided is (decided h),
+      λ h. subst IsRefuted is (refuted (opposites_standing levels h)),
+    )

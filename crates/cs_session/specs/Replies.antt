@@ -20,6 +20,7 @@ use Rattle.cs_commands.specs.Understanding.{Understands}
 use Rattle.cs_commands.specs.Laws.{scope_of}
 use Rattle.cs_answer.specs.Causes.{IsCause}
 use Rattle.cs_answer.specs.Few.{IsFew}
+use Rattle.cs_opposites.specs.Opposites.{HasOpposites}
 use Rattle.cs_text.specs.Text.{certificate_text}
 use Rattle.cs_writable.specs.Writable.{AreWritable}
 use Rattle.cs_session.specs.declared.reply.Complaint.TheVariants as complaints
@@ -58,11 +59,11 @@ abbrev pub IsCertificate : List Level → Vec Step' → Type 0
 IsCertificate levels steps = Answers (standing levels) (map written steps.items) Finished × AreWritable (map written steps.items)
 
 -- what a check says of the levels; the steps are a certificate, and the cause is so; a stack of few Bool terms without numbers isn't
--- undecided
+-- undecided, nor are assertions that hold `false`, or a term and its negation
 abbrev pub Tells : List Level → Reply → Last → Type 0
 Tells levels Unsat (Refuted steps) = ∥ IsCertificate levels steps ∥₁ × IsUnsatisfiable (assertions_of levels)
 Tells levels Sat Satisfied = IsSatisfiable (assertions_of levels)
-Tells levels Undecided (Unknown cause) = IsCause (standing levels) cause × ¬ (IsFew (standing levels))
+Tells levels Undecided (Unknown cause) = IsCause (standing levels) cause × ¬ (IsFew (standing levels)) × ¬ (HasOpposites (assertions_of levels))
 Tells levels r last = ⊥
 
 abbrev pub Checks : State → Reply → State → Type 0

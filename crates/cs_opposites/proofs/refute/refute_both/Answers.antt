@@ -35,4 +35,4 @@ returns c = λ stack is h t at not.
     let k = c.in_ok-row.ensures stack _ (No (Not t) ∷ No t ∷ []) g.has within (subst (λ x. Defines x 0 (No (Not t) ∷ No t ∷ [])) (sym same) (not-0 t)) in
     let by = both_hints stack t (reached c.input.new.derivation) (reached c.input-2.new.derivation) (reached c.first_row.new.derivation) c.in_ok-holds.holds c.in_ok-negation.negation c.in_ok-row.row f g k in
     let cs = (Yes t ∷ []) ∷ (Yes (Not t) ∷ []) ∷ (No (Not t) ∷ No t ∷ []) ∷ [] in
-    weaker _ _ c.empty.result (λ u x. emptied stack cs (reached c.empty.new.derivation) x) (c.empty.ensures stack cs k.has by.0 by.1)
+    weaker _ _ c.empty.result (λ u x. emptied stack cs (reached c.empty.new.derivation) x) (c.empty.ensures stack cs k.has by)

@@ -27,4 +27,4 @@ returns c = λ stack is h at.
     let k = c.in_ok-row.ensures stack _ (No (Truth false) ∷ []) g.has within (subst (λ x. Defines x 0 (No (Truth false) ∷ [])) (sym same) false-is) in
     let by = false_hints stack (reached c.input.new.derivation) (reached c.first_row.new.derivation) c.in_ok-holds.holds c.in_ok-row.row g k in
     let cs = (Yes (Truth false) ∷ []) ∷ (No (Truth false) ∷ []) ∷ [] in
-    weaker _ _ c.empty.result (λ u x. emptied stack cs (reached c.empty.new.derivation) x) (c.empty.ensures stack cs k.has by.0 by.1)
+    weaker _ _ c.empty.result (λ u x. emptied stack cs (reached c.empty.new.derivation) x) (c.empty.ensures stack cs k.has by)

@@ -24,4 +24,4 @@ returns c = λ sorted o.
     let h = c.in_ok-derivation.ensures stack (ap (map (λ x. term x.value)) (sym c.deref.ensures.value)) sorted in
     let g = c.in_ok-refute.ensures stack (ap (map (λ x. term x.value)) (sym c.deref-2.ensures.value)) h o in
     let a = c.empty_clauses_finish.ensures stack (reached c.refute.new.derivation) g.stands g.empty in
-    subst (AreFinished stack) (sym c.into_steps.ensures) (record { finished = a; plain = g.plain })
+    subst (AreFinished stack) (sym c.into_steps.ensures) a

@@ -10,4 +10,4 @@ pub returns-in-Satisfied : goal.returns-in-Satisfied
 returns-in-Satisfied c = satisfies (levels_of c.args.levels.now) (seen c.stack.result.now) c.in_ok-steps.field-0 c.in-Satisfied.field-0 c.stack.ensures.value c.in-Satisfied.is c.in_ok-steps.ensures.satisfied
 
 pub returns : goal.returns
-returns c = leaves_open (levels_of c.args.levels.now) (seen c.stack.result.now) c.in_ok-steps.field-0 c.in-Unknown.cause c.stack.ensures.value c.in-Unknown.is c.in_ok-steps.ensures.caused c.in_ok-steps.ensures.few
+returns c = leaves_open (levels_of c.args.levels.now) (seen c.stack.result.now) c.in_ok-steps.field-0 c.in-Unknown.cause c.stack.ensures.value c.in-Unknown.is c.in_ok-steps.ensures.caused c.in_ok-steps.ensures.few c.in_ok-steps.ensures.opposed
