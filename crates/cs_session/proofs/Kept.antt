@@ -1,5 +1,5 @@
 -- What holds of each state that a session comes to, and so of its proofs.
-use Rattle.std.proofs.Common.{◌≡◌, ℕ, zero, suc, nat_le, Bool, true, false, List, [], ◌∷◌, ◌++◌, map, drop, Option, Some, None, Ok, Err, refl, ap, ap₂, ◌∙◌, sym, subst, append-nil}
+use Rattle.std.proofs.Common.{◌≡◌, ℕ, zero, suc, nat_le, Bool, true, false, List, [], ◌∷◌, ◌++◌, map, drop, Option, Some, None, Ok, Err, refl, ap, ap₂, sym, subst, append-nil}
 use Rattle.std.proofs.Math.Logic.{∥∥₁_map, ∥∥₁_elim}
 use Rattle.std.specs.Global.{Vec}
 use Rattle.std.specs.declared.result.Result.{Result}
@@ -38,7 +38,7 @@ use Rattle.cs_session.specs.declared.session.Last.TheVariants.{Nothing, Refuted,
 use Rattle.cs_session.specs.Views.{State, standing, depth}
 use Rattle.cs_session.specs.Replies.{IsCertificate, Tells, FollowsIf, IsOne, Shows, Proves, Does, RepliesTo}
 use Rattle.cs_session.specs.Answering.{Answering, begun, given, answered}
-use Rattle.cs_session.specs.Kept.{proof_line, IsProof, ShownIsReadBack, KeptIsShown}
+use Rattle.cs_session.specs.Kept.{IsProof, ShownIsReadBack, KeptIsShown}
 use Rattle.cs_session.proofs.Lists.{each_reverse}
 use Rattle.cs_session.proofs.Turned.{apart_turned}
 
