@@ -1,5 +1,5 @@
 -- Assertions on levels, each over the symbols of its level and those below it, make a stack that is formed.
-use Rattle.std.proofs.Common.{◌≡◌, inl, inr, ℕ, zero, suc, List, [], ◌∷◌, ◌++◌, map, drop, reverse, Some, refl, sym, ap, subst}
+use Rattle.std.proofs.Common.{◌≡◌, inl, inr, ℕ, zero, suc, List, [], ◌∷◌, ◌++◌, map, drop, reverse, refl, sym, ap, subst}
 use Rattle.std.specs.Prelude.{⊤}
 use Rattle.std.proofs.lemmas.List.{reverse-append}
 use Rattle.vx_terms.specs.Sorts.{BoolSort}
@@ -13,9 +13,6 @@ use Rattle.cs_writable.specs.Writable.{IsWritableTerm}
 use Rattle.cs_ground.specs.Ground.{IsFormed}
 use Rattle.cs_session.specs.Views.{standing}
 use Rattle.cs_session.proofs.Lists.{each_reverse}
-
-some_is : {A : Type 0} {x y : A} → Some x ≡ Some y → x ≡ y
-some_is e = cc
 
 -- ---- each
 
