@@ -11,10 +11,15 @@ use Rattle.cs_decide.proofs.attempts.undecided.Goals as goal
 pub returns-in-Some-clause-right : goal.returns-in-Some-clause-right
 returns-in-Some-clause-right c =
     let stack = seen c.args.stack.now in
-    let found = subst (λ o. IsSome o ↔ HasOpposites stack.assertions) c.in-Some.is c.in_ok-steps.ensures.found in
-    let finished = λ sorted. subst (λ o. IfSome o (λ steps. Answers stack (map written steps.items) Finished)) c.in-Some.is (c.in_ok-steps.ensures.refutes sorted) in
-    let writable = λ sorted. subst (λ o. IfSome o (λ steps. AreWritable (map written steps.items))) c.in-Some.is (c.in_ok-steps.ensures.writable sorted) in
-    (λ sorted. (finished sorted, writable sorted, c.opposites_refute.ensures stack.assertions (found.0 refl)), tt, tt)
+    let found = subst (λ o. IsSome o ↔ HasOpposites stack.assertions) c.in-Some.is c.in_ok-steps.ensures.found in (
+      λ sorted. (
+        subst (λ o. IfSome o (λ steps. Answers stack (map written steps.items) Finished)) c.in-Some.is (c.in_ok-steps.ensures.refutes sorted),
+        subst (λ o. IfSome o (λ steps. AreWritable (map written steps.items))) c.in-Some.is (c.in_ok-steps.ensures.writable sorted),
+        c.opposites_refute.ensures stack.assertions (found.0 refl),
+      ),
+      tt,
+      tt,
+    )
 
 pub returns-in-None-clause-opposed : goal.returns-in-None-clause-opposed
 returns-in-None-clause-opposed c = λ h. absurd (let e : false ≡ true = subst IsSome c.in-None.is (c.in_ok-steps.ensures.found.1 h) in cc)
