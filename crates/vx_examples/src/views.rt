@@ -26,6 +26,7 @@ ghost use Rattle.vx_states.specs.declared.state.SymState.{SymState};
 ghost use Rattle.vx_heap.specs.declared.heap.SymHeap.{SymHeap};
 ghost use Rattle.vx_heap.specs.Views.{heap, terms_of, held_term};
 ghost use Rattle.vx_stack.specs.declared.question.Query.{Query};
+ghost use Rattle.vx_segments.specs.declared.Entry.{Entry};
 ghost use Rattle.vx_states.specs.declared.path.Path.{Path};
 ghost use Rattle.vx_states.specs.declared.path.Path.TheVariants as path';
 ghost use Rattle.vx_states.specs.declared.index.Index.{Index};
@@ -100,8 +101,8 @@ pub fn codes_and_keys()
 /// A path's entries, the oldest first, and the terms that stand in an index.
 pub fn paths_and_indices()
     ensures empty { entries path'.Empty ≡ [] }
-    ensures fact { (q : _) (before : Path) (t : Rc Term' Global) → entries (path'.Fact' q before t) ≡ entries before ++ fact (held_term t) ∷ [] }
-    ensures branch { (q : _) (before : Path) (t : Rc Term' Global) → entries (path'.Branch' q before t) ≡ entries before ++ branch (held_term t) ∷ [] }
+    ensures fact { (q : _) (before : Path) (e : Entry) → entries (path'.Fact' q before e) ≡ entries before ++ fact (held_term e.term) ∷ [] }
+    ensures branch { (q : _) (before : Path) (e : Entry) → entries (path'.Branch' q before e) ≡ entries before ++ branch (held_term e.term) ∷ [] }
     ensures extended { extended (branch (bool 0) ∷ []) (bool 1) false ≡ branch (bool 0) ∷ fact (bool 1) ∷ [] }
     ensures none { (k : ℕ) (t : Term) → finds index'.Nothing k t ≡ false }
     ensures held { (q : _) (u : Rc Term' Global) (more : Index) → finds (index'.Holds' u q more) 5 (bool 1) ≡ (terms.same (bool 1) (held_term u) || finds more 5 (bool 1)) }
