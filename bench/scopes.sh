@@ -1,6 +1,6 @@
 #!/usr/bin/env bash
 # What one long method costs, whose questions share their path: asserts in a row, each with a fact more, and asserts behind five forks in
-# a row. By z3 and, where it is there, cvc5: what `vsil` takes with the solver, and what the solver takes alone on the script that it was
+# a row. By z3 and, up to 400 asserts, by cvc5, where they are there: what `vsil` takes with the solver, and what the solver takes alone on the script that it was
 # sent; the bytes and assertions of the script; the peak of `vsil`'s own memory with z3, and with a child that answers `unsat` at once.
 # Words: the sizes (100, 400 and 1600 asserts in a row).
 set -eu
@@ -11,7 +11,7 @@ vsil=$(where_vsil)
 asserts_in_a_row() {
     awk -v count="$1" 'BEGIN {
         print "method m(x: Int) requires 0 <= x {"
-        for (i = 1; i <= count; i++) print "  var y" i ": Int := x + " i "\n  assert y" i " >= " i
+        for (i = 100001; i <= 100000 + count; i++) print "  var y" i ": Int := x + " i "\n  assert y" i " >= " i
         print "}"
     }'
 }
@@ -22,7 +22,7 @@ asserts_behind_forks() {
         print "method m(a: Bool, b: Bool, c: Bool, d: Bool, e: Bool, x: Int) requires 0 <= x {\n  var n: Int := x"
         split("a b c d e", names, " ")
         for (i = 1; i <= 5; i++) print "  if (" names[i] ") { n := n + " i " } else { n := n + 1 }"
-        for (i = 1; i <= count; i++) print "  var y" i ": Int := n + " i "\n  assert y" i " >= " i
+        for (i = 100001; i <= 100000 + count; i++) print "  var y" i ": Int := n + " i "\n  assert y" i " >= " i
         print "}"
     }'
 }
@@ -30,7 +30,9 @@ asserts_behind_forks() {
 # A child that says `success` to all but a check, which it answers `unsat`.
 cat > "$folder/agrees" <<'SH'
 #!/bin/sh
-exec awk '{ print ($0 == "(check-sat)") ? "unsat" : "success"; fflush() }'
+while read -r line; do
+    if [ "$line" = "(check-sat)" ]; then echo unsat; else echo success; fi
+done
 SH
 chmod +x "$folder/agrees"
 
@@ -40,15 +42,27 @@ recorded() {
     chmod +x "$folder/recorded"
 }
 
+# own SOLVER: prints the peak of the memory of `vsil` alone with this solver, as it is looked up while it runs
+own() {
+    local pid peak=0 now
+    "$vsil" verify --solver "$1" < "$folder/file.vpr" > /dev/null &
+    pid=$!
+    while now=$(awk '/^VmHWM/ { print $2 }' "/proc/$pid/status" 2> /dev/null) && [ -n "$now" ]; do
+        peak=$now
+        sleep 0.01
+    done
+    wait "$pid" || true
+    echo "$peak kB"
+}
+
 # of_solver WHAT SIZE COMMAND: times `vsil` with this solver on the file, and the solver alone on what it was sent
 of_solver() {
     local what=$1 size=$2 command=$3
-    # (a command with its words)
-    # shellcheck disable=SC2086
-    timed "$what, with $command" "$size" "$folder/file.vpr" "$vsil" verify --solver $command
+    timed "$what, with $command" "$size" "$folder/file.vpr" "$vsil" verify --solver "$command"
     recorded "$command"
     "$vsil" verify --solver "$folder/recorded" < "$folder/file.vpr" > /dev/null || true
-    remark "$what, $size: $(grep -c '^(assert' "$folder/dialogue") assertions, $(wc -c < "$folder/dialogue") bytes sent"
+    remark "$what, $size: $(grep -c '^(assert' "$folder/dialogue") assertions, $(wc -c < "$folder/dialogue") bytes sent; with $command vsil alone takes $(own "$command")"
+    # (a command with its words)
     # shellcheck disable=SC2086
     timed "$what, $command alone" "$size" "$folder/dialogue" $command
 }
@@ -60,8 +74,9 @@ of_all() {
     for count in "$@"; do
         "$writer" "$count" > "$folder/file.vpr"
         if has z3; then of_solver "$what" "$count" "z3 -in"; fi
-        if has cvc5; then of_solver "$what" "$count" "cvc5 --incremental"; fi
+        if has cvc5 && [ "$count" -le 400 ]; then of_solver "$what" "$count" "cvc5 --incremental"; fi
         timed "$what, answered at once" "$count" "$folder/file.vpr" "$vsil" verify --solver "$folder/agrees"
+        remark "$what, $count: answered at once vsil alone takes $(own "$folder/agrees")"
     done
 }
 
