@@ -9,7 +9,7 @@ use Rattle.vx_heap.specs.Names.{name}
 
 abbrev pub row_from : ℕ → Name → ℕ
 row_from n [] = n
-row_from n (b ∷ bs) = row_from ((n * 31 + b) % 256) bs
+row_from n (b ∷ bs) = row_from ((n * 31 + b) % 16) bs
 
 -- the row of a name: any numbers would do that depend on the name alone
 abbrev pub row_of : Name → ℕ

@@ -6,7 +6,7 @@ ghost use Rattle.vx_heap.specs.Places.{closed_up, moved, row_of};
 use std::alloc::{AllocError, Global};
 
 /// So many rows at most.
-const ROWS: usize = 256;
+const ROWS: usize = 16;
 
 /// Numbers in rows; rows behind the last are empty.
 pub struct Rows {

@@ -6,6 +6,8 @@ use Rattle.vx_frac.specs.Lowest.{IsLowest}
 use Rattle.vx_frac.proofs.Divides.{cross, lowest, positive, divisor_positive, size_positive, size_small}
 use Rattle.vx_frac.proofs.Reduced.{is_lowest}
 use Rattle.vx_frac.specs.Fraction.{ratio}
+use Rattle.vx_frac.specs.Fractions.{whole, lowest as lowest_of}
+use Rattle.vx_frac.proofs.Whole.{lowest_whole}
 use Rattle.vx_frac.proofs.Frac.new.Goals as goal
 
 common : (num den : ℤ) (a b g : ℕ) → FitsSigned w128 num → FitsSigned w128 den → a ≡ unsigned_abs (to_z w128 (of_z w128 num)) → b ≡ unsigned_abs (to_z w128 (of_z w128 den)) → IsGcd a b g → IsGcd (unsigned_abs num) (unsigned_abs den) g
@@ -83,3 +85,10 @@ returns c =
     ∙ is_lowest c.divide.result c.divide-2.result c.args.num c.args.den (positive _ _ _ f c.requires) c.requires
     (lowest _ _ _ _ _ (above c.args.den c.gcd-common.result c.requires is.1) is e f)
     (cross c.divide.result c.divide-2.result (pos c.gcd-common.result) c.args.num c.args.den e f)
+
+-- over 1 nothing is reduced
+pub returns-then-den-eq1 : goal.returns-then-den-eq1
+returns-then-den-eq1 c =
+    let one : c.args.den ≡ pos 1 = sym (to_z-of_z w128 c.args.den c.ranges.den) ∙ ap (to_z w128) c.if-den-eq1.true in
+    c.whole.ensures ∙ ap whole (to_z-of_z w128 c.args.num c.ranges.num) ∙ sym (lowest_whole c.args.num)
+    ∙ ap (λ (d : ℤ). lowest_of (ratio c.args.num d)) (sym one)
