@@ -193,13 +193,15 @@ impl Claims {
         })
     }
 
-    /// Claims the equality of this number too, if it is one that isn't claimed yet.
+    /// Claims the equality of this number too, if it is one of terms that the classes know, and isn't claimed yet.
     ///
     /// # Errors
     /// `Miss` where no term has the number; `Want` where memory runs out.
     pub fn add(&mut self, record: &Record, number: u32) -> Result<(), Stop> {
-        if record.sides(number)?.is_some() && self.known.insert(number)? {
-            self.equalities.push(number)?;
+        if let Some((a, b)) = record.sides(number)? {
+            if self.held.has(a) && self.held.has(b) && self.known.insert(number)? {
+                self.equalities.push(number)?;
+            }
         }
         Ok(())
     }

@@ -5,8 +5,9 @@ ghost use Rattle.cs_cong.specs.Terms.{terms_in};
 
 use cs_cong::{Applied, Chain, Classes};
 use cs_index::Index;
-use cs_table::{Head, Node, Stop, Table, key_of_symbol};
+use cs_table::{Head, Node, Stop, Table, key_of_operator, key_of_symbol};
 use std::alloc::Global;
+use vx_terms::Operator;
 
 /// Classes of terms, and how many terms there are.
 #[derive(Drop)]
@@ -23,6 +24,35 @@ fn stop<T: Drop>(given: Result<T, cs_cong::Want>) -> Result<T, Stop> {
     }
 }
 
+/// Whether the term of this number is a literal.
+fn is_literal(table: &Table, number: u32) -> bool {
+    match table.nodes.get(number as usize) {
+        Some(node) => matches!(node.head, Head::Number(_) | Head::Part(_)),
+        None => false,
+    }
+}
+
+/// Whether an operator over these terms is none of linear arithmetic: then it is like a symbol that nothing is known of.
+fn is_nonlinear(table: &Table, of: Operator, parts: &[u32]) -> bool {
+    let [left, right] = parts else {
+        return false;
+    };
+    match of {
+        Operator::Multiply => !is_literal(table, *left) && !is_literal(table, *right),
+        Operator::Div | Operator::Mod => !is_literal(table, *right),
+        _ => false,
+    }
+}
+
+/// The key of what is applied, if the node applies a symbol, or an operator as a symbol.
+pub fn key_of_applied(table: &Table, node: &Node) -> Option<u64> {
+    match &node.head {
+        Head::Apply(symbol, _) => Some(key_of_symbol(symbol)),
+        Head::Binary(of) if is_nonlinear(table, *of, &node.parts) => Some(key_of_operator(*of)),
+        _ => None,
+    }
+}
+
 /// The first application of a node's symbol, which stands for the symbol: another one, or the node itself.
 fn first_of(table: &Table, index: &Index, key: u64, node: &Node, number: u32) -> u32 {
     for other in index.under(key) {
@@ -35,7 +65,7 @@ fn first_of(table: &Table, index: &Index, key: u64, node: &Node, number: u32) ->
     number
 }
 
-/// A node as the classes see it: an application of its symbol, or a term without parts.
+/// A node as the classes see it: an application of its symbol, or of an operator as a symbol, or a term without parts.
 fn applied(
     alloc: Global,
     table: &Table,
@@ -43,13 +73,12 @@ fn applied(
     node: &Node,
     number: u32,
 ) -> Result<Applied, Stop> {
-    let Head::Apply(symbol, _) = &node.head else {
+    let Some(key) = key_of_applied(table, node) else {
         return Ok(Applied {
             head: number,
             parts: Vec::new(alloc),
         });
     };
-    let key = key_of_symbol(symbol);
     let head = first_of(table, index, key, node, number);
     if head == number {
         index.add(key, number)?;
@@ -118,7 +147,7 @@ impl Held {
     }
 
     /// Whether the classes know the term of this number.
-    fn has(&self, number: u32) -> bool
+    pub fn has(&self, number: u32) -> bool
         ensures { IsTrue result → number < length (terms_in self.now.classes) }
     {
         (number as usize) < self.count

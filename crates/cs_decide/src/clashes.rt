@@ -1,13 +1,14 @@
 //! Applications of one symbol whose arguments have the same elements, and whose values differ: then two arguments that are
-//! numbers have one value by chance, and have to be told apart.
+//! numbers have one value by chance, and have to be told apart. So it is with products of terms that are no literals.
 
 use crate::elements::Sources;
+use cs_claims::held::key_of_applied;
 use cs_columns::Stop;
 use cs_index::{Index, mix, mix_wide};
 use cs_model::Element;
 use cs_record::numbered::Record;
 use cs_sums::numbers_of;
-use cs_table::{Head, Node, key_of_symbol};
+use cs_table::Node;
 use std::alloc::Global;
 
 /// An application, and the elements of its arguments and of itself.
@@ -107,7 +108,7 @@ impl Applications {
         number: u32,
     ) -> Result<Option<(u32, u32)>, Stop> {
         let node = sources.record.node(number)?;
-        let Head::Apply(symbol, _) = &node.head else {
+        let Some(key) = key_of_applied(&sources.record.table, node) else {
             return Ok(None);
         };
         if !has_number(sources.record, &node.parts)? {
@@ -118,7 +119,7 @@ impl Applications {
             arguments: sources.elements(alloc, &node.parts)?,
             value: sources.element(number)?,
         };
-        let key = key_of(key_of_symbol(symbol), &new.arguments);
+        let key = key_of(key, &new.arguments);
         let found = self.clash_of(sources, key, node, &new)?;
         let Ok(at) = u32::try_from(self.seen.len()) else {
             return Err(Stop::Want);

@@ -4,6 +4,7 @@ ghost use Rattle.cs_decide.specs.Spent.{SpendsOnCases};
 
 use crate::clashes::clash;
 use crate::elements::Sources;
+use crate::products::{misread_factor, product_cases};
 use cs_claims::claims::{Claims, value_of};
 use cs_claims::farkas::refutation_of;
 use cs_columns::{Split, Stop};
@@ -17,6 +18,9 @@ use cs_sums::{Arithmetic, Contradiction, Share, numbers_of};
 use std::alloc::Global;
 use vx_frac::Frac;
 
+/// So many clauses of cases come of products at most.
+const PRODUCT_CASES: u32 = 64;
+
 /// The numbers among the terms, and what is claimed of them.
 #[derive(Drop)]
 pub struct Figures {
@@ -29,6 +33,8 @@ pub struct Figures {
     terms: Vec<u32>,
     // how many clauses of cases there were
     told: u32,
+    // how many clauses of cases may still come of products
+    products: u32,
 }
 
 /// A clause that tells cases, whether its first one is to be tried first, and whether it is a split.
@@ -81,6 +87,7 @@ impl Figures {
             count,
             terms: numbers_among(alloc, record, count)?,
             told: 0,
+            products: PRODUCT_CASES,
         };
         for number in 0..count {
             if atoms.find(number).is_some() {
@@ -209,7 +216,7 @@ impl Figures {
 
     /// A clause of cases that the values want: a sum of Int terms has no whole value, or two terms have one value.
     fn cases(
-        &self,
+        &mut self,
         alloc: Global,
         record: &mut Record,
         atoms: &Atoms,
@@ -229,10 +236,17 @@ impl Figures {
             claims,
             figures: self,
         };
-        match clash(alloc, &sources, self.count)? {
-            Some((a, b)) => Ok(Some(told_apart(alloc, record, a, b)?)),
-            None => Ok(None),
+        if let Some((a, b)) = clash(alloc, &sources, self.count)? {
+            return Ok(Some(told_apart(alloc, record, a, b)?));
         }
+        let Some(factor) = misread_factor(&sources, self.count)? else {
+            return Ok(None);
+        };
+        let Some(left) = self.products.checked_sub(1) else {
+            return Ok(None);
+        };
+        self.products = left;
+        Ok(Some(product_cases(alloc, record, atoms, values, factor)?))
     }
 
     /// What an assignment and the classes over it lead to. Cases take a unit, and one more for each sixteen before them.

@@ -11,6 +11,7 @@ mod figures;
 mod forced;
 mod misread;
 mod model;
+mod products;
 mod settled;
 
 pub use attempts::decide;
