@@ -15,7 +15,7 @@ use crate::numbers::{Stop, zero};
 use crate::pivot::{rehome, solved, turn_all};
 use crate::rows::{Entry, Row};
 use crate::tableau::Tableau;
-use crate::values::all_moved;
+use crate::values::{carry_out, moves};
 use std::alloc::Global;
 use vx_frac::Frac;
 
@@ -116,10 +116,10 @@ impl Tableau {
         ensures deltas { OnOk result (AreMoved self.old.rows.items self.old.homes.items column (fraction delta) self.old.deltas.items self.new.deltas.items) }
         ensures cause { IfErr result IsCause }
     {
-        let mains = all_moved(alloc, &self.rows, &self.homes, column, main, &self.mains)?;
-        let deltas = all_moved(alloc, &self.rows, &self.homes, column, delta, &self.deltas)?;
-        self.mains = mains;
-        self.deltas = deltas;
+        let mains = moves(alloc, &self.rows, column, main, &self.mains)?;
+        let deltas = moves(alloc, &self.rows, column, delta, &self.deltas)?;
+        carry_out(&mut self.mains, &mains);
+        carry_out(&mut self.deltas, &deltas);
         Ok(())
     }
 
