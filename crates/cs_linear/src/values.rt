@@ -4,6 +4,7 @@ ghost use Rattle.vx_frac.specs.Fraction.{fraction};
 ghost use Rattle.cs_linear.specs.Numbers.{plus, times, IsCause};
 ghost use Rattle.cs_linear.specs.Rows.{Homes, IsFree, IsTableau, Ascends, AllAscend};
 ghost use Rattle.cs_linear.specs.Values.{AreMoved, IsFollowed, arrived};
+ghost use Rattle.cs_linear.specs.Limits.{marked};
 
 use crate::numbers::{Stop, plus, times};
 use crate::rows::{Row, factor_of};
@@ -86,5 +87,15 @@ pub fn carry_out(values: &mut Vec<Frac>, moves: &[Move])
 {
     for step in moves {
         values[step.column as usize] = step.value;
+    }
+}
+
+/// Marks the columns of moves.
+pub fn mark(marks: &mut Vec<bool>, moves: &[Move])
+    requires { All (λ m. m.column < length marks.old.items) moves.now }
+    ensures { marks.new.items ≡ marked moves.now marks.old.items }
+{
+    for step in moves {
+        marks[step.column as usize] = true;
     }
 }
