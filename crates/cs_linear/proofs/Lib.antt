@@ -4,6 +4,8 @@ pub mod Tightest
 pub mod Judged
 pub mod Carried
 pub mod Conflicts
+pub mod Following
+pub mod Found
 pub mod Lists
 pub mod Moves
 pub mod Orders

@@ -1,7 +1,5 @@
 -- A free column that moves takes the basic columns with it, so that all rows go on to hold.
-use Rattle.std.specs.Prelude.{IfSome}
-use Rattle.cs_linear.proofs.Lists.{each_more, here_is}
-use Rattle.std.proofs.Common.{◌≡◌, ℕ, ◌<◌, Bool, true, false, nat_eq, if◌then◌else◌, List, [], ◌∷◌, Option, Some, None, length, slice_get, get_or, refl, sym, ◌∙◌, ap, ap₂, subst, All, ◌++◌}
+use Rattle.std.proofs.Common.{◌≡◌, ℕ, ◌<◌, Bool, true, false, nat_eq, if◌then◌else◌, List, [], ◌∷◌, Option, Some, None, length, slice_get, get_or, refl, sym, ◌∙◌, ap, ap₂, subst, All}
 use Rattle.std.proofs.lemmas.List.Elements.{All-head, All-tail, All-weaker}
 use Rattle.std.proofs.lemmas.Option.{slice_get_within, slice_get-get_or}
 use Rattle.vx_frac.specs.Fractions.{Fraction, none, lowest}
@@ -11,7 +9,7 @@ use Rattle.cs_linear.specs.Numbers.{plus, times}
 use Rattle.cs_linear.specs.declared.rows.Entry.{Entry}
 use Rattle.cs_linear.specs.declared.rows.Row.{Row}
 use Rattle.cs_linear.specs.Rows.{Assignment, Homes, IsFree, IsTableau, Solves, total, factor_at}
-use Rattle.cs_linear.specs.Values.{value, values, moved, AreMoved, entries_of, AreWithin}
+use Rattle.cs_linear.specs.Values.{value, values, moved, AreMoved, entries_of}
 use Rattle.cs_linear.proofs.Arithmetic.{linear, plus_assoc, lowest_plus, lowest_of_plus}
 
 first_step : (f F x y T : Fraction) → plus (times f (plus x y)) (plus T (times F y)) ≡ plus (plus (times f x) T) (times (plus f F) y)
@@ -54,28 +52,3 @@ moved_solves rows homes j y old new d t len m s i r er =
     ∙ ap (λ x. plus x (times (factor_at r.entries.items j) y)) (s i r er)
     ∙ sym (moved_total r.entries.items (values old) (values new) j y
     (All-weaker (λ (e : Entry). IsFree homes e.column) (λ (e : Entry). values new e.column ≡ (if nat_eq e.column j then plus (values old e.column) y else values old e.column)) (λ e f. moved_at rows homes j y old new d len m e.column None f) r.entries.items (t.free i r er)))
-
-pub moved_as : {rows others : List Row} {homes places : Homes} {old before new : List Frac} (j : ℕ) (y : Fraction) → rows ≡ others → homes ≡ places → old ≡ before → AreMoved rows homes j y old new → AreMoved others places j y before new
-moved_as {rows = rows} {others = others} {homes = homes} {places = places} {old = old} {before = before} {new = new} j y re he oe m =
-    subst (λ (rs : List Row). AreMoved rs places j y before new) re (subst (λ (hs : Homes). AreMoved rows hs j y before new) he (subst (λ (os : List Frac). AreMoved rows homes j y os new) oe m))
-
-pub row_within : (rows : List Row) (homes : Homes) (k : ℕ) → k < length homes → AreWithin rows homes → IfSome (get_or homes k None) (λ i. i < length rows)
-row_within rows homes k lt within = go (get_or homes k None) (slice_get-get_or homes k None lt)
-  where
-    go : (o : Option ℕ) → slice_get homes k ≡ Some o → IfSome o (λ i. i < length rows)
-    go (Some i) e = within k i e
-    go None e = tt
-
--- one value more
-pub moved_more : (rows : List Row) (homes : Homes) (column : ℕ) (by : Fraction) (values new : List Frac) (k : ℕ) (d x : Frac) → length new ≡ k → k < length homes → k < length values → d ≡ get_or values k d →
-    fraction x ≡ moved rows column by (get_or homes k None) k (fraction d) →
-    ((k : ℕ) (home : Option ℕ) (v w : Frac) → slice_get homes k ≡ Some home → slice_get values k ≡ Some v → slice_get new k ≡ Some w → fraction w ≡ moved rows column by home k (fraction v)) →
-    (k : ℕ) (home : Option ℕ) (v w : Frac) → slice_get homes k ≡ Some home → slice_get values k ≡ Some v → slice_get (new ++ x ∷ []) k ≡ Some w → fraction w ≡ moved rows column by home k (fraction v)
-moved_more rows homes column by values new k d x long lh lv at is all n home v w eh ev ew =
-    each_more Holds new x (λ n w e home v eh ev. all n home v w eh ev e) (subst (λ n. Holds n x) (sym long) here) n w ew home v eh ev
-  where
-    Holds : ℕ → Frac → Type 0
-    Holds n w = (home : Option ℕ) (v : Frac) → slice_get homes n ≡ Some home → slice_get values n ≡ Some v → fraction w ≡ moved rows column by home n (fraction v)
-
-    here : Holds k x
-    here home v eh ev = is ∙ ap₂ (λ o (u : Frac). moved rows column by o k (fraction u)) (here_is homes k None home lh eh) (at ∙ here_is values k d v lv ev)

@@ -70,6 +70,39 @@ most_out x y h = go (is_below y.main x.main) (is_below x.main y.main) (is_below 
   go false false true e f g h = absurd (true≢false h)
   go false false false e f g h = record { main = le_not_below _ _ e; delta = λ k. le_not_below _ _ g }
 
+pub most_in : (x y : Amount) → AtMostOf x y → is_less y x ≡ false
+most_in x y h = go (is_below y.main x.main) (is_below x.main y.main) (is_below y.delta x.delta) refl refl refl where
+  go : (s t u : Bool) → is_below y.main x.main ≡ s → is_below x.main y.main ≡ t → is_below y.delta x.delta ≡ u → (if s then true else if t then false else u) ≡ false
+  go true t u e f g = absurd (not_le_below e h.main)
+  go false true u e f g = refl
+  go false false true e f g = absurd (not_le_below g (h.delta (le_not_below _ _ f)))
+  go false false false e f g = refl
+
+pub most_trans : {x y z : Amount} → AtMostOf x y → AtMostOf y z → AtMostOf x z
+most_trans h k = record {
+  main = le-trans h.main k.main;
+  delta = λ t. le-trans (h.delta (le-trans k.main t)) (k.delta (le-trans t h.main));
+}
+
+pub less_most : {x y : Amount} → LessOf x y → AtMostOf x y
+less_most {x = x} {y = y} h = record {
+  main = h.main;
+  delta = λ t. by_total (at_most x.delta y.delta) refl t;
+} where
+  by_total : (b : Bool) → at_most x.delta y.delta ≡ b → Le y.main x.main → Le x.delta y.delta
+  by_total true e t = record { holds = e }
+  by_total false e t = absurd (h.delta t (le-total x.delta y.delta e))
+
+-- a limit that has no room for another says at least as much, and one that has room says no more
+
+pub tells_lesser : (side : Side) (limit other value : Amount) → has_room_by side limit other ≡ false → is_broken_by side limit value ≡ false → is_broken_by side other value ≡ false
+tells_lesser AtLeast limit other value h b = most_in other value (most_trans (most_out other limit h) (most_out limit value b))
+tells_lesser AtMost limit other value h b = most_in value other (most_trans (most_out value limit b) (most_out limit other h))
+
+pub tells_greater : (side : Side) (limit other value : Amount) → has_room_by side limit other ≡ true → is_broken_by side other value ≡ false → is_broken_by side limit value ≡ false
+tells_greater AtLeast limit other value h b = most_in limit value (most_trans (less_most (less_out limit other h)) (most_out other value b))
+tells_greater AtMost limit other value h b = most_in value limit (most_trans (most_out value other b) (less_most (less_out other limit h)))
+
 pub not_less : (x : Amount) → LessOf x x → ⊥
 not_less x h = h.delta (le-refl x.main) (le-refl x.delta)
 

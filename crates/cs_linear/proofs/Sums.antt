@@ -11,36 +11,13 @@ use Rattle.std.proofs.lemmas.Bool.{ltb-true, lt-ltb}
 use Rattle.std.proofs.lemmas.Option.{slice_get_read}
 use Rattle.cs_linear.specs.declared.rows.First.{First}
 use Rattle.cs_linear.specs.declared.rows.Entry.{Entry}
-use Rattle.cs_linear.specs.Rows.{Assignment, Homes, AreFree, IsFree, total, multiple, factor_at, Ascends, ascends}
-use Rattle.cs_linear.specs.Merged.{rest_of, kept, with_entry, Goes, IsNext, AreBefore, AreBelow, IsAscent, IsMerging}
+use Rattle.cs_linear.specs.Rows.{Assignment, Homes, AreFree, IsFree, total, multiple, Ascends, ascends}
+use Rattle.cs_linear.specs.Merged.{rest_of, kept, Goes, IsNext, AreBefore, AreBelow, IsAscent, IsMerging}
 use Rattle.cs_linear.proofs.Arithmetic.{linear, plus_assoc, none_plus, plus_none, lowest_none, lowest_of_plus, lowest_of_times, none_times, lowest_zero, times_none}
-
--- factors
-
-by_test : {A : Type 0} (P : A → Type 0) (b : Bool) (x y : A) → P x → P y → P (if b then x else y)
-by_test P true x y p q = p
-by_test P false x y p q = q
 
 pub lowest_of_total : (es : List Entry) (a : Assignment) → lowest (total es a) ≡ total es a
 lowest_of_total [] a = lowest_none
 lowest_of_total (e ∷ es) a = lowest_of_plus _ _
-
-pub lowest_of_factor : (es : List Entry) (j : ℕ) → lowest (factor_at es j) ≡ factor_at es j
-lowest_of_factor [] j = lowest_none
-lowest_of_factor (e ∷ es) j = by_test (λ x. lowest x ≡ x) (nat_eq e.column j) _ _ (lowest_of_plus _ _) (lowest_of_factor es j)
-
-pub factor_begins : (es : List Entry) (j : ℕ) (f : Fraction) → f ≡ none → plus f (factor_at es j) ≡ factor_at es j
-factor_begins es j f e = ap (λ f. plus f (factor_at es j)) e ∙ none_plus (factor_at es j) ∙ lowest_of_factor es j
-
-by_bool : (b : Bool) (f g x : Fraction) → plus (if b then plus f g else f) x ≡ plus f (if b then plus g x else x)
-by_bool true f g x = plus_assoc f g x
-by_bool false f g x = refl
-
-pub factor_goes : (es : List Entry) (i j : ℕ) (e : Entry) (f : Fraction) → i < length es → plus (with_entry f (get_or es i e) j) (factor_at (drop (i + 1) es) j) ≡ plus f (factor_at (drop i es) j)
-factor_goes es i j e f lt =
-    ap (λ k. plus (with_entry f (get_or es i e) j) (factor_at (drop k es) j)) (add-one i)
-    ∙ by_bool (nat_eq (get_or es i e).column j) f (fraction (get_or es i e).factor) (factor_at (drop (suc i) es) j)
-    ∙ ap (λ xs. plus f (factor_at xs j)) (sym (drop-cons es i e lt))
 
 -- the rest without a column
 
@@ -77,7 +54,7 @@ raise : (m c : ℕ) (es : List Entry) → ((e : Entry) → slice_get es 0 ≡ So
 raise m c [] h a = tt
 raise m c (e ∷ es) h a = (let lt = h e refl in omega arith, a.1)
 
-whole_drop : (es : List Entry) (i : ℕ) (e : Entry) → i < length es → e ≡ get_or es i e → drop i es ≡ e ∷ drop (i + 1) es
+pub whole_drop : (es : List Entry) (i : ℕ) (e : Entry) → i < length es → e ≡ get_or es i e → drop i es ≡ e ∷ drop (i + 1) es
 whole_drop es i e lt is = drop-cons es i e lt ∙ ap₂ (λ (x : Entry) (k : ℕ). x ∷ drop k es) (sym is) (sym (add-one i))
 
 free_at : (homes : Homes) (es : List Entry) (i : ℕ) (e : Entry) → i < length es → e ≡ get_or es i e → AreFree homes es → IsFree homes e.column
@@ -192,7 +169,7 @@ merging_begins es left right is l r = record { from = 0; ascends = subst (Ascend
 
 -- what is left ascends without a column too
 
-ascends_less : (m n : ℕ) (es : List Entry) → m ≤ n → Ascends n es → Ascends m es
+pub ascends_less : (m n : ℕ) (es : List Entry) → m ≤ n → Ascends n es → Ascends m es
 ascends_less m n [] le h = tt
 ascends_less m n (e ∷ es) le h = (let lt = h.0 in omega arith, h.1)
 

@@ -1,5 +1,5 @@
 -- How a broken bound of a basic column is mended, or which bounds stand against it.
-use Rattle.std.specs.Prelude.{◌≡◌, ℕ, pos, Bool, true, false, List, Option, Some, slice_get, All}
+use Rattle.std.specs.Prelude.{◌≡◌, ℕ, pos, Bool, true, false, List, Option, Some, slice_get, All, length}
 use Rattle.vx_frac.specs.Fractions.{Fraction, none, full, minus}
 use Rattle.vx_frac.specs.Fraction.{fraction}
 use Rattle.vx_frac.specs.declared.Frac.{Frac}
@@ -7,6 +7,7 @@ use Rattle.cs_linear.specs.Numbers.{plus, times}
 use Rattle.cs_linear.specs.Amounts.{Amount, amount, has_room_by}
 use Rattle.cs_linear.specs.Rows.{Assignment, multiple, total}
 use Rattle.cs_linear.specs.Contradictions.{columns, IsBlocking, IsTable}
+use Rattle.cs_linear.specs.Limits.{AreTold}
 use Rattle.cs_linear.specs.declared.bounds.Side.{Side}
 use Rattle.cs_linear.specs.declared.bounds.Side.TheVariants.{AtLeast, AtMost}
 use Rattle.cs_linear.specs.declared.bounds.Bound.{Bound}
@@ -30,6 +31,11 @@ toward AtMost = full
 pub record AreLimits (bounds : List Bound) (l : Limits) : Type 0 where
   pub lower : IsTable AtLeast bounds l.lower.items
   pub upper : IsTable AtMost bounds l.upper.items
+
+-- each bound is told by the limit of its side at its column
+pub record AreTight (bounds : List Bound) (l : Limits) : Type 0 where
+  pub lower : AreTold (length bounds) AtLeast bounds l.lower.items
+  pub upper : AreTold (length bounds) AtMost bounds l.upper.items
 
 -- a bound that blocks is the limit, and the value can't go on toward it
 abbrev pub IsBlock : Option Bound → Frac → Amount → Judged → Type 0

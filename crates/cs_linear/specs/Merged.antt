@@ -1,14 +1,10 @@
 -- How two sums are merged, and what a sum is without a column.
 use Rattle.std.specs.Prelude.{◌≡◌, ℕ, suc, nat_eq, if◌then◌else◌, List, [], ◌∷◌, ◌++◌, Some, slice_get, All, ◌<◌, ◌≤◌, ◌+◌, length, drop}
 use Rattle.vx_frac.specs.Fractions.{Fraction}
-use Rattle.vx_frac.specs.Fraction.{fraction}
 use Rattle.cs_linear.specs.Numbers.{plus, times}
-use Rattle.cs_linear.specs.Rows.{Assignment, Homes, IsFree, AreFree, Ascends, multiple, total}
+use Rattle.cs_linear.specs.Rows.{Assignment, Homes, IsFree, AreFree, Ascends, factor_at, multiple, total}
 use Rattle.cs_linear.specs.declared.rows.Entry.{Entry}
 use Rattle.cs_linear.specs.declared.rows.First.{First}
-
-abbrev pub with_entry : Fraction → Entry → ℕ → Fraction
-with_entry f e j = if nat_eq e.column j then plus f (fraction e.factor) else f
 
 -- a sum without a column
 abbrev pub rest_of : List Entry → ℕ → List Entry
@@ -17,6 +13,13 @@ rest_of (e ∷ es) j = if nat_eq e.column j then rest_of es j else e ∷ rest_of
 
 abbrev pub kept : List Entry → Entry → ℕ → List Entry
 kept es e j = if nat_eq e.column j then es else es ++ e ∷ []
+
+-- none of the first i entries is of this column
+pub record IsLooked (es : List Entry) (j : ℕ) (i : ℕ) : Type 0 where
+  pub from : ℕ
+  pub ascends : Ascends from (drop i es)
+  pub factor : factor_at (drop i es) j ≡ factor_at es j
+  pub rest : rest_of (drop i es) j ≡ drop i es → rest_of es j ≡ es
 
 abbrev pub AreBelow : ℕ → List Entry → Type 0
 AreBelow n es = All (λ e. e.column < n) es

@@ -52,6 +52,9 @@ abbrev pub ascends : ℕ → List Entry → Bool
 ascends n [] = true
 ascends n (e ∷ es) = nat_lt n (suc e.column) && ascends (suc e.column) es
 
+abbrev pub AllAscend : List Row → Type 0
+AllAscend rows = (i : ℕ) (r : Row) → slice_get rows i ≡ Some r → Ascends 0 r.entries.items
+
 -- sums are over free columns that ascend, and each basic column knows its row
 pub record IsTableau (rows : List Row) (homes : Homes) : Type 0 where
   pub ascends : (i : ℕ) (r : Row) → slice_get rows i ≡ Some r → ascends 0 r.entries.items ≡ true

@@ -5,6 +5,7 @@ ghost use Rattle.cs_linear.specs.Numbers.{IsCause};
 ghost use Rattle.cs_linear.specs.Rows.{IsTableau, IsFree, AreAlike, Solves, factor_at};
 ghost use Rattle.cs_linear.specs.Values.{values, AreMoved};
 ghost use Rattle.cs_linear.specs.Amounts.{amount};
+ghost use Rattle.cs_linear.specs.Limits.{AreMarked};
 ghost use Rattle.cs_linear.specs.Views.{width_of, rows_of, bounds_of, value_of};
 ghost use Rattle.cs_linear.specs.Added.{IsAdded};
 ghost use Rattle.std.specs.Vec.{vec_capacity};
@@ -15,7 +16,7 @@ use crate::numbers::{Stop, zero};
 use crate::pivot::{rehome, solved, turn_all};
 use crate::rows::{Entry, Row};
 use crate::tableau::Tableau;
-use crate::values::all_moved;
+use crate::values::{carry_out, mark, moves};
 use std::alloc::Global;
 use vx_frac::Frac;
 
@@ -90,6 +91,8 @@ impl Tableau {
         ensures rows { self.new.originals ≡ self.old.originals }
         ensures width { length self.new.homes.items ≡ length self.old.homes.items }
         ensures bounds { self.new.bounds ≡ self.old.bounds }
+        ensures mains { self.new.mains ≡ self.old.mains }
+        ensures deltas { self.new.deltas ≡ self.old.deltas }
         ensures cause { IfErr result IsCause }
     {
         let basic = self.rows[at].basic;
@@ -99,27 +102,32 @@ impl Tableau {
         Ok(())
     }
 
-    /// Moves a free column by a number and a multiple of the small one, and the basic columns with it.
+    /// Moves a free column by a number and a multiple of the small one, and the basic columns with it. Marks what moved.
     pub(crate) fn move_free(
         &mut self,
         alloc: Global,
         column: u32,
         main: Frac,
         delta: Frac,
+        marks: &mut Vec<bool>,
     ) -> Result<(), Stop>
-        requires { IsFree self.old.homes.items column }
+        requires free { IsFree self.old.homes.items column }
+        requires marks { length marks.old.items ≡ length self.old.homes.items }
         ensures rows { self.new.originals ≡ self.old.originals }
         ensures now { self.new.rows ≡ self.old.rows }
         ensures homes { self.new.homes ≡ self.old.homes }
         ensures bounds { self.new.bounds ≡ self.old.bounds }
         ensures mains { OnOk result (AreMoved self.old.rows.items self.old.homes.items column (fraction main) self.old.mains.items self.new.mains.items) }
         ensures deltas { OnOk result (AreMoved self.old.rows.items self.old.homes.items column (fraction delta) self.old.deltas.items self.new.deltas.items) }
+        ensures marked { AreMarked self.old.mains.items self.old.deltas.items self.new.mains.items self.new.deltas.items marks.old.items marks.new.items }
         ensures cause { IfErr result IsCause }
     {
-        let mains = all_moved(alloc, &self.rows, &self.homes, column, main, &self.mains)?;
-        let deltas = all_moved(alloc, &self.rows, &self.homes, column, delta, &self.deltas)?;
-        self.mains = mains;
-        self.deltas = deltas;
+        let mains = moves(alloc, &self.rows, column, main, &self.mains)?;
+        let deltas = moves(alloc, &self.rows, column, delta, &self.deltas)?;
+        carry_out(&mut self.mains, &mains);
+        mark(marks, &mains);
+        carry_out(&mut self.deltas, &deltas);
+        mark(marks, &deltas);
         Ok(())
     }
 

@@ -1,10 +1,11 @@
-//! By column the tightest bounds that are asserted, and the first bound that is broken.
-ghost use Rattle.std.specs.Prelude.{◌≡◌, ◌<◌, length, List, All, IfOk, IfErr, IfSome, IfNone, IsTrue, slice_get, Some, true};
+//! By column the tightest bounds that are asserted, and the first of them that is broken.
+ghost use Rattle.std.specs.Prelude.{◌≡◌, ◌<◌, ℕ, length, List, All, IfOk, IfErr, IfSome, IfNone, IsTrue, slice_get, Some, true};
 ghost use Rattle.cs_linear.specs.Numbers.{IsCause};
 ghost use Rattle.cs_linear.specs.Values.{values};
 ghost use Rattle.cs_linear.specs.Amounts.{amount, is_broken_by};
-ghost use Rattle.cs_linear.specs.Contradictions.{IsTable, IsAmong, Meets, is_broken, amount_at};
-ghost use Rattle.cs_linear.specs.Limits.{IsEntered, IsLesser};
+ghost use Rattle.cs_linear.specs.Contradictions.{IsTable};
+ghost use Rattle.cs_linear.specs.Checks.{AreLimits, AreTight};
+ghost use Rattle.cs_linear.specs.Limits.{is_tighter, IsEntered, AreTold, IsWithin, IsClear, IsBeyond, ArePending};
 
 use crate::bounds::{Bound, Side, Value};
 use crate::numbers::Stop;
@@ -20,7 +21,8 @@ pub struct Limits {
 
 /// Whether two sides are one.
 fn is_same(side: Side, other: Side) -> bool
-    ensures { IsTrue result → side ≡ other }
+    ensures same { IsTrue result → side ≡ other }
+    ensures apart { ¬ (IsTrue result) → ¬ (side ≡ other) }
 {
     match (side, other) {
         (Side::AtLeast, Side::AtLeast) => true,
@@ -31,7 +33,9 @@ fn is_same(side: Side, other: Side) -> bool
 }
 
 /// Whether a bound says more than another one of its side, or there is no other.
-fn is_tighter(bound: Bound, other: Option<Bound>) -> bool {
+fn is_tighter(bound: Bound, other: Option<Bound>) -> bool
+    ensures { result ≡ is_tighter bound other }
+{
     match other {
         None => true,
         Some(other) => other.has_room(bound.limit),
@@ -63,6 +67,7 @@ fn table_of(
     requires { All (λ b. b.column < width) bounds.now }
     ensures count { IfOk result (λ table. length table.items ≡ width) }
     ensures value { IfOk result (λ table. IsTable side bounds.now table.items) }
+    ensures told { IfOk result (λ table. AreTold (length bounds.now) side bounds.now table.items) }
     ensures cause { IfErr result IsCause }
 {
     let mut table = vec![in alloc; None; width]?;
@@ -70,6 +75,22 @@ fn table_of(
         enter(&mut table, *bound, side);
     }
     Ok(table)
+}
+
+/// The limit, if a value is beyond it.
+fn broken_of(limit: Option<Bound>, value: Value) -> Option<Bound>
+    ensures some { IfSome result (λ b. (limit ≡ Some b) × (is_broken_by b.side (amount b.limit) (amount value) ≡ true)) }
+    ensures none { IfNone result (IsWithin limit (amount value)) }
+{
+    match limit {
+        None => None,
+        Some(bound) => {
+            if bound.is_broken(value) {
+                return Some(bound);
+            }
+            None
+        }
+    }
 }
 
 impl Limits {
@@ -80,50 +101,60 @@ impl Limits {
         requires { All (λ b. b.column < width) bounds.now }
         ensures lower_count { IfOk result (λ l. length l.lower.items ≡ width) }
         ensures upper_count { IfOk result (λ l. length l.upper.items ≡ width) }
-        ensures lower { IfOk result (λ l. IsTable sides.AtLeast bounds.now l.lower.items) }
-        ensures upper { IfOk result (λ l. IsTable sides.AtMost bounds.now l.upper.items) }
+        ensures limits { IfOk result (AreLimits bounds.now) }
+        ensures tight { IfOk result (AreTight bounds.now) }
         ensures cause { IfErr result IsCause }
     {
         let lower = table_of(alloc, bounds, Side::AtLeast, width)?;
         let upper = table_of(alloc, bounds, Side::AtMost, width)?;
         Ok(Limits { lower, upper })
     }
-}
 
-/// Of a broken bound so far and one more, the one of the lesser column.
-fn lesser(best: Option<Bound>, bound: Bound, broken: bool) -> Option<Bound>
-    ensures { IsLesser best bound broken result }
-{
-    if !broken {
-        return best;
-    }
-    match best {
-        None => Some(bound),
-        Some(other) => {
-            if bound.column < other.column {
-                return Some(bound);
-            }
-            best
+    /// The limit of column k that its value is beyond.
+    fn broken_at(&self, k: usize, mains: &[Frac], deltas: &[Frac]) -> Option<Bound>
+        requires lower { k < length self.now.lower.items }
+        requires upper { k < length self.now.upper.items }
+        requires mains { k < length mains.now }
+        requires deltas { k < length deltas.now }
+        ensures some { IfSome result (IsBeyond self.now (values mains.now) (values deltas.now)) }
+        ensures none { IfNone result (IsClear self.now (values mains.now) (values deltas.now) k) }
+    {
+        let value = Value {
+            main: mains[k],
+            delta: deltas[k],
+        };
+        match broken_of(self.lower[k], value) {
+            Some(bound) => Some(bound),
+            None => broken_of(self.upper[k], value),
         }
     }
-}
 
-/// A broken bound of the least column.
-pub fn first_broken(bounds: &[Bound], mains: &[Frac], deltas: &[Frac]) -> Option<Bound>
-    requires mains { All (λ b. b.column < length mains.now) bounds.now }
-    requires deltas { All (λ b. b.column < length deltas.now) bounds.now }
-    ensures among { IfSome result (λ b. IsAmong b bounds.now) }
-    ensures broken { IfSome result (λ b. is_broken (values mains.now) (values deltas.now) b ≡ true) }
-    ensures none { IfNone result (Meets bounds.now (values mains.now) (values deltas.now)) }
-{
-    let mut best = None;
-    for bound in bounds {
-        let at = bound.column as usize;
-        let value = Value {
-            main: mains[at],
-            delta: deltas[at],
-        };
-        best = lesser(best, *bound, bound.is_broken(value));
+    /// A limit of the least column whose value is beyond it. Only marked columns are compared; those that turn out to meet
+    /// their limits lose the mark.
+    pub fn first_broken(
+        &self,
+        marks: &mut Vec<bool>,
+        mains: &[Frac],
+        deltas: &[Frac],
+    ) -> Option<Bound>
+        requires lower { length self.now.lower.items ≡ length marks.old.items }
+        requires upper { length self.now.upper.items ≡ length marks.old.items }
+        requires mains { length mains.now ≡ length marks.old.items }
+        requires deltas { length deltas.now ≡ length marks.old.items }
+        requires pending { ArePending self.now (values mains.now) (values deltas.now) marks.old.items }
+        ensures count { length marks.new.items ≡ length marks.old.items }
+        ensures pending { ArePending self.now (values mains.now) (values deltas.now) marks.new.items }
+        ensures some { IfSome result (IsBeyond self.now (values mains.now) (values deltas.now)) }
+        ensures none { IfNone result ((k : ℕ) → k < length marks.old.items → IsClear self.now (values mains.now) (values deltas.now) k) }
+    {
+        for k in 0..marks.len() {
+            if marks[k] {
+                if let Some(bound) = self.broken_at(k, mains, deltas) {
+                    return Some(bound);
+                }
+                marks[k] = false;
+            }
+        }
+        None
     }
-    best
 }

@@ -1,18 +1,19 @@
 //! One broken bound is mended, or there is a contradiction; and the check, which goes on until none is broken.
-ghost use Rattle.std.specs.Prelude.{◌≡◌, ◌<◌, ◌≤◌, length, List, All, IfOk, IfErr, IfSome, OnOk, slice_get, Some, true, pos, ℕ, ◌-◌};
+ghost use Rattle.std.specs.Prelude.{◌≡◌, ◌<◌, ◌≤◌, length, List, All, IfOk, IfErr, IfSome, OnOk, slice_get, Some, true, false, pos, ℕ, ◌-◌};
 ghost use Rattle.vx_frac.specs.Fraction.{fraction};
 ghost use Rattle.cs_meter.specs.Units.{limit};
 ghost use Rattle.cs_linear.specs.Numbers.{IsCause};
 ghost use Rattle.cs_linear.specs.Rows.{IsFree};
 ghost use Rattle.cs_linear.specs.Values.{values};
 ghost use Rattle.cs_linear.specs.Contradictions.{IsAmong, is_broken, IsContradiction};
-ghost use Rattle.cs_linear.specs.Checks.{AreLimits};
+ghost use Rattle.cs_linear.specs.Checks.{AreLimits, AreTight};
+ghost use Rattle.cs_linear.specs.Limits.{AreMarked, ArePending};
 ghost use Rattle.cs_linear.specs.Views.{width_of, rows_of, bounds_of};
 ghost use Rattle.cs_linear.specs.Results.{IsChecked, IsUndecided, IsStep, IsEntryOf};
 
 use crate::bounds::{Bound, Part, Value};
 use crate::check::{Way, examine, own, toward};
-use crate::limits::{Limits, first_broken};
+use crate::limits::Limits;
 use crate::numbers::{Stop, reciprocal, times};
 use crate::rows::Entry;
 use crate::tableau::Tableau;
@@ -68,32 +69,53 @@ fn difference(limit: Frac, value: Frac) -> Result<Frac, Stop>
     }
 }
 
+/// A mark for each column.
+fn all_marked(alloc: Global, width: usize) -> Result<Vec<bool>, Stop>
+    ensures count { IfOk result (λ marks. length marks.items ≡ width) }
+    ensures value { IfOk result (λ marks. (k : ℕ) → ¬ (slice_get marks.items k ≡ Some false)) }
+    ensures cause { IfErr result IsCause }
+{
+    let marks = vec![in alloc; true; width]?;
+    Ok(marks)
+}
+
 impl Tableau {
     ghost use Rattle.std.specs.Prelude.{ℕ};
 
     /// Moves a free column to the limit of its bound.
-    fn move_to(&mut self, alloc: Global, bound: Bound) -> Result<(), Stop>
-        requires { IsFree self.old.homes.items bound.column }
+    fn move_to(&mut self, alloc: Global, bound: Bound, marks: &mut Vec<bool>) -> Result<(), Stop>
+        requires free { IsFree self.old.homes.items bound.column }
+        requires marks { length marks.old.items ≡ length self.old.homes.items }
         ensures rows { self.new.originals ≡ self.old.originals }
         ensures homes { self.new.homes ≡ self.old.homes }
         ensures bounds { self.new.bounds ≡ self.old.bounds }
+        ensures marked { AreMarked self.old.mains.items self.old.deltas.items self.new.mains.items self.new.deltas.items marks.old.items marks.new.items }
         ensures cause { IfErr result IsCause }
     {
         let value = self.value(bound.column);
         let main = difference(bound.limit.main, value.main)?;
         let delta = difference(bound.limit.delta, value.delta)?;
-        self.move_free(alloc, bound.column, main, delta)
+        self.move_free(alloc, bound.column, main, delta, marks)
     }
 
     /// Moves a column so that a basic one comes to its limit, and lets them change places.
-    fn exchange(&mut self, alloc: Global, bound: Bound, at: usize, entry: Entry) -> Result<(), Stop>
+    fn exchange(
+        &mut self,
+        alloc: Global,
+        bound: Bound,
+        at: usize,
+        entry: Entry,
+        marks: &mut Vec<bool>,
+    ) -> Result<(), Stop>
         requires known { bound.column < length self.old.homes.items }
         requires row { at < length self.old.rows.items }
         requires entry { IsEntryOf self.old.rows.items at entry }
         requires some { ¬ ((fraction entry.factor).numerator ≡ pos 0) }
+        requires marks { length marks.old.items ≡ length self.old.homes.items }
         ensures rows { self.new.originals ≡ self.old.originals }
         ensures width { length self.new.homes.items ≡ length self.old.homes.items }
         ensures bounds { self.new.bounds ≡ self.old.bounds }
+        ensures marked { AreMarked self.old.mains.items self.old.deltas.items self.new.mains.items self.new.deltas.items marks.old.items marks.new.items }
         ensures cause { IfErr result IsCause }
     {
         let value = self.value(bound.column);
@@ -102,7 +124,7 @@ impl Tableau {
         let delta = difference(bound.limit.delta, value.delta)?;
         let main = times(main, inverse)?;
         let delta = times(delta, inverse)?;
-        self.move_free(alloc, entry.column, main, delta)?;
+        self.move_free(alloc, entry.column, main, delta, marks)?;
         self.pivot(alloc, at, entry.column, entry.factor)
     }
 
@@ -113,6 +135,7 @@ impl Tableau {
         bound: Bound,
         limits: &Limits,
         at: usize,
+        marks: &mut Vec<bool>,
     ) -> Result<Option<Conflict>, Stop>
         requires home { slice_get self.old.homes.items bound.column ≡ Some (Some at) }
         requires among { IsAmong bound self.old.bounds.items }
@@ -120,9 +143,11 @@ impl Tableau {
         requires limits { AreLimits self.old.bounds.items limits.now }
         requires lower { length limits.now.lower.items ≡ length self.old.homes.items }
         requires upper { length limits.now.upper.items ≡ length self.old.homes.items }
+        requires marks { length marks.old.items ≡ length self.old.homes.items }
         ensures rows { self.new.originals ≡ self.old.originals }
         ensures width { length self.new.homes.items ≡ length self.old.homes.items }
         ensures bounds { self.new.bounds ≡ self.old.bounds }
+        ensures marked { AreMarked self.old.mains.items self.old.deltas.items self.new.mains.items self.new.deltas.items marks.old.items marks.new.items }
         ensures conflict { IfOk result (λ o. IfSome o (λ c. IsContradiction self.old.originals.items self.old.bounds.items c.parts.items)) }
         ensures cause { IfErr result IsCause }
     {
@@ -136,7 +161,7 @@ impl Tableau {
             &self.deltas,
         )? {
             Way::Moves(entry) => {
-                self.exchange(alloc, bound, at, entry)?;
+                self.exchange(alloc, bound, at, entry, marks)?;
                 Ok(None)
             }
             Way::Stuck(parts) => {
@@ -156,6 +181,7 @@ impl Tableau {
         alloc: Global,
         bound: Bound,
         limits: &Limits,
+        marks: &mut Vec<bool>,
     ) -> Result<Option<Conflict>, Stop>
         requires known { bound.column < length self.old.homes.items }
         requires among { IsAmong bound self.old.bounds.items }
@@ -163,41 +189,54 @@ impl Tableau {
         requires limits { AreLimits self.old.bounds.items limits.now }
         requires lower { length limits.now.lower.items ≡ length self.old.homes.items }
         requires upper { length limits.now.upper.items ≡ length self.old.homes.items }
+        requires marks { length marks.old.items ≡ length self.old.homes.items }
         ensures rows { self.new.originals ≡ self.old.originals }
         ensures width { length self.new.homes.items ≡ length self.old.homes.items }
         ensures bounds { self.new.bounds ≡ self.old.bounds }
+        ensures marked { AreMarked self.old.mains.items self.old.deltas.items self.new.mains.items self.new.deltas.items marks.old.items marks.new.items }
         ensures conflict { IfOk result (λ o. IfSome o (λ c. IsContradiction self.old.originals.items self.old.bounds.items c.parts.items)) }
         ensures cause { IfErr result IsCause }
     {
         match self.homes[bound.column as usize] {
             None => {
-                self.move_to(alloc, bound)?;
+                self.move_to(alloc, bound, marks)?;
                 Ok(None)
             }
-            Some(at) => self.mend_basic(alloc, bound, limits, at),
+            Some(at) => self.mend_basic(alloc, bound, limits, at, marks),
         }
     }
 
     /// Spends a unit on the first broken bound, if one is.
-    fn turn(&mut self, alloc: Global, meter: &mut Meter, limits: &Limits) -> Result<Step, Undecided>
+    fn turn(
+        &mut self,
+        alloc: Global,
+        meter: &mut Meter,
+        limits: &Limits,
+        marks: &mut Vec<bool>,
+    ) -> Result<Step, Undecided>
         requires limits { AreLimits self.old.bounds.items limits.now }
+        requires tight { AreTight self.old.bounds.items limits.now }
+        requires pending { ArePending limits.now (values self.old.mains.items) (values self.old.deltas.items) marks.old.items }
         requires lower { length limits.now.lower.items ≡ length self.old.homes.items }
         requires upper { length limits.now.upper.items ≡ length self.old.homes.items }
+        requires marks { length marks.old.items ≡ length self.old.homes.items }
         ensures rows { self.new.originals ≡ self.old.originals }
         ensures width { length self.new.homes.items ≡ length self.old.homes.items }
         ensures bounds { self.new.bounds ≡ self.old.bounds }
+        ensures count { length marks.new.items ≡ length marks.old.items }
+        ensures pending { ArePending limits.now (values self.new.mains.items) (values self.new.deltas.items) marks.new.items }
         ensures turn { IfOk result (IsStep self.new meter.old.spent meter.new.spent) }
         ensures spent { meter.old.spent ≤ meter.new.spent }
         ensures undecided { IfErr result (IsUndecided meter.new.spent) }
     {
-        match first_broken(&self.bounds, &self.mains, &self.deltas) {
+        match limits.first_broken(marks, &self.mains, &self.deltas) {
             None => Ok(Step::Ended(Checked::Feasible)),
             Some(bound) => {
                 match meter.spend() {
                     Ok(()) => {}
                     Err(Budget) => return Err(Undecided::Budget),
                 }
-                match self.mend(alloc, bound, limits) {
+                match self.mend(alloc, bound, limits, marks) {
                     Ok(None) => Ok(Step::On),
                     Ok(Some(conflict)) => Ok(Step::Ended(Checked::Conflict(conflict))),
                     Err(stop) => Err(cause_of(stop)),
@@ -224,8 +263,12 @@ impl Tableau {
             Ok(limits) => limits,
             Err(stop) => return Err(cause_of(stop)),
         };
+        let mut marks = match all_marked(alloc, self.homes.len()) {
+            Ok(marks) => marks,
+            Err(stop) => return Err(cause_of(stop)),
+        };
         loop {
-            match self.turn(alloc, meter, &limits)? {
+            match self.turn(alloc, meter, &limits, &mut marks)? {
                 Step::Ended(checked) => return Ok(checked),
                 Step::On => {}
             }

@@ -1,13 +1,12 @@
 //! Pivots: a row is solved for one of its free columns, which all others take from it.
-ghost use Rattle.std.specs.Prelude.{◌≡◌, ◌<◌, length, IfOk, IfErr, OnOk, OnErr, pos, false};
+ghost use Rattle.std.specs.Prelude.{◌≡◌, ◌<◌, length, IfOk, IfErr, OnOk, OnErr, pos};
 ghost use Rattle.vx_frac.specs.Fraction.{fraction};
 ghost use Rattle.cs_linear.specs.Numbers.{IsCause};
-ghost use Rattle.cs_linear.specs.Rows.{factor_at};
-ghost use Rattle.cs_linear.specs.Merged.{rest_of};
+ghost use Rattle.cs_linear.specs.Rows.{factor_at, Ascends, AllAscend};
 ghost use Rattle.cs_linear.specs.Pivots.{IsSolved, IsReplaced, IsTurned, AreTurned, ArePlanned, IsRehomed, chosen, written, carried};
 
 use crate::numbers::{Stop, minus_one, reciprocal, times};
-use crate::rows::{Entry, Row, add_multiple, coefficient, without};
+use crate::rows::{Entry, Row, add_multiple, factor_of, without};
 use std::alloc::Global;
 use vx_frac::Frac;
 
@@ -33,13 +32,13 @@ pub fn solved(alloc: Global, row: &Row, column: u32, factor: Frac) -> Result<Row
     })
 }
 
-/// A row in which a solved column is replaced by its sum.
-fn replaced(alloc: Global, row: &Row, column: u32, solved: &Row) -> Result<Row, Stop>
-    requires { solved.now.basic ≡ column }
+/// A row in which a solved column, which has this factor, is replaced by its sum.
+fn replaced(alloc: Global, row: &Row, column: u32, factor: Frac, solved: &Row) -> Result<Row, Stop>
+    requires basic { solved.now.basic ≡ column }
+    requires factor { fraction factor ≡ factor_at row.now.entries.items column }
     ensures value { IfOk result (λ n. IsReplaced row.now column solved.now n) }
     ensures cause { IfErr result IsCause }
 {
-    let factor = coefficient(&row.entries, column)?;
     let rest = without(alloc, &row.entries, column)?;
     let entries = add_multiple(alloc, &rest, factor, &solved.entries)?;
     Ok(Row {
@@ -61,18 +60,6 @@ pub fn copied(row: &Row) -> Result<Row, Stop>
     })
 }
 
-/// Whether a column stands in a sum.
-fn mentions(entries: &[Entry], column: u32) -> bool
-    ensures { result ≡ false → rest_of entries.now column ≡ entries.now }
-{
-    for entry in entries {
-        if entry.column == column {
-            return true;
-        }
-    }
-    false
-}
-
 /// What is to stand in the place of row i; nothing where it stays.
 fn plan(
     alloc: Global,
@@ -82,7 +69,8 @@ fn plan(
     column: u32,
     solved: &Row,
 ) -> Result<Option<Row>, Stop>
-    requires { solved.now.basic ≡ column }
+    requires basic { solved.now.basic ≡ column }
+    requires ascends { Ascends 0 row.now.entries.items }
     ensures value { IfOk result (λ o. IsTurned at column solved.now i row.now (chosen o row.now)) }
     ensures cause { IfErr result IsCause }
 {
@@ -90,11 +78,13 @@ fn plan(
         let row = copied(solved)?;
         return Ok(Some(row));
     }
-    if !mentions(&row.entries, column) {
-        return Ok(None);
+    match factor_of(&row.entries, column) {
+        None => Ok(None),
+        Some(factor) => {
+            let row = replaced(alloc, row, column, factor, solved)?;
+            Ok(Some(row))
+        }
     }
-    let row = replaced(alloc, row, column, solved)?;
-    Ok(Some(row))
 }
 
 /// What is to stand in the place of each row.
@@ -105,7 +95,8 @@ fn plans(
     column: u32,
     solved: &Row,
 ) -> Result<Vec<Option<Row>>, Stop>
-    requires { solved.now.basic ≡ column }
+    requires basic { solved.now.basic ≡ column }
+    requires ascend { AllAscend rows.now }
     ensures value { IfOk result (λ plans. ArePlanned at column solved.now rows.now plans.items) }
     ensures cause { IfErr result IsCause }
 {
@@ -147,7 +138,8 @@ pub fn turn_all(
     column: u32,
     solved: &Row,
 ) -> Result<(), Stop>
-    requires { solved.now.basic ≡ column }
+    requires basic { solved.now.basic ≡ column }
+    requires ascend { AllAscend rows.old.items }
     ensures value { OnOk result (AreTurned at column solved.now rows.old.items rows.new.items) }
     ensures kept { OnErr result (rows.new.items ≡ rows.old.items) }
     ensures cause { IfErr result IsCause }

@@ -1,12 +1,12 @@
 //! Sums of columns and rows, as sorted lists of factors.
-ghost use Rattle.std.specs.Prelude.{◌≡◌, ◌<◌, ◌≤◌, ◌+◌, ℕ, List, length, drop, All, IfOk, IfErr, OnOk, Some, slice_get};
+ghost use Rattle.std.specs.Prelude.{◌≡◌, ◌<◌, ◌≤◌, ◌+◌, ℕ, List, length, drop, All, IfOk, IfErr, IfSome, IfNone, OnOk, Some, slice_get};
 ghost use Rattle.vx_frac.specs.Fraction.{fraction};
 ghost use Rattle.vx_frac.specs.Fractions.{none};
 ghost use Rattle.cs_linear.specs.Numbers.{plus, times, IsCause};
 ghost use Rattle.cs_linear.specs.Rows.{Assignment, Homes, AreFree, IsFree, multiple, total, factor_at, Ascends};
-ghost use Rattle.cs_linear.specs.Merged.{with_entry, kept, rest_of, Goes, IsNext, AreOfOne, AreBefore};
+ghost use Rattle.cs_linear.specs.Merged.{kept, rest_of, Goes, IsNext, AreOfOne, AreBefore};
 
-use crate::numbers::{Stop, plus, times, zero};
+use crate::numbers::{Stop, plus, times};
 use std::alloc::Global;
 use vx_frac::Frac;
 
@@ -37,27 +37,22 @@ struct First {
     right: usize,
 }
 
-/// A factor, and that of an entry of this column beside it.
-fn with_entry(factor: Frac, entry: Entry, column: u32) -> Result<Frac, Stop>
-    ensures value { IfOk result (λ f. fraction f ≡ with_entry (fraction factor) entry column) }
-    ensures cause { IfErr result IsCause }
+/// The factor of a column in a sum; nothing where the sum doesn't have the column.
+pub fn factor_of(entries: &[Entry], column: u32) -> Option<Frac>
+    requires { Ascends 0 entries.now }
+    ensures some { IfSome result (λ f. fraction f ≡ factor_at entries.now column) }
+    ensures nothing { IfNone result (factor_at entries.now column ≡ none) }
+    ensures rest { IfNone result (rest_of entries.now column ≡ entries.now) }
 {
-    if entry.column == column {
-        return plus(factor, entry.factor);
-    }
-    Ok(factor)
-}
-
-/// The factor of a column in a sum.
-pub fn coefficient(entries: &[Entry], column: u32) -> Result<Frac, Stop>
-    ensures value { IfOk result (λ f. fraction f ≡ factor_at entries.now column) }
-    ensures cause { IfErr result IsCause }
-{
-    let mut factor = zero();
     for entry in entries {
-        factor = with_entry(factor, *entry, column)?;
+        if entry.column == column {
+            return Some(entry.factor);
+        }
+        if entry.column > column {
+            return None;
+        }
     }
-    Ok(factor)
+    None
 }
 
 /// Puts an entry behind a sum, unless it is of this column.

@@ -7,8 +7,8 @@ use Rattle.cs_linear.proofs.Sums.{ascends_out}
 use Rattle.cs_linear.proofs.Conflicts.{free_at, factor_is}
 use Rattle.cs_linear.proofs.tableau.Tableau.exchange.Goals as goal
 
-pub move_free-requires : goal.move_free-requires
-move_free-requires c =
+pub move_free-requires-clause-free : goal.move_free-requires-clause-free
+move_free-requires-clause-free c =
     let s = c.args.self.now in
     let e = c.requires.entry in
     free_at s.homes.items e.row.entries.items e.place c.args.entry (s.tableau.free c.args.at e.row e.here) e.entry

@@ -6,6 +6,7 @@ use Rattle.cs_linear.specs.Values.{values}
 use Rattle.cs_linear.specs.Pivots.{IsRehomed}
 use Rattle.cs_linear.proofs.Lists.{some_is, read_as}
 use Rattle.cs_linear.proofs.Added.{same_tableau, same_alike, same_solves}
+use Rattle.cs_linear.proofs.Following.{all_ascend}
 use Rattle.cs_linear.proofs.Turned.{turned_there, turned_alike, turned_tableau}
 use Rattle.cs_linear.proofs.tableau.Tableau.pivot.Goals as goal
 
@@ -16,6 +17,9 @@ rehome-requires c =
       free = slice_get_within s.homes.items c.index.result.now.basic _ (s.tableau.basic c.args.at c.index.result.now (read_as s.rows.items c.args.at c.index.result.now c.requires.row c.index.ensures));
       basic = slice_get_within s.homes.items c.args.column _ c.requires.column;
     }
+
+pub turn_all-requires-clause-ascend : goal.turn_all-requires-clause-ascend
+turn_all-requires-clause-ascend c = all_ascend c.args.self.now.rows.items c.args.self.now.rows.items c.args.self.now.homes.items refl c.args.self.now.tableau
 
 pub invariant_of-self : goal.invariant_of-self
 invariant_of-self c =

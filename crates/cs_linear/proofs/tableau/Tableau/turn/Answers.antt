@@ -1,12 +1,20 @@
 use Rattle.cs_linear.specs.declared.bounds.Bound.{Bound}
 use Rattle.cs_linear.specs.declared.rows.Row.{Row}
-use Rattle.vx_frac.specs.declared.Frac.{Frac}
 use Rattle.cs_linear.proofs.Conflicts.{among_known}
-use Rattle.cs_linear.specs.Contradictions.{IsAmong, is_broken, IsContradiction}
-use Rattle.std.proofs.Common.{subst, length, ap₂, sym, ◌∙◌, List, Vec, Global, refl, arith}
+use Rattle.cs_linear.specs.Contradictions.{IsContradiction}
+use Rattle.std.proofs.Common.{subst, length, ap, sym, ◌<◌, ◌∙◌, Vec, Global, refl, arith}
 use Rattle.cs_linear.specs.Values.{values}
-use Rattle.cs_linear.proofs.Tightest.{meets_as}
+use Rattle.cs_linear.proofs.Tightest.{all_meet, beyond_is, clear_as, pending_as, beyond_as, still_pending}
 use Rattle.cs_linear.proofs.tableau.Tableau.turn.Goals as goal
+
+pub first_broken-requires-clause-mains : goal.first_broken-requires-clause-mains
+first_broken-requires-clause-mains c = ap length c.deref.ensures.value ∙ c.args.self.now.same_mains ∙ sym c.requires.marks
+
+pub first_broken-requires-clause-deltas : goal.first_broken-requires-clause-deltas
+first_broken-requires-clause-deltas c = ap length c.deref-2.ensures.value ∙ c.args.self.now.same_deltas ∙ sym c.requires.marks
+
+pub first_broken-requires-clause-pending : goal.first_broken-requires-clause-pending
+first_broken-requires-clause-pending c = pending_as c.args.limits.now c.args.marks.now.items (sym c.deref.ensures.value) (sym c.deref-2.ensures.value) c.requires.pending
 
 pub returns-in-None-clause-turn : goal.returns-in-None-clause-turn
 returns-in-None-clause-turn c =
@@ -14,7 +22,8 @@ returns-in-None-clause-turn c =
     record {
       mains = (s.alike (values s.mains.items)).1 s.mains_solve;
       deltas = (s.alike (values s.deltas.items)).1 s.deltas_solve;
-      bounds = meets_as c.deref.ensures.value c.deref-2.ensures.value c.deref-3.ensures.value c.in-None.ensures.none;
+      bounds = all_meet s.bounds.items c.args.limits.now (values s.mains.items) (values s.deltas.items) (length s.homes.items) c.requires.tight s.known
+          (λ k lt. clear_as c.deref.ensures.value c.deref-2.ensures.value (c.in-None.ensures.none k (subst (λ n. k < n) (sym c.requires.marks) lt)));
     }
 
 pub returns-in-Err-mend-clause-undecided : goal.returns-in-Err-mend-clause-undecided
@@ -23,13 +32,39 @@ returns-in-Err-mend-clause-undecided c = c.cause_of.ensures _
 pub mend-requires-clause-known : goal.mend-requires-clause-known
 mend-requires-clause-known c =
     let s = c.args.self.now in
-    among_known s.bounds.items c.in-Some.bound (length s.homes.items) s.known (subst (IsAmong c.in-Some.bound) c.deref.ensures.value c.in-Some.ensures.among)
+    let b = beyond_is s.bounds.items c.args.limits.now (values s.mains.items) (values s.deltas.items) c.in-Some.bound c.requires.limits (beyond_as c.deref.ensures.value c.deref-2.ensures.value c.in-Some.ensures.some) in
+    among_known s.bounds.items c.in-Some.bound (length s.homes.items) s.known b.0
 
 pub mend-requires-clause-among : goal.mend-requires-clause-among
-mend-requires-clause-among c = subst (IsAmong c.in-Some.bound) c.deref.ensures.value c.in-Some.ensures.among
+mend-requires-clause-among c =
+    let s = c.args.self.now in
+    (beyond_is s.bounds.items c.args.limits.now (values s.mains.items) (values s.deltas.items) c.in-Some.bound c.requires.limits (beyond_as c.deref.ensures.value c.deref-2.ensures.value c.in-Some.ensures.some)).0
 
 pub mend-requires-clause-broken : goal.mend-requires-clause-broken
-mend-requires-clause-broken c = ap₂ (λ (ms ds : List Frac). is_broken (values ms) (values ds) c.in-Some.bound) (sym c.deref-2.ensures.value) (sym c.deref-3.ensures.value) ∙ c.in-Some.ensures.broken
+mend-requires-clause-broken c =
+    let s = c.args.self.now in
+    (beyond_is s.bounds.items c.args.limits.now (values s.mains.items) (values s.deltas.items) c.in-Some.bound c.requires.limits (beyond_as c.deref.ensures.value c.deref-2.ensures.value c.in-Some.ensures.some)).1
+
+pub mend-requires-clause-marks : goal.mend-requires-clause-marks
+mend-requires-clause-marks c = c.first_broken.ensures.count ∙ c.requires.marks
+
+pub returns-in-None-clause-pending : goal.returns-in-None-clause-pending
+returns-in-None-clause-pending c = pending_as c.args.limits.now c.first_broken.new.marks.items c.deref.ensures.value c.deref-2.ensures.value c.in-None.ensures.pending
+
+pub returns-in-Ok-None-clause-pending : goal.returns-in-Ok-None-clause-pending
+returns-in-Ok-None-clause-pending c =
+    let s = c.args.self.now in
+    still_pending c.args.limits.now s.mains.items s.deltas.items _ _ _ _ c.mend.ensures.marked (pending_as c.args.limits.now c.first_broken.new.marks.items c.deref.ensures.value c.deref-2.ensures.value c.first_broken.ensures.pending)
+
+pub returns-in-Ok-Some-clause-pending : goal.returns-in-Ok-Some-clause-pending
+returns-in-Ok-Some-clause-pending c =
+    let s = c.args.self.now in
+    still_pending c.args.limits.now s.mains.items s.deltas.items _ _ _ _ c.mend.ensures.marked (pending_as c.args.limits.now c.first_broken.new.marks.items c.deref.ensures.value c.deref-2.ensures.value c.first_broken.ensures.pending)
+
+pub returns-in-Err-mend-clause-pending : goal.returns-in-Err-mend-clause-pending
+returns-in-Err-mend-clause-pending c =
+    let s = c.args.self.now in
+    still_pending c.args.limits.now s.mains.items s.deltas.items _ _ _ _ c.mend.ensures.marked (pending_as c.args.limits.now c.first_broken.new.marks.items c.deref.ensures.value c.deref-2.ensures.value c.first_broken.ensures.pending)
 
 pub returns-in-Ok-Some-clause-turn : goal.returns-in-Ok-Some-clause-turn
 returns-in-Ok-Some-clause-turn c =
