@@ -5,3 +5,4 @@ pub mod Numbered
 pub mod Tables
 pub mod Looked
 pub mod Arguments
+pub mod Marked
