@@ -4,5 +4,6 @@ pub mod Listed
 pub mod Numbering
 pub mod Marks
 pub mod Inner
+pub mod Forest
 pub mod Laws
 pub mod Examples

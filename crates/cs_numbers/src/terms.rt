@@ -7,7 +7,6 @@ ghost use Rattle.cs_numbers.specs.Marks.{AreMarked, is_whole};
 ghost use Rattle.cs_numbers.specs.Parts.{HasFewParts};
 ghost use Rattle.std.specs.List.{All};
 
-use crate::key::key;
 use crate::parts::has_few_parts;
 use cs_index::Index;
 use std::alloc::{AllocError, Global};
@@ -17,6 +16,7 @@ use vx_terms::Term;
 /// Terms in the order of their numbers. A term finds its number by its key.
 #[derive(Drop)]
 pub struct NumberedTerms {
+    pub(crate) alloc: Global,
     pub terms: Vec<Rc<Term>>,
     pub(crate) index: Index,
     /// By number: whether all that stands in a term is known to have numbers.
@@ -34,6 +34,7 @@ impl NumberedTerms {
         ensures { IfOk result (λ n. n.terms.items ≡ []) }
     {
         Ok(NumberedTerms {
+            alloc,
             terms: Vec::new(alloc),
             index: Index::new(alloc),
             marks: Vec::new(alloc),
@@ -49,12 +50,13 @@ impl NumberedTerms {
         Ok(())
     }
 
-    /// A further term, and its number.
+    /// A further term with its key, and its number.
     ///
     /// # Errors
     /// Memory runs out, or there are 2^32 - 1 terms, or the term has 2^32 - 1 parts.
     #[tactic(auto, using(cs_index::proofs::Indexed::indexed_more, cs_index::proofs::Indexed::indexed_same))]
-    pub(crate) fn push(&mut self, t: Rc<Term>) -> Result<u32, AllocError>
+    pub(crate) fn push(&mut self, t: Rc<Term>, key: u64) -> Result<u32, AllocError>
+        requires { key ≡ term_key (term t.value) }
         ensures terms { OnOk result (self.new.terms.items ≡ self.old.terms.items ++ t ∷ []) }
         ensures number { IfOk result (λ n. n ≡ length self.old.terms.items) }
     {
@@ -65,7 +67,6 @@ impl NumberedTerms {
         if !has_few_parts(&t) {
             return Err(AllocError);
         }
-        let key = key(&t);
         self.terms.push(t)?;
         match self.index.add(key, number as u32) {
             Ok(()) => Ok(number as u32),

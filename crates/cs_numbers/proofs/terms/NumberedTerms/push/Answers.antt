@@ -18,7 +18,7 @@ invariant_of-self-in-Ok-clause-indexed c =
     let length_is : c.len-number.result ≡ length old.terms.items = search rules in
     let number : c.len-number.result ≡ length (terms_in old) = length_is ∙ sym (length-map old.terms.items (λ x. term x.value)) in
     let whole : map (λ x. term x.value) c.push.new.self.items ≡ terms_in old ++ term c.args.t.value ∷ [] = ap (map (λ x. term x.value)) c.in_ok-push.ensures.items ∙ map-append (λ x. term x.value) old.terms.items (c.args.t ∷ []) in
-    let key : c.key-key.result ≡ term_key (term c.args.t.value) = search rules in
+    let key : c.args.key ≡ term_key (term c.args.t.value) = c.requires in
     subst (λ ts. IsIndexed term_key ts c.add.new.self) (sym whole)
     (indexed_more term_key (terms_in old) (term c.args.t.value) old.index c.add.new.self old.indexed
     (λ k. c.in-Ok.ensures.added k ∙ ap₂ (λ key n. with_number (nat_eq key k) (under old.index k) n) key number))
